@@ -1,0 +1,11 @@
+use Rattle.std.proofs.Common.{ap, refl, ◌∙◌, List, length, take, drop, ◌++◌, ◌≡◌, sym}
+use Rattle.std.specs.Prelude.{ℤ}
+use Rattle.sj_base.specs.Array.{Array, array}
+use Rattle.sj_base.specs.Lending.{with_elements}
+use Rattle.sj_base.proofs.tile.Tile.elements_mut.Goals as goal
+
+pub returns : goal.returns
+returns c = (
+  (refl, λ w. ap (λ n. array c.self.inside.dims (take n (w ++ drop (length w) c.self.inside.elements.items))) c.self.inside.elements.ok.0 ∙ ap (λ (a : Array). with_elements a w) c.self.view_is),
+  record { writes_back = tt; elements = c.as_mut_slice.ensures.value ∙ ap (λ (a : Array). a.elements) c.self.view_is },
+)

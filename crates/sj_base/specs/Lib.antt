@@ -1,0 +1,3 @@
+pub mod Array
+pub mod Lending
+pub mod Recorded
