@@ -1,0 +1,7 @@
+pub mod Ring
+pub mod MinPlus
+pub mod Equations
+pub mod Kernel
+pub mod Frame
+pub mod Slot
+pub mod Runs

@@ -1,0 +1,124 @@
+//! The operands of one task, as a kernel works on them.
+
+ghost use Rattle.std.specs.Prelude.{◌≡◌, ◌==◌, ◌+◌, ◌<◌, ◌++◌, ◌∷◌, [], length, slice_index_or, IfOk};
+ghost use Rattle.sj_codelet.specs.Frame.{frame, shared, own};
+ghost use Rattle.sj_codelet.specs.Slot.{slot_of};
+
+use sj_base::memory::OutOfMemory;
+use sj_base::tile::Tile;
+use std::alloc::Global;
+use std::marker::Model;
+use std::sync::Arc;
+
+/// One operand: shared with others to read, or the task's own to write.
+#[derive(Debug, Drop)]
+pub enum Operand {
+    Shared(Arc<Tile>),
+    Own(Tile),
+}
+
+impl Operand {
+    /// The operand's tile. Constant time.
+    pub fn tile(&self) -> &Tile
+        ensures { result.now ≡ (slot_of self.now).array }
+    {
+        match self {
+            Operand::Shared(tile) => tile,
+            Operand::Own(tile) => tile,
+        }
+    }
+}
+
+/// A task's operands in order, with room for some more.
+#[derive(Debug, Drop)]
+pub struct Frame {
+    operands: Vec<Operand>,
+    /// For how many more operands the `Vec` has capacity at least.
+    room: u64,
+}
+
+impl Model for Frame {
+    ghost use Rattle.std.specs.Prelude.{◌+◌, ◌≤◌, ◌<◌, ◌^◌, map};
+    ghost use Rattle.std.specs.Vec.{vec_len, vec_capacity};
+    ghost use Rattle.sj_codelet.specs.Frame.{Frame, frame};
+    ghost use Rattle.sj_codelet.specs.Slot.{slot_of};
+
+    ghost Value = { Frame };
+
+    ghost view = { λ f. frame (map slot_of f.operands.items) f.room };
+
+    ghost invariant = { λ f. (vec_len f.operands + f.room ≤ vec_capacity f.operands) × (vec_capacity f.operands < 2 ^ 63) };
+}
+
+impl Frame {
+    /// An empty frame with room for `n` operands. Linear in `n`.
+    pub fn with_room(alloc: Global, n: u8) -> Result<Frame, OutOfMemory>
+        ensures { IfOk result (λ f. f ≡ frame [] n) }
+    {
+        let operands = Vec::with_capacity(alloc, n as usize)?;
+        Ok(Frame {
+            operands,
+            room: n as u64,
+        })
+    }
+
+    /// Appends a tile that others may read too. Constant time, and no memory.
+    pub fn push_shared(&mut self, tile: Arc<Tile>)
+        requires { 0 < self.old.spare }
+        ensures slots { self.new.slots ≡ self.old.slots ++ shared tile.value ∷ [] }
+        ensures room { self.new.spare + 1 ≡ self.old.spare }
+    {
+        self.push(Operand::Shared(tile));
+    }
+
+    /// Appends a tile of the task's own. Constant time, and no memory.
+    pub fn push_own(&mut self, tile: Tile)
+        requires { 0 < self.old.spare }
+        ensures slots { self.new.slots ≡ self.old.slots ++ own tile ∷ [] }
+        ensures room { self.new.spare + 1 ≡ self.old.spare }
+    {
+        self.push(Operand::Own(tile));
+    }
+
+    /// Appends an operand. Constant time, and no memory.
+    pub fn push(&mut self, operand: Operand)
+        requires { 0 < self.old.spare }
+        ensures slots { self.new.slots ≡ self.old.slots ++ slot_of operand ∷ [] }
+        ensures room { self.new.spare + 1 ≡ self.old.spare }
+    {
+        let _ = self.operands.push(operand);
+        self.room -= 1;
+    }
+
+    /// How many operands there are. Constant time.
+    pub fn len(&self) -> usize
+        ensures { result ≡ length self.now.slots }
+    {
+        self.operands.len()
+    }
+
+    /// Whether there is no operand. Constant time.
+    pub fn is_empty(&self) -> bool
+        ensures { result ≡ (length self.now.slots == 0) }
+    {
+        self.operands.is_empty()
+    }
+
+    /// The tile of an operand. Constant time.
+    pub fn tile(&self, i: usize) -> &Tile
+        requires { i < length self.now.slots }
+        ensures { result.now ≡ (slice_index_or self.now.slots i (own result.now)).array }
+    {
+        self.operands[i].tile()
+    }
+
+    /// Takes the last operand away. Constant time, and no memory.
+    pub fn take_last(&mut self) -> Operand
+        requires { 0 < length self.old.slots }
+        ensures slots { self.old.slots ≡ self.new.slots ++ slot_of result ∷ [] }
+        ensures room { self.new.spare ≡ self.old.spare + 1 }
+    {
+        self.room += 1;
+        self.operands.pop().unwrap()
+    }
+}
