@@ -1,0 +1,112 @@
+-- What a job means: its statements run one after another on plain arrays.
+use Rattle.std.specs.FinMap as map
+use Rattle.std.specs.Prelude.{ℕ, suc, Bool, true, false, ◌||◌, Option, Some, None, List, [], ◌∷◌, ◌++◌, ℤ, pos, map as each_of, filter, option_map, unwrap_or}
+use Rattle.sj_base.specs.declared.tile.Dims.{Dims}
+use Rattle.sj_base.specs.declared.mode.Mode.{Mode}
+use Rattle.sj_base.specs.declared.mode.Mode.TheVariants.{R, W, RW, Scratch, Redux, Commute}
+use Rattle.sj_base.specs.Array.{Array, array, zeros}
+use Rattle.sj_codelet.specs.Kernel.{out}
+use Rattle.sj_job.specs.declared.job.Kind.{Kind}
+use Rattle.sj_job.specs.declared.job.Init.{Init}
+use Rattle.sj_job.specs.declared.job.Init.TheVariants.{Values}
+use Rattle.sj_job.specs.declared.job.Register.{Register}
+use Rattle.sj_job.specs.declared.job.Operand.{Operand}
+use Rattle.sj_job.specs.declared.job.TaskLine.{TaskLine}
+use Rattle.sj_job.specs.declared.job.Act.{Act}
+use Rattle.sj_job.specs.declared.job.Act.TheVariants.{Register as Registers, Task, Print}
+use Rattle.sj_job.specs.declared.job.Statement.{Statement}
+use Rattle.sj_job.specs.State.{Root, Roots, State, start, root_of}
+
+-- the elements that a root has from its registration on
+abbrev pub first_elements : Init → List (Option ℤ)
+first_elements (Values xs) = each_of Some xs
+
+abbrev pub registered_root : Register → Root
+registered_root r = record { kind = r.kind; dims = r.dims; elements = first_elements r.init }
+
+abbrev pub register : Register → State → State
+register r S = record { registered = suc S.registered; ended = S.ended; roots = map.insert S.roots r.name (registered_root r) }
+
+-- a root's array; an element without value doesn't matter, since it isn't read
+abbrev pub array_of : Root → Array
+array_of r = array r.dims (each_of (λ e. unwrap_or e (pos 0)) r.elements)
+
+-- what a task reads of an operand: its elements, or zeros where the old value isn't read
+abbrev pub seen_by : Mode → Root → Array
+seen_by W r = zeros r.dims
+seen_by Scratch r = zeros r.dims
+seen_by R r = array_of r
+seen_by RW r = array_of r
+seen_by Redux r = array_of r
+seen_by Commute r = array_of r
+
+-- the array that a task sees of an operand
+abbrev pub operand_array : State → Operand → Array
+operand_array S o = elim (root_of S o.name) [ None ↦ array (record { rows = 0; cols = 0 }) [] | Some r ↦ seen_by o.mode r ]
+
+abbrev pub is_written : Mode → Bool
+is_written R = false
+is_written Scratch = false
+is_written W = true
+is_written RW = true
+is_written Redux = true
+is_written Commute = true
+
+-- the names that a task writes, in order
+abbrev pub written_names : List Operand → List (List ℕ)
+written_names os = each_of (λ o. o.name) (filter (λ o. is_written o.mode) os)
+
+-- a name's elements become those of an array
+abbrev pub put : List ℕ → Array → State → State
+put name a S = elim (root_of S name) [
+  | None ↦ S
+  | Some r ↦ record { registered = S.registered; ended = S.ended; roots = map.insert S.roots name (record { kind = r.kind; dims = r.dims; elements = each_of Some a.elements }) }
+]
+
+-- each of these names gets its array, and no other changes
+abbrev pub put_all : List (List ℕ) → List Array → State → State
+put_all [] arrays S = S
+put_all (n ∷ ns) [] S = S
+put_all (n ∷ ns) (a ∷ arrays) S = put_all ns arrays (put n a S)
+
+-- a task: the written operands get the codelet's new arrays
+abbrev pub run_task : TaskLine → State → State
+run_task t S = put_all (written_names t.operands) (out t.codelet t.args (each_of (operand_array S) t.operands)) S
+
+-- what one statement does
+abbrev pub apply : Act → State → State
+apply (Registers r) S = register r S
+apply (Task t) S = run_task t S
+apply (Print name) S = S
+
+-- the state that statements leave, one after another
+abbrev pub run_from : State → List Statement → State
+run_from S [] = S
+run_from S (s ∷ ss) = run_from (apply s.act S) ss
+
+-- the sequential run of a job
+abbrev pub seq : List Statement → State
+seq ss = run_from start ss
+
+-- an array as a print statement finds it
+pub record Printed : Type 0 where
+  pub name : List ℕ
+  pub kind : Kind
+  pub array : Array
+
+abbrev pub found_by : State → List ℕ → List Printed
+found_by S name = elim (root_of S name) [ None ↦ [] | Some r ↦ record { name = name; kind = r.kind; array = array_of r } ∷ [] ]
+
+-- what a statement prints
+abbrev pub prints : Act → State → List Printed
+prints (Registers r) S = []
+prints (Task t) S = []
+prints (Print name) S = found_by S name
+
+-- what the print statements find, in order
+abbrev pub printed_from : State → List Statement → List Printed
+printed_from S [] = []
+printed_from S (s ∷ ss) = prints s.act S ++ printed_from (apply s.act S) ss
+
+abbrev pub printed : List Statement → List Printed
+printed ss = printed_from start ss

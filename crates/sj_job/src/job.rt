@@ -1,0 +1,67 @@
+//! The statements of a job.
+
+use crate::name::Name;
+use sj_base::ids::Line;
+use sj_base::mode::Mode;
+use sj_base::program::Codelet;
+use sj_base::sequence::Sequence;
+use sj_base::tile::Dims;
+
+/// Whether a root was registered as a vector or as a matrix; they differ in how they are printed.
+#[derive(Clone, Copy, Debug, PartialEq, Eq)]
+pub enum Kind {
+    Vector,
+    Matrix,
+}
+
+/// The elements that a root has from its registration on.
+#[derive(Debug, Drop)]
+pub enum Init {
+    /// These, row by row.
+    Values(Sequence<i64>),
+}
+
+/// `vector NAME N INIT`: registers a root handle.
+#[derive(Debug, Drop)]
+pub struct Register {
+    pub name: Name,
+    pub kind: Kind,
+    pub dims: Dims,
+    pub init: Init,
+}
+
+/// `NAME:MODE`: an operand of a task.
+#[derive(Debug, Drop)]
+pub struct Operand {
+    pub name: Name,
+    pub mode: Mode,
+}
+
+/// `task CODELET OPERANDS`: submits a task.
+#[derive(Debug, Drop)]
+pub struct TaskLine {
+    pub codelet: Codelet,
+    pub args: Sequence<i64>,
+    pub operands: Sequence<Operand>,
+}
+
+/// What a statement does.
+#[derive(Debug, Drop)]
+pub enum Act {
+    Register(Register),
+    Task(TaskLine),
+    Print(Name),
+}
+
+/// An act and the line that it stands in.
+#[derive(Debug, Drop)]
+pub struct Statement {
+    pub line: Line,
+    pub act: Act,
+}
+
+/// The statements of a job text, in order.
+#[derive(Debug, Drop)]
+pub struct Job {
+    pub statements: Sequence<Statement>,
+}

@@ -1,0 +1,9 @@
+//! The job language: what a job text says, and what it means on plain arrays.
+#![tactic(auto)]
+
+pub mod job;
+pub mod line;
+pub mod name;
+pub mod reason;
+pub mod sentence;
+pub mod word;
