@@ -2,3 +2,4 @@ pub mod Cut
 pub mod Digits
 pub mod Each
 pub mod Calls
+pub mod Valued

@@ -3,3 +3,6 @@ pub mod Reason
 pub mod State
 pub mod Meaning
 pub mod Sentence
+pub mod Judge
+pub mod Reading
+pub mod Names

@@ -2,8 +2,10 @@
 #![tactic(auto)]
 
 pub mod job;
+pub mod judge;
 pub mod line;
 pub mod name;
+pub mod names;
 pub mod reason;
 pub mod sentence;
 pub mod word;

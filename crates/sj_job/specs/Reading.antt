@@ -1,0 +1,67 @@
+-- What a job text says: its statements, or its first bad line and the first reason against it.
+use Rattle.std.specs.Prelude.{ℕ, suc, Bool, not, ◌&&◌, nat_lt, Option, Some, None, Result, Ok, Err, List, [], ◌∷◌, length, if◌then◌else◌}
+use Rattle.std.specs.List.{list_all}
+use Rattle.sj_base.specs.declared.ids.Line.{Line}
+use Rattle.sj_codelet.specs.declared.kernel.Kernel.{Kernel}
+use Rattle.sj_job.specs.declared.job.Act.{Act}
+use Rattle.sj_job.specs.declared.job.Statement.{Statement}
+use Rattle.sj_job.specs.declared.sentence.Sentence.{Sentence}
+use Rattle.sj_job.specs.declared.reason.Reason.{Reason}
+use Rattle.sj_job.specs.declared.reason.Reason.TheVariants.{Header, NotBuilt, Limit}
+use Rattle.sj_job.specs.declared.reason.LimitKind.TheVariants.{Text}
+use Rattle.sj_job.specs.Word.{lines, words, is_allowed, is_skipped}
+use Rattle.sj_job.specs.Sentence.{sentence_of, is_header}
+use Rattle.sj_job.specs.State.{State, start}
+use Rattle.sj_job.specs.Meaning.{apply}
+use Rattle.sj_job.specs.Judge.{scope_of, complaint, act_of}
+
+-- a bad line and its first reason
+pub record Refusal : Type 0 where
+  pub line : Line
+  pub reason : Reason
+
+abbrev pub refusal : ℕ → Reason → Refusal
+refusal n why = record { line = record { 0 = n }; reason = why }
+
+-- what a line does after so many statements; a line that isn't read yet, or against which there is a reason, is NotBuilt
+abbrev pub statement_in : (Kernel → Bool) → ℕ → State → List ℕ → Result Act Reason
+statement_in set k S line =
+    if not (list_all is_allowed line) then Err NotBuilt
+    else (elim (sentence_of set (words line)) [
+      None ↦ Err NotBuilt |
+      Some s ↦ (elim (complaint (scope_of k S) s) [ Some why ↦ Err NotBuilt | None ↦ Ok (act_of s) ])
+    ])
+
+abbrev pub statement : ℕ → Act → Statement
+statement n act = record { line = record { 0 = n }; act = act }
+
+-- a statement before what the further lines say
+abbrev pub before : Statement → Result (List Statement) Refusal → Result (List Statement) Refusal
+before s (Ok ss) = Ok (s ∷ ss)
+before s (Err e) = Err e
+
+-- what the lines from line n on say, after so many statements, which leave the state S
+abbrev pub reading : (Kernel → Bool) → ℕ → State → ℕ → List (List ℕ) → Result (List Statement) Refusal
+reading set k S n [] = Ok []
+reading set k S n (l ∷ ls) =
+    if is_skipped (words l) then reading set k S (suc n) ls
+    else (elim (statement_in set k S l) [
+      Err why ↦ Err (refusal n why) |
+      Ok act ↦ before (statement n act) (reading set (suc k) (apply act S) (suc n) ls)
+    ])
+
+-- the same from before the header on, which is the first line that isn't skipped
+abbrev pub reading_header : (Kernel → Bool) → ℕ → List (List ℕ) → Result (List Statement) Refusal
+reading_header set n [] = Err (refusal n Header)
+reading_header set n (l ∷ ls) =
+    if is_skipped (words l) then reading_header set (suc n) ls
+    else if list_all is_allowed l && is_header (words l) then reading set 0 start (suc n) ls
+    else Err (refusal n Header)
+
+-- the longest text that is read
+abbrev pub text_limit : ℕ
+text_limit = 67108864
+
+-- what a text says, with the codelets of a set
+abbrev pub job_of : (Kernel → Bool) → List ℕ → Result (List Statement) Refusal
+job_of set text = if nat_lt text_limit (length text) then Err (refusal 0 (Limit Text)) else reading_header set 1 (lines text)

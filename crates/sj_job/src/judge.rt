@@ -1,0 +1,249 @@
+//! Why a sentence is refused.
+
+ghost use Rattle.std.specs.Prelude.{◌≡◌, ◌*◌, ◌^◌, ◌<◌, ◌&&◌, not, map, length, is_some, IfOk, IfSome, IsTrue};
+ghost use Rattle.std.specs.List.{list_any};
+ghost use Rattle.sj_codelet.specs.Kernel.{arguments_of, formals_of, name_of};
+ghost use Rattle.sj_job.specs.Names.{scope_in};
+ghost use Rattle.sj_job.specs.Judge.{first_of, is_full, is_side, is_outside, is_miscounted, register_reasons, kernel_in, is_counted, mode_fits, modes_fit, dims_in, is_shaped, clashes, is_aliased, is_unknown, operand_reasons, codelet_reasons, task_reasons, print_reasons, complaint, IsNamed};
+
+use crate::job::{Init, Operand};
+use crate::name::Name;
+use crate::names::Names;
+use crate::reason::{LimitKind, Reason};
+use crate::sentence::{Call, Registration, Sentence};
+use sj_base::memory::OutOfMemory;
+use sj_base::mode::Mode;
+use sj_base::tile::Dims;
+use sj_codelet::formal::Formal;
+use sj_codelet::kernel::Kernel;
+use std::alloc::{AllocError, Global};
+
+/// The most statements of a job.
+pub const STATEMENTS: u64 = 262_144;
+
+/// The most registrations of a job.
+pub const NAMES: u64 = 4_096;
+
+/// The most rows, and the most columns, of a root.
+pub const SIDE: u64 = 1_048_576;
+
+/// The most elements of a root.
+pub const ELEMENTS: u64 = 16_777_216;
+
+fn is_side(n: u64) -> bool
+    ensures { result ≡ is_side n }
+{
+    1 <= n && n <= SIDE
+}
+
+fn is_outside(rows: u64, cols: u64) -> bool
+    ensures { result ≡ is_outside rows cols }
+{
+    !(is_side(rows) && is_side(cols) && rows * cols <= ELEMENTS)
+}
+
+fn is_miscounted(init: &Init, rows: u64, cols: u64) -> bool
+    requires { rows * cols < 2 ^ 64 }
+    ensures { result ≡ is_miscounted init.now rows cols }
+{
+    match init {
+        Init::Values(values) => values.len() as u64 != rows * cols,
+    }
+}
+
+/// The first reason against a registration. Logarithmic in the names.
+fn register_complaint(names: &Names, r: &Registration) -> Option<Reason>
+    ensures { result ≡ first_of (register_reasons (scope_in names.now) r.now) }
+{
+    if STATEMENTS <= names.statements {
+        Some(Reason::Limit(LimitKind::Statements))
+    } else if NAMES <= names.registered {
+        Some(Reason::Limit(LimitKind::Names))
+    } else if is_outside(r.rows, r.cols) {
+        Some(Reason::Limit(LimitKind::Elements))
+    } else if names.is_taken(&r.name) {
+        Some(Reason::TakenName)
+    } else if is_miscounted(&r.init, r.rows, r.cols) {
+        Some(Reason::Shape)
+    } else {
+        None
+    }
+}
+
+fn is_counted(kernel: Kernel, call: &Call) -> bool
+    ensures { result ≡ is_counted kernel call.now }
+{
+    call.args.len() == kernel.arguments() && call.operands.len() == kernel.formals().len()
+}
+
+fn mode_fits(formal: Formal, mode: Mode) -> bool
+    ensures { result ≡ mode_fits formal mode }
+{
+    match (formal, mode) {
+        (Formal::R, Mode::R) | (Formal::Scratch, Mode::Scratch) => true,
+        (Formal::W, Mode::W | Mode::Redux | Mode::Commute) => true,
+        (Formal::RW, Mode::RW | Mode::Redux | Mode::Commute) => true,
+        _ => false,
+    }
+}
+
+fn modes_fit(formals: &[Formal], operands: &[Operand]) -> bool
+    ensures { result ≡ modes_fit formals.now operands.now }
+{
+    formals
+        .iter()
+        .zip(operands.iter())
+        .all(|(formal, operand)| mode_fits(*formal, operand.mode))
+}
+
+fn clashes(o: &Operand, p: &Operand) -> bool
+    ensures { result ≡ clashes o.now p.now }
+{
+    o.name == p.name && !(o.mode == Mode::R && p.mode == Mode::R)
+}
+
+fn is_aliased(operands: &[Operand]) -> bool
+    ensures { result ≡ is_aliased operands.now }
+{
+    match operands.split_first() {
+        Some((first, rest)) => {
+            if clashes_with_any(first, rest) {
+                return true;
+            }
+            is_aliased(rest)
+        }
+        None => false,
+    }
+}
+
+fn clashes_with_any(o: &Operand, others: &[Operand]) -> bool
+    ensures { result ≡ list_any (clashes o.now) others.now }
+{
+    others.iter().any(|p| clashes(o, p))
+}
+
+fn dims_in(
+    alloc: Global,
+    names: &Names,
+    operands: &[Operand],
+) -> Result<Vec<Dims>, AllocError>
+    ensures { IfOk result (λ dims. dims.items ≡ map (dims_in (scope_in names.now)) operands.now) }
+{
+    operands.iter().map(|o| names.dims_in(o)).collect(alloc)
+}
+
+/// Whether modes and dimensions are as the codelet takes them.
+fn is_shaped(
+    alloc: Global,
+    names: &Names,
+    kernel: Kernel,
+    call: &Call,
+) -> Result<bool, OutOfMemory>
+    requires counted { IsTrue (is_counted kernel call.now) }
+    requires ours { IsTrue (is_some (name_of kernel)) }
+    ensures { IfOk result (λ shaped. shaped ≡ is_shaped (scope_in names.now) kernel call.now) }
+{
+    if !modes_fit(kernel.formals(), call.operands.items()) {
+        return Ok(false);
+    }
+    let dims = dims_in(alloc, names, call.operands.items())?;
+    Ok(kernel.dims_fit(call.args.items(), &dims))
+}
+
+/// The first reason against the operands of a codelet. Linear in them, times the logarithm of the names.
+fn operand_complaint(
+    alloc: Global,
+    names: &Names,
+    kernel: Kernel,
+    call: &Call,
+) -> Result<Option<Reason>, OutOfMemory>
+    requires { IsTrue (is_some (name_of kernel)) }
+    ensures { IfOk result (λ why. why ≡ first_of (operand_reasons (scope_in names.now) kernel call.now)) }
+{
+    if !is_counted(kernel, call) {
+        Ok(Some(Reason::OperandCount))
+    } else if !is_shaped(alloc, names, kernel, call)? {
+        Ok(Some(Reason::Shape))
+    } else if is_aliased(call.operands.items()) {
+        Ok(Some(Reason::Aliased))
+    } else {
+        Ok(None)
+    }
+}
+
+fn has_unknown(names: &Names, operands: &[Operand]) -> bool
+    ensures { result ≡ list_any (λ o. is_unknown (scope_in names.now) o.name) operands.now }
+{
+    operands.iter().any(|o| names.is_unknown(&o.name))
+}
+
+/// The codelet of a call.
+fn kernel_in(call: &Call) -> Option<Kernel>
+    ensures { result ≡ kernel_in call.now.codelet }
+{
+    match call.codelet {
+        Some(id) => Kernel::of(id),
+        None => None,
+    }
+}
+
+fn codelet_complaint(
+    alloc: Global,
+    names: &Names,
+    call: &Call,
+) -> Result<Option<Reason>, OutOfMemory>
+    requires { IfSome (kernel_in call.now.codelet) (λ kernel. IsTrue (is_some (name_of kernel))) }
+    ensures { IfOk result (λ why. why ≡ first_of (codelet_reasons (scope_in names.now) call.now)) }
+{
+    match kernel_in(call) {
+        Some(kernel) => operand_complaint(alloc, names, kernel, call),
+        None => Ok(Some(Reason::UnknownCodelet)),
+    }
+}
+
+/// The first reason against a task. Linear in its operands, times the logarithm of the names.
+fn task_complaint(
+    alloc: Global,
+    names: &Names,
+    call: &Call,
+) -> Result<Option<Reason>, OutOfMemory>
+    requires { IfSome (kernel_in call.now.codelet) (λ kernel. IsTrue (is_some (name_of kernel))) }
+    ensures { IfOk result (λ why. why ≡ first_of (task_reasons (scope_in names.now) call.now)) }
+{
+    if STATEMENTS <= names.statements {
+        return Ok(Some(Reason::Limit(LimitKind::Statements)));
+    }
+    if has_unknown(names, call.operands.items()) {
+        return Ok(Some(Reason::UnknownName));
+    }
+    codelet_complaint(alloc, names, call)
+}
+
+/// The first reason against a print statement. Logarithmic in the names.
+fn print_complaint(names: &Names, name: &Name) -> Option<Reason>
+    ensures { result ≡ first_of (print_reasons (scope_in names.now) name.now) }
+{
+    if STATEMENTS <= names.statements {
+        Some(Reason::Limit(LimitKind::Statements))
+    } else if names.is_unknown(name) {
+        Some(Reason::UnknownName)
+    } else {
+        None
+    }
+}
+
+/// The first reason against a sentence. Linear in its operands, times the logarithm of the names.
+pub fn first_complaint(
+    alloc: Global,
+    names: &Names,
+    sentence: &Sentence,
+) -> Result<Option<Reason>, OutOfMemory>
+    requires { IsNamed sentence.now }
+    ensures { IfOk result (λ why. why ≡ complaint (scope_in names.now) sentence.now) }
+{
+    match sentence {
+        Sentence::Register(registration) => Ok(register_complaint(names, registration)),
+        Sentence::Task(call) => task_complaint(alloc, names, call),
+        Sentence::Print(name) => Ok(print_complaint(names, name)),
+    }
+}
