@@ -1,5 +1,5 @@
 -- Why a sentence is refused: the conditions of the reasons, in their order.
-use Rattle.std.specs.Prelude.{ℕ, ◌*◌, Bool, true, false, ◌&&◌, ◌||◌, not, nat_eq, nat_lt, nat_le, Option, Some, None, List, [], ◌∷◌, ℤ, length, map, option_map, is_some, is_none, unwrap_or, zip, IfSome, IsTrue, if◌then◌else◌}
+use Rattle.std.specs.Prelude.{ℕ, ◌*◌, Bool, true, false, ◌&&◌, ◌||◌, not, nat_eq, nat_lt, nat_le, Option, Some, None, Result, Ok, Err, List, [], ◌∷◌, ℤ, length, map, option_map, is_some, is_none, unwrap_or, zip, if◌then◌else◌}
 use Rattle.std.specs.List.{list_all, list_any}
 use Rattle.std.specs.Str.{bytes_eq}
 use Rattle.sj_base.specs.declared.tile.Dims.{Dims}
@@ -9,7 +9,7 @@ use Rattle.sj_base.specs.declared.program.Codelet.{Codelet}
 use Rattle.sj_codelet.specs.declared.kernel.Kernel.{Kernel}
 use Rattle.sj_codelet.specs.declared.formal.Formal.{Formal}
 use Rattle.sj_codelet.specs.declared.formal.Formal.TheVariants.{R as FormalR, W as FormalW, RW as FormalRW, Scratch as FormalScratch}
-use Rattle.sj_codelet.specs.Kernel.{kernel_of, arguments_of, formals_of, dims_fit, name_of}
+use Rattle.sj_codelet.specs.Kernel.{kernel_of, arguments_of, formals_of, fits}
 use Rattle.sj_job.specs.declared.job.Init.{Init}
 use Rattle.sj_job.specs.declared.job.Init.TheVariants.{Values}
 use Rattle.sj_job.specs.declared.job.Operand.{Operand}
@@ -106,7 +106,7 @@ abbrev pub dims_in : Scope → Operand → Dims
 dims_in s o = elim (s.known o.name) [ None ↦ record { rows = 0; cols = 0 } | Some k ↦ k.dims ]
 
 abbrev pub is_shaped : Scope → Kernel → Call → Bool
-is_shaped s k t = modes_fit (formals_of k) t.operands && dims_fit k t.args (map (dims_in s) t.operands)
+is_shaped s k t = modes_fit (formals_of k) t.operands && fits k t.args (map (dims_in s) t.operands)
 
 abbrev pub is_read_only : Mode → Bool
 is_read_only R = true
@@ -147,12 +147,6 @@ abbrev pub print_reasons : Scope → List ℕ → List (Bool × Reason)
 print_reasons s name =
     (is_full s, Limit Statements) ∷ (is_unknown s name, UnknownName) ∷ (is_ended s name, EndedName) ∷ (lacks_value s name, NoValue) ∷ []
 
--- a call's codelet is one that a job may name
-abbrev pub IsNamed : Sentence → Type 0
-IsNamed (Register r) = Unit {0}
-IsNamed (Task t) = IfSome (kernel_in t.codelet) (λ kernel. IsTrue (is_some (name_of kernel)))
-IsNamed (Print name) = Unit {0}
-
 abbrev pub reasons : Scope → Sentence → List (Bool × Reason)
 reasons s (Register r) = register_reasons s r
 reasons s (Task t) = task_reasons s t
@@ -167,3 +161,7 @@ abbrev pub act_of : Sentence → Act
 act_of (Register r) = Registers (record { name = r.name; kind = r.kind; dims = record { rows = r.rows; cols = r.cols }; init = r.init })
 act_of (Task t) = Tasks (record { codelet = unwrap_or t.codelet (record { 0 = 0 }); args = t.args; operands = t.operands })
 act_of (Print name) = Prints name
+
+-- what a sentence does, or the first reason against it
+abbrev pub judged : Scope → Sentence → Result Act Reason
+judged s sentence = elim (complaint s sentence) [ Some why ↦ Err why | None ↦ Ok (act_of sentence) ]

@@ -6,3 +6,7 @@ pub mod Sentence
 pub mod Judge
 pub mod Reading
 pub mod Names
+
+
+pub mod Line
+pub mod Sees

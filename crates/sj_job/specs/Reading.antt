@@ -13,7 +13,7 @@ use Rattle.sj_job.specs.Word.{lines, words, is_allowed, is_skipped}
 use Rattle.sj_job.specs.Sentence.{sentence_of, is_header}
 use Rattle.sj_job.specs.State.{State, start}
 use Rattle.sj_job.specs.Meaning.{apply}
-use Rattle.sj_job.specs.Judge.{scope_of, complaint, act_of}
+use Rattle.sj_job.specs.Judge.{Scope, scope_of, judged}
 
 -- a bad line and its first reason
 pub record Refusal : Type 0 where
@@ -23,14 +23,14 @@ pub record Refusal : Type 0 where
 abbrev pub refusal : ℕ → Reason → Refusal
 refusal n why = record { line = record { 0 = n }; reason = why }
 
--- what a line does after so many statements; a line that isn't read yet, or against which there is a reason, is NotBuilt
-abbrev pub statement_in : (Kernel → Bool) → ℕ → State → List ℕ → Result Act Reason
-statement_in set k S line =
-    if not (list_all is_allowed line) then Err NotBuilt
-    else (elim (sentence_of set (words line)) [
-      None ↦ Err NotBuilt |
-      Some s ↦ (elim (complaint (scope_of k S) s) [ Some why ↦ Err NotBuilt | None ↦ Ok (act_of s) ])
-    ])
+-- what a sentence does; a line that isn't read yet, or against which there is a reason, is NotBuilt
+abbrev pub built : Scope → Option Sentence → Result Act Reason
+built scope None = Err NotBuilt
+built scope (Some s) = elim (judged scope s) [ Err why ↦ Err NotBuilt | Ok act ↦ Ok act ]
+
+-- what a line does where the reasons see this scope
+abbrev pub statement_in : (Kernel → Bool) → Scope → List ℕ → Result Act Reason
+statement_in set scope line = if not (list_all is_allowed line) then Err NotBuilt else built scope (sentence_of set (words line))
 
 abbrev pub statement : ℕ → Act → Statement
 statement n act = record { line = record { 0 = n }; act = act }
@@ -45,7 +45,7 @@ abbrev pub reading : (Kernel → Bool) → ℕ → State → ℕ → List (List 
 reading set k S n [] = Ok []
 reading set k S n (l ∷ ls) =
     if is_skipped (words l) then reading set k S (suc n) ls
-    else (elim (statement_in set k S l) [
+    else (elim (statement_in set (scope_of k S) l) [
       Err why ↦ Err (refusal n why) |
       Ok act ↦ before (statement n act) (reading set (suc k) (apply act S) (suc n) ls)
     ])

@@ -1,12 +1,12 @@
 //! Why a sentence is refused.
 
-ghost use Rattle.std.specs.Prelude.{◌≡◌, ◌*◌, ◌^◌, ◌<◌, ◌&&◌, not, map, length, is_some, IfOk, IfSome, IsTrue};
+ghost use Rattle.std.specs.Prelude.{◌≡◌, ◌*◌, ◌^◌, ◌<◌, ◌≤◌, ◌&&◌, not, map, length, IfOk, IfNone};
 ghost use Rattle.std.specs.List.{list_any};
-ghost use Rattle.sj_codelet.specs.Kernel.{arguments_of, formals_of, name_of};
+ghost use Rattle.sj_codelet.specs.Kernel.{arguments_of, formals_of};
 ghost use Rattle.sj_job.specs.Names.{scope_in};
-ghost use Rattle.sj_job.specs.Judge.{first_of, is_full, is_side, is_outside, is_miscounted, register_reasons, kernel_in, is_counted, mode_fits, modes_fit, dims_in, is_shaped, clashes, is_aliased, is_unknown, operand_reasons, codelet_reasons, task_reasons, print_reasons, complaint, IsNamed};
+ghost use Rattle.sj_job.specs.Judge.{first_of, is_full, is_side, is_outside, is_miscounted, register_reasons, kernel_in, is_counted, mode_fits, modes_fit, dims_in, is_shaped, clashes, is_aliased, is_unknown, operand_reasons, codelet_reasons, task_reasons, print_reasons, judged};
 
-use crate::job::{Init, Operand};
+use crate::job::{Act, Init, Operand, Register, TaskLine};
 use crate::name::Name;
 use crate::names::Names;
 use crate::reason::{LimitKind, Reason};
@@ -15,7 +15,7 @@ use sj_base::memory::OutOfMemory;
 use sj_base::mode::Mode;
 use sj_base::tile::Dims;
 use sj_codelet::formal::Formal;
-use sj_codelet::kernel::Kernel;
+use sj_codelet::kernel::{FILL, Kernel};
 use std::alloc::{AllocError, Global};
 
 /// The most statements of a job.
@@ -53,7 +53,8 @@ fn is_miscounted(init: &Init, rows: u64, cols: u64) -> bool
 
 /// The first reason against a registration. Logarithmic in the names.
 fn register_complaint(names: &Names, r: &Registration) -> Option<Reason>
-    ensures { result ≡ first_of (register_reasons (scope_in names.now) r.now) }
+    ensures first { result ≡ first_of (register_reasons (scope_in names.now) r.now) }
+    ensures within { IfNone result ((r.now.rows ≤ SIDE) × (r.now.cols ≤ SIDE)) }
 {
     if STATEMENTS <= names.statements {
         Some(Reason::Limit(LimitKind::Statements))
@@ -139,15 +140,13 @@ fn is_shaped(
     kernel: Kernel,
     call: &Call,
 ) -> Result<bool, OutOfMemory>
-    requires counted { IsTrue (is_counted kernel call.now) }
-    requires ours { IsTrue (is_some (name_of kernel)) }
     ensures { IfOk result (λ shaped. shaped ≡ is_shaped (scope_in names.now) kernel call.now) }
 {
     if !modes_fit(kernel.formals(), call.operands.items()) {
         return Ok(false);
     }
     let dims = dims_in(alloc, names, call.operands.items())?;
-    Ok(kernel.dims_fit(call.args.items(), &dims))
+    Ok(kernel.fits(call.args.items(), &dims))
 }
 
 /// The first reason against the operands of a codelet. Linear in them, times the logarithm of the names.
@@ -157,7 +156,6 @@ fn operand_complaint(
     kernel: Kernel,
     call: &Call,
 ) -> Result<Option<Reason>, OutOfMemory>
-    requires { IsTrue (is_some (name_of kernel)) }
     ensures { IfOk result (λ why. why ≡ first_of (operand_reasons (scope_in names.now) kernel call.now)) }
 {
     if !is_counted(kernel, call) {
@@ -192,7 +190,6 @@ fn codelet_complaint(
     names: &Names,
     call: &Call,
 ) -> Result<Option<Reason>, OutOfMemory>
-    requires { IfSome (kernel_in call.now.codelet) (λ kernel. IsTrue (is_some (name_of kernel))) }
     ensures { IfOk result (λ why. why ≡ first_of (codelet_reasons (scope_in names.now) call.now)) }
 {
     match kernel_in(call) {
@@ -207,7 +204,6 @@ fn task_complaint(
     names: &Names,
     call: &Call,
 ) -> Result<Option<Reason>, OutOfMemory>
-    requires { IfSome (kernel_in call.now.codelet) (λ kernel. IsTrue (is_some (name_of kernel))) }
     ensures { IfOk result (λ why. why ≡ first_of (task_reasons (scope_in names.now) call.now)) }
 {
     if STATEMENTS <= names.statements {
@@ -232,18 +228,60 @@ fn print_complaint(names: &Names, name: &Name) -> Option<Reason>
     }
 }
 
-/// The first reason against a sentence. Linear in its operands, times the logarithm of the names.
-pub fn first_complaint(
+fn judge_registration(names: &Names, r: Registration) -> Result<Act, Reason>
+    ensures { result ≡ judged (scope_in names.now) (Sentence.Register r) }
+{
+    match register_complaint(names, &r) {
+        Some(why) => Err(why),
+        None => Ok(Act::Register(Register {
+            name: r.name,
+            kind: r.kind,
+            dims: Dims {
+                rows: r.rows as u32,
+                cols: r.cols as u32,
+            },
+            init: r.init,
+        })),
+    }
+}
+
+fn judge_call(
     alloc: Global,
     names: &Names,
-    sentence: &Sentence,
-) -> Result<Option<Reason>, OutOfMemory>
-    requires { IsNamed sentence.now }
-    ensures { IfOk result (λ why. why ≡ complaint (scope_in names.now) sentence.now) }
+    call: Call,
+) -> Result<Result<Act, Reason>, OutOfMemory>
+    ensures { IfOk result (λ act. act ≡ judged (scope_in names.now) (Sentence.Task call)) }
+{
+    match task_complaint(alloc, names, &call)? {
+        Some(why) => Ok(Err(why)),
+        None => Ok(Ok(Act::Task(TaskLine {
+            codelet: call.codelet.unwrap_or(FILL),
+            args: call.args,
+            operands: call.operands,
+        }))),
+    }
+}
+
+fn judge_print(names: &Names, name: Name) -> Result<Act, Reason>
+    ensures { result ≡ judged (scope_in names.now) (Sentence.Print name) }
+{
+    match print_complaint(names, &name) {
+        Some(why) => Err(why),
+        None => Ok(Act::Print(name)),
+    }
+}
+
+/// What a sentence does, or the first reason against it. Linear in its operands, times the logarithm of the names.
+pub fn judge(
+    alloc: Global,
+    names: &Names,
+    sentence: Sentence,
+) -> Result<Result<Act, Reason>, OutOfMemory>
+    ensures { IfOk result (λ act. act ≡ judged (scope_in names.now) sentence) }
 {
     match sentence {
-        Sentence::Register(registration) => Ok(register_complaint(names, registration)),
-        Sentence::Task(call) => task_complaint(alloc, names, call),
-        Sentence::Print(name) => Ok(print_complaint(names, name)),
+        Sentence::Register(registration) => Ok(judge_registration(names, registration)),
+        Sentence::Task(call) => judge_call(alloc, names, call),
+        Sentence::Print(name) => Ok(judge_print(names, name)),
     }
 }

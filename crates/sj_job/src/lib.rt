@@ -6,6 +6,7 @@ pub mod judge;
 pub mod line;
 pub mod name;
 pub mod names;
+pub mod read;
 pub mod reason;
 pub mod sentence;
 pub mod word;
