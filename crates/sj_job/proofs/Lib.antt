@@ -3,3 +3,4 @@ pub mod Digits
 pub mod Each
 pub mod Calls
 pub mod Valued
+pub mod Seen

@@ -1,6 +1,6 @@
 -- What a job means: its statements run one after another on plain arrays.
 use Rattle.std.specs.FinMap as map
-use Rattle.std.specs.Prelude.{ℕ, suc, Bool, true, false, ◌||◌, Option, Some, None, List, [], ◌∷◌, ◌++◌, ℤ, pos, map as each_of, filter, option_map, unwrap_or}
+use Rattle.std.specs.Prelude.{ℕ, ◌+◌, Bool, true, false, ◌||◌, Option, Some, None, List, [], ◌∷◌, ◌++◌, ℤ, pos, map as each_of, filter, option_map, unwrap_or}
 use Rattle.sj_base.specs.declared.tile.Dims.{Dims}
 use Rattle.sj_base.specs.declared.mode.Mode.{Mode}
 use Rattle.sj_base.specs.declared.mode.Mode.TheVariants.{R, W, RW, Scratch, Redux, Commute}
@@ -25,7 +25,7 @@ abbrev pub registered_root : Register → Root
 registered_root r = record { kind = r.kind; dims = r.dims; elements = first_elements r.init }
 
 abbrev pub register : Register → State → State
-register r S = record { registered = suc S.registered; ended = S.ended; roots = map.insert S.roots r.name (registered_root r) }
+register r S = record { registered = S.registered + 1; ended = S.ended; roots = map.insert S.roots r.name (registered_root r) }
 
 -- a root's array; an element without value doesn't matter, since it isn't read
 abbrev pub array_of : Root → Array

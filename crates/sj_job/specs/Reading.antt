@@ -1,5 +1,5 @@
 -- What a job text says: its statements, or its first bad line and the first reason against it.
-use Rattle.std.specs.Prelude.{ℕ, suc, Bool, not, ◌&&◌, nat_lt, Option, Some, None, Result, Ok, Err, List, [], ◌∷◌, length, if◌then◌else◌}
+use Rattle.std.specs.Prelude.{ℕ, ◌+◌, Bool, not, ◌&&◌, nat_lt, Option, Some, None, Result, Ok, Err, List, [], ◌∷◌, length, if◌then◌else◌}
 use Rattle.std.specs.List.{list_all}
 use Rattle.sj_base.specs.declared.ids.Line.{Line}
 use Rattle.sj_codelet.specs.declared.kernel.Kernel.{Kernel}
@@ -44,18 +44,18 @@ before s (Err e) = Err e
 abbrev pub reading : (Kernel → Bool) → ℕ → State → ℕ → List (List ℕ) → Result (List Statement) Refusal
 reading set k S n [] = Ok []
 reading set k S n (l ∷ ls) =
-    if is_skipped (words l) then reading set k S (suc n) ls
+    if is_skipped (words l) then reading set k S (n + 1) ls
     else (elim (statement_in set (scope_of k S) l) [
       Err why ↦ Err (refusal n why) |
-      Ok act ↦ before (statement n act) (reading set (suc k) (apply act S) (suc n) ls)
+      Ok act ↦ before (statement n act) (reading set (k + 1) (apply act S) (n + 1) ls)
     ])
 
 -- the same from before the header on, which is the first line that isn't skipped
 abbrev pub reading_header : (Kernel → Bool) → ℕ → List (List ℕ) → Result (List Statement) Refusal
 reading_header set n [] = Err (refusal n Header)
 reading_header set n (l ∷ ls) =
-    if is_skipped (words l) then reading_header set (suc n) ls
-    else if list_all is_allowed l && is_header (words l) then reading set 0 start (suc n) ls
+    if is_skipped (words l) then reading_header set (n + 1) ls
+    else if list_all is_allowed l && is_header (words l) then reading set 0 start (n + 1) ls
     else Err (refusal n Header)
 
 -- the longest text that is read
