@@ -4,3 +4,4 @@ pub mod Each
 pub mod Calls
 pub mod Valued
 pub mod Seen
+pub mod Progressing

@@ -1,6 +1,6 @@
 -- The reader's names go on agreeing with the state, statement by statement.
 use Rattle.std.specs.FinMap as map
-use Rattle.std.proofs.Common.{◌≡◌, ℕ, ◌+◌, Bool, true, false, List, [], ◌∷◌, ◌++◌, refl, ap, ◌∙◌, sym, subst, Option, Some, None, option_map, is_some, cond, ℤ, map as each_of, ◌⊎◌, inl, inr}
+use Rattle.std.proofs.Common.{◌≡◌, ℕ, ◌+◌, Bool, true, false, List, [], ◌∷◌, ◌++◌, refl, ap, ◌∙◌, sym, subst, Option, Some, None, option_map, is_some, cond, ℤ, map as each_of, ◌⊎◌, inl, inr, arith, ◌≤◌}
 use Rattle.std.specs.List.{list_all}
 use Rattle.std.specs.Ordering.{nat_cmp, eq_by_cmp}
 use Rattle.std.specs.Cmp.{eq_by_cmp_equiv}
@@ -151,3 +151,9 @@ sees_start new s k e = record {
 -- the reasons see the same scope
 pub same_scope : (names : Names) (n : ℕ) (S : State) → Sees names n S → scope_in names ≡ scope_of n S
 same_scope names n S h = λ i. record { statements = h.statements i; registered = h.registered i; ended = sym h.ended i; known = λ q. h.known q i }
+
+-- a statement registers one name at most
+pub apply_counts : (act : Act) (S : State) → (apply act S).registered ≤ S.registered + 1
+apply_counts (Registers r) S = omega arith
+apply_counts (Task t) S = omega (arith, (put_all_counts (written_names t.operands) (out t.codelet t.args (each_of (operand_array S) t.operands)) S).0)
+apply_counts (Print name) S = omega arith

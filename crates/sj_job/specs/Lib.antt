@@ -8,5 +8,5 @@ pub mod Reading
 pub mod Names
 
 
-pub mod Line
 pub mod Sees
+pub mod Progress

@@ -1,12 +1,16 @@
 -- What a job text says: its statements, or its first bad line and the first reason against it.
-use Rattle.std.specs.Prelude.{ℕ, ◌+◌, Bool, not, ◌&&◌, nat_lt, Option, Some, None, Result, Ok, Err, List, [], ◌∷◌, length, if◌then◌else◌}
+use Rattle.std.specs.Prelude.{◌≡◌, ℕ, ◌+◌, Bool, not, ◌&&◌, nat_lt, Option, Some, None, Result, Ok, Err, List, [], ◌∷◌, length, if◌then◌else◌}
 use Rattle.std.specs.List.{list_all}
 use Rattle.sj_base.specs.declared.ids.Line.{Line}
 use Rattle.sj_codelet.specs.declared.kernel.Kernel.{Kernel}
 use Rattle.sj_job.specs.declared.job.Act.{Act}
 use Rattle.sj_job.specs.declared.job.Statement.{Statement}
 use Rattle.sj_job.specs.declared.sentence.Sentence.{Sentence}
+use Rattle.sj_job.specs.declared.read.Verdict.{Verdict}
+use Rattle.sj_job.specs.declared.read.Verdict.TheVariants.{Skipped, Does, Bad}
 use Rattle.sj_job.specs.declared.reason.Reason.{Reason}
+use Rattle.sj_job.specs.declared.reason.ReadRefusal.{ReadRefusal}
+use Rattle.sj_job.specs.declared.reason.ReadRefusal.TheVariants.{Refused, OutOfMemory}
 use Rattle.sj_job.specs.declared.reason.Reason.TheVariants.{Header, NotBuilt, Limit}
 use Rattle.sj_job.specs.declared.reason.LimitKind.TheVariants.{Text}
 use Rattle.sj_job.specs.Word.{lines, words, is_allowed, is_skipped}
@@ -40,15 +44,19 @@ abbrev pub before : Statement → Result (List Statement) Refusal → Result (Li
 before s (Ok ss) = Ok (s ∷ ss)
 before s (Err e) = Err e
 
+-- a line says nothing, or does something, or is bad
+abbrev pub verdict_of : (Kernel → Bool) → Scope → List ℕ → Verdict
+verdict_of set scope line =
+    if is_skipped (words line) then Skipped else (elim (statement_in set scope line) [ Err why ↦ Bad why | Ok act ↦ Does act ])
+
 -- what the lines from line n on say, after so many statements, which leave the state S
 abbrev pub reading : (Kernel → Bool) → ℕ → State → ℕ → List (List ℕ) → Result (List Statement) Refusal
 reading set k S n [] = Ok []
-reading set k S n (l ∷ ls) =
-    if is_skipped (words l) then reading set k S (n + 1) ls
-    else (elim (statement_in set (scope_of k S) l) [
-      Err why ↦ Err (refusal n why) |
-      Ok act ↦ before (statement n act) (reading set (k + 1) (apply act S) (n + 1) ls)
-    ])
+reading set k S n (l ∷ ls) = elim (verdict_of set (scope_of k S) l) [
+  Skipped ↦ reading set k S (n + 1) ls |
+  Bad why ↦ Err (refusal n why) |
+  Does act ↦ before (statement n act) (reading set (k + 1) (apply act S) (n + 1) ls)
+]
 
 -- the same from before the header on, which is the first line that isn't skipped
 abbrev pub reading_header : (Kernel → Bool) → ℕ → List (List ℕ) → Result (List Statement) Refusal
@@ -65,3 +73,8 @@ text_limit = 67108864
 -- what a text says, with the codelets of a set
 abbrev pub job_of : (Kernel → Bool) → List ℕ → Result (List Statement) Refusal
 job_of set text = if nat_lt text_limit (length text) then Err (refusal 0 (Limit Text)) else reading_header set 1 (lines text)
+
+-- a text is refused at its first bad line for its first reason, or memory ran out
+abbrev pub IsRefusal : ReadRefusal → Result (List Statement) Refusal → Type 0
+IsRefusal OutOfMemory job = Unit {0}
+IsRefusal (Refused line reason) job = job ≡ Err (record { line = line; reason = reason })

@@ -4,6 +4,8 @@ ghost use Rattle.std.specs.Prelude.{◌≡◌};
 ghost use Rattle.sj_job.specs.Reason.{code_of};
 
 use sj_base::ids::Line;
+use sj_base::memory;
+use std::alloc::AllocFailed;
 
 /// Which limit a quantity exceeds.
 #[derive(Clone, Copy, Debug, PartialEq, Eq)]
@@ -91,4 +93,26 @@ impl Reason {
 pub enum ReadRefusal {
     Refused { line: Line, reason: Reason },
     OutOfMemory,
+}
+
+impl From<memory::OutOfMemory> for ReadRefusal {
+    ghost use Rattle.std.specs.Prelude.{◌≡◌};
+    ghost use Rattle.sj_job.specs.declared.reason.ReadRefusal.TheVariants.{OutOfMemory};
+
+    ghost from_gives = { λ _ e. e ≡ OutOfMemory };
+
+    fn from(_: memory::OutOfMemory) -> Self {
+        ReadRefusal::OutOfMemory
+    }
+}
+
+impl<T: Drop> From<AllocFailed<T>> for ReadRefusal {
+    ghost use Rattle.std.specs.Prelude.{◌≡◌};
+    ghost use Rattle.sj_job.specs.declared.reason.ReadRefusal.TheVariants.{OutOfMemory};
+
+    ghost from_gives = { λ _ e. e ≡ OutOfMemory };
+
+    fn from(_: AllocFailed<T>) -> Self {
+        ReadRefusal::OutOfMemory
+    }
 }

@@ -1,0 +1,51 @@
+-- A text read one line further.
+use Rattle.std.proofs.Common.{◌≡◌, ℕ, ◌+◌, ◌≤◌, Bool, List, [], ◌∷◌, ◌++◌, length, refl, ap, ◌∙◌, sym, subst, arith, Result, Ok, Err, append_assoc, length-append}
+use Rattle.sj_codelet.specs.declared.kernel.Kernel.{Kernel}
+use Rattle.sj_job.specs.declared.job.Act.{Act}
+use Rattle.sj_job.specs.declared.job.Act.TheVariants.{Register, Task, Print}
+use Rattle.sj_job.specs.declared.job.Statement.{Statement}
+use Rattle.sj_job.specs.declared.reason.Reason.{Reason}
+use Rattle.sj_job.specs.declared.names.Names.{Names}
+use Rattle.sj_job.specs.declared.read.Verdict.{Verdict}
+use Rattle.sj_job.specs.declared.read.Verdict.TheVariants.{Skipped, Does, Bad}
+use Rattle.sj_job.specs.State.{State, start}
+use Rattle.sj_job.specs.Meaning.{apply, run_from}
+use Rattle.sj_job.specs.Judge.{scope_of}
+use Rattle.sj_job.specs.Names.{scope_in}
+use Rattle.sj_job.specs.Sees.{Sees}
+use Rattle.sj_job.specs.Reading.{Refusal, refusal, statement, before, reading, verdict_of}
+use Rattle.sj_job.specs.Progress.{after, text_with}
+use Rattle.sj_job.proofs.Seen.{same_scope, apply_counts}
+
+pub run_from-push : (S : State) (ss : List Statement) (s : Statement) → run_from S (ss ++ s ∷ []) ≡ apply s.act (run_from S ss)
+run_from-push S [] s = refl
+run_from-push S (t ∷ ts) s = run_from-push (apply t.act S) ts s
+
+-- no more names than statements
+pub registered-le : (S : State) (ss : List Statement) → (run_from S ss).registered ≤ S.registered + length ss
+registered-le S [] = omega arith
+registered-le S (t ∷ ts) = omega (arith, registered-le (apply t.act S) ts, apply_counts t.act S)
+
+pub after-push : (ss : List Statement) (s : Statement) (r : Result (List Statement) Refusal) → after (ss ++ s ∷ []) r ≡ after ss (before s r)
+after-push ss s (Ok more) = ap Ok (append_assoc ss (s ∷ []) more)
+after-push ss s (Err e) = refl
+
+by_verdict : (has : Kernel → Bool) (k : ℕ) (S : State) (n : ℕ) (ls : List (List ℕ)) → Verdict → Result (List Statement) Refusal
+by_verdict has k S n ls v = elim v [
+  Skipped ↦ reading has k S (n + 1) ls |
+  Bad why ↦ Err (refusal n why) |
+  Does act ↦ before (statement n act) (reading has (k + 1) (apply act S) (n + 1) ls)
+]
+
+-- a bad line ends the text
+pub text_bad : (has : Kernel → Bool) (ss : List Statement) (n : ℕ) (l : List ℕ) (ls : List (List ℕ)) (why : Reason) → verdict_of has (scope_of (length ss) (run_from start ss)) l ≡ Bad why → text_with has ss n (l ∷ ls) ≡ Err (refusal n why)
+unfolding by_verdict
+text_bad has ss n l ls why e = ap (λ v. after ss (by_verdict has (length ss) (run_from start ss) n ls v)) e
+
+pub text_does : (has : Kernel → Bool) (ss : List Statement) (n : ℕ) (l : List ℕ) (ls : List (List ℕ)) (act : Act) → verdict_of has (scope_of (length ss) (run_from start ss)) l ≡ Does act → text_with has ss n (l ∷ ls) ≡ text_with has (ss ++ statement n act ∷ []) (n + 1) ls
+unfolding by_verdict
+text_does has ss n l ls act e =
+    ap (λ v. after ss (by_verdict has (length ss) (run_from start ss) n ls v)) e
+    ∙ sym (after-push ss (statement n act) (reading has (length ss + 1) (apply act (run_from start ss)) (n + 1) ls))
+    ∙ ap (λ k. after (ss ++ statement n act ∷ []) (reading has k (apply act (run_from start ss)) (n + 1) ls)) (sym (length-append ss (statement n act ∷ [])))
+    ∙ ap (λ S. after (ss ++ statement n act ∷ []) (reading has (length (ss ++ statement n act ∷ [])) S (n + 1) ls)) (sym (run_from-push start ss (statement n act)))

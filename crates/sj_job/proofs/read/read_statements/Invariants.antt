@@ -1,0 +1,18 @@
+use Rattle.std.proofs.Common.{◌≡◌, ◌+◌, ◌≤◌, length}
+use Rattle.sj_job.specs.Word.{lines}
+use Rattle.sj_job.specs.State.{start}
+use Rattle.sj_job.specs.Meaning.{run_from}
+use Rattle.sj_job.specs.Sees.{Sees}
+use Rattle.sj_job.specs.Reading.{reading}
+use Rattle.sj_job.specs.Progress.{text_with}
+use Rattle.sj_job.proofs.read.read_statements.Given as goal
+
+abbrev pub invariant-loop-rest : goal.invariant-loop-rest
+invariant-loop-rest g l = record {
+  counted : l.number + length l.rest ≤ l.first + length l.text;
+  names : Sees l.names (length l.statements.items) (run_from start l.statements.items);
+  told : text_with g.C.Codelets.has l.statements.items l.number (lines l.rest) ≡ reading g.C.Codelets.has 0 start l.first (lines l.text);
+}
+
+abbrev pub decreases-loop-rest : goal.decreases-loop-rest
+decreases-loop-rest g l = length l.rest
