@@ -1,3 +1,6 @@
+pub mod Called
 pub mod Checks
 pub mod Faults
 pub mod Held
+pub mod Memory
+pub mod Standard

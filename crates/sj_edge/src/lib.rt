@@ -2,7 +2,14 @@
 //! kernels; their implementations in memory, and two adapters over std's readers and writers.
 #![tactic(auto)]
 
+mod calls;
 pub mod disk;
 pub mod gate;
+pub mod memory_disk;
+pub mod memory_sink;
+pub mod memory_source;
+mod pieces;
 pub mod sink;
 pub mod source;
+pub mod standard;
+pub mod sure;
