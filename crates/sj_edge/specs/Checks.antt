@@ -1,19 +1,19 @@
 -- What a check of a disk answers.
-use Rattle.std.specs.Prelude.{◌≡◌, ◌≢◌, ℕ, ◌+◌, List, slice_range, Option, IfSome, Result, Ok, Err, ⊤}
+use Rattle.std.specs.Prelude.{◌≡◌, ◌≢◌, ℕ, ◌+◌, List, slice_range, Option, IfSome, Result, Ok, Err, Bool, true, false, ⊤}
 use Rattle.sj_edge.specs.declared.disk.CheckFault.{CheckFault}
 use Rattle.sj_edge.specs.declared.disk.CheckFault.TheVariants.{Failed, Differs}
 
 -- the disk refused the check
-abbrev pub HasFailed : {A : Type 0} → Result A CheckFault → Type 0
-HasFailed (Ok _) = ⊥
-HasFailed (Err Failed) = ⊤
-HasFailed (Err (Differs _)) = ⊥
+abbrev pub has_failed : {A : Type 0} → Result A CheckFault → Bool
+has_failed (Ok _) = false
+has_failed (Err Failed) = true
+has_failed (Err (Differs _)) = false
 
 -- the disk holds other bytes
-abbrev pub HasDiffered : {A : Type 0} → Result A CheckFault → Type 0
-HasDiffered (Ok _) = ⊥
-HasDiffered (Err Failed) = ⊥
-HasDiffered (Err (Differs _)) = ⊤
+abbrev pub has_differed : {A : Type 0} → Result A CheckFault → Bool
+has_differed (Ok _) = false
+has_differed (Err Failed) = false
+has_differed (Err (Differs _)) = true
 
 -- what it carries, where it differs, is not what was wanted
 abbrev pub CarriesOther : {A : Type 0} → Result A CheckFault → List ℕ → Type 0

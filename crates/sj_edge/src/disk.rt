@@ -1,6 +1,6 @@
 //! What evicted data is kept on.
 
-ghost use Rattle.std.specs.Prelude.{◌≡◌, ◌+◌, ◌≤◌, ℕ, List, Option, IsErr, IsOk, OnOk, OnErr, length, option_map};
+ghost use Rattle.std.specs.Prelude.{◌≡◌, ◌+◌, ◌≤◌, ℕ, List, Option, IsErr, IsOk, IsTrue, OnOk, OnErr, length, option_map};
 ghost use Rattle.sj_edge.specs.Faults.{Counts};
 ghost use Rattle.sj_edge.specs.Held.{Fills, GivesHeld, written, HoldsAnyIn};
 
@@ -20,7 +20,7 @@ pub enum CheckFault {
 /// Neither count falls, and each stays once it is `u64::MAX`. The size never changes, nor does whether
 /// a disk tells. No call takes memory.
 pub trait Disk: Drop {
-    ghost use Rattle.sj_edge.specs.Checks.{HasFailed, HasDiffered, CarriesOther, Compares};
+    ghost use Rattle.sj_edge.specs.Checks.{has_failed, has_differed, CarriesOther, Compares};
 
     // How many bytes it has.
     ghost size: { Self → ℕ };
@@ -69,8 +69,8 @@ pub trait Disk: Drop {
         ensures changes_no_byte { held self.new ≡ held self.old }
         ensures told_bytes_fill_the_size { Fills (held self.new) (size self.new) }
         ensures size_stays { size self.new ≡ size self.old }
-        ensures failed_only_where_faults_rose { Counts (faults self.old) (faults self.new) (HasFailed result) }
-        ensures differs_only_where_mismatches_rose { Counts (mismatches self.old) (mismatches self.new) (HasDiffered result) };
+        ensures failed_only_where_faults_rose { Counts (faults self.old) (faults self.new) (IsTrue (has_failed result)) }
+        ensures differs_only_where_mismatches_rose { Counts (mismatches self.old) (mismatches self.new) (IsTrue (has_differed result)) };
 }
 
 impl Disk for Box<dyn Disk + Send> {

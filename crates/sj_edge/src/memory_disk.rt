@@ -1,10 +1,11 @@
 //! A disk over memory that it takes when it is made.
 
-ghost use Rattle.std.specs.Prelude.{◌≡◌, ◌+◌, ◌≤◌, ℕ, Some, IsErr, OnErr, OnOk, IfOk, is_err, length, replicate, option_map};
+ghost use Rattle.std.specs.Prelude.{◌≡◌, ◌↔◌, ◌+◌, ◌≤◌, ℕ, Some, IsTrue, if◌then◌else◌, IsErr, OnErr, OnOk, IfOk, is_err, length, replicate, option_map};
 ghost use Rattle.sj_edge.specs.Faults.{Counts, one_more};
 ghost use Rattle.sj_edge.specs.Called.{uncalled, IsNextRefused, after_call};
-ghost use Rattle.sj_edge.specs.Held.{written, GivesHeld};
+ghost use Rattle.sj_edge.specs.Held.{written, GivesHeld, HoldsAnyIn};
 ghost use Rattle.sj_edge.specs.Memory.{keeping};
+ghost use Rattle.sj_edge.specs.Checks.{has_failed, has_differed, CarriesOther, Compares};
 
 use crate::calls::Calls;
 use crate::disk::{CheckFault, Disk};
@@ -79,7 +80,15 @@ impl Disk for MemDisk {
         self.bytes.len() as u64
     }
 
-    fn read(&mut self, at: u64, buf: &mut [u8]) -> Result<(), Failed> {
+    fn read(&mut self, at: u64, buf: &mut [u8]) -> Result<(), Failed>
+        requires in_range { at + length buf.old ≤ length self.old.bytes }
+        ensures gives_the_held_bytes { OnOk result (GivesHeld (Some self.old.bytes) at buf.new) }
+        ensures changes_no_byte { self.new.bytes ≡ self.old.bytes }
+        ensures fails_exactly_where_told { IsErr result ↔ IsNextRefused self.old.called }
+        ensures counts_the_call { self.new.called ≡ after_call self.old.called (is_err result) }
+        ensures failed_only_where_faults_rose { Counts self.old.called.faults self.new.called.faults (IsErr result) }
+        ensures mismatches_stay { self.new.mismatches ≡ self.old.mismatches }
+    {
         if self.calls.next_is_refused() {
             self.calls.add_fault();
             return Err(Failed);
@@ -88,7 +97,17 @@ impl Disk for MemDisk {
         Ok(())
     }
 
-    fn write(&mut self, at: u64, bytes: &[u8]) -> Result<(), Failed> {
+    fn write(&mut self, at: u64, bytes: &[u8]) -> Result<(), Failed>
+        requires in_range { at + length bytes.now ≤ length self.old.bytes }
+        ensures puts_the_bytes { OnOk result (self.new.bytes ≡ written at bytes.now self.old.bytes) }
+        ensures changes_no_byte_where_it_fails { OnErr result (self.new.bytes ≡ self.old.bytes) }
+        ensures changes_no_byte_outside { HoldsAnyIn at (length bytes.now) (Some self.old.bytes) (Some self.new.bytes) }
+        ensures size_stays { length self.new.bytes ≡ length self.old.bytes }
+        ensures fails_exactly_where_told { IsErr result ↔ IsNextRefused self.old.called }
+        ensures counts_the_call { self.new.called ≡ after_call self.old.called (is_err result) }
+        ensures failed_only_where_faults_rose { Counts self.old.called.faults self.new.called.faults (IsErr result) }
+        ensures mismatches_stay { self.new.mismatches ≡ self.old.mismatches }
+    {
         if self.calls.next_is_refused() {
             self.calls.add_fault();
             return Err(Failed);
@@ -97,7 +116,18 @@ impl Disk for MemDisk {
         Ok(())
     }
 
-    fn check(&mut self, at: u64, want: &[u8; 24]) -> Result<(), CheckFault> {
+    fn check(&mut self, at: u64, want: &[u8; 24]) -> Result<(), CheckFault>
+        requires in_range { at + 24 ≤ length self.old.bytes }
+        ensures compares_the_held_bytes { Compares (Some self.old.bytes) at want.now result }
+        ensures differs_carries_other_bytes { CarriesOther result want.now }
+        ensures changes_no_byte { self.new.bytes ≡ self.old.bytes }
+        ensures fails_exactly_where_told { IsTrue (has_failed result) ↔ IsNextRefused self.old.called }
+        ensures counts_the_call { self.new.called ≡ after_call self.old.called (has_failed result) }
+        ensures counts_a_mismatch_exactly_where_it_differs { self.new.mismatches
+            ≡ (if has_differed result then one_more self.old.mismatches else self.old.mismatches) }
+        ensures failed_only_where_faults_rose { Counts self.old.called.faults self.new.called.faults (IsTrue (has_failed result)) }
+        ensures differs_only_where_mismatches_rose { Counts self.old.mismatches self.new.mismatches (IsTrue (has_differed result)) }
+    {
         if self.calls.next_is_refused() {
             self.calls.add_fault();
             return Err(CheckFault::Failed);
