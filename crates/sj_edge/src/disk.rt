@@ -1,10 +1,11 @@
 //! What evicted data is kept on.
 
-ghost use Rattle.std.specs.Prelude.{◌≡◌, ◌+◌, ◌≤◌, ℕ, List, Option, IsErr, IsOk, IsTrue, OnOk, OnErr, length, option_map};
+ghost use Rattle.std.specs.Prelude.{◌≡◌, ◌+◌, ◌≤◌, ◌++◌, ◌∷◌, [], ℕ, List, Option, IsErr, IsOk, IsTrue, OnOk, OnErr, length, option_map};
 ghost use Rattle.sj_edge.specs.Faults.{Counts};
 ghost use Rattle.sj_edge.specs.Held.{Fills, GivesHeld, written, HoldsAnyIn};
 
 use crate::source::Failed;
+use sj_base::memory::OutOfMemory;
 
 /// Why a check of a disk doesn't answer that the bytes are as they should be.
 #[derive(Clone, Copy, Debug, PartialEq, Eq)]
@@ -97,4 +98,16 @@ impl Disk for Box<dyn Disk + Send> {
     fn check(&mut self, at: u64, want: &[u8; 24]) -> Result<(), CheckFault> {
         (**self).check(at, want)
     }
+}
+
+/// Appends a disk. Linear in the list where it has to move.
+pub fn add_disk(
+    disks: &mut Vec<Box<dyn Disk + Send>>,
+    disk: Box<dyn Disk + Send>,
+) -> Result<(), OutOfMemory>
+    ensures appends { OnOk result (disks.new.items ≡ disks.old.items ++ disk ∷ []) }
+    ensures stays_without_memory { OnErr result (disks.new.items ≡ disks.old.items) }
+{
+    disks.push(disk)?;
+    Ok(())
 }
