@@ -1,5 +1,5 @@
 -- How counts go over several calls.
-use Rattle.std.proofs.Common.{◌≡◌, ℕ, ◌≤◌, ◌⊎◌, ⊎_elim, arith}
+use Rattle.std.proofs.Common.{ℕ, ◌≤◌, ◌⊎◌, ⊎_elim, arith}
 use Rattle.sj_edge.specs.Faults.{last_count, one_more, Rose, Counts}
 
 -- a count that rose in the middle, and fell neither before nor after, rose in the whole

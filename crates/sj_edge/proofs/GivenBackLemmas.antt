@@ -1,7 +1,6 @@
 -- Disks that came back, over several calls.
-use Rattle.std.proofs.Common.{◌≡◌, ℕ, ◌≤◌, List, [], ◌∷◌, refl, ap, ◌∙◌, arith}
+use Rattle.std.proofs.Common.{ℕ, List, [], ◌∷◌, refl, ap, ◌∙◌, arith}
 use Rattle.std.specs.Prelude.{Option, is_some}
-use Rattle.std.specs.List.{AllZip}
 use Rattle.sj_edge.specs.GivenBack.{IsGivenBack, IsUntouched, AreGivenBack, AreUntouched}
 
 module _ {D : Type 0} (size faults mismatches : D → ℕ) (held : D → Option (List ℕ)) where

@@ -1,5 +1,5 @@
 -- Which calls of a device in memory are refused, how many there were, and how many were refused.
-use Rattle.std.specs.Prelude.{◌≡◌, ℕ, List, Bool, Contains, if◌then◌else◌}
+use Rattle.std.specs.Prelude.{ℕ, List, Bool, Contains, if◌then◌else◌}
 use Rattle.sj_edge.specs.Faults.{one_more}
 
 -- the numbers of the calls to refuse, from 1; the calls so far; the faults so far

@@ -27,7 +27,7 @@ Finds there (Ok _) want = there ≡ want
 Finds there (Err Failed) want = ⊤
 Finds there (Err (Differs found)) want = (found ≡ there) × (there ≢ want)
 
--- where the held bytes are told: ok only where those from `at` on are wanted, and differs only where
--- they aren't, with them
+-- where the held bytes are told: ok only where those from `at` on are wanted, and differs only
+-- where they aren't, with them
 abbrev pub Compares : {A : Type 0} → Option (List ℕ) → ℕ → List ℕ → Result A CheckFault → Type 0
 Compares held at want r = IfSome held (λ xs. Finds (slice_range xs at (at + 24)) r want)

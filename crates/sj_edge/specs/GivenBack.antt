@@ -1,4 +1,5 @@
--- Disks that were lent and came back. The four functions are a type's members `size`, `faults`, `mismatches` and `held`.
+-- Disks that were lent and came back. The four functions are the members `size`, `faults`,
+-- `mismatches` and `held` of their type.
 use Rattle.std.specs.Prelude.{◌≡◌, ℕ, ◌≤◌, List, Option, is_some}
 use Rattle.std.specs.List.{AllZip}
 

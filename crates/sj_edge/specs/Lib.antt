@@ -5,3 +5,4 @@ pub mod GivenBack
 pub mod Held
 pub mod Memory
 pub mod Standard
+pub mod Sizes

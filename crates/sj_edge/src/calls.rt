@@ -6,7 +6,9 @@ ghost use Rattle.sj_edge.specs.Faults.{one_more, Rose};
 
 use std::marker::Model;
 
-/// Counts the calls, and tells those to refuse by their numbers, from 1. Both counts stay at `u64::MAX`.
+/// Counts the calls, and tells those to refuse by their numbers, from 1.
+///
+/// Both counts stay at `u64::MAX`.
 #[derive(Debug, Drop)]
 pub struct Calls {
     fail: Vec<u64>,
@@ -45,7 +47,8 @@ impl Calls {
 
     /// Counts a fault.
     pub fn add_fault(&mut self)
-        ensures counted { self.new ≡ called self.old.fail self.old.calls (one_more self.old.faults) }
+        ensures counted { self.new ≡ called self.old.fail self.old.calls
+            (one_more self.old.faults) }
         ensures never_falls { self.old.faults ≤ self.new.faults }
         ensures rose { Rose self.old.faults self.new.faults }
     {

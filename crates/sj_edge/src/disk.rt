@@ -2,6 +2,7 @@
 
 ghost use Rattle.std.specs.Prelude.{◌≡◌, ◌+◌, ◌≤◌, ◌++◌, ◌∷◌, [], ℕ, List, Option, IsErr, IsOk, IsTrue, OnOk, OnErr, length, option_map};
 ghost use Rattle.sj_edge.specs.Faults.{Counts};
+ghost use Rattle.sj_edge.specs.Sizes.{AreWithin};
 ghost use Rattle.sj_edge.specs.Held.{Fills, GivesHeld, written, HoldsAnyIn};
 
 use crate::source::Failed;
@@ -16,10 +17,11 @@ pub enum CheckFault {
     Differs([u8; 24]),
 }
 
-/// A fixed number of bytes, which may be told to proofs, with a count of faults and one of mismatches.
+/// A fixed number of bytes, with a count of faults and one of mismatches. It may tell proofs the
+/// bytes that it holds.
 ///
-/// Neither count falls, and each stays once it is `u64::MAX`. The size never changes, nor does whether
-/// a disk tells. No call takes memory.
+/// Neither count falls, and each stays once it is `u64::MAX`. The size never changes, nor does
+/// whether a disk tells. No call takes memory.
 pub trait Disk: Drop {
     ghost use Rattle.sj_edge.specs.Checks.{has_failed, has_differed, CarriesOther, Compares};
 
@@ -47,7 +49,8 @@ pub trait Disk: Drop {
         ensures changes_no_byte { held self.new ≡ held self.old }
         ensures told_bytes_fill_the_size { Fills (held self.new) (size self.new) }
         ensures size_stays { size self.new ≡ size self.old }
-        ensures failed_only_where_faults_rose { Counts (faults self.old) (faults self.new) (IsErr result) }
+        ensures failed_only_where_faults_rose { Counts
+            (faults self.old) (faults self.new) (IsErr result) }
         ensures mismatches_never_fall { mismatches self.old ≤ mismatches self.new };
 
     /// Puts these bytes in place of those from `at` on. Linear in them.
@@ -55,11 +58,14 @@ pub trait Disk: Drop {
     /// Where it fails, the range may hold any bytes.
     fn write(&mut self, at: u64, bytes: &[u8]) -> Result<(), Failed>
         requires in_range { at + length bytes.now ≤ size self.old }
-        ensures puts_the_bytes { OnOk result (held self.new ≡ option_map (written at bytes.now) (held self.old)) }
-        ensures changes_no_byte_outside { HoldsAnyIn at (length bytes.now) (held self.old) (held self.new) }
+        ensures puts_the_bytes { OnOk result
+            (held self.new ≡ option_map (written at bytes.now) (held self.old)) }
+        ensures changes_no_byte_outside { HoldsAnyIn at (length bytes.now) (held self.old)
+            (held self.new) }
         ensures told_bytes_fill_the_size { Fills (held self.new) (size self.new) }
         ensures size_stays { size self.new ≡ size self.old }
-        ensures failed_only_where_faults_rose { Counts (faults self.old) (faults self.new) (IsErr result) }
+        ensures failed_only_where_faults_rose { Counts
+            (faults self.old) (faults self.new) (IsErr result) }
         ensures mismatches_never_fall { mismatches self.old ≤ mismatches self.new };
 
     /// Compares the 24 bytes from `at` on with `want`. Constant time.
@@ -70,8 +76,10 @@ pub trait Disk: Drop {
         ensures changes_no_byte { held self.new ≡ held self.old }
         ensures told_bytes_fill_the_size { Fills (held self.new) (size self.new) }
         ensures size_stays { size self.new ≡ size self.old }
-        ensures failed_only_where_faults_rose { Counts (faults self.old) (faults self.new) (IsTrue (has_failed result)) }
-        ensures differs_only_where_mismatches_rose { Counts (mismatches self.old) (mismatches self.new) (IsTrue (has_differed result)) };
+        ensures failed_only_where_faults_rose { Counts
+            (faults self.old) (faults self.new) (IsTrue (has_failed result)) }
+        ensures differs_only_where_mismatches_rose { Counts
+            (mismatches self.old) (mismatches self.new) (IsTrue (has_differed result)) };
 }
 
 impl Disk for Box<dyn Disk + Send> {
@@ -107,6 +115,10 @@ pub fn add_disk(
 ) -> Result<(), OutOfMemory>
     ensures appends { OnOk result (disks.new.items ≡ disks.old.items ++ disk ∷ []) }
     ensures stays_without_memory { OnErr result (disks.new.items ≡ disks.old.items) }
+    ensures stay_within_a_limit_that_the_disk_is_within { (limit : ℕ)
+        → AreWithin ⟦<Box<dyn Disk + Send> as Disk>⟧.size limit disks.old.items
+        → ⟦<Box<dyn Disk + Send> as Disk>⟧.size disk ≤ limit
+        → AreWithin ⟦<Box<dyn Disk + Send> as Disk>⟧.size limit disks.new.items }
 {
     disks.push(disk)?;
     Ok(())

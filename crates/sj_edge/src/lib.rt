@@ -1,5 +1,5 @@
-//! The outside: traits of what the runtime reads from, writes to, keeps evicted data on and calls around
-//! kernels; their implementations in memory, and two adapters over std's readers and writers.
+//! The outside: traits of what the runtime reads from, writes to, keeps evicted data on and calls
+//! around kernels; their implementations in memory, and adapters over std's readers and writers.
 #![tactic(auto)]
 
 mod calls;

@@ -32,8 +32,8 @@ impl Model for MemDisk {
 }
 
 impl MemDisk {
-    /// So many zeros. Refuses each call whose number, from 1, stands in `fail`: reads, writes and checks
-    /// are counted together. Takes all its memory here. Linear in the size.
+    /// So many zeros. Refuses each call whose number, from 1, stands in `fail`: reads, writes and
+    /// checks are counted together. Takes all its memory here. Linear in the size.
     pub fn new(alloc: Global, size: u64, fail: Vec<u64>) -> Result<MemDisk, OutOfMemory>
         ensures { IfOk result (λ d. d ≡ keeping (replicate size 0) 0 (uncalled fail.items)) }
     {
@@ -86,7 +86,8 @@ impl Disk for MemDisk {
         ensures changes_no_byte { self.new.bytes ≡ self.old.bytes }
         ensures fails_exactly_where_told { IsErr result ↔ IsNextRefused self.old.called }
         ensures counts_the_call { self.new.called ≡ after_call self.old.called (is_err result) }
-        ensures failed_only_where_faults_rose { Counts self.old.called.faults self.new.called.faults (IsErr result) }
+        ensures failed_only_where_faults_rose { Counts
+            self.old.called.faults self.new.called.faults (IsErr result) }
         ensures mismatches_stay { self.new.mismatches ≡ self.old.mismatches }
     {
         if self.calls.next_is_refused() {
@@ -99,13 +100,16 @@ impl Disk for MemDisk {
 
     fn write(&mut self, at: u64, bytes: &[u8]) -> Result<(), Failed>
         requires in_range { at + length bytes.now ≤ length self.old.bytes }
-        ensures puts_the_bytes { OnOk result (self.new.bytes ≡ written at bytes.now self.old.bytes) }
+        ensures puts_the_bytes { OnOk result
+            (self.new.bytes ≡ written at bytes.now self.old.bytes) }
         ensures changes_no_byte_where_it_fails { OnErr result (self.new.bytes ≡ self.old.bytes) }
-        ensures changes_no_byte_outside { HoldsAnyIn at (length bytes.now) (Some self.old.bytes) (Some self.new.bytes) }
+        ensures changes_no_byte_outside { HoldsAnyIn at (length bytes.now) (Some self.old.bytes)
+            (Some self.new.bytes) }
         ensures size_stays { length self.new.bytes ≡ length self.old.bytes }
         ensures fails_exactly_where_told { IsErr result ↔ IsNextRefused self.old.called }
         ensures counts_the_call { self.new.called ≡ after_call self.old.called (is_err result) }
-        ensures failed_only_where_faults_rose { Counts self.old.called.faults self.new.called.faults (IsErr result) }
+        ensures failed_only_where_faults_rose { Counts
+            self.old.called.faults self.new.called.faults (IsErr result) }
         ensures mismatches_stay { self.new.mismatches ≡ self.old.mismatches }
     {
         if self.calls.next_is_refused() {
@@ -121,12 +125,15 @@ impl Disk for MemDisk {
         ensures compares_the_held_bytes { Compares (Some self.old.bytes) at want.now result }
         ensures differs_carries_other_bytes { CarriesOther result want.now }
         ensures changes_no_byte { self.new.bytes ≡ self.old.bytes }
-        ensures fails_exactly_where_told { IsTrue (has_failed result) ↔ IsNextRefused self.old.called }
+        ensures fails_exactly_where_told { IsTrue (has_failed result) ↔ IsNextRefused
+            self.old.called }
         ensures counts_the_call { self.new.called ≡ after_call self.old.called (has_failed result) }
         ensures counts_a_mismatch_exactly_where_it_differs { self.new.mismatches
             ≡ (if has_differed result then one_more self.old.mismatches else self.old.mismatches) }
-        ensures failed_only_where_faults_rose { Counts self.old.called.faults self.new.called.faults (IsTrue (has_failed result)) }
-        ensures differs_only_where_mismatches_rose { Counts self.old.mismatches self.new.mismatches (IsTrue (has_differed result)) }
+        ensures failed_only_where_faults_rose { Counts
+            self.old.called.faults self.new.called.faults (IsTrue (has_failed result)) }
+        ensures differs_only_where_mismatches_rose { Counts
+            self.old.mismatches self.new.mismatches (IsTrue (has_differed result)) }
     {
         if self.calls.next_is_refused() {
             self.calls.add_fault();

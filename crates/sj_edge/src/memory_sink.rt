@@ -72,12 +72,17 @@ impl Sink for MemSink {
     fn write(&mut self, bytes: &[u8]) -> Result<usize, Failed>
         ensures takes_at_most_the_bytes { WritesAtMost result bytes.now }
         ensures takes_at_least_one { 0 < length bytes.now → IfOk result (λ n. 0 < n) }
-        ensures appends_the_first_bytes { WriteAppends (Some self.old.taken) (Some self.new.taken) result bytes.now }
-        ensures takes_as_many_as_it_can { IfOk result (λ n. n ≡ min (length bytes.now) self.old.room) }
-        ensures room_falls_by_what_it_takes { self.new.room + length self.new.taken ≡ self.old.room + length self.old.taken }
-        ensures fails_exactly_where_told_or_full { IsErr result ↔ (IsNextRefused self.old.called ⊎ ((0 < length bytes.now) × (self.old.room ≡ 0))) }
+        ensures appends_the_first_bytes { WriteAppends (Some self.old.taken) (Some self.new.taken)
+            result bytes.now }
+        ensures takes_as_many_as_it_can { IfOk result
+            (λ n. n ≡ min (length bytes.now) self.old.room) }
+        ensures room_falls_by_what_it_takes { self.new.room + length self.new.taken
+            ≡ self.old.room + length self.old.taken }
+        ensures fails_exactly_where_told_or_full { IsErr result ↔ (IsNextRefused self.old.called
+            ⊎ ((0 < length bytes.now) × (self.old.room ≡ 0))) }
         ensures counts_the_call { self.new.called ≡ after_call self.old.called (is_err result) }
-        ensures failed_only_where_faults_rose { Counts self.old.called.faults self.new.called.faults (IsErr result) }
+        ensures failed_only_where_faults_rose { Counts
+            self.old.called.faults self.new.called.faults (IsErr result) }
     {
         let refused = self.calls.next_is_refused();
         let n = bytes.len().min(self.bytes.len() - self.at);

@@ -32,7 +32,8 @@ impl Model for MemSource {
 }
 
 impl MemSource {
-    /// Gives these bytes, and refuses each read whose number, from 1, stands in `fail`. Constant time.
+    /// Gives these bytes, and refuses each read whose number, from 1, stands in `fail`.
+    /// Constant time.
     pub fn new(bytes: Vec<u8>, fail: Vec<u64>) -> MemSource
         ensures { result ≡ reading bytes.items (uncalled fail.items) }
     {
@@ -59,11 +60,14 @@ impl Source for MemSource {
     /// Linear in the bytes taken and in the list of calls to refuse.
     fn read(&mut self, buf: &mut [u8]) -> Result<usize, Failed>
         ensures takes_at_most_the_buffer { ReadsAtMost result buf.new }
-        ensures gives_the_first_bytes_left_and_takes_them { ReadConsumes (Some self.old.left) (Some self.new.left) result buf.new }
-        ensures fills_the_buffer_as_far_as_it_can { IfOk result (λ n. n ≡ min (length buf.new) (length self.old.left)) }
+        ensures gives_the_first_bytes_left_and_takes_them { ReadConsumes (Some self.old.left)
+            (Some self.new.left) result buf.new }
+        ensures fills_the_buffer_as_far_as_it_can { IfOk result
+            (λ n. n ≡ min (length buf.new) (length self.old.left)) }
         ensures fails_exactly_where_told { IsErr result ↔ IsNextRefused self.old.called }
         ensures counts_the_call { self.new.called ≡ after_call self.old.called (is_err result) }
-        ensures failed_only_where_faults_rose { Counts self.old.called.faults self.new.called.faults (IsErr result) }
+        ensures failed_only_where_faults_rose { Counts
+            self.old.called.faults self.new.called.faults (IsErr result) }
     {
         if self.calls.next_is_refused() {
             self.calls.add_fault();

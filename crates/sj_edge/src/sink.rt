@@ -23,7 +23,9 @@ pub trait Sink {
     fn write(&mut self, bytes: &[u8]) -> Result<usize, Failed>
         ensures takes_at_most_the_bytes { WritesAtMost result bytes.now }
         ensures takes_at_least_one { 0 < length bytes.now → IfOk result (λ n. 0 < n) }
-        ensures appends_the_first_bytes { WriteAppends (taken self.old) (taken self.new) result bytes.now }
+        ensures appends_the_first_bytes { WriteAppends (taken self.old) (taken self.new) result
+            bytes.now }
         ensures tells_as_before { is_some (taken self.new) ≡ is_some (taken self.old) }
-        ensures failed_only_where_faults_rose { Counts (faults self.old) (faults self.new) (IsErr result) };
+        ensures failed_only_where_faults_rose { Counts
+            (faults self.old) (faults self.new) (IsErr result) };
 }

@@ -24,7 +24,9 @@ pub trait Source {
     /// 0 for a `buf` that isn't empty is the end. Takes nothing where it fails.
     fn read(&mut self, buf: &mut [u8]) -> Result<usize, Failed>
         ensures takes_at_most_the_buffer { ReadsAtMost result buf.new }
-        ensures gives_the_first_bytes_left_and_takes_them { ReadConsumes (left self.old) (left self.new) result buf.new }
+        ensures gives_the_first_bytes_left_and_takes_them { ReadConsumes (left self.old)
+            (left self.new) result buf.new }
         ensures tells_as_before { is_some (left self.new) ≡ is_some (left self.old) }
-        ensures failed_only_where_faults_rose { Counts (faults self.old) (faults self.new) (IsErr result) };
+        ensures failed_only_where_faults_rose { Counts
+            (faults self.old) (faults self.new) (IsErr result) };
 }

@@ -45,15 +45,16 @@ impl<R: Read> Source for StdSource<R> {
 
     ghost faults = { λ s. s.faults };
 
-    /// One call of the reader's `read`, and more where it is interrupted: 1,000 at most. The last of
-    /// these is a fault, as is any other error.
+    /// One call of the reader's `read`, and another where that was interrupted: 1,000 at most. The
+    /// last interruption of so many is a fault, as is any other error.
     fn read(&mut self, buf: &mut [u8]) -> Result<usize, Failed>
         ensures takes_at_most_the_buffer { ReadsAtMost result buf.new }
         ensures gives_what_the_reader_gives { ReadConsumes (R.remaining (source_inner self.old))
             (R.remaining (source_inner self.new)) result buf.new }
         ensures counts_a_fault_exactly_where_it_fails { source_faults self.new
             ≡ (if is_err result then one_more (source_faults self.old) else source_faults self.old) }
-        ensures failed_only_where_faults_rose { Counts (source_faults self.old) (source_faults self.new) (IsErr result) }
+        ensures failed_only_where_faults_rose { Counts
+            (source_faults self.old) (source_faults self.new) (IsErr result) }
     {
         match read_some(&mut self.inner, buf) {
             Ok(n) => Ok(n),
@@ -83,7 +84,8 @@ fn read_some<R: Read>(inner: &mut R, buf: &mut [u8]) -> Result<usize, Failed>
     Err(Failed)
 }
 
-/// Writes to one of std's writers, flushes it after each write, and counts its errors. Tells nothing.
+/// Writes to one of std's writers, flushes it after each write, and counts its errors.
+/// Tells nothing.
 #[derive(Debug, Drop)]
 pub struct StdSink<W> {
     inner: W,
@@ -123,19 +125,21 @@ impl<W: Write> Sink for StdSink<W> {
 
     ghost faults = { λ s. s.faults };
 
-    /// One call of the writer's `write` and one of its `flush`, and more where these are interrupted:
-    /// 1,000 at most of each. The last of these is a fault, as is any other error, and a write that takes
-    /// nothing of a piece that isn't empty.
+    /// One call of the writer's `write` and one of its `flush`, and another of either where that was
+    /// interrupted: 1,000 at most. The last interruption of so many is a fault, as is any other
+    /// error, and a write that takes nothing of a piece that isn't empty.
     ///
     /// Where the flush fails, the answer is `Failed` though the writer was given bytes.
     fn write(&mut self, bytes: &[u8]) -> Result<usize, Failed>
         ensures takes_at_most_the_bytes { WritesAtMost result bytes.now }
         ensures takes_at_least_one { 0 < length bytes.now → IfOk result (λ n. 0 < n) }
-        ensures hands_on_the_first_bytes { IfOk result (λ n. Appends (W.contents (sink_inner self.old))
+        ensures hands_on_the_first_bytes { IfOk result
+            (λ n. Appends (W.contents (sink_inner self.old))
             (W.contents (sink_inner self.new)) (take n bytes.now)) }
         ensures counts_a_fault_exactly_where_it_fails { sink_faults self.new
             ≡ (if is_err result then one_more (sink_faults self.old) else sink_faults self.old) }
-        ensures failed_only_where_faults_rose { Counts (sink_faults self.old) (sink_faults self.new) (IsErr result) }
+        ensures failed_only_where_faults_rose { Counts
+            (sink_faults self.old) (sink_faults self.new) (IsErr result) }
     {
         match write_and_flush(&mut self.inner, bytes) {
             Ok(n) => Ok(n),

@@ -50,8 +50,10 @@ impl Source for SureSource {
     /// Linear in the bytes taken.
     fn read(&mut self, buf: &mut [u8]) -> Result<usize, Failed>
         ensures takes_at_most_the_buffer { ReadsAtMost result buf.new }
-        ensures gives_the_first_bytes_left_and_takes_them { ReadConsumes (Some self.old) (Some self.new) result buf.new }
-        ensures fills_the_buffer_as_far_as_it_can { result ≡ Ok (min (length buf.new) (length self.old)) }
+        ensures gives_the_first_bytes_left_and_takes_them { ReadConsumes (Some self.old)
+            (Some self.new) result buf.new }
+        ensures fills_the_buffer_as_far_as_it_can { result ≡ Ok
+            (min (length buf.new) (length self.old)) }
     {
         let n = copy_front(&self.bytes, self.at, buf);
         self.at += n;
@@ -141,7 +143,8 @@ impl Disk for SureDisk {
     fn read(&mut self, at: u64, buf: &mut [u8]) -> Result<(), Failed>
         requires in_range { at + length buf.old ≤ length self.old.bytes }
         ensures never_fails { IsOk result }
-        ensures gives_the_held_bytes { buf.new ≡ slice_range self.old.bytes at (at + length buf.new) }
+        ensures gives_the_held_bytes { buf.new ≡ slice_range self.old.bytes at
+            (at + length buf.new) }
         ensures changes_nothing { self.new ≡ self.old }
     {
         copy_out(&self.bytes, at as usize, buf);
@@ -151,7 +154,8 @@ impl Disk for SureDisk {
     fn write(&mut self, at: u64, bytes: &[u8]) -> Result<(), Failed>
         requires in_range { at + length bytes.now ≤ length self.old.bytes }
         ensures never_fails { IsOk result }
-        ensures puts_the_bytes { self.new ≡ kept (written at bytes.now self.old.bytes) self.old.mismatches }
+        ensures puts_the_bytes { self.new ≡ kept (written at bytes.now self.old.bytes)
+            self.old.mismatches }
         ensures size_stays { length self.new.bytes ≡ length self.old.bytes }
     {
         copy_in(&mut self.bytes, at as usize, bytes);
@@ -166,7 +170,8 @@ impl Disk for SureDisk {
         ensures changes_no_byte { self.new.bytes ≡ self.old.bytes }
         ensures counts_a_mismatch_exactly_where_it_differs { self.new.mismatches
             ≡ (if has_differed result then one_more self.old.mismatches else self.old.mismatches) }
-        ensures differs_only_where_mismatches_rose { Counts self.old.mismatches self.new.mismatches (IsTrue (has_differed result)) }
+        ensures differs_only_where_mismatches_rose { Counts
+            self.old.mismatches self.new.mismatches (IsTrue (has_differed result)) }
     {
         let found = header_at(&self.bytes, at as usize);
         if found == *want {
