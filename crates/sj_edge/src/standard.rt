@@ -51,8 +51,8 @@ impl<R: Read> Source for StdSource<R> {
         ensures takes_at_most_the_buffer { ReadsAtMost result buf.new }
         ensures gives_what_the_reader_gives { ReadConsumes (R.remaining (source_inner self.old))
             (R.remaining (source_inner self.new)) result buf.new }
-        ensures counts_a_fault_exactly_where_it_fails { source_faults self.new
-            ≡ (if is_err result then one_more (source_faults self.old) else source_faults self.old) }
+        ensures counts_a_fault_exactly_where_it_fails { source_faults self.new ≡ (if is_err result
+            then one_more (source_faults self.old) else source_faults self.old) }
         ensures failed_only_where_faults_rose { Counts
             (source_faults self.old) (source_faults self.new) (IsErr result) }
     {
@@ -125,8 +125,8 @@ impl<W: Write> Sink for StdSink<W> {
 
     ghost faults = { λ s. s.faults };
 
-    /// One call of the writer's `write` and one of its `flush`, and another of either where that was
-    /// interrupted: 1,000 at most. The last interruption of so many is a fault, as is any other
+    /// One call of the writer's `write` and one of its `flush`, and another of either where that
+    /// was interrupted: 1,000 at most. The last interruption of so many is a fault, as is any other
     /// error, and a write that takes nothing of a piece that isn't empty.
     ///
     /// Where the flush fails, the answer is `Failed` though the writer was given bytes.
