@@ -1,0 +1,22 @@
+//! What is called around each kernel.
+
+use sj_base::ids::Task;
+
+/// Called before and after each task's kernel, outside of any lock.
+///
+/// It may wait, and it changes nothing that a contract sees.
+pub trait Gate: Sync {
+    fn entered(&self, task: Task);
+
+    fn left(&self, task: Task);
+}
+
+/// A gate that returns at once.
+#[derive(Clone, Copy, Debug, PartialEq, Eq)]
+pub struct OpenGate;
+
+impl Gate for OpenGate {
+    fn entered(&self, _task: Task) {}
+
+    fn left(&self, _task: Task) {}
+}

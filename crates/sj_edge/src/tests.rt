@@ -1,0 +1,220 @@
+//! Each device once, with calls that fail.
+
+ghost use Rattle.sj_edge.specs.GivenBack.{AreUntouched};
+
+use crate::disk::{CheckFault, Disk, add_disk};
+use crate::gate::{Gate, OpenGate};
+use crate::memory_disk::MemDisk;
+use crate::memory_sink::MemSink;
+use crate::memory_source::MemSource;
+use crate::sink::Sink;
+use crate::source::{Failed, Source};
+use crate::standard::{StdSink, StdSource};
+use crate::sure::{SureDisk, SureSink, SureSource};
+use sj_base::ids::Task;
+use std::io;
+use std::io::{ErrorKind, Read, Write};
+use std::test::Fail;
+
+#[test]
+fn a_memory_source_gives_its_bytes_and_fails_where_told(rt: HostRuntime) -> Result<(), Fail> {
+    let bytes = [1, 2, 3, 4, 5].to_vec(rt.alloc())?;
+    let fail = [2].to_vec(rt.alloc())?;
+    let mut source = MemSource::new(bytes, fail);
+    let mut buf = [0; 3];
+    assert_eq!(rt; source.read(&mut buf), Ok(3));
+    assert_eq!(rt; buf, [1, 2, 3]);
+    assert_eq!(rt; source.read(&mut buf), Err(Failed));
+    assert_eq!(rt; source.faults(), 1);
+    assert_eq!(rt; source.read(&mut buf), Ok(2));
+    assert_eq!(rt; buf[0], 4);
+    assert_eq!(rt; buf[1], 5);
+    assert_eq!(rt; source.read(&mut buf), Ok(0));
+    assert_eq!(rt; source.faults(), 1);
+    Ok(())
+}
+
+#[test]
+fn a_memory_sink_takes_bytes_while_there_is_room(rt: HostRuntime) -> Result<(), Fail> {
+    let fail = [2].to_vec(rt.alloc())?;
+    let mut sink = MemSink::new(rt.alloc(), 4, fail)?;
+    assert_eq!(rt; sink.write(b"abc"), Ok(3));
+    assert_eq!(rt; sink.write(b"de"), Err(Failed));
+    assert_eq!(rt; sink.write(b"de"), Ok(1));
+    assert_eq!(rt; sink.write(b"e"), Err(Failed));
+    assert_eq!(rt; sink.write(b""), Ok(0));
+    assert_eq!(rt; sink.taken(), b"abcd".as_slice());
+    assert_eq!(rt; sink.faults(), 2);
+    Ok(())
+}
+
+#[test]
+fn a_memory_disk_keeps_bytes_and_fails_where_told(rt: HostRuntime) -> Result<(), Fail> {
+    let fail = [3, 4, 5].to_vec(rt.alloc())?;
+    let mut disk = MemDisk::new(rt.alloc(), 32, fail)?;
+    assert_eq!(rt; disk.size(), 32);
+    let mut want = [0; 24];
+    assert_eq!(rt; disk.write(3, &[9]), Ok(()));
+    assert_eq!(rt; disk.check(8, &want), Ok(()));
+    assert_eq!(rt; disk.check(8, &want), Err(CheckFault::Failed));
+    assert_eq!(rt; disk.write(0, &[1]), Err(Failed));
+    assert_eq!(rt; disk.read(0, &mut want), Err(Failed));
+    assert_eq!(rt; disk.faults(), 3);
+    want[2] = 9;
+    assert_eq!(rt; disk.check(1, &want), Ok(()));
+    assert_eq!(rt; disk.check(8, &want), Err(CheckFault::Differs([0; 24])));
+    assert_eq!(rt; disk.mismatches(), 1);
+    let mut buf = [7; 3];
+    assert_eq!(rt; disk.read(2, &mut buf), Ok(()));
+    assert_eq!(rt; buf, [0, 9, 0]);
+    assert_eq!(rt; disk.bytes().len(), 32);
+    assert_eq!(rt; disk.bytes()[3], 9);
+    assert_eq!(rt; disk.faults(), 3);
+    Ok(())
+}
+
+#[test]
+fn sure_devices_do_what_they_are_asked(rt: HostRuntime) -> Result<(), Fail> {
+    let mut source = SureSource::new([5, 6, 7].to_vec(rt.alloc())?);
+    let mut buf = [0; 2];
+    assert_eq!(rt; source.read(&mut buf), Ok(2));
+    assert_eq!(rt; buf, [5, 6]);
+    assert_eq!(rt; source.read(&mut buf), Ok(1));
+    assert_eq!(rt; buf[0], 7);
+
+    let mut sink = SureSink::new();
+    assert_eq!(rt; sink.write(b"abc"), Ok(3));
+
+    let mut disk = SureDisk::new(rt.alloc(), 25)?;
+    assert_eq!(rt; disk.size(), 25);
+    assert_eq!(rt; disk.write(24, &[1]), Ok(()));
+    assert_eq!(rt; disk.check(0, &[0; 24]), Ok(()));
+    let mut found = [0; 24];
+    found[23] = 1;
+    assert_eq!(rt; disk.check(1, &[0; 24]), Err(CheckFault::Differs(found)));
+    assert_eq!(rt; disk.mismatches(), 1);
+    assert_eq!(rt; disk.read(23, &mut buf), Ok(()));
+    assert_eq!(rt; buf, [0, 1]);
+    assert_eq!(rt; disk.bytes()[24], 1);
+
+    let gate = OpenGate;
+    gate.entered(Task(0));
+    gate.left(Task(0));
+    Ok(())
+}
+
+/// Interrupted, one byte, a fault, and then interrupted for good.
+#[derive(Drop)]
+struct FailingReader {
+    calls: u8,
+}
+
+impl Read for FailingReader {
+    fn read(&mut self, buf: &mut [u8]) -> io::Result<usize> {
+        self.calls = self.calls.saturating_add(1);
+        let [first, ..] = buf else {
+            return Ok(0);
+        };
+        match self.calls {
+            2 => {
+                *first = 42;
+                Ok(1)
+            }
+            3 => Err(ErrorKind::BrokenPipe.into()),
+            _ => Err(ErrorKind::Interrupted.into()),
+        }
+    }
+}
+
+#[test]
+fn a_standard_source_reads_on_where_it_was_interrupted_and_counts_faults(rt: HostRuntime) {
+    let mut text = StdSource::over(b"abc".as_slice());
+    let mut buf = [0; 2];
+    assert_eq!(rt; text.read(&mut buf), Ok(2));
+    assert_eq!(rt; buf, *b"ab");
+    assert_eq!(rt; text.read(&mut buf), Ok(1));
+    assert_eq!(rt; buf[0], b'c');
+    assert_eq!(rt; text.read(&mut buf), Ok(0));
+    assert_eq!(rt; text.faults(), 0);
+
+    let mut failing = StdSource::over(FailingReader { calls: 0 });
+    assert_eq!(rt; failing.read(&mut buf), Ok(1));
+    assert_eq!(rt; buf[0], 42);
+    assert_eq!(rt; failing.read(&mut buf), Err(Failed));
+    assert_eq!(rt; failing.read(&mut buf), Err(Failed));
+    assert_eq!(rt; failing.faults(), 2);
+}
+
+/// Interrupted, takes all, takes nothing, takes all; the third flush fails.
+#[derive(Drop)]
+struct FailingWriter {
+    writes: u8,
+    flushes: u8,
+}
+
+impl Write for FailingWriter {
+    fn write(&mut self, bytes: &[u8]) -> io::Result<usize> {
+        self.writes = self.writes.saturating_add(1);
+        match self.writes {
+            1 => Err(ErrorKind::Interrupted.into()),
+            3 => Ok(0),
+            _ => Ok(bytes.len()),
+        }
+    }
+
+    fn flush(&mut self) -> io::Result<()> {
+        self.flushes = self.flushes.saturating_add(1);
+        if self.flushes == 3 {
+            return Err(ErrorKind::BrokenPipe.into());
+        }
+        Ok(())
+    }
+}
+
+#[test]
+fn a_standard_sink_flushes_each_write_and_counts_faults(rt: HostRuntime) {
+    let mut text = StdSink::over(Vec::new(rt.alloc()));
+    assert_eq!(rt; text.write(b"ab"), Ok(2));
+    assert_eq!(rt; text.write(b""), Ok(0));
+    assert_eq!(rt; text.write(b"c"), Ok(1));
+    assert_eq!(rt; text.faults(), 0);
+    assert_eq!(rt; text.into_inner().as_slice(), b"abc".as_slice());
+
+    let mut failing = StdSink::over(FailingWriter {
+        writes: 0,
+        flushes: 0,
+    });
+    assert_eq!(rt; failing.write(b"ab"), Ok(2));
+    assert_eq!(rt; failing.write(b"ab"), Err(Failed));
+    assert_eq!(rt; failing.write(b"ab"), Err(Failed));
+    assert_eq!(rt; failing.faults(), 2);
+    let writer = failing.into_inner();
+    assert_eq!(rt; writer.writes, 4);
+    assert_eq!(rt; writer.flushes, 3);
+}
+
+fn hand_back(disks: Vec<Box<dyn Disk + Send>>) -> Vec<Box<dyn Disk + Send>>
+    ensures { AreUntouched ⟦<Box<dyn Disk + Send> as Disk>⟧.size
+        ⟦<Box<dyn Disk + Send> as Disk>⟧.faults ⟦<Box<dyn Disk + Send> as Disk>⟧.mismatches
+        ⟦<Box<dyn Disk + Send> as Disk>⟧.held disks.items result.items }
+{
+    disks
+}
+
+#[test]
+fn boxes_of_disks_come_back_in_order(rt: HostRuntime) -> Result<(), Fail> {
+    let mut disks = Vec::new(rt.alloc());
+    let told = MemDisk::new(rt.alloc(), 8, [1].to_vec(rt.alloc())?)?;
+    add_disk(&mut disks, Box::new(rt.alloc(), told)?)?;
+    add_disk(
+        &mut disks,
+        Box::new(rt.alloc(), SureDisk::new(rt.alloc(), 16)?)?,
+    )?;
+    let mut back = hand_back(disks);
+    assert_eq!(rt; back.len(), 2);
+    assert_eq!(rt; back[0].size(), 8);
+    assert_eq!(rt; back[0].write(0, &[3]), Err(Failed));
+    assert_eq!(rt; back[1].size(), 16);
+    assert_eq!(rt; back[1].write(0, &[3]), Ok(()));
+    Ok(())
+}
