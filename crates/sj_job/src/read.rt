@@ -1,6 +1,6 @@
 //! Reading a job text.
 
-ghost use Rattle.std.specs.Prelude.{◌≡◌, ◌+◌, ◌<◌, ◌^◌, ◌∷◌, ℕ, Bool, List, length, map, Ok, IfOk, IfErr, OnOk};
+ghost use Rattle.std.specs.Prelude.{◌≡◌, ◌+◌, ◌≤◌, ◌<◌, ◌^◌, ◌∷◌, ℕ, Bool, List, length, map, Ok, IfOk, IfErr, OnOk};
 ghost use Rattle.sj_codelet.specs.declared.kernel.Kernel.{Kernel};
 ghost use Rattle.sj_job.specs.Word.{lines};
 ghost use Rattle.sj_job.specs.State.{start};

@@ -5,7 +5,7 @@ ghost use Rattle.sj_job.specs.Reason.{code_of};
 
 use sj_base::ids::Line;
 use sj_base::memory;
-use std::alloc::AllocFailed;
+use std::alloc::{AllocError, AllocFailed};
 
 /// Which limit a quantity exceeds.
 #[derive(Clone, Copy, Debug, PartialEq, Eq)]
@@ -102,6 +102,17 @@ impl From<memory::OutOfMemory> for ReadRefusal {
     ghost from_gives = { λ _ e. e ≡ OutOfMemory };
 
     fn from(_: memory::OutOfMemory) -> Self {
+        ReadRefusal::OutOfMemory
+    }
+}
+
+impl From<AllocError> for ReadRefusal {
+    ghost use Rattle.std.specs.Prelude.{◌≡◌};
+    ghost use Rattle.sj_job.specs.declared.reason.ReadRefusal.TheVariants.{OutOfMemory};
+
+    ghost from_gives = { λ _ e. e ≡ OutOfMemory };
+
+    fn from(_: AllocError) -> Self {
         ReadRefusal::OutOfMemory
     }
 }
