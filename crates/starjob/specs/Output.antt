@@ -1,0 +1,30 @@
+-- The text of the printed arrays.
+use Rattle.std.specs.Prelude.{ℕ, ◌*◌, Bool, ℤ, List, [], ◌∷◌, ◌++◌, map, take, drop, codes, decimal, flat_map, if◌then◌else◌}
+use Rattle.std.specs.List.{join_with_byte, range_with_len}
+use Rattle.std.specs.Fmt.{signed_decimal}
+use Rattle.sj_base.specs.Array.{Array}
+use Rattle.sj_codelet.specs.MinPlus.{is_inf}
+use Rattle.sj_job.specs.declared.job.Kind.{Kind}
+use Rattle.sj_job.specs.declared.job.Kind.TheVariants.{Vector, Matrix}
+use Rattle.sj_job.specs.Meaning.{Printed}
+
+-- an element: decimal, or `inf`
+abbrev pub element_text : ℤ → List ℕ
+element_text z = if is_inf z then codes "inf" else signed_decimal z
+
+-- elements separated by one space, and LF
+abbrev pub row_text : List ℤ → List ℕ
+row_text xs = join_with_byte 32 (map element_text xs) ++ codes "\n"
+
+-- the rows of an array
+abbrev pub rows_of : Array → List (List ℤ)
+rows_of a = map (λ i. take a.dims.cols (drop (i * a.dims.cols) a.elements)) (range_with_len 0 a.dims.rows)
+
+-- a vector gives `NAME: ` and its elements; a matrix `NAME R C:` and one line per row
+abbrev pub block_of : Kind → List ℕ → Array → List ℕ
+block_of Vector name a = name ++ codes ": " ++ row_text a.elements
+block_of Matrix name a = name ++ codes " " ++ decimal a.dims.rows ++ codes " " ++ decimal a.dims.cols ++ codes ":\n" ++ flat_map row_text (rows_of a)
+
+-- what is written for the arrays that a job prints, in order
+abbrev pub output : List Printed → List ℕ
+output ps = flat_map (λ p. block_of p.kind p.name p.array) ps

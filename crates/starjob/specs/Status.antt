@@ -1,0 +1,12 @@
+-- The exit codes.
+use Rattle.std.specs.Prelude.{ℕ}
+use Rattle.starjob.specs.declared.status.Status.{Status}
+use Rattle.starjob.specs.declared.status.Status.TheVariants.{Done, Usage, Refused, SourceFault, SinkFault, OutOfMemory}
+
+abbrev pub code_of : Status → ℕ
+code_of Done = 0
+code_of Usage = 2
+code_of (Refused line reason) = 3
+code_of SourceFault = 8
+code_of SinkFault = 9
+code_of OutOfMemory = 10

@@ -1,0 +1,6 @@
+//! `starjob`: reads a job text, runs its tasks, and prints the arrays asked for.
+#![tactic(auto)]
+
+mod status;
+
+fn main(rt: HostRuntime) {}
