@@ -7,12 +7,12 @@ use Rattle.sj_job.specs.Reading.{reading}
 use Rattle.sj_job.specs.Progress.{text_with}
 use Rattle.sj_job.proofs.read.read_statements.Given as goal
 
-abbrev pub invariant-loop-rest : goal.invariant-loop-rest
-invariant-loop-rest g l = record {
+abbrev pub invariant-loop-line : goal.invariant-loop-line
+invariant-loop-line g l = record {
   counted : l.number + length l.rest ≤ l.first + length l.text;
   names : Sees l.names (length l.statements.items) (run_from start l.statements.items);
   told : text_with g.C.Codelets.has l.statements.items l.number (lines l.rest) ≡ reading g.C.Codelets.has 0 start l.first (lines l.text);
 }
 
-abbrev pub decreases-loop-rest : goal.decreases-loop-rest
-decreases-loop-rest g l = length l.rest
+abbrev pub decreases-loop-line : goal.decreases-loop-line
+decreases-loop-line g l = length l.rest
