@@ -1,0 +1,22 @@
+//! Writing a text to a sink.
+
+ghost use Rattle.std.specs.Prelude.{◌≡◌, IsErr, OnOk, OnErr, concat, map};
+ghost use Rattle.std.specs.Io.KnownBytes.{Appends};
+ghost use Rattle.sj_edge.specs.Faults.{Counts};
+ghost use Rattle.starjob.specs.Streams.{TakesPrefix};
+
+use sj_edge::sink::Sink;
+use sj_edge::source::Failed;
+
+/// Writes a text. Linear in it where the sink is; with no text the sink isn't called.
+pub fn write_text<O: Sink>(sink: &mut O, text: &[u8]) -> Result<(), Failed>
+    ensures ok { OnOk result (Appends (O.taken sink.old) (O.taken sink.new) text.now) }
+    ensures err { OnErr result (TakesPrefix (O.taken sink.old) (O.taken sink.new) text.now) }
+    ensures counts { Counts (O.faults sink.old) (O.faults sink.new) (IsErr result) }
+{
+    let mut at = 0;
+    while at < text.len() {
+        at += sink.write(&text[at..])?;
+    }
+    Ok(())
+}

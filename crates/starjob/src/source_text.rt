@@ -1,0 +1,71 @@
+//! Reading a source to its end.
+
+ghost use Rattle.std.specs.Prelude.{◌≡◌, ◌+◌, ◌≤◌, ◌<◌, ◌++◌, List, ℕ, length, take, IsErr, IfOk, OnOk};
+ghost use Rattle.std.specs.Io.KnownBytes.{Consumes, IsAtEnd};
+ghost use Rattle.sj_edge.specs.Faults.{Counts};
+ghost use Rattle.starjob.specs.declared.source_text.Unread.TheVariants.{Fault};
+
+use sj_base::memory::OutOfMemory;
+use sj_edge::source::Source;
+use sj_job::read::TEXT;
+use std::alloc::{AllocError, Global};
+
+/// Why a source's text isn't there.
+#[derive(Clone, Copy, Debug, PartialEq, Eq)]
+pub enum Unread {
+    Fault,
+    OutOfMemory,
+}
+
+impl From<AllocError> for Unread {
+    ghost use Rattle.std.specs.Prelude.{◌≡◌};
+    ghost use Rattle.starjob.specs.declared.source_text.Unread.TheVariants.{OutOfMemory};
+
+    ghost from_gives = { λ _ e. e ≡ OutOfMemory };
+
+    fn from(_: AllocError) -> Self {
+        Unread::OutOfMemory
+    }
+}
+
+/// How many bytes are asked for at a time.
+const PIECE: usize = 65_536;
+
+/// Takes a piece more, and says how many bytes.
+fn take_piece<S: Source>(
+    source: &mut S,
+    piece: &mut [u8],
+    text: &mut Vec<u8>,
+) -> Result<usize, Unread>
+    ensures bound { IfOk result (λ n. n ≤ length piece.new) }
+    ensures taken { IfOk result (λ n. (text.new.items ≡ text.old.items ++ take n piece.new)
+        × Consumes (S.left source.old) (S.left source.new) (take n piece.new)) }
+    ensures end { IfOk result (λ n. n ≡ 0 → 0 < length piece.new → IsAtEnd (S.left source.new)) }
+    ensures counts { Counts (S.faults source.old) (S.faults source.new) (result ≡ Err Fault) }
+{
+    match source.read(piece) {
+        Ok(n) => {
+            text.extend_from_slice(&piece[..n])?;
+            Ok(n)
+        }
+        Err(_) => Err(Unread::Fault),
+    }
+}
+
+/// Reads a source to its end, or to one byte past the longest text. Linear in what is read.
+pub fn read_source<S: Source>(alloc: Global, source: &mut S) -> Result<Vec<u8>, Unread>
+    ensures bound { IfOk result (λ text. length text.items ≤ TEXT + 1) }
+    ensures taken { IfOk result (λ text. Consumes (S.left source.old) (S.left source.new) text.items) }
+    ensures end { IfOk result (λ text. length text.items ≤ TEXT → IsAtEnd (S.left source.new)) }
+    ensures counts { Counts (S.faults source.old) (S.faults source.new) (result ≡ Err Fault) }
+{
+    let mut text = Vec::new(alloc);
+    let mut piece = vec![in alloc; 0u8; PIECE]?;
+    for _turn in 0..TEXT + 1 {
+        let room = PIECE.min(TEXT + 1 - text.len());
+        if take_piece(source, &mut piece[..room], &mut text)? == 0 {
+            break;
+        }
+    }
+    Ok(text)
+}
