@@ -1,0 +1,62 @@
+-- Lists that a loop makes over the numbers from 0 on.
+use Rattle.std.proofs.Common.{◌≡◌, ℕ, zero, suc, ◌+◌, ◌*◌, ◌<◌, ◌≤◌, Bool, true, false, cond, ◌&&◌, List, [], ◌∷◌, ◌++◌, map, sym, ap, refl, ◌∙◌, zero-add, zero-mul, arith}
+use Rattle.std.specs.List.{flat_map, range_with_len, count_by, sum_by}
+use Rattle.std.proofs.lemmas.List.{append_assoc, append-nil, map-append, map-id}
+use Rattle.std.proofs.lemmas.List.Concat.{flat_map-append}
+use Rattle.std.proofs.lemmas.List.FromFn.{map-range_with_len_more}
+use Rattle.std.proofs.lemmas.List.Sums.{sum_by-cons, sum_by-append, sum_by_push}
+use Rattle.std.proofs.lemmas.Simd.{map-map}
+
+pub range_more : (n : ℕ) → range_with_len 0 (n + 1) ≡ range_with_len 0 n ++ n ∷ []
+range_more n =
+    sym (map-id (range_with_len 0 (n + 1))) ∙ map-range_with_len_more (λ k. k) 0 n n (omega arith) ∙ ap (λ xs. xs ++ n ∷ []) (map-id (range_with_len 0 n))
+
+-- a list that a loop appends to: start, and what Z makes of the first n numbers
+pub appended_more : {X : Type 0} (Z : List ℕ → List X) → ((xs ys : List ℕ) → Z (xs ++ ys) ≡ Z xs ++ Z ys) → (start now next : List X) (n : ℕ) → now ≡ start ++ Z (range_with_len 0 n) → next ≡ now ++ Z (n ∷ []) → next ≡ start ++ Z (range_with_len 0 (n + 1))
+appended_more Z adds start now next n e f =
+    f ∙ ap (λ xs. xs ++ Z (n ∷ [])) e ∙ append_assoc start (Z (range_with_len 0 n)) (Z (n ∷ [])) ∙ ap (λ xs. start ++ xs) (sym (adds (range_with_len 0 n) (n ∷ [])) ∙ ap Z (sym (range_more n)))
+
+-- the same for one item a number
+pub pushed_more : {X : Type 0} (f : ℕ → X) → (start now next : List X) (x : X) (n : ℕ) → now ≡ start ++ map f (range_with_len 0 n) → next ≡ now ++ x ∷ [] → x ≡ f n → next ≡ start ++ map f (range_with_len 0 (n + 1))
+pushed_more f start now next x n e g h = appended_more (map f) (map-append f) start now next n e (g ∙ ap (λ y. now ++ y ∷ []) h)
+
+-- row i of a grid of c columns
+abbrev pub grid_row : ℕ → ℕ → List (ℕ × ℕ)
+grid_row c i = map (λ j. (i, j)) (range_with_len 0 c)
+
+abbrev grid : {X : Type 0} → (ℕ × ℕ → X) → ℕ → List ℕ → List X
+grid f c xs = map f (flat_map (grid_row c) xs)
+
+grid_adds : {X : Type 0} (f : ℕ × ℕ → X) (c : ℕ) (xs ys : List ℕ) → grid f c (xs ++ ys) ≡ grid f c xs ++ grid f c ys
+grid_adds f c xs ys = ap (map f) (flat_map-append (grid_row c) xs ys) ∙ map-append f (flat_map (grid_row c) xs) (flat_map (grid_row c) ys)
+
+-- one row more of a grid
+pub grid_more : {X : Type 0} (f : ℕ × ℕ → X) (c n : ℕ) (now next : List X) → now ≡ map f (flat_map (grid_row c) (range_with_len 0 n)) → next ≡ now ++ map (λ j. f (n, j)) (range_with_len 0 c) → next ≡ map f (flat_map (grid_row c) (range_with_len 0 (n + 1)))
+grid_more f c n now next e g =
+    appended_more (grid f c) (grid_adds f c) [] now next n e (g ∙ ap (λ xs. now ++ xs) (sym (map-map f (λ j. (n, j)) (range_with_len 0 c)) ∙ ap (map f) (sym (append-nil (grid_row c n)))))
+
+-- how often a test of both indices passes in a row, and in a grid
+none : (t : Bool) → ◌≡◌ {A = ℕ} 0 (cond t 0 0)
+none true = refl
+none false = refl
+
+one_item : (t u : Bool) (n : ℕ) → cond (t && u) 1 0 + cond t n 0 ≡ cond t (cond u 1 0 + n) 0
+one_item true u n = refl
+one_item false u n = refl
+
+count_row : (a b : ℕ → Bool) (i : ℕ) (ys : List ℕ) → count_by (λ (p : ℕ × ℕ). a p.0 && b p.1) (map (λ j. (i, j)) ys) ≡ cond (a i) (count_by b ys) 0
+count_row a b i [] = none (a i)
+count_row a b i (y ∷ ys) =
+    sum_by-cons (λ (p : ℕ × ℕ). cond (a p.0 && b p.1) 1 0) (i, y) (map (λ j. (i, j)) ys) ∙ ap (λ n. cond (a i && b y) 1 0 + n) (count_row a b i ys) ∙ one_item (a i) (b y) (count_by b ys) ∙ ap (λ n. cond (a i) n 0) (sym (sum_by-cons (λ j. cond (b j) 1 0) y ys))
+
+one_row : (t : Bool) (row rest k n : ℕ) → row ≡ cond t n 0 → rest ≡ k * n → row + rest ≡ (cond t 1 0 + k) * n
+one_row true row rest k n e f = omega arith
+one_row false row rest k n e f = omega arith
+
+pub count_grid : (a b : ℕ → Bool) (c : ℕ) (xs : List ℕ) → count_by (λ (p : ℕ × ℕ). a p.0 && b p.1) (flat_map (grid_row c) xs) ≡ count_by a xs * count_by b (range_with_len 0 c)
+count_grid a b c [] = sym (zero-mul (count_by b (range_with_len 0 c)))
+count_grid a b c (x ∷ xs) =
+    let rest = count_grid a b c xs in
+    let row = count_row a b x (range_with_len 0 c) in
+    let here = sum_by-cons (λ k. cond (a k) 1 0) x xs in
+    sum_by-append (λ (p : ℕ × ℕ). cond (a p.0 && b p.1) 1 0) (grid_row c x) (flat_map (grid_row c) xs) ∙ one_row (a x) _ _ _ _ row rest ∙ ap (λ n. n * count_by b (range_with_len 0 c)) (sym here)

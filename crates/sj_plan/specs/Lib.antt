@@ -1,0 +1,4 @@
+pub mod Interval
+pub mod Parts
+pub mod Rect
+pub mod Window

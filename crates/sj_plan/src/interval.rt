@@ -1,0 +1,68 @@
+//! Intervals of indices, and how items are split into parts, one after another.
+
+ghost use Rattle.std.specs.Prelude.{
+    ◌≡◌, ◌+◌, ◌*◌, ◌/◌, ◌%◌, ◌^◌, ◌<◌, ◌≤◌, ℕ, min
+};
+ghost use Rattle.sj_plan.specs.Interval.{Lies, part, shared};
+
+/// `len` indices in a row, from `first` on.
+#[derive(Clone, Copy, Debug, PartialEq, Eq)]
+pub struct Interval {
+    pub first: u32,
+    pub len: u32,
+}
+
+impl Interval {
+    ghost use Rattle.sj_plan.specs.Interval.{shared};
+
+    /// What it shares with another interval; of no length where they have no index in common.
+    /// Constant time.
+    pub fn shared(self, other: Interval) -> Interval
+        requires own_end { self.first + self.len < 2 ^ 32 }
+        requires other_end { other.first + other.len < 2 ^ 32 }
+        ensures { result ≡ shared self other }
+    {
+        let first = self.first.max(other.first);
+        let end = (self.first + self.len).min(other.first + other.len);
+        Interval {
+            first,
+            len: end.saturating_sub(first),
+        }
+    }
+}
+
+/// Part `k` of `items` items that are split into `parts` parts: the first `items % parts` parts
+/// have one item more than the others. Constant time.
+pub fn part(items: u32, parts: u32, k: u32) -> Interval
+    requires { k < parts }
+    ensures part { result ≡ part items parts k }
+    ensures closed_form { result.first ≡ k * (items / parts) + min k (items % parts) }
+    ensures inside { result.first + result.len ≤ items }
+{
+    let shorter = items / parts;
+    let longer = items % parts;
+    let len = if k < longer { shorter + 1 } else { shorter };
+    Interval {
+        first: k * shorter + k.min(longer),
+        len,
+    }
+}
+
+/// The part that holds item `x`, of `items` items that are split into `parts` parts.
+/// Constant time.
+pub fn part_holding(items: u32, parts: u32, x: u32) -> u32
+    requires some_parts { 0 < parts }
+    requires in_items { x < items }
+    ensures in_parts { result < parts }
+    ensures holds { Lies x (part items parts result) }
+    ensures alone { (k : ℕ) → k < parts → Lies x (part items parts k) → k ≡ result }
+{
+    let shorter = (items / parts) as u64;
+    let longer = (items % parts) as u64;
+    let covered = longer * (shorter + 1);
+    let x = x as u64;
+    if x < covered {
+        return (x / (shorter + 1)) as u32;
+    }
+    (longer + (x - covered) / shorter) as u32
+}
