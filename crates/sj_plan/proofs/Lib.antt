@@ -1,3 +1,4 @@
 pub mod Lists
 pub mod Splitting
 pub mod Tiling
+pub mod Windows

@@ -1,7 +1,7 @@
 //! Intervals of indices, and how items are split into parts, one after another.
 
 ghost use Rattle.std.specs.Prelude.{
-    ◌≡◌, ◌+◌, ◌*◌, ◌/◌, ◌%◌, ◌^◌, ◌<◌, ◌≤◌, ℕ, min
+    ◌≡◌, ◌+◌, ◌*◌, ◌/◌, ◌%◌, ◌^◌, ◌<◌, ◌≤◌, ◌↔◌, ℕ, min
 };
 ghost use Rattle.sj_plan.specs.Interval.{Lies, part, shared};
 
@@ -65,4 +65,23 @@ pub fn part_holding(items: u32, parts: u32, x: u32) -> u32
         return (x / (shorter + 1)) as u32;
     }
     (longer + (x - covered) / shorter) as u32
+}
+
+/// The numbers of the parts that share an index with an interval, of `items` items that are split
+/// into `parts` parts. Constant time.
+pub fn parts_overlapping(items: u32, parts: u32, of: Interval) -> Interval
+    requires some_parts { 0 < parts }
+    requires none_empty { parts ≤ items }
+    requires not_empty { 0 < of.len }
+    requires inside { of.first + of.len ≤ items }
+    ensures in_parts { result.first + result.len ≤ parts }
+    ensures exactly { (k : ℕ) → k < parts →
+        (Lies k result ↔ (0 < (shared (part items parts k) of).len)) }
+{
+    let first = part_holding(items, parts, of.first);
+    let last = part_holding(items, parts, of.first + (of.len - 1));
+    Interval {
+        first,
+        len: last + 1 - first,
+    }
 }

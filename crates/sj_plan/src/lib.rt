@@ -6,5 +6,6 @@
 pub mod children;
 pub mod interval;
 pub mod parts;
+pub mod paste;
 pub mod rect;
 pub mod tiles;

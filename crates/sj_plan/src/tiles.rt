@@ -14,6 +14,8 @@ use std::alloc::Global;
 pub fn split(alloc: Global, tile: &Tile, rect: Rect) -> Result<Tile, OutOfMemory>
     requires { Within rect tile.now.dims }
     ensures window { IfOk result (λ child. child ≡ window tile.now rect) }
+    ensures elements { IfOk result (λ child. (i j : ℕ) → i < rect.rows → j < rect.cols →
+        element child i j ≡ element tile.now (rect.row + i) (rect.col + j)) }
 {
     let dims = tile.dims();
     let elements = tile.elements();
@@ -38,6 +40,8 @@ pub fn gather(into: &mut Tile, rect: Rect, child: &Tile)
     requires dims { child.now.dims ≡ dims_of rect }
     ensures with_window { into.new ≡ with_window into.old rect child.now }
     ensures child_there { window into.new rect ≡ child.now }
+    ensures others_stay { (i j : ℕ) → i < into.old.dims.rows → j < into.old.dims.cols →
+        ¬ (Holds rect i j) → element into.new i j ≡ element into.old i j }
 {
     let across = into.dims().cols as usize;
     let width = rect.cols as usize;
