@@ -1,4 +1,6 @@
 pub mod Lists
+pub mod Overlapping
+pub mod Repartitioning
 pub mod Splitting
 pub mod Tiling
 pub mod Windows

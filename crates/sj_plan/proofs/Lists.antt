@@ -1,11 +1,18 @@
 -- Lists that a loop makes over the numbers from 0 on.
-use Rattle.std.proofs.Common.{◌≡◌, ℕ, zero, suc, ◌+◌, ◌*◌, ◌<◌, ◌≤◌, Bool, true, false, cond, ◌&&◌, List, [], ◌∷◌, ◌++◌, map, sym, ap, refl, ◌∙◌, zero-add, zero-mul, arith}
-use Rattle.std.specs.List.{flat_map, range_with_len, count_by, sum_by}
+use Rattle.std.proofs.Common.{◌≡◌, ℕ, zero, suc, ◌+◌, ◌-◌, ◌*◌, ◌<◌, ◌≤◌, Bool, true, false, cond, ◌&&◌, List, [], ◌∷◌, ◌++◌, map, sym, ap, refl, ◌∙◌, zero-add, zero-mul, arith}
+use Rattle.std.specs.List.{filter, flat_map, range_with_len, count_by, sum_by}
 use Rattle.std.proofs.lemmas.List.{append_assoc, append-nil, map-append, map-id}
 use Rattle.std.proofs.lemmas.List.Concat.{flat_map-append}
 use Rattle.std.proofs.lemmas.List.FromFn.{map-range_with_len_more}
 use Rattle.std.proofs.lemmas.List.Sums.{sum_by-cons, sum_by-append, sum_by_push}
 use Rattle.std.proofs.lemmas.Simd.{map-map}
+use Rattle.std.proofs.lemmas.Bool.{cond-false}
+
+suc-add : (k : ℕ) → suc k ≡ k + 1
+suc-add k = omega arith
+
+both_nil : {X : Type 0} {xs ys : List X} → xs ≡ [] → ys ≡ [] → xs ++ ys ≡ []
+both_nil {X} {xs} {ys} e f = rw (e, f) refl
 
 pub range_more : (n : ℕ) → range_with_len 0 (n + 1) ≡ range_with_len 0 n ++ n ∷ []
 range_more n =
@@ -60,3 +67,22 @@ count_grid a b c (x ∷ xs) =
     let row = count_row a b x (range_with_len 0 c) in
     let here = sum_by-cons (λ k. cond (a k) 1 0) x xs in
     sum_by-append (λ (p : ℕ × ℕ). cond (a p.0 && b p.1) 1 0) (grid_row c x) (flat_map (grid_row c) xs) ∙ one_row (a x) _ _ _ _ row rest ∙ ap (λ n. n * count_by b (range_with_len 0 c)) (sym here)
+
+-- numbers that add nothing to the list
+pub nothing_before : {X : Type 0} (Z : List ℕ → List X) → ((xs ys : List ℕ) → Z (xs ++ ys) ≡ Z xs ++ Z ys) → Z [] ≡ [] → (n : ℕ) → ((k : ℕ) → k < n → Z (k ∷ []) ≡ []) → Z (range_with_len 0 n) ≡ []
+nothing_before Z adds nil zero none_of = nil
+nothing_before Z adds nil (suc n) none_of =
+    ap Z (ap (range_with_len 0) (suc-add n) ∙ range_more n) ∙ adds (range_with_len 0 n) (n ∷ []) ∙ both_nil (nothing_before Z adds nil n (λ k h. none_of k (omega arith))) (none_of n (omega arith))
+
+nothing_further : {X : Type 0} (Z : List ℕ → List X) → ((xs ys : List ℕ) → Z (xs ++ ys) ≡ Z xs ++ Z ys) → (m e : ℕ) → ((k : ℕ) → m ≤ k → k < m + e → Z (k ∷ []) ≡ []) → Z (range_with_len 0 (m + e)) ≡ Z (range_with_len 0 m)
+nothing_further Z adds m zero none_of = ap (λ n. Z (range_with_len 0 n)) (omega arith)
+nothing_further Z adds m (suc e) none_of =
+    ap Z (ap (range_with_len 0) (omega arith) ∙ range_more (m + e)) ∙ adds (range_with_len 0 (m + e)) ((m + e) ∷ []) ∙ ap (λ ys. Z (range_with_len 0 (m + e)) ++ ys) (none_of (m + e) (omega arith) (omega arith)) ∙ append-nil (Z (range_with_len 0 (m + e))) ∙ nothing_further Z adds m e (λ k h below. none_of k h (omega arith))
+
+pub nothing_after : {X : Type 0} (Z : List ℕ → List X) → ((xs ys : List ℕ) → Z (xs ++ ys) ≡ Z xs ++ Z ys) → (m n : ℕ) → m ≤ n → ((k : ℕ) → m ≤ k → k < n → Z (k ∷ []) ≡ []) → Z (range_with_len 0 n) ≡ Z (range_with_len 0 m)
+nothing_after Z adds m n h none_of =
+    ap (λ k. Z (range_with_len 0 k)) (omega arith) ∙ nothing_further Z adds m (n - m) (λ k from below. none_of k from (omega arith))
+
+pub filter_none : {X Y : Type 0} (p : Y → Bool) (f : X → Y) → ((x : X) → p (f x) ≡ false) → (xs : List X) → filter p (map f xs) ≡ []
+filter_none p f fails [] = refl
+filter_none p f fails (x ∷ xs) = cond-false (p (f x)) (f x ∷ filter p (map f xs)) (filter p (map f xs)) (fails x) ∙ filter_none p f fails xs

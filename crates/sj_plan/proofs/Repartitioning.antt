@@ -1,0 +1,183 @@
+-- The pastes of two plans, applied in order to the old plan's children, make the new plan's.
+use Rattle.std.proofs.Common.{◌≡◌, ℕ, ℤ, ◌+◌, ◌-◌, ◌*◌, ◌/◌, ◌%◌, ◌<◌, ◌≤◌, Bool, true, false, cond, ◌&&◌, ◌||◌, eqb, List, [], ◌∷◌, ◌++◌, map, length, sym, ap, refl, ◌∙◌, arith, inl, inr}
+use Rattle.std.specs.List.{filter, flat_map, range_with_len, list_any, fold}
+use Rattle.std.proofs.lemmas.List.FromFn.{length-range_with_len, get_or-range_with_len}
+use Rattle.std.proofs.lemmas.List.Folds.{list_any_at, list_any-append}
+use Rattle.std.proofs.lemmas.Bool.{cases_lt, lt-ltb, and_from, and_parts, eqb-true, eq-eqb, cond-true, or_left, or_right}
+use Rattle.sj_base.specs.declared.tile.Dims.{Dims}
+use Rattle.sj_base.specs.Array.{Array}
+use Rattle.sj_plan.specs.declared.interval.Interval.{Interval}
+use Rattle.sj_plan.specs.declared.parts.Parts.{Parts}
+use Rattle.sj_plan.specs.declared.paste.Paste.{Paste}
+use Rattle.sj_plan.specs.declared.rect.Rect.{Rect}
+use Rattle.sj_plan.specs.Interval.{Lies, part, part_first, shared}
+use Rattle.sj_plan.specs.Parts.{Fits, IsPlace, places}
+use Rattle.sj_plan.specs.Rect.{Holds, holds, rows_of, cols_of, child}
+use Rattle.sj_plan.specs.Window.{element, dims_of, window, with_window, IsWhole}
+use Rattle.sj_plan.specs.Paste.{paste_at, overlaps, pastes_of, from_rect, to_rect, Children, AreChildren, after_paste, after_pastes, children_in, Repartition}
+use Rattle.sj_plan.proofs.Lists.{grid_row}
+use Rattle.sj_plan.proofs.Splitting.{held, ends_before, part_end}
+use Rattle.sj_plan.proofs.Windows.{element-with_window, element-window, holds-true, Holds-from_true, IsWhole-tabulate, same_arrays}
+
+-- Q holds of each item
+abbrev Every : {X : Type 0} → (X → Type 0) → List X → Type 0
+Every Q [] = Unit {0}
+Every Q (x ∷ xs) = Q x × Every Q xs
+
+Every-append : {X : Type 0} (Q : X → Type 0) (xs ys : List X) → Every Q xs → Every Q ys → Every Q (xs ++ ys)
+Every-append Q [] ys a b = b
+Every-append Q (x ∷ xs) ys a b = (a.0, Every-append Q xs ys a.1 b)
+
+Every-map : {X Y : Type 0} (Q : Y → Type 0) (f : X → Y) → ((x : X) → Q (f x)) → (xs : List X) → Every Q (map f xs)
+Every-map Q f h [] = tt
+Every-map Q f h (x ∷ xs) = (h x, Every-map Q f h xs)
+
+Every-flat_map : {X Y : Type 0} (Q : Y → Type 0) (f : X → List Y) → ((x : X) → Every Q (f x)) → (xs : List X) → Every Q (flat_map f xs)
+Every-flat_map Q f h [] = tt
+Every-flat_map Q f h (x ∷ xs) = Every-append Q (f x) (flat_map f xs) (h x) (Every-flat_map Q f h xs)
+
+Every-keep : {X : Type 0} (Q : X → Type 0) (t : Bool) (x : X) (xs : List X) → Q x → Every Q xs → Every Q (cond t (x ∷ xs) xs)
+Every-keep Q true x xs a b = (a, b)
+Every-keep Q false x xs a b = b
+
+Every-filter : {X : Type 0} (Q : X → Type 0) (p : X → Bool) (xs : List X) → Every Q xs → Every Q (filter p xs)
+Every-filter Q p [] a = tt
+Every-filter Q p (x ∷ xs) a = Every-keep Q (p x) x (filter p xs) a.0 (Every-filter Q p xs a.1)
+
+-- whether some item passes a test, in lists that are made of others
+any-map : {X Y : Type 0} (t : Y → Bool) (f : X → Y) (xs : List X) → list_any t (map f xs) ≡ list_any (λ x. t (f x)) xs
+any-map t f [] = refl
+any-map t f (x ∷ xs) = ap (λ b. t (f x) || b) (any-map t f xs)
+
+any-flat_map : {X Y : Type 0} (t : Y → Bool) (f : X → List Y) (xs : List X) → list_any t (flat_map f xs) ≡ list_any (λ x. list_any t (f x)) xs
+any-flat_map t f [] = refl
+any-flat_map t f (x ∷ xs) = list_any-append t (f x) (flat_map f xs) ∙ ap (λ b. list_any t (f x) || b) (any-flat_map t f xs)
+
+any-keep : {X : Type 0} (t : X → Bool) (b : Bool) (x : X) (xs : List X) → list_any t (cond b (x ∷ xs) xs) ≡ ((b && t x) || list_any t xs)
+any-keep t true x xs = refl
+any-keep t false x xs = refl
+
+any-filter : {X : Type 0} (t p : X → Bool) (xs : List X) → list_any t (filter p xs) ≡ list_any (λ x. p x && t x) xs
+any-filter t p [] = refl
+any-filter t p (x ∷ xs) = any-keep t (p x) x (filter p xs) ∙ ap (λ b. (p x && t x) || b) (any-filter t p xs)
+
+any-range : (t : ℕ → Bool) (n k : ℕ) → k < n → t k ≡ true → list_any t (range_with_len 0 n) ≡ true
+any-range t n k below h =
+    let long = length-range_with_len 0 n in
+    list_any_at t (range_with_len 0 n) k 0 (omega arith) (ap t (get_or-range_with_len 0 n k 0 below ∙ omega arith) ∙ h)
+
+any-places : (t : ℕ × ℕ → Bool) (p : Parts) (place : ℕ × ℕ) → IsPlace p place → t place ≡ true → list_any t (places p) ≡ true
+any-places t p place inside h =
+    any-flat_map t (grid_row p.c) (range_with_len 0 p.r) ∙ any-range (λ i. list_any t (grid_row p.c i)) p.r place.0 inside.0 (any-map t (λ j. (place.0, j)) (range_with_len 0 p.c) ∙ any-range (λ j. t (place.0, j)) p.c place.1 inside.1 h)
+
+-- the paste writes element (i, j) of a child
+abbrev covers : Paste → ℕ × ℕ → ℕ → ℕ → Bool
+covers p place i j = (eqb place.0 p.to.0 && eqb place.1 p.to.1) && holds (to_rect p) i j
+
+-- if it does, then it writes the wanted element
+abbrev Right : Children → ℤ → ℕ × ℕ → ℕ → ℕ → Paste → Type 0
+Right old target place i j p =
+    covers p place i j ≡ true → element (window (old p.from) (from_rect p)) (i - p.at_to.0) (j - p.at_to.1) ≡ target
+
+cond_right : (t : Bool) (x target e : ℤ) → (t ≡ true → x ≡ target) → cond t x e ≡ cond t target e
+cond_right true x target e h = h refl
+cond_right false x target e h = refl
+
+one_paste : (t : Bool) (new : Array) (r : Rect) (w : Array) (i j : ℕ) (target : ℤ) → i < new.dims.rows → j < new.dims.cols → ((t && holds r i j) ≡ true → element w (i - r.row) (j - r.col) ≡ target) → element (cond t (with_window new r w) new) i j ≡ cond (t && holds r i j) target (element new i j)
+one_paste true new r w i j target in_rows in_cols right =
+    element-with_window new r w i j in_rows in_cols ∙ cond_right (holds r i j) _ target _ right
+one_paste false new r w i j target in_rows in_cols right = refl
+
+dims-paste : (t : Bool) (new : Array) (r : Rect) (w : Array) → (cond t (with_window new r w) new).dims ≡ new.dims
+dims-paste true new r w = refl
+dims-paste false new r w = refl
+
+IsWhole-paste : (t : Bool) (new : Array) (r : Rect) (w : Array) → IsWhole new → IsWhole (cond t (with_window new r w) new)
+IsWhole-paste true new r w whole = IsWhole-tabulate new.dims (λ i j. cond (holds r i j) (element w (i - r.row) (j - r.col)) (element new i j))
+IsWhole-paste false new r w whole = whole
+
+cond_twice : (s t : Bool) (x e : ℤ) → cond t x (cond s x e) ≡ cond (s || t) x e
+cond_twice true true x e = refl
+cond_twice true false x e = refl
+cond_twice false true x e = refl
+cond_twice false false x e = refl
+
+dims-pastes : (old : Children) (place : ℕ × ℕ) (ps : List Paste) (new : Children) → (after_pastes old new ps place).dims ≡ (new place).dims
+dims-pastes old place [] new = refl
+dims-pastes old place (p ∷ ps) new =
+    dims-pastes old place ps (after_paste old new p) ∙ dims-paste (eqb place.0 p.to.0 && eqb place.1 p.to.1) (new place) (to_rect p) (window (old p.from) (from_rect p))
+
+IsWhole-pastes : (old : Children) (place : ℕ × ℕ) (ps : List Paste) (new : Children) → IsWhole (new place) → IsWhole (after_pastes old new ps place)
+IsWhole-pastes old place [] new whole = whole
+IsWhole-pastes old place (p ∷ ps) new whole =
+    IsWhole-pastes old place ps (after_paste old new p) (IsWhole-paste (eqb place.0 p.to.0 && eqb place.1 p.to.1) (new place) (to_rect p) (window (old p.from) (from_rect p)) whole)
+
+-- after right pastes an element is the wanted one, if some paste writes it
+element-pastes : (old : Children) (target : ℤ) (place : ℕ × ℕ) (i j : ℕ) (ps : List Paste) → Every (Right old target place i j) ps → (new : Children) → i < (new place).dims.rows → j < (new place).dims.cols → element (after_pastes old new ps place) i j ≡ cond (list_any (λ p. covers p place i j) ps) target (element (new place) i j)
+element-pastes old target place i j [] right new in_rows in_cols = refl
+element-pastes old target place i j (p ∷ ps) right new in_rows in_cols =
+    let t = eqb place.0 p.to.0 && eqb place.1 p.to.1 in
+    let w = window (old p.from) (from_rect p) in
+    let same = dims-paste t (new place) (to_rect p) w in
+    let rest = element-pastes old target place i j ps right.1 (after_paste old new p) (omega (arith, ap (λ (d : Dims). d.rows) same)) (omega (arith, ap (λ (d : Dims). d.cols) same)) in
+    let here = one_paste t (new place) (to_rect p) w i j target in_rows in_cols right.0 in
+    rest ∙ ap (λ e. cond (list_any (λ p. covers p place i j) ps) target e) here ∙ cond_twice (covers p place i j) (list_any (λ p. covers p place i j) ps) target (element (new place) i j)
+
+-- an index of what two intervals share, in the coordinates of each
+shared-inside : (o n : Interval) (i : ℕ) → (shared o n).first - n.first ≤ i → i < (shared o n).first - n.first + (shared o n).len → (shared o n).first - o.first + (i - ((shared o n).first - n.first)) < o.len
+shared-inside o n i from upto = omega arith
+
+shared-same : (o n : Interval) (i m : ℕ) → m ≡ n.first → (shared o n).first - n.first ≤ i → o.first + ((shared o n).first - o.first + (i - ((shared o n).first - n.first))) ≡ m + i
+shared-same o n i m same from = omega arith
+
+-- each paste is right
+paste_at-right : (d : Dims) (old new : Parts) (a : Array) (place : ℕ × ℕ) (i j : ℕ) (from to : ℕ × ℕ) → Right (children_in d old a) (element a ((child d new place).row + i) ((child d new place).col + j)) place i j (paste_at d old new from to)
+paste_at-right d old new a place i j from to covered =
+    let o = child d old from in
+    let n = child d new to in
+    let p = paste_at d old new from to in
+    let both = and_parts (eqb place.0 to.0 && eqb place.1 to.1) (holds (to_rect p) i j) covered in
+    let at_place = and_parts (eqb place.0 to.0) (eqb place.1 to.1) both.0 in
+    let inside = Holds-from_true (to_rect p) i j both.1 in
+    let row = ap (part_first d.rows new.r) (eqb-true place.0 to.0 at_place.0) in
+    let col = ap (part_first d.cols new.c) (eqb-true place.1 to.1 at_place.1) in
+    let u = i - p.at_to.0 in
+    let v = j - p.at_to.1 in
+    element-window (window a o) (from_rect p) u v (omega (arith, inside.0.0, inside.0.1)) (omega (arith, inside.1.0, inside.1.1)) ∙ element-window a o (p.at_from.0 + u) (p.at_from.1 + v) (shared-inside (rows_of o) (rows_of n) i inside.0.0 inside.0.1) (shared-inside (cols_of o) (cols_of n) j inside.1.0 inside.1.1) ∙ ap (λ x. element a x (o.col + (p.at_from.1 + v))) (shared-same (rows_of o) (rows_of n) i _ row inside.0.0) ∙ ap (λ y. element a ((child d new place).row + i) y) (shared-same (cols_of o) (cols_of n) j _ col inside.1.0)
+
+pastes_of-right : (d : Dims) (old new : Parts) (a : Array) (place : ℕ × ℕ) (i j : ℕ) → Every (Right (children_in d old a) (element a ((child d new place).row + i) ((child d new place).col + j)) place i j) (pastes_of d old new)
+pastes_of-right d old new a place i j =
+    let Q : Paste → Type 0 = Right (children_in d old a) (element a ((child d new place).row + i) ((child d new place).col + j)) place i j in
+    Every-filter Q overlaps _ (Every-flat_map Q (λ to. map (λ from. paste_at d old new from to) (places old)) (λ to. Every-map Q (λ from. paste_at d old new from to) (λ from. paste_at-right d old new a place i j from to) (places old)) (places new))
+
+-- each element of a new child is written by a paste
+shared-holds : (o n : Interval) (i : ℕ) → i < n.len → Lies (n.first + i) o → (0 < (shared o n).len) × Lies i (record { first = (shared o n).first - n.first; len = (shared o n).len })
+shared-holds o n i in_new in_old = (omega arith, (omega arith, omega arith))
+
+pastes_of-cover : (d : Dims) (old new : Parts) (to : ℕ × ℕ) (i j : ℕ) → Fits old d → Fits new d → IsPlace new to → i < (child d new to).rows → j < (child d new to).cols → list_any (λ p. covers p to i j) (pastes_of d old new) ≡ true
+pastes_of-cover d old new to i j fits_old fits_new place in_rows in_cols =
+    let n = child d new to in
+    let row_end = part_end d.rows new.r to.0 place.0 in
+    let col_end = part_end d.cols new.c to.1 place.1 in
+    let row = held d.rows old.r (n.row + i) fits_old.some_rows (omega arith) in
+    let col = held d.cols old.c (n.col + j) fits_old.some_cols (omega arith) in
+    let from : ℕ × ℕ = (row.0, col.0) in
+    let o = child d old from in
+    let p = paste_at d old new from to in
+    let rows = shared-holds (rows_of o) (rows_of n) i in_rows row.1.1 in
+    let cols = shared-holds (cols_of o) (cols_of n) j in_cols col.1.1 in
+    let meets : overlaps p ≡ true = and_from _ _ (lt-ltb 0 p.rows rows.0) (lt-ltb 0 p.cols cols.0) in
+    let covered : covers p to i j ≡ true = and_from _ _ (and_from _ _ (eq-eqb to.0 to.0 refl) (eq-eqb to.1 to.1 refl)) (holds-true (to_rect p) i j (rows.1, cols.1)) in
+    let t = λ (q : Paste). overlaps q && covers q to i j in
+    any-filter (λ p. covers p to i j) overlaps (flat_map (λ to. map (λ from. paste_at d old new from to) (places old)) (places new)) ∙ any-flat_map t (λ to. map (λ from. paste_at d old new from to) (places old)) (places new) ∙ any-places (λ to. list_any t (map (λ from. paste_at d old new from to) (places old))) new to place (any-map t (λ from. paste_at d old new from to) (places old) ∙ any-places (λ from. t (paste_at d old new from to)) old from (row.1.0, col.1.0) (and_from _ _ meets covered))
+
+pub pastes_of-repartition : (d : Dims) (old new : Parts) → Fits old d → Fits new d → Repartition d old new (pastes_of d old new)
+pastes_of-repartition d old new fits_old fits_new a blank blanks to place =
+    let ps = pastes_of d old new in
+    let n = child d new to in
+    let dims = dims-pastes (children_in d old a) to ps blank ∙ (blanks to place).1 in
+    let blank_dims = (blanks to place).1 in
+    same_arrays (after_pastes (children_in d old a) blank ps to) (window a n) dims (IsWhole-pastes (children_in d old a) to ps blank (blanks to place).0) (IsWhole-tabulate (dims_of n) (λ i j. element a (n.row + i) (n.col + j))) (λ i j in_rows in_cols.
+        let in_new_rows : i < n.rows = omega (arith, ap (λ (e : Dims). e.rows) dims) in
+        let in_new_cols : j < n.cols = omega (arith, ap (λ (e : Dims). e.cols) dims) in
+        element-pastes (children_in d old a) (element a (n.row + i) (n.col + j)) to i j ps (pastes_of-right d old new a to i j) blank (omega (arith, ap (λ (e : Dims). e.rows) blank_dims)) (omega (arith, ap (λ (e : Dims). e.cols) blank_dims)) ∙ cond-true _ _ _ (pastes_of-cover d old new to i j fits_old fits_new place in_new_rows in_new_cols) ∙ sym (element-window a n i j in_new_rows in_new_cols))
