@@ -1,3 +1,4 @@
+pub mod Gathering
 pub mod Lists
 pub mod Overlapping
 pub mod Repartitioning

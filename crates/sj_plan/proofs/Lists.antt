@@ -1,10 +1,14 @@
 -- Lists that a loop makes over the numbers from 0 on.
-use Rattle.std.proofs.Common.{◌≡◌, ℕ, zero, suc, ◌+◌, ◌-◌, ◌*◌, ◌<◌, ◌≤◌, Bool, true, false, cond, ◌&&◌, List, [], ◌∷◌, ◌++◌, map, sym, ap, refl, ◌∙◌, zero-add, zero-mul, arith}
-use Rattle.std.specs.List.{filter, flat_map, range_with_len, count_by, sum_by}
+use Rattle.std.proofs.Common.{◌≡◌, ℕ, zero, suc, ◌+◌, ◌-◌, ◌*◌, ◌<◌, ◌≤◌, Bool, true, false, cond, ◌&&◌, ◌||◌, List, [], ◌∷◌, ◌++◌, map, sym, ap, refl, ◌∙◌, zero-add, zero-mul, arith}
+use Rattle.std.specs.List.{AllByRecursion, filter, flat_map, range_with_len, count_by, sum_by, list_any}
 use Rattle.std.proofs.lemmas.List.{append_assoc, append-nil, map-append, map-id}
 use Rattle.std.proofs.lemmas.List.Concat.{flat_map-append}
 use Rattle.std.proofs.lemmas.List.FromFn.{map-range_with_len_more}
 use Rattle.std.proofs.lemmas.List.Sums.{sum_by-cons, sum_by-append, sum_by_push}
+use Rattle.std.proofs.lemmas.List.FromFn.{length-range_with_len, get_or-range_with_len}
+use Rattle.std.proofs.lemmas.List.Folds.{list_any_at, list_any-append}
+use Rattle.sj_plan.specs.declared.parts.Parts.{Parts}
+use Rattle.sj_plan.specs.Parts.{IsPlace, places}
 use Rattle.std.proofs.lemmas.Simd.{map-map}
 use Rattle.std.proofs.lemmas.Bool.{cond-false}
 
@@ -86,3 +90,58 @@ nothing_after Z adds m n h none_of =
 pub filter_none : {X Y : Type 0} (p : Y → Bool) (f : X → Y) → ((x : X) → p (f x) ≡ false) → (xs : List X) → filter p (map f xs) ≡ []
 filter_none p f fails [] = refl
 filter_none p f fails (x ∷ xs) = cond-false (p (f x)) (f x ∷ filter p (map f xs)) (filter p (map f xs)) (fails x) ∙ filter_none p f fails xs
+
+-- Q holds of each item, in lists that are made of others
+pub each-append : {X : Type 0} (Q : X → Type 0) (xs ys : List X) → AllByRecursion Q xs → AllByRecursion Q ys → AllByRecursion Q (xs ++ ys)
+each-append Q [] ys a b = b
+each-append Q (x ∷ xs) ys a b = (a.0, each-append Q xs ys a.1 b)
+
+pub each-map : {X Y : Type 0} (Q : Y → Type 0) (f : X → Y) (xs : List X) → AllByRecursion (λ x. Q (f x)) xs → AllByRecursion Q (map f xs)
+each-map Q f [] a = tt
+each-map Q f (x ∷ xs) a = (a.0, each-map Q f xs a.1)
+
+pub each-flat_map : {X Y : Type 0} (Q : Y → Type 0) (f : X → List Y) (xs : List X) → AllByRecursion (λ x. AllByRecursion Q (f x)) xs → AllByRecursion Q (flat_map f xs)
+each-flat_map Q f [] a = tt
+each-flat_map Q f (x ∷ xs) a = each-append Q (f x) (flat_map f xs) a.0 (each-flat_map Q f xs a.1)
+
+each-keep : {X : Type 0} (Q : X → Type 0) (t : Bool) (x : X) (xs : List X) → (t ≡ true → Q x) → AllByRecursion Q xs → AllByRecursion Q (cond t (x ∷ xs) xs)
+each-keep Q true x xs a b = (a refl, b)
+each-keep Q false x xs a b = b
+
+pub each-filter : {X : Type 0} (Q : X → Type 0) (p : X → Bool) (xs : List X) → AllByRecursion (λ x. p x ≡ true → Q x) xs → AllByRecursion Q (filter p xs)
+each-filter Q p [] a = tt
+each-filter Q p (x ∷ xs) a = each-keep Q (p x) x (filter p xs) a.0 (each-filter Q p xs a.1)
+
+each-range : (Q : ℕ → Type 0) (a n : ℕ) → ((k : ℕ) → k < a + n → Q k) → AllByRecursion Q (range_with_len a n)
+each-range Q a zero h = tt
+each-range Q a (suc n) h = (h a (omega arith), each-range Q (a + 1) n (λ k below. h k (omega arith)))
+
+pub each-places : (Q : ℕ × ℕ → Type 0) (p : Parts) → ((place : ℕ × ℕ) → IsPlace p place → Q place) → AllByRecursion Q (places p)
+each-places Q p h =
+    each-flat_map Q (grid_row p.c) (range_with_len 0 p.r) (each-range (λ i. AllByRecursion Q (grid_row p.c i)) 0 p.r (λ i in_rows. each-map Q (λ j. (i, j)) (range_with_len 0 p.c) (each-range (λ j. Q (i, j)) 0 p.c (λ j in_cols. h (i, j) (omega arith, omega arith)))))
+
+-- whether some item passes a test, in lists that are made of others
+pub any-map : {X Y : Type 0} (t : Y → Bool) (f : X → Y) (xs : List X) → list_any t (map f xs) ≡ list_any (λ x. t (f x)) xs
+any-map t f [] = refl
+any-map t f (x ∷ xs) = ap (λ b. t (f x) || b) (any-map t f xs)
+
+pub any-flat_map : {X Y : Type 0} (t : Y → Bool) (f : X → List Y) (xs : List X) → list_any t (flat_map f xs) ≡ list_any (λ x. list_any t (f x)) xs
+any-flat_map t f [] = refl
+any-flat_map t f (x ∷ xs) = list_any-append t (f x) (flat_map f xs) ∙ ap (λ b. list_any t (f x) || b) (any-flat_map t f xs)
+
+pub any-keep : {X : Type 0} (t : X → Bool) (b : Bool) (x : X) (xs : List X) → list_any t (cond b (x ∷ xs) xs) ≡ ((b && t x) || list_any t xs)
+any-keep t true x xs = refl
+any-keep t false x xs = refl
+
+pub any-filter : {X : Type 0} (t p : X → Bool) (xs : List X) → list_any t (filter p xs) ≡ list_any (λ x. p x && t x) xs
+any-filter t p [] = refl
+any-filter t p (x ∷ xs) = any-keep t (p x) x (filter p xs) ∙ ap (λ b. (p x && t x) || b) (any-filter t p xs)
+
+pub any-range : (t : ℕ → Bool) (n k : ℕ) → k < n → t k ≡ true → list_any t (range_with_len 0 n) ≡ true
+any-range t n k below h =
+    let long = length-range_with_len 0 n in
+    list_any_at t (range_with_len 0 n) k 0 (omega arith) (ap t (get_or-range_with_len 0 n k 0 below ∙ omega arith) ∙ h)
+
+pub any-places : (t : ℕ × ℕ → Bool) (p : Parts) (place : ℕ × ℕ) → IsPlace p place → t place ≡ true → list_any t (places p) ≡ true
+any-places t p place inside h =
+    any-flat_map t (grid_row p.c) (range_with_len 0 p.r) ∙ any-range (λ i. list_any t (grid_row p.c i)) p.r place.0 inside.0 (any-map t (λ j. (place.0, j)) (range_with_len 0 p.c) ∙ any-range (λ j. t (place.0, j)) p.c place.1 inside.1 h)

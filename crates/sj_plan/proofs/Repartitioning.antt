@@ -1,9 +1,10 @@
 -- The pastes of two plans, applied in order to the old plan's children, make the new plan's.
-use Rattle.std.proofs.Common.{◌≡◌, ℕ, ℤ, ◌+◌, ◌-◌, ◌*◌, ◌/◌, ◌%◌, ◌<◌, ◌≤◌, Bool, true, false, cond, ◌&&◌, ◌||◌, eqb, List, [], ◌∷◌, ◌++◌, map, length, sym, ap, refl, ◌∙◌, arith, inl, inr}
-use Rattle.std.specs.List.{filter, flat_map, range_with_len, list_any, fold}
+use Rattle.std.proofs.Common.{◌≡◌, ℕ, ℤ, ◌+◌, ◌-◌, ◌*◌, ◌/◌, ◌%◌, ◌<◌, ◌≤◌, Bool, true, false, cond, ◌&&◌, ◌||◌, eqb, ltb, List, [], ◌∷◌, ◌++◌, map, length, sym, ap, refl, ◌∙◌, arith, inl, inr}
+use Rattle.std.specs.List.{All, AllByRecursion, filter, flat_map, range_with_len, list_any, fold}
 use Rattle.std.proofs.lemmas.List.FromFn.{length-range_with_len, get_or-range_with_len}
 use Rattle.std.proofs.lemmas.List.Folds.{list_any_at, list_any-append}
-use Rattle.std.proofs.lemmas.Bool.{cases_lt, lt-ltb, and_from, and_parts, eqb-true, eq-eqb, cond-true, or_left, or_right}
+use Rattle.std.proofs.lemmas.Bool.{lt-ltb, ltb-true, and_from, and_parts, eqb-true, eq-eqb, cond-true, or_left, or_right}
+use Rattle.std.proofs.lemmas.List.Elements.{All-from_recursion}
 use Rattle.sj_base.specs.declared.tile.Dims.{Dims}
 use Rattle.sj_base.specs.Array.{Array}
 use Rattle.sj_plan.specs.declared.interval.Interval.{Interval}
@@ -14,61 +15,10 @@ use Rattle.sj_plan.specs.Interval.{Lies, part, part_first, shared}
 use Rattle.sj_plan.specs.Parts.{Fits, IsPlace, places}
 use Rattle.sj_plan.specs.Rect.{Holds, holds, rows_of, cols_of, child}
 use Rattle.sj_plan.specs.Window.{element, dims_of, window, with_window, IsWhole}
-use Rattle.sj_plan.specs.Paste.{paste_at, overlaps, pastes_of, from_rect, to_rect, Children, AreChildren, after_paste, after_pastes, children_in, Repartition}
-use Rattle.sj_plan.proofs.Lists.{grid_row}
+use Rattle.sj_plan.specs.Paste.{paste_at, overlaps, pastes_of, from_rect, to_rect, Children, AreChildren, after_paste, after_pastes, children_in, Repartition, IsBetween}
+use Rattle.sj_plan.proofs.Lists.{each-map, each-flat_map, each-filter, each-places, any-map, any-flat_map, any-filter, any-places}
 use Rattle.sj_plan.proofs.Splitting.{held, ends_before, part_end}
 use Rattle.sj_plan.proofs.Windows.{element-with_window, element-window, holds-true, Holds-from_true, IsWhole-tabulate, same_arrays}
-
--- Q holds of each item
-abbrev Every : {X : Type 0} → (X → Type 0) → List X → Type 0
-Every Q [] = Unit {0}
-Every Q (x ∷ xs) = Q x × Every Q xs
-
-Every-append : {X : Type 0} (Q : X → Type 0) (xs ys : List X) → Every Q xs → Every Q ys → Every Q (xs ++ ys)
-Every-append Q [] ys a b = b
-Every-append Q (x ∷ xs) ys a b = (a.0, Every-append Q xs ys a.1 b)
-
-Every-map : {X Y : Type 0} (Q : Y → Type 0) (f : X → Y) → ((x : X) → Q (f x)) → (xs : List X) → Every Q (map f xs)
-Every-map Q f h [] = tt
-Every-map Q f h (x ∷ xs) = (h x, Every-map Q f h xs)
-
-Every-flat_map : {X Y : Type 0} (Q : Y → Type 0) (f : X → List Y) → ((x : X) → Every Q (f x)) → (xs : List X) → Every Q (flat_map f xs)
-Every-flat_map Q f h [] = tt
-Every-flat_map Q f h (x ∷ xs) = Every-append Q (f x) (flat_map f xs) (h x) (Every-flat_map Q f h xs)
-
-Every-keep : {X : Type 0} (Q : X → Type 0) (t : Bool) (x : X) (xs : List X) → Q x → Every Q xs → Every Q (cond t (x ∷ xs) xs)
-Every-keep Q true x xs a b = (a, b)
-Every-keep Q false x xs a b = b
-
-Every-filter : {X : Type 0} (Q : X → Type 0) (p : X → Bool) (xs : List X) → Every Q xs → Every Q (filter p xs)
-Every-filter Q p [] a = tt
-Every-filter Q p (x ∷ xs) a = Every-keep Q (p x) x (filter p xs) a.0 (Every-filter Q p xs a.1)
-
--- whether some item passes a test, in lists that are made of others
-any-map : {X Y : Type 0} (t : Y → Bool) (f : X → Y) (xs : List X) → list_any t (map f xs) ≡ list_any (λ x. t (f x)) xs
-any-map t f [] = refl
-any-map t f (x ∷ xs) = ap (λ b. t (f x) || b) (any-map t f xs)
-
-any-flat_map : {X Y : Type 0} (t : Y → Bool) (f : X → List Y) (xs : List X) → list_any t (flat_map f xs) ≡ list_any (λ x. list_any t (f x)) xs
-any-flat_map t f [] = refl
-any-flat_map t f (x ∷ xs) = list_any-append t (f x) (flat_map f xs) ∙ ap (λ b. list_any t (f x) || b) (any-flat_map t f xs)
-
-any-keep : {X : Type 0} (t : X → Bool) (b : Bool) (x : X) (xs : List X) → list_any t (cond b (x ∷ xs) xs) ≡ ((b && t x) || list_any t xs)
-any-keep t true x xs = refl
-any-keep t false x xs = refl
-
-any-filter : {X : Type 0} (t p : X → Bool) (xs : List X) → list_any t (filter p xs) ≡ list_any (λ x. p x && t x) xs
-any-filter t p [] = refl
-any-filter t p (x ∷ xs) = any-keep t (p x) x (filter p xs) ∙ ap (λ b. (p x && t x) || b) (any-filter t p xs)
-
-any-range : (t : ℕ → Bool) (n k : ℕ) → k < n → t k ≡ true → list_any t (range_with_len 0 n) ≡ true
-any-range t n k below h =
-    let long = length-range_with_len 0 n in
-    list_any_at t (range_with_len 0 n) k 0 (omega arith) (ap t (get_or-range_with_len 0 n k 0 below ∙ omega arith) ∙ h)
-
-any-places : (t : ℕ × ℕ → Bool) (p : Parts) (place : ℕ × ℕ) → IsPlace p place → t place ≡ true → list_any t (places p) ≡ true
-any-places t p place inside h =
-    any-flat_map t (grid_row p.c) (range_with_len 0 p.r) ∙ any-range (λ i. list_any t (grid_row p.c i)) p.r place.0 inside.0 (any-map t (λ j. (place.0, j)) (range_with_len 0 p.c) ∙ any-range (λ j. t (place.0, j)) p.c place.1 inside.1 h)
 
 -- the paste writes element (i, j) of a child
 abbrev covers : Paste → ℕ × ℕ → ℕ → ℕ → Bool
@@ -113,7 +63,7 @@ IsWhole-pastes old place (p ∷ ps) new whole =
     IsWhole-pastes old place ps (after_paste old new p) (IsWhole-paste (eqb place.0 p.to.0 && eqb place.1 p.to.1) (new place) (to_rect p) (window (old p.from) (from_rect p)) whole)
 
 -- after right pastes an element is the wanted one, if some paste writes it
-element-pastes : (old : Children) (target : ℤ) (place : ℕ × ℕ) (i j : ℕ) (ps : List Paste) → Every (Right old target place i j) ps → (new : Children) → i < (new place).dims.rows → j < (new place).dims.cols → element (after_pastes old new ps place) i j ≡ cond (list_any (λ p. covers p place i j) ps) target (element (new place) i j)
+element-pastes : (old : Children) (target : ℤ) (place : ℕ × ℕ) (i j : ℕ) (ps : List Paste) → AllByRecursion (Right old target place i j) ps → (new : Children) → i < (new place).dims.rows → j < (new place).dims.cols → element (after_pastes old new ps place) i j ≡ cond (list_any (λ p. covers p place i j) ps) target (element (new place) i j)
 element-pastes old target place i j [] right new in_rows in_cols = refl
 element-pastes old target place i j (p ∷ ps) right new in_rows in_cols =
     let t = eqb place.0 p.to.0 && eqb place.1 p.to.1 in
@@ -145,10 +95,34 @@ paste_at-right d old new a place i j from to covered =
     let v = j - p.at_to.1 in
     element-window (window a o) (from_rect p) u v (omega (arith, inside.0.0, inside.0.1)) (omega (arith, inside.1.0, inside.1.1)) ∙ element-window a o (p.at_from.0 + u) (p.at_from.1 + v) (shared-inside (rows_of o) (rows_of n) i inside.0.0 inside.0.1) (shared-inside (cols_of o) (cols_of n) j inside.1.0 inside.1.1) ∙ ap (λ x. element a x (o.col + (p.at_from.1 + v))) (shared-same (rows_of o) (rows_of n) i _ row inside.0.0) ∙ ap (λ y. element a ((child d new place).row + i) y) (shared-same (cols_of o) (cols_of n) j _ col inside.1.0)
 
-pastes_of-right : (d : Dims) (old new : Parts) (a : Array) (place : ℕ × ℕ) (i j : ℕ) → Every (Right (children_in d old a) (element a ((child d new place).row + i) ((child d new place).col + j)) place i j) (pastes_of d old new)
+-- what holds of the paste of each pair that overlaps holds of each paste
+each-pastes_of : (Q : Paste → Type 0) (d : Dims) (old new : Parts) → ((from to : ℕ × ℕ) → IsPlace old from → IsPlace new to → overlaps (paste_at d old new from to) ≡ true → Q (paste_at d old new from to)) → AllByRecursion Q (pastes_of d old new)
+each-pastes_of Q d old new h =
+    let R : Paste → Type 0 = λ p. overlaps p ≡ true → Q p in
+    each-filter Q overlaps (flat_map (λ to. map (λ from. paste_at d old new from to) (places old)) (places new)) (each-flat_map R (λ to. map (λ from. paste_at d old new from to) (places old)) (places new) (each-places (λ to. AllByRecursion R (map (λ from. paste_at d old new from to) (places old))) new (λ to in_new. each-map R (λ from. paste_at d old new from to) (places old) (each-places (λ from. R (paste_at d old new from to)) old (λ from in_old. h from to in_old in_new)))))
+
+pastes_of-right : (d : Dims) (old new : Parts) (a : Array) (place : ℕ × ℕ) (i j : ℕ) → AllByRecursion (Right (children_in d old a) (element a ((child d new place).row + i) ((child d new place).col + j)) place i j) (pastes_of d old new)
 pastes_of-right d old new a place i j =
-    let Q : Paste → Type 0 = Right (children_in d old a) (element a ((child d new place).row + i) ((child d new place).col + j)) place i j in
-    Every-filter Q overlaps _ (Every-flat_map Q (λ to. map (λ from. paste_at d old new from to) (places old)) (λ to. Every-map Q (λ from. paste_at d old new from to) (λ from. paste_at-right d old new a place i j from to) (places old)) (places new))
+    each-pastes_of (Right (children_in d old a) (element a ((child d new place).row + i) ((child d new place).col + j)) place i j) d old new (λ from to _ _ _. paste_at-right d old new a place i j from to)
+
+shared-within : (o n : Interval) → 0 < (shared o n).len → ((shared o n).first - o.first + (shared o n).len ≤ o.len) × ((shared o n).first - n.first + (shared o n).len ≤ n.len)
+shared-within o n some = (omega arith, omega arith)
+
+paste_at-between : (d : Dims) (old new : Parts) (from to : ℕ × ℕ) → IsPlace old from → IsPlace new to → overlaps (paste_at d old new from to) ≡ true → IsBetween d old new (paste_at d old new from to)
+paste_at-between d old new from to in_old in_new meets =
+    let o = child d old from in
+    let n = child d new to in
+    let p = paste_at d old new from to in
+    let both = and_parts (ltb 0 p.rows) (ltb 0 p.cols) meets in
+    let some_rows = ltb-true 0 p.rows both.0 in
+    let some_cols = ltb-true 0 p.cols both.1 in
+    let rows = shared-within (rows_of o) (rows_of n) some_rows in
+    let cols = shared-within (cols_of o) (cols_of n) some_cols in
+    record { from = in_old; to = in_new; rows = some_rows; cols = some_cols; in_old = (rows.0, cols.0); in_new = (rows.1, cols.1) }
+
+pub pastes_of-between : (d : Dims) (old new : Parts) → All (IsBetween d old new) (pastes_of d old new)
+pastes_of-between d old new =
+    All-from_recursion (IsBetween d old new) (pastes_of d old new) (each-pastes_of (IsBetween d old new) d old new (paste_at-between d old new))
 
 -- each element of a new child is written by a paste
 shared-holds : (o n : Interval) (i : ℕ) → i < n.len → Lies (n.first + i) o → (0 < (shared o n).len) × Lies i (record { first = (shared o n).first - n.first; len = (shared o n).len })

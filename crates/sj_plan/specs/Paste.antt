@@ -8,7 +8,7 @@ use Rattle.sj_plan.specs.declared.paste.Paste.{Paste}
 use Rattle.sj_plan.specs.declared.rect.Rect.{Rect}
 use Rattle.sj_plan.specs.Interval.{shared}
 use Rattle.sj_plan.specs.Parts.{IsPlace, places}
-use Rattle.sj_plan.specs.Rect.{rows_of, cols_of, child}
+use Rattle.sj_plan.specs.Rect.{Within, rows_of, cols_of, child}
 use Rattle.sj_plan.specs.Window.{dims_of, window, with_window, IsWhole}
 
 -- what an old and a new child share, in the coordinates of each
@@ -72,3 +72,12 @@ children_in d p a place = window a (child d p place)
 abbrev pub Repartition : Dims → Parts → Parts → List Paste → Type 0
 Repartition d old new ps =
     (a : Array) (blank : Children) → AreChildren d new blank → (to : ℕ × ℕ) → IsPlace new to → after_pastes (children_in d old a) blank ps to ≡ children_in d new a to
+
+-- the paste joins two children, and its rectangle has elements and lies in both
+pub record IsBetween (d : Dims) (old new : Parts) (p : Paste) : Type 0 where
+  pub from : IsPlace old p.from
+  pub to : IsPlace new p.to
+  pub rows : 0 < p.rows
+  pub cols : 0 < p.cols
+  pub in_old : Within (from_rect p) (dims_of (child d old p.from))
+  pub in_new : Within (to_rect p) (dims_of (child d new p.to))

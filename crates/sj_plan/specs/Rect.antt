@@ -1,11 +1,11 @@
 -- Rectangles of an array, and a plan's children.
-use Rattle.std.specs.Prelude.{ℕ, ◌+◌, ◌<◌, ◌≤◌, Bool, ◌&&◌, nat_lt, nat_le, List, map}
+use Rattle.std.specs.Prelude.{ℕ, ◌≡◌, ◌+◌, ◌<◌, ◌≤◌, Bool, ◌&&◌, nat_lt, nat_le, List, map}
 use Rattle.sj_base.specs.declared.tile.Dims.{Dims}
 use Rattle.sj_plan.specs.declared.interval.Interval.{Interval}
 use Rattle.sj_plan.specs.declared.parts.Parts.{Parts}
 use Rattle.sj_plan.specs.declared.rect.Rect.{Rect}
 use Rattle.sj_plan.specs.Interval.{Lies, part}
-use Rattle.sj_plan.specs.Parts.{places}
+use Rattle.sj_plan.specs.Parts.{IsPlace, places}
 
 -- the rectangle of an interval of rows and an interval of columns
 abbrev pub across : Interval → Interval → Rect
@@ -37,3 +37,9 @@ child d p place = across (part d.rows p.r place.0) (part d.cols p.c place.1)
 -- the children, row by row
 abbrev pub children_of : Dims → Parts → List Rect
 children_of d p = map (child d p) (places p)
+
+-- the element lies in that child and in no other
+pub record IsOnlyChild (d : Dims) (p : Parts) (row col : ℕ) (place : ℕ × ℕ) : Type 0 where
+  pub is_place : IsPlace p place
+  pub holds : Holds (child d p place) row col
+  pub only : (other : ℕ × ℕ) → IsPlace p other → Holds (child d p other) row col → other ≡ place

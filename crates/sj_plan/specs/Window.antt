@@ -1,6 +1,6 @@
 -- The elements of an array, and a rectangle of it read and written.
-use Rattle.std.specs.Prelude.{ℕ, ℤ, pos, ◌≡◌, ◌+◌, ◌-◌, ◌*◌, ◌<◌, map, length, if◌then◌else◌}
-use Rattle.std.specs.List.{flat_map, range_with_len, slice_index_or}
+use Rattle.std.specs.Prelude.{ℕ, ℤ, pos, ◌≡◌, ◌+◌, ◌-◌, ◌*◌, ◌<◌, List, map, length, if◌then◌else◌}
+use Rattle.std.specs.List.{flat_map, fold, range_with_len, slice_index_or}
 use Rattle.sj_base.specs.declared.tile.Dims.{Dims}
 use Rattle.sj_base.specs.Array.{Array, area, array}
 use Rattle.sj_plan.specs.declared.rect.Rect.{Rect}
@@ -30,3 +30,9 @@ with_window a r b =
 -- the array has as many elements as its dimensions say
 abbrev pub IsWhole : Array → Type 0
 IsWhole a = length a.elements ≡ area a.dims
+
+-- the windows of these rectangles, put back one after another over any array of the dimensions,
+-- make the array that they were taken from
+abbrev pub Reassemble : Dims → List Rect → Type 0
+Reassemble d rects =
+    (a blank : Array) → a.dims ≡ d → IsWhole a → blank.dims ≡ d → IsWhole blank → fold (λ b r. with_window b r (window a r)) blank rects ≡ a

@@ -5,9 +5,10 @@ ghost use Rattle.std.specs.Prelude.{
 };
 ghost use Rattle.std.specs.List.{range_with_len};
 ghost use Rattle.sj_plan.specs.Parts.{Fits};
-ghost use Rattle.sj_plan.specs.Rect.{Within, child, children_of, holds};
+ghost use Rattle.sj_plan.specs.Rect.{IsOnlyChild, Within, child, children_of, holds};
+ghost use Rattle.sj_plan.specs.Window.{Reassemble};
 
-use crate::interval::part;
+use crate::interval::{part, part_holding};
 use crate::parts::Parts;
 use crate::rect::Rect;
 use sj_base::memory::OutOfMemory;
@@ -34,6 +35,19 @@ pub fn rect(dims: Dims, parts: Parts, i: u32, j: u32) -> Rect
     }
 }
 
+/// The child `[i, j]` that holds the element in row `row` and column `col`: there is one, and only
+/// one. Constant time, no memory.
+pub fn child_holding(dims: Dims, parts: Parts, row: u32, col: u32) -> (u32, u32)
+    requires plan { Fits parts dims }
+    requires in_rows { row < dims.rows }
+    requires in_cols { col < dims.cols }
+    ensures { IsOnlyChild dims parts row col result }
+{
+    let i = part_holding(dims.rows, parts.r, row);
+    let j = part_holding(dims.cols, parts.c, col);
+    (i, j)
+}
+
 /// All children, row by row. Linear in their number.
 pub fn children(
     alloc: Global,
@@ -46,6 +60,9 @@ pub fn children(
     // Every element lies in exactly one child.
     ensures tile { IfOk result (λ rects. (row col : ℕ) → row < dims.rows → col < dims.cols →
         count_by (λ r. holds r row col) rects ≡ 1) }
+
+    // What `split` gives of them, put back by `gather`, is the array again.
+    ensures reassemble { IfOk result (Reassemble dims) }
 {
     let mut rects = Vec::with_capacity(alloc, parts.r as usize * parts.c as usize)?;
     for i in 0..parts.r {

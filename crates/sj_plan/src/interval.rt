@@ -13,14 +13,13 @@ pub struct Interval {
 }
 
 impl Interval {
-    ghost use Rattle.sj_plan.specs.Interval.{shared};
-
     /// What it shares with another interval; of no length where they have no index in common.
     /// Constant time.
     pub fn shared(self, other: Interval) -> Interval
         requires own_end { self.first + self.len < 2 ^ 32 }
         requires other_end { other.first + other.len < 2 ^ 32 }
-        ensures { result ≡ shared self other }
+        ensures shared { result ≡ shared self other }
+        ensures both { (x : ℕ) → (Lies x result ↔ (Lies x self × Lies x other)) }
     {
         let first = self.first.max(other.first);
         let end = (self.first + self.len).min(other.first + other.len);
@@ -38,6 +37,7 @@ pub fn part(items: u32, parts: u32, k: u32) -> Interval
     ensures part { result ≡ part items parts k }
     ensures closed_form { result.first ≡ k * (items / parts) + min k (items % parts) }
     ensures inside { result.first + result.len ≤ items }
+    ensures not_empty { parts ≤ items → 0 < result.len }
 {
     let shorter = items / parts;
     let longer = items % parts;

@@ -1,10 +1,10 @@
 use Rattle.std.proofs.Common.{◌≡◌, ◌++◌, [], ◌∙◌, List, sym, ap, subst, arith}
-use Rattle.std.specs.List.{range_with_len}
+use Rattle.std.specs.List.{All, range_with_len}
 use Rattle.sj_plan.specs.declared.paste.Paste.{Paste}
-use Rattle.sj_plan.specs.Paste.{Repartition, pastes_of}
+use Rattle.sj_plan.specs.Paste.{IsBetween, Repartition, pastes_of}
 use Rattle.sj_plan.proofs.Lists.{appended_more}
 use Rattle.sj_plan.proofs.Overlapping.{to_rows, to_rows-append, to_rows-one}
-use Rattle.sj_plan.proofs.Repartitioning.{pastes_of-repartition}
+use Rattle.sj_plan.proofs.Repartitioning.{pastes_of-between, pastes_of-repartition}
 use Rattle.sj_plan.proofs.paste.pastes.Goals as goal
 
 pub loop-i-preserved : goal.loop-i-preserved
@@ -18,3 +18,10 @@ returns-clause-repartition c =
     let last : c.loop-i.i ≡ a.new.r = omega arith in
     let all : c.of.result ≡ pastes_of a.dims a.old a.new = c.of.ensures ∙ c.loop-i.invariant ∙ ap (λ n. to_rows a.dims a.old a.new (range_with_len 0 n)) last in
     subst (λ (ps : List Paste). Repartition a.dims a.old a.new ps) (sym all) (pastes_of-repartition a.dims a.old a.new c.requires.old_plan c.requires.new_plan)
+
+pub returns-clause-fit : goal.returns-clause-fit
+returns-clause-fit c =
+    let a = c.args in
+    let last : c.loop-i.i ≡ a.new.r = omega arith in
+    let all : c.of.result ≡ pastes_of a.dims a.old a.new = c.of.ensures ∙ c.loop-i.invariant ∙ ap (λ n. to_rows a.dims a.old a.new (range_with_len 0 n)) last in
+    subst (λ (ps : List Paste). All (IsBetween a.dims a.old a.new) ps) (sym all) (pastes_of-between a.dims a.old a.new)
