@@ -13,9 +13,6 @@ use Rattle.sj_plan.proofs.Lists.{any-map, any-places}
 use Rattle.sj_plan.proofs.Splitting.{held}
 use Rattle.sj_plan.proofs.Windows.{written, element-with_window, element-window, holds-true, Holds-from_true, IsWhole-tabulate, same_arrays}
 
-pub same_place : {x y : ℕ × ℕ} → x.0 ≡ y.0 → x.1 ≡ y.1 → x ≡ y
-same_place {x} {y} e f = rw (e, f) refl
-
 abbrev put_back : Array → Array → Rect → Array
 put_back a b r = with_window b r (window a r)
 
@@ -32,8 +29,8 @@ cond_twice false false x e = refl
 element-put_back : (a b : Array) (r : Rect) (i j : ℕ) → i < b.dims.rows → j < b.dims.cols → element (put_back a b r) i j ≡ cond (holds r i j) (element a i j) (element b i j)
 element-put_back a b r i j in_rows in_cols =
     element-with_window b r (window a r) i j in_rows in_cols ∙ cond_same (holds r i j) _ (element a i j) (element b i j) (λ t.
-        let h = Holds-from_true r i j t in
-        element-window a r (i - r.row) (j - r.col) (omega (arith, h.0.0, h.0.1)) (omega (arith, h.1.0, h.1.1)) ∙ ap (λ n. element a n (r.col + (j - r.col))) (omega (arith, h.0.0)) ∙ ap (λ n. element a i n) (omega (arith, h.1.0)))
+    let h = Holds-from_true r i j t in
+    element-window a r (i - r.row) (j - r.col) (omega (arith, h.0.0, h.0.1)) (omega (arith, h.1.0, h.1.1)) ∙ ap (λ n. element a n (r.col + (j - r.col))) (omega (arith, h.0.0)) ∙ ap (λ n. element a i n) (omega (arith, h.1.0)))
 
 dims-put_back : (a : Array) (rs : List Rect) (b : Array) → (fold (put_back a) b rs).dims ≡ b.dims
 dims-put_back a [] b = refl
@@ -60,6 +57,6 @@ children_of-reassemble d p fits a blank dims_a whole_a dims_b whole_b =
     let rs = children_of d p in
     let same = dims-put_back a rs blank in
     same_arrays (fold (put_back a) blank rs) a (same ∙ dims_b ∙ sym dims_a) (IsWhole-put_back a rs blank whole_b) whole_a (λ i j in_rows in_cols.
-        let in_blank_rows : i < blank.dims.rows = omega (arith, ap (λ (e : Dims). e.rows) same) in
-        let in_blank_cols : j < blank.dims.cols = omega (arith, ap (λ (e : Dims). e.cols) same) in
-        element-all_back a i j rs blank in_blank_rows in_blank_cols ∙ cond-true _ _ _ (children_of-cover d p i j fits (omega (arith, ap (λ (e : Dims). e.rows) dims_b)) (omega (arith, ap (λ (e : Dims). e.cols) dims_b))))
+    let in_blank_rows : i < blank.dims.rows = omega (arith, ap (λ (e : Dims). e.rows) same) in
+    let in_blank_cols : j < blank.dims.cols = omega (arith, ap (λ (e : Dims). e.cols) same) in
+    element-all_back a i j rs blank in_blank_rows in_blank_cols ∙ cond-true _ _ _ (children_of-cover d p i j fits (omega (arith, ap (λ (e : Dims). e.rows) dims_b)) (omega (arith, ap (λ (e : Dims). e.cols) dims_b))))

@@ -22,9 +22,9 @@ AreOverlapping n p of v = (k : ℕ) → k < p → (Lies k v ↔ (0 < (shared (pa
 
 apart : (n p : ℕ) (of v : Interval) (k : ℕ) → AreOverlapping n p of v → k < p → (Lies k v → ⊥) → (shared (part n p k) of).len ≤ 0
 apart n p of v k exactly below outside = elim (cases_lt 0 (shared (part n p k) of).len) as (λ _. (shared (part n p k) of).len ≤ 0) [
-    inl meets ↦ absurd (outside ((exactly k below).1 meets))
+  | inl meets ↦ absurd (outside ((exactly k below).1 meets))
   | inr none ↦ none
-  ]
+]
 
 -- the pastes to a child from the children of row part k of the old plan
 abbrev pub from_row : Dims → Parts → Parts → ℕ → ℕ × ℕ → List ℕ → List Paste
@@ -51,12 +51,12 @@ from_row-one d old new k to l rows cols =
 pub from_row-before : (d : Dims) (old new : Parts) (k : ℕ) (to : ℕ × ℕ) (v : Interval) → AreOverlapping d.cols old.c (part d.cols new.c to.1) v → v.first + v.len ≤ old.c → from_row d old new k to (range_with_len 0 v.first) ≡ []
 from_row-before d old new k to v exactly inside =
     nothing_before (from_row d old new k to) (from_row-append d old new k to) refl v.first (λ l below.
-        from_row-apart d old new k to l (apart d.cols old.c (part d.cols new.c to.1) v l exactly (omega arith) (λ lies. absurd (omega (arith, lies.0)))))
+    from_row-apart d old new k to l (apart d.cols old.c (part d.cols new.c to.1) v l exactly (omega arith) (λ lies. absurd (omega (arith, lies.0)))))
 
 pub from_row-after : (d : Dims) (old new : Parts) (k : ℕ) (to : ℕ × ℕ) (v : Interval) → AreOverlapping d.cols old.c (part d.cols new.c to.1) v → v.first + v.len ≤ old.c → from_row d old new k to (range_with_len 0 old.c) ≡ from_row d old new k to (range_with_len 0 (v.first + v.len))
 from_row-after d old new k to v exactly inside =
     nothing_after (from_row d old new k to) (from_row-append d old new k to) (v.first + v.len) old.c inside (λ l from below.
-        from_row-apart d old new k to l (apart d.cols old.c (part d.cols new.c to.1) v l exactly below (λ lies. absurd (omega (arith, lies.1)))))
+    from_row-apart d old new k to l (apart d.cols old.c (part d.cols new.c to.1) v l exactly below (λ lies. absurd (omega (arith, lies.1)))))
 
 -- the pastes to a child from the children of some row parts of the old plan
 abbrev pub from_rows : Dims → Parts → Parts → ℕ × ℕ → List ℕ → List Paste
@@ -80,12 +80,12 @@ from_rows-apart d old new to k none =
 pub from_rows-before : (d : Dims) (old new : Parts) (to : ℕ × ℕ) (v : Interval) → AreOverlapping d.rows old.r (part d.rows new.r to.0) v → v.first + v.len ≤ old.r → from_rows d old new to (range_with_len 0 v.first) ≡ []
 from_rows-before d old new to v exactly inside =
     nothing_before (from_rows d old new to) (from_rows-append d old new to) refl v.first (λ k below.
-        from_rows-apart d old new to k (apart d.rows old.r (part d.rows new.r to.0) v k exactly (omega arith) (λ lies. absurd (omega (arith, lies.0)))))
+    from_rows-apart d old new to k (apart d.rows old.r (part d.rows new.r to.0) v k exactly (omega arith) (λ lies. absurd (omega (arith, lies.0)))))
 
 pub from_rows-after : (d : Dims) (old new : Parts) (to : ℕ × ℕ) (v : Interval) → AreOverlapping d.rows old.r (part d.rows new.r to.0) v → v.first + v.len ≤ old.r → from_rows d old new to (range_with_len 0 old.r) ≡ from_rows d old new to (range_with_len 0 (v.first + v.len))
 from_rows-after d old new to v exactly inside =
     nothing_after (from_rows d old new to) (from_rows-append d old new to) (v.first + v.len) old.r inside (λ k from below.
-        from_rows-apart d old new to k (apart d.rows old.r (part d.rows new.r to.0) v k exactly below (λ lies. absurd (omega (arith, lies.1)))))
+    from_rows-apart d old new to k (apart d.rows old.r (part d.rows new.r to.0) v k exactly below (λ lies. absurd (omega (arith, lies.1)))))
 
 -- the pastes to some children of row part i of the new plan
 abbrev pub to_row : Dims → Parts → Parts → ℕ → List ℕ → List Paste

@@ -152,6 +152,6 @@ pastes_of-repartition d old new fits_old fits_new a blank blanks to place =
     let dims = dims-pastes (children_in d old a) to ps blank ∙ (blanks to place).1 in
     let blank_dims = (blanks to place).1 in
     same_arrays (after_pastes (children_in d old a) blank ps to) (window a n) dims (IsWhole-pastes (children_in d old a) to ps blank (blanks to place).0) (IsWhole-tabulate (dims_of n) (λ i j. element a (n.row + i) (n.col + j))) (λ i j in_rows in_cols.
-        let in_new_rows : i < n.rows = omega (arith, ap (λ (e : Dims). e.rows) dims) in
-        let in_new_cols : j < n.cols = omega (arith, ap (λ (e : Dims). e.cols) dims) in
-        element-pastes (children_in d old a) (element a (n.row + i) (n.col + j)) to i j ps (pastes_of-right d old new a to i j) blank (omega (arith, ap (λ (e : Dims). e.rows) blank_dims)) (omega (arith, ap (λ (e : Dims). e.cols) blank_dims)) ∙ cond-true _ _ _ (pastes_of-cover d old new to i j fits_old fits_new place in_new_rows in_new_cols) ∙ sym (element-window a n i j in_new_rows in_new_cols))
+    let in_new_rows : i < n.rows = omega (arith, ap (λ (e : Dims). e.rows) dims) in
+    let in_new_cols : j < n.cols = omega (arith, ap (λ (e : Dims). e.cols) dims) in
+    element-pastes (children_in d old a) (element a (n.row + i) (n.col + j)) to i j ps (pastes_of-right d old new a to i j) blank (omega (arith, ap (λ (e : Dims). e.rows) blank_dims)) (omega (arith, ap (λ (e : Dims). e.cols) blank_dims)) ∙ cond-true _ _ _ (pastes_of-cover d old new to i j fits_old fits_new place in_new_rows in_new_cols) ∙ sym (element-window a n i j in_new_rows in_new_cols))

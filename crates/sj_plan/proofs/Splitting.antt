@@ -22,22 +22,22 @@ part_first-closed n p (suc k) = closed_step _ (n / p) (n % p) k (part_first-clos
 pub ends_before : (n p j k : ℕ) → j < k → part_first n p j + part_len n p j ≤ part_first n p k
 ends_before n p j zero h = omega arith
 ends_before n p j (suc k) h = elim (cases_order j k) as (λ _. part_first n p j + part_len n p j ≤ part_first n p k + part_len n p k) [
-    inl e ↦ rw e (omega arith)
+  | inl e ↦ rw e (omega arith)
   | inr o ↦ elim o as (λ _. part_first n p j + part_len n p j ≤ part_first n p k + part_len n p k) [
-        inl l ↦ (let before = ends_before n p j k l in omega arith)
-      | inr g ↦ omega arith
-    ]
+    | inl l ↦ (let before = ends_before n p j k l in omega arith)
+    | inr g ↦ omega arith
   ]
+]
 
 -- an index lies in one part at most
 pub lies_alone : (n p x j k : ℕ) → Lies x (part n p j) → Lies x (part n p k) → j ≡ k
 lies_alone n p x j k a b = elim (cases_order j k) as (λ _. j ≡ k) [
-    inl e ↦ e
+  | inl e ↦ e
   | inr o ↦ elim o as (λ _. j ≡ k) [
-        inl l ↦ (let before = ends_before n p j k l in absurd (omega arith))
-      | inr g ↦ (let before = ends_before n p k j g in absurd (omega arith))
-    ]
+    | inl l ↦ (let before = ends_before n p j k l in absurd (omega arith))
+    | inr g ↦ (let before = ends_before n p k j g in absurd (omega arith))
   ]
+]
 
 pos_factor : (d q y : ℕ) → y < d * q → 0 < q
 pos_factor d zero y h = absurd (omega arith)
@@ -85,34 +85,34 @@ pub part_len-positive : (n p k : ℕ) → 0 < p → p ≤ n → 0 < part_len n p
 part_len-positive n p k some enough =
     let one = le-div 1 n p some (omega arith) in
     elim (cases_lt k (n % p)) as (λ _. 0 < part_len n p k) [
-        inl long ↦ rw (lt-ltb k (n % p) long) (omega arith)
+      | inl long ↦ rw (lt-ltb k (n % p) long) (omega arith)
       | inr short ↦ rw (le-ltb k (n % p) short) (omega arith)
     ]
 
 -- the parts that hold the first and the last index of an interval stand in order
 pub holders-ordered : (n p x y j k : ℕ) → x ≤ y → Lies x (part n p j) → Lies y (part n p k) → j ≤ k
 holders-ordered n p x y j k h a b = elim (cases_lt k j) as (λ _. j ≤ k) [
-    inl back ↦ (let before = ends_before n p k j back in absurd (omega arith))
+  | inl back ↦ (let before = ends_before n p k j back in absurd (omega arith))
   | inr le ↦ le
-  ]
+]
 
 starts_before : (n p k m x end : ℕ) → k ≤ m → Lies x (part n p m) → x < end → part_first n p k < end
 starts_before n p k m x end upto last h = elim (cases_order k m) as (λ _. part_first n p k < end) [
-    inl e ↦ (let same = ap (part_first n p) e in omega arith)
+  | inl e ↦ (let same = ap (part_first n p) e in omega arith)
   | inr o ↦ elim o as (λ _. part_first n p k < end) [
-        inl l ↦ (let before = ends_before n p k m l in omega arith)
-      | inr g ↦ absurd (omega arith)
-    ]
+    | inl l ↦ (let before = ends_before n p k m l in omega arith)
+    | inr g ↦ absurd (omega arith)
   ]
+]
 
 ends_after : (n p j k x : ℕ) → j ≤ k → Lies x (part n p j) → x < part_first n p k + part_len n p k
 ends_after n p j k x from first = elim (cases_order j k) as (λ _. x < part_first n p k + part_len n p k) [
-    inl e ↦ (let same = ap (λ i. part_first n p i + part_len n p i) e in omega arith)
+  | inl e ↦ (let same = ap (λ i. part_first n p i + part_len n p i) e in omega arith)
   | inr o ↦ elim o as (λ _. x < part_first n p k + part_len n p k) [
-        inl l ↦ (let before = ends_before n p j k l in omega arith)
-      | inr g ↦ absurd (omega arith)
-    ]
+    | inl l ↦ (let before = ends_before n p j k l in omega arith)
+    | inr g ↦ absurd (omega arith)
   ]
+]
 
 -- the parts from the one that holds the interval's first index to the one that holds its last
 -- are those that share an index with it
@@ -126,21 +126,23 @@ overlap_from_between n p j m k v some enough long first last from upto =
 pub between_from_overlap : (n p j m k : ℕ) (v : Interval) → 0 < v.len → Lies v.first (part n p j) → Lies (v.first + (v.len - 1)) (part n p m) → 0 < (shared (part n p k) v).len → (j ≤ k) × (k ≤ m)
 between_from_overlap n p j m k v long first last meets =
     let starts : part_first n p k < v.first + v.len = omega arith in
-    let ends : v.first < part_first n p k + part_len n p k = omega arith in
-    (elim (cases_lt k j) as (λ _. j ≤ k) [
-        inl back ↦ (let before = ends_before n p k j back in absurd (omega arith))
-      | inr le ↦ le
-    ], elim (cases_lt m k) as (λ _. k ≤ m) [
-        inl past ↦ (let before = ends_before n p m k past in absurd (omega arith))
-      | inr le ↦ le
-    ])
+    let ends : v.first < part_first n p k + part_len n p k = omega arith in (
+      elim (cases_lt k j) as (λ _. j ≤ k) [
+        | inl back ↦ (let before = ends_before n p k j back in absurd (omega arith))
+        | inr le ↦ le
+      ],
+      elim (cases_lt m k) as (λ _. k ≤ m) [
+        | inl past ↦ (let before = ends_before n p m k past in absurd (omega arith))
+        | inr le ↦ le
+      ],
+    )
 
 -- each item lies in a part
 pub held : (n p x : ℕ) → 0 < p → x < n → (k : ℕ) × ((k < p) × Lies x (part n p k))
 held n p x some here = elim (cases_lt x (n % p * (n / p + 1))) as (λ _. (k : ℕ) × ((k < p) × Lies x (part n p k))) [
-    inl front ↦ (x / (n / p + 1), held_by_longer n p x some front)
+  | inl front ↦ (x / (n / p + 1), held_by_longer n p x some front)
   | inr back ↦ (n % p + (x - n % p * (n / p + 1)) / (n / p), held_by_shorter n p x some here back)
-  ]
+]
 
 -- a part ends among the items
 pub part_end : (n p k : ℕ) → k < p → part_first n p k + part_len n p k ≤ n

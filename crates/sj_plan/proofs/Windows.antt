@@ -148,7 +148,7 @@ written-outside a r b i j h = cond-false (holds r i j) _ _ (holds-false r i j h)
 pub gathered_none : (a : Array) (r : Rect) (b : Array) → IsWhole a → a.elements ≡ (with_window a (record r { rows = 0 }) b).elements
 gathered_none a r b whole =
     same_tables a.elements _ a.dims.rows a.dims.cols whole (IsWhole-tabulate a.dims (written a (record r { rows = 0 }) b)) (λ i j in_rows in_cols.
-        sym (element-with_window a (record r { rows = 0 }) b i j in_rows in_cols ∙ written-outside a (record r { rows = 0 }) b i j (λ h. absurd (omega (arith, h.0.0, h.0.1)))))
+    sym (element-with_window a (record r { rows = 0 }) b i j in_rows in_cols ∙ written-outside a (record r { rows = 0 }) b i j (λ h. absurd (omega (arith, h.0.0, h.0.1)))))
 
 -- the tests of a row that is not the one being written
 same_test : (row k i : ℕ) → (i < row + k) ⊎ (row + k < i) → ltb i (row + k) ≡ ltb i (row + (k + 1))
@@ -207,18 +207,18 @@ this_row a r b k now row w i j in_rows in_cols here =
     let start : i * a.dims.cols ≡ (r.row + k) * a.dims.cols = ap (λ n. n * a.dims.cols) here in
     let not_yet = written-outside a (record r { rows = k }) b i j (λ h. absurd (omega (arith, h.0.1))) in
     elim (cases_lt j r.col) as (λ _. WritesPlace a r b k now row i j) [
-        inl left ↦ put_before s r.cols now row at (omega arith) (omega arith) ∙ place_before a r b k now row w i j in_rows in_cols ∙ not_yet ∙ sym (written-outside a (record r { rows = k + 1 }) b i j (λ h. absurd (omega (arith, h.1.0))))
+      | inl left ↦ put_before s r.cols now row at (omega arith) (omega arith) ∙ place_before a r b k now row w i j in_rows in_cols ∙ not_yet ∙ sym (written-outside a (record r { rows = k + 1 }) b i j (λ h. absurd (omega (arith, h.1.0))))
       | inr from ↦ elim (cases_lt j (r.col + r.cols)) as (λ _. WritesPlace a r b k now row i j) [
-            inl inside ↦ ap (λ n. get_or (Put s r.cols now row) n (pos 0)) (at_place _ _ r.col j from start) ∙ put_within s r.cols now row (j - r.col) (omega arith) (omega (arith, w.long_row)) ∙ w.copied (j - r.col) (omega arith) ∙ ap (λ n. element b n (j - r.col)) (omega arith) ∙ sym (written-inside a (record r { rows = k + 1 }) b i j ((omega arith, omega arith), (from, inside)))
-          | inr right ↦ put_after s r.cols now row at (omega arith) w.long_row (omega arith) ∙ place_before a r b k now row w i j in_rows in_cols ∙ not_yet ∙ sym (written-outside a (record r { rows = k + 1 }) b i j (λ h. absurd (omega (arith, h.1.1))))
-        ]
+        | inl inside ↦ ap (λ n. get_or (Put s r.cols now row) n (pos 0)) (at_place _ _ r.col j from start) ∙ put_within s r.cols now row (j - r.col) (omega arith) (omega (arith, w.long_row)) ∙ w.copied (j - r.col) (omega arith) ∙ ap (λ n. element b n (j - r.col)) (omega arith) ∙ sym (written-inside a (record r { rows = k + 1 }) b i j ((omega arith, omega arith), (from, inside)))
+        | inr right ↦ put_after s r.cols now row at (omega arith) w.long_row (omega arith) ∙ place_before a r b k now row w i j in_rows in_cols ∙ not_yet ∙ sym (written-outside a (record r { rows = k + 1 }) b i j (λ h. absurd (omega (arith, h.1.1))))
+      ]
     ]
 
 writes_place : (a : Array) (r : Rect) (b : Array) (k : ℕ) (now row : List ℤ) → Writing a r b k now row → (i j : ℕ) → i < a.dims.rows → j < a.dims.cols → WritesPlace a r b k now row i j
 writes_place a r b k now row w i j in_rows in_cols = elim (cases_order i (r.row + k)) as (λ _. WritesPlace a r b k now row i j) [
-    inl here ↦ this_row a r b k now row w i j in_rows in_cols here
+  | inl here ↦ this_row a r b k now row w i j in_rows in_cols here
   | inr other ↦ other_row a r b k now row w i j in_rows in_cols other
-  ]
+]
 
 -- one row more of a rectangle that is written
 pub gathered_more : (a : Array) (r : Rect) (b : Array) (k : ℕ) (now row : List ℤ) (d : Dims) (xs : List ℤ) → Within r a.dims → IsWhole b → b.dims ≡ dims_of r → d ≡ a.dims → xs ≡ b.elements → k < r.rows → now ≡ (with_window a (record r { rows = k }) b).elements → row ≡ take (k * r.cols + r.cols - k * r.cols) (drop (k * r.cols) xs) → put_mid ((r.row + k) * d.cols + r.col) ((r.row + k) * d.cols + r.col + r.cols - ((r.row + k) * d.cols + r.col)) now row ≡ (with_window a (record r { rows = k + 1 }) b).elements
@@ -251,7 +251,7 @@ pub window-with_window : (a : Array) (r : Rect) (b : Array) → Within r a.dims 
 window-with_window a r b within whole dims =
     let inner = with_window a r b in
     same_arrays (window inner r) b (sym dims) (IsWhole-tabulate (dims_of r) (λ i j. element inner (r.row + i) (r.col + j))) whole (λ i j in_rows in_cols.
-        element-tabulate (dims_of r) (λ i j. element inner (r.row + i) (r.col + j)) i j in_rows in_cols ∙ element-with_window a r b (r.row + i) (r.col + j) (omega (arith, within.0)) (omega (arith, within.1)) ∙ written-inside a r b (r.row + i) (r.col + j) ((omega arith, omega arith), (omega arith, omega arith)) ∙ ap (λ n. element b n (r.col + j - r.col)) (omega arith) ∙ ap (λ n. element b i n) (omega arith))
+    element-tabulate (dims_of r) (λ i j. element inner (r.row + i) (r.col + j)) i j in_rows in_cols ∙ element-with_window a r b (r.row + i) (r.col + j) (omega (arith, within.0)) (omega (arith, within.1)) ∙ written-inside a r b (r.row + i) (r.col + j) ((omega arith, omega arith), (omega arith, omega arith)) ∙ ap (λ n. element b n (r.col + j - r.col)) (omega arith) ∙ ap (λ n. element b i n) (omega arith))
 
 -- all rows of a window
 pub window_all : (a : Array) (r : Rect) (i : ℕ) (taken : List ℤ) → i ≡ r.rows → taken ≡ flat_map (table_row (λ i j. element a (r.row + i) (r.col + j)) r.cols) (range_with_len 0 i) → array (dims_of r) taken ≡ window a r

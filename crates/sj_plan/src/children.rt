@@ -1,7 +1,16 @@
 //! The children of a partition plan.
 
 ghost use Rattle.std.specs.Prelude.{
-    ◌≡◌, ◌+◌, ◌<◌, ◌≤◌, ◌++◌, ℕ, map, count_by, IfOk, OnOk
+  ◌≡◌,
+  ◌+◌,
+  ◌<◌,
+  ◌≤◌,
+  ◌++◌,
+  ℕ,
+  map,
+  count_by,
+  IfOk,
+  OnOk,
 };
 ghost use Rattle.std.specs.List.{range_with_len};
 ghost use Rattle.sj_plan.specs.Parts.{Fits};
@@ -49,11 +58,7 @@ pub fn child_holding(dims: Dims, parts: Parts, row: u32, col: u32) -> (u32, u32)
 }
 
 /// All children, row by row. Linear in their number.
-pub fn children(
-    alloc: Global,
-    dims: Dims,
-    parts: Parts,
-) -> Result<Sequence<Rect>, OutOfMemory>
+pub fn children(alloc: Global, dims: Dims, parts: Parts) -> Result<Sequence<Rect>, OutOfMemory>
     requires plan { Fits parts dims }
     ensures children { IfOk result (λ rects. rects ≡ children_of dims parts) }
 

@@ -1,7 +1,17 @@
 //! Intervals of indices, and how items are split into parts, one after another.
 
 ghost use Rattle.std.specs.Prelude.{
-    ◌≡◌, ◌+◌, ◌*◌, ◌/◌, ◌%◌, ◌^◌, ◌<◌, ◌≤◌, ◌↔◌, ℕ, min
+  ◌≡◌,
+  ◌+◌,
+  ◌*◌,
+  ◌/◌,
+  ◌%◌,
+  ◌^◌,
+  ◌<◌,
+  ◌≤◌,
+  ◌↔◌,
+  ℕ,
+  min,
 };
 ghost use Rattle.sj_plan.specs.Interval.{Lies, part, shared};
 

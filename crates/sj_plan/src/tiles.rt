@@ -47,9 +47,9 @@ pub fn gather(into: &mut Tile, rect: Rect, child: &Tile)
     let width = rect.cols as usize;
     let from = child.elements();
     let elements = into.elements_mut();
-    for i in 0..rect.rows {
-        let start = (rect.row + i) as usize * across + rect.col as usize;
-        let at = i as usize * width;
+    for k in 0..rect.rows {
+        let start = (rect.row + k) as usize * across + rect.col as usize;
+        let at = k as usize * width;
         elements[start..start + width].copy_from_slice(&from[at..at + width]);
     }
 }

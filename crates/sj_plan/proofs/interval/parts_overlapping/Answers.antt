@@ -10,7 +10,9 @@ overflow_sub-result c =
 pub returns-clause-exactly : goal.returns-clause-exactly
 returns-clause-exactly c = λ k below.
     let first = c.part_holding-first in
-    let last = c.part_holding-last in
-    (λ lies. overlap_from_between c.args.items c.args.parts first.result last.result k c.args.of c.requires.some_parts c.requires.none_empty c.requires.not_empty first.ensures.holds last.ensures.holds (omega arith) (omega arith), λ meets.
-        let between = between_from_overlap c.args.items c.args.parts first.result last.result k c.args.of c.requires.not_empty first.ensures.holds last.ensures.holds meets in
-        (between.0, omega arith))
+    let last = c.part_holding-last in (
+      λ lies. overlap_from_between c.args.items c.args.parts first.result last.result k c.args.of c.requires.some_parts c.requires.none_empty c.requires.not_empty first.ensures.holds last.ensures.holds (omega arith) (omega arith),
+      λ meets.
+          let between = between_from_overlap c.args.items c.args.parts first.result last.result k c.args.of c.requires.not_empty first.ensures.holds last.ensures.holds meets in
+          (between.0, omega arith),
+    )

@@ -2,7 +2,7 @@ use Rattle.std.proofs.Common.{◌≡◌}
 use Rattle.sj_plan.specs.Window.{with_window}
 use Rattle.sj_plan.proofs.tiles.gather.Given as goal
 
--- the first i rows of the rectangle are there
-abbrev pub invariant-loop-i : goal.invariant-loop-i
-invariant-loop-i l =
-    l.elements ≡ (with_window l.fn.into (record l.rect { rows = l.i }) l.fn.child).elements
+-- the first k rows of the rectangle are there
+abbrev pub invariant-loop-k : goal.invariant-loop-k
+invariant-loop-k l =
+    l.elements ≡ (with_window l.fn.into (record l.rect { rows = l.k }) l.fn.child).elements
