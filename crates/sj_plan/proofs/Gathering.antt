@@ -1,5 +1,5 @@
 -- A plan's children hold each element once, and put back they make the array again.
-use Rattle.std.proofs.Common.{◌≡◌, ℕ, ℤ, ◌+◌, ◌-◌, ◌<◌, ◌≤◌, Bool, true, false, cond, ◌||◌, List, [], ◌∷◌, map, sym, ap, refl, ◌∙◌, arith}
+use Rattle.std.proofs.Common.{◌≡◌, ℕ, ℤ, ◌+◌, ◌-◌, ◌<◌, Bool, true, false, cond, ◌||◌, List, [], ◌∷◌, sym, ap, refl, ◌∙◌, arith}
 use Rattle.std.specs.List.{fold, list_any}
 use Rattle.std.proofs.lemmas.Bool.{cond-true}
 use Rattle.sj_base.specs.declared.tile.Dims.{Dims}
@@ -7,7 +7,7 @@ use Rattle.sj_base.specs.Array.{Array}
 use Rattle.sj_plan.specs.declared.parts.Parts.{Parts}
 use Rattle.sj_plan.specs.declared.rect.Rect.{Rect}
 use Rattle.sj_plan.specs.Parts.{Fits, places}
-use Rattle.sj_plan.specs.Rect.{Holds, holds, child, children_of}
+use Rattle.sj_plan.specs.Rect.{holds, child, children_of}
 use Rattle.sj_plan.specs.Window.{element, window, with_window, IsWhole, Reassemble}
 use Rattle.sj_plan.proofs.Lists.{any-map, any-places}
 use Rattle.sj_plan.proofs.Splitting.{held}

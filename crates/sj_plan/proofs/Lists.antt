@@ -1,10 +1,10 @@
 -- Lists that a loop makes over the numbers from 0 on.
-use Rattle.std.proofs.Common.{◌≡◌, ℕ, zero, suc, ◌+◌, ◌-◌, ◌*◌, ◌<◌, ◌≤◌, Bool, true, false, cond, ◌&&◌, ◌||◌, List, [], ◌∷◌, ◌++◌, map, sym, ap, refl, ◌∙◌, zero-add, zero-mul, arith}
-use Rattle.std.specs.List.{AllByRecursion, filter, flat_map, range_with_len, count_by, sum_by, list_any}
+use Rattle.std.proofs.Common.{◌≡◌, ℕ, zero, suc, ◌+◌, ◌-◌, ◌*◌, ◌<◌, ◌≤◌, Bool, true, false, cond, ◌&&◌, ◌||◌, List, [], ◌∷◌, ◌++◌, map, sym, ap, refl, ◌∙◌, zero-mul, arith}
+use Rattle.std.specs.List.{AllByRecursion, filter, flat_map, range_with_len, count_by, list_any}
 use Rattle.std.proofs.lemmas.List.{append_assoc, append-nil, map-append, map-id}
 use Rattle.std.proofs.lemmas.List.Concat.{flat_map-append}
 use Rattle.std.proofs.lemmas.List.FromFn.{map-range_with_len_more}
-use Rattle.std.proofs.lemmas.List.Sums.{sum_by-cons, sum_by-append, sum_by_push}
+use Rattle.std.proofs.lemmas.List.Sums.{sum_by-cons, sum_by-append}
 use Rattle.std.proofs.lemmas.List.FromFn.{length-range_with_len, get_or-range_with_len}
 use Rattle.std.proofs.lemmas.List.Folds.{list_any_at, list_any-append}
 use Rattle.sj_plan.specs.declared.parts.Parts.{Parts}

@@ -1,9 +1,7 @@
 -- The pastes of two plans, applied in order to the old plan's children, make the new plan's.
-use Rattle.std.proofs.Common.{◌≡◌, ℕ, ℤ, ◌+◌, ◌-◌, ◌*◌, ◌/◌, ◌%◌, ◌<◌, ◌≤◌, Bool, true, false, cond, ◌&&◌, ◌||◌, eqb, ltb, List, [], ◌∷◌, ◌++◌, map, length, sym, ap, refl, ◌∙◌, arith, inl, inr}
-use Rattle.std.specs.List.{All, AllByRecursion, filter, flat_map, range_with_len, list_any, fold}
-use Rattle.std.proofs.lemmas.List.FromFn.{length-range_with_len, get_or-range_with_len}
-use Rattle.std.proofs.lemmas.List.Folds.{list_any_at, list_any-append}
-use Rattle.std.proofs.lemmas.Bool.{lt-ltb, ltb-true, and_from, and_parts, eqb-true, eq-eqb, cond-true, or_left, or_right}
+use Rattle.std.proofs.Common.{◌≡◌, ℕ, ℤ, ◌+◌, ◌-◌, ◌<◌, ◌≤◌, Bool, true, false, cond, ◌&&◌, ◌||◌, eqb, ltb, List, [], ◌∷◌, map, sym, ap, refl, ◌∙◌, arith}
+use Rattle.std.specs.List.{All, AllByRecursion, flat_map, list_any}
+use Rattle.std.proofs.lemmas.Bool.{lt-ltb, ltb-true, and_from, and_parts, eqb-true, eq-eqb, cond-true}
 use Rattle.std.proofs.lemmas.List.Elements.{All-from_recursion}
 use Rattle.sj_base.specs.declared.tile.Dims.{Dims}
 use Rattle.sj_base.specs.Array.{Array}
@@ -11,13 +9,13 @@ use Rattle.sj_plan.specs.declared.interval.Interval.{Interval}
 use Rattle.sj_plan.specs.declared.parts.Parts.{Parts}
 use Rattle.sj_plan.specs.declared.paste.Paste.{Paste}
 use Rattle.sj_plan.specs.declared.rect.Rect.{Rect}
-use Rattle.sj_plan.specs.Interval.{Lies, part, part_first, shared}
+use Rattle.sj_plan.specs.Interval.{Lies, part_first, shared}
 use Rattle.sj_plan.specs.Parts.{Fits, IsPlace, places}
-use Rattle.sj_plan.specs.Rect.{Holds, holds, rows_of, cols_of, child}
+use Rattle.sj_plan.specs.Rect.{holds, rows_of, cols_of, child}
 use Rattle.sj_plan.specs.Window.{element, dims_of, window, with_window, IsWhole}
-use Rattle.sj_plan.specs.Paste.{paste_at, overlaps, pastes_of, from_rect, to_rect, Children, AreChildren, after_paste, after_pastes, children_in, Repartition, IsBetween}
+use Rattle.sj_plan.specs.Paste.{paste_at, overlaps, pastes_of, from_rect, to_rect, Children, after_paste, after_pastes, children_in, Repartition, IsBetween}
 use Rattle.sj_plan.proofs.Lists.{each-map, each-flat_map, each-filter, each-places, any-map, any-flat_map, any-filter, any-places}
-use Rattle.sj_plan.proofs.Splitting.{held, ends_before, part_end}
+use Rattle.sj_plan.proofs.Splitting.{held, part_end}
 use Rattle.sj_plan.proofs.Windows.{element-with_window, element-window, holds-true, Holds-from_true, IsWhole-tabulate, same_arrays}
 
 -- the paste writes element (i, j) of a child

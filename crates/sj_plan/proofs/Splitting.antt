@@ -1,9 +1,8 @@
 -- Parts of an interval: their closed form, that they stand in order, and that they tile it.
-use Rattle.std.proofs.Common.{◌≡◌, ℕ, zero, suc, ◌+◌, ◌-◌, ◌*◌, ◌/◌, ◌%◌, ◌<◌, ◌≤◌, cond, ltb, min, sym, ap, refl, ◌∙◌, subst, arith, rules, inl, inr, ◌⊎◌}
+use Rattle.std.proofs.Common.{◌≡◌, ℕ, zero, suc, ◌+◌, ◌-◌, ◌*◌, ◌/◌, ◌%◌, ◌<◌, ◌≤◌, cond, ltb, min, sym, ap, refl, ◌∙◌, arith, inl, inr}
 use Rattle.std.proofs.lemmas.Bool.Decides.{nat_tests}
 use Rattle.std.proofs.lemmas.Bool.{cases_lt, cases_order, lt-ltb, le-ltb}
 use Rattle.std.proofs.lemmas.Nat.{div_below, le-div}
-use Rattle.std.proofs.lemmas.Grind.{common_steps}
 use Rattle.sj_plan.specs.declared.interval.Interval.{Interval}
 use Rattle.sj_plan.specs.Interval.{Lies, part, part_first, part_len, shared}
 

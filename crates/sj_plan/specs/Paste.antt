@@ -1,5 +1,5 @@
 -- Pastes: the copies that turn the children of one plan into those of another.
-use Rattle.std.specs.Prelude.{ℕ, ◌≡◌, ◌+◌, ◌-◌, ◌<◌, ◌==◌, Bool, ◌&&◌, nat_lt, List, map, if◌then◌else◌}
+use Rattle.std.specs.Prelude.{ℕ, ◌≡◌, ◌-◌, ◌<◌, ◌==◌, Bool, ◌&&◌, nat_lt, List, map, if◌then◌else◌}
 use Rattle.std.specs.List.{flat_map, filter, fold}
 use Rattle.sj_base.specs.declared.tile.Dims.{Dims}
 use Rattle.sj_base.specs.Array.{Array}

@@ -1,10 +1,10 @@
 -- The elements of an array, and a rectangle of it read and written.
-use Rattle.std.specs.Prelude.{ℕ, ℤ, pos, ◌≡◌, ◌+◌, ◌-◌, ◌*◌, ◌<◌, List, map, length, if◌then◌else◌}
+use Rattle.std.specs.Prelude.{ℕ, ℤ, pos, ◌≡◌, ◌+◌, ◌-◌, ◌*◌, List, map, length, if◌then◌else◌}
 use Rattle.std.specs.List.{flat_map, fold, range_with_len, slice_index_or}
 use Rattle.sj_base.specs.declared.tile.Dims.{Dims}
 use Rattle.sj_base.specs.Array.{Array, area, array}
 use Rattle.sj_plan.specs.declared.rect.Rect.{Rect}
-use Rattle.sj_plan.specs.Rect.{Holds, holds}
+use Rattle.sj_plan.specs.Rect.{holds}
 
 -- the element in row i and column j
 abbrev pub element : Array → ℕ → ℕ → ℤ

@@ -1,17 +1,6 @@
 //! The children of a partition plan.
 
-ghost use Rattle.std.specs.Prelude.{
-  ◌≡◌,
-  ◌+◌,
-  ◌<◌,
-  ◌≤◌,
-  ◌++◌,
-  ℕ,
-  map,
-  count_by,
-  IfOk,
-  OnOk,
-};
+ghost use Rattle.std.specs.Prelude.{◌≡◌, ◌+◌, ◌<◌, ◌≤◌, ◌++◌, ℕ, map, count_by, IfOk, OnOk};
 ghost use Rattle.std.specs.List.{range_with_len};
 ghost use Rattle.sj_plan.specs.Parts.{Fits};
 ghost use Rattle.sj_plan.specs.Rect.{IsOnlyChild, Within, child, children_of, holds};

@@ -1,18 +1,6 @@
 //! Intervals of indices, and how items are split into parts, one after another.
 
-ghost use Rattle.std.specs.Prelude.{
-  ◌≡◌,
-  ◌+◌,
-  ◌*◌,
-  ◌/◌,
-  ◌%◌,
-  ◌^◌,
-  ◌<◌,
-  ◌≤◌,
-  ◌↔◌,
-  ℕ,
-  min,
-};
+ghost use Rattle.std.specs.Prelude.{◌≡◌, ◌+◌, ◌*◌, ◌/◌, ◌%◌, ◌^◌, ◌<◌, ◌≤◌, ◌↔◌, ℕ, min};
 ghost use Rattle.sj_plan.specs.Interval.{Lies, part, shared};
 
 /// `len` indices in a row, from `first` on.

@@ -1,5 +1,7 @@
 //! Worked examples, with answers by hand.
 
+ghost use Rattle.std.specs.Prelude.{◌≡◌};
+
 use crate::children::{child_holding, children};
 use crate::interval::{Interval, part, parts_overlapping};
 use crate::parts::Parts;
@@ -30,7 +32,9 @@ fn the_first_parts_take_the_remainder(rt: HostRuntime) {
     assert_eq!(rt; overlapping, Interval { first: 1, len: 2 });
 }
 
-fn rect(row: u32, col: u32, rows: u32, cols: u32) -> Rect {
+fn rect(row: u32, col: u32, rows: u32, cols: u32) -> Rect
+    ensures { result ≡ record { row = row; col = col; rows = rows; cols = cols } }
+{
     Rect {
         row,
         col,

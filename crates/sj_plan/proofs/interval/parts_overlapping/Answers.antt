@@ -1,4 +1,4 @@
-use Rattle.std.proofs.Common.{◌≤◌, ◌+◌, ◌-◌, arith}
+use Rattle.std.proofs.Common.{◌+◌, ◌-◌, arith}
 use Rattle.sj_plan.proofs.Splitting.{holders-ordered, overlap_from_between, between_from_overlap}
 use Rattle.sj_plan.proofs.interval.parts_overlapping.Goals as goal
 

@@ -1,8 +1,7 @@
-use Rattle.std.proofs.Common.{◌≡◌, ◌+◌, ◌++◌, ◌∷◌, [], ℕ, ◌∙◌, sym, ap, subst, arith}
+use Rattle.std.proofs.Common.{◌≡◌, ◌+◌, ◌++◌, ◌∷◌, [], ◌∙◌, sym, ap, subst, arith}
 use Rattle.std.specs.List.{range_with_len}
 use Rattle.std.proofs.lemmas.List.{append-nil}
 use Rattle.sj_plan.specs.declared.interval.Interval.{Interval}
-use Rattle.sj_plan.specs.Interval.{part}
 use Rattle.sj_plan.proofs.Lists.{appended_more}
 use Rattle.sj_plan.proofs.Overlapping.{AreOverlapping, from_row, from_row-append, from_row-one, from_row-before, from_row-after}
 use Rattle.sj_plan.proofs.paste.push_between.Goals as goal

@@ -1,8 +1,7 @@
-use Rattle.std.proofs.Common.{◌≡◌, ◌+◌, ◌++◌, ℕ, ◌∙◌, sym, ap, subst, arith}
+use Rattle.std.proofs.Common.{◌≡◌, ◌+◌, ◌++◌, ◌∙◌, sym, ap, subst, arith}
 use Rattle.std.specs.List.{range_with_len}
 use Rattle.std.proofs.lemmas.List.{append-nil}
 use Rattle.sj_plan.specs.declared.interval.Interval.{Interval}
-use Rattle.sj_plan.specs.Interval.{part}
 use Rattle.sj_plan.proofs.Lists.{appended_more}
 use Rattle.sj_plan.proofs.Overlapping.{AreOverlapping, from_rows, from_rows-append, from_rows-one, from_rows-before, from_rows-after}
 use Rattle.sj_plan.proofs.paste.push_to.Goals as goal

@@ -10,7 +10,7 @@ loop-k-init c =
 
 pub loop-k-preserved : goal.loop-k-preserved
 loop-k-preserved c =
-    gathered_more c.args.into.now c.args.rect c.args.child.now c.loop-k.k c.loop-k.elements c.copy_from_slice.new.self c.dims-across.result c.elements-from.result.now c.requires.within c.elements-from.ensures.whole c.requires.dims c.dims-across.ensures.dims c.elements-from.ensures.elements c.loop-k-test.true c.loop-k.knvariant c.copy_from_slice.ensures.after
+    gathered_more c.args.into.now c.args.rect c.args.child.now c.loop-k.k c.loop-k.elements c.copy_from_slice.new.self c.dims-across.result c.elements-from.result.now c.requires.within c.elements-from.ensures.whole c.requires.dims c.dims-across.ensures.dims c.elements-from.ensures.elements c.loop-k-test.true c.loop-k.invariant c.copy_from_slice.ensures.after
 
 pub returns-clause-child_there : goal.returns-clause-child_there
 returns-clause-child_there c =
@@ -18,7 +18,7 @@ returns-clause-child_there c =
     let r = c.args.rect in
     let b = c.args.child.now in
     let last : c.loop-k.k ≡ r.rows = omega arith in
-    ap (λ (x : Array). window x r) (written_back a r b c.loop-k.elements c.loop-k.k c.dims-across.ensures.whole last c.loop-k.knvariant) ∙ window-with_window a r b c.requires.within c.elements-from.ensures.whole c.requires.dims
+    ap (λ (x : Array). window x r) (written_back a r b c.loop-k.elements c.loop-k.k c.dims-across.ensures.whole last c.loop-k.invariant) ∙ window-with_window a r b c.requires.within c.elements-from.ensures.whole c.requires.dims
 
 pub returns-clause-others_stay : goal.returns-clause-others_stay
 returns-clause-others_stay c = λ i j in_rows in_cols outside.
@@ -26,4 +26,4 @@ returns-clause-others_stay c = λ i j in_rows in_cols outside.
     let r = c.args.rect in
     let b = c.args.child.now in
     let last : c.loop-k.k ≡ r.rows = omega arith in
-    ap (λ (x : Array). element x i j) (written_back a r b c.loop-k.elements c.loop-k.k c.dims-across.ensures.whole last c.loop-k.knvariant) ∙ element-with_window a r b i j in_rows in_cols ∙ written-outside a r b i j outside
+    ap (λ (x : Array). element x i j) (written_back a r b c.loop-k.elements c.loop-k.k c.dims-across.ensures.whole last c.loop-k.invariant) ∙ element-with_window a r b i j in_rows in_cols ∙ written-outside a r b i j outside
