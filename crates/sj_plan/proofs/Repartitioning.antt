@@ -1,8 +1,9 @@
 -- The pastes of two plans, applied in order to the old plan's children, make the new plan's.
-use Rattle.std.proofs.Common.{◌≡◌, ℕ, ℤ, ◌+◌, ◌-◌, ◌<◌, ◌≤◌, Bool, true, false, cond, ◌&&◌, ◌||◌, eqb, ltb, List, [], ◌∷◌, map, sym, ap, refl, ◌∙◌, arith}
-use Rattle.std.specs.List.{All, AllByRecursion, flat_map, list_any}
+use Rattle.std.proofs.Common.{◌≡◌, ℕ, ℤ, ◌+◌, ◌-◌, ◌<◌, ◌≤◌, Bool, true, false, cond, ◌&&◌, ◌||◌, eqb, ltb, List, [], ◌∷◌, map, sym, ap, refl, ◌∙◌, subst, arith}
+use Rattle.std.specs.List.{All, Any, AllByRecursion, flat_map, list_any}
 use Rattle.std.proofs.lemmas.Bool.{lt-ltb, ltb-true, and_from, and_parts, eqb-true, eq-eqb, cond-true}
 use Rattle.std.proofs.lemmas.List.Elements.{All-from_recursion}
+use Rattle.std.proofs.lemmas.List.Folds.{Any-from_list_any}
 use Rattle.sj_base.specs.declared.tile.Dims.{Dims}
 use Rattle.sj_base.specs.Array.{Array}
 use Rattle.sj_plan.specs.declared.interval.Interval.{Interval}
@@ -11,9 +12,9 @@ use Rattle.sj_plan.specs.declared.paste.Paste.{Paste}
 use Rattle.sj_plan.specs.declared.rect.Rect.{Rect}
 use Rattle.sj_plan.specs.Interval.{Lies, part_first, shared}
 use Rattle.sj_plan.specs.Parts.{Fits, IsPlace, places}
-use Rattle.sj_plan.specs.Rect.{holds, rows_of, cols_of, child}
+use Rattle.sj_plan.specs.Rect.{holds, rows_of, cols_of, child, Overlap}
 use Rattle.sj_plan.specs.Window.{element, dims_of, window, with_window, IsWhole}
-use Rattle.sj_plan.specs.Paste.{paste_at, overlaps, pastes_of, from_rect, to_rect, Children, after_paste, after_pastes, children_in, Repartition, IsBetween}
+use Rattle.sj_plan.specs.Paste.{paste_at, overlaps, pastes_of, from_rect, to_rect, Children, after_paste, after_pastes, children_in, Repartition, IsBetween, Joins}
 use Rattle.sj_plan.proofs.Lists.{each-map, each-flat_map, each-filter, each-places, any-map, any-flat_map, any-filter, any-places}
 use Rattle.sj_plan.proofs.Splitting.{held, part_end}
 use Rattle.sj_plan.proofs.Windows.{element-with_window, element-window, holds-true, Holds-from_true, IsWhole-tabulate, same_arrays}
@@ -122,6 +123,12 @@ pub pastes_of-between : (d : Dims) (old new : Parts) → All (IsBetween d old ne
 pastes_of-between d old new =
     All-from_recursion (IsBetween d old new) (pastes_of d old new) (each-pastes_of (IsBetween d old new) d old new (paste_at-between d old new))
 
+-- if the paste of a pair that overlaps passes a test, then some paste does
+any-pastes_of : (t : Paste → Bool) (d : Dims) (old new : Parts) (from to : ℕ × ℕ) → IsPlace old from → IsPlace new to → overlaps (paste_at d old new from to) ≡ true → t (paste_at d old new from to) ≡ true → list_any t (pastes_of d old new) ≡ true
+any-pastes_of t d old new from to in_old in_new meets passes =
+    let both = λ (p : Paste). overlaps p && t p in
+    any-filter t overlaps (flat_map (λ to. map (λ from. paste_at d old new from to) (places old)) (places new)) ∙ any-flat_map both (λ to. map (λ from. paste_at d old new from to) (places old)) (places new) ∙ any-places (λ to. list_any both (map (λ from. paste_at d old new from to) (places old))) new to in_new (any-map both (λ from. paste_at d old new from to) (places old) ∙ any-places (λ from. both (paste_at d old new from to)) old from in_old (and_from _ _ meets passes))
+
 -- each element of a new child is written by a paste
 shared-holds : (o n : Interval) (i : ℕ) → i < n.len → Lies (n.first + i) o → (0 < (shared o n).len) × Lies i (record { first = (shared o n).first - n.first; len = (shared o n).len })
 shared-holds o n i in_new in_old = (omega arith, (omega arith, omega arith))
@@ -140,8 +147,7 @@ pastes_of-cover d old new to i j fits_old fits_new place in_rows in_cols =
     let cols = shared-holds (cols_of o) (cols_of n) j in_cols col.1.1 in
     let meets : overlaps p ≡ true = and_from _ _ (lt-ltb 0 p.rows rows.0) (lt-ltb 0 p.cols cols.0) in
     let covered : covers p to i j ≡ true = and_from _ _ (and_from _ _ (eq-eqb to.0 to.0 refl) (eq-eqb to.1 to.1 refl)) (holds-true (to_rect p) i j (rows.1, cols.1)) in
-    let t = λ (q : Paste). overlaps q && covers q to i j in
-    any-filter (λ p. covers p to i j) overlaps (flat_map (λ to. map (λ from. paste_at d old new from to) (places old)) (places new)) ∙ any-flat_map t (λ to. map (λ from. paste_at d old new from to) (places old)) (places new) ∙ any-places (λ to. list_any t (map (λ from. paste_at d old new from to) (places old))) new to place (any-map t (λ from. paste_at d old new from to) (places old) ∙ any-places (λ from. t (paste_at d old new from to)) old from (row.1.0, col.1.0) (and_from _ _ meets covered))
+    any-pastes_of (λ p. covers p to i j) d old new from to (row.1.0, col.1.0) place meets covered
 
 pub pastes_of-repartition : (d : Dims) (old new : Parts) → Fits old d → Fits new d → Repartition d old new (pastes_of d old new)
 pastes_of-repartition d old new fits_old fits_new a blank blanks to place =
@@ -153,3 +159,59 @@ pastes_of-repartition d old new fits_old fits_new a blank blanks to place =
     let in_new_rows : i < n.rows = omega (arith, ap (λ (e : Dims). e.rows) dims) in
     let in_new_cols : j < n.cols = omega (arith, ap (λ (e : Dims). e.cols) dims) in
     element-pastes (children_in d old a) (element a (n.row + i) (n.col + j)) to i j ps (pastes_of-right d old new a to i j) blank (omega (arith, ap (λ (e : Dims). e.rows) blank_dims)) (omega (arith, ap (λ (e : Dims). e.cols) blank_dims)) ∙ cond-true _ _ _ (pastes_of-cover d old new to i j fits_old fits_new place in_new_rows in_new_cols) ∙ sym (element-window a n i j in_new_rows in_new_cols))
+
+shared-first : (o n : Interval) → 0 < (shared o n).len → Lies (shared o n).first o × Lies (shared o n).first n
+shared-first o n some = ((omega arith, omega arith), (omega arith, omega arith))
+
+shared-some : (o n : Interval) (x : ℕ) → Lies x o → Lies x n → 0 < (shared o n).len
+shared-some o n x a b = omega (arith, a.0, a.1, b.0, b.1)
+
+Overlap-from_test : (d : Dims) (old new : Parts) (from to : ℕ × ℕ) → overlaps (paste_at d old new from to) ≡ true → Overlap (child d old from) (child d new to)
+Overlap-from_test d old new from to meets =
+    let o = child d old from in
+    let n = child d new to in
+    let p = paste_at d old new from to in
+    let both = and_parts (ltb 0 p.rows) (ltb 0 p.cols) meets in
+    let rows = shared-first (rows_of o) (rows_of n) (ltb-true 0 p.rows both.0) in
+    let cols = shared-first (cols_of o) (cols_of n) (ltb-true 0 p.cols both.1) in
+    ((shared (rows_of o) (rows_of n)).first, (shared (cols_of o) (cols_of n)).first, ((rows.0, cols.0), (rows.1, cols.1)))
+
+overlaps-true : (d : Dims) (old new : Parts) (from to : ℕ × ℕ) → Overlap (child d old from) (child d new to) → overlaps (paste_at d old new from to) ≡ true
+overlaps-true d old new from to common =
+    let o = child d old from in
+    let n = child d new to in
+    let p = paste_at d old new from to in
+    let in_old = common.2.0 in
+    let in_new = common.2.1 in
+    and_from _ _ (lt-ltb 0 p.rows (shared-some (rows_of o) (rows_of n) common.0 in_old.0 in_new.0)) (lt-ltb 0 p.cols (shared-some (cols_of o) (cols_of n) common.1 in_old.1 in_new.1))
+
+same_place : {x y : ℕ × ℕ} → x.0 ≡ y.0 → x.1 ≡ y.1 → x ≡ y
+same_place {x} {y} e f = rw (e, f) refl
+
+abbrev joins : ℕ × ℕ → ℕ × ℕ → Paste → Bool
+joins from to p = (eqb p.from.0 from.0 && eqb p.from.1 from.1) && (eqb p.to.0 to.0 && eqb p.to.1 to.1)
+
+Joins-from_true : (from to : ℕ × ℕ) (p : Paste) → joins from to p ≡ true → Joins from to p
+Joins-from_true from to p h =
+    let both = and_parts (eqb p.from.0 from.0 && eqb p.from.1 from.1) (eqb p.to.0 to.0 && eqb p.to.1 to.1) h in
+    let a = and_parts (eqb p.from.0 from.0) (eqb p.from.1 from.1) both.0 in
+    let b = and_parts (eqb p.to.0 to.0) (eqb p.to.1 to.1) both.1 in
+    (same_place (eqb-true p.from.0 from.0 a.0) (eqb-true p.from.1 from.1 a.1), same_place (eqb-true p.to.0 to.0 b.0) (eqb-true p.to.1 to.1 b.1))
+
+joins-true : (from to : ℕ × ℕ) (p : Paste) → p.from ≡ from → p.to ≡ to → joins from to p ≡ true
+joins-true from to p e f =
+    and_from _ _ (and_from _ _ (eq-eqb p.from.0 from.0 (ap (λ (x : ℕ × ℕ). x.0) e)) (eq-eqb p.from.1 from.1 (ap (λ (x : ℕ × ℕ). x.1) e))) (and_from _ _ (eq-eqb p.to.0 to.0 (ap (λ (x : ℕ × ℕ). x.0) f)) (eq-eqb p.to.1 to.1 (ap (λ (x : ℕ × ℕ). x.1) f)))
+
+-- there is a paste for just the pairs that have an element in common
+pub pastes_of-exactly : (d : Dims) (old new : Parts) (from to : ℕ × ℕ) → IsPlace old from → IsPlace new to → (Any (Joins from to) (pastes_of d old new) → Overlap (child d old from) (child d new to)) × (Overlap (child d old from) (child d new to) → Any (Joins from to) (pastes_of d old new))
+pastes_of-exactly d old new from to in_old in_new =
+    let Q : Paste → Type 0 = λ p. Overlap (child d old p.from) (child d new p.to) in
+    let all = All-from_recursion Q (pastes_of d old new) (each-pastes_of Q d old new (λ from to _ _ meets. Overlap-from_test d old new from to meets)) in (
+      λ found.
+          let p = found.1 in
+          let here : Q p = subst Q found.3 (all found.0 p found.2) in
+          subst (λ (y : ℕ × ℕ). Overlap (child d old from) (child d new y)) found.4.1 (subst (λ (x : ℕ × ℕ). Overlap (child d old x) (child d new p.to)) found.4.0 here),
+      λ common.
+          let found = Any-from_list_any (joins from to) (pastes_of d old new) (any-pastes_of (joins from to) d old new from to in_old in_new (overlaps-true d old new from to common) (joins-true from to (paste_at d old new from to) refl refl)) in
+          (found.0, found.1, found.2, found.3, Joins-from_true from to found.1 found.4),
+    )

@@ -36,6 +36,10 @@ abbrev pub pastes_of : Dims → Parts → Parts → List Paste
 pastes_of d old new =
     filter overlaps (flat_map (λ to. map (λ from. paste_at d old new from to) (places old)) (places new))
 
+-- the paste is from that old child to that new child
+abbrev pub Joins : ℕ × ℕ → ℕ × ℕ → Paste → Type 0
+Joins from to p = (p.from ≡ from) × (p.to ≡ to)
+
 -- the rectangle of a paste in its old child, and in its new one
 abbrev pub from_rect : Paste → Rect
 from_rect p = record { row = p.at_from.0; col = p.at_from.1; rows = p.rows; cols = p.cols }

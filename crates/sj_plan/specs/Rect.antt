@@ -26,6 +26,10 @@ abbrev pub holds : Rect → ℕ → ℕ → Bool
 holds r row col =
     (nat_le r.row row && nat_lt row (r.row + r.rows)) && (nat_le r.col col && nat_lt col (r.col + r.cols))
 
+-- two rectangles have an element in common
+abbrev pub Overlap : Rect → Rect → Type 0
+Overlap r s = (row : ℕ) × (col : ℕ) × (Holds r row col × Holds s row col)
+
 -- the rectangle lies in an array of these dimensions
 abbrev pub Within : Rect → Dims → Type 0
 Within r d = (r.row + r.rows ≤ d.rows) × (r.col + r.cols ≤ d.cols)

@@ -1,10 +1,11 @@
 //! The copies that turn the children of one partition plan into those of another.
 
-ghost use Rattle.std.specs.Prelude.{◌≡◌, ◌<◌, ◌++◌, All, map, IfOk, OnOk};
+ghost use Rattle.std.specs.Prelude.{◌≡◌, ◌<◌, ◌++◌, ◌↔◌, ℕ, All, Any, map, IfOk, OnOk};
 ghost use Rattle.std.specs.List.{filter, flat_map, range_with_len};
 ghost use Rattle.sj_plan.specs.Interval.{part, shared};
 ghost use Rattle.sj_plan.specs.Parts.{Fits, IsPlace, places};
-ghost use Rattle.sj_plan.specs.Paste.{IsBetween, Repartition, overlaps, paste_at, pastes_of};
+ghost use Rattle.sj_plan.specs.Rect.{Overlap, child};
+ghost use Rattle.sj_plan.specs.Paste.{IsBetween, Joins, Repartition, overlaps, paste_at, pastes_of};
 
 use crate::children::rect;
 use crate::interval::{part, parts_overlapping};
@@ -40,6 +41,10 @@ pub fn pastes(
     requires old_plan { Fits old dims }
     requires new_plan { Fits new dims }
     ensures pastes { IfOk result (λ pastes. pastes ≡ pastes_of dims old new) }
+
+    // There is one exactly for those pairs of children that have an element in common.
+    ensures exactly { IfOk result (λ pastes. (from to : ℕ × ℕ) → IsPlace old from → IsPlace new to →
+        (Any (Joins from to) pastes ↔ Overlap (child dims old from) (child dims new to))) }
     ensures fit { IfOk result (All (IsBetween dims old new)) }
 
     // Applied in order, they make the new plan's children of any array from the old plan's.
