@@ -1,6 +1,6 @@
 //! The children of a partition plan.
 
-ghost use Rattle.std.specs.Prelude.{◌≡◌, ◌+◌, ◌<◌, ◌≤◌, ◌++◌, ℕ, map, count_by, IfOk, OnOk};
+ghost use Rattle.std.specs.Prelude.{◌≡◌, ◌<◌, ◌++◌, ℕ, map, count_by, IfOk, OnOk};
 ghost use Rattle.std.specs.List.{range_with_len};
 ghost use Rattle.sj_plan.specs.Parts.{Fits};
 ghost use Rattle.sj_plan.specs.Rect.{IsOnlyChild, Within, child, children_of, holds};
@@ -21,7 +21,8 @@ pub fn rect(dims: Dims, parts: Parts, i: u32, j: u32) -> Rect
     requires col_part { j < parts.c }
     ensures child { result ≡ child dims parts (i, j) }
     ensures within { Within result dims }
-    ensures not_empty { (0 < result.rows) × (0 < result.cols) }
+    ensures some_rows { 0 < result.rows }
+    ensures some_cols { 0 < result.cols }
 {
     let rows = part(dims.rows, parts.r, i);
     let cols = part(dims.cols, parts.c, j);

@@ -30,8 +30,7 @@ pub struct Paste {
 }
 
 /// The pastes that turn the children of the old plan into those of the new one: one for each pair
-/// that overlaps, by new child, then old child, row by row. Linear in the pastes and the new
-/// children.
+/// that overlaps, by new child, then old child, row by row. Linear in their number.
 pub fn pastes(
     alloc: Global,
     dims: Dims,
@@ -41,11 +40,11 @@ pub fn pastes(
     requires old_plan { Fits old dims }
     requires new_plan { Fits new dims }
     ensures pastes { IfOk result (λ pastes. pastes ≡ pastes_of dims old new) }
+    ensures fit { IfOk result (All (IsBetween dims old new)) }
 
     // There is one exactly for those pairs of children that have an element in common.
     ensures exactly { IfOk result (λ pastes. (from to : ℕ × ℕ) → IsPlace old from → IsPlace new to →
         (Any (Joins from to) pastes ↔ Overlap (child dims old from) (child dims new to))) }
-    ensures fit { IfOk result (All (IsBetween dims old new)) }
 
     // Applied in order, they make the new plan's children of any array from the old plan's.
     ensures repartition { IfOk result (Repartition dims old new) }
@@ -68,8 +67,9 @@ fn push_to_row(
     requires old_plan { Fits old dims }
     requires new_plan { Fits new dims }
     requires row_part { i < new.r }
-    ensures { OnOk result (found.new.items ≡ found.old.items ++ filter overlaps (flat_map
-        (λ j. map (λ from. paste_at dims old new from (i, j)) (places old)) (range_with_len 0 new.c))) }
+    ensures { OnOk result (found.new.items ≡ found.old.items ++ filter overlaps
+        (flat_map (λ j. map (λ from. paste_at dims old new from (i, j)) (places old))
+        (range_with_len 0 new.c))) }
 {
     for j in 0..new.c {
         push_to(found, dims, old, new, (i, j))?;

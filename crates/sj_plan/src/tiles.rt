@@ -1,6 +1,6 @@
 //! A rectangle of a tile taken out, and put back.
 
-ghost use Rattle.std.specs.Prelude.{◌≡◌, ◌+◌, ◌*◌, ◌<◌, ◌++◌, ℕ, IfOk, OnOk, map};
+ghost use Rattle.std.specs.Prelude.{◌≡◌, ◌+◌, ◌<◌, ℕ, IfOk};
 ghost use Rattle.sj_plan.specs.Rect.{Holds, Within};
 ghost use Rattle.sj_plan.specs.Window.{dims_of, element, window, with_window};
 
