@@ -11,11 +11,14 @@ use Rattle.sj_base.specs.declared.tile.Dims.{Dims}
 use Rattle.sj_base.specs.Array.{Array, area, array}
 use Rattle.sj_plan.specs.declared.rect.Rect.{Rect}
 use Rattle.sj_plan.specs.Rect.{Holds, Within, holds}
-use Rattle.sj_plan.specs.Window.{element, tabulate, dims_of, window, with_window, IsWhole}
+use Rattle.sj_plan.specs.Window.{element, item, dims_of, window, with_window, IsWhole, table}
 use Rattle.sj_plan.proofs.Lists.{appended_more}
 
+abbrev pub tabulate : Dims → (ℕ → ℕ → ℤ) → Array
+tabulate d f = array d (table d f)
+
 -- row i of a table of c columns
-abbrev pub table_row : (ℕ → ℕ → ℤ) → ℕ → ℕ → List ℤ
+abbrev pub table_row : {X : Type 0} → (ℕ → ℕ → X) → ℕ → ℕ → List X
 table_row f c i = map (λ j. f i j) (range_with_len 0 c)
 
 one_more : (c r row rest : ℕ) → row ≡ c → rest ≡ r * c → row + rest ≡ suc r * c
@@ -31,25 +34,29 @@ pos_factor : (r c k : ℕ) → k < r * c → 0 < c
 pos_factor r zero k h = absurd (omega arith)
 pos_factor r (suc c) k h = omega arith
 
-length-table_row : (f : ℕ → ℕ → ℤ) (c i : ℕ) → length (table_row f c i) ≡ c
+length-table_row : {X : Type 0} (f : ℕ → ℕ → X) (c i : ℕ) → length (table_row f c i) ≡ c
 length-table_row f c i = length-map-range_with_len (λ j. f i j) 0 c
 
-pub length-table : (f : ℕ → ℕ → ℤ) (c lo r : ℕ) → length (flat_map (table_row f c) (range_with_len lo r)) ≡ r * c
+pub length-table : {X : Type 0} (f : ℕ → ℕ → X) (c lo r : ℕ) → length (flat_map (table_row f c) (range_with_len lo r)) ≡ r * c
 length-table f c lo zero = omega arith
 length-table f c lo (suc r) =
     length-append (table_row f c lo) (flat_map (table_row f c) (range_with_len (lo + 1) r)) ∙ one_more c r _ _ (length-table_row f c lo) (length-table f c (lo + 1) r)
 
-table_at_from : (f : ℕ → ℕ → ℤ) (c lo r i j : ℕ) → i < r → j < c → get_or (flat_map (table_row f c) (range_with_len lo r)) (i * c + j) (pos 0) ≡ f (lo + i) j
-table_at_from f c lo zero i j in_r in_c = absurd (omega arith)
-table_at_from f c lo (suc r) zero j in_r in_c =
+table_at_from : {X : Type 0} (blank : X) (f : ℕ → ℕ → X) (c lo r i j : ℕ) → i < r → j < c → get_or (flat_map (table_row f c) (range_with_len lo r)) (i * c + j) blank ≡ f (lo + i) j
+table_at_from blank f c lo zero i j in_r in_c = absurd (omega arith)
+table_at_from blank f c lo (suc r) zero j in_r in_c =
     let long = length-table_row f c lo in
-    ap (λ k. get_or (flat_map (table_row f c) (range_with_len lo (suc r))) k (pos 0)) (zero_row c j) ∙ get_or_append_left (table_row f c lo) _ (pos 0) j (omega arith) ∙ get_or-map-range_with_len (λ j. f lo j) 0 c j j (pos 0) in_c (omega arith) ∙ ap (λ k. f k j) (omega arith)
-table_at_from f c lo (suc r) (suc i) j in_r in_c =
-    get_or-append_right (table_row f c lo) _ c (suc i * c + j) (pos 0) (length-table_row f c lo) (omega arith) ∙ ap (λ k. get_or (flat_map (table_row f c) (range_with_len (lo + 1) r)) k (pos 0)) (row_down c i j) ∙ table_at_from f c (lo + 1) r i j (omega arith) in_c ∙ ap (λ k. f k j) (omega arith)
+    ap (λ k. get_or (flat_map (table_row f c) (range_with_len lo (suc r))) k blank) (zero_row c j) ∙ get_or_append_left (table_row f c lo) _ blank j (omega arith) ∙ get_or-map-range_with_len (λ j. f lo j) 0 c j j blank in_c (omega arith) ∙ ap (λ k. f k j) (omega arith)
+table_at_from blank f c lo (suc r) (suc i) j in_r in_c =
+    get_or-append_right (table_row f c lo) _ c (suc i * c + j) blank (length-table_row f c lo) (omega arith) ∙ ap (λ k. get_or (flat_map (table_row f c) (range_with_len (lo + 1) r)) k blank) (row_down c i j) ∙ table_at_from blank f c (lo + 1) r i j (omega arith) in_c ∙ ap (λ k. f k j) (omega arith)
+
+-- an item of a table
+pub item-table : {X : Type 0} (blank : X) (d : Dims) (f : ℕ → ℕ → X) (i j : ℕ) → i < d.rows → j < d.cols → item blank d.cols (table d f) i j ≡ f i j
+item-table blank d f i j in_rows in_cols =
+    table_at_from blank f d.cols 0 d.rows i j in_rows in_cols ∙ ap (λ k. f k j) (omega arith)
 
 pub element-tabulate : (d : Dims) (f : ℕ → ℕ → ℤ) (i j : ℕ) → i < d.rows → j < d.cols → element (tabulate d f) i j ≡ f i j
-element-tabulate d f i j in_rows in_cols =
-    table_at_from f d.cols 0 d.rows i j in_rows in_cols ∙ ap (λ k. f k j) (omega arith)
+element-tabulate d f i j in_rows in_cols = item-table (pos 0) d f i j in_rows in_cols
 
 pub IsWhole-tabulate : (d : Dims) (f : ℕ → ℕ → ℤ) → IsWhole (tabulate d f)
 IsWhole-tabulate d f = length-table f d.cols 0 d.rows
