@@ -1,6 +1,6 @@
 //! Writing a text to a sink.
 
-ghost use Rattle.std.specs.Prelude.{◌≡◌, IsErr, OnOk, OnErr, concat, map};
+ghost use Rattle.std.specs.Prelude.{◌≡◌, IsErr, OnOk, OnErr};
 ghost use Rattle.std.specs.Io.KnownBytes.{Appends};
 ghost use Rattle.sj_edge.specs.Faults.{Counts};
 ghost use Rattle.starjob.specs.Streams.{TakesPrefix};

@@ -1,0 +1,147 @@
+-- Lists that a loop makes over the numbers from 0 on.
+use Rattle.std.proofs.Common.{◌≡◌, ℕ, zero, suc, ◌+◌, ◌-◌, ◌*◌, ◌<◌, ◌≤◌, Bool, true, false, cond, ◌&&◌, ◌||◌, List, [], ◌∷◌, ◌++◌, map, sym, ap, refl, ◌∙◌, zero-mul, arith}
+use Rattle.std.specs.List.{AllByRecursion, filter, flat_map, range_with_len, count_by, list_any}
+use Rattle.std.proofs.lemmas.List.{append_assoc, append-nil, map-append, map-id}
+use Rattle.std.proofs.lemmas.List.Concat.{flat_map-append}
+use Rattle.std.proofs.lemmas.List.FromFn.{map-range_with_len_more}
+use Rattle.std.proofs.lemmas.List.Sums.{sum_by-cons, sum_by-append}
+use Rattle.std.proofs.lemmas.List.FromFn.{length-range_with_len, get_or-range_with_len}
+use Rattle.std.proofs.lemmas.List.Folds.{list_any_at, list_any-append}
+use Rattle.sj_plan.specs.declared.parts.Parts.{Parts}
+use Rattle.sj_plan.specs.Parts.{IsPlace, places}
+use Rattle.std.proofs.lemmas.Simd.{map-map}
+use Rattle.std.proofs.lemmas.Bool.{cond-false}
+
+suc-add : (k : ℕ) → suc k ≡ k + 1
+suc-add k = omega arith
+
+both_nil : {X : Type 0} {xs ys : List X} → xs ≡ [] → ys ≡ [] → xs ++ ys ≡ []
+both_nil {X} {xs} {ys} e f = rw (e, f) refl
+
+pub range_more : (n : ℕ) → range_with_len 0 (n + 1) ≡ range_with_len 0 n ++ n ∷ []
+range_more n =
+    sym (map-id (range_with_len 0 (n + 1))) ∙ map-range_with_len_more (λ k. k) 0 n n (omega arith) ∙ ap (λ xs. xs ++ n ∷ []) (map-id (range_with_len 0 n))
+
+-- a list that a loop appends to: start, and what Z makes of the first n numbers
+pub appended_more : {X : Type 0} (Z : List ℕ → List X) → ((xs ys : List ℕ) → Z (xs ++ ys) ≡ Z xs ++ Z ys) → (start now next : List X) (n : ℕ) → now ≡ start ++ Z (range_with_len 0 n) → next ≡ now ++ Z (n ∷ []) → next ≡ start ++ Z (range_with_len 0 (n + 1))
+appended_more Z adds start now next n e f =
+    f ∙ ap (λ xs. xs ++ Z (n ∷ [])) e ∙ append_assoc start (Z (range_with_len 0 n)) (Z (n ∷ [])) ∙ ap (λ xs. start ++ xs) (sym (adds (range_with_len 0 n) (n ∷ [])) ∙ ap Z (sym (range_more n)))
+
+-- the same for one item a number
+pub pushed_more : {X : Type 0} (f : ℕ → X) → (start now next : List X) (x : X) (n : ℕ) → now ≡ start ++ map f (range_with_len 0 n) → next ≡ now ++ x ∷ [] → x ≡ f n → next ≡ start ++ map f (range_with_len 0 (n + 1))
+pushed_more f start now next x n e g h = appended_more (map f) (map-append f) start now next n e (g ∙ ap (λ y. now ++ y ∷ []) h)
+
+-- row i of a grid of c columns
+abbrev pub grid_row : ℕ → ℕ → List (ℕ × ℕ)
+grid_row c i = map (λ j. (i, j)) (range_with_len 0 c)
+
+abbrev grid : {X : Type 0} → (ℕ × ℕ → X) → ℕ → List ℕ → List X
+grid f c xs = map f (flat_map (grid_row c) xs)
+
+grid_adds : {X : Type 0} (f : ℕ × ℕ → X) (c : ℕ) (xs ys : List ℕ) → grid f c (xs ++ ys) ≡ grid f c xs ++ grid f c ys
+grid_adds f c xs ys = ap (map f) (flat_map-append (grid_row c) xs ys) ∙ map-append f (flat_map (grid_row c) xs) (flat_map (grid_row c) ys)
+
+-- one row more of a grid
+pub grid_more : {X : Type 0} (f : ℕ × ℕ → X) (c n : ℕ) (now next : List X) → now ≡ map f (flat_map (grid_row c) (range_with_len 0 n)) → next ≡ now ++ map (λ j. f (n, j)) (range_with_len 0 c) → next ≡ map f (flat_map (grid_row c) (range_with_len 0 (n + 1)))
+grid_more f c n now next e g =
+    appended_more (grid f c) (grid_adds f c) [] now next n e (g ∙ ap (λ xs. now ++ xs) (sym (map-map f (λ j. (n, j)) (range_with_len 0 c)) ∙ ap (map f) (sym (append-nil (grid_row c n)))))
+
+-- how often a test of both indices passes in a row, and in a grid
+none : (t : Bool) → ◌≡◌ {A = ℕ} 0 (cond t 0 0)
+none true = refl
+none false = refl
+
+one_item : (t u : Bool) (n : ℕ) → cond (t && u) 1 0 + cond t n 0 ≡ cond t (cond u 1 0 + n) 0
+one_item true u n = refl
+one_item false u n = refl
+
+count_row : (a b : ℕ → Bool) (i : ℕ) (ys : List ℕ) → count_by (λ (p : ℕ × ℕ). a p.0 && b p.1) (map (λ j. (i, j)) ys) ≡ cond (a i) (count_by b ys) 0
+count_row a b i [] = none (a i)
+count_row a b i (y ∷ ys) =
+    sum_by-cons (λ (p : ℕ × ℕ). cond (a p.0 && b p.1) 1 0) (i, y) (map (λ j. (i, j)) ys) ∙ ap (λ n. cond (a i && b y) 1 0 + n) (count_row a b i ys) ∙ one_item (a i) (b y) (count_by b ys) ∙ ap (λ n. cond (a i) n 0) (sym (sum_by-cons (λ j. cond (b j) 1 0) y ys))
+
+one_row : (t : Bool) (row rest k n : ℕ) → row ≡ cond t n 0 → rest ≡ k * n → row + rest ≡ (cond t 1 0 + k) * n
+one_row true row rest k n e f = omega arith
+one_row false row rest k n e f = omega arith
+
+pub count_grid : (a b : ℕ → Bool) (c : ℕ) (xs : List ℕ) → count_by (λ (p : ℕ × ℕ). a p.0 && b p.1) (flat_map (grid_row c) xs) ≡ count_by a xs * count_by b (range_with_len 0 c)
+count_grid a b c [] = sym (zero-mul (count_by b (range_with_len 0 c)))
+count_grid a b c (x ∷ xs) =
+    let rest = count_grid a b c xs in
+    let row = count_row a b x (range_with_len 0 c) in
+    let here = sum_by-cons (λ k. cond (a k) 1 0) x xs in
+    sum_by-append (λ (p : ℕ × ℕ). cond (a p.0 && b p.1) 1 0) (grid_row c x) (flat_map (grid_row c) xs) ∙ one_row (a x) _ _ _ _ row rest ∙ ap (λ n. n * count_by b (range_with_len 0 c)) (sym here)
+
+-- numbers that add nothing to the list
+pub nothing_before : {X : Type 0} (Z : List ℕ → List X) → ((xs ys : List ℕ) → Z (xs ++ ys) ≡ Z xs ++ Z ys) → Z [] ≡ [] → (n : ℕ) → ((k : ℕ) → k < n → Z (k ∷ []) ≡ []) → Z (range_with_len 0 n) ≡ []
+nothing_before Z adds nil zero none_of = nil
+nothing_before Z adds nil (suc n) none_of =
+    ap Z (ap (range_with_len 0) (suc-add n) ∙ range_more n) ∙ adds (range_with_len 0 n) (n ∷ []) ∙ both_nil (nothing_before Z adds nil n (λ k h. none_of k (omega arith))) (none_of n (omega arith))
+
+nothing_further : {X : Type 0} (Z : List ℕ → List X) → ((xs ys : List ℕ) → Z (xs ++ ys) ≡ Z xs ++ Z ys) → (m e : ℕ) → ((k : ℕ) → m ≤ k → k < m + e → Z (k ∷ []) ≡ []) → Z (range_with_len 0 (m + e)) ≡ Z (range_with_len 0 m)
+nothing_further Z adds m zero none_of = ap (λ n. Z (range_with_len 0 n)) (omega arith)
+nothing_further Z adds m (suc e) none_of =
+    ap Z (ap (range_with_len 0) (omega arith) ∙ range_more (m + e)) ∙ adds (range_with_len 0 (m + e)) ((m + e) ∷ []) ∙ ap (λ ys. Z (range_with_len 0 (m + e)) ++ ys) (none_of (m + e) (omega arith) (omega arith)) ∙ append-nil (Z (range_with_len 0 (m + e))) ∙ nothing_further Z adds m e (λ k h below. none_of k h (omega arith))
+
+pub nothing_after : {X : Type 0} (Z : List ℕ → List X) → ((xs ys : List ℕ) → Z (xs ++ ys) ≡ Z xs ++ Z ys) → (m n : ℕ) → m ≤ n → ((k : ℕ) → m ≤ k → k < n → Z (k ∷ []) ≡ []) → Z (range_with_len 0 n) ≡ Z (range_with_len 0 m)
+nothing_after Z adds m n h none_of =
+    ap (λ k. Z (range_with_len 0 k)) (omega arith) ∙ nothing_further Z adds m (n - m) (λ k from below. none_of k from (omega arith))
+
+pub filter_none : {X Y : Type 0} (p : Y → Bool) (f : X → Y) → ((x : X) → p (f x) ≡ false) → (xs : List X) → filter p (map f xs) ≡ []
+filter_none p f fails [] = refl
+filter_none p f fails (x ∷ xs) = cond-false (p (f x)) (f x ∷ filter p (map f xs)) (filter p (map f xs)) (fails x) ∙ filter_none p f fails xs
+
+-- Q holds of each item, in lists that are made of others
+pub each-append : {X : Type 0} (Q : X → Type 0) (xs ys : List X) → AllByRecursion Q xs → AllByRecursion Q ys → AllByRecursion Q (xs ++ ys)
+each-append Q [] ys a b = b
+each-append Q (x ∷ xs) ys a b = (a.0, each-append Q xs ys a.1 b)
+
+pub each-map : {X Y : Type 0} (Q : Y → Type 0) (f : X → Y) (xs : List X) → AllByRecursion (λ x. Q (f x)) xs → AllByRecursion Q (map f xs)
+each-map Q f [] a = tt
+each-map Q f (x ∷ xs) a = (a.0, each-map Q f xs a.1)
+
+pub each-flat_map : {X Y : Type 0} (Q : Y → Type 0) (f : X → List Y) (xs : List X) → AllByRecursion (λ x. AllByRecursion Q (f x)) xs → AllByRecursion Q (flat_map f xs)
+each-flat_map Q f [] a = tt
+each-flat_map Q f (x ∷ xs) a = each-append Q (f x) (flat_map f xs) a.0 (each-flat_map Q f xs a.1)
+
+each-keep : {X : Type 0} (Q : X → Type 0) (t : Bool) (x : X) (xs : List X) → (t ≡ true → Q x) → AllByRecursion Q xs → AllByRecursion Q (cond t (x ∷ xs) xs)
+each-keep Q true x xs a b = (a refl, b)
+each-keep Q false x xs a b = b
+
+pub each-filter : {X : Type 0} (Q : X → Type 0) (p : X → Bool) (xs : List X) → AllByRecursion (λ x. p x ≡ true → Q x) xs → AllByRecursion Q (filter p xs)
+each-filter Q p [] a = tt
+each-filter Q p (x ∷ xs) a = each-keep Q (p x) x (filter p xs) a.0 (each-filter Q p xs a.1)
+
+each-range : (Q : ℕ → Type 0) (a n : ℕ) → ((k : ℕ) → k < a + n → Q k) → AllByRecursion Q (range_with_len a n)
+each-range Q a zero h = tt
+each-range Q a (suc n) h = (h a (omega arith), each-range Q (a + 1) n (λ k below. h k (omega arith)))
+
+pub each-places : (Q : ℕ × ℕ → Type 0) (p : Parts) → ((place : ℕ × ℕ) → IsPlace p place → Q place) → AllByRecursion Q (places p)
+each-places Q p h =
+    each-flat_map Q (grid_row p.c) (range_with_len 0 p.r) (each-range (λ i. AllByRecursion Q (grid_row p.c i)) 0 p.r (λ i in_rows. each-map Q (λ j. (i, j)) (range_with_len 0 p.c) (each-range (λ j. Q (i, j)) 0 p.c (λ j in_cols. h (i, j) (omega arith, omega arith)))))
+
+-- whether some item passes a test, in lists that are made of others
+pub any-map : {X Y : Type 0} (t : Y → Bool) (f : X → Y) (xs : List X) → list_any t (map f xs) ≡ list_any (λ x. t (f x)) xs
+any-map t f [] = refl
+any-map t f (x ∷ xs) = ap (λ b. t (f x) || b) (any-map t f xs)
+
+pub any-flat_map : {X Y : Type 0} (t : Y → Bool) (f : X → List Y) (xs : List X) → list_any t (flat_map f xs) ≡ list_any (λ x. list_any t (f x)) xs
+any-flat_map t f [] = refl
+any-flat_map t f (x ∷ xs) = list_any-append t (f x) (flat_map f xs) ∙ ap (λ b. list_any t (f x) || b) (any-flat_map t f xs)
+
+pub any-keep : {X : Type 0} (t : X → Bool) (b : Bool) (x : X) (xs : List X) → list_any t (cond b (x ∷ xs) xs) ≡ ((b && t x) || list_any t xs)
+any-keep t true x xs = refl
+any-keep t false x xs = refl
+
+pub any-filter : {X : Type 0} (t p : X → Bool) (xs : List X) → list_any t (filter p xs) ≡ list_any (λ x. p x && t x) xs
+any-filter t p [] = refl
+any-filter t p (x ∷ xs) = any-keep t (p x) x (filter p xs) ∙ ap (λ b. (p x && t x) || b) (any-filter t p xs)
+
+pub any-range : (t : ℕ → Bool) (n k : ℕ) → k < n → t k ≡ true → list_any t (range_with_len 0 n) ≡ true
+any-range t n k below h =
+    let long = length-range_with_len 0 n in
+    list_any_at t (range_with_len 0 n) k 0 (omega arith) (ap t (get_or-range_with_len 0 n k 0 below ∙ omega arith) ∙ h)
+
+pub any-places : (t : ℕ × ℕ → Bool) (p : Parts) (place : ℕ × ℕ) → IsPlace p place → t place ≡ true → list_any t (places p) ≡ true
+any-places t p place inside h =
+    any-flat_map t (grid_row p.c) (range_with_len 0 p.r) ∙ any-range (λ i. list_any t (grid_row p.c i)) p.r place.0 inside.0 (any-map t (λ j. (place.0, j)) (range_with_len 0 p.c) ∙ any-range (λ j. t (place.0, j)) p.c place.1 inside.1 h)

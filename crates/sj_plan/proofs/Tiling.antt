@@ -1,0 +1,49 @@
+-- The parts tile the interval, so the children tile the array.
+use Rattle.std.proofs.Common.{◌≡◌, ℕ, zero, suc, ◌+◌, ◌*◌, ◌<◌, Bool, cond, ◌&&◌, ltb, leb, List, [], ◌∷◌, map, sym, ap, refl, ◌∙◌, arith}
+use Rattle.std.specs.List.{range_with_len, count_by}
+use Rattle.std.proofs.lemmas.Bool.{lt-ltb, le-ltb}
+use Rattle.std.proofs.lemmas.Bool.Decides.{nat_tests}
+use Rattle.std.proofs.lemmas.List.Sums.{sum_by-cons, sum_by_push}
+use Rattle.sj_base.specs.declared.tile.Dims.{Dims}
+use Rattle.sj_plan.specs.declared.parts.Parts.{Parts}
+use Rattle.sj_plan.specs.Interval.{part_first, part_len}
+use Rattle.sj_plan.specs.Parts.{Fits, places}
+use Rattle.sj_plan.specs.Rect.{child, children_of, holds}
+use Rattle.sj_plan.proofs.Lists.{range_more, count_grid}
+use Rattle.sj_plan.proofs.Splitting.{part_first-closed}
+
+-- part k of n items in p parts holds x, as a test
+abbrev pub part_holds : ℕ → ℕ → ℕ → ℕ → Bool
+part_holds n p x k = leb (part_first n p k) x && ltb x (part_first n p k + part_len n p k)
+
+suc-add : (k : ℕ) → suc k ≡ k + 1
+suc-add k = omega arith
+
+product : {a b : ℕ} → a ≡ 1 → b ≡ 1 → a * b ≡ 1
+product {a} {b} e f = rw (e, f) refl
+
+one_part : (x first len : ℕ) → cond (ltb x first) 1 0 + cond (leb first x && ltb x (first + len)) 1 0 ≡ cond (ltb x (first + len)) 1 0
+one_part x first len = grind (arith, nat_tests)
+
+-- of the first k parts one holds x, if x lies before part k
+first_parts : (n p x k : ℕ) → count_by (part_holds n p x) (range_with_len 0 k) ≡ cond (ltb x (part_first n p k)) 1 0
+first_parts n p x zero = sym (ap (λ t. cond t 1 0) (le-ltb x 0 (omega arith)))
+first_parts n p x (suc k) =
+    let here = sum_by_push (λ j. cond (part_holds n p x j) 1 0) (range_with_len 0 k) k in
+    ap (count_by (part_holds n p x)) (ap (range_with_len 0) (suc-add k) ∙ range_more k) ∙ here ∙ ap (λ m. m + cond (part_holds n p x k) 1 0) (first_parts n p x k) ∙ one_part x (part_first n p k) (part_len n p k)
+
+pub part_first-all : (n p : ℕ) → 0 < p → part_first n p p ≡ n
+part_first-all n p some = let first = part_first-closed n p p in omega arith
+
+pub part_holds-once : (n p x : ℕ) → 0 < p → x < n → count_by (part_holds n p x) (range_with_len 0 p) ≡ 1
+part_holds-once n p x some here =
+    first_parts n p x p ∙ ap (λ m. cond (ltb x m) 1 0) (part_first-all n p some) ∙ ap (λ t. cond t 1 0) (lt-ltb x n here)
+
+count_by-map : {X Y : Type 0} (p : Y → Bool) (f : X → Y) (xs : List X) → count_by p (map f xs) ≡ count_by (λ x. p (f x)) xs
+count_by-map p f [] = refl
+count_by-map p f (x ∷ xs) =
+    sum_by-cons (λ y. cond (p y) 1 0) (f x) (map f xs) ∙ ap (λ n. cond (p (f x)) 1 0 + n) (count_by-map p f xs) ∙ sym (sum_by-cons (λ y. cond (p (f y)) 1 0) x xs)
+
+pub children_of-tile : (d : Dims) (p : Parts) (row col : ℕ) → Fits p d → row < d.rows → col < d.cols → count_by (λ r. holds r row col) (children_of d p) ≡ 1
+children_of-tile d p row col fits in_rows in_cols =
+    count_by-map (λ r. holds r row col) (child d p) (places p) ∙ count_grid (part_holds d.rows p.r row) (part_holds d.cols p.c col) p.c (range_with_len 0 p.r) ∙ product (part_holds-once d.rows p.r row fits.some_rows in_rows) (part_holds-once d.cols p.c col fits.some_cols in_cols)

@@ -1,0 +1,5 @@
+pub mod Interval
+pub mod Parts
+pub mod Paste
+pub mod Rect
+pub mod Window

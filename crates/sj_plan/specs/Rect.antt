@@ -1,0 +1,49 @@
+-- Rectangles of an array, and a plan's children.
+use Rattle.std.specs.Prelude.{ℕ, ◌≡◌, ◌+◌, ◌≤◌, Bool, ◌&&◌, nat_lt, nat_le, List, map}
+use Rattle.sj_base.specs.declared.tile.Dims.{Dims}
+use Rattle.sj_plan.specs.declared.interval.Interval.{Interval}
+use Rattle.sj_plan.specs.declared.parts.Parts.{Parts}
+use Rattle.sj_plan.specs.declared.rect.Rect.{Rect}
+use Rattle.sj_plan.specs.Interval.{Lies, part}
+use Rattle.sj_plan.specs.Parts.{IsPlace, places}
+
+-- the rectangle of an interval of rows and an interval of columns
+abbrev pub across : Interval → Interval → Rect
+across rows cols = record { row = rows.first; col = cols.first; rows = rows.len; cols = cols.len }
+
+abbrev pub rows_of : Rect → Interval
+rows_of r = record { first = r.row; len = r.rows }
+
+abbrev pub cols_of : Rect → Interval
+cols_of r = record { first = r.col; len = r.cols }
+
+-- element (row, col) is one of the rectangle's
+abbrev pub Holds : Rect → ℕ → ℕ → Type 0
+Holds r row col = Lies row (rows_of r) × Lies col (cols_of r)
+
+-- the same as a test
+abbrev pub holds : Rect → ℕ → ℕ → Bool
+holds r row col =
+    (nat_le r.row row && nat_lt row (r.row + r.rows)) && (nat_le r.col col && nat_lt col (r.col + r.cols))
+
+-- two rectangles have an element in common
+abbrev pub Overlap : Rect → Rect → Type 0
+Overlap r s = (row : ℕ) × (col : ℕ) × (Holds r row col × Holds s row col)
+
+-- the rectangle lies in an array of these dimensions
+abbrev pub Within : Rect → Dims → Type 0
+Within r d = (r.row + r.rows ≤ d.rows) × (r.col + r.cols ≤ d.cols)
+
+-- child [i, j] of a plan: row part i and column part j
+abbrev pub child : Dims → Parts → ℕ × ℕ → Rect
+child d p place = across (part d.rows p.r place.0) (part d.cols p.c place.1)
+
+-- the children, row by row
+abbrev pub children_of : Dims → Parts → List Rect
+children_of d p = map (child d p) (places p)
+
+-- the element lies in that child and in no other
+pub record IsOnlyChild (d : Dims) (p : Parts) (row col : ℕ) (place : ℕ × ℕ) : Type 0 where
+  pub is_place : IsPlace p place
+  pub holds : Holds (child d p place) row col
+  pub only : (other : ℕ × ℕ) → IsPlace p other → Holds (child d p other) row col → other ≡ place
