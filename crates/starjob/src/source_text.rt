@@ -61,7 +61,7 @@ pub fn read_source<S: Source>(alloc: Global, source: &mut S) -> Result<Vec<u8>, 
 {
     let mut text = Vec::new(alloc);
     let mut piece = vec![in alloc; 0u8; PIECE]?;
-    for turn in 0..TEXT + 1 {
+    for _turn in 0..TEXT + 1 {
         let room = PIECE.min(TEXT + 1 - text.len());
         if take_piece(source, &mut piece[..room], &mut text)? == 0 {
             break;
