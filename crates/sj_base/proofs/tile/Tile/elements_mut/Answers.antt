@@ -1,5 +1,4 @@
-use Rattle.std.proofs.Common.{ap, refl, ◌∙◌, List, length, take, drop, ◌++◌, ◌≡◌, sym}
-use Rattle.std.specs.Prelude.{ℤ}
+use Rattle.std.proofs.Common.{ap, refl, ◌∙◌, length, take, drop, ◌++◌}
 use Rattle.sj_base.specs.Array.{Array, array}
 use Rattle.sj_base.specs.Lending.{with_elements}
 use Rattle.sj_base.proofs.tile.Tile.elements_mut.Goals as goal
