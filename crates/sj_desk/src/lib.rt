@@ -1,0 +1,11 @@
+//! The desk.
+#![tactic(auto)]
+
+mod desk;
+mod rule;
+mod seat;
+mod view;
+
+pub use desk::{Busy, Desk};
+pub use seat::DeskSeat;
+pub use sj_base::keyed::Keyed;
