@@ -1,6 +1,6 @@
 -- What a seat knows, as the rule of the turn sees it.
 use Rattle.std.specs.Prelude.{◌≡◌, ℕ, ◌+◌, List, [], ◌∷◌, ◌++◌, map, Option, Some, None}
-use Rattle.std.specs.List.{range_with_len}
+use Rattle.std.specs.List.{range_with_len, AllZip}
 use Rattle.atomic_table.specs.Seated.{TableId}
 use Rattle.atomic_table.specs.Table.{Me}
 use Rattle.sj_desk.specs.declared.view.View.{View}
@@ -115,3 +115,7 @@ module _ {T : Type 0} where
   -- a seat that isn't in its turn, and answers for these rows
   abbrev pub IsIdle : DeskFacts T → List (ℕ × T) → Me (Option T) (View T) → Type 0
   IsIdle desk rows me = (c : ℕ) × (me ≡ (sitting (opening_of desk) rows c 2, []))
+
+  -- some seats of the list are left, and the rows are those of the others
+  abbrev pub Gathered : List (SeatFacts T) → List (SeatFacts T) → List (ℕ × T) → Type 0
+  Gathered all left rows = (done : List (SeatFacts T)) × (all ≡ left ++ done) × AllZip IsRowOf done rows

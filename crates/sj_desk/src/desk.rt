@@ -1,9 +1,9 @@
 //! The turn lock and its calls.
 
-ghost use Rattle.std.specs.Prelude.{◌≡◌, ◌+◌, ◌<◌, ◌≤◌, ◌==◌, true, false, [], Some, None, length, All, IfOk, IfErr, OnErr, IfSome, IfNone, MatchBool, vec_capacity};
+ghost use Rattle.std.specs.Prelude.{◌≡◌, ◌+◌, ◌<◌, ◌≤◌, ◌==◌, true, false, [], Some, None, length, All, IfOk, IfErr, OnErr, IfSome, IfNone, MatchBool, vec_capacity, Contains, ℕ};
 ghost use Rattle.std.specs.List.{AllZip};
 ghost use Rattle.sj_desk.specs.Seats.{new_seats, refused, in_turn, after_turn, retried, HasRowLeft, KeepsOtherRows, HasEachNumber};
-ghost use Rattle.sj_desk.specs.Views.{IsRowOf, IsIdle, opening_of, opening_rows, first_view};
+ghost use Rattle.sj_desk.specs.Views.{IsRowOf, IsIdle, opening_of, opening_rows, first_view, sitting};
 
 use crate::rule::{Deal, Fill, Gather, Mark, Open, Release, Ticket, Try, TurnRule};
 use crate::seat::DeskSeat;
@@ -50,6 +50,61 @@ impl<T: Keyed> Model for Desk<T> {
 }
 
 impl<T: Keyed> Desk<T> {
+    /// A desk with a value and this many seats. The seat at each place of the list has the place for
+    /// its number. It takes memory for the table and the list; where there is none the value comes back.
+    pub fn make(alloc: Global, value: T, seats: u8) -> Result<(Desk<T>, Vec<DeskSeat<T>>), T>
+        requires seats { 0 < seats }
+        requires sound { T.sound value }
+        ensures opening { IfOk result (λ r. r.0.opening ≡ value) }
+        ensures count { IfOk result (λ r. r.0.seats ≡ seats) }
+        ensures seats { IfOk result (λ r. r.1.items ≡ new_seats r.0) }
+        ensures err { IfErr result (λ v. v ≡ value) }
+    {
+        let Ok(list) = Vec::with_capacity(alloc, seats as usize) else {
+            return Err(value);
+        };
+        let opening = Opening { value, seats };
+        let made = Table::vacant(alloc, &[TAKEN], 1, &opening);
+        let Opening { value, seats } = opening;
+        let Ok((table, mut dealer)) = made else {
+            list.destroy_empty();
+            return Err(value);
+        };
+        let desk = Desk { table };
+        desk.fill(&mut dealer, value);
+        let list = desk.deal(dealer, list, seats);
+        Ok((desk, list))
+    }
+
+    // Puts the opening value into the slot, and frees the turn.
+    fn fill(&self, dealer: &mut Ticket<T>, value: T)
+        requires dealer { (dealer.old.table_id ≡ self.now.table) × (dealer.old.id ≡ 0) × (dealer.old.me ≡ (first_view (opening_of self.now), [])) }
+        requires opening { value ≡ self.now.opening }
+        requires sound { T.sound value }
+        ensures { (dealer.new.table_id ≡ self.now.table) × (dealer.new.me ≡ (sitting (opening_of self.now) (opening_rows self.now.opening 0 self.now.seats) 0 2, [])) }
+    {
+        let turn = &self.table.shared;
+        turn.load::<Fill>(dealer, 0);
+        let out = turn.exchange(dealer, 0, Some(value));
+        let None = out else { unreachable!() };
+        turn.store::<Open>(dealer, 0, FREE);
+    }
+
+    // Deals each seat its row.
+    fn deal(&self, mut dealer: Ticket<T>, mut list: Vec<DeskSeat<T>>, seats: u8) -> Vec<DeskSeat<T>>
+        requires dealer { (dealer.table_id ≡ self.now.table) × (dealer.me ≡ (sitting (opening_of self.now) (opening_rows self.now.opening 0 self.now.seats) 0 2, [])) }
+        requires seats { self.now.seats ≡ seats }
+        requires list { list.items ≡ [] }
+        requires room { seats ≤ vec_capacity list }
+        ensures { result.items ≡ new_seats self.now }
+    {
+        for number in 0..seats {
+            let ticket = self.table.shared.split_seat::<Deal>(&mut dealer);
+            list.push_reserved(DeskSeat { number, ticket });
+        }
+        list
+    }
+
     // One try for the turn, which leaves the mark in the turn word.
     fn attempt(&self, seat: &mut DeskSeat<T>, mark: u64) -> Option<T>
         requires mark { 0 < mark }
@@ -168,5 +223,64 @@ impl<T: Keyed> Desk<T> {
         if turn.swap::<Release>(&mut seat.ticket, 0, FREE) == AWAITED {
             turn.wake_one(0);
         }
+    }
+
+    /// Ends the desk, with all its seats, and gives the value. Linear in the seats, and no memory.
+    pub fn close(self, seats: Vec<DeskSeat<T>>) -> T
+        requires of_this_desk { All (λ s. s.desk ≡ Some self) seats.items }
+        requires not_in_their_turn { All (λ s. s.found ≡ None) seats.items }
+        requires all_its_seats { HasEachNumber self seats.items }
+        ensures key { T.key result ≡ T.key self.opening }
+        ensures sound { T.sound result }
+        ensures rows { All (HasRowLeft T.row_of result) seats.items }
+    {
+        let ticket = self.gather(seats);
+        self.end(ticket)
+    }
+
+    // Joins all seats into one, which answers for all rows.
+    fn gather(&self, mut seats: Vec<DeskSeat<T>>) -> Ticket<T>
+        requires of_this_desk { All (λ s. s.desk ≡ Some self.now) seats.items }
+        requires not_in_their_turn { All (λ s. s.found ≡ None) seats.items }
+        requires all_its_seats { HasEachNumber self.now seats.items }
+        ensures table { result.table_id ≡ self.now.table }
+        ensures idle { IsIdle self.now result.me.0.rows result.me }
+        ensures rows { AllZip IsRowOf seats.items result.me.0.rows }
+    {
+        let turn = &self.table.shared;
+        let Some(first) = seats.pop() else {
+            unreachable!()
+        };
+        let DeskSeat {
+            number: _,
+            mut ticket,
+        } = first;
+        while let Some(seat) = seats.pop() {
+            let DeskSeat {
+                number: _,
+                ticket: other,
+            } = seat;
+            turn.join_seat::<Gather>(&mut ticket, other);
+        }
+        seats.destroy_empty();
+        ticket
+    }
+
+    // Takes the value out of the table, whose turn is free.
+    fn end(self, ticket: Ticket<T>) -> T
+        requires table { ticket.table_id ≡ self.table }
+        requires idle { IsIdle self ticket.me.0.rows ticket.me }
+        requires all_rows { (n : ℕ) → n < self.seats → (r : ℕ × T) × Contains ticket.me.0.rows r × (r.0 ≡ n) }
+        ensures key { T.key result ≡ T.key self.opening }
+        ensures sound { T.sound result }
+        ensures rows { All (λ r. T.row_of result r.0 ≡ T.row_of r.1 r.0) ticket.me.0.rows }
+    {
+        let Desk { table } = self;
+        let mut closed = table.close_with(ticket);
+        let Some(value) = closed.take(0) else {
+            unreachable!()
+        };
+        closed.free();
+        value
     }
 }
