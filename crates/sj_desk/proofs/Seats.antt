@@ -1,5 +1,6 @@
 -- The seats of a desk, from what contracts see of them to what its table has, and the steps as the desk's calls ask for them.
 use Rattle.std.proofs.Common.{◌≡◌, ℕ, ◌+◌, ◌<◌, ◌≢◌, ◌==◌, List, [], ◌∷◌, sym, refl, ap, ◌∙◌, subst, arith, Option, Some, None, IfSome}
+use Rattle.std.specs.Option.{IsSomeAnd}
 use Rattle.std.proofs.lemmas.Option.{same_Some}
 use mathlib.Core.Logic.{dite}
 use native.Mathlib.Decide.{ℕ_discrete}
@@ -12,6 +13,13 @@ use Rattle.sj_desk.specs.Seats.{DeskFacts, SeatFacts, KeepsOtherRows}
 use Rattle.sj_desk.specs.Views.{view, seated, refused_view, found_view, left_by, slots_of, IsSeated, desk_facts, desk_of, opening_of, seat_facts}
 use Rattle.sj_desk.specs.Turns.{IsRuled, Finds, Tries, Marks, Leaves}
 use Rattle.sj_desk.proofs.Steps.{tries, marks, leaves}
+
+pub some_and : {A : Type 0} (P : A → Type 0) (o : Option A) → IsSomeAnd o P → (x : A) × (o ≡ Some x) × P x
+some_and P None h = absurd h
+some_and P (Some x) h = (x, refl, h)
+
+pub some_and_at : {A : Type 0} (P : A → Type 0) (o : Option A) (x : A) → o ≡ Some x → P x → IsSomeAnd o P
+some_and_at P o x e h = subst (λ y. IsSomeAnd y P) (sym e) h
 
 module _ {T : Type 0} where
   -- a seat of the desk with this key, which has found this
@@ -34,6 +42,12 @@ module _ {T : Type 0} where
         refusals = sat.refusals;
         me_is = sat.me_is ∙ (λ p. seated (key p) number sat.left (f p) sat.refusals);
       }
+
+  -- what the seat found in its turn, and the rows that are kept
+  pub record Keeps {R : Type 0} (row_of : T → ℕ → R) (number : ℕ) (k : Opening T) (s : SeatFacts T) (value : T) : Type 0 where
+    pub found : T
+    pub is : s.found ≡ Some found
+    pub others : (n : ℕ) → n < k.seats → n ≢ number → row_of value n ≡ row_of found n
 
   first_out : List (ℕ × Option T) → Option T
   first_out [] = None
@@ -74,9 +88,14 @@ module _ {T : Type 0} where
   }
 
   pub others_kept : {R : Type 0} (row_of : T → ℕ → R) (ts td : TableId) (number : ℕ) (v : View T) (k : Opening T) (s : SeatFacts T) (d : DeskFacts T) (value : T)
-      → seat_facts ts number v ≡ s → desk_facts td k ≡ d → (kept : KeepsOtherRows row_of d s value) → (n : ℕ) → n < k.seats → n ≢ number → row_of value n ≡ row_of kept.0 n
-  others_kept row_of ts td number v k s d value seen desk kept n below ne =
-      kept.2 n (subst (λ x. n < x) (ap (λ (x : DeskFacts T). x.seats) desk) below) (λ e. ne (e ∙ sym (ap (λ (x : SeatFacts T). x.number) seen)))
+      → seat_facts ts number v ≡ s → desk_facts td k ≡ d → KeepsOtherRows row_of d s value → Keeps row_of number k s value
+  others_kept row_of ts td number v k s d value seen desk kept =
+      let x = some_and (λ found. (n : ℕ) → n < d.seats → n ≢ s.number → row_of value n ≡ row_of found n) s.found kept in
+      record {
+        found = x.0;
+        is = x.1;
+        others = λ n below ne. x.2 n (subst (λ y. n < y) (ap (λ (y : DeskFacts T). y.seats) desk) below) (λ e. ne (e ∙ sym (ap (λ (y : SeatFacts T). y.number) seen)));
+      }
 
 module _ {T R : Type 0} (row_of : T → ℕ → R) (fits : Opening T → T → Type 0) (k : Opening T) where
   pub tries_at : (slots id number mark : ℕ) (left : T) (c : ℕ) (me : Me (Option T) (View T)) → slots ≡ 1 → mark ≢ 0 → me ≡ seated k number left None c

@@ -1,5 +1,6 @@
 -- What contracts see of a desk and of its seats.
-use Rattle.std.specs.Prelude.{◌≡◌, ◌≢◌, ℕ, ◌+◌, ◌<◌, List, map, Option, Some, None, Contains}
+use Rattle.std.specs.Prelude.{◌≡◌, ◌≢◌, ℕ, ◌+◌, ◌<◌, List, map, length, slice_index_or, Option, Some, None, All, Contains}
+use Rattle.std.specs.Option.{IsSomeAnd}
 use Rattle.std.specs.List.{range_with_len}
 use Rattle.atomic_table.specs.Seated.{TableId}
 
@@ -40,12 +41,11 @@ module _ {T : Type 0} where
 
   -- the value has the seat's row as the seat left it
   abbrev pub HasRowLeft : {R : Type 0} → (T → ℕ → R) → T → SeatFacts T → Type 0
-  HasRowLeft row_of value s = (left : T) × (s.left ≡ Some left) × (row_of value s.number ≡ row_of left s.number)
+  HasRowLeft row_of value s = IsSomeAnd s.left (λ left. row_of value s.number ≡ row_of left s.number)
 
   -- the seat is in its turn, and the value has the rows of all other seats as the seat found them
   abbrev pub KeepsOtherRows : {R : Type 0} → (T → ℕ → R) → DeskFacts T → SeatFacts T → T → Type 0
-  KeepsOtherRows row_of desk s value = (found : T) × (s.found ≡ Some found)
-      × ((n : ℕ) → n < desk.seats → n ≢ s.number → row_of value n ≡ row_of found n)
+  KeepsOtherRows row_of desk s value = IsSomeAnd s.found (λ found. (n : ℕ) → n < desk.seats → n ≢ s.number → row_of value n ≡ row_of found n)
 
   -- each number of the desk's seats is that of a seat of the list
   abbrev pub HasEachNumber : DeskFacts T → List (SeatFacts T) → Type 0
@@ -54,3 +54,13 @@ module _ {T : Type 0} where
   -- the seat after some tries: nothing but their number has changed
   abbrev pub retried : SeatFacts T → ℕ → SeatFacts T
   retried s refusals = record { desk = s.desk; number = s.number; refusals = refusals; left = s.left; found = s.found }
+
+  -- the seat is of the desk, and isn't in its turn
+  abbrev pub IsWaiting : DeskFacts T → SeatFacts T → Type 0
+  IsWaiting desk s = (s.desk ≡ Some desk) × (s.found ≡ None)
+
+  -- the desk's seats, each at the place of its number
+  pub record AreInPlace (desk : DeskFacts T) (seats : List (SeatFacts T)) : Type 0 where
+    pub count : length seats ≡ desk.seats
+    pub waiting : All (IsWaiting desk) seats
+    pub numbers : (k : ℕ) (d : SeatFacts T) → k < desk.seats → (slice_index_or seats k d).number ≡ k

@@ -212,7 +212,7 @@ impl<T: Keyed> Desk<T> {
     /// Constant time, and no memory. It wakes a seat that sleeps.
     pub fn leave(&self, seat: &mut DeskSeat<T>, value: T)
         requires of_this_desk { seat.old.desk ≡ Some self.now }
-        requires in_its_turn { KeepsOtherRows T.row_of self.now seat.old value }
+        requires other_rows { KeepsOtherRows T.row_of self.now seat.old value }
         requires key { T.key value ≡ T.key self.now.opening }
         requires sound { T.sound value }
         ensures seat { seat.new ≡ after_turn seat.old value }

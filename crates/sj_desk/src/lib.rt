@@ -4,6 +4,8 @@
 mod desk;
 mod rule;
 mod seat;
+#[cfg(test)]
+mod tests;
 mod view;
 
 pub use desk::{Busy, Desk};
