@@ -2,7 +2,7 @@
 
 ghost use Rattle.std.specs.Prelude.{◌≡◌, ◌+◌, ◌<◌, ◌≤◌, ◌==◌, true, false, [], Some, None, length, All, IfOk, IfErr, OnErr, IfSome, IfNone, MatchBool, vec_capacity, Contains, ℕ};
 ghost use Rattle.std.specs.List.{AllZip};
-ghost use Rattle.sj_desk.specs.Seats.{new_seats, refused, in_turn, after_turn, retried, HasRowLeft, KeepsOtherRows, HasEachNumber};
+ghost use Rattle.sj_desk.specs.Seats.{new_seats, refused, in_turn, after_turn, retried, HasRowLeft, KeepsOtherRows, HasEachNumber, IsWaiting, AreInPlace};
 ghost use Rattle.sj_desk.specs.Views.{IsRowOf, IsIdle, opening_of, opening_rows, first_view, sitting};
 
 use crate::rule::{Deal, Fill, Gather, Mark, Open, Release, Ticket, Try, TurnRule};
@@ -58,6 +58,7 @@ impl<T: Keyed> Desk<T> {
         ensures opening { IfOk result (λ r. r.0.opening ≡ value) }
         ensures count { IfOk result (λ r. r.0.seats ≡ seats) }
         ensures seats { IfOk result (λ r. r.1.items ≡ new_seats r.0) }
+        ensures in_place { IfOk result (λ r. AreInPlace r.0 r.1.items) }
         ensures err { IfErr result (λ v. v ≡ value) }
     {
         let Ok(list) = Vec::with_capacity(alloc, seats as usize) else {
@@ -227,8 +228,7 @@ impl<T: Keyed> Desk<T> {
 
     /// Ends the desk, with all its seats, and gives the value. Linear in the seats, and no memory.
     pub fn close(self, seats: Vec<DeskSeat<T>>) -> T
-        requires of_this_desk { All (λ s. s.desk ≡ Some self) seats.items }
-        requires not_in_their_turn { All (λ s. s.found ≡ None) seats.items }
+        requires waiting { All (IsWaiting self) seats.items }
         requires all_its_seats { HasEachNumber self seats.items }
         ensures key { T.key result ≡ T.key self.opening }
         ensures sound { T.sound result }
@@ -240,8 +240,7 @@ impl<T: Keyed> Desk<T> {
 
     // Joins all seats into one, which answers for all rows.
     fn gather(&self, mut seats: Vec<DeskSeat<T>>) -> Ticket<T>
-        requires of_this_desk { All (λ s. s.desk ≡ Some self.now) seats.items }
-        requires not_in_their_turn { All (λ s. s.found ≡ None) seats.items }
+        requires waiting { All (IsWaiting self.now) seats.items }
         requires all_its_seats { HasEachNumber self.now seats.items }
         ensures table { result.table_id ≡ self.now.table }
         ensures idle { IsIdle self.now result.me.0.rows result.me }

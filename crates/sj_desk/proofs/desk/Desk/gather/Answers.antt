@@ -1,6 +1,6 @@
 use Rattle.std.proofs.Common.{rules, ◌≡◌, ◌∙◌, ◌<◌, ap, sym, refl, true≢false, None, Some, length, arith}
 use Rattle.std.proofs.lemmas.List.Elements.{All-pop}
-use Rattle.sj_desk.specs.Seats.{DeskFacts, SeatFacts}
+use Rattle.sj_desk.specs.Seats.{DeskFacts, IsWaiting}
 use Rattle.sj_desk.specs.Views.{IsRowOf}
 use Rattle.sj_desk.specs.Turns.{Fits}
 use Rattle.sj_desk.proofs.Ends.{IsTaken, taken, none_without, gathered_first, gathered_more, joins_at, joined_idle, joined_rows}
@@ -14,23 +14,20 @@ unreachable-requires g c =
 pub loop-seat-init : goal.loop-seat-init
 loop-seat-init g c =
     let d = c.args.self.now in
-    let of = All-pop (λ s. s.desk ≡ Some d) _ _ (Some c.in-Some.first) c.in-Some.ensures.items c.requires.of_this_desk in
-    let idle = All-pop (λ (s : SeatFacts g.row.T.Denot). s.found ≡ None) _ _ (Some c.in-Some.first) c.in-Some.ensures.items c.requires.not_in_their_turn in
-    let t = taken _ _ _ _ _ d c.in-Some.first c.first.invariant c.first.view_is c.self.view_is of.1 idle.1 in
+    let waits = All-pop (IsWaiting d) _ _ (Some c.in-Some.first) c.in-Some.ensures.items c.requires.waiting in
+    let t = taken _ _ _ _ _ d c.in-Some.first c.first.invariant c.first.view_is c.self.view_is waits.1.0 waits.1.1 in
     record {
       table = t.table;
       idle = t.idle;
-      of_this_desk = of.0;
-      not_in_their_turn = idle.0;
+      waiting = waits.0;
       gathered = gathered_first c.args.seats.items _ c.in-Some.first _ _ c.in-Some.ensures.items t.rows t.row;
     }
 
 pub join_seat-requires : goal.join_seat-requires
 join_seat-requires g c =
     let d = c.args.self.now in
-    let of = All-pop (λ s. s.desk ≡ Some d) _ _ (Some c.in-Some-pop.seat) c.in-Some-pop.ensures.items c.loop-seat.invariant.of_this_desk in
-    let idle = All-pop (λ (s : SeatFacts g.row.T.Denot). s.found ≡ None) _ _ (Some c.in-Some-pop.seat) c.in-Some-pop.ensures.items c.loop-seat.invariant.not_in_their_turn in
-    let t = taken _ _ _ _ _ d c.in-Some-pop.seat c.seat.invariant c.seat.view_is c.self.view_is of.1 idle.1 in
+    let waits = All-pop (IsWaiting d) _ _ (Some c.in-Some-pop.seat) c.in-Some-pop.ensures.items c.loop-seat.invariant.waiting in
+    let t = taken _ _ _ _ _ d c.in-Some-pop.seat c.seat.invariant c.seat.view_is c.self.view_is waits.1.0 waits.1.1 in
     let table = ap (λ (x : DeskFacts g.row.T.Denot). x.table) (sym c.self.view_is) in (
       c.loop-seat.invariant.table ∙ table,
       t.table ∙ table,
@@ -42,13 +39,11 @@ join_seat-requires g c =
 pub loop-seat-preserved : goal.loop-seat-preserved
 loop-seat-preserved g c =
     let d = c.args.self.now in
-    let of = All-pop (λ s. s.desk ≡ Some d) _ _ (Some c.in-Some-pop.seat) c.in-Some-pop.ensures.items c.loop-seat.invariant.of_this_desk in
-    let idle = All-pop (λ (s : SeatFacts g.row.T.Denot). s.found ≡ None) _ _ (Some c.in-Some-pop.seat) c.in-Some-pop.ensures.items c.loop-seat.invariant.not_in_their_turn in
-    let t = taken _ _ _ _ _ d c.in-Some-pop.seat c.seat.invariant c.seat.view_is c.self.view_is of.1 idle.1 in
+    let waits = All-pop (IsWaiting d) _ _ (Some c.in-Some-pop.seat) c.in-Some-pop.ensures.items c.loop-seat.invariant.waiting in
+    let t = taken _ _ _ _ _ d c.in-Some-pop.seat c.seat.invariant c.seat.view_is c.self.view_is waits.1.0 waits.1.1 in
     record {
       table = c.join_seat.ensures.0 ∙ c.loop-seat.invariant.table;
       idle = joined_idle d _ _ c.seat.inside.ticket.me.0 c.loop-seat.invariant.idle c.join_seat.ensures.2;
-      of_this_desk = of.0;
-      not_in_their_turn = idle.0;
+      waiting = waits.0;
       gathered = gathered_more _ _ _ c.in-Some-pop.seat _ _ _ c.loop-seat.invariant.gathered c.in-Some-pop.ensures.items (joined_rows _ _ c.seat.inside.ticket.me.0 _ t.rows c.join_seat.ensures.2) t.row;
     }

@@ -1,4 +1,5 @@
-use Rattle.std.proofs.Common.{◌≡◌, All, Some, None}
+use Rattle.std.proofs.Common.{◌≡◌, All}
+use Rattle.sj_desk.specs.Seats.{IsWaiting}
 use Rattle.sj_desk.specs.Views.{IsIdle, Gathered}
 use Rattle.sj_desk.proofs.desk.Desk.gather.Given as goal
 
@@ -7,8 +8,7 @@ abbrev pub invariant-loop-seat : goal.invariant-loop-seat
 invariant-loop-seat g l = record {
   table : l.ticket.table_id ≡ l.self.table;
   idle : IsIdle l.self l.ticket.me.0.rows l.ticket.me;
-  of_this_desk : All (λ s. s.desk ≡ Some l.self) l.seats.items;
-  not_in_their_turn : All (λ s. s.found ≡ None) l.seats.items;
+  waiting : All (IsWaiting l.self) l.seats.items;
   gathered : Gathered l.fn.seats.items l.seats.items l.ticket.me.0.rows;
 }
 
