@@ -1,8 +1,7 @@
 -- How a desk opens and deals its seats, and how it closes.
-use Rattle.std.proofs.Common.{◌≡◌, ℕ, zero, suc, ◌+◌, ◌-◌, ◌<◌, ◌≤◌, List, [], ◌∷◌, ◌++◌, map, length, get_or, sym, refl, ap, ◌∙◌, subst, arith, All, Contains, Option, Some, None, option_to_list, append_assoc}
+use Rattle.std.proofs.Common.{◌≡◌, ℕ, zero, suc, ◌+◌, ◌-◌, ◌<◌, List, [], ◌∷◌, ◌++◌, map, length, get_or, sym, refl, ap, ◌∙◌, subst, arith, All, Contains, Option, Some, None, option_to_list, append_assoc}
 use Rattle.std.specs.List.{AllByRecursion, AllZip, range_with_len}
 use Rattle.std.proofs.lemmas.List.Elements.{All-from_recursion, recursion_from_All}
-use Rattle.std.proofs.lemmas.Option.{none-some, same_Some}
 use mathlib.Core.Option.{some, some-injective}
 use lib.ListN.{get_elem?}
 use Rattle.atomic_table.specs.Seated.{TableId}
@@ -14,7 +13,7 @@ use Rattle.sj_desk.specs.Views.{IsSeated, seat_facts, left_of, sitting, ended, o
 use Rattle.sj_desk.specs.Turns.{IsRuled, Fills, Opens}
 use Rattle.sj_desk.proofs.Lists.{opening_next}
 use Rattle.std.proofs.lemmas.List.FromFn.{map-range_with_len_more}
-use Rattle.sj_desk.proofs.Seats.{SitsAt, sits, some_and_at}
+use Rattle.sj_desk.proofs.Seats.{sits, some_and_at}
 use Rattle.sj_desk.proofs.Steps.{fills, opens, deals, gathers, Closes, closes}
 
 module _ {X Y : Type 0} (R : X → Y → Type 0) where

@@ -1,6 +1,5 @@
 -- Seats that stand at the places of their numbers, as callers keep them.
-use Rattle.std.proofs.Common.{◌≡◌, ℕ, zero, suc, ◌<◌, List, [], ◌∷◌, ◌++◌, append-nil, map, take, drop, length, get_or, sym, ap, ◌∙◌, refl, subst, arith, All, Contains, Some}
-use Rattle.std.specs.List.{range_with_len}
+use Rattle.std.proofs.Common.{◌≡◌, ℕ, zero, suc, ◌<◌, List, [], ◌∷◌, ◌++◌, append-nil, take, drop, length, get_or, sym, ap, ◌∙◌, refl, subst, arith}
 use Rattle.std.proofs.lemmas.List.FromFn.{length-map-range_with_len, get_or-map-range_with_len}
 use Rattle.std.proofs.lemmas.List.Elements.{Contains-get_or}
 use Rattle.sj_desk.specs.Seats.{DeskFacts, SeatFacts, new_seat, new_seats, HasEachNumber, IsWaiting, AreInPlace}

@@ -1,5 +1,5 @@
 -- The seats of a desk, from what contracts see of them to what its table has, and the steps as the desk's calls ask for them.
-use Rattle.std.proofs.Common.{◌≡◌, ℕ, ◌+◌, ◌<◌, ◌≢◌, ◌==◌, List, [], ◌∷◌, sym, refl, ap, ◌∙◌, subst, arith, Option, Some, None, IfSome}
+use Rattle.std.proofs.Common.{◌≡◌, ℕ, ◌+◌, ◌<◌, ◌≢◌, ◌==◌, List, [], ◌∷◌, sym, refl, ap, ◌∙◌, subst, Option, Some, None, IfSome}
 use Rattle.std.specs.Option.{IsSomeAnd}
 use Rattle.std.proofs.lemmas.Option.{same_Some}
 use mathlib.Core.Logic.{dite}
@@ -10,7 +10,7 @@ use Rattle.atomic_table.specs.Table.{Me, Allows, rest}
 use Rattle.sj_desk.specs.declared.view.View.{View}
 use Rattle.sj_desk.specs.declared.view.Opening.{Opening}
 use Rattle.sj_desk.specs.Seats.{DeskFacts, SeatFacts, KeepsOtherRows}
-use Rattle.sj_desk.specs.Views.{view, seated, refused_view, found_view, left_by, slots_of, IsSeated, desk_facts, desk_of, opening_of, seat_facts}
+use Rattle.sj_desk.specs.Views.{view, seated, refused_view, found_view, left_by, IsSeated, desk_facts, desk_of, opening_of, seat_facts}
 use Rattle.sj_desk.specs.Turns.{IsRuled, Finds, Tries, Marks, Leaves}
 use Rattle.sj_desk.proofs.Steps.{tries, marks, leaves}
 

@@ -1,9 +1,9 @@
 -- Each step of the turn keeps its rule.
-use Rattle.std.proofs.Common.{◌≡◌, ℕ, zero, suc, ◌+◌, ◌<◌, ◌≤◌, ◌≢◌, ◌==◌, eqb, eq-eqb, ne_eqb, cond, List, [], ◌∷◌, ◌++◌, map, length, get_or, set, slice_index, sym, refl, ap, ◌∙◌, inl, inr, ⊎_elim, subst, arith, Option, Some, None, Contains, length-set, get_or-set_same}
+use Rattle.std.proofs.Common.{◌≡◌, ℕ, ◌+◌, ◌<◌, ◌≢◌, ◌==◌, eqb, eq-eqb, ne_eqb, cond, List, [], ◌∷◌, length, set, slice_index, sym, refl, ap, ◌∙◌, inl, inr, ⊎_elim, subst, arith, Option, Some, None, Contains, length-set, get_or-set_same}
 use Rattle.std.specs.List.{AllByRecursion}
 use Rattle.std.proofs.lemmas.Option.{none-some, same_Some}
 use mathlib.Core.Logic.{dite}
-use mathlib.Core.Option.{some, none, some-injective}
+use mathlib.Core.Option.{some, some-injective}
 use native.Mathlib.Decide.{ℕ_discrete}
 use prog.Atomic.{either}
 use lib.ListN.{get_elem?}
@@ -11,8 +11,8 @@ use Rattle.atomic_table.specs.Table.{State, Me, Act, keeps, takes, gives, Valid,
 use Rattle.atomic_table.proofs.Lists.{set_here, set_else, at_longer, exchanged}
 use Rattle.sj_desk.specs.declared.view.View.{View}
 use Rattle.sj_desk.specs.declared.view.Opening.{Opening}
-use Rattle.sj_desk.specs.Views.{view, sitting, ended, opening_rows, first_view, at_stage, refused_view, found_view, left_view, dealing, dealt, joined, seated}
-use Rattle.sj_desk.specs.Turns.{IsKeptRow, IsKeptView, IsHolder, IsOpen, made, filled, IsRuled, Finds, Tries, Marks, Leaves, Fills, Opens}
+use Rattle.sj_desk.specs.Views.{view, sitting, ended, opening_rows, first_view, at_stage, found_view, dealing, dealt, joined, seated}
+use Rattle.sj_desk.specs.Turns.{IsKeptRow, IsKeptView, IsHolder, IsOpen, made, filled, IsRuled, Tries, Marks, Leaves, Fills, Opens}
 use Rattle.sj_desk.proofs.Lists.{within, only, only_place, at_end, after_set, each_weaker, each_append, each_at, opening_each, opening_weaker}
 
 -- a seat that isn't in its turn is not the holder

@@ -1,6 +1,6 @@
 //! The turn lock and its calls.
 
-ghost use Rattle.std.specs.Prelude.{◌≡◌, ◌+◌, ◌<◌, ◌≤◌, ◌==◌, true, false, [], Some, None, length, All, IfOk, IfErr, OnErr, IfSome, IfNone, MatchBool, vec_capacity, Contains, ℕ};
+ghost use Rattle.std.specs.Prelude.{◌≡◌, ◌<◌, ◌≤◌, [], Some, None, All, IfOk, IfErr, OnErr, IfSome, IfNone, MatchBool, vec_capacity, Contains, ℕ};
 ghost use Rattle.std.specs.List.{AllZip};
 ghost use Rattle.sj_desk.specs.Seats.{new_seats, refused, in_turn, after_turn, retried, HasRowLeft, KeepsOtherRows, HasEachNumber, IsWaiting, AreInPlace};
 ghost use Rattle.sj_desk.specs.Views.{IsRowOf, IsIdle, opening_of, opening_rows, first_view, sitting};

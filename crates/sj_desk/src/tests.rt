@@ -60,7 +60,7 @@ fn note_all<R: Wait>(rt: &R, desk: &Desk<Journal>, seat: &mut DeskSeat<Journal>,
     }
 }
 
-// Each seat writes its entries in a thread of its own.
+// Each seat has a turn and then writes its entries, in a thread of its own.
 fn note_in_threads<R: Threads + Wait + Sync>(
     rt: &R,
     desk: &Desk<Journal>,
@@ -77,6 +77,29 @@ fn note_in_threads<R: Threads + Wait + Sync>(
         threads,
         &|_, seat| { note_all(rt, desk, seat, count) },
     );
+}
+
+// A turn of any desk in which nothing changes.
+fn visit<T: Keyed, R: Wait>(rt: &R, desk: &Desk<T>, seat: &mut DeskSeat<T>)
+    requires { IsWaiting desk.now seat.old }
+    ensures waits { IsWaiting desk.now seat.new }
+    ensures number { seat.new.number ≡ seat.old.number }
+{
+    let value = desk.enter(rt, seat);
+    desk.leave(seat, value);
+}
+
+// Each seat of any desk takes such a turn, in a thread of its own.
+fn visit_in_threads<T: Keyed + Send, R: Threads + Wait + Sync>(
+    rt: &R,
+    desk: &Desk<T>,
+    seats: &mut [DeskSeat<T>],
+)
+    requires { AreInPlace desk.now seats.old }
+    ensures { AreInPlace desk.now seats.new }
+{
+    let threads = seats.len().max(1);
+    thread::for_each_mut(rt, seats, threads, &|_, seat| visit(rt, desk, seat));
 }
 
 // A desk with an empty journal.
@@ -222,27 +245,4 @@ fn the_value_comes_back_where_memory_is_refused(rt: HostRuntime) -> Result<(), F
         assert_eq!(rt; (journal.title, journal.entries.len()), (7, 0));
     }
     Ok(())
-}
-
-// A turn of any desk in which nothing changes.
-fn visit<T: Keyed, R: Wait>(rt: &R, desk: &Desk<T>, seat: &mut DeskSeat<T>)
-    requires { IsWaiting desk.now seat.old }
-    ensures waits { IsWaiting desk.now seat.new }
-    ensures number { seat.new.number ≡ seat.old.number }
-{
-    let value = desk.enter(rt, seat);
-    desk.leave(seat, value);
-}
-
-// Each seat of any desk takes such a turn, in a thread of its own.
-fn visit_in_threads<T: Keyed + Send, R: Threads + Wait + Sync>(
-    rt: &R,
-    desk: &Desk<T>,
-    seats: &mut [DeskSeat<T>],
-)
-    requires { AreInPlace desk.now seats.old }
-    ensures { AreInPlace desk.now seats.new }
-{
-    let threads = seats.len().max(1);
-    thread::for_each_mut(rt, seats, threads, &|_, seat| visit(rt, desk, seat));
 }

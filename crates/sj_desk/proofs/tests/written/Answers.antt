@@ -1,4 +1,4 @@
-use Rattle.std.proofs.Common.{◌∙◌, sym, subst, arith, length}
+use Rattle.std.proofs.Common.{◌∙◌, sym, subst, arith}
 use Rattle.sj_desk.specs.Seats.{HasEachNumber}
 use Rattle.sj_desk.proofs.Places.{each_number, lent_back}
 use Rattle.sj_desk.proofs.tests.written.Goals as goal

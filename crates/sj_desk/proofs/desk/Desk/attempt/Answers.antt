@@ -1,8 +1,8 @@
-use Rattle.std.proofs.Common.{rules, ◌≡◌, ap, Option, None, Some, arith}
+use Rattle.std.proofs.Common.{rules, ap, Option, None, Some, arith}
 use Rattle.atomic_table.specs.Table.{Me}
 use Rattle.sj_desk.specs.declared.view.View.{View}
 use Rattle.sj_desk.specs.Turns.{Fits}
-use Rattle.sj_desk.proofs.Seats.{SitsAt, sits, tries_at, busy_seated, found_out, found_seated, found_fits}
+use Rattle.sj_desk.proofs.Seats.{sits, tries_at, busy_seated, found_out, found_seated, found_fits}
 use Rattle.sj_desk.proofs.desk.Desk.attempt.Goals as goal
 
 pub compare_exchange-found-requires : goal.compare_exchange-found-requires

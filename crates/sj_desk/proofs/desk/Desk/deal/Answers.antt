@@ -1,6 +1,6 @@
-use Rattle.std.proofs.Common.{rules, ◌≡◌, ◌∙◌, ◌<◌, ap, sym, None, length, arith}
+use Rattle.std.proofs.Common.{rules, ◌∙◌, ◌<◌, ap, None, length, arith}
 use Rattle.std.proofs.lemmas.List.FromFn.{length-map-range_with_len}
-use Rattle.sj_desk.specs.Seats.{DeskFacts, SeatFacts, new_seat}
+use Rattle.sj_desk.specs.Seats.{new_seat}
 use Rattle.sj_desk.specs.Views.{opening_of}
 use Rattle.sj_desk.specs.Turns.{Fits}
 use Rattle.sj_desk.proofs.Ends.{deals_at, dealer_next, dealt_me, dealt_facts, dealt_list}

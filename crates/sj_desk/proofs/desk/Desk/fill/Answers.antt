@@ -1,7 +1,7 @@
-use Rattle.std.proofs.Common.{rules, ◌≡◌, ◌∙◌, ap, sym, refl, subst, arith}
+use Rattle.std.proofs.Common.{rules, ◌∙◌, ap, sym, refl, subst, arith}
 use Rattle.sj_desk.specs.Seats.{DeskFacts}
 use Rattle.sj_desk.specs.Turns.{Fits}
-use Rattle.sj_desk.proofs.Ends.{fills_at, filled_in, opens_at, opened_in}
+use Rattle.sj_desk.proofs.Ends.{fills_at, filled_in, opens_at}
 use Rattle.sj_desk.proofs.desk.Desk.fill.Goals as goal
 
 pub load-requires : goal.load-requires

@@ -1,9 +1,8 @@
-use Rattle.std.proofs.Common.{rules, ◌≡◌, ◌∙◌, ◌<◌, ap, sym, refl, true≢false, None, Some, length, arith}
+use Rattle.std.proofs.Common.{◌∙◌, ◌<◌, ap, sym, Some, arith}
 use Rattle.std.proofs.lemmas.List.Elements.{All-pop}
 use Rattle.sj_desk.specs.Seats.{DeskFacts, IsWaiting}
-use Rattle.sj_desk.specs.Views.{IsRowOf}
 use Rattle.sj_desk.specs.Turns.{Fits}
-use Rattle.sj_desk.proofs.Ends.{IsTaken, taken, none_without, gathered_first, gathered_more, joins_at, joined_idle, joined_rows}
+use Rattle.sj_desk.proofs.Ends.{taken, none_without, gathered_first, gathered_more, joins_at, joined_idle, joined_rows}
 use Rattle.sj_desk.proofs.desk.Desk.gather.Goals as goal
 
 pub unreachable-requires : goal.unreachable-requires

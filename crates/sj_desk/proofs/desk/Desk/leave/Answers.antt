@@ -1,7 +1,7 @@
-use Rattle.std.proofs.Common.{rules, ◌≡◌, ◌∙◌, ap, sym, Some, arith}
+use Rattle.std.proofs.Common.{rules, ◌∙◌, ap, sym, Some, arith}
 use Rattle.sj_desk.specs.Seats.{DeskFacts}
 use Rattle.sj_desk.specs.Turns.{Fits}
-use Rattle.sj_desk.proofs.Seats.{SitsAt, sits, Keeps, leaves_at, put_in, left_seated, others_kept}
+use Rattle.sj_desk.proofs.Seats.{sits, leaves_at, put_in, left_seated, others_kept}
 use Rattle.sj_desk.proofs.desk.Desk.leave.Goals as goal
 
 pub swap-requires : goal.swap-requires

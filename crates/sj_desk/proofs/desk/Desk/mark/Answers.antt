@@ -1,6 +1,6 @@
-use Rattle.std.proofs.Common.{rules, ◌≡◌, ℕ, None, Some, arith}
+use Rattle.std.proofs.Common.{None, arith}
 use Rattle.sj_desk.specs.Turns.{Fits}
-use Rattle.sj_desk.proofs.Seats.{SitsAt, sits, marks_at, marked_seated}
+use Rattle.sj_desk.proofs.Seats.{sits, marks_at, marked_seated}
 use Rattle.sj_desk.proofs.desk.Desk.mark.Goals as goal
 
 pub compare_exchange-requires : goal.compare_exchange-requires

@@ -1,2 +1,0 @@
-use Rattle.std.proofs.lemmas.List.Elements.{All-pop}
-use Rattle.sj_desk.proofs.tests.two_of.Goals as goal
