@@ -9,7 +9,7 @@ use Rattle.atomic_table.specs.Table.{Me, Allows, Splits, Joins, Final, Seen, res
 use Rattle.sj_desk.specs.declared.view.View.{View}
 use Rattle.sj_desk.specs.declared.view.Opening.{Opening}
 use Rattle.sj_desk.specs.Seats.{DeskFacts, SeatFacts, new_seat, HasRowLeft, HasEachNumber}
-use Rattle.sj_desk.specs.Views.{IsSeated, seat_facts, left_of, sitting, ended, opening_rows, first_view, at_stage, dealing, dealt, joined, seated, desk_facts, opening_of, IsRowOf, IsIdle, Gathered}
+use Rattle.sj_desk.specs.Views.{IsSeated, seat_facts, left_of, sitting, ended, opening_rows, first_view, at_stage, dealing, dealt, joined, seated, desk_facts, opening_of, IsRowOf, IsIdle, IsDealer, Gathered}
 use Rattle.sj_desk.specs.Turns.{IsRuled, Fills, Opens}
 use Rattle.sj_desk.proofs.Lists.{opening_next}
 use Rattle.std.proofs.lemmas.List.FromFn.{map-range_with_len_more}
@@ -133,8 +133,11 @@ module _ {T R : Type 0} (row_of : T → ℕ → R) (fits : Opening T → T → T
       (subst (λ (y : Me (Option T) (View T)). Allows (IsRuled row_of fits k) 1 id y 0 (λ _. 0) (λ _ n. Opens y n)) (sym e)
       (opens row_of fits k id first fit))
 
-  pub opened_in : (m n : Me (Option T) (View T)) → m ≡ (at_stage 1 (first_view k), (0, Some k.value) ∷ []) → Opens m n → n ≡ (sitting (opening_of d) (opening_rows d.opening 0 d.seats) 0 2, [])
-  opened_in m n e f = f ∙ ap (λ (x : Me (Option T) (View T)). (at_stage 2 x.0, rest x.1)) e ∙ ap (λ (x : DeskFacts T). (sitting (opening_of x) (opening_rows x.opening 0 x.seats) 0 2, [])) desk
+  pub opened_in : (m n : Me (Option T) (View T)) → m ≡ (at_stage 1 (first_view k), (0, Some k.value) ∷ []) → Opens m n → IsDealer d 0 n
+  opened_in m n e f =
+      let whole : k.seats ≡ k.seats - 0 = omega arith in
+      f ∙ ap (λ (x : Me (Option T) (View T)). (at_stage 2 x.0, rest x.1)) e ∙ ap (λ (n : ℕ). (sitting k (opening_rows k.value 0 n) 0 2, [])) whole
+      ∙ ap (λ (x : DeskFacts T). (sitting (opening_of x) (opening_rows x.opening 0 (x.seats - 0)) 0 2, [])) desk
 
   pub deals_at : (id a : ℕ) (me : Me (Option T) (View T)) → a < d.seats → me ≡ (sitting (opening_of d) (opening_rows d.opening a (d.seats - a)) 0 2, [])
       → Splits (IsRuled row_of fits k) id me.0 (dealing me.0) (dealt me.0)

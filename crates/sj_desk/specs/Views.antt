@@ -1,11 +1,15 @@
 -- What a seat knows, as the rule of the turn sees it.
-use Rattle.std.specs.Prelude.{◌≡◌, ℕ, ◌+◌, List, [], ◌∷◌, ◌++◌, map, Option, Some, None}
+use Rattle.std.specs.Prelude.{◌≡◌, ℕ, ◌+◌, ◌-◌, ◌<◌, List, [], ◌∷◌, ◌++◌, map, Option, Some, None, Contains}
 use Rattle.std.specs.List.{range_with_len, AllZip}
 use Rattle.atomic_table.specs.Seated.{TableId}
 use Rattle.atomic_table.specs.Table.{Me}
 use Rattle.sj_desk.specs.declared.view.View.{View}
 use Rattle.sj_desk.specs.declared.view.Opening.{Opening}
 use Rattle.sj_desk.specs.Seats.{DeskFacts, SeatFacts}
+
+-- a table of one word and one slot, for at least one seat
+abbrev pub IsOneTurn : TableId → ℕ → Type 0
+IsOneTurn table seats = (table.words ≡ 1) × (table.slots ≡ 1) × (0 < seats)
 
 module _ {T : Type 0} where
   abbrev pub view : Option (Opening T) → List (ℕ × T) → Option T → ℕ → ℕ → View T
@@ -111,6 +115,17 @@ module _ {T : Type 0} where
   -- the row that a seat answers for
   abbrev pub IsRowOf : SeatFacts T → ℕ × T → Type 0
   IsRowOf s r = (s.number ≡ r.0) × (s.left ≡ Some r.1)
+
+  -- the first seat of a table, and the seat that still answers for the rows from the number a on
+  abbrev pub IsFirst : DeskFacts T → Me (Option T) (View T) → Type 0
+  IsFirst desk me = me ≡ (first_view (opening_of desk), [])
+
+  abbrev pub IsDealer : DeskFacts T → ℕ → Me (Option T) (View T) → Type 0
+  IsDealer desk a me = me ≡ (sitting (opening_of desk) (opening_rows desk.opening a (desk.seats - a)) 0 2, [])
+
+  -- each number of the desk's seats is that of one of the rows
+  abbrev pub HasEachRow : DeskFacts T → List (ℕ × T) → Type 0
+  HasEachRow desk rows = (n : ℕ) → n < desk.seats → (r : ℕ × T) × Contains rows r × (r.0 ≡ n)
 
   -- a seat that isn't in its turn, and answers for these rows
   abbrev pub IsIdle : DeskFacts T → List (ℕ × T) → Me (Option T) (View T) → Type 0

@@ -1,9 +1,9 @@
 //! The turn lock and its calls.
 
-ghost use Rattle.std.specs.Prelude.{◌≡◌, ◌<◌, ◌≤◌, [], Some, None, All, IfOk, IfErr, OnErr, IfSome, IfNone, MatchBool, vec_capacity, Contains, ℕ};
+ghost use Rattle.std.specs.Prelude.{◌≡◌, ◌<◌, ◌≤◌, [], Some, None, All, IfOk, IfErr, OnErr, IfSome, IfNone, MatchBool, vec_capacity};
 ghost use Rattle.std.specs.List.{AllZip};
 ghost use Rattle.sj_desk.specs.Seats.{new_seats, refused, in_turn, after_turn, retried, HasRowLeft, KeepsOtherRows, HasEachNumber, IsWaiting, AreInPlace};
-ghost use Rattle.sj_desk.specs.Views.{IsRowOf, IsIdle, opening_of, opening_rows, first_view, sitting};
+ghost use Rattle.sj_desk.specs.Views.{IsRowOf, IsIdle, IsFirst, IsDealer, HasEachRow};
 
 use crate::rule::{Deal, Fill, Gather, Mark, Open, Release, Ticket, Try, TurnRule};
 use crate::seat::DeskSeat;
@@ -38,20 +38,19 @@ pub struct Desk<T: Keyed> {
 }
 
 impl<T: Keyed> Model for Desk<T> {
-    ghost use Rattle.std.specs.Prelude.{◌≡◌, ◌<◌};
     ghost use Rattle.sj_desk.specs.Seats.{DeskFacts};
-    ghost use Rattle.sj_desk.specs.Views.{desk_facts};
+    ghost use Rattle.sj_desk.specs.Views.{desk_facts, IsOneTurn};
 
     ghost Value = { DeskFacts T };
 
     ghost view = { λ d. desk_facts d.table.shared.table_id d.table.shared.key };
 
-    ghost invariant = { λ d. (d.table.shared.table_id.words ≡ 1) × (d.table.shared.table_id.slots ≡ 1) × (0 < d.table.shared.key.seats) };
+    ghost invariant = { λ d. IsOneTurn d.table.shared.table_id d.table.shared.key.seats };
 }
 
 impl<T: Keyed> Desk<T> {
-    /// A desk with a value and this many seats. The seat at each place of the list has the place for
-    /// its number. It takes memory for the table and the list; where there is none the value comes back.
+    /// A desk with a value and this many seats. The seat at each place of the list has that place
+    /// for its number. Linear in the seats. The error is want of memory, and hands the value back.
     pub fn make(alloc: Global, value: T, seats: u8) -> Result<(Desk<T>, Vec<DeskSeat<T>>), T>
         requires seats { 0 < seats }
         requires sound { T.sound value }
@@ -79,10 +78,13 @@ impl<T: Keyed> Desk<T> {
 
     // Puts the opening value into the slot, and frees the turn.
     fn fill(&self, dealer: &mut Ticket<T>, value: T)
-        requires dealer { (dealer.old.table_id ≡ self.now.table) × (dealer.old.id ≡ 0) × (dealer.old.me ≡ (first_view (opening_of self.now), [])) }
+        requires table { dealer.old.table_id ≡ self.now.table }
+        requires id { dealer.old.id ≡ 0 }
+        requires first { IsFirst self.now dealer.old.me }
         requires opening { value ≡ self.now.opening }
         requires sound { T.sound value }
-        ensures { (dealer.new.table_id ≡ self.now.table) × (dealer.new.me ≡ (sitting (opening_of self.now) (opening_rows self.now.opening 0 self.now.seats) 0 2, [])) }
+        ensures table { dealer.new.table_id ≡ self.now.table }
+        ensures dealer { IsDealer self.now 0 dealer.new.me }
     {
         let turn = &self.table.shared;
         turn.load::<Fill>(dealer, 0);
@@ -93,7 +95,8 @@ impl<T: Keyed> Desk<T> {
 
     // Deals each seat its row.
     fn deal(&self, mut dealer: Ticket<T>, mut list: Vec<DeskSeat<T>>, seats: u8) -> Vec<DeskSeat<T>>
-        requires dealer { (dealer.table_id ≡ self.now.table) × (dealer.me ≡ (sitting (opening_of self.now) (opening_rows self.now.opening 0 self.now.seats) 0 2, [])) }
+        requires table { dealer.table_id ≡ self.now.table }
+        requires dealer { IsDealer self.now 0 dealer.me }
         requires seats { self.now.seats ≡ seats }
         requires list { list.items ≡ [] }
         requires room { seats ≤ vec_capacity list }
@@ -269,7 +272,7 @@ impl<T: Keyed> Desk<T> {
     fn end(self, ticket: Ticket<T>) -> T
         requires table { ticket.table_id ≡ self.table }
         requires idle { IsIdle self ticket.me.0.rows ticket.me }
-        requires all_rows { (n : ℕ) → n < self.seats → (r : ℕ × T) × Contains ticket.me.0.rows r × (r.0 ≡ n) }
+        requires all_rows { HasEachRow self ticket.me.0.rows }
         ensures key { T.key result ≡ T.key self.opening }
         ensures sound { T.sound result }
         ensures rows { All (λ r. T.row_of result r.0 ≡ T.row_of r.1 r.0) ticket.me.0.rows }

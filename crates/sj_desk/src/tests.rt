@@ -220,7 +220,10 @@ fn hand_over<R: Threads + Wait + Clock + Sync>(
     let ((), found) = thread::join(
         rt,
         move ||
-            requires { (first.desk ≡ Some desk.now) × (first.found ≡ Some journal) × (journal.title ≡ desk.now.opening.title) × (journal.title ≢ 0) }
+            requires of_this_desk { first.desk ≡ Some desk.now }
+            requires in_its_turn { first.found ≡ Some journal }
+            requires key { journal.title ≡ desk.now.opening.title }
+            requires sound { journal.title ≢ 0 }
         { leave_later(rt, desk, first, journal) },
         || desk.enter(rt, &mut second),
     );
