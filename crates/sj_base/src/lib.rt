@@ -3,6 +3,7 @@
 #![tactic(auto)]
 
 pub mod ids;
+pub mod keyed;
 pub mod memory;
 pub mod mode;
 pub mod program;

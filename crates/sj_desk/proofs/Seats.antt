@@ -1,0 +1,137 @@
+-- The seats of a desk, from what contracts see of them to what its table has, and the steps as the desk's calls ask for them.
+use Rattle.std.proofs.Common.{◌≡◌, ℕ, ◌+◌, ◌<◌, ◌≢◌, ◌==◌, List, [], ◌∷◌, sym, refl, ap, ◌∙◌, subst, Option, Some, None, IfSome}
+use Rattle.std.specs.Option.{IsSomeAnd}
+use Rattle.std.proofs.lemmas.Option.{same_Some}
+use mathlib.Core.Logic.{dite}
+use native.Mathlib.Decide.{ℕ_discrete}
+use prog.Atomic.{either}
+use Rattle.atomic_table.specs.Seated.{TableId}
+use Rattle.atomic_table.specs.Table.{Me, Allows, rest}
+use Rattle.sj_desk.specs.declared.view.View.{View}
+use Rattle.sj_desk.specs.declared.view.Opening.{Opening}
+use Rattle.sj_desk.specs.Seats.{DeskFacts, SeatFacts, KeepsOtherRows}
+use Rattle.sj_desk.specs.Views.{view, seated, refused_view, found_view, left_by, IsSeated, desk_facts, desk_of, opening_of, seat_facts}
+use Rattle.sj_desk.specs.Turns.{IsRuled, Finds, Tries, Marks, Leaves}
+use Rattle.sj_desk.proofs.Steps.{tries, marks, leaves}
+
+pub some_and : {A : Type 0} (P : A → Type 0) (o : Option A) → IsSomeAnd o P → (x : A) × (o ≡ Some x) × P x
+some_and P None h = absurd h
+some_and P (Some x) h = (x, refl, h)
+
+pub some_and_at : {A : Type 0} (P : A → Type 0) (o : Option A) (x : A) → o ≡ Some x → P x → IsSomeAnd o P
+some_and_at P o x e h = subst (λ y. IsSomeAnd y P) (sym e) h
+
+module _ {T : Type 0} where
+  -- a seat of the desk with this key, which has found this
+  pub record SitsAt (ts td : TableId) (number : ℕ) (me : Me (Option T) (View T)) (k : Opening T) (found : Option T) : Type 0 where
+    pub table : ts ≡ td
+    pub left : T
+    pub refusals : ℕ
+    pub me_is : me ≡ seated k number left found refusals
+
+  pub sits : (ts td : TableId) (number : ℕ) (me : Me (Option T) (View T)) (k : Opening T) (found : Option T) (s : SeatFacts T) (d : DeskFacts T)
+      → IsSeated number me → seat_facts ts number me.0 ≡ s → desk_facts td k ≡ d → s.desk ≡ Some d → s.found ≡ found → SitsAt ts td number me k found
+  sits ts td number me k found s d sat seen desk of is =
+      let e : desk_facts ts sat.opening ≡ desk_facts td k =
+      same_Some (desk_facts ts sat.opening) (desk_facts td k) (ap (λ (m : Me (Option T) (View T)). desk_of ts m.0.opening) (sym sat.me_is) ∙ ap (λ (x : SeatFacts T). x.desk) seen ∙ of ∙ ap Some (sym desk)) in
+      let key : sat.opening ≡ k = ap (λ (x : DeskFacts T). opening_of x) e in
+      let f : sat.found ≡ found = ap (λ (m : Me (Option T) (View T)). m.0.found) (sym sat.me_is) ∙ ap (λ (x : SeatFacts T). x.found) seen ∙ is in
+      record {
+        table = ap (λ (x : DeskFacts T). x.table) e;
+        left = sat.left;
+        refusals = sat.refusals;
+        me_is = sat.me_is ∙ (λ p. seated (key p) number sat.left (f p) sat.refusals);
+      }
+
+  -- what the seat found in its turn, and the rows that are kept
+  pub record Keeps {R : Type 0} (row_of : T → ℕ → R) (number : ℕ) (k : Opening T) (s : SeatFacts T) (value : T) : Type 0 where
+    pub found : T
+    pub is : s.found ≡ Some found
+    pub others : (n : ℕ) → n < k.seats → n ≢ number → row_of value n ≡ row_of found n
+
+  first_out : List (ℕ × Option T) → Option T
+  first_out [] = None
+  first_out (x ∷ xs) = x.1
+
+  -- a slot that the seat holds has one value
+  pub same_out : (l : List (ℕ × Option T)) (x y : Option T) → l ≡ (0, x) ∷ rest l → l ≡ (0, y) ∷ rest l → x ≡ y
+  unfolding first_out
+  same_out l x y d e = ap first_out (sym d ∙ e)
+
+  pub busy_seated : (number : ℕ) (left : T) (c : ℕ) (k : Opening T) (m n : Me (Option T) (View T)) → m ≡ seated k number left None c → n ≡ (refused_view m.0, m.1) → IsSeated number n
+  busy_seated number left c k m n e busy = record {
+    opening = k;
+    left = left;
+    found = None;
+    refusals = c + 1;
+    me_is = busy ∙ ap (λ (x : Me (Option T) (View T)). (refused_view x.0, x.1)) e;
+  }
+
+  pub marked_seated : (number : ℕ) (left : T) (c : ℕ) (k : Opening T) (m n : Me (Option T) (View T)) (r : ℕ) → m ≡ seated k number left None c → Marks m r n → IsSeated number n
+  marked_seated number left c k m n r e marked = dite (ℕ_discrete r 0)
+      (λ free. record { opening = k; left = left; found = None; refusals = c; me_is = marked.free free ∙ e })
+      (λ busy. busy_seated number left c k m n e (marked.busy busy))
+
+  -- the seat, once its value is in the slot, and once it has left
+  pub put_in : (number : ℕ) (left found value : T) (c : ℕ) (k : Opening T) (m n : Me (Option T) (View T)) → m ≡ seated k number left (Some found) c → n ≡ (m.0, (0, Some value) ∷ rest m.1)
+      → n ≡ (view (Some k) ((number, left) ∷ []) (Some found) c 2, (0, Some value) ∷ [])
+  put_in number left found value c k m n e is = is ∙ ap (λ (x : Me (Option T) (View T)). (x.0, (0, Some value) ∷ rest x.1)) e
+
+  pub left_seated : (number : ℕ) (left found value : T) (c : ℕ) (k : Opening T) (m n o : Me (Option T) (View T)) → m ≡ seated k number left (Some found) c → n ≡ (m.0, (0, Some value) ∷ rest m.1)
+      → Leaves n o → IsSeated number o
+  left_seated number left found value c k m n o e is gone = record {
+    opening = k;
+    left = value;
+    found = None;
+    refusals = c;
+    me_is = gone ∙ ap (λ (x : Me (Option T) (View T)). (left_by x.0 x.1, rest x.1)) (put_in number left found value c k m n e is);
+  }
+
+  pub others_kept : {R : Type 0} (row_of : T → ℕ → R) (ts td : TableId) (number : ℕ) (v : View T) (k : Opening T) (s : SeatFacts T) (d : DeskFacts T) (value : T)
+      → seat_facts ts number v ≡ s → desk_facts td k ≡ d → KeepsOtherRows row_of d s value → Keeps row_of number k s value
+  others_kept row_of ts td number v k s d value seen desk kept =
+      let x = some_and (λ found. (n : ℕ) → n < d.seats → n ≢ s.number → row_of value n ≡ row_of found n) s.found kept in
+      record {
+        found = x.0;
+        is = x.1;
+        others = λ n below ne. x.2 n (subst (λ y. n < y) (ap (λ (y : DeskFacts T). y.seats) desk) below) (λ e. ne (e ∙ sym (ap (λ (y : SeatFacts T). y.number) seen)));
+      }
+
+module _ {T R : Type 0} (row_of : T → ℕ → R) (fits : Opening T → T → Type 0) (k : Opening T) where
+  pub tries_at : (slots id number mark : ℕ) (left : T) (c : ℕ) (me : Me (Option T) (View T)) → slots ≡ 1 → mark ≢ 0 → me ≡ seated k number left None c
+      → Allows (IsRuled row_of fits k) slots id me 0 (λ n. either (n == 0) mark n) (λ r n. Tries row_of fits me r n)
+  tries_at slots id number mark left c me one marked e =
+      subst (λ x. Allows (IsRuled row_of fits k) x id me 0 (λ n. either (n == 0) mark n) (λ r n. Tries row_of fits me r n)) (sym one)
+      (subst (λ (y : Me (Option T) (View T)). Allows (IsRuled row_of fits k) 1 id y 0 (λ n. either (n == 0) mark n) (λ r n. Tries row_of fits y r n)) (sym e)
+      (tries row_of fits k id number left c mark marked))
+
+  pub marks_at : (slots id number : ℕ) (left : T) (c : ℕ) (me : Me (Option T) (View T)) → slots ≡ 1 → me ≡ seated k number left None c
+      → Allows (IsRuled row_of fits k) slots id me 0 (λ n. either (n == 1) 2 n) (λ r n. Marks me r n)
+  marks_at slots id number left c me one e =
+      subst (λ x. Allows (IsRuled row_of fits k) x id me 0 (λ n. either (n == 1) 2 n) (λ r n. Marks me r n)) (sym one)
+      (subst (λ (y : Me (Option T) (View T)). Allows (IsRuled row_of fits k) 1 id y 0 (λ n. either (n == 1) 2 n) (λ r n. Marks y r n)) (sym e)
+      (marks row_of fits k id number left c))
+
+  pub leaves_at : (slots id number : ℕ) (left found value : T) (c : ℕ) (me : Me (Option T) (View T)) → slots ≡ 1 → fits k value
+      → ((n : ℕ) → n < k.seats → n ≢ number → row_of value n ≡ row_of found n) → me ≡ (view (Some k) ((number, left) ∷ []) (Some found) c 2, (0, Some value) ∷ [])
+      → Allows (IsRuled row_of fits k) slots id me 0 (λ _. 0) (λ _ n. Leaves me n)
+  leaves_at slots id number left found value c me one fit others e =
+      subst (λ x. Allows (IsRuled row_of fits k) x id me 0 (λ _. 0) (λ _ n. Leaves me n)) (sym one)
+      (subst (λ (y : Me (Option T) (View T)). Allows (IsRuled row_of fits k) 1 id y 0 (λ _. 0) (λ _ n. Leaves y n)) (sym e)
+      (leaves row_of fits k id number left found value c fit others))
+
+  -- after the try that took the turn, the slot is out with its value
+  pub found_out : (m n : Me (Option T) (View T)) → (f : Finds row_of fits m n) → n.1 ≡ (0, Some f.value) ∷ rest n.1
+  found_out m n f = let e : n.1 ≡ (0, Some f.value) ∷ m.1 = ap (λ (x : Me (Option T) (View T)). x.1) f.seat in e ∙ ap (λ (l : List (ℕ × Option T)). (0, Some f.value) ∷ rest l) (sym e)
+
+  pub found_seated : (number : ℕ) (left : T) (c : ℕ) (m n o : Me (Option T) (View T)) → m ≡ seated k number left None c → Finds row_of fits m n → o ≡ (n.0, (0, None) ∷ rest n.1) → IsSeated number o
+  found_seated number left c m n o e f is = record {
+    opening = k;
+    left = left;
+    found = Some f.value;
+    refusals = c;
+    me_is = is ∙ ap (λ (x : Me (Option T) (View T)). (x.0, (0, None) ∷ rest x.1)) (f.seat ∙ ap (λ (x : Me (Option T) (View T)). (found_view x.0 f.value, (0, Some f.value) ∷ x.1)) e);
+  }
+
+  pub found_fits : (m n : Me (Option T) (View T)) (r : Option T) (P : T → Type 0) → (f : Finds row_of fits m n) → n.1 ≡ (0, r) ∷ rest n.1 → P f.value → IfSome r P
+  found_fits m n r P f e p = subst (λ x. IfSome x P) (same_out n.1 (Some f.value) r (found_out m n f) e) p

@@ -1,0 +1,345 @@
+-- Each step of the turn keeps its rule.
+use Rattle.std.proofs.Common.{◌≡◌, ℕ, ◌+◌, ◌<◌, ◌≢◌, ◌==◌, eqb, eq-eqb, ne_eqb, cond, List, [], ◌∷◌, length, set, slice_index, sym, refl, ap, ◌∙◌, inl, inr, ⊎_elim, subst, arith, Option, Some, None, Contains, length-set, get_or-set_same}
+use Rattle.std.specs.List.{AllByRecursion}
+use Rattle.std.proofs.lemmas.Option.{none-some, same_Some}
+use mathlib.Core.Logic.{dite}
+use mathlib.Core.Option.{some, some-injective}
+use native.Mathlib.Decide.{ℕ_discrete}
+use prog.Atomic.{either}
+use lib.ListN.{get_elem?}
+use Rattle.atomic_table.specs.Table.{State, Me, Act, keeps, takes, gives, Valid, Allows, Splits, Joins, stepped, carried_after, Final, Seen}
+use Rattle.atomic_table.proofs.Lists.{set_here, set_else, at_longer, exchanged}
+use Rattle.sj_desk.specs.declared.view.View.{View}
+use Rattle.sj_desk.specs.declared.view.Opening.{Opening}
+use Rattle.sj_desk.specs.Views.{view, sitting, ended, opening_rows, first_view, at_stage, found_view, dealing, dealt, joined, seated}
+use Rattle.sj_desk.specs.Turns.{IsKeptRow, IsKeptView, IsHolder, IsOpen, made, filled, IsRuled, Tries, Marks, Leaves, Fills, Opens}
+use Rattle.sj_desk.proofs.Lists.{within, only, only_place, at_end, after_set, each_weaker, each_append, each_at, opening_each, opening_weaker}
+
+-- a seat that isn't in its turn is not the holder
+holder_else : {T : Type 0} (seats : ℕ) (owner : ℕ → ℕ) (current : T) (holder : ℕ) (views : List (View T)) → IsHolder seats owner current holder views
+    → (id : ℕ) (v : View T) → get_elem? views id ≡ some v → v.found ≡ None → holder ≢ id
+holder_else seats owner current holder views h id v at idle e =
+    let same : v ≡ h.view = some-injective v h.view (sym at ∙ ap (get_elem? views) (sym e) ∙ h.there) in
+    none-some current (sym idle ∙ ap (λ (x : View _). x.found) same ∙ h.found)
+
+either_else : {A : Type 0} (n m : ℕ) (x y : A) → n ≢ m → cond (eqb n m) x y ≡ y
+either_else n m x y ne = ap (λ b. cond b x y) (ne_eqb n m ne)
+
+either_here : {A : Type 0} (n m : ℕ) (x y : A) → n ≡ m → cond (eqb n m) x y ≡ x
+either_here n m x y e = ap (λ b. cond b x y) (eq-eqb n m e)
+
+marked_free : (n : ℕ) → n ≡ 0 → either (eqb n 1) 2 n ≡ 0
+marked_free n = exchanged n 1 2 (λ x. n ≡ 0 → x ≡ 0) (λ e z. absurd (omega arith)) (λ _ z. z)
+
+free_marked : (n : ℕ) → either (eqb n 1) 2 n ≡ 0 → n ≡ 0
+free_marked n = exchanged n 1 2 (λ x. x ≡ 0 → n ≡ 0) (λ e z. absurd (omega arith)) (λ _ z. z)
+
+module _ {T R : Type 0} (row_of : T → ℕ → R) (fits : Opening T → T → Type 0) (k : Opening T) where
+  abbrev Ruled : State (Option T) (View T) → Type 0
+  Ruled = IsRuled row_of fits k
+
+  open_now : (s : State (Option T) (View T)) (id : ℕ) (v : View T) → Ruled s → get_elem? s.views id ≡ some v → v.stage ≡ 2 → IsOpen row_of fits k s
+  open_now s id v (inl e) at two =
+      let same : first_view k ≡ v = only (first_view k) v id (subst (λ (x : State (Option T) (View T)). get_elem? x.views id ≡ some v) e at) in
+      let stage : 0 ≡ v.stage = ap (λ (x : View T). x.stage) same in
+      absurd (omega arith)
+  open_now s id v (inr (inl e)) at two =
+      let same : at_stage 1 (first_view k) ≡ v = only (at_stage 1 (first_view k)) v id (subst (λ (x : State (Option T) (View T)). get_elem? x.views id ≡ some v) e at) in
+      let stage : 1 ≡ v.stage = ap (λ (x : View T). x.stage) same in
+      absurd (omega arith)
+  open_now s id v (inr (inr o)) at two = o
+
+  seized : (s : State (Option T) (View T)) (o : IsOpen row_of fits k s) (id number : ℕ) (left : T) (c mark : ℕ) → mark ≢ 0 → slice_index s.words 0 ≡ 0
+      → get_elem? s.views id ≡ some (sitting k ((number, left) ∷ []) c 2)
+      → IsOpen row_of fits k (stepped s 0 mark id [] (found_view (sitting k ((number, left) ∷ []) c 2) o.current) (takes 0 (Some o.current)))
+  seized s o id number left c mark marked free at =
+      let v : View T = sitting k ((number, left) ∷ []) c 2 in
+      let w : View T = found_view v o.current in
+      let mine = o.views id v at in
+      let word : slice_index (set s.words 0 mark) 0 ≡ mark = get_or-set_same s.words 0 mark 0 (omega (arith, o.one_word)) in
+      record {
+        one_word = length-set s.words 0 mark ∙ o.one_word;
+        owner = o.owner;
+        current = o.current;
+        holder = id;
+        free = λ e. absurd (marked (sym word ∙ e));
+        taken = λ _. record { view = w; there = set_here s.views id w (within s.views id v at); found = refl; number = number; below = mine.rows.0.number; owned = mine.rows.0.owned };
+        views = after_set (λ j u. IsKeptView row_of k.seats o.owner o.current id (slice_index (set s.words 0 mark) 0) j u) s.views id w
+            (record { stage = refl; rows = mine.rows; turn = λ y e. ((λ z. marked (sym word ∙ z)), refl, sym (same_Some _ _ e)) })
+            (λ j u other there. let old = o.views j u there in record { stage = old.stage; rows = old.rows; turn = λ y e. absurd ((old.turn y e).0 free) });
+      }
+
+  -- a step of a seat that isn't in its turn, which leaves a free word free and a taken one taken
+  watched : (s : State (Option T) (View T)) (o : IsOpen row_of fits k s) (id : ℕ) (rows : List (ℕ × T)) (c d n : ℕ)
+      → get_elem? s.views id ≡ some (sitting k rows c 2) → (n ≡ 0 → slice_index s.words 0 ≡ 0) → (slice_index s.words 0 ≡ 0 → n ≡ 0)
+      → IsOpen row_of fits k (stepped s 0 n id [] (sitting k rows d 2) keeps)
+  watched s o id rows c d n at back forth =
+      let v : View T = sitting k rows c 2 in
+      let w : View T = sitting k rows d 2 in
+      let mine = o.views id v at in
+      let word : slice_index (set s.words 0 n) 0 ≡ n = get_or-set_same s.words 0 n 0 (omega (arith, o.one_word)) in
+      record {
+        one_word = length-set s.words 0 n ∙ o.one_word;
+        owner = o.owner;
+        current = o.current;
+        holder = o.holder;
+        free = λ e. o.free (back (sym word ∙ e));
+        taken = λ ne. let h = o.taken (λ e. ne (word ∙ forth e)) in
+            record {
+              view = h.view;
+              there = set_else s.views id o.holder w (holder_else k.seats o.owner o.current o.holder s.views h id v at refl) ∙ h.there;
+              found = h.found;
+              number = h.number;
+              below = h.below;
+              owned = h.owned;
+            };
+        views = after_set (λ j u. IsKeptView row_of k.seats o.owner o.current o.holder (slice_index (set s.words 0 n) 0) j u) s.views id w
+            (record { stage = refl; rows = mine.rows; turn = λ y e. absurd (none-some y e) })
+            (λ j u other there. let old = o.views j u there in
+            record { stage = old.stage; rows = old.rows; turn = λ y e. let t = old.turn y e in ((λ z. t.0 (back (sym word ∙ z))), t.1, t.2) });
+      }
+
+  pub tries : (id number : ℕ) (left : T) (c mark : ℕ) → mark ≢ 0
+      → Allows Ruled 1 id (seated k number left None c) 0 (λ n. either (n == 0) mark n) (λ r n. Tries row_of fits (seated k number left None c) r n)
+  tries id number left c mark marked s ruled wide at _ =
+      let v : View T = sitting k ((number, left) ∷ []) c 2 in
+      let o = open_now s id v ruled at refl in
+      let n = slice_index s.words 0 in
+      exchanged n 0 mark
+      (λ x. (w : View T) × (a : Act (Option T)) × Valid s.homes [] a × Ruled (stepped s 0 x id [] w a) × Tries row_of fits (seated k number left None c) n (w, carried_after [] a))
+      (λ free. (
+        found_view v o.current,
+        takes 0 (Some o.current),
+        (o.free free).0,
+        inr (inr (seized s o id number left c mark marked free at)),
+        record {
+          taken = λ _. record {
+            value = o.current;
+            seat = refl;
+            fitting = λ k' e. subst (λ x. fits x o.current) (same_Some k k' e) (o.free free).1;
+            rows = ((o.views id v at).rows.0.same, tt);
+          };
+          busy = λ ne. absurd (ne free);
+        },
+      ))
+      (λ busy. (
+        sitting k ((number, left) ∷ []) (c + 1) 2,
+        keeps,
+        tt,
+        inr (inr (watched s o id ((number, left) ∷ []) c (c + 1) n at (λ e. e) (λ e. e))),
+        record { taken = λ free. absurd (busy free); busy = λ _. refl },
+      ))
+
+  pub marks : (id number : ℕ) (left : T) (c : ℕ)
+      → Allows Ruled 1 id (seated k number left None c) 0 (λ n. either (n == 1) 2 n) (λ r n. Marks (seated k number left None c) r n)
+  marks id number left c s ruled wide at _ =
+      let v : View T = sitting k ((number, left) ∷ []) c 2 in
+      let o = open_now s id v ruled at refl in
+      let n = slice_index s.words 0 in
+      dite (ℕ_discrete n 0)
+      (λ free. (
+        v,
+        keeps,
+        tt,
+        inr (inr (watched s o id ((number, left) ∷ []) c c (either (eqb n 1) 2 n) at (free_marked n) (marked_free n))),
+        record { free = λ _. refl; busy = λ ne. absurd (ne free) },
+      ))
+      (λ busy. (
+        sitting k ((number, left) ∷ []) (c + 1) 2,
+        keeps,
+        tt,
+        inr (inr (watched s o id ((number, left) ∷ []) c (c + 1) (either (eqb n 1) 2 n) at (free_marked n) (marked_free n))),
+        record { free = λ e. absurd (busy e); busy = λ _. refl },
+      ))
+
+  released : (s : State (Option T) (View T)) (o : IsOpen row_of fits k s) (id number : ℕ) (left found value : T) (c : ℕ) → length s.homes ≡ 1 → fits k value
+      → ((n : ℕ) → n < k.seats → n ≢ number → row_of value n ≡ row_of found n)
+      → get_elem? s.views id ≡ some (view (Some k) ((number, left) ∷ []) (Some found) c 2)
+      → IsOpen row_of fits k (stepped s 0 0 id ((0, Some value) ∷ []) (sitting k ((number, value) ∷ []) c 2) gives)
+  released s o id number left found value c wide fit others at =
+      let v : View T = view (Some k) ((number, left) ∷ []) (Some found) c 2 in
+      let w : View T = sitting k ((number, value) ∷ []) c 2 in
+      let mine = o.views id v at in
+      let row = mine.rows.0 in
+      let t = mine.turn found refl in
+      let word : slice_index (set s.words 0 0) 0 ≡ 0 = get_or-set_same s.words 0 0 0 (omega (arith, o.one_word)) in
+      record {
+        one_word = length-set s.words 0 0 ∙ o.one_word;
+        owner = o.owner;
+        current = value;
+        holder = o.holder;
+        free = λ _. (set_here s.homes 0 (some (Some value)) (omega (arith, wide)), fit);
+        taken = λ ne. absurd (ne word);
+        views = after_set (λ j u. IsKeptView row_of k.seats o.owner value o.holder (slice_index (set s.words 0 0) 0) j u) s.views id w
+            (record { stage = refl; rows = (record { number = row.number; owned = row.owned; same = refl }, tt); turn = λ y e. absurd (none-some y e) })
+            (λ j u other there. let old = o.views j u there in
+            record {
+              stage = old.stage;
+              rows = each_weaker (IsKeptRow row_of k.seats o.owner o.current j) (IsKeptRow row_of k.seats o.owner value j)
+                  (λ r kept. record {
+                    number = kept.number;
+                    owned = kept.owned;
+                    same = others r.0 kept.number (λ e. other (sym kept.owned ∙ ap o.owner e ∙ row.owned)) ∙ ap (λ x. row_of x r.0) t.2 ∙ kept.same;
+                  })
+                  u.rows old.rows;
+              turn = λ y e. absurd (other ((old.turn y e).1 ∙ sym t.1));
+            });
+      }
+
+  pub leaves : (id number : ℕ) (left found value : T) (c : ℕ) → fits k value → ((n : ℕ) → n < k.seats → n ≢ number → row_of value n ≡ row_of found n)
+      → Allows Ruled 1 id (view (Some k) ((number, left) ∷ []) (Some found) c 2, (0, Some value) ∷ []) 0 (λ _. 0) (λ _ n. Leaves (view (Some k) ((number, left) ∷ []) (Some found) c 2, (0, Some value) ∷ []) n)
+  leaves id number left found value c fit others s ruled wide at _ =
+      let o = open_now s id (view (Some k) ((number, left) ∷ []) (Some found) c 2) ruled at refl in
+      (sitting k ((number, value) ∷ []) c 2, gives, tt, inr (inr (released s o id number left found value c wide fit others at)), refl)
+
+  made_now : (s : State (Option T) (View T)) (id : ℕ) → Ruled s → get_elem? s.views id ≡ some (first_view k) → s ≡ made row_of fits k
+  made_now s id (inl e) at = e
+  made_now s id (inr (inl e)) at =
+      let same : at_stage 1 (first_view k) ≡ first_view k = only (at_stage 1 (first_view k)) (first_view k) id (subst (λ (x : State (Option T) (View T)). get_elem? x.views id ≡ some (first_view k)) e at) in
+      let stage : ◌≡◌ {A = ℕ} 1 0 = ap (λ (x : View T). x.stage) same in
+      absurd (omega arith)
+  made_now s id (inr (inr o)) at = let stage : ◌≡◌ {A = ℕ} 0 2 = (o.views id (first_view k) at).stage in absurd (omega arith)
+
+  filled_now : (s : State (Option T) (View T)) (id : ℕ) → Ruled s → get_elem? s.views id ≡ some (at_stage 1 (first_view k)) → s ≡ filled row_of fits k
+  filled_now s id (inl e) at =
+      let same : first_view k ≡ at_stage 1 (first_view k) = only (first_view k) (at_stage 1 (first_view k)) id (subst (λ (x : State (Option T) (View T)). get_elem? x.views id ≡ some (at_stage 1 (first_view k))) e at) in
+      let stage : ◌≡◌ {A = ℕ} 0 1 = ap (λ (x : View T). x.stage) same in
+      absurd (omega arith)
+  filled_now s id (inr (inl e)) at = e
+  filled_now s id (inr (inr o)) at = let stage : ◌≡◌ {A = ℕ} 1 2 = (o.views id (at_stage 1 (first_view k)) at).stage in absurd (omega arith)
+
+  pub fills : (id : ℕ) → id ≡ 0 → Allows Ruled 1 id (first_view k, []) 0 (λ n. n) (λ _ n. Fills (first_view k, []) n)
+  fills id first s ruled wide at _ =
+      let P : ℕ → State (Option T) (View T) → Type 0 = λ i x. (w : View T) × (a : Act (Option T)) × Valid x.homes [] a × Ruled (stepped x 0 (slice_index x.words 0) i [] w a) × Fills (first_view k, []) (w, carried_after [] a) in
+      subst (λ i. P i s) (sym first) (subst (P 0) (sym (made_now s id ruled at)) (at_stage 1 (first_view k), takes 0 None, refl, inr (inl refl), refl))
+
+  opened : fits k k.value → IsOpen row_of fits k (record { words = 0 ∷ []; homes = some (Some k.value) ∷ []; views = at_stage 2 (first_view k) ∷ [] })
+  opened fit = record {
+    one_word = refl;
+    owner = λ _. 0;
+    current = k.value;
+    holder = 0;
+    free = λ _. (refl, fit);
+    taken = λ ne. absurd (ne refl);
+    views = after_set (λ j u. IsKeptView row_of k.seats (λ _. 0) k.value 0 0 j u) (at_stage 2 (first_view k) ∷ []) 0 (at_stage 2 (first_view k))
+        (record { stage = refl; rows = opening_each k.value (IsKeptRow row_of k.seats (λ _. 0) k.value 0) k.seats 0 (λ i low high. record { number = omega arith; owned = refl; same = refl }); turn = λ y e. absurd (none-some y e) })
+        (λ j u other there. absurd (other (only_place (at_stage 2 (first_view k)) u j there)));
+  }
+
+  pub opens : (id : ℕ) → id ≡ 0 → fits k k.value
+      → Allows Ruled 1 id (at_stage 1 (first_view k), (0, Some k.value) ∷ []) 0 (λ _. 0) (λ _ n. Opens (at_stage 1 (first_view k), (0, Some k.value) ∷ []) n)
+  opens id first fit s ruled wide at _ =
+      let m : Me (Option T) (View T) = (at_stage 1 (first_view k), (0, Some k.value) ∷ []) in
+      let P : ℕ → State (Option T) (View T) → Type 0 = λ i x. (w : View T) × (a : Act (Option T)) × Valid x.homes m.1 a × Ruled (stepped x 0 0 i m.1 w a) × Opens m (w, carried_after m.1 a) in
+      subst (λ i. P i s) (sym first) (subst (P 0) (sym (filled_now s id ruled at)) (at_stage 2 (first_view k), gives, tt, inr (inr (opened fit)), refl))
+
+  pub deals : (id a n : ℕ) → let v : View T = sitting k ((a, k.value) ∷ opening_rows k.value (a + 1) n) 0 2 in Splits Ruled id v (dealing v) (dealt v)
+  deals id a n s ruled at =
+      let v : View T = sitting k ((a, k.value) ∷ opening_rows k.value (a + 1) n) 0 2 in
+      let l : View T = sitting k (opening_rows k.value (a + 1) n) 0 2 in
+      let r : View T = sitting k ((a, k.value) ∷ []) 0 2 in
+      let o = open_now s id v ruled at refl in
+      let mine = o.views id v at in
+      let row = mine.rows.0 in
+      let owner : ℕ → ℕ = λ m. cond (eqb m a) (length s.views) (o.owner m) in
+      let word = slice_index s.words 0 in
+      let Old : ℕ → ℕ × T → Type 0 = IsKeptRow row_of k.seats o.owner o.current in
+      let New : ℕ → ℕ × T → Type 0 = IsKeptRow row_of k.seats owner o.current in
+      let Kept : ℕ → View T → Type 0 = λ j u. IsKeptView row_of k.seats owner o.current o.holder word j u in
+      let keep : (j : ℕ) (x : ℕ × T) → x.0 ≢ a → Old j x → New j x = λ j x ne h. record { number = h.number; owned = either_else x.0 a (length s.views) (o.owner x.0) ne ∙ h.owned; same = h.same } in
+      let others : (j : ℕ) (u : View T) → get_elem? (set s.views id l) j ≡ some u → Kept j u = after_set Kept s.views id l
+      (record { stage = refl; rows = opening_weaker k.value (Old id) (New id) n (a + 1) (λ i low h. keep id (i, k.value) (λ e. omega arith) h) mine.rows.1; turn = λ y e. absurd (none-some y e) })
+      (λ j u other there. let old = o.views j u there in
+      record { stage = old.stage; rows = each_weaker (Old j) (New j) (λ x h. keep j x (λ e. other (sym h.owned ∙ ap o.owner e ∙ row.owned)) h) u.rows old.rows; turn = old.turn }) in
+      let last : (j : ℕ) (u : View T) → (j ≡ length (set s.views id l)) × (r ≡ u) → Kept j u = λ j u e.
+      subst (λ (y : ℕ × View T). Kept y.0 y.1) (λ p. (sym (e.0 ∙ length-set s.views id l) p, e.1 p))
+      (record { stage = refl; rows = (record { number = row.number; owned = either_here a a (length s.views) (o.owner a) refl; same = row.same }, tt); turn = λ y e. absurd (none-some y e) }) in
+      inr (inr (record {
+        one_word = o.one_word;
+        owner = owner;
+        current = o.current;
+        holder = o.holder;
+        free = o.free;
+        taken = λ ne. let h = o.taken ne in let far = holder_else k.seats o.owner o.current o.holder s.views h id v at refl in
+            record {
+              view = h.view;
+              there = at_longer (set s.views id l) (r ∷ []) o.holder h.view (set_else s.views id o.holder l far ∙ h.there);
+              found = h.found;
+              number = h.number;
+              below = h.below;
+              owned = either_else h.number a (length s.views) (o.owner h.number) (λ e. far (sym h.owned ∙ ap o.owner e ∙ row.owned)) ∙ h.owned;
+            };
+        views = λ j u there. ⊎_elim (others j u) (last j u) (at_end (set s.views id l) r u j there);
+      }))
+
+  pub gathers : (id other : ℕ) (rows more : List (ℕ × T)) (c d : ℕ) → let v : View T = sitting k rows c 2 in let w : View T = sitting k more d 2 in Joins Ruled id v other w (joined v w) ended
+  gathers id other rows more c d s ruled at apart there =
+      let v : View T = sitting k rows c 2 in
+      let w : View T = sitting k more d 2 in
+      let both : View T = joined v w in
+      let o = open_now s id v ruled at refl in
+      let mine = o.views id v at in
+      let there' : get_elem? s.views other ≡ some w = sym (set_else s.views id other both apart) ∙ there in
+      let theirs = o.views other w there' in
+      let owner : ℕ → ℕ = λ m. cond (eqb (o.owner m) other) id (o.owner m) in
+      let word = slice_index s.words 0 in
+      let Old : ℕ → ℕ × T → Type 0 = IsKeptRow row_of k.seats o.owner o.current in
+      let New : ℕ → ℕ × T → Type 0 = IsKeptRow row_of k.seats owner o.current in
+      let Kept : ℕ → View T → Type 0 = λ j u. IsKeptView row_of k.seats owner o.current o.holder word j u in
+      let keep : (j : ℕ) (x : ℕ × T) → j ≢ other → Old j x → New j x = λ j x ne h.
+      record { number = h.number; owned = either_else (o.owner x.0) other id (o.owner x.0) (λ e. ne (sym h.owned ∙ e)) ∙ h.owned; same = h.same } in
+      let move : (x : ℕ × T) → Old other x → New id x = λ x h. record { number = h.number; owned = either_here (o.owner x.0) other id (o.owner x.0) h.owned; same = h.same } in
+      let far : id ≢ other = λ e. apart (sym e) in
+      let inner : (j : ℕ) (u : View T) → get_elem? (set s.views id both) j ≡ some u → j ≢ other → Kept j u = after_set (λ j u. j ≢ other → Kept j u) s.views id both
+      (λ _. record {
+        stage = refl;
+        rows = each_append (New id) more rows (each_weaker (Old other) (New id) move more theirs.rows) (each_weaker (Old id) (New id) (λ x h. keep id x far h) rows mine.rows);
+        turn = λ y e. absurd (none-some y e);
+      })
+      (λ j u ne at_j else. let old = o.views j u at_j in record { stage = old.stage; rows = each_weaker (Old j) (New j) (λ x h. keep j x else h) u.rows old.rows; turn = old.turn }) in
+      inr (inr (record {
+        one_word = o.one_word;
+        owner = owner;
+        current = o.current;
+        holder = o.holder;
+        free = o.free;
+        taken = λ ne. let h = o.taken ne in
+            let not_me = holder_else k.seats o.owner o.current o.holder s.views h id v at refl in
+            let not_them = holder_else k.seats o.owner o.current o.holder s.views h other w there' refl in
+            record {
+              view = h.view;
+              there = set_else (set s.views id both) other o.holder ended not_them ∙ set_else s.views id o.holder both not_me ∙ h.there;
+              found = h.found;
+              number = h.number;
+              below = h.below;
+              owned = either_else (o.owner h.number) other id (o.owner h.number) (λ e. not_them (sym h.owned ∙ e)) ∙ h.owned;
+            };
+        views = after_set Kept (set s.views id both) other ended (record { stage = refl; rows = tt; turn = λ y e. absurd (none-some y e) }) (λ j u ne at_j. inner j u at_j ne);
+      }))
+
+  -- the value at the end: it fits, and has each row as it was left
+  pub record Closes (rows : List (ℕ × T)) (slots : List (Option T)) : Type 0 where
+    pub value : T
+    pub there : get_elem? slots 0 ≡ some (Some value)
+    pub fitting : fits k value
+    pub same : AllByRecursion (λ r. row_of value r.0 ≡ row_of r.1 r.0) rows
+
+  pub closes : (id : ℕ) (rows : List (ℕ × T)) (c : ℕ) (words : List ℕ) (slots : List (Option T)) → ((n : ℕ) → n < k.seats → (r : ℕ × T) × Contains rows r × (r.0 ≡ n))
+      → Final (Seen Ruled id (sitting k rows c 2)) words slots → Closes rows slots
+  closes id rows c words slots whole f =
+      let v : View T = sitting k rows c 2 in
+      let s = f.0 in
+      let at = f.1.1 in
+      let o = open_now s id v f.1.0 at refl in
+      let mine = o.views id v at in
+      dite (ℕ_discrete (slice_index s.words 0) 0)
+      (λ free. record {
+        value = o.current;
+        there = f.4 0 (Some o.current) (o.free free).0;
+        fitting = (o.free free).1;
+        same = each_weaker (IsKeptRow row_of k.seats o.owner o.current id) (λ r. row_of o.current r.0 ≡ row_of r.1 r.0) (λ r h. h.same) rows mine.rows;
+      })
+      (λ ne. let h = o.taken ne in
+      let r = whole h.number h.below in
+      let kept = each_at (IsKeptRow row_of k.seats o.owner o.current id) rows r.0 mine.rows r.1 in
+      absurd (holder_else k.seats o.owner o.current o.holder s.views h id v at refl (sym h.owned ∙ ap o.owner (sym r.2) ∙ kept.owned)))

@@ -1,0 +1,288 @@
+//! The turn lock and its calls.
+
+ghost use Rattle.std.specs.Prelude.{◌≡◌, ◌<◌, ◌≤◌, [], Some, None, All, IfOk, IfErr, OnErr, IfSome, IfNone, MatchBool, vec_capacity};
+ghost use Rattle.std.specs.List.{AllZip};
+ghost use Rattle.sj_desk.specs.Seats.{new_seats, refused, in_turn, after_turn, retried, HasRowLeft, KeepsOtherRows, HasEachNumber, IsWaiting, AreInPlace};
+ghost use Rattle.sj_desk.specs.Views.{IsRowOf, IsIdle, IsFirst, IsDealer, HasEachRow};
+
+use crate::rule::{Deal, Fill, Gather, Mark, Open, Release, Ticket, Try, TurnRule};
+use crate::seat::DeskSeat;
+use crate::view::{Opening, View};
+use atomic_table::Table;
+use sj_base::keyed::Keyed;
+use std::alloc::Global;
+use std::hint::spin_loop;
+use std::marker::Model;
+use std::sync::Wait;
+
+// The turn word: free, taken, or taken while some seat may be asleep.
+const FREE: u64 = 0;
+
+const TAKEN: u64 = 1;
+
+const AWAITED: u64 = 2;
+
+// How often `enter` tries before it sleeps.
+const TRIES: u32 = 100;
+
+/// The turn was found taken.
+#[derive(Clone, Copy, Debug, PartialEq, Eq)]
+pub struct Busy;
+
+/// A value behind a turn lock, of which each seat changes its own row.
+///
+/// Contracts see its table, the value that it opened with, and how many seats it has.
+#[derive(Drop)]
+pub struct Desk<T: Keyed> {
+    table: Table<Option<T>, View<T>, Opening<T>, TurnRule, Global>,
+}
+
+impl<T: Keyed> Model for Desk<T> {
+    ghost use Rattle.sj_desk.specs.Seats.{DeskFacts};
+    ghost use Rattle.sj_desk.specs.Views.{desk_facts, IsOneTurn};
+
+    ghost Value = { DeskFacts T };
+
+    ghost view = { λ d. desk_facts d.table.shared.table_id d.table.shared.key };
+
+    ghost invariant = { λ d. IsOneTurn d.table.shared.table_id d.table.shared.key.seats };
+}
+
+impl<T: Keyed> Desk<T> {
+    /// A desk with a value and this many seats. The seat at each place of the list has that place
+    /// for its number. Linear in the seats. The error is want of memory, and hands the value back.
+    pub fn make(alloc: Global, value: T, seats: u8) -> Result<(Desk<T>, Vec<DeskSeat<T>>), T>
+        requires seats { 0 < seats }
+        requires sound { T.sound value }
+        ensures opening { IfOk result (λ r. r.0.opening ≡ value) }
+        ensures count { IfOk result (λ r. r.0.seats ≡ seats) }
+        ensures seats { IfOk result (λ r. r.1.items ≡ new_seats r.0) }
+        ensures in_place { IfOk result (λ r. AreInPlace r.0 r.1.items) }
+        ensures err { IfErr result (λ v. v ≡ value) }
+    {
+        let Ok(list) = Vec::with_capacity(alloc, seats as usize) else {
+            return Err(value);
+        };
+        let opening = Opening { value, seats };
+        let made = Table::vacant(alloc, &[TAKEN], 1, &opening);
+        let Opening { value, seats } = opening;
+        let Ok((table, mut dealer)) = made else {
+            list.destroy_empty();
+            return Err(value);
+        };
+        let desk = Desk { table };
+        desk.fill(&mut dealer, value);
+        let list = desk.deal(dealer, list, seats);
+        Ok((desk, list))
+    }
+
+    // Puts the opening value into the slot, and frees the turn.
+    fn fill(&self, dealer: &mut Ticket<T>, value: T)
+        requires table { dealer.old.table_id ≡ self.now.table }
+        requires id { dealer.old.id ≡ 0 }
+        requires first { IsFirst self.now dealer.old.me }
+        requires opening { value ≡ self.now.opening }
+        requires sound { T.sound value }
+        ensures table { dealer.new.table_id ≡ self.now.table }
+        ensures dealer { IsDealer self.now 0 dealer.new.me }
+    {
+        let turn = &self.table.shared;
+        turn.load::<Fill>(dealer, 0);
+        let out = turn.exchange(dealer, 0, Some(value));
+        let None = out else { unreachable!() };
+        turn.store::<Open>(dealer, 0, FREE);
+    }
+
+    // Deals each seat its row.
+    fn deal(&self, mut dealer: Ticket<T>, mut list: Vec<DeskSeat<T>>, seats: u8) -> Vec<DeskSeat<T>>
+        requires table { dealer.table_id ≡ self.now.table }
+        requires dealer { IsDealer self.now 0 dealer.me }
+        requires seats { self.now.seats ≡ seats }
+        requires list { list.items ≡ [] }
+        requires room { seats ≤ vec_capacity list }
+        ensures { result.items ≡ new_seats self.now }
+    {
+        for number in 0..seats {
+            let ticket = self.table.shared.split_seat::<Deal>(&mut dealer);
+            list.push_reserved(DeskSeat { number, ticket });
+        }
+        list
+    }
+
+    // One try for the turn, which leaves the mark in the turn word.
+    fn attempt(&self, seat: &mut DeskSeat<T>, mark: u64) -> Option<T>
+        requires mark { 0 < mark }
+        requires of_this_desk { seat.old.desk ≡ Some self.now }
+        requires not_in_its_turn { seat.old.found ≡ None }
+        ensures key { IfSome result (λ v. T.key v ≡ T.key self.now.opening) }
+        ensures sound { IfSome result (λ v. T.sound v) }
+        ensures own_row { IfSome result (λ v. HasRowLeft T.row_of v seat.old) }
+        ensures seat { IfSome result (λ v. seat.new ≡ in_turn seat.old v seat.old.refusals) }
+        ensures none { IfNone result (seat.new ≡ refused seat.old) }
+    {
+        let turn = &self.table.shared;
+        let found = turn.compare_exchange::<Try>(&mut seat.ticket, 0, FREE, mark);
+        if found != FREE {
+            return None;
+        }
+        turn.exchange(&mut seat.ticket, 0, None)
+    }
+
+    // Marks a taken turn as awaited, and says whether it was taken.
+    fn mark(&self, seat: &mut DeskSeat<T>) -> bool
+        requires of_this_desk { seat.old.desk ≡ Some self.now }
+        requires not_in_its_turn { seat.old.found ≡ None }
+        ensures { MatchBool result (seat.new ≡ refused seat.old) (seat.new ≡ seat.old) }
+    {
+        let turn = &self.table.shared;
+        turn.compare_exchange::<Mark>(&mut seat.ticket, 0, TAKEN, AWAITED) != FREE
+    }
+
+    // The first tries of `enter`.
+    fn try_for_a_while(&self, seat: &mut DeskSeat<T>) -> Option<T>
+        requires of_this_desk { seat.old.desk ≡ Some self.now }
+        requires not_in_its_turn { seat.old.found ≡ None }
+        ensures key { IfSome result (λ v. T.key v ≡ T.key self.now.opening) }
+        ensures sound { IfSome result (λ v. T.sound v) }
+        ensures own_row { IfSome result (λ v. HasRowLeft T.row_of v seat.old) }
+        ensures seat { IfSome result (λ v. seat.new ≡ in_turn seat.old v seat.new.refusals) }
+        ensures none { IfNone result (seat.new ≡ retried seat.old seat.new.refusals) }
+        ensures tries { seat.old.refusals ≤ seat.new.refusals }
+    {
+        for _ in 0..TRIES {
+            if let Some(value) = self.attempt(seat, TAKEN) {
+                return Some(value);
+            }
+            spin_loop();
+        }
+        None
+    }
+
+    // Sleeps until the turn is given back, tries again, and so on.
+    fn wait_for<R: Wait>(&self, rt: &R, seat: &mut DeskSeat<T>) -> T
+        requires of_this_desk { seat.old.desk ≡ Some self.now }
+        requires not_in_its_turn { seat.old.found ≡ None }
+        ensures key { T.key result ≡ T.key self.now.opening }
+        ensures sound { T.sound result }
+        ensures own_row { HasRowLeft T.row_of result seat.old }
+        ensures seat { seat.new ≡ in_turn seat.old result seat.new.refusals }
+        ensures tries { seat.old.refusals ≤ seat.new.refusals }
+    {
+        for _ in rt.forever() {
+            if let Some(value) = self.attempt(seat, AWAITED) {
+                return value;
+            }
+            if self.mark(seat) {
+                self.table.shared.park(rt, 0, AWAITED as u32);
+            }
+        }
+        unreachable!()
+    }
+
+    /// Waits for the turn, takes it, and gives the value. Some hundred tries at most, and then it
+    /// sleeps until the turn is given back. Where the turn is free it takes one step. No memory.
+    pub fn enter<R: Wait>(&self, rt: &R, seat: &mut DeskSeat<T>) -> T
+        requires of_this_desk { seat.old.desk ≡ Some self.now }
+        requires not_in_its_turn { seat.old.found ≡ None }
+        ensures key { T.key result ≡ T.key self.now.opening }
+        ensures sound { T.sound result }
+        ensures own_row { HasRowLeft T.row_of result seat.old }
+        ensures seat { seat.new ≡ in_turn seat.old result seat.new.refusals }
+        ensures tries { seat.old.refusals ≤ seat.new.refusals }
+    {
+        match self.try_for_a_while(seat) {
+            Some(value) => value,
+            None => self.wait_for(rt, seat),
+        }
+    }
+
+    /// Takes the turn and gives the value, if the turn is free. One step, and no memory.
+    pub fn try_enter(&self, seat: &mut DeskSeat<T>) -> Result<T, Busy>
+        requires of_this_desk { seat.old.desk ≡ Some self.now }
+        requires not_in_its_turn { seat.old.found ≡ None }
+        ensures key { IfOk result (λ v. T.key v ≡ T.key self.now.opening) }
+        ensures sound { IfOk result (λ v. T.sound v) }
+        ensures own_row { IfOk result (λ v. HasRowLeft T.row_of v seat.old) }
+        ensures seat { IfOk result (λ v. seat.new ≡ in_turn seat.old v seat.old.refusals) }
+        ensures busy { OnErr result (seat.new ≡ refused seat.old) }
+    {
+        match self.attempt(seat, TAKEN) {
+            Some(value) => Ok(value),
+            None => Err(Busy),
+        }
+    }
+
+    /// Ends the turn and leaves the value, in which only the seat's own row may have changed.
+    /// Constant time, and no memory. It wakes a seat that sleeps.
+    pub fn leave(&self, seat: &mut DeskSeat<T>, value: T)
+        requires of_this_desk { seat.old.desk ≡ Some self.now }
+        requires other_rows { KeepsOtherRows T.row_of self.now seat.old value }
+        requires key { T.key value ≡ T.key self.now.opening }
+        requires sound { T.sound value }
+        ensures seat { seat.new ≡ after_turn seat.old value }
+    {
+        let turn = &self.table.shared;
+        let out = turn.exchange(&mut seat.ticket, 0, Some(value));
+        let None = out else { unreachable!() };
+        if turn.swap::<Release>(&mut seat.ticket, 0, FREE) == AWAITED {
+            turn.wake_one(0);
+        }
+    }
+
+    /// Ends the desk, with all its seats, and gives the value. Linear in the seats, and no memory.
+    pub fn close(self, seats: Vec<DeskSeat<T>>) -> T
+        requires waiting { All (IsWaiting self) seats.items }
+        requires all_its_seats { HasEachNumber self seats.items }
+        ensures key { T.key result ≡ T.key self.opening }
+        ensures sound { T.sound result }
+        ensures rows { All (HasRowLeft T.row_of result) seats.items }
+    {
+        let ticket = self.gather(seats);
+        self.end(ticket)
+    }
+
+    // Joins all seats into one, which answers for all rows.
+    fn gather(&self, mut seats: Vec<DeskSeat<T>>) -> Ticket<T>
+        requires waiting { All (IsWaiting self.now) seats.items }
+        requires all_its_seats { HasEachNumber self.now seats.items }
+        ensures table { result.table_id ≡ self.now.table }
+        ensures idle { IsIdle self.now result.me.0.rows result.me }
+        ensures rows { AllZip IsRowOf seats.items result.me.0.rows }
+    {
+        let turn = &self.table.shared;
+        let Some(first) = seats.pop() else {
+            unreachable!()
+        };
+        let DeskSeat {
+            number: _,
+            mut ticket,
+        } = first;
+        while let Some(seat) = seats.pop() {
+            let DeskSeat {
+                number: _,
+                ticket: other,
+            } = seat;
+            turn.join_seat::<Gather>(&mut ticket, other);
+        }
+        seats.destroy_empty();
+        ticket
+    }
+
+    // Takes the value out of the table, whose turn is free.
+    fn end(self, ticket: Ticket<T>) -> T
+        requires table { ticket.table_id ≡ self.table }
+        requires idle { IsIdle self ticket.me.0.rows ticket.me }
+        requires all_rows { HasEachRow self ticket.me.0.rows }
+        ensures key { T.key result ≡ T.key self.opening }
+        ensures sound { T.sound result }
+        ensures rows { All (λ r. T.row_of result r.0 ≡ T.row_of r.1 r.0) ticket.me.0.rows }
+    {
+        let Desk { table } = self;
+        let mut closed = table.close_with(ticket);
+        let Some(value) = closed.take(0) else {
+            unreachable!()
+        };
+        closed.free();
+        value
+    }
+}

@@ -1,0 +1,59 @@
+//! The desk: a turn lock over one value, in which each thread finds its own part as it left it.
+//!
+//! A plain lock says nothing of the value that a thread finds. Here a value has a *key*, which no
+//! turn changes, a fact, *sound*, which holds between any two turns, and one *row* for each seat
+//! ([`Keyed`]). [`Desk::enter`] gives a value with the key of the opening value, sound, whose row
+//! for the caller's seat is the one that this seat left; [`Desk::leave`] asks that all other rows
+//! are as the seat found them; [`Desk::close`] gives a value in which every seat's row is as it
+//! left it.
+//!
+//! # How the turn is kept
+//!
+//! The *turn word* is 0 while the turn is free, 1 while it is taken, and 2 while it is taken and
+//! some seat may be asleep. The value lies in one *slot*. Each seat has a *ticket*, without
+//! bytes, which carries what the seat knows: the opening value, the rows that it answers for,
+//! each by its number and the value in which the seat left it, how many of its tries found the
+//! turn taken, and in its turn the value that it found. The seat whose ticket has found a value
+//! is the *holder*.
+//!
+//! Between any two steps these hold:
+//!
+//! - While the turn is free, the slot has a value with the key, sound. No seat is the holder.
+//! - While it is taken there is just one holder, and the value that it found is the current one.
+//! - Each row that a ticket answers for is the current value's row of that number, whether the
+//!   turn is free or taken. Each number is one ticket's, and less than the number of seats.
+//! - A ticket that was joined to another answers for nothing, and is never the holder.
+//! - The word tells that the turn is taken, and nothing rests on what else it tells.
+//!
+//! # The kinds of step
+//!
+//! | Step | Changes the ticket of |
+//! |---|---|
+//! | the table is made, with its first ticket, which answers for every row | that ticket |
+//! | the first ticket takes the empty slot, and gives it back with the value, which frees the turn | that ticket |
+//! | a seat is dealt its row | the first ticket, which gives the row up, and the new one |
+//! | a compare-exchange that takes the turn | the seat, which is now the holder |
+//! | a compare-exchange that finds the turn taken, to take it or to mark that a seat sleeps | the seat: one more try |
+//! | a compare-exchange that would mark that a seat sleeps, and finds the turn free | nobody |
+//! | the value is moved out of the slot, or into it, by the holder | nobody |
+//! | the swap that gives the turn back | the holder: its row is that of the value that it left |
+//! | two tickets are joined when the desk closes | both: one answers for the rows of both |
+//!
+//! # What the steps can't say
+//!
+//! What a step tells its seat can't name the key that the table was made with, nor another seat's
+//! ticket. So the opening value is a part of each ticket, and each call asks that the seat is of
+//! this desk. No clause says that a seat is ever served, in which order seats are, how long one
+//! waits, or that a seat which sleeps wakes: [`Desk::enter`] keeps its promise if it returns.
+#![tactic(auto)]
+
+mod desk;
+mod rule;
+mod seat;
+#[cfg(test)]
+mod tests;
+mod view;
+
+pub use desk::{Busy, Desk};
+pub use seat::DeskSeat;
+pub use sj_base::keyed::Keyed;

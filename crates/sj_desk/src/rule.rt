@@ -1,0 +1,75 @@
+// The rule of the turn, and the kinds of step.
+ghost use Rattle.sj_desk.specs.Views.{first_view, dealing, dealt, joined, ended};
+ghost use Rattle.sj_desk.specs.Turns.{Fits, IsRuled, Tries, Marks, Leaves, Fills, Opens};
+
+use crate::view::{Opening, View};
+use atomic_table::{Join, Play, Seat, Shared, Split, TableRule};
+use sj_base::keyed::Keyed;
+
+/// Who may hold the turn, and what the value is while it is free.
+pub struct TurnRule;
+
+impl<T: Keyed> TableRule<Option<T>, View<T>, Opening<T>> for TurnRule {
+    ghost holds = { λ k. IsRuled T.row_of (Fits T.key T.sound) k };
+
+    ghost first = { first_view };
+}
+
+/// A try for the turn.
+pub struct Try;
+
+impl<T: Keyed> Play<Option<T>, View<T>> for Try {
+    ghost then = { λ st m r n. Tries T.row_of (Fits T.key T.sound) m r n };
+}
+
+/// A mark, for the holder, that a seat waits.
+pub struct Mark;
+
+impl<T> Play<Option<T>, View<T>> for Mark {
+    ghost then = { λ st m r n. Marks m r n };
+}
+
+/// The release of the turn.
+pub struct Release;
+
+impl<T> Play<Option<T>, View<T>> for Release {
+    ghost then = { λ st m r n. Leaves m n };
+}
+
+/// The first seat takes the empty slot.
+pub struct Fill;
+
+impl<T> Play<Option<T>, View<T>> for Fill {
+    ghost then = { λ st m r n. Fills m n };
+}
+
+/// The first seat gives the slot home, with the opening value.
+pub struct Open;
+
+impl<T> Play<Option<T>, View<T>> for Open {
+    ghost then = { λ st m r n. Opens m n };
+}
+
+/// One seat is dealt its row.
+pub struct Deal;
+
+impl<T> Split<View<T>> for Deal {
+    ghost left = { dealing };
+
+    ghost right = { dealt };
+}
+
+/// One seat answers for another's rows too.
+pub struct Gather;
+
+impl<T> Join<View<T>> for Gather {
+    ghost both = { joined };
+
+    ghost spent = { ended };
+}
+
+/// The turn word and the value's slot.
+pub type Turn<T> = Shared<Option<T>, View<T>, Opening<T>, TurnRule>;
+
+/// The right of one seat to step.
+pub type Ticket<T> = Seat<Option<T>, View<T>>;

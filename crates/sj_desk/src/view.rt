@@ -1,0 +1,21 @@
+// What a seat knows, for the proofs alone.
+use std::collections::LinkedList;
+
+/// What the desk's table is told when it is made: the opening value, and the number of seats.
+pub struct Opening<T> {
+    pub value: T,
+    pub seats: u8,
+}
+
+/// What one seat knows. No value of it is ever made.
+pub struct View<T> {
+    pub opening: Option<Opening<T>>,
+    // Each row that the seat answers for: its number, and the value in which the seat left it.
+    pub rows: LinkedList<(u8, T)>,
+    // In its turn, the value that it found.
+    pub found: Option<T>,
+    // How many of its tries found the turn taken.
+    pub refusals: u64,
+    // 0 and 1 while the desk is made, then 2.
+    pub stage: u8,
+}
