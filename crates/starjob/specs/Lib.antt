@@ -1,3 +1,4 @@
 pub mod Output
 pub mod Status
 pub mod Streams
+pub mod Report

@@ -31,6 +31,13 @@ impl From<AllocError> for Unread {
 /// How many bytes are asked for at a time.
 const PIECE: usize = 65_536;
 
+/// So many zeros.
+fn zeroed(alloc: Global, n: usize) -> Result<Vec<u8>, AllocError>
+    ensures { IfOk result (λ piece. length piece.items ≡ n) }
+{
+    vec![in alloc; 0u8; n]
+}
+
 /// Takes a piece more, and says how many bytes.
 fn take_piece<S: Source>(
     source: &mut S,
@@ -60,7 +67,7 @@ pub fn read_source<S: Source>(alloc: Global, source: &mut S) -> Result<Vec<u8>, 
     ensures counts { Counts (S.faults source.old) (S.faults source.new) (result ≡ Err Fault) }
 {
     let mut text = Vec::new(alloc);
-    let mut piece = vec![in alloc; 0u8; PIECE]?;
+    let mut piece = zeroed(alloc, PIECE)?;
     for _turn in 0..TEXT + 1 {
         let room = PIECE.min(TEXT + 1 - text.len());
         if take_piece(source, &mut piece[..room], &mut text)? == 0 {

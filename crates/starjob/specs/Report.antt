@@ -1,0 +1,65 @@
+-- The line that is written to `err` for a status.
+use Rattle.std.specs.Prelude.{◌≡◌, ℕ, List, [], ◌++◌, codes, decimal, Option}
+use Rattle.std.specs.Io.KnownBytes.{Appends}
+use Rattle.sj_edge.specs.Faults.{Rose}
+use Rattle.sj_job.specs.declared.reason.Reason.{Reason}
+use Rattle.sj_job.specs.declared.reason.Reason.TheVariants.{Header, Word, Number, UnknownName, TakenName, UnknownCodelet, OperandCount, Shape, Part, Aliased, NoValue, NoReduction, NotLawful, MixedOutputs, Limit, EndedName, NotBuilt}
+use Rattle.sj_job.specs.declared.reason.LimitKind.{LimitKind}
+use Rattle.sj_job.specs.declared.reason.LimitKind.TheVariants.{Text, Statements, Workers, Nodes, NodeBytes, Names, Elements, Parts, Priority, Cells, Tasks}
+use Rattle.starjob.specs.declared.status.Status.{Status}
+use Rattle.starjob.specs.declared.status.Status.TheVariants.{Done, Usage, Refused, SourceFault, SinkFault, OutOfMemory}
+use Rattle.starjob.specs.Streams.{TakesPrefix}
+
+abbrev pub limit_name : LimitKind → List ℕ
+limit_name Text = codes "Text"
+limit_name Statements = codes "Statements"
+limit_name Workers = codes "Workers"
+limit_name Nodes = codes "Nodes"
+limit_name NodeBytes = codes "NodeBytes"
+limit_name Names = codes "Names"
+limit_name Elements = codes "Elements"
+limit_name Parts = codes "Parts"
+limit_name Priority = codes "Priority"
+limit_name Cells = codes "Cells"
+limit_name Tasks = codes "Tasks"
+
+-- a reason in words; a limit's name follows
+abbrev pub reason_word : Reason → List ℕ
+reason_word Header = codes "header"
+reason_word Word = codes "word"
+reason_word Number = codes "number"
+reason_word UnknownName = codes "unknown name"
+reason_word TakenName = codes "taken name"
+reason_word UnknownCodelet = codes "unknown codelet"
+reason_word OperandCount = codes "operand count"
+reason_word Shape = codes "shape"
+reason_word Part = codes "part"
+reason_word Aliased = codes "aliased"
+reason_word NoValue = codes "no value"
+reason_word NoReduction = codes "no reduction"
+reason_word NotLawful = codes "not lawful"
+reason_word MixedOutputs = codes "mixed outputs"
+reason_word (Limit kind) = codes "limit "
+reason_word EndedName = codes "ended name"
+reason_word NotBuilt = codes "not built"
+
+abbrev pub limit_word : Reason → List ℕ
+limit_word (Limit kind) = limit_name kind
+limit_word _ = []
+
+abbrev pub usage_line : List ℕ
+usage_line = codes "starjob: usage: starjob [--workers N] [--sched P] [--node BYTES] [--nodes K] [--swap PATH] [--swap-size BYTES] [--trace] [--summary] [--app product|paths --n N --tile T --seed S]\n"
+
+-- the line for a status; none where the job is done
+abbrev pub line_of : Status → List ℕ
+line_of Done = []
+line_of Usage = usage_line
+line_of (Refused line reason) = codes "starjob: line " ++ decimal line.0 ++ codes ": " ++ reason_word reason ++ limit_word reason ++ codes "\n"
+line_of SourceFault = codes "starjob: reading failed\n"
+line_of SinkFault = codes "starjob: writing failed\n"
+line_of OutOfMemory = codes "starjob: out of memory\n"
+
+-- a sink took a front of a line, and all of it where its count of faults didn't rise
+pub record TakesLine (old new : Option (List ℕ)) (faults_before faults_after : ℕ) (line : List ℕ) : Type 0 where
+  pub front : TakesPrefix old new line
+  pub whole : (Rose faults_before faults_after → ⊥) → Appends old new line
