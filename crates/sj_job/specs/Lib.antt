@@ -6,7 +6,6 @@ pub mod Sentence
 pub mod Judge
 pub mod Reading
 pub mod Names
-
-
 pub mod Sees
 pub mod Progress
+pub mod Well
