@@ -6,3 +6,4 @@ pub mod Valued
 pub mod Seen
 pub mod Progressing
 pub mod Welling
+pub mod Sounding

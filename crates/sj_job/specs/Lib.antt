@@ -9,3 +9,4 @@ pub mod Names
 pub mod Sees
 pub mod Progress
 pub mod Well
+pub mod Sound
