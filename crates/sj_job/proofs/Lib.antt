@@ -5,3 +5,5 @@ pub mod Calls
 pub mod Valued
 pub mod Seen
 pub mod Progressing
+pub mod Welling
+pub mod Sounding

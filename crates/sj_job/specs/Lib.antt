@@ -6,7 +6,7 @@ pub mod Sentence
 pub mod Judge
 pub mod Reading
 pub mod Names
-
-
 pub mod Sees
 pub mod Progress
+pub mod Well
+pub mod Sound

@@ -11,6 +11,7 @@ ghost use Rattle.sj_job.specs.declared.job.Statement.{Statement};
 ghost use Rattle.sj_job.specs.Meaning.{run_from};
 ghost use Rattle.sj_job.specs.Sees.{Sees};
 ghost use Rattle.sj_job.specs.Progress.{text_with};
+ghost use Rattle.sj_job.specs.Well.{IsWell};
 
 use crate::job::{Act, Job, Statement};
 use crate::judge::judge;
@@ -171,6 +172,7 @@ fn skip_header(alloc: Global, text: &[u8]) -> Result<(&[u8], u32), ReadRefusal>
 pub fn read<C: Codelets>(alloc: Global, text: &[u8], codelets: &C) -> Result<Job, ReadRefusal>
     ensures ok { IfOk result (λ job. job_of C.has text.now ≡ Ok job.statements) }
     ensures err { IfErr result (λ e. IsRefusal e (job_of C.has text.now)) }
+    ensures well { IfOk result (λ job. IsWell C.has 0 start job.statements) }
 {
     if text.len() > TEXT {
         return Err(ReadRefusal::Refused {

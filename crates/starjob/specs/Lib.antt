@@ -1,4 +1,5 @@
 pub mod Output
+pub mod Report
 pub mod Status
 pub mod Streams
-pub mod Report
+pub mod Top

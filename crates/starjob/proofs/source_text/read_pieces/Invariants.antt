@@ -1,6 +1,6 @@
 use Rattle.std.proofs.Common.{◌≡◌, ◌≤◌, ◌+◌, length}
 use Rattle.std.specs.Io.KnownBytes.{Consumes}
-use Rattle.starjob.proofs.source_text.read_source.Given as goal
+use Rattle.starjob.proofs.source_text.read_pieces.Given as goal
 
 abbrev pub invariant-loop-turn : goal.invariant-loop-turn
 invariant-loop-turn g l = record {

@@ -1,0 +1,64 @@
+-- What a text says is well: each statement is allowed where it stands.
+use Rattle.std.proofs.Common.{◌≡◌, ℕ, ◌+◌, ◌&&◌, not, Bool, true, false, List, [], ◌∷◌, length, refl, ap, ◌∙◌, sym, subst, Option, Some, None, Result, Ok, Err, cond, nat_lt}
+use Rattle.std.specs.List.{list_all}
+use Rattle.sj_codelet.specs.declared.kernel.Kernel.{Kernel}
+use Rattle.sj_job.specs.declared.job.Act.{Act}
+use Rattle.sj_job.specs.declared.job.Statement.{Statement}
+use Rattle.sj_job.specs.declared.reason.Reason.{Reason}
+use Rattle.sj_job.specs.declared.reason.Reason.TheVariants.{NotBuilt, Header, Limit}
+use Rattle.sj_job.specs.declared.reason.LimitKind.TheVariants.{Text}
+use Rattle.sj_job.specs.declared.sentence.Sentence.{Sentence}
+use Rattle.sj_job.specs.declared.read.Verdict.{Verdict}
+use Rattle.sj_job.specs.declared.read.Verdict.TheVariants.{Skipped, Does, Bad}
+use Rattle.sj_job.specs.State.{State, start}
+use Rattle.sj_job.specs.Meaning.{apply}
+use Rattle.sj_job.specs.Word.{lines, words, is_allowed, is_skipped}
+use Rattle.sj_job.specs.Sentence.{sentence_of, is_header}
+use Rattle.sj_job.specs.Judge.{Scope, scope_of, judged}
+use Rattle.sj_job.specs.Reading.{Refusal, refusal, statement, before, built, statement_in, reading, reading_header, verdict_of, job_of, text_limit}
+use Rattle.sj_job.specs.Well.{IsAllowed, IsWell}
+
+by_judge : (has : Kernel → Bool) (scope : Scope) (ws : List (List ℕ)) (s : Sentence) (act : Act) (r : Result Act Reason) → sentence_of has ws ≡ Some s → judged scope s ≡ r → (elim r as (λ _. Result Act Reason) [ Err why ↦ Err NotBuilt | Ok a ↦ Ok a ]) ≡ Ok act → IsAllowed has scope act
+by_judge has scope ws s act (Err why) p q e = absurd (cc)
+by_judge has scope ws s act (Ok a) p q e = record { words = ws; sentence = s; said = p; judged = q ∙ e }
+
+by_sentence : (has : Kernel → Bool) (scope : Scope) (ws : List (List ℕ)) (act : Act) (o : Option Sentence) → sentence_of has ws ≡ o → built scope o ≡ Ok act → IsAllowed has scope act
+by_sentence has scope ws act None p e = absurd (cc)
+by_sentence has scope ws act (Some s) p e = by_judge has scope ws s act (judged scope s) p refl e
+
+by_allowed : (has : Kernel → Bool) (scope : Scope) (l : List ℕ) (act : Act) (b : Bool) → cond b (Err NotBuilt) (built scope (sentence_of has (words l))) ≡ Ok act → IsAllowed has scope act
+by_allowed has scope l act true e = absurd (cc)
+by_allowed has scope l act false e = by_sentence has scope (words l) act (sentence_of has (words l)) refl e
+
+by_skipped : (has : Kernel → Bool) (scope : Scope) (l : List ℕ) (act : Act) (b : Bool) (r : Result Act Reason) → statement_in has scope l ≡ r → (cond b Skipped (elim r as (λ _. Verdict) [ Err why ↦ Bad why | Ok a ↦ Does a ])) ≡ Does act → IsAllowed has scope act
+by_skipped has scope l act true r p e = absurd (cc)
+by_skipped has scope l act false (Err why) p e = absurd (cc)
+by_skipped has scope l act false (Ok a) p e = by_allowed has scope l act (not (list_all is_allowed l)) (p ∙ cc)
+
+-- what a line does is allowed
+pub allowed_from_verdict : (has : Kernel → Bool) (scope : Scope) (l : List ℕ) (act : Act) → verdict_of has scope l ≡ Does act → IsAllowed has scope act
+allowed_from_verdict has scope l act e = by_skipped has scope l act (is_skipped (words l)) (statement_in has scope l) refl e
+
+well_before : (has : Kernel → Bool) (k : ℕ) (S : State) (s : Statement) (ss : List Statement) (r : Result (List Statement) Refusal) → before s r ≡ Ok ss → IsAllowed has (scope_of k S) s.act → ((ts : List Statement) → r ≡ Ok ts → IsWell has (k + 1) (apply s.act S) ts) → IsWell has k S ss
+well_before has k S s ss (Err e) h a rest = absurd (cc)
+well_before has k S s [] (Ok ts) h a rest = absurd (cc)
+well_before has k S s (t ∷ us) (Ok ts) h a rest =
+    let e : s ≡ t = cc in
+    let f : ts ≡ us = cc in
+    subst (λ (x : Statement). IsAllowed has (scope_of k S) x.act × IsWell has (k + 1) (apply x.act S) us) e (a, subst (λ (xs : List Statement). IsWell has (k + 1) (apply s.act S) xs) f (rest ts refl))
+
+well_by_verdict : (has : Kernel → Bool) (k : ℕ) (S : State) (n : ℕ) (l : List ℕ) (ls : List (List ℕ)) (ss : List Statement) → ((j : ℕ) (T : State) (ts : List Statement) → reading has j T (n + 1) ls ≡ Ok ts → IsWell has j T ts) → (v : Verdict) → verdict_of has (scope_of k S) l ≡ v → (elim v as (λ _. Result (List Statement) Refusal) [
+  Skipped ↦ reading has k S (n + 1) ls |
+  Bad why ↦ Err (refusal n why) |
+  Does act ↦ before (statement n act) (reading has (k + 1) (apply act S) (n + 1) ls)
+]) ≡ Ok ss → IsWell has k S ss
+well_by_verdict has k S n l ls ss rest Skipped v e = rest k S ss e
+well_by_verdict has k S n l ls ss rest (Bad why) v e = absurd (cc)
+well_by_verdict has k S n l ls ss rest (Does act) v e =
+    well_before has k S (statement n act) ss (reading has (k + 1) (apply act S) (n + 1) ls) e (allowed_from_verdict has (scope_of k S) l act v) (rest (k + 1) (apply act S))
+
+pub well_from_reading : (has : Kernel → Bool) (k : ℕ) (S : State) (n : ℕ) (ls : List (List ℕ)) (ss : List Statement) → reading has k S n ls ≡ Ok ss → IsWell has k S ss
+well_from_reading has k S n [] [] e = tt
+well_from_reading has k S n [] (s ∷ ss) e = absurd (cc)
+well_from_reading has k S n (l ∷ ls) ss e =
+    well_by_verdict has k S n l ls ss (λ j T ts h. well_from_reading has j T (n + 1) ls ts h) (verdict_of has (scope_of k S) l) refl e

@@ -1,0 +1,22 @@
+-- Statements that lines may say without complaint, one after another.
+use Rattle.std.specs.Prelude.{◌≡◌, ℕ, ◌+◌, Bool, Some, Ok, List, [], ◌∷◌}
+use Rattle.sj_codelet.specs.declared.kernel.Kernel.{Kernel}
+use Rattle.sj_job.specs.declared.job.Act.{Act}
+use Rattle.sj_job.specs.declared.job.Statement.{Statement}
+use Rattle.sj_job.specs.declared.sentence.Sentence.{Sentence}
+use Rattle.sj_job.specs.Sentence.{sentence_of}
+use Rattle.sj_job.specs.State.{State}
+use Rattle.sj_job.specs.Meaning.{apply}
+use Rattle.sj_job.specs.Judge.{Scope, scope_of, judged}
+
+-- words say this act, and no reason stands against it
+pub record IsAllowed (has : Kernel → Bool) (scope : Scope) (act : Act) : Type 0 where
+  pub words : List (List ℕ)
+  pub sentence : Sentence
+  pub said : sentence_of has words ≡ Some sentence
+  pub judged : judged scope sentence ≡ Ok act
+
+-- each statement is allowed in the state that those before it leave, of which k stand before the first
+abbrev pub IsWell : (Kernel → Bool) → ℕ → State → List Statement → Type 0
+IsWell has k S [] = Unit {0}
+IsWell has k S (s ∷ ss) = IsAllowed has (scope_of k S) s.act × IsWell has (k + 1) (apply s.act S) ss

@@ -1,0 +1,183 @@
+//! The call that the program makes: words, source, sinks, disks and gate in, the outcome out.
+
+ghost use Rattle.std.specs.Prelude.{◌≡◌, ◌≢◌, ◌↔◌, List, [], Ok, IsOk, IfOk, IfErr, IfSome, IsSomeAnd};
+ghost use Rattle.std.specs.Io.KnownBytes.{Keeps, IsAtEnd};
+ghost use Rattle.sj_edge.specs.Faults.{Counts, Rose};
+ghost use Rattle.sj_edge.specs.GivenBack.{AreUntouched};
+ghost use Rattle.sj_job.specs.declared.job.Statement.{Statement};
+ghost use Rattle.sj_job.specs.Reading.{job_of, IsRefusal};
+ghost use Rattle.sj_kernels.specs.Has.{ring_has};
+ghost use Rattle.starjob.specs.Report.{line_of, TakesLine};
+ghost use Rattle.starjob.specs.Top.{text_of, Answers, Gives, GivesText, IsBeforeWriting, IsDoneOrOutOfMemory};
+
+use crate::report::report;
+use crate::sequential::run_job;
+use crate::sink_text::write_text;
+use crate::source_text::{Unread, read_source};
+use crate::status::Status;
+use sj_base::trace::Trace;
+use sj_codelet::set::Codelets;
+use sj_edge::disk::Disk;
+use sj_edge::gate::Gate;
+use sj_edge::sink::Sink;
+use sj_edge::source::Source;
+use sj_job::read::read;
+use sj_job::reason::ReadRefusal;
+use sj_kernels::ring::Ring;
+use std::alloc::Global;
+use std::rt::Runtime;
+
+/// How a job ended, the trace of its run, and the disks that were handed in.
+#[derive(Drop)]
+pub struct Outcome {
+    pub status: Status,
+    pub trace: Trace,
+    pub disks: Vec<Box<dyn Disk + Send>>,
+}
+
+/// What a job text prints.
+fn text_of_job<C: Codelets>(
+    alloc: Global,
+    text: &[u8],
+    codelets: &C,
+) -> Result<Vec<u8>, ReadRefusal>
+    ensures ok { IfOk result (λ out. (ss : List Statement) × (job_of C.has text.now ≡ Ok ss) × (out.items ≡ text_of ss)) }
+    ensures err { IfErr result (λ e. IsRefusal e (job_of C.has text.now)) }
+{
+    let job = read(alloc, text, codelets)?;
+    Ok(run_job(alloc, job.statements.items(), codelets)?)
+}
+
+/// Writes what a job prints.
+fn write_printed<O: Sink>(out: &mut O, text: &[u8]) -> Status
+    ensures gives { GivesText text.now result (O.taken out.old) (O.taken out.new) }
+    ensures counts { Counts (O.faults out.old) (O.faults out.new) (result ≡ Status.SinkFault) }
+{
+    match write_text(out, text) {
+        Ok(()) => Status::Done,
+        Err(_) => Status::SinkFault,
+    }
+}
+
+/// Runs a job text and writes what it prints.
+fn answer_text<O: Sink, C: Codelets>(
+    alloc: Global,
+    text: &[u8],
+    out: &mut O,
+    codelets: &C,
+) -> Status
+    ensures answers { Answers (job_of C.has text.now) result }
+    ensures gives { Gives (job_of C.has text.now) result (O.taken out.old) (O.taken out.new) }
+    ensures out_stays { IsBeforeWriting result → Keeps (O.taken out.old) (O.taken out.new) }
+    ensures not_read { (result ≢ Status.Usage) × (result ≢ Status.SourceFault) }
+    ensures counts { Counts (O.faults out.old) (O.faults out.new) (result ≡ Status.SinkFault) }
+{
+    match text_of_job(alloc, text, codelets) {
+        Ok(printed) => write_printed(out, &printed),
+        Err(ReadRefusal::Refused { line, reason }) => Status::Refused { line, reason },
+        Err(ReadRefusal::OutOfMemory) => Status::OutOfMemory,
+    }
+}
+
+/// Runs the job text of a source and writes what it prints.
+fn run_source<S: Source, O: Sink, C: Codelets>(
+    alloc: Global,
+    source: &mut S,
+    out: &mut O,
+    codelets: &C,
+) -> Status
+    ensures answers { IfSome (S.left source.old) (λ text. Answers (job_of C.has text) result) }
+    ensures gives { IfSome (S.left source.old) (λ text. Gives (job_of C.has text) result (O.taken out.old) (O.taken out.new)) }
+    ensures out_stays { IsBeforeWriting result → Keeps (O.taken out.old) (O.taken out.new) }
+    ensures not_usage { result ≢ Status.Usage }
+    ensures at_end { result ≡ Status.Done → IsAtEnd (S.left source.new) }
+    ensures source_counts { Counts (S.faults source.old) (S.faults source.new) (result ≡ Status.SourceFault) }
+    ensures sink_counts { Counts (O.faults out.old) (O.faults out.new) (result ≡ Status.SinkFault) }
+{
+    match read_source(alloc, source) {
+        Ok(text) => answer_text(alloc, &text, out, codelets),
+        Err(Unread::Fault) => Status::SourceFault,
+        Err(Unread::OutOfMemory) => Status::OutOfMemory,
+    }
+}
+
+/// The status of a job with these words: without words the source's job text is run.
+fn run_words<S: Source, O: Sink, C: Codelets>(
+    alloc: Global,
+    words: &[String],
+    source: &mut S,
+    out: &mut O,
+    codelets: &C,
+) -> Status
+    ensures usage { (result ≡ Status.Usage) ↔ (words.now ≢ []) }
+    ensures answers { words.now ≡ [] → IfSome (S.left source.old) (λ text. Answers (job_of C.has text) result) }
+    ensures gives { words.now ≡ [] → IfSome (S.left source.old) (λ text.
+        Gives (job_of C.has text) result (O.taken out.old) (O.taken out.new)) }
+    ensures out_stays { IsBeforeWriting result → Keeps (O.taken out.old) (O.taken out.new) }
+    ensures at_end { result ≡ Status.Done → IsAtEnd (S.left source.new) }
+    ensures source_counts { Counts (S.faults source.old) (S.faults source.new) (result ≡ Status.SourceFault) }
+    ensures sink_counts { Counts (O.faults out.old) (O.faults out.new) (result ≡ Status.SinkFault) }
+{
+    if words.is_empty() {
+        run_source(alloc, source, out, codelets)
+    } else {
+        Status::Usage
+    }
+}
+
+/// Runs a job: reads its text from the source, runs its tasks, and writes the arrays that it prints to `out`.
+/// Where that ends otherwise, one line goes to `err`. The disks come back as they were.
+///
+/// The cost is that of reading, running and printing: linear in the text and in the elements that tasks touch, but for
+/// the look-up of names. Memory is a few times the text.
+pub fn starjob<R: Runtime, S: Source, O: Sink, E: Sink, G: Gate>(
+    rt: &R,
+    alloc: Global,
+    words: &[String],
+    source: &mut S,
+    out: &mut O,
+    err: &mut E,
+    disks: Vec<Box<dyn Disk + Send>>,
+    gate: &G,
+) -> Outcome
+    // Usage comes exactly where there are words.
+    ensures usage_exactly_with_words { (result.status ≡ Status.Usage) ↔ (words.now ≢ []) }
+
+    // Done means that the job was read, and that its printed arrays were written: those of its statements run one
+    // after another on plain arrays. Refused names the first bad line and its first reason.
+    ensures status_answers_the_job { words.now ≡ [] → IfSome (S.left source.old) (λ text.
+        Answers (job_of ring_has text) result.status) }
+    ensures out_takes_the_text { words.now ≡ [] → IfSome (S.left source.old) (λ text.
+        Gives (job_of ring_has text) result.status (O.taken out.old) (O.taken out.new)) }
+    ensures out_stays_before_writing { IsBeforeWriting result.status → Keeps (O.taken out.old) (O.taken out.new) }
+    ensures done_reads_to_the_end { result.status ≡ Status.Done → IsAtEnd (S.left source.new) }
+
+    // A fault comes only where the device's count of faults rose in this call.
+    ensures source_fault_only_where_it_rose { Counts
+        (S.faults source.old) (S.faults source.new) (result.status ≡ Status.SourceFault) }
+    ensures sink_fault_only_where_it_rose { Counts
+        (O.faults out.old) (O.faults out.new) (result.status ≡ Status.SinkFault) }
+
+    // A job that isn't refused, with devices that don't fail, is done, unless memory runs out.
+    ensures complete { words.now ≡ [] → IsSomeAnd (S.left source.old) (λ text. IsOk (job_of ring_has text)) →
+        ¬ (Rose (S.faults source.old) (S.faults source.new)) → ¬ (Rose (O.faults out.old) (O.faults out.new)) →
+        IsDoneOrOutOfMemory result.status }
+
+    // One line goes to `err`, or none.
+    ensures err_takes_the_line { TakesLine (E.taken err.old) (E.taken err.new) (E.faults err.old) (E.faults err.new)
+        (line_of result.status) }
+
+    // Nothing is run on disks, and nothing is traced.
+    ensures disks_come_back { AreUntouched ⟦<Box<dyn Disk + Send> as Disk>⟧.size
+        ⟦<Box<dyn Disk + Send> as Disk>⟧.faults ⟦<Box<dyn Disk + Send> as Disk>⟧.mismatches
+        ⟦<Box<dyn Disk + Send> as Disk>⟧.held disks.items result.disks.items }
+    ensures trace_is_empty { result.trace.events ≡ [] }
+{
+    let status = run_words(alloc, words, source, out, &Ring);
+    report(status, err);
+    Outcome {
+        status,
+        trace: Trace::empty(alloc),
+        disks,
+    }
+}
