@@ -11,6 +11,10 @@ use Rattle.sj_codelet.specs.MinPlus.{inf, plus, least_below}
 abbrev pub vector : List ℤ → Array
 vector xs = array (record { rows = 1; cols = length xs }) xs
 
+-- a list as an array of so many rows and columns
+abbrev pub matrix : ℕ → ℕ → List ℤ → Array
+matrix m n xs = array (record { rows = m; cols = n }) xs
+
 abbrev pub fill : ℤ → ℤ → Array → Array
 fill a b x = each x.dims (λ p. wrap (a +ℤ (b *ℤ pos p)))
 

@@ -2,5 +2,6 @@
 #![tactic(auto)]
 
 pub mod elementwise;
+pub mod reduction;
 pub mod ring;
 pub mod runs;
