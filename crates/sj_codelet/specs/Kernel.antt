@@ -10,7 +10,8 @@ use Rattle.sj_codelet.specs.declared.kernel.Kernel.{Kernel}
 use Rattle.sj_codelet.specs.declared.kernel.Kernel.TheVariants.{Fill, Copy, Scale, Add, Axpy, Butterfly, Gemm, GemmThree, Transpose, Dot, Sum, Lowest, MinGemm, FwDiag, FwRow, FwCol, Load, LoadFill, Paste, Deliver, InitPlus, InitLeast}
 use Rattle.sj_codelet.specs.declared.formal.Formal.{Formal}
 use Rattle.sj_codelet.specs.declared.formal.Formal.TheVariants.{R, W, RW, Scratch}
-use Rattle.sj_codelet.specs.Equations.{fill, scale, add, subtract, axpy, gemm, gemm3, transpose, dot, sum, lowest, mingemm, fwdiag, fwrow, fwcol, loadfill, paste, all_inf, count_at, window_of}
+use Rattle.sj_codelet.specs.Equations.{fill, scale, add, subtract, axpy, gemm, gemm3, transpose, dot, sum, lowest, mingemm, fwdiag, fwrow, fwcol, loadfill, paste, all_inf}
+use Rattle.sj_codelet.specs.Window.{count_at, window_of}
 
 -- the codelets in the order of their ids
 abbrev pub kernels : List Kernel
