@@ -7,3 +7,4 @@ pub mod Slot
 pub mod Runs
 pub mod Listing
 pub mod Window
+pub mod Laws
