@@ -3,12 +3,9 @@ use Rattle.std.proofs.Common.{◌≡◌, ℕ, ◌+◌, ◌*◌, ◌<◌, ◌≤�
 use Rattle.std.specs.List.{range_with_len}
 use Rattle.std.proofs.lemmas.List.{append-nil, drop_all, same_lists, get_or_at, get_or_default, set_at, drop_more, append_assoc}
 use Rattle.std.proofs.lemmas.List.FromFn.{length-map-range_with_len, get_or-map-range_with_len, map-range_with_len_more}
-use Rattle.sj_base.specs.Array.{each}
+use Rattle.sj_base.specs.Array.{each, area}
 use Rattle.sj_codelet.specs.Equations.{vector}
-
--- f 0, .., f (n - 1)
-unfoldable pub listing : ℕ → (ℕ → ℤ) → List ℤ
-listing n f = map f (range_with_len 0 n)
+use Rattle.sj_codelet.specs.Listing.{listing}
 
 -- ys with its first i elements replaced by f 0, .., f (i - 1)
 unfoldable pub begun : ℕ → (ℕ → ℤ) → List ℤ → List ℤ
@@ -63,3 +60,26 @@ pub begun_step : (i : ℕ) (f : ℕ → ℤ) (ys zs : List ℤ) (v : ℤ) → zs
 begun_step i f ys zs v e h known =
     let read = ap (λ ws. get_or ws i (pos 0)) e ∙ at-begun i f ys (pos 0) h in
     ap (λ ws. set ws i v) e ∙ ap (λ w. set (begun i f ys) i w) (known read) ∙ begun_more i f ys h
+
+-- the same where the code's own words for the elements are others
+pub each_from_begun_as : (i : ℕ) (f g : ℕ → ℤ) (ys zs : List ℤ) → length ys ≤ i → i ≤ length ys → zs ≡ begun i f ys → ((k : ℕ) → k < length ys → f k ≡ g k) → zs ≡ (each (vector ys).dims g).elements
+unfolding listing
+each_from_begun_as i f g ys zs h k e same =
+    let n : i ≡ 1 * length ys = omega arith in
+    e ∙ begun_all i f ys h ∙ same_listing i f g (λ j l. same j (omega arith)) ∙ ap (λ m. map g (range_with_len 0 m)) n
+
+-- what stands past the part that a loop has written
+pub begun_read : (i : ℕ) (f : ℕ → ℤ) (ys zs : List ℤ) → zs ≡ begun i f ys → i < length ys → get_or zs i (pos 0) ≡ get_or ys i (pos 0)
+begun_read i f ys zs e h = ap (λ ws. get_or ws i (pos 0)) e ∙ at-begun i f ys (pos 0) h
+
+-- one element that was written whole
+pub single_from_set : (ys : List ℤ) (f : ℕ → ℤ) (v : ℤ) → length ys ≡ 1 → v ≡ f 0 → set ys 0 v ≡ (each (vector ys).dims f).elements
+single_from_set ys f v h e =
+    each_from_begun 1 f ys (set ys 0 v) (omega arith) (omega arith) (begun_step 0 f ys ys v (begun_none f ys) (omega arith) (λ _. e))
+
+pub each_listing : (ys : List ℤ) (f : ℕ → ℤ) → (each (vector ys).dims f).elements ≡ listing (length ys) f
+unfolding listing
+each_listing ys f = let n : area (vector ys).dims ≡ length ys = omega arith in ap (λ m. map f (range_with_len 0 m)) n
+
+pub listing_from_begun : (i : ℕ) (f : ℕ → ℤ) (ys zs : List ℤ) → length ys ≤ i → i ≤ length ys → zs ≡ begun i f ys → zs ≡ listing (length ys) f
+listing_from_begun i f ys zs h k e = let n : i ≡ length ys = omega arith in e ∙ begun_all i f ys h ∙ ap (λ m. listing m f) n

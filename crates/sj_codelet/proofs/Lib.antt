@@ -1,2 +1,7 @@
 pub mod Filling
 pub mod Operands
+pub mod Sums
+pub mod Integers
+pub mod Rows
+pub mod Elements
+pub mod Names

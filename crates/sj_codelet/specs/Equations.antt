@@ -1,15 +1,19 @@
 -- The equation of each codelet: its new elements, from the elements before.
-use Rattle.std.specs.Prelude.{ℕ, zero, suc, ◌+◌, ◌-◌, ◌*◌, Bool, ◌&&◌, nat_le, nat_lt, ℤ, pos, ◌+ℤ◌, ◌-ℤ◌, ◌*ℤ◌, List, length, if◌then◌else◌}
+use Rattle.std.specs.Prelude.{ℕ, zero, suc, ◌+◌, ◌-◌, Bool, ◌&&◌, nat_le, nat_lt, ℤ, pos, ◌+ℤ◌, ◌-ℤ◌, ◌*ℤ◌, List, length, if◌then◌else◌}
 use Rattle.std.specs.Int.{int_min}
-use Rattle.std.specs.Int.RustNames.{unsigned_abs}
 use Rattle.sj_base.specs.declared.tile.Dims.{Dims}
 use Rattle.sj_base.specs.Array.{Array, array, area, at, element, each, grid}
+use Rattle.sj_codelet.specs.declared.window.Window.{Window}
 use Rattle.sj_codelet.specs.Ring.{wrap, sum_below}
 use Rattle.sj_codelet.specs.MinPlus.{inf, plus, least_below}
 
 -- a list as an array of one row
 abbrev pub vector : List ℤ → Array
 vector xs = array (record { rows = 1; cols = length xs }) xs
+
+-- a list as an array of so many rows and columns
+abbrev pub matrix : ℕ → ℕ → List ℤ → Array
+matrix m n xs = array (record { rows = m; cols = n }) xs
 
 abbrev pub fill : ℤ → ℤ → Array → Array
 fill a b x = each x.dims (λ p. wrap (a +ℤ (b *ℤ pos p)))
@@ -84,17 +88,9 @@ fwcol d a =
     after_turns d.dims.rows (λ k m. grid m.dims (λ i j. int_min (element m i j) (plus (element m i k) (element d k j)))) a
 
 -- the part at (r0, c0) of a root with so many columns whose element at position p is a + b p
-abbrev pub loadfill : ℤ → ℤ → ℕ → ℕ → ℕ → Array → Array
-loadfill a b r0 c0 cols x = grid x.dims (λ i j. wrap (a +ℤ (b *ℤ pos ((r0 + i) * cols + (c0 + j)))))
-
--- where a paste takes its elements and puts them
-pub record Window : Type 0 where
-  pub old_row : ℕ
-  pub old_col : ℕ
-  pub new_row : ℕ
-  pub new_col : ℕ
-  pub rows : ℕ
-  pub cols : ℕ
+abbrev pub loadfill : ℤ → ℤ → ℤ → ℤ → ℤ → Array → Array
+loadfill a b r0 c0 cols x =
+    grid x.dims (λ i j. wrap (a +ℤ (b *ℤ (((r0 +ℤ pos i) *ℤ cols) +ℤ (c0 +ℤ pos j)))))
 
 abbrev pub is_within : ℕ → ℕ → ℕ → Bool
 is_within i first len = nat_le first i && nat_lt i (first + len)
@@ -107,11 +103,3 @@ paste w old new =
 
 abbrev pub all_inf : Dims → Array
 all_inf d = each d (λ p. inf)
-
--- an argument as a number of rows, columns or the like
-abbrev pub count_at : List ℤ → ℕ → ℕ
-count_at args n = unsigned_abs (at args n)
-
--- the window that six arguments name
-abbrev pub window_of : List ℤ → Window
-window_of args = record { old_row = count_at args 0; old_col = count_at args 1; new_row = count_at args 2; new_col = count_at args 3; rows = count_at args 4; cols = count_at args 5 }

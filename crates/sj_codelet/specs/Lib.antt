@@ -5,3 +5,6 @@ pub mod Kernel
 pub mod Frame
 pub mod Slot
 pub mod Runs
+pub mod Listing
+pub mod Window
+pub mod Laws

@@ -2,5 +2,10 @@
 #![tactic(auto)]
 
 pub mod elementwise;
+pub mod placement;
+pub mod product;
+pub mod reduction;
 pub mod ring;
-pub mod runs;
+mod runs;
+#[cfg(test)]
+mod tests;
