@@ -7,6 +7,8 @@ mod sequential;
 mod sink_text;
 mod source_text;
 mod status;
+#[cfg(test)]
+mod tests;
 mod top;
 
 use sj_edge::gate::OpenGate;

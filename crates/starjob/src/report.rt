@@ -15,7 +15,8 @@ use sj_edge::source::Failed;
 use sj_job::reason::{LimitKind, Reason};
 
 /// What the program says of its words.
-const USAGE: &[u8] = b"starjob: usage: starjob [--workers N] [--sched P] [--node BYTES] [--nodes K] [--swap PATH] [--swap-size BYTES] [--trace] [--summary] [--app product|paths --n N --tile T --seed S]\n";
+const USAGE: &[u8] =
+    b"starjob: usage: starjob [--workers N] [--sched P] [--node BYTES] [--nodes K] [--swap PATH] [--swap-size BYTES] [--trace] [--summary] [--app product|paths --n N --tile T --seed S]\n";
 
 fn limit_name(kind: LimitKind) -> &'static [u8]
     ensures { result.now ≡ limit_name kind }
