@@ -13,18 +13,21 @@ use Rattle.sj_base.specs.declared.mode.Mode.TheVariants.{R, W, RW, Scratch, Redu
 use Rattle.sj_base.specs.Array.{Array, array, zeros}
 use Rattle.sj_codelet.specs.declared.formal.Formal.{Formal}
 use Rattle.sj_codelet.specs.declared.formal.Formal.TheVariants.{R as FormalR, W as FormalW, RW as FormalRW, Scratch as FormalScratch}
-use Rattle.sj_codelet.specs.Frame.{Slot, shared, own, arrays, all_dims, IsReady, AreReady, written, AllKeep}
+use Rattle.sj_codelet.specs.Frame.{Slot, Frame, shared, own, arrays, all_dims, IsReady, AreReady, written, AllKeep}
 use Rattle.sj_job.specs.declared.job.Kind.{Kind}
 use Rattle.sj_job.specs.declared.job.Operand.{Operand}
 use Rattle.sj_job.specs.declared.job.Register.{Register}
+use Rattle.sj_job.specs.declared.job.TaskLine.{TaskLine}
+use Rattle.sj_codelet.specs.Kernel.{out}
+use Rattle.sj_codelet.specs.Runs.{formals_in, IsRun}
 use Rattle.sj_job.specs.State.{Root, State, root_of, start}
-use Rattle.sj_job.specs.Meaning.{registered_root, register, first_elements, array_of, Printed, found_by, put, put_all, written_names, operand_array, seen_by, is_written}
+use Rattle.sj_job.specs.Meaning.{registered_root, register, first_elements, array_of, Printed, found_by, put, put_all, written_names, run_task, operand_array, seen_by, is_written}
 use Rattle.sj_job.specs.Judge.{mode_fits, modes_fit}
 use Rattle.sj_job.specs.Sound.{dims_of, is_plain}
 use Rattle.starjob.specs.declared.arrays.Held.{Held}
 use Rattle.starjob.specs.declared.arrays.Arrays.{Arrays}
 use Rattle.starjob.specs.Output.{block_of, output}
-use Rattle.std.proofs.lemmas.List.{append-nil}
+use Rattle.std.proofs.lemmas.List.{append-nil, length-append, length-map}
 use Rattle.starjob.specs.Holds.{root_in, Holds, slot_for, slot_in, put_slot, put_slots}
 
 -- before the first statement
@@ -52,14 +55,14 @@ holds_registered old new S r held h u e = record {
 
 put_here : (S : State) (name : List ℕ) (a : Array) (r : Root) → root_of S name ≡ Some r → put name a S ≡ record { registered = S.registered; ended = S.ended; roots = map.insert S.roots name (record { kind = r.kind; dims = r.dims; elements = each_of Some a.elements }) }
 put_here S name a r e = ap (λ (o : Option Root). elim o as (λ _. State) [
-  None ↦ S |
-  Some r ↦ record { registered = S.registered; ended = S.ended; roots = map.insert S.roots name (record { kind = r.kind; dims = r.dims; elements = each_of Some a.elements }) }
+  | None ↦ S
+  | Some r ↦ record { registered = S.registered; ended = S.ended; roots = map.insert S.roots name (record { kind = r.kind; dims = r.dims; elements = each_of Some a.elements }) }
 ]) e
 
 put_absent : (S : State) (name : List ℕ) (a : Array) → root_of S name ≡ None → put name a S ≡ S
 put_absent S name a e = ap (λ (o : Option Root). elim o as (λ _. State) [
-  None ↦ S |
-  Some r ↦ record { registered = S.registered; ended = S.ended; roots = map.insert S.roots name (record { kind = r.kind; dims = r.dims; elements = each_of Some a.elements }) }
+  | None ↦ S
+  | Some r ↦ record { registered = S.registered; ended = S.ended; roots = map.insert S.roots name (record { kind = r.kind; dims = r.dims; elements = each_of Some a.elements }) }
 ]) e
 
 abbrev root_with : List (Option ℤ) → Kind → Dims → Root
@@ -249,8 +252,8 @@ replaced true o r es e = sym (ap dims_by (e refl))
 replaced false o r es e = refl
 
 put_dims : (S : State) (name : List ℕ) (a : Array) (q : List ℕ) (o : Option Root) → root_of S name ≡ o → dims_of (elim o [
-  None ↦ S |
-  Some r ↦ record { registered = S.registered; ended = S.ended; roots = map.insert S.roots name (record { kind = r.kind; dims = r.dims; elements = each_of Some a.elements }) }
+  | None ↦ S
+  | Some r ↦ record { registered = S.registered; ended = S.ended; roots = map.insert S.roots name (record { kind = r.kind; dims = r.dims; elements = each_of Some a.elements }) }
 ]) q ≡ dims_of S q
 put_dims S name a q None e = refl
 put_dims S name a q (Some r) e =
@@ -281,3 +284,42 @@ printed_is a S name held h found =
     ap (block_of held.kind name) (whole held)
     ∙ sym (append-nil (block_of held.kind name (array_of (root_in held))))
     ∙ ap (λ (o : Option Root). output (elim o as (λ _. List Printed) [ None ↦ [] | Some r ↦ record { name = name; kind = r.kind; array = array_of r } ∷ [] ])) (sym (ap (option_map root_in) found) ∙ h.roots name)
+
+dims_split : (mid : List Slot) (s : Slot) (before : List Operand) (o : Operand) (f : Operand → Dims) → length before ≡ length mid → all_dims (mid ++ s ∷ []) ≡ each_of f (before ++ o ∷ []) → (all_dims mid ≡ each_of f before) × (s.array.dims ≡ f o)
+dims_split [] s [] o f l e = (refl, cc)
+dims_split [] s (p ∷ before) o f l e = absurd (omega arith)
+dims_split (t ∷ mid) s [] o f l e = absurd (omega arith)
+dims_split (t ∷ mid) s (p ∷ before) o f l e =
+    let first : t.array.dims ≡ f p = cc in
+    let more : all_dims (mid ++ s ∷ []) ≡ each_of f (before ++ o ∷ []) = cc in
+    let rest = dims_split mid s before o f (omega arith) more in
+    (ap (λ d. d ∷ all_dims mid) first ∙ ap (λ ds. f p ∷ ds) rest.0, rest.1)
+
+-- the last operand goes back behind the others
+pub put_last : (mid_arrays new : Arrays) (S : State) (os before : List Operand) (o : Operand) (ss mid : List Slot) (s : Slot) → os ≡ before ++ o ∷ [] → ss ≡ mid ++ s ∷ [] → length os ≡ length ss → all_dims ss ≡ each_of (λ p. dims_of S p.name) os → (all_dims mid ≡ each_of (λ p. dims_of S p.name) before → Holds mid_arrays (put_slots before mid S)) → ((T : State) → Holds mid_arrays T → s.array.dims ≡ dims_of T o.name → Holds new (put_slot o s T)) → Holds new (put_slots os ss S)
+put_last mid_arrays new S os before o ss mid s e k l d rest last =
+    let m = length-append before (o ∷ []) in
+    let n = length-append mid (s ∷ []) in
+    let same : length before ≡ length mid = omega (arith, ap length e, ap length k) in
+    let parts = dims_split mid s before o (λ p. dims_of S p.name) same (ap all_dims (sym k) ∙ d ∙ ap (each_of (λ p. dims_of S p.name)) e) in
+    subst (λ (xs : List Operand). Holds new (put_slots xs ss S)) (sym e)
+    (subst (λ (xs : List Slot). Holds new (put_slots (before ++ o ∷ []) xs S)) (sym k)
+    (subst (λ (T : State). Holds new T) (sym (put_slots-push before mid o s S same))
+    (last (put_slots before mid S) (rest parts.0) (parts.1 ∙ sym (put_slots_dims before mid S o.name)))))
+
+pub length_seen : (A : Arrays) (fs : List Formal) (os : List Operand) (old new : List Slot) → old ≡ each_of (slot_in A) os → AllKeep fs old new → (length os ≡ length new) × (length os ≡ length fs)
+length_seen A fs os old new e k =
+    let l = length_kept fs old new k in
+    let m = length-map os (slot_in A) in
+    (omega (arith, ap length e), omega (arith, ap length e))
+
+-- a task's run, and its operands put back, is what the task means
+pub task_as_meant : (A B : Arrays) (t : TaskLine) (S : State) (old new : Frame) → Holds A S → modes_fit (formals_in t.codelet) t.operands ≡ true → old.slots ≡ each_of (slot_in A) t.operands → IsRun t.codelet t.args old new → (all_dims new.slots ≡ each_of (λ o. dims_of S o.name) t.operands → Holds B (put_slots t.operands new.slots S)) → Holds B (run_task t S)
+task_as_meant A B t S old new h m e r put_back =
+    let fs = formals_in t.codelet in
+    let l = length_seen A fs t.operands old.slots new.slots e r.kept in
+    let k = length_kept fs old.slots new.slots r.kept in
+    let d = dims_kept fs old.slots new.slots r.kept ∙ ap all_dims e ∙ dims_seen A S t.operands h in
+    let meant = put_as_meant fs t.operands new.slots S m l.1 k.1
+    ∙ ap (λ xs. put_all (written_names t.operands) xs S) (r.written ∙ ap (λ ss. out t.codelet t.args (arrays ss)) e ∙ ap (out t.codelet t.args) (arrays_seen A S t.operands h)) in
+    subst (λ (T : State). Holds B T) meant (put_back d)

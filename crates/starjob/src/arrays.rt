@@ -129,10 +129,7 @@ impl Arrays {
     {
         match self.by_name.get(&operand.name) {
             Some(held) => held.operand(alloc, operand.mode),
-            None => Ok(FrameOperand::Own(Tile::of(
-                Dims { rows: 0, cols: 0 },
-                Vec::new(alloc),
-            ))),
+            None => Ok(FrameOperand::Own(Tile::of(Dims { rows: 0, cols: 0 }, Vec::new(alloc)))),
         }
     }
 
@@ -161,7 +158,12 @@ impl Arrays {
     }
 
     /// Puts an operand of a task under its name, if it was written.
-    fn put_operand(&mut self, alloc: Global, operand: &Operand, slot: FrameOperand) -> Result<(), OutOfMemory>
+    fn put_operand(
+        &mut self,
+        alloc: Global,
+        operand: &Operand,
+        slot: FrameOperand,
+    ) -> Result<(), OutOfMemory>
         ensures { OnOk result ((S : State) → Holds self.old S → (slot_of slot).array.dims ≡ dims_of S operand.now.name → Holds self.new (put_slot operand.now (slot_of slot) S)) }
     {
         if is_written(operand.mode) {
@@ -173,7 +175,12 @@ impl Arrays {
 
     /// Takes the operands of a task back, and puts the written ones under their names. Linear in the operands, and for each
     /// logarithmic in the names.
-    pub fn put_back(&mut self, alloc: Global, operands: &[Operand], frame: &mut Frame) -> Result<(), OutOfMemory>
+    pub fn put_back(
+        &mut self,
+        alloc: Global,
+        operands: &[Operand],
+        frame: &mut Frame,
+    ) -> Result<(), OutOfMemory>
         requires { length operands.now ≡ length frame.old.slots }
         ensures { OnOk result ((S : State) → Holds self.old S → all_dims frame.old.slots ≡ map (λ o. dims_of S o.name) operands.now → Holds self.new (put_slots operands.now frame.old.slots S)) }
     {

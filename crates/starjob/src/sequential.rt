@@ -24,9 +24,10 @@ fn run_task<C: Codelets>(
     requires { CanRun C.has arrays.old task.now }
     ensures { OnOk result ((S : State) → Holds arrays.old S → Holds arrays.new (run_task task.now S)) }
 {
-    let mut frame = arrays.frame(alloc, task.operands.items())?;
+    let operands = task.operands.items();
+    let mut frame = arrays.frame(alloc, operands)?;
     codelets.run(alloc, task.codelet, task.args.items(), &mut frame)?;
-    arrays.put_back(alloc, task.operands.items(), &mut frame)?;
+    arrays.put_back(alloc, operands, &mut frame)?;
     Ok(())
 }
 
