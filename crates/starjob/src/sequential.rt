@@ -75,3 +75,42 @@ pub fn run_job<C: Codelets>(
     }
     Ok(text)
 }
+
+#[cfg(test)]
+mod tests {
+    use super::*;
+    use sj_job::read::read;
+    use sj_kernels::ring::Ring;
+
+    /// What a job prints, where it is read and memory suffices.
+    fn text_of(alloc: Global, text: &[u8]) -> Option<Vec<u8>> {
+        let job = read(alloc, text, &Ring).ok()?;
+        run_job(alloc, job.statements.items(), &Ring).ok()
+    }
+
+    #[test]
+    fn a_job_prints_what_its_statements_make(rt: HostRuntime) {
+        for (job, want) in [
+            (
+                b"starjob 1\nvector x 3 values 1 2 3\nvector y 3 values 10 20 30\ntask add x:R y:RW\nprint y\n".as_slice(),
+                b"y: 11 22 33\n".as_slice(),
+            ),
+            (
+                b"starjob 1\nvector x 2 values 1 2\nprint x\ntask scale(5) x:RW\nprint x\n",
+                b"x: 1 2\nx: 5 10\n",
+            ),
+            (
+                b"starjob 1\nvector x 2 values 9223372036854775807 1\nvector y 2 values 1 1\ntask add x:R y:RW\nprint y\nprint x\n",
+                b"y: -9223372036854775808 2\nx: inf 1\n",
+            ),
+            (
+                b"starjob 1\nvector x 2 values -7 0\nvector y 2 values 1 1\ntask copy x:R y:W\ntask add y:R x:RW\nprint x\nprint y\n",
+                b"x: -14 0\ny: -7 0\n",
+            ),
+            (b"starjob 1\n", b""),
+        ] {
+            let text = text_of(rt.alloc(), job);
+            assert_eq!(rt; text.as_deref(), Some(want));
+        }
+    }
+}
