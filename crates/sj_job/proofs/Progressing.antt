@@ -32,9 +32,9 @@ after-push ss s (Err e) = refl
 
 by_verdict : (has : Kernel → Bool) (k : ℕ) (S : State) (n : ℕ) (ls : List (List ℕ)) → Verdict → Result (List Statement) Refusal
 by_verdict has k S n ls v = elim v [
-  Skipped ↦ reading has k S (n + 1) ls |
-  Bad why ↦ Err (refusal n why) |
-  Does act ↦ before (statement n act) (reading has (k + 1) (apply act S) (n + 1) ls)
+  | Skipped ↦ reading has k S (n + 1) ls
+  | Bad why ↦ Err (refusal n why)
+  | Does act ↦ before (statement n act) (reading has (k + 1) (apply act S) (n + 1) ls)
 ]
 
 -- a bad line ends the text

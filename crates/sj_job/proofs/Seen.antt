@@ -48,9 +48,9 @@ sees_registered old new n S r h s k u = record {
   registered = k ∙ ap (λ m. m + 1) h.registered;
   ended = h.ended;
   known = λ q. ap (option_map known_dims) (u.0 q)
-    ∙ one_more (is_at (slice_cmp nat_cmp r.name) q) (get (slice_cmp nat_cmp) old.roots q) (root_of S q) r (h.known q)
-    ∙ ap (λ b. option_map known_of (cond b (Some (registered_root r)) (root_of S q))) ((eq_by_cmp_equiv nat_list_cmp_total).symm r.name q)
-    ∙ ap (option_map known_of) (sym (map.get-insert nat_list_cmp_total S.roots r.name (registered_root r) q));
+      ∙ one_more (is_at (slice_cmp nat_cmp r.name) q) (get (slice_cmp nat_cmp) old.roots q) (root_of S q) r (h.known q)
+      ∙ ap (λ b. option_map known_of (cond b (Some (registered_root r)) (root_of S q))) ((eq_by_cmp_equiv nat_list_cmp_total).symm r.name q)
+      ∙ ap (option_map known_of) (sym (map.get-insert nat_list_cmp_total S.roots r.name (registered_root r) q));
 }
 
 abbrev dims_known : Known → Known
@@ -71,8 +71,8 @@ tied : (q name : List ℕ) → eq_by_cmp (slice_cmp nat_cmp) q name ≡ true →
 tied q name e = same_text q name (sym (texts_ties q name ∙ e))
 
 put_shows : (f : List ℕ → Option Dims) (S : State) (name : List ℕ) (a : Array) (o : Option Root) → root_of S name ≡ o → ((q : List ℕ) → option_map known_dims (f q) ≡ shown S q) → (q : List ℕ) → option_map known_dims (f q) ≡ shown (elim o [
-  None ↦ S |
-  Some r ↦ record { registered = S.registered; ended = S.ended; roots = map.insert S.roots name (record { kind = r.kind; dims = r.dims; elements = each_of Some a.elements }) }
+  | None ↦ S
+  | Some r ↦ record { registered = S.registered; ended = S.ended; roots = map.insert S.roots name (record { kind = r.kind; dims = r.dims; elements = each_of Some a.elements }) }
 ]) q
 put_shows f S name a None e h q = h q
 put_shows f S name a (Some r) e h q =
@@ -86,8 +86,8 @@ put_all_shows f (n ∷ ns) [] S h = h
 put_all_shows f (n ∷ ns) (a ∷ arrays) S h = put_all_shows f ns arrays (put n a S) (put_shows f S n a (root_of S n) refl h)
 
 put_counts : (S : State) (name : List ℕ) (a : Array) (o : Option Root) → let T : State = elim o [
-  None ↦ S |
-  Some r ↦ record { registered = S.registered; ended = S.ended; roots = map.insert S.roots name (record { kind = r.kind; dims = r.dims; elements = each_of Some a.elements }) }
+  | None ↦ S
+  | Some r ↦ record { registered = S.registered; ended = S.ended; roots = map.insert S.roots name (record { kind = r.kind; dims = r.dims; elements = each_of Some a.elements }) }
 ] in (T.registered ≡ S.registered) × (T.ended ≡ S.ended)
 put_counts S name a None = (refl, refl)
 put_counts S name a (Some r) = (refl, refl)
@@ -111,7 +111,7 @@ sees_task old new n S t h s k e =
       registered = k ∙ h.registered ∙ sym counts.0;
       ended = counts.1 ∙ h.ended;
       known = λ q. ap (λ roots. option_map known_dims (get (slice_cmp nat_cmp) roots q)) e
-        ∙ put_all_shows (get (slice_cmp nat_cmp) old.roots) ns arrays S h.known q;
+          ∙ put_all_shows (get (slice_cmp nat_cmp) old.roots) ns arrays S h.known q;
     }
 
 sees_print : (old new : Names) (n : ℕ) (S : State) → Sees old n S → new.statements ≡ n + 1 → new.registered ≡ old.registered → new.roots ≡ old.roots → Sees new (n + 1) S

@@ -48,9 +48,9 @@ well_before has k S s (t ∷ us) (Ok ts) h a rest =
     subst (λ (x : Statement). IsAllowed has (scope_of k S) x.act × IsWell has (k + 1) (apply x.act S) us) e (a, subst (λ (xs : List Statement). IsWell has (k + 1) (apply s.act S) xs) f (rest ts refl))
 
 well_by_verdict : (has : Kernel → Bool) (k : ℕ) (S : State) (n : ℕ) (l : List ℕ) (ls : List (List ℕ)) (ss : List Statement) → ((j : ℕ) (T : State) (ts : List Statement) → reading has j T (n + 1) ls ≡ Ok ts → IsWell has j T ts) → (v : Verdict) → verdict_of has (scope_of k S) l ≡ v → (elim v as (λ _. Result (List Statement) Refusal) [
-  Skipped ↦ reading has k S (n + 1) ls |
-  Bad why ↦ Err (refusal n why) |
-  Does act ↦ before (statement n act) (reading has (k + 1) (apply act S) (n + 1) ls)
+  | Skipped ↦ reading has k S (n + 1) ls
+  | Bad why ↦ Err (refusal n why)
+  | Does act ↦ before (statement n act) (reading has (k + 1) (apply act S) (n + 1) ls)
 ]) ≡ Ok ss → IsWell has k S ss
 well_by_verdict has k S n l ls ss rest Skipped v e = rest k S ss e
 well_by_verdict has k S n l ls ss rest (Bad why) v e = absurd (cc)

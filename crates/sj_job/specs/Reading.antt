@@ -53,9 +53,9 @@ verdict_of set scope line =
 abbrev pub reading : (Kernel → Bool) → ℕ → State → ℕ → List (List ℕ) → Result (List Statement) Refusal
 reading set k S n [] = Ok []
 reading set k S n (l ∷ ls) = elim (verdict_of set (scope_of k S) l) [
-  Skipped ↦ reading set k S (n + 1) ls |
-  Bad why ↦ Err (refusal n why) |
-  Does act ↦ before (statement n act) (reading set (k + 1) (apply act S) (n + 1) ls)
+  | Skipped ↦ reading set k S (n + 1) ls
+  | Bad why ↦ Err (refusal n why)
+  | Does act ↦ before (statement n act) (reading set (k + 1) (apply act S) (n + 1) ls)
 ]
 
 -- the same from before the header on, which is the first line that isn't skipped

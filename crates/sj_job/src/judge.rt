@@ -123,23 +123,14 @@ fn clashes_with_any(o: &Operand, others: &[Operand]) -> bool
     others.iter().any(|p| clashes(o, p))
 }
 
-fn dims_in(
-    alloc: Global,
-    names: &Names,
-    operands: &[Operand],
-) -> Result<Vec<Dims>, AllocError>
+fn dims_in(alloc: Global, names: &Names, operands: &[Operand]) -> Result<Vec<Dims>, AllocError>
     ensures { IfOk result (λ dims. dims.items ≡ map (dims_in (scope_in names.now)) operands.now) }
 {
     operands.iter().map(|o| names.dims_in(o)).collect(alloc)
 }
 
 /// Whether modes and dimensions are as the codelet takes them.
-fn is_shaped(
-    alloc: Global,
-    names: &Names,
-    kernel: Kernel,
-    call: &Call,
-) -> Result<bool, OutOfMemory>
+fn is_shaped(alloc: Global, names: &Names, kernel: Kernel, call: &Call) -> Result<bool, OutOfMemory>
     ensures { IfOk result (λ shaped. shaped ≡ is_shaped (scope_in names.now) kernel call.now) }
 {
     if !modes_fit(kernel.formals(), call.operands.items()) {
@@ -199,11 +190,7 @@ fn codelet_complaint(
 }
 
 /// The first reason against a task. Linear in its operands, times the logarithm of the names.
-fn task_complaint(
-    alloc: Global,
-    names: &Names,
-    call: &Call,
-) -> Result<Option<Reason>, OutOfMemory>
+fn task_complaint(alloc: Global, names: &Names, call: &Call) -> Result<Option<Reason>, OutOfMemory>
     ensures { IfOk result (λ why. why ≡ first_of (task_reasons (scope_in names.now) call.now)) }
 {
     if STATEMENTS <= names.statements {
@@ -245,11 +232,7 @@ fn judge_registration(names: &Names, r: Registration) -> Result<Act, Reason>
     }
 }
 
-fn judge_call(
-    alloc: Global,
-    names: &Names,
-    call: Call,
-) -> Result<Result<Act, Reason>, OutOfMemory>
+fn judge_call(alloc: Global, names: &Names, call: Call) -> Result<Result<Act, Reason>, OutOfMemory>
     ensures { IfOk result (λ act. act ≡ judged (scope_in names.now) (Sentence.Task call)) }
 {
     match task_complaint(alloc, names, &call)? {

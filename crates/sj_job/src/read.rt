@@ -125,14 +125,7 @@ fn read_statements<C: Codelets>(
     let mut rest = text;
     let mut number = first;
     while let Some((line, tail)) = next_line(rest) {
-        read_line(
-            alloc,
-            &mut names,
-            &mut statements,
-            number,
-            line,
-            codelets,
-        )?;
+        read_line(alloc, &mut names, &mut statements, number, line, codelets)?;
         number += 1;
         rest = tail;
     }

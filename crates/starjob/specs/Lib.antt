@@ -1,3 +1,4 @@
+pub mod Holds
 pub mod Output
 pub mod Report
 pub mod Status

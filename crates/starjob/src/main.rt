@@ -1,6 +1,7 @@
 //! `starjob`: reads a job text, runs its tasks, and prints the arrays asked for.
 #![tactic(auto)]
 
+mod arrays;
 mod output;
 mod report;
 mod sequential;
