@@ -1,5 +1,5 @@
 -- What `parse` says of the digits that `is_digits` passes.
-use Rattle.std.proofs.Common.{◌≡◌, ℕ, ◌<◌, ◌^◌, ◌&&◌, not, nat_eq, Bool, true, false, List, [], ◌∷◌, length, refl, arith, rules, cond, IsTrue, Result, Ok, Err, Some, None, MatchResult, IsSomeAnd, Bor}
+use Rattle.std.proofs.Common.{◌≡◌, ℕ, ◌<◌, ◌^◌, true, List, length, arith, rules, IsTrue, Result, Ok, Err, MatchResult, IsSomeAnd, Bor}
 use Rattle.std.specs.Result.{result_ok}
 use Rattle.std.specs.Option.{SomeIff}
 use Rattle.std.specs.Prelude.{IsUtf8}

@@ -1,21 +1,17 @@
 -- A text read one line further.
-use Rattle.std.proofs.Common.{◌≡◌, ℕ, ◌+◌, ◌≤◌, Bool, List, [], ◌∷◌, ◌++◌, length, refl, ap, ◌∙◌, sym, subst, arith, Result, Ok, Err, append_assoc, length-append}
+use Rattle.std.proofs.Common.{◌≡◌, ℕ, ◌+◌, ◌≤◌, Bool, List, [], ◌∷◌, ◌++◌, length, refl, ap, ◌∙◌, sym, arith, Result, Ok, Err, append_assoc, length-append}
 use Rattle.sj_codelet.specs.declared.kernel.Kernel.{Kernel}
 use Rattle.sj_job.specs.declared.job.Act.{Act}
-use Rattle.sj_job.specs.declared.job.Act.TheVariants.{Register, Task, Print}
 use Rattle.sj_job.specs.declared.job.Statement.{Statement}
 use Rattle.sj_job.specs.declared.reason.Reason.{Reason}
-use Rattle.sj_job.specs.declared.names.Names.{Names}
 use Rattle.sj_job.specs.declared.read.Verdict.{Verdict}
 use Rattle.sj_job.specs.declared.read.Verdict.TheVariants.{Skipped, Does, Bad}
 use Rattle.sj_job.specs.State.{State, start}
 use Rattle.sj_job.specs.Meaning.{apply, run_from}
 use Rattle.sj_job.specs.Judge.{scope_of}
-use Rattle.sj_job.specs.Names.{scope_in}
-use Rattle.sj_job.specs.Sees.{Sees}
 use Rattle.sj_job.specs.Reading.{Refusal, refusal, statement, before, reading, verdict_of}
 use Rattle.sj_job.specs.Progress.{after, text_with}
-use Rattle.sj_job.proofs.Seen.{same_scope, apply_counts}
+use Rattle.sj_job.proofs.Seen.{apply_counts}
 
 pub run_from-push : (S : State) (ss : List Statement) (s : Statement) → run_from S (ss ++ s ∷ []) ≡ apply s.act (run_from S ss)
 run_from-push S [] s = refl

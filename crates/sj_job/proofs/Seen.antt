@@ -1,12 +1,12 @@
 -- The reader's names go on agreeing with the state, statement by statement.
 use Rattle.std.specs.FinMap as map
-use Rattle.std.proofs.Common.{◌≡◌, ℕ, ◌+◌, Bool, true, false, List, [], ◌∷◌, ◌++◌, refl, ap, ◌∙◌, sym, subst, Option, Some, None, option_map, is_some, cond, ℤ, map as each_of, ◌⊎◌, inl, inr, arith, ◌≤◌}
+use Rattle.std.proofs.Common.{◌≡◌, ℕ, ◌+◌, Bool, true, false, List, [], ◌∷◌, refl, ap, ◌∙◌, sym, subst, Option, Some, None, option_map, is_some, cond, ℤ, map as each_of, ◌⊎◌, inl, inr, arith, ◌≤◌}
 use Rattle.std.specs.List.{list_all}
 use Rattle.std.specs.Ordering.{nat_cmp, eq_by_cmp}
 use Rattle.std.specs.Cmp.{eq_by_cmp_equiv}
 use Rattle.std.specs.Cmp.Lexicographic.{slice_cmp, nat_list_cmp_total, texts_ties, same_text}
 use Rattle.std.specs.Map.{lookup}
-use Rattle.std.specs.BTreeMap.{BTreeMap, get, is_at, Updates}
+use Rattle.std.specs.BTreeMap.{get, is_at, Updates}
 use Rattle.sj_base.specs.declared.tile.Dims.{Dims}
 use Rattle.sj_base.specs.Array.{Array}
 use Rattle.sj_job.specs.declared.job.Init.{Init}
@@ -14,13 +14,13 @@ use Rattle.sj_job.specs.declared.job.Init.TheVariants.{Values}
 use Rattle.sj_job.specs.declared.job.Register.{Register}
 use Rattle.sj_job.specs.declared.job.TaskLine.{TaskLine}
 use Rattle.sj_job.specs.declared.names.Names.{Names}
-use Rattle.sj_job.specs.State.{Root, State, root_of, is_valued, start}
+use Rattle.sj_job.specs.State.{Root, State, root_of, start}
 use Rattle.sj_job.specs.Meaning.{register, registered_root, first_elements, put, put_all, run_task, written_names, operand_array, apply}
 use Rattle.sj_codelet.specs.Kernel.{out}
 use Rattle.sj_job.specs.declared.job.Act.{Act}
 use Rattle.sj_job.specs.declared.job.Act.TheVariants.{Register as Registers, Task, Print}
-use Rattle.sj_job.specs.Judge.{Known, Scope, known_of, scope_of}
-use Rattle.sj_job.specs.Names.{known_in, scope_in}
+use Rattle.sj_job.specs.Judge.{Known, known_of, scope_of}
+use Rattle.sj_job.specs.Names.{scope_in}
 use Rattle.sj_job.specs.Sees.{Sees}
 
 all_some : (xs : List ℤ) → list_all is_some (each_of Some xs) ≡ true

@@ -1,14 +1,12 @@
 -- An act that is allowed is sound.
-use Rattle.std.proofs.Common.{◌≡◌, ℕ, ◌*◌, ◌&&◌, ◌||◌, not, nat_eq, Bool, true, false, List, [], ◌∷◌, length, map, refl, ap, ◌∙◌, sym, subst, Option, Some, None, option_map, Result, Ok, Err, cond, IsTrue, arith, ℤ, unwrap_or, codes}
+use Rattle.std.proofs.Common.{◌≡◌, ℕ, ◌&&◌, not, nat_eq, Bool, true, false, List, [], ◌∷◌, map, refl, ap, ◌∙◌, sym, subst, Option, Some, None, option_map, Result, Ok, Err, cond, arith, ℤ, unwrap_or}
 use Rattle.std.specs.Prelude.{find}
 use Rattle.std.specs.List.{list_all, list_any, before_first, after_first}
-use Rattle.std.specs.Str.{bytes_eq}
 use Rattle.std.proofs.lemmas.Bool.Decides.{nat_tests}
 use Rattle.sj_base.specs.declared.tile.Dims.{Dims}
 use Rattle.sj_base.specs.declared.mode.Mode.{Mode}
 use Rattle.sj_base.specs.declared.mode.Mode.TheVariants.{R, W, RW}
 use Rattle.sj_base.specs.declared.program.Codelet.{Codelet}
-use Rattle.sj_base.specs.Array.{area}
 use Rattle.sj_codelet.specs.declared.kernel.Kernel.{Kernel}
 use Rattle.sj_codelet.specs.declared.kernel.Kernel.TheVariants.{Fill, Copy, Scale, Add, Axpy, Butterfly, Gemm, GemmThree, Transpose, Dot, Sum, Lowest, MinGemm, FwDiag, FwRow, FwCol, Load, LoadFill, Paste, Deliver, InitPlus, InitLeast}
 use Rattle.sj_codelet.specs.Kernel.{kernels, kernel_of, codelet_of, has_name, named_in, formals_of, fits, fits_in}
@@ -19,18 +17,17 @@ use Rattle.sj_job.specs.declared.job.Register.{Register}
 use Rattle.sj_job.specs.declared.job.Operand.{Operand}
 use Rattle.sj_job.specs.declared.job.TaskLine.{TaskLine}
 use Rattle.sj_job.specs.declared.job.Act.{Act}
-use Rattle.sj_job.specs.declared.job.Act.TheVariants.{Register as Registers, Task as Tasks, Print as Prints}
+use Rattle.sj_job.specs.declared.job.Act.TheVariants.{Register as Registers, Task as Tasks}
 use Rattle.sj_job.specs.declared.reason.Reason.{Reason}
 use Rattle.sj_job.specs.declared.reason.Reason.TheVariants.{UnknownCodelet, Limit, UnknownName, EndedName}
 use Rattle.sj_job.specs.declared.reason.LimitKind.TheVariants.{Statements}
-use Rattle.sj_job.specs.declared.sentence.Registration.{Registration}
 use Rattle.sj_job.specs.declared.sentence.Call.{Call}
 use Rattle.sj_job.specs.declared.sentence.Sentence.{Sentence}
 use Rattle.sj_job.specs.declared.sentence.Sentence.TheVariants.{Register as Registering, Task, Print}
 use Rattle.sj_job.specs.Word.{is_name}
-use Rattle.sj_job.specs.Sentence.{each_some, mode_of, operand_of, operands_of, call_parts, call_of, vector_of, name_in, sentence_of, codelet_name, arguments_in}
+use Rattle.sj_job.specs.Sentence.{mode_of, operand_of, operands_of, call_parts, call_of, vector_of, name_in, sentence_of, codelet_name, arguments_in}
 use Rattle.sj_job.specs.State.{State, Root, root_of}
-use Rattle.sj_job.specs.Judge.{Scope, Known, scope_of, known_of, first_of, reasons, complaint, act_of, judged, task_reasons, register_reasons, codelet_reasons, operand_reasons, kernel_in, is_counted, is_shaped, modes_fit, dims_in, is_miscounted, is_full, is_unknown, is_ended}
+use Rattle.sj_job.specs.Judge.{Scope, scope_of, known_of, first_of, complaint, act_of, judged, register_reasons, codelet_reasons, operand_reasons, kernel_in, is_shaped, modes_fit, dims_in, is_miscounted, is_full, is_unknown, is_ended}
 use Rattle.sj_job.specs.Well.{IsAllowed}
 use Rattle.sj_job.specs.Sound.{dims_of, is_plain, IsSoundTask, InitFits, IsSoundRegistration}
 

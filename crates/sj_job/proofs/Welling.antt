@@ -1,21 +1,20 @@
 -- What a text says is well: each statement is allowed where it stands.
-use Rattle.std.proofs.Common.{◌≡◌, ℕ, ◌+◌, ◌&&◌, not, Bool, true, false, List, [], ◌∷◌, length, refl, ap, ◌∙◌, sym, subst, Option, Some, None, Result, Ok, Err, cond, nat_lt}
+use Rattle.std.proofs.Common.{◌≡◌, ℕ, ◌+◌, not, Bool, true, false, List, [], ◌∷◌, refl, ◌∙◌, subst, Option, Some, None, Result, Ok, Err, cond}
 use Rattle.std.specs.List.{list_all}
 use Rattle.sj_codelet.specs.declared.kernel.Kernel.{Kernel}
 use Rattle.sj_job.specs.declared.job.Act.{Act}
 use Rattle.sj_job.specs.declared.job.Statement.{Statement}
 use Rattle.sj_job.specs.declared.reason.Reason.{Reason}
-use Rattle.sj_job.specs.declared.reason.Reason.TheVariants.{NotBuilt, Header, Limit}
-use Rattle.sj_job.specs.declared.reason.LimitKind.TheVariants.{Text}
+use Rattle.sj_job.specs.declared.reason.Reason.TheVariants.{NotBuilt}
 use Rattle.sj_job.specs.declared.sentence.Sentence.{Sentence}
 use Rattle.sj_job.specs.declared.read.Verdict.{Verdict}
 use Rattle.sj_job.specs.declared.read.Verdict.TheVariants.{Skipped, Does, Bad}
-use Rattle.sj_job.specs.State.{State, start}
+use Rattle.sj_job.specs.State.{State}
 use Rattle.sj_job.specs.Meaning.{apply}
-use Rattle.sj_job.specs.Word.{lines, words, is_allowed, is_skipped}
-use Rattle.sj_job.specs.Sentence.{sentence_of, is_header}
+use Rattle.sj_job.specs.Word.{words, is_allowed, is_skipped}
+use Rattle.sj_job.specs.Sentence.{sentence_of}
 use Rattle.sj_job.specs.Judge.{Scope, scope_of, judged}
-use Rattle.sj_job.specs.Reading.{Refusal, refusal, statement, before, built, statement_in, reading, reading_header, verdict_of, job_of, text_limit}
+use Rattle.sj_job.specs.Reading.{Refusal, refusal, statement, before, built, statement_in, reading, verdict_of}
 use Rattle.sj_job.specs.Well.{IsAllowed, IsWell}
 
 by_judge : (has : Kernel → Bool) (scope : Scope) (ws : List (List ℕ)) (s : Sentence) (act : Act) (r : Result Act Reason) → sentence_of has ws ≡ Some s → judged scope s ≡ r → (elim r as (λ _. Result Act Reason) [ Err why ↦ Err NotBuilt | Ok a ↦ Ok a ]) ≡ Ok act → IsAllowed has scope act

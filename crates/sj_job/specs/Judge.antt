@@ -1,5 +1,5 @@
 -- Why a sentence is refused: the conditions of the reasons, in their order.
-use Rattle.std.specs.Prelude.{ℕ, ◌*◌, Bool, true, false, ◌&&◌, ◌||◌, not, nat_eq, nat_lt, nat_le, Option, Some, None, Result, Ok, Err, List, [], ◌∷◌, ℤ, length, map, option_map, is_some, is_none, unwrap_or, zip, if◌then◌else◌}
+use Rattle.std.specs.Prelude.{ℕ, ◌*◌, Bool, true, false, ◌&&◌, ◌||◌, not, nat_eq, nat_le, Option, Some, None, Result, Ok, Err, List, [], ◌∷◌, length, map, option_map, is_some, unwrap_or, zip, if◌then◌else◌}
 use Rattle.std.specs.List.{list_all, list_any}
 use Rattle.std.specs.Str.{bytes_eq}
 use Rattle.sj_base.specs.declared.tile.Dims.{Dims}

@@ -1,7 +1,6 @@
 -- What a job means: its statements run one after another on plain arrays.
 use Rattle.std.specs.FinMap as map
-use Rattle.std.specs.Prelude.{ℕ, ◌+◌, Bool, true, false, ◌||◌, Option, Some, None, List, [], ◌∷◌, ◌++◌, ℤ, pos, map as each_of, filter, option_map, unwrap_or}
-use Rattle.sj_base.specs.declared.tile.Dims.{Dims}
+use Rattle.std.specs.Prelude.{ℕ, ◌+◌, Bool, true, false, Option, Some, None, List, [], ◌∷◌, ◌++◌, ℤ, pos, map as each_of, filter, unwrap_or}
 use Rattle.sj_base.specs.declared.mode.Mode.{Mode}
 use Rattle.sj_base.specs.declared.mode.Mode.TheVariants.{R, W, RW, Scratch, Redux, Commute}
 use Rattle.sj_base.specs.Array.{Array, array, zeros}
@@ -15,7 +14,7 @@ use Rattle.sj_job.specs.declared.job.TaskLine.{TaskLine}
 use Rattle.sj_job.specs.declared.job.Act.{Act}
 use Rattle.sj_job.specs.declared.job.Act.TheVariants.{Register as Registers, Task, Print}
 use Rattle.sj_job.specs.declared.job.Statement.{Statement}
-use Rattle.sj_job.specs.State.{Root, Roots, State, start, root_of}
+use Rattle.sj_job.specs.State.{Root, State, start, root_of}
 
 -- the elements that a root has from its registration on
 abbrev pub first_elements : Init → List (Option ℤ)

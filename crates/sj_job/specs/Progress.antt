@@ -1,5 +1,5 @@
 -- How far a text is read.
-use Rattle.std.specs.Prelude.{◌≡◌, ℕ, Bool, Result, Ok, Err, List, ◌++◌, length}
+use Rattle.std.specs.Prelude.{ℕ, Bool, Result, Ok, Err, List, ◌++◌, length}
 use Rattle.sj_codelet.specs.declared.kernel.Kernel.{Kernel}
 use Rattle.sj_job.specs.declared.job.Statement.{Statement}
 use Rattle.sj_job.specs.State.{start}

@@ -1,11 +1,9 @@
 -- What the words of a line say.
-use Rattle.std.specs.Prelude.{ℕ, Bool, true, false, ◌&&◌, not, ◌==◌, ◌-◌, nat_lt, take, slice_index, Option, Some, None, List, [], ◌∷◌, ℤ, length, codes, map, option_map, if◌then◌else◌}
-use Rattle.std.specs.List.{before_first, after_first, list_any, slice_split}
-use Rattle.std.specs.Option.{option_and_then}
+use Rattle.std.specs.Prelude.{ℕ, Bool, false, ◌&&◌, ◌==◌, ◌-◌, nat_lt, take, slice_index, Option, Some, None, List, [], ◌∷◌, ℤ, length, codes, option_map, if◌then◌else◌}
+use Rattle.std.specs.List.{before_first, after_first, slice_split}
 use Rattle.std.specs.Str.{bytes_eq}
 use Rattle.sj_base.specs.declared.mode.Mode.{Mode}
 use Rattle.sj_base.specs.declared.mode.Mode.TheVariants.{R, W, RW}
-use Rattle.sj_base.specs.declared.program.Codelet.{Codelet}
 use Rattle.sj_codelet.specs.declared.kernel.Kernel.{Kernel}
 use Rattle.sj_codelet.specs.Kernel.{named_in}
 use Rattle.sj_job.specs.declared.job.Kind.TheVariants.{Vector}

@@ -11,7 +11,6 @@ use Rattle.sj_codelet.specs.Runs.{formals_in}
 use Rattle.sj_job.specs.declared.job.Init.{Init}
 use Rattle.sj_job.specs.declared.job.Init.TheVariants.{Values}
 use Rattle.sj_job.specs.declared.job.Register.{Register}
-use Rattle.sj_job.specs.declared.job.Operand.{Operand}
 use Rattle.sj_job.specs.declared.job.TaskLine.{TaskLine}
 use Rattle.sj_job.specs.State.{State, root_of}
 use Rattle.sj_job.specs.Judge.{modes_fit}

@@ -1,7 +1,7 @@
 -- What a job's names hold: the state that its statements change, one after another.
 use Rattle.std.specs.FinMap as map
 use Rattle.std.specs.FinMap.{FinMap}
-use Rattle.std.specs.Prelude.{ℕ, suc, Bool, Option, Some, None, List, [], ◌∷◌, ◌++◌, ℤ, option_map, is_some, unwrap_or}
+use Rattle.std.specs.Prelude.{ℕ, Bool, Option, List, [], ℤ, is_some}
 use Rattle.std.specs.List.{list_all}
 use Rattle.std.specs.Ordering.{nat_cmp}
 use Rattle.std.specs.Cmp.Lexicographic.{slice_cmp}

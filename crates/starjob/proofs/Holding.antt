@@ -1,19 +1,19 @@
 -- Arrays under their names go on holding what the state says.
 use Rattle.std.specs.FinMap as map
-use Rattle.std.proofs.Common.{◌≡◌, ℕ, suc, ◌+◌, Bool, true, false, List, [], ◌∷◌, ◌++◌, length, refl, ap, ◌∙◌, sym, subst, Option, Some, None, option_map, cond, ℤ, pos, unwrap_or, map as each_of, arith, ◌≤◌, ◌<◌, ◌&&◌}
+use Rattle.std.proofs.Common.{◌≡◌, ℕ, suc, Bool, true, false, List, [], ◌∷◌, ◌++◌, length, refl, ap, ◌∙◌, sym, subst, Option, Some, None, option_map, cond, ℤ, pos, unwrap_or, map as each_of, arith, ◌&&◌}
 use Rattle.std.specs.List.{list_all}
 use Rattle.std.specs.Ordering.{nat_cmp, eq_by_cmp}
 use Rattle.std.specs.Cmp.{eq_by_cmp_equiv}
 use Rattle.std.specs.Cmp.Lexicographic.{slice_cmp, nat_list_cmp_total, texts_ties, same_text}
 use Rattle.std.specs.Map.{lookup}
-use Rattle.std.specs.BTreeMap.{BTreeMap, get, is_at, Updates}
+use Rattle.std.specs.BTreeMap.{get, is_at, Updates}
 use Rattle.sj_base.specs.declared.tile.Dims.{Dims}
 use Rattle.sj_base.specs.declared.mode.Mode.{Mode}
 use Rattle.sj_base.specs.declared.mode.Mode.TheVariants.{R, W, RW, Scratch, Redux, Commute}
-use Rattle.sj_base.specs.Array.{Array, array, zeros}
+use Rattle.sj_base.specs.Array.{Array, array}
 use Rattle.sj_codelet.specs.declared.formal.Formal.{Formal}
 use Rattle.sj_codelet.specs.declared.formal.Formal.TheVariants.{R as FormalR, W as FormalW, RW as FormalRW, Scratch as FormalScratch}
-use Rattle.sj_codelet.specs.Frame.{Slot, Frame, shared, own, arrays, all_dims, IsReady, AreReady, written, AllKeep}
+use Rattle.sj_codelet.specs.Frame.{Slot, Frame, own, arrays, all_dims, IsReady, AreReady, written, AllKeep}
 use Rattle.sj_job.specs.declared.job.Kind.{Kind}
 use Rattle.sj_job.specs.declared.job.Operand.{Operand}
 use Rattle.sj_job.specs.declared.job.Register.{Register}

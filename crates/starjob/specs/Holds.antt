@@ -1,5 +1,5 @@
 -- What arrays under their names hold of a state, and the operands of a task among them.
-use Rattle.std.specs.Prelude.{◌≡◌, ℕ, ◌+◌, ◌++◌, Bool, Option, Some, None, List, [], ◌∷◌, ℤ, map as each_of, option_map, if◌then◌else◌}
+use Rattle.std.specs.Prelude.{◌≡◌, ℕ, ◌++◌, Bool, Some, None, List, [], ◌∷◌, map as each_of, option_map, if◌then◌else◌}
 use Rattle.std.specs.BTreeMap.{get}
 use Rattle.std.specs.Ordering.{nat_cmp}
 use Rattle.std.specs.Cmp.Lexicographic.{slice_cmp}

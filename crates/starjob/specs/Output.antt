@@ -1,5 +1,5 @@
 -- The text of the printed arrays.
-use Rattle.std.specs.Prelude.{ℕ, ◌*◌, Bool, ℤ, List, [], ◌∷◌, ◌++◌, map, take, drop, codes, decimal, flat_map, if◌then◌else◌}
+use Rattle.std.specs.Prelude.{ℕ, ◌*◌, ℤ, List, ◌++◌, map, take, drop, codes, decimal, flat_map, if◌then◌else◌}
 use Rattle.std.specs.List.{join_with_byte, range_with_len}
 use Rattle.std.specs.Fmt.{signed_decimal}
 use Rattle.sj_base.specs.Array.{Array}

@@ -1,4 +1,4 @@
-use Rattle.std.proofs.Common.{arith, ◌∙◌, sym, length, ◌<◌, ℕ, ◌≤◌, take, drop, ◌+◌, ◌-◌, length-drop}
+use Rattle.std.proofs.Common.{arith, ◌∙◌, sym, length, ◌<◌}
 use Rattle.std.proofs.lemmas.Bool.Decides.{nat_tests}
 use Rattle.sj_job.proofs.Cut.{lines-sliced, lines-whole, shorter}
 use Rattle.sj_job.proofs.line.next_line.Goals as goal

@@ -1,8 +1,6 @@
-use Rattle.std.proofs.Common.{ap, sym, ◌∙◌, Ok, List}
-use Rattle.sj_job.specs.declared.job.Statement.{Statement}
+use Rattle.std.proofs.Common.{ap, sym, ◌∙◌, Ok}
 use Rattle.sj_job.specs.Word.{lines}
 use Rattle.sj_job.specs.State.{start}
-use Rattle.sj_job.specs.Well.{IsWell}
 use Rattle.sj_job.proofs.Welling.{well_from_reading}
 use Rattle.sj_job.proofs.read.read.Goals as goal
 

@@ -2,7 +2,7 @@ use Rattle.std.proofs.Common.{◌≡◌, ℕ, ◌+◌, List, ◌∷◌, ◌++◌
 use Rattle.sj_job.specs.declared.job.Statement.{Statement}
 use Rattle.sj_job.specs.State.{State, start}
 use Rattle.sj_job.specs.Meaning.{run_from, apply}
-use Rattle.sj_job.specs.Judge.{scope_of, Scope}
+use Rattle.sj_job.specs.Judge.{Scope}
 use Rattle.sj_job.specs.Sees.{Sees}
 use Rattle.sj_job.specs.Reading.{statement, verdict_of}
 use Rattle.sj_job.specs.Progress.{text_with}

@@ -1,4 +1,3 @@
-use Rattle.std.proofs.Common.{MatchResult}
 use Rattle.sj_job.proofs.Digits.{text_from_utf8}
 use Rattle.sj_job.proofs.word.text_of.Goals as goal
 

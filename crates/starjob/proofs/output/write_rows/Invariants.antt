@@ -1,4 +1,4 @@
-use Rattle.std.proofs.Common.{◌≡◌, ◌++◌, ◌*◌, ◌∷◌, take, drop, map}
+use Rattle.std.proofs.Common.{◌≡◌, ◌++◌, ◌*◌, take, drop, map}
 use Rattle.std.specs.List.{flat_map, range_with_len}
 use Rattle.starjob.specs.Output.{row_text}
 use Rattle.starjob.proofs.output.write_rows.Given as goal

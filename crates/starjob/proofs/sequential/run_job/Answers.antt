@@ -1,4 +1,4 @@
-use Rattle.std.proofs.Common.{rules, arith, sym, ◌≡◌, ◌<◌, length, get_or}
+use Rattle.std.proofs.Common.{rules, arith, ◌≡◌, ◌<◌, length, get_or}
 use Rattle.sj_job.specs.Meaning.{printed}
 use Rattle.starjob.specs.Output.{output}
 use Rattle.starjob.proofs.Going.{goes_start, goes_can, goes_on}
