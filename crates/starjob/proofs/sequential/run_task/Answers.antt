@@ -1,10 +1,12 @@
-use Rattle.std.proofs.Common.{◌≡◌, ap, ◌∙◌, sym, subst, List, ℤ, map, length}
+use Rattle.std.proofs.Common.{◌≡◌, ap, ◌∙◌, sym, subst, List, ℤ, map, length, arith}
+use Rattle.std.proofs.lemmas.List.{length-map}
 use Rattle.sj_codelet.specs.Frame.{Slot, AreReady, all_dims}
 use Rattle.sj_codelet.specs.Kernel.{fits_in}
 use Rattle.sj_codelet.specs.Runs.{formals_in, IsRun}
 use Rattle.sj_job.specs.declared.job.Operand.{Operand}
 use Rattle.sj_job.specs.Sound.{dims_of}
 use Rattle.starjob.specs.Holds.{Holds, slot_in, put_slots}
+use Rattle.starjob.proofs.Few.{few}
 use Rattle.starjob.proofs.Holding.{dims_seen, all_ready, length_seen, task_as_meant}
 use Rattle.starjob.proofs.sequential.run_task.Goals as goal
 
@@ -38,3 +40,10 @@ returns g c =
     λ S h. task_as_meant c.args.arrays.now c.put_back.new.self t S c.in_ok-frame.frame c.run.new.frame h c.requires.sound.modes framed
     (subst (λ (args : List ℤ). IsRun t.codelet args c.in_ok-frame.frame c.run.new.frame) c.items.ensures c.in_ok-run.ensures)
     (subst (λ (os : List Operand). all_dims c.run.new.frame.slots ≡ map (λ o. dims_of S o.name) os → Holds c.put_back.new.self (put_slots os c.run.new.frame.slots S)) c.items-operands.ensures (c.in_ok-put_back.ensures S h))
+
+pub frame-requires : goal.frame-requires
+frame-requires g c =
+    let t = c.args.task.now in
+    let seen = map (λ (o : Operand). dims_of c.requires.state o.name) t.operands in
+    let most = few g.C.Codelets.has t.codelet t.args seen c.requires.sound.fits in
+    omega (arith, most, length-map t.operands (λ (o : Operand). dims_of c.requires.state o.name), ap length c.items-operands.ensures)
