@@ -1,0 +1,14 @@
+use Rattle.std.proofs.Common.{arith}
+use Rattle.std.proofs.lemmas.Int.{to_z-of_z}
+use Rattle.std.specs.Int.{int_min}
+use Rattle.sj_base.specs.Array.{at}
+use Rattle.sj_codelet.specs.MinPlus.{plus}
+use Rattle.sj_minplus.proofs.Rows.{written_more}
+use Rattle.sj_minplus.proofs.row.relax.Goals as goal
+
+pub loop-j-preserved : goal.loop-j-preserved
+loop-j-preserved c =
+    let m = c.min.ensures.value in
+    let r = c.loop-j.invariant.rest c.loop-j.j in
+    let t = c.loop-j.auto.row in
+    written_more _ _ _ _ _ (omega arith) (grind (arith, to_z-of_z)) c.loop-j.invariant

@@ -1,0 +1,5 @@
+//! Min-plus kernels over slices: shortest ways and the reduction `least`, with a sum in which `inf` absorbs.
+#![tactic(auto)]
+
+pub mod row;
+pub mod sum;
