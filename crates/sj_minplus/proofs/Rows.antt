@@ -11,6 +11,6 @@ pub record IsWritten (f : ℕ → ℤ) (old xs : List ℤ) (j : ℕ) : Type 0 wh
 
 pub written_more : (f : ℕ → ℤ) (old xs : List ℤ) (j : ℕ) (v : ℤ) → j < length xs → v ≡ f j → IsWritten f old xs j → IsWritten f old (slice_set xs j v) (j + 1)
 written_more f old xs j v within e w = record {
-    done = λ p below. grind (arith, common_steps, w.done p);
-    rest = λ p above. grind (arith, common_steps, w.rest p)
-  }
+  done = λ p below. grind (arith, common_steps, w.done p);
+  rest = λ p above. grind (arith, common_steps, w.rest p);
+}
