@@ -1,6 +1,5 @@
 -- A list that is rewritten one place after another.
-use Rattle.std.proofs.Common.{◌≡◌, ℕ, ◌+◌, ◌<◌, ◌≤◌, length, List, ℤ, pos, slice_set, arith, ◌∙◌, sym}
-use Rattle.std.proofs.lemmas.List.{get_or-set_same, get_or-set_other, length-set}
+use Rattle.std.proofs.Common.{◌≡◌, ℕ, ◌+◌, ◌<◌, ◌≤◌, length, List, ℤ, slice_set, arith}
 use Rattle.std.proofs.lemmas.Grind.{common_steps}
 use Rattle.sj_base.specs.Array.{at}
 

@@ -1,10 +1,8 @@
-use Rattle.std.proofs.Common.{◌≡◌, ℕ, ◌+◌, ◌-◌, ◌*◌, ◌<◌, ◌≤◌, length, arith, refl, ◌∙◌, take, drop}
-use Rattle.std.proofs.lemmas.Grind.{common_steps, rows}
-use Rattle.sj_base.specs.Array.{at}
-use Rattle.sj_codelet.specs.MinPlus.{plus, least_below}
+use Rattle.std.proofs.Common.{◌≡◌, ◌+◌, ◌-◌, ◌*◌, ◌≤◌, length, arith, refl, ◌∙◌, take, drop}
+use Rattle.std.proofs.lemmas.Grind.{rows}
 use Rattle.sj_minplus.specs.Matrix.{matrix}
 use Rattle.sj_minplus.proofs.Least.{least_entry, same_least}
-use Rattle.sj_minplus.proofs.Matrices.{rows_none, rows_more, row_rest, rows_all, length_slice, at_slice}
+use Rattle.sj_minplus.proofs.Matrices.{rows_more, row_rest, rows_all, length_slice, at_slice}
 use Rattle.sj_minplus.proofs.product.mingemm.Goals as goal
 
 pub loop-i-preserved : goal.loop-i-preserved

@@ -1,8 +1,8 @@
-use Rattle.std.proofs.Common.{◌≡◌, ℕ, ◌+◌, ◌*◌, ◌<◌, length, arith, refl}
+use Rattle.std.proofs.Common.{◌≡◌, ℕ, ◌+◌, ◌*◌, length, arith, refl}
 use Rattle.std.proofs.lemmas.Int.{to_z-of_z}
 use Rattle.std.specs.Int.{int_min}
 use Rattle.sj_base.specs.Array.{at}
-use Rattle.sj_codelet.specs.MinPlus.{plus, least_below}
+use Rattle.sj_codelet.specs.MinPlus.{plus}
 use Rattle.sj_minplus.proofs.Matrices.{at_slice}
 use Rattle.sj_minplus.proofs.Least.{least_step}
 use Rattle.sj_minplus.proofs.product.relax_by_all.Goals as goal

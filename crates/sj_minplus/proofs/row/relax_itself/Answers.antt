@@ -1,8 +1,5 @@
 use Rattle.std.proofs.Common.{arith}
 use Rattle.std.proofs.lemmas.Int.{to_z-of_z}
-use Rattle.std.specs.Int.{int_min}
-use Rattle.sj_base.specs.Array.{at}
-use Rattle.sj_codelet.specs.MinPlus.{plus}
 use Rattle.sj_minplus.proofs.Rows.{written_more}
 use Rattle.sj_minplus.proofs.row.relax_itself.Goals as goal
 

@@ -1,4 +1,4 @@
-use Rattle.std.proofs.Common.{ℕ, ◌+◌, ◌*◌, length}
+use Rattle.std.proofs.Common.{◌+◌, ◌*◌, length}
 use Rattle.std.specs.Int.{int_min}
 use Rattle.sj_base.specs.Array.{at}
 use Rattle.sj_codelet.specs.MinPlus.{plus}
