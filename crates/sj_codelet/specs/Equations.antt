@@ -1,11 +1,19 @@
 -- The equation of each codelet: its new elements, from the elements before.
-use Rattle.std.specs.Prelude.{ℕ, zero, suc, ◌+◌, ◌-◌, ◌*◌, Bool, ◌&&◌, nat_le, nat_lt, ℤ, pos, ◌+ℤ◌, ◌-ℤ◌, ◌*ℤ◌, List, if◌then◌else◌}
+use Rattle.std.specs.Prelude.{ℕ, zero, suc, ◌+◌, ◌-◌, ◌*◌, Bool, ◌&&◌, nat_le, nat_lt, ℤ, pos, ◌+ℤ◌, ◌-ℤ◌, ◌*ℤ◌, List, length, if◌then◌else◌}
 use Rattle.std.specs.Int.{int_min}
 use Rattle.std.specs.Int.RustNames.{unsigned_abs}
 use Rattle.sj_base.specs.declared.tile.Dims.{Dims}
-use Rattle.sj_base.specs.Array.{Array, area, at, element, each, grid}
+use Rattle.sj_base.specs.Array.{Array, array, area, at, element, each, grid}
 use Rattle.sj_codelet.specs.Ring.{wrap, sum_below}
 use Rattle.sj_codelet.specs.MinPlus.{inf, plus, least_below}
+
+-- a list as an array of one row
+abbrev pub vector : List ℤ → Array
+vector xs = array (record { rows = 1; cols = length xs }) xs
+
+-- a list as an array of so many rows and columns
+abbrev pub matrix : ℕ → ℕ → List ℤ → Array
+matrix m n xs = array (record { rows = m; cols = n }) xs
 
 abbrev pub fill : ℤ → ℤ → Array → Array
 fill a b x = each x.dims (λ p. wrap (a +ℤ (b *ℤ pos p)))

@@ -63,3 +63,9 @@ abbrev pub AllKeep : List Formal → List Slot → List Slot → Type 0
 AllKeep [] [] [] = Unit {0}
 AllKeep (f ∷ fs) (s ∷ old) (t ∷ new) = Keeps f s t × AllKeep fs old new
 AllKeep _ _ _ = ⊥
+
+-- the last operand is the task's own
+abbrev pub ends_owned : List Slot → Bool
+ends_owned [] = false
+ends_owned (s ∷ []) = s.owned
+ends_owned (s ∷ t ∷ slots) = ends_owned (t ∷ slots)

@@ -5,3 +5,4 @@ pub mod Kernel
 pub mod Frame
 pub mod Slot
 pub mod Runs
+pub mod Listing

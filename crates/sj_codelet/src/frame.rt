@@ -1,7 +1,8 @@
 //! The operands of one task, as a kernel works on them.
 
-ghost use Rattle.std.specs.Prelude.{◌≡◌, ◌==◌, ◌+◌, ◌<◌, ◌++◌, ◌∷◌, [], length, slice_index_or, IfOk};
-ghost use Rattle.sj_codelet.specs.Frame.{frame, shared, own};
+ghost use Rattle.std.specs.Prelude.{◌≡◌, ◌==◌, ◌+◌, ◌<◌, ◌++◌, ◌∷◌, [], length, slice_index_or, IsTrue, IfOk};
+ghost use Rattle.sj_base.specs.Array.{area};
+ghost use Rattle.sj_codelet.specs.Frame.{frame, shared, own, ends_owned};
 ghost use Rattle.sj_codelet.specs.Slot.{slot_of};
 
 use sj_base::memory::OutOfMemory;
@@ -120,5 +121,21 @@ impl Frame {
     {
         self.room += 1;
         self.operands.pop().unwrap()
+    }
+
+    /// Takes the last operand away, one of the task's own. Constant time, and no memory.
+    pub fn take_own(&mut self) -> Tile
+        requires { IsTrue (ends_owned self.old.slots) }
+        ensures slots { self.old.slots ≡ self.new.slots ++ own result ∷ [] }
+        ensures room { self.new.spare ≡ self.old.spare + 1 }
+        ensures whole { length result.elements ≡ area result.dims }
+    {
+        match self.take_last() {
+            Operand::Own(tile) => {
+                let _whole = tile.dims();
+                tile
+            }
+            Operand::Shared(_) => unreachable!(),
+        }
     }
 }

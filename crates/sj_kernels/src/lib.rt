@@ -1,0 +1,7 @@
+//! The kernels of ring arithmetic over slices, and the set of codelets that runs them.
+#![tactic(auto)]
+
+pub mod elementwise;
+pub mod reduction;
+pub mod ring;
+pub mod runs;
