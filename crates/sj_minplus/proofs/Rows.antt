@@ -1,7 +1,9 @@
 -- A list that is rewritten one place after another.
-use Rattle.std.proofs.Common.{◌≡◌, ℕ, ◌+◌, ◌<◌, ◌≤◌, length, List, ℤ, slice_set, arith}
+use Rattle.std.proofs.Common.{◌≡◌, ℕ, ◌+◌, ◌*◌, ◌<◌, ◌≤◌, length, List, ℤ, pos, slice_set, arith}
 use Rattle.std.proofs.lemmas.Grind.{common_steps}
-use Rattle.sj_base.specs.Array.{at}
+use Rattle.std.proofs.lemmas.List.FromFn.{fill_by_all}
+use Rattle.sj_base.specs.Array.{at, each}
+use Rattle.sj_codelet.specs.Equations.{vector}
 
 -- the places below j hold f, and the others what they held
 pub record IsWritten (f : ℕ → ℤ) (old xs : List ℤ) (j : ℕ) : Type 0 where
@@ -13,3 +15,8 @@ written_more f old xs j v within e w = record {
   done = λ p below. grind (arith, common_steps, w.done p);
   rest = λ p above. grind (arith, common_steps, w.rest p);
 }
+
+-- all places are written
+pub written_all : (f : ℕ → ℤ) (old xs : List ℤ) (j : ℕ) → length xs ≡ length old → length old ≤ j → IsWritten f old xs j → xs ≡ (each (vector old).dims f).elements
+written_all f old xs j same all w =
+    fill_by_all f xs (1 * length old) (pos 0) (omega arith) (λ p below. w.done p (omega arith))

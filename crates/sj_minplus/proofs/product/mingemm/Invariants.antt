@@ -1,5 +1,5 @@
 use Rattle.sj_minplus.specs.Matrix.{matrix}
-use Rattle.sj_minplus.proofs.Least.{least_entry}
+use Rattle.sj_minplus.proofs.Products.{least_entry}
 use Rattle.sj_minplus.proofs.Matrices.{HasRows}
 use Rattle.sj_minplus.proofs.product.mingemm.Given as goal
 

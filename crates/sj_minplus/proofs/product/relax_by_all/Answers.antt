@@ -4,7 +4,7 @@ use Rattle.std.specs.Int.{int_min}
 use Rattle.sj_base.specs.Array.{at}
 use Rattle.sj_codelet.specs.MinPlus.{plus}
 use Rattle.sj_minplus.proofs.Matrices.{at_slice}
-use Rattle.sj_minplus.proofs.Least.{least_step}
+use Rattle.sj_minplus.proofs.Products.{least_step}
 use Rattle.sj_minplus.proofs.product.relax_by_all.Goals as goal
 
 pub loop-l-preserved : goal.loop-l-preserved
