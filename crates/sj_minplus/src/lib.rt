@@ -3,6 +3,8 @@
 
 pub mod least;
 pub mod product;
-pub mod row;
+mod row;
 pub mod sum;
+#[cfg(test)]
+mod tests;
 pub mod ways;
