@@ -3,7 +3,7 @@ use Rattle.std.proofs.Common.{◌≡◌, ℕ, ◌+◌, ◌*◌, ◌<◌, ◌≤�
 use Rattle.std.specs.List.{range_with_len}
 use Rattle.std.proofs.lemmas.List.{append-nil, drop_all, same_lists, get_or_at, get_or_default, set_at, drop_more, append_assoc}
 use Rattle.std.proofs.lemmas.List.FromFn.{length-map-range_with_len, get_or-map-range_with_len, map-range_with_len_more}
-use Rattle.sj_base.specs.Array.{each}
+use Rattle.sj_base.specs.Array.{each, area}
 use Rattle.sj_codelet.specs.Equations.{vector}
 use Rattle.sj_codelet.specs.Listing.{listing}
 
@@ -76,3 +76,7 @@ begun_read i f ys zs e h = ap (λ ws. get_or ws i (pos 0)) e ∙ at-begun i f ys
 pub single_from_set : (ys : List ℤ) (f : ℕ → ℤ) (v : ℤ) → length ys ≡ 1 → v ≡ f 0 → set ys 0 v ≡ (each (vector ys).dims f).elements
 single_from_set ys f v h e =
     each_from_begun 1 f ys (set ys 0 v) (omega arith) (omega arith) (begun_step 0 f ys ys v (begun_none f ys) (omega arith) (λ _. e))
+
+pub each_listing : (ys : List ℤ) (f : ℕ → ℤ) → (each (vector ys).dims f).elements ≡ listing (length ys) f
+unfolding listing
+each_listing ys f = let n : area (vector ys).dims ≡ length ys = omega arith in ap (λ m. map f (range_with_len 0 m)) n

@@ -2,3 +2,5 @@ pub mod Filling
 pub mod Operands
 pub mod Sums
 pub mod Integers
+pub mod Rows
+pub mod Elements

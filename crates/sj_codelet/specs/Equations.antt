@@ -88,8 +88,9 @@ fwcol d a =
     after_turns d.dims.rows (λ k m. grid m.dims (λ i j. int_min (element m i j) (plus (element m i k) (element d k j)))) a
 
 -- the part at (r0, c0) of a root with so many columns whose element at position p is a + b p
-abbrev pub loadfill : ℤ → ℤ → ℕ → ℕ → ℕ → Array → Array
-loadfill a b r0 c0 cols x = grid x.dims (λ i j. wrap (a +ℤ (b *ℤ pos ((r0 + i) * cols + (c0 + j)))))
+abbrev pub loadfill : ℤ → ℤ → ℤ → ℤ → ℤ → Array → Array
+loadfill a b r0 c0 cols x =
+    grid x.dims (λ i j. wrap (a +ℤ (b *ℤ (((r0 +ℤ pos i) *ℤ cols) +ℤ (c0 +ℤ pos j)))))
 
 -- where a paste takes its elements and puts them
 pub record Window : Type 0 where

@@ -200,7 +200,7 @@ new_arrays FwRow args ins = fwrow (operand ins 0) (operand ins 1) ∷ []
 new_arrays FwCol args ins = fwcol (operand ins 0) (operand ins 1) ∷ []
 new_arrays Load args ins = array (operand ins 0).dims args ∷ []
 new_arrays LoadFill args ins =
-    loadfill (at args 0) (at args 1) (count_at args 2) (count_at args 3) (count_at args 4) (operand ins 0) ∷ []
+    loadfill (at args 0) (at args 1) (at args 2) (at args 3) (at args 4) (operand ins 0) ∷ []
 new_arrays Paste args ins = paste (window_of args) (operand ins 0) (operand ins 1) ∷ []
 new_arrays Deliver args ins = []
 new_arrays InitPlus args ins = zeros (operand ins 0).dims ∷ []

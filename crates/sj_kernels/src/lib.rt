@@ -2,6 +2,7 @@
 #![tactic(auto)]
 
 pub mod elementwise;
+pub mod product;
 pub mod reduction;
 pub mod ring;
 pub mod runs;

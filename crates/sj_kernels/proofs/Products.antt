@@ -1,0 +1,52 @@
+-- Rows of a matrix product.
+use Rattle.std.proofs.Common.{◌≡◌, ℕ, ◌+◌, ◌*◌, ◌/◌, ◌%◌, ◌<◌, ◌≤◌, ℤ, pos, ◌+ℤ◌, ◌*ℤ◌, List, length, get_or, w64, FitsSigned, refl, sym, ap, ◌∙◌, arith}
+use Rattle.std.specs.List.{between}
+use Rattle.std.proofs.lemmas.Int.{ints, int_wrap_fits, int_wrap-add_left, int_wrap-add_right}
+use Rattle.std.proofs.lemmas.Nat.{rows}
+use Rattle.sj_base.specs.Array.{at, element}
+use Rattle.sj_codelet.specs.Ring.{wrap, sum_below}
+use Rattle.sj_codelet.specs.Equations.{matrix, product, vector, axpy}
+use Rattle.sj_codelet.specs.Listing.{listing}
+use Rattle.sj_codelet.proofs.Integers.{int_add-zero}
+use Rattle.sj_codelet.proofs.Sums.{same_sum, sum_below_more}
+use Rattle.sj_codelet.proofs.Filling.{begun, same_listing, listing_from_elements, length-listing, at-listing}
+use Rattle.sj_codelet.proofs.Rows.{at-row, at-row_begun, length-row, grid_at}
+use Rattle.sj_kernels.specs.Rows.{row_product}
+
+-- before the first term
+pub row_none : (xs : List ℤ) (f : ℕ → ℕ → ℤ) → ((j : ℕ) → j < length xs → FitsSigned w64 (get_or xs j (pos 0))) → xs ≡ listing (length xs) (λ j. wrap (at xs j +ℤ sum_below 0 (f j)))
+row_none xs f fits =
+    listing_from_elements (length xs) (λ j. wrap (at xs j +ℤ sum_below 0 (f j))) xs refl (λ j h. sym (ap (λ (z : ℤ). wrap z) (int_add-zero (at xs j)) ∙ int_wrap_fits w64 (at xs j) (fits j h)))
+
+-- one term more in each column
+pub row_more : (n l : ℕ) (c zs : List ℤ) (f : ℕ → ℕ → ℤ) (g : ℕ → ℤ) → zs ≡ listing n (λ j. wrap (at c j +ℤ sum_below l (f j))) → ((j : ℕ) → j < n → g j ≡ wrap (at zs j +ℤ f j l)) → listing n g ≡ listing n (λ j. wrap (at c j +ℤ sum_below (l + 1) (f j)))
+row_more n l c zs f g e h =
+    let F = λ (j : ℕ). wrap (at c j +ℤ sum_below l (f j)) in
+    same_listing n g (λ j. wrap (at c j +ℤ sum_below (l + 1) (f j))) (λ j s.
+      h j s
+      ∙ ap (λ (ws : List ℤ). wrap (at ws j +ℤ f j l)) e
+      ∙ ap (λ (z : ℤ). wrap (z +ℤ f j l)) (at-listing n F j (pos 0) s)
+      ∙ int_wrap-add_left w64 (at c j +ℤ sum_below l (f j)) (f j l)
+      ∙ ap (λ (z : ℤ). wrap z) (omega (arith, ints, sum_below_more l (f j))))
+
+-- the element of c + a b in row i and column j
+abbrev pub gemm_at : ℕ → ℕ → ℕ → List ℤ → List ℤ → List ℤ → ℕ → ℕ → ℤ
+gemm_at m k n a b c i j = wrap (element (matrix m n c) i j +ℤ product (matrix m k a) (matrix k n b) i j)
+
+-- the row i of c + a b, from the rows that the code takes out
+pub gemm_row_is : (m k n i : ℕ) (a b c zs row : List ℤ) → length a ≡ m * k → length zs ≡ m * n → i < m
+    → zs ≡ begun (i * n) (λ p. gemm_at m k n a b c (p / n) (p % n)) c
+    → row ≡ listing (length (between (i * n) (i * n + n) zs)) (row_product (length (between (i * n) (i * n + n) zs)) (between (i * k) (i * k + k) a) b (between (i * n) (i * n + n) zs))
+    → row ≡ listing n (λ j. gemm_at m k n a b c ((i * n + j) / n) ((i * n + j) % n))
+gemm_row_is m k n i a b c zs row ha hz hi e r =
+    let f = gemm_at m k n a b c in
+    let rc = between (i * n) (i * n + n) zs in
+    let ra = between (i * k) (i * k + k) a in
+    let lc : length rc ≡ n = length-row i n zs (grind (arith, rows)) in
+    let la : length ra ≡ k = length-row i k a (grind (arith, rows)) in
+    r ∙ ap (λ (q : ℕ). listing q (row_product q ra b rc)) lc
+    ∙ same_listing n (row_product n ra b rc) (λ j. f ((i * n + j) / n) ((i * n + j) % n)) (λ j s.
+      ap (λ (z : ℤ). wrap (z +ℤ sum_below (length ra) (λ l. at ra l *ℤ at b (l * n + j)))) (at-row_begun i n _ c zs j e s)
+      ∙ ap (λ (q : ℕ). wrap (at c (i * n + j) +ℤ sum_below q (λ l. at ra l *ℤ at b (l * n + j)))) la
+      ∙ ap (λ (z : ℤ). wrap (at c (i * n + j) +ℤ z)) (same_sum k (λ l. at ra l *ℤ at b (l * n + j)) (λ l. at a (i * k + l) *ℤ at b (l * n + j)) (λ l t. ap (λ (z : ℤ). z *ℤ at b (l * n + j)) (at-row i k a l t)))
+      ∙ sym (grid_at n f i j s))
