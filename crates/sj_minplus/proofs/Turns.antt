@@ -8,7 +8,7 @@ use Rattle.sj_minplus.specs.Matrix.{matrix}
 abbrev pub KeepsDims : (ℕ → Array → Array) → Type 0
 KeepsDims turn = (k : ℕ) (x : Array) → (turn k x).dims ≡ x.dims
 
-dims-after_turns : (turn : ℕ → Array → Array) → KeepsDims turn → (k : ℕ) (x : Array) → (after_turns k turn x).dims ≡ x.dims
+pub dims-after_turns : (turn : ℕ → Array → Array) → KeepsDims turn → (k : ℕ) (x : Array) → (after_turns k turn x).dims ≡ x.dims
 dims-after_turns turn keeps zero x = refl
 dims-after_turns turn keeps (suc k) x = keeps k (after_turns k turn x) ∙ dims-after_turns turn keeps k x
 

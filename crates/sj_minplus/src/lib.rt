@@ -4,6 +4,7 @@
 pub mod least;
 pub mod product;
 mod row;
+mod runs;
 pub mod sum;
 #[cfg(test)]
 mod tests;

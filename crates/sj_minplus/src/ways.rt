@@ -105,7 +105,7 @@ pub fn fwrow(d: &[i64], a: &mut [i64], n: u32, m: u32)
 /// The same for a block `a` in the column of the diagonal block `d`, n by n, with m rows: n turns of m n sums each.
 pub fn fwcol(d: &[i64], a: &mut [i64], n: u32, m: u32)
     requires d { length d.now ≡ n * n }
-    requires a { length a.old ≡ n * m }
+    requires a { length a.old ≡ m * n }
     ensures { a.new ≡ (fwcol (matrix n n d.now) (matrix m n a.old)).elements }
 {
     let n = n as usize;

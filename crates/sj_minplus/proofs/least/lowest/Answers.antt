@@ -5,7 +5,6 @@ use Rattle.sj_minplus.proofs.least.lowest.Goals as goal
 
 pub loop-i-preserved : goal.loop-i-preserved
 loop-i-preserved c =
-    let m = c.min.ensures.value in
     let r = c.loop-i.invariant.rest c.loop-i.i in
     let t = c.loop-i.auto.y in
     written_more _ _ _ _ _ (omega arith) (grind (arith, to_z-of_z)) c.loop-i.invariant

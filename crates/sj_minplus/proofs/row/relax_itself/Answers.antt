@@ -5,7 +5,6 @@ use Rattle.sj_minplus.proofs.row.relax_itself.Goals as goal
 
 pub loop-j-preserved : goal.loop-j-preserved
 loop-j-preserved c =
-    let m = c.min.ensures.value in
     let r = c.loop-j.invariant.rest c.loop-j.j in
     let t = c.loop-j.auto.row in
     written_more _ _ _ _ _ (omega arith) (grind (arith, to_z-of_z)) c.loop-j.invariant
