@@ -2,6 +2,7 @@
 #![tactic(auto)]
 
 pub mod least;
+pub mod library;
 pub mod product;
 mod row;
 mod runs;
