@@ -1,4 +1,4 @@
-use Rattle.std.proofs.Common.{◌≡◌, arith, ap}
+use Rattle.std.proofs.Common.{arith, ap}
 use Rattle.sj_minplus.proofs.Blocks.{fwdiag_ran}
 use Rattle.sj_minplus.proofs.runs.run_fwdiag.Goals as goal
 

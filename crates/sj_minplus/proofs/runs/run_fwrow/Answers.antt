@@ -1,4 +1,4 @@
-use Rattle.std.proofs.Common.{◌≡◌, arith, ap}
+use Rattle.std.proofs.Common.{arith, ap}
 use Rattle.sj_minplus.proofs.Blocks.{fwrow_ran}
 use Rattle.sj_minplus.proofs.runs.run_fwrow.Goals as goal
 
