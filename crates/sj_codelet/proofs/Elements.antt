@@ -23,8 +23,8 @@ same_each d f g h = ap (λ (xs : List ℤ). array d xs) (same_listing (area d) f
 pub same_grid : (d : Dims) (f g : ℕ → ℕ → ℤ) → ((i j : ℕ) → i < d.rows → j < d.cols → f i j ≡ g i j) → grid d f ≡ grid d g
 same_grid d f g h =
     same_each d (λ p. f (p / d.cols) (p % d.cols)) (λ p. g (p / d.cols) (p % d.cols)) (λ p l.
-      let some : 0 < d.cols = grind arith in
-      h (p / d.cols) (p % d.cols) (div_below p d.cols d.rows some l) (mod_below p d.cols some))
+    let some : 0 < d.cols = grind arith in
+    h (p / d.cols) (p % d.cols) (div_below p d.cols d.rows some l) (mod_below p d.cols some))
 
 pub element-grid : (d : Dims) (f : ℕ → ℕ → ℤ) (i j : ℕ) → i < d.rows → j < d.cols → element (grid d f) i j ≡ f i j
 element-grid d f i j hi hj =

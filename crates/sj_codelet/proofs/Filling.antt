@@ -80,3 +80,6 @@ single_from_set ys f v h e =
 pub each_listing : (ys : List ℤ) (f : ℕ → ℤ) → (each (vector ys).dims f).elements ≡ listing (length ys) f
 unfolding listing
 each_listing ys f = let n : area (vector ys).dims ≡ length ys = omega arith in ap (λ m. map f (range_with_len 0 m)) n
+
+pub listing_from_begun : (i : ℕ) (f : ℕ → ℤ) (ys zs : List ℤ) → length ys ≤ i → i ≤ length ys → zs ≡ begun i f ys → zs ≡ listing (length ys) f
+listing_from_begun i f ys zs h k e = let n : i ≡ length ys = omega arith in e ∙ begun_all i f ys h ∙ ap (λ m. listing m f) n

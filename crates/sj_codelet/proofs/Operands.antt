@@ -10,7 +10,7 @@ use Rattle.sj_base.specs.Lending.{with_elements}
 use Rattle.sj_codelet.specs.declared.kernel.Kernel.{Kernel}
 use Rattle.sj_codelet.specs.declared.formal.Formal.{Formal}
 use Rattle.sj_codelet.specs.declared.formal.Formal.TheVariants.{R, W, RW, Scratch}
-use Rattle.sj_codelet.specs.Frame.{Slot, Frame, own, arrays, all_dims, AreReady, written, AllKeep, ends_owned}
+use Rattle.sj_codelet.specs.Frame.{Slot, Frame, own, arrays, all_dims, IsReady, AreReady, written, AllKeep, ends_owned}
 use Rattle.sj_codelet.specs.Kernel.{formals_of, arguments_fit, dims_fit, dims_at, same, new_arrays, operand}
 use Rattle.sj_codelet.specs.Equations.{vector}
 use Rattle.sj_codelet.specs.Runs.{IsReadyOf, IsRunOf}
@@ -30,21 +30,25 @@ writes_last (W ∷ f ∷ fs) = false
 writes_last (R ∷ fs) = writes_last fs
 writes_last (Scratch ∷ fs) = writes_last fs
 
-pub ends_owned_from_ready : (fs : List Formal) (slots : List Slot) → writes_last fs ≡ true → length slots ≡ length fs → AreReady fs slots → ends_owned slots ≡ true
+-- the last operand is one of the task's own
+abbrev pub ends_in_own : List Formal → Bool
+ends_in_own [] = false
+ends_in_own (R ∷ []) = false
+ends_in_own (W ∷ []) = true
+ends_in_own (RW ∷ []) = true
+ends_in_own (Scratch ∷ []) = true
+ends_in_own (f ∷ g ∷ fs) = ends_in_own (g ∷ fs)
+
+pub ends_owned_from_ready : (fs : List Formal) (slots : List Slot) → ends_in_own fs ≡ true → length slots ≡ length fs → AreReady fs slots → ends_owned slots ≡ true
 ends_owned_from_ready [] slots w l r = cc
 ends_owned_from_ready (f ∷ fs) [] w l r = absurd (omega arith)
-ends_owned_from_ready (RW ∷ []) (s ∷ []) w l r = r.0
+ends_owned_from_ready (R ∷ []) (s ∷ []) w l r = cc
 ends_owned_from_ready (W ∷ []) (s ∷ []) w l r = r.0.0
-ends_owned_from_ready (RW ∷ []) (s ∷ t ∷ slots) w l r = absurd (omega arith)
-ends_owned_from_ready (W ∷ []) (s ∷ t ∷ slots) w l r = absurd (omega arith)
-ends_owned_from_ready (RW ∷ f ∷ fs) (s ∷ slots) w l r = cc
-ends_owned_from_ready (W ∷ f ∷ fs) (s ∷ slots) w l r = cc
-ends_owned_from_ready (R ∷ []) (s ∷ slots) w l r = cc
-ends_owned_from_ready (Scratch ∷ []) (s ∷ slots) w l r = cc
-ends_owned_from_ready (R ∷ f ∷ fs) (s ∷ []) w l r = absurd (omega arith)
-ends_owned_from_ready (Scratch ∷ f ∷ fs) (s ∷ []) w l r = absurd (omega arith)
-ends_owned_from_ready (R ∷ f ∷ fs) (s ∷ t ∷ slots) w l r = ends_owned_from_ready (f ∷ fs) (t ∷ slots) w (omega arith) r.1
-ends_owned_from_ready (Scratch ∷ f ∷ fs) (s ∷ t ∷ slots) w l r = ends_owned_from_ready (f ∷ fs) (t ∷ slots) w (omega arith) r.1
+ends_owned_from_ready (RW ∷ []) (s ∷ []) w l r = r.0
+ends_owned_from_ready (Scratch ∷ []) (s ∷ []) w l r = r.0.0
+ends_owned_from_ready (f ∷ []) (s ∷ t ∷ slots) w l r = absurd (omega arith)
+ends_owned_from_ready (f ∷ g ∷ fs) (s ∷ []) w l r = absurd (omega arith)
+ends_owned_from_ready (f ∷ g ∷ fs) (s ∷ t ∷ slots) w l r = ends_owned_from_ready (g ∷ fs) (t ∷ slots) w (omega arith) r.1
 
 pub ran_last : (fs : List Formal) (before : List Slot) (y z : Array) → writes_last fs ≡ true → length before + 1 ≡ length fs → z.dims ≡ y.dims → (written fs (before ++ own z ∷ []) ≡ z ∷ []) × AllKeep fs (before ++ own y ∷ []) (before ++ own z ∷ [])
 ran_last [] before y z w l d = absurd (omega arith)
@@ -130,3 +134,22 @@ ran k args old new before y z w ready e e' r d o =
       kept = rw (e, e') both.1;
       room = r;
     }
+
+-- what stands before the last operands is ready too
+pub ready_before : (fs gs : List Formal) (before after : List Slot) → length before ≡ length fs → AreReady (fs ++ gs) (before ++ after) → AreReady fs before
+ready_before [] gs before after l r = tt
+ready_before (f ∷ fs) gs [] after l r = absurd (omega arith)
+ready_before (f ∷ fs) gs (s ∷ before) after l r = (r.0, ready_before fs gs before after (omega arith) r.1)
+
+pub ready_at : (fs gs : List Formal) (f : Formal) (before after : List Slot) (s : Slot) → length before ≡ length fs → AreReady (fs ++ f ∷ gs) (before ++ s ∷ after) → IsReady f s
+ready_at [] gs f [] after s l r = r.0
+ready_at [] gs f (t ∷ before) after s l r = absurd (omega arith)
+ready_at (g ∷ fs) gs f [] after s l r = absurd (omega arith)
+ready_at (g ∷ fs) gs f (t ∷ before) after s l r = ready_at fs gs f before after s (omega arith) r.1
+
+pub operand_shift : (slots before : List Slot) (s : Slot) (i : ℕ) → slots ≡ before ++ s ∷ [] → i < length before → operand (arrays before) i ≡ operand (arrays slots) i
+operand_shift slots before s i e h =
+    let d = array (record { rows = 0; cols = 0 }) [] in
+    sym (get_or_append_left (arrays before) (s.array ∷ []) d i (omega (arith, length-map before (λ (t : Slot). t.array))))
+    ∙ ap (λ (xs : List Array). get_or xs i d) (sym (map-append (λ (t : Slot). t.array) before (s ∷ [])))
+    ∙ ap (λ (xs : List Slot). get_or (arrays xs) i d) (sym e)

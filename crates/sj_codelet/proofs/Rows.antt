@@ -73,3 +73,8 @@ at-row_begun i n f ys zs j e h = ap (λ (ws : List ℤ). get_or ws j (pos 0)) (r
 
 pub length-row : (i n : ℕ) (xs : List ℤ) → i * n + n ≤ length xs → length (between (i * n) (i * n + n) xs) ≡ n
 length-row i n xs h = length-between xs (i * n) (i * n + n) h ∙ omega arith
+
+-- a row that a call made from its own length
+pub row_from_listing : (i n k : ℕ) (f : ℕ → ℕ → ℤ) (g : ℕ → ℤ) (row : List ℤ) → k ≡ n → row ≡ listing k g → ((j : ℕ) → j < n → g j ≡ f i j) → row ≡ listing n (λ j. f ((i * n + j) / n) ((i * n + j) % n))
+row_from_listing i n k f g row same e h =
+    e ∙ ap (λ (q : ℕ). listing q g) same ∙ same_listing n g (λ j. f ((i * n + j) / n) ((i * n + j) % n)) (λ j l. h j l ∙ sym (grid_at n f i j l))

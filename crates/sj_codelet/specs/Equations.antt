@@ -4,6 +4,7 @@ use Rattle.std.specs.Int.{int_min}
 use Rattle.std.specs.Int.RustNames.{unsigned_abs}
 use Rattle.sj_base.specs.declared.tile.Dims.{Dims}
 use Rattle.sj_base.specs.Array.{Array, array, area, at, element, each, grid}
+use Rattle.sj_codelet.specs.declared.window.Window.{Window}
 use Rattle.sj_codelet.specs.Ring.{wrap, sum_below}
 use Rattle.sj_codelet.specs.MinPlus.{inf, plus, least_below}
 
@@ -92,15 +93,6 @@ abbrev pub loadfill : ℤ → ℤ → ℤ → ℤ → ℤ → Array → Array
 loadfill a b r0 c0 cols x =
     grid x.dims (λ i j. wrap (a +ℤ (b *ℤ (((r0 +ℤ pos i) *ℤ cols) +ℤ (c0 +ℤ pos j)))))
 
--- where a paste takes its elements and puts them
-pub record Window : Type 0 where
-  pub old_row : ℕ
-  pub old_col : ℕ
-  pub new_row : ℕ
-  pub new_col : ℕ
-  pub rows : ℕ
-  pub cols : ℕ
-
 abbrev pub is_within : ℕ → ℕ → ℕ → Bool
 is_within i first len = nat_le first i && nat_lt i (first + len)
 
@@ -112,11 +104,3 @@ paste w old new =
 
 abbrev pub all_inf : Dims → Array
 all_inf d = each d (λ p. inf)
-
--- an argument as a number of rows, columns or the like
-abbrev pub count_at : List ℤ → ℕ → ℕ
-count_at args n = unsigned_abs (at args n)
-
--- the window that six arguments name
-abbrev pub window_of : List ℤ → Window
-window_of args = record { old_row = count_at args 0; old_col = count_at args 1; new_row = count_at args 2; new_col = count_at args 3; rows = count_at args 4; cols = count_at args 5 }

@@ -1,16 +1,19 @@
 -- The table of codelets: for each its name, arguments, formals, dimensions and new elements. A codelet's id is its place.
-use Rattle.std.specs.Prelude.{ℕ, ◌+◌, Bool, true, false, ◌&&◌, nat_eq, nat_le, Option, Some, None, List, [], ◌∷◌, ℤ, pos, length, codes, slice_get, find, option_map}
+use Rattle.std.specs.Prelude.{ℕ, ◌+◌, Bool, true, false, ◌&&◌, nat_eq, nat_le, Option, Some, None, List, [], ◌∷◌, ℤ, pos, length, codes, slice_get, find, option_map, if◌then◌else◌}
 use Rattle.std.specs.List.{slice_index_or, list_all}
 use Rattle.std.specs.Str.{bytes_eq}
 use Rattle.std.specs.Int.RustNames.{int_le}
 use Rattle.sj_base.specs.declared.tile.Dims.{Dims}
 use Rattle.sj_base.specs.declared.program.Codelet.{Codelet}
+use Rattle.sj_base.specs.declared.mode.Reduction.{Reduction}
+use Rattle.sj_base.specs.declared.mode.Reduction.TheVariants.{Plus, Least}
 use Rattle.sj_base.specs.Array.{Array, array, area, at, zeros}
 use Rattle.sj_codelet.specs.declared.kernel.Kernel.{Kernel}
 use Rattle.sj_codelet.specs.declared.kernel.Kernel.TheVariants.{Fill, Copy, Scale, Add, Axpy, Butterfly, Gemm, GemmThree, Transpose, Dot, Sum, Lowest, MinGemm, FwDiag, FwRow, FwCol, Load, LoadFill, Paste, Deliver, InitPlus, InitLeast}
 use Rattle.sj_codelet.specs.declared.formal.Formal.{Formal}
 use Rattle.sj_codelet.specs.declared.formal.Formal.TheVariants.{R, W, RW, Scratch}
-use Rattle.sj_codelet.specs.Equations.{fill, scale, add, subtract, axpy, gemm, gemm3, transpose, dot, sum, lowest, mingemm, fwdiag, fwrow, fwcol, loadfill, paste, all_inf, count_at, window_of}
+use Rattle.sj_codelet.specs.Equations.{fill, scale, add, subtract, axpy, gemm, gemm3, transpose, dot, sum, lowest, mingemm, fwdiag, fwrow, fwcol, loadfill, paste, all_inf}
+use Rattle.sj_codelet.specs.Window.{count_at, window_of}
 
 -- the codelets in the order of their ids
 abbrev pub kernels : List Kernel
@@ -209,3 +212,54 @@ new_arrays InitLeast args ins = all_inf (operand ins 0).dims ∷ []
 -- the same of an id
 abbrev pub out : Codelet → List ℤ → List Array → List Array
 out id args ins = elim (kernel_of id) [ None ↦ [] | Some k ↦ new_arrays k args ins ]
+
+-- the name of an id in a set that has these codelets
+abbrev pub name_in : (Kernel → Bool) → Codelet → Option (List ℕ)
+name_in has id = elim (kernel_of id) [ None ↦ None | Some k ↦ if has k then name_of k else None ]
+
+-- two runs of it on one array may change places
+abbrev pub commutes_of : Kernel → Bool
+commutes_of Scale = true
+commutes_of Add = true
+commutes_of Axpy = true
+commutes_of Gemm = true
+commutes_of GemmThree = true
+commutes_of Dot = true
+commutes_of Sum = true
+commutes_of Lowest = true
+commutes_of MinGemm = true
+commutes_of _ = false
+
+-- a run of it adds a contribution to what the reduction combines
+abbrev pub contributes_of : Kernel → Reduction → Bool
+contributes_of Add Plus = true
+contributes_of Axpy Plus = true
+contributes_of Gemm Plus = true
+contributes_of GemmThree Plus = true
+contributes_of Dot Plus = true
+contributes_of Sum Plus = true
+contributes_of Lowest Least = true
+contributes_of MinGemm Least = true
+contributes_of _ _ = false
+
+-- the codelet that makes a reduction's unit
+abbrev pub init_of : Reduction → Kernel
+init_of Plus = InitPlus
+init_of Least = InitLeast
+
+-- the codelet that combines a partial copy into another
+abbrev pub combine_of : Reduction → Kernel
+combine_of Plus = Add
+combine_of Least = Lowest
+
+-- a set that has these codelets has the reduction
+abbrev pub has_reduction : (Kernel → Bool) → Reduction → Bool
+has_reduction has by = has (init_of by) && has (combine_of by)
+
+-- the two columns of an id in such a set
+abbrev pub commutes_in : (Kernel → Bool) → Codelet → Bool
+commutes_in has id = elim (kernel_of id) [ None ↦ false | Some k ↦ has k && commutes_of k ]
+
+abbrev pub contributes_in : (Kernel → Bool) → Codelet → Reduction → Bool
+contributes_in has id by =
+    elim (kernel_of id) [ None ↦ false | Some k ↦ has k && contributes_of k by && has_reduction has by ]

@@ -6,3 +6,5 @@ pub mod Frame
 pub mod Slot
 pub mod Runs
 pub mod Listing
+pub mod Window
+pub mod Laws

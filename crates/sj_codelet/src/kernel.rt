@@ -2,8 +2,9 @@
 //! column of the table.
 
 ghost use Rattle.std.specs.Prelude.{◌≡◌, option_map};
-ghost use Rattle.sj_codelet.specs.Kernel.{kernels, kernel_of, codelet_of, name_of, has_name};
+ghost use Rattle.sj_codelet.specs.Kernel.{kernels, kernel_of, codelet_of, name_of, has_name, commutes_of, contributes_of, init_of, combine_of};
 
+use sj_base::mode::Reduction;
 use sj_base::program::Codelet;
 
 pub const FILL: Codelet = Codelet(0);
@@ -188,6 +189,62 @@ impl Kernel {
         match self.name() {
             Some(own) => own == name,
             None => false,
+        }
+    }
+
+    /// Whether two runs of it on one array may change places. Constant time.
+    pub fn commutes(self) -> bool
+        ensures { result ≡ commutes_of self }
+    {
+        matches!(
+            self,
+            Kernel::Scale
+                | Kernel::Add
+                | Kernel::Axpy
+                | Kernel::Gemm
+                | Kernel::GemmThree
+                | Kernel::Dot
+                | Kernel::Sum
+                | Kernel::Lowest
+                | Kernel::MinGemm
+        )
+    }
+
+    /// Whether a run of it adds a contribution to what the reduction combines. Constant time.
+    pub fn contributes(self, by: Reduction) -> bool
+        ensures { result ≡ contributes_of self by }
+    {
+        match by {
+            Reduction::Plus => matches!(
+                self,
+                Kernel::Add
+                    | Kernel::Axpy
+                    | Kernel::Gemm
+                    | Kernel::GemmThree
+                    | Kernel::Dot
+                    | Kernel::Sum
+            ),
+            Reduction::Least => matches!(self, Kernel::Lowest | Kernel::MinGemm),
+        }
+    }
+
+    /// The codelet that makes a reduction's unit. Constant time.
+    pub fn init(by: Reduction) -> Kernel
+        ensures { result ≡ init_of by }
+    {
+        match by {
+            Reduction::Plus => Kernel::InitPlus,
+            Reduction::Least => Kernel::InitLeast,
+        }
+    }
+
+    /// The codelet that combines a partial copy into another. Constant time.
+    pub fn combine(by: Reduction) -> Kernel
+        ensures { result ≡ combine_of by }
+    {
+        match by {
+            Reduction::Plus => Kernel::Add,
+            Reduction::Least => Kernel::Lowest,
         }
     }
 }

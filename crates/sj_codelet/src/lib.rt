@@ -7,3 +7,4 @@ pub mod frame;
 pub mod kernel;
 pub mod set;
 pub mod shape;
+pub mod window;

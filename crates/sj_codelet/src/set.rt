@@ -1,15 +1,18 @@
 //! A set of codelets: which of the table it knows, and how it runs them.
 
-ghost use Rattle.std.specs.Prelude.{◌≡◌, ◌&&◌, Bool, IsTrue, OnOk, IfOk, find};
+ghost use Rattle.std.specs.Prelude.{◌≡◌, ◌&&◌, Bool, IsTrue, OnOk, IfOk, find, option_map};
 ghost use Rattle.sj_codelet.specs.declared.kernel.Kernel.{Kernel};
-ghost use Rattle.sj_codelet.specs.Kernel.{kernels, has_name, named_in, fits_in};
+ghost use Rattle.sj_codelet.specs.Kernel.{kernels, codelet_of, has_name, named_in, name_in, fits_in, commutes_of, contributes_of, has_reduction, commutes_in, contributes_in, init_of, combine_of};
 ghost use Rattle.sj_codelet.specs.Frame.{all_dims};
+ghost use Rattle.sj_base.specs.declared.mode.Reduction.{Reduction};
+ghost use Rattle.sj_codelet.specs.Laws.{DoCommute, DoesContribute, IsReduction};
 ghost use Rattle.sj_codelet.specs.Runs.{shape_in, IsReadyFor, IsRun};
 
 use crate::formal::Shape;
 use crate::frame::Frame;
 use crate::kernel::{KERNELS, Kernel};
 use sj_base::memory::OutOfMemory;
+use sj_base::mode::Reduction;
 use sj_base::program::Codelet;
 use sj_base::tile::Dims;
 use std::alloc::Global;
@@ -35,6 +38,15 @@ pub trait Codelets: Sync {
         requires fits { IsTrue (fits_in has id args.now (all_dims frame.old.slots)) }
         requires ready { IsReadyFor id frame.old.slots }
         ensures { OnOk result (IsRun id args.now frame.old frame.new) };
+
+    /// Two runs of a commuting codelet on one array give the same in either order.
+    ghost commuting: { (kernel : Kernel) → IsTrue (has kernel && commutes_of kernel) → DoCommute kernel };
+
+    /// A run of a contributing codelet gives what combining gives with a run on the unit.
+    ghost contributing: { (kernel : Kernel) (by : Reduction) → IsTrue (has kernel && contributes_of kernel by && has_reduction has by) → DoesContribute kernel by };
+
+    /// Combining is associative and commutative, and init gives its unit.
+    ghost reducing: { (by : Reduction) → IsTrue (has_reduction has by) → IsReduction by };
 
     /// The codelet that a job calls by this name, or `None` where the set has none. Linear in the table.
     final fn named(&self, name: &[u8]) -> Option<Codelet>
@@ -74,5 +86,58 @@ pub trait Codelets: Sync {
             Some(kernel) => self.knows(kernel) && kernel.fits(args, dims),
             None => false,
         }
+    }
+
+    /// The name by which a job calls a codelet, or `None` where it has none or the set hasn't it. Constant time.
+    final fn name(&self, id: Codelet) -> Option<&'static [u8]>
+        ensures { option_map (λ name. name.now) result ≡ name_in has id }
+    {
+        match Kernel::of(id) {
+            Some(kernel) if self.knows(kernel) => kernel.name(),
+            _ => None,
+        }
+    }
+
+    /// Whether the set has the codelet, and two runs of it on one array may change places. Constant time.
+    final fn commutes(&self, id: Codelet) -> bool
+        ensures { result ≡ commutes_in has id }
+    {
+        match Kernel::of(id) {
+            Some(kernel) => self.knows(kernel) && kernel.commutes(),
+            None => false,
+        }
+    }
+
+    /// Whether the set has the codelet and the reduction, and a run adds a contribution to it. Constant time.
+    final fn contributes(&self, id: Codelet, by: Reduction) -> bool
+        ensures { result ≡ contributes_in has id by }
+    {
+        match Kernel::of(id) {
+            Some(kernel) => self.knows(kernel) && kernel.contributes(by) && self.has(by),
+            None => false,
+        }
+    }
+
+    /// Whether the set has the reduction: its init and its combine codelet. Constant time.
+    final fn has(&self, by: Reduction) -> bool
+        ensures { result ≡ has_reduction has by }
+    {
+        self.knows(Kernel::init(by)) && self.knows(Kernel::combine(by))
+    }
+
+    /// The codelet that makes the reduction's unit. Constant time.
+    final fn init(&self, by: Reduction) -> Codelet
+        requires { IsTrue (has_reduction has by) }
+        ensures { result ≡ codelet_of (init_of by) }
+    {
+        Kernel::init(by).id()
+    }
+
+    /// The codelet that combines a partial copy, its R operand, into another array. Constant time.
+    final fn combine(&self, by: Reduction) -> Codelet
+        requires { IsTrue (has_reduction has by) }
+        ensures { result ≡ codelet_of (combine_of by) }
+    {
+        Kernel::combine(by).id()
     }
 }

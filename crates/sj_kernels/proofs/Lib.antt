@@ -1,1 +1,4 @@
 pub mod Products
+pub mod Pastes
+pub mod Places
+pub mod Tiles

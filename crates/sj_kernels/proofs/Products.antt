@@ -1,14 +1,15 @@
 -- Rows of a matrix product.
-use Rattle.std.proofs.Common.{◌≡◌, ℕ, ◌+◌, ◌*◌, ◌/◌, ◌%◌, ◌<◌, ◌≤◌, ℤ, pos, ◌+ℤ◌, ◌*ℤ◌, List, length, get_or, w64, FitsSigned, refl, sym, ap, ◌∙◌, arith}
+use Rattle.std.proofs.Common.{◌≡◌, ℕ, ◌+◌, ◌*◌, ◌/◌, ◌%◌, ◌<◌, ◌≤◌, ℤ, pos, ◌+ℤ◌, ◌*ℤ◌, List, length, get_or, replicate, w64, FitsSigned, refl, sym, ap, ◌∙◌, arith}
 use Rattle.std.specs.List.{between}
-use Rattle.std.proofs.lemmas.Int.{ints, int_wrap_fits, int_wrap-add_left, int_wrap-add_right}
-use Rattle.std.proofs.lemmas.Nat.{rows}
-use Rattle.sj_base.specs.Array.{at, element}
+use Rattle.std.proofs.lemmas.Int.{ints, int_wrap_fits, int_wrap-add_left, int_wrap-add_right, int_wrap-mul_left}
+use Rattle.std.proofs.lemmas.Nat.{rows, mul-add-lt}
+use Rattle.sj_base.specs.Array.{Array, at, element}
 use Rattle.sj_codelet.specs.Ring.{wrap, sum_below}
-use Rattle.sj_codelet.specs.Equations.{matrix, product, vector, axpy}
+use Rattle.sj_codelet.specs.Equations.{matrix, product, gemm, gemm3}
 use Rattle.sj_codelet.specs.Listing.{listing}
-use Rattle.sj_codelet.proofs.Integers.{int_add-zero}
-use Rattle.sj_codelet.proofs.Sums.{same_sum, sum_below_more}
+use Rattle.sj_codelet.proofs.Integers.{int_add-zero, int_zero-add}
+use Rattle.sj_codelet.proofs.Elements.{same_grid, element-grid, element-zeros}
+use Rattle.sj_codelet.proofs.Sums.{same_sum, same_sum_wrapped, sum_below_more}
 use Rattle.sj_codelet.proofs.Filling.{begun, same_listing, listing_from_elements, length-listing, at-listing}
 use Rattle.sj_codelet.proofs.Rows.{at-row, at-row_begun, length-row, grid_at}
 use Rattle.sj_kernels.specs.Rows.{row_product}
@@ -23,11 +24,11 @@ pub row_more : (n l : ℕ) (c zs : List ℤ) (f : ℕ → ℕ → ℤ) (g : ℕ 
 row_more n l c zs f g e h =
     let F = λ (j : ℕ). wrap (at c j +ℤ sum_below l (f j)) in
     same_listing n g (λ j. wrap (at c j +ℤ sum_below (l + 1) (f j))) (λ j s.
-      h j s
-      ∙ ap (λ (ws : List ℤ). wrap (at ws j +ℤ f j l)) e
-      ∙ ap (λ (z : ℤ). wrap (z +ℤ f j l)) (at-listing n F j (pos 0) s)
-      ∙ int_wrap-add_left w64 (at c j +ℤ sum_below l (f j)) (f j l)
-      ∙ ap (λ (z : ℤ). wrap z) (omega (arith, ints, sum_below_more l (f j))))
+    h j s
+    ∙ ap (λ (ws : List ℤ). wrap (at ws j +ℤ f j l)) e
+    ∙ ap (λ (z : ℤ). wrap (z +ℤ f j l)) (at-listing n F j (pos 0) s)
+    ∙ int_wrap-add_left w64 (at c j +ℤ sum_below l (f j)) (f j l)
+    ∙ ap (λ (z : ℤ). wrap z) (omega (arith, ints, sum_below_more l (f j))))
 
 -- the element of c + a b in row i and column j
 abbrev pub gemm_at : ℕ → ℕ → ℕ → List ℤ → List ℤ → List ℤ → ℕ → ℕ → ℤ
@@ -46,7 +47,35 @@ gemm_row_is m k n i a b c zs row ha hz hi e r =
     let la : length ra ≡ k = length-row i k a (grind (arith, rows)) in
     r ∙ ap (λ (q : ℕ). listing q (row_product q ra b rc)) lc
     ∙ same_listing n (row_product n ra b rc) (λ j. f ((i * n + j) / n) ((i * n + j) % n)) (λ j s.
-      ap (λ (z : ℤ). wrap (z +ℤ sum_below (length ra) (λ l. at ra l *ℤ at b (l * n + j)))) (at-row_begun i n _ c zs j e s)
-      ∙ ap (λ (q : ℕ). wrap (at c (i * n + j) +ℤ sum_below q (λ l. at ra l *ℤ at b (l * n + j)))) la
-      ∙ ap (λ (z : ℤ). wrap (at c (i * n + j) +ℤ z)) (same_sum k (λ l. at ra l *ℤ at b (l * n + j)) (λ l. at a (i * k + l) *ℤ at b (l * n + j)) (λ l t. ap (λ (z : ℤ). z *ℤ at b (l * n + j)) (at-row i k a l t)))
-      ∙ sym (grid_at n f i j s))
+    ap (λ (z : ℤ). wrap (z +ℤ sum_below (length ra) (λ l. at ra l *ℤ at b (l * n + j)))) (at-row_begun i n _ c zs j e s)
+    ∙ ap (λ (q : ℕ). wrap (at c (i * n + j) +ℤ sum_below q (λ l. at ra l *ℤ at b (l * n + j)))) la
+    ∙ ap (λ (z : ℤ). wrap (at c (i * n + j) +ℤ z)) (same_sum k (λ l. at ra l *ℤ at b (l * n + j)) (λ l. at a (i * k + l) *ℤ at b (l * n + j)) (λ l t. ap (λ (z : ℤ). z *ℤ at b (l * n + j)) (at-row i k a l t)))
+    ∙ sym (grid_at n f i j s))
+
+-- the product of three, by way of the wrapped product of two
+pub gemm3_is : (m k l n : ℕ) (a b d t u c e : List ℤ) → t ≡ replicate (m * l) (pos 0)
+    → u ≡ (gemm (matrix m k a) (matrix k l b) (matrix m l t)).elements
+    → e ≡ (gemm (matrix m l u) (matrix l n d) (matrix m n c)).elements
+    → e ≡ (gemm3 (matrix m k a) (matrix k l b) (matrix l n d) (matrix m n c)).elements
+gemm3_is m k l n a b d t u c e zs first second =
+    let A = matrix m k a in
+    let B = matrix k l b in
+    let D = matrix l n d in
+    let dims = (matrix m n c).dims in
+    let inner = (matrix m l t).dims in
+    let f = λ (i : ℕ) (j : ℕ). wrap (element (matrix m n c) i j +ℤ product (matrix m l u) D i j) in
+    let g = λ (i : ℕ) (j : ℕ). wrap (element (matrix m n c) i j +ℤ sum_below l (λ q. product A B i q *ℤ element D q j)) in
+    let partial = λ (i : ℕ) (q : ℕ). wrap (element (matrix m l t) i q +ℤ product A B i q) in
+    let zero : (i q : ℕ) → i < m → q < l → element (matrix m l t) i q ≡ pos 0 =
+    λ i q hi hq. ap (λ (xs : List ℤ). at xs (i * l + q)) zs ∙ element-zeros inner (i * l + q) (omega (arith, mul-add-lt i l q m hi hq)) in
+    let part : (i q : ℕ) → i < m → q < l → element (matrix m l u) i q ≡ wrap (product A B i q) =
+    λ i q hi hq. ap (λ (xs : List ℤ). at xs (i * l + q)) first ∙ element-grid inner partial i q hi hq
+    ∙ ap (λ (z : ℤ). wrap (z +ℤ product A B i q)) (zero i q hi hq) ∙ ap (λ (z : ℤ). wrap z) (int_zero-add (product A B i q)) in
+    second ∙ ap (λ (x : Array). x.elements) (same_grid dims f g (λ i j hi hj.
+    let s = sum_below l (λ q. element (matrix m l u) i q *ℤ element D q j) in
+    let r = sum_below l (λ q. product A B i q *ℤ element D q j) in
+    let C = element (matrix m n c) i j in
+    sym (int_wrap-add_right w64 C s)
+    ∙ ap (λ (z : ℤ). wrap (C +ℤ z)) (same_sum_wrapped l (λ q. element (matrix m l u) i q *ℤ element D q j) (λ q. product A B i q *ℤ element D q j) (λ q hq.
+    ap (λ (z : ℤ). wrap (z *ℤ element D q j)) (part i q hi hq) ∙ int_wrap-mul_left w64 (product A B i q) (element D q j)))
+    ∙ int_wrap-add_right w64 C r))

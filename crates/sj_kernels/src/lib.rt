@@ -2,6 +2,7 @@
 #![tactic(auto)]
 
 pub mod elementwise;
+pub mod placement;
 pub mod product;
 pub mod reduction;
 pub mod ring;

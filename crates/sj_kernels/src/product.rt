@@ -1,6 +1,6 @@
 //! Matrix products.
 
-ghost use Rattle.std.specs.Prelude.{◌≡◌, ◌*◌, length, EachIndex};
+ghost use Rattle.std.specs.Prelude.{◌≡◌, ◌*◌, length, pos, replicate, EachIndex};
 ghost use Rattle.sj_base.specs.Array.{at};
 ghost use Rattle.std.specs.Int.{w64};
 ghost use Rattle.std.specs.Int.RustNames.{FitsSigned};
@@ -23,6 +23,30 @@ pub fn gemm(a: &[i64], b: &[i64], c: &mut [i64], m: u32, k: u32, n: u32)
         let row = &a[i * k..i * k + k];
         gemm_row(row, b, &mut c[i * n..i * n + n]);
     }
+}
+
+/// `C = C + (A B) D`, wrapping, for an m×k, a k×l, an l×n and an m×n matrix. `t` takes `A B`, and any elements
+/// are in it afterwards. About `m k l + m l n` steps, along rows.
+pub fn gemm3(
+    a: &[i64],
+    b: &[i64],
+    d: &[i64],
+    t: &mut [i64],
+    c: &mut [i64],
+    m: u32,
+    k: u32,
+    l: u32,
+    n: u32,
+)
+    requires first { length a.now ≡ m * k }
+    requires second { length b.now ≡ k * l }
+    requires third { length d.now ≡ l * n }
+    requires scratch { t.old ≡ replicate (m * l) (pos 0) }
+    requires target { length c.old ≡ m * n }
+    ensures { c.new ≡ (gemm3 (matrix m k a.now) (matrix k l b.now) (matrix l n d.now) (matrix m n c.old)).elements }
+{
+    gemm(a, b, t, m, k, l);
+    gemm(t, d, c, m, l, n);
 }
 
 /// `c = c + a B`, wrapping, for a row `a` and a row `c`.

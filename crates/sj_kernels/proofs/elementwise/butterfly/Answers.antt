@@ -22,6 +22,6 @@ pub returns : goal.returns
 returns c = record {
   sums = each_from_begun _ _ _ _ c.loop-i-test.false c.loop-i.auto.i-end c.loop-i.invariant.sums;
   differences =
-    each_from_begun _ _ c.args.y.now _ (omega arith) (omega arith) c.loop-i.invariant.differences
-    ∙ ap (λ (n : ℕ). (each (record { rows = 1; cols = n }) (λ p. wrap (at c.args.x.now p -ℤ at c.args.y.now p))).elements) (sym c.requires);
+      each_from_begun _ _ c.args.y.now _ (omega arith) (omega arith) c.loop-i.invariant.differences
+      ∙ ap (λ (n : ℕ). (each (record { rows = 1; cols = n }) (λ p. wrap (at c.args.x.now p -ℤ at c.args.y.now p))).elements) (sym c.requires);
 }
