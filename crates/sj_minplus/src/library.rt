@@ -1,8 +1,10 @@
 //! The set of all codelets.
 
-ghost use Rattle.std.specs.Prelude.{◌≡◌, IsTrue};
+ghost use Rattle.std.specs.Prelude.{◌≡◌, IsTrue, not};
 ghost use Rattle.sj_codelet.specs.Runs.{IsReadyOf, IsRunOf};
-ghost use Rattle.sj_minplus.specs.Has.{least_has, library_has};
+ghost use Rattle.sj_kernels.specs.Has.{ring_has};
+ghost use Rattle.sj_minplus.specs.Has.{library_has};
+ghost use Rattle.sj_minplus.proofs.LibraryLaws.{library_commuting, library_contributing, library_reducing};
 
 use crate::runs::{run_fwcol, run_fwdiag, run_fwrow, run_init_least, run_lowest, run_mingemm};
 use sj_base::memory::OutOfMemory;
@@ -13,15 +15,21 @@ use sj_codelet::set::Codelets;
 use sj_kernels::ring::Ring;
 use std::alloc::Global;
 
-/// All codelets of the table: those of ring arithmetic and those of min-plus.
+/// All codelets of the table, with both reductions: those of ring arithmetic and those of min-plus.
 #[derive(Clone, Copy, Debug)]
 pub struct Library;
 
 impl Codelets for Library {
     ghost has = { library_has };
 
-    fn knows(&self, kernel: Kernel) -> bool {
-        Ring.knows(kernel) || is_of_least(kernel)
+    ghost commuting = { library_commuting };
+
+    ghost contributing = { library_contributing };
+
+    ghost reducing = { library_reducing };
+
+    fn knows(&self, _kernel: Kernel) -> bool {
+        true
     }
 
     fn run(
@@ -32,7 +40,7 @@ impl Codelets for Library {
         frame: &mut Frame,
     ) -> Result<(), OutOfMemory> {
         match Kernel::of(id) {
-            Some(kernel) if is_of_least(kernel) => {
+            Some(kernel) if !Ring.knows(kernel) => {
                 run_kernel(kernel, args, frame);
                 Ok(())
             }
@@ -41,24 +49,9 @@ impl Codelets for Library {
     }
 }
 
-/// Whether it is a codelet of min-plus.
-fn is_of_least(kernel: Kernel) -> bool
-    ensures { result ≡ least_has kernel }
-{
-    matches!(
-        kernel,
-        Kernel::Lowest
-            | Kernel::MinGemm
-            | Kernel::FwDiag
-            | Kernel::FwRow
-            | Kernel::FwCol
-            | Kernel::InitLeast
-    )
-}
-
 /// Runs a codelet of min-plus on a frame.
 fn run_kernel(kernel: Kernel, args: &[i64], frame: &mut Frame)
-    requires known { IsTrue (least_has kernel) }
+    requires known { IsTrue (not (ring_has kernel)) }
     requires ready { IsReadyOf kernel args.now frame.old.slots }
     ensures { IsRunOf kernel args.now frame.old frame.new }
 {
