@@ -1,13 +1,12 @@
 -- Arrays that a loop fills row by row.
-use Rattle.std.proofs.Common.{◌≡◌, ℕ, zero, suc, ◌+◌, ◌-◌, ◌*◌, ◌/◌, ◌%◌, ◌<◌, ◌≤◌, ℤ, pos, List, [], ◌∷◌, ◌++◌, map, length, get_or, set, drop, take, refl, sym, ap, ◌∙◌, ⊎_elim, arith}
+use Rattle.std.proofs.Common.{◌≡◌, ℕ, ◌+◌, ◌-◌, ◌*◌, ◌/◌, ◌%◌, ◌<◌, ◌≤◌, ℤ, pos, List, ◌++◌, length, get_or, drop, take, sym, ap, ◌∙◌, ⊎_elim, arith}
 use Rattle.std.specs.List.{between}
-use Rattle.std.proofs.lemmas.List.{length-append, length-drop, get_or_append_left, get_or-append_right, append_assoc, take_at, drop_at, drop-drop}
+use Rattle.std.proofs.lemmas.List.{length-append, get_or_append_left, get_or-append_right, append_assoc, take_at, drop_at, drop-drop}
 use Rattle.std.proofs.lemmas.List.Edits.{get_or-between, length-between}
 use Rattle.std.proofs.lemmas.Nat.{div-mul-add, mod-mul-add}
 use Rattle.std.proofs.lemmas.Bool.{cases_lt}
 use borrow.Rule.Slice.PartMut.{put_mid}
-use Rattle.sj_base.specs.declared.tile.Dims.{Dims}
-use Rattle.sj_base.specs.Array.{each, grid, at}
+use Rattle.sj_base.specs.Array.{grid}
 use Rattle.sj_codelet.specs.Equations.{matrix}
 use Rattle.sj_codelet.specs.Listing.{listing}
 use Rattle.sj_codelet.proofs.Filling.{begun, begun_none, begun_all, listing_from_elements, same_listing, length-listing, at-listing}

@@ -1,7 +1,6 @@
 -- The equation of each codelet: its new elements, from the elements before.
-use Rattle.std.specs.Prelude.{ℕ, zero, suc, ◌+◌, ◌-◌, ◌*◌, Bool, ◌&&◌, nat_le, nat_lt, ℤ, pos, ◌+ℤ◌, ◌-ℤ◌, ◌*ℤ◌, List, length, if◌then◌else◌}
+use Rattle.std.specs.Prelude.{ℕ, zero, suc, ◌+◌, ◌-◌, Bool, ◌&&◌, nat_le, nat_lt, ℤ, pos, ◌+ℤ◌, ◌-ℤ◌, ◌*ℤ◌, List, length, if◌then◌else◌}
 use Rattle.std.specs.Int.{int_min}
-use Rattle.std.specs.Int.RustNames.{unsigned_abs}
 use Rattle.sj_base.specs.declared.tile.Dims.{Dims}
 use Rattle.sj_base.specs.Array.{Array, array, area, at, element, each, grid}
 use Rattle.sj_codelet.specs.declared.window.Window.{Window}

@@ -1,5 +1,5 @@
 -- The laws of a set of codelets: which runs may change places, and what a reduction combines.
-use Rattle.std.specs.Prelude.{◌≡◌, ℕ, IsTrue, ℤ, List, [], ◌∷◌, ◌++◌, map, length, FitsSigned}
+use Rattle.std.specs.Prelude.{◌≡◌, IsTrue, ℤ, List, [], ◌∷◌, ◌++◌, map, length, FitsSigned}
 use Rattle.std.specs.Int.{w64}
 use Rattle.std.specs.List.{All}
 use Rattle.sj_base.specs.declared.mode.Reduction.{Reduction}

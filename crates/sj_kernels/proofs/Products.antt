@@ -1,5 +1,5 @@
 -- Rows of a matrix product.
-use Rattle.std.proofs.Common.{◌≡◌, ℕ, ◌+◌, ◌*◌, ◌/◌, ◌%◌, ◌<◌, ◌≤◌, ℤ, pos, ◌+ℤ◌, ◌*ℤ◌, List, length, get_or, replicate, w64, FitsSigned, refl, sym, ap, ◌∙◌, arith}
+use Rattle.std.proofs.Common.{◌≡◌, ℕ, ◌+◌, ◌*◌, ◌/◌, ◌%◌, ◌<◌, ℤ, pos, ◌+ℤ◌, ◌*ℤ◌, List, length, get_or, replicate, w64, FitsSigned, refl, sym, ap, ◌∙◌, arith}
 use Rattle.std.specs.List.{between}
 use Rattle.std.proofs.lemmas.Int.{ints, int_wrap_fits, int_wrap-add_left, int_wrap-add_right, int_wrap-mul_left}
 use Rattle.std.proofs.lemmas.Nat.{rows, mul-add-lt}
@@ -10,7 +10,7 @@ use Rattle.sj_codelet.specs.Listing.{listing}
 use Rattle.sj_codelet.proofs.Integers.{int_add-zero, int_zero-add}
 use Rattle.sj_codelet.proofs.Elements.{same_grid, element-grid, element-zeros}
 use Rattle.sj_codelet.proofs.Sums.{same_sum, same_sum_wrapped, sum_below_more}
-use Rattle.sj_codelet.proofs.Filling.{begun, same_listing, listing_from_elements, length-listing, at-listing}
+use Rattle.sj_codelet.proofs.Filling.{begun, same_listing, listing_from_elements, at-listing}
 use Rattle.sj_codelet.proofs.Rows.{at-row, at-row_begun, length-row, grid_at}
 use Rattle.sj_kernels.specs.Rows.{row_product}
 

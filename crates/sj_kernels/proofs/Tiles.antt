@@ -1,14 +1,14 @@
 -- What a kernel over slices makes of a whole tile.
-use Rattle.std.proofs.Common.{◌≡◌, ℕ, ◌+◌, ◌*◌, ◌<◌, ℤ, pos, ◌+ℤ◌, ◌*ℤ◌, List, [], ◌∷◌, ◌++◌, length, replicate, to_z, of_z, w64, FitsSigned, refl, sym, ap, ◌∙◌, arith}
+use Rattle.std.proofs.Common.{◌≡◌, ℕ, ℤ, ◌+ℤ◌, ◌*ℤ◌, List, [], ◌∷◌, ◌++◌, length, to_z, of_z, w64, FitsSigned, refl, sym, ap, ◌∙◌, arith}
 use Rattle.std.proofs.lemmas.List.{length-append}
 use Rattle.std.proofs.lemmas.Int.{to_z-of_z}
 use Rattle.sj_base.specs.declared.tile.Dims.{Dims}
 use Rattle.sj_base.specs.Array.{Array, array, area, at, each}
 use Rattle.sj_base.specs.Lending.{with_elements}
 use Rattle.sj_codelet.specs.declared.kernel.Kernel.TheVariants.{GemmThree}
-use Rattle.sj_codelet.specs.declared.formal.Formal.TheVariants.{R, W, RW, Scratch}
+use Rattle.sj_codelet.specs.declared.formal.Formal.TheVariants.{R, RW, Scratch}
 use Rattle.sj_codelet.specs.Ring.{wrap, sum_below}
-use Rattle.sj_codelet.specs.Frame.{Slot, Frame, own, arrays, all_dims, AreReady, written, AllKeep}
+use Rattle.sj_codelet.specs.Frame.{Slot, Frame, own, arrays, all_dims, written, AllKeep}
 use Rattle.sj_codelet.specs.Kernel.{new_arrays, operand, dims_at}
 use Rattle.sj_codelet.specs.Runs.{IsReadyOf, IsRunOf}
 use Rattle.sj_codelet.specs.Equations.{vector, matrix, axpy, dot, gemm3, loadfill}

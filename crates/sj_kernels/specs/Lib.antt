@@ -1,2 +1,3 @@
 pub mod Has
 pub mod Rows
+pub mod RingLaws

@@ -6,4 +6,4 @@ pub mod placement;
 pub mod product;
 pub mod reduction;
 pub mod ring;
-pub mod runs;
+mod runs;

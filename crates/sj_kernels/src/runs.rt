@@ -187,3 +187,15 @@ pub fn run_paste(args: &[i64], frame: &mut Frame)
     );
     frame.push_own(new);
 }
+
+/// The tile is read, and nothing is written.
+pub fn run_deliver(_args: &[i64], _frame: &mut Frame)
+    requires { IsReadyOf Kernel.Deliver _args.now _frame.old.slots }
+    ensures { IsRunOf Kernel.Deliver _args.now _frame.old _frame.new }
+{}
+
+/// The operand holds zeros already.
+pub fn run_init_plus(_args: &[i64], _frame: &mut Frame)
+    requires { IsReadyOf Kernel.InitPlus _args.now _frame.old.slots }
+    ensures { IsRunOf Kernel.InitPlus _args.now _frame.old _frame.new }
+{}

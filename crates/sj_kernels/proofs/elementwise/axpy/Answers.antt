@@ -1,4 +1,4 @@
-use Rattle.std.proofs.Common.{ℤ, ap, ◌∙◌, arith, rules, w64}
+use Rattle.std.proofs.Common.{ℤ, ap, ◌∙◌, rules, w64}
 use Rattle.std.proofs.lemmas.Int.{wraps, to_z-of_z, wrapping_add-bits}
 use Rattle.sj_codelet.specs.Equations.{vector, axpy}
 use Rattle.sj_codelet.proofs.Filling.{begun_none, begun_step, each_from_begun}

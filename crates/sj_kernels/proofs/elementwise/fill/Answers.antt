@@ -1,5 +1,5 @@
-use Rattle.std.proofs.Common.{◌≡◌, ℕ, ◌+◌, ℤ, pos, FitsSigned, ◌+ℤ◌, ◌*ℤ◌, w64, sym, ap, ◌∙◌, arith, rules, to_z, of_z}
-use Rattle.std.proofs.lemmas.Int.{wraps, to_z-of_z, int_wrap_fits, int_wrap-add_left, wrapping_add-bits}
+use Rattle.std.proofs.Common.{◌≡◌, ℕ, ◌+◌, ℤ, pos, FitsSigned, ◌+ℤ◌, ◌*ℤ◌, w64, sym, ap, ◌∙◌, rules, to_z, of_z}
+use Rattle.std.proofs.lemmas.Int.{wraps, to_z-of_z, int_wrap_fits, int_wrap-add_left}
 use Rattle.sj_codelet.specs.Ring.{wrap}
 use Rattle.sj_codelet.specs.Equations.{vector, fill}
 use Rattle.sj_codelet.proofs.Integers.{int_linear_more, int_mul-zero, int_add-zero}

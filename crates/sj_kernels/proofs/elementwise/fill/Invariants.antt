@@ -1,5 +1,4 @@
-use Rattle.std.proofs.Common.{◌≡◌, pos, ◌+ℤ◌, ◌-ℤ◌, ◌*ℤ◌}
-use Rattle.sj_base.specs.Array.{at}
+use Rattle.std.proofs.Common.{◌≡◌, pos, ◌+ℤ◌, ◌*ℤ◌}
 use Rattle.sj_codelet.specs.Ring.{wrap}
 use Rattle.sj_codelet.proofs.Filling.{begun}
 use Rattle.sj_kernels.proofs.elementwise.fill.Given as goal

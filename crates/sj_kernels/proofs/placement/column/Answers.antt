@@ -1,4 +1,4 @@
-use Rattle.std.proofs.Common.{rules, refl}
+use Rattle.std.proofs.Common.{rules}
 use Rattle.sj_codelet.proofs.Filling.{begun_none, begun_step, listing_from_begun}
 use Rattle.sj_kernels.proofs.placement.column.Goals as goal
 

@@ -1,10 +1,10 @@
-use Rattle.std.proofs.Common.{ℕ, ℤ, ◌+◌, ◌*◌, pos, ◌+ℤ◌, ◌*ℤ◌, length, to_z, of_z, w64, refl, ap, ◌∙◌, arith}
+use Rattle.std.proofs.Common.{ℕ, ℤ, ◌+◌, ◌*◌, pos, ◌+ℤ◌, ◌*ℤ◌, length, to_z, of_z, w64, ap, ◌∙◌, arith}
 use Rattle.std.specs.List.{between}
 use Rattle.std.proofs.lemmas.Int.{to_z-of_z}
 use Rattle.std.proofs.lemmas.Nat.{rows}
-use Rattle.sj_base.specs.Array.{Array, array}
+use Rattle.sj_base.specs.Array.{array}
 use Rattle.sj_codelet.specs.Ring.{wrap}
-use Rattle.sj_codelet.specs.Equations.{vector, fill, loadfill}
+use Rattle.sj_codelet.specs.Equations.{loadfill}
 use Rattle.sj_codelet.proofs.Filling.{each_listing}
 use Rattle.sj_codelet.proofs.Rows.{begun_no_row, begun_row, row_from_listing, length-row, grid_from_begun}
 use Rattle.sj_kernels.proofs.Places.{along_row, passed_start}

@@ -1,4 +1,4 @@
-use Rattle.std.proofs.Common.{ℕ, ℤ, ◌+◌, ◌*◌, length, refl, arith}
+use Rattle.std.proofs.Common.{ℕ, ◌+◌, ◌*◌, length, refl, arith}
 use Rattle.std.specs.List.{between}
 use Rattle.std.proofs.lemmas.Nat.{rows}
 use Rattle.std.proofs.Math.Nat.{mul_comm}

@@ -1,4 +1,4 @@
-use Rattle.std.proofs.Common.{◌≡◌, ◌*ℤ◌, pos, get_or, length, ◌∙◌, arith, rules}
+use Rattle.std.proofs.Common.{pos, get_or, length, ◌∙◌, arith, rules}
 use Rattle.std.proofs.lemmas.Int.{wraps}
 use Rattle.sj_base.specs.Array.{at, area}
 use Rattle.sj_codelet.specs.Equations.{vector}

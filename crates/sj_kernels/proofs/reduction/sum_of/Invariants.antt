@@ -1,4 +1,4 @@
-use Rattle.std.proofs.Common.{◌≡◌, ◌*ℤ◌}
+use Rattle.std.proofs.Common.{◌≡◌}
 use Rattle.sj_base.specs.Array.{at}
 use Rattle.sj_codelet.specs.Ring.{wrap, sum_below}
 use Rattle.sj_kernels.proofs.reduction.sum_of.Given as goal

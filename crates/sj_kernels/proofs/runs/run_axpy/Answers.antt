@@ -1,14 +1,12 @@
-use Rattle.std.proofs.Common.{ℕ, ◌+◌, ◌<◌, ◌≡◌, ℤ, pos, List, [], ◌∷◌, ◌++◌, length, get_or, to_z, of_z, w64, FitsSigned, refl, sym, ap, ◌∙◌, arith, rules}
+use Rattle.std.proofs.Common.{◌≡◌, pos, [], ◌∷◌, length, get_or, to_z, of_z, w64, FitsSigned, refl, sym, ap, ◌∙◌, arith, rules}
 use Rattle.std.proofs.lemmas.List.{length-append}
 use Rattle.std.proofs.lemmas.Int.{to_z-of_z}
-use Rattle.sj_base.specs.Array.{Array, array, at, area, zeros}
+use Rattle.sj_base.specs.Array.{Array, at}
 use Rattle.sj_codelet.specs.declared.kernel.Kernel.TheVariants.{Axpy}
-use Rattle.sj_codelet.specs.declared.formal.Formal.TheVariants.{R, W, RW, Scratch}
-use Rattle.sj_codelet.specs.Frame.{Slot, own, arrays, all_dims}
-use Rattle.sj_codelet.specs.Kernel.{operand, dims_at}
+use Rattle.sj_codelet.specs.Frame.{own, arrays}
+use Rattle.sj_codelet.specs.Kernel.{operand}
 use Rattle.sj_codelet.specs.Equations.{axpy}
-use Rattle.sj_codelet.proofs.Operands.{ran, operands_are, tile_is, last_is, arguments_go}
-use Rattle.std.proofs.lemmas.Bool.Decides.{nat_tests}
+use Rattle.sj_codelet.proofs.Operands.{ran, operands_are, tile_is, last_is}
 use Rattle.sj_kernels.proofs.Tiles.{axpy_on_tiles}
 use Rattle.sj_kernels.proofs.runs.run_axpy.Goals as goal
 
@@ -26,5 +24,5 @@ returns c =
     let fits : FitsSigned w64 (get_or args 0 (pos 0)) = search rules in
     ran Axpy args c.args.frame.now c.push_own.new.self before y _ refl c.requires e c.push_own.ensures.slots (omega arith) refl
     (sym (ap (λ (a : Array). a ∷ []) (
-      axpy_on_tiles (to_z w64 (of_z w64 (at args 0))) (at args 0) c.tile.result.now y c.elements.result.now c.elements_mut.result.now c.axpy.new.y c.elements.ensures.elements c.elements_mut.ensures.elements c.take_own-y.ensures.whole (to_z-of_z w64 (at args 0) fits) c.axpy.ensures
-      ∙ ap (λ (a : Array). axpy (at args 0) a y) x ∙ ap (λ (a : Array). axpy (at args 0) (operand (arrays slots) 0) a) (sym z))))
+    axpy_on_tiles (to_z w64 (of_z w64 (at args 0))) (at args 0) c.tile.result.now y c.elements.result.now c.elements_mut.result.now c.axpy.new.y c.elements.ensures.elements c.elements_mut.ensures.elements c.take_own-y.ensures.whole (to_z-of_z w64 (at args 0) fits) c.axpy.ensures
+    ∙ ap (λ (a : Array). axpy (at args 0) a y) x ∙ ap (λ (a : Array). axpy (at args 0) (operand (arrays slots) 0) a) (sym z))))

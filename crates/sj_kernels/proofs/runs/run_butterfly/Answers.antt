@@ -1,14 +1,9 @@
-use Rattle.std.proofs.Common.{ℕ, ◌+◌, ◌<◌, ◌≡◌, ℤ, pos, List, [], ◌∷◌, ◌++◌, length, get_or, to_z, of_z, w64, FitsSigned, refl, sym, ap, ◌∙◌, arith, rules}
+use Rattle.std.proofs.Common.{◌≡◌, [], ◌∷◌, length, refl, ap, arith}
 use Rattle.std.proofs.lemmas.List.{length-append}
-use Rattle.std.proofs.lemmas.Int.{to_z-of_z}
-use Rattle.sj_base.specs.Array.{Array, array, at, area, zeros}
 use Rattle.sj_codelet.specs.declared.kernel.Kernel.TheVariants.{Butterfly}
-use Rattle.sj_codelet.specs.declared.formal.Formal.TheVariants.{R, W, RW, Scratch}
-use Rattle.sj_codelet.specs.Frame.{Slot, own, arrays, all_dims}
-use Rattle.sj_codelet.specs.Kernel.{operand, dims_at}
-use Rattle.sj_codelet.specs.Equations.{add}
+use Rattle.sj_codelet.specs.declared.formal.Formal.TheVariants.{RW}
+use Rattle.sj_codelet.specs.Frame.{own}
 use Rattle.sj_codelet.proofs.Operands.{operands_are, ready_before, ends_owned_from_ready}
-use Rattle.sj_codelet.specs.Frame.{AreReady}
 use Rattle.sj_kernels.proofs.runs.run_butterfly.Goals as goal
 
 pub take_own-x-requires : goal.take_own-x-requires

@@ -1,8 +1,8 @@
-use Rattle.std.proofs.Common.{ℕ, ◌+◌, ◌<◌, ◌≡◌, List, [], ◌∷◌, length, refl, sym, ap, ◌∙◌, arith}
+use Rattle.std.proofs.Common.{◌≡◌, [], ◌∷◌, length, refl, sym, ap, ◌∙◌, arith}
 use Rattle.std.proofs.lemmas.List.{length-append}
 use Rattle.sj_base.specs.Array.{Array}
 use Rattle.sj_codelet.specs.declared.kernel.Kernel.TheVariants.{Dot}
-use Rattle.sj_codelet.specs.Frame.{Slot, own, arrays}
+use Rattle.sj_codelet.specs.Frame.{own, arrays}
 use Rattle.sj_codelet.specs.Kernel.{operand}
 use Rattle.sj_codelet.specs.Equations.{dot}
 use Rattle.sj_codelet.proofs.Operands.{ran, operands_are, tile_is, last_is}
@@ -22,6 +22,6 @@ returns c =
     let z = last_is slots before (own s) 2 e l in
     ran Dot c.args._args.now c.args.frame.now c.push_own.new.self before s _ refl c.requires e c.push_own.ensures.slots (omega arith) refl
     (sym (ap (λ (a : Array). a ∷ []) (
-      dot_on_tiles c.tile.result.now c.tile-2.result.now s c.elements.result.now c.elements-2.result.now c.elements_mut.result.now c.dot.new.s
-      c.elements.ensures.elements c.elements-2.ensures.elements c.elements_mut.ensures.elements c.elements.ensures.whole c.take_own-s.ensures.whole c.dot.ensures
-      ∙ ap (λ (a : Array). dot a c.tile-2.result.now s) x ∙ ap (λ (a : Array). dot (operand (arrays slots) 0) a s) y ∙ ap (λ (a : Array). dot (operand (arrays slots) 0) (operand (arrays slots) 1) a) (sym z))))
+    dot_on_tiles c.tile.result.now c.tile-2.result.now s c.elements.result.now c.elements-2.result.now c.elements_mut.result.now c.dot.new.s
+    c.elements.ensures.elements c.elements-2.ensures.elements c.elements_mut.ensures.elements c.elements.ensures.whole c.take_own-s.ensures.whole c.dot.ensures
+    ∙ ap (λ (a : Array). dot a c.tile-2.result.now s) x ∙ ap (λ (a : Array). dot (operand (arrays slots) 0) a s) y ∙ ap (λ (a : Array). dot (operand (arrays slots) 0) (operand (arrays slots) 1) a) (sym z))))

@@ -1,13 +1,12 @@
-use Rattle.std.proofs.Common.{ℕ, ◌+◌, ◌*◌, ◌<◌, ◌≡◌, ℤ, pos, List, [], ◌∷◌, ◌++◌, length, get_or, replicate, to_z, of_z, w64, FitsSigned, refl, sym, ap, ◌∙◌, arith, rules}
+use Rattle.std.proofs.Common.{ℕ, ◌*◌, ◌<◌, ◌≡◌, pos, List, [], ◌∷◌, ◌++◌, length, get_or, replicate, refl, sym, ap, ◌∙◌, arith}
 use Rattle.std.proofs.lemmas.List.{length-append, append_assoc, get_or_append_left}
 use Rattle.sj_base.specs.Lending.{with_elements}
-use Rattle.std.proofs.lemmas.Int.{to_z-of_z}
 use Rattle.sj_base.specs.declared.tile.Dims.{Dims}
-use Rattle.sj_base.specs.Array.{Array, array, at, area, zeros}
+use Rattle.sj_base.specs.Array.{Array}
 use Rattle.sj_codelet.specs.declared.kernel.Kernel.TheVariants.{GemmThree}
-use Rattle.sj_codelet.specs.declared.formal.Formal.TheVariants.{R, W, RW, Scratch}
-use Rattle.sj_codelet.specs.Frame.{Slot, own, arrays, all_dims, AreReady}
-use Rattle.sj_codelet.specs.Kernel.{operand, dims_at}
+use Rattle.sj_codelet.specs.declared.formal.Formal.TheVariants.{R, RW, Scratch}
+use Rattle.sj_codelet.specs.Frame.{Slot, own, arrays}
+use Rattle.sj_codelet.specs.Kernel.{operand}
 use Rattle.sj_codelet.specs.Equations.{gemm3}
 use Rattle.sj_codelet.proofs.Operands.{operands_are, ready_before, ready_at, ends_owned_from_ready, tile_is, last_is, operand_shift}
 use Rattle.sj_kernels.proofs.Tiles.{gemm3_on_tiles, gemm3_dims, ran_with_scratch}
@@ -83,11 +82,11 @@ returns c =
     let last = ap (λ (a : Array). a.dims.cols) ed ∙ d.2 ∙ ap (λ (a : Array). a.dims.cols) ey in
     ran_with_scratch args c.args.frame.now c.push_own-2.new.self front t _ y _ c.requires whole (c.push_own-2.ensures.slots ∙ ap (λ (xs : List Slot). xs ++ own (with_elements y c.gemm3.new.c) ∷ []) c.push_own.ensures.slots) (omega arith) refl refl
     (sym (ap (λ (a : Array). a ∷ []) (
-      gemm3_on_tiles c.dims-dims.result.rows c.dims.result.cols c.dims-2.result.cols c.dims-dims.result.cols c.tile-a.result.now c.tile-b.result.now c.tile-d.result.now y
-      c.elements.result.now c.elements-2.result.now c.elements-3.result.now c.elements_mut-2.result.now c.gemm3.new.c
-      c.elements.ensures.elements c.elements-2.ensures.elements c.elements-3.ensures.elements c.elements_mut-2.ensures.elements
-      rows inner middle cols last c.take_own-c.ensures.whole c.gemm3.ensures
-      ∙ ap (λ (a : Array). gemm3 a c.tile-b.result.now c.tile-d.result.now y) ea
-      ∙ ap (λ (a : Array). gemm3 (operand (arrays slots) 0) a c.tile-d.result.now y) eb
-      ∙ ap (λ (a : Array). gemm3 (operand (arrays slots) 0) (operand (arrays slots) 1) a y) ed
-      ∙ ap (λ (a : Array). gemm3 (operand (arrays slots) 0) (operand (arrays slots) 1) (operand (arrays slots) 2) a) (sym ey))))
+    gemm3_on_tiles c.dims-dims.result.rows c.dims.result.cols c.dims-2.result.cols c.dims-dims.result.cols c.tile-a.result.now c.tile-b.result.now c.tile-d.result.now y
+    c.elements.result.now c.elements-2.result.now c.elements-3.result.now c.elements_mut-2.result.now c.gemm3.new.c
+    c.elements.ensures.elements c.elements-2.ensures.elements c.elements-3.ensures.elements c.elements_mut-2.ensures.elements
+    rows inner middle cols last c.take_own-c.ensures.whole c.gemm3.ensures
+    ∙ ap (λ (a : Array). gemm3 a c.tile-b.result.now c.tile-d.result.now y) ea
+    ∙ ap (λ (a : Array). gemm3 (operand (arrays slots) 0) a c.tile-d.result.now y) eb
+    ∙ ap (λ (a : Array). gemm3 (operand (arrays slots) 0) (operand (arrays slots) 1) a y) ed
+    ∙ ap (λ (a : Array). gemm3 (operand (arrays slots) 0) (operand (arrays slots) 1) (operand (arrays slots) 2) a) (sym ey))))

@@ -1,16 +1,10 @@
-use Rattle.std.proofs.Common.{ℕ, ◌+◌, ◌*◌, ◌<◌, ◌≡◌, ℤ, pos, List, [], ◌∷◌, ◌++◌, length, get_or, replicate, to_z, of_z, w64, FitsSigned, refl, sym, ap, ◌∙◌, arith, rules}
-use Rattle.std.proofs.lemmas.List.{length-append, append_assoc}
-use Rattle.std.proofs.lemmas.Int.{to_z-of_z}
-use Rattle.sj_base.specs.declared.tile.Dims.{Dims}
-use Rattle.sj_base.specs.Array.{Array, array, at, area, zeros}
+use Rattle.std.proofs.Common.{◌≡◌, pos, [], ◌∷◌, length, get_or, w64, FitsSigned, refl, sym, ap, ◌∙◌, arith, rules}
+use Rattle.std.proofs.lemmas.List.{length-append}
+use Rattle.sj_base.specs.Array.{Array, at}
 use Rattle.sj_codelet.specs.declared.kernel.Kernel.TheVariants.{LoadFill}
-use Rattle.sj_codelet.specs.declared.formal.Formal.TheVariants.{R, W, RW, Scratch}
-use Rattle.sj_codelet.specs.Frame.{Slot, own, arrays, all_dims, AreReady}
-use Rattle.sj_codelet.specs.Kernel.{operand, dims_at}
+use Rattle.sj_codelet.specs.Frame.{own}
 use Rattle.sj_codelet.specs.Equations.{loadfill}
-use Rattle.sj_codelet.proofs.Operands.{ran, with_all, last_is, operands_are}
-use Rattle.sj_base.specs.Lending.{with_elements}
-use Rattle.std.proofs.lemmas.List.FromFn.{length-map-range_with_len}
+use Rattle.sj_codelet.proofs.Operands.{ran, last_is, operands_are}
 use Rattle.sj_kernels.proofs.Tiles.{loadfill_on_tile}
 use Rattle.sj_kernels.proofs.runs.run_loadfill.Goals as goal
 
@@ -31,5 +25,5 @@ returns c =
     let f4 : FitsSigned w64 (get_or args 4 (pos 0)) = search rules in
     ran LoadFill args c.args.frame.now c.push_own.new.self before x _ refl c.requires e c.push_own.ensures.slots (omega arith) refl
     (sym (ap (λ (a : Array). a ∷ []) (
-      loadfill_on_tile args x c.elements_mut.result.now c.loadfill.new.x c.dims-dims.result c.elements_mut.ensures.elements c.dims-dims.ensures.dims c.take_own-x.ensures.whole f0 f1 f2 f3 f4 c.loadfill.ensures
-      ∙ ap (λ (a : Array). loadfill (at args 0) (at args 1) (at args 2) (at args 3) (at args 4) a) (sym z))))
+    loadfill_on_tile args x c.elements_mut.result.now c.loadfill.new.x c.dims-dims.result c.elements_mut.ensures.elements c.dims-dims.ensures.dims c.take_own-x.ensures.whole f0 f1 f2 f3 f4 c.loadfill.ensures
+    ∙ ap (λ (a : Array). loadfill (at args 0) (at args 1) (at args 2) (at args 3) (at args 4) a) (sym z))))
