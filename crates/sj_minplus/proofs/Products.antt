@@ -4,11 +4,6 @@ use Rattle.std.specs.Int.{int_min}
 use Rattle.sj_base.specs.Array.{Array, element}
 use Rattle.sj_codelet.specs.MinPlus.{plus, least_below}
 
--- an element of the min-plus product, and of c
-abbrev pub least_entry : Array → Array → Array → ℕ → ℕ → ℤ
-least_entry a b c i j =
-    least_below a.dims.cols (element c i j) (λ l. plus (element a i l) (element b l j))
-
 pub least_below_more : (n : ℕ) (z : ℤ) (f : ℕ → ℤ) → least_below (n + 1) z f ≡ int_min (least_below n z f) (f n)
 least_below_more n z f = ap (λ m. least_below m z f) (add-one n)
 

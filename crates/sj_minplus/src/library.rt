@@ -4,7 +4,7 @@ ghost use Rattle.std.specs.Prelude.{◌≡◌, IsTrue, not};
 ghost use Rattle.sj_codelet.specs.Runs.{IsReadyOf, IsRunOf};
 ghost use Rattle.sj_kernels.specs.Has.{ring_has};
 ghost use Rattle.sj_minplus.specs.Has.{library_has};
-ghost use Rattle.sj_minplus.proofs.LibraryLaws.{library_commuting, library_contributing, library_reducing};
+ghost use Rattle.sj_minplus.specs.LibraryLaws.{library_commuting, library_contributing, library_reducing};
 
 use crate::runs::{run_fwcol, run_fwdiag, run_fwrow, run_init_least, run_lowest, run_mingemm};
 use sj_base::memory::OutOfMemory;

@@ -1,5 +1,4 @@
-use Rattle.sj_minplus.specs.Matrix.{matrix}
-use Rattle.sj_minplus.proofs.Products.{least_entry}
+use Rattle.sj_minplus.specs.Matrix.{matrix, least_entry}
 use Rattle.sj_minplus.proofs.Matrices.{HasRows}
 use Rattle.sj_minplus.proofs.product.mingemm.Given as goal
 

@@ -9,7 +9,7 @@ use Rattle.sj_base.specs.declared.tile.Dims.{Dims}
 use Rattle.sj_base.specs.Array.{Array, array, area, at, element, each, grid}
 use Rattle.sj_codelet.specs.MinPlus.{inf, plus, least_below}
 use Rattle.sj_codelet.specs.Equations.{lowest, mingemm, all_inf}
-use Rattle.sj_minplus.proofs.Products.{least_entry}
+use Rattle.sj_minplus.specs.Matrix.{least_entry}
 
 -- ---- numbers
 
