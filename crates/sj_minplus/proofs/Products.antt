@@ -1,8 +1,7 @@
 -- The least of a number and the first values of a function.
 use Rattle.std.proofs.Common.{◌≡◌, ℕ, zero, suc, ◌+◌, ◌<◌, ◌∙◌, ℤ, add-one, ap, arith, refl}
 use Rattle.std.specs.Int.{int_min}
-use Rattle.sj_base.specs.Array.{Array, element}
-use Rattle.sj_codelet.specs.MinPlus.{plus, least_below}
+use Rattle.sj_codelet.specs.MinPlus.{least_below}
 
 pub least_below_more : (n : ℕ) (z : ℤ) (f : ℕ → ℤ) → least_below (n + 1) z f ≡ int_min (least_below n z f) (f n)
 least_below_more n z f = ap (λ m. least_below m z f) (add-one n)

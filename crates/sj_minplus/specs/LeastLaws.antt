@@ -1,16 +1,14 @@
 -- Why the codelets of `least` meet the laws of a set.
-use Rattle.std.proofs.Common.{◌≡◌, ℕ, ◌+◌, ◌<◌, ◌≤ℤ◌, Bool, ◌&&◌, IsTrue, List, [], ◌∷◌, ◌++◌, ℤ, pos, negsuc, map, length, sym, arith, FitsSigned}
+use Rattle.std.proofs.Common.{◌≡◌, ◌+◌, ◌≤ℤ◌, List, [], ◌∷◌, ◌++◌, ℤ, pos, negsuc, length, sym, arith, FitsSigned}
 use Rattle.std.specs.Int.{w64}
 use Rattle.std.proofs.lemmas.Int.{ints}
 use Rattle.std.proofs.lemmas.List.{length-map, length-append}
 use Rattle.std.proofs.lemmas.Bool.Decides.{nat_tests}
-use Rattle.sj_base.specs.declared.mode.Reduction.{Reduction}
-use Rattle.sj_base.specs.declared.mode.Reduction.TheVariants.{Plus, Least}
-use Rattle.sj_base.specs.Array.{Array, area, at}
+use Rattle.sj_base.specs.declared.mode.Reduction.TheVariants.{Least}
+use Rattle.sj_base.specs.Array.{Array, at}
 use Rattle.sj_codelet.specs.declared.kernel.Kernel.{Kernel}
 use Rattle.sj_codelet.specs.declared.kernel.Kernel.TheVariants.{Lowest, MinGemm}
 use Rattle.sj_codelet.specs.MinPlus.{inf}
-use Rattle.sj_codelet.specs.Equations.{lowest, mingemm, all_inf}
 use Rattle.sj_codelet.specs.Kernel.{formals_of}
 use Rattle.sj_codelet.specs.Laws.{IsTile, IsCall, result_of, unit_of, combined, DoCommute, DoesContribute, IsReduction}
 use Rattle.sj_minplus.specs.LeastArrays.{IsBelowInf, lowest_comm, lowest_assoc, lowest_unit, lowest_swap, lowest_contributes, mingemm_swap, mingemm_contributes}

@@ -1,5 +1,5 @@
 -- Why the whole library meets the laws of a set: the ring's codelets do, and those of `least`.
-use Rattle.std.specs.Prelude.{Bool, ◌&&◌, IsTrue}
+use Rattle.std.specs.Prelude.{◌&&◌, IsTrue}
 use Rattle.sj_base.specs.declared.mode.Reduction.{Reduction}
 use Rattle.sj_base.specs.declared.mode.Reduction.TheVariants.{Plus, Least}
 use Rattle.sj_codelet.specs.declared.kernel.Kernel.{Kernel}

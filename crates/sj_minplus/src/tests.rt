@@ -1,9 +1,20 @@
 //! Worked examples, by hand.
 
+ghost use Rattle.std.specs.Prelude.{◌≡◌};
+
 use crate::least::{init_least, lowest};
+use crate::library::Library;
 use crate::product::mingemm;
 use crate::sum::{INF, plus};
 use crate::ways::{fwcol, fwdiag, fwrow};
+use sj_base::memory::OutOfMemory;
+use sj_base::mode::Reduction;
+use sj_base::tile::{Dims, Tile};
+use sj_codelet::frame::Frame;
+use sj_codelet::kernel::{ADD, FWDIAG, INIT_LEAST, LOWEST, MINGEMM, SUM};
+use sj_codelet::set::Codelets;
+use std::alloc::Global;
+use std::sync::Arc;
 
 const TOP: i64 = i64::MAX - 1;
 
@@ -109,4 +120,46 @@ fn blocks_with_negative_ways_back_are_as_from_copies(rt: HostRuntime) {
         fwdiag(&mut a, 3);
         assert_eq!(rt; a, from_copies(block));
     }
+}
+
+/// The min-plus product of a row and a column, as the library runs it on a task's frame.
+fn product_on_a_frame(alloc: Global, a: Tile, b: Tile, c: Tile) -> Result<Tile, OutOfMemory>
+    requires a { a.dims ≡ record { rows = 1; cols = 2 } }
+    requires b { b.dims ≡ record { rows = 2; cols = 1 } }
+    requires c { c.dims ≡ record { rows = 1; cols = 1 } }
+{
+    let mut frame = Frame::with_room(alloc, 3)?;
+    frame.push_shared(Arc::new(alloc, a)?);
+    frame.push_shared(Arc::new(alloc, b)?);
+    frame.push_own(c);
+    Library.run(alloc, MINGEMM, &[], &mut frame)?;
+    Ok(frame.take_own())
+}
+
+#[test]
+fn the_library_runs_a_product_on_a_frame(rt: HostRuntime) -> Result<(), OutOfMemory> {
+    let alloc = rt.alloc();
+    let a = Tile::of(
+        Dims { rows: 1, cols: 2 },
+        vec![in alloc; INF, 9223372036854775800]?,
+    );
+    let b = Tile::of(Dims { rows: 2, cols: 1 }, vec![in alloc; 5i64, 100]?);
+    let c = Tile::of(Dims { rows: 1, cols: 1 }, vec![in alloc; INF]?);
+    let c = product_on_a_frame(alloc, a, b, c)?;
+    assert_eq!(rt; c.elements(), [9223372036854775806i64].as_slice());
+    Ok(())
+}
+
+#[test]
+fn the_library_knows_both_reductions(rt: HostRuntime) {
+    assert!(rt; Library.has(Reduction::Plus) && Library.has(Reduction::Least));
+    assert!(rt; Library.combine(Reduction::Least) == LOWEST);
+    assert!(rt; Library.init(Reduction::Least) == INIT_LEAST);
+    assert!(rt; Library.commutes(MINGEMM) && !Library.commutes(FWDIAG));
+    assert!(rt; Library.contributes(MINGEMM, Reduction::Least));
+    assert!(rt; !Library.contributes(MINGEMM, Reduction::Plus));
+    assert!(rt; Library.contributes(SUM, Reduction::Plus));
+    assert!(rt; !Library.contributes(ADD, Reduction::Least));
+    assert!(rt; Library.named(b"mingemm") == Some(MINGEMM));
+    assert!(rt; Library.named(b"init_least").is_none());
 }
