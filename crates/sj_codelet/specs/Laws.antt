@@ -1,11 +1,11 @@
 -- The laws of a set of codelets: which runs may change places, and what a reduction combines.
-use Rattle.std.specs.Prelude.{◌≡◌, IsTrue, ℤ, List, [], ◌∷◌, ◌++◌, map, length, FitsSigned}
+use Rattle.std.specs.Prelude.{◌≡◌, Bool, ◌&&◌, IsTrue, ℤ, List, [], ◌∷◌, ◌++◌, map, length, FitsSigned}
 use Rattle.std.specs.Int.{w64}
 use Rattle.std.specs.List.{All}
 use Rattle.sj_base.specs.declared.mode.Reduction.{Reduction}
 use Rattle.sj_base.specs.Array.{Array, area}
 use Rattle.sj_codelet.specs.declared.kernel.Kernel.{Kernel}
-use Rattle.sj_codelet.specs.Kernel.{fits, operand, new_arrays, init_of, combine_of}
+use Rattle.sj_codelet.specs.Kernel.{fits, operand, new_arrays, init_of, combine_of, commutes_of, contributes_of, has_reduction}
 
 -- an array as a tile holds it: as many elements as its dimensions say, each an i64
 pub record IsTile (a : Array) : Type 0 where
@@ -42,3 +42,14 @@ pub record IsReduction (by : Reduction) : Type 0 where
   pub associative : (u v w : Array) → IsTile u → IsTile v → IsTile w → u.dims ≡ v.dims → v.dims ≡ w.dims → combined by (combined by u v) w ≡ combined by u (combined by v w)
   pub commutative : (u v : Array) → IsTile u → IsTile v → u.dims ≡ v.dims → combined by u v ≡ combined by v u
   pub unit : (v : Array) → IsTile v → combined by (unit_of by v) v ≡ v
+
+-- the laws of a set that has these codelets
+abbrev pub CommutingCommute : (Kernel → Bool) → Type 0
+CommutingCommute has = (k : Kernel) → IsTrue (has k && commutes_of k) → DoCommute k
+
+abbrev pub ContributingContribute : (Kernel → Bool) → Type 0
+ContributingContribute has =
+    (k : Kernel) (by : Reduction) → IsTrue (has k && contributes_of k by && has_reduction has by) → DoesContribute k by
+
+abbrev pub ReductionsReduce : (Kernel → Bool) → Type 0
+ReductionsReduce has = (by : Reduction) → IsTrue (has_reduction has by) → IsReduction by

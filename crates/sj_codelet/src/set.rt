@@ -2,10 +2,10 @@
 
 ghost use Rattle.std.specs.Prelude.{◌≡◌, ◌&&◌, Bool, IsTrue, OnOk, IfOk, find, option_map};
 ghost use Rattle.sj_codelet.specs.declared.kernel.Kernel.{Kernel};
-ghost use Rattle.sj_codelet.specs.Kernel.{kernels, codelet_of, has_name, named_in, name_in, fits_in, commutes_of, contributes_of, has_reduction, commutes_in, contributes_in, init_of, combine_of};
+ghost use Rattle.sj_codelet.specs.Kernel.{kernels, codelet_of, has_name, named_in, name_in, fits_in, has_reduction, commutes_in, contributes_in, init_of, combine_of};
 ghost use Rattle.sj_codelet.specs.Frame.{all_dims};
 ghost use Rattle.sj_base.specs.declared.mode.Reduction.{Reduction};
-ghost use Rattle.sj_codelet.specs.Laws.{DoCommute, DoesContribute, IsReduction};
+ghost use Rattle.sj_codelet.specs.Laws.{CommutingCommute, ContributingContribute, ReductionsReduce};
 ghost use Rattle.sj_codelet.specs.Runs.{shape_in, IsReadyFor, IsRun};
 
 use crate::formal::Shape;
@@ -40,13 +40,13 @@ pub trait Codelets: Sync {
         ensures { OnOk result (IsRun id args.now frame.old frame.new) };
 
     /// Two runs of a commuting codelet on one array give the same in either order.
-    ghost commuting: { (kernel : Kernel) → IsTrue (has kernel && commutes_of kernel) → DoCommute kernel };
+    ghost commuting: { CommutingCommute has };
 
     /// A run of a contributing codelet gives what combining gives with a run on the unit.
-    ghost contributing: { (kernel : Kernel) (by : Reduction) → IsTrue (has kernel && contributes_of kernel by && has_reduction has by) → DoesContribute kernel by };
+    ghost contributing: { ContributingContribute has };
 
     /// Combining is associative and commutative, and init gives its unit.
-    ghost reducing: { (by : Reduction) → IsTrue (has_reduction has by) → IsReduction by };
+    ghost reducing: { ReductionsReduce has };
 
     /// The codelet that a job calls by this name, or `None` where the set has none. Linear in the table.
     final fn named(&self, name: &[u8]) -> Option<Codelet>

@@ -7,3 +7,5 @@ pub mod product;
 pub mod reduction;
 pub mod ring;
 mod runs;
+#[cfg(test)]
+mod tests;

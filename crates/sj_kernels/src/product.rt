@@ -43,7 +43,8 @@ pub fn gemm3(
     requires third { length d.now ≡ l * n }
     requires scratch { t.old ≡ replicate (m * l) (pos 0) }
     requires target { length c.old ≡ m * n }
-    ensures { c.new ≡ (gemm3 (matrix m k a.now) (matrix k l b.now) (matrix l n d.now) (matrix m n c.old)).elements }
+    ensures { let target = matrix m n c.old in
+        c.new ≡ (gemm3 (matrix m k a.now) (matrix k l b.now) (matrix l n d.now) target).elements }
 {
     gemm(a, b, t, m, k, l);
     gemm(t, d, c, m, l, n);
