@@ -1,8 +1,6 @@
 //! Answers by hand: each kernel once, and each group of operands once through the trait.
 
-ghost use Rattle.std.specs.Prelude.{◌≡◌, IsTrue, length};
-ghost use Rattle.sj_base.specs.Array.{area};
-ghost use Rattle.sj_codelet.specs.declared.kernel.Kernel.{Kernel};
+ghost use Rattle.std.specs.Prelude.{◌≡◌, IsTrue};
 
 use crate::elementwise::{add, axpy, butterfly, copy, fill, scale};
 use crate::placement::{loadfill, paste, transpose};
@@ -12,11 +10,12 @@ use crate::ring::Ring;
 use sj_base::memory::OutOfMemory;
 use sj_base::mode::Reduction;
 use sj_base::tile::{Dims, Tile};
-use sj_codelet::frame::{Frame, Operand};
+use sj_codelet::frame::Frame;
 use sj_codelet::kernel::{ADD, DOT, INIT_PLUS, Kernel, LOWEST, SCALE};
 use sj_codelet::set::Codelets;
 use sj_codelet::window::Window;
 use std::alloc::Global;
+use std::sync::Arc;
 
 #[test]
 fn elements_stay_at_their_places_and_wrap(rt: HostRuntime) {
@@ -116,6 +115,29 @@ fn scaled<S: Codelets>(set: &S, alloc: Global, a: i64, x: Tile) -> Result<Tile, 
     frame.push_own(x);
     set.run(alloc, SCALE, &[a], &mut frame)?;
     Ok(frame.take_own())
+}
+
+/// Runs a codelet on an operand that it reads, shared with others, and one that it reads and writes.
+fn added<S: Codelets>(set: &S, alloc: Global, x: Arc<Tile>, y: Tile) -> Result<Tile, OutOfMemory>
+    requires known { IsTrue (S.has Kernel.Add) }
+    requires same { x.value.dims ≡ y.dims }
+{
+    let mut frame = Frame::with_room(alloc, 2)?;
+    frame.push_shared(x);
+    frame.push_own(y);
+    set.run(alloc, ADD, &[], &mut frame)?;
+    Ok(frame.take_own())
+}
+
+#[test]
+fn a_set_runs_a_codelet_on_a_shared_operand(rt: HostRuntime) -> Result<(), OutOfMemory> {
+    let alloc = rt.alloc();
+    let dims = Dims { rows: 2, cols: 1 };
+    let x = Tile::of(dims, vec![in alloc; i64::MAX, 4]?);
+    let y = Tile::of(dims, vec![in alloc; 1i64, -6]?);
+    let y = added(&Ring, alloc, Arc::new(alloc, x)?, y)?;
+    assert_eq!(rt; y.elements(), [i64::MIN, -2].as_slice());
+    Ok(())
 }
 
 #[test]
