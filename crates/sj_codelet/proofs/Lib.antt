@@ -4,3 +4,4 @@ pub mod Sums
 pub mod Integers
 pub mod Rows
 pub mod Elements
+pub mod Names

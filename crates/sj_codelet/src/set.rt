@@ -1,6 +1,6 @@
 //! A set of codelets: which of the table it knows, and how it runs them.
 
-ghost use Rattle.std.specs.Prelude.{◌≡◌, ◌&&◌, Bool, IsTrue, OnOk, IfOk, find, option_map};
+ghost use Rattle.std.specs.Prelude.{◌≡◌, ◌&&◌, Bool, IsTrue, OnOk, IfOk, IfSome, find, option_map};
 ghost use Rattle.sj_codelet.specs.declared.kernel.Kernel.{Kernel};
 ghost use Rattle.sj_codelet.specs.Kernel.{kernels, codelet_of, has_name, named_in, name_in, fits_in, has_reduction, commutes_in, contributes_in, init_of, combine_of};
 ghost use Rattle.sj_codelet.specs.Frame.{all_dims};
@@ -90,7 +90,8 @@ pub trait Codelets: Sync {
 
     /// The name by which a job calls a codelet, or `None` where it has none or the set hasn't it. Constant time.
     final fn name(&self, id: Codelet) -> Option<&'static [u8]>
-        ensures { option_map (λ name. name.now) result ≡ name_in has id }
+        ensures name { option_map (λ name. name.now) result ≡ name_in has id }
+        ensures found_by_it { IfSome result (λ name. named_in has name.now ≡ Some id) }
     {
         match Kernel::of(id) {
             Some(kernel) if self.knows(kernel) => kernel.name(),
