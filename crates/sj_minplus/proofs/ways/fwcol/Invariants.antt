@@ -1,0 +1,8 @@
+use Rattle.std.proofs.Common.{◌≡◌}
+use Rattle.sj_codelet.specs.Equations.{after_turns}
+use Rattle.sj_minplus.specs.Matrix.{matrix}
+use Rattle.sj_minplus.specs.Turns.{column_turn}
+use Rattle.sj_minplus.proofs.ways.fwcol.Given as goal
+
+abbrev pub invariant-loop-k : goal.invariant-loop-k
+invariant-loop-k l = l.a ≡ (after_turns l.k (column_turn (matrix l.n l.n l.d)) (matrix l.m l.n l.initial.a)).elements

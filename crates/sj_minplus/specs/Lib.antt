@@ -1,0 +1,6 @@
+pub mod Matrix
+pub mod Turns
+pub mod Has
+pub mod LeastArrays
+pub mod LeastLaws
+pub mod LibraryLaws

@@ -1,0 +1,12 @@
+//! Min-plus kernels over slices: shortest ways and the reduction `least`, with a sum in which `inf` absorbs.
+#![tactic(auto)]
+
+pub mod least;
+pub mod library;
+pub mod product;
+mod row;
+mod runs;
+pub mod sum;
+#[cfg(test)]
+mod tests;
+pub mod ways;
