@@ -80,12 +80,12 @@ pub fn run_job<C: Codelets>(
 mod tests {
     use super::*;
     use sj_job::read::read;
-    use sj_kernels::ring::Ring;
+    use sj_minplus::library::Library;
 
     /// What a job prints, where it is read and memory suffices.
     fn text_of(alloc: Global, text: &[u8]) -> Option<Vec<u8>> {
-        let job = read(alloc, text, &Ring).ok()?;
-        run_job(alloc, job.statements.items(), &Ring).ok()
+        let job = read(alloc, text, &Library).ok()?;
+        run_job(alloc, job.statements.items(), &Library).ok()
     }
 
     #[test]

@@ -6,7 +6,7 @@ ghost use Rattle.sj_edge.specs.Faults.{Counts, Rose};
 ghost use Rattle.sj_edge.specs.GivenBack.{AreUntouched};
 ghost use Rattle.sj_job.specs.declared.job.Statement.{Statement};
 ghost use Rattle.sj_job.specs.Reading.{job_of, IsRefusal};
-ghost use Rattle.sj_kernels.specs.Has.{ring_has};
+ghost use Rattle.sj_minplus.specs.Has.{library_has};
 ghost use Rattle.starjob.specs.Report.{line_of, TakesLine};
 ghost use Rattle.starjob.specs.Top.{text_of, Answers, Gives, GivesText, IsBeforeWriting, IsDoneOrOutOfMemory};
 
@@ -23,7 +23,7 @@ use sj_edge::sink::Sink;
 use sj_edge::source::Source;
 use sj_job::read::read;
 use sj_job::reason::ReadRefusal;
-use sj_kernels::ring::Ring;
+use sj_minplus::library::Library;
 use std::alloc::Global;
 use std::rt::Runtime;
 
@@ -146,9 +146,9 @@ pub fn starjob<R: Runtime, S: Source, O: Sink, E: Sink, G: Gate>(
     // Done means that the job was read, and that its printed arrays were written: those of its statements run one
     // after another on plain arrays. Refused names the first bad line and its first reason.
     ensures status_answers_the_job { words.now ≡ [] → IfSome (S.left source.old) (λ text.
-        Answers (job_of ring_has text) result.status) }
+        Answers (job_of library_has text) result.status) }
     ensures out_takes_the_text { words.now ≡ [] → IfSome (S.left source.old) (λ text.
-        Gives (job_of ring_has text) result.status (O.taken out.old) (O.taken out.new)) }
+        Gives (job_of library_has text) result.status (O.taken out.old) (O.taken out.new)) }
     ensures out_stays_before_writing { IsBeforeWriting result.status → Keeps (O.taken out.old) (O.taken out.new) }
     ensures done_reads_to_the_end { result.status ≡ Status.Done → IsAtEnd (S.left source.new) }
 
@@ -159,7 +159,7 @@ pub fn starjob<R: Runtime, S: Source, O: Sink, E: Sink, G: Gate>(
         (O.faults out.old) (O.faults out.new) (result.status ≡ Status.SinkFault) }
 
     // A job that isn't refused, with devices that don't fail, is done, unless memory runs out.
-    ensures complete { words.now ≡ [] → IsSomeAnd (S.left source.old) (λ text. IsOk (job_of ring_has text)) →
+    ensures complete { words.now ≡ [] → IsSomeAnd (S.left source.old) (λ text. IsOk (job_of library_has text)) →
         ¬ (Rose (S.faults source.old) (S.faults source.new)) → ¬ (Rose (O.faults out.old) (O.faults out.new)) →
         IsDoneOrOutOfMemory result.status }
 
@@ -173,7 +173,7 @@ pub fn starjob<R: Runtime, S: Source, O: Sink, E: Sink, G: Gate>(
         ⟦<Box<dyn Disk + Send> as Disk>⟧.held disks.items result.disks.items }
     ensures trace_is_empty { result.trace.events ≡ [] }
 {
-    let status = run_words(alloc, words, source, out, &Ring);
+    let status = run_words(alloc, words, source, out, &Library);
     report(status, err);
     Outcome {
         status,

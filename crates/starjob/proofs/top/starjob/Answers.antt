@@ -1,5 +1,5 @@
 use Rattle.sj_edge.proofs.GivenBackLemmas.{all_untouched-same}
-use Rattle.sj_kernels.specs.Has.{ring_has}
+use Rattle.sj_minplus.specs.Has.{library_has}
 use Rattle.sj_job.specs.Reading.{job_of}
 use Rattle.starjob.proofs.Tops.{complete-by}
 use Rattle.starjob.proofs.top.starjob.Goals as goal
@@ -7,7 +7,7 @@ use Rattle.starjob.proofs.top.starjob.Goals as goal
 pub returns-clause-complete : goal.returns-clause-complete
 returns-clause-complete g c = λ none ok source out.
     let r = c.run_words-status in
-    complete-by (job_of ring_has) (g.S.Source.left c.args.source.now) r.result (λ e. r.ensures.usage.0 e none) (r.ensures.answers none) ok
+    complete-by (job_of library_has) (g.S.Source.left c.args.source.now) r.result (λ e. r.ensures.usage.0 e none) (r.ensures.answers none) ok
     (λ e. source (r.ensures.source_counts.only_where_it_rose e)) (λ e. out (r.ensures.sink_counts.only_where_it_rose e))
 
 pub returns-clause-disks_come_back : goal.returns-clause-disks_come_back
