@@ -1,0 +1,69 @@
+#!/usr/bin/env python3
+"""Compares reading, running and printing large job texts with a plain C program.
+
+Makes two texts of 64 MiB, one of vectors with 16 million values and one of 262,144 statement lines, runs `starjob`
+(built by `rt run` in crates/starjob) and the C program on each, five times, and prints the ratio of the best times and
+starjob's peak memory as a multiple of the text. Run it by hand, on a machine that does nothing else.
+"""
+import os, subprocess, sys, tempfile, time, resource
+
+here = os.path.dirname(os.path.abspath(__file__))
+top = os.path.dirname(os.path.dirname(here))
+starjob = os.path.join(top, "crates", "starjob", "out", "starjob")
+LIMIT = 67_108_864
+
+
+def values(path):
+    with open(path, "w") as f:
+        f.write("starjob 1\n")
+        left = LIMIT - 2000
+        for k in range(16):
+            n = min(1_048_576, left // 4)
+            left -= 4 * n
+            f.write(f"vector v{k} {n} values" + " 123" * n + "\n")
+        for k in range(16):
+            f.write(f"print v{k}\n")
+
+
+def lines(path):
+    with open(path, "w") as f:
+        f.write("starjob 1\nvector x 3 values 1 2 3\nvector y 3 values 10 20 30\n")
+        for _ in range(262_141):
+            f.write("task add x:R y:RW".ljust(254) + "\n")
+        f.write("print y\n")
+
+
+def best(command, path, out):
+    times, peak = [], 0
+    for _ in range(5):
+        with open(path) as source, open(out, "w") as sink:
+            start = time.perf_counter()
+            child = subprocess.Popen(command, stdin=source, stdout=sink)
+            _, status, usage = os.wait4(child.pid, 0)
+            times.append(time.perf_counter() - start)
+            peak = max(peak, usage.ru_maxrss * 1024)
+            if status != 0:
+                sys.exit(f"{command} ended with {status}")
+    return min(times), peak
+
+
+def main():
+    with tempfile.TemporaryDirectory() as folder:
+        plain = os.path.join(folder, "plain")
+        subprocess.run(["gcc", "-O3", "-o", plain, os.path.join(here, "plain.c")], check=True)
+        print(f"cores: {os.cpu_count()}")
+        for name, make in (("values", values), ("lines", lines)):
+            path = os.path.join(folder, name)
+            make(path)
+            ours, theirs = os.path.join(folder, "ours"), os.path.join(folder, "theirs")
+            time_ours, peak = best([starjob], path, ours)
+            time_theirs, _ = best([plain], path, theirs)
+            same = open(ours).read() == open(theirs).read()
+            size = os.path.getsize(path)
+            print(
+                f"{name}: text {size} bytes, starjob {time_ours:.3f} s, C {time_theirs:.3f} s, "
+                f"ratio {time_ours / time_theirs:.2f}, peak {peak / size:.1f} times the text, same output: {same}"
+            )
+
+
+main()
