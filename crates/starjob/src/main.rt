@@ -15,14 +15,22 @@ mod top;
 use sj_edge::gate::OpenGate;
 use sj_edge::standard::{StdSink, StdSource};
 use std::env;
+use std::io::ErrorKind;
 use std::process::ExitCode;
 use top::starjob;
 
-/// The words after the program's name, or `None` where they can't be had.
+/// The words after the program's name, or `None` where memory runs out. An argument that isn't text stands for a word that
+/// isn't accepted, as none is.
 fn words(rt: &HostRuntime) -> Option<Vec<String>> {
     let mut words = Vec::new(rt.alloc());
-    for word in env::args(rt).ok()?.skip(1) {
-        words.push(word).ok()?;
+    match env::args(rt) {
+        Ok(args) => {
+            for word in args.skip(1) {
+                words.push(word).ok()?;
+            }
+        }
+        Err(e) if e.kind() == ErrorKind::OutOfMemory => return None,
+        Err(_) => words.push(String::new(rt.alloc())).ok()?,
     }
     Some(words)
 }

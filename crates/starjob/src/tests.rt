@@ -2,7 +2,8 @@
 
 use crate::status::Status;
 use crate::top::starjob;
-use sj_base::ids::Line;
+use sj_base::ids::{Line, Task, Worker};
+use sj_base::trace::{Event, Trace};
 use sj_edge::disk::Disk;
 use sj_edge::gate::OpenGate;
 use sj_edge::memory_disk::MemDisk;
@@ -263,5 +264,16 @@ fn a_text_is_read_up_to_its_limit_of_bytes(rt: HostRuntime) -> Result<(), Fail> 
             "{length}"
         );
     }
+    Ok(())
+}
+
+#[test]
+fn a_trace_keeps_its_events_in_the_room_that_it_made(rt: HostRuntime) -> Result<(), Fail> {
+    let mut trace = Trace::empty(rt.alloc());
+    assert!(rt; trace.reserve(2).is_ok());
+    trace.add(Event::Claim(Task(0), Worker(0)));
+    trace.add(Event::End(Task(0), Worker(0)));
+    assert_eq!(rt; trace.len(), 2);
+    assert_eq!(rt; trace.get(1), Event::End(Task(0), Worker(0)));
     Ok(())
 }
