@@ -1,5 +1,5 @@
 -- A codelet has few operands.
-use Rattle.std.proofs.Common.{ℕ, ◌≤◌, Bool, true, false, ◌&&◌, List, length, arith, Option, Some, None, IsTrue, nat_eq, ℤ, lit≤}
+use Rattle.std.proofs.Common.{ℕ, ◌≤◌, Bool, false, ◌&&◌, List, length, arith, Option, Some, None, IsTrue, nat_eq, ℤ, lit≤}
 use Rattle.std.proofs.lemmas.Bool.Decides.{nat_tests}
 use Rattle.sj_base.specs.declared.tile.Dims.{Dims}
 use Rattle.sj_base.specs.declared.program.Codelet.{Codelet}

@@ -1,8 +1,8 @@
 -- From the text that was read and what was written to what the call promises.
-use Rattle.std.proofs.Common.{◌≡◌, ℕ, ◌≤◌, ◌<◌, ◌+◌, Bool, true, false, List, [], ◌++◌, length, refl, ap, ◌∙◌, sym, subst, arith, Option, Some, None, Result, Ok, Err, IfSome, cond, nat_lt, length-append, ◌≢◌, IsSomeAnd, IsOk}
+use Rattle.std.proofs.Common.{◌≡◌, ℕ, ◌≤◌, ◌<◌, Bool, true, false, List, ◌++◌, length, refl, ap, ◌∙◌, sym, arith, Option, Some, None, Result, Ok, Err, IfSome, cond, nat_lt, length-append, ◌≢◌, IsSomeAnd, IsOk}
 use Rattle.std.proofs.lemmas.List.{append-nil}
 use Rattle.std.proofs.lemmas.Bool.Decides.{nat_tests}
-use Rattle.std.specs.Io.KnownBytes.{Appends, Consumes, Keeps, IsAtEnd}
+use Rattle.std.specs.Io.KnownBytes.{Consumes, IsAtEnd}
 use Rattle.sj_codelet.specs.declared.kernel.Kernel.{Kernel}
 use Rattle.sj_job.specs.declared.reason.Reason.TheVariants.{Limit}
 use Rattle.sj_job.specs.declared.reason.LimitKind.TheVariants.{Text}

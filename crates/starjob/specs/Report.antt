@@ -1,5 +1,5 @@
 -- The line that is written to `err` for a status.
-use Rattle.std.specs.Prelude.{◌≡◌, ℕ, List, [], ◌++◌, codes, decimal, Option}
+use Rattle.std.specs.Prelude.{ℕ, List, [], ◌++◌, codes, decimal, Option}
 use Rattle.std.specs.Io.KnownBytes.{Appends}
 use Rattle.sj_edge.specs.Faults.{Rose}
 use Rattle.sj_job.specs.declared.reason.Reason.{Reason}

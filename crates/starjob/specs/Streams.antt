@@ -1,5 +1,5 @@
 -- What is taken from a source and given to a sink.
-use Rattle.std.specs.Prelude.{◌≡◌, ℕ, ◌≤◌, List, take, length, Option}
+use Rattle.std.specs.Prelude.{ℕ, ◌≤◌, List, take, length, Option}
 use Rattle.std.specs.Io.KnownBytes.{Appends}
 
 -- the sink took a front of the text

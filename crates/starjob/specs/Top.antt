@@ -1,10 +1,9 @@
 -- What the program's call promises.
-use Rattle.std.specs.Prelude.{◌≡◌, ℕ, Bool, Option, Result, Ok, Err, List, [], ◌∷◌, IsOk}
+use Rattle.std.specs.Prelude.{◌≡◌, ℕ, Option, Result, Ok, Err, List, IsOk}
 use Rattle.std.specs.Io.KnownBytes.{Appends, Keeps}
-use Rattle.sj_codelet.specs.declared.kernel.Kernel.{Kernel}
 use Rattle.sj_job.specs.declared.job.Statement.{Statement}
 use Rattle.sj_job.specs.Meaning.{printed}
-use Rattle.sj_job.specs.Reading.{Refusal, job_of}
+use Rattle.sj_job.specs.Reading.{Refusal}
 use Rattle.starjob.specs.declared.status.Status.{Status}
 use Rattle.starjob.specs.declared.status.Status.TheVariants.{Done, Usage, Refused, SourceFault, SinkFault, OutOfMemory}
 use Rattle.starjob.specs.Output.{output}
