@@ -7,3 +7,4 @@ pub mod Seen
 pub mod Progressing
 pub mod Welling
 pub mod Sounding
+pub mod Spelling
