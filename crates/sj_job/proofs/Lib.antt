@@ -8,3 +8,5 @@ pub mod Progressing
 pub mod Welling
 pub mod Sounding
 pub mod Spelling
+pub mod Saying
+pub mod Stating

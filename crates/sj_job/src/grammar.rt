@@ -10,5 +10,4 @@ ghost use Rattle.sj_job.specs.Grammar.{Says};
 pub fn grammar()
     ensures { (has : Kernel → Bool) (words : List (List ℕ)) (sentence : Sentence) →
         ((sentence_of has words ≡ Some sentence) ↔ Says has words sentence) }
-{
-}
+{}
