@@ -7,3 +7,6 @@ pub mod Seen
 pub mod Progressing
 pub mod Welling
 pub mod Sounding
+pub mod Spelling
+pub mod Saying
+pub mod Stating

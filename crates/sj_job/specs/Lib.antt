@@ -10,3 +10,4 @@ pub mod Sees
 pub mod Progress
 pub mod Well
 pub mod Sound
+pub mod Grammar
