@@ -1,0 +1,144 @@
+-- One step of a task: from waiting to claimed, to running, to done; and that each keeps the order of conflicting tasks.
+use Rattle.std.proofs.Common.{◌≡◌, ◌≢◌, ℕ, ◌<◌, true, false, ◌||◌, refl, sym, ap, ◌∙◌, subst, inl, inr, ◌⊎◌, arith}
+use Rattle.std.specs.Prelude.{IsTrue}
+use Rattle.std.proofs.lemmas.Bool.{cases_eq, false≢true, true≢false}
+use Rattle.std.proofs.lemmas.Bool.Decides.{Decides-eqb}
+use Rattle.sj_core.specs.Program.{has_cell}
+use Rattle.sj_core.specs.Operands.{cells_of}
+use Rattle.sj_base.specs.declared.ids.Task.{Task}
+use Rattle.sj_base.specs.declared.ids.Worker.{Worker}
+use Rattle.sj_base.specs.declared.program.Program.{Program}
+use Rattle.sj_base.specs.declared.program.Machine.{Machine}
+use Rattle.sj_core.specs.declared.progress.Progress.{Progress}
+use Rattle.sj_core.specs.declared.progress.Progress.TheVariants.{Waiting, Claimed, Running, Done}
+use Rattle.sj_deps.specs.Conflict.{Conflict}
+use Rattle.sj_core.specs.Machine.{State, progress, done_in, is_done, worker_of, same_worker}
+use Rattle.sj_core.specs.Step.{Claims, Runs, Ends, EarlierAreDone}
+use Rattle.sj_core.specs.Coherent.{HasRows, OrderIsKept, SharesCommuting, is_begun, is_active}
+use Rattle.sj_core.proofs.Readiness.{Ready-earlier}
+use Rattle.sj_core.proofs.Reading.{progress-same, progress-other, progress-inside}
+
+pub same_task : (t u : Task) → (t ≡ u) ⊎ (t ≢ u)
+same_task t u =
+    elim (cases_eq t.0 u.0) [
+      | inl e ↦ inl (ap (λ (n : ℕ). let k : Task = record { 0 = n } in k) e)
+      | inr d ↦ inr (λ e. d (ap (λ (k : Task). k.0) e))
+    ]
+
+-- one task's progress changes, and no other's
+pub record Advances (s s' : State) (t : Task) (old new : Progress) : Type 0 where
+  pub was : progress s t ≡ old
+  pub is : progress s' t ≡ new
+  pub others : (u : Task) → u ≢ t → progress s' u ≡ progress s u
+
+not_waiting : (x : Progress) (w : Worker) → x ≡ Claimed w → x ≢ Waiting
+not_waiting x w e f = let g : Claimed w ≡ Waiting = sym e ∙ f in cc
+
+not_waiting_running : (x : Progress) (w : Worker) → x ≡ Running w → x ≢ Waiting
+not_waiting_running x w e f = let g : Running w ≡ Waiting = sym e ∙ f in cc
+
+pub Claims-advances : (p : Program) (m : Machine) (s : State) (t : Task) (w : Worker) (s' : State) → HasRows p m s → Claims p m s t w s' → Advances s s' t Waiting (Claimed w)
+Claims-advances p m s t w s' rows c = record {
+  was = c.waiting;
+  is = ap (λ (z : State). progress z t) c.leaves ∙ progress-same s t (Claimed w) (omega (arith, c.ready.task, rows.tasks));
+  others = λ u d. ap (λ (z : State). progress z u) c.leaves ∙ progress-other s t u (Claimed w) d;
+}
+
+pub Runs-advances : (p : Program) (m : Machine) (s : State) (t : Task) (w : Worker) (s' : State) → Runs p m s t w s' → Advances s s' t (Claimed w) (Running w)
+Runs-advances p m s t w s' r = record {
+  was = r.claimed;
+  is = ap (λ (z : State). progress z t) r.leaves ∙ progress-same s t (Running w) (progress-inside s t (not_waiting (progress s t) w r.claimed));
+  others = λ u d. ap (λ (z : State). progress z u) r.leaves ∙ progress-other s t u (Running w) d;
+}
+
+pub Ends-advances : (p : Program) (m : Machine) (s : State) (t : Task) (w : Worker) (s' : State) → Ends p m s t w s' → Advances s s' t (Running w) (Done w)
+Ends-advances p m s t w s' e = record {
+  was = e.running;
+  is = ap (λ (z : State). progress z t) e.leaves ∙ progress-same s t (Done w) (progress-inside s t (not_waiting_running (progress s t) w e.running));
+  others = λ u d. ap (λ (z : State). progress z u) e.leaves ∙ progress-other s t u (Done w) d;
+}
+
+-- what is done stays done
+pub done-kept : (s s' : State) (t u : Task) (old new : Progress) → Advances s s' t old new → is_done old ≡ false → done_in s u ≡ true → done_in s' u ≡ true
+done-kept s s' t u old new a undone done =
+    elim (same_task u t) [
+      | inl e ↦ absurd (false≢true (sym undone ∙ sym (ap is_done a.was) ∙ sym (ap (λ (k : Task). done_in s k) e) ∙ done))
+      | inr d ↦ ap is_done (a.others u d) ∙ done
+    ]
+
+pub EarlierAreDone-kept : (p : Program) (s s' : State) (t u : Task) (old new : Progress) → Advances s s' t old new → is_done old ≡ false → EarlierAreDone p s u → EarlierAreDone p s' u
+EarlierAreDone-kept p s s' t u old new a undone earlier v before conflict = done-kept s s' t v old new a undone (earlier v before conflict)
+
+pub active_isn't_done : (x : Progress) → is_active x ≡ true → is_done x ≡ false
+active_isn't_done Waiting h = refl
+active_isn't_done (Claimed w) h = refl
+active_isn't_done (Running w) h = refl
+active_isn't_done (Done w) h = sym h
+
+-- where the earlier conflicting tasks of each begun task are done, no two active tasks conflict
+pub apart-from_earlier : (p : Program) (s : State) → ((t : Task) → IsTrue (is_begun (progress s t)) → EarlierAreDone p s t) → (t u : Task) → IsTrue (is_active (progress s t)) → IsTrue (is_active (progress s u)) → u.0 < t.0 → ¬ Conflict p u.0 t.0
+apart-from_earlier p s earlier t u at au before conflict =
+    true≢false (sym (earlier t (begun (progress s t) at) u before conflict) ∙ active_isn't_done (progress s u) au)
+  where
+    begun : (x : Progress) → is_active x ≡ true → is_begun x ≡ true
+    begun Waiting h = h
+    begun (Claimed v) h = refl
+    begun (Running v) h = refl
+    begun (Done v) h = refl
+
+-- each begun task still has its earlier conflicting tasks done
+pub earlier-kept : (p : Program) (s s' : State) (t : Task) (old new : Progress) → Advances s s' t old new → is_done old ≡ false → EarlierAreDone p s t → ((u : Task) → IsTrue (is_begun (progress s u)) → EarlierAreDone p s u) → (u : Task) → IsTrue (is_begun (progress s' u)) → EarlierAreDone p s' u
+earlier-kept p s s' t old new a undone own before u begun =
+    EarlierAreDone-kept p s s' t u old new a undone (elim (same_task u t) [
+      | inl e ↦ subst (λ (k : Task). EarlierAreDone p s k) (sym e) own
+      | inr d ↦ before u (sym (ap is_begun (a.others u d)) ∙ begun)
+    ])
+
+-- where the task that advances was active before, and has the same worker, no new pair of tasks shares a commuting cell
+pub commuting-kept : (p : Program) (s s' : State) (t : Task) (old new : Progress) → Advances s s' t old new → is_active old ≡ true → worker_of new ≡ worker_of old →
+    ((u v : Task) → IsTrue (is_active (progress s u)) → IsTrue (is_active (progress s v)) → u ≢ v → ¬ SharesCommuting p s u v) →
+    (u v : Task) → IsTrue (is_active (progress s' u)) → IsTrue (is_active (progress s' v)) → u ≢ v → ¬ SharesCommuting p s' u v
+commuting-kept p s s' t old new a active same before u v au av d h =
+    before u v (was_active u au) (was_active v av) d (record { cell = h.cell; commuting = h.commuting; shared = subst (λ (k : Worker). IsTrue (has_cell (cells_of p v k) h.cell)) (same_worker v) h.shared })
+  where
+    was_active : (k : Task) → is_active (progress s' k) ≡ true → is_active (progress s k) ≡ true
+    was_active k h =
+        elim (same_task k t) [
+          | inl e ↦ ap (λ (j : Task). is_active (progress s j)) e ∙ ap is_active a.was ∙ active
+          | inr d ↦ sym (ap is_active (a.others k d)) ∙ h
+        ]
+
+    same_worker : (k : Task) → worker_of (progress s' k) ≡ worker_of (progress s k)
+    same_worker k =
+        elim (same_task k t) [
+          | inl e ↦ ap (λ (j : Task). worker_of (progress s' j)) e ∙ ap worker_of a.is ∙ same ∙ sym (ap worker_of a.was) ∙ sym (ap (λ (j : Task). worker_of (progress s j)) e)
+          | inr d ↦ ap worker_of (a.others k d)
+        ]
+
+pub same_worker-refl : (w : Worker) → same_worker w w ≡ true
+same_worker-refl w = (Decides-eqb w.0 w.0).1 refl
+
+pub claimed_is_active : (w : Worker) → is_active (Claimed w) ≡ true
+claimed_is_active w = ap (λ b. b || false) (same_worker-refl w)
+
+pub running_is_active : (w : Worker) → is_active (Running w) ≡ true
+running_is_active w = same_worker-refl w
+
+-- a run keeps the order of conflicting tasks
+pub Runs-keeps_order : (p : Program) (m : Machine) (s : State) (t : Task) (w : Worker) (s' : State) → Runs p m s t w s' → OrderIsKept p s → OrderIsKept p s'
+Runs-keeps_order p m s t w s' r o =
+    let a = Runs-advances p m s t w s' r in
+    let earlier = earlier-kept p s s' t (Claimed w) (Running w) a refl r.earlier o.earlier in
+    record { earlier = earlier; apart = apart-from_earlier p s' earlier; commuting = commuting-kept p s s' t (Claimed w) (Running w) a (claimed_is_active w) refl o.commuting }
+
+-- an end keeps the order of conflicting tasks
+pub Ends-keeps_order : (p : Program) (m : Machine) (s : State) (t : Task) (w : Worker) (s' : State) → Ends p m s t w s' → OrderIsKept p s → OrderIsKept p s'
+Ends-keeps_order p m s t w s' e o =
+    let a = Ends-advances p m s t w s' e in
+    let begun : is_begun (progress s t) ≡ true = ap is_begun e.running in
+    let earlier = earlier-kept p s s' t (Running w) (Done w) a refl (o.earlier t begun) o.earlier in
+    record { earlier = earlier; apart = apart-from_earlier p s' earlier; commuting = commuting-kept p s s' t (Running w) (Done w) a (running_is_active w) refl o.commuting }
+
+-- a claim keeps that the earlier conflicting tasks of each begun task are done
+pub Claims-keeps_earlier : (p : Program) (m : Machine) (s : State) (t : Task) (w : Worker) (s' : State) → HasRows p m s → Claims p m s t w s' → OrderIsKept p s → (u : Task) → IsTrue (is_begun (progress s' u)) → EarlierAreDone p s' u
+Claims-keeps_earlier p m s t w s' rows c o = earlier-kept p s s' t Waiting (Claimed w) (Claims-advances p m s t w s' rows c) refl (Ready-earlier p s t c.ready) o.earlier

@@ -1,0 +1,14 @@
+pub mod AddRun
+pub mod Advancing
+pub mod Claiming
+pub mod Eviction
+pub mod EvictionRun
+pub mod Holding
+pub mod Opening
+pub mod Readiness
+pub mod Reading
+pub mod Separation
+pub mod Sharing
+pub mod Tables
+pub mod TaskCells
+pub mod Workers

@@ -1,0 +1,153 @@
+-- The opening state is coherent.
+use Rattle.std.proofs.Common.{◌≡◌, ℕ, zero, suc, ◌+◌, ◌<◌, true, ◌&&◌, cond, List, [], ◌∷◌, length, get_or, replicate, refl, sym, ap, ◌∙◌, inl, inr, ◌⊎◌, None, Some, arith}
+use Rattle.std.specs.Prelude.{fold, sum_by, count_by}
+use Rattle.std.proofs.lemmas.List.{get_or_past, get_or-replicate, length-replicate}
+use Rattle.std.proofs.lemmas.List.Elements.{All-replicate}
+use Rattle.std.proofs.lemmas.Bool.{cases_lt, false≢true}
+use Rattle.sj_base.specs.declared.ids.Cell.{Cell}
+use Rattle.sj_base.specs.declared.ids.Task.{Task}
+use Rattle.sj_base.specs.declared.ids.Node.{Node}
+use Rattle.sj_base.specs.declared.ids.Worker.{Worker}
+use Rattle.sj_base.specs.declared.ids.Place.{Place}
+use Rattle.sj_base.specs.declared.ids.Place.TheVariants.{Node as AtNode, Disk as OnDisk}
+use Rattle.sj_base.specs.declared.program.Program.{Program}
+use Rattle.sj_base.specs.declared.program.Machine.{Machine}
+use Rattle.sj_base.specs.Array.{Array}
+use Rattle.sj_core.specs.Program.{same_cell, has_cell, tasks_of}
+use Rattle.sj_core.specs.Needs.{tile_bytes}
+use Rattle.sj_core.specs.declared.progress.Progress.TheVariants.{Waiting, Claimed, Running}
+use Rattle.sj_core.specs.declared.progress.Transfer.{Transfer}
+use Rattle.sj_core.specs.Machine.{CellState, WorkerState, Invalid, Coming, Leaving, progress, cell_state, replica, replica_in, writes, order, worker_state, transfer, pins, scratch, workers_at, used, no_replica, opening, is_valid, is_entry, is_leaving_by, is_coming_by, is_task_of, is_done, done_by}
+use Rattle.sj_core.specs.Operands.{written_cells}
+use Rattle.sj_core.specs.Coherent.{Coherent, is_begun, is_active, has_written}
+use Rattle.sj_core.proofs.Reading.{no_row, idle_row, replica_in-no_row}
+
+all_same : {X : Type 0} (n i : ℕ) (a : X) → get_or (replicate n a) i a ≡ a
+all_same zero i a = refl
+all_same (suc n) zero a = refl
+all_same (suc n) (suc i) a = all_same n i a
+
+sum-zero : {X : Type 0} (f : X → ℕ) → ((x : X) → f x ≡ 0) → (a : ℕ) (xs : List X) → fold (λ b x. b + f x) a xs ≡ a
+sum-zero f none a [] = refl
+sum-zero f none a (x ∷ xs) = ap (λ b. fold (λ c y. c + f y) b xs) (let e = none x in omega arith) ∙ sum-zero f none a xs
+
+some_isn't_none : (x : Transfer) → None ≡ Some x → ⊥
+some_isn't_none x e = cc
+
+module _ (p : Program) (m : Machine) where
+  waits : (t : Task) → progress (opening p m) t ≡ Waiting
+  waits t = all_same (length p.tasks) t.0 Waiting
+
+  idle : (w : Worker) → worker_state (opening p m) w ≡ idle_row
+  idle w = all_same m.workers w.0 idle_row
+
+  empty : (n : Node) → order (opening p m) n ≡ []
+  empty n = all_same (length m.nodes) n.0 []
+
+  a_row : (c : Cell) → (cell_state (opening p m) c ≡ no_replica m) ⊎ (cell_state (opening p m) c ≡ no_row)
+  a_row c =
+      elim (cases_lt c.0 (length p.cells)) [
+        | inl inside ↦ inl (get_or-replicate (length p.cells) c.0 (no_replica m) no_row inside)
+        | inr past ↦ inr (get_or_past (replicate (length p.cells) (no_replica m)) c.0 no_row (let e = length-replicate (length p.cells) (no_replica m) in omega arith))
+      ]
+
+  nowhere : (c : Cell) (q : Place) → replica (opening p m) c q ≡ Invalid
+  nowhere c q =
+      elim (a_row c) [
+        | inl row ↦ ap (λ (r : CellState). replica_in r q) row ∙ none q
+        | inr row ↦ ap (λ (r : CellState). replica_in r q) row ∙ replica_in-no_row q
+      ]
+    where
+      none : (q : Place) → replica_in (no_replica m) q ≡ Invalid
+      none (AtNode n) = all_same (length m.nodes) n.0 Invalid
+      none (OnDisk d) = all_same (length m.disks) d.0 Invalid
+
+  unwritten : (c : Cell) → writes (opening p m) c ≡ 0
+  unwritten c = elim (a_row c) [ inl row ↦ ap (λ (r : CellState). r.writes) row | inr row ↦ ap (λ (r : CellState). r.writes) row ]
+
+  not_leaving : (w : Worker) (c : Cell) (q : Place) → is_leaving_by w (replica (opening p m) c q) ≡ true → ⊥
+  not_leaving w c q h = false≢true (sym (ap (is_leaving_by w) (nowhere c q)) ∙ h)
+
+  not_coming : (w : Worker) (c : Cell) (q : Place) → is_coming_by w (replica (opening p m) c q) ≡ true → ⊥
+  not_coming w c q h = false≢true (sym (ap (is_coming_by w) (nowhere c q)) ∙ h)
+
+  not_moving : (w : Worker) (x : Transfer) → transfer (opening p m) w ≡ Some x → ⊥
+  not_moving w x h = some_isn't_none x (sym (ap (λ (row : WorkerState). row.transfer) (idle w)) ∙ h)
+
+  not_begun : (t : Task) → is_begun (progress (opening p m) t) ≡ true → ⊥
+  not_begun t h = false≢true (sym (ap is_begun (waits t)) ∙ h)
+
+  not_active : (t : Task) → is_active (progress (opening p m) t) ≡ true → ⊥
+  not_active t h = false≢true (sym (ap is_active (waits t)) ∙ h)
+
+  not_task_of : (w : Worker) (t : Task) → is_task_of w (progress (opening p m) t) ≡ true → ⊥
+  not_task_of w t h = false≢true (sym (ap (is_task_of w) (waits t)) ∙ h)
+
+  not_running : (t : Task) (w : Worker) → progress (opening p m) t ≡ Running w → ⊥
+  not_running t w h = let e : Waiting ≡ Running w = sym (waits t) ∙ h in cc
+
+  not_claimed : (t : Task) (w : Worker) → progress (opening p m) t ≡ Claimed w → ⊥
+  not_claimed t w h = let e : Waiting ≡ Claimed w = sym (waits t) ∙ h in cc
+
+  not_pinned : (w : Worker) (c : Cell) → has_cell (pins (opening p m) w) c ≡ true → ⊥
+  not_pinned w c h = false≢true (sym (ap (λ (row : WorkerState). has_cell row.pins c) (idle w)) ∙ h)
+
+  no_scratch : (w : Worker) → scratch (opening p m) w ≡ 0
+  no_scratch w = ap (λ (row : WorkerState). row.scratch) (idle w)
+
+  nothing_used : (n : Node) → used p m (opening p m) n ≡ 0
+  nothing_used n =
+      let entries = ap (λ (cs : List Cell). sum_by (tile_bytes p) cs) (empty n) in
+      let held = sum-zero (scratch (opening p m)) no_scratch 0 (workers_at m n) in
+      omega arith
+
+  none_written : (c : Cell) → count_by (has_written p (opening p m) c) (tasks_of p) ≡ 0
+  none_written c = sum-zero (λ t. cond (has_written p (opening p m) c t) 1 0) (λ t. ap (λ x. cond (is_done x && has_cell (written_cells p t (done_by (opening p m) t)) c) 1 0) (waits t)) 0 (tasks_of p)
+
+  not_positive : (c : Cell) → 0 < writes (opening p m) c → ⊥
+  not_positive c h = let e = unwritten c in omega arith
+
+  coming_isn't_invalid : (w : Worker) → Invalid ≡ Coming w → ⊥
+  coming_isn't_invalid w e = cc
+
+  leaving_isn't_invalid : (w : Worker) (a : Array) → Invalid ≡ Leaving w a → ⊥
+  leaving_isn't_invalid w a e = cc
+
+  pub opening-coherent : Coherent p m (opening p m)
+  opening-coherent = record {
+    state = record {
+      rows = record {
+        tasks = length-replicate (length p.tasks) Waiting;
+        cells = length-replicate (length p.cells) (no_replica m);
+        orders = length-replicate (length m.nodes) [];
+        workers = length-replicate m.workers idle_row;
+        nodes = All-replicate (λ (row : CellState). length row.nodes ≡ length m.nodes) (length p.cells) (no_replica m) (length-replicate (length m.nodes) Invalid);
+        disks = All-replicate (λ (row : CellState). length row.disks ≡ length m.disks) (length p.cells) (no_replica m) (length-replicate (length m.disks) Invalid);
+      };
+      entries = record {
+        entries = λ n c. ap (λ (cs : List Cell). has_cell cs c) (empty n) ∙ sym (ap is_entry (nowhere c (AtNode n)));
+        once = λ n c. (let e = ap (λ (cs : List Cell). count_by (λ d. same_cell d c) cs) (empty n) in omega arith);
+      };
+      blocks = record {
+        resting = λ c d w a. (λ e. coming_isn't_invalid w (sym (nowhere c (OnDisk d)) ∙ e), λ e. leaving_isn't_invalid w a (sym (nowhere c (OnDisk d)) ∙ e));
+        home = λ c d h. absurd (false≢true (sym (ap is_valid (nowhere c (OnDisk d))) ∙ h));
+        aimed = λ w x d h e. absurd (not_moving w x h);
+      };
+      staff = record { staffed = λ t h. absurd (not_begun t h) };
+    };
+    writers = record { owned = λ t w c h has. absurd (not_running t w h) };
+    copies = record { valid_somewhere = λ c h b. absurd (not_positive c h); alike = λ c q h b. absurd (not_positive c h) };
+    cells = record { running = λ t w c h has. absurd (not_running t w h); claimed = λ t w c h has. absurd (not_claimed t w h); pinned = λ t w c h has. absurd (not_task_of w t h) };
+    pins = record { stays = λ w c h. absurd (not_pinned w c h); own = λ w c h. absurd (not_pinned w c h); coming_here = λ w c n h. absurd (not_coming w c (AtNode n) h); coming_claimed = λ w c n h. absurd (not_coming w c (AtNode n) h); coming_pinned = λ w c n h. absurd (not_coming w c (AtNode n) h) };
+    transfers = record { source = λ w x h. absurd (not_moving w x h); target = λ w x h. absurd (not_moving w x h); apart = λ v w x y d e hv hw f g k. absurd (not_moving v x hv) };
+    bytes = record { entries = λ n. (let e = nothing_used n in omega arith); leaving = λ n w c h. absurd (not_leaving w c (AtNode n) h) };
+    workers = record {
+      evicted = λ w c n h. absurd (not_leaving w c (AtNode n) h);
+      one_evicts = λ v w c d n hv hw. absurd (not_leaving v c (AtNode n) hv);
+      one_task = λ t u w ht hu. absurd (not_task_of w t ht);
+      moves_for_claim = λ w x h. absurd (not_moving w x h);
+      scratch = λ w. record { own = λ t h. absurd (not_task_of w t h); none = λ h. no_scratch w };
+    };
+    order = record { earlier = λ t h. absurd (not_begun t h); apart = λ t u ht hu before. absurd (not_active t ht); commuting = λ t u ht hu d. absurd (not_active t ht) };
+    counts = record { counted = λ c. unwritten c ∙ sym (none_written c) };
+  }

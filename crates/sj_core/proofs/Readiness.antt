@@ -1,0 +1,71 @@
+-- The tasks that are done in a state, as a list and as a test; when a waiting task is ready.
+use Rattle.std.proofs.Common.{◌≡◌, ℕ, zero, suc, ◌<◌, Bool, true, false, cond, List, [], ◌∷◌, length, get_or, refl, sym, ap, ◌∙◌, inl, inr, arith, subst}
+use Rattle.std.proofs.lemmas.List.{get_or_past}
+use Rattle.std.proofs.lemmas.List.FromFn.{length-range_with_len, get_or-range_with_len}
+use Rattle.std.proofs.lemmas.Bool.{cases_lt}
+use Rattle.std.proofs.lemmas.List.Sums.{AllPass-from_list_all}
+use Rattle.std.specs.List.{Contains, filter, list_all, range_with_len}
+use Rattle.sj_base.specs.declared.ids.Task.{Task}
+use Rattle.sj_base.specs.declared.program.Program.{Program}
+use Rattle.sj_core.specs.declared.progress.Progress.TheVariants.{Waiting}
+use Rattle.sj_deps.specs.Conflict.{Ready}
+use Rattle.sj_core.specs.Machine.{State, progress, done_in, is_done}
+use Rattle.sj_core.specs.Step.{done_tasks, EarlierAreDone}
+
+Contains-cons : {X : Type 0} (y : X) (xs : List X) (x : X) → Contains xs x → Contains (y ∷ xs) x
+Contains-cons y xs x (k, l, e) = (suc k, omega arith, e)
+
+Contains-head : {X : Type 0} (x : X) (xs : List X) → Contains (x ∷ xs) x
+Contains-head x xs = (0, omega arith, refl)
+
+-- what passes the test is kept by a filter
+pub Contains-filter : {X : Type 0} (f : X → Bool) (xs : List X) (x : X) → f x ≡ true → Contains xs x → Contains (filter f xs) x
+Contains-filter f [] x h (k, l, e) = absurd (omega arith)
+Contains-filter f (y ∷ xs) x h (zero, l, e) =
+    let test : f y ≡ true = ap f e ∙ h in
+    rw test (subst (λ z. Contains (y ∷ filter f xs) z) e (Contains-head y (filter f xs)))
+Contains-filter f (y ∷ xs) x h (suc k, l, e) =
+    let rest = Contains-filter f xs x h (k, omega arith, e) in
+    elim (f y) as (λ b. Contains (cond b (y ∷ filter f xs) (filter f xs)) x) [ true ↦ Contains-cons y (filter f xs) x rest | false ↦ rest ]
+
+-- what a filter keeps passes the test
+pub filter-Contains : {X : Type 0} (f : X → Bool) (xs : List X) (x : X) → Contains (filter f xs) x → f x ≡ true
+filter-Contains f [] x (k, l, e) = absurd (omega arith)
+filter-Contains {X} f (y ∷ xs) x c = kept (f y) refl (filter-Contains f xs x) c
+  where
+    kept : (b : Bool) → f y ≡ b → (Contains (filter f xs) x → f x ≡ true) → Contains (cond b (y ∷ filter f xs) (filter f xs)) x → f x ≡ true
+    kept true e rest (zero, l, same) = ap f (sym same) ∙ e
+    kept true e rest (suc k, l, same) = rest (k, omega arith, same)
+    kept false e rest c = rest c
+
+-- a task that is done stands in the list of those that are
+pub done_tasks-has : (s : State) (t : Task) → done_in s t ≡ true → Contains (done_tasks s) t.0
+done_tasks-has s t h =
+    let n = length s.tasks in
+    let test : ℕ → Bool = λ k. done_in s (record { 0 = k }) in
+    elim (cases_lt t.0 n) [
+      | inl inside ↦ Contains-filter test (range_with_len 0 n) t.0 h (t.0, omega (arith, length-range_with_len 0 n), get_or-range_with_len 0 n t.0 t.0 inside ∙ omega arith)
+      | inr past ↦ absurd (let e : progress s t ≡ Waiting = get_or_past s.tasks t.0 Waiting past in let f : is_done (progress s t) ≡ false = ap is_done e in cc)
+    ]
+
+pub done_tasks-done : (s : State) (t : Task) → Contains (done_tasks s) t.0 → done_in s t ≡ true
+done_tasks-done s t h = filter-Contains (λ n. done_in s (record { 0 = n })) (range_with_len 0 (length s.tasks)) t.0 h
+
+-- a waiting task is ready where every earlier task that conflicts with it is done
+pub Ready-from : (p : Program) (s : State) (t : Task) → t.0 < length p.tasks → progress s t ≡ Waiting → EarlierAreDone p s t → Ready p (done_tasks s) t.0
+Ready-from p s t inside waits earlier = record {
+  task = inside;
+  waiting = λ c. let d = done_tasks-done s t c in let e : is_done (progress s t) ≡ false = ap is_done waits in cc;
+  earlier = λ u before conflict. done_tasks-has s (record { 0 = u }) (earlier (record { 0 = u }) before conflict);
+}
+
+-- and then they are done
+pub Ready-earlier : (p : Program) (s : State) (t : Task) → Ready p (done_tasks s) t.0 → EarlierAreDone p s t
+Ready-earlier p s t r u before conflict = done_tasks-done s u (r.earlier u.0 before conflict)
+
+-- where every earlier task is done, those that conflict are
+pub EarlierAreDone-all : (p : Program) (s : State) (t : Task) → list_all (λ n. done_in s (record { 0 = n })) (range_with_len 0 t.0) ≡ true → EarlierAreDone p s t
+EarlierAreDone-all p s t h u before conflict =
+    let done : ℕ → Bool = λ n. done_in s (record { 0 = n }) in
+    let at_u : get_or (range_with_len 0 t.0) u.0 0 ≡ u.0 = get_or-range_with_len 0 t.0 u.0 0 before ∙ omega arith in
+    ap done (sym at_u) ∙ AllPass-from_list_all done (range_with_len 0 t.0) h u.0 0 (omega (arith, length-range_with_len 0 t.0))

@@ -1,0 +1,164 @@
+-- Claimed and running tasks keep apart: none writes a cell on which another works. And a claim keeps the order of tasks.
+use Rattle.std.proofs.Common.{◌≡◌, ◌≢◌, ℕ, ◌<◌, Bool, true, false, not, ◌&&◌, ◌||◌, length, get_or, refl, sym, ap, ◌∙◌, subst, inl, inr, arith}
+use Rattle.std.specs.Prelude.{IsTrue, if◌then◌else◌}
+use Rattle.std.proofs.lemmas.List.Folds.{list_any_at}
+use Rattle.std.proofs.lemmas.List.FromFn.{get_or-map-range_with_len, length-map-range_with_len}
+use Rattle.std.proofs.lemmas.Bool.{cases_lt, cases_eq, false≢true, true≢false}
+use Rattle.std.proofs.lemmas.Bool.Decides.{Decides-eqb}
+use Rattle.sj_base.specs.declared.ids.Cell.{Cell}
+use Rattle.sj_base.specs.declared.ids.Task.{Task}
+use Rattle.sj_base.specs.declared.ids.Worker.{Worker}
+use Rattle.sj_base.specs.declared.mode.Mode.{Mode}
+use Rattle.sj_base.specs.declared.mode.Mode.TheVariants.{R, W, RW, Scratch, Redux, Commute}
+use Rattle.sj_base.specs.declared.program.Program.{Program}
+use Rattle.sj_base.specs.declared.program.Machine.{Machine}
+use Rattle.sj_core.specs.Program.{has_cell, task_of, tasks_of, is_commute, is_redux, is_written}
+use Rattle.sj_core.specs.declared.progress.Progress.{Progress}
+use Rattle.sj_core.specs.declared.progress.Progress.TheVariants.{Waiting, Claimed, Running, Done}
+use Rattle.sj_deps.specs.Conflict.{HasDependencies}
+use Rattle.sj_core.specs.Operands.{copy_of, worked_on, cells_of, written_cells, commuting_cells}
+use Rattle.sj_core.specs.Machine.{State, progress, is_done, worker_of, is_task_of, same_worker}
+use Rattle.sj_core.specs.Step.{Claims, is_in_use}
+use Rattle.sj_core.specs.Proper.{NamesCells}
+use Rattle.sj_core.specs.Coherent.{IsStateOf, WorkersAreSound, OrderIsKept, SharesCommuting, is_begun, is_active}
+use Rattle.sj_core.proofs.Readiness.{Ready-earlier}
+use Rattle.sj_core.proofs.Reading.{same_worker-is, list_all-has, progress-inside}
+use Rattle.sj_core.proofs.Advancing.{Advances, Claims-advances, same_task, active_isn't_done, apart-from_earlier, Claims-keeps_earlier}
+use Rattle.sj_core.proofs.TaskCells.{written-among_cells}
+use Rattle.sj_core.proofs.Sharing.{Sharing, Conflicting, Commuting, Contributing, sharing, operand_for, operand-has_cell}
+use Rattle.sj_core.proofs.Workers.{idle-has_none}
+
+-- ---- a worker's task
+
+pub task_of-worker : (v : Worker) (x : Progress) → is_task_of v x ≡ true → worker_of x ≡ v
+task_of-worker v Waiting h = absurd (false≢true h)
+task_of-worker v (Claimed w) h = same_worker-is w v (sym (or_false (same_worker w v)) ∙ h)
+  where
+    or_false : (b : Bool) → (b || false) ≡ b
+    or_false true = refl
+    or_false false = refl
+task_of-worker v (Running w) h = same_worker-is w v h
+task_of-worker v (Done w) h = absurd (false≢true h)
+
+pub task_of-active : (v : Worker) (x : Progress) → is_task_of v x ≡ true → is_active x ≡ true
+task_of-active v x h = ap (λ (w : Worker). is_task_of w x) (task_of-worker v x h) ∙ h
+
+pub active-begun : (x : Progress) → is_active x ≡ true → is_begun x ≡ true
+active-begun Waiting h = h
+active-begun (Claimed v) h = refl
+active-begun (Running v) h = refl
+active-begun (Done v) h = refl
+
+active-isn't_waiting : (x : Progress) → is_active x ≡ true → x ≢ Waiting
+active-isn't_waiting x h e = false≢true (sym (ap is_active e) ∙ h)
+
+-- ---- commuting cells are written
+
+commutes_is_written : (x : Mode) → is_commute x ≡ true → is_written x ≡ true
+commutes_is_written R h = h
+commutes_is_written W h = refl
+commutes_is_written RW h = refl
+commutes_is_written Scratch h = h
+commutes_is_written Redux h = refl
+commutes_is_written Commute h = refl
+
+commute_isn't_redux : (x : Mode) → is_commute x ≡ true → is_redux x ≡ false
+commute_isn't_redux R h = refl
+commute_isn't_redux W h = refl
+commute_isn't_redux RW h = refl
+commute_isn't_redux Scratch h = refl
+commute_isn't_redux Redux h = sym h
+commute_isn't_redux Commute h = refl
+
+pub commuting-among_written : (p : Program) (t : Task) (w : Worker) (c : Cell) → has_cell (commuting_cells p t) c ≡ true → has_cell (written_cells p t w) c ≡ true
+commuting-among_written p t w c h =
+    let a = operand_for (λ b. b.cell) (λ b. is_commute b.mode) (task_of p t).accesses c h in
+    let plain : worked_on p w a.0 ≡ c = ap (λ b. if b then copy_of p a.0.cell w else a.0.cell) (commute_isn't_redux a.0.mode a.2) ∙ a.3 in
+    operand-has_cell (worked_on p w) (λ b. is_written b.mode) (task_of p t).accesses a.0 c a.1 (commutes_is_written a.0.mode a.2) ((Decides-eqb (worked_on p w a.0).0 c.0).1 (ap (λ (k : Cell). k.0) plain))
+
+-- ---- active tasks keep apart
+
+-- a claimed or running task's cells are in use
+pub in_use : (p : Program) (s : State) (u : Task) (c : Cell) → u.0 < length p.tasks → is_active (progress s u) ≡ true → has_cell (cells_of p u (worker_of (progress s u))) c ≡ true → is_in_use p s c ≡ true
+in_use p s u c inside active has =
+    let number : ℕ → Task = λ n. record { 0 = n } in
+    let test : Task → Bool = λ t. is_task_of (worker_of (progress s t)) (progress s t) && has_cell (cells_of p t (worker_of (progress s t))) c in
+    let at_u : get_or (tasks_of p) u.0 u ≡ u = get_or-map-range_with_len number 0 (length p.tasks) u.0 u.0 u inside (omega arith) in
+    list_any_at test (tasks_of p) u.0 u (omega (arith, length-map-range_with_len number 0 (length p.tasks))) (ap test at_u ∙ ap (λ b. b && has_cell (cells_of p u (worker_of (progress s u))) c) active ∙ has)
+
+module _ (p : Program) (m : Machine) (names : NamesCells p) (deps : HasDependencies p) (s : State) (state : IsStateOf p m s) (sound : WorkersAreSound p m s) (kept : OrderIsKept p s) where
+  task-inside : (t : Task) → is_active (progress s t) ≡ true → t.0 < length p.tasks
+  task-inside t h = omega (arith, progress-inside s t (active-isn't_waiting (progress s t) h), state.rows.tasks)
+
+  pub worker-inside : (t : Task) (w : Worker) → is_task_of w (progress s t) ≡ true → w.0 < p.workers
+  worker-inside t w h = subst (λ (v : Worker). v.0 < p.workers) (task_of-worker w (progress s t) h) (state.staff.staffed t (active-begun (progress s t) (task_of-active w (progress s t) h)))
+
+  -- no claimed or running task works on a cell that another one writes
+  pub separated : (u t : Task) (v w : Worker) (c : Cell) → u ≢ t → is_task_of v (progress s u) ≡ true → is_task_of w (progress s t) ≡ true → has_cell (cells_of p u v) c ≡ true → has_cell (written_cells p t w) c ≡ true → ⊥
+  separated u t v w c d hu ht cu ct =
+      let au = task_of-active v (progress s u) hu in
+      let at = task_of-active w (progress s t) ht in
+      by_sharing (sharing p names deps u t v w c (task-inside u au) (task-inside t at) (worker-inside u v hu) (worker-inside t w ht) cu ct) au at
+    where
+      by_sharing : Sharing p u t v w c → is_active (progress s u) ≡ true → is_active (progress s t) ≡ true → ⊥
+      by_sharing (Conflicting forward backward) au at = elim (cases_lt u.0 t.0) [
+        | inl before ↦ kept.apart t u at au before forward
+        | inr after ↦ elim (cases_eq u.0 t.0) [
+          | inl e ↦ d (ap (λ (i : ℕ). let j : Task = record { 0 = i } in j) e)
+          | inr differ ↦ kept.apart u t au at (omega (arith, differ)) backward
+        ]
+      ]
+      by_sharing (Commuting hu' ht') au at = kept.commuting t u at au (λ e. d (sym e)) (record { cell = c; commuting = ht'; shared = subst (λ (x : Worker). IsTrue (has_cell (cells_of p u x) c)) (sym (task_of-worker v (progress s u) hu)) cu })
+      by_sharing (Contributing e) au at = d (sound.one_task u t w (subst (λ (x : Worker). IsTrue (is_task_of x (progress s u))) e hu) ht)
+
+  -- ---- a claim keeps the order
+
+  module _ (t : Task) (w : Worker) (s' : State) (staffed : w.0 < p.workers) (claim : Claims p m s t w s') where
+    advance : Advances s s' t Waiting (Claimed w)
+    advance = Claims-advances p m s t w s' state.rows claim
+
+    was_active : (u : Task) → u ≢ t → is_active (progress s' u) ≡ true → is_active (progress s u) ≡ true
+    was_active u d h = sym (ap is_active (advance.others u d)) ∙ h
+
+    -- a commuting cell of the claimed task is a cell of no other active one
+    claim-alone : (u : Task) (c : Cell) → is_active (progress s u) ≡ true → has_cell (commuting_cells p t) c ≡ true → has_cell (cells_of p u (worker_of (progress s u))) c ≡ true → ⊥
+    claim-alone u c active commutes has =
+        false≢true (sym (ap not (in_use p s u c (task-inside u active) active has)) ∙ list_all-has (λ x. not (is_in_use p s x)) (commuting_cells p t) c claim.alone commutes)
+
+    -- nor has the claimed task a commuting cell of another active one
+    claim-apart : (u : Task) (c : Cell) → is_active (progress s u) ≡ true → has_cell (commuting_cells p u) c ≡ true → has_cell (cells_of p t w) c ≡ true → ⊥
+    claim-apart u c active commutes has =
+        let v = worker_of (progress s u) in
+        let written = commuting-among_written p u v c commutes in
+        by_sharing (sharing p names deps t u w v c claim.ready.task (task-inside u active) staffed (worker-inside u v active) has written) written
+      where
+        by_sharing : Sharing p t u w (worker_of (progress s u)) c → has_cell (written_cells p u (worker_of (progress s u))) c ≡ true → ⊥
+        by_sharing (Conflicting forward backward) written = elim (cases_lt u.0 t.0) [
+          | inl before ↦ true≢false (sym (Ready-earlier p s t claim.ready u before backward) ∙ active_isn't_done (progress s u) active)
+          | inr after ↦ elim (cases_eq u.0 t.0) [
+            | inl e ↦ active-isn't_waiting (progress s u) active (ap (λ (i : ℕ). let j : Task = record { 0 = i } in progress s j) e ∙ claim.waiting)
+            | inr differ ↦ true≢false (sym (kept.earlier u (active-begun (progress s u) active) t (omega (arith, differ)) forward) ∙ ap is_done claim.waiting)
+          ]
+        ]
+        by_sharing (Commuting ht hu) written = claim-alone u c active ht (written-among_cells p u (worker_of (progress s u)) c written)
+        by_sharing (Contributing e) written = false≢true (sym (idle-has_none s w u claim.idle) ∙ ap (λ (x : Worker). is_task_of x (progress s u)) e ∙ active)
+
+    claim-commuting : (u v : Task) → IsTrue (is_active (progress s' u)) → IsTrue (is_active (progress s' v)) → u ≢ v → ¬ SharesCommuting p s' u v
+    claim-commuting u v au av d h =
+        elim (same_task u t) [
+          | inl e ↦
+              let other : v ≢ t = λ f. d (e ∙ sym f) in
+              claim-alone v h.cell (was_active v other av) (subst (λ (k : Task). IsTrue (has_cell (commuting_cells p k) h.cell)) e h.commuting) (subst (λ (x : Progress). IsTrue (has_cell (cells_of p v (worker_of x)) h.cell)) (advance.others v other) h.shared)
+          | inr du ↦ elim (same_task v t) [
+            | inl f ↦
+                let mine : has_cell (cells_of p t (worker_of (progress s' t))) h.cell ≡ true = subst (λ (k : Task). IsTrue (has_cell (cells_of p k (worker_of (progress s' k))) h.cell)) f h.shared in
+                claim-apart u h.cell (was_active u du au) h.commuting (subst (λ (x : Progress). IsTrue (has_cell (cells_of p t (worker_of x)) h.cell)) advance.is mine)
+            | inr dv ↦ kept.commuting u v (was_active u du au) (was_active v dv av) d (record { cell = h.cell; commuting = h.commuting; shared = subst (λ (x : Progress). IsTrue (has_cell (cells_of p v (worker_of x)) h.cell)) (advance.others v dv) h.shared })
+          ]
+        ]
+
+    -- a claim keeps the order of conflicting tasks
+    pub Claims-keeps_order : OrderIsKept p s'
+    Claims-keeps_order =
+        let earlier = Claims-keeps_earlier p m s t w s' state.rows claim kept in
+        record { earlier = earlier; apart = apart-from_earlier p s' earlier; commuting = claim-commuting }

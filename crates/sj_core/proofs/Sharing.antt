@@ -1,0 +1,211 @@
+-- Two tasks that work on one cell, of which one writes it: they conflict, or commute, or contribute by one worker.
+use Rattle.std.proofs.Common.{◌≡◌, ◌≢◌, ℕ, zero, suc, ◌+◌, ◌<◌, Bool, true, false, not, ◌||◌, cond, List, [], ◌∷◌, map, length, refl, sym, ap, ◌∙◌, subst, inl, inr, ◌⊎◌, Option, None, Some, arith}
+use Rattle.std.specs.Prelude.{IsTrue, slice_get, option_and_then, is_some}
+use Rattle.std.specs.List.{filter, flat_map, Contains, range_with_len}
+use Rattle.std.proofs.lemmas.Bool.{false≢true}
+use Rattle.std.proofs.lemmas.List.Elements.{Contains-append_left, Contains-append_right}
+use Rattle.std.proofs.lemmas.List.FromFn.{length-range_with_len, get_or-range_with_len}
+use Rattle.std.proofs.lemmas.List.{length-map, get_or-map}
+use Rattle.sj_base.specs.declared.ids.Cell.{Cell}
+use Rattle.sj_base.specs.declared.ids.Task.{Task}
+use Rattle.sj_base.specs.declared.ids.Worker.{Worker}
+use Rattle.sj_base.specs.declared.mode.Mode.{Mode}
+use Rattle.sj_base.specs.declared.mode.Mode.TheVariants.{R, W, RW, Scratch, Redux, Commute as CommuteMode}
+use Rattle.sj_base.specs.declared.mode.Access.{Access}
+use Rattle.sj_base.specs.declared.program.Codelet.{Codelet}
+use Rattle.sj_base.specs.declared.program.CellInfo.{CellInfo}
+use Rattle.sj_base.specs.declared.program.Lowered.{Lowered}
+use Rattle.sj_base.specs.declared.program.Program.{Program}
+use Rattle.sj_core.specs.Program.{same_cell, has_cell, is_scratch, is_written, is_redux, is_commute, cell_info, task_of, no_cell, no_task}
+use Rattle.std.proofs.lemmas.Option.{slice_get-get_or}
+use Rattle.sj_deps.specs.declared.manner.Manner.{Manner}
+use Rattle.sj_deps.specs.declared.manner.Manner.TheVariants.{Read, Write, Commute, Contribute}
+use Rattle.sj_deps.specs.declared.manner.Usage.{Usage}
+use Rattle.sj_deps.specs.Conflict.{usage, usages, usages_of, copies_of, Uses, IsShared, SameGroup, Conflict, HasDependencies}
+use Rattle.sj_core.specs.Operands.{copy_of, worked_on, cells_of, written_cells, commuting_cells}
+use Rattle.sj_core.specs.Proper.{NamesCells, access}
+use Rattle.std.proofs.lemmas.Bool.Decides.{Decides-eqb}
+use Rattle.sj_core.proofs.Reading.{same_cell-is}
+use Rattle.sj_core.proofs.TaskCells.{written_isn't_scratch}
+
+-- ---- an operand behind a cell
+
+-- a cell that a list of operands gives is given by one of them
+pub operand_for : (g : Access → Cell) (f : Access → Bool) (xs : List Access) (c : Cell) → has_cell (map g (filter f xs)) c ≡ true → (a : Access) × Contains xs a × (f a ≡ true) × (g a ≡ c)
+operand_for g f [] c h = absurd (false≢true h)
+operand_for g f (a ∷ xs) c h = by_cases (f a) refl h (operand_for g f xs c)
+  where
+    later : ((b : Access) × Contains xs b × (f b ≡ true) × (g b ≡ c)) → (b : Access) × Contains (a ∷ xs) b × (f b ≡ true) × (g b ≡ c)
+    later (b, (k, l, e), passes, is) = (b, (suc k, omega arith, e), passes, is)
+
+    here : (x : Bool) → f a ≡ true → same_cell (g a) c ≡ x → (x || has_cell (map g (filter f xs)) c) ≡ true → (has_cell (map g (filter f xs)) c ≡ true → (b : Access) × Contains xs b × (f b ≡ true) × (g b ≡ c)) → (b : Access) × Contains (a ∷ xs) b × (f b ≡ true) × (g b ≡ c)
+    here true passes same h rest = (a, (0, omega arith, refl), passes, same_cell-is (g a) c same)
+    here false passes same h rest = later (rest h)
+
+    by_cases : (x : Bool) → f a ≡ x → has_cell (map g (cond x (a ∷ filter f xs) (filter f xs))) c ≡ true → (has_cell (map g (filter f xs)) c ≡ true → (b : Access) × Contains xs b × (f b ≡ true) × (g b ≡ c)) → (b : Access) × Contains (a ∷ xs) b × (f b ≡ true) × (g b ≡ c)
+    by_cases true passes h rest = here (same_cell (g a) c) passes refl h rest
+    by_cases false fails h rest = later (rest h)
+
+-- and an operand of the list gives its cell
+pub operand-has_cell : (g : Access → Cell) (f : Access → Bool) (xs : List Access) (a : Access) (c : Cell) → Contains xs a → f a ≡ true → same_cell (g a) c ≡ true → has_cell (map g (filter f xs)) c ≡ true
+operand-has_cell g f [] a c (k, l, e) passes same = absurd (omega arith)
+operand-has_cell g f (b ∷ xs) a c (zero, l, e) passes same =
+    let first : f b ≡ true = ap f e ∙ passes in
+    let same_b : same_cell (g b) c ≡ true = ap (λ (x : Access). same_cell (g x) c) e ∙ same in
+    ap (λ x. has_cell (map g (cond x (b ∷ filter f xs) (filter f xs))) c) first ∙ ap (λ x. x || has_cell (map g (filter f xs)) c) same_b
+operand-has_cell g f (b ∷ xs) a c (suc k, l, e) passes same = by_cases (f b) (operand-has_cell g f xs a c (k, omega arith, e) passes same)
+  where
+    or_true : (x : Bool) → (x || true) ≡ true
+    or_true true = refl
+    or_true false = refl
+
+    by_cases : (x : Bool) → has_cell (map g (filter f xs)) c ≡ true → has_cell (map g (cond x (b ∷ filter f xs) (filter f xs))) c ≡ true
+    by_cases true rest = ap (λ y. same_cell (g b) c || y) rest ∙ or_true (same_cell (g b) c)
+    by_cases false rest = rest
+
+-- ---- how a task uses the cell of an operand
+
+Contains-flat_map : {X Y : Type 0} (f : X → List Y) (xs : List X) (x : X) (y : Y) → Contains xs x → Contains (f x) y → Contains (flat_map f xs) y
+Contains-flat_map f [] x y (k, l, e) h = absurd (omega arith)
+Contains-flat_map f (z ∷ xs) x y (zero, l, e) h = Contains-append_left (f z) (flat_map f xs) y (subst (λ v. Contains (f v) y) (sym e) h)
+Contains-flat_map f (z ∷ xs) x y (suc k, l, e) h = Contains-append_right (f z) (flat_map f xs) y (Contains-flat_map f xs x y (k, omega arith, e) h)
+
+-- the manner of an operand of a codelet, scratch aside
+abbrev pub manner_of : Codelet → Mode → Manner
+manner_of k R = Read
+manner_of k W = Write
+manner_of k RW = Write
+manner_of k Scratch = Read
+manner_of k Redux = Contribute
+manner_of k CommuteMode = Commute k
+
+one : {X : Type 0} (x : X) → Contains (x ∷ []) x
+one x = (0, omega arith, refl)
+
+-- the usage of an operand stands among the task's
+used_by_operand : (p : Program) (t : Task) (a : Access) (u : Usage) → t.0 < length p.tasks → Contains (task_of p t).accesses a → Contains (usages_of p (task_of p t).codelet a) u → Contains (usages p t.0) u
+used_by_operand p t a u inside h k =
+    let got : slice_get p.tasks t.0 ≡ Some (task_of p t) = slice_get-get_or p.tasks t.0 no_task inside in
+    let P : Option Lowered → Type 0 = λ o. Contains (elim o as (λ _. List Usage) [ None ↦ [] | Some task ↦ flat_map (usages_of p task.codelet) task.accesses ]) u in
+    subst P (sym got) (Contains-flat_map (usages_of p (task_of p t).codelet) (task_of p t).accesses a u h k)
+
+-- the worker's copy is one of the cell's copies
+copy-among : (p : Program) (d first : Cell) (v : Worker) → d.0 < length p.cells → (cell_info p d).partials ≡ Some first → v.0 < p.workers → Contains (copies_of p d.0) (copy_of p d v).0
+copy-among p d first v inside has h =
+    let got : slice_get p.cells d.0 ≡ Some (cell_info p d) = slice_get-get_or p.cells d.0 no_cell inside in
+    let copies : Option Cell → List ℕ = λ o. elim o as (λ _. List ℕ) [ None ↦ [] | Some f ↦ range_with_len f.0 p.workers ] in
+    let copy : Option Cell → Cell = λ o. elim o as (λ _. Cell) [ None ↦ d | Some f ↦ record { 0 = f.0 + v.0 } ] in
+    let P : Option CellInfo → Type 0 = λ o. Contains (copies (option_and_then (λ (info : CellInfo). info.partials) o)) (copy_of p d v).0 in
+    let Q : Option Cell → Type 0 = λ o. Contains (copies o) (copy o).0 in
+    subst P (sym got) (subst Q (sym has) (v.0, omega (arith, length-range_with_len first.0 p.workers), get_or-range_with_len first.0 p.workers v.0 (first.0 + v.0) h))
+
+pub operand-uses : (p : Program) (t : Task) (v : Worker) (x : Mode) (d : Cell) → t.0 < length p.tasks → v.0 < p.workers → Contains (task_of p t).accesses (access x d) → not (is_scratch x) ≡ true → (is_redux x ≡ true → (d.0 < length p.cells) × ((first : Cell) × ((cell_info p d).partials ≡ Some first))) → Uses p t.0 (worked_on p v (access x d)).0 (manner_of (task_of p t).codelet x)
+operand-uses p t v R d inside some h accessed copies = used_by_operand p t (access R d) (usage Read d.0) inside h (one (usage Read d.0))
+operand-uses p t v W d inside some h accessed copies = used_by_operand p t (access W d) (usage Write d.0) inside h (one (usage Write d.0))
+operand-uses p t v RW d inside some h accessed copies = used_by_operand p t (access RW d) (usage Write d.0) inside h (one (usage Write d.0))
+operand-uses p t v Scratch d inside some h accessed copies = absurd (false≢true accessed)
+operand-uses p t v CommuteMode d inside some h accessed copies = used_by_operand p t (access CommuteMode d) (usage (Commute (task_of p t).codelet) d.0) inside h (one (usage (Commute (task_of p t).codelet) d.0))
+operand-uses p t v Redux d inside some h accessed copies =
+    let c = copies refl in
+    used_by_operand p t (access Redux d) (usage Contribute (copy_of p d v).0) inside h (Contains-map (usage Contribute) (copies_of p d.0) (copy_of p d v).0 (copy-among p d c.1.0 v c.0 c.1.1 some))
+  where
+    Contains-map : {X Y : Type 0} (f : X → Y) (xs : List X) (x : X) → Contains xs x → Contains (map f xs) (f x)
+    Contains-map f xs x (k, l, e) = (k, omega (arith, length-map xs f), get_or-map f xs k x (f x) l ∙ ap f e)
+
+-- ---- two tasks and one cell
+
+-- how two tasks share a cell that one of them writes
+pub data Sharing (p : Program) (u t : Task) (v w : Worker) (c : Cell) : Type 0 where
+  Conflicting : Conflict p u.0 t.0 → Conflict p t.0 u.0 → Sharing p u t v w c
+  Commuting : IsTrue (has_cell (commuting_cells p u) c) → IsTrue (has_cell (commuting_cells p t) c) → Sharing p u t v w c
+  Contributing : v ≡ w → Sharing p u t v w c
+
+-- the operands of a REDUX access are cells of the program that have partial copies
+redux-has_copies : (p : Program) → NamesCells p → (t : Task) → t.0 < length p.tasks → (x : Mode) (d : Cell) → Contains (task_of p t).accesses (access x d) → is_redux x ≡ true → (d.0 < length p.cells) × ((first : Cell) × ((cell_info p d).partials ≡ Some first))
+redux-has_copies p names t inside x d (k, l, e) redux =
+    let here = names.named t.0 no_task inside k (access x d) l in
+    let copies = names.reduced t.0 no_task inside k (access x d) l (ap (λ (a : Access). is_redux a.mode) e ∙ redux) in
+    (subst (λ (a : Access). a.cell.0 < length p.cells) e here, some (cell_info p d).partials (sym (ap (λ (a : Access). is_some (cell_info p a.cell).partials) e) ∙ copies))
+  where
+    some : (o : Option Cell) → is_some o ≡ true → (first : Cell) × (o ≡ Some first)
+    some None h = absurd (false≢true h)
+    some (Some first) h = (first, refl)
+
+write_isn't_read : Write ≡ Read → ⊥
+write_isn't_read e = cc
+
+commute_isn't_read : (k : Codelet) → Commute k ≡ Read → ⊥
+commute_isn't_read k e = cc
+
+contribute_isn't_read : Contribute ≡ Read → ⊥
+contribute_isn't_read e = cc
+
+commute_isn't_contribute : (k : Codelet) → Commute k ≡ Contribute → ⊥
+commute_isn't_contribute k e = cc
+
+module _ (p : Program) (names : NamesCells p) (deps : HasDependencies p) (u t : Task) (v w : Worker) (c : Cell) (u_in : u.0 < length p.tasks) (t_in : t.0 < length p.tasks) (v_in : v.0 < p.workers) (w_in : w.0 < p.workers) where
+  -- where t's manner is no shared one, or u's, or they differ, the tasks conflict
+  conflicting : (m n : Manner) → Uses p u.0 c.0 m → Uses p t.0 c.0 n → (n ≡ Read → ⊥) → ((IsShared n → ⊥) ⊎ ((IsShared m → ⊥) ⊎ (m ≢ n))) → Sharing p u t v w c
+  conflicting m n um tn writes apart =
+      Conflicting
+      (record { cell = c.0; manner_of_t = m; manner_of_u = n; first = um; second = tn; written = λ both. writes both.1; apart = forward apart })
+      (record { cell = c.0; manner_of_t = n; manner_of_u = m; first = tn; second = um; written = λ both. writes both.0; apart = backward apart })
+    where
+      forward : ((IsShared n → ⊥) ⊎ ((IsShared m → ⊥) ⊎ (m ≢ n))) → (k : Manner) → ¬ SameGroup p u.0 t.0 c.0 k
+      forward (inl alone) k g = alone (subst IsShared (sym (deps.manners t.0 c.0 n k tn g.second)) g.shared)
+      forward (inr (inl alone)) k g = alone (subst IsShared (sym (deps.manners u.0 c.0 m k um g.first)) g.shared)
+      forward (inr (inr differ)) k g = differ (deps.manners u.0 c.0 m k um g.first ∙ sym (deps.manners t.0 c.0 n k tn g.second))
+
+      backward : ((IsShared n → ⊥) ⊎ ((IsShared m → ⊥) ⊎ (m ≢ n))) → (k : Manner) → ¬ SameGroup p t.0 u.0 c.0 k
+      backward (inl alone) k g = alone (subst IsShared (sym (deps.manners t.0 c.0 n k tn g.first)) g.shared)
+      backward (inr (inl alone)) k g = alone (subst IsShared (sym (deps.manners u.0 c.0 m k um g.second)) g.shared)
+      backward (inr (inr differ)) k g = differ (deps.manners u.0 c.0 m k um g.second ∙ sym (deps.manners t.0 c.0 n k tn g.first))
+
+  -- the copies of two REDUX operands are one only where the worker is
+  one_copy : (d e : Cell) → is_some (cell_info p d).partials ≡ true → is_some (cell_info p e).partials ≡ true → copy_of p d v ≡ c → copy_of p e w ≡ c → v ≡ w
+  one_copy d e hd he cd ce =
+      let same = names.apart c d e v w (record { has_copies = hd; of_worker = v_in; is = sym cd }) (record { has_copies = he; of_worker = w_in; is = sym ce }) in
+      by_first (cell_info p d).partials hd ((ap (λ (q : Cell). q.0) cd) ∙ sym (ap (λ (q : Cell). q.0) (ap (λ (q : Cell). copy_of p q w) same ∙ ce)))
+    where
+      by_first : (o : Option Cell) → is_some o ≡ true → (elim o as (λ _. Cell) [ None ↦ d | Some f ↦ record { 0 = f.0 + v.0 } ]).0 ≡ (elim o as (λ _. Cell) [ None ↦ d | Some f ↦ record { 0 = f.0 + w.0 } ]).0 → v ≡ w
+      by_first None h e = absurd (false≢true h)
+      by_first (Some f) h e = let n : v.0 ≡ w.0 = omega arith in ap (λ (i : ℕ). let j : Worker = record { 0 = i } in j) n
+
+  by_modes : (x y : Mode) (d e : Cell) → Contains (task_of p u).accesses (access x d) → Contains (task_of p t).accesses (access y e) → not (is_scratch x) ≡ true → is_written y ≡ true → worked_on p v (access x d) ≡ c → worked_on p w (access y e) ≡ c →
+      Uses p u.0 c.0 (manner_of (task_of p u).codelet x) → Uses p t.0 c.0 (manner_of (task_of p t).codelet y) → Sharing p u t v w c
+  by_modes x R d e hx hy sx wy cx cy um tn = absurd (false≢true wy)
+  by_modes x Scratch d e hx hy sx wy cx cy um tn = absurd (false≢true wy)
+  by_modes x W d e hx hy sx wy cx cy um tn = conflicting (manner_of (task_of p u).codelet x) Write um tn write_isn't_read (inl (λ h. h))
+  by_modes x RW d e hx hy sx wy cx cy um tn = conflicting (manner_of (task_of p u).codelet x) Write um tn write_isn't_read (inl (λ h. h))
+  by_modes R CommuteMode d e hx hy sx wy cx cy um tn = conflicting Read (Commute (task_of p t).codelet) um tn (commute_isn't_read (task_of p t).codelet) (inr (inl (λ h. h)))
+  by_modes W CommuteMode d e hx hy sx wy cx cy um tn = conflicting Write (Commute (task_of p t).codelet) um tn (commute_isn't_read (task_of p t).codelet) (inr (inl (λ h. h)))
+  by_modes RW CommuteMode d e hx hy sx wy cx cy um tn = conflicting Write (Commute (task_of p t).codelet) um tn (commute_isn't_read (task_of p t).codelet) (inr (inl (λ h. h)))
+  by_modes Scratch CommuteMode d e hx hy sx wy cx cy um tn = absurd (false≢true sx)
+  by_modes Redux CommuteMode d e hx hy sx wy cx cy um tn = conflicting Contribute (Commute (task_of p t).codelet) um tn (commute_isn't_read (task_of p t).codelet) (inr (inr (λ h. commute_isn't_contribute (task_of p t).codelet (sym h))))
+  by_modes CommuteMode CommuteMode d e hx hy sx wy cx cy um tn =
+      Commuting
+      (operand-has_cell (λ a. a.cell) (λ a. is_commute a.mode) (task_of p u).accesses (access CommuteMode d) c hx refl (same d cx))
+      (operand-has_cell (λ a. a.cell) (λ a. is_commute a.mode) (task_of p t).accesses (access CommuteMode e) c hy refl (same e cy))
+    where
+      same : (q : Cell) → q ≡ c → same_cell q c ≡ true
+      same q h = (Decides-eqb q.0 c.0).1 (ap (λ (k : Cell). k.0) h)
+  by_modes R Redux d e hx hy sx wy cx cy um tn = conflicting Read Contribute um tn contribute_isn't_read (inr (inl (λ h. h)))
+  by_modes W Redux d e hx hy sx wy cx cy um tn = conflicting Write Contribute um tn contribute_isn't_read (inr (inl (λ h. h)))
+  by_modes RW Redux d e hx hy sx wy cx cy um tn = conflicting Write Contribute um tn contribute_isn't_read (inr (inl (λ h. h)))
+  by_modes Scratch Redux d e hx hy sx wy cx cy um tn = absurd (false≢true sx)
+  by_modes CommuteMode Redux d e hx hy sx wy cx cy um tn = conflicting (Commute (task_of p u).codelet) Contribute um tn contribute_isn't_read (inr (inr (commute_isn't_contribute (task_of p u).codelet)))
+  by_modes Redux Redux d e hx hy sx wy cx cy um tn =
+      let du = redux-has_copies p names u u_in Redux d hx refl in
+      let dt = redux-has_copies p names t t_in Redux e hy refl in
+      Contributing (one_copy d e (ap is_some du.1.1) (ap is_some dt.1.1) cx cy)
+
+  -- two tasks that share a cell that t writes conflict, or both commute there, or contribute by one worker
+  pub sharing : has_cell (cells_of p u v) c ≡ true → has_cell (written_cells p t w) c ≡ true → Sharing p u t v w c
+  sharing hu ht =
+      let a = operand_for (worked_on p v) (λ a. not (is_scratch a.mode)) (task_of p u).accesses c hu in
+      let b = operand_for (worked_on p w) (λ a. is_written a.mode) (task_of p t).accesses c ht in
+      let ua = operand-uses p u v a.0.mode a.0.cell u_in v_in a.1 a.2 (redux-has_copies p names u u_in a.0.mode a.0.cell a.1) in
+      let tb = operand-uses p t w b.0.mode b.0.cell t_in w_in b.1 (written_isn't_scratch b.0.mode b.2) (redux-has_copies p names t t_in b.0.mode b.0.cell b.1) in
+      by_modes a.0.mode b.0.mode a.0.cell b.0.cell a.1 b.1 a.2 b.2 a.3 b.3
+      (subst (λ (q : Cell). Uses p u.0 q.0 (manner_of (task_of p u).codelet a.0.mode)) a.3 ua)
+      (subst (λ (q : Cell). Uses p t.0 q.0 (manner_of (task_of p t).codelet b.0.mode)) b.3 tb)

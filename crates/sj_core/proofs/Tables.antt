@@ -1,0 +1,27 @@
+-- Reading a table after rows of it were written.
+use Rattle.std.proofs.Common.{◌≡◌, ℕ, ◌<◌, List, length, get_or, sym, ap, ◌∙◌, inl, inr, arith}
+use Rattle.std.proofs.lemmas.List.{length-map, get_or-map, get_or_past}
+use Rattle.std.proofs.lemmas.List.FromFn.{length-enumerate_from, get_or-enumerate_from}
+use Rattle.std.proofs.lemmas.Bool.{cases_lt}
+use Rattle.std.specs.List.{enumerate_from}
+use Rattle.sj_core.specs.Table.{renewed}
+
+pub length-renewed : {X : Type 0} (f : ℕ → X → X) (xs : List X) → length (renewed f xs) ≡ length xs
+length-renewed f xs = length-map (enumerate_from 0 xs) (λ row. f row.0 row.1) ∙ length-enumerate_from 0 xs
+
+-- a row of a table in which every row was renewed
+pub renewed-at : {X : Type 0} (f : ℕ → X → X) (xs : List X) (i : ℕ) (d : X) → i < length xs → get_or (renewed f xs) i d ≡ f i (get_or xs i d)
+renewed-at {X} f xs i d h =
+    let inside : i < length (enumerate_from 0 xs) = omega (arith, length-enumerate_from 0 xs) in
+    let g : (ℕ × X) → X = λ row. f row.0 row.1 in
+    let e = get_or-map g (enumerate_from 0 xs) i (i, d) d inside in
+    let r : get_or (enumerate_from 0 xs) i (i, d) ≡ (i, get_or xs i d) = get_or-enumerate_from 0 xs i (i, d) h ∙ ap (λ (k : ℕ). (k, get_or xs i d)) (omega arith) in
+    e ∙ ap g r
+
+-- past the end too, where f keeps the default
+pub renewed-at_or : {X : Type 0} (f : ℕ → X → X) (xs : List X) (i : ℕ) (d : X) → f i d ≡ d → get_or (renewed f xs) i d ≡ f i (get_or xs i d)
+renewed-at_or f xs i d k =
+    elim (cases_lt i (length xs)) [
+      | inl h ↦ renewed-at f xs i d h
+      | inr h ↦ get_or_past (renewed f xs) i d (omega (arith, length-renewed f xs)) ∙ sym k ∙ ap (f i) (sym (get_or_past xs i d h))
+    ]

@@ -1,0 +1,12 @@
+pub mod Coherent
+pub mod Fold
+pub mod Laws
+pub mod Legal
+pub mod Machine
+pub mod Needs
+pub mod Operands
+pub mod Program
+pub mod Proper
+pub mod Step
+pub mod Table
+pub mod Victims

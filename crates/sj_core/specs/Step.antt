@@ -1,0 +1,253 @@
+-- The legal steps of a run: for each kind of event what it needs, and the state that it leaves
+-- (StarPU Handbook, "Data Management" and "Out Of Core"; CCPE 2011, "Data management").
+use Rattle.std.specs.Prelude.{◌≡◌, ℕ, ◌+◌, ◌<◌, ◌≤◌, Bool, false, not, ◌&&◌, ◌||◌, IsTrue, nat_eq, Option, Some, None, List, [], ◌∷◌, ◌++◌, map, filter, fold, length, sum_by, unwrap_or, if◌then◌else◌}
+use Rattle.std.specs.List.{slice_index_or, slice_set, list_any, list_all, range_with_len, zip, position}
+use Rattle.sj_base.specs.declared.ids.Cell.{Cell}
+use Rattle.sj_base.specs.declared.ids.Task.{Task}
+use Rattle.sj_base.specs.declared.ids.Node.{Node}
+use Rattle.sj_base.specs.declared.ids.Worker.{Worker}
+use Rattle.sj_base.specs.declared.ids.DiskNo.{DiskNo}
+use Rattle.sj_base.specs.declared.ids.Place.{Place}
+use Rattle.sj_base.specs.declared.ids.Place.TheVariants.{Node as AtNode, Disk as OnDisk}
+use Rattle.sj_base.specs.declared.trace.Event.{Event}
+use Rattle.sj_base.specs.declared.trace.Event.TheVariants.{Claim, Move, Moved, Drop, Run, End}
+use Rattle.sj_base.specs.declared.program.Program.{Program}
+use Rattle.sj_base.specs.declared.program.Machine.{Machine}
+use Rattle.sj_base.specs.Array.{Array, zeros}
+use Rattle.sj_core.specs.Program.{same_cell, has_cell, distinct, dims_of, task_of, tasks_of}
+use Rattle.sj_core.specs.Needs.{node_of, node_size, tile_bytes, scratch_bytes, footprint, place, workers_of}
+use Rattle.sj_core.specs.Victims.{victims}
+use Rattle.sj_core.specs.declared.progress.Progress.TheVariants.{Waiting, Claimed, Running, Done}
+use Rattle.sj_core.specs.declared.progress.Transfer.{Transfer}
+use Rattle.sj_deps.specs.Conflict.{Conflict, Ready}
+use Rattle.sj_core.specs.Operands.{cells_of, written_cells, fresh_cells, commuting_cells, results}
+use Rattle.sj_core.specs.Fold.{held_in}
+use Rattle.sj_core.specs.Machine.{State, CellState, Replica, Invalid, Coming, Valid, Leaving, progress, cell_state, replica, replica_in, order, transfer, victims_of, with_replica, with_replica_in, with_cells, with_orders, with_transfer, array_of, is_valid, is_leaving, is_leaving_by, is_coming_by, is_claimed_by, is_task_of, is_idle, worker_of, done_in, is_pinned, free, moves, has_room}
+
+-- ---- words on where replicas are
+
+-- the disk on which the cell's block lies
+abbrev pub disk_of : Program → Machine → Cell → DiskNo
+disk_of p m c =
+    elim (place p m.disks) [ None ↦ record { 0 = 0 } | Some blocks ↦ (slice_index_or blocks c.0 (record { disk = record { 0 = 0 }; position = 0 })).disk ]
+
+abbrev pub same_place : Place → Place → Bool
+same_place (AtNode a) (AtNode b) = nat_eq a.0 b.0
+same_place (OnDisk a) (OnDisk b) = nat_eq a.0 b.0
+same_place _ _ = false
+
+-- the places of a machine: its nodes and its disks
+abbrev pub places_of : Machine → List Place
+places_of m =
+    map (λ n. AtNode (record { 0 = n })) (range_with_len 0 (length m.nodes))
+    ++ map (λ d. OnDisk (record { 0 = d })) (range_with_len 0 (length m.disks))
+
+-- a replica of the cell is valid at another place
+abbrev pub is_valid_elsewhere : Machine → State → Cell → Place → Bool
+is_valid_elsewhere m s c here = list_any (λ q. not (same_place q here) && is_valid (replica s c q)) (places_of m)
+
+-- where a node fetches the cell from: the valid node with the least number, else the disk of its block
+abbrev pub source_of : Program → Machine → State → Cell → Place
+source_of p m s c =
+    elim (position is_valid (cell_state s c).nodes) [ None ↦ OnDisk (disk_of p m c) | Some n ↦ AtNode (record { 0 = n }) ]
+
+-- the array of a valid replica
+abbrev pub array_at : Program → State → Place → Cell → Array
+array_at p s q c = unwrap_or (array_of (replica s c q)) (zeros (dims_of p c))
+
+-- no replica on the node is leaving
+abbrev pub none_leaving : State → Node → Bool
+none_leaving s n = list_all (λ row. not (is_leaving (replica_in row (AtNode n)))) s.cells
+
+-- a transfer of the cell is under way
+abbrev pub is_moving : Machine → State → Cell → Bool
+is_moving m s c = list_any (λ w. moves s w c) (workers_of m)
+
+-- the worker's transfer reads the cell at that place
+abbrev pub reads : State → Worker → Cell → Place → Bool
+reads s w c q = elim (transfer s w) [ None ↦ false | Some move ↦ same_cell move.cell c && same_place move.from q ]
+
+-- a transfer reads the cell at that place
+abbrev pub is_read : Machine → State → Cell → Place → Bool
+is_read m s c q = list_any (λ w. reads s w c q) (workers_of m)
+
+-- ---- words on tasks
+
+-- the tasks that are done, by number
+abbrev pub done_tasks : State → List ℕ
+done_tasks s = filter (λ n. done_in s (record { 0 = n })) (range_with_len 0 (length s.tasks))
+
+-- every earlier task that conflicts with this one is done
+abbrev pub EarlierAreDone : Program → State → Task → Type 0
+EarlierAreDone p s t = (u : Task) → u.0 < t.0 → Conflict p u.0 t.0 → IsTrue (done_in s u)
+
+-- the cell is one of a claimed or running task
+abbrev pub is_in_use : Program → State → Cell → Bool
+is_in_use p s c = list_any (λ t. is_task_of (worker_of (progress s t)) (progress s t) && has_cell (cells_of p t (worker_of (progress s t))) c) (tasks_of p)
+
+-- the worker's claimed task doesn't read the cell's old value
+abbrev pub is_fresh : Program → State → Worker → Cell → Bool
+is_fresh p s w c = list_any (λ t. is_claimed_by w (progress s t) && has_cell (fresh_cells p t w) c) (tasks_of p)
+
+-- ---- what a claim does
+
+-- the cells of a task without an entry on the node, each once
+abbrev pub missing : Program → State → Task → Worker → Node → List Cell
+missing p s t w n = filter (λ c. not (has_cell (order s n) c)) (distinct (cells_of p t w))
+
+-- the bytes that a claim brings to the node: its missing cells and its scratch
+abbrev pub to_come : Program → State → Task → Worker → Node → ℕ
+to_come p s t w n = sum_by (tile_bytes p) (missing p s t w n) + scratch_bytes p (task_of p t)
+
+-- the victims of a claim, with the task's cells taken as pinned; none where all unpinned entries don't make room
+abbrev pub victims_for : Program → Machine → State → Task → Worker → Option (List Cell)
+victims_for p m s t w =
+    let n = node_of m w in
+    victims (tile_bytes p) (λ c. not (is_pinned m s n c) && not (has_cell (cells_of p t w) c)) (order s n) (free p m s n) (to_come p s t w n)
+
+-- the order with the cell at its front
+abbrev pub to_front : List Cell → Cell → List Cell
+to_front order c = c ∷ filter (λ d. not (same_cell d c)) order
+
+-- the order without these cells
+abbrev pub without : List Cell → List Cell → List Cell
+without gone order = filter (λ c. not (has_cell gone c)) order
+
+abbrev pub leave : Worker → Replica → Replica
+leave w (Valid a) = Leaving w a
+leave w r = r
+
+-- the cell's replica on the node after a claim: a victim leaves, a missing cell is coming
+abbrev pub claimed_replica : Worker → List Cell → List Cell → Cell → Replica → Replica
+claimed_replica w evicted missing c r =
+    if has_cell evicted c then leave w r else if has_cell missing c then Coming w else r
+
+-- the state after a claim that evicts these victims
+abbrev pub after_claim : Program → Machine → State → Task → Worker → List Cell → State
+after_claim p m s t w evicted =
+    let n = node_of m w in
+    record {
+      tasks = slice_set s.tasks t.0 (Claimed w);
+      cells = (with_cells s (λ c row. with_replica_in row (AtNode n) (claimed_replica w evicted (missing p s t w n) c (replica_in row (AtNode n))))).cells;
+      orders = slice_set s.orders n.0 (fold to_front (without evicted (order s n)) (cells_of p t w));
+      workers = slice_set s.workers w.0 (record { pins = cells_of p t w; scratch = scratch_bytes p (task_of p t); victims = evicted; transfer = transfer s w });
+    }
+
+-- `claim t w`: the worker takes a ready task, pins its cells, and makes room for what it brings
+pub record Claims (p : Program) (m : Machine) (s : State) (t : Task) (w : Worker) (s' : State) : Type 0 where
+  pub worker : w.0 < p.workers
+  pub waiting : progress s t ≡ Waiting
+  pub ready : Ready p (done_tasks s) t.0
+  pub idle : IsTrue (is_idle s w)
+  pub fits : footprint p t ≤ node_size m (node_of m w)
+  pub settled : IsTrue (none_leaving s (node_of m w))
+  pub alone : IsTrue (list_all (λ c. not (is_in_use p s c)) (commuting_cells p t))
+  pub evicted : List Cell
+  pub chosen : victims_for p m s t w ≡ Some evicted
+  pub leaves : s' ≡ after_claim p m s t w evicted
+
+-- ---- moves and drops
+
+abbrev pub a_transfer : Cell → Place → Place → Transfer
+a_transfer c from to = record { cell = c; from = from; to = to }
+
+-- `move c from to` into a node: its worker begins to bring a cell of its claim
+pub record BeginsMoveIn (p : Program) (m : Machine) (s : State) (c : Cell) (from : Place) (n : Node) (w : Worker) (s' : State) : Type 0 where
+  pub own_node : n ≡ node_of m w
+  pub free : transfer s w ≡ None
+  pub coming : IsTrue (is_coming_by w (replica s c (AtNode n)))
+  pub old_value_needed : IsTrue (not (is_fresh p s w c))
+  pub room : IsTrue (has_room m s w)
+  pub source : from ≡ source_of p m s c
+  pub leaves : s' ≡ with_transfer s w (Some (a_transfer c from (AtNode n)))
+
+-- `move c from to` out to a disk: a worker begins to write a victim of its claim that has no other valid replica
+pub record BeginsMoveOut (p : Program) (m : Machine) (s : State) (c : Cell) (from : Place) (d : DiskNo) (w : Worker) (s' : State) : Type 0 where
+  pub free : transfer s w ≡ None
+  pub leaving : IsTrue (is_leaving_by w (replica s c from))
+  pub only : IsTrue (not (is_valid_elsewhere m s c from))
+  pub target : d ≡ disk_of p m c
+  pub leaves : s' ≡ with_transfer s w (Some (a_transfer c from (OnDisk d)))
+
+-- `moved c from to`: the transfer is over, and the replica at its target is valid
+pub record EndsMove (p : Program) (s : State) (c : Cell) (from to : Place) (w : Worker) (s' : State) : Type 0 where
+  pub under_way : transfer s w ≡ Some (a_transfer c from to)
+  pub leaves : s' ≡ with_transfer (with_replica s c to (Valid (array_at p s from c))) w None
+
+-- `drop c n`: a leaving replica that no transfer reads goes, since another is valid
+pub record Drops (m : Machine) (s : State) (c : Cell) (n : Node) (s' : State) : Type 0 where
+  pub leaving : IsTrue (is_leaving (replica s c (AtNode n)))
+  pub unread : IsTrue (not (is_read m s c (AtNode n)))
+  pub shared : IsTrue (is_valid_elsewhere m s c (AtNode n))
+  pub leaves : s' ≡ with_replica s c (AtNode n) Invalid
+
+-- ---- run and end
+
+-- a cell with one valid replica, on that node
+abbrev pub owned_at : Node → Array → CellState → CellState
+owned_at n a row = record { nodes = slice_set (map (λ r. Invalid) row.nodes) n.0 (Valid a); disks = map (λ r. Invalid) row.disks; writes = row.writes }
+
+-- the array of a written cell when the task begins to run: zeros where its old value isn't read
+abbrev pub initial : Program → State → Task → Worker → Node → Cell → Array
+initial p s t w n c = if has_cell (fresh_cells p t w) c then zeros (dims_of p c) else array_at p s (AtNode n) c
+
+-- the state after `run`: the written cells are the node's own, and no entry of another node
+abbrev pub after_run : Program → Machine → State → Task → Worker → State
+after_run p m s t w =
+    let n = node_of m w in
+    let written = written_cells p t w in
+    record {
+      tasks = slice_set s.tasks t.0 (Running w);
+      cells = (with_cells s (λ c row. if has_cell written c then owned_at n (initial p s t w n c) row else row)).cells;
+      orders = (with_orders s (λ k cs. if nat_eq k.0 n.0 then cs else without written cs)).orders;
+      workers = s.workers;
+    }
+
+-- each cell of the task whose old value it reads is valid on the node
+abbrev pub is_present : Program → State → Task → Worker → Node → Bool
+is_present p s t w n = list_all (λ c. has_cell (fresh_cells p t w) c || is_valid (replica s c (AtNode n))) (cells_of p t w)
+
+-- `run t w`: the kernel of a claimed task begins
+pub record Runs (p : Program) (m : Machine) (s : State) (t : Task) (w : Worker) (s' : State) : Type 0 where
+  pub claimed : progress s t ≡ Claimed w
+  pub earlier : EarlierAreDone p s t
+  pub room : IsTrue (has_room m s w)
+  pub present : IsTrue (is_present p s t w (node_of m w))
+  pub unmoved : IsTrue (list_all (λ c. not (is_moving m s c)) (written_cells p t w))
+  pub leaves : s' ≡ after_run p m s t w
+
+-- the new array of a written cell, from the arrays on the node
+abbrev pub result_at : Program → State → Task → Worker → Node → Cell → Array
+result_at p s t w n c = held_in p (zip (written_cells p t w) (results p t w (array_at p s (AtNode n)))) c
+
+-- the cell with a new array on that node, written once more
+abbrev pub rewritten_at : Node → Array → CellState → CellState
+rewritten_at n a row = record { nodes = slice_set row.nodes n.0 (Valid a); disks = row.disks; writes = row.writes + 1 }
+
+-- the state after `end`: the written cells hold the results, and the worker's pins and scratch are gone
+abbrev pub after_end : Program → Machine → State → Task → Worker → State
+after_end p m s t w =
+    let n = node_of m w in
+    record {
+      tasks = slice_set s.tasks t.0 (Done w);
+      cells = (with_cells s (λ c row. if has_cell (written_cells p t w) c then rewritten_at n (result_at p s t w n c) row else row)).cells;
+      orders = s.orders;
+      workers = slice_set s.workers w.0 (record { pins = []; scratch = 0; victims = victims_of s w; transfer = transfer s w });
+    }
+
+-- `end t w`: the kernel of a running task has ended
+pub record Ends (p : Program) (m : Machine) (s : State) (t : Task) (w : Worker) (s' : State) : Type 0 where
+  pub running : progress s t ≡ Running w
+  pub leaves : s' ≡ after_end p m s t w
+
+-- ---- the step relation
+
+-- the event is legal in s, and leaves s'
+abbrev pub Step : Program → Machine → State → Event → State → Type 0
+Step p m s (Claim t w) s' = Claims p m s t w s'
+Step p m s (Move c from (AtNode n)) s' = (w : Worker) × BeginsMoveIn p m s c from n w s'
+Step p m s (Move c from (OnDisk d)) s' = (w : Worker) × BeginsMoveOut p m s c from d w s'
+Step p m s (Moved c from to) s' = (w : Worker) × EndsMove p s c from to w s'
+Step p m s (Drop c n) s' = Drops m s c n s'
+Step p m s (Run t w) s' = Runs p m s t w s'
+Step p m s (End t w) s' = Ends p m s t w s'

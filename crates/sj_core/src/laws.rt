@@ -1,0 +1,31 @@
+//! What a task's steps keep of a coherent state, whatever the program, the machine and the order of events.
+
+ghost use Rattle.sj_core.specs.Coherent.{OrderIsKept, PinsHold, TasksHaveCells, TransfersAreSound, WorkersAreSound};
+ghost use Rattle.sj_core.specs.Laws.{IsKeptByClaims, IsKeptByEnds, IsKeptByRuns};
+
+/// What a claim keeps: conflicting tasks in order, each worker's task, replicas and transfers.
+pub fn claims()
+    ensures order_is_kept { IsKeptByClaims (λ p m s. OrderIsKept p s) }
+    ensures workers_are_sound { IsKeptByClaims WorkersAreSound }
+    ensures tasks_have_cells { IsKeptByClaims TasksHaveCells }
+    ensures pins_hold { IsKeptByClaims PinsHold }
+    ensures transfers_are_sound { IsKeptByClaims (λ p m s. TransfersAreSound m s) }
+{}
+
+/// What the beginning of a kernel's run keeps.
+pub fn runs()
+    ensures order_is_kept { IsKeptByRuns (λ p m s. OrderIsKept p s) }
+    ensures workers_are_sound { IsKeptByRuns WorkersAreSound }
+    ensures tasks_have_cells { IsKeptByRuns TasksHaveCells }
+    ensures pins_hold { IsKeptByRuns PinsHold }
+    ensures transfers_are_sound { IsKeptByRuns (λ p m s. TransfersAreSound m s) }
+{}
+
+/// What the end of a kernel's run keeps.
+pub fn ends()
+    ensures order_is_kept { IsKeptByEnds (λ p m s. OrderIsKept p s) }
+    ensures workers_are_sound { IsKeptByEnds WorkersAreSound }
+    ensures tasks_have_cells { IsKeptByEnds TasksHaveCells }
+    ensures pins_hold { IsKeptByEnds PinsHold }
+    ensures transfers_are_sound { IsKeptByEnds (λ p m s. TransfersAreSound m s) }
+{}

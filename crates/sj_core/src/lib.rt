@@ -1,0 +1,6 @@
+//! The machine that runs a program: its states, its events, the one relation of legal steps, and when a
+//! state is coherent (StarPU Handbook, data management: the states of replicas).
+#![tactic(auto)]
+
+pub mod laws;
+pub mod progress;

@@ -1,0 +1,6 @@
+pub mod Conflict
+pub mod Chains
+pub mod Counts
+pub mod Progress
+pub mod Lending
+pub mod Countable

@@ -1,0 +1,14 @@
+//! Dependencies of lowered tasks: which are ready, and which become ready as others are done
+//! (StarPU Handbook: implicit data dependencies from the order of submission).
+#![tactic(auto)]
+
+mod chain;
+mod counters;
+pub mod deps;
+mod entry;
+mod listing;
+pub mod manner;
+mod settle;
+#[cfg(test)]
+mod tests;
+mod usages;
