@@ -68,7 +68,7 @@ entry-inside s c n h = (in_table (cases_lt c.0 (length s.cells)), in_row (cases_
     in_row (inr past) = absurd (false≢true (sym (ap is_entry (get_or_past (cell_state s c).nodes n.0 Invalid past)) ∙ h))
 
 -- the cells whose rows a test leaves alone
-cells-untouched : (s : State) (test : Cell → Bool) (g : Cell → CellState → CellState) (c : Cell) → test c ≡ false → cell_state (with_cells s (λ d row. if test d then g d row else row)) c ≡ cell_state s c
+pub cells-untouched : (s : State) (test : Cell → Bool) (g : Cell → CellState → CellState) (c : Cell) → test c ≡ false → cell_state (with_cells s (λ d row. if test d then g d row else row)) c ≡ cell_state s c
 cells-untouched s test g c h =
     elim (cells-renewed_or s (λ d row. if test d then g d row else row) c) [
       | inl row ↦ row ∙ ap (λ b. if b then g c (cell_state s c) else cell_state s c) h
@@ -76,7 +76,7 @@ cells-untouched s test g c h =
     ]
 
 -- and those that it picks
-cells-touched : (s : State) (test : Cell → Bool) (g : Cell → CellState → CellState) (c : Cell) → c.0 < length s.cells → test c ≡ true → cell_state (with_cells s (λ d row. if test d then g d row else row)) c ≡ g c (cell_state s c)
+pub cells-touched : (s : State) (test : Cell → Bool) (g : Cell → CellState → CellState) (c : Cell) → c.0 < length s.cells → test c ≡ true → cell_state (with_cells s (λ d row. if test d then g d row else row)) c ≡ g c (cell_state s c)
 cells-touched s test g c inside h =
     renewed-at (λ k row. let d : Cell = record { 0 = k } in if test d then g d row else row) s.cells c.0 no_row inside ∙ ap (λ b. if b then g c (cell_state s c) else cell_state s c) h
 

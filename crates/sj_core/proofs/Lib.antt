@@ -1,6 +1,7 @@
 pub mod AddRun
 pub mod Advancing
 pub mod Claiming
+pub mod Counting
 pub mod Eviction
 pub mod EvictionRun
 pub mod Holding
@@ -11,4 +12,5 @@ pub mod Separation
 pub mod Sharing
 pub mod Tables
 pub mod TaskCells
+pub mod Worked
 pub mod Workers

@@ -1,7 +1,15 @@
-//! What a task's steps keep of a coherent state, whatever the program, the machine and the order of events.
+//! What the steps of a task keep of a coherent state, whatever the program, the machine and the order of events.
 
-ghost use Rattle.sj_core.specs.Coherent.{OrderIsKept, PinsHold, TasksHaveCells, TransfersAreSound, WorkersAreSound};
+ghost use Rattle.sj_base.specs.declared.program.Program.{Program};
+ghost use Rattle.sj_base.specs.declared.program.Machine.{Machine};
+ghost use Rattle.sj_core.specs.Coherent.{Coherent, OrderIsKept, PinsHold, TasksHaveCells, TransfersAreSound, WorkersAreSound, WritesAreCounted};
 ghost use Rattle.sj_core.specs.Laws.{IsKeptByClaims, IsKeptByEnds, IsKeptByRuns};
+ghost use Rattle.sj_core.specs.Machine.{opening};
+
+/// A run begins in a coherent state.
+pub fn openings()
+    ensures { (p : Program) (m : Machine) → Coherent p m (opening p m) }
+{}
 
 /// What a claim keeps: conflicting tasks in order, each worker's task, replicas and transfers.
 pub fn claims()
@@ -10,6 +18,7 @@ pub fn claims()
     ensures tasks_have_cells { IsKeptByClaims TasksHaveCells }
     ensures pins_hold { IsKeptByClaims PinsHold }
     ensures transfers_are_sound { IsKeptByClaims (λ p m s. TransfersAreSound m s) }
+    ensures writes_are_counted { IsKeptByClaims (λ p m s. WritesAreCounted p s) }
 {}
 
 /// What the beginning of a kernel's run keeps.
@@ -19,6 +28,7 @@ pub fn runs()
     ensures tasks_have_cells { IsKeptByRuns TasksHaveCells }
     ensures pins_hold { IsKeptByRuns PinsHold }
     ensures transfers_are_sound { IsKeptByRuns (λ p m s. TransfersAreSound m s) }
+    ensures writes_are_counted { IsKeptByRuns (λ p m s. WritesAreCounted p s) }
 {}
 
 /// What the end of a kernel's run keeps.
@@ -28,4 +38,5 @@ pub fn ends()
     ensures tasks_have_cells { IsKeptByEnds TasksHaveCells }
     ensures pins_hold { IsKeptByEnds PinsHold }
     ensures transfers_are_sound { IsKeptByEnds (λ p m s. TransfersAreSound m s) }
+    ensures writes_are_counted { IsKeptByEnds (λ p m s. WritesAreCounted p s) }
 {}

@@ -1,3 +1,4 @@
+use Rattle.sj_core.proofs.Counting.{Ends-keeps_counts}
 use Rattle.sj_core.proofs.Advancing.{Ends-keeps_order}
 use Rattle.sj_core.proofs.Holding.{Ends-keeps_cells, Ends-keeps_pins, Ends-keeps_transfers}
 use Rattle.sj_core.proofs.Workers.{Ends-keeps_workers}
@@ -10,4 +11,5 @@ returns c = record {
   tasks_have_cells = λ p m s s' t w h ended. Ends-keeps_cells p m h.proper.cells h.counted s h.coherent.state h.coherent.writers h.coherent.cells h.coherent.pins h.coherent.transfers h.coherent.workers h.coherent.order t w s' ended;
   pins_hold = λ p m s s' t w h ended. Ends-keeps_pins p m h.proper.cells h.counted s h.coherent.state h.coherent.writers h.coherent.cells h.coherent.pins h.coherent.transfers h.coherent.workers h.coherent.order t w s' ended;
   transfers_are_sound = λ p m s s' t w h ended. Ends-keeps_transfers p m h.proper.cells h.counted s h.coherent.state h.coherent.writers h.coherent.cells h.coherent.pins h.coherent.transfers h.coherent.workers h.coherent.order t w s' ended;
+  writes_are_counted = λ p m s s' t w h ended. Ends-keeps_counts p m s t w s' h.coherent.state h.coherent.cells ended h.coherent.counts;
 }

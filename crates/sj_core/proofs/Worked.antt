@@ -1,0 +1,78 @@
+-- Needs, first fit and victims on small programs, with the numbers worked out by hand.
+use Rattle.std.proofs.Common.{◌≡◌, ℕ, not, List, [], ◌∷◌, map, refl, Option, Some, None}
+use Rattle.std.specs.Prelude.{pos, option_map, nat_eq}
+use Rattle.sj_base.specs.declared.ids.Cell.{Cell}
+use Rattle.sj_base.specs.declared.mode.Mode.{Mode}
+use Rattle.sj_base.specs.declared.mode.Mode.TheVariants.{R, Scratch, Redux}
+use Rattle.sj_base.specs.declared.mode.Access.{Access}
+use Rattle.sj_base.specs.declared.mode.Policy.TheVariants.{Eager}
+use Rattle.sj_base.specs.declared.program.CellInfo.{CellInfo}
+use Rattle.sj_base.specs.declared.program.Lowered.{Lowered}
+use Rattle.sj_base.specs.declared.program.Program.{Program}
+use Rattle.sj_base.specs.declared.program.Machine.{Machine}
+use Rattle.sj_core.specs.Needs.{Block, footprint, swap_need, place, room}
+use Rattle.sj_core.specs.Victims.{victims}
+
+abbrev columns : ℕ → Option Cell → CellInfo
+columns n partials = record { root = record { 0 = 0 }; dims = record { rows = 1; cols = n }; partials = partials }
+
+abbrev access : Mode → ℕ → Access
+access mode n = record { mode = mode; cell = record { 0 = n } }
+
+abbrev a_task : List Access → Lowered
+a_task accesses = record { codelet = record { 0 = 0 }; args = []; accesses = accesses; line = record { 0 = 5 }; priority = pos 0 }
+
+-- a vector of four, a scalar under reduction, and its copies for two workers
+abbrev reduction : Program
+reduction = record { cells = columns 4 None ∷ columns 1 (Some (record { 0 = 2 })) ∷ columns 1 None ∷ columns 1 None ∷ []; tasks = a_task (access R 0 ∷ access Redux 1 ∷ []) ∷ a_task (access R 0 ∷ access R 0 ∷ access Scratch 1 ∷ []) ∷ []; deliveries = []; workers = 2 }
+
+-- 56 + 32 + 32 + 32
+pub swap_is : swap_need reduction ≡ 152
+swap_is = refl
+
+abbrev disk_and_position : Block → ℕ × ℕ
+disk_and_position b = (b.disk.0, b.position)
+
+abbrev placed : List ℕ → Option (List (ℕ × ℕ))
+placed sizes = option_map (map disk_and_position) (place reduction sizes)
+
+-- on one disk the blocks lie one behind another
+pub fits_one : placed (152 ∷ []) ≡ Some ((0, 0) ∷ (0, 56) ∷ (0, 88) ∷ (0, 120) ∷ [])
+fits_one = refl
+
+pub one_byte_short : placed (151 ∷ []) ≡ None
+one_byte_short = refl
+
+-- each block takes the first disk with room, also one that an earlier block passed over
+pub fits_three : placed (40 ∷ 60 ∷ 64 ∷ []) ≡ Some ((1, 0) ∷ (0, 0) ∷ (2, 0) ∷ (2, 32) ∷ [])
+fits_three = refl
+
+-- a REDUX operand counts as one cell; a cell that is named twice counts once, and scratch beside it
+pub footprints_are : (footprint reduction (record { 0 = 0 }) ≡ 40) × (footprint reduction (record { 0 = 1 }) ≡ 40)
+footprints_are = (refl, refl)
+
+abbrev with_workers : ℕ → Machine
+with_workers n = record { workers = n; nodes = 48 ∷ 1000 ∷ []; disks = []; policy = Eager }
+
+-- a node without a worker has no room for a task
+pub rooms_are : (room (with_workers 1) ≡ 48) × (room (with_workers 2) ≡ 1000)
+rooms_are = (refl, refl)
+
+-- entries of 8, 16, 24 and 32 bytes, most recent first, the third pinned; 4 bytes are free
+abbrev evicted : ℕ → Option (List ℕ)
+evicted need = victims (λ bytes. bytes) (λ bytes. not (nat_eq bytes 24)) (8 ∷ 16 ∷ 24 ∷ 32 ∷ []) 4 need
+
+pub no_victim : evicted 4 ≡ Some []
+no_victim = refl
+
+pub least_recent : evicted 5 ≡ Some (32 ∷ [])
+least_recent = refl
+
+pub passes_over_pinned : evicted 37 ≡ Some (16 ∷ 32 ∷ [])
+passes_over_pinned = refl
+
+pub all_unpinned : evicted 60 ≡ Some (8 ∷ 16 ∷ 32 ∷ [])
+all_unpinned = refl
+
+pub not_enough : evicted 61 ≡ None
+not_enough = refl
