@@ -52,8 +52,8 @@ impl Counters {
         })
     }
 
-    /// Counts a task as done. Linear in its cells and in the accesses that it releases, and sorts the answers
-    /// where they come from several cells.
+    /// Counts a task as done. Linear in its cells and in the accesses that it releases, and then a sort of the
+    /// answers.
     pub fn complete(&mut self, t: Task)
         requires task { t.0 < length self.old.is_done.items }
         requires listed { t.0 < length self.old.cells.items }

@@ -69,8 +69,8 @@ impl Deps {
     }
 
     /// Takes a ready task as done, and answers the tasks that become ready, by number. Linear in the accesses
-    /// that are released, which is linear in all accesses over all calls, and sorts the answers where they come
-    /// from several cells. No memory.
+    /// that are released, which is linear in all accesses over all calls, and then a sort of the answers. No
+    /// memory.
     pub fn done(&mut self, t: Task) -> &[Task]
         requires { Ready self.old.program self.old.done t.0 }
         ensures* done { sem 𝓛 (EndsAfter self.entry t.0) }
