@@ -1,5 +1,5 @@
 -- A set for the tests: the codelets whose runs on one array don't change places. No law of a set says anything of these.
-use Rattle.std.specs.Prelude.{◌≡◌, Bool, false, not, ◌&&◌, IsTrue}
+use Rattle.std.specs.Prelude.{Bool, false, not, ◌&&◌, IsTrue}
 use Rattle.std.proofs.Common.{sym, ap, ◌∙◌}
 use Rattle.std.proofs.lemmas.Bool.{false≢true, and_parts}
 use Rattle.sj_base.specs.declared.mode.Reduction.{Reduction}
