@@ -2,6 +2,7 @@ pub mod AddRun
 pub mod Advancing
 pub mod Claiming
 pub mod Counting
+pub mod Dependencies
 pub mod Eviction
 pub mod EvictionRun
 pub mod Holding

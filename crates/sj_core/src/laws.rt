@@ -5,6 +5,13 @@ ghost use Rattle.sj_base.specs.declared.program.Machine.{Machine};
 ghost use Rattle.sj_core.specs.Coherent.{Coherent, OrderIsKept, PinsHold, TasksHaveCells, TransfersAreSound, WorkersAreSound, WritesAreCounted};
 ghost use Rattle.sj_core.specs.Laws.{IsKeptByClaims, IsKeptByEnds, IsKeptByRuns};
 ghost use Rattle.sj_core.specs.Machine.{opening};
+ghost use Rattle.sj_core.specs.Proper.{Proper};
+ghost use Rattle.sj_deps.specs.Conflict.{HasDependencies};
+
+/// A proper program's dependencies can be counted: each access names a cell, and a task accesses a cell in one manner.
+pub fn dependencies()
+    ensures { (p : Program) → Proper p → HasDependencies p }
+{}
 
 /// A run begins in a coherent state.
 pub fn openings()
