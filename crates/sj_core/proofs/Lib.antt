@@ -1,5 +1,6 @@
 pub mod AddRun
 pub mod Advancing
+pub mod CellLists
 pub mod Claiming
 pub mod Counting
 pub mod Dependencies
@@ -11,6 +12,7 @@ pub mod Readiness
 pub mod Reading
 pub mod Separation
 pub mod Sharing
+pub mod Sums
 pub mod Tables
 pub mod TaskCells
 pub mod Worked
