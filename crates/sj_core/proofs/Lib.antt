@@ -6,6 +6,7 @@ pub mod Counting
 pub mod Dependencies
 pub mod Eviction
 pub mod EvictionRun
+pub mod Forms
 pub mod Holding
 pub mod Opening
 pub mod Readiness
