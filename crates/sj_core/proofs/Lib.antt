@@ -1,6 +1,7 @@
 pub mod AddRun
 pub mod Advancing
 pub mod CellLists
+pub mod Choosing
 pub mod Claiming
 pub mod Counting
 pub mod Dependencies
@@ -16,5 +17,6 @@ pub mod Sharing
 pub mod Sums
 pub mod Tables
 pub mod TaskCells
+pub mod Values
 pub mod Worked
 pub mod Workers
