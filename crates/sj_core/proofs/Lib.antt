@@ -20,3 +20,4 @@ pub mod TaskCells
 pub mod Values
 pub mod Worked
 pub mod Workers
+pub mod Writers

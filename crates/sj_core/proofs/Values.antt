@@ -1,7 +1,7 @@
 -- A cell whose old value a task reads has been written by the time that the task may run.
-use Rattle.std.proofs.Common.{◌≡◌, ℕ, zero, suc, ◌+◌, ◌<◌, ◌≤◌, Bool, true, false, not, ◌&&◌, ◌||◌, cond, List, [], ◌∷◌, map, length, get_or, refl, sym, ap, ◌∙◌, subst, inl, inr, ◌⊎◌, arith}
-use Rattle.std.specs.Prelude.{IsTrue, All, count_by, if◌then◌else◌}
-use Rattle.std.specs.List.{filter, list_any, Contains}
+use Rattle.std.proofs.Common.{◌≡◌, ℕ, zero, suc, ◌<◌, Bool, true, false, not, ◌&&◌, ◌||◌, cond, List, [], ◌∷◌, length, get_or, refl, sym, ap, ◌∙◌, subst, inl, inr, ◌⊎◌, arith}
+use Rattle.std.specs.Prelude.{IsTrue}
+use Rattle.std.specs.List.{list_any, Contains}
 use Rattle.std.proofs.lemmas.Bool.{false≢true}
 use Rattle.std.proofs.lemmas.Bool.Decides.{Decides-eqb}
 use Rattle.std.proofs.lemmas.List.Elements.{All-contains}
@@ -17,7 +17,7 @@ use Rattle.sj_base.specs.declared.program.Program.{Program}
 use Rattle.sj_deps.specs.declared.manner.Manner.{Manner}
 use Rattle.sj_deps.specs.declared.manner.Manner.TheVariants.{Write}
 use Rattle.sj_deps.specs.Conflict.{Uses, IsShared, Conflict}
-use Rattle.sj_core.specs.Program.{same_cell, has_cell, task_of, tasks_of, no_task, is_scratch, is_written, is_redux, starts_as_zeros, data_operands}
+use Rattle.sj_core.specs.Program.{same_cell, has_cell, task_of, tasks_of, is_scratch, is_written, is_redux, starts_as_zeros, data_operands}
 use Rattle.sj_core.specs.Operands.{copy_of, worked_on, written_cells, fresh_cells}
 use Rattle.sj_core.specs.Machine.{State, writes, done_by}
 use Rattle.sj_core.specs.Step.{EarlierAreDone}
@@ -62,13 +62,13 @@ module _ (p : Program) (proper : Proper p) (s : State) (t : Task) (w : Worker) (
       let same = same_cell-is d c passes in
       inr (
         subst (λ (q : Cell). Uses p u.0 q.0 Write) same (operand-uses p u w W d u_in staffed has refl (λ e. absurd (false≢true e))),
-        λ v. operand-has_cell (worked_on p v) (λ a. is_written a.mode) (task_of p u).accesses (access W d) c has refl passes
+        λ v. operand-has_cell (worked_on p v) (λ a. is_written a.mode) (task_of p u).accesses (access W d) c has refl passes,
       )
   giver u u_in RW d has passes =
       let same = same_cell-is d c passes in
       inr (
         subst (λ (q : Cell). Uses p u.0 q.0 Write) same (operand-uses p u w RW d u_in staffed has refl (λ e. absurd (false≢true e))),
-        λ v. operand-has_cell (worked_on p v) (λ a. is_written a.mode) (task_of p u).accesses (access RW d) c has refl passes
+        λ v. operand-has_cell (worked_on p v) (λ a. is_written a.mode) (task_of p u).accesses (access RW d) c has refl passes,
       )
 
   -- some done task wrote a cell that had a value before a task that uses it

@@ -2,7 +2,7 @@
 
 ghost use Rattle.sj_base.specs.declared.program.Program.{Program};
 ghost use Rattle.sj_base.specs.declared.program.Machine.{Machine};
-ghost use Rattle.sj_core.specs.Coherent.{Coherent, IsStateOf, OrderIsKept, PinsHold, TasksHaveCells, TransfersAreSound, WorkersAreSound, WritesAreCounted};
+ghost use Rattle.sj_core.specs.Coherent.{Coherent, IsStateOf, OrderIsKept, PinsHold, TasksHaveCells, TransfersAreSound, WorkersAreSound, WritersOwn, WritesAreCounted};
 ghost use Rattle.sj_core.specs.Laws.{IsKeptByClaims, IsKeptByEnds, IsKeptByRuns};
 ghost use Rattle.sj_core.specs.Machine.{opening};
 ghost use Rattle.sj_core.specs.Proper.{Proper};
@@ -27,6 +27,7 @@ pub fn claims()
     ensures transfers_are_sound { IsKeptByClaims (λ p m s. TransfersAreSound m s) }
     ensures writes_are_counted { IsKeptByClaims (λ p m s. WritesAreCounted p s) }
     ensures is_a_state { IsKeptByClaims IsStateOf }
+    ensures writers_own { IsKeptByClaims WritersOwn }
 {}
 
 /// What the beginning of a kernel's run keeps.
@@ -38,6 +39,7 @@ pub fn runs()
     ensures transfers_are_sound { IsKeptByRuns (λ p m s. TransfersAreSound m s) }
     ensures writes_are_counted { IsKeptByRuns (λ p m s. WritesAreCounted p s) }
     ensures is_a_state { IsKeptByRuns IsStateOf }
+    ensures writers_own { IsKeptByRuns WritersOwn }
 {}
 
 /// What the end of a kernel's run keeps.

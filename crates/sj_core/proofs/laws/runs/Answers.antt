@@ -1,3 +1,4 @@
+use Rattle.sj_core.proofs.Writers.{Runs-keeps_writers}
 use Rattle.sj_core.proofs.Forms.{Runs-keeps_state}
 use Rattle.sj_core.proofs.Dependencies.{Proper-dependencies}
 use Rattle.sj_core.proofs.Counting.{Runs-keeps_counts}
@@ -15,4 +16,5 @@ returns c = record {
   transfers_are_sound = λ p m s s' t w h run. Runs-keeps_transfers p m h.proper.cells (Proper-dependencies p h.proper) s h.coherent.state h.coherent.cells h.coherent.pins h.coherent.transfers h.coherent.workers h.coherent.order t w s' run;
   writes_are_counted = λ p m s s' t w h run. Runs-keeps_counts p m s t w s' run h.coherent.counts;
   is_a_state = λ p m s s' t w h run. Runs-keeps_state p m s h t w s' run;
+  writers_own = λ p m s s' t w h run. Runs-keeps_writers p m s h t w s' run;
 }
