@@ -1,5 +1,6 @@
 pub mod AddRun
 pub mod Advancing
+pub mod Bytes
 pub mod CellLists
 pub mod Choosing
 pub mod Claiming
