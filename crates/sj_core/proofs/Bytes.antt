@@ -1,6 +1,6 @@
 -- A claim, a run and an end keep that each node's bytes suffice for its entries, its leaving replicas and its scratch.
-use Rattle.std.proofs.Common.{◌≡◌, ◌≢◌, ℕ, zero, suc, ◌+◌, ◌-◌, ◌<◌, ◌≤◌, Bool, true, false, not, ◌&&◌, ◌||◌, cond, List, [], ◌∷◌, ◌++◌, map, length, refl, sym, ap, ◌∙◌, subst, inl, inr, ◌⊎◌, arith}
-use Rattle.std.specs.Prelude.{IsTrue, sum_by, count_by, nat_eq, nat_le}
+use Rattle.std.proofs.Common.{◌≡◌, ◌≢◌, ℕ, zero, suc, ◌+◌, ◌<◌, ◌≤◌, Bool, true, false, not, ◌&&◌, ◌||◌, cond, List, ◌++◌, map, length, refl, sym, ap, ◌∙◌, subst, inl, inr, arith}
+use Rattle.std.specs.Prelude.{sum_by, count_by, nat_eq}
 use Rattle.std.specs.List.{filter, range_with_len}
 use Rattle.std.proofs.lemmas.Bool.{cases_lt, false≢true, leb-true, and_parts, and_from}
 use Rattle.std.proofs.lemmas.Bool.Decides.{Decides-eqb}
@@ -10,30 +10,29 @@ use Rattle.sj_base.specs.declared.ids.Cell.{Cell}
 use Rattle.sj_base.specs.declared.ids.Task.{Task}
 use Rattle.sj_base.specs.declared.ids.Node.{Node}
 use Rattle.sj_base.specs.declared.ids.Worker.{Worker}
-use Rattle.sj_base.specs.declared.ids.Place.{Place}
 use Rattle.sj_base.specs.declared.ids.Place.TheVariants.{Node as AtNode}
 use Rattle.sj_base.specs.declared.program.Program.{Program}
 use Rattle.sj_base.specs.declared.program.Machine.{Machine}
 use Rattle.sj_core.specs.Program.{has_cell, distinct, task_of, cells_of_program}
 use Rattle.sj_core.specs.Needs.{node_of, node_size, tile_bytes, scratch_bytes, workers_of}
 use Rattle.sj_core.specs.Victims.{covers}
-use Rattle.sj_core.specs.declared.progress.Progress.TheVariants.{Claimed, Running}
+use Rattle.sj_core.specs.declared.progress.Progress.TheVariants.{Claimed}
 use Rattle.sj_core.specs.Operands.{cells_of, written_cells}
 use Rattle.sj_core.specs.Machine.{State, WorkerState, Replica, Invalid, Coming, Valid, Leaving, progress, replica, order, scratch, is_entry, is_leaving_by, is_coming_by, is_pinned, is_task_of, same_worker, workers_at, used, free}
-use Rattle.sj_core.specs.Step.{Claims, Runs, Ends, missing, to_come, without}
-use Rattle.sj_core.specs.Coherent.{HasRows, HasEntries, IsStateOf, NodesSuffice, leaving_by, entries_beside, others_at, used_while_leaving}
+use Rattle.sj_core.specs.Step.{Claims, Runs, Ends, missing, to_come}
+use Rattle.sj_core.specs.Coherent.{IsStateOf, NodesSuffice, leaving_by, entries_beside, others_at, used_while_leaving}
 use Rattle.sj_core.specs.Laws.{IsSound}
 use Rattle.sj_core.proofs.Eviction.{shortest_suffix-suffix, shortest_suffix-passes}
 use Rattle.sj_core.proofs.Reading.{same_node, same_worker-is, workers_differ}
-use Rattle.sj_core.proofs.Advancing.{Runs-advances, same_task, same_worker-refl}
-use Rattle.sj_core.proofs.TaskCells.{filter-filter, written-among_cells}
-use Rattle.sj_core.proofs.Workers.{Claims-worker, Claims-other_worker, Claims-leaving, Runs-leaving, Ends-leaving, run-worker, idle-has_none, room-leaves_none, end-other_worker, end-own_worker, end-own_scratch}
+use Rattle.sj_core.proofs.Advancing.{same_worker-refl}
+use Rattle.sj_core.proofs.TaskCells.{filter-filter}
+use Rattle.sj_core.proofs.Workers.{Claims-worker, Claims-other_worker, Claims-leaving, Runs-leaving, Ends-leaving, run-worker, room-leaves_none, end-other_worker, end-own_scratch}
 use Rattle.sj_core.proofs.Holding.{not_true, entry-inside, run-other, run-spares, end-other}
-use Rattle.sj_core.proofs.Claiming.{evicted-free, missing-absent, absent-missing, claim-elsewhere, claim-here, node-inside, claimed_replica-brought, own-spared}
+use Rattle.sj_core.proofs.Claiming.{has_cell-filter, evicted-free, missing-absent, absent-missing, claim-elsewhere, claim-here, node-inside, claimed_replica-brought, own-spared}
 use Rattle.sj_core.proofs.Dependencies.{Proper-dependencies}
 use Rattle.sj_core.proofs.Sums.{tally, sum-balanced, sum-within, sum-agree, sum-filter, sum-filter-le, filter-sum-le, sum-one_more}
 use Rattle.sj_core.proofs.CellLists.{times, times-append, times-filter, times-distinct, times-program, share, sum-once, has_cell-filter_is}
-use Rattle.sj_core.proofs.Forms.{Claims-keeps_state, Runs-keeps_state, Ends-keeps_state, claim-order_here, claim-order_elsewhere, order-has, task-cell, order-cell, run-only, run-order_here, run-order_elsewhere, end-written, end-elsewhere, end-entry, end-order, place_differs}
+use Rattle.sj_core.proofs.Forms.{Claims-keeps_state, Runs-keeps_state, Ends-keeps_state, claim-order_here, claim-order_elsewhere, order-has, task-cell, run-order_here, run-order_elsewhere, end-written, end-elsewhere, end-order, place_differs}
 
 -- ---- the bytes of the cells that pass a test
 
@@ -139,11 +138,8 @@ module _ (p : Program) (m : Machine) (s : State) (h : IsSound p m s) (t : Task) 
   claim-state = Claims-keeps_state p m s h t w s' claim
 
   evicted-bytes : sum_by (tile_bytes p) claim.evicted ≡ bytes_where p (has_cell claim.evicted)
-  evicted-bytes = once-bytes p claim.evicted (λ c has. entry-cell p m s h.coherent.state (node_of m w) c (evicted-free p m s t w s' claim c has).2) (λ c. (let some = suffix.0 in let whole = suffix.1 in once c))
+  evicted-bytes = once-bytes p claim.evicted (λ c has. entry-cell p m s h.coherent.state (node_of m w) c (evicted-free p m s t w s' claim c has).2) once
     where
-      test : Cell → Bool
-      test d = not (is_pinned m s (node_of m w) d) && not (has_cell (cells_of p t w) d)
-
       suffix : (front : List Cell) × (front ++ claim.evicted ≡ filter (λ d. not (is_pinned m s (node_of m w) d) && not (has_cell (cells_of p t w) d)) (order s (node_of m w)))
       suffix = shortest_suffix-suffix (covers (tile_bytes p) (free p m s (node_of m w)) (to_come p s t w (node_of m w))) (filter (λ d. not (is_pinned m s (node_of m w) d) && not (has_cell (cells_of p t w) d)) (order s (node_of m w))) claim.evicted claim.chosen
 
@@ -300,3 +296,109 @@ module _ (p : Program) (m : Machine) (s : State) (h : IsSound p m s) (t : Task) 
       | inr (elsewhere, before) ↦ let less = claim-leaving_elsewhere k v elsewhere in let enough = h.coherent.bytes.leaving k v c before in omega arith
     ];
   }
+
+-- ---- steps that bring nothing
+
+-- where no replica leaves, nothing but what comes is an entry, and no worker holds scratch, that wasn't so before, the bytes still suffice
+module _ (p : Program) (m : Machine) (s s' : State) (before : IsStateOf p m s) (after : IsStateOf p m s') (enough : NodesSuffice p m s)
+    (entries : (k : Node) (c : Cell) → has_cell (order s' k) c ≡ true → has_cell (order s k) c ≡ true)
+    (scratches : (v : Worker) → scratch s' v ≤ scratch s v)
+    (leaves : (k : Node) (v : Worker) (c : Cell) → is_leaving_by v (replica s' c (AtNode k)) ≡ true → is_leaving_by v (replica s c (AtNode k)) ≡ true)
+    (comes : (k : Node) (v : Worker) (c d : Cell) → is_leaving_by v (replica s' d (AtNode k)) ≡ true → is_coming_by v (replica s c (AtNode k)) ≡ true → is_coming_by v (replica s' c (AtNode k)) ≡ true) where
+  fewer-entries : (k : Node) → used p m s' k ≤ node_size m k
+  fewer-entries k =
+      let a = order-bytes p m s' after k in
+      let b = order-bytes p m s before k in
+      let less = bytes_where-le p (has_cell (order s' k)) (has_cell (order s k)) (entries k) in
+      let held = sum_by-le-sum_by (scratch s') (scratch s) (workers_at m k) scratches in
+      let was = enough.entries k in
+      omega arith
+
+  fewer-leaving : (k : Node) (v : Worker) (d : Cell) → is_leaving_by v (replica s' d (AtNode k)) ≡ true → used_while_leaving p m s' v k ≤ node_size m k
+  fewer-leaving k v d leaving =
+      let a = leaving-bytes p m s' after k v in
+      let b = leaving-bytes p m s before k v in
+      let less = bytes_where-le p (λ c. is_leaving_by v (replica s' c (AtNode k))) (λ c. is_leaving_by v (replica s c (AtNode k))) (leaves k v) in
+      let e = beside-bytes p m s' after k v in
+      let f = beside-bytes p m s before k v in
+      let beside = bytes_where-le p (λ c. not (is_coming_by v (replica s' c (AtNode k))) && has_cell (order s' k) c) (λ c. not (is_coming_by v (replica s c (AtNode k))) && has_cell (order s k) c) still in
+      let held = sum_by-le-sum_by (scratch s') (scratch s) (others_at m k v) scratches in
+      let was = enough.leaving k v d (leaves k v d leaving) in
+      omega arith
+    where
+      not_coming : (x y : Bool) → (x ≡ true → y ≡ true) → not y ≡ true → not x ≡ true
+      not_coming true y f g = sym (ap not (f refl)) ∙ g
+      not_coming false y f g = refl
+
+      still : (c : Cell) → (not (is_coming_by v (replica s' c (AtNode k))) && has_cell (order s' k) c) ≡ true → (not (is_coming_by v (replica s c (AtNode k))) && has_cell (order s k) c) ≡ true
+      still c both =
+          let parts = and_parts (not (is_coming_by v (replica s' c (AtNode k)))) (has_cell (order s' k) c) both in
+          and_from (not (is_coming_by v (replica s c (AtNode k)))) (has_cell (order s k) c) (not_coming (is_coming_by v (replica s c (AtNode k))) (is_coming_by v (replica s' c (AtNode k))) (comes k v c d leaving) parts.0) (entries k c parts.1)
+
+  pub NodesSuffice-fewer : NodesSuffice p m s'
+  NodesSuffice-fewer = record { entries = fewer-entries; leaving = fewer-leaving }
+
+-- ---- a run
+
+module _ (p : Program) (m : Machine) (s : State) (h : IsSound p m s) (t : Task) (w : Worker) (s' : State) (run : Runs p m s t w s') where
+  run-fewer_entries : (k : Node) (c : Cell) → has_cell (order s' k) c ≡ true → has_cell (order s k) c ≡ true
+  run-fewer_entries k c has =
+      elim (same_node k (node_of m w)) [
+        | inl e ↦ subst (λ (j : Node). has_cell (order s j) c ≡ true) (sym e) (ap (λ (cs : List Cell). has_cell cs c) (sym (run-order_here p m s t w s' run)) ∙ subst (λ (j : Node). has_cell (order s' j) c ≡ true) e has)
+        | inr d ↦ (has_cell-filter (λ x. not (has_cell (written_cells p t w) x)) (order s k) c (ap (λ (cs : List Cell). has_cell cs c) (sym (run-order_elsewhere p m s t w s' run k d)) ∙ has)).1
+      ]
+
+  -- what comes by the claim of a worker whose victims leave still comes
+  run-still_comes : (k : Node) (v : Worker) (c d : Cell) → is_leaving_by v (replica s' d (AtNode k)) ≡ true → is_coming_by v (replica s c (AtNode k)) ≡ true → is_coming_by v (replica s' c (AtNode k)) ≡ true
+  run-still_comes k v c d leaving coming =
+      let before = Runs-leaving p m s t w v s' d (AtNode k) run leaving in
+      let claimed = h.coherent.pins.coming_claimed v c k coming in
+      let other : claimed.task ≢ t = λ e. not_ours before (same_claim (sym claimed.claimed ∙ ap (λ (u : Task). progress s u) e ∙ run.claimed)) in
+      let has : is_task_of v (progress s claimed.task) ≡ true = ap (is_task_of v) claimed.claimed ∙ ap (λ b. b || false) (same_worker-refl v) in
+      let spared = run-spares p m h.proper.cells (Proper-dependencies p h.proper) s h.coherent.state h.coherent.cells h.coherent.pins h.coherent.transfers h.coherent.workers h.coherent.order t w s' run claimed.task v c other has claimed.cell in
+      ap (is_coming_by v) (run-other p m s t w s' run c (AtNode k) spared) ∙ coming
+    where
+      same_claim : Claimed v ≡ Claimed w → v ≡ w
+      same_claim e = cc
+
+      -- the victims of the worker whose task runs are gone
+      not_ours : is_leaving_by v (replica s d (AtNode k)) ≡ true → v ≡ w → ⊥
+      not_ours before e =
+          let ours : is_leaving_by w (replica s d (AtNode k)) ≡ true = ap (λ (x : Worker). is_leaving_by x (replica s d (AtNode k))) (sym e) ∙ before in
+          false≢true (sym (room-leaves_none m s w d k run.room (h.coherent.workers.evicted w d k ours)) ∙ ours)
+
+  pub Runs-keeps_bytes : NodesSuffice p m s'
+  Runs-keeps_bytes =
+      NodesSuffice-fewer p m s s' h.coherent.state (Runs-keeps_state p m s h t w s' run) h.coherent.bytes run-fewer_entries
+      (λ v. (let same : scratch s' v ≡ scratch s v = ap (λ (row : WorkerState). row.scratch) (run-worker p m s t w s' run h.coherent.workers v) in omega arith))
+      (λ k v c leaving. Runs-leaving p m s t w v s' c (AtNode k) run leaving)
+      run-still_comes
+
+-- ---- an end
+
+module _ (p : Program) (m : Machine) (s : State) (h : IsSound p m s) (t : Task) (w : Worker) (s' : State) (ended : Ends p m s t w s') where
+  end-still_comes : (k : Node) (v : Worker) (c : Cell) → is_coming_by v (replica s c (AtNode k)) ≡ true → is_coming_by v (replica s' c (AtNode k)) ≡ true
+  end-still_comes k v c coming =
+      elim (same_node k (node_of m w)) [
+        | inr d ↦ ap (is_coming_by v) (end-elsewhere p m s h t w s' ended c (AtNode k) (place_differs k (node_of m w) d)) ∙ coming
+        | inl e ↦ subst (λ (j : Node). is_coming_by v (replica s' c (AtNode j)) ≡ true) (sym e) (here (has_cell (written_cells p t w) c) refl (subst (λ (j : Node). is_coming_by v (replica s c (AtNode j)) ≡ true) e coming))
+      ]
+    where
+      here : (b : Bool) → has_cell (written_cells p t w) c ≡ b → is_coming_by v (replica s c (AtNode (node_of m w))) ≡ true → is_coming_by v (replica s' c (AtNode (node_of m w))) ≡ true
+      here true written coming = absurd (false≢true (sym (ap (is_coming_by v) (end-written p m s h t w s' ended c written).2) ∙ coming))
+      here false spared coming = ap (is_coming_by v) (end-other p m s t w s' ended c (AtNode (node_of m w)) spared) ∙ coming
+
+  end-scratch : (v : Worker) → scratch s' v ≤ scratch s v
+  end-scratch v =
+      elim (workers_differ v w) [
+        | inl e ↦ let none : scratch s' v ≡ 0 = ap (scratch s') e ∙ end-own_scratch p m s t w s' h.coherent.state.rows ended h.coherent.workers in omega arith
+        | inr d ↦ let same : scratch s' v ≡ scratch s v = ap (λ (row : WorkerState). row.scratch) (end-other_worker p m s t w s' h.coherent.state.rows ended h.coherent.workers v d) in omega arith
+      ]
+
+  pub Ends-keeps_bytes : NodesSuffice p m s'
+  Ends-keeps_bytes =
+      NodesSuffice-fewer p m s s' h.coherent.state (Ends-keeps_state p m s h t w s' ended) h.coherent.bytes
+      (λ k c has. ap (λ (cs : List Cell). has_cell cs c) (sym (end-order p m s h t w s' ended k)) ∙ has)
+      end-scratch
+      (λ k v c leaving. Ends-leaving p m s t w v s' c (AtNode k) ended leaving)
+      (λ k v c d leaving coming. end-still_comes k v c coming)

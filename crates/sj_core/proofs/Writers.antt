@@ -1,7 +1,7 @@
 -- A claim and a run keep that each cell which a running task writes is its worker's own.
 use Rattle.std.proofs.Common.{◌≡◌, ◌≢◌, ◌<◌, Bool, true, false, ◌&&◌, ◌||◌, cond, length, refl, sym, ap, ◌∙◌, subst, inl, inr, Option, None, Some, arith}
 use Rattle.std.specs.Prelude.{IfSome, is_some, unwrap_or, if◌then◌else◌}
-use Rattle.std.proofs.lemmas.Bool.{false≢true}
+use Rattle.std.proofs.lemmas.Bool.{false≢true, and_parts}
 use Rattle.sj_base.specs.Array.{Array, zeros}
 use Rattle.sj_base.specs.declared.ids.Cell.{Cell}
 use Rattle.sj_base.specs.declared.ids.Task.{Task}
@@ -30,7 +30,6 @@ use Rattle.sj_core.proofs.Holding.{not_true, entry-inside, run-other, run-own, r
 use Rattle.sj_core.proofs.Claiming.{missing-absent, claim-elsewhere, claim-on_disk, claim-here, node-inside, entry-stays, pin-spared, claims-transfer}
 use Rattle.sj_core.proofs.Dependencies.{Proper-dependencies}
 use Rattle.sj_core.proofs.Forms.{Claims-keeps_state, run-only}
-use Rattle.sj_core.proofs.CellLists.{and_left, and_right}
 use Rattle.sj_core.proofs.Choosing.{content-undone}
 use Rattle.sj_core.proofs.Values.{list_any-some, old_value-written}
 
@@ -132,7 +131,8 @@ module _ (p : Program) (m : Machine) (s : State) (h : IsSound p m s) (t : Task) 
   run-not_written : (c : Cell) → has_cell (cells_of p t w) c ≡ true → is_being_written p s c ≡ false
   run-not_written c has = not_true (is_being_written p s c) (λ written.
       (let found = list_any-some (λ u. is_running_on (worker_of (progress s u)) (progress s u) && has_cell (written_cells p u (worker_of (progress s u))) c) (tasks_of p) written in
-      clash found.0 (and_left (is_running_on (worker_of (progress s found.0)) (progress s found.0)) (has_cell (written_cells p found.0 (worker_of (progress s found.0))) c) found.2) (and_right (is_running_on (worker_of (progress s found.0)) (progress s found.0)) (has_cell (written_cells p found.0 (worker_of (progress s found.0))) c) found.2)))
+      let both = and_parts (is_running_on (worker_of (progress s found.0)) (progress s found.0)) (has_cell (written_cells p found.0 (worker_of (progress s found.0))) c) found.2 in
+      clash found.0 both.0 both.1))
     where
       clash : (u : Task) → is_running_on (worker_of (progress s u)) (progress s u) ≡ true → has_cell (written_cells p u (worker_of (progress s u))) c ≡ true → ⊥
       clash u runs writes =

@@ -2,7 +2,7 @@
 
 ghost use Rattle.sj_base.specs.declared.program.Program.{Program};
 ghost use Rattle.sj_base.specs.declared.program.Machine.{Machine};
-ghost use Rattle.sj_core.specs.Coherent.{Coherent, IsStateOf, OrderIsKept, PinsHold, TasksHaveCells, TransfersAreSound, WorkersAreSound, WritersOwn, WritesAreCounted};
+ghost use Rattle.sj_core.specs.Coherent.{Coherent, IsStateOf, NodesSuffice, OrderIsKept, PinsHold, TasksHaveCells, TransfersAreSound, WorkersAreSound, WritersOwn, WritesAreCounted};
 ghost use Rattle.sj_core.specs.Laws.{IsKeptByClaims, IsKeptByEnds, IsKeptByRuns};
 ghost use Rattle.sj_core.specs.Machine.{opening};
 ghost use Rattle.sj_core.specs.Proper.{Proper};
@@ -28,6 +28,7 @@ pub fn claims()
     ensures writes_are_counted { IsKeptByClaims (λ p m s. WritesAreCounted p s) }
     ensures is_a_state { IsKeptByClaims IsStateOf }
     ensures writers_own { IsKeptByClaims WritersOwn }
+    ensures nodes_suffice { IsKeptByClaims NodesSuffice }
 {}
 
 /// What the beginning of a kernel's run keeps.
@@ -40,6 +41,7 @@ pub fn runs()
     ensures writes_are_counted { IsKeptByRuns (λ p m s. WritesAreCounted p s) }
     ensures is_a_state { IsKeptByRuns IsStateOf }
     ensures writers_own { IsKeptByRuns WritersOwn }
+    ensures nodes_suffice { IsKeptByRuns NodesSuffice }
 {}
 
 /// What the end of a kernel's run keeps.
@@ -51,4 +53,5 @@ pub fn ends()
     ensures transfers_are_sound { IsKeptByEnds (λ p m s. TransfersAreSound m s) }
     ensures writes_are_counted { IsKeptByEnds (λ p m s. WritesAreCounted p s) }
     ensures is_a_state { IsKeptByEnds IsStateOf }
+    ensures nodes_suffice { IsKeptByEnds NodesSuffice }
 {}

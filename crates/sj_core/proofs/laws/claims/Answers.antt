@@ -1,3 +1,4 @@
+use Rattle.sj_core.proofs.Bytes.{Claims-keeps_bytes}
 use Rattle.sj_core.proofs.Writers.{Claims-keeps_writers}
 use Rattle.sj_core.proofs.Forms.{Claims-keeps_state}
 use Rattle.sj_core.proofs.Dependencies.{Proper-dependencies}
@@ -17,4 +18,5 @@ returns c = record {
   writes_are_counted = λ p m s s' t w h claim. Claims-keeps_counts p m s t w s' h.coherent.state.rows claim h.coherent.counts;
   is_a_state = λ p m s s' t w h claim. Claims-keeps_state p m s h t w s' claim;
   writers_own = λ p m s s' t w h claim. Claims-keeps_writers p m s h t w s' claim;
+  nodes_suffice = λ p m s s' t w h claim. Claims-keeps_bytes p m s h t w s' claim;
 }

@@ -1,3 +1,4 @@
+use Rattle.sj_core.proofs.Bytes.{Runs-keeps_bytes}
 use Rattle.sj_core.proofs.Writers.{Runs-keeps_writers}
 use Rattle.sj_core.proofs.Forms.{Runs-keeps_state}
 use Rattle.sj_core.proofs.Dependencies.{Proper-dependencies}
@@ -17,4 +18,5 @@ returns c = record {
   writes_are_counted = λ p m s s' t w h run. Runs-keeps_counts p m s t w s' run h.coherent.counts;
   is_a_state = λ p m s s' t w h run. Runs-keeps_state p m s h t w s' run;
   writers_own = λ p m s s' t w h run. Runs-keeps_writers p m s h t w s' run;
+  nodes_suffice = λ p m s s' t w h run. Runs-keeps_bytes p m s h t w s' run;
 }
