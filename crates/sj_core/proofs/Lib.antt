@@ -11,10 +11,12 @@ pub mod EvictionRun
 pub mod Forms
 pub mod Holding
 pub mod Opening
+pub mod Placing
 pub mod Readiness
 pub mod Reading
 pub mod Separation
 pub mod Sharing
+pub mod Shifting
 pub mod Sums
 pub mod Tables
 pub mod TaskCells
