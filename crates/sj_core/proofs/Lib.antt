@@ -4,6 +4,7 @@ pub mod Claiming
 pub mod Counting
 pub mod Eviction
 pub mod EvictionRun
+pub mod Folding
 pub mod Holding
 pub mod Opening
 pub mod Readiness
