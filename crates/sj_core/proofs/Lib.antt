@@ -1,12 +1,14 @@
 pub mod AddRun
 pub mod Advancing
 pub mod Claiming
+pub mod Completeness
 pub mod Counting
 pub mod Eviction
 pub mod EvictionRun
 pub mod Folding
 pub mod Holding
 pub mod Opening
+pub mod PlainModes
 pub mod Readiness
 pub mod Reading
 pub mod Separation

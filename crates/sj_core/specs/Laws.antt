@@ -1,9 +1,13 @@
 -- What the steps of a task keep: laws of all proper programs, machines and coherent states.
+use Rattle.std.specs.Prelude.{Bool, true, false, IsTrue, All}
 use Rattle.sj_base.specs.declared.ids.Task.{Task}
 use Rattle.sj_base.specs.declared.ids.Worker.{Worker}
+use Rattle.sj_base.specs.declared.mode.Mode.{Mode}
+use Rattle.sj_base.specs.declared.mode.Mode.TheVariants.{Redux, Commute}
 use Rattle.sj_base.specs.declared.program.Program.{Program}
 use Rattle.sj_base.specs.declared.program.Machine.{Machine}
 use Rattle.sj_deps.specs.Conflict.{HasDependencies}
+use Rattle.sj_core.specs.Program.{task_of}
 use Rattle.sj_core.specs.Machine.{State}
 use Rattle.sj_core.specs.Proper.{Proper, IsMachineFor}
 use Rattle.sj_core.specs.Coherent.{Coherent}
@@ -27,3 +31,19 @@ IsKeptByRuns Fact = (p : Program) (m : Machine) (s s' : State) (t : Task) (w : W
 -- the fact holds after each end in a coherent state
 abbrev pub IsKeptByEnds : (Program → Machine → State → Type 0) → Type 0
 IsKeptByEnds Fact = (p : Program) (m : Machine) (s s' : State) (t : Task) (w : Worker) → IsSound p m s → Ends p m s t w s' → Fact p m s'
+
+-- ---- programs whose accesses are all in order
+
+-- the operand is none to which tasks contribute in any order
+abbrev pub is_plain : Mode → Bool
+is_plain Redux = false
+is_plain Commute = false
+is_plain _ = true
+
+-- no task has a REDUX or a COMMUTE access
+pub record HasPlainModes (p : Program) : Type 0 where
+  pub modes : (t : Task) → All (λ a. IsTrue (is_plain a.mode)) (task_of p t).accesses
+
+-- the fact holds after each end in a coherent state of a program with such accesses alone
+abbrev pub IsKeptByPlainEnds : (Program → Machine → State → Type 0) → Type 0
+IsKeptByPlainEnds Fact = (p : Program) (m : Machine) (s s' : State) (t : Task) (w : Worker) → IsSound p m s → HasPlainModes p → Ends p m s t w s' → Fact p m s'
