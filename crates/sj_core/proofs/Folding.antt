@@ -93,7 +93,7 @@ results-same p t v w held held' same = ap (out (task_of p t).codelet (task_of p 
     by_start a true e = refl
     by_start a false e = e refl
 
-reads_isn't_scratch : (x : Mode) → starts_as_zeros x ≡ false → not (is_scratch x) ≡ true
+pub reads_isn't_scratch : (x : Mode) → starts_as_zeros x ≡ false → not (is_scratch x) ≡ true
 reads_isn't_scratch R h = refl
 reads_isn't_scratch W h = refl
 reads_isn't_scratch RW h = refl

@@ -2,9 +2,11 @@ pub mod AddRun
 pub mod Advancing
 pub mod Claiming
 pub mod Completeness
+pub mod Contents
 pub mod Counting
 pub mod Eviction
 pub mod EvictionRun
+pub mod Finding
 pub mod Folding
 pub mod Holding
 pub mod Opening
