@@ -58,7 +58,7 @@ Runs-content p m s t w s' run = content-kept p s s' t (Claimed w) (Running w) (R
 
 -- ---- an end
 
-done-begun : (x : Progress) → is_done x ≡ true → is_begun x ≡ true
+pub done-begun : (x : Progress) → is_done x ≡ true → is_begun x ≡ true
 done-begun Waiting h = h
 done-begun (Claimed w) h = refl
 done-begun (Running w) h = refl

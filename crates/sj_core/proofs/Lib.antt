@@ -1,9 +1,11 @@
 pub mod AddRun
 pub mod Advancing
+pub mod Agreeing
 pub mod Claiming
 pub mod Completeness
 pub mod Contents
 pub mod Counting
+pub mod Delivering
 pub mod Eviction
 pub mod EvictionRun
 pub mod Finding

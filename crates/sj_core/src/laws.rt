@@ -2,8 +2,8 @@
 
 ghost use Rattle.sj_base.specs.declared.program.Program.{Program};
 ghost use Rattle.sj_base.specs.declared.program.Machine.{Machine};
-ghost use Rattle.sj_core.specs.Coherent.{Coherent, OrderIsKept, PinsHold, TasksHaveCells, TransfersAreSound, WorkersAreSound, WritesAreCounted};
-ghost use Rattle.sj_core.specs.Laws.{IsKeptByClaims, IsKeptByEnds, IsKeptByRuns};
+ghost use Rattle.sj_core.specs.Coherent.{Coherent, CopiesAgree, OrderIsKept, PinsHold, TasksHaveCells, TransfersAreSound, WorkersAreSound, WritersOwn, WritesAreCounted};
+ghost use Rattle.sj_core.specs.Laws.{DeliversGiven, FindsEarlierTasks, IsKeptByClaims, IsKeptByEnds, IsKeptByPlainEnds, IsKeptByRuns};
 ghost use Rattle.sj_core.specs.Machine.{opening};
 
 /// A run begins in a coherent state.
@@ -19,6 +19,7 @@ pub fn claims()
     ensures pins_hold { IsKeptByClaims PinsHold }
     ensures transfers_are_sound { IsKeptByClaims (λ p m s. TransfersAreSound m s) }
     ensures writes_are_counted { IsKeptByClaims (λ p m s. WritesAreCounted p s) }
+    ensures copies_agree { IsKeptByClaims (λ p m s. CopiesAgree p s) }
 {}
 
 /// What the beginning of a kernel's run keeps.
@@ -29,6 +30,7 @@ pub fn runs()
     ensures pins_hold { IsKeptByRuns PinsHold }
     ensures transfers_are_sound { IsKeptByRuns (λ p m s. TransfersAreSound m s) }
     ensures writes_are_counted { IsKeptByRuns (λ p m s. WritesAreCounted p s) }
+    ensures copies_agree { IsKeptByRuns (λ p m s. CopiesAgree p s) }
 {}
 
 /// What the end of a kernel's run keeps.
@@ -39,4 +41,12 @@ pub fn ends()
     ensures pins_hold { IsKeptByEnds PinsHold }
     ensures transfers_are_sound { IsKeptByEnds (λ p m s. TransfersAreSound m s) }
     ensures writes_are_counted { IsKeptByEnds (λ p m s. WritesAreCounted p s) }
+    ensures copies_agree { IsKeptByPlainEnds (λ p m s. CopiesAgree p s) }
+    ensures writers_own { IsKeptByPlainEnds WritersOwn }
+{}
+
+/// What a task finds on its worker's node: what all tasks before it, in submission order, have left in its cells.
+pub fn deliveries()
+    ensures finds_earlier_tasks { FindsEarlierTasks }
+    ensures delivers_given { DeliversGiven }
 {}

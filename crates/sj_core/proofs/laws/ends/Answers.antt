@@ -1,3 +1,4 @@
+use Rattle.sj_core.proofs.Agreeing.{Ends-keeps_copies, Ends-keeps_writers}
 use Rattle.sj_core.proofs.Counting.{Ends-keeps_counts}
 use Rattle.sj_core.proofs.Advancing.{Ends-keeps_order}
 use Rattle.sj_core.proofs.Holding.{Ends-keeps_cells, Ends-keeps_pins, Ends-keeps_transfers}
@@ -12,4 +13,6 @@ returns c = record {
   pins_hold = λ p m s s' t w h ended. Ends-keeps_pins p m h.proper.cells h.counted s h.coherent.state h.coherent.writers h.coherent.cells h.coherent.pins h.coherent.transfers h.coherent.workers h.coherent.order t w s' ended;
   transfers_are_sound = λ p m s s' t w h ended. Ends-keeps_transfers p m h.proper.cells h.counted s h.coherent.state h.coherent.writers h.coherent.cells h.coherent.pins h.coherent.transfers h.coherent.workers h.coherent.order t w s' ended;
   writes_are_counted = λ p m s s' t w h ended. Ends-keeps_counts p m s t w s' h.coherent.state h.coherent.cells ended h.coherent.counts;
+  copies_agree = λ p m s s' t w h plain ended. Ends-keeps_copies p m h.proper h.counted plain s h.coherent t w s' ended;
+  writers_own = λ p m s s' t w h plain ended. Ends-keeps_writers p m h.proper h.counted plain s h.coherent t w s' ended;
 }

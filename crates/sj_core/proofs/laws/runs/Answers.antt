@@ -1,3 +1,4 @@
+use Rattle.sj_core.proofs.Agreeing.{Runs-keeps_copies}
 use Rattle.sj_core.proofs.Counting.{Runs-keeps_counts}
 use Rattle.sj_core.proofs.Advancing.{Runs-keeps_order}
 use Rattle.sj_core.proofs.Holding.{Runs-keeps_cells, Runs-keeps_pins, Runs-keeps_transfers}
@@ -12,4 +13,5 @@ returns c = record {
   pins_hold = λ p m s s' t w h run. Runs-keeps_pins p m h.proper.cells h.counted s h.coherent.state h.coherent.cells h.coherent.pins h.coherent.transfers h.coherent.workers h.coherent.order t w s' run;
   transfers_are_sound = λ p m s s' t w h run. Runs-keeps_transfers p m h.proper.cells h.counted s h.coherent.state h.coherent.cells h.coherent.pins h.coherent.transfers h.coherent.workers h.coherent.order t w s' run;
   writes_are_counted = λ p m s s' t w h run. Runs-keeps_counts p m s t w s' run h.coherent.counts;
+  copies_agree = λ p m s s' t w h run. Runs-keeps_copies p m s h.coherent.state.rows h.coherent.copies t w s' run;
 }
