@@ -1,5 +1,5 @@
 -- A claim, a run and an end keep that valid replicas hold their cells' contents; an end keeps that writers own their cells.
-use Rattle.std.proofs.Common.{◌≡◌, ◌≢◌, ℕ, ◌<◌, ◌≤◌, Bool, true, false, not, ◌||◌, cond, List, length, get_or, set, refl, sym, ap, ◌∙◌, subst, inl, inr, ◌⊎◌, Option, None, Some, arith}
+use Rattle.std.proofs.Common.{◌≡◌, ◌≢◌, ℕ, ◌<◌, Bool, true, false, not, cond, length, set, refl, sym, ap, ◌∙◌, subst, inl, inr, ◌⊎◌, Option, None, Some, arith}
 use Rattle.std.specs.Prelude.{IsTrue, IfSome, if◌then◌else◌}
 use Rattle.std.proofs.lemmas.Bool.{cases_lt, false≢true}
 use Rattle.std.proofs.lemmas.Bool.Decides.{Decides-eqb}
@@ -20,7 +20,7 @@ use Rattle.sj_core.specs.declared.progress.Progress.{Progress}
 use Rattle.sj_core.specs.declared.progress.Progress.TheVariants.{Waiting, Claimed, Running, Done}
 use Rattle.sj_core.specs.declared.progress.Transfer.{Transfer}
 use Rattle.sj_deps.specs.Conflict.{HasDependencies}
-use Rattle.sj_core.specs.Operands.{cells_of, written_cells, fresh_cells}
+use Rattle.sj_core.specs.Operands.{written_cells, fresh_cells}
 use Rattle.sj_core.specs.Machine.{State, CellState, WorkerState, Replica, Invalid, Coming, Valid, Leaving, progress, cell_state, replica, replica_in, with_replica_in, writes, array_of, is_valid, is_entry, is_task_of, done_by}
 use Rattle.sj_core.specs.Step.{Claims, Runs, Ends, missing, leave, claimed_replica, owned_at, initial, rewritten_at, result_at, same_place}
 use Rattle.sj_core.specs.Proper.{Proper, NamesCells, IsMachineFor}
@@ -30,7 +30,7 @@ use Rattle.sj_core.proofs.Advancing.{Advances, Claims-advances, Runs-advances, E
 use Rattle.sj_core.proofs.Claiming.{claim-elsewhere, claim-on_disk, claim-valid_stays}
 use Rattle.sj_core.proofs.Contents.{Claims-content, Runs-content, end-content-other, end-content-own}
 use Rattle.sj_core.proofs.Finding.{being_written-by, being_written-here}
-use Rattle.sj_core.proofs.Holding.{not_true, cells-touched, cells-untouched, entry-inside, run-other, end-other}
+use Rattle.sj_core.proofs.Holding.{not_true, cells-touched, cells-untouched, entry-inside, end-other}
 use Rattle.sj_core.proofs.Reading.{cells-renewed_or, progress-inside, replica_in-same, replica_in-other_node, same_node}
 use Rattle.sj_core.proofs.Separation.{separated}
 use Rattle.sj_core.proofs.TaskCells.{written-among_cells}

@@ -1,12 +1,11 @@
 -- What cells ought to hold after a claim, a run and an end: their contents before, and the results of the task that ends.
-use Rattle.std.proofs.Common.{◌≡◌, ◌≢◌, ℕ, ◌<◌, ◌≤◌, true, false, List, length, refl, sym, ap, ◌∙◌, inl, inr, arith}
+use Rattle.std.proofs.Common.{◌≡◌, ◌<◌, true, false, List, length, refl, sym, ap, ◌∙◌, inl, inr, arith}
 use Rattle.std.specs.List.{zip}
 use Rattle.std.proofs.lemmas.Bool.{false≢true}
 use Rattle.sj_base.specs.declared.ids.Cell.{Cell}
 use Rattle.sj_base.specs.declared.ids.Task.{Task}
 use Rattle.sj_base.specs.declared.ids.Worker.{Worker}
 use Rattle.sj_base.specs.declared.ids.Place.TheVariants.{Node as AtNode}
-use Rattle.sj_base.specs.declared.mode.Access.{Access}
 use Rattle.sj_base.specs.declared.program.Program.{Program}
 use Rattle.sj_base.specs.declared.program.Machine.{Machine}
 use Rattle.sj_base.specs.Array.{Array, zeros}
@@ -15,7 +14,7 @@ use Rattle.sj_core.specs.Needs.{node_of}
 use Rattle.sj_core.specs.declared.progress.Progress.{Progress}
 use Rattle.sj_core.specs.declared.progress.Progress.TheVariants.{Waiting, Claimed, Running, Done}
 use Rattle.sj_deps.specs.Conflict.{Conflict, HasDependencies}
-use Rattle.sj_core.specs.Operands.{worked_on, written_cells, results}
+use Rattle.sj_core.specs.Operands.{written_cells, results}
 use Rattle.sj_core.specs.Fold.{Contents, held_in, after_task, after_chosen}
 use Rattle.sj_core.specs.Machine.{State, progress, is_done, is_task_of, worker_of, done_in, done_by}
 use Rattle.sj_core.specs.Step.{Claims, Runs, Ends, array_at, result_at}

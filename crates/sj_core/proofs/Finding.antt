@@ -1,7 +1,7 @@
 -- What a claimed or running task finds on its worker's node: in a cell whose old value it reads, the cell's content.
-use Rattle.std.proofs.Common.{◌≡◌, ◌≢◌, ℕ, zero, suc, ◌<◌, Bool, true, false, not, ◌&&◌, ◌||◌, cond, List, [], ◌∷◌, length, get_or, refl, sym, ap, ◌∙◌, subst, inl, inr, ◌⊎◌, Option, None, Some, arith}
+use Rattle.std.proofs.Common.{◌≡◌, ℕ, ◌<◌, Bool, true, false, not, ◌&&◌, cond, List, length, get_or, refl, sym, ap, ◌∙◌, subst, inl, inr, ◌⊎◌, Option, None, Some, arith}
 use Rattle.std.specs.Prelude.{IsTrue, All, count_by, is_some, unwrap_or, IfSome, if◌then◌else◌}
-use Rattle.std.specs.List.{Contains, AllPairs, list_any}
+use Rattle.std.specs.List.{Contains, AllPairs}
 use Rattle.std.proofs.lemmas.Bool.{cases_lt, cases_eq, false≢true}
 use Rattle.std.proofs.lemmas.Bool.Decides.{Decides-eqb}
 use Rattle.std.proofs.lemmas.List.{get_or_default}
@@ -11,7 +11,6 @@ use Rattle.std.proofs.lemmas.List.Sums.{get_or-le-sum_by}
 use Rattle.sj_base.specs.declared.ids.Cell.{Cell}
 use Rattle.sj_base.specs.declared.ids.Task.{Task}
 use Rattle.sj_base.specs.declared.ids.Worker.{Worker}
-use Rattle.sj_base.specs.declared.ids.Place.{Place}
 use Rattle.sj_base.specs.declared.ids.Place.TheVariants.{Node as AtNode}
 use Rattle.sj_base.specs.declared.mode.Mode.{Mode}
 use Rattle.sj_base.specs.declared.mode.Mode.TheVariants.{R, W, RW, Scratch, Redux, Commute}
@@ -24,17 +23,17 @@ use Rattle.sj_core.specs.Needs.{node_of}
 use Rattle.sj_core.specs.declared.progress.Progress.{Progress}
 use Rattle.sj_core.specs.declared.progress.Progress.TheVariants.{Waiting, Claimed, Running, Done}
 use Rattle.sj_deps.specs.Conflict.{HasDependencies}
-use Rattle.sj_core.specs.Operands.{copy_of, worked_on, cells_of, written_cells, fresh_cells}
-use Rattle.sj_core.specs.Machine.{State, Replica, progress, replica, writes, array_of, is_valid, is_running_on, is_task_of, worker_of, done_in, done_by}
+use Rattle.sj_core.specs.Operands.{worked_on, cells_of, written_cells, fresh_cells}
+use Rattle.sj_core.specs.Machine.{State, Replica, progress, replica, writes, array_of, is_valid, is_running_on, is_task_of, worker_of, done_by}
 use Rattle.sj_core.specs.Step.{array_at, EarlierAreDone}
 use Rattle.sj_core.specs.Proper.{Proper, reads_value, gives_value, HasValueBefore}
-use Rattle.sj_core.specs.Coherent.{Coherent, content, written_content, is_being_written, has_written, is_begun}
+use Rattle.sj_core.specs.Coherent.{Coherent, content, is_being_written, has_written}
 use Rattle.sj_core.specs.Laws.{HasPlainModes}
 use Rattle.sj_core.proofs.Advancing.{same_task, same_worker-refl}
 use Rattle.sj_core.proofs.Folding.{Contains-from_filter, read-among_cells, reads_isn't_scratch}
 use Rattle.sj_core.proofs.Holding.{not_true}
 use Rattle.sj_core.proofs.PlainModes.{operand-inside, worked_on-plain, conflicts}
-use Rattle.sj_core.proofs.Reading.{same_worker-is, progress-inside}
+use Rattle.sj_core.proofs.Reading.{same_worker-is}
 use Rattle.sj_core.proofs.Readiness.{Contains-filter}
 use Rattle.sj_core.proofs.Separation.{separated, task_of-worker, task_of-active, active-begun}
 use Rattle.sj_core.proofs.Sharing.{operand_for, operand-has_cell}

@@ -1,5 +1,5 @@
 -- What cells hold after tasks in submission order: on which tasks it depends, and that a task may come last.
-use Rattle.std.proofs.Common.{◌≡◌, ◌≢◌, ℕ, zero, suc, ◌<◌, ◌≤◌, Bool, true, false, not, ◌||◌, cond, List, [], ◌∷◌, ◌++◌, map, length, get_or, refl, sym, ap, ◌∙◌, inl, inr, ◌⊎◌, Option, None, Some, arith}
+use Rattle.std.proofs.Common.{◌≡◌, ◌≢◌, ℕ, zero, suc, ◌<◌, ◌≤◌, Bool, true, false, not, ◌||◌, cond, List, [], ◌∷◌, ◌++◌, map, length, refl, sym, ap, ◌∙◌, inl, inr, Option, None, Some, arith}
 use Rattle.std.specs.List.{Contains, filter, find, zip}
 use Rattle.std.specs.Option.{option_or}
 use Rattle.std.proofs.lemmas.Bool.{cases_lt, false≢true, true≢false}
@@ -227,8 +227,8 @@ module _ (p : Program) (chosen chosen' : Task → Bool) (by by' : Task → Worke
       let has = written-among_cells p t w c writes in
       let old = after_chosen p chosen by t.0 in
       let later = held-until p chosen' by' c (suc t.0) n inside (λ u h k e. not_true (has_cell (written_cells p u (by' u)) c) (λ over.
-          (let was = chosen-before u (omega arith) e in
-          last.unwritten u c (omega arith) was.0 (sym (ap (λ (v : Worker). has_cell (written_cells p u v) c) was.1) ∙ over) has))) in
+      (let was = chosen-before u (omega arith) e in
+      last.unwritten u c (omega arith) was.0 (sym (ap (λ (v : Worker). has_cell (written_cells p u v) c) was.1) ∙ over) has))) in
       let same : after_chosen p chosen' by' t.0 ≡ old = after_chosen-same p chosen' chosen by' by t.0 (λ u h. adds.others u (λ e. less_isn't_same u h (ap (λ (k : Task). k.0) e))) (λ u h e. adds.workers u (λ f. less_isn't_same u h (ap (λ (k : Task). k.0) f))) in
       later
       ∙ ap (λ b. held_in p (cond b (after_task p (by' t) t (after_chosen p chosen' by' t.0)) (after_chosen p chosen' by' t.0)) c) adds.present

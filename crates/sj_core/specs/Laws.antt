@@ -41,14 +41,14 @@ IsKeptByEnds Fact = (p : Program) (m : Machine) (s s' : State) (t : Task) (w : W
 -- ---- programs whose accesses are all in order
 
 -- the operand is none to which tasks contribute in any order
-abbrev pub is_plain : Mode → Bool
-is_plain Redux = false
-is_plain Commute = false
-is_plain _ = true
+abbrev pub is_plain_mode : Mode → Bool
+is_plain_mode Redux = false
+is_plain_mode Commute = false
+is_plain_mode _ = true
 
 -- no task has a REDUX or a COMMUTE access
 pub record HasPlainModes (p : Program) : Type 0 where
-  pub modes : (t : Task) → All (λ a. IsTrue (is_plain a.mode)) (task_of p t).accesses
+  pub modes : (t : Task) → All (λ a. IsTrue (is_plain_mode a.mode)) (task_of p t).accesses
 
 -- the fact holds after each end in a coherent state of a program with such accesses alone
 abbrev pub IsKeptByPlainEnds : (Program → Machine → State → Type 0) → Type 0
