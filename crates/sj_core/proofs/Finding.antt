@@ -58,7 +58,7 @@ AllPairs-two {X} P xs x y pairs (i, l, e) (j, k, f) =
     ordered a b u v before inside eu ev = subst (λ z. P z v) eu (subst (λ z. P (get_or xs a u) z) (get_or_default xs b u v inside ∙ ev) (pairs a b u before inside))
 
 -- a task of the program that passes is counted
-task-counted : (p : Program) (test : Task → Bool) (u : Task) → u.0 < length p.tasks → test u ≡ true → 0 < count_by test (tasks_of p)
+pub task-counted : (p : Program) (test : Task → Bool) (u : Task) → u.0 < length p.tasks → test u ≡ true → 0 < count_by test (tasks_of p)
 task-counted p test u inside passes =
     let number : ℕ → Task = λ n. record { 0 = n } in
     let at_u : get_or (tasks_of p) u.0 u ≡ u = get_or-map-range_with_len number 0 (length p.tasks) u.0 u.0 u inside (omega arith) in
@@ -125,7 +125,7 @@ array-told (Some x) a b h k = k
 
 module _ (p : Program) (m : Machine) (proper : Proper p) (deps : HasDependencies p) (plain : HasPlainModes p) where
   -- a task that gives a cell a value writes it, whichever worker runs it
-  gives-writes : (u : Task) (v : Worker) (c : Cell) → gives_value (task_of p u) c ≡ true → has_cell (written_cells p u v) c ≡ true
+  pub gives-writes : (u : Task) (v : Worker) (c : Cell) → gives_value (task_of p u) c ≡ true → has_cell (written_cells p u v) c ≡ true
   gives-writes u v c h =
       let gives : Access → Bool = λ a. is_written a.mode && not (is_redux a.mode) && same_cell a.cell c in
       let given = Any-from_list_any gives (task_of p u).accesses h in

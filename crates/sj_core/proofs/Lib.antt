@@ -2,7 +2,9 @@ pub mod AddRun
 pub mod Advancing
 pub mod Agreeing
 pub mod Claiming
+pub mod Coherence
 pub mod Completeness
+pub mod Completing
 pub mod Contents
 pub mod Counting
 pub mod Delivering

@@ -1,12 +1,16 @@
 -- What the steps of a task keep: laws of all proper programs, machines and coherent states.
-use Rattle.std.specs.Prelude.{◌≡◌, Bool, true, false, IsTrue, [], ◌∷◌, All, Contains}
+use Rattle.std.specs.Prelude.{◌≡◌, Bool, true, false, IsTrue, List, [], ◌∷◌, length, All, Contains, IfSome}
 use Rattle.sj_base.specs.declared.ids.Task.{Task}
 use Rattle.sj_base.specs.declared.ids.Worker.{Worker}
 use Rattle.sj_base.specs.declared.mode.Mode.{Mode}
 use Rattle.sj_base.specs.declared.mode.Mode.TheVariants.{R, Redux, Commute}
 use Rattle.sj_base.specs.declared.mode.Access.{Access}
 use Rattle.sj_base.specs.declared.ids.Cell.{Cell}
+use Rattle.sj_base.specs.declared.ids.Place.{Place}
 use Rattle.sj_base.specs.declared.ids.Place.TheVariants.{Node as AtNode}
+use Rattle.sj_base.specs.declared.trace.Event.{Event}
+use Rattle.sj_base.specs.declared.trace.Event.TheVariants.{Claim, Run, End}
+use Rattle.sj_base.specs.Array.{Array}
 use Rattle.sj_base.specs.declared.program.Program.{Program}
 use Rattle.sj_base.specs.declared.program.Machine.{Machine}
 use Rattle.sj_deps.specs.Conflict.{HasDependencies}
@@ -14,10 +18,11 @@ use Rattle.sj_core.specs.declared.progress.Progress.TheVariants.{Claimed, Runnin
 use Rattle.sj_core.specs.Program.{task_of}
 use Rattle.sj_core.specs.Needs.{node_of}
 use Rattle.sj_core.specs.Fold.{held_before, given}
-use Rattle.sj_core.specs.Machine.{State, progress, replica, is_valid}
-use Rattle.sj_core.specs.Proper.{Proper, IsMachineFor, reads_value, access}
+use Rattle.sj_core.specs.Machine.{State, progress, replica, array_of, is_valid}
+use Rattle.sj_core.specs.Proper.{Proper, IsMachineFor, reads_value, gives_value, access}
 use Rattle.sj_core.specs.Coherent.{Coherent}
 use Rattle.sj_core.specs.Step.{Claims, Runs, Ends, array_at}
+use Rattle.sj_core.specs.Legal.{Leads, IsComplete}
 
 -- a coherent state of a proper program on a machine for it
 pub record IsSound (p : Program) (m : Machine) (s : State) : Type 0 where
@@ -68,3 +73,29 @@ FindsEarlierTasks = (p : Program) (m : Machine) (s : State) (t : Task) (w : Work
 -- a task that reads one cell and does nothing else has on its worker's node the array that it hands over
 abbrev pub DeliversGiven : Type 0
 DeliversGiven = (p : Program) (m : Machine) (s : State) (t : Task) (w : Worker) (c : Cell) → IsSound p m s → HasPlainModes p → (task_of p t).accesses ≡ access R c ∷ [] → HasAtHand m s t w c → array_at p s (AtNode (node_of m w)) c ≡ given p t
+
+-- ---- whole traces
+
+-- the event is a claim, a run or an end
+abbrev pub is_of_task : Event → Bool
+is_of_task (Claim t w) = true
+is_of_task (Run t w) = true
+is_of_task (End t w) = true
+is_of_task _ = false
+
+-- from a sound state of a program with such accesses alone, each legal trace of claims, runs and ends leaves one
+abbrev pub TasksKeepCoherence : Type 0
+TasksKeepCoherence = (p : Program) (m : Machine) (s s' : State) (trace : List Event) → IsSound p m s → HasPlainModes p → All (λ e. IsTrue (is_of_task e)) trace → Leads p m s trace s' → Coherent p m s'
+
+-- the array of a cell after all tasks of the program in submission order, with each contribution by worker 0
+abbrev pub final : Program → Cell → Array
+final p c = held_before p (length p.tasks) c
+
+-- each cell to which a task gives a value has a valid replica, and each holds what all tasks leave
+pub record HoldsFinal (p : Program) (s : State) : Type 0 where
+  pub somewhere : (t : Task) (c : Cell) → IsTrue (gives_value (task_of p t) c) → (q : Place) × IsTrue (is_valid (replica s c q))
+  pub alike : (t : Task) (c : Cell) (q : Place) → IsTrue (gives_value (task_of p t) c) → IfSome (array_of (replica s c q)) (λ a. a ≡ final p c)
+
+-- it is so where all tasks are done
+abbrev pub CompleteHoldsFinal : Type 0
+CompleteHoldsFinal = (p : Program) (m : Machine) (s : State) → IsSound p m s → HasPlainModes p → IsComplete s → HoldsFinal p s

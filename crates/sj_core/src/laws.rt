@@ -3,7 +3,7 @@
 ghost use Rattle.sj_base.specs.declared.program.Program.{Program};
 ghost use Rattle.sj_base.specs.declared.program.Machine.{Machine};
 ghost use Rattle.sj_core.specs.Coherent.{Coherent, CopiesAgree, OrderIsKept, PinsHold, TasksHaveCells, TransfersAreSound, WorkersAreSound, WritersOwn, WritesAreCounted};
-ghost use Rattle.sj_core.specs.Laws.{DeliversGiven, FindsEarlierTasks, IsKeptByClaims, IsKeptByEnds, IsKeptByPlainEnds, IsKeptByRuns};
+ghost use Rattle.sj_core.specs.Laws.{CompleteHoldsFinal, DeliversGiven, FindsEarlierTasks, IsKeptByClaims, IsKeptByEnds, IsKeptByPlainEnds, IsKeptByRuns};
 ghost use Rattle.sj_core.specs.Machine.{opening};
 
 /// A run begins in a coherent state.
@@ -49,4 +49,9 @@ pub fn ends()
 pub fn deliveries()
     ensures finds_earlier_tasks { FindsEarlierTasks }
     ensures delivers_given { DeliversGiven }
+{}
+
+/// What the cells hold where all tasks are done: what the tasks leave one after another in submission order.
+pub fn completions()
+    ensures { CompleteHoldsFinal }
 {}
