@@ -1,6 +1,9 @@
 pub mod AddRun
 pub mod Advancing
 pub mod Agreeing
+pub mod Bytes
+pub mod CellLists
+pub mod Choosing
 pub mod Claiming
 pub mod Coherence
 pub mod Completeness
@@ -8,10 +11,12 @@ pub mod Completing
 pub mod Contents
 pub mod Counting
 pub mod Delivering
+pub mod Dependencies
 pub mod Eviction
 pub mod EvictionRun
 pub mod Finding
 pub mod Folding
+pub mod Forms
 pub mod Holding
 pub mod Opening
 pub mod PlainModes
@@ -19,7 +24,10 @@ pub mod Readiness
 pub mod Reading
 pub mod Separation
 pub mod Sharing
+pub mod Sums
 pub mod Tables
 pub mod TaskCells
+pub mod Values
 pub mod Worked
 pub mod Workers
+pub mod Writers

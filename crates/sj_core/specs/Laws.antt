@@ -13,7 +13,6 @@ use Rattle.sj_base.specs.declared.trace.Event.TheVariants.{Claim, Run, End}
 use Rattle.sj_base.specs.Array.{Array}
 use Rattle.sj_base.specs.declared.program.Program.{Program}
 use Rattle.sj_base.specs.declared.program.Machine.{Machine}
-use Rattle.sj_deps.specs.Conflict.{HasDependencies}
 use Rattle.sj_core.specs.declared.progress.Progress.TheVariants.{Claimed, Running}
 use Rattle.sj_core.specs.Program.{task_of}
 use Rattle.sj_core.specs.Needs.{node_of}
@@ -27,7 +26,6 @@ use Rattle.sj_core.specs.Legal.{Leads, IsComplete}
 -- a coherent state of a proper program on a machine for it
 pub record IsSound (p : Program) (m : Machine) (s : State) : Type 0 where
   pub proper : Proper p
-  pub counted : HasDependencies p
   pub machine : IsMachineFor p m
   pub coherent : Coherent p m s
 

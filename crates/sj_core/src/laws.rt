@@ -2,9 +2,16 @@
 
 ghost use Rattle.sj_base.specs.declared.program.Program.{Program};
 ghost use Rattle.sj_base.specs.declared.program.Machine.{Machine};
-ghost use Rattle.sj_core.specs.Coherent.{Coherent, CopiesAgree, OrderIsKept, PinsHold, TasksHaveCells, TransfersAreSound, WorkersAreSound, WritersOwn, WritesAreCounted};
-ghost use Rattle.sj_core.specs.Laws.{CompleteHoldsFinal, DeliversGiven, FindsEarlierTasks, IsKeptByClaims, IsKeptByEnds, IsKeptByPlainEnds, IsKeptByRuns};
+ghost use Rattle.sj_core.specs.Laws.{CompleteHoldsFinal, DeliversGiven, FindsEarlierTasks, IsKeptByClaims, IsKeptByEnds, IsKeptByPlainEnds, IsKeptByRuns, TasksKeepCoherence};
+ghost use Rattle.sj_core.specs.Coherent.{Coherent, CopiesAgree, IsStateOf, NodesSuffice, OrderIsKept, PinsHold, TasksHaveCells, TransfersAreSound, WorkersAreSound, WritersOwn, WritesAreCounted};
 ghost use Rattle.sj_core.specs.Machine.{opening};
+ghost use Rattle.sj_core.specs.Proper.{Proper};
+ghost use Rattle.sj_deps.specs.Conflict.{HasDependencies};
+
+/// A proper program's dependencies can be counted: each access names a cell, and a task accesses a cell in one manner.
+pub fn dependencies()
+    ensures { (p : Program) → Proper p → HasDependencies p }
+{}
 
 /// A run begins in a coherent state.
 pub fn openings()
@@ -20,6 +27,9 @@ pub fn claims()
     ensures transfers_are_sound { IsKeptByClaims (λ p m s. TransfersAreSound m s) }
     ensures writes_are_counted { IsKeptByClaims (λ p m s. WritesAreCounted p s) }
     ensures copies_agree { IsKeptByClaims (λ p m s. CopiesAgree p s) }
+    ensures is_a_state { IsKeptByClaims IsStateOf }
+    ensures writers_own { IsKeptByClaims WritersOwn }
+    ensures nodes_suffice { IsKeptByClaims NodesSuffice }
 {}
 
 /// What the beginning of a kernel's run keeps.
@@ -31,6 +41,9 @@ pub fn runs()
     ensures transfers_are_sound { IsKeptByRuns (λ p m s. TransfersAreSound m s) }
     ensures writes_are_counted { IsKeptByRuns (λ p m s. WritesAreCounted p s) }
     ensures copies_agree { IsKeptByRuns (λ p m s. CopiesAgree p s) }
+    ensures is_a_state { IsKeptByRuns IsStateOf }
+    ensures writers_own { IsKeptByRuns WritersOwn }
+    ensures nodes_suffice { IsKeptByRuns NodesSuffice }
 {}
 
 /// What the end of a kernel's run keeps.
@@ -43,6 +56,8 @@ pub fn ends()
     ensures writes_are_counted { IsKeptByEnds (λ p m s. WritesAreCounted p s) }
     ensures copies_agree { IsKeptByPlainEnds (λ p m s. CopiesAgree p s) }
     ensures writers_own { IsKeptByPlainEnds WritersOwn }
+    ensures is_a_state { IsKeptByEnds IsStateOf }
+    ensures nodes_suffice { IsKeptByEnds NodesSuffice }
 {}
 
 /// What a task finds on its worker's node: what all tasks before it, in submission order, have left in its cells.
@@ -54,4 +69,9 @@ pub fn deliveries()
 /// What the cells hold where all tasks are done: what the tasks leave one after another in submission order.
 pub fn completions()
     ensures { CompleteHoldsFinal }
+{}
+
+/// Each legal trace of claims, runs and ends leaves a coherent state, and so after each of its events.
+pub fn traces()
+    ensures { TasksKeepCoherence }
 {}
