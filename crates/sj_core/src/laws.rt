@@ -2,8 +2,8 @@
 
 ghost use Rattle.sj_base.specs.declared.program.Program.{Program};
 ghost use Rattle.sj_base.specs.declared.program.Machine.{Machine};
-ghost use Rattle.sj_core.specs.Laws.{CompleteHoldsFinal, DeliversGiven, FindsEarlierTasks, IsKeptByClaims, IsKeptByEnds, IsKeptByPlainEnds, IsKeptByRuns, PlainRunsAreCoherent, PlainRunsHoldFinal, TasksKeepCoherence};
 ghost use Rattle.sj_core.specs.Coherent.{Coherent, CopiesAgree, IsStateOf, NodesSuffice, OrderIsKept, PinsHold, TasksHaveCells, TransfersAreSound, WorkersAreSound, WritersOwn, WritesAreCounted};
+ghost use Rattle.sj_core.specs.Laws.{CompleteHoldsFinal, DeliversGiven, FindsEarlierTasks, IsKeptByClaims, IsKeptByEnds, IsKeptByPlainEnds, IsKeptByRuns, PlainRunsAreCoherent, PlainRunsHoldFinal, TasksKeepCoherence};
 ghost use Rattle.sj_core.specs.Machine.{opening};
 ghost use Rattle.sj_core.specs.Proper.{Proper};
 ghost use Rattle.sj_deps.specs.Conflict.{HasDependencies};
@@ -71,7 +71,7 @@ pub fn completions()
     ensures { CompleteHoldsFinal }
 {}
 
-/// Each legal trace of claims, runs and ends leaves a coherent state, and so does each event of it; where all tasks
+/// Each legal trace of claims, runs and ends leaves a coherent state, and so does each front of it; where all tasks
 /// are done, the cells hold what the tasks leave one after another in submission order.
 pub fn traces()
     ensures keeps_coherence { TasksKeepCoherence }
