@@ -1,3 +1,4 @@
+pub mod AddFinal
 pub mod AddRun
 pub mod Advancing
 pub mod Agreeing

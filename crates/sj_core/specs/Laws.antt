@@ -21,7 +21,7 @@ use Rattle.sj_core.specs.Machine.{State, progress, replica, array_of, is_valid}
 use Rattle.sj_core.specs.Proper.{Proper, IsMachineFor, reads_value, gives_value, access}
 use Rattle.sj_core.specs.Coherent.{Coherent}
 use Rattle.sj_core.specs.Step.{Claims, Runs, Ends, array_at}
-use Rattle.sj_core.specs.Legal.{Leads, IsComplete}
+use Rattle.sj_core.specs.Legal.{Leads, Replays, IsComplete}
 
 -- a coherent state of a proper program on a machine for it
 pub record IsSound (p : Program) (m : Machine) (s : State) : Type 0 where
@@ -97,3 +97,21 @@ pub record HoldsFinal (p : Program) (s : State) : Type 0 where
 -- it is so where all tasks are done
 abbrev pub CompleteHoldsFinal : Type 0
 CompleteHoldsFinal = (p : Program) (m : Machine) (s : State) → IsSound p m s → HasPlainModes p → IsComplete s → HoldsFinal p s
+
+-- ---- whole runs
+
+-- a legal run by claims, runs and ends, from the opening state, of a proper program with such accesses alone
+pub record IsPlainRun (p : Program) (m : Machine) (trace : List Event) (s : State) : Type 0 where
+  pub proper : Proper p
+  pub machine : IsMachineFor p m
+  pub plain : HasPlainModes p
+  pub of_tasks : All (λ e. IsTrue (is_of_task e)) trace
+  pub replays : Replays p m trace s
+
+-- it is coherent after each event, since the events up to there are such a run
+abbrev pub PlainRunsAreCoherent : Type 0
+PlainRunsAreCoherent = (p : Program) (m : Machine) (trace : List Event) (s : State) → IsPlainRun p m trace s → Coherent p m s
+
+-- where it is complete, the cells hold what all tasks leave in submission order
+abbrev pub PlainRunsHoldFinal : Type 0
+PlainRunsHoldFinal = (p : Program) (m : Machine) (trace : List Event) (s : State) → IsPlainRun p m trace s → IsComplete s → HoldsFinal p s

@@ -3,7 +3,7 @@
 ghost use Rattle.sj_base.specs.declared.program.Program.{Program};
 ghost use Rattle.sj_base.specs.declared.program.Machine.{Machine};
 ghost use Rattle.sj_core.specs.Coherent.{Coherent, IsStateOf, NodesSuffice, OrderIsKept, PinsHold, TasksHaveCells, TransfersAreSound, WorkersAreSound, WritesAreCounted};
-ghost use Rattle.sj_core.specs.Laws.{CompleteHoldsFinal, DeliversGiven, FindsEarlierTasks, IsKeptByClaims, IsKeptByEnds, IsKeptByPlainEnds, IsKeptByRuns, TasksKeepCoherence};
+ghost use Rattle.sj_core.specs.Laws.{CompleteHoldsFinal, DeliversGiven, FindsEarlierTasks, IsKeptByClaims, IsKeptByEnds, IsKeptByPlainEnds, IsKeptByRuns, PlainRunsAreCoherent, PlainRunsHoldFinal, TasksKeepCoherence};
 ghost use Rattle.sj_core.specs.Machine.{opening};
 ghost use Rattle.sj_core.specs.Proper.{Proper};
 ghost use Rattle.sj_deps.specs.Conflict.{HasDependencies};
@@ -52,7 +52,10 @@ pub fn completions()
     ensures { CompleteHoldsFinal }
 {}
 
-/// What each legal trace of claims, runs and ends keeps: coherence, after each event.
+/// Each legal trace of claims, runs and ends leaves a coherent state, and so does each front of it; where all tasks
+/// are done, the cells hold what the tasks leave one after another in submission order.
 pub fn traces()
-    ensures { TasksKeepCoherence }
+    ensures keeps_coherence { TasksKeepCoherence }
+    ensures are_coherent { PlainRunsAreCoherent }
+    ensures hold_final { PlainRunsHoldFinal }
 {}
