@@ -2,6 +2,7 @@ pub mod AddFinal
 pub mod AddRun
 pub mod Advancing
 pub mod Agreeing
+pub mod Bound
 pub mod Bytes
 pub mod CellLists
 pub mod Choosing
@@ -19,6 +20,7 @@ pub mod Finding
 pub mod Folding
 pub mod Forms
 pub mod Holding
+pub mod Once
 pub mod Opening
 pub mod Placing
 pub mod PlainModes

@@ -1,10 +1,16 @@
-//! What the steps of a task keep of a coherent state, whatever the program, the machine and the order of events.
+//! What the steps of a task keep of a coherent state, and what legal traces come to, whatever the program, the
+//! machine and the order of events.
 
+ghost use Rattle.std.specs.Prelude.{All, IsTrue, List};
+ghost use Rattle.sj_base.specs.declared.trace.Event.{Event};
 ghost use Rattle.sj_base.specs.declared.program.Program.{Program};
 ghost use Rattle.sj_base.specs.declared.program.Machine.{Machine};
+ghost use Rattle.sj_core.specs.Bound.{HasAtMostThreePerTask};
 ghost use Rattle.sj_core.specs.Coherent.{Coherent, IsStateOf, NodesSuffice, OrderIsKept, PinsHold, TasksHaveCells, TransfersAreSound, WorkersAreSound, WritesAreCounted};
-ghost use Rattle.sj_core.specs.Laws.{CompleteHoldsFinal, DeliversGiven, FindsEarlierTasks, IsKeptByClaims, IsKeptByEnds, IsKeptByPlainEnds, IsKeptByRuns, PlainRunsAreCoherent, PlainRunsHoldFinal, TasksKeepCoherence};
+ghost use Rattle.sj_core.specs.Laws.{CompleteHoldsFinal, DeliversGiven, FindsEarlierTasks, IsKeptByClaims, IsKeptByEnds, IsKeptByPlainEnds, IsKeptByRuns, PlainRunsAreCoherent, PlainRunsHoldFinal, TasksKeepCoherence, is_of_task};
+ghost use Rattle.sj_core.specs.Legal.{IsFinished, IsLegal};
 ghost use Rattle.sj_core.specs.Machine.{opening};
+ghost use Rattle.sj_core.specs.Once.{EachRanOnce};
 ghost use Rattle.sj_core.specs.Proper.{Proper};
 ghost use Rattle.sj_deps.specs.Conflict.{HasDependencies};
 
@@ -58,4 +64,16 @@ pub fn traces()
     ensures keeps_coherence { TasksKeepCoherence }
     ensures are_coherent { PlainRunsAreCoherent }
     ensures hold_final { PlainRunsHoldFinal }
+{}
+
+/// In a trace that is legal and finished each task was claimed, ran and ended once.
+pub fn finishes()
+    ensures { (p : Program) (m : Machine) (trace : List Event) →
+        IsFinished p m trace → EachRanOnce p trace }
+{}
+
+/// A legal trace of claims, runs and ends has at most three events for each task of the program.
+pub fn bounds()
+    ensures { (p : Program) (m : Machine) (trace : List Event) →
+        IsLegal p m trace → All (λ e. IsTrue (is_of_task e)) trace → HasAtMostThreePerTask p trace }
 {}
