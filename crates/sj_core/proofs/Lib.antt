@@ -6,6 +6,7 @@ pub mod Choosing
 pub mod Claiming
 pub mod Counting
 pub mod Dependencies
+pub mod Dropping
 pub mod Eviction
 pub mod EvictionRun
 pub mod Forms

@@ -1,17 +1,23 @@
 -- What the accessors of a state give after one replica, or one worker's transfer, was written.
-use Rattle.std.proofs.Common.{◌≡◌, ◌≢◌, ℕ, ◌<◌, ◌≤◌, Bool, List, length, set, refl, sym, ap, ◌∙◌, subst, inl, inr, ◌⊎◌, Option, None, Some, arith}
+use Rattle.std.proofs.Common.{◌≡◌, ◌≢◌, ℕ, ◌<◌, ◌≤◌, Bool, true, false, not, List, length, set, refl, sym, ap, ◌∙◌, subst, inl, inr, ◌⊎◌, Option, None, Some, arith}
 use Rattle.std.specs.Prelude.{All}
 use Rattle.std.proofs.lemmas.List.{length-set, get_or_past, get_or-set_same, get_or-set_other}
 use Rattle.std.proofs.lemmas.List.Elements.{All-set}
-use Rattle.std.proofs.lemmas.Bool.{cases_lt, cases_eq}
+use Rattle.std.proofs.lemmas.Bool.{cases_lt, cases_eq, false≢true}
+use Rattle.std.proofs.lemmas.Bool.Decides.{Decides-eqb}
 use Rattle.sj_base.specs.declared.ids.Cell.{Cell}
 use Rattle.sj_base.specs.declared.ids.DiskNo.{DiskNo}
 use Rattle.sj_base.specs.declared.ids.Node.{Node}
 use Rattle.sj_base.specs.declared.ids.Worker.{Worker}
 use Rattle.sj_base.specs.declared.ids.Place.{Place}
 use Rattle.sj_base.specs.declared.ids.Place.TheVariants.{Node as AtNode, Disk as OnDisk}
+use Rattle.sj_base.specs.Array.{Array}
+use Rattle.sj_base.specs.declared.program.Machine.{Machine}
+use Rattle.sj_core.specs.Needs.{node_of}
+use Rattle.sj_core.specs.Step.{same_place}
+use Rattle.sj_core.specs.Coherent.{IsOwnedBy}
 use Rattle.sj_core.specs.declared.progress.Transfer.{Transfer}
-use Rattle.sj_core.specs.Machine.{State, CellState, WorkerState, Replica, Invalid, cell_state, replica, replica_in, writes, worker_state, pins, scratch, victims_of, transfer, with_replica, with_replica_in, with_transfer}
+use Rattle.sj_core.specs.Machine.{State, CellState, WorkerState, Replica, Invalid, Coming, Valid, Leaving, is_entry, is_leaving, is_coming_by, cell_state, replica, replica_in, writes, worker_state, pins, scratch, victims_of, transfer, with_replica, with_replica_in, with_transfer}
 use Rattle.sj_core.proofs.Reading.{no_row, idle_row, same_node, workers_differ}
 
 cells_differ : (c d : Cell) → (c ≡ d) ⊎ (c ≢ d)
@@ -141,3 +147,41 @@ module _ (s : State) (w : Worker) (move : Option Transfer) where
 
   pub transfer-own : w.0 < length s.workers → transfer (with_transfer s w move) w ≡ move
   transfer-own inside = ap (λ (row : WorkerState). row.transfer) (get_or-set_same s.workers w.0 moving_row idle_row inside)
+
+-- ---- places
+
+pub same_place-is : (q k : Place) → same_place q k ≡ true → q ≡ k
+same_place-is (AtNode a) (AtNode b) h = ap (λ (i : ℕ). AtNode (record { 0 = i })) ((Decides-eqb a.0 b.0).0 h)
+same_place-is (OnDisk a) (OnDisk b) h = ap (λ (i : ℕ). OnDisk (record { 0 = i })) ((Decides-eqb a.0 b.0).0 h)
+same_place-is (AtNode a) (OnDisk b) h = absurd (false≢true h)
+same_place-is (OnDisk a) (AtNode b) h = absurd (false≢true h)
+
+pub same_place-refl : (q : Place) → same_place q q ≡ true
+same_place-refl (AtNode a) = (Decides-eqb a.0 a.0).1 refl
+same_place-refl (OnDisk a) = (Decides-eqb a.0 a.0).1 refl
+
+-- each replica of a cell that a worker owns is the valid one, or invalid
+pub owned-cases : (m : Machine) (s : State) (c : Cell) (v : Worker) (a : Array) → IsOwnedBy m s c v a → (q : Place) → (replica s c q ≡ Valid a) ⊎ (replica s c q ≡ Invalid)
+owned-cases m s c v a own q = by_place (same_place q (AtNode (node_of m v))) refl
+  where
+    by_place : (b : Bool) → same_place q (AtNode (node_of m v)) ≡ b → (replica s c q ≡ Valid a) ⊎ (replica s c q ≡ Invalid)
+    by_place true e = inl (ap (replica s c) (same_place-is q (AtNode (node_of m v)) e) ∙ own.valid)
+    by_place false e = inr (own.only q (ap not e))
+
+-- and so a replica of it passes no test that a valid and an invalid one fail
+pub owned-fails : (m : Machine) (s : State) (c : Cell) (v : Worker) (a : Array) → IsOwnedBy m s c v a → (test : Replica → Bool) → test (Valid a) ≡ false → test Invalid ≡ false → (q : Place) → test (replica s c q) ≡ false
+owned-fails m s c v a own test valid invalid q = elim (owned-cases m s c v a own q) [ inl e ↦ ap test e ∙ valid | inr e ↦ ap test e ∙ invalid ]
+
+-- ---- replicas
+
+pub leaving_isn't_entry : (r : Replica) → is_leaving r ≡ true → is_entry r ≡ false
+leaving_isn't_entry Invalid h = refl
+leaving_isn't_entry (Coming v) h = absurd (false≢true h)
+leaving_isn't_entry (Valid a) h = absurd (false≢true h)
+leaving_isn't_entry (Leaving v a) h = refl
+
+pub coming_isn't_leaving : (v : Worker) (r : Replica) → is_coming_by v r ≡ true → is_leaving r ≡ false
+coming_isn't_leaving v Invalid h = refl
+coming_isn't_leaving v (Coming u) h = refl
+coming_isn't_leaving v (Valid a) h = refl
+coming_isn't_leaving v (Leaving u a) h = sym h
