@@ -3,7 +3,7 @@
 ghost use Rattle.sj_base.specs.declared.program.Program.{Program};
 ghost use Rattle.sj_base.specs.declared.program.Machine.{Machine};
 ghost use Rattle.sj_core.specs.Coherent.{Coherent, IsStateOf, NodesSuffice, OrderIsKept, PinsHold, TasksHaveCells, TransfersAreSound, WorkersAreSound, WritersOwn, WritesAreCounted};
-ghost use Rattle.sj_core.specs.Laws.{IsKeptByClaims, IsKeptByEnds, IsKeptByRuns};
+ghost use Rattle.sj_core.specs.Laws.{IsKeptByClaims, IsKeptByDrops, IsKeptByEnds, IsKeptByRuns};
 ghost use Rattle.sj_core.specs.Machine.{opening};
 ghost use Rattle.sj_core.specs.Proper.{Proper};
 ghost use Rattle.sj_deps.specs.Conflict.{HasDependencies};
@@ -54,4 +54,9 @@ pub fn ends()
     ensures writes_are_counted { IsKeptByEnds (λ p m s. WritesAreCounted p s) }
     ensures is_a_state { IsKeptByEnds IsStateOf }
     ensures nodes_suffice { IsKeptByEnds NodesSuffice }
+{}
+
+/// A drop keeps coherence whole.
+pub fn drops()
+    ensures { IsKeptByDrops Coherent }
 {}
