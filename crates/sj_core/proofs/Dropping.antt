@@ -1,11 +1,9 @@
 -- A drop leaves a coherent state.
 use Rattle.std.proofs.Common.{◌≡◌, ◌<◌, Bool, true, false, not, ◌&&◌, length, refl, sym, ap, ◌∙◌, subst, inl, inr, ◌⊎◌, Option, None, Some, arith}
-use Rattle.std.specs.Prelude.{IsTrue, IfSome}
+use Rattle.std.specs.Prelude.{IfSome}
 use Rattle.std.proofs.lemmas.Bool.{false≢true, and_parts, and_from}
 use Rattle.std.proofs.lemmas.List.{length-set}
-use Rattle.sj_base.specs.Array.{Array}
 use Rattle.sj_base.specs.declared.ids.Cell.{Cell}
-use Rattle.sj_base.specs.declared.ids.DiskNo.{DiskNo}
 use Rattle.sj_base.specs.declared.ids.Node.{Node}
 use Rattle.sj_base.specs.declared.ids.Worker.{Worker}
 use Rattle.sj_base.specs.declared.ids.Place.{Place}
@@ -15,11 +13,11 @@ use Rattle.sj_base.specs.declared.program.Machine.{Machine}
 use Rattle.sj_core.specs.Program.{same_cell}
 use Rattle.sj_core.specs.Needs.{node_of}
 use Rattle.sj_core.specs.declared.progress.Transfer.{Transfer}
-use Rattle.sj_core.specs.Machine.{State, Replica, Invalid, Valid, cell_state, replica, transfer, array_of, is_valid, is_entry, is_leaving, is_leaving_by, is_coming_by, with_replica, with_replica_in, writes}
+use Rattle.sj_core.specs.Machine.{State, Replica, Invalid, cell_state, replica, transfer, array_of, is_valid, is_entry, is_leaving, is_leaving_by, is_coming_by, with_replica, with_replica_in, writes}
 use Rattle.sj_core.specs.Step.{Drops, same_place, places_of, reads, is_read}
-use Rattle.sj_core.specs.Coherent.{IsTransferTo, NoneLeavesBy, TransfersAreSound, CopiesAgree, Coherent, content}
+use Rattle.sj_core.specs.Coherent.{IsTransferTo, TransfersAreSound, CopiesAgree, Coherent, content}
 use Rattle.sj_core.specs.Laws.{IsSound}
-use Rattle.sj_core.proofs.Reading.{list_any-worker, leaving_by-leaves}
+use Rattle.sj_core.proofs.Reading.{list_any-worker}
 use Rattle.sj_core.proofs.Workers.{transfer-inside}
 use Rattle.sj_core.proofs.Holding.{not_true}
 use Rattle.sj_core.proofs.Forms.{HasBlocks-kept}
@@ -81,11 +79,13 @@ module _ (p : Program) (m : Machine) (s : State) (h : IsSound p m s) (c : Cell) 
   elsewhere : (q : Place) × (is_valid (replica after c q) ≡ true)
   elsewhere =
       let found = list_any-some (λ q. not (same_place q (AtNode n)) && is_valid (replica s c q)) (places_of m) drop.shared in
-      let both = and_parts (not (same_place found.0 (AtNode n))) (is_valid (replica s c found.0)) found.2 in
-      (found.0, elim (cases c found.0) [
-        | inl same ↦ ap is_valid same ∙ both.1
-        | inr (e, at, is, left) ↦ absurd (false≢true (sym (ap not (ap (λ (q : Place). same_place q (AtNode n)) at ∙ same_place-refl (AtNode n))) ∙ both.0))
-      ])
+      let both = and_parts (not (same_place found.0 (AtNode n))) (is_valid (replica s c found.0)) found.2 in (
+        found.0,
+        elim (cases c found.0) [
+          | inl same ↦ ap is_valid same ∙ both.1
+          | inr (e, at, is, left) ↦ absurd (false≢true (sym (ap not (ap (λ (q : Place). same_place q (AtNode n)) at ∙ same_place-refl (AtNode n))) ∙ both.0))
+        ],
+      )
 
   copies : CopiesAgree p after
   copies =
@@ -105,13 +105,13 @@ module _ (p : Program) (m : Machine) (s : State) (h : IsSound p m s) (c : Cell) 
   shift : Shifts p m s after.cells after.workers
   shift = record {
     rows = (let rows = h.coherent.state.rows in record {
-        tasks = rows.tasks;
-        cells = length-set s.cells c.0 (with_replica_in (cell_state s c) (AtNode n) Invalid) ∙ rows.cells;
-        orders = rows.orders;
-        workers = rows.workers;
-        nodes = nodes-kept s c (AtNode n) Invalid (length m.nodes) rows.nodes;
-        disks = disks-kept s c (AtNode n) Invalid (length m.disks) rows.disks;
-      });
+      tasks = rows.tasks;
+      cells = length-set s.cells c.0 (with_replica_in (cell_state s c) (AtNode n) Invalid) ∙ rows.cells;
+      orders = rows.orders;
+      workers = rows.workers;
+      nodes = nodes-kept s c (AtNode n) Invalid (length m.nodes) rows.nodes;
+      disks = disks-kept s c (AtNode n) Invalid (length m.disks) rows.disks;
+    });
     blocks = HasBlocks-kept p m s after (λ d k. elim (cases d (OnDisk k)) [ inl same ↦ inr same | inr (e, at, is, left) ↦ inl is ]) (λ v. refl) h.coherent.state.blocks;
     same_pins = λ v. refl;
     same_scratch = λ v. refl;

@@ -3,6 +3,7 @@ pub mod Advancing
 pub mod Bytes
 pub mod CellLists
 pub mod Choosing
+pub mod Claimed
 pub mod Claiming
 pub mod Counting
 pub mod Dependencies

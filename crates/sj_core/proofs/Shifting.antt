@@ -1,6 +1,5 @@
 -- A step that changes replicas and transfers alone, and what it owes so as to leave a coherent state.
-use Rattle.std.proofs.Common.{◌≡◌, ◌≤◌, true, false, List, refl, sym, ap, ◌∙◌, Some, arith}
-use Rattle.std.specs.Prelude.{IsTrue}
+use Rattle.std.proofs.Common.{◌≡◌, true, false, List, sym, ap, ◌∙◌, Some, arith}
 use Rattle.std.proofs.lemmas.Bool.{false≢true}
 use Rattle.sj_base.specs.Array.{Array}
 use Rattle.sj_base.specs.declared.ids.Cell.{Cell}
