@@ -12,6 +12,7 @@ pub mod Eviction
 pub mod EvictionRun
 pub mod Forms
 pub mod Holding
+pub mod MovingIn
 pub mod Opening
 pub mod Placing
 pub mod Readiness
