@@ -1,5 +1,6 @@
 pub mod AddRun
 pub mod Advancing
+pub mod Arriving
 pub mod Bytes
 pub mod CellLists
 pub mod Choosing
@@ -13,6 +14,7 @@ pub mod EvictionRun
 pub mod Forms
 pub mod Holding
 pub mod MovingIn
+pub mod MovingOut
 pub mod Opening
 pub mod Placing
 pub mod Readiness

@@ -1,11 +1,10 @@
 -- A move into a node that begins leaves a coherent state.
-use Rattle.std.proofs.Common.{◌≡◌, ℕ, ◌<◌, Bool, true, false, not, ◌&&◌, length, get_or, refl, sym, ap, ◌∙◌, subst, inl, inr, ◌⊎◌, Option, None, Some, arith}
+use Rattle.std.proofs.Common.{◌≡◌, ℕ, Bool, true, false, not, ◌&&◌, refl, sym, ap, ◌∙◌, subst, inl, inr, ◌⊎◌, Option, None, Some}
 use Rattle.std.specs.Prelude.{IsTrue, position}
-use Rattle.std.proofs.lemmas.Bool.{cases_lt, false≢true, and_from}
-use Rattle.std.proofs.lemmas.List.{length-set, get_or_past}
+use Rattle.std.proofs.lemmas.Bool.{false≢true, and_from}
+use Rattle.std.proofs.lemmas.List.{length-set}
 use Rattle.std.proofs.lemmas.List.Quantifiers.{position-Some}
 use Rattle.sj_base.specs.declared.ids.Cell.{Cell}
-use Rattle.sj_base.specs.declared.ids.Task.{Task}
 use Rattle.sj_base.specs.declared.ids.DiskNo.{DiskNo}
 use Rattle.sj_base.specs.declared.ids.Node.{Node}
 use Rattle.sj_base.specs.declared.ids.Worker.{Worker}
@@ -14,11 +13,9 @@ use Rattle.sj_base.specs.declared.ids.Place.TheVariants.{Node as AtNode, Disk as
 use Rattle.sj_base.specs.declared.program.Program.{Program}
 use Rattle.sj_base.specs.declared.program.Machine.{Machine}
 use Rattle.sj_core.specs.Program.{same_cell, has_cell}
-use Rattle.sj_core.specs.Needs.{node_of}
-use Rattle.sj_core.specs.declared.progress.Progress.{Progress}
 use Rattle.sj_core.specs.declared.progress.Transfer.{Transfer}
-use Rattle.sj_core.specs.Operands.{cells_of, fresh_cells}
-use Rattle.sj_core.specs.Machine.{State, Replica, Invalid, cell_state, replica, transfer, moves, progress, is_valid, is_leaving_by, is_coming_by, is_claimed_by, with_transfer}
+use Rattle.sj_core.specs.Operands.{fresh_cells}
+use Rattle.sj_core.specs.Machine.{State, Invalid, cell_state, replica, transfer, progress, is_valid, is_leaving_by, is_coming_by, is_claimed_by, with_transfer}
 use Rattle.sj_core.specs.Step.{BeginsMoveIn, a_transfer, source_of, disk_of, is_fresh}
 use Rattle.sj_core.specs.Coherent.{IsClaimed, IsTransferTo, NoneLeavesBy, TransfersAreSound, Coherent}
 use Rattle.sj_core.specs.Laws.{IsSound}
@@ -30,7 +27,7 @@ use Rattle.sj_core.proofs.Claimed.{list_any-task, claimed-inside, claimed-not_wr
 use Rattle.sj_core.proofs.Placing.{pins-same, scratch-same, victims-same, transfer-cases, owned-fails, position-none, valid-within}
 use Rattle.sj_core.proofs.Shifting.{Shifts, Shifts-coherent}
 
-some-is : (x y : Transfer) → Some x ≡ Some y → x ≡ y
+pub some-is : (x y : Transfer) → Some x ≡ Some y → x ≡ y
 some-is x y e = cc
 
 module _ (p : Program) (m : Machine) (s : State) (h : IsSound p m s) (c : Cell) (from : Place) (n : Node) (w : Worker) (s' : State) (move : BeginsMoveIn p m s c from n w s') where
@@ -107,10 +104,10 @@ module _ (p : Program) (m : Machine) (s : State) (h : IsSound p m s) (c : Cell) 
   shift = record {
     rows = (let rows = h.coherent.state.rows in record { tasks = rows.tasks; cells = rows.cells; orders = rows.orders; workers = length-set s.workers w.0 _ ∙ rows.workers; nodes = rows.nodes; disks = rows.disks });
     blocks = (let blocks = h.coherent.state.blocks in record {
-        resting = blocks.resting;
-        home = blocks.home;
-        aimed = λ v x d under_way to. elim (transfers v x under_way) [ inl same ↦ blocks.aimed v x d same to | inr (e, is) ↦ absurd (not_to_disk x d is to) ];
-      });
+      resting = blocks.resting;
+      home = blocks.home;
+      aimed = λ v x d under_way to. elim (transfers v x under_way) [ inl same ↦ blocks.aimed v x d same to | inr (e, is) ↦ absurd (not_to_disk x d is to) ];
+    });
     same_pins = pins-same s w (Some begun);
     same_scratch = scratch-same s w (Some begun);
     same_victims = victims-same s w (Some begun);

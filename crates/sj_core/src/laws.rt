@@ -3,7 +3,7 @@
 ghost use Rattle.sj_base.specs.declared.program.Program.{Program};
 ghost use Rattle.sj_base.specs.declared.program.Machine.{Machine};
 ghost use Rattle.sj_core.specs.Coherent.{Coherent, IsStateOf, NodesSuffice, OrderIsKept, PinsHold, TasksHaveCells, TransfersAreSound, WorkersAreSound, WritersOwn, WritesAreCounted};
-ghost use Rattle.sj_core.specs.Laws.{IsKeptByClaims, IsKeptByDrops, IsKeptByEnds, IsKeptByRuns};
+ghost use Rattle.sj_core.specs.Laws.{IsKeptByClaims, IsKeptByDrops, IsKeptByEndedMoves, IsKeptByEnds, IsKeptByMovesIn, IsKeptByMovesOut, IsKeptByRuns};
 ghost use Rattle.sj_core.specs.Machine.{opening};
 ghost use Rattle.sj_core.specs.Proper.{Proper};
 ghost use Rattle.sj_deps.specs.Conflict.{HasDependencies};
@@ -54,6 +54,21 @@ pub fn ends()
     ensures writes_are_counted { IsKeptByEnds (λ p m s. WritesAreCounted p s) }
     ensures is_a_state { IsKeptByEnds IsStateOf }
     ensures nodes_suffice { IsKeptByEnds NodesSuffice }
+{}
+
+/// A move into a node that begins keeps coherence whole.
+pub fn moves_in()
+    ensures { IsKeptByMovesIn Coherent }
+{}
+
+/// A move out to a disk that begins keeps coherence whole.
+pub fn moves_out()
+    ensures { IsKeptByMovesOut Coherent }
+{}
+
+/// A move that ends keeps coherence whole.
+pub fn ended_moves()
+    ensures { IsKeptByEndedMoves Coherent }
 {}
 
 /// A drop keeps coherence whole.
