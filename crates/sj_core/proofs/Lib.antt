@@ -19,6 +19,7 @@ pub mod Opening
 pub mod Placing
 pub mod Readiness
 pub mod Reading
+pub mod Replaying
 pub mod Separation
 pub mod Sharing
 pub mod Shifting
