@@ -1,5 +1,4 @@
--- Where each step of a task keeps that copies agree, and an end that writers own their cells, each step keeps coherence
--- whole, and so does a legal trace.
+-- Each step keeps coherence whole, and so does each legal trace; a complete one leaves what all tasks leave in submission order.
 use Rattle.std.proofs.Common.{List, [], ◌∷◌, subst}
 use Rattle.sj_base.specs.declared.ids.Task.{Task}
 use Rattle.sj_base.specs.declared.ids.Worker.{Worker}
@@ -10,10 +9,10 @@ use Rattle.sj_base.specs.declared.program.Program.{Program}
 use Rattle.sj_base.specs.declared.program.Machine.{Machine}
 use Rattle.sj_core.specs.Machine.{State, opening}
 use Rattle.sj_core.specs.Step.{Claims, Runs, Ends, Step}
-use Rattle.sj_core.specs.Legal.{Leads, Replays}
+use Rattle.sj_core.specs.Legal.{Leads, Replays, IsComplete}
 use Rattle.sj_core.specs.Proper.{Proper, IsMachineFor}
 use Rattle.sj_core.specs.Coherent.{WritersOwn, CopiesAgree, Coherent}
-use Rattle.sj_core.specs.Laws.{IsSound, IsKeptByClaims, IsKeptByRuns, IsKeptByEnds}
+use Rattle.sj_core.specs.Laws.{IsSound, HasPlainModes, HoldsFinal}
 use Rattle.sj_core.proofs.Counting.{Claims-keeps_counts, Runs-keeps_counts, Ends-keeps_counts}
 use Rattle.sj_core.proofs.Advancing.{Runs-keeps_order, Ends-keeps_order}
 use Rattle.sj_core.proofs.Separation.{Claims-keeps_order}
@@ -28,10 +27,12 @@ use Rattle.sj_core.proofs.Dropping.{Drops-keeps_coherence}
 use Rattle.sj_core.proofs.MovingIn.{Moves_in-keep_coherence}
 use Rattle.sj_core.proofs.MovingOut.{Moves_out-keep_coherence}
 use Rattle.sj_core.proofs.Arriving.{Ended_moves-keep_coherence}
+use Rattle.sj_core.proofs.Agreeing.{Claims-keeps_copies, Runs-keeps_copies, Ends-keeps_copies, Ends-keeps_writers}
+use Rattle.sj_core.proofs.Completing.{complete-final}
 use Rattle.sj_core.proofs.Opening.{opening-coherent}
 
 -- a claim keeps coherence whole where it keeps that copies agree
-pub Claims-keeps_coherence : (p : Program) (m : Machine) (s : State) → IsSound p m s → (t : Task) (w : Worker) (s' : State) → Claims p m s t w s' → CopiesAgree p s' → Coherent p m s'
+Claims-keeps_coherence : (p : Program) (m : Machine) (s : State) → IsSound p m s → (t : Task) (w : Worker) (s' : State) → Claims p m s t w s' → CopiesAgree p s' → Coherent p m s'
 Claims-keeps_coherence p m s h t w s' claim copies =
     let c = h.coherent in
     record {
@@ -48,7 +49,7 @@ Claims-keeps_coherence p m s h t w s' claim copies =
     }
 
 -- so does a run
-pub Runs-keeps_coherence : (p : Program) (m : Machine) (s : State) → IsSound p m s → (t : Task) (w : Worker) (s' : State) → Runs p m s t w s' → CopiesAgree p s' → Coherent p m s'
+Runs-keeps_coherence : (p : Program) (m : Machine) (s : State) → IsSound p m s → (t : Task) (w : Worker) (s' : State) → Runs p m s t w s' → CopiesAgree p s' → Coherent p m s'
 Runs-keeps_coherence p m s h t w s' run copies =
     let c = h.coherent in
     let deps = Proper-dependencies p h.proper in
@@ -66,7 +67,7 @@ Runs-keeps_coherence p m s h t w s' run copies =
     }
 
 -- and an end, where it also keeps that writers own their cells
-pub Ends-keeps_coherence : (p : Program) (m : Machine) (s : State) → IsSound p m s → (t : Task) (w : Worker) (s' : State) → Ends p m s t w s' → WritersOwn p m s' → CopiesAgree p s' → Coherent p m s'
+Ends-keeps_coherence : (p : Program) (m : Machine) (s : State) → IsSound p m s → (t : Task) (w : Worker) (s' : State) → Ends p m s t w s' → WritersOwn p m s' → CopiesAgree p s' → Coherent p m s'
 Ends-keeps_coherence p m s h t w s' ended writers copies =
     let c = h.coherent in
     let deps = Proper-dependencies p h.proper in
@@ -83,21 +84,30 @@ Ends-keeps_coherence p m s h t w s' ended writers copies =
       counts = Ends-keeps_counts p m s t w s' c.state c.cells ended c.counts;
     }
 
-module _ (claims : IsKeptByClaims Coherent) (runs : IsKeptByRuns Coherent) (ends : IsKeptByEnds Coherent) (p : Program) (m : Machine) (proper : Proper p) (machine : IsMachineFor p m) where
-  -- each legal step
-  pub Step-keeps_coherence : (s : State) (e : Event) (s' : State) → Coherent p m s → Step p m s e s' → Coherent p m s'
-  Step-keeps_coherence s (Claim t w) s' c step = claims p m s s' t w (record { proper = proper; machine = machine; coherent = c }) step
-  Step-keeps_coherence s (Move x from (AtNode n)) s' c (w, step) = Moves_in-keep_coherence p m s (record { proper = proper; machine = machine; coherent = c }) x from n w s' step
-  Step-keeps_coherence s (Move x from (OnDisk d)) s' c (w, step) = Moves_out-keep_coherence p m s (record { proper = proper; machine = machine; coherent = c }) x from d w s' step
-  Step-keeps_coherence s (Moved x from to) s' c (w, step) = Ended_moves-keep_coherence p m s (record { proper = proper; machine = machine; coherent = c }) x from to w s' step
-  Step-keeps_coherence s (Drop x n) s' c step = Drops-keeps_coherence p m s (record { proper = proper; machine = machine; coherent = c }) x n s' step
-  Step-keeps_coherence s (Run t w) s' c step = runs p m s s' t w (record { proper = proper; machine = machine; coherent = c }) step
-  Step-keeps_coherence s (End t w) s' c step = ends p m s s' t w (record { proper = proper; machine = machine; coherent = c }) step
+module _ (p : Program) (m : Machine) (proper : Proper p) (machine : IsMachineFor p m) (plain : HasPlainModes p) where
+  sound : (s : State) → Coherent p m s → IsSound p m s
+  sound s c = record { proper = proper; machine = machine; coherent = c }
 
-  -- and so each legal trace
-  pub Leads-keeps_coherence : (trace : List Event) (s s' : State) → Coherent p m s → Leads p m s trace s' → Coherent p m s'
+  -- each legal step keeps coherence whole
+  Step-keeps_coherence : (s : State) (e : Event) (s' : State) → Coherent p m s → Step p m s e s' → Coherent p m s'
+  Step-keeps_coherence s (Claim t w) s' c step = Claims-keeps_coherence p m s (sound s c) t w s' step (Claims-keeps_copies p m proper.cells machine s c.state c.copies c.cells c.pins c.transfers c.workers t w s' step)
+  Step-keeps_coherence s (Move x from (AtNode n)) s' c (w, step) = Moves_in-keep_coherence p m s (sound s c) x from n w s' step
+  Step-keeps_coherence s (Move x from (OnDisk d)) s' c (w, step) = Moves_out-keep_coherence p m s (sound s c) x from d w s' step
+  Step-keeps_coherence s (Moved x from to) s' c (w, step) = Ended_moves-keep_coherence p m s (sound s c) x from to w s' step
+  Step-keeps_coherence s (Drop x n) s' c step = Drops-keeps_coherence p m s (sound s c) x n s' step
+  Step-keeps_coherence s (Run t w) s' c step = Runs-keeps_coherence p m s (sound s c) t w s' step (Runs-keeps_copies p m s c.state.rows c.copies t w s' step)
+  Step-keeps_coherence s (End t w) s' c step =
+      let deps = Proper-dependencies p proper in
+      Ends-keeps_coherence p m s (sound s c) t w s' step (Ends-keeps_writers p m proper deps plain s c t w s' step) (Ends-keeps_copies p m proper deps plain s c t w s' step)
+
+  Leads-keeps_coherence : (trace : List Event) (s s' : State) → Coherent p m s → Leads p m s trace s' → Coherent p m s'
   Leads-keeps_coherence [] s s' c leads = subst (λ (z : State). Coherent p m z) leads c
   Leads-keeps_coherence (e ∷ trace) s s' c (next, step, rest) = Leads-keeps_coherence trace next s' (Step-keeps_coherence s e next c step) rest
 
+  -- and so does each legal trace
   pub Replays-coherent : (trace : List Event) (s : State) → Replays p m trace s → Coherent p m s
   Replays-coherent trace s replays = Leads-keeps_coherence trace (opening p m) s (opening-coherent p m) replays
+
+  -- where it is complete, the cells hold what all tasks leave in submission order
+  pub Replays-final : (trace : List Event) (s : State) → Replays p m trace s → IsComplete s → HoldsFinal p s
+  Replays-final trace s replays complete = complete-final p m proper (Proper-dependencies p proper) plain s (Replays-coherent trace s replays) complete

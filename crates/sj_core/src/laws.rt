@@ -2,8 +2,8 @@
 
 ghost use Rattle.sj_base.specs.declared.program.Program.{Program};
 ghost use Rattle.sj_base.specs.declared.program.Machine.{Machine};
-ghost use Rattle.sj_core.specs.Coherent.{Coherent, IsStateOf, NodesSuffice, OrderIsKept, PinsHold, TasksHaveCells, TransfersAreSound, WorkersAreSound, WritersOwn, WritesAreCounted};
-ghost use Rattle.sj_core.specs.Laws.{IsKeptByClaims, IsKeptByDrops, IsKeptByEndedMoves, IsKeptByEnds, IsKeptByMovesIn, IsKeptByMovesOut, IsKeptByRuns};
+ghost use Rattle.sj_core.specs.Coherent.{Coherent, CopiesAgree, IsStateOf, NodesSuffice, OrderIsKept, PinsHold, TasksHaveCells, TransfersAreSound, WorkersAreSound, WritersOwn, WritesAreCounted};
+ghost use Rattle.sj_core.specs.Laws.{CompleteHoldsFinal, CompleteTracesHoldFinal, TracesKeepCoherence, DeliversGiven, FindsEarlierTasks, IsKeptByClaims, IsKeptByDrops, IsKeptByEndedMoves, IsKeptByEnds, IsKeptByMovesIn, IsKeptByMovesOut, IsKeptByPlainEnds, IsKeptByRuns};
 ghost use Rattle.sj_core.specs.Machine.{opening};
 ghost use Rattle.sj_core.specs.Proper.{Proper};
 ghost use Rattle.sj_deps.specs.Conflict.{HasDependencies};
@@ -29,6 +29,7 @@ pub fn claims()
     ensures is_a_state { IsKeptByClaims IsStateOf }
     ensures writers_own { IsKeptByClaims WritersOwn }
     ensures nodes_suffice { IsKeptByClaims NodesSuffice }
+    ensures copies_agree { IsKeptByClaims (λ p m s. CopiesAgree p s) }
 {}
 
 /// What the beginning of a kernel's run keeps.
@@ -42,6 +43,7 @@ pub fn runs()
     ensures is_a_state { IsKeptByRuns IsStateOf }
     ensures writers_own { IsKeptByRuns WritersOwn }
     ensures nodes_suffice { IsKeptByRuns NodesSuffice }
+    ensures copies_agree { IsKeptByRuns (λ p m s. CopiesAgree p s) }
 {}
 
 /// What the end of a kernel's run keeps.
@@ -54,6 +56,8 @@ pub fn ends()
     ensures writes_are_counted { IsKeptByEnds (λ p m s. WritesAreCounted p s) }
     ensures is_a_state { IsKeptByEnds IsStateOf }
     ensures nodes_suffice { IsKeptByEnds NodesSuffice }
+    ensures copies_agree { IsKeptByPlainEnds (λ p m s. CopiesAgree p s) }
+    ensures writers_own { IsKeptByPlainEnds WritersOwn }
 {}
 
 /// A move into a node that begins keeps coherence whole.
@@ -74,4 +78,21 @@ pub fn ended_moves()
 /// A drop keeps coherence whole.
 pub fn drops()
     ensures { IsKeptByDrops Coherent }
+{}
+
+/// What a task finds on its worker's node: what all tasks before it, in submission order, have left in its cells.
+pub fn deliveries()
+    ensures finds_earlier_tasks { FindsEarlierTasks }
+    ensures delivers_given { DeliversGiven }
+{}
+
+/// What the cells hold where all tasks are done: what the tasks leave one after another in submission order.
+pub fn completions()
+    ensures { CompleteHoldsFinal }
+{}
+
+/// Each legal trace leaves a coherent state, and a complete one what the tasks leave in submission order.
+pub fn traces()
+    ensures keep_coherence { TracesKeepCoherence }
+    ensures hold_final { CompleteTracesHoldFinal }
 {}

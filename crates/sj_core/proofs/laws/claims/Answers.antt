@@ -2,6 +2,7 @@ use Rattle.sj_core.proofs.Bytes.{Claims-keeps_bytes}
 use Rattle.sj_core.proofs.Writers.{Claims-keeps_writers}
 use Rattle.sj_core.proofs.Forms.{Claims-keeps_state}
 use Rattle.sj_core.proofs.Dependencies.{Proper-dependencies}
+use Rattle.sj_core.proofs.Agreeing.{Claims-keeps_copies}
 use Rattle.sj_core.proofs.Counting.{Claims-keeps_counts}
 use Rattle.sj_core.proofs.Claiming.{Claims-keeps_cells, Claims-keeps_pins, Claims-keeps_transfers}
 use Rattle.sj_core.proofs.Separation.{Claims-keeps_order}
@@ -19,4 +20,5 @@ returns c = record {
   is_a_state = λ p m s s' t w h claim. Claims-keeps_state p m s h t w s' claim;
   writers_own = λ p m s s' t w h claim. Claims-keeps_writers p m s h t w s' claim;
   nodes_suffice = λ p m s s' t w h claim. Claims-keeps_bytes p m s h t w s' claim;
+  copies_agree = λ p m s s' t w h claim. Claims-keeps_copies p m h.proper.cells h.machine s h.coherent.state h.coherent.copies h.coherent.cells h.coherent.pins h.coherent.transfers h.coherent.workers t w s' claim;
 }

@@ -1,6 +1,7 @@
 use Rattle.sj_core.proofs.Bytes.{Ends-keeps_bytes}
 use Rattle.sj_core.proofs.Forms.{Ends-keeps_state}
 use Rattle.sj_core.proofs.Dependencies.{Proper-dependencies}
+use Rattle.sj_core.proofs.Agreeing.{Ends-keeps_copies, Ends-keeps_writers}
 use Rattle.sj_core.proofs.Counting.{Ends-keeps_counts}
 use Rattle.sj_core.proofs.Advancing.{Ends-keeps_order}
 use Rattle.sj_core.proofs.Holding.{Ends-keeps_cells, Ends-keeps_pins, Ends-keeps_transfers}
@@ -17,4 +18,6 @@ returns c = record {
   writes_are_counted = λ p m s s' t w h ended. Ends-keeps_counts p m s t w s' h.coherent.state h.coherent.cells ended h.coherent.counts;
   is_a_state = λ p m s s' t w h ended. Ends-keeps_state p m s h t w s' ended;
   nodes_suffice = λ p m s s' t w h ended. Ends-keeps_bytes p m s h t w s' ended;
+  copies_agree = λ p m s s' t w h plain ended. Ends-keeps_copies p m h.proper (Proper-dependencies p h.proper) plain s h.coherent t w s' ended;
+  writers_own = λ p m s s' t w h plain ended. Ends-keeps_writers p m h.proper (Proper-dependencies p h.proper) plain s h.coherent t w s' ended;
 }

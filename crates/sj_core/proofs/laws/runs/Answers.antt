@@ -2,6 +2,7 @@ use Rattle.sj_core.proofs.Bytes.{Runs-keeps_bytes}
 use Rattle.sj_core.proofs.Writers.{Runs-keeps_writers}
 use Rattle.sj_core.proofs.Forms.{Runs-keeps_state}
 use Rattle.sj_core.proofs.Dependencies.{Proper-dependencies}
+use Rattle.sj_core.proofs.Agreeing.{Runs-keeps_copies}
 use Rattle.sj_core.proofs.Counting.{Runs-keeps_counts}
 use Rattle.sj_core.proofs.Advancing.{Runs-keeps_order}
 use Rattle.sj_core.proofs.Holding.{Runs-keeps_cells, Runs-keeps_pins, Runs-keeps_transfers}
@@ -19,4 +20,5 @@ returns c = record {
   is_a_state = λ p m s s' t w h run. Runs-keeps_state p m s h t w s' run;
   writers_own = λ p m s s' t w h run. Runs-keeps_writers p m s h t w s' run;
   nodes_suffice = λ p m s s' t w h run. Runs-keeps_bytes p m s h t w s' run;
+  copies_agree = λ p m s s' t w h run. Runs-keeps_copies p m s h.coherent.state.rows h.coherent.copies t w s' run;
 }
