@@ -15,9 +15,8 @@ use Rattle.sj_core.specs.declared.progress.Progress.{Progress}
 use Rattle.sj_core.specs.declared.progress.Progress.TheVariants.{Waiting, Claimed, Running, Done}
 use Rattle.sj_core.specs.Machine.{State, progress, opening}
 use Rattle.sj_core.specs.Step.{Step}
-use Rattle.sj_core.specs.Laws.{is_of_task}
 use Rattle.sj_core.specs.Legal.{Leads, Legal, IsLegal}
-use Rattle.sj_core.specs.Bound.{HasAtMostThreePerTask}
+use Rattle.sj_core.specs.Bound.{HasAtMostThreePerTask, is_of_task}
 use Rattle.sj_core.proofs.Once.{step-rows, trace-rows}
 use Rattle.sj_core.proofs.Reading.{progress-inside}
 

@@ -1,14 +1,14 @@
-pub mod Bound
 pub mod Coherent
 pub mod Fold
 pub mod Laws
 pub mod Legal
 pub mod Machine
 pub mod Needs
-pub mod Once
 pub mod Operands
 pub mod Program
 pub mod Proper
 pub mod Step
 pub mod Table
 pub mod Victims
+pub mod Once
+pub mod Bound

@@ -1,13 +1,13 @@
-//! What the steps of a task keep of a coherent state, and what legal traces come to, whatever the program, the
+//! What the steps of a run keep of a coherent state, and what legal traces come to, whatever the program, the
 //! machine and the order of events.
 
 ghost use Rattle.std.specs.Prelude.{All, IsTrue, List};
 ghost use Rattle.sj_base.specs.declared.trace.Event.{Event};
 ghost use Rattle.sj_base.specs.declared.program.Program.{Program};
 ghost use Rattle.sj_base.specs.declared.program.Machine.{Machine};
-ghost use Rattle.sj_core.specs.Bound.{HasAtMostThreePerTask};
+ghost use Rattle.sj_core.specs.Bound.{HasAtMostThreePerTask, is_of_task};
 ghost use Rattle.sj_core.specs.Coherent.{Coherent, IsStateOf, NodesSuffice, OrderIsKept, PinsHold, TasksHaveCells, TransfersAreSound, WorkersAreSound, WritesAreCounted};
-ghost use Rattle.sj_core.specs.Laws.{CompleteHoldsFinal, DeliversGiven, FindsEarlierTasks, IsKeptByClaims, IsKeptByEnds, IsKeptByPlainEnds, IsKeptByRuns, PlainRunsAreCoherent, PlainRunsHoldFinal, TasksKeepCoherence, is_of_task};
+ghost use Rattle.sj_core.specs.Laws.{CompleteHoldsFinal, CompleteTracesHoldFinal, DeliversGiven, FindsEarlierTasks, IsKeptByClaims, IsKeptByDrops, IsKeptByEndedMoves, IsKeptByEnds, IsKeptByMovesIn, IsKeptByMovesOut, IsKeptByPlainEnds, IsKeptByRuns, TracesKeepCoherence};
 ghost use Rattle.sj_core.specs.Legal.{IsFinished, IsLegal};
 ghost use Rattle.sj_core.specs.Machine.{opening};
 ghost use Rattle.sj_core.specs.Once.{EachRanOnce};
@@ -47,6 +47,26 @@ pub fn ends()
     ensures coherent { IsKeptByPlainEnds Coherent }
 {}
 
+/// The beginning of a move into a node leaves a coherent state.
+pub fn moves_in()
+    ensures { IsKeptByMovesIn Coherent }
+{}
+
+/// The beginning of a move out to a disk leaves a coherent state.
+pub fn moves_out()
+    ensures { IsKeptByMovesOut Coherent }
+{}
+
+/// The end of a move leaves a coherent state.
+pub fn ended_moves()
+    ensures { IsKeptByEndedMoves Coherent }
+{}
+
+/// A drop leaves a coherent state.
+pub fn drops()
+    ensures { IsKeptByDrops Coherent }
+{}
+
 /// What a task finds on its worker's node: what all tasks before it, in submission order, have left in its cells.
 pub fn deliveries()
     ensures finds_earlier_tasks { FindsEarlierTasks }
@@ -58,12 +78,10 @@ pub fn completions()
     ensures { CompleteHoldsFinal }
 {}
 
-/// Each legal trace of claims, runs and ends leaves a coherent state, and so does each front of it; where all tasks
-/// are done, the cells hold what the tasks leave one after another in submission order.
+/// Each legal trace leaves a coherent state, and a complete one what the tasks leave in submission order.
 pub fn traces()
-    ensures keeps_coherence { TasksKeepCoherence }
-    ensures are_coherent { PlainRunsAreCoherent }
-    ensures hold_final { PlainRunsHoldFinal }
+    ensures keep_coherence { TracesKeepCoherence }
+    ensures hold_final { CompleteTracesHoldFinal }
 {}
 
 /// In a trace that is legal and finished each task was claimed, ran and ended once.

@@ -1,5 +1,8 @@
-use Rattle.sj_core.proofs.Coherence.{traces-keep_coherence, plain_run-coherent, plain_run-final}
+use Rattle.sj_core.proofs.Replaying.{Replays-coherent, Replays-final}
 use Rattle.sj_core.proofs.laws.traces.Goals as goal
 
 pub returns : goal.returns
-returns c = record { keeps_coherence = traces-keep_coherence; are_coherent = plain_run-coherent; hold_final = plain_run-final }
+returns c = record {
+  keep_coherence = λ p m s trace proper machine plain replays. Replays-coherent p m proper machine plain trace s replays;
+  hold_final = λ p m s trace proper machine plain replays complete. Replays-final p m proper machine plain trace s replays complete;
+}
