@@ -17,11 +17,15 @@ pub enum Kind {
 /// The elements that a root has from its registration on.
 #[derive(Debug, Drop)]
 pub enum Init {
-    /// These, row by row.
+    /// `values`: these, row by row.
     Values(Sequence<i64>),
+    /// `fill A B`: the element at row-major position i is A + B·i, wrapping.
+    Fill(i64, i64),
+    /// `none`: no element has a value.
+    Nothing,
 }
 
-/// `vector NAME N INIT`: registers a root handle.
+/// `vector NAME N INIT` or `matrix NAME R C INIT`: registers a root handle.
 #[derive(Debug, Drop)]
 pub struct Register {
     pub name: Name,
@@ -43,6 +47,8 @@ pub struct TaskLine {
     pub codelet: Codelet,
     pub args: Sequence<i64>,
     pub operands: Sequence<Operand>,
+    /// Higher is more urgent; 0 where the line has no `prio=`.
+    pub priority: i32,
 }
 
 /// What a statement does.
@@ -51,6 +57,10 @@ pub enum Act {
     Register(Register),
     Task(TaskLine),
     Print(Name),
+    /// The elements have no value any more.
+    Invalidate(Name),
+    /// The name is ended for good.
+    Unregister(Name),
 }
 
 /// An act and the line that it stands in.

@@ -15,7 +15,7 @@ use sj_base::sequence::Sequence;
 use sj_codelet::set::Codelets;
 use std::alloc::{AllocError, Global};
 
-/// `vector NAME N INIT`.
+/// `vector NAME N INIT` or `matrix NAME R C INIT`.
 #[derive(Debug, Drop)]
 pub struct Registration {
     pub name: Name,
@@ -31,6 +31,8 @@ pub struct Call {
     pub codelet: Option<Codelet>,
     pub args: Sequence<i64>,
     pub operands: Sequence<Operand>,
+    /// The integer of the last word `prio=P`, or 0 where there is none.
+    pub priority: i64,
 }
 
 /// What the words of a line say.
@@ -39,6 +41,8 @@ pub enum Sentence {
     Register(Registration),
     Task(Call),
     Print(Name),
+    Invalidate(Name),
+    Unregister(Name),
 }
 
 /// The integers that words say, or `None` where a word says none. Linear in the words.
