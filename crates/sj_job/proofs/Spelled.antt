@@ -1,9 +1,8 @@
 -- What a task line's words tell of it.
-use Rattle.std.proofs.Common.{◌≡◌, ℕ, ◌&&◌, nat_eq, Bool, true, false, List, [], ◌∷◌, refl, ap, ◌∙◌, sym, Option, Some, None, option_map, Result, Ok, Err, cond, ℤ, pos}
+use Rattle.std.proofs.Common.{◌≡◌, ℕ, ◌&&◌, nat_eq, Bool, true, false, List, [], ◌∷◌, refl, ap, ◌∙◌, sym, Option, Some, None, option_map, Result, Ok, Err, cond, ℤ}
 use Rattle.std.specs.List.{list_all, before_first, after_first}
 use Rattle.sj_base.specs.declared.mode.Mode.{Mode}
 use Rattle.sj_base.specs.declared.mode.Mode.TheVariants.{R, W, RW}
-use Rattle.sj_base.specs.declared.program.Codelet.{Codelet}
 use Rattle.sj_codelet.specs.declared.kernel.Kernel.{Kernel}
 use Rattle.sj_codelet.specs.Kernel.{named_in}
 use Rattle.sj_job.specs.declared.job.Operand.{Operand}
