@@ -1,6 +1,7 @@
 //! The job language: what a job text says, and what it means on plain arrays.
 #![tactic(auto)]
 
+pub mod form;
 pub mod grammar;
 pub mod job;
 pub mod judge;
@@ -10,4 +11,5 @@ pub mod names;
 pub mod read;
 pub mod reason;
 pub mod sentence;
+pub mod spell;
 pub mod word;
