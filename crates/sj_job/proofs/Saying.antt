@@ -251,9 +251,10 @@ operand_made front back t m o h k e =
     let make : Option (List ℕ × List ℕ) → OperandForm = λ child. record { name = t.0; child = child; mode = m } in
     let p = some_from make (child_of t.1) o e in
     let same : t.1 ≡ child_pieces p.0 = child-read t.1 p.0 p.1.0 in
-    subst (IsOperand (front ++ 58 ∷ back)) p.1.1
-      (ap (λ f. f ++ 58 ∷ back) (h.0 ∙ ap (bracketed_word 91 93 t.0) same) ∙ ap (λ b. bracketed_word 91 93 t.0 (child_pieces p.0) ++ 58 ∷ b) k,
-       ap (λ ps. is_name t.0 && list_all is_piece ps) (sym same) ∙ h.1)
+    subst (IsOperand (front ++ 58 ∷ back)) p.1.1 (
+      ap (λ f. f ++ 58 ∷ back) (h.0 ∙ ap (bracketed_word 91 93 t.0) same) ∙ ap (λ b. bracketed_word 91 93 t.0 (child_pieces p.0) ++ 58 ∷ b) k,
+      ap (λ ps. is_name t.0 && list_all is_piece ps) (sym same) ∙ h.1,
+    )
 
 operand_by : (front back : List ℕ) (o : OperandForm) (t : Option (List ℕ × List (List ℕ))) (m : Option Mode) → bracketed 91 93 front ≡ t → mode_of back ≡ m → operand_at t m ≡ Some o → IsOperand (front ++ 58 ∷ back) o
 operand_by front back o None m h k e = absurd (cc)
