@@ -12,4 +12,6 @@ pub mod read;
 pub mod reason;
 pub mod sentence;
 pub mod spell;
+#[cfg(test)]
+mod tests_of_lines;
 pub mod word;
