@@ -221,7 +221,7 @@ fn operands_of<'a>(
     alloc: Global,
     words: &[&'a [u8]],
 ) -> Result<Option<Sequence<OperandForm<'a>>>, OutOfMemory>
-    ensures { IfOk result (λ operands. operands ≡ each_some operand_of (map (λ w. w.now) words.now)) }
+    ensures { IfOk result (λ os. os ≡ each_some operand_of (map (λ w. w.now) words.now)) }
 {
     let mut operands = Vec::with_capacity(alloc, words.len())?;
     for word in words {
@@ -242,7 +242,8 @@ fn priority_of(word: &[u8]) -> Option<&[u8]>
 
 /// The operands' words and the priority behind them. Constant time.
 fn with_priority<'a, 'b>(words: &'b [&'a [u8]]) -> (&'b [&'a [u8]], Option<Piece<'a>>)
-    ensures operands { map (λ w. w.now) result.0.now ≡ (with_priority (map (λ w. w.now) words.now)).0 }
+    ensures operands { map (λ w. w.now) result.0.now
+        ≡ (with_priority (map (λ w. w.now) words.now)).0 }
     ensures priority { result.1 ≡ (with_priority (map (λ w. w.now) words.now)).1 }
 {
     let Some((last, front)) = words.split_last() else {
@@ -350,7 +351,7 @@ fn array_of<'a>(
     size: Size<'a>,
     words: &[&'a [u8]],
 ) -> Result<Option<ArrayForm<'a>>, OutOfMemory>
-    ensures { IfOk result (λ array. array ≡ array_of name.now size.entry (map (λ w. w.now) words.now)) }
+    ensures { IfOk result (λ a. a ≡ array_of name.now size.entry (map (λ w. w.now) words.now)) }
 {
     if !is_name(name) {
         return Ok(None);
