@@ -1,5 +1,5 @@
 -- A task's call, put together from its parts.
-use Rattle.std.proofs.Common.{◌≡◌, ℕ, Bool, List, ℤ, map, ap, ◌∙◌, Option}
+use Rattle.std.proofs.Common.{◌≡◌, Bool, List, ℤ, map, ap, ◌∙◌, Option}
 use Rattle.sj_base.specs.declared.program.Codelet.{Codelet}
 use Rattle.sj_codelet.specs.declared.kernel.Kernel.{Kernel}
 use Rattle.sj_codelet.specs.Kernel.{named_in}

@@ -1,10 +1,9 @@
 -- A line and the grammar: each form is read from what is written of it, and from nothing else; and what it says.
-use Rattle.std.proofs.Common.{◌≡◌, ℕ, ◌&&◌, not, Bool, true, false, List, [], ◌∷◌, ◌++◌, map, refl, ap, ◌∙◌, sym, subst, Option, Some, None, option_map, cond, bytes_eq, codes, Result, Ok, Err}
-use Rattle.std.specs.Prelude.{option_and_then, IsTrue, is_none}
+use Rattle.std.proofs.Common.{◌≡◌, ℕ, ◌&&◌, Bool, true, false, List, [], ◌∷◌, ◌++◌, map, refl, ap, ◌∙◌, sym, subst, Option, Some, None, option_map, cond, bytes_eq, codes}
+use Rattle.std.specs.Prelude.{option_and_then}
 use Rattle.std.specs.List.{list_all}
 use Rattle.sj_base.specs.declared.mode.Policy.{Policy}
 use Rattle.sj_base.specs.declared.mode.Reduction.{Reduction}
-use Rattle.sj_codelet.specs.declared.kernel.Kernel.{Kernel}
 use Rattle.sj_job.specs.declared.form.Keyword.{Keyword}
 use Rattle.sj_job.specs.declared.form.Keyword.TheVariants as keyword
 use Rattle.sj_job.specs.declared.form.Size.{Size}
@@ -17,7 +16,7 @@ use Rattle.sj_job.specs.declared.form.TaskForm.{TaskForm}
 use Rattle.sj_job.specs.declared.form.Form.{Form}
 use Rattle.sj_job.specs.declared.form.Form.TheVariants.{Workers, Node, Policy as PolicyLine, Register, Plan, Redux, Task, Print, Invalidate, Unregister}
 use Rattle.sj_job.specs.Word.{is_name}
-use Rattle.sj_job.specs.Form.{keyword_word, keyword_of, keywords, policy_of, policy_word, reduction_of, reduction_word, bracketed, each_some, operand_of, with_priority, task_of, values_of, fill_of, nothing_of, init_of, with_parts, parted, layout_of, array_of, vector_of, matrix_of, alone, name_in, plan_of, redux_of, form_behind, form_of}
+use Rattle.sj_job.specs.Form.{keyword_word, keyword_of, keywords, policy_of, reduction_of, reduction_word, bracketed, each_some, operand_of, with_priority, task_of, values_of, fill_of, nothing_of, init_of, with_parts, parted, layout_of, array_of, vector_of, matrix_of, alone, name_in, plan_of, redux_of, form_behind, form_of}
 use Rattle.sj_job.specs.Grammar.{operand_word, codelet_word, priority_words, parts_words, init_words, sized, written, is_piece, has_values, is_proper_operand, is_proper}
 use Rattle.sj_job.proofs.Spelling.{both_true, true_both, some_from, Reads, word-found, same_word, each-reads}
 use Rattle.sj_job.proofs.Saying.{policies, reductions, codelets, operands, priority-back, priority-joins}

@@ -1,13 +1,11 @@
 -- The grammar of a line in its own words: how each form is written, and what it says.
-use Rattle.std.specs.Prelude.{◌≡◌, ℕ, Bool, true, false, ◌&&◌, ◌||◌, not, ◌==◌, map, Option, Some, None, Result, Ok, Err, List, [], ◌∷◌, ◌++◌, length, codes, IsTrue}
+use Rattle.std.specs.Prelude.{◌≡◌, ℕ, Bool, true, false, ◌&&◌, ◌||◌, not, ◌==◌, map, Option, Some, None, Result, Ok, Err, List, [], ◌∷◌, ◌++◌, codes, IsTrue}
 use Rattle.std.specs.List.{list_all, join_with_byte}
 use Rattle.sj_codelet.specs.declared.kernel.Kernel.{Kernel}
-use Rattle.sj_job.specs.declared.form.Keyword.TheVariants as keyword
 use Rattle.sj_job.specs.declared.form.Size.{Size}
 use Rattle.sj_job.specs.declared.form.Size.TheVariants.{Vector, Matrix}
 use Rattle.sj_job.specs.declared.form.InitForm.{InitForm}
 use Rattle.sj_job.specs.declared.form.InitForm.TheVariants.{Values, Fill, Nothing}
-use Rattle.sj_job.specs.declared.form.ArrayForm.{ArrayForm}
 use Rattle.sj_job.specs.declared.form.OperandForm.{OperandForm}
 use Rattle.sj_job.specs.declared.form.TaskForm.{TaskForm}
 use Rattle.sj_job.specs.declared.form.Form.{Form}

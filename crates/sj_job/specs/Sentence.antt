@@ -48,14 +48,21 @@ abbrev pub is_numbered_priority : Option (List ℕ) → Bool
 is_numbered_priority None = true
 is_numbered_priority (Some p) = is_integer p
 
+abbrev pub is_numbered_array : ArrayForm → Bool
+is_numbered_array a = is_numbered_size a.size && are_counts a.parts && is_numbered_init a.init
+
+abbrev pub is_numbered_task : TaskForm → Bool
+is_numbered_task t =
+    list_all is_integer t.args && list_all (λ o. are_counts o.child) t.operands && is_numbered_priority t.priority
+
 abbrev pub is_numbered : Form → Bool
 is_numbered (form.Workers n) = is_count n
 is_numbered (form.Node n) = is_count n
 is_numbered (form.Policy p) = true
-is_numbered (form.Register a) = is_numbered_size a.size && are_counts a.parts && is_numbered_init a.init
+is_numbered (form.Register a) = is_numbered_array a
 is_numbered (form.Plan name r c) = is_count r && is_count c
 is_numbered (form.Redux name by) = true
-is_numbered (form.Task t) = list_all is_integer t.args && list_all (λ o. are_counts o.child) t.operands && is_numbered_priority t.priority
+is_numbered (form.Task t) = is_numbered_task t
 is_numbered (form.Print name) = true
 is_numbered (form.Invalidate name) = true
 is_numbered (form.Unregister name) = true

@@ -14,6 +14,7 @@ ghost use Rattle.sj_job.specs.Grammar.{Spells, Says};
 pub fn grammar()
     ensures spelled { (words : List (List ℕ)) (form : Form) →
         ((form_of words ≡ Some form) ↔ Spells words form) }
-    ensures said { (has : Kernel → Bool) (begun : Bool) (words : List (List ℕ)) (says : Result Sentence Reason) →
+    ensures said { (has : Kernel → Bool) (begun : Bool) (words : List (List ℕ))
+        (says : Result Sentence Reason) →
         ((said has begun words ≡ says) ↔ Says has begun words says) }
 {}

@@ -14,4 +14,6 @@ pub mod sentence;
 #[cfg(test)]
 mod tests;
 pub mod spell;
+#[cfg(test)]
+mod tests_of_lines;
 pub mod word;

@@ -3,7 +3,7 @@
 ghost use Rattle.std.specs.Prelude.{◌≡◌, ◌&&◌, Bool, map, is_none, IfOk};
 ghost use Rattle.std.specs.List.{list_all};
 ghost use Rattle.sj_job.specs.Word.{is_count, is_integer, count, integer};
-ghost use Rattle.sj_job.specs.Sentence.{are_counts, is_numbered_size, is_numbered_init, is_numbered_priority, is_numbered, is_built_mode, is_built, is_setting, kind_of, rows_of, cols_of, init_said, registration_of, operand_said, priority_said, call_of, sentence_of, said_of, said, is_header};
+ghost use Rattle.sj_job.specs.Sentence.{are_counts, is_numbered_size, is_numbered_init, is_numbered_priority, is_numbered_array, is_numbered_task, is_numbered, is_built_mode, is_built, is_setting, kind_of, rows_of, cols_of, init_said, registration_of, operand_said, priority_said, call_of, sentence_of, said_of, said, is_header};
 
 use crate::form::{ArrayForm, Form, InitForm, OperandForm, Piece, Pieces, Size, TaskForm};
 use crate::job::{Init, Kind, Operand};
@@ -115,7 +115,7 @@ fn is_numbered_init(init: &InitForm<'_>) -> bool
 }
 
 fn is_numbered_array(array: &ArrayForm<'_>) -> bool
-    ensures { result ≡ (is_numbered_size array.now.size && are_counts array.now.parts && is_numbered_init array.now.init) }
+    ensures { result ≡ is_numbered_array array.now }
 {
     is_numbered_size(&array.size) && are_counts(&array.parts) && is_numbered_init(&array.init)
 }
@@ -136,7 +136,7 @@ fn is_numbered_priority(priority: &Option<Piece<'_>>) -> bool
 }
 
 fn is_numbered_task(task: &TaskForm<'_>) -> bool
-    ensures { result ≡ (list_all is_integer task.now.args && list_all (λ o. are_counts o.child) task.now.operands && is_numbered_priority task.now.priority) }
+    ensures { result ≡ is_numbered_task task.now }
 {
     are_integers(&task.args)
         && has_counted_children(task.operands.items())

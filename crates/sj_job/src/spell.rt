@@ -4,7 +4,7 @@ ghost use Rattle.std.specs.Prelude.{◌≡◌, ◌==◌, ◌+◌, ◌<◌, not, 
 ghost use Rattle.std.specs.List.{before_first, after_first, list_all};
 ghost use Rattle.sj_job.specs.Word.{is_name};
 ghost use Rattle.sj_job.specs.declared.form.Keyword.TheVariants as keyword;
-ghost use Rattle.sj_job.specs.Form.{keyword_of, policy_of, reduction_of, mode_of, is_bracket, pieces_of, bracketed, around_last, child_of, operand_of, each_some, priority_of, with_priority, task_of, values_of, fill_of, init_of, parted, layout_of, vector_of, matrix_of, alone, name_in, plan_of, redux_of, takes_name, form_behind, form_of};
+ghost use Rattle.sj_job.specs.Form.{keyword_of, policy_of, reduction_of, mode_of, is_bracket, pieces_of, bracketed, around_last, child_of, operand_of, each_some, priority_of, with_priority, task_of, values_of, fill_of, init_of, parted, layout_of, array_of, vector_of, matrix_of, alone, name_in, plan_of, redux_of, takes_name, form_behind, form_of};
 
 use crate::form::{ArrayForm, Form, InitForm, Keyword, OperandForm, Piece, Pieces, Size, TaskForm};
 use crate::line::first_place;
@@ -221,7 +221,7 @@ fn operands_of<'a>(
     alloc: Global,
     words: &[&'a [u8]],
 ) -> Result<Option<Sequence<OperandForm<'a>>>, OutOfMemory>
-    ensures { IfOk result (λ operands. operands ≡ each_some operand_of (map (λ w. w.now) words.now)) }
+    ensures { IfOk result (λ os. os ≡ each_some operand_of (map (λ w. w.now) words.now)) }
 {
     let mut operands = Vec::with_capacity(alloc, words.len())?;
     for word in words {
@@ -242,7 +242,8 @@ fn priority_of(word: &[u8]) -> Option<&[u8]>
 
 /// The operands' words and the priority behind them. Constant time.
 fn with_priority<'a, 'b>(words: &'b [&'a [u8]]) -> (&'b [&'a [u8]], Option<Piece<'a>>)
-    ensures operands { map (λ w. w.now) result.0.now ≡ (with_priority (map (λ w. w.now) words.now)).0 }
+    ensures operands { map (λ w. w.now) result.0.now
+        ≡ (with_priority (map (λ w. w.now) words.now)).0 }
     ensures priority { result.1 ≡ (with_priority (map (λ w. w.now) words.now)).1 }
 {
     let Some((last, front)) = words.split_last() else {
@@ -343,20 +344,22 @@ fn parted<'a>(alloc: Global, words: &[&'a [u8]]) -> Result<Option<Layout<'a>>, O
     }
 }
 
-/// `NAME N INIT`. Linear in the words.
-fn vector_of<'a>(alloc: Global, words: &[&'a [u8]]) -> Result<Option<ArrayForm<'a>>, OutOfMemory>
-    ensures { IfOk result (λ array. array ≡ vector_of (map (λ w. w.now) words.now)) }
+/// A name and a size, and what follows them. Linear in the words.
+fn array_of<'a>(
+    alloc: Global,
+    name: &[u8],
+    size: Size<'a>,
+    words: &[&'a [u8]],
+) -> Result<Option<ArrayForm<'a>>, OutOfMemory>
+    ensures { IfOk result (λ a. a ≡ array_of name.now size.entry (map (λ w. w.now) words.now)) }
 {
-    let [name, n, rest @ ..] = words else {
-        return Ok(None);
-    };
     if !is_name(name) {
         return Ok(None);
     }
-    match layout_of(alloc, rest)? {
+    match layout_of(alloc, words)? {
         Some((parts, init)) => Ok(Some(ArrayForm {
             name: Name::of(alloc, name)?,
-            size: Size::Vector(Piece::of(n)),
+            size,
             parts,
             init,
         })),
@@ -364,24 +367,26 @@ fn vector_of<'a>(alloc: Global, words: &[&'a [u8]]) -> Result<Option<ArrayForm<'
     }
 }
 
+/// `NAME N INIT`. Linear in the words.
+fn vector_of<'a>(alloc: Global, words: &[&'a [u8]]) -> Result<Option<ArrayForm<'a>>, OutOfMemory>
+    ensures { IfOk result (λ array. array ≡ vector_of (map (λ w. w.now) words.now)) }
+{
+    match words {
+        [name, n, rest @ ..] => array_of(alloc, name, Size::Vector(Piece::of(n)), rest),
+        _ => Ok(None),
+    }
+}
+
 /// `NAME R C INIT`. Linear in the words.
 fn matrix_of<'a>(alloc: Global, words: &[&'a [u8]]) -> Result<Option<ArrayForm<'a>>, OutOfMemory>
     ensures { IfOk result (λ array. array ≡ matrix_of (map (λ w. w.now) words.now)) }
 {
-    let [name, r, c, rest @ ..] = words else {
-        return Ok(None);
-    };
-    if !is_name(name) {
-        return Ok(None);
-    }
-    match layout_of(alloc, rest)? {
-        Some((parts, init)) => Ok(Some(ArrayForm {
-            name: Name::of(alloc, name)?,
-            size: Size::Matrix(Piece::of(r), Piece::of(c)),
-            parts,
-            init,
-        })),
-        None => Ok(None),
+    match words {
+        [name, r, c, rest @ ..] => {
+            let size = Size::Matrix(Piece::of(r), Piece::of(c));
+            array_of(alloc, name, size, rest)
+        }
+        _ => Ok(None),
     }
 }
 

@@ -1,4 +1,4 @@
-use Rattle.std.proofs.Common.{ap, map, ◌∙◌, List, ℕ, rules, FitsSigned, w64}
+use Rattle.std.proofs.Common.{ap, map, ◌∙◌, rules, FitsSigned, w64}
 use Rattle.std.proofs.lemmas.Int.{to_z-of_z}
 use Rattle.sj_codelet.specs.Kernel.{named_in}
 use Rattle.sj_job.specs.Word.{integer}

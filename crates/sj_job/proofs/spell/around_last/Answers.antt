@@ -1,4 +1,4 @@
-use Rattle.std.proofs.Common.{◌≡◌, ◌+◌, ◌-◌, ◌≤◌, ℕ, List, length, take, drop, sym, ap, ◌∙◌, arith, option_map, Some, None, length-drop}
+use Rattle.std.proofs.Common.{◌+◌, ◌-◌, ◌≤◌, ℕ, List, length, take, drop, sym, ap, ◌∙◌, arith, Some, length-drop}
 use Rattle.std.proofs.lemmas.List.{take_all}
 use Rattle.sj_job.proofs.Last.{around-place, around-none}
 use Rattle.sj_job.proofs.spell.around_last.Goals as goal
