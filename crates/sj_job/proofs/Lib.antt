@@ -1,11 +1,15 @@
 pub mod Cut
 pub mod Digits
 pub mod Each
+pub mod Telling
+pub mod Last
 pub mod Calls
-pub mod Valued
+pub mod Passed
 pub mod Seen
+pub mod Giving
 pub mod Progressing
 pub mod Welling
+pub mod Spelled
 pub mod Sounding
 pub mod Spelling
 pub mod Saying
