@@ -1,5 +1,5 @@
 -- The grammar of a line in its own words: which words say which sentence.
-use Rattle.std.specs.Prelude.{◌≡◌, ◌⊎◌, ℕ, Bool, Some, List, [], ◌∷◌, ◌++◌, ℤ, codes, IsTrue, nat_eq}
+use Rattle.std.specs.Prelude.{◌≡◌, ◌⊎◌, ℕ, Bool, Some, List, [], ◌∷◌, ◌++◌, ℤ, pos, codes, IsTrue, nat_eq}
 use Rattle.std.specs.List.{slice_split}
 use Rattle.sj_base.specs.declared.mode.Mode.{Mode}
 use Rattle.sj_base.specs.declared.mode.Mode.TheVariants.{R, W, RW, Scratch, Redux, Commute}
@@ -11,7 +11,7 @@ use Rattle.sj_job.specs.declared.job.Operand.{Operand}
 use Rattle.sj_job.specs.declared.sentence.Registration.{Registration}
 use Rattle.sj_job.specs.declared.sentence.Call.{Call}
 use Rattle.sj_job.specs.declared.sentence.Sentence.{Sentence}
-use Rattle.sj_job.specs.declared.sentence.Sentence.TheVariants.{Register, Task, Print}
+use Rattle.sj_job.specs.declared.sentence.Sentence.TheVariants.{Register, Task, Print, Invalidate, Unregister}
 use Rattle.sj_job.specs.Word.{is_name, count_of, integer_of}
 
 -- each word says the value beside it
@@ -66,6 +66,7 @@ pub record SaysTask (has : Kernel → Bool) (ws : List (List ℕ)) (t : Call) : 
   pub codelet : SaysCodelet codelet_word codelet_name t.args
   pub operands : Each SaysOperand operand_words t.operands
   pub found : t.codelet ≡ named_in has codelet_name
+  pub priority : t.priority ≡ pos 0
 
 -- `print NAME`
 pub record SaysPrint (ws : List (List ℕ)) (n : List ℕ) : Type 0 where
@@ -77,3 +78,5 @@ abbrev pub Says : (Kernel → Bool) → List (List ℕ) → Sentence → Type 0
 Says has ws (Register r) = SaysVector ws r
 Says has ws (Task t) = SaysTask has ws t
 Says has ws (Print n) = SaysPrint ws n
+Says has ws (Invalidate n) = ⊥
+Says has ws (Unregister n) = ⊥

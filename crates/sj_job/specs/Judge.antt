@@ -1,6 +1,7 @@
 -- Why a sentence is refused: the conditions of the reasons, in their order.
-use Rattle.std.specs.Prelude.{ℕ, ◌*◌, Bool, true, false, ◌&&◌, ◌||◌, not, nat_eq, nat_le, Option, Some, None, Result, Ok, Err, List, [], ◌∷◌, length, map, option_map, is_some, unwrap_or, zip, if◌then◌else◌}
+use Rattle.std.specs.Prelude.{ℕ, ◌*◌, Bool, true, false, ◌&&◌, ◌||◌, not, nat_eq, nat_le, nat_lt, Option, Some, None, Result, Ok, Err, List, [], ◌∷◌, length, map, option_map, is_some, unwrap_or, zip, if◌then◌else◌, ℤ, pos, negsuc}
 use Rattle.std.specs.List.{list_all, list_any}
+use Rattle.std.specs.Int.RustNames.{int_le}
 use Rattle.std.specs.Str.{bytes_eq}
 use Rattle.sj_base.specs.declared.tile.Dims.{Dims}
 use Rattle.sj_base.specs.declared.mode.Mode.{Mode}
@@ -11,37 +12,38 @@ use Rattle.sj_codelet.specs.declared.formal.Formal.{Formal}
 use Rattle.sj_codelet.specs.declared.formal.Formal.TheVariants.{R as FormalR, W as FormalW, RW as FormalRW, Scratch as FormalScratch}
 use Rattle.sj_codelet.specs.Kernel.{kernel_of, arguments_of, formals_of, fits}
 use Rattle.sj_job.specs.declared.job.Init.{Init}
-use Rattle.sj_job.specs.declared.job.Init.TheVariants.{Values}
+use Rattle.sj_job.specs.declared.job.Init.TheVariants.{Values, Fill, Nothing}
 use Rattle.sj_job.specs.declared.job.Operand.{Operand}
 use Rattle.sj_job.specs.declared.job.Act.{Act}
-use Rattle.sj_job.specs.declared.job.Act.TheVariants.{Register as Registers, Task as Tasks, Print as Prints}
+use Rattle.sj_job.specs.declared.job.Act.TheVariants.{Register as Registers, Task as Tasks, Print as Prints, Invalidate as Invalidates, Unregister as Unregisters}
 use Rattle.sj_job.specs.declared.sentence.Registration.{Registration}
 use Rattle.sj_job.specs.declared.sentence.Call.{Call}
 use Rattle.sj_job.specs.declared.sentence.Sentence.{Sentence}
-use Rattle.sj_job.specs.declared.sentence.Sentence.TheVariants.{Register, Task, Print}
+use Rattle.sj_job.specs.declared.sentence.Sentence.TheVariants.{Register, Task, Print, Invalidate, Unregister}
 use Rattle.sj_job.specs.declared.reason.Reason.{Reason}
 use Rattle.sj_job.specs.declared.reason.Reason.TheVariants.{UnknownName, TakenName, UnknownCodelet, OperandCount, Shape, Aliased, NoValue, Limit, EndedName}
-use Rattle.sj_job.specs.declared.reason.LimitKind.TheVariants.{Statements, Names, Elements}
+use Rattle.sj_job.specs.declared.reason.LimitKind.TheVariants.{Statements, Names, Elements, Priority}
+use Rattle.sj_job.specs.declared.names.Known.{Known}
 use Rattle.sj_job.specs.State.{Root, State, root_of, is_valued}
 
 -- what the reasons look at in a root
-pub record Known : Type 0 where
-  pub dims : Dims
-  pub valued : Bool
-
 abbrev pub known_of : Root → Known
 known_of r = record { dims = r.dims; valued = is_valued r }
 
--- how many statements stand before a line, how many names were registered, which were ended, what is known of the others
+-- how many statements stand before a line, how many names were registered, whether a name was ended, what is known of the others
 pub record Scope : Type 0 where
   pub statements : ℕ
   pub registered : ℕ
-  pub ended : List (List ℕ)
+  pub ended : List ℕ → Bool
   pub known : List ℕ → Option Known
 
 -- what a state shows the reasons, after so many statements
 abbrev pub scope_of : ℕ → State → Scope
-scope_of n S = record { statements = n; registered = S.registered; ended = S.ended; known = λ name. option_map known_of (root_of S name) }
+scope_of n S = record { statements = n; registered = S.registered; ended = λ name. list_any (bytes_eq name) S.ended; known = λ name. option_map known_of (root_of S name) }
+
+-- a statement stands before the line
+abbrev pub is_begun : Scope → Bool
+is_begun s = nat_lt 0 s.statements
 
 -- the first reason whose condition holds
 abbrev pub first_of : List (Bool × Reason) → Option Reason
@@ -65,7 +67,7 @@ abbrev pub is_taken : Scope → List ℕ → Bool
 is_taken s name = is_some (s.known name)
 
 abbrev pub is_ended : Scope → List ℕ → Bool
-is_ended s name = list_any (bytes_eq name) s.ended
+is_ended s name = s.ended name
 
 abbrev pub is_unknown : Scope → List ℕ → Bool
 is_unknown s name = not (is_taken s name) && not (is_ended s name)
@@ -73,6 +75,8 @@ is_unknown s name = not (is_taken s name) && not (is_ended s name)
 -- the values aren't as many as the elements
 abbrev pub is_miscounted : Init → ℕ → ℕ → Bool
 is_miscounted (Values zs) rows cols = not (nat_eq (length zs) (rows * cols))
+is_miscounted (Fill a b) rows cols = false
+is_miscounted Nothing rows cols = false
 
 abbrev pub register_reasons : Scope → Registration → List (Bool × Reason)
 register_reasons s r =
@@ -138,19 +142,29 @@ operand_reasons s k t =
 abbrev pub codelet_reasons : Scope → Call → List (Bool × Reason)
 codelet_reasons s t = elim (kernel_in t.codelet) [ None ↦ (true, UnknownCodelet) ∷ [] | Some k ↦ operand_reasons s k t ]
 
+-- a priority from -1000 to 1000
+abbrev pub is_priority : ℤ → Bool
+is_priority p = int_le (negsuc 999) p && int_le p (pos 1000)
+
 abbrev pub task_reasons : Scope → Call → List (Bool × Reason)
 task_reasons s t =
-    (is_full s, Limit Statements) ∷ (list_any (λ o. is_unknown s o.name) t.operands, UnknownName) ∷ (list_any (λ o. is_ended s o.name) t.operands, EndedName)
-    ∷ codelet_reasons s t
+    (is_full s, Limit Statements) ∷ (not (is_priority t.priority), Limit Priority) ∷ (list_any (λ o. is_unknown s o.name) t.operands, UnknownName)
+    ∷ (list_any (λ o. is_ended s o.name) t.operands, EndedName) ∷ codelet_reasons s t
 
 abbrev pub print_reasons : Scope → List ℕ → List (Bool × Reason)
 print_reasons s name =
     (is_full s, Limit Statements) ∷ (is_unknown s name, UnknownName) ∷ (is_ended s name, EndedName) ∷ (lacks_value s name, NoValue) ∷ []
 
+-- a statement that needs no more than a name
+abbrev pub name_reasons : Scope → List ℕ → List (Bool × Reason)
+name_reasons s name = (is_full s, Limit Statements) ∷ (is_unknown s name, UnknownName) ∷ (is_ended s name, EndedName) ∷ []
+
 abbrev pub reasons : Scope → Sentence → List (Bool × Reason)
 reasons s (Register r) = register_reasons s r
 reasons s (Task t) = task_reasons s t
 reasons s (Print name) = print_reasons s name
+reasons s (Invalidate name) = name_reasons s name
+reasons s (Unregister name) = name_reasons s name
 
 -- the first reason against a sentence, or none
 abbrev pub complaint : Scope → Sentence → Option Reason
@@ -159,8 +173,10 @@ complaint s sentence = first_of (reasons s sentence)
 -- what a sentence does where there is no reason against it
 abbrev pub act_of : Sentence → Act
 act_of (Register r) = Registers (record { name = r.name; kind = r.kind; dims = record { rows = r.rows; cols = r.cols }; init = r.init })
-act_of (Task t) = Tasks (record { codelet = unwrap_or t.codelet (record { 0 = 0 }); args = t.args; operands = t.operands })
+act_of (Task t) = Tasks (record { codelet = unwrap_or t.codelet (record { 0 = 0 }); args = t.args; operands = t.operands; priority = t.priority })
 act_of (Print name) = Prints name
+act_of (Invalidate name) = Invalidates name
+act_of (Unregister name) = Unregisters name
 
 -- what a sentence does, or the first reason against it
 abbrev pub judged : Scope → Sentence → Result Act Reason

@@ -1,27 +1,36 @@
 -- What a job means: its statements run one after another on plain arrays.
 use Rattle.std.specs.FinMap as map
-use Rattle.std.specs.Prelude.{ℕ, ◌+◌, Bool, true, false, Option, Some, None, List, [], ◌∷◌, ◌++◌, ℤ, pos, map as each_of, filter, unwrap_or}
+use Rattle.std.specs.Prelude.{ℕ, ◌+◌, Bool, true, false, Option, Some, None, List, [], ◌∷◌, ◌++◌, ℤ, pos, ◌+ℤ◌, ◌*ℤ◌, map as each_of, filter, unwrap_or, replicate}
+use Rattle.std.specs.List.{range_with_len}
+use Rattle.sj_base.specs.declared.tile.Dims.{Dims}
 use Rattle.sj_base.specs.declared.mode.Mode.{Mode}
 use Rattle.sj_base.specs.declared.mode.Mode.TheVariants.{R, W, RW, Scratch, Redux, Commute}
-use Rattle.sj_base.specs.Array.{Array, array, zeros}
+use Rattle.sj_base.specs.Array.{Array, array, area, zeros}
+use Rattle.sj_codelet.specs.Ring.{wrap}
 use Rattle.sj_codelet.specs.Kernel.{out}
 use Rattle.sj_job.specs.declared.job.Kind.{Kind}
 use Rattle.sj_job.specs.declared.job.Init.{Init}
-use Rattle.sj_job.specs.declared.job.Init.TheVariants.{Values}
+use Rattle.sj_job.specs.declared.job.Init.TheVariants.{Values, Fill, Nothing}
 use Rattle.sj_job.specs.declared.job.Register.{Register}
 use Rattle.sj_job.specs.declared.job.Operand.{Operand}
 use Rattle.sj_job.specs.declared.job.TaskLine.{TaskLine}
 use Rattle.sj_job.specs.declared.job.Act.{Act}
-use Rattle.sj_job.specs.declared.job.Act.TheVariants.{Register as Registers, Task, Print}
+use Rattle.sj_job.specs.declared.job.Act.TheVariants.{Register as Registers, Task, Print, Invalidate, Unregister}
 use Rattle.sj_job.specs.declared.job.Statement.{Statement}
 use Rattle.sj_job.specs.State.{Root, State, start, root_of}
 
--- the elements that a root has from its registration on
-abbrev pub first_elements : Init → List (Option ℤ)
-first_elements (Values xs) = each_of Some xs
+-- no value at each element
+abbrev pub no_values : Dims → List (Option ℤ)
+no_values d = replicate (area d) None
+
+-- the elements that a root of these dimensions has from its registration on
+abbrev pub first_elements : Init → Dims → List (Option ℤ)
+first_elements (Values xs) d = each_of Some xs
+first_elements (Fill a b) d = each_of (λ p. Some (wrap (a +ℤ (b *ℤ pos p)))) (range_with_len 0 (area d))
+first_elements Nothing d = no_values d
 
 abbrev pub registered_root : Register → Root
-registered_root r = record { kind = r.kind; dims = r.dims; elements = first_elements r.init }
+registered_root r = record { kind = r.kind; dims = r.dims; elements = first_elements r.init r.dims }
 
 abbrev pub register : Register → State → State
 register r S = record { registered = S.registered + 1; ended = S.ended; roots = map.insert S.roots r.name (registered_root r) }
@@ -72,11 +81,24 @@ put_all (n ∷ ns) (a ∷ arrays) S = put_all ns arrays (put n a S)
 abbrev pub run_task : TaskLine → State → State
 run_task t S = put_all (written_names t.operands) (out t.codelet t.args (each_of (operand_array S) t.operands)) S
 
+-- every element of a name becomes no value
+abbrev pub invalidate : List ℕ → State → State
+invalidate name S = elim (root_of S name) [
+  | None ↦ S
+  | Some r ↦ record { registered = S.registered; ended = S.ended; roots = map.insert S.roots name (record { kind = r.kind; dims = r.dims; elements = no_values r.dims }) }
+]
+
+-- a name is taken away for good
+abbrev pub unregister : List ℕ → State → State
+unregister name S = record { registered = S.registered; ended = name ∷ S.ended; roots = map.remove S.roots name }
+
 -- what one statement does
 abbrev pub apply : Act → State → State
 apply (Registers r) S = register r S
 apply (Task t) S = run_task t S
 apply (Print name) S = S
+apply (Invalidate name) S = invalidate name S
+apply (Unregister name) S = unregister name S
 
 -- the state that statements leave, one after another
 abbrev pub run_from : State → List Statement → State
@@ -101,6 +123,8 @@ abbrev pub prints : Act → State → List Printed
 prints (Registers r) S = []
 prints (Task t) S = []
 prints (Print name) S = found_by S name
+prints (Invalidate name) S = []
+prints (Unregister name) S = []
 
 -- what the print statements find, in order
 abbrev pub printed_from : State → List Statement → List Printed

@@ -11,13 +11,13 @@ use Rattle.sj_job.specs.declared.read.Verdict.TheVariants.{Skipped, Does, Bad}
 use Rattle.sj_job.specs.declared.reason.Reason.{Reason}
 use Rattle.sj_job.specs.declared.reason.ReadRefusal.{ReadRefusal}
 use Rattle.sj_job.specs.declared.reason.ReadRefusal.TheVariants.{Refused, OutOfMemory}
-use Rattle.sj_job.specs.declared.reason.Reason.TheVariants.{Header, NotBuilt, Limit}
+use Rattle.sj_job.specs.declared.reason.Reason.TheVariants.{Header, Word, Limit}
 use Rattle.sj_job.specs.declared.reason.LimitKind.TheVariants.{Text}
 use Rattle.sj_job.specs.Word.{lines, words, is_allowed, is_skipped}
-use Rattle.sj_job.specs.Sentence.{sentence_of, is_header}
+use Rattle.sj_job.specs.Sentence.{said, is_header}
 use Rattle.sj_job.specs.State.{State, start}
 use Rattle.sj_job.specs.Meaning.{apply}
-use Rattle.sj_job.specs.Judge.{Scope, scope_of, judged}
+use Rattle.sj_job.specs.Judge.{Scope, scope_of, is_begun, judged}
 
 -- a bad line and its first reason
 pub record Refusal : Type 0 where
@@ -27,14 +27,13 @@ pub record Refusal : Type 0 where
 abbrev pub refusal : ℕ → Reason → Refusal
 refusal n why = record { line = record { 0 = n }; reason = why }
 
--- what a sentence does; a line that isn't read yet, or against which there is a reason, is NotBuilt
-abbrev pub built : Scope → Option Sentence → Result Act Reason
-built scope None = Err NotBuilt
-built scope (Some s) = elim (judged scope s) [ Err why ↦ Err NotBuilt | Ok act ↦ Ok act ]
+-- what words do: what they say, where no reason stands against it
+abbrev pub act_in : (Kernel → Bool) → Scope → List (List ℕ) → Result Act Reason
+act_in set scope words = elim (said set (is_begun scope) words) [ Err why ↦ Err why | Ok sentence ↦ judged scope sentence ]
 
 -- what a line does where the reasons see this scope
 abbrev pub statement_in : (Kernel → Bool) → Scope → List ℕ → Result Act Reason
-statement_in set scope line = if not (list_all is_allowed line) then Err NotBuilt else built scope (sentence_of set (words line))
+statement_in set scope line = if not (list_all is_allowed line) then Err Word else act_in set scope (words line)
 
 abbrev pub statement : ℕ → Act → Statement
 statement n act = record { line = record { 0 = n }; act = act }

@@ -1,5 +1,5 @@
 -- What the words of a line say.
-use Rattle.std.specs.Prelude.{ℕ, Bool, false, ◌&&◌, ◌==◌, ◌-◌, nat_lt, take, slice_index, Option, Some, None, List, [], ◌∷◌, ℤ, length, codes, option_map, if◌then◌else◌}
+use Rattle.std.specs.Prelude.{ℕ, Bool, false, ◌&&◌, ◌==◌, ◌-◌, nat_lt, take, slice_index, Option, Some, None, Result, Ok, Err, List, [], ◌∷◌, ℤ, pos, length, codes, option_map, if◌then◌else◌}
 use Rattle.std.specs.List.{before_first, after_first, slice_split}
 use Rattle.std.specs.Str.{bytes_eq}
 use Rattle.sj_base.specs.declared.mode.Mode.{Mode}
@@ -13,6 +13,8 @@ use Rattle.sj_job.specs.declared.sentence.Registration.{Registration}
 use Rattle.sj_job.specs.declared.sentence.Call.{Call}
 use Rattle.sj_job.specs.declared.sentence.Sentence.{Sentence}
 use Rattle.sj_job.specs.declared.sentence.Sentence.TheVariants.{Register, Task, Print}
+use Rattle.sj_job.specs.declared.reason.Reason.{Reason}
+use Rattle.sj_job.specs.declared.reason.Reason.TheVariants.{NotBuilt}
 use Rattle.sj_job.specs.Word.{is_name, count_of, integer_of}
 
 -- what f gives of each, where it gives something of each
@@ -65,7 +67,7 @@ call_parts w ws =
 abbrev pub call_of : (Kernel → Bool) → List (List ℕ) → Option Call
 call_of set [] = None
 call_of set (w ∷ ws) =
-    option_map (λ p. record { codelet = named_in set (codelet_name w); args = p.0; operands = p.1 }) (call_parts w ws)
+    option_map (λ p. record { codelet = named_in set (codelet_name w); args = p.0; operands = p.1; priority = pos 0 }) (call_parts w ws)
 
 -- NAME N values V1 V2 ..
 abbrev pub vector_of : List (List ℕ) → Option Registration
@@ -101,3 +103,7 @@ is_header [] = false
 is_header (w ∷ []) = false
 is_header (w ∷ v ∷ []) = bytes_eq w (codes "starjob") && bytes_eq v (codes "1")
 is_header (w ∷ v ∷ u ∷ ws) = false
+
+-- stub: the same by reasons, until the words of all forms are read
+abbrev pub said : (Kernel → Bool) → Bool → List (List ℕ) → Result Sentence Reason
+said set begun ws = elim (sentence_of set ws) [ None ↦ Err NotBuilt | Some s ↦ Ok s ]

@@ -1,5 +1,5 @@
 -- What holds of an act that a line may say: its run needs no more.
-use Rattle.std.specs.Prelude.{◌≡◌, ℕ, Bool, true, false, IsTrue, None, Some, List, map, length}
+use Rattle.std.specs.Prelude.{◌≡◌, ◌≤◌, ℕ, Bool, true, false, ◌||◌, not, is_some, IsTrue, None, Some, List, map, length}
 use Rattle.std.specs.List.{list_all}
 use Rattle.sj_base.specs.declared.tile.Dims.{Dims}
 use Rattle.sj_base.specs.declared.mode.Mode.{Mode}
@@ -9,33 +9,61 @@ use Rattle.sj_codelet.specs.declared.kernel.Kernel.{Kernel}
 use Rattle.sj_codelet.specs.Kernel.{fits_in}
 use Rattle.sj_codelet.specs.Runs.{formals_in}
 use Rattle.sj_job.specs.declared.job.Init.{Init}
-use Rattle.sj_job.specs.declared.job.Init.TheVariants.{Values}
+use Rattle.sj_job.specs.declared.job.Init.TheVariants.{Values, Fill, Nothing}
 use Rattle.sj_job.specs.declared.job.Register.{Register}
 use Rattle.sj_job.specs.declared.job.TaskLine.{TaskLine}
-use Rattle.sj_job.specs.State.{State, root_of}
-use Rattle.sj_job.specs.Judge.{modes_fit}
+use Rattle.sj_job.specs.declared.job.Act.{Act}
+use Rattle.sj_job.specs.declared.job.Act.TheVariants.{Register as Registers, Task, Print, Invalidate, Unregister}
+use Rattle.sj_job.specs.State.{State, root_of, is_valued}
+use Rattle.sj_job.specs.Judge.{is_side, is_priority, modes_fit, needs_value, is_aliased}
 
 -- the dimensions of a name's root, or none by none
 abbrev pub dims_of : State → List ℕ → Dims
 dims_of S name = elim (root_of S name) [ None ↦ record { rows = 0; cols = 0 } | Some r ↦ r.dims ]
 
+abbrev pub has_root : State → List ℕ → Bool
+has_root S name = is_some (root_of S name)
+
+-- a name has a root with a value at each element
+abbrev pub has_values : State → List ℕ → Bool
+has_values S name = elim (root_of S name) [ None ↦ false | Some r ↦ is_valued r ]
+
 abbrev pub is_plain : Mode → Bool
 is_plain R = true
 is_plain W = true
 is_plain RW = true
-is_plain Scratch = false
+is_plain Scratch = true
 is_plain Redux = false
 is_plain Commute = false
 
--- codelet, arguments, dimensions and modes of a task go together
+-- codelet, arguments, dimensions and modes of a task go together, and what it reads is there
 pub record IsSoundTask (has : Kernel → Bool) (S : State) (t : TaskLine) : Type 0 where
   pub fits : IsTrue (fits_in has t.codelet t.args (map (λ o. dims_of S o.name) t.operands))
   pub modes : IsTrue (modes_fit (formals_in t.codelet) t.operands)
   pub plain : IsTrue (list_all (λ o. is_plain o.mode) t.operands)
+  pub apart : is_aliased t.operands ≡ false
+  pub rooted : IsTrue (list_all (λ o. has_root S o.name) t.operands)
+  pub valued : IsTrue (list_all (λ o. not (needs_value o.mode) || has_values S o.name) t.operands)
+  pub priority : IsTrue (is_priority t.priority)
 
 -- the first values are as many as the elements
 abbrev pub InitFits : Init → Dims → Type 0
 InitFits (Values zs) d = length zs ≡ area d
+InitFits (Fill a b) d = Unit {0}
+InitFits Nothing d = Unit {0}
 
-abbrev pub IsSoundRegistration : Register → Type 0
-IsSoundRegistration r = InitFits r.init r.dims
+-- the dimensions are within their limits, and the name is new
+pub record IsSoundRegistration (S : State) (r : Register) : Type 0 where
+  pub rows : IsTrue (is_side r.dims.rows)
+  pub cols : IsTrue (is_side r.dims.cols)
+  pub elements : area r.dims ≤ 16777216
+  pub values : InitFits r.init r.dims
+  pub fresh : root_of S r.name ≡ None
+
+-- what an act needs of the state before it
+abbrev pub IsSoundAct : (Kernel → Bool) → State → Act → Type 0
+IsSoundAct has S (Registers r) = IsSoundRegistration S r
+IsSoundAct has S (Task t) = IsSoundTask has S t
+IsSoundAct has S (Print name) = IsTrue (has_values S name)
+IsSoundAct has S (Invalidate name) = IsTrue (has_root S name)
+IsSoundAct has S (Unregister name) = IsTrue (has_root S name)

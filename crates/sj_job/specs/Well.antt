@@ -1,19 +1,19 @@
 -- Statements that lines may say without complaint, one after another.
-use Rattle.std.specs.Prelude.{◌≡◌, ℕ, ◌+◌, Bool, Some, Ok, List, [], ◌∷◌}
+use Rattle.std.specs.Prelude.{◌≡◌, ℕ, ◌+◌, Bool, Ok, List, [], ◌∷◌}
 use Rattle.sj_codelet.specs.declared.kernel.Kernel.{Kernel}
 use Rattle.sj_job.specs.declared.job.Act.{Act}
 use Rattle.sj_job.specs.declared.job.Statement.{Statement}
 use Rattle.sj_job.specs.declared.sentence.Sentence.{Sentence}
-use Rattle.sj_job.specs.Sentence.{sentence_of}
+use Rattle.sj_job.specs.Sentence.{said}
 use Rattle.sj_job.specs.State.{State}
 use Rattle.sj_job.specs.Meaning.{apply}
-use Rattle.sj_job.specs.Judge.{Scope, scope_of, judged}
+use Rattle.sj_job.specs.Judge.{Scope, scope_of, is_begun, judged}
 
 -- words say this act, and no reason stands against it
 pub record IsAllowed (has : Kernel → Bool) (scope : Scope) (act : Act) : Type 0 where
   pub words : List (List ℕ)
   pub sentence : Sentence
-  pub said : sentence_of has words ≡ Some sentence
+  pub spelled : said has (is_begun scope) words ≡ Ok sentence
   pub judged : judged scope sentence ≡ Ok act
 
 -- each statement is allowed in the state that those before it leave, of which k stand before the first

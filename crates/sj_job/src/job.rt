@@ -1,5 +1,8 @@
 //! The statements of a job.
 
+ghost use Rattle.std.specs.Prelude.{◌≡◌};
+ghost use Rattle.sj_job.specs.Meaning.{is_written};
+
 use crate::name::Name;
 use sj_base::ids::Line;
 use sj_base::mode::Mode;
@@ -39,6 +42,18 @@ pub struct Register {
 pub struct Operand {
     pub name: Name,
     pub mode: Mode,
+}
+
+impl Operand {
+    /// Whether the task gives the operand new elements. Constant time.
+    pub fn is_written(&self) -> bool
+        ensures { result ≡ is_written self.now.mode }
+    {
+        match self.mode {
+            Mode::R | Mode::Scratch => false,
+            Mode::W | Mode::RW | Mode::Redux | Mode::Commute => true,
+        }
+    }
 }
 
 /// `task CODELET OPERANDS`: submits a task.

@@ -4,7 +4,7 @@ ghost use Rattle.std.specs.Prelude.{◌≡◌, ◌*◌, ◌^◌, ◌<◌, ◌≤
 ghost use Rattle.std.specs.List.{list_any};
 ghost use Rattle.sj_codelet.specs.Kernel.{arguments_of, formals_of};
 ghost use Rattle.sj_job.specs.Names.{scope_in};
-ghost use Rattle.sj_job.specs.Judge.{first_of, is_full, is_side, is_outside, is_miscounted, register_reasons, kernel_in, is_counted, mode_fits, modes_fit, dims_in, is_shaped, clashes, is_aliased, is_unknown, operand_reasons, codelet_reasons, task_reasons, print_reasons, judged};
+ghost use Rattle.sj_job.specs.Judge.{first_of, is_full, is_side, is_outside, is_miscounted, register_reasons, kernel_in, is_counted, mode_fits, modes_fit, dims_in, is_shaped, clashes, is_aliased, is_unknown, is_ended, needs_value, lacks_value, is_priority, operand_reasons, codelet_reasons, task_reasons, name_reasons, print_reasons, judged};
 
 use crate::job::{Act, Init, Operand, Register, TaskLine};
 use crate::name::Name;
@@ -30,6 +30,12 @@ pub const SIDE: u64 = 1_048_576;
 /// The most elements of a root.
 pub const ELEMENTS: u64 = 16_777_216;
 
+/// The least priority of a task.
+pub const LEAST_PRIORITY: i64 = -1_000;
+
+/// The greatest priority of a task.
+pub const GREATEST_PRIORITY: i64 = 1_000;
+
 fn is_side(n: u64) -> bool
     ensures { result ≡ is_side n }
 {
@@ -48,6 +54,7 @@ fn is_miscounted(init: &Init, rows: u64, cols: u64) -> bool
 {
     match init {
         Init::Values(values) => values.len() as u64 != rows * cols,
+        Init::Fill(_, _) | Init::Nothing => false,
     }
 }
 
@@ -62,6 +69,8 @@ fn register_complaint(names: &Names, r: &Registration) -> Option<Reason>
         Some(Reason::Limit(LimitKind::Names))
     } else if is_outside(r.rows, r.cols) {
         Some(Reason::Limit(LimitKind::Elements))
+    } else if names.is_ended(&r.name) {
+        Some(Reason::EndedName)
     } else if names.is_taken(&r.name) {
         Some(Reason::TakenName)
     } else if is_miscounted(&r.init, r.rows, r.cols) {
@@ -155,6 +164,8 @@ fn operand_complaint(
         Ok(Some(Reason::Shape))
     } else if is_aliased(call.operands.items()) {
         Ok(Some(Reason::Aliased))
+    } else if lacks_values(names, call.operands.items()) {
+        Ok(Some(Reason::NoValue))
     } else {
         Ok(None)
     }
@@ -164,6 +175,30 @@ fn has_unknown(names: &Names, operands: &[Operand]) -> bool
     ensures { result ≡ list_any (λ o. is_unknown (scope_in names.now) o.name) operands.now }
 {
     operands.iter().any(|o| names.is_unknown(&o.name))
+}
+
+fn has_ended(names: &Names, operands: &[Operand]) -> bool
+    ensures { result ≡ list_any (λ o. is_ended (scope_in names.now) o.name) operands.now }
+{
+    operands.iter().any(|o| names.is_ended(&o.name))
+}
+
+fn needs_value(mode: Mode) -> bool
+    ensures { result ≡ needs_value mode }
+{
+    match mode {
+        Mode::R | Mode::RW | Mode::Commute => true,
+        Mode::W | Mode::Scratch | Mode::Redux => false,
+    }
+}
+
+/// Whether an operand whose old value is needed has none.
+fn lacks_values(names: &Names, operands: &[Operand]) -> bool
+    ensures { result ≡ list_any (λ o. needs_value o.mode && lacks_value (scope_in names.now) o.name) operands.now }
+{
+    operands
+        .iter()
+        .any(|o| needs_value(o.mode) && names.lacks_value(&o.name))
 }
 
 /// The codelet of a call.
@@ -189,6 +224,12 @@ fn codelet_complaint(
     }
 }
 
+fn has_priority(call: &Call) -> bool
+    ensures { result ≡ is_priority call.now.priority }
+{
+    LEAST_PRIORITY <= call.priority && call.priority <= GREATEST_PRIORITY
+}
+
 /// The first reason against a task. Linear in its operands, times the logarithm of the names.
 fn task_complaint(alloc: Global, names: &Names, call: &Call) -> Result<Option<Reason>, OutOfMemory>
     ensures { IfOk result (λ why. why ≡ first_of (task_reasons (scope_in names.now) call.now)) }
@@ -196,10 +237,31 @@ fn task_complaint(alloc: Global, names: &Names, call: &Call) -> Result<Option<Re
     if STATEMENTS <= names.statements {
         return Ok(Some(Reason::Limit(LimitKind::Statements)));
     }
+    if !has_priority(call) {
+        return Ok(Some(Reason::Limit(LimitKind::Priority)));
+    }
     if has_unknown(names, call.operands.items()) {
         return Ok(Some(Reason::UnknownName));
     }
+    if has_ended(names, call.operands.items()) {
+        return Ok(Some(Reason::EndedName));
+    }
     codelet_complaint(alloc, names, call)
+}
+
+/// The first reason against a statement that needs a name and nothing else. Logarithmic in the names.
+fn name_complaint(names: &Names, name: &Name) -> Option<Reason>
+    ensures { result ≡ first_of (name_reasons (scope_in names.now) name.now) }
+{
+    if STATEMENTS <= names.statements {
+        Some(Reason::Limit(LimitKind::Statements))
+    } else if names.is_unknown(name) {
+        Some(Reason::UnknownName)
+    } else if names.is_ended(name) {
+        Some(Reason::EndedName)
+    } else {
+        None
+    }
 }
 
 /// The first reason against a print statement. Logarithmic in the names.
@@ -210,6 +272,10 @@ fn print_complaint(names: &Names, name: &Name) -> Option<Reason>
         Some(Reason::Limit(LimitKind::Statements))
     } else if names.is_unknown(name) {
         Some(Reason::UnknownName)
+    } else if names.is_ended(name) {
+        Some(Reason::EndedName)
+    } else if names.lacks_value(name) {
+        Some(Reason::NoValue)
     } else {
         None
     }
@@ -241,6 +307,7 @@ fn judge_call(alloc: Global, names: &Names, call: Call) -> Result<Result<Act, Re
             codelet: call.codelet.unwrap_or(FILL),
             args: call.args,
             operands: call.operands,
+            priority: call.priority as i32,
         }))),
     }
 }
@@ -251,6 +318,24 @@ fn judge_print(names: &Names, name: Name) -> Result<Act, Reason>
     match print_complaint(names, &name) {
         Some(why) => Err(why),
         None => Ok(Act::Print(name)),
+    }
+}
+
+fn judge_invalidation(names: &Names, name: Name) -> Result<Act, Reason>
+    ensures { result ≡ judged (scope_in names.now) (Sentence.Invalidate name) }
+{
+    match name_complaint(names, &name) {
+        Some(why) => Err(why),
+        None => Ok(Act::Invalidate(name)),
+    }
+}
+
+fn judge_ending(names: &Names, name: Name) -> Result<Act, Reason>
+    ensures { result ≡ judged (scope_in names.now) (Sentence.Unregister name) }
+{
+    match name_complaint(names, &name) {
+        Some(why) => Err(why),
+        None => Ok(Act::Unregister(name)),
     }
 }
 
@@ -266,5 +351,7 @@ pub fn judge(
         Sentence::Register(registration) => Ok(judge_registration(names, registration)),
         Sentence::Task(call) => judge_call(alloc, names, call),
         Sentence::Print(name) => Ok(judge_print(names, name)),
+        Sentence::Invalidate(name) => Ok(judge_invalidation(names, name)),
+        Sentence::Unregister(name) => Ok(judge_ending(names, name)),
     }
 }

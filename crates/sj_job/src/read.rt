@@ -5,8 +5,7 @@ ghost use Rattle.sj_codelet.specs.declared.kernel.Kernel.{Kernel};
 ghost use Rattle.sj_job.specs.Word.{lines};
 ghost use Rattle.sj_job.specs.State.{start};
 ghost use Rattle.sj_job.specs.Names.{scope_in};
-ghost use Rattle.sj_job.specs.Sentence.{sentence_of};
-ghost use Rattle.sj_job.specs.Reading.{reading, reading_header, job_of, built, verdict_of, IsRefusal};
+ghost use Rattle.sj_job.specs.Reading.{reading, reading_header, job_of, act_in, verdict_of, IsRefusal};
 ghost use Rattle.sj_job.specs.declared.job.Statement.{Statement};
 ghost use Rattle.sj_job.specs.Meaning.{run_from};
 ghost use Rattle.sj_job.specs.Sees.{Sees};
@@ -43,14 +42,11 @@ fn act_of_words<C: Codelets>(
     words: &[&[u8]],
     codelets: &C,
 ) -> Result<Result<Act, Reason>, OutOfMemory>
-    ensures { IfOk result (λ act. act ≡ built (scope_in names.now) (sentence_of C.has (map (λ w. w.now) words.now))) }
+    ensures { IfOk result (λ act. act ≡ act_in C.has (scope_in names.now) (map (λ w. w.now) words.now)) }
 {
-    let Some(sentence) = read_sentence(alloc, words, codelets)? else {
-        return Ok(Err(Reason::NotBuilt));
-    };
-    match judge(alloc, names, sentence)? {
-        Ok(act) => Ok(Ok(act)),
-        Err(_) => Ok(Err(Reason::NotBuilt)),
+    match read_sentence(alloc, words, names.statements > 0, codelets)? {
+        Ok(sentence) => judge(alloc, names, sentence),
+        Err(why) => Ok(Err(why)),
     }
 }
 
@@ -68,7 +64,7 @@ fn judge_line<C: Codelets>(
         return Ok(Verdict::Skipped);
     }
     if !is_allowed(line) {
-        return Ok(Verdict::Bad(Reason::NotBuilt));
+        return Ok(Verdict::Bad(Reason::Word));
     }
     match act_of_words(alloc, names, &words, codelets)? {
         Ok(act) => Ok(Verdict::Does(act)),

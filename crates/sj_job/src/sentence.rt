@@ -2,11 +2,12 @@
 
 ghost use Rattle.std.specs.Prelude.{◌≡◌, ◌==◌, ◌∷◌, map, length, IfOk};
 ghost use Rattle.std.specs.List.{slice_split, before_first, after_first};
-ghost use Rattle.sj_job.specs.Sentence.{integers_of, mode_of, operand_of, operands_of, codelet_name, arguments_in, call_parts, call_of, vector_of, name_in, sentence_of, is_header};
+ghost use Rattle.sj_job.specs.Sentence.{integers_of, mode_of, operand_of, operands_of, codelet_name, arguments_in, call_parts, call_of, vector_of, name_in, sentence_of, said, is_header};
 
 use crate::job::{Init, Kind, Operand};
 use crate::line::first_place;
 use crate::name::Name;
+use crate::reason::Reason;
 use crate::word::{count_of, integer_of, is_name};
 use sj_base::memory::OutOfMemory;
 use sj_base::mode::Mode;
@@ -174,6 +175,7 @@ fn read_call<C: Codelets>(
             codelet,
             args,
             operands,
+            priority: 0,
         })),
         None => Ok(None),
     }
@@ -221,7 +223,7 @@ fn read_name(alloc: Global, words: &[&[u8]]) -> Result<Option<Name>, OutOfMemory
 }
 
 /// What a line of these words says, or `None` where no line reads so. Linear in the words.
-pub fn read_sentence<C: Codelets>(
+fn find_sentence<C: Codelets>(
     alloc: Global,
     words: &[&[u8]],
     codelets: &C,
@@ -239,6 +241,22 @@ pub fn read_sentence<C: Codelets>(
         Ok(read_name(alloc, rest)?.map(Sentence::Print))
     } else {
         Ok(None)
+    }
+}
+
+/// What a line of these words says, or why it says nothing. Linear in the words. A stub.
+pub fn read_sentence<C: Codelets>(
+    alloc: Global,
+    words: &[&[u8]],
+    begun: bool,
+    codelets: &C,
+) -> Result<Result<Sentence, Reason>, OutOfMemory>
+    ensures { IfOk result (λ s. s ≡ said C.has begun (map (λ w. w.now) words.now)) }
+{
+    let _begun = begun;
+    match find_sentence(alloc, words, codelets)? {
+        Some(sentence) => Ok(Ok(sentence)),
+        None => Ok(Err(Reason::NotBuilt)),
     }
 }
 
