@@ -11,3 +11,4 @@ pub mod Good
 pub mod Delivered
 pub mod Allowed
 pub mod Whole
+pub mod Properness
