@@ -66,6 +66,7 @@ delivered_beside p L M out l ed ep et is other g = record {
   where
     longer : length M.tasks ≡ length L.tasks + 1
     longer = ap length et ∙ length-append L.tasks (l ∷ [])
+
     one : (n : ℕ) → n < length M.tasks → kernel_of (task_of p (task_at n)).codelet ≡ Some Deliver → count_by (λ (d : Delivery). nat_eq d.task.0 n) L.deliveries ≡ 1
     one n h e =
         elim (cases_lt n (length L.tasks)) [
@@ -105,6 +106,7 @@ range_more a (suc n) =
   where
     more_is : (n : ℕ) → suc n + 1 ≡ suc (n + 1)
     more_is n = omega arith
+
     shifted : (a n : ℕ) → (a + 1) + n ≡ a + suc n
     shifted a n = omega arith
 
@@ -137,20 +139,27 @@ delivered_print p L S out line name b a v g = record {
   where
     n : ℕ
     n = length L.tasks
+
     d : Delivery
     d = a_delivery n (handle_of L name) L.prints
+
     l : Lowered
     l = own_task Deliver [] (an_access R (cell_of L name)) line
+
     is : task_of p (task_at n) ≡ l
     is = task_there p L l b.tasks b.all_tasks
+
     longer : length (L.tasks ++ l ∷ []) ≡ n + 1
     longer = length-append L.tasks (l ∷ [])
+
     there : (r : Root) × (root_of S name ≡ Some r) × (is_valued r ≡ true)
     there = valued_there (root_of S name) v
+
     handed : given p (task_at n) ≡ array_of there.0
     handed =
         let h = a.holds name there.0 there.1 in
         given_there p n (cell_of L name) line is ∙ ap (λ i. held_in p (contents_before p n) i.cell) (handle_is L name h.handle h.is) ∙ h.cell.value there.2
+
     one : (m : ℕ) → m < length (L.tasks ++ l ∷ []) → kernel_of (task_of p (task_at m)).codelet ≡ Some Deliver → count_by (λ (d : Delivery). nat_eq d.task.0 m) (L.deliveries ++ d ∷ []) ≡ 1
     one m h e =
         sum_by-append (λ (d : Delivery). cond (nat_eq d.task.0 m) 1 0) L.deliveries (d ∷ [])
@@ -162,6 +171,7 @@ delivered_print p L S out line name b a v g = record {
         old : (m : ℕ) → m < n → (b : Bool) → nat_eq n m ≡ b → count_by (λ (d : Delivery). nat_eq d.task.0 m) L.deliveries ≡ 1 → count_by (λ (d : Delivery). nat_eq d.task.0 m) L.deliveries + (0 + cond (nat_eq n m) 1 0) ≡ 1
         old m h true e c = absurd (omega (arith, (Decides-eqb n m).0 e))
         old m h false e c = let k = ap {B = ℕ} (λ b. cond b 1 0) e in omega (arith, k, c)
+
         new : (m : ℕ) → m ≡ n → (b : Bool) → nat_eq n m ≡ b → count_by (λ (d : Delivery). nat_eq d.task.0 m) L.deliveries + (0 + cond (nat_eq n m) 1 0) ≡ 1
         new m h true e = let k = ap {B = ℕ} (λ b. cond b 1 0) e in let c = ap (λ (i : ℕ). count_by (λ (d : Delivery). nat_eq d.task.0 i) L.deliveries) h ∙ count_below n L.deliveries g.below in omega (arith, k, c)
         new m h false e = absurd (false≢true (sym e ∙ (Decides-eqb n m).1 (sym h)))
