@@ -1,27 +1,25 @@
 -- Statement by statement, the cells of a program agree with the names of its job.
 use Rattle.std.specs.FinMap as map
-use Rattle.std.proofs.Common.{◌≡◌, ◌≢◌, ℕ, ◌+◌, ◌<◌, ◌≤◌, Bool, true, false, cond, Option, Some, None, List, [], ◌∷◌, ◌++◌, ℤ, pos, length, get_or, map as each_of, replicate, refl, sym, ap, subst, ◌∙◌, arith, append_assoc, length-append}
+use Rattle.std.proofs.Common.{◌≡◌, ℕ, ◌+◌, ◌<◌, ◌≤◌, Bool, true, false, cond, Option, Some, None, List, [], ◌∷◌, ◌++◌, ℤ, pos, length, get_or, map as each_of, refl, sym, ap, subst, ◌∙◌, arith, append_assoc, length-append}
 use Rattle.std.specs.Prelude.{nat_eq, ◌||◌}
 use Rattle.std.specs.List.{list_all}
 use Rattle.std.proofs.lemmas.Bool.Decides.{Decides-eqb}
 use Rattle.sj_codelet.specs.Equations.{loadfill}
 use Rattle.std.specs.Option.{is_some}
 use Rattle.std.specs.Str.{bytes_eq}
-use Rattle.std.proofs.lemmas.Bool.{false≢true}
 use Rattle.std.proofs.lemmas.List.{append-nil}
 use Rattle.std.proofs.Math.Seq.{get_or-append_seam}
 use Rattle.sj_base.specs.declared.ids.Cell.{Cell}
 use Rattle.sj_base.specs.declared.ids.Line.{Line}
 use Rattle.sj_base.specs.declared.tile.Dims.{Dims}
 use Rattle.sj_base.specs.declared.mode.Mode.TheVariants.{R, W}
-use Rattle.sj_base.specs.declared.mode.Access.{Access}
 use Rattle.sj_base.specs.declared.program.CellInfo.{CellInfo}
 use Rattle.sj_base.specs.declared.program.Lowered.{Lowered}
 use Rattle.sj_base.specs.declared.program.Program.{Program}
 use Rattle.sj_base.specs.Array.{Array, array, area, zeros}
 use Rattle.sj_codelet.specs.declared.kernel.Kernel.{Kernel}
 use Rattle.sj_codelet.specs.declared.kernel.Kernel.TheVariants.{Load, LoadFill, Deliver}
-use Rattle.sj_core.specs.Program.{no_cell, no_task, cell_info, dims_of, task_of, same_cell}
+use Rattle.sj_core.specs.Program.{no_cell, no_task, cell_info, dims_of, task_of}
 use Rattle.sj_core.specs.Proper.{HasValueBefore, gives_value}
 use Rattle.sj_core.specs.Fold.{Contents, held_in, after_task}
 use Rattle.sj_job.specs.declared.job.Init.{Init}
@@ -32,11 +30,11 @@ use Rattle.sj_job.specs.declared.job.Act.{Act}
 use Rattle.sj_job.specs.declared.job.Act.TheVariants.{Register as Registers, Task as Tasks, Print as Prints, Invalidate as Invalidates, Unregister as Unregisters}
 use Rattle.sj_job.specs.State.{Root, State, root_of, is_valued, start}
 use Rattle.sj_job.specs.Meaning.{array_of, first_elements, registered_root, register, no_values, invalidate, unregister, run_task, apply}
-use Rattle.sj_job.specs.Sound.{has_root, has_values, IsSoundTask, IsSoundRegistration, IsSoundAct}
+use Rattle.sj_job.specs.Sound.{has_root, IsSoundTask, IsSoundRegistration, IsSoundAct}
 use Rattle.sj_lower.specs.declared.handle.Handle.{Handle}
 use Rattle.sj_lower.specs.Lowering.{Lowering, nothing, handle_of, next_handle, own_task, an_access, access_of, first_tasks, lower_registration, lower_task, lower_print, lower_unregistration, lower_act}
 use Rattle.sj_lower.proofs.Contents.{first_worker, task_at, contents_before, contents-next, same_cell-itself, held-same, held-other}
-use Rattle.sj_lower.proofs.Holding.{get-put, get-gone, same_name, IsCellOf, HasHandle, Holds, AreApart, later, holds-later, holds-same}
+use Rattle.sj_lower.proofs.Holding.{get-put, get-gone, same_name, HasHandle, Holds, AreApart, later, holds-later}
 use Rattle.sj_lower.proofs.Running.{root_there, holds-task}
 use Rattle.sj_lower.proofs.Starting.{some_area, not_valued, first_array, filled_is, loaded_is, after_row, after_row-is, after_load, after_fill, after_deliver}
 

@@ -1,25 +1,23 @@
 -- What a statement that lines may say has.
-use Rattle.std.proofs.Common.{◌≡◌, ℕ, ◌<◌, ◌&&◌, nat_le, Bool, true, false, List, [], ◌∷◌, Option, Some, None, option_map, Result, Ok, Err, cond, unwrap_or, refl, sym, ap, subst, ◌∙◌, arith}
+use Rattle.std.proofs.Common.{◌≡◌, ℕ, ◌<◌, ◌&&◌, nat_le, Bool, true, false, List, [], ◌∷◌, Option, Some, None, option_map, Result, Ok, Err, cond, unwrap_or, refl, ap, subst, ◌∙◌, arith}
 use Rattle.std.specs.Prelude.{find}
 use Rattle.std.proofs.lemmas.Bool.{false≢true}
 use Rattle.std.proofs.lemmas.Bool.Decides.{nat_tests}
 use Rattle.sj_base.specs.declared.program.Codelet.{Codelet}
 use Rattle.sj_codelet.specs.declared.kernel.Kernel.{Kernel}
 use Rattle.sj_codelet.specs.declared.kernel.Kernel.TheVariants.{Fill, Copy, Scale, Add, Axpy, Butterfly, Gemm, GemmThree, Transpose, Dot, Sum, Lowest, MinGemm, FwDiag, FwRow, FwCol, Load, LoadFill, Paste, Deliver, InitPlus, InitLeast}
-use Rattle.sj_codelet.specs.Kernel.{kernels, kernel_of, codelet_of, has_name, named_in}
-use Rattle.sj_job.specs.declared.job.TaskLine.{TaskLine}
+use Rattle.sj_codelet.specs.Kernel.{kernels, kernel_of, codelet_of, has_name}
 use Rattle.sj_job.specs.declared.job.Act.{Act}
 use Rattle.sj_job.specs.declared.job.Act.TheVariants.{Register, Task, Print, Invalidate, Unregister}
 use Rattle.sj_job.specs.declared.reason.Reason.{Reason}
-use Rattle.sj_job.specs.declared.sentence.Call.{Call}
 use Rattle.sj_job.specs.declared.sentence.Sentence.{Sentence}
 use Rattle.sj_job.specs.declared.sentence.Sentence.TheVariants.{Register as Registering, Task as Tasking, Print as Printing, Invalidate as Invalidating, Unregister as Unregistering}
 use Rattle.sj_job.specs.State.{State}
-use Rattle.sj_job.specs.Judge.{Scope, scope_of, is_begun, is_full, first_of, reasons, complaint, act_of, judged}
+use Rattle.sj_job.specs.Judge.{Scope, scope_of, is_begun, is_full, complaint, act_of}
 use Rattle.sj_job.specs.Sound.{IsSoundAct}
 use Rattle.sj_job.specs.Well.{IsAllowed}
 use Rattle.sj_job.proofs.Sounding.{sound_from_allowed}
-use Rattle.sj_job.proofs.Spelled.{IsSpelled, spelled_from_said}
+use Rattle.sj_job.proofs.Spelled.{spelled_from_said}
 use Rattle.sj_lower.proofs.Writing.{and_parts}
 
 -- ---- no reason

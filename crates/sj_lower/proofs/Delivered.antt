@@ -1,23 +1,21 @@
 -- Deliveries follow the print statements.
-use Rattle.std.proofs.Common.{◌≡◌, ℕ, zero, suc, ◌+◌, ◌<◌, ◌≤◌, Bool, true, false, cond, Option, Some, None, List, [], ◌∷◌, ◌++◌, length, get_or, map as each_of, refl, sym, ap, subst, ◌∙◌, inl, inr, arith, append_assoc, length-append}
+use Rattle.std.proofs.Common.{◌≡◌, ℕ, zero, suc, ◌+◌, ◌<◌, Bool, true, false, cond, Option, Some, None, List, [], ◌∷◌, ◌++◌, length, get_or, map as each_of, refl, sym, ap, subst, ◌∙◌, inl, inr, arith, length-append}
 use Rattle.std.specs.Prelude.{nat_eq, count_by}
-use Rattle.std.specs.List.{All, AllPairs, range_with_len, list_all}
+use Rattle.std.specs.List.{All, AllPairs, range_with_len}
 use Rattle.std.proofs.lemmas.Bool.{false≢true, cases_lt}
 use Rattle.std.proofs.lemmas.Bool.Decides.{Decides-eqb}
-use Rattle.std.proofs.lemmas.List.{append-nil, map-append}
+use Rattle.std.proofs.lemmas.List.{map-append}
 use Rattle.std.proofs.lemmas.List.Elements.{All-nil, All-head, All-tail, All-push, All-weaker, All-get_or}
 use Rattle.std.proofs.lemmas.List.Quantifiers.{all_pairs_push}
 use Rattle.std.proofs.lemmas.List.Sums.{sum_by-append}
 use Rattle.sj_base.specs.declared.ids.Cell.{Cell}
 use Rattle.sj_base.specs.declared.ids.Line.{Line}
-use Rattle.sj_base.specs.declared.mode.Mode.TheVariants.{R, W}
-use Rattle.sj_base.specs.declared.mode.Access.{Access}
+use Rattle.sj_base.specs.declared.mode.Mode.TheVariants.{R}
 use Rattle.sj_base.specs.declared.program.Lowered.{Lowered}
 use Rattle.sj_base.specs.declared.program.Delivery.{Delivery}
 use Rattle.sj_base.specs.declared.program.Program.{Program}
 use Rattle.sj_base.specs.Array.{Array}
-use Rattle.sj_codelet.specs.declared.kernel.Kernel.{Kernel}
-use Rattle.sj_codelet.specs.declared.kernel.Kernel.TheVariants.{Load, LoadFill, Deliver}
+use Rattle.sj_codelet.specs.declared.kernel.Kernel.TheVariants.{Deliver}
 use Rattle.sj_codelet.specs.Kernel.{kernel_of}
 use Rattle.sj_core.specs.Program.{task_of, data_operands}
 use Rattle.sj_core.specs.Operands.{worked_on}
@@ -25,7 +23,7 @@ use Rattle.sj_core.specs.Fold.{given, held_before, held_in}
 use Rattle.sj_job.specs.State.{Root, State, root_of, is_valued}
 use Rattle.sj_job.specs.Meaning.{Printed, array_of, found_by}
 use Rattle.sj_job.specs.Sound.{has_values}
-use Rattle.sj_lower.specs.Lowering.{Lowering, nothing, handle_of, own_task, an_access, a_delivery, with_tasks, lower_print}
+use Rattle.sj_lower.specs.Lowering.{Lowering, nothing, handle_of, own_task, an_access, a_delivery, lower_print}
 use Rattle.sj_lower.proofs.Contents.{first_worker, task_at, contents_before}
 use Rattle.sj_lower.proofs.Holding.{cell_of, handle_is}
 use Rattle.sj_lower.proofs.Running.{valued_there}

@@ -1,7 +1,7 @@
 -- Each lowered task is as a proper program has it.
-use Rattle.std.proofs.Common.{◌≡◌, ℕ, ◌+◌, ◌<◌, ◌≤◌, Bool, true, false, not, ◌&&◌, cond, Option, Some, None, List, [], ◌∷◌, ◌++◌, ℤ, pos, length, get_or, map as each_of, refl, sym, ap, subst, ◌∙◌, arith}
-use Rattle.std.specs.Prelude.{◌||◌, nat_eq}
-use Rattle.std.specs.List.{All, AllPairs, filter, list_all, list_any}
+use Rattle.std.proofs.Common.{◌≡◌, ℕ, ◌<◌, ◌≤◌, Bool, true, false, not, ◌&&◌, List, [], ◌∷◌, ℤ, length, map as each_of, refl, sym, ap, subst, ◌∙◌, arith}
+use Rattle.std.specs.Prelude.{◌||◌}
+use Rattle.std.specs.List.{All, AllPairs, list_all, list_any}
 use Rattle.std.specs.Str.{bytes_eq}
 use Rattle.std.proofs.lemmas.Bool.{false≢true}
 use Rattle.std.proofs.lemmas.Bool.Decides.{Decides-eqb}
@@ -18,19 +18,19 @@ use Rattle.sj_base.specs.declared.program.Program.{Program}
 use Rattle.sj_base.specs.Array.{area}
 use Rattle.sj_codelet.specs.declared.kernel.Kernel.{Kernel}
 use Rattle.sj_codelet.specs.declared.kernel.Kernel.TheVariants.{Load, LoadFill, Deliver}
-use Rattle.sj_codelet.specs.Kernel.{kernel_of, codelet_of, fits}
-use Rattle.sj_core.specs.Program.{same_cell, dims_of, task_of, is_scratch, data_operands}
-use Rattle.sj_core.specs.Proper.{HasValueBefore, Fits, MayHaveModes, own_modes, IsUnaliased, reads_value}
+use Rattle.sj_codelet.specs.Kernel.{fits}
+use Rattle.sj_core.specs.Program.{same_cell, dims_of, is_scratch}
+use Rattle.sj_core.specs.Proper.{HasValueBefore, Fits, MayHaveModes, IsUnaliased, reads_value}
 use Rattle.sj_job.specs.declared.job.Operand.{Operand}
 use Rattle.sj_job.specs.declared.job.TaskLine.{TaskLine}
-use Rattle.sj_job.specs.State.{Root, State, root_of, is_valued}
+use Rattle.sj_job.specs.State.{State, root_of}
 use Rattle.sj_job.specs.Judge.{needs_value, clashes, is_aliased, is_read_only}
 use Rattle.sj_job.specs.Sound.{is_plain, has_root, has_values, IsSoundTask, dims_of as root_dims}
 use Rattle.sj_lower.specs.Lowering.{Lowering, access_of, own_task, an_access}
 use Rattle.sj_lower.specs.Plain.{is_plain_mode}
 use Rattle.sj_lower.proofs.Contents.{task_at, same_cell-is}
-use Rattle.sj_lower.proofs.Holding.{cell_of, handle_is, same_name, bytes_eq-itself, AreApart, Holds}
-use Rattle.sj_lower.proofs.Running.{root_there, valued_there, dims_there, or_none, HasKernel, kernel_there}
+use Rattle.sj_lower.proofs.Holding.{cell_of, handle_is, bytes_eq-itself}
+use Rattle.sj_lower.proofs.Running.{root_there, valued_there, dims_there, or_none, kernel_there}
 use Rattle.sj_lower.proofs.Agreeing.{Agrees}
 use Rattle.sj_lower.proofs.Writing.{and_parts}
 

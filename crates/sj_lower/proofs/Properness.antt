@@ -1,5 +1,5 @@
 -- The program of a job is proper.
-use Rattle.std.proofs.Common.{◌≡◌, ℕ, ◌+◌, ◌<◌, ◌≤◌, ◌^◌, Bool, true, false, Option, Some, None, List, [], ◌∷◌, length, get_or, map as each_of, refl, sym, ap, subst, ◌∙◌, inl, inr, ◌⊎◌, arith}
+use Rattle.std.proofs.Common.{◌≡◌, ℕ, ◌<◌, ◌≤◌, ◌^◌, true, Option, Some, None, List, [], length, get_or, map as each_of, refl, sym, ap, subst, ◌∙◌, inl, inr, arith}
 use Rattle.std.specs.Option.{is_some}
 use Rattle.std.specs.Prelude.{nat_eq, count_by}
 use Rattle.std.specs.List.{All, AllPairs, range_with_len}
@@ -7,7 +7,6 @@ use Rattle.std.proofs.lemmas.Bool.{false≢true, cases_lt}
 use Rattle.std.proofs.lemmas.List.{get_or_past}
 use Rattle.std.proofs.lemmas.List.Elements.{All-nil, All-from_get_or, All-get_or, All-weaker, All-contains}
 use Rattle.sj_base.specs.declared.ids.Cell.{Cell}
-use Rattle.sj_base.specs.declared.ids.Task.{Task}
 use Rattle.sj_base.specs.declared.ids.Worker.{Worker}
 use Rattle.sj_base.specs.declared.mode.Mode.{Mode}
 use Rattle.sj_base.specs.declared.mode.Mode.TheVariants.{R, W, RW, Scratch, Redux, Commute}
@@ -21,10 +20,9 @@ use Rattle.sj_codelet.specs.declared.kernel.Kernel.TheVariants.{Deliver}
 use Rattle.sj_codelet.specs.Kernel.{kernel_of}
 use Rattle.sj_core.specs.Fold.{given}
 use Rattle.sj_core.specs.Operands.{copy_of}
-use Rattle.sj_core.specs.Program.{no_cell, no_task, cell_info, dims_of, task_of, is_redux}
-use Rattle.sj_core.specs.Proper.{Proper, NamesCells, IsCopyOf, IsPlain, Fits, IsUnaliased, reads_value, HasValueBefore, ReadsValues, HasPhases, HasDeliveries, IsWithinLimits, IsPhase, names_as, task_number, access}
+use Rattle.sj_core.specs.Program.{no_cell, no_task, cell_info, task_of, is_redux}
+use Rattle.sj_core.specs.Proper.{Proper, NamesCells, IsCopyOf, IsPlain, Fits, IsUnaliased, reads_value, HasValueBefore, ReadsValues, HasPhases, HasDeliveries, IsWithinLimits, IsPhase, task_number, access}
 use Rattle.sj_job.specs.declared.job.Statement.{Statement}
-use Rattle.sj_job.specs.Meaning.{printed}
 use Rattle.sj_lower.specs.Plain.{is_plain_mode, HasPlainModes}
 use Rattle.sj_lower.specs.Delivering.{DeliversPrinted, CountsPrints, NamesDeliverTasks, DeliversInOrder}
 use Rattle.sj_lower.proofs.Contents.{task_at}

@@ -1,12 +1,11 @@
 -- A lowered task does to its cells what the task line does to its names.
-use Rattle.std.proofs.Common.{◌≡◌, ℕ, ◌+◌, ◌<◌, ◌≤◌, Bool, true, false, not, ◌&&◌, ◌||◌, cond, Option, Some, None, List, [], ◌∷◌, ◌++◌, ℤ, length, map as each_of, refl, sym, ap, subst, ◌∙◌, arith}
+use Rattle.std.proofs.Common.{◌≡◌, ℕ, ◌+◌, Bool, true, false, not, ◌&&◌, ◌||◌, cond, Option, Some, None, List, [], ◌∷◌, ◌++◌, map as each_of, refl, sym, ap, subst, ◌∙◌, arith}
 use Rattle.std.specs.List.{zip, filter, list_all, list_any}
 use Rattle.std.specs.Option.{is_some}
 use Rattle.std.specs.Str.{bytes_eq}
 use Rattle.std.proofs.lemmas.Bool.{false≢true}
 use Rattle.std.proofs.lemmas.List.{length-map}
 use Rattle.sj_base.specs.declared.ids.Cell.{Cell}
-use Rattle.sj_base.specs.declared.ids.Task.{Task}
 use Rattle.sj_base.specs.declared.tile.Dims.{Dims}
 use Rattle.sj_base.specs.declared.mode.Mode.{Mode}
 use Rattle.sj_base.specs.declared.mode.Mode.TheVariants.{R, W, RW, Scratch, Redux, Commute}
@@ -16,21 +15,20 @@ use Rattle.sj_base.specs.declared.program.Program.{Program}
 use Rattle.sj_base.specs.Array.{Array, array, zeros}
 use Rattle.sj_codelet.specs.declared.kernel.Kernel.{Kernel}
 use Rattle.sj_codelet.specs.declared.formal.Formal.{Formal}
-use Rattle.sj_codelet.specs.Kernel.{formals_of, out, fits, fits_in}
-use Rattle.sj_codelet.specs.Runs.{formals_in}
-use Rattle.sj_core.specs.Program.{same_cell, dims_of, task_of, is_written, is_redux, starts_as_zeros, written_operands}
-use Rattle.sj_core.specs.Proper.{HasValueBefore, gives_value, own_modes, mode_of}
+use Rattle.sj_codelet.specs.Kernel.{formals_of, out, fits}
+use Rattle.sj_core.specs.Program.{same_cell, dims_of, task_of, is_written, is_redux}
+use Rattle.sj_core.specs.Proper.{own_modes}
 use Rattle.sj_core.specs.Fold.{Contents, held_in, after_task}
 use Rattle.sj_core.specs.Operands.{worked_on, written_cells, found, results}
 use Rattle.sj_job.specs.declared.job.Operand.{Operand}
 use Rattle.sj_job.specs.declared.job.TaskLine.{TaskLine}
 use Rattle.sj_job.specs.State.{Root, State, root_of, is_valued}
-use Rattle.sj_job.specs.Meaning.{array_of, seen_by, operand_array, is_written as writes, written_names, put_all, run_task}
+use Rattle.sj_job.specs.Meaning.{array_of, seen_by, operand_array, is_written as writes, written_names, run_task}
 use Rattle.sj_job.specs.Judge.{modes_fit, needs_value, clashes, is_aliased, is_read_only}
 use Rattle.sj_job.specs.Sound.{is_plain, has_root, has_values, IsSoundTask, dims_of as root_dims}
-use Rattle.sj_lower.specs.Lowering.{Lowering, access_of, handle_of}
+use Rattle.sj_lower.specs.Lowering.{Lowering, access_of}
 use Rattle.sj_lower.proofs.Contents.{first_worker, task_at, same_cell-itself}
-use Rattle.sj_lower.proofs.Holding.{cell_of, handle_is, AreApart, Holds, HasHandle, Gives, GivesAll, IsOther, holds-put_all, holds-later}
+use Rattle.sj_lower.proofs.Holding.{cell_of, handle_is, AreApart, Holds, GivesAll, IsOther, holds-put_all, holds-later}
 use Rattle.sj_lower.proofs.Writing.{and_parts, written_of, written_of-map, modes_are, all_dims, out_dims, IsCall, call_of, fit_from_fits}
 
 -- ---- words

@@ -1,46 +1,35 @@
 -- All statements: the lowered program is proper, its deliveries are the job's prints.
-use Rattle.std.proofs.Common.{◌≡◌, ℕ, ◌+◌, ◌<◌, ◌≤◌, ◌^◌, Bool, true, false, cond, Option, Some, None, List, [], ◌∷◌, ◌++◌, ℤ, pos, length, get_or, map as each_of, refl, sym, ap, subst, ◌∙◌, inl, inr, arith, append_assoc, length-append}
-use Rattle.std.specs.Prelude.{is_some, IsTrue}
-use Rattle.std.specs.List.{All, AllPairs}
-use Rattle.std.proofs.lemmas.Bool.{false≢true, cases_lt}
-use Rattle.std.proofs.lemmas.List.{append-nil, get_or_past}
-use Rattle.std.proofs.lemmas.List.Elements.{All-nil, All-push, All-from_get_or, All-get_or, All-weaker, All-contains}
-use Rattle.sj_base.specs.declared.ids.Cell.{Cell}
+use Rattle.std.proofs.Common.{◌≡◌, ℕ, ◌+◌, ◌<◌, ◌≤◌, ◌^◌, Bool, Some, None, List, [], ◌∷◌, ◌++◌, pos, length, map as each_of, refl, sym, ap, subst, ◌∙◌, inl, inr, arith, append_assoc, length-append}
+use Rattle.std.specs.List.{All}
+use Rattle.std.proofs.lemmas.Bool.{cases_lt}
+use Rattle.std.proofs.lemmas.List.{append-nil}
+use Rattle.std.proofs.lemmas.List.Elements.{All-nil, All-push}
 use Rattle.sj_base.specs.declared.ids.Line.{Line}
-use Rattle.sj_base.specs.declared.ids.Task.{Task}
-use Rattle.sj_base.specs.declared.ids.Worker.{Worker}
-use Rattle.sj_base.specs.declared.mode.Mode.{Mode}
-use Rattle.sj_base.specs.declared.mode.Mode.TheVariants.{R, W, RW, Scratch, Redux, Commute}
-use Rattle.sj_base.specs.declared.mode.Access.{Access}
+use Rattle.sj_base.specs.declared.mode.Mode.TheVariants.{R, W}
 use Rattle.sj_base.specs.declared.program.CellInfo.{CellInfo}
 use Rattle.sj_base.specs.declared.program.Lowered.{Lowered}
 use Rattle.sj_base.specs.declared.program.Program.{Program}
 use Rattle.sj_base.specs.Array.{area}
 use Rattle.sj_codelet.specs.declared.kernel.Kernel.{Kernel}
 use Rattle.sj_codelet.specs.declared.kernel.Kernel.TheVariants.{Load, LoadFill, Deliver}
-use Rattle.sj_codelet.specs.Kernel.{kernel_of, name_of}
-use Rattle.sj_core.specs.Program.{no_cell, no_task, cell_info, dims_of, task_of, is_redux}
-use Rattle.sj_core.specs.Proper.{Proper, NamesCells, IsCopyOf, Fits, IsUnaliased, reads_value, HasValueBefore, ReadsValues, HasPhases, HasDeliveries, IsWithinLimits, IsPhase, names_as, task_number, access}
+use Rattle.sj_codelet.specs.Kernel.{kernel_of}
+use Rattle.sj_core.specs.Program.{dims_of, task_of}
 use Rattle.sj_job.specs.declared.job.Init.{Init}
 use Rattle.sj_job.specs.declared.job.Init.TheVariants.{Values, Fill, Nothing}
 use Rattle.sj_job.specs.declared.job.Register.{Register}
-use Rattle.sj_job.specs.declared.job.TaskLine.{TaskLine}
 use Rattle.sj_job.specs.declared.job.Act.{Act}
 use Rattle.sj_job.specs.declared.job.Act.TheVariants.{Register as Registers, Task as Tasks, Print as Prints, Invalidate as Invalidates, Unregister as Unregisters}
 use Rattle.sj_job.specs.declared.job.Statement.{Statement}
 use Rattle.sj_job.specs.State.{State, start}
 use Rattle.sj_job.specs.Meaning.{Printed, apply, prints, printed_from, printed, run_from}
-use Rattle.sj_job.specs.Sound.{InitFits, IsSoundTask, IsSoundRegistration, IsSoundAct}
+use Rattle.sj_job.specs.Sound.{InitFits}
 use Rattle.sj_job.specs.Well.{IsWell}
-use Rattle.sj_lower.specs.Lowering.{Lowering, nothing, next_handle, own_task, an_access, access_of, first_tasks, handle_of, lower_registration, lower_task, lower_print, lower_act, lower_one, lower_from, program_of, lowered}
-use Rattle.sj_lower.specs.Plain.{is_plain_mode, HasPlainModes}
+use Rattle.sj_lower.specs.Lowering.{Lowering, nothing, next_handle, own_task, an_access, access_of, first_tasks, handle_of, lower_registration, lower_task, lower_print, lower_act, lower_one, lower_from, lowered}
 use Rattle.sj_lower.specs.Counts.{IsWithin}
 use Rattle.sj_lower.proofs.Contents.{task_at}
 use Rattle.sj_lower.proofs.Counting.{within_statements}
 use Rattle.sj_lower.proofs.Allowed.{CanBe, can_be}
 use Rattle.sj_lower.proofs.Agreeing.{Agrees, Begins, begins-before, cell_there, task_there, agrees_start, agrees_act}
-use Rattle.sj_lower.proofs.Running.{root_there}
-use Rattle.sj_lower.proofs.Holding.{cell_of, handle_is}
 use Rattle.sj_lower.proofs.Good.{IsGood, good_load, good_fill, good_deliver, good_task, name_given, name_inside}
 use Rattle.sj_lower.proofs.Delivered.{AreDelivered, delivered_none, delivered_beside, delivered_same, delivered_print}
 

@@ -3,10 +3,7 @@ use Rattle.std.proofs.lemmas.List.{take_more, take_all}
 use Rattle.sj_job.specs.declared.job.Statement.{Statement}
 use Rattle.sj_job.specs.State.{start}
 use Rattle.sj_base.specs.declared.program.Program.{Program}
-use Rattle.sj_core.specs.Proper.{Proper}
 use Rattle.sj_lower.specs.Job.{IsJob}
-use Rattle.sj_lower.specs.Plain.{HasPlainModes}
-use Rattle.sj_lower.specs.Delivering.{DeliversPrinted, CountsPrints, NamesDeliverTasks, DeliversInOrder}
 use Rattle.sj_lower.proofs.Whole.{IsWhole, whole}
 use Rattle.sj_lower.proofs.Properness.{proper, plain, delivers_printed, counts_prints, names_deliver_tasks, delivers_in_order}
 use Rattle.sj_lower.specs.Lowering.{Lowering, nothing, lower_from, lower_one, program_of}
