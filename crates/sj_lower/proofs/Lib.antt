@@ -1,0 +1,14 @@
+pub mod Stepping
+pub mod Counting
+pub mod Few
+pub mod Writing
+pub mod Contents
+pub mod Holding
+pub mod Running
+pub mod Starting
+pub mod Agreeing
+pub mod Good
+pub mod Delivered
+pub mod Allowed
+pub mod Whole
+pub mod Properness

@@ -1,0 +1,32 @@
+//! Lowering a job.
+
+ghost use Rattle.std.specs.Prelude.{◌≡◌, IfOk};
+ghost use Rattle.sj_lower.specs.Lowering.{lowered};
+ghost use Rattle.sj_core.specs.Proper.{Proper};
+ghost use Rattle.sj_lower.specs.Job.{IsJob};
+ghost use Rattle.sj_lower.specs.Plain.{HasPlainModes};
+ghost use Rattle.sj_lower.specs.Delivering.{DeliversPrinted, CountsPrints, NamesDeliverTasks, DeliversInOrder};
+
+use crate::lowerer::Lowerer;
+use sj_base::memory::OutOfMemory;
+use sj_base::program::Program;
+use sj_job::job::Statement;
+use std::alloc::Global;
+
+/// The program that a job's statements give: one pass over them, and a look-up for each name in the logarithm of the names.
+pub fn lower(alloc: Global, statements: &[Statement], workers: u8) -> Result<Program, OutOfMemory>
+    requires { IsJob statements.now }
+    ensures is { IfOk result (λ program. program ≡ lowered statements.now workers) }
+    ensures proper { IfOk result Proper }
+    ensures plain { IfOk result HasPlainModes }
+    ensures prints { IfOk result (λ program. DeliversPrinted program statements.now) }
+    ensures counted { IfOk result CountsPrints }
+    ensures handed_over { IfOk result NamesDeliverTasks }
+    ensures in_order { IfOk result DeliversInOrder }
+{
+    let mut lowerer = Lowerer::nothing(alloc);
+    for statement in statements {
+        lowerer.add(alloc, statement)?;
+    }
+    Ok(lowerer.program(workers))
+}
