@@ -1,0 +1,6 @@
+//! Lowering: a job becomes a program of tasks over cells, one cell for each root.
+#![tactic(auto)]
+
+pub mod handle;
+pub mod lower;
+pub mod lowerer;
