@@ -1,3 +1,4 @@
+use Rattle.sj_core.proofs.Forms.{Claims-keeps_state}
 use Rattle.sj_core.proofs.Dependencies.{Proper-dependencies}
 use Rattle.sj_core.proofs.Counting.{Claims-keeps_counts}
 use Rattle.sj_core.proofs.Claiming.{Claims-keeps_cells, Claims-keeps_pins, Claims-keeps_transfers}
@@ -13,4 +14,5 @@ returns c = record {
   pins_hold = λ p m s s' t w h claim. Claims-keeps_pins p m h.proper.cells h.machine s h.coherent.state h.coherent.cells h.coherent.pins h.coherent.transfers h.coherent.workers t w s' claim;
   transfers_are_sound = λ p m s s' t w h claim. Claims-keeps_transfers p m h.proper.cells h.machine s h.coherent.state h.coherent.cells h.coherent.pins h.coherent.transfers h.coherent.workers t w s' claim;
   writes_are_counted = λ p m s s' t w h claim. Claims-keeps_counts p m s t w s' h.coherent.state.rows claim h.coherent.counts;
+  is_a_state = λ p m s s' t w h claim. Claims-keeps_state p m s h t w s' claim;
 }
