@@ -24,7 +24,7 @@ use Rattle.sj_core.specs.Program.{cell_info, task_of, data_operands, is_redux}
 use Rattle.sj_base.specs.Array.{area}
 use Rattle.std.proofs.lemmas.List.Elements.{All-nil}
 use Rattle.sj_core.specs.Operands.{copy_of}
-use Rattle.sj_core.specs.Proper.{NamesCells, IsCopyOf, Fits, Own, IsUnaliased, ReadsValues, reads_value, HasValueBefore, IsWithinLimits, HasPhases, IsPhase, names_as, task_number, HasDeliveries, Proper, IsMachineFor}
+use Rattle.sj_core.specs.Proper.{NamesCells, IsCopyOf, Fits, Own, IsUnaliased, ReadsValues, reads_value, HasValueBefore, IsWithinLimits, HasPhases, IsPhase, names_as, task_number, HasDeliveries, Proper, IsMachineFor, HasSwapFor}
 use Rattle.sj_deps.specs.declared.manner.Usage.{Usage}
 use Rattle.sj_deps.specs.Conflict.{Conflict, Uses, IsShared}
 use Rattle.sj_codelet.specs.Equations.{vector}
@@ -268,4 +268,7 @@ pub is_proper : Proper job
 is_proper = record { cells = names_cells; codelets = codelets_fit; unaliased = unaliased; values = reads_values; phases = has_phases; deliveries = has_deliveries; limits = is_limited }
 
 pub is_its_machine : IsMachineFor job machine
-is_its_machine = record { workers = refl; some_worker = lit≤ tt; few_workers = lit≤ tt; some_node = lit≤ tt; few_nodes = lit≤ tt; few_disks = lit≤ tt; blocks_fit = refl }
+is_its_machine = record { workers = refl; some_worker = lit≤ tt; few_workers = lit≤ tt; some_node = lit≤ tt; few_nodes = lit≤ tt; few_disks = lit≤ tt }
+
+pub has_its_swap : HasSwapFor job machine
+has_its_swap = record { blocks_fit = refl }

@@ -83,7 +83,7 @@ has_cell-distinct (x ∷ xs) c = by_cases (has_cell xs x) refl (has_cell-distinc
 
 -- ---- what a claim evicts and brings
 
-from_not : (b : Bool) → not b ≡ true → b ≡ false
+pub from_not : (b : Bool) → not b ≡ true → b ≡ false
 from_not true e = sym e
 from_not false e = refl
 
@@ -96,10 +96,10 @@ and_right true b h = h
 and_right false b h = absurd (false≢true h)
 
 -- a replica that is no victim and not brought stays
-claimed_replica-kept : (w : Worker) (evicted brought : List Cell) (c : Cell) (r : Replica) → has_cell evicted c ≡ false → has_cell brought c ≡ false → claimed_replica w evicted brought c r ≡ r
+pub claimed_replica-kept : (w : Worker) (evicted brought : List Cell) (c : Cell) (r : Replica) → has_cell evicted c ≡ false → has_cell brought c ≡ false → claimed_replica w evicted brought c r ≡ r
 claimed_replica-kept w evicted brought c r e b = ap (λ x. cond x (leave w r) (cond (has_cell brought c) (Coming w) r)) e ∙ ap (λ x. cond x (Coming w) r) b
 
-claimed_replica-brought : (w : Worker) (evicted brought : List Cell) (c : Cell) (r : Replica) → has_cell evicted c ≡ false → has_cell brought c ≡ true → claimed_replica w evicted brought c r ≡ Coming w
+pub claimed_replica-brought : (w : Worker) (evicted brought : List Cell) (c : Cell) (r : Replica) → has_cell evicted c ≡ false → has_cell brought c ≡ true → claimed_replica w evicted brought c r ≡ Coming w
 claimed_replica-brought w evicted brought c r e b = ap (λ x. cond x (leave w r) (cond (has_cell brought c) (Coming w) r)) e ∙ ap (λ x. cond x (Coming w) r) b
 
 leave-valid : (w : Worker) (r : Replica) → is_valid r ≡ true → is_valid (leave w r) ≡ true
@@ -174,7 +174,7 @@ list_any-filter f g (x ∷ xs) = by_cases (g x) (list_any-filter f g xs)
     by_cases false rest = rest
 
 -- a worker with a pin is one of the table
-pins-inside : (s : State) (v : Worker) (c : Cell) → has_cell (pins s v) c ≡ true → v.0 < length s.workers
+pub pins-inside : (s : State) (v : Worker) (c : Cell) → has_cell (pins s v) c ≡ true → v.0 < length s.workers
 pins-inside s v c h =
     elim (cases_lt v.0 (length s.workers)) [
       | inl inside ↦ inside
@@ -182,7 +182,7 @@ pins-inside s v c h =
     ]
 
 -- what a worker of the node pins is pinned there
-pinned-at : (m : Machine) (s : State) (v : Worker) (n : Node) (c : Cell) → v.0 < m.workers → node_of m v ≡ n → has_cell (pins s v) c ≡ true → is_pinned m s n c ≡ true
+pub pinned-at : (m : Machine) (s : State) (v : Worker) (n : Node) (c : Cell) → v.0 < m.workers → node_of m v ≡ n → has_cell (pins s v) c ≡ true → is_pinned m s n c ≡ true
 pinned-at m s v n c inside here h =
     let at_n : Worker → Bool = λ u. nat_eq (node_of m u).0 n.0 in
     let pins_it : Worker → Bool = λ u. has_cell (pins s u) c in
@@ -192,11 +192,11 @@ pinned-at m s v n c inside here h =
 -- ---- the laws
 
 module _ (p : Program) (m : Machine) (names : NamesCells p) (fit : IsMachineFor p m) (s : State) (state : IsStateOf p m s) (cells : TasksHaveCells p m s) (pinned : PinsHold p m s) (moving : TransfersAreSound m s) (sound : WorkersAreSound p m s) (t : Task) (w : Worker) (s' : State) (claim : Claims p m s t w s') where
-  claims-advance : Advances s s' t Waiting (Claimed w)
+  pub claims-advance : Advances s s' t Waiting (Claimed w)
   claims-advance = Claims-advances p m s t w s' state.rows claim
 
   -- the cells of the task are cells of the table
-  cell-inside : (c : Cell) → has_cell (cells_of p t w) c ≡ true → c.0 < length s.cells
+  pub cell-inside : (c : Cell) → has_cell (cells_of p t w) c ≡ true → c.0 < length s.cells
   cell-inside c h =
       let a = operand_for (worked_on p w) (λ b. not (is_scratch b.mode)) (task_of p t).accesses c h in
       let here : a.0.cell.0 < length p.cells = subst (λ (b : Access). b.cell.0 < length p.cells) a.1.2 (names.named t.0 no_task claim.ready.task a.1.0 a.0 a.1.1) in
@@ -208,11 +208,11 @@ module _ (p : Program) (m : Machine) (names : NamesCells p) (fit : IsMachineFor 
       by_redux a true e here None f = subst (λ (o : Option Cell). (elim o as (λ _. Cell) [ None ↦ a.cell | Some first ↦ record { 0 = first.0 + w.0 } ]).0 < length p.cells) (sym f) here
       by_redux a true e here (Some first) f = (names.copies (copy_of p a.cell w) a.cell w (record { has_copies = ap is_some f; of_worker = claim.worker; is = refl })).0
 
-  node-inside : (c : Cell) → c.0 < length s.cells → (node_of m w).0 < length (cell_state s c).nodes
+  pub node-inside : (c : Cell) → c.0 < length s.cells → (node_of m w).0 < length (cell_state s c).nodes
   node-inside c inside = let row = state.rows.nodes c.0 no_row inside in let some = fit.some_node in omega arith
 
   -- an entry that isn't evicted stays
-  entry-stays : (c : Cell) (k : Node) → is_entry (replica s c (AtNode k)) ≡ true → (k ≡ node_of m w → has_cell claim.evicted c ≡ false) → replica s' c (AtNode k) ≡ replica s c (AtNode k)
+  pub entry-stays : (c : Cell) (k : Node) → is_entry (replica s c (AtNode k)) ≡ true → (k ≡ node_of m w → has_cell claim.evicted c ≡ false) → replica s' c (AtNode k) ≡ replica s c (AtNode k)
   entry-stays c k entry spared =
       elim (same_node k (node_of m w)) [
         | inr d ↦ claim-elsewhere p m s t w s' claim c k d
@@ -251,18 +251,18 @@ module _ (p : Program) (m : Machine) (names : NamesCells p) (fit : IsMachineFor 
           ∙ leave-valid w (replica s c (AtNode n)) h
 
   -- what a worker pins isn't evicted
-  pin-spared : (v : Worker) (c : Cell) → has_cell (pins s v) c ≡ true → node_of m v ≡ node_of m w → has_cell claim.evicted c ≡ false
+  pub pin-spared : (v : Worker) (c : Cell) → has_cell (pins s v) c ≡ true → node_of m v ≡ node_of m w → has_cell claim.evicted c ≡ false
   pin-spared v c h here = not_true (has_cell claim.evicted c) (λ evicted.
       (let inside : v.0 < m.workers = omega (arith, pins-inside s v c h, state.rows.workers) in
       false≢true (sym (evicted-free p m s t w s' claim c evicted).0 ∙ pinned-at m s v (node_of m w) c inside here h)))
 
-  own-spared : (c : Cell) → has_cell (cells_of p t w) c ≡ true → has_cell claim.evicted c ≡ false
+  pub own-spared : (c : Cell) → has_cell (cells_of p t w) c ≡ true → has_cell claim.evicted c ≡ false
   own-spared c h = not_true (has_cell claim.evicted c) (λ evicted. false≢true (sym (evicted-free p m s t w s' claim c evicted).1 ∙ h))
 
-  claim-own_pins : pins s' w ≡ cells_of p t w
+  pub claim-own_pins : pins s' w ≡ cells_of p t w
   claim-own_pins = ap (λ (row : WorkerState). row.pins) (Claims-worker p m s t w s' state.rows fit claim)
 
-  claim-other_pins : (v : Worker) → v ≢ w → pins s' v ≡ pins s v
+  pub claim-other_pins : (v : Worker) → v ≢ w → pins s' v ≡ pins s v
   claim-other_pins v d = ap (λ (row : WorkerState). row.pins) (Claims-other_worker p m s t w v s' claim d)
 
   -- the task's own cells are entries after the claim
@@ -316,7 +316,7 @@ module _ (p : Program) (m : Machine) (names : NamesCells p) (fit : IsMachineFor 
   Claims-keeps_cells = record { running = claims-running; claimed = claims-claimed; pinned = claims-pinned }
 
   -- what comes after a claim is what it brings, or came before
-  claims-coming : (v : Worker) (c : Cell) (k : Node) → is_coming_by v (replica s' c (AtNode k)) ≡ true → ((k ≡ node_of m w) × (v ≡ w) × (has_cell (cells_of p t w) c ≡ true)) ⊎ (is_coming_by v (replica s c (AtNode k)) ≡ true)
+  pub claims-coming : (v : Worker) (c : Cell) (k : Node) → is_coming_by v (replica s' c (AtNode k)) ≡ true → ((k ≡ node_of m w) × (v ≡ w) × (has_cell (cells_of p t w) c ≡ true)) ⊎ (is_coming_by v (replica s c (AtNode k)) ≡ true)
   claims-coming v c k h =
       elim (same_node k (node_of m w)) [
         | inr d ↦ inr (sym (ap (is_coming_by v) (claim-elsewhere p m s t w s' claim c k d)) ∙ h)
@@ -346,7 +346,7 @@ module _ (p : Program) (m : Machine) (names : NamesCells p) (fit : IsMachineFor 
           let cells_same : length s'.cells ≡ length s.cells = ap (λ (z : State). length z.cells) claim.leaves ∙ length-renewed (λ k row. with_replica_in row (AtNode (node_of m w)) (claimed_replica w claim.evicted (missing p s t w (node_of m w)) (record { 0 = k }) (replica_in row (AtNode (node_of m w))))) s.cells in
           absurd (false≢true (sym (ap (λ (row : CellState). is_coming_by v (replica_in row (AtNode (node_of m w)))) (get_or_past s'.cells c.0 no_row (omega (arith, cells_same)))) ∙ h))
 
-  claims-stays : (v : Worker) (c : Cell) → has_cell (pins s' v) c ≡ true → is_leaving (replica s' c (AtNode (node_of m v))) ≡ false
+  pub claims-stays : (v : Worker) (c : Cell) → has_cell (pins s' v) c ≡ true → is_leaving (replica s' c (AtNode (node_of m v))) ≡ false
   claims-stays v c h = not_true (is_leaving (replica s' c (AtNode (node_of m v)))) (λ leaves.
       (let by = leaving-by_some (replica s' c (AtNode (node_of m v))) leaves in
       by_worker (workers_differ v w) (Claims-leaving p m s t w by.0 s' c (node_of m v) claim by.1)))
@@ -380,7 +380,7 @@ module _ (p : Program) (m : Machine) (names : NamesCells p) (fit : IsMachineFor 
       two_kinds : (x : Worker) → Claimed x ≡ Waiting → ⊥
       two_kinds x e = cc
 
-  claimer-other : (v : Worker) (c : Cell) → IsClaimed p s v c → v ≢ w
+  pub claimer-other : (v : Worker) (c : Cell) → IsClaimed p s v c → v ≢ w
   claimer-other v c old e = false≢true (sym (idle-has_none s w old.task claim.idle) ∙ ap (λ (x : Worker). is_task_of x (progress s old.task)) (sym e) ∙ ap (is_task_of v) old.claimed ∙ ap (λ b. b || false) (same_worker-refl v))
 
   pub Claims-keeps_pins : PinsHold p m s'
@@ -398,7 +398,7 @@ module _ (p : Program) (m : Machine) (names : NamesCells p) (fit : IsMachineFor 
     ];
   }
 
-  claims-transfer : (v : Worker) → transfer s' v ≡ transfer s v
+  pub claims-transfer : (v : Worker) → transfer s' v ≡ transfer s v
   claims-transfer v = claim-transfer p m s t w s' state.rows fit claim sound v
 
   -- a worker with a transfer isn't the one that claims

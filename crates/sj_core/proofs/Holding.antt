@@ -108,11 +108,11 @@ module _ (p : Program) (m : Machine) (s : State) (t : Task) (w : Worker) (s' : S
       ]
 
 module _ (p : Program) (m : Machine) (names : NamesCells p) (deps : HasDependencies p) (s : State) (state : IsStateOf p m s) (cells : TasksHaveCells p m s) (pinned : PinsHold p m s) (moving : TransfersAreSound m s) (sound : WorkersAreSound p m s) (kept : OrderIsKept p s) (t : Task) (w : Worker) (s' : State) (run : Runs p m s t w s') where
-  mine : is_task_of w (progress s t) ≡ true
+  pub mine : is_task_of w (progress s t) ≡ true
   mine = ap (is_task_of w) run.claimed ∙ ap (λ b. b || false) (same_worker-refl w)
 
   -- another task's cells aren't written
-  run-spares : (u : Task) (v : Worker) (c : Cell) → u ≢ t → is_task_of v (progress s u) ≡ true → has_cell (cells_of p u v) c ≡ true → has_cell (written_cells p t w) c ≡ false
+  pub run-spares : (u : Task) (v : Worker) (c : Cell) → u ≢ t → is_task_of v (progress s u) ≡ true → has_cell (cells_of p u v) c ≡ true → has_cell (written_cells p t w) c ≡ false
   run-spares u v c d h has = not_true (has_cell (written_cells p t w) c) (separated p m names deps s state sound kept u t v w c d h mine has)
 
   run-running : (u : Task) (v : Worker) (c : Cell) → progress s' u ≡ Running v → IsTrue (has_cell (cells_of p u v) c) → IsTrue (is_valid (replica s' c (AtNode (node_of m v))))
@@ -164,7 +164,7 @@ module _ (p : Program) (m : Machine) (names : NamesCells p) (deps : HasDependenc
   }
 
   -- what comes after a run came before, and isn't written
-  run-coming : (v : Worker) (c : Cell) (q : Place) → is_coming_by v (replica s' c q) ≡ true → (has_cell (written_cells p t w) c ≡ false) × (is_coming_by v (replica s c q) ≡ true)
+  pub run-coming : (v : Worker) (c : Cell) (q : Place) → is_coming_by v (replica s' c q) ≡ true → (has_cell (written_cells p t w) c ≡ false) × (is_coming_by v (replica s c q) ≡ true)
   run-coming v c q h = by_cases (has_cell (written_cells p t w) c) refl
     where
       by_cases : (b : Bool) → has_cell (written_cells p t w) c ≡ b → (has_cell (written_cells p t w) c ≡ false) × (is_coming_by v (replica s c q) ≡ true)
@@ -198,7 +198,7 @@ module _ (p : Program) (m : Machine) (names : NamesCells p) (deps : HasDependenc
           same_claim x e = cc
 
   -- a cell that moves isn't written
-  run-unmoved : (v : Worker) (x : Transfer) → transfer s v ≡ Some x → has_cell (written_cells p t w) x.cell ≡ false
+  pub run-unmoved : (v : Worker) (x : Transfer) → transfer s v ≡ Some x → has_cell (written_cells p t w) x.cell ≡ false
   run-unmoved v x h = not_true (has_cell (written_cells p t w) x.cell) (λ written.
       (let still = list_all-has (λ c. not (is_moving m s c)) (written_cells p t w) x.cell run.unmoved written in
       let inside : v.0 < m.workers = omega (arith, transfer-inside s v x h, state.rows.workers) in
@@ -206,7 +206,7 @@ module _ (p : Program) (m : Machine) (names : NamesCells p) (deps : HasDependenc
       let moves_it = list_any-worker (λ k. moves s k x.cell) m v inside is_this in
       false≢true (sym (ap not moves_it) ∙ still)))
 
-  run-transfer : (v : Worker) → transfer s' v ≡ transfer s v
+  pub run-transfer : (v : Worker) → transfer s' v ≡ transfer s v
   run-transfer v = ap (λ (row : WorkerState). row.transfer) (run-worker p m s t w s' run sound v)
 
   pub Runs-keeps_transfers : TransfersAreSound m s'
@@ -245,13 +245,13 @@ module _ (p : Program) (m : Machine) (s : State) (t : Task) (w : Worker) (s' : S
       by_cases q n false h = h
 
 module _ (p : Program) (m : Machine) (names : NamesCells p) (deps : HasDependencies p) (s : State) (state : IsStateOf p m s) (writers : WritersOwn p m s) (cells : TasksHaveCells p m s) (pinned : PinsHold p m s) (moving : TransfersAreSound m s) (sound : WorkersAreSound p m s) (kept : OrderIsKept p s) (t : Task) (w : Worker) (s' : State) (ended : Ends p m s t w s') where
-  ends-advance : Advances s s' t (Running w) (Done w)
+  pub ends-advance : Advances s s' t (Running w) (Done w)
   ends-advance = Ends-advances p m s t w s' ended
 
   runs_here : is_task_of w (progress s t) ≡ true
   runs_here = ap (is_task_of w) ended.running ∙ same_worker-refl w
 
-  end-spares : (u : Task) (v : Worker) (c : Cell) → u ≢ t → is_task_of v (progress s u) ≡ true → has_cell (cells_of p u v) c ≡ true → has_cell (written_cells p t w) c ≡ false
+  pub end-spares : (u : Task) (v : Worker) (c : Cell) → u ≢ t → is_task_of v (progress s u) ≡ true → has_cell (cells_of p u v) c ≡ true → has_cell (written_cells p t w) c ≡ false
   end-spares u v c d h has = not_true (has_cell (written_cells p t w) c) (separated p m names deps s state sound kept u t v w c d h runs_here has)
 
   -- a worker with another task isn't the one that ends
@@ -319,12 +319,12 @@ module _ (p : Program) (m : Machine) (names : NamesCells p) (deps : HasDependenc
       end-same v u e h = sym (same_worker-is w v (sym (ap (is_task_of v) ended.running) ∙ ap (λ (k : Task). is_task_of v (progress s k)) (sym e) ∙ h))
 
   -- a cell that moves isn't one of the running task's written cells
-  end-unmoved : (v : Worker) (x : Transfer) → transfer s v ≡ Some x → has_cell (written_cells p t w) x.cell ≡ false
+  pub end-unmoved : (v : Worker) (x : Transfer) → transfer s v ≡ Some x → has_cell (written_cells p t w) x.cell ≡ false
   end-unmoved v x h = not_true (has_cell (written_cells p t w) x.cell) (λ written.
       (let is_this : moves s v x.cell ≡ true = ap (λ (o : Option Transfer). elim o as (λ _. Bool) [ None ↦ false | Some y ↦ same_cell y.cell x.cell ]) h ∙ (Decides-eqb x.cell.0 x.cell.0).1 refl in
       false≢true (sym ((writers.owned t w x.cell ended.running written).unmoved v) ∙ is_this)))
 
-  ends-transfer : (v : Worker) → transfer s' v ≡ transfer s v
+  pub ends-transfer : (v : Worker) → transfer s' v ≡ transfer s v
   ends-transfer v = end-transfer p m s t w s' state.rows ended sound v
 
   pub Ends-keeps_transfers : TransfersAreSound m s'

@@ -3,7 +3,6 @@ use Rattle.sj_base.specs.declared.ids.Task.{Task}
 use Rattle.sj_base.specs.declared.ids.Worker.{Worker}
 use Rattle.sj_base.specs.declared.program.Program.{Program}
 use Rattle.sj_base.specs.declared.program.Machine.{Machine}
-use Rattle.sj_deps.specs.Conflict.{HasDependencies}
 use Rattle.sj_core.specs.Machine.{State}
 use Rattle.sj_core.specs.Proper.{Proper, IsMachineFor}
 use Rattle.sj_core.specs.Coherent.{Coherent}
@@ -12,7 +11,6 @@ use Rattle.sj_core.specs.Step.{Claims, Runs, Ends}
 -- a coherent state of a proper program on a machine for it
 pub record IsSound (p : Program) (m : Machine) (s : State) : Type 0 where
   pub proper : Proper p
-  pub counted : HasDependencies p
   pub machine : IsMachineFor p m
   pub coherent : Coherent p m s
 

@@ -23,3 +23,17 @@ pub record Legal (p : Program) (m : Machine) (trace : List Event) : Type 0 where
 -- all tasks are done
 abbrev pub IsComplete : State → Type 0
 IsComplete s = IsTrue (list_all is_done s.tasks)
+
+-- each event is legal, as a fact: which states lie between isn't said
+abbrev pub IsLegal : Program → Machine → List Event → Type 0
+IsLegal p m trace = ∥ Legal p m trace ∥₁
+
+-- each event of the trace is legal, and all tasks are done in the state that it leaves
+pub record Finishes (p : Program) (m : Machine) (trace : List Event) : Type 0 where
+  pub left : State
+  pub replays : Replays p m trace left
+  pub complete : IsComplete left
+
+-- the trace is legal and runs the program to its end, as a fact
+abbrev pub IsFinished : Program → Machine → List Event → Type 0
+IsFinished p m trace = ∥ Finishes p m trace ∥₁

@@ -201,7 +201,7 @@ pub record Proper (p : Program) : Type 0 where
 
 -- ---- the machine of a program
 
--- the machine has the program's workers, at least one node, and disks that take all blocks
+-- the machine has the program's workers and at least one node
 pub record IsMachineFor (p : Program) (m : Machine) : Type 0 where
   pub workers : m.workers ≡ p.workers
   pub some_worker : 1 ≤ m.workers
@@ -209,4 +209,7 @@ pub record IsMachineFor (p : Program) (m : Machine) : Type 0 where
   pub some_node : 1 ≤ length m.nodes
   pub few_nodes : length m.nodes ≤ 16
   pub few_disks : length m.disks ≤ 16
+
+-- the machine's disks take all blocks of the program, so that what doesn't fit a node can be evicted
+pub record HasSwapFor (p : Program) (m : Machine) : Type 0 where
   pub blocks_fit : IsTrue (is_some (place p m.disks))

@@ -2,9 +2,16 @@
 
 ghost use Rattle.sj_base.specs.declared.program.Program.{Program};
 ghost use Rattle.sj_base.specs.declared.program.Machine.{Machine};
-ghost use Rattle.sj_core.specs.Coherent.{Coherent, OrderIsKept, PinsHold, TasksHaveCells, TransfersAreSound, WorkersAreSound, WritesAreCounted};
+ghost use Rattle.sj_core.specs.Coherent.{Coherent, IsStateOf, OrderIsKept, PinsHold, TasksHaveCells, TransfersAreSound, WorkersAreSound, WritesAreCounted};
 ghost use Rattle.sj_core.specs.Laws.{IsKeptByClaims, IsKeptByEnds, IsKeptByRuns};
 ghost use Rattle.sj_core.specs.Machine.{opening};
+ghost use Rattle.sj_core.specs.Proper.{Proper};
+ghost use Rattle.sj_deps.specs.Conflict.{HasDependencies};
+
+/// A proper program's dependencies can be counted: each access names a cell, and a task accesses a cell in one manner.
+pub fn dependencies()
+    ensures { (p : Program) → Proper p → HasDependencies p }
+{}
 
 /// A run begins in a coherent state.
 pub fn openings()
@@ -19,6 +26,7 @@ pub fn claims()
     ensures pins_hold { IsKeptByClaims PinsHold }
     ensures transfers_are_sound { IsKeptByClaims (λ p m s. TransfersAreSound m s) }
     ensures writes_are_counted { IsKeptByClaims (λ p m s. WritesAreCounted p s) }
+    ensures is_a_state { IsKeptByClaims IsStateOf }
 {}
 
 /// What the beginning of a kernel's run keeps.
@@ -29,6 +37,7 @@ pub fn runs()
     ensures pins_hold { IsKeptByRuns PinsHold }
     ensures transfers_are_sound { IsKeptByRuns (λ p m s. TransfersAreSound m s) }
     ensures writes_are_counted { IsKeptByRuns (λ p m s. WritesAreCounted p s) }
+    ensures is_a_state { IsKeptByRuns IsStateOf }
 {}
 
 /// What the end of a kernel's run keeps.
@@ -39,4 +48,5 @@ pub fn ends()
     ensures pins_hold { IsKeptByEnds PinsHold }
     ensures transfers_are_sound { IsKeptByEnds (λ p m s. TransfersAreSound m s) }
     ensures writes_are_counted { IsKeptByEnds (λ p m s. WritesAreCounted p s) }
+    ensures is_a_state { IsKeptByEnds IsStateOf }
 {}

@@ -1,3 +1,5 @@
+use Rattle.sj_core.proofs.Forms.{Ends-keeps_state}
+use Rattle.sj_core.proofs.Dependencies.{Proper-dependencies}
 use Rattle.sj_core.proofs.Counting.{Ends-keeps_counts}
 use Rattle.sj_core.proofs.Advancing.{Ends-keeps_order}
 use Rattle.sj_core.proofs.Holding.{Ends-keeps_cells, Ends-keeps_pins, Ends-keeps_transfers}
@@ -8,8 +10,9 @@ pub returns : goal.returns
 returns c = record {
   order_is_kept = λ p m s s' t w h ended. Ends-keeps_order p m s t w s' ended h.coherent.order;
   workers_are_sound = λ p m s s' t w h ended. Ends-keeps_workers p m s t w s' h.coherent.state.rows ended h.coherent.workers;
-  tasks_have_cells = λ p m s s' t w h ended. Ends-keeps_cells p m h.proper.cells h.counted s h.coherent.state h.coherent.writers h.coherent.cells h.coherent.pins h.coherent.transfers h.coherent.workers h.coherent.order t w s' ended;
-  pins_hold = λ p m s s' t w h ended. Ends-keeps_pins p m h.proper.cells h.counted s h.coherent.state h.coherent.writers h.coherent.cells h.coherent.pins h.coherent.transfers h.coherent.workers h.coherent.order t w s' ended;
-  transfers_are_sound = λ p m s s' t w h ended. Ends-keeps_transfers p m h.proper.cells h.counted s h.coherent.state h.coherent.writers h.coherent.cells h.coherent.pins h.coherent.transfers h.coherent.workers h.coherent.order t w s' ended;
+  tasks_have_cells = λ p m s s' t w h ended. Ends-keeps_cells p m h.proper.cells (Proper-dependencies p h.proper) s h.coherent.state h.coherent.writers h.coherent.cells h.coherent.pins h.coherent.transfers h.coherent.workers h.coherent.order t w s' ended;
+  pins_hold = λ p m s s' t w h ended. Ends-keeps_pins p m h.proper.cells (Proper-dependencies p h.proper) s h.coherent.state h.coherent.writers h.coherent.cells h.coherent.pins h.coherent.transfers h.coherent.workers h.coherent.order t w s' ended;
+  transfers_are_sound = λ p m s s' t w h ended. Ends-keeps_transfers p m h.proper.cells (Proper-dependencies p h.proper) s h.coherent.state h.coherent.writers h.coherent.cells h.coherent.pins h.coherent.transfers h.coherent.workers h.coherent.order t w s' ended;
   writes_are_counted = λ p m s s' t w h ended. Ends-keeps_counts p m s t w s' h.coherent.state h.coherent.cells ended h.coherent.counts;
+  is_a_state = λ p m s s' t w h ended. Ends-keeps_state p m s h t w s' ended;
 }

@@ -1,0 +1,256 @@
+-- Lists of cells: which cells an edited list has, how often, and the sum over a list that has each at most once.
+use Rattle.std.proofs.Common.{◌≡◌, ℕ, zero, suc, ◌+◌, ◌<◌, ◌≤◌, Bool, true, false, not, ◌&&◌, ◌||◌, cond, List, [], ◌∷◌, ◌++◌, map, length, refl, sym, ap, ◌∙◌, inl, inr, arith}
+use Rattle.std.specs.Prelude.{fold, sum_by, count_by, if◌then◌else◌}
+use Rattle.std.specs.List.{filter, range_with_len}
+use Rattle.std.proofs.lemmas.Bool.{cases_eq, false≢true}
+use Rattle.std.proofs.lemmas.Bool.Decides.{Decides-eqb}
+use Rattle.std.proofs.lemmas.List.Sums.{sum_by-cons, sum_by-append}
+use Rattle.sj_base.specs.declared.ids.Cell.{Cell}
+use Rattle.sj_base.specs.declared.program.Program.{Program}
+use Rattle.sj_core.specs.Program.{same_cell, has_cell, distinct, cells_of_program}
+use Rattle.sj_core.specs.Step.{to_front, without}
+use Rattle.sj_core.proofs.Reading.{same_cell-is}
+use Rattle.sj_core.proofs.Holding.{not_true}
+use Rattle.sj_core.proofs.Claiming.{has_cell-filter, filter-has_cell, has_cell-distinct}
+use Rattle.sj_core.proofs.Sums.{tally}
+
+-- ---- tests
+
+-- two tests that imply each other are one
+pub same_test : (a b : Bool) → (a ≡ true → b ≡ true) → (b ≡ true → a ≡ true) → a ≡ b
+same_test true b f g = sym (f refl)
+same_test false true f g = g refl
+same_test false false f g = refl
+
+pub same_cell-refl : (c : Cell) → same_cell c c ≡ true
+same_cell-refl c = (Decides-eqb c.0 c.0).1 refl
+
+pub same_cell-from : (c d : Cell) → c ≡ d → same_cell c d ≡ true
+same_cell-from c d e = (Decides-eqb c.0 d.0).1 (ap (λ (k : Cell). k.0) e)
+
+pub same_cell-sym : (c d : Cell) → same_cell c d ≡ same_cell d c
+same_cell-sym c d = same_test (same_cell c d) (same_cell d c) (λ h. same_cell-from d c (sym (same_cell-is c d h))) (λ h. same_cell-from c d (sym (same_cell-is d c h)))
+
+-- ---- which cells a list has
+
+and_both : (a b : Bool) → a ≡ true → b ≡ true → (a && b) ≡ true
+and_both a b e f = ap (λ x. x && b) e ∙ f
+
+and_left : (a b : Bool) → (a && b) ≡ true → a ≡ true
+and_left true b h = refl
+and_left false b h = h
+
+and_right : (a b : Bool) → (a && b) ≡ true → b ≡ true
+and_right true b h = h
+and_right false b h = absurd (false≢true h)
+
+pub has_cell-filter_is : (f : Cell → Bool) (xs : List Cell) (c : Cell) → has_cell (filter f xs) c ≡ (f c && has_cell xs c)
+has_cell-filter_is f xs c =
+    same_test (has_cell (filter f xs) c) (f c && has_cell xs c)
+    (λ h. let both = has_cell-filter f xs c h in and_both (f c) (has_cell xs c) both.0 both.1)
+    (λ h. filter-has_cell f xs c (and_left (f c) (has_cell xs c) h) (and_right (f c) (has_cell xs c) h))
+
+pub has_cell-to_front : (xs : List Cell) (d c : Cell) → has_cell (to_front xs d) c ≡ (same_cell d c || has_cell xs c)
+has_cell-to_front xs d c = by_cases (same_cell d c) refl
+  where
+    by_cases : (b : Bool) → same_cell d c ≡ b → (same_cell d c || has_cell (filter (λ e. not (same_cell e d)) xs) c) ≡ (same_cell d c || has_cell xs c)
+    by_cases true e = ap (λ b. b || has_cell (filter (λ e. not (same_cell e d)) xs) c) e ∙ sym (ap (λ b. b || has_cell xs c) e)
+    by_cases false e = ap (λ b. same_cell d c || b) (has_cell-filter_is (λ e. not (same_cell e d)) xs c ∙ ap (λ b. not b && has_cell xs c) (same_cell-sym c d ∙ e))
+
+-- the cells of a list, brought to the front one after another
+pub has_cell-fronted : (cs xs : List Cell) (c : Cell) → has_cell (fold to_front xs cs) c ≡ (has_cell cs c || has_cell xs c)
+has_cell-fronted [] xs c = refl
+has_cell-fronted (d ∷ cs) xs c = has_cell-fronted cs (to_front xs d) c ∙ ap (λ b. has_cell cs c || b) (has_cell-to_front xs d c) ∙ or_swap (has_cell cs c) (same_cell d c) (has_cell xs c)
+  where
+    or_swap : (x y z : Bool) → (x || (y || z)) ≡ ((y || x) || z)
+    or_swap true true z = refl
+    or_swap true false z = refl
+    or_swap false true z = refl
+    or_swap false false z = refl
+
+pub has_cell-without : (gone xs : List Cell) (c : Cell) → has_cell (without gone xs) c ≡ (not (has_cell gone c) && has_cell xs c)
+has_cell-without gone xs c = has_cell-filter_is (λ d. not (has_cell gone d)) xs c
+
+-- ---- how often a list has a cell
+
+abbrev pub times : List Cell → Cell → ℕ
+times xs c = count_by (λ d. same_cell d c) xs
+
+pub times-cons : (x : Cell) (xs : List Cell) (c : Cell) → times (x ∷ xs) c ≡ tally (same_cell x c) + times xs c
+times-cons x xs c = sum_by-cons (λ d. tally (same_cell d c)) x xs
+
+pub times-append : (xs ys : List Cell) (c : Cell) → times (xs ++ ys) c ≡ times xs c + times ys c
+times-append xs ys c = sum_by-append (λ d. tally (same_cell d c)) xs ys
+
+pub times-filter : (f : Cell → Bool) (xs : List Cell) (c : Cell) → times (filter f xs) c ≤ times xs c
+times-filter f [] c = omega arith
+times-filter f (x ∷ xs) c = by_cases (f x) (times-filter f xs c)
+  where
+    by_cases : (b : Bool) → times (filter f xs) c ≤ times xs c → times (cond b (x ∷ filter f xs) (filter f xs)) c ≤ times (x ∷ xs) c
+    by_cases true rest = let a = times-cons x (filter f xs) c in let b = times-cons x xs c in omega arith
+    by_cases false rest = let b = times-cons x xs c in omega arith
+
+pub times-none : (xs : List Cell) (c : Cell) → has_cell xs c ≡ false → times xs c ≡ 0
+times-none [] c h = refl
+times-none (x ∷ xs) c h = by_cases (same_cell x c) refl h (times-none xs c)
+  where
+    by_cases : (b : Bool) → same_cell x c ≡ b → (b || has_cell xs c) ≡ false → (has_cell xs c ≡ false → times xs c ≡ 0) → times (x ∷ xs) c ≡ 0
+    by_cases true e h rest = absurd (false≢true (sym h))
+    by_cases false e h rest = let a = times-cons x xs c in let zero_here : tally (same_cell x c) ≡ 0 = ap tally e in let none = rest h in omega arith
+
+pub times-has : (xs : List Cell) (c : Cell) → has_cell xs c ≡ true → 1 ≤ times xs c
+times-has [] c h = absurd (false≢true h)
+times-has (x ∷ xs) c h = by_cases (same_cell x c) refl h (times-has xs c)
+  where
+    by_cases : (b : Bool) → same_cell x c ≡ b → (b || has_cell xs c) ≡ true → (has_cell xs c ≡ true → 1 ≤ times xs c) → 1 ≤ times (x ∷ xs) c
+    by_cases true e h rest = let a = times-cons x xs c in let one : tally (same_cell x c) ≡ 1 = ap tally e in omega arith
+    by_cases false e h rest = let a = times-cons x xs c in let more = rest h in omega arith
+
+pub times-to_front : (xs : List Cell) (d c : Cell) → times xs c ≤ 1 → times (to_front xs d) c ≤ 1
+times-to_front xs d c once = by_cases (same_cell d c) refl
+  where
+    by_cases : (b : Bool) → same_cell d c ≡ b → times (to_front xs d) c ≤ 1
+    by_cases true e =
+        let rest : List Cell = filter (λ k. not (same_cell k d)) xs in
+        let none = times-none rest c (has_cell-filter_is (λ k. not (same_cell k d)) xs c ∙ ap (λ b. not b && has_cell xs c) (same_cell-sym c d ∙ e)) in
+        let a = times-cons d rest c in
+        let one : tally (same_cell d c) ≡ 1 = ap tally e in
+        omega arith
+    by_cases false e =
+        let rest : List Cell = filter (λ k. not (same_cell k d)) xs in
+        let a = times-cons d rest c in
+        let fewer = times-filter (λ k. not (same_cell k d)) xs c in
+        let zero_here : tally (same_cell d c) ≡ 0 = ap tally e in
+        omega arith
+
+pub times-fronted : (cs xs : List Cell) (c : Cell) → times xs c ≤ 1 → times (fold to_front xs cs) c ≤ 1
+times-fronted [] xs c once = once
+times-fronted (d ∷ cs) xs c once = times-fronted cs (to_front xs d) c (times-to_front xs d c once)
+
+pub times-distinct : (xs : List Cell) (c : Cell) → times (distinct xs) c ≤ 1
+times-distinct [] c = omega arith
+times-distinct (x ∷ xs) c = by_cases (has_cell xs x) refl (times-distinct xs c)
+  where
+    first : (b : Bool) → same_cell x c ≡ b → has_cell xs x ≡ false → times (distinct xs) c ≤ 1 → times (x ∷ distinct xs) c ≤ 1
+    first true e new rest =
+        let none = times-none (distinct xs) c (has_cell-distinct xs c ∙ ap (has_cell xs) (sym (same_cell-is x c e)) ∙ new) in
+        let a = times-cons x (distinct xs) c in
+        let one : tally (same_cell x c) ≡ 1 = ap tally e in
+        omega arith
+    first false e new rest =
+        let a = times-cons x (distinct xs) c in
+        let zero_here : tally (same_cell x c) ≡ 0 = ap tally e in
+        omega arith
+
+    by_cases : (b : Bool) → has_cell xs x ≡ b → times (distinct xs) c ≤ 1 → times (if b then distinct xs else x ∷ distinct xs) c ≤ 1
+    by_cases true again rest = rest
+    by_cases false new rest = first (same_cell x c) refl new rest
+
+-- ---- a program has each of its cells once
+
+abbrev number : ℕ → Cell
+number n = record { 0 = n }
+
+times-before : (a n : ℕ) (c : Cell) → c.0 < a → times (map number (range_with_len a n)) c ≡ 0
+times-before a zero c h = refl
+times-before a (suc n) c h =
+    let other : same_cell (number a) c ≡ false = not_true (same_cell (number a) c) (λ e. (let k : a ≡ c.0 = ap (λ (d : Cell). d.0) (same_cell-is (number a) c e) in omega arith)) in
+    let first = times-cons (number a) (map number (range_with_len (a + 1) n)) c in
+    let here : tally (same_cell (number a) c) ≡ 0 = ap tally other in
+    let later = times-before (a + 1) n c (omega arith) in
+    omega arith
+
+times-range : (a n : ℕ) (c : Cell) → a ≤ c.0 → c.0 < a + n → times (map number (range_with_len a n)) c ≡ 1
+times-range a zero c low high = absurd (omega arith)
+times-range a (suc n) c low high =
+    let first = times-cons (number a) (map number (range_with_len (a + 1) n)) c in
+    elim (cases_eq a c.0) [
+      | inl e ↦
+          let here : tally (same_cell (number a) c) ≡ 1 = ap tally ((Decides-eqb a c.0).1 e) in
+          let later = times-before (a + 1) n c (omega arith) in
+          omega arith
+      | inr d ↦
+          let other : tally (same_cell (number a) c) ≡ 0 = ap tally (not_true (same_cell (number a) c) (λ e. d (ap (λ (k : Cell). k.0) (same_cell-is (number a) c e)))) in
+          let later = times-range (a + 1) n c (omega arith) (omega arith) in
+          omega arith
+    ]
+
+pub times-program : (p : Program) (c : Cell) → c.0 < length p.cells → times (cells_of_program p) c ≡ 1
+times-program p c h = times-range 0 (length p.cells) c (omega arith) (omega arith)
+
+-- ---- the sum over a list that has each cell at most once
+
+abbrev pub share : (Cell → ℕ) → (Cell → Bool) → Cell → ℕ
+share f test c = cond (test c) (f c) 0
+
+share-nowhere : (f : Cell → ℕ) (all : List Cell) (x : Cell) → times all x ≡ 0 → sum_by (share f (same_cell x)) all ≡ 0
+share-nowhere f [] x h = refl
+share-nowhere f (y ∷ all) x h = by_cases (same_cell y x) refl (share-nowhere f all x)
+  where
+    by_cases : (b : Bool) → same_cell y x ≡ b → (times all x ≡ 0 → sum_by (share f (same_cell x)) all ≡ 0) → sum_by (share f (same_cell x)) (y ∷ all) ≡ 0
+    by_cases true e rest = absurd (let a = times-cons y all x in let one : tally (same_cell y x) ≡ 1 = ap tally e in omega arith)
+    by_cases false e rest =
+        let a = times-cons y all x in
+        let zero_here : tally (same_cell y x) ≡ 0 = ap tally e in
+        let b = sum_by-cons (share f (same_cell x)) y all in
+        let c : share f (same_cell x) y ≡ 0 = ap (λ b. cond b (f y) 0) (same_cell-sym x y ∙ e) in
+        let later = rest (omega arith) in
+        omega arith
+
+share-of_one : (f : Cell → ℕ) (all : List Cell) (x : Cell) → times all x ≡ 1 → sum_by (share f (same_cell x)) all ≡ f x
+share-of_one f [] x h = absurd (omega arith)
+share-of_one f (y ∷ all) x h = by_cases (same_cell y x) refl (share-nowhere f all x) (share-of_one f all x)
+  where
+    by_cases : (b : Bool) → same_cell y x ≡ b → (times all x ≡ 0 → sum_by (share f (same_cell x)) all ≡ 0) → (times all x ≡ 1 → sum_by (share f (same_cell x)) all ≡ f x) → sum_by (share f (same_cell x)) (y ∷ all) ≡ f x
+    by_cases true e none one_later =
+        let a = times-cons y all x in
+        let one : tally (same_cell y x) ≡ 1 = ap tally e in
+        let b = sum_by-cons (share f (same_cell x)) y all in
+        let c : share f (same_cell x) y ≡ f x = ap (λ b. cond b (f y) 0) (same_cell-sym x y ∙ e) ∙ ap f (same_cell-is y x e) in
+        let rest = none (omega arith) in
+        omega arith
+    by_cases false e none one_later =
+        let a = times-cons y all x in
+        let zero_here : tally (same_cell y x) ≡ 0 = ap tally e in
+        let b = sum_by-cons (share f (same_cell x)) y all in
+        let c : share f (same_cell x) y ≡ 0 = ap (λ b. cond b (f y) 0) (same_cell-sym x y ∙ e) in
+        let rest = one_later (omega arith) in
+        omega arith
+
+-- the sum over a list that has each cell at most once, as a sum over a list that has each of its cells exactly once
+pub sum-once : (f : Cell → ℕ) (all xs : List Cell) → ((c : Cell) → has_cell xs c ≡ true → times all c ≡ 1) → ((c : Cell) → times xs c ≤ 1) → sum_by f xs ≡ sum_by (share f (has_cell xs)) all
+sum-once f all [] inside once = sym (nothing all)
+  where
+    nothing : (ys : List Cell) → sum_by (share f (has_cell [])) ys ≡ 0
+    nothing [] = refl
+    nothing (y ∷ ys) = let a = sum_by-cons (share f (has_cell [])) y ys in let rest = nothing ys in omega arith
+sum-once f all (x ∷ xs) inside once =
+    let first = sum_by-cons f x xs in
+    let rest = sum-once f all xs (λ c h. inside c (or_right (same_cell x c) (has_cell xs c) h)) (λ c. (let o = once c in let t = times-cons x xs c in omega arith)) in
+    let here = share-of_one f all x (inside x (ap (λ b. b || has_cell xs x) (same_cell-refl x))) in
+    let split = sum-plus (share f (has_cell (x ∷ xs))) (share f (same_cell x)) (share f (has_cell xs)) apart all in
+    omega arith
+  where
+    or_right : (a b : Bool) → b ≡ true → (a || b) ≡ true
+    or_right true b h = refl
+    or_right false b h = h
+
+    sum-plus : (h g k : Cell → ℕ) → ((c : Cell) → h c ≡ g c + k c) → (ys : List Cell) → sum_by h ys ≡ sum_by g ys + sum_by k ys
+    sum-plus h g k same [] = refl
+    sum-plus h g k same (y ∷ ys) =
+        let a = sum_by-cons h y ys in
+        let b = sum_by-cons g y ys in
+        let c = sum_by-cons k y ys in
+        let here = same y in
+        let later = sum-plus h g k same ys in
+        omega arith
+
+    new : has_cell xs x ≡ false
+    new = not_true (has_cell xs x) (λ h. (let o = once x in let t = times-cons x xs x in let one : tally (same_cell x x) ≡ 1 = ap tally (same_cell-refl x) in let more = times-has xs x h in omega arith))
+
+    apart : (c : Cell) → share f (has_cell (x ∷ xs)) c ≡ share f (same_cell x) c + share f (has_cell xs) c
+    apart c = by_cases (same_cell x c) refl
+      where
+        by_cases : (b : Bool) → same_cell x c ≡ b → cond (b || has_cell xs c) (f c) 0 ≡ cond b (f c) 0 + share f (has_cell xs) c
+        by_cases true e = let none : share f (has_cell xs) c ≡ 0 = ap (λ b. cond b (f c) 0) (ap (has_cell xs) (sym (same_cell-is x c e)) ∙ new) in omega arith
+        by_cases false e = omega arith
