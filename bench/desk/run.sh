@@ -5,19 +5,9 @@
 # samples each. Prints the nanoseconds of a round, best and median, and how many times C's time ours is.
 set -eu
 here=$(cd "$(dirname "$0")" && pwd)
-root=$(cd "$here/../.." && pwd)
-work=$(mktemp -d)
-trap 'rm -rf "$work"' EXIT
-mkdir "$work/crates"
-cp "$root/HANDLES" "$work/"
-for crate in sj_base sj_desk; do
-    mkdir "$work/crates/$crate"
-    for part in src specs proofs; do
-        if [ -d "$root/crates/$crate/$part" ]; then cp -r "$root/crates/$crate/$part" "$work/crates/$crate/"; fi
-    done
-done
-cd "$work"
-printf 'sj_base:\nsj_desk may_wait=2 tests_may=Threads+Wait: sj_base atomic_table\ndesk_speed: sj_base sj_desk\n' > crates.txt
+. "$here/../scratch.sh"
+scratch sj_base sj_desk
+printf 'desk_speed: sj_base sj_desk\n' >> crates.txt
 mkdir -p crates/desk_speed/src crates/desk_speed/proofs/turns
 cat > crates/desk_speed/src/main.rt <<'RT'
 #![tactic(auto)]
@@ -141,7 +131,7 @@ invariant-loop g l = record {
   number : l.seat.number ≡ l.fn.seat.number;
 }
 ANTT
-(cd crates/desk_speed && rt fmt > log.txt && rt run > first.txt 2>> log.txt) || { tail -40 crates/desk_speed/log.txt; exit 1; }
+built desk_speed first.txt
 gcc -O3 -pthread -o mutex "$here/mutex.c"
 for _ in 1 2 3; do
     ./mutex 0 1000000 5 >> c.txt

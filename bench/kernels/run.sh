@@ -6,18 +6,8 @@
 # x86-64-v2, so a second build of C, with -march=x86-64-v2, is timed too.
 set -eu
 here=$(cd "$(dirname "$0")" && pwd)
-root=$(cd "$here/../.." && pwd)
-work=$(mktemp -d)
-trap 'rm -rf "$work"' EXIT
-mkdir "$work/crates"
-for crate in sj_base sj_codelet sj_kernels sj_minplus; do
-    mkdir "$work/crates/$crate"
-    for part in src specs proofs; do
-        if [ -d "$root/crates/$crate/$part" ]; then cp -r "$root/crates/$crate/$part" "$work/crates/$crate/"; fi
-    done
-done
-cd "$work"
-grep -E '^sj_(base|codelet|kernels|minplus)\b' "$root/crates.txt" > crates.txt
+. "$here/../scratch.sh"
+scratch sj_base sj_codelet sj_kernels sj_minplus
 printf 'kernel_speed: sj_base sj_codelet sj_kernels sj_minplus\n' >> crates.txt
 mkdir -p crates/kernel_speed/src
 cat > crates/kernel_speed/src/main.rt <<'RT'
@@ -198,7 +188,7 @@ fn main(rt: HostRuntime) -> io::Result<()> {
     Ok(())
 }
 RT
-(cd crates/kernel_speed && rt fmt > log.txt && rt run > first.txt 2>> log.txt) || { tail -40 crates/kernel_speed/log.txt; exit 1; }
+built kernel_speed first.txt
 gcc -O3 -o loops "$here/loops.c"
 gcc -O3 -march=x86-64-v2 -o loops_v2 "$here/loops.c"
 core=$(($(nproc) - 1))

@@ -4,16 +4,9 @@
 # that the gate doesn't run it. Prints the least and the median milliseconds of ten rounds of each.
 set -eu
 here=$(cd "$(dirname "$0")" && pwd)
-root=$(cd "$here/../.." && pwd)
-work=$(mktemp -d)
-trap 'rm -rf "$work"' EXIT
-mkdir "$work/crates"
-for crate in sj_base sj_plan; do
-    mkdir "$work/crates/$crate"
-    for part in src specs proofs; do cp -r "$root/crates/$crate/$part" "$work/crates/$crate/"; done
-done
-cd "$work"
-printf 'sj_base:\nsj_plan: sj_base\nplan_speed: sj_base sj_plan\n' > crates.txt
+. "$here/../scratch.sh"
+scratch sj_base sj_plan
+printf 'plan_speed: sj_base sj_plan\n' >> crates.txt
 mkdir -p crates/plan_speed/src
 cat > crates/plan_speed/src/main.rt <<'RT'
 #![tactic(auto)]
@@ -63,7 +56,7 @@ fn main(rt: HostRuntime) -> io::Result<()> {
     Ok(())
 }
 RT
-(cd crates/plan_speed && rt fmt >/dev/null && rt run > "$work/rattle.txt" 2> "$work/log.txt") || { tail -40 "$work/log.txt"; exit 1; }
+built plan_speed "$work/rattle.txt"
 cc -O2 -o rows "$here/rows.c"
 ./rows > c.txt
 python3 - "$work/rattle.txt" "$work/c.txt" <<'PY'

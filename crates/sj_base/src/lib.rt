@@ -8,5 +8,7 @@ pub mod memory;
 pub mod mode;
 pub mod program;
 pub mod sequence;
+#[cfg(test)]
+mod tests;
 pub mod tile;
 pub mod trace;

@@ -7,4 +7,6 @@ pub mod frame;
 pub mod kernel;
 pub mod set;
 pub mod shape;
+#[cfg(test)]
+mod tests;
 pub mod window;

@@ -430,7 +430,7 @@ module _ (p : Program) (m : Machine) (s : State) (t : Task) (w : Worker) (s' : S
         | inr d ↦ ap (λ (row : WorkerState). row.victims) (end-other_worker v d)
       ]
 
-  end-own_scratch : scratch s' w ≡ 0
+  pub end-own_scratch : scratch s' w ≡ 0
   end-own_scratch = elim end-own_worker [ inl own ↦ ap (λ (row : WorkerState). row.scratch) own | inr none ↦ ap (λ (row : WorkerState). row.scratch) none.1 ]
 
   running_task : is_task_of w (progress s t) ≡ true

@@ -2,8 +2,8 @@
 
 ghost use Rattle.sj_base.specs.declared.program.Program.{Program};
 ghost use Rattle.sj_base.specs.declared.program.Machine.{Machine};
-ghost use Rattle.sj_core.specs.Coherent.{Coherent, IsStateOf, OrderIsKept, PinsHold, TasksHaveCells, TransfersAreSound, WorkersAreSound, WritesAreCounted};
-ghost use Rattle.sj_core.specs.Laws.{IsKeptByClaims, IsKeptByEnds, IsKeptByRuns};
+ghost use Rattle.sj_core.specs.Coherent.{Coherent, IsStateOf, NodesSuffice, OrderIsKept, PinsHold, TasksHaveCells, TransfersAreSound, WorkersAreSound, WritesAreCounted};
+ghost use Rattle.sj_core.specs.Laws.{CompleteHoldsFinal, DeliversGiven, FindsEarlierTasks, IsKeptByClaims, IsKeptByEnds, IsKeptByPlainEnds, IsKeptByRuns, TasksKeepCoherence};
 ghost use Rattle.sj_core.specs.Machine.{opening};
 ghost use Rattle.sj_core.specs.Proper.{Proper};
 ghost use Rattle.sj_deps.specs.Conflict.{HasDependencies};
@@ -18,29 +18,17 @@ pub fn openings()
     ensures { (p : Program) (m : Machine) → Coherent p m (opening p m) }
 {}
 
-/// What a claim keeps: conflicting tasks in order, each worker's task, replicas and transfers.
+/// A claim leaves a coherent state.
 pub fn claims()
-    ensures order_is_kept { IsKeptByClaims (λ p m s. OrderIsKept p s) }
-    ensures workers_are_sound { IsKeptByClaims WorkersAreSound }
-    ensures tasks_have_cells { IsKeptByClaims TasksHaveCells }
-    ensures pins_hold { IsKeptByClaims PinsHold }
-    ensures transfers_are_sound { IsKeptByClaims (λ p m s. TransfersAreSound m s) }
-    ensures writes_are_counted { IsKeptByClaims (λ p m s. WritesAreCounted p s) }
-    ensures is_a_state { IsKeptByClaims IsStateOf }
+    ensures { IsKeptByClaims Coherent }
 {}
 
-/// What the beginning of a kernel's run keeps.
+/// The beginning of a kernel's run leaves a coherent state.
 pub fn runs()
-    ensures order_is_kept { IsKeptByRuns (λ p m s. OrderIsKept p s) }
-    ensures workers_are_sound { IsKeptByRuns WorkersAreSound }
-    ensures tasks_have_cells { IsKeptByRuns TasksHaveCells }
-    ensures pins_hold { IsKeptByRuns PinsHold }
-    ensures transfers_are_sound { IsKeptByRuns (λ p m s. TransfersAreSound m s) }
-    ensures writes_are_counted { IsKeptByRuns (λ p m s. WritesAreCounted p s) }
-    ensures is_a_state { IsKeptByRuns IsStateOf }
+    ensures { IsKeptByRuns Coherent }
 {}
 
-/// What the end of a kernel's run keeps.
+/// What the end of a kernel's run keeps of every program; of one without REDUX and COMMUTE it leaves a coherent state.
 pub fn ends()
     ensures order_is_kept { IsKeptByEnds (λ p m s. OrderIsKept p s) }
     ensures workers_are_sound { IsKeptByEnds WorkersAreSound }
@@ -49,4 +37,22 @@ pub fn ends()
     ensures transfers_are_sound { IsKeptByEnds (λ p m s. TransfersAreSound m s) }
     ensures writes_are_counted { IsKeptByEnds (λ p m s. WritesAreCounted p s) }
     ensures is_a_state { IsKeptByEnds IsStateOf }
+    ensures nodes_suffice { IsKeptByEnds NodesSuffice }
+    ensures coherent { IsKeptByPlainEnds Coherent }
+{}
+
+/// What a task finds on its worker's node: what all tasks before it, in submission order, have left in its cells.
+pub fn deliveries()
+    ensures finds_earlier_tasks { FindsEarlierTasks }
+    ensures delivers_given { DeliversGiven }
+{}
+
+/// What the cells hold where all tasks are done: what the tasks leave one after another in submission order.
+pub fn completions()
+    ensures { CompleteHoldsFinal }
+{}
+
+/// What each legal trace of claims, runs and ends keeps: coherence, after each event.
+pub fn traces()
+    ensures { TasksKeepCoherence }
 {}

@@ -3,6 +3,7 @@ ghost use Rattle.sj_desk.specs.Seats.{AreInPlace, IsWaiting};
 
 use crate::{Busy, Desk, DeskSeat, Keyed};
 use std::alloc::Global;
+use std::process::Abort;
 use std::sync::Wait;
 use std::test::Fail;
 use std::thread;
@@ -187,6 +188,45 @@ fn a_second_seat_is_refused_until_the_first_leaves(rt: HostRuntime) -> Result<()
         panic!(rt; "the turn wasn't given back")
     };
     assert_eq!(rt; journal.entries.as_slice(), [(0, 5)].as_slice());
+    Ok(())
+}
+
+// One turn, in which the seat finds these entries and adds one.
+fn find_and_note<R: Wait + Abort>(
+    rt: &R,
+    desk: &Desk<Journal>,
+    seat: &mut DeskSeat<Journal>,
+    wanted: &[(u8, u32)],
+    entry: u32,
+)
+    requires { IsWaiting desk.now seat.old }
+    ensures { IsWaiting desk.now seat.new }
+{
+    let mut journal = desk.enter(rt, seat);
+    assert_eq!(rt; journal.entries.as_slice(), wanted);
+    journal.add(seat.number(), entry);
+    desk.leave(seat, journal);
+}
+
+#[test]
+fn each_turn_finds_what_both_seats_left(rt: HostRuntime) -> Result<(), Fail> {
+    let Ok((desk, seats)) = opened(rt.alloc(), 2) else {
+        panic!(rt; "no memory")
+    };
+    let Some((mut first, mut second)) = two_of(&desk, seats) else {
+        panic!(rt; "fewer than two seats")
+    };
+    find_and_note(&rt, &desk, &mut first, &[], 5);
+    find_and_note(&rt, &desk, &mut second, &[(0, 5)], 6);
+    find_and_note(&rt, &desk, &mut second, &[(0, 5), (1, 6)], 7);
+    find_and_note(&rt, &desk, &mut first, &[(0, 5), (1, 6), (1, 7)], 8);
+    find_and_note(
+        &rt,
+        &desk,
+        &mut second,
+        &[(0, 5), (1, 6), (1, 7), (0, 8)],
+        9,
+    );
     Ok(())
 }
 

@@ -150,6 +150,29 @@ fn the_library_runs_a_product_on_a_frame(rt: HostRuntime) -> Result<(), OutOfMem
     Ok(())
 }
 
+/// The sum of two single elements, as the library runs a codelet of ring arithmetic on a task's frame.
+fn sum_on_a_frame(alloc: Global, a: Tile, b: Tile) -> Result<Tile, OutOfMemory>
+    requires a { a.dims ≡ record { rows = 1; cols = 1 } }
+    requires b { b.dims ≡ record { rows = 1; cols = 1 } }
+{
+    let mut frame = Frame::with_room(alloc, 2)?;
+    frame.push_shared(Arc::new(alloc, a)?);
+    frame.push_own(b);
+    Library.run(alloc, ADD, &[], &mut frame)?;
+    Ok(frame.take_own())
+}
+
+#[test]
+fn the_library_runs_a_ring_codelet_on_a_frame(rt: HostRuntime) -> Result<(), OutOfMemory> {
+    let alloc = rt.alloc();
+    let dims = Dims { rows: 1, cols: 1 };
+    let a = Tile::of(dims, vec![in alloc; INF]?);
+    let b = Tile::of(dims, vec![in alloc; 3i64]?);
+    let b = sum_on_a_frame(alloc, a, b)?;
+    assert_eq!(rt; b.elements(), [LEAST + 2].as_slice());
+    Ok(())
+}
+
 #[test]
 fn the_library_knows_both_reductions(rt: HostRuntime) {
     assert!(rt; Library.has(Reduction::Plus) && Library.has(Reduction::Least));

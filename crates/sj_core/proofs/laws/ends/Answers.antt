@@ -1,3 +1,5 @@
+use Rattle.sj_core.proofs.Coherence.{Ends-keeps_coherence}
+use Rattle.sj_core.proofs.Bytes.{Ends-keeps_bytes}
 use Rattle.sj_core.proofs.Forms.{Ends-keeps_state}
 use Rattle.sj_core.proofs.Dependencies.{Proper-dependencies}
 use Rattle.sj_core.proofs.Counting.{Ends-keeps_counts}
@@ -15,4 +17,6 @@ returns c = record {
   transfers_are_sound = λ p m s s' t w h ended. Ends-keeps_transfers p m h.proper.cells (Proper-dependencies p h.proper) s h.coherent.state h.coherent.writers h.coherent.cells h.coherent.pins h.coherent.transfers h.coherent.workers h.coherent.order t w s' ended;
   writes_are_counted = λ p m s s' t w h ended. Ends-keeps_counts p m s t w s' h.coherent.state h.coherent.cells ended h.coherent.counts;
   is_a_state = λ p m s s' t w h ended. Ends-keeps_state p m s h t w s' ended;
+  nodes_suffice = λ p m s s' t w h ended. Ends-keeps_bytes p m s h t w s' ended;
+  coherent = Ends-keeps_coherence;
 }
