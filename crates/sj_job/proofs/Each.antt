@@ -5,7 +5,7 @@ use Rattle.std.proofs.lemmas.List.{get_or-map, length-map}
 use Rattle.sj_job.specs.Sentence.{each_some}
 
 -- the tail of a list begins with the element there
-begins : {A : Type 0} (xs : List A) (i : ℕ) (x : A) → i < length xs → get_or xs i x ≡ x → drop i xs ≡ x ∷ drop (i + 1) xs
+pub begins : {A : Type 0} (xs : List A) (i : ℕ) (x : A) → i < length xs → get_or xs i x ≡ x → drop i xs ≡ x ∷ drop (i + 1) xs
 begins xs i x lt e = let s : suc i ≡ i + 1 = omega arith in drop-cons xs i x lt ∙ ap (λ y. y ∷ drop (suc i) xs) e ∙ ap (λ k. x ∷ drop k xs) s
 
 moved : {B : Type 0} (front : List B) (y : B) (o : Option (List B)) → option_map (λ ys. front ++ ys) (option_map (λ ys. y ∷ ys) o) ≡ option_map (λ ys. (front ++ y ∷ []) ++ ys) o

@@ -2,10 +2,12 @@ pub mod Cut
 pub mod Digits
 pub mod Each
 pub mod Calls
-pub mod Valued
+pub mod Passed
 pub mod Seen
+pub mod Giving
 pub mod Progressing
 pub mod Welling
+pub mod Spelled
 pub mod Sounding
 pub mod Spelling
 pub mod Saying

@@ -1,159 +1,247 @@
 -- The reader's names go on agreeing with the state, statement by statement.
 use Rattle.std.specs.FinMap as map
-use Rattle.std.proofs.Common.{◌≡◌, ℕ, ◌+◌, Bool, true, false, List, [], ◌∷◌, refl, ap, ◌∙◌, sym, subst, Option, Some, None, option_map, is_some, cond, ℤ, map as each_of, ◌⊎◌, inl, inr, arith, ◌≤◌}
-use Rattle.std.specs.List.{list_all}
+use Rattle.std.proofs.Common.{◌≡◌, ℕ, zero, suc, ◌+◌, ◌≤◌, Bool, true, false, List, [], ◌∷◌, length, drop, refl, ap, ◌∙◌, sym, subst, Option, Some, None, option_map, is_some, cond, ◌||◌, ℤ, map as each_of, filter, replicate, arith, bytes_eq}
+use Rattle.std.specs.List.{list_all, list_any, range_with_len}
 use Rattle.std.specs.Ordering.{nat_cmp, eq_by_cmp}
 use Rattle.std.specs.Cmp.{eq_by_cmp_equiv}
 use Rattle.std.specs.Cmp.Lexicographic.{slice_cmp, nat_list_cmp_total, texts_ties, same_text}
 use Rattle.std.specs.Map.{lookup}
 use Rattle.std.specs.BTreeMap.{get, is_at, Updates}
-use Rattle.sj_base.specs.declared.tile.Dims.{Dims}
-use Rattle.sj_base.specs.Array.{Array}
+use Rattle.std.specs.BTreeSet.{Updates as Adds}
+use Rattle.sj_base.specs.Array.{Array, area}
 use Rattle.sj_job.specs.declared.job.Init.{Init}
-use Rattle.sj_job.specs.declared.job.Init.TheVariants.{Values}
+use Rattle.sj_job.specs.declared.job.Init.TheVariants.{Values, Fill, Nothing}
 use Rattle.sj_job.specs.declared.job.Register.{Register}
-use Rattle.sj_job.specs.declared.job.TaskLine.{TaskLine}
+use Rattle.sj_job.specs.declared.job.Operand.{Operand}
+use Rattle.sj_job.specs.declared.names.Known.{Known}
 use Rattle.sj_job.specs.declared.names.Names.{Names}
 use Rattle.sj_job.specs.State.{Root, State, root_of, start}
-use Rattle.sj_job.specs.Meaning.{register, registered_root, first_elements, put, put_all, run_task, written_names, operand_array, apply}
-use Rattle.sj_codelet.specs.Kernel.{out}
-use Rattle.sj_job.specs.declared.job.Act.{Act}
-use Rattle.sj_job.specs.declared.job.Act.TheVariants.{Register as Registers, Task, Print}
-use Rattle.sj_job.specs.Judge.{Known, known_of, scope_of}
-use Rattle.sj_job.specs.Names.{scope_in}
-use Rattle.sj_job.specs.Sees.{Sees}
+use Rattle.sj_job.specs.Meaning.{no_values, first_elements, registered_root, register, is_written, written_names, put, put_all, invalidate, unregister}
+use Rattle.sj_job.specs.Judge.{known_of, scope_of}
+use Rattle.sj_job.specs.Names.{known_in, ended_in, scope_in, gives_values, revalued, after_writes}
+use Rattle.sj_job.specs.Sees.{Sees, Shows}
+
+-- what a state shows the reasons of a name
+abbrev pub shown : State → List ℕ → Option Known
+shown S q = option_map known_of (root_of S q)
+
+-- each root has an element
+abbrev pub AreFilled : State → Type 0
+AreFilled S = (q : List ℕ) (r : Root) → root_of S q ≡ Some r → 1 ≤ area r.dims
+
+tied : (q name : List ℕ) → eq_by_cmp (slice_cmp nat_cmp) q name ≡ true → q ≡ name
+tied q name e = same_text q name (sym (texts_ties q name ∙ e))
+
+-- ---- which roots are valued
 
 all_some : (xs : List ℤ) → list_all is_some (each_of Some xs) ≡ true
 all_some [] = refl
 all_some (x ∷ xs) = all_some xs
 
-valued_first : (i : Init) → list_all is_some (first_elements i) ≡ true
-valued_first (Values xs) = all_some xs
+all_some_of : (f : ℕ → ℤ) (ps : List ℕ) → list_all is_some (each_of (λ p. Some (f p)) ps) ≡ true
+all_some_of f [] = refl
+all_some_of f (p ∷ ps) = all_some_of f ps
 
-abbrev known_dims : Dims → Known
-known_dims d = record { dims = d; valued = true }
+none_some : (n : ℕ) → 1 ≤ n → let none : Option ℤ = None in list_all is_some (replicate n none) ≡ false
+none_some zero h = absurd (omega (arith, h))
+none_some (suc n) h = refl
 
--- what a state shows the reasons of a name
-abbrev shown : State → List ℕ → Option Known
-shown S q = option_map known_of (root_of S q)
+valued_first : (r : Register) (i : Init) → 1 ≤ area r.dims → list_all is_some (first_elements i r.dims) ≡ gives_values i
+valued_first r (Values xs) h = all_some xs
+valued_first r (Fill a b) h = all_some_of _ (range_with_len 0 (area r.dims))
+valued_first r Nothing h = none_some (area r.dims) h
 
--- the root that a registration adds, where the look-ups agree on the name
-one_more : (b : Bool) (d : Option Dims) (o : Option Root) (r : Register) → option_map known_dims d ≡ option_map known_of o → option_map known_dims (cond b (Some r.dims) d) ≡ option_map known_of (cond b (Some (registered_root r)) o)
-one_more true d o r h = ap (λ v. let k : Known = record { dims = r.dims; valued = v } in Some k) (sym (valued_first r.init))
-one_more false d o r h = h
+-- ---- a root more
 
-pub sees_registered : (old new : Names) (n : ℕ) (S : State) (r : Register) → Sees old n S → new.statements ≡ n + 1 → new.registered ≡ old.registered + 1 → Updates (slice_cmp nat_cmp) old.roots new.roots r.name (Some r.dims) → Sees new (n + 1) (register r S)
-sees_registered old new n S r h s k u = record {
-  statements = s;
+one_more : (b : Bool) (known : Known) (k : Option Known) (new : Root) (o : Option Root) → known ≡ known_of new → k ≡ option_map known_of o → cond b (Some known) k ≡ option_map known_of (cond b (Some new) o)
+one_more true known k new o e h = ap Some e
+one_more false known k new o e h = h
+
+filled_by : (b : Bool) (new : Root) (o : Option Root) (x : Root) → 1 ≤ area new.dims → ((y : Root) → o ≡ Some y → 1 ≤ area y.dims) → cond b (Some new) o ≡ Some x → 1 ≤ area x.dims
+filled_by true new o x p h e = let same : new ≡ x = cc in subst (λ (r : Root). 1 ≤ area r.dims) same p
+filled_by false new o x p h e = h x e
+
+filled_insert : (S : State) (name : List ℕ) (new : Root) → AreFilled S → 1 ≤ area new.dims → (q : List ℕ) (x : Root) → map.get (map.insert S.roots name new) q ≡ Some x → 1 ≤ area x.dims
+filled_insert S name new h p q x e =
+    filled_by (eq_by_cmp (slice_cmp nat_cmp) q name) new (root_of S q) x p (h q) (sym (map.get-insert nat_list_cmp_total S.roots name new q) ∙ e)
+
+pub shows_registered : (old new : Names) (S : State) (r : Register) → let known : Known = record { dims = r.dims; valued = gives_values r.init } in 1 ≤ area r.dims → Shows old S → new.registered ≡ old.registered + 1 → ((q : List ℕ) → ended_in new q ≡ ended_in old q) → Updates (slice_cmp nat_cmp) old.roots new.roots r.name (Some known) → Shows new (register r S)
+shows_registered old new S r p h k d u = record {
   registered = k ∙ ap (λ m. m + 1) h.registered;
-  ended = h.ended;
-  known = λ q. ap (option_map known_dims) (u.0 q)
-      ∙ one_more (is_at (slice_cmp nat_cmp r.name) q) (get (slice_cmp nat_cmp) old.roots q) (root_of S q) r (h.known q)
+  ended = λ q. d q ∙ h.ended q;
+  known = λ q.
+      let known : Known = record { dims = r.dims; valued = gives_values r.init } in
+      let same : known ≡ known_of (registered_root r) = ap (λ v. let k : Known = record { dims = r.dims; valued = v } in k) (sym (valued_first r r.init p)) in
+      u.0 q
+      ∙ one_more (is_at (slice_cmp nat_cmp r.name) q) known (known_in old q) (registered_root r) (root_of S q) same (h.known q)
       ∙ ap (λ b. option_map known_of (cond b (Some (registered_root r)) (root_of S q))) ((eq_by_cmp_equiv nat_list_cmp_total).symm r.name q)
       ∙ ap (option_map known_of) (sym (map.get-insert nat_list_cmp_total S.roots r.name (registered_root r) q));
+  filled = filled_insert S r.name (registered_root r) h.filled p;
 }
 
-abbrev dims_known : Known → Known
-dims_known k = record { dims = k.dims; valued = true }
+-- ---- a root less
 
-again : (d : Option Dims) → option_map dims_known (option_map known_dims d) ≡ option_map known_dims d
-again None = refl
-again (Some d) = refl
+less : (b : Bool) (k : Option Known) (o : Option Root) → k ≡ option_map known_of o → cond b None k ≡ option_map known_of (cond b None o)
+less true k o h = refl
+less false k o h = h
 
--- new elements in place of a name's old ones, where the look-ups agree on the name
-replaced : (b : Bool) (d : Option Dims) (o : Option Root) (r : Root) (xs : List ℤ) → option_map known_dims d ≡ option_map known_of o → (b ≡ true → o ≡ Some r) → option_map known_dims d ≡ option_map known_of (cond b (let new : Root = record { kind = r.kind; dims = r.dims; elements = each_of Some xs } in Some new) o)
-replaced true d o r xs h e =
-    sym (again d) ∙ ap (option_map dims_known) (h ∙ ap (option_map known_of) (e refl))
-    ∙ ap (λ v. let k : Known = record { dims = r.dims; valued = v } in Some k) (sym (all_some xs))
-replaced false d o r xs h e = h
+filled_less : (b : Bool) (o : Option Root) (x : Root) → ((y : Root) → o ≡ Some y → 1 ≤ area y.dims) → cond b None o ≡ Some x → 1 ≤ area x.dims
+filled_less true o x h e = absurd (cc)
+filled_less false o x h e = h x e
 
-tied : (q name : List ℕ) → eq_by_cmp (slice_cmp nat_cmp) q name ≡ true → q ≡ name
-tied q name e = same_text q name (sym (texts_ties q name ∙ e))
+either : (b k : Bool) → cond b true k ≡ (b || k)
+either true k = refl
+either false k = refl
 
-put_shows : (f : List ℕ → Option Dims) (S : State) (name : List ℕ) (a : Array) (o : Option Root) → root_of S name ≡ o → ((q : List ℕ) → option_map known_dims (f q) ≡ shown S q) → (q : List ℕ) → option_map known_dims (f q) ≡ shown (elim o [
+pub shows_ended : (old new : Names) (S : State) (name : List ℕ) → Shows old S → new.registered ≡ old.registered → Adds (slice_cmp nat_cmp) old.ended new.ended name true → Updates (slice_cmp nat_cmp) old.roots new.roots name None → Shows new (unregister name S)
+shows_ended old new S name h k d u = record {
+  registered = k ∙ h.registered;
+  ended = λ q.
+      d.0 q
+      ∙ ap (cond (is_at (slice_cmp nat_cmp name) q) true) (h.ended q)
+      ∙ ap (λ b. cond b true (list_any (bytes_eq q) S.ended)) ((eq_by_cmp_equiv nat_list_cmp_total).symm name q ∙ sym (texts_ties q name))
+      ∙ either (bytes_eq q name) (list_any (bytes_eq q) S.ended);
+  known = λ q.
+      u.0 q
+      ∙ less (is_at (slice_cmp nat_cmp name) q) (known_in old q) (root_of S q) (h.known q)
+      ∙ ap (λ b. option_map known_of (cond b None (root_of S q))) ((eq_by_cmp_equiv nat_list_cmp_total).symm name q)
+      ∙ ap (option_map known_of) (sym (map.get-remove nat_list_cmp_total S.roots name q));
+  filled = λ q x e. filled_less (eq_by_cmp (slice_cmp nat_cmp) q name) (root_of S q) x (h.filled q) (sym (map.get-remove nat_list_cmp_total S.roots name q) ∙ e);
+}
+
+-- ---- other elements in place of a name's old ones
+
+abbrev with_elements : List (Option ℤ) → Root → Root
+with_elements es r = record { kind = r.kind; dims = r.dims; elements = es }
+
+abbrev replaced : (Root → List (Option ℤ)) → List ℕ → State → Option Root → State
+replaced f name S o = elim o [
   | None ↦ S
-  | Some r ↦ record { registered = S.registered; ended = S.ended; roots = map.insert S.roots name (record { kind = r.kind; dims = r.dims; elements = each_of Some a.elements }) }
-]) q
-put_shows f S name a None e h q = h q
-put_shows f S name a (Some r) e h q =
-    let new : Root = record { kind = r.kind; dims = r.dims; elements = each_of Some a.elements } in
-    replaced (eq_by_cmp (slice_cmp nat_cmp) q name) (f q) (root_of S q) r a.elements (h q) (λ t. ap (root_of S) (tied q name t) ∙ e)
-    ∙ ap (option_map known_of) (sym (map.get-insert nat_list_cmp_total S.roots name new q))
+  | Some r ↦ record { registered = S.registered; ended = S.ended; roots = map.insert S.roots name (with_elements (f r) r) }
+]
 
-put_all_shows : (f : List ℕ → Option Dims) (ns : List (List ℕ)) (arrays : List Array) (S : State) → ((q : List ℕ) → option_map known_dims (f q) ≡ shown S q) → (q : List ℕ) → option_map known_dims (f q) ≡ shown (put_all ns arrays S) q
-put_all_shows f [] arrays S h = h
-put_all_shows f (n ∷ ns) [] S h = h
-put_all_shows f (n ∷ ns) (a ∷ arrays) S h = put_all_shows f ns arrays (put n a S) (put_shows f S n a (root_of S n) refl h)
+abbrev with_valued : Bool → Known → Known
+with_valued v k = record { dims = k.dims; valued = v }
 
-put_counts : (S : State) (name : List ℕ) (a : Array) (o : Option Root) → let T : State = elim o [
-  | None ↦ S
-  | Some r ↦ record { registered = S.registered; ended = S.ended; roots = map.insert S.roots name (record { kind = r.kind; dims = r.dims; elements = each_of Some a.elements }) }
-] in (T.registered ≡ S.registered) × (T.ended ≡ S.ended)
-put_counts S name a None = (refl, refl)
-put_counts S name a (Some r) = (refl, refl)
+by_test : (v b : Bool) (new r : Root) (o : Option Root) → known_of new ≡ with_valued v (known_of r) → (b ≡ true → o ≡ Some r) → option_map known_of (cond b (Some new) o) ≡ cond b (option_map (with_valued v) (option_map known_of o)) (option_map known_of o)
+by_test v true new r o e h = ap Some e ∙ sym (ap (λ o. option_map (with_valued v) (option_map known_of o)) (h refl))
+by_test v false new r o e h = refl
+
+missing : (v b : Bool) (o : Option Root) → (b ≡ true → o ≡ None) → option_map known_of o ≡ cond b (option_map (with_valued v) (option_map known_of o)) (option_map known_of o)
+missing v true o h = ap (option_map known_of) (h refl) ∙ sym (ap (λ o. option_map (with_valued v) (option_map known_of o)) (h refl))
+missing v false o h = refl
+
+replaced_shows : (v : Bool) (f : Root → List (Option ℤ)) (S : State) (name : List ℕ) (o : Option Root) → root_of S name ≡ o → ((r : Root) → root_of S name ≡ Some r → list_all is_some (f r) ≡ v) → (q : List ℕ) → shown (replaced f name S o) q ≡ revalued v name (shown S) q
+replaced_shows v f S name None e h q = missing v (bytes_eq q name) (root_of S q) (λ t. ap (root_of S) (same_text q name (sym t)) ∙ e)
+replaced_shows v f S name (Some r) e h q =
+    let new = with_elements (f r) r in
+    let kept : known_of new ≡ with_valued v (known_of r) = ap (λ v. let k : Known = record { dims = r.dims; valued = v } in k) (h r e) in
+    ap (option_map known_of) (map.get-insert nat_list_cmp_total S.roots name new q ∙ ap (λ b. cond b (Some new) (root_of S q)) (sym (texts_ties q name)))
+    ∙ by_test v (bytes_eq q name) new r (root_of S q) kept (λ t. ap (root_of S) (same_text q name (sym t)) ∙ e)
+
+replaced_filled : (f : Root → List (Option ℤ)) (S : State) (name : List ℕ) (o : Option Root) → root_of S name ≡ o → AreFilled S → AreFilled (replaced f name S o)
+replaced_filled f S name None e h = h
+replaced_filled f S name (Some r) e h = filled_insert S name (with_elements (f r) r) h (h name r e)
+
+replaced_counts : (f : Root → List (Option ℤ)) (S : State) (name : List ℕ) (o : Option Root) → ((replaced f name S o).registered ≡ S.registered) × ((replaced f name S o).ended ≡ S.ended)
+replaced_counts f S name None = (refl, refl)
+replaced_counts f S name (Some r) = (refl, refl)
+
+-- the same name revalued in equal scopes
+revalued_same : (v : Bool) (name : List ℕ) (k l : List ℕ → Option Known) → ((q : List ℕ) → k q ≡ l q) → (q : List ℕ) → revalued v name k q ≡ revalued v name l q
+revalued_same v name k l h q = ap (λ o. cond (bytes_eq q name) (option_map (with_valued v) o) o) (h q)
+
+pub shows_invalidated : (old new : Names) (S : State) (name : List ℕ) → Shows old S → new.registered ≡ old.registered → ((q : List ℕ) → ended_in new q ≡ ended_in old q) → ((q : List ℕ) → known_in new q ≡ revalued false name (known_in old) q) → Shows new (invalidate name S)
+shows_invalidated old new S name h k d u =
+    let f : Root → List (Option ℤ) = λ r. no_values r.dims in
+    let counts = replaced_counts f S name (root_of S name) in
+    record {
+      registered = k ∙ h.registered ∙ sym counts.0;
+      ended = λ q. d q ∙ h.ended q ∙ ap (list_any (bytes_eq q)) (sym counts.1);
+      known = λ q. u q ∙ revalued_same false name (known_in old) (shown S) h.known q ∙ sym (replaced_shows false f S name (root_of S name) refl (λ r e. none_some (area r.dims) (h.filled name r e)) q);
+      filled = replaced_filled f S name (root_of S name) refl h.filled;
+    }
+
+-- ---- what a task writes
+
+abbrev put_elements : Array → Root → List (Option ℤ)
+put_elements a r = each_of Some a.elements
+
+put_all_filled : (ns : List (List ℕ)) (arrays : List Array) (S : State) → AreFilled S → AreFilled (put_all ns arrays S)
+put_all_filled [] arrays S h = h
+put_all_filled (n ∷ ns) [] S h = h
+put_all_filled (n ∷ ns) (a ∷ arrays) S h = put_all_filled ns arrays (put n a S) (replaced_filled (put_elements a) S n (root_of S n) refl h)
 
 put_all_counts : (ns : List (List ℕ)) (arrays : List Array) (S : State) → ((put_all ns arrays S).registered ≡ S.registered) × ((put_all ns arrays S).ended ≡ S.ended)
 put_all_counts [] arrays S = (refl, refl)
 put_all_counts (n ∷ ns) [] S = (refl, refl)
 put_all_counts (n ∷ ns) (a ∷ arrays) S =
     let e = put_all_counts ns arrays (put n a S) in
-    let f = put_counts S n a (root_of S n) in
+    let f = replaced_counts (put_elements a) S n (root_of S n) in
     (e.0 ∙ f.0, e.1 ∙ f.1)
 
--- a task leaves what the reasons see, since all has its values
-sees_task : (old new : Names) (n : ℕ) (S : State) (t : TaskLine) → Sees old n S → new.statements ≡ n + 1 → new.registered ≡ old.registered → new.roots ≡ old.roots → Sees new (n + 1) (run_task t S)
-sees_task old new n S t h s k e =
-    let ns = written_names t.operands in
-    let arrays = out t.codelet t.args (each_of (operand_array S) t.operands) in
-    let counts = put_all_counts ns arrays S in
+put_shows : (S : State) (known : List ℕ → Option Known) (n : List ℕ) (a : Array) → ((q : List ℕ) → shown S q ≡ known q) → (q : List ℕ) → shown (put n a S) q ≡ revalued true n known q
+put_shows S known n a h q = replaced_shows true (put_elements a) S n (root_of S n) refl (λ r e. all_some a.elements) q ∙ revalued_same true n (shown S) known h q
+
+-- with as many arrays as operands are written, these have their values
+put_by : (b : Bool) (o : Operand) (os : List Operand) (arrays : List Array) (S : State) (known : List ℕ → Option Known) → ((xs : List Array) (T : State) (k : List ℕ → Option Known) → ((q : List ℕ) → shown T q ≡ k q) → length xs ≡ length (written_names os) → (q : List ℕ) → shown (put_all (written_names os) xs T) q ≡ after_writes os k q) → ((q : List ℕ) → shown S q ≡ known q) → length arrays ≡ length (each_of (λ (p : Operand). p.name) (cond b (o ∷ filter (λ p. is_written p.mode) os) (filter (λ p. is_written p.mode) os))) → (q : List ℕ) → shown (put_all (each_of (λ (p : Operand). p.name) (cond b (o ∷ filter (λ p. is_written p.mode) os) (filter (λ p. is_written p.mode) os))) arrays S) q ≡ after_writes os (cond b (revalued true o.name known) known) q
+put_by true o os [] S known rest h l = absurd (omega (arith, l))
+put_by true o os (a ∷ arrays) S known rest h l = rest arrays (put o.name a S) (revalued true o.name known) (put_shows S known o.name a h) (omega (arith, l))
+put_by false o os arrays S known rest h l = rest arrays S known h l
+
+put_all_shows : (os : List Operand) (arrays : List Array) (S : State) (known : List ℕ → Option Known) → ((q : List ℕ) → shown S q ≡ known q) → length arrays ≡ length (written_names os) → (q : List ℕ) → shown (put_all (written_names os) arrays S) q ≡ after_writes os known q
+put_all_shows [] arrays S known h l = h
+put_all_shows (o ∷ os) arrays S known h l = put_by (is_written o.mode) o os arrays S known (λ xs T k. put_all_shows os xs T k) h l
+
+after_writes_same : (os : List Operand) (k l : List ℕ → Option Known) → ((q : List ℕ) → k q ≡ l q) → (q : List ℕ) → after_writes os k q ≡ after_writes os l q
+after_writes_same os k l h q = λ i. after_writes os (λ p. h p i) q
+
+-- one operand more is noted
+pub written_more : (os : List Operand) (i : ℕ) (o : Operand) (k new : List ℕ → Option Known) → drop i os ≡ o ∷ drop (i + 1) os → ((q : List ℕ) → new q ≡ (cond (is_written o.mode) (revalued true o.name k) k) q) → (q : List ℕ) → after_writes (drop (i + 1) os) new q ≡ after_writes (drop i os) k q
+written_more os i o k new e h q = after_writes_same (drop (i + 1) os) new (cond (is_written o.mode) (revalued true o.name k) k) h q ∙ ap (λ l. after_writes l k q) (sym e)
+
+updated : (b v : Bool) (known : Known) (k : Option Known) → (b ≡ true → k ≡ Some known) → cond b (Some (with_valued v known)) k ≡ cond b (option_map (with_valued v) k) k
+updated true v known k h = sym (ap (option_map (with_valued v)) (h refl))
+updated false v known k h = refl
+
+-- what was written for a name is seen
+pub revalued_from : (v : Bool) (name : List ℕ) (known : Known) (k : List ℕ → Option Known) (n : Option Known) (q : List ℕ) → k name ≡ Some known → n ≡ cond (is_at (slice_cmp nat_cmp name) q) (Some (with_valued v known)) (k q) → n ≡ revalued v name k q
+revalued_from v name known k n q e u =
+    u
+    ∙ ap (λ b. cond b (Some (with_valued v known)) (k q)) ((eq_by_cmp_equiv nat_list_cmp_total).symm name q ∙ sym (texts_ties q name))
+    ∙ updated (bytes_eq q name) v known (k q) (λ t. ap k (same_text q name (sym t)) ∙ e)
+
+pub shows_put : (old new : Names) (S : State) (os : List Operand) (arrays : List Array) → length arrays ≡ length (written_names os) → Shows old S → new.registered ≡ old.registered → ((q : List ℕ) → ended_in new q ≡ ended_in old q) → ((q : List ℕ) → known_in new q ≡ after_writes os (known_in old) q) → Shows new (put_all (written_names os) arrays S)
+shows_put old new S os arrays l h k d u =
+    let counts = put_all_counts (written_names os) arrays S in
     record {
-      statements = s;
       registered = k ∙ h.registered ∙ sym counts.0;
-      ended = counts.1 ∙ h.ended;
-      known = λ q. ap (λ roots. option_map known_dims (get (slice_cmp nat_cmp) roots q)) e
-          ∙ put_all_shows (get (slice_cmp nat_cmp) old.roots) ns arrays S h.known q;
+      ended = λ q. d q ∙ h.ended q ∙ ap (list_any (bytes_eq q)) (sym counts.1);
+      known = λ q. u q ∙ sym (put_all_shows os arrays S (known_in old) (λ p. sym (h.known p)) l q);
+      filled = put_all_filled (written_names os) arrays S h.filled;
     }
 
-sees_print : (old new : Names) (n : ℕ) (S : State) → Sees old n S → new.statements ≡ n + 1 → new.registered ≡ old.registered → new.roots ≡ old.roots → Sees new (n + 1) S
-sees_print old new n S h s k e = record {
-  statements = s;
-  registered = k ∙ h.registered;
-  ended = h.ended;
-  known = λ q. ap (λ roots. option_map known_dims (get (slice_cmp nat_cmp) roots q)) e ∙ h.known q;
-}
+-- a statement registers one name at most
+pub put_all_registers : (ns : List (List ℕ)) (arrays : List Array) (S : State) → (put_all ns arrays S).registered ≡ S.registered
+put_all_registers ns arrays S = (put_all_counts ns arrays S).0
 
--- an act that registers nothing
-pub IsPlain : Act → Type 0
-IsPlain (Registers r) = ⊥
-IsPlain (Task t) = Unit {0}
-IsPlain (Print name) = Unit {0}
+pub invalidate_registers : (name : List ℕ) (S : State) → (invalidate name S).registered ≡ S.registered
+invalidate_registers name S = let f : Root → List (Option ℤ) = λ r. no_values r.dims in (replaced_counts f S name (root_of S name)).0
 
-pub plain_from : (act : Act) → ((t : TaskLine) × (act ≡ Task t)) ⊎ ((name : List ℕ) × (act ≡ Print name)) → IsPlain act
-unfolding IsPlain
-plain_from act (inl p) = subst IsPlain (sym p.1) tt
-plain_from act (inr p) = subst IsPlain (sym p.1) tt
-
-pub sees_plain : (old new : Names) (n : ℕ) (S : State) (act : Act) → IsPlain act → Sees old n S → new.statements ≡ n + 1 → new.registered ≡ old.registered → new.roots ≡ old.roots → Sees new (n + 1) (apply act S)
-unfolding IsPlain
-sees_plain old new n S (Registers r) p h s k e = absurd p
-sees_plain old new n S (Task t) p h s k e = sees_task old new n S t h s k e
-sees_plain old new n S (Print name) p h s k e = sees_print old new n S h s k e
+-- ---- whole scopes
 
 -- before the first statement
-pub sees_start : (new : Names) → new.statements ≡ 0 → new.registered ≡ 0 → new.roots.entries ≡ [] → Sees new 0 start
-sees_start new s k e = record {
+pub sees_start : (new : Names) → new.statements ≡ 0 → new.registered ≡ 0 → new.roots.entries ≡ [] → new.ended.keys ≡ [] → Sees new 0 start
+sees_start new s k e d = record {
   statements = s;
-  registered = k;
-  ended = refl;
-  known = λ q. ap (λ es. option_map known_dims (lookup (is_at (slice_cmp nat_cmp q)) es)) e ∙ ap (option_map known_of) (sym (map.get-empty (slice_cmp nat_cmp) q));
+  shows = record {
+    registered = k;
+    ended = λ q. ap (λ ks. list_any (is_at (slice_cmp nat_cmp q)) ks) d;
+    known = λ q. ap (λ es. lookup (is_at (slice_cmp nat_cmp q)) es) e ∙ ap (option_map known_of) (sym (map.get-empty (slice_cmp nat_cmp) q));
+    filled = λ q r f. let empty : root_of start q ≡ None = map.get-empty (slice_cmp nat_cmp) q in absurd (cc);
+  };
 }
 
 -- the reasons see the same scope
 pub same_scope : (names : Names) (n : ℕ) (S : State) → Sees names n S → scope_in names ≡ scope_of n S
-same_scope names n S h = λ i. record { statements = h.statements i; registered = h.registered i; ended = sym h.ended i; known = λ q. h.known q i }
-
--- a statement registers one name at most
-pub apply_counts : (act : Act) (S : State) → (apply act S).registered ≤ S.registered + 1
-apply_counts (Registers r) S = omega arith
-apply_counts (Task t) S = omega (arith, (put_all_counts (written_names t.operands) (out t.codelet t.args (each_of (operand_array S) t.operands)) S).0)
-apply_counts (Print name) S = omega arith
+same_scope names n S h = λ i. record { statements = h.statements i; registered = h.shows.registered i; ended = λ q. h.shows.ended q i; known = λ q. h.shows.known q i }

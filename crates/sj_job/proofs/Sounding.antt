@@ -1,35 +1,54 @@
 -- An act that is allowed is sound.
-use Rattle.std.proofs.Common.{◌≡◌, ℕ, ◌&&◌, not, nat_eq, Bool, true, false, List, [], ◌∷◌, map, refl, ap, ◌∙◌, sym, subst, Option, Some, None, option_map, Result, Ok, Err, cond, arith, ℤ, unwrap_or}
+use Rattle.std.proofs.Common.{◌≡◌, ℕ, ◌≤◌, ◌*◌, ◌&&◌, ◌||◌, not, nat_eq, nat_le, Bool, true, false, List, [], ◌∷◌, map, refl, ap, ◌∙◌, sym, subst, Option, Some, None, option_map, is_some, Result, Ok, Err, cond, arith, ℤ, unwrap_or}
 use Rattle.std.specs.Prelude.{find}
-use Rattle.std.specs.List.{list_all, list_any, before_first, after_first}
+use Rattle.std.specs.List.{list_all, list_any}
 use Rattle.std.proofs.lemmas.Bool.Decides.{nat_tests}
+use Rattle.std.proofs.lemmas.Nat.{mul-le}
 use Rattle.sj_base.specs.declared.tile.Dims.{Dims}
-use Rattle.sj_base.specs.declared.mode.Mode.{Mode}
-use Rattle.sj_base.specs.declared.mode.Mode.TheVariants.{R, W, RW}
 use Rattle.sj_base.specs.declared.program.Codelet.{Codelet}
+use Rattle.sj_base.specs.Array.{area}
 use Rattle.sj_codelet.specs.declared.kernel.Kernel.{Kernel}
 use Rattle.sj_codelet.specs.declared.kernel.Kernel.TheVariants.{Fill, Copy, Scale, Add, Axpy, Butterfly, Gemm, GemmThree, Transpose, Dot, Sum, Lowest, MinGemm, FwDiag, FwRow, FwCol, Load, LoadFill, Paste, Deliver, InitPlus, InitLeast}
 use Rattle.sj_codelet.specs.Kernel.{kernels, kernel_of, codelet_of, has_name, named_in, formals_of, fits, fits_in}
 use Rattle.sj_codelet.specs.Runs.{formals_in}
 use Rattle.sj_job.specs.declared.job.Init.{Init}
-use Rattle.sj_job.specs.declared.job.Init.TheVariants.{Values}
+use Rattle.sj_job.specs.declared.job.Init.TheVariants.{Values, Fill as Filling, Nothing}
 use Rattle.sj_job.specs.declared.job.Register.{Register}
 use Rattle.sj_job.specs.declared.job.Operand.{Operand}
 use Rattle.sj_job.specs.declared.job.TaskLine.{TaskLine}
 use Rattle.sj_job.specs.declared.job.Act.{Act}
-use Rattle.sj_job.specs.declared.job.Act.TheVariants.{Register as Registers, Task as Tasks}
 use Rattle.sj_job.specs.declared.reason.Reason.{Reason}
-use Rattle.sj_job.specs.declared.reason.Reason.TheVariants.{UnknownCodelet, Limit, UnknownName, EndedName}
-use Rattle.sj_job.specs.declared.reason.LimitKind.TheVariants.{Statements}
+use Rattle.sj_job.specs.declared.reason.Reason.TheVariants.{UnknownCodelet}
+use Rattle.sj_job.specs.declared.sentence.Registration.{Registration}
 use Rattle.sj_job.specs.declared.sentence.Call.{Call}
 use Rattle.sj_job.specs.declared.sentence.Sentence.{Sentence}
-use Rattle.sj_job.specs.declared.sentence.Sentence.TheVariants.{Register as Registering, Task, Print}
-use Rattle.sj_job.specs.Word.{is_name}
-use Rattle.sj_job.specs.Sentence.{mode_of, operand_of, operands_of, call_parts, call_of, vector_of, name_in, sentence_of, codelet_name, arguments_in}
-use Rattle.sj_job.specs.State.{State, Root, root_of}
-use Rattle.sj_job.specs.Judge.{Scope, scope_of, known_of, first_of, complaint, act_of, judged, register_reasons, codelet_reasons, operand_reasons, kernel_in, is_shaped, modes_fit, dims_in, is_miscounted, is_full, is_unknown, is_ended}
+use Rattle.sj_job.specs.declared.sentence.Sentence.TheVariants.{Register as Registering, Task, Print, Invalidate, Unregister}
+use Rattle.sj_job.specs.Sentence.{said}
+use Rattle.sj_job.specs.State.{State, Root, root_of, is_valued}
+use Rattle.sj_job.specs.Judge.{Scope, scope_of, is_begun, known_of, first_of, complaint, act_of, judged, register_reasons, task_reasons, print_reasons, name_reasons, operand_reasons, kernel_in, is_shaped, modes_fit, dims_in, is_side, is_outside, is_taken, is_miscounted, is_unknown, is_ended, needs_value, lacks_value, is_priority}
 use Rattle.sj_job.specs.Well.{IsAllowed}
-use Rattle.sj_job.specs.Sound.{dims_of, is_plain, IsSoundTask, InitFits, IsSoundRegistration}
+use Rattle.sj_job.specs.Sound.{dims_of, has_root, has_values, is_plain, IsSoundTask, InitFits, IsSoundRegistration, IsSoundAct}
+use Rattle.sj_job.proofs.Spelled.{IsSpelled, spelled_from_said}
+
+-- ---- tests
+
+and_parts : (b c : Bool) → (b && c) ≡ true → (b ≡ true) × (c ≡ true)
+and_parts true c e = (refl, e)
+and_parts false c e = absurd (cc)
+
+both : (b c : Bool) → b ≡ true → c ≡ true → (b && c) ≡ true
+both true c p q = q
+both false c p q = absurd (cc)
+
+not_false : (b : Bool) → not b ≡ false → b ≡ true
+not_false true e = refl
+not_false false e = absurd (cc)
+
+or_parts : (b c : Bool) → (b || c) ≡ false → (b ≡ false) × (c ≡ false)
+or_parts true c e = absurd (cc)
+or_parts false c e = (refl, e)
+
+-- ---- reasons
 
 -- where no reason holds, neither does the first, nor one behind it
 abbrev NoneHolds : List (Bool × Reason) → Type 0
@@ -56,19 +75,89 @@ does scope s act e = by_complaint scope s act (complaint scope s) refl e
 
 fits_init : (i : Init) (r c : ℕ) → is_miscounted i r c ≡ false → let d : Dims = record { rows = r; cols = c } in InitFits i d
 fits_init (Values zs) r c e = grind (arith, nat_tests)
+fits_init (Filling a b) r c e = tt
+fits_init Nothing r c e = tt
 
-sound_registration : (scope : Scope) (r : Register) (s : Sentence) → complaint scope s ≡ None → act_of s ≡ Registers r → IsSoundRegistration r
-sound_registration scope r (Registering t) e h =
-    let f = (none_hold (register_reasons scope t) e).1.1.1.1.1.0 in
-    let same : record { name = t.name; kind = t.kind; dims = record { rows = t.rows; cols = t.cols }; init = t.init } ≡ r = cc in
-    subst (λ (q : Register). InitFits q.init q.dims) same (fits_init t.init t.rows t.cols f)
-sound_registration scope r (Task t) e h = absurd (cc)
-sound_registration scope r (Print n) e h = absurd (cc)
+-- dimensions within their limits
+record AreInside (rows cols : ℕ) : Type 0 where
+  rows_in : is_side rows ≡ true
+  cols_in : is_side cols ≡ true
+  few : rows * cols ≤ 16777216
 
-pub registration_from_allowed : (has : Kernel → Bool) (scope : Scope) (r : Register) → IsAllowed has scope (Registers r) → IsSoundRegistration r
-registration_from_allowed has scope r h = let d = does scope h.sentence (Registers r) h.judged in sound_registration scope r h.sentence d.0 d.1
+few_enough : (n : ℕ) → nat_le n 16777216 ≡ true → n ≤ 16777216
+few_enough n e = grind (arith, nat_tests)
+
+inside : (rows cols : ℕ) → is_outside rows cols ≡ false → AreInside rows cols
+inside rows cols e =
+    let p = and_parts (is_side rows && is_side cols) (nat_le (rows * cols) 16777216) (not_false _ e) in
+    let q = and_parts (is_side rows) (is_side cols) p.0 in
+    record { rows_in = q.0; cols_in = q.1; few = few_enough (rows * cols) p.1 }
+
+positive : (n : ℕ) → is_side n ≡ true → 1 ≤ n
+positive n e = let p = and_parts (nat_le 1 n) (nat_le n 1048576) e in let q = p.0 in grind (arith, nat_tests, q)
+
+-- a registered root has an element
+pub has_elements : (S : State) (r : Register) → IsSoundRegistration S r → 1 ≤ area r.dims
+has_elements S r h = mul-le 1 1 r.dims.rows r.dims.cols (positive r.dims.rows h.rows) (positive r.dims.cols h.cols)
+
+not_taken : (o : Option Root) → is_some (option_map known_of o) ≡ false → o ≡ None
+not_taken None e = refl
+not_taken (Some r) e = absurd (cc)
+
+sound_registration : (n : ℕ) (S : State) (t : Registration) → complaint (scope_of n S) (Registering t) ≡ None → let r : Register = record { name = t.name; kind = t.kind; dims = record { rows = t.rows; cols = t.cols }; init = t.init } in IsSoundRegistration S r
+sound_registration n S t e =
+    let h = none_hold (register_reasons (scope_of n S) t) e in
+    let i = inside t.rows t.cols h.1.1.0 in
+    record {
+      rows = i.rows_in;
+      cols = i.cols_in;
+      elements = i.few;
+      values = fits_init t.init t.rows t.cols h.1.1.1.1.1.0;
+      fresh = not_taken (root_of S t.name) h.1.1.1.1.0;
+    }
+
+-- ---- names
+
+root_by : (o : Option Root) (ended : Bool) → (not (is_some (option_map known_of o)) && not ended) ≡ false → ended ≡ false → is_some o ≡ true
+root_by None ended e h = absurd (cc)
+root_by (Some r) ended e h = refl
+
+there : (n : ℕ) (S : State) (name : List ℕ) → is_unknown (scope_of n S) name ≡ false → is_ended (scope_of n S) name ≡ false → has_root S name ≡ true
+there n S name e h = root_by (root_of S name) (is_ended (scope_of n S) name) e h
+
+values_by : (o : Option Root) → (elim (option_map known_of o) as (λ _. Bool) [ None ↦ false | Some k ↦ not k.valued ]) ≡ false → is_some o ≡ true → (elim o as (λ _. Bool) [ None ↦ false | Some r ↦ is_valued r ]) ≡ true
+values_by None e h = absurd (cc)
+values_by (Some r) e h = not_false (is_valued r) e
+
+valued : (n : ℕ) (S : State) (name : List ℕ) → lacks_value (scope_of n S) name ≡ false → has_root S name ≡ true → has_values S name ≡ true
+valued n S name e h = values_by (root_of S name) e h
+
+sound_name : (n : ℕ) (S : State) (name : List ℕ) → first_of (name_reasons (scope_of n S) name) ≡ None → has_root S name ≡ true
+sound_name n S name e = let h = none_hold (name_reasons (scope_of n S) name) e in there n S name h.1.0 h.1.1.0
+
+sound_print : (n : ℕ) (S : State) (name : List ℕ) → first_of (print_reasons (scope_of n S) name) ≡ None → has_values S name ≡ true
+sound_print n S name e = let h = none_hold (print_reasons (scope_of n S) name) e in valued n S name h.1.1.1.0 (there n S name h.1.0 h.1.1.0)
 
 -- ---- tasks
+
+all_there : (n : ℕ) (S : State) (os : List Operand) → list_any (λ o. is_unknown (scope_of n S) o.name) os ≡ false → list_any (λ o. is_ended (scope_of n S) o.name) os ≡ false → list_all (λ o. has_root S o.name) os ≡ true
+all_there n S [] e h = refl
+all_there n S (o ∷ os) e h =
+    let p = or_parts (is_unknown (scope_of n S) o.name) (list_any (λ o. is_unknown (scope_of n S) o.name) os) e in
+    let q = or_parts (is_ended (scope_of n S) o.name) (list_any (λ o. is_ended (scope_of n S) o.name) os) h in
+    both (has_root S o.name) (list_all (λ o. has_root S o.name) os) (there n S o.name p.0 q.0) (all_there n S os p.1 q.1)
+
+needed_by : (b l v : Bool) → (b && l) ≡ false → (l ≡ false → v ≡ true) → (not b || v) ≡ true
+needed_by true l v e h = h e
+needed_by false l v e h = refl
+
+all_valued : (n : ℕ) (S : State) (os : List Operand) → list_any (λ o. needs_value o.mode && lacks_value (scope_of n S) o.name) os ≡ false → list_all (λ o. has_root S o.name) os ≡ true → list_all (λ o. not (needs_value o.mode) || has_values S o.name) os ≡ true
+all_valued n S [] e h = refl
+all_valued n S (o ∷ os) e h =
+    let p = or_parts (needs_value o.mode && lacks_value (scope_of n S) o.name) (list_any (λ o. needs_value o.mode && lacks_value (scope_of n S) o.name) os) e in
+    let q = and_parts (has_root S o.name) (list_all (λ o. has_root S o.name) os) h in
+    both (not (needs_value o.mode) || has_values S o.name) (list_all (λ o. not (needs_value o.mode) || has_values S o.name) os)
+    (needed_by (needs_value o.mode) (lacks_value (scope_of n S) o.name) (has_values S o.name) p.0 (λ l. valued n S o.name l q.0)) (all_valued n S os p.1 q.1)
 
 kernel_of-codelet_of : (k : Kernel) → kernel_of (codelet_of k) ≡ Some k
 kernel_of-codelet_of Fill = refl
@@ -102,18 +191,6 @@ found_passes : (p : Kernel → Bool) (ks : List Kernel) (k : Kernel) → find p 
 found_passes p [] k e = absurd (cc)
 found_passes p (x ∷ ks) k e = found_here p x ks k (p x) (found_passes p ks k) refl e
 
-and_parts : (b c : Bool) → (b && c) ≡ true → (b ≡ true) × (c ≡ true)
-and_parts true c e = (refl, e)
-and_parts false c e = absurd (cc)
-
-both : (b c : Bool) → b ≡ true → c ≡ true → (b && c) ≡ true
-both true c p q = q
-both false c p q = absurd (cc)
-
-not_false : (b : Bool) → not b ≡ false → b ≡ true
-not_false true e = refl
-not_false false e = absurd (cc)
-
 -- a codelet of the set by its name
 record IsKnown (has : Kernel → Bool) (c : Option Codelet) (k : Kernel) : Type 0 where
   id : kernel_of (unwrap_or c (record { 0 = 0 })) ≡ Some k
@@ -145,98 +222,44 @@ fits_known has id args ds k e h f = ap (λ (o : Option Kernel). elim o as (λ _.
 formals_known : (id : Codelet) (os : List Operand) (k : Kernel) → kernel_of id ≡ Some k → modes_fit (formals_of k) os ≡ true → modes_fit (formals_in id) os ≡ true
 formals_known id os k e m = ap (λ (o : Option Kernel). modes_fit (elim o [ None ↦ [] | Some j ↦ formals_of j ]) os) e ∙ m
 
-shaped : (has : Kernel → Bool) (n : ℕ) (S : State) (t : Call) (o : Option Kernel) → kernel_in t.codelet ≡ o → ((k : Kernel) → kernel_in t.codelet ≡ Some k → IsKnown has t.codelet k) → first_of (elim o [ None ↦ (true, UnknownCodelet) ∷ [] | Some k ↦ operand_reasons (scope_of n S) k t ]) ≡ None → list_all (λ p. is_plain p.mode) t.operands ≡ true → let line : TaskLine = record { codelet = unwrap_or t.codelet (record { 0 = 0 }); args = t.args; operands = t.operands } in IsSoundTask has S line
-shaped has n S t None e known h p = absurd (cc)
-shaped has n S t (Some k) e known h p =
-    let b = not_false (is_shaped (scope_of n S) k t) (none_hold (operand_reasons (scope_of n S) k t) h).1.0 in
+-- what the conditions in front of the codelet's tell of a task
+record IsSoundLine (S : State) (t : Call) : Type 0 where
+  plain : list_all (λ o. is_plain o.mode) t.operands ≡ true
+  rooted : list_all (λ o. has_root S o.name) t.operands ≡ true
+  priority : is_priority t.priority ≡ true
+
+shaped : (has : Kernel → Bool) (n : ℕ) (S : State) (t : Call) (o : Option Kernel) → kernel_in t.codelet ≡ o → ((k : Kernel) → kernel_in t.codelet ≡ Some k → IsKnown has t.codelet k) → NoneHolds (elim o as (λ _. List (Bool × Reason)) [ None ↦ (true, UnknownCodelet) ∷ [] | Some k ↦ operand_reasons (scope_of n S) k t ]) → IsSoundLine S t → let line : TaskLine = record { codelet = unwrap_or t.codelet (record { 0 = 0 }); args = t.args; operands = t.operands; priority = t.priority } in IsSoundTask has S line
+shaped has n S t None e known h l = absurd (let c = h.0 in cc)
+shaped has n S t (Some k) e known h l =
+    let b = not_false (is_shaped (scope_of n S) k t) h.1.0 in
     let both_parts = and_parts (modes_fit (formals_of k) t.operands) (fits k t.args (map (dims_in (scope_of n S)) t.operands)) b in
     let there = known k e in
     record {
       fits = fits_known has (unwrap_or t.codelet (record { 0 = 0 })) t.args (map (λ o. dims_of S o.name) t.operands) k there.id there.known (ap (fits k t.args) (sym (all_dims_seen n S t.operands)) ∙ both_parts.1);
       modes = formals_known (unwrap_or t.codelet (record { 0 = 0 })) t.operands k there.id both_parts.0;
-      plain = p;
+      plain = l.plain;
+      apart = h.1.1.0;
+      rooted = l.rooted;
+      valued = all_valued n S t.operands h.1.1.1.0 l.rooted;
+      priority = l.priority;
     }
 
--- ---- the words of a task
+sound_task : (has : Kernel → Bool) (n : ℕ) (S : State) (t : Call) → IsSpelled has t → complaint (scope_of n S) (Task t) ≡ None → IsSoundAct has S (act_of (Task t))
+sound_task has n S t s e =
+    let h = none_hold (task_reasons (scope_of n S) t) e in
+    shaped has n S t (kernel_in t.codelet) refl (λ k e. named_known has s.name k t.codelet s.codelet e) h.1.1.1.1
+    (record { plain = s.plain; rooted = all_there n S t.operands h.1.1.0 h.1.1.1.0; priority = not_false (is_priority t.priority) h.1.0 })
 
-some_mapped : {A B : Type 0} (f : A → B) (o : Option A) (y : B) → option_map f o ≡ Some y → (x : A) × ((o ≡ Some x) × (f x ≡ y))
-some_mapped f None y e = absurd (cc)
-some_mapped f (Some x) y e = (x, (refl, cc))
+-- ---- acts
 
-plain_mode : (w : List ℕ) (m : Mode) (a b c : Bool) → cond a (Some R) (cond b (Some W) (cond c (Some RW) None)) ≡ Some m → is_plain m ≡ true
-plain_mode w m true b c e = let same : R ≡ m = cc in ap is_plain (sym same)
-plain_mode w m false true c e = let same : W ≡ m = cc in ap is_plain (sym same)
-plain_mode w m false false true e = let same : RW ≡ m = cc in ap is_plain (sym same)
-plain_mode w m false false false e = absurd (cc)
+sound_sentence : (has : Kernel → Bool) (n : ℕ) (S : State) (ws : List (List ℕ)) (s : Sentence) → said has (is_begun (scope_of n S)) ws ≡ Ok s → complaint (scope_of n S) s ≡ None → IsSoundAct has S (act_of s)
+sound_sentence has n S ws (Registering r) w e = sound_registration n S r e
+sound_sentence has n S ws (Task t) w e = sound_task has n S t (spelled_from_said has (is_begun (scope_of n S)) ws t w) e
+sound_sentence has n S ws (Print name) w e = sound_print n S name e
+sound_sentence has n S ws (Invalidate name) w e = sound_name n S name e
+sound_sentence has n S ws (Unregister name) w e = sound_name n S name e
 
-plain_operand : (w : List ℕ) (o : Operand) (b : Bool) → cond b (option_map (λ m. record { name = before_first (λ b. nat_eq b 58) w; mode = m }) (mode_of (after_first (λ b. nat_eq b 58) w))) None ≡ Some o → is_plain o.mode ≡ true
-plain_operand w o true e =
-    let p = some_mapped _ (mode_of (after_first (λ b. nat_eq b 58) w)) o e in
-    ap (λ (q : Operand). is_plain q.mode) (sym p.1.1) ∙ plain_mode w p.0 _ _ _ p.1.0
-plain_operand w o false e = absurd (cc)
-
-plain_more : (o : Option Operand) (rest : Option (List Operand)) (os : List Operand) → ((p : Operand) → o ≡ Some p → is_plain p.mode ≡ true) → ((ps : List Operand) → rest ≡ Some ps → list_all (λ p. is_plain p.mode) ps ≡ true) → (elim o as (λ _. Option (List Operand)) [ None ↦ None | Some y ↦ option_map (λ ys. y ∷ ys) rest ]) ≡ Some os → list_all (λ p. is_plain p.mode) os ≡ true
-plain_more None rest os h k e = absurd (cc)
-plain_more (Some p) rest os h k e =
-    let q = some_mapped _ rest os e in
-    ap (list_all (λ p. is_plain p.mode)) (sym q.1.1) ∙ both _ _ (h p refl) (k q.0 q.1.0)
-
-plain_operands : (ws : List (List ℕ)) (os : List Operand) → operands_of ws ≡ Some os → list_all (λ p. is_plain p.mode) os ≡ true
-plain_operands [] os e = let same : [] ≡ os = cc in ap (list_all (λ p. is_plain p.mode)) (sym same)
-plain_operands (w ∷ ws) os e = plain_more (operand_of w) (operands_of ws) os (λ p. plain_operand w p _) (plain_operands ws) e
-
-plain_by_args : (a : Option (List ℤ)) (ws : List (List ℕ)) (q : List ℤ × List Operand) → (elim a as (λ _. Option (List ℤ × List Operand)) [ None ↦ None | Some args ↦ option_map (λ os. (args, os)) (operands_of ws) ]) ≡ Some q → list_all (λ p. is_plain p.mode) q.1 ≡ true
-plain_by_args None ws q e = absurd (cc)
-plain_by_args (Some args) ws q e =
-    let p = some_mapped _ (operands_of ws) q e in
-    ap (λ (r : List ℤ × List Operand). list_all (λ p. is_plain p.mode) r.1) (sym p.1.1) ∙ plain_operands ws p.0 p.1.0
-
-plain_parts : (w : List ℕ) (ws : List (List ℕ)) (q : List ℤ × List Operand) (b : Bool) → cond b (elim (arguments_in w) as (λ _. Option (List ℤ × List Operand)) [ None ↦ None | Some args ↦ option_map (λ os. (args, os)) (operands_of ws) ]) None ≡ Some q → list_all (λ p. is_plain p.mode) q.1 ≡ true
-plain_parts w ws q true e = plain_by_args (arguments_in w) ws q e
-plain_parts w ws q false e = absurd (cc)
-
--- what a task line's words tell of it
-record IsSpelled (has : Kernel → Bool) (t : Call) : Type 0 where
-  name : List ℕ
-  codelet : named_in has name ≡ t.codelet
-  plain : list_all (λ p. is_plain p.mode) t.operands ≡ true
-
-spelled : (has : Kernel → Bool) (ws : List (List ℕ)) (t : Call) → call_of has ws ≡ Some t → IsSpelled has t
-spelled has [] t e = absurd (cc)
-spelled has (w ∷ ws) t e =
-    let p = some_mapped _ (call_parts w ws) t e in
-    record {
-      name = codelet_name w;
-      codelet = ap (λ (c : Call). c.codelet) p.1.1;
-      plain = ap (λ (c : Call). list_all (λ p. is_plain p.mode) c.operands) (sym p.1.1) ∙ plain_parts w ws p.0 (is_name (codelet_name w)) p.1.0;
-    }
-
-by_keyword : (has : Kernel → Bool) (ws : List (List ℕ)) (t : Call) (a b c : Bool) → cond a (option_map Registering (vector_of ws)) (cond b (option_map Task (call_of has ws)) (cond c (option_map Print (name_in ws)) None)) ≡ Some (Task t) → IsSpelled has t
-by_keyword has ws t true b c e = let p = some_mapped Registering (vector_of ws) (Task t) e in absurd (cc)
-by_keyword has ws t false true c e =
-    let p = some_mapped Task (call_of has ws) (Task t) e in
-    let same : p.0 ≡ t = cc in
-    spelled has ws t (p.1.0 ∙ ap Some same)
-by_keyword has ws t false false true e = let p = some_mapped Print (name_in ws) (Task t) e in absurd (cc)
-by_keyword has ws t false false false e = absurd (cc)
-
-spelled_from_said : (has : Kernel → Bool) (ws : List (List ℕ)) (t : Call) → sentence_of has ws ≡ Some (Task t) → IsSpelled has t
-spelled_from_said has [] t e = absurd (cc)
-spelled_from_said has (w ∷ ws) t e = by_keyword has ws t _ _ _ e
-
-behind : (a b c : Bool × Reason) (cs : List (Bool × Reason)) → first_of (a ∷ b ∷ c ∷ cs) ≡ None → first_of cs ≡ None
-behind a b c cs e = (none_first c.0 c.1 (first_of cs) (none_first b.0 b.1 (first_of (c ∷ cs)) (none_first a.0 a.1 (first_of (b ∷ c ∷ cs)) e).1).1).1
-
-sound_task : (has : Kernel → Bool) (n : ℕ) (S : State) (t : TaskLine) (ws : List (List ℕ)) (s : Sentence) → sentence_of has ws ≡ Some s → complaint (scope_of n S) s ≡ None → act_of s ≡ Tasks t → IsSoundTask has S t
-sound_task has n S t ws (Registering r) w e h = absurd (cc)
-sound_task has n S t ws (Task c) w e h =
-    let said = spelled_from_said has ws c w in
-    let r = behind (is_full (scope_of n S), Limit Statements) (list_any (λ o. is_unknown (scope_of n S) o.name) c.operands, UnknownName) (list_any (λ o. is_ended (scope_of n S) o.name) c.operands, EndedName) (codelet_reasons (scope_of n S) c) e in
-    let same : record { codelet = unwrap_or c.codelet (record { 0 = 0 }); args = c.args; operands = c.operands } ≡ t = cc in
-    subst (IsSoundTask has S) same (shaped has n S c (kernel_in c.codelet) refl (λ k e. named_known has said.name k c.codelet said.codelet e) r said.plain)
-sound_task has n S t ws (Print name) w e h = absurd (cc)
-
-pub task_from_allowed : (has : Kernel → Bool) (n : ℕ) (S : State) (t : TaskLine) → IsAllowed has (scope_of n S) (Tasks t) → IsSoundTask has S t
-task_from_allowed has n S t h =
-    let d = does (scope_of n S) h.sentence (Tasks t) h.judged in
-    sound_task has n S t h.words h.sentence h.said d.0 d.1
+pub sound_from_allowed : (has : Kernel → Bool) (n : ℕ) (S : State) (act : Act) → IsAllowed has (scope_of n S) act → IsSoundAct has S act
+sound_from_allowed has n S act h =
+    let d = does (scope_of n S) h.sentence act h.judged in
+    subst (IsSoundAct has S) d.1 (sound_sentence has n S h.words h.sentence h.spelled d.0)

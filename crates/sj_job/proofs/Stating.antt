@@ -1,5 +1,5 @@
 -- A line and the grammar: each direction, for each kind of sentence.
-use Rattle.std.proofs.Common.{◌≡◌, ℕ, ◌&&◌, Bool, true, false, List, [], ◌∷◌, ℤ, refl, ap, ◌∙◌, sym, subst, Option, Some, None, option_map, cond, bytes_eq, codes}
+use Rattle.std.proofs.Common.{◌≡◌, ℕ, ◌&&◌, Bool, true, false, List, [], ◌∷◌, ℤ, pos, refl, ap, ◌∙◌, sym, subst, Option, Some, None, option_map, cond, bytes_eq, codes}
 use Rattle.sj_codelet.specs.declared.kernel.Kernel.{Kernel}
 use Rattle.sj_codelet.specs.Kernel.{named_in}
 use Rattle.sj_job.specs.declared.job.Kind.TheVariants.{Vector}
@@ -8,7 +8,7 @@ use Rattle.sj_job.specs.declared.job.Operand.{Operand}
 use Rattle.sj_job.specs.declared.sentence.Registration.{Registration}
 use Rattle.sj_job.specs.declared.sentence.Call.{Call}
 use Rattle.sj_job.specs.declared.sentence.Sentence.{Sentence}
-use Rattle.sj_job.specs.declared.sentence.Sentence.TheVariants.{Register, Task, Print}
+use Rattle.sj_job.specs.declared.sentence.Sentence.TheVariants.{Register, Task, Print, Invalidate, Unregister}
 use Rattle.sj_job.specs.Word.{is_name, count_of}
 use Rattle.sj_job.specs.Sentence.{operands_of, integers_of, codelet_name, arguments_in, call_parts, call_of, vector_of, name_in, sentence_of}
 use Rattle.sj_job.specs.Grammar.{SaysVector, SaysTask, SaysPrint, Says}
@@ -62,7 +62,7 @@ abbrev parts_from : Bool → Option (List ℤ) → Option (List Operand) → Opt
 parts_from t args os = cond t (elim args as (λ _. Option (List ℤ × List Operand)) [ None ↦ None | Some args ↦ option_map (λ os. (args, os)) os ]) None
 
 abbrev call_with : (Kernel → Bool) → List ℕ → (List ℤ × List Operand) → Call
-call_with has name p = record { codelet = named_in has name; args = p.0; operands = p.1 }
+call_with has name p = record { codelet = named_in has name; args = p.0; operands = p.1; priority = pos 0 }
 
 task_by : (has : Kernel → Bool) (w : List ℕ) (ws : List (List ℕ)) (p : List ℤ × List Operand) (t : Bool) (o : Option (List ℤ)) → is_name (codelet_name w) ≡ t → arguments_in w ≡ o → parts_from t o (operands_of ws) ≡ Some p → SaysTask has (codes "task" ∷ w ∷ ws) (call_with has (codelet_name w) p)
 task_by has w ws p true (Some args) h k e =
@@ -76,6 +76,7 @@ task_by has w ws p true (Some args) h k e =
       codelet = codelet_says w args h k;
       operands = operands_say ws q.0 q.1.0;
       found = refl;
+      priority = refl;
     })
 task_by has w ws p true None h k e = absurd (cc)
 task_by has w ws p false o h k e = absurd (cc)
@@ -96,7 +97,8 @@ says_task has ws t h =
     ∙ ap (λ b. option_map Task (option_map (call_with has h.codelet_name) (parts_from b (arguments_in w) (operands_of os)))) h.codelet.named
     ∙ ap (λ o. option_map Task (option_map (call_with has h.codelet_name) (parts_from true o (operands_of os)))) f.inside
     ∙ ap (λ o. option_map Task (option_map (call_with has h.codelet_name) (parts_from true (Some t.args) o))) (say_operands os t.operands h.operands)
-    ∙ ap (λ c. let call : Call = record { codelet = c; args = t.args; operands = t.operands } in Some (Task call)) (sym h.found)
+    ∙ ap (λ c. let call : Call = record { codelet = c; args = t.args; operands = t.operands; priority = pos 0 } in Some (Task call)) (sym h.found)
+    ∙ ap (λ p. let call : Call = record { codelet = t.codelet; args = t.args; operands = t.operands; priority = p } in Some (Task call)) (sym h.priority)
 
 -- ---- a print
 
@@ -142,3 +144,5 @@ pub said-is-found : (has : Kernel → Bool) (ws : List (List ℕ)) (s : Sentence
 said-is-found has ws (Register r) h = says_vector has ws r h
 said-is-found has ws (Task t) h = says_task has ws t h
 said-is-found has ws (Print n) h = says_print has ws n h
+said-is-found has ws (Invalidate n) h = absurd h
+said-is-found has ws (Unregister n) h = absurd h

@@ -224,10 +224,10 @@ fn codelet_complaint(
     }
 }
 
-fn is_priority(priority: i64) -> bool
-    ensures { result ≡ is_priority priority }
+fn has_priority(call: &Call) -> bool
+    ensures { result ≡ is_priority call.now.priority }
 {
-    LEAST_PRIORITY <= priority && priority <= GREATEST_PRIORITY
+    LEAST_PRIORITY <= call.priority && call.priority <= GREATEST_PRIORITY
 }
 
 /// The first reason against a task. Linear in its operands, times the logarithm of the names.
@@ -237,7 +237,7 @@ fn task_complaint(alloc: Global, names: &Names, call: &Call) -> Result<Option<Re
     if STATEMENTS <= names.statements {
         return Ok(Some(Reason::Limit(LimitKind::Statements)));
     }
-    if !is_priority(call.priority) {
+    if !has_priority(call) {
         return Ok(Some(Reason::Limit(LimitKind::Priority)));
     }
     if has_unknown(names, call.operands.items()) {

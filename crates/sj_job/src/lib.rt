@@ -10,4 +10,6 @@ pub mod names;
 pub mod read;
 pub mod reason;
 pub mod sentence;
+#[cfg(test)]
+mod tests;
 pub mod word;
