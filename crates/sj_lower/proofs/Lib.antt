@@ -1,3 +1,9 @@
 pub mod Stepping
 pub mod Counting
 pub mod Few
+pub mod Writing
+pub mod Contents
+pub mod Holding
+pub mod Running
+pub mod Starting
+pub mod Agreeing
