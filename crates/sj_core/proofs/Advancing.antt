@@ -1,5 +1,5 @@
 -- One step of a task: from waiting to claimed, to running, to done; and that each keeps the order of conflicting tasks.
-use Rattle.std.proofs.Common.{◌≡◌, ◌≢◌, ℕ, ◌<◌, true, false, ◌||◌, refl, sym, ap, ◌∙◌, subst, inl, inr, ◌⊎◌, arith}
+use Rattle.std.proofs.Common.{◌≡◌, ◌≢◌, ℕ, ◌<◌, true, false, ◌||◌, length, refl, sym, ap, ◌∙◌, subst, inl, inr, ◌⊎◌, arith}
 use Rattle.std.specs.Prelude.{IsTrue}
 use Rattle.std.proofs.lemmas.Bool.{cases_eq, false≢true, true≢false}
 use Rattle.std.proofs.lemmas.Bool.Decides.{Decides-eqb}
@@ -37,12 +37,16 @@ not_waiting x w e f = let g : Claimed w ≡ Waiting = sym e ∙ f in cc
 not_waiting_running : (x : Progress) (w : Worker) → x ≡ Running w → x ≢ Waiting
 not_waiting_running x w e f = let g : Running w ≡ Waiting = sym e ∙ f in cc
 
-pub Claims-advances : (p : Program) (m : Machine) (s : State) (t : Task) (w : Worker) (s' : State) → HasRows p m s → Claims p m s t w s' → Advances s s' t Waiting (Claimed w)
-Claims-advances p m s t w s' rows c = record {
+-- a row for each task suffices
+pub Claims-advances_task : (p : Program) (m : Machine) (s : State) (t : Task) (w : Worker) (s' : State) → length s.tasks ≡ length p.tasks → Claims p m s t w s' → Advances s s' t Waiting (Claimed w)
+Claims-advances_task p m s t w s' rows c = record {
   was = c.waiting;
-  is = ap (λ (z : State). progress z t) c.leaves ∙ progress-same s t (Claimed w) (omega (arith, c.ready.task, rows.tasks));
+  is = ap (λ (z : State). progress z t) c.leaves ∙ progress-same s t (Claimed w) (omega (arith, c.ready.task, rows));
   others = λ u d. ap (λ (z : State). progress z u) c.leaves ∙ progress-other s t u (Claimed w) d;
 }
+
+pub Claims-advances : (p : Program) (m : Machine) (s : State) (t : Task) (w : Worker) (s' : State) → HasRows p m s → Claims p m s t w s' → Advances s s' t Waiting (Claimed w)
+Claims-advances p m s t w s' rows c = Claims-advances_task p m s t w s' rows.tasks c
 
 pub Runs-advances : (p : Program) (m : Machine) (s : State) (t : Task) (w : Worker) (s' : State) → Runs p m s t w s' → Advances s s' t (Claimed w) (Running w)
 Runs-advances p m s t w s' r = record {

@@ -1,25 +1,17 @@
--- A claim, a run and an end leave a coherent state, and so does each trace of them.
-use Rattle.std.proofs.Common.{◌≡◌, suc, true, [], ◌∷◌, subst, arith}
-use Rattle.std.proofs.lemmas.Bool.{false≢true}
-use Rattle.sj_base.specs.declared.trace.Event.{Event}
-use Rattle.sj_base.specs.declared.trace.Event.TheVariants.{Claim, Move, Moved, Drop, Run, End}
-use Rattle.sj_base.specs.declared.program.Program.{Program}
-use Rattle.sj_base.specs.declared.program.Machine.{Machine}
-use Rattle.sj_core.specs.Machine.{State}
-use Rattle.sj_core.specs.Step.{Step}
+-- A claim, a run and an end leave a coherent state.
 use Rattle.sj_core.specs.Coherent.{Coherent}
-use Rattle.sj_core.specs.Laws.{IsSound, IsKeptByClaims, IsKeptByRuns, IsKeptByPlainEnds, HasPlainModes, TasksKeepCoherence, is_of_task}
+use Rattle.sj_core.specs.Laws.{IsKeptByClaims, IsKeptByRuns, IsKeptByPlainEnds}
 use Rattle.sj_core.proofs.Advancing.{Runs-keeps_order, Ends-keeps_order}
 use Rattle.sj_core.proofs.Agreeing.{Claims-keeps_copies, Runs-keeps_copies, Ends-keeps_copies, Ends-keeps_writers}
-use Rattle.sj_core.proofs.Claiming.{Claims-keeps_cells, Claims-keeps_pins, Claims-keeps_transfers}
 use Rattle.sj_core.proofs.Bytes.{Claims-keeps_bytes, Runs-keeps_bytes, Ends-keeps_bytes}
-use Rattle.sj_core.proofs.Forms.{Claims-keeps_state, Runs-keeps_state, Ends-keeps_state}
-use Rattle.sj_core.proofs.Writers.{Claims-keeps_writers, Runs-keeps_writers}
-use Rattle.sj_core.proofs.Dependencies.{Proper-dependencies}
+use Rattle.sj_core.proofs.Claiming.{Claims-keeps_cells, Claims-keeps_pins, Claims-keeps_transfers}
 use Rattle.sj_core.proofs.Counting.{Claims-keeps_counts, Runs-keeps_counts, Ends-keeps_counts}
+use Rattle.sj_core.proofs.Dependencies.{Proper-dependencies}
+use Rattle.sj_core.proofs.Forms.{Claims-keeps_state, Runs-keeps_state, Ends-keeps_state}
 use Rattle.sj_core.proofs.Holding.{Runs-keeps_cells, Runs-keeps_pins, Runs-keeps_transfers, Ends-keeps_cells, Ends-keeps_pins, Ends-keeps_transfers}
 use Rattle.sj_core.proofs.Separation.{Claims-keeps_order}
 use Rattle.sj_core.proofs.Workers.{Claims-keeps_workers, Runs-keeps_workers, Runs-unmoving, Ends-keeps_workers}
+use Rattle.sj_core.proofs.Writers.{Claims-keeps_writers, Runs-keeps_writers}
 
 pub Claims-keeps_coherence : IsKeptByClaims Coherent
 Claims-keeps_coherence p m s s' t w h claim =
@@ -68,18 +60,3 @@ Ends-keeps_coherence p m s s' t w h plain ended =
       order = Ends-keeps_order p m s t w s' ended now.order;
       counts = Ends-keeps_counts p m s t w s' now.state now.cells ended now.counts;
     }
-
-Step-keeps_coherence : (p : Program) (m : Machine) (s s' : State) (e : Event) → IsSound p m s → HasPlainModes p → is_of_task e ≡ true → Step p m s e s' → Coherent p m s'
-Step-keeps_coherence p m s s' (Claim t w) h plain of_task step = Claims-keeps_coherence p m s s' t w h step
-Step-keeps_coherence p m s s' (Run t w) h plain of_task step = Runs-keeps_coherence p m s s' t w h step
-Step-keeps_coherence p m s s' (End t w) h plain of_task step = Ends-keeps_coherence p m s s' t w h plain step
-Step-keeps_coherence p m s s' (Move c from to) h plain of_task step = absurd (false≢true of_task)
-Step-keeps_coherence p m s s' (Moved c from to) h plain of_task step = absurd (false≢true of_task)
-Step-keeps_coherence p m s s' (Drop c n) h plain of_task step = absurd (false≢true of_task)
-
--- each legal trace of claims, runs and ends leaves a coherent state
-pub traces-keep_coherence : TasksKeepCoherence
-traces-keep_coherence p m s s' [] h plain all e = subst (λ (z : State). Coherent p m z) e h.coherent
-traces-keep_coherence p m s s' (e ∷ trace) h plain all (between, step, rest) =
-    let after = Step-keeps_coherence p m s between e h plain (all 0 e (omega arith)) step in
-    traces-keep_coherence p m between s' trace (record { proper = h.proper; machine = h.machine; coherent = after }) plain (λ k d l. all (suc k) d (omega arith)) rest

@@ -18,7 +18,7 @@ use Rattle.sj_deps.specs.declared.manner.Manner.{Manner}
 use Rattle.sj_deps.specs.declared.manner.Manner.TheVariants.{Write}
 use Rattle.sj_deps.specs.Conflict.{Uses, IsShared, Conflict}
 use Rattle.sj_core.specs.Program.{same_cell, has_cell, task_of, tasks_of, is_scratch, is_written, is_redux, starts_as_zeros, data_operands}
-use Rattle.sj_core.specs.Operands.{copy_of, worked_on, written_cells, fresh_cells}
+use Rattle.sj_core.specs.Operands.{copy_of, worked_on, cells_of, written_cells, fresh_cells}
 use Rattle.sj_core.specs.Machine.{State, writes, done_by}
 use Rattle.sj_core.specs.Step.{EarlierAreDone}
 use Rattle.sj_core.specs.Proper.{Proper, HasValueBefore, reads_value, gives_value, access}
@@ -26,7 +26,6 @@ use Rattle.sj_core.specs.Coherent.{WritesAreCounted, has_written}
 use Rattle.sj_core.proofs.Readiness.{Contains-filter}
 use Rattle.sj_core.proofs.Reading.{same_cell-is}
 use Rattle.sj_core.proofs.Sharing.{manner_of, operand_for, operand-has_cell, operand-uses, redux-has_copies, write_isn't_read}
-use Rattle.sj_core.proofs.TaskCells.{written_isn't_scratch}
 use Rattle.sj_core.proofs.Dependencies.{Proper-dependencies}
 
 -- an element that passes a test that some element passes
@@ -88,31 +87,31 @@ module _ (p : Program) (proper : Proper p) (s : State) (t : Task) (w : Worker) (
           let value = All-contains (λ (b : Access). IsTrue (reads_value b.mode) → HasValueBefore p u b.cell) (task_of p u).accesses a (proper.values.cells u) has reads in
           later value.0 (omega (arith, value.1, below)) (omega (arith, value.1, before)) (subst (λ (q : Cell). gives_value (task_of p value.0) q ≡ true) same value.2)
 
-  -- a cell that the task writes and doesn't find as zeros had a value before it, and is used by it
-  old_value : has_cell (written_cells p t w) c ≡ true → has_cell (fresh_cells p t w) c ≡ false → HasValueBefore p t c × ((n : Manner) × Uses p t.0 c.0 n)
-  old_value written not_fresh =
-      let found = operand_for (worked_on p w) (λ a. is_written a.mode) (task_of p t).accesses c written in
-      let uses = operand-uses p t w found.0.mode found.0.cell inside staffed found.1 (written_isn't_scratch found.0.mode found.2) (redux-has_copies p proper.cells t inside found.0.mode found.0.cell found.1) in
+  -- a cell of the task that it doesn't find as zeros had a value before it, and is used by it
+  old_value : has_cell (cells_of p t w) c ≡ true → has_cell (fresh_cells p t w) c ≡ false → HasValueBefore p t c × ((n : Manner) × Uses p t.0 c.0 n)
+  old_value has not_fresh =
+      let found = operand_for (worked_on p w) (λ a. not (is_scratch a.mode)) (task_of p t).accesses c has in
+      let uses = operand-uses p t w found.0.mode found.0.cell inside staffed found.1 found.2 (redux-has_copies p proper.cells t inside found.0.mode found.0.cell found.1) in
       (by_mode found.0.mode found.0.cell found.1 found.2 found.3, (manner_of (task_of p t).codelet found.0.mode, subst (λ (q : Cell). Uses p t.0 q.0 (manner_of (task_of p t).codelet found.0.mode)) found.3 uses))
     where
       value : (a : Access) → Contains (task_of p t).accesses a → reads_value a.mode ≡ true → HasValueBefore p t a.cell
       value a has reads = All-contains (λ (b : Access). IsTrue (reads_value b.mode) → HasValueBefore p t b.cell) (task_of p t).accesses a (proper.values.cells t) has reads
 
-      by_mode : (x : Mode) (d : Cell) → Contains (task_of p t).accesses (access x d) → is_written x ≡ true → worked_on p w (access x d) ≡ c → HasValueBefore p t c
-      by_mode R d has writes is = absurd (false≢true writes)
-      by_mode Scratch d has writes is = absurd (false≢true writes)
-      by_mode W d has writes is =
+      by_mode : (x : Mode) (d : Cell) → Contains (task_of p t).accesses (access x d) → not (is_scratch x) ≡ true → worked_on p w (access x d) ≡ c → HasValueBefore p t c
+      by_mode Scratch d has accessed is = absurd (false≢true accessed)
+      by_mode W d has accessed is =
           let among : Contains (data_operands (task_of p t)) (access W d) = Contains-filter (λ (a : Access). not (is_scratch a.mode)) (task_of p t).accesses (access W d) refl has in
           let fresh = operand-has_cell (worked_on p w) (λ a. starts_as_zeros a.mode) (data_operands (task_of p t)) (access W d) c among refl ((Decides-eqb d.0 c.0).1 (ap (λ (q : Cell). q.0) is)) in
           absurd (false≢true (sym not_fresh ∙ fresh))
-      by_mode RW d has writes is = subst (HasValueBefore p t) is (value (access RW d) has refl)
-      by_mode CommuteMode d has writes is = subst (HasValueBefore p t) is (value (access CommuteMode d) has refl)
-      by_mode Redux d has writes is = subst (HasValueBefore p t) is (All-contains (λ (b : Access). IsTrue (is_redux b.mode) → (v : Worker) → v.0 < p.workers → HasValueBefore p t (copy_of p b.cell v)) (task_of p t).accesses (access Redux d) (proper.values.copies t) has refl w staffed)
+      by_mode R d has accessed is = subst (HasValueBefore p t) is (value (access R d) has refl)
+      by_mode RW d has accessed is = subst (HasValueBefore p t) is (value (access RW d) has refl)
+      by_mode CommuteMode d has accessed is = subst (HasValueBefore p t) is (value (access CommuteMode d) has refl)
+      by_mode Redux d has accessed is = subst (HasValueBefore p t) is (All-contains (λ (b : Access). IsTrue (is_redux b.mode) → (v : Worker) → v.0 < p.workers → HasValueBefore p t (copy_of p b.cell v)) (task_of p t).accesses (access Redux d) (proper.values.copies t) has refl w staffed)
 
   -- and so it has been written
-  pub old_value-written : WritesAreCounted p s → has_cell (written_cells p t w) c ≡ true → has_cell (fresh_cells p t w) c ≡ false → 0 < writes s c
-  old_value-written counts written not_fresh =
-      let both = old_value written not_fresh in
+  pub old_value-written : WritesAreCounted p s → has_cell (cells_of p t w) c ≡ true → has_cell (fresh_cells p t w) c ≡ false → 0 < writes s c
+  old_value-written counts has not_fresh =
+      let both = old_value has not_fresh in
       let found = wrote both.1.0 both.1.1 t.0 both.0.0 both.0.1 both.0.1 both.0.2 in
       let number : ℕ → Task = λ n. record { 0 = n } in
       let one : Task → ℕ = λ u. cond (has_written p s c u) 1 0 in

@@ -334,7 +334,7 @@ coming-isn't_valid w (Coming v) h = refl
 coming-isn't_valid w (Valid a) h = sym h
 coming-isn't_valid w (Leaving v a) h = sym h
 
-leaving-isn't_resting : (w : Worker) (r : Replica) → is_leaving_by w r ≡ true → (v : Worker) × (a : Array) × (r ≡ Leaving v a)
+pub leaving-isn't_resting : (w : Worker) (r : Replica) → is_leaving_by w r ≡ true → (v : Worker) × (a : Array) × (r ≡ Leaving v a)
 leaving-isn't_resting w Invalid h = absurd (false≢true h)
 leaving-isn't_resting w (Coming v) h = absurd (false≢true h)
 leaving-isn't_resting w (Valid a) h = absurd (false≢true h)

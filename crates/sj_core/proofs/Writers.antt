@@ -1,7 +1,7 @@
 -- A claim and a run keep that each cell which a running task writes is its worker's own.
-use Rattle.std.proofs.Common.{◌≡◌, ◌≢◌, ◌<◌, Bool, true, false, ◌&&◌, ◌||◌, cond, length, refl, sym, ap, ◌∙◌, subst, inl, inr, Option, None, Some, arith}
-use Rattle.std.specs.Prelude.{IfSome, is_some, unwrap_or, if◌then◌else◌}
-use Rattle.std.proofs.lemmas.Bool.{false≢true, and_parts}
+use Rattle.std.proofs.Common.{◌≡◌, ◌≢◌, ◌<◌, Bool, true, false, ◌||◌, cond, length, refl, sym, ap, ◌∙◌, subst, inl, inr, Option, None, Some}
+use Rattle.std.specs.Prelude.{if◌then◌else◌}
+use Rattle.std.proofs.lemmas.Bool.{false≢true}
 use Rattle.sj_base.specs.Array.{Array, zeros}
 use Rattle.sj_base.specs.declared.ids.Cell.{Cell}
 use Rattle.sj_base.specs.declared.ids.Task.{Task}
@@ -11,27 +11,26 @@ use Rattle.sj_base.specs.declared.ids.Place.{Place}
 use Rattle.sj_base.specs.declared.ids.Place.TheVariants.{Node as AtNode, Disk as OnDisk}
 use Rattle.sj_base.specs.declared.program.Program.{Program}
 use Rattle.sj_base.specs.declared.program.Machine.{Machine}
-use Rattle.sj_core.specs.Program.{same_cell, has_cell, dims_of, tasks_of}
+use Rattle.sj_core.specs.Program.{same_cell, has_cell, dims_of}
 use Rattle.sj_core.specs.Needs.{node_of}
-use Rattle.sj_core.specs.declared.progress.Progress.{Progress}
-use Rattle.sj_core.specs.declared.progress.Progress.TheVariants.{Waiting, Claimed, Running, Done}
+use Rattle.sj_core.specs.declared.progress.Progress.TheVariants.{Waiting, Claimed, Running}
 use Rattle.sj_core.specs.declared.progress.Transfer.{Transfer}
 use Rattle.sj_core.specs.Operands.{cells_of, written_cells, fresh_cells}
-use Rattle.sj_core.specs.Machine.{State, WorkerState, Invalid, Coming, Valid, progress, replica, pins, transfer, moves, array_of, is_valid, is_entry, is_task_of, is_running_on, worker_of}
+use Rattle.sj_core.specs.Machine.{State, WorkerState, Invalid, Coming, Valid, progress, replica, pins, transfer, moves, array_of, is_valid, is_entry, is_task_of}
 use Rattle.sj_core.specs.Step.{Claims, Runs, claimed_replica, leave, missing, array_at}
-use Rattle.sj_core.specs.Coherent.{WritersOwn, IsOwnedBy, written_content, content, is_being_written}
+use Rattle.sj_core.specs.Coherent.{WritersOwn, IsOwnedBy, written_content, content}
 use Rattle.sj_core.specs.Laws.{IsSound}
-use Rattle.sj_core.proofs.Reading.{list_all-has, same_node, same_cell-is, progress-inside}
+use Rattle.sj_core.proofs.Reading.{list_all-has, same_node, same_cell-is}
 use Rattle.sj_core.proofs.Advancing.{Claims-advances, Runs-advances, same_task, same_worker-refl}
 use Rattle.sj_core.proofs.TaskCells.{written-among_cells}
 use Rattle.sj_core.proofs.Workers.{Claims-keeps_workers, Claims-other_worker, run-worker, idle-has_none}
-use Rattle.sj_core.proofs.Separation.{separated, worker-inside, Claims-keeps_order}
+use Rattle.sj_core.proofs.Separation.{separated, Claims-keeps_order}
 use Rattle.sj_core.proofs.Holding.{not_true, entry-inside, run-other, run-own, run-spares, run-transfer, run-unmoved}
 use Rattle.sj_core.proofs.Claiming.{missing-absent, claim-elsewhere, claim-on_disk, claim-here, node-inside, entry-stays, pin-spared, claims-transfer}
 use Rattle.sj_core.proofs.Dependencies.{Proper-dependencies}
 use Rattle.sj_core.proofs.Forms.{Claims-keeps_state, run-only}
 use Rattle.sj_core.proofs.Choosing.{content-undone}
-use Rattle.sj_core.proofs.Values.{list_any-some, old_value-written}
+use Rattle.sj_core.proofs.Claimed.{value-is, claimed-task_of, claimed-not_written, claimed-old_value}
 
 -- ---- parts
 
@@ -49,12 +48,6 @@ unmoved-from s v c none = by_transfer (transfer s v) refl
     by_transfer : (o : Option Transfer) → transfer s v ≡ o → (elim o as (λ _. Bool) [ None ↦ false | Some x ↦ same_cell x.cell c ]) ≡ false
     by_transfer None e = refl
     by_transfer (Some x) e = not_true (same_cell x.cell c) (λ same. none x e (same_cell-is x.cell c same))
-
-running-task_of : (v : Worker) (x : Progress) → is_running_on v x ≡ true → is_task_of v x ≡ true
-running-task_of v Waiting h = absurd (false≢true h)
-running-task_of v (Claimed u) h = absurd (false≢true h)
-running-task_of v (Running u) h = h
-running-task_of v (Done u) h = absurd (false≢true h)
 
 -- ---- a claim
 
@@ -124,43 +117,15 @@ module _ (p : Program) (m : Machine) (s : State) (h : IsSound p m s) (t : Task) 
   run-content : (c : Cell) → content p s' c ≡ content p s c
   run-content c = content-undone p s s' t (Claimed w) (Running w) (Runs-advances p m s t w s' run) refl refl c
 
-  our_task : is_task_of w (progress s t) ≡ true
-  our_task = ap (is_task_of w) run.claimed ∙ ap (λ b. b || false) (same_worker-refl w)
-
-  -- no running task writes a cell of the claimed one
-  run-not_written : (c : Cell) → has_cell (cells_of p t w) c ≡ true → is_being_written p s c ≡ false
-  run-not_written c has = not_true (is_being_written p s c) (λ written.
-      (let found = list_any-some (λ u. is_running_on (worker_of (progress s u)) (progress s u) && has_cell (written_cells p u (worker_of (progress s u))) c) (tasks_of p) written in
-      let both = and_parts (is_running_on (worker_of (progress s found.0)) (progress s found.0)) (has_cell (written_cells p found.0 (worker_of (progress s found.0))) c) found.2 in
-      clash found.0 both.0 both.1))
-    where
-      clash : (u : Task) → is_running_on (worker_of (progress s u)) (progress s u) ≡ true → has_cell (written_cells p u (worker_of (progress s u))) c ≡ true → ⊥
-      clash u runs writes =
-          let other : t ≢ u = λ e. false≢true (sym (ap (λ (x : Progress). is_running_on (worker_of x) x) run.claimed) ∙ ap (λ (k : Task). is_running_on (worker_of (progress s k)) (progress s k)) e ∙ runs) in
-          separated p m h.proper.cells (Proper-dependencies p h.proper) s h.coherent.state h.coherent.workers h.coherent.order t u w (worker_of (progress s u)) c other our_task (running-task_of (worker_of (progress s u)) (progress s u) runs) has writes
-
-  run-staffed : w.0 < p.workers
-  run-staffed = worker-inside p m h.proper.cells (Proper-dependencies p h.proper) s h.coherent.state h.coherent.workers h.coherent.order t w our_task
-
-  run-task_inside : t.0 < length p.tasks
-  run-task_inside = omega (arith, progress-inside s t (λ e. claimed_isn't_waiting (sym run.claimed ∙ e)), h.coherent.state.rows.tasks)
-    where
-      claimed_isn't_waiting : Claimed w ≡ Waiting → ⊥
-      claimed_isn't_waiting e = cc
-
   -- what the claimed task finds in a cell whose old value it reads is what the cell ought to hold
   run-found : (c : Cell) → has_cell (written_cells p t w) c ≡ true → has_cell (fresh_cells p t w) c ≡ false → array_at p s (AtNode (node_of m w)) c ≡ content p s c
   run-found c written not_fresh =
       let has = written-among_cells p t w c written in
-      let positive = old_value-written p h.proper s t w run-task_inside run-staffed run.earlier c h.coherent.counts written not_fresh in
+      let positive = claimed-old_value p m s h t w run.claimed c has not_fresh in
       let test : Cell → Bool = λ d. has_cell (fresh_cells p t w) d || is_valid (replica s d (AtNode (node_of m w))) in
       let present = list_all-has test (cells_of p t w) c run.present has in
       let valid : is_valid (replica s c (AtNode (node_of m w))) ≡ true = sym (ap (λ b. b || is_valid (replica s c (AtNode (node_of m w)))) not_fresh) ∙ present in
-      held (array_of (replica s c (AtNode (node_of m w)))) (content p s c) (zeros (dims_of p c)) valid (h.coherent.copies.alike c (AtNode (node_of m w)) positive (run-not_written c has))
-    where
-      held : (o : Option Array) (x d : Array) → is_some o ≡ true → IfSome o (λ a. a ≡ x) → unwrap_or o d ≡ x
-      held None x d some e = absurd (false≢true some)
-      held (Some a) x d some e = e
+      value-is (array_of (replica s c (AtNode (node_of m w)))) (content p s c) (zeros (dims_of p c)) valid (h.coherent.copies.alike c (AtNode (node_of m w)) positive (claimed-not_written p m s h t w run.claimed c has))
 
   run-initial : (c : Cell) → has_cell (written_cells p t w) c ≡ true → (b : Bool) → has_cell (fresh_cells p t w) c ≡ b → (if b then zeros (dims_of p c) else array_at p s (AtNode (node_of m w)) c) ≡ (if b then zeros (dims_of p c) else content p s' c)
   run-initial c written true fresh = refl
@@ -180,7 +145,7 @@ module _ (p : Program) (m : Machine) (s : State) (h : IsSound p m s) (t : Task) 
       record {
         valid = run-own p m s t w s' run c written inside.0 inside.1 ∙ ap (λ (x : Array). Valid x) (run-initial c written (has_cell (fresh_cells p t w) c) refl);
         only = λ q elsewhere. run-only p m s t w s' run c q written elsewhere;
-        pinned = run-pins w c ∙ h.coherent.cells.pinned t w c our_task has;
+        pinned = run-pins w c ∙ h.coherent.cells.pinned t w c (claimed-task_of p m s h t w run.claimed) has;
         unmoved = λ x. run-moves x c ∙ unmoved-from s x c (λ y under_way e. false≢true (sym (run-unmoved p m h.proper.cells (Proper-dependencies p h.proper) s h.coherent.state h.coherent.cells h.coherent.pins h.coherent.transfers h.coherent.workers h.coherent.order t w s' run x y under_way) ∙ ap (has_cell (written_cells p t w)) e ∙ written));
       }
 

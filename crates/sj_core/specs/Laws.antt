@@ -1,27 +1,28 @@
 -- What the steps of a task keep: laws of all proper programs, machines and coherent states.
+use Rattle.sj_base.specs.declared.ids.Cell.{Cell}
 use Rattle.std.specs.Prelude.{◌≡◌, Bool, true, false, IsTrue, List, [], ◌∷◌, length, All, Contains, IfSome}
 use Rattle.sj_base.specs.declared.ids.Task.{Task}
+use Rattle.sj_base.specs.declared.ids.Node.{Node}
 use Rattle.sj_base.specs.declared.ids.Worker.{Worker}
+use Rattle.sj_base.specs.declared.ids.DiskNo.{DiskNo}
+use Rattle.sj_base.specs.declared.ids.Place.{Place}
+use Rattle.sj_base.specs.declared.program.Program.{Program}
+use Rattle.sj_base.specs.declared.program.Machine.{Machine}
+use Rattle.sj_core.specs.Machine.{State, progress, replica, array_of, is_valid}
+use Rattle.sj_core.specs.Proper.{Proper, IsMachineFor, reads_value, gives_value, access}
+use Rattle.sj_core.specs.Coherent.{Coherent}
+use Rattle.sj_core.specs.Step.{Claims, BeginsMoveIn, BeginsMoveOut, EndsMove, Drops, Runs, Ends, array_at}
 use Rattle.sj_base.specs.declared.mode.Mode.{Mode}
 use Rattle.sj_base.specs.declared.mode.Mode.TheVariants.{R, Redux, Commute}
 use Rattle.sj_base.specs.declared.mode.Access.{Access}
-use Rattle.sj_base.specs.declared.ids.Cell.{Cell}
-use Rattle.sj_base.specs.declared.ids.Place.{Place}
 use Rattle.sj_base.specs.declared.ids.Place.TheVariants.{Node as AtNode}
 use Rattle.sj_base.specs.declared.trace.Event.{Event}
-use Rattle.sj_base.specs.declared.trace.Event.TheVariants.{Claim, Run, End}
 use Rattle.sj_base.specs.Array.{Array}
-use Rattle.sj_base.specs.declared.program.Program.{Program}
-use Rattle.sj_base.specs.declared.program.Machine.{Machine}
 use Rattle.sj_core.specs.declared.progress.Progress.TheVariants.{Claimed, Running}
 use Rattle.sj_core.specs.Program.{task_of}
 use Rattle.sj_core.specs.Needs.{node_of}
 use Rattle.sj_core.specs.Fold.{held_before, given}
-use Rattle.sj_core.specs.Machine.{State, progress, replica, array_of, is_valid}
-use Rattle.sj_core.specs.Proper.{Proper, IsMachineFor, reads_value, gives_value, access}
-use Rattle.sj_core.specs.Coherent.{Coherent}
-use Rattle.sj_core.specs.Step.{Claims, Runs, Ends, array_at}
-use Rattle.sj_core.specs.Legal.{Leads, IsComplete}
+use Rattle.sj_core.specs.Legal.{Replays, IsComplete}
 
 -- a coherent state of a proper program on a machine for it
 pub record IsSound (p : Program) (m : Machine) (s : State) : Type 0 where
@@ -40,6 +41,22 @@ IsKeptByRuns Fact = (p : Program) (m : Machine) (s s' : State) (t : Task) (w : W
 -- the fact holds after each end in a coherent state
 abbrev pub IsKeptByEnds : (Program → Machine → State → Type 0) → Type 0
 IsKeptByEnds Fact = (p : Program) (m : Machine) (s s' : State) (t : Task) (w : Worker) → IsSound p m s → Ends p m s t w s' → Fact p m s'
+
+-- the fact holds after each move into a node that begins in a coherent state
+abbrev pub IsKeptByMovesIn : (Program → Machine → State → Type 0) → Type 0
+IsKeptByMovesIn Fact = (p : Program) (m : Machine) (s s' : State) (c : Cell) (from : Place) (n : Node) (w : Worker) → IsSound p m s → BeginsMoveIn p m s c from n w s' → Fact p m s'
+
+-- the fact holds after each move out to a disk that begins in a coherent state
+abbrev pub IsKeptByMovesOut : (Program → Machine → State → Type 0) → Type 0
+IsKeptByMovesOut Fact = (p : Program) (m : Machine) (s s' : State) (c : Cell) (from : Place) (d : DiskNo) (w : Worker) → IsSound p m s → BeginsMoveOut p m s c from d w s' → Fact p m s'
+
+-- the fact holds after each move that ends in a coherent state
+abbrev pub IsKeptByEndedMoves : (Program → Machine → State → Type 0) → Type 0
+IsKeptByEndedMoves Fact = (p : Program) (m : Machine) (s s' : State) (c : Cell) (from to : Place) (w : Worker) → IsSound p m s → EndsMove p s c from to w s' → Fact p m s'
+
+-- the fact holds after each drop in a coherent state
+abbrev pub IsKeptByDrops : (Program → Machine → State → Type 0) → Type 0
+IsKeptByDrops Fact = (p : Program) (m : Machine) (s s' : State) (c : Cell) (n : Node) → IsSound p m s → Drops m s c n s' → Fact p m s'
 
 -- ---- programs whose accesses are all in order
 
@@ -74,17 +91,6 @@ DeliversGiven = (p : Program) (m : Machine) (s : State) (t : Task) (w : Worker) 
 
 -- ---- whole traces
 
--- the event is a claim, a run or an end
-abbrev pub is_of_task : Event → Bool
-is_of_task (Claim t w) = true
-is_of_task (Run t w) = true
-is_of_task (End t w) = true
-is_of_task _ = false
-
--- from a sound state of a program with such accesses alone, each legal trace of claims, runs and ends leaves one
-abbrev pub TasksKeepCoherence : Type 0
-TasksKeepCoherence = (p : Program) (m : Machine) (s s' : State) (trace : List Event) → IsSound p m s → HasPlainModes p → All (λ e. IsTrue (is_of_task e)) trace → Leads p m s trace s' → Coherent p m s'
-
 -- the array of a cell after all tasks of the program in submission order, with each contribution by worker 0
 abbrev pub final : Program → Cell → Array
 final p c = held_before p (length p.tasks) c
@@ -97,3 +103,11 @@ pub record HoldsFinal (p : Program) (s : State) : Type 0 where
 -- it is so where all tasks are done
 abbrev pub CompleteHoldsFinal : Type 0
 CompleteHoldsFinal = (p : Program) (m : Machine) (s : State) → IsSound p m s → HasPlainModes p → IsComplete s → HoldsFinal p s
+
+-- each legal trace of a proper program with such accesses alone leaves a coherent state
+abbrev pub TracesKeepCoherence : Type 0
+TracesKeepCoherence = (p : Program) (m : Machine) (s : State) (trace : List Event) → Proper p → IsMachineFor p m → HasPlainModes p → Replays p m trace s → Coherent p m s
+
+-- and where it is complete, that state holds what all tasks leave
+abbrev pub CompleteTracesHoldFinal : Type 0
+CompleteTracesHoldFinal = (p : Program) (m : Machine) (s : State) (trace : List Event) → Proper p → IsMachineFor p m → HasPlainModes p → Replays p m trace s → IsComplete s → HoldsFinal p s

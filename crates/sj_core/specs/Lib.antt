@@ -10,3 +10,5 @@ pub mod Proper
 pub mod Step
 pub mod Table
 pub mod Victims
+pub mod Once
+pub mod Bound

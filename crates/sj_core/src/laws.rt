@@ -1,10 +1,16 @@
-//! What the steps of a task keep of a coherent state, whatever the program, the machine and the order of events.
+//! What the steps of a run keep of a coherent state, and what legal traces come to, whatever the program, the
+//! machine and the order of events.
 
+ghost use Rattle.std.specs.Prelude.{All, IsTrue, List};
+ghost use Rattle.sj_base.specs.declared.trace.Event.{Event};
 ghost use Rattle.sj_base.specs.declared.program.Program.{Program};
 ghost use Rattle.sj_base.specs.declared.program.Machine.{Machine};
+ghost use Rattle.sj_core.specs.Bound.{HasAtMostThreePerTask, is_of_task};
 ghost use Rattle.sj_core.specs.Coherent.{Coherent, IsStateOf, NodesSuffice, OrderIsKept, PinsHold, TasksHaveCells, TransfersAreSound, WorkersAreSound, WritesAreCounted};
-ghost use Rattle.sj_core.specs.Laws.{CompleteHoldsFinal, DeliversGiven, FindsEarlierTasks, IsKeptByClaims, IsKeptByEnds, IsKeptByPlainEnds, IsKeptByRuns, TasksKeepCoherence};
+ghost use Rattle.sj_core.specs.Laws.{CompleteHoldsFinal, CompleteTracesHoldFinal, DeliversGiven, FindsEarlierTasks, IsKeptByClaims, IsKeptByDrops, IsKeptByEndedMoves, IsKeptByEnds, IsKeptByMovesIn, IsKeptByMovesOut, IsKeptByPlainEnds, IsKeptByRuns, TracesKeepCoherence};
+ghost use Rattle.sj_core.specs.Legal.{IsFinished, IsLegal};
 ghost use Rattle.sj_core.specs.Machine.{opening};
+ghost use Rattle.sj_core.specs.Once.{EachRanOnce};
 ghost use Rattle.sj_core.specs.Proper.{Proper};
 ghost use Rattle.sj_deps.specs.Conflict.{HasDependencies};
 
@@ -41,6 +47,26 @@ pub fn ends()
     ensures coherent { IsKeptByPlainEnds Coherent }
 {}
 
+/// The beginning of a move into a node leaves a coherent state.
+pub fn moves_in()
+    ensures { IsKeptByMovesIn Coherent }
+{}
+
+/// The beginning of a move out to a disk leaves a coherent state.
+pub fn moves_out()
+    ensures { IsKeptByMovesOut Coherent }
+{}
+
+/// The end of a move leaves a coherent state.
+pub fn ended_moves()
+    ensures { IsKeptByEndedMoves Coherent }
+{}
+
+/// A drop leaves a coherent state.
+pub fn drops()
+    ensures { IsKeptByDrops Coherent }
+{}
+
 /// What a task finds on its worker's node: what all tasks before it, in submission order, have left in its cells.
 pub fn deliveries()
     ensures finds_earlier_tasks { FindsEarlierTasks }
@@ -52,7 +78,20 @@ pub fn completions()
     ensures { CompleteHoldsFinal }
 {}
 
-/// What each legal trace of claims, runs and ends keeps: coherence, after each event.
+/// Each legal trace leaves a coherent state, and a complete one what the tasks leave in submission order.
 pub fn traces()
-    ensures { TasksKeepCoherence }
+    ensures keep_coherence { TracesKeepCoherence }
+    ensures hold_final { CompleteTracesHoldFinal }
+{}
+
+/// In a trace that is legal and finished each task was claimed, ran and ended once.
+pub fn finishes()
+    ensures { (p : Program) (m : Machine) (trace : List Event) →
+        IsFinished p m trace → EachRanOnce p trace }
+{}
+
+/// A legal trace of claims, runs and ends has at most three events for each task of the program.
+pub fn bounds()
+    ensures { (p : Program) (m : Machine) (trace : List Event) →
+        IsLegal p m trace → All (λ e. IsTrue (is_of_task e)) trace → HasAtMostThreePerTask p trace }
 {}

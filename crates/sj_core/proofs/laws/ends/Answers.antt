@@ -1,7 +1,7 @@
-use Rattle.sj_core.proofs.Coherence.{Ends-keeps_coherence}
 use Rattle.sj_core.proofs.Bytes.{Ends-keeps_bytes}
 use Rattle.sj_core.proofs.Forms.{Ends-keeps_state}
 use Rattle.sj_core.proofs.Dependencies.{Proper-dependencies}
+use Rattle.sj_core.proofs.Coherence.{Ends-keeps_coherence}
 use Rattle.sj_core.proofs.Counting.{Ends-keeps_counts}
 use Rattle.sj_core.proofs.Advancing.{Ends-keeps_order}
 use Rattle.sj_core.proofs.Holding.{Ends-keeps_cells, Ends-keeps_pins, Ends-keeps_transfers}

@@ -1,0 +1,137 @@
+-- In a legal trace that leaves all tasks done, each was claimed, ran and ended once.
+use Rattle.std.proofs.Common.{◌≡◌, ◌≢◌, ℕ, ◌+◌, Bool, true, false, cond, List, [], ◌∷◌, length, refl, sym, ap, ◌∙◌, subst, arith}
+use Rattle.std.proofs.Math.Logic.{∥∥₁_elim}
+use Rattle.std.proofs.Math.Nat.{ℕ_set}
+use Rattle.std.specs.Prelude.{count_by, nat_eq}
+use Rattle.std.proofs.lemmas.Bool.{false≢true}
+use Rattle.std.proofs.lemmas.Bool.Decides.{Decides-eqb}
+use Rattle.std.proofs.lemmas.List.{length-set, length-replicate, get_or-replicate}
+use Rattle.std.proofs.lemmas.List.Sums.{AllPass-from_list_all, sum_by-cons}
+use Rattle.sj_base.specs.declared.ids.Task.{Task}
+use Rattle.sj_base.specs.declared.ids.Place.TheVariants.{Node as AtNode, Disk as OnDisk}
+use Rattle.sj_base.specs.declared.trace.Event.{Event}
+use Rattle.sj_base.specs.declared.trace.Event.TheVariants.{Claim, Move, Moved, Drop, Run, End}
+use Rattle.sj_base.specs.declared.program.Program.{Program}
+use Rattle.sj_base.specs.declared.program.Machine.{Machine}
+use Rattle.sj_core.specs.declared.progress.Progress.{Progress}
+use Rattle.sj_core.specs.declared.progress.Progress.TheVariants.{Waiting, Claimed, Running, Done}
+use Rattle.sj_core.specs.Machine.{State, progress, opening, is_done}
+use Rattle.sj_core.specs.Step.{Step}
+use Rattle.sj_core.specs.Coherent.{is_begun}
+use Rattle.sj_core.specs.Legal.{Leads, Finishes, IsFinished}
+use Rattle.sj_core.specs.Once.{EachRanOnce, is_claim_of, is_run_of, is_end_of}
+use Rattle.sj_core.proofs.Advancing.{Advances, Claims-advances_task, Runs-advances, Ends-advances}
+
+abbrev one : Bool → ℕ
+one b = cond b 1 0
+
+-- the task runs or is done
+abbrev is_started : Progress → Bool
+is_started (Running w) = true
+is_started (Done w) = true
+is_started _ = false
+
+-- so many claims, runs and ends of a task take it from x to y
+record Takes (x y : Progress) (claims runs ends : ℕ) : Type 0 where
+  pub begun : claims + one (is_begun x) ≡ one (is_begun y)
+  pub started : runs + one (is_started x) ≡ one (is_started y)
+  pub done : ends + one (is_done x) ≡ one (is_done y)
+
+stays : (x y : Progress) → y ≡ x → Takes x y 0 0 0
+stays x y same = record {
+  begun = (let e = ap (λ (z : Progress). one (is_begun z)) same in omega arith);
+  started = (let e = ap (λ (z : Progress). one (is_started z)) same in omega arith);
+  done = (let e = ap (λ (z : Progress). one (is_done z)) same in omega arith);
+}
+
+-- ---- one step
+
+-- what a step of the task t says of the task u: the numbers are by whether u is t
+takes-by : (s s' : State) (t u : Task) (old new : Progress) (claims runs ends : Bool → ℕ) → Advances s s' t old new → Takes old new (claims true) (runs true) (ends true) → claims false ≡ 0 → runs false ≡ 0 → ends false ≡ 0 → (same : Bool) → nat_eq t.0 u.0 ≡ same → Takes (progress s u) (progress s' u) (claims same) (runs same) (ends same)
+takes-by s s' t u old new claims runs ends a takes no_claim no_run no_end true h =
+    let is_t : t ≡ u = ap (λ (n : ℕ). let k : Task = record { 0 = n } in k) ((Decides-eqb t.0 u.0).0 h) in
+    subst (λ (k : Task). Takes (progress s k) (progress s' k) (claims true) (runs true) (ends true)) is_t
+    (subst (λ (x : Progress). Takes x (progress s' t) (claims true) (runs true) (ends true)) (sym a.was)
+    (subst (λ (y : Progress). Takes old y (claims true) (runs true) (ends true)) (sym a.is) takes))
+takes-by s s' t u old new claims runs ends a takes no_claim no_run no_end false h =
+    let other : u ≢ t = λ e. false≢true (sym h ∙ (Decides-eqb t.0 u.0).1 (sym (ap (λ (k : Task). k.0) e))) in
+    let kept = stays (progress s u) (progress s' u) (a.others u other) in
+    record { begun = omega (arith, kept.begun, no_claim); started = omega (arith, kept.started, no_run); done = omega (arith, kept.done, no_end) }
+
+abbrev none : Bool → ℕ
+none same = 0
+
+-- a step of the machine takes each task as far as its event says
+step-takes : (p : Program) (m : Machine) (s s' : State) (e : Event) (u : Task) → length s.tasks ≡ length p.tasks → Step p m s e s' → Takes (progress s u) (progress s' u) (one (is_claim_of u e)) (one (is_run_of u e)) (one (is_end_of u e))
+step-takes p m s s' (Claim t w) u rows step =
+    takes-by s s' t u Waiting (Claimed w) one none none (Claims-advances_task p m s t w s' rows step) (record { begun = refl; started = refl; done = refl }) refl refl refl (nat_eq t.0 u.0) refl
+step-takes p m s s' (Run t w) u rows step =
+    takes-by s s' t u (Claimed w) (Running w) none one none (Runs-advances p m s t w s' step) (record { begun = refl; started = refl; done = refl }) refl refl refl (nat_eq t.0 u.0) refl
+step-takes p m s s' (End t w) u rows step =
+    takes-by s s' t u (Running w) (Done w) none none one (Ends-advances p m s t w s' step) (record { begun = refl; started = refl; done = refl }) refl refl refl (nat_eq t.0 u.0) refl
+step-takes p m s s' (Move c from (AtNode n)) u rows (w, step) = stays (progress s u) (progress s' u) (ap (λ (z : State). progress z u) step.leaves)
+step-takes p m s s' (Move c from (OnDisk d)) u rows (w, step) = stays (progress s u) (progress s' u) (ap (λ (z : State). progress z u) step.leaves)
+step-takes p m s s' (Moved c from to) u rows (w, step) = stays (progress s u) (progress s' u) (ap (λ (z : State). progress z u) step.leaves)
+step-takes p m s s' (Drop c n) u rows step = stays (progress s u) (progress s' u) (ap (λ (z : State). progress z u) step.leaves)
+
+-- each step keeps a row for each task
+pub step-rows : (p : Program) (m : Machine) (s s' : State) (e : Event) → Step p m s e s' → length s'.tasks ≡ length s.tasks
+step-rows p m s s' (Claim t w) step = ap (λ (z : State). length z.tasks) step.leaves ∙ length-set s.tasks t.0 (Claimed w)
+step-rows p m s s' (Run t w) step = ap (λ (z : State). length z.tasks) step.leaves ∙ length-set s.tasks t.0 (Running w)
+step-rows p m s s' (End t w) step = ap (λ (z : State). length z.tasks) step.leaves ∙ length-set s.tasks t.0 (Done w)
+step-rows p m s s' (Move c from (AtNode n)) (w, step) = ap (λ (z : State). length z.tasks) step.leaves
+step-rows p m s s' (Move c from (OnDisk d)) (w, step) = ap (λ (z : State). length z.tasks) step.leaves
+step-rows p m s s' (Moved c from to) (w, step) = ap (λ (z : State). length z.tasks) step.leaves
+step-rows p m s s' (Drop c n) step = ap (λ (z : State). length z.tasks) step.leaves
+
+-- ---- whole traces
+
+pub trace-rows : (p : Program) (m : Machine) (s s' : State) (trace : List Event) → Leads p m s trace s' → length s'.tasks ≡ length s.tasks
+trace-rows p m s s' [] e = ap (λ (z : State). length z.tasks) (sym e)
+trace-rows p m s s' (e ∷ trace) (between, step, rest) = trace-rows p m between s' trace rest ∙ step-rows p m s between e step
+
+-- a legal trace takes each task as far as its events say
+trace-takes : (p : Program) (m : Machine) (s s' : State) (trace : List Event) (u : Task) → length s.tasks ≡ length p.tasks → Leads p m s trace s' → Takes (progress s u) (progress s' u) (count_by (is_claim_of u) trace) (count_by (is_run_of u) trace) (count_by (is_end_of u) trace)
+trace-takes p m s s' [] u rows e = stays (progress s u) (progress s' u) (ap (λ (z : State). progress z u) (sym e))
+trace-takes p m s s' (e ∷ trace) u rows (between, step, rest) =
+    let first = step-takes p m s between e u rows step in
+    let later = trace-takes p m between s' trace u (step-rows p m s between e step ∙ rows) rest in
+    let claims = sum_by-cons (λ (d : Event). one (is_claim_of u d)) e trace in
+    let runs = sum_by-cons (λ (d : Event). one (is_run_of u d)) e trace in
+    let ends = sum_by-cons (λ (d : Event). one (is_end_of u d)) e trace in
+    record { begun = omega (arith, first.begun, later.begun, claims); started = omega (arith, first.started, later.started, runs); done = omega (arith, first.done, later.done, ends) }
+
+done-begun : (x : Progress) → is_done x ≡ true → is_begun x ≡ true
+done-begun Waiting h = h
+done-begun (Claimed w) h = refl
+done-begun (Running w) h = refl
+done-begun (Done w) h = refl
+
+done-started : (x : Progress) → is_done x ≡ true → is_started x ≡ true
+done-started Waiting h = h
+done-started (Claimed w) h = h
+done-started (Running w) h = refl
+done-started (Done w) h = refl
+
+-- what takes a task from waiting to done is one claim, one run and one end
+takes-all : (x y : Progress) (claims runs ends : ℕ) → Takes x y claims runs ends → x ≡ Waiting → is_done y ≡ true → (claims ≡ 1) × (runs ≡ 1) × (ends ≡ 1)
+takes-all x y claims runs ends takes waits is_last = (
+  (let from = ap (λ (z : Progress). one (is_begun z)) waits in let to = ap one (done-begun y is_last) in omega (arith, takes.begun)),
+  (let from = ap (λ (z : Progress). one (is_started z)) waits in let to = ap one (done-started y is_last) in omega (arith, takes.started)),
+  (let from = ap (λ (z : Progress). one (is_done z)) waits in let to = ap one is_last in omega (arith, takes.done)),
+)
+
+trace-once : (p : Program) (m : Machine) (trace : List Event) → Finishes p m trace → EachRanOnce p trace
+trace-once p m trace f t inside =
+    let rows : length (opening p m).tasks ≡ length p.tasks = length-replicate (length p.tasks) Waiting in
+    let waits : progress (opening p m) t ≡ Waiting = get_or-replicate (length p.tasks) t.0 Waiting Waiting inside in
+    let is_last : is_done (progress f.left t) ≡ true = AllPass-from_list_all is_done f.left.tasks f.complete t.0 Waiting (omega (arith, inside, rows, trace-rows p m (opening p m) f.left trace f.replays)) in
+    let once = takes-all (progress (opening p m) t) (progress f.left t) (count_by (is_claim_of t) trace) (count_by (is_run_of t) trace) (count_by (is_end_of t) trace) (trace-takes p m (opening p m) f.left trace t rows f.replays) waits is_last in
+    record { claimed_once = once.0; run_once = once.1; ended_once = once.2 }
+
+pub finished-once : (p : Program) (m : Machine) (trace : List Event) → IsFinished p m trace → EachRanOnce p trace
+finished-once p m trace finished t inside = record {
+  claimed_once = ∥∥₁_elim finished (ℕ_set (count_by (is_claim_of t) trace) 1) (λ f. (trace-once p m trace f t inside).claimed_once);
+  run_once = ∥∥₁_elim finished (ℕ_set (count_by (is_run_of t) trace) 1) (λ f. (trace-once p m trace f t inside).run_once);
+  ended_once = ∥∥₁_elim finished (ℕ_set (count_by (is_end_of t) trace) 1) (λ f. (trace-once p m trace f t inside).ended_once);
+}

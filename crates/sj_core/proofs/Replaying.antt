@@ -1,0 +1,47 @@
+-- Each step keeps coherence whole, and so does each legal trace; a complete one leaves what all tasks leave in submission order.
+use Rattle.std.proofs.Common.{List, [], ◌∷◌, subst}
+use Rattle.sj_base.specs.declared.ids.Place.TheVariants.{Node as AtNode, Disk as OnDisk}
+use Rattle.sj_base.specs.declared.trace.Event.{Event}
+use Rattle.sj_base.specs.declared.trace.Event.TheVariants.{Claim, Move, Moved, Drop, Run, End}
+use Rattle.sj_base.specs.declared.program.Program.{Program}
+use Rattle.sj_base.specs.declared.program.Machine.{Machine}
+use Rattle.sj_core.specs.Machine.{State, opening}
+use Rattle.sj_core.specs.Step.{Step}
+use Rattle.sj_core.specs.Legal.{Leads, Replays, IsComplete}
+use Rattle.sj_core.specs.Proper.{Proper, IsMachineFor}
+use Rattle.sj_core.specs.Coherent.{Coherent}
+use Rattle.sj_core.specs.Laws.{IsSound, HasPlainModes, HoldsFinal}
+use Rattle.sj_core.proofs.Dependencies.{Proper-dependencies}
+use Rattle.sj_core.proofs.Dropping.{Drops-keeps_coherence}
+use Rattle.sj_core.proofs.MovingIn.{Moves_in-keep_coherence}
+use Rattle.sj_core.proofs.MovingOut.{Moves_out-keep_coherence}
+use Rattle.sj_core.proofs.Arriving.{Ended_moves-keep_coherence}
+use Rattle.sj_core.proofs.Coherence.{Claims-keeps_coherence, Runs-keeps_coherence, Ends-keeps_coherence}
+use Rattle.sj_core.proofs.Completing.{complete-final}
+use Rattle.sj_core.proofs.Opening.{opening-coherent}
+
+module _ (p : Program) (m : Machine) (proper : Proper p) (machine : IsMachineFor p m) (plain : HasPlainModes p) where
+  sound : (s : State) → Coherent p m s → IsSound p m s
+  sound s c = record { proper = proper; machine = machine; coherent = c }
+
+  -- each legal step keeps coherence whole
+  Step-keeps_coherence : (s : State) (e : Event) (s' : State) → Coherent p m s → Step p m s e s' → Coherent p m s'
+  Step-keeps_coherence s (Claim t w) s' c step = Claims-keeps_coherence p m s s' t w (sound s c) step
+  Step-keeps_coherence s (Move x from (AtNode n)) s' c (w, step) = Moves_in-keep_coherence p m s (sound s c) x from n w s' step
+  Step-keeps_coherence s (Move x from (OnDisk d)) s' c (w, step) = Moves_out-keep_coherence p m s (sound s c) x from d w s' step
+  Step-keeps_coherence s (Moved x from to) s' c (w, step) = Ended_moves-keep_coherence p m s (sound s c) x from to w s' step
+  Step-keeps_coherence s (Drop x n) s' c step = Drops-keeps_coherence p m s (sound s c) x n s' step
+  Step-keeps_coherence s (Run t w) s' c step = Runs-keeps_coherence p m s s' t w (sound s c) step
+  Step-keeps_coherence s (End t w) s' c step = Ends-keeps_coherence p m s s' t w (sound s c) plain step
+
+  Leads-keeps_coherence : (trace : List Event) (s s' : State) → Coherent p m s → Leads p m s trace s' → Coherent p m s'
+  Leads-keeps_coherence [] s s' c leads = subst (λ (z : State). Coherent p m z) leads c
+  Leads-keeps_coherence (e ∷ trace) s s' c (next, step, rest) = Leads-keeps_coherence trace next s' (Step-keeps_coherence s e next c step) rest
+
+  -- and so does each legal trace
+  pub Replays-coherent : (trace : List Event) (s : State) → Replays p m trace s → Coherent p m s
+  Replays-coherent trace s replays = Leads-keeps_coherence trace (opening p m) s (opening-coherent p m) replays
+
+  -- where it is complete, the cells hold what all tasks leave in submission order
+  pub Replays-final : (trace : List Event) (s : State) → Replays p m trace s → IsComplete s → HoldsFinal p s
+  Replays-final trace s replays complete = complete-final p m proper (Proper-dependencies p proper) plain s (Replays-coherent trace s replays) complete
