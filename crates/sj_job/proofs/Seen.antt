@@ -18,7 +18,7 @@ use Rattle.sj_job.specs.declared.names.Names.{Names}
 use Rattle.sj_job.specs.State.{Root, State, root_of, start}
 use Rattle.sj_job.specs.Meaning.{no_values, first_elements, registered_root, register, is_written, written_names, put, put_all, invalidate, unregister}
 use Rattle.sj_job.specs.Judge.{known_of, scope_of}
-use Rattle.sj_job.specs.Names.{known_in, ended_in, scope_in, gives_values, revalued, after_writes}
+use Rattle.sj_job.specs.Names.{known_in, ended_in, scope_in, gives_values, revalued, after_write, after_writes}
 use Rattle.sj_job.specs.Sees.{Sees, Shows}
 
 -- what a state shows the reasons of a name
@@ -197,8 +197,8 @@ after_writes_same : (os : List Operand) (k l : List ℕ → Option Known) → ((
 after_writes_same os k l h q = λ i. after_writes os (λ p. h p i) q
 
 -- one operand more is noted
-pub written_more : (os : List Operand) (i : ℕ) (o : Operand) (k new : List ℕ → Option Known) → drop i os ≡ o ∷ drop (i + 1) os → ((q : List ℕ) → new q ≡ (cond (is_written o.mode) (revalued true o.name k) k) q) → (q : List ℕ) → after_writes (drop (i + 1) os) new q ≡ after_writes (drop i os) k q
-written_more os i o k new e h q = after_writes_same (drop (i + 1) os) new (cond (is_written o.mode) (revalued true o.name k) k) h q ∙ ap (λ l. after_writes l k q) (sym e)
+pub written_more : (os : List Operand) (i : ℕ) (o : Operand) (k new : List ℕ → Option Known) → drop i os ≡ o ∷ drop (i + 1) os → ((q : List ℕ) → new q ≡ after_write o k q) → (q : List ℕ) → after_writes (drop (i + 1) os) new q ≡ after_writes (drop i os) k q
+written_more os i o k new e h q = after_writes_same (drop (i + 1) os) new (after_write o k) h q ∙ ap (λ l. after_writes l k q) (sym e)
 
 updated : (b v : Bool) (known : Known) (k : Option Known) → (b ≡ true → k ≡ Some known) → cond b (Some (with_valued v known)) k ≡ cond b (option_map (with_valued v) k) k
 updated true v known k h = sym (ap (option_map (with_valued v)) (h refl))

@@ -133,11 +133,15 @@ needs_value _ = false
 abbrev pub lacks_value : Scope → List ℕ → Bool
 lacks_value s name = elim (s.known name) [ None ↦ false | Some k ↦ not k.valued ]
 
+-- an operand's old value is needed and isn't there
+abbrev pub is_lacking : Scope → Operand → Bool
+is_lacking s o = needs_value o.mode && lacks_value s o.name
+
 -- the operands' own conditions, for a codelet of the table
 abbrev pub operand_reasons : Scope → Kernel → Call → List (Bool × Reason)
 operand_reasons s k t =
     (not (is_counted k t), OperandCount) ∷ (not (is_shaped s k t), Shape) ∷ (is_aliased t.operands, Aliased)
-    ∷ (list_any (λ o. needs_value o.mode && lacks_value s o.name) t.operands, NoValue) ∷ []
+    ∷ (list_any (is_lacking s) t.operands, NoValue) ∷ []
 
 abbrev pub codelet_reasons : Scope → Call → List (Bool × Reason)
 codelet_reasons s t = elim (kernel_in t.codelet) [ None ↦ (true, UnknownCodelet) ∷ [] | Some k ↦ operand_reasons s k t ]

@@ -32,7 +32,11 @@ gives_values Nothing = false
 abbrev pub revalued : Bool → List ℕ → (List ℕ → Option Known) → List ℕ → Option Known
 revalued valued name known q = if bytes_eq q name then option_map (λ k. record { dims = k.dims; valued = valued }) (known q) else known q
 
+-- an operand's root is valued, if the task writes it
+abbrev pub after_write : Operand → (List ℕ → Option Known) → List ℕ → Option Known
+after_write o known = if is_written o.mode then revalued true o.name known else known
+
 -- the written operands' roots are valued
 abbrev pub after_writes : List Operand → (List ℕ → Option Known) → List ℕ → Option Known
 after_writes [] known = known
-after_writes (o ∷ os) known = after_writes os (if is_written o.mode then revalued true o.name known else known)
+after_writes (o ∷ os) known = after_writes os (after_write o known)

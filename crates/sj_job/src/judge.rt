@@ -4,7 +4,7 @@ ghost use Rattle.std.specs.Prelude.{◌≡◌, ◌*◌, ◌^◌, ◌<◌, ◌≤
 ghost use Rattle.std.specs.List.{list_any};
 ghost use Rattle.sj_codelet.specs.Kernel.{arguments_of, formals_of};
 ghost use Rattle.sj_job.specs.Names.{scope_in};
-ghost use Rattle.sj_job.specs.Judge.{first_of, is_full, is_side, is_outside, is_miscounted, register_reasons, kernel_in, is_counted, mode_fits, modes_fit, dims_in, is_shaped, clashes, is_aliased, is_unknown, is_ended, needs_value, lacks_value, is_priority, operand_reasons, codelet_reasons, task_reasons, name_reasons, print_reasons, judged};
+ghost use Rattle.sj_job.specs.Judge.{first_of, is_full, is_side, is_outside, is_miscounted, register_reasons, kernel_in, is_counted, mode_fits, modes_fit, dims_in, is_shaped, clashes, is_aliased, is_unknown, is_ended, needs_value, is_lacking, is_priority, operand_reasons, codelet_reasons, task_reasons, name_reasons, print_reasons, judged};
 
 use crate::job::{Act, Init, Operand, Register, TaskLine};
 use crate::name::Name;
@@ -149,7 +149,8 @@ fn is_shaped(alloc: Global, names: &Names, kernel: Kernel, call: &Call) -> Resul
     Ok(kernel.fits(call.args.items(), &dims))
 }
 
-/// The first reason against the operands of a codelet. Linear in them, times the logarithm of the names.
+/// The first reason against the operands of a codelet. Linear in them, times the logarithm of the
+/// names.
 fn operand_complaint(
     alloc: Global,
     names: &Names,
@@ -194,7 +195,7 @@ fn needs_value(mode: Mode) -> bool
 
 /// Whether an operand whose old value is needed has none.
 fn lacks_values(names: &Names, operands: &[Operand]) -> bool
-    ensures { result ≡ list_any (λ o. needs_value o.mode && lacks_value (scope_in names.now) o.name) operands.now }
+    ensures { result ≡ list_any (is_lacking (scope_in names.now)) operands.now }
 {
     operands
         .iter()
@@ -339,7 +340,8 @@ fn judge_ending(names: &Names, name: Name) -> Result<Act, Reason>
     }
 }
 
-/// What a sentence does, or the first reason against it. Linear in its operands, times the logarithm of the names.
+/// What a sentence does, or the first reason against it. Linear in its operands, times the
+/// logarithm of the names.
 pub fn judge(
     alloc: Global,
     names: &Names,

@@ -1,10 +1,10 @@
 //! What the reader knows of a job's names, line by line.
 
-ghost use Rattle.std.specs.Prelude.{◌≡◌, ◌+◌, ◌<◌, ◌^◌, ℕ, List, Bool, OnOk, true, if◌then◌else◌};
+ghost use Rattle.std.specs.Prelude.{◌≡◌, ◌+◌, ◌<◌, ◌^◌, ℕ, List, Bool, OnOk};
 ghost use Rattle.sj_codelet.specs.declared.kernel.Kernel.{Kernel};
-ghost use Rattle.sj_job.specs.Names.{known_in, ended_in, scope_in, revalued, after_writes, gives_values};
+ghost use Rattle.sj_job.specs.Names.{known_in, ended_in, scope_in, revalued, after_write, after_writes, gives_values};
 ghost use Rattle.sj_job.specs.State.{State, start};
-ghost use Rattle.sj_job.specs.Meaning.{apply, register, unregister, is_written};
+ghost use Rattle.sj_job.specs.Meaning.{apply, register, unregister};
 ghost use Rattle.sj_job.specs.Sees.{Sees, Shows};
 ghost use Rattle.sj_job.specs.Sound.{IsSoundAct, IsSoundRegistration};
 ghost use Rattle.sj_job.specs.Judge.{is_taken, is_ended, is_unknown, lacks_value, dims_in};
@@ -24,7 +24,8 @@ pub struct Known {
     pub valued: bool,
 }
 
-/// How many statements were read and how many names registered, what is known of each root, and which names were ended.
+/// How many statements were read and how many names registered, what is known of each root, and
+/// which names were ended.
 #[derive(Drop)]
 pub struct Names {
     pub statements: u64,
@@ -182,7 +183,7 @@ impl Names {
         ensures count { self.new.statements ≡ self.old.statements }
         ensures registered { self.new.registered ≡ self.old.registered }
         ensures ended { (q : List ℕ) → ended_in self.new q ≡ ended_in self.old q }
-        ensures known { (q : List ℕ) → known_in self.new q ≡ (if is_written operand.now.mode then revalued true operand.now.name (known_in self.old) else known_in self.old) q }
+        ensures known { (q : List ℕ) → known_in self.new q ≡ after_write operand.now (known_in self.old) q }
     {
         if operand.is_written() {
             self.set_valued(&operand.name, true);

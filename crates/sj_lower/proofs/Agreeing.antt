@@ -1,27 +1,25 @@
 -- Statement by statement, the cells of a program agree with the names of its job.
 use Rattle.std.specs.FinMap as map
-use Rattle.std.proofs.Common.{◌≡◌, ◌≢◌, ℕ, ◌+◌, ◌<◌, ◌≤◌, Bool, true, false, cond, Option, Some, None, List, [], ◌∷◌, ◌++◌, ℤ, pos, length, get_or, map as each_of, replicate, refl, sym, ap, subst, ◌∙◌, arith, append_assoc, length-append}
+use Rattle.std.proofs.Common.{◌≡◌, ℕ, ◌+◌, ◌<◌, ◌≤◌, Bool, true, false, cond, Option, Some, None, List, [], ◌∷◌, ◌++◌, ℤ, pos, length, get_or, map as each_of, refl, sym, ap, subst, ◌∙◌, arith, append_assoc, length-append}
 use Rattle.std.specs.Prelude.{nat_eq, ◌||◌}
 use Rattle.std.specs.List.{list_all}
 use Rattle.std.proofs.lemmas.Bool.Decides.{Decides-eqb}
 use Rattle.sj_codelet.specs.Equations.{loadfill}
 use Rattle.std.specs.Option.{is_some}
 use Rattle.std.specs.Str.{bytes_eq}
-use Rattle.std.proofs.lemmas.Bool.{false≢true}
 use Rattle.std.proofs.lemmas.List.{append-nil}
 use Rattle.std.proofs.Math.Seq.{get_or-append_seam}
 use Rattle.sj_base.specs.declared.ids.Cell.{Cell}
 use Rattle.sj_base.specs.declared.ids.Line.{Line}
 use Rattle.sj_base.specs.declared.tile.Dims.{Dims}
 use Rattle.sj_base.specs.declared.mode.Mode.TheVariants.{R, W}
-use Rattle.sj_base.specs.declared.mode.Access.{Access}
 use Rattle.sj_base.specs.declared.program.CellInfo.{CellInfo}
 use Rattle.sj_base.specs.declared.program.Lowered.{Lowered}
 use Rattle.sj_base.specs.declared.program.Program.{Program}
 use Rattle.sj_base.specs.Array.{Array, array, area, zeros}
 use Rattle.sj_codelet.specs.declared.kernel.Kernel.{Kernel}
 use Rattle.sj_codelet.specs.declared.kernel.Kernel.TheVariants.{Load, LoadFill, Deliver}
-use Rattle.sj_core.specs.Program.{no_cell, no_task, cell_info, dims_of, task_of, same_cell}
+use Rattle.sj_core.specs.Program.{no_cell, no_task, cell_info, dims_of, task_of}
 use Rattle.sj_core.specs.Proper.{HasValueBefore, gives_value}
 use Rattle.sj_core.specs.Fold.{Contents, held_in, after_task}
 use Rattle.sj_job.specs.declared.job.Init.{Init}
@@ -32,11 +30,11 @@ use Rattle.sj_job.specs.declared.job.Act.{Act}
 use Rattle.sj_job.specs.declared.job.Act.TheVariants.{Register as Registers, Task as Tasks, Print as Prints, Invalidate as Invalidates, Unregister as Unregisters}
 use Rattle.sj_job.specs.State.{Root, State, root_of, is_valued, start}
 use Rattle.sj_job.specs.Meaning.{array_of, first_elements, registered_root, register, no_values, invalidate, unregister, run_task, apply}
-use Rattle.sj_job.specs.Sound.{has_root, has_values, IsSoundTask, IsSoundRegistration, IsSoundAct}
+use Rattle.sj_job.specs.Sound.{has_root, IsSoundTask, IsSoundRegistration, IsSoundAct}
 use Rattle.sj_lower.specs.declared.handle.Handle.{Handle}
 use Rattle.sj_lower.specs.Lowering.{Lowering, nothing, handle_of, next_handle, own_task, an_access, access_of, first_tasks, lower_registration, lower_task, lower_print, lower_unregistration, lower_act}
 use Rattle.sj_lower.proofs.Contents.{first_worker, task_at, contents_before, contents-next, same_cell-itself, held-same, held-other}
-use Rattle.sj_lower.proofs.Holding.{get-put, get-gone, same_name, IsCellOf, HasHandle, Holds, AreApart, later, holds-later, holds-same}
+use Rattle.sj_lower.proofs.Holding.{get-put, get-gone, same_name, HasHandle, Holds, AreApart, later, holds-later}
 use Rattle.sj_lower.proofs.Running.{root_there, holds-task}
 use Rattle.sj_lower.proofs.Starting.{some_area, not_valued, first_array, filled_is, loaded_is, after_row, after_row-is, after_load, after_fill, after_deliver}
 
@@ -161,9 +159,11 @@ apart_registered L r line a = record {
   where
     longer : length (L.cells ++ record { root = (next_handle L).root; dims = r.dims; partials = None } ∷ []) ≡ length L.cells + 1
     longer = length-append L.cells (record { root = (next_handle L).root; dims = r.dims; partials = None } ∷ [])
+
     inside_case : (q : List ℕ) (h : Handle) (b : Bool) → cond b (Some (next_handle L)) (L.handles q) ≡ Some h → h.cell.0 < length (L.cells ++ record { root = (next_handle L).root; dims = r.dims; partials = None } ∷ [])
     inside_case q h true e = let k : length L.cells ≡ h.cell.0 = ap (λ (i : Handle). i.cell.0) (some_is (next_handle L) h e) in omega (arith, longer, k)
     inside_case q h false e = omega (arith, longer, a.inside q h e)
+
     apart_case : (q u : List ℕ) (h i : Handle) (b c : Bool) → bytes_eq r.name q ≡ b → bytes_eq r.name u ≡ c → cond b (Some (next_handle L)) (L.handles q) ≡ Some h → cond c (Some (next_handle L)) (L.handles u) ≡ Some i → h.cell ≡ i.cell → q ≡ u
     apart_case q u h i true true eb ec x y same = sym (same_name r.name q eb) ∙ same_name r.name u ec
     apart_case q u h i true false eb ec x y same =
@@ -184,8 +184,10 @@ agrees_registered p L S line r b s g = record {
   where
     info_is : dims_of p (next_handle L).cell ≡ r.dims
     info_is = ap (λ (i : CellInfo). i.dims) (cell_there p L (record { root = (next_handle L).root; dims = r.dims; partials = None }) b.cells b.all_cells)
+
     st : Starts p L r line
     st = starts p L r.init r line refl info_is (some_area r.dims s.rows s.cols) b
+
     holds_case : (q : List ℕ) (t : Root) (c : Bool) → bytes_eq r.name q ≡ c → cond c (Some (registered_root r)) (root_of S q) ≡ Some t
         → HasHandle p (lower_registration line r L) (length (lower_registration line r L).tasks) (contents_before p (length (lower_registration line r L).tasks)) q t
     holds_case q t true eb e =
@@ -229,7 +231,7 @@ agrees_print p L S line name b g =
     let l = own_task Deliver [] (an_access R (handle_of L name).cell) line in
     let longer : length (L.tasks ++ l ∷ []) ≡ n + 1 = length-append L.tasks (l ∷ []) in
     let left : contents_before p (length (L.tasks ++ l ∷ [])) ≡ contents_before p n =
-        contents-next p n (length (L.tasks ++ l ∷ [])) longer ∙ after_row-is p n (contents_before p n) l (task_there p L l b.tasks b.all_tasks) ∙ after_deliver p (contents_before p n) (handle_of L name).cell line in
+    contents-next p n (length (L.tasks ++ l ∷ [])) longer ∙ after_row-is p n (contents_before p n) l (task_there p L l b.tasks b.all_tasks) ∙ after_deliver p (contents_before p n) (handle_of L name).cell line in
     let M = lower_print line name L in
     record {
       names = apart-moved L M refl (omega arith) g.names;
@@ -251,8 +253,10 @@ agrees_invalidated p L S name h g = record {
   where
     there : (r : Root) × (root_of S name ≡ Some r)
     there = root_there (root_of S name) h
+
     empty : Root
     empty = record { kind = there.0.kind; dims = there.0.dims; elements = no_values there.0.dims }
+
     holds_case : (q : List ℕ) (t : Root) (c : Bool) → bytes_eq name q ≡ c → cond c (Some empty) (root_of S q) ≡ Some t → HasHandle p L (length L.tasks) (contents_before p (length L.tasks)) q t
     holds_case q t true eb e =
         let o = g.holds name there.0 there.1 in
@@ -276,10 +280,12 @@ agrees_unregistered p L S name g = record {
     inside_case : (q : List ℕ) (h : Handle) (b : Bool) → cond b None (L.handles q) ≡ Some h → h.cell.0 < length L.cells
     inside_case q h true e = absurd (none_isn't h e)
     inside_case q h false e = g.names.inside q h e
+
     apart_case : (q u : List ℕ) (h i : Handle) (b c : Bool) → cond b None (L.handles q) ≡ Some h → cond c None (L.handles u) ≡ Some i → h.cell ≡ i.cell → q ≡ u
     apart_case q u h i true c x y same = absurd (none_isn't h x)
     apart_case q u h i false true x y same = absurd (none_isn't i y)
     apart_case q u h i false false x y same = g.names.apart q u h i x y same
+
     holds_case : (q : List ℕ) (t : Root) (c : Bool) → bytes_eq name q ≡ c → cond c None (root_of S q) ≡ Some t → HasHandle p (lower_unregistration name L) (length L.tasks) (contents_before p (length L.tasks)) q t
     holds_case q t true eb e = absurd (none_isn't t e)
     holds_case q t false eb e =

@@ -1,11 +1,10 @@
 -- A program's cells hold what the job's names hold.
 use Rattle.std.specs.FinMap as map
-use Rattle.std.proofs.Common.{◌≡◌, ℕ, ◌+◌, ◌<◌, ◌≤◌, Bool, true, false, cond, Option, Some, None, List, [], ◌∷◌, ◌++◌, ℤ, pos, unwrap_or, length, map as each_of, refl, sym, ap, subst, ◌∙◌, arith}
+use Rattle.std.proofs.Common.{◌≡◌, ℕ, ◌<◌, ◌≤◌, Bool, true, false, cond, Option, Some, None, List, [], ◌∷◌, ◌++◌, ℤ, pos, unwrap_or, length, map as each_of, refl, sym, ap, subst, ◌∙◌, arith}
 use Rattle.std.specs.List.{zip}
 use Rattle.std.specs.Str.{bytes_eq}
-use Rattle.std.specs.Ordering.{nat_cmp, eq_by_cmp}
 use Rattle.std.specs.Cmp.{eq_by_cmp_equiv}
-use Rattle.std.specs.Cmp.Lexicographic.{slice_cmp, nat_list_cmp_total}
+use Rattle.std.specs.Cmp.Lexicographic.{nat_list_cmp_total}
 use Rattle.std.proofs.lemmas.Map.Text.{is_eq-slice_cmp}
 use Rattle.std.proofs.lemmas.Slice.Eq.{bytes_eq-Decides}
 use Rattle.std.proofs.lemmas.Bool.{false≢true}
@@ -20,7 +19,7 @@ use Rattle.sj_job.specs.State.{Root, Roots, State, root_of, is_valued}
 use Rattle.sj_job.specs.Meaning.{array_of, put, put_all}
 use Rattle.sj_lower.specs.declared.handle.Handle.{Handle}
 use Rattle.sj_lower.specs.Lowering.{Lowering, handle_of}
-use Rattle.sj_lower.proofs.Contents.{NotAmong, held-cons, held-same, held-other, held-moved, same_cell-is, task_at}
+use Rattle.sj_lower.proofs.Contents.{NotAmong, held-same, held-other, held-moved, same_cell-is, task_at}
 
 -- ---- names
 

@@ -7,3 +7,8 @@ pub mod Holding
 pub mod Running
 pub mod Starting
 pub mod Agreeing
+pub mod Good
+pub mod Delivered
+pub mod Allowed
+pub mod Whole
+pub mod Properness

@@ -1,12 +1,11 @@
 -- A lowered task does to its cells what the task line does to its names.
-use Rattle.std.proofs.Common.{◌≡◌, ℕ, ◌+◌, ◌<◌, ◌≤◌, Bool, true, false, not, ◌&&◌, ◌||◌, cond, Option, Some, None, List, [], ◌∷◌, ◌++◌, ℤ, length, map as each_of, refl, sym, ap, subst, ◌∙◌, arith}
+use Rattle.std.proofs.Common.{◌≡◌, ℕ, ◌+◌, Bool, true, false, not, ◌&&◌, ◌||◌, cond, Option, Some, None, List, [], ◌∷◌, ◌++◌, map as each_of, refl, sym, ap, subst, ◌∙◌, arith}
 use Rattle.std.specs.List.{zip, filter, list_all, list_any}
 use Rattle.std.specs.Option.{is_some}
 use Rattle.std.specs.Str.{bytes_eq}
 use Rattle.std.proofs.lemmas.Bool.{false≢true}
 use Rattle.std.proofs.lemmas.List.{length-map}
 use Rattle.sj_base.specs.declared.ids.Cell.{Cell}
-use Rattle.sj_base.specs.declared.ids.Task.{Task}
 use Rattle.sj_base.specs.declared.tile.Dims.{Dims}
 use Rattle.sj_base.specs.declared.mode.Mode.{Mode}
 use Rattle.sj_base.specs.declared.mode.Mode.TheVariants.{R, W, RW, Scratch, Redux, Commute}
@@ -16,21 +15,20 @@ use Rattle.sj_base.specs.declared.program.Program.{Program}
 use Rattle.sj_base.specs.Array.{Array, array, zeros}
 use Rattle.sj_codelet.specs.declared.kernel.Kernel.{Kernel}
 use Rattle.sj_codelet.specs.declared.formal.Formal.{Formal}
-use Rattle.sj_codelet.specs.Kernel.{formals_of, out, fits, fits_in}
-use Rattle.sj_codelet.specs.Runs.{formals_in}
-use Rattle.sj_core.specs.Program.{same_cell, dims_of, task_of, is_written, is_redux, starts_as_zeros, written_operands}
-use Rattle.sj_core.specs.Proper.{HasValueBefore, gives_value, own_modes, mode_of}
+use Rattle.sj_codelet.specs.Kernel.{formals_of, out, fits}
+use Rattle.sj_core.specs.Program.{same_cell, dims_of, task_of, is_written, is_redux}
+use Rattle.sj_core.specs.Proper.{own_modes}
 use Rattle.sj_core.specs.Fold.{Contents, held_in, after_task}
 use Rattle.sj_core.specs.Operands.{worked_on, written_cells, found, results}
 use Rattle.sj_job.specs.declared.job.Operand.{Operand}
 use Rattle.sj_job.specs.declared.job.TaskLine.{TaskLine}
 use Rattle.sj_job.specs.State.{Root, State, root_of, is_valued}
-use Rattle.sj_job.specs.Meaning.{array_of, seen_by, operand_array, is_written as writes, written_names, put_all, run_task}
+use Rattle.sj_job.specs.Meaning.{array_of, seen_by, operand_array, is_written as writes, written_names, run_task}
 use Rattle.sj_job.specs.Judge.{modes_fit, needs_value, clashes, is_aliased, is_read_only}
 use Rattle.sj_job.specs.Sound.{is_plain, has_root, has_values, IsSoundTask, dims_of as root_dims}
-use Rattle.sj_lower.specs.Lowering.{Lowering, access_of, handle_of}
+use Rattle.sj_lower.specs.Lowering.{Lowering, access_of}
 use Rattle.sj_lower.proofs.Contents.{first_worker, task_at, same_cell-itself}
-use Rattle.sj_lower.proofs.Holding.{cell_of, handle_is, AreApart, Holds, HasHandle, Gives, GivesAll, IsOther, holds-put_all, holds-later}
+use Rattle.sj_lower.proofs.Holding.{cell_of, handle_is, AreApart, Holds, GivesAll, IsOther, holds-put_all, holds-later}
 use Rattle.sj_lower.proofs.Writing.{and_parts, written_of, written_of-map, modes_are, all_dims, out_dims, IsCall, call_of, fit_from_fits}
 
 -- ---- words
@@ -100,8 +98,8 @@ one_found p L n contents S o holds h rooted valued =
     let c_is = ap (λ h. h.cell) (handle_is L o.name b.handle b.is) in
     ap (λ (c : Cell). let a : Access = record { mode = o.mode; cell = c } in found p first_worker (held_in p contents) a) c_is
     ∙ by_mode p contents o.mode b.handle.cell r.0 h b.cell.dims (λ need.
-        let v = valued_there (root_of S o.name) (needed (needs_value o.mode) (has_values S o.name) valued need) in
-        b.cell.value (ap (λ (x : Option Root). elim x as (λ _. Bool) [ None ↦ true | Some s ↦ is_valued s ]) (sym r.1 ∙ v.1) ∙ v.2))
+    let v = valued_there (root_of S o.name) (needed (needs_value o.mode) (has_values S o.name) valued need) in
+    b.cell.value (ap (λ (x : Option Root). elim x as (λ _. Bool) [ None ↦ true | Some s ↦ is_valued s ]) (sym r.1 ∙ v.1) ∙ v.2))
     ∙ sym (seen_there S o r.0 r.1)
 
 all_found : (p : Program) (L : Lowering) (n : ℕ) (contents : Contents) (S : State) (os : List Operand) → Holds p L n contents S → list_all (λ o. is_plain o.mode) os ≡ true → list_all (λ o. has_root S o.name) os ≡ true → list_all (λ o. not (needs_value o.mode) || has_values S o.name) os ≡ true → each_of (found p first_worker (held_in p contents)) (each_of (access_of L) os) ≡ each_of (operand_array S) os
@@ -152,6 +150,7 @@ other_written o (p ∷ os) w h =
     clash Scratch k true w e = absurd (false≢true w)
     clash Redux k true w e = e
     clash Commute k true w e = e
+
     by_cases : (b : Bool) → IsOther o.name (written_names os) → bytes_eq o.name p.name ≡ false → IsOther o.name (each_of (λ (o : Operand). o.name) (cond b (p ∷ filter (λ o. writes o.mode) os) (filter (λ o. writes o.mode) os)))
     by_cases true rest e = (e, rest)
     by_cases false rest e = rest
@@ -178,9 +177,11 @@ all_written L (o ∷ os) h =
     by_cases (writes o.mode) refl a.0 (written-more L (access_of L o) (each_of (access_of L) os) (written_names os) (all_written L os a.1))
   where
     by_cases : (b : Bool) → writes o.mode ≡ b → is_plain o.mode ≡ true → Written L (each_of (access_of L) (o ∷ os)) (written_names os) → Written L (each_of (access_of L) (o ∷ os)) (each_of (λ (o : Operand). o.name) (cond b (o ∷ filter (λ o. writes o.mode) os) (filter (λ o. writes o.mode) os)))
-    by_cases true w h rest =
-        (or_left (is_written o.mode && not (is_redux o.mode) && same_cell (cell_of L o.name) (cell_of L o.name)) (list_any (λ (a : Access). is_written a.mode && not (is_redux a.mode) && same_cell a.cell (cell_of L o.name)) (each_of (access_of L) os))
-        (all_true (is_written o.mode) (is_redux o.mode) (same_cell (cell_of L o.name) (cell_of L o.name)) (sym (same_writes o.mode) ∙ w) (plain_isn't_redux o.mode h) (same_cell-itself (cell_of L o.name))), rest)
+    by_cases true w h rest = (
+      or_left (is_written o.mode && not (is_redux o.mode) && same_cell (cell_of L o.name) (cell_of L o.name)) (list_any (λ (a : Access). is_written a.mode && not (is_redux a.mode) && same_cell a.cell (cell_of L o.name)) (each_of (access_of L) os))
+          (all_true (is_written o.mode) (is_redux o.mode) (same_cell (cell_of L o.name) (cell_of L o.name)) (sym (same_writes o.mode) ∙ w) (plain_isn't_redux o.mode h) (same_cell-itself (cell_of L o.name))),
+      rest,
+    )
     by_cases false w h rest = rest
 
 abbrev Rooted : State → List (List ℕ) → Type 0
@@ -221,13 +222,16 @@ gives_all : (p : Program) (L : Lowering) (n : ℕ) (S : State) (accesses : List 
 gives_all p L n S accesses [] xs t w r o d = tt
 gives_all p L n S accesses (name ∷ ns) [] t w r o d = absurd (cc)
 gives_all p L n S accesses (name ∷ ns) (a ∷ xs) t w r o d =
-    let root = root_there (root_of S name) r.0 in
-    (record {
-      root = root.0;
-      is_root = root.1;
-      dims = head_of a.dims (root_dims S name) (all_dims xs) (each_of (root_dims S) ns) d ∙ dims_there S name root.0 root.1;
-      given = (task_at n, omega arith, ap (λ (as' : List Access). list_any (λ (a : Access). is_written a.mode && not (is_redux a.mode) && same_cell a.cell (cell_of L name)) as') t ∙ w.0);
-    }, o.0, gives_all p L n S accesses ns xs t w.1 r.1 o.1 (tail_of a.dims (root_dims S name) (all_dims xs) (each_of (root_dims S) ns) d))
+    let root = root_there (root_of S name) r.0 in (
+      record {
+        root = root.0;
+        is_root = root.1;
+        dims = head_of a.dims (root_dims S name) (all_dims xs) (each_of (root_dims S) ns) d ∙ dims_there S name root.0 root.1;
+        given = (task_at n, omega arith, ap (λ (as' : List Access). list_any (λ (a : Access). is_written a.mode && not (is_redux a.mode) && same_cell a.cell (cell_of L name)) as') t ∙ w.0);
+      },
+      o.0,
+      gives_all p L n S accesses ns xs t w.1 r.1 o.1 (tail_of a.dims (root_dims S name) (all_dims xs) (each_of (root_dims S) ns) d),
+    )
 
 -- ---- the task as a whole
 
@@ -295,8 +299,8 @@ holds-task has p L n contents S t l names holds s is ec ea eo =
     let meant = holds-put_all p L (n + 1) (written_names t.operands) outs contents S names (holds-later p L n (n + 1) contents S (omega arith) holds) g in
     let cells : written_cells p (task_at n) first_worker ≡ each_of (cell_of L) (written_names t.operands) = ap (λ (as' : List Access). each_of (worked_on p first_worker) (filter (λ a. is_written a.mode) as')) accesses ∙ cells_written p L t.operands s.plain in
     let made : results p (task_at n) first_worker (held_in p contents) ≡ outs =
-        ap (λ (k : Lowered). out k.codelet k.args (each_of (found p first_worker (held_in p contents)) k.accesses)) is
-        ∙ (λ i. out (ec i) (ea i) (each_of (found p first_worker (held_in p contents)) (eo i)))
-        ∙ ap (out t.codelet t.args) (all_found p L n contents S t.operands holds s.plain s.rooted s.valued) in
+    ap (λ (k : Lowered). out k.codelet k.args (each_of (found p first_worker (held_in p contents)) k.accesses)) is
+    ∙ (λ i. out (ec i) (ea i) (each_of (found p first_worker (held_in p contents)) (eo i)))
+    ∙ ap (out t.codelet t.args) (all_found p L n contents S t.operands holds s.plain s.rooted s.valued) in
     let same : after_task p first_worker (task_at n) contents ≡ zip (each_of (cell_of L) (written_names t.operands)) outs ++ contents = λ i. zip (cells i) (made i) ++ contents in
     subst (λ (c : Contents). Holds p L (n + 1) c (run_task t S)) (sym same) meant

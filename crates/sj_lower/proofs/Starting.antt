@@ -1,7 +1,7 @@
 -- The first elements of a root: what its load leaves in its cell.
-use Rattle.std.proofs.Common.{◌≡◌, ℕ, zero, suc, ◌+◌, ◌*◌, ◌/◌, ◌%◌, ◌<◌, ◌≤◌, Bool, true, false, ◌&&◌, cond, Option, Some, None, List, [], ◌∷◌, ◌++◌, ℤ, pos, ◌+ℤ◌, ◌*ℤ◌, unwrap_or, length, map as each_of, replicate, refl, sym, ap, subst, ◌∙◌, arith}
+use Rattle.std.proofs.Common.{◌≡◌, ℕ, zero, suc, ◌+◌, ◌*◌, ◌/◌, ◌%◌, ◌≤◌, true, Option, Some, None, List, [], ◌∷◌, ◌++◌, ℤ, pos, ◌+ℤ◌, ◌*ℤ◌, unwrap_or, map as each_of, replicate, refl, sym, ap, ◌∙◌, arith}
 use Rattle.std.specs.Prelude.{nat_le}
-use Rattle.std.specs.List.{zip, filter, list_all, list_any, range_with_len}
+use Rattle.std.specs.List.{zip, filter, list_all, range_with_len}
 use Rattle.std.specs.Option.{is_some}
 use Rattle.std.proofs.lemmas.Bool.{false≢true}
 use Rattle.std.proofs.lemmas.Bool.Decides.{nat_tests}
@@ -11,7 +11,6 @@ use Rattle.sj_base.specs.declared.ids.Cell.{Cell}
 use Rattle.sj_base.specs.declared.ids.Line.{Line}
 use Rattle.sj_base.specs.declared.tile.Dims.{Dims}
 use Rattle.sj_base.specs.declared.mode.Mode.TheVariants.{R, W}
-use Rattle.sj_base.specs.declared.mode.Access.{Access}
 use Rattle.sj_base.specs.declared.program.Lowered.{Lowered}
 use Rattle.sj_base.specs.declared.program.Program.{Program}
 use Rattle.sj_base.specs.Array.{Array, array, area, zeros}
@@ -23,7 +22,7 @@ use Rattle.sj_core.specs.Program.{dims_of, task_of, is_written}
 use Rattle.sj_core.specs.Fold.{Contents, held_in, after_task}
 use Rattle.sj_core.specs.Operands.{worked_on, found}
 use Rattle.sj_job.specs.declared.job.Init.{Init}
-use Rattle.sj_job.specs.declared.job.Init.TheVariants.{Values, Fill, Nothing}
+use Rattle.sj_job.specs.declared.job.Init.TheVariants.{Values, Fill}
 use Rattle.sj_job.specs.Meaning.{first_elements}
 use Rattle.sj_job.specs.Judge.{is_side}
 use Rattle.sj_lower.specs.Lowering.{own_task, an_access}

@@ -3,3 +3,4 @@ pub mod Counts
 pub mod Job
 pub mod Plain
 pub mod Seen
+pub mod Delivering

@@ -1,6 +1,8 @@
 //! Lowering: a job becomes a program of tasks over cells, one cell for each root.
 #![tactic(auto)]
 
-pub mod handle;
+mod handle;
 pub mod lower;
-pub mod lowerer;
+mod lowerer;
+#[cfg(test)]
+mod tests;

@@ -2,7 +2,10 @@
 
 ghost use Rattle.std.specs.Prelude.{◌≡◌, IfOk};
 ghost use Rattle.sj_lower.specs.Lowering.{lowered};
+ghost use Rattle.sj_core.specs.Proper.{Proper};
 ghost use Rattle.sj_lower.specs.Job.{IsJob};
+ghost use Rattle.sj_lower.specs.Plain.{HasPlainModes};
+ghost use Rattle.sj_lower.specs.Delivering.{DeliversPrinted, CountsPrints, NamesDeliverTasks, DeliversInOrder};
 
 use crate::lowerer::Lowerer;
 use sj_base::memory::OutOfMemory;
@@ -14,6 +17,12 @@ use std::alloc::Global;
 pub fn lower(alloc: Global, statements: &[Statement], workers: u8) -> Result<Program, OutOfMemory>
     requires { IsJob statements.now }
     ensures is { IfOk result (λ program. program ≡ lowered statements.now workers) }
+    ensures proper { IfOk result Proper }
+    ensures plain { IfOk result HasPlainModes }
+    ensures prints { IfOk result (λ program. DeliversPrinted program statements.now) }
+    ensures counted { IfOk result CountsPrints }
+    ensures handed_over { IfOk result NamesDeliverTasks }
+    ensures in_order { IfOk result DeliversInOrder }
 {
     let mut lowerer = Lowerer::nothing(alloc);
     for statement in statements {

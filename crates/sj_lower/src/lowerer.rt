@@ -36,7 +36,13 @@ fn fill_arguments(alloc: Global, a: i64, b: i64, cols: u32) -> Result<Vec<i64>, 
 }
 
 /// A task of the runtime's own codelets on one cell.
-fn own_task(alloc: Global, codelet: Codelet, args: Vec<i64>, access: Access, line: Line) -> Result<Lowered, OutOfMemory>
+fn own_task(
+    alloc: Global,
+    codelet: Codelet,
+    args: Vec<i64>,
+    access: Access,
+    line: Line,
+) -> Result<Lowered, OutOfMemory>
     ensures { IfOk result (λ l. l ≡ record { codelet = codelet; args = args.items; accesses = access ∷ []; line = line; priority = pos 0 }) }
 {
     let accesses = vec![in alloc; access]?;
@@ -112,7 +118,12 @@ impl Lowerer {
     }
 
     /// A root with one cell, and the task that gives it its first elements. Linear in the values, and logarithmic in the names.
-    fn register(&mut self, alloc: Global, register: &Register, line: Line) -> Result<(), OutOfMemory>
+    fn register(
+        &mut self,
+        alloc: Global,
+        register: &Register,
+        line: Line,
+    ) -> Result<(), OutOfMemory>
         requires { IsWithin 262144 (seen self.old) }
         ensures { OnOk result (seen self.new ≡ lower_registration line register.now (seen self.old)) }
     {

@@ -1,9 +1,8 @@
-use Rattle.std.proofs.Common.{arith, ap, ◌∙◌, Some, List, ℕ, subst, ◌∷◌, []}
+use Rattle.std.proofs.Common.{arith, Some, List, ℕ, subst}
 use Rattle.std.specs.Ordering.{nat_cmp}
 use Rattle.std.specs.Cmp.Lexicographic.{slice_cmp}
 use Rattle.std.specs.BTreeMap.{get, Updates}
 use Rattle.sj_lower.specs.Seen.{seen}
-use Rattle.sj_lower.specs.Lowering.{with_handle}
 use Rattle.sj_lower.proofs.Stepping.{handles_updated, handle_at, registration_is}
 use Rattle.sj_lower.proofs.lowerer.Lowerer.register.Goals as goal
 

@@ -1,5 +1,4 @@
-use Rattle.std.proofs.Common.{ap, None}
-use Rattle.sj_lower.specs.Lowering.{Lowering}
+use Rattle.std.proofs.Common.{None}
 use Rattle.sj_lower.specs.Seen.{seen}
 use Rattle.sj_lower.proofs.Stepping.{handles_updated}
 use Rattle.sj_lower.proofs.lowerer.Lowerer.unregister.Goals as goal
