@@ -1,15 +1,19 @@
--- A task's words, put together.
-use Rattle.std.proofs.Common.{◌≡◌, ℕ, Bool, List, ◌∷◌, ℤ, pos, ap, ◌∙◌, sym, Option, Some, option_map}
+-- A task's call, put together from its parts.
+use Rattle.std.proofs.Common.{◌≡◌, Bool, List, ℤ, map, ap, ◌∙◌, Option}
 use Rattle.sj_base.specs.declared.program.Codelet.{Codelet}
 use Rattle.sj_codelet.specs.declared.kernel.Kernel.{Kernel}
 use Rattle.sj_codelet.specs.Kernel.{named_in}
+use Rattle.sj_job.specs.declared.form.TaskForm.{TaskForm}
 use Rattle.sj_job.specs.declared.job.Operand.{Operand}
 use Rattle.sj_job.specs.declared.sentence.Call.{Call}
-use Rattle.sj_job.specs.Sentence.{call_of, call_parts, codelet_name}
+use Rattle.sj_job.specs.Word.{integer}
+use Rattle.sj_job.specs.Sentence.{operand_said, priority_said, call_of}
 
-pub call_is : (has : Kernel → Bool) (ws : List (List ℕ)) (w : List ℕ) (rest : List (List ℕ)) (args : List ℤ) (os : List Operand) (c : Option Codelet) (name : List ℕ) → ws ≡ w ∷ rest → call_parts w rest ≡ Some (args, os) → name ≡ codelet_name w → c ≡ named_in has name → let call : Call = record { codelet = c; args = args; operands = os; priority = pos 0 } in Some call ≡ call_of has ws
-call_is has ws w rest args os c name e p n h =
-    let make : Option Codelet → (List ℤ × List Operand) → Call = λ c q. record { codelet = c; args = q.0; operands = q.1; priority = pos 0 } in
-    ap (λ d. Some (make d (args, os))) (h ∙ ap (named_in has) n)
-    ∙ sym (ap (option_map (make (named_in has (codelet_name w)))) p)
-    ∙ sym (ap (call_of has) e)
+abbrev call : Option Codelet → List ℤ → List Operand → ℤ → Call
+call c args os p = record { codelet = c; args = args; operands = os; priority = p }
+
+pub call_is : (has : Kernel → Bool) (t : TaskForm) (c : Option Codelet) (args : List ℤ) (os : List Operand) (p : ℤ) → c ≡ named_in has t.codelet → args ≡ map integer t.args → os ≡ map operand_said t.operands → p ≡ priority_said t.priority → call c args os p ≡ call_of has t
+call_is has t c args os p named said accessed urgent =
+    ap (λ c. call c args os p) named ∙ ap (λ args. call (named_in has t.codelet) args os p) said
+    ∙ ap (λ os. call (named_in has t.codelet) (map integer t.args) os p) accessed
+    ∙ ap (λ p. call (named_in has t.codelet) (map integer t.args) (map operand_said t.operands) p) urgent

@@ -1,6 +1,8 @@
 pub mod Cut
 pub mod Digits
 pub mod Each
+pub mod Telling
+pub mod Last
 pub mod Calls
 pub mod Passed
 pub mod Seen

@@ -43,6 +43,11 @@ by_verdict has k S n ls v = elim v [
   | Does act ↦ before (statement n act) (reading has (k + 1) (apply act S) (n + 1) ls)
 ]
 
+-- a line that says nothing
+pub text_skipped : (has : Kernel → Bool) (ss : List Statement) (n : ℕ) (l : List ℕ) (ls : List (List ℕ)) → verdict_of has (scope_of (length ss) (run_from start ss)) l ≡ Skipped → text_with has ss n (l ∷ ls) ≡ text_with has ss (n + 1) ls
+unfolding by_verdict
+text_skipped has ss n l ls e = ap (λ v. after ss (by_verdict has (length ss) (run_from start ss) n ls v)) e
+
 -- a bad line ends the text
 pub text_bad : (has : Kernel → Bool) (ss : List Statement) (n : ℕ) (l : List ℕ) (ls : List (List ℕ)) (why : Reason) → verdict_of has (scope_of (length ss) (run_from start ss)) l ≡ Bad why → text_with has ss n (l ∷ ls) ≡ Err (refusal n why)
 unfolding by_verdict

@@ -6,7 +6,7 @@ use Rattle.std.specs.Ordering.{nat_cmp, eq_by_cmp}
 use Rattle.std.specs.Cmp.{eq_by_cmp_equiv}
 use Rattle.std.specs.Cmp.Lexicographic.{slice_cmp, nat_list_cmp_total, texts_ties, same_text}
 use Rattle.std.specs.Map.{lookup}
-use Rattle.std.specs.BTreeMap.{get, is_at, Updates}
+use Rattle.std.specs.BTreeMap.{is_at, Updates}
 use Rattle.std.specs.BTreeSet.{Updates as Adds}
 use Rattle.sj_base.specs.Array.{Array, area}
 use Rattle.sj_job.specs.declared.job.Init.{Init}

@@ -1,5 +1,5 @@
 -- An act that is allowed is sound.
-use Rattle.std.proofs.Common.{◌≡◌, ℕ, ◌≤◌, ◌*◌, ◌&&◌, ◌||◌, not, nat_eq, nat_le, Bool, true, false, List, [], ◌∷◌, map, refl, ap, ◌∙◌, sym, subst, Option, Some, None, option_map, is_some, Result, Ok, Err, cond, arith, ℤ, unwrap_or}
+use Rattle.std.proofs.Common.{◌≡◌, ℕ, ◌≤◌, ◌*◌, ◌&&◌, ◌||◌, not, nat_le, Bool, true, false, List, [], ◌∷◌, map, refl, ap, ◌∙◌, sym, subst, Option, Some, None, option_map, is_some, Result, Ok, Err, cond, arith, ℤ, unwrap_or}
 use Rattle.std.specs.Prelude.{find}
 use Rattle.std.specs.List.{list_all, list_any}
 use Rattle.std.proofs.lemmas.Bool.Decides.{nat_tests}
@@ -25,7 +25,7 @@ use Rattle.sj_job.specs.declared.sentence.Sentence.{Sentence}
 use Rattle.sj_job.specs.declared.sentence.Sentence.TheVariants.{Register as Registering, Task, Print, Invalidate, Unregister}
 use Rattle.sj_job.specs.Sentence.{said}
 use Rattle.sj_job.specs.State.{State, Root, root_of, is_valued}
-use Rattle.sj_job.specs.Judge.{Scope, scope_of, is_begun, known_of, first_of, complaint, act_of, judged, register_reasons, task_reasons, print_reasons, name_reasons, operand_reasons, kernel_in, is_shaped, modes_fit, dims_in, is_side, is_outside, is_taken, is_miscounted, is_unknown, is_ended, needs_value, lacks_value, is_priority}
+use Rattle.sj_job.specs.Judge.{Scope, scope_of, is_begun, known_of, first_of, complaint, act_of, judged, register_reasons, task_reasons, print_reasons, name_reasons, operand_reasons, kernel_in, is_shaped, modes_fit, dims_in, is_side, is_outside, is_miscounted, is_unknown, is_ended, needs_value, lacks_value, is_priority}
 use Rattle.sj_job.specs.Well.{IsAllowed}
 use Rattle.sj_job.specs.Sound.{dims_of, has_root, has_values, is_plain, IsSoundTask, InitFits, IsSoundRegistration, IsSoundAct}
 use Rattle.sj_job.proofs.Spelled.{IsSpelled, spelled_from_said}

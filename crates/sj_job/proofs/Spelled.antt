@@ -1,93 +1,76 @@
 -- What a task line's words tell of it.
-use Rattle.std.proofs.Common.{◌≡◌, ℕ, ◌&&◌, nat_eq, Bool, true, false, List, [], ◌∷◌, refl, ap, ◌∙◌, sym, Option, Some, None, option_map, Result, Ok, Err, cond, ℤ, pos}
-use Rattle.std.specs.List.{list_all, before_first, after_first}
+use Rattle.std.proofs.Common.{◌≡◌, ℕ, ◌&&◌, not, Bool, true, false, List, [], ◌∷◌, map, refl, ap, ◌∙◌, subst, Option, Some, None, Result, Ok, Err, cond}
+use Rattle.std.specs.Prelude.{is_none}
+use Rattle.std.specs.List.{list_all}
 use Rattle.sj_base.specs.declared.mode.Mode.{Mode}
-use Rattle.sj_base.specs.declared.mode.Mode.TheVariants.{R, W, RW}
-use Rattle.sj_base.specs.declared.program.Codelet.{Codelet}
+use Rattle.sj_base.specs.declared.mode.Mode.TheVariants.{R, W, RW, Scratch, Redux, Commute}
 use Rattle.sj_codelet.specs.declared.kernel.Kernel.{Kernel}
 use Rattle.sj_codelet.specs.Kernel.{named_in}
+use Rattle.sj_job.specs.declared.form.OperandForm.{OperandForm}
+use Rattle.sj_job.specs.declared.form.TaskForm.{TaskForm}
+use Rattle.sj_job.specs.declared.form.Form.{Form}
+use Rattle.sj_job.specs.declared.form.Form.TheVariants as form
 use Rattle.sj_job.specs.declared.job.Operand.{Operand}
 use Rattle.sj_job.specs.declared.reason.Reason.{Reason}
-use Rattle.sj_job.specs.declared.reason.Reason.TheVariants.{NotBuilt}
+use Rattle.sj_job.specs.declared.reason.Reason.TheVariants.{Word, Number, NotBuilt}
 use Rattle.sj_job.specs.declared.sentence.Call.{Call}
 use Rattle.sj_job.specs.declared.sentence.Sentence.{Sentence}
-use Rattle.sj_job.specs.declared.sentence.Sentence.TheVariants.{Register as Registering, Task, Print}
-use Rattle.sj_job.specs.Word.{is_name}
-use Rattle.sj_job.specs.Sentence.{mode_of, operand_of, operands_of, call_parts, call_of, vector_of, name_in, sentence_of, said, codelet_name, arguments_in}
+use Rattle.sj_job.specs.declared.sentence.Sentence.TheVariants.{Task}
+use Rattle.sj_job.specs.Form.{form_of}
+use Rattle.sj_job.specs.Sentence.{is_misplaced, is_numbered, is_built, is_built_mode, operand_said, call_of, sentence_of, said_of, said}
 use Rattle.sj_job.specs.Sound.{is_plain}
 
-both : (b c : Bool) → b ≡ true → c ≡ true → (b && c) ≡ true
-both true c p q = q
-both false c p q = absurd (cc)
-
-some_mapped : {A B : Type 0} (f : A → B) (o : Option A) (y : B) → option_map f o ≡ Some y → (x : A) × ((o ≡ Some x) × (f x ≡ y))
-some_mapped f None y e = absurd (cc)
-some_mapped f (Some x) y e = (x, (refl, cc))
-
-plain_mode : (w : List ℕ) (m : Mode) (a b c : Bool) → cond a (Some R) (cond b (Some W) (cond c (Some RW) None)) ≡ Some m → is_plain m ≡ true
-plain_mode w m true b c e = let same : R ≡ m = cc in ap is_plain (sym same)
-plain_mode w m false true c e = let same : W ≡ m = cc in ap is_plain (sym same)
-plain_mode w m false false true e = let same : RW ≡ m = cc in ap is_plain (sym same)
-plain_mode w m false false false e = absurd (cc)
-
-plain_operand : (w : List ℕ) (o : Operand) (b : Bool) → cond b (option_map (λ m. record { name = before_first (λ b. nat_eq b 58) w; mode = m }) (mode_of (after_first (λ b. nat_eq b 58) w))) None ≡ Some o → is_plain o.mode ≡ true
-plain_operand w o true e =
-    let p = some_mapped _ (mode_of (after_first (λ b. nat_eq b 58) w)) o e in
-    ap (λ (q : Operand). is_plain q.mode) (sym p.1.1) ∙ plain_mode w p.0 _ _ _ p.1.0
-plain_operand w o false e = absurd (cc)
-
-plain_more : (o : Option Operand) (rest : Option (List Operand)) (os : List Operand) → ((p : Operand) → o ≡ Some p → is_plain p.mode ≡ true) → ((ps : List Operand) → rest ≡ Some ps → list_all (λ p. is_plain p.mode) ps ≡ true) → (elim o as (λ _. Option (List Operand)) [ None ↦ None | Some y ↦ option_map (λ ys. y ∷ ys) rest ]) ≡ Some os → list_all (λ p. is_plain p.mode) os ≡ true
-plain_more None rest os h k e = absurd (cc)
-plain_more (Some p) rest os h k e =
-    let q = some_mapped _ rest os e in
-    ap (list_all (λ p. is_plain p.mode)) (sym q.1.1) ∙ both _ _ (h p refl) (k q.0 q.1.0)
-
-plain_operands : (ws : List (List ℕ)) (os : List Operand) → operands_of ws ≡ Some os → list_all (λ p. is_plain p.mode) os ≡ true
-plain_operands [] os e = let same : [] ≡ os = cc in ap (list_all (λ p. is_plain p.mode)) (sym same)
-plain_operands (w ∷ ws) os e = plain_more (operand_of w) (operands_of ws) os (λ p. plain_operand w p _) (plain_operands ws) e
-
-plain_by_args : (a : Option (List ℤ)) (ws : List (List ℕ)) (q : List ℤ × List Operand) → (elim a as (λ _. Option (List ℤ × List Operand)) [ None ↦ None | Some args ↦ option_map (λ os. (args, os)) (operands_of ws) ]) ≡ Some q → list_all (λ p. is_plain p.mode) q.1 ≡ true
-plain_by_args None ws q e = absurd (cc)
-plain_by_args (Some args) ws q e =
-    let p = some_mapped _ (operands_of ws) q e in
-    ap (λ (r : List ℤ × List Operand). list_all (λ p. is_plain p.mode) r.1) (sym p.1.1) ∙ plain_operands ws p.0 p.1.0
-
-plain_parts : (w : List ℕ) (ws : List (List ℕ)) (q : List ℤ × List Operand) (b : Bool) → cond b (elim (arguments_in w) as (λ _. Option (List ℤ × List Operand)) [ None ↦ None | Some args ↦ option_map (λ os. (args, os)) (operands_of ws) ]) None ≡ Some q → list_all (λ p. is_plain p.mode) q.1 ≡ true
-plain_parts w ws q true e = plain_by_args (arguments_in w) ws q e
-plain_parts w ws q false e = absurd (cc)
-
--- what a task line's words tell of it
+-- the codelet is the one of a name, and no mode is left to a later version
 pub record IsSpelled (has : Kernel → Bool) (t : Call) : Type 0 where
   pub name : List ℕ
   pub codelet : named_in has name ≡ t.codelet
   pub plain : list_all (λ p. is_plain p.mode) t.operands ≡ true
 
-spelled : (has : Kernel → Bool) (ws : List (List ℕ)) (t : Call) → call_of has ws ≡ Some t → IsSpelled has t
-spelled has [] t e = absurd (cc)
-spelled has (w ∷ ws) t e =
-    let p = some_mapped _ (call_parts w ws) t e in
-    record {
-      name = codelet_name w;
-      codelet = ap (λ (c : Call). c.codelet) p.1.1;
-      plain = ap (λ (c : Call). list_all (λ p. is_plain p.mode) c.operands) (sym p.1.1) ∙ plain_parts w ws p.0 (is_name (codelet_name w)) p.1.0;
-    }
+and_parts : (b c : Bool) → (b && c) ≡ true → (b ≡ true) × (c ≡ true)
+and_parts true c e = (refl, e)
+and_parts false c e = absurd (cc)
 
-by_keyword : (has : Kernel → Bool) (ws : List (List ℕ)) (t : Call) (a b c : Bool) → cond a (option_map Registering (vector_of ws)) (cond b (option_map Task (call_of has ws)) (cond c (option_map Print (name_in ws)) None)) ≡ Some (Task t) → IsSpelled has t
-by_keyword has ws t true b c e = let p = some_mapped Registering (vector_of ws) (Task t) e in absurd (cc)
-by_keyword has ws t false true c e =
-    let p = some_mapped Task (call_of has ws) (Task t) e in
-    let same : p.0 ≡ t = cc in
-    spelled has ws t (p.1.0 ∙ ap Some same)
-by_keyword has ws t false false true e = let p = some_mapped Print (name_in ws) (Task t) e in absurd (cc)
-by_keyword has ws t false false false e = absurd (cc)
+both : (b c : Bool) → b ≡ true → c ≡ true → (b && c) ≡ true
+both true c p q = q
+both false c p q = absurd (cc)
 
-spelled_from_sentence : (has : Kernel → Bool) (ws : List (List ℕ)) (t : Call) → sentence_of has ws ≡ Some (Task t) → IsSpelled has t
-spelled_from_sentence has [] t e = absurd (cc)
-spelled_from_sentence has (w ∷ ws) t e = by_keyword has ws t _ _ _ e
+plain_mode : (m : Mode) → is_built_mode m ≡ true → is_plain m ≡ true
+plain_mode R e = refl
+plain_mode W e = refl
+plain_mode RW e = refl
+plain_mode Scratch e = refl
+plain_mode Redux e = absurd (cc)
+plain_mode Commute e = absurd (cc)
 
-from_found : (has : Kernel → Bool) (ws : List (List ℕ)) (t : Call) (o : Option Sentence) → sentence_of has ws ≡ o → (elim o as (λ _. Result Sentence Reason) [ None ↦ Err NotBuilt | Some s ↦ Ok s ]) ≡ Ok (Task t) → IsSpelled has t
-from_found has ws t None f e = absurd (cc)
-from_found has ws t (Some s) f e = spelled_from_sentence has ws t (f ∙ cc)
+plain_operands : (os : List OperandForm) → list_all (λ o. is_none o.child && is_built_mode o.mode) os ≡ true → list_all (λ p. is_plain p.mode) (map operand_said os) ≡ true
+plain_operands [] e = refl
+plain_operands (o ∷ os) e =
+    let p = and_parts (is_none o.child && is_built_mode o.mode) (list_all (λ o. is_none o.child && is_built_mode o.mode) os) e in
+    both (is_plain o.mode) (list_all (λ p. is_plain p.mode) (map operand_said os)) (plain_mode o.mode (and_parts (is_none o.child) (is_built_mode o.mode) p.0).1) (plain_operands os p.1)
+
+from_form : (has : Kernel → Bool) (f : Form) (t : Call) → is_built f ≡ true → sentence_of has f ≡ Ok (Task t) → IsSpelled has t
+from_form has (form.Workers n) t b e = absurd (cc)
+from_form has (form.Node n) t b e = absurd (cc)
+from_form has (form.Policy p) t b e = absurd (cc)
+from_form has (form.Register a) t b e = absurd (cc)
+from_form has (form.Plan name r c) t b e = absurd (cc)
+from_form has (form.Redux name by) t b e = absurd (cc)
+from_form has (form.Task f) t b e =
+    let same : call_of has f ≡ t = cc in
+    subst (IsSpelled has) same (record { name = f.codelet; codelet = refl; plain = plain_operands f.operands b })
+from_form has (form.Print name) t b e = absurd (cc)
+from_form has (form.Invalidate name) t b e = absurd (cc)
+from_form has (form.Unregister name) t b e = absurd (cc)
+
+by_order : (has : Kernel → Bool) (f : Form) (t : Call) (a b c : Bool) → is_built f ≡ c → cond a (Err Word) (cond (not b) (Err Number) (cond (not c) (Err NotBuilt) (sentence_of has f))) ≡ Ok (Task t) → IsSpelled has t
+by_order has f t true b c h e = absurd (cc)
+by_order has f t false false c h e = absurd (cc)
+by_order has f t false true false h e = absurd (cc)
+by_order has f t false true true h e = from_form has f t h e
+
+by_form : (has : Kernel → Bool) (begun : Bool) (o : Option Form) (t : Call) → (elim o as (λ _. Result Sentence Reason) [ None ↦ Err Word | Some f ↦ said_of has begun f ]) ≡ Ok (Task t) → IsSpelled has t
+by_form has begun None t e = absurd (cc)
+by_form has begun (Some f) t e = by_order has f t (is_misplaced begun f) (is_numbered f) (is_built f) refl e
 
 pub spelled_from_said : (has : Kernel → Bool) (begun : Bool) (ws : List (List ℕ)) (t : Call) → said has begun ws ≡ Ok (Task t) → IsSpelled has t
-spelled_from_said has begun ws t e = from_found has ws t (sentence_of has ws) refl e
+spelled_from_said has begun ws t e = by_form has begun (form_of ws) t e

@@ -1,43 +1,77 @@
--- The words of a line and the grammar: what each word gives, and where a word is divided.
-use Rattle.std.proofs.Common.{◌≡◌, ℕ, suc, ◌+◌, ◌-◌, ◌<◌, ◌≤◌, ◌&&◌, not, Bool, true, false, List, [], ◌∷◌, ◌++◌, length, take, drop, get_or, refl, ap, ◌∙◌, sym, subst, arith, Option, Some, None, option_map, cond, nat_eq, nat_lt, nat_le, length-append}
+-- What a word gives and how it is written, and where a word is divided.
+use Rattle.std.proofs.Common.{◌≡◌, ℕ, suc, ◌+◌, ◌-◌, ◌<◌, ◌≤◌, ◌&&◌, not, Bool, true, false, List, [], ◌∷◌, ◌++◌, length, map, take, drop, get_or, refl, ap, ◌∙◌, sym, subst, arith, Option, Some, None, option_map, cond, nat_eq, nat_lt, nat_le, length-append}
+use Rattle.std.specs.Prelude.{find}
+use Rattle.std.specs.Str.{bytes_eq}
 use Rattle.std.specs.List.{position_or_len, before_first, after_first, list_all}
+use Rattle.std.proofs.lemmas.Slice.Eq.{bytes_eq-Decides}
 use Rattle.std.proofs.lemmas.List.{take_all, drop_all, take_at, drop_more, take-append-drop}
 use Rattle.std.proofs.lemmas.List.Sums.{prefix_len-le-length, split_at_first, passes_at_first}
 use Rattle.std.proofs.lemmas.List.Folds.{length-prefix_len}
 use Rattle.std.proofs.lemmas.Bool.Decides.{Decides-eqb, nat_tests}
 use Rattle.sj_job.specs.Word.{is_name, is_letter, is_letter_or_digit}
-use Rattle.sj_job.specs.Sentence.{each_some, ends_with, without_last}
-use Rattle.sj_job.specs.Grammar.{Each}
+use Rattle.sj_job.specs.Form.{spelled_in, each_some, ends_with, without_last}
 
 pub both_true : (b c : Bool) → (b && c) ≡ true → (b ≡ true) × (c ≡ true)
 both_true true c e = (refl, e)
 both_true false c e = absurd (cc)
+
+pub true_both : (b c : Bool) → b ≡ true → c ≡ true → (b && c) ≡ true
+true_both true c h k = k
+true_both false c h k = absurd (cc)
 
 -- what an option was, where its image is something
 pub some_from : {A B : Type 0} (f : A → B) (o : Option A) (y : B) → option_map f o ≡ Some y → (x : A) × ((o ≡ Some x) × (f x ≡ y))
 some_from f None y e = absurd (cc)
 some_from f (Some x) y e = (x, (refl, cc))
 
+-- f reads exactly what is written of the values that pass the test
+pub record Reads {A B : Type 0} (f : A → Option B) (write : B → A) (test : B → Bool) : Type 0 where
+  pub read : (x : A) (y : B) → f x ≡ Some y → (x ≡ write y) × (test y ≡ true)
+  pub back : (y : B) → test y ≡ true → f (write y) ≡ Some y
+
+-- ---- a word of the language
+
+found_by : {A : Type 0} (p : A → Bool) (x y : A) (o : Option A) (t : Bool) → p x ≡ t → (o ≡ Some y → p y ≡ true) → cond t (Some x) o ≡ Some y → p y ≡ true
+found_by p x y o true h k e = let s : x ≡ y = cc in ap p (sym s) ∙ h
+found_by p x y o false h k e = k e
+
+found-passes : {A : Type 0} (p : A → Bool) (xs : List A) (y : A) → find p xs ≡ Some y → p y ≡ true
+found-passes p [] y e = absurd (cc)
+found-passes p (x ∷ xs) y e = found_by p x y (find p xs) (p x) refl (found-passes p xs y) e
+
+pub word-found : {A : Type 0} (word : A → List ℕ) (xs : List A) (w : List ℕ) (y : A) → spelled_in word xs w ≡ Some y → w ≡ word y
+word-found word xs w y e = (bytes_eq-Decides w (word y)).0 (found-passes (λ x. bytes_eq w (word x)) xs y e)
+
+pub same_word : (v w : List ℕ) → bytes_eq v w ≡ true → v ≡ w
+same_word v w e = (bytes_eq-Decides v w).0 e
+
 -- ---- each word
 
-each_by : {A B : Type 0} (R : A → B → Type 0) (x : A) (xs : List A) (o : Option B) (rest : Option (List B)) (ys : List B) → ((y : B) → o ≡ Some y → R x y) → ((zs : List B) → rest ≡ Some zs → Each R xs zs) → (elim o as (λ _. Option (List B)) [ None ↦ None | Some y ↦ option_map (λ ys. y ∷ ys) rest ]) ≡ Some ys → Each R (x ∷ xs) ys
-each_by R x xs None rest ys h k e = absurd (cc)
-each_by {A} {B} R x xs (Some y) rest ys h k e =
-    let p = some_from (λ (zs : List B). y ∷ zs) rest ys e in
-    subst (λ l. Each R (x ∷ xs) l) p.1.1 (h y refl, k p.0 p.1.0)
+abbrev each_by : {A B : Type 0} → (A → Option B) → List A → Option B → Option (List B)
+each_by {A} {B} f xs o = elim o as (λ _. Option (List B)) [ None ↦ None | Some y ↦ option_map (λ ys. y ∷ ys) (each_some f xs) ]
 
-pub each-says : {A B : Type 0} (f : A → Option B) (R : A → B → Type 0) → ((x : A) (y : B) → f x ≡ Some y → R x y) → (xs : List A) (ys : List B) → each_some f xs ≡ Some ys → Each R xs ys
-each-says f R h [] [] e = tt
-each-says f R h [] (y ∷ ys) e = absurd (cc)
-each-says f R h (x ∷ xs) ys e = each_by R x xs (f x) (each_some f xs) ys (h x) (each-says f R h xs) e
+each_read_by : {A B : Type 0} (f : A → Option B) (write : B → A) (test : B → Bool) (x : A) (xs : List A) (o : Option B) (ys : List B) → ((y : B) → o ≡ Some y → (x ≡ write y) × (test y ≡ true)) → ((zs : List B) → each_some f xs ≡ Some zs → (xs ≡ map write zs) × (list_all test zs ≡ true)) → each_by f xs o ≡ Some ys → (x ∷ xs ≡ map write ys) × (list_all test ys ≡ true)
+each_read_by f write test x xs None ys h k e = absurd (cc)
+each_read_by {A} {B} f write test x xs (Some y) ys h k e =
+    let p = some_from (λ (zs : List B). y ∷ zs) (each_some f xs) ys e in
+    let one = h y refl in
+    let rest = k p.0 p.1.0 in
+    subst (λ zs. (x ∷ xs ≡ map write zs) × (list_all test zs ≡ true)) p.1.1
+    (ap (λ z. z ∷ xs) one.0 ∙ ap (λ zs. write y ∷ zs) rest.0, true_both (test y) (list_all test p.0) one.1 rest.1)
 
-pub says-each : {A B : Type 0} (f : A → Option B) (R : A → B → Type 0) → ((x : A) (y : B) → R x y → f x ≡ Some y) → (xs : List A) (ys : List B) → Each R xs ys → each_some f xs ≡ Some ys
-says-each f R h [] [] t = refl
-says-each f R h [] (y ∷ ys) t = absurd t
-says-each f R h (x ∷ xs) [] t = absurd t
-says-each {A} {B} f R h (x ∷ xs) (y ∷ ys) t =
-    ap (λ (o : Option B). elim o as (λ _. Option (List B)) [ None ↦ None | Some z ↦ option_map (λ zs. z ∷ zs) (each_some f xs) ]) (h x y t.0)
-    ∙ ap (option_map (λ zs. y ∷ zs)) (says-each f R h xs ys t.1)
+each_read : {A B : Type 0} (f : A → Option B) (write : B → A) (test : B → Bool) → Reads f write test → (xs : List A) (ys : List B) → each_some f xs ≡ Some ys → (xs ≡ map write ys) × (list_all test ys ≡ true)
+each_read f write test r [] [] e = (refl, refl)
+each_read f write test r [] (y ∷ ys) e = absurd (cc)
+each_read f write test r (x ∷ xs) ys e = each_read_by f write test x xs (f x) ys (r.read x) (each_read f write test r xs) e
+
+each_back : {A B : Type 0} (f : A → Option B) (write : B → A) (test : B → Bool) → Reads f write test → (ys : List B) → list_all test ys ≡ true → each_some f (map write ys) ≡ Some ys
+each_back f write test r [] h = refl
+each_back f write test r (y ∷ ys) h =
+    let q = both_true (test y) (list_all test ys) h in
+    ap (each_by f (map write ys)) (r.back y q.0) ∙ ap (option_map (λ zs. y ∷ zs)) (each_back f write test r ys q.1)
+
+pub each-reads : {A B : Type 0} (f : A → Option B) (write : B → A) (test : B → Bool) → Reads f write test → Reads (each_some f) (map write) (list_all test)
+each-reads f write test r = record { read = each_read f write test r; back = each_back f write test r }
 
 -- ---- a word divided at its first byte of a kind
 

@@ -1,148 +1,277 @@
--- A line and the grammar: each direction, for each kind of sentence.
-use Rattle.std.proofs.Common.{◌≡◌, ℕ, ◌&&◌, Bool, true, false, List, [], ◌∷◌, ℤ, pos, refl, ap, ◌∙◌, sym, subst, Option, Some, None, option_map, cond, bytes_eq, codes}
-use Rattle.sj_codelet.specs.declared.kernel.Kernel.{Kernel}
-use Rattle.sj_codelet.specs.Kernel.{named_in}
-use Rattle.sj_job.specs.declared.job.Kind.TheVariants.{Vector}
-use Rattle.sj_job.specs.declared.job.Init.TheVariants.{Values}
-use Rattle.sj_job.specs.declared.job.Operand.{Operand}
-use Rattle.sj_job.specs.declared.sentence.Registration.{Registration}
-use Rattle.sj_job.specs.declared.sentence.Call.{Call}
-use Rattle.sj_job.specs.declared.sentence.Sentence.{Sentence}
-use Rattle.sj_job.specs.declared.sentence.Sentence.TheVariants.{Register, Task, Print, Invalidate, Unregister}
-use Rattle.sj_job.specs.Word.{is_name, count_of}
-use Rattle.sj_job.specs.Sentence.{operands_of, integers_of, codelet_name, arguments_in, call_parts, call_of, vector_of, name_in, sentence_of}
-use Rattle.sj_job.specs.Grammar.{SaysVector, SaysTask, SaysPrint, Says}
-use Rattle.sj_job.proofs.Spelling.{both_true, some_from}
-use Rattle.sj_job.proofs.Saying.{same_word, integers_say, say_integers, operands_say, say_operands, codelet_says, says_codelet}
+-- A line and the grammar: each form is read from what is written of it, and from nothing else; and what it says.
+use Rattle.std.proofs.Common.{◌≡◌, ℕ, ◌&&◌, Bool, true, false, List, [], ◌∷◌, ◌++◌, map, refl, ap, ◌∙◌, sym, subst, Option, Some, None, option_map, cond, bytes_eq, codes}
+use Rattle.std.specs.Prelude.{option_and_then}
+use Rattle.std.specs.List.{list_all}
+use Rattle.sj_base.specs.declared.mode.Policy.{Policy}
+use Rattle.sj_base.specs.declared.mode.Reduction.{Reduction}
+use Rattle.sj_job.specs.declared.form.Keyword.{Keyword}
+use Rattle.sj_job.specs.declared.form.Keyword.TheVariants as keyword
+use Rattle.sj_job.specs.declared.form.Size.{Size}
+use Rattle.sj_job.specs.declared.form.Size.TheVariants.{Vector, Matrix}
+use Rattle.sj_job.specs.declared.form.InitForm.{InitForm}
+use Rattle.sj_job.specs.declared.form.InitForm.TheVariants.{Values, Fill, Nothing}
+use Rattle.sj_job.specs.declared.form.ArrayForm.{ArrayForm}
+use Rattle.sj_job.specs.declared.form.OperandForm.{OperandForm}
+use Rattle.sj_job.specs.declared.form.TaskForm.{TaskForm}
+use Rattle.sj_job.specs.declared.form.Form.{Form}
+use Rattle.sj_job.specs.declared.form.Form.TheVariants.{Workers, Node, Policy as PolicyLine, Register, Plan, Redux, Task, Print, Invalidate, Unregister}
+use Rattle.sj_job.specs.Word.{is_name}
+use Rattle.sj_job.specs.Form.{keyword_word, keyword_of, keywords, policy_of, reduction_of, reduction_word, bracketed, each_some, operand_of, with_priority, task_of, values_of, fill_of, nothing_of, init_of, with_parts, parted, layout_of, array_of, vector_of, matrix_of, alone, name_in, plan_of, redux_of, form_behind, form_of}
+use Rattle.sj_job.specs.Grammar.{operand_word, codelet_word, priority_words, parts_words, init_words, sized, written, is_piece, has_values, is_proper_operand, is_proper}
+use Rattle.sj_job.proofs.Spelling.{both_true, true_both, some_from, Reads, word-found, same_word, each-reads}
+use Rattle.sj_job.proofs.Saying.{policies, reductions, codelets, operands, priority-back, priority-joins}
 
--- ---- a vector
+-- ---- the values of an array
 
-abbrev vector_with : List ℕ → ℕ → List ℤ → Registration
-vector_with name cols zs = record { name = name; kind = Vector; rows = 1; cols = cols; init = Values zs }
+init_by : (w : List ℕ) (ws : List (List ℕ)) (i : InitForm) (a b c : Bool) → (a ≡ true → w ≡ codes "values") → (b ≡ true → w ≡ codes "fill") → (c ≡ true → w ≡ codes "none") → cond a (values_of ws) (cond b (fill_of ws) (cond c (nothing_of ws) None)) ≡ Some i → (w ∷ ws ≡ init_words i) × (has_values i ≡ true)
+init_by w [] i true b c f g h e = absurd (cc)
+init_by w (v ∷ vs) i true b c f g h e =
+    let same : Values (v ∷ vs) ≡ i = cc in
+    subst (λ i. (w ∷ v ∷ vs ≡ init_words i) × (has_values i ≡ true)) same (ap (λ w. w ∷ v ∷ vs) (f refl), refl)
+init_by w [] i false true c f g h e = absurd (cc)
+init_by w (x ∷ []) i false true c f g h e = absurd (cc)
+init_by w (x ∷ y ∷ []) i false true c f g h e =
+    let same : Fill x y ≡ i = cc in
+    subst (λ i. (w ∷ x ∷ y ∷ [] ≡ init_words i) × (has_values i ≡ true)) same (ap (λ w. w ∷ x ∷ y ∷ []) (g refl), refl)
+init_by w (x ∷ y ∷ z ∷ ws) i false true c f g h e = absurd (cc)
+init_by w [] i false false true f g h e =
+    let same : Nothing ≡ i = cc in
+    subst (λ i. (w ∷ [] ≡ init_words i) × (has_values i ≡ true)) same (ap (λ w. w ∷ []) (h refl), refl)
+init_by w (x ∷ ws) i false false true f g h e = absurd (cc)
+init_by w ws i false false false f g h e = absurd (cc)
 
-abbrev vector_from : Bool → List ℕ → Option ℕ → Option (List ℤ) → Option Registration
-vector_from t name cols zs = cond t (elim cols as (λ _. Option Registration) [ None ↦ None | Some n ↦ option_map (vector_with name n) zs ]) None
+init-read : (ws : List (List ℕ)) (i : InitForm) → init_of ws ≡ Some i → (ws ≡ init_words i) × (has_values i ≡ true)
+init-read [] i e = absurd (cc)
+init-read (w ∷ ws) i e =
+    init_by w ws i (bytes_eq w (codes "values")) (bytes_eq w (codes "fill")) (bytes_eq w (codes "none"))
+    (same_word w (codes "values")) (same_word w (codes "fill")) (same_word w (codes "none")) e
 
-vector_by : (name n v x : List ℕ) (xs : List (List ℕ)) (r : Registration) (t : Bool) (o : Option ℕ) → (is_name name && bytes_eq v (codes "values")) ≡ t → count_of n ≡ o → vector_from t name o (integers_of (x ∷ xs)) ≡ Some r → SaysVector (codes "vector" ∷ name ∷ n ∷ v ∷ x ∷ xs) r
-vector_by name n v x xs r true (Some cols) h k e =
-    let q = both_true (is_name name) (bytes_eq v (codes "values")) h in
-    let p = some_from (vector_with name cols) (integers_of (x ∷ xs)) r e in
-    subst (SaysVector (codes "vector" ∷ name ∷ n ∷ v ∷ x ∷ xs)) p.1.1 (record {
-      count = n;
-      first = x;
-      others = xs;
-      values = p.0;
-      line = ap (λ v. codes "vector" ∷ name ∷ n ∷ v ∷ x ∷ xs) (same_word v (codes "values") q.1);
-      name = q.0;
-      columns = k;
-      numbers = integers_say (x ∷ xs) p.0 p.1.0;
-      vector = refl;
-    })
-vector_by name n v x xs r true None h k e = absurd (cc)
-vector_by name n v x xs r false o h k e = absurd (cc)
+init-back : (i : InitForm) → has_values i ≡ true → init_of (init_words i) ≡ Some i
+init-back (Values []) h = absurd (cc)
+init-back (Values (v ∷ vs)) h = refl
+init-back (Fill a b) h = refl
+init-back Nothing h = refl
 
-vector_says : (ws : List (List ℕ)) (r : Registration) → vector_of ws ≡ Some r → SaysVector (codes "vector" ∷ ws) r
-vector_says [] r e = absurd (cc)
-vector_says (name ∷ []) r e = absurd (cc)
-vector_says (name ∷ n ∷ []) r e = absurd (cc)
-vector_says (name ∷ n ∷ v ∷ []) r e = absurd (cc)
-vector_says (name ∷ n ∷ v ∷ x ∷ xs) r e = vector_by name n v x xs r (is_name name && bytes_eq v (codes "values")) (count_of n) refl refl e
+-- ---- the parts and the values of an array
 
-says_vector : (has : Kernel → Bool) (ws : List (List ℕ)) (r : Registration) → SaysVector ws r → sentence_of has ws ≡ Some (Register r)
-says_vector has ws r h =
-    ap (sentence_of has) h.line
-    ∙ ap (λ t. option_map Register (vector_from (t && true) r.name (count_of h.count) (integers_of (h.first ∷ h.others)))) h.name
-    ∙ ap (λ o. option_map Register (vector_from true r.name o (integers_of (h.first ∷ h.others)))) h.columns
-    ∙ ap (λ o. option_map Register (vector_from true r.name (Some r.cols) o)) (say_integers (h.first ∷ h.others) h.values h.numbers)
-    ∙ ap (λ r. Some (Register r)) (sym h.vector)
+abbrev Layout : Type 0
+Layout = Option (List ℕ × List ℕ) × InitForm
+
+abbrev layout_words : Layout → List (List ℕ)
+layout_words l = parts_words l.0 ++ init_words l.1
+
+abbrev IsLayout : List (List ℕ) → Layout → Type 0
+IsLayout ws l = (ws ≡ layout_words l) × (has_values l.1 ≡ true)
+
+parts_by : (parts : Option (List ℕ × List ℕ)) (ws : List (List ℕ)) (l : Layout) → with_parts parts ws ≡ Some l → IsLayout (parts_words parts ++ ws) l
+parts_by parts ws l e =
+    let make : InitForm → Layout = λ init. (parts, init) in
+    let p = some_from make (init_of ws) l e in
+    let i = init-read ws p.0 p.1.0 in
+    subst (IsLayout (parts_words parts ++ ws)) p.1.1 (ap (λ ws. parts_words parts ++ ws) i.0, i.1)
+
+layout_by : (w : List ℕ) (ws : List (List ℕ)) (l : Layout) (t : Bool) → (t ≡ true → w ≡ codes "by") → cond t (parted ws) (with_parts None (w ∷ ws)) ≡ Some l → IsLayout (w ∷ ws) l
+layout_by w [] l true h e = absurd (cc)
+layout_by w (r ∷ []) l true h e = absurd (cc)
+layout_by w (r ∷ c ∷ ws) l true h e = subst (λ w. IsLayout (w ∷ r ∷ c ∷ ws) l) (sym (h refl)) (parts_by (Some (r, c)) ws l e)
+layout_by w ws l false h e = parts_by None (w ∷ ws) l e
+
+layout-read : (ws : List (List ℕ)) (l : Layout) → layout_of ws ≡ Some l → IsLayout ws l
+layout-read [] l e = absurd (cc)
+layout-read (w ∷ ws) l e = layout_by w ws l (bytes_eq w (codes "by")) (same_word w (codes "by")) e
+
+layout-back : (parts : Option (List ℕ × List ℕ)) (i : InitForm) → has_values i ≡ true → layout_of (parts_words parts ++ init_words i) ≡ Some (parts, i)
+layout-back None (Values []) h = absurd (cc)
+layout-back None (Values (v ∷ vs)) h = refl
+layout-back None (Fill a b) h = refl
+layout-back None Nothing h = refl
+layout-back (Some p) i h = ap (option_map (λ (i : InitForm). let l : Layout = (Some p, i) in l)) (init-back i h)
+
+-- ---- an array
+
+abbrev array : List ℕ → Size → Layout → ArrayForm
+array name size l = record { name = name; size = size; parts = l.0; init = l.1 }
+
+-- the words spell the form
+abbrev IsSpelled : List (List ℕ) → Form → Type 0
+IsSpelled ws f = (ws ≡ written f) × (is_proper f ≡ true)
+
+array_by : (name : List ℕ) (size : Size) (ws : List (List ℕ)) (a : ArrayForm) (t : Bool) → is_name name ≡ t → cond t (option_map (array name size) (layout_of ws)) None ≡ Some a → IsSpelled (sized name size ws) (Register a)
+array_by name size ws a true n e =
+    let p = some_from (array name size) (layout_of ws) a e in
+    let l = layout-read ws p.0 p.1.0 in
+    subst (λ a. IsSpelled (sized name size ws) (Register a)) p.1.1
+    (ap (sized name size) l.0, true_both (is_name name) (has_values p.0.1) n l.1)
+array_by name size ws a false n e = absurd (cc)
+
+vector-read : (ws : List (List ℕ)) (a : ArrayForm) → vector_of ws ≡ Some a → IsSpelled (codes "vector" ∷ ws) (Register a)
+vector-read [] a e = absurd (cc)
+vector-read (name ∷ []) a e = absurd (cc)
+vector-read (name ∷ n ∷ ws) a e = array_by name (Vector n) ws a (is_name name) refl e
+
+matrix-read : (ws : List (List ℕ)) (a : ArrayForm) → matrix_of ws ≡ Some a → IsSpelled (codes "matrix" ∷ ws) (Register a)
+matrix-read [] a e = absurd (cc)
+matrix-read (name ∷ []) a e = absurd (cc)
+matrix-read (name ∷ r ∷ []) a e = absurd (cc)
+matrix-read (name ∷ r ∷ c ∷ ws) a e = array_by name (Matrix r c) ws a (is_name name) refl e
+
+array-back : (name : List ℕ) (size : Size) (parts : Option (List ℕ × List ℕ)) (i : InitForm) → (is_name name && has_values i) ≡ true → array_of name size (parts_words parts ++ init_words i) ≡ Some (array name size (parts, i))
+array-back name size parts i h =
+    let q = both_true (is_name name) (has_values i) h in
+    ap (λ t. cond t (option_map (array name size) (layout_of (parts_words parts ++ init_words i))) None) q.0
+    ∙ ap (option_map (array name size)) (layout-back parts i q.1)
+
+register-back : (name : List ℕ) (size : Size) (parts : Option (List ℕ × List ℕ)) (i : InitForm) → (is_name name && has_values i) ≡ true → form_of (sized name size (parts_words parts ++ init_words i)) ≡ Some (Register (array name size (parts, i)))
+register-back name (Vector n) parts i h = ap (option_map Register) (array-back name (Vector n) parts i h)
+register-back name (Matrix r c) parts i h = ap (option_map Register) (array-back name (Matrix r c) parts i h)
 
 -- ---- a task
 
-abbrev parts_from : Bool → Option (List ℤ) → Option (List Operand) → Option (List ℤ × List Operand)
-parts_from t args os = cond t (elim args as (λ _. Option (List ℤ × List Operand)) [ None ↦ None | Some args ↦ option_map (λ os. (args, os)) os ]) None
+abbrev task : (List ℕ × List (List ℕ)) → Option (List ℕ) → List OperandForm → TaskForm
+task c p os = record { codelet = c.0; args = c.1; operands = os; priority = p }
 
-abbrev call_with : (Kernel → Bool) → List ℕ → (List ℤ × List Operand) → Call
-call_with has name p = record { codelet = named_in has name; args = p.0; operands = p.1; priority = pos 0 }
+abbrev task_from : Option (List ℕ × List (List ℕ)) → (List (List ℕ) × Option (List ℕ)) → Option TaskForm
+task_from c r = elim c as (λ _. Option TaskForm) [ None ↦ None | Some c ↦ option_map (task c r.1) (each_some operand_of r.0) ]
 
-task_by : (has : Kernel → Bool) (w : List ℕ) (ws : List (List ℕ)) (p : List ℤ × List Operand) (t : Bool) (o : Option (List ℤ)) → is_name (codelet_name w) ≡ t → arguments_in w ≡ o → parts_from t o (operands_of ws) ≡ Some p → SaysTask has (codes "task" ∷ w ∷ ws) (call_with has (codelet_name w) p)
-task_by has w ws p true (Some args) h k e =
-    let with_args : List Operand → List ℤ × List Operand = λ os. (args, os) in
-    let q = some_from with_args (operands_of ws) p e in
-    subst (λ p. SaysTask has (codes "task" ∷ w ∷ ws) (call_with has (codelet_name w) p)) q.1.1 (record {
-      codelet_word = w;
-      codelet_name = codelet_name w;
-      operand_words = ws;
-      line = refl;
-      codelet = codelet_says w args h k;
-      operands = operands_say ws q.0 q.1.0;
-      found = refl;
-      priority = refl;
-    })
-task_by has w ws p true None h k e = absurd (cc)
-task_by has w ws p false o h k e = absurd (cc)
+all_operands : Reads (each_some operand_of) (map operand_word) (list_all is_proper_operand)
+all_operands = each-reads operand_of operand_word is_proper_operand operands
 
-task_says : (has : Kernel → Bool) (ws : List (List ℕ)) (t : Call) → call_of has ws ≡ Some t → SaysTask has (codes "task" ∷ ws) t
-task_says has [] t e = absurd (cc)
-task_says has (w ∷ ws) t e =
-    let p = some_from (call_with has (codelet_name w)) (call_parts w ws) t e in
-    subst (SaysTask has (codes "task" ∷ w ∷ ws)) p.1.1 (task_by has w ws p.0 (is_name (codelet_name w)) (arguments_in w) refl refl p.1.0)
+three_true : (a b c : Bool) → (a && b) ≡ true → c ≡ true → (a && b && c) ≡ true
+three_true true b c h k = true_both b c h k
+three_true false b c h k = absurd (cc)
 
-says_task : (has : Kernel → Bool) (ws : List (List ℕ)) (t : Call) → SaysTask has ws t → sentence_of has ws ≡ Some (Task t)
-says_task has ws t h =
-    let w = h.codelet_word in
-    let os = h.operand_words in
-    let f = says_codelet w h.codelet_name t.args h.codelet in
-    ap (sentence_of has) h.line
-    ∙ ap (λ n. option_map Task (option_map (call_with has n) (parts_from (is_name n) (arguments_in w) (operands_of os)))) f.before
-    ∙ ap (λ b. option_map Task (option_map (call_with has h.codelet_name) (parts_from b (arguments_in w) (operands_of os)))) h.codelet.named
-    ∙ ap (λ o. option_map Task (option_map (call_with has h.codelet_name) (parts_from true o (operands_of os)))) f.inside
-    ∙ ap (λ o. option_map Task (option_map (call_with has h.codelet_name) (parts_from true (Some t.args) o))) (say_operands os t.operands h.operands)
-    ∙ ap (λ c. let call : Call = record { codelet = c; args = t.args; operands = t.operands; priority = pos 0 } in Some (Task call)) (sym h.found)
-    ∙ ap (λ p. let call : Call = record { codelet = t.codelet; args = t.args; operands = t.operands; priority = p } in Some (Task call)) (sym h.priority)
+two_and_one : (a b c : Bool) → (a && b && c) ≡ true → ((a && b) ≡ true) × (c ≡ true)
+two_and_one true b c h = both_true b c h
+two_and_one false b c h = absurd (cc)
 
--- ---- a print
+task_by : (w : List ℕ) (ws : List (List ℕ)) (t : TaskForm) (c : Option (List ℕ × List (List ℕ))) → bracketed 40 41 w ≡ c → task_from c (with_priority ws) ≡ Some t → IsSpelled (codes "task" ∷ w ∷ ws) (Task t)
+task_by w ws t None h e = absurd (cc)
+task_by w ws t (Some c) h e =
+    let r = with_priority ws in
+    let p = some_from (task c r.1) (each_some operand_of r.0) t e in
+    let os = all_operands.read r.0 p.0 p.1.0 in
+    let name = codelets.read w c h in
+    subst (λ t. IsSpelled (codes "task" ∷ w ∷ ws) (Task t)) p.1.1 (
+      ap (λ w. codes "task" ∷ w ∷ ws) name.0 ∙ ap (λ ws. codes "task" ∷ codelet_word (task c r.1 p.0) ∷ ws) (priority-joins ws ∙ ap (λ ws. ws ++ priority_words r.1) os.0),
+      three_true (is_name c.0) (list_all is_piece c.1) (list_all is_proper_operand p.0) name.1 os.1,
+    )
 
-print_by : (w n : List ℕ) (t : Bool) → is_name w ≡ t → cond t (Some w) None ≡ Some n → SaysPrint (codes "print" ∷ w ∷ []) n
-print_by w n true h e =
-    let same : w ≡ n = cc in
-    record { line = ap (λ w. codes "print" ∷ w ∷ []) same; name = sym (ap is_name same) ∙ h }
-print_by w n false h e = absurd (cc)
+task-read : (ws : List (List ℕ)) (t : TaskForm) → task_of ws ≡ Some t → IsSpelled (codes "task" ∷ ws) (Task t)
+task-read [] t e = absurd (cc)
+task-read (w ∷ ws) t e = task_by w ws t (bracketed 40 41 w) refl e
 
-print_says : (ws : List (List ℕ)) (n : List ℕ) → name_in ws ≡ Some n → SaysPrint (codes "print" ∷ ws) n
-print_says [] n e = absurd (cc)
-print_says (w ∷ []) n e = print_by w n (is_name w) refl e
-print_says (w ∷ v ∷ ws) n e = absurd (cc)
+task-back : (t : TaskForm) → is_proper (Task t) ≡ true → form_of (written (Task t)) ≡ Some (Task t)
+task-back t h =
+    let q = two_and_one (is_name t.codelet) (list_all is_piece t.args) (list_all is_proper_operand t.operands) h in
+    let behind = map operand_word t.operands ++ priority_words t.priority in
+    let c : List ℕ × List (List ℕ) = (t.codelet, t.args) in
+    ap (λ c. option_map Task (task_from c (with_priority behind))) (codelets.back c q.0)
+    ∙ ap (λ r. option_map Task (task_from (Some c) r)) (priority-back t.operands t.priority q.1)
+    ∙ ap (λ os. option_map Task (option_map (task c t.priority) os)) (all_operands.back t.operands q.1)
 
-says_print : (has : Kernel → Bool) (ws : List (List ℕ)) (n : List ℕ) → SaysPrint ws n → sentence_of has ws ≡ Some (Print n)
-says_print has ws n h =
-    ap (sentence_of has) h.line
-    ∙ ap (λ t. option_map Print (cond t (Some n) None)) h.name
+-- ---- the other lines
+
+alone-read : (ws : List (List ℕ)) (w : List ℕ) → alone ws ≡ Some w → ws ≡ w ∷ []
+alone-read [] w e = absurd (cc)
+alone-read (v ∷ []) w e = let same : v ≡ w = cc in ap (λ w. w ∷ []) same
+alone-read (v ∷ u ∷ ws) w e = absurd (cc)
+
+-- a word alone behind a first word
+alone_by : (make : List ℕ → Form) (first : List ℕ) → ((w : List ℕ) → IsSpelled (first ∷ w ∷ []) (make w)) → (ws : List (List ℕ)) (f : Form) → option_map make (alone ws) ≡ Some f → IsSpelled (first ∷ ws) f
+alone_by make first spelled ws f e =
+    let p = some_from make (alone ws) f e in
+    subst (λ ws. IsSpelled (first ∷ ws) f) (sym (alone-read ws p.0 p.1.0)) (subst (IsSpelled (first ∷ p.0 ∷ [])) p.1.1 (spelled p.0))
+
+name_by : (w n : List ℕ) (t : Bool) → is_name w ≡ t → cond t (Some w) None ≡ Some n → (w ≡ n) × (is_name n ≡ true)
+name_by w n true h e = let same : w ≡ n = cc in (same, sym (ap is_name same) ∙ h)
+name_by w n false h e = absurd (cc)
+
+name-read : (ws : List (List ℕ)) (n : List ℕ) → name_in ws ≡ Some n → (ws ≡ n ∷ []) × (is_name n ≡ true)
+name-read [] n e = absurd (cc)
+name-read (w ∷ []) n e = let p = name_by w n (is_name w) refl e in (ap (λ w. w ∷ []) p.0, p.1)
+name-read (w ∷ v ∷ ws) n e = absurd (cc)
+
+-- a name alone behind a first word
+named_by : (make : List ℕ → Form) (first : List ℕ) → ((n : List ℕ) → is_name n ≡ true → IsSpelled (first ∷ n ∷ []) (make n)) → (ws : List (List ℕ)) (f : Form) → option_map make (name_in ws) ≡ Some f → IsSpelled (first ∷ ws) f
+named_by make first spelled ws f e =
+    let p = some_from make (name_in ws) f e in
+    let n = name-read ws p.0 p.1.0 in
+    subst (λ ws. IsSpelled (first ∷ ws) f) (sym n.0) (subst (IsSpelled (first ∷ p.0 ∷ [])) p.1.1 (spelled p.0 n.1))
+
+name-back : (n : List ℕ) → is_name n ≡ true → name_in (n ∷ []) ≡ Some n
+name-back n h = ap (λ t. cond t (Some n) None) h
+
+policy_by : (w : List ℕ) (o : Option Policy) (f : Form) → policy_of w ≡ o → option_map PolicyLine o ≡ Some f → IsSpelled (codes "policy" ∷ w ∷ []) f
+policy_by w None f h e = absurd (cc)
+policy_by w (Some p) f h e =
+    let same : PolicyLine p ≡ f = cc in
+    subst (IsSpelled (codes "policy" ∷ w ∷ [])) same (ap (λ w. codes "policy" ∷ w ∷ []) (policies.read w p h).0, refl)
+
+policy-read : (ws : List (List ℕ)) (f : Form) → option_map PolicyLine (option_and_then policy_of (alone ws)) ≡ Some f → IsSpelled (codes "policy" ∷ ws) f
+policy-read [] f e = absurd (cc)
+policy-read (w ∷ []) f e = policy_by w (policy_of w) f refl e
+policy-read (w ∷ v ∷ ws) f e = absurd (cc)
+
+plan_by : (name r c : List ℕ) (f : Form) (t : Bool) → is_name name ≡ t → cond t (Some (Plan name r c)) None ≡ Some f → IsSpelled (codes "plan" ∷ name ∷ r ∷ c ∷ []) f
+plan_by name r c f true h e = let same : Plan name r c ≡ f = cc in subst (IsSpelled (codes "plan" ∷ name ∷ r ∷ c ∷ [])) same (refl, h)
+plan_by name r c f false h e = absurd (cc)
+
+plan-read : (ws : List (List ℕ)) (f : Form) → plan_of ws ≡ Some f → IsSpelled (codes "plan" ∷ ws) f
+plan-read [] f e = absurd (cc)
+plan-read (name ∷ []) f e = absurd (cc)
+plan-read (name ∷ r ∷ []) f e = absurd (cc)
+plan-read (name ∷ r ∷ c ∷ []) f e = plan_by name r c f (is_name name) refl e
+plan-read (name ∷ r ∷ c ∷ w ∷ ws) f e = absurd (cc)
+
+redux_by : (name w : List ℕ) (f : Form) (t : Bool) (o : Option Reduction) → is_name name ≡ t → reduction_of w ≡ o → cond t (option_map (Redux name) o) None ≡ Some f → IsSpelled (codes "redux" ∷ name ∷ w ∷ []) f
+redux_by name w f true None h k e = absurd (cc)
+redux_by name w f true (Some by) h k e =
+    let same : Redux name by ≡ f = cc in
+    subst (IsSpelled (codes "redux" ∷ name ∷ w ∷ [])) same (ap (λ w. codes "redux" ∷ name ∷ w ∷ []) (reductions.read w by k).0, h)
+redux_by name w f false o h k e = absurd (cc)
+
+redux-read : (ws : List (List ℕ)) (f : Form) → redux_of ws ≡ Some f → IsSpelled (codes "redux" ∷ ws) f
+redux-read [] f e = absurd (cc)
+redux-read (name ∷ []) f e = absurd (cc)
+redux-read (name ∷ w ∷ []) f e = redux_by name w f (is_name name) (reduction_of w) refl refl e
+redux-read (name ∷ w ∷ v ∷ ws) f e = absurd (cc)
+
+redux-back : (name : List ℕ) (by : Reduction) → is_name name ≡ true → redux_of (name ∷ reduction_word by ∷ []) ≡ Some (Redux name by)
+redux-back name by h =
+    ap (λ t. cond t (option_map (Redux name) (reduction_of (reduction_word by))) None) h
+    ∙ ap (option_map (Redux name)) (reductions.back by refl)
 
 -- ---- a line
 
-by_first : (has : Kernel → Bool) (w : List ℕ) (ws : List (List ℕ)) (s : Sentence) (a b c : Bool) → (a ≡ true → w ≡ codes "vector") → (b ≡ true → w ≡ codes "task") → (c ≡ true → w ≡ codes "print") → cond a (option_map Register (vector_of ws)) (cond b (option_map Task (call_of has ws)) (cond c (option_map Print (name_in ws)) None)) ≡ Some s → Says has (w ∷ ws) s
-by_first has w ws s true b c f g h e =
-    let p = some_from Register (vector_of ws) s e in
-    subst (Says has (w ∷ ws)) p.1.1 (subst (λ v. SaysVector (v ∷ ws) p.0) (sym (f refl)) (vector_says ws p.0 p.1.0))
-by_first has w ws s false true c f g h e =
-    let p = some_from Task (call_of has ws) s e in
-    subst (Says has (w ∷ ws)) p.1.1 (subst (λ v. SaysTask has (v ∷ ws) p.0) (sym (g refl)) (task_says has ws p.0 p.1.0))
-by_first has w ws s false false true f g h e =
-    let p = some_from Print (name_in ws) s e in
-    subst (Says has (w ∷ ws)) p.1.1 (subst (λ v. SaysPrint (v ∷ ws) p.0) (sym (h refl)) (print_says ws p.0 p.1.0))
-by_first has w ws s false false false f g h e = absurd (cc)
+behind-read : (k : Keyword) (ws : List (List ℕ)) (f : Form) → form_behind k ws ≡ Some f → IsSpelled (keyword_word k ∷ ws) f
+behind-read keyword.Workers ws f e = alone_by Workers (codes "workers") (λ w. (refl, refl)) ws f e
+behind-read keyword.Node ws f e = alone_by Node (codes "node") (λ w. (refl, refl)) ws f e
+behind-read keyword.Policy ws f e = policy-read ws f e
+behind-read keyword.Vector ws f e = let p = some_from Register (vector_of ws) f e in subst (IsSpelled (codes "vector" ∷ ws)) p.1.1 (vector-read ws p.0 p.1.0)
+behind-read keyword.Matrix ws f e = let p = some_from Register (matrix_of ws) f e in subst (IsSpelled (codes "matrix" ∷ ws)) p.1.1 (matrix-read ws p.0 p.1.0)
+behind-read keyword.Plan ws f e = plan-read ws f e
+behind-read keyword.Redux ws f e = redux-read ws f e
+behind-read keyword.Task ws f e = let p = some_from Task (task_of ws) f e in subst (IsSpelled (codes "task" ∷ ws)) p.1.1 (task-read ws p.0 p.1.0)
+behind-read keyword.Print ws f e = named_by Print (codes "print") (λ n h. (refl, h)) ws f e
+behind-read keyword.Invalidate ws f e = named_by Invalidate (codes "invalidate") (λ n h. (refl, h)) ws f e
+behind-read keyword.Unregister ws f e = named_by Unregister (codes "unregister") (λ n h. (refl, h)) ws f e
 
--- what is found is what the grammar has the words say
-pub found-is-said : (has : Kernel → Bool) (ws : List (List ℕ)) (s : Sentence) → sentence_of has ws ≡ Some s → Says has ws s
-found-is-said has [] s e = absurd (cc)
-found-is-said has (w ∷ ws) s e =
-    by_first has w ws s (bytes_eq w (codes "vector")) (bytes_eq w (codes "task")) (bytes_eq w (codes "print"))
-    (same_word w (codes "vector")) (same_word w (codes "task")) (same_word w (codes "print")) e
+line_by : (w : List ℕ) (ws : List (List ℕ)) (f : Form) (o : Option Keyword) → keyword_of w ≡ o → (elim o as (λ _. Option Form) [ None ↦ None | Some k ↦ form_behind k ws ]) ≡ Some f → IsSpelled (w ∷ ws) f
+line_by w ws f None h e = absurd (cc)
+line_by w ws f (Some k) h e = subst (λ w. IsSpelled (w ∷ ws) f) (sym (word-found keyword_word keywords w k h)) (behind-read k ws f e)
 
--- what the grammar has the words say is found
-pub said-is-found : (has : Kernel → Bool) (ws : List (List ℕ)) (s : Sentence) → Says has ws s → sentence_of has ws ≡ Some s
-said-is-found has ws (Register r) h = says_vector has ws r h
-said-is-found has ws (Task t) h = says_task has ws t h
-said-is-found has ws (Print n) h = says_print has ws n h
-said-is-found has ws (Invalidate n) h = absurd h
-said-is-found has ws (Unregister n) h = absurd h
+pub form-read : (ws : List (List ℕ)) (f : Form) → form_of ws ≡ Some f → IsSpelled ws f
+form-read [] f e = absurd (cc)
+form-read (w ∷ ws) f e = line_by w ws f (keyword_of w) refl e
+
+pub form-back : (f : Form) → is_proper f ≡ true → form_of (written f) ≡ Some f
+form-back (Workers n) h = refl
+form-back (Node n) h = refl
+form-back (PolicyLine p) h = ap (option_map PolicyLine) (policies.back p refl)
+form-back (Register a) h = register-back a.name a.size a.parts a.init h
+form-back (Plan name r c) h = ap (λ t. cond t (Some (Plan name r c)) None) h
+form-back (Redux name by) h = redux-back name by h
+form-back (Task t) h = task-back t h
+form-back (Print name) h = ap (option_map Print) (name-back name h)
+form-back (Invalidate name) h = ap (option_map Invalidate) (name-back name h)
+form-back (Unregister name) h = ap (option_map Unregister) (name-back name h)

@@ -1,82 +1,141 @@
--- The grammar of a line in its own words: which words say which sentence.
-use Rattle.std.specs.Prelude.{◌≡◌, ◌⊎◌, ℕ, Bool, Some, List, [], ◌∷◌, ◌++◌, ℤ, pos, codes, IsTrue, nat_eq}
-use Rattle.std.specs.List.{slice_split}
-use Rattle.sj_base.specs.declared.mode.Mode.{Mode}
-use Rattle.sj_base.specs.declared.mode.Mode.TheVariants.{R, W, RW, Scratch, Redux, Commute}
+-- The grammar of a line in its own words: how each form is written, and what it says.
+use Rattle.std.specs.Prelude.{◌≡◌, ℕ, Bool, true, false, ◌&&◌, ◌||◌, not, ◌==◌, map, Option, Some, None, Result, Ok, Err, List, [], ◌∷◌, ◌++◌, codes, IsTrue}
+use Rattle.std.specs.List.{list_all, join_with_byte}
 use Rattle.sj_codelet.specs.declared.kernel.Kernel.{Kernel}
-use Rattle.sj_codelet.specs.Kernel.{named_in}
-use Rattle.sj_job.specs.declared.job.Kind.TheVariants.{Vector}
-use Rattle.sj_job.specs.declared.job.Init.TheVariants.{Values}
-use Rattle.sj_job.specs.declared.job.Operand.{Operand}
-use Rattle.sj_job.specs.declared.sentence.Registration.{Registration}
-use Rattle.sj_job.specs.declared.sentence.Call.{Call}
+use Rattle.sj_job.specs.declared.form.Size.{Size}
+use Rattle.sj_job.specs.declared.form.Size.TheVariants.{Vector, Matrix}
+use Rattle.sj_job.specs.declared.form.InitForm.{InitForm}
+use Rattle.sj_job.specs.declared.form.InitForm.TheVariants.{Values, Fill, Nothing}
+use Rattle.sj_job.specs.declared.form.OperandForm.{OperandForm}
+use Rattle.sj_job.specs.declared.form.TaskForm.{TaskForm}
+use Rattle.sj_job.specs.declared.form.Form.{Form}
+use Rattle.sj_job.specs.declared.form.Form.TheVariants.{Workers, Node, Policy, Register, Plan, Redux, Task, Print, Invalidate, Unregister}
 use Rattle.sj_job.specs.declared.sentence.Sentence.{Sentence}
-use Rattle.sj_job.specs.declared.sentence.Sentence.TheVariants.{Register, Task, Print, Invalidate, Unregister}
-use Rattle.sj_job.specs.Word.{is_name, count_of, integer_of}
+use Rattle.sj_job.specs.declared.reason.Reason.{Reason}
+use Rattle.sj_job.specs.declared.reason.Reason.TheVariants as reason
+use Rattle.sj_job.specs.Word.{is_name}
+use Rattle.sj_job.specs.Form.{policy_word, reduction_word, mode_word, is_bracket}
+use Rattle.sj_job.specs.Sentence.{is_numbered, is_built, is_misplaced, sentence_of}
 
--- each word says the value beside it
-abbrev pub Each : {A B : Type 0} → (A → B → Type 0) → List A → List B → Type 0
-Each P [] [] = Unit {0}
-Each P [] (y ∷ ys) = ⊥
-Each P (x ∷ xs) [] = ⊥
-Each P (x ∷ xs) (y ∷ ys) = P x y × Each P xs ys
+-- ---- how a form is written
 
-abbrev pub SaysInteger : List ℕ → ℤ → Type 0
-SaysInteger w z = integer_of w ≡ Some z
+-- NAME alone, or NAME and pieces between brackets, divided by commas
+abbrev pub bracketed_word : ℕ → ℕ → List ℕ → List (List ℕ) → List ℕ
+bracketed_word opening closing name [] = name
+bracketed_word opening closing name (p ∷ ps) = name ++ (opening ∷ (join_with_byte 44 (p ∷ ps) ++ (closing ∷ [])))
 
--- `vector NAME N values V1 V2 ..`, with one value at least
-pub record SaysVector (ws : List (List ℕ)) (r : Registration) : Type 0 where
-  pub count : List ℕ
-  pub first : List ℕ
-  pub others : List (List ℕ)
-  pub values : List ℤ
-  pub line : ws ≡ codes "vector" ∷ r.name ∷ count ∷ codes "values" ∷ first ∷ others
-  pub name : IsTrue (is_name r.name)
-  pub columns : count_of count ≡ Some r.cols
-  pub numbers : Each SaysInteger (first ∷ others) values
-  pub vector : r ≡ record { name = r.name; kind = Vector; rows = 1; cols = r.cols; init = Values values }
+abbrev pub child_pieces : Option (List ℕ × List ℕ) → List (List ℕ)
+child_pieces None = []
+child_pieces (Some p) = p.0 ∷ p.1 ∷ []
 
--- the word for a mode
-abbrev pub SaysMode : List ℕ → Mode → Type 0
-SaysMode w R = w ≡ codes "R"
-SaysMode w W = w ≡ codes "W"
-SaysMode w RW = w ≡ codes "RW"
-SaysMode w Scratch = ⊥
-SaysMode w Redux = ⊥
-SaysMode w Commute = ⊥
+-- `NAME:MODE` or `NAME[i,j]:MODE`
+abbrev pub operand_word : OperandForm → List ℕ
+operand_word o = bracketed_word 91 93 o.name (child_pieces o.child) ++ (58 ∷ mode_word o.mode)
 
--- `NAME:MODE`
-pub record SaysOperand (w : List ℕ) (o : Operand) : Type 0 where
-  pub mode_word : List ℕ
-  pub word : w ≡ o.name ++ 58 ∷ mode_word
-  pub name : IsTrue (is_name o.name)
-  pub mode : SaysMode mode_word o.mode
+-- `CODELET` or `CODELET(I1,I2,..)`
+abbrev pub codelet_word : TaskForm → List ℕ
+codelet_word t = bracketed_word 40 41 t.codelet t.args
 
--- `CODELET` alone, or `CODELET(I1,I2,..)`
-pub record SaysCodelet (w name : List ℕ) (args : List ℤ) : Type 0 where
-  pub named : IsTrue (is_name name)
-  pub spelled : ((w ≡ name) × (args ≡ [])) ⊎ ((inner : List ℕ) × (w ≡ name ++ (40 ∷ (inner ++ 41 ∷ []))) × Each SaysInteger (slice_split (λ b. nat_eq b 44) inner) args)
+-- nothing, or `prio=P`
+abbrev pub priority_words : Option (List ℕ) → List (List ℕ)
+priority_words None = []
+priority_words (Some p) = (codes "prio=" ++ p) ∷ []
 
--- `task CODELET OPERANDS`
-pub record SaysTask (has : Kernel → Bool) (ws : List (List ℕ)) (t : Call) : Type 0 where
-  pub codelet_word : List ℕ
-  pub codelet_name : List ℕ
-  pub operand_words : List (List ℕ)
-  pub line : ws ≡ codes "task" ∷ codelet_word ∷ operand_words
-  pub codelet : SaysCodelet codelet_word codelet_name t.args
-  pub operands : Each SaysOperand operand_words t.operands
-  pub found : t.codelet ≡ named_in has codelet_name
-  pub priority : t.priority ≡ pos 0
+-- nothing, or `by r c`
+abbrev pub parts_words : Option (List ℕ × List ℕ) → List (List ℕ)
+parts_words None = []
+parts_words (Some p) = codes "by" ∷ p.0 ∷ p.1 ∷ []
 
--- `print NAME`
-pub record SaysPrint (ws : List (List ℕ)) (n : List ℕ) : Type 0 where
-  pub line : ws ≡ codes "print" ∷ n ∷ []
-  pub name : IsTrue (is_name n)
+-- `values V1 V2 ..`, `fill A B` or `none`
+abbrev pub init_words : InitForm → List (List ℕ)
+init_words (Values vs) = codes "values" ∷ vs
+init_words (Fill a b) = codes "fill" ∷ a ∷ b ∷ []
+init_words Nothing = codes "none" ∷ []
 
--- which words say which sentence, with the codelets of a set
-abbrev pub Says : (Kernel → Bool) → List (List ℕ) → Sentence → Type 0
-Says has ws (Register r) = SaysVector ws r
-Says has ws (Task t) = SaysTask has ws t
-Says has ws (Print n) = SaysPrint ws n
-Says has ws (Invalidate n) = ⊥
-Says has ws (Unregister n) = ⊥
+-- `vector NAME N ..` or `matrix NAME R C ..`
+abbrev pub sized : List ℕ → Size → List (List ℕ) → List (List ℕ)
+sized name (Vector n) ws = codes "vector" ∷ name ∷ n ∷ ws
+sized name (Matrix r c) ws = codes "matrix" ∷ name ∷ r ∷ c ∷ ws
+
+-- the words of a form
+abbrev pub written : Form → List (List ℕ)
+written (Workers n) = codes "workers" ∷ n ∷ []
+written (Node n) = codes "node" ∷ n ∷ []
+written (Policy p) = codes "policy" ∷ policy_word p ∷ []
+written (Register a) = sized a.name a.size (parts_words a.parts ++ init_words a.init)
+written (Plan name r c) = codes "plan" ∷ name ∷ r ∷ c ∷ []
+written (Redux name by) = codes "redux" ∷ name ∷ reduction_word by ∷ []
+written (Task t) = codes "task" ∷ codelet_word t ∷ (map operand_word t.operands ++ priority_words t.priority)
+written (Print name) = codes "print" ∷ name ∷ []
+written (Invalidate name) = codes "invalidate" ∷ name ∷ []
+written (Unregister name) = codes "unregister" ∷ name ∷ []
+
+-- ---- which words stand where
+
+-- no comma and no bracket
+abbrev pub is_piece : List ℕ → Bool
+is_piece p = list_all (λ b. not (is_bracket b || b == 44)) p
+
+-- `values` has one value at least
+abbrev pub has_values : InitForm → Bool
+has_values (Values []) = false
+has_values (Values (v ∷ vs)) = true
+has_values (Fill a b) = true
+has_values Nothing = true
+
+abbrev pub is_proper_operand : OperandForm → Bool
+is_proper_operand o = is_name o.name && list_all is_piece (child_pieces o.child)
+
+-- names are names, and pieces between brackets are pieces
+abbrev pub is_proper : Form → Bool
+is_proper (Workers n) = true
+is_proper (Node n) = true
+is_proper (Policy p) = true
+is_proper (Register a) = is_name a.name && has_values a.init
+is_proper (Plan name r c) = is_name name
+is_proper (Redux name by) = is_name name
+is_proper (Task t) = is_name t.codelet && list_all is_piece t.args && list_all is_proper_operand t.operands
+is_proper (Print name) = is_name name
+is_proper (Invalidate name) = is_name name
+is_proper (Unregister name) = is_name name
+
+-- these words spell this form
+pub record Spells (ws : List (List ℕ)) (f : Form) : Type 0 where
+  pub line : ws ≡ written f
+  pub proper : IsTrue (is_proper f)
+
+-- ---- what a line says
+
+-- a form that stands in its place
+pub record StandsAs (begun : Bool) (ws : List (List ℕ)) (f : Form) : Type 0 where
+  pub spelled : Spells ws f
+  pub placed : IsTrue (not (is_misplaced begun f))
+
+-- the words say a sentence: they spell a form that is read, in its place, with numbers where it has numbers
+pub record SaysSentence (has : Kernel → Bool) (begun : Bool) (ws : List (List ℕ)) (s : Sentence) : Type 0 where
+  pub form : Form
+  pub stands : StandsAs begun ws form
+  pub numbered : IsTrue (is_numbered form)
+  pub built : IsTrue (is_built form)
+  pub sentence : sentence_of has form ≡ Ok s
+
+-- a form in its place, but a word or a piece in the place of a number says none
+pub record LacksNumber (begun : Bool) (ws : List (List ℕ)) : Type 0 where
+  pub form : Form
+  pub stands : StandsAs begun ws form
+  pub unnumbered : IsTrue (not (is_numbered form))
+
+-- a form in its place with its numbers that this version doesn't read
+pub record LacksBuilding (begun : Bool) (ws : List (List ℕ)) : Type 0 where
+  pub form : Form
+  pub stands : StandsAs begun ws form
+  pub numbered : IsTrue (is_numbered form)
+  pub unbuilt : IsTrue (not (is_built form))
+
+-- what these words say: a sentence, or why they say none
+abbrev pub Says : (Kernel → Bool) → Bool → List (List ℕ) → Result Sentence Reason → Type 0
+Says has begun ws (Ok s) = SaysSentence has begun ws s
+Says has begun ws (Err reason.Word) = (f : Form) → ¬ (StandsAs begun ws f)
+Says has begun ws (Err reason.Number) = LacksNumber begun ws
+Says has begun ws (Err reason.NotBuilt) = LacksBuilding begun ws
+Says has begun ws (Err why) = ⊥

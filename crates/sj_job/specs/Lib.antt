@@ -2,6 +2,7 @@ pub mod Word
 pub mod Reason
 pub mod State
 pub mod Meaning
+pub mod Form
 pub mod Sentence
 pub mod Judge
 pub mod Reading

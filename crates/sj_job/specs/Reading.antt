@@ -1,11 +1,10 @@
 -- What a job text says: its statements, or its first bad line and the first reason against it.
-use Rattle.std.specs.Prelude.{◌≡◌, ℕ, ◌+◌, Bool, not, ◌&&◌, nat_lt, Option, Some, None, Result, Ok, Err, List, [], ◌∷◌, length, if◌then◌else◌}
+use Rattle.std.specs.Prelude.{◌≡◌, ℕ, ◌+◌, Bool, not, ◌&&◌, nat_lt, Result, Ok, Err, List, [], ◌∷◌, length, if◌then◌else◌}
 use Rattle.std.specs.List.{list_all}
 use Rattle.sj_base.specs.declared.ids.Line.{Line}
 use Rattle.sj_codelet.specs.declared.kernel.Kernel.{Kernel}
 use Rattle.sj_job.specs.declared.job.Act.{Act}
 use Rattle.sj_job.specs.declared.job.Statement.{Statement}
-use Rattle.sj_job.specs.declared.sentence.Sentence.{Sentence}
 use Rattle.sj_job.specs.declared.read.Verdict.{Verdict}
 use Rattle.sj_job.specs.declared.read.Verdict.TheVariants.{Skipped, Does, Bad}
 use Rattle.sj_job.specs.declared.reason.Reason.{Reason}

@@ -1,101 +1,163 @@
 -- What the words of a line say.
-use Rattle.std.specs.Prelude.{ℕ, Bool, false, ◌&&◌, ◌==◌, ◌-◌, nat_lt, take, slice_index, Option, Some, None, Result, Ok, Err, List, [], ◌∷◌, ℤ, pos, length, codes, option_map, if◌then◌else◌}
-use Rattle.std.specs.List.{before_first, after_first, slice_split}
+use Rattle.std.specs.Prelude.{ℕ, Bool, true, false, ◌&&◌, not, map, is_none, Option, Some, None, Result, Ok, Err, List, [], ◌∷◌, ℤ, pos, codes, if◌then◌else◌}
+use Rattle.std.specs.List.{list_all}
 use Rattle.std.specs.Str.{bytes_eq}
 use Rattle.sj_base.specs.declared.mode.Mode.{Mode}
-use Rattle.sj_base.specs.declared.mode.Mode.TheVariants.{R, W, RW}
+use Rattle.sj_base.specs.declared.mode.Mode.TheVariants.{R, W, RW, Scratch, Redux, Commute}
 use Rattle.sj_codelet.specs.declared.kernel.Kernel.{Kernel}
 use Rattle.sj_codelet.specs.Kernel.{named_in}
-use Rattle.sj_job.specs.declared.job.Kind.TheVariants.{Vector}
-use Rattle.sj_job.specs.declared.job.Init.TheVariants.{Values}
+use Rattle.sj_job.specs.declared.job.Kind.{Kind}
+use Rattle.sj_job.specs.declared.job.Kind.TheVariants as kind
+use Rattle.sj_job.specs.declared.job.Init.{Init}
+use Rattle.sj_job.specs.declared.job.Init.TheVariants.{Values, Fill, Nothing}
 use Rattle.sj_job.specs.declared.job.Operand.{Operand}
+use Rattle.sj_job.specs.declared.form.Size.{Size}
+use Rattle.sj_job.specs.declared.form.Size.TheVariants as size
+use Rattle.sj_job.specs.declared.form.InitForm.{InitForm}
+use Rattle.sj_job.specs.declared.form.InitForm.TheVariants as init
+use Rattle.sj_job.specs.declared.form.ArrayForm.{ArrayForm}
+use Rattle.sj_job.specs.declared.form.OperandForm.{OperandForm}
+use Rattle.sj_job.specs.declared.form.TaskForm.{TaskForm}
+use Rattle.sj_job.specs.declared.form.Form.{Form}
+use Rattle.sj_job.specs.declared.form.Form.TheVariants as form
 use Rattle.sj_job.specs.declared.sentence.Registration.{Registration}
 use Rattle.sj_job.specs.declared.sentence.Call.{Call}
 use Rattle.sj_job.specs.declared.sentence.Sentence.{Sentence}
-use Rattle.sj_job.specs.declared.sentence.Sentence.TheVariants.{Register, Task, Print}
+use Rattle.sj_job.specs.declared.sentence.Sentence.TheVariants.{Register, Task, Print, Invalidate, Unregister}
 use Rattle.sj_job.specs.declared.reason.Reason.{Reason}
-use Rattle.sj_job.specs.declared.reason.Reason.TheVariants.{NotBuilt}
-use Rattle.sj_job.specs.Word.{is_name, count_of, integer_of}
+use Rattle.sj_job.specs.declared.reason.Reason.TheVariants.{Word, Number, NotBuilt}
+use Rattle.sj_job.specs.Word.{is_count, is_integer, count, integer}
+use Rattle.sj_job.specs.Form.{form_of}
 
--- what f gives of each, where it gives something of each
-abbrev pub each_some : {A B : Type 0} → (A → Option B) → List A → Option (List B)
-each_some f [] = Some []
-each_some f (x ∷ xs) = elim (f x) [ None ↦ None | Some y ↦ option_map (λ ys. y ∷ ys) (each_some f xs) ]
+-- ---- whether each place of a number holds one
 
--- the integers that words say, where each says one
-abbrev pub integers_of : List (List ℕ) → Option (List ℤ)
-integers_of ws = each_some integer_of ws
+abbrev pub are_counts : Option (List ℕ × List ℕ) → Bool
+are_counts None = true
+are_counts (Some p) = is_count p.0 && is_count p.1
 
--- the mode that a word says
-abbrev pub mode_of : List ℕ → Option Mode
-mode_of w = if bytes_eq w (codes "R") then Some R else if bytes_eq w (codes "W") then Some W else if bytes_eq w (codes "RW") then Some RW else None
+abbrev pub is_numbered_size : Size → Bool
+is_numbered_size (size.Vector n) = is_count n
+is_numbered_size (size.Matrix r c) = is_count r && is_count c
 
--- NAME:MODE
-abbrev pub operand_of : List ℕ → Option Operand
-operand_of w =
-    if is_name (before_first (λ b. b == 58) w) then option_map (λ m. record { name = before_first (λ b. b == 58) w; mode = m }) (mode_of (after_first (λ b. b == 58) w))
-    else None
+abbrev pub is_numbered_init : InitForm → Bool
+is_numbered_init (init.Values vs) = list_all is_integer vs
+is_numbered_init (init.Fill a b) = is_integer a && is_integer b
+is_numbered_init init.Nothing = true
 
-abbrev pub operands_of : List (List ℕ) → Option (List Operand)
-operands_of ws = each_some operand_of ws
+abbrev pub is_numbered_priority : Option (List ℕ) → Bool
+is_numbered_priority None = true
+is_numbered_priority (Some p) = is_integer p
 
-abbrev pub ends_with : ℕ → List ℕ → Bool
-ends_with b w = nat_lt 0 (length w) && slice_index w (length w - 1) == b
+abbrev pub is_numbered_array : ArrayForm → Bool
+is_numbered_array a = is_numbered_size a.size && are_counts a.parts && is_numbered_init a.init
 
--- without its last byte
-abbrev pub without_last : List ℕ → List ℕ
-without_last w = take (length w - 1) w
+abbrev pub is_numbered_task : TaskForm → Bool
+is_numbered_task t =
+    list_all is_integer t.args && list_all (λ o. are_counts o.child) t.operands && is_numbered_priority t.priority
 
--- what stands before the parenthesis of CODELET(INTEGERS), or the whole word
-abbrev pub codelet_name : List ℕ → List ℕ
-codelet_name w = before_first (λ b. b == 40) w
+abbrev pub is_numbered : Form → Bool
+is_numbered (form.Workers n) = is_count n
+is_numbered (form.Node n) = is_count n
+is_numbered (form.Policy p) = true
+is_numbered (form.Register a) = is_numbered_array a
+is_numbered (form.Plan name r c) = is_count r && is_count c
+is_numbered (form.Redux name by) = true
+is_numbered (form.Task t) = is_numbered_task t
+is_numbered (form.Print name) = true
+is_numbered (form.Invalidate name) = true
+is_numbered (form.Unregister name) = true
 
--- the integers between the parentheses, or none where the word has no parenthesis
-abbrev pub arguments_in : List ℕ → Option (List ℤ)
-arguments_in w =
-    if length (codelet_name w) == length w then Some []
-    else if ends_with 41 (after_first (λ b. b == 40) w) then integers_of (slice_split (λ b. b == 44) (without_last (after_first (λ b. b == 40) w)))
-    else None
+-- ---- which forms this version reads
 
--- the arguments and operands of a task line, where its codelet and operands are spelled well
-abbrev pub call_parts : List ℕ → List (List ℕ) → Option (List ℤ × List Operand)
-call_parts w ws =
-    if is_name (codelet_name w) then (elim (arguments_in w) [ None ↦ None | Some args ↦ option_map (λ os. (args, os)) (operands_of ws) ])
-    else None
+abbrev pub is_built_mode : Mode → Bool
+is_built_mode R = true
+is_built_mode W = true
+is_built_mode RW = true
+is_built_mode Scratch = true
+is_built_mode Redux = false
+is_built_mode Commute = false
 
--- CODELET OPERANDS
-abbrev pub call_of : (Kernel → Bool) → List (List ℕ) → Option Call
-call_of set [] = None
-call_of set (w ∷ ws) =
-    option_map (λ p. record { codelet = named_in set (codelet_name w); args = p.0; operands = p.1; priority = pos 0 }) (call_parts w ws)
+abbrev pub is_built : Form → Bool
+is_built (form.Workers n) = false
+is_built (form.Node n) = false
+is_built (form.Policy p) = false
+is_built (form.Register a) = is_none a.parts
+is_built (form.Plan name r c) = false
+is_built (form.Redux name by) = false
+is_built (form.Task t) = list_all (λ o. is_none o.child && is_built_mode o.mode) t.operands
+is_built (form.Print name) = true
+is_built (form.Invalidate name) = true
+is_built (form.Unregister name) = true
 
--- NAME N values V1 V2 ..
-abbrev pub vector_of : List (List ℕ) → Option Registration
-vector_of [] = None
-vector_of (name ∷ []) = None
-vector_of (name ∷ n ∷ []) = None
-vector_of (name ∷ n ∷ v ∷ []) = None
-vector_of (name ∷ n ∷ v ∷ x ∷ xs) =
-    if is_name name && bytes_eq v (codes "values") then (elim (count_of n) [
-      | None ↦ None
-      | Some cols ↦ option_map (λ zs. record { name = name; kind = Vector; rows = 1; cols = cols; init = Values zs }) (integers_of (x ∷ xs))
-    ])
-    else None
+-- ---- the sentence of a form
 
--- NAME
-abbrev pub name_in : List (List ℕ) → Option (List ℕ)
-name_in [] = None
-name_in (name ∷ []) = if is_name name then Some name else None
-name_in (name ∷ w ∷ ws) = None
+abbrev pub kind_of : Size → Kind
+kind_of (size.Vector n) = kind.Vector
+kind_of (size.Matrix r c) = kind.Matrix
 
--- what a line of these words says, with the codelets of a set
-abbrev pub sentence_of : (Kernel → Bool) → List (List ℕ) → Option Sentence
-sentence_of set [] = None
-sentence_of set (w ∷ ws) =
-    if bytes_eq w (codes "vector") then option_map Register (vector_of ws)
-    else if bytes_eq w (codes "task") then option_map Task (call_of set ws)
-    else if bytes_eq w (codes "print") then option_map Print (name_in ws)
-    else None
+-- a vector is one row
+abbrev pub rows_of : Size → ℕ
+rows_of (size.Vector n) = 1
+rows_of (size.Matrix r c) = count r
+
+abbrev pub cols_of : Size → ℕ
+cols_of (size.Vector n) = count n
+cols_of (size.Matrix r c) = count c
+
+abbrev pub init_said : InitForm → Init
+init_said (init.Values vs) = Values (map integer vs)
+init_said (init.Fill a b) = Fill (integer a) (integer b)
+init_said init.Nothing = Nothing
+
+abbrev pub registration_of : ArrayForm → Registration
+registration_of a = record { name = a.name; kind = kind_of a.size; rows = rows_of a.size; cols = cols_of a.size; init = init_said a.init }
+
+abbrev pub operand_said : OperandForm → Operand
+operand_said o = record { name = o.name; mode = o.mode }
+
+-- the integer of `prio=`, or 0 without it
+abbrev pub priority_said : Option (List ℕ) → ℤ
+priority_said None = pos 0
+priority_said (Some p) = integer p
+
+abbrev pub call_of : (Kernel → Bool) → TaskForm → Call
+call_of has t = record { codelet = named_in has t.codelet; args = map integer t.args; operands = map operand_said t.operands; priority = priority_said t.priority }
+
+abbrev pub sentence_of : (Kernel → Bool) → Form → Result Sentence Reason
+sentence_of has (form.Workers n) = Err NotBuilt
+sentence_of has (form.Node n) = Err NotBuilt
+sentence_of has (form.Policy p) = Err NotBuilt
+sentence_of has (form.Register a) = Ok (Register (registration_of a))
+sentence_of has (form.Plan name r c) = Err NotBuilt
+sentence_of has (form.Redux name by) = Err NotBuilt
+sentence_of has (form.Task t) = Ok (Task (call_of has t))
+sentence_of has (form.Print name) = Ok (Print name)
+sentence_of has (form.Invalidate name) = Ok (Invalidate name)
+sentence_of has (form.Unregister name) = Ok (Unregister name)
+
+-- ---- a line
+
+abbrev pub is_setting : Form → Bool
+is_setting (form.Workers n) = true
+is_setting (form.Node n) = true
+is_setting (form.Policy p) = true
+is_setting f = false
+
+-- settings stand before the statements, of which one has begun the job
+abbrev pub is_misplaced : Bool → Form → Bool
+is_misplaced begun f = begun && is_setting f
+
+-- what a form says: the order of the reasons
+abbrev pub said_of : (Kernel → Bool) → Bool → Form → Result Sentence Reason
+said_of has begun f =
+    if is_misplaced begun f then Err Word
+    else if not (is_numbered f) then Err Number
+    else if not (is_built f) then Err NotBuilt
+    else sentence_of has f
+
+-- what a line of these words says, where a statement stands before it or none does, with the codelets of a set
+abbrev pub said : (Kernel → Bool) → Bool → List (List ℕ) → Result Sentence Reason
+said has begun ws = elim (form_of ws) [ None ↦ Err Word | Some f ↦ said_of has begun f ]
 
 -- the first line that isn't skipped
 abbrev pub is_header : List (List ℕ) → Bool
@@ -103,7 +165,3 @@ is_header [] = false
 is_header (w ∷ []) = false
 is_header (w ∷ v ∷ []) = bytes_eq w (codes "starjob") && bytes_eq v (codes "1")
 is_header (w ∷ v ∷ u ∷ ws) = false
-
--- stub: the same by reasons, until the words of all forms are read
-abbrev pub said : (Kernel → Bool) → Bool → List (List ℕ) → Result Sentence Reason
-said set begun ws = elim (sentence_of set ws) [ None ↦ Err NotBuilt | Some s ↦ Ok s ]

@@ -1,5 +1,5 @@
 -- The lines of a text, the words of a line, and the words that are names or numbers.
-use Rattle.std.specs.Prelude.{ℕ, zero, suc, ◌^◌, Bool, true, false, ◌&&◌, ◌||◌, not, ◌==◌, nat_lt, nat_le, Option, Some, None, List, [], ◌∷◌, ℤ, pos, negsuc, length, codes, filter, if◌then◌else◌}
+use Rattle.std.specs.Prelude.{ℕ, zero, suc, ◌^◌, Bool, true, false, ◌&&◌, ◌||◌, not, ◌==◌, nat_lt, nat_le, Option, Some, None, is_some, unwrap_or, List, [], ◌∷◌, ℤ, pos, negsuc, length, codes, filter, if◌then◌else◌}
 use Rattle.std.specs.List.{slice_split, list_all}
 use Rattle.std.specs.Char.{is_ascii_digit}
 use Rattle.std.specs.Str.{bytes_eq}
@@ -72,3 +72,16 @@ abbrev pub integer_of : List ℕ → Option ℤ
 integer_of w =
     if bytes_eq w (codes "inf") then Some inf
     else (elim (count_of w) [ Some n ↦ Some (pos n) | None ↦ negative_of w ])
+
+abbrev pub is_count : List ℕ → Bool
+is_count w = is_some (count_of w)
+
+abbrev pub is_integer : List ℕ → Bool
+is_integer w = is_some (integer_of w)
+
+-- the number that a word says, which is asked for only where it says one
+abbrev pub count : List ℕ → ℕ
+count w = unwrap_or (count_of w) 0
+
+abbrev pub integer : List ℕ → ℤ
+integer w = unwrap_or (integer_of w) (pos 0)

@@ -1,13 +1,20 @@
 //! The grammar of a line.
 
-ghost use Rattle.std.specs.Prelude.{◌≡◌, ◌↔◌, ℕ, Bool, Some, List};
+ghost use Rattle.std.specs.Prelude.{◌≡◌, ◌↔◌, ℕ, Bool, Some, Result, List};
 ghost use Rattle.sj_codelet.specs.declared.kernel.Kernel.{Kernel};
+ghost use Rattle.sj_job.specs.declared.form.Form.{Form};
+ghost use Rattle.sj_job.specs.declared.reason.Reason.{Reason};
 ghost use Rattle.sj_job.specs.declared.sentence.Sentence.{Sentence};
-ghost use Rattle.sj_job.specs.Sentence.{sentence_of};
-ghost use Rattle.sj_job.specs.Grammar.{Says};
+ghost use Rattle.sj_job.specs.Form.{form_of};
+ghost use Rattle.sj_job.specs.Sentence.{said};
+ghost use Rattle.sj_job.specs.Grammar.{Spells, Says};
 
-/// What a line is found to say is what the grammar has it say, and nothing else is found.
+/// The forms are read from the words that the grammar writes for them, and from no others; and a line is found to say
+/// what the grammar has it say, and nothing else.
 pub fn grammar()
-    ensures { (has : Kernel → Bool) (words : List (List ℕ)) (sentence : Sentence) →
-        ((sentence_of has words ≡ Some sentence) ↔ Says has words sentence) }
+    ensures spelled { (words : List (List ℕ)) (form : Form) →
+        ((form_of words ≡ Some form) ↔ Spells words form) }
+    ensures said { (has : Kernel → Bool) (begun : Bool) (words : List (List ℕ))
+        (says : Result Sentence Reason) →
+        ((said has begun words ≡ says) ↔ Says has begun words says) }
 {}

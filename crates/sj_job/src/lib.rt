@@ -1,6 +1,7 @@
 //! The job language: what a job text says, and what it means on plain arrays.
 #![tactic(auto)]
 
+pub mod form;
 pub mod grammar;
 pub mod job;
 pub mod judge;
@@ -12,4 +13,7 @@ pub mod reason;
 pub mod sentence;
 #[cfg(test)]
 mod tests;
+pub mod spell;
+#[cfg(test)]
+mod tests_of_lines;
 pub mod word;

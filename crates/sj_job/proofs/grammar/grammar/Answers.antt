@@ -1,5 +1,8 @@
-use Rattle.sj_job.proofs.Stating.{found-is-said, said-is-found}
+use Rattle.sj_job.proofs.Telling.{found-spells, spells-found, said-says, says-said}
 use Rattle.sj_job.proofs.grammar.grammar.Goals as goal
 
 pub returns : goal.returns
-returns c = λ has words sentence. (found-is-said has words sentence, said-is-found has words sentence)
+returns c = record {
+  spelled = λ words form. (found-spells words form, spells-found words form);
+  said = λ has begun words says. (said-says has begun words says, says-said has begun words says);
+}

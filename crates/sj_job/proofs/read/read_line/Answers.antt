@@ -7,7 +7,7 @@ use Rattle.sj_job.specs.Sees.{Sees}
 use Rattle.sj_job.specs.Reading.{statement, verdict_of}
 use Rattle.sj_job.specs.Progress.{text_with}
 use Rattle.sj_job.proofs.Seen.{same_scope}
-use Rattle.sj_job.proofs.Progressing.{registered-le, text_bad, text_does, run_from-push}
+use Rattle.sj_job.proofs.Progressing.{registered-le, text_skipped, text_bad, text_does, run_from-push}
 use Rattle.sj_job.proofs.Welling.{allowed_from_verdict}
 use Rattle.sj_job.proofs.Sounding.{sound_from_allowed}
 use Rattle.sj_job.proofs.read.read_line.Goals as goal
@@ -15,6 +15,12 @@ use Rattle.sj_job.proofs.read.read_line.Goals as goal
 pub note-requires-clause-names : goal.note-requires-clause-names
 note-requires-clause-names g c =
     omega (arith, registered-le start c.args.statements.now.items, c.requires.shows.registered, c.args.statements.now.small, c.args.statements.now.ok)
+
+pub returns-in-Skipped-clause-ok : goal.returns-in-Skipped-clause-ok
+returns-in-Skipped-clause-ok g c = λ rest.
+    let ss = c.args.statements.now.items in
+    text_skipped g.C.Codelets.has ss c.args.number c.args.line.now rest
+    (ap (λ (s : Scope). verdict_of g.C.Codelets.has s c.args.line.now) (sym (same_scope c.args.names.now (length ss) (run_from start ss) c.requires)) ∙ sym c.in_ok-judge_line.ensures ∙ c.in-Skipped.is)
 
 pub returns-in-Bad-clause-err : goal.returns-in-Bad-clause-err
 returns-in-Bad-clause-err g c = λ rest.

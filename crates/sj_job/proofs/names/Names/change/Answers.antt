@@ -1,4 +1,4 @@
-use Rattle.std.proofs.Common.{refl, subst, sym, ℕ, Bool, OnOk, map}
+use Rattle.std.proofs.Common.{subst, sym, Bool, OnOk, map}
 use Rattle.std.proofs.lemmas.Result.{on_ok_weaker}
 use Rattle.sj_codelet.specs.Kernel.{out}
 use Rattle.sj_codelet.specs.declared.kernel.Kernel.{Kernel}

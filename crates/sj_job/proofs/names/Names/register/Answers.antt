@@ -3,7 +3,6 @@ use Rattle.std.specs.Ordering.{nat_cmp}
 use Rattle.std.specs.Cmp.Lexicographic.{slice_cmp}
 use Rattle.std.specs.BTreeMap.{Updates}
 use Rattle.sj_job.specs.declared.names.Known.{Known}
-use Rattle.sj_job.specs.Names.{gives_values}
 use Rattle.sj_job.proofs.Seen.{shows_registered}
 use Rattle.sj_job.proofs.Sounding.{has_elements}
 use Rattle.sj_job.proofs.names.Names.register.Goals as goal

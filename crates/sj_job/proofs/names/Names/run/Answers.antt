@@ -1,5 +1,4 @@
 use Rattle.std.proofs.Common.{◌≡◌, ◌+◌, ◌∷◌, ◌<◌, ◌∙◌, ap, sym, subst, length, get_or, drop}
-use Rattle.sj_job.specs.declared.job.Operand.{Operand}
 use Rattle.sj_job.specs.Names.{known_in}
 use Rattle.sj_job.proofs.Each.{begins}
 use Rattle.sj_job.proofs.Seen.{written_more}

@@ -1,8 +1,8 @@
 use Rattle.std.proofs.Common.{◌∙◌, sym, ap, List, ℕ, Bor, option_map, ◌++◌, ◌+◌, drop, map}
-use Rattle.sj_job.specs.Sentence.{each_some}
-use Rattle.sj_job.specs.Sentence.{operand_of}
+use Rattle.sj_job.specs.Form.{each_some}
+use Rattle.sj_job.specs.Form.{operand_of}
 use Rattle.sj_job.proofs.Each.{each_more_of, each_none_of}
-use Rattle.sj_job.proofs.sentence.operands.Goals as goal
+use Rattle.sj_job.proofs.spell.operands_of.Goals as goal
 
 pub returns-in-None : goal.returns-in-None
 returns-in-None c =

@@ -1,6 +1,6 @@
 use Rattle.std.proofs.Common.{◌≡◌, ◌++◌, drop, map, option_map}
-use Rattle.sj_job.specs.Sentence.{each_some, operand_of}
-use Rattle.sj_job.proofs.sentence.operands.Given as goal
+use Rattle.sj_job.specs.Form.{each_some, operand_of}
+use Rattle.sj_job.proofs.spell.operands_of.Given as goal
 
 -- what is read so far goes before what the rest says
 abbrev pub invariant-loop-word : goal.invariant-loop-word

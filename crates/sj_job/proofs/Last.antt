@@ -1,0 +1,105 @@
+-- The last byte of a kind in a word, and the last word of a line.
+use Rattle.std.proofs.Common.{◌≡◌, ◌≢◌, ℕ, suc, ◌+◌, ◌-◌, ◌<◌, ◌≤◌, ◌&&◌, not, Bool, true, false, List, [], ◌∷◌, ◌++◌, length, take, drop, get_or, map, refl, ap, ◌∙◌, sym, arith, Option, Some, None, unwrap_or, cond, nat_eq, Bor}
+use Rattle.std.specs.List.{list_all}
+use Rattle.std.proofs.Math.Seq.{drop-cons}
+use Rattle.std.proofs.lemmas.List.{drop_all, take-append-drop, map-append}
+use Rattle.std.proofs.lemmas.Bool.Decides.{Decides-eqb}
+use Rattle.sj_job.specs.Form.{around_last, priority_of, with_priority}
+
+-- ---- the last byte
+
+unequal : (c b : ℕ) (t : Bool) → c ≢ b → nat_eq c b ≡ t → not t ≡ true
+unequal c b true n e = absurd (n ((Decides-eqb c b).0 e))
+unequal c b false n e = refl
+
+-- none behind the end of the word
+pub none-behind : (b : ℕ) (w : List ℕ) → list_all (λ c. not (nat_eq c b)) (drop (length w) w) ≡ true
+none-behind b w = ap (list_all (λ c. not (nat_eq c b))) (drop_all (length w) w (omega arith))
+
+-- one byte more that isn't such a byte
+pub none-from : (b : ℕ) (w : List ℕ) (k : ℕ) → 0 < k → k ≤ length w → get_or w (k - 1) 0 ≢ b → list_all (λ c. not (nat_eq c b)) (drop k w) ≡ true → list_all (λ c. not (nat_eq c b)) (drop (k - 1) w) ≡ true
+none-from b w k pos le n h =
+    let lt : k - 1 < length w = omega arith in
+    let s : suc (k - 1) ≡ k = omega arith in
+    ap (list_all (λ c. not (nat_eq c b))) (drop-cons w (k - 1) 0 lt)
+    ∙ ap (λ t. t && list_all (λ c. not (nat_eq c b)) (drop (suc (k - 1)) w)) (unequal (get_or w (k - 1) 0) b (nat_eq (get_or w (k - 1) 0) b) n refl)
+    ∙ ap (λ i. list_all (λ c. not (nat_eq c b)) (drop i w)) s
+    ∙ h
+
+abbrev onto : ℕ → Bool → List ℕ → Option (List ℕ × List ℕ) → Option (List ℕ × List ℕ)
+onto c t w o = elim o as (λ _. Option (List ℕ × List ℕ)) [ Some p ↦ Some (c ∷ p.0, p.1) | None ↦ cond t (Some ([], w)) None ]
+
+both : (x y : Bool) → (x && y) ≡ true → (x ≡ true) × (y ≡ true)
+both true y e = (refl, e)
+both false y e = absurd (cc)
+
+is_false : (t : Bool) → not t ≡ true → t ≡ false
+is_false true e = absurd (cc)
+is_false false e = refl
+
+pub around-none : (b : ℕ) (w : List ℕ) → list_all (λ c. not (nat_eq c b)) w ≡ true → around_last b w ≡ None
+around-none b [] h = refl
+around-none b (c ∷ w) h =
+    let q = both (not (nat_eq c b)) (list_all (λ c. not (nat_eq c b)) w) h in
+    ap (onto c (nat_eq c b) w) (around-none b w q.1) ∙ ap (λ t. onto c t w None) (is_false (nat_eq c b) q.0)
+
+same_byte : (b : ℕ) → nat_eq b b ≡ true
+same_byte b = (Decides-eqb b b).1 refl
+
+pub around-at : (b : ℕ) (front back : List ℕ) → list_all (λ c. not (nat_eq c b)) back ≡ true → around_last b (front ++ b ∷ back) ≡ Some (front, back)
+around-at b [] back h = ap (onto b (nat_eq b b) back) (around-none b back h) ∙ ap (λ t. onto b t back None) (same_byte b)
+around-at b (c ∷ front) back h = ap (onto c (nat_eq c b) (front ++ b ∷ back)) (around-at b front back h)
+
+-- the same by the place of the byte
+pub around-place : (b : ℕ) (w : List ℕ) (k : ℕ) → k < length w → get_or w k 0 ≡ b → list_all (λ c. not (nat_eq c b)) (drop (k + 1) w) ≡ true → around_last b w ≡ Some (take k w, drop (k + 1) w)
+around-place b w k lt e h =
+    let s : suc k ≡ k + 1 = omega arith in
+    ap (around_last b) (sym (take-append-drop k w) ∙ ap (λ l. take k w ++ l) (drop-cons w k 0 lt) ∙ ap (λ c. take k w ++ c ∷ drop (suc k) w) e ∙ ap (λ i. take k w ++ b ∷ drop i w) s)
+    ∙ around-at b (take k w) (drop (k + 1) w) h
+
+front_is : (p q : List ℕ × List ℕ) → Some p ≡ Some q → p.0 ≡ q.0
+front_is p q e = ap (λ (o : Option (List ℕ × List ℕ)). (unwrap_or o p).0) e
+
+back_is : (p q : List ℕ × List ℕ) → Some p ≡ Some q → p.1 ≡ q.1
+back_is p q e = ap (λ (o : Option (List ℕ × List ℕ)). (unwrap_or o p).1) e
+
+around_by : (b c : ℕ) (w front back : List ℕ) (o : Option (List ℕ × List ℕ)) (t : Bool) → ((f g : List ℕ) → o ≡ Some (f, g) → w ≡ f ++ b ∷ g) → (t ≡ true → c ≡ b) → onto c t w o ≡ Some (front, back) → c ∷ w ≡ front ++ b ∷ back
+around_by b c w front back (Some p) t h k e =
+    let r : List ℕ × List ℕ = (c ∷ p.0, p.1) in
+    ap (λ l. c ∷ l) (h p.0 p.1 refl) ∙ ap (λ l. l ++ b ∷ p.1) (front_is r (front, back) e) ∙ ap (λ l. front ++ b ∷ l) (back_is r (front, back) e)
+around_by b c w front back None true h k e =
+    let r : List ℕ × List ℕ = ([], w) in
+    ap (λ x. x ∷ w) (k refl) ∙ ap (λ l. b ∷ l) (back_is r (front, back) e) ∙ ap (λ l. l ++ b ∷ back) (front_is r (front, back) e)
+around_by b c w front back None false h k e = absurd (cc)
+
+-- a word with such a byte is what stands before the last, the byte, and what follows
+pub around-joins : (b : ℕ) (w front back : List ℕ) → around_last b w ≡ Some (front, back) → w ≡ front ++ b ∷ back
+around-joins b [] front back e = absurd (cc)
+around-joins b (c ∷ w) front back e = around_by b c w front back (around_last b w) (nat_eq c b) (λ f g. around-joins b w f g) ((Decides-eqb c b).0) e
+
+-- ---- the last word
+
+abbrev ended_by : List ℕ → Option (List ℕ) → List (List ℕ) × Option (List ℕ)
+ended_by w o = elim o as (λ _. List (List ℕ) × Option (List ℕ)) [ Some p ↦ ([], Some p) | None ↦ (w ∷ [], None) ]
+
+pub priority-last : (ws : List (List ℕ)) (w p : List ℕ) → priority_of w ≡ Some p → with_priority (ws ++ w ∷ []) ≡ (ws, Some p)
+priority-last [] w p e = ap (ended_by w) e
+priority-last (v ∷ []) w p e = ap (λ (r : List (List ℕ) × Option (List ℕ)). (v ∷ r.0, r.1)) (ap (ended_by w) e)
+priority-last (v ∷ u ∷ ws) w p e = ap (λ (r : List (List ℕ) × Option (List ℕ)). (v ∷ r.0, r.1)) (priority-last (u ∷ ws) w p e)
+
+pub priority-none : (ws : List (List ℕ)) (w : List ℕ) → priority_of w ≡ None → with_priority (ws ++ w ∷ []) ≡ (ws ++ w ∷ [], None)
+priority-none [] w e = ap (ended_by w) e
+priority-none (v ∷ []) w e = ap (λ (r : List (List ℕ) × Option (List ℕ)). (v ∷ r.0, r.1)) (ap (ended_by w) e)
+priority-none (v ∷ u ∷ ws) w e = ap (λ (r : List (List ℕ) × Option (List ℕ)). (v ∷ r.0, r.1)) (priority-none (u ∷ ws) w e)
+
+-- the same of the words behind references
+words-behind : (ws front : List (Bor (List ℕ))) (last : Bor (List ℕ)) → ws ≡ front ++ last ∷ [] → map (λ w. w.now) ws ≡ map (λ w. w.now) front ++ last.now ∷ []
+words-behind ws front last e = ap (map (λ (w : Bor (List ℕ)). w.now)) e ∙ map-append (λ (w : Bor (List ℕ)). w.now) front (last ∷ [])
+
+pub last-is : (ws front : List (Bor (List ℕ))) (last : Bor (List ℕ)) (p : List ℕ) → ws ≡ front ++ last ∷ [] → Some p ≡ priority_of last.now → with_priority (map (λ w. w.now) ws) ≡ (map (λ w. w.now) front, Some p)
+last-is ws front last p e h = ap with_priority (words-behind ws front last e) ∙ priority-last (map (λ (w : Bor (List ℕ)). w.now) front) last.now p (sym h)
+
+pub last-is-none : (ws front : List (Bor (List ℕ))) (last : Bor (List ℕ)) → ws ≡ front ++ last ∷ [] → None ≡ priority_of last.now → with_priority (map (λ w. w.now) ws) ≡ (map (λ w. w.now) ws, None)
+last-is-none ws front last e h =
+    ap with_priority (words-behind ws front last e) ∙ priority-none (map (λ (w : Bor (List ℕ)). w.now) front) last.now (sym h)
+    ∙ ap (λ (l : List (List ℕ)). (l, None)) (sym (words-behind ws front last e))

@@ -1,0 +1,505 @@
+//! How the words of a line are spelled.
+
+ghost use Rattle.std.specs.Prelude.{◌≡◌, ◌==◌, ◌+◌, ◌<◌, not, map, drop, length, slice_index, true, IsTrue, IfOk, IfSome, MatchOption, option_map};
+ghost use Rattle.std.specs.List.{before_first, after_first, list_all};
+ghost use Rattle.sj_job.specs.Word.{is_name};
+ghost use Rattle.sj_job.specs.declared.form.Keyword.TheVariants as keyword;
+ghost use Rattle.sj_job.specs.Form.{keyword_of, policy_of, reduction_of, mode_of, is_bracket, pieces_of, bracketed, around_last, child_of, operand_of, each_some, priority_of, with_priority, task_of, values_of, fill_of, init_of, parted, layout_of, array_of, vector_of, matrix_of, alone, name_in, plan_of, redux_of, takes_name, form_behind, form_of};
+
+use crate::form::{ArrayForm, Form, InitForm, Keyword, OperandForm, Piece, Pieces, Size, TaskForm};
+use crate::line::first_place;
+use crate::name::Name;
+use crate::word::is_name;
+use sj_base::memory::OutOfMemory;
+use sj_base::mode::{Mode, Policy, Reduction};
+use sj_base::sequence::Sequence;
+use std::alloc::Global;
+
+/// The parts of an array, where the line names them, and its values.
+type Layout<'a> = (Option<(Piece<'a>, Piece<'a>)>, InitForm<'a>);
+
+fn keyword_of(word: &[u8]) -> Option<Keyword>
+    ensures { result ≡ keyword_of word.now }
+{
+    if word == b"workers".as_slice() {
+        Some(Keyword::Workers)
+    } else if word == b"node".as_slice() {
+        Some(Keyword::Node)
+    } else if word == b"policy".as_slice() {
+        Some(Keyword::Policy)
+    } else if word == b"vector".as_slice() {
+        Some(Keyword::Vector)
+    } else if word == b"matrix".as_slice() {
+        Some(Keyword::Matrix)
+    } else if word == b"plan".as_slice() {
+        Some(Keyword::Plan)
+    } else if word == b"redux".as_slice() {
+        Some(Keyword::Redux)
+    } else if word == b"task".as_slice() {
+        Some(Keyword::Task)
+    } else if word == b"print".as_slice() {
+        Some(Keyword::Print)
+    } else if word == b"invalidate".as_slice() {
+        Some(Keyword::Invalidate)
+    } else if word == b"unregister".as_slice() {
+        Some(Keyword::Unregister)
+    } else {
+        None
+    }
+}
+
+fn policy_of(word: &[u8]) -> Option<Policy>
+    ensures { result ≡ policy_of word.now }
+{
+    if word == b"eager".as_slice() {
+        Some(Policy::Eager)
+    } else if word == b"prio".as_slice() {
+        Some(Policy::Prio)
+    } else if word == b"ws".as_slice() {
+        Some(Policy::Ws)
+    } else {
+        None
+    }
+}
+
+fn reduction_of(word: &[u8]) -> Option<Reduction>
+    ensures { result ≡ reduction_of word.now }
+{
+    if word == b"plus".as_slice() {
+        Some(Reduction::Plus)
+    } else if word == b"least".as_slice() {
+        Some(Reduction::Least)
+    } else {
+        None
+    }
+}
+
+fn mode_of(word: &[u8]) -> Option<Mode>
+    ensures { result ≡ mode_of word.now }
+{
+    if word == b"R".as_slice() {
+        Some(Mode::R)
+    } else if word == b"W".as_slice() {
+        Some(Mode::W)
+    } else if word == b"RW".as_slice() {
+        Some(Mode::RW)
+    } else if word == b"SCRATCH".as_slice() {
+        Some(Mode::Scratch)
+    } else if word == b"REDUX".as_slice() {
+        Some(Mode::Redux)
+    } else if word == b"COMMUTE".as_slice() {
+        Some(Mode::Commute)
+    } else {
+        None
+    }
+}
+
+fn is_bracket(byte: u8) -> bool
+    ensures { result ≡ is_bracket byte }
+{
+    byte == b'(' || byte == b')' || byte == b'[' || byte == b']'
+}
+
+fn has_no_bracket(text: &[u8]) -> bool
+    ensures { result ≡ list_all (λ b. not (is_bracket b)) text.now }
+{
+    text.iter().all(|b| !is_bracket(*b))
+}
+
+/// What stands before the first such byte of a word, and what stands after it. Linear in the word.
+fn divided(word: &[u8], byte: u8) -> (&[u8], &[u8])
+    ensures before { result.0.now ≡ before_first (λ b. b == byte) word.now }
+    ensures after { result.1.now ≡ after_first (λ b. b == byte) word.now }
+{
+    let at = first_place(word, byte);
+    if at == word.len() {
+        return (word, &[]);
+    }
+    (&word[..at], &word[at + 1..])
+}
+
+/// The place of the last such byte. Linear in what stands after it.
+fn last_place(word: &[u8], byte: u8) -> Option<usize>
+    ensures { MatchOption result (list_all (λ b. not (b == byte)) word.now ≡ true)
+        (λ at. (at < length word.now) × (slice_index word.now at ≡ byte)
+        × (list_all (λ b. not (b == byte)) (drop (at + 1) word.now) ≡ true)) }
+{
+    let mut end = word.len();
+    while end > 0 {
+        end -= 1;
+        if word[end] == byte {
+            return Some(end);
+        }
+    }
+    None
+}
+
+/// What stands before the last such byte of a word and what stands after it. Linear in the word.
+fn around_last(word: &[u8], byte: u8) -> Option<(&[u8], &[u8])>
+    ensures { option_map (λ p. (p.0.now, p.1.now)) result ≡ around_last byte word.now }
+{
+    let at = last_place(word, byte)?;
+    Some((&word[..at], &word[at + 1..]))
+}
+
+/// What stands between the commas of a text that a bracket closes. Linear in the text.
+fn pieces_of<'a>(
+    alloc: Global,
+    text: &'a [u8],
+    closing: u8,
+) -> Result<Option<Pieces<'a>>, OutOfMemory>
+    ensures { IfOk result (λ pieces. pieces ≡ pieces_of closing text.now) }
+{
+    match text.split_last() {
+        Some((last, inner)) if *last == closing && has_no_bracket(inner) => {
+            Ok(Some(Pieces::between_commas(alloc, inner)?))
+        }
+        _ => Ok(None),
+    }
+}
+
+/// The name of `NAME(P1,P2,..)` and the pieces behind it, of which there are none where the name stands alone. Linear
+/// in the word.
+fn bracketed<'a>(
+    alloc: Global,
+    word: &'a [u8],
+    opening: u8,
+    closing: u8,
+) -> Result<Option<(Piece<'a>, Pieces<'a>)>, OutOfMemory>
+    ensures parts { IfOk result (λ parts. parts ≡ bracketed opening closing word.now) }
+    ensures name { IfOk result (λ parts. IfSome parts (λ p. IsTrue (is_name p.0))) }
+{
+    let (name, text) = divided(word, opening);
+    if !is_name(name) {
+        return Ok(None);
+    }
+    if name.len() == word.len() {
+        return Ok(Some((Piece::of(name), Pieces::none(alloc))));
+    }
+    match pieces_of(alloc, text, closing)? {
+        Some(pieces) => Ok(Some((Piece::of(name), pieces))),
+        None => Ok(None),
+    }
+}
+
+/// No index, or two numbers. Constant time.
+fn child_of<'a>(pieces: &[&'a [u8]]) -> Option<Option<(Piece<'a>, Piece<'a>)>>
+    ensures { result ≡ child_of (map (λ w. w.now) pieces.now) }
+{
+    match pieces {
+        [] => Some(None),
+        [i, j] => Some(Some((Piece::of(i), Piece::of(j)))),
+        _ => None,
+    }
+}
+
+/// `NAME:MODE` or `NAME[i,j]:MODE`. Linear in the word.
+fn operand_of<'a>(alloc: Global, word: &'a [u8]) -> Result<Option<OperandForm<'a>>, OutOfMemory>
+    ensures { IfOk result (λ operand. operand ≡ operand_of word.now) }
+{
+    let Some((target, mode)) = around_last(word, b':') else {
+        return Ok(None);
+    };
+    let Some((name, pieces)) = bracketed(alloc, target, b'[', b']')? else {
+        return Ok(None);
+    };
+    let Some(mode) = mode_of(mode) else {
+        return Ok(None);
+    };
+    match child_of(pieces.items()) {
+        Some(child) => Ok(Some(OperandForm {
+            name: Name::of(alloc, name.bytes())?,
+            child,
+            mode,
+        })),
+        None => Ok(None),
+    }
+}
+
+/// Linear in the words.
+fn operands_of<'a>(
+    alloc: Global,
+    words: &[&'a [u8]],
+) -> Result<Option<Sequence<OperandForm<'a>>>, OutOfMemory>
+    ensures { IfOk result (λ os. os ≡ each_some operand_of (map (λ w. w.now) words.now)) }
+{
+    let mut operands = Vec::with_capacity(alloc, words.len())?;
+    for word in words {
+        match operand_of(alloc, word)? {
+            Some(operand) => operands.push(operand)?,
+            None => return Ok(None),
+        }
+    }
+    Ok(Some(Sequence::of(operands)))
+}
+
+/// What follows `prio=`. Constant time.
+fn priority_of(word: &[u8]) -> Option<&[u8]>
+    ensures { option_map (λ p. p.now) result ≡ priority_of word.now }
+{
+    word.strip_prefix(b"prio=".as_slice())
+}
+
+/// The operands' words and the priority behind them. Constant time.
+fn with_priority<'a, 'b>(words: &'b [&'a [u8]]) -> (&'b [&'a [u8]], Option<Piece<'a>>)
+    ensures operands { map (λ w. w.now) result.0.now
+        ≡ (with_priority (map (λ w. w.now) words.now)).0 }
+    ensures priority { result.1 ≡ (with_priority (map (λ w. w.now) words.now)).1 }
+{
+    let Some((last, front)) = words.split_last() else {
+        return (words, None);
+    };
+    match priority_of(last) {
+        Some(priority) => (front, Some(Piece::of(priority))),
+        None => (words, None),
+    }
+}
+
+/// `CODELET OPERANDS`. Linear in the words.
+fn task_of<'a>(alloc: Global, words: &[&'a [u8]]) -> Result<Option<TaskForm<'a>>, OutOfMemory>
+    ensures { IfOk result (λ task. task ≡ task_of (map (λ w. w.now) words.now)) }
+{
+    let Some((first, rest)) = words.split_first() else {
+        return Ok(None);
+    };
+    let Some((codelet, args)) = bracketed(alloc, first, b'(', b')')? else {
+        return Ok(None);
+    };
+    let (words, priority) = with_priority(rest);
+    match operands_of(alloc, words)? {
+        Some(operands) => Ok(Some(TaskForm {
+            codelet,
+            args,
+            operands,
+            priority,
+        })),
+        None => Ok(None),
+    }
+}
+
+/// `values V1 V2 ..`, `fill A B` or `none`. Linear in the words.
+fn init_of<'a>(alloc: Global, words: &[&'a [u8]]) -> Result<Option<InitForm<'a>>, OutOfMemory>
+    ensures { IfOk result (λ init. init ≡ init_of (map (λ w. w.now) words.now)) }
+{
+    let Some((first, rest)) = words.split_first() else {
+        return Ok(None);
+    };
+    if *first == b"values".as_slice() {
+        values_of(alloc, rest)
+    } else if *first == b"fill".as_slice() {
+        Ok(fill_of(rest))
+    } else if *first == b"none".as_slice() && rest.is_empty() {
+        Ok(Some(InitForm::Nothing))
+    } else {
+        Ok(None)
+    }
+}
+
+/// `V1 V2 ..`, with one value at least. Linear in the words.
+fn values_of<'a>(alloc: Global, words: &[&'a [u8]]) -> Result<Option<InitForm<'a>>, OutOfMemory>
+    ensures { IfOk result (λ init. init ≡ values_of (map (λ w. w.now) words.now)) }
+{
+    if words.is_empty() {
+        return Ok(None);
+    }
+    Ok(Some(InitForm::Values(Pieces::of(alloc, words)?)))
+}
+
+/// `A B`. Constant time.
+fn fill_of<'a>(words: &[&'a [u8]]) -> Option<InitForm<'a>>
+    ensures { result ≡ fill_of (map (λ w. w.now) words.now) }
+{
+    match words {
+        [a, b] => Some(InitForm::Fill(Piece::of(a), Piece::of(b))),
+        _ => None,
+    }
+}
+
+/// What follows the size: `by r c` or nothing, and then the values. Linear in the words.
+fn layout_of<'a>(alloc: Global, words: &[&'a [u8]]) -> Result<Option<Layout<'a>>, OutOfMemory>
+    ensures { IfOk result (λ layout. layout ≡ layout_of (map (λ w. w.now) words.now)) }
+{
+    let Some((first, rest)) = words.split_first() else {
+        return Ok(None);
+    };
+    if *first == b"by".as_slice() {
+        return parted(alloc, rest);
+    }
+    match init_of(alloc, words)? {
+        Some(init) => Ok(Some((None, init))),
+        None => Ok(None),
+    }
+}
+
+/// `r c` and then the values. Linear in the words.
+fn parted<'a>(alloc: Global, words: &[&'a [u8]]) -> Result<Option<Layout<'a>>, OutOfMemory>
+    ensures { IfOk result (λ layout. layout ≡ parted (map (λ w. w.now) words.now)) }
+{
+    let [r, c, rest @ ..] = words else {
+        return Ok(None);
+    };
+    match init_of(alloc, rest)? {
+        Some(init) => Ok(Some((Some((Piece::of(r), Piece::of(c))), init))),
+        None => Ok(None),
+    }
+}
+
+/// A name and a size, and what follows them. Linear in the words.
+fn array_of<'a>(
+    alloc: Global,
+    name: &[u8],
+    size: Size<'a>,
+    words: &[&'a [u8]],
+) -> Result<Option<ArrayForm<'a>>, OutOfMemory>
+    ensures { IfOk result (λ a. a ≡ array_of name.now size.entry (map (λ w. w.now) words.now)) }
+{
+    if !is_name(name) {
+        return Ok(None);
+    }
+    match layout_of(alloc, words)? {
+        Some((parts, init)) => Ok(Some(ArrayForm {
+            name: Name::of(alloc, name)?,
+            size,
+            parts,
+            init,
+        })),
+        None => Ok(None),
+    }
+}
+
+/// `NAME N INIT`. Linear in the words.
+fn vector_of<'a>(alloc: Global, words: &[&'a [u8]]) -> Result<Option<ArrayForm<'a>>, OutOfMemory>
+    ensures { IfOk result (λ array. array ≡ vector_of (map (λ w. w.now) words.now)) }
+{
+    match words {
+        [name, n, rest @ ..] => array_of(alloc, name, Size::Vector(Piece::of(n)), rest),
+        _ => Ok(None),
+    }
+}
+
+/// `NAME R C INIT`. Linear in the words.
+fn matrix_of<'a>(alloc: Global, words: &[&'a [u8]]) -> Result<Option<ArrayForm<'a>>, OutOfMemory>
+    ensures { IfOk result (λ array. array ≡ matrix_of (map (λ w. w.now) words.now)) }
+{
+    match words {
+        [name, r, c, rest @ ..] => {
+            let size = Size::Matrix(Piece::of(r), Piece::of(c));
+            array_of(alloc, name, size, rest)
+        }
+        _ => Ok(None),
+    }
+}
+
+/// One word. Constant time.
+fn alone<'a>(words: &[&'a [u8]]) -> Option<Piece<'a>>
+    ensures { result ≡ alone (map (λ w. w.now) words.now) }
+{
+    match words {
+        [word] => Some(Piece::of(word)),
+        _ => None,
+    }
+}
+
+/// `NAME`. Linear in the name.
+fn name_in(alloc: Global, words: &[&[u8]]) -> Result<Option<Name>, OutOfMemory>
+    ensures { IfOk result (λ name. name ≡ name_in (map (λ w. w.now) words.now)) }
+{
+    match words {
+        [name] if is_name(name) => Ok(Some(Name::of(alloc, name)?)),
+        _ => Ok(None),
+    }
+}
+
+/// `NAME r c`. Linear in the name.
+fn plan_of<'a>(alloc: Global, words: &[&'a [u8]]) -> Result<Option<Form<'a>>, OutOfMemory>
+    ensures { IfOk result (λ form. form ≡ plan_of (map (λ w. w.now) words.now)) }
+{
+    match words {
+        [name, r, c] if is_name(name) => {
+            let name = Name::of(alloc, name)?;
+            Ok(Some(Form::Plan(name, Piece::of(r), Piece::of(c))))
+        }
+        _ => Ok(None),
+    }
+}
+
+/// `NAME plus` or `NAME least`. Linear in the name.
+fn redux_of<'a>(alloc: Global, words: &[&'a [u8]]) -> Result<Option<Form<'a>>, OutOfMemory>
+    ensures { IfOk result (λ form. form ≡ redux_of (map (λ w. w.now) words.now)) }
+{
+    let [name, by] = words else {
+        return Ok(None);
+    };
+    match reduction_of(by) {
+        Some(by) if is_name(name) => Ok(Some(Form::Redux(Name::of(alloc, name)?, by))),
+        _ => Ok(None),
+    }
+}
+
+/// One word that is a policy's. Constant time.
+fn policy_line<'a>(words: &[&'a [u8]]) -> Option<Form<'a>>
+    ensures { result ≡ form_behind keyword.Policy (map (λ w. w.now) words.now) }
+{
+    match alone(words) {
+        Some(word) => match policy_of(word.bytes()) {
+            Some(policy) => Some(Form::Policy(policy)),
+            None => None,
+        },
+        None => None,
+    }
+}
+
+/// `print NAME`, `invalidate NAME` or `unregister NAME`. Linear in the name.
+fn name_line<'a>(
+    alloc: Global,
+    keyword: Keyword,
+    words: &[&[u8]],
+) -> Result<Option<Form<'a>>, OutOfMemory>
+    requires { IsTrue (takes_name keyword) }
+    ensures { IfOk result (λ form. form ≡ form_behind keyword (map (λ w. w.now) words.now)) }
+{
+    let Some(name) = name_in(alloc, words)? else {
+        return Ok(None);
+    };
+    match keyword {
+        Keyword::Print => Ok(Some(Form::Print(name))),
+        Keyword::Invalidate => Ok(Some(Form::Invalidate(name))),
+        _ => Ok(Some(Form::Unregister(name))),
+    }
+}
+
+/// The form of a line that begins with this word. Linear in the words.
+fn form_behind<'a>(
+    alloc: Global,
+    keyword: Keyword,
+    words: &[&'a [u8]],
+) -> Result<Option<Form<'a>>, OutOfMemory>
+    ensures { IfOk result (λ form. form ≡ form_behind keyword (map (λ w. w.now) words.now)) }
+{
+    match keyword {
+        Keyword::Workers => Ok(alone(words).map(Form::Workers)),
+        Keyword::Node => Ok(alone(words).map(Form::Node)),
+        Keyword::Policy => Ok(policy_line(words)),
+        Keyword::Vector => Ok(vector_of(alloc, words)?.map(Form::Register)),
+        Keyword::Matrix => Ok(matrix_of(alloc, words)?.map(Form::Register)),
+        Keyword::Plan => plan_of(alloc, words),
+        Keyword::Redux => redux_of(alloc, words),
+        Keyword::Task => Ok(task_of(alloc, words)?.map(Form::Task)),
+        Keyword::Print | Keyword::Invalidate | Keyword::Unregister => {
+            name_line(alloc, keyword, words)
+        }
+    }
+}
+
+/// The form that these words spell, or `None` where no line is spelled so. Linear in the words.
+pub fn form_of<'a>(alloc: Global, words: &[&'a [u8]]) -> Result<Option<Form<'a>>, OutOfMemory>
+    ensures { IfOk result (λ form. form ≡ form_of (map (λ w. w.now) words.now)) }
+{
+    let Some((first, rest)) = words.split_first() else {
+        return Ok(None);
+    };
+    match keyword_of(first) {
+        Some(keyword) => form_behind(alloc, keyword, rest),
+        None => Ok(None),
+    }
+}
