@@ -49,3 +49,8 @@ pub record HasRunUpTo (b : Standing) (n : ℕ) : Type 0 where
   pub waiting : (t : Task) → n ≤ t.0 → progress_of b t ≡ Waiting
   pub every : length b.tasks ≡ length b.program.tasks
   pub in_order : ended_tasks b.trace ≡ tasks_below n
+
+-- the run of a board has come to its n-th task
+pub record IsGoing (old new : Standing) (n : ℕ) : Type 0 where
+  pub same : IsOfSameRun old new
+  pub upto : HasRunUpTo new n

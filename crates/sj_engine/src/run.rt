@@ -1,9 +1,8 @@
 //! The run of a program by one worker.
 
-ghost use Rattle.std.specs.Prelude.{◌≡◌, [], Err, IfOk, IsOk, OnOk, length};
+ghost use Rattle.std.specs.Prelude.{◌≡◌, [], IfOk, IsErr, IsOk, OnOk, length};
 ghost use Rattle.sj_core.specs.Legal.{IsFinished, IsLegal};
-ghost use Rattle.sj_board.specs.Board.{IsIdle, IsNext};
-ghost use Rattle.sj_board.specs.Stands.{the_worker};
+ghost use Rattle.sj_board.specs.Board.{CanBeClaimed};
 ghost use Rattle.sj_engine.specs.Machine.{one_node};
 ghost use Rattle.sj_engine.specs.Run.{HasCodelets, HasRunUpTo, IsOfSameRun, IsRunnable, deliveries_of, with_task_run};
 
@@ -57,8 +56,8 @@ fn run_task<C: Codelets>(
 ) -> Result<(), OutOfMemory>
     requires worker { board.old.program.workers ≡ 1 }
     requires set { HasCodelets C.has board.old.program }
-    requires idle { IsIdle board.old the_worker }
-    requires next { IsNext board.old t }
+    requires upto { HasRunUpTo board.old t.0 }
+    requires can { CanBeClaimed board.old t }
     ensures ok { OnOk result (board.new ≡ with_task_run board.old t) }
     ensures same { IsOfSameRun board.old board.new }
 {
@@ -72,11 +71,7 @@ fn run_task<C: Codelets>(
 }
 
 /// Runs the tasks of a board on which nothing has happened, one after another.
-fn run_tasks<C: Codelets>(
-    alloc: Global,
-    board: &mut Board,
-    codelets: &C,
-) -> Result<(), OutOfMemory>
+fn run_tasks<C: Codelets>(alloc: Global, board: &mut Board, codelets: &C) -> Result<(), OutOfMemory>
     requires worker { board.old.program.workers ≡ 1 }
     requires set { HasCodelets C.has board.old.program }
     requires start { HasRunUpTo board.old 0 }
@@ -94,7 +89,7 @@ fn run_tasks<C: Codelets>(
 
 /// A run that ended before its first event.
 fn nothing_run(alloc: Global) -> RunOutcome
-    ensures result { result.result ≡ Err OutOfMemory }
+    ensures result { IsErr result.result }
     ensures delivered { result.delivered.pairs ≡ [] }
     ensures trace { result.trace.events ≡ [] }
 {
