@@ -1,0 +1,3 @@
+pub mod Progressing
+pub mod OneTask
+pub mod Delivering
