@@ -79,11 +79,11 @@ manner_of k Scratch = Read
 manner_of k Redux = Contribute
 manner_of k CommuteMode = Commute k
 
-one : {X : Type 0} (x : X) → Contains (x ∷ []) x
+pub one : {X : Type 0} (x : X) → Contains (x ∷ []) x
 one x = (0, omega arith, refl)
 
 -- the usage of an operand stands among the task's
-used_by_operand : (p : Program) (t : Task) (a : Access) (u : Usage) → t.0 < length p.tasks → Contains (task_of p t).accesses a → Contains (usages_of p (task_of p t).codelet a) u → Contains (usages p t.0) u
+pub used_by_operand : (p : Program) (t : Task) (a : Access) (u : Usage) → t.0 < length p.tasks → Contains (task_of p t).accesses a → Contains (usages_of p (task_of p t).codelet a) u → Contains (usages p t.0) u
 used_by_operand p t a u inside h k =
     let got : slice_get p.tasks t.0 ≡ Some (task_of p t) = slice_get-get_or p.tasks t.0 no_task inside in
     let P : Option Lowered → Type 0 = λ o. Contains (elim o as (λ _. List Usage) [ None ↦ [] | Some task ↦ flat_map (usages_of p task.codelet) task.accesses ]) u in
@@ -131,7 +131,7 @@ redux-has_copies p names t inside x d (k, l, e) redux =
     some None h = absurd (false≢true h)
     some (Some first) h = (first, refl)
 
-write_isn't_read : Write ≡ Read → ⊥
+pub write_isn't_read : Write ≡ Read → ⊥
 write_isn't_read e = cc
 
 commute_isn't_read : (k : Codelet) → Commute k ≡ Read → ⊥

@@ -1,12 +1,23 @@
 -- What the steps of a task keep: laws of all proper programs, machines and coherent states.
+use Rattle.std.specs.Prelude.{◌≡◌, Bool, true, false, IsTrue, [], ◌∷◌, All, Contains}
 use Rattle.sj_base.specs.declared.ids.Task.{Task}
 use Rattle.sj_base.specs.declared.ids.Worker.{Worker}
+use Rattle.sj_base.specs.declared.mode.Mode.{Mode}
+use Rattle.sj_base.specs.declared.mode.Mode.TheVariants.{R, Redux, Commute}
+use Rattle.sj_base.specs.declared.mode.Access.{Access}
+use Rattle.sj_base.specs.declared.ids.Cell.{Cell}
+use Rattle.sj_base.specs.declared.ids.Place.TheVariants.{Node as AtNode}
 use Rattle.sj_base.specs.declared.program.Program.{Program}
 use Rattle.sj_base.specs.declared.program.Machine.{Machine}
-use Rattle.sj_core.specs.Machine.{State}
-use Rattle.sj_core.specs.Proper.{Proper, IsMachineFor}
+use Rattle.sj_deps.specs.Conflict.{HasDependencies}
+use Rattle.sj_core.specs.declared.progress.Progress.TheVariants.{Claimed, Running}
+use Rattle.sj_core.specs.Program.{task_of}
+use Rattle.sj_core.specs.Needs.{node_of}
+use Rattle.sj_core.specs.Fold.{held_before, given}
+use Rattle.sj_core.specs.Machine.{State, progress, replica, is_valid}
+use Rattle.sj_core.specs.Proper.{Proper, IsMachineFor, reads_value, access}
 use Rattle.sj_core.specs.Coherent.{Coherent}
-use Rattle.sj_core.specs.Step.{Claims, Runs, Ends}
+use Rattle.sj_core.specs.Step.{Claims, Runs, Ends, array_at}
 
 -- a coherent state of a proper program on a machine for it
 pub record IsSound (p : Program) (m : Machine) (s : State) : Type 0 where
@@ -25,3 +36,34 @@ IsKeptByRuns Fact = (p : Program) (m : Machine) (s s' : State) (t : Task) (w : W
 -- the fact holds after each end in a coherent state
 abbrev pub IsKeptByEnds : (Program → Machine → State → Type 0) → Type 0
 IsKeptByEnds Fact = (p : Program) (m : Machine) (s s' : State) (t : Task) (w : Worker) → IsSound p m s → Ends p m s t w s' → Fact p m s'
+
+-- ---- programs whose accesses are all in order
+
+-- the operand is none to which tasks contribute in any order
+abbrev pub is_plain_mode : Mode → Bool
+is_plain_mode Redux = false
+is_plain_mode Commute = false
+is_plain_mode _ = true
+
+-- no task has a REDUX or a COMMUTE access
+pub record HasPlainModes (p : Program) : Type 0 where
+  pub modes : (t : Task) → All (λ a. IsTrue (is_plain_mode a.mode)) (task_of p t).accesses
+
+-- the fact holds after each end in a coherent state of a program with such accesses alone
+abbrev pub IsKeptByPlainEnds : (Program → Machine → State → Type 0) → Type 0
+IsKeptByPlainEnds Fact = (p : Program) (m : Machine) (s s' : State) (t : Task) (w : Worker) → IsSound p m s → HasPlainModes p → Ends p m s t w s' → Fact p m s'
+
+-- ---- what a task finds
+
+-- the task runs on the worker, or is claimed by it and the cell is valid on the worker's node
+pub data HasAtHand (m : Machine) (s : State) (t : Task) (w : Worker) (c : Cell) : Type 0 where
+  Works : progress s t ≡ Running w → HasAtHand m s t w c
+  Brought : progress s t ≡ Claimed w → IsTrue (is_valid (replica s c (AtNode (node_of m w)))) → HasAtHand m s t w c
+
+-- each operand whose old value a task reads has on its worker's node the array that its cell holds after all tasks before it
+abbrev pub FindsEarlierTasks : Type 0
+FindsEarlierTasks = (p : Program) (m : Machine) (s : State) (t : Task) (w : Worker) (a : Access) → IsSound p m s → HasPlainModes p → Contains (task_of p t).accesses a → IsTrue (reads_value a.mode) → HasAtHand m s t w a.cell → array_at p s (AtNode (node_of m w)) a.cell ≡ held_before p t.0 a.cell
+
+-- a task that reads one cell and does nothing else has on its worker's node the array that it hands over
+abbrev pub DeliversGiven : Type 0
+DeliversGiven = (p : Program) (m : Machine) (s : State) (t : Task) (w : Worker) (c : Cell) → IsSound p m s → HasPlainModes p → (task_of p t).accesses ≡ access R c ∷ [] → HasAtHand m s t w c → array_at p s (AtNode (node_of m w)) c ≡ given p t

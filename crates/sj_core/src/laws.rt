@@ -2,8 +2,8 @@
 
 ghost use Rattle.sj_base.specs.declared.program.Program.{Program};
 ghost use Rattle.sj_base.specs.declared.program.Machine.{Machine};
-ghost use Rattle.sj_core.specs.Coherent.{Coherent, IsStateOf, OrderIsKept, PinsHold, TasksHaveCells, TransfersAreSound, WorkersAreSound, WritesAreCounted};
-ghost use Rattle.sj_core.specs.Laws.{IsKeptByClaims, IsKeptByEnds, IsKeptByRuns};
+ghost use Rattle.sj_core.specs.Coherent.{Coherent, CopiesAgree, IsStateOf, OrderIsKept, PinsHold, TasksHaveCells, TransfersAreSound, WorkersAreSound, WritersOwn, WritesAreCounted};
+ghost use Rattle.sj_core.specs.Laws.{DeliversGiven, FindsEarlierTasks, IsKeptByClaims, IsKeptByEnds, IsKeptByPlainEnds, IsKeptByRuns};
 ghost use Rattle.sj_core.specs.Machine.{opening};
 ghost use Rattle.sj_core.specs.Proper.{Proper};
 ghost use Rattle.sj_deps.specs.Conflict.{HasDependencies};
@@ -27,6 +27,7 @@ pub fn claims()
     ensures transfers_are_sound { IsKeptByClaims (λ p m s. TransfersAreSound m s) }
     ensures writes_are_counted { IsKeptByClaims (λ p m s. WritesAreCounted p s) }
     ensures is_a_state { IsKeptByClaims IsStateOf }
+    ensures copies_agree { IsKeptByClaims (λ p m s. CopiesAgree p s) }
 {}
 
 /// What the beginning of a kernel's run keeps.
@@ -38,6 +39,7 @@ pub fn runs()
     ensures transfers_are_sound { IsKeptByRuns (λ p m s. TransfersAreSound m s) }
     ensures writes_are_counted { IsKeptByRuns (λ p m s. WritesAreCounted p s) }
     ensures is_a_state { IsKeptByRuns IsStateOf }
+    ensures copies_agree { IsKeptByRuns (λ p m s. CopiesAgree p s) }
 {}
 
 /// What the end of a kernel's run keeps.
@@ -49,4 +51,12 @@ pub fn ends()
     ensures transfers_are_sound { IsKeptByEnds (λ p m s. TransfersAreSound m s) }
     ensures writes_are_counted { IsKeptByEnds (λ p m s. WritesAreCounted p s) }
     ensures is_a_state { IsKeptByEnds IsStateOf }
+    ensures copies_agree { IsKeptByPlainEnds (λ p m s. CopiesAgree p s) }
+    ensures writers_own { IsKeptByPlainEnds WritersOwn }
+{}
+
+/// What a task finds on its worker's node: what all tasks before it, in submission order, have left in its cells.
+pub fn deliveries()
+    ensures finds_earlier_tasks { FindsEarlierTasks }
+    ensures delivers_given { DeliversGiven }
 {}

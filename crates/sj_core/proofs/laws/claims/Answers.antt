@@ -1,5 +1,6 @@
 use Rattle.sj_core.proofs.Forms.{Claims-keeps_state}
 use Rattle.sj_core.proofs.Dependencies.{Proper-dependencies}
+use Rattle.sj_core.proofs.Agreeing.{Claims-keeps_copies}
 use Rattle.sj_core.proofs.Counting.{Claims-keeps_counts}
 use Rattle.sj_core.proofs.Claiming.{Claims-keeps_cells, Claims-keeps_pins, Claims-keeps_transfers}
 use Rattle.sj_core.proofs.Separation.{Claims-keeps_order}
@@ -15,4 +16,5 @@ returns c = record {
   transfers_are_sound = λ p m s s' t w h claim. Claims-keeps_transfers p m h.proper.cells h.machine s h.coherent.state h.coherent.cells h.coherent.pins h.coherent.transfers h.coherent.workers t w s' claim;
   writes_are_counted = λ p m s s' t w h claim. Claims-keeps_counts p m s t w s' h.coherent.state.rows claim h.coherent.counts;
   is_a_state = λ p m s s' t w h claim. Claims-keeps_state p m s h t w s' claim;
+  copies_agree = λ p m s s' t w h claim. Claims-keeps_copies p m h.proper.cells h.machine s h.coherent.state h.coherent.copies h.coherent.cells h.coherent.pins h.coherent.transfers h.coherent.workers t w s' claim;
 }

@@ -1,5 +1,6 @@
 use Rattle.sj_core.proofs.Forms.{Runs-keeps_state}
 use Rattle.sj_core.proofs.Dependencies.{Proper-dependencies}
+use Rattle.sj_core.proofs.Agreeing.{Runs-keeps_copies}
 use Rattle.sj_core.proofs.Counting.{Runs-keeps_counts}
 use Rattle.sj_core.proofs.Advancing.{Runs-keeps_order}
 use Rattle.sj_core.proofs.Holding.{Runs-keeps_cells, Runs-keeps_pins, Runs-keeps_transfers}
@@ -15,4 +16,5 @@ returns c = record {
   transfers_are_sound = λ p m s s' t w h run. Runs-keeps_transfers p m h.proper.cells (Proper-dependencies p h.proper) s h.coherent.state h.coherent.cells h.coherent.pins h.coherent.transfers h.coherent.workers h.coherent.order t w s' run;
   writes_are_counted = λ p m s s' t w h run. Runs-keeps_counts p m s t w s' run h.coherent.counts;
   is_a_state = λ p m s s' t w h run. Runs-keeps_state p m s h t w s' run;
+  copies_agree = λ p m s s' t w h run. Runs-keeps_copies p m s h.coherent.state.rows h.coherent.copies t w s' run;
 }

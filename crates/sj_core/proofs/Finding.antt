@@ -1,0 +1,217 @@
+-- What a claimed or running task finds on its worker's node: in a cell whose old value it reads, the cell's content.
+use Rattle.std.proofs.Common.{◌≡◌, ℕ, ◌<◌, Bool, true, false, not, ◌&&◌, cond, List, length, get_or, refl, sym, ap, ◌∙◌, subst, inl, inr, ◌⊎◌, Option, None, Some, arith}
+use Rattle.std.specs.Prelude.{IsTrue, All, count_by, is_some, unwrap_or, IfSome, if◌then◌else◌}
+use Rattle.std.specs.List.{Contains, AllPairs}
+use Rattle.std.proofs.lemmas.Bool.{cases_lt, cases_eq, false≢true}
+use Rattle.std.proofs.lemmas.Bool.Decides.{Decides-eqb}
+use Rattle.std.proofs.lemmas.List.{get_or_default}
+use Rattle.std.proofs.lemmas.List.Folds.{Any-from_list_any, list_any_at}
+use Rattle.std.proofs.lemmas.List.FromFn.{get_or-map-range_with_len, length-map-range_with_len}
+use Rattle.std.proofs.lemmas.List.Sums.{get_or-le-sum_by}
+use Rattle.sj_base.specs.declared.ids.Cell.{Cell}
+use Rattle.sj_base.specs.declared.ids.Task.{Task}
+use Rattle.sj_base.specs.declared.ids.Worker.{Worker}
+use Rattle.sj_base.specs.declared.ids.Place.TheVariants.{Node as AtNode}
+use Rattle.sj_base.specs.declared.mode.Mode.{Mode}
+use Rattle.sj_base.specs.declared.mode.Mode.TheVariants.{R, W, RW, Scratch, Redux, Commute}
+use Rattle.sj_base.specs.declared.mode.Access.{Access}
+use Rattle.sj_base.specs.declared.program.Program.{Program}
+use Rattle.sj_base.specs.declared.program.Machine.{Machine}
+use Rattle.sj_base.specs.Array.{Array, zeros}
+use Rattle.sj_core.specs.Program.{same_cell, has_cell, dims_of, task_of, tasks_of, no_task, is_scratch, is_written, is_redux, starts_as_zeros, data_operands}
+use Rattle.sj_core.specs.Needs.{node_of}
+use Rattle.sj_core.specs.declared.progress.Progress.{Progress}
+use Rattle.sj_core.specs.declared.progress.Progress.TheVariants.{Waiting, Claimed, Running, Done}
+use Rattle.sj_deps.specs.Conflict.{HasDependencies}
+use Rattle.sj_core.specs.Operands.{worked_on, cells_of, written_cells, fresh_cells}
+use Rattle.sj_core.specs.Machine.{State, Replica, progress, replica, writes, array_of, is_valid, is_running_on, is_task_of, worker_of, done_by}
+use Rattle.sj_core.specs.Step.{array_at, EarlierAreDone}
+use Rattle.sj_core.specs.Proper.{Proper, reads_value, gives_value, HasValueBefore}
+use Rattle.sj_core.specs.Coherent.{Coherent, content, is_being_written, has_written}
+use Rattle.sj_core.specs.Laws.{HasPlainModes}
+use Rattle.sj_core.proofs.Advancing.{same_task, same_worker-refl}
+use Rattle.sj_core.proofs.Folding.{Contains-from_filter, read-among_cells, reads_isn't_scratch}
+use Rattle.sj_core.proofs.Holding.{not_true}
+use Rattle.sj_core.proofs.PlainModes.{operand-inside, worked_on-plain, conflicts}
+use Rattle.sj_core.proofs.Reading.{same_worker-is}
+use Rattle.sj_core.proofs.Readiness.{Contains-filter}
+use Rattle.sj_core.proofs.Separation.{separated, task_of-worker, task_of-active, active-begun}
+use Rattle.sj_core.proofs.Sharing.{operand_for, operand-has_cell}
+
+-- ---- lists
+
+pub All-at : {X : Type 0} (P : X → Type 0) (xs : List X) (x : X) → All P xs → Contains xs x → P x
+All-at P xs x all (k, l, e) = subst P e (all k x l)
+
+-- of two elements of a list one stands before the other, unless they are one
+AllPairs-two : {X : Type 0} (P : X → X → Type 0) (xs : List X) (x y : X) → AllPairs P xs → Contains xs x → Contains xs y → (x ≡ y) ⊎ (P x y ⊎ P y x)
+AllPairs-two {X} P xs x y pairs (i, l, e) (j, k, f) =
+    elim (cases_lt i j) [
+      | inl before ↦ inr (inl (ordered i j x y before k e f))
+      | inr after ↦ elim (cases_eq i j) [
+        | inl same ↦ inl (sym e ∙ get_or_default xs i x y l ∙ ap (λ n. get_or xs n y) same ∙ f)
+        | inr differ ↦ inr (inr (ordered j i y x (omega (arith, differ)) l f e))
+      ]
+    ]
+  where
+    ordered : (a b : ℕ) (u v : X) → a < b → b < length xs → get_or xs a u ≡ u → get_or xs b v ≡ v → P u v
+    ordered a b u v before inside eu ev = subst (λ z. P z v) eu (subst (λ z. P (get_or xs a u) z) (get_or_default xs b u v inside ∙ ev) (pairs a b u before inside))
+
+-- a task of the program that passes is counted
+task-counted : (p : Program) (test : Task → Bool) (u : Task) → u.0 < length p.tasks → test u ≡ true → 0 < count_by test (tasks_of p)
+task-counted p test u inside passes =
+    let number : ℕ → Task = λ n. record { 0 = n } in
+    let at_u : get_or (tasks_of p) u.0 u ≡ u = get_or-map-range_with_len number 0 (length p.tasks) u.0 u.0 u inside (omega arith) in
+    let part = get_or-le-sum_by (λ (k : Task). cond {A = ℕ} (test k) 1 0) (tasks_of p) u.0 u (omega (arith, length-map-range_with_len number 0 (length p.tasks))) in
+    let counts : cond {A = ℕ} (test (get_or (tasks_of p) u.0 u)) 1 0 ≡ 1 = ap (λ b. cond {A = ℕ} b 1 0) (ap test at_u ∙ passes) in
+    omega arith
+
+both : (x y : Bool) → (x && y) ≡ true → (x ≡ true) × (y ≡ true)
+both true y h = (refl, h)
+both false y h = absurd (false≢true h)
+
+not-false : (x : Bool) → not x ≡ true → x ≡ false
+not-false true h = absurd (false≢true h)
+not-false false h = refl
+
+-- ---- modes
+
+pub value-read : (x : Mode) → starts_as_zeros x ≡ false → not (is_scratch x) ≡ true → reads_value x ≡ true
+value-read R h k = refl
+value-read W h k = sym h
+value-read RW h k = refl
+value-read Scratch h k = k
+value-read Redux h k = refl
+value-read Commute h k = refl
+
+pub read-value : (x : Mode) → reads_value x ≡ true → starts_as_zeros x ≡ false
+read-value R h = refl
+read-value W h = sym h
+read-value RW h = refl
+read-value Scratch h = sym h
+read-value Redux h = refl
+read-value Commute h = refl
+
+-- ---- running tasks
+
+pub running_on-is : (w : Worker) (x : Progress) → is_running_on w x ≡ true → x ≡ Running w
+running_on-is w Waiting h = absurd (false≢true h)
+running_on-is w (Claimed v) h = absurd (false≢true h)
+running_on-is w (Running v) h = ap Running (same_worker-is v w h)
+running_on-is w (Done v) h = absurd (false≢true h)
+
+-- a cell that is being written has a running task that writes it
+pub being_written-by : (p : Program) (s : State) (c : Cell) → is_being_written p s c ≡ true → (u : Task) × (progress s u ≡ Running (done_by s u)) × (has_cell (written_cells p u (done_by s u)) c ≡ true)
+being_written-by p s c h =
+    let found = Any-from_list_any (λ t. is_running_on (worker_of (progress s t)) (progress s t) && has_cell (written_cells p t (worker_of (progress s t))) c) (tasks_of p) h in
+    let u = found.1 in
+    let tests = both (is_running_on (done_by s u) (progress s u)) (has_cell (written_cells p u (done_by s u)) c) found.4 in
+    (u, running_on-is (done_by s u) (progress s u) tests.0, tests.1)
+
+pub being_written-here : (p : Program) (s : State) (c : Cell) (u : Task) (v : Worker) → u.0 < length p.tasks → progress s u ≡ Running v → has_cell (written_cells p u v) c ≡ true → is_being_written p s c ≡ true
+being_written-here p s c u v inside running writes =
+    let number : ℕ → Task = λ n. record { 0 = n } in
+    let test : Progress → Task → Bool = λ x t. is_running_on (worker_of x) x && has_cell (written_cells p t (worker_of x)) c in
+    let at_u : get_or (tasks_of p) u.0 u ≡ u = get_or-map-range_with_len number 0 (length p.tasks) u.0 u.0 u inside (omega arith) in
+    let passes : test (progress s u) u ≡ true = ap (λ (x : Progress). test x u) running ∙ ap (λ b. b && has_cell (written_cells p u v) c) (same_worker-refl v) ∙ writes in
+    list_any_at (λ t. test (progress s t) t) (tasks_of p) u.0 u (omega (arith, length-map-range_with_len number 0 (length p.tasks))) (ap (λ (t : Task). test (progress s t) t) at_u ∙ passes)
+
+-- ---- arrays
+
+-- the array of a valid replica, where one is told of it
+pub array-told : (o : Option Array) (a b : Array) → is_some o ≡ true → IfSome o (λ x. x ≡ a) → unwrap_or o b ≡ a
+array-told None a b h k = absurd (false≢true h)
+array-told (Some x) a b h k = k
+
+module _ (p : Program) (m : Machine) (proper : Proper p) (deps : HasDependencies p) (plain : HasPlainModes p) where
+  -- a task that gives a cell a value writes it, whichever worker runs it
+  gives-writes : (u : Task) (v : Worker) (c : Cell) → gives_value (task_of p u) c ≡ true → has_cell (written_cells p u v) c ≡ true
+  gives-writes u v c h =
+      let gives : Access → Bool = λ a. is_written a.mode && not (is_redux a.mode) && same_cell a.cell c in
+      let given = Any-from_list_any gives (task_of p u).accesses h in
+      let b = given.1 in
+      let among : Contains (task_of p u).accesses b = (given.0, given.2, given.3) in
+      let tests = three (is_written b.mode) (not (is_redux b.mode)) (same_cell b.cell c) given.4 in
+      operand-has_cell (worked_on p v) (λ a. is_written a.mode) (task_of p u).accesses b c among tests.0 (ap (λ (q : Cell). same_cell q c) (worked_on-plain p plain u v b among) ∙ tests.2)
+    where
+      three : (x y z : Bool) → (x && y && z) ≡ true → (x ≡ true) × (y ≡ true) × (z ≡ true)
+      three true true true h = (refl, refl, refl)
+      three true true false h = absurd (false≢true h)
+      three true false z h = absurd (false≢true h)
+      three false y z h = absurd (false≢true h)
+
+  -- an operand whose old value is read gives the task its cell
+  pub read-cell : (t : Task) (w : Worker) (a : Access) → Contains (task_of p t).accesses a → starts_as_zeros a.mode ≡ false → has_cell (cells_of p t w) a.cell ≡ true
+  read-cell t w a h reads = sym (ap (has_cell (cells_of p t w)) (worked_on-plain p plain t w a h)) ∙ read-among_cells p t w a h reads
+
+  -- such a cell is none whose old value another operand doesn't read
+  read-not_fresh : (t : Task) (w : Worker) (a : Access) → Contains (task_of p t).accesses a → starts_as_zeros a.mode ≡ false → has_cell (fresh_cells p t w) a.cell ≡ false
+  read-not_fresh t w a h reads = not_true (has_cell (fresh_cells p t w) a.cell) (λ fresh.
+      (let l = task_of p t in
+      let b = operand_for (worked_on p w) (λ x. starts_as_zeros x.mode) (data_operands l) a.cell fresh in
+      let a_in : Contains (data_operands l) a = Contains-filter (λ x. not (is_scratch x.mode)) l.accesses a (reads_isn't_scratch a.mode reads) h in
+      let b_accessed : Contains l.accesses b.0 = Contains-from_data b.0 b.1 in
+      let b_cell : b.0.cell ≡ a.cell = sym (worked_on-plain p plain t w b.0 b_accessed) ∙ b.3 in
+      let unaliased = proper.unaliased t.0 no_task (operand-inside p t a h) in
+      by_places b.0 b.2 b_cell (AllPairs-two (λ x y. IsTrue (same_cell x.cell y.cell) → (x.mode ≡ R) × (y.mode ≡ R)) (data_operands l) a b.0 unaliased a_in b.1)))
+    where
+      Contains-from_data : (b : Access) → Contains (data_operands (task_of p t)) b → Contains (task_of p t).accesses b
+      Contains-from_data b k = Contains-from_filter (λ x. not (is_scratch x.mode)) (task_of p t).accesses b k
+
+      same : (x y : Cell) → x ≡ y → same_cell x y ≡ true
+      same x y e = (Decides-eqb x.0 y.0).1 (ap (λ (q : Cell). q.0) e)
+
+      read_isn't_fresh : (x : Mode) → starts_as_zeros x ≡ true → x ≡ R → ⊥
+      read_isn't_fresh x e f = false≢true (sym (ap starts_as_zeros f) ∙ e)
+
+      by_places : (b : Access) → starts_as_zeros b.mode ≡ true → b.cell ≡ a.cell →
+          ((a ≡ b) ⊎ ((IsTrue (same_cell a.cell b.cell) → (a.mode ≡ R) × (b.mode ≡ R)) ⊎ (IsTrue (same_cell b.cell a.cell) → (b.mode ≡ R) × (a.mode ≡ R)))) → ⊥
+      by_places b fresh e (inl one) = false≢true (sym reads ∙ ap (λ (x : Access). starts_as_zeros x.mode) one ∙ fresh)
+      by_places b fresh e (inr (inl pair)) = read_isn't_fresh b.mode fresh (pair (same a.cell b.cell (sym e))).1
+      by_places b fresh e (inr (inr pair)) = read_isn't_fresh b.mode fresh (pair (same b.cell a.cell e)).0
+
+  module _ (s : State) (sound : Coherent p m s) where
+    -- a cell whose old value a begun task reads has been written
+    pub read-written : (t : Task) (a : Access) → EarlierAreDone p s t → Contains (task_of p t).accesses a → starts_as_zeros a.mode ≡ false → 0 < writes s a.cell
+    read-written t a earlier h reads =
+        let value = All-at (λ (b : Access). IsTrue (reads_value b.mode) → HasValueBefore p t b.cell) (task_of p t).accesses a (proper.values.cells t) h (value-read a.mode reads (reads_isn't_scratch a.mode reads)) in
+        let u = value.0 in
+        let v = done_by s u in
+        let writes_it = gives-writes u v a.cell value.2 in
+        let done = earlier u value.1 (conflicts p plain deps t u v v a.cell (read-cell t v a h reads) writes_it).1 in
+        let inside : u.0 < length p.tasks = omega (arith, operand-inside p t a h, value.1) in
+        let counted = task-counted p (has_written p s a.cell) u inside (ap (λ b. b && has_cell (written_cells p u v) a.cell) done ∙ writes_it) in
+        omega (arith, sound.counts.counted a.cell)
+
+    -- a cell of a task is written by no running task but this
+    pub not_being_written : (t : Task) (w : Worker) (c : Cell) → is_task_of w (progress s t) ≡ true → has_cell (cells_of p t w) c ≡ true → (progress s t ≡ Running w → has_cell (written_cells p t w) c ≡ false) → is_being_written p s c ≡ false
+    not_being_written t w c mine has spared = not_true (is_being_written p s c) (λ h. (let by = being_written-by p s c h in by_task by.0 by.1 by.2))
+      where
+        by_task : (u : Task) → progress s u ≡ Running (done_by s u) → has_cell (written_cells p u (done_by s u)) c ≡ true → ⊥
+        by_task u running writes =
+            elim (same_task u t) [
+              | inl e ↦
+                  let worker : done_by s u ≡ w = ap (λ (k : Task). worker_of (progress s k)) e ∙ task_of-worker w (progress s t) mine in
+                  let here : progress s t ≡ Running w = ap (λ (k : Task). progress s k) (sym e) ∙ running ∙ ap Running worker in
+                  false≢true (sym (spared here) ∙ ap (λ (k : Task). has_cell (written_cells p k w) c) (sym e) ∙ ap (λ (k : Worker). has_cell (written_cells p u k) c) (sym worker) ∙ writes)
+              | inr d ↦ separated p m proper.cells deps s sound.state sound.workers sound.order t u w (done_by s u) c (λ e. d (sym e)) mine (ap (is_task_of (done_by s u)) running ∙ same_worker-refl (done_by s u)) has writes
+            ]
+
+    -- a task finds the content of each cell whose old value it reads
+    pub finds-content : (t : Task) (w : Worker) (a : Access) → is_task_of w (progress s t) ≡ true → Contains (task_of p t).accesses a → starts_as_zeros a.mode ≡ false → is_valid (replica s a.cell (AtNode (node_of m w))) ≡ true →
+        array_at p s (AtNode (node_of m w)) a.cell ≡ content p s a.cell
+    finds-content t w a mine h reads valid = by_kind (is_running_on w (progress s t)) refl (has_cell (written_cells p t w) a.cell) refl
+      where
+        shared : (progress s t ≡ Running w → has_cell (written_cells p t w) a.cell ≡ false) → array_at p s (AtNode (node_of m w)) a.cell ≡ content p s a.cell
+        shared spared =
+            let earlier = sound.order.earlier t (active-begun (progress s t) (task_of-active w (progress s t) mine)) in
+            let resting = not_being_written t w a.cell mine (read-cell t w a h reads) spared in
+            array-told (array_of (replica s a.cell (AtNode (node_of m w)))) (content p s a.cell) (zeros (dims_of p a.cell)) valid (sound.copies.alike a.cell (AtNode (node_of m w)) (read-written t a earlier h reads) resting)
+
+        by_kind : (x : Bool) → is_running_on w (progress s t) ≡ x → (y : Bool) → has_cell (written_cells p t w) a.cell ≡ y → array_at p s (AtNode (node_of m w)) a.cell ≡ content p s a.cell
+        by_kind true e true f =
+            let owned = sound.writers.owned t w a.cell (running_on-is w (progress s t) e) f in
+            ap (λ (r : Replica). unwrap_or (array_of r) (zeros (dims_of p a.cell))) owned.valid
+            ∙ ap (λ b. if b then zeros (dims_of p a.cell) else content p s a.cell) (read-not_fresh t w a h reads)
+        by_kind true e false f = shared (λ k. f)
+        by_kind false e y f = shared (λ k. absurd (false≢true (sym e ∙ ap (is_running_on w) k ∙ same_worker-refl w)))

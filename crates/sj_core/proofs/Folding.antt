@@ -1,0 +1,274 @@
+-- What cells hold after tasks in submission order: on which tasks it depends, and that a task may come last.
+use Rattle.std.proofs.Common.{◌≡◌, ◌≢◌, ℕ, zero, suc, ◌<◌, ◌≤◌, Bool, true, false, not, ◌||◌, cond, List, [], ◌∷◌, ◌++◌, map, length, refl, sym, ap, ◌∙◌, inl, inr, Option, None, Some, arith}
+use Rattle.std.specs.List.{Contains, filter, find, zip}
+use Rattle.std.specs.Option.{option_or}
+use Rattle.std.proofs.lemmas.Bool.{cases_lt, false≢true, true≢false}
+use Rattle.std.proofs.lemmas.Bool.Decides.{Decides-eqb}
+use Rattle.std.proofs.lemmas.List.Folds.{find-append}
+use Rattle.sj_base.specs.declared.ids.Cell.{Cell}
+use Rattle.sj_base.specs.declared.ids.Task.{Task}
+use Rattle.sj_base.specs.declared.ids.Worker.{Worker}
+use Rattle.sj_base.specs.declared.mode.Mode.{Mode}
+use Rattle.sj_base.specs.declared.mode.Mode.TheVariants.{R, W, RW, Scratch, Redux, Commute}
+use Rattle.sj_base.specs.declared.mode.Access.{Access}
+use Rattle.sj_base.specs.declared.program.Program.{Program}
+use Rattle.sj_base.specs.Array.{Array, zeros}
+use Rattle.sj_codelet.specs.Kernel.{out}
+use Rattle.sj_core.specs.Program.{same_cell, has_cell, dims_of, task_of, is_scratch, is_written, starts_as_zeros}
+use Rattle.sj_core.specs.Operands.{worked_on, cells_of, written_cells, found, results}
+use Rattle.sj_core.specs.Fold.{Contents, held_in, after_task, after_chosen}
+use Rattle.sj_core.proofs.Advancing.{same_task}
+use Rattle.sj_core.proofs.Holding.{not_true}
+use Rattle.sj_core.proofs.Sharing.{operand-has_cell}
+use Rattle.sj_core.proofs.TaskCells.{written-among_cells}
+
+abbrev number : ℕ → Task
+number n = record { 0 = n }
+
+-- ---- lists
+
+pub map-same : {X Y : Type 0} (f g : X → Y) (xs : List X) → ((x : X) → Contains xs x → f x ≡ g x) → map f xs ≡ map g xs
+map-same f g [] same = refl
+map-same f g (x ∷ xs) same = ap (λ y. y ∷ map f xs) (same x (0, omega arith, refl)) ∙ ap (λ ys. g x ∷ ys) (map-same f g xs (λ z h. same z (suc h.0, omega (arith, h.1), h.2)))
+
+-- what a filter keeps is in the list
+pub Contains-from_filter : {X : Type 0} (f : X → Bool) (xs : List X) (x : X) → Contains (filter f xs) x → Contains xs x
+Contains-from_filter f [] x h = h
+Contains-from_filter {X} f (y ∷ xs) x h = by_first (f y) (Contains-from_filter f xs x) h
+  where
+    later : Contains xs x → Contains (y ∷ xs) x
+    later k = (suc k.0, omega (arith, k.1), k.2)
+
+    by_first : (b : Bool) → (Contains (filter f xs) x → Contains xs x) → Contains (cond b (y ∷ filter f xs) (filter f xs)) x → Contains (y ∷ xs) x
+    by_first true rest (zero, l, e) = (0, omega arith, e)
+    by_first true rest (suc k, l, e) = later (rest (k, omega arith, e))
+    by_first false rest k = later (rest k)
+
+-- ---- what was put into a cell last
+
+-- what a cell holds where these arrays were put over what it held
+abbrev pub held_over : Contents → Cell → Array → Array
+held_over entries c below = elim (find (λ (entry : Cell × Array). same_cell entry.0 c) entries) as (λ _. Array) [ None ↦ below | Some entry ↦ entry.1 ]
+
+pub held-append : (p : Program) (xs ys : Contents) (c : Cell) → held_in p (xs ++ ys) c ≡ held_over xs c (held_in p ys c)
+held-append p xs ys c = ap (λ (o : Option (Cell × Array)). elim o as (λ _. Array) [ None ↦ zeros (dims_of p c) | Some entry ↦ entry.1 ]) (find-append (λ (entry : Cell × Array). same_cell entry.0 c) xs ys) ∙ by_first (find (λ (entry : Cell × Array). same_cell entry.0 c) xs)
+  where
+    by_first : (o : Option (Cell × Array)) → elim (option_or o (find (λ (entry : Cell × Array). same_cell entry.0 c) ys)) as (λ _. Array) [ None ↦ zeros (dims_of p c) | Some entry ↦ entry.1 ] ≡ elim o as (λ _. Array) [ None ↦ held_in p ys c | Some entry ↦ entry.1 ]
+    by_first None = refl
+    by_first (Some entry) = refl
+
+-- arrays of other cells leave what the cell holds
+pub held_over-other : (cs : List Cell) (arrays : List Array) (c : Cell) (below : Array) → has_cell cs c ≡ false → held_over (zip cs arrays) c below ≡ below
+held_over-other [] arrays c below h = refl
+held_over-other (d ∷ cs) [] c below h = refl
+held_over-other (d ∷ cs) (a ∷ arrays) c below h = by_first (same_cell d c) h (held_over-other cs arrays c below)
+  where
+    by_first : (b : Bool) → (b || has_cell cs c) ≡ false → (has_cell cs c ≡ false → held_over (zip cs arrays) c below ≡ below) → elim (cond b (Some (d, a)) (find (λ (entry : Cell × Array). same_cell entry.0 c) (zip cs arrays))) as (λ _. Array) [ None ↦ below | Some entry ↦ entry.1 ] ≡ below
+    by_first true h rest = absurd (true≢false h)
+    by_first false h rest = rest h
+
+-- where each of the cells has an array, what they held doesn't matter
+pub held_over-own : (cs : List Cell) (arrays : List Array) (c : Cell) (x y : Array) → has_cell cs c ≡ true → length cs ≤ length arrays → held_over (zip cs arrays) c x ≡ held_over (zip cs arrays) c y
+held_over-own [] arrays c x y h l = absurd (false≢true h)
+held_over-own (d ∷ cs) [] c x y h l = absurd (omega arith)
+held_over-own (d ∷ cs) (a ∷ arrays) c x y h l = by_first (same_cell d c) h (λ k. held_over-own cs arrays c x y k (omega arith))
+  where
+    by_first : (b : Bool) → (b || has_cell cs c) ≡ true → (has_cell cs c ≡ true → held_over (zip cs arrays) c x ≡ held_over (zip cs arrays) c y) → elim (cond b (Some (d, a)) (find (λ (entry : Cell × Array). same_cell entry.0 c) (zip cs arrays))) as (λ _. Array) [ None ↦ x | Some entry ↦ entry.1 ] ≡ elim (cond b (Some (d, a)) (find (λ (entry : Cell × Array). same_cell entry.0 c) (zip cs arrays))) as (λ _. Array) [ None ↦ y | Some entry ↦ entry.1 ]
+    by_first true h rest = refl
+    by_first false h rest = rest h
+
+-- ---- one task
+
+-- a task leaves what a cell holds that it doesn't write
+pub after_task-other : (p : Program) (w : Worker) (t : Task) (before : Contents) (c : Cell) → has_cell (written_cells p t w) c ≡ false → held_in p (after_task p w t before) c ≡ held_in p before c
+after_task-other p w t before c h =
+    let arrays = results p t w (held_in p before) in
+    held-append p (zip (written_cells p t w) arrays) before c ∙ held_over-other (written_cells p t w) arrays c (held_in p before c) h
+
+-- a task's results depend on what it finds in the cells whose old value it reads
+pub results-same : (p : Program) (t : Task) (v w : Worker) (held held' : Cell → Array) → ((a : Access) → Contains (task_of p t).accesses a → starts_as_zeros a.mode ≡ false → held (worked_on p v a) ≡ held' (worked_on p w a)) → results p t v held ≡ results p t w held'
+results-same p t v w held held' same = ap (out (task_of p t).codelet (task_of p t).args) (map-same (found p v held) (found p w held') (task_of p t).accesses (λ a h. by_start a (starts_as_zeros a.mode) (same a h)))
+  where
+    by_start : (a : Access) (b : Bool) → (b ≡ false → held (worked_on p v a) ≡ held' (worked_on p w a)) → cond b (zeros (dims_of p a.cell)) (held (worked_on p v a)) ≡ cond b (zeros (dims_of p a.cell)) (held' (worked_on p w a))
+    by_start a true e = refl
+    by_start a false e = e refl
+
+pub reads_isn't_scratch : (x : Mode) → starts_as_zeros x ≡ false → not (is_scratch x) ≡ true
+reads_isn't_scratch R h = refl
+reads_isn't_scratch W h = refl
+reads_isn't_scratch RW h = refl
+reads_isn't_scratch Scratch h = sym h
+reads_isn't_scratch Redux h = refl
+reads_isn't_scratch Commute h = refl
+
+-- a cell whose old value a task reads is one of its cells
+pub read-among_cells : (p : Program) (t : Task) (w : Worker) (a : Access) → Contains (task_of p t).accesses a → starts_as_zeros a.mode ≡ false → has_cell (cells_of p t w) (worked_on p w a) ≡ true
+read-among_cells p t w a h reads =
+    operand-has_cell (worked_on p w) (λ b. not (is_scratch b.mode)) (task_of p t).accesses a (worked_on p w a) h (reads_isn't_scratch a.mode reads) ((Decides-eqb (worked_on p w a).0 (worked_on p w a).0).1 refl)
+
+-- a task by one of two workers works on the same cells
+abbrev pub WorksAlike : Program → Task → Worker → Worker → Type 0
+WorksAlike p t v w = (a : Access) → Contains (task_of p t).accesses a → worked_on p v a ≡ worked_on p w a
+
+pub written_cells-alike : (p : Program) (t : Task) (v w : Worker) → WorksAlike p t v w → written_cells p t v ≡ written_cells p t w
+written_cells-alike p t v w alike =
+    let writes : Access → Bool = λ a. is_written a.mode in
+    map-same (worked_on p v) (worked_on p w) (filter writes (task_of p t).accesses) (λ a h. alike a (Contains-from_filter writes (task_of p t).accesses a h))
+
+-- after a task a cell holds alike what it and the task's cells held alike
+pub after_task-same : (p : Program) (t : Task) (v w : Worker) (before before' : Contents) (c : Cell) → WorksAlike p t v w → ((d : Cell) → has_cell (cells_of p t v) d ≡ true → held_in p before d ≡ held_in p before' d) → held_in p before c ≡ held_in p before' c →
+    held_in p (after_task p v t before) c ≡ held_in p (after_task p w t before') c
+after_task-same p t v w before before' c alike same here =
+    let cs = written_cells p t v in
+    let cs' = written_cells p t w in
+    let arrays = results p t v (held_in p before) in
+    let arrays' = results p t w (held_in p before') in
+    let finds : arrays ≡ arrays' = results-same p t v w (held_in p before) (held_in p before') (λ a h reads. same (worked_on p v a) (read-among_cells p t v a h reads) ∙ ap (held_in p before') (alike a h)) in
+    held-append p (zip cs arrays) before c
+    ∙ ap (λ (ds : List Cell). held_over (zip ds arrays) c (held_in p before c)) (written_cells-alike p t v w alike)
+    ∙ ap (λ (xs : List Array). held_over (zip cs' xs) c (held_in p before c)) finds
+    ∙ ap (held_over (zip cs' arrays') c) here
+    ∙ sym (held-append p (zip cs' arrays') before' c)
+
+-- ---- which tasks
+
+-- contents depend on which tasks below n are chosen, and on the workers of those
+pub after_chosen-same : (p : Program) (chosen chosen' : Task → Bool) (by by' : Task → Worker) (n : ℕ) → ((u : Task) → u.0 < n → chosen u ≡ chosen' u) → ((u : Task) → u.0 < n → chosen u ≡ true → by u ≡ by' u) → after_chosen p chosen by n ≡ after_chosen p chosen' by' n
+after_chosen-same p chosen chosen' by by' zero same workers = refl
+after_chosen-same p chosen chosen' by by' (suc n) same workers =
+    by_choice (chosen (number n)) refl (after_chosen-same p chosen chosen' by by' n (λ u h. same u (omega arith)) (λ u h. workers u (omega arith)))
+    ∙ ap (λ b. cond b (after_task p (by' (number n)) (number n) (after_chosen p chosen' by' n)) (after_chosen p chosen' by' n)) (same (number n) (omega arith))
+  where
+    by_choice : (b : Bool) → chosen (number n) ≡ b → after_chosen p chosen by n ≡ after_chosen p chosen' by' n →
+        cond b (after_task p (by (number n)) (number n) (after_chosen p chosen by n)) (after_chosen p chosen by n) ≡ cond b (after_task p (by' (number n)) (number n) (after_chosen p chosen' by' n)) (after_chosen p chosen' by' n)
+    by_choice true e rest = ap (λ (w : Worker). after_task p w (number n) (after_chosen p chosen by n)) (workers (number n) (omega arith) e) ∙ ap (after_task p (by' (number n)) (number n)) rest
+    by_choice false e rest = rest
+
+-- where no chosen task from a on writes a cell, it holds what it held after the tasks below a
+pub held-until : (p : Program) (chosen : Task → Bool) (by : Task → Worker) (c : Cell) (a n : ℕ) → a ≤ n → ((u : Task) → a ≤ u.0 → u.0 < n → chosen u ≡ true → has_cell (written_cells p u (by u)) c ≡ false) →
+    held_in p (after_chosen p chosen by n) c ≡ held_in p (after_chosen p chosen by a) c
+held-until p chosen by c a zero l spared = ap (λ k. held_in p (after_chosen p chosen by k) c) (let e : zero ≡ a = omega arith in e)
+held-until p chosen by c a (suc n) l spared =
+    elim (cases_lt n a) [
+      | inl past ↦ ap (λ k. held_in p (after_chosen p chosen by k) c) (let e : suc n ≡ a = omega arith in e)
+      | inr before ↦ by_choice (chosen (number n)) refl (λ e. spared (number n) before (omega arith) e) ∙ held-until p chosen by c a n before (λ u h k. spared u h (omega arith))
+    ]
+  where
+    by_choice : (b : Bool) → chosen (number n) ≡ b → (chosen (number n) ≡ true → has_cell (written_cells p (number n) (by (number n))) c ≡ false) →
+        held_in p (cond b (after_task p (by (number n)) (number n) (after_chosen p chosen by n)) (after_chosen p chosen by n)) c ≡ held_in p (after_chosen p chosen by n) c
+    by_choice true e other = after_task-other p (by (number n)) (number n) (after_chosen p chosen by n) c (other e)
+    by_choice false e other = refl
+
+-- ---- the cone of a cell
+
+-- among wider chosen tasks below n these have, with each task, those before it that write a cell on which it works
+pub record IsCone (p : Program) (chosen wider : Task → Bool) (by by' : Task → Worker) (n : ℕ) : Type 0 where
+  pub within : (u : Task) → u.0 < n → chosen u ≡ true → wider u ≡ true
+  pub alike : (t : Task) → t.0 < n → chosen t ≡ true → WorksAlike p t (by t) (by' t)
+  pub closed : (u t : Task) (d : Cell) → u.0 < t.0 → t.0 < n → chosen t ≡ true → wider u ≡ true → has_cell (written_cells p u (by' u)) d ≡ true → has_cell (cells_of p t (by t)) d ≡ true → chosen u ≡ true
+
+-- each of the wider chosen tasks below n that writes the cell is chosen
+abbrev pub HasWriters : Program → (Task → Bool) → (Task → Bool) → (Task → Worker) → ℕ → Cell → Type 0
+HasWriters p chosen wider by' n c = (u : Task) → u.0 < n → wider u ≡ true → has_cell (written_cells p u (by' u)) c ≡ true → chosen u ≡ true
+
+-- a cell all of whose writers are in a cone holds the same after the tasks of the cone alone
+pub cone-holds : (p : Program) (chosen wider : Task → Bool) (by by' : Task → Worker) (n : ℕ) → IsCone p chosen wider by by' n → (c : Cell) → HasWriters p chosen wider by' n c → held_in p (after_chosen p chosen by n) c ≡ held_in p (after_chosen p wider by' n) c
+cone-holds p chosen wider by by' zero k c writers = refl
+cone-holds p chosen wider by by' (suc n) k c writers = by_choice (chosen t) (wider t) refl refl (cone-holds p chosen wider by by' n below)
+  where
+    t : Task
+    t = number n
+
+    below : IsCone p chosen wider by by' n
+    below = record { within = λ u h. k.within u (omega arith); alike = λ u h. k.alike u (omega arith); closed = λ u v d before h. k.closed u v d before (omega arith) }
+
+    by_choice : (a b : Bool) → chosen (number n) ≡ a → wider (number n) ≡ b → ((d : Cell) → HasWriters p chosen wider by' n d → held_in p (after_chosen p chosen by n) d ≡ held_in p (after_chosen p wider by' n) d) →
+        held_in p (cond a (after_task p (by (number n)) (number n) (after_chosen p chosen by n)) (after_chosen p chosen by n)) c ≡ held_in p (cond b (after_task p (by' (number n)) (number n) (after_chosen p wider by' n)) (after_chosen p wider by' n)) c
+    by_choice true true e f rest =
+        after_task-same p (number n) (by (number n)) (by' (number n)) (after_chosen p chosen by n) (after_chosen p wider by' n) c
+        (k.alike (number n) (omega arith) e)
+        (λ d has. rest d (λ u h among writes. k.closed u (number n) d h (omega arith) e among writes has))
+        (rest c (λ u h. writers u (omega arith)))
+    by_choice true false e f rest = absurd (false≢true (sym f ∙ k.within (number n) (omega arith) e))
+    by_choice false true e f rest =
+        let other = not_true (has_cell (written_cells p (number n) (by' (number n))) c) (λ writes. false≢true (sym e ∙ writers (number n) (omega arith) f writes)) in
+        rest c (λ u h. writers u (omega arith)) ∙ sym (after_task-other p (by' (number n)) (number n) (after_chosen p wider by' n) c other)
+    by_choice false false e f rest = rest c (λ u h. writers u (omega arith))
+
+-- ---- one task more
+
+-- the task is chosen too, with that worker
+pub record AddsTask (chosen chosen' : Task → Bool) (by by' : Task → Worker) (t : Task) (w : Worker) : Type 0 where
+  pub absent : chosen t ≡ false
+  pub present : chosen' t ≡ true
+  pub worker : by' t ≡ w
+  pub others : (u : Task) → u ≢ t → chosen' u ≡ chosen u
+  pub workers : (u : Task) → u ≢ t → by' u ≡ by u
+
+-- no chosen task after t works on what t writes, or writes what t works on
+pub record MayComeLast (p : Program) (chosen : Task → Bool) (by : Task → Worker) (t : Task) (w : Worker) : Type 0 where
+  pub unread : (u : Task) (d : Cell) → t.0 < u.0 → chosen u ≡ true → has_cell (written_cells p t w) d ≡ true → has_cell (cells_of p u (by u)) d ≡ true → ⊥
+  pub unwritten : (u : Task) (d : Cell) → t.0 < u.0 → chosen u ≡ true → has_cell (written_cells p u (by u)) d ≡ true → has_cell (cells_of p t w) d ≡ true → ⊥
+
+module _ (p : Program) (chosen chosen' : Task → Bool) (by by' : Task → Worker) (t : Task) (w : Worker) (n : ℕ) (inside : t.0 < n) (adds : AddsTask chosen chosen' by by' t w) (last : MayComeLast p chosen by t w) where
+  chosen-before : (u : Task) → t.0 ≢ u.0 → chosen' u ≡ true → (chosen u ≡ true) × (by' u ≡ by u)
+  chosen-before u d h =
+      let other : u ≢ t = λ e. d (sym (ap (λ (k : Task). k.0) e)) in
+      (sym (adds.others u other) ∙ h, adds.workers u other)
+
+  -- t's cells hold after all chosen tasks what they held after those before t
+  inputs-hold : (d : Cell) → has_cell (cells_of p t w) d ≡ true → held_in p (after_chosen p chosen by n) d ≡ held_in p (after_chosen p chosen by t.0) d
+  inputs-hold d has = held-until p chosen by d t.0 n (omega arith) (λ u h k e. not_true (has_cell (written_cells p u (by u)) d) (λ writes.
+      (let differ : t.0 ≢ u.0 = λ same. false≢true (sym adds.absent ∙ ap chosen (ap number same) ∙ e) in
+      last.unwritten u d (omega (arith, differ)) e writes has)))
+
+  written-last : (c : Cell) → has_cell (written_cells p t w) c ≡ true → held_in p (after_chosen p chosen' by' n) c ≡ held_in p (after_task p w t (after_chosen p chosen by n)) c
+  written-last c writes =
+      let has = written-among_cells p t w c writes in
+      let old = after_chosen p chosen by t.0 in
+      let later = held-until p chosen' by' c (suc t.0) n inside (λ u h k e. not_true (has_cell (written_cells p u (by' u)) c) (λ over.
+      (let was = chosen-before u (omega arith) e in
+      last.unwritten u c (omega arith) was.0 (sym (ap (λ (v : Worker). has_cell (written_cells p u v) c) was.1) ∙ over) has))) in
+      let same : after_chosen p chosen' by' t.0 ≡ old = after_chosen-same p chosen' chosen by' by t.0 (λ u h. adds.others u (λ e. less_isn't_same u h (ap (λ (k : Task). k.0) e))) (λ u h e. adds.workers u (λ f. less_isn't_same u h (ap (λ (k : Task). k.0) f))) in
+      later
+      ∙ ap (λ b. held_in p (cond b (after_task p (by' t) t (after_chosen p chosen' by' t.0)) (after_chosen p chosen' by' t.0)) c) adds.present
+      ∙ ap (λ (v : Worker). held_in p (after_task p v t (after_chosen p chosen' by' t.0)) c) adds.worker
+      ∙ ap (λ (k : Contents). held_in p (after_task p w t k) c) same
+      ∙ sym (after_task-same p t w w (after_chosen p chosen by n) old c (λ a h. refl) inputs-hold (inputs-hold c has))
+    where
+      less_isn't_same : (u : Task) → u.0 < t.0 → u.0 ≡ t.0 → ⊥
+      less_isn't_same u h e = omega arith
+
+  other-last : (c : Cell) → has_cell (written_cells p t w) c ≡ false → held_in p (after_chosen p chosen' by' n) c ≡ held_in p (after_task p w t (after_chosen p chosen by n)) c
+  other-last c spared = sym (cone-holds p chosen chosen' by by' n cone c writers) ∙ sym (after_task-other p w t (after_chosen p chosen by n) c spared)
+    where
+      kept : (u : Task) → chosen u ≡ true → u ≢ t
+      kept u h e = false≢true (sym adds.absent ∙ ap chosen (sym e) ∙ h)
+
+      alike : (u : Task) → u.0 < n → chosen u ≡ true → WorksAlike p u (by u) (by' u)
+      alike u h e a among = ap (λ (v : Worker). worked_on p v a) (sym (adds.workers u (kept u e)))
+
+      closed : (u v : Task) (d : Cell) → u.0 < v.0 → v.0 < n → chosen v ≡ true → chosen' u ≡ true → has_cell (written_cells p u (by' u)) d ≡ true → has_cell (cells_of p v (by v)) d ≡ true → chosen u ≡ true
+      closed u v d before h e f writes has =
+          elim (same_task u t) [
+            | inl same ↦ absurd (last.unread v d (omega (arith, ap (λ (k : Task). k.0) same)) e (sym (ap (λ (k : Worker). has_cell (written_cells p t k) d) adds.worker) ∙ ap (λ (k : Task). has_cell (written_cells p k (by' k)) d) (sym same) ∙ writes) has)
+            | inr d ↦ sym (adds.others u d) ∙ f
+          ]
+
+      cone : IsCone p chosen chosen' by by' n
+      cone = record { within = λ u h e. adds.others u (kept u e) ∙ e; alike = alike; closed = closed }
+
+      writers : HasWriters p chosen chosen' by' n c
+      writers u h e writes =
+          elim (same_task u t) [
+            | inl same ↦ absurd (true≢false (sym writes ∙ ap (λ (k : Task). has_cell (written_cells p k (by' k)) c) same ∙ ap (λ (k : Worker). has_cell (written_cells p t k) c) adds.worker ∙ spared))
+            | inr d ↦ sym (adds.others u d) ∙ e
+          ]
+
+  -- a task that may come last may be put last
+  pub insertion : (c : Cell) → held_in p (after_chosen p chosen' by' n) c ≡ held_in p (after_task p w t (after_chosen p chosen by n)) c
+  insertion c = by_cases (has_cell (written_cells p t w) c) refl
+    where
+      by_cases : (b : Bool) → has_cell (written_cells p t w) c ≡ b → held_in p (after_chosen p chosen' by' n) c ≡ held_in p (after_task p w t (after_chosen p chosen by n)) c
+      by_cases true e = written-last c e
+      by_cases false e = other-last c e
