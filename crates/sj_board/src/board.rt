@@ -69,7 +69,7 @@ fn no_tiles(alloc: Global, count: usize) -> Result<Vec<Option<Arc<Tile>>>, OutOf
     ensures { IfOk result (λ v. v.items ≡ replicate count None) }
 {
     let mut tiles = Vec::new(alloc);
-    for _ in 0..count {
+    for _i in 0..count {
         tiles.push(None)?;
     }
     Ok(tiles)
