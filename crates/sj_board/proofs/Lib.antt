@@ -1,1 +1,3 @@
 pub mod Lists
+pub mod Next
+pub mod Room

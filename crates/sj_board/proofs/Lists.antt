@@ -1,8 +1,8 @@
 -- What a task wrote, taken from the end of its frame, and put in the places of its cells.
-use Rattle.std.proofs.Common.{◌≡◌, ◌≢◌, ℕ, zero, suc, ◌+◌, ◌<◌, Bool, true, false, cond, List, [], ◌∷◌, ◌++◌, map, length, get_or, set, refl, sym, ap, ◌∙◌, Option, Some, None, arith}
+use Rattle.std.proofs.Common.{◌≡◌, ◌≢◌, ℕ, zero, suc, ◌+◌, ◌<◌, Bool, true, false, cond, List, [], ◌∷◌, ◌++◌, map, length, get_or, set, refl, sym, ap, ◌∙◌, subst, Option, Some, None, arith}
 use Rattle.std.specs.Prelude.{All, option_map, slice_set}
 use Rattle.std.specs.List.{filter, zip, find}
-use Rattle.std.proofs.lemmas.List.{length-append, length-set, map-append, append-nil, length-map, map-set, append_assoc}
+use Rattle.std.proofs.lemmas.List.{length-append, length-set, length_push, get_or_append_left, map-append, append-nil, length-map, map-set, append_assoc}
 use Rattle.std.proofs.lemmas.List.Elements.{filter-append}
 use Rattle.sj_base.specs.declared.ids.Cell.{Cell}
 use Rattle.sj_base.specs.declared.mode.Access.{Access}
@@ -13,6 +13,8 @@ use Rattle.sj_codelet.specs.declared.formal.Formal.TheVariants.{R, W, RW, Scratc
 use Rattle.sj_codelet.specs.Frame.{Slot, shared, own, arrays, written}
 use Rattle.sj_core.specs.Program.{is_written, has_cell, same_cell}
 use Rattle.sj_core.specs.Fold.{held_in}
+use Rattle.std.proofs.lemmas.Bool.{false≢true}
+use Rattle.sj_board.specs.Operands.{is_output}
 use Rattle.sj_board.specs.Tiles.{outputs_among, put_all, AreShared}
 
 -- ---- the cells that a list of accesses writes, and one access more
@@ -42,14 +44,70 @@ length-put_all (c ∷ cs) (x ∷ xs) old = length-set (put_all cs xs old) c.0 (S
 
 -- ---- the written operands of a frame, and one operand more
 
-pub written-push : (fs : List Formal) (slots : List Slot) (f : Formal) (s : Slot) → length fs ≡ length slots → written (fs ++ f ∷ []) (slots ++ s ∷ []) ≡ written fs slots ++ written (f ∷ []) (s ∷ [])
-written-push [] [] f s h = refl
-written-push [] (x ∷ slots) f s h = absurd (omega arith)
-written-push (R ∷ fs) [] f s h = absurd (omega arith)
-written-push (W ∷ fs) [] f s h = absurd (omega arith)
-written-push (RW ∷ fs) [] f s h = absurd (omega arith)
-written-push (Scratch ∷ fs) [] f s h = absurd (omega arith)
-written-push (R ∷ fs) (x ∷ slots) f s h = written-push fs slots f s (omega arith)
-written-push (Scratch ∷ fs) (x ∷ slots) f s h = written-push fs slots f s (omega arith)
-written-push (W ∷ fs) (x ∷ slots) f s h = ap (λ (l : List Array). x.array ∷ l) (written-push fs slots f s (omega arith))
-written-push (RW ∷ fs) (x ∷ slots) f s h = ap (λ (l : List Array). x.array ∷ l) (written-push fs slots f s (omega arith))
+pub written_output : (fs : List Formal) (slots : List Slot) (f : Formal) (s : Slot) → length fs ≡ length slots → is_output f ≡ true → written (fs ++ f ∷ []) (slots ++ s ∷ []) ≡ written fs slots ++ s.array ∷ []
+written_output [] [] R s h o = absurd (false≢true o)
+written_output [] [] Scratch s h o = absurd (false≢true o)
+written_output [] [] W s h o = refl
+written_output [] [] RW s h o = refl
+written_output [] (x ∷ slots) f s h o = absurd (omega arith)
+written_output (g ∷ fs) [] f s h o = absurd (omega arith)
+written_output (R ∷ fs) (x ∷ slots) f s h o = written_output fs slots f s (omega arith) o
+written_output (Scratch ∷ fs) (x ∷ slots) f s h o = written_output fs slots f s (omega arith) o
+written_output (W ∷ fs) (x ∷ slots) f s h o = ap (λ (l : List Array). x.array ∷ l) (written_output fs slots f s (omega arith) o)
+written_output (RW ∷ fs) (x ∷ slots) f s h o = ap (λ (l : List Array). x.array ∷ l) (written_output fs slots f s (omega arith) o)
+
+pub written_input : (fs : List Formal) (slots : List Slot) (f : Formal) (s : Slot) → length fs ≡ length slots → is_output f ≡ false → written (fs ++ f ∷ []) (slots ++ s ∷ []) ≡ written fs slots
+written_input [] [] R s h o = refl
+written_input [] [] Scratch s h o = refl
+written_input [] [] W s h o = absurd (false≢true (sym o))
+written_input [] [] RW s h o = absurd (false≢true (sym o))
+written_input [] (x ∷ slots) f s h o = absurd (omega arith)
+written_input (g ∷ fs) [] f s h o = absurd (omega arith)
+written_input (R ∷ fs) (x ∷ slots) f s h o = written_input fs slots f s (omega arith) o
+written_input (Scratch ∷ fs) (x ∷ slots) f s h o = written_input fs slots f s (omega arith) o
+written_input (W ∷ fs) (x ∷ slots) f s h o = ap (λ (l : List Array). x.array ∷ l) (written_input fs slots f s (omega arith) o)
+written_input (RW ∷ fs) (x ∷ slots) f s h o = ap (λ (l : List Array). x.array ∷ l) (written_input fs slots f s (omega arith) o)
+
+-- ---- one step of taking a frame apart
+
+counts : (before : List Access) (last : Access) → is_written last.mode ≡ true → length (outputs_among (before ++ last ∷ [])) ≡ length (outputs_among before) + 1
+counts before last h = ap length (outputs_written before last h) ∙ length_push (outputs_among before) last.cell
+
+pub counted-before : (accesses before : List Access) (last : Access) (slots rest : List Slot) (s : Slot) → accesses ≡ before ++ last ∷ [] → slots ≡ rest ++ s ∷ [] → is_written last.mode ≡ true → length slots ≡ length (outputs_among accesses) → length rest ≡ length (outputs_among before)
+counted-before accesses before last slots rest s e f h count =
+    let n : length (outputs_among accesses) ≡ length (outputs_among before) + 1 = ap (λ (l : List Access). length (outputs_among l)) e ∙ counts before last h in
+    let k : length slots ≡ length rest + 1 = ap length f ∙ length_push rest s in
+    omega arith
+
+pub All-front : {X : Type 0} (P : X → Type 0) (xs ys : List X) (x : X) → xs ≡ ys ++ x ∷ [] → All P xs → All P ys
+All-front P xs ys x e all =
+    λ k d h. let n : length xs ≡ length ys + 1 = ap length e ∙ length_push ys x in
+    subst P (ap (λ l. get_or l k d) e ∙ get_or_append_left ys (x ∷ []) d k h) (all k d (omega arith))
+
+pub put_back-skips : (accesses before : List Access) (last : Access) (xs : List Array) (old new : List (Option Array)) → accesses ≡ before ++ last ∷ [] → is_written last.mode ≡ false → new ≡ put_all (outputs_among before) xs old → new ≡ put_all (outputs_among accesses) xs old
+put_back-skips accesses before last xs old new e h f = f ∙ ap (λ (cs : List Cell). put_all cs xs old) (sym (ap outputs_among e ∙ outputs_unwritten before last h))
+
+pub put_back-puts : (accesses before : List Access) (last : Access) (slots rest : List Slot) (x : Array) (old new : List (Option Array)) → accesses ≡ before ++ last ∷ [] → slots ≡ rest ++ shared x ∷ [] → is_written last.mode ≡ true → length slots ≡ length (outputs_among accesses) →
+    new ≡ put_all (outputs_among before) (arrays rest) (set old last.cell.0 (Some x)) → new ≡ put_all (outputs_among accesses) (arrays slots) old
+put_back-puts accesses before last slots rest x old new e f h count g =
+    let a : arrays slots ≡ arrays rest ++ x ∷ [] = ap arrays f ∙ map-append (λ (s : Slot). s.array) rest (shared x ∷ []) in
+    let n : length (outputs_among before) ≡ length (arrays rest) = sym (counted-before accesses before last slots rest (shared x) e f h count) ∙ sym (length-map rest (λ (s : Slot). s.array)) in
+    g ∙ sym (put_all-push (outputs_among before) (arrays rest) last.cell x old n) ∙ ap (λ (cs : List Cell). put_all cs (arrays rest ++ x ∷ []) old) (sym (ap outputs_among e ∙ outputs_written before last h))
+    ∙ ap (λ (xs : List Array). put_all (outputs_among accesses) xs old) (sym a)
+
+pub share-skips : (formals before : List Formal) (f : Formal) (slots rest : List Slot) (s : Slot) (out new : List Slot) → formals ≡ before ++ f ∷ [] → slots ≡ rest ++ s ∷ [] → length formals ≡ length slots → is_output f ≡ false →
+    new ≡ out ++ map shared (written before rest) → new ≡ out ++ map shared (written formals slots)
+share-skips formals before f slots rest s out new e g n h k =
+    let m : length before ≡ length rest = omega (arith, ap length e, ap length g, length_push before f, length_push rest s) in
+    let w : written formals slots ≡ written before rest = ap (λ (fs : List Formal). written fs slots) e ∙ ap (written (before ++ f ∷ [])) g ∙ written_input before rest f s m h in
+    k ∙ ap (λ (xs : List Array). out ++ map shared xs) (sym w)
+
+pub share-adds : (formals before : List Formal) (f : Formal) (slots rest : List Slot) (s : Slot) (out new more : List Slot) (x : Array) → formals ≡ before ++ f ∷ [] → slots ≡ rest ++ s ∷ [] → length formals ≡ length slots → is_output f ≡ true →
+    new ≡ out ++ map shared (written before rest) → more ≡ new ++ shared x ∷ [] → x ≡ s.array → more ≡ out ++ map shared (written formals slots)
+share-adds formals before f slots rest s out new more x e g n h k j i =
+    let m : length before ≡ length rest = omega (arith, ap length e, ap length g, length_push before f, length_push rest s) in
+    let w : written formals slots ≡ written before rest ++ s.array ∷ [] = ap (λ (fs : List Formal). written fs slots) e ∙ ap (written (before ++ f ∷ [])) g ∙ written_output before rest f s m h in
+    j ∙ ap (λ (l : List Slot). l ++ shared x ∷ []) k ∙ append_assoc out (map shared (written before rest)) (shared x ∷ [])
+    ∙ ap (λ (a : Array). out ++ (map shared (written before rest) ++ shared a ∷ [])) i
+    ∙ ap (λ (l : List Slot). out ++ l) (sym (map-append shared (written before rest) (s.array ∷ [])))
+    ∙ ap (λ (xs : List Array). out ++ map shared xs) (sym w)

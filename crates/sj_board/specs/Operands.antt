@@ -5,6 +5,8 @@ use Rattle.sj_base.specs.declared.ids.Cell.{Cell}
 use Rattle.sj_base.specs.declared.ids.Task.{Task}
 use Rattle.sj_base.specs.declared.mode.Access.{Access}
 use Rattle.sj_base.specs.declared.mode.Mode.TheVariants.{R, W, RW, Scratch, Redux, Commute}
+use Rattle.sj_codelet.specs.declared.formal.Formal.{Formal}
+use Rattle.sj_codelet.specs.declared.formal.Formal.TheVariants.{W as WriteFormal, RW as UpdateFormal}
 use Rattle.sj_base.specs.declared.program.Codelet.{Codelet}
 use Rattle.sj_base.specs.declared.program.Lowered.{Lowered}
 use Rattle.sj_base.specs.declared.program.Program.{Program}
@@ -44,6 +46,12 @@ outputs l = map (λ a. a.cell) (written_operands l)
 abbrev pub with_arrays : Program → List Cell → List Array → List (Option Array) → List (Option Array)
 with_arrays p cells news arrays =
     renewed (λ n old. let c : Cell = record { 0 = n } in if has_cell cells c then Some (held_in p (zip cells news) c) else old) arrays
+
+-- an operand of this mode gets a new value
+abbrev pub is_output : Formal → Bool
+is_output WriteFormal = true
+is_output UpdateFormal = true
+is_output _ = false
 
 -- the codelet's kernel hands its operand over
 abbrev pub is_delivery : Codelet → Bool
