@@ -53,13 +53,13 @@ is_output WriteFormal = true
 is_output UpdateFormal = true
 is_output _ = false
 
--- the codelet's kernel hands its operand over
+abbrev pub is_deliver : Kernel → Bool
+is_deliver Deliver = true
+is_deliver _ = false
+
+-- the codelet hands its operand over
 abbrev pub is_delivery : Codelet → Bool
 is_delivery id = elim (kernel_of id) [ None ↦ false | Some k ↦ is_deliver k ]
-  where
-    is_deliver : Kernel → Bool
-    is_deliver Deliver = true
-    is_deliver _ = false
 
 -- the cell of a task's first operand
 abbrev pub first_cell : Lowered → Cell
@@ -73,13 +73,9 @@ gift_for p arrays l = if is_delivery l.codelet then Some (kept p arrays (first_c
 abbrev pub is_deliver_task : Program → Task → Bool
 is_deliver_task p t = is_delivery (task_of p t).codelet
 
--- the cell whose array a deliver task hands over
-abbrev pub delivered_cell : Program → Task → Cell
-delivered_cell p t = slice_index_or (cells_of p t (record { 0 = 0 })) 0 (record { 0 = 0 })
-
--- what a task hands over as it ends: its operand's array where it is a deliver task
+-- the pairs that a task hands over as it ends: one where it is a deliver task
 abbrev pub handed : Program → List (Option Array) → Task → List (Task × Array)
-handed p arrays t = if is_deliver_task p t then (t, kept p arrays (delivered_cell p t)) ∷ [] else []
+handed p arrays t = elim (gift_for p arrays (task_of p t)) [ None ↦ [] | Some a ↦ (t, a) ∷ [] ]
 
 -- the set has the codelet
 abbrev pub has_codelet : (Kernel → Bool) → Codelet → Bool
