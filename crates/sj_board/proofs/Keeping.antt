@@ -1,7 +1,7 @@
 -- What a board keeps, kept by each of its events.
 use Rattle.std.proofs.Common.{◌≡◌, ◌≢◌, ℕ, zero, suc, ◌+◌, ◌<◌, ◌≤◌, Bool, true, false, not, ◌||◌, cond, List, [], ◌∷◌, ◌++◌, map, length, get_or, set, refl, sym, ap, ◌∙◌, subst, inl, inr, ◌⊎◌, Option, None, Some, arith, unwrap_or}
 use Rattle.std.specs.Prelude.{IsTrue, All, filter, filter_map, if◌then◌else◌, is_some, replicate}
-use Rattle.std.specs.List.{list_all, range_with_len, zip}
+use Rattle.std.specs.List.{Contains, list_all, range_with_len, zip}
 use Rattle.std.proofs.lemmas.Bool.{cases_lt, false≢true}
 use Rattle.std.proofs.lemmas.List.{append-nil, get_or-replicate, get_or-set_other, get_or-set_same, get_or_past, length-replicate, length-set, map-append}
 use Rattle.std.proofs.lemmas.List.Elements.{All-nil, All-push, filter-append, filter_map-append}
@@ -33,7 +33,7 @@ use Rattle.sj_core.proofs.Tables.{length-renewed, renewed-at}
 use Rattle.sj_board.specs.Board.{CanBeClaimed, IsIdle, Standing, HasDelivered, ended_tasks, ends, progress_of, standing}
 use Rattle.sj_board.specs.Delivered.{Deliveries}
 use Rattle.sj_board.specs.Inside.{Keeps, events_to_come, gift_of}
-use Rattle.sj_board.specs.Operands.{first_cell, gift_for, handed, is_deliver_task, kept, news_of, outputs, with_arrays}
+use Rattle.sj_board.specs.Operands.{first_cell, gift_for, handed, handed_by, is_deliver_task, kept, news_of, outputs, with_arrays}
 use Rattle.sj_board.specs.Plain.{IsBoardFor}
 use Rattle.sj_board.specs.Stands.{Stands}
 use Rattle.sj_board.proofs.Dims.{deliver-reads, held-dims, news-dims}
@@ -89,14 +89,14 @@ ending p arrays trace delivered t w is_given has = by_cases (is_deliver_task p t
     by_cases : (b : Bool) → is_deliver_task p t ≡ b → HasDelivered p (trace ++ End t w ∷ []) (delivered ++ handed p arrays t)
     by_cases true h =
         let a = kept p arrays (first_cell (task_of p t)) in
-        let one : handed p arrays t ≡ (t, a) ∷ [] = ap (λ b. elim (if b then Some a else None) as (λ _. List (Task × Array)) [ None ↦ [] | Some x ↦ (t, x) ∷ [] ]) h in
+        let one : handed p arrays t ≡ (t, a) ∷ [] = ap (λ b. handed_by t (if b then Some a else None)) h in
         subst (λ (l : List (Task × Array)). HasDelivered p (trace ++ End t w ∷ []) (delivered ++ l)) (sym one) (record {
           each = All-push (λ (d : Task × Array). d.1 ≡ given p d.0) delivered (t, a) has.each (is_given h);
           in_order = map-append (λ (d : Task × Array). d.0) delivered ((t, a) ∷ []) ∙ ap (λ (l : List Task). l ++ t ∷ []) has.in_order
           ∙ ap (λ b. filter (is_deliver_task p) (ended_tasks trace) ++ cond b (t ∷ []) []) (sym h) ∙ sym (filter-append (is_deliver_task p) (ended_tasks trace) (t ∷ [])) ∙ ap (filter (is_deliver_task p)) (sym more);
         })
     by_cases false h =
-        let none : handed p arrays t ≡ [] = ap (λ b. elim (if b then Some (kept p arrays (first_cell (task_of p t))) else None) as (λ _. List (Task × Array)) [ None ↦ [] | Some x ↦ (t, x) ∷ [] ]) h in
+        let none : handed p arrays t ≡ [] = ap (λ b. handed_by t (if b then Some (kept p arrays (first_cell (task_of p t))) else None)) h in
         subst (λ (l : List (Task × Array)). HasDelivered p (trace ++ End t w ∷ []) l) (sym (ap (λ (l : List (Task × Array)). delivered ++ l) none ∙ append-nil delivered)) (record {
           each = has.each;
           in_order = has.in_order ∙ sym (append-nil (filter (is_deliver_task p) (ended_tasks trace))) ∙ ap (λ b. filter (is_deliver_task p) (ended_tasks trace) ++ cond b (t ∷ []) []) (sym h)
@@ -163,4 +163,148 @@ module _ (b : Standing) (first : ℕ) (hand : Option Task) (gift : Option Array)
         | inr d ↦ absurd (false≢true (sym (free u v) ∙ ap (is_task_of v) (sym (set-there b.tasks t u (Claimed w) d) ∙ h) ∙ running-is v))
       ];
       delivered = subst (λ (es : List Event). HasDelivered b.program es delivered.pairs) (sym events) (subst (λ (ds : List (Task × Array)). HasDelivered b.program (b.trace ++ Claim t w ∷ []) ds) (sym pairs) (quiet b.program b.trace b.delivered (Claim t w) refl keeps.delivered));
+    }
+
+  -- the worker's task is the one in hand
+  module _ (t : Task) (held : hand ≡ Some t) where
+    other-free : (u : Task) → u ≢ t → (v : Worker) → is_task_of v (progress_of b u) ≡ false
+    other-free u d v = by_cases (is_task_of v (progress_of b u)) refl
+      where
+        by_cases : (x : Bool) → is_task_of v (progress_of b u) ≡ x → is_task_of v (progress_of b u) ≡ false
+        by_cases false e = e
+        by_cases true e = absurd (d (let k : Some u ≡ Some t = sym (keeps.in_hand u v e) ∙ held in cc))
+
+    pub in-hand-is : (u : Task) (v : Worker) → is_task_of v (progress_of b u) ≡ true → u ≡ t
+    in-hand-is u v h = let k : Some u ≡ Some t = sym (keeps.in_hand u v h) ∙ held in cc
+
+  -- a run
+  module _ (t : Task) (w : Worker) (claimed : progress_of b t ≡ Claimed w) (held : hand ≡ Some t) (new_gift : Option Array) (gives : new_gift ≡ gift_of b t) (trace : Recorded) (delivered : Deliveries) (events : trace.events ≡ b.trace ++ Run t w ∷ []) (left : trace.spare + 1 ≡ spare) (pairs : delivered.pairs ≡ b.delivered) where
+    run-in_table : t.0 < length b.tasks
+    run-in_table = begun-inside b.tasks t (ap is_begun claimed)
+
+    abbrev after_running : Standing
+    after_running = standing b.program b.machine (set b.tasks t.0 (Running w)) b.arrays trace delivered
+
+    runs_here : progress_of after_running t ≡ Running w
+    runs_here = set-here b.tasks t (Running w) run-in_table
+
+    pub keeps-run : Keeps (standing b.program b.machine (set b.tasks t.0 (Running w)) b.arrays trace delivered) first hand new_gift trace.spare room
+    keeps-run = record {
+      fits = keeps.fits;
+      stands = subst (λ (es : List Event). Stands b.program b.machine (set b.tasks t.0 (Running w)) b.arrays es) (sym events) (stands-run b.program b.machine keeps.fits b.tasks b.arrays b.trace keeps.stands t w claimed);
+      every_task = length-set b.tasks t.0 (Running w) ∙ keeps.every_task;
+      every_cell = keeps.every_cell;
+      dims = keeps.dims;
+      upto = omega (arith, keeps.upto, length-set b.tasks t.0 (Running w));
+      done_below = λ u h. elim (same_task u t) [
+        | inl e ↦ absurd (false≢true (sym (ap is_done claimed) ∙ keeps.done_below t (subst (λ (k : Task). k.0 < first) e h)))
+        | inr d ↦ ap is_done (set-there b.tasks t u (Running w) d) ∙ keeps.done_below u h
+      ];
+      first_open = λ h. (let f : Task = record { 0 = first } in elim (same_task f t) [
+        | inl e ↦ ap (λ (k : Task). is_done (progress_of after_running k)) e ∙ ap is_done runs_here
+        | inr d ↦ ap is_done (set-there b.tasks t f (Running w) d) ∙ keeps.first_open (omega (arith, length-set b.tasks t.0 (Running w)))
+      ]);
+      in_hand = λ u v h. elim (same_task u t) [
+        | inl e ↦ held ∙ ap Some (sym e)
+        | inr d ↦ absurd (false≢true (sym (other-free t held u d v) ∙ ap (is_task_of v) (sym (set-there b.tasks t u (Running w) d)) ∙ h))
+      ];
+      room_events = λ u. elim (same_task u t) [
+        | inl e ↦ (let n : events_to_come (progress_of after_running u) ≡ 1 = ap (λ (k : Task). events_to_come (progress_of after_running k)) e ∙ ap events_to_come runs_here in let k = keeps.room_events t in let two : events_to_come (progress_of b t) ≡ 2 = ap events_to_come claimed in omega arith)
+        | inr d ↦ (let n : events_to_come (progress_of after_running u) ≡ 0 = ap events_to_come (set-there b.tasks t u (Running w) d) ∙ none-to-come (progress_of b u) (other-free t held u d) in omega arith)
+      ];
+      room_delivered = λ u h. keeps.room_delivered t (ap is_active claimed ∙ claimed-is w);
+      gifts = λ u v h. elim (same_task u t) [
+        | inl e ↦ gives ∙ ap (λ (k : Task). gift_of b k) (sym e)
+        | inr d ↦ absurd (false≢true (sym (other-free t held u d v) ∙ ap (is_task_of v) (sym (set-there b.tasks t u (Running w) d) ∙ h) ∙ running-is v))
+      ];
+      delivered = subst (λ (es : List Event). HasDelivered b.program es delivered.pairs) (sym events) (subst (λ (ds : List (Task × Array)). HasDelivered b.program (b.trace ++ Run t w ∷ []) ds) (sym pairs) (quiet b.program b.trace b.delivered (Run t w) refl keeps.delivered));
+    }
+
+  -- the kept arrays have their cells' dimensions
+  pub sized-at : (c : Cell) → (kept b.program b.arrays c).dims ≡ dims_of b.program c
+  sized-at c = by_cases (get_or b.arrays c.0 None) refl
+    where
+      by_cases : (o : Option Array) → get_or b.arrays c.0 None ≡ o → (kept b.program b.arrays c).dims ≡ dims_of b.program c
+      by_cases None e = ap (λ (x : Option Array). (unwrap_or x (zeros (dims_of b.program c))).dims) e
+      by_cases (Some a) e = ap (λ (x : Option Array). (unwrap_or x (zeros (dims_of b.program c))).dims) e ∙ keeps.dims c a e
+
+  -- an end
+  module _ (t : Task) (w : Worker) (running : progress_of b t ≡ Running w) (held : hand ≡ Some t) (new_first : ℕ) (new_gift : Option Array) (new_arrays : List (Option Array)) (trace : Recorded) (delivered : Deliveries)
+    (arrays_are : new_arrays ≡ with_arrays b.program (outputs (task_of b.program t)) (news_of b.program b.arrays t) b.arrays)
+    (events : trace.events ≡ b.trace ++ End t w ∷ []) (pairs : delivered.pairs ≡ b.delivered ++ handed b.program b.arrays t)
+    (from : first ≤ new_first) (limit : new_first ≤ length (set b.tasks t.0 (Done w)))
+    (passed : (k : ℕ) → first ≤ k → k < new_first → is_done (get_or (set b.tasks t.0 (Done w)) k Waiting) ≡ true)
+    (stops : new_first < length (set b.tasks t.0 (Done w)) → is_done (get_or (set b.tasks t.0 (Done w)) new_first Waiting) ≡ false) where
+    end-in_table : t.0 < length b.tasks
+    end-in_table = begun-inside b.tasks t (ap is_begun running)
+
+    pub end-inside : t.0 < length b.program.tasks
+    end-inside = subst (λ (n : ℕ). t.0 < n) keeps.every_task end-in_table
+
+    abbrev after_ended : Standing
+    after_ended = standing b.program b.machine (set b.tasks t.0 (Done w)) new_arrays trace delivered
+
+    done_here : progress_of after_ended t ≡ Done w
+    done_here = set-here b.tasks t (Done w) end-in_table
+
+    state-runs : progress keeps.stands.state t ≡ Running w
+    state-runs = ap (λ (xs : List Progress). get_or xs t.0 Waiting) keeps.stands.same_tasks ∙ running
+
+    all-free : (u : Task) (v : Worker) → is_task_of v (progress_of after_ended u) ≡ false
+    all-free u v = elim (same_task u t) [
+      | inl e ↦ ap (λ (k : Task). is_task_of v (progress_of after_ended k)) e ∙ ap (is_task_of v) done_here
+      | inr d ↦ ap (is_task_of v) (set-there b.tasks t u (Done w) d) ∙ other-free t held u d v
+    ]
+
+    given-is : is_deliver_task b.program t ≡ true → kept b.program b.arrays (first_cell (task_of b.program t)) ≡ given b.program t
+    given-is h =
+        let p = b.program in
+        let st = keeps.stands in
+        let reads = deliver-reads p keeps.fits.proper keeps.fits.plain t end-inside h in
+        let c = first_cell (task_of p t) in
+        let among : Contains (task_of p t).accesses (record { mode = R; cell = c }) = subst (λ l. Contains l (record { mode = R; cell = c })) (sym reads) (0, omega arith, refl) in
+        let upto = read-upto p b.machine keeps.fits st.state st.coherent t w state-runs (record { mode = R; cell = c }) among refl in
+        kept-there p b.machine keeps.fits b.tasks b.arrays b.trace st keeps.every_cell t w state-runs c upto
+        ∙ delivers p b.machine keeps.fits.proper (Proper-dependencies p keeps.fits.proper) keeps.fits.plain st.state st.coherent t w c reads (Works state-runs)
+
+    new-dims-at : (c : Cell) (a : Array) → get_or new_arrays c.0 None ≡ Some a → a.dims ≡ dims_of b.program c
+    new-dims-at c a e =
+        let p = b.program in
+        let cells = outputs (task_of p t) in
+        let news = news_of p b.arrays t in
+        let f : ℕ → Option Array → Option Array = λ k old. (let d : Cell = record { 0 = k } in if has_cell cells d then Some (held_in p (zip cells news) d) else old) in
+        let here : get_or (with_arrays p cells news b.arrays) c.0 None ≡ Some a = ap (λ (l : List (Option Array)). get_or l c.0 None) (sym arrays_are) ∙ e in
+        elim (cases_lt c.0 (length b.arrays)) [
+          | inl inside ↦ by_cases (has_cell cells c) (sym (renewed-at f b.arrays c.0 None inside) ∙ here)
+          | inr past ↦ absurd (let k : ◌≡◌ {A = Option Array} None (Some a) = sym (get_or_past (with_arrays p cells news b.arrays) c.0 None (omega (arith, length-renewed f b.arrays))) ∙ here in cc)
+        ]
+      where
+        by_cases : (x : Bool) → (if x then Some (held_in b.program (zip (outputs (task_of b.program t)) (news_of b.program b.arrays t)) c) else get_or b.arrays c.0 None) ≡ Some a → a.dims ≡ dims_of b.program c
+        by_cases true h =
+            let k : held_in b.program (zip (outputs (task_of b.program t)) (news_of b.program b.arrays t)) c ≡ a = cc in
+            ap (λ (x : Array). x.dims) (sym k) ∙ held-dims b.program (outputs (task_of b.program t)) (news_of b.program b.arrays t) c (news-dims b.program keeps.fits.proper keeps.fits.plain t end-inside b.arrays sized-at)
+        by_cases false h = keeps.dims c a h
+
+    pub keeps-end : Keeps (standing b.program b.machine (set b.tasks t.0 (Done w)) new_arrays trace delivered) new_first hand new_gift trace.spare delivered.spare
+    keeps-end = record {
+      fits = keeps.fits;
+      stands = subst (λ (es : List Event). Stands b.program b.machine (set b.tasks t.0 (Done w)) new_arrays es) (sym events)
+      (subst (λ (l : List (Option Array)). Stands b.program b.machine (set b.tasks t.0 (Done w)) l (b.trace ++ End t w ∷ [])) (sym arrays_are) (stands-end b.program b.machine keeps.fits b.tasks b.arrays b.trace keeps.stands keeps.every_cell t w state-runs));
+      every_task = length-set b.tasks t.0 (Done w) ∙ keeps.every_task;
+      every_cell = ap length arrays_are ∙ length-renewed (λ k old. (let d : Cell = record { 0 = k } in if has_cell (outputs (task_of b.program t)) d then Some (held_in b.program (zip (outputs (task_of b.program t)) (news_of b.program b.arrays t)) d) else old)) b.arrays ∙ keeps.every_cell;
+      dims = new-dims-at;
+      upto = limit;
+      done_below = λ u h. elim (cases_lt u.0 first) [
+        | inl low ↦ elim (same_task u t) [
+          | inl e ↦ ap (λ (k : Task). is_done (progress_of after_ended k)) e ∙ ap is_done done_here
+          | inr d ↦ ap is_done (set-there b.tasks t u (Done w) d) ∙ keeps.done_below u low
+        ]
+        | inr high ↦ passed u.0 high h
+      ];
+      first_open = stops;
+      in_hand = λ u v h. absurd (false≢true (sym (all-free u v) ∙ h));
+      room_events = λ u. (let n = none-to-come (progress_of after_ended u) (all-free u) in omega arith);
+      room_delivered = λ u h. absurd (false≢true (sym (all-free u (worker_of (progress_of after_ended u))) ∙ h));
+      gifts = λ u v h. absurd (false≢true (sym (all-free u v) ∙ ap (is_task_of v) h ∙ running-is v));
+      delivered = subst (λ (es : List Event). HasDelivered b.program es delivered.pairs) (sym events) (subst (λ (ds : List (Task × Array)). HasDelivered b.program (b.trace ++ End t w ∷ []) ds) (sym pairs) (ending b.program b.arrays b.trace b.delivered t w given-is keeps.delivered));
     }

@@ -73,9 +73,14 @@ gift_for p arrays l = if is_delivery l.codelet then Some (kept p arrays (first_c
 abbrev pub is_deliver_task : Program → Task → Bool
 is_deliver_task p t = is_delivery (task_of p t).codelet
 
+-- a task with what it hands over, if there is anything
+abbrev pub handed_by : Task → Option Array → List (Task × Array)
+handed_by t None = []
+handed_by t (Some a) = (t, a) ∷ []
+
 -- the pairs that a task hands over as it ends: one where it is a deliver task
 abbrev pub handed : Program → List (Option Array) → Task → List (Task × Array)
-handed p arrays t = elim (gift_for p arrays (task_of p t)) [ None ↦ [] | Some a ↦ (t, a) ∷ [] ]
+handed p arrays t = handed_by t (gift_for p arrays (task_of p t))
 
 -- the set has the codelet
 abbrev pub has_codelet : (Kernel → Bool) → Codelet → Bool

@@ -1,6 +1,6 @@
 //! The board: the core state of a run of a program, for one worker, on one memory node that holds all cells at once.
 
-ghost use Rattle.std.specs.Prelude.{◌≡◌, ◌↔◌, ◌<◌, ◌≤◌, ℕ, Option, None, Some, true, false, IfErr, IfOk, IfSome, IsTrue, OnErr, OnOk, length, map, option_map, replicate, slice_index_or};
+ghost use Rattle.std.specs.Prelude.{◌≡◌, ◌↔◌, ◌<◌, ◌≤◌, ◌++◌, ℕ, Option, None, Some, true, false, IfErr, IfOk, IfSome, IsTrue, OnErr, OnOk, length, map, option_map, replicate, slice_index_or};
 ghost use Rattle.sj_base.specs.declared.ids.Task.{Task};
 ghost use Rattle.sj_codelet.specs.Frame.{shared};
 ghost use Rattle.sj_core.specs.Legal.{IsFinished, IsLegal};
@@ -8,7 +8,7 @@ ghost use Rattle.sj_core.specs.Machine.{is_done};
 ghost use Rattle.sj_core.specs.Program.{task_of};
 ghost use Rattle.sj_core.specs.declared.progress.Progress.TheVariants.{Waiting};
 ghost use Rattle.sj_board.specs.Board.{AreAllDone, CanBeClaimed, HasClaimed, HasDelivered, HasTaskClaimed, HasTaskRunning, IsIdle, IsNext, IsRunning, begun, claimed, ended, starting};
-ghost use Rattle.sj_board.specs.Operands.{CanRunOn, gift_for, news_of, slots_of};
+ghost use Rattle.sj_board.specs.Operands.{CanRunOn, gift_for, handed_by, news_of, slots_of};
 ghost use Rattle.sj_board.specs.Plain.{IsBoardFor};
 ghost use Rattle.sj_board.specs.Tiles.{CanHandOver, arrays_in};
 
@@ -90,6 +90,16 @@ fn gift_of(
     match &tiles[task.accesses.items()[0].cell.0 as usize] {
         Some(tile) => Ok(Some(tile.clone()?)),
         None => unreachable!(),
+    }
+}
+
+/// Appends what a task hands over, if there is anything. Constant time, and no memory.
+fn hand_over(delivered: &mut Delivered, task: Task, gift: Option<Arc<Tile>>)
+    requires { 0 < delivered.old.spare }
+    ensures { delivered.new.pairs ≡ delivered.old.pairs ++ handed_by task (option_map (λ t. t.value) gift) }
+{
+    if let Some(tile) = gift {
+        delivered.add(task, tile);
     }
 }
 
@@ -224,9 +234,8 @@ impl Board {
             self.program.tasks.items()[i].accesses.items(),
             &mut written,
         );
-        if let Some(tile) = self.gift.take() {
-            self.delivered.add(t, tile);
-        }
+        let gift = self.gift.take();
+        hand_over(&mut self.delivered, t, gift);
         self.trace.add(Event::End(t, w));
         self.tasks[i] = Progress::Done(w);
         self.first = first_open(&self.tasks, self.first);
