@@ -21,21 +21,24 @@ use Rattle.sj_core.specs.declared.progress.Progress.TheVariants.{Waiting, Claime
 use Rattle.sj_core.specs.Coherent.{is_active, is_begun}
 use Rattle.sj_core.specs.Fold.{given, held_in}
 use Rattle.sj_core.specs.Laws.{Works}
-use Rattle.sj_core.specs.Machine.{is_done, is_task_of, progress, worker_of}
+use Rattle.sj_core.specs.Legal.{Replays}
+use Rattle.sj_core.specs.Machine.{CellState, Invalid, WorkerState, array_of, is_done, is_task_of, no_replica, opening, progress, replica, worker_of}
 use Rattle.sj_core.specs.Needs.{node_of}
 use Rattle.sj_core.specs.Program.{dims_of, has_cell, task_of}
 use Rattle.sj_core.specs.Step.{array_at}
 use Rattle.sj_core.proofs.Advancing.{same_task, same_worker-refl}
 use Rattle.sj_core.proofs.Delivering.{delivers}
 use Rattle.sj_core.proofs.Dependencies.{Proper-dependencies}
+use Rattle.sj_core.proofs.Opening.{opening-coherent}
+use Rattle.sj_core.proofs.Reading.{idle_row, no_row}
 use Rattle.sj_core.proofs.Separation.{active-begun, task_of-active, task_of-worker}
 use Rattle.sj_core.proofs.Tables.{length-renewed, renewed-at}
-use Rattle.sj_board.specs.Board.{CanBeClaimed, IsIdle, Standing, HasDelivered, ended_tasks, ends, progress_of, standing}
+use Rattle.sj_board.specs.Board.{CanBeClaimed, IsIdle, Standing, HasDelivered, ended, ended_tasks, ends, progress_of, standing}
 use Rattle.sj_board.specs.Delivered.{Deliveries}
 use Rattle.sj_board.specs.Inside.{Keeps, events_to_come, gift_of}
 use Rattle.sj_board.specs.Operands.{first_cell, gift_for, handed, handed_by, is_deliver_task, kept, news_of, outputs, with_arrays}
 use Rattle.sj_board.specs.Plain.{IsBoardFor}
-use Rattle.sj_board.specs.Stands.{Stands}
+use Rattle.sj_board.specs.Stands.{Stands, the_worker}
 use Rattle.sj_board.proofs.Dims.{deliver-reads, held-dims, news-dims}
 use Rattle.sj_board.proofs.Next.{idle-at, staffed-at, worker-one}
 use Rattle.sj_board.proofs.Steps.{kept-there, read-upto, stands-claim, stands-end, stands-run}
@@ -63,7 +66,7 @@ claimed-is w = ap (λ b. b || false) (same_worker-refl w)
 running-is : (w : Worker) → is_task_of w (Running w) ≡ true
 running-is w = same_worker-refl w
 
-begun-inside : (xs : List Progress) (t : Task) → is_begun (get_or xs t.0 Waiting) ≡ true → t.0 < length xs
+pub begun-inside : (xs : List Progress) (t : Task) → is_begun (get_or xs t.0 Waiting) ≡ true → t.0 < length xs
 begun-inside xs t h =
     elim (cases_lt t.0 (length xs)) [
       | inl inside ↦ inside
@@ -308,3 +311,64 @@ module _ (b : Standing) (first : ℕ) (hand : Option Task) (gift : Option Array)
       gifts = λ u v h. absurd (false≢true (sym (all-free u v) ∙ ap (is_task_of v) h ∙ running-is v));
       delivered = subst (λ (es : List Event). HasDelivered b.program es delivered.pairs) (sym events) (subst (λ (ds : List (Task × Array)). HasDelivered b.program (b.trace ++ End t w ∷ []) ds) (sym pairs) (ending b.program b.arrays b.trace b.delivered t w given-is keeps.delivered));
     }
+
+-- ---- what an end makes of a board, told part by part
+
+pub ended-is : (b : Standing) (t : Task) (w : Worker) (new_arrays : List (Option Array)) (trace : Recorded) (delivered : Deliveries) → new_arrays ≡ with_arrays b.program (outputs (task_of b.program t)) (news_of b.program b.arrays t) b.arrays →
+    trace.events ≡ b.trace ++ End t w ∷ [] → delivered.pairs ≡ b.delivered ++ handed b.program b.arrays t → standing b.program b.machine (set b.tasks t.0 (Done w)) new_arrays trace delivered ≡ ended b t w
+ended-is b t w new_arrays trace delivered e f g =
+    let made : List (Option Array) → List Event → List (Task × Array) → Standing = λ arrays events pairs. record { program = b.program; machine = b.machine; tasks = set b.tasks t.0 (Done w); arrays = arrays; trace = events; delivered = pairs } in
+    ap (λ (l : List (Option Array)). made l trace.events delivered.pairs) e
+    ∙ ap (λ (l : List Event). made (with_arrays b.program (outputs (task_of b.program t)) (news_of b.program b.arrays t) b.arrays) l delivered.pairs) f
+    ∙ ap (λ (l : List (Task × Array)). made (with_arrays b.program (outputs (task_of b.program t)) (news_of b.program b.arrays t) b.arrays) (b.trace ++ End t w ∷ []) l) g
+
+-- ---- the beginning
+
+replicated : {X : Type 0} (n i : ℕ) (x : X) → get_or (replicate n x) i x ≡ x
+replicated n i x =
+    elim (cases_lt i n) [
+      | inl h ↦ get_or-replicate n i x x h
+      | inr h ↦ get_or_past (replicate n x) i x (omega (arith, length-replicate n x))
+    ]
+
+module _ (p : Program) (m : Machine) (fit : IsBoardFor p m) (tasks : List Progress) (arrays : List (Option Array)) (trace : Recorded) (delivered : Deliveries) (waits : tasks ≡ replicate (length p.tasks) Waiting) (none : arrays ≡ replicate (length p.cells) None) (quiet_yet : trace.events ≡ []) (nothing_yet : delivered.pairs ≡ []) where
+  waiting-at : (u : Task) → get_or tasks u.0 Waiting ≡ Waiting
+  waiting-at u = ap (λ (l : List Progress). get_or l u.0 Waiting) waits ∙ replicated (length p.tasks) u.0 Waiting
+
+  no-array : (c : Cell) → get_or arrays c.0 None ≡ None
+  no-array c = ap (λ (l : List (Option Array)). get_or l c.0 None) none ∙ replicated (length p.cells) c.0 None
+
+  no-replica : (c : Cell) → array_of (replica (opening p m) c (AtNode (node_of m the_worker))) ≡ None
+  no-replica c =
+      let k = (node_of m the_worker).0 in
+      elim (cases_lt c.0 (length p.cells)) [
+        | inl inside ↦ ap (λ (row : CellState). array_of (get_or row.nodes k Invalid)) (get_or-replicate (length p.cells) c.0 (no_replica m) no_row inside) ∙ ap array_of (replicated (length m.nodes) k Invalid)
+        | inr past ↦ ap (λ (row : CellState). array_of (get_or row.nodes k Invalid)) (get_or_past (replicate (length p.cells) (no_replica m)) c.0 no_row (omega (arith, length-replicate (length p.cells) (no_replica m))))
+      ]
+
+  pub keeps-make : Keeps (standing p m tasks arrays trace delivered) 0 None None trace.spare delivered.spare
+  keeps-make = record {
+    fits = fit;
+    stands = record {
+      state = opening p m;
+      replays = subst (λ (es : List Event). Replays p m es (opening p m)) (sym quiet_yet) refl;
+      coherent = opening-coherent p m;
+      same_tasks = sym waits;
+      agrees = λ c upto. no-array c ∙ sym (no-replica c);
+      only_runs = λ w. record {
+        no_victims = ap (λ (r : WorkerState). r.victims) (replicated m.workers w.0 idle_row);
+        no_transfer = ap (λ (r : WorkerState). r.transfer) (replicated m.workers w.0 idle_row);
+      };
+    };
+    every_task = ap length waits ∙ length-replicate (length p.tasks) Waiting;
+    every_cell = ap length none ∙ length-replicate (length p.cells) None;
+    dims = λ c a e. absurd (let k : ◌≡◌ {A = Option Array} None (Some a) = sym (no-array c) ∙ e in cc);
+    upto = omega arith;
+    done_below = λ u h. absurd (omega arith);
+    first_open = λ h. ap is_done (waiting-at (record { 0 = 0 }));
+    in_hand = λ u v h. absurd (false≢true (ap (is_task_of v) (sym (waiting-at u)) ∙ h));
+    room_events = λ u. (let n : events_to_come (get_or tasks u.0 Waiting) ≡ 0 = ap events_to_come (waiting-at u) in omega arith);
+    room_delivered = λ u h. absurd (false≢true (ap is_active (sym (waiting-at u)) ∙ h));
+    gifts = λ u v h. absurd (let k : Waiting ≡ Running v = sym (waiting-at u) ∙ h in cc);
+    delivered = subst (λ (es : List Event). HasDelivered p es delivered.pairs) (sym quiet_yet) (subst (λ (ds : List (Task × Array)). HasDelivered p [] ds) (sym nothing_yet) (record { each = All-nil (λ (d : Task × Array). d.1 ≡ given p d.0); in_order = refl }));
+  }

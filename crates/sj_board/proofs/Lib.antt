@@ -2,6 +2,7 @@ pub mod Lists
 pub mod Dims
 pub mod Frames
 pub mod Given
+pub mod Giving
 pub mod Keeping
 pub mod Next
 pub mod Room

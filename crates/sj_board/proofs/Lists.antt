@@ -1,8 +1,8 @@
 -- What a task wrote, taken from the end of its frame, and put in the places of its cells.
-use Rattle.std.proofs.Common.{◌≡◌, ◌≢◌, ℕ, zero, suc, ◌+◌, ◌<◌, Bool, true, false, cond, List, [], ◌∷◌, ◌++◌, map, length, get_or, set, refl, sym, ap, ◌∙◌, subst, Option, Some, None, arith}
-use Rattle.std.specs.Prelude.{All, option_map, slice_set}
+use Rattle.std.proofs.Common.{◌≡◌, ◌≢◌, ℕ, zero, suc, ◌+◌, ◌<◌, Bool, true, false, ◌||◌, cond, List, [], ◌∷◌, ◌++◌, map, length, get_or, set, refl, sym, ap, ◌∙◌, subst, Option, Some, None, arith}
+use Rattle.std.specs.Prelude.{All, if◌then◌else◌, option_map, slice_set}
 use Rattle.std.specs.List.{filter, zip, find}
-use Rattle.std.proofs.lemmas.List.{length-append, length-set, length_push, get_or_append_left, map-append, append-nil, length-map, map-set, append_assoc}
+use Rattle.std.proofs.lemmas.List.{ext_get_or, get_or-set_other, get_or-set_same, length-append, length-set, length_push, get_or_append_left, map-append, append-nil, length-map, map-set, append_assoc}
 use Rattle.std.proofs.lemmas.List.Elements.{filter-append}
 use Rattle.sj_base.specs.declared.ids.Cell.{Cell}
 use Rattle.sj_base.specs.declared.mode.Access.{Access}
@@ -14,7 +14,12 @@ use Rattle.sj_codelet.specs.Frame.{Slot, shared, own, arrays, written}
 use Rattle.sj_core.specs.Program.{is_written, has_cell, same_cell}
 use Rattle.sj_core.specs.Fold.{held_in}
 use Rattle.std.proofs.lemmas.Bool.{false≢true}
-use Rattle.sj_board.specs.Operands.{is_output}
+use Rattle.std.proofs.lemmas.Bool.Decides.{Decides-eqb}
+use Rattle.sj_base.specs.Array.{zeros}
+use Rattle.sj_core.specs.Program.{dims_of}
+use Rattle.sj_core.proofs.Reading.{same_cell-is}
+use Rattle.sj_core.proofs.Tables.{length-renewed, renewed-at}
+use Rattle.sj_board.specs.Operands.{is_output, with_arrays}
 use Rattle.sj_board.specs.Tiles.{outputs_among, put_all, AreShared}
 
 -- ---- the cells that a list of accesses writes, and one access more
@@ -111,3 +116,29 @@ share-adds formals before f slots rest s out new more x e g n h k j i =
     ∙ ap (λ (a : Array). out ++ (map shared (written before rest) ++ shared a ∷ [])) i
     ∙ ap (λ (l : List Slot). out ++ l) (sym (map-append shared (written before rest) (s.array ∷ [])))
     ∙ ap (λ (xs : List Array). out ++ map shared xs) (sym w)
+
+-- ---- the places after all are put
+
+module _ (p : Program) (old : List (Option Array)) (d : Cell) where
+  put_all-at : (cs : List Cell) (xs : List Array) → length cs ≡ length xs → d.0 < length old → get_or (put_all cs xs old) d.0 None ≡ (if has_cell cs d then Some (held_in p (zip cs xs) d) else get_or old d.0 None)
+  put_all-at [] [] n h = refl
+  put_all-at [] (x ∷ xs) n h = absurd (omega arith)
+  put_all-at (c ∷ cs) [] n h = absurd (omega arith)
+  put_all-at (c ∷ cs) (x ∷ xs) n h = by_cases (same_cell c d) refl (put_all-at cs xs (omega arith) h)
+    where
+      by_cases : (b : Bool) → same_cell c d ≡ b → get_or (put_all cs xs old) d.0 None ≡ (if has_cell cs d then Some (held_in p (zip cs xs) d) else get_or old d.0 None) →
+          get_or (set (put_all cs xs old) c.0 (Some x)) d.0 None ≡ (if same_cell c d || has_cell cs d then Some (elim (cond (same_cell c d) (Some (c, x)) (find (λ (entry : Cell × Array). same_cell entry.0 d) (zip cs xs))) as (λ _. Array) [ None ↦ zeros (dims_of p d) | Some entry ↦ entry.1 ]) else get_or old d.0 None)
+      by_cases true e rest =
+          let at : c.0 ≡ d.0 = ap (λ (k : Cell). k.0) (same_cell-is c d e) in
+          subst (λ i. get_or (set (put_all cs xs old) i (Some x)) d.0 None ≡ Some x) (sym at) (get_or-set_same (put_all cs xs old) d.0 (Some x) None (omega (arith, length-put_all cs xs old)))
+          ∙ ap (λ b. if b || has_cell cs d then Some (elim (cond b (Some (c, x)) (find (λ (entry : Cell × Array). same_cell entry.0 d) (zip cs xs))) as (λ _. Array) [ None ↦ zeros (dims_of p d) | Some entry ↦ entry.1 ]) else get_or old d.0 None) (sym e)
+      by_cases false e rest =
+          let other : d.0 ≢ c.0 = λ same. false≢true (sym e ∙ (Decides-eqb c.0 d.0).1 (sym same)) in
+          get_or-set_other (put_all cs xs old) c.0 d.0 (Some x) None other ∙ rest
+          ∙ ap (λ b. if b || has_cell cs d then Some (elim (cond b (Some (c, x)) (find (λ (entry : Cell × Array). same_cell entry.0 d) (zip cs xs))) as (λ _. Array) [ None ↦ zeros (dims_of p d) | Some entry ↦ entry.1 ]) else get_or old d.0 None) (sym e)
+
+pub put_all-is : (p : Program) (cs : List Cell) (xs : List Array) (old : List (Option Array)) → length cs ≡ length xs → put_all cs xs old ≡ with_arrays p cs xs old
+put_all-is p cs xs old n =
+    let f : ℕ → Option Array → Option Array = λ k kept. (let d : Cell = record { 0 = k } in if has_cell cs d then Some (held_in p (zip cs xs) d) else kept) in
+    ext_get_or None (put_all cs xs old) (with_arrays p cs xs old) (length-put_all cs xs old ∙ sym (length-renewed f old))
+    (λ i h. (let inside : i < length old = omega (arith, length-put_all cs xs old) in put_all-at p old (record { 0 = i }) cs xs n inside ∙ sym (renewed-at f old i None inside)))

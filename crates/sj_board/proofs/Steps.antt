@@ -166,7 +166,7 @@ module _ (p : Program) (m : Machine) (fit : IsBoardFor p m) where
   one : (w : Worker) → w.0 < p.workers → w.0 < 1
   one w h = subst (λ n. w.0 < n) fit.one_worker h
 
-  it-is : (w : Worker) → w.0 < p.workers → w ≡ the_worker
+  pub it-is : (w : Worker) → w.0 < p.workers → w ≡ the_worker
   it-is w h = worker-one w the_worker (one w h) (omega arith)
 
   -- the worker of a task that isn't waiting
@@ -311,7 +311,7 @@ module _ (p : Program) (m : Machine) (fit : IsBoardFor p m) (s : State) (sound :
 
 module _ (p : Program) (m : Machine) (fit : IsBoardFor p m) where
   -- where the one worker has a claimed task, none runs
-  none-runs : (s : State) → Coherent p m s → (t : Task) (w : Worker) → progress s t ≡ Claimed w → (u : Task) (v : Worker) → progress s u ≡ Running v → ⊥
+  pub none-runs : (s : State) → Coherent p m s → (t : Task) (w : Worker) → progress s t ≡ Claimed w → (u : Task) (v : Worker) → progress s u ≡ Running v → ⊥
   none-runs s sound t w claimed u v runs =
       let mine : is_task_of w (progress s t) ≡ true = ap (is_task_of w) claimed ∙ ap (λ b. b || false) (same_worker-refl w) in
       let w_in : w.0 < 1 = one p m fit w (subst (λ (x : Progress). (worker_of x).0 < p.workers) claimed (sound.state.staff.staffed t (ap is_begun claimed))) in

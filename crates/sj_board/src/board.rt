@@ -13,7 +13,7 @@ ghost use Rattle.sj_board.specs.Plain.{IsBoardFor};
 ghost use Rattle.sj_board.specs.Tiles.{CanHandOver, arrays_in};
 
 use crate::delivered::Delivered;
-use crate::operands::{frame_of, is_delivery, put_back};
+use crate::operands::{frame_of, is_delivery, put_back, task_at};
 use sj_base::ids::{Task, Worker};
 use sj_base::memory::OutOfMemory;
 use sj_base::program::{Lowered, Machine, Program};
@@ -208,18 +208,17 @@ impl Board {
         let Some(t) = self.hand else {
             unreachable!();
         };
-        let i = t.0 as usize;
-        let task = &self.program.tasks.items()[i];
+        let task = task_at(&self.program, t);
         let frame = frame_of(alloc, &self.program, &self.tiles, task.accesses.items())?;
         self.gift = gift_of(&self.program, &self.tiles, task)?;
         self.trace.add(Event::Run(t, w));
-        self.tasks[i] = Progress::Running(w);
+        self.tasks[t.0 as usize] = Progress::Running(w);
         Ok(frame)
     }
 
     /// The kernel of the worker's running task has ended. The frame has the tiles that it wrote, in order. No memory. Linear
     /// in the operands, and over all calls in the tasks.
-    pub fn end(&mut self, w: Worker, written: Frame)
+    pub fn end(&mut self, w: Worker, mut written: Frame)
         requires running { HasTaskRunning self.old w }
         requires written { (t : Task) → IsRunning self.old w t → written.slots ≡ map shared (news_of self.old.program self.old.arrays t) }
         ensures { (t : Task) → IsRunning self.old w t → self.new ≡ ended self.old t w }
@@ -227,17 +226,12 @@ impl Board {
         let Some(t) = self.hand else {
             unreachable!();
         };
-        let i = t.0 as usize;
-        let mut written = written;
-        put_back(
-            &mut self.tiles,
-            self.program.tasks.items()[i].accesses.items(),
-            &mut written,
-        );
+        let task = task_at(&self.program, t);
+        put_back(&mut self.tiles, task.accesses.items(), &mut written);
         let gift = self.gift.take();
         hand_over(&mut self.delivered, t, gift);
         self.trace.add(Event::End(t, w));
-        self.tasks[i] = Progress::Done(w);
+        self.tasks[t.0 as usize] = Progress::Done(w);
         self.first = first_open(&self.tasks, self.first);
     }
 

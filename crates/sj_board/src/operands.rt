@@ -3,13 +3,14 @@
 ghost use Rattle.std.specs.Prelude.{◌≡◌, ◌<◌, ◌++◌, ◌∷◌, [], All, IfOk, length, map, option_map};
 ghost use Rattle.sj_codelet.specs.Frame.{arrays, shared};
 ghost use Rattle.sj_codelet.specs.Slot.{slot_of};
-ghost use Rattle.sj_core.specs.Program.{is_written};
+ghost use Rattle.sj_core.specs.Program.{is_written, task_of};
 ghost use Rattle.sj_board.specs.Operands.{slot_for, is_delivery};
 ghost use Rattle.sj_board.specs.Tiles.{arrays_in, AreShared, CanGive, outputs_among, put_all};
 
+use sj_base::ids::Task;
 use sj_base::memory::OutOfMemory;
 use sj_base::mode::{Access, Mode};
-use sj_base::program::{Codelet, Program};
+use sj_base::program::{Codelet, Lowered, Program};
 use sj_base::tile::Tile;
 use sj_codelet::frame::{Frame, Operand};
 use sj_codelet::kernel::Kernel;
@@ -24,6 +25,14 @@ fn is_written(mode: Mode) -> bool
         Mode::R | Mode::Scratch => false,
         Mode::W | Mode::RW | Mode::Redux | Mode::Commute => true,
     }
+}
+
+/// A task of a program. Constant time.
+pub fn task_at(program: &Program, t: Task) -> &Lowered
+    requires { t.0 < length program.now.tasks }
+    ensures { result.now ≡ task_of program.now t }
+{
+    &program.tasks.items()[t.0 as usize]
 }
 
 /// Whether a codelet hands its operand over. Constant time.
