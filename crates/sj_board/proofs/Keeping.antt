@@ -33,7 +33,7 @@ use Rattle.sj_core.proofs.Opening.{opening-coherent}
 use Rattle.sj_core.proofs.Reading.{idle_row, no_row}
 use Rattle.sj_core.proofs.Separation.{active-begun, task_of-active, task_of-worker}
 use Rattle.sj_core.proofs.Tables.{length-renewed, renewed-at}
-use Rattle.sj_board.specs.Board.{CanBeClaimed, IsIdle, Standing, HasDelivered, ended, ended_tasks, ends, progress_of, standing}
+use Rattle.sj_board.specs.Board.{CanBeClaimed, IsIdle, Standing, HasDelivered, ended, ended_tasks, ends, progress_of, standing, starting}
 use Rattle.sj_board.specs.Delivered.{Deliveries}
 use Rattle.sj_board.specs.Inside.{Keeps, events_to_come, gift_of}
 use Rattle.sj_board.specs.Operands.{first_cell, gift_for, handed, handed_by, is_deliver_task, kept, news_of, outputs, with_arrays}
@@ -372,3 +372,15 @@ module _ (p : Program) (m : Machine) (fit : IsBoardFor p m) (tasks : List Progre
     gifts = λ u v h. absurd (let k : Waiting ≡ Running v = sym (waiting-at u) ∙ h in cc);
     delivered = subst (λ (es : List Event). HasDelivered p es delivered.pairs) (sym quiet_yet) (subst (λ (ds : List (Task × Array)). HasDelivered p [] ds) (sym nothing_yet) (record { each = All-nil (λ (d : Task × Array). d.1 ≡ given p d.0); in_order = refl }));
   }
+
+pub starting-is : (p : Program) (m : Machine) (tasks : List Progress) (arrays : List (Option Array)) (trace : Recorded) (delivered : Deliveries) → tasks ≡ replicate (length p.tasks) Waiting → arrays ≡ replicate (length p.cells) None → trace.events ≡ [] → delivered.pairs ≡ [] → standing p m tasks arrays trace delivered ≡ starting p m
+starting-is p m tasks arrays trace delivered e f g h =
+    let made : List Progress → List (Option Array) → List Event → List (Task × Array) → Standing = λ xs ys events pairs. record { program = p; machine = m; tasks = xs; arrays = ys; trace = events; delivered = pairs } in
+    ap (λ (l : List Progress). made l arrays trace.events delivered.pairs) e
+    ∙ ap (λ (l : List (Option Array)). made (replicate (length p.tasks) Waiting) l trace.events delivered.pairs) f
+    ∙ ap (λ (l : List Event). made (replicate (length p.tasks) Waiting) (replicate (length p.cells) None) l delivered.pairs) g
+    ∙ ap (λ (l : List (Task × Array)). made (replicate (length p.tasks) Waiting) (replicate (length p.cells) None) [] l) h
+
+pub map-replicate : {X Y : Type 0} (f : X → Y) (n : ℕ) (x : X) → map f (replicate n x) ≡ replicate n (f x)
+map-replicate f zero x = refl
+map-replicate f (suc n) x = ap (λ l. f x ∷ l) (map-replicate f n x)
