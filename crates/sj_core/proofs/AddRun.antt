@@ -272,3 +272,13 @@ is_its_machine = record { workers = refl; some_worker = lit≤ tt; few_workers =
 
 pub has_its_swap : HasSwapFor job machine
 has_its_swap = record { blocks_fit = refl }
+
+-- the job may also run on a machine without disks, from which nothing can be evicted
+abbrev diskless : Machine
+diskless = record machine { disks = [] }
+
+pub is_its_machine_without_disks : IsMachineFor job diskless
+is_its_machine_without_disks = record { workers = refl; some_worker = lit≤ tt; few_workers = lit≤ tt; some_node = lit≤ tt; few_nodes = lit≤ tt; few_disks = lit≤ tt }
+
+pub has_no_swap_without_disks : ¬ HasSwapFor job diskless
+has_no_swap_without_disks h = false≢true h.blocks_fit

@@ -2,7 +2,7 @@
 use Rattle.std.proofs.Common.{◌≡◌, ℕ, zero, suc, ◌+◌, ◌<◌, ◌≤◌, Bool, true, false, not, ◌&&◌, ◌||◌, cond, List, [], ◌∷◌, ◌++◌, map, length, refl, sym, ap, ◌∙◌, inl, inr, arith}
 use Rattle.std.specs.Prelude.{fold, sum_by, count_by, if◌then◌else◌}
 use Rattle.std.specs.List.{filter, range_with_len}
-use Rattle.std.proofs.lemmas.Bool.{cases_eq, false≢true}
+use Rattle.std.proofs.lemmas.Bool.{cases_eq, false≢true, and_parts, and_from}
 use Rattle.std.proofs.lemmas.Bool.Decides.{Decides-eqb}
 use Rattle.std.proofs.lemmas.List.Sums.{sum_by-cons, sum_by-append}
 use Rattle.sj_base.specs.declared.ids.Cell.{Cell}
@@ -33,22 +33,11 @@ same_cell-sym c d = same_test (same_cell c d) (same_cell d c) (λ h. same_cell-f
 
 -- ---- which cells a list has
 
-and_both : (a b : Bool) → a ≡ true → b ≡ true → (a && b) ≡ true
-and_both a b e f = ap (λ x. x && b) e ∙ f
-
-and_left : (a b : Bool) → (a && b) ≡ true → a ≡ true
-and_left true b h = refl
-and_left false b h = h
-
-and_right : (a b : Bool) → (a && b) ≡ true → b ≡ true
-and_right true b h = h
-and_right false b h = absurd (false≢true h)
-
 pub has_cell-filter_is : (f : Cell → Bool) (xs : List Cell) (c : Cell) → has_cell (filter f xs) c ≡ (f c && has_cell xs c)
 has_cell-filter_is f xs c =
     same_test (has_cell (filter f xs) c) (f c && has_cell xs c)
-    (λ h. let both = has_cell-filter f xs c h in and_both (f c) (has_cell xs c) both.0 both.1)
-    (λ h. filter-has_cell f xs c (and_left (f c) (has_cell xs c) h) (and_right (f c) (has_cell xs c) h))
+    (λ h. let both = has_cell-filter f xs c h in and_from (f c) (has_cell xs c) both.0 both.1)
+    (λ h. (let both = and_parts (f c) (has_cell xs c) h in filter-has_cell f xs c both.0 both.1))
 
 pub has_cell-to_front : (xs : List Cell) (d c : Cell) → has_cell (to_front xs d) c ≡ (same_cell d c || has_cell xs c)
 has_cell-to_front xs d c = by_cases (same_cell d c) refl

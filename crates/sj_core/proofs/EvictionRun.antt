@@ -20,6 +20,7 @@ use Rattle.sj_codelet.specs.Equations.{vector}
 use Rattle.sj_core.specs.Machine.{State, Valid, Invalid, with_transfer, with_replica, order, victims_of, opening, replica}
 use Rattle.sj_core.specs.Step.{Claims, BeginsMoveIn, BeginsMoveOut, EndsMove, Drops, Runs, Ends, a_transfer, array_at, after_claim, after_run, after_end}
 use Rattle.sj_core.specs.Legal.{Legal, IsComplete}
+use Rattle.sj_core.specs.Proper.{IsMachineFor, HasSwapFor}
 use Rattle.sj_core.proofs.Readiness.{Ready-from, EarlierAreDone-all}
 use Rattle.std.proofs.lemmas.Bool.{false≢true}
 use Rattle.sj_base.specs.declared.ids.Place.{Place}
@@ -59,6 +60,13 @@ job = record { cells = three_columns ∷ three_columns ∷ three_columns ∷ [];
 -- a node of 64 bytes: two vectors of 24 fit, three don't
 abbrev pub machine : Machine
 machine = record { workers = 1; nodes = 64 ∷ []; disks = 4096 ∷ []; policy = Eager }
+
+-- it is a machine of the job, and its disk takes all three
+pub is_its_machine : IsMachineFor job machine
+is_its_machine = record { workers = refl; some_worker = lit≤ tt; few_workers = lit≤ tt; some_node = lit≤ tt; few_nodes = lit≤ tt; few_disks = lit≤ tt }
+
+pub has_its_swap : HasSwapFor job machine
+has_its_swap = record { blocks_fit = refl }
 
 abbrev claimed : State → ℕ → List Cell → State
 claimed s n evicted = after_claim job machine s (task n) the_worker evicted

@@ -64,10 +64,10 @@ HasBlocks-kept p m s s' disks moves before = record {
   aimed = λ v x d under_way e. before.aimed v x d (sym (moves v) ∙ under_way) e;
 }
 
-place_differs : (k n : Node) → k ≢ n → not (same_place (AtNode k) (AtNode n)) ≡ true
+pub place_differs : (k n : Node) → k ≢ n → not (same_place (AtNode k) (AtNode n)) ≡ true
 place_differs k n d = ap not (not_true (nat_eq k.0 n.0) (λ e. d (ap (λ (i : ℕ). let j : Node = record { 0 = i } in j) ((Decides-eqb k.0 n.0).0 e))))
 
-places_differ : (k n : Node) → not (same_place (AtNode k) (AtNode n)) ≡ true → k ≢ n
+pub places_differ : (k n : Node) → not (same_place (AtNode k) (AtNode n)) ≡ true → k ≢ n
 places_differ k n h e = false≢true (sym (ap not ((Decides-eqb k.0 n.0).1 (ap (λ (j : Node). j.0) e))) ∙ h)
 
 -- ---- a claim
@@ -110,10 +110,10 @@ module _ (p : Program) (m : Machine) (s : State) (h : IsSound p m s) (t : Task) 
   pub claim-order_elsewhere : (k : Node) → k ≢ node_of m w → order s' k ≡ order s k
   claim-order_elsewhere k d = ap (λ (z : State). order z k) claim.leaves ∙ get_or-set_other s.orders (node_of m w).0 k.0 claim_order [] (λ e. d (ap (λ (i : ℕ). let j : Node = record { 0 = i } in j) e))
 
-  task-cell : (c : Cell) → has_cell (cells_of p t w) c ≡ true → c.0 < length s.cells
+  pub task-cell : (c : Cell) → has_cell (cells_of p t w) c ≡ true → c.0 < length s.cells
   task-cell = cell-inside p m h.proper.cells h.machine s h.coherent.state h.coherent.cells h.coherent.pins h.coherent.transfers h.coherent.workers t w s' claim
 
-  order-cell : (c : Cell) → has_cell (order s (node_of m w)) c ≡ true → c.0 < length s.cells
+  pub order-cell : (c : Cell) → has_cell (order s (node_of m w)) c ≡ true → c.0 < length s.cells
   order-cell c has = (entry-inside s c (node_of m w) (sym (h.coherent.state.entries.entries (node_of m w) c) ∙ has)).0
 
   -- a victim was not coming
@@ -123,7 +123,7 @@ module _ (p : Program) (m : Machine) (s : State) (h : IsSound p m s) (t : Task) 
       let here = h.coherent.pins.coming_here v c (node_of m w) coming in
       false≢true (sym (pin-spared p m h.proper.cells h.machine s h.coherent.state h.coherent.cells h.coherent.pins h.coherent.transfers h.coherent.workers t w s' claim v c pin (sym here)) ∙ evicted)
 
-  order-has : (c : Cell) → has_cell claim_order c ≡ (has_cell (cells_of p t w) c || (not (has_cell claim.evicted c) && has_cell (order s (node_of m w)) c))
+  pub order-has : (c : Cell) → has_cell claim_order c ≡ (has_cell (cells_of p t w) c || (not (has_cell claim.evicted c) && has_cell (order s (node_of m w)) c))
   order-has c = has_cell-fronted (cells_of p t w) (without claim.evicted (order s (node_of m w))) c ∙ ap (λ b. has_cell (cells_of p t w) c || b) (has_cell-without claim.evicted (order s (node_of m w)) c)
 
   claim-entries_here : (c : Cell) → has_cell claim_order c ≡ is_entry (replica s' c (AtNode (node_of m w)))

@@ -121,7 +121,7 @@ pub data Sharing (p : Program) (u t : Task) (v w : Worker) (c : Cell) : Type 0 w
   Contributing : v ≡ w → Sharing p u t v w c
 
 -- the operands of a REDUX access are cells of the program that have partial copies
-redux-has_copies : (p : Program) → NamesCells p → (t : Task) → t.0 < length p.tasks → (x : Mode) (d : Cell) → Contains (task_of p t).accesses (access x d) → is_redux x ≡ true → (d.0 < length p.cells) × ((first : Cell) × ((cell_info p d).partials ≡ Some first))
+pub redux-has_copies : (p : Program) → NamesCells p → (t : Task) → t.0 < length p.tasks → (x : Mode) (d : Cell) → Contains (task_of p t).accesses (access x d) → is_redux x ≡ true → (d.0 < length p.cells) × ((first : Cell) × ((cell_info p d).partials ≡ Some first))
 redux-has_copies p names t inside x d (k, l, e) redux =
     let here = names.named t.0 no_task inside k (access x d) l in
     let copies = names.reduced t.0 no_task inside k (access x d) l (ap (λ (a : Access). is_redux a.mode) e ∙ redux) in

@@ -334,7 +334,7 @@ coming-isn't_valid w (Coming v) h = refl
 coming-isn't_valid w (Valid a) h = sym h
 coming-isn't_valid w (Leaving v a) h = sym h
 
-leaving-isn't_resting : (w : Worker) (r : Replica) → is_leaving_by w r ≡ true → (v : Worker) × (a : Array) × (r ≡ Leaving v a)
+pub leaving-isn't_resting : (w : Worker) (r : Replica) → is_leaving_by w r ≡ true → (v : Worker) × (a : Array) × (r ≡ Leaving v a)
 leaving-isn't_resting w Invalid h = absurd (false≢true h)
 leaving-isn't_resting w (Coming v) h = absurd (false≢true h)
 leaving-isn't_resting w (Valid a) h = absurd (false≢true h)
@@ -430,7 +430,7 @@ module _ (p : Program) (m : Machine) (s : State) (t : Task) (w : Worker) (s' : S
         | inr d ↦ ap (λ (row : WorkerState). row.victims) (end-other_worker v d)
       ]
 
-  end-own_scratch : scratch s' w ≡ 0
+  pub end-own_scratch : scratch s' w ≡ 0
   end-own_scratch = elim end-own_worker [ inl own ↦ ap (λ (row : WorkerState). row.scratch) own | inr none ↦ ap (λ (row : WorkerState). row.scratch) none.1 ]
 
   running_task : is_task_of w (progress s t) ≡ true

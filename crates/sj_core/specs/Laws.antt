@@ -1,12 +1,15 @@
 -- What the steps of a task keep: laws of all proper programs, machines and coherent states.
 use Rattle.std.specs.Prelude.{◌≡◌, Bool, true, false, IsTrue, [], ◌∷◌, All, Contains}
+use Rattle.sj_base.specs.declared.ids.Cell.{Cell}
 use Rattle.sj_base.specs.declared.ids.Task.{Task}
+use Rattle.sj_base.specs.declared.ids.Node.{Node}
 use Rattle.sj_base.specs.declared.ids.Worker.{Worker}
 use Rattle.sj_base.specs.declared.mode.Mode.{Mode}
 use Rattle.sj_base.specs.declared.mode.Mode.TheVariants.{R, Redux, Commute}
 use Rattle.sj_base.specs.declared.mode.Access.{Access}
-use Rattle.sj_base.specs.declared.ids.Cell.{Cell}
 use Rattle.sj_base.specs.declared.ids.Place.TheVariants.{Node as AtNode}
+use Rattle.sj_base.specs.declared.ids.DiskNo.{DiskNo}
+use Rattle.sj_base.specs.declared.ids.Place.{Place}
 use Rattle.sj_base.specs.declared.program.Program.{Program}
 use Rattle.sj_base.specs.declared.program.Machine.{Machine}
 use Rattle.sj_deps.specs.Conflict.{HasDependencies}
@@ -17,7 +20,7 @@ use Rattle.sj_core.specs.Fold.{held_before, given}
 use Rattle.sj_core.specs.Machine.{State, progress, replica, is_valid}
 use Rattle.sj_core.specs.Proper.{Proper, IsMachineFor, reads_value, access}
 use Rattle.sj_core.specs.Coherent.{Coherent}
-use Rattle.sj_core.specs.Step.{Claims, Runs, Ends, array_at}
+use Rattle.sj_core.specs.Step.{Claims, Runs, Ends, array_at, BeginsMoveIn, BeginsMoveOut, EndsMove, Drops}
 
 -- a coherent state of a proper program on a machine for it
 pub record IsSound (p : Program) (m : Machine) (s : State) : Type 0 where
@@ -67,3 +70,18 @@ FindsEarlierTasks = (p : Program) (m : Machine) (s : State) (t : Task) (w : Work
 -- a task that reads one cell and does nothing else has on its worker's node the array that it hands over
 abbrev pub DeliversGiven : Type 0
 DeliversGiven = (p : Program) (m : Machine) (s : State) (t : Task) (w : Worker) (c : Cell) → IsSound p m s → HasPlainModes p → (task_of p t).accesses ≡ access R c ∷ [] → HasAtHand m s t w c → array_at p s (AtNode (node_of m w)) c ≡ given p t
+-- the fact holds after each move into a node that begins in a coherent state
+abbrev pub IsKeptByMovesIn : (Program → Machine → State → Type 0) → Type 0
+IsKeptByMovesIn Fact = (p : Program) (m : Machine) (s s' : State) (c : Cell) (from : Place) (n : Node) (w : Worker) → IsSound p m s → BeginsMoveIn p m s c from n w s' → Fact p m s'
+
+-- the fact holds after each move out to a disk that begins in a coherent state
+abbrev pub IsKeptByMovesOut : (Program → Machine → State → Type 0) → Type 0
+IsKeptByMovesOut Fact = (p : Program) (m : Machine) (s s' : State) (c : Cell) (from : Place) (d : DiskNo) (w : Worker) → IsSound p m s → BeginsMoveOut p m s c from d w s' → Fact p m s'
+
+-- the fact holds after each move that ends in a coherent state
+abbrev pub IsKeptByEndedMoves : (Program → Machine → State → Type 0) → Type 0
+IsKeptByEndedMoves Fact = (p : Program) (m : Machine) (s s' : State) (c : Cell) (from to : Place) (w : Worker) → IsSound p m s → EndsMove p s c from to w s' → Fact p m s'
+
+-- the fact holds after each drop in a coherent state
+abbrev pub IsKeptByDrops : (Program → Machine → State → Type 0) → Type 0
+IsKeptByDrops Fact = (p : Program) (m : Machine) (s s' : State) (c : Cell) (n : Node) → IsSound p m s → Drops m s c n s' → Fact p m s'

@@ -2,8 +2,8 @@
 
 ghost use Rattle.sj_base.specs.declared.program.Program.{Program};
 ghost use Rattle.sj_base.specs.declared.program.Machine.{Machine};
-ghost use Rattle.sj_core.specs.Coherent.{Coherent, CopiesAgree, IsStateOf, OrderIsKept, PinsHold, TasksHaveCells, TransfersAreSound, WorkersAreSound, WritersOwn, WritesAreCounted};
-ghost use Rattle.sj_core.specs.Laws.{DeliversGiven, FindsEarlierTasks, IsKeptByClaims, IsKeptByEnds, IsKeptByPlainEnds, IsKeptByRuns};
+ghost use Rattle.sj_core.specs.Coherent.{Coherent, CopiesAgree, IsStateOf, OrderIsKept, PinsHold, TasksHaveCells, TransfersAreSound, WorkersAreSound, WritersOwn, WritesAreCounted, NodesSuffice};
+ghost use Rattle.sj_core.specs.Laws.{DeliversGiven, FindsEarlierTasks, IsKeptByClaims, IsKeptByEnds, IsKeptByPlainEnds, IsKeptByRuns, IsKeptByDrops, IsKeptByEndedMoves, IsKeptByMovesIn, IsKeptByMovesOut};
 ghost use Rattle.sj_core.specs.Machine.{opening};
 ghost use Rattle.sj_core.specs.Proper.{Proper};
 ghost use Rattle.sj_deps.specs.Conflict.{HasDependencies};
@@ -28,6 +28,8 @@ pub fn claims()
     ensures writes_are_counted { IsKeptByClaims (λ p m s. WritesAreCounted p s) }
     ensures is_a_state { IsKeptByClaims IsStateOf }
     ensures copies_agree { IsKeptByClaims (λ p m s. CopiesAgree p s) }
+    ensures writers_own { IsKeptByClaims WritersOwn }
+    ensures nodes_suffice { IsKeptByClaims NodesSuffice }
 {}
 
 /// What the beginning of a kernel's run keeps.
@@ -40,6 +42,8 @@ pub fn runs()
     ensures writes_are_counted { IsKeptByRuns (λ p m s. WritesAreCounted p s) }
     ensures is_a_state { IsKeptByRuns IsStateOf }
     ensures copies_agree { IsKeptByRuns (λ p m s. CopiesAgree p s) }
+    ensures writers_own { IsKeptByRuns WritersOwn }
+    ensures nodes_suffice { IsKeptByRuns NodesSuffice }
 {}
 
 /// What the end of a kernel's run keeps.
@@ -53,10 +57,31 @@ pub fn ends()
     ensures is_a_state { IsKeptByEnds IsStateOf }
     ensures copies_agree { IsKeptByPlainEnds (λ p m s. CopiesAgree p s) }
     ensures writers_own { IsKeptByPlainEnds WritersOwn }
+    ensures nodes_suffice { IsKeptByEnds NodesSuffice }
 {}
 
 /// What a task finds on its worker's node: what all tasks before it, in submission order, have left in its cells.
 pub fn deliveries()
     ensures finds_earlier_tasks { FindsEarlierTasks }
     ensures delivers_given { DeliversGiven }
+{}
+
+/// A move into a node that begins keeps coherence whole.
+pub fn moves_in()
+    ensures { IsKeptByMovesIn Coherent }
+{}
+
+/// A move out to a disk that begins keeps coherence whole.
+pub fn moves_out()
+    ensures { IsKeptByMovesOut Coherent }
+{}
+
+/// A move that ends keeps coherence whole.
+pub fn ended_moves()
+    ensures { IsKeptByEndedMoves Coherent }
+{}
+
+/// A drop keeps coherence whole.
+pub fn drops()
+    ensures { IsKeptByDrops Coherent }
 {}

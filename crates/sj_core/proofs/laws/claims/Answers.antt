@@ -1,3 +1,5 @@
+use Rattle.sj_core.proofs.Bytes.{Claims-keeps_bytes}
+use Rattle.sj_core.proofs.Writers.{Claims-keeps_writers}
 use Rattle.sj_core.proofs.Forms.{Claims-keeps_state}
 use Rattle.sj_core.proofs.Dependencies.{Proper-dependencies}
 use Rattle.sj_core.proofs.Agreeing.{Claims-keeps_copies}
@@ -17,4 +19,6 @@ returns c = record {
   writes_are_counted = λ p m s s' t w h claim. Claims-keeps_counts p m s t w s' h.coherent.state.rows claim h.coherent.counts;
   is_a_state = λ p m s s' t w h claim. Claims-keeps_state p m s h t w s' claim;
   copies_agree = λ p m s s' t w h claim. Claims-keeps_copies p m h.proper.cells h.machine s h.coherent.state h.coherent.copies h.coherent.cells h.coherent.pins h.coherent.transfers h.coherent.workers t w s' claim;
+  writers_own = λ p m s s' t w h claim. Claims-keeps_writers p m s h t w s' claim;
+  nodes_suffice = λ p m s s' t w h claim. Claims-keeps_bytes p m s h t w s' claim;
 }

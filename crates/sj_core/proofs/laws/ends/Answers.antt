@@ -1,3 +1,4 @@
+use Rattle.sj_core.proofs.Bytes.{Ends-keeps_bytes}
 use Rattle.sj_core.proofs.Forms.{Ends-keeps_state}
 use Rattle.sj_core.proofs.Dependencies.{Proper-dependencies}
 use Rattle.sj_core.proofs.Agreeing.{Ends-keeps_copies, Ends-keeps_writers}
@@ -18,4 +19,5 @@ returns c = record {
   is_a_state = λ p m s s' t w h ended. Ends-keeps_state p m s h t w s' ended;
   copies_agree = λ p m s s' t w h plain ended. Ends-keeps_copies p m h.proper (Proper-dependencies p h.proper) plain s h.coherent t w s' ended;
   writers_own = λ p m s s' t w h plain ended. Ends-keeps_writers p m h.proper (Proper-dependencies p h.proper) plain s h.coherent t w s' ended;
+  nodes_suffice = λ p m s s' t w h ended. Ends-keeps_bytes p m s h t w s' ended;
 }

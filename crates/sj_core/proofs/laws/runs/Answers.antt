@@ -1,3 +1,5 @@
+use Rattle.sj_core.proofs.Bytes.{Runs-keeps_bytes}
+use Rattle.sj_core.proofs.Writers.{Runs-keeps_writers}
 use Rattle.sj_core.proofs.Forms.{Runs-keeps_state}
 use Rattle.sj_core.proofs.Dependencies.{Proper-dependencies}
 use Rattle.sj_core.proofs.Agreeing.{Runs-keeps_copies}
@@ -17,4 +19,6 @@ returns c = record {
   writes_are_counted = λ p m s s' t w h run. Runs-keeps_counts p m s t w s' run h.coherent.counts;
   is_a_state = λ p m s s' t w h run. Runs-keeps_state p m s h t w s' run;
   copies_agree = λ p m s s' t w h run. Runs-keeps_copies p m s h.coherent.state.rows h.coherent.copies t w s' run;
+  writers_own = λ p m s s' t w h run. Runs-keeps_writers p m s h t w s' run;
+  nodes_suffice = λ p m s s' t w h run. Runs-keeps_bytes p m s h t w s' run;
 }

@@ -1,0 +1,139 @@
+-- A drop leaves a coherent state.
+use Rattle.std.proofs.Common.{◌≡◌, ◌<◌, Bool, true, false, not, ◌&&◌, length, refl, sym, ap, ◌∙◌, subst, inl, inr, ◌⊎◌, Option, None, Some, arith}
+use Rattle.std.specs.Prelude.{IfSome}
+use Rattle.std.proofs.lemmas.Bool.{false≢true, and_parts, and_from}
+use Rattle.std.proofs.lemmas.List.{length-set}
+use Rattle.sj_base.specs.declared.ids.Cell.{Cell}
+use Rattle.sj_base.specs.declared.ids.Node.{Node}
+use Rattle.sj_base.specs.declared.ids.Worker.{Worker}
+use Rattle.sj_base.specs.declared.ids.Place.{Place}
+use Rattle.sj_base.specs.declared.ids.Place.TheVariants.{Node as AtNode, Disk as OnDisk}
+use Rattle.sj_base.specs.declared.program.Program.{Program}
+use Rattle.sj_base.specs.declared.program.Machine.{Machine}
+use Rattle.sj_core.specs.Program.{same_cell}
+use Rattle.sj_core.specs.Needs.{node_of}
+use Rattle.sj_core.specs.declared.progress.Transfer.{Transfer}
+use Rattle.sj_core.specs.Machine.{State, Replica, Invalid, cell_state, replica, transfer, array_of, is_valid, is_entry, is_leaving, is_leaving_by, is_coming_by, with_replica, with_replica_in, writes}
+use Rattle.sj_core.specs.Step.{Drops, same_place, places_of, reads, is_read}
+use Rattle.sj_core.specs.Coherent.{IsTransferTo, TransfersAreSound, CopiesAgree, Coherent, content}
+use Rattle.sj_core.specs.Laws.{IsSound}
+use Rattle.sj_core.proofs.Reading.{list_any-worker}
+use Rattle.sj_core.proofs.Workers.{transfer-inside}
+use Rattle.sj_core.proofs.Holding.{not_true}
+use Rattle.sj_core.proofs.Forms.{HasBlocks-kept}
+use Rattle.sj_core.proofs.CellLists.{same_cell-from}
+use Rattle.sj_core.proofs.Values.{list_any-some}
+use Rattle.sj_core.proofs.Placing.{replica-cases, writes-same, nodes-kept, disks-kept, same_place-refl, owned-fails, leaving_isn't_entry, coming_isn't_leaving}
+use Rattle.sj_core.proofs.Shifting.{Shifts, Shifts-coherent}
+
+module _ (p : Program) (m : Machine) (s : State) (h : IsSound p m s) (c : Cell) (n : Node) (s' : State) (drop : Drops m s c n s') where
+  abbrev after : State
+  after = with_replica s c (AtNode n) Invalid
+
+  -- each replica is as before, or it was leaving and is invalid
+  cases : (d : Cell) (q : Place) → (replica after d q ≡ replica s d q) ⊎ ((d ≡ c) × (q ≡ AtNode n) × (replica after d q ≡ Invalid) × (is_leaving (replica s d q) ≡ true))
+  cases d q =
+      elim (replica-cases s c (AtNode n) Invalid d q) [
+        | inl same ↦ inl same
+        | inr (e, at, is) ↦ inr (e, at, is, ap (λ (x : Cell). is_leaving (replica s x q)) e ∙ ap (λ (k : Place). is_leaving (replica s c k)) at ∙ drop.leaving)
+      ]
+
+  entries : (d : Cell) (k : Node) → is_entry (replica after d (AtNode k)) ≡ is_entry (replica s d (AtNode k))
+  entries d k = elim (cases d (AtNode k)) [ inl same ↦ ap is_entry same | inr (e, at, is, left) ↦ ap is_entry is ∙ sym (leaving_isn't_entry (replica s d (AtNode k)) left) ]
+
+  leaves : (v : Worker) (d : Cell) (q : Place) → is_leaving_by v (replica after d q) ≡ true → is_leaving_by v (replica s d q) ≡ true
+  leaves v d q leaving = elim (cases d q) [ inl same ↦ sym (ap (is_leaving_by v) same) ∙ leaving | inr (e, at, is, left) ↦ absurd (false≢true (sym (ap (is_leaving_by v) is) ∙ leaving)) ]
+
+  comes : (v : Worker) (d : Cell) (k : Node) → is_coming_by v (replica after d (AtNode k)) ≡ true → is_coming_by v (replica s d (AtNode k)) ≡ true
+  comes v d k coming = elim (cases d (AtNode k)) [ inl same ↦ sym (ap (is_coming_by v) same) ∙ coming | inr (e, at, is, left) ↦ absurd (false≢true (sym (ap (is_coming_by v) is) ∙ coming)) ]
+
+  still_comes : (v : Worker) (d : Cell) (k : Node) → is_coming_by v (replica s d (AtNode k)) ≡ true → is_coming_by v (replica after d (AtNode k)) ≡ true
+  still_comes v d k coming = elim (cases d (AtNode k)) [ inl same ↦ ap (is_coming_by v) same ∙ coming | inr (e, at, is, left) ↦ absurd (false≢true (sym (coming_isn't_leaving v (replica s d (AtNode k)) coming) ∙ left)) ]
+
+  -- no transfer reads the dropped replica
+  unread_by : (v : Worker) (x : Transfer) → transfer s v ≡ Some x → x.cell ≡ c → x.from ≡ AtNode n → ⊥
+  unread_by v x under_way cell from =
+      let both : (same_cell x.cell c && same_place x.from (AtNode n)) ≡ true = and_from (same_cell x.cell c) (same_place x.from (AtNode n)) (same_cell-from x.cell c cell) (ap (λ (q : Place). same_place q (AtNode n)) from ∙ same_place-refl (AtNode n)) in
+      let this : reads s v c (AtNode n) ≡ true = ap (λ (o : Option Transfer). elim o as (λ _. Bool) [ None ↦ false | Some y ↦ same_cell y.cell c && same_place y.from (AtNode n) ]) under_way ∙ both in
+      let inside : v.0 < m.workers = omega (arith, transfer-inside s v x under_way, h.coherent.state.rows.workers) in
+      let read : is_read m s c (AtNode n) ≡ true = list_any-worker (λ w. reads s w c (AtNode n)) m v inside this in
+      false≢true (sym (ap not read) ∙ drop.unread)
+
+  source_stays : (v : Worker) (x : Transfer) → transfer s v ≡ Some x → replica after x.cell x.from ≡ replica s x.cell x.from
+  source_stays v x under_way = elim (cases x.cell x.from) [ inl same ↦ same | inr (e, at, is, left) ↦ absurd (unread_by v x under_way e at) ]
+
+  moving : TransfersAreSound m after
+  moving =
+      let before = h.coherent.transfers in
+      record {
+        source = λ v x under_way. ap is_valid (source_stays v x under_way) ∙ before.source v x under_way;
+        target = λ v x under_way. to_place v x.cell x.from x.to (source_stays v x under_way) (before.target v x under_way);
+        apart = before.apart;
+      }
+    where
+      to_place : (v : Worker) (d : Cell) (from to : Place) → replica after d from ≡ replica s d from → IsTransferTo m s v d from to → IsTransferTo m after v d from to
+      to_place v d from (AtNode k) same target = (target.0, still_comes v d k target.1, λ x q. not_true (is_leaving_by v (replica after x q)) (λ leaving. false≢true (sym (target.2 x q) ∙ leaves v x q leaving)))
+      to_place v d from (OnDisk k) same target = (ap (is_leaving_by v) same ∙ target.0, elim (cases d (OnDisk k)) [ inl same ↦ same ∙ target.1 | inr (e, at, is, left) ↦ is ])
+
+  -- another replica of the dropped cell is valid
+  elsewhere : (q : Place) × (is_valid (replica after c q) ≡ true)
+  elsewhere =
+      let found = list_any-some (λ q. not (same_place q (AtNode n)) && is_valid (replica s c q)) (places_of m) drop.shared in
+      let both = and_parts (not (same_place found.0 (AtNode n))) (is_valid (replica s c found.0)) found.2 in (
+        found.0,
+        elim (cases c found.0) [
+          | inl same ↦ ap is_valid same ∙ both.1
+          | inr (e, at, is, left) ↦ absurd (false≢true (sym (ap not (ap (λ (q : Place). same_place q (AtNode n)) at ∙ same_place-refl (AtNode n))) ∙ both.0))
+        ],
+      )
+
+  copies : CopiesAgree p after
+  copies =
+      let before = h.coherent.copies in
+      let positive : (d : Cell) → 0 < writes after d → 0 < writes s d = λ d some. (let same = writes-same s c (AtNode n) Invalid d in omega arith) in
+      record {
+        valid_somewhere = λ d some unwritten. (let old = before.valid_somewhere d (positive d some) unwritten in elim (cases d old.0) [
+          | inl same ↦ (old.0, ap is_valid same ∙ old.1)
+          | inr (e, at, is, left) ↦ (elsewhere.0, ap (λ (x : Cell). is_valid (replica after x elsewhere.0)) e ∙ elsewhere.1)
+        ]);
+        alike = λ d q some unwritten. elim (cases d q) [
+          | inl same ↦ subst (λ (r : Replica). IfSome (array_of r) (λ a. a ≡ content p s d)) (sym same) (before.alike d q (positive d some) unwritten)
+          | inr (e, at, is, left) ↦ subst (λ (r : Replica). IfSome (array_of r) (λ a. a ≡ content p s d)) (sym is) tt
+        ];
+      }
+
+  shift : Shifts p m s after.cells after.workers
+  shift = record {
+    rows = (let rows = h.coherent.state.rows in record {
+      tasks = rows.tasks;
+      cells = length-set s.cells c.0 (with_replica_in (cell_state s c) (AtNode n) Invalid) ∙ rows.cells;
+      orders = rows.orders;
+      workers = rows.workers;
+      nodes = nodes-kept s c (AtNode n) Invalid (length m.nodes) rows.nodes;
+      disks = disks-kept s c (AtNode n) Invalid (length m.disks) rows.disks;
+    });
+    blocks = HasBlocks-kept p m s after (λ d k. elim (cases d (OnDisk k)) [ inl same ↦ inr same | inr (e, at, is, left) ↦ inl is ]) (λ v. refl) h.coherent.state.blocks;
+    same_pins = λ v. refl;
+    same_scratch = λ v. refl;
+    same_victims = λ v. refl;
+    same_writes = writes-same s c (AtNode n) Invalid;
+    same_entries = entries;
+    leaves = leaves;
+    comes = comes;
+    still_comes = λ v x d k leaving coming. still_comes v x k coming;
+    pinned = λ v d pin valid. elim (cases d (AtNode (node_of m v))) [
+      | inl same ↦ ap is_valid same ∙ valid
+      | inr (e, at, is, left) ↦ absurd (false≢true (sym (h.coherent.pins.stays v d pin) ∙ left))
+    ];
+    owned = λ d v a own q. elim (cases d q) [
+      | inl same ↦ same
+      | inr (e, at, is, left) ↦ absurd (false≢true (sym (owned-fails m s d v a own is_leaving refl refl q) ∙ left))
+    ];
+    unmoved = λ d v a own x. own.unmoved x;
+    movers = h.coherent.workers.moves_for_claim;
+    moving = moving;
+    copies = copies;
+  }
+
+  pub Drops-keeps_coherence : Coherent p m s'
+  Drops-keeps_coherence = subst (λ (z : State). Coherent p m z) (sym drop.leaves) (Shifts-coherent p m s h after.cells after.workers shift)

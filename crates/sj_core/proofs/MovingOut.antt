@@ -1,0 +1,150 @@
+-- A move out to a disk that begins leaves a coherent state.
+use Rattle.std.proofs.Common.{◌≡◌, Bool, true, false, not, ◌&&◌, refl, sym, ap, ◌∙◌, subst, inl, inr, ◌⊎◌, Option, None, Some, []}
+use Rattle.std.proofs.lemmas.Bool.{false≢true, and_from}
+use Rattle.std.proofs.lemmas.List.{length-set}
+use Rattle.sj_base.specs.Array.{Array}
+use Rattle.sj_base.specs.declared.ids.Cell.{Cell}
+use Rattle.sj_base.specs.declared.ids.Task.{Task}
+use Rattle.sj_base.specs.declared.ids.DiskNo.{DiskNo}
+use Rattle.sj_base.specs.declared.ids.Worker.{Worker}
+use Rattle.sj_base.specs.declared.ids.Place.{Place}
+use Rattle.sj_base.specs.declared.ids.Place.TheVariants.{Node as AtNode, Disk as OnDisk}
+use Rattle.sj_base.specs.declared.program.Program.{Program}
+use Rattle.sj_base.specs.declared.program.Machine.{Machine}
+use Rattle.sj_core.specs.Program.{same_cell}
+use Rattle.sj_core.specs.declared.progress.Transfer.{Transfer}
+use Rattle.sj_core.specs.Machine.{State, Replica, Invalid, Coming, Valid, Leaving, replica, transfer, progress, is_valid, is_leaving_by, is_claimed_by, with_transfer}
+use Rattle.sj_core.specs.Step.{BeginsMoveOut, a_transfer, disk_of, same_place, is_valid_elsewhere}
+use Rattle.sj_core.specs.Coherent.{IsTransferTo, TransfersAreSound, Coherent}
+use Rattle.sj_core.specs.Laws.{IsSound}
+use Rattle.sj_core.proofs.Reading.{same_cell-is}
+use Rattle.sj_core.proofs.Workers.{leaving-isn't_resting}
+use Rattle.sj_core.proofs.Holding.{not_true}
+use Rattle.sj_core.proofs.Placing.{pins-same, scratch-same, victims-same, transfer-cases, owned-fails, same_place-is, list_any-place, leaving_by-valid, leaving_by-one}
+use Rattle.sj_core.proofs.Shifting.{Shifts, Shifts-coherent}
+use Rattle.sj_core.proofs.MovingIn.{some-is}
+
+module _ (p : Program) (m : Machine) (s : State) (h : IsSound p m s) (c : Cell) (from : Place) (d : DiskNo) (w : Worker) (s' : State) (move : BeginsMoveOut p m s c from d w s') where
+  abbrev begun : Transfer
+  begun = a_transfer c from (OnDisk d)
+
+  abbrev after : State
+  after = with_transfer s w (Some begun)
+
+  -- no replica on a disk leaves
+  stays_on_disk : (v : Worker) (x : Cell) (k : DiskNo) → is_leaving_by v (replica s x (OnDisk k)) ≡ true → ⊥
+  stays_on_disk v x k leaving = let l = leaving-isn't_resting v (replica s x (OnDisk k)) leaving in (h.coherent.state.blocks.resting x k l.0 l.1).1 l.2
+
+  -- a valid replica of the cell is the one that leaves
+  only_one : (q : Place) → is_valid (replica s c q) ≡ true → q ≡ from
+  only_one q valid = by_place (same_place q from) refl
+    where
+      by_place : (b : Bool) → same_place q from ≡ b → q ≡ from
+      by_place true e = same_place-is q from e
+      by_place false e =
+          let both = and_from (not (same_place q from)) (is_valid (replica s c q)) (ap not e) valid in
+          let another : is_valid_elsewhere m s c from ≡ true = list_any-place p m s h.coherent.state.rows (λ k. not (same_place k from) && is_valid (replica s c k)) c q valid both in
+          absurd (false≢true (sym (ap not another) ∙ move.only))
+
+  -- so its block isn't valid
+  target_invalid : replica s c (OnDisk d) ≡ Invalid
+  target_invalid = by_replica (replica s c (OnDisk d)) refl
+    where
+      by_replica : (r : Replica) → replica s c (OnDisk d) ≡ r → r ≡ Invalid
+      by_replica Invalid e = refl
+      by_replica (Coming v) e = absurd ((h.coherent.state.blocks.resting c d v no_array).0 e)
+        where
+          no_array : Array
+          no_array = record { dims = record { rows = 0; cols = 0 }; elements = [] }
+      by_replica (Leaving v a) e = absurd ((h.coherent.state.blocks.resting c d v a).1 e)
+      by_replica (Valid a) e = absurd (stays_on_disk w c d (ap (λ (q : Place). is_leaving_by w (replica s c q)) (only_one (OnDisk d) (ap is_valid e)) ∙ move.leaving))
+
+  -- each transfer is as before, or is this one
+  transfers : (v : Worker) (x : Transfer) → transfer after v ≡ Some x → (transfer s v ≡ Some x) ⊎ ((v ≡ w) × (begun ≡ x))
+  transfers v x h = elim (transfer-cases s w (Some begun) v) [ inl same ↦ inl (sym same ∙ h) | inr (e, is) ↦ inr (e, some-is begun x (sym is ∙ h)) ]
+
+  -- another worker's transfer of the cell to a disk would read the same replica
+  reads_the_same : (v : Worker) (x : Transfer) (k : DiskNo) → transfer s v ≡ Some x → x.to ≡ OnDisk k → x.cell ≡ c → v ≡ w
+  reads_the_same v x k under_way to cell = by_target x.to to (h.coherent.transfers.target v x under_way)
+    where
+      by_target : (q : Place) → q ≡ OnDisk k → IsTransferTo m s v x.cell x.from q → v ≡ w
+      by_target (AtNode n) e target = absurd (let f : AtNode n ≡ OnDisk k = e in cc)
+      by_target (OnDisk j) e target =
+          let leaving : is_leaving_by v (replica s c x.from) ≡ true = ap (λ (y : Cell). is_leaving_by v (replica s y x.from)) (sym cell) ∙ target.0 in
+          let here : is_leaving_by v (replica s c from) ≡ true = ap (λ (q : Place). is_leaving_by v (replica s c q)) (sym (only_one x.from (leaving_by-valid v (replica s c x.from) leaving))) ∙ leaving in
+          leaving_by-one v w (replica s c from) here move.leaving
+
+  moving : TransfersAreSound m after
+  moving =
+      let before = h.coherent.transfers in
+      record {
+        source = λ v x under_way. elim (transfers v x under_way) [
+          | inl same ↦ before.source v x same
+          | inr (e, is) ↦ subst (λ (y : Transfer). is_valid (replica s y.cell y.from) ≡ true) is (leaving_by-valid w (replica s c from) move.leaving)
+        ];
+        target = λ v x under_way. elim (transfers v x under_way) [
+          | inl same ↦ to_place v x.cell x.from x.to (before.target v x same)
+          | inr (e, is) ↦ subst (λ (y : Transfer). IsTransferTo m after v y.cell y.from y.to) is (subst (λ (x : Worker). IsTransferTo m after x c from (OnDisk d)) (sym e) (move.leaving, target_invalid))
+        ];
+        apart = λ u v x y j k hu hv to_j to_k cell. elim (transfers u x hu) [
+          | inr (eu, is_u) ↦ elim (transfers v y hv) [
+            | inr (ev, is_v) ↦ eu ∙ sym ev
+            | inl same_v ↦ eu ∙ sym (reads_the_same v y k same_v to_k (sym cell ∙ ap (λ (z : Transfer). z.cell) (sym is_u)))
+          ]
+          | inl same_u ↦ elim (transfers v y hv) [
+            | inr (ev, is_v) ↦ reads_the_same u x j same_u to_j (cell ∙ ap (λ (z : Transfer). z.cell) (sym is_v)) ∙ sym ev
+            | inl same_v ↦ before.apart u v x y j k same_u same_v to_j to_k cell
+          ]
+        ];
+      }
+    where
+      to_place : (v : Worker) (x : Cell) (from to : Place) → IsTransferTo m s v x from to → IsTransferTo m after v x from to
+      to_place v x from (AtNode k) target = target
+      to_place v x from (OnDisk k) target = target
+
+  -- the worker has a claimed task, since its victim is leaving
+  claims : (t : Task) × (is_claimed_by w (progress s t) ≡ true)
+  claims = by_source from move.leaving
+    where
+      by_source : (q : Place) → is_leaving_by w (replica s c q) ≡ true → (t : Task) × (is_claimed_by w (progress s t) ≡ true)
+      by_source (AtNode n) leaving = (h.coherent.workers.evicted w c n leaving).claims
+      by_source (OnDisk k) leaving = absurd (stays_on_disk w c k leaving)
+
+  disk-is : (k : DiskNo) → OnDisk d ≡ OnDisk k → d ≡ k
+  disk-is k e = cc
+
+  shift : Shifts p m s after.cells after.workers
+  shift = record {
+    rows = (let rows = h.coherent.state.rows in record { tasks = rows.tasks; cells = rows.cells; orders = rows.orders; workers = length-set s.workers w.0 _ ∙ rows.workers; nodes = rows.nodes; disks = rows.disks });
+    blocks = (let blocks = h.coherent.state.blocks in record {
+      resting = blocks.resting;
+      home = blocks.home;
+      aimed = λ v x k under_way to. elim (transfers v x under_way) [
+        | inl same ↦ blocks.aimed v x k same to
+        | inr (e, is) ↦ sym (disk-is k (ap (λ (y : Transfer). y.to) is ∙ to)) ∙ move.target ∙ ap (λ (y : Transfer). disk_of p m y.cell) is
+      ];
+    });
+    same_pins = pins-same s w (Some begun);
+    same_scratch = scratch-same s w (Some begun);
+    same_victims = victims-same s w (Some begun);
+    same_writes = λ x. refl;
+    same_entries = λ x k. refl;
+    leaves = λ v x q leaving. leaving;
+    comes = λ v x k coming. coming;
+    still_comes = λ v x y k leaving coming. coming;
+    pinned = λ v x pin valid. valid;
+    owned = λ x v a own q. refl;
+    unmoved = λ x v a own u. elim (transfer-cases s w (Some begun) u) [
+      | inl same ↦ ap (λ (o : Option Transfer). elim o as (λ _. Bool) [ None ↦ false | Some y ↦ same_cell y.cell x ]) same ∙ own.unmoved u
+      | inr (e, is) ↦ ap (λ (o : Option Transfer). elim o as (λ _. Bool) [ None ↦ false | Some y ↦ same_cell y.cell x ]) is ∙ not_true (same_cell c x) (λ same. false≢true (sym (owned-fails m s x v a own (is_leaving_by w) refl refl from) ∙ ap (λ (y : Cell). is_leaving_by w (replica s y from)) (sym (same_cell-is c x same)) ∙ move.leaving))
+    ];
+    movers = λ v x under_way. elim (transfers v x under_way) [
+      | inl same ↦ h.coherent.workers.moves_for_claim v x same
+      | inr (e, is) ↦ (claims.0, ap (λ (y : Worker). is_claimed_by y (progress s claims.0)) e ∙ claims.1)
+    ];
+    moving = moving;
+    copies = record { valid_somewhere = h.coherent.copies.valid_somewhere; alike = h.coherent.copies.alike };
+  }
+
+  pub Moves_out-keep_coherence : Coherent p m s'
+  Moves_out-keep_coherence = subst (λ (z : State). Coherent p m z) (sym move.leaves) (Shifts-coherent p m s h after.cells after.workers shift)

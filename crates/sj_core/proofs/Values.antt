@@ -1,0 +1,122 @@
+-- A cell whose old value a task reads has been written by the time that the task may run.
+use Rattle.std.proofs.Common.{◌≡◌, ℕ, zero, suc, ◌<◌, Bool, true, false, not, ◌&&◌, ◌||◌, cond, List, [], ◌∷◌, length, get_or, refl, sym, ap, ◌∙◌, subst, inl, inr, ◌⊎◌, arith}
+use Rattle.std.specs.Prelude.{IsTrue}
+use Rattle.std.specs.List.{list_any, Contains}
+use Rattle.std.proofs.lemmas.Bool.{false≢true}
+use Rattle.std.proofs.lemmas.Bool.Decides.{Decides-eqb}
+use Rattle.std.proofs.lemmas.List.Elements.{All-contains}
+use Rattle.std.proofs.lemmas.List.FromFn.{get_or-map-range_with_len, length-map-range_with_len}
+use Rattle.std.proofs.lemmas.List.Sums.{get_or-le-sum_by}
+use Rattle.sj_base.specs.declared.ids.Cell.{Cell}
+use Rattle.sj_base.specs.declared.ids.Task.{Task}
+use Rattle.sj_base.specs.declared.ids.Worker.{Worker}
+use Rattle.sj_base.specs.declared.mode.Mode.{Mode}
+use Rattle.sj_base.specs.declared.mode.Mode.TheVariants.{R, W, RW, Scratch, Redux, Commute as CommuteMode}
+use Rattle.sj_base.specs.declared.mode.Access.{Access}
+use Rattle.sj_base.specs.declared.program.Program.{Program}
+use Rattle.sj_deps.specs.declared.manner.Manner.{Manner}
+use Rattle.sj_deps.specs.declared.manner.Manner.TheVariants.{Write}
+use Rattle.sj_deps.specs.Conflict.{Uses, IsShared, Conflict}
+use Rattle.sj_core.specs.Program.{same_cell, has_cell, task_of, tasks_of, is_scratch, is_written, is_redux, starts_as_zeros, data_operands}
+use Rattle.sj_core.specs.Operands.{copy_of, worked_on, cells_of, written_cells, fresh_cells}
+use Rattle.sj_core.specs.Machine.{State, writes, done_by}
+use Rattle.sj_core.specs.Step.{EarlierAreDone}
+use Rattle.sj_core.specs.Proper.{Proper, HasValueBefore, reads_value, gives_value, access}
+use Rattle.sj_core.specs.Coherent.{WritesAreCounted, has_written}
+use Rattle.sj_core.proofs.Readiness.{Contains-filter}
+use Rattle.sj_core.proofs.Reading.{same_cell-is}
+use Rattle.sj_core.proofs.Sharing.{manner_of, operand_for, operand-has_cell, operand-uses, redux-has_copies, write_isn't_read}
+use Rattle.sj_core.proofs.Dependencies.{Proper-dependencies}
+
+-- an element that passes a test that some element passes
+pub list_any-some : {X : Type 0} (test : X → Bool) (xs : List X) → list_any test xs ≡ true → (x : X) × Contains xs x × (test x ≡ true)
+list_any-some test [] h = absurd (false≢true h)
+list_any-some {X} test (x ∷ xs) h = by_cases (test x) refl h (list_any-some test xs)
+  where
+    by_cases : (b : Bool) → test x ≡ b → (b || list_any test xs) ≡ true → (list_any test xs ≡ true → (y : X) × Contains xs y × (test y ≡ true)) → (y : X) × Contains (x ∷ xs) y × (test y ≡ true)
+    by_cases true e h rest = (x, (0, omega arith, refl), e)
+    by_cases false e h rest = let (y, (k, l, is), passes) = rest h in (y, (suc k, omega arith, is), passes)
+
+module _ (p : Program) (proper : Proper p) (s : State) (t : Task) (w : Worker) (inside : t.0 < length p.tasks) (staffed : w.0 < p.workers) (earlier : EarlierAreDone p s t) (c : Cell) where
+  -- a task conflicts with each later one that uses what it writes by itself
+  conflicts : (u : Task) (n : Manner) → Uses p u.0 c.0 Write → Uses p t.0 c.0 n → Conflict p u.0 t.0
+  conflicts u n first second = record {
+    cell = c.0;
+    manner_of_t = Write;
+    manner_of_u = n;
+    first = first;
+    second = second;
+    written = λ both. write_isn't_read both.0;
+    apart = λ k g. subst IsShared (sym ((Proper-dependencies p proper).manners u.0 c.0 Write k first g.first)) g.shared;
+  }
+
+  -- a task that gives the cell a value commutes there, or writes it by itself, whatever its worker
+  giver : (u : Task) → u.0 < length p.tasks → (x : Mode) (d : Cell) → Contains (task_of p u).accesses (access x d) → (is_written x && not (is_redux x) && same_cell d c) ≡ true →
+      ((x ≡ CommuteMode) × (d ≡ c)) ⊎ (Uses p u.0 c.0 Write × ((v : Worker) → has_cell (written_cells p u v) c ≡ true))
+  giver u u_in R d has passes = absurd (false≢true passes)
+  giver u u_in Scratch d has passes = absurd (false≢true passes)
+  giver u u_in Redux d has passes = absurd (false≢true passes)
+  giver u u_in CommuteMode d has passes = inl (refl, same_cell-is d c passes)
+  giver u u_in W d has passes =
+      let same = same_cell-is d c passes in
+      inr (
+        subst (λ (q : Cell). Uses p u.0 q.0 Write) same (operand-uses p u w W d u_in staffed has refl (λ e. absurd (false≢true e))),
+        λ v. operand-has_cell (worked_on p v) (λ a. is_written a.mode) (task_of p u).accesses (access W d) c has refl passes,
+      )
+  giver u u_in RW d has passes =
+      let same = same_cell-is d c passes in
+      inr (
+        subst (λ (q : Cell). Uses p u.0 q.0 Write) same (operand-uses p u w RW d u_in staffed has refl (λ e. absurd (false≢true e))),
+        λ v. operand-has_cell (worked_on p v) (λ a. is_written a.mode) (task_of p u).accesses (access RW d) c has refl passes,
+      )
+
+  -- some done task wrote a cell that had a value before a task that uses it
+  wrote : (n : Manner) → Uses p t.0 c.0 n → (bound : ℕ) (u : Task) → u.0 < bound → u.0 < t.0 → gives_value (task_of p u) c ≡ true → (v : Task) × (v.0 < t.0) × (has_written p s c v ≡ true)
+  wrote n uses zero u below before gives = absurd (omega arith)
+  wrote n uses (suc bound) u below before gives =
+      let found = list_any-some (λ (a : Access). is_written a.mode && not (is_redux a.mode) && same_cell a.cell c) (task_of p u).accesses gives in
+      by_giver found.0 found.1 (giver u (omega (arith, before, inside)) found.0.mode found.0.cell found.1 found.2) (wrote n uses bound)
+    where
+      by_giver : (a : Access) → Contains (task_of p u).accesses a → ((a.mode ≡ CommuteMode) × (a.cell ≡ c)) ⊎ (Uses p u.0 c.0 Write × ((v : Worker) → has_cell (written_cells p u v) c ≡ true)) →
+          ((v : Task) → v.0 < bound → v.0 < t.0 → gives_value (task_of p v) c ≡ true → (v : Task) × (v.0 < t.0) × (has_written p s c v ≡ true)) → (v : Task) × (v.0 < t.0) × (has_written p s c v ≡ true)
+      by_giver a has (inr (by_itself, written)) later =
+          let done = earlier u before (conflicts u n by_itself uses) in
+          (u, before, ap (λ b. b && has_cell (written_cells p u (done_by s u)) c) done ∙ written (done_by s u))
+      by_giver a has (inl (commutes, same)) later =
+          let reads : reads_value a.mode ≡ true = ap reads_value commutes in
+          let value = All-contains (λ (b : Access). IsTrue (reads_value b.mode) → HasValueBefore p u b.cell) (task_of p u).accesses a (proper.values.cells u) has reads in
+          later value.0 (omega (arith, value.1, below)) (omega (arith, value.1, before)) (subst (λ (q : Cell). gives_value (task_of p value.0) q ≡ true) same value.2)
+
+  -- a cell of the task that it doesn't find as zeros had a value before it, and is used by it
+  old_value : has_cell (cells_of p t w) c ≡ true → has_cell (fresh_cells p t w) c ≡ false → HasValueBefore p t c × ((n : Manner) × Uses p t.0 c.0 n)
+  old_value has not_fresh =
+      let found = operand_for (worked_on p w) (λ a. not (is_scratch a.mode)) (task_of p t).accesses c has in
+      let uses = operand-uses p t w found.0.mode found.0.cell inside staffed found.1 found.2 (redux-has_copies p proper.cells t inside found.0.mode found.0.cell found.1) in
+      (by_mode found.0.mode found.0.cell found.1 found.2 found.3, (manner_of (task_of p t).codelet found.0.mode, subst (λ (q : Cell). Uses p t.0 q.0 (manner_of (task_of p t).codelet found.0.mode)) found.3 uses))
+    where
+      value : (a : Access) → Contains (task_of p t).accesses a → reads_value a.mode ≡ true → HasValueBefore p t a.cell
+      value a has reads = All-contains (λ (b : Access). IsTrue (reads_value b.mode) → HasValueBefore p t b.cell) (task_of p t).accesses a (proper.values.cells t) has reads
+
+      by_mode : (x : Mode) (d : Cell) → Contains (task_of p t).accesses (access x d) → not (is_scratch x) ≡ true → worked_on p w (access x d) ≡ c → HasValueBefore p t c
+      by_mode Scratch d has accessed is = absurd (false≢true accessed)
+      by_mode W d has accessed is =
+          let among : Contains (data_operands (task_of p t)) (access W d) = Contains-filter (λ (a : Access). not (is_scratch a.mode)) (task_of p t).accesses (access W d) refl has in
+          let fresh = operand-has_cell (worked_on p w) (λ a. starts_as_zeros a.mode) (data_operands (task_of p t)) (access W d) c among refl ((Decides-eqb d.0 c.0).1 (ap (λ (q : Cell). q.0) is)) in
+          absurd (false≢true (sym not_fresh ∙ fresh))
+      by_mode R d has accessed is = subst (HasValueBefore p t) is (value (access R d) has refl)
+      by_mode RW d has accessed is = subst (HasValueBefore p t) is (value (access RW d) has refl)
+      by_mode CommuteMode d has accessed is = subst (HasValueBefore p t) is (value (access CommuteMode d) has refl)
+      by_mode Redux d has accessed is = subst (HasValueBefore p t) is (All-contains (λ (b : Access). IsTrue (is_redux b.mode) → (v : Worker) → v.0 < p.workers → HasValueBefore p t (copy_of p b.cell v)) (task_of p t).accesses (access Redux d) (proper.values.copies t) has refl w staffed)
+
+  -- and so it has been written
+  pub old_value-written : WritesAreCounted p s → has_cell (cells_of p t w) c ≡ true → has_cell (fresh_cells p t w) c ≡ false → 0 < writes s c
+  old_value-written counts has not_fresh =
+      let both = old_value has not_fresh in
+      let found = wrote both.1.0 both.1.1 t.0 both.0.0 both.0.1 both.0.1 both.0.2 in
+      let number : ℕ → Task = λ n. record { 0 = n } in
+      let one : Task → ℕ = λ u. cond (has_written p s c u) 1 0 in
+      let at_found : get_or (tasks_of p) found.0.0 found.0 ≡ found.0 = get_or-map-range_with_len number 0 (length p.tasks) found.0.0 found.0.0 found.0 (omega (arith, found.1, inside)) (omega arith) in
+      let among = get_or-le-sum_by one (tasks_of p) found.0.0 found.0 (omega (arith, found.1, inside, length-map-range_with_len number 0 (length p.tasks))) in
+      let is_one : one (get_or (tasks_of p) found.0.0 found.0) ≡ 1 = ap one at_found ∙ ap (λ b. cond b 1 0) found.2 in
+      let counted = counts.counted c in
+      omega arith

@@ -1,0 +1,5 @@
+use Rattle.sj_core.proofs.Arriving.{Ended_moves-keep_coherence}
+use Rattle.sj_core.proofs.laws.ended_moves.Goals as goal
+
+pub returns : goal.returns
+returns c = λ p m s s' c from to w h moved. Ended_moves-keep_coherence p m s h c from to w s' moved
