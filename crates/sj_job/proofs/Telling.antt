@@ -1,14 +1,21 @@
 -- What a line says, by the function and by the grammar.
-use Rattle.std.proofs.Common.{◌≡◌, ℕ, not, Bool, true, false, List, refl, ap, ◌∙◌, sym, subst, Option, Some, None, cond, Result, Ok, Err}
+use Rattle.std.proofs.Common.{◌≡◌, ℕ, not, Bool, true, false, List, [], ◌∷◌, ◌&&◌, map, refl, ap, ◌∙◌, sym, subst, Option, Some, None, cond, Result, Ok, Err}
+use Rattle.std.specs.Prelude.{is_none}
+use Rattle.std.specs.List.{list_all}
 use Rattle.sj_codelet.specs.declared.kernel.Kernel.{Kernel}
 use Rattle.sj_job.specs.declared.form.Form.{Form}
 use Rattle.sj_job.specs.declared.form.Form.TheVariants as form
+use Rattle.sj_job.specs.declared.form.OperandForm.{OperandForm}
+use Rattle.sj_job.specs.declared.form.TaskForm.{TaskForm}
+use Rattle.sj_job.specs.declared.sentence.Call.{Call}
 use Rattle.sj_job.specs.declared.sentence.Sentence.{Sentence}
+use Rattle.sj_job.specs.declared.sentence.Sentence.TheVariants.{Task}
 use Rattle.sj_job.specs.declared.reason.Reason.{Reason}
 use Rattle.sj_job.specs.declared.reason.Reason.TheVariants.{Word, Number, NotBuilt}
 use Rattle.sj_job.specs.Form.{form_of}
-use Rattle.sj_job.specs.Sentence.{is_numbered, is_built, is_misplaced, sentence_of, said_of, said}
+use Rattle.sj_job.specs.Sentence.{is_numbered, is_built, is_misplaced, is_built_mode, operand_said, call_of, sentence_of, said_of, said}
 use Rattle.sj_job.specs.Grammar.{Spells, StandsAs, Says}
+use Rattle.sj_job.proofs.Spelling.{both_true, true_both}
 use Rattle.sj_job.proofs.Stating.{form-read, form-back}
 
 pub found-spells : (ws : List (List ℕ)) (f : Form) → form_of ws ≡ Some f → Spells ws f
@@ -93,3 +100,40 @@ says-said has begun ws (Err NotBuilt) h =
     ∙ ap (λ n. ordered false n (is_built h.form) (sentence_of has h.form)) h.numbered
     ∙ ap (λ b. ordered false true b (sentence_of has h.form)) (not_true (is_built h.form) h.unbuilt)
 says-said has begun ws (Err why) h = absurd h
+
+-- ---- a task that is said
+
+call_in : Call → Result Sentence Reason → Call
+call_in c (Ok (Task t)) = t
+call_in c r = c
+
+built_modes : (os : List OperandForm) → list_all (λ o. is_none o.child && is_built_mode o.mode) os ≡ true → list_all (λ o. is_built_mode o.mode) (map operand_said os) ≡ true
+built_modes [] h = refl
+built_modes (o ∷ os) h =
+    let p = both_true (is_none o.child && is_built_mode o.mode) (list_all (λ o. is_none o.child && is_built_mode o.mode) os) h in
+    let q = both_true (is_none o.child) (is_built_mode o.mode) p.0 in
+    true_both (is_built_mode o.mode) (list_all (λ o. is_built_mode o.mode) (map operand_said os)) q.1 (built_modes os p.1)
+
+-- the call of a form, with modes that are built
+pub record IsTold (has : Kernel → Bool) (t : Call) : Type 0 where
+  pub form : TaskForm
+  pub call : call_of has form ≡ t
+  pub modes : list_all (λ o. is_built_mode o.mode) t.operands ≡ true
+
+told_by : (has : Kernel → Bool) (f : Form) (t : Call) → sentence_of has f ≡ Ok (Task t) → is_built f ≡ true → IsTold has t
+unfolding call_in
+told_by has (form.Workers n) t e b = absurd (cc)
+told_by has (form.Node n) t e b = absurd (cc)
+told_by has (form.Policy p) t e b = absurd (cc)
+told_by has (form.Register a) t e b = absurd (cc)
+told_by has (form.Plan name r c) t e b = absurd (cc)
+told_by has (form.Redux name by) t e b = absurd (cc)
+told_by has (form.Task u) t e b =
+    let same : call_of has u ≡ t = ap (call_in t) e in
+    record { form = u; call = same; modes = subst (λ (t : Call). list_all (λ o. is_built_mode o.mode) t.operands ≡ true) same (built_modes u.operands b) }
+told_by has (form.Print name) t e b = absurd (cc)
+told_by has (form.Invalidate name) t e b = absurd (cc)
+told_by has (form.Unregister name) t e b = absurd (cc)
+
+pub task-told : (has : Kernel → Bool) (begun : Bool) (ws : List (List ℕ)) (t : Call) → said has begun ws ≡ Ok (Task t) → IsTold has t
+task-told has begun ws t e = let h = said-says has begun ws (Ok (Task t)) e in told_by has h.form t h.sentence h.built
