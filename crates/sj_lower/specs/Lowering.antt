@@ -7,6 +7,7 @@ use Rattle.sj_base.specs.declared.mode.Mode.{Mode}
 use Rattle.sj_base.specs.declared.mode.Mode.TheVariants.{R, W}
 use Rattle.sj_base.specs.declared.mode.Access.{Access}
 use Rattle.sj_base.specs.declared.tile.Dims.{Dims}
+use Rattle.sj_base.specs.declared.program.Codelet.{Codelet}
 use Rattle.sj_base.specs.declared.program.CellInfo.{CellInfo}
 use Rattle.sj_base.specs.declared.program.Lowered.{Lowered}
 use Rattle.sj_base.specs.declared.program.Delivery.{Delivery}
@@ -55,15 +56,27 @@ with_tasks more L = record { cells = L.cells; tasks = L.tasks ++ more; deliverie
 abbrev pub an_access : Mode → Cell → Access
 an_access mode c = record { mode = mode; cell = c }
 
+-- a task on one cell that no task line names
+abbrev pub task_by : Codelet → List ℤ → Access → Line → Lowered
+task_by codelet args access line = record { codelet = codelet; args = args; accesses = access ∷ []; line = line; priority = pos 0 }
+
 -- a task of the runtime's own codelets on one cell
 abbrev pub own_task : Kernel → List ℤ → Access → Line → Lowered
-own_task k args access line = record { codelet = codelet_of k; args = args; accesses = access ∷ []; line = line; priority = pos 0 }
+own_task k args access line = task_by (codelet_of k) args access line
+
+-- the arguments of `loadfill` for a whole root of so many columns
+abbrev pub fill_arguments : ℤ → ℤ → ℕ → List ℤ
+fill_arguments a b cols = a ∷ b ∷ pos 0 ∷ pos 0 ∷ pos cols ∷ []
 
 -- the tasks that give a cell of these dimensions its first elements
 abbrev pub first_tasks : Init → Dims → Cell → Line → List Lowered
 first_tasks (Values xs) d c line = own_task Load xs (an_access W c) line ∷ []
-first_tasks (Fill a b) d c line = own_task LoadFill (a ∷ b ∷ pos 0 ∷ pos 0 ∷ pos d.cols ∷ []) (an_access W c) line ∷ []
+first_tasks (Fill a b) d c line = own_task LoadFill (fill_arguments a b d.cols) (an_access W c) line ∷ []
 first_tasks Nothing d c line = []
+
+-- a cell with the tasks that give it a root's first elements
+abbrev pub with_first : Register → Cell → Line → Lowering → Lowering
+with_first r c line L = with_tasks (first_tasks r.init r.dims c line) L
 
 -- an operand as an access to the cell of its name
 abbrev pub access_of : Lowering → Operand → Access

@@ -13,7 +13,8 @@ use sj_base::program::Program;
 use sj_job::job::Statement;
 use std::alloc::Global;
 
-/// The program that a job's statements give: one pass over them, and a look-up for each name in the logarithm of the names.
+/// The program that a job's statements give, for so many workers. Its one error is want of memory. One pass over the statements:
+/// linear in their values, arguments and operands, and for each name that they say logarithmic in the names.
 pub fn lower(alloc: Global, statements: &[Statement], workers: u8) -> Result<Program, OutOfMemory>
     requires { IsJob statements.now }
     ensures is { IfOk result (λ program. program ≡ lowered statements.now workers) }

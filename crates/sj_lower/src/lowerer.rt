@@ -1,7 +1,7 @@
 //! What the statements so far are lowered to.
 
-ghost use Rattle.std.specs.Prelude.{◌≡◌, ◌∷◌, [], pos, map, IfOk, OnOk};
-ghost use Rattle.sj_lower.specs.Lowering.{nothing, handle_of, access_of, first_tasks, with_tasks, lower_registration, lower_task, lower_print, lower_unregistration, lower_one, program_of};
+ghost use Rattle.std.specs.Prelude.{◌≡◌, ◌∷◌, [], map, IfOk, OnOk};
+ghost use Rattle.sj_lower.specs.Lowering.{nothing, handle_of, access_of, task_by, fill_arguments, with_tasks, with_first, lower_registration, lower_task, lower_print, lower_unregistration, lower_one, program_of};
 ghost use Rattle.sj_lower.specs.Counts.{IsWithin};
 ghost use Rattle.sj_lower.specs.Seen.{seen};
 
@@ -30,7 +30,7 @@ pub struct Lowerer {
 
 /// The arguments of a `loadfill` of a whole root of so many columns.
 fn fill_arguments(alloc: Global, a: i64, b: i64, cols: u32) -> Result<Vec<i64>, OutOfMemory>
-    ensures { IfOk result (λ args. args.items ≡ a ∷ b ∷ pos 0 ∷ pos 0 ∷ pos cols ∷ []) }
+    ensures { IfOk result (λ args. args.items ≡ fill_arguments a b cols) }
 {
     Ok(Vec::from_array(alloc, [a, b, 0, 0, cols as i64])?)
 }
@@ -43,7 +43,7 @@ fn own_task(
     access: Access,
     line: Line,
 ) -> Result<Lowered, OutOfMemory>
-    ensures { IfOk result (λ l. l ≡ record { codelet = codelet; args = args.items; accesses = access ∷ []; line = line; priority = pos 0 }) }
+    ensures { IfOk result (λ task. task ≡ task_by codelet args.items access line) }
 {
     let accesses = vec![in alloc; access]?;
     Ok(Lowered {
@@ -98,7 +98,7 @@ impl Lowerer {
         cell: Cell,
         line: Line,
     ) -> Result<(), OutOfMemory>
-        ensures { OnOk result (seen self.new ≡ with_tasks (first_tasks register.now.init register.now.dims cell line) (seen self.old)) }
+        ensures { OnOk result (seen self.new ≡ with_first register.now cell line (seen self.old)) }
     {
         let access = Access {
             mode: Mode::W,
@@ -152,7 +152,7 @@ impl Lowerer {
     }
 
     fn accesses(&self, alloc: Global, operands: &[Operand]) -> Result<Vec<Access>, AllocError>
-        ensures { IfOk result (λ accesses. accesses.items ≡ map (access_of (seen self.now)) operands.now) }
+        ensures { IfOk result (λ v. v.items ≡ map (access_of (seen self.now)) operands.now) }
     {
         operands.iter().map(|o| self.access_of(o)).collect(alloc)
     }
