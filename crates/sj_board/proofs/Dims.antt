@@ -275,10 +275,10 @@ module _ (p : Program) (proper : Proper p) (plain : HasPlainModes p) (t : Task) 
     can-run = record {
       ready = slots-ready arrays;
       fits = λ has h.
-        (let l = task_of p t in
-        let operands : fits the-fit.kernel l.args (all_dims (slots_of p arrays t)) ≡ true = ap (fits the-fit.kernel l.args) frame-dims ∙ the-fit.operands in
-        let knows : has the-fit.kernel ≡ true = sym (ap (λ (o : Option Kernel). elim o as (λ _. Bool) [ None ↦ false | Some k ↦ has k ]) the-fit.codelet) ∙ h in
-        ap (λ (o : Option Kernel). elim o as (λ _. Bool) [ None ↦ false | Some k ↦ has k && fits k l.args (all_dims (slots_of p arrays t)) ]) the-fit.codelet ∙ ap (λ b. b && fits the-fit.kernel l.args (all_dims (slots_of p arrays t))) knows ∙ operands);
+          (let l = task_of p t in
+          let operands : fits the-fit.kernel l.args (all_dims (slots_of p arrays t)) ≡ true = ap (fits the-fit.kernel l.args) frame-dims ∙ the-fit.operands in
+          let knows : has the-fit.kernel ≡ true = sym (ap (λ (o : Option Kernel). elim o as (λ _. Bool) [ None ↦ false | Some k ↦ has k ]) the-fit.codelet) ∙ h in
+          ap (λ (o : Option Kernel). elim o as (λ _. Bool) [ None ↦ false | Some k ↦ has k && fits k l.args (all_dims (slots_of p arrays t)) ]) the-fit.codelet ∙ ap (λ b. b && fits the-fit.kernel l.args (all_dims (slots_of p arrays t))) knows ∙ operands);
     }
 
     pub news-dims : dims_in (news_of p arrays t) ≡ map (dims_of p) (outputs (task_of p t))
@@ -292,7 +292,7 @@ module _ (p : Program) (proper : Proper p) (plain : HasPlainModes p) (t : Task) 
         let count : length ins ≡ length (formals_of k) = sym (length-map ins (λ (a : Array). a.dims)) ∙ many in
         let made : news_of p arrays t ≡ new_arrays k l.args ins = ap (λ (o : Option Kernel). elim o as (λ _. List Array) [ None ↦ [] | Some k ↦ new_arrays k l.args ins ]) the-fit.codelet in
         let cells : outputs l ≡ map (λ (a : Access). a.cell) (pick (flags k) l.accesses) =
-          ap (map (λ (a : Access). a.cell)) (pick-filter (λ (a : Access). is_written a.mode) l.accesses ∙ ap (λ bs. pick bs l.accesses) (sym (map-map is_written (λ (a : Access). a.mode) l.accesses) ∙ modes-flags k (modes_in l) the-modes)) in
+        ap (map (λ (a : Access). a.cell)) (pick-filter (λ (a : Access). is_written a.mode) l.accesses ∙ ap (λ bs. pick bs l.accesses) (sym (map-map is_written (λ (a : Access). a.mode) l.accesses) ∙ modes-flags k (modes_in l) the-modes)) in
         ap dims_in made ∙ new-dims k l.args ins count operands ∙ ap (pick (flags k)) ins_dims
         ∙ sym (pick-map (λ (a : Access). dims_of p a.cell) (flags k) l.accesses) ∙ sym (map-map (dims_of p) (λ (a : Access). a.cell) (pick (flags k) l.accesses)) ∙ sym (ap (map (dims_of p)) cells)
 

@@ -79,8 +79,8 @@ quiet : (p : Program) (trace : List Event) (delivered : List (Task × Array)) (e
 quiet p trace delivered e none has = record {
   each = has.each;
   in_order =
-    let more : ended_tasks (trace ++ e ∷ []) ≡ ended_tasks trace = filter_map-append ends trace (e ∷ []) ∙ ap (λ (l : List Task). ended_tasks trace ++ l) none ∙ append-nil (ended_tasks trace) in
-    has.in_order ∙ ap (filter (is_deliver_task p)) (sym more);
+      let more : ended_tasks (trace ++ e ∷ []) ≡ ended_tasks trace = filter_map-append ends trace (e ∷ []) ∙ ap (λ (l : List Task). ended_tasks trace ++ l) none ∙ append-nil (ended_tasks trace) in
+      has.in_order ∙ ap (filter (is_deliver_task p)) (sym more);
 }
 
 ending : (p : Program) (arrays : List (Option Array)) (trace : List Event) (delivered : List (Task × Array)) (t : Task) (w : Worker) → (is_deliver_task p t ≡ true → kept p arrays (first_cell (task_of p t)) ≡ given p t) → HasDelivered p trace delivered → HasDelivered p (trace ++ End t w ∷ []) (delivered ++ handed p arrays t)
@@ -96,14 +96,14 @@ ending p arrays trace delivered t w is_given has = by_cases (is_deliver_task p t
         subst (λ (l : List (Task × Array)). HasDelivered p (trace ++ End t w ∷ []) (delivered ++ l)) (sym one) (record {
           each = All-push (λ (d : Task × Array). d.1 ≡ given p d.0) delivered (t, a) has.each (is_given h);
           in_order = map-append (λ (d : Task × Array). d.0) delivered ((t, a) ∷ []) ∙ ap (λ (l : List Task). l ++ t ∷ []) has.in_order
-          ∙ ap (λ b. filter (is_deliver_task p) (ended_tasks trace) ++ cond b (t ∷ []) []) (sym h) ∙ sym (filter-append (is_deliver_task p) (ended_tasks trace) (t ∷ [])) ∙ ap (filter (is_deliver_task p)) (sym more);
+              ∙ ap (λ b. filter (is_deliver_task p) (ended_tasks trace) ++ cond b (t ∷ []) []) (sym h) ∙ sym (filter-append (is_deliver_task p) (ended_tasks trace) (t ∷ [])) ∙ ap (filter (is_deliver_task p)) (sym more);
         })
     by_cases false h =
         let none : handed p arrays t ≡ [] = ap (λ b. handed_by t (if b then Some (kept p arrays (first_cell (task_of p t))) else None)) h in
         subst (λ (l : List (Task × Array)). HasDelivered p (trace ++ End t w ∷ []) l) (sym (ap (λ (l : List (Task × Array)). delivered ++ l) none ∙ append-nil delivered)) (record {
           each = has.each;
           in_order = has.in_order ∙ sym (append-nil (filter (is_deliver_task p) (ended_tasks trace))) ∙ ap (λ b. filter (is_deliver_task p) (ended_tasks trace) ++ cond b (t ∷ []) []) (sym h)
-          ∙ sym (filter-append (is_deliver_task p) (ended_tasks trace) (t ∷ [])) ∙ ap (filter (is_deliver_task p)) (sym more);
+              ∙ sym (filter-append (is_deliver_task p) (ended_tasks trace) (t ∷ [])) ∙ ap (filter (is_deliver_task p)) (sym more);
         })
 
 module _ (b : Standing) (first : ℕ) (hand : Option Task) (gift : Option Array) (spare room : ℕ) (keeps : Keeps b first hand gift spare room) where
@@ -233,11 +233,11 @@ module _ (b : Standing) (first : ℕ) (hand : Option Task) (gift : Option Array)
 
   -- an end
   module _ (t : Task) (w : Worker) (running : progress_of b t ≡ Running w) (held : hand ≡ Some t) (new_first : ℕ) (new_gift : Option Array) (new_arrays : List (Option Array)) (trace : Recorded) (delivered : Deliveries)
-    (arrays_are : new_arrays ≡ with_arrays b.program (outputs (task_of b.program t)) (news_of b.program b.arrays t) b.arrays)
-    (events : trace.events ≡ b.trace ++ End t w ∷ []) (pairs : delivered.pairs ≡ b.delivered ++ handed b.program b.arrays t)
-    (from : first ≤ new_first) (limit : new_first ≤ length (set b.tasks t.0 (Done w)))
-    (passed : (k : ℕ) → first ≤ k → k < new_first → is_done (get_or (set b.tasks t.0 (Done w)) k Waiting) ≡ true)
-    (stops : new_first < length (set b.tasks t.0 (Done w)) → is_done (get_or (set b.tasks t.0 (Done w)) new_first Waiting) ≡ false) where
+      (arrays_are : new_arrays ≡ with_arrays b.program (outputs (task_of b.program t)) (news_of b.program b.arrays t) b.arrays)
+      (events : trace.events ≡ b.trace ++ End t w ∷ []) (pairs : delivered.pairs ≡ b.delivered ++ handed b.program b.arrays t)
+      (from : first ≤ new_first) (limit : new_first ≤ length (set b.tasks t.0 (Done w)))
+      (passed : (k : ℕ) → first ≤ k → k < new_first → is_done (get_or (set b.tasks t.0 (Done w)) k Waiting) ≡ true)
+      (stops : new_first < length (set b.tasks t.0 (Done w)) → is_done (get_or (set b.tasks t.0 (Done w)) new_first Waiting) ≡ false) where
     end-in_table : t.0 < length b.tasks
     end-in_table = begun-inside b.tasks t (ap is_begun running)
 
@@ -292,7 +292,7 @@ module _ (b : Standing) (first : ℕ) (hand : Option Task) (gift : Option Array)
     keeps-end = record {
       fits = keeps.fits;
       stands = subst (λ (es : List Event). Stands b.program b.machine (set b.tasks t.0 (Done w)) new_arrays es) (sym events)
-      (subst (λ (l : List (Option Array)). Stands b.program b.machine (set b.tasks t.0 (Done w)) l (b.trace ++ End t w ∷ [])) (sym arrays_are) (stands-end b.program b.machine keeps.fits b.tasks b.arrays b.trace keeps.stands keeps.every_cell t w state-runs));
+          (subst (λ (l : List (Option Array)). Stands b.program b.machine (set b.tasks t.0 (Done w)) l (b.trace ++ End t w ∷ [])) (sym arrays_are) (stands-end b.program b.machine keeps.fits b.tasks b.arrays b.trace keeps.stands keeps.every_cell t w state-runs));
       every_task = length-set b.tasks t.0 (Done w) ∙ keeps.every_task;
       every_cell = ap length arrays_are ∙ length-renewed (λ k old. (let d : Cell = record { 0 = k } in if has_cell (outputs (task_of b.program t)) d then Some (held_in b.program (zip (outputs (task_of b.program t)) (news_of b.program b.arrays t)) d) else old)) b.arrays ∙ keeps.every_cell;
       dims = new-dims-at;

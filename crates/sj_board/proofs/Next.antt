@@ -25,8 +25,8 @@ use Rattle.sj_board.specs.Plain.{IsBoardFor}
 pub all_done-first : (xs : List Progress) (first : ℕ) → first ≤ length xs → ((t : Task) → t.0 < first → is_done (get_or xs t.0 Waiting) ≡ true) → nat_eq first (length xs) ≡ true → list_all is_done xs ≡ true
 all_done-first xs first upto below e =
     list_all-from_AllPass is_done xs (λ k d h.
-      (let all : first ≡ length xs = (Decides-eqb first (length xs)).0 e in
-      ap is_done (get_or_default xs k d Waiting h) ∙ below (record { 0 = k }) (omega arith)))
+    (let all : first ≡ length xs = (Decides-eqb first (length xs)).0 e in
+    ap is_done (get_or_default xs k d Waiting h) ∙ below (record { 0 = k }) (omega arith)))
 
 pub first-all_done : (xs : List Progress) (first : ℕ) → first ≤ length xs → (first < length xs → is_done (get_or xs first Waiting) ≡ false) → list_all is_done xs ≡ true → nat_eq first (length xs) ≡ true
 first-all_done xs first upto undone all =

@@ -228,5 +228,5 @@ module _ (p : Program) (m : Machine) (fit : IsBoardFor p m) where
     pub all-settled : (n : Node) → none_leaving s n ≡ true
     all-settled n =
         list_all-from_AllPass (λ (row : CellState). not (is_leaving (replica_in row (AtNode n)))) s.cells (λ k d h.
-          (let e : get_or s.cells k d ≡ get_or s.cells k no_row = get_or_default s.cells k d no_row h in
-          ap (λ (row : CellState). not (is_leaving (replica_in row (AtNode n)))) e ∙ ap not (none-leaves (record { 0 = k }) n)))
+        (let e : get_or s.cells k d ≡ get_or s.cells k no_row = get_or_default s.cells k d no_row h in
+        ap (λ (row : CellState). not (is_leaving (replica_in row (AtNode n)))) e ∙ ap not (none-leaves (record { 0 = k }) n)))

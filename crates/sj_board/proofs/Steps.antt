@@ -192,8 +192,8 @@ module _ (p : Program) (m : Machine) (fit : IsBoardFor p m) where
             coherent = Claims-keeps_coherence p m s (after_claim p m s t w []) t w (sound-from p m s fit st.coherent) claim;
             same_tasks = refl;
             agrees = λ c upto. st.agrees c (resting c) ∙ ap (λ (v : Worker). array_of (replica s c (AtNode (node_of m v)))) (sym (it-is w worker))
-            ∙ sym (claim-arrays p m fit s st.coherent t w (after_claim p m s t w []) claim refl (λ d. none-leaves p m fit s st.coherent w worker idle d n) c)
-            ∙ ap (λ (v : Worker). array_of (replica (after_claim p m s t w []) c (AtNode (node_of m v)))) (it-is w worker);
+                ∙ sym (claim-arrays p m fit s st.coherent t w (after_claim p m s t w []) claim refl (λ d. none-leaves p m fit s st.coherent w worker idle d n) c)
+                ∙ ap (λ (v : Worker). array_of (replica (after_claim p m s t w []) c (AtNode (node_of m v)))) (it-is w worker);
             only_runs = claim-only_runs p m fit s st.coherent t w (after_claim p m s t w []) claim refl (λ d. none-leaves p m fit s st.coherent w worker idle d n) st.only_runs;
           }
 
@@ -340,9 +340,9 @@ module _ (p : Program) (m : Machine) (fit : IsBoardFor p m) where
             coherent = Runs-keeps_coherence p m s s' t w (sound-from p m s fit st.coherent) run;
             same_tasks = refl;
             agrees = λ c upto. st.agrees c (λ u v runs. absurd (none-runs s st.coherent t w claimed u v runs))
-            ∙ ap (λ (v : Worker). array_of (replica s c (AtNode (node_of m v)))) (sym is_it)
-            ∙ sym (run-arrays p m fit s st.coherent st.only_runs t w claimed s' run c (upto t w runs_now))
-            ∙ ap (λ (v : Worker). array_of (replica s' c (AtNode (node_of m v)))) is_it;
+                ∙ ap (λ (v : Worker). array_of (replica s c (AtNode (node_of m v)))) (sym is_it)
+                ∙ sym (run-arrays p m fit s st.coherent st.only_runs t w claimed s' run c (upto t w runs_now))
+                ∙ ap (λ (v : Worker). array_of (replica s' c (AtNode (node_of m v)))) is_it;
             only_runs = λ v. record { no_victims = (st.only_runs v).no_victims; no_transfer = (st.only_runs v).no_transfer };
           }
 

@@ -16,10 +16,16 @@ put_back-requires-2 t c =
     let slots = c.take_shared.ensures in
     let writes : is_written last.mode ≡ true = search rules in
     let shorter : length before < length c.args.accesses.now = omega (arith, ap length e, length_push before last) in
-    let tiles : length (set c.args.tiles.now last.cell.0 (Some c.take_shared.result)) ≡ length c.args.tiles.now = length-set c.args.tiles.now last.cell.0 (Some c.take_shared.result) in
-    (search rules, ((λ k d h. subst (λ n. (get_or before k d).cell.0 < n) (sym tiles) (All-front (λ (a : Access). a.cell.0 < length c.args.tiles.now) c.args.accesses.now before last e c.requires.cells k d h)), (
-    All-front (λ (s : Slot). s.owned ≡ false) c.args.written.now.slots c.take_shared.new.frame.slots (shared c.take_shared.result.value) slots c.requires.shared,
-    counted-before c.args.accesses.now before last c.args.written.now.slots c.take_shared.new.frame.slots (shared c.take_shared.result.value) e slots writes c.requires.count)))
+    let tiles : length (set c.args.tiles.now last.cell.0 (Some c.take_shared.result)) ≡ length c.args.tiles.now = length-set c.args.tiles.now last.cell.0 (Some c.take_shared.result) in (
+      search rules,
+      (
+        (λ k d h. subst (λ n. (get_or before k d).cell.0 < n) (sym tiles) (All-front (λ (a : Access). a.cell.0 < length c.args.tiles.now) c.args.accesses.now before last e c.requires.cells k d h)),
+        (
+          All-front (λ (s : Slot). s.owned ≡ false) c.args.written.now.slots c.take_shared.new.frame.slots (shared c.take_shared.result.value) slots c.requires.shared,
+          counted-before c.args.accesses.now before last c.args.written.now.slots c.take_shared.new.frame.slots (shared c.take_shared.result.value) e slots writes c.requires.count,
+        ),
+      ),
+    )
 
 pub returns-then-not-is_written : goal.returns-then-not-is_written
 returns-then-not-is_written t c =

@@ -68,7 +68,7 @@ whole c =
     let put : arrays_in new ≡ put_all (outputs_among c.items.result.now) (arrays c.args.written.slots) (arrays_in c.deref_mut.result.now) = c.put_back.ensures in
     let places : arrays_in c.deref_mut.result.now ≡ kept = ap arrays_in c.deref_mut.ensures.value in
     let count : length new ≡ b.tiles.len =
-      sym (length-map new _) ∙ ap length put ∙ length-put_all (outputs_among c.items.result.now) (arrays c.args.written.slots) (arrays_in c.deref_mut.result.now) ∙ length-map c.deref_mut.result.now _ ∙ c.deref_mut.ensures.len in
+    sym (length-map new _) ∙ ap length put ∙ length-put_all (outputs_among c.items.result.now) (arrays c.args.written.slots) (arrays_in c.deref_mut.result.now) ∙ length-map c.deref_mut.result.now _ ∙ c.deref_mut.ensures.len in
     let taken : take b.tiles.len (new ++ drop (length new) b.tiles.items) ≡ new = take_at new (drop (length new) b.tiles.items) b.tiles.len count in
     ap arrays_in taken ∙ put ∙ ap (λ (l : List Access). put_all (outputs_among l) (arrays c.args.written.slots) (arrays_in c.deref_mut.result.now)) accesses
     ∙ ap (λ (xs : List Array). put_all (outputs (task_of p t)) xs (arrays_in c.deref_mut.result.now)) made

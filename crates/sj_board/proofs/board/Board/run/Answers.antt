@@ -60,9 +60,9 @@ invariant_of-self c =
     let task : c.task_at-task.result.now ≡ task_of p t = c.task_at-task.ensures ∙ ap (λ (q : Program). task_of q t) c.deref.ensures in
     let told : option_map _ c.in_ok-self-inside.field-0 ≡ gift_for c.deref-4.result.now (arrays_in c.deref-5.result.now) c.task_at-task.result.now = c.in_ok-self-inside.ensures in
     let gives : option_map _ c.in_ok-self-inside.field-0 ≡ gift_for p (arrays_in b.tiles.items) (task_of p t) =
-      told ∙ ap (λ (q : Program). gift_for q (arrays_in c.deref-5.result.now) c.task_at-task.result.now) c.deref-4.ensures
-      ∙ ap (λ (l : List (Option Array)). gift_for p l c.task_at-task.result.now) (ap arrays_in c.deref-5.ensures.value)
-      ∙ ap (λ (l : Lowered). gift_for p (arrays_in b.tiles.items) l) task in
+    told ∙ ap (λ (q : Program). gift_for q (arrays_in c.deref-5.result.now) c.task_at-task.result.now) c.deref-4.ensures
+    ∙ ap (λ (l : List (Option Array)). gift_for p l c.task_at-task.result.now) (ap arrays_in c.deref-5.ensures.value)
+    ∙ ap (λ (l : Lowered). gift_for p (arrays_in b.tiles.items) l) task in
     keeps-run _ _ _ _ _ _ c.self.invariant t c.args.w claimed c.in-Some.is _ gives c.add.new.self b.delivered c.add.ensures.events c.add.ensures.room refl
 
 pub returns-clause-slots : goal.returns-clause-slots
@@ -74,9 +74,9 @@ returns-clause-slots c =
     let accesses : c.items.result.now ≡ (task_of p t).accesses = c.items.ensures ∙ ap (λ (l : Lowered). l.accesses) task in
     let told : c.in_ok-frame.frame.slots ≡ map (slot_for c.deref-2.result.now (arrays_in c.deref-3.result.now)) c.items.result.now = c.in_ok-frame.ensures in
     let slots : c.in_ok-frame.frame.slots ≡ slots_of p (arrays_in b.tiles.items) t =
-      told ∙ ap (λ (q : Program). map (slot_for q (arrays_in c.deref-3.result.now)) c.items.result.now) c.deref-2.ensures
-      ∙ ap (λ (l : List (Option Array)). map (slot_for p l) c.items.result.now) (ap arrays_in c.deref-3.ensures.value)
-      ∙ ap (map (slot_for p (arrays_in b.tiles.items))) accesses in
+    told ∙ ap (λ (q : Program). map (slot_for q (arrays_in c.deref-3.result.now)) c.items.result.now) c.deref-2.ensures
+    ∙ ap (λ (l : List (Option Array)). map (slot_for p l) c.items.result.now) (ap arrays_in c.deref-3.ensures.value)
+    ∙ ap (map (slot_for p (arrays_in b.tiles.items))) accesses in
     λ u h. slots ∙ ap (slots_of p (arrays_in b.tiles.items)) (sym (claimed-same _ _ _ _ _ _ c.self.invariant c.args.self.now c.self.view_is c.args.w t c.in-Some.is u h))
     ∙ ap (λ (s : Standing). slots_of s.program s.arrays u) c.self.view_is
 
@@ -91,9 +91,9 @@ returns-clause-can_run c =
     let accesses : c.items.result.now ≡ (task_of p t).accesses = c.items.ensures ∙ ap (λ (l : Lowered). l.accesses) task in
     let told : c.in_ok-frame.frame.slots ≡ map (slot_for c.deref-2.result.now (arrays_in c.deref-3.result.now)) c.items.result.now = c.in_ok-frame.ensures in
     let slots : c.in_ok-frame.frame.slots ≡ slots_of p (arrays_in b.tiles.items) t =
-      told ∙ ap (λ (q : Program). map (slot_for q (arrays_in c.deref-3.result.now)) c.items.result.now) c.deref-2.ensures
-      ∙ ap (λ (l : List (Option Array)). map (slot_for p l) c.items.result.now) (ap arrays_in c.deref-3.ensures.value)
-      ∙ ap (map (slot_for p (arrays_in b.tiles.items))) accesses in
+    told ∙ ap (λ (q : Program). map (slot_for q (arrays_in c.deref-3.result.now)) c.items.result.now) c.deref-2.ensures
+    ∙ ap (λ (l : List (Option Array)). map (slot_for p l) c.items.result.now) (ap arrays_in c.deref-3.ensures.value)
+    ∙ ap (map (slot_for p (arrays_in b.tiles.items))) accesses in
     λ u h. subst (λ (s : Standing). CanRunOn (task_of s.program u) c.in_ok-frame.frame.slots) c.self.view_is
     (subst (λ (k : Task). CanRunOn (task_of p k) c.in_ok-frame.frame.slots) (sym (claimed-same _ _ _ _ _ _ c.self.invariant c.args.self.now c.self.view_is c.args.w t c.in-Some.is u h))
     (subst (λ (l : List Slot). CanRunOn (task_of p t) l) (sym slots) can))
