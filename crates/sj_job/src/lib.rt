@@ -11,9 +11,9 @@ pub mod names;
 pub mod read;
 pub mod reason;
 pub mod sentence;
+pub mod spell;
 #[cfg(test)]
 mod tests;
-pub mod spell;
 #[cfg(test)]
 mod tests_of_lines;
 pub mod word;
