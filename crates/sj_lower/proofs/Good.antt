@@ -27,7 +27,7 @@ use Rattle.sj_job.specs.State.{State, root_of}
 use Rattle.sj_job.specs.Judge.{needs_value, clashes, is_aliased, is_read_only}
 use Rattle.sj_job.specs.Sound.{is_plain, has_root, has_values, IsSoundTask, dims_of as root_dims}
 use Rattle.sj_lower.specs.Lowering.{Lowering, access_of, own_task, an_access}
-use Rattle.sj_lower.specs.Plain.{is_plain_mode}
+use Rattle.sj_core.specs.Laws.{is_plain_mode}
 use Rattle.sj_lower.proofs.Contents.{task_at, same_cell-is}
 use Rattle.sj_lower.proofs.Holding.{cell_of, handle_is, bytes_eq-itself}
 use Rattle.sj_lower.proofs.Running.{root_there, valued_there, dims_there, or_none, kernel_there}

@@ -23,7 +23,7 @@ use Rattle.sj_core.specs.Operands.{copy_of}
 use Rattle.sj_core.specs.Program.{no_cell, no_task, cell_info, task_of, is_redux}
 use Rattle.sj_core.specs.Proper.{Proper, NamesCells, IsCopyOf, IsPlain, Fits, IsUnaliased, reads_value, HasValueBefore, ReadsValues, HasPhases, HasDeliveries, IsWithinLimits, IsPhase, task_number, access}
 use Rattle.sj_job.specs.declared.job.Statement.{Statement}
-use Rattle.sj_lower.specs.Plain.{is_plain_mode, HasPlainModes}
+use Rattle.sj_core.specs.Laws.{is_plain_mode, HasPlainModes}
 use Rattle.sj_lower.specs.Delivering.{DeliversPrinted, CountsPrints, NamesDeliverTasks, DeliversInOrder}
 use Rattle.sj_lower.proofs.Contents.{task_at}
 use Rattle.sj_lower.proofs.Good.{IsGood}
@@ -114,7 +114,7 @@ module _ (p : Program) (ss : List Statement) (w : IsWhole p ss) where
   }
 
   pub plain : HasPlainModes p
-  plain = record { plain = each_task (λ (l : Lowered). All (λ (a : Access). is_plain_mode a.mode ≡ true) l.accesses) (λ n g. g.plain) }
+  plain = record { modes = λ t. every_task (λ n a. is_plain_mode a.mode ≡ true) (λ n inside. (w.good n inside).plain) t.0 }
 
   pub delivers_printed : DeliversPrinted p ss
   delivers_printed = ap (λ (ds : List Delivery). each_of (λ (d : Delivery). given p d.task) ds) w.deliveries ∙ w.delivered.arrays

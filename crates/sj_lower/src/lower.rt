@@ -2,9 +2,9 @@
 
 ghost use Rattle.std.specs.Prelude.{◌≡◌, IfOk};
 ghost use Rattle.sj_lower.specs.Lowering.{lowered};
+ghost use Rattle.sj_core.specs.Laws.{HasPlainModes};
 ghost use Rattle.sj_core.specs.Proper.{Proper};
 ghost use Rattle.sj_lower.specs.Job.{IsJob};
-ghost use Rattle.sj_lower.specs.Plain.{HasPlainModes};
 ghost use Rattle.sj_lower.specs.Delivering.{DeliversPrinted, CountsPrints, NamesDeliverTasks, DeliversInOrder};
 
 use crate::lowerer::Lowerer;
