@@ -69,12 +69,6 @@ replaced_here S name es r e = ap (λ (o : Option Root). elim o as (λ _. State) 
   | Some r ↦ record { registered = S.registered; ended = S.ended; roots = map.insert S.roots name (root_with es r.kind r.dims) }
 ]) e
 
-replaced_absent : (S : State) (name : List ℕ) (es : List (Option ℤ)) → root_of S name ≡ None → replaced name es S ≡ S
-replaced_absent S name es e = ap (λ (o : Option Root). elim o as (λ _. State) [
-  | None ↦ S
-  | Some r ↦ record { registered = S.registered; ended = S.ended; roots = map.insert S.roots name (root_with es r.kind r.dims) }
-]) e
-
 same_root : (held before : Held) → held.kind ≡ before.kind → dims_in held.content ≡ dims_in before.content → root_in held ≡ root_with (elements_in held.content) before.kind (dims_in before.content)
 same_root held before k d =
     ap (λ (x : Kind). root_with (elements_in held.content) x (dims_in held.content)) k ∙ ap (root_with (elements_in held.content) before.kind) d
@@ -88,10 +82,7 @@ holds_replaced old new S name held before h u found k d =
       roots = λ q. inserted old new S name held h u q ∙ ap (λ root. map.get (map.insert S.roots name root) q) (same_root held before k e);
     })
 
-pub holds_absent : (old : Arrays) (S : State) (name : List ℕ) (es : List (Option ℤ)) → Holds old S → get (slice_cmp nat_cmp) old.by_name name ≡ None → Holds old (replaced name es S)
-holds_absent old S name es h found = subst (λ (T : State). Holds old T) (sym (replaced_absent S name es (sym (h.roots name) ∙ ap (option_map root_in) found))) h
-
--- what is without value keeps its dimensions
+-- taking the values away is putting none in their place
 by_root : (S : State) (name : List ℕ) (o : Option Root) → (elim o as (λ _. State) [
   | None ↦ S
   | Some r ↦ record { registered = S.registered; ended = S.ended; roots = map.insert S.roots name (root_with (no_values (elim o as (λ _. Dims) [ None ↦ record { rows = 0; cols = 0 } | Some r ↦ r.dims ])) r.kind r.dims) }
@@ -113,9 +104,6 @@ pub holds_invalidate : (A B : Arrays) (S : State) (name : List ℕ) (held : Held
 holds_invalidate A B S name held d h found e done =
     let same : d ≡ dims_of S name = e ∙ dims_held A S name held h found in
     subst (λ (T : State). Holds B T) (ap (λ (x : Dims). replaced name (no_values x) S) same ∙ replaced_invalidate S name) (done same)
-
-pub holds_invalidate_absent : (A : Arrays) (S : State) (name : List ℕ) → Holds A S → get (slice_cmp nat_cmp) A.by_name name ≡ None → Holds A (invalidate name S)
-holds_invalidate_absent A S name h found = subst (λ (T : State). Holds A T) (replaced_invalidate S name) (holds_absent A S name (no_values (dims_of S name)) h found)
 
 one_less : (b : Bool) (h : Option Held) (o : Option Root) → option_map root_in h ≡ o → option_map root_in (cond b None h) ≡ cond b None o
 one_less true h o e = refl

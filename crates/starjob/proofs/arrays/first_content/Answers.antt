@@ -1,4 +1,4 @@
-use Rattle.std.proofs.Common.{◌≡◌, ◌∙◌, ap, rules, FitsSigned, w64, to_z, of_z, ℤ}
+use Rattle.std.proofs.Common.{◌∙◌, ap, rules, FitsSigned, w64, to_z, of_z, ℤ}
 use Rattle.std.proofs.lemmas.Int.{to_z-of_z}
 use Rattle.sj_base.specs.Array.{zeros}
 use Rattle.sj_codelet.specs.Equations.{fill}
