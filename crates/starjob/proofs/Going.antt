@@ -8,6 +8,7 @@ use Rattle.sj_job.specs.declared.job.Statement.{Statement}
 use Rattle.sj_job.specs.State.{State, start}
 use Rattle.sj_job.specs.Meaning.{apply, prints, printed, printed_from}
 use Rattle.sj_job.specs.Well.{IsWell}
+use Rattle.sj_job.proofs.Sounding.{sound_from_allowed}
 use Rattle.starjob.specs.declared.arrays.Arrays.{Arrays}
 use Rattle.starjob.specs.Output.{output, block_of}
 use Rattle.starjob.specs.Holds.{Holds, CanDo, Goes}
@@ -24,7 +25,7 @@ goes_start has A text ss h e w = record { state = start; holds = h; well = w; to
 pub goes_can : (has : Kernel → Bool) (A : Arrays) (text : List ℕ) (n i : ℕ) (ss : List Statement) (s : Statement) (whole : List ℕ) → i < length ss → get_or ss i s ≡ s → Goes has A text n (drop i ss) whole → CanDo has A s.act
 goes_can has A text n i ss s whole lt e g =
     let h = next has A text n i ss s whole lt e g in
-    record { count = n; state = h.state; holds = h.holds; allowed = h.well.0 }
+    record { state = h.state; holds = h.holds; sound = sound_from_allowed has n h.state s.act h.well.0 }
 
 pub goes_on : (has : Kernel → Bool) (A B : Arrays) (text more : List ℕ) (n i : ℕ) (ss : List Statement) (s : Statement) (whole : List ℕ) → i < length ss → get_or ss i s ≡ s → Goes has A text n (drop i ss) whole → ((S : State) → Holds A S → Holds B (apply s.act S)) → ((S : State) → Holds A S → more ≡ text ++ output (prints s.act S)) → Goes has B more (n + 1) (drop (i + 1) ss) whole
 goes_on has A B text more n i ss s whole lt e g state told =

@@ -1,7 +1,7 @@
 -- Arrays under their names go on holding what the state says.
 use Rattle.std.specs.FinMap as map
-use Rattle.std.proofs.Common.{◌≡◌, ℕ, suc, Bool, true, false, List, [], ◌∷◌, ◌++◌, length, refl, ap, ◌∙◌, sym, subst, Option, Some, None, option_map, cond, ℤ, pos, unwrap_or, map as each_of, arith, ◌&&◌}
-use Rattle.std.specs.List.{list_all}
+use Rattle.std.proofs.Common.{◌≡◌, ℕ, zero, suc, replicate, Bool, true, false, List, [], ◌∷◌, ◌++◌, length, refl, ap, ◌∙◌, sym, subst, Option, Some, None, option_map, cond, ℤ, pos, ◌+ℤ◌, ◌*ℤ◌, unwrap_or, map as each_of, arith, ◌&&◌}
+use Rattle.std.specs.List.{list_all, range_with_len}
 use Rattle.std.specs.Ordering.{nat_cmp, eq_by_cmp}
 use Rattle.std.specs.Cmp.{eq_by_cmp_equiv}
 use Rattle.std.specs.Cmp.Lexicographic.{slice_cmp, nat_list_cmp_total, texts_ties, same_text}
@@ -10,10 +10,14 @@ use Rattle.std.specs.BTreeMap.{get, is_at, Updates}
 use Rattle.sj_base.specs.declared.tile.Dims.{Dims}
 use Rattle.sj_base.specs.declared.mode.Mode.{Mode}
 use Rattle.sj_base.specs.declared.mode.Mode.TheVariants.{R, W, RW, Scratch, Redux, Commute}
-use Rattle.sj_base.specs.Array.{Array, array}
+use Rattle.sj_base.specs.Array.{Array, array, area, zeros}
 use Rattle.sj_codelet.specs.declared.formal.Formal.{Formal}
 use Rattle.sj_codelet.specs.declared.formal.Formal.TheVariants.{R as FormalR, W as FormalW, RW as FormalRW, Scratch as FormalScratch}
 use Rattle.sj_codelet.specs.Frame.{Slot, Frame, own, arrays, all_dims, IsReady, AreReady, written, AllKeep}
+use Rattle.sj_codelet.specs.Ring.{wrap}
+use Rattle.sj_codelet.specs.Equations.{fill}
+use Rattle.sj_job.specs.declared.job.Init.{Init}
+use Rattle.sj_job.specs.declared.job.Init.TheVariants.{Fill}
 use Rattle.sj_job.specs.declared.job.Kind.{Kind}
 use Rattle.sj_job.specs.declared.job.Operand.{Operand}
 use Rattle.sj_job.specs.declared.job.Register.{Register}
@@ -21,14 +25,17 @@ use Rattle.sj_job.specs.declared.job.TaskLine.{TaskLine}
 use Rattle.sj_codelet.specs.Kernel.{out}
 use Rattle.sj_codelet.specs.Runs.{formals_in, IsRun}
 use Rattle.sj_job.specs.State.{Root, State, root_of, start}
-use Rattle.sj_job.specs.Meaning.{registered_root, register, first_elements, array_of, Printed, found_by, put, put_all, written_names, run_task, operand_array, seen_by, is_written}
+use Rattle.sj_job.specs.Meaning.{registered_root, register, first_elements, no_values, invalidate, unregister, array_of, Printed, found_by, put, put_all, written_names, run_task, operand_array, seen_by, is_written}
 use Rattle.sj_job.specs.Judge.{mode_fits, modes_fit}
 use Rattle.sj_job.specs.Sound.{dims_of, is_plain}
+use Rattle.starjob.specs.declared.arrays.Content.{Content}
+use Rattle.starjob.specs.declared.arrays.Content.TheVariants.{Absent, Present}
 use Rattle.starjob.specs.declared.arrays.Held.{Held}
 use Rattle.starjob.specs.declared.arrays.Arrays.{Arrays}
 use Rattle.starjob.specs.Output.{block_of, output}
+use Rattle.std.proofs.lemmas.Simd.{map-map}
 use Rattle.std.proofs.lemmas.List.{append-nil, length-append, length-map}
-use Rattle.starjob.specs.Holds.{root_in, Holds, slot_for, slot_in, put_slot, put_slots}
+use Rattle.starjob.specs.Holds.{dims_in, elements_in, array_in, root_in, Holds, slot_for, slot_in, replaced, put_slot, put_slots}
 
 -- before the first statement
 pub holds_none : (new : Arrays) → new.by_name.entries ≡ [] → Holds new start
@@ -53,36 +60,64 @@ holds_registered old new S r held h u e = record {
   roots = λ q. inserted old new S r.name held h u q ∙ ap (λ root. map.get (map.insert S.roots r.name root) q) e;
 }
 
-put_here : (S : State) (name : List ℕ) (a : Array) (r : Root) → root_of S name ≡ Some r → put name a S ≡ record { registered = S.registered; ended = S.ended; roots = map.insert S.roots name (record { kind = r.kind; dims = r.dims; elements = each_of Some a.elements }) }
-put_here S name a r e = ap (λ (o : Option Root). elim o as (λ _. State) [
-  | None ↦ S
-  | Some r ↦ record { registered = S.registered; ended = S.ended; roots = map.insert S.roots name (record { kind = r.kind; dims = r.dims; elements = each_of Some a.elements }) }
-]) e
-
-put_absent : (S : State) (name : List ℕ) (a : Array) → root_of S name ≡ None → put name a S ≡ S
-put_absent S name a e = ap (λ (o : Option Root). elim o as (λ _. State) [
-  | None ↦ S
-  | Some r ↦ record { registered = S.registered; ended = S.ended; roots = map.insert S.roots name (record { kind = r.kind; dims = r.dims; elements = each_of Some a.elements }) }
-]) e
-
 abbrev root_with : List (Option ℤ) → Kind → Dims → Root
 root_with es k d = record { kind = k; dims = d; elements = es }
 
-same_root : (held before : Held) → held.kind ≡ before.kind → held.tile.value.dims ≡ before.tile.value.dims → root_in held ≡ root_with (each_of Some held.tile.value.elements) before.kind before.tile.value.dims
-same_root held before k d =
-    ap (λ (x : Kind). root_with (each_of Some held.tile.value.elements) x held.tile.value.dims) k ∙ ap (root_with (each_of Some held.tile.value.elements) before.kind) d
+replaced_here : (S : State) (name : List ℕ) (es : List (Option ℤ)) (r : Root) → root_of S name ≡ Some r → replaced name es S ≡ record { registered = S.registered; ended = S.ended; roots = map.insert S.roots name (root_with es r.kind r.dims) }
+replaced_here S name es r e = ap (λ (o : Option Root). elim o as (λ _. State) [
+  | None ↦ S
+  | Some r ↦ record { registered = S.registered; ended = S.ended; roots = map.insert S.roots name (root_with es r.kind r.dims) }
+]) e
 
--- an array in the place of a name's
-pub holds_put : (old new : Arrays) (S : State) (name : List ℕ) (held : Held) (before : Held) → Holds old S → Updates (slice_cmp nat_cmp) old.by_name new.by_name name (Some held) → get (slice_cmp nat_cmp) old.by_name name ≡ Some before → held.kind ≡ before.kind → held.tile.value.dims ≡ dims_of S name → Holds new (put name held.tile.value S)
-holds_put old new S name held before h u found k d =
+same_root : (held before : Held) → held.kind ≡ before.kind → dims_in held.content ≡ dims_in before.content → root_in held ≡ root_with (elements_in held.content) before.kind (dims_in before.content)
+same_root held before k d =
+    ap (λ (x : Kind). root_with (elements_in held.content) x (dims_in held.content)) k ∙ ap (root_with (elements_in held.content) before.kind) d
+
+-- other elements in the place of a name's
+pub holds_replaced : (old new : Arrays) (S : State) (name : List ℕ) (held : Held) (before : Held) → Holds old S → Updates (slice_cmp nat_cmp) old.by_name new.by_name name (Some held) → get (slice_cmp nat_cmp) old.by_name name ≡ Some before → held.kind ≡ before.kind → dims_in held.content ≡ dims_of S name → Holds new (replaced name (elements_in held.content) S)
+holds_replaced old new S name held before h u found k d =
     let here : root_of S name ≡ Some (root_in before) = sym (h.roots name) ∙ ap (option_map root_in) found in
-    let e : held.tile.value.dims ≡ before.tile.value.dims = d ∙ ap (λ (o : Option Root). elim o as (λ _. Dims) [ None ↦ record { rows = 0; cols = 0 } | Some r ↦ r.dims ]) here in
-    subst (λ (T : State). Holds new T) (sym (put_here S name held.tile.value (root_in before) here)) (record {
+    let e : dims_in held.content ≡ dims_in before.content = d ∙ ap (λ (o : Option Root). elim o as (λ _. Dims) [ None ↦ record { rows = 0; cols = 0 } | Some r ↦ r.dims ]) here in
+    subst (λ (T : State). Holds new T) (sym (replaced_here S name (elements_in held.content) (root_in before) here)) (record {
       roots = λ q. inserted old new S name held h u q ∙ ap (λ root. map.get (map.insert S.roots name root) q) (same_root held before k e);
     })
 
-pub holds_absent : (old : Arrays) (S : State) (name : List ℕ) (a : Array) → Holds old S → get (slice_cmp nat_cmp) old.by_name name ≡ None → Holds old (put name a S)
-holds_absent old S name a h found = subst (λ (T : State). Holds old T) (sym (put_absent S name a (sym (h.roots name) ∙ ap (option_map root_in) found))) h
+-- taking the values away is putting none in their place
+by_root : (S : State) (name : List ℕ) (o : Option Root) → (elim o as (λ _. State) [
+  | None ↦ S
+  | Some r ↦ record { registered = S.registered; ended = S.ended; roots = map.insert S.roots name (root_with (no_values (elim o as (λ _. Dims) [ None ↦ record { rows = 0; cols = 0 } | Some r ↦ r.dims ])) r.kind r.dims) }
+]) ≡ (elim o as (λ _. State) [
+  | None ↦ S
+  | Some r ↦ record { registered = S.registered; ended = S.ended; roots = map.insert S.roots name (root_with (no_values r.dims) r.kind r.dims) }
+])
+by_root S name None = refl
+by_root S name (Some r) = refl
+
+replaced_invalidate : (S : State) (name : List ℕ) → replaced name (no_values (dims_of S name)) S ≡ invalidate name S
+replaced_invalidate S name = by_root S name (root_of S name)
+
+dims_held : (A : Arrays) (S : State) (name : List ℕ) (held : Held) → Holds A S → get (slice_cmp nat_cmp) A.by_name name ≡ Some held → dims_in held.content ≡ dims_of S name
+dims_held A S name held h found = ap (λ (o : Option Root). elim o as (λ _. Dims) [ None ↦ record { rows = 0; cols = 0 } | Some r ↦ r.dims ]) (sym (ap (option_map root_in) found) ∙ h.roots name)
+
+-- a name's values taken away
+pub holds_invalidate : (A B : Arrays) (S : State) (name : List ℕ) (held : Held) (d : Dims) → Holds A S → get (slice_cmp nat_cmp) A.by_name name ≡ Some held → d ≡ dims_in held.content → (d ≡ dims_of S name → Holds B (replaced name (no_values d) S)) → Holds B (invalidate name S)
+holds_invalidate A B S name held d h found e done =
+    let same : d ≡ dims_of S name = e ∙ dims_held A S name held h found in
+    subst (λ (T : State). Holds B T) (ap (λ (x : Dims). replaced name (no_values x) S) same ∙ replaced_invalidate S name) (done same)
+
+one_less : (b : Bool) (h : Option Held) (o : Option Root) → option_map root_in h ≡ o → option_map root_in (cond b None h) ≡ cond b None o
+one_less true h o e = refl
+one_less false h o e = e
+
+-- a name taken away
+pub holds_unregister : (old new : Arrays) (S : State) (name : List ℕ) → Holds old S → Updates (slice_cmp nat_cmp) old.by_name new.by_name name None → Holds new (unregister name S)
+holds_unregister old new S name h u = record {
+  roots = λ q.
+      ap (option_map root_in) (u.0 q)
+      ∙ one_less (is_at (slice_cmp nat_cmp name) q) (get (slice_cmp nat_cmp) old.by_name q) (root_of S q) (h.roots q)
+      ∙ ap (λ b. cond b None (root_of S q)) ((eq_by_cmp_equiv nat_list_cmp_total).symm name q)
+      ∙ sym (map.get-remove nat_list_cmp_total S.roots name q);
+}
 
 -- ---- what a task sees
 
@@ -90,19 +125,24 @@ unwrapped : (xs : List ℤ) → xs ≡ each_of (λ e. unwrap_or e (pos 0)) (each
 unwrapped [] = refl
 unwrapped (x ∷ xs) = ap (λ ys. x ∷ ys) (unwrapped xs)
 
-whole : (h : Held) → h.tile.value ≡ array h.tile.value.dims (each_of (λ e. unwrap_or e (pos 0)) (each_of Some h.tile.value.elements))
-whole h = ap (array h.tile.value.dims) (unwrapped h.tile.value.elements)
+unwrapped_none : (n : ℕ) → replicate n (pos 0) ≡ each_of (λ e. unwrap_or e (pos 0)) (replicate n None)
+unwrapped_none zero = refl
+unwrapped_none (suc n) = ap (λ ys. pos 0 ∷ ys) (unwrapped_none n)
 
-seen : (m : Mode) (h : Held) → (slot_for m h).array ≡ seen_by m (root_in h)
-seen R h = whole h
+whole : (c : Content) → array_in c ≡ array (dims_in c) (each_of (λ e. unwrap_or e (pos 0)) (elements_in c))
+whole (Absent d) = ap (array d) (unwrapped_none (area d))
+whole (Present t) = ap (array t.value.dims) (unwrapped t.value.elements)
+
+seen : (m : Mode) (h : Held) → (slot_for m h.content).array ≡ seen_by m (root_in h)
+seen R h = whole h.content
 seen W h = refl
 seen Scratch h = refl
-seen RW h = whole h
-seen Redux h = whole h
-seen Commute h = whole h
+seen RW h = whole h.content
+seen Redux h = whole h.content
+seen Commute h = whole h.content
 
 abbrev slot_by : Mode → Option Held → Slot
-slot_by m o = elim o [ None ↦ own (array (record { rows = 0; cols = 0 }) []) | Some h ↦ slot_for m h ]
+slot_by m o = elim o [ None ↦ own (array (record { rows = 0; cols = 0 }) []) | Some h ↦ slot_for m h.content ]
 
 abbrev array_by : Mode → Option Root → Array
 array_by m o = elim o [ None ↦ array (record { rows = 0; cols = 0 }) [] | Some r ↦ seen_by m r ]
@@ -114,23 +154,27 @@ seen_in : (m : Mode) (o : Option Held) → (slot_by m o).array ≡ array_by m (o
 seen_in m None = refl
 seen_in m (Some h) = seen m h
 
-dims_for : (m : Mode) (h : Held) → (slot_for m h).array.dims ≡ h.tile.value.dims
-dims_for R h = refl
-dims_for W h = refl
-dims_for Scratch h = refl
-dims_for RW h = refl
-dims_for Redux h = refl
-dims_for Commute h = refl
+array_dims : (c : Content) → (array_in c).dims ≡ dims_in c
+array_dims (Absent d) = refl
+array_dims (Present t) = refl
 
-dims_in : (m : Mode) (o : Option Held) → (slot_by m o).array.dims ≡ dims_by (option_map root_in o)
-dims_in m None = refl
-dims_in m (Some h) = dims_for m h
+dims_for : (m : Mode) (c : Content) → (slot_for m c).array.dims ≡ dims_in c
+dims_for R c = array_dims c
+dims_for W c = refl
+dims_for Scratch c = refl
+dims_for RW c = array_dims c
+dims_for Redux c = array_dims c
+dims_for Commute c = array_dims c
+
+dims_at : (m : Mode) (o : Option Held) → (slot_by m o).array.dims ≡ dims_by (option_map root_in o)
+dims_at m None = refl
+dims_at m (Some h) = dims_for m h.content
 
 one_seen : (a : Arrays) (S : State) (o : Operand) → Holds a S → (slot_in a o).array ≡ operand_array S o
 one_seen a S o h = seen_in o.mode (get (slice_cmp nat_cmp) a.by_name o.name) ∙ ap (array_by o.mode) (h.roots o.name)
 
 one_dims : (a : Arrays) (S : State) (o : Operand) → Holds a S → (slot_in a o).array.dims ≡ dims_of S o.name
-one_dims a S o h = dims_in o.mode (get (slice_cmp nat_cmp) a.by_name o.name) ∙ ap dims_by (h.roots o.name)
+one_dims a S o h = dims_at o.mode (get (slice_cmp nat_cmp) a.by_name o.name) ∙ ap dims_by (h.roots o.name)
 
 pub arrays_seen : (a : Arrays) (S : State) (os : List Operand) → Holds a S → arrays (each_of (slot_in a) os) ≡ each_of (operand_array S) os
 arrays_seen a S [] h = refl
@@ -158,7 +202,8 @@ ready_by FormalRW W o e p = absurd (cc)
 ready_by FormalRW Scratch o e p = absurd (cc)
 ready_by FormalRW Redux o e p = absurd (cc)
 ready_by FormalRW Commute o e p = absurd (cc)
-ready_by FormalScratch Scratch o e p = absurd (cc)
+ready_by FormalScratch Scratch None e p = (refl, refl)
+ready_by FormalScratch Scratch (Some h) e p = (refl, refl)
 ready_by FormalScratch R o e p = absurd (cc)
 ready_by FormalScratch W o e p = absurd (cc)
 ready_by FormalScratch RW o e p = absurd (cc)
@@ -247,9 +292,9 @@ put_slots-push (p ∷ os) (t ∷ ss) o s S l = put_slots-push os ss o s (put_slo
 tied : (q name : List ℕ) → eq_by_cmp (slice_cmp nat_cmp) q name ≡ true → q ≡ name
 tied q name e = same_text q name (sym (texts_ties q name ∙ e))
 
-replaced : (b : Bool) (o : Option Root) (r : Root) (es : List (Option ℤ)) → (b ≡ true → o ≡ Some r) → dims_by (cond b (let new : Root = record { kind = r.kind; dims = r.dims; elements = es } in Some new) o) ≡ dims_by o
-replaced true o r es e = sym (ap dims_by (e refl))
-replaced false o r es e = refl
+dims_replaced : (b : Bool) (o : Option Root) (r : Root) (es : List (Option ℤ)) → (b ≡ true → o ≡ Some r) → dims_by (cond b (let new : Root = record { kind = r.kind; dims = r.dims; elements = es } in Some new) o) ≡ dims_by o
+dims_replaced true o r es e = sym (ap dims_by (e refl))
+dims_replaced false o r es e = refl
 
 put_dims : (S : State) (name : List ℕ) (a : Array) (q : List ℕ) (o : Option Root) → root_of S name ≡ o → dims_of (elim o [
   | None ↦ S
@@ -259,7 +304,7 @@ put_dims S name a q None e = refl
 put_dims S name a q (Some r) e =
     let new : Root = record { kind = r.kind; dims = r.dims; elements = each_of Some a.elements } in
     ap dims_by (map.get-insert nat_list_cmp_total S.roots name new q)
-    ∙ replaced (eq_by_cmp (slice_cmp nat_cmp) q name) (root_of S q) r (each_of Some a.elements) (λ t. ap (root_of S) (tied q name t) ∙ e)
+    ∙ dims_replaced (eq_by_cmp (slice_cmp nat_cmp) q name) (root_of S q) r (each_of Some a.elements) (λ t. ap (root_of S) (tied q name t) ∙ e)
 
 put_slot_dims : (b : Bool) (S : State) (name : List ℕ) (a : Array) (q : List ℕ) → dims_of (cond b (put name a S) S) q ≡ dims_of S q
 put_slot_dims true S name a q = put_dims S name a q (root_of S name) refl
@@ -271,19 +316,25 @@ put_slots_dims [] ss S q = refl
 put_slots_dims (o ∷ os) [] S q = refl
 put_slots_dims (o ∷ os) (s ∷ ss) S q = put_slots_dims os ss (put_slot o s S) q ∙ put_slot_dims (is_written o.mode) S o.name s.array q
 
-pub first_root : (r : Register) (held : Held) (t : Array) → held.kind ≡ r.kind → held.tile.value ≡ t → (t.dims ≡ r.dims) × (each_of Some t.elements ≡ first_elements r.init) → root_in held ≡ registered_root r
-first_root r held t k e h =
-    ap (λ (x : Kind). root_with (each_of Some held.tile.value.elements) x held.tile.value.dims) k
-    ∙ ap (λ (a : Array). root_with (each_of Some a.elements) r.kind a.dims) e
-    ∙ ap (root_with (each_of Some t.elements) r.kind) h.0
-    ∙ ap (λ (es : List (Option ℤ)). root_with es r.kind r.dims) h.1
+pub first_root : (r : Register) (held : Held) → held.kind ≡ r.kind → dims_in held.content ≡ r.dims → elements_in held.content ≡ first_elements r.init r.dims → root_in held ≡ registered_root r
+first_root r held k d e =
+    ap (λ (x : Kind). root_with (elements_in held.content) x (dims_in held.content)) k
+    ∙ ap (root_with (elements_in held.content) r.kind) d
+    ∙ ap (λ (es : List (Option ℤ)). root_with es r.kind r.dims) e
 
 -- what is printed of a name's array
-pub printed_is : (a : Arrays) (S : State) (name : List ℕ) (held : Held) → Holds a S → get (slice_cmp nat_cmp) a.by_name name ≡ Some held → block_of held.kind name held.tile.value ≡ output (found_by S name)
+pub printed_is : (a : Arrays) (S : State) (name : List ℕ) (held : Held) → Holds a S → get (slice_cmp nat_cmp) a.by_name name ≡ Some held → block_of held.kind name (array_in held.content) ≡ output (found_by S name)
 printed_is a S name held h found =
-    ap (block_of held.kind name) (whole held)
+    ap (block_of held.kind name) (whole held.content)
     ∙ sym (append-nil (block_of held.kind name (array_of (root_in held))))
     ∙ ap (λ (o : Option Root). output (elim o as (λ _. List Printed) [ None ↦ [] | Some r ↦ record { name = name; kind = r.kind; array = array_of r } ∷ [] ])) (sym (ap (option_map root_in) found) ∙ h.roots name)
+
+-- the elements that a filled tile begins with
+pub filled_first : (r : Register) (a b : ℤ) (t u : Array) → r.init ≡ Fill a b → u ≡ fill a b (zeros r.dims) → t ≡ u → each_of Some t.elements ≡ first_elements r.init r.dims
+filled_first r a b t u i e f =
+    ap (λ (x : Array). each_of Some x.elements) (f ∙ e)
+    ∙ map-map Some (λ p. wrap (a +ℤ (b *ℤ pos p))) (range_with_len 0 (area r.dims))
+    ∙ ap (λ (x : Init). first_elements x r.dims) (sym i)
 
 dims_split : (mid : List Slot) (s : Slot) (before : List Operand) (o : Operand) (f : Operand → Dims) → length before ≡ length mid → all_dims (mid ++ s ∷ []) ≡ each_of f (before ++ o ∷ []) → (all_dims mid ≡ each_of f before) × (s.array.dims ≡ f o)
 dims_split [] s [] o f l e = (refl, cc)

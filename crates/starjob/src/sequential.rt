@@ -53,7 +53,15 @@ fn run_statement<C: Codelets>(
             Ok(())
         }
         Act::Print(name) => {
-            arrays.print(name, text)?;
+            arrays.print(alloc, name, text)?;
+            Ok(())
+        }
+        Act::Invalidate(name) => {
+            arrays.invalidate(alloc, name)?;
+            Ok(())
+        }
+        Act::Unregister(name) => {
+            arrays.unregister(name);
             Ok(())
         }
     }

@@ -1,20 +1,19 @@
 use Rattle.std.proofs.Common.{subst}
 use Rattle.sj_job.specs.declared.job.Act.{Act}
-use Rattle.sj_job.specs.Judge.{scope_of}
-use Rattle.sj_job.specs.Well.{IsAllowed}
-use Rattle.sj_job.proofs.Sounding.{registration_from_allowed, task_from_allowed}
+use Rattle.sj_job.specs.declared.job.Act.TheVariants.{Register, Task}
+use Rattle.sj_job.specs.Sound.{IsSoundAct}
 use Rattle.starjob.proofs.sequential.run_statement.Goals as goal
 
 pub register-requires : goal.register-requires
 register-requires g c =
+    let has = g.C.Codelets.has in
     let r = c.requires in
-    registration_from_allowed g.C.Codelets.has (scope_of r.count r.state) c.in-Register.register (subst (λ (a : Act). IsAllowed g.C.Codelets.has (scope_of r.count r.state) a) c.in-Register.is r.allowed)
+    let sound : IsSoundAct has r.state (Register c.in-Register.register) = subst (λ (a : Act). IsSoundAct has r.state a) c.in-Register.is r.sound in
+    sound.values
 
 pub run_task-requires-after_bounds : goal.run_task-requires-after_bounds
 run_task-requires-after_bounds g c κs within =
+    let has = g.C.Codelets.has in
     let r = c.requires in
-    record {
-      state = r.state;
-      holds = r.holds;
-      sound = task_from_allowed g.C.Codelets.has r.count r.state c.in-Task.task (subst (λ (a : Act). IsAllowed g.C.Codelets.has (scope_of r.count r.state) a) c.in-Task.is r.allowed);
-    }
+    let sound : IsSoundAct has r.state (Task c.in-Task.task) = subst (λ (a : Act). IsSoundAct has r.state a) c.in-Task.is r.sound in
+    record { state = r.state; holds = r.holds; sound = sound }

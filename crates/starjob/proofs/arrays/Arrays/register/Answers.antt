@@ -8,7 +8,7 @@ use Rattle.starjob.proofs.arrays.Arrays.register.Goals as goal
 
 pub returns : goal.returns
 returns c =
-    let held : Held = record { kind = c.args.r.now.kind; tile = c.in_ok-new.field-0 } in
+    let held : Held = record { kind = c.args.r.now.kind; content = c.in_ok-first_content.field-0 } in
     λ S h. holds_registered c.args.self.now _ S c.args.r.now held h
     (subst (λ (name : List ℕ). Updates (slice_cmp nat_cmp) c.args.self.now.by_name c.insert.new.self name (Some held)) c.in_ok-copy.ensures c.in_ok-insert.ensures.updates)
-    (first_root c.args.r.now held c.in_ok-tile.tile refl c.in_ok-new.ensures.ok c.in_ok-tile.ensures)
+    (first_root c.args.r.now held refl c.in_ok-first_content.ensures.dims c.in_ok-first_content.ensures.elements)
