@@ -4,6 +4,7 @@ use Rattle.std.specs.Prelude.{All, AllPairs, Contains, count_by, filter}
 use Rattle.std.specs.List.{range_with_len}
 use Rattle.std.proofs.lemmas.Bool.{cases_lt, false≢true}
 use Rattle.std.proofs.lemmas.Bool.Decides.{Decides-eqb}
+use Rattle.std.proofs.lemmas.List.Sums.{sum_by-cons}
 use Rattle.std.proofs.lemmas.List.FromFn.{length-map-range_with_len, get_or-map-range_with_len}
 use Rattle.std.proofs.lemmas.Simd.{map-map}
 use Rattle.sj_base.specs.declared.ids.Task.{Task}
@@ -131,7 +132,7 @@ filter-among {X} f (y ∷ xs) x h = among (f y) (filter-among f xs x) h
 
 counted-member : (t : Task) (ds : List Delivery) → 0 < count_by (λ d. nat_eq d.task.0 t.0) ds → Contains (map (λ (d : Delivery). d.task) ds) t
 counted-member t [] h = absurd (omega arith)
-counted-member t (d ∷ ds) h = found (nat_eq d.task.0 t.0) refl (counted-member t ds) h
+counted-member t (d ∷ ds) h = found (nat_eq d.task.0 t.0) refl (counted-member t ds) (subst (λ (n : ℕ). 0 < n) (sum_by-cons (λ (x : Delivery). cond (nat_eq x.task.0 t.0) 1 0) d ds) h)
   where
     found : (b : Bool) → nat_eq d.task.0 t.0 ≡ b → (0 < count_by (λ e. nat_eq e.task.0 t.0) ds → Contains (map (λ (e : Delivery). e.task) ds) t) → 0 < cond b 1 0 + count_by (λ e. nat_eq e.task.0 t.0) ds → Contains (d.task ∷ map (λ (e : Delivery). e.task) ds) t
     found true e rest l = (0, omega arith, ap task_at ((Decides-eqb d.task.0 t.0).0 e))
