@@ -1,3 +1,4 @@
 pub mod Progressing
 pub mod OneTask
 pub mod Delivering
+pub mod Starting

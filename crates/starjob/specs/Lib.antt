@@ -1,6 +1,8 @@
-pub mod Holds
+pub mod Kinds
 pub mod Output
+pub mod Printing
 pub mod Report
 pub mod Status
 pub mod Streams
 pub mod Top
+pub mod Traces

@@ -1,10 +1,11 @@
 //! `starjob`: reads a job text, runs its tasks, and prints the arrays asked for.
 #![tactic(auto)]
 
-mod arrays;
+mod kinds;
 mod output;
+mod printing;
 mod report;
-mod sequential;
+mod running;
 mod sink_text;
 mod source_text;
 mod status;

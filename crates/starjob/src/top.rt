@@ -6,12 +6,15 @@ ghost use Rattle.sj_edge.specs.Faults.{Counts, Rose};
 ghost use Rattle.sj_edge.specs.GivenBack.{AreUntouched};
 ghost use Rattle.sj_job.specs.declared.job.Statement.{Statement};
 ghost use Rattle.sj_job.specs.Reading.{job_of, IsRefusal};
+ghost use Rattle.sj_job.specs.State.{start};
+ghost use Rattle.sj_job.specs.Well.{IsWell};
 ghost use Rattle.sj_minplus.specs.Has.{library_has};
 ghost use Rattle.starjob.specs.Report.{line_of, TakesLine};
+ghost use Rattle.starjob.specs.Traces.{Began, HasOwnCodelets, IsBeforeRunning, Ran, RanWhole, Traces, TracesRefusal};
 ghost use Rattle.starjob.specs.Top.{text_of, Answers, Gives, GivesText, IsBeforeWriting, IsDoneOrOutOfMemory};
 
 use crate::report::report;
-use crate::sequential::run_job;
+use crate::running::{Run, run_job};
 use crate::sink_text::write_text;
 use crate::source_text::{Unread, read_source};
 use crate::status::Status;
@@ -21,6 +24,7 @@ use sj_edge::disk::Disk;
 use sj_edge::gate::Gate;
 use sj_edge::sink::Sink;
 use sj_edge::source::Source;
+use sj_job::job::Job;
 use sj_job::read::read;
 use sj_job::reason::ReadRefusal;
 use sj_minplus::library::Library;
@@ -35,17 +39,57 @@ pub struct Outcome {
     pub disks: Vec<Box<dyn Disk + Send>>,
 }
 
-/// What a job text prints.
-fn text_of_job<C: Codelets>(
-    alloc: Global,
-    text: &[u8],
-    codelets: &C,
-) -> Result<Vec<u8>, ReadRefusal>
-    ensures ok { IfOk result (λ out. (ss : List Statement) × (job_of C.has text.now ≡ Ok ss) × (out.items ≡ text_of ss)) }
-    ensures err { IfErr result (λ e. IsRefusal e (job_of C.has text.now)) }
+/// What a job text prints, and the events of its run.
+#[derive(Drop)]
+struct JobRun {
+    text: Result<Vec<u8>, ReadRefusal>,
+    trace: Trace,
+}
+
+/// How a job ended, and the events of its run.
+#[derive(Drop)]
+struct Answer {
+    status: Status,
+    trace: Trace,
+}
+
+/// Runs a job that was read.
+fn run_read<C: Codelets>(alloc: Global, job: &Job, codelets: &C) -> JobRun
+    requires job { IsWell C.has 0 start job.now.statements }
+    requires own { HasOwnCodelets C.has }
+    ensures text { IfOk result.text (λ out. out.items ≡ text_of job.now.statements) }
+    ensures memory { IfErr result.text (λ e. e ≡ ReadRefusal.OutOfMemory) }
+    ensures ran { IsOk result.text → RanWhole job.now.statements result.trace.events }
+    ensures began { Began (Ok job.now.statements) result.trace.events }
 {
-    let job = read(alloc, text, codelets)?;
-    Ok(run_job(alloc, job.statements.items(), codelets)?)
+    let Run { result, trace } = run_job(alloc, job.statements.items(), codelets);
+    match result {
+        Ok(text) => JobRun {
+            text: Ok(text),
+            trace,
+        },
+        Err(_) => JobRun {
+            text: Err(ReadRefusal::OutOfMemory),
+            trace,
+        },
+    }
+}
+
+/// Runs a job text.
+fn run_text<C: Codelets>(alloc: Global, text: &[u8], codelets: &C) -> JobRun
+    requires own { HasOwnCodelets C.has }
+    ensures ok { IfOk result.text (λ out. (ss : List Statement) × (job_of C.has text.now ≡ Ok ss) × (out.items ≡ text_of ss)) }
+    ensures err { IfErr result.text (λ e. IsRefusal e (job_of C.has text.now)) }
+    ensures ran { IsOk result.text → Ran (job_of C.has text.now) result.trace.events }
+    ensures began { IfErr result.text (λ e. TracesRefusal (job_of C.has text.now) e result.trace.events) }
+{
+    match read(alloc, text, codelets) {
+        Ok(job) => run_read(alloc, &job, codelets),
+        Err(refusal) => JobRun {
+            text: Err(refusal),
+            trace: Trace::empty(alloc),
+        },
+    }
 }
 
 /// Writes what a job prints.
@@ -65,17 +109,41 @@ fn answer_text<O: Sink, C: Codelets>(
     text: &[u8],
     out: &mut O,
     codelets: &C,
-) -> Status
-    ensures answers { Answers (job_of C.has text.now) result }
-    ensures gives { Gives (job_of C.has text.now) result (O.taken out.old) (O.taken out.new) }
-    ensures out_stays { IsBeforeWriting result → Keeps (O.taken out.old) (O.taken out.new) }
-    ensures not_read { (result ≢ Status.Usage) × (result ≢ Status.SourceFault) }
-    ensures counts { Counts (O.faults out.old) (O.faults out.new) (result ≡ Status.SinkFault) }
+) -> Answer
+    requires own { HasOwnCodelets C.has }
+    ensures answers { Answers (job_of C.has text.now) result.status }
+    ensures gives { Gives (job_of C.has text.now) result.status (O.taken out.old) (O.taken out.new) }
+    ensures out_stays { IsBeforeWriting result.status → Keeps (O.taken out.old) (O.taken out.new) }
+    ensures not_read { (result.status ≢ Status.Usage) × (result.status ≢ Status.SourceFault) }
+    ensures counts { Counts (O.faults out.old) (O.faults out.new) (result.status ≡ Status.SinkFault) }
+    ensures traces { Traces (job_of C.has text.now) result.status result.trace.events }
+    ensures nothing_run { IsBeforeRunning result.status → result.trace.events ≡ [] }
 {
-    match text_of_job(alloc, text, codelets) {
-        Ok(printed) => write_printed(out, &printed),
-        Err(ReadRefusal::Refused { line, reason }) => Status::Refused { line, reason },
-        Err(ReadRefusal::OutOfMemory) => Status::OutOfMemory,
+    let JobRun { text, trace } = run_text(alloc, text, codelets);
+    match text {
+        Ok(printed) => Answer {
+            status: write_printed(out, &printed),
+            trace,
+        },
+        Err(ReadRefusal::Refused { line, reason }) => Answer {
+            status: Status::Refused { line, reason },
+            trace,
+        },
+        Err(ReadRefusal::OutOfMemory) => Answer {
+            status: Status::OutOfMemory,
+            trace,
+        },
+    }
+}
+
+/// An answer to a job that wasn't read.
+fn unread(alloc: Global, status: Status) -> Answer
+    ensures status { result.status ≡ status }
+    ensures trace { result.trace.events ≡ [] }
+{
+    Answer {
+        status,
+        trace: Trace::empty(alloc),
     }
 }
 
@@ -85,43 +153,50 @@ fn run_source<S: Source, O: Sink, C: Codelets>(
     source: &mut S,
     out: &mut O,
     codelets: &C,
-) -> Status
-    ensures answers { IfSome (S.left source.old) (λ text. Answers (job_of C.has text) result) }
-    ensures gives { IfSome (S.left source.old) (λ text. Gives (job_of C.has text) result (O.taken out.old) (O.taken out.new)) }
-    ensures out_stays { IsBeforeWriting result → Keeps (O.taken out.old) (O.taken out.new) }
-    ensures not_usage { result ≢ Status.Usage }
-    ensures at_end { result ≡ Status.Done → IsAtEnd (S.left source.new) }
-    ensures source_counts { Counts (S.faults source.old) (S.faults source.new) (result ≡ Status.SourceFault) }
-    ensures sink_counts { Counts (O.faults out.old) (O.faults out.new) (result ≡ Status.SinkFault) }
+) -> Answer
+    requires own { HasOwnCodelets C.has }
+    ensures answers { IfSome (S.left source.old) (λ text. Answers (job_of C.has text) result.status) }
+    ensures gives { IfSome (S.left source.old) (λ text. Gives (job_of C.has text) result.status (O.taken out.old) (O.taken out.new)) }
+    ensures out_stays { IsBeforeWriting result.status → Keeps (O.taken out.old) (O.taken out.new) }
+    ensures not_usage { result.status ≢ Status.Usage }
+    ensures at_end { result.status ≡ Status.Done → IsAtEnd (S.left source.new) }
+    ensures source_counts { Counts (S.faults source.old) (S.faults source.new) (result.status ≡ Status.SourceFault) }
+    ensures sink_counts { Counts (O.faults out.old) (O.faults out.new) (result.status ≡ Status.SinkFault) }
+    ensures traces { IfSome (S.left source.old) (λ text. Traces (job_of C.has text) result.status result.trace.events) }
+    ensures nothing_run { IsBeforeRunning result.status → result.trace.events ≡ [] }
 {
     match read_source(alloc, source) {
         Ok(text) => answer_text(alloc, &text, out, codelets),
-        Err(Unread::Fault) => Status::SourceFault,
-        Err(Unread::OutOfMemory) => Status::OutOfMemory,
+        Err(Unread::Fault) => unread(alloc, Status::SourceFault),
+        Err(Unread::OutOfMemory) => unread(alloc, Status::OutOfMemory),
     }
 }
 
-/// The status of a job with these words: without words the source's job text is run.
+/// The answer to a job with these words: without words the source's job text is run.
 fn run_words<S: Source, O: Sink, C: Codelets>(
     alloc: Global,
     words: &[String],
     source: &mut S,
     out: &mut O,
     codelets: &C,
-) -> Status
-    ensures usage { (result ≡ Status.Usage) ↔ (words.now ≢ []) }
-    ensures answers { words.now ≡ [] → IfSome (S.left source.old) (λ text. Answers (job_of C.has text) result) }
+) -> Answer
+    requires own { HasOwnCodelets C.has }
+    ensures usage { (result.status ≡ Status.Usage) ↔ (words.now ≢ []) }
+    ensures answers { words.now ≡ [] → IfSome (S.left source.old) (λ text. Answers (job_of C.has text) result.status) }
     ensures gives { words.now ≡ [] → IfSome (S.left source.old) (λ text.
-        Gives (job_of C.has text) result (O.taken out.old) (O.taken out.new)) }
-    ensures out_stays { IsBeforeWriting result → Keeps (O.taken out.old) (O.taken out.new) }
-    ensures at_end { result ≡ Status.Done → IsAtEnd (S.left source.new) }
-    ensures source_counts { Counts (S.faults source.old) (S.faults source.new) (result ≡ Status.SourceFault) }
-    ensures sink_counts { Counts (O.faults out.old) (O.faults out.new) (result ≡ Status.SinkFault) }
+        Gives (job_of C.has text) result.status (O.taken out.old) (O.taken out.new)) }
+    ensures out_stays { IsBeforeWriting result.status → Keeps (O.taken out.old) (O.taken out.new) }
+    ensures at_end { result.status ≡ Status.Done → IsAtEnd (S.left source.new) }
+    ensures source_counts { Counts (S.faults source.old) (S.faults source.new) (result.status ≡ Status.SourceFault) }
+    ensures sink_counts { Counts (O.faults out.old) (O.faults out.new) (result.status ≡ Status.SinkFault) }
+    ensures traces { words.now ≡ [] → IfSome (S.left source.old) (λ text.
+        Traces (job_of C.has text) result.status result.trace.events) }
+    ensures nothing_run { IsBeforeRunning result.status → result.trace.events ≡ [] }
 {
     if words.is_empty() {
         run_source(alloc, source, out, codelets)
     } else {
-        Status::Usage
+        unread(alloc, Status::Usage)
     }
 }
 
@@ -167,17 +242,22 @@ pub fn starjob<R: Runtime, S: Source, O: Sink, E: Sink, G: Gate>(
     ensures err_takes_the_line { TakesLine (E.taken err.old) (E.taken err.new) (E.faults err.old) (E.faults err.new)
         (line_of result.status) }
 
-    // Nothing is run on disks, and nothing is traced.
+    // The trace of a job that is done, or whose text the sink doesn't take, is a legal run of its program to the end, in which
+    // each task ran once. Where memory runs out it is the beginning of a legal run, and else it is empty.
+    ensures trace_answers_the_job { words.now ≡ [] → IfSome (S.left source.old) (λ text.
+        Traces (job_of library_has text) result.status result.trace.events) }
+    ensures trace_is_empty_before_the_run { IsBeforeRunning result.status → result.trace.events ≡ [] }
+
+    // Nothing is run on disks.
     ensures disks_come_back { AreUntouched ⟦<Box<dyn Disk + Send> as Disk>⟧.size
         ⟦<Box<dyn Disk + Send> as Disk>⟧.faults ⟦<Box<dyn Disk + Send> as Disk>⟧.mismatches
         ⟦<Box<dyn Disk + Send> as Disk>⟧.held disks.items result.disks.items }
-    ensures trace_is_empty { result.trace.events ≡ [] }
 {
-    let status = run_words(alloc, words, source, out, &Library);
-    report(status, err);
+    let answer = run_words(alloc, words, source, out, &Library);
+    report(answer.status, err);
     Outcome {
-        status,
-        trace: Trace::empty(alloc),
+        status: answer.status,
+        trace: answer.trace,
         disks,
     }
 }

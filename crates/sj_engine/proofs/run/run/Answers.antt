@@ -6,10 +6,8 @@ use Rattle.sj_core.specs.Legal.{IsLegal}
 use Rattle.sj_core.specs.Machine.{opening}
 use Rattle.sj_engine.specs.Machine.{one_node}
 use Rattle.sj_engine.proofs.Delivering.{end-delivered, end-finished, on_ok}
+use Rattle.sj_engine.proofs.Starting.{nothing-legal}
 use Rattle.sj_engine.proofs.run.run.Goals as goal
-
-nothing-legal : (p : Program) (m : Machine) (trace : List Event) → trace ≡ [] → IsLegal p m trace
-nothing-legal p m trace e = subst (IsLegal p m) (sym e) ∣ record { left = opening p m; replays = refl } ∣₁
 
 pub returns-in_default-clause-legal : goal.returns-in_default-clause-legal
 returns-in_default-clause-legal g c = nothing-legal c.args.program.value one_node c.nothing_run.result.trace.events c.nothing_run.ensures.trace
