@@ -1,7 +1,7 @@
 -- The new arrays of a task have the dimensions of the cells that it writes.
-use Rattle.std.proofs.Common.{◌≡◌, ℕ, zero, suc, ◌+◌, ◌<◌, ◌≤◌, Bool, true, false, not, ◌&&◌, cond, List, [], ◌∷◌, map, length, get_or, refl, sym, ap, ◌∙◌, subst, inl, inr, Option, None, Some, arith, ℤ, lit≤}
+use Rattle.std.proofs.Common.{◌≡◌, ℕ, zero, suc, ◌+◌, ◌<◌, Bool, true, false, ◌&&◌, cond, List, [], ◌∷◌, map, length, refl, sym, ap, ◌∙◌, subst, Option, None, Some, arith, ℤ}
 use Rattle.std.specs.Prelude.{IsTrue, All, count_by, slice_index_or, filter, find, nat_eq, if◌then◌else◌}
-use Rattle.std.specs.List.{Contains, range_with_len, zip}
+use Rattle.std.specs.List.{range_with_len, zip}
 use Rattle.std.proofs.lemmas.Bool.{false≢true}
 use Rattle.std.proofs.lemmas.Bool.Decides.{nat_tests}
 use Rattle.std.proofs.lemmas.List.{get_or-map, length-map}
@@ -13,23 +13,22 @@ use Rattle.sj_base.specs.declared.ids.Task.{Task}
 use Rattle.sj_base.specs.declared.mode.Access.{Access}
 use Rattle.sj_base.specs.declared.mode.Mode.{Mode}
 use Rattle.sj_base.specs.declared.mode.Mode.TheVariants.{R, W, RW, Scratch, Redux, Commute}
-use Rattle.sj_base.specs.declared.program.Codelet.{Codelet}
 use Rattle.sj_base.specs.declared.program.Lowered.{Lowered}
 use Rattle.sj_base.specs.declared.program.Program.{Program}
 use Rattle.sj_base.specs.declared.tile.Dims.{Dims}
-use Rattle.sj_base.specs.Array.{Array, array, grid, zeros}
+use Rattle.sj_base.specs.Array.{Array, array, zeros}
 use Rattle.sj_codelet.specs.declared.formal.Formal.{Formal}
 use Rattle.sj_codelet.specs.declared.formal.Formal.TheVariants.{R as ReadFormal, W as WriteFormal, RW as UpdateFormal, Scratch as ScratchFormal}
 use Rattle.sj_codelet.specs.declared.kernel.Kernel.{Kernel}
 use Rattle.sj_codelet.specs.declared.kernel.Kernel.TheVariants.{Fill, Copy, Scale, Add, Axpy, Butterfly, Gemm, GemmThree, Transpose, Dot, Sum, Lowest, MinGemm, FwDiag, FwRow, FwCol, Load, LoadFill, Paste, Deliver, InitPlus, InitLeast}
 use Rattle.sj_codelet.specs.Equations.{after_turns}
-use Rattle.sj_codelet.specs.Frame.{AreReady, IsReady, Slot, all_dims, arrays as arrays_of, shared, own}
-use Rattle.sj_codelet.specs.Kernel.{arguments_fit, dims_at, dims_fit, fits, formals_of, kernel_of, new_arrays, operand, out, same}
+use Rattle.sj_codelet.specs.Frame.{AreReady, IsReady, Slot, all_dims, arrays as arrays_of}
+use Rattle.sj_codelet.specs.Kernel.{arguments_fit, dims_at, dims_fit, fits, formals_of, new_arrays, operand, same}
 use Rattle.sj_codelet.specs.Runs.{IsReadyFor}
 use Rattle.sj_core.specs.Fold.{held_in}
 use Rattle.sj_core.specs.Laws.{HasPlainModes, is_plain_mode}
-use Rattle.sj_core.specs.Program.{dims_of, has_cell, is_written, no_task, same_cell, task_of, written_operands}
-use Rattle.sj_core.specs.Proper.{Fits, Proper, MayHaveModes, Own, FirstPaste, Commuting, Contributing, mode_of, modes_writing_by, own_modes, writes_one}
+use Rattle.sj_core.specs.Program.{dims_of, is_written, no_task, same_cell, task_of}
+use Rattle.sj_core.specs.Proper.{Fits, Proper, MayHaveModes, Own, FirstPaste, Commuting, Contributing, mode_of, modes_writing_by, own_modes}
 use Rattle.sj_core.proofs.Reading.{same_cell-is}
 use Rattle.sj_board.specs.Operands.{CanRunOn, first_cell, is_deliver, is_deliver_task, is_output, kept, news_of, outputs, slot_for, slots_of}
 use Rattle.sj_board.proofs.Frames.{map-agree, map-map}

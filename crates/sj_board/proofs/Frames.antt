@@ -1,25 +1,20 @@
 -- The operands of a task on the board are what the definitions say that it finds, and its codelet may be run on them.
-use Rattle.std.proofs.Common.{◌≡◌, ℕ, zero, suc, ◌+◌, ◌<◌, ◌≤◌, Bool, true, false, not, ◌||◌, cond, List, [], ◌∷◌, ◌++◌, map, length, get_or, set, refl, sym, ap, ◌∙◌, subst, inl, inr, ◌⊎◌, Option, None, Some, arith, unwrap_or}
-use Rattle.std.specs.Prelude.{IsTrue, All, filter, if◌then◌else◌, is_some, sum_by, count_by}
+use Rattle.std.proofs.Common.{◌≡◌, suc, true, false, List, [], ◌∷◌, map, refl, sym, ap, ◌∙◌, Option, arith}
 use Rattle.std.specs.List.{Contains}
-use Rattle.std.proofs.lemmas.Bool.{cases_lt, false≢true}
-use Rattle.std.proofs.lemmas.List.{get_or_default, get_or_past, length-map}
-use Rattle.std.proofs.lemmas.List.Elements.{All-contains_itself, All-head, All-tail, All-get_or}
+use Rattle.std.proofs.lemmas.Bool.{false≢true}
 use Rattle.sj_base.specs.declared.ids.Cell.{Cell}
 use Rattle.sj_base.specs.declared.ids.Task.{Task}
 use Rattle.sj_base.specs.declared.ids.Worker.{Worker}
 use Rattle.sj_base.specs.declared.mode.Access.{Access}
 use Rattle.sj_base.specs.declared.mode.Mode.{Mode}
 use Rattle.sj_base.specs.declared.mode.Mode.TheVariants.{R, W, RW, Scratch, Redux, Commute}
-use Rattle.sj_base.specs.declared.program.Lowered.{Lowered}
 use Rattle.sj_base.specs.declared.program.Program.{Program}
-use Rattle.sj_base.specs.declared.tile.Dims.{Dims}
-use Rattle.sj_base.specs.Array.{Array, zeros}
-use Rattle.sj_codelet.specs.Frame.{Slot, all_dims, arrays as arrays_of}
+use Rattle.sj_base.specs.Array.{Array}
+use Rattle.sj_codelet.specs.Frame.{Slot, arrays as arrays_of}
 use Rattle.sj_codelet.specs.Kernel.{out}
 use Rattle.sj_core.specs.Laws.{HasPlainModes, is_plain_mode}
-use Rattle.sj_core.specs.Operands.{copy_of, found, results, worked_on, written_cells}
-use Rattle.sj_core.specs.Program.{dims_of, is_redux, is_written, starts_as_zeros, task_of, written_operands}
+use Rattle.sj_core.specs.Operands.{found, results, worked_on, written_cells}
+use Rattle.sj_core.specs.Program.{is_written, starts_as_zeros, task_of, written_operands}
 use Rattle.sj_core.proofs.Folding.{Contains-from_filter}
 use Rattle.sj_core.proofs.PlainModes.{mode-plain, worked_on-plain}
 use Rattle.sj_board.specs.Operands.{kept, news_of, outputs, slot_for, slots_of}

@@ -1,17 +1,13 @@
 -- What a claimed task needs of the board: its operands can be given.
-use Rattle.std.proofs.Common.{◌≡◌, ℕ, ◌<◌, ◌≤◌, Bool, true, false, not, ◌||◌, List, [], ◌∷◌, map, length, get_or, refl, sym, ap, ◌∙◌, subst, Option, None, Some, arith}
+use Rattle.std.proofs.Common.{◌≡◌, ℕ, ◌<◌, ◌≤◌, Bool, true, false, ◌||◌, List, [], ◌∷◌, length, get_or, refl, sym, ap, ◌∙◌, subst, Option, None, Some, arith}
 use Rattle.std.proofs.lemmas.List.{get_or_default, length-map}
-use Rattle.std.specs.Prelude.{IsTrue, All, is_some, slice_index_or}
+use Rattle.std.specs.Prelude.{All, is_some, slice_index_or}
 use Rattle.std.specs.List.{Contains}
-use Rattle.std.proofs.lemmas.Bool.{false≢true}
-use Rattle.sj_base.specs.declared.ids.Cell.{Cell}
 use Rattle.sj_base.specs.declared.ids.Task.{Task}
 use Rattle.sj_base.specs.declared.ids.Worker.{Worker}
 use Rattle.sj_base.specs.declared.ids.Place.TheVariants.{Node as AtNode}
 use Rattle.sj_base.specs.declared.mode.Access.{Access}
 use Rattle.sj_base.specs.declared.mode.Mode.TheVariants.{R}
-use Rattle.sj_base.specs.declared.program.Lowered.{Lowered}
-use Rattle.sj_base.specs.declared.program.Program.{Program}
 use Rattle.sj_base.specs.Array.{Array}
 use Rattle.sj_core.specs.declared.progress.Progress.{Progress}
 use Rattle.sj_core.specs.declared.progress.Progress.TheVariants.{Waiting, Claimed, Running}
@@ -23,7 +19,6 @@ use Rattle.sj_core.proofs.Advancing.{same_worker-refl}
 use Rattle.sj_board.specs.Board.{HasClaimed, HasTaskClaimed, HasTaskRunning, IsRunning, Standing, progress_of}
 use Rattle.sj_board.specs.Inside.{Keeps}
 use Rattle.sj_board.specs.Operands.{CanRunOn, first_cell, is_delivery, news_of, outputs, slots_of}
-use Rattle.sj_board.specs.Stands.{the_worker}
 use Rattle.sj_board.specs.Tiles.{CanGive, CanHandOver}
 use Rattle.sj_board.proofs.Dims.{news-dims, can-run, deliver-reads, the-fit}
 use Rattle.sj_board.proofs.Keeping.{begun-inside, in-hand-is, sized-at}

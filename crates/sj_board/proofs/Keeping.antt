@@ -1,7 +1,7 @@
 -- What a board keeps, kept by each of its events.
-use Rattle.std.proofs.Common.{◌≡◌, ◌≢◌, ℕ, zero, suc, ◌+◌, ◌<◌, ◌≤◌, Bool, true, false, not, ◌||◌, cond, List, [], ◌∷◌, ◌++◌, map, length, get_or, set, refl, sym, ap, ◌∙◌, subst, inl, inr, ◌⊎◌, Option, None, Some, arith, unwrap_or}
-use Rattle.std.specs.Prelude.{IsTrue, All, filter, filter_map, if◌then◌else◌, is_some, replicate}
-use Rattle.std.specs.List.{Contains, list_all, range_with_len, zip}
+use Rattle.std.proofs.Common.{◌≡◌, ◌≢◌, ℕ, zero, suc, ◌+◌, ◌<◌, ◌≤◌, Bool, true, false, ◌||◌, cond, List, [], ◌∷◌, ◌++◌, map, length, get_or, set, refl, sym, ap, ◌∙◌, subst, inl, inr, Option, None, Some, arith, unwrap_or}
+use Rattle.std.specs.Prelude.{filter, filter_map, if◌then◌else◌, replicate}
+use Rattle.std.specs.List.{Contains, zip}
 use Rattle.std.proofs.lemmas.Bool.{cases_lt, false≢true}
 use Rattle.std.proofs.lemmas.List.{append-nil, get_or-replicate, get_or-set_other, get_or-set_same, get_or_past, length-replicate, length-set, map-append}
 use Rattle.std.proofs.lemmas.List.Elements.{All-nil, All-push, filter-append, filter_map-append}
@@ -25,7 +25,6 @@ use Rattle.sj_core.specs.Legal.{Replays}
 use Rattle.sj_core.specs.Machine.{CellState, Invalid, WorkerState, array_of, is_done, is_task_of, no_replica, opening, progress, replica, worker_of}
 use Rattle.sj_core.specs.Needs.{node_of}
 use Rattle.sj_core.specs.Program.{dims_of, has_cell, task_of}
-use Rattle.sj_core.specs.Step.{array_at}
 use Rattle.sj_core.proofs.Advancing.{same_task, same_worker-refl}
 use Rattle.sj_core.proofs.Delivering.{delivers}
 use Rattle.sj_core.proofs.Dependencies.{Proper-dependencies}
@@ -36,7 +35,7 @@ use Rattle.sj_core.proofs.Tables.{length-renewed, renewed-at}
 use Rattle.sj_board.specs.Board.{CanBeClaimed, IsIdle, Standing, HasDelivered, ended, ended_tasks, ends, progress_of, standing, starting}
 use Rattle.sj_board.specs.Delivered.{Deliveries}
 use Rattle.sj_board.specs.Inside.{Keeps, events_to_come, gift_of}
-use Rattle.sj_board.specs.Operands.{first_cell, gift_for, handed, handed_by, is_deliver_task, kept, news_of, outputs, with_arrays}
+use Rattle.sj_board.specs.Operands.{first_cell, handed, handed_by, is_deliver_task, kept, news_of, outputs, with_arrays}
 use Rattle.sj_board.specs.Plain.{IsBoardFor}
 use Rattle.sj_board.specs.Stands.{Stands, the_worker}
 use Rattle.sj_board.proofs.Dims.{deliver-reads, held-dims, news-dims}

@@ -1,8 +1,8 @@
 -- What a task wrote, taken from the end of its frame, and put in the places of its cells.
-use Rattle.std.proofs.Common.{◌≡◌, ◌≢◌, ℕ, zero, suc, ◌+◌, ◌<◌, Bool, true, false, ◌||◌, cond, List, [], ◌∷◌, ◌++◌, map, length, get_or, set, refl, sym, ap, ◌∙◌, subst, Option, Some, None, arith}
-use Rattle.std.specs.Prelude.{All, if◌then◌else◌, option_map, slice_set}
+use Rattle.std.proofs.Common.{◌≡◌, ◌≢◌, ℕ, ◌+◌, ◌<◌, Bool, true, false, ◌||◌, cond, List, [], ◌∷◌, ◌++◌, map, length, get_or, set, refl, sym, ap, ◌∙◌, subst, Option, Some, None, arith}
+use Rattle.std.specs.Prelude.{All, if◌then◌else◌}
 use Rattle.std.specs.List.{filter, zip, find}
-use Rattle.std.proofs.lemmas.List.{ext_get_or, get_or-set_other, get_or-set_same, length-append, length-set, length_push, get_or_append_left, map-append, append-nil, length-map, map-set, append_assoc}
+use Rattle.std.proofs.lemmas.List.{ext_get_or, get_or-set_other, get_or-set_same, length-set, length_push, get_or_append_left, map-append, append-nil, length-map, append_assoc}
 use Rattle.std.proofs.lemmas.List.Elements.{filter-append}
 use Rattle.sj_base.specs.declared.ids.Cell.{Cell}
 use Rattle.sj_base.specs.declared.mode.Access.{Access}
@@ -10,7 +10,7 @@ use Rattle.sj_base.specs.declared.program.Program.{Program}
 use Rattle.sj_base.specs.Array.{Array}
 use Rattle.sj_codelet.specs.declared.formal.Formal.{Formal}
 use Rattle.sj_codelet.specs.declared.formal.Formal.TheVariants.{R, W, RW, Scratch}
-use Rattle.sj_codelet.specs.Frame.{Slot, shared, own, arrays, written}
+use Rattle.sj_codelet.specs.Frame.{Slot, shared, arrays, written}
 use Rattle.sj_core.specs.Program.{is_written, has_cell, same_cell}
 use Rattle.sj_core.specs.Fold.{held_in}
 use Rattle.std.proofs.lemmas.Bool.{false≢true}
@@ -20,7 +20,7 @@ use Rattle.sj_core.specs.Program.{dims_of}
 use Rattle.sj_core.proofs.Reading.{same_cell-is}
 use Rattle.sj_core.proofs.Tables.{length-renewed, renewed-at}
 use Rattle.sj_board.specs.Operands.{is_output, with_arrays}
-use Rattle.sj_board.specs.Tiles.{outputs_among, put_all, AreShared}
+use Rattle.sj_board.specs.Tiles.{outputs_among, put_all}
 
 -- ---- the cells that a list of accesses writes, and one access more
 

@@ -1,7 +1,7 @@
 -- The first task that isn't done: it is the first that can be claimed where no task is claimed or running.
-use Rattle.std.proofs.Common.{◌≡◌, ℕ, ◌<◌, ◌≤◌, Bool, true, false, not, ◌||◌, List, [], length, get_or, refl, sym, ap, ◌∙◌, subst, inl, inr, ◌⊎◌, Option, Some, arith}
-use Rattle.std.specs.Prelude.{IsTrue, nat_eq}
-use Rattle.std.specs.List.{list_all, Contains}
+use Rattle.std.proofs.Common.{◌≡◌, ℕ, ◌<◌, ◌≤◌, Bool, true, false, not, ◌||◌, List, [], length, get_or, refl, sym, ap, ◌∙◌, subst, inl, inr, Option, arith}
+use Rattle.std.specs.Prelude.{nat_eq}
+use Rattle.std.specs.List.{list_all}
 use Rattle.std.proofs.lemmas.Bool.{cases_lt, false≢true}
 use Rattle.std.proofs.lemmas.Bool.Decides.{Decides-eqb}
 use Rattle.std.proofs.lemmas.List.{get_or_default, get_or_past}
@@ -13,12 +13,9 @@ use Rattle.sj_core.specs.declared.progress.Progress.{Progress}
 use Rattle.sj_core.specs.declared.progress.Progress.TheVariants.{Waiting, Claimed, Running, Done}
 use Rattle.sj_core.specs.Coherent.{is_begun}
 use Rattle.sj_core.specs.Machine.{State, is_done, is_task_of, same_worker, worker_of, progress}
-use Rattle.sj_core.specs.Step.{EarlierAreDone}
 use Rattle.sj_core.proofs.Readiness.{Ready-from}
-use Rattle.sj_core.proofs.Separation.{task_of-worker, task_of-active, active-begun}
-use Rattle.sj_board.specs.Board.{Standing, CanBeClaimed, IsIdle, IsNext, progress_of}
+use Rattle.sj_board.specs.Board.{Standing, IsIdle, IsNext, progress_of}
 use Rattle.sj_board.specs.Inside.{Keeps}
-use Rattle.sj_board.specs.Plain.{IsBoardFor}
 
 -- ---- done so far
 

@@ -1,20 +1,20 @@
 -- A node of 2^60 bytes holds all cells of a proper program at once with each task's scratch, so no claim has victims.
-use Rattle.std.proofs.Common.{◌≡◌, ℕ, zero, suc, ◌+◌, ◌-◌, ◌*◌, ◌%◌, ◌^◌, ◌<◌, ◌≤◌, Bool, true, false, not, cond, List, [], ◌∷◌, map, length, get_or, refl, sym, ap, ◌∙◌, subst, inl, inr, ◌⊎◌, Option, None, Some, arith, lit≤}
-use Rattle.std.specs.Prelude.{IsTrue, All, nat_eq, nat_le, sum_by, filter, ◌&&◌}
-use Rattle.std.specs.List.{list_all, list_any, Contains, range_with_len}
+use Rattle.std.proofs.Common.{◌≡◌, ℕ, ◌+◌, ◌*◌, ◌%◌, ◌^◌, ◌<◌, ◌≤◌, Bool, true, false, not, cond, List, [], ◌∷◌, map, length, get_or, refl, sym, ap, ◌∙◌, subst, inl, inr, Some, arith, lit≤}
+use Rattle.std.specs.Prelude.{IsTrue, All, nat_eq, sum_by, filter, ◌&&◌}
+use Rattle.std.specs.List.{Contains, range_with_len}
 use Rattle.std.specs.Bool.{then_some}
 use Rattle.std.specs.Option.{option_or}
 use Rattle.std.proofs.lemmas.Bool.{cases_lt, false≢true}
-use Rattle.std.proofs.lemmas.Bool.Decides.{nat_tests, Decides-eqb}
+use Rattle.std.proofs.lemmas.Bool.Decides.{nat_tests}
 use Rattle.std.proofs.lemmas.List.{get_or_default, get_or_past, length-map}
-use Rattle.std.proofs.lemmas.List.Elements.{All-contains, All-filter, All-get_or, All-head, All-tail}
+use Rattle.std.proofs.lemmas.List.Elements.{All-contains, All-get_or, All-head, All-tail}
 use Rattle.std.proofs.lemmas.List.FromFn.{length-range_with_len}
 use Rattle.std.proofs.lemmas.List.Sums.{sum_by-le, list_all-from_AllPass, length-filter, count_by-le-length}
 use Rattle.sj_base.specs.declared.ids.Cell.{Cell}
 use Rattle.sj_base.specs.declared.ids.Task.{Task}
 use Rattle.sj_base.specs.declared.ids.Node.{Node}
 use Rattle.sj_base.specs.declared.ids.Worker.{Worker}
-use Rattle.sj_base.specs.declared.ids.Place.TheVariants.{Node as AtNode, Disk as OnDisk}
+use Rattle.sj_base.specs.declared.ids.Place.TheVariants.{Node as AtNode}
 use Rattle.sj_base.specs.declared.mode.Access.{Access}
 use Rattle.sj_base.specs.declared.program.CellInfo.{CellInfo}
 use Rattle.sj_base.specs.declared.program.Lowered.{Lowered}
@@ -24,20 +24,16 @@ use Rattle.sj_base.specs.Array.{area}
 use Rattle.sj_codelet.specs.declared.kernel.Kernel.{Kernel}
 use Rattle.sj_codelet.specs.declared.kernel.Kernel.TheVariants.{Fill, Copy, Scale, Add, Axpy, Butterfly, Gemm, GemmThree, Transpose, Dot, Sum, Lowest, MinGemm, FwDiag, FwRow, FwCol, Load, LoadFill, Paste, Deliver, InitPlus, InitLeast}
 use Rattle.sj_codelet.specs.Kernel.{arguments_fit, dims_fit, formals_of}
-use Rattle.sj_core.specs.declared.progress.Progress.{Progress}
-use Rattle.sj_core.specs.declared.progress.Progress.TheVariants.{Waiting}
 use Rattle.sj_core.specs.Coherent.{Coherent, is_begun}
-use Rattle.sj_core.specs.Laws.{HasPlainModes}
-use Rattle.sj_core.specs.Machine.{State, CellState, Replica, Invalid, cell_state, is_entry, is_idle, is_leaving, is_leaving_by, is_pinned, is_task_of, order, progress, replica, replica_in, scratch, used, free, worker_of, workers_at, array_of}
-use Rattle.sj_core.specs.Needs.{footprint, node_of, node_size, scratch_bytes, tile_bytes, workers_of}
+use Rattle.sj_core.specs.Machine.{State, CellState, is_idle, is_leaving, is_pinned, is_task_of, order, progress, replica, replica_in, scratch, used, free, worker_of, workers_at}
+use Rattle.sj_core.specs.Needs.{footprint, node_of, node_size, scratch_bytes, tile_bytes}
 use Rattle.sj_core.specs.Operands.{cells_of, worked_on}
-use Rattle.sj_core.specs.Program.{cell_info, cells_of_program, data_operands, dims_of, distinct, has_cell, is_scratch, no_cell, no_task, task_of}
-use Rattle.sj_core.specs.Proper.{Fits, Proper, mode_of}
+use Rattle.sj_core.specs.Program.{cells_of_program, data_operands, dims_of, distinct, has_cell, is_scratch, no_cell, no_task, task_of}
+use Rattle.sj_core.specs.Proper.{Fits, Proper}
 use Rattle.sj_core.specs.Step.{missing, none_leaving, to_come, victims_for}
-use Rattle.sj_core.specs.Victims.{covers, shortest_suffix, victims}
+use Rattle.sj_core.specs.Victims.{covers, shortest_suffix}
 use Rattle.sj_core.proofs.CellLists.{share, sum-once, times, times-distinct, times-filter, times-program}
 use Rattle.sj_core.proofs.Claiming.{has_cell-distinct, has_cell-filter}
-use Rattle.sj_core.proofs.Finding.{All-at}
 use Rattle.sj_core.proofs.Holding.{entry-inside, leaving-by_some}
 use Rattle.sj_core.proofs.PlainModes.{operand-inside, worked_on-plain}
 use Rattle.sj_core.proofs.Separation.{task_of-worker, task_of-active, active-begun}

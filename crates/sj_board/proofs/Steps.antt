@@ -1,17 +1,15 @@
 -- Each event of a board is a legal step, and leaves a state that the board stands for.
-use Rattle.std.proofs.Common.{◌≡◌, ◌≢◌, ℕ, zero, suc, ◌+◌, ◌%◌, ◌<◌, ◌≤◌, Bool, true, false, not, ◌||◌, cond, List, [], ◌∷◌, ◌++◌, map, length, get_or, set, refl, sym, ap, ◌∙◌, subst, inl, inr, ◌⊎◌, Option, None, Some, arith, unwrap_or}
-use Rattle.std.specs.Prelude.{IsTrue, All, filter, slice_index_or, slice_set, if◌then◌else◌, is_some}
-use Rattle.std.specs.List.{list_all, list_any, Contains, FoldsTo, range_with_len, zip}
+use Rattle.std.proofs.Common.{◌≡◌, ℕ, zero, suc, ◌%◌, ◌<◌, ◌≤◌, Bool, true, false, not, ◌||◌, List, [], ◌∷◌, ◌++◌, map, length, get_or, set, refl, sym, ap, ◌∙◌, subst, inl, inr, Option, None, Some, arith, unwrap_or}
+use Rattle.std.specs.Prelude.{filter, if◌then◌else◌, is_some}
+use Rattle.std.specs.List.{list_all, Contains, range_with_len, zip}
 use Rattle.std.proofs.lemmas.Bool.{cases_lt, false≢true}
 use Rattle.std.proofs.lemmas.Fn.{FoldsTo-push}
-use Rattle.std.proofs.lemmas.List.{get_or_default, get_or_past, length-map}
-use Rattle.std.proofs.lemmas.List.Elements.{All-get_or}
-use Rattle.std.proofs.lemmas.List.Sums.{list_all-from_AllPass, AllPass-from_list_all}
+use Rattle.std.proofs.lemmas.List.{get_or_past}
+use Rattle.std.proofs.lemmas.List.Sums.{list_all-from_AllPass}
 use Rattle.std.proofs.lemmas.List.Folds.{list_any_none}
 use Rattle.sj_base.specs.declared.ids.Cell.{Cell}
 use Rattle.sj_base.specs.declared.ids.Task.{Task}
 use Rattle.sj_base.specs.declared.ids.Node.{Node}
-use Rattle.sj_base.specs.declared.ids.DiskNo.{DiskNo}
 use Rattle.sj_base.specs.declared.ids.Worker.{Worker}
 use Rattle.sj_base.specs.declared.ids.Place.{Place}
 use Rattle.sj_base.specs.declared.ids.Place.TheVariants.{Node as AtNode, Disk as OnDisk}
@@ -27,18 +25,17 @@ use Rattle.sj_core.specs.declared.progress.Progress.{Progress}
 use Rattle.sj_core.specs.declared.progress.Progress.TheVariants.{Waiting, Claimed, Running, Done}
 use Rattle.sj_deps.specs.Conflict.{Ready}
 use Rattle.sj_core.specs.Coherent.{Coherent, is_begun}
-use Rattle.sj_core.specs.Laws.{HasPlainModes, IsSound, is_plain_mode}
-use Rattle.sj_core.specs.Legal.{Leads, Replays}
-use Rattle.sj_core.specs.Machine.{with_replica_in, State, CellState, WorkerState, Replica, Invalid, Coming, Valid, Leaving, cell_state, is_entry, is_done, is_gone, is_idle, is_leaving, moves, is_task_of, worker_of, is_valid, order, progress, replica, replica_in, transfer, victims_of, worker_state, array_of, opening}
+use Rattle.sj_core.specs.Laws.{IsSound, is_plain_mode}
+use Rattle.sj_core.specs.Machine.{with_replica_in, State, CellState, WorkerState, Replica, Invalid, Coming, Valid, Leaving, cell_state, is_entry, is_done, is_gone, is_idle, is_leaving, moves, is_task_of, worker_of, is_valid, progress, replica, replica_in, victims_of, worker_state, array_of, opening}
 use Rattle.sj_core.specs.Needs.{node_of, workers_of}
 use Rattle.sj_core.specs.Operands.{cells_of, commuting_cells, fresh_cells, results, worked_on, written_cells}
 use Rattle.sj_core.specs.Program.{data_operands, dims_of, has_cell, is_commute, is_scratch, same_cell, starts_as_zeros, task_of}
 use Rattle.sj_core.specs.Proper.{IsMachineFor}
-use Rattle.sj_core.specs.Step.{Claims, Ends, Runs, Step, array_at, is_in_use, is_moving, result_at, after_claim, after_end, after_run, claimed_replica, done_tasks, missing}
-use Rattle.sj_core.proofs.Advancing.{Advances, Claims-advances, Ends-advances, Runs-advances, same_task, same_worker-refl}
-use Rattle.sj_core.proofs.Claiming.{absent-missing, claim-here, missing-absent}
-use Rattle.sj_core.proofs.PlainModes.{mode-plain, worked_on-plain}
-use Rattle.sj_core.proofs.Reading.{cells-renewed_or, idle_row, no_row, replica_in-no_row, workers_differ}
+use Rattle.sj_core.specs.Step.{Claims, Ends, Runs, Step, array_at, is_in_use, is_moving, after_claim, after_end, after_run, claimed_replica, done_tasks, missing}
+use Rattle.sj_core.proofs.Advancing.{Runs-advances, same_worker-refl}
+use Rattle.sj_core.proofs.Claiming.{claim-here, missing-absent}
+use Rattle.sj_core.proofs.PlainModes.{worked_on-plain}
+use Rattle.sj_core.proofs.Reading.{no_row, replica_in-no_row, workers_differ}
 use Rattle.sj_core.proofs.Tables.{length-renewed, renewed-at}
 use Rattle.sj_core.proofs.Workers.{Claims-worker, Claims-other_worker, end-other_worker, end-own_worker, end-transfer}
 use Rattle.sj_core.specs.declared.progress.Transfer.{Transfer}

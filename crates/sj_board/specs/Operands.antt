@@ -1,5 +1,5 @@
 -- The operands of a task as the arrays that a board keeps give them, and what is made of them.
-use Rattle.std.specs.Prelude.{ℕ, Bool, true, false, Option, Some, None, List, [], ◌∷◌, map, unwrap_or, IsTrue, if◌then◌else◌, slice_index_or}
+use Rattle.std.specs.Prelude.{Bool, true, false, Option, Some, None, List, [], ◌∷◌, map, unwrap_or, IsTrue, if◌then◌else◌, slice_index_or}
 use Rattle.std.specs.List.{zip}
 use Rattle.sj_base.specs.declared.ids.Cell.{Cell}
 use Rattle.sj_base.specs.declared.ids.Task.{Task}
@@ -17,7 +17,6 @@ use Rattle.sj_codelet.specs.Frame.{Slot, shared, own, arrays as arrays_of, all_d
 use Rattle.sj_codelet.specs.Kernel.{kernel_of, out, fits_in}
 use Rattle.sj_codelet.specs.Runs.{IsReadyFor}
 use Rattle.sj_core.specs.Program.{dims_of, task_of, has_cell, written_operands}
-use Rattle.sj_core.specs.Operands.{cells_of}
 use Rattle.sj_core.specs.Fold.{held_in}
 use Rattle.sj_core.specs.Table.{renewed}
 

@@ -1,4 +1,4 @@
-use Rattle.std.proofs.Common.{◌≡◌, ◌∙◌, sym, ap, subst, length, true, rules}
+use Rattle.std.proofs.Common.{◌≡◌, ◌∙◌, sym, ap, subst, length, rules}
 use Rattle.std.specs.Prelude.{IsTrue, nat_eq}
 use Rattle.sj_board.specs.Board.{AreAllDone, Standing}
 use Rattle.sj_board.proofs.Next.{all_done-first, first-all_done}

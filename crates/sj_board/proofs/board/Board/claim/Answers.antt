@@ -1,4 +1,4 @@
-use Rattle.std.proofs.Common.{◌≡◌, ◌<◌, ◌∙◌, ◌++◌, ◌∷◌, [], ap, sym, subst, arith, rules}
+use Rattle.std.proofs.Common.{◌≡◌, ◌<◌, ◌∙◌, ◌++◌, ◌∷◌, [], ap, sym, subst, rules}
 use Rattle.sj_base.specs.declared.trace.Event.TheVariants.{Claim}
 use Rattle.sj_board.specs.Board.{CanBeClaimed, IsIdle, Standing}
 use Rattle.sj_board.proofs.Keeping.{keeps-claim}

@@ -1,8 +1,4 @@
-use Rattle.std.proofs.Common.{◌≡◌, ℕ, ◌∙◌, refl, sym, ap, List, Option, None, map, length, replicate, rules}
-use Rattle.std.specs.Prelude.{option_map}
-use Rattle.sj_base.specs.Array.{Array}
-use Rattle.sj_base.specs.declared.program.Program.{Program}
-use Rattle.sj_core.specs.declared.progress.Progress.{Progress}
+use Rattle.std.proofs.Common.{◌≡◌, ◌∙◌, ap, None, length, replicate, rules}
 use Rattle.sj_core.specs.declared.progress.Progress.TheVariants.{Waiting}
 use Rattle.sj_board.specs.Tiles.{arrays_in}
 use Rattle.sj_board.proofs.Keeping.{keeps-make, map-replicate, starting-is}

@@ -1,14 +1,13 @@
-use Rattle.std.proofs.Common.{◌≡◌, ◌<◌, ◌++◌, ◌∷◌, [], ◌∙◌, refl, sym, ap, subst, List, Option, Some, map, length, arith, rules}
+use Rattle.std.proofs.Common.{◌≡◌, ◌∙◌, refl, sym, ap, subst, List, Option, map, length, arith, rules}
 use Rattle.std.specs.Prelude.{All, option_map}
 use Rattle.sj_base.specs.Array.{Array}
 use Rattle.sj_base.specs.declared.ids.Task.{Task}
 use Rattle.sj_base.specs.declared.mode.Access.{Access}
-use Rattle.sj_base.specs.declared.trace.Event.TheVariants.{Run}
 use Rattle.sj_base.specs.declared.program.Lowered.{Lowered}
 use Rattle.sj_base.specs.declared.program.Program.{Program}
 use Rattle.sj_codelet.specs.Frame.{Slot}
 use Rattle.sj_core.specs.Program.{task_of}
-use Rattle.sj_board.specs.Board.{HasClaimed, Standing, standing}
+use Rattle.sj_board.specs.Board.{Standing}
 use Rattle.sj_board.specs.Operands.{CanRunOn, gift_for, slot_for, slots_of}
 use Rattle.sj_board.specs.Tiles.{CanGive, CanHandOver, arrays_in}
 use Rattle.sj_board.proofs.Giving.{claimed-in_hand, claimed-in_table, claimed-same, few-here, gives-each, hands-over, moved, runs-on}
