@@ -1,10 +1,12 @@
 -- The operands of a task as the arrays that a board keeps give them, and what is made of them.
-use Rattle.std.specs.Prelude.{ℕ, Bool, true, false, Option, Some, None, List, [], ◌∷◌, map, unwrap_or, IsTrue, if◌then◌else◌, slice_index_or}
+use Rattle.std.specs.Prelude.{Bool, true, false, Option, Some, None, List, [], ◌∷◌, map, unwrap_or, IsTrue, if◌then◌else◌, slice_index_or}
 use Rattle.std.specs.List.{zip}
 use Rattle.sj_base.specs.declared.ids.Cell.{Cell}
 use Rattle.sj_base.specs.declared.ids.Task.{Task}
 use Rattle.sj_base.specs.declared.mode.Access.{Access}
 use Rattle.sj_base.specs.declared.mode.Mode.TheVariants.{R, W, RW, Scratch, Redux, Commute}
+use Rattle.sj_codelet.specs.declared.formal.Formal.{Formal}
+use Rattle.sj_codelet.specs.declared.formal.Formal.TheVariants.{W as WriteFormal, RW as UpdateFormal}
 use Rattle.sj_base.specs.declared.program.Codelet.{Codelet}
 use Rattle.sj_base.specs.declared.program.Lowered.{Lowered}
 use Rattle.sj_base.specs.declared.program.Program.{Program}
@@ -15,7 +17,6 @@ use Rattle.sj_codelet.specs.Frame.{Slot, shared, own, arrays as arrays_of, all_d
 use Rattle.sj_codelet.specs.Kernel.{kernel_of, out, fits_in}
 use Rattle.sj_codelet.specs.Runs.{IsReadyFor}
 use Rattle.sj_core.specs.Program.{dims_of, task_of, has_cell, written_operands}
-use Rattle.sj_core.specs.Operands.{cells_of}
 use Rattle.sj_core.specs.Fold.{held_in}
 use Rattle.sj_core.specs.Table.{renewed}
 
@@ -45,13 +46,19 @@ abbrev pub with_arrays : Program → List Cell → List Array → List (Option A
 with_arrays p cells news arrays =
     renewed (λ n old. let c : Cell = record { 0 = n } in if has_cell cells c then Some (held_in p (zip cells news) c) else old) arrays
 
--- the codelet's kernel hands its operand over
+-- an operand of this mode gets a new value
+abbrev pub is_output : Formal → Bool
+is_output WriteFormal = true
+is_output UpdateFormal = true
+is_output _ = false
+
+abbrev pub is_deliver : Kernel → Bool
+is_deliver Deliver = true
+is_deliver _ = false
+
+-- the codelet hands its operand over
 abbrev pub is_delivery : Codelet → Bool
 is_delivery id = elim (kernel_of id) [ None ↦ false | Some k ↦ is_deliver k ]
-  where
-    is_deliver : Kernel → Bool
-    is_deliver Deliver = true
-    is_deliver _ = false
 
 -- the cell of a task's first operand
 abbrev pub first_cell : Lowered → Cell
@@ -65,13 +72,14 @@ gift_for p arrays l = if is_delivery l.codelet then Some (kept p arrays (first_c
 abbrev pub is_deliver_task : Program → Task → Bool
 is_deliver_task p t = is_delivery (task_of p t).codelet
 
--- the cell whose array a deliver task hands over
-abbrev pub delivered_cell : Program → Task → Cell
-delivered_cell p t = slice_index_or (cells_of p t (record { 0 = 0 })) 0 (record { 0 = 0 })
+-- a task with what it hands over, if there is anything
+abbrev pub handed_by : Task → Option Array → List (Task × Array)
+handed_by t None = []
+handed_by t (Some a) = (t, a) ∷ []
 
--- what a task hands over as it ends: its operand's array where it is a deliver task
+-- the pairs that a task hands over as it ends: one where it is a deliver task
 abbrev pub handed : Program → List (Option Array) → Task → List (Task × Array)
-handed p arrays t = if is_deliver_task p t then (t, kept p arrays (delivered_cell p t)) ∷ [] else []
+handed p arrays t = handed_by t (gift_for p arrays (task_of p t))
 
 -- the set has the codelet
 abbrev pub has_codelet : (Kernel → Bool) → Codelet → Bool

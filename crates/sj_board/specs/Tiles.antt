@@ -1,5 +1,5 @@
 -- The kept tiles as lists: what the places hold, what an operand needs of them, and what a task's end puts there.
-use Rattle.std.specs.Prelude.{◌≡◌, ◌<◌, ◌≤◌, ◌^◌, ◌||◌, true, false, IsTrue, Option, Some, None, List, [], ◌∷◌, All, filter, length, map, option_map, is_some, slice_index_or, slice_set}
+use Rattle.std.specs.Prelude.{◌≡◌, ◌<◌, ◌≤◌, ◌^◌, ◌||◌, false, IsTrue, Option, Some, None, List, [], ◌∷◌, All, filter, length, map, option_map, is_some, slice_index_or, slice_set}
 use Rattle.sj_base.specs.declared.ids.Cell.{Cell}
 use Rattle.sj_base.specs.declared.mode.Access.{Access}
 use Rattle.sj_base.specs.declared.program.Program.{Program}

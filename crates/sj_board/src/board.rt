@@ -1,6 +1,6 @@
 //! The board: the core state of a run of a program, for one worker, on one memory node that holds all cells at once.
 
-ghost use Rattle.std.specs.Prelude.{◌≡◌, ◌↔◌, ◌<◌, ◌≤◌, ℕ, Option, None, Some, true, false, IfErr, IfOk, IfSome, IsTrue, OnErr, OnOk, length, map, option_map, replicate, slice_index_or};
+ghost use Rattle.std.specs.Prelude.{◌≡◌, ◌↔◌, ◌<◌, ◌≤◌, ◌++◌, ℕ, Option, None, Some, true, false, IfErr, IfOk, IfSome, IsTrue, OnErr, OnOk, length, map, option_map, replicate, slice_index_or};
 ghost use Rattle.sj_base.specs.declared.ids.Task.{Task};
 ghost use Rattle.sj_codelet.specs.Frame.{shared};
 ghost use Rattle.sj_core.specs.Legal.{IsFinished, IsLegal};
@@ -8,12 +8,12 @@ ghost use Rattle.sj_core.specs.Machine.{is_done};
 ghost use Rattle.sj_core.specs.Program.{task_of};
 ghost use Rattle.sj_core.specs.declared.progress.Progress.TheVariants.{Waiting};
 ghost use Rattle.sj_board.specs.Board.{AreAllDone, CanBeClaimed, HasClaimed, HasDelivered, HasTaskClaimed, HasTaskRunning, IsIdle, IsNext, IsRunning, begun, claimed, ended, starting};
-ghost use Rattle.sj_board.specs.Operands.{CanRunOn, gift_for, news_of, slots_of};
+ghost use Rattle.sj_board.specs.Operands.{CanRunOn, gift_for, handed_by, news_of, slots_of};
 ghost use Rattle.sj_board.specs.Plain.{IsBoardFor};
 ghost use Rattle.sj_board.specs.Tiles.{CanHandOver, arrays_in};
 
 use crate::delivered::Delivered;
-use crate::operands::{frame_of, is_delivery, put_back};
+use crate::operands::{frame_of, is_delivery, put_back, task_at};
 use sj_base::ids::{Task, Worker};
 use sj_base::memory::OutOfMemory;
 use sj_base::program::{Lowered, Machine, Program};
@@ -69,7 +69,7 @@ fn no_tiles(alloc: Global, count: usize) -> Result<Vec<Option<Arc<Tile>>>, OutOf
     ensures { IfOk result (λ v. v.items ≡ replicate count None) }
 {
     let mut tiles = Vec::new(alloc);
-    for _ in 0..count {
+    for _i in 0..count {
         tiles.push(None)?;
     }
     Ok(tiles)
@@ -90,6 +90,16 @@ fn gift_of(
     match &tiles[task.accesses.items()[0].cell.0 as usize] {
         Some(tile) => Ok(Some(tile.clone()?)),
         None => unreachable!(),
+    }
+}
+
+/// Appends what a task hands over, if there is anything. Constant time, and no memory.
+fn hand_over(delivered: &mut Delivered, task: Task, gift: Option<Arc<Tile>>)
+    requires { 0 < delivered.old.spare }
+    ensures { delivered.new.pairs ≡ delivered.old.pairs ++ handed_by task (option_map (λ t. t.value) gift) }
+{
+    if let Some(tile) = gift {
+        delivered.add(task, tile);
     }
 }
 
@@ -198,18 +208,17 @@ impl Board {
         let Some(t) = self.hand else {
             unreachable!();
         };
-        let i = t.0 as usize;
-        let task = &self.program.tasks.items()[i];
+        let task = task_at(&self.program, t);
         let frame = frame_of(alloc, &self.program, &self.tiles, task.accesses.items())?;
         self.gift = gift_of(&self.program, &self.tiles, task)?;
         self.trace.add(Event::Run(t, w));
-        self.tasks[i] = Progress::Running(w);
+        self.tasks[t.0 as usize] = Progress::Running(w);
         Ok(frame)
     }
 
     /// The kernel of the worker's running task has ended. The frame has the tiles that it wrote, in order. No memory. Linear
     /// in the operands, and over all calls in the tasks.
-    pub fn end(&mut self, w: Worker, written: Frame)
+    pub fn end(&mut self, w: Worker, mut written: Frame)
         requires running { HasTaskRunning self.old w }
         requires written { (t : Task) → IsRunning self.old w t → written.slots ≡ map shared (news_of self.old.program self.old.arrays t) }
         ensures { (t : Task) → IsRunning self.old w t → self.new ≡ ended self.old t w }
@@ -217,18 +226,12 @@ impl Board {
         let Some(t) = self.hand else {
             unreachable!();
         };
-        let i = t.0 as usize;
-        let mut written = written;
-        put_back(
-            &mut self.tiles,
-            self.program.tasks.items()[i].accesses.items(),
-            &mut written,
-        );
-        if let Some(tile) = self.gift.take() {
-            self.delivered.add(t, tile);
-        }
+        let task = task_at(&self.program, t);
+        put_back(&mut self.tiles, task.accesses.items(), &mut written);
+        let gift = self.gift.take();
+        hand_over(&mut self.delivered, t, gift);
         self.trace.add(Event::End(t, w));
-        self.tasks[i] = Progress::Done(w);
+        self.tasks[t.0 as usize] = Progress::Done(w);
         self.first = first_open(&self.tasks, self.first);
     }
 

@@ -6,5 +6,3 @@ pub mod board;
 pub mod delivered;
 mod operands;
 pub mod shares;
-#[cfg(test)]
-mod tests;

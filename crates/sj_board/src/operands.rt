@@ -1,16 +1,16 @@
 //! The operands of a task from the tiles of the cells, and the tiles that it has written put in their places.
 
-ghost use Rattle.std.specs.Prelude.{◌≡◌, ◌<◌, ◌≤◌, ◌^◌, All, IfOk, Option, None, length, map, option_map};
-ghost use Rattle.sj_base.specs.Array.{area};
-ghost use Rattle.sj_codelet.specs.Frame.{arrays};
+ghost use Rattle.std.specs.Prelude.{◌≡◌, ◌<◌, ◌++◌, ◌∷◌, [], All, IfOk, length, map, option_map};
+ghost use Rattle.sj_codelet.specs.Frame.{arrays, shared};
 ghost use Rattle.sj_codelet.specs.Slot.{slot_of};
-ghost use Rattle.sj_core.specs.Program.{is_written, dims_of};
+ghost use Rattle.sj_core.specs.Program.{is_written, task_of};
 ghost use Rattle.sj_board.specs.Operands.{slot_for, is_delivery};
 ghost use Rattle.sj_board.specs.Tiles.{arrays_in, AreShared, CanGive, outputs_among, put_all};
 
+use sj_base::ids::Task;
 use sj_base::memory::OutOfMemory;
 use sj_base::mode::{Access, Mode};
-use sj_base::program::{Codelet, Program};
+use sj_base::program::{Codelet, Lowered, Program};
 use sj_base::tile::Tile;
 use sj_codelet::frame::{Frame, Operand};
 use sj_codelet::kernel::Kernel;
@@ -25,6 +25,14 @@ fn is_written(mode: Mode) -> bool
         Mode::R | Mode::Scratch => false,
         Mode::W | Mode::RW | Mode::Redux | Mode::Commute => true,
     }
+}
+
+/// A task of a program. Constant time.
+pub fn task_at(program: &Program, t: Task) -> &Lowered
+    requires { t.0 < length program.now.tasks }
+    ensures { result.now ≡ task_of program.now t }
+{
+    &program.tasks.items()[t.0 as usize]
 }
 
 /// Whether a codelet hands its operand over. Constant time.
@@ -76,6 +84,18 @@ pub fn frame_of(
     Ok(frame)
 }
 
+/// Takes the last operand of a frame away, a shared one. Constant time.
+fn take_shared(frame: &mut Frame) -> Arc<Tile>
+    requires shared { AreShared frame.old.slots }
+    requires some { 0 < length frame.old.slots }
+    ensures { frame.old.slots ≡ frame.new.slots ++ shared result.value ∷ [] }
+{
+    match frame.take_last() {
+        Operand::Shared(tile) => tile,
+        Operand::Own(_) => unreachable!(),
+    }
+}
+
 /// Puts the shared operands of a frame, the last first, in the places of the cells that a task writes. Linear in the
 /// accesses, and no memory.
 pub fn put_back(tiles: &mut [Option<Arc<Tile>>], accesses: &[Access], written: &mut Frame)
@@ -88,10 +108,10 @@ pub fn put_back(tiles: &mut [Option<Arc<Tile>>], accesses: &[Access], written: &
     let Some((last, before)) = accesses.split_last() else {
         return;
     };
-    if is_written(last.mode) {
-        if let Operand::Shared(tile) = written.take_last() {
-            tiles[last.cell.0 as usize] = Some(tile);
-        }
+    if !is_written(last.mode) {
+        put_back(tiles, before, written);
+        return;
     }
+    tiles[last.cell.0 as usize] = Some(take_shared(written));
     put_back(tiles, before, written);
 }

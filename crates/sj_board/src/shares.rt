@@ -5,6 +5,7 @@ ghost use Rattle.sj_codelet.specs.Frame.{arrays, shared, written};
 ghost use Rattle.sj_codelet.specs.Kernel.{formals_of};
 ghost use Rattle.sj_codelet.specs.Runs.{formals_in};
 ghost use Rattle.sj_codelet.specs.Slot.{slot_of};
+ghost use Rattle.sj_board.specs.Operands.{is_output};
 
 use sj_base::memory::OutOfMemory;
 use sj_base::program::Codelet;
@@ -22,6 +23,16 @@ fn share(alloc: Global, operand: Operand) -> Result<Arc<Tile>, OutOfMemory>
     match operand {
         Operand::Shared(tile) => Ok(tile),
         Operand::Own(tile) => Ok(Arc::new(alloc, tile)?),
+    }
+}
+
+/// Whether an operand of this mode gets a new value.
+fn is_output(formal: Formal) -> bool
+    ensures { result ≡ is_output formal }
+{
+    match formal {
+        Formal::R | Formal::Scratch => false,
+        Formal::W | Formal::RW => true,
     }
 }
 
@@ -43,9 +54,10 @@ fn share_into(
     };
     let operand = frame.take_last();
     share_into(alloc, before, frame, out)?;
-    if matches!(last, Formal::W | Formal::RW) {
-        out.push_shared(share(alloc, operand)?);
+    if !is_output(*last) {
+        return Ok(());
     }
+    out.push_shared(share(alloc, operand)?);
     Ok(())
 }
 
