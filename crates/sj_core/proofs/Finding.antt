@@ -145,7 +145,7 @@ module _ (p : Program) (m : Machine) (proper : Proper p) (deps : HasDependencies
   read-cell t w a h reads = sym (ap (has_cell (cells_of p t w)) (worked_on-plain p plain t w a h)) ∙ read-among_cells p t w a h reads
 
   -- such a cell is none whose old value another operand doesn't read
-  read-not_fresh : (t : Task) (w : Worker) (a : Access) → Contains (task_of p t).accesses a → starts_as_zeros a.mode ≡ false → has_cell (fresh_cells p t w) a.cell ≡ false
+  pub read-not_fresh : (t : Task) (w : Worker) (a : Access) → Contains (task_of p t).accesses a → starts_as_zeros a.mode ≡ false → has_cell (fresh_cells p t w) a.cell ≡ false
   read-not_fresh t w a h reads = not_true (has_cell (fresh_cells p t w) a.cell) (λ fresh.
       (let l = task_of p t in
       let b = operand_for (worked_on p w) (λ x. starts_as_zeros x.mode) (data_operands l) a.cell fresh in
