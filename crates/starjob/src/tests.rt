@@ -646,6 +646,55 @@ fn a_text_is_read_up_to_its_limit_of_bytes(rt: HostRuntime) -> Result<(), Fail> 
     Ok(())
 }
 
+/// The trace of a job text, and its exit code.
+fn traced(rt: &HostRuntime, text: &str) -> Result<(u8, Trace), Fail> {
+    let alloc = rt.alloc();
+    let mut source = MemSource::new(bytes(alloc, text)?, Vec::new(alloc));
+    let mut out = SureSink::new(alloc);
+    let mut err = SureSink::new(alloc);
+    let outcome = starjob(
+        rt,
+        alloc,
+        &[],
+        &mut source,
+        &mut out,
+        &mut err,
+        Vec::new(alloc),
+        &OpenGate,
+    );
+    Ok((outcome.status.code(), outcome.trace))
+}
+
+#[test]
+fn a_sum_is_traced_as_claim_run_and_end_of_four_tasks_in_order(
+    rt: HostRuntime,
+) -> Result<(), Fail> {
+    let (code, trace) = traced(&rt, SUM)?;
+    let worker = Worker(0);
+    assert_eq!(rt; code, 0);
+    assert_eq!(rt; trace.len(), 12);
+    for t in 0..4u32 {
+        let first = 3 * t as usize;
+        assert_eq!(rt; trace.get(first), Event::Claim(Task(t), worker));
+        assert_eq!(rt; trace.get(first + 1), Event::Run(Task(t), worker));
+        assert_eq!(rt; trace.get(first + 2), Event::End(Task(t), worker));
+    }
+    Ok(())
+}
+
+#[test]
+fn a_job_without_tasks_and_a_refused_job_have_an_empty_trace(rt: HostRuntime) -> Result<(), Fail> {
+    for (text, wanted) in [
+        ("starjob 1\n", 0u8),
+        ("starjob 1\nvector x 2 values 1 2\nprint y\n", 3),
+    ] {
+        let (code, trace) = traced(&rt, text)?;
+        assert_eq!(rt; code, wanted);
+        assert!(rt; trace.is_empty());
+    }
+    Ok(())
+}
+
 #[test]
 fn a_trace_keeps_its_events_in_the_room_that_it_made(rt: HostRuntime) -> Result<(), Fail> {
     let mut trace = Trace::empty(rt.alloc());
