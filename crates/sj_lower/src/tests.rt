@@ -5,7 +5,7 @@ use sj_base::ids::{Cell, Line, Root, Task};
 use sj_base::mode::Mode;
 use sj_base::program::{CellInfo, Codelet, Delivery, Lowered, Program};
 use sj_base::tile::Dims;
-use sj_codelet::kernel::{ADD, DELIVER, LOAD};
+use sj_codelet::kernel::{ADD, COPY, DELIVER, GEMM3, LOAD, LOADFILL};
 use sj_job::read::read;
 use sj_job::reason::ReadRefusal;
 use sj_kernels::ring::Ring;
@@ -86,4 +86,58 @@ fn a_sum_of_vectors_is_four_tasks_over_two_cells(rt: HostRuntime) {
     );
     assert_eq!(rt; program.deliveries.items(), [delivery(3, 1, 0)].as_slice());
     assert_eq!(rt; program.workers, 2u8);
+}
+
+const ALL_STATEMENTS: &str = "starjob 1
+matrix a 2 3 fill 5 -2
+matrix b 2 3 none
+print a
+task copy a:R b:W prio=-7
+unregister a
+matrix s 1 1 fill 1 0
+matrix t 1 1 none
+matrix c 1 1 fill 4 0
+task gemm3 s:R s:R s:R t:SCRATCH c:RW
+invalidate s
+print c
+print b
+";
+
+#[test]
+fn each_statement_gives_its_cells_tasks_and_deliveries(rt: HostRuntime) {
+    let program = program_of(rt.alloc(), ALL_STATEMENTS, 1);
+    let program = program.expect(&rt, "memory is ample");
+    let tasks: [Wanted; 8] = [
+        (LOADFILL, &[5, -2, 0, 0, 3], &[(Mode::W, 0)], 2, 0),
+        (DELIVER, &[], &[(Mode::R, 0)], 4, 0),
+        (COPY, &[], &[(Mode::R, 0), (Mode::W, 1)], 5, -7),
+        (LOADFILL, &[1, 0, 0, 0, 1], &[(Mode::W, 2)], 7, 0),
+        (LOADFILL, &[4, 0, 0, 0, 1], &[(Mode::W, 4)], 9, 0),
+        (
+            GEMM3,
+            &[],
+            &[
+                (Mode::R, 2),
+                (Mode::R, 2),
+                (Mode::R, 2),
+                (Mode::Scratch, 3),
+                (Mode::RW, 4),
+            ],
+            10,
+            0,
+        ),
+        (DELIVER, &[], &[(Mode::R, 4)], 12, 0),
+        (DELIVER, &[], &[(Mode::R, 1)], 13, 0),
+    ];
+    let cells = [
+        cell(0, 2, 3),
+        cell(1, 2, 3),
+        cell(2, 1, 1),
+        cell(3, 1, 1),
+        cell(4, 1, 1),
+    ];
+    let deliveries = [delivery(1, 0, 0), delivery(6, 4, 1), delivery(7, 1, 2)];
+    assert!(rt; are_tasks(&program, &tasks));
+    assert_eq!(rt; program.cells.items(), cells.as_slice());
+    assert_eq!(rt; program.deliveries.items(), deliveries.as_slice());
 }
