@@ -650,8 +650,8 @@ fn a_text_is_read_up_to_its_limit_of_bytes(rt: HostRuntime) -> Result<(), Fail> 
 fn traced(rt: &HostRuntime, text: &str) -> Result<(u8, Trace), Fail> {
     let alloc = rt.alloc();
     let mut source = MemSource::new(bytes(alloc, text)?, Vec::new(alloc));
-    let mut out = SureSink::new(alloc);
-    let mut err = SureSink::new(alloc);
+    let mut out = SureSink::new();
+    let mut err = SureSink::new();
     let outcome = starjob(
         rt,
         alloc,
