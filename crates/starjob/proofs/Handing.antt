@@ -84,9 +84,10 @@ rises-filter f (suc n) a =
 
 rises-deliveries : (m : ℕ) (ds : List Delivery) → ((k : ℕ) (d : Delivery) → k < length ds → m ≤ (get_or ds k d).task.0) → AllPairs (λ d e. d.task.0 < e.task.0) ds → Rises m (map (λ (d : Delivery). d.task) ds)
 rises-deliveries m [] least pairs = tt
-rises-deliveries m (d ∷ ds) least pairs =
-    (least 0 d (omega arith),
-      rises-deliveries (suc d.task.0) ds (λ k e h. let p : d.task.0 < (get_or ds k e).task.0 = pairs 0 (suc k) e (omega arith) (omega arith) in omega arith) (λ i j e h l. pairs (suc i) (suc j) e (omega arith) (omega arith)))
+rises-deliveries m (d ∷ ds) least pairs = (
+  least 0 d (omega arith),
+  rises-deliveries (suc d.task.0) ds (λ k e h. let p : d.task.0 < (get_or ds k e).task.0 = pairs 0 (suc k) e (omega arith) (omega arith) in omega arith) (λ i j e h l. pairs (suc i) (suc j) e (omega arith) (omega arith)),
+)
 
 tail-member : (x t : Task) (ts : List Task) → Contains (x ∷ ts) t → (x ≡ t) ⊎ Contains ts t
 tail-member x t ts (zero, l, e) = inl e
@@ -109,14 +110,14 @@ same-rising m (x ∷ xs) (y ∷ ys) r s to back =
     let number : x.0 ≡ y.0 = omega (arith, x_first, y_first) in
     let same : x ≡ y = ap task_at number in
     let ends = same-rising (suc x.0) xs ys r.1 (subst (λ (n : ℕ). Rises (suc n) ys) (sym number) s.1)
-      (λ t h. elim (tail-member y t ys (to t (later-member x t xs h))) [
-        | inl e ↦ absurd (let k = rises-least (suc x.0) xs t r.1 h in let n : y.0 ≡ t.0 = ap (λ (u : Task). u.0) e in omega (arith, k, n, number))
-        | inr h ↦ h
-      ])
-      (λ t h. elim (tail-member x t xs (back t (later-member y t ys h))) [
-        | inl e ↦ absurd (let k = rises-least (suc y.0) ys t s.1 h in let n : x.0 ≡ t.0 = ap (λ (u : Task). u.0) e in omega (arith, k, n, number))
-        | inr h ↦ h
-      ]) in
+    (λ t h. elim (tail-member y t ys (to t (later-member x t xs h))) [
+      | inl e ↦ absurd (let k = rises-least (suc x.0) xs t r.1 h in let n : y.0 ≡ t.0 = ap (λ (u : Task). u.0) e in omega (arith, k, n, number))
+      | inr h ↦ h
+    ])
+    (λ t h. elim (tail-member x t xs (back t (later-member y t ys h))) [
+      | inl e ↦ absurd (let k = rises-least (suc y.0) ys t s.1 h in let n : x.0 ≡ t.0 = ap (λ (u : Task). u.0) e in omega (arith, k, n, number))
+      | inr h ↦ h
+    ]) in
     ap (λ (z : Task). z ∷ xs) same ∙ ap (λ (zs : List Task). y ∷ zs) ends
 
 -- ---- the deliver tasks of a program
@@ -155,17 +156,17 @@ delivery-member t (d ∷ ds) (suc k, l, e) P all = delivery-member t ds (k, omeg
 pub deliver-tasks : (p : Program) → HasDeliveries p → NamesDeliverTasks p → DeliversInOrder p → filter (is_deliver_task p) (tasks_of p) ≡ map (λ (d : Delivery). d.task) p.deliveries
 deliver-tasks p has named order =
     same-rising 0 (filter (is_deliver_task p) (tasks_of p)) (map (λ (d : Delivery). d.task) p.deliveries)
-      (rises-filter (is_deliver_task p) (length p.tasks) 0)
-      (rises-deliveries 0 p.deliveries (λ k d h. omega arith) order)
-      (λ t h.
-        let delivers = filter-Contains (is_deliver_task p) (tasks_of p) t h in
-        let inside = tasks-inside p t (filter-among (is_deliver_task p) (tasks_of p) t h) in
-        let kernel : kernel_of (task_of p t).codelet ≡ Some Deliver = delivery-kernel (task_of p t).codelet (kernel_of (task_of p t).codelet) refl delivers in
-        let one = has.once t kernel inside in
-        counted-member t p.deliveries (omega (arith, one)))
-      (λ t h.
-        let at = delivery-member t p.deliveries h (λ u. (u.0 < length p.tasks) × (kernel_of (task_of p u).codelet ≡ Some Deliver)) named in
-        Contains-filter (is_deliver_task p) (tasks_of p) t (kernel-delivery (task_of p t).codelet at.1) (tasks-has p t at.0))
+    (rises-filter (is_deliver_task p) (length p.tasks) 0)
+    (rises-deliveries 0 p.deliveries (λ k d h. omega arith) order)
+    (λ t h.
+    let delivers = filter-Contains (is_deliver_task p) (tasks_of p) t h in
+    let inside = tasks-inside p t (filter-among (is_deliver_task p) (tasks_of p) t h) in
+    let kernel : kernel_of (task_of p t).codelet ≡ Some Deliver = delivery-kernel (task_of p t).codelet (kernel_of (task_of p t).codelet) refl delivers in
+    let one = has.once t kernel inside in
+    counted-member t p.deliveries (omega (arith, one)))
+    (λ t h.
+    let at = delivery-member t p.deliveries h (λ u. (u.0 < length p.tasks) × (kernel_of (task_of p u).codelet ≡ Some Deliver)) named in
+    Contains-filter (is_deliver_task p) (tasks_of p) t (kernel-delivery (task_of p t).codelet at.1) (tasks-has p t at.0))
 
 -- the arrays that a run hands over are those of the program's deliveries, in their order
 pub handed-arrays : (p : Program) → HasDeliveries p → NamesDeliverTasks p → DeliversInOrder p → map (λ (pair : Task × Array). pair.1) (deliveries_of p) ≡ map (λ (d : Delivery). given p d.task) p.deliveries

@@ -24,10 +24,11 @@ array_by x = x.array
 -- what is found under a name that has a kind
 rooted : (S : State) (name : List ℕ) (k : Kind) (o : Option Root) → root_of S name ≡ o → Some k ≡ option_map (λ (r : Root). r.kind) o → (a : Array) × (found_by S name ≡ record { name = name; kind = k; array = a } ∷ [])
 rooted S name k None e h = absurd (cc)
-rooted S name k (Some r) e h =
-    (array_of r,
-      ap (λ (o : Option Root). elim o as (λ _. List Printed) [ None ↦ [] | Some r ↦ record { name = name; kind = r.kind; array = array_of r } ∷ [] ]) e
-      ∙ ap (λ (x : Kind). let p : Printed = record { name = name; kind = x; array = array_of r } in p ∷ []) (the (r.kind ≡ k) (cc)))
+rooted S name k (Some r) e h = (
+  array_of r,
+  ap (λ (o : Option Root). elim o as (λ _. List Printed) [ None ↦ [] | Some r ↦ record { name = name; kind = r.kind; array = array_of r } ∷ [] ]) e
+      ∙ ap (λ (x : Kind). let p : Printed = record { name = name; kind = x; array = array_of r } in p ∷ []) (the (r.kind ≡ k) (cc)),
+)
   where
     the : (X : Type 0) → X → X
     the X x = x
@@ -38,10 +39,11 @@ unrooted S name (Some r) e h = absurd (cc)
 
 begins_with : {X : Type 0} (xs : List X) (at : ℕ) (x : X) (more : List X) → drop at xs ≡ x ∷ more → (at < length xs) × ((d : X) → get_or xs at d ≡ x) × (drop (at + 1) xs ≡ more)
 begins_with xs at x more e =
-    let long : at < length xs = omega (arith, length-drop at xs, ap length e) in
-    (long,
+    let long : at < length xs = omega (arith, length-drop at xs, ap length e) in (
+      long,
       (λ d. ap (λ ys. get_or ys 0 d) (sym (drop-cons xs at d long) ∙ e)),
-      ap (λ k. drop k xs) (the (at + 1 ≡ suc at) (omega arith)) ∙ ap (drop 1) (sym (drop-cons xs at x long) ∙ e))
+      ap (λ k. drop k xs) (the (at + 1 ≡ suc at) (omega arith)) ∙ ap (drop 1) (sym (drop-cons xs at x long) ∙ e),
+    )
   where
     the : (X : Type 0) → X → X
     the X x = x
