@@ -6,41 +6,14 @@ use crate::reason::Reason;
 use crate::sentence::{Call, Registration, Sentence, read_sentence};
 use sj_base::memory::OutOfMemory;
 use sj_base::mode::Mode;
-use sj_base::program::Codelet;
-use sj_codelet::frame::Frame;
-use sj_codelet::kernel::Kernel;
-use sj_codelet::set::Codelets;
+use sj_kernels::ring::Ring;
 use std::alloc::{AllocGlobal, Global};
 use std::process::Abort;
 use std::test::Fail;
 
-/// A set without codelets: what a line says doesn't depend on which there are.
-struct Bare;
-
-impl Codelets for Bare {
-    ghost use Rattle.std.specs.Prelude.{false};
-    ghost use Rattle.std.proofs.lemmas.Bool.{false≢true};
-
-    ghost has = { λ _. false };
-
-    ghost commuting = { λ _ h. absurd (false≢true h) };
-
-    ghost contributing = { λ _ _ h. absurd (false≢true h) };
-
-    ghost reducing = { λ _ h. absurd (false≢true h) };
-
-    fn knows(&self, _: Kernel) -> bool {
-        false
-    }
-
-    fn run(&self, _: Global, _: Codelet, _: &[i64], _: &mut Frame) -> Result<(), OutOfMemory> {
-        Err(OutOfMemory)
-    }
-}
-
 fn said(alloc: Global, line: &str, begun: bool) -> Result<Result<Sentence, Reason>, OutOfMemory> {
     let words = words(alloc, line.as_bytes())?;
-    read_sentence(alloc, &words, begun, &Bare)
+    read_sentence(alloc, &words, begun, &Ring)
 }
 
 fn reason_of(alloc: Global, line: &str, begun: bool) -> Result<Option<Reason>, OutOfMemory> {
