@@ -1,10 +1,11 @@
 #!/usr/bin/env python3
 """Times jobs of many small tasks: how their time grows from 10,000 to 100,000 tasks.
 
-Makes three job texts of each size: a chain of tasks on one vector of one element; many readers of one vector (print
-statements) and then one writer; tasks over 100 vectors in turn. Runs `starjob` (built by ./run examples/first.job) on
-each fifteen times, takes the least processor time less that of an empty job, and prints microseconds a task and the
-ratio of the two sizes' times. Run it by hand, on a machine that does nothing else.
+Makes four job texts of each size: a chain of tasks on one vector of one element; many readers of one vector (print
+statements) and then one writer; tasks over 100 vectors in turn; tasks that add one of 4,096 vectors to another. Runs
+`starjob` (built by ./run examples/first.job) on each fifteen times, takes the least processor time less that of the job
+without its tasks, and prints microseconds a task and the ratio of the two sizes' times. Run it by hand, on a machine that
+does nothing else.
 """
 import os, subprocess, sys, tempfile
 
@@ -27,6 +28,12 @@ def spread(n):
     return [f"vector {v} 1 values 1" for v in names] + [f"task scale(3) {names[k % 100]}:RW" for k in range(n)]
 
 
+def names(n):
+    names = [f"name_{k}" for k in range(4096)]
+    tasks = [f"task add {names[7 * k % 4096]}:R {names[(7 * k + 1) % 4096]}:RW" for k in range(n)]
+    return [f"vector {v} 1 values 1" for v in names] + tasks
+
+
 def best(text):
     times = []
     with tempfile.TemporaryDirectory() as folder:
@@ -45,8 +52,8 @@ def best(text):
 
 def main():
     print(f"cores: {os.cpu_count()}, load: {os.getloadavg()[0]:.1f}")
-    empty = best([])
-    for make in (chain, readers, spread):
+    for make in (chain, readers, spread, names):
+        empty = best(make(0))
         few, many = (best(make(n)) - empty for n in SIZES)
         print(
             f"{make.__name__}: {few / SIZES[0] * 1e6:.2f} us a task of {SIZES[0]}, "
