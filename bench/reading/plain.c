@@ -1,11 +1,11 @@
-/* Reads a job text of vectors, `add` tasks and print lines from standard input, runs it, and prints the arrays:
+/* Reads a job text of vectors, matrices, `add` tasks and print lines from standard input, runs it, and prints the arrays:
    the same work as starjob does, in plain C without any check. */
 #include <stdio.h>
 #include <stdlib.h>
 #include <string.h>
 #include <stdint.h>
 
-struct vector { char name[32]; size_t length; int64_t *items; };
+struct vector { char name[32]; size_t rows, length; int64_t *items; };
 static struct vector vectors[4096];
 static size_t count;
 
@@ -36,12 +36,13 @@ int main(void) {
     for (char *p = text; *p;) {
         size_t n;
         char *w = word(&p, &n);
-        if (n == 6 && !memcmp(w, "vector", 6)) {
+        if (n == 6 && (!memcmp(w, "vector", 6) || !memcmp(w, "matrix", 6))) {
+            int is_matrix = *w == 'm';
             struct vector *v = &vectors[count++];
             w = word(&p, &n);
             memcpy(v->name, w, n);
-            w = word(&p, &n);
-            v->length = strtoull(w, NULL, 10);
+            if (is_matrix) v->rows = strtoull(word(&p, &n), NULL, 10);
+            v->length = strtoull(word(&p, &n), NULL, 10) * (is_matrix ? v->rows : 1);
             v->items = malloc(v->length * sizeof *v->items);
             word(&p, &n);
             for (size_t i = 0; i < v->length; i++) v->items[i] = strtoll(p, &p, 10);
@@ -55,9 +56,16 @@ int main(void) {
         } else if (n == 5 && !memcmp(w, "print", 5)) {
             w = word(&p, &n);
             struct vector *v = find(w, n);
-            printf("%s:", v->name);
-            for (size_t i = 0; i < v->length; i++) printf(" %lld", (long long)v->items[i]);
-            putchar('\n');
+            if (v->rows) {
+                size_t cols = v->length / v->rows;
+                printf("%s %zu %zu:\n", v->name, v->rows, cols);
+                for (size_t i = 0; i < v->length; i++)
+                    printf("%lld%c", (long long)v->items[i], (i + 1) % cols ? ' ' : '\n');
+            } else {
+                printf("%s:", v->name);
+                for (size_t i = 0; i < v->length; i++) printf(" %lld", (long long)v->items[i]);
+                putchar('\n');
+            }
         }
         while (*p && *p != '\n') p++;
         if (*p) p++;

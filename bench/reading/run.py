@@ -1,9 +1,10 @@
 #!/usr/bin/env python3
 """Compares reading, running and printing large job texts with a plain C program.
 
-Makes two texts of 64 MiB, one of vectors with 16 million values and one of 262,144 statement lines, runs `starjob`
-(built by `rt run` in crates/starjob) and the C program on each, five times, and prints the ratio of the best times and
-starjob's peak memory as a multiple of the text. Run it by hand, on a machine that does nothing else.
+Makes three texts of 64 MiB, one of vectors with 16 million values, one of a matrix with as many in one line, and one of
+262,144 statement lines, runs `starjob` (built by `rt run` in crates/starjob) and the C program on each, five times, and
+prints the ratio of the best times, of processor times too, and starjob's peak memory as a multiple of the text. Run it
+by hand, on a machine that does nothing else.
 """
 import os, subprocess, sys, tempfile, time, resource
 
@@ -25,6 +26,11 @@ def values(path):
             f.write(f"print v{k}\n")
 
 
+def matrix(path):
+    with open(path, "w") as f:
+        f.write("starjob 1\nmatrix A 16 1048575 values" + " 123" * (16 * 1_048_575) + "\nprint A\n")
+
+
 def lines(path):
     with open(path, "w") as f:
         f.write("starjob 1\nvector x 3 values 1 2 3\nvector y 3 values 10 20 30\n")
@@ -34,35 +40,37 @@ def lines(path):
 
 
 def best(command, path, out):
-    times, peak = [], 0
+    times, busy, peak = [], [], 0
     for _ in range(5):
         with open(path) as source, open(out, "w") as sink:
             start = time.perf_counter()
             child = subprocess.Popen(command, stdin=source, stdout=sink)
             _, status, usage = os.wait4(child.pid, 0)
             times.append(time.perf_counter() - start)
+            busy.append(usage.ru_utime + usage.ru_stime)
             peak = max(peak, usage.ru_maxrss * 1024)
             if status != 0:
                 sys.exit(f"{command} ended with {status}")
-    return min(times), peak
+    return min(times), min(busy), peak
 
 
 def main():
     with tempfile.TemporaryDirectory() as folder:
         plain = os.path.join(folder, "plain")
         subprocess.run(["gcc", "-O3", "-o", plain, os.path.join(here, "plain.c")], check=True)
-        print(f"cores: {os.cpu_count()}")
-        for name, make in (("values", values), ("lines", lines)):
+        print(f"cores: {os.cpu_count()}, load: {os.getloadavg()[0]:.1f}")
+        for name, make in (("values", values), ("matrix", matrix), ("lines", lines)):
             path = os.path.join(folder, name)
             make(path)
             ours, theirs = os.path.join(folder, "ours"), os.path.join(folder, "theirs")
-            time_ours, peak = best([starjob], path, ours)
-            time_theirs, _ = best([plain], path, theirs)
+            time_ours, busy_ours, peak = best([starjob], path, ours)
+            time_theirs, busy_theirs, _ = best([plain], path, theirs)
             same = open(ours).read() == open(theirs).read()
             size = os.path.getsize(path)
             print(
                 f"{name}: text {size} bytes, starjob {time_ours:.3f} s, C {time_theirs:.3f} s, "
-                f"ratio {time_ours / time_theirs:.2f}, peak {peak / size:.1f} times the text, same output: {same}"
+                f"ratio {time_ours / time_theirs:.2f}, of processor time {busy_ours / busy_theirs:.2f}, "
+                f"peak {peak / size:.1f} times the text, same output: {same}"
             )
 
 
