@@ -14,7 +14,7 @@ ghost use Rattle.sj_job.specs.Well.{IsWell};
 
 use crate::job::{Act, Job, Statement};
 use crate::judge::judge;
-use crate::line::{is_allowed, is_skipped, next_line, words};
+use crate::line::{are_allowed, is_skipped, next_line, words};
 use crate::names::Names;
 use crate::reason::{LimitKind, ReadRefusal, Reason};
 use crate::sentence::{is_header, read_sentence};
@@ -63,7 +63,7 @@ fn judge_line<C: Codelets>(
     if is_skipped(&words) {
         return Ok(Verdict::Skipped);
     }
-    if !is_allowed(line) {
+    if !are_allowed(&words) {
         return Ok(Verdict::Bad(Reason::Word));
     }
     match act_of_words(alloc, names, &words, codelets)? {
@@ -140,7 +140,7 @@ fn skip_header(alloc: Global, text: &[u8]) -> Result<(&[u8], u32), ReadRefusal>
     while let Some((line, tail)) = next_line(rest) {
         let words = words(alloc, line)?;
         if !is_skipped(&words) {
-            if is_allowed(line) && is_header(&words) {
+            if are_allowed(&words) && is_header(&words) {
                 return Ok((tail, number + 1));
             }
             return Err(ReadRefusal::Refused {
