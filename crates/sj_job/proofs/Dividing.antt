@@ -5,7 +5,7 @@ use Rattle.std.proofs.lemmas.Bool.Decides.{nat_tests}
 use Rattle.std.proofs.lemmas.List.Sums.{prefix_len-le-length}
 use Rattle.std.proofs.lemmas.List.{take_all, drop_all}
 use Rattle.std.proofs.lemmas.List.Splits.{slice_split-cons_yes, slice_split-cons_no}
-use Rattle.sj_job.specs.Word.{words, is_blank, is_empty, is_allowed}
+use Rattle.sj_job.specs.Word.{words, is_blank, is_empty, is_allowed, CutsOff}
 
 -- the parts that have bytes
 abbrev full : List (List ℕ) → List (List ℕ)
@@ -122,25 +122,21 @@ behind line k =
     let within : length (drop k line) ≤ length line - k = omega (arith, length-drop k line) in
     take_all (length line - k) (drop k line) within
 
-pub record Cuts (line word tail : List ℕ) : Type 0 where
-  pub first : words line ≡ word ∷ words tail
-  pub shorter : length tail < length line
-
-cut-rest : (line rest : List ℕ) (end : ℕ) → rest ≡ drop (blanks line) line → 0 < length rest → end ≡ word_len rest → Cuts line (take end rest) (take (length rest - end) (drop end rest))
+cut-rest : (line rest : List ℕ) (end : ℕ) → rest ≡ drop (blanks line) line → 0 < length rest → end ≡ word_len rest → CutsOff words line (take end rest) (take (length rest - end) (drop end rest))
 cut-rest line rest end e some at =
     let begun : 0 < word_len rest = subst (λ l. 0 < word_len l) (sym e) (word_len-behind_blanks line (subst (λ l. 0 < length l) e some)) in
     let fewer : length rest ≤ length line = subst (λ l. length l ≤ length line) (sym e) (omega (arith, length-drop (blanks line) line)) in
     let tail : take (length rest - end) (drop end rest) ≡ drop end rest = behind rest end in
-    record {
-      first = words-behind_blanks line ∙ ap words (sym e) ∙ words-cut rest begun
-          ∙ ap (λ n. take n rest ∷ words (drop n rest)) (sym at) ∙ ap (λ l. take end rest ∷ words l) (sym tail);
-      shorter = subst (λ l. length l < length line) (sym tail) (omega (arith, length-drop end rest));
-    }
+    (
+      words-behind_blanks line ∙ ap words (sym e) ∙ words-cut rest begun
+      ∙ ap (λ n. take n rest ∷ words (drop n rest)) (sym at) ∙ ap (λ l. take end rest ∷ words l) (sym tail),
+      subst (λ l. length l < length line) (sym tail) (omega (arith, length-drop end rest)),
+    )
 
 -- a line whose first word begins at a place, and ends where the first blank behind it stands or the line ends
 pub next-word : (line : List ℕ) (start end : ℕ) → Some start ≡ position (λ b. not (is_blank b)) line →
     let rest = take (length line - start) (drop start line) in
-    end ≡ unwrap_or (position is_blank rest) (length rest) → Cuts line (take end rest) (take (length rest - end) (drop end rest))
+    end ≡ unwrap_or (position is_blank rest) (length rest) → CutsOff words line (take end rest) (take (length rest - end) (drop end rest))
 next-word line start end h at =
     let rest = take (length line - start) (drop start line) in
     let first = is-first (blanks line) (length line) start _ refl h in

@@ -1,7 +1,7 @@
 //! The lines of a text and the words of a line.
 
-ghost use Rattle.std.specs.Prelude.{◌≡◌, ◌∷◌, ◌<◌, ◌==◌, ℕ, List, [], length, map, not, position, MatchOption, IfOk, ◌≤◌};
-ghost use Rattle.sj_job.specs.Word.{lines, words, is_blank, is_allowed, is_empty, is_skipped, begins_with};
+ghost use Rattle.std.specs.Prelude.{◌≡◌, ◌==◌, ◌≤◌, ℕ, List, [], length, map, not, position, MatchOption, IfOk};
+ghost use Rattle.sj_job.specs.Word.{lines, words, is_blank, is_allowed, is_empty, is_skipped, begins_with, CutsOff};
 ghost use Rattle.std.specs.List.{list_all, position_or_len};
 
 use memchr::memchr;
@@ -9,7 +9,8 @@ use std::alloc::{AllocError, Global};
 
 /// The first line of a text and what follows it, or `None` where there is no line. Linear in the line.
 pub fn next_line(text: &[u8]) -> Option<(&[u8], &[u8])>
-    ensures { MatchOption result (text.now ≡ []) (λ cut. (lines text.now ≡ cut.0.now ∷ lines cut.1.now) × (length cut.1.now < length text.now)) }
+    ensures { MatchOption result (text.now ≡ [])
+        (λ cut. CutsOff lines text.now cut.0.now cut.1.now) }
 {
     if text.is_empty() {
         return None;
@@ -73,7 +74,7 @@ fn first_blank(line: &[u8]) -> Option<usize>
 /// The first word of a line and what follows it, or `None` where there is no word. Linear in what it passes.
 fn next_word(line: &[u8]) -> Option<(&[u8], &[u8])>
     ensures { MatchOption result (words line.now ≡ [])
-        (λ cut. (words line.now ≡ cut.0.now ∷ words cut.1.now) × (length cut.1.now < length line.now)) }
+        (λ cut. CutsOff words line.now cut.0.now cut.1.now) }
 {
     let start = first_of_word(line)?;
     let rest = &line[start..];

@@ -42,7 +42,8 @@ fn act_of_words<C: Codelets>(
     words: &[&[u8]],
     codelets: &C,
 ) -> Result<Result<Act, Reason>, OutOfMemory>
-    ensures { IfOk result (λ act. act ≡ act_in C.has (scope_in names.now) (map (λ w. w.now) words.now)) }
+    ensures { IfOk result
+        (λ act. act ≡ act_in C.has (scope_in names.now) (map (λ w. w.now) words.now)) }
 {
     match read_sentence(alloc, words, names.statements > 0, codelets)? {
         Ok(sentence) => judge(alloc, names, sentence),
@@ -82,10 +83,13 @@ fn read_line<C: Codelets>(
     codelets: &C,
 ) -> Result<(), ReadRefusal>
     requires { Sees names.old (length statements.old.items) (run_from start statements.old.items) }
-    ensures names { OnOk result (Sees names.new (length statements.new.items) (run_from start statements.new.items)) }
+    ensures names { OnOk result
+        (Sees names.new (length statements.new.items) (run_from start statements.new.items)) }
     ensures ok { OnOk result ((rest : List (List ℕ)) →
-        text_with C.has statements.old.items number (line.now ∷ rest) ≡ text_with C.has statements.new.items (number + 1) rest) }
-    ensures err { IfErr result (λ e. (rest : List (List ℕ)) → IsRefusal e (text_with C.has statements.old.items number (line.now ∷ rest))) }
+        text_with C.has statements.old.items number (line.now ∷ rest)
+        ≡ text_with C.has statements.new.items (number + 1) rest) }
+    ensures err { IfErr result (λ e. (rest : List (List ℕ)) →
+        IsRefusal e (text_with C.has statements.old.items number (line.now ∷ rest))) }
 {
     match judge_line(alloc, names, line, codelets)? {
         Verdict::Skipped => Ok(()),
@@ -132,8 +136,10 @@ fn read_statements<C: Codelets>(
 fn skip_header(alloc: Global, text: &[u8]) -> Result<(&[u8], u32), ReadRefusal>
     requires { length text.now < 2 ^ 31 }
     ensures bound { IfOk result (λ r. r.1 + length r.0.now ≤ 1 + length text.now) }
-    ensures ok { IfOk result (λ r. (has : Kernel → Bool) → reading_header has 1 (lines text.now) ≡ reading has 0 start r.1 (lines r.0.now)) }
-    ensures err { IfErr result (λ e. (has : Kernel → Bool) → IsRefusal e (reading_header has 1 (lines text.now))) }
+    ensures ok { IfOk result (λ r. (has : Kernel → Bool) →
+        reading_header has 1 (lines text.now) ≡ reading has 0 start r.1 (lines r.0.now)) }
+    ensures err { IfErr result (λ e. (has : Kernel → Bool) →
+        IsRefusal e (reading_header has 1 (lines text.now))) }
 {
     let mut rest = text;
     let mut number = 1;

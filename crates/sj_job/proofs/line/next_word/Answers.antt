@@ -10,6 +10,5 @@ returns c =
     let line = c.args.line.now in
     let start = c.in_ok-start.start in
     let rest = take (length line - start) (drop start line) in
-    let cuts = next-word line start c.unwrap_or-end.result (sym c.in_ok-start.was ∙ c.first_of_word.ensures)
-        (c.unwrap_or-end.ensures ∙ ap (λ o. unwrap_or o (length rest)) c.first_blank.ensures) in
-    (cuts.first, cuts.shorter)
+    next-word line start c.unwrap_or-end.result (sym c.in_ok-start.was ∙ c.first_of_word.ensures)
+    (c.unwrap_or-end.ensures ∙ ap (λ o. unwrap_or o (length rest)) c.first_blank.ensures)
