@@ -474,12 +474,8 @@ fn calls(alloc: Global, numbers: &[u64]) -> Result<Vec<u64>, Fail> {
 fn answer(rt: &HostRuntime, text: &'static str) -> Result<(u8, MemSink, MemSink), Fail> {
     let alloc = rt.alloc();
     let mut source = MemSource::new(bytes(alloc, text)?, Vec::new(alloc));
-    let mut out = MemSink::new(alloc, 1000, Vec::new(alloc))
-        .ok()
-        .ok_or("room")?;
-    let mut err = MemSink::new(alloc, 1000, Vec::new(alloc))
-        .ok()
-        .ok_or("room")?;
+    let mut out = MemSink::new(alloc, 1000, Vec::new(alloc))?;
+    let mut err = MemSink::new(alloc, 1000, Vec::new(alloc))?;
     let outcome = starjob(
         rt,
         alloc,
@@ -522,12 +518,8 @@ fn a_source_that_fails_gives_its_fault_and_nothing_is_written(rt: HostRuntime) -
     let alloc = rt.alloc();
     for call in 1..4u64 {
         let mut source = MemSource::new(bytes(alloc, SUM)?, calls(alloc, &[call])?);
-        let mut out = MemSink::new(alloc, 1000, Vec::new(alloc))
-            .ok()
-            .ok_or("room")?;
-        let mut err = MemSink::new(alloc, 1000, Vec::new(alloc))
-            .ok()
-            .ok_or("room")?;
+        let mut out = MemSink::new(alloc, 1000, Vec::new(alloc))?;
+        let mut err = MemSink::new(alloc, 1000, Vec::new(alloc))?;
         let outcome = starjob(
             &rt,
             alloc,
@@ -559,10 +551,8 @@ fn an_out_that_fails_gives_its_fault_and_a_failing_err_is_ignored(
 ) -> Result<(), Fail> {
     let alloc = rt.alloc();
     let mut source = SureSource::new(bytes(alloc, SUM)?);
-    let mut out = MemSink::new(alloc, 1000, calls(alloc, &[1])?)
-        .ok()
-        .ok_or("room")?;
-    let mut err = MemSink::new(alloc, 10, Vec::new(alloc)).ok().ok_or("room")?;
+    let mut out = MemSink::new(alloc, 1000, calls(alloc, &[1])?)?;
+    let mut err = MemSink::new(alloc, 10, Vec::new(alloc))?;
     let outcome = starjob(
         &rt,
         alloc,
@@ -585,18 +575,16 @@ fn words_are_not_accepted_and_disks_come_back_in_order(rt: HostRuntime) -> Resul
     let mut disks: Vec<Box<dyn Disk + Send>> = Vec::new(alloc);
     disks.push(Box::new(
         alloc,
-        MemDisk::new(alloc, 64, Vec::new(alloc)).ok().ok_or("room")?,
+        MemDisk::new(alloc, 64, Vec::new(alloc))?,
     )?)?;
     disks.push(Box::new(
         alloc,
-        MemDisk::new(alloc, 32, Vec::new(alloc)).ok().ok_or("room")?,
+        MemDisk::new(alloc, 32, Vec::new(alloc))?,
     )?)?;
     let mut words = Vec::new(alloc);
     words.push(String::from_str(alloc, "--workers")?)?;
     let mut source = SureSource::new(bytes(alloc, SUM)?);
-    let mut out = MemSink::new(alloc, 1000, Vec::new(alloc))
-        .ok()
-        .ok_or("room")?;
+    let mut out = MemSink::new(alloc, 1000, Vec::new(alloc))?;
     let mut err = SureSink::new();
     let outcome = starjob(
         &rt,
