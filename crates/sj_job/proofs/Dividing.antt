@@ -126,10 +126,9 @@ cut-rest : (line rest : List ℕ) (end : ℕ) → rest ≡ drop (blanks line) li
 cut-rest line rest end e some at =
     let begun : 0 < word_len rest = subst (λ l. 0 < word_len l) (sym e) (word_len-behind_blanks line (subst (λ l. 0 < length l) e some)) in
     let fewer : length rest ≤ length line = subst (λ l. length l ≤ length line) (sym e) (omega (arith, length-drop (blanks line) line)) in
-    let tail : take (length rest - end) (drop end rest) ≡ drop end rest = behind rest end in
-    (
+    let tail : take (length rest - end) (drop end rest) ≡ drop end rest = behind rest end in (
       words-behind_blanks line ∙ ap words (sym e) ∙ words-cut rest begun
-      ∙ ap (λ n. take n rest ∷ words (drop n rest)) (sym at) ∙ ap (λ l. take end rest ∷ words l) (sym tail),
+          ∙ ap (λ n. take n rest ∷ words (drop n rest)) (sym at) ∙ ap (λ l. take end rest ∷ words l) (sym tail),
       subst (λ l. length l < length line) (sym tail) (omega (arith, length-drop end rest)),
     )
 

@@ -39,11 +39,11 @@ pub enum Verdict {
 fn act_of_words<C: Codelets>(
     alloc: Global,
     names: &Names,
-    words: &[&[u8]],
+    words: Vec<&[u8]>,
     codelets: &C,
 ) -> Result<Result<Act, Reason>, OutOfMemory>
     ensures { IfOk result
-        (λ act. act ≡ act_in C.has (scope_in names.now) (map (λ w. w.now) words.now)) }
+        (λ act. act ≡ act_in C.has (scope_in names.now) (map (λ w. w.now) words.entry.items)) }
 {
     match read_sentence(alloc, words, names.statements > 0, codelets)? {
         Ok(sentence) => judge(alloc, names, sentence),
@@ -67,7 +67,7 @@ fn judge_line<C: Codelets>(
     if !are_allowed(&words) {
         return Ok(Verdict::Bad(Reason::Word));
     }
-    match act_of_words(alloc, names, &words, codelets)? {
+    match act_of_words(alloc, names, words, codelets)? {
         Ok(act) => Ok(Verdict::Does(act)),
         Err(reason) => Ok(Verdict::Bad(reason)),
     }
