@@ -1,5 +1,5 @@
 -- A line is divided into its words one after another, and has as its bytes those of its words and blanks.
-use Rattle.std.proofs.Common.{◌≡◌, ℕ, suc, ◌+◌, ◌<◌, ◌≤◌, ◌&&◌, ◌||◌, not, Bool, true, false, List, [], ◌∷◌, length, take, drop, filter, refl, ap, ◌∙◌, sym, cond, arith, nat_lt, length-take, length-drop, Option, Some, None, unwrap_or, position, ◌-◌, subst}
+use Rattle.std.proofs.Common.{◌≡◌, ℕ, suc, ◌+◌, ◌<◌, ◌≤◌, ◌&&◌, ◌||◌, not, Bool, true, false, List, [], ◌∷◌, length, take, drop, filter, refl, ap, ◌∙◌, sym, cond, arith, nat_lt, length-take, length-drop, Some, None, unwrap_or, position, ◌-◌, subst}
 use Rattle.std.specs.List.{slice_split, onto_first, list_all, position_or_len}
 use Rattle.std.proofs.lemmas.Bool.Decides.{nat_tests}
 use Rattle.std.proofs.lemmas.List.Sums.{prefix_len-le-length}

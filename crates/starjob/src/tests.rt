@@ -463,7 +463,8 @@ fn bytes(alloc: Global, text: &str) -> Result<Vec<u8>, Fail> {
     Ok(Vec::from_slice(alloc, text.as_bytes())?)
 }
 
-const SUM: &str =
+/// One vector is added to another.
+pub const SUM: &str =
     "starjob 1\nvector x 3 values 1 2 3\nvector y 3 values 10 20 30\ntask add x:R y:RW\nprint y\n";
 
 fn calls(alloc: Global, numbers: &[u64]) -> Result<Vec<u64>, Fail> {
@@ -573,14 +574,8 @@ fn an_out_that_fails_gives_its_fault_and_a_failing_err_is_ignored(
 fn words_are_not_accepted_and_disks_come_back_in_order(rt: HostRuntime) -> Result<(), Fail> {
     let alloc = rt.alloc();
     let mut disks: Vec<Box<dyn Disk + Send>> = Vec::new(alloc);
-    disks.push(Box::new(
-        alloc,
-        MemDisk::new(alloc, 64, Vec::new(alloc))?,
-    )?)?;
-    disks.push(Box::new(
-        alloc,
-        MemDisk::new(alloc, 32, Vec::new(alloc))?,
-    )?)?;
+    disks.push(Box::new(alloc, MemDisk::new(alloc, 64, Vec::new(alloc))?)?)?;
+    disks.push(Box::new(alloc, MemDisk::new(alloc, 32, Vec::new(alloc))?)?)?;
     let mut words = Vec::new(alloc);
     words.push(String::from_str(alloc, "--workers")?)?;
     let mut source = SureSource::new(bytes(alloc, SUM)?);

@@ -6,6 +6,7 @@ ghost use Rattle.sj_engine.specs.Run.{HasCodelets, HasRunUpTo, IsRunnable};
 ghost use Rattle.sj_minplus.specs.Has.{library_has};
 
 use crate::running::program_of;
+use crate::tests::SUM;
 use sj_base::ids::{Task, Worker};
 use sj_base::mode::Policy;
 use sj_base::program::{Machine, Program};
@@ -23,9 +24,6 @@ use sj_minplus::library::Library;
 use std::alloc::Global;
 use std::sync::Arc;
 use std::test::Fail;
-
-const SUM: &str =
-    "starjob 1\nvector x 3 values 1 2 3\nvector y 3 values 10 20 30\ntask add x:R y:RW\nprint y\n";
 
 /// The program of a job that adds one vector to another.
 fn sum_program(alloc: Global) -> Result<Arc<Program>, Fail>
@@ -45,7 +43,10 @@ fn a_run_hands_over_the_array_of_its_deliver_task(rt: HostRuntime) -> Result<(),
     assert_eq!(rt; outcome.trace.len(), 12);
     assert_eq!(rt; outcome.delivered.len(), 1);
     assert_eq!(rt; outcome.delivered.task(0), Task(3));
-    assert_eq!(rt; outcome.delivered.tile(0).elements(), [11i64, 22, 33].as_slice());
+    assert_eq!(rt;
+        outcome.delivered.tile(0).elements(),
+        [11i64, 22, 33].as_slice()
+    );
     Ok(())
 }
 
@@ -95,7 +96,10 @@ fn a_board_gives_its_first_task_zeros_to_write_to(rt: HostRuntime) -> Result<(),
 #[test]
 fn what_is_handed_over_is_kept_in_order(rt: HostRuntime) -> Result<(), Fail> {
     let alloc = rt.alloc();
-    let tile = Tile::of(Dims { rows: 1, cols: 2 }, Vec::from_array(alloc, [5i64, 7])?);
+    let tile = Tile::of(
+        Dims { rows: 1, cols: 2 },
+        Vec::from_array(alloc, [5i64, 7])?,
+    );
     let mut delivered = Delivered::empty(alloc);
     assert_eq!(rt; delivered.reserve(1), Ok(()));
     delivered.add(Task(4), Arc::new(alloc, tile)?);

@@ -1,4 +1,4 @@
-use Rattle.std.proofs.Common.{◌∙◌, length}
+use Rattle.std.proofs.Common.{◌∙◌}
 use Rattle.sj_job.proofs.Cut.{first-position}
 use Rattle.sj_job.proofs.line.first_place.Goals as goal
 
