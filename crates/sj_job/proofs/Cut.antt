@@ -1,11 +1,11 @@
 -- The first line of a text is what stands before its first LF.
-use Rattle.std.proofs.Common.{◌≡◌, ℕ, suc, ◌+◌, ◌-◌, ◌<◌, ◌≤◌, nat_eq, not, Bool, true, false, List, [], ◌∷◌, length, take, drop, refl, ap, ◌∙◌, sym, cond, arith, nat_lt, Some, None, unwrap_or, position}
-use Rattle.std.specs.List.{position_or_len}
+use Rattle.std.proofs.Common.{◌≡◌, ℕ, suc, ◌+◌, ◌-◌, ◌<◌, ◌≤◌, nat_eq, not, Bool, true, false, List, [], ◌∷◌, length, take, drop, refl, ap, ◌∙◌, sym, cond, arith, Option, Some, None, unwrap_or}
+use Rattle.std.specs.List.{position_or_len, onto_first}
 use Rattle.std.proofs.lemmas.List.{take_all, drop_all}
-use Rattle.std.proofs.lemmas.List.Sums.{prefix_len-le-length}
-use Rattle.std.proofs.lemmas.Bool.Decides.{nat_tests}
+use Rattle.std.proofs.lemmas.List.Sums.{position_or_len_is}
 use Rattle.std.proofs.Math.ListN.{length-drop}
-use Rattle.sj_job.specs.Word.{lines, onto_first}
+use Rattle.memchr.specs.Find.{IsFirstByte, is_byte}
+use Rattle.sj_job.specs.Word.{lines}
 
 joined : (t : Bool) (b : ℕ) (bs : List ℕ) (m : ℕ) → onto_first b (lines bs) ≡ (b ∷ take m bs) ∷ lines (drop (suc m) bs) → cond t ([] ∷ lines bs) (onto_first b (lines bs)) ≡ take (cond (not t) (1 + m) 0) (b ∷ bs) ∷ lines (drop (suc (cond (not t) (1 + m) 0)) (b ∷ bs))
 joined true b bs m h = refl
@@ -36,13 +36,17 @@ lines-whole (b ∷ bs) some e =
     ∙ ap (λ l. l ∷ lines (drop (suc (length bs)) bs)) (take_all (length (b ∷ bs)) (b ∷ bs) (omega arith))
     ∙ ap (λ t. (b ∷ bs) ∷ lines t) (drop_all (suc (length bs)) bs (omega arith))
 
-ended : (n len : ℕ) (t : Bool) → n ≤ len → nat_lt n len ≡ t → unwrap_or (cond t (Some n) None) len ≡ n
-ended n len true le h = refl
-ended n len false le h = grind (arith, nat_tests)
+is_false : (t : Bool) → ¬ (t ≡ true) → t ≡ false
+is_false true n = absurd (n refl)
+is_false false n = refl
 
--- the place of the first such byte
-pub end-position : (b : ℕ) (bs : List ℕ) → unwrap_or (position (λ c. nat_eq c b) bs) (length bs) ≡ position_or_len (λ c. nat_eq c b) bs
-end-position b bs = ended _ _ _ (prefix_len-le-length (λ c. not (nat_eq c b)) bs) refl
+-- the place of the first such byte, or the length where there is none
+pub first-position : (b : ℕ) (bs : List ℕ) (r : Option ℕ) → IsFirstByte (is_byte b) bs r → unwrap_or r (length bs) ≡ position_or_len (λ c. nat_eq c b) bs
+first-position b bs None none =
+    sym (position_or_len_is (λ c. nat_eq c b) bs (length bs) 0 (omega arith) (λ k lt. is_false _ (none k (omega arith) lt)) (λ lt. absurd (omega arith)))
+first-position b bs (Some k) found =
+    let le : k ≤ length bs = omega (arith, found.0.high) in
+    sym (position_or_len_is (λ c. nat_eq c b) bs k 0 le (λ j lt. is_false _ (found.0.before j (omega arith) lt)) (λ lt. found.1))
 
 -- what follows a line is shorter
 pub shorter : (bs : List ℕ) (n : ℕ) → n < length bs → length (take (length bs - (n + 1)) (drop (n + 1) bs)) < length bs

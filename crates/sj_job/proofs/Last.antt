@@ -1,30 +1,36 @@
 -- The last byte of a kind in a word, and the last word of a line.
-use Rattle.std.proofs.Common.{◌≡◌, ◌≢◌, ℕ, suc, ◌+◌, ◌-◌, ◌<◌, ◌≤◌, ◌&&◌, not, Bool, true, false, List, [], ◌∷◌, ◌++◌, length, take, drop, get_or, map, refl, ap, ◌∙◌, sym, arith, Option, Some, None, unwrap_or, cond, nat_eq, Bor}
+use Rattle.std.proofs.Common.{◌≡◌, ℕ, suc, ◌+◌, ◌<◌, ◌&&◌, not, Bool, true, false, List, [], ◌∷◌, ◌++◌, length, take, drop, get_or, map, refl, ap, ◌∙◌, sym, arith, Option, Some, None, unwrap_or, cond, nat_eq, Bor, length-drop}
 use Rattle.std.specs.List.{list_all}
 use Rattle.std.proofs.Math.Seq.{drop-cons}
-use Rattle.std.proofs.lemmas.List.{drop_all, take-append-drop, map-append}
+use Rattle.std.proofs.lemmas.List.{get_or-drop, take-append-drop, map-append}
 use Rattle.std.proofs.lemmas.Bool.Decides.{Decides-eqb}
+use Rattle.std.specs.Option.{MatchOption}
+use Rattle.memchr.specs.Find.{IsLastByte, Nowhere, Passes, is_byte}
 use Rattle.sj_job.specs.Form.{around_last, priority_of, with_priority}
 
 -- ---- the last byte
 
-unequal : (c b : ℕ) (t : Bool) → c ≢ b → nat_eq c b ≡ t → not t ≡ true
-unequal c b true n e = absurd (n ((Decides-eqb c b).0 e))
-unequal c b false n e = refl
+not-so : (t : Bool) → ¬ (t ≡ true) → not t ≡ true
+not-so true n = absurd (n refl)
+not-so false n = refl
 
--- none behind the end of the word
-pub none-behind : (b : ℕ) (w : List ℕ) → list_all (λ c. not (nat_eq c b)) (drop (length w) w) ≡ true
-none-behind b w = ap (list_all (λ c. not (nat_eq c b))) (drop_all (length w) w (omega arith))
+-- no byte is such a byte
+none-in : (b : ℕ) (w : List ℕ) → ((k : ℕ) → k < length w → ¬ (nat_eq (get_or w k 0) b ≡ true)) → list_all (λ c. not (nat_eq c b)) w ≡ true
+none-in b [] none = refl
+none-in b (c ∷ w) none =
+    ap (λ t. t && list_all (λ c. not (nat_eq c b)) w) (not-so (nat_eq c b) (none 0 (omega arith)))
+    ∙ none-in b w (λ k lt. none (suc k) (omega arith))
 
--- one byte more that isn't such a byte
-pub none-from : (b : ℕ) (w : List ℕ) (k : ℕ) → 0 < k → k ≤ length w → get_or w (k - 1) 0 ≢ b → list_all (λ c. not (nat_eq c b)) (drop k w) ≡ true → list_all (λ c. not (nat_eq c b)) (drop (k - 1) w) ≡ true
-none-from b w k pos le n h =
-    let lt : k - 1 < length w = omega arith in
-    let s : suc (k - 1) ≡ k = omega arith in
-    ap (list_all (λ c. not (nat_eq c b))) (drop-cons w (k - 1) 0 lt)
-    ∙ ap (λ t. t && list_all (λ c. not (nat_eq c b)) (drop (suc (k - 1)) w)) (unequal (get_or w (k - 1) 0) b (nat_eq (get_or w (k - 1) 0) b) n refl)
-    ∙ ap (λ i. list_all (λ c. not (nat_eq c b)) (drop i w)) s
-    ∙ h
+-- none behind a place
+none-behind : (b : ℕ) (w : List ℕ) (k : ℕ) → Nowhere (Passes (is_byte b) w) (k + 1) (length w) → list_all (λ c. not (nat_eq c b)) (drop (k + 1) w) ≡ true
+none-behind b w k none =
+    none-in b (drop (k + 1) w) (λ j lt passes. none (k + 1 + j) (omega arith) (omega (arith, length-drop (k + 1) w)) (ap (λ c. nat_eq c b) (sym (get_or-drop (k + 1) w j 0)) ∙ passes))
+
+-- the place of the last such byte, if there is one
+pub last-place : (b : ℕ) (w : List ℕ) (r : Option ℕ) → IsLastByte (is_byte b) w r → MatchOption r (list_all (λ c. not (nat_eq c b)) w ≡ true)
+    (λ at. (at < length w) × (get_or w at 0 ≡ b) × (list_all (λ c. not (nat_eq c b)) (drop (at + 1) w) ≡ true))
+last-place b w None none = none-in b w (λ k lt. none k (omega arith) lt)
+last-place b w (Some at) found = (found.0.high, (Decides-eqb (get_or w at 0) b).0 found.1, none-behind b w at found.0.after)
 
 abbrev onto : ℕ → Bool → List ℕ → Option (List ℕ × List ℕ) → Option (List ℕ × List ℕ)
 onto c t w o = elim o as (λ _. Option (List ℕ × List ℕ)) [ Some p ↦ Some (c ∷ p.0, p.1) | None ↦ cond t (Some ([], w)) None ]

@@ -1,4 +1,5 @@
 pub mod Cut
+pub mod Dividing
 pub mod Digits
 pub mod Each
 pub mod Telling

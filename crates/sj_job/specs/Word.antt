@@ -1,20 +1,19 @@
 -- The lines of a text, the words of a line, and the words that are names or numbers.
-use Rattle.std.specs.Prelude.{ℕ, zero, suc, ◌^◌, Bool, true, false, ◌&&◌, ◌||◌, not, ◌==◌, nat_lt, nat_le, Option, Some, None, is_some, unwrap_or, List, [], ◌∷◌, ℤ, pos, negsuc, length, codes, filter, if◌then◌else◌}
-use Rattle.std.specs.List.{slice_split, list_all}
+use Rattle.std.specs.Prelude.{◌≡◌, ◌<◌, ℕ, zero, suc, ◌^◌, Bool, true, false, ◌&&◌, ◌||◌, not, ◌==◌, nat_lt, nat_le, Option, Some, None, is_some, unwrap_or, List, [], ◌∷◌, ℤ, pos, negsuc, length, codes, filter, if◌then◌else◌}
+use Rattle.std.specs.List.{slice_split, list_all, onto_first}
 use Rattle.std.specs.Char.{is_ascii_digit}
 use Rattle.std.specs.Str.{bytes_eq}
 use Rattle.std.specs.Str.Parse.{digits_value}
 use Rattle.sj_codelet.specs.MinPlus.{inf}
 
--- a byte goes onto the first line
-abbrev pub onto_first : ℕ → List (List ℕ) → List (List ℕ)
-onto_first b [] = (b ∷ []) ∷ []
-onto_first b (l ∷ ls) = (b ∷ l) ∷ ls
-
 -- the lines of a text: each ends with LF, and a last piece without LF is a line if it isn't empty
 abbrev pub lines : List ℕ → List (List ℕ)
 lines [] = []
 lines (b ∷ bs) = if b == 10 then [] ∷ lines bs else onto_first b (lines bs)
+
+-- a part is the first of the parts of a text, and the others are those of the rest, which is shorter
+abbrev pub CutsOff : (List ℕ → List (List ℕ)) → List ℕ → List ℕ → List ℕ → Type 0
+CutsOff parts text part rest = (parts text ≡ part ∷ parts rest) × (length rest < length text)
 
 -- space, tab and CR
 abbrev pub is_blank : ℕ → Bool

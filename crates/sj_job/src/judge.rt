@@ -157,7 +157,8 @@ fn operand_complaint(
     kernel: Kernel,
     call: &Call,
 ) -> Result<Option<Reason>, OutOfMemory>
-    ensures { IfOk result (λ why. why ≡ first_of (operand_reasons (scope_in names.now) kernel call.now)) }
+    ensures { IfOk result
+        (λ why. why ≡ first_of (operand_reasons (scope_in names.now) kernel call.now)) }
 {
     if !is_counted(kernel, call) {
         Ok(Some(Reason::OperandCount))

@@ -147,7 +147,8 @@ impl Names {
 
     fn unregister(&mut self, alloc: Global, name: &Name) -> Result<(), OutOfMemory>
         ensures count { self.new.statements ≡ self.old.statements }
-        ensures names { OnOk result ((S : State) → Shows self.old S → Shows self.new (unregister name.now S)) }
+        ensures names { OnOk result ((S : State) →
+            Shows self.old S → Shows self.new (unregister name.now S)) }
     {
         self.ended.insert(name.copy(alloc)?)?;
         self.roots.remove(name);
@@ -159,7 +160,8 @@ impl Names {
         ensures count { self.new.statements ≡ self.old.statements }
         ensures registered { self.new.registered ≡ self.old.registered }
         ensures ended { (q : List ℕ) → ended_in self.new q ≡ ended_in self.old q }
-        ensures known { (q : List ℕ) → known_in self.new q ≡ revalued valued name.now (known_in self.old) q }
+        ensures known { (q : List ℕ) →
+            known_in self.new q ≡ revalued valued name.now (known_in self.old) q }
     {
         if let Some(known) = self.roots.get_mut(name) {
             known.valued = valued;
@@ -171,7 +173,8 @@ impl Names {
         ensures count { self.new.statements ≡ self.old.statements }
         ensures registered { self.new.registered ≡ self.old.registered }
         ensures ended { (q : List ℕ) → ended_in self.new q ≡ ended_in self.old q }
-        ensures known { (q : List ℕ) → known_in self.new q ≡ after_writes task.now.operands (known_in self.old) q }
+        ensures known { (q : List ℕ) →
+            known_in self.new q ≡ after_writes task.now.operands (known_in self.old) q }
     {
         for operand in task.operands.items() {
             self.write(operand);
@@ -183,7 +186,8 @@ impl Names {
         ensures count { self.new.statements ≡ self.old.statements }
         ensures registered { self.new.registered ≡ self.old.registered }
         ensures ended { (q : List ℕ) → ended_in self.new q ≡ ended_in self.old q }
-        ensures known { (q : List ℕ) → known_in self.new q ≡ after_write operand.now (known_in self.old) q }
+        ensures known { (q : List ℕ) →
+            known_in self.new q ≡ after_write operand.now (known_in self.old) q }
     {
         if operand.is_written() {
             self.set_valued(&operand.name, true);

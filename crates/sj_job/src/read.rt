@@ -14,7 +14,7 @@ ghost use Rattle.sj_job.specs.Well.{IsWell};
 
 use crate::job::{Act, Job, Statement};
 use crate::judge::judge;
-use crate::line::{is_allowed, is_skipped, next_line, words};
+use crate::line::{are_allowed, is_skipped, next_line, words};
 use crate::names::Names;
 use crate::reason::{LimitKind, ReadRefusal, Reason};
 use crate::sentence::{is_header, read_sentence};
@@ -39,10 +39,11 @@ pub enum Verdict {
 fn act_of_words<C: Codelets>(
     alloc: Global,
     names: &Names,
-    words: &[&[u8]],
+    words: Vec<&[u8]>,
     codelets: &C,
 ) -> Result<Result<Act, Reason>, OutOfMemory>
-    ensures { IfOk result (λ act. act ≡ act_in C.has (scope_in names.now) (map (λ w. w.now) words.now)) }
+    ensures { IfOk result
+        (λ act. act ≡ act_in C.has (scope_in names.now) (map (λ w. w.now) words.entry.items)) }
 {
     match read_sentence(alloc, words, names.statements > 0, codelets)? {
         Ok(sentence) => judge(alloc, names, sentence),
@@ -63,10 +64,10 @@ fn judge_line<C: Codelets>(
     if is_skipped(&words) {
         return Ok(Verdict::Skipped);
     }
-    if !is_allowed(line) {
+    if !are_allowed(&words) {
         return Ok(Verdict::Bad(Reason::Word));
     }
-    match act_of_words(alloc, names, &words, codelets)? {
+    match act_of_words(alloc, names, words, codelets)? {
         Ok(act) => Ok(Verdict::Does(act)),
         Err(reason) => Ok(Verdict::Bad(reason)),
     }
@@ -82,10 +83,13 @@ fn read_line<C: Codelets>(
     codelets: &C,
 ) -> Result<(), ReadRefusal>
     requires { Sees names.old (length statements.old.items) (run_from start statements.old.items) }
-    ensures names { OnOk result (Sees names.new (length statements.new.items) (run_from start statements.new.items)) }
+    ensures names { OnOk result
+        (Sees names.new (length statements.new.items) (run_from start statements.new.items)) }
     ensures ok { OnOk result ((rest : List (List ℕ)) →
-        text_with C.has statements.old.items number (line.now ∷ rest) ≡ text_with C.has statements.new.items (number + 1) rest) }
-    ensures err { IfErr result (λ e. (rest : List (List ℕ)) → IsRefusal e (text_with C.has statements.old.items number (line.now ∷ rest))) }
+        text_with C.has statements.old.items number (line.now ∷ rest)
+        ≡ text_with C.has statements.new.items (number + 1) rest) }
+    ensures err { IfErr result (λ e. (rest : List (List ℕ)) →
+        IsRefusal e (text_with C.has statements.old.items number (line.now ∷ rest))) }
 {
     match judge_line(alloc, names, line, codelets)? {
         Verdict::Skipped => Ok(()),
@@ -132,15 +136,17 @@ fn read_statements<C: Codelets>(
 fn skip_header(alloc: Global, text: &[u8]) -> Result<(&[u8], u32), ReadRefusal>
     requires { length text.now < 2 ^ 31 }
     ensures bound { IfOk result (λ r. r.1 + length r.0.now ≤ 1 + length text.now) }
-    ensures ok { IfOk result (λ r. (has : Kernel → Bool) → reading_header has 1 (lines text.now) ≡ reading has 0 start r.1 (lines r.0.now)) }
-    ensures err { IfErr result (λ e. (has : Kernel → Bool) → IsRefusal e (reading_header has 1 (lines text.now))) }
+    ensures ok { IfOk result (λ r. (has : Kernel → Bool) →
+        reading_header has 1 (lines text.now) ≡ reading has 0 start r.1 (lines r.0.now)) }
+    ensures err { IfErr result (λ e. (has : Kernel → Bool) →
+        IsRefusal e (reading_header has 1 (lines text.now))) }
 {
     let mut rest = text;
     let mut number = 1;
     while let Some((line, tail)) = next_line(rest) {
         let words = words(alloc, line)?;
         if !is_skipped(&words) {
-            if is_allowed(line) && is_header(&words) {
+            if are_allowed(&words) && is_header(&words) {
                 return Ok((tail, number + 1));
             }
             return Err(ReadRefusal::Refused {

@@ -342,13 +342,16 @@ fn said_of<C: Codelets>(
 /// Linear in the words.
 pub fn read_sentence<C: Codelets>(
     alloc: Global,
-    words: &[&[u8]],
+    words: Vec<&[u8]>,
     begun: bool,
     codelets: &C,
 ) -> Result<Result<Sentence, Reason>, OutOfMemory>
-    ensures { IfOk result (λ r. r ≡ said C.has begun (map (λ w. w.now) words.now)) }
+    ensures { IfOk result (λ r. r ≡ said C.has begun (map (λ w. w.now) words.entry.items)) }
 {
-    match form_of(alloc, words)? {
+    let form = form_of(alloc, &words)?;
+    // before the numbers are made, since a line may have millions of words
+    drop(words);
+    match form {
         Some(form) => said_of(alloc, form, begun, codelets),
         None => Ok(Err(Reason::Word)),
     }

@@ -10,6 +10,7 @@ use crate::form::{ArrayForm, Form, InitForm, Keyword, OperandForm, Piece, Pieces
 use crate::line::first_place;
 use crate::name::Name;
 use crate::word::is_name;
+use memchr::memrchr;
 use sj_base::memory::OutOfMemory;
 use sj_base::mode::{Mode, Policy, Reduction};
 use sj_base::sequence::Sequence;
@@ -118,20 +119,13 @@ fn divided(word: &[u8], byte: u8) -> (&[u8], &[u8])
     (&word[..at], &word[at + 1..])
 }
 
-/// The place of the last such byte. Linear in what stands after it.
+/// The place of the last such byte. Linear in the word.
 fn last_place(word: &[u8], byte: u8) -> Option<usize>
     ensures { MatchOption result (list_all (λ b. not (b == byte)) word.now ≡ true)
         (λ at. (at < length word.now) × (slice_index word.now at ≡ byte)
         × (list_all (λ b. not (b == byte)) (drop (at + 1) word.now) ≡ true)) }
 {
-    let mut end = word.len();
-    while end > 0 {
-        end -= 1;
-        if word[end] == byte {
-            return Some(end);
-        }
-    }
-    None
+    memrchr(byte, word)
 }
 
 /// What stands before the last such byte of a word and what stands after it. Linear in the word.

@@ -13,7 +13,7 @@ use std::test::Fail;
 
 fn said(alloc: Global, line: &str, begun: bool) -> Result<Result<Sentence, Reason>, OutOfMemory> {
     let words = words(alloc, line.as_bytes())?;
-    read_sentence(alloc, &words, begun, &Ring)
+    read_sentence(alloc, words, begun, &Ring)
 }
 
 fn reason_of(alloc: Global, line: &str, begun: bool) -> Result<Option<Reason>, OutOfMemory> {

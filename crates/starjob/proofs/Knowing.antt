@@ -1,11 +1,11 @@
 -- Kinds under their names go on being those of the state.
 use Rattle.std.specs.FinMap as map
-use Rattle.std.proofs.Common.{◌≡◌, ℕ, Bool, true, false, List, [], ◌∷◌, refl, ap, ◌∙◌, sym, subst, Option, Some, None, option_map, cond, map as each_of}
+use Rattle.std.proofs.Common.{◌≡◌, ℕ, Bool, true, false, List, [], ◌∷◌, refl, ap, ◌∙◌, sym, Option, Some, None, option_map, cond, map as each_of}
 use Rattle.std.specs.Ordering.{nat_cmp, eq_by_cmp}
 use Rattle.std.specs.Cmp.{eq_by_cmp_equiv}
 use Rattle.std.specs.Cmp.Lexicographic.{slice_cmp, nat_list_cmp_total, texts_ties, same_text}
 use Rattle.std.specs.Map.{lookup}
-use Rattle.std.specs.BTreeMap.{get, is_at, Updates}
+use Rattle.std.specs.BTreeMap.{is_at, Updates}
 use Rattle.sj_base.specs.Array.{Array}
 use Rattle.sj_job.specs.declared.job.Kind.{Kind}
 use Rattle.sj_job.specs.declared.job.Register.{Register}

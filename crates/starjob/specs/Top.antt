@@ -1,9 +1,10 @@
 -- What the program's call promises.
-use Rattle.std.specs.Prelude.{◌≡◌, ℕ, Option, Result, Ok, Err, List, IsOk}
+use Rattle.std.specs.Prelude.{◌≡◌, ℕ, Bool, Option, IfSome, IsSomeAnd, Result, Ok, Err, List, [], IsOk}
 use Rattle.std.specs.Io.KnownBytes.{Appends, Keeps}
+use Rattle.sj_codelet.specs.declared.kernel.Kernel.{Kernel}
 use Rattle.sj_job.specs.declared.job.Statement.{Statement}
 use Rattle.sj_job.specs.Meaning.{printed}
-use Rattle.sj_job.specs.Reading.{Refusal}
+use Rattle.sj_job.specs.Reading.{Refusal, job_of}
 use Rattle.starjob.specs.declared.status.Status.{Status}
 use Rattle.starjob.specs.declared.status.Status.TheVariants.{Done, Usage, Refused, SourceFault, SinkFault, OutOfMemory}
 use Rattle.starjob.specs.Output.{output}
@@ -21,6 +22,14 @@ Answers job (Refused line reason) = job ≡ Err (record { line = line; reason = 
 Answers job SourceFault = Unit {0}
 Answers job SinkFault = IsOk job
 Answers job OutOfMemory = Unit {0}
+
+-- without words, where the source tells its bytes: this is true of the job that they say
+abbrev pub OfJob : {W : Type 0} → (Kernel → Bool) → List W → Option (List ℕ) → (Result (List Statement) Refusal → Type 0) → Type 0
+OfJob has words left P = words ≡ [] → IfSome left (λ text. P (job_of has text))
+
+-- there are no words, and the source tells a job text against which no reason stands
+abbrev pub IsSoundJob : {W : Type 0} → (Kernel → Bool) → List W → Option (List ℕ) → Type 0
+IsSoundJob has words left = (words ≡ []) × IsSomeAnd left (λ text. IsOk (job_of has text))
 
 -- what `out` took of a text, by the status: all of it, or a front
 abbrev pub GivesText : List ℕ → Status → Option (List ℕ) → Option (List ℕ) → Type 0

@@ -11,6 +11,8 @@ mod source_text;
 mod status;
 #[cfg(test)]
 mod tests;
+#[cfg(test)]
+mod tests_of_layers;
 mod top;
 
 use sj_edge::gate::OpenGate;

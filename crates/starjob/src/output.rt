@@ -26,7 +26,8 @@ fn write_element(text: &mut Vec<u8>, element: i64) -> Result<(), OutOfMemory>
 
 /// Appends elements, each behind a space. Linear in the text.
 fn write_more(text: &mut Vec<u8>, elements: &[i64]) -> Result<(), OutOfMemory>
-    ensures { OnOk result (text.new.items ≡ text.old.items ++ flat_map (λ e. 32 ∷ element_text e) elements.now) }
+    ensures { OnOk result (text.new.items
+        ≡ text.old.items ++ flat_map (λ e. 32 ∷ element_text e) elements.now) }
 {
     for element in elements {
         text.push(b' ')?;
@@ -37,7 +38,8 @@ fn write_more(text: &mut Vec<u8>, elements: &[i64]) -> Result<(), OutOfMemory>
 
 /// Appends elements separated by one space. Linear in the text.
 fn write_elements(text: &mut Vec<u8>, elements: &[i64]) -> Result<(), OutOfMemory>
-    ensures { OnOk result (text.new.items ≡ text.old.items ++ join_with_byte 32 (map element_text elements.now)) }
+    ensures { OnOk result (text.new.items
+        ≡ text.old.items ++ join_with_byte 32 (map element_text elements.now)) }
 {
     match elements.split_first() {
         Some((first, more)) => {
@@ -61,7 +63,8 @@ fn write_row(text: &mut Vec<u8>, elements: &[i64]) -> Result<(), OutOfMemory>
 /// Appends the rows of a matrix, a line for each. Linear in the text.
 fn write_rows(text: &mut Vec<u8>, dims: Dims, elements: &[i64]) -> Result<(), OutOfMemory>
     requires { length elements.now ≡ area dims }
-    ensures { OnOk result (text.new.items ≡ text.old.items ++ flat_map row_text (rows_of (array dims elements.now))) }
+    ensures { OnOk result (text.new.items
+        ≡ text.old.items ++ flat_map row_text (rows_of (array dims elements.now))) }
 {
     let cols = dims.cols as usize;
     for i in 0..dims.rows as usize {
@@ -81,7 +84,8 @@ fn write_number(text: &mut Vec<u8>, number: u32) -> Result<(), OutOfMemory>
 
 /// Appends ` R C:` and LF.
 fn write_dims(text: &mut Vec<u8>, dims: Dims) -> Result<(), OutOfMemory>
-    ensures { OnOk result (text.new.items ≡ text.old.items ++ codes " " ++ decimal dims.rows ++ codes " " ++ decimal dims.cols ++ codes ":\n") }
+    ensures { OnOk result (text.new.items ≡ text.old.items
+        ++ codes " " ++ decimal dims.rows ++ codes " " ++ decimal dims.cols ++ codes ":\n") }
 {
     text.push(b' ')?;
     write_number(text, dims.rows)?;

@@ -23,7 +23,8 @@ fn print(
     at: usize,
 ) -> Result<usize, OutOfMemory>
     requires { CanTell kinds.now (Act.Print name.now) (arrays_of delivered.now) at }
-    ensures { IfOk result (IsTold kinds.now (Act.Print name.now) (arrays_of delivered.now) at text.old.items text.new.items) }
+    ensures { IfOk result (IsTold kinds.now (Act.Print name.now) (arrays_of delivered.now) at
+        text.old.items text.new.items) }
 {
     let Some(kind) = kinds.get(name) else {
         return Ok(at);
@@ -43,7 +44,8 @@ fn tell(
     at: usize,
 ) -> Result<usize, OutOfMemory>
     requires { CanTell kinds.now act.now (arrays_of delivered.now) at }
-    ensures { IfOk result (IsTold kinds.now act.now (arrays_of delivered.now) at text.old.items text.new.items) }
+    ensures { IfOk result (IsTold kinds.now act.now (arrays_of delivered.now) at
+        text.old.items text.new.items) }
 {
     match act {
         Act::Print(name) => print(kinds, text, name, delivered, at),

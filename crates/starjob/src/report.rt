@@ -71,8 +71,10 @@ fn limit_word(reason: Reason) -> &'static [u8]
 
 /// Writes pieces one after another, until one fails.
 fn write_pieces<E: Sink>(err: &mut E, pieces: &[&[u8]]) -> Result<(), Failed>
-    ensures ok { OnOk result (Appends (E.taken err.old) (E.taken err.new) (flat_map (λ p. p.now) pieces.now)) }
-    ensures err { OnErr result (TakesPrefix (E.taken err.old) (E.taken err.new) (flat_map (λ p. p.now) pieces.now)) }
+    ensures ok { OnOk result (Appends (E.taken err.old) (E.taken err.new)
+        (flat_map (λ p. p.now) pieces.now)) }
+    ensures err { OnErr result (TakesPrefix (E.taken err.old) (E.taken err.new)
+        (flat_map (λ p. p.now) pieces.now)) }
     ensures counts { Counts (E.faults err.old) (E.faults err.new) (IsErr result) }
 {
     match pieces.split_first() {
@@ -85,19 +87,22 @@ fn write_pieces<E: Sink>(err: &mut E, pieces: &[&[u8]]) -> Result<(), Failed>
 }
 
 fn write_line<E: Sink>(err: &mut E, line: &[u8])
-    ensures { TakesLine (E.taken err.old) (E.taken err.new) (E.faults err.old) (E.faults err.new) line.now }
+    ensures { TakesLine (E.taken err.old) (E.taken err.new) (E.faults err.old) (E.faults err.new)
+        line.now }
 {
     let _ = write_text(err, line);
 }
 
 fn write_line_of<E: Sink>(err: &mut E, pieces: &[&[u8]])
-    ensures { TakesLine (E.taken err.old) (E.taken err.new) (E.faults err.old) (E.faults err.new) (flat_map (λ p. p.now) pieces.now) }
+    ensures { TakesLine (E.taken err.old) (E.taken err.new) (E.faults err.old) (E.faults err.new)
+        (flat_map (λ p. p.now) pieces.now) }
 {
     let _ = write_pieces(err, pieces);
 }
 
 fn report_refusal<E: Sink>(line: Line, reason: Reason, err: &mut E)
-    ensures { TakesLine (E.taken err.old) (E.taken err.new) (E.faults err.old) (E.faults err.new) (line_of (Status.Refused line reason)) }
+    ensures { TakesLine (E.taken err.old) (E.taken err.new) (E.faults err.old) (E.faults err.new)
+        (line_of (Status.Refused line reason)) }
 {
     let mut buffer = Buffer::new();
     let number = buffer.format(line.0).as_bytes();
@@ -116,7 +121,8 @@ fn report_refusal<E: Sink>(line: Line, reason: Reason, err: &mut E)
 
 /// Writes the line for a status, in pieces and without memory. A failing `err` is ignored.
 pub fn report<E: Sink>(status: Status, err: &mut E)
-    ensures { TakesLine (E.taken err.old) (E.taken err.new) (E.faults err.old) (E.faults err.new) (line_of status) }
+    ensures { TakesLine (E.taken err.old) (E.taken err.new) (E.faults err.old) (E.faults err.new)
+        (line_of status) }
 {
     match status {
         Status::Done => write_line(err, &[]),

@@ -64,9 +64,11 @@ fn take_piece<S: Source>(
 /// Reads a source to its end, or to one byte past the longest text. Linear in what is read.
 pub fn read_source<S: Source>(alloc: Global, source: &mut S) -> Result<Vec<u8>, Unread>
     ensures bound { IfOk result (λ text. length text.items ≤ TEXT + 1) }
-    ensures taken { IfOk result (λ text. Consumes (S.left source.old) (S.left source.new) text.items) }
+    ensures taken { IfOk result
+        (λ text. Consumes (S.left source.old) (S.left source.new) text.items) }
     ensures end { IfOk result (λ text. length text.items ≤ TEXT → IsAtEnd (S.left source.new)) }
-    ensures job { IfOk result (λ text. (has : Kernel → Bool) → IfSome (S.left source.old) (λ whole. job_of has whole ≡ job_of has text.items)) }
+    ensures job { IfOk result (λ text. (has : Kernel → Bool) →
+        IfSome (S.left source.old) (λ whole. job_of has whole ≡ job_of has text.items)) }
     ensures counts { Counts (S.faults source.old) (S.faults source.new) (result ≡ Err Fault) }
 {
     read_pieces(alloc, source)
@@ -75,7 +77,8 @@ pub fn read_source<S: Source>(alloc: Global, source: &mut S) -> Result<Vec<u8>, 
 /// The same, but for what the text says.
 fn read_pieces<S: Source>(alloc: Global, source: &mut S) -> Result<Vec<u8>, Unread>
     ensures bound { IfOk result (λ text. length text.items ≤ TEXT + 1) }
-    ensures taken { IfOk result (λ text. Consumes (S.left source.old) (S.left source.new) text.items) }
+    ensures taken { IfOk result
+        (λ text. Consumes (S.left source.old) (S.left source.new) text.items) }
     ensures end { IfOk result (λ text. length text.items ≤ TEXT → IsAtEnd (S.left source.new)) }
     ensures counts { Counts (S.faults source.old) (S.faults source.new) (result ≡ Err Fault) }
 {

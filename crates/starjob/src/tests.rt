@@ -463,7 +463,8 @@ fn bytes(alloc: Global, text: &str) -> Result<Vec<u8>, Fail> {
     Ok(Vec::from_slice(alloc, text.as_bytes())?)
 }
 
-const SUM: &str =
+/// One vector is added to another.
+pub const SUM: &str =
     "starjob 1\nvector x 3 values 1 2 3\nvector y 3 values 10 20 30\ntask add x:R y:RW\nprint y\n";
 
 fn calls(alloc: Global, numbers: &[u64]) -> Result<Vec<u64>, Fail> {
@@ -474,12 +475,8 @@ fn calls(alloc: Global, numbers: &[u64]) -> Result<Vec<u64>, Fail> {
 fn answer(rt: &HostRuntime, text: &'static str) -> Result<(u8, MemSink, MemSink), Fail> {
     let alloc = rt.alloc();
     let mut source = MemSource::new(bytes(alloc, text)?, Vec::new(alloc));
-    let mut out = MemSink::new(alloc, 1000, Vec::new(alloc))
-        .ok()
-        .ok_or("room")?;
-    let mut err = MemSink::new(alloc, 1000, Vec::new(alloc))
-        .ok()
-        .ok_or("room")?;
+    let mut out = MemSink::new(alloc, 1000, Vec::new(alloc))?;
+    let mut err = MemSink::new(alloc, 1000, Vec::new(alloc))?;
     let outcome = starjob(
         rt,
         alloc,
@@ -522,12 +519,8 @@ fn a_source_that_fails_gives_its_fault_and_nothing_is_written(rt: HostRuntime) -
     let alloc = rt.alloc();
     for call in 1..4u64 {
         let mut source = MemSource::new(bytes(alloc, SUM)?, calls(alloc, &[call])?);
-        let mut out = MemSink::new(alloc, 1000, Vec::new(alloc))
-            .ok()
-            .ok_or("room")?;
-        let mut err = MemSink::new(alloc, 1000, Vec::new(alloc))
-            .ok()
-            .ok_or("room")?;
+        let mut out = MemSink::new(alloc, 1000, Vec::new(alloc))?;
+        let mut err = MemSink::new(alloc, 1000, Vec::new(alloc))?;
         let outcome = starjob(
             &rt,
             alloc,
@@ -559,10 +552,8 @@ fn an_out_that_fails_gives_its_fault_and_a_failing_err_is_ignored(
 ) -> Result<(), Fail> {
     let alloc = rt.alloc();
     let mut source = SureSource::new(bytes(alloc, SUM)?);
-    let mut out = MemSink::new(alloc, 1000, calls(alloc, &[1])?)
-        .ok()
-        .ok_or("room")?;
-    let mut err = MemSink::new(alloc, 10, Vec::new(alloc)).ok().ok_or("room")?;
+    let mut out = MemSink::new(alloc, 1000, calls(alloc, &[1])?)?;
+    let mut err = MemSink::new(alloc, 10, Vec::new(alloc))?;
     let outcome = starjob(
         &rt,
         alloc,
@@ -583,20 +574,12 @@ fn an_out_that_fails_gives_its_fault_and_a_failing_err_is_ignored(
 fn words_are_not_accepted_and_disks_come_back_in_order(rt: HostRuntime) -> Result<(), Fail> {
     let alloc = rt.alloc();
     let mut disks: Vec<Box<dyn Disk + Send>> = Vec::new(alloc);
-    disks.push(Box::new(
-        alloc,
-        MemDisk::new(alloc, 64, Vec::new(alloc)).ok().ok_or("room")?,
-    )?)?;
-    disks.push(Box::new(
-        alloc,
-        MemDisk::new(alloc, 32, Vec::new(alloc)).ok().ok_or("room")?,
-    )?)?;
+    disks.push(Box::new(alloc, MemDisk::new(alloc, 64, Vec::new(alloc))?)?)?;
+    disks.push(Box::new(alloc, MemDisk::new(alloc, 32, Vec::new(alloc))?)?)?;
     let mut words = Vec::new(alloc);
     words.push(String::from_str(alloc, "--workers")?)?;
     let mut source = SureSource::new(bytes(alloc, SUM)?);
-    let mut out = MemSink::new(alloc, 1000, Vec::new(alloc))
-        .ok()
-        .ok_or("room")?;
+    let mut out = MemSink::new(alloc, 1000, Vec::new(alloc))?;
     let mut err = SureSink::new();
     let outcome = starjob(
         &rt,

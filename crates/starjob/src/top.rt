@@ -1,6 +1,6 @@
 //! The call that the program makes: words, source, sinks, disks and gate in, the outcome out.
 
-ghost use Rattle.std.specs.Prelude.{◌≡◌, ◌≢◌, ◌↔◌, List, [], Ok, IsOk, IfOk, IfErr, IfSome, IsSomeAnd};
+ghost use Rattle.std.specs.Prelude.{◌≡◌, ◌≢◌, ◌↔◌, List, [], Ok, IsOk, IfOk, IfErr, IfSome};
 ghost use Rattle.std.specs.Io.KnownBytes.{Keeps, IsAtEnd};
 ghost use Rattle.sj_edge.specs.Faults.{Counts, Rose};
 ghost use Rattle.sj_edge.specs.GivenBack.{AreUntouched};
@@ -11,7 +11,7 @@ ghost use Rattle.sj_job.specs.Well.{IsWell};
 ghost use Rattle.sj_minplus.specs.Has.{library_has};
 ghost use Rattle.starjob.specs.Report.{line_of, TakesLine};
 ghost use Rattle.starjob.specs.Traces.{Began, HasOwnCodelets, IsBeforeRunning, Ran, RanWhole, Traces, TracesRefusal};
-ghost use Rattle.starjob.specs.Top.{text_of, Answers, Gives, GivesText, IsBeforeWriting, IsDoneOrOutOfMemory};
+ghost use Rattle.starjob.specs.Top.{text_of, Answers, Gives, GivesText, IsBeforeWriting, IsDoneOrOutOfMemory, IsSoundJob, OfJob};
 
 use crate::report::report;
 use crate::running::{Run, run_job};
@@ -78,10 +78,12 @@ fn run_read<C: Codelets>(alloc: Global, job: &Job, codelets: &C) -> JobRun
 /// Runs a job text.
 fn run_text<C: Codelets>(alloc: Global, text: &[u8], codelets: &C) -> JobRun
     requires own { HasOwnCodelets C.has }
-    ensures ok { IfOk result.text (λ out. (ss : List Statement) × (job_of C.has text.now ≡ Ok ss) × (out.items ≡ text_of ss)) }
+    ensures ok { IfOk result.text (λ out. (ss : List Statement) × (job_of C.has text.now ≡ Ok ss)
+        × (out.items ≡ text_of ss)) }
     ensures err { IfErr result.text (λ e. IsRefusal e (job_of C.has text.now)) }
     ensures ran { IsOk result.text → Ran (job_of C.has text.now) result.trace.events }
-    ensures began { IfErr result.text (λ e. TracesRefusal (job_of C.has text.now) e result.trace.events) }
+    ensures began { IfErr result.text
+        (λ e. TracesRefusal (job_of C.has text.now) e result.trace.events) }
 {
     match read(alloc, text, codelets) {
         Ok(job) => run_read(alloc, &job, codelets),
@@ -112,10 +114,12 @@ fn answer_text<O: Sink, C: Codelets>(
 ) -> Answer
     requires own { HasOwnCodelets C.has }
     ensures answers { Answers (job_of C.has text.now) result.status }
-    ensures gives { Gives (job_of C.has text.now) result.status (O.taken out.old) (O.taken out.new) }
+    ensures gives { Gives (job_of C.has text.now) result.status
+        (O.taken out.old) (O.taken out.new) }
     ensures out_stays { IsBeforeWriting result.status → Keeps (O.taken out.old) (O.taken out.new) }
     ensures not_read { (result.status ≢ Status.Usage) × (result.status ≢ Status.SourceFault) }
-    ensures counts { Counts (O.faults out.old) (O.faults out.new) (result.status ≡ Status.SinkFault) }
+    ensures counts { Counts
+        (O.faults out.old) (O.faults out.new) (result.status ≡ Status.SinkFault) }
     ensures traces { Traces (job_of C.has text.now) result.status result.trace.events }
     ensures nothing_run { IsBeforeRunning result.status → result.trace.events ≡ [] }
 {
@@ -155,14 +159,19 @@ fn run_source<S: Source, O: Sink, C: Codelets>(
     codelets: &C,
 ) -> Answer
     requires own { HasOwnCodelets C.has }
-    ensures answers { IfSome (S.left source.old) (λ text. Answers (job_of C.has text) result.status) }
-    ensures gives { IfSome (S.left source.old) (λ text. Gives (job_of C.has text) result.status (O.taken out.old) (O.taken out.new)) }
+    ensures answers { IfSome (S.left source.old)
+        (λ text. Answers (job_of C.has text) result.status) }
+    ensures gives { IfSome (S.left source.old) (λ text.
+        Gives (job_of C.has text) result.status (O.taken out.old) (O.taken out.new)) }
     ensures out_stays { IsBeforeWriting result.status → Keeps (O.taken out.old) (O.taken out.new) }
     ensures not_usage { result.status ≢ Status.Usage }
     ensures at_end { result.status ≡ Status.Done → IsAtEnd (S.left source.new) }
-    ensures source_counts { Counts (S.faults source.old) (S.faults source.new) (result.status ≡ Status.SourceFault) }
-    ensures sink_counts { Counts (O.faults out.old) (O.faults out.new) (result.status ≡ Status.SinkFault) }
-    ensures traces { IfSome (S.left source.old) (λ text. Traces (job_of C.has text) result.status result.trace.events) }
+    ensures source_counts { Counts
+        (S.faults source.old) (S.faults source.new) (result.status ≡ Status.SourceFault) }
+    ensures sink_counts { Counts
+        (O.faults out.old) (O.faults out.new) (result.status ≡ Status.SinkFault) }
+    ensures traces { IfSome (S.left source.old)
+        (λ text. Traces (job_of C.has text) result.status result.trace.events) }
     ensures nothing_run { IsBeforeRunning result.status → result.trace.events ≡ [] }
 {
     match read_source(alloc, source) {
@@ -182,15 +191,17 @@ fn run_words<S: Source, O: Sink, C: Codelets>(
 ) -> Answer
     requires own { HasOwnCodelets C.has }
     ensures usage { (result.status ≡ Status.Usage) ↔ (words.now ≢ []) }
-    ensures answers { words.now ≡ [] → IfSome (S.left source.old) (λ text. Answers (job_of C.has text) result.status) }
-    ensures gives { words.now ≡ [] → IfSome (S.left source.old) (λ text.
-        Gives (job_of C.has text) result.status (O.taken out.old) (O.taken out.new)) }
+    ensures answers { OfJob C.has words.now (S.left source.old) (λ job. Answers job result.status) }
+    ensures gives { OfJob C.has words.now (S.left source.old)
+        (λ job. Gives job result.status (O.taken out.old) (O.taken out.new)) }
     ensures out_stays { IsBeforeWriting result.status → Keeps (O.taken out.old) (O.taken out.new) }
     ensures at_end { result.status ≡ Status.Done → IsAtEnd (S.left source.new) }
-    ensures source_counts { Counts (S.faults source.old) (S.faults source.new) (result.status ≡ Status.SourceFault) }
-    ensures sink_counts { Counts (O.faults out.old) (O.faults out.new) (result.status ≡ Status.SinkFault) }
-    ensures traces { words.now ≡ [] → IfSome (S.left source.old) (λ text.
-        Traces (job_of C.has text) result.status result.trace.events) }
+    ensures source_counts { Counts
+        (S.faults source.old) (S.faults source.new) (result.status ≡ Status.SourceFault) }
+    ensures sink_counts { Counts
+        (O.faults out.old) (O.faults out.new) (result.status ≡ Status.SinkFault) }
+    ensures traces { OfJob C.has words.now (S.left source.old)
+        (λ job. Traces job result.status result.trace.events) }
     ensures nothing_run { IsBeforeRunning result.status → result.trace.events ≡ [] }
 {
     if words.is_empty() {
@@ -220,11 +231,12 @@ pub fn starjob<R: Runtime, S: Source, O: Sink, E: Sink, G: Gate>(
 
     // Done means that the job was read, and that its printed arrays were written: those of its statements run one
     // after another on plain arrays. Refused names the first bad line and its first reason.
-    ensures status_answers_the_job { words.now ≡ [] → IfSome (S.left source.old) (λ text.
-        Answers (job_of library_has text) result.status) }
-    ensures out_takes_the_text { words.now ≡ [] → IfSome (S.left source.old) (λ text.
-        Gives (job_of library_has text) result.status (O.taken out.old) (O.taken out.new)) }
-    ensures out_stays_before_writing { IsBeforeWriting result.status → Keeps (O.taken out.old) (O.taken out.new) }
+    ensures status_answers_the_job { OfJob library_has words.now (S.left source.old)
+        (λ job. Answers job result.status) }
+    ensures out_takes_the_text { OfJob library_has words.now (S.left source.old)
+        (λ job. Gives job result.status (O.taken out.old) (O.taken out.new)) }
+    ensures out_stays_before_writing { IsBeforeWriting result.status →
+        Keeps (O.taken out.old) (O.taken out.new) }
     ensures done_reads_to_the_end { result.status ≡ Status.Done → IsAtEnd (S.left source.new) }
 
     // A fault comes only where the device's count of faults rose in this call.
@@ -234,19 +246,21 @@ pub fn starjob<R: Runtime, S: Source, O: Sink, E: Sink, G: Gate>(
         (O.faults out.old) (O.faults out.new) (result.status ≡ Status.SinkFault) }
 
     // A job that isn't refused, with devices that don't fail, is done, unless memory runs out.
-    ensures complete { words.now ≡ [] → IsSomeAnd (S.left source.old) (λ text. IsOk (job_of library_has text)) →
-        ¬ (Rose (S.faults source.old) (S.faults source.new)) → ¬ (Rose (O.faults out.old) (O.faults out.new)) →
+    ensures complete { IsSoundJob library_has words.now (S.left source.old) →
+        ¬ (Rose (S.faults source.old) (S.faults source.new)) →
+        ¬ (Rose (O.faults out.old) (O.faults out.new)) →
         IsDoneOrOutOfMemory result.status }
 
     // One line goes to `err`, or none.
-    ensures err_takes_the_line { TakesLine (E.taken err.old) (E.taken err.new) (E.faults err.old) (E.faults err.new)
-        (line_of result.status) }
+    ensures err_takes_the_line { TakesLine (E.taken err.old) (E.taken err.new)
+        (E.faults err.old) (E.faults err.new) (line_of result.status) }
 
     // The trace of a job that is done, or whose text the sink doesn't take, is a legal run of its program to the end, in which
     // each task ran once. Where memory runs out it is the beginning of a legal run, and else it is empty.
-    ensures trace_answers_the_job { words.now ≡ [] → IfSome (S.left source.old) (λ text.
-        Traces (job_of library_has text) result.status result.trace.events) }
-    ensures trace_is_empty_before_the_run { IsBeforeRunning result.status → result.trace.events ≡ [] }
+    ensures trace_answers_the_job { OfJob library_has words.now (S.left source.old)
+        (λ job. Traces job result.status result.trace.events) }
+    ensures trace_is_empty_before_the_run { IsBeforeRunning result.status →
+        result.trace.events ≡ [] }
 
     // Nothing is run on disks.
     ensures disks_come_back { AreUntouched ⟦<Box<dyn Disk + Send> as Disk>⟧.size

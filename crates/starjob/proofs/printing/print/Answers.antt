@@ -1,4 +1,4 @@
-use Rattle.std.proofs.Common.{◌≡◌, ◌∙◌, sym, List, ℕ}
+use Rattle.std.proofs.Common.{◌∙◌, sym}
 use Rattle.sj_base.specs.declared.ids.Task.{Task}
 use Rattle.sj_base.specs.Array.{Array}
 use Rattle.starjob.specs.Printing.{arrays_of}

@@ -1,4 +1,4 @@
-use Rattle.std.proofs.Common.{◌≡◌, ap, ◌∙◌, map, refl, subst, sym, IsOk, Ok}
+use Rattle.std.proofs.Common.{ap, ◌∙◌, map, refl, subst, sym, IsOk}
 use Rattle.sj_base.specs.declared.ids.Task.{Task}
 use Rattle.sj_base.specs.declared.program.Program.{Program}
 use Rattle.sj_base.specs.Array.{Array}

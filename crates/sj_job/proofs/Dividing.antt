@@ -1,0 +1,169 @@
+-- A line is divided into its words one after another, and has as its bytes those of its words and blanks.
+use Rattle.std.proofs.Common.{◌≡◌, ℕ, suc, ◌+◌, ◌<◌, ◌≤◌, ◌&&◌, ◌||◌, not, Bool, true, false, List, [], ◌∷◌, length, take, drop, filter, refl, ap, ◌∙◌, sym, cond, arith, nat_lt, length-take, length-drop, Some, None, unwrap_or, position, ◌-◌, subst}
+use Rattle.std.specs.List.{slice_split, onto_first, list_all, position_or_len}
+use Rattle.std.proofs.lemmas.Bool.Decides.{nat_tests}
+use Rattle.std.proofs.lemmas.List.Sums.{prefix_len-le-length}
+use Rattle.std.proofs.lemmas.List.{take_all, drop_all}
+use Rattle.std.proofs.lemmas.List.Splits.{slice_split-cons_yes, slice_split-cons_no}
+use Rattle.sj_job.specs.Word.{words, is_blank, is_empty, is_allowed, CutsOff}
+
+-- the parts that have bytes
+abbrev full : List (List ℕ) → List (List ℕ)
+full parts = filter (λ w. not (is_empty w)) parts
+
+abbrev parts_of : List ℕ → List (List ℕ)
+parts_of line = slice_split is_blank line
+
+-- how many bytes stand before the first blank, and how many blanks in front
+abbrev word_len : List ℕ → ℕ
+word_len line = position_or_len is_blank line
+
+abbrev blanks : List ℕ → ℕ
+blanks line = position_or_len (λ b. not (is_blank b)) line
+
+drop-more : (b : ℕ) (bs : List ℕ) (m : ℕ) → drop (1 + m) (b ∷ bs) ≡ drop m bs
+drop-more b bs m =
+    let e : 1 + m ≡ suc m = omega arith in
+    ap (λ n. drop n (b ∷ bs)) e
+
+take-more : (b : ℕ) (bs : List ℕ) (m : ℕ) → take (1 + m) (b ∷ bs) ≡ b ∷ take m bs
+take-more b bs m =
+    let e : 1 + m ≡ suc m = omega arith in
+    ap (λ n. take n (b ∷ bs)) e
+
+-- ---- blanks in front
+
+pub words-blank : (b : ℕ) (bs : List ℕ) → is_blank b ≡ true → words (b ∷ bs) ≡ words bs
+words-blank b bs e = ap full (slice_split-cons_yes is_blank b bs e)
+
+blank-more : (b : ℕ) (bs : List ℕ) (m : ℕ) (t : Bool) → is_blank b ≡ t → words bs ≡ words (drop m bs) → words (b ∷ bs) ≡ words (drop (cond (not (not t)) (1 + m) 0) (b ∷ bs))
+blank-more b bs m true e h = words-blank b bs e ∙ h ∙ ap words (sym (drop-more b bs m))
+blank-more b bs m false e h = refl
+
+-- blanks in front don't matter
+pub words-behind_blanks : (line : List ℕ) → words line ≡ words (drop (blanks line) line)
+words-behind_blanks [] = refl
+words-behind_blanks (b ∷ bs) = blank-more b bs (blanks bs) (is_blank b) refl (words-behind_blanks bs)
+
+begins : (b : ℕ) (bs : List ℕ) (m : ℕ) (t : Bool) → is_blank b ≡ t → (0 < length (drop m bs) → 0 < word_len (drop m bs)) → 0 < length (drop (cond (not (not t)) (1 + m) 0) (b ∷ bs)) → 0 < word_len (drop (cond (not (not t)) (1 + m) 0) (b ∷ bs))
+begins b bs m true e h some = rw (drop-more b bs m) (h (rw (sym (drop-more b bs m)) some))
+begins b bs m false e h some = rw e (omega arith)
+
+-- behind the blanks in front begins a word
+pub word_len-behind_blanks : (line : List ℕ) → 0 < length (drop (blanks line) line) → 0 < word_len (drop (blanks line) line)
+word_len-behind_blanks [] some = absurd (omega arith)
+word_len-behind_blanks (b ∷ bs) some = begins b bs (blanks bs) (is_blank b) refl (word_len-behind_blanks bs) some
+
+-- ---- the first word
+
+-- the parts of a line are what stands before the first blank, and then parts that have the words behind it
+record FirstWord (line : List ℕ) : Type 0 where
+  behind : List (List ℕ)
+  parts : parts_of line ≡ take (word_len line) line ∷ behind
+  words_behind : words (drop (word_len line) line) ≡ full behind
+
+cut-more : (b : ℕ) (bs : List ℕ) (t : Bool) → is_blank b ≡ t → FirstWord bs → FirstWord (b ∷ bs)
+cut-more b bs true e cut =
+    let none : word_len (b ∷ bs) ≡ 0 = rw e refl in
+    record {
+      behind = parts_of bs;
+      parts = slice_split-cons_yes is_blank b bs e ∙ ap (λ n. take n (b ∷ bs) ∷ parts_of bs) (sym none);
+      words_behind = ap (λ n. words (drop n (b ∷ bs))) none ∙ words-blank b bs e;
+    }
+cut-more b bs false e cut =
+    let more : word_len (b ∷ bs) ≡ 1 + word_len bs = rw e refl in
+    record {
+      behind = cut.behind;
+      parts = slice_split-cons_no is_blank b bs e ∙ ap (onto_first b) cut.parts
+          ∙ ap (λ w. w ∷ cut.behind) (sym (take-more b bs (word_len bs)) ∙ ap (λ n. take n (b ∷ bs)) (sym more));
+      words_behind = ap (λ n. words (drop n (b ∷ bs))) more ∙ ap words (drop-more b bs (word_len bs)) ∙ cut.words_behind;
+    }
+
+cut_of : (line : List ℕ) → FirstWord line
+cut_of [] = record { behind = []; parts = refl; words_behind = refl }
+cut_of (b ∷ bs) = cut-more b bs (is_blank b) refl (cut_of bs)
+
+nonempty : (b : ℕ) (w : List ℕ) → is_empty (b ∷ w) ≡ false
+nonempty b w = grind (arith, nat_tests)
+
+full-cons : (w : List ℕ) (parts : List (List ℕ)) → 0 < length w → full (w ∷ parts) ≡ w ∷ full parts
+full-cons [] parts some = absurd (omega arith)
+full-cons (b ∷ w) parts some = ap (λ t. cond (not t) ((b ∷ w) ∷ full parts) (full parts)) (nonempty b w)
+
+-- a line that begins with a word is that word, and the words behind it
+pub words-cut : (line : List ℕ) → 0 < word_len line → words line ≡ take (word_len line) line ∷ words (drop (word_len line) line)
+words-cut line some =
+    let cut = cut_of line in
+    let within : word_len line ≤ length line = prefix_len-le-length (λ b. not (is_blank b)) line in
+    let has_bytes : 0 < length (take (word_len line) line) = omega (arith, length-take (word_len line) line) in
+    ap full cut.parts ∙ full-cons (take (word_len line) line) cut.behind has_bytes ∙ ap (λ ws. take (word_len line) line ∷ ws) (sym cut.words_behind)
+
+-- ---- a word as a slice of the line
+
+is-first : (n len k : ℕ) (t : Bool) → nat_lt n len ≡ t → Some k ≡ cond t (Some n) None → (k ≡ n) × (n < len)
+is-first n len k true e h = (ap (λ o. unwrap_or o k) h, grind (arith, nat_tests))
+is-first n len k false e h = absurd (cc)
+
+is-none : (n len : ℕ) (t : Bool) → nat_lt n len ≡ t → None ≡ cond t (Some n) None → len ≤ n
+is-none n len true e h = absurd (cc)
+is-none n len false e h = grind (arith, nat_tests)
+
+or-len : (n len : ℕ) (t : Bool) → n ≤ len → nat_lt n len ≡ t → unwrap_or (cond t (Some n) None) len ≡ n
+or-len n len true le h = refl
+or-len n len false le h = grind (arith, nat_tests)
+
+-- a line of blanks has no word
+pub words-none : (line : List ℕ) → None ≡ position (λ b. not (is_blank b)) line → words line ≡ []
+words-none line h = words-behind_blanks line ∙ ap words (drop_all (blanks line) line (is-none _ _ _ refl h))
+
+-- what stands behind a place, as a slice
+behind : (line : List ℕ) (k : ℕ) → take (length line - k) (drop k line) ≡ drop k line
+behind line k =
+    let within : length (drop k line) ≤ length line - k = omega (arith, length-drop k line) in
+    take_all (length line - k) (drop k line) within
+
+cut-rest : (line rest : List ℕ) (end : ℕ) → rest ≡ drop (blanks line) line → 0 < length rest → end ≡ word_len rest → CutsOff words line (take end rest) (take (length rest - end) (drop end rest))
+cut-rest line rest end e some at =
+    let begun : 0 < word_len rest = subst (λ l. 0 < word_len l) (sym e) (word_len-behind_blanks line (subst (λ l. 0 < length l) e some)) in
+    let fewer : length rest ≤ length line = subst (λ l. length l ≤ length line) (sym e) (omega (arith, length-drop (blanks line) line)) in
+    let tail : take (length rest - end) (drop end rest) ≡ drop end rest = behind rest end in (
+      words-behind_blanks line ∙ ap words (sym e) ∙ words-cut rest begun
+          ∙ ap (λ n. take n rest ∷ words (drop n rest)) (sym at) ∙ ap (λ l. take end rest ∷ words l) (sym tail),
+      subst (λ l. length l < length line) (sym tail) (omega (arith, length-drop end rest)),
+    )
+
+-- a line whose first word begins at a place, and ends where the first blank behind it stands or the line ends
+pub next-word : (line : List ℕ) (start end : ℕ) → Some start ≡ position (λ b. not (is_blank b)) line →
+    let rest = take (length line - start) (drop start line) in
+    end ≡ unwrap_or (position is_blank rest) (length rest) → CutsOff words line (take end rest) (take (length rest - end) (drop end rest))
+next-word line start end h at =
+    let rest = take (length line - start) (drop start line) in
+    let first = is-first (blanks line) (length line) start _ refl h in
+    let from_first : rest ≡ drop (blanks line) line = behind line start ∙ ap (λ k. drop k line) first.0 in
+    let some : 0 < length rest = subst (λ l. 0 < length l) (sym from_first) (omega (arith, length-drop (blanks line) line, first.1)) in
+    cut-rest line rest end from_first some (at ∙ or-len _ _ _ (prefix_len-le-length (λ b. not (is_blank b)) rest) refl)
+
+-- ---- the bytes of the words
+
+both-both : (s t u : Bool) → ((s && t) && u) ≡ (s && (t && u))
+both-both true t u = refl
+both-both false t u = refl
+
+allowed-part : (b : ℕ) (t : Bool) (parts : List (List ℕ)) → is_blank b ≡ t → list_all (list_all is_allowed) (cond t ([] ∷ parts) (onto_first b parts)) ≡ (is_allowed b && list_all (list_all is_allowed) parts)
+allowed-part b true parts e = ap (λ t. (t || (nat_lt 32 b && nat_lt b 127)) && list_all (list_all is_allowed) parts) (sym e)
+allowed-part b false [] e = both-both (is_allowed b) true true
+allowed-part b false (w ∷ parts) e = both-both (is_allowed b) (list_all is_allowed w) (list_all (list_all is_allowed) parts)
+
+allowed-parts : (line : List ℕ) → list_all (list_all is_allowed) (parts_of line) ≡ list_all is_allowed line
+allowed-parts [] = refl
+allowed-parts (b ∷ bs) = allowed-part b (is_blank b) (parts_of bs) refl ∙ ap (λ t. is_allowed b && t) (allowed-parts bs)
+
+allowed-full : (parts : List (List ℕ)) → list_all (list_all is_allowed) (full parts) ≡ list_all (list_all is_allowed) parts
+allowed-full [] = refl
+allowed-full ([] ∷ parts) = allowed-full parts
+allowed-full ((b ∷ w) ∷ parts) =
+    ap (list_all (list_all is_allowed)) (full-cons (b ∷ w) parts (omega arith)) ∙ ap (λ t. list_all is_allowed (b ∷ w) && t) (allowed-full parts)
+
+-- a line's bytes are allowed where those of its words are, since blanks are
+pub allowed-words : (line : List ℕ) → list_all (list_all is_allowed) (words line) ≡ list_all is_allowed line
+allowed-words line = allowed-full (parts_of line) ∙ allowed-parts line
