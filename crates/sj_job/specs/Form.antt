@@ -37,7 +37,9 @@ keyword_word keyword.Invalidate = codes "invalidate"
 keyword_word keyword.Unregister = codes "unregister"
 
 abbrev pub keywords : List Keyword
-keywords = keyword.Workers ∷ keyword.Node ∷ keyword.Policy ∷ keyword.Vector ∷ keyword.Matrix ∷ keyword.Plan ∷ keyword.Redux ∷ keyword.Task ∷ keyword.Print ∷ keyword.Invalidate ∷ keyword.Unregister ∷ []
+keywords =
+    keyword.Workers ∷ keyword.Node ∷ keyword.Policy ∷ keyword.Vector ∷ keyword.Matrix ∷ keyword.Plan
+    ∷ keyword.Redux ∷ keyword.Task ∷ keyword.Print ∷ keyword.Invalidate ∷ keyword.Unregister ∷ []
 
 abbrev pub policy_word : Policy → List ℕ
 policy_word Eager = codes "eager"

@@ -30,7 +30,8 @@ use Rattle.sj_job.specs.State.{Root, State, root_of, is_valued}
 abbrev pub known_of : Root → Known
 known_of r = record { dims = r.dims; valued = is_valued r }
 
--- how many statements stand before a line, how many names were registered, whether a name was ended, what is known of the others
+-- how many statements stand before a line, how many names were registered, whether a name was ended,
+-- what is known of the others
 pub record Scope : Type 0 where
   pub statements : ℕ
   pub registered : ℕ
@@ -39,7 +40,12 @@ pub record Scope : Type 0 where
 
 -- what a state shows the reasons, after so many statements
 abbrev pub scope_of : ℕ → State → Scope
-scope_of n S = record { statements = n; registered = S.registered; ended = λ name. list_any (bytes_eq name) S.ended; known = λ name. option_map known_of (root_of S name) }
+scope_of n S = record {
+  statements = n;
+  registered = S.registered;
+  ended = λ name. list_any (bytes_eq name) S.ended;
+  known = λ name. option_map known_of (root_of S name);
+}
 
 -- a statement stands before the line
 abbrev pub is_begun : Scope → Bool
@@ -80,8 +86,13 @@ is_miscounted Nothing rows cols = false
 
 abbrev pub register_reasons : Scope → Registration → List (Bool × Reason)
 register_reasons s r =
-    (is_full s, Limit Statements) ∷ (has_names s, Limit Names) ∷ (is_outside r.rows r.cols, Limit Elements) ∷ (is_ended s r.name, EndedName) ∷ (is_taken s r.name, TakenName)
-    ∷ (is_miscounted r.init r.rows r.cols, Shape) ∷ []
+    (is_full s, Limit Statements)
+    ∷ (has_names s, Limit Names)
+    ∷ (is_outside r.rows r.cols, Limit Elements)
+    ∷ (is_ended s r.name, EndedName)
+    ∷ (is_taken s r.name, TakenName)
+    ∷ (is_miscounted r.init r.rows r.cols, Shape)
+    ∷ []
 
 abbrev pub kernel_in : Option Codelet → Option Kernel
 kernel_in None = None
@@ -140,11 +151,17 @@ is_lacking s o = needs_value o.mode && lacks_value s o.name
 -- the operands' own conditions, for a codelet of the table
 abbrev pub operand_reasons : Scope → Kernel → Call → List (Bool × Reason)
 operand_reasons s k t =
-    (not (is_counted k t), OperandCount) ∷ (not (is_shaped s k t), Shape) ∷ (is_aliased t.operands, Aliased)
-    ∷ (list_any (is_lacking s) t.operands, NoValue) ∷ []
+    (not (is_counted k t), OperandCount)
+    ∷ (not (is_shaped s k t), Shape)
+    ∷ (is_aliased t.operands, Aliased)
+    ∷ (list_any (is_lacking s) t.operands, NoValue)
+    ∷ []
 
 abbrev pub codelet_reasons : Scope → Call → List (Bool × Reason)
-codelet_reasons s t = elim (kernel_in t.codelet) [ None ↦ (true, UnknownCodelet) ∷ [] | Some k ↦ operand_reasons s k t ]
+codelet_reasons s t = elim (kernel_in t.codelet) [
+  | None ↦ (true, UnknownCodelet) ∷ []
+  | Some k ↦ operand_reasons s k t
+]
 
 -- a priority from -1000 to 1000
 abbrev pub is_priority : ℤ → Bool
@@ -152,16 +169,27 @@ is_priority p = int_le (negsuc 999) p && int_le p (pos 1000)
 
 abbrev pub task_reasons : Scope → Call → List (Bool × Reason)
 task_reasons s t =
-    (is_full s, Limit Statements) ∷ (not (is_priority t.priority), Limit Priority) ∷ (list_any (λ o. is_unknown s o.name) t.operands, UnknownName)
-    ∷ (list_any (λ o. is_ended s o.name) t.operands, EndedName) ∷ codelet_reasons s t
+    (is_full s, Limit Statements)
+    ∷ (not (is_priority t.priority), Limit Priority)
+    ∷ (list_any (λ o. is_unknown s o.name) t.operands, UnknownName)
+    ∷ (list_any (λ o. is_ended s o.name) t.operands, EndedName)
+    ∷ codelet_reasons s t
 
 abbrev pub print_reasons : Scope → List ℕ → List (Bool × Reason)
 print_reasons s name =
-    (is_full s, Limit Statements) ∷ (is_unknown s name, UnknownName) ∷ (is_ended s name, EndedName) ∷ (lacks_value s name, NoValue) ∷ []
+    (is_full s, Limit Statements)
+    ∷ (is_unknown s name, UnknownName)
+    ∷ (is_ended s name, EndedName)
+    ∷ (lacks_value s name, NoValue)
+    ∷ []
 
 -- a statement that needs no more than a name
 abbrev pub name_reasons : Scope → List ℕ → List (Bool × Reason)
-name_reasons s name = (is_full s, Limit Statements) ∷ (is_unknown s name, UnknownName) ∷ (is_ended s name, EndedName) ∷ []
+name_reasons s name =
+    (is_full s, Limit Statements)
+    ∷ (is_unknown s name, UnknownName)
+    ∷ (is_ended s name, EndedName)
+    ∷ []
 
 abbrev pub reasons : Scope → Sentence → List (Bool × Reason)
 reasons s (Register r) = register_reasons s r
@@ -176,8 +204,18 @@ complaint s sentence = first_of (reasons s sentence)
 
 -- what a sentence does where there is no reason against it
 abbrev pub act_of : Sentence → Act
-act_of (Register r) = Registers (record { name = r.name; kind = r.kind; dims = record { rows = r.rows; cols = r.cols }; init = r.init })
-act_of (Task t) = Tasks (record { codelet = unwrap_or t.codelet (record { 0 = 0 }); args = t.args; operands = t.operands; priority = t.priority })
+act_of (Register r) = Registers (record {
+  name = r.name;
+  kind = r.kind;
+  dims = record { rows = r.rows; cols = r.cols };
+  init = r.init;
+})
+act_of (Task t) = Tasks (record {
+  codelet = unwrap_or t.codelet (record { 0 = 0 });
+  args = t.args;
+  operands = t.operands;
+  priority = t.priority;
+})
 act_of (Print name) = Prints name
 act_of (Invalidate name) = Invalidates name
 act_of (Unregister name) = Unregisters name

@@ -33,7 +33,10 @@ abbrev pub registered_root : Register → Root
 registered_root r = record { kind = r.kind; dims = r.dims; elements = first_elements r.init r.dims }
 
 abbrev pub register : Register → State → State
-register r S = record { registered = S.registered + 1; ended = S.ended; roots = map.insert S.roots r.name (registered_root r) }
+register r S = record S {
+  registered = S.registered + 1;
+  roots = map.insert S.roots r.name (registered_root r);
+}
 
 -- a root's array; an element without value doesn't matter, since it isn't read
 abbrev pub array_of : Root → Array
@@ -50,7 +53,10 @@ seen_by Commute r = array_of r
 
 -- the array that a task sees of an operand
 abbrev pub operand_array : State → Operand → Array
-operand_array S o = elim (root_of S o.name) [ None ↦ array (record { rows = 0; cols = 0 }) [] | Some r ↦ seen_by o.mode r ]
+operand_array S o = elim (root_of S o.name) [
+  | None ↦ array (record { rows = 0; cols = 0 }) []
+  | Some r ↦ seen_by o.mode r
+]
 
 abbrev pub is_written : Mode → Bool
 is_written R = false
@@ -68,7 +74,7 @@ written_names os = each_of (λ o. o.name) (filter (λ o. is_written o.mode) os)
 abbrev pub put : List ℕ → Array → State → State
 put name a S = elim (root_of S name) [
   | None ↦ S
-  | Some r ↦ record { registered = S.registered; ended = S.ended; roots = map.insert S.roots name (record { kind = r.kind; dims = r.dims; elements = each_of Some a.elements }) }
+  | Some r ↦ record S { roots = map.insert S.roots name (record r { elements = each_of Some a.elements }) }
 ]
 
 -- each of these names gets its array, and no other changes
@@ -79,18 +85,20 @@ put_all (n ∷ ns) (a ∷ arrays) S = put_all ns arrays (put n a S)
 
 -- a task: the written operands get the codelet's new arrays
 abbrev pub run_task : TaskLine → State → State
-run_task t S = put_all (written_names t.operands) (out t.codelet t.args (each_of (operand_array S) t.operands)) S
+run_task t S =
+    let news = out t.codelet t.args (each_of (operand_array S) t.operands) in
+    put_all (written_names t.operands) news S
 
 -- every element of a name becomes no value
 abbrev pub invalidate : List ℕ → State → State
 invalidate name S = elim (root_of S name) [
   | None ↦ S
-  | Some r ↦ record { registered = S.registered; ended = S.ended; roots = map.insert S.roots name (record { kind = r.kind; dims = r.dims; elements = no_values r.dims }) }
+  | Some r ↦ record S { roots = map.insert S.roots name (record r { elements = no_values r.dims }) }
 ]
 
 -- a name is taken away for good
 abbrev pub unregister : List ℕ → State → State
-unregister name S = record { registered = S.registered; ended = name ∷ S.ended; roots = map.remove S.roots name }
+unregister name S = record S { ended = name ∷ S.ended; roots = map.remove S.roots name }
 
 -- what one statement does
 abbrev pub apply : Act → State → State
@@ -116,7 +124,10 @@ pub record Printed : Type 0 where
   pub array : Array
 
 abbrev pub found_by : State → List ℕ → List Printed
-found_by S name = elim (root_of S name) [ None ↦ [] | Some r ↦ record { name = name; kind = r.kind; array = array_of r } ∷ [] ]
+found_by S name = elim (root_of S name) [
+  | None ↦ []
+  | Some r ↦ record { name = name; kind = r.kind; array = array_of r } ∷ []
+]
 
 -- what a statement prints
 abbrev pub prints : Act → State → List Printed

@@ -20,7 +20,12 @@ abbrev pub ended_in : Names → List ℕ → Bool
 ended_in names name = contains (slice_cmp nat_cmp) names.ended name
 
 abbrev pub scope_in : Names → Scope
-scope_in names = record { statements = names.statements; registered = names.registered; ended = ended_in names; known = known_in names }
+scope_in names = record {
+  statements = names.statements;
+  registered = names.registered;
+  ended = ended_in names;
+  known = known_in names;
+}
 
 -- each element has a value from the registration on
 abbrev pub gives_values : Init → Bool
@@ -30,7 +35,9 @@ gives_values Nothing = false
 
 -- the name's root, if it has one, is valued or not
 abbrev pub revalued : Bool → List ℕ → (List ℕ → Option Known) → List ℕ → Option Known
-revalued valued name known q = if bytes_eq q name then option_map (λ k. record { dims = k.dims; valued = valued }) (known q) else known q
+revalued valued name known q =
+    if bytes_eq q name then option_map (λ k. record { dims = k.dims; valued = valued }) (known q)
+    else known q
 
 -- an operand's root is valued, if the task writes it
 abbrev pub after_write : Operand → (List ℕ → Option Known) → List ℕ → Option Known

@@ -28,11 +28,15 @@ refusal n why = record { line = record { 0 = n }; reason = why }
 
 -- what words do: what they say, where no reason stands against it
 abbrev pub act_in : (Kernel → Bool) → Scope → List (List ℕ) → Result Act Reason
-act_in set scope words = elim (said set (is_begun scope) words) [ Err why ↦ Err why | Ok sentence ↦ judged scope sentence ]
+act_in set scope words = elim (said set (is_begun scope) words) [
+  | Err why ↦ Err why
+  | Ok sentence ↦ judged scope sentence
+]
 
 -- what a line does where the reasons see this scope
 abbrev pub statement_in : (Kernel → Bool) → Scope → List ℕ → Result Act Reason
-statement_in set scope line = if not (list_all is_allowed line) then Err Word else act_in set scope (words line)
+statement_in set scope line =
+    if not (list_all is_allowed line) then Err Word else act_in set scope (words line)
 
 abbrev pub statement : ℕ → Act → Statement
 statement n act = record { line = record { 0 = n }; act = act }
@@ -45,7 +49,8 @@ before s (Err e) = Err e
 -- a line says nothing, or does something, or is bad
 abbrev pub verdict_of : (Kernel → Bool) → Scope → List ℕ → Verdict
 verdict_of set scope line =
-    if is_skipped (words line) then Skipped else (elim (statement_in set scope line) [ Err why ↦ Bad why | Ok act ↦ Does act ])
+    if is_skipped (words line) then Skipped
+    else (elim (statement_in set scope line) [ Err why ↦ Bad why | Ok act ↦ Does act ])
 
 -- what the lines from line n on say, after so many statements, which leave the state S
 abbrev pub reading : (Kernel → Bool) → ℕ → State → ℕ → List (List ℕ) → Result (List Statement) Refusal
@@ -70,7 +75,9 @@ text_limit = 67108864
 
 -- what a text says, with the codelets of a set
 abbrev pub job_of : (Kernel → Bool) → List ℕ → Result (List Statement) Refusal
-job_of set text = if nat_lt text_limit (length text) then Err (refusal 0 (Limit Text)) else reading_header set 1 (lines text)
+job_of set text =
+    if nat_lt text_limit (length text) then Err (refusal 0 (Limit Text))
+    else reading_header set 1 (lines text)
 
 -- a text is refused at its first bad line for its first reason, or memory ran out
 abbrev pub IsRefusal : ReadRefusal → Result (List Statement) Refusal → Type 0

@@ -53,7 +53,9 @@ is_numbered_array a = is_numbered_size a.size && are_counts a.parts && is_number
 
 abbrev pub is_numbered_task : TaskForm → Bool
 is_numbered_task t =
-    list_all is_integer t.args && list_all (λ o. are_counts o.child) t.operands && is_numbered_priority t.priority
+    list_all is_integer t.args
+    && list_all (λ o. are_counts o.child) t.operands
+    && is_numbered_priority t.priority
 
 abbrev pub is_numbered : Form → Bool
 is_numbered (form.Workers n) = is_count n
@@ -110,7 +112,13 @@ init_said (init.Fill a b) = Fill (integer a) (integer b)
 init_said init.Nothing = Nothing
 
 abbrev pub registration_of : ArrayForm → Registration
-registration_of a = record { name = a.name; kind = kind_of a.size; rows = rows_of a.size; cols = cols_of a.size; init = init_said a.init }
+registration_of a = record {
+  name = a.name;
+  kind = kind_of a.size;
+  rows = rows_of a.size;
+  cols = cols_of a.size;
+  init = init_said a.init;
+}
 
 abbrev pub operand_said : OperandForm → Operand
 operand_said o = record { name = o.name; mode = o.mode }
@@ -121,7 +129,12 @@ priority_said None = pos 0
 priority_said (Some p) = integer p
 
 abbrev pub call_of : (Kernel → Bool) → TaskForm → Call
-call_of has t = record { codelet = named_in has t.codelet; args = map integer t.args; operands = map operand_said t.operands; priority = priority_said t.priority }
+call_of has t = record {
+  codelet = named_in has t.codelet;
+  args = map integer t.args;
+  operands = map operand_said t.operands;
+  priority = priority_said t.priority;
+}
 
 abbrev pub sentence_of : (Kernel → Bool) → Form → Result Sentence Reason
 sentence_of has (form.Workers n) = Err NotBuilt

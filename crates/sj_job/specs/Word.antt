@@ -55,7 +55,8 @@ is_digits ds = not (is_empty ds) && list_all is_ascii_digit ds
 
 -- digits with a value in i64
 abbrev pub count_of : List ℕ → Option ℕ
-count_of ds = if is_digits ds && nat_lt (digits_value 10 ds) (2 ^ 63) then Some (digits_value 10 ds) else None
+count_of ds =
+    if is_digits ds && nat_lt (digits_value 10 ds) (2 ^ 63) then Some (digits_value 10 ds) else None
 
 -- minus a number
 abbrev pub negative : ℕ → ℤ
@@ -64,7 +65,9 @@ negative n = elim n [ zero ↦ pos 0 | suc m ↦ negsuc m ]
 -- `-` and then digits, with a value in i64
 abbrev pub negative_of : List ℕ → Option ℤ
 negative_of [] = None
-negative_of (b ∷ ds) = if b == 45 && is_digits ds && nat_le (digits_value 10 ds) (2 ^ 63) then Some (negative (digits_value 10 ds)) else None
+negative_of (b ∷ ds) =
+    if b == 45 && is_digits ds && nat_le (digits_value 10 ds) (2 ^ 63) then Some (negative (digits_value 10 ds))
+    else None
 
 -- `inf`, or digits with at most a `-` before them, with a value in i64
 abbrev pub integer_of : List ℕ → Option ℤ

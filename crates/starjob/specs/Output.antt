@@ -23,7 +23,9 @@ rows_of a = map (λ i. take a.dims.cols (drop (i * a.dims.cols) a.elements)) (ra
 -- a vector gives `NAME: ` and its elements; a matrix `NAME R C:` and one line per row
 abbrev pub block_of : Kind → List ℕ → Array → List ℕ
 block_of Vector name a = name ++ codes ": " ++ row_text a.elements
-block_of Matrix name a = name ++ codes " " ++ decimal a.dims.rows ++ codes " " ++ decimal a.dims.cols ++ codes ":\n" ++ flat_map row_text (rows_of a)
+block_of Matrix name a =
+    name ++ codes " " ++ decimal a.dims.rows ++ codes " " ++ decimal a.dims.cols ++ codes ":\n"
+    ++ flat_map row_text (rows_of a)
 
 -- what is written for the arrays that a job prints, in order
 abbrev pub output : List Printed → List ℕ

@@ -54,7 +54,9 @@ usage_line = codes "starjob: usage: starjob [--workers N] [--sched P] [--node BY
 abbrev pub line_of : Status → List ℕ
 line_of Done = []
 line_of Usage = usage_line
-line_of (Refused line reason) = codes "starjob: line " ++ decimal line.0 ++ codes ": " ++ reason_word reason ++ limit_word reason ++ codes "\n"
+line_of (Refused line reason) =
+    codes "starjob: line " ++ decimal line.0 ++ codes ": " ++ reason_word reason ++ limit_word reason
+    ++ codes "\n"
 line_of SourceFault = codes "starjob: reading failed\n"
 line_of SinkFault = codes "starjob: writing failed\n"
 line_of OutOfMemory = codes "starjob: out of memory\n"

@@ -24,7 +24,9 @@ Answers job SinkFault = IsOk job
 Answers job OutOfMemory = Unit {0}
 
 -- without words, where the source tells its bytes: this is true of the job that they say
-abbrev pub OfJob : {W : Type 0} → (Kernel → Bool) → List W → Option (List ℕ) → (Result (List Statement) Refusal → Type 0) → Type 0
+abbrev pub OfJob :
+    {W : Type 0} → (Kernel → Bool) → List W → Option (List ℕ)
+    → (Result (List Statement) Refusal → Type 0) → Type 0
 OfJob has words left P = words ≡ [] → IfSome left (λ text. P (job_of has text))
 
 -- there are no words, and the source tells a job text against which no reason stands
