@@ -1,0 +1,44 @@
+#!/usr/bin/env python3
+"""Runs each example with each of its allocations refused in turn, and looks at what comes of it.
+
+With one allocation refused a run ends with 10 and writes nothing, or is as without: its output whole and status 0. Build
+the program first, by ./run examples/first.job.
+"""
+import glob, os, subprocess, sys, tempfile
+
+here = os.path.dirname(os.path.abspath(__file__))
+top = os.path.dirname(os.path.dirname(here))
+starjob = os.path.join(top, "crates", "starjob", "out", "starjob")
+
+
+def run(shim, job, number):
+    environment = {**os.environ, "LD_PRELOAD": shim, "REFUSE": str(number)}
+    return subprocess.run([starjob], input=job, capture_output=True, env=environment)
+
+
+def main():
+    failed = 0
+    with tempfile.TemporaryDirectory() as folder:
+        shim = os.path.join(folder, "refuse.so")
+        subprocess.run(["gcc", "-O1", "-shared", "-fPIC", "-o", shim, os.path.join(here, "refuse.c")], check=True)
+        for path in sorted(glob.glob(os.path.join(top, "examples", "*.job"))):
+            job = open(path, "rb").read()
+            wanted = run(shim, job, 0)
+            refused, whole, number = 0, 0, 0
+            # behind the last allocation nothing is refused, and the run is whole each time
+            while whole < 20:
+                number += 1
+                got = run(shim, job, number)
+                if got.returncode == 10 and got.stdout == b"" and got.stderr in (b"", b"starjob: out of memory\n"):
+                    refused, whole = refused + 1, 0
+                elif (got.returncode, got.stdout, got.stderr) == (0, wanted.stdout, b""):
+                    whole += 1
+                else:
+                    print(f"FAILED {os.path.basename(path)}: allocation {number}: {got}")
+                    failed, whole = failed + 1, 0
+            print(f"{os.path.basename(path)}: {refused} allocations refused")
+    print(f"{failed} failed")
+    sys.exit(failed != 0)
+
+
+main()
