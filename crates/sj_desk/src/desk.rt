@@ -22,8 +22,15 @@ const TAKEN: u64 = 1;
 
 const AWAITED: u64 = 2;
 
-// How often `enter` tries before it sleeps.
-const TRIES: u32 = 100;
+// How often `enter` tries before it sleeps. It pauses after each try, twice as long as after the one before.
+const TRIES: u32 = 8;
+
+// Lets the processor rest for so many turns.
+fn pause(turns: u32) {
+    for _ in 0..turns {
+        spin_loop();
+    }
+}
 
 /// The turn was found taken.
 #[derive(Clone, Copy, Debug, PartialEq, Eq)]
@@ -149,11 +156,11 @@ impl<T: Keyed> Desk<T> {
         ensures none { IfNone result (seat.new ≡ retried seat.old seat.new.refusals) }
         ensures tries { seat.old.refusals ≤ seat.new.refusals }
     {
-        for _ in 0..TRIES {
+        for failed in 0..TRIES {
             if let Some(value) = self.attempt(seat, TAKEN) {
                 return Some(value);
             }
-            spin_loop();
+            pause(1 << failed);
         }
         None
     }
@@ -179,8 +186,9 @@ impl<T: Keyed> Desk<T> {
         unreachable!()
     }
 
-    /// Waits for the turn, takes it, and gives the value. Some hundred tries at most, and then it
-    /// sleeps until the turn is given back. Where the turn is free it takes one step. No memory.
+    /// Waits for the turn, takes it, and gives the value. Eight tries at most, with a pause after each
+    /// that is twice as long as the one before, and then it sleeps until the turn is given back.
+    /// Where the turn is free it takes one step. No memory.
     pub fn enter<R: Wait>(&self, rt: &R, seat: &mut DeskSeat<T>) -> T
         requires of_this_desk { seat.old.desk ≡ Some self.now }
         requires not_in_its_turn { seat.old.found ≡ None }
