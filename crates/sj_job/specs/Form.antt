@@ -90,21 +90,27 @@ without_last w = take (length w - 1) w
 -- what stands between the commas of a text that a bracket closes
 abbrev pub pieces_of : ℕ → List ℕ → Option (List (List ℕ))
 pieces_of closing text =
-    if ends_with closing text && list_all (λ b. not (is_bracket b)) (without_last text) then Some (slice_split (λ b. b == 44) (without_last text))
+    if ends_with closing text && list_all (λ b. not (is_bracket b)) (without_last text)
+    then Some (slice_split (λ b. b == 44) (without_last text))
     else None
 
 -- the name of NAME(P1,P2,..) and the pieces behind it, of which there are none where NAME stands alone
 abbrev pub bracketed : ℕ → ℕ → List ℕ → Option (List ℕ × List (List ℕ))
 bracketed opening closing w =
     if is_name (before_first (λ b. b == opening) w) then (
-    if length (before_first (λ b. b == opening) w) == length w then Some (before_first (λ b. b == opening) w, [])
-    else option_map (λ ps. (before_first (λ b. b == opening) w, ps)) (pieces_of closing (after_first (λ b. b == opening) w)))
+    if length (before_first (λ b. b == opening) w) == length w
+    then Some (before_first (λ b. b == opening) w, [])
+    else option_map (λ ps. (before_first (λ b. b == opening) w, ps))
+    (pieces_of closing (after_first (λ b. b == opening) w)))
     else None
 
 -- what stands before the last such byte and what stands after it
 abbrev pub around_last : ℕ → List ℕ → Option (List ℕ × List ℕ)
 around_last b [] = None
-around_last b (c ∷ w) = elim (around_last b w) [ Some p ↦ Some (c ∷ p.0, p.1) | None ↦ if c == b then Some ([], w) else None ]
+around_last b (c ∷ w) = elim (around_last b w) [
+  | Some p ↦ Some (c ∷ p.0, p.1)
+  | None ↦ if c == b then Some ([], w) else None
+]
 
 -- ---- an operand
 
@@ -122,7 +128,10 @@ operand_with t mode = option_map (λ child. record { name = t.0; child = child; 
 abbrev pub operand_of : List ℕ → Option OperandForm
 operand_of w = elim (around_last 58 w) [
   | None ↦ None
-  | Some p ↦ (elim (bracketed 91 93 p.0) [ None ↦ None | Some t ↦ option_and_then (operand_with t) (mode_of p.1) ])
+  | Some p ↦ (elim (bracketed 91 93 p.0) [
+    | None ↦ None
+    | Some t ↦ option_and_then (operand_with t) (mode_of p.1)
+  ])
 ]
 
 -- what f gives of each, where it gives something of each
@@ -147,7 +156,9 @@ abbrev pub task_of : List (List ℕ) → Option TaskForm
 task_of [] = None
 task_of (w ∷ ws) = elim (bracketed 40 41 w) [
   | None ↦ None
-  | Some c ↦ option_map (λ os. record { codelet = c.0; args = c.1; operands = os; priority = (with_priority ws).1 }) (each_some operand_of (with_priority ws).0)
+  | Some c ↦ option_map
+      (λ os. record { codelet = c.0; args = c.1; operands = os; priority = (with_priority ws).1 })
+      (each_some operand_of (with_priority ws).0)
 ]
 
 -- ---- an array
@@ -174,7 +185,8 @@ init_of (w ∷ ws) =
     else if bytes_eq w (codes "none") then nothing_of ws
     else None
 
-abbrev pub with_parts : Option (List ℕ × List ℕ) → List (List ℕ) → Option (Option (List ℕ × List ℕ) × InitForm)
+abbrev pub with_parts :
+    Option (List ℕ × List ℕ) → List (List ℕ) → Option (Option (List ℕ × List ℕ) × InitForm)
 with_parts parts ws = option_map (λ init. (parts, init)) (init_of ws)
 
 abbrev pub parted : List (List ℕ) → Option (Option (List ℕ × List ℕ) × InitForm)
@@ -189,7 +201,9 @@ layout_of (w ∷ ws) = if bytes_eq w (codes "by") then parted ws else with_parts
 
 abbrev pub array_of : List ℕ → Size → List (List ℕ) → Option ArrayForm
 array_of name size ws =
-    if is_name name then option_map (λ l. record { name = name; size = size; parts = l.0; init = l.1 }) (layout_of ws) else None
+    if is_name name
+    then option_map (λ l. record { name = name; size = size; parts = l.0; init = l.1 }) (layout_of ws)
+    else None
 
 abbrev pub vector_of : List (List ℕ) → Option ArrayForm
 vector_of [] = None

@@ -22,7 +22,8 @@ use Rattle.sj_job.specs.Sentence.{is_numbered, is_built, is_misplaced, sentence_
 -- NAME alone, or NAME and pieces between brackets, divided by commas
 abbrev pub bracketed_word : ℕ → ℕ → List ℕ → List (List ℕ) → List ℕ
 bracketed_word opening closing name [] = name
-bracketed_word opening closing name (p ∷ ps) = name ++ (opening ∷ (join_with_byte 44 (p ∷ ps) ++ (closing ∷ [])))
+bracketed_word opening closing name (p ∷ ps) =
+    name ++ (opening ∷ (join_with_byte 44 (p ∷ ps) ++ (closing ∷ [])))
 
 abbrev pub child_pieces : Option (List ℕ × List ℕ) → List (List ℕ)
 child_pieces None = []

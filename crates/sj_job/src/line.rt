@@ -30,7 +30,7 @@ pub fn first_place(text: &[u8], byte: u8) -> usize
     memchr(byte, text).unwrap_or(text.len())
 }
 
-/// Whether a byte divides words.
+/// Whether a byte divides words. Constant time.
 pub fn is_blank(byte: u8) -> bool
     ensures { result ≡ is_blank byte }
 {

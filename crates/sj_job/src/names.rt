@@ -49,7 +49,7 @@ impl Names {
         self.known(name).is_some()
     }
 
-    /// Whether a name was ended.
+    /// Whether a name was ended. Logarithmic in the names, as are the next three.
     pub fn is_ended(&self, name: &Name) -> bool
         ensures { result ≡ is_ended (scope_in self.now) name.now }
     {
@@ -83,7 +83,7 @@ impl Names {
         }
     }
 
-    /// No name, before the first statement.
+    /// No name, before the first statement. Constant time.
     pub fn none(alloc: Global) -> Names
         ensures { Sees result 0 start }
     {

@@ -62,7 +62,7 @@ pub enum Reason {
 }
 
 impl Reason {
-    /// The reason's number.
+    /// The reason's number. Constant time.
     pub fn code(&self) -> u8
         ensures { result ≡ code_of self.now }
     {

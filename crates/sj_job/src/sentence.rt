@@ -357,7 +357,7 @@ pub fn read_sentence<C: Codelets>(
     }
 }
 
-/// Whether these words are the header.
+/// Whether these words are the header. Constant time.
 pub fn is_header(words: &[&[u8]]) -> bool
     ensures { result ≡ is_header (map (λ w. w.now) words.now) }
 {

@@ -25,12 +25,18 @@ pub record CanTell (kinds : Kinds) (act : Act) (arrays : List Array) (at : ℕ) 
   pub more : List Array
   pub next : AreNext state act arrays at more
 
--- what the act prints stands behind the text, and from the place `next` on stand the arrays after those that it printed
+-- what the act prints stands behind the text, and from the place `next` on stand the arrays after those
+-- that it printed
 pub record IsTold (kinds : Kinds) (act : Act) (arrays : List Array) (at : ℕ) (old new : List ℕ) (next : ℕ) : Type 0 where
-  pub text : (S : State) (more : List Array) → Knows kinds S → AreNext S act arrays at more → new ≡ old ++ output (prints act S)
-  pub left : (S : State) (more : List Array) → Knows kinds S → AreNext S act arrays at more → drop next arrays ≡ more
+  pub text :
+      (S : State) (more : List Array) → Knows kinds S → AreNext S act arrays at more
+      → new ≡ old ++ output (prints act S)
+  pub left :
+      (S : State) (more : List Array) → Knows kinds S → AreNext S act arrays at more
+      → drop next arrays ≡ more
 
--- the kinds are those of a state from which the rest of a job prints the arrays that are left, and with it the text is whole
+-- the kinds are those of a state from which the rest of a job prints the arrays that are left, and with
+-- it the text is whole
 pub record Goes (kinds : Kinds) (text : List ℕ) (arrays : List Array) (at : ℕ) (rest : List Statement) (whole : List ℕ) : Type 0 where
   pub state : State
   pub knows : Knows kinds state

@@ -18,7 +18,7 @@ pub struct Kinds {
 }
 
 impl Kinds {
-    /// No name, before the first statement.
+    /// No name, before the first statement. Constant time.
     pub fn none(alloc: Global) -> Kinds
         ensures { Knows result start }
     {
@@ -47,7 +47,7 @@ impl Kinds {
         self.by_name.remove(name);
     }
 
-    /// Follows one statement.
+    /// Follows one statement. Logarithmic in the names.
     pub fn follow(&mut self, alloc: Global, act: &Act) -> Result<(), OutOfMemory>
         ensures { OnOk result ((S : State) → Knows self.old S → Knows self.new (apply act.now S)) }
     {

@@ -119,7 +119,8 @@ fn report_refusal<E: Sink>(line: Line, reason: Reason, err: &mut E)
     );
 }
 
-/// Writes the line for a status, in pieces and without memory. A failing `err` is ignored.
+/// Writes the line for a status, in pieces and without memory. A failing `err` is ignored. Constant time where the sink
+/// takes whole pieces.
 pub fn report<E: Sink>(status: Status, err: &mut E)
     ensures { TakesLine (E.taken err.old) (E.taken err.new) (E.faults err.old) (E.faults err.new)
         (line_of status) }

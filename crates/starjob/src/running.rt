@@ -43,7 +43,7 @@ fn nothing_run(alloc: Global) -> Run
     }
 }
 
-/// The program of a job, for one worker, to be shared.
+/// The program of a job, for one worker, to be shared. The cost of lowering.
 pub fn program_of(alloc: Global, statements: &[Statement]) -> Result<Arc<Program>, OutOfMemory>
     requires { IsJob statements.now }
     ensures is { IfOk result (λ p. p.value ≡ lowered statements.now 1) }

@@ -24,7 +24,7 @@ pub enum Status {
 }
 
 impl Status {
-    /// The program's exit code.
+    /// The program's exit code. Constant time.
     pub fn code(&self) -> u8
         ensures { result ≡ code_of self.now }
     {
