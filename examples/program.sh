@@ -2,7 +2,10 @@
 # Runs the built program as a process, and compares its exit code and both its streams with what docs/JOBS.md promises: what
 # main and the standard streams do with a status stands in no clause. Another program is given as examples/program.sh PROGRAM.
 program=$(realpath "${1:-$(dirname "$0")/../crates/starjob/out/starjob}")
-cd "$(dirname "$0")" || exit 2
+if [ ! -x "$program" ]; then
+  echo "examples/program.sh: build the program first, by ./run examples/first.job" >&2
+  exit 1
+fi
 scratch=$(mktemp -d)
 trap 'rm -rf "$scratch"' EXIT
 cd "$scratch" || exit 2
