@@ -1,13 +1,15 @@
 -- What the cache's words say of its pairs, in the words of what it shows of them.
-use Rattle.std.proofs.Common.{◌≡◌, ℕ, Bool, true, false, not, ◌||◌, cond, nat_eq, List, [], ◌∷◌, ◌++◌, map, filter, Option, Some, None, is_some, option_map, option_to_list, refl, sym, ap, ◌∙◌, subst}
+use Rattle.std.proofs.Common.{◌≡◌, ℕ, ◌+◌, Bool, true, false, not, ◌||◌, cond, nat_eq, List, [], ◌∷◌, ◌++◌, map, filter, Option, Some, None, is_some, option_map, option_to_list, unwrap_or, sum_by, refl, sym, ap, ◌∙◌, subst, arith}
 use Rattle.std.specs.List.{AllByRecursion, IsDistinct, list_any, find}
 use Rattle.std.specs.Option.{option_map_or}
-use Rattle.std.specs.Map.{keys_of, lookup, lookup_entry, remove_entry, set_value}
+use Rattle.std.specs.Map.{keys_of, values_of, lookup, lookup_entry, remove_entry, set_value}
 use Rattle.std.proofs.lemmas.Bool.{eqb-true}
+use Rattle.std.proofs.lemmas.List.Folds.{fold-map}
+use Rattle.std.proofs.lemmas.Map.Entries.{sum_by-remove_entry}
 use Rattle.std.proofs.lemmas.Map.Keys.{IsDistinct-head, IsDistinct-tail}
 use Rattle.lru.specs.LruCache.{promoted}
 use Rattle.sj_base.specs.declared.ids.Cell.{Cell}
-use Rattle.sj_node.specs.Entry.{Entry, is_of, has_entry, pins_of, bytes_of, without, to_front, repinned}
+use Rattle.sj_node.specs.Entry.{Entry, is_of, has_entry, pins_of, total, without, to_front, repinned}
 use Rattle.sj_node.specs.Entries.{shown}
 use Rattle.sj_node.specs.declared.entries.Room.{Room}
 
@@ -25,13 +27,6 @@ module _ (c : Cell) where
 
   -- ---- reading
 
-  pub find-shown : (es : List (ℕ × Room)) → find (is_of c) (map shown es) ≡ option_map shown (lookup_entry test es)
-  find-shown [] = refl
-  find-shown (e ∷ es) = elim (nat_eq c.0 e.0) as (λ b. cond b (Some (shown e)) (find (is_of c) (map shown es)) ≡ option_map shown (cond b (Some e) (lookup_entry test es))) [
-    | true ↦ refl
-    | false ↦ find-shown es
-  ]
-
   pub has_entry-shown : (es : List (ℕ × Room)) → has_entry (map shown es) c ≡ is_some (lookup test es)
   has_entry-shown [] = refl
   has_entry-shown (e ∷ es) = elim (nat_eq c.0 e.0) as (λ b. (b || has_entry (map shown es) c) ≡ is_some (cond b (Some e.1) (lookup test es))) [
@@ -39,19 +34,12 @@ module _ (c : Cell) where
     | false ↦ has_entry-shown es
   ]
 
-  -- a number that each entry has
-  pub option_map_or-shown : (f : Entry → ℕ) (g : Room → ℕ) → ((e : ℕ × Room) → f (shown e) ≡ g e.1) → (es : List (ℕ × Room)) → option_map_or f (find (is_of c) (map shown es)) 0 ≡ option_map_or g (lookup test es) 0
-  option_map_or-shown f g same [] = refl
-  option_map_or-shown f g same (e ∷ es) = elim (nat_eq c.0 e.0) as (λ b. option_map_or f (cond b (Some (shown e)) (find (is_of c) (map shown es))) 0 ≡ option_map_or g (cond b (Some e.1) (lookup test es)) 0) [
-    | true ↦ same e
-    | false ↦ option_map_or-shown f g same es
-  ]
-
   pub pins_of-shown : (es : List (ℕ × Room)) → pins_of (map shown es) c ≡ option_map_or (λ r. r.pins) (lookup test es) 0
-  pins_of-shown es = option_map_or-shown (λ e. e.pins) (λ r. r.pins) (λ e. refl) es
-
-  pub bytes_of-shown : (es : List (ℕ × Room)) → bytes_of (map shown es) c ≡ option_map_or (λ r. r.bytes) (lookup test es) 0
-  bytes_of-shown es = option_map_or-shown (λ e. e.bytes) (λ r. r.bytes) (λ e. refl) es
+  pins_of-shown [] = refl
+  pins_of-shown (e ∷ es) = elim (nat_eq c.0 e.0) as (λ b. option_map_or (λ (x : Entry). x.pins) (cond b (Some (shown e)) (find (is_of c) (map shown es))) 0 ≡ option_map_or (λ r. r.pins) (cond b (Some e.1) (lookup test es)) 0) [
+    | true ↦ refl
+    | false ↦ pins_of-shown es
+  ]
 
   -- ---- where the cell has no entry
 
@@ -103,3 +91,13 @@ module _ (c : Cell) where
     | true ↦ λ t is. let old : e.1 ≡ v = cc in rw (repinned-lacks f es (lacks_after c.0 e es t d), bytes, pins, ← old) refl
     | false ↦ λ t is. ap (λ xs. shown e ∷ xs) (repinned-shown f es v w (IsDistinct-tail nat_eq e.0 (keys_of es) d) is bytes pins)
   ]) refl h
+
+-- the bytes that go with the cell's entry
+pub total-shown : (es : List (ℕ × Room)) → total (map shown es) ≡ sum_by (λ r. r.bytes) (values_of es)
+total-shown es = fold-map (λ a (e : Entry). a + e.bytes) shown 0 es ∙ sym (fold-map (λ a (r : Room). a + r.bytes) (λ (e : ℕ × Room). e.1) 0 es)
+
+pub total-removed : (k : ℕ) (es : List (ℕ × Room)) (o : Option Room) → lookup (nat_eq k) es ≡ o → unwrap_or (option_map (λ r. r.bytes) o) 0 + total (map shown (remove_entry (nat_eq k) es)) ≡ total (map shown es)
+total-removed k es o found =
+    let all = sum_by-remove_entry (λ (r : Room). r.bytes) (nat_eq k) es in
+    let gone : unwrap_or (option_map (λ r. r.bytes) (lookup (nat_eq k) es)) 0 ≡ unwrap_or (option_map (λ r. r.bytes) o) 0 = ap (λ p. unwrap_or (option_map (λ (r : Room). r.bytes) p) 0) found in
+    omega (arith, all, gone, total-shown es, total-shown (remove_entry (nat_eq k) es))

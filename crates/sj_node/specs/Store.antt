@@ -1,8 +1,7 @@
 -- A memory node as contracts see it: its size, the scratch bytes that are held on it, and its entries.
-use Rattle.std.specs.Prelude.{ℕ, ◌+◌, ◌-◌, List, [], reverse, map, Option, option_map}
+use Rattle.std.specs.Prelude.{ℕ, ◌+◌, ◌-◌, List, [], Option}
 use Rattle.sj_base.specs.declared.ids.Cell.{Cell}
-use Rattle.sj_node.specs.Entry.{Entry, total, is_unpinned}
-use Rattle.sj_node.specs.Victims.{victims}
+use Rattle.sj_node.specs.Entry.{Entry, total, victim_cells}
 
 -- its bytes, those held as scratch, how many entries there may be, and the entries, most recent first
 pub record Store : Type 0 where
@@ -30,5 +29,4 @@ free s = s.size - used s
 
 -- the cells that a need evicts, least recent first; none where all unpinned entries don't make room for it
 abbrev pub victims_of : Store → ℕ → Option (List Cell)
-victims_of s need =
-    option_map (λ es. map (λ e. e.cell) (reverse es)) (victims (λ e. e.bytes) is_unpinned s.entries (free s) need)
+victims_of s need = victim_cells s.entries (free s) need

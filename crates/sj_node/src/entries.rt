@@ -1,9 +1,8 @@
 //! The entries of a node in order of recency.
 
-ghost use Rattle.std.specs.Prelude.{◌≡◌, ◌+◌, ◌-◌, ◌<◌, ◌≤◌, ◌^◌, ◌∷◌, [], ℕ, All, IsTrue, OnOk, OnErr, IfOk, length, map, option_map, reverse, sum, sum_by, nat_eq, false};
-ghost use Rattle.sj_node.specs.Entry.{has_entry, pins_of, bytes_of, without, without_all, to_front, repinned, put_all, unpinned, is_unpinned};
+ghost use Rattle.std.specs.Prelude.{◌≡◌, ◌+◌, ◌-◌, ◌<◌, ◌≤◌, ◌∷◌, [], All, IsTrue, OnOk, OnErr, IfOk, length, option_map, false};
+ghost use Rattle.sj_node.specs.Entry.{AreDistinct, has_entry, pins_of, total, without, without_all, to_front, repinned, put_all, unpinned, victim_cells};
 ghost use Rattle.sj_node.specs.Entries.{listed};
-ghost use Rattle.sj_node.specs.Victims.{victims};
 
 use lru::LruCache;
 use sj_base::ids::Cell;
@@ -54,16 +53,6 @@ impl Entries {
         self.cache.contains(&cell.0)
     }
 
-    /// The bytes of the cell's entry, or 0 where it has none.
-    pub fn bytes_of(&self, cell: Cell) -> u64
-        ensures { result ≡ bytes_of self.now.order cell }
-    {
-        match self.cache.peek(&cell.0) {
-            Some(room) => room.bytes,
-            None => 0,
-        }
-    }
-
     /// Puts an entry without pins before the others.
     pub fn put(&mut self, cell: Cell, bytes: u64) -> Result<(), OutOfMemory>
         requires absent { has_entry self.old.order cell ≡ false }
@@ -75,20 +64,74 @@ impl Entries {
         Ok(())
     }
 
-    /// Takes the cell's entry out.
-    pub fn take_out(&mut self, cell: Cell)
-        requires { IsTrue (has_entry self.old.order cell) }
-        ensures { self.new ≡ listed (without cell self.old.order) self.old.limit }
+    /// Takes the cell's entry out, where it has one, and gives its bytes.
+    pub fn take_out(&mut self, cell: Cell) -> u64
+        ensures entries { self.new ≡ listed (without cell self.old.order) self.old.limit }
+        ensures bytes { result + total self.new.order ≡ total self.old.order }
     {
-        let _ = self.cache.pop(&cell.0);
+        match self.cache.pop(&cell.0) {
+            Some(room) => room.bytes,
+            None => 0,
+        }
     }
 
-    /// Brings the cell's entry before the others.
+    /// Takes these cells' entries out.
+    fn take_out_all(&mut self, cells: &[Cell])
+        ensures { self.new ≡ listed (without_all cells.now self.old.order) self.old.limit }
+    {
+        for cell in cells {
+            self.take_out(*cell);
+        }
+    }
+
+    /// Puts entries without pins before the others, one after another.
+    pub fn put_all(&mut self, cells: &[Cell], bytes: &[u64]) -> Result<(), OutOfMemory>
+        requires distinct { AreDistinct cells.now }
+        requires absent { All (λ c. has_entry self.old.order c ≡ false) cells.now }
+        requires paired { length cells.now ≡ length bytes.now }
+        requires few { length self.old.order + length cells.now ≤ self.old.limit }
+        ensures ok { OnOk result (self.new ≡ listed (put_all cells.now bytes.now self.old.order) self.old.limit) }
+        ensures err { OnErr result (self.new ≡ self.old) }
+    {
+        for i in 0..cells.len() {
+            if self.put(cells[i], bytes[i]).is_err() {
+                self.take_out_all(&cells[..i]);
+                return Err(OutOfMemory);
+            }
+        }
+        Ok(())
+    }
+
+    /// Brings the cell's entry before the others, where it has one.
     pub fn touch(&mut self, cell: Cell)
-        requires { IsTrue (has_entry self.old.order cell) }
         ensures { self.new ≡ listed (to_front cell self.old.order) self.old.limit }
     {
         let _ = self.cache.promote(&cell.0);
+    }
+
+    /// The cells to evict for a need, least recent first; `None` where all unpinned entries and the
+    /// free bytes don't cover it.
+    pub fn victims(
+        &self,
+        alloc: Global,
+        free: u64,
+        need: u64,
+    ) -> Result<Option<Vec<Cell>>, OutOfMemory>
+        ensures { IfOk result (λ found. option_map (λ v. v.items) found ≡ victim_cells self.now.order free need) }
+    {
+        let mut found = Vec::new(alloc);
+        let mut lacking = need.saturating_sub(free);
+        let mut rest = self.cache.iter();
+        while lacking > 0 {
+            let Some((cell, room)) = rest.next_back() else {
+                return Ok(None);
+            };
+            if room.pins == 0 {
+                found.push(Cell(*cell))?;
+                lacking = lacking.saturating_sub(room.bytes);
+            }
+        }
+        Ok(Some(found))
     }
 
     /// One pin more.

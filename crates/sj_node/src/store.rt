@@ -1,8 +1,8 @@
 //! A memory node: its size, its entries and its scratch.
 
-ghost use Rattle.std.specs.Prelude.{◌≡◌, ◌+◌, ◌-◌, ◌<◌, ◌≤◌, ◌∷◌, ℕ, All, IsTrue, OnOk, OnErr, IfOk, length, option_map, sum, sum_by, false};
-ghost use Rattle.sj_node.specs.Entry.{has_entry, pins_of, bytes_of, without, without_all, to_front, repinned, put_all, unpinned, is_unpinned};
-ghost use Rattle.sj_node.specs.Store.{store, empty, with_entries, used, free, victims_of};
+ghost use Rattle.std.specs.Prelude.{◌≡◌, ◌+◌, ◌-◌, ◌<◌, ◌≤◌, ◌∷◌, All, IsTrue, OnOk, OnErr, IfOk, length, option_map, sum, false};
+ghost use Rattle.sj_node.specs.Entry.{AreDistinct, has_entry, pins_of, without, without_all, to_front, repinned, admitted, unpinned};
+ghost use Rattle.sj_node.specs.Store.{empty, with_entries, used, free, victims_of};
 
 use crate::entries::Entries;
 use sj_base::ids::Cell;
@@ -73,6 +73,42 @@ impl NodeStore {
         Ok(())
     }
 
+    /// Takes the victims away and puts the cells to the front one after another, without pins. After
+    /// `OutOfMemory` all is as before. A look-up for each cell given.
+    pub fn admit(
+        &mut self,
+        victims: &[Cell],
+        cells: &[Cell],
+        bytes: &[u64],
+    ) -> Result<(), OutOfMemory>
+        requires victims_differ { AreDistinct victims.now }
+        requires victims_there { All (λ c. IsTrue (has_entry self.old.entries c)) victims.now }
+        requires victims_unpinned { All (λ c. pins_of self.old.entries c ≡ 0) victims.now }
+        requires cells_differ { AreDistinct cells.now }
+        requires cells_absent { All (λ c. has_entry self.old.entries c ≡ false) cells.now }
+        requires paired { length cells.now ≡ length bytes.now }
+        requires fits { sum bytes.now ≤ free (with_entries self.old (without_all victims.now self.old.entries)) }
+        requires few { length self.old.entries + length cells.now ≤ self.old.limit }
+        ensures ok { OnOk result (self.new ≡ with_entries self.old (admitted victims.now cells.now bytes.now self.old.entries)) }
+        ensures err { OnErr result (self.new ≡ self.old) }
+    {
+        self.entries.put_all(cells, bytes)?;
+        for victim in victims {
+            self.filled -= self.entries.take_out(*victim);
+        }
+        self.filled += bytes.iter().sum::<u64>();
+        Ok(())
+    }
+
+    /// The cells to evict for a need, least recent first: the fewest of the least recently used unpinned
+    /// ones whose bytes with the free ones cover it. `None` exactly where all of them don't. Linear in
+    /// the victims and in the pinned entries that are passed.
+    pub fn victims(&self, alloc: Global, need: u64) -> Result<Option<Vec<Cell>>, OutOfMemory>
+        ensures { IfOk result (λ found. option_map (λ v. v.items) found ≡ victims_of self.now need) }
+    {
+        self.entries.victims(alloc, self.free(), need)
+    }
+
     /// Brings a cell to the front. One look-up, and no memory.
     pub fn touch(&mut self, cell: Cell)
         requires { IsTrue (has_entry self.old.entries cell) }
@@ -87,8 +123,7 @@ impl NodeStore {
         requires unpinned { pins_of self.old.entries cell ≡ 0 }
         ensures { self.new ≡ with_entries self.old (without cell self.old.entries) }
     {
-        self.filled -= self.entries.bytes_of(cell);
-        self.entries.take_out(cell);
+        self.filled -= self.entries.take_out(cell);
     }
 
     /// Adds a pin to a cell. One look-up, and no memory.
