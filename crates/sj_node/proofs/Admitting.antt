@@ -3,7 +3,7 @@ use Rattle.std.proofs.Common.{◌≡◌, ℕ, ◌+◌, ◌-◌, ◌<◌, ◌≤�
 use Rattle.std.specs.List.{All}
 use Rattle.std.proofs.lemmas.List.Elements.{All-take}
 use Rattle.sj_base.specs.declared.ids.Cell.{Cell}
-use Rattle.sj_node.specs.Entry.{Entry, has_entry, total, without, without_all, put_all, admitted}
+use Rattle.sj_node.specs.Entry.{has_entry, total, without, without_all, put_all, admitted}
 use Rattle.sj_node.specs.Entries.{Listed, listed}
 use Rattle.sj_node.specs.Store.{Store, used, free, with_entries}
 use Rattle.sj_node.proofs.Putting.{without_all-none, without_all_more, total-put_all, total-without_all-put_all, total-without_all-le, without_all-put_all}
@@ -46,13 +46,15 @@ module _ {old : Store} {victims cells : List Cell} {bytes : List ℕ} (fair : Is
   pub turn_next : {i : ℕ} {entries new : Listed} {size scratch filled freed : ℕ} → IsTurn old victims cells bytes i entries size scratch filled → i < length victims → new ≡ listed (without (get_or victims i (record { 0 = 0 })) entries.order) entries.limit → freed + total new.order ≡ total entries.order → (freed ≤ filled) × IsTurn old victims cells bytes (i + 1) new size scratch (filled - freed)
   turn_next {i} {entries} {new} t within out gives =
       let now : new ≡ listed (without_all (take (i + 1) victims) (put_all cells bytes old.entries)) old.limit = out ∙ rw t.now (ap (λ es. listed es old.limit) (sym (without_all_more victims i (record { 0 = 0 }) (put_all cells bytes old.entries) within))) in
-      let left : total new.order ≡ sum bytes + total (without_all (take (i + 1) victims) old.entries) = ap (λ (v : Listed). total v.order) now ∙ bytes_at (i + 1) in
-      (omega (arith, t.counted), record {
-        now = now;
-        counted = omega (arith, t.counted);
-        sized = t.sized;
-        held = t.held;
-      })
+      let left : total new.order ≡ sum bytes + total (without_all (take (i + 1) victims) old.entries) = ap (λ (v : Listed). total v.order) now ∙ bytes_at (i + 1) in (
+        omega (arith, t.counted),
+        record {
+          now = now;
+          counted = omega (arith, t.counted);
+          sized = t.sized;
+          held = t.held;
+        },
+      )
 
   pub turn_last : {i : ℕ} {entries : Listed} {size scratch filled : ℕ} → IsTurn old victims cells bytes i entries size scratch filled → length victims ≤ i → used old ≤ old.size → sum bytes ≤ free (with_entries old (without_all victims old.entries)) → IsLast old victims cells bytes entries size scratch filled
   turn_last {i} {entries} t all fit fits =

@@ -1,7 +1,6 @@
 -- A search from the least recently used entry on finds the shortest end of the unpinned ones that covers a need.
-use Rattle.std.proofs.Common.{◌≡◌, ℕ, ◌+◌, ◌-◌, ◌<◌, Bool, true, false, cond, nat_eq, nat_le, List, [], ◌∷◌, ◌++◌, map, filter, reverse, Option, Some, None, option_map, refl, sym, ap, ◌∙◌, append_assoc, append-nil, arith}
+use Rattle.std.proofs.Common.{◌≡◌, ℕ, ◌+◌, ◌-◌, ◌<◌, Bool, true, false, cond, nat_eq, nat_le, List, [], ◌∷◌, ◌++◌, map, filter, reverse, Option, Some, None, refl, sym, ap, ◌∙◌, append_assoc, append-nil, arith}
 use Rattle.std.specs.Bool.{then_some}
-use Rattle.std.specs.Option.{option_or}
 use Rattle.std.proofs.lemmas.Bool.Decides.{nat_tests}
 use Rattle.std.proofs.lemmas.List.{map-append, reverse-append}
 use Rattle.std.proofs.lemmas.List.Elements.{filter-append}
@@ -61,26 +60,26 @@ module _ (free need : ℕ) where
 
   pub search_takes : (order rest : List Entry) (e : Entry) (found : List Cell) (lacking : ℕ) → is_unpinned e ≡ true → 0 < lacking → IsSearch order (rest ++ e ∷ []) found lacking → IsSearch order rest (found ++ e.cell ∷ []) (lacking - e.bytes)
   search_takes order rest e found lacking unpinned some s =
-    let vs = filter is_unpinned s.passed in
-    let none : shortest_suffix test vs ≡ None = s.shortest ∙ (let b : nat_eq lacking 0 ≡ false = grind (arith, nat_tests) in rw b refl) in
-    let less : lacking - e.bytes ≡ need - (free + total (e ∷ vs)) = omega (arith, s.left, sum_by-cons (λ (x : Entry). x.bytes) e vs) in
-    record {
-      passed = e ∷ s.passed;
-      parts = sym (append_assoc rest (e ∷ []) s.passed) ∙ s.parts;
-      cells = rw (unpinned, reverse-append (e ∷ []) vs) (ap (λ cs. cs ++ e.cell ∷ []) s.cells ∙ sym (map-append (λ (x : Entry). x.cell) (reverse vs) (e ∷ [])));
-      left = rw unpinned less;
-      shortest = rw (unpinned, none) (covered (e ∷ vs) (lacking - e.bytes) less);
-    }
+      let vs = filter is_unpinned s.passed in
+      let none : shortest_suffix test vs ≡ None = s.shortest ∙ (let b : nat_eq lacking 0 ≡ false = grind (arith, nat_tests) in rw b refl) in
+      let less : lacking - e.bytes ≡ need - (free + total (e ∷ vs)) = omega (arith, s.left, sum_by-cons (λ (x : Entry). x.bytes) e vs) in
+      record {
+        passed = e ∷ s.passed;
+        parts = sym (append_assoc rest (e ∷ []) s.passed) ∙ s.parts;
+        cells = rw (unpinned, reverse-append (e ∷ []) vs) (ap (λ cs. cs ++ e.cell ∷ []) s.cells ∙ sym (map-append (λ (x : Entry). x.cell) (reverse vs) (e ∷ [])));
+        left = rw unpinned less;
+        shortest = rw (unpinned, none) (covered (e ∷ vs) (lacking - e.bytes) less);
+      }
 
   pub search_finds : (order rest : List Entry) (found : List Cell) (lacking : ℕ) → lacking ≡ 0 → IsSearch order rest found lacking → Some found ≡ victim_cells order free need
   search_finds order rest found lacking all s =
-    let vs = filter is_unpinned s.passed in
-    let here : shortest_suffix test vs ≡ Some vs = s.shortest ∙ rw all refl in
-    let whole : filter is_unpinned order ≡ filter is_unpinned rest ++ vs = ap (filter is_unpinned) (sym s.parts) ∙ filter-append is_unpinned rest s.passed in
-    let chosen : shortest_suffix test (filter is_unpinned order) ≡ Some vs = rw whole (shortest_suffix-append test (filter is_unpinned rest) vs vs here) in
-    rw chosen (ap Some s.cells)
+      let vs = filter is_unpinned s.passed in
+      let here : shortest_suffix test vs ≡ Some vs = s.shortest ∙ rw all refl in
+      let whole : filter is_unpinned order ≡ filter is_unpinned rest ++ vs = ap (filter is_unpinned) (sym s.parts) ∙ filter-append is_unpinned rest s.passed in
+      let chosen : shortest_suffix test (filter is_unpinned order) ≡ Some vs = rw whole (shortest_suffix-append test (filter is_unpinned rest) vs vs here) in
+      rw chosen (ap Some s.cells)
 
   pub search_fails : (order : List Entry) (found : List Cell) (lacking : ℕ) → 0 < lacking → IsSearch order [] found lacking → None ≡ victim_cells order free need
   search_fails order found lacking some s =
-    let none : shortest_suffix test (filter is_unpinned order) ≡ None = ap (λ es. shortest_suffix test (filter is_unpinned es)) (sym s.parts) ∙ s.shortest ∙ (let b : nat_eq lacking 0 ≡ false = grind (arith, nat_tests) in rw b refl) in
-    rw none refl
+      let none : shortest_suffix test (filter is_unpinned order) ≡ None = ap (λ es. shortest_suffix test (filter is_unpinned es)) (sym s.parts) ∙ s.shortest ∙ (let b : nat_eq lacking 0 ≡ false = grind (arith, nat_tests) in rw b refl) in
+      rw none refl

@@ -1,6 +1,6 @@
 -- The cache's own changes keep its keys apart and few.
-use Rattle.std.proofs.Common.{◌≡◌, ℕ, ◌+◌, suc, ◌-◌, ◌<◌, ◌≤◌, Bool, true, false, cond, nat_eq, List, [], ◌∷◌, map, take, take_all, length, Option, Some, None, is_some, option_to_list, refl, sym, ap, ◌∙◌, subst, arith}
-use Rattle.std.specs.List.{AllByRecursion, IsDistinct}
+use Rattle.std.proofs.Common.{◌≡◌, ℕ, ◌+◌, suc, ◌-◌, ◌<◌, ◌≤◌, Bool, true, false, cond, nat_eq, List, [], ◌∷◌, take_all, length, Option, Some, None, is_some, option_to_list, refl, ap, subst, arith}
+use Rattle.std.specs.List.{IsDistinct}
 use Rattle.std.specs.Option.{option_map_or}
 use Rattle.std.specs.Map.{keys_of, lookup, lookup_entry, remove_entry, set_value}
 use Rattle.std.proofs.lemmas.Bool.{eqb-true}
@@ -70,8 +70,8 @@ module _ (k : ℕ) where
   first_distinct : (es : List (ℕ × Room)) → IsDistinct nat_eq (keys_of es) → (o : Option (ℕ × Room)) → lookup_entry test es ≡ o → IsDistinct nat_eq (keys_of (option_map_or (λ e. e ∷ remove_entry test es) o es))
   first_distinct es d None h = d
   first_distinct es d (Some e) h =
-    let same : k ≡ e.0 = eqb-true k e.0 (Contains-lookup_entry test es e h).1 in
-    IsDistinct-cons nat_eq e.0 (keys_of (remove_entry test es)) (subst (λ n. Lacks n (remove_entry test es)) same (removed_lacks es d)) (removed_distinct es d)
+      let same : k ≡ e.0 = eqb-true k e.0 (Contains-lookup_entry test es e h).1 in
+      IsDistinct-cons nat_eq e.0 (keys_of (remove_entry test es)) (subst (λ n. Lacks n (remove_entry test es)) same (removed_lacks es d)) (removed_distinct es d)
 
   first_few : (es : List (ℕ × Room)) (o : Option (ℕ × Room)) → lookup_entry test es ≡ o → length (option_map_or (λ e. e ∷ remove_entry test es) o es) ≤ length es
   first_few es None h = omega arith

@@ -1,6 +1,6 @@
 -- What is left where entries are taken out one after another, and put in one after another.
-use Rattle.std.proofs.Common.{◌≡◌, ℕ, zero, suc, ◌+◌, ◌<◌, ◌≤◌, Bool, true, false, not, ◌||◌, ◌&&◌, cond, nat_eq, List, [], ◌∷◌, ◌++◌, map, filter, fold, length, take, take_all, get_or, sum, refl, sym, ap, ◌∙◌, subst, append_assoc, arith}
-use Rattle.std.specs.List.{All, AllByRecursion, IsDistinct, list_any, zip}
+use Rattle.std.proofs.Common.{◌≡◌, ℕ, zero, suc, ◌+◌, ◌<◌, ◌≤◌, Bool, true, false, not, ◌||◌, ◌&&◌, cond, List, [], ◌∷◌, ◌++◌, filter, fold, length, take, take_all, get_or, sum, refl, sym, ap, ◌∙◌, subst, append_assoc, arith}
+use Rattle.std.specs.List.{All, AllByRecursion, list_any, zip}
 use Rattle.std.specs.Map.{keys_of, values_of}
 use Rattle.std.proofs.lemmas.Bool.{eqb-true, eqb-false, ne_eqb, eq-eqb, or_parts, or_from, or_left, or_right, false_from_ne_true}
 use Rattle.std.proofs.lemmas.List.{take-map, length-take-le}
@@ -96,9 +96,9 @@ filter-put_news_all q (n ∷ news) es h = filter-put_news_all q news (put es n) 
 among_own : (front : List Cell) (news : List (Cell × ℕ)) → AllByRecursion (λ n. is_among (front ++ keys_of news) (unpinned n.0 n.1) ≡ true) news
 among_own front [] = tt
 among_own front (n ∷ news) = (
-    list_any-append (λ c. same_cell c n.0) front (n.0 ∷ keys_of news) ∙ or_right (list_any (λ c. same_cell c n.0) front) (list_any (λ c. same_cell c n.0) (n.0 ∷ keys_of news)) (or_left (same_cell n.0 n.0) (list_any (λ c. same_cell c n.0) (keys_of news)) (eq-eqb n.0.0 n.0.0 refl)),
-    subst (λ cells. AllByRecursion (λ m. is_among cells (unpinned m.0 m.1) ≡ true) news) (append_assoc front (n.0 ∷ []) (keys_of news)) (among_own (front ++ n.0 ∷ []) news)
-  )
+  list_any-append (λ c. same_cell c n.0) front (n.0 ∷ keys_of news) ∙ or_right (list_any (λ c. same_cell c n.0) front) (list_any (λ c. same_cell c n.0) (n.0 ∷ keys_of news)) (or_left (same_cell n.0 n.0) (list_any (λ c. same_cell c n.0) (keys_of news)) (eq-eqb n.0.0 n.0.0 refl)),
+  subst (λ cells. AllByRecursion (λ m. is_among cells (unpinned m.0 m.1) ≡ true) news) (append_assoc front (n.0 ∷ []) (keys_of news)) (among_own (front ++ n.0 ∷ []) news),
+)
 
 undone : (news : List (Cell × ℕ)) (es : List Entry) → All (λ c. has_entry es c ≡ false) (keys_of news) → without_all (keys_of news) (put_news es news) ≡ es
 undone news es absent = filter-put_news_none (is_among (keys_of news)) news es (among_own [] news) ∙ without_all-absent (keys_of news) es absent
@@ -119,10 +119,9 @@ apart_at : (cells : List Cell) (i : ℕ) (d : Cell) → AreDistinct cells → i 
 apart_at [] i d apart within = absurd (omega arith)
 apart_at (c ∷ cells) zero d apart within = tt
 apart_at (c ∷ cells) (suc i) d apart within =
-    let inside : i < length cells = omega arith in
-    (
+    let inside : i < length cells = omega arith in (
       flipped c (get_or cells i d) (All-get_or (λ k. same_cell c k ≡ false) cells i d inside (All-from_recursion (λ k. same_cell c k ≡ false) cells (IsDistinct-head same_cell c cells apart))),
-      apart_at cells i d (IsDistinct-tail same_cell c cells apart) inside
+      apart_at cells i d (IsDistinct-tail same_cell c cells apart) inside,
     )
 
 -- where the first i of them were put, the next one is still absent
@@ -140,9 +139,9 @@ differ es v k there absent = false_from_ne_true (same_cell v k) (λ same.
 apart_news : (vs : List Cell) (news : List (Cell × ℕ)) (es : List Entry) → All (λ v. has_entry es v ≡ true) vs → All (λ c. has_entry es c ≡ false) (keys_of news) → AllByRecursion (λ n. is_among vs (unpinned n.0 n.1) ≡ false) news
 apart_news vs [] es there absent = tt
 apart_news vs (n ∷ news) es there absent = (
-    list_any_none (λ v. same_cell v n.0) vs (All-weaker (λ v. has_entry es v ≡ true) (λ v. same_cell v n.0 ≡ false) (λ v h. differ es v n.0 h (All-head (λ c. has_entry es c ≡ false) n.0 (keys_of news) absent)) vs there),
-    apart_news vs news es there (All-tail (λ c. has_entry es c ≡ false) n.0 (keys_of news) absent)
-  )
+  list_any_none (λ v. same_cell v n.0) vs (All-weaker (λ v. has_entry es v ≡ true) (λ v. same_cell v n.0 ≡ false) (λ v h. differ es v n.0 h (All-head (λ c. has_entry es c ≡ false) n.0 (keys_of news) absent)) vs there),
+  apart_news vs news es there (All-tail (λ c. has_entry es c ≡ false) n.0 (keys_of news) absent),
+)
 
 -- cells that were there before can as well be taken out first
 pub without_all-put_all : (vs cells : List Cell) (bytes : List ℕ) (es : List Entry) → length cells ≡ length bytes → All (λ v. has_entry es v ≡ true) vs → All (λ c. has_entry es c ≡ false) cells → without_all vs (put_all cells bytes es) ≡ put_all cells bytes (without_all vs es)

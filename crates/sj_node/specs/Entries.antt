@@ -1,5 +1,5 @@
 -- The cache that keeps a node's entries, and what it shows of them.
-use Rattle.std.specs.Prelude.{ℕ, ◌≤◌, nat_eq, List, map, length}
+use Rattle.std.specs.Prelude.{ℕ, ◌≤◌, nat_eq, List, length}
 use Rattle.std.specs.List.{IsDistinct}
 use Rattle.std.specs.Map.{keys_of}
 use Rattle.lru.specs.LruCache.{LruCache}

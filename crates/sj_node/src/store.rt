@@ -81,7 +81,6 @@ impl NodeStore {
         cells: &[Cell],
         bytes: &[u64],
     ) -> Result<(), OutOfMemory>
-        requires victims_differ { AreDistinct victims.now }
         requires victims_there { All (λ c. IsTrue (has_entry self.old.entries c)) victims.now }
         requires victims_unpinned { All (λ c. pins_of self.old.entries c ≡ 0) victims.now }
         requires cells_differ { AreDistinct cells.now }

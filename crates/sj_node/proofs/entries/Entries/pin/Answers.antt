@@ -1,4 +1,4 @@
-use Rattle.std.proofs.Common.{◌≡◌, ℕ, ◌+◌, ◌-◌, ◌<◌, Option, Some, None, true, false, is_some, nat_eq, refl, sym, ap, ◌∙◌, arith}
+use Rattle.std.proofs.Common.{◌≡◌, ◌+◌, Some, None, true, false, is_some, nat_eq, refl, sym, ap, ◌∙◌, arith}
 use Rattle.std.specs.Map.{lookup}
 use Rattle.std.specs.Option.{option_copied_mut, option_map_or}
 use Rattle.sj_node.specs.Entry.{has_entry, pins_of}
@@ -23,10 +23,10 @@ invariant_of-self c = elim c.match-peek_mut.branch [
 pub returns : goal.returns
 returns c = elim c.match-peek_mut.branch [
   | in-Some w ↦
-        let found : lookup (nat_eq c.args.cell.0) c.self.inside.cache.entries ≡ Some w.in-Some.room.now = sym c.peek_mut.ensures.value ∙ ap option_copied_mut w.in-Some.is in
-        rw (w.self-inside-is, ← c.self.view_is) (ap (λ es. listed es c.self.inside.limit) (sym (repinned-shown c.args.cell (λ n. n + 1) c.self.inside.cache.entries w.in-Some.room.now _ c.self.invariant.distinct found refl refl)))
+      let found : lookup (nat_eq c.args.cell.0) c.self.inside.cache.entries ≡ Some w.in-Some.room.now = sym c.peek_mut.ensures.value ∙ ap option_copied_mut w.in-Some.is in
+      rw (w.self-inside-is, ← c.self.view_is) (ap (λ es. listed es c.self.inside.limit) (sym (repinned-shown c.args.cell (λ n. n + 1) c.self.inside.cache.entries w.in-Some.room.now _ c.self.invariant.distinct found refl refl)))
   | in_default w ↦
-        let none : lookup (nat_eq c.args.cell.0) c.self.inside.cache.entries ≡ None = sym c.peek_mut.ensures.value ∙ ap option_copied_mut w.in_default.is in
-        let there : true ≡ false = sym c.requires.present ∙ ap (λ (v : Listed). has_entry v.order c.args.cell) (sym c.self.view_is) ∙ has_entry-shown c.args.cell c.self.inside.cache.entries ∙ ap is_some none in
-        absurd (cc)
+      let none : lookup (nat_eq c.args.cell.0) c.self.inside.cache.entries ≡ None = sym c.peek_mut.ensures.value ∙ ap option_copied_mut w.in_default.is in
+      let there : true ≡ false = sym c.requires.present ∙ ap (λ (v : Listed). has_entry v.order c.args.cell) (sym c.self.view_is) ∙ has_entry-shown c.args.cell c.self.inside.cache.entries ∙ ap is_some none in
+      absurd (cc)
 ]

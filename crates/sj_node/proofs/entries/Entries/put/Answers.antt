@@ -1,9 +1,9 @@
-use Rattle.std.proofs.Common.{◌≡◌, ◌<◌, ℕ, ◌∷◌, false, is_some, nat_eq, map, length, sym, ap, ◌∙◌, subst, arith}
+use Rattle.std.proofs.Common.{◌≡◌, ◌<◌, ◌∷◌, false, is_some, nat_eq, map, length, sym, ap, ◌∙◌, arith}
 use Rattle.std.specs.Map.{lookup}
 use Rattle.std.proofs.lemmas.List.{length-map}
-use Rattle.lru.specs.LruCache.{LruCache, lru_cache}
+use Rattle.lru.specs.LruCache.{lru_cache}
 use Rattle.sj_node.specs.Entry.{has_entry}
-use Rattle.sj_node.specs.Entries.{Listed, listed, shown, IsListed}
+use Rattle.sj_node.specs.Entries.{Listed, shown}
 use Rattle.sj_node.proofs.Kept.{put_entries-absent, IsListed-put}
 use Rattle.sj_node.proofs.Shown.{has_entry-shown}
 use Rattle.sj_node.proofs.entries.Entries.put.Goals as goal

@@ -1,6 +1,6 @@
-use Rattle.std.proofs.Common.{◌≡◌, ◌+◌, ◌<◌, ℕ, true, false, Result, Ok, Err, OnOk, OnErr, is_err, length, take, sym, ap, ◌∙◌, arith}
+use Rattle.std.proofs.Common.{◌≡◌, true, false, Result, Ok, Err, OnOk, OnErr, is_err, take, sym, ap, ◌∙◌, arith}
 use Rattle.std.specs.List.{zip}
-use Rattle.sj_node.specs.Entries.{Listed, listed}
+use Rattle.sj_node.specs.Entries.{listed}
 use Rattle.sj_node.proofs.Putting.{next_absent, put_news-undone, put_news_more, put_news_all, length-put_news, length-take_zip}
 use Rattle.sj_node.proofs.entries.Entries.put_all.Goals as goal
 

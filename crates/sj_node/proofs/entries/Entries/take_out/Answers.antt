@@ -1,4 +1,4 @@
-use Rattle.std.proofs.Common.{◌≡◌, Some, None, sym, ap, ◌∙◌}
+use Rattle.std.proofs.Common.{Some, None, sym, ap, ◌∙◌}
 use Rattle.sj_node.specs.Entries.{listed}
 use Rattle.sj_node.proofs.Kept.{IsListed-removed}
 use Rattle.sj_node.proofs.Shown.{without-shown, total-removed}

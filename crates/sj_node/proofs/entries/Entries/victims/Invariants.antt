@@ -1,4 +1,4 @@
-use Rattle.std.proofs.Common.{ℕ, map, length}
+use Rattle.std.proofs.Common.{map, length}
 use Rattle.sj_node.specs.Entries.{shown}
 use Rattle.sj_node.proofs.Choosing.{IsSearch}
 use Rattle.sj_node.proofs.entries.Entries.victims.Given as goal

@@ -1,5 +1,3 @@
-use Rattle.std.proofs.Common.{ap, arith, ◌∙◌, sym}
-use Rattle.sj_node.specs.Entry.{total}
 use Rattle.sj_node.proofs.Putting.{total-to_front}
 use Rattle.sj_node.proofs.store.NodeStore.touch.Goals as goal
 
