@@ -7,6 +7,7 @@ pub mod keyed;
 pub mod memory;
 pub mod mode;
 pub mod program;
+pub mod roomy;
 pub mod sequence;
 #[cfg(test)]
 mod tests;

@@ -1,7 +1,9 @@
 //! A list whose contracts see nothing but its items.
 
-ghost use Rattle.std.specs.Prelude.{◌≡◌, ◌==◌, length};
+ghost use Rattle.std.specs.Prelude.{◌≡◌, ◌==◌, ◌++◌, ◌∷◌, [], length, OnOk, OnErr};
 
+use crate::memory::OutOfMemory;
+use std::alloc::Global;
 use std::marker::Model;
 
 /// A list of items in order. It takes no memory of its own: it is the `Vec` that it was made of.
@@ -52,5 +54,25 @@ impl<T> Sequence<T> {
         ensures { result ≡ (length self.now == 0) }
     {
         self.items.is_empty()
+    }
+}
+
+impl<T: Drop> Sequence<T> {
+    /// No item. Takes no memory.
+    pub fn empty(alloc: Global) -> Sequence<T>
+        ensures { result ≡ [] }
+    {
+        Sequence {
+            items: Vec::new(alloc),
+        }
+    }
+
+    /// Appends an item. Constant time, amortised.
+    pub fn push(&mut self, item: T) -> Result<(), OutOfMemory>
+        ensures ok { OnOk result (self.new ≡ self.old ++ item ∷ []) }
+        ensures err { OnErr result (self.new ≡ self.old) }
+    {
+        self.items.push(item)?;
+        Ok(())
     }
 }

@@ -1,9 +1,10 @@
 //! The events of a run, and the trace that lists them.
 
-ghost use Rattle.std.specs.Prelude.{◌≡◌, ◌+◌, ◌<◌, ◌≤◌, ◌++◌, ◌∷◌, [], length, slice_get, OnOk, OnErr, ◌==◌};
+ghost use Rattle.std.specs.Prelude.{◌≡◌, ◌+◌, ◌<◌, ◌++◌, ◌∷◌, [], length, max, slice_get, OnOk, OnErr, ◌==◌};
 
 use crate::ids::{Cell, Node, Place, Task, Worker};
 use crate::memory::OutOfMemory;
+use crate::roomy::Roomy;
 use std::alloc::Global;
 use std::marker::Model;
 
@@ -27,21 +28,15 @@ pub enum Event {
 /// The events of a run in order, with room for some more.
 #[derive(Debug, Drop)]
 pub struct Trace {
-    events: Vec<Event>,
-    /// For how many more events the `Vec` has capacity at least.
-    room: u64,
+    events: Roomy<Event>,
 }
 
 impl Model for Trace {
-    ghost use Rattle.std.specs.Prelude.{◌+◌, ◌≤◌};
-    ghost use Rattle.std.specs.Vec.{vec_len, vec_capacity};
     ghost use Rattle.sj_base.specs.Recorded.{Recorded, recorded};
 
     ghost Value = { Recorded };
 
-    ghost view = { λ t. recorded t.events.items t.room };
-
-    ghost invariant = { λ t. vec_len t.events + t.room ≤ vec_capacity t.events };
+    ghost view = { λ t. recorded t.events.items t.events.spare };
 }
 
 impl Trace {
@@ -51,20 +46,19 @@ impl Trace {
         ensures room { result.spare ≡ 0 }
     {
         Trace {
-            events: Vec::new(alloc),
-            room: 0,
+            events: Roomy::empty(alloc),
         }
     }
 
-    /// Makes room for exactly so many more events. Linear in the events where it has to move them.
+    /// Makes room for at least so many more events; the room that there was stays. No memory where there was as much.
+    /// Linear in the events where it has to move them.
     pub fn reserve(&mut self, more: u64) -> Result<(), OutOfMemory>
         ensures events { self.new.events ≡ self.old.events }
-        ensures room { OnOk result (self.new.spare ≡ more) }
+        ensures room { OnOk result (self.new.spare ≡ max self.old.spare more) }
         ensures err { OnErr result (self.new ≡ self.old) }
+        ensures only_where_wanting { OnErr result (self.old.spare < more) }
     {
-        self.events.reserve(more as usize)?;
-        self.room = more;
-        Ok(())
+        self.events.reserve(more)
     }
 
     /// Appends an event. Constant time, and no memory.
@@ -73,8 +67,7 @@ impl Trace {
         ensures events { self.new.events ≡ self.old.events ++ event ∷ [] }
         ensures room { self.new.spare + 1 ≡ self.old.spare }
     {
-        let _ = self.events.push(event);
-        self.room -= 1;
+        self.events.push(event);
     }
 
     /// How many events there are. Constant time.
@@ -96,6 +89,6 @@ impl Trace {
         requires { i < length self.now.events }
         ensures { slice_get self.now.events i ≡ Some result }
     {
-        self.events[i]
+        *self.events.get(i)
     }
 }

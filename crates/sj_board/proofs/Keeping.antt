@@ -122,7 +122,7 @@ module _ (b : Standing) (first : ℕ) (hand : Option Task) (gift : Option Array)
           absurd (false≢true (sym (idle-at w b.tasks idle u.0) ∙ ap (λ (y : Worker). is_task_of y (progress_of b u)) (sym same) ∙ e))
 
   -- a claim
-  module _ (t : Task) (w : Worker) (worker : w.0 < b.program.workers) (can : CanBeClaimed b t) (idle : IsIdle b w) (trace : Recorded) (delivered : Deliveries) (events : trace.events ≡ b.trace ++ Claim t w ∷ []) (left : trace.spare + 1 ≡ 3) (pairs : delivered.pairs ≡ b.delivered) (one_left : delivered.spare ≡ 1) where
+  module _ (t : Task) (w : Worker) (worker : w.0 < b.program.workers) (can : CanBeClaimed b t) (idle : IsIdle b w) (trace : Recorded) (delivered : Deliveries) (events : trace.events ≡ b.trace ++ Claim t w ∷ []) (left : 3 ≤ trace.spare + 1) (pairs : delivered.pairs ≡ b.delivered) (one_left : 1 ≤ delivered.spare) where
     in_table : t.0 < length b.tasks
     in_table = subst (λ (n : ℕ). t.0 < n) (sym keeps.every_task) can.ready.task
 

@@ -1,9 +1,10 @@
 //! The arrays that deliver tasks handed over.
 
-ghost use Rattle.std.specs.Prelude.{◌≡◌, ◌==◌, ◌+◌, ◌<◌, ◌++◌, ◌∷◌, [], length, slice_get, Some, OnOk, OnErr, option_map};
+ghost use Rattle.std.specs.Prelude.{◌≡◌, ◌==◌, ◌+◌, ◌<◌, ◌++◌, ◌∷◌, [], length, max, slice_get, Some, OnOk, OnErr, option_map};
 
 use sj_base::ids::Task;
 use sj_base::memory::OutOfMemory;
+use sj_base::roomy::Roomy;
 use sj_base::tile::Tile;
 use std::alloc::Global;
 use std::marker::Model;
@@ -19,21 +20,16 @@ pub struct Handed {
 /// The arrays that were handed over, in the order in which their tasks ended, with room for some more.
 #[derive(Debug, Drop)]
 pub struct Delivered {
-    pairs: Vec<Handed>,
-    /// For how many more the `Vec` has capacity at least.
-    room: u64,
+    pairs: Roomy<Handed>,
 }
 
 impl Model for Delivered {
-    ghost use Rattle.std.specs.Prelude.{◌+◌, ◌≤◌, map};
-    ghost use Rattle.std.specs.Vec.{vec_len, vec_capacity};
+    ghost use Rattle.std.specs.Prelude.{map};
     ghost use Rattle.sj_board.specs.Delivered.{Deliveries, deliveries, pair_of};
 
     ghost Value = { Deliveries };
 
-    ghost view = { λ d. deliveries (map pair_of d.pairs.items) d.room };
-
-    ghost invariant = { λ d. vec_len d.pairs + d.room ≤ vec_capacity d.pairs };
+    ghost view = { λ d. deliveries (map pair_of d.pairs.items) d.pairs.spare };
 }
 
 impl Delivered {
@@ -43,20 +39,19 @@ impl Delivered {
         ensures room { result.spare ≡ 0 }
     {
         Delivered {
-            pairs: Vec::new(alloc),
-            room: 0,
+            pairs: Roomy::empty(alloc),
         }
     }
 
-    /// Makes room for exactly so many more. Linear in what is there where it has to be moved.
+    /// Makes room for at least so many more; the room that there was stays. No memory where there was as much. Linear in
+    /// what is there where it has to be moved.
     pub fn reserve(&mut self, more: u64) -> Result<(), OutOfMemory>
         ensures pairs { self.new.pairs ≡ self.old.pairs }
-        ensures room { OnOk result (self.new.spare ≡ more) }
+        ensures room { OnOk result (self.new.spare ≡ max self.old.spare more) }
         ensures err { OnErr result (self.new ≡ self.old) }
+        ensures only_where_wanting { OnErr result (self.old.spare < more) }
     {
-        self.pairs.reserve(more as usize)?;
-        self.room = more;
-        Ok(())
+        self.pairs.reserve(more)
     }
 
     /// Appends a task and what it handed over. Constant time, and no memory.
@@ -65,8 +60,7 @@ impl Delivered {
         ensures pairs { self.new.pairs ≡ self.old.pairs ++ (task, tile.value) ∷ [] }
         ensures room { self.new.spare + 1 ≡ self.old.spare }
     {
-        let _ = self.pairs.push(Handed { task, tile });
-        self.room -= 1;
+        self.pairs.push(Handed { task, tile });
     }
 
     /// How many there are. Constant time.
@@ -88,7 +82,7 @@ impl Delivered {
         requires { i < length self.now.pairs }
         ensures { option_map (λ pair. pair.0) (slice_get self.now.pairs i) ≡ Some result }
     {
-        self.pairs[i].task
+        self.pairs.get(i).task
     }
 
     /// What the task at a place handed over. Constant time.
@@ -96,6 +90,6 @@ impl Delivered {
         requires { i < length self.now.pairs }
         ensures { option_map (λ pair. pair.1) (slice_get self.now.pairs i) ≡ Some result.now }
     {
-        &self.pairs[i].tile
+        &self.pairs.get(i).tile
     }
 }

@@ -1,8 +1,9 @@
 -- The equation of each codelet: its new elements, from the elements before.
-use Rattle.std.specs.Prelude.{ℕ, zero, suc, ◌+◌, ◌-◌, Bool, ◌&&◌, nat_le, nat_lt, ℤ, pos, ◌+ℤ◌, ◌-ℤ◌, ◌*ℤ◌, List, length, if◌then◌else◌}
+use Rattle.std.specs.Prelude.{ℕ, zero, suc, ℤ, pos, ◌+ℤ◌, ◌-ℤ◌, ◌*ℤ◌, List, length}
 use Rattle.std.specs.Int.{int_min}
 use Rattle.sj_base.specs.declared.tile.Dims.{Dims}
 use Rattle.sj_base.specs.Array.{Array, array, area, at, element, each, grid}
+use Rattle.sj_base.specs.Window.{pasted}
 use Rattle.sj_codelet.specs.declared.window.Window.{Window}
 use Rattle.sj_codelet.specs.Ring.{wrap, sum_below}
 use Rattle.sj_codelet.specs.MinPlus.{inf, plus, least_below}
@@ -92,14 +93,10 @@ abbrev pub loadfill : ℤ → ℤ → ℤ → ℤ → ℤ → Array → Array
 loadfill a b r0 c0 cols x =
     grid x.dims (λ i j. wrap (a +ℤ (b *ℤ (((r0 +ℤ pos i) *ℤ cols) +ℤ (c0 +ℤ pos j)))))
 
-abbrev pub is_within : ℕ → ℕ → ℕ → Bool
-is_within i first len = nat_le first i && nat_lt i (first + len)
-
--- the elements of the window from the old array, the others from the new one
+-- the new array with the window's elements of the old one
 abbrev pub paste : Window → Array → Array → Array
 paste w old new =
-    grid new.dims (λ i j. if is_within i w.new_row w.rows && is_within j w.new_col w.cols
-    then element old (w.old_row + (i - w.new_row)) (w.old_col + (j - w.new_col)) else element new i j)
+    pasted old (w.old_row, w.old_col) (record { rows = w.rows; cols = w.cols }) new (w.new_row, w.new_col)
 
 abbrev pub all_inf : Dims → Array
 all_inf d = each d (λ p. inf)

@@ -6,6 +6,7 @@ ghost use Rattle.sj_codelet.specs.Frame.{frame, shared, own, ends_owned};
 ghost use Rattle.sj_codelet.specs.Slot.{slot_of};
 
 use sj_base::memory::OutOfMemory;
+use sj_base::roomy::Roomy;
 use sj_base::tile::Tile;
 use std::alloc::Global;
 use std::marker::Model;
@@ -33,22 +34,17 @@ impl Operand {
 /// A task's operands in order, with room for some more.
 #[derive(Debug, Drop)]
 pub struct Frame {
-    operands: Vec<Operand>,
-    /// For how many more operands the `Vec` has capacity at least.
-    room: u64,
+    operands: Roomy<Operand>,
 }
 
 impl Model for Frame {
-    ghost use Rattle.std.specs.Prelude.{◌+◌, ◌≤◌, ◌<◌, ◌^◌, map};
-    ghost use Rattle.std.specs.Vec.{vec_len, vec_capacity};
+    ghost use Rattle.std.specs.Prelude.{map};
     ghost use Rattle.sj_codelet.specs.Frame.{Frame, frame};
     ghost use Rattle.sj_codelet.specs.Slot.{slot_of};
 
     ghost Value = { Frame };
 
-    ghost view = { λ f. frame (map slot_of f.operands.items) f.room };
-
-    ghost invariant = { λ f. (vec_len f.operands + f.room ≤ vec_capacity f.operands) × (vec_capacity f.operands < 2 ^ 63) };
+    ghost view = { λ f. frame (map slot_of f.operands.items) f.operands.spare };
 }
 
 impl Frame {
@@ -56,11 +52,8 @@ impl Frame {
     pub fn with_room(alloc: Global, n: u8) -> Result<Frame, OutOfMemory>
         ensures { IfOk result (λ f. f ≡ frame [] n) }
     {
-        let operands = Vec::with_capacity(alloc, n as usize)?;
-        Ok(Frame {
-            operands,
-            room: n as u64,
-        })
+        let operands = Roomy::with_room(alloc, n as u64)?;
+        Ok(Frame { operands })
     }
 
     /// Appends a tile that others may read too. Constant time, and no memory.
@@ -87,8 +80,7 @@ impl Frame {
         ensures slots { self.new.slots ≡ self.old.slots ++ slot_of operand ∷ [] }
         ensures room { self.new.spare + 1 ≡ self.old.spare }
     {
-        let _ = self.operands.push(operand);
-        self.room -= 1;
+        self.operands.push(operand);
     }
 
     /// How many operands there are. Constant time.
@@ -110,7 +102,7 @@ impl Frame {
         requires { i < length self.now.slots }
         ensures { result.now ≡ (slice_index_or self.now.slots i (own result.now)).array }
     {
-        self.operands[i].tile()
+        self.operands.get(i).tile()
     }
 
     /// Takes the last operand away. Constant time, and no memory.
@@ -119,8 +111,7 @@ impl Frame {
         ensures slots { self.old.slots ≡ self.new.slots ++ slot_of result ∷ [] }
         ensures room { self.new.spare ≡ self.old.spare + 1 }
     {
-        self.room += 1;
-        self.operands.pop().unwrap()
+        self.operands.pop()
     }
 
     /// Takes the last operand away, one of the task's own. Constant time, and no memory.

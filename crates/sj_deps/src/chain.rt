@@ -3,10 +3,10 @@
 ghost use Rattle.std.specs.Prelude.{◌≡◌, ◌+◌, ◌<◌, ◌≤◌, ◌&&◌, ◌==◌, ℕ, All, IfOk, OnErr, length, vec_capacity, count_by, nat_lt, slice_set, ◌-◌, min};
 ghost use Rattle.sj_deps.specs.Chains.{joins, no_chain, joins_last, waits_of, is_task, left_from, Pushes, IsRun, Releases, Finishes};
 
-use crate::listing::Listing;
 use crate::manner::Manner;
 use sj_base::ids::Task;
 use sj_base::memory::OutOfMemory;
+use sj_base::sequence::Sequence;
 use std::alloc::Global;
 
 /// A task that accesses the cell, and how.
@@ -20,7 +20,7 @@ pub struct Member {
 /// accesses don't conflict: readers, one commuting group, one reduction phase, or one writer.
 #[derive(Drop)]
 pub struct Chain {
-    pub members: Listing<Member>,
+    pub members: Sequence<Member>,
     /// How many accesses may begin or have begun: whole runs, and all of them but the last are finished.
     pub released: usize,
     /// How many of these are finished.
@@ -110,7 +110,7 @@ impl Chain {
         ensures { result ≡ no_chain }
     {
         Chain {
-            members: Listing::empty(alloc),
+            members: Sequence::empty(alloc),
             released: 0,
             finished: 0,
         }

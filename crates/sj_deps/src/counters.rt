@@ -6,11 +6,11 @@ ghost use Rattle.sj_deps.specs.Conflict.{HasDependencies};
 
 use crate::chain::Chain;
 use crate::entry::enter_tasks;
-use crate::listing::Listing;
 use crate::settle::settle;
 use sj_base::ids::Task;
 use sj_base::memory::OutOfMemory;
 use sj_base::program::Program;
+use sj_base::sequence::Sequence;
 use std::alloc::Global;
 
 /// What is counted of a program's tasks.
@@ -19,7 +19,7 @@ pub struct Counters {
     /// The accesses to each cell.
     pub chains: Vec<Chain>,
     /// The cells of each task.
-    pub cells: Vec<Listing<usize>>,
+    pub cells: Vec<Sequence<usize>>,
     /// How many accesses of each task wait for earlier ones.
     pub waits: Vec<usize>,
     /// Which tasks are done.

@@ -7,12 +7,12 @@ ghost use Rattle.sj_deps.specs.Chains.{no_chain, chain_at, members_at, waits_of}
 ghost use Rattle.sj_deps.specs.Counts.{Entering, Built, Appends, ends_with, usage_at};
 
 use crate::chain::{Chain, Member};
-use crate::listing::Listing;
 use crate::manner::Usage;
 use crate::usages::usages_of_task;
 use sj_base::ids::Task;
 use sj_base::memory::OutOfMemory;
 use sj_base::program::Program;
+use sj_base::sequence::Sequence;
 use std::alloc::Global;
 
 /// The accesses of a program, none of them finished.
@@ -21,7 +21,7 @@ pub struct Entered {
     /// The accesses to each cell.
     pub chains: Vec<Chain>,
     /// The cells of each task.
-    pub cells: Vec<Listing<usize>>,
+    pub cells: Vec<Sequence<usize>>,
     /// How many accesses of each task wait for earlier ones.
     pub waits: Vec<usize>,
 }
@@ -53,12 +53,12 @@ fn empty_chains(alloc: Global, count: usize) -> Result<Vec<Chain>, OutOfMemory>
     Ok(chains)
 }
 
-fn empty_lists(alloc: Global, count: usize) -> Result<Vec<Listing<usize>>, OutOfMemory>
+fn empty_lists(alloc: Global, count: usize) -> Result<Vec<Sequence<usize>>, OutOfMemory>
     ensures { IfOk result (λ v. v.items ≡ replicate count []) }
 {
     let mut lists = Vec::with_capacity(alloc, count)?;
     for _ in 0..count {
-        lists.push(Listing::empty(alloc))?;
+        lists.push(Sequence::empty(alloc))?;
     }
     Ok(lists)
 }

@@ -6,7 +6,6 @@ mod chain;
 mod counters;
 pub mod deps;
 mod entry;
-mod listing;
 pub mod manner;
 mod settle;
 #[cfg(test)]

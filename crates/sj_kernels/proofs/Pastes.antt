@@ -6,8 +6,9 @@ use Rattle.std.proofs.lemmas.Bool.{cases_lt}
 use Rattle.std.proofs.lemmas.Bool.Decides.{nat_tests}
 use borrow.Rule.Slice.PartMut.{put_mid}
 use Rattle.sj_base.specs.Array.{Array, area, at, element}
+use Rattle.sj_base.specs.Window.{is_within}
 use Rattle.sj_codelet.specs.declared.window.Window.{Window}
-use Rattle.sj_codelet.specs.Equations.{is_within, paste}
+use Rattle.sj_codelet.specs.Equations.{paste}
 use Rattle.sj_codelet.specs.Listing.{listing}
 use Rattle.sj_codelet.proofs.Filling.{listing_from_elements, at-listing}
 

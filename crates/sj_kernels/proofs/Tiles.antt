@@ -7,11 +7,12 @@ use Rattle.sj_base.specs.Array.{Array, array, area, at, each}
 use Rattle.sj_base.specs.Lending.{with_elements}
 use Rattle.sj_codelet.specs.declared.kernel.Kernel.TheVariants.{GemmThree}
 use Rattle.sj_codelet.specs.declared.formal.Formal.TheVariants.{R, RW, Scratch}
+use Rattle.sj_codelet.specs.declared.window.Window.{Window}
 use Rattle.sj_codelet.specs.Ring.{wrap, sum_below}
 use Rattle.sj_codelet.specs.Frame.{Slot, Frame, own, arrays, all_dims, written, AllKeep}
 use Rattle.sj_codelet.specs.Kernel.{new_arrays, operand, dims_at}
 use Rattle.sj_codelet.specs.Runs.{IsReadyOf, IsRunOf}
-use Rattle.sj_codelet.specs.Equations.{vector, matrix, axpy, dot, gemm3, loadfill}
+use Rattle.sj_codelet.specs.Equations.{vector, matrix, axpy, dot, gemm3, loadfill, paste}
 use Rattle.sj_codelet.proofs.Operands.{each_of_elements, with_all, operands_are, dims_go, dims_at-all_dims}
 use Rattle.std.proofs.lemmas.List.FromFn.{length-map-range_with_len}
 use Rattle.std.proofs.lemmas.Bool.Decides.{nat_tests}
@@ -97,3 +98,12 @@ loadfill_on_tile args x xs new d ex ed whole f0 f1 f2 f3 f4 e =
     ∙ ap (λ (z : ℤ). v (at args 0) (at args 1) (at args 2) (at args 3) z) (to_z-of_z w64 (at args 4) f4) in
     let long : length (v (at args 0) (at args 1) (at args 2) (at args 3) (at args 4)) ≡ length x.elements = length-map-range_with_len _ 0 (area x.dims) ∙ sym whole in
     ap (λ (zs : List ℤ). with_elements x zs) same ∙ with_all x (v (at args 0) (at args 1) (at args 2) (at args 3) (at args 4)) long
+
+pub paste_on_tiles : (w v : Window) (x y : Array) (xs ys new : List ℤ) (d e : Dims) → w ≡ v → d ≡ x.dims → xs ≡ x.elements → e ≡ y.dims → ys ≡ y.elements → length y.elements ≡ area y.dims
+    → new ≡ (paste w (array d xs) (array e ys)).elements → with_elements y new ≡ paste v x y
+paste_on_tiles w v x y xs ys new d e ew ed ex ee ey whole is =
+    let same : new ≡ (paste v x y).elements =
+    is ∙ ap (λ (u : Window). (paste u (array d xs) (array e ys)).elements) ew ∙ ap (λ (q : Dims). (paste v (array q xs) (array e ys)).elements) ed ∙ ap (λ (zs : List ℤ). (paste v (array x.dims zs) (array e ys)).elements) ex
+    ∙ ap (λ (q : Dims). (paste v x (array q ys)).elements) ee ∙ ap (λ (zs : List ℤ). (paste v x (array y.dims zs)).elements) ey in
+    let long : length (paste v x y).elements ≡ length y.elements = length-map-range_with_len _ 0 (area y.dims) ∙ sym whole in
+    ap (λ (zs : List ℤ). with_elements y zs) same ∙ with_all y (paste v x y).elements long

@@ -3,12 +3,12 @@ use Rattle.std.proofs.Common.{◌≡◌, ℕ, ℤ, ◌+◌, ◌-◌, ◌<◌, Bo
 use Rattle.std.specs.List.{fold, list_any}
 use Rattle.std.proofs.lemmas.Bool.{cond-true}
 use Rattle.sj_base.specs.declared.tile.Dims.{Dims}
-use Rattle.sj_base.specs.Array.{Array}
+use Rattle.sj_base.specs.Array.{Array, element}
 use Rattle.sj_plan.specs.declared.parts.Parts.{Parts}
 use Rattle.sj_plan.specs.declared.rect.Rect.{Rect}
 use Rattle.sj_plan.specs.Parts.{Fits, places}
 use Rattle.sj_plan.specs.Rect.{holds, child, children_of}
-use Rattle.sj_plan.specs.Window.{element, window, with_window, IsWhole, Reassemble}
+use Rattle.sj_plan.specs.Window.{window, with_window, IsWhole, Reassemble}
 use Rattle.sj_plan.proofs.Lists.{any-map, any-places}
 use Rattle.sj_plan.proofs.Splitting.{held}
 use Rattle.sj_plan.proofs.Windows.{written, element-with_window, element-window, holds-true, Holds-from_true, IsWhole-tabulate, same_arrays}
@@ -30,7 +30,8 @@ element-put_back : (a b : Array) (r : Rect) (i j : ℕ) → i < b.dims.rows → 
 element-put_back a b r i j in_rows in_cols =
     element-with_window b r (window a r) i j in_rows in_cols ∙ cond_same (holds r i j) _ (element a i j) (element b i j) (λ t.
     let h = Holds-from_true r i j t in
-    element-window a r (i - r.row) (j - r.col) (omega (arith, h.0.0, h.0.1)) (omega (arith, h.1.0, h.1.1)) ∙ ap (λ n. element a n (r.col + (j - r.col))) (omega (arith, h.0.0)) ∙ ap (λ n. element a i n) (omega (arith, h.1.0)))
+    ap (λ n. element (window a r) n (0 + (j - r.col))) (omega arith) ∙ ap (λ n. element (window a r) (i - r.row) n) (omega arith)
+    ∙ element-window a r (i - r.row) (j - r.col) (omega (arith, h.0.0, h.0.1)) (omega (arith, h.1.0, h.1.1)) ∙ ap (λ n. element a n (r.col + (j - r.col))) (omega (arith, h.0.0)) ∙ ap (λ n. element a i n) (omega (arith, h.1.0)))
 
 dims-put_back : (a : Array) (rs : List Rect) (b : Array) → (fold (put_back a) b rs).dims ≡ b.dims
 dims-put_back a [] b = refl

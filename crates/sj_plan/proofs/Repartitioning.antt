@@ -1,23 +1,23 @@
 -- The pastes of two plans, applied in order to the old plan's children, make the new plan's.
-use Rattle.std.proofs.Common.{◌≡◌, ℕ, ℤ, ◌+◌, ◌-◌, ◌<◌, ◌≤◌, Bool, true, false, cond, ◌&&◌, ◌||◌, eqb, ltb, List, [], ◌∷◌, map, sym, ap, refl, ◌∙◌, subst, arith}
+use Rattle.std.proofs.Common.{◌≡◌, ℕ, ℤ, pos, ◌+◌, ◌-◌, ◌<◌, ◌≤◌, Bool, true, false, cond, ◌&&◌, ◌||◌, eqb, ltb, List, [], ◌∷◌, map, sym, ap, refl, ◌∙◌, subst, arith}
 use Rattle.std.specs.List.{All, Any, AllByRecursion, flat_map, list_any}
 use Rattle.std.proofs.lemmas.Bool.{lt-ltb, ltb-true, and_from, and_parts, eqb-true, eq-eqb, cond-true}
 use Rattle.std.proofs.lemmas.List.Elements.{All-from_recursion}
 use Rattle.std.proofs.lemmas.List.Folds.{Any-from_list_any}
 use Rattle.sj_base.specs.declared.tile.Dims.{Dims}
-use Rattle.sj_base.specs.Array.{Array}
+use Rattle.sj_base.specs.Array.{Array, element}
+use Rattle.sj_base.proofs.Tables.{item-table, length-table}
 use Rattle.sj_plan.specs.declared.interval.Interval.{Interval}
 use Rattle.sj_plan.specs.declared.parts.Parts.{Parts}
 use Rattle.sj_plan.specs.declared.paste.Paste.{Paste}
-use Rattle.sj_plan.specs.declared.rect.Rect.{Rect}
 use Rattle.sj_plan.specs.Interval.{Lies, part_first, shared}
 use Rattle.sj_plan.specs.Parts.{Fits, IsPlace, places}
-use Rattle.sj_plan.specs.Rect.{holds, rows_of, cols_of, child, Overlap}
-use Rattle.sj_plan.specs.Window.{element, dims_of, window, with_window, IsWhole}
-use Rattle.sj_plan.specs.Paste.{paste_at, overlaps, pastes_of, from_rect, to_rect, Children, after_paste, after_pastes, children_in, Repartition, IsBetween, Joins}
+use Rattle.sj_plan.specs.Rect.{holds, rows_of, cols_of, child, Overlap, dims_of}
+use Rattle.sj_plan.specs.Window.{window, IsWhole}
+use Rattle.sj_plan.specs.Paste.{paste_at, overlaps, pasted, pastes_of, to_rect, Children, after_paste, after_pastes, children_in, Repartition, IsBetween, Joins}
 use Rattle.sj_plan.proofs.Lists.{each-map, each-flat_map, each-filter, each-places, any-map, any-flat_map, any-filter, any-places}
 use Rattle.sj_plan.proofs.Splitting.{held, part_end}
-use Rattle.sj_plan.proofs.Windows.{element-with_window, element-window, holds-true, Holds-from_true, IsWhole-tabulate, same_arrays}
+use Rattle.sj_plan.proofs.Windows.{element-window, holds-true, Holds-from_true, IsWhole-tabulate, same_arrays}
 
 -- the paste writes element (i, j) of a child
 abbrev covers : Paste → ℕ × ℕ → ℕ → ℕ → Bool
@@ -26,24 +26,28 @@ covers p place i j = (eqb place.0 p.to.0 && eqb place.1 p.to.1) && holds (to_rec
 -- if it does, then it writes the wanted element
 abbrev Right : Children → ℤ → ℕ × ℕ → ℕ → ℕ → Paste → Type 0
 Right old target place i j p =
-    covers p place i j ≡ true → element (window (old p.from) (from_rect p)) (i - p.at_to.0) (j - p.at_to.1) ≡ target
+    covers p place i j ≡ true → element (old p.from) (p.at_from.0 + (i - p.at_to.0)) (p.at_from.1 + (j - p.at_to.1)) ≡ target
 
 cond_right : (t : Bool) (x target e : ℤ) → (t ≡ true → x ≡ target) → cond t x e ≡ cond t target e
 cond_right true x target e h = h refl
 cond_right false x target e h = refl
 
-one_paste : (t : Bool) (new : Array) (r : Rect) (w : Array) (i j : ℕ) (target : ℤ) → i < new.dims.rows → j < new.dims.cols → ((t && holds r i j) ≡ true → element w (i - r.row) (j - r.col) ≡ target) → element (cond t (with_window new r w) new) i j ≡ cond (t && holds r i j) target (element new i j)
-one_paste true new r w i j target in_rows in_cols right =
-    element-with_window new r w i j in_rows in_cols ∙ cond_right (holds r i j) _ target _ right
-one_paste false new r w i j target in_rows in_cols right = refl
+abbrev left_by : Paste → Array → Array → ℕ → ℕ → ℤ
+left_by p old new i j =
+    cond (holds (to_rect p) i j) (element old (p.at_from.0 + (i - p.at_to.0)) (p.at_from.1 + (j - p.at_to.1))) (element new i j)
 
-dims-paste : (t : Bool) (new : Array) (r : Rect) (w : Array) → (cond t (with_window new r w) new).dims ≡ new.dims
-dims-paste true new r w = refl
-dims-paste false new r w = refl
+one_paste : (t : Bool) (p : Paste) (old new : Array) (i j : ℕ) (target : ℤ) → i < new.dims.rows → j < new.dims.cols → ((t && holds (to_rect p) i j) ≡ true → element old (p.at_from.0 + (i - p.at_to.0)) (p.at_from.1 + (j - p.at_to.1)) ≡ target) → element (cond t (pasted p old new) new) i j ≡ cond (t && holds (to_rect p) i j) target (element new i j)
+one_paste true p old new i j target in_rows in_cols right =
+    item-table (pos 0) new.dims (left_by p old new) i j in_rows in_cols ∙ cond_right (holds (to_rect p) i j) _ target _ right
+one_paste false p old new i j target in_rows in_cols right = refl
 
-IsWhole-paste : (t : Bool) (new : Array) (r : Rect) (w : Array) → IsWhole new → IsWhole (cond t (with_window new r w) new)
-IsWhole-paste true new r w whole = IsWhole-tabulate new.dims (λ i j. cond (holds r i j) (element w (i - r.row) (j - r.col)) (element new i j))
-IsWhole-paste false new r w whole = whole
+dims-paste : (t : Bool) (p : Paste) (old new : Array) → (cond t (pasted p old new) new).dims ≡ new.dims
+dims-paste true p old new = refl
+dims-paste false p old new = refl
+
+IsWhole-paste : (t : Bool) (p : Paste) (old new : Array) → IsWhole new → IsWhole (cond t (pasted p old new) new)
+IsWhole-paste true p old new whole = length-table new.dims (left_by p old new)
+IsWhole-paste false p old new whole = whole
 
 cond_twice : (s t : Bool) (x e : ℤ) → cond t x (cond s x e) ≡ cond (s || t) x e
 cond_twice true true x e = refl
@@ -54,22 +58,21 @@ cond_twice false false x e = refl
 dims-pastes : (old : Children) (place : ℕ × ℕ) (ps : List Paste) (new : Children) → (after_pastes old new ps place).dims ≡ (new place).dims
 dims-pastes old place [] new = refl
 dims-pastes old place (p ∷ ps) new =
-    dims-pastes old place ps (after_paste old new p) ∙ dims-paste (eqb place.0 p.to.0 && eqb place.1 p.to.1) (new place) (to_rect p) (window (old p.from) (from_rect p))
+    dims-pastes old place ps (after_paste old new p) ∙ dims-paste (eqb place.0 p.to.0 && eqb place.1 p.to.1) p (old p.from) (new place)
 
 IsWhole-pastes : (old : Children) (place : ℕ × ℕ) (ps : List Paste) (new : Children) → IsWhole (new place) → IsWhole (after_pastes old new ps place)
 IsWhole-pastes old place [] new whole = whole
 IsWhole-pastes old place (p ∷ ps) new whole =
-    IsWhole-pastes old place ps (after_paste old new p) (IsWhole-paste (eqb place.0 p.to.0 && eqb place.1 p.to.1) (new place) (to_rect p) (window (old p.from) (from_rect p)) whole)
+    IsWhole-pastes old place ps (after_paste old new p) (IsWhole-paste (eqb place.0 p.to.0 && eqb place.1 p.to.1) p (old p.from) (new place) whole)
 
 -- after right pastes an element is the wanted one, if some paste writes it
 element-pastes : (old : Children) (target : ℤ) (place : ℕ × ℕ) (i j : ℕ) (ps : List Paste) → AllByRecursion (Right old target place i j) ps → (new : Children) → i < (new place).dims.rows → j < (new place).dims.cols → element (after_pastes old new ps place) i j ≡ cond (list_any (λ p. covers p place i j) ps) target (element (new place) i j)
 element-pastes old target place i j [] right new in_rows in_cols = refl
 element-pastes old target place i j (p ∷ ps) right new in_rows in_cols =
     let t = eqb place.0 p.to.0 && eqb place.1 p.to.1 in
-    let w = window (old p.from) (from_rect p) in
-    let same = dims-paste t (new place) (to_rect p) w in
+    let same = dims-paste t p (old p.from) (new place) in
     let rest = element-pastes old target place i j ps right.1 (after_paste old new p) (omega (arith, ap (λ (d : Dims). d.rows) same)) (omega (arith, ap (λ (d : Dims). d.cols) same)) in
-    let here = one_paste t (new place) (to_rect p) w i j target in_rows in_cols right.0 in
+    let here = one_paste t p (old p.from) (new place) i j target in_rows in_cols right.0 in
     rest ∙ ap (λ e. cond (list_any (λ p. covers p place i j) ps) target e) here ∙ cond_twice (covers p place i j) (list_any (λ p. covers p place i j) ps) target (element (new place) i j)
 
 -- an index of what two intervals share, in the coordinates of each
@@ -92,7 +95,7 @@ paste_at-right d old new a place i j from to covered =
     let col = ap (part_first d.cols new.c) (eqb-true place.1 to.1 at_place.1) in
     let u = i - p.at_to.0 in
     let v = j - p.at_to.1 in
-    element-window (window a o) (from_rect p) u v (omega (arith, inside.0.0, inside.0.1)) (omega (arith, inside.1.0, inside.1.1)) ∙ element-window a o (p.at_from.0 + u) (p.at_from.1 + v) (shared-inside (rows_of o) (rows_of n) i inside.0.0 inside.0.1) (shared-inside (cols_of o) (cols_of n) j inside.1.0 inside.1.1) ∙ ap (λ x. element a x (o.col + (p.at_from.1 + v))) (shared-same (rows_of o) (rows_of n) i _ row inside.0.0) ∙ ap (λ y. element a ((child d new place).row + i) y) (shared-same (cols_of o) (cols_of n) j _ col inside.1.0)
+    element-window a o (p.at_from.0 + u) (p.at_from.1 + v) (shared-inside (rows_of o) (rows_of n) i inside.0.0 inside.0.1) (shared-inside (cols_of o) (cols_of n) j inside.1.0 inside.1.1) ∙ ap (λ x. element a x (o.col + (p.at_from.1 + v))) (shared-same (rows_of o) (rows_of n) i _ row inside.0.0) ∙ ap (λ y. element a ((child d new place).row + i) y) (shared-same (cols_of o) (cols_of n) j _ col inside.1.0)
 
 -- what holds of the paste of each pair that overlaps holds of each paste
 each-pastes_of : (Q : Paste → Type 0) (d : Dims) (old new : Parts) → ((from to : ℕ × ℕ) → IsPlace old from → IsPlace new to → overlaps (paste_at d old new from to) ≡ true → Q (paste_at d old new from to)) → AllByRecursion Q (pastes_of d old new)

@@ -1,17 +1,19 @@
 -- Arrays by their elements: what a table, a window and an array with a window have in each place.
-use Rattle.std.proofs.Common.{◌≡◌, ℕ, ℤ, pos, zero, suc, ◌+◌, ◌-◌, ◌*◌, ◌/◌, ◌%◌, ◌<◌, ◌≤◌, true, false, cond, ◌&&◌, ltb, leb, List, [], ◌++◌, map, length, get_or, take, drop, sym, ap, refl, ◌∙◌, arith, inl, inr, ◌⊎◌}
+use Rattle.std.proofs.Common.{◌≡◌, ℕ, ℤ, pos, zero, suc, ◌+◌, ◌-◌, ◌*◌, ◌<◌, ◌≤◌, true, false, cond, ◌&&◌, ltb, leb, List, [], ◌++◌, map, length, get_or, take, drop, sym, ap, refl, ◌∙◌, arith, inl, inr, ◌⊎◌}
 use Rattle.std.specs.List.{flat_map, range_with_len}
-use Rattle.std.proofs.lemmas.List.{length-append, get_or_append_left, get_or-append_right, same_lists, get_or_default, get_or-take, get_or-drop, take_at, length-take, length-take-le, length-drop, append-nil}
+use Rattle.std.proofs.lemmas.List.{length-append, get_or_append_left, get_or-append_right, get_or-take, get_or-drop, take_at, length-take, length-take-le, length-drop, append-nil}
 use Rattle.std.proofs.lemmas.List.FromFn.{get_or-map-range_with_len, length-map-range_with_len, fill_by_all}
-use Rattle.std.proofs.lemmas.Nat.{div_below, mod_below, div-add-mod', row_fits}
+use Rattle.std.proofs.lemmas.Nat.{row_fits}
 use Rattle.std.proofs.lemmas.Bool.{cases_lt, cases_order, lt-ltb, le-ltb, le-leb, leb-true, ltb-true, and_from, and_parts, false_from_ne_true, cond-true, cond-false}
 use Rattle.std.proofs.lemmas.List.Concat.{flat_map-append}
 use borrow.Rule.Slice.PartMut.{put_mid}
 use Rattle.sj_base.specs.declared.tile.Dims.{Dims}
-use Rattle.sj_base.specs.Array.{Array, area, array}
+use Rattle.sj_base.specs.Array.{Array, area, array, element}
+use Rattle.sj_base.specs.Window.{table}
+use Rattle.sj_base.proofs.Tables.{item-table, length-table, same_tables}
 use Rattle.sj_plan.specs.declared.rect.Rect.{Rect}
-use Rattle.sj_plan.specs.Rect.{Holds, Within, holds}
-use Rattle.sj_plan.specs.Window.{element, item, dims_of, window, with_window, IsWhole, table}
+use Rattle.sj_plan.specs.Rect.{Holds, Within, holds, dims_of}
+use Rattle.sj_plan.specs.Window.{window, with_window, IsWhole}
 use Rattle.sj_plan.proofs.Lists.{appended_more}
 
 abbrev pub tabulate : Dims → (ℕ → ℕ → ℤ) → Array
@@ -30,17 +32,13 @@ zero_row c j = omega arith
 row_down : (c i j : ℕ) → suc i * c + j - c ≡ i * c + j
 row_down c i j = omega arith
 
-pos_factor : (r c k : ℕ) → k < r * c → 0 < c
-pos_factor r zero k h = absurd (omega arith)
-pos_factor r (suc c) k h = omega arith
-
 length-table_row : {X : Type 0} (f : ℕ → ℕ → X) (c i : ℕ) → length (table_row f c i) ≡ c
 length-table_row f c i = length-map-range_with_len (λ j. f i j) 0 c
 
-pub length-table : {X : Type 0} (f : ℕ → ℕ → X) (c lo r : ℕ) → length (flat_map (table_row f c) (range_with_len lo r)) ≡ r * c
-length-table f c lo zero = omega arith
-length-table f c lo (suc r) =
-    length-append (table_row f c lo) (flat_map (table_row f c) (range_with_len (lo + 1) r)) ∙ one_more c r _ _ (length-table_row f c lo) (length-table f c (lo + 1) r)
+pub length-rows : {X : Type 0} (f : ℕ → ℕ → X) (c lo r : ℕ) → length (flat_map (table_row f c) (range_with_len lo r)) ≡ r * c
+length-rows f c lo zero = omega arith
+length-rows f c lo (suc r) =
+    length-append (table_row f c lo) (flat_map (table_row f c) (range_with_len (lo + 1) r)) ∙ one_more c r _ _ (length-table_row f c lo) (length-rows f c (lo + 1) r)
 
 table_at_from : {X : Type 0} (blank : X) (f : ℕ → ℕ → X) (c lo r i j : ℕ) → i < r → j < c → get_or (flat_map (table_row f c) (range_with_len lo r)) (i * c + j) blank ≡ f (lo + i) j
 table_at_from blank f c lo zero i j in_r in_c = absurd (omega arith)
@@ -50,31 +48,23 @@ table_at_from blank f c lo (suc r) zero j in_r in_c =
 table_at_from blank f c lo (suc r) (suc i) j in_r in_c =
     get_or-append_right (table_row f c lo) _ c (suc i * c + j) blank (length-table_row f c lo) (omega arith) ∙ ap (λ k. get_or (flat_map (table_row f c) (range_with_len (lo + 1) r)) k blank) (row_down c i j) ∙ table_at_from blank f c (lo + 1) r i j (omega arith) in_c ∙ ap (λ k. f k j) (omega arith)
 
--- an item of a table
-pub item-table : {X : Type 0} (blank : X) (d : Dims) (f : ℕ → ℕ → X) (i j : ℕ) → i < d.rows → j < d.cols → item blank d.cols (table d f) i j ≡ f i j
-item-table blank d f i j in_rows in_cols =
-    table_at_from blank f d.cols 0 d.rows i j in_rows in_cols ∙ ap (λ k. f k j) (omega arith)
+-- a table is its rows one after another
+pub table-rows : (d : Dims) (f : ℕ → ℕ → ℤ) → flat_map (table_row f d.cols) (range_with_len 0 d.rows) ≡ table d f
+table-rows d f =
+    same_tables (pos 0) _ _ d.rows d.cols (length-rows f d.cols 0 d.rows) (length-table d f) (λ i j in_rows in_cols.
+    table_at_from (pos 0) f d.cols 0 d.rows i j in_rows in_cols ∙ ap (λ k. f k j) (omega arith) ∙ sym (item-table (pos 0) d f i j in_rows in_cols))
 
 pub element-tabulate : (d : Dims) (f : ℕ → ℕ → ℤ) (i j : ℕ) → i < d.rows → j < d.cols → element (tabulate d f) i j ≡ f i j
 element-tabulate d f i j in_rows in_cols = item-table (pos 0) d f i j in_rows in_cols
 
 pub IsWhole-tabulate : (d : Dims) (f : ℕ → ℕ → ℤ) → IsWhole (tabulate d f)
-IsWhole-tabulate d f = length-table f d.cols 0 d.rows
-
--- two lists of r rows and c columns are one if each place has one element
-same_tables : (xs ys : List ℤ) (r c : ℕ) → length xs ≡ r * c → length ys ≡ r * c → ((i j : ℕ) → i < r → j < c → get_or xs (i * c + j) (pos 0) ≡ get_or ys (i * c + j) (pos 0)) → xs ≡ ys
-same_tables xs ys r c long_x long_y same = same_lists xs ys (long_x ∙ sym long_y) (λ k d here.
-    let inside : k < r * c = omega arith in
-    let some = pos_factor r c k inside in
-    let place : k / c * c + k % c ≡ k = div-add-mod' k c in
-    let here_too : k < length ys = omega arith in
-    get_or_default xs k d (pos 0) here ∙ (ap (λ n. get_or xs n (pos 0)) (sym place) ∙ same (k / c) (k % c) (div_below k c r some inside) (mod_below k c some) ∙ ap (λ n. get_or ys n (pos 0)) place) ∙ get_or_default ys k (pos 0) d here_too)
+IsWhole-tabulate d f = length-table d f
 
 -- two arrays are one if they have the same dimensions and the same elements
 pub same_arrays : (a b : Array) → a.dims ≡ b.dims → IsWhole a → IsWhole b → ((i j : ℕ) → i < a.dims.rows → j < a.dims.cols → element a i j ≡ element b i j) → a ≡ b
 same_arrays a b dims whole_a whole_b same =
     let long_b : length b.elements ≡ area a.dims = whole_b ∙ ap area (sym dims) in
-    let elements : a.elements ≡ b.elements = same_tables a.elements b.elements a.dims.rows a.dims.cols whole_a long_b (λ i j in_rows in_cols. same i j in_rows in_cols ∙ ap (λ (d : Dims). get_or b.elements (i * d.cols + j) (pos 0)) (sym dims)) in
+    let elements : a.elements ≡ b.elements = same_tables (pos 0) a.elements b.elements a.dims.rows a.dims.cols whole_a long_b (λ i j in_rows in_cols. same i j in_rows in_cols ∙ ap (λ (d : Dims). get_or b.elements (i * d.cols + j) (pos 0)) (sym dims)) in
     rw (dims, elements) refl
 
 -- a row that is copied out by a slice
@@ -125,7 +115,7 @@ put_after s w xs ys k fits long h =
 
 -- what an array with a window has in row i and column j
 abbrev pub written : Array → Rect → Array → ℕ → ℕ → ℤ
-written a r b i j = cond (holds r i j) (element b (i - r.row) (j - r.col)) (element a i j)
+written a r b i j = cond (holds r i j) (element b (0 + (i - r.row)) (0 + (j - r.col))) (element a i j)
 
 pub element-with_window : (a : Array) (r : Rect) (b : Array) (i j : ℕ) → i < a.dims.rows → j < a.dims.cols → element (with_window a r b) i j ≡ written a r b i j
 element-with_window a r b i j in_rows in_cols = element-tabulate a.dims (written a r b) i j in_rows in_cols
@@ -145,7 +135,8 @@ pub holds-false : (r : Rect) (i j : ℕ) → (Holds r i j → ⊥) → holds r i
 holds-false r i j h = false_from_ne_true (holds r i j) (λ t. h (Holds-from_true r i j t))
 
 pub written-inside : (a : Array) (r : Rect) (b : Array) (i j : ℕ) → Holds r i j → written a r b i j ≡ element b (i - r.row) (j - r.col)
-written-inside a r b i j h = cond-true (holds r i j) _ _ (holds-true r i j h)
+written-inside a r b i j h =
+    cond-true (holds r i j) _ _ (holds-true r i j h) ∙ ap (λ n. element b n (0 + (j - r.col))) (omega arith) ∙ ap (λ n. element b (i - r.row) n) (omega arith)
 
 pub written-outside : (a : Array) (r : Rect) (b : Array) (i j : ℕ) → (Holds r i j → ⊥) → written a r b i j ≡ element a i j
 written-outside a r b i j h = cond-false (holds r i j) _ _ (holds-false r i j h)
@@ -153,7 +144,7 @@ written-outside a r b i j h = cond-false (holds r i j) _ _ (holds-false r i j h)
 -- before any row is written
 pub gathered_none : (a : Array) (r : Rect) (b : Array) → IsWhole a → a.elements ≡ (with_window a (record r { rows = 0 }) b).elements
 gathered_none a r b whole =
-    same_tables a.elements _ a.dims.rows a.dims.cols whole (IsWhole-tabulate a.dims (written a (record r { rows = 0 }) b)) (λ i j in_rows in_cols.
+    same_tables (pos 0) a.elements _ a.dims.rows a.dims.cols whole (IsWhole-tabulate a.dims (written a (record r { rows = 0 }) b)) (λ i j in_rows in_cols.
     sym (element-with_window a (record r { rows = 0 }) b i j in_rows in_cols ∙ written-outside a (record r { rows = 0 }) b i j (λ h. absurd (omega (arith, h.0.0, h.0.1)))))
 
 -- the tests of a row that is not the one being written
@@ -163,7 +154,7 @@ same_test row k i (inr above) = le-ltb i (row + k) (omega arith) ∙ sym (le-ltb
 
 same_written : (a : Array) (r : Rect) (b : Array) (k i j : ℕ) → (i < r.row + k) ⊎ (r.row + k < i) → written a (record r { rows = k }) b i j ≡ written a (record r { rows = k + 1 }) b i j
 same_written a r b k i j other =
-    ap (λ t. cond ((leb r.row i && t) && (leb r.col j && ltb j (r.col + r.cols))) (element b (i - r.row) (j - r.col)) (element a i j)) (same_test r.row k i other)
+    ap (λ t. cond ((leb r.row i && t) && (leb r.col j && ltb j (r.col + r.cols))) (element b (0 + (i - r.row)) (0 + (j - r.col))) (element a i j)) (same_test r.row k i other)
 
 -- row k of a rectangle written over an array that has the rows before it, place by place
 record Writing (a : Array) (r : Rect) (b : Array) (k : ℕ) (now row : List ℤ) : Type 0 where
@@ -243,7 +234,7 @@ gathered_more a r b k now row d xs within whole dims same_dims same_elements h e
     let w : Writing a r b k now row = record { within = within; in_rect = h; dims = dims; long = long_now; long_row = long_row; before = e; copied = inside_row } in
     let width : s + r.cols - s ≡ r.cols = omega arith in
     let start = ap (λ (e : Dims). put_mid ((r.row + k) * e.cols + r.col) ((r.row + k) * e.cols + r.col + r.cols - ((r.row + k) * e.cols + r.col)) now row) same_dims ∙ ap (λ w. put_mid s w now row) width in
-    start ∙ same_tables (Put s r.cols now row) _ a.dims.rows cols (length-put s r.cols now row (omega arith) long_row ∙ long_now) (IsWhole-tabulate a.dims (written a after b)) (λ i j in_rows in_cols. writes_place a r b k now row w i j in_rows in_cols ∙ sym (element-with_window a after b i j in_rows in_cols))
+    start ∙ same_tables (pos 0) (Put s r.cols now row) _ a.dims.rows cols (length-put s r.cols now row (omega arith) long_row ∙ long_now) (IsWhole-tabulate a.dims (written a after b)) (λ i j in_rows in_cols. writes_place a r b k now row w i j in_rows in_cols ∙ sym (element-with_window a after b i j in_rows in_cols))
 
 -- a list lent whole and written back
 pub written_back : (a : Array) (r : Rect) (b : Array) (xs : List ℤ) (k : ℕ) → IsWhole a → k ≡ r.rows → xs ≡ (with_window a (record r { rows = k }) b).elements → array a.dims (take (length a.elements) (xs ++ drop (length xs) a.elements)) ≡ with_window a r b
@@ -262,7 +253,8 @@ window-with_window a r b within whole dims =
 -- all rows of a window
 pub window_all : (a : Array) (r : Rect) (i : ℕ) (taken : List ℤ) → i ≡ r.rows → taken ≡ flat_map (table_row (λ i j. element a (r.row + i) (r.col + j)) r.cols) (range_with_len 0 i) → array (dims_of r) taken ≡ window a r
 window_all a r i taken last e =
-    ap (array (dims_of r)) (e ∙ ap (λ n. flat_map (table_row (λ i j. element a (r.row + i) (r.col + j)) r.cols) (range_with_len 0 n)) last)
+    let f = λ (i j : ℕ). element a (r.row + i) (r.col + j) in
+    ap (array (dims_of r)) (e ∙ ap (λ n. flat_map (table_row f r.cols) (range_with_len 0 n)) last ∙ table-rows (dims_of r) f)
 
 pub element-window : (a : Array) (r : Rect) (i j : ℕ) → i < r.rows → j < r.cols → element (window a r) i j ≡ element a (r.row + i) (r.col + j)
 element-window a r i j in_rows in_cols =

@@ -3,13 +3,14 @@ use Rattle.std.specs.Prelude.{ℕ, ◌≡◌, ◌-◌, ◌<◌, ◌==◌, Bool, 
 use Rattle.std.specs.List.{flat_map, filter, fold}
 use Rattle.sj_base.specs.declared.tile.Dims.{Dims}
 use Rattle.sj_base.specs.Array.{Array}
+use Rattle.sj_base.specs.Window.{pasted as pasted_at}
 use Rattle.sj_plan.specs.declared.parts.Parts.{Parts}
 use Rattle.sj_plan.specs.declared.paste.Paste.{Paste}
 use Rattle.sj_plan.specs.declared.rect.Rect.{Rect}
 use Rattle.sj_plan.specs.Interval.{shared}
 use Rattle.sj_plan.specs.Parts.{IsPlace, places}
-use Rattle.sj_plan.specs.Rect.{Within, rows_of, cols_of, child}
-use Rattle.sj_plan.specs.Window.{dims_of, window, with_window, IsWhole}
+use Rattle.sj_plan.specs.Rect.{Within, rows_of, cols_of, child, dims_of}
+use Rattle.sj_plan.specs.Window.{window, IsWhole}
 
 -- what an old and a new child share, in the coordinates of each
 abbrev pub paste_at : Dims → Parts → Parts → ℕ × ℕ → ℕ × ℕ → Paste
@@ -49,7 +50,7 @@ to_rect p = record { row = p.at_to.0; col = p.at_to.1; rows = p.rows; cols = p.c
 
 -- what a paste leaves of the new child: its rectangle is copied from the old child
 abbrev pub pasted : Paste → Array → Array → Array
-pasted p old new = with_window new (to_rect p) (window old (from_rect p))
+pasted p old new = pasted_at old p.at_from (record { rows = p.rows; cols = p.cols }) new p.at_to
 
 -- a plan's children, by their place
 abbrev pub Children : Type 0

@@ -1,6 +1,7 @@
 -- Rectangles of an array, and a plan's children.
-use Rattle.std.specs.Prelude.{ℕ, ◌≡◌, ◌+◌, ◌≤◌, Bool, ◌&&◌, nat_lt, nat_le, List, map}
+use Rattle.std.specs.Prelude.{ℕ, ◌≡◌, ◌+◌, ◌≤◌, Bool, List, map}
 use Rattle.sj_base.specs.declared.tile.Dims.{Dims}
+use Rattle.sj_base.specs.Window.{in_rect}
 use Rattle.sj_plan.specs.declared.interval.Interval.{Interval}
 use Rattle.sj_plan.specs.declared.parts.Parts.{Parts}
 use Rattle.sj_plan.specs.declared.rect.Rect.{Rect}
@@ -21,10 +22,16 @@ cols_of r = record { first = r.col; len = r.cols }
 abbrev pub Holds : Rect → ℕ → ℕ → Type 0
 Holds r row col = Lies row (rows_of r) × Lies col (cols_of r)
 
+-- the place of its first row and column
+abbrev pub place_of : Rect → ℕ × ℕ
+place_of r = (r.row, r.col)
+
+abbrev pub dims_of : Rect → Dims
+dims_of r = record { rows = r.rows; cols = r.cols }
+
 -- the same as a test
 abbrev pub holds : Rect → ℕ → ℕ → Bool
-holds r row col =
-    (nat_le r.row row && nat_lt row (r.row + r.rows)) && (nat_le r.col col && nat_lt col (r.col + r.cols))
+holds r row col = in_rect (place_of r) (dims_of r) row col
 
 -- two rectangles have an element in common
 abbrev pub Overlap : Rect → Rect → Type 0

@@ -1,8 +1,9 @@
 //! A rectangle of a tile taken out, and put back.
 
 ghost use Rattle.std.specs.Prelude.{◌≡◌, ◌+◌, ◌<◌, ℕ, IfOk};
-ghost use Rattle.sj_plan.specs.Rect.{Holds, Within};
-ghost use Rattle.sj_plan.specs.Window.{dims_of, element, window, with_window};
+ghost use Rattle.sj_base.specs.Array.{element};
+ghost use Rattle.sj_plan.specs.Rect.{Holds, Within, dims_of};
+ghost use Rattle.sj_plan.specs.Window.{window, with_window};
 
 use crate::rect::Rect;
 use sj_base::memory::OutOfMemory;

@@ -1,6 +1,6 @@
 use Rattle.std.proofs.Common.{◌≡◌, ◌∙◌, ap, arith}
-use Rattle.sj_base.specs.Array.{Array}
-use Rattle.sj_plan.specs.Window.{element, window}
+use Rattle.sj_base.specs.Array.{Array, element}
+use Rattle.sj_plan.specs.Window.{window}
 use Rattle.sj_plan.proofs.Windows.{gathered_none, gathered_more, written_back, window-with_window, element-with_window, written-outside}
 use Rattle.sj_plan.proofs.tiles.gather.Goals as goal
 

@@ -1,6 +1,6 @@
 use Rattle.std.proofs.Common.{◌≡◌, ◌+◌}
 use Rattle.std.specs.List.{flat_map, range_with_len}
-use Rattle.sj_plan.specs.Window.{element}
+use Rattle.sj_base.specs.Array.{element}
 use Rattle.sj_plan.proofs.Windows.{table_row}
 use Rattle.sj_plan.proofs.tiles.split.Given as goal
 
