@@ -1,3 +1,4 @@
+pub mod Copying
 pub mod Gathering
 pub mod Lists
 pub mod Overlapping

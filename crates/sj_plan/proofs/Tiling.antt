@@ -3,14 +3,16 @@ use Rattle.std.proofs.Common.{◌≡◌, ℕ, zero, suc, ◌+◌, ◌*◌, ◌<�
 use Rattle.std.specs.List.{range_with_len, count_by}
 use Rattle.std.proofs.lemmas.Bool.{lt-ltb, le-ltb}
 use Rattle.std.proofs.lemmas.Bool.Decides.{nat_tests}
+use Rattle.std.proofs.lemmas.List.Elements.{All-from_recursion, All-map}
 use Rattle.std.proofs.lemmas.List.Sums.{sum_by-cons, sum_by_push}
 use Rattle.sj_base.specs.declared.tile.Dims.{Dims}
 use Rattle.sj_plan.specs.declared.parts.Parts.{Parts}
 use Rattle.sj_plan.specs.Interval.{part_first, part_len}
 use Rattle.sj_plan.specs.Parts.{Fits, places}
-use Rattle.sj_plan.specs.Rect.{child, children_of, holds}
-use Rattle.sj_plan.proofs.Lists.{range_more, count_grid}
-use Rattle.sj_plan.proofs.Splitting.{part_first-closed}
+use Rattle.sj_plan.specs.Pieces.{IsTiling}
+use Rattle.sj_plan.specs.Rect.{child, children_of, holds, Within}
+use Rattle.sj_plan.proofs.Lists.{range_more, count_grid, each-places}
+use Rattle.sj_plan.proofs.Splitting.{part_end, part_first-closed}
 
 -- part k of n items in p parts holds x, as a test
 abbrev pub part_holds : ℕ → ℕ → ℕ → ℕ → Bool
@@ -47,3 +49,9 @@ count_by-map p f (x ∷ xs) =
 pub children_of-tile : (d : Dims) (p : Parts) (row col : ℕ) → Fits p d → row < d.rows → col < d.cols → count_by (λ r. holds r row col) (children_of d p) ≡ 1
 children_of-tile d p row col fits in_rows in_cols =
     count_by-map (λ r. holds r row col) (child d p) (places p) ∙ count_grid (part_holds d.rows p.r row) (part_holds d.cols p.c col) p.c (range_with_len 0 p.r) ∙ product (part_holds-once d.rows p.r row fits.some_rows in_rows) (part_holds-once d.cols p.c col fits.some_cols in_cols)
+
+pub children_of-tiling : (d : Dims) (p : Parts) → Fits p d → IsTiling d (children_of d p)
+children_of-tiling d p fits = record {
+  within = All-map (λ r. Within r d) (child d p) (places p) (All-from_recursion (λ place. Within (child d p place) d) (places p) (each-places (λ place. Within (child d p place) d) p (λ place inside. (part_end d.rows p.r place.0 inside.0, part_end d.cols p.c place.1 inside.1))));
+  once = λ row col in_rows in_cols. children_of-tile d p row col fits in_rows in_cols;
+}

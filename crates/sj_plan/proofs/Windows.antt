@@ -1,5 +1,5 @@
 -- Arrays by their elements: what a table, a window and an array with a window have in each place.
-use Rattle.std.proofs.Common.{◌≡◌, ℕ, ℤ, pos, zero, suc, ◌+◌, ◌-◌, ◌*◌, ◌<◌, ◌≤◌, true, false, cond, ◌&&◌, ltb, leb, List, [], ◌++◌, map, length, get_or, take, drop, sym, ap, refl, ◌∙◌, arith, inl, inr, ◌⊎◌}
+use Rattle.std.proofs.Common.{◌≡◌, ℕ, ℤ, pos, zero, suc, ◌+◌, ◌-◌, ◌*◌, ◌<◌, ◌≤◌, Bool, true, false, cond, ◌&&◌, ◌||◌, ltb, leb, List, [], ◌++◌, map, length, get_or, take, drop, sym, ap, refl, ◌∙◌, arith, inl, inr, ◌⊎◌}
 use Rattle.std.specs.List.{flat_map, range_with_len}
 use Rattle.std.proofs.lemmas.List.{length-append, get_or_append_left, get_or-append_right, get_or-take, get_or-drop, take_at, length-take, length-take-le, length-drop, append-nil}
 use Rattle.std.proofs.lemmas.List.FromFn.{get_or-map-range_with_len, length-map-range_with_len, fill_by_all}
@@ -18,6 +18,17 @@ use Rattle.sj_plan.proofs.Lists.{appended_more}
 
 abbrev pub tabulate : Dims → (ℕ → ℕ → ℤ) → Array
 tabulate d f = array d (table d f)
+
+-- a choice where one case is known, and two choices of one value
+pub cond_same : (t : Bool) (x y e : ℤ) → (t ≡ true → x ≡ y) → cond t x e ≡ cond t y e
+cond_same true x y e h = h refl
+cond_same false x y e h = refl
+
+pub cond_twice : (s t : Bool) (x e : ℤ) → cond t x (cond s x e) ≡ cond (s || t) x e
+cond_twice true true x e = refl
+cond_twice true false x e = refl
+cond_twice false true x e = refl
+cond_twice false false x e = refl
 
 -- row i of a table of c columns
 abbrev pub table_row : {X : Type 0} → (ℕ → ℕ → X) → ℕ → ℕ → List X
@@ -119,6 +130,9 @@ written a r b i j = cond (holds r i j) (element b (0 + (i - r.row)) (0 + (j - r.
 
 pub element-with_window : (a : Array) (r : Rect) (b : Array) (i j : ℕ) → i < a.dims.rows → j < a.dims.cols → element (with_window a r b) i j ≡ written a r b i j
 element-with_window a r b i j in_rows in_cols = element-tabulate a.dims (written a r b) i j in_rows in_cols
+
+pub IsWhole-with_window : (a : Array) (r : Rect) (b : Array) → IsWhole (with_window a r b)
+IsWhole-with_window a r b = IsWhole-tabulate a.dims (written a r b)
 
 pub holds-true : (r : Rect) (i j : ℕ) → Holds r i j → holds r i j ≡ true
 holds-true r i j h =
