@@ -1,8 +1,10 @@
 -- Lists that a loop makes over the numbers from 0 on.
 use Rattle.std.proofs.Common.{◌≡◌, ℕ, zero, suc, ◌+◌, ◌-◌, ◌*◌, ◌<◌, ◌≤◌, Bool, true, false, cond, ◌&&◌, ◌||◌, eqb, ltb, List, [], ◌∷◌, ◌++◌, map, sym, ap, refl, ◌∙◌, zero-mul, arith}
-use Rattle.std.specs.List.{AllByRecursion, filter, flat_map, range_with_len, count_by, list_any}
+use Rattle.std.specs.List.{AllByRecursion, AllPairs, filter, flat_map, range_with_len, count_by, list_any}
 use Rattle.std.proofs.lemmas.List.{append_assoc, append-nil, map-append, map-id}
 use Rattle.std.proofs.lemmas.List.Concat.{flat_map-append}
+use Rattle.std.proofs.lemmas.List.Elements.{All-from_recursion, recursion_from_All}
+use Rattle.std.proofs.lemmas.List.Kept.{AllPairs-cons}
 use Rattle.std.proofs.lemmas.List.FromFn.{map-range_with_len_more}
 use Rattle.std.proofs.lemmas.List.Sums.{sum_by-cons, sum_by-append, sum_by_push}
 use Rattle.std.proofs.lemmas.List.FromFn.{length-range_with_len, get_or-range_with_len}
@@ -100,6 +102,10 @@ each-append Q (x ∷ xs) ys a b = (a.0, each-append Q xs ys a.1 b)
 pub each-map : {X Y : Type 0} (Q : Y → Type 0) (f : X → Y) (xs : List X) → AllByRecursion (λ x. Q (f x)) xs → AllByRecursion Q (map f xs)
 each-map Q f [] a = tt
 each-map Q f (x ∷ xs) a = (a.0, each-map Q f xs a.1)
+
+pub each-from_map : {X Y : Type 0} (Q : Y → Type 0) (f : X → Y) (xs : List X) → AllByRecursion Q (map f xs) → AllByRecursion (λ x. Q (f x)) xs
+each-from_map Q f [] a = tt
+each-from_map Q f (x ∷ xs) a = (a.0, each-from_map Q f xs a.1)
 
 pub each-flat_map : {X Y : Type 0} (Q : Y → Type 0) (f : X → List Y) (xs : List X) → AllByRecursion (λ x. AllByRecursion Q (f x)) xs → AllByRecursion Q (flat_map f xs)
 each-flat_map Q f [] a = tt
@@ -201,22 +207,47 @@ any_counted t [] h = absurd (omega arith)
 any_counted t (x ∷ xs) h =
     counted_more (t x) (count_by t xs) (list_any t xs) (omega (arith, sum_by-cons (λ y. cond (t y) 1 0) x xs)) (any_counted t xs)
 
-same_range : {a b m n : ℕ} → a ≡ b → m ≡ n → range_with_len a m ≡ range_with_len b n
-same_range {a} {b} {m} {n} e f = ap (λ x. range_with_len x m) e ∙ ap (range_with_len b) f
+-- R holds of each item and each later one
+abbrev pub Ordered : {X : Type 0} → (X → X → Type 0) → List X → Type 0
+Ordered R [] = Unit {0}
+Ordered R (x ∷ xs) = AllByRecursion (R x) xs × Ordered R xs
 
-range-append : (a m e : ℕ) → range_with_len a (m + e) ≡ range_with_len a m ++ range_with_len (a + m) e
-range-append a zero e = same_range (omega arith) (omega arith)
-range-append a (suc m) e =
-    let more : suc m + e ≡ suc (m + e) = omega arith in
-    let next : a + 1 + m ≡ a + suc m = omega arith in
-    ap (range_with_len a) more ∙ ap (λ xs. a ∷ xs) (range-append (a + 1) m e) ∙ ap (λ x. (a ∷ range_with_len (a + 1) m) ++ range_with_len x e) next
+pub ordered-append : {X : Type 0} (R : X → X → Type 0) (xs ys : List X) → Ordered R xs → Ordered R ys → AllByRecursion (λ x. AllByRecursion (R x) ys) xs → Ordered R (xs ++ ys)
+ordered-append R [] ys a b across = b
+ordered-append R (x ∷ xs) ys a b across = (each-append (R x) xs ys a.0 across.0, ordered-append R xs ys a.1 b across.1)
 
--- the numbers before k, k, and the numbers after it
-pub range-split : (n k : ℕ) → k < n → range_with_len 0 n ≡ range_with_len 0 k ++ (k ∷ range_with_len (k + 1) (n - k - 1))
-range-split n k h =
-    let whole : n ≡ k + suc (n - k - 1) = omega arith in
-    let start : 0 + k ≡ k = omega arith in
-    ap (range_with_len 0) whole ∙ range-append 0 k (suc (n - k - 1)) ∙ ap (λ x. range_with_len 0 k ++ range_with_len x (suc (n - k - 1))) start
+pub ordered-map : {X Y : Type 0} (R : Y → Y → Type 0) (f : X → Y) (xs : List X) → Ordered (λ x y. R (f x) (f y)) xs → Ordered R (map f xs)
+ordered-map R f [] a = tt
+ordered-map R f (x ∷ xs) a = (each-map (R (f x)) f xs a.0, ordered-map R f xs a.1)
+
+pub ordered-from_map : {X Y : Type 0} (R : Y → Y → Type 0) (f : X → Y) (xs : List X) → Ordered R (map f xs) → Ordered (λ x y. R (f x) (f y)) xs
+ordered-from_map R f [] a = tt
+ordered-from_map R f (x ∷ xs) a = (each-from_map (R (f x)) f xs a.0, ordered-from_map R f xs a.1)
+
+ordered-range : (R : ℕ → ℕ → Type 0) → ((j k : ℕ) → j < k → R j k) → (a n : ℕ) → Ordered R (range_with_len a n)
+ordered-range R h a zero = tt
+ordered-range R h a (suc n) = (each-range_from (R a) (a + 1) n (λ k from. h a k (omega arith)), ordered-range R h (a + 1) n)
+
+ordered-rows : (R : ℕ × ℕ → ℕ × ℕ → Type 0) → ((i k j l : ℕ) → i < k → R (i, j) (k, l)) → ((i j l : ℕ) → j < l → R (i, j) (i, l)) → (c a n : ℕ) → Ordered R (flat_map (grid_row c) (range_with_len a n))
+ordered-rows R down right c a zero = tt
+ordered-rows R down right c a (suc n) =
+    ordered-append R (grid_row c a) (flat_map (grid_row c) (range_with_len (a + 1) n)) (ordered-map R (λ j. (a, j)) (range_with_len 0 c) (ordered-range (λ j l. R (a, j) (a, l)) (right a) 0 c)) (ordered-rows R down right c (a + 1) n)
+    (each-map (λ x. AllByRecursion (R x) (flat_map (grid_row c) (range_with_len (a + 1) n))) (λ j. (a, j)) (range_with_len 0 c) (each-of (λ j. AllByRecursion (R (a, j)) (flat_map (grid_row c) (range_with_len (a + 1) n))) (λ j.
+    each-flat_map (R (a, j)) (grid_row c) (range_with_len (a + 1) n) (each-range_from (λ k. AllByRecursion (R (a, j)) (grid_row c k)) (a + 1) n (λ k from.
+    each-map (R (a, j)) (λ l. (k, l)) (range_with_len 0 c) (each-of (λ l. R (a, j) (k, l)) (λ l. down a k j l (omega arith)) (range_with_len 0 c))))) (range_with_len 0 c)))
+
+-- places stand row by row
+pub ordered-places : (R : ℕ × ℕ → ℕ × ℕ → Type 0) → ((i k j l : ℕ) → i < k → R (i, j) (k, l)) → ((i j l : ℕ) → j < l → R (i, j) (i, l)) → (p : Parts) → Ordered R (places p)
+ordered-places R down right p = ordered-rows R down right p.c 0 p.r
+
+pub pairs-from_ordered : {X : Type 0} (R : X → X → Type 0) (xs : List X) → Ordered R xs → AllPairs R xs
+pairs-from_ordered R [] a = λ i j d below inside. absurd (omega arith)
+pairs-from_ordered R (x ∷ xs) a = AllPairs-cons R x xs (All-from_recursion (R x) xs a.0) (pairs-from_ordered R xs a.1)
+
+pub ordered-from_pairs : {X : Type 0} (R : X → X → Type 0) (xs : List X) → AllPairs R xs → Ordered R xs
+ordered-from_pairs R [] a = tt
+ordered-from_pairs R (x ∷ xs) a =
+    (recursion_from_All (R x) xs (λ j d inside. a 0 (suc j) d (omega arith) (omega arith)), ordered-from_pairs R xs (λ i j d below inside. a (suc i) (suc j) d (omega arith) (omega arith)))
 
 one_number : (k m : ℕ) → cond (ltb k m) 1 0 + cond (eqb k m) 1 0 ≡ cond (ltb k (m + 1)) 1 0
 one_number k m = grind (arith, nat_tests)

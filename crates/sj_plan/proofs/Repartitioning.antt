@@ -15,11 +15,10 @@ use Rattle.sj_plan.specs.Pieces.{has_elements, copies_to, copies, all_copied, af
 use Rattle.sj_plan.specs.Rect.{child, Overlap, dims_of, Within}
 use Rattle.sj_plan.specs.Window.{window, IsWhole}
 use Rattle.sj_plan.specs.Paste.{pieces, copy_of, paste_at, overlaps, pastes_to, pastes_of, same_place, BeginEachOnce, Children, AreWindows, Repartition, IsBetween, Joins}
-use Rattle.sj_plan.proofs.Copying.{copies-repartition, copies_to-make, going-one, Overlap-from_test, has_elements-true, copy_between-within}
+use Rattle.sj_plan.proofs.Copying.{copies_to-begin, copies-repartition, copies_to-make, going-one, Overlap-from_test, has_elements-true, copy_between-within}
 use Rattle.sj_plan.proofs.Lists.{each-map, each-flat_map, each-filter, each-places, any-map, any-flat_map, any-filter, any-places, count_places, map-filter}
-use Rattle.sj_plan.proofs.Overlapping.{pastes_to-begin}
-use Rattle.sj_plan.proofs.Splitting.{part_end}
-use Rattle.sj_plan.proofs.Tiling.{children_of-tiling}
+use Rattle.sj_plan.proofs.Splitting.{part_end, part_len-positive}
+use Rattle.sj_plan.proofs.Tiling.{children_of-tiling, children_of-order}
 
 -- ---- pastes as copies
 
@@ -50,9 +49,9 @@ pastes_of-copies d old new = pastes-copies d old new (places new)
 child-within : (d : Dims) (p : Parts) (place : ℕ × ℕ) → IsPlace p place → Within (child d p place) d
 child-within d p place inside = (part_end d.rows p.r place.0 inside.0, part_end d.cols p.c place.1 inside.1)
 
-copies_to-begin : (d : Dims) (old new : Parts) (to : ℕ × ℕ) → Fits old d → Fits new d → IsPlace new to → BeginOnce (copies_to (pieces d old) (pieces d new) to)
-copies_to-begin d old new to fits_old fits_new place =
-    subst BeginOnce (pastes_to-copies d old new to) (pastes_to-begin d old new to fits_old fits_new place)
+pastes_to-begin : (d : Dims) (old new : Parts) (to : ℕ × ℕ) → Fits old d → Fits new d → IsPlace new to → BeginOnce (copies_to (pieces d old) (pieces d new) to)
+pastes_to-begin d old new to fits_old fits_new place =
+    copies_to-begin (pieces d old) (pieces d new) to (part_len-positive d.rows new.r to.0 fits_new.some_rows fits_new.rows) (part_len-positive d.cols new.c to.1 fits_new.some_cols fits_new.cols) d (children_of-tiling d old fits_old) (children_of-order d old) (child-within d new to place)
 
 are-each : (d : Dims) (p : Parts) (a : Array) (children : Children) → AreWindows d p a children → AllByRecursion (λ place. children place ≡ window a (child d p place)) (places p)
 are-each d p a children are = each-places (λ place. children place ≡ window a (child d p place)) p are
@@ -64,17 +63,17 @@ pub pastes_to-make : (d : Dims) (old new : Parts) (to : ℕ × ℕ) (a : Array) 
     → all_copied before after (map copy_of (pastes_to d old new to)) ≡ window a (child d new to)
 pastes_to-make d old new to a before after fits_old fits_new place are whole dims =
     ap (all_copied before after) (pastes_to-copies d old new to)
-    ∙ copies_to-make d (pieces d old) (pieces d new) to a before after (children_of-tiling d old fits_old) (child-within d new to place) (copies_to-begin d old new to fits_old fits_new place) (are-each d old a before are) whole dims
+    ∙ copies_to-make d (pieces d old) (pieces d new) to a before after (children_of-tiling d old fits_old) (children_of-order d old) (child-within d new to place) (part_len-positive d.rows new.r to.0 fits_new.some_rows fits_new.rows) (part_len-positive d.cols new.c to.1 fits_new.some_cols fits_new.cols) (are-each d old a before are) whole dims
 
 pub pastes_of-repartition : (d : Dims) (old new : Parts) → Fits old d → Fits new d → Repartition d old new (pastes_of d old new)
 pastes_of-repartition d old new fits_old fits_new a before after are blank to place =
     ap (λ cs. after_copies same_place before after cs to) (pastes_of-copies d old new)
-    ∙ copies-repartition same_place same_place-law d (pieces d old) (pieces d new) to a before after (count_places new to place) (children_of-tiling d old fits_old) (child-within d new to place) (copies_to-begin d old new to fits_old fits_new place) (are-each d old a before are) (blank to place).0 (blank to place).1
+    ∙ copies-repartition same_place same_place-law d (pieces d old) (pieces d new) to a before after (count_places new to place) (children_of-tiling d old fits_old) (children_of-order d old) (child-within d new to place) (part_len-positive d.rows new.r to.0 fits_new.some_rows fits_new.rows) (part_len-positive d.cols new.c to.1 fits_new.some_cols fits_new.cols) (are-each d old a before are) (blank to place).0 (blank to place).1
 
 pub pastes_of-begin : (d : Dims) (old new : Parts) → Fits old d → Fits new d → BeginEachOnce new (pastes_of d old new)
 pastes_of-begin d old new fits_old fits_new to place =
     let going = map-filter copy_of (λ c. same_place to c.to) (pastes_of d old new) ∙ ap (filter (λ c. same_place to c.to)) (pastes_of-copies d old new) ∙ going-one same_place same_place-law (pieces d old) (pieces d new) to (places new) (count_places new to place) in
-    subst BeginOnce (sym going) (copies_to-begin d old new to fits_old fits_new place)
+    subst BeginOnce (sym going) (pastes_to-begin d old new to fits_old fits_new place)
 
 -- ---- which pastes there are
 

@@ -1,5 +1,5 @@
 -- The parts tile the interval, so the children tile the array.
-use Rattle.std.proofs.Common.{◌≡◌, ℕ, zero, suc, ◌+◌, ◌*◌, ◌<◌, Bool, cond, ◌&&◌, ltb, leb, List, [], ◌∷◌, map, sym, ap, refl, ◌∙◌, arith}
+use Rattle.std.proofs.Common.{◌≡◌, ℕ, zero, suc, ◌+◌, ◌*◌, ◌<◌, Bool, cond, ◌&&◌, ltb, leb, List, [], ◌∷◌, map, sym, ap, refl, ◌∙◌, arith, inl, inr}
 use Rattle.std.specs.List.{range_with_len, count_by}
 use Rattle.std.proofs.lemmas.Bool.{lt-ltb, le-ltb}
 use Rattle.std.proofs.lemmas.Bool.Decides.{nat_tests}
@@ -9,10 +9,10 @@ use Rattle.sj_base.specs.declared.tile.Dims.{Dims}
 use Rattle.sj_plan.specs.declared.parts.Parts.{Parts}
 use Rattle.sj_plan.specs.Interval.{part_first, part_len}
 use Rattle.sj_plan.specs.Parts.{Fits, places}
-use Rattle.sj_plan.specs.Pieces.{IsTiling}
+use Rattle.sj_plan.specs.Pieces.{IsTiling, AreInOrder, Precedes}
 use Rattle.sj_plan.specs.Rect.{child, children_of, holds, Within}
-use Rattle.sj_plan.proofs.Lists.{range_more, count_grid, each-places}
-use Rattle.sj_plan.proofs.Splitting.{part_end, part_first-closed}
+use Rattle.sj_plan.proofs.Lists.{range_more, count_grid, each-places, ordered-map, ordered-places, pairs-from_ordered}
+use Rattle.sj_plan.proofs.Splitting.{ends_before, part_end, part_first-closed}
 
 -- part k of n items in p parts holds x, as a test
 abbrev pub part_holds : ℕ → ℕ → ℕ → ℕ → Bool
@@ -55,3 +55,9 @@ children_of-tiling d p fits = record {
   within = All-map (λ r. Within r d) (child d p) (places p) (All-from_recursion (λ place. Within (child d p place) d) (places p) (each-places (λ place. Within (child d p place) d) p (λ place inside. (part_end d.rows p.r place.0 inside.0, part_end d.cols p.c place.1 inside.1))));
   once = λ row col in_rows in_cols. children_of-tile d p row col fits in_rows in_cols;
 }
+
+-- the children stand in order
+pub children_of-order : (d : Dims) (p : Parts) → AreInOrder (children_of d p)
+children_of-order d p =
+    let R = λ (x y : ℕ × ℕ). Precedes (child d p x) (child d p y) in
+    pairs-from_ordered Precedes (children_of d p) (ordered-map Precedes (child d p) (places p) (ordered-places R (λ i k j l h. inl (ends_before d.rows p.r i k h)) (λ i j l h. inr (ends_before d.cols p.c j l h)) p))

@@ -1,6 +1,6 @@
 -- Rectangles that tile an array, and the copies from those of one list to those of another. Each rectangle has a name, as a
 -- plan's children have their places.
-use Rattle.std.specs.Prelude.{◌≡◌, ℕ, ◌-◌, ◌<◌, Bool, true, false, ◌&&◌, nat_eq, nat_lt, All, List, [], ◌∷◌, map, if◌then◌else◌}
+use Rattle.std.specs.Prelude.{◌≡◌, ℕ, ◌+◌, ◌-◌, ◌<◌, ◌≤◌, ◌⊎◌, Bool, true, false, ◌&&◌, nat_eq, nat_lt, All, AllPairs, List, [], ◌∷◌, map, if◌then◌else◌}
 use Rattle.std.specs.List.{count_by, filter, flat_map, fold}
 use Rattle.sj_base.specs.declared.tile.Dims.{Dims}
 use Rattle.sj_base.specs.Array.{Array, zeros}
@@ -13,6 +13,14 @@ use Rattle.sj_plan.specs.Rect.{Within, holds, rows_of, cols_of}
 pub record IsTiling (d : Dims) (rects : List Rect) : Type 0 where
   pub within : All (λ r. Within r d) rects
   pub once : (row col : ℕ) → row < d.rows → col < d.cols → count_by (λ r. holds r row col) rects ≡ 1
+
+-- the first rectangle ends above the second one, or left of it
+abbrev pub Precedes : Rect → Rect → Type 0
+Precedes r s = (r.row + r.rows ≤ s.row) ⊎ (r.col + r.cols ≤ s.col)
+
+-- the rectangles stand in an order from the top left: each precedes all later ones
+abbrev pub AreInOrder : List Rect → Type 0
+AreInOrder rects = AllPairs Precedes rects
 
 -- names in order, and the rectangle of each
 pub record Pieces (C : Type 0) : Type 0 where

@@ -3,7 +3,7 @@
 ghost use Rattle.std.specs.Prelude.{◌≡◌, ◌<◌, ◌++◌, map, IfOk, OnOk};
 ghost use Rattle.std.specs.List.{range_with_len};
 ghost use Rattle.sj_plan.specs.Parts.{Fits};
-ghost use Rattle.sj_plan.specs.Pieces.{IsTiling};
+ghost use Rattle.sj_plan.specs.Pieces.{AreInOrder, IsTiling};
 ghost use Rattle.sj_plan.specs.Rect.{IsOnlyChild, Within, child, children_of};
 ghost use Rattle.sj_plan.specs.Window.{Reassemble};
 
@@ -55,6 +55,9 @@ pub fn children(alloc: Global, dims: Dims, parts: Parts) -> Result<Sequence<Rect
 
     // Every element lies in exactly one child.
     ensures tile { IfOk result (IsTiling dims) }
+
+    // Each ends above or left of where the later ones begin.
+    ensures order { IfOk result AreInOrder }
 
     // What `split` gives of them, put back by `gather` in any order, is the array again.
     ensures reassemble { IfOk result (Reassemble dims) }
