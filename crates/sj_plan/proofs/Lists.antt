@@ -267,3 +267,8 @@ one_by_one {a} {b} e f = rw (e, f) refl
 pub count_places : (p : Parts) (place : ℕ × ℕ) → IsPlace p place → count_by (λ (other : ℕ × ℕ). eqb place.0 other.0 && eqb place.1 other.1) (places p) ≡ 1
 count_places p place inside =
     count_grid (eqb place.0) (eqb place.1) p.c (range_with_len 0 p.r) ∙ one_by_one (count_one place.0 p.r inside.0) (count_one place.1 p.c inside.1)
+
+pub count_by-map : {X Y : Type 0} (p : Y → Bool) (f : X → Y) (xs : List X) → count_by p (map f xs) ≡ count_by (λ x. p (f x)) xs
+count_by-map p f [] = refl
+count_by-map p f (x ∷ xs) =
+    sum_by-cons (λ y. cond (p y) 1 0) (f x) (map f xs) ∙ ap (λ n. cond (p (f x)) 1 0 + n) (count_by-map p f xs) ∙ sym (sum_by-cons (λ y. cond (p (f y)) 1 0) x xs)

@@ -19,7 +19,7 @@ use Rattle.sj_plan.proofs.Lists.{grid_row, nothing_before, nothing_after, filter
 abbrev pub AreOverlapping : ℕ → ℕ → Interval → Interval → Type 0
 AreOverlapping n p of v = (k : ℕ) → k < p → (Lies k v ↔ (0 < (shared (part n p k) of).len))
 
-apart : (n p : ℕ) (of v : Interval) (k : ℕ) → AreOverlapping n p of v → k < p → (Lies k v → ⊥) → (shared (part n p k) of).len ≤ 0
+pub apart : (n p : ℕ) (of v : Interval) (k : ℕ) → AreOverlapping n p of v → k < p → (Lies k v → ⊥) → (shared (part n p k) of).len ≤ 0
 apart n p of v k exactly below outside = elim (cases_lt 0 (shared (part n p k) of).len) as (λ _. (shared (part n p k) of).len ≤ 0) [
   | inl meets ↦ absurd (outside ((exactly k below).1 meets))
   | inr none ↦ none

@@ -11,7 +11,7 @@ use Rattle.sj_plan.specs.Interval.{part_first, part_len}
 use Rattle.sj_plan.specs.Parts.{Fits, places}
 use Rattle.sj_plan.specs.Pieces.{IsTiling, AreInOrder, Precedes}
 use Rattle.sj_plan.specs.Rect.{child, children_of, holds, Within}
-use Rattle.sj_plan.proofs.Lists.{range_more, count_grid, each-places, ordered-map, ordered-places, pairs-from_ordered}
+use Rattle.sj_plan.proofs.Lists.{range_more, count_by-map, count_grid, each-places, ordered-map, ordered-places, pairs-from_ordered}
 use Rattle.sj_plan.proofs.Splitting.{ends_before, part_end, part_first-closed}
 
 -- part k of n items in p parts holds x, as a test
@@ -40,11 +40,6 @@ part_first-all n p some = let first = part_first-closed n p p in omega arith
 pub part_holds-once : (n p x : ℕ) → 0 < p → x < n → count_by (part_holds n p x) (range_with_len 0 p) ≡ 1
 part_holds-once n p x some here =
     first_parts n p x p ∙ ap (λ m. cond (ltb x m) 1 0) (part_first-all n p some) ∙ ap (λ t. cond t 1 0) (lt-ltb x n here)
-
-count_by-map : {X Y : Type 0} (p : Y → Bool) (f : X → Y) (xs : List X) → count_by p (map f xs) ≡ count_by (λ x. p (f x)) xs
-count_by-map p f [] = refl
-count_by-map p f (x ∷ xs) =
-    sum_by-cons (λ y. cond (p y) 1 0) (f x) (map f xs) ∙ ap (λ n. cond (p (f x)) 1 0 + n) (count_by-map p f xs) ∙ sym (sum_by-cons (λ y. cond (p (f y)) 1 0) x xs)
 
 pub children_of-tile : (d : Dims) (p : Parts) (row col : ℕ) → Fits p d → row < d.rows → col < d.cols → count_by (λ r. holds r row col) (children_of d p) ≡ 1
 children_of-tile d p row col fits in_rows in_cols =
