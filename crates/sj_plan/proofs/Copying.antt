@@ -8,7 +8,7 @@ use Rattle.std.proofs.lemmas.List.Elements.{All-from_recursion, filter-append, r
 use Rattle.std.proofs.lemmas.List.Folds.{Any-from_list_any}
 use Rattle.std.proofs.lemmas.List.Sums.{sum_by-cons}
 use Rattle.sj_base.specs.declared.tile.Dims.{Dims}
-use Rattle.sj_base.specs.Array.{Array, area, element, zeros}
+use Rattle.sj_base.specs.Array.{Array, element, zeros}
 use Rattle.sj_base.specs.Window.{in_rect}
 use Rattle.sj_base.proofs.Tables.{item-table, length-table}
 use Rattle.sj_plan.specs.declared.interval.Interval.{Interval}
@@ -17,7 +17,7 @@ use Rattle.sj_plan.specs.Interval.{Lies, shared}
 use Rattle.sj_plan.specs.Rect.{holds, rows_of, cols_of, dims_of, Within, Overlap}
 use Rattle.sj_plan.specs.Window.{window, IsWhole}
 use Rattle.sj_plan.specs.Pieces.{IsTiling, AreInOrder, Precedes, Pieces, rects_of, Copy, copy_between, has_elements, copies_to, copies, begins, copied, all_copied, BeginOnce, after_copy, after_copies}
-use Rattle.sj_plan.proofs.Lists.{any-map, any-filter, any-flat_map, any-implied, any_counted, each-all, each-of, each-map, each-filter, each-flat_map, filter_all, filter_gone, Ordered, ordered-from_map, ordered-from_pairs}
+use Rattle.sj_plan.proofs.Lists.{any-map, any-filter, any-implied, any_counted, each-all, each-of, each-map, each-filter, filter_all, filter_gone, Ordered, ordered-from_map, ordered-from_pairs}
 use Rattle.sj_plan.proofs.Windows.{cond_same, cond_twice, element-window, holds-true, Holds-from_true, IsWhole-tabulate, same_arrays}
 
 -- ---- one copy

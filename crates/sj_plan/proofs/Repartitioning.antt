@@ -1,5 +1,5 @@
 -- The pastes of two plans are the copies between their children, so applied in order to the old plan's they make the new plan's.
-use Rattle.std.proofs.Common.{◌≡◌, ℕ, Bool, true, ◌&&◌, eqb, List, [], ◌∷◌, ◌++◌, map, sym, ap, refl, ◌∙◌, subst, arith}
+use Rattle.std.proofs.Common.{◌≡◌, ℕ, Bool, true, ◌&&◌, eqb, List, [], ◌∷◌, ◌++◌, map, sym, ap, refl, ◌∙◌, subst}
 use Rattle.std.specs.List.{All, Any, AllByRecursion, filter, flat_map, list_any}
 use Rattle.std.proofs.lemmas.Bool.{and_from, and_parts, eqb-true, eq-eqb}
 use Rattle.std.proofs.lemmas.List.{map-append}

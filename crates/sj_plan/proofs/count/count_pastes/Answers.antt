@@ -1,4 +1,4 @@
-use Rattle.std.proofs.Common.{◌≡◌, ◌*◌, ◌∙◌, sym, ap}
+use Rattle.std.proofs.Common.{◌*◌, ◌∙◌, sym, ap}
 use Rattle.sj_plan.specs.Interval.{meetings}
 use Rattle.sj_plan.proofs.Counting.{pastes_of-count}
 use Rattle.sj_plan.proofs.count.count_pastes.Goals as goal
