@@ -12,7 +12,7 @@ use Rattle.sj_plan.specs.declared.interval.Interval.{Interval}
 use Rattle.sj_plan.specs.declared.parts.Parts.{Parts}
 use Rattle.sj_plan.specs.declared.paste.Paste.{Paste}
 use Rattle.sj_plan.specs.Interval.{Lies, part, shared}
-use Rattle.sj_plan.specs.Paste.{overlaps, paste_at, pastes_to}
+use Rattle.sj_plan.specs.Paste.{overlaps, paste_at, pastes_of, pastes_to}
 use Rattle.sj_plan.proofs.Lists.{grid_row, nothing_before, nothing_after, filter_none}
 
 -- v has the numbers of the parts of n items in p parts that share an index with an interval
@@ -107,3 +107,7 @@ to_rows-append d old new xs ys =
 pub to_rows-one : (d : Dims) (old new : Parts) (i : ℕ) → to_row d old new i (range_with_len 0 new.c) ≡ to_rows d old new (i ∷ [])
 to_rows-one d old new i =
     sym (ap (flat_map (pastes_to d old new)) (append-nil (grid_row new.c i)) ∙ flat_map-map (pastes_to d old new) (λ j. (i, j)) (range_with_len 0 new.c))
+
+-- the pastes to all row parts of the new plan are all pastes
+pub all_rows : (d : Dims) (old new : Parts) (made found : List Paste) (i : ℕ) → made ≡ found → found ≡ to_rows d old new (range_with_len 0 i) → i ≡ new.r → pastes_of d old new ≡ made
+all_rows d old new made found i e f last = sym (e ∙ f ∙ ap (λ n. to_rows d old new (range_with_len 0 n)) last)

@@ -1,17 +1,18 @@
 -- The parts tile the interval, so the children tile the array.
-use Rattle.std.proofs.Common.{◌≡◌, ℕ, zero, suc, ◌+◌, ◌*◌, ◌<◌, Bool, cond, ◌&&◌, ltb, leb, sym, ap, refl, ◌∙◌, arith, inl, inr}
-use Rattle.std.specs.List.{range_with_len, count_by}
+use Rattle.std.proofs.Common.{◌≡◌, map, List, ℕ, zero, suc, ◌+◌, ◌*◌, ◌<◌, Bool, cond, ◌&&◌, ltb, leb, sym, ap, refl, ◌∙◌, arith, inl, inr}
+use Rattle.std.specs.List.{range_with_len, count_by, flat_map}
 use Rattle.std.proofs.lemmas.Bool.{lt-ltb, le-ltb}
 use Rattle.std.proofs.lemmas.Bool.Decides.{nat_tests}
 use Rattle.std.proofs.lemmas.List.Elements.{All-from_recursion, All-map}
 use Rattle.std.proofs.lemmas.List.Sums.{sum_by_push}
 use Rattle.sj_base.specs.declared.tile.Dims.{Dims}
 use Rattle.sj_plan.specs.declared.parts.Parts.{Parts}
+use Rattle.sj_plan.specs.declared.rect.Rect.{Rect}
 use Rattle.sj_plan.specs.Interval.{part_first, part_len}
 use Rattle.sj_plan.specs.Parts.{Fits, places}
 use Rattle.sj_plan.specs.Pieces.{IsTiling, AreInOrder, Precedes}
 use Rattle.sj_plan.specs.Rect.{child, children_of, holds, Within}
-use Rattle.sj_plan.proofs.Lists.{range_more, count_by-map, count_grid, each-places, ordered-map, ordered-places, pairs-from_ordered}
+use Rattle.sj_plan.proofs.Lists.{grid_row, range_more, count_by-map, count_grid, each-places, ordered-map, ordered-places, pairs-from_ordered}
 use Rattle.sj_plan.proofs.Splitting.{ends_before, part_end, part_first-closed}
 
 -- part k of n items in p parts holds x, as a test
@@ -56,3 +57,7 @@ pub children_of-order : (d : Dims) (p : Parts) → AreInOrder (children_of d p)
 children_of-order d p =
     let R = λ (x y : ℕ × ℕ). Precedes (child d p x) (child d p y) in
     pairs-from_ordered Precedes (children_of d p) (ordered-map Precedes (child d p) (places p) (ordered-places R (λ i k j l h. inl (ends_before d.rows p.r i k h)) (λ i j l h. inr (ends_before d.cols p.c j l h)) p))
+
+-- the children of all row parts are all children
+pub all_children : (d : Dims) (p : Parts) (made rects : List Rect) (i : ℕ) → made ≡ rects → rects ≡ map (child d p) (flat_map (grid_row p.c) (range_with_len 0 i)) → i ≡ p.r → children_of d p ≡ made
+all_children d p made rects i e f last = sym (e ∙ f ∙ ap (λ n. map (child d p) (flat_map (grid_row p.c) (range_with_len 0 n))) last)
