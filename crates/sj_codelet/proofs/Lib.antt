@@ -5,3 +5,4 @@ pub mod Integers
 pub mod Rows
 pub mod Elements
 pub mod Names
+pub mod Table

@@ -9,3 +9,4 @@ pub mod Listing
 pub mod Window
 pub mod Laws
 pub mod InOrder
+pub mod Formal

@@ -1,6 +1,6 @@
 -- Which calls of a device in memory are refused, how many there were, and how many were refused.
-use Rattle.std.specs.Prelude.{ℕ, List, Bool, Contains, if◌then◌else◌}
-use Rattle.sj_edge.specs.Faults.{one_more}
+use Rattle.std.specs.Prelude.{ℕ, List, Bool, Contains}
+use Rattle.sj_edge.specs.Faults.{one_more, counted}
 
 -- the numbers of the calls to refuse, from 1; the calls so far; the faults so far
 pub record Called : Type 0 where
@@ -25,4 +25,4 @@ IsNextRefused c = Contains c.fail (next_call c)
 
 -- c after one more call, which was a fault or wasn't
 abbrev pub after_call : Called → Bool → Called
-after_call c failed = called c.fail (next_call c) (if failed then one_more c.faults else c.faults)
+after_call c failed = called c.fail (next_call c) (counted c.faults failed)

@@ -1,6 +1,7 @@
 pub mod Called
 pub mod Checks
 pub mod Faults
+pub mod Files
 pub mod GivenBack
 pub mod Held
 pub mod Memory

@@ -1,7 +1,7 @@
 //! What evicted data is kept on.
 
-ghost use Rattle.std.specs.Prelude.{◌≡◌, ◌+◌, ◌≤◌, ◌++◌, ◌∷◌, [], ℕ, List, Option, IsErr, IsOk, IsTrue, OnOk, OnErr, length, option_map};
-ghost use Rattle.sj_edge.specs.Faults.{Counts};
+ghost use Rattle.std.specs.Prelude.{◌≡◌, ◌+◌, ◌≤◌, ◌++◌, ◌∷◌, [], ℕ, List, Option, IsErr, IsOk, IsTrue, OnOk, OnErr, is_err, length, option_map};
+ghost use Rattle.sj_edge.specs.Faults.{Counts, counted};
 ghost use Rattle.sj_edge.specs.Sizes.{AreWithin};
 ghost use Rattle.sj_edge.specs.Held.{Fills, GivesHeld, written, HoldsAnyIn};
 
@@ -20,8 +20,9 @@ pub enum CheckFault {
 /// A fixed number of bytes, with a count of faults and one of mismatches. It may tell proofs the
 /// bytes that it holds.
 ///
-/// Neither count falls, and each stays once it is `u64::MAX`. The size never changes, nor does
-/// whether a disk tells. No call takes memory.
+/// The count of faults rises only in a call that fails, and that of mismatches only in a check that
+/// finds other bytes; either then rises by one, and stays once it is `u64::MAX`. The size never
+/// changes, nor does whether a disk tells. No call takes memory.
 pub trait Disk: Drop {
     ghost use Rattle.sj_edge.specs.Checks.{has_failed, has_differed, CarriesOther, Compares};
 
@@ -51,7 +52,9 @@ pub trait Disk: Drop {
         ensures size_stays { size self.new ≡ size self.old }
         ensures failed_only_where_faults_rose { Counts
             (faults self.old) (faults self.new) (IsErr result) }
-        ensures mismatches_never_fall { mismatches self.old ≤ mismatches self.new };
+        ensures faults_rise_by_one_where_it_fails_and_else_stay { faults self.new
+            ≡ counted (faults self.old) (is_err result) }
+        ensures mismatches_stay { mismatches self.new ≡ mismatches self.old };
 
     /// Puts these bytes in place of those from `at` on. Linear in them.
     ///
@@ -66,7 +69,9 @@ pub trait Disk: Drop {
         ensures size_stays { size self.new ≡ size self.old }
         ensures failed_only_where_faults_rose { Counts
             (faults self.old) (faults self.new) (IsErr result) }
-        ensures mismatches_never_fall { mismatches self.old ≤ mismatches self.new };
+        ensures faults_rise_by_one_where_it_fails_and_else_stay { faults self.new
+            ≡ counted (faults self.old) (is_err result) }
+        ensures mismatches_stay { mismatches self.new ≡ mismatches self.old };
 
     /// Compares the 24 bytes from `at` on with `want`. Constant time.
     fn check(&mut self, at: u64, want: &[u8; 24]) -> Result<(), CheckFault>
@@ -79,7 +84,11 @@ pub trait Disk: Drop {
         ensures failed_only_where_faults_rose { Counts
             (faults self.old) (faults self.new) (IsTrue (has_failed result)) }
         ensures differs_only_where_mismatches_rose { Counts
-            (mismatches self.old) (mismatches self.new) (IsTrue (has_differed result)) };
+            (mismatches self.old) (mismatches self.new) (IsTrue (has_differed result)) }
+        ensures faults_rise_by_one_where_it_fails_and_else_stay { faults self.new
+            ≡ counted (faults self.old) (has_failed result) }
+        ensures mismatches_rise_by_one_where_it_differs_and_else_stay { mismatches self.new
+            ≡ counted (mismatches self.old) (has_differed result) };
 }
 
 impl Disk for Box<dyn Disk + Send> {

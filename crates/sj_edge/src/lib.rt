@@ -4,6 +4,7 @@
 
 mod calls;
 pub mod disk;
+pub mod file_disk;
 pub mod gate;
 pub mod memory_disk;
 pub mod memory_sink;

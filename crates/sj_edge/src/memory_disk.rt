@@ -1,7 +1,7 @@
 //! A disk over memory that it takes when it is made.
 
-ghost use Rattle.std.specs.Prelude.{◌≡◌, ◌↔◌, ◌+◌, ◌≤◌, ℕ, Some, IsTrue, if◌then◌else◌, IsErr, OnErr, OnOk, IfOk, is_err, length, replicate, option_map};
-ghost use Rattle.sj_edge.specs.Faults.{Counts, one_more};
+ghost use Rattle.std.specs.Prelude.{◌≡◌, ◌↔◌, ◌+◌, ◌≤◌, ℕ, Some, IsTrue, IsErr, OnErr, OnOk, IfOk, is_err, length, replicate, option_map};
+ghost use Rattle.sj_edge.specs.Faults.{Counts, counted};
 ghost use Rattle.sj_edge.specs.Called.{uncalled, IsNextRefused, after_call};
 ghost use Rattle.sj_edge.specs.Held.{written, GivesHeld, HoldsAnyIn};
 ghost use Rattle.sj_edge.specs.Memory.{keeping};
@@ -129,7 +129,7 @@ impl Disk for MemDisk {
             self.old.called }
         ensures counts_the_call { self.new.called ≡ after_call self.old.called (has_failed result) }
         ensures counts_a_mismatch_exactly_where_it_differs { self.new.mismatches
-            ≡ (if has_differed result then one_more self.old.mismatches else self.old.mismatches) }
+            ≡ counted self.old.mismatches (has_differed result) }
         ensures failed_only_where_faults_rose { Counts
             self.old.called.faults self.new.called.faults (IsTrue (has_failed result)) }
         ensures differs_only_where_mismatches_rose { Counts

@@ -1,9 +1,9 @@
 //! What bytes are read from.
 
-ghost use Rattle.std.specs.Prelude.{◌≡◌, ℕ, List, Option, IsErr, is_some};
+ghost use Rattle.std.specs.Prelude.{◌≡◌, ℕ, List, Option, IsErr, is_err, is_some};
 ghost use Rattle.std.specs.Io.{ReadsAtMost};
 ghost use Rattle.std.specs.Io.KnownBytes.{ReadConsumes};
-ghost use Rattle.sj_edge.specs.Faults.{Counts};
+ghost use Rattle.sj_edge.specs.Faults.{Counts, counted};
 
 /// A device refused a call, and its count of faults says so.
 #[derive(Clone, Copy, Debug, PartialEq, Eq)]
@@ -11,7 +11,8 @@ pub struct Failed;
 
 /// A stream of bytes to read, which may tell proofs what is left, and has a count of faults.
 ///
-/// The count never falls, and stays once it is `u64::MAX`. Whether a source tells never changes.
+/// The count rises only in a call that fails, and then by one; it stays once it is `u64::MAX`.
+/// Whether a source tells never changes.
 pub trait Source {
     // The bytes that are left, where the source tells.
     ghost left: { Self → Option (List ℕ) };
@@ -28,5 +29,7 @@ pub trait Source {
             (left self.new) result buf.new }
         ensures tells_as_before { is_some (left self.new) ≡ is_some (left self.old) }
         ensures failed_only_where_faults_rose { Counts
-            (faults self.old) (faults self.new) (IsErr result) };
+            (faults self.old) (faults self.new) (IsErr result) }
+        ensures faults_rise_by_one_where_it_fails_and_else_stay { faults self.new
+            ≡ counted (faults self.old) (is_err result) };
 }

@@ -1,9 +1,9 @@
 //! Adapters over std's readers and writers.
 
-ghost use Rattle.std.specs.Prelude.{◌≡◌, ◌<◌, ◌≤◌, ℕ, None, IfSome, IfOk, IsErr, MatchOption, if◌then◌else◌, is_err, length, take};
+ghost use Rattle.std.specs.Prelude.{◌≡◌, ◌<◌, ◌≤◌, ℕ, None, IfSome, IfOk, IsErr, MatchOption, is_err, length, take};
 ghost use Rattle.std.specs.Io.{ReadsAtMost, WritesAtMost};
 ghost use Rattle.std.specs.Io.KnownBytes.{Keeps, Appends, ReadConsumes, WriteAppends};
-ghost use Rattle.sj_edge.specs.Faults.{Counts, one_more};
+ghost use Rattle.sj_edge.specs.Faults.{Counts, counted};
 
 use crate::sink::Sink;
 use crate::source::{Failed, Source};
@@ -51,8 +51,8 @@ impl<R: Read> Source for StdSource<R> {
         ensures takes_at_most_the_buffer { ReadsAtMost result buf.new }
         ensures gives_what_the_reader_gives { ReadConsumes (R.remaining (source_inner self.old))
             (R.remaining (source_inner self.new)) result buf.new }
-        ensures counts_a_fault_exactly_where_it_fails { source_faults self.new ≡ (if is_err result
-            then one_more (source_faults self.old) else source_faults self.old) }
+        ensures counts_a_fault_exactly_where_it_fails { source_faults self.new
+            ≡ counted (source_faults self.old) (is_err result) }
         ensures failed_only_where_faults_rose { Counts
             (source_faults self.old) (source_faults self.new) (IsErr result) }
     {
@@ -137,7 +137,7 @@ impl<W: Write> Sink for StdSink<W> {
             (λ n. Appends (W.contents (sink_inner self.old))
             (W.contents (sink_inner self.new)) (take n bytes.now)) }
         ensures counts_a_fault_exactly_where_it_fails { sink_faults self.new
-            ≡ (if is_err result then one_more (sink_faults self.old) else sink_faults self.old) }
+            ≡ counted (sink_faults self.old) (is_err result) }
         ensures failed_only_where_faults_rose { Counts
             (sink_faults self.old) (sink_faults self.new) (IsErr result) }
     {

@@ -1,9 +1,9 @@
 //! Devices in memory that never fail: the count of faults of each is the constant 0.
 
-ghost use Rattle.std.specs.Prelude.{◌≡◌, ◌+◌, ◌≤◌, ℕ, Some, None, Ok, IsOk, IfOk, IsTrue, IsFalse, if◌then◌else◌, min, length, replicate, slice_range};
+ghost use Rattle.std.specs.Prelude.{◌≡◌, ◌+◌, ◌≤◌, ℕ, Some, None, Ok, IsOk, IfOk, IsTrue, IsFalse, min, length, replicate, slice_range};
 ghost use Rattle.std.specs.Io.{ReadsAtMost};
 ghost use Rattle.std.specs.Io.KnownBytes.{ReadConsumes};
-ghost use Rattle.sj_edge.specs.Faults.{Counts, one_more};
+ghost use Rattle.sj_edge.specs.Faults.{Counts, counted};
 ghost use Rattle.sj_edge.specs.Held.{written};
 ghost use Rattle.sj_edge.specs.Checks.{has_failed, has_differed, CarriesOther, Compares};
 ghost use Rattle.sj_edge.specs.Memory.{kept};
@@ -169,7 +169,7 @@ impl Disk for SureDisk {
         ensures differs_carries_other_bytes { CarriesOther result want.now }
         ensures changes_no_byte { self.new.bytes ≡ self.old.bytes }
         ensures counts_a_mismatch_exactly_where_it_differs { self.new.mismatches
-            ≡ (if has_differed result then one_more self.old.mismatches else self.old.mismatches) }
+            ≡ counted self.old.mismatches (has_differed result) }
         ensures differs_only_where_mismatches_rose { Counts
             self.old.mismatches self.new.mismatches (IsTrue (has_differed result)) }
     {

@@ -3,6 +3,7 @@
 ghost use Rattle.sj_edge.specs.GivenBack.{AreUntouched};
 
 use crate::disk::{CheckFault, Disk, add_disk};
+use crate::file_disk::FileDisk;
 use crate::gate::{Gate, OpenGate};
 use crate::memory_disk::MemDisk;
 use crate::memory_sink::MemSink;
@@ -12,6 +13,7 @@ use crate::source::{Failed, Source};
 use crate::standard::{StdSink, StdSource};
 use crate::sure::{SureDisk, SureSink, SureSource};
 use sj_base::ids::Task;
+use std::fs;
 use std::io;
 use std::io::{ErrorKind, Read, Write};
 use std::test::Fail;
@@ -216,5 +218,49 @@ fn boxes_of_disks_come_back_in_order(rt: HostRuntime) -> Result<(), Fail> {
     assert_eq!(rt; back[0].write(0, &[3]), Err(Failed));
     assert_eq!(rt; back[1].size(), 16);
     assert_eq!(rt; back[1].write(0, &[3]), Ok(()));
+    Ok(())
+}
+
+#[test]
+fn a_file_disk_keeps_bytes_in_its_file(rt: HostRuntime) -> Result<(), Fail> {
+    let path = "a_file_disk";
+    let _ = fs::remove_file(&rt, path);
+    let mut disk = FileDisk::at(&rt, path, 32);
+    let mut want = [7; 24];
+    assert_eq!(rt; disk.size(), 32);
+    assert_eq!(rt; disk.write(8, &want), Ok(()));
+    assert_eq!(rt; disk.check(8, &want), Ok(()));
+    want[0] = 0;
+    assert_eq!(rt; disk.check(7, &want), Ok(()));
+    assert_eq!(rt; disk.check(8, &want), Err(CheckFault::Differs([7; 24])));
+    assert_eq!(rt; (disk.faults(), disk.mismatches()), (0, 1));
+
+    let mut again = FileDisk::at(&rt, path, 32);
+    let mut buf = [9; 3];
+    assert_eq!(rt; again.read(6, &mut buf), Ok(()));
+    assert_eq!(rt; buf, [0, 0, 7]);
+    fs::OpenOptions::new().write(true).open(&rt, path)?.set_len(31)?;
+    assert_eq!(rt; again.read(28, &mut buf), Ok(()));
+    assert_eq!(rt; again.read(29, &mut buf), Err(Failed));
+    assert_eq!(rt; again.check(8, &[7; 24]), Err(CheckFault::Failed));
+    assert_eq!(rt; (again.faults(), again.mismatches()), (2, 0));
+    fs::remove_file(&rt, path)?;
+    Ok(())
+}
+
+#[test]
+fn a_file_disk_fails_where_the_system_does(rt: HostRuntime) -> Result<(), Fail> {
+    let mut full = FileDisk::at(&rt, "/dev/full", 32);
+    assert_eq!(rt; full.write(0, &[1]), Err(Failed));
+    assert_eq!(rt; full.faults(), 1);
+
+    let mut disks = Vec::new(rt.alloc());
+    let closed = FileDisk::at(&rt, "no_such_folder/disk", 32);
+    add_disk(&mut disks, Box::new(rt.alloc(), closed)?)?;
+    let closed = &mut disks[0];
+    assert!(rt; closed.size() == 32);
+    assert_eq!(rt; closed.read(0, &mut [0; 2]), Err(Failed));
+    assert_eq!(rt; closed.write(0, &[]), Err(Failed));
+    assert_eq!(rt; closed.check(0, &[0; 24]), Err(CheckFault::Failed));
     Ok(())
 }

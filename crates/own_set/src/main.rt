@@ -1,0 +1,105 @@
+//! A program of one's own over the engine: its set of codelets, a program that lowering makes of a text, the run of it, and
+//! the arrays that the run hands over.
+#![tactic(auto)]
+
+ghost use Rattle.std.specs.Prelude.{◌≡◌, IsTrue, IfOk, Ok, List};
+ghost use Rattle.sj_engine.specs.Run.{HasCodelets, IsRunnable, deliveries_of};
+ghost use Rattle.sj_job.specs.declared.job.Statement.{Statement};
+ghost use Rattle.sj_job.specs.Reading.{job_of};
+ghost use Rattle.sj_lower.specs.Lowering.{lowered};
+ghost use Rattle.own_set.specs.Turns.{turns_has};
+
+use sj_base::ids::Line;
+use sj_base::memory::OutOfMemory;
+use sj_base::program::{Codelet, Program};
+use sj_board::delivered::Delivered;
+use sj_codelet::frame::Frame;
+use sj_codelet::kernel::Kernel;
+use sj_codelet::set::Codelets;
+use sj_engine::run::run;
+use sj_job::read::read;
+use sj_job::reason::{ReadRefusal, Reason};
+use sj_kernels::ring::Ring;
+use sj_lower::lower::lower;
+use std::alloc::Global;
+use std::io;
+use std::sync::Arc;
+
+/// What the example runs: a matrix is turned.
+const JOB: &[u8] =
+    b"starjob 1\nmatrix A 2 3 fill 1 1\nmatrix B 3 2 none\ntask transpose A:R B:W\nprint B\n";
+
+/// A set of one's own: `transpose` alone, beside what registrations and print statements are lowered to. Its kernels are those
+/// of the ring; one's own would stand in `run`.
+struct Turns;
+
+impl Codelets for Turns {
+    ghost use Rattle.own_set.specs.Turns.{turns_commuting, turns_contributing, turns_reducing};
+
+    ghost has = { turns_has };
+
+    ghost commuting = { turns_commuting };
+
+    ghost contributing = { turns_contributing };
+
+    ghost reducing = { turns_reducing };
+
+    fn knows(&self, kernel: Kernel) -> bool {
+        matches!(
+            kernel,
+            Kernel::Transpose | Kernel::Load | Kernel::LoadFill | Kernel::Deliver
+        )
+    }
+
+    fn run(
+        &self,
+        alloc: Global,
+        id: Codelet,
+        args: &[i64],
+        frame: &mut Frame,
+    ) -> Result<(), OutOfMemory> {
+        Ring.run(alloc, id, args, frame)
+    }
+}
+
+/// Whether the set has the codelet of each task. Linear in the tasks.
+fn has_codelets(program: &Program) -> bool
+    ensures { IsTrue result → HasCodelets turns_has program.now }
+{
+    program.tasks.items().iter().all(|task| match Kernel::of(task.codelet) {
+        Some(kernel) => Turns.knows(kernel),
+        None => false,
+    })
+}
+
+/// Runs the program of a text, and gives what its deliver tasks hand over.
+fn delivered(alloc: Global, text: &[u8]) -> Result<Delivered, ReadRefusal>
+    ensures { IfOk result (λ d. (ss : List Statement) × (job_of turns_has text.now ≡ Ok ss)
+        × (d.pairs ≡ deliveries_of (lowered ss 1))) }
+{
+    let job = read(alloc, text, &Turns)?;
+    let program = lower(alloc, job.statements.items(), 1)?;
+    if !has_codelets(&program) {
+        return Err(ReadRefusal::Refused {
+            line: Line(0),
+            reason: Reason::UnknownCodelet,
+        });
+    }
+    let outcome = run(alloc, Arc::new(alloc, program)?, &Turns);
+    outcome.result?;
+    Ok(outcome.delivered)
+}
+
+fn main(rt: HostRuntime) -> io::Result<()> {
+    match delivered(rt.alloc(), JOB) {
+        Ok(handed) => {
+            for i in 0..handed.len() {
+                for element in handed.tile(i).elements() {
+                    println!(rt; "{element}")?;
+                }
+            }
+        }
+        Err(refusal) => println!(rt; "{refusal:?}")?,
+    }
+    Ok(())
+}

@@ -1,0 +1,5 @@
+pub mod Admitting
+pub mod Choosing
+pub mod Kept
+pub mod Putting
+pub mod Shown

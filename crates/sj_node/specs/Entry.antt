@@ -1,0 +1,83 @@
+-- The entries of a node: the cells that are valid or coming there, with their bytes and pins, most recent first.
+use Rattle.std.specs.Prelude.{ℕ, Bool, not, nat_eq, Option, option_map, List, ◌∷◌, ◌++◌, map, filter, fold, reverse, sum_by, cond}
+use Rattle.std.specs.List.{IsDistinct, list_any, find, zip}
+use Rattle.std.specs.Option.{option_map_or}
+use Rattle.sj_base.specs.declared.ids.Cell.{Cell}
+use Rattle.sj_node.specs.Victims.{victims}
+
+pub record Entry : Type 0 where
+  pub cell : Cell
+  pub bytes : ℕ
+  pub pins : ℕ
+
+-- an entry that nothing pins
+abbrev pub unpinned : Cell → ℕ → Entry
+unpinned c bytes = record { cell = c; bytes = bytes; pins = 0 }
+
+-- ---- one entry
+
+abbrev pub is_of : Cell → Entry → Bool
+is_of c e = nat_eq c.0 e.cell.0
+
+abbrev pub is_unpinned : Entry → Bool
+is_unpinned e = nat_eq e.pins 0
+
+-- ---- lists of cells
+
+abbrev pub same_cell : Cell → Cell → Bool
+same_cell a b = nat_eq a.0 b.0
+
+-- no cell comes twice
+abbrev pub AreDistinct : List Cell → Type 0
+AreDistinct = IsDistinct same_cell
+
+-- ---- reading
+
+abbrev pub has_entry : List Entry → Cell → Bool
+has_entry es c = list_any (is_of c) es
+
+-- how many pins the cell's entry has
+abbrev pub pins_of : List Entry → Cell → ℕ
+pins_of es c = option_map_or (λ e. e.pins) (find (is_of c) es) 0
+
+-- the bytes of all of them
+abbrev pub total : List Entry → ℕ
+total es = sum_by (λ e. e.bytes) es
+
+-- ---- changing
+
+-- without the cell's entry
+abbrev pub without : Cell → List Entry → List Entry
+without c es = filter (λ e. not (is_of c e)) es
+
+-- the cell's entry goes before the others
+abbrev pub to_front : Cell → List Entry → List Entry
+to_front c es = filter (is_of c) es ++ without c es
+
+-- the pins of the cell's entry are f of those that it had
+abbrev pub repinned : (ℕ → ℕ) → Cell → List Entry → List Entry
+repinned f c es = map (λ e. cond (is_of c e) (record e { pins = f e.pins }) e) es
+
+-- the entry is that of one of these cells
+abbrev pub is_among : List Cell → Entry → Bool
+is_among cells e = list_any (λ c. is_of c e) cells
+
+-- without the entries of these cells
+abbrev pub without_all : List Cell → List Entry → List Entry
+without_all cells es = filter (λ e. not (is_among cells e)) es
+
+-- these cells go to the front one after another, with so many bytes and without pins
+abbrev pub put_all : List Cell → List ℕ → List Entry → List Entry
+put_all cells bytes es = fold (λ kept new. unpinned new.0 new.1 ∷ kept) es (zip cells bytes)
+
+-- these cells come in the place of the victims
+abbrev pub admitted : List Cell → List Cell → List ℕ → List Entry → List Entry
+admitted victims cells bytes es = put_all cells bytes (without_all victims es)
+
+-- ---- choosing
+
+-- the cells that a need evicts beside so many free bytes, least recent first; none where all unpinned entries
+-- don't make room for it
+abbrev pub victim_cells : List Entry → ℕ → ℕ → Option (List Cell)
+victim_cells es free need =
+    option_map (λ vs. map (λ e. e.cell) (reverse vs)) (victims (λ e. e.bytes) is_unpinned es free need)

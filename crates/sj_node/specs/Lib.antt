@@ -1,0 +1,4 @@
+pub mod Entries
+pub mod Entry
+pub mod Store
+pub mod Victims
