@@ -1,4 +1,3 @@
 pub mod Products
-pub mod Pastes
 pub mod Places
 pub mod Tiles
