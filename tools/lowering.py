@@ -209,12 +209,16 @@ def run(main, usage, most):
         sys.exit(f"usage: {usage}")
     name = sys.argv[0].rpartition("/")[2]
     try:
-        texts = []
-        for file in files:
-            with open(file, encoding="utf-8", errors="replace") as text:
-                texts.append(text.read())
+        texts = [text_of(file) for file in files]
         print(main(*texts, **settings))
+    except BrokenPipeError:
+        sys.exit(1)
     except OSError as error:
         sys.exit(f"{name}: {error.filename}: {error.strerror}")
     except Unreadable as why:
         sys.exit(f"{name}: {why}")
+
+
+def text_of(file):
+    with open(file, encoding="utf-8", errors="replace") as text:
+        return text.read()
