@@ -1,4 +1,5 @@
 pub mod Products
+pub mod Panels
 pub mod Pastes
 pub mod Places
 pub mod Tiles

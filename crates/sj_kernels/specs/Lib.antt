@@ -1,3 +1,4 @@
 pub mod Has
 pub mod Rows
+pub mod Panels
 pub mod RingLaws
