@@ -1,5 +1,6 @@
 pub mod Products
 pub mod Panels
+pub mod Turns
 pub mod Pastes
 pub mod Places
 pub mod Tiles
