@@ -2,8 +2,9 @@
 # Times each kernel on square tiles of 8 to 1024 rows against plain C loops (loops.h), which gcc -O3 builds without machine
 # flags, and again with -march=x86-64-v2, for which Rattle's program is built. The program that calls the kernels is
 # written here and built in a scratch folder, so that the gate doesn't run it. The three take turns on one core, three
-# times five samples each (one on the largest tiles of the cubic kernels), and the best counts. Prints a table of C's time as a multiple of ours, so that 1 is as fast
-# and more is faster. Of the min-plus kernels the second column is C with the sum in the library's form.
+# times five samples each (one of a cubic kernel on the largest tiles), and the best counts. Prints a table of C's time
+# as a multiple of ours, so that 1 is as fast and more is faster: first against C without machine flags, then for
+# x86-64-v2, where C takes the sum of min-plus in a form in which nothing branches within a row.
 set -eu
 here=$(cd "$(dirname "$0")" && pwd)
 . "$here/../scratch.sh"
