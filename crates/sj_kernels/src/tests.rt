@@ -1,6 +1,7 @@
 //! Answers by hand and by plain loops: each kernel once, and each codelet once through the set.
 
 ghost use Rattle.std.specs.Prelude.{◌≡◌, ◌*◌, length, IfOk};
+ghost use Rattle.sj_base.specs.Array.{zeros};
 
 use crate::elementwise::{add, axpy, butterfly, copy, fill, scale};
 use crate::placement::{loadfill, paste, transpose};
@@ -259,49 +260,157 @@ fn single(alloc: Global, x: i64) -> Result<Tile, OutOfMemory>
     Ok(Tile::of(Dims { rows: 1, cols: 1 }, vec![in alloc; x]?))
 }
 
+/// Two zeros.
+fn zeros(alloc: Global) -> Result<Tile, OutOfMemory>
+    ensures { IfOk result (λ t. t ≡ zeros (record { rows = 1; cols = 2 })) }
+{
+    Tile::zeros(alloc, Dims { rows: 1, cols: 2 })
+}
+
+fn filled(alloc: Global) -> Result<Tile, OutOfMemory> {
+    Ok(ran!(alloc, FILL, &[7, 2];; zeros(alloc)?))
+}
+
+fn loaded(alloc: Global) -> Result<Tile, OutOfMemory> {
+    Ok(ran!(alloc, LOAD, &[5, -6];; zeros(alloc)?))
+}
+
+fn load_filled(alloc: Global) -> Result<Tile, OutOfMemory> {
+    Ok(ran!(alloc, LOADFILL, &[100, 10, 1, 2, 5];; zeros(alloc)?))
+}
+
+fn begun_at_zero(alloc: Global) -> Result<Tile, OutOfMemory> {
+    Ok(ran!(alloc, INIT_PLUS, &[];; zeros(alloc)?))
+}
+
+fn copied(alloc: Global, x: Tile) -> Result<Tile, OutOfMemory>
+    requires { x.dims ≡ record { rows = 1; cols = 2 } }
+{
+    Ok(ran!(alloc, COPY, &[]; x; zeros(alloc)?))
+}
+
+fn turned(alloc: Global, x: Tile) -> Result<Tile, OutOfMemory>
+    requires { x.dims ≡ record { rows = 1; cols = 2 } }
+{
+    let y = Tile::zeros(alloc, Dims { rows: 2, cols: 1 })?;
+    Ok(ran!(alloc, TRANSPOSE, &[]; x; y))
+}
+
+fn pasted(alloc: Global, x: Tile, y: Tile) -> Result<Tile, OutOfMemory>
+    requires x { x.dims ≡ record { rows = 1; cols = 2 } }
+    requires y { y.dims ≡ record { rows = 1; cols = 2 } }
+{
+    Ok(ran!(alloc, PASTE, &[0, 0, 0, 1, 1, 1]; x; y))
+}
+
+fn delivered(alloc: Global, x: Tile) -> Result<Tile, OutOfMemory>
+    requires { x.dims ≡ record { rows = 1; cols = 2 } }
+{
+    Ok(ran!(alloc, DELIVER, &[];; x))
+}
+
+fn scaled(alloc: Global, x: Tile) -> Result<Tile, OutOfMemory>
+    requires { x.dims ≡ record { rows = 1; cols = 2 } }
+{
+    Ok(ran!(alloc, SCALE, &[3];; x))
+}
+
+fn added(alloc: Global, x: Tile, y: Tile) -> Result<Tile, OutOfMemory>
+    requires x { x.dims ≡ record { rows = 1; cols = 2 } }
+    requires y { y.dims ≡ record { rows = 1; cols = 2 } }
+{
+    Ok(ran!(alloc, ADD, &[]; x; y))
+}
+
+fn added_twice(alloc: Global, x: Tile, y: Tile) -> Result<Tile, OutOfMemory>
+    requires x { x.dims ≡ record { rows = 1; cols = 2 } }
+    requires y { y.dims ≡ record { rows = 1; cols = 2 } }
+{
+    Ok(ran!(alloc, AXPY, &[2]; x; y))
+}
+
+fn differences(alloc: Global, x: Tile, y: Tile) -> Result<Tile, OutOfMemory>
+    requires x { x.dims ≡ record { rows = 1; cols = 2 } }
+    requires y { y.dims ≡ record { rows = 1; cols = 2 } }
+{
+    Ok(ran!(alloc, BUTTERFLY, &[];; x, y))
+}
+
+fn multiplied(alloc: Global, a: Tile, b: Tile, c: Tile) -> Result<Tile, OutOfMemory>
+    requires a { a.dims ≡ record { rows = 1; cols = 1 } }
+    requires b { b.dims ≡ record { rows = 1; cols = 2 } }
+    requires c { c.dims ≡ record { rows = 1; cols = 2 } }
+{
+    Ok(ran!(alloc, GEMM, &[]; a, b; c))
+}
+
+fn multiplied_twice(alloc: Global, a: Tile, b: Tile, d: Tile, c: Tile) -> Result<Tile, OutOfMemory>
+    requires a { a.dims ≡ record { rows = 1; cols = 1 } }
+    requires b { b.dims ≡ record { rows = 1; cols = 1 } }
+    requires d { d.dims ≡ record { rows = 1; cols = 2 } }
+    requires c { c.dims ≡ record { rows = 1; cols = 2 } }
+{
+    let scratch = Tile::zeros(alloc, Dims { rows: 1, cols: 1 })?;
+    Ok(ran!(alloc, GEMM3, &[]; a, b, d; scratch, c))
+}
+
+fn dotted(alloc: Global, x: Tile, y: Tile, s: Tile) -> Result<Tile, OutOfMemory>
+    requires x { x.dims ≡ record { rows = 1; cols = 2 } }
+    requires y { y.dims ≡ record { rows = 1; cols = 2 } }
+    requires s { s.dims ≡ record { rows = 1; cols = 1 } }
+{
+    Ok(ran!(alloc, DOT, &[]; x, y; s))
+}
+
+fn summed(alloc: Global, x: Tile, s: Tile) -> Result<Tile, OutOfMemory>
+    requires x { x.dims ≡ record { rows = 1; cols = 2 } }
+    requires s { s.dims ≡ record { rows = 1; cols = 1 } }
+{
+    Ok(ran!(alloc, SUM, &[]; x; s))
+}
+
 #[test]
 fn the_set_makes_elements(rt: HostRuntime) -> Result<(), OutOfMemory> {
     let alloc = rt.alloc();
-    let dims = Dims { rows: 1, cols: 2 };
-    let x = ran!(alloc, FILL, &[7, 2];; Tile::zeros(alloc, dims)?);
-    assert_eq!(rt; x.elements(), [7i64, 9].as_slice());
-    let x = ran!(alloc, LOAD, &[5, -6];; Tile::zeros(alloc, dims)?);
-    assert_eq!(rt; x.elements(), [5i64, -6].as_slice());
-    let x = ran!(alloc, LOADFILL, &[100, 10, 1, 2, 5];; Tile::zeros(alloc, dims)?);
-    assert_eq!(rt; x.elements(), [170i64, 180].as_slice());
-    let x = ran!(alloc, INIT_PLUS, &[];; Tile::zeros(alloc, dims)?);
-    assert_eq!(rt; x.elements(), [0i64, 0].as_slice());
+    assert_eq!(rt; filled(alloc)?.elements(), [7i64, 9].as_slice());
+    assert_eq!(rt; loaded(alloc)?.elements(), [5i64, -6].as_slice());
+    assert_eq!(rt; load_filled(alloc)?.elements(), [170i64, 180].as_slice());
+    assert_eq!(rt; begun_at_zero(alloc)?.elements(), [0i64, 0].as_slice());
     Ok(())
 }
 
 #[test]
 fn the_set_moves_elements(rt: HostRuntime) -> Result<(), OutOfMemory> {
     let alloc = rt.alloc();
-    let dims = Dims { rows: 1, cols: 2 };
-    let y = ran!(alloc, COPY, &[]; pair(alloc, 5, -6)?; Tile::zeros(alloc, dims)?);
-    assert_eq!(rt; y.elements(), [5i64, -6].as_slice());
-    let turned = Tile::zeros(alloc, Dims { rows: 2, cols: 1 })?;
-    let y = ran!(alloc, TRANSPOSE, &[]; pair(alloc, 5, -6)?; turned);
-    assert_eq!(rt; y.elements(), [5i64, -6].as_slice());
-    let y = ran!(alloc, PASTE, &[0, 0, 0, 1, 1, 1]; pair(alloc, 5, -6)?; pair(alloc, 1, 2)?);
+    assert_eq!(rt;
+        copied(alloc, pair(alloc, 5, -6)?)?.elements(),
+        [5i64, -6].as_slice()
+    );
+    assert_eq!(rt;
+        turned(alloc, pair(alloc, 5, -6)?)?.elements(),
+        [5i64, -6].as_slice()
+    );
+    let y = pasted(alloc, pair(alloc, 5, -6)?, pair(alloc, 1, 2)?)?;
     assert_eq!(rt; y.elements(), [1i64, 5].as_slice());
-    let mut frame = Frame::with_room(alloc, 1)?;
-    frame.push_own(pair(alloc, 3, 4)?);
-    Ring.run(alloc, DELIVER, &[], &mut frame)?;
-    assert_eq!(rt; frame.take_own().elements(), [3i64, 4].as_slice());
+    assert_eq!(rt;
+        delivered(alloc, pair(alloc, 3, 4)?)?.elements(),
+        [3i64, 4].as_slice()
+    );
     Ok(())
 }
 
 #[test]
 fn the_set_changes_elements(rt: HostRuntime) -> Result<(), OutOfMemory> {
     let alloc = rt.alloc();
-    let x = ran!(alloc, SCALE, &[3];; pair(alloc, 4, -5)?);
-    assert_eq!(rt; x.elements(), [12i64, -15].as_slice());
-    let y = ran!(alloc, ADD, &[]; pair(alloc, i64::MAX, 4)?; pair(alloc, 1, -6)?);
+    assert_eq!(rt;
+        scaled(alloc, pair(alloc, 4, -5)?)?.elements(),
+        [12i64, -15].as_slice()
+    );
+    let y = added(alloc, pair(alloc, i64::MAX, 4)?, pair(alloc, 1, -6)?)?;
     assert_eq!(rt; y.elements(), [i64::MIN, -2].as_slice());
-    let y = ran!(alloc, AXPY, &[2]; pair(alloc, 5, 6)?; pair(alloc, 1, 2)?);
+    let y = added_twice(alloc, pair(alloc, 5, 6)?, pair(alloc, 1, 2)?)?;
     assert_eq!(rt; y.elements(), [11i64, 14].as_slice());
-    let y = ran!(alloc, BUTTERFLY, &[];; pair(alloc, 5, 6)?, pair(alloc, 1, 2)?);
+    let y = differences(alloc, pair(alloc, 5, 6)?, pair(alloc, 1, 2)?)?;
     assert_eq!(rt; y.elements(), [4i64, 4].as_slice());
     Ok(())
 }
@@ -309,15 +418,24 @@ fn the_set_changes_elements(rt: HostRuntime) -> Result<(), OutOfMemory> {
 #[test]
 fn the_set_multiplies_and_sums(rt: HostRuntime) -> Result<(), OutOfMemory> {
     let alloc = rt.alloc();
-    let c = ran!(alloc, GEMM, &[]; single(alloc, 3)?, pair(alloc, 5, 6)?; pair(alloc, 1, 2)?);
+    let c = multiplied(
+        alloc,
+        single(alloc, 3)?,
+        pair(alloc, 5, 6)?,
+        pair(alloc, 1, 2)?,
+    )?;
     assert_eq!(rt; c.elements(), [16i64, 20].as_slice());
-    let scratch = Tile::zeros(alloc, Dims { rows: 1, cols: 1 })?;
-    let c =
-        ran!(alloc, GEMM3, &[]; single(alloc, 3)?, single(alloc, 2)?, pair(alloc, 5, 6)?; scratch, pair(alloc, 1, 2)?);
+    let (a, b) = (single(alloc, 3)?, single(alloc, 2)?);
+    let c = multiplied_twice(alloc, a, b, pair(alloc, 5, 6)?, pair(alloc, 1, 2)?)?;
     assert_eq!(rt; c.elements(), [31i64, 38].as_slice());
-    let s = ran!(alloc, DOT, &[]; pair(alloc, 3, 4)?, pair(alloc, 5, 6)?; single(alloc, 1)?);
+    let s = dotted(
+        alloc,
+        pair(alloc, 3, 4)?,
+        pair(alloc, 5, 6)?,
+        single(alloc, 1)?,
+    )?;
     assert_eq!(rt; s.elements(), [40i64].as_slice());
-    let s = ran!(alloc, SUM, &[]; pair(alloc, 3, 4)?; single(alloc, 1)?);
+    let s = summed(alloc, pair(alloc, 3, 4)?, single(alloc, 1)?)?;
     assert_eq!(rt; s.elements(), [8i64].as_slice());
     Ok(())
 }
