@@ -2,7 +2,7 @@ use Rattle.std.proofs.Common.{◌≡◌, ◌+◌, ◌*◌, ◌+ℤ◌, ◌*ℤ�
 use Rattle.sj_base.specs.Array.{at}
 use Rattle.sj_codelet.specs.Ring.{wrap, sum_below}
 use Rattle.sj_codelet.specs.Listing.{listing}
-use Rattle.sj_kernels.proofs.product.gemm_row.Given as goal
+use Rattle.sj_kernels.proofs.product.one_row.Given as goal
 
 abbrev pub invariant-loop-l : goal.invariant-loop-l
 invariant-loop-l l =

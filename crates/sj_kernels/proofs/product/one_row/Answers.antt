@@ -8,7 +8,7 @@ use Rattle.sj_codelet.specs.Listing.{listing}
 use Rattle.sj_codelet.proofs.Filling.{each_listing}
 use Rattle.sj_codelet.proofs.Rows.{at-row}
 use Rattle.sj_kernels.proofs.Products.{row_none, row_more}
-use Rattle.sj_kernels.proofs.product.gemm_row.Goals as goal
+use Rattle.sj_kernels.proofs.product.one_row.Goals as goal
 
 pub loop-l-init : goal.loop-l-init
 loop-l-init c = row_none c.args.c.now (λ j q. at c.args.a.now q *ℤ at c.args.b.now (q * length c.args.c.now + j)) c.read_all.ensures
