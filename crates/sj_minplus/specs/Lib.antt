@@ -1,4 +1,5 @@
 pub mod Matrix
+pub mod Short
 pub mod Turns
 pub mod Has
 pub mod LeastArrays

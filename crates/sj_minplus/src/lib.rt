@@ -6,6 +6,7 @@ pub mod library;
 pub mod product;
 mod row;
 mod runs;
+mod short;
 pub mod sum;
 #[cfg(test)]
 mod tests;
