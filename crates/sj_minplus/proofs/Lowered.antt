@@ -1,5 +1,5 @@
 -- Sums of min-plus on numbers that are held 2^63 lower.
-use Rattle.std.proofs.Common.{◌≡◌, ℤ, pos, negsuc, ◌+ℤ◌, ◌≤ℤ◌, ◌<ℤ◌, arith, ⊎_elim, FitsSigned, ◌∙◌, ap}
+use Rattle.std.proofs.Common.{◌≡◌, ℤ, pos, negsuc, ◌+ℤ◌, ◌-ℤ◌, ◌≤ℤ◌, ◌<ℤ◌, arith, ⊎_elim, FitsSigned, ◌∙◌, ap}
 use Rattle.std.specs.Int.{int_min, w64}
 use Rattle.std.proofs.lemmas.Int.{ints, clamps}
 use Rattle.sj_codelet.specs.MinPlus.{inf, least, plus}
@@ -9,7 +9,7 @@ use Rattle.sj_minplus.specs.Short.{IsShort, raised}
 short_below : (z : ℤ) → IsShort z → z ≤ℤ inf
 short_below z s = ⊎_elim (λ (e : z ≡ inf). omega (arith, ints)) (λ (h : z <ℤ pos 4611686018427387904). omega (arith, ints)) s.stop
 
-fits_within : (z : ℤ) → least ≤ℤ z → z ≤ℤ inf → FitsSigned w64 z
+pub fits_within : (z : ℤ) → least ≤ℤ z → z ≤ℤ inf → FitsSigned w64 z
 fits_within (pos n) h k = record { sfits = omega (arith, ints) }
 fits_within (negsuc n) h k = record { sfits = omega (arith, ints) }
 
@@ -46,3 +46,14 @@ pub low_two_steps : (a b d e y : ℤ) → IsShort a → IsShort b → IsShort d 
 low_two_steps a b d e y s t u v n =
     low_step d e (int_min y (a +ℤ least +ℤ b)) u v (low_stays y (a +ℤ least +ℤ b) n)
     ∙ ap (λ x. int_min x (plus d e)) (low_step a b y s t n)
+
+-- a sum below a number is exact, and the lesser of the two
+near_lesser : (x a b : ℤ) → x ≤ℤ inf → pos 0 ≤ℤ a → a <ℤ pos 4611686018427387904 → pos 0 ≤ℤ b → b <ℤ pos 4611686018427387904 → b <ℤ (x -ℤ a) → b +ℤ a ≡ int_min x (plus a b)
+near_lesser x a b top h k i j less = grind (arith, ints, clamps)
+
+pub exact_lesser : (x a b : ℤ) → x ≤ℤ inf → IsShort a → IsShort b → b <ℤ (x -ℤ a) → b +ℤ a ≡ int_min x (plus a b)
+exact_lesser x a b top s t less =
+    let p = s.start in
+    let q = t.start in
+    ⊎_elim (λ (e : a ≡ inf). absurd (omega (arith, ints))) (λ (h : a <ℤ pos 4611686018427387904).
+    ⊎_elim (λ (e : b ≡ inf). absurd (omega (arith, ints))) (λ (k : b <ℤ pos 4611686018427387904). near_lesser x a b top s.start h t.start k less) t.stop) s.stop

@@ -21,6 +21,14 @@ fn bits_but_of_inf(x: i64) -> u64
     if x == INF { 0 } else { x.cast_unsigned() }
 }
 
+/// Whether a number is `INF` or from 0 below 2^62. Constant time.
+#[inline(always)]
+pub fn is_short(x: i64) -> bool
+    ensures { IsTrue result → IsShort x }
+{
+    bits_but_of_inf(x) < SHORT
+}
+
 /// Whether each number is `INF` or from 0 below 2^62. Linear, without branches.
 pub fn are_short(xs: &[i64]) -> bool
     ensures { IsTrue result → All IsShort xs.now }
@@ -49,6 +57,14 @@ pub fn none_negative(xs: &[i64]) -> bool
         seen |= bits(*x);
     }
     seen <= INF as u64
+}
+
+/// Whether no number of either is negative. Linear, without branches.
+pub fn none_negative_of(xs: &[i64], ys: &[i64]) -> bool
+    ensures first { IsTrue result → All NotNegative xs.now }
+    ensures second { IsTrue result → All NotNegative ys.now }
+{
+    none_negative(xs) && none_negative(ys)
 }
 
 /// Each number is held 2^63 lower.
