@@ -7,7 +7,7 @@ ghost use Rattle.sj_base.specs.Array.{at};
 ghost use Rattle.sj_codelet.specs.MinPlus.{plus};
 ghost use Rattle.sj_minplus.specs.Short.{IsShort, NotNegative};
 
-use crate::short::is_short;
+use crate::short::is_short_way;
 use crate::sum::plus;
 
 /// Each element becomes the lesser of itself and `via` with the element of `other`. Linear in the row.
@@ -46,8 +46,9 @@ fn relax_short(row: &mut [i64], via: i64, other: &[i64])
     }
 }
 
-/// The same as `relax` in about half the time where `via` is short, and `short` is known of the rows: that none of the
-/// row's elements is negative, and all of the other's are short.
+/// The same as `relax`, in less time where `via` is from 0 below 2^62 and `short` is known of the rows: that none of the
+/// row's elements is negative, and all of the other's are short. Where `via` is `INF`, nothing changes, and `relax` finds
+/// that at once.
 pub fn relax_either(row: &mut [i64], via: i64, other: &[i64], short: bool)
     requires lengths { length row.old ≡ length other.now }
     requires row { IsTrue short → All NotNegative row.old }
@@ -55,7 +56,7 @@ pub fn relax_either(row: &mut [i64], via: i64, other: &[i64], short: bool)
     ensures { (j : ℕ) → j < length row.old
         → at row.new j ≡ int_min (at row.old j) (plus via (at other.now j)) }
 {
-    if short && is_short(via) {
+    if short && is_short_way(via) {
         relax_short(row, via, other);
     } else {
         relax(row, via, other);

@@ -21,12 +21,12 @@ fn bits_but_of_inf(x: i64) -> u64
     if x == INF { 0 } else { x.cast_unsigned() }
 }
 
-/// Whether a number is `INF` or from 0 below 2^62. Constant time.
+/// Whether a number is from 0 below 2^62. Constant time.
 #[inline(always)]
-pub fn is_short(x: i64) -> bool
+pub fn is_short_way(x: i64) -> bool
     ensures { IsTrue result → IsShort x }
 {
-    bits_but_of_inf(x) < SHORT
+    x.cast_unsigned() < SHORT
 }
 
 /// Whether each number is `INF` or from 0 below 2^62. Linear, without branches.
