@@ -47,13 +47,24 @@ low_two_steps a b d e y s t u v n =
     low_step d e (int_min y (a +ℤ least +ℤ b)) u v (low_stays y (a +ℤ least +ℤ b) n)
     ∙ ap (λ x. int_min x (plus d e)) (low_step a b y s t n)
 
--- a sum below a number is exact, and the lesser of the two
-near_lesser : (x a b : ℤ) → x ≤ℤ inf → pos 0 ≤ℤ a → a <ℤ pos 4611686018427387904 → pos 0 ≤ℤ b → b <ℤ pos 4611686018427387904 → b <ℤ (x -ℤ a) → b +ℤ a ≡ int_min x (plus a b)
-near_lesser x a b top h k i j less = grind (arith, ints, clamps)
+-- the lesser of a number and a sum, by what the sum's first number leaves of it
+left_near : (x a b : ℤ) → x ≤ℤ inf → pos 0 ≤ℤ a → a <ℤ pos 4611686018427387904 → pos 0 ≤ℤ b → b <ℤ pos 4611686018427387904 → int_min b (x -ℤ a) +ℤ a ≡ int_min x (plus a b)
+left_near x a b top h k i j = grind (arith, ints, clamps)
 
-pub exact_lesser : (x a b : ℤ) → x ≤ℤ inf → IsShort a → IsShort b → b <ℤ (x -ℤ a) → b +ℤ a ≡ int_min x (plus a b)
-exact_lesser x a b top s t less =
-    let p = s.start in
-    let q = t.start in
-    ⊎_elim (λ (e : a ≡ inf). absurd (omega (arith, ints))) (λ (h : a <ℤ pos 4611686018427387904).
-    ⊎_elim (λ (e : b ≡ inf). absurd (omega (arith, ints))) (λ (k : b <ℤ pos 4611686018427387904). near_lesser x a b top s.start h t.start k less) t.stop) s.stop
+left_of_inf : (x a : ℤ) → x ≤ℤ inf → pos 0 ≤ℤ a → a <ℤ pos 4611686018427387904 → int_min inf (x -ℤ a) +ℤ a ≡ int_min x (plus a inf)
+left_of_inf x a top h k = grind (arith, ints, clamps)
+
+left_inf : (x b : ℤ) → x ≤ℤ inf → pos 0 ≤ℤ b → int_min b (x -ℤ inf) +ℤ inf ≡ int_min x inf
+left_inf x b top h = omega (arith, ints, clamps)
+
+pub left_lesser : (x a b : ℤ) → x ≤ℤ inf → IsShort a → IsShort b → int_min b (x -ℤ a) +ℤ a ≡ int_min x (plus a b)
+left_lesser x a b top s t =
+    ⊎_elim (λ (e : a ≡ inf). rw e (left_inf x b top t.start)) (λ (h : a <ℤ pos 4611686018427387904).
+    ⊎_elim (λ (e : b ≡ inf). rw e (left_of_inf x a top s.start h)) (λ (k : b <ℤ pos 4611686018427387904). left_near x a b top s.start h t.start k) t.stop) s.stop
+
+pub left_fits : (x a b : ℤ) → pos 0 ≤ℤ x → x ≤ℤ inf → pos 0 ≤ℤ a → a ≤ℤ inf → pos 0 ≤ℤ b → FitsSigned w64 (int_min b (x -ℤ a) +ℤ a)
+left_fits x a b h k i j l =
+    fits_within (int_min b (x -ℤ a) +ℤ a) (omega (arith, ints, clamps)) (omega (arith, ints, clamps))
+
+pub left_of : (x a : ℤ) → pos 0 ≤ℤ x → x ≤ℤ inf → pos 0 ≤ℤ a → a ≤ℤ inf → FitsSigned w64 (x -ℤ a)
+left_of x a h k i j = fits_within (x -ℤ a) (omega (arith, ints)) (omega (arith, ints))

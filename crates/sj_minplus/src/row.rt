@@ -21,7 +21,7 @@ pub fn relax(row: &mut [i64], via: i64, other: &[i64])
     }
 }
 
-/// The lesser of `x` and the sum of `via` and `y`, which needs no clamp: where it is the lesser, it is exact.
+/// The lesser of `x` and the sum of `via` and `y`, which needs no clamp: `via` is added to what it leaves of the lesser.
 #[inline(always)]
 fn lesser(x: i64, via: i64, y: i64) -> i64
     requires x { NotNegative x }
@@ -29,7 +29,7 @@ fn lesser(x: i64, via: i64, y: i64) -> i64
     requires y { IsShort y }
     ensures { result ≡ int_min x (plus via y) }
 {
-    if y < x - via { y + via } else { x }
+    y.min(x - via) + via
 }
 
 /// The same as `relax` where all numbers are short.
