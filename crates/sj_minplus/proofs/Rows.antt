@@ -1,8 +1,9 @@
 -- A list that is rewritten one place after another.
-use Rattle.std.proofs.Common.{◌≡◌, ℕ, ◌+◌, ◌*◌, ◌<◌, ◌≤◌, length, List, ℤ, pos, slice_set, arith, ◌≢◌, below_more, get_or-set_other, get_or-set_same}
+use Rattle.std.proofs.Common.{◌≡◌, ℕ, ◌+◌, ◌*◌, ◌<◌, ◌≤◌, length, List, ℤ, pos, slice_set, bit_or, arith, ◌≢◌, below_more, get_or-set_other, get_or-set_same}
 use Rattle.std.specs.List.{All}
 use Rattle.std.proofs.lemmas.List.{get_or_default}
 use Rattle.std.proofs.lemmas.Grind.{common_steps}
+use Rattle.std.proofs.lemmas.Nat.{le_or_l, le_or_r}
 use Rattle.std.proofs.lemmas.List.FromFn.{fill_by_all}
 use Rattle.sj_base.specs.Array.{at, each}
 use Rattle.sj_codelet.specs.Equations.{vector}
@@ -31,3 +32,8 @@ all_more P xs j v within here below =
 -- what holds of all places of a list
 pub all_from : (P : ℤ → Type 0) (xs : List ℤ) → ((p : ℕ) → p < length xs → P (at xs p)) → All P xs
 all_from P xs h = λ k d l. rw (get_or_default xs k d (pos 0) l) (h k l)
+
+-- where the bits of all that was seen stay below a bound, each is below it
+pub seen_more : (P : ℤ → Type 0) (bound : ℕ) (xs : List ℤ) (i seen here : ℕ) → ((p : ℕ) → p < i → seen < bound → P (at xs p)) → (here < bound → P (at xs i)) → (p : ℕ) → p < i + 1 → bit_or seen here < bound → P (at xs p)
+seen_more P bound xs i seen here before last =
+    below_more (λ p. bit_or seen here < bound → P (at xs p)) i (λ p h s. before p h (omega (arith, le_or_l seen here))) (λ s. last (omega (arith, le_or_r seen here)))

@@ -11,8 +11,8 @@ ghost use Rattle.sj_minplus.specs.Short.{IsShort, NotNegative, IsNegative, raise
 use crate::row::relax;
 use crate::short::{are_short, lower, none_negative, raise, relax_low, relax_low_twice};
 
-/// `c[j]` becomes the least of itself and all `a[l] + b[l,j]`, where `b` has a row for each element of `a`. Whether all of
-/// `b` is short is known.
+/// `c[j]` becomes the least of itself and all `a[l] + b[l,j]`, where `b` has a row for each element of `a`. `short` is
+/// known of `b`: that all its elements are short.
 fn relax_by_all(a: &[i64], b: &[i64], c: &mut [i64], short: bool)
     requires lengths { length b.now ≡ length a.now * length c.old }
     requires short { IsTrue short → All IsShort b.now }

@@ -1,5 +1,6 @@
 //! Shortest ways within blocks of a matrix of lengths (Floyd and Warshall): a turn for each vertex, in which each
-//! element becomes the lesser of itself and the way through this vertex, all from the elements before the turn.
+//! element becomes the lesser of itself and the way through this vertex, all from the elements before the turn. A turn
+//! takes less time where no element is negative, and those of the row of its vertex are `INF` or below 2^62.
 
 ghost use Rattle.std.specs.Prelude.{◌≡◌, ℕ, ◌+◌, ◌*◌, ◌<◌, ◌≤◌, length, IsTrue};
 ghost use Rattle.std.specs.Int.{int_min};

@@ -8,7 +8,6 @@ use Rattle.sj_minplus.specs.Lanes.{AreLanes}
 use Rattle.sj_minplus.proofs.Vectors.{bits_of, at_selected, lanes_selected, lane_back}
 use Rattle.sj_minplus.proofs.lanes.where_less.Goals as goal
 
-
 pub returns-clause-lanes : goal.returns-clause-lanes
 returns-clause-lanes c =
     let t = λ (a b : ℕ). lt_z (to_z w64 a) (to_z w64 b) in
