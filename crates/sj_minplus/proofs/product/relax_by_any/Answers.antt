@@ -5,7 +5,7 @@ use Rattle.sj_base.specs.Array.{at}
 use Rattle.sj_codelet.specs.MinPlus.{plus}
 use Rattle.sj_minplus.proofs.Matrices.{at_slice}
 use Rattle.sj_minplus.proofs.Products.{least_step}
-use Rattle.sj_minplus.proofs.product.relax_by_all.Goals as goal
+use Rattle.sj_minplus.proofs.product.relax_by_any.Goals as goal
 
 pub loop-l-preserved : goal.loop-l-preserved
 loop-l-preserved c = λ j below.
