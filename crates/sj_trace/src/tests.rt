@@ -16,7 +16,8 @@ fn a_trace_has_a_line_for_each_event(rt: HostRuntime) -> Result<(), OutOfMemory>
     trace.add(Event::Drop(Cell(7), Node(0)));
     trace.add(Event::Run(Task(10), Worker(1)));
     trace.add(Event::End(Task(10), Worker(1)));
-    let lines = b"claim t10 w1\nmove c7 n0 d2\nmoved c7 n0 d2\ndrop c7 n0\nrun t10 w1\nend t10 w1\n";
+    let lines =
+        b"claim t10 w1\nmove c7 n0 d2\nmoved c7 n0 d2\ndrop c7 n0\nrun t10 w1\nend t10 w1\n";
     let written = text(rt.alloc(), &trace)?;
     assert_eq!(rt; written.as_slice(), lines.as_slice());
     Ok(())
