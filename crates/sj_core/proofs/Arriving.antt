@@ -141,7 +141,7 @@ module _ (p : Program) (m : Machine) (s : State) (h : IsSound p m s) (c : Cell) 
         ];
         home = λ x d valid. elim (cases x (OnDisk d)) [
           | inl same ↦ before.home x d (sym (ap is_valid same) ∙ valid)
-          | inr (e, at, is) ↦ before.aimed w ending d moved.under_way (sym at) ∙ ap (disk_of p m) (sym e)
+          | inr (e, at, is) ↦ ap (disk_of p m) e ∙ before.aimed w ending d moved.under_way (sym at)
         ];
         aimed = λ v x d under_way. before.aimed v x d (others v x under_way).1;
       }

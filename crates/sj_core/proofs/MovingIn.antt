@@ -1,6 +1,6 @@
 -- A move into a node that begins leaves a coherent state.
 use Rattle.std.proofs.Common.{◌≡◌, ℕ, Bool, true, false, not, ◌&&◌, refl, sym, ap, ◌∙◌, subst, inl, inr, ◌⊎◌, Option, None, Some}
-use Rattle.std.specs.Prelude.{IsTrue, position}
+use Rattle.std.specs.Prelude.{IsTrue, option_map, position}
 use Rattle.std.proofs.lemmas.Bool.{false≢true, and_from}
 use Rattle.std.proofs.lemmas.List.{length-set}
 use Rattle.std.proofs.lemmas.List.Quantifiers.{position-Some}
@@ -16,7 +16,7 @@ use Rattle.sj_core.specs.Program.{same_cell, has_cell}
 use Rattle.sj_core.specs.declared.progress.Transfer.{Transfer}
 use Rattle.sj_core.specs.Operands.{fresh_cells}
 use Rattle.sj_core.specs.Machine.{State, Invalid, cell_state, replica, transfer, progress, is_valid, is_leaving_by, is_coming_by, is_claimed_by, with_transfer}
-use Rattle.sj_core.specs.Step.{BeginsMoveIn, a_transfer, source_of, disk_of, is_fresh}
+use Rattle.sj_core.specs.Step.{BeginsMoveIn, a_transfer, disk_of, is_fresh}
 use Rattle.sj_core.specs.Coherent.{IsClaimed, IsTransferTo, NoneLeavesBy, TransfersAreSound, Coherent}
 use Rattle.sj_core.specs.Laws.{IsSound}
 use Rattle.sj_core.proofs.Reading.{same_cell-is}
@@ -52,13 +52,16 @@ module _ (p : Program) (m : Machine) (s : State) (h : IsSound p m s) (c : Cell) 
   somewhere : (q : Place) × IsTrue (is_valid (replica s c q))
   somewhere = h.coherent.copies.valid_somewhere c (claimed-old_value p m s h claimed.task w claimed.claimed c claimed.cell not_fresh) (claimed-not_written p m s h claimed.task w claimed.claimed c claimed.cell)
 
-  source_valid : is_valid (replica s c (source_of p m s c)) ≡ true
-  source_valid = by_position (position is_valid (cell_state s c).nodes) refl somewhere.0 somewhere.1
+  source_valid : is_valid (replica s c from) ≡ true
+  source_valid = by_position (position is_valid (cell_state s c).nodes) refl move.source somewhere.0 somewhere.1
     where
-      by_position : (o : Option ℕ) → position is_valid (cell_state s c).nodes ≡ o → (q : Place) → is_valid (replica s c q) ≡ true → is_valid (replica s c (elim o as (λ _. Place) [ None ↦ OnDisk (disk_of p m c) | Some k ↦ AtNode (record { 0 = k }) ])) ≡ true
-      by_position (Some k) e q valid = (position-Some is_valid (cell_state s c).nodes k Invalid e).1
-      by_position None e (AtNode k) valid = absurd (false≢true (sym (position-none is_valid (cell_state s c).nodes k.0 Invalid e (valid-within (cell_state s c).nodes k.0 valid)) ∙ valid))
-      by_position None e (OnDisk d) valid = ap (λ (x : DiskNo). is_valid (replica s c (OnDisk x))) (sym (h.coherent.state.blocks.home c d valid)) ∙ valid
+      found : (q : Place) → Some q ≡ Some from → is_valid (replica s c q) ≡ true → is_valid (replica s c from) ≡ true
+      found q e valid = let f : q ≡ from = cc in ap (λ (k : Place). is_valid (replica s c k)) (sym f) ∙ valid
+
+      by_position : (o : Option ℕ) → position is_valid (cell_state s c).nodes ≡ o → elim o as (λ _. Option Place) [ None ↦ option_map OnDisk (disk_of p m c) | Some k ↦ Some (AtNode (record { 0 = k })) ] ≡ Some from → (q : Place) → is_valid (replica s c q) ≡ true → is_valid (replica s c from) ≡ true
+      by_position (Some k) e f q valid = found (AtNode (record { 0 = k })) f (position-Some is_valid (cell_state s c).nodes k Invalid e).1
+      by_position None e f (AtNode k) valid = absurd (false≢true (sym (position-none is_valid (cell_state s c).nodes k.0 Invalid e (valid-within (cell_state s c).nodes k.0 valid)) ∙ valid))
+      by_position None e f (OnDisk d) valid = found (OnDisk d) (sym (ap (λ (o : Option DiskNo). option_map OnDisk o) (h.coherent.state.blocks.home c d valid)) ∙ f) valid
 
   -- nothing leaves by the claim any more
   none_leaves : NoneLeavesBy s w
@@ -81,7 +84,7 @@ module _ (p : Program) (m : Machine) (s : State) (h : IsSound p m s) (c : Cell) 
       record {
         source = λ v x under_way. elim (transfers v x under_way) [
           | inl same ↦ before.source v x same
-          | inr (e, is) ↦ subst (λ (y : Transfer). is_valid (replica s y.cell y.from) ≡ true) is (ap (λ (q : Place). is_valid (replica s c q)) move.source ∙ source_valid)
+          | inr (e, is) ↦ subst (λ (y : Transfer). is_valid (replica s y.cell y.from) ≡ true) is source_valid
         ];
         target = λ v x under_way. elim (transfers v x under_way) [
           | inl same ↦ to_place v x.cell x.from x.to (before.target v x same)

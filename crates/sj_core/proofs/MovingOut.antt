@@ -121,7 +121,7 @@ module _ (p : Program) (m : Machine) (s : State) (h : IsSound p m s) (c : Cell) 
       home = blocks.home;
       aimed = λ v x k under_way to. elim (transfers v x under_way) [
         | inl same ↦ blocks.aimed v x k same to
-        | inr (e, is) ↦ sym (disk-is k (ap (λ (y : Transfer). y.to) is ∙ to)) ∙ move.target ∙ ap (λ (y : Transfer). disk_of p m y.cell) is
+        | inr (e, is) ↦ ap (λ (y : Transfer). disk_of p m y.cell) (sym is) ∙ move.target ∙ ap Some (disk-is k (ap (λ (y : Transfer). y.to) is ∙ to))
       ];
     });
     same_pins = pins-same s w (Some begun);

@@ -156,7 +156,7 @@ pub record IsOpenAt (f : Phase) (n : ℕ) : Type 0 where
   pub unfinished : (k : ℕ) × Contains f.combines k × (n ≤ k)
 
 -- each partial copy is filled once, then come the contributions, then each copy is combined once, in worker order,
--- and meanwhile nothing else accesses the cell or its copies
+-- and meanwhile nothing else accesses the cell or its copies; a scratch buffer is no access
 pub record IsPhase (p : Program) (f : Phase) : Type 0 where
   pub inits_by_worker : length f.inits ≡ p.workers
   pub combines_by_worker : length f.combines ≡ p.workers
@@ -167,7 +167,7 @@ pub record IsPhase (p : Program) (f : Phase) : Type 0 where
   pub inits_first : All (λ i. All (λ n. i < n) f.contributions) f.inits
   pub combines_last : All (λ n. All (λ k. n < k) f.combines) f.contributions
   pub in_worker_order : AllPairs (λ j k. j < k) f.combines
-  pub alone : (n : ℕ) (a : Access) → IsOpenAt f n → Contains (task_number p n).accesses a → Touches p f.cell a → IsMember f n ⊎ IsFirstUnit p f n
+  pub alone : (n : ℕ) (a : Access) → IsOpenAt f n → Contains (data_operands (task_number p n)) a → Touches p f.cell a → IsMember f n ⊎ IsFirstUnit p f n
 
 pub record HasPhases (p : Program) : Type 0 where
   pub phases : List Phase
