@@ -236,7 +236,7 @@ trace =
     []
 
 pub is_legal : Legal job machine trace
-is_legal = record { left = s-20; replays = (s-1, step-1, (s-2, step-2, (s-3, step-3, (s-4, step-4, (s-5, step-5, (s-6, step-6, (s-7, step-7, (s-8, (the_worker, step-8), (s-9, (the_worker, step-9), (s-10, step-10, (s-11, step-11, (s-12, step-12, (s-13, step-13, (s-14, (the_worker, step-14), (s-15, (the_worker, step-15), (s-16, step-16, (s-17, (the_worker, step-17), (s-18, (the_worker, step-18), (s-19, step-19, (s-20, step-20, refl)))))))))))))))))))) }
+is_legal = record { left = s-20; replays = (s-1, step-1, (s-2, step-2, (s-3, step-3, (s-4, step-4, (s-5, step-5, (s-6, step-6, (s-7, step-7, (s-8, step-8, (s-9, step-9, (s-10, step-10, (s-11, step-11, (s-12, step-12, (s-13, step-13, (s-14, step-14, (s-15, step-15, (s-16, step-16, (s-17, step-17, (s-18, step-18, (s-19, step-19, (s-20, step-20, refl)))))))))))))))))))) }
 
 pub is_complete : IsComplete s-20
 is_complete = refl

@@ -2,6 +2,7 @@ pub mod AddRun
 pub mod Advancing
 pub mod Agreeing
 pub mod Arriving
+pub mod Blocks
 pub mod Bound
 pub mod Bytes
 pub mod CellLists
@@ -34,6 +35,7 @@ pub mod Replaying
 pub mod Separation
 pub mod Sharing
 pub mod Shifting
+pub mod States
 pub mod Sums
 pub mod Tables
 pub mod TaskCells

@@ -69,9 +69,9 @@ step-takes p m s s' (Run t w) u rows step =
     takes-by s s' t u (Claimed w) (Running w) none one none (Runs-advances p m s t w s' step) (record { begun = refl; started = refl; done = refl }) refl refl refl (nat_eq t.0 u.0) refl
 step-takes p m s s' (End t w) u rows step =
     takes-by s s' t u (Running w) (Done w) none none one (Ends-advances p m s t w s' step) (record { begun = refl; started = refl; done = refl }) refl refl refl (nat_eq t.0 u.0) refl
-step-takes p m s s' (Move c from (AtNode n)) u rows (w, step) = stays (progress s u) (progress s' u) (ap (λ (z : State). progress z u) step.leaves)
-step-takes p m s s' (Move c from (OnDisk d)) u rows (w, step) = stays (progress s u) (progress s' u) (ap (λ (z : State). progress z u) step.leaves)
-step-takes p m s s' (Moved c from to) u rows (w, step) = stays (progress s u) (progress s' u) (ap (λ (z : State). progress z u) step.leaves)
+step-takes p m s s' (Move c from (AtNode n)) u rows step = stays (progress s u) (progress s' u) (ap (λ (z : State). progress z u) step.leaves)
+step-takes p m s s' (Move c from (OnDisk d)) u rows step = stays (progress s u) (progress s' u) (ap (λ (z : State). progress z u) step.leaves)
+step-takes p m s s' (Moved c from to) u rows step = stays (progress s u) (progress s' u) (ap (λ (z : State). progress z u) step.leaves)
 step-takes p m s s' (Drop c n) u rows step = stays (progress s u) (progress s' u) (ap (λ (z : State). progress z u) step.leaves)
 
 -- each step keeps a row for each task
@@ -79,9 +79,9 @@ pub step-rows : (p : Program) (m : Machine) (s s' : State) (e : Event) → Step 
 step-rows p m s s' (Claim t w) step = ap (λ (z : State). length z.tasks) step.leaves ∙ length-set s.tasks t.0 (Claimed w)
 step-rows p m s s' (Run t w) step = ap (λ (z : State). length z.tasks) step.leaves ∙ length-set s.tasks t.0 (Running w)
 step-rows p m s s' (End t w) step = ap (λ (z : State). length z.tasks) step.leaves ∙ length-set s.tasks t.0 (Done w)
-step-rows p m s s' (Move c from (AtNode n)) (w, step) = ap (λ (z : State). length z.tasks) step.leaves
-step-rows p m s s' (Move c from (OnDisk d)) (w, step) = ap (λ (z : State). length z.tasks) step.leaves
-step-rows p m s s' (Moved c from to) (w, step) = ap (λ (z : State). length z.tasks) step.leaves
+step-rows p m s s' (Move c from (AtNode n)) step = ap (λ (z : State). length z.tasks) step.leaves
+step-rows p m s s' (Move c from (OnDisk d)) step = ap (λ (z : State). length z.tasks) step.leaves
+step-rows p m s s' (Moved c from to) step = ap (λ (z : State). length z.tasks) step.leaves
 step-rows p m s s' (Drop c n) step = ap (λ (z : State). length z.tasks) step.leaves
 
 -- ---- whole traces

@@ -241,12 +241,34 @@ pub record Ends (p : Program) (m : Machine) (s : State) (t : Task) (w : Worker) 
 
 -- ---- the step relation
 
+-- the worker by whose claim a replica is coming or leaving
+abbrev pub claimant_of : Replica → Worker
+claimant_of (Coming w) = w
+claimant_of (Leaving w a) = w
+claimant_of _ = record { 0 = 0 }
+
+-- the worker of a move, which its event doesn't name: the cell comes to the node, or leaves for the disk, by its claim
+abbrev pub mover_of : State → Cell → Place → Place → Worker
+mover_of s c from (AtNode n) = claimant_of (replica s c (AtNode n))
+mover_of s c from (OnDisk d) = claimant_of (replica s c from)
+
 -- the event is legal in s, and leaves s'
 abbrev pub Step : Program → Machine → State → Event → State → Type 0
 Step p m s (Claim t w) s' = Claims p m s t w s'
-Step p m s (Move c from (AtNode n)) s' = (w : Worker) × BeginsMoveIn p m s c from n w s'
-Step p m s (Move c from (OnDisk d)) s' = (w : Worker) × BeginsMoveOut p m s c from d w s'
-Step p m s (Moved c from to) s' = (w : Worker) × EndsMove p s c from to w s'
+Step p m s (Move c from (AtNode n)) s' = BeginsMoveIn p m s c from n (mover_of s c from (AtNode n)) s'
+Step p m s (Move c from (OnDisk d)) s' = BeginsMoveOut p m s c from d (mover_of s c from (OnDisk d)) s'
+Step p m s (Moved c from to) s' = EndsMove p s c from to (mover_of s c from to) s'
 Step p m s (Drop c n) s' = Drops m s c n s'
 Step p m s (Run t w) s' = Runs p m s t w s'
 Step p m s (End t w) s' = Ends p m s t w s'
+
+-- ---- the state that an event leaves
+
+-- the state that the event leaves where it is legal in s
+abbrev pub after : Program → Machine → State → Event → State
+after p m s (Claim t w) = after_claim p m s t w (unwrap_or (victims_for p m s t w) [])
+after p m s (Move c from to) = with_transfer s (mover_of s c from to) (Some (a_transfer c from to))
+after p m s (Moved c from to) = with_transfer (with_replica s c to (Valid (array_at p s from c))) (mover_of s c from to) None
+after p m s (Drop c n) = with_replica s c (AtNode n) Invalid
+after p m s (Run t w) = after_run p m s t w
+after p m s (End t w) = after_end p m s t w
