@@ -1,6 +1,6 @@
 -- A claim, a run and an end keep that valid replicas hold their cells' contents; an end keeps that writers own their cells.
 use Rattle.std.proofs.Common.{◌≡◌, ◌≢◌, ℕ, ◌<◌, Bool, true, false, not, cond, length, set, refl, sym, ap, ◌∙◌, subst, inl, inr, ◌⊎◌, Option, None, Some, arith}
-use Rattle.std.specs.Prelude.{IsTrue, IfSome, if◌then◌else◌}
+use Rattle.std.specs.Prelude.{IsTrue, IfSome, is_some, if◌then◌else◌}
 use Rattle.std.proofs.lemmas.Bool.{cases_lt, false≢true}
 use Rattle.std.proofs.lemmas.Bool.Decides.{Decides-eqb}
 use Rattle.std.proofs.lemmas.List.{get_or_past, get_or-set_same, length-set}
@@ -36,14 +36,14 @@ use Rattle.sj_core.proofs.Separation.{separated}
 use Rattle.sj_core.proofs.TaskCells.{written-among_cells}
 use Rattle.sj_core.proofs.Workers.{end-other_worker, end-transfer}
 
-running-inside : (p : Program) (m : Machine) (s : State) (u : Task) (v : Worker) → HasRows p m s → progress s u ≡ Running v → u.0 < length p.tasks
+pub running-inside : (p : Program) (m : Machine) (s : State) (u : Task) (v : Worker) → HasRows p m s → progress s u ≡ Running v → u.0 < length p.tasks
 running-inside p m s u v rows running = omega (arith, progress-inside s u (λ h. not_waiting (sym running ∙ h)), rows.tasks)
   where
     not_waiting : Running v ≡ Waiting → ⊥
     not_waiting e = cc
 
 -- a cell that isn't being written after a step wasn't before, unless the task of the step wrote it
-not_written-before : (p : Program) (m : Machine) (s s' : State) (t : Task) (old new : Progress) (c : Cell) → HasRows p m s → Advances s s' t old new → is_being_written p s' c ≡ false → ((v : Worker) → old ≡ Running v → has_cell (written_cells p t v) c ≡ false) → is_being_written p s c ≡ false
+pub not_written-before : (p : Program) (m : Machine) (s s' : State) (t : Task) (old new : Progress) (c : Cell) → HasRows p m s → Advances s s' t old new → is_being_written p s' c ≡ false → ((v : Worker) → old ≡ Running v → has_cell (written_cells p t v) c ≡ false) → is_being_written p s c ≡ false
 not_written-before p m s s' t old new c rows a resting spared = not_true (is_being_written p s c) (λ h. (let by = being_written-by p s c h in by_task by.0 (done_by s by.0) by.1 by.2))
   where
     by_task : (u : Task) (v : Worker) → progress s u ≡ Running v → has_cell (written_cells p u v) c ≡ true → ⊥
@@ -53,13 +53,17 @@ not_written-before p m s s' t old new c rows a resting spared = not_true (is_bei
           | inr d ↦ false≢true (sym resting ∙ being_written-here p s' c u v (running-inside p m s u v rows running) (a.others u d ∙ running) writes)
         ]
 
+-- and the other way round: one that isn't being written isn't after a step whose task doesn't begin to write it
+pub not_written-after : (p : Program) (m : Machine) (s s' : State) (t : Task) (old new : Progress) (c : Cell) → HasRows p m s' → Advances s s' t old new → is_being_written p s c ≡ false → ((v : Worker) → new ≡ Running v → has_cell (written_cells p t v) c ≡ false) → is_being_written p s' c ≡ false
+not_written-after p m s s' t old new c rows a resting spared = not_written-before p m s' s t new old c rows (record { was = a.is; is = a.was; others = λ u d. sym (a.others u d) }) resting spared
+
 -- a valid replica that agrees still does where neither it nor the cell's content has changed
 agrees-kept : (o o' : Option Array) (x x' : Array) → o' ≡ o → x' ≡ x → IfSome o (λ a. a ≡ x) → IfSome o' (λ a. a ≡ x')
 agrees-kept o o' x x' e f h = subst (λ (k : Option Array). IfSome k (λ a. a ≡ x')) (sym e) (subst (λ (y : Array). IfSome o (λ a. a ≡ y)) (sym f) h)
 
 -- ---- a claim
 
-leave-array : (w : Worker) (r : Replica) → array_of (leave w r) ≡ array_of r
+pub leave-array : (w : Worker) (r : Replica) → array_of (leave w r) ≡ array_of r
 leave-array w Invalid = refl
 leave-array w (Coming v) = refl
 leave-array w (Valid a) = refl
@@ -107,11 +111,19 @@ module _ (p : Program) (m : Machine) (s : State) (t : Task) (w : Worker) (s' : S
       ]
 
 module _ (p : Program) (m : Machine) (names : NamesCells p) (fit : IsMachineFor p m) (s : State) (state : IsStateOf p m s) (copies : CopiesAgree p s) (cells : TasksHaveCells p m s) (pinned : PinsHold p m s) (moving : TransfersAreSound m s) (sound : WorkersAreSound p m s) (t : Task) (w : Worker) (s' : State) (claim : Claims p m s t w s') where
-  claim-rested : (c : Cell) → is_being_written p s' c ≡ false → is_being_written p s c ≡ false
+  pub claim-rested : (c : Cell) → is_being_written p s' c ≡ false → is_being_written p s c ≡ false
   claim-rested c resting = not_written-before p m s s' t Waiting (Claimed w) c state.rows (Claims-advances p m s t w s' state.rows claim) resting (λ v e. absurd (differ v e))
     where
       differ : (v : Worker) → Waiting ≡ Running v → ⊥
       differ v e = cc
+
+  -- a claim changes no array
+  pub claim-array_same : (c : Cell) (q : Place) → array_of (replica s' c q) ≡ array_of (replica s c q)
+  claim-array_same c q = elim (claim-array p m s t w s' claim c q) [ inl same ↦ same | inr none ↦ none ∙ sym (nothing none (array_of (replica s c q)) refl) ]
+    where
+      nothing : array_of (replica s' c q) ≡ None → (o : Option Array) → array_of (replica s c q) ≡ o → array_of (replica s c q) ≡ None
+      nothing none None e = e
+      nothing none (Some a) e = absurd (false≢true (sym (ap is_some none) ∙ claim-valid_stays p m names fit s state cells pinned moving sound t w s' claim c q (ap is_some e)))
 
   pub Claims-keeps_copies : CopiesAgree p s'
   Claims-keeps_copies = record {
@@ -121,10 +133,7 @@ module _ (p : Program) (m : Machine) (names : NamesCells p) (fit : IsMachineFor 
     alike = λ c q h resting.
         (let old = copies.alike c q (omega (arith, claim-writes p m s t w s' claim c, h)) (claim-rested c resting) in
         let same = Claims-content p m s t w s' state.rows claim c in
-        elim (claim-array p m s t w s' claim c q) [
-          | inl e ↦ agrees-kept (array_of (replica s c q)) (array_of (replica s' c q)) (content p s c) (content p s' c) e same old
-          | inr none ↦ MatchOption-from_none (array_of (replica s' c q)) (λ a. a ≡ content p s' c) none
-        ]);
+        agrees-kept (array_of (replica s c q)) (array_of (replica s' c q)) (content p s c) (content p s' c) (claim-array_same c q) same old);
   }
 
 -- ---- a run
@@ -133,14 +142,14 @@ module _ (p : Program) (m : Machine) (s : State) (rows : HasRows p m s) (copies 
   run-advance : Advances s s' t (Claimed w) (Running w)
   run-advance = Runs-advances p m s t w s' run
 
-  run-rested : (c : Cell) → is_being_written p s' c ≡ false → is_being_written p s c ≡ false
+  pub run-rested : (c : Cell) → is_being_written p s' c ≡ false → is_being_written p s c ≡ false
   run-rested c resting = not_written-before p m s s' t (Claimed w) (Running w) c rows run-advance resting (λ v e. absurd (differ v e))
     where
       differ : (v : Worker) → Claimed w ≡ Running v → ⊥
       differ v e = cc
 
   -- a cell that isn't being written after the run isn't the task's
-  run-spared : (c : Cell) → is_being_written p s' c ≡ false → has_cell (written_cells p t w) c ≡ false
+  pub run-spared : (c : Cell) → is_being_written p s' c ≡ false → has_cell (written_cells p t w) c ≡ false
   run-spared c resting = not_true (has_cell (written_cells p t w) c) (λ writes. false≢true (sym resting ∙ being_written-here p s' c t w inside run-advance.is writes))
     where
       not_waiting : Claimed w ≡ Waiting → ⊥

@@ -1,5 +1,5 @@
 -- Lists of cells: which cells an edited list has, how often, and the sum over a list that has each at most once.
-use Rattle.std.proofs.Common.{◌≡◌, ℕ, zero, suc, ◌+◌, ◌<◌, ◌≤◌, Bool, true, false, not, ◌&&◌, ◌||◌, cond, List, [], ◌∷◌, ◌++◌, map, length, refl, sym, ap, ◌∙◌, inl, inr, arith}
+use Rattle.std.proofs.Common.{◌≡◌, ℕ, zero, suc, ◌+◌, ◌<◌, ◌≤◌, Bool, true, false, not, ◌&&◌, ◌||◌, cond, List, [], ◌∷◌, ◌++◌, map, length, get_or, set, subst, refl, sym, ap, ◌∙◌, inl, inr, arith}
 use Rattle.std.specs.Prelude.{fold, sum_by, count_by, if◌then◌else◌}
 use Rattle.std.specs.List.{filter, range_with_len}
 use Rattle.std.proofs.lemmas.Bool.{cases_eq, false≢true, and_parts, and_from}
@@ -12,7 +12,10 @@ use Rattle.sj_core.specs.Step.{to_front, without}
 use Rattle.sj_core.proofs.Reading.{same_cell-is}
 use Rattle.sj_core.proofs.Holding.{not_true}
 use Rattle.sj_core.proofs.Claiming.{has_cell-filter, filter-has_cell, has_cell-distinct}
+use Rattle.sj_core.specs.Table.{renewed}
 use Rattle.sj_core.proofs.Sums.{tally}
+use Rattle.sj_core.proofs.Tables.{length-renewed, renewed-at}
+use Rattle.std.proofs.lemmas.List.{ext_get_or, get_or-set_same, get_or-set_other, length-set}
 
 -- ---- tests
 
@@ -32,6 +35,11 @@ pub same_cell-sym : (c d : Cell) → same_cell c d ≡ same_cell d c
 same_cell-sym c d = same_test (same_cell c d) (same_cell d c) (λ h. same_cell-from d c (sym (same_cell-is c d h))) (λ h. same_cell-from c d (sym (same_cell-is d c h)))
 
 -- ---- which cells a list has
+
+-- the first of a list that has one, read with any default
+pub has_cell-head : (xs : List Cell) (d : Cell) → 0 < length xs → has_cell xs (get_or xs 0 d) ≡ true
+has_cell-head [] d some = absurd (omega arith)
+has_cell-head (x ∷ xs) d some = ap (λ b. b || has_cell xs x) (same_cell-refl x)
 
 pub has_cell-filter_is : (f : Cell → Bool) (xs : List Cell) (c : Cell) → has_cell (filter f xs) c ≡ (f c && has_cell xs c)
 has_cell-filter_is f xs c =
@@ -134,6 +142,45 @@ times-distinct (x ∷ xs) c = by_cases (has_cell xs x) refl (times-distinct xs c
     by_cases : (b : Bool) → has_cell xs x ≡ b → times (distinct xs) c ≤ 1 → times (if b then distinct xs else x ∷ distinct xs) c ≤ 1
     by_cases true again rest = rest
     by_cases false new rest = first (same_cell x c) refl new rest
+
+-- ---- rows written one after another
+
+-- the row, written where it is chosen
+abbrev written_if : {X : Type 0} → (Cell → X → X) → Bool → Cell → X → X
+written_if f b c row = if b then f c row else row
+
+-- rows that are written one after another, each once, are the rows all written at once
+pub cells-written : {X : Type 0} (f : Cell → X → X) (d : X) (cs : List Cell) (rows : List X) → ((c : Cell) → times cs c ≤ 1) → fold (λ ys c. set ys c.0 (f c (get_or ys c.0 d))) rows cs ≡ renewed (λ k row. let c : Cell = record { 0 = k } in if has_cell cs c then f c row else row) rows
+cells-written f d [] rows once = ext_get_or d rows (renewed (λ k row. row) rows) (sym (length-renewed (λ k row. row) rows)) (λ i inside. sym (renewed-at (λ k row. row) rows i d inside))
+cells-written {X} f d (c ∷ cs) rows once =
+    let now : List X = set rows c.0 (f c (get_or rows c.0 d)) in
+    let later : ℕ → X → X = λ k row. let e : Cell = record { 0 = k } in if has_cell cs e then f e row else row in
+    let all : ℕ → X → X = λ k row. let e : Cell = record { 0 = k } in if same_cell c e || has_cell cs e then f e row else row in
+    let same_length : length now ≡ length rows = length-set rows c.0 (f c (get_or rows c.0 d)) in
+    cells-written f d cs now (λ e. (let o = once e in let t = times-cons c cs e in omega arith))
+    ∙ ext_get_or d (renewed later now) (renewed all rows) (length-renewed later now ∙ same_length ∙ sym (length-renewed all rows)) (λ i inside.
+        (let within : i < length now = omega (arith, inside, length-renewed later now) in
+        let before : i < length rows = omega (arith, within, same_length) in
+        renewed-at later now i d within ∙ at_row i (same_cell c (record { 0 = i })) refl before ∙ sym (renewed-at all rows i d before)))
+  where
+    new : has_cell cs c ≡ false
+    new = not_true (has_cell cs c) (λ h. (let o = once c in let t = times-cons c cs c in let one : tally (same_cell c c) ≡ 1 = ap tally (same_cell-refl c) in let more = times-has cs c h in omega arith))
+
+    at_row : (i : ℕ) (b : Bool) → same_cell c (record { 0 = i }) ≡ b → i < length rows →
+        (let e : Cell = record { 0 = i } in written_if f (has_cell cs e) e (get_or (set rows c.0 (f c (get_or rows c.0 d))) i d)) ≡ (let e : Cell = record { 0 = i } in written_if f (same_cell c e || has_cell cs e) e (get_or rows i d))
+    at_row i true e inside =
+        let n : Cell = record { 0 = i } in
+        let is : c ≡ n = same_cell-is c n e in
+        let here : c.0 < length rows = subst (λ (k : Cell). k.0 < length rows) (sym is) inside in
+        let row : X = f c (get_or rows c.0 d) in
+        ap (λ b. written_if f b n (get_or (set rows c.0 row) i d)) (ap (has_cell cs) (sym is) ∙ new)
+        ∙ ap (λ (k : Cell). get_or (set rows c.0 row) k.0 d) (sym is) ∙ get_or-set_same rows c.0 row d here
+        ∙ ap (λ (k : Cell). f k (get_or rows k.0 d)) is
+        ∙ sym (ap (λ b. written_if f (b || has_cell cs n) n (get_or rows i d)) e)
+    at_row i false e inside =
+        let n : Cell = record { 0 = i } in
+        ap (written_if f (has_cell cs n) n) (get_or-set_other rows c.0 i (f c (get_or rows c.0 d)) d (λ k. false≢true (sym e ∙ same_cell-from c n (ap (λ (j : ℕ). let m : Cell = record { 0 = j } in m) (sym k)))))
+        ∙ sym (ap (λ b. written_if f (b || has_cell cs n) n (get_or rows i d)) e)
 
 -- ---- a program has each of its cells once
 

@@ -123,6 +123,16 @@ module _ (p : Program) (m : Machine) (s : State) (h : IsSound p m s) (t : Task) 
       let here = h.coherent.pins.coming_here v c (node_of m w) coming in
       false≢true (sym (pin-spared p m h.proper.cells h.machine s h.coherent.state h.coherent.cells h.coherent.pins h.coherent.transfers h.coherent.workers t w s' claim v c pin (sym here)) ∙ evicted)
 
+  -- and so it is valid
+  pub victim-valid : (c : Cell) → has_cell claim.evicted c ≡ true → (a : Array) × (replica s c (AtNode (node_of m w)) ≡ Valid a)
+  victim-valid c evicted = by_replica (replica s c (AtNode (node_of m w))) refl (sym (h.coherent.state.entries.entries (node_of m w) c) ∙ (evicted-free p m s t w s' claim c evicted).2)
+    where
+      by_replica : (r : Replica) → replica s c (AtNode (node_of m w)) ≡ r → is_entry r ≡ true → (a : Array) × (r ≡ Valid a)
+      by_replica Invalid e entry = absurd (false≢true entry)
+      by_replica (Coming v) e entry = absurd (victim-came c evicted v (ap (is_coming_by v) e ∙ same_worker-refl v))
+      by_replica (Valid a) e entry = (a, refl)
+      by_replica (Leaving v a) e entry = absurd (false≢true entry)
+
   pub order-has : (c : Cell) → has_cell claim_order c ≡ (has_cell (cells_of p t w) c || (not (has_cell claim.evicted c) && has_cell (order s (node_of m w)) c))
   order-has c = has_cell-fronted (cells_of p t w) (without claim.evicted (order s (node_of m w))) c ∙ ap (λ b. has_cell (cells_of p t w) c || b) (has_cell-without claim.evicted (order s (node_of m w)) c)
 

@@ -25,7 +25,7 @@ use Rattle.sj_core.specs.declared.progress.Transfer.{Transfer}
 use Rattle.sj_core.specs.Machine.{State, CellState, WorkerState, Replica, Invalid, Coming, Valid, Leaving, is_valid, is_entry, is_leaving, is_leaving_by, is_coming_by, cell_state, replica, replica_in, writes, worker_state, pins, scratch, victims_of, transfer, with_replica, with_replica_in, with_transfer}
 use Rattle.sj_core.proofs.Reading.{no_row, idle_row, replica_in-no_row, same_node, workers_differ, same_worker-is}
 
-cells_differ : (c d : Cell) → (c ≡ d) ⊎ (c ≢ d)
+pub cells_differ : (c d : Cell) → (c ≡ d) ⊎ (c ≢ d)
 cells_differ c d =
     elim (cases_eq c.0 d.0) [
       | inl e ↦ inl (ap (λ (i : ℕ). let j : Cell = record { 0 = i } in j) e)
@@ -40,6 +40,13 @@ disks_differ d e =
     ]
 
 -- ---- one replica
+
+-- a replica that was written where the table has the cell and its row the place is there
+pub replica-at_node : (s : State) (c : Cell) (n : Node) (r : Replica) → c.0 < length s.cells → n.0 < length (cell_state s c).nodes → replica (with_replica s c (AtNode n) r) c (AtNode n) ≡ r
+replica-at_node s c n r inside within = ap (λ (row : CellState). replica_in row (AtNode n)) (get_or-set_same s.cells c.0 (with_replica_in (cell_state s c) (AtNode n) r) no_row inside) ∙ get_or-set_same (cell_state s c).nodes n.0 r Invalid within
+
+pub replica-on_disk : (s : State) (c : Cell) (d : DiskNo) (r : Replica) → c.0 < length s.cells → d.0 < length (cell_state s c).disks → replica (with_replica s c (OnDisk d) r) c (OnDisk d) ≡ r
+replica-on_disk s c d r inside within = ap (λ (row : CellState). replica_in row (OnDisk d)) (get_or-set_same s.cells c.0 (with_replica_in (cell_state s c) (OnDisk d) r) no_row inside) ∙ get_or-set_same (cell_state s c).disks d.0 r Invalid within
 
 -- of a row in which one replica was written each is as before, or is that one
 replica_in-cases : (row : CellState) (q k : Place) (r : Replica) → (replica_in (with_replica_in row q r) k ≡ replica_in row k) ⊎ ((k ≡ q) × (replica_in (with_replica_in row q r) k ≡ r))
