@@ -31,6 +31,7 @@ pub mod Placing
 pub mod PlainModes
 pub mod Readiness
 pub mod Reading
+pub mod Reduction
 pub mod Replaying
 pub mod Separation
 pub mod Sharing
@@ -39,6 +40,7 @@ pub mod States
 pub mod Sums
 pub mod Tables
 pub mod TaskCells
+pub mod Testing
 pub mod Values
 pub mod Worked
 pub mod Workers
