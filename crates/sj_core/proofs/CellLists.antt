@@ -159,9 +159,9 @@ cells-written {X} f d (c ∷ cs) rows once =
     let same_length : length now ≡ length rows = length-set rows c.0 (f c (get_or rows c.0 d)) in
     cells-written f d cs now (λ e. (let o = once e in let t = times-cons c cs e in omega arith))
     ∙ ext_get_or d (renewed later now) (renewed all rows) (length-renewed later now ∙ same_length ∙ sym (length-renewed all rows)) (λ i inside.
-        (let within : i < length now = omega (arith, inside, length-renewed later now) in
-        let before : i < length rows = omega (arith, within, same_length) in
-        renewed-at later now i d within ∙ at_row i (same_cell c (record { 0 = i })) refl before ∙ sym (renewed-at all rows i d before)))
+    (let within : i < length now = omega (arith, inside, length-renewed later now) in
+    let before : i < length rows = omega (arith, within, same_length) in
+    renewed-at later now i d within ∙ at_row i (same_cell c (record { 0 = i })) refl before ∙ sym (renewed-at all rows i d before)))
   where
     new : has_cell cs c ≡ false
     new = not_true (has_cell cs c) (λ h. (let o = once c in let t = times-cons c cs c in let one : tally (same_cell c c) ≡ 1 = ap tally (same_cell-refl c) in let more = times-has cs c h in omega arith))

@@ -1,4 +1,3 @@
-pub mod AddRun
 pub mod Advancing
 pub mod Agreeing
 pub mod Arriving
@@ -18,11 +17,11 @@ pub mod Delivering
 pub mod Dependencies
 pub mod Dropping
 pub mod Eviction
-pub mod EvictionRun
 pub mod Finding
 pub mod Folding
 pub mod Forms
 pub mod Holding
+pub mod Jobs
 pub mod MovingIn
 pub mod MovingOut
 pub mod Once
@@ -43,5 +42,6 @@ pub mod TaskCells
 pub mod Testing
 pub mod Values
 pub mod Worked
+pub mod WorkedRuns
 pub mod Workers
 pub mod Writers

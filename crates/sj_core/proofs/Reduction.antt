@@ -1,7 +1,7 @@
 -- A job with a reduction on two workers: a sum to a scalar of which each has a partial copy. While the phase is open, another
 -- task has the scalar as a scratch buffer, which is no access. The program is proper.
 use Rattle.std.proofs.Common.{◌≡◌, ℕ, zero, suc, ◌+◌, ◌<◌, ◌≤◌, ◌⊎◌, Bool, true, false, not, ◌&&◌, ◌||◌, Option, Some, None, List, [], ◌∷◌, length, get_or, map, refl, sym, ap, ◌∙◌, subst, inl, inr, arith, lit<, lit≤}
-use Rattle.std.specs.Prelude.{ℤ, pos, ◌^◌, IsTrue, All, AllPairs, Contains, count_by, is_some, nat_eq, nat_le, nat_lt}
+use Rattle.std.specs.Prelude.{pos, ◌^◌, IsTrue, All, AllPairs, Contains, count_by, is_some, nat_eq, nat_le, nat_lt}
 use Rattle.std.specs.List.{list_all, list_any, range_with_len}
 use Rattle.std.proofs.lemmas.Bool.{cases_lt, false≢true, eqb-true, ltb-true, le-leb, and_parts, and_from}
 use Rattle.std.proofs.lemmas.List.{get_or_past}
@@ -16,38 +16,23 @@ use Rattle.sj_base.specs.declared.mode.Mode.{Mode}
 use Rattle.sj_base.specs.declared.mode.Mode.TheVariants.{R, W, RW, Scratch, Redux, Commute}
 use Rattle.sj_base.specs.declared.mode.Access.{Access}
 use Rattle.sj_base.specs.declared.mode.Reduction.TheVariants.{Plus}
-use Rattle.sj_base.specs.declared.program.CellInfo.{CellInfo}
 use Rattle.sj_base.specs.declared.program.Lowered.{Lowered}
 use Rattle.sj_base.specs.declared.program.Program.{Program}
 use Rattle.sj_base.specs.Array.{area}
 use Rattle.sj_codelet.specs.declared.kernel.Kernel.{Kernel}
 use Rattle.sj_codelet.specs.declared.kernel.Kernel.TheVariants.{Add, Deliver, GemmThree, InitPlus, Load, Sum}
-use Rattle.sj_codelet.specs.Kernel.{codelet_of, fits, kernel_of}
+use Rattle.sj_codelet.specs.Kernel.{fits, kernel_of}
 use Rattle.sj_core.specs.Operands.{copy_of}
 use Rattle.sj_core.specs.Program.{same_cell, no_task, cell_info, dims_of, task_of, is_redux, data_operands}
 use Rattle.sj_core.specs.Proper.{Proper, NamesCells, IsCopyOf, Fits, Own, Contributing, own_modes, IsUnaliased, ReadsValues, reads_value, gives_value, HasValueBefore, Phase, IsPhase, IsInit, IsCombine, IsContribution, IsMember, Touches, HasPhases, HasDeliveries, IsWithinLimits, task_number}
+use Rattle.sj_core.proofs.Jobs.{a_task, access, cell, columns, worker}
 use Rattle.sj_core.proofs.Values.{list_any-some}
-
-abbrev cell : ℕ → Cell
-cell n = record { 0 = n }
-
-abbrev worker : ℕ → Worker
-worker n = record { 0 = n }
-
-abbrev access : Mode → ℕ → Access
-access mode n = record { mode = mode; cell = cell n }
-
-abbrev a_task : Kernel → List ℤ → List Access → Lowered
-a_task k args accesses = record { codelet = codelet_of k; args = args; accesses = accesses; line = record { 0 = 2 }; priority = pos 0 }
-
-abbrev scalar : Option Cell → CellInfo
-scalar partials = record { root = record { 0 = 0 }; dims = record { rows = 1; cols = 1 }; partials = partials }
 
 -- x, d and s are loaded; the copies of s are filled, x is added to s by a contribution, and the copies are combined;
 -- d gets x times x times x in between, with s as scratch; s is printed
 abbrev pub job : Program
 job = record {
-  cells = scalar None ∷ scalar None ∷ scalar (Some (cell 3)) ∷ scalar None ∷ scalar None ∷ [];
+  cells = columns 1 None ∷ columns 1 None ∷ columns 1 (Some (cell 3)) ∷ columns 1 None ∷ columns 1 None ∷ [];
   tasks = a_task Load (pos 2 ∷ []) (access W 0 ∷ []) ∷
       a_task Load (pos 3 ∷ []) (access W 1 ∷ []) ∷
       a_task Load (pos 5 ∷ []) (access W 2 ∷ []) ∷
@@ -144,10 +129,25 @@ own : (k : Kernel) (l : Lowered) → kernel_of l.codelet ≡ Some k → fits k l
 own k l codelet operands modes = record { kernel = k; codelet = codelet; operands = operands; modes = Own modes }
 
 codelets_fit : All (Fits job) job.tasks
-codelets_fit = All-from_recursion (Fits job) job.tasks (own Load _ refl refl refl, (own Load _ refl refl refl, (own Load _ refl refl refl, (own InitPlus _ refl refl refl, (own InitPlus _ refl refl refl, (
-  record { kernel = Sum; codelet = refl; operands = refl; modes = Contributing Plus refl refl refl },
-  (own GemmThree _ refl refl refl, (own Add _ refl refl refl, (own Add _ refl refl refl, (own Deliver _ refl refl refl, tt)))),
-))))))
+codelets_fit = All-from_recursion (Fits job) job.tasks (
+  own Load _ refl refl refl,
+  (
+    own Load _ refl refl refl,
+    (
+      own Load _ refl refl refl,
+      (
+        own InitPlus _ refl refl refl,
+        (
+          own InitPlus _ refl refl refl,
+          (
+            record { kernel = Sum; codelet = refl; operands = refl; modes = Contributing Plus refl refl refl },
+            (own GemmThree _ refl refl refl, (own Add _ refl refl refl, (own Add _ refl refl refl, (own Deliver _ refl refl refl, tt)))),
+          ),
+        ),
+      ),
+    ),
+  ),
+)
 
 abbrev is_read : Mode → Bool
 is_read R = true
@@ -170,8 +170,8 @@ apart-pairs [] h = λ i j d before within. absurd (omega arith)
 apart-pairs (a ∷ as') h =
     let both = and_parts (list_all (λ b. not (nat_eq a.cell.0 b.cell.0) || (is_read a.mode && is_read b.mode)) as') (apart as') h in
     AllPairs-cons (λ a b. IsTrue (same_cell a.cell b.cell) → (a.mode ≡ R) × (b.mode ≡ R)) a as' (λ k d within same.
-        (let reads = and_parts _ _ (then _ _ (AllPass-from_list_all (λ b. not (nat_eq a.cell.0 b.cell.0) || (is_read a.mode && is_read b.mode)) as' both.0 k d within) same) in
-        (read-is _ reads.0, read-is _ reads.1))) (apart-pairs as' both.1)
+    (let reads = and_parts _ _ (then _ _ (AllPass-from_list_all (λ b. not (nat_eq a.cell.0 b.cell.0) || (is_read a.mode && is_read b.mode)) as' both.0 k d within) same) in
+    (read-is _ reads.0, read-is _ reads.1))) (apart-pairs as' both.1)
 
 unaliased : All IsUnaliased job.tasks
 unaliased = All-from_get_or IsUnaliased job.tasks no_task (λ n inside. apart-pairs (data_operands (task_number job n)) (numbers-pass (λ i. apart (data_operands (task_number job i))) refl n inside))
