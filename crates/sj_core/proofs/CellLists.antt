@@ -1,21 +1,20 @@
 -- Lists of cells: which cells an edited list has, how often, and the sum over a list that has each at most once.
-use Rattle.std.proofs.Common.{◌≡◌, ℕ, zero, suc, ◌+◌, ◌<◌, ◌≤◌, Bool, true, false, not, ◌&&◌, ◌||◌, cond, List, [], ◌∷◌, ◌++◌, map, length, get_or, set, subst, refl, sym, ap, ◌∙◌, inl, inr, arith}
-use Rattle.std.specs.Prelude.{fold, sum_by, count_by, if◌then◌else◌}
-use Rattle.std.specs.List.{filter, range_with_len}
-use Rattle.std.proofs.lemmas.Bool.{cases_eq, false≢true, and_parts, and_from}
+use Rattle.std.proofs.Common.{Bool, List, [], ap, arith, cond, false, get_or, inl, inr, length, map, not, refl, set, subst, suc, sym, true, zero, ℕ, ◌&&◌, ◌++◌, ◌+◌, ◌<◌, ◌||◌, ◌∙◌, ◌∷◌, ◌≡◌, ◌≤◌}
+use Rattle.std.proofs.lemmas.Bool.{and_from, and_parts, cases_eq, false_from_ne_true, false≢true, or_right}
 use Rattle.std.proofs.lemmas.Bool.Decides.{Decides-eqb}
-use Rattle.std.proofs.lemmas.List.Sums.{sum_by-cons, sum_by-append}
+use Rattle.std.proofs.lemmas.List.{ext_get_or, get_or-set_other, get_or-set_same, length-set}
+use Rattle.std.proofs.lemmas.List.Sums.{sum_by-append, sum_by-cons}
+use Rattle.std.specs.List.{filter, range_with_len}
+use Rattle.std.specs.Prelude.{count_by, fold, if◌then◌else◌, sum_by}
 use Rattle.sj_base.specs.declared.ids.Cell.{Cell}
 use Rattle.sj_base.specs.declared.program.Program.{Program}
-use Rattle.sj_core.specs.Program.{same_cell, has_cell, distinct, cells_of_program}
+use Rattle.sj_codelet.specs.Kernel.{same}
+use Rattle.sj_core.specs.Program.{cells_of_program, distinct, has_cell, same_cell}
 use Rattle.sj_core.specs.Step.{to_front, without}
-use Rattle.sj_core.proofs.Reading.{same_cell-is}
-use Rattle.sj_core.proofs.Holding.{not_true}
-use Rattle.sj_core.proofs.Claiming.{has_cell-filter, filter-has_cell, has_cell-distinct}
 use Rattle.sj_core.specs.Table.{renewed}
+use Rattle.sj_core.proofs.Reading.{same_cell-is}
 use Rattle.sj_core.proofs.Sums.{tally}
 use Rattle.sj_core.proofs.Tables.{length-renewed, renewed-at}
-use Rattle.std.proofs.lemmas.List.{ext_get_or, get_or-set_same, get_or-set_other, length-set}
 
 -- ---- tests
 
@@ -35,6 +34,49 @@ pub same_cell-sym : (c d : Cell) → same_cell c d ≡ same_cell d c
 same_cell-sym c d = same_test (same_cell c d) (same_cell d c) (λ h. same_cell-from d c (sym (same_cell-is c d h))) (λ h. same_cell-from c d (sym (same_cell-is d c h)))
 
 -- ---- which cells a list has
+
+pub has_cell-append : (xs ys : List Cell) (c : Cell) → has_cell ys c ≡ true → has_cell (xs ++ ys) c ≡ true
+has_cell-append [] ys c h = h
+has_cell-append (x ∷ xs) ys c h = or_right (same_cell x c) (has_cell (xs ++ ys) c) (has_cell-append xs ys c h)
+
+-- a cell that a filter keeps passes its test, and was in the list
+pub has_cell-filter : (f : Cell → Bool) (xs : List Cell) (c : Cell) → has_cell (filter f xs) c ≡ true → (f c ≡ true) × (has_cell xs c ≡ true)
+has_cell-filter f [] c h = absurd (false≢true h)
+has_cell-filter f (x ∷ xs) c h = by_cases (f x) refl h (has_cell-filter f xs c)
+  where
+    here : (b : Bool) → f x ≡ true → same_cell x c ≡ b → (b || has_cell (filter f xs) c) ≡ true → (has_cell (filter f xs) c ≡ true → (f c ≡ true) × (has_cell xs c ≡ true)) → (f c ≡ true) × ((same_cell x c || has_cell xs c) ≡ true)
+    here true passes same h rest = (ap f (sym (same_cell-is x c same)) ∙ passes, ap (λ b. b || has_cell xs c) same)
+    here false passes same h rest = ((rest h).0, or_right (same_cell x c) (has_cell xs c) (rest h).1)
+
+    by_cases : (b : Bool) → f x ≡ b → has_cell (cond b (x ∷ filter f xs) (filter f xs)) c ≡ true → (has_cell (filter f xs) c ≡ true → (f c ≡ true) × (has_cell xs c ≡ true)) → (f c ≡ true) × ((same_cell x c || has_cell xs c) ≡ true)
+    by_cases true passes h rest = here (same_cell x c) passes refl h rest
+    by_cases false fails h rest = ((rest h).0, or_right (same_cell x c) (has_cell xs c) (rest h).1)
+
+-- and a cell of the list that passes is kept
+pub filter-has_cell : (f : Cell → Bool) (xs : List Cell) (c : Cell) → f c ≡ true → has_cell xs c ≡ true → has_cell (filter f xs) c ≡ true
+filter-has_cell f [] c passes h = h
+filter-has_cell f (x ∷ xs) c passes h = here (same_cell x c) refl h (filter-has_cell f xs c passes)
+  where
+    kept : (b : Bool) → has_cell (filter f xs) c ≡ true → has_cell (cond b (x ∷ filter f xs) (filter f xs)) c ≡ true
+    kept true rest = or_right (same_cell x c) (has_cell (filter f xs) c) rest
+    kept false rest = rest
+
+    here : (b : Bool) → same_cell x c ≡ b → (b || has_cell xs c) ≡ true → (has_cell xs c ≡ true → has_cell (filter f xs) c ≡ true) → has_cell (cond (f x) (x ∷ filter f xs) (filter f xs)) c ≡ true
+    here true same h rest = ap (λ b. has_cell (cond b (x ∷ filter f xs) (filter f xs)) c) (ap f (same_cell-is x c same) ∙ passes) ∙ ap (λ b. b || has_cell (filter f xs) c) same
+    here false same h rest = kept (f x) (rest h)
+
+-- a list without its repetitions has the same cells
+pub has_cell-distinct : (xs : List Cell) (c : Cell) → has_cell (distinct xs) c ≡ has_cell xs c
+has_cell-distinct [] c = refl
+has_cell-distinct (x ∷ xs) c = by_cases (has_cell xs x) refl (has_cell-distinct xs c)
+  where
+    repeated : (b : Bool) → same_cell x c ≡ b → has_cell xs x ≡ true → has_cell xs c ≡ (b || has_cell xs c)
+    repeated true same again = ap (has_cell xs) (sym (same_cell-is x c same)) ∙ again
+    repeated false same again = refl
+
+    by_cases : (b : Bool) → has_cell xs x ≡ b → has_cell (distinct xs) c ≡ has_cell xs c → has_cell (if b then distinct xs else x ∷ distinct xs) c ≡ (same_cell x c || has_cell xs c)
+    by_cases true again rest = rest ∙ repeated (same_cell x c) refl again
+    by_cases false once rest = ap (λ b. same_cell x c || b) rest
 
 -- the first of a list that has one, read with any default
 pub has_cell-head : (xs : List Cell) (d : Cell) → 0 < length xs → has_cell xs (get_or xs 0 d) ≡ true
@@ -164,7 +206,7 @@ cells-written {X} f d (c ∷ cs) rows once =
     renewed-at later now i d within ∙ at_row i (same_cell c (record { 0 = i })) refl before ∙ sym (renewed-at all rows i d before)))
   where
     new : has_cell cs c ≡ false
-    new = not_true (has_cell cs c) (λ h. (let o = once c in let t = times-cons c cs c in let one : tally (same_cell c c) ≡ 1 = ap tally (same_cell-refl c) in let more = times-has cs c h in omega arith))
+    new = false_from_ne_true (has_cell cs c) (λ h. (let o = once c in let t = times-cons c cs c in let one : tally (same_cell c c) ≡ 1 = ap tally (same_cell-refl c) in let more = times-has cs c h in omega arith))
 
     at_row : (i : ℕ) (b : Bool) → same_cell c (record { 0 = i }) ≡ b → i < length rows →
         (let e : Cell = record { 0 = i } in written_if f (has_cell cs e) e (get_or (set rows c.0 (f c (get_or rows c.0 d))) i d)) ≡ (let e : Cell = record { 0 = i } in written_if f (same_cell c e || has_cell cs e) e (get_or rows i d))
@@ -190,7 +232,7 @@ number n = record { 0 = n }
 times-before : (a n : ℕ) (c : Cell) → c.0 < a → times (map number (range_with_len a n)) c ≡ 0
 times-before a zero c h = refl
 times-before a (suc n) c h =
-    let other : same_cell (number a) c ≡ false = not_true (same_cell (number a) c) (λ e. (let k : a ≡ c.0 = ap (λ (d : Cell). d.0) (same_cell-is (number a) c e) in omega arith)) in
+    let other : same_cell (number a) c ≡ false = false_from_ne_true (same_cell (number a) c) (λ e. (let k : a ≡ c.0 = ap (λ (d : Cell). d.0) (same_cell-is (number a) c e) in omega arith)) in
     let first = times-cons (number a) (map number (range_with_len (a + 1) n)) c in
     let here : tally (same_cell (number a) c) ≡ 0 = ap tally other in
     let later = times-before (a + 1) n c (omega arith) in
@@ -206,7 +248,7 @@ times-range a (suc n) c low high =
           let later = times-before (a + 1) n c (omega arith) in
           omega arith
       | inr d ↦
-          let other : tally (same_cell (number a) c) ≡ 0 = ap tally (not_true (same_cell (number a) c) (λ e. d (ap (λ (k : Cell). k.0) (same_cell-is (number a) c e)))) in
+          let other : tally (same_cell (number a) c) ≡ 0 = ap tally (false_from_ne_true (same_cell (number a) c) (λ e. d (ap (λ (k : Cell). k.0) (same_cell-is (number a) c e)))) in
           let later = times-range (a + 1) n c (omega arith) (omega arith) in
           omega arith
     ]
@@ -267,10 +309,6 @@ sum-once f all (x ∷ xs) inside once =
     let split = sum-plus (share f (has_cell (x ∷ xs))) (share f (same_cell x)) (share f (has_cell xs)) apart all in
     omega arith
   where
-    or_right : (a b : Bool) → b ≡ true → (a || b) ≡ true
-    or_right true b h = refl
-    or_right false b h = h
-
     sum-plus : (h g k : Cell → ℕ) → ((c : Cell) → h c ≡ g c + k c) → (ys : List Cell) → sum_by h ys ≡ sum_by g ys + sum_by k ys
     sum-plus h g k same [] = refl
     sum-plus h g k same (y ∷ ys) =
@@ -282,7 +320,7 @@ sum-once f all (x ∷ xs) inside once =
         omega arith
 
     new : has_cell xs x ≡ false
-    new = not_true (has_cell xs x) (λ h. (let o = once x in let t = times-cons x xs x in let one : tally (same_cell x x) ≡ 1 = ap tally (same_cell-refl x) in let more = times-has xs x h in omega arith))
+    new = false_from_ne_true (has_cell xs x) (λ h. (let o = once x in let t = times-cons x xs x in let one : tally (same_cell x x) ≡ 1 = ap tally (same_cell-refl x) in let more = times-has xs x h in omega arith))
 
     apart : (c : Cell) → share f (has_cell (x ∷ xs)) c ≡ share f (same_cell x) c + share f (has_cell xs) c
     apart c = by_cases (same_cell x c) refl

@@ -1,27 +1,26 @@
 -- Where all tasks are done, cells hold what all tasks leave in submission order.
-use Rattle.std.proofs.Common.{◌≡◌, ◌<◌, true, false, not, ◌&&◌, length, refl, sym, ap, ◌∙◌, subst, arith}
-use Rattle.std.specs.Prelude.{IfSome}
-use Rattle.std.proofs.lemmas.Bool.{false≢true}
+use Rattle.std.proofs.Common.{ap, arith, false, length, not, refl, subst, sym, true, ◌&&◌, ◌<◌, ◌∙◌, ◌≡◌}
+use Rattle.std.proofs.lemmas.Bool.{false_from_ne_true, false≢true}
 use Rattle.std.proofs.lemmas.List.Folds.{Any-from_list_any}
 use Rattle.std.proofs.lemmas.List.Sums.{AllPass-from_list_all}
+use Rattle.std.specs.Prelude.{IfSome}
+use Rattle.sj_base.specs.Array.{Array}
 use Rattle.sj_base.specs.declared.ids.Cell.{Cell}
 use Rattle.sj_base.specs.declared.ids.Task.{Task}
 use Rattle.sj_base.specs.declared.ids.Worker.{Worker}
 use Rattle.sj_base.specs.declared.mode.Access.{Access}
-use Rattle.sj_base.specs.declared.program.Program.{Program}
 use Rattle.sj_base.specs.declared.program.Machine.{Machine}
-use Rattle.sj_base.specs.Array.{Array}
-use Rattle.sj_core.specs.Program.{same_cell, has_cell, task_of, is_written, is_redux}
-use Rattle.sj_core.specs.declared.progress.Progress.TheVariants.{Waiting, Running}
+use Rattle.sj_base.specs.declared.program.Program.{Program}
 use Rattle.sj_deps.specs.Conflict.{HasDependencies}
-use Rattle.sj_core.specs.Operands.{written_cells}
-use Rattle.sj_core.specs.Machine.{State, progress, replica, writes, array_of, is_done, done_in, done_by}
-use Rattle.sj_core.specs.Legal.{IsComplete}
-use Rattle.sj_core.specs.Proper.{Proper, gives_value}
-use Rattle.sj_core.specs.Coherent.{Coherent, content, is_being_written, has_written}
+use Rattle.sj_core.specs.Coherent.{Coherent, content, has_written, is_being_written}
 use Rattle.sj_core.specs.Laws.{HasPlainModes, HoldsFinal, final}
+use Rattle.sj_core.specs.Legal.{IsComplete}
+use Rattle.sj_core.specs.Machine.{State, array_of, done_by, done_in, is_done, progress, replica, writes}
+use Rattle.sj_core.specs.Operands.{written_cells}
+use Rattle.sj_core.specs.Program.{has_cell, is_redux, is_written, same_cell, task_of}
+use Rattle.sj_core.specs.Proper.{Proper, gives_value}
+use Rattle.sj_core.specs.declared.progress.Progress.TheVariants.{Running, Waiting}
 use Rattle.sj_core.proofs.Finding.{being_written-by, gives-writes, task-counted}
-use Rattle.sj_core.proofs.Holding.{not_true}
 use Rattle.sj_core.proofs.PlainModes.{cone, operand-inside}
 use Rattle.sj_core.proofs.Reading.{progress-inside}
 
@@ -34,7 +33,7 @@ module _ (p : Program) (m : Machine) (proper : Proper p) (deps : HasDependencies
   all-content c = cone p plain deps (done_in s) (λ u. true) (done_by s) (λ u. record { 0 = 0 }) (length p.tasks) c (λ u l done. refl) (λ u v before l done among conflict. all-done u (omega (arith, before, l))) (λ u l among writes. all-done u l)
 
   none-written : (c : Cell) → is_being_written p s c ≡ false
-  none-written c = not_true (is_being_written p s c) (λ h. (let by = being_written-by p s c h in by_task by.0 by.1))
+  none-written c = false_from_ne_true (is_being_written p s c) (λ h. (let by = being_written-by p s c h in by_task by.0 by.1))
     where
       not_waiting : (v : Worker) → Running v ≡ Waiting → ⊥
       not_waiting v e = cc

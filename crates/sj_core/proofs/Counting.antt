@@ -1,28 +1,27 @@
 -- A claim, a run and an end keep that a cell's write count is the number of done tasks that wrote it.
-use Rattle.std.proofs.Common.{◌≡◌, ◌≢◌, ℕ, zero, suc, ◌+◌, ◌<◌, ◌≤◌, Bool, true, false, ◌&&◌, cond, map, length, refl, sym, ap, ◌∙◌, subst, inl, inr, arith}
-use Rattle.std.specs.Prelude.{fold, count_by, if◌then◌else◌}
+use Rattle.std.proofs.Common.{Bool, ap, arith, cond, false, inl, inr, length, map, refl, subst, suc, sym, true, zero, ℕ, ◌&&◌, ◌+◌, ◌<◌, ◌∙◌, ◌≡◌, ◌≢◌, ◌≤◌}
 use Rattle.std.specs.List.{range_with_len}
-use Rattle.std.proofs.lemmas.Bool.{cases_lt, false≢true}
+use Rattle.std.specs.Prelude.{count_by, fold}
 use Rattle.sj_base.specs.declared.ids.Cell.{Cell}
+use Rattle.sj_base.specs.declared.ids.Place.TheVariants.{Node as AtNode}
 use Rattle.sj_base.specs.declared.ids.Task.{Task}
 use Rattle.sj_base.specs.declared.ids.Worker.{Worker}
-use Rattle.sj_base.specs.declared.ids.Node.{Node}
-use Rattle.sj_base.specs.declared.ids.Place.TheVariants.{Node as AtNode}
-use Rattle.sj_base.specs.declared.program.Program.{Program}
 use Rattle.sj_base.specs.declared.program.Machine.{Machine}
-use Rattle.sj_core.specs.Program.{has_cell, tasks_of}
+use Rattle.sj_base.specs.declared.program.Program.{Program}
+use Rattle.sj_codelet.specs.Kernel.{same}
+use Rattle.sj_core.specs.Coherent.{IsStateOf, TasksHaveCells, WritesAreCounted, has_written}
+use Rattle.sj_core.specs.Machine.{CellState, State, is_done, progress, worker_of, writes}
 use Rattle.sj_core.specs.Needs.{node_of}
-use Rattle.sj_core.specs.declared.progress.Progress.{Progress}
-use Rattle.sj_core.specs.declared.progress.Progress.TheVariants.{Waiting, Claimed, Running, Done}
 use Rattle.sj_core.specs.Operands.{written_cells}
-use Rattle.sj_core.specs.Machine.{State, CellState, progress, cell_state, writes, replica_in, with_replica_in, is_valid, is_done, worker_of}
-use Rattle.sj_core.specs.Step.{Claims, Runs, Ends, missing, claimed_replica, owned_at, initial, rewritten_at, result_at}
-use Rattle.sj_core.specs.Coherent.{HasRows, IsStateOf, TasksHaveCells, WritesAreCounted, has_written}
-use Rattle.sj_core.proofs.Reading.{no_row, cells-renewed_or, progress-inside}
-use Rattle.sj_core.proofs.Advancing.{Advances, Claims-advances, Runs-advances, Ends-advances, same_task}
-use Rattle.sj_core.proofs.Holding.{cells-touched, cells-untouched}
+use Rattle.sj_core.specs.Program.{has_cell, tasks_of}
+use Rattle.sj_core.specs.Step.{Ends, after, result_at, rewritten_at}
+use Rattle.sj_core.specs.declared.progress.Progress.{Progress}
+use Rattle.sj_core.specs.declared.progress.Progress.TheVariants.{Done, Running, Waiting}
+use Rattle.sj_core.proofs.Advancing.{Advances, Ends-advances, same_task}
+use Rattle.sj_core.proofs.Placing.{valid-row}
+use Rattle.sj_core.proofs.Reading.{cells-touched, cells-untouched, progress-inside}
+use Rattle.sj_core.proofs.Sharing.{one}
 use Rattle.sj_core.proofs.TaskCells.{written-among_cells}
-use Rattle.std.proofs.lemmas.List.{get_or_past}
 
 -- ---- sums over the tasks
 
@@ -60,7 +59,7 @@ total-one f g t z a (suc n) low high others one =
 written-other : (p : Program) (s s' : State) (c : Cell) (t u : Task) (old new : Progress) → Advances s s' t old new → u ≢ t → has_written p s' c u ≡ has_written p s c u
 written-other p s s' c t u old new a d = ap (λ (x : Progress). is_done x && has_cell (written_cells p u (worker_of x)) c) (a.others u d)
 
-written-undone : (p : Program) (s s' : State) (c : Cell) (t u : Task) (old new : Progress) → Advances s s' t old new → is_done old ≡ false → is_done new ≡ false → has_written p s' c u ≡ has_written p s c u
+pub written-undone : (p : Program) (s s' : State) (c : Cell) (t u : Task) (old new : Progress) → Advances s s' t old new → is_done old ≡ false → is_done new ≡ false → has_written p s' c u ≡ has_written p s c u
 written-undone p s s' c t u old new a before after =
     elim (same_task u t) [
       | inl e ↦ undone s' (ap (λ (k : Task). is_done (progress s' k)) e ∙ ap is_done a.is ∙ after) ∙ sym (undone s (ap (λ (k : Task). is_done (progress s k)) e ∙ ap is_done a.was ∙ before))
@@ -70,42 +69,10 @@ written-undone p s s' c t u old new a before after =
     undone : (z : State) → is_done (progress z u) ≡ false → has_written p z c u ≡ false
     undone z h = ap (λ b. b && has_cell (written_cells p u (worker_of (progress z u))) c) h
 
-counted-same : (p : Program) (s s' : State) (c : Cell) → ((u : Task) → has_written p s' c u ≡ has_written p s c u) → count_by (has_written p s' c) (tasks_of p) ≡ count_by (has_written p s c) (tasks_of p)
+pub counted-same : (p : Program) (s s' : State) (c : Cell) → ((u : Task) → has_written p s' c u ≡ has_written p s c u) → count_by (has_written p s' c) (tasks_of p) ≡ count_by (has_written p s c) (tasks_of p)
 counted-same p s s' c same = total-same (λ u. cond (has_written p s' c u) 1 0) (λ u. cond (has_written p s c u) 1 0) 0 0 (length p.tasks) (λ u h. ap (λ b. cond b 1 0) (same u))
 
 -- ---- the laws
-
-pub Claims-keeps_counts : (p : Program) (m : Machine) (s : State) (t : Task) (w : Worker) (s' : State) → HasRows p m s → Claims p m s t w s' → WritesAreCounted p s → WritesAreCounted p s'
-Claims-keeps_counts p m s t w s' rows claim counts =
-    let n = node_of m w in
-    let f : Cell → CellState → CellState = λ d row. with_replica_in row (AtNode n) (claimed_replica w claim.evicted (missing p s t w n) d (replica_in row (AtNode n))) in
-    record {
-      counted = λ c.
-          (let same : writes s' c ≡ writes s c = ap (λ (z : State). writes z c) claim.leaves ∙ elim (cells-renewed_or s f c) [ inl row ↦ ap (λ (r : CellState). r.writes) row | inr none ↦ ap (λ (r : CellState). r.writes) none.1 ∙ sym (ap (λ (r : CellState). r.writes) none.0) ] in
-          same ∙ counts.counted c ∙ sym (counted-same p s s' c (λ u. written-undone p s s' c t u Waiting (Claimed w) (Claims-advances p m s t w s' rows claim) refl refl)));
-    }
-
-pub Runs-keeps_counts : (p : Program) (m : Machine) (s : State) (t : Task) (w : Worker) (s' : State) → Runs p m s t w s' → WritesAreCounted p s → WritesAreCounted p s'
-Runs-keeps_counts p m s t w s' run counts =
-    let n = node_of m w in
-    let f : Cell → CellState → CellState = λ d row. if has_cell (written_cells p t w) d then owned_at n (initial p s t w n d) row else row in
-    record {
-      counted = λ c.
-          (let same : writes s' c ≡ writes s c = ap (λ (z : State). writes z c) run.leaves ∙ elim (cells-renewed_or s f c) [ inl row ↦ ap (λ (r : CellState). r.writes) row ∙ either (has_cell (written_cells p t w) c) (owned_at n (initial p s t w n c) (cell_state s c)) (cell_state s c) refl | inr none ↦ ap (λ (r : CellState). r.writes) none.1 ∙ sym (ap (λ (r : CellState). r.writes) none.0) ] in
-          same ∙ counts.counted c ∙ sym (counted-same p s s' c (λ u. written-undone p s s' c t u (Claimed w) (Running w) (Runs-advances p m s t w s' run) refl refl)));
-    }
-  where
-    either : (b : Bool) (x y : CellState) → x.writes ≡ y.writes → (if b then x else y).writes ≡ y.writes
-    either true x y e = e
-    either false x y e = refl
-
--- a valid replica is one of a cell of the table
-valid-inside : (s : State) (c : Cell) (n : Node) → is_valid (replica_in (cell_state s c) (AtNode n)) ≡ true → c.0 < length s.cells
-valid-inside s c n h =
-    elim (cases_lt c.0 (length s.cells)) [
-      | inl inside ↦ inside
-      | inr past ↦ absurd (false≢true (sym (ap (λ (row : CellState). is_valid (replica_in row (AtNode n))) (get_or_past s.cells c.0 no_row past)) ∙ h))
-    ]
 
 pub Ends-keeps_counts : (p : Program) (m : Machine) (s : State) (t : Task) (w : Worker) (s' : State) → IsStateOf p m s → TasksHaveCells p m s → Ends p m s t w s' → WritesAreCounted p s → WritesAreCounted p s'
 Ends-keeps_counts p m s t w s' state cells ended counts = record { counted = λ c. by_cases c (has_cell (written_cells p t w) c) refl }
@@ -131,7 +98,7 @@ Ends-keeps_counts p m s t w s' state cells ended counts = record { counted = λ 
         ]))
     by_cases c true e =
         let there = cells.running t w c ended.running (written-among_cells p t w c e) in
-        let more : writes s' c ≡ writes s c + 1 = ap (λ (z : State). writes z c) ended.leaves ∙ ap (λ (r : CellState). r.writes) (cells-touched s (has_cell (written_cells p t w)) (λ d row. rewritten_at (node_of m w) (result_at p s t w (node_of m w) d) row) c (valid-inside s c (node_of m w) there) e) in
+        let more : writes s' c ≡ writes s c + 1 = ap (λ (z : State). writes z c) ended.leaves ∙ ap (λ (r : CellState). r.writes) (cells-touched s (has_cell (written_cells p t w)) (λ d row. rewritten_at (node_of m w) (result_at p s t w (node_of m w) d) row) c (valid-row s c (AtNode (node_of m w)) there) e) in
         let old : Task → ℕ = λ u. cond (has_written p s c u) 1 0 in
         let new : Task → ℕ = λ u. cond (has_written p s' c u) 1 0 in
         let this : new t ≡ old t + 1 = ap (λ b. cond b 1 0) (now c ∙ e) ∙ sym (ap (λ b. cond b 1 0 + 1) (undone c)) in

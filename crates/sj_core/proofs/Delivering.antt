@@ -1,38 +1,39 @@
 -- What a task finds in the cells whose old value it reads is what they hold after all tasks before it, in submission order.
-use Rattle.std.proofs.Common.{◌≡◌, ◌≢◌, ℕ, ◌<◌, true, false, not, ◌||◌, List, [], ◌∷◌, map, length, refl, sym, ap, ◌∙◌, subst, arith}
-use Rattle.std.specs.Prelude.{IsTrue}
+use Rattle.std.proofs.Common.{List, [], ap, arith, false, length, map, not, refl, subst, sym, true, ℕ, ◌<◌, ◌||◌, ◌∙◌, ◌∷◌, ◌≡◌, ◌≢◌}
+use Rattle.std.proofs.lemmas.Bool.{false_from_ne_true, false≢true}
 use Rattle.std.specs.List.{Contains, filter, slice_index_or}
-use Rattle.std.proofs.lemmas.Bool.{false≢true}
+use Rattle.std.specs.Prelude.{IsTrue}
 use Rattle.sj_base.specs.declared.ids.Cell.{Cell}
+use Rattle.sj_base.specs.declared.ids.Place.TheVariants.{Node as AtNode}
 use Rattle.sj_base.specs.declared.ids.Task.{Task}
 use Rattle.sj_base.specs.declared.ids.Worker.{Worker}
-use Rattle.sj_base.specs.declared.ids.Place.TheVariants.{Node as AtNode}
-use Rattle.sj_base.specs.declared.mode.Mode.TheVariants.{R}
 use Rattle.sj_base.specs.declared.mode.Access.{Access}
-use Rattle.sj_base.specs.declared.program.Program.{Program}
+use Rattle.sj_base.specs.declared.mode.Mode.TheVariants.{R}
 use Rattle.sj_base.specs.declared.program.Machine.{Machine}
-use Rattle.sj_core.specs.Program.{has_cell, task_of, is_scratch}
-use Rattle.sj_core.specs.Needs.{node_of}
+use Rattle.sj_base.specs.declared.program.Program.{Program}
 use Rattle.sj_deps.specs.Conflict.{HasDependencies}
-use Rattle.sj_core.specs.Operands.{worked_on, cells_of, written_cells}
-use Rattle.sj_core.specs.Fold.{held_before, given}
-use Rattle.sj_core.specs.Machine.{State, progress, replica, is_valid, is_done, is_task_of, done_in, done_by}
-use Rattle.sj_core.specs.Step.{array_at, EarlierAreDone}
-use Rattle.sj_core.specs.Proper.{Proper, reads_value, access}
 use Rattle.sj_core.specs.Coherent.{Coherent, content, is_begun}
-use Rattle.sj_core.specs.Laws.{HasPlainModes, HasAtHand, Works, Brought}
-use Rattle.sj_core.proofs.Advancing.{same_worker-refl}
-use Rattle.sj_core.proofs.Contents.{done-begun, later-free}
+use Rattle.sj_core.specs.Fold.{given, held_before}
+use Rattle.sj_core.specs.Laws.{Brought, HasAtHand, HasPlainModes, Works}
+use Rattle.sj_core.specs.Machine.{State, done_by, done_in, is_done, is_task_of, is_valid, progress, replica}
+use Rattle.sj_core.specs.Needs.{node_of}
+use Rattle.sj_core.specs.Operands.{cells_of, worked_on, written_cells}
+use Rattle.sj_core.specs.Program.{has_cell, is_scratch, task_of}
+use Rattle.sj_core.specs.Proper.{Proper, access, reads_value}
+use Rattle.sj_core.specs.Step.{EarlierAreDone, array_at, reads}
+use Rattle.sj_core.proofs.Advancing.{done-begun}
+use Rattle.sj_core.proofs.Contents.{later-free}
 use Rattle.sj_core.proofs.Finding.{finds-content, read-cell, read-value}
 use Rattle.sj_core.proofs.Folding.{held-until}
-use Rattle.sj_core.proofs.Holding.{not_true}
-use Rattle.sj_core.proofs.PlainModes.{conflicts, cone, operand-inside}
+use Rattle.sj_core.proofs.PlainModes.{cone, conflicts, operand-inside}
+use Rattle.sj_core.proofs.Replicas.{same_worker-refl}
+use Rattle.sj_core.proofs.Sharing.{one}
 
 module _ (p : Program) (m : Machine) (proper : Proper p) (deps : HasDependencies p) (plain : HasPlainModes p) (s : State) (sound : Coherent p m s) where
   -- the content of a cell of a task that isn't done, and whose earlier conflicting tasks are, is what it holds after all tasks before
   pub content-before : (t : Task) (w : Worker) (c : Cell) → t.0 < length p.tasks → done_in s t ≡ false → EarlierAreDone p s t → has_cell (cells_of p t w) c ≡ true → content p s c ≡ held_before p t.0 c
   content-before t w c inside undone earlier has =
-      held-until p (done_in s) (done_by s) c t.0 (length p.tasks) (omega (arith, inside)) (λ u l k done. not_true (has_cell (written_cells p u (done_by s u)) c) (λ writes.
+      held-until p (done_in s) (done_by s) c t.0 (length p.tasks) (omega (arith, inside)) (λ u l k done. false_from_ne_true (has_cell (written_cells p u (done_by s u)) c) (λ writes.
       (let differ : t.0 ≢ u.0 = λ e. false≢true (sym undone ∙ ap (λ (n : ℕ). done_in s (record { 0 = n })) e ∙ done) in
       later-free p s t sound.order undone u (omega (arith, differ)) done (conflicts p plain deps t u w (done_by s u) c has writes).0)))
       ∙ cone p plain deps (done_in s) (λ u. true) (done_by s) (λ u. record { 0 = 0 }) t.0 c

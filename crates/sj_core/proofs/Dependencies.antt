@@ -1,31 +1,33 @@
 -- The dependencies of a proper program can be counted: each access names a cell, and a task accesses a cell in one manner.
-use Rattle.std.proofs.Common.{◌≡◌, ℕ, zero, suc, ◌+◌, ◌<◌, Bool, true, false, not, List, [], ◌∷◌, map, length, get_or, refl, sym, ap, ◌∙◌, subst, inl, inr, ◌⊎◌, Option, None, Some, arith}
-use Rattle.std.specs.Prelude.{IsTrue, AllPairs, slice_get, option_and_then, is_some}
-use Rattle.std.specs.List.{filter, flat_map, Contains, range_with_len}
+use Rattle.std.proofs.Common.{Bool, List, None, Option, Some, [], ap, arith, false, get_or, inl, inr, length, map, not, refl, subst, suc, sym, true, zero, ℕ, ◌+◌, ◌<◌, ◌∙◌, ◌∷◌, ◌≡◌, ◌⊎◌}
 use Rattle.std.proofs.lemmas.Bool.{cases_lt}
 use Rattle.std.proofs.lemmas.Bool.Decides.{Decides-eqb}
 use Rattle.std.proofs.lemmas.List.{get_or_default}
 use Rattle.std.proofs.lemmas.List.Elements.{All-contains, Contains-append_cases}
-use Rattle.std.proofs.lemmas.List.FromFn.{length-range_with_len, get_or-range_with_len}
+use Rattle.std.proofs.lemmas.List.FromFn.{get_or-range_with_len, length-range_with_len}
 use Rattle.std.proofs.lemmas.Option.{slice_get-get_or, slice_get_past}
+use Rattle.std.specs.List.{Contains, filter, flat_map, range_with_len}
+use Rattle.std.specs.Prelude.{AllPairs, IsTrue, is_some, option_and_then, slice_get}
 use Rattle.sj_base.specs.declared.ids.Cell.{Cell}
 use Rattle.sj_base.specs.declared.ids.Worker.{Worker}
-use Rattle.sj_base.specs.declared.mode.Mode.{Mode}
-use Rattle.sj_base.specs.declared.mode.Mode.TheVariants.{R, W, RW, Scratch, Redux, Commute as CommuteMode}
 use Rattle.sj_base.specs.declared.mode.Access.{Access}
+use Rattle.sj_base.specs.declared.mode.Mode.{Mode}
+use Rattle.sj_base.specs.declared.mode.Mode.TheVariants.{Commute as CommuteMode, R, RW, Redux, Scratch, W}
 use Rattle.sj_base.specs.declared.program.CellInfo.{CellInfo}
 use Rattle.sj_base.specs.declared.program.Codelet.{Codelet}
 use Rattle.sj_base.specs.declared.program.Lowered.{Lowered}
 use Rattle.sj_base.specs.declared.program.Program.{Program}
+use Rattle.sj_codelet.specs.Kernel.{same}
+use Rattle.sj_deps.specs.Conflict.{HasDependencies, Uses, copies_of, usage, usages_of}
 use Rattle.sj_deps.specs.declared.manner.Manner.{Manner}
-use Rattle.sj_deps.specs.declared.manner.Manner.TheVariants.{Read, Write, Commute, Contribute}
+use Rattle.sj_deps.specs.declared.manner.Manner.TheVariants.{Commute, Contribute, Read, Write}
 use Rattle.sj_deps.specs.declared.manner.Usage.{Usage}
-use Rattle.sj_deps.specs.Conflict.{usage, usages_of, copies_of, Uses, HasDependencies}
-use Rattle.sj_core.specs.Program.{same_cell, cell_info, no_cell, no_task, is_scratch, is_redux, data_operands}
 use Rattle.sj_core.specs.Operands.{copy_of}
-use Rattle.sj_core.specs.Proper.{IsCopyOf, IsInit, IsCombine, IsPhase, Phase, Proper, access, task_number}
-use Rattle.sj_core.proofs.Sharing.{manner_of}
+use Rattle.sj_core.specs.Program.{cell_info, data_operands, is_redux, is_scratch, no_cell, no_task, same_cell}
+use Rattle.sj_core.specs.Proper.{IsCombine, IsCopyOf, IsInit, IsPhase, Phase, Proper, access, task_number}
+use Rattle.sj_core.specs.Step.{after, reads}
 use Rattle.sj_core.proofs.Readiness.{Contains-filter}
+use Rattle.sj_core.proofs.Sharing.{manner_of}
 
 -- ---- what lists contain
 

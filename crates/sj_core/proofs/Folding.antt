@@ -1,24 +1,26 @@
 -- What cells hold after tasks in submission order: on which tasks it depends, and that a task may come last.
-use Rattle.std.proofs.Common.{◌≡◌, ◌≢◌, ℕ, zero, suc, ◌<◌, ◌≤◌, Bool, true, false, not, ◌||◌, cond, List, [], ◌∷◌, ◌++◌, map, length, refl, sym, ap, ◌∙◌, inl, inr, Option, None, Some, arith}
-use Rattle.std.specs.List.{Contains, filter, find, zip}
-use Rattle.std.specs.Option.{option_or}
-use Rattle.std.proofs.lemmas.Bool.{cases_lt, false≢true, true≢false}
+use Rattle.std.proofs.Common.{Bool, List, None, Option, Some, [], ap, arith, cond, false, inl, inr, length, map, not, refl, suc, sym, true, zero, ℕ, ◌++◌, ◌<◌, ◌||◌, ◌∙◌, ◌∷◌, ◌≡◌, ◌≢◌, ◌≤◌}
+use Rattle.std.proofs.lemmas.Bool.{cases_lt, false_from_ne_true, false≢true, true≢false}
 use Rattle.std.proofs.lemmas.Bool.Decides.{Decides-eqb}
 use Rattle.std.proofs.lemmas.List.Folds.{find-append}
+use Rattle.std.specs.List.{Contains, filter, find, zip}
+use Rattle.std.specs.Option.{option_or}
+use Rattle.sj_base.specs.Array.{Array, zeros}
 use Rattle.sj_base.specs.declared.ids.Cell.{Cell}
 use Rattle.sj_base.specs.declared.ids.Task.{Task}
 use Rattle.sj_base.specs.declared.ids.Worker.{Worker}
-use Rattle.sj_base.specs.declared.mode.Mode.{Mode}
-use Rattle.sj_base.specs.declared.mode.Mode.TheVariants.{R, W, RW, Scratch, Redux, Commute}
 use Rattle.sj_base.specs.declared.mode.Access.{Access}
+use Rattle.sj_base.specs.declared.mode.Mode.{Mode}
+use Rattle.sj_base.specs.declared.mode.Mode.TheVariants.{Commute, R, RW, Redux, Scratch, W}
 use Rattle.sj_base.specs.declared.program.Program.{Program}
-use Rattle.sj_base.specs.Array.{Array, zeros}
-use Rattle.sj_codelet.specs.Kernel.{out}
-use Rattle.sj_core.specs.Program.{same_cell, has_cell, dims_of, task_of, is_scratch, is_written, starts_as_zeros}
-use Rattle.sj_core.specs.Operands.{worked_on, cells_of, written_cells, found, results}
-use Rattle.sj_core.specs.Fold.{Contents, held_in, after_task, after_chosen}
+use Rattle.sj_codelet.specs.Frame.{arrays}
+use Rattle.sj_codelet.specs.Kernel.{out, same}
+use Rattle.sj_core.specs.Fold.{Contents, after_chosen, after_task, held_in}
+use Rattle.sj_core.specs.Machine.{writes}
+use Rattle.sj_core.specs.Operands.{cells_of, found, results, worked_on, written_cells}
+use Rattle.sj_core.specs.Program.{dims_of, has_cell, is_scratch, is_written, same_cell, starts_as_zeros, task_of}
+use Rattle.sj_core.specs.Step.{reads}
 use Rattle.sj_core.proofs.Advancing.{same_task}
-use Rattle.sj_core.proofs.Holding.{not_true}
 use Rattle.sj_core.proofs.Sharing.{operand-has_cell}
 use Rattle.sj_core.proofs.TaskCells.{written-among_cells}
 
@@ -191,7 +193,7 @@ cone-holds p chosen wider by by' (suc n) k c writers = by_choice (chosen t) (wid
         (rest c (λ u h. writers u (omega arith)))
     by_choice true false e f rest = absurd (false≢true (sym f ∙ k.within (number n) (omega arith) e))
     by_choice false true e f rest =
-        let other = not_true (has_cell (written_cells p (number n) (by' (number n))) c) (λ writes. false≢true (sym e ∙ writers (number n) (omega arith) f writes)) in
+        let other = false_from_ne_true (has_cell (written_cells p (number n) (by' (number n))) c) (λ writes. false≢true (sym e ∙ writers (number n) (omega arith) f writes)) in
         rest c (λ u h. writers u (omega arith)) ∙ sym (after_task-other p (by' (number n)) (number n) (after_chosen p wider by' n) c other)
     by_choice false false e f rest = rest c (λ u h. writers u (omega arith))
 
@@ -218,7 +220,7 @@ module _ (p : Program) (chosen chosen' : Task → Bool) (by by' : Task → Worke
 
   -- t's cells hold after all chosen tasks what they held after those before t
   inputs-hold : (d : Cell) → has_cell (cells_of p t w) d ≡ true → held_in p (after_chosen p chosen by n) d ≡ held_in p (after_chosen p chosen by t.0) d
-  inputs-hold d has = held-until p chosen by d t.0 n (omega arith) (λ u h k e. not_true (has_cell (written_cells p u (by u)) d) (λ writes.
+  inputs-hold d has = held-until p chosen by d t.0 n (omega arith) (λ u h k e. false_from_ne_true (has_cell (written_cells p u (by u)) d) (λ writes.
       (let differ : t.0 ≢ u.0 = λ same. false≢true (sym adds.absent ∙ ap chosen (ap number same) ∙ e) in
       last.unwritten u d (omega (arith, differ)) e writes has)))
 
@@ -226,7 +228,7 @@ module _ (p : Program) (chosen chosen' : Task → Bool) (by by' : Task → Worke
   written-last c writes =
       let has = written-among_cells p t w c writes in
       let old = after_chosen p chosen by t.0 in
-      let later = held-until p chosen' by' c (suc t.0) n inside (λ u h k e. not_true (has_cell (written_cells p u (by' u)) c) (λ over.
+      let later = held-until p chosen' by' c (suc t.0) n inside (λ u h k e. false_from_ne_true (has_cell (written_cells p u (by' u)) c) (λ over.
       (let was = chosen-before u (omega arith) e in
       last.unwritten u c (omega arith) was.0 (sym (ap (λ (v : Worker). has_cell (written_cells p u v) c) was.1) ∙ over) has))) in
       let same : after_chosen p chosen' by' t.0 ≡ old = after_chosen-same p chosen' chosen by' by t.0 (λ u h. adds.others u (λ e. less_isn't_same u h (ap (λ (k : Task). k.0) e))) (λ u h e. adds.workers u (λ f. less_isn't_same u h (ap (λ (k : Task). k.0) f))) in

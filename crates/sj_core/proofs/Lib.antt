@@ -1,11 +1,11 @@
 pub mod Advancing
-pub mod Agreeing
 pub mod Arriving
 pub mod Blocks
 pub mod Bound
 pub mod Bytes
 pub mod CellLists
-pub mod Choosing
+pub mod Changing
+pub mod ClaimKeeps
 pub mod Claimed
 pub mod Claiming
 pub mod Coherence
@@ -16,11 +16,11 @@ pub mod Counting
 pub mod Delivering
 pub mod Dependencies
 pub mod Dropping
+pub mod Ending
 pub mod Eviction
 pub mod Finding
 pub mod Folding
 pub mod Forms
-pub mod Holding
 pub mod Jobs
 pub mod MovingIn
 pub mod MovingOut
@@ -32,6 +32,9 @@ pub mod Readiness
 pub mod Reading
 pub mod Reduction
 pub mod Replaying
+pub mod Replicas
+pub mod Resting
+pub mod Running
 pub mod Separation
 pub mod Sharing
 pub mod Shifting
@@ -43,5 +46,3 @@ pub mod Testing
 pub mod Values
 pub mod Worked
 pub mod WorkedRuns
-pub mod Workers
-pub mod Writers

@@ -1,30 +1,29 @@
 -- A move into a node that begins leaves a coherent state.
-use Rattle.std.proofs.Common.{◌≡◌, ℕ, Bool, true, false, not, ◌&&◌, refl, sym, ap, ◌∙◌, subst, inl, inr, ◌⊎◌, Option, None, Some}
-use Rattle.std.specs.Prelude.{IsTrue, option_map, position}
-use Rattle.std.proofs.lemmas.Bool.{false≢true, and_from}
+use Rattle.std.proofs.Common.{Bool, None, Option, Some, ap, false, inl, inr, not, refl, subst, sym, true, ℕ, ◌&&◌, ◌∙◌, ◌≡◌, ◌⊎◌}
+use Rattle.std.proofs.lemmas.Bool.{and_from, false_from_ne_true, false≢true}
 use Rattle.std.proofs.lemmas.List.{length-set}
 use Rattle.std.proofs.lemmas.List.Quantifiers.{position-Some}
+use Rattle.std.specs.Prelude.{IsTrue, option_map, position}
 use Rattle.sj_base.specs.declared.ids.Cell.{Cell}
 use Rattle.sj_base.specs.declared.ids.DiskNo.{DiskNo}
 use Rattle.sj_base.specs.declared.ids.Node.{Node}
-use Rattle.sj_base.specs.declared.ids.Worker.{Worker}
 use Rattle.sj_base.specs.declared.ids.Place.{Place}
-use Rattle.sj_base.specs.declared.ids.Place.TheVariants.{Node as AtNode, Disk as OnDisk}
-use Rattle.sj_base.specs.declared.program.Program.{Program}
+use Rattle.sj_base.specs.declared.ids.Place.TheVariants.{Disk as OnDisk, Node as AtNode}
+use Rattle.sj_base.specs.declared.ids.Worker.{Worker}
 use Rattle.sj_base.specs.declared.program.Machine.{Machine}
-use Rattle.sj_core.specs.Program.{same_cell, has_cell}
-use Rattle.sj_core.specs.declared.progress.Transfer.{Transfer}
-use Rattle.sj_core.specs.Operands.{fresh_cells}
-use Rattle.sj_core.specs.Machine.{State, Invalid, cell_state, replica, transfer, progress, is_valid, is_leaving_by, is_coming_by, is_claimed_by, with_transfer}
-use Rattle.sj_core.specs.Step.{BeginsMoveIn, a_transfer, disk_of, is_fresh}
-use Rattle.sj_core.specs.Coherent.{IsClaimed, IsTransferTo, NoneLeavesBy, TransfersAreSound, Coherent}
+use Rattle.sj_base.specs.declared.program.Program.{Program}
+use Rattle.sj_codelet.specs.Kernel.{same}
+use Rattle.sj_core.specs.Coherent.{Coherent, IsClaimed, IsTransferTo, NoneLeavesBy, TransfersAreSound}
 use Rattle.sj_core.specs.Laws.{IsSound}
+use Rattle.sj_core.specs.Machine.{Invalid, State, cell_state, is_claimed_by, is_coming_by, is_valid, progress, replica, transfer, with_transfer}
+use Rattle.sj_core.specs.Operands.{fresh_cells}
+use Rattle.sj_core.specs.Program.{has_cell, same_cell}
+use Rattle.sj_core.specs.Step.{BeginsMoveIn, a_transfer, disk_of, is_fresh}
+use Rattle.sj_core.specs.declared.progress.Transfer.{Transfer}
+use Rattle.sj_core.proofs.Claimed.{claimed-inside, claimed-not_written, claimed-old_value, list_any-task}
+use Rattle.sj_core.proofs.Placing.{owned-fails, pins-same, position-none, room-leaves_none, scratch-same, transfer-cases, valid-within, victims-same}
 use Rattle.sj_core.proofs.Reading.{same_cell-is}
-use Rattle.sj_core.proofs.Advancing.{same_worker-refl}
-use Rattle.sj_core.proofs.Workers.{room-leaves_none, leaving-isn't_resting}
-use Rattle.sj_core.proofs.Holding.{not_true}
-use Rattle.sj_core.proofs.Claimed.{list_any-task, claimed-inside, claimed-not_written, claimed-old_value}
-use Rattle.sj_core.proofs.Placing.{pins-same, scratch-same, victims-same, transfer-cases, owned-fails, position-none, valid-within}
+use Rattle.sj_core.proofs.Replicas.{same_worker-refl}
 use Rattle.sj_core.proofs.Shifting.{Shifts, Shifts-coherent}
 
 pub some-is : (x y : Transfer) → Some x ≡ Some y → x ≡ y
@@ -42,7 +41,7 @@ module _ (p : Program) (m : Machine) (s : State) (h : IsSound p m s) (c : Cell) 
 
   -- the claimed task reads the cell's old value
   not_fresh : has_cell (fresh_cells p claimed.task w) c ≡ false
-  not_fresh = not_true (has_cell (fresh_cells p claimed.task w) c) (λ fresh.
+  not_fresh = false_from_ne_true (has_cell (fresh_cells p claimed.task w) c) (λ fresh.
       (let ours : is_claimed_by w (progress s claimed.task) ≡ true = ap (is_claimed_by w) claimed.claimed ∙ same_worker-refl w in
       let both = and_from (is_claimed_by w (progress s claimed.task)) (has_cell (fresh_cells p claimed.task w) c) ours fresh in
       let some : is_fresh p s w c ≡ true = list_any-task p (λ t. is_claimed_by w (progress s t) && has_cell (fresh_cells p t w) c) claimed.task (claimed-inside p m s h claimed.task w claimed.claimed) both in
@@ -65,8 +64,7 @@ module _ (p : Program) (m : Machine) (s : State) (h : IsSound p m s) (c : Cell) 
 
   -- nothing leaves by the claim any more
   none_leaves : NoneLeavesBy s w
-  none_leaves d (AtNode k) = not_true (is_leaving_by w (replica s d (AtNode k))) (λ leaving. false≢true (sym (room-leaves_none m s w d k move.room (h.coherent.workers.evicted w d k leaving)) ∙ leaving))
-  none_leaves d (OnDisk k) = not_true (is_leaving_by w (replica s d (OnDisk k))) (λ leaving. (let l = leaving-isn't_resting w (replica s d (OnDisk k)) leaving in (h.coherent.state.blocks.resting d k l.0 l.1).1 l.2))
+  none_leaves = room-leaves_none p m s h w move.room
 
   -- each transfer is as before, or is this one
   transfers : (v : Worker) (x : Transfer) → transfer after v ≡ Some x → (transfer s v ≡ Some x) ⊎ ((v ≡ w) × (begun ≡ x))
@@ -123,7 +121,7 @@ module _ (p : Program) (m : Machine) (s : State) (h : IsSound p m s) (c : Cell) 
     owned = λ d v a own q. refl;
     unmoved = λ d v a own x. elim (transfer-cases s w (Some begun) x) [
       | inl same ↦ ap (λ (o : Option Transfer). elim o as (λ _. Bool) [ None ↦ false | Some y ↦ same_cell y.cell d ]) same ∙ own.unmoved x
-      | inr (e, is) ↦ ap (λ (o : Option Transfer). elim o as (λ _. Bool) [ None ↦ false | Some y ↦ same_cell y.cell d ]) is ∙ not_true (same_cell c d) (λ same. false≢true (sym (owned-fails m s d v a own (is_coming_by w) refl refl (AtNode n)) ∙ ap (λ (y : Cell). is_coming_by w (replica s y (AtNode n))) (sym (same_cell-is c d same)) ∙ move.coming))
+      | inr (e, is) ↦ ap (λ (o : Option Transfer). elim o as (λ _. Bool) [ None ↦ false | Some y ↦ same_cell y.cell d ]) is ∙ false_from_ne_true (same_cell c d) (λ same. false≢true (sym (owned-fails m s d v a own (is_coming_by w) refl refl (AtNode n)) ∙ ap (λ (y : Cell). is_coming_by w (replica s y (AtNode n))) (sym (same_cell-is c d same)) ∙ move.coming))
     ];
     movers = λ v x under_way. elim (transfers v x under_way) [
       | inl same ↦ h.coherent.workers.moves_for_claim v x same
@@ -134,4 +132,4 @@ module _ (p : Program) (m : Machine) (s : State) (h : IsSound p m s) (c : Cell) 
   }
 
   pub Moves_in-keep_coherence : Coherent p m s'
-  Moves_in-keep_coherence = subst (λ (z : State). Coherent p m z) (sym move.leaves) (Shifts-coherent p m s h after.cells after.workers shift)
+  Moves_in-keep_coherence = subst (λ (z : State). Coherent p m z) (sym move.leaves) (Shifts-coherent p m s h claimed.task w claimed.claimed after.cells after.workers shift)

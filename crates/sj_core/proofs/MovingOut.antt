@@ -1,28 +1,29 @@
 -- A move out to a disk that begins leaves a coherent state.
-use Rattle.std.proofs.Common.{◌≡◌, Bool, true, false, not, ◌&&◌, refl, sym, ap, ◌∙◌, subst, inl, inr, ◌⊎◌, Option, None, Some, []}
-use Rattle.std.proofs.lemmas.Bool.{false≢true, and_from}
+use Rattle.std.proofs.Common.{Bool, None, Option, Some, [], ap, false, inl, inr, not, refl, subst, sym, true, ◌&&◌, ◌∙◌, ◌≡◌, ◌⊎◌}
+use Rattle.std.proofs.lemmas.Bool.{and_from, false_from_ne_true, false≢true}
 use Rattle.std.proofs.lemmas.List.{length-set}
 use Rattle.sj_base.specs.Array.{Array}
 use Rattle.sj_base.specs.declared.ids.Cell.{Cell}
-use Rattle.sj_base.specs.declared.ids.Task.{Task}
 use Rattle.sj_base.specs.declared.ids.DiskNo.{DiskNo}
-use Rattle.sj_base.specs.declared.ids.Worker.{Worker}
 use Rattle.sj_base.specs.declared.ids.Place.{Place}
-use Rattle.sj_base.specs.declared.ids.Place.TheVariants.{Node as AtNode, Disk as OnDisk}
-use Rattle.sj_base.specs.declared.program.Program.{Program}
+use Rattle.sj_base.specs.declared.ids.Place.TheVariants.{Disk as OnDisk, Node as AtNode}
+use Rattle.sj_base.specs.declared.ids.Task.{Task}
+use Rattle.sj_base.specs.declared.ids.Worker.{Worker}
 use Rattle.sj_base.specs.declared.program.Machine.{Machine}
-use Rattle.sj_core.specs.Program.{same_cell}
-use Rattle.sj_core.specs.declared.progress.Transfer.{Transfer}
-use Rattle.sj_core.specs.Machine.{State, Replica, Invalid, Coming, Valid, Leaving, replica, transfer, progress, is_valid, is_leaving_by, is_claimed_by, with_transfer}
-use Rattle.sj_core.specs.Step.{BeginsMoveOut, a_transfer, disk_of, same_place, is_valid_elsewhere}
-use Rattle.sj_core.specs.Coherent.{IsTransferTo, TransfersAreSound, Coherent}
+use Rattle.sj_base.specs.declared.program.Program.{Program}
+use Rattle.sj_codelet.specs.Kernel.{same}
+use Rattle.sj_core.specs.Coherent.{Coherent, IsTransferTo, TransfersAreSound}
 use Rattle.sj_core.specs.Laws.{IsSound}
-use Rattle.sj_core.proofs.Reading.{same_cell-is}
-use Rattle.sj_core.proofs.Workers.{leaving-isn't_resting}
-use Rattle.sj_core.proofs.Holding.{not_true}
-use Rattle.sj_core.proofs.Placing.{pins-same, scratch-same, victims-same, transfer-cases, owned-fails, same_place-is, list_any-place, leaving_by-valid, leaving_by-one}
-use Rattle.sj_core.proofs.Shifting.{Shifts, Shifts-coherent}
+use Rattle.sj_core.specs.Machine.{Coming, Invalid, Leaving, Replica, State, Valid, is_claimed_by, is_leaving_by, is_valid, progress, replica, transfer, with_transfer}
+use Rattle.sj_core.specs.Program.{same_cell}
+use Rattle.sj_core.specs.Step.{BeginsMoveOut, a_transfer, disk_of, is_valid_elsewhere, same_place}
+use Rattle.sj_core.specs.declared.progress.Transfer.{Transfer}
+use Rattle.sj_core.proofs.Advancing.{claimed_by-is}
 use Rattle.sj_core.proofs.MovingIn.{some-is}
+use Rattle.sj_core.proofs.Placing.{list_any-place, owned-fails, pins-same, same_place-is, scratch-same, transfer-cases, victims-same}
+use Rattle.sj_core.proofs.Reading.{same_cell-is}
+use Rattle.sj_core.proofs.Replicas.{leaving_by-is, leaving_by-one, leaving_by-valid}
+use Rattle.sj_core.proofs.Shifting.{Shifts, Shifts-coherent}
 
 module _ (p : Program) (m : Machine) (s : State) (h : IsSound p m s) (c : Cell) (from : Place) (d : DiskNo) (w : Worker) (s' : State) (move : BeginsMoveOut p m s c from d w s') where
   abbrev begun : Transfer
@@ -33,7 +34,7 @@ module _ (p : Program) (m : Machine) (s : State) (h : IsSound p m s) (c : Cell) 
 
   -- no replica on a disk leaves
   stays_on_disk : (v : Worker) (x : Cell) (k : DiskNo) → is_leaving_by v (replica s x (OnDisk k)) ≡ true → ⊥
-  stays_on_disk v x k leaving = let l = leaving-isn't_resting v (replica s x (OnDisk k)) leaving in (h.coherent.state.blocks.resting x k l.0 l.1).1 l.2
+  stays_on_disk v x k leaving = let is = leaving_by-is v (replica s x (OnDisk k)) leaving in (h.coherent.state.blocks.resting x k v is.0).1 is.1
 
   -- a valid replica of the cell is the one that leaves
   only_one : (q : Place) → is_valid (replica s c q) ≡ true → q ≡ from
@@ -136,7 +137,7 @@ module _ (p : Program) (m : Machine) (s : State) (h : IsSound p m s) (c : Cell) 
     owned = λ x v a own q. refl;
     unmoved = λ x v a own u. elim (transfer-cases s w (Some begun) u) [
       | inl same ↦ ap (λ (o : Option Transfer). elim o as (λ _. Bool) [ None ↦ false | Some y ↦ same_cell y.cell x ]) same ∙ own.unmoved u
-      | inr (e, is) ↦ ap (λ (o : Option Transfer). elim o as (λ _. Bool) [ None ↦ false | Some y ↦ same_cell y.cell x ]) is ∙ not_true (same_cell c x) (λ same. false≢true (sym (owned-fails m s x v a own (is_leaving_by w) refl refl from) ∙ ap (λ (y : Cell). is_leaving_by w (replica s y from)) (sym (same_cell-is c x same)) ∙ move.leaving))
+      | inr (e, is) ↦ ap (λ (o : Option Transfer). elim o as (λ _. Bool) [ None ↦ false | Some y ↦ same_cell y.cell x ]) is ∙ false_from_ne_true (same_cell c x) (λ same. false≢true (sym (owned-fails m s x v a own (is_leaving_by w) refl refl from) ∙ ap (λ (y : Cell). is_leaving_by w (replica s y from)) (sym (same_cell-is c x same)) ∙ move.leaving))
     ];
     movers = λ v x under_way. elim (transfers v x under_way) [
       | inl same ↦ h.coherent.workers.moves_for_claim v x same
@@ -147,4 +148,4 @@ module _ (p : Program) (m : Machine) (s : State) (h : IsSound p m s) (c : Cell) 
   }
 
   pub Moves_out-keep_coherence : Coherent p m s'
-  Moves_out-keep_coherence = subst (λ (z : State). Coherent p m z) (sym move.leaves) (Shifts-coherent p m s h after.cells after.workers shift)
+  Moves_out-keep_coherence = subst (λ (z : State). Coherent p m z) (sym move.leaves) (Shifts-coherent p m s h claims.0 w (claimed_by-is w (progress s claims.0) claims.1) after.cells after.workers shift)

@@ -1,26 +1,26 @@
 -- The opening state is coherent.
-use Rattle.std.proofs.Common.{◌≡◌, ℕ, zero, suc, ◌+◌, ◌<◌, true, ◌&&◌, cond, List, [], ◌∷◌, length, get_or, replicate, refl, sym, ap, ◌∙◌, inl, inr, ◌⊎◌, None, Some, arith}
-use Rattle.std.specs.Prelude.{fold, sum_by, count_by}
-use Rattle.std.proofs.lemmas.List.{get_or_past, get_or-replicate, length-replicate}
-use Rattle.std.proofs.lemmas.List.Elements.{All-replicate}
+use Rattle.std.proofs.Common.{List, None, Some, [], ap, arith, cond, get_or, inl, inr, length, refl, replicate, suc, sym, true, zero, ℕ, ◌&&◌, ◌+◌, ◌<◌, ◌∙◌, ◌∷◌, ◌≡◌, ◌⊎◌}
 use Rattle.std.proofs.lemmas.Bool.{cases_lt, false≢true}
-use Rattle.sj_base.specs.declared.ids.Cell.{Cell}
-use Rattle.sj_base.specs.declared.ids.Task.{Task}
-use Rattle.sj_base.specs.declared.ids.Node.{Node}
-use Rattle.sj_base.specs.declared.ids.Worker.{Worker}
-use Rattle.sj_base.specs.declared.ids.Place.{Place}
-use Rattle.sj_base.specs.declared.ids.Place.TheVariants.{Node as AtNode, Disk as OnDisk}
-use Rattle.sj_base.specs.declared.program.Program.{Program}
-use Rattle.sj_base.specs.declared.program.Machine.{Machine}
+use Rattle.std.proofs.lemmas.List.{get_or-replicate, get_or_past, length-replicate}
+use Rattle.std.proofs.lemmas.List.Elements.{All-replicate}
+use Rattle.std.specs.Prelude.{count_by, fold, sum_by}
 use Rattle.sj_base.specs.Array.{Array}
-use Rattle.sj_core.specs.Program.{same_cell, has_cell, tasks_of}
+use Rattle.sj_base.specs.declared.ids.Cell.{Cell}
+use Rattle.sj_base.specs.declared.ids.Node.{Node}
+use Rattle.sj_base.specs.declared.ids.Place.{Place}
+use Rattle.sj_base.specs.declared.ids.Place.TheVariants.{Disk as OnDisk, Node as AtNode}
+use Rattle.sj_base.specs.declared.ids.Task.{Task}
+use Rattle.sj_base.specs.declared.ids.Worker.{Worker}
+use Rattle.sj_base.specs.declared.program.Machine.{Machine}
+use Rattle.sj_base.specs.declared.program.Program.{Program}
+use Rattle.sj_core.specs.Coherent.{Coherent, has_written, is_active, is_begun}
+use Rattle.sj_core.specs.Machine.{CellState, Coming, Invalid, Leaving, WorkerState, cell_state, done_by, is_coming_by, is_done, is_entry, is_leaving_by, is_task_of, is_valid, no_replica, opening, order, pins, progress, replica, replica_in, scratch, transfer, used, worker_state, workers_at, writes}
 use Rattle.sj_core.specs.Needs.{tile_bytes}
-use Rattle.sj_core.specs.declared.progress.Progress.TheVariants.{Waiting, Claimed, Running}
-use Rattle.sj_core.specs.declared.progress.Transfer.{Transfer}
-use Rattle.sj_core.specs.Machine.{CellState, WorkerState, Invalid, Coming, Leaving, progress, cell_state, replica, replica_in, writes, order, worker_state, transfer, pins, scratch, workers_at, used, no_replica, opening, is_valid, is_entry, is_leaving_by, is_coming_by, is_task_of, is_done, done_by}
 use Rattle.sj_core.specs.Operands.{written_cells}
-use Rattle.sj_core.specs.Coherent.{Coherent, is_begun, is_active, has_written}
-use Rattle.sj_core.proofs.Reading.{no_row, idle_row, replica_in-no_row}
+use Rattle.sj_core.specs.Program.{has_cell, same_cell, tasks_of}
+use Rattle.sj_core.specs.declared.progress.Progress.TheVariants.{Claimed, Running, Waiting}
+use Rattle.sj_core.specs.declared.progress.Transfer.{Transfer}
+use Rattle.sj_core.proofs.Reading.{idle_row, no_row, replica_in-no_row}
 
 all_same : {X : Type 0} (n i : ℕ) (a : X) → get_or (replicate n a) i a ≡ a
 all_same zero i a = refl

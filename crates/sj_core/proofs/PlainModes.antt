@@ -1,26 +1,28 @@
 -- Programs without REDUX and COMMUTE accesses: tasks that share a written cell conflict, and folds don't depend on workers.
-use Rattle.std.proofs.Common.{◌≡◌, ℕ, ◌<◌, Bool, true, false, not, length, refl, sym, ap, ◌∙◌, subst, inl, inr, arith}
-use Rattle.std.specs.Prelude.{if◌then◌else◌}
-use Rattle.std.specs.List.{Contains}
+use Rattle.std.proofs.Common.{Bool, ap, arith, false, inl, inr, length, not, refl, subst, sym, true, ℕ, ◌<◌, ◌∙◌, ◌≡◌}
 use Rattle.std.proofs.lemmas.Bool.{cases_lt, false≢true}
 use Rattle.std.proofs.lemmas.List.{get_or_past}
+use Rattle.std.specs.List.{Contains}
+use Rattle.std.specs.Prelude.{if◌then◌else◌}
 use Rattle.sj_base.specs.declared.ids.Cell.{Cell}
 use Rattle.sj_base.specs.declared.ids.Task.{Task}
 use Rattle.sj_base.specs.declared.ids.Worker.{Worker}
-use Rattle.sj_base.specs.declared.mode.Mode.{Mode}
-use Rattle.sj_base.specs.declared.mode.Mode.TheVariants.{R, W, RW, Scratch, Redux, Commute}
 use Rattle.sj_base.specs.declared.mode.Access.{Access}
+use Rattle.sj_base.specs.declared.mode.Mode.{Mode}
+use Rattle.sj_base.specs.declared.mode.Mode.TheVariants.{Commute, R, RW, Redux, Scratch, W}
 use Rattle.sj_base.specs.declared.program.Lowered.{Lowered}
 use Rattle.sj_base.specs.declared.program.Program.{Program}
-use Rattle.sj_core.specs.Program.{has_cell, task_of, no_task, is_scratch, is_written, is_redux}
+use Rattle.sj_codelet.specs.Frame.{written}
+use Rattle.sj_deps.specs.Conflict.{Conflict, HasDependencies, IsShared, Uses, usage}
 use Rattle.sj_deps.specs.declared.manner.Manner.TheVariants.{Read, Write}
-use Rattle.sj_deps.specs.Conflict.{usage, Uses, IsShared, Conflict, HasDependencies}
-use Rattle.sj_core.specs.Operands.{copy_of, worked_on, cells_of, written_cells}
-use Rattle.sj_core.specs.Fold.{held_in, after_task, after_chosen}
-use Rattle.sj_core.specs.Proper.{access}
+use Rattle.sj_core.specs.Fold.{after_chosen, after_task, held_in}
 use Rattle.sj_core.specs.Laws.{HasPlainModes, is_plain_mode}
-use Rattle.sj_core.proofs.Sharing.{operand_for, used_by_operand, one, manner_of, write_isn't_read}
-use Rattle.sj_core.proofs.Folding.{WorksAlike, HasWriters, AddsTask, cone-holds, insertion}
+use Rattle.sj_core.specs.Machine.{free}
+use Rattle.sj_core.specs.Operands.{cells_of, copy_of, worked_on, written_cells}
+use Rattle.sj_core.specs.Program.{has_cell, is_redux, is_scratch, is_written, no_task, task_of}
+use Rattle.sj_core.specs.Proper.{access}
+use Rattle.sj_core.proofs.Folding.{AddsTask, HasWriters, WorksAlike, cone-holds, insertion}
+use Rattle.sj_core.proofs.Sharing.{manner_of, one, operand_for, used_by_operand, write_isn't_read}
 
 -- a task with an operand is one of the program
 pub operand-inside : (p : Program) (t : Task) (a : Access) → Contains (task_of p t).accesses a → t.0 < length p.tasks

@@ -1,23 +1,23 @@
 -- The state that a step leaves, and that a legal trace leaves, is a function of its events.
-use Rattle.std.proofs.Common.{◌≡◌, List, [], ◌∷◌, ◌++◌, true, Option, Some, sym, ap, ◌∙◌, subst}
-use Rattle.std.specs.Prelude.{fold, unwrap_or}
+use Rattle.std.proofs.Common.{List, Option, Some, [], ap, subst, sym, ◌++◌, ◌∙◌, ◌∷◌, ◌≡◌}
 use Rattle.std.proofs.Math.Logic.{∥∥₁_map}
-use Rattle.std.proofs.lemmas.Bool.{false≢true}
 use Rattle.std.proofs.lemmas.Fn.{FoldsTo-push}
 use Rattle.std.proofs.lemmas.List.Sums.{fold-append}
+use Rattle.std.specs.Prelude.{fold, unwrap_or}
 use Rattle.sj_base.specs.declared.ids.Cell.{Cell}
-use Rattle.sj_base.specs.declared.ids.Worker.{Worker}
 use Rattle.sj_base.specs.declared.ids.Place.{Place}
-use Rattle.sj_base.specs.declared.ids.Place.TheVariants.{Node as AtNode, Disk as OnDisk}
-use Rattle.sj_base.specs.declared.trace.Event.{Event}
-use Rattle.sj_base.specs.declared.trace.Event.TheVariants.{Claim, Move, Moved, Drop, Run, End}
-use Rattle.sj_base.specs.declared.program.Program.{Program}
+use Rattle.sj_base.specs.declared.ids.Place.TheVariants.{Disk as OnDisk, Node as AtNode}
+use Rattle.sj_base.specs.declared.ids.Worker.{Worker}
 use Rattle.sj_base.specs.declared.program.Machine.{Machine}
-use Rattle.sj_core.specs.Machine.{State, Replica, Invalid, Coming, Valid, Leaving, replica, transfer, opening, is_coming_by, is_leaving_by}
+use Rattle.sj_base.specs.declared.program.Program.{Program}
+use Rattle.sj_base.specs.declared.trace.Event.{Event}
+use Rattle.sj_base.specs.declared.trace.Event.TheVariants.{Claim, Drop, End, Move, Moved, Run}
+use Rattle.sj_codelet.specs.Kernel.{same}
+use Rattle.sj_core.specs.Coherent.{Coherent, IsTransferTo}
+use Rattle.sj_core.specs.Legal.{IsLegal, Leads, Legal, Replays, state_of}
+use Rattle.sj_core.specs.Machine.{State, opening, replica, transfer}
 use Rattle.sj_core.specs.Step.{Step, a_transfer, after, after_claim, claimant_of, mover_of}
-use Rattle.sj_core.specs.Legal.{Leads, Replays, Legal, IsLegal, state_of}
-use Rattle.sj_core.specs.Coherent.{IsTransferTo, Coherent}
-use Rattle.sj_core.proofs.Reading.{same_worker-is}
+use Rattle.sj_core.proofs.Replicas.{coming_by-is, leaving_by-is}
 
 -- ---- a step
 
@@ -31,25 +31,13 @@ Step-after p m s s' (Drop c n) step = step.leaves
 Step-after p m s s' (Run t w) step = step.leaves
 Step-after p m s s' (End t w) step = step.leaves
 
-pub claimant-coming : (w : Worker) (r : Replica) → is_coming_by w r ≡ true → w ≡ claimant_of r
-claimant-coming w Invalid h = absurd (false≢true h)
-claimant-coming w (Coming v) h = sym (same_worker-is v w h)
-claimant-coming w (Valid a) h = absurd (false≢true h)
-claimant-coming w (Leaving v a) h = absurd (false≢true h)
-
-pub claimant-leaving : (w : Worker) (r : Replica) → is_leaving_by w r ≡ true → w ≡ claimant_of r
-claimant-leaving w Invalid h = absurd (false≢true h)
-claimant-leaving w (Coming v) h = absurd (false≢true h)
-claimant-leaving w (Valid a) h = absurd (false≢true h)
-claimant-leaving w (Leaving v a) h = sym (same_worker-is v w h)
-
 -- in a coherent state the worker of a transfer is the one by whose claim its cell comes or leaves
 pub one-mover : (p : Program) (m : Machine) (s : State) (c : Cell) (from to : Place) (w : Worker) → Coherent p m s → transfer s w ≡ Some (a_transfer c from to) → w ≡ mover_of s c from to
 one-mover p m s c from to w coherent under_way = by_target to (coherent.transfers.target w (a_transfer c from to) under_way)
   where
     by_target : (q : Place) → IsTransferTo m s w c from q → w ≡ mover_of s c from q
-    by_target (AtNode n) target = claimant-coming w (replica s c (AtNode n)) target.1
-    by_target (OnDisk d) target = claimant-leaving w (replica s c from) target.0
+    by_target (AtNode n) target = ap claimant_of (sym (coming_by-is w (replica s c (AtNode n)) target.1))
+    by_target (OnDisk d) target = ap claimant_of (sym (leaving_by-is w (replica s c from) target.0).1)
 
 -- ---- a trace
 

@@ -1,16 +1,16 @@
 -- Which cells a task works on: those it writes, those it finds as zeros, those to which it contributes in any order.
-use Rattle.std.proofs.Common.{◌≡◌, Bool, true, false, not, ◌&&◌, ◌||◌, cond, List, [], ◌∷◌, map, refl, sym, ap, ◌∙◌}
-use Rattle.std.specs.List.{filter}
+use Rattle.std.proofs.Common.{Bool, List, [], ap, cond, false, map, not, refl, sym, true, ◌&&◌, ◌||◌, ◌∙◌, ◌∷◌, ◌≡◌}
 use Rattle.std.proofs.lemmas.Bool.{false≢true}
+use Rattle.std.specs.List.{filter}
 use Rattle.sj_base.specs.declared.ids.Cell.{Cell}
 use Rattle.sj_base.specs.declared.ids.Task.{Task}
 use Rattle.sj_base.specs.declared.ids.Worker.{Worker}
-use Rattle.sj_base.specs.declared.mode.Mode.{Mode}
-use Rattle.sj_base.specs.declared.mode.Mode.TheVariants.{R, W, RW, Scratch, Redux, Commute}
 use Rattle.sj_base.specs.declared.mode.Access.{Access}
+use Rattle.sj_base.specs.declared.mode.Mode.{Mode}
+use Rattle.sj_base.specs.declared.mode.Mode.TheVariants.{Commute, R, RW, Redux, Scratch, W}
 use Rattle.sj_base.specs.declared.program.Program.{Program}
-use Rattle.sj_core.specs.Program.{same_cell, has_cell, is_scratch, is_written, starts_as_zeros, task_of}
-use Rattle.sj_core.specs.Operands.{worked_on, cells_of, written_cells, fresh_cells}
+use Rattle.sj_core.specs.Operands.{cells_of, fresh_cells, worked_on, written_cells}
+use Rattle.sj_core.specs.Program.{has_cell, is_scratch, is_written, same_cell, starts_as_zeros, task_of}
 
 or_true : (a : Bool) → (a || true) ≡ true
 or_true true = refl

@@ -1,32 +1,34 @@
 -- A computed test of legal traces, for worked runs: in it a task begins only once all earlier tasks are done.
-use Rattle.std.proofs.Common.{◌≡◌, true, false, Bool, not, ◌&&◌, Option, Some, None, List, [], ◌∷◌, length, refl, ap, ◌∙◌}
-use Rattle.std.specs.Prelude.{is_none, is_some, nat_eq, nat_le, nat_lt, unwrap_or, fold}
+use Rattle.std.proofs.Common.{Bool, List, None, Option, Some, [], ap, false, length, not, refl, true, ◌&&◌, ◌∙◌, ◌∷◌, ◌≡◌}
+use Rattle.std.proofs.lemmas.Bool.{and_parts, eqb-true, false≢true, leb-true, ltb-true}
 use Rattle.std.specs.List.{list_all, range_with_len}
-use Rattle.std.proofs.lemmas.Bool.{false≢true, and_parts, eqb-true, leb-true, ltb-true}
+use Rattle.std.specs.Prelude.{fold, is_none, is_some, nat_eq, nat_le, nat_lt, unwrap_or}
 use Rattle.sj_base.specs.declared.ids.Cell.{Cell}
-use Rattle.sj_base.specs.declared.ids.Task.{Task}
-use Rattle.sj_base.specs.declared.ids.Node.{Node}
-use Rattle.sj_base.specs.declared.ids.Worker.{Worker}
 use Rattle.sj_base.specs.declared.ids.DiskNo.{DiskNo}
+use Rattle.sj_base.specs.declared.ids.Node.{Node}
 use Rattle.sj_base.specs.declared.ids.Place.{Place}
-use Rattle.sj_base.specs.declared.ids.Place.TheVariants.{Node as AtNode, Disk as OnDisk}
-use Rattle.sj_base.specs.declared.trace.Event.{Event}
-use Rattle.sj_base.specs.declared.trace.Event.TheVariants.{Claim, Move, Moved, Drop, Run, End}
-use Rattle.sj_base.specs.declared.program.Program.{Program}
+use Rattle.sj_base.specs.declared.ids.Place.TheVariants.{Disk as OnDisk, Node as AtNode}
+use Rattle.sj_base.specs.declared.ids.Task.{Task}
 use Rattle.sj_base.specs.declared.program.Machine.{Machine}
-use Rattle.sj_core.specs.declared.progress.Progress.{Progress}
-use Rattle.sj_core.specs.declared.progress.Progress.TheVariants.{Waiting, Claimed, Running, Done}
-use Rattle.sj_core.specs.declared.progress.Transfer.{Transfer}
-use Rattle.sj_core.specs.Program.{same_cell}
-use Rattle.sj_core.specs.Needs.{footprint, node_of, node_size}
-use Rattle.sj_core.specs.Operands.{commuting_cells, written_cells}
-use Rattle.sj_core.specs.Machine.{State, opening, progress, replica, transfer, done_in, has_room, is_claimed_by, is_coming_by, is_idle, is_leaving, is_leaving_by, is_running_on, is_waiting}
-use Rattle.sj_core.specs.Step.{Step, a_transfer, after, disk_of, is_fresh, is_in_use, is_moving, is_present, is_read, is_valid_elsewhere, mover_of, none_leaving, same_place, source_of, victims_for}
+use Rattle.sj_base.specs.declared.program.Program.{Program}
+use Rattle.sj_base.specs.declared.trace.Event.{Event}
+use Rattle.sj_base.specs.declared.trace.Event.TheVariants.{Claim, Drop, End, Move, Moved, Run}
+use Rattle.sj_codelet.specs.Frame.{shared}
+use Rattle.sj_codelet.specs.Kernel.{fits}
 use Rattle.sj_core.specs.Legal.{Leads, Legal}
-use Rattle.sj_core.proofs.Finding.{running_on-is}
+use Rattle.sj_core.specs.Machine.{State, done_in, free, has_room, is_claimed_by, is_coming_by, is_idle, is_leaving, is_leaving_by, is_running_on, is_waiting, opening, progress, replica, transfer}
+use Rattle.sj_core.specs.Needs.{footprint, node_of, node_size, room}
+use Rattle.sj_core.specs.Operands.{commuting_cells, written_cells}
+use Rattle.sj_core.specs.Program.{same_cell}
+use Rattle.sj_core.specs.Step.{Step, a_transfer, after, disk_of, is_fresh, is_in_use, is_moving, is_present, is_read, is_valid_elsewhere, mover_of, none_leaving, same_place, source_of, victims_for}
+use Rattle.sj_core.specs.declared.progress.Progress.{Progress}
+use Rattle.sj_core.specs.declared.progress.Progress.TheVariants.{Claimed, Done, Running, Waiting}
+use Rattle.sj_core.specs.declared.progress.Transfer.{Transfer}
+use Rattle.sj_core.proofs.Advancing.{claimed_by-is, running_on-is}
+use Rattle.sj_core.proofs.Jobs.{worker}
 use Rattle.sj_core.proofs.Placing.{same_place-is}
-use Rattle.sj_core.proofs.Reading.{same_cell-is, same_worker-is}
-use Rattle.sj_core.proofs.Readiness.{Ready-from, EarlierAreDone-all}
+use Rattle.sj_core.proofs.Readiness.{EarlierAreDone-all, Ready-from}
+use Rattle.sj_core.proofs.Reading.{same_cell-is}
 
 abbrev all_earlier_done : State → Task → Bool
 all_earlier_done s t = list_all (λ n. done_in s (record { 0 = n })) (range_with_len 0 t.0)
@@ -66,12 +68,6 @@ waiting-is Waiting h = refl
 waiting-is (Claimed v) h = absurd (false≢true h)
 waiting-is (Running v) h = absurd (false≢true h)
 waiting-is (Done v) h = absurd (false≢true h)
-
-claimed-is : (w : Worker) (x : Progress) → is_claimed_by w x ≡ true → x ≡ Claimed w
-claimed-is w Waiting h = absurd (false≢true h)
-claimed-is w (Claimed v) h = ap Claimed (same_worker-is v w h)
-claimed-is w (Running v) h = absurd (false≢true h)
-claimed-is w (Done v) h = absurd (false≢true h)
 
 none-is : {X : Type 0} (o : Option X) → is_none o ≡ true → o ≡ None
 none-is None h = refl
@@ -132,7 +128,7 @@ module _ (p : Program) (m : Machine) where
       let (earlier, h2) = and_parts _ _ h1 in
       let (room, h3) = and_parts _ _ h2 in
       let (present, unmoved) = and_parts _ _ h3 in
-      record { claimed = claimed-is w (progress s t) claimed; earlier = EarlierAreDone-all p s t earlier; room = room; present = present; unmoved = unmoved; leaves = refl }
+      record { claimed = claimed_by-is w (progress s t) claimed; earlier = EarlierAreDone-all p s t earlier; room = room; present = present; unmoved = unmoved; leaves = refl }
   step-from s (End t w) h = record { running = running_on-is w (progress s t) h; leaves = refl }
 
   -- each event of the trace passes in the state that the ones before it leave

@@ -1,32 +1,34 @@
 -- A cell whose old value a task reads has been written by the time that the task may run.
-use Rattle.std.proofs.Common.{◌≡◌, ℕ, zero, suc, ◌<◌, Bool, true, false, not, ◌&&◌, ◌||◌, cond, List, [], ◌∷◌, length, get_or, refl, sym, ap, ◌∙◌, subst, inl, inr, ◌⊎◌, arith}
-use Rattle.std.specs.Prelude.{IsTrue}
-use Rattle.std.specs.List.{list_any, Contains}
+use Rattle.std.proofs.Common.{Bool, List, [], ap, arith, cond, false, get_or, inl, inr, length, not, refl, subst, suc, sym, true, zero, ℕ, ◌&&◌, ◌<◌, ◌||◌, ◌∙◌, ◌∷◌, ◌≡◌, ◌⊎◌}
 use Rattle.std.proofs.lemmas.Bool.{false≢true}
 use Rattle.std.proofs.lemmas.Bool.Decides.{Decides-eqb}
 use Rattle.std.proofs.lemmas.List.Elements.{All-contains}
 use Rattle.std.proofs.lemmas.List.FromFn.{get_or-map-range_with_len, length-map-range_with_len}
 use Rattle.std.proofs.lemmas.List.Sums.{get_or-le-sum_by}
+use Rattle.std.specs.List.{Contains, list_any}
+use Rattle.std.specs.Prelude.{IsTrue}
 use Rattle.sj_base.specs.declared.ids.Cell.{Cell}
 use Rattle.sj_base.specs.declared.ids.Task.{Task}
 use Rattle.sj_base.specs.declared.ids.Worker.{Worker}
-use Rattle.sj_base.specs.declared.mode.Mode.{Mode}
-use Rattle.sj_base.specs.declared.mode.Mode.TheVariants.{R, W, RW, Scratch, Redux, Commute as CommuteMode}
 use Rattle.sj_base.specs.declared.mode.Access.{Access}
+use Rattle.sj_base.specs.declared.mode.Mode.{Mode}
+use Rattle.sj_base.specs.declared.mode.Mode.TheVariants.{Commute as CommuteMode, R, RW, Redux, Scratch, W}
 use Rattle.sj_base.specs.declared.program.Program.{Program}
+use Rattle.sj_codelet.specs.Frame.{written}
+use Rattle.sj_codelet.specs.Kernel.{same}
+use Rattle.sj_deps.specs.Conflict.{Conflict, IsShared, Uses}
 use Rattle.sj_deps.specs.declared.manner.Manner.{Manner}
 use Rattle.sj_deps.specs.declared.manner.Manner.TheVariants.{Write}
-use Rattle.sj_deps.specs.Conflict.{Uses, IsShared, Conflict}
-use Rattle.sj_core.specs.Program.{same_cell, has_cell, task_of, tasks_of, is_scratch, is_written, is_redux, starts_as_zeros, data_operands}
-use Rattle.sj_core.specs.Operands.{copy_of, worked_on, cells_of, written_cells, fresh_cells}
-use Rattle.sj_core.specs.Machine.{State, writes, done_by}
-use Rattle.sj_core.specs.Step.{EarlierAreDone}
-use Rattle.sj_core.specs.Proper.{Proper, HasValueBefore, reads_value, gives_value, access}
 use Rattle.sj_core.specs.Coherent.{WritesAreCounted, has_written}
+use Rattle.sj_core.specs.Machine.{State, done_by, writes}
+use Rattle.sj_core.specs.Operands.{cells_of, copy_of, fresh_cells, worked_on, written_cells}
+use Rattle.sj_core.specs.Program.{data_operands, has_cell, is_redux, is_scratch, is_written, same_cell, starts_as_zeros, task_of, tasks_of}
+use Rattle.sj_core.specs.Proper.{HasValueBefore, Proper, access, gives_value, reads_value}
+use Rattle.sj_core.specs.Step.{EarlierAreDone, reads}
+use Rattle.sj_core.proofs.Dependencies.{Proper-dependencies}
 use Rattle.sj_core.proofs.Readiness.{Contains-filter}
 use Rattle.sj_core.proofs.Reading.{same_cell-is}
-use Rattle.sj_core.proofs.Sharing.{manner_of, operand_for, operand-has_cell, operand-uses, redux-has_copies, write_isn't_read}
-use Rattle.sj_core.proofs.Dependencies.{Proper-dependencies}
+use Rattle.sj_core.proofs.Sharing.{manner_of, operand-has_cell, operand-uses, operand_for, redux-has_copies, write_isn't_read}
 
 -- an element that passes a test that some element passes
 pub list_any-some : {X : Type 0} (test : X → Bool) (xs : List X) → list_any test xs ≡ true → (x : X) × Contains xs x × (test x ≡ true)
