@@ -33,12 +33,13 @@ use Rattle.sj_core.specs.Proper.{Fits, Proper}
 use Rattle.sj_core.specs.Step.{missing, none_leaving, to_come, victims_for}
 use Rattle.sj_core.specs.Victims.{covers, shortest_suffix}
 use Rattle.sj_core.proofs.CellLists.{share, sum-once, times, times-distinct, times-filter, times-program}
-use Rattle.sj_core.proofs.Claiming.{has_cell-distinct, has_cell-filter}
-use Rattle.sj_core.proofs.Holding.{entry-inside, leaving-by_some}
+use Rattle.sj_core.proofs.CellLists.{has_cell-distinct, has_cell-filter}
+use Rattle.sj_core.proofs.Reading.{entry-inside}
+use Rattle.sj_core.proofs.Replicas.{leaving-by_some}
 use Rattle.sj_core.proofs.PlainModes.{operand-inside, worked_on-plain}
-use Rattle.sj_core.proofs.Separation.{task_of-worker, task_of-active, active-begun}
+use Rattle.sj_core.proofs.Advancing.{task_of-worker, task_of-active, active-begun}
 use Rattle.sj_core.proofs.Sharing.{operand_for}
-use Rattle.sj_core.proofs.Workers.{idle-has_none, claimed_by-task_of}
+use Rattle.sj_core.proofs.Advancing.{idle-has_none, claimed_by-task_of}
 use Rattle.sj_core.proofs.Reading.{no_row}
 use Rattle.sj_board.specs.Plain.{IsBoardFor}
 use Rattle.sj_board.proofs.Next.{worker-one}
