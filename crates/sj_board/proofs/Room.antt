@@ -28,7 +28,8 @@ use Rattle.sj_core.specs.Coherent.{Coherent, is_begun}
 use Rattle.sj_core.specs.Machine.{State, CellState, is_idle, is_leaving, is_pinned, is_task_of, order, progress, replica, replica_in, scratch, used, free, worker_of, workers_at}
 use Rattle.sj_core.specs.Needs.{footprint, node_of, node_size, scratch_bytes, tile_bytes}
 use Rattle.sj_core.specs.Operands.{cells_of, worked_on}
-use Rattle.sj_core.specs.Program.{cells_of_program, data_operands, dims_of, distinct, has_cell, is_scratch, no_cell, no_task, task_of}
+use Rattle.sj_core.specs.Program.{cells_of_program, data_operands, dims_of, distinct, has_cell, no_cell, no_task, task_of}
+use Rattle.sj_base.specs.Mode.{is_scratch}
 use Rattle.sj_core.specs.Proper.{Fits, Proper}
 use Rattle.sj_core.specs.Step.{missing, none_leaving, to_come, victims_for}
 use Rattle.sj_core.specs.Victims.{covers, shortest_suffix}

@@ -25,11 +25,12 @@ use Rattle.sj_core.specs.declared.progress.Progress.{Progress}
 use Rattle.sj_core.specs.declared.progress.Progress.TheVariants.{Waiting, Claimed, Running, Done}
 use Rattle.sj_deps.specs.Conflict.{Ready}
 use Rattle.sj_core.specs.Coherent.{Coherent, is_begun}
-use Rattle.sj_core.specs.Laws.{IsSound, is_plain_mode}
+use Rattle.sj_core.specs.Laws.{IsSound}
+use Rattle.sj_base.specs.Mode.{is_in_order, is_commute, is_scratch, starts_as_zeros}
 use Rattle.sj_core.specs.Machine.{with_replica_in, State, CellState, WorkerState, Replica, Invalid, Coming, Valid, Leaving, cell_state, is_entry, is_done, is_gone, is_idle, is_leaving, moves, is_task_of, worker_of, is_valid, progress, replica, replica_in, victims_of, worker_state, array_of, opening}
 use Rattle.sj_core.specs.Needs.{node_of, workers_of}
 use Rattle.sj_core.specs.Operands.{cells_of, commuting_cells, fresh_cells, results, worked_on, written_cells}
-use Rattle.sj_core.specs.Program.{data_operands, dims_of, has_cell, is_commute, is_scratch, same_cell, starts_as_zeros, task_of}
+use Rattle.sj_core.specs.Program.{data_operands, dims_of, has_cell, same_cell, task_of}
 use Rattle.sj_core.specs.Proper.{IsMachineFor}
 use Rattle.sj_core.specs.Step.{Claims, Ends, Runs, Step, array_at, is_in_use, is_moving, after_claim, after_end, after_run, claimed_replica, done_tasks, missing}
 use Rattle.sj_core.proofs.Advancing.{Runs-advances}
@@ -79,7 +80,7 @@ sound-from p m s fit coherent = record {
   coherent = coherent;
 }
 
-plain_isn't_commute : (x : Mode) → is_plain_mode x ≡ true → is_commute x ≡ false
+plain_isn't_commute : (x : Mode) → is_in_order x ≡ true → is_commute x ≡ false
 plain_isn't_commute R h = refl
 plain_isn't_commute W h = refl
 plain_isn't_commute RW h = refl

@@ -23,7 +23,8 @@ use Rattle.sj_core.specs.Laws.{IsSound}
 use Rattle.sj_core.specs.Machine.{CellState, Coming, Invalid, Leaving, Replica, State, Valid, WorkerState, array_of, cell_state, free, is_coming_by, is_entry, is_leaving_by, is_pinned, is_task_of, order, pins, progress, replica, replica_in, transfer, with_replica_in, worker_state, writes}
 use Rattle.sj_core.specs.Needs.{node_of, scratch_bytes, tile_bytes, workers_of}
 use Rattle.sj_core.specs.Operands.{cells_of, copy_of, worked_on}
-use Rattle.sj_core.specs.Program.{cell_info, distinct, has_cell, is_redux, is_scratch, no_task, task_of}
+use Rattle.sj_core.specs.Program.{cell_info, distinct, has_cell, no_task, task_of}
+use Rattle.sj_base.specs.Mode.{is_redux, is_scratch}
 use Rattle.sj_core.specs.Proper.{IsMachineFor}
 use Rattle.sj_core.specs.Step.{Claims, claimed_replica, leave, missing, to_come}
 use Rattle.sj_core.specs.Victims.{covers}

@@ -15,7 +15,8 @@ use Rattle.sj_base.specs.Array.{Array}
 use Rattle.sj_codelet.specs.declared.kernel.Kernel.{Kernel}
 use Rattle.sj_codelet.specs.declared.kernel.Kernel.TheVariants.{Fill, Copy, Scale, Add, Axpy, Butterfly, Gemm, GemmThree, Transpose, Dot, Sum, Lowest, MinGemm, FwDiag, FwRow, FwCol, Load, LoadFill, Paste, Deliver, InitPlus, InitLeast}
 use Rattle.sj_codelet.specs.Kernel.{new_arrays}
-use Rattle.sj_core.specs.Program.{is_written, task_of}
+use Rattle.sj_core.specs.Program.{task_of}
+use Rattle.sj_base.specs.Mode.{is_written}
 use Rattle.sj_core.specs.Operands.{worked_on, written_cells, results, found}
 use Rattle.sj_core.specs.Proper.{Fits, MayHaveModes, Own, FirstPaste, Commuting, Contributing, own_modes, modes_writing_by}
 

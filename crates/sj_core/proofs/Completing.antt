@@ -17,7 +17,8 @@ use Rattle.sj_core.specs.Laws.{HasPlainModes, HoldsFinal, final}
 use Rattle.sj_core.specs.Legal.{IsComplete}
 use Rattle.sj_core.specs.Machine.{State, array_of, done_by, done_in, is_done, progress, replica, writes}
 use Rattle.sj_core.specs.Operands.{written_cells}
-use Rattle.sj_core.specs.Program.{has_cell, is_redux, is_written, same_cell, task_of}
+use Rattle.sj_core.specs.Program.{has_cell, same_cell, task_of}
+use Rattle.sj_base.specs.Mode.{is_redux, is_written}
 use Rattle.sj_core.specs.Proper.{Proper, gives_value}
 use Rattle.sj_core.specs.declared.progress.Progress.TheVariants.{Running, Waiting}
 use Rattle.sj_core.proofs.Finding.{being_written-by, gives-writes, task-counted}

@@ -18,8 +18,9 @@ use Rattle.sj_core.specs.Laws.{Brought, HasAtHand, HasPlainModes, Works}
 use Rattle.sj_core.specs.Machine.{State, done_by, done_in, is_done, is_task_of, is_valid, progress, replica}
 use Rattle.sj_core.specs.Needs.{node_of}
 use Rattle.sj_core.specs.Operands.{cells_of, worked_on, written_cells}
-use Rattle.sj_core.specs.Program.{has_cell, is_scratch, task_of}
-use Rattle.sj_core.specs.Proper.{Proper, access, reads_value}
+use Rattle.sj_core.specs.Program.{has_cell, task_of}
+use Rattle.sj_base.specs.Mode.{is_scratch, reads_value}
+use Rattle.sj_core.specs.Proper.{Proper, access}
 use Rattle.sj_core.specs.Step.{EarlierAreDone, array_at, reads}
 use Rattle.sj_core.proofs.Advancing.{done-begun}
 use Rattle.sj_core.proofs.Contents.{later-free}

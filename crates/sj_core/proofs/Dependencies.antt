@@ -23,7 +23,8 @@ use Rattle.sj_deps.specs.declared.manner.Manner.{Manner}
 use Rattle.sj_deps.specs.declared.manner.Manner.TheVariants.{Commute, Contribute, Read, Write}
 use Rattle.sj_deps.specs.declared.manner.Usage.{Usage}
 use Rattle.sj_core.specs.Operands.{copy_of}
-use Rattle.sj_core.specs.Program.{cell_info, data_operands, is_redux, is_scratch, no_cell, no_task, same_cell}
+use Rattle.sj_core.specs.Program.{cell_info, data_operands, no_cell, no_task, same_cell}
+use Rattle.sj_base.specs.Mode.{is_redux, is_scratch}
 use Rattle.sj_core.specs.Proper.{IsCombine, IsCopyOf, IsInit, IsPhase, Phase, Proper, access, task_number}
 use Rattle.sj_core.specs.Step.{after, reads}
 use Rattle.sj_core.proofs.Readiness.{Contains-filter}

@@ -25,8 +25,9 @@ use Rattle.sj_core.specs.Laws.{HasPlainModes}
 use Rattle.sj_core.specs.Machine.{Replica, State, array_of, done_by, is_running_on, is_task_of, is_valid, progress, replica, worker_of, writes}
 use Rattle.sj_core.specs.Needs.{node_of}
 use Rattle.sj_core.specs.Operands.{cells_of, fresh_cells, worked_on, written_cells}
-use Rattle.sj_core.specs.Program.{data_operands, dims_of, has_cell, is_redux, is_scratch, is_written, no_task, same_cell, starts_as_zeros, task_of, tasks_of}
-use Rattle.sj_core.specs.Proper.{HasValueBefore, Proper, gives_value, reads_value}
+use Rattle.sj_core.specs.Program.{data_operands, dims_of, has_cell, no_task, same_cell, task_of, tasks_of}
+use Rattle.sj_base.specs.Mode.{is_redux, is_scratch, is_written, starts_as_zeros, reads_value}
+use Rattle.sj_core.specs.Proper.{HasValueBefore, Proper, gives_value}
 use Rattle.sj_core.specs.Step.{EarlierAreDone, after, array_at, reads}
 use Rattle.sj_core.specs.declared.progress.Progress.{Progress}
 use Rattle.sj_core.specs.declared.progress.Progress.TheVariants.{Running}

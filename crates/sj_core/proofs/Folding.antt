@@ -18,7 +18,8 @@ use Rattle.sj_codelet.specs.Kernel.{out, same}
 use Rattle.sj_core.specs.Fold.{Contents, after_chosen, after_task, held_in}
 use Rattle.sj_core.specs.Machine.{writes}
 use Rattle.sj_core.specs.Operands.{cells_of, found, results, worked_on, written_cells}
-use Rattle.sj_core.specs.Program.{dims_of, has_cell, is_scratch, is_written, same_cell, starts_as_zeros, task_of}
+use Rattle.sj_core.specs.Program.{dims_of, has_cell, same_cell, task_of}
+use Rattle.sj_base.specs.Mode.{is_scratch, is_written, starts_as_zeros}
 use Rattle.sj_core.specs.Step.{reads}
 use Rattle.sj_core.proofs.Advancing.{same_task}
 use Rattle.sj_core.proofs.Sharing.{operand-has_cell}

@@ -16,10 +16,11 @@ use Rattle.sj_codelet.specs.Frame.{written}
 use Rattle.sj_deps.specs.Conflict.{Conflict, HasDependencies, IsShared, Uses, usage}
 use Rattle.sj_deps.specs.declared.manner.Manner.TheVariants.{Read, Write}
 use Rattle.sj_core.specs.Fold.{after_chosen, after_task, held_in}
-use Rattle.sj_core.specs.Laws.{HasPlainModes, is_plain_mode}
+use Rattle.sj_core.specs.Laws.{HasPlainModes}
+use Rattle.sj_base.specs.Mode.{is_in_order, is_redux, is_scratch, is_written}
 use Rattle.sj_core.specs.Machine.{free}
 use Rattle.sj_core.specs.Operands.{cells_of, copy_of, worked_on, written_cells}
-use Rattle.sj_core.specs.Program.{has_cell, is_redux, is_scratch, is_written, no_task, task_of}
+use Rattle.sj_core.specs.Program.{has_cell, no_task, task_of}
 use Rattle.sj_core.specs.Proper.{access}
 use Rattle.sj_core.proofs.Folding.{AddsTask, HasWriters, WorksAlike, cone-holds, insertion}
 use Rattle.sj_core.proofs.Sharing.{manner_of, one, operand_for, used_by_operand, write_isn't_read}
@@ -35,7 +36,7 @@ operand-inside p t a h =
     none : Contains no_task.accesses a → ⊥
     none (k, l, e) = omega arith
 
-plain_isn't_redux : (x : Mode) → is_plain_mode x ≡ true → is_redux x ≡ false
+plain_isn't_redux : (x : Mode) → is_in_order x ≡ true → is_redux x ≡ false
 plain_isn't_redux R h = refl
 plain_isn't_redux W h = refl
 plain_isn't_redux RW h = refl
@@ -44,8 +45,8 @@ plain_isn't_redux Redux h = sym h
 plain_isn't_redux Commute h = refl
 
 module _ (p : Program) (plain : HasPlainModes p) where
-  pub mode-plain : (t : Task) (a : Access) → Contains (task_of p t).accesses a → is_plain_mode a.mode ≡ true
-  mode-plain t a (k, l, e) = sym (ap (λ (b : Access). is_plain_mode b.mode) e) ∙ plain.modes t k a l
+  pub mode-plain : (t : Task) (a : Access) → Contains (task_of p t).accesses a → is_in_order a.mode ≡ true
+  mode-plain t a (k, l, e) = sym (ap (λ (b : Access). is_in_order b.mode) e) ∙ plain.modes t k a l
 
   -- an operand's cell is itself what is worked on
   pub worked_on-plain : (t : Task) (w : Worker) (a : Access) → Contains (task_of p t).accesses a → worked_on p w a ≡ a.cell
@@ -54,7 +55,7 @@ module _ (p : Program) (plain : HasPlainModes p) where
   pub works-alike : (t : Task) (v w : Worker) → WorksAlike p t v w
   works-alike t v w a h = worked_on-plain t v a h ∙ sym (worked_on-plain t w a h)
 
-  reads-or_writes : (t : Task) (x : Mode) (d : Cell) → t.0 < length p.tasks → Contains (task_of p t).accesses (access x d) → not (is_scratch x) ≡ true → is_plain_mode x ≡ true → Uses p t.0 d.0 (manner_of (task_of p t).codelet x)
+  reads-or_writes : (t : Task) (x : Mode) (d : Cell) → t.0 < length p.tasks → Contains (task_of p t).accesses (access x d) → not (is_scratch x) ≡ true → is_in_order x ≡ true → Uses p t.0 d.0 (manner_of (task_of p t).codelet x)
   reads-or_writes t R d inside h accessed ordered = used_by_operand p t (access R d) (usage Read d.0) inside h (one (usage Read d.0))
   reads-or_writes t W d inside h accessed ordered = used_by_operand p t (access W d) (usage Write d.0) inside h (one (usage Write d.0))
   reads-or_writes t RW d inside h accessed ordered = used_by_operand p t (access RW d) (usage Write d.0) inside h (one (usage Write d.0))
@@ -62,7 +63,7 @@ module _ (p : Program) (plain : HasPlainModes p) where
   reads-or_writes t Redux d inside h accessed ordered = absurd (false≢true ordered)
   reads-or_writes t Commute d inside h accessed ordered = absurd (false≢true ordered)
 
-  writes-alone : (t : Task) (x : Mode) (d : Cell) → t.0 < length p.tasks → Contains (task_of p t).accesses (access x d) → is_written x ≡ true → is_plain_mode x ≡ true → Uses p t.0 d.0 Write
+  writes-alone : (t : Task) (x : Mode) (d : Cell) → t.0 < length p.tasks → Contains (task_of p t).accesses (access x d) → is_written x ≡ true → is_in_order x ≡ true → Uses p t.0 d.0 Write
   writes-alone t W d inside h written ordered = reads-or_writes t W d inside h refl refl
   writes-alone t RW d inside h written ordered = reads-or_writes t RW d inside h refl refl
   writes-alone t R d inside h written ordered = absurd (false≢true written)

@@ -23,8 +23,9 @@ use Rattle.sj_codelet.specs.declared.kernel.Kernel.{Kernel}
 use Rattle.sj_codelet.specs.declared.kernel.Kernel.TheVariants.{Add, Deliver, GemmThree, InitPlus, Load, Sum}
 use Rattle.sj_codelet.specs.Kernel.{fits, kernel_of}
 use Rattle.sj_core.specs.Operands.{copy_of}
-use Rattle.sj_core.specs.Program.{same_cell, no_task, cell_info, dims_of, task_of, is_redux, data_operands}
-use Rattle.sj_core.specs.Proper.{Proper, NamesCells, IsCopyOf, Fits, Own, Contributing, own_modes, IsUnaliased, ReadsValues, reads_value, gives_value, HasValueBefore, Phase, IsPhase, IsInit, IsCombine, IsContribution, IsMember, Touches, HasPhases, HasDeliveries, IsWithinLimits, task_number}
+use Rattle.sj_core.specs.Program.{same_cell, no_task, cell_info, dims_of, task_of, data_operands}
+use Rattle.sj_base.specs.Mode.{is_redux, reads_value}
+use Rattle.sj_core.specs.Proper.{Proper, NamesCells, IsCopyOf, Fits, Own, Contributing, own_modes, IsUnaliased, ReadsValues, gives_value, HasValueBefore, Phase, IsPhase, IsInit, IsCombine, IsContribution, IsMember, Touches, HasPhases, HasDeliveries, IsWithinLimits, task_number}
 use Rattle.sj_core.proofs.Jobs.{a_task, access, cell, columns, worker}
 use Rattle.sj_core.proofs.Values.{list_any-some}
 

@@ -17,7 +17,8 @@ use Rattle.sj_deps.specs.Conflict.{HasDependencies}
 use Rattle.sj_core.specs.Coherent.{IsStateOf, OrderIsKept, SharesCommuting, WorkersAreSound, is_active}
 use Rattle.sj_core.specs.Machine.{State, is_done, is_task_of, progress, worker_of}
 use Rattle.sj_core.specs.Operands.{cells_of, commuting_cells, copy_of, worked_on, written_cells}
-use Rattle.sj_core.specs.Program.{has_cell, is_commute, is_redux, is_written, task_of, tasks_of}
+use Rattle.sj_core.specs.Program.{has_cell, task_of, tasks_of}
+use Rattle.sj_base.specs.Mode.{is_commute, is_redux, is_written}
 use Rattle.sj_core.specs.Proper.{NamesCells}
 use Rattle.sj_core.specs.Step.{Claims, after, is_in_use}
 use Rattle.sj_core.specs.declared.progress.Progress.{Progress}

@@ -24,7 +24,8 @@ use Rattle.sj_deps.specs.declared.manner.Manner.TheVariants.{Commute, Contribute
 use Rattle.sj_deps.specs.declared.manner.Usage.{Usage}
 use Rattle.sj_core.specs.Machine.{writes}
 use Rattle.sj_core.specs.Operands.{cells_of, commuting_cells, copy_of, worked_on, written_cells}
-use Rattle.sj_core.specs.Program.{cell_info, has_cell, is_commute, is_redux, is_scratch, is_written, no_cell, no_task, same_cell, task_of}
+use Rattle.sj_core.specs.Program.{cell_info, has_cell, no_cell, no_task, same_cell, task_of}
+use Rattle.sj_base.specs.Mode.{is_commute, is_redux, is_scratch, is_written}
 use Rattle.sj_core.specs.Proper.{NamesCells, access}
 use Rattle.sj_core.proofs.Reading.{same_cell-is}
 use Rattle.sj_core.proofs.TaskCells.{written_isn't_scratch}

@@ -10,7 +10,8 @@ use Rattle.sj_base.specs.declared.mode.Mode.{Mode}
 use Rattle.sj_base.specs.declared.mode.Mode.TheVariants.{Commute, R, RW, Redux, Scratch, W}
 use Rattle.sj_base.specs.declared.program.Program.{Program}
 use Rattle.sj_core.specs.Operands.{cells_of, fresh_cells, worked_on, written_cells}
-use Rattle.sj_core.specs.Program.{has_cell, is_scratch, is_written, same_cell, starts_as_zeros, task_of}
+use Rattle.sj_core.specs.Program.{has_cell, same_cell, task_of}
+use Rattle.sj_base.specs.Mode.{is_scratch, is_written, starts_as_zeros}
 
 or_true : (a : Bool) → (a || true) ≡ true
 or_true true = refl

@@ -22,8 +22,9 @@ use Rattle.sj_deps.specs.declared.manner.Manner.TheVariants.{Write}
 use Rattle.sj_core.specs.Coherent.{WritesAreCounted, has_written}
 use Rattle.sj_core.specs.Machine.{State, done_by, writes}
 use Rattle.sj_core.specs.Operands.{cells_of, copy_of, fresh_cells, worked_on, written_cells}
-use Rattle.sj_core.specs.Program.{data_operands, has_cell, is_redux, is_scratch, is_written, same_cell, starts_as_zeros, task_of, tasks_of}
-use Rattle.sj_core.specs.Proper.{HasValueBefore, Proper, access, gives_value, reads_value}
+use Rattle.sj_core.specs.Program.{data_operands, has_cell, same_cell, task_of, tasks_of}
+use Rattle.sj_base.specs.Mode.{is_redux, is_scratch, is_written, starts_as_zeros, reads_value}
+use Rattle.sj_core.specs.Proper.{HasValueBefore, Proper, access, gives_value}
 use Rattle.sj_core.specs.Step.{EarlierAreDone, reads}
 use Rattle.sj_core.proofs.Dependencies.{Proper-dependencies}
 use Rattle.sj_core.proofs.Readiness.{Contains-filter}

@@ -1,6 +1,6 @@
 -- What the steps of a task keep: laws of all proper programs, machines and coherent states.
 use Rattle.sj_base.specs.declared.ids.Cell.{Cell}
-use Rattle.std.specs.Prelude.{◌≡◌, ◌<◌, Some, Bool, true, false, IsTrue, List, [], ◌∷◌, length, All, Contains, IfSome}
+use Rattle.std.specs.Prelude.{◌≡◌, ◌<◌, Some, IsTrue, List, [], ◌∷◌, length, All, Contains, IfSome}
 use Rattle.sj_base.specs.declared.ids.Task.{Task}
 use Rattle.sj_base.specs.declared.ids.Node.{Node}
 use Rattle.sj_base.specs.declared.ids.Worker.{Worker}
@@ -9,11 +9,11 @@ use Rattle.sj_base.specs.declared.ids.Place.{Place}
 use Rattle.sj_base.specs.declared.program.Program.{Program}
 use Rattle.sj_base.specs.declared.program.Machine.{Machine}
 use Rattle.sj_core.specs.Machine.{State, progress, replica, transfer, array_of, is_valid}
-use Rattle.sj_core.specs.Proper.{Proper, IsMachineFor, HasSwapFor, reads_value, gives_value, access}
+use Rattle.sj_core.specs.Proper.{Proper, IsMachineFor, HasSwapFor, gives_value, access}
+use Rattle.sj_base.specs.Mode.{reads_value, is_in_order}
 use Rattle.sj_core.specs.Coherent.{Coherent}
 use Rattle.sj_core.specs.Step.{Claims, BeginsMoveIn, BeginsMoveOut, EndsMove, Drops, Runs, Ends, Step, a_transfer, after, array_at, disk_of, mover_of}
-use Rattle.sj_base.specs.declared.mode.Mode.{Mode}
-use Rattle.sj_base.specs.declared.mode.Mode.TheVariants.{R, Redux, Commute}
+use Rattle.sj_base.specs.declared.mode.Mode.TheVariants.{R}
 use Rattle.sj_base.specs.declared.mode.Access.{Access}
 use Rattle.sj_base.specs.declared.ids.Place.TheVariants.{Node as AtNode}
 use Rattle.sj_base.specs.declared.trace.Event.{Event}
@@ -60,15 +60,9 @@ IsKeptByDrops Fact = (p : Program) (m : Machine) (s s' : State) (c : Cell) (n : 
 
 -- ---- programs whose accesses are all in order
 
--- the operand is none to which tasks contribute in any order
-abbrev pub is_plain_mode : Mode → Bool
-is_plain_mode Redux = false
-is_plain_mode Commute = false
-is_plain_mode _ = true
-
 -- no task has a REDUX or a COMMUTE access
 pub record HasPlainModes (p : Program) : Type 0 where
-  pub modes : (t : Task) → All (λ a. IsTrue (is_plain_mode a.mode)) (task_of p t).accesses
+  pub modes : (t : Task) → All (λ a. IsTrue (is_in_order a.mode)) (task_of p t).accesses
 
 -- the fact holds after each end in a coherent state of a program with such accesses alone
 abbrev pub IsKeptByPlainEnds : (Program → Machine → State → Type 0) → Type 0

@@ -16,7 +16,8 @@ use Rattle.sj_base.specs.Array.{Array, array, zeros}
 use Rattle.sj_codelet.specs.declared.kernel.Kernel.{Kernel}
 use Rattle.sj_codelet.specs.declared.formal.Formal.{Formal}
 use Rattle.sj_codelet.specs.Kernel.{formals_of, out, fits}
-use Rattle.sj_core.specs.Program.{same_cell, dims_of, task_of, is_written, is_redux}
+use Rattle.sj_core.specs.Program.{same_cell, dims_of, task_of}
+use Rattle.sj_base.specs.Mode.{is_written, is_redux}
 use Rattle.sj_core.specs.Proper.{own_modes}
 use Rattle.sj_core.specs.Fold.{Contents, held_in, after_task}
 use Rattle.sj_core.specs.Operands.{worked_on, written_cells, found, results}

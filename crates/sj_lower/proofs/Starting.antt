@@ -18,7 +18,8 @@ use Rattle.sj_codelet.specs.declared.kernel.Kernel.TheVariants.{Load, LoadFill, 
 use Rattle.sj_codelet.specs.Ring.{wrap}
 use Rattle.sj_codelet.specs.Kernel.{out}
 use Rattle.sj_codelet.specs.Equations.{loadfill}
-use Rattle.sj_core.specs.Program.{dims_of, task_of, is_written}
+use Rattle.sj_core.specs.Program.{dims_of, task_of}
+use Rattle.sj_base.specs.Mode.{is_written}
 use Rattle.sj_core.specs.Fold.{Contents, held_in, after_task}
 use Rattle.sj_core.specs.Operands.{worked_on, found}
 use Rattle.sj_job.specs.declared.job.Init.{Init}
