@@ -4,7 +4,7 @@ use Rattle.std.proofs.lemmas.Bool.{and_from, and_parts, cases_lt, false_from_ne_
 use Rattle.std.proofs.lemmas.Bool.Decides.{Decides-eqb}
 use Rattle.std.proofs.lemmas.List.Sums.{sum_by-cons, sum_by-le-sum_by}
 use Rattle.std.specs.List.{filter, range_with_len}
-use Rattle.std.specs.Prelude.{count_by, nat_eq, sum_by}
+use Rattle.std.specs.Prelude.{count_by, nat_eq, sum_by, nat_le, nat_lt}
 use Rattle.sj_base.specs.declared.ids.Cell.{Cell}
 use Rattle.sj_base.specs.declared.ids.Node.{Node}
 use Rattle.sj_base.specs.declared.ids.Place.TheVariants.{Node as AtNode}
@@ -18,7 +18,7 @@ use Rattle.sj_core.specs.Needs.{node_of, tile_bytes, workers_of}
 use Rattle.sj_core.specs.Program.{cells_of_program, has_cell}
 use Rattle.sj_core.proofs.CellLists.{has_cell-filter_is, share, sum-once, times, times-filter, times-program}
 use Rattle.sj_core.proofs.Reading.{entry-inside}
-use Rattle.sj_core.proofs.Sums.{filter-sum-le, sum-agree, sum-filter, sum-filter-le, tally}
+use Rattle.sj_core.proofs.Sums.{filter-sum-le, sum-agree, sum-filter, sum-filter-le, tally, count-numbered}
 use Rattle.sj_core.proofs.TaskCells.{filter-filter}
 
 -- ---- the bytes of the cells that pass a test
@@ -58,42 +58,16 @@ module _ (p : Program) (m : Machine) (s : State) (state : IsStateOf p m s) (n : 
 
 -- ---- the scratch of the workers
 
-abbrev number : ℕ → Worker
-number n = record { 0 = n }
-
--- a machine has each worker at most once
-worker-before : (w : Worker) (a n : ℕ) → w.0 < a → count_by (λ v. same_worker v w) (map number (range_with_len a n)) ≡ 0
-worker-before w a zero below = refl
-worker-before w a (suc n) below =
-    let first = sum_by-cons (λ (v : Worker). tally (same_worker v w)) (number a) (map number (range_with_len (a + 1) n)) in
-    let other : tally (same_worker (number a) w) ≡ 0 = ap tally (false_from_ne_true (same_worker (number a) w) (λ e. (let k : a ≡ w.0 = (Decides-eqb a w.0).0 e in omega arith))) in
-    let rest = worker-before w (a + 1) n (omega arith) in
+pub worker-once_at : (m : Machine) (n : Node) (w : Worker) → count_by (λ v. same_worker v w) (workers_at m n) ≤ 1
+worker-once_at m n w =
+    let fewer = filter-sum-le (λ (v : Worker). tally (same_worker v w)) (λ v. nat_eq (node_of m v).0 n.0) (workers_of m) in
+    let once = count-numbered (λ i. record { 0 = i }) (λ v. same_worker v w) w.0 (λ i. refl) 0 m.workers in
+    let most = tally_le (nat_le 0 w.0 && nat_lt w.0 (0 + m.workers)) in
     omega arith
-
-worker-once : (w : Worker) (a n : ℕ) → count_by (λ v. same_worker v w) (map number (range_with_len a n)) ≤ 1
-worker-once w a zero = omega arith
-worker-once w a (suc n) =
-    let first = sum_by-cons (λ (v : Worker). tally (same_worker v w)) (number a) (map number (range_with_len (a + 1) n)) in
-    let later = worker-once w (a + 1) n in
-    elim (cases_lt w.0 (a + 1)) [
-      | inl below ↦
-          let none = worker-before w (a + 1) n below in
-          let here = tally_le (same_worker (number a) w) in
-          omega arith
-      | inr above ↦
-          let other : tally (same_worker (number a) w) ≡ 0 = ap tally (false_from_ne_true (same_worker (number a) w) (λ e. (let k : a ≡ w.0 = (Decides-eqb a w.0).0 e in omega arith))) in
-          omega arith
-    ]
   where
     tally_le : (b : Bool) → tally b ≤ 1
     tally_le true = omega arith
     tally_le false = omega arith
-
-pub worker-once_at : (m : Machine) (n : Node) (w : Worker) → count_by (λ v. same_worker v w) (workers_at m n) ≤ 1
-worker-once_at m n w =
-    let fewer = filter-sum-le (λ (v : Worker). tally (same_worker v w)) (λ v. nat_eq (node_of m v).0 n.0) (workers_of m) in
-    let once = worker-once w 0 m.workers in
-    omega arith
 
 -- a worker of a list of a node's workers is bound there
 pub others-le : (m : Machine) (n : Node) (w : Worker) (f g : Worker → ℕ) → ((v : Worker) → node_of m v ≡ n → v ≢ w → f v ≤ g v) → sum_by f (others_at m n w) ≤ sum_by g (others_at m n w)

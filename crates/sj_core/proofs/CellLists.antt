@@ -1,11 +1,11 @@
 -- Lists of cells: which cells an edited list has, how often, and the sum over a list that has each at most once.
 use Rattle.std.proofs.Common.{Bool, List, [], ap, arith, cond, false, get_or, inl, inr, length, map, not, refl, set, subst, suc, sym, true, zero, ℕ, ◌&&◌, ◌++◌, ◌+◌, ◌<◌, ◌||◌, ◌∙◌, ◌∷◌, ◌≡◌, ◌≤◌}
-use Rattle.std.proofs.lemmas.Bool.{and_from, and_parts, cases_eq, false_from_ne_true, false≢true, or_right}
+use Rattle.std.proofs.lemmas.Bool.{and_from, and_parts, cases_eq, false_from_ne_true, false≢true, or_right, le-leb, lt-ltb}
 use Rattle.std.proofs.lemmas.Bool.Decides.{Decides-eqb}
 use Rattle.std.proofs.lemmas.List.{ext_get_or, get_or-set_other, get_or-set_same, length-set}
 use Rattle.std.proofs.lemmas.List.Sums.{sum_by-append, sum_by-cons}
 use Rattle.std.specs.List.{filter, range_with_len}
-use Rattle.std.specs.Prelude.{count_by, fold, if◌then◌else◌, sum_by}
+use Rattle.std.specs.Prelude.{count_by, fold, if◌then◌else◌, sum_by, nat_le, nat_lt}
 use Rattle.sj_base.specs.declared.ids.Cell.{Cell}
 use Rattle.sj_base.specs.declared.program.Program.{Program}
 use Rattle.sj_codelet.specs.Kernel.{same}
@@ -13,16 +13,12 @@ use Rattle.sj_core.specs.Program.{cells_of_program, distinct, has_cell, same_cel
 use Rattle.sj_core.specs.Step.{to_front, without}
 use Rattle.sj_core.specs.Table.{renewed}
 use Rattle.sj_core.proofs.Reading.{same_cell-is}
-use Rattle.sj_core.proofs.Sums.{tally}
+use Rattle.sj_core.proofs.Sums.{tally, filter-sum-le, count-numbered, sum-plus, same_test}
 use Rattle.sj_core.proofs.Tables.{length-renewed, renewed-at}
+use Rattle.std.proofs.lemmas.Map.Views.{any-filter_same}
+use Rattle.std.proofs.lemmas.List.Folds.{list_any-append}
 
 -- ---- tests
-
--- two tests that imply each other are one
-pub same_test : (a b : Bool) → (a ≡ true → b ≡ true) → (b ≡ true → a ≡ true) → a ≡ b
-same_test true b f g = sym (f refl)
-same_test false true f g = g refl
-same_test false false f g = refl
 
 pub same_cell-refl : (c : Cell) → same_cell c c ≡ true
 same_cell-refl c = (Decides-eqb c.0 c.0).1 refl
@@ -36,34 +32,17 @@ same_cell-sym c d = same_test (same_cell c d) (same_cell d c) (λ h. same_cell-f
 -- ---- which cells a list has
 
 pub has_cell-append : (xs ys : List Cell) (c : Cell) → has_cell ys c ≡ true → has_cell (xs ++ ys) c ≡ true
-has_cell-append [] ys c h = h
-has_cell-append (x ∷ xs) ys c h = or_right (same_cell x c) (has_cell (xs ++ ys) c) (has_cell-append xs ys c h)
+has_cell-append xs ys c h = list_any-append (λ d. same_cell d c) xs ys ∙ or_right (has_cell xs c) (has_cell ys c) h
 
--- a cell that a filter keeps passes its test, and was in the list
+pub has_cell-filter_is : (f : Cell → Bool) (xs : List Cell) (c : Cell) → has_cell (filter f xs) c ≡ (f c && has_cell xs c)
+has_cell-filter_is f xs c = any-filter_same (λ d. same_cell d c) f (f c) (λ d same. ap f (same_cell-is d c same)) xs
+
+-- a cell that a filter keeps passes its test, and was in the list; and a cell of the list that passes is kept
 pub has_cell-filter : (f : Cell → Bool) (xs : List Cell) (c : Cell) → has_cell (filter f xs) c ≡ true → (f c ≡ true) × (has_cell xs c ≡ true)
-has_cell-filter f [] c h = absurd (false≢true h)
-has_cell-filter f (x ∷ xs) c h = by_cases (f x) refl h (has_cell-filter f xs c)
-  where
-    here : (b : Bool) → f x ≡ true → same_cell x c ≡ b → (b || has_cell (filter f xs) c) ≡ true → (has_cell (filter f xs) c ≡ true → (f c ≡ true) × (has_cell xs c ≡ true)) → (f c ≡ true) × ((same_cell x c || has_cell xs c) ≡ true)
-    here true passes same h rest = (ap f (sym (same_cell-is x c same)) ∙ passes, ap (λ b. b || has_cell xs c) same)
-    here false passes same h rest = ((rest h).0, or_right (same_cell x c) (has_cell xs c) (rest h).1)
+has_cell-filter f xs c h = and_parts (f c) (has_cell xs c) (sym (has_cell-filter_is f xs c) ∙ h)
 
-    by_cases : (b : Bool) → f x ≡ b → has_cell (cond b (x ∷ filter f xs) (filter f xs)) c ≡ true → (has_cell (filter f xs) c ≡ true → (f c ≡ true) × (has_cell xs c ≡ true)) → (f c ≡ true) × ((same_cell x c || has_cell xs c) ≡ true)
-    by_cases true passes h rest = here (same_cell x c) passes refl h rest
-    by_cases false fails h rest = ((rest h).0, or_right (same_cell x c) (has_cell xs c) (rest h).1)
-
--- and a cell of the list that passes is kept
 pub filter-has_cell : (f : Cell → Bool) (xs : List Cell) (c : Cell) → f c ≡ true → has_cell xs c ≡ true → has_cell (filter f xs) c ≡ true
-filter-has_cell f [] c passes h = h
-filter-has_cell f (x ∷ xs) c passes h = here (same_cell x c) refl h (filter-has_cell f xs c passes)
-  where
-    kept : (b : Bool) → has_cell (filter f xs) c ≡ true → has_cell (cond b (x ∷ filter f xs) (filter f xs)) c ≡ true
-    kept true rest = or_right (same_cell x c) (has_cell (filter f xs) c) rest
-    kept false rest = rest
-
-    here : (b : Bool) → same_cell x c ≡ b → (b || has_cell xs c) ≡ true → (has_cell xs c ≡ true → has_cell (filter f xs) c ≡ true) → has_cell (cond (f x) (x ∷ filter f xs) (filter f xs)) c ≡ true
-    here true same h rest = ap (λ b. has_cell (cond b (x ∷ filter f xs) (filter f xs)) c) (ap f (same_cell-is x c same) ∙ passes) ∙ ap (λ b. b || has_cell (filter f xs) c) same
-    here false same h rest = kept (f x) (rest h)
+filter-has_cell f xs c passes h = has_cell-filter_is f xs c ∙ and_from (f c) (has_cell xs c) passes h
 
 -- a list without its repetitions has the same cells
 pub has_cell-distinct : (xs : List Cell) (c : Cell) → has_cell (distinct xs) c ≡ has_cell xs c
@@ -82,12 +61,6 @@ has_cell-distinct (x ∷ xs) c = by_cases (has_cell xs x) refl (has_cell-distinc
 pub has_cell-head : (xs : List Cell) (d : Cell) → 0 < length xs → has_cell xs (get_or xs 0 d) ≡ true
 has_cell-head [] d some = absurd (omega arith)
 has_cell-head (x ∷ xs) d some = ap (λ b. b || has_cell xs x) (same_cell-refl x)
-
-pub has_cell-filter_is : (f : Cell → Bool) (xs : List Cell) (c : Cell) → has_cell (filter f xs) c ≡ (f c && has_cell xs c)
-has_cell-filter_is f xs c =
-    same_test (has_cell (filter f xs) c) (f c && has_cell xs c)
-    (λ h. let both = has_cell-filter f xs c h in and_from (f c) (has_cell xs c) both.0 both.1)
-    (λ h. (let both = and_parts (f c) (has_cell xs c) h in filter-has_cell f xs c both.0 both.1))
 
 pub has_cell-to_front : (xs : List Cell) (d c : Cell) → has_cell (to_front xs d) c ≡ (same_cell d c || has_cell xs c)
 has_cell-to_front xs d c = by_cases (same_cell d c) refl
@@ -122,12 +95,7 @@ pub times-append : (xs ys : List Cell) (c : Cell) → times (xs ++ ys) c ≡ tim
 times-append xs ys c = sum_by-append (λ d. tally (same_cell d c)) xs ys
 
 pub times-filter : (f : Cell → Bool) (xs : List Cell) (c : Cell) → times (filter f xs) c ≤ times xs c
-times-filter f [] c = omega arith
-times-filter f (x ∷ xs) c = by_cases (f x) (times-filter f xs c)
-  where
-    by_cases : (b : Bool) → times (filter f xs) c ≤ times xs c → times (cond b (x ∷ filter f xs) (filter f xs)) c ≤ times (x ∷ xs) c
-    by_cases true rest = let a = times-cons x (filter f xs) c in let b = times-cons x xs c in omega arith
-    by_cases false rest = let b = times-cons x xs c in omega arith
+times-filter f xs c = filter-sum-le (λ d. tally (same_cell d c)) f xs
 
 pub times-none : (xs : List Cell) (c : Cell) → has_cell xs c ≡ false → times xs c ≡ 0
 times-none [] c h = refl
@@ -226,35 +194,8 @@ cells-written {X} f d (c ∷ cs) rows once =
 
 -- ---- a program has each of its cells once
 
-abbrev number : ℕ → Cell
-number n = record { 0 = n }
-
-times-before : (a n : ℕ) (c : Cell) → c.0 < a → times (map number (range_with_len a n)) c ≡ 0
-times-before a zero c h = refl
-times-before a (suc n) c h =
-    let other : same_cell (number a) c ≡ false = false_from_ne_true (same_cell (number a) c) (λ e. (let k : a ≡ c.0 = ap (λ (d : Cell). d.0) (same_cell-is (number a) c e) in omega arith)) in
-    let first = times-cons (number a) (map number (range_with_len (a + 1) n)) c in
-    let here : tally (same_cell (number a) c) ≡ 0 = ap tally other in
-    let later = times-before (a + 1) n c (omega arith) in
-    omega arith
-
-times-range : (a n : ℕ) (c : Cell) → a ≤ c.0 → c.0 < a + n → times (map number (range_with_len a n)) c ≡ 1
-times-range a zero c low high = absurd (omega arith)
-times-range a (suc n) c low high =
-    let first = times-cons (number a) (map number (range_with_len (a + 1) n)) c in
-    elim (cases_eq a c.0) [
-      | inl e ↦
-          let here : tally (same_cell (number a) c) ≡ 1 = ap tally ((Decides-eqb a c.0).1 e) in
-          let later = times-before (a + 1) n c (omega arith) in
-          omega arith
-      | inr d ↦
-          let other : tally (same_cell (number a) c) ≡ 0 = ap tally (false_from_ne_true (same_cell (number a) c) (λ e. d (ap (λ (k : Cell). k.0) (same_cell-is (number a) c e)))) in
-          let later = times-range (a + 1) n c (omega arith) (omega arith) in
-          omega arith
-    ]
-
 pub times-program : (p : Program) (c : Cell) → c.0 < length p.cells → times (cells_of_program p) c ≡ 1
-times-program p c h = times-range 0 (length p.cells) c (omega arith) (omega arith)
+times-program p c h = count-numbered (λ n. record { 0 = n }) (λ d. same_cell d c) c.0 (λ i. refl) 0 (length p.cells) ∙ ap tally (and_from (nat_le 0 c.0) (nat_lt c.0 (0 + length p.cells)) (le-leb 0 c.0 (omega arith)) (lt-ltb c.0 (0 + length p.cells) (omega arith)))
 
 -- ---- the sum over a list that has each cell at most once
 
@@ -309,16 +250,6 @@ sum-once f all (x ∷ xs) inside once =
     let split = sum-plus (share f (has_cell (x ∷ xs))) (share f (same_cell x)) (share f (has_cell xs)) apart all in
     omega arith
   where
-    sum-plus : (h g k : Cell → ℕ) → ((c : Cell) → h c ≡ g c + k c) → (ys : List Cell) → sum_by h ys ≡ sum_by g ys + sum_by k ys
-    sum-plus h g k same [] = refl
-    sum-plus h g k same (y ∷ ys) =
-        let a = sum_by-cons h y ys in
-        let b = sum_by-cons g y ys in
-        let c = sum_by-cons k y ys in
-        let here = same y in
-        let later = sum-plus h g k same ys in
-        omega arith
-
     new : has_cell xs x ≡ false
     new = false_from_ne_true (has_cell xs x) (λ h. (let o = once x in let t = times-cons x xs x in let one : tally (same_cell x x) ≡ 1 = ap tally (same_cell-refl x) in let more = times-has xs x h in omega arith))
 

@@ -1,6 +1,6 @@
 -- A claim leaves a coherent state.
 use Rattle.std.proofs.Common.{Bool, List, None, Option, Some, [], arith, cond, false, inl, inr, length, not, refl, sym, true, ℕ, ◌&&◌, ◌++◌, ◌+◌, ◌<◌, ◌||◌, ◌∙◌, ◌≡◌, ◌≢◌, ◌≤◌, ◌⊎◌, ap, subst}
-use Rattle.std.proofs.lemmas.Bool.{and_parts, false_from_ne_true, false≢true, leb-true}
+use Rattle.std.proofs.lemmas.Bool.{and_parts, false_from_ne_true, false≢true, leb-true, cases_Bool}
 use Rattle.std.proofs.lemmas.List.{get_or-set_other, get_or-set_same, length-set}
 use Rattle.std.specs.List.{filter}
 use Rattle.std.specs.Prelude.{All, fold, if◌then◌else◌, is_some, nat_eq, sum_by}
@@ -388,14 +388,13 @@ module _ (p : Program) (m : Machine) (s : State) (h : IsSound p m s) (t : Task) 
   claim-scratch_others v d = ap (λ (row : WorkerState). row.scratch) (Claims-other_worker p m s t w v s' claim d)
 
   claim-scratch : sum_by (scratch s') (workers_at m (node_of m w)) ≤ sum_by (scratch s) (workers_at m (node_of m w)) + scratch_bytes p (task_of p t)
-  claim-scratch = sum-one_more (scratch s') (scratch s) (λ v. same_worker v w) (scratch_bytes p (task_of p t)) others own (workers_at m (node_of m w)) (worker-once_at m (node_of m w) w)
+  claim-scratch = sum-one_more (scratch s') (scratch s) (λ v. same_worker v w) (scratch_bytes p (task_of p t)) (λ v. by_worker v (cases_Bool (same_worker v w))) (workers_at m (node_of m w)) (worker-once_at m (node_of m w) w)
     where
-      others : (v : Worker) → same_worker v w ≡ false → scratch s' v ≤ scratch s v
-      others v d = let same = claim-scratch_others v (λ e. false≢true (sym d ∙ ap (λ (x : Worker). same_worker x w) e ∙ same_worker-refl w)) in omega arith
-
-      own : (v : Worker) → same_worker v w ≡ true → scratch s' v ≤ scratch s v + scratch_bytes p (task_of p t)
-      own v e =
+      by_worker : (v : Worker) → (same_worker v w ≡ true) ⊎ (same_worker v w ≡ false) → scratch s' v ≤ scratch s v + cond (same_worker v w) (scratch_bytes p (task_of p t)) 0
+      by_worker v (inr other) = let same = claim-scratch_others v (λ e. false≢true (sym other ∙ ap (λ (x : Worker). same_worker x w) e ∙ same_worker-refl w)) in omega arith
+      by_worker v (inl e) =
           let now : scratch s' v ≡ scratch_bytes p (task_of p t) = ap (scratch s') (same_worker-is v w e) ∙ ap (λ (row : WorkerState). row.scratch) (Claims-worker p m s t w s' h.coherent.state.rows h.machine claim) in
+          let more : cond (same_worker v w) (scratch_bytes p (task_of p t)) 0 ≡ scratch_bytes p (task_of p t) = ap (λ b. cond b (scratch_bytes p (task_of p t)) 0) e in
           omega arith
 
   claim-enough : used p m s' (node_of m w) ≤ node_size m (node_of m w)
