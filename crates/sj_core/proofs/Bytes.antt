@@ -1,10 +1,10 @@
 -- The bytes on a node: sums over its entries, its leaving replicas and its workers; a step that brings nothing keeps that they suffice.
-use Rattle.std.proofs.Common.{Bool, List, ap, arith, cond, false, inl, inr, length, map, not, refl, subst, suc, sym, true, zero, ℕ, ◌&&◌, ◌+◌, ◌<◌, ◌∙◌, ◌≡◌, ◌≢◌, ◌≤◌}
-use Rattle.std.proofs.lemmas.Bool.{and_from, and_parts, cases_lt, false_from_ne_true, false≢true}
+use Rattle.std.proofs.Common.{Bool, List, ap, arith, cond, false, length, not, refl, subst, sym, true, ℕ, ◌&&◌, ◌+◌, ◌<◌, ◌∙◌, ◌≡◌, ◌≢◌, ◌≤◌}
+use Rattle.std.proofs.lemmas.Bool.{and_from, and_parts, false≢true}
 use Rattle.std.proofs.lemmas.Bool.Decides.{Decides-eqb}
-use Rattle.std.proofs.lemmas.List.Sums.{sum_by-cons, sum_by-le-sum_by}
-use Rattle.std.specs.List.{filter, range_with_len}
-use Rattle.std.specs.Prelude.{count_by, nat_eq, sum_by, nat_le, nat_lt}
+use Rattle.std.proofs.lemmas.List.Sums.{sum_by-le-sum_by}
+use Rattle.std.specs.List.{filter}
+use Rattle.std.specs.Prelude.{count_by, nat_eq, nat_le, nat_lt, sum_by}
 use Rattle.sj_base.specs.declared.ids.Cell.{Cell}
 use Rattle.sj_base.specs.declared.ids.Node.{Node}
 use Rattle.sj_base.specs.declared.ids.Place.TheVariants.{Node as AtNode}
@@ -16,9 +16,11 @@ use Rattle.sj_core.specs.Coherent.{IsStateOf, entries_beside, leaving_by, others
 use Rattle.sj_core.specs.Machine.{State, is_coming_by, is_leaving_by, order, replica, same_worker, scratch, used, workers_at}
 use Rattle.sj_core.specs.Needs.{node_of, tile_bytes, workers_of}
 use Rattle.sj_core.specs.Program.{cells_of_program, has_cell}
+use Rattle.sj_core.specs.Step.{after}
 use Rattle.sj_core.proofs.CellLists.{has_cell-filter_is, share, sum-once, times, times-filter, times-program}
 use Rattle.sj_core.proofs.Reading.{entry-inside}
-use Rattle.sj_core.proofs.Sums.{filter-sum-le, sum-agree, sum-filter, sum-filter-le, tally, count-numbered}
+use Rattle.sj_core.proofs.Sharing.{one}
+use Rattle.sj_core.proofs.Sums.{count-numbered, filter-sum-le, sum-agree, sum-filter, sum-filter-le, tally}
 use Rattle.sj_core.proofs.TaskCells.{filter-filter}
 
 -- ---- the bytes of the cells that pass a test

@@ -3,6 +3,7 @@ use Rattle.std.proofs.Common.{List, [], ap, arith, false, length, map, not, refl
 use Rattle.std.proofs.lemmas.Bool.{false_from_ne_true, false≢true}
 use Rattle.std.specs.List.{Contains, filter, slice_index_or}
 use Rattle.std.specs.Prelude.{IsTrue}
+use Rattle.sj_base.specs.Mode.{is_scratch, reads_value}
 use Rattle.sj_base.specs.declared.ids.Cell.{Cell}
 use Rattle.sj_base.specs.declared.ids.Place.TheVariants.{Node as AtNode}
 use Rattle.sj_base.specs.declared.ids.Task.{Task}
@@ -15,16 +16,15 @@ use Rattle.sj_deps.specs.Conflict.{HasDependencies}
 use Rattle.sj_core.specs.Coherent.{Coherent, content, is_begun}
 use Rattle.sj_core.specs.Fold.{given, held_before}
 use Rattle.sj_core.specs.Laws.{Brought, HasAtHand, HasPlainModes, Works}
-use Rattle.sj_core.specs.Machine.{State, done_by, done_in, is_done, is_task_of, is_valid, progress, replica}
+use Rattle.sj_core.specs.Machine.{State, done_by, done_in, is_done, is_task_of, is_valid, progress, replica, writes}
 use Rattle.sj_core.specs.Needs.{node_of}
 use Rattle.sj_core.specs.Operands.{cells_of, worked_on, written_cells}
 use Rattle.sj_core.specs.Program.{has_cell, task_of}
-use Rattle.sj_base.specs.Mode.{is_scratch, reads_value}
 use Rattle.sj_core.specs.Proper.{Proper, access}
 use Rattle.sj_core.specs.Step.{EarlierAreDone, array_at, reads}
 use Rattle.sj_core.proofs.Advancing.{done-begun}
 use Rattle.sj_core.proofs.Contents.{later-free}
-use Rattle.sj_core.proofs.Finding.{finds-content, read-cell, read-value}
+use Rattle.sj_core.proofs.Finding.{finds-content, read-cell}
 use Rattle.sj_core.proofs.Folding.{held-until}
 use Rattle.sj_core.proofs.PlainModes.{cone, conflicts, operand-inside}
 use Rattle.sj_core.proofs.Replicas.{same_worker-refl}
@@ -45,14 +45,14 @@ module _ (p : Program) (m : Machine) (proper : Proper p) (deps : HasDependencies
   finds : (t : Task) (w : Worker) (a : Access) → Contains (task_of p t).accesses a → IsTrue (reads_value a.mode) → is_task_of w (progress s t) ≡ true → is_begun (progress s t) ≡ true → is_done (progress s t) ≡ false → is_valid (replica s a.cell (AtNode (node_of m w))) ≡ true →
       array_at p s (AtNode (node_of m w)) a.cell ≡ held_before p t.0 a.cell
   finds t w a h reads mine begun undone valid =
-      let value = read-value a.mode reads in
+      let value = ap not reads in
       finds-content p m proper deps plain s sound t w a mine h value valid
       ∙ content-before t w a.cell (operand-inside p t a h) undone (sound.order.earlier t begun) (read-cell p m proper deps plain t w a h value)
 
   -- an operand whose old value a task reads is as all tasks before left it
   pub finds-earlier : (t : Task) (w : Worker) (a : Access) → Contains (task_of p t).accesses a → IsTrue (reads_value a.mode) → HasAtHand m s t w a.cell → array_at p s (AtNode (node_of m w)) a.cell ≡ held_before p t.0 a.cell
   finds-earlier t w a h reads (Works running) =
-      finds t w a h reads (ap (is_task_of w) running ∙ same_worker-refl w) (ap is_begun running) (ap is_done running) (sound.cells.running t w a.cell running (read-cell p m proper deps plain t w a h (read-value a.mode reads)))
+      finds t w a h reads (ap (is_task_of w) running ∙ same_worker-refl w) (ap is_begun running) (ap is_done running) (sound.cells.running t w a.cell running (read-cell p m proper deps plain t w a h (ap not reads)))
   finds-earlier t w a h reads (Brought claimed valid) =
       finds t w a h reads (ap (is_task_of w) claimed ∙ ap (λ b. b || false) (same_worker-refl w)) (ap is_begun claimed) (ap is_done claimed) valid
 

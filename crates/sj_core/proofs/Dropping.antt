@@ -1,5 +1,5 @@
 -- A drop leaves a coherent state.
-use Rattle.std.proofs.Common.{Bool, None, Option, Some, ap, arith, false, inl, inr, length, not, refl, subst, sym, true, ◌&&◌, ◌<◌, ◌∙◌, ◌≡◌, ◌⊎◌}
+use Rattle.std.proofs.Common.{Bool, None, Option, Some, ap, arith, drop, false, inl, inr, length, not, refl, subst, sym, true, ◌&&◌, ◌<◌, ◌∙◌, ◌≡◌, ◌⊎◌}
 use Rattle.std.proofs.lemmas.Bool.{and_from, and_parts, false_from_ne_true, false≢true}
 use Rattle.std.proofs.lemmas.List.{length-set}
 use Rattle.std.specs.Prelude.{IfSome}
@@ -16,6 +16,7 @@ use Rattle.sj_core.specs.Coherent.{Coherent, CopiesAgree, IsTransferTo, Transfer
 use Rattle.sj_core.specs.Laws.{IsSound}
 use Rattle.sj_core.specs.Machine.{Invalid, Replica, State, array_of, cell_state, is_claimed_by, is_coming_by, is_entry, is_leaving, is_leaving_by, is_valid, progress, replica, transfer, with_replica, with_replica_in, writes}
 use Rattle.sj_core.specs.Needs.{node_of}
+use Rattle.sj_core.specs.Operands.{found}
 use Rattle.sj_core.specs.Program.{same_cell}
 use Rattle.sj_core.specs.Step.{Drops, is_read, places_of, reads, same_place}
 use Rattle.sj_core.specs.declared.progress.Transfer.{Transfer}
@@ -23,10 +24,10 @@ use Rattle.sj_core.proofs.Advancing.{claimed_by-is}
 use Rattle.sj_core.proofs.CellLists.{same_cell-from}
 use Rattle.sj_core.proofs.Forms.{HasBlocks-kept}
 use Rattle.sj_core.proofs.Placing.{disks-kept, nodes-kept, owned-fails, replica-cases, same_place-refl, writes-same}
+use Rattle.sj_core.proofs.Readiness.{list_any-some}
 use Rattle.sj_core.proofs.Reading.{list_any-worker, transfer-inside}
 use Rattle.sj_core.proofs.Replicas.{coming_by-is, leaving-by_some, leaving-is_none}
 use Rattle.sj_core.proofs.Shifting.{Shifts, Shifts-coherent}
-use Rattle.sj_core.proofs.Values.{list_any-some}
 
 module _ (p : Program) (m : Machine) (s : State) (h : IsSound p m s) (c : Cell) (n : Node) (s' : State) (drop : Drops m s c n s') where
   abbrev after : State

@@ -1,59 +1,46 @@
 -- What a claimed or running task finds on its worker's node: in a cell whose old value it reads, the cell's content.
-use Rattle.std.proofs.Common.{Bool, List, None, Option, Some, ap, arith, cond, false, get_or, inl, inr, length, not, refl, subst, sym, true, ℕ, ◌&&◌, ◌<◌, ◌∙◌, ◌≡◌, ◌⊎◌}
-use Rattle.std.proofs.lemmas.Bool.{and_parts, cases_eq, cases_lt, false_from_ne_true, false≢true}
+use Rattle.std.proofs.Common.{Bool, None, Option, Some, ap, arith, cond, false, get_or, inl, inr, length, not, refl, sym, true, ℕ, ◌&&◌, ◌<◌, ◌∙◌, ◌≡◌, ◌⊎◌}
+use Rattle.std.proofs.lemmas.Bool.{and_parts, false_from_ne_true, false≢true, not-false}
 use Rattle.std.proofs.lemmas.Bool.Decides.{Decides-eqb}
-use Rattle.std.proofs.lemmas.List.{get_or_default}
 use Rattle.std.proofs.lemmas.List.Elements.{All-contains}
 use Rattle.std.proofs.lemmas.List.Folds.{Any-from_list_any, list_any_at}
 use Rattle.std.proofs.lemmas.List.FromFn.{get_or-map-range_with_len, length-map-range_with_len}
 use Rattle.std.proofs.lemmas.List.Sums.{get_or-le-sum_by}
-use Rattle.std.specs.List.{AllPairs, Contains}
+use Rattle.std.specs.List.{Contains}
 use Rattle.std.specs.Prelude.{IfSome, IsTrue, count_by, if◌then◌else◌, is_some, unwrap_or}
 use Rattle.sj_base.specs.Array.{Array, zeros}
+use Rattle.sj_base.specs.Mode.{is_redux, is_scratch, is_written, reads_value, starts_as_zeros}
 use Rattle.sj_base.specs.declared.ids.Cell.{Cell}
 use Rattle.sj_base.specs.declared.ids.Place.TheVariants.{Node as AtNode}
 use Rattle.sj_base.specs.declared.ids.Task.{Task}
 use Rattle.sj_base.specs.declared.ids.Worker.{Worker}
 use Rattle.sj_base.specs.declared.mode.Access.{Access}
 use Rattle.sj_base.specs.declared.mode.Mode.{Mode}
-use Rattle.sj_base.specs.declared.mode.Mode.TheVariants.{Commute, R, RW, Redux, Scratch, W}
+use Rattle.sj_base.specs.declared.mode.Mode.TheVariants.{R}
 use Rattle.sj_base.specs.declared.program.Machine.{Machine}
 use Rattle.sj_base.specs.declared.program.Program.{Program}
 use Rattle.sj_deps.specs.Conflict.{HasDependencies}
 use Rattle.sj_core.specs.Coherent.{Coherent, content, has_written, is_being_written}
+use Rattle.sj_core.specs.Fold.{given}
 use Rattle.sj_core.specs.Laws.{HasPlainModes}
 use Rattle.sj_core.specs.Machine.{Replica, State, array_of, done_by, is_running_on, is_task_of, is_valid, progress, replica, worker_of, writes}
 use Rattle.sj_core.specs.Needs.{node_of}
-use Rattle.sj_core.specs.Operands.{cells_of, fresh_cells, worked_on, written_cells}
+use Rattle.sj_core.specs.Operands.{cells_of, found, fresh_cells, worked_on, written_cells}
 use Rattle.sj_core.specs.Program.{data_operands, dims_of, has_cell, no_task, same_cell, task_of, tasks_of}
-use Rattle.sj_base.specs.Mode.{is_redux, is_scratch, is_written, starts_as_zeros, reads_value}
 use Rattle.sj_core.specs.Proper.{HasValueBefore, Proper, gives_value}
-use Rattle.sj_core.specs.Step.{EarlierAreDone, after, array_at, reads}
+use Rattle.sj_core.specs.Step.{EarlierAreDone, array_at, reads}
 use Rattle.sj_core.specs.declared.progress.Progress.{Progress}
 use Rattle.sj_core.specs.declared.progress.Progress.TheVariants.{Running}
 use Rattle.sj_core.proofs.Advancing.{active-begun, running_on-is, same_task, task_of-active, task_of-worker}
-use Rattle.sj_core.proofs.Folding.{Contains-from_filter, read-among_cells, reads_isn't_scratch}
+use Rattle.sj_core.proofs.Folding.{read-among_cells}
+use Rattle.sj_core.proofs.Modes.{reads_isn't_scratch, then}
 use Rattle.sj_core.proofs.PlainModes.{conflicts, operand-inside, worked_on-plain}
-use Rattle.sj_core.proofs.Readiness.{Contains-filter}
+use Rattle.sj_core.proofs.Readiness.{AllPairs-two, Contains-filter, Contains-from_filter}
 use Rattle.sj_core.proofs.Replicas.{same_worker-refl}
 use Rattle.sj_core.proofs.Separation.{separated}
 use Rattle.sj_core.proofs.Sharing.{one, operand-has_cell, operand_for}
 
 -- ---- lists
-
--- of two elements of a list one stands before the other, unless they are one
-AllPairs-two : {X : Type 0} (P : X → X → Type 0) (xs : List X) (x y : X) → AllPairs P xs → Contains xs x → Contains xs y → (x ≡ y) ⊎ (P x y ⊎ P y x)
-AllPairs-two {X} P xs x y pairs (i, l, e) (j, k, f) =
-    elim (cases_lt i j) [
-      | inl before ↦ inr (inl (ordered i j x y before k e f))
-      | inr after ↦ elim (cases_eq i j) [
-        | inl same ↦ inl (sym e ∙ get_or_default xs i x y l ∙ ap (λ n. get_or xs n y) same ∙ f)
-        | inr differ ↦ inr (inr (ordered j i y x (omega (arith, differ)) l f e))
-      ]
-    ]
-  where
-    ordered : (a b : ℕ) (u v : X) → a < b → b < length xs → get_or xs a u ≡ u → get_or xs b v ≡ v → P u v
-    ordered a b u v before inside eu ev = subst (λ z. P z v) eu (subst (λ z. P (get_or xs a u) z) (get_or_default xs b u v inside ∙ ev) (pairs a b u before inside))
 
 -- a task of the program that passes is counted
 pub task-counted : (p : Program) (test : Task → Bool) (u : Task) → u.0 < length p.tasks → test u ≡ true → 0 < count_by test (tasks_of p)
@@ -63,24 +50,6 @@ task-counted p test u inside passes =
     let part = get_or-le-sum_by (λ (k : Task). cond {A = ℕ} (test k) 1 0) (tasks_of p) u.0 u (omega (arith, length-map-range_with_len number 0 (length p.tasks))) in
     let counts : cond {A = ℕ} (test (get_or (tasks_of p) u.0 u)) 1 0 ≡ 1 = ap (λ b. cond {A = ℕ} b 1 0) (ap test at_u ∙ passes) in
     omega arith
-
--- ---- modes
-
-pub value-read : (x : Mode) → starts_as_zeros x ≡ false → not (is_scratch x) ≡ true → reads_value x ≡ true
-value-read R h k = refl
-value-read W h k = sym h
-value-read RW h k = refl
-value-read Scratch h k = k
-value-read Redux h k = refl
-value-read Commute h k = refl
-
-pub read-value : (x : Mode) → reads_value x ≡ true → starts_as_zeros x ≡ false
-read-value R h = refl
-read-value W h = sym h
-read-value RW h = refl
-read-value Scratch h = sym h
-read-value Redux h = refl
-read-value Commute h = refl
 
 -- ---- running tasks
 
@@ -172,7 +141,7 @@ module _ (p : Program) (m : Machine) (proper : Proper p) (deps : HasDependencies
     -- a cell whose old value a begun task reads has been written
     pub read-written : (t : Task) (a : Access) → EarlierAreDone p s t → Contains (task_of p t).accesses a → starts_as_zeros a.mode ≡ false → 0 < writes s a.cell
     read-written t a earlier h reads =
-        let value = All-contains (λ (b : Access). IsTrue (reads_value b.mode) → HasValueBefore p t b.cell) (task_of p t).accesses a (proper.values.cells t) h (value-read a.mode reads (reads_isn't_scratch a.mode reads)) in
+        let value = All-contains (λ (b : Access). IsTrue (reads_value b.mode) → HasValueBefore p t b.cell) (task_of p t).accesses a (proper.values.cells t) h (not-false (reads_value a.mode) reads) in
         let u = value.0 in
         let v = done_by s u in
         let writes_it = gives-writes u v a.cell value.2 in

@@ -6,12 +6,11 @@ use Rattle.std.proofs.lemmas.List.Folds.{find-append}
 use Rattle.std.specs.List.{Contains, filter, find, zip}
 use Rattle.std.specs.Option.{option_or}
 use Rattle.sj_base.specs.Array.{Array, zeros}
+use Rattle.sj_base.specs.Mode.{is_scratch, is_written, starts_as_zeros}
 use Rattle.sj_base.specs.declared.ids.Cell.{Cell}
 use Rattle.sj_base.specs.declared.ids.Task.{Task}
 use Rattle.sj_base.specs.declared.ids.Worker.{Worker}
 use Rattle.sj_base.specs.declared.mode.Access.{Access}
-use Rattle.sj_base.specs.declared.mode.Mode.{Mode}
-use Rattle.sj_base.specs.declared.mode.Mode.TheVariants.{Commute, R, RW, Redux, Scratch, W}
 use Rattle.sj_base.specs.declared.program.Program.{Program}
 use Rattle.sj_codelet.specs.Frame.{arrays}
 use Rattle.sj_codelet.specs.Kernel.{out, same}
@@ -19,9 +18,10 @@ use Rattle.sj_core.specs.Fold.{Contents, after_chosen, after_task, held_in}
 use Rattle.sj_core.specs.Machine.{writes}
 use Rattle.sj_core.specs.Operands.{cells_of, found, results, worked_on, written_cells}
 use Rattle.sj_core.specs.Program.{dims_of, has_cell, same_cell, task_of}
-use Rattle.sj_base.specs.Mode.{is_scratch, is_written, starts_as_zeros}
 use Rattle.sj_core.specs.Step.{reads}
 use Rattle.sj_core.proofs.Advancing.{same_task}
+use Rattle.sj_core.proofs.Modes.{reads_isn't_scratch}
+use Rattle.sj_core.proofs.Readiness.{Contains-from_filter}
 use Rattle.sj_core.proofs.Sharing.{operand-has_cell}
 use Rattle.sj_core.proofs.TaskCells.{written-among_cells}
 
@@ -33,19 +33,6 @@ number n = record { 0 = n }
 pub map-same : {X Y : Type 0} (f g : X → Y) (xs : List X) → ((x : X) → Contains xs x → f x ≡ g x) → map f xs ≡ map g xs
 map-same f g [] same = refl
 map-same f g (x ∷ xs) same = ap (λ y. y ∷ map f xs) (same x (0, omega arith, refl)) ∙ ap (λ ys. g x ∷ ys) (map-same f g xs (λ z h. same z (suc h.0, omega (arith, h.1), h.2)))
-
--- what a filter keeps is in the list
-pub Contains-from_filter : {X : Type 0} (f : X → Bool) (xs : List X) (x : X) → Contains (filter f xs) x → Contains xs x
-Contains-from_filter f [] x h = h
-Contains-from_filter {X} f (y ∷ xs) x h = by_first (f y) (Contains-from_filter f xs x) h
-  where
-    later : Contains xs x → Contains (y ∷ xs) x
-    later k = (suc k.0, omega (arith, k.1), k.2)
-
-    by_first : (b : Bool) → (Contains (filter f xs) x → Contains xs x) → Contains (cond b (y ∷ filter f xs) (filter f xs)) x → Contains (y ∷ xs) x
-    by_first true rest (zero, l, e) = (0, omega arith, e)
-    by_first true rest (suc k, l, e) = later (rest (k, omega arith, e))
-    by_first false rest k = later (rest k)
 
 -- ---- what was put into a cell last
 
@@ -95,14 +82,6 @@ results-same p t v w held held' same = ap (out (task_of p t).codelet (task_of p 
     by_start : (a : Access) (b : Bool) → (b ≡ false → held (worked_on p v a) ≡ held' (worked_on p w a)) → cond b (zeros (dims_of p a.cell)) (held (worked_on p v a)) ≡ cond b (zeros (dims_of p a.cell)) (held' (worked_on p w a))
     by_start a true e = refl
     by_start a false e = e refl
-
-pub reads_isn't_scratch : (x : Mode) → starts_as_zeros x ≡ false → not (is_scratch x) ≡ true
-reads_isn't_scratch R h = refl
-reads_isn't_scratch W h = refl
-reads_isn't_scratch RW h = refl
-reads_isn't_scratch Scratch h = sym h
-reads_isn't_scratch Redux h = refl
-reads_isn't_scratch Commute h = refl
 
 -- a cell whose old value a task reads is one of its cells
 pub read-among_cells : (p : Program) (t : Task) (w : Worker) (a : Access) → Contains (task_of p t).accesses a → starts_as_zeros a.mode ≡ false → has_cell (cells_of p t w) (worked_on p w a) ≡ true

@@ -22,6 +22,7 @@ pub mod Finding
 pub mod Folding
 pub mod Forms
 pub mod Jobs
+pub mod Modes
 pub mod MovingIn
 pub mod MovingOut
 pub mod Once

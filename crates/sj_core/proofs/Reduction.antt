@@ -1,33 +1,36 @@
 -- A job with a reduction on two workers: a sum to a scalar of which each has a partial copy. While the phase is open, another
 -- task has the scalar as a scratch buffer, which is no access. The program is proper.
-use Rattle.std.proofs.Common.{◌≡◌, ℕ, zero, suc, ◌+◌, ◌<◌, ◌≤◌, ◌⊎◌, Bool, true, false, not, ◌&&◌, ◌||◌, Option, Some, None, List, [], ◌∷◌, length, get_or, map, refl, sym, ap, ◌∙◌, subst, inl, inr, arith, lit<, lit≤}
-use Rattle.std.specs.Prelude.{pos, ◌^◌, IsTrue, All, AllPairs, Contains, count_by, is_some, nat_eq, nat_le, nat_lt}
-use Rattle.std.specs.List.{list_all, list_any, range_with_len}
-use Rattle.std.proofs.lemmas.Bool.{cases_lt, false≢true, eqb-true, ltb-true, le-leb, and_parts, and_from}
+use Rattle.std.proofs.Common.{Bool, List, None, Option, Some, [], ap, arith, false, get_or, inl, inr, length, lit<, lit≤, map, not, refl, subst, suc, sym, true, zero, ℕ, ◌&&◌, ◌+◌, ◌<◌, ◌||◌, ◌∙◌, ◌∷◌, ◌≡◌, ◌≤◌, ◌⊎◌}
+use Rattle.std.proofs.lemmas.Bool.{and_from, and_parts, cases_lt, eqb-true, false≢true, le-leb, ltb-true}
 use Rattle.std.proofs.lemmas.List.{get_or_past}
-use Rattle.std.proofs.lemmas.List.Elements.{All-from_recursion, All-from_get_or, All-nil, All-contains, Contains-get_or, Contains-append_cases}
-use Rattle.std.proofs.lemmas.List.FromFn.{length-range_with_len, get_or-range_with_len}
+use Rattle.std.proofs.lemmas.List.Elements.{All-contains, All-from_get_or, All-from_recursion, All-nil, Contains-append_cases, Contains-get_or}
+use Rattle.std.proofs.lemmas.List.FromFn.{get_or-range_with_len, length-range_with_len}
 use Rattle.std.proofs.lemmas.List.Kept.{AllPairs-cons}
 use Rattle.std.proofs.lemmas.List.Sums.{AllPass-from_list_all}
+use Rattle.std.specs.List.{list_all, list_any, range_with_len}
+use Rattle.std.specs.Prelude.{All, AllPairs, Contains, IsTrue, count_by, is_some, nat_eq, nat_le, nat_lt, pos, ◌^◌}
+use Rattle.sj_base.specs.Array.{area}
+use Rattle.sj_base.specs.Mode.{is_redux, reads_value}
 use Rattle.sj_base.specs.declared.ids.Cell.{Cell}
 use Rattle.sj_base.specs.declared.ids.Task.{Task}
 use Rattle.sj_base.specs.declared.ids.Worker.{Worker}
-use Rattle.sj_base.specs.declared.mode.Mode.{Mode}
-use Rattle.sj_base.specs.declared.mode.Mode.TheVariants.{R, W, RW, Scratch, Redux, Commute}
 use Rattle.sj_base.specs.declared.mode.Access.{Access}
+use Rattle.sj_base.specs.declared.mode.Mode.{Mode}
+use Rattle.sj_base.specs.declared.mode.Mode.TheVariants.{Commute, R, RW, Redux, Scratch, W}
 use Rattle.sj_base.specs.declared.mode.Reduction.TheVariants.{Plus}
 use Rattle.sj_base.specs.declared.program.Lowered.{Lowered}
 use Rattle.sj_base.specs.declared.program.Program.{Program}
-use Rattle.sj_base.specs.Array.{area}
+use Rattle.sj_codelet.specs.Kernel.{fits, kernel_of, operand, same}
 use Rattle.sj_codelet.specs.declared.kernel.Kernel.{Kernel}
 use Rattle.sj_codelet.specs.declared.kernel.Kernel.TheVariants.{Add, Deliver, GemmThree, InitPlus, Load, Sum}
-use Rattle.sj_codelet.specs.Kernel.{fits, kernel_of}
-use Rattle.sj_core.specs.Operands.{copy_of}
-use Rattle.sj_core.specs.Program.{same_cell, no_task, cell_info, dims_of, task_of, data_operands}
-use Rattle.sj_base.specs.Mode.{is_redux, reads_value}
-use Rattle.sj_core.specs.Proper.{Proper, NamesCells, IsCopyOf, Fits, Own, Contributing, own_modes, IsUnaliased, ReadsValues, gives_value, HasValueBefore, Phase, IsPhase, IsInit, IsCombine, IsContribution, IsMember, Touches, HasPhases, HasDeliveries, IsWithinLimits, task_number}
-use Rattle.sj_core.proofs.Jobs.{a_task, access, cell, columns, worker}
-use Rattle.sj_core.proofs.Values.{list_any-some}
+use Rattle.sj_core.specs.Needs.{place}
+use Rattle.sj_core.specs.Operands.{copy_of, found}
+use Rattle.sj_core.specs.Program.{cell_info, data_operands, dims_of, no_task, same_cell, task_of}
+use Rattle.sj_core.specs.Proper.{Contributing, Fits, HasDeliveries, HasPhases, HasValueBefore, IsCombine, IsContribution, IsCopyOf, IsInit, IsMember, IsPhase, IsUnaliased, IsWithinLimits, NamesCells, Own, Phase, Proper, ReadsValues, Touches, gives_value, own_modes, task_number}
+use Rattle.sj_core.specs.Step.{reads}
+use Rattle.sj_core.proofs.Jobs.{a_task, access, cell, columns, task, worker}
+use Rattle.sj_core.proofs.Modes.{then}
+use Rattle.sj_core.proofs.Readiness.{list_any-some}
 
 -- x, d and s are loaded; the copies of s are filled, x is added to s by a contribution, and the copies are combined;
 -- d gets x times x times x in between, with s as scratch; s is printed
@@ -75,10 +78,6 @@ accesses l = l.accesses
 
 pass : (test : ℕ → Access → Bool) → list_all (λ n. list_all (test n) (accesses (task_number job n))) (range_with_len 0 10) ≡ true → (n : ℕ) (a : Access) → Contains (task_number job n).accesses a → test n a ≡ true
 pass test all n a h = operands-pass accesses refl test all n a h
-
-then : (a b : Bool) → (not a || b) ≡ true → a ≡ true → b ≡ true
-then true b h e = h
-then false b h e = absurd (false≢true e)
 
 -- s or a copy of it
 abbrev touches_s : ℕ → Bool
