@@ -4,19 +4,11 @@ use Rattle.std.proofs.lemmas.Bool.{cases_eq, cases_lt, false≢true, true≢fals
 use Rattle.std.proofs.lemmas.List.{get_or_past}
 use Rattle.std.proofs.lemmas.List.Sums.{AllPass-from_list_all}
 use Rattle.std.specs.Prelude.{IsTrue}
-use Rattle.sj_base.specs.declared.ids.Task.{Task}
-use Rattle.sj_base.specs.declared.ids.Worker.{Worker}
-use Rattle.sj_base.specs.declared.program.Machine.{Machine}
-use Rattle.sj_base.specs.declared.program.Program.{Program}
+use Rattle.sj_core.proofs.Words.{Claimed, Done, Machine, Program, Progress, Running, State, Task, Waiting, Worker, cells_of, done_in, has_cell, is_claimed_by, is_done, is_idle, is_running_on, is_task_of, progress, worker_of}
 use Rattle.sj_codelet.specs.Kernel.{same}
 use Rattle.sj_deps.specs.Conflict.{Conflict}
 use Rattle.sj_core.specs.Coherent.{HasRows, OrderIsKept, SharesCommuting, is_active, is_begun}
-use Rattle.sj_core.specs.Machine.{State, done_in, is_claimed_by, is_done, is_idle, is_running_on, is_task_of, progress, worker_of}
-use Rattle.sj_core.specs.Operands.{cells_of}
-use Rattle.sj_core.specs.Program.{has_cell}
 use Rattle.sj_core.specs.Step.{Claims, EarlierAreDone, Ends, Runs}
-use Rattle.sj_core.specs.declared.progress.Progress.{Progress}
-use Rattle.sj_core.specs.declared.progress.Progress.TheVariants.{Claimed, Done, Running, Waiting}
 use Rattle.sj_core.proofs.Readiness.{Ready-earlier}
 use Rattle.sj_core.proofs.Reading.{progress-inside, progress-other, progress-same}
 use Rattle.sj_core.proofs.Replicas.{same_worker-is, same_worker-refl}

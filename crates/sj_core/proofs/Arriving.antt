@@ -3,24 +3,11 @@ use Rattle.std.proofs.Common.{Bool, None, Option, Some, ap, arith, false, inl, i
 use Rattle.std.proofs.lemmas.Bool.{false_from_ne_true, false≢true, true≢false}
 use Rattle.std.proofs.lemmas.List.{length-set}
 use Rattle.std.specs.Prelude.{IfSome}
-use Rattle.sj_base.specs.Array.{Array, zeros}
-use Rattle.sj_base.specs.declared.ids.Cell.{Cell}
-use Rattle.sj_base.specs.declared.ids.DiskNo.{DiskNo}
-use Rattle.sj_base.specs.declared.ids.Node.{Node}
-use Rattle.sj_base.specs.declared.ids.Place.{Place}
-use Rattle.sj_base.specs.declared.ids.Place.TheVariants.{Disk as OnDisk, Node as AtNode}
-use Rattle.sj_base.specs.declared.ids.Task.{Task}
-use Rattle.sj_base.specs.declared.ids.Worker.{Worker}
-use Rattle.sj_base.specs.declared.program.Machine.{Machine}
-use Rattle.sj_base.specs.declared.program.Program.{Program}
+use Rattle.sj_core.proofs.Words.{Array, AtNode, Cell, Coming, DiskNo, Invalid, Leaving, Machine, Node, OnDisk, Place, Program, Replica, State, Task, Transfer, Valid, Worker, array_of, cell_state, dims_of, is_claimed_by, is_coming_by, is_entry, is_leaving_by, is_valid, moves, node_of, progress, replica, same_cell, transfer, with_replica, with_replica_in, with_transfer, writes, zeros}
 use Rattle.sj_codelet.specs.Kernel.{same}
 use Rattle.sj_core.specs.Coherent.{Coherent, CopiesAgree, HasBlocks, IsOwnedBy, IsTransferTo, TransfersAreSound, content}
 use Rattle.sj_core.specs.Laws.{IsSound}
-use Rattle.sj_core.specs.Machine.{Coming, Invalid, Leaving, Replica, State, Valid, array_of, cell_state, is_claimed_by, is_coming_by, is_entry, is_leaving_by, is_valid, moves, progress, replica, transfer, with_replica, with_replica_in, with_transfer, writes}
-use Rattle.sj_core.specs.Needs.{node_of}
-use Rattle.sj_core.specs.Program.{dims_of, same_cell}
 use Rattle.sj_core.specs.Step.{EndsMove, a_transfer, array_at, disk_of}
-use Rattle.sj_core.specs.declared.progress.Transfer.{Transfer}
 use Rattle.sj_core.proofs.Advancing.{claimed_by-is}
 use Rattle.sj_core.proofs.CellLists.{same_cell-refl}
 use Rattle.sj_core.proofs.Finding.{array-told}

@@ -6,14 +6,9 @@ use Rattle.std.specs.Prelude.{IsTrue, All, sum_by}
 use Rattle.std.proofs.lemmas.Bool.{false≢true}
 use Rattle.std.proofs.lemmas.List.{length-replicate}
 use Rattle.std.proofs.lemmas.List.Sums.{sum_by-set, sum_by-le}
-use Rattle.sj_base.specs.declared.ids.Task.{Task}
+use Rattle.sj_core.proofs.Words.{Claimed, Done, Machine, Program, Progress, Running, State, Task, Waiting, opening, progress}
 use Rattle.sj_base.specs.declared.trace.Event.{Event}
 use Rattle.sj_base.specs.declared.trace.Event.TheVariants.{Claim, Move, Moved, Drop, Run, End}
-use Rattle.sj_base.specs.declared.program.Program.{Program}
-use Rattle.sj_base.specs.declared.program.Machine.{Machine}
-use Rattle.sj_core.specs.declared.progress.Progress.{Progress}
-use Rattle.sj_core.specs.declared.progress.Progress.TheVariants.{Waiting, Claimed, Running, Done}
-use Rattle.sj_core.specs.Machine.{State, progress, opening}
 use Rattle.sj_core.specs.Step.{Step}
 use Rattle.sj_core.specs.Legal.{Leads, Legal, IsLegal}
 use Rattle.sj_core.specs.Bound.{HasAtMostThreePerTask, is_of_task}

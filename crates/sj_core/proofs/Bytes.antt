@@ -5,21 +5,11 @@ use Rattle.std.proofs.lemmas.Bool.Decides.{Decides-eqb}
 use Rattle.std.proofs.lemmas.List.Sums.{sum_by-le-sum_by}
 use Rattle.std.specs.List.{filter}
 use Rattle.std.specs.Prelude.{count_by, nat_eq, nat_le, nat_lt, sum_by}
-use Rattle.sj_base.specs.declared.ids.Cell.{Cell}
-use Rattle.sj_base.specs.declared.ids.Node.{Node}
-use Rattle.sj_base.specs.declared.ids.Place.TheVariants.{Node as AtNode}
-use Rattle.sj_base.specs.declared.ids.Worker.{Worker}
-use Rattle.sj_base.specs.declared.program.Machine.{Machine}
-use Rattle.sj_base.specs.declared.program.Program.{Program}
+use Rattle.sj_core.proofs.Words.{AtNode, Cell, Machine, Node, Program, State, Worker, cells_of_program, has_cell, is_coming_by, is_leaving_by, node_of, order, replica, same_worker, scratch, tile_bytes, used, workers_at, workers_of}
 use Rattle.sj_codelet.specs.Kernel.{same}
 use Rattle.sj_core.specs.Coherent.{IsStateOf, entries_beside, leaving_by, others_at, used_while_leaving}
-use Rattle.sj_core.specs.Machine.{State, is_coming_by, is_leaving_by, order, replica, same_worker, scratch, used, workers_at}
-use Rattle.sj_core.specs.Needs.{node_of, tile_bytes, workers_of}
-use Rattle.sj_core.specs.Program.{cells_of_program, has_cell}
-use Rattle.sj_core.specs.Step.{after}
 use Rattle.sj_core.proofs.CellLists.{has_cell-filter_is, share, sum-once, times, times-filter, times-program}
 use Rattle.sj_core.proofs.Reading.{entry-inside}
-use Rattle.sj_core.proofs.Sharing.{one}
 use Rattle.sj_core.proofs.Sums.{count-numbered, filter-sum-le, sum-agree, sum-filter, sum-filter-le, tally}
 use Rattle.sj_core.proofs.TaskCells.{filter-filter}
 

@@ -3,26 +3,11 @@
 use Rattle.std.proofs.Common.{Bool, List, Some, [], arith, false, inl, inr, sym, true, ◌||◌, ◌∙◌, ◌≡◌, ◌≢◌, ◌≤◌, ◌⊎◌, ap, subst}
 use Rattle.std.proofs.lemmas.Bool.{false_from_ne_true, false≢true}
 use Rattle.std.specs.Prelude.{if◌then◌else◌}
-use Rattle.sj_base.specs.Array.{Array, zeros}
-use Rattle.sj_base.specs.declared.ids.Cell.{Cell}
-use Rattle.sj_base.specs.declared.ids.Node.{Node}
-use Rattle.sj_base.specs.declared.ids.Place.{Place}
-use Rattle.sj_base.specs.declared.ids.Place.TheVariants.{Disk as OnDisk, Node as AtNode}
-use Rattle.sj_base.specs.declared.ids.Task.{Task}
-use Rattle.sj_base.specs.declared.ids.Worker.{Worker}
-use Rattle.sj_base.specs.declared.program.Machine.{Machine}
-use Rattle.sj_base.specs.declared.program.Program.{Program}
+use Rattle.sj_core.proofs.Words.{Array, AtNode, Cell, Claimed, Machine, Node, OnDisk, Place, Program, Progress, Running, State, Task, Transfer, Valid, Worker, cells_of, dims_of, fresh_cells, has_cell, is_claimed_by, is_coming_by, is_entry, is_leaving, is_leaving_by, is_task_of, is_valid, moves, node_of, order, pins, progress, replica, scratch, transfer, victims_of, written_cells, zeros}
 use Rattle.sj_codelet.specs.Kernel.{same}
 use Rattle.sj_core.specs.Coherent.{Coherent, CopiesAgree, IsOwnedBy, IsStateOf, IsTransferTo, NodesSuffice, OrderIsKept, PinsHold, TasksHaveCells, TransfersAreSound, WorkersAreSound, WritersOwn, WritesAreCounted, content, written_content}
 use Rattle.sj_core.specs.Laws.{IsSound}
-use Rattle.sj_core.specs.Machine.{State, Valid, is_claimed_by, is_coming_by, is_entry, is_leaving, is_leaving_by, is_task_of, is_valid, moves, pins, progress, replica, scratch, transfer, victims_of, order}
-use Rattle.sj_core.specs.Needs.{node_of}
-use Rattle.sj_core.specs.Operands.{cells_of, fresh_cells, written_cells}
-use Rattle.sj_core.specs.Program.{dims_of, has_cell}
 use Rattle.sj_core.specs.Step.{leave}
-use Rattle.sj_core.specs.declared.progress.Progress.{Progress}
-use Rattle.sj_core.specs.declared.progress.Progress.TheVariants.{Claimed, Running}
-use Rattle.sj_core.specs.declared.progress.Transfer.{Transfer}
 use Rattle.sj_core.proofs.Advancing.{Advances, claimed_by-is, claimed_by-task_of, same_task, task_of-worker}
 use Rattle.sj_core.proofs.Bytes.{fewer-entries, fewer-leaving}
 use Rattle.sj_core.proofs.Replicas.{leaving-by_some, leaving_by-leaves, same_worker-refl}

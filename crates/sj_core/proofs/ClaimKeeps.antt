@@ -4,27 +4,13 @@ use Rattle.std.proofs.lemmas.Bool.{and_parts, false_from_ne_true, false≢true, 
 use Rattle.std.proofs.lemmas.List.{get_or-set_other, get_or-set_same, length-set}
 use Rattle.std.specs.List.{filter}
 use Rattle.std.specs.Prelude.{All, fold, if◌then◌else◌, is_some, nat_eq, sum_by}
-use Rattle.sj_base.specs.Array.{Array, zeros}
-use Rattle.sj_base.specs.declared.ids.Cell.{Cell}
-use Rattle.sj_base.specs.declared.ids.Node.{Node}
-use Rattle.sj_base.specs.declared.ids.Place.{Place}
-use Rattle.sj_base.specs.declared.ids.Place.TheVariants.{Disk as OnDisk, Node as AtNode}
-use Rattle.sj_base.specs.declared.ids.Task.{Task}
-use Rattle.sj_base.specs.declared.ids.Worker.{Worker}
-use Rattle.sj_base.specs.declared.program.Machine.{Machine}
-use Rattle.sj_base.specs.declared.program.Program.{Program}
+use Rattle.sj_core.proofs.Words.{Array, AtNode, Cell, CellState, Claimed, Coming, Invalid, Leaving, Machine, Node, OnDisk, Place, Program, Running, State, Task, Transfer, Valid, Waiting, Worker, WorkerState, array_of, cells_of, cells_of_program, dims_of, distinct, free, fresh_cells, has_cell, is_claimed_by, is_coming_by, is_entry, is_leaving, is_leaving_by, is_pinned, is_task_of, is_valid, node_of, node_size, order, pins, progress, replica, replica_in, same_cell, same_worker, scratch, scratch_bytes, task_of, tile_bytes, transfer, used, victims_of, with_replica_in, workers_at, written_cells, zeros}
 use Rattle.sj_codelet.specs.Frame.{written}
 use Rattle.sj_codelet.specs.Kernel.{same}
 use Rattle.sj_core.specs.Coherent.{Coherent, CopiesAgree, HasEntries, HasRows, IsClaimed, IsOwnedBy, IsStateOf, IsTransferTo, NodesSuffice, OrderIsKept, PinsHold, TasksHaveCells, TransfersAreSound, WorkersAreSound, WritersOwn, WritesAreCounted, content, is_being_written, used_while_leaving, written_content}
 use Rattle.sj_core.specs.Laws.{IsSound}
-use Rattle.sj_core.specs.Machine.{CellState, Coming, Invalid, Leaving, State, Valid, WorkerState, array_of, free, is_claimed_by, is_coming_by, is_entry, is_leaving, is_leaving_by, is_pinned, is_task_of, is_valid, order, pins, progress, replica, replica_in, same_worker, scratch, transfer, used, victims_of, with_replica_in, workers_at}
-use Rattle.sj_core.specs.Needs.{node_of, node_size, scratch_bytes, tile_bytes}
-use Rattle.sj_core.specs.Operands.{cells_of, fresh_cells, written_cells}
-use Rattle.sj_core.specs.Program.{cells_of_program, dims_of, distinct, has_cell, same_cell, task_of}
 use Rattle.sj_core.specs.Step.{Claims, claimed_replica, leave, missing, to_come, to_front, without}
 use Rattle.sj_core.specs.Victims.{covers}
-use Rattle.sj_core.specs.declared.progress.Progress.TheVariants.{Claimed, Running, Waiting}
-use Rattle.sj_core.specs.declared.progress.Transfer.{Transfer}
 use Rattle.sj_core.proofs.Advancing.{Advances, claimed_by-task_of, same_task, task_of-worker}
 use Rattle.sj_core.proofs.Bytes.{fewer-entries, fewer-leaving, bytes_where, once-bytes, entry-cell, order-bytes, leaving-bytes, beside-bytes, others-le, worker-once_at}
 use Rattle.sj_core.proofs.CellLists.{has_cell-fronted, has_cell-without, share, times, times-append, times-distinct, times-filter, times-fronted}

@@ -3,17 +3,9 @@ use Rattle.std.proofs.Common.{Bool, ap, arith, false, get_or, length, sym, true,
 use Rattle.std.proofs.lemmas.List.Folds.{list_any_at}
 use Rattle.std.proofs.lemmas.List.FromFn.{get_or-map-range_with_len, length-map-range_with_len}
 use Rattle.std.specs.List.{list_any}
-use Rattle.sj_base.specs.declared.ids.Cell.{Cell}
-use Rattle.sj_base.specs.declared.ids.Task.{Task}
-use Rattle.sj_base.specs.declared.ids.Worker.{Worker}
-use Rattle.sj_base.specs.declared.program.Machine.{Machine}
-use Rattle.sj_base.specs.declared.program.Program.{Program}
+use Rattle.sj_core.proofs.Words.{Cell, Claimed, Machine, Program, Running, State, Task, Waiting, Worker, cells_of, fresh_cells, has_cell, progress, tasks_of, writes}
 use Rattle.sj_core.specs.Coherent.{is_begun, is_being_written}
 use Rattle.sj_core.specs.Laws.{IsSound}
-use Rattle.sj_core.specs.Machine.{State, progress, writes}
-use Rattle.sj_core.specs.Operands.{cells_of, fresh_cells}
-use Rattle.sj_core.specs.Program.{has_cell, tasks_of}
-use Rattle.sj_core.specs.declared.progress.Progress.TheVariants.{Claimed, Running, Waiting}
 use Rattle.sj_core.proofs.Advancing.{claimed-task_of}
 use Rattle.sj_core.proofs.Dependencies.{Proper-dependencies}
 use Rattle.sj_core.proofs.Finding.{not_being_written}

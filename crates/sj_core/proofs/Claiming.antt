@@ -6,29 +6,15 @@ use Rattle.std.proofs.lemmas.List.{get_or_past}
 use Rattle.std.proofs.lemmas.List.Elements.{All-contains}
 use Rattle.std.specs.List.{filter, list_any}
 use Rattle.std.specs.Prelude.{if◌then◌else◌, is_some, nat_eq}
-use Rattle.sj_base.specs.Array.{Array}
-use Rattle.sj_base.specs.declared.ids.Cell.{Cell}
-use Rattle.sj_base.specs.declared.ids.DiskNo.{DiskNo}
-use Rattle.sj_base.specs.declared.ids.Node.{Node}
-use Rattle.sj_base.specs.declared.ids.Place.{Place}
-use Rattle.sj_base.specs.declared.ids.Place.TheVariants.{Disk as OnDisk, Node as AtNode}
-use Rattle.sj_base.specs.declared.ids.Task.{Task}
-use Rattle.sj_base.specs.declared.ids.Worker.{Worker}
+use Rattle.sj_core.proofs.Words.{Array, AtNode, Cell, CellState, Claimed, Coming, DiskNo, Invalid, Leaving, Machine, Node, OnDisk, Place, Program, Replica, State, Task, Valid, Waiting, Worker, WorkerState, array_of, cell_info, cell_state, cells_of, copy_of, distinct, free, has_cell, is_coming_by, is_entry, is_leaving_by, is_pinned, is_task_of, no_task, node_of, order, pins, progress, replica, replica_in, scratch_bytes, task_of, tile_bytes, transfer, with_replica_in, worked_on, worker_state, workers_of, writes}
 use Rattle.sj_base.specs.declared.mode.Access.{Access}
-use Rattle.sj_base.specs.declared.program.Machine.{Machine}
-use Rattle.sj_base.specs.declared.program.Program.{Program}
 use Rattle.sj_codelet.specs.Kernel.{same}
 use Rattle.sj_core.specs.Coherent.{HasRows}
 use Rattle.sj_core.specs.Laws.{IsSound}
-use Rattle.sj_core.specs.Machine.{CellState, Coming, Invalid, Leaving, Replica, State, Valid, WorkerState, array_of, cell_state, free, is_coming_by, is_entry, is_leaving_by, is_pinned, is_task_of, order, pins, progress, replica, replica_in, transfer, with_replica_in, worker_state, writes}
-use Rattle.sj_core.specs.Needs.{node_of, scratch_bytes, tile_bytes, workers_of}
-use Rattle.sj_core.specs.Operands.{cells_of, copy_of, worked_on}
-use Rattle.sj_core.specs.Program.{cell_info, distinct, has_cell, no_task, task_of}
 use Rattle.sj_base.specs.Mode.{is_redux, is_scratch}
 use Rattle.sj_core.specs.Proper.{IsMachineFor}
 use Rattle.sj_core.specs.Step.{Claims, claimed_replica, leave, missing, to_come}
 use Rattle.sj_core.specs.Victims.{covers}
-use Rattle.sj_core.specs.declared.progress.Progress.TheVariants.{Claimed, Waiting}
 use Rattle.sj_core.proofs.Advancing.{Advances, Claims-advances, idle-has_none}
 use Rattle.sj_core.proofs.CellLists.{filter-has_cell, has_cell-append, has_cell-distinct, has_cell-filter}
 use Rattle.sj_core.proofs.Eviction.{shortest_suffix-suffix}

@@ -8,19 +8,13 @@ use Rattle.std.specs.Prelude.{ℤ, count_by, if◌then◌else◌}
 use Rattle.std.specs.List.{filter}
 use Rattle.std.proofs.lemmas.List.{length-map}
 use Rattle.std.proofs.lemmas.List.Sums.{length-filter, sum_by-cons}
-use Rattle.sj_base.specs.declared.ids.Cell.{Cell}
-use Rattle.sj_base.specs.declared.ids.Task.{Task}
-use Rattle.sj_base.specs.declared.ids.Worker.{Worker}
+use Rattle.sj_core.proofs.Words.{Array, Cell, Program, Task, Worker, found, results, task_of, worked_on, written_cells}
 use Rattle.sj_base.specs.declared.mode.Mode.{Mode}
 use Rattle.sj_base.specs.declared.mode.Mode.TheVariants.{W, Redux, Commute}
 use Rattle.sj_base.specs.declared.mode.Access.{Access}
-use Rattle.sj_base.specs.declared.program.Program.{Program}
-use Rattle.sj_base.specs.Array.{Array}
 use Rattle.sj_codelet.specs.declared.kernel.Kernel.{Kernel}
 use Rattle.sj_codelet.specs.Kernel.{new_arrays, formals_of}
-use Rattle.sj_core.specs.Program.{task_of}
 use Rattle.sj_base.specs.Mode.{is_written}
-use Rattle.sj_core.specs.Operands.{worked_on, written_cells, results, found}
 use Rattle.sj_core.specs.Proper.{Fits, MayHaveModes, Own, FirstPaste, Commuting, Contributing, own_modes, modes_writing_by, mode_of}
 
 -- a test counts as many after a map under which it answers the same

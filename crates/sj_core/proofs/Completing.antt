@@ -4,23 +4,14 @@ use Rattle.std.proofs.lemmas.Bool.{false_from_ne_true, false≢true}
 use Rattle.std.proofs.lemmas.List.Folds.{Any-from_list_any}
 use Rattle.std.proofs.lemmas.List.Sums.{AllPass-from_list_all}
 use Rattle.std.specs.Prelude.{IfSome}
-use Rattle.sj_base.specs.Array.{Array}
-use Rattle.sj_base.specs.declared.ids.Cell.{Cell}
-use Rattle.sj_base.specs.declared.ids.Task.{Task}
-use Rattle.sj_base.specs.declared.ids.Worker.{Worker}
+use Rattle.sj_core.proofs.Words.{Array, Cell, Machine, Program, Running, State, Task, Waiting, Worker, array_of, done_by, done_in, has_cell, is_done, progress, replica, same_cell, task_of, writes, written_cells}
 use Rattle.sj_base.specs.declared.mode.Access.{Access}
-use Rattle.sj_base.specs.declared.program.Machine.{Machine}
-use Rattle.sj_base.specs.declared.program.Program.{Program}
 use Rattle.sj_deps.specs.Conflict.{HasDependencies}
 use Rattle.sj_core.specs.Coherent.{Coherent, content, has_written, is_being_written}
 use Rattle.sj_core.specs.Laws.{HasPlainModes, HoldsFinal, final}
 use Rattle.sj_core.specs.Legal.{IsComplete}
-use Rattle.sj_core.specs.Machine.{State, array_of, done_by, done_in, is_done, progress, replica, writes}
-use Rattle.sj_core.specs.Operands.{written_cells}
-use Rattle.sj_core.specs.Program.{has_cell, same_cell, task_of}
 use Rattle.sj_base.specs.Mode.{is_redux, is_written}
 use Rattle.sj_core.specs.Proper.{Proper, gives_value}
-use Rattle.sj_core.specs.declared.progress.Progress.TheVariants.{Running, Waiting}
 use Rattle.sj_core.proofs.Finding.{being_written-by, gives-writes, task-counted}
 use Rattle.sj_core.proofs.PlainModes.{cone, operand-inside}
 use Rattle.sj_core.proofs.Reading.{progress-inside}

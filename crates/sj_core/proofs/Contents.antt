@@ -2,25 +2,13 @@
 use Rattle.std.proofs.Common.{List, ap, arith, false, inl, inr, length, sym, true, ◌<◌, ◌∙◌, ◌≡◌}
 use Rattle.std.proofs.lemmas.Bool.{false≢true}
 use Rattle.std.specs.List.{zip}
-use Rattle.sj_base.specs.Array.{Array, zeros}
-use Rattle.sj_base.specs.declared.ids.Cell.{Cell}
-use Rattle.sj_base.specs.declared.ids.Place.TheVariants.{Node as AtNode}
-use Rattle.sj_base.specs.declared.ids.Task.{Task}
-use Rattle.sj_base.specs.declared.ids.Worker.{Worker}
-use Rattle.sj_base.specs.declared.program.Machine.{Machine}
-use Rattle.sj_base.specs.declared.program.Program.{Program}
+use Rattle.sj_core.proofs.Words.{Array, AtNode, Cell, Machine, Program, Progress, Running, State, Task, Waiting, Worker, dims_of, done_by, done_in, has_cell, is_done, is_task_of, no_task, node_of, progress, results, worker_of, writes, written_cells, zeros}
 use Rattle.sj_deps.specs.Conflict.{Conflict, HasDependencies}
 use Rattle.sj_core.specs.Coherent.{Coherent, OrderIsKept, content}
 use Rattle.sj_core.specs.Fold.{Contents, after_chosen, after_task, held_in}
 use Rattle.sj_core.specs.Laws.{HasPlainModes}
-use Rattle.sj_core.specs.Machine.{State, done_by, done_in, is_done, is_task_of, progress, worker_of, writes}
-use Rattle.sj_core.specs.Needs.{node_of}
-use Rattle.sj_core.specs.Operands.{results, written_cells}
-use Rattle.sj_core.specs.Program.{dims_of, has_cell, no_task}
 use Rattle.sj_core.specs.Proper.{Proper}
 use Rattle.sj_core.specs.Step.{Ends, array_at, result_at}
-use Rattle.sj_core.specs.declared.progress.Progress.{Progress}
-use Rattle.sj_core.specs.declared.progress.Progress.TheVariants.{Running, Waiting}
 use Rattle.sj_core.proofs.Advancing.{Advances, Ends-advances, done-begun, same_task}
 use Rattle.sj_core.proofs.Completeness.{results-complete}
 use Rattle.sj_core.proofs.Finding.{finds-content, read-cell}

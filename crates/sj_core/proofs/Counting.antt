@@ -2,21 +2,10 @@
 use Rattle.std.proofs.Common.{Bool, ap, arith, cond, false, inl, inr, length, map, refl, subst, suc, sym, true, zero, ℕ, ◌&&◌, ◌+◌, ◌<◌, ◌∙◌, ◌≡◌, ◌≢◌, ◌≤◌}
 use Rattle.std.specs.List.{range_with_len}
 use Rattle.std.specs.Prelude.{count_by, fold}
-use Rattle.sj_base.specs.declared.ids.Cell.{Cell}
-use Rattle.sj_base.specs.declared.ids.Place.TheVariants.{Node as AtNode}
-use Rattle.sj_base.specs.declared.ids.Task.{Task}
-use Rattle.sj_base.specs.declared.ids.Worker.{Worker}
-use Rattle.sj_base.specs.declared.program.Machine.{Machine}
-use Rattle.sj_base.specs.declared.program.Program.{Program}
+use Rattle.sj_core.proofs.Words.{AtNode, Cell, CellState, Done, Machine, Program, Progress, Running, State, Task, Waiting, Worker, has_cell, is_done, node_of, progress, tasks_of, worker_of, writes, written_cells}
 use Rattle.sj_codelet.specs.Kernel.{same}
 use Rattle.sj_core.specs.Coherent.{IsStateOf, TasksHaveCells, WritesAreCounted, has_written}
-use Rattle.sj_core.specs.Machine.{CellState, State, is_done, progress, worker_of, writes}
-use Rattle.sj_core.specs.Needs.{node_of}
-use Rattle.sj_core.specs.Operands.{written_cells}
-use Rattle.sj_core.specs.Program.{has_cell, tasks_of}
 use Rattle.sj_core.specs.Step.{Ends, after, result_at, rewritten_at}
-use Rattle.sj_core.specs.declared.progress.Progress.{Progress}
-use Rattle.sj_core.specs.declared.progress.Progress.TheVariants.{Done, Running, Waiting}
 use Rattle.sj_core.proofs.Advancing.{Advances, Ends-advances, same_task}
 use Rattle.sj_core.proofs.Placing.{valid-row}
 use Rattle.sj_core.proofs.Reading.{cells-touched, cells-untouched, progress-inside}

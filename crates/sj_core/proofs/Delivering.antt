@@ -4,22 +4,13 @@ use Rattle.std.proofs.lemmas.Bool.{false_from_ne_true, false≢true}
 use Rattle.std.specs.List.{Contains, filter, slice_index_or}
 use Rattle.std.specs.Prelude.{IsTrue}
 use Rattle.sj_base.specs.Mode.{is_scratch, reads_value}
-use Rattle.sj_base.specs.declared.ids.Cell.{Cell}
-use Rattle.sj_base.specs.declared.ids.Place.TheVariants.{Node as AtNode}
-use Rattle.sj_base.specs.declared.ids.Task.{Task}
-use Rattle.sj_base.specs.declared.ids.Worker.{Worker}
+use Rattle.sj_core.proofs.Words.{AtNode, Cell, Machine, Program, State, Task, Worker, cells_of, done_by, done_in, has_cell, is_done, is_task_of, is_valid, node_of, progress, replica, task_of, worked_on, written_cells}
 use Rattle.sj_base.specs.declared.mode.Access.{Access}
 use Rattle.sj_base.specs.declared.mode.Mode.TheVariants.{R}
-use Rattle.sj_base.specs.declared.program.Machine.{Machine}
-use Rattle.sj_base.specs.declared.program.Program.{Program}
 use Rattle.sj_deps.specs.Conflict.{HasDependencies}
 use Rattle.sj_core.specs.Coherent.{Coherent, content, is_begun}
 use Rattle.sj_core.specs.Fold.{given, held_before}
 use Rattle.sj_core.specs.Laws.{Brought, HasAtHand, HasPlainModes, Works}
-use Rattle.sj_core.specs.Machine.{State, done_by, done_in, is_done, is_task_of, is_valid, progress, replica, writes}
-use Rattle.sj_core.specs.Needs.{node_of}
-use Rattle.sj_core.specs.Operands.{cells_of, worked_on, written_cells}
-use Rattle.sj_core.specs.Program.{has_cell, task_of}
 use Rattle.sj_core.specs.Proper.{Proper, access}
 use Rattle.sj_core.specs.Step.{EarlierAreDone, array_at, reads}
 use Rattle.sj_core.proofs.Advancing.{done-begun}

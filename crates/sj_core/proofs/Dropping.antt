@@ -1,25 +1,13 @@
 -- A drop leaves a coherent state.
-use Rattle.std.proofs.Common.{Bool, None, Option, Some, ap, arith, drop, false, inl, inr, length, not, refl, subst, sym, true, ◌&&◌, ◌<◌, ◌∙◌, ◌≡◌, ◌⊎◌}
+use Rattle.std.proofs.Common.{Bool, None, Option, Some, ap, arith, false, inl, inr, length, not, refl, subst, sym, true, ◌&&◌, ◌<◌, ◌∙◌, ◌≡◌, ◌⊎◌}
 use Rattle.std.proofs.lemmas.Bool.{and_from, and_parts, false_from_ne_true, false≢true}
 use Rattle.std.proofs.lemmas.List.{length-set}
 use Rattle.std.specs.Prelude.{IfSome}
-use Rattle.sj_base.specs.declared.ids.Cell.{Cell}
-use Rattle.sj_base.specs.declared.ids.Node.{Node}
-use Rattle.sj_base.specs.declared.ids.Place.{Place}
-use Rattle.sj_base.specs.declared.ids.Place.TheVariants.{Disk as OnDisk, Node as AtNode}
-use Rattle.sj_base.specs.declared.ids.Task.{Task}
-use Rattle.sj_base.specs.declared.ids.Worker.{Worker}
-use Rattle.sj_base.specs.declared.program.Machine.{Machine}
-use Rattle.sj_base.specs.declared.program.Program.{Program}
+use Rattle.sj_core.proofs.Words.{AtNode, Cell, Invalid, Machine, Node, OnDisk, Place, Program, Replica, State, Task, Transfer, Worker, array_of, cell_state, is_claimed_by, is_coming_by, is_entry, is_leaving, is_leaving_by, is_valid, node_of, progress, replica, same_cell, transfer, with_replica, with_replica_in, writes}
 use Rattle.sj_codelet.specs.Kernel.{same}
 use Rattle.sj_core.specs.Coherent.{Coherent, CopiesAgree, IsTransferTo, TransfersAreSound, content}
 use Rattle.sj_core.specs.Laws.{IsSound}
-use Rattle.sj_core.specs.Machine.{Invalid, Replica, State, array_of, cell_state, is_claimed_by, is_coming_by, is_entry, is_leaving, is_leaving_by, is_valid, progress, replica, transfer, with_replica, with_replica_in, writes}
-use Rattle.sj_core.specs.Needs.{node_of}
-use Rattle.sj_core.specs.Operands.{found}
-use Rattle.sj_core.specs.Program.{same_cell}
 use Rattle.sj_core.specs.Step.{Drops, is_read, places_of, reads, same_place}
-use Rattle.sj_core.specs.declared.progress.Transfer.{Transfer}
 use Rattle.sj_core.proofs.Advancing.{claimed_by-is}
 use Rattle.sj_core.proofs.CellLists.{same_cell-from}
 use Rattle.sj_core.proofs.Forms.{HasBlocks-kept}

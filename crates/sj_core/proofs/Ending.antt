@@ -4,27 +4,12 @@ use Rattle.std.proofs.lemmas.Bool.{cases_Bool, cases_lt, false_from_ne_true, fal
 use Rattle.std.proofs.lemmas.List.{get_or-set_same, get_or_past, length-set}
 use Rattle.std.proofs.lemmas.Option.{MatchOption-from_none}
 use Rattle.std.specs.Prelude.{All, IfSome, if◌then◌else◌}
-use Rattle.sj_base.specs.Array.{Array}
-use Rattle.sj_base.specs.declared.ids.Cell.{Cell}
-use Rattle.sj_base.specs.declared.ids.Node.{Node}
-use Rattle.sj_base.specs.declared.ids.Place.{Place}
-use Rattle.sj_base.specs.declared.ids.Place.TheVariants.{Disk as OnDisk, Node as AtNode}
-use Rattle.sj_base.specs.declared.ids.Task.{Task}
-use Rattle.sj_base.specs.declared.ids.Worker.{Worker}
-use Rattle.sj_base.specs.declared.program.Machine.{Machine}
-use Rattle.sj_base.specs.declared.program.Program.{Program}
+use Rattle.sj_core.proofs.Words.{Array, AtNode, Cell, CellState, Claimed, Done, Invalid, Machine, Node, OnDisk, Place, Program, Progress, Replica, Running, State, Task, Transfer, Valid, Worker, WorkerState, array_of, cell_state, cells_of, has_cell, is_coming_by, is_entry, is_leaving_by, is_task_of, is_valid, moves, node_of, order, pins, progress, replica, replica_in, same_cell, scratch, transfer, victims_of, worker_of, worker_state, writes, written_cells}
 use Rattle.sj_codelet.specs.Frame.{written}
 use Rattle.sj_codelet.specs.Kernel.{same}
 use Rattle.sj_core.specs.Coherent.{Coherent, CopiesAgree, HasRows, IsOwnedBy, IsStateOf, WritersOwn, content, is_begun, is_being_written, written_content}
 use Rattle.sj_core.specs.Laws.{HasPlainModes, IsSound}
-use Rattle.sj_core.specs.Machine.{CellState, Invalid, Replica, State, Valid, WorkerState, array_of, cell_state, is_coming_by, is_entry, is_leaving_by, is_task_of, is_valid, moves, order, pins, progress, replica, replica_in, scratch, transfer, victims_of, worker_of, worker_state, writes}
-use Rattle.sj_core.specs.Needs.{node_of}
-use Rattle.sj_core.specs.Operands.{cells_of, written_cells}
-use Rattle.sj_core.specs.Program.{has_cell, same_cell}
 use Rattle.sj_core.specs.Step.{Ends, result_at, rewritten_at, same_place}
-use Rattle.sj_core.specs.declared.progress.Progress.{Progress}
-use Rattle.sj_core.specs.declared.progress.Progress.TheVariants.{Claimed, Done, Running}
-use Rattle.sj_core.specs.declared.progress.Transfer.{Transfer}
 use Rattle.sj_core.proofs.Advancing.{Advances, Ends-advances, Ends-keeps_order}
 use Rattle.sj_core.proofs.CellLists.{times}
 use Rattle.sj_core.proofs.Changing.{Changes, Changes-coherent, Changes-writers, TransfersAreSound-spared}

@@ -8,32 +8,19 @@ use Rattle.std.proofs.lemmas.List.FromFn.{get_or-map-range_with_len, length-map-
 use Rattle.std.proofs.lemmas.List.Sums.{get_or-le-sum_by}
 use Rattle.std.specs.List.{Contains}
 use Rattle.std.specs.Prelude.{IfSome, IsTrue, count_by, if◌then◌else◌, is_some, unwrap_or}
-use Rattle.sj_base.specs.Array.{Array, zeros}
+use Rattle.sj_core.proofs.Words.{Array, AtNode, Cell, Machine, Program, Progress, Replica, Running, State, Task, Worker, array_of, cells_of, data_operands, dims_of, done_by, fresh_cells, has_cell, is_running_on, is_task_of, is_valid, no_task, node_of, progress, replica, same_cell, task_of, tasks_of, worked_on, worker_of, writes, written_cells, zeros}
 use Rattle.sj_base.specs.Mode.{is_redux, is_scratch, is_written, reads_value, starts_as_zeros}
-use Rattle.sj_base.specs.declared.ids.Cell.{Cell}
-use Rattle.sj_base.specs.declared.ids.Place.TheVariants.{Node as AtNode}
-use Rattle.sj_base.specs.declared.ids.Task.{Task}
-use Rattle.sj_base.specs.declared.ids.Worker.{Worker}
 use Rattle.sj_base.specs.declared.mode.Access.{Access}
 use Rattle.sj_base.specs.declared.mode.Mode.{Mode}
 use Rattle.sj_base.specs.declared.mode.Mode.TheVariants.{R}
-use Rattle.sj_base.specs.declared.program.Machine.{Machine}
-use Rattle.sj_base.specs.declared.program.Program.{Program}
 use Rattle.sj_deps.specs.Conflict.{HasDependencies}
 use Rattle.sj_core.specs.Coherent.{Coherent, content, has_written, is_being_written}
-use Rattle.sj_core.specs.Fold.{given}
 use Rattle.sj_core.specs.Laws.{HasPlainModes}
-use Rattle.sj_core.specs.Machine.{Replica, State, array_of, done_by, is_running_on, is_task_of, is_valid, progress, replica, worker_of, writes}
-use Rattle.sj_core.specs.Needs.{node_of}
-use Rattle.sj_core.specs.Operands.{cells_of, found, fresh_cells, worked_on, written_cells}
-use Rattle.sj_core.specs.Program.{data_operands, dims_of, has_cell, no_task, same_cell, task_of, tasks_of}
 use Rattle.sj_core.specs.Proper.{HasValueBefore, Proper, gives_value}
 use Rattle.sj_core.specs.Step.{EarlierAreDone, array_at, reads}
-use Rattle.sj_core.specs.declared.progress.Progress.{Progress}
-use Rattle.sj_core.specs.declared.progress.Progress.TheVariants.{Running}
 use Rattle.sj_core.proofs.Advancing.{active-begun, running_on-is, same_task, task_of-active, task_of-worker}
 use Rattle.sj_core.proofs.Folding.{read-among_cells}
-use Rattle.sj_core.proofs.Modes.{reads_isn't_scratch, then}
+use Rattle.sj_core.proofs.Modes.{reads_isn't_scratch}
 use Rattle.sj_core.proofs.PlainModes.{conflicts, operand-inside, worked_on-plain}
 use Rattle.sj_core.proofs.Readiness.{AllPairs-two, Contains-filter, Contains-from_filter}
 use Rattle.sj_core.proofs.Replicas.{same_worker-refl}

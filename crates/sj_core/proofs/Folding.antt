@@ -5,19 +5,12 @@ use Rattle.std.proofs.lemmas.Bool.Decides.{Decides-eqb}
 use Rattle.std.proofs.lemmas.List.Folds.{find-append}
 use Rattle.std.specs.List.{Contains, filter, find, zip}
 use Rattle.std.specs.Option.{option_or}
-use Rattle.sj_base.specs.Array.{Array, zeros}
+use Rattle.sj_core.proofs.Words.{Array, Cell, Program, Task, Worker, cells_of, dims_of, found, has_cell, results, same_cell, task_of, worked_on, writes, written_cells, zeros}
 use Rattle.sj_base.specs.Mode.{is_scratch, is_written, starts_as_zeros}
-use Rattle.sj_base.specs.declared.ids.Cell.{Cell}
-use Rattle.sj_base.specs.declared.ids.Task.{Task}
-use Rattle.sj_base.specs.declared.ids.Worker.{Worker}
 use Rattle.sj_base.specs.declared.mode.Access.{Access}
-use Rattle.sj_base.specs.declared.program.Program.{Program}
 use Rattle.sj_codelet.specs.Frame.{arrays}
 use Rattle.sj_codelet.specs.Kernel.{out, same}
 use Rattle.sj_core.specs.Fold.{Contents, after_chosen, after_task, held_in}
-use Rattle.sj_core.specs.Machine.{writes}
-use Rattle.sj_core.specs.Operands.{cells_of, found, results, worked_on, written_cells}
-use Rattle.sj_core.specs.Program.{dims_of, has_cell, same_cell, task_of}
 use Rattle.sj_core.specs.Step.{reads}
 use Rattle.sj_core.proofs.Advancing.{same_task}
 use Rattle.sj_core.proofs.Modes.{reads_isn't_scratch}

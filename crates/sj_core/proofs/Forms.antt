@@ -3,20 +3,11 @@ use Rattle.std.proofs.Common.{List, ap, arith, get_or, inl, inr, length, not, su
 use Rattle.std.proofs.lemmas.Bool.{false_from_ne_true, false≢true}
 use Rattle.std.proofs.lemmas.Bool.Decides.{Decides-eqb}
 use Rattle.std.specs.Prelude.{All, nat_eq}
-use Rattle.sj_base.specs.declared.ids.Cell.{Cell}
-use Rattle.sj_base.specs.declared.ids.DiskNo.{DiskNo}
-use Rattle.sj_base.specs.declared.ids.Node.{Node}
-use Rattle.sj_base.specs.declared.ids.Place.TheVariants.{Disk as OnDisk, Node as AtNode}
-use Rattle.sj_base.specs.declared.ids.Task.{Task}
-use Rattle.sj_base.specs.declared.ids.Worker.{Worker}
-use Rattle.sj_base.specs.declared.program.Machine.{Machine}
-use Rattle.sj_base.specs.declared.program.Program.{Program}
+use Rattle.sj_core.proofs.Words.{AtNode, Cell, Coming, DiskNo, Invalid, Leaving, Machine, Node, OnDisk, Program, Progress, State, Task, Worker, is_valid, moves, progress, replica, transfer, worker_of}
 use Rattle.sj_codelet.specs.Kernel.{same}
 use Rattle.sj_core.specs.Coherent.{HasBlocks, HasWorkers, is_begun}
-use Rattle.sj_core.specs.Machine.{Coming, Invalid, Leaving, State, is_valid, moves, progress, replica, transfer, worker_of}
 use Rattle.sj_core.specs.Step.{same_place}
 use Rattle.sj_core.specs.Table.{renewed}
-use Rattle.sj_core.specs.declared.progress.Progress.{Progress}
 use Rattle.sj_core.proofs.Advancing.{Advances, same_task}
 use Rattle.sj_core.proofs.Tables.{length-renewed, renewed-at}
 

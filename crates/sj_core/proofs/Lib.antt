@@ -45,5 +45,6 @@ pub mod Tables
 pub mod TaskCells
 pub mod Testing
 pub mod Values
+pub mod Words
 pub mod Worked
 pub mod WorkedRuns

@@ -4,22 +4,11 @@ use Rattle.std.proofs.lemmas.Bool.{and_from, false_from_ne_true, false≢true}
 use Rattle.std.proofs.lemmas.List.{length-set}
 use Rattle.std.proofs.lemmas.List.Quantifiers.{position-Some}
 use Rattle.std.specs.Prelude.{IsTrue, option_map, position}
-use Rattle.sj_base.specs.declared.ids.Cell.{Cell}
-use Rattle.sj_base.specs.declared.ids.DiskNo.{DiskNo}
-use Rattle.sj_base.specs.declared.ids.Node.{Node}
-use Rattle.sj_base.specs.declared.ids.Place.{Place}
-use Rattle.sj_base.specs.declared.ids.Place.TheVariants.{Disk as OnDisk, Node as AtNode}
-use Rattle.sj_base.specs.declared.ids.Worker.{Worker}
-use Rattle.sj_base.specs.declared.program.Machine.{Machine}
-use Rattle.sj_base.specs.declared.program.Program.{Program}
+use Rattle.sj_core.proofs.Words.{AtNode, Cell, DiskNo, Invalid, Machine, Node, OnDisk, Place, Program, State, Transfer, Worker, cell_state, fresh_cells, has_cell, is_claimed_by, is_coming_by, is_valid, progress, replica, same_cell, transfer, with_transfer}
 use Rattle.sj_codelet.specs.Kernel.{same}
 use Rattle.sj_core.specs.Coherent.{Coherent, IsClaimed, IsTransferTo, NoneLeavesBy, TransfersAreSound}
 use Rattle.sj_core.specs.Laws.{IsSound}
-use Rattle.sj_core.specs.Machine.{Invalid, State, cell_state, is_claimed_by, is_coming_by, is_valid, progress, replica, transfer, with_transfer}
-use Rattle.sj_core.specs.Operands.{fresh_cells}
-use Rattle.sj_core.specs.Program.{has_cell, same_cell}
 use Rattle.sj_core.specs.Step.{BeginsMoveIn, a_transfer, disk_of, is_fresh}
-use Rattle.sj_core.specs.declared.progress.Transfer.{Transfer}
 use Rattle.sj_core.proofs.Claimed.{claimed-inside, claimed-not_written, claimed-old_value, list_any-task}
 use Rattle.sj_core.proofs.Placing.{owned-fails, pins-same, position-none, room-leaves_none, scratch-same, transfer-cases, valid-within, victims-same}
 use Rattle.sj_core.proofs.Reading.{same_cell-is}

@@ -2,22 +2,11 @@
 use Rattle.std.proofs.Common.{Bool, None, Option, Some, [], ap, false, inl, inr, not, refl, subst, sym, true, ◌&&◌, ◌∙◌, ◌≡◌, ◌⊎◌}
 use Rattle.std.proofs.lemmas.Bool.{and_from, false_from_ne_true, false≢true}
 use Rattle.std.proofs.lemmas.List.{length-set}
-use Rattle.sj_base.specs.Array.{Array}
-use Rattle.sj_base.specs.declared.ids.Cell.{Cell}
-use Rattle.sj_base.specs.declared.ids.DiskNo.{DiskNo}
-use Rattle.sj_base.specs.declared.ids.Place.{Place}
-use Rattle.sj_base.specs.declared.ids.Place.TheVariants.{Disk as OnDisk, Node as AtNode}
-use Rattle.sj_base.specs.declared.ids.Task.{Task}
-use Rattle.sj_base.specs.declared.ids.Worker.{Worker}
-use Rattle.sj_base.specs.declared.program.Machine.{Machine}
-use Rattle.sj_base.specs.declared.program.Program.{Program}
+use Rattle.sj_core.proofs.Words.{Array, AtNode, Cell, Coming, DiskNo, Invalid, Leaving, Machine, OnDisk, Place, Program, Replica, State, Task, Transfer, Valid, Worker, is_claimed_by, is_leaving_by, is_valid, progress, replica, same_cell, transfer, with_transfer}
 use Rattle.sj_codelet.specs.Kernel.{same}
 use Rattle.sj_core.specs.Coherent.{Coherent, IsTransferTo, TransfersAreSound}
 use Rattle.sj_core.specs.Laws.{IsSound}
-use Rattle.sj_core.specs.Machine.{Coming, Invalid, Leaving, Replica, State, Valid, is_claimed_by, is_leaving_by, is_valid, progress, replica, transfer, with_transfer}
-use Rattle.sj_core.specs.Program.{same_cell}
 use Rattle.sj_core.specs.Step.{BeginsMoveOut, a_transfer, disk_of, is_valid_elsewhere, same_place}
-use Rattle.sj_core.specs.declared.progress.Transfer.{Transfer}
 use Rattle.sj_core.proofs.Advancing.{claimed_by-is}
 use Rattle.sj_core.proofs.MovingIn.{some-is}
 use Rattle.sj_core.proofs.Placing.{list_any-place, owned-fails, pins-same, same_place-is, scratch-same, transfer-cases, victims-same}

@@ -7,15 +7,9 @@ use Rattle.std.proofs.lemmas.Bool.{false≢true}
 use Rattle.std.proofs.lemmas.Bool.Decides.{Decides-eqb}
 use Rattle.std.proofs.lemmas.List.{length-set, length-replicate, get_or-replicate}
 use Rattle.std.proofs.lemmas.List.Sums.{AllPass-from_list_all, sum_by-cons}
-use Rattle.sj_base.specs.declared.ids.Task.{Task}
-use Rattle.sj_base.specs.declared.ids.Place.TheVariants.{Node as AtNode, Disk as OnDisk}
+use Rattle.sj_core.proofs.Words.{AtNode, Claimed, Done, Machine, OnDisk, Program, Progress, Running, State, Task, Waiting, is_done, opening, progress}
 use Rattle.sj_base.specs.declared.trace.Event.{Event}
 use Rattle.sj_base.specs.declared.trace.Event.TheVariants.{Claim, Move, Moved, Drop, Run, End}
-use Rattle.sj_base.specs.declared.program.Program.{Program}
-use Rattle.sj_base.specs.declared.program.Machine.{Machine}
-use Rattle.sj_core.specs.declared.progress.Progress.{Progress}
-use Rattle.sj_core.specs.declared.progress.Progress.TheVariants.{Waiting, Claimed, Running, Done}
-use Rattle.sj_core.specs.Machine.{State, progress, opening, is_done}
 use Rattle.sj_core.specs.Step.{Step}
 use Rattle.sj_core.specs.Coherent.{is_begun}
 use Rattle.sj_core.specs.Legal.{Leads, Finishes, IsFinished}

@@ -4,22 +4,8 @@ use Rattle.std.proofs.lemmas.Bool.{cases_lt, false≢true}
 use Rattle.std.proofs.lemmas.List.{get_or-replicate, get_or_past, length-replicate}
 use Rattle.std.proofs.lemmas.List.Elements.{All-replicate}
 use Rattle.std.specs.Prelude.{count_by, fold, sum_by}
-use Rattle.sj_base.specs.Array.{Array}
-use Rattle.sj_base.specs.declared.ids.Cell.{Cell}
-use Rattle.sj_base.specs.declared.ids.Node.{Node}
-use Rattle.sj_base.specs.declared.ids.Place.{Place}
-use Rattle.sj_base.specs.declared.ids.Place.TheVariants.{Disk as OnDisk, Node as AtNode}
-use Rattle.sj_base.specs.declared.ids.Task.{Task}
-use Rattle.sj_base.specs.declared.ids.Worker.{Worker}
-use Rattle.sj_base.specs.declared.program.Machine.{Machine}
-use Rattle.sj_base.specs.declared.program.Program.{Program}
+use Rattle.sj_core.proofs.Words.{Array, AtNode, Cell, CellState, Claimed, Coming, Invalid, Leaving, Machine, Node, OnDisk, Place, Program, Running, Task, Transfer, Waiting, Worker, WorkerState, cell_state, done_by, has_cell, is_coming_by, is_done, is_entry, is_leaving_by, is_task_of, is_valid, no_replica, opening, order, pins, progress, replica, replica_in, same_cell, scratch, tasks_of, tile_bytes, transfer, used, worker_state, workers_at, writes, written_cells}
 use Rattle.sj_core.specs.Coherent.{Coherent, has_written, is_active, is_begun}
-use Rattle.sj_core.specs.Machine.{CellState, Coming, Invalid, Leaving, WorkerState, cell_state, done_by, is_coming_by, is_done, is_entry, is_leaving_by, is_task_of, is_valid, no_replica, opening, order, pins, progress, replica, replica_in, scratch, transfer, used, worker_state, workers_at, writes}
-use Rattle.sj_core.specs.Needs.{tile_bytes}
-use Rattle.sj_core.specs.Operands.{written_cells}
-use Rattle.sj_core.specs.Program.{has_cell, same_cell, tasks_of}
-use Rattle.sj_core.specs.declared.progress.Progress.TheVariants.{Claimed, Running, Waiting}
-use Rattle.sj_core.specs.declared.progress.Transfer.{Transfer}
 use Rattle.sj_core.proofs.Reading.{idle_row, no_row, replica_in-no_row}
 
 all_same : {X : Type 0} (n i : ℕ) (a : X) → get_or (replicate n a) i a ≡ a

@@ -9,23 +9,11 @@ use Rattle.std.proofs.lemmas.List.FromFn.{get_or-map-range_with_len, length-map-
 use Rattle.std.proofs.lemmas.List.Sums.{fails_before_first}
 use Rattle.std.specs.List.{list_any, position_or_len, range_with_len}
 use Rattle.std.specs.Prelude.{All, position}
-use Rattle.sj_base.specs.Array.{Array}
-use Rattle.sj_base.specs.declared.ids.Cell.{Cell}
-use Rattle.sj_base.specs.declared.ids.DiskNo.{DiskNo}
-use Rattle.sj_base.specs.declared.ids.Node.{Node}
-use Rattle.sj_base.specs.declared.ids.Place.{Place}
-use Rattle.sj_base.specs.declared.ids.Place.TheVariants.{Disk as OnDisk, Node as AtNode}
-use Rattle.sj_base.specs.declared.ids.Worker.{Worker}
-use Rattle.sj_base.specs.declared.program.Machine.{Machine}
-use Rattle.sj_base.specs.declared.program.Program.{Program}
+use Rattle.sj_core.proofs.Words.{Array, AtNode, Cell, CellState, DiskNo, Invalid, Machine, Node, OnDisk, Place, Program, Replica, State, Transfer, Valid, Worker, WorkerState, cell_state, found, has_room, is_gone, is_leaving_by, is_valid, node_of, pins, replica, replica_in, room, scratch, transfer, victims_of, with_replica, with_replica_in, with_transfer, worker_state, writes}
 use Rattle.sj_codelet.specs.Kernel.{same}
 use Rattle.sj_core.specs.Coherent.{HasRows, IsOwnedBy}
 use Rattle.sj_core.specs.Laws.{IsSound}
-use Rattle.sj_core.specs.Machine.{CellState, Invalid, Replica, State, Valid, WorkerState, cell_state, has_room, is_gone, is_leaving_by, is_valid, pins, replica, replica_in, scratch, transfer, victims_of, with_replica, with_replica_in, with_transfer, worker_state, writes}
-use Rattle.sj_core.specs.Needs.{node_of, room}
-use Rattle.sj_core.specs.Operands.{found}
 use Rattle.sj_core.specs.Step.{places_of, same_place}
-use Rattle.sj_core.specs.declared.progress.Transfer.{Transfer}
 use Rattle.sj_core.proofs.Reading.{idle_row, list_all-has, no_row, replica_in-no_row, same_node, workers_differ}
 use Rattle.sj_core.proofs.Replicas.{leaving_by-is}
 

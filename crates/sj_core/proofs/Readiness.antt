@@ -7,14 +7,10 @@ use Rattle.std.proofs.lemmas.List.FromFn.{get_or-range_with_len, length-range_wi
 use Rattle.std.proofs.lemmas.List.Sums.{AllPass-from_list_all}
 use Rattle.std.specs.List.{Contains, filter, list_all, list_any, range_with_len}
 use Rattle.std.specs.Prelude.{AllPairs}
-use Rattle.sj_base.specs.declared.ids.Task.{Task}
-use Rattle.sj_base.specs.declared.program.Program.{Program}
+use Rattle.sj_core.proofs.Words.{Program, State, Task, Waiting, done_in, is_done, progress}
 use Rattle.sj_codelet.specs.Kernel.{same}
 use Rattle.sj_deps.specs.Conflict.{Ready}
-use Rattle.sj_core.specs.Machine.{State, done_in, is_done, progress}
-use Rattle.sj_core.specs.Operands.{found}
 use Rattle.sj_core.specs.Step.{EarlierAreDone, after, done_tasks}
-use Rattle.sj_core.specs.declared.progress.Progress.TheVariants.{Waiting}
 
 Contains-cons : {X : Type 0} (y : X) (xs : List X) (x : X) → Contains xs x → Contains (y ∷ xs) x
 Contains-cons y xs x (k, l, e) = (suc k, omega arith, e)

@@ -8,22 +8,10 @@ use Rattle.std.proofs.lemmas.List.FromFn.{get_or-map-range_with_len, length-map-
 use Rattle.std.proofs.lemmas.List.Sums.{AllPass-from_list_all}
 use Rattle.std.specs.List.{list_all, list_any}
 use Rattle.std.specs.Prelude.{if◌then◌else◌}
-use Rattle.sj_base.specs.declared.ids.Cell.{Cell}
-use Rattle.sj_base.specs.declared.ids.Node.{Node}
-use Rattle.sj_base.specs.declared.ids.Place.{Place}
-use Rattle.sj_base.specs.declared.ids.Place.TheVariants.{Disk as OnDisk, Node as AtNode}
-use Rattle.sj_base.specs.declared.ids.Task.{Task}
-use Rattle.sj_base.specs.declared.ids.Worker.{Worker}
-use Rattle.sj_base.specs.declared.program.Machine.{Machine}
+use Rattle.sj_core.proofs.Words.{AtNode, Cell, CellState, Invalid, Machine, Node, OnDisk, Place, Progress, Replica, State, Task, Transfer, Waiting, Worker, WorkerState, cell_state, has_cell, is_entry, is_leaving, moves, progress, replica, replica_in, same_cell, transfer, with_cells, with_progress, with_replica_in, with_worker, worker_state, workers_of}
 use Rattle.sj_codelet.specs.Kernel.{same}
-use Rattle.sj_core.specs.Machine.{CellState, Invalid, Replica, State, WorkerState, cell_state, is_entry, is_leaving, moves, progress, replica, replica_in, transfer, with_cells, with_progress, with_replica_in, with_worker, worker_state}
-use Rattle.sj_core.specs.Needs.{workers_of}
-use Rattle.sj_core.specs.Program.{has_cell, same_cell}
 use Rattle.sj_core.specs.Step.{none_leaving}
 use Rattle.sj_core.specs.Table.{renewed}
-use Rattle.sj_core.specs.declared.progress.Progress.{Progress}
-use Rattle.sj_core.specs.declared.progress.Progress.TheVariants.{Waiting}
-use Rattle.sj_core.specs.declared.progress.Transfer.{Transfer}
 use Rattle.sj_core.proofs.Tables.{length-renewed, renewed-at, renewed-at_or}
 
 -- ---- tasks

@@ -9,26 +9,18 @@ use Rattle.std.proofs.lemmas.List.Kept.{AllPairs-cons}
 use Rattle.std.proofs.lemmas.List.Sums.{AllPass-from_list_all}
 use Rattle.std.specs.List.{list_all, list_any, range_with_len}
 use Rattle.std.specs.Prelude.{All, AllPairs, Contains, IsTrue, count_by, is_some, nat_eq, nat_le, nat_lt, pos, ◌^◌}
-use Rattle.sj_base.specs.Array.{area}
+use Rattle.sj_core.proofs.Words.{Cell, Program, Task, Worker, area, cell_info, copy_of, data_operands, dims_of, no_task, same_cell, task_of}
 use Rattle.sj_base.specs.Mode.{is_redux, reads_value}
-use Rattle.sj_base.specs.declared.ids.Cell.{Cell}
-use Rattle.sj_base.specs.declared.ids.Task.{Task}
-use Rattle.sj_base.specs.declared.ids.Worker.{Worker}
 use Rattle.sj_base.specs.declared.mode.Access.{Access}
 use Rattle.sj_base.specs.declared.mode.Mode.{Mode}
 use Rattle.sj_base.specs.declared.mode.Mode.TheVariants.{Commute, R, RW, Redux, Scratch, W}
 use Rattle.sj_base.specs.declared.mode.Reduction.TheVariants.{Plus}
 use Rattle.sj_base.specs.declared.program.Lowered.{Lowered}
-use Rattle.sj_base.specs.declared.program.Program.{Program}
-use Rattle.sj_codelet.specs.Kernel.{fits, kernel_of, operand, same}
+use Rattle.sj_codelet.specs.Kernel.{fits, kernel_of}
 use Rattle.sj_codelet.specs.declared.kernel.Kernel.{Kernel}
 use Rattle.sj_codelet.specs.declared.kernel.Kernel.TheVariants.{Add, Deliver, GemmThree, InitPlus, Load, Sum}
-use Rattle.sj_core.specs.Needs.{place}
-use Rattle.sj_core.specs.Operands.{copy_of, found}
-use Rattle.sj_core.specs.Program.{cell_info, data_operands, dims_of, no_task, same_cell, task_of}
 use Rattle.sj_core.specs.Proper.{Contributing, Fits, HasDeliveries, HasPhases, HasValueBefore, IsCombine, IsContribution, IsCopyOf, IsInit, IsMember, IsPhase, IsUnaliased, IsWithinLimits, NamesCells, Own, Phase, Proper, ReadsValues, Touches, gives_value, own_modes, task_number}
-use Rattle.sj_core.specs.Step.{reads}
-use Rattle.sj_core.proofs.Jobs.{a_task, access, cell, columns, task, worker}
+use Rattle.sj_core.proofs.Jobs.{a_task, access, cell, columns, worker}
 use Rattle.sj_core.proofs.Modes.{then}
 use Rattle.sj_core.proofs.Readiness.{list_any-some}
 

@@ -1,11 +1,8 @@
 -- Each step keeps coherence whole, and so does each legal trace; a complete one leaves what all tasks leave in submission order.
 use Rattle.std.proofs.Common.{List, [], ◌∷◌, subst}
-use Rattle.sj_base.specs.declared.ids.Place.TheVariants.{Node as AtNode, Disk as OnDisk}
+use Rattle.sj_core.proofs.Words.{AtNode, Machine, OnDisk, Program, State, opening}
 use Rattle.sj_base.specs.declared.trace.Event.{Event}
 use Rattle.sj_base.specs.declared.trace.Event.TheVariants.{Claim, Move, Moved, Drop, Run, End}
-use Rattle.sj_base.specs.declared.program.Program.{Program}
-use Rattle.sj_base.specs.declared.program.Machine.{Machine}
-use Rattle.sj_core.specs.Machine.{State, opening}
 use Rattle.sj_core.specs.Step.{Step, mover_of}
 use Rattle.sj_core.specs.Legal.{Leads, Replays, IsComplete}
 use Rattle.sj_core.specs.Proper.{Proper, IsMachineFor}

@@ -2,9 +2,7 @@
 use Rattle.std.proofs.Common.{ap, false, inl, inr, refl, sym, true, ◌∙◌, ◌≡◌, ◌⊎◌}
 use Rattle.std.proofs.lemmas.Bool.{false≢true}
 use Rattle.std.proofs.lemmas.Bool.Decides.{Decides-eqb}
-use Rattle.sj_base.specs.Array.{Array}
-use Rattle.sj_base.specs.declared.ids.Worker.{Worker}
-use Rattle.sj_core.specs.Machine.{Coming, Invalid, Leaving, Replica, Valid, is_coming_by, is_entry, is_leaving, is_leaving_by, is_valid, same_worker}
+use Rattle.sj_core.proofs.Words.{Array, Coming, Invalid, Leaving, Replica, Valid, Worker, is_coming_by, is_entry, is_leaving, is_leaving_by, is_valid, same_worker}
 use Rattle.sj_core.specs.Step.{claimant_of}
 
 pub same_worker-is : (v w : Worker) → same_worker v w ≡ true → v ≡ w

@@ -2,18 +2,8 @@
 use Rattle.std.proofs.Common.{Option, ap, arith, false, inl, inr, length, subst, sym, true, ◌<◌, ◌∙◌, ◌≡◌}
 use Rattle.std.proofs.lemmas.Bool.{false_from_ne_true, false≢true}
 use Rattle.std.specs.Prelude.{IfSome}
-use Rattle.sj_base.specs.Array.{Array}
-use Rattle.sj_base.specs.declared.ids.Cell.{Cell}
-use Rattle.sj_base.specs.declared.ids.Task.{Task}
-use Rattle.sj_base.specs.declared.ids.Worker.{Worker}
-use Rattle.sj_base.specs.declared.program.Machine.{Machine}
-use Rattle.sj_base.specs.declared.program.Program.{Program}
+use Rattle.sj_core.proofs.Words.{Array, Cell, Machine, Program, Progress, Running, State, Task, Waiting, Worker, done_by, has_cell, progress, writes, written_cells}
 use Rattle.sj_core.specs.Coherent.{HasRows, is_being_written}
-use Rattle.sj_core.specs.Machine.{State, done_by, progress, writes}
-use Rattle.sj_core.specs.Operands.{written_cells}
-use Rattle.sj_core.specs.Program.{has_cell}
-use Rattle.sj_core.specs.declared.progress.Progress.{Progress}
-use Rattle.sj_core.specs.declared.progress.Progress.TheVariants.{Running, Waiting}
 use Rattle.sj_core.proofs.Advancing.{Advances, same_task}
 use Rattle.sj_core.proofs.Finding.{being_written-by, being_written-here}
 use Rattle.sj_core.proofs.Reading.{progress-inside}

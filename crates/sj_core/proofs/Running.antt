@@ -4,27 +4,12 @@ use Rattle.std.proofs.lemmas.Bool.{cases_Bool, false_from_ne_true, false≢true,
 use Rattle.std.proofs.lemmas.Bool.Decides.{Decides-eqb}
 use Rattle.std.proofs.lemmas.List.{get_or-set_same, length-map, length-set}
 use Rattle.std.specs.Prelude.{All, if◌then◌else◌, nat_eq}
-use Rattle.sj_base.specs.Array.{Array, zeros}
-use Rattle.sj_base.specs.declared.ids.Cell.{Cell}
-use Rattle.sj_base.specs.declared.ids.Node.{Node}
-use Rattle.sj_base.specs.declared.ids.Place.{Place}
-use Rattle.sj_base.specs.declared.ids.Place.TheVariants.{Disk as OnDisk, Node as AtNode}
-use Rattle.sj_base.specs.declared.ids.Task.{Task}
-use Rattle.sj_base.specs.declared.ids.Worker.{Worker}
-use Rattle.sj_base.specs.declared.program.Machine.{Machine}
-use Rattle.sj_base.specs.declared.program.Program.{Program}
+use Rattle.sj_core.proofs.Words.{Array, AtNode, Cell, CellState, Claimed, Invalid, Machine, Node, OnDisk, Place, Program, Progress, Replica, Running, State, Task, Transfer, Valid, Worker, WorkerState, array_of, cell_state, cells_of, dims_of, fresh_cells, has_cell, is_coming_by, is_entry, is_leaving_by, is_task_of, is_valid, moves, node_of, order, progress, replica, replica_in, same_cell, transfer, worker_of, worker_state, writes, written_cells, zeros}
 use Rattle.sj_codelet.specs.Frame.{written}
 use Rattle.sj_codelet.specs.Kernel.{same}
 use Rattle.sj_core.specs.Coherent.{Coherent, CopiesAgree, HasEntries, HasRows, IsStateOf, IsTransferTo, WritersOwn, content, is_begun, is_being_written}
 use Rattle.sj_core.specs.Laws.{IsSound}
-use Rattle.sj_core.specs.Machine.{CellState, Invalid, Replica, State, Valid, WorkerState, array_of, cell_state, is_coming_by, is_entry, is_leaving_by, is_task_of, is_valid, moves, order, progress, replica, replica_in, transfer, worker_of, worker_state, writes}
-use Rattle.sj_core.specs.Needs.{node_of}
-use Rattle.sj_core.specs.Operands.{cells_of, fresh_cells, written_cells}
-use Rattle.sj_core.specs.Program.{dims_of, has_cell, same_cell}
 use Rattle.sj_core.specs.Step.{Runs, array_at, initial, is_moving, owned_at, same_place, without}
-use Rattle.sj_core.specs.declared.progress.Progress.{Progress}
-use Rattle.sj_core.specs.declared.progress.Progress.TheVariants.{Claimed, Running}
-use Rattle.sj_core.specs.declared.progress.Transfer.{Transfer}
 use Rattle.sj_core.proofs.Advancing.{Advances, Runs-advances, Runs-keeps_order, claimed-is_mine, claimed-task_of}
 use Rattle.sj_core.proofs.CellLists.{has_cell-without, times, times-filter}
 use Rattle.sj_core.proofs.Changing.{Changes, Changes-coherent, Changes-writers, TransfersAreSound-spared}

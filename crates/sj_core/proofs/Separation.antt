@@ -6,23 +6,14 @@ use Rattle.std.proofs.lemmas.List.Folds.{list_any_at}
 use Rattle.std.proofs.lemmas.List.FromFn.{get_or-map-range_with_len, length-map-range_with_len}
 use Rattle.std.specs.Prelude.{IsTrue, if◌then◌else◌}
 use Rattle.sj_base.specs.Mode.{is_commute, is_written}
-use Rattle.sj_base.specs.declared.ids.Cell.{Cell}
-use Rattle.sj_base.specs.declared.ids.Task.{Task}
-use Rattle.sj_base.specs.declared.ids.Worker.{Worker}
-use Rattle.sj_base.specs.declared.program.Machine.{Machine}
-use Rattle.sj_base.specs.declared.program.Program.{Program}
-use Rattle.sj_codelet.specs.Frame.{shared, written}
+use Rattle.sj_core.proofs.Words.{Cell, Claimed, Machine, Program, Progress, State, Task, Waiting, Worker, cells_of, commuting_cells, copy_of, has_cell, is_done, is_task_of, progress, task_of, tasks_of, worked_on, worker_of, written_cells}
+use Rattle.sj_codelet.specs.Frame.{written}
 use Rattle.sj_deps.specs.Conflict.{HasDependencies}
 use Rattle.sj_core.specs.Coherent.{IsStateOf, OrderIsKept, SharesCommuting, WorkersAreSound, is_active}
-use Rattle.sj_core.specs.Machine.{State, is_done, is_task_of, progress, worker_of}
-use Rattle.sj_core.specs.Operands.{cells_of, commuting_cells, copy_of, worked_on, written_cells}
-use Rattle.sj_core.specs.Program.{has_cell, task_of, tasks_of}
 use Rattle.sj_core.specs.Proper.{NamesCells}
 use Rattle.sj_core.specs.Step.{Claims, after, is_in_use}
-use Rattle.sj_core.specs.declared.progress.Progress.{Progress}
-use Rattle.sj_core.specs.declared.progress.Progress.TheVariants.{Claimed, Waiting}
 use Rattle.sj_core.proofs.Advancing.{Advances, Claims-advances, Claims-keeps_earlier, active-begun, active_isn't_done, apart-from_earlier, idle-has_none, same_task, task_of-active, task_of-worker}
-use Rattle.sj_core.proofs.Modes.{commute_isn't_redux, commutes_is_written, then}
+use Rattle.sj_core.proofs.Modes.{commute_isn't_redux, commutes_is_written}
 use Rattle.sj_core.proofs.Readiness.{Ready-earlier}
 use Rattle.sj_core.proofs.Reading.{list_all-has, progress-inside}
 use Rattle.sj_core.proofs.Sharing.{Commuting, Conflicting, Contributing, Sharing, operand-has_cell, operand_for, sharing}

@@ -4,30 +4,23 @@ use Rattle.std.proofs.lemmas.Bool.{false≢true}
 use Rattle.std.proofs.lemmas.Bool.Decides.{Decides-eqb}
 use Rattle.std.proofs.lemmas.List.{get_or-map, length-map}
 use Rattle.std.proofs.lemmas.List.Elements.{Contains-append_left, Contains-append_right}
-use Rattle.std.proofs.lemmas.List.Folds.{list_any_at, list_all-map}
+use Rattle.std.proofs.lemmas.List.Folds.{list_any_at}
 use Rattle.std.proofs.lemmas.List.FromFn.{get_or-range_with_len, length-range_with_len}
 use Rattle.std.proofs.lemmas.Option.{slice_get-get_or}
 use Rattle.std.specs.List.{Contains, filter, flat_map, range_with_len}
 use Rattle.std.specs.Prelude.{IsTrue, is_some, option_and_then, slice_get}
 use Rattle.sj_base.specs.Mode.{is_commute, is_redux, is_scratch, is_written}
-use Rattle.sj_base.specs.declared.ids.Cell.{Cell}
-use Rattle.sj_base.specs.declared.ids.Task.{Task}
-use Rattle.sj_base.specs.declared.ids.Worker.{Worker}
+use Rattle.sj_core.proofs.Words.{Cell, Program, Task, Worker, cell_info, cells_of, commuting_cells, copy_of, has_cell, no_cell, no_task, same_cell, task_of, worked_on, writes, written_cells}
 use Rattle.sj_base.specs.declared.mode.Access.{Access}
 use Rattle.sj_base.specs.declared.mode.Mode.{Mode}
 use Rattle.sj_base.specs.declared.mode.Mode.TheVariants.{Commute as CommuteMode, R, RW, Redux, Scratch, W}
 use Rattle.sj_base.specs.declared.program.CellInfo.{CellInfo}
 use Rattle.sj_base.specs.declared.program.Codelet.{Codelet}
 use Rattle.sj_base.specs.declared.program.Lowered.{Lowered}
-use Rattle.sj_base.specs.declared.program.Program.{Program}
-use Rattle.sj_codelet.specs.Frame.{written}
 use Rattle.sj_deps.specs.Conflict.{Conflict, HasDependencies, IsShared, SameGroup, Uses, copies_of, usage, usages, usages_of}
 use Rattle.sj_deps.specs.declared.manner.Manner.{Manner}
 use Rattle.sj_deps.specs.declared.manner.Manner.TheVariants.{Commute, Contribute, Read, Write}
 use Rattle.sj_deps.specs.declared.manner.Usage.{Usage}
-use Rattle.sj_core.specs.Machine.{writes}
-use Rattle.sj_core.specs.Operands.{cells_of, commuting_cells, copy_of, found, worked_on, written_cells}
-use Rattle.sj_core.specs.Program.{cell_info, has_cell, no_cell, no_task, same_cell, task_of}
 use Rattle.sj_core.specs.Proper.{NamesCells, access}
 use Rattle.sj_core.proofs.Modes.{written_isn't_scratch}
 use Rattle.sj_core.proofs.Readiness.{Contains-filter, Contains-from_filter, filter-Contains, list_any-some, list_any-map}

@@ -1,21 +1,8 @@
 -- A step that changes replicas and transfers alone, and what it owes so as to leave a coherent state.
 use Rattle.std.proofs.Common.{List, Some, false, inl, inr, refl, sym, true, ◌∙◌, ◌≡◌}
-use Rattle.sj_base.specs.Array.{Array}
-use Rattle.sj_base.specs.declared.ids.Cell.{Cell}
-use Rattle.sj_base.specs.declared.ids.Node.{Node}
-use Rattle.sj_base.specs.declared.ids.Place.{Place}
-use Rattle.sj_base.specs.declared.ids.Place.TheVariants.{Node as AtNode}
-use Rattle.sj_base.specs.declared.ids.Task.{Task}
-use Rattle.sj_base.specs.declared.ids.Worker.{Worker}
-use Rattle.sj_base.specs.declared.program.Machine.{Machine}
-use Rattle.sj_base.specs.declared.program.Program.{Program}
+use Rattle.sj_core.proofs.Words.{Array, AtNode, Cell, CellState, Claimed, Machine, Node, Place, Program, Running, State, Task, Transfer, Worker, WorkerState, has_cell, is_claimed_by, is_coming_by, is_entry, is_leaving_by, is_valid, moves, node_of, pins, progress, replica, scratch, transfer, victims_of, writes}
 use Rattle.sj_core.specs.Coherent.{Coherent, CopiesAgree, HasBlocks, HasRows, IsOwnedBy, TransfersAreSound}
 use Rattle.sj_core.specs.Laws.{IsSound}
-use Rattle.sj_core.specs.Machine.{CellState, State, WorkerState, is_claimed_by, is_coming_by, is_entry, is_leaving_by, is_valid, moves, pins, progress, replica, scratch, transfer, victims_of, writes}
-use Rattle.sj_core.specs.Needs.{node_of}
-use Rattle.sj_core.specs.Program.{has_cell}
-use Rattle.sj_core.specs.declared.progress.Progress.TheVariants.{Claimed, Running}
-use Rattle.sj_core.specs.declared.progress.Transfer.{Transfer}
 use Rattle.sj_core.proofs.Advancing.{claimed-is_mine, task_of-worker}
 use Rattle.sj_core.proofs.Changing.{Changes, Changes-coherent, Changes-writers}
 

@@ -4,18 +4,12 @@ use Rattle.std.proofs.Math.Logic.{∥∥₁_map}
 use Rattle.std.proofs.lemmas.Fn.{FoldsTo-push}
 use Rattle.std.proofs.lemmas.List.Sums.{fold-append}
 use Rattle.std.specs.Prelude.{fold, unwrap_or}
-use Rattle.sj_base.specs.declared.ids.Cell.{Cell}
-use Rattle.sj_base.specs.declared.ids.Place.{Place}
-use Rattle.sj_base.specs.declared.ids.Place.TheVariants.{Disk as OnDisk, Node as AtNode}
-use Rattle.sj_base.specs.declared.ids.Worker.{Worker}
-use Rattle.sj_base.specs.declared.program.Machine.{Machine}
-use Rattle.sj_base.specs.declared.program.Program.{Program}
+use Rattle.sj_core.proofs.Words.{AtNode, Cell, Machine, OnDisk, Place, Program, State, Worker, opening, replica, transfer}
 use Rattle.sj_base.specs.declared.trace.Event.{Event}
 use Rattle.sj_base.specs.declared.trace.Event.TheVariants.{Claim, Drop, End, Move, Moved, Run}
 use Rattle.sj_codelet.specs.Kernel.{same}
 use Rattle.sj_core.specs.Coherent.{Coherent, IsTransferTo}
 use Rattle.sj_core.specs.Legal.{IsLegal, Leads, Legal, Replays, state_of}
-use Rattle.sj_core.specs.Machine.{State, opening, replica, transfer}
 use Rattle.sj_core.specs.Step.{Step, a_transfer, after, after_claim, claimant_of, mover_of}
 use Rattle.sj_core.proofs.Replicas.{coming_by-is, leaving_by-is}
 

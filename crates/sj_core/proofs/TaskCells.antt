@@ -2,13 +2,8 @@
 use Rattle.std.proofs.Common.{Bool, List, [], ap, cond, false, not, refl, true, ◌&&◌, ◌∷◌, ◌≡◌}
 use Rattle.std.specs.List.{filter}
 use Rattle.sj_base.specs.Mode.{is_scratch, is_written, starts_as_zeros}
-use Rattle.sj_base.specs.declared.ids.Cell.{Cell}
-use Rattle.sj_base.specs.declared.ids.Task.{Task}
-use Rattle.sj_base.specs.declared.ids.Worker.{Worker}
+use Rattle.sj_core.proofs.Words.{Cell, Program, Task, Worker, cells_of, fresh_cells, has_cell, task_of, worked_on, written_cells}
 use Rattle.sj_base.specs.declared.mode.Access.{Access}
-use Rattle.sj_base.specs.declared.program.Program.{Program}
-use Rattle.sj_core.specs.Operands.{cells_of, fresh_cells, worked_on, written_cells}
-use Rattle.sj_core.specs.Program.{has_cell, task_of}
 use Rattle.sj_core.proofs.CellLists.{same_cell-from}
 use Rattle.sj_core.proofs.Modes.{fresh_is_written, written_isn't_scratch}
 use Rattle.sj_core.proofs.Readiness.{Contains-from_filter, filter-Contains}

@@ -8,28 +8,22 @@ use Rattle.std.proofs.lemmas.List.Sums.{get_or-le-sum_by}
 use Rattle.std.specs.List.{Contains}
 use Rattle.std.specs.Prelude.{IsTrue}
 use Rattle.sj_base.specs.Mode.{is_redux, is_scratch, is_written, reads_value, starts_as_zeros}
-use Rattle.sj_base.specs.declared.ids.Cell.{Cell}
-use Rattle.sj_base.specs.declared.ids.Task.{Task}
-use Rattle.sj_base.specs.declared.ids.Worker.{Worker}
+use Rattle.sj_core.proofs.Words.{Cell, Program, State, Task, Worker, cells_of, copy_of, data_operands, done_by, fresh_cells, has_cell, same_cell, task_of, tasks_of, worked_on, writes, written_cells}
 use Rattle.sj_base.specs.declared.mode.Access.{Access}
 use Rattle.sj_base.specs.declared.mode.Mode.{Mode}
 use Rattle.sj_base.specs.declared.mode.Mode.TheVariants.{Commute as CommuteMode, R, RW, Redux, Scratch, W}
-use Rattle.sj_base.specs.declared.program.Program.{Program}
 use Rattle.sj_codelet.specs.Frame.{written}
 use Rattle.sj_codelet.specs.Kernel.{same}
 use Rattle.sj_deps.specs.Conflict.{Conflict, IsShared, Uses}
 use Rattle.sj_deps.specs.declared.manner.Manner.{Manner}
 use Rattle.sj_deps.specs.declared.manner.Manner.TheVariants.{Write}
 use Rattle.sj_core.specs.Coherent.{WritesAreCounted, has_written}
-use Rattle.sj_core.specs.Machine.{State, done_by, writes}
-use Rattle.sj_core.specs.Operands.{cells_of, copy_of, found, fresh_cells, worked_on, written_cells}
-use Rattle.sj_core.specs.Program.{data_operands, has_cell, same_cell, task_of, tasks_of}
 use Rattle.sj_core.specs.Proper.{HasValueBefore, Proper, access, gives_value}
 use Rattle.sj_core.specs.Step.{EarlierAreDone, reads}
 use Rattle.sj_core.proofs.Dependencies.{Proper-dependencies}
 use Rattle.sj_core.proofs.Readiness.{Contains-filter, list_any-some}
 use Rattle.sj_core.proofs.Reading.{same_cell-is}
-use Rattle.sj_core.proofs.Sharing.{manner_of, one, operand-has_cell, operand-uses, operand_for, redux-has_copies, write_isn't_read}
+use Rattle.sj_core.proofs.Sharing.{manner_of, operand-has_cell, operand-uses, operand_for, redux-has_copies, write_isn't_read}
 
 module _ (p : Program) (proper : Proper p) (s : State) (t : Task) (w : Worker) (inside : t.0 < length p.tasks) (staffed : w.0 < p.workers) (earlier : EarlierAreDone p s t) (c : Cell) where
   -- a task conflicts with each later one that uses what it writes by itself

@@ -4,8 +4,7 @@ use Rattle.std.specs.Prelude.{pos}
 use Rattle.std.specs.Int.{int_wrap}
 use Rattle.std.proofs.lemmas.Bool.{false≢true}
 use Rattle.sj_base.specs.declared.mode.Mode.TheVariants.{R, W, RW}
-use Rattle.sj_base.specs.declared.program.Program.{Program}
-use Rattle.sj_base.specs.declared.program.Machine.{Machine}
+use Rattle.sj_core.proofs.Words.{Machine, Program, State, Valid, order, replica, victims_of, writes}
 use Rattle.sj_base.specs.declared.trace.Event.{Event}
 use Rattle.sj_base.specs.declared.trace.Event.TheVariants.{Claim, Move, Moved, Drop, Run, End}
 use Rattle.sj_codelet.specs.declared.kernel.Kernel.TheVariants.{Load, Add, Deliver}
@@ -16,7 +15,6 @@ use Rattle.sj_deps.specs.declared.manner.Usage.{Usage}
 use Rattle.sj_deps.specs.Conflict.{Conflict, Uses, IsShared}
 use Rattle.sj_core.specs.Fold.{given}
 use Rattle.sj_core.specs.Legal.{Legal, IsComplete, state_of}
-use Rattle.sj_core.specs.Machine.{State, Valid, order, replica, victims_of, writes}
 use Rattle.sj_core.specs.Proper.{IsMachineFor, HasSwapFor}
 use Rattle.sj_core.specs.Step.{Claims, Runs, disk_of}
 use Rattle.sj_core.proofs.Jobs.{a_machine, a_task, access, cell, columns, disk, node, task, turn, worker}
