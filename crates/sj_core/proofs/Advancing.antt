@@ -5,7 +5,6 @@ use Rattle.std.proofs.lemmas.List.{get_or_past}
 use Rattle.std.proofs.lemmas.List.Sums.{AllPass-from_list_all}
 use Rattle.std.specs.Prelude.{IsTrue}
 use Rattle.sj_core.proofs.Words.{Claimed, Done, Machine, Program, Progress, Running, State, Task, Waiting, Worker, cells_of, done_in, has_cell, is_claimed_by, is_done, is_idle, is_running_on, is_task_of, progress, worker_of}
-use Rattle.sj_codelet.specs.Kernel.{same}
 use Rattle.sj_deps.specs.Conflict.{Conflict}
 use Rattle.sj_core.specs.Coherent.{HasRows, OrderIsKept, SharesCommuting, is_active, is_begun}
 use Rattle.sj_core.specs.Step.{Claims, EarlierAreDone, Ends, Runs}

@@ -4,7 +4,6 @@ use Rattle.std.proofs.lemmas.Bool.{false_from_ne_true, false≢true, true≢fals
 use Rattle.std.proofs.lemmas.List.{length-set}
 use Rattle.std.specs.Prelude.{IfSome}
 use Rattle.sj_core.proofs.Words.{Array, AtNode, Cell, Coming, DiskNo, Invalid, Leaving, Machine, Node, OnDisk, Place, Program, Replica, State, Task, Transfer, Valid, Worker, array_of, cell_state, dims_of, is_claimed_by, is_coming_by, is_entry, is_leaving_by, is_valid, moves, node_of, progress, replica, same_cell, transfer, with_replica, with_replica_in, with_transfer, writes, zeros}
-use Rattle.sj_codelet.specs.Kernel.{same}
 use Rattle.sj_core.specs.Coherent.{Coherent, CopiesAgree, HasBlocks, IsOwnedBy, IsTransferTo, TransfersAreSound, content}
 use Rattle.sj_core.specs.Laws.{IsSound}
 use Rattle.sj_core.specs.Step.{EndsMove, a_transfer, array_at, disk_of}

@@ -7,7 +7,7 @@ use Rattle.std.proofs.lemmas.List.Elements.{All-nil, All-cons}
 use Rattle.std.proofs.lemmas.List.Quantifiers.{position-Some}
 use Rattle.std.proofs.lemmas.Option.{slice_get-get_or, slice_get_within, get_or_from_slice_get}
 use Rattle.std.proofs.lemmas.Slice.Zip.{length-zip}
-use Rattle.sj_core.proofs.Words.{Block, Cell, DiskNo, Machine, Program, block_bytes, first_fit, place, place_after}
+use Rattle.sj_core.proofs.Words.{Block, Cell, DiskNo, Machine, Program, block_bytes, first_fit, place_after, place}
 use Rattle.sj_base.specs.declared.program.CellInfo.{CellInfo}
 use Rattle.sj_core.specs.Proper.{HasSwapFor}
 use Rattle.sj_core.specs.Step.{disk_of}

@@ -7,7 +7,6 @@ use Rattle.std.proofs.lemmas.List.Sums.{sum_by-append, sum_by-cons}
 use Rattle.std.specs.List.{filter}
 use Rattle.std.specs.Prelude.{count_by, fold, if◌then◌else◌, sum_by, nat_le, nat_lt}
 use Rattle.sj_core.proofs.Words.{Cell, Program, cells_of_program, distinct, has_cell, same_cell}
-use Rattle.sj_codelet.specs.Kernel.{same}
 use Rattle.sj_core.specs.Step.{to_front, without}
 use Rattle.sj_core.specs.Table.{renewed}
 use Rattle.sj_core.proofs.Reading.{same_cell-is}

@@ -1,16 +1,57 @@
 -- A step in which a claimed or running task goes on, or a replica moves: nothing more leaves or comes. What it owes, and that it
 -- keeps what tasks, pins, bytes and workers ask of a coherent state.
-use Rattle.std.proofs.Common.{Bool, List, Some, [], arith, false, inl, inr, sym, true, ◌||◌, ◌∙◌, ◌≡◌, ◌≢◌, ◌≤◌, ◌⊎◌, ap, subst}
+use Rattle.std.proofs.Common.{Bool, List, Some, [], arith, false, inl, inr, sym, true, ◌||◌, ◌∙◌, ◌≡◌, ◌≢◌, ◌≤◌, ◌⊎◌, ap, subst, get_or, length, not, ℕ, ◌<◌}
 use Rattle.std.proofs.lemmas.Bool.{false_from_ne_true, false≢true}
-use Rattle.std.specs.Prelude.{if◌then◌else◌}
-use Rattle.sj_core.proofs.Words.{Array, AtNode, Cell, Claimed, Machine, Node, OnDisk, Place, Program, Progress, Running, State, Task, Transfer, Valid, Worker, cells_of, dims_of, fresh_cells, has_cell, is_claimed_by, is_coming_by, is_entry, is_leaving, is_leaving_by, is_task_of, is_valid, moves, node_of, order, pins, progress, replica, scratch, transfer, victims_of, written_cells, zeros}
-use Rattle.sj_codelet.specs.Kernel.{same}
-use Rattle.sj_core.specs.Coherent.{Coherent, CopiesAgree, IsOwnedBy, IsStateOf, IsTransferTo, NodesSuffice, OrderIsKept, PinsHold, TasksHaveCells, TransfersAreSound, WorkersAreSound, WritersOwn, WritesAreCounted, content, written_content}
+use Rattle.std.specs.Prelude.{if◌then◌else◌, All, nat_eq}
+use Rattle.sj_core.proofs.Words.{Array, AtNode, Cell, Claimed, Machine, Node, OnDisk, Place, Program, Progress, Running, State, Task, Transfer, Valid, Worker, cells_of, dims_of, fresh_cells, has_cell, is_claimed_by, is_coming_by, is_entry, is_leaving, is_leaving_by, is_task_of, is_valid, moves, node_of, order, pins, progress, replica, scratch, transfer, victims_of, written_cells, zeros, Coming, DiskNo, Invalid, Leaving, worker_of}
+use Rattle.sj_core.specs.Coherent.{Coherent, CopiesAgree, IsOwnedBy, IsStateOf, IsTransferTo, NodesSuffice, OrderIsKept, PinsHold, TasksHaveCells, TransfersAreSound, WorkersAreSound, WritersOwn, WritesAreCounted, content, written_content, HasBlocks, HasWorkers, is_begun}
 use Rattle.sj_core.specs.Laws.{IsSound}
-use Rattle.sj_core.specs.Step.{leave}
+use Rattle.sj_core.specs.Step.{leave, same_place}
 use Rattle.sj_core.proofs.Advancing.{Advances, claimed_by-is, claimed_by-task_of, same_task, task_of-worker}
 use Rattle.sj_core.proofs.Bytes.{fewer-entries, fewer-leaving}
 use Rattle.sj_core.proofs.Replicas.{leaving-by_some, leaving_by-leaves, same_worker-refl}
+use Rattle.std.proofs.lemmas.Bool.Decides.{Decides-eqb}
+use Rattle.sj_core.specs.Table.{renewed}
+use Rattle.sj_core.proofs.Tables.{length-renewed, renewed-at}
+
+-- ---- parts
+
+-- what holds of each row of a table holds where each row was renewed so as to keep it
+pub All-renewed : {X : Type 0} (P : X → Type 0) (f : ℕ → X → X) (xs : List X) → ((i : ℕ) (x : X) → P x → P (f i x)) → All P xs → All P (renewed f xs)
+All-renewed P f xs keeps all i d inside =
+    let within : i < length xs = omega (arith, inside, length-renewed f xs) in
+    subst P (sym (renewed-at f xs i d within)) (keeps i (get_or xs i d) (all i d within))
+
+-- where a task advances to a worker of the program, each begun task still has one
+pub HasWorkers-kept : (p : Program) (s s' : State) (t : Task) (old new : Progress) → Advances s s' t old new → (worker_of new).0 < p.workers → HasWorkers p s → HasWorkers p s'
+HasWorkers-kept p s s' t old new a staffed before = record {
+  staffed = λ u begun. elim (same_task u t) [
+    | inl e ↦ subst (λ (k : Task). (worker_of (progress s' k)).0 < p.workers) (sym e) (subst (λ (x : Progress). (worker_of x).0 < p.workers) (sym a.is) staffed)
+    | inr d ↦ subst (λ (x : Progress). (worker_of x).0 < p.workers) (sym (a.others u d)) (before.staffed u (sym (ap is_begun (a.others u d)) ∙ begun))
+  ];
+}
+
+-- where each replica on a disk is as it was or invalid, and transfers are as they were, blocks are where they ought to be
+pub HasBlocks-kept : (p : Program) (m : Machine) (s s' : State) → ((c : Cell) (d : DiskNo) → (replica s' c (OnDisk d) ≡ Invalid) ⊎ (replica s' c (OnDisk d) ≡ replica s c (OnDisk d))) → ((v : Worker) → transfer s' v ≡ transfer s v) → HasBlocks p m s → HasBlocks p m s'
+HasBlocks-kept p m s s' disks moves before = record {
+  resting = λ c d v a. elim (disks c d) [
+    | inl none ↦ (λ e. (let f : Invalid ≡ Coming v = sym none ∙ e in cc), λ e. (let f : Invalid ≡ Leaving v a = sym none ∙ e in cc))
+    | inr same ↦ (λ e. (before.resting c d v a).0 (sym same ∙ e), λ e. (before.resting c d v a).1 (sym same ∙ e))
+  ];
+  home = λ c d valid. elim (disks c d) [
+    | inl none ↦ absurd (false≢true (sym (ap is_valid none) ∙ valid))
+    | inr same ↦ before.home c d (sym (ap is_valid same) ∙ valid)
+  ];
+  aimed = λ v x d under_way e. before.aimed v x d (sym (moves v) ∙ under_way) e;
+}
+
+pub place_differs : (k n : Node) → k ≢ n → not (same_place (AtNode k) (AtNode n)) ≡ true
+place_differs k n d = ap not (false_from_ne_true (nat_eq k.0 n.0) (λ e. d (ap (λ (i : ℕ). let j : Node = record { 0 = i } in j) ((Decides-eqb k.0 n.0).0 e))))
+
+pub places_differ : (k n : Node) → not (same_place (AtNode k) (AtNode n)) ≡ true → k ≢ n
+places_differ k n h e = false≢true (sym (ap not ((Decides-eqb k.0 n.0).1 (ap (λ (j : Node). j.0) e))) ∙ h)
+
+-- ---- the step
 
 -- what a step of the task t of the worker w owes, in which the task goes from old to new
 pub record Changes (p : Program) (m : Machine) (s s' : State) (t : Task) (old new : Progress) (w : Worker) : Type 0 where

@@ -4,9 +4,7 @@ use Rattle.std.proofs.lemmas.Bool.{and_parts, false_from_ne_true, false≢true, 
 use Rattle.std.proofs.lemmas.List.{get_or-set_other, get_or-set_same, length-set}
 use Rattle.std.specs.List.{filter}
 use Rattle.std.specs.Prelude.{All, fold, if◌then◌else◌, is_some, nat_eq, sum_by}
-use Rattle.sj_core.proofs.Words.{Array, AtNode, Cell, CellState, Claimed, Coming, Invalid, Leaving, Machine, Node, OnDisk, Place, Program, Running, State, Task, Transfer, Valid, Waiting, Worker, WorkerState, array_of, cells_of, cells_of_program, dims_of, distinct, free, fresh_cells, has_cell, is_claimed_by, is_coming_by, is_entry, is_leaving, is_leaving_by, is_pinned, is_task_of, is_valid, node_of, node_size, order, pins, progress, replica, replica_in, same_cell, same_worker, scratch, scratch_bytes, task_of, tile_bytes, transfer, used, victims_of, with_replica_in, workers_at, written_cells, zeros}
-use Rattle.sj_codelet.specs.Frame.{written}
-use Rattle.sj_codelet.specs.Kernel.{same}
+use Rattle.sj_core.proofs.Words.{Array, AtNode, Cell, CellState, Claimed, Coming, Invalid, Leaving, Machine, Node, OnDisk, Place, Program, Running, State, Task, Transfer, Valid, Waiting, Worker, WorkerState, array_of, cells_of, cells_of_program, dims_of, distinct, fresh_cells, has_cell, is_claimed_by, is_coming_by, is_entry, is_leaving, is_leaving_by, is_pinned, is_task_of, is_valid, node_of, node_size, order, pins, progress, replica, replica_in, same_cell, same_worker, scratch, scratch_bytes, task_of, tile_bytes, transfer, victims_of, with_replica_in, workers_at, written_cells, zeros, free, used}
 use Rattle.sj_core.specs.Coherent.{Coherent, CopiesAgree, HasEntries, HasRows, IsClaimed, IsOwnedBy, IsStateOf, IsTransferTo, NodesSuffice, OrderIsKept, PinsHold, TasksHaveCells, TransfersAreSound, WorkersAreSound, WritersOwn, WritesAreCounted, content, is_being_written, used_while_leaving, written_content}
 use Rattle.sj_core.specs.Laws.{IsSound}
 use Rattle.sj_core.specs.Step.{Claims, claimed_replica, leave, missing, to_come, to_front, without}
@@ -19,10 +17,10 @@ use Rattle.sj_core.proofs.Contents.{content-kept}
 use Rattle.sj_core.proofs.Counting.{counted-same, written-undone}
 use Rattle.sj_core.proofs.Dependencies.{Proper-dependencies}
 use Rattle.sj_core.proofs.Eviction.{shortest_suffix-passes, shortest_suffix-suffix}
-use Rattle.sj_core.proofs.Forms.{HasBlocks-kept, All-renewed, HasWorkers-kept}
+use Rattle.sj_core.proofs.Changing.{HasBlocks-kept, All-renewed, HasWorkers-kept}
 use Rattle.sj_core.proofs.Reading.{entry-inside, same_node, workers_differ}
 use Rattle.sj_core.proofs.Replicas.{coming_by-is, leaving-by_some, leaving_by-leaves, leaving_by-no_entry, same_worker-is, same_worker-refl}
-use Rattle.sj_core.proofs.Resting.{not_written-after, not_written-before, agrees-kept}
+use Rattle.sj_core.proofs.Finding.{not_written-after, not_written-before, agrees-kept}
 use Rattle.sj_core.proofs.Separation.{Claims-keeps_order, separated}
 use Rattle.sj_core.proofs.Sums.{filter-sum-le, sum-balanced, sum-one_more, sum-within}
 use Rattle.sj_core.proofs.Tables.{length-renewed}

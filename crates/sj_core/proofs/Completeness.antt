@@ -8,7 +8,7 @@ use Rattle.std.specs.Prelude.{ℤ, count_by, if◌then◌else◌}
 use Rattle.std.specs.List.{filter}
 use Rattle.std.proofs.lemmas.List.{length-map}
 use Rattle.std.proofs.lemmas.List.Sums.{length-filter, sum_by-cons}
-use Rattle.sj_core.proofs.Words.{Array, Cell, Program, Task, Worker, found, results, task_of, worked_on, written_cells}
+use Rattle.sj_core.proofs.Words.{Array, Cell, Program, Task, Worker, results, task_of, worked_on, written_cells, found}
 use Rattle.sj_base.specs.declared.mode.Mode.{Mode}
 use Rattle.sj_base.specs.declared.mode.Mode.TheVariants.{W, Redux, Commute}
 use Rattle.sj_base.specs.declared.mode.Access.{Access}

@@ -16,13 +16,11 @@ use Rattle.sj_base.specs.declared.mode.Mode.TheVariants.{Commute as CommuteMode,
 use Rattle.sj_base.specs.declared.program.CellInfo.{CellInfo}
 use Rattle.sj_base.specs.declared.program.Codelet.{Codelet}
 use Rattle.sj_base.specs.declared.program.Lowered.{Lowered}
-use Rattle.sj_codelet.specs.Kernel.{same}
 use Rattle.sj_deps.specs.Conflict.{HasDependencies, Uses, copies_of, usage, usages_of}
 use Rattle.sj_deps.specs.declared.manner.Manner.{Manner}
 use Rattle.sj_deps.specs.declared.manner.Manner.TheVariants.{Commute, Contribute, Read, Write}
 use Rattle.sj_deps.specs.declared.manner.Usage.{Usage}
 use Rattle.sj_core.specs.Proper.{IsCombine, IsCopyOf, IsInit, IsPhase, Phase, Proper, access, task_number}
-use Rattle.sj_core.specs.Step.{reads}
 use Rattle.sj_core.proofs.Readiness.{AllPairs-two, Contains-filter}
 use Rattle.sj_core.proofs.Sharing.{manner_of}
 

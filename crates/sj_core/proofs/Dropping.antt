@@ -4,13 +4,12 @@ use Rattle.std.proofs.lemmas.Bool.{and_from, and_parts, false_from_ne_true, fals
 use Rattle.std.proofs.lemmas.List.{length-set}
 use Rattle.std.specs.Prelude.{IfSome}
 use Rattle.sj_core.proofs.Words.{AtNode, Cell, Invalid, Machine, Node, OnDisk, Place, Program, Replica, State, Task, Transfer, Worker, array_of, cell_state, is_claimed_by, is_coming_by, is_entry, is_leaving, is_leaving_by, is_valid, node_of, progress, replica, same_cell, transfer, with_replica, with_replica_in, writes}
-use Rattle.sj_codelet.specs.Kernel.{same}
 use Rattle.sj_core.specs.Coherent.{Coherent, CopiesAgree, IsTransferTo, TransfersAreSound, content}
 use Rattle.sj_core.specs.Laws.{IsSound}
-use Rattle.sj_core.specs.Step.{Drops, is_read, places_of, reads, same_place}
+use Rattle.sj_core.specs.Step.{Drops, is_read, places_of, same_place, reads}
 use Rattle.sj_core.proofs.Advancing.{claimed_by-is}
 use Rattle.sj_core.proofs.CellLists.{same_cell-from}
-use Rattle.sj_core.proofs.Forms.{HasBlocks-kept}
+use Rattle.sj_core.proofs.Changing.{HasBlocks-kept}
 use Rattle.sj_core.proofs.Placing.{disks-kept, nodes-kept, owned-fails, replica-cases, same_place-refl, writes-same}
 use Rattle.sj_core.proofs.Readiness.{list_any-some}
 use Rattle.sj_core.proofs.Reading.{list_any-worker, transfer-inside}

@@ -5,22 +5,19 @@ use Rattle.std.proofs.lemmas.List.{get_or-set_same, get_or_past, length-set}
 use Rattle.std.proofs.lemmas.Option.{MatchOption-from_none}
 use Rattle.std.specs.Prelude.{All, IfSome, if◌then◌else◌}
 use Rattle.sj_core.proofs.Words.{Array, AtNode, Cell, CellState, Claimed, Done, Invalid, Machine, Node, OnDisk, Place, Program, Progress, Replica, Running, State, Task, Transfer, Valid, Worker, WorkerState, array_of, cell_state, cells_of, has_cell, is_coming_by, is_entry, is_leaving_by, is_task_of, is_valid, moves, node_of, order, pins, progress, replica, replica_in, same_cell, scratch, transfer, victims_of, worker_of, worker_state, writes, written_cells}
-use Rattle.sj_codelet.specs.Frame.{written}
-use Rattle.sj_codelet.specs.Kernel.{same}
 use Rattle.sj_core.specs.Coherent.{Coherent, CopiesAgree, HasRows, IsOwnedBy, IsStateOf, WritersOwn, content, is_begun, is_being_written, written_content}
 use Rattle.sj_core.specs.Laws.{HasPlainModes, IsSound}
 use Rattle.sj_core.specs.Step.{Ends, result_at, rewritten_at, same_place}
 use Rattle.sj_core.proofs.Advancing.{Advances, Ends-advances, Ends-keeps_order}
 use Rattle.sj_core.proofs.CellLists.{times}
-use Rattle.sj_core.proofs.Changing.{Changes, Changes-coherent, Changes-writers, TransfersAreSound-spared}
+use Rattle.sj_core.proofs.Changing.{Changes, Changes-coherent, Changes-writers, TransfersAreSound-spared, HasBlocks-kept, All-renewed, HasWorkers-kept}
 use Rattle.sj_core.proofs.Contents.{end-content-other, end-content-own}
 use Rattle.sj_core.proofs.Counting.{Ends-keeps_counts}
 use Rattle.sj_core.proofs.Dependencies.{Proper-dependencies}
-use Rattle.sj_core.proofs.Forms.{HasBlocks-kept, All-renewed, HasWorkers-kept}
 use Rattle.sj_core.proofs.Placing.{replica_in-cases, same_place-is, same_place-refl}
 use Rattle.sj_core.proofs.Reading.{cells-renewed_or, cells-touched, cells-untouched, entry-inside, idle_row, moves-it, worker-other, worker-same, workers_differ}
 use Rattle.sj_core.proofs.Replicas.{same_worker-refl}
-use Rattle.sj_core.proofs.Resting.{not_written-before, agrees-kept}
+use Rattle.sj_core.proofs.Finding.{not_written-before, agrees-kept}
 use Rattle.sj_core.proofs.Separation.{separated}
 use Rattle.sj_core.proofs.Tables.{length-renewed}
 use Rattle.sj_core.proofs.TaskCells.{written-among_cells}

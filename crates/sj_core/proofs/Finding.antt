@@ -1,5 +1,5 @@
--- What a claimed or running task finds on its worker's node: in a cell whose old value it reads, the cell's content.
-use Rattle.std.proofs.Common.{Bool, None, Option, Some, ap, arith, cond, false, get_or, inl, inr, length, not, refl, sym, true, ℕ, ◌&&◌, ◌<◌, ◌∙◌, ◌≡◌, ◌⊎◌}
+-- What a claimed or running task finds in the cells whose old value it reads; and which cells no running task writes, before and after a step.
+use Rattle.std.proofs.Common.{Bool, None, Option, Some, ap, arith, cond, false, get_or, inl, inr, length, not, refl, sym, true, ℕ, ◌&&◌, ◌<◌, ◌∙◌, ◌≡◌, ◌⊎◌, subst}
 use Rattle.std.proofs.lemmas.Bool.{and_parts, false_from_ne_true, false≢true, not-false}
 use Rattle.std.proofs.lemmas.Bool.Decides.{Decides-eqb}
 use Rattle.std.proofs.lemmas.List.Elements.{All-contains}
@@ -8,17 +8,17 @@ use Rattle.std.proofs.lemmas.List.FromFn.{get_or-map-range_with_len, length-map-
 use Rattle.std.proofs.lemmas.List.Sums.{get_or-le-sum_by}
 use Rattle.std.specs.List.{Contains}
 use Rattle.std.specs.Prelude.{IfSome, IsTrue, count_by, if◌then◌else◌, is_some, unwrap_or}
-use Rattle.sj_core.proofs.Words.{Array, AtNode, Cell, Machine, Program, Progress, Replica, Running, State, Task, Worker, array_of, cells_of, data_operands, dims_of, done_by, fresh_cells, has_cell, is_running_on, is_task_of, is_valid, no_task, node_of, progress, replica, same_cell, task_of, tasks_of, worked_on, worker_of, writes, written_cells, zeros}
+use Rattle.sj_core.proofs.Words.{Array, AtNode, Cell, Machine, Program, Progress, Replica, Running, State, Task, Worker, array_of, cells_of, data_operands, dims_of, done_by, fresh_cells, has_cell, is_running_on, is_task_of, is_valid, no_task, node_of, progress, replica, same_cell, task_of, tasks_of, worked_on, worker_of, writes, written_cells, zeros, Waiting}
 use Rattle.sj_base.specs.Mode.{is_redux, is_scratch, is_written, reads_value, starts_as_zeros}
 use Rattle.sj_base.specs.declared.mode.Access.{Access}
 use Rattle.sj_base.specs.declared.mode.Mode.{Mode}
 use Rattle.sj_base.specs.declared.mode.Mode.TheVariants.{R}
 use Rattle.sj_deps.specs.Conflict.{HasDependencies}
-use Rattle.sj_core.specs.Coherent.{Coherent, content, has_written, is_being_written}
+use Rattle.sj_core.specs.Coherent.{Coherent, content, has_written, is_being_written, HasRows}
 use Rattle.sj_core.specs.Laws.{HasPlainModes}
 use Rattle.sj_core.specs.Proper.{HasValueBefore, Proper, gives_value}
-use Rattle.sj_core.specs.Step.{EarlierAreDone, array_at, reads}
-use Rattle.sj_core.proofs.Advancing.{active-begun, running_on-is, same_task, task_of-active, task_of-worker}
+use Rattle.sj_core.specs.Step.{EarlierAreDone, array_at}
+use Rattle.sj_core.proofs.Advancing.{active-begun, running_on-is, same_task, task_of-active, task_of-worker, Advances}
 use Rattle.sj_core.proofs.Folding.{read-among_cells}
 use Rattle.sj_core.proofs.Modes.{reads_isn't_scratch}
 use Rattle.sj_core.proofs.PlainModes.{conflicts, operand-inside, worked_on-plain}
@@ -26,6 +26,7 @@ use Rattle.sj_core.proofs.Readiness.{AllPairs-two, Contains-filter, Contains-fro
 use Rattle.sj_core.proofs.Replicas.{same_worker-refl}
 use Rattle.sj_core.proofs.Separation.{separated}
 use Rattle.sj_core.proofs.Sharing.{one, operand-has_cell, operand_for}
+use Rattle.sj_core.proofs.Reading.{progress-inside}
 
 -- ---- lists
 
@@ -155,3 +156,30 @@ module _ (p : Program) (m : Machine) (proper : Proper p) (deps : HasDependencies
             ∙ ap (λ b. if b then zeros (dims_of p a.cell) else content p s a.cell) (read-not_fresh t w a h reads)
         by_kind true e false f = shared (λ k. f)
         by_kind false e y f = shared (λ k. absurd (false≢true (sym e ∙ ap (is_running_on w) k ∙ same_worker-refl w)))
+
+-- ---- cells at rest
+
+pub running-inside : (p : Program) (m : Machine) (s : State) (u : Task) (v : Worker) → HasRows p m s → progress s u ≡ Running v → u.0 < length p.tasks
+running-inside p m s u v rows running = omega (arith, progress-inside s u (λ h. not_waiting (sym running ∙ h)), rows.tasks)
+  where
+    not_waiting : Running v ≡ Waiting → ⊥
+    not_waiting e = cc
+
+-- a cell that isn't being written after a step wasn't before, unless the task of the step wrote it
+pub not_written-before : (p : Program) (m : Machine) (s s' : State) (t : Task) (old new : Progress) (c : Cell) → HasRows p m s → Advances s s' t old new → is_being_written p s' c ≡ false → ((v : Worker) → old ≡ Running v → has_cell (written_cells p t v) c ≡ false) → is_being_written p s c ≡ false
+not_written-before p m s s' t old new c rows a resting spared = false_from_ne_true (is_being_written p s c) (λ h. (let by = being_written-by p s c h in by_task by.0 (done_by s by.0) by.1 by.2))
+  where
+    by_task : (u : Task) (v : Worker) → progress s u ≡ Running v → has_cell (written_cells p u v) c ≡ true → ⊥
+    by_task u v running writes =
+        elim (same_task u t) [
+          | inl e ↦ false≢true (sym (spared v (sym a.was ∙ ap (λ (k : Task). progress s k) (sym e) ∙ running)) ∙ ap (λ (k : Task). has_cell (written_cells p k v) c) (sym e) ∙ writes)
+          | inr d ↦ false≢true (sym resting ∙ being_written-here p s' c u v (running-inside p m s u v rows running) (a.others u d ∙ running) writes)
+        ]
+
+-- and the other way round: one that isn't being written isn't after a step whose task doesn't begin to write it
+pub not_written-after : (p : Program) (m : Machine) (s s' : State) (t : Task) (old new : Progress) (c : Cell) → HasRows p m s' → Advances s s' t old new → is_being_written p s c ≡ false → ((v : Worker) → new ≡ Running v → has_cell (written_cells p t v) c ≡ false) → is_being_written p s' c ≡ false
+not_written-after p m s s' t old new c rows a resting spared = not_written-before p m s' s t new old c rows (record { was = a.is; is = a.was; others = λ u d. sym (a.others u d) }) resting spared
+
+-- a valid replica that agrees still does where neither it nor the cell's content has changed
+pub agrees-kept : (o o' : Option Array) (x x' : Array) → o' ≡ o → x' ≡ x → IfSome o (λ a. a ≡ x) → IfSome o' (λ a. a ≡ x')
+agrees-kept o o' x x' e f h = subst (λ (k : Option Array). IfSome k (λ a. a ≡ x')) (sym e) (subst (λ (y : Array). IfSome o (λ a. a ≡ y)) (sym f) h)

@@ -5,13 +5,11 @@ use Rattle.std.proofs.lemmas.Bool.Decides.{Decides-eqb}
 use Rattle.std.proofs.lemmas.List.Folds.{find-append}
 use Rattle.std.specs.List.{Contains, filter, find, zip}
 use Rattle.std.specs.Option.{option_or}
-use Rattle.sj_core.proofs.Words.{Array, Cell, Program, Task, Worker, cells_of, dims_of, found, has_cell, results, same_cell, task_of, worked_on, writes, written_cells, zeros}
+use Rattle.sj_core.proofs.Words.{Array, Cell, Program, Task, Worker, cells_of, dims_of, has_cell, results, same_cell, task_of, worked_on, writes, written_cells, zeros, found}
 use Rattle.sj_base.specs.Mode.{is_scratch, is_written, starts_as_zeros}
 use Rattle.sj_base.specs.declared.mode.Access.{Access}
-use Rattle.sj_codelet.specs.Frame.{arrays}
-use Rattle.sj_codelet.specs.Kernel.{out, same}
+use Rattle.sj_codelet.specs.Kernel.{out}
 use Rattle.sj_core.specs.Fold.{Contents, after_chosen, after_task, held_in}
-use Rattle.sj_core.specs.Step.{reads}
 use Rattle.sj_core.proofs.Advancing.{same_task}
 use Rattle.sj_core.proofs.Modes.{reads_isn't_scratch}
 use Rattle.sj_core.proofs.Readiness.{Contains-from_filter}

@@ -1,7 +1,6 @@
 pub mod Advancing
 pub mod Arriving
 pub mod Blocks
-pub mod Bound
 pub mod Bytes
 pub mod CellLists
 pub mod Changing
@@ -10,7 +9,6 @@ pub mod Claimed
 pub mod Claiming
 pub mod Coherence
 pub mod Completeness
-pub mod Completing
 pub mod Contents
 pub mod Counting
 pub mod Delivering
@@ -20,7 +18,6 @@ pub mod Ending
 pub mod Eviction
 pub mod Finding
 pub mod Folding
-pub mod Forms
 pub mod Jobs
 pub mod Modes
 pub mod MovingIn
@@ -34,7 +31,6 @@ pub mod Reading
 pub mod Reduction
 pub mod Replaying
 pub mod Replicas
-pub mod Resting
 pub mod Running
 pub mod Separation
 pub mod Sharing

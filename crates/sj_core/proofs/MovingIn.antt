@@ -5,7 +5,6 @@ use Rattle.std.proofs.lemmas.List.{length-set}
 use Rattle.std.proofs.lemmas.List.Quantifiers.{position-Some}
 use Rattle.std.specs.Prelude.{IsTrue, option_map, position}
 use Rattle.sj_core.proofs.Words.{AtNode, Cell, DiskNo, Invalid, Machine, Node, OnDisk, Place, Program, State, Transfer, Worker, cell_state, fresh_cells, has_cell, is_claimed_by, is_coming_by, is_valid, progress, replica, same_cell, transfer, with_transfer}
-use Rattle.sj_codelet.specs.Kernel.{same}
 use Rattle.sj_core.specs.Coherent.{Coherent, IsClaimed, IsTransferTo, NoneLeavesBy, TransfersAreSound}
 use Rattle.sj_core.specs.Laws.{IsSound}
 use Rattle.sj_core.specs.Step.{BeginsMoveIn, a_transfer, disk_of, is_fresh}

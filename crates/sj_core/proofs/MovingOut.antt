@@ -3,7 +3,6 @@ use Rattle.std.proofs.Common.{Bool, None, Option, Some, [], ap, false, inl, inr,
 use Rattle.std.proofs.lemmas.Bool.{and_from, false_from_ne_true, false≢true}
 use Rattle.std.proofs.lemmas.List.{length-set}
 use Rattle.sj_core.proofs.Words.{Array, AtNode, Cell, Coming, DiskNo, Invalid, Leaving, Machine, OnDisk, Place, Program, Replica, State, Task, Transfer, Valid, Worker, is_claimed_by, is_leaving_by, is_valid, progress, replica, same_cell, transfer, with_transfer}
-use Rattle.sj_codelet.specs.Kernel.{same}
 use Rattle.sj_core.specs.Coherent.{Coherent, IsTransferTo, TransfersAreSound}
 use Rattle.sj_core.specs.Laws.{IsSound}
 use Rattle.sj_core.specs.Step.{BeginsMoveOut, a_transfer, disk_of, is_valid_elsewhere, same_place}

@@ -9,8 +9,7 @@ use Rattle.std.proofs.lemmas.List.FromFn.{get_or-map-range_with_len, length-map-
 use Rattle.std.proofs.lemmas.List.Sums.{fails_before_first}
 use Rattle.std.specs.List.{list_any, position_or_len, range_with_len}
 use Rattle.std.specs.Prelude.{All, position}
-use Rattle.sj_core.proofs.Words.{Array, AtNode, Cell, CellState, DiskNo, Invalid, Machine, Node, OnDisk, Place, Program, Replica, State, Transfer, Valid, Worker, WorkerState, cell_state, found, has_room, is_gone, is_leaving_by, is_valid, node_of, pins, replica, replica_in, room, scratch, transfer, victims_of, with_replica, with_replica_in, with_transfer, worker_state, writes}
-use Rattle.sj_codelet.specs.Kernel.{same}
+use Rattle.sj_core.proofs.Words.{Array, AtNode, Cell, CellState, DiskNo, Invalid, Machine, Node, OnDisk, Place, Program, Replica, State, Transfer, Valid, Worker, WorkerState, cell_state, has_room, is_gone, is_leaving_by, is_valid, node_of, pins, replica, replica_in, scratch, transfer, victims_of, with_replica, with_replica_in, with_transfer, worker_state, writes}
 use Rattle.sj_core.specs.Coherent.{HasRows, IsOwnedBy}
 use Rattle.sj_core.specs.Laws.{IsSound}
 use Rattle.sj_core.specs.Step.{places_of, same_place}
@@ -97,27 +96,26 @@ module _ (s : State) (c : Cell) (q : Place) (r : Replica) where
       writes_in (OnDisk d) = refl
 
   -- each row keeps its length
-  pub nodes-kept : (n : ℕ) → All (λ (row : CellState). length row.nodes ≡ n) s.cells → All (λ (row : CellState). length row.nodes ≡ n) (with_replica s c q r).cells
-  nodes-kept n all =
+  kept : (size : CellState → ℕ) → ((row : CellState) → size (with_replica_in row q r) ≡ size row) → (n : ℕ) → All (λ (row : CellState). size row ≡ n) s.cells → All (λ (row : CellState). size row ≡ n) (with_replica s c q r).cells
+  kept size same n all =
       elim (cases_lt c.0 (length s.cells)) [
-        | inl inside ↦ All-set (λ (row : CellState). length row.nodes ≡ n) s.cells c.0 (with_replica_in (cell_state s c) q r) (here q (all c.0 no_row inside)) all
-        | inr past ↦ λ i d inside. (let bound : i < length s.cells = omega (arith, inside, length-set s.cells c.0 (with_replica_in (cell_state s c) q r)) in subst (λ (row : CellState). length row.nodes ≡ n) (sym (get_or-set_other s.cells c.0 i (with_replica_in (cell_state s c) q r) d (λ e. (omega arith)))) (all i d bound))
+        | inl inside ↦ All-set (λ (row : CellState). size row ≡ n) s.cells c.0 (with_replica_in (cell_state s c) q r) (same (cell_state s c) ∙ all c.0 no_row inside) all
+        | inr past ↦ λ i d inside. (let bound : i < length s.cells = omega (arith, inside, length-set s.cells c.0 (with_replica_in (cell_state s c) q r)) in subst (λ (row : CellState). size row ≡ n) (sym (get_or-set_other s.cells c.0 i (with_replica_in (cell_state s c) q r) d (λ e. (omega arith)))) (all i d bound))
       ]
+
+  pub nodes-kept : (n : ℕ) → All (λ (row : CellState). length row.nodes ≡ n) s.cells → All (λ (row : CellState). length row.nodes ≡ n) (with_replica s c q r).cells
+  nodes-kept = kept (λ row. length row.nodes) (same q)
     where
-      here : (q : Place) → length (cell_state s c).nodes ≡ n → length (with_replica_in (cell_state s c) q r).nodes ≡ n
-      here (AtNode k) e = length-set (cell_state s c).nodes k.0 r ∙ e
-      here (OnDisk d) e = e
+      same : (k : Place) (row : CellState) → length (with_replica_in row k r).nodes ≡ length row.nodes
+      same (AtNode n) row = length-set row.nodes n.0 r
+      same (OnDisk d) row = refl
 
   pub disks-kept : (n : ℕ) → All (λ (row : CellState). length row.disks ≡ n) s.cells → All (λ (row : CellState). length row.disks ≡ n) (with_replica s c q r).cells
-  disks-kept n all =
-      elim (cases_lt c.0 (length s.cells)) [
-        | inl inside ↦ All-set (λ (row : CellState). length row.disks ≡ n) s.cells c.0 (with_replica_in (cell_state s c) q r) (here q (all c.0 no_row inside)) all
-        | inr past ↦ λ i d inside. (let bound : i < length s.cells = omega (arith, inside, length-set s.cells c.0 (with_replica_in (cell_state s c) q r)) in subst (λ (row : CellState). length row.disks ≡ n) (sym (get_or-set_other s.cells c.0 i (with_replica_in (cell_state s c) q r) d (λ e. (omega arith)))) (all i d bound))
-      ]
+  disks-kept = kept (λ row. length row.disks) (same q)
     where
-      here : (q : Place) → length (cell_state s c).disks ≡ n → length (with_replica_in (cell_state s c) q r).disks ≡ n
-      here (AtNode k) e = e
-      here (OnDisk d) e = length-set (cell_state s c).disks d.0 r ∙ e
+      same : (k : Place) (row : CellState) → length (with_replica_in row k r).disks ≡ length row.disks
+      same (AtNode n) row = refl
+      same (OnDisk d) row = length-set row.disks d.0 r
 
 -- ---- one transfer
 

@@ -5,12 +5,11 @@ use Rattle.std.proofs.lemmas.List.{get_or_past}
 use Rattle.std.specs.List.{Contains}
 use Rattle.std.specs.Prelude.{if◌then◌else◌}
 use Rattle.sj_base.specs.Mode.{is_in_order, is_scratch, is_written}
-use Rattle.sj_core.proofs.Words.{Cell, Program, Task, Worker, cells_of, copy_of, free, has_cell, no_task, task_of, worked_on, written_cells}
+use Rattle.sj_core.proofs.Words.{Cell, Program, Task, Worker, cells_of, copy_of, has_cell, no_task, task_of, worked_on, written_cells}
 use Rattle.sj_base.specs.declared.mode.Access.{Access}
 use Rattle.sj_base.specs.declared.mode.Mode.{Mode}
 use Rattle.sj_base.specs.declared.mode.Mode.TheVariants.{Commute, R, RW, Redux, Scratch, W}
 use Rattle.sj_base.specs.declared.program.Lowered.{Lowered}
-use Rattle.sj_codelet.specs.Frame.{written}
 use Rattle.sj_deps.specs.Conflict.{Conflict, HasDependencies, IsShared, Uses}
 use Rattle.sj_deps.specs.declared.manner.Manner.TheVariants.{Write}
 use Rattle.sj_core.specs.Fold.{after_chosen, after_task, held_in}

@@ -8,7 +8,6 @@ use Rattle.std.proofs.lemmas.List.Sums.{AllPass-from_list_all}
 use Rattle.std.specs.List.{Contains, filter, list_all, list_any, range_with_len}
 use Rattle.std.specs.Prelude.{AllPairs}
 use Rattle.sj_core.proofs.Words.{Program, State, Task, Waiting, done_in, is_done, progress}
-use Rattle.sj_codelet.specs.Kernel.{same}
 use Rattle.sj_deps.specs.Conflict.{Ready}
 use Rattle.sj_core.specs.Step.{EarlierAreDone, after, done_tasks}
 

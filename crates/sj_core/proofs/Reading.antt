@@ -9,7 +9,6 @@ use Rattle.std.proofs.lemmas.List.Sums.{AllPass-from_list_all}
 use Rattle.std.specs.List.{list_all, list_any}
 use Rattle.std.specs.Prelude.{if◌then◌else◌}
 use Rattle.sj_core.proofs.Words.{AtNode, Cell, CellState, Invalid, Machine, Node, OnDisk, Place, Progress, Replica, State, Task, Transfer, Waiting, Worker, WorkerState, cell_state, has_cell, is_entry, is_leaving, moves, progress, replica, replica_in, same_cell, transfer, with_cells, with_progress, with_replica_in, with_worker, worker_state, workers_of}
-use Rattle.sj_codelet.specs.Kernel.{same}
 use Rattle.sj_core.specs.Step.{none_leaving}
 use Rattle.sj_core.specs.Table.{renewed}
 use Rattle.sj_core.proofs.Tables.{length-renewed, renewed-at, renewed-at_or}

@@ -14,7 +14,7 @@ use Rattle.sj_core.proofs.MovingIn.{Moves_in-keep_coherence}
 use Rattle.sj_core.proofs.MovingOut.{Moves_out-keep_coherence}
 use Rattle.sj_core.proofs.Arriving.{Ended_moves-keep_coherence}
 use Rattle.sj_core.proofs.Coherence.{Claims-keeps_coherence, Runs-keeps_coherence, Ends-keeps_coherence}
-use Rattle.sj_core.proofs.Completing.{complete-final}
+use Rattle.sj_core.proofs.Delivering.{complete-final}
 use Rattle.sj_core.proofs.Opening.{opening-coherent}
 
 module _ (p : Program) (m : Machine) (proper : Proper p) (machine : IsMachineFor p m) (plain : HasPlainModes p) where

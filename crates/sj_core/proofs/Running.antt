@@ -5,24 +5,20 @@ use Rattle.std.proofs.lemmas.Bool.Decides.{Decides-eqb}
 use Rattle.std.proofs.lemmas.List.{get_or-set_same, length-map, length-set}
 use Rattle.std.specs.Prelude.{All, if◌then◌else◌, nat_eq}
 use Rattle.sj_core.proofs.Words.{Array, AtNode, Cell, CellState, Claimed, Invalid, Machine, Node, OnDisk, Place, Program, Progress, Replica, Running, State, Task, Transfer, Valid, Worker, WorkerState, array_of, cell_state, cells_of, dims_of, fresh_cells, has_cell, is_coming_by, is_entry, is_leaving_by, is_task_of, is_valid, moves, node_of, order, progress, replica, replica_in, same_cell, transfer, worker_of, worker_state, writes, written_cells, zeros}
-use Rattle.sj_codelet.specs.Frame.{written}
-use Rattle.sj_codelet.specs.Kernel.{same}
 use Rattle.sj_core.specs.Coherent.{Coherent, CopiesAgree, HasEntries, HasRows, IsStateOf, IsTransferTo, WritersOwn, content, is_begun, is_being_written}
 use Rattle.sj_core.specs.Laws.{IsSound}
 use Rattle.sj_core.specs.Step.{Runs, array_at, initial, is_moving, owned_at, same_place, without}
 use Rattle.sj_core.proofs.Advancing.{Advances, Runs-advances, Runs-keeps_order, claimed-is_mine, claimed-task_of}
 use Rattle.sj_core.proofs.CellLists.{has_cell-without, times, times-filter}
-use Rattle.sj_core.proofs.Changing.{Changes, Changes-coherent, Changes-writers, TransfersAreSound-spared}
+use Rattle.sj_core.proofs.Changing.{Changes, Changes-coherent, Changes-writers, TransfersAreSound-spared, HasBlocks-kept, place_differs, All-renewed, HasWorkers-kept}
 use Rattle.sj_core.proofs.Claimed.{claimed-not_written, claimed-old_value}
 use Rattle.sj_core.proofs.Contents.{content-kept}
 use Rattle.sj_core.proofs.Counting.{counted-same, written-undone}
 use Rattle.sj_core.proofs.Dependencies.{Proper-dependencies}
-use Rattle.sj_core.proofs.Finding.{array-told, being_written-here}
-use Rattle.sj_core.proofs.Forms.{HasBlocks-kept, place_differs, All-renewed, HasWorkers-kept}
+use Rattle.sj_core.proofs.Finding.{array-told, being_written-here, not_written-after, not_written-before, running-inside, agrees-kept}
 use Rattle.sj_core.proofs.Placing.{replica_in-cases, room-leaves_none, same_place-refl}
 use Rattle.sj_core.proofs.Reading.{all_invalid, cells-renewed_or, cells-touched, cells-untouched, entry-inside, list_all-has, list_any-worker, moves-it, replica_in-no_row, same_node, transfer-inside, unmoved-from}
 use Rattle.sj_core.proofs.Replicas.{coming_by-is, same_worker-is, same_worker-refl}
-use Rattle.sj_core.proofs.Resting.{not_written-after, not_written-before, running-inside, agrees-kept}
 use Rattle.sj_core.proofs.Separation.{separated}
 use Rattle.sj_core.proofs.Tables.{length-renewed, renewed-at_or}
 use Rattle.sj_core.proofs.TaskCells.{fresh-among_written, written-among_cells}

@@ -7,7 +7,6 @@ use Rattle.std.proofs.lemmas.List.FromFn.{get_or-map-range_with_len, length-map-
 use Rattle.std.specs.Prelude.{IsTrue, if◌then◌else◌}
 use Rattle.sj_base.specs.Mode.{is_commute, is_written}
 use Rattle.sj_core.proofs.Words.{Cell, Claimed, Machine, Program, Progress, State, Task, Waiting, Worker, cells_of, commuting_cells, copy_of, has_cell, is_done, is_task_of, progress, task_of, tasks_of, worked_on, worker_of, written_cells}
-use Rattle.sj_codelet.specs.Frame.{written}
 use Rattle.sj_deps.specs.Conflict.{HasDependencies}
 use Rattle.sj_core.specs.Coherent.{IsStateOf, OrderIsKept, SharesCommuting, WorkersAreSound, is_active}
 use Rattle.sj_core.specs.Proper.{NamesCells}

@@ -7,7 +7,6 @@ use Rattle.std.specs.Prelude.{fold, unwrap_or}
 use Rattle.sj_core.proofs.Words.{AtNode, Cell, Machine, OnDisk, Place, Program, State, Worker, opening, replica, transfer}
 use Rattle.sj_base.specs.declared.trace.Event.{Event}
 use Rattle.sj_base.specs.declared.trace.Event.TheVariants.{Claim, Drop, End, Move, Moved, Run}
-use Rattle.sj_codelet.specs.Kernel.{same}
 use Rattle.sj_core.specs.Coherent.{Coherent, IsTransferTo}
 use Rattle.sj_core.specs.Legal.{IsLegal, Leads, Legal, Replays, state_of}
 use Rattle.sj_core.specs.Step.{Step, a_transfer, after, after_claim, claimant_of, mover_of}

@@ -12,14 +12,12 @@ use Rattle.sj_core.proofs.Words.{Cell, Program, State, Task, Worker, cells_of, c
 use Rattle.sj_base.specs.declared.mode.Access.{Access}
 use Rattle.sj_base.specs.declared.mode.Mode.{Mode}
 use Rattle.sj_base.specs.declared.mode.Mode.TheVariants.{Commute as CommuteMode, R, RW, Redux, Scratch, W}
-use Rattle.sj_codelet.specs.Frame.{written}
-use Rattle.sj_codelet.specs.Kernel.{same}
 use Rattle.sj_deps.specs.Conflict.{Conflict, IsShared, Uses}
 use Rattle.sj_deps.specs.declared.manner.Manner.{Manner}
 use Rattle.sj_deps.specs.declared.manner.Manner.TheVariants.{Write}
 use Rattle.sj_core.specs.Coherent.{WritesAreCounted, has_written}
 use Rattle.sj_core.specs.Proper.{HasValueBefore, Proper, access, gives_value}
-use Rattle.sj_core.specs.Step.{EarlierAreDone, reads}
+use Rattle.sj_core.specs.Step.{EarlierAreDone}
 use Rattle.sj_core.proofs.Dependencies.{Proper-dependencies}
 use Rattle.sj_core.proofs.Readiness.{Contains-filter, list_any-some}
 use Rattle.sj_core.proofs.Reading.{same_cell-is}

@@ -2,7 +2,7 @@
 use Rattle.std.proofs.Common.{◌≡◌, ℕ, not, List, [], ◌∷◌, map, refl, Option, Some, None}
 use Rattle.std.specs.Prelude.{option_map, nat_eq}
 use Rattle.sj_base.specs.declared.mode.Mode.TheVariants.{R, Scratch, Redux}
-use Rattle.sj_core.proofs.Words.{Block, Program, footprint, place, room, swap_need}
+use Rattle.sj_core.proofs.Words.{Block, Program, footprint, swap_need, place, room}
 use Rattle.sj_core.specs.Victims.{victims}
 use Rattle.sj_codelet.specs.declared.kernel.Kernel.TheVariants.{Sum, GemmThree}
 use Rattle.sj_core.proofs.Jobs.{a_machine, a_task, access, columns}
