@@ -16,7 +16,7 @@ use Rattle.sj_core.specs.Laws.{HasPlainModes}
 use Rattle.sj_base.specs.Mode.{is_in_order, is_written, starts_as_zeros}
 use Rattle.sj_core.specs.Operands.{found, results, worked_on, written_cells}
 use Rattle.sj_core.specs.Program.{task_of, written_operands}
-use Rattle.sj_core.proofs.Folding.{Contains-from_filter}
+use Rattle.sj_core.proofs.Readiness.{Contains-from_filter}
 use Rattle.sj_core.proofs.PlainModes.{mode-plain, worked_on-plain}
 use Rattle.sj_board.specs.Operands.{kept, news_of, outputs, slot_for, slots_of}
 

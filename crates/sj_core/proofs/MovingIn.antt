@@ -9,13 +9,10 @@ use Rattle.sj_core.specs.Coherent.{Coherent, IsClaimed, IsTransferTo, NoneLeaves
 use Rattle.sj_core.specs.Laws.{IsSound}
 use Rattle.sj_core.specs.Step.{BeginsMoveIn, a_transfer, disk_of, is_fresh}
 use Rattle.sj_core.proofs.Claimed.{claimed-inside, claimed-not_written, claimed-old_value, list_any-task}
-use Rattle.sj_core.proofs.Placing.{owned-fails, pins-same, position-none, room-leaves_none, scratch-same, transfer-cases, valid-within, victims-same}
+use Rattle.sj_core.proofs.Placing.{owned-fails, pins-same, position-none, room-leaves_none, scratch-same, transfer-cases, valid-within, victims-same, transfer-is}
 use Rattle.sj_core.proofs.Reading.{same_cell-is}
 use Rattle.sj_core.proofs.Replicas.{same_worker-refl}
 use Rattle.sj_core.proofs.Shifting.{Shifts, Shifts-coherent}
-
-pub some-is : (x y : Transfer) → Some x ≡ Some y → x ≡ y
-some-is x y e = cc
 
 module _ (p : Program) (m : Machine) (s : State) (h : IsSound p m s) (c : Cell) (from : Place) (n : Node) (w : Worker) (s' : State) (move : BeginsMoveIn p m s c from n w s') where
   abbrev begun : Transfer
@@ -56,7 +53,7 @@ module _ (p : Program) (m : Machine) (s : State) (h : IsSound p m s) (c : Cell) 
 
   -- each transfer is as before, or is this one
   transfers : (v : Worker) (x : Transfer) → transfer after v ≡ Some x → (transfer s v ≡ Some x) ⊎ ((v ≡ w) × (begun ≡ x))
-  transfers v x h = elim (transfer-cases s w (Some begun) v) [ inl same ↦ inl (sym same ∙ h) | inr (e, is) ↦ inr (e, some-is begun x (sym is ∙ h)) ]
+  transfers = transfer-is s w begun
 
   to_node : (k : Node) (d : DiskNo) → AtNode k ≡ OnDisk d → ⊥
   to_node k d e = cc

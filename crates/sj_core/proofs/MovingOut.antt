@@ -7,8 +7,7 @@ use Rattle.sj_core.specs.Coherent.{Coherent, IsTransferTo, TransfersAreSound}
 use Rattle.sj_core.specs.Laws.{IsSound}
 use Rattle.sj_core.specs.Step.{BeginsMoveOut, a_transfer, disk_of, is_valid_elsewhere, same_place}
 use Rattle.sj_core.proofs.Advancing.{claimed_by-is}
-use Rattle.sj_core.proofs.MovingIn.{some-is}
-use Rattle.sj_core.proofs.Placing.{list_any-place, owned-fails, pins-same, same_place-is, scratch-same, transfer-cases, victims-same}
+use Rattle.sj_core.proofs.Placing.{list_any-place, owned-fails, pins-same, same_place-is, scratch-same, transfer-cases, victims-same, transfer-is}
 use Rattle.sj_core.proofs.Reading.{same_cell-is}
 use Rattle.sj_core.proofs.Replicas.{leaving_by-is, leaving_by-one, leaving_by-valid}
 use Rattle.sj_core.proofs.Shifting.{Shifts, Shifts-coherent}
@@ -50,7 +49,7 @@ module _ (p : Program) (m : Machine) (s : State) (h : IsSound p m s) (c : Cell) 
 
   -- each transfer is as before, or is this one
   transfers : (v : Worker) (x : Transfer) → transfer after v ≡ Some x → (transfer s v ≡ Some x) ⊎ ((v ≡ w) × (begun ≡ x))
-  transfers v x h = elim (transfer-cases s w (Some begun) v) [ inl same ↦ inl (sym same ∙ h) | inr (e, is) ↦ inr (e, some-is begun x (sym is ∙ h)) ]
+  transfers = transfer-is s w begun
 
   -- another worker's transfer of the cell to a disk would read the same replica
   reads_the_same : (v : Worker) (x : Transfer) (k : DiskNo) → transfer s v ≡ Some x → x.to ≡ OnDisk k → x.cell ≡ c → v ≡ w

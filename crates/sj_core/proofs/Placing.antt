@@ -150,6 +150,13 @@ module _ (s : State) (w : Worker) (move : Option Transfer) where
   pub transfer-own : w.0 < length s.workers → transfer (with_transfer s w move) w ≡ move
   transfer-own inside = ap (λ (row : WorkerState). row.transfer) (get_or-set_same s.workers w.0 moving_row idle_row inside)
 
+-- where a transfer was begun, each that is under way was before, or is that one
+pub transfer-is : (s : State) (w : Worker) (begun : Transfer) (v : Worker) (x : Transfer) → transfer (with_transfer s w (Some begun)) v ≡ Some x → (transfer s v ≡ Some x) ⊎ ((v ≡ w) × (begun ≡ x))
+transfer-is s w begun v x now = elim (transfer-cases s w (Some begun) v) [ inl same ↦ inl (sym same ∙ now) | inr (e, is) ↦ inr (e, is_one (sym is ∙ now)) ]
+  where
+    is_one : Some begun ≡ Some x → begun ≡ x
+    is_one e = cc
+
 -- ---- places
 
 pub same_place-is : (q k : Place) → same_place q k ≡ true → q ≡ k
