@@ -3,7 +3,7 @@ use Rattle.std.proofs.Common.{◌≡◌, ℕ, ◌<◌, ◌≤◌, Bool, true, fa
 use Rattle.std.specs.Prelude.{◌||◌}
 use Rattle.std.specs.List.{All, AllPairs, list_all, list_any}
 use Rattle.std.specs.Str.{bytes_eq}
-use Rattle.std.proofs.lemmas.Bool.{false≢true}
+use Rattle.std.proofs.lemmas.Bool.{false≢true, and_parts}
 use Rattle.std.proofs.lemmas.Bool.Decides.{Decides-eqb}
 use Rattle.std.proofs.lemmas.List.Elements.{All-nil, All-cons}
 use Rattle.std.proofs.lemmas.List.Kept.{AllPairs-cons, AllPairs-filter}
@@ -32,7 +32,6 @@ use Rattle.sj_lower.proofs.Contents.{task_at, same_cell-is}
 use Rattle.sj_lower.proofs.Holding.{cell_of, handle_is, bytes_eq-itself}
 use Rattle.sj_lower.proofs.Running.{root_there, valued_there, dims_there, or_none, kernel_there}
 use Rattle.sj_lower.proofs.Agreeing.{Agrees}
-use Rattle.sj_lower.proofs.Writing.{and_parts}
 
 -- a task of the program is one that it may have at that number
 pub record IsGood (p : Program) (n : ℕ) (l : Lowered) : Type 0 where

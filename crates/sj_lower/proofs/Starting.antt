@@ -3,7 +3,7 @@ use Rattle.std.proofs.Common.{◌≡◌, ℕ, zero, suc, ◌+◌, ◌*◌, ◌/�
 use Rattle.std.specs.Prelude.{nat_le}
 use Rattle.std.specs.List.{zip, filter, list_all, range_with_len}
 use Rattle.std.specs.Option.{is_some}
-use Rattle.std.proofs.lemmas.Bool.{false≢true}
+use Rattle.std.proofs.lemmas.Bool.{false≢true, and_parts}
 use Rattle.std.proofs.lemmas.Bool.Decides.{nat_tests}
 use Rattle.std.proofs.lemmas.Int.{ints}
 use Rattle.std.proofs.Math.Nat.{mod-eq-sub-div-mul, div-mul-le_self}
@@ -29,7 +29,6 @@ use Rattle.sj_job.specs.Judge.{is_side}
 use Rattle.sj_lower.specs.Lowering.{own_task, an_access}
 use Rattle.sj_lower.proofs.Contents.{first_worker, task_at}
 use Rattle.sj_lower.proofs.Holding.{unwrapped}
-use Rattle.sj_lower.proofs.Writing.{and_parts}
 
 -- ---- dimensions
 

@@ -21,10 +21,7 @@ use Rattle.sj_core.specs.Proper.{mode_of, own_modes}
 use Rattle.sj_job.specs.declared.job.Operand.{Operand}
 use Rattle.sj_job.specs.Judge.{mode_fits, modes_fit}
 use Rattle.sj_job.specs.Sound.{is_plain}
-
-pub and_parts : (b c : Bool) → (b && c) ≡ true → (b ≡ true) × (c ≡ true)
-and_parts true c e = (refl, e)
-and_parts false c e = absurd (cc)
+use Rattle.std.proofs.lemmas.Bool.{and_parts}
 
 -- ---- modes
 
