@@ -1,18 +1,16 @@
 -- A move into a node that begins leaves a coherent state.
-use Rattle.std.proofs.Common.{Bool, None, Option, Some, ap, false, inl, inr, not, refl, subst, sym, true, ℕ, ◌&&◌, ◌∙◌, ◌≡◌, ◌⊎◌}
+use Rattle.std.proofs.Common.{None, Option, Some, ap, false, inl, inr, not, refl, subst, sym, true, ℕ, ◌&&◌, ◌∙◌, ◌≡◌, ◌⊎◌}
 use Rattle.std.proofs.lemmas.Bool.{and_from, false_from_ne_true, false≢true}
-use Rattle.std.proofs.lemmas.List.{length-set}
 use Rattle.std.proofs.lemmas.List.Quantifiers.{position-Some}
 use Rattle.std.specs.Prelude.{IsTrue, option_map, position}
-use Rattle.sj_core.proofs.Words.{AtNode, Cell, DiskNo, Invalid, Machine, Node, OnDisk, Place, Program, State, Transfer, Worker, cell_state, fresh_cells, has_cell, is_claimed_by, is_coming_by, is_valid, progress, replica, same_cell, transfer, with_transfer}
+use Rattle.sj_core.proofs.Words.{AtNode, Cell, DiskNo, Invalid, Machine, Node, OnDisk, Place, Program, State, Transfer, Worker, cell_state, fresh_cells, has_cell, is_claimed_by, is_coming_by, is_valid, progress, replica, transfer, with_transfer}
 use Rattle.sj_core.specs.Coherent.{Coherent, IsClaimed, IsTransferTo, NoneLeavesBy, TransfersAreSound}
 use Rattle.sj_core.specs.Laws.{IsSound}
 use Rattle.sj_core.specs.Step.{BeginsMoveIn, a_transfer, disk_of, is_fresh}
 use Rattle.sj_core.proofs.Claimed.{claimed-inside, claimed-not_written, claimed-old_value, list_any-task}
-use Rattle.sj_core.proofs.Placing.{owned-fails, pins-same, position-none, room-leaves_none, scratch-same, transfer-cases, valid-within, victims-same, transfer-is}
-use Rattle.sj_core.proofs.Reading.{same_cell-is}
+use Rattle.sj_core.proofs.Placing.{owned-fails, position-none, room-leaves_none, valid-within, transfer-is}
 use Rattle.sj_core.proofs.Replicas.{same_worker-refl}
-use Rattle.sj_core.proofs.Shifting.{Shifts, Shifts-coherent}
+use Rattle.sj_core.proofs.Shifting.{Begun-coherent}
 
 module _ (p : Program) (m : Machine) (s : State) (h : IsSound p m s) (c : Cell) (from : Place) (n : Node) (w : Worker) (s' : State) (move : BeginsMoveIn p m s c from n w s') where
   abbrev begun : Transfer
@@ -86,35 +84,5 @@ module _ (p : Program) (m : Machine) (s : State) (h : IsSound p m s) (c : Cell) 
       to_place v d from (AtNode k) target = target
       to_place v d from (OnDisk k) target = target
 
-  shift : Shifts p m s after.cells after.workers
-  shift = record {
-    rows = (let rows = h.coherent.state.rows in record { tasks = rows.tasks; cells = rows.cells; orders = rows.orders; workers = length-set s.workers w.0 _ ∙ rows.workers; nodes = rows.nodes; disks = rows.disks });
-    blocks = (let blocks = h.coherent.state.blocks in record {
-      resting = blocks.resting;
-      home = blocks.home;
-      aimed = λ v x d under_way to. elim (transfers v x under_way) [ inl same ↦ blocks.aimed v x d same to | inr (e, is) ↦ absurd (not_to_disk x d is to) ];
-    });
-    same_pins = pins-same s w (Some begun);
-    same_scratch = scratch-same s w (Some begun);
-    same_victims = victims-same s w (Some begun);
-    same_writes = λ d. refl;
-    same_entries = λ d k. refl;
-    leaves = λ v d q leaving. leaving;
-    comes = λ v d k coming. coming;
-    still_comes = λ v x d k leaving coming. coming;
-    pinned = λ v d pin valid. valid;
-    owned = λ d v a own q. refl;
-    unmoved = λ d v a own x. elim (transfer-cases s w (Some begun) x) [
-      | inl same ↦ ap (λ (o : Option Transfer). elim o as (λ _. Bool) [ None ↦ false | Some y ↦ same_cell y.cell d ]) same ∙ own.unmoved x
-      | inr (e, is) ↦ ap (λ (o : Option Transfer). elim o as (λ _. Bool) [ None ↦ false | Some y ↦ same_cell y.cell d ]) is ∙ false_from_ne_true (same_cell c d) (λ same. false≢true (sym (owned-fails m s d v a own (is_coming_by w) refl refl (AtNode n)) ∙ ap (λ (y : Cell). is_coming_by w (replica s y (AtNode n))) (sym (same_cell-is c d same)) ∙ move.coming))
-    ];
-    movers = λ v x under_way. elim (transfers v x under_way) [
-      | inl same ↦ h.coherent.workers.moves_for_claim v x same
-      | inr (e, is) ↦ (claimed.task, ap (λ (y : Worker). is_claimed_by y (progress s claimed.task)) e ∙ ap (is_claimed_by w) claimed.claimed ∙ same_worker-refl w)
-    ];
-    moving = moving;
-    copies = record { valid_somewhere = h.coherent.copies.valid_somewhere; alike = h.coherent.copies.alike };
-  }
-
   pub Moves_in-keep_coherence : Coherent p m s'
-  Moves_in-keep_coherence = subst (λ (z : State). Coherent p m z) (sym move.leaves) (Shifts-coherent p m s h claimed.task w claimed.claimed after.cells after.workers shift)
+  Moves_in-keep_coherence = subst (λ (z : State). Coherent p m z) (sym move.leaves) (Begun-coherent p m s h w begun (λ d to. absurd (to_node n d to)) moving (λ v a own. false≢true (sym (owned-fails m s c v a own (is_coming_by w) refl refl (AtNode n)) ∙ move.coming)) claimed.task claimed.claimed)

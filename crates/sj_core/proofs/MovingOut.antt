@@ -1,16 +1,14 @@
 -- A move out to a disk that begins leaves a coherent state.
-use Rattle.std.proofs.Common.{Bool, None, Option, Some, [], ap, false, inl, inr, not, refl, subst, sym, true, ◌&&◌, ◌∙◌, ◌≡◌, ◌⊎◌}
-use Rattle.std.proofs.lemmas.Bool.{and_from, false_from_ne_true, false≢true}
-use Rattle.std.proofs.lemmas.List.{length-set}
-use Rattle.sj_core.proofs.Words.{Array, AtNode, Cell, Coming, DiskNo, Invalid, Leaving, Machine, OnDisk, Place, Program, Replica, State, Task, Transfer, Valid, Worker, is_claimed_by, is_leaving_by, is_valid, progress, replica, same_cell, transfer, with_transfer}
+use Rattle.std.proofs.Common.{Bool, Some, [], ap, false, inl, inr, not, refl, subst, sym, true, ◌&&◌, ◌∙◌, ◌≡◌, ◌⊎◌}
+use Rattle.std.proofs.lemmas.Bool.{and_from, false≢true}
+use Rattle.sj_core.proofs.Words.{Array, AtNode, Cell, Coming, DiskNo, Invalid, Leaving, Machine, OnDisk, Place, Program, Replica, State, Task, Transfer, Valid, Worker, is_claimed_by, is_leaving_by, is_valid, progress, replica, transfer, with_transfer}
 use Rattle.sj_core.specs.Coherent.{Coherent, IsTransferTo, TransfersAreSound}
 use Rattle.sj_core.specs.Laws.{IsSound}
-use Rattle.sj_core.specs.Step.{BeginsMoveOut, a_transfer, disk_of, is_valid_elsewhere, same_place}
+use Rattle.sj_core.specs.Step.{BeginsMoveOut, a_transfer, is_valid_elsewhere, same_place}
 use Rattle.sj_core.proofs.Advancing.{claimed_by-is}
-use Rattle.sj_core.proofs.Placing.{list_any-place, owned-fails, pins-same, same_place-is, scratch-same, transfer-cases, victims-same, transfer-is}
-use Rattle.sj_core.proofs.Reading.{same_cell-is}
+use Rattle.sj_core.proofs.Placing.{list_any-place, owned-fails, same_place-is, transfer-is}
 use Rattle.sj_core.proofs.Replicas.{leaving_by-is, leaving_by-one, leaving_by-valid}
-use Rattle.sj_core.proofs.Shifting.{Shifts, Shifts-coherent}
+use Rattle.sj_core.proofs.Shifting.{Begun-coherent}
 
 module _ (p : Program) (m : Machine) (s : State) (h : IsSound p m s) (c : Cell) (from : Place) (d : DiskNo) (w : Worker) (s' : State) (move : BeginsMoveOut p m s c from d w s') where
   abbrev begun : Transfer
@@ -101,38 +99,5 @@ module _ (p : Program) (m : Machine) (s : State) (h : IsSound p m s) (c : Cell) 
   disk-is : (k : DiskNo) → OnDisk d ≡ OnDisk k → d ≡ k
   disk-is k e = cc
 
-  shift : Shifts p m s after.cells after.workers
-  shift = record {
-    rows = (let rows = h.coherent.state.rows in record { tasks = rows.tasks; cells = rows.cells; orders = rows.orders; workers = length-set s.workers w.0 _ ∙ rows.workers; nodes = rows.nodes; disks = rows.disks });
-    blocks = (let blocks = h.coherent.state.blocks in record {
-      resting = blocks.resting;
-      home = blocks.home;
-      aimed = λ v x k under_way to. elim (transfers v x under_way) [
-        | inl same ↦ blocks.aimed v x k same to
-        | inr (e, is) ↦ ap (λ (y : Transfer). disk_of p m y.cell) (sym is) ∙ move.target ∙ ap Some (disk-is k (ap (λ (y : Transfer). y.to) is ∙ to))
-      ];
-    });
-    same_pins = pins-same s w (Some begun);
-    same_scratch = scratch-same s w (Some begun);
-    same_victims = victims-same s w (Some begun);
-    same_writes = λ x. refl;
-    same_entries = λ x k. refl;
-    leaves = λ v x q leaving. leaving;
-    comes = λ v x k coming. coming;
-    still_comes = λ v x y k leaving coming. coming;
-    pinned = λ v x pin valid. valid;
-    owned = λ x v a own q. refl;
-    unmoved = λ x v a own u. elim (transfer-cases s w (Some begun) u) [
-      | inl same ↦ ap (λ (o : Option Transfer). elim o as (λ _. Bool) [ None ↦ false | Some y ↦ same_cell y.cell x ]) same ∙ own.unmoved u
-      | inr (e, is) ↦ ap (λ (o : Option Transfer). elim o as (λ _. Bool) [ None ↦ false | Some y ↦ same_cell y.cell x ]) is ∙ false_from_ne_true (same_cell c x) (λ same. false≢true (sym (owned-fails m s x v a own (is_leaving_by w) refl refl from) ∙ ap (λ (y : Cell). is_leaving_by w (replica s y from)) (sym (same_cell-is c x same)) ∙ move.leaving))
-    ];
-    movers = λ v x under_way. elim (transfers v x under_way) [
-      | inl same ↦ h.coherent.workers.moves_for_claim v x same
-      | inr (e, is) ↦ (claims.0, ap (λ (y : Worker). is_claimed_by y (progress s claims.0)) e ∙ claims.1)
-    ];
-    moving = moving;
-    copies = record { valid_somewhere = h.coherent.copies.valid_somewhere; alike = h.coherent.copies.alike };
-  }
-
   pub Moves_out-keep_coherence : Coherent p m s'
-  Moves_out-keep_coherence = subst (λ (z : State). Coherent p m z) (sym move.leaves) (Shifts-coherent p m s h claims.0 w (claimed_by-is w (progress s claims.0) claims.1) after.cells after.workers shift)
+  Moves_out-keep_coherence = subst (λ (z : State). Coherent p m z) (sym move.leaves) (Begun-coherent p m s h w begun (λ k to. move.target ∙ ap Some (disk-is k to)) moving (λ v a own. false≢true (sym (owned-fails m s c v a own (is_leaving_by w) refl refl from) ∙ move.leaving)) claims.0 (claimed_by-is w (progress s claims.0) claims.1))

@@ -1,10 +1,16 @@
 -- A step that changes replicas and transfers alone, and what it owes so as to leave a coherent state.
-use Rattle.std.proofs.Common.{List, Some, false, inl, inr, refl, sym, true, ◌∙◌, ◌≡◌}
-use Rattle.sj_core.proofs.Words.{Array, AtNode, Cell, CellState, Claimed, Machine, Node, Place, Program, Running, State, Task, Transfer, Worker, WorkerState, has_cell, is_claimed_by, is_coming_by, is_entry, is_leaving_by, is_valid, moves, node_of, pins, progress, replica, scratch, transfer, victims_of, writes}
+use Rattle.std.proofs.Common.{List, Some, false, inl, inr, refl, sym, true, ◌∙◌, ◌≡◌, ap, subst}
+use Rattle.sj_core.proofs.Words.{Array, AtNode, Cell, CellState, Claimed, Machine, Node, Place, Program, Running, State, Task, Transfer, Worker, WorkerState, has_cell, is_claimed_by, is_coming_by, is_entry, is_leaving_by, is_valid, moves, node_of, pins, progress, replica, scratch, transfer, victims_of, writes, DiskNo, OnDisk, with_transfer}
 use Rattle.sj_core.specs.Coherent.{Coherent, CopiesAgree, HasBlocks, HasRows, IsOwnedBy, TransfersAreSound}
 use Rattle.sj_core.specs.Laws.{IsSound}
 use Rattle.sj_core.proofs.Advancing.{claimed-is_mine, task_of-worker}
 use Rattle.sj_core.proofs.Changing.{Changes, Changes-coherent, Changes-writers}
+use Rattle.sj_core.specs.Step.{disk_of}
+use Rattle.std.proofs.lemmas.List.{length-set}
+use Rattle.std.proofs.lemmas.Bool.{true≢false}
+use Rattle.sj_core.proofs.Placing.{transfer-is, pins-same, scratch-same, victims-same}
+use Rattle.sj_core.proofs.Reading.{unmoved-from, moves-it}
+use Rattle.sj_core.proofs.Replicas.{same_worker-refl}
 
 -- the state with other cells and workers
 abbrev pub shifted : State → List CellState → List WorkerState → State
@@ -68,3 +74,43 @@ module _ (p : Program) (m : Machine) (s : State) (h : IsSound p m s) (t : Task) 
       (λ u v c d runs written. (let old = h.coherent.writers.owned u v c runs written in (shift.owned c v _ old, shift.unmoved c v _ old, refl)))
       (λ c e. absurd (let f : Claimed w ≡ Running w = e in cc)))
       shift.copies
+
+-- a move that begins, of a cell that no running task owns: the blocks where it goes, transfers are sound with it, and the worker has a claimed task
+module _ (p : Program) (m : Machine) (s : State) (h : IsSound p m s) (w : Worker) (begun : Transfer) (aimed : (d : DiskNo) → begun.to ≡ OnDisk d → disk_of p m begun.cell ≡ Some d) (moving : TransfersAreSound m (with_transfer s w (Some begun)))
+    (free : (v : Worker) (a : Array) → IsOwnedBy m s begun.cell v a → ⊥) (t : Task) (claimed : progress s t ≡ Claimed w) where
+  abbrev now : State
+  now = with_transfer s w (Some begun)
+
+  begins : Shifts p m s now.cells now.workers
+  begins = record {
+    rows = (let rows = h.coherent.state.rows in record { tasks = rows.tasks; cells = rows.cells; orders = rows.orders; workers = length-set s.workers w.0 _ ∙ rows.workers; nodes = rows.nodes; disks = rows.disks });
+    blocks = (let blocks = h.coherent.state.blocks in record {
+      resting = blocks.resting;
+      home = blocks.home;
+      aimed = λ v x d under_way to. elim (transfer-is s w begun v x under_way) [ inl same ↦ blocks.aimed v x d same to | inr (e, is) ↦ subst (λ (y : Transfer). disk_of p m y.cell ≡ Some d) is (aimed d (ap (λ (y : Transfer). y.to) is ∙ to)) ];
+    });
+    same_pins = pins-same s w (Some begun);
+    same_scratch = scratch-same s w (Some begun);
+    same_victims = victims-same s w (Some begun);
+    same_writes = λ d. refl;
+    same_entries = λ d k. refl;
+    leaves = λ v d q leaving. leaving;
+    comes = λ v d k coming. coming;
+    still_comes = λ v x d k leaving coming. coming;
+    pinned = λ v d pin valid. valid;
+    owned = λ d v a own q. refl;
+    unmoved = λ d v a own x. unmoved-from now x d (λ y under_way e. elim (transfer-is s w begun x y under_way) [
+      | inl same ↦ true≢false (sym (moves-it s x y same) ∙ ap (moves s x) e ∙ own.unmoved x)
+      | inr (f, is) ↦ free v a (subst (λ (k : Cell). IsOwnedBy m s k v a) (sym e ∙ sym (ap (λ (z : Transfer). z.cell) is)) own)
+    ]);
+    movers = λ v x under_way. elim (transfer-is s w begun v x under_way) [
+      | inl same ↦ h.coherent.workers.moves_for_claim v x same
+      | inr (e, is) ↦ (t, ap (λ (y : Worker). is_claimed_by y (progress s t)) e ∙ ap (is_claimed_by w) claimed ∙ same_worker-refl w)
+    ];
+    moving = moving;
+    copies = record { valid_somewhere = h.coherent.copies.valid_somewhere; alike = h.coherent.copies.alike };
+  }
+
+  -- it leaves a coherent state
+  pub Begun-coherent : Coherent p m now
+  Begun-coherent = Shifts-coherent p m s h t w claimed now.cells now.workers begins
