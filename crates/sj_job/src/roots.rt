@@ -1,6 +1,6 @@
 //! The roots of a job by name and by number.
 
-ghost use Rattle.std.specs.Prelude.{◌≡◌, ◌<◌, [], None, length, IfSome, OnOk};
+ghost use Rattle.std.specs.Prelude.{◌≡◌, ◌<◌, ◌≤◌, [], None, length, IfSome, OnOk};
 ghost use Rattle.sj_job.specs.Table.{table, name_of, info_of, root_in, with_root, AreDistinct};
 
 use crate::job::RootInfo;
@@ -45,6 +45,7 @@ impl Roots {
         ensures count { result ≡ length self.now.names }
         ensures infos { length self.now.infos ≡ length self.now.names }
         ensures distinct { AreDistinct self.now.names }
+        ensures few { length self.now.names ≤ 4096 }
     {
         self.infos.len()
     }

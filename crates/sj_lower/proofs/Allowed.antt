@@ -61,7 +61,7 @@ second false c e = absurd (cc)
 named_isn't : (name : List ℕ) (k : Kernel) → has_name name k ≡ true → kernel_of (codelet_of k) ≡ Some Deliver → ⊥
 named_isn't name k h e =
     let same : k ≡ Deliver = cc (kernel_of-codelet_of k) in
-    false≢true (sym (ap (has_name name) (sym same)) ∙ h)
+    false≢true (sym (ap (has_name name) same) ∙ h)
 
 task_isn't : (has : Kernel → Bool) (s : Scope) (t : TaskForm) (act : Act) → IsJudged has s t act → DoesNotDeliver act
 task_isn't has s t act j =

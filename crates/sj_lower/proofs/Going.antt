@@ -6,7 +6,7 @@ use Rattle.sj_job.specs.View.{ArePlaced, IsPlaced, count_after, count_from, seen
 use Rattle.sj_job.proofs.Views.{counts-grow}
 use Rattle.sj_lower.specs.declared.lowerer.Lowerer.{Lowerer}
 use Rattle.sj_lower.specs.Lowering.{Lowering, nothing, lower_from, lower_one}
-use Rattle.sj_lower.specs.Seen.{Follows}
+use Rattle.sj_lower.specs.Seen.{Follows, Grows}
 
 -- what is lowered so far, and how the rest goes on from it
 pub record GoesOn (T : Table) (l : Lowerer) (whole rest : List Kept) : Type 0 where
@@ -36,15 +36,15 @@ going-fits T l whole rest s g = omega (arith, counts-grow (count_after (vec_len 
 
 pub going-more : (T : Table) (old new : Lowerer) (whole rest : List Kept) (s : Kept) → GoesOn T old whole (s ∷ rest)
     → ((L : Lowering) → Follows T old L → Follows T new (lower_one (statement_seen T (vec_len old.cells) s) L))
-    → vec_len new.cells ≡ count_after (vec_len old.cells) s.act → vec_len new.tasks ≤ vec_len old.tasks + 1 → new.prints ≤ vec_len new.tasks → GoesOn T new whole rest
-going-more T old new whole rest s g follows cells tasks prints = record {
+    → Grows old new (count_after (vec_len old.cells) s.act) → GoesOn T new whole rest
+going-more T old new whole rest s g follows grows = record {
   so_far = lower_one (statement_seen T (vec_len old.cells) s) g.so_far;
   follows = follows g.so_far g.follows;
-  onward = ap (λ n. lower_from (lower_one (statement_seen T (vec_len old.cells) s) g.so_far) (seen_from T n rest)) cells ∙ g.onward;
-  placed = subst (λ (n : ℕ). ArePlaced n rest) (sym cells) g.placed.1;
-  counted = ap (λ n. count_from n rest) cells ∙ g.counted;
-  few = omega (arith, tasks, g.few);
-  prints = prints;
+  onward = ap (λ n. lower_from (lower_one (statement_seen T (vec_len old.cells) s) g.so_far) (seen_from T n rest)) grows.cells_are ∙ g.onward;
+  placed = subst (λ (n : ℕ). ArePlaced n rest) (sym grows.cells_are) g.placed.1;
+  counted = ap (λ n. count_from n rest) grows.cells_are ∙ g.counted;
+  few = omega (arith, grows.tasks, g.few);
+  prints = grows.prints g.prints;
 }
 
 pub going-end : (T : Table) (l : Lowerer) (whole rest : List Kept) (g : GoesOn T l whole rest) → rest ≡ [] → g.so_far ≡ lower_from nothing (seen_from T 0 whole)

@@ -218,7 +218,7 @@ names-printed has T p ss e d count placed well =
       handles = λ n lt. absurd (omega arith);
       roots = refl;
       cells = refl;
-      knows = λ q r e. absurd (let none = map.get-empty (slice_cmp nat_cmp) q in cc);
+      knows = λ q r e. let none : root_of start q ≡ None = map.get-empty (slice_cmp nat_cmp) q in absurd (cc);
       rooted = All-nil (λ (d : Delivery). d.root.0 < 0);
     }) in
     record {

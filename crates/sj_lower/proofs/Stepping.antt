@@ -86,7 +86,7 @@ handles_more T L h d few is hs n lt =
     by_test true e inside = absurd (let same : L.roots ≡ n = d L.roots n few (omega (arith, few, inside)) ((bytes_eq-Decides (name_of T (a_root L.roots)) (name_of T (a_root n))).0 e) in omega (arith, same, inside))
     by_test false e inside = ap (λ b. cond b (Some h) (L.handles (name_of T (a_root n)))) e ∙ hs n inside
 
-abbrev cell_for : ℕ → RootInfo → CellInfo
+abbrev pub cell_for : ℕ → RootInfo → CellInfo
 cell_for n info = record { root = record { 0 = n }; dims = info.dims; partials = None }
 
 pub follows_registration : (T : Table) (old new : Lowerer) (L : Lowering) (info : RootInfo) (init : Init) (line : Line) → Follows T old L → AreDistinct T.names → L.roots < length T.names

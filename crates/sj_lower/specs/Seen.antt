@@ -1,5 +1,5 @@
 -- What is lowered so far, as contracts see it.
-use Rattle.std.specs.Prelude.{◌≡◌, ◌<◌, ℕ, Some, List, length}
+use Rattle.std.specs.Prelude.{◌≡◌, ◌<◌, ◌≤◌, ◌+◌, ℕ, Some, List, length, vec_len}
 use Rattle.sj_base.specs.declared.program.Lowered.{Lowered}
 use Rattle.sj_job.specs.Table.{Table, a_root, name_of}
 use Rattle.sj_lower.specs.declared.lowerer.Lowerer.{Lowerer}
@@ -24,3 +24,9 @@ pub record HasTasks (old new : Lowerer) (tasks : List Lowered) : Type 0 where
   pub cells : new.cells ≡ old.cells
   pub deliveries : new.deliveries ≡ old.deliveries
   pub prints : new.prints ≡ old.prints
+
+-- there are so many cells now, at most one task more, and no more print statements than tasks
+pub record Grows (old new : Lowerer) (cells : ℕ) : Type 0 where
+  pub cells_are : vec_len new.cells ≡ cells
+  pub tasks : vec_len new.tasks ≤ vec_len old.tasks + 1
+  pub prints : old.prints ≤ vec_len old.tasks → new.prints ≤ vec_len new.tasks

@@ -3,5 +3,4 @@
 
 pub mod lower;
 mod lowerer;
-#[cfg(test)]
-mod tests;
+

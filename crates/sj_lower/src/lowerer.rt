@@ -4,7 +4,7 @@ ghost use Rattle.std.specs.Prelude.{◌≡◌, ◌+◌, ◌<◌, ◌≤◌, ◌+
 ghost use Rattle.sj_job.specs.Table.{Table, AreDistinct, a_root, name_of, info_of};
 ghost use Rattle.sj_job.specs.View.{IsPlaced, count_after, registration, statement_seen, task_seen};
 ghost use Rattle.sj_lower.specs.Lowering.{Lowering, nothing, fill_arguments, task_by, first_tasks, access_by, lower_registration, lower_task, lower_print, lower_one, program_of};
-ghost use Rattle.sj_lower.specs.Seen.{Follows, HasTasks};
+ghost use Rattle.sj_lower.specs.Seen.{Follows, Grows, HasTasks};
 
 use sj_base::ids::{Cell, Line, Root, Task};
 use sj_base::memory::OutOfMemory;
@@ -125,7 +125,8 @@ impl Lowerer {
         line: Line,
     ) -> Result<(), OutOfMemory>
         requires { vec_len self.old.cells < 4096 }
-        ensures { OnOk result ((T : Table) (L : Lowering) → Follows T self.old L → AreDistinct T.names
+        ensures grows { OnOk result (Grows self.old self.new (vec_len self.old.cells + 1)) }
+        ensures follows { OnOk result ((T : Table) (L : Lowering) → Follows T self.old L → AreDistinct T.names
             → L.roots < length T.names → Follows T self.new
                 (lower_registration line (registration (name_of T (a_root L.roots)) info init) L)) }
     {
@@ -141,7 +142,8 @@ impl Lowerer {
 
     /// A task over the cells of its operands. Linear in them.
     fn task(&mut self, alloc: Global, task: TaskLine, line: Line) -> Result<(), OutOfMemory>
-        ensures { OnOk result ((T : Table) (L : Lowering) → Follows T self.old L
+        ensures grows { OnOk result (Grows self.old self.new (vec_len self.old.cells)) }
+        ensures follows { OnOk result ((T : Table) (L : Lowering) → Follows T self.old L
             → All (λ o. o.root.0 < L.roots) task.operands
             → Follows T self.new (lower_task line (task_seen T task) L)) }
     {
@@ -160,7 +162,8 @@ impl Lowerer {
     fn print(&mut self, alloc: Global, root: Root, line: Line) -> Result<(), OutOfMemory>
         requires tasks { vec_len self.old.tasks < 262144 }
         requires prints { self.old.prints < 262144 }
-        ensures { OnOk result ((T : Table) (L : Lowering) → Follows T self.old L → root.0 < L.roots
+        ensures grows { OnOk result (Grows self.old self.new (vec_len self.old.cells)) }
+        ensures follows { OnOk result ((T : Table) (L : Lowering) → Follows T self.old L → root.0 < L.roots
             → Follows T self.new (lower_print line (name_of T root) L)) }
     {
         let access = Access {
@@ -191,23 +194,22 @@ impl Lowerer {
         requires prints { self.old.prints ≤ vec_len self.old.tasks }
         requires fits { count_after (vec_len self.old.cells) statement.act ≤ length roots.now.names }
         requires placed { IsPlaced (vec_len self.old.cells) statement.act }
-        ensures { OnOk result ((L : Lowering) → Follows roots.now self.old L → Follows roots.now self.new
+        ensures follows { OnOk result ((L : Lowering) → Follows roots.now self.old L → Follows roots.now self.new
             (lower_one (statement_seen roots.now (vec_len self.old.cells) statement) L)) }
-        ensures cells { OnOk result (vec_len self.new.cells
-            ≡ count_after (vec_len self.old.cells) statement.act) }
-        ensures tasks { OnOk result (vec_len self.new.tasks ≤ vec_len self.old.tasks + 1) }
-        ensures prints { OnOk result (self.new.prints ≤ vec_len self.new.tasks) }
+        ensures grows { OnOk result (Grows self.old self.new
+            (count_after (vec_len self.old.cells) statement.act)) }
     {
-        match statement.act {
+        let Statement { line, act } = statement;
+        match act {
             Act::Register(init) => {
                 let count = roots.len();
                 let number = self.cells.len();
                 prove!(number < count);
                 let info = roots.info(Root(number as u32));
-                self.register(alloc, info, init, statement.line)
+                self.register(alloc, info, init, line)
             }
-            Act::Task(task) => self.task(alloc, task, statement.line),
-            Act::Print(root) => self.print(alloc, root, statement.line),
+            Act::Task(task) => self.task(alloc, task, line),
+            Act::Print(root) => self.print(alloc, root, line),
             Act::Invalidate(_) | Act::Unregister(_) => Ok(()),
         }
     }
