@@ -3,4 +3,5 @@
 
 pub mod lower;
 mod lowerer;
-
+#[cfg(test)]
+mod tests;
