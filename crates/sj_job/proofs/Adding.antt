@@ -91,7 +91,7 @@ distinct-pushed names name d e i j li lj same = by_tests (nat_lt i (length names
 
 pub table-pushed : (T : Table) (name : List ℕ) (info : RootInfo) → IsTable T → length T.names < 4096 → root_in T name ≡ None → IsTable (with_root name info T)
 table-pushed T name info h few e = (
-    omega (arith, length-append T.infos (info ∷ []), length-append T.names (name ∷ []), h.0),
-    omega (arith, length-append T.names (name ∷ [])),
-    distinct-pushed T.names name h.2 (no-place T name e),
+  omega (arith, length-append T.infos (info ∷ []), length-append T.names (name ∷ []), h.0),
+  omega (arith, length-append T.names (name ∷ [])),
+  distinct-pushed T.names name h.2 (no-place T name e),
 )

@@ -97,8 +97,8 @@ push_some names name q i p = by_len (position_or_len (bytes_eq q) names) refl p
             let lt : n < length names = grind (arith, nat_tests) in
             let apart : nat_eq n (length names) ≡ false = grind (arith, nat_tests) in
             let pushed : position_or_len (bytes_eq q) (names ++ name ∷ []) ≡ n =
-                position_or_len_push (bytes_eq q) names name ∙ ap (λ m. cond (nat_eq m (length names)) (length names + cond (bytes_eq q name) 0 1) m) e
-                ∙ ap (λ b. cond b (length names + cond (bytes_eq q name) 0 1) n) apart in
+            position_or_len_push (bytes_eq q) names name ∙ ap (λ m. cond (nat_eq m (length names)) (length names + cond (bytes_eq q name) 0 1) m) e
+            ∙ ap (λ b. cond b (length names + cond (bytes_eq q name) 0 1) n) apart in
             let longer : length (names ++ name ∷ []) ≡ length names + 1 = length-append names (name ∷ []) in
             let within : nat_lt n (length (names ++ name ∷ [])) ≡ true = grind (arith, nat_tests) in
             ap (λ m. cond (nat_lt m (length (names ++ name ∷ []))) (Some m) None) pushed
@@ -118,8 +118,8 @@ push_none names name q p = by_len (position_or_len (bytes_eq q) names) refl p
             let at_end : nat_eq n (length names) ≡ true = grind (arith, nat_tests) in
             let longer : length (names ++ name ∷ []) ≡ length names + 1 = length-append names (name ∷ []) in
             let pushed : position_or_len (bytes_eq q) (names ++ name ∷ []) ≡ length names + cond (bytes_eq q name) 0 1 =
-                position_or_len_push (bytes_eq q) names name ∙ ap (λ m. cond (nat_eq m (length names)) (length names + cond (bytes_eq q name) 0 1) m) e
-                ∙ ap (λ b. cond b (length names + cond (bytes_eq q name) 0 1) n) at_end in
+            position_or_len_push (bytes_eq q) names name ∙ ap (λ m. cond (nat_eq m (length names)) (length names + cond (bytes_eq q name) 0 1) m) e
+            ∙ ap (λ b. cond b (length names + cond (bytes_eq q name) 0 1) n) at_end in
             ap (λ m. cond (nat_lt m (length (names ++ name ∷ []))) (Some m) None) pushed
             ∙ ap (λ k. cond (nat_lt (length names + cond (bytes_eq q name) 0 1) k) (Some (length names + cond (bytes_eq q name) 0 1)) None) longer
             ∙ by_name (bytes_eq q name)

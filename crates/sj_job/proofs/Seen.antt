@@ -94,9 +94,9 @@ shows_registered old new S name info init p h none k e s counted =
     let r = registration name info init in
     let count : length old.standings.items ≡ length old.roots.names = omega (arith, old.standings.ok, h.counted) in
     let found : (q : List ℕ) → found_in new q ≡ cond (bytes_eq q name) (Some (a_found (a_root (length old.roots.names)) info.dims (first_standing init))) (found_in old q) = λ q.
-        ap (λ (T : Table). found_with T new.standings.items q) e
-        ∙ ap (λ (xs : List Standing). found_with (with_root name info old.roots) xs q) s
-        ∙ found-pushed old.roots old.standings.items name info (first_standing init) q k count none in
+    ap (λ (T : Table). found_with T new.standings.items q) e
+    ∙ ap (λ (xs : List Standing). found_with (with_root name info old.roots) xs q) s
+    ∙ found-pushed old.roots old.standings.items name info (first_standing init) q k count none in
     record {
       counted = counted;
       registered = ap (λ (T : Table). length T.names) e ∙ length-append old.roots.names (name ∷ []) ∙ ap (λ m. m + 1) h.registered;

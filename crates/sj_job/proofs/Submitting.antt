@@ -100,7 +100,7 @@ registers has old new a name info init h =
     let said : registered_by a ≡ registration name info init = λ i. registration (sym h.name_is i) (sym h.info_is i) (sym h.init_is i) in
     let seen : act_noted old new (kept.Register init) ≡ Register (registration name info init) = ap (λ (T : Table). act_seen T (length old.roots.names) (kept.Register init)) h.roots ∙ last_seen old.roots name info init h.whole in
     let done : done_in has (scope_in old) (form.Register a) ≡ Ok (Register (registered_by a)) =
-        done_placed has (scope_in old) (form.Register a) refl h.numbered h.built ∙ ap (λ o. unless o (Register (registered_by a))) h.unopposed in
+    done_placed has (scope_in old) (form.Register a) refl h.numbered h.built ∙ ap (λ o. unless o (Register (registered_by a))) h.unopposed in
     record {
       act = done ∙ ap (λ r. Ok (Register r)) said ∙ ap Ok (sym seen);
       notes = record {

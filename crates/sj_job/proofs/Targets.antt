@@ -137,8 +137,8 @@ dims_same names (o ∷ os) [] h e = absurd h
 dims_same names (o ∷ os) (t ∷ ts) h e =
     let p = or_parts (is_over t.found.standing) (any_over ts) e in
     let here : dims_in (scope_in names) o ≡ t.found.dims =
-        ap (λ (f : Option Found). elim (known_from f) as (λ _. Dims) [ None ↦ record { rows = 0; cols = 0 } | Some k ↦ k.dims ]) h.0.found
-        ∙ dims_by t.found.dims t.found.standing p.0 in
+    ap (λ (f : Option Found). elim (known_from f) as (λ _. Dims) [ None ↦ record { rows = 0; cols = 0 } | Some k ↦ k.dims ]) h.0.found
+    ∙ dims_by t.found.dims t.found.standing p.0 in
     λ i. here i ∷ dims_same names os ts h.1 p.1 i
 
 lacks_by : (d : Dims) (st : Standing) → (elim (known_by d st) as (λ _. Bool) [ None ↦ false | Some k ↦ not k.valued ]) ≡ is_unvalued st
@@ -152,8 +152,8 @@ wanting_same names [] (t ∷ ts) h = absurd h
 wanting_same names (o ∷ os) [] h = absurd h
 wanting_same names (o ∷ os) (t ∷ ts) h =
     let lacks : (elim (known_from (found_in names o.name)) as (λ _. Bool) [ None ↦ false | Some k ↦ not k.valued ]) ≡ is_unvalued t.found.standing =
-        ap (λ (f : Option Found). elim (known_from f) as (λ _. Bool) [ None ↦ false | Some k ↦ not k.valued ]) h.0.found
-        ∙ lacks_by t.found.dims t.found.standing in
+    ap (λ (f : Option Found). elim (known_from f) as (λ _. Bool) [ None ↦ false | Some k ↦ not k.valued ]) h.0.found
+    ∙ lacks_by t.found.dims t.found.standing in
     λ i. (needs_value (sym h.0.mode i) && lacks i) || wanting_same names os ts h.1 i
 
 -- ---- names and roots

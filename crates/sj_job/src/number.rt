@@ -34,7 +34,7 @@ pub fn integers(alloc: Global, words: &[&[u8]]) -> Result<Option<Sequence<i64>>,
     ensures { IfOk result (λ r. MatchOption r
         (list_all is_integer (map (λ w. w.now) words.now) ≡ false)
         (λ zs. (list_all is_integer (map (λ w. w.now) words.now) ≡ true)
-            × (zs ≡ map integer (map (λ w. w.now) words.now)))) }
+        × (zs ≡ map integer (map (λ w. w.now) words.now)))) }
 {
     let mut values = Vec::with_capacity(alloc, words.len())?;
     for word in words {
@@ -50,7 +50,7 @@ pub fn integers(alloc: Global, words: &[&[u8]]) -> Result<Option<Sequence<i64>>,
 pub fn size_of(size: &Size<'_>) -> Option<(u64, u64)>
     ensures { MatchOption result (is_numbered_size size.now ≡ false)
         (λ p. (is_numbered_size size.now ≡ true)
-            × (p.0 ≡ rows_of size.now) × (p.1 ≡ cols_of size.now)) }
+        × (p.0 ≡ rows_of size.now) × (p.1 ≡ cols_of size.now)) }
 {
     match size {
         Size::Vector(n) => Some((1, count_of(n.bytes())?)),
@@ -73,7 +73,7 @@ pub fn init_of(alloc: Global, init: &InitForm<'_>) -> Result<Option<Init>, OutOf
 fn fill_of(a: &Piece<'_>, b: &Piece<'_>) -> Option<Init>
     ensures { MatchOption result (is_numbered_init (InitForm.Fill a.now b.now) ≡ false)
         (λ said. (is_numbered_init (InitForm.Fill a.now b.now) ≡ true)
-            × (said ≡ init_said (InitForm.Fill a.now b.now))) }
+        × (said ≡ init_said (InitForm.Fill a.now b.now))) }
 {
     Some(Init::Fill(integer_of(a.bytes())?, integer_of(b.bytes())?))
 }

@@ -200,11 +200,7 @@ fn operand_of<'a>(alloc: Global, word: &'a [u8]) -> Result<Option<OperandForm<'a
         return Ok(None);
     };
     match child_of(pieces.items()) {
-        Some(child) => Ok(Some(OperandForm {
-            name,
-            child,
-            mode,
-        })),
+        Some(child) => Ok(Some(OperandForm { name, child, mode })),
         None => Ok(None),
     }
 }

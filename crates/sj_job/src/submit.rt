@@ -62,11 +62,7 @@ fn kind_of(size: &Size<'_>) -> Kind
 }
 
 /// Registers a root. Linear in the words.
-fn submit_array(
-    alloc: Global,
-    names: &mut Names,
-    array: &ArrayForm<'_>,
-) -> Result<Act, Objection>
+fn submit_array(alloc: Global, names: &mut Names, array: &ArrayForm<'_>) -> Result<Act, Objection>
     requires counted { IsCounted names.old }
     requires room { names.old.statements + 1 < 2 ^ 64 }
     ensures ok { IfOk result (λ a. (has : Kernel → Bool) →

@@ -24,10 +24,12 @@ fn job_of(alloc: Global, line: &str, begun: bool) -> Result<Job, ReadRefusal> {
 fn reason_of(alloc: Global, line: &str, begun: bool) -> Result<Option<Reason>, OutOfMemory> {
     match job_of(alloc, line, begun) {
         Err(ReadRefusal::OutOfMemory) => Err(OutOfMemory),
-        Err(ReadRefusal::Refused {
-            reason: reason @ (Reason::Word | Reason::Number | Reason::NotBuilt),
-            ..
-        }) => Ok(Some(reason)),
+        Err(
+            ReadRefusal::Refused {
+                reason: reason @ (Reason::Word | Reason::Number | Reason::NotBuilt),
+                ..
+            },
+        ) => Ok(Some(reason)),
         _ => Ok(None),
     }
 }
@@ -230,7 +232,10 @@ fn a_registration_has_its_name_dimensions_and_values(rt: HostRuntime) -> Result<
     };
     assert_eq!(rt; (root, job.roots.len()), (Root(0), 1));
     let info = info_of(&job.roots, root).ok_or("its dimensions")?;
-    assert_eq!(rt; (info.kind, info.dims.rows, info.dims.cols), (Kind::Matrix, 1, 2));
+    assert_eq!(rt;
+        (info.kind, info.dims.rows, info.dims.cols),
+        (Kind::Matrix, 1, 2)
+    );
     let Some(statement) = job.statements.items().first() else {
         return Err(Fail::from("a statement"));
     };

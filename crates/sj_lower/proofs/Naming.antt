@@ -166,9 +166,9 @@ act_steps has T n L S line (kept.Print r) d few placed sound t =
     let below : r.0 < L.roots = omega (arith, t.roots, placed) in
     let here = handle-there T L r t.handles below in
     let kind_is : (s : Root) → root_of S q ≡ Some s → (info_of T r).kind ≡ s.kind = λ s e.
-        let h = t.knows q s e in
-        let same : h.number ≡ r.0 = d h.number r.0 (omega (arith, h.below, few)) (omega (arith, placed, few)) h.named in
-        ap (λ m. (info_of T (a_root m)).kind) (sym same) ∙ h.kind in
+    let h = t.knows q s e in
+    let same : h.number ≡ r.0 = d h.number r.0 (omega (arith, h.below, few)) (omega (arith, placed, few)) h.named in
+    ap (λ m. (info_of T (a_root m)).kind) (sym same) ∙ h.kind in
     record {
       tracks = record {
         handles = t.handles;

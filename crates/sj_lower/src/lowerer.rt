@@ -105,11 +105,13 @@ impl Lowerer {
         };
         match init {
             Init::Values(values) => {
-                self.tasks.push(own_task(alloc, LOAD, values, access, line)?)?;
+                self.tasks
+                    .push(own_task(alloc, LOAD, values, access, line)?)?;
             }
             Init::Fill(a, b) => {
                 let args = Sequence::of(fill_arguments(alloc, a, b, info.dims.cols)?);
-                self.tasks.push(own_task(alloc, LOADFILL, args, access, line)?)?;
+                self.tasks
+                    .push(own_task(alloc, LOADFILL, args, access, line)?)?;
             }
             Init::Nothing => {}
         }
@@ -128,7 +130,7 @@ impl Lowerer {
         ensures grows { OnOk result (Grows self.old self.new (vec_len self.old.cells + 1)) }
         ensures follows { OnOk result ((T : Table) (L : Lowering) → Follows T self.old L → AreDistinct T.names
             → L.roots < length T.names → Follows T self.new
-                (lower_registration line (registration (name_of T (a_root L.roots)) info init) L)) }
+            (lower_registration line (registration (name_of T (a_root L.roots)) info init) L)) }
     {
         let number = self.cells.len() as u32;
         self.push_first_task(alloc, init, info, Cell(number), line)?;
@@ -172,7 +174,8 @@ impl Lowerer {
         };
         let task = Task(self.tasks.len() as u32);
         let args = Sequence::of(Vec::new(alloc));
-        self.tasks.push(own_task(alloc, DELIVER, args, access, line)?)?;
+        self.tasks
+            .push(own_task(alloc, DELIVER, args, access, line)?)?;
         self.deliveries.push(Delivery {
             task,
             root,

@@ -44,7 +44,7 @@ returns-in-Some-2-clause-err g c =
     let k = c.in-Some-kernel_named.kernel in
     let named : kernel_named g.C.Codelets.has c.args.form.now.codelet ≡ Some k = ap (kernel_named g.C.Codelets.has) (sym c.bytes.ensures) ∙ sym c.kernel_named.ensures ∙ c.in-Some-kernel_named.is in
     let why : first_of (target_reasons k (map integer c.args.form.now.args) c.in-Some.targets.items) ≡ Some c.in-Some-2.why =
-        (λ i. first_of (target_reasons k ((sym c.requires.args ∙ sym c.items-2.ensures) i) (sym c.deref-2.ensures.value i))) ∙ sym c.in_ok-why.ensures ∙ c.in-Some-2.is in
+    (λ i. first_of (target_reasons k ((sym c.requires.args ∙ sym c.items-2.ensures) i) (sym c.deref-2.ensures.value i))) ∙ sym c.in_ok-why.ensures ∙ c.in-Some-2.is in
     task-why g.C.Codelets.has c.args.names.now c.args.form.now c.in-Some.targets.items k c.in-Some-2.why (record { full = full; early = early; found = found }) over named why
 
 pub returns-clause-ok : goal.returns-clause-ok
@@ -56,7 +56,7 @@ returns-clause-ok g c =
     let k = c.in-Some-kernel_named.kernel in
     let named : kernel_named g.C.Codelets.has c.args.form.now.codelet ≡ Some k = ap (kernel_named g.C.Codelets.has) (sym c.bytes.ensures) ∙ sym c.kernel_named.ensures ∙ c.in-Some-kernel_named.is in
     let none : first_of (target_reasons k (map integer c.args.form.now.args) c.in-Some.targets.items) ≡ None =
-        (λ i. first_of (target_reasons k ((sym c.requires.args ∙ sym c.items-2.ensures) i) (sym c.deref-2.ensures.value i))) ∙ sym c.in_ok-why.ensures ∙ c.in_default-2.is in
+    (λ i. first_of (target_reasons k ((sym c.requires.args ∙ sym c.items-2.ensures) i) (sym c.deref-2.ensures.value i))) ∙ sym c.in_ok-why.ensures ∙ c.in_default-2.is in
     let small : FitsSigned w32 c.narrowed.result = search rules in
     let wide : FitsSigned w64 c.args.priority = search rules in
     task-ok g.C.Codelets.has c.args.names.now c.args.form.now c.in-Some.targets.items k c.args.args c.of.result (to_z w32 (of_z w32 c.narrowed.result)) (record { full = full; early = early; found = found }) over named none

@@ -14,6 +14,6 @@ returns-clause-names c = λ n S h s.
     record {
       statements = ap (λ m. m + 1) h.statements;
       shows = shows_registered c.args.self.now _ S name info init (has_elements S (registration name info init) s) h.shows c.requires.fresh c.add.ensures.whole
-      c.in_ok-add.ensures.added (c.in_ok-push.ensures.items ∙ ap (λ st. c.args.self.now.standings.items ++ st ∷ []) c.first_standing.ensures)
-      (omega (arith, c.in_ok-push.ensures.len, names, length-append c.args.self.now.roots.names (name ∷ []), c.requires.counted));
+          c.in_ok-add.ensures.added (c.in_ok-push.ensures.items ∙ ap (λ st. c.args.self.now.standings.items ++ st ∷ []) c.first_standing.ensures)
+          (omega (arith, c.in_ok-push.ensures.len, names, length-append c.args.self.now.roots.names (name ∷ []), c.requires.counted));
     }

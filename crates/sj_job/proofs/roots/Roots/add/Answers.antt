@@ -10,8 +10,8 @@ pushed c =
     let T = c.args.self.now in
     let text = c.in_ok-from_slice.ensures.items in
     let fresh : position (bytes_eq c.in_ok-from_slice.field-0.items) (map (λ k. k.items) c.self.inside.names.keys) ≡ None =
-        ap (λ (q : List ℕ). position (bytes_eq q) (map (λ k. k.items) c.self.inside.names.keys)) text
-        ∙ ap (λ (U : Table). position (bytes_eq c.args.name.now) U.names) c.self.view_is ∙ no-place T c.args.name.now c.requires.fresh in
+    ap (λ (q : List ℕ). position (bytes_eq q) (map (λ k. k.items) c.self.inside.names.keys)) text
+    ∙ ap (λ (U : Table). position (bytes_eq c.args.name.now) U.names) c.self.view_is ∙ no-place T c.args.name.now c.requires.fresh in
     let names = ap (map (λ k. k.items)) c.in_ok-insert.ensures.keys ∙ key-added (λ k. k.items) c.self.inside.names.keys c.in_ok-from_slice.field-0 fresh in
     let infos = c.in_ok-push.ensures.items in
     (λ i. table (names i) (infos i))
