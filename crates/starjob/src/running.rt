@@ -86,10 +86,10 @@ pub fn run_job<C: Codelets>(alloc: Global, job: Job, codelets: &C) -> Run
     ensures whole { IsOk result.result → RanWhole (statements_of job) result.trace.events }
 {
     finishes();
-    let Ok(Ready { program, roots }) = program_of(alloc, job) else {
+    let Ok(ready) = program_of(alloc, job) else {
         return nothing_run(alloc);
     };
-    let Ok(shared) = shared(&program) else {
+    let Ok(shared) = shared(&ready.program) else {
         return nothing_run(alloc);
     };
     let RunOutcome {
@@ -99,7 +99,12 @@ pub fn run_job<C: Codelets>(alloc: Global, job: Job, codelets: &C) -> Run
     } = run(alloc, shared, codelets);
     match result {
         Ok(()) => Run {
-            result: text_of(alloc, &roots, program.deliveries.items(), &delivered),
+            result: text_of(
+                alloc,
+                &ready.roots,
+                ready.program.deliveries.items(),
+                &delivered,
+            ),
             trace,
         },
         Err(e) => Run {
