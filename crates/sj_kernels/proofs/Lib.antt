@@ -1,4 +1,5 @@
 pub mod Products
-pub mod Pastes
+pub mod Panels
+pub mod Turns
 pub mod Places
 pub mod Tiles

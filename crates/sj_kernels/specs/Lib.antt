@@ -1,3 +1,5 @@
 pub mod Has
 pub mod Rows
+pub mod Panels
+pub mod Turned
 pub mod RingLaws

@@ -6,10 +6,14 @@ ghost use Rattle.sj_codelet.specs.Ring.{wrap};
 ghost use Rattle.sj_codelet.specs.Equations.{matrix, transpose, loadfill, paste};
 ghost use Rattle.sj_codelet.specs.Kernel.{lies_in};
 ghost use Rattle.sj_codelet.specs.Listing.{listing};
+ghost use Rattle.sj_kernels.specs.Turned.{turned_within};
 
 use crate::elementwise::{copy, fill};
 use sj_base::tile::Dims;
 use sj_codelet::window::Window;
+
+/// How many rows of A are turned at a time: as many elements as a line of the cache has.
+const ROWS: usize = 8;
 
 /// `B[j,i] = A[i,j]` for an m×n and an n×m matrix. Linear in the elements.
 pub fn transpose(a: &[i64], b: &mut [i64], m: u32, n: u32)
@@ -19,8 +23,27 @@ pub fn transpose(a: &[i64], b: &mut [i64], m: u32, n: u32)
 {
     let m = m as usize;
     let n = n as usize;
+    for t in 0..m / ROWS {
+        turn(a, b, m, n, t * ROWS, ROWS);
+    }
+    for i in m / ROWS * ROWS..m {
+        turn(a, b, m, n, i, 1);
+    }
+}
+
+/// Turns `len` rows of A from `first` on into columns of B. For each row of B these rows are read side by side, and
+/// its part is written at once.
+#[inline(always)]
+fn turn(a: &[i64], b: &mut [i64], m: usize, n: usize, first: usize, len: usize)
+    requires from { length a.now ≡ m * n }
+    requires target { length b.old ≡ m * n }
+    requires within { first + len ≤ m }
+    ensures { b.new ≡ listing (length b.old) (turned_within first len m n a.now b.old) }
+{
+    let rows = &a[first * n..first * n + len * n];
     for j in 0..n {
-        column(a, n, j, &mut b[j * m..j * m + m]);
+        let row = &mut b[j * m..j * m + m];
+        column(rows, n, j, &mut row[first..first + len]);
     }
 }
 

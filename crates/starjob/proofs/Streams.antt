@@ -3,6 +3,7 @@ use Rattle.std.proofs.Common.{◌≡◌, ℕ, List, ◌++◌, [], refl, ap, ◌�
 use Rattle.std.proofs.lemmas.List.{append-nil, take_all, length-take, length-drop, length-append, take-append-le}
 use Rattle.std.proofs.Math.Seq.{take-add, take-append-add}
 use Rattle.sj_edge.specs.Faults.{Counts}
+use Rattle.starjob.specs.Device.{Device}
 use Rattle.starjob.specs.Streams.{TakesPrefix}
 use Rattle.starjob.specs.Report.{TakesLine, line_of, reason_word, limit_word}
 use Rattle.starjob.specs.declared.status.Status.TheVariants.{Refused}
@@ -47,12 +48,17 @@ prefix-then a b c xs ys h t =
     (length xs + t.0, omega (arith, t.1, length-append xs ys), subst (λ l. Appends a c l) (sym (take-append-add xs ys t.0)) (appends-then a b c xs (take t.0 ys) h t.2))
 
 -- what a call that writes a line leaves, by what it answered
-pub line_from : {T E : Type 0} (r : Result T E) (a b : Option (List ℕ)) (f g : ℕ) (line : List ℕ) → OnOk r (Appends a b line) → OnErr r (TakesPrefix a b line) → Counts f g (IsErr r) → TakesLine a b f g line
-line_from (Ok x) a b f g line ok err counts = record {
-  front = (length line, omega arith, subst (λ l. Appends a b l) (sym (take_all (length line) line (omega arith))) ok);
+pub line_from : {T E : Type 0} (r : Result T E) (a b : Device) (line : List ℕ) → OnOk r (Appends a.bytes b.bytes line) → OnErr r (TakesPrefix a.bytes b.bytes line) → Counts a.faults b.faults (IsErr r) → TakesLine a b line
+line_from (Ok x) a b line ok err counts = record {
+  front = (length line, omega arith, subst (λ l. Appends a.bytes b.bytes l) (sym (take_all (length line) line (omega arith))) ok);
   whole = λ none. ok;
+  count_never_falls = counts.never_falls;
 }
-line_from (Err e) a b f g line ok err counts = record { front = err; whole = λ none. absurd (none (counts.only_where_it_rose refl)) }
+line_from (Err e) a b line ok err counts = record {
+  front = err;
+  whole = λ none. absurd (none (counts.only_where_it_rose refl));
+  count_never_falls = counts.never_falls;
+}
 
 pub then-prefix : {T E : Type 0} (r : Result T E) (a b c : Option (List ℕ)) (xs ys : List ℕ) → Appends a b xs → OnErr r (TakesPrefix b c ys) → OnErr r (TakesPrefix a c (xs ++ ys))
 then-prefix (Ok x) a b c xs ys h t = tt

@@ -1,5 +1,5 @@
 -- The line that is written to `err` for a status.
-use Rattle.std.specs.Prelude.{ℕ, List, [], ◌++◌, codes, decimal, Option}
+use Rattle.std.specs.Prelude.{ℕ, ◌≤◌, List, [], ◌++◌, codes, decimal}
 use Rattle.std.specs.Io.KnownBytes.{Appends}
 use Rattle.sj_edge.specs.Faults.{Rose}
 use Rattle.sj_job.specs.declared.reason.Reason.{Reason}
@@ -8,6 +8,7 @@ use Rattle.sj_job.specs.declared.reason.LimitKind.{LimitKind}
 use Rattle.sj_job.specs.declared.reason.LimitKind.TheVariants.{Text, Statements, Workers, Nodes, NodeBytes, Names, Elements, Parts, Priority, Cells, Tasks}
 use Rattle.starjob.specs.declared.status.Status.{Status}
 use Rattle.starjob.specs.declared.status.Status.TheVariants.{Done, Usage, Refused, SourceFault, SinkFault, OutOfMemory}
+use Rattle.starjob.specs.Device.{Device}
 use Rattle.starjob.specs.Streams.{TakesPrefix}
 
 abbrev pub limit_name : LimitKind → List ℕ
@@ -62,6 +63,7 @@ line_of SinkFault = codes "starjob: writing failed\n"
 line_of OutOfMemory = codes "starjob: out of memory\n"
 
 -- a sink took a front of a line, and all of it where its count of faults didn't rise
-pub record TakesLine (old new : Option (List ℕ)) (faults_before faults_after : ℕ) (line : List ℕ) : Type 0 where
-  pub front : TakesPrefix old new line
-  pub whole : (Rose faults_before faults_after → ⊥) → Appends old new line
+pub record TakesLine (err err' : Device) (line : List ℕ) : Type 0 where
+  pub front : TakesPrefix err.bytes err'.bytes line
+  pub whole : (Rose err.faults err'.faults → ⊥) → Appends err.bytes err'.bytes line
+  pub count_never_falls : err.faults ≤ err'.faults

@@ -1,55 +1,118 @@
--- What the program's call promises.
-use Rattle.std.specs.Prelude.{◌≡◌, ℕ, Bool, Option, IfSome, IsSomeAnd, Result, Ok, Err, List, [], IsOk}
-use Rattle.std.specs.Io.KnownBytes.{Appends, Keeps}
+-- What the program's call promises, by how it ended.
+use Rattle.std.specs.Prelude.{◌≡◌, ℕ, Bool, IfSome, IsSomeAnd, Result, Ok, Err, IsOk, IsOkAnd, List, [], Vec}
+use Rattle.std.specs.declared.alloc.Global.{Global}
+use Rattle.std.specs.Io.KnownBytes.{Appends, IsAtEnd}
+use Rattle.sj_base.specs.declared.trace.Event.{Event}
+use Rattle.sj_base.specs.declared.ids.Line.{Line}
 use Rattle.sj_codelet.specs.declared.kernel.Kernel.{Kernel}
 use Rattle.sj_job.specs.declared.job.Statement.{Statement}
+use Rattle.sj_job.specs.declared.reason.Reason.{Reason}
+use Rattle.sj_job.specs.declared.reason.ReadRefusal.{ReadRefusal}
+use Rattle.sj_job.specs.declared.reason.ReadRefusal.TheVariants.{Refused as Bad, OutOfMemory as NoMemory}
 use Rattle.sj_job.specs.Meaning.{printed}
 use Rattle.sj_job.specs.Reading.{Refusal, job_of}
 use Rattle.starjob.specs.declared.status.Status.{Status}
 use Rattle.starjob.specs.declared.status.Status.TheVariants.{Done, Usage, Refused, SourceFault, SinkFault, OutOfMemory}
+use Rattle.starjob.specs.Device.{Device, HasFailed}
 use Rattle.starjob.specs.Output.{output}
-use Rattle.starjob.specs.Streams.{TakesPrefix}
+use Rattle.starjob.specs.Streams.{IsRead, TakesPrefix}
+use Rattle.starjob.specs.Traces.{Began, RanWhole}
 
--- the text that a job's print statements give, run one after another on plain arrays
+-- what a job text says: its statements, or its first bad line and the first reason against it
+abbrev pub JobOrRefusal : Type 0
+JobOrRefusal = Result (List Statement) Refusal
+
+-- the text that statements print, run one after another on plain arrays
 abbrev pub text_of : List Statement → List ℕ
 text_of ss = output (printed ss)
 
--- a job text, and what the status says of it
-abbrev pub Answers : Result (List Statement) Refusal → Status → Type 0
-Answers job Done = IsOk job
-Answers job Usage = ⊥
-Answers job (Refused line reason) = job ≡ Err (record { line = line; reason = reason })
-Answers job SourceFault = Unit {0}
-Answers job SinkFault = IsOk job
-Answers job OutOfMemory = Unit {0}
+-- the source, where it tells its bytes, holds a job of which this is true
+abbrev pub HoldsJob : (Kernel → Bool) → Device → (JobOrRefusal → Type 0) → Type 0
+HoldsJob has source P = IfSome source.bytes (λ text. P (job_of has text))
 
--- without words, where the source tells its bytes: this is true of the job that they say
-abbrev pub OfJob :
-    {W : Type 0} → (Kernel → Bool) → List W → Option (List ℕ)
-    → (Result (List Statement) Refusal → Type 0) → Type 0
-OfJob has words left P = words ≡ [] → IfSome left (λ text. P (job_of has text))
+-- the same of the statements of a job that isn't refused
+abbrev pub HoldsStatements : (Kernel → Bool) → Device → (List Statement → Type 0) → Type 0
+HoldsStatements has source P = HoldsJob has source (λ job. IsOkAnd job P)
 
--- there are no words, and the source tells a job text against which no reason stands
-abbrev pub IsSoundJob : {W : Type 0} → (Kernel → Bool) → List W → Option (List ℕ) → Type 0
-IsSoundJob has words left = (words ≡ []) × IsSomeAnd left (λ text. IsOk (job_of has text))
+-- the source tells a job against which no reason stands
+abbrev pub TellsSoundJob : (Kernel → Bool) → Device → Type 0
+TellsSoundJob has source = IsSomeAnd source.bytes (λ text. IsOk (job_of has text))
 
--- what `out` took of a text, by the status: all of it, or a front
-abbrev pub GivesText : List ℕ → Status → Option (List ℕ) → Option (List ℕ) → Type 0
-GivesText text Done old new = Appends old new text
-GivesText text SinkFault old new = TakesPrefix old new text
-GivesText text _ old new = ⊥
+-- the job isn't refused, and prints nothing
+abbrev pub PrintsNothing : JobOrRefusal → Type 0
+PrintsNothing job = IsOkAnd job (λ ss. text_of ss ≡ [])
 
--- nothing was written yet
+-- the source tells such a job
+abbrev pub TellsSilentJob : (Kernel → Bool) → Device → Type 0
+TellsSilentJob has source = IsSomeAnd source.bytes (λ text. PrintsNothing (job_of has text))
+
+-- the printed arrays were written, each task ran once, and no device failed
+pub record JobIsDone (has : Kernel → Bool) (source source' out out' : Device) (trace : List Event) : Type 0 where
+  pub printed : HoldsStatements has source (λ ss. Appends out.bytes out'.bytes (text_of ss))
+  pub each_task_ran_once : HoldsStatements has source (λ ss. RanWhole ss trace)
+  pub read : IsRead source source'
+  pub read_to_the_end : IsAtEnd source'.bytes
+  pub out_never_failed : out'.faults ≡ out.faults
+
+-- this is the job's first bad line and the first reason against it
+pub record JobIsRefused (has : Kernel → Bool) (line : Line) (reason : Reason) (source source' : Device) (trace : List Event) : Type 0 where
+  pub cause : HoldsJob has source (λ job. job ≡ Err (record { line = line; reason = reason }))
+  pub read : IsRead source source'
+  pub nothing_ran : trace ≡ []
+
+-- a call of the source failed, and no other was made behind it
+pub record SourceHasFailed (source source' : Device) (trace : List Event) : Type 0 where
+  pub cause : HasFailed source source'
+  pub nothing_ran : trace ≡ []
+
+-- a call of the sink failed, which took a front of the text; each task had run once
+pub record SinkHasFailed (has : Kernel → Bool) (source source' out out' : Device) (trace : List Event) : Type 0 where
+  pub cause : HasFailed out out'
+  pub front : HoldsStatements has source (λ ss. TakesPrefix out.bytes out'.bytes (text_of ss))
+  pub each_task_ran_once : HoldsStatements has source (λ ss. RanWhole ss trace)
+  pub read : IsRead source source'
+
+-- an allocation was refused, with the trace of a run as far as it came
+pub record MemoryRanOut (has : Kernel → Bool) (source source' : Device) (trace : List Event) : Type 0 where
+  pub ran : HoldsJob has source (λ job. Began job trace)
+  pub source_never_failed : source'.faults ≡ source.faults
+
+-- how a call without words ended: by its status, one of these
+abbrev pub Answered : (Kernel → Bool) → Status → Device → Device → Device → Device → List Event → Type 0
+Answered has Done source source' out out' trace = JobIsDone has source source' out out' trace
+Answered has Usage source source' out out' trace = ⊥
+Answered has (Refused line reason) source source' out out' trace = JobIsRefused has line reason source source' trace
+Answered has SourceFault source source' out out' trace = SourceHasFailed source source' trace
+Answered has SinkFault source source' out out' trace = SinkHasFailed has source source' out out' trace
+Answered has OutOfMemory source source' out out' trace = MemoryRanOut has source source' trace
+
+-- the same of a text that was read: what the job, the sink and the trace have to do with the status
+abbrev pub AnsweredText : JobOrRefusal → Status → Device → Device → List Event → Type 0
+AnsweredText job Done out out' trace =
+    IsOkAnd job (λ ss. Appends out.bytes out'.bytes (text_of ss) × RanWhole ss trace) × (out'.faults ≡ out.faults)
+AnsweredText job (Refused line reason) out out' trace = (job ≡ Err (record { line = line; reason = reason })) × (trace ≡ [])
+AnsweredText job SinkFault out out' trace =
+    IsOkAnd job (λ ss. TakesPrefix out.bytes out'.bytes (text_of ss) × RanWhole ss trace) × HasFailed out out'
+AnsweredText job OutOfMemory out out' trace = Began job trace
+AnsweredText job _ out out' trace = ⊥
+
+-- what a run of the text gives: the text to write and a whole run, a refusal and no event, or what memory left
+abbrev pub RunsText : JobOrRefusal → Result (Vec ℕ Global) ReadRefusal → List Event → Type 0
+RunsText job (Ok out) trace = IsOkAnd job (λ ss. (out.items ≡ text_of ss) × RanWhole ss trace)
+RunsText job (Err (Bad line reason)) trace = (job ≡ Err (record { line = line; reason = reason })) × (trace ≡ [])
+RunsText job (Err NoMemory) trace = Began job trace
+
+-- the text was written whole, or a front of it where a call of the sink failed
+abbrev pub WritesText : List ℕ → Status → Device → Device → Type 0
+WritesText text Done out out' = Appends out.bytes out'.bytes text × (out'.faults ≡ out.faults)
+WritesText text SinkFault out out' = TakesPrefix out.bytes out'.bytes text × HasFailed out out'
+WritesText text _ out out' = ⊥
+
+-- nothing was written yet, nor the sink called
 abbrev pub IsBeforeWriting : Status → Type 0
 IsBeforeWriting Done = ⊥
 IsBeforeWriting SinkFault = ⊥
 IsBeforeWriting _ = Unit {0}
-
--- what `out` took of the job's text, by the status: all of it, a front of it, or nothing
-abbrev pub Gives : Result (List Statement) Refusal → Status → Option (List ℕ) → Option (List ℕ) → Type 0
-Gives (Ok ss) Done old new = Appends old new (text_of ss)
-Gives (Ok ss) SinkFault old new = TakesPrefix old new (text_of ss)
-Gives job _ old new = Keeps old new
 
 abbrev pub IsDoneOrOutOfMemory : Status → Type 0
 IsDoneOrOutOfMemory Done = Unit {0}

@@ -3,6 +3,7 @@
 ghost use Rattle.std.specs.Prelude.{◌≡◌, flat_map, IsErr, OnOk, OnErr};
 ghost use Rattle.std.specs.Io.KnownBytes.{Appends};
 ghost use Rattle.sj_edge.specs.Faults.{Counts};
+ghost use Rattle.starjob.specs.Device.{seen};
 ghost use Rattle.starjob.specs.Streams.{TakesPrefix};
 ghost use Rattle.starjob.specs.Report.{limit_name, reason_word, limit_word, line_of, TakesLine};
 
@@ -87,21 +88,21 @@ fn write_pieces<E: Sink>(err: &mut E, pieces: &[&[u8]]) -> Result<(), Failed>
 }
 
 fn write_line<E: Sink>(err: &mut E, line: &[u8])
-    ensures { TakesLine (E.taken err.old) (E.taken err.new) (E.faults err.old) (E.faults err.new)
+    ensures { TakesLine (seen E.taken E.faults err.old) (seen E.taken E.faults err.new)
         line.now }
 {
     let _ = write_text(err, line);
 }
 
 fn write_line_of<E: Sink>(err: &mut E, pieces: &[&[u8]])
-    ensures { TakesLine (E.taken err.old) (E.taken err.new) (E.faults err.old) (E.faults err.new)
+    ensures { TakesLine (seen E.taken E.faults err.old) (seen E.taken E.faults err.new)
         (flat_map (λ p. p.now) pieces.now) }
 {
     let _ = write_pieces(err, pieces);
 }
 
 fn report_refusal<E: Sink>(line: Line, reason: Reason, err: &mut E)
-    ensures { TakesLine (E.taken err.old) (E.taken err.new) (E.faults err.old) (E.faults err.new)
+    ensures { TakesLine (seen E.taken E.faults err.old) (seen E.taken E.faults err.new)
         (line_of (Status.Refused line reason)) }
 {
     let mut buffer = Buffer::new();
@@ -122,7 +123,7 @@ fn report_refusal<E: Sink>(line: Line, reason: Reason, err: &mut E)
 /// Writes the line for a status, in pieces and without memory. A failing `err` is ignored. Constant time where the sink
 /// takes whole pieces.
 pub fn report<E: Sink>(status: Status, err: &mut E)
-    ensures { TakesLine (E.taken err.old) (E.taken err.new) (E.faults err.old) (E.faults err.new)
+    ensures { TakesLine (seen E.taken E.faults err.old) (seen E.taken E.faults err.new)
         (line_of status) }
 {
     match status {

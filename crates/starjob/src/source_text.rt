@@ -2,10 +2,12 @@
 
 ghost use Rattle.std.specs.Prelude.{◌≡◌, ◌+◌, ◌≤◌, ◌<◌, ◌++◌, List, ℕ, length, take, Bool, IfOk, IfSome};
 ghost use Rattle.std.specs.Io.KnownBytes.{Consumes, IsAtEnd};
-ghost use Rattle.sj_edge.specs.Faults.{Counts};
+ghost use Rattle.sj_edge.specs.Faults.{Counts, counted};
 ghost use Rattle.sj_codelet.specs.declared.kernel.Kernel.{Kernel};
 ghost use Rattle.sj_job.specs.Reading.{job_of};
 ghost use Rattle.starjob.specs.declared.source_text.Unread.TheVariants.{Fault};
+ghost use Rattle.starjob.specs.Device.{seen};
+ghost use Rattle.starjob.specs.Streams.{IsRead, is_fault};
 
 use sj_base::memory::OutOfMemory;
 use sj_edge::source::Source;
@@ -51,6 +53,7 @@ fn take_piece<S: Source>(
         × Consumes (S.left source.old) (S.left source.new) (take n piece.new)) }
     ensures end { IfOk result (λ n. n ≡ 0 → 0 < length piece.new → IsAtEnd (S.left source.new)) }
     ensures counts { Counts (S.faults source.old) (S.faults source.new) (result ≡ Err Fault) }
+    ensures rises_by_one { S.faults source.new ≡ counted (S.faults source.old) (is_fault result) }
 {
     match source.read(piece) {
         Ok(n) => {
@@ -63,13 +66,13 @@ fn take_piece<S: Source>(
 
 /// Reads a source to its end, or to one byte past the longest text. Linear in what is read.
 pub fn read_source<S: Source>(alloc: Global, source: &mut S) -> Result<Vec<u8>, Unread>
-    ensures bound { IfOk result (λ text. length text.items ≤ TEXT + 1) }
-    ensures taken { IfOk result
-        (λ text. Consumes (S.left source.old) (S.left source.new) text.items) }
+    ensures read { IfOk result
+        (λ _. IsRead (seen S.left S.faults source.old) (seen S.left S.faults source.new)) }
     ensures end { IfOk result (λ text. length text.items ≤ TEXT → IsAtEnd (S.left source.new)) }
     ensures job { IfOk result (λ text. (has : Kernel → Bool) →
         IfSome (S.left source.old) (λ whole. job_of has whole ≡ job_of has text.items)) }
     ensures counts { Counts (S.faults source.old) (S.faults source.new) (result ≡ Err Fault) }
+    ensures rises_by_one { S.faults source.new ≡ counted (S.faults source.old) (is_fault result) }
 {
     read_pieces(alloc, source)
 }
@@ -81,6 +84,7 @@ fn read_pieces<S: Source>(alloc: Global, source: &mut S) -> Result<Vec<u8>, Unre
         (λ text. Consumes (S.left source.old) (S.left source.new) text.items) }
     ensures end { IfOk result (λ text. length text.items ≤ TEXT → IsAtEnd (S.left source.new)) }
     ensures counts { Counts (S.faults source.old) (S.faults source.new) (result ≡ Err Fault) }
+    ensures rises_by_one { S.faults source.new ≡ counted (S.faults source.old) (is_fault result) }
 {
     let mut text = Vec::new(alloc);
     let mut piece = zeroed(alloc, PIECE)?;

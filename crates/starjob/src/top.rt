@@ -1,17 +1,18 @@
 //! The call that the program makes: words, source, sinks, disks and gate in, the outcome out.
 
-ghost use Rattle.std.specs.Prelude.{◌≡◌, ◌≢◌, ◌↔◌, List, [], Ok, IsOk, IfOk, IfErr, IfSome};
-ghost use Rattle.std.specs.Io.KnownBytes.{Keeps, IsAtEnd};
-ghost use Rattle.sj_edge.specs.Faults.{Counts, Rose};
+ghost use Rattle.std.specs.Prelude.{◌≡◌, ◌≢◌, ◌↔◌, [], Ok};
+ghost use Rattle.sj_base.specs.declared.ids.Line.{Line};
+ghost use Rattle.sj_edge.specs.Faults.{Rose};
 ghost use Rattle.sj_edge.specs.GivenBack.{AreUntouched};
-ghost use Rattle.sj_job.specs.declared.job.Statement.{Statement};
-ghost use Rattle.sj_job.specs.Reading.{job_of, IsRefusal};
+ghost use Rattle.sj_job.specs.declared.reason.Reason.{Reason};
+ghost use Rattle.sj_job.specs.Reading.{job_of};
 ghost use Rattle.sj_job.specs.State.{start};
 ghost use Rattle.sj_job.specs.Well.{IsWell};
 ghost use Rattle.sj_minplus.specs.Has.{library_has};
+ghost use Rattle.starjob.specs.Device.{seen};
 ghost use Rattle.starjob.specs.Report.{line_of, TakesLine};
-ghost use Rattle.starjob.specs.Traces.{Began, HasOwnCodelets, IsBeforeRunning, Ran, RanWhole, Traces, TracesRefusal};
-ghost use Rattle.starjob.specs.Top.{text_of, Answers, Gives, GivesText, IsBeforeWriting, IsDoneOrOutOfMemory, IsSoundJob, OfJob};
+ghost use Rattle.starjob.specs.Traces.{HasOwnCodelets};
+ghost use Rattle.starjob.specs.Top.{text_of, Answered, AnsweredText, IsBeforeWriting, IsDoneOrOutOfMemory, JobIsDone, JobIsRefused, MemoryRanOut, PrintsNothing, RunsText, SinkHasFailed, SourceHasFailed, TellsSilentJob, TellsSoundJob, WritesText};
 
 use crate::report::report;
 use crate::running::{Run, run_job};
@@ -57,10 +58,7 @@ struct Answer {
 fn run_read<C: Codelets>(alloc: Global, job: &Job, codelets: &C) -> JobRun
     requires job { IsWell C.has 0 start job.now.statements }
     requires own { HasOwnCodelets C.has }
-    ensures text { IfOk result.text (λ out. out.items ≡ text_of job.now.statements) }
-    ensures memory { IfErr result.text (λ e. e ≡ ReadRefusal.OutOfMemory) }
-    ensures ran { IsOk result.text → RanWhole job.now.statements result.trace.events }
-    ensures began { Began (Ok job.now.statements) result.trace.events }
+    ensures { RunsText (Ok job.now.statements) result.text result.trace.events }
 {
     let Run { result, trace } = run_job(alloc, job.statements.items(), codelets);
     match result {
@@ -78,12 +76,7 @@ fn run_read<C: Codelets>(alloc: Global, job: &Job, codelets: &C) -> JobRun
 /// Runs a job text.
 fn run_text<C: Codelets>(alloc: Global, text: &[u8], codelets: &C) -> JobRun
     requires own { HasOwnCodelets C.has }
-    ensures ok { IfOk result.text (λ out. (ss : List Statement) × (job_of C.has text.now ≡ Ok ss)
-        × (out.items ≡ text_of ss)) }
-    ensures err { IfErr result.text (λ e. IsRefusal e (job_of C.has text.now)) }
-    ensures ran { IsOk result.text → Ran (job_of C.has text.now) result.trace.events }
-    ensures began { IfErr result.text
-        (λ e. TracesRefusal (job_of C.has text.now) e result.trace.events) }
+    ensures { RunsText (job_of C.has text.now) result.text result.trace.events }
 {
     match read(alloc, text, codelets) {
         Ok(job) => run_read(alloc, &job, codelets),
@@ -96,8 +89,9 @@ fn run_text<C: Codelets>(alloc: Global, text: &[u8], codelets: &C) -> JobRun
 
 /// Writes what a job prints.
 fn write_printed<O: Sink>(out: &mut O, text: &[u8]) -> Status
-    ensures gives { GivesText text.now result (O.taken out.old) (O.taken out.new) }
-    ensures counts { Counts (O.faults out.old) (O.faults out.new) (result ≡ Status.SinkFault) }
+    ensures written { WritesText text.now result
+        (seen O.taken O.faults out.old) (seen O.taken O.faults out.new) }
+    ensures not_called_for_nothing { text.now ≡ [] → out.new ≡ out.old }
 {
     match write_text(out, text) {
         Ok(()) => Status::Done,
@@ -113,15 +107,10 @@ fn answer_text<O: Sink, C: Codelets>(
     codelets: &C,
 ) -> Answer
     requires own { HasOwnCodelets C.has }
-    ensures answers { Answers (job_of C.has text.now) result.status }
-    ensures gives { Gives (job_of C.has text.now) result.status
-        (O.taken out.old) (O.taken out.new) }
-    ensures out_stays { IsBeforeWriting result.status → Keeps (O.taken out.old) (O.taken out.new) }
-    ensures not_read { (result.status ≢ Status.Usage) × (result.status ≢ Status.SourceFault) }
-    ensures counts { Counts
-        (O.faults out.old) (O.faults out.new) (result.status ≡ Status.SinkFault) }
-    ensures traces { Traces (job_of C.has text.now) result.status result.trace.events }
-    ensures nothing_run { IsBeforeRunning result.status → result.trace.events ≡ [] }
+    ensures answered { AnsweredText (job_of C.has text.now) result.status
+        (seen O.taken O.faults out.old) (seen O.taken O.faults out.new) result.trace.events }
+    ensures out_stays { IsBeforeWriting result.status → out.new ≡ out.old }
+    ensures out_stays_in_silence { PrintsNothing (job_of C.has text.now) → out.new ≡ out.old }
 {
     let JobRun { text, trace } = run_text(alloc, text, codelets);
     match text {
@@ -159,20 +148,12 @@ fn run_source<S: Source, O: Sink, C: Codelets>(
     codelets: &C,
 ) -> Answer
     requires own { HasOwnCodelets C.has }
-    ensures answers { IfSome (S.left source.old)
-        (λ text. Answers (job_of C.has text) result.status) }
-    ensures gives { IfSome (S.left source.old) (λ text.
-        Gives (job_of C.has text) result.status (O.taken out.old) (O.taken out.new)) }
-    ensures out_stays { IsBeforeWriting result.status → Keeps (O.taken out.old) (O.taken out.new) }
-    ensures not_usage { result.status ≢ Status.Usage }
-    ensures at_end { result.status ≡ Status.Done → IsAtEnd (S.left source.new) }
-    ensures source_counts { Counts
-        (S.faults source.old) (S.faults source.new) (result.status ≡ Status.SourceFault) }
-    ensures sink_counts { Counts
-        (O.faults out.old) (O.faults out.new) (result.status ≡ Status.SinkFault) }
-    ensures traces { IfSome (S.left source.old)
-        (λ text. Traces (job_of C.has text) result.status result.trace.events) }
-    ensures nothing_run { IsBeforeRunning result.status → result.trace.events ≡ [] }
+    ensures answered { Answered C.has result.status
+        (seen S.left S.faults source.old) (seen S.left S.faults source.new)
+        (seen O.taken O.faults out.old) (seen O.taken O.faults out.new) result.trace.events }
+    ensures out_stays { IsBeforeWriting result.status → out.new ≡ out.old }
+    ensures out_stays_in_silence { TellsSilentJob C.has (seen S.left S.faults source.old) →
+        out.new ≡ out.old }
 {
     match read_source(alloc, source) {
         Ok(text) => answer_text(alloc, &text, out, codelets),
@@ -182,30 +163,24 @@ fn run_source<S: Source, O: Sink, C: Codelets>(
 }
 
 /// The answer to a job with these words: without words the source's job text is run.
-fn run_words<S: Source, O: Sink, C: Codelets>(
+fn answer_words<S: Source, O: Sink>(
     alloc: Global,
     words: &[String],
     source: &mut S,
     out: &mut O,
-    codelets: &C,
 ) -> Answer
-    requires own { HasOwnCodelets C.has }
     ensures usage { (result.status ≡ Status.Usage) ↔ (words.now ≢ []) }
-    ensures answers { OfJob C.has words.now (S.left source.old) (λ job. Answers job result.status) }
-    ensures gives { OfJob C.has words.now (S.left source.old)
-        (λ job. Gives job result.status (O.taken out.old) (O.taken out.new)) }
-    ensures out_stays { IsBeforeWriting result.status → Keeps (O.taken out.old) (O.taken out.new) }
-    ensures at_end { result.status ≡ Status.Done → IsAtEnd (S.left source.new) }
-    ensures source_counts { Counts
-        (S.faults source.old) (S.faults source.new) (result.status ≡ Status.SourceFault) }
-    ensures sink_counts { Counts
-        (O.faults out.old) (O.faults out.new) (result.status ≡ Status.SinkFault) }
-    ensures traces { OfJob C.has words.now (S.left source.old)
-        (λ job. Traces job result.status result.trace.events) }
-    ensures nothing_run { IsBeforeRunning result.status → result.trace.events ≡ [] }
+    ensures usage_stays { result.status ≡ Status.Usage → source.new ≡ source.old }
+    ensures usage_trace { result.status ≡ Status.Usage → result.trace.events ≡ [] }
+    ensures answered { result.status ≢ Status.Usage → Answered library_has result.status
+        (seen S.left S.faults source.old) (seen S.left S.faults source.new)
+        (seen O.taken O.faults out.old) (seen O.taken O.faults out.new) result.trace.events }
+    ensures out_stays { IsBeforeWriting result.status → out.new ≡ out.old }
+    ensures out_stays_in_silence { TellsSilentJob library_has (seen S.left S.faults source.old) →
+        out.new ≡ out.old }
 {
     if words.is_empty() {
-        run_source(alloc, source, out, codelets)
+        run_source(alloc, source, out, &Library)
     } else {
         unread(alloc, Status::Usage)
     }
@@ -226,48 +201,47 @@ pub fn starjob<R: Runtime, S: Source, O: Sink, E: Sink, G: Gate>(
     disks: Vec<Box<dyn Disk + Send>>,
     gate: &G,
 ) -> Outcome
-    // Usage comes exactly where there are words.
-    ensures usage_exactly_with_words { (result.status ≡ Status.Usage) ↔ (words.now ≢ []) }
+    // With words, none of which is accepted yet, nothing is done.
+    ensures usage { (result.status ≡ Status.Usage) ↔ (words.now ≢ []) }
+    ensures usage_reads_nothing { result.status ≡ Status.Usage → source.new ≡ source.old }
+    ensures usage_runs_nothing { result.status ≡ Status.Usage → result.trace.events ≡ [] }
 
-    // Done means that the job was read, and that its printed arrays were written: those of its statements run one
-    // after another on plain arrays. Refused names the first bad line and its first reason.
-    ensures status_answers_the_job { OfJob library_has words.now (S.left source.old)
-        (λ job. Answers job result.status) }
-    ensures out_takes_the_text { OfJob library_has words.now (S.left source.old)
-        (λ job. Gives job result.status (O.taken out.old) (O.taken out.new)) }
-    ensures out_stays_before_writing { IsBeforeWriting result.status →
-        Keeps (O.taken out.old) (O.taken out.new) }
-    ensures done_reads_to_the_end { result.status ≡ Status.Done → IsAtEnd (S.left source.new) }
+    // Done means that `out` took the text of the arrays that the job prints, that the source was read to its end, that each
+    // task ran once, and that no device failed. Each other status has its cause.
+    ensures done { result.status ≡ Status.Done → JobIsDone library_has
+        (seen S.left S.faults source.old) (seen S.left S.faults source.new)
+        (seen O.taken O.faults out.old) (seen O.taken O.faults out.new) result.trace.events }
+    ensures refused { (line : Line) → (reason : Reason) →
+        result.status ≡ Status.Refused line reason → JobIsRefused library_has line reason
+        (seen S.left S.faults source.old) (seen S.left S.faults source.new) result.trace.events }
+    ensures source_fault { result.status ≡ Status.SourceFault → SourceHasFailed
+        (seen S.left S.faults source.old) (seen S.left S.faults source.new) result.trace.events }
+    ensures sink_fault { result.status ≡ Status.SinkFault → SinkHasFailed library_has
+        (seen S.left S.faults source.old) (seen S.left S.faults source.new)
+        (seen O.taken O.faults out.old) (seen O.taken O.faults out.new) result.trace.events }
+    ensures out_of_memory { result.status ≡ Status.OutOfMemory → MemoryRanOut library_has
+        (seen S.left S.faults source.old) (seen S.left S.faults source.new) result.trace.events }
 
-    // A fault comes only where the device's count of faults rose in this call.
-    ensures source_fault_only_where_it_rose { Counts
-        (S.faults source.old) (S.faults source.new) (result.status ≡ Status.SourceFault) }
-    ensures sink_fault_only_where_it_rose { Counts
-        (O.faults out.old) (O.faults out.new) (result.status ≡ Status.SinkFault) }
-
-    // A job that isn't refused, with devices that don't fail, is done, unless memory runs out.
-    ensures complete { IsSoundJob library_has words.now (S.left source.old) →
+    // A job against which no reason stands, on devices that don't fail, is done, unless memory runs out.
+    ensures complete { words.now ≡ [] → TellsSoundJob library_has (seen S.left S.faults source.old) →
         ¬ (Rose (S.faults source.old) (S.faults source.new)) →
-        ¬ (Rose (O.faults out.old) (O.faults out.new)) →
-        IsDoneOrOutOfMemory result.status }
+        ¬ (Rose (O.faults out.old) (O.faults out.new)) → IsDoneOrOutOfMemory result.status }
+
+    // `out` isn't called before all was run, nor where nothing is printed.
+    ensures out_stays_before_writing { IsBeforeWriting result.status → out.new ≡ out.old }
+    ensures out_stays_in_silence { TellsSilentJob library_has (seen S.left S.faults source.old) →
+        out.new ≡ out.old }
 
     // One line goes to `err`, or none.
-    ensures err_takes_the_line { TakesLine (E.taken err.old) (E.taken err.new)
-        (E.faults err.old) (E.faults err.new) (line_of result.status) }
-
-    // The trace of a job that is done, or whose text the sink doesn't take, is a legal run of its program to the end, in which
-    // each task ran once. Where memory runs out it is the beginning of a legal run, and else it is empty.
-    ensures trace_answers_the_job { OfJob library_has words.now (S.left source.old)
-        (λ job. Traces job result.status result.trace.events) }
-    ensures trace_is_empty_before_the_run { IsBeforeRunning result.status →
-        result.trace.events ≡ [] }
+    ensures err_takes_the_line { TakesLine
+        (seen E.taken E.faults err.old) (seen E.taken E.faults err.new) (line_of result.status) }
 
     // Nothing is run on disks.
     ensures disks_come_back { AreUntouched ⟦<Box<dyn Disk + Send> as Disk>⟧.size
         ⟦<Box<dyn Disk + Send> as Disk>⟧.faults ⟦<Box<dyn Disk + Send> as Disk>⟧.mismatches
         ⟦<Box<dyn Disk + Send> as Disk>⟧.held disks.items result.disks.items }
 {
-    let answer = run_words(alloc, words, source, out, &Library);
+    let answer = answer_words(alloc, words, source, out);
     report(answer.status, err);
     Outcome {
         status: answer.status,

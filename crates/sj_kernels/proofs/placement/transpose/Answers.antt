@@ -1,24 +1,51 @@
-use Rattle.std.proofs.Common.{ℕ, ◌+◌, ◌*◌, length, refl, arith}
-use Rattle.std.specs.List.{between}
-use Rattle.std.proofs.lemmas.Nat.{rows}
+use Rattle.std.proofs.Common.{◌≡◌, ℕ, ◌+◌, ◌*◌, ◌/◌, ◌%◌, ◌<◌, Bool, true, false, cond, nat_lt, List, ℤ, length, refl, sym, ap, ◌∙◌, arith}
+use Rattle.std.proofs.lemmas.Nat.{mod_below}
+use Rattle.std.proofs.lemmas.Bool.Decides.{nat_tests}
 use Rattle.std.proofs.Math.Nat.{mul_comm}
-use Rattle.sj_base.specs.Array.{at, element}
-use Rattle.sj_codelet.specs.Equations.{matrix}
-use Rattle.sj_codelet.proofs.Rows.{begun_no_row, begun_row, row_from_listing, length-row, grid_from_begun}
+use Rattle.sj_base.specs.Array.{at}
+use Rattle.sj_codelet.specs.Listing.{listing}
+use Rattle.sj_codelet.proofs.Filling.{same_listing, listing_from_elements}
+use Rattle.sj_kernels.specs.Turned.{turned, turned_within}
+use Rattle.sj_kernels.proofs.Turns.{turned_step}
 use Rattle.sj_kernels.proofs.placement.transpose.Goals as goal
 
-pub loop-j-init : goal.loop-j-init
-loop-j-init c = begun_no_row c.args.m _ c.args.b.now
+pub loop-t-init : goal.loop-t-init
+loop-t-init c =
+    let a = c.args in
+    let new = turned a.m a.n a.a.now in
+    listing_from_elements (length a.b.now) (λ p. cond (nat_lt (p % a.m) (0 * 8)) (new p) (at a.b.now p)) a.b.now refl (λ p h.
+    let no : nat_lt (p % a.m) (0 * 8) ≡ false = grind (arith, nat_tests) in
+    sym (ap (λ (t : Bool). cond t (new p) (at a.b.now p)) no))
 
-pub loop-j-preserved : goal.loop-j-preserved
-loop-j-preserved c =
-    let j = c.loop-j.j in
-    let m = c.args.m in
-    let n = c.args.n in
-    let f = λ (r : ℕ) (q : ℕ). element (matrix m n c.args.a.now) q r in
-    let taken = between (j * m) (j * m + m) c.loop-j.b in
-    begun_row j m _ _ c.args.b.now c.loop-j.b c.column.new.row (omega arith) c.loop-j.invariant
-    (row_from_listing j m (length taken) f (λ i. at c.args.a.now (i * n + j)) c.column.new.row (length-row j m c.loop-j.b (grind (arith, rows))) c.column.ensures (λ i l. refl))
+pub loop-t-preserved : goal.loop-t-preserved
+loop-t-preserved c =
+    let a = c.args in
+    let t = c.loop-t.t in
+    turned_step (t * 8) 8 ((t + 1) * 8) a.m a.n (length c.loop-t.b) a.a.now a.b.now c.loop-t.b _ (omega arith) (omega arith) c.loop-t.invariant c.turn.ensures
+
+pub loop-i-init : goal.loop-i-init
+loop-i-init c =
+    let a = c.args in
+    let here : c.loop-t.t * 8 ≡ a.m / 8 * 8 = omega arith in
+    c.loop-t.invariant ∙ ap (λ (q : ℕ). listing (length a.b.now) (λ p. cond (nat_lt (p % a.m) q) (turned a.m a.n a.a.now p) (at a.b.now p))) here
+
+pub loop-i-preserved : goal.loop-i-preserved
+loop-i-preserved c =
+    let a = c.args in
+    let i = c.loop-i.i in
+    turned_step i 1 (i + 1) a.m a.n (length c.loop-i.b) a.a.now a.b.now c.loop-i.b _ (omega arith) refl c.loop-i.invariant c.turn-in-loop-i.ensures
 
 pub returns : goal.returns
-returns c = grid_from_begun c.args.n c.args.m c.loop-j.j (λ r q. element (matrix c.args.m c.args.n c.args.a.now) q r) c.args.b.now c.loop-j.b (omega (arith, mul_comm c.args.m c.args.n)) c.loop-j-test.false c.loop-j.auto.j-end c.loop-j.invariant
+unfolding listing
+returns c =
+    let a = c.args in
+    let i = c.loop-i.i in
+    let new = turned a.m a.n a.a.now in
+    let all : i ≡ a.m = omega arith in
+    let area : length a.b.now ≡ a.n * a.m = omega (arith, mul_comm a.m a.n) in
+    c.loop-i.invariant ∙ same_listing (length a.b.now) (λ p. cond (nat_lt (p % a.m) i) (new p) (at a.b.now p)) new (λ p h.
+    let some : 0 < a.m = grind arith in
+    let below = mod_below p a.m some in
+    let yes : nat_lt (p % a.m) i ≡ true = grind (arith, nat_tests) in
+    ap (λ (t : Bool). cond t (new p) (at a.b.now p)) yes)
+    ∙ ap (λ (q : ℕ). listing q new) area

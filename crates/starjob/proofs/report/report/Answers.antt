@@ -1,0 +1,23 @@
+use Rattle.std.proofs.Common.{◌≡◌, subst, sym}
+use Rattle.starjob.specs.Device.{Device, seen}
+use Rattle.starjob.specs.Report.{line_of, TakesLine}
+use Rattle.starjob.specs.declared.status.Status.{Status}
+use Rattle.starjob.proofs.report.report.Goals as goal
+
+by_status : (err err' : Device) (s t : Status) → t ≡ s → TakesLine err err' (line_of s) → TakesLine err err' (line_of t)
+by_status err err' s t e = subst (λ (x : Status). TakesLine err err' (line_of x)) (sym e)
+
+pub returns-in-Usage : goal.returns-in-Usage
+returns-in-Usage g c = by_status _ _ _ _ c.in-Usage.is c.write_line-in-Usage.ensures
+
+pub returns-in-SourceFault : goal.returns-in-SourceFault
+returns-in-SourceFault g c = by_status _ _ _ _ c.in-SourceFault.is c.write_line-in-SourceFault.ensures
+
+pub returns-in-SinkFault : goal.returns-in-SinkFault
+returns-in-SinkFault g c = by_status _ _ _ _ c.in-SinkFault.is c.write_line-in-SinkFault.ensures
+
+pub returns-in-OutOfMemory : goal.returns-in-OutOfMemory
+returns-in-OutOfMemory g c = by_status _ _ _ _ c.in-OutOfMemory.is c.write_line-in-OutOfMemory.ensures
+
+pub returns-in-Refused : goal.returns-in-Refused
+returns-in-Refused g c = by_status _ _ _ _ c.in-Refused.is c.report_refusal.ensures
