@@ -10,7 +10,7 @@ use Rattle.std.proofs.lemmas.Bool.Decides.{nat_tests}
 use borrow.Rule.Slice.PartMut.{put_mid}
 use Rattle.sj_base.specs.Array.{at}
 use Rattle.sj_codelet.specs.Ring.{wrap, sum_below}
-use Rattle.sj_codelet.specs.Equations.{is_within}
+use Rattle.sj_base.specs.Window.{is_within}
 use Rattle.sj_codelet.specs.Listing.{listing}
 use Rattle.sj_codelet.proofs.Integers.{int_add-zero}
 use Rattle.sj_codelet.proofs.Sums.{same_sum, sum_below_more}

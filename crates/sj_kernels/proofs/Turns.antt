@@ -7,7 +7,7 @@ use Rattle.std.proofs.lemmas.Bool.{cases_lt}
 use Rattle.std.proofs.lemmas.Bool.Decides.{nat_tests}
 use borrow.Rule.Slice.PartMut.{put_mid}
 use Rattle.sj_base.specs.Array.{at}
-use Rattle.sj_codelet.specs.Equations.{is_within}
+use Rattle.sj_base.specs.Window.{is_within}
 use Rattle.sj_codelet.specs.Listing.{listing}
 use Rattle.sj_codelet.proofs.Filling.{begun, same_listing, at-listing}
 use Rattle.sj_codelet.proofs.Rows.{grid_at, at-row_begun, length-row}

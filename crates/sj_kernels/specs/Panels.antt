@@ -2,7 +2,7 @@
 use Rattle.std.specs.Prelude.{ℕ, ◌+◌, ◌-◌, ◌*◌, ◌/◌, ◌%◌, ℤ, ◌+ℤ◌, ◌*ℤ◌, List, length, if◌then◌else◌}
 use Rattle.sj_base.specs.Array.{at}
 use Rattle.sj_codelet.specs.Ring.{wrap, sum_below}
-use Rattle.sj_codelet.specs.Equations.{is_within}
+use Rattle.sj_base.specs.Window.{is_within}
 use Rattle.sj_kernels.specs.declared.product.Sides.{Sides}
 use Rattle.sj_kernels.specs.declared.product.Span.{Span}
 

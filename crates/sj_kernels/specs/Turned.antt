@@ -1,7 +1,7 @@
 -- A transposed matrix, some columns at a time.
 use Rattle.std.specs.Prelude.{ℕ, ◌+◌, ◌*◌, ◌/◌, ◌%◌, ℤ, List, if◌then◌else◌}
 use Rattle.sj_base.specs.Array.{at}
-use Rattle.sj_codelet.specs.Equations.{is_within}
+use Rattle.sj_base.specs.Window.{is_within}
 
 -- the element at a position of the transposed matrix, which has m columns, of a matrix with n columns
 abbrev pub turned : ℕ → ℕ → List ℤ → ℕ → ℤ

@@ -3,7 +3,7 @@ use Rattle.std.specs.List.{between}
 use Rattle.std.proofs.lemmas.List.{get_or-take}
 use borrow.Rule.Slice.PartMut.{put_mid}
 use Rattle.sj_base.specs.Array.{at}
-use Rattle.sj_codelet.specs.Equations.{is_within}
+use Rattle.sj_base.specs.Window.{is_within}
 use Rattle.sj_codelet.specs.Listing.{listing}
 use Rattle.sj_codelet.proofs.Filling.{same_listing}
 use Rattle.sj_kernels.specs.Panels.{column_sum, row_within}
