@@ -7,4 +7,4 @@ use Rattle.sj_job.proofs.Submitting.{weaker_ok}
 use Rattle.starjob.proofs.running.program_of.Goals as goal
 
 pub returns-clause-in_order : goal.returns-clause-in_order
-returns-clause-in_order c = subst (λ (p : Program). DeliversInOrder p) (sym c.in_ok-program-2.ensures.ok) (subst (λ (p : Program). DeliversInOrder p) (sym c.in_ok-program.program-is) c.in_ok-program.ensures.in_order)
+returns-clause-in_order c = subst (λ (p : Program). DeliversInOrder p) (sym c.in_ok-program-2.ensures.ok) c.in_ok-program.ensures.in_order
