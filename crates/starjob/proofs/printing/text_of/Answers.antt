@@ -27,7 +27,7 @@ loop-i-preserved c =
     let same : get_or ds i d ≡ d = get_or_default ds i d no_delivery inside in
     let array : get_or xs i x ≡ x = found-at (λ (pair : Task × Array). pair.1) pairs i x x c.tile.ensures in
     let wrote : c.write_array.new.text.items ≡ c.loop-i.text.items ++ block_of (printed_as T d.root).1 (printed_as T d.root).0 x =
-        c.in_ok-write_array.ensures ∙ (λ k. c.loop-i.text.items ++ block_of ((c.info-info.ensures k).kind) (c.name-name.ensures k) x) in
+    c.in_ok-write_array.ensures ∙ (λ k. c.loop-i.text.items ++ block_of ((c.info-info.ensures k).kind) (c.name-name.ensures k) x) in
     ap (λ (text : List ℕ). text ++ told (drop (i + 1) (names_of T ds)) (drop (i + 1) xs)) wrote
     ∙ told-more (λ (e : Delivery). printed_as T e.root) ds xs i d x c.loop-i.text.items inside in_pairs same array
     ∙ c.loop-i.invariant
