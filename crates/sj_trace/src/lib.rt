@@ -1,6 +1,8 @@
-//! The text of a trace.
+//! The text of a trace, and reading it.
 #![tactic(auto)]
 
 #[cfg(test)]
 mod tests;
+mod line;
 pub mod text;
+mod word;

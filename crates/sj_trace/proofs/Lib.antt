@@ -1,0 +1,4 @@
+mod Numbers
+mod Dividing
+mod Telling
+mod Joining

@@ -1,0 +1,119 @@
+//! The words of an event's line, read.
+
+ghost use Rattle.std.specs.Prelude.{◌≡◌, ◌∷◌, ◌<◌, ◌^◌, ◌==◌, [], MatchOption, ℕ, codes, decimal, position};
+ghost use Rattle.sj_trace.specs.Text.{word, place_word};
+ghost use Rattle.sj_trace.specs.Reading.{words, IsReadFrom, PlaceFits};
+
+use itoa::Buffer;
+use sj_base::ids::{Cell, DiskNo, Node, Place, Task, Worker};
+use std::str;
+
+/// The place of the first space. Linear up to it.
+fn first_space(line: &[u8]) -> Option<usize>
+    ensures { result ≡ position (λ b. b == 32) line.now }
+{
+    line.iter().position(|b| *b == b' ')
+}
+
+/// What stands before the first space, and what behind it where there is one. Linear up to it.
+pub fn first_word(line: &[u8]) -> (&[u8], Option<&[u8]>)
+    ensures { MatchOption result.1 (words line.now ≡ result.0.now ∷ [])
+        (λ rest. words line.now ≡ result.0.now ∷ words rest.now) }
+{
+    match first_space(line) {
+        Some(end) => (&line[..end], Some(&line[end + 1..])),
+        None => (line, None),
+    }
+}
+
+/// The number that digits are read as, some of which it isn't written with. Linear in them.
+fn parsed(digits: &[u8]) -> Option<u32>
+    ensures { (n : ℕ) → n < 2 ^ 32 → decimal n ≡ digits.now → result ≡ Some n }
+{
+    match str::from_utf8(digits) {
+        Ok(text) => text.parse::<u32>().ok(),
+        Err(_) => None,
+    }
+}
+
+/// The number that is written with these digits. Linear in them.
+fn number(digits: &[u8]) -> Option<u32>
+    ensures { IsReadFrom (λ n. n < 2 ^ 32) decimal digits.now result }
+{
+    let number = parsed(digits)?;
+    let mut buffer = Buffer::new();
+    if buffer.format(number).as_bytes() == digits {
+        Some(number)
+    } else {
+        None
+    }
+}
+
+/// The number behind a letter.
+fn number_behind(word_bytes: &[u8], letter: u8) -> Option<u32>
+    ensures { IsReadFrom (λ n. n < 2 ^ 32) (word (letter ∷ [])) word_bytes.now result }
+{
+    let (first, digits) = word_bytes.split_first()?;
+    if *first == letter {
+        number(digits)
+    } else {
+        None
+    }
+}
+
+/// The number of a byte behind a letter.
+fn byte_behind(word_bytes: &[u8], letter: u8) -> Option<u8>
+    ensures { IsReadFrom (λ n. n < 2 ^ 8) (word (letter ∷ [])) word_bytes.now result }
+{
+    let number = number_behind(word_bytes, letter)?;
+    if number < 256 {
+        Some(number as u8)
+    } else {
+        None
+    }
+}
+
+/// The task that a word names. Linear in it.
+pub fn task(word_bytes: &[u8]) -> Option<Task>
+    ensures { IsReadFrom (λ t. t.0 < 2 ^ 32) (λ t. word (codes "t") t.0) word_bytes.now result }
+{
+    Some(Task(number_behind(word_bytes, b't')?))
+}
+
+/// The worker that a word names. Linear in it.
+pub fn worker(word_bytes: &[u8]) -> Option<Worker>
+    ensures { IsReadFrom (λ w. w.0 < 2 ^ 8) (λ w. word (codes "w") w.0) word_bytes.now result }
+{
+    Some(Worker(byte_behind(word_bytes, b'w')?))
+}
+
+/// The cell that a word names. Linear in it.
+pub fn cell(word_bytes: &[u8]) -> Option<Cell>
+    ensures { IsReadFrom (λ c. c.0 < 2 ^ 32) (λ c. word (codes "c") c.0) word_bytes.now result }
+{
+    Some(Cell(number_behind(word_bytes, b'c')?))
+}
+
+/// The memory node that a word names. Linear in it.
+pub fn node(word_bytes: &[u8]) -> Option<Node>
+    ensures { IsReadFrom (λ n. n.0 < 2 ^ 8) (λ n. word (codes "n") n.0) word_bytes.now result }
+{
+    Some(Node(byte_behind(word_bytes, b'n')?))
+}
+
+/// The disk that a word names. Linear in it.
+fn disk(word_bytes: &[u8]) -> Option<DiskNo>
+    ensures { IsReadFrom (λ d. d.0 < 2 ^ 8) (λ d. word (codes "d") d.0) word_bytes.now result }
+{
+    Some(DiskNo(byte_behind(word_bytes, b'd')?))
+}
+
+/// The place that a word names. Linear in it.
+pub fn place(word_bytes: &[u8]) -> Option<Place>
+    ensures { IsReadFrom PlaceFits place_word word_bytes.now result }
+{
+    match node(word_bytes) {
+        Some(node) => Some(Place::Node(node)),
+        None => Some(Place::Disk(disk(word_bytes)?)),
+    }
+}
