@@ -2,3 +2,4 @@ mod Numbers
 mod Dividing
 mod Telling
 mod Joining
+mod Progress

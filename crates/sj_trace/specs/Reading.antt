@@ -9,6 +9,8 @@ use Rattle.sj_base.specs.declared.ids.Place.{Place}
 use Rattle.sj_base.specs.declared.ids.Place.TheVariants.{Node as AtNode, Disk as OnDisk}
 use Rattle.sj_base.specs.declared.trace.Event.{Event}
 use Rattle.sj_base.specs.declared.trace.Event.TheVariants.{Claim, Move, Moved, Drop, Run, End}
+use Rattle.sj_trace.specs.declared.read.TraceRefusal.{TraceRefusal}
+use Rattle.sj_trace.specs.declared.read.TraceRefusal.TheVariants.{BadLine, OutOfMemory}
 use Rattle.sj_trace.specs.Text.{line_of}
 
 -- the lines of a text, each with its LF; what stands behind the last LF is a line if it isn't empty
@@ -61,3 +63,8 @@ pub record IsFirstBadLine (text : List ℕ) (number : ℕ) : Type 0 where
   pub divides : lines text ≡ map line_of before ++ line ∷ behind
   pub counts : number ≡ length before + 1
   pub bad : (e : Event) → EventFits e → line_of e ≢ line
+
+-- a text is refused at its first bad line, or memory ran out
+abbrev pub IsRefusal : TraceRefusal → List ℕ → Type 0
+IsRefusal OutOfMemory text = Unit {0}
+IsRefusal (BadLine line) text = IsFirstBadLine text line.0

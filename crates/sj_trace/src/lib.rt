@@ -4,5 +4,6 @@
 #[cfg(test)]
 mod tests;
 mod line;
+pub mod read;
 pub mod text;
 mod word;
