@@ -1,12 +1,13 @@
 -- A text is divided into its lines, and a line into its words, one after another.
-use Rattle.std.proofs.Common.{◌≡◌, ℕ, suc, ◌+◌, ◌-◌, ◌<◌, ◌≤◌, not, Bool, true, false, List, [], ◌∷◌, length, take, drop, refl, ap, ◌∙◌, sym, cond, arith, nat_lt, nat_eq, Some, None, position, Option, length-drop}
-use Rattle.std.specs.List.{slice_split, position_or_len, onto_first}
+use Rattle.std.proofs.Common.{◌≡◌, ℕ, suc, ◌+◌, ◌-◌, ◌<◌, ◌≤◌, not, Bool, true, false, List, [], ◌∷◌, length, take, drop, refl, ap, ◌∙◌, sym, cond, arith, nat_lt, nat_eq, Some, None, position, length-drop}
+use Rattle.std.specs.List.{position_or_len, onto_first}
 use Rattle.std.proofs.lemmas.List.{take_all, drop_all}
 use Rattle.std.proofs.lemmas.List.Splits.{slice_split_first, slice_split_none}
 use Rattle.std.proofs.lemmas.List.Sums.{position_or_len_is, fails_before_first}
 use Rattle.std.proofs.lemmas.List.Quantifiers.{position-Some}
 use Rattle.std.proofs.lemmas.Bool.Decides.{nat_tests}
-use Rattle.sj_trace.specs.Reading.{words, lines}
+use Rattle.sj_trace.specs.Text.{lines}
+use Rattle.sj_trace.specs.Reading.{words}
 
 is-none : (n len : ℕ) (t : Bool) → nat_lt n len ≡ t → None ≡ cond t (Some n) None → len ≤ n
 is-none n len true e h = absurd (cc)

@@ -11,8 +11,8 @@ use Rattle.sj_base.specs.declared.ids.Place.{Place}
 use Rattle.sj_base.specs.declared.ids.Place.TheVariants.{Node as AtNode, Disk as OnDisk}
 use Rattle.sj_base.specs.declared.trace.Event.{Event}
 use Rattle.sj_base.specs.declared.trace.Event.TheVariants.{Claim, Move, Moved, Drop, Run, End}
-use Rattle.sj_trace.specs.Text.{word, place_word, words_of, joined_words, line_of, text_of}
-use Rattle.sj_trace.specs.Reading.{words, lines, IsReadFrom, EventFits, PlaceFits}
+use Rattle.sj_trace.specs.Text.{place_word, words_of, joined_words, line_of, text_of, lines}
+use Rattle.sj_trace.specs.Reading.{words, IsReadFrom, EventFits, PlaceFits}
 
 -- no byte of a word is a space or LF
 abbrev IsInWord : ℕ → Type 0

@@ -1,5 +1,5 @@
 -- A number is read from the digits that it is written with.
-use Rattle.std.proofs.Common.{◌≡◌, ℕ, ◌<◌, ◌≤◌, ◌^◌, List, ◌∷◌, arith, decimal, ap, sym, ◌∙◌, Result, Ok, Err, Some, None, MatchResult, Bor, subst, drop}
+use Rattle.std.proofs.Common.{◌≡◌, ℕ, ◌<◌, ◌≤◌, ◌^◌, List, ◌∷◌, arith, decimal, ap, sym, ◌∙◌, Result, Some, subst, drop}
 use Rattle.std.specs.Result.{result_ok}
 use Rattle.std.specs.Prelude.{IsUtf8}
 use Rattle.std.specs.Str.Parse.{ParsesUnsigned}

@@ -1,7 +1,7 @@
--- The events read so far, and what stands behind their lines.
+-- The text of a trace, an event after another; and the events read so far, with what stands behind their lines.
 use Rattle.std.proofs.Common.{◌≡◌, ℕ, ◌<◌, ◌^◌, List, [], ◌∷◌, ◌++◌, length, map, nat_eq, true, ap, ◌∙◌, sym, arith, append-nil, append_assoc, drop, get_or, decimal, refl}
 use Rattle.std.specs.List.{All}
-use Rattle.std.proofs.lemmas.List.{map-append, append_cancel_right}
+use Rattle.std.proofs.lemmas.List.{map-append, append_cancel_right, length-map}
 use Rattle.std.proofs.lemmas.List.Concat.{flat_map-append}
 use Rattle.std.proofs.lemmas.List.Elements.{All-push, All-head, All-tail}
 use Rattle.std.proofs.lemmas.Fmt.{decimal_injective}
@@ -15,9 +15,18 @@ use Rattle.sj_base.specs.declared.ids.Place.{Place}
 use Rattle.sj_base.specs.declared.ids.Place.TheVariants.{Node as AtNode, Disk as OnDisk}
 use Rattle.sj_base.specs.declared.trace.Event.{Event}
 use Rattle.sj_base.specs.declared.trace.Event.TheVariants.{Claim, Move, Moved, Drop, Run, End}
-use Rattle.sj_trace.specs.Text.{place_word, words_of, joined_words, line_of, text_of}
-use Rattle.sj_trace.specs.Reading.{words, lines, EventFits, PlaceFits}
+use Rattle.sj_trace.specs.Text.{place_word, words_of, joined_words, line_of, text_of, lines}
+use Rattle.sj_trace.specs.Reading.{words, EventFits, PlaceFits, IsTextOf}
 use Rattle.sj_trace.proofs.Joining.{words-event, lines-text}
+
+pub text-more : (text : List ℕ) (events : List Event) (e : Event) → IsTextOf text events → EventFits e → IsTextOf (text ++ line_of e) (events ++ e ∷ [])
+text-more text events e is fits = record {
+  fit = All-push EventFits events e is.fit fits;
+  written = flat_map-append line_of events (e ∷ []) ∙ ap (λ l. l ++ text_of (e ∷ [])) is.written ∙ ap (λ l. text ++ l) (append-nil (line_of e));
+}
+
+pub line-each : (text : List ℕ) (events : List Event) → IsTextOf text events → length (lines text) ≡ length events
+line-each text events is = ap length (ap lines (sym is.written) ∙ lines-text events is.fit) ∙ length-map events line_of
 
 pub record AreRead (text : List ℕ) (events : List Event) (rest : List ℕ) : Type 0 where
   pub fit : All EventFits events
@@ -43,8 +52,8 @@ bad-among (e ∷ es) [] line behind fit bad h = bad e (All-head EventFits e es f
 bad-among (e ∷ es) (b ∷ bs) line behind fit bad h = bad-among es bs line behind (All-tail EventFits e es fit) bad (ap (drop 1) h)
 
 -- a text of events has no bad line
-pub none-bad : (text line : List ℕ) (es before : List Event) (behind : List (List ℕ)) → All EventFits es → text_of es ≡ text → lines text ≡ map line_of before ++ line ∷ behind → ((e : Event) → EventFits e → line_of e ≡ line → ⊥) → ⊥
-none-bad text line es before behind fit e divides bad = bad-among es before line behind fit bad (sym (lines-text es fit) ∙ ap lines e ∙ divides)
+pub none-bad : (text line : List ℕ) (es before : List Event) (behind : List (List ℕ)) → IsTextOf text es → lines text ≡ map line_of before ++ line ∷ behind → ((e : Event) → EventFits e → line_of e ≡ line → ⊥) → ⊥
+none-bad text line es before behind is divides bad = bad-among es before line behind is.fit bad (sym (lines-text es is.fit) ∙ ap lines is.written ∙ divides)
 
 -- ---- no two events have one line
 
@@ -120,7 +129,7 @@ lines-same (e ∷ es) (f ∷ fs) l k h =
     cc (first, others)
 
 -- a text whose events have been read is of no others
-pub no-others : (text rest : List ℕ) (events others : List Event) → AreRead text events rest → nat_eq (length rest) 0 ≡ true → All EventFits others → text_of others ≡ text → events ≡ others
-no-others text [] events others read end fit e =
-    lines-same events others read.fit fit (sym (append-nil (map line_of events)) ∙ sym read.line_by_line ∙ ap lines (sym e) ∙ lines-text others fit)
-no-others text (b ∷ bs) events others read end fit e = absurd (grind (arith, nat_tests))
+pub no-others : (text rest : List ℕ) (events others : List Event) → AreRead text events rest → nat_eq (length rest) 0 ≡ true → IsTextOf text others → events ≡ others
+no-others text [] events others read end is =
+    lines-same events others read.fit is.fit (sym (append-nil (map line_of events)) ∙ sym read.line_by_line ∙ ap lines (sym is.written) ∙ lines-text others is.fit)
+no-others text (b ∷ bs) events others read end is = absurd (grind (arith, nat_tests))

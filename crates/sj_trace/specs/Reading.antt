@@ -1,6 +1,6 @@
--- Reading the text of a trace: its lines, the words of a line, and the event whose line it is.
-use Rattle.std.specs.Prelude.{◌≡◌, ◌≢◌, ◌+◌, ◌<◌, ◌^◌, ℕ, List, [], ◌∷◌, ◌++◌, ◌==◌, Option, Some, None, map, length, if◌then◌else◌}
-use Rattle.std.specs.List.{All, onto_first, slice_split}
+-- Reading the text of a trace: the words of a line, and the event whose line it is.
+use Rattle.std.specs.Prelude.{◌≡◌, ◌≢◌, ◌+◌, ◌<◌, ◌^◌, ℕ, List, ◌∷◌, ◌++◌, ◌==◌, Option, Some, None, map, length}
+use Rattle.std.specs.List.{All, slice_split}
 use Rattle.sj_base.specs.declared.ids.Cell.{Cell}
 use Rattle.sj_base.specs.declared.ids.Node.{Node}
 use Rattle.sj_base.specs.declared.ids.Task.{Task}
@@ -11,12 +11,7 @@ use Rattle.sj_base.specs.declared.trace.Event.{Event}
 use Rattle.sj_base.specs.declared.trace.Event.TheVariants.{Claim, Move, Moved, Drop, Run, End}
 use Rattle.sj_trace.specs.declared.read.TraceRefusal.{TraceRefusal}
 use Rattle.sj_trace.specs.declared.read.TraceRefusal.TheVariants.{BadLine, OutOfMemory}
-use Rattle.sj_trace.specs.Text.{line_of}
-
--- the lines of a text, each with its LF; what stands behind the last LF is a line if it isn't empty
-abbrev pub lines : List ℕ → List (List ℕ)
-lines [] = []
-lines (b ∷ bs) = if b == 10 then (b ∷ []) ∷ lines bs else onto_first b (lines bs)
+use Rattle.sj_trace.specs.Text.{lines, line_of, text_of}
 
 -- what stands between the spaces
 abbrev pub words : List ℕ → List (List ℕ)
@@ -49,10 +44,10 @@ EventFits (Drop c n) = DropFits (c, n)
 EventFits (Run t w) = TaskFits (t, w)
 EventFits (End t w) = TaskFits (t, w)
 
--- the lines of a text are those of these events
-pub record AreLinesOf (text : List ℕ) (events : List Event) : Type 0 where
+-- a text is the text of these events
+pub record IsTextOf (text : List ℕ) (events : List Event) : Type 0 where
   pub fit : All EventFits events
-  pub line_by_line : lines text ≡ map line_of events
+  pub written : text_of events ≡ text
 
 -- the first line that is no event's, by its number from 1
 pub record IsFirstBadLine (text : List ℕ) (number : ℕ) : Type 0 where

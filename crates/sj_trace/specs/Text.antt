@@ -1,6 +1,6 @@
 -- The text of a trace: a line for each event, its words separated by one space, LF at the end of each.
-use Rattle.std.specs.Prelude.{ℕ, List, [], ◌∷◌, ◌++◌, codes, decimal, flat_map}
-use Rattle.std.specs.List.{join_with_byte}
+use Rattle.std.specs.Prelude.{ℕ, List, [], ◌∷◌, ◌++◌, codes, decimal, flat_map, ◌==◌, if◌then◌else◌}
+use Rattle.std.specs.List.{join_with_byte, onto_first}
 use Rattle.sj_base.specs.declared.ids.Cell.{Cell}
 use Rattle.sj_base.specs.declared.ids.Node.{Node}
 use Rattle.sj_base.specs.declared.ids.Task.{Task}
@@ -45,3 +45,8 @@ line_of e = joined_words e ++ codes "\n"
 
 abbrev pub text_of : List Event → List ℕ
 text_of = flat_map line_of
+
+-- the lines of a text, each with its LF; what stands behind the last LF is a line if it isn't empty
+abbrev pub lines : List ℕ → List (List ℕ)
+lines [] = []
+lines (b ∷ bs) = if b == 10 then (b ∷ []) ∷ lines bs else onto_first b (lines bs)

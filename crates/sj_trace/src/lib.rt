@@ -1,9 +1,9 @@
 //! The text of a trace, and reading it.
 #![tactic(auto)]
 
-#[cfg(test)]
-mod tests;
 mod line;
 pub mod read;
+#[cfg(test)]
+mod tests;
 pub mod text;
 mod word;

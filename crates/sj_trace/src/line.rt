@@ -1,19 +1,12 @@
 //! An event's line, read.
 
 ghost use Rattle.std.specs.Prelude.{◌≡◌, ◌∷◌, ◌++◌, ◌<◌, ◌==◌, [], length, position};
-ghost use Rattle.sj_trace.specs.Text.{words_of, line_of, task_words, transfer_words, drop_words};
-ghost use Rattle.sj_trace.specs.Reading.{lines, words, IsReadFrom, EventFits, TaskFits, TransferFits, DropFits};
+ghost use Rattle.sj_trace.specs.Text.{words_of, line_of, task_words, transfer_words, drop_words, lines};
+ghost use Rattle.sj_trace.specs.Reading.{words, IsReadFrom, EventFits, TaskFits, TransferFits, DropFits};
 
-use crate::word::{cell, first_word, node, place, task, worker};
+use crate::word::{cell, first_place, first_word, node, place, task, worker};
 use sj_base::ids::{Cell, Node, Place, Task, Worker};
 use sj_base::trace::Event;
-
-/// The place of the first LF. Linear up to it.
-fn first_end(text: &[u8]) -> Option<usize>
-    ensures { result ≡ position (λ b. b == 10) text.now }
-{
-    text.iter().position(|b| *b == b'\n')
-}
 
 /// The first line of a text, with its LF where it has one, and what stands behind it. Linear in the line.
 pub fn first_line(text: &[u8]) -> (&[u8], &[u8])
@@ -22,7 +15,7 @@ pub fn first_line(text: &[u8]) -> (&[u8], &[u8])
     ensures whole { text.now ≡ result.0.now ++ result.1.now }
     ensures some { 0 < length result.0.now }
 {
-    match first_end(text) {
+    match first_place(text, b'\n') {
         Some(end) => text.split_at(end + 1),
         None => text.split_at(text.len()),
     }

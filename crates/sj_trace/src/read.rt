@@ -1,11 +1,10 @@
 //! Reading the text of a trace.
 
 ghost use Rattle.std.specs.Prelude.{◌≡◌, ◌<◌, ◌^◌, List, length, IfOk, IfErr};
-ghost use Rattle.std.specs.List.{All};
 ghost use Rattle.sj_base.specs.declared.trace.Event.{Event};
 ghost use Rattle.sj_trace.specs.declared.read.TraceRefusal.TheVariants.{OutOfMemory};
-ghost use Rattle.sj_trace.specs.Text.{text_of};
-ghost use Rattle.sj_trace.specs.Reading.{lines, AreLinesOf, EventFits, IsRefusal};
+ghost use Rattle.sj_trace.specs.Text.{lines};
+ghost use Rattle.sj_trace.specs.Reading.{IsTextOf, IsRefusal};
 
 use crate::line::{event_of_line, first_line};
 use sj_base::ids::Line;
@@ -39,12 +38,11 @@ impl From<memory::OutOfMemory> for TraceRefusal {
 /// first line that is no event's. Linear in the text.
 pub fn read_trace(alloc: Global, text: &[u8]) -> Result<Trace, TraceRefusal>
     requires few_lines { length (lines text.now) < 2 ^ 32 }
-    ensures ok { IfOk result (λ trace. AreLinesOf text.now trace.events) }
-    ensures written { IfOk result (λ trace. text_of trace.events ≡ text.now) }
+    ensures ok { IfOk result (λ trace. IsTextOf text.now trace.events) }
     ensures bad_line { IfErr result (λ e. IsRefusal e text.now) }
-    ensures reads_back { (events : List Event) → All EventFits events → text_of events ≡ text.now
+    ensures reads_back { (events : List Event) → IsTextOf text.now events
         → IfOk result (λ trace. trace.events ≡ events) }
-    ensures reads_each { (events : List Event) → All EventFits events → text_of events ≡ text.now
+    ensures no_refusal { (events : List Event) → IsTextOf text.now events
         → IfErr result (λ e. e ≡ OutOfMemory) }
 {
     let mut trace = Trace::empty(alloc);

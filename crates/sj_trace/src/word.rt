@@ -8,11 +8,11 @@ use itoa::Buffer;
 use sj_base::ids::{Cell, DiskNo, Node, Place, Task, Worker};
 use std::str;
 
-/// The place of the first space. Linear up to it.
-fn first_space(line: &[u8]) -> Option<usize>
-    ensures { result ≡ position (λ b. b == 32) line.now }
+/// The place of the first such byte. Linear up to it.
+pub fn first_place(text: &[u8], byte: u8) -> Option<usize>
+    ensures { result ≡ position (λ b. b == byte) text.now }
 {
-    line.iter().position(|b| *b == b' ')
+    text.iter().position(|b| *b == byte)
 }
 
 /// What stands before the first space, and what behind it where there is one. Linear up to it.
@@ -20,7 +20,7 @@ pub fn first_word(line: &[u8]) -> (&[u8], Option<&[u8]>)
     ensures { MatchOption result.1 (words line.now ≡ result.0.now ∷ [])
         (λ rest. words line.now ≡ result.0.now ∷ words rest.now) }
 {
-    match first_space(line) {
+    match first_place(line, b' ') {
         Some(end) => (&line[..end], Some(&line[end + 1..])),
         None => (line, None),
     }
