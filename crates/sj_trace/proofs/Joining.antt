@@ -82,13 +82,13 @@ pub words-event : (e : Event) → EventFits e → words (joined_words e) ≡ wor
 words-event e fits = words-joined (words_of e) (some-words e) (event-words e fits)
 
 -- the event whose line it is has its words
-pub line-read : (line rest : List ℕ) (r : Option Event) → line ≡ rest ++ 10 ∷ [] → IsReadFrom EventFits words_of (words rest) r → IsReadFrom EventFits line_of line r
+pub line-read : (line rest : List ℕ) (r : Option Event) → rest ++ 10 ∷ [] ≡ line → IsReadFrom EventFits words_of (words rest) r → IsReadFrom EventFits line_of line r
 line-read line rest None e none = λ a fits h.
-    let same : joined_words a ≡ rest = append_cancel_right (joined_words a) rest (10 ∷ []) (h ∙ e) in
+    let same : joined_words a ≡ rest = append_cancel_right (joined_words a) rest (10 ∷ []) (h ∙ sym e) in
     none a fits (sym (words-event a fits) ∙ ap words same)
 line-read line rest (Some a) e read =
     let same : joined_words a ≡ rest = ap (join_with_byte 32) read.1 ∙ join_with_byte-slice_split 32 rest in
-    (read.0, ap (λ l. l ++ 10 ∷ []) same ∙ sym e)
+    (read.0, ap (λ l. l ++ 10 ∷ []) same ∙ e)
 
 line-IsInLine : (e : Event) → EventFits e → All IsInLine (joined_words e)
 line-IsInLine e fits = joined-IsInLine (words_of e) (event-words e fits)

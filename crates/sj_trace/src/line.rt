@@ -1,6 +1,6 @@
 //! An event's line, read.
 
-ghost use Rattle.std.specs.Prelude.{◌≡◌, ◌∷◌, ◌++◌, ◌<◌, ◌==◌, [], length, position};
+ghost use Rattle.std.specs.Prelude.{◌≡◌, ◌≢◌, ◌∷◌, ◌++◌, ◌<◌, ℕ, List, [], length, MatchOption};
 ghost use Rattle.sj_trace.specs.Text.{words_of, line_of, task_words, transfer_words, drop_words, lines};
 ghost use Rattle.sj_trace.specs.Reading.{words, IsReadFrom, EventFits, TaskFits, TransferFits, DropFits};
 
@@ -41,7 +41,8 @@ fn cell_and_node(first: &[u8], second: &[u8]) -> Option<(Cell, Node)>
 
 /// A cell and the places of its transfer.
 fn transfer(first: &[u8], second: &[u8], third: &[u8]) -> Option<(Cell, Place, Place)>
-    ensures { IsReadFrom TransferFits transfer_words (first.now ∷ second.now ∷ third.now ∷ []) result }
+    ensures { IsReadFrom TransferFits transfer_words
+        (first.now ∷ second.now ∷ third.now ∷ []) result }
 {
     let cell = cell(first)?;
     let from = place(second)?;
@@ -102,14 +103,20 @@ fn event_of_words(line: &[u8]) -> Option<Event>
     event_of_four(verb, first, second, third)
 }
 
+/// What stands before the LF at a line's end, `None` where none stands there. Constant time.
+fn before_end(line: &[u8]) -> Option<&[u8]>
+    ensures { MatchOption result ((bytes : List ℕ) → bytes ++ 10 ∷ [] ≢ line.now)
+        (λ bytes. bytes.now ++ 10 ∷ [] ≡ line.now) }
+{
+    match line.split_last() {
+        Some((b'\n', before)) => Some(before),
+        _ => None,
+    }
+}
+
 /// The event whose line it is, `None` where it is none's. Linear in the line.
 pub fn event_of_line(line: &[u8]) -> Option<Event>
     ensures { IsReadFrom EventFits line_of line.now result }
 {
-    let (last, rest) = line.split_last()?;
-    if *last == b'\n' {
-        event_of_words(rest)
-    } else {
-        None
-    }
+    event_of_words(before_end(line)?)
 }

@@ -34,15 +34,15 @@ impl From<memory::OutOfMemory> for TraceRefusal {
     }
 }
 
-/// Reads the text of a trace, as `text` writes it and in no other form: the events whose lines the text has, or the
-/// first line that is no event's. Linear in the text.
+/// Reads the text of a trace, in the one form in which it is written: the events whose lines it has,
+/// or `BadLine` at the first line that no event is written as. Linear in the text.
 pub fn read_trace(alloc: Global, text: &[u8]) -> Result<Trace, TraceRefusal>
     requires few_lines { length (lines text.now) < 2 ^ 32 }
     ensures ok { IfOk result (λ trace. IsTextOf text.now trace.events) }
     ensures bad_line { IfErr result (λ e. IsRefusal e text.now) }
     ensures reads_back { (events : List Event) → IsTextOf text.now events
         → IfOk result (λ trace. trace.events ≡ events) }
-    ensures no_refusal { (events : List Event) → IsTextOf text.now events
+    ensures refuses_no_trace { (events : List Event) → IsTextOf text.now events
         → IfErr result (λ e. e ≡ OutOfMemory) }
 {
     let mut trace = Trace::empty(alloc);

@@ -51,7 +51,8 @@ fn write_move(
     to: Place,
 ) -> Result<(), OutOfMemory>
     ensures { OnOk result (text.new.items ≡ text.old.items ++ verb.now
-        ++ codes " " ++ word (codes "c") c.0 ++ codes " " ++ place_word from ++ codes " " ++ place_word to) }
+        ++ codes " " ++ word (codes "c") c.0
+        ++ codes " " ++ place_word from ++ codes " " ++ place_word to) }
 {
     text.extend_from_slice(verb)?;
     write_word(text, b"c", c.0)?;

@@ -50,10 +50,10 @@ fn number(digits: &[u8]) -> Option<u32>
 }
 
 /// The number behind a letter.
-fn number_behind(word_bytes: &[u8], letter: u8) -> Option<u32>
-    ensures { IsReadFrom (λ n. n < 2 ^ 32) (word (letter ∷ [])) word_bytes.now result }
+fn number_behind(bytes: &[u8], letter: u8) -> Option<u32>
+    ensures { IsReadFrom (λ n. n < 2 ^ 32) (word (letter ∷ [])) bytes.now result }
 {
-    let (first, digits) = word_bytes.split_first()?;
+    let (first, digits) = bytes.split_first()?;
     if *first == letter {
         number(digits)
     } else {
@@ -62,10 +62,10 @@ fn number_behind(word_bytes: &[u8], letter: u8) -> Option<u32>
 }
 
 /// The number of a byte behind a letter.
-fn byte_behind(word_bytes: &[u8], letter: u8) -> Option<u8>
-    ensures { IsReadFrom (λ n. n < 2 ^ 8) (word (letter ∷ [])) word_bytes.now result }
+fn byte_behind(bytes: &[u8], letter: u8) -> Option<u8>
+    ensures { IsReadFrom (λ n. n < 2 ^ 8) (word (letter ∷ [])) bytes.now result }
 {
-    let number = number_behind(word_bytes, letter)?;
+    let number = number_behind(bytes, letter)?;
     if number < 256 {
         Some(number as u8)
     } else {
@@ -74,46 +74,46 @@ fn byte_behind(word_bytes: &[u8], letter: u8) -> Option<u8>
 }
 
 /// The task that a word names. Linear in it.
-pub fn task(word_bytes: &[u8]) -> Option<Task>
-    ensures { IsReadFrom (λ t. t.0 < 2 ^ 32) (λ t. word (codes "t") t.0) word_bytes.now result }
+pub fn task(bytes: &[u8]) -> Option<Task>
+    ensures { IsReadFrom (λ t. t.0 < 2 ^ 32) (λ t. word (codes "t") t.0) bytes.now result }
 {
-    Some(Task(number_behind(word_bytes, b't')?))
+    Some(Task(number_behind(bytes, b't')?))
 }
 
 /// The worker that a word names. Linear in it.
-pub fn worker(word_bytes: &[u8]) -> Option<Worker>
-    ensures { IsReadFrom (λ w. w.0 < 2 ^ 8) (λ w. word (codes "w") w.0) word_bytes.now result }
+pub fn worker(bytes: &[u8]) -> Option<Worker>
+    ensures { IsReadFrom (λ w. w.0 < 2 ^ 8) (λ w. word (codes "w") w.0) bytes.now result }
 {
-    Some(Worker(byte_behind(word_bytes, b'w')?))
+    Some(Worker(byte_behind(bytes, b'w')?))
 }
 
 /// The cell that a word names. Linear in it.
-pub fn cell(word_bytes: &[u8]) -> Option<Cell>
-    ensures { IsReadFrom (λ c. c.0 < 2 ^ 32) (λ c. word (codes "c") c.0) word_bytes.now result }
+pub fn cell(bytes: &[u8]) -> Option<Cell>
+    ensures { IsReadFrom (λ c. c.0 < 2 ^ 32) (λ c. word (codes "c") c.0) bytes.now result }
 {
-    Some(Cell(number_behind(word_bytes, b'c')?))
+    Some(Cell(number_behind(bytes, b'c')?))
 }
 
 /// The memory node that a word names. Linear in it.
-pub fn node(word_bytes: &[u8]) -> Option<Node>
-    ensures { IsReadFrom (λ n. n.0 < 2 ^ 8) (λ n. word (codes "n") n.0) word_bytes.now result }
+pub fn node(bytes: &[u8]) -> Option<Node>
+    ensures { IsReadFrom (λ n. n.0 < 2 ^ 8) (λ n. word (codes "n") n.0) bytes.now result }
 {
-    Some(Node(byte_behind(word_bytes, b'n')?))
+    Some(Node(byte_behind(bytes, b'n')?))
 }
 
 /// The disk that a word names. Linear in it.
-fn disk(word_bytes: &[u8]) -> Option<DiskNo>
-    ensures { IsReadFrom (λ d. d.0 < 2 ^ 8) (λ d. word (codes "d") d.0) word_bytes.now result }
+fn disk(bytes: &[u8]) -> Option<DiskNo>
+    ensures { IsReadFrom (λ d. d.0 < 2 ^ 8) (λ d. word (codes "d") d.0) bytes.now result }
 {
-    Some(DiskNo(byte_behind(word_bytes, b'd')?))
+    Some(DiskNo(byte_behind(bytes, b'd')?))
 }
 
 /// The place that a word names. Linear in it.
-pub fn place(word_bytes: &[u8]) -> Option<Place>
-    ensures { IsReadFrom PlaceFits place_word word_bytes.now result }
+pub fn place(bytes: &[u8]) -> Option<Place>
+    ensures { IsReadFrom PlaceFits place_word bytes.now result }
 {
-    match node(word_bytes) {
+    match node(bytes) {
         Some(node) => Some(Place::Node(node)),
-        None => Some(Place::Disk(disk(word_bytes)?)),
+        None => Some(Place::Disk(disk(bytes)?)),
     }
 }

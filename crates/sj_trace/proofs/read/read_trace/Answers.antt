@@ -4,8 +4,8 @@ use Rattle.sj_trace.specs.Text.{line_of, lines}
 use Rattle.sj_trace.proofs.Progress.{AreRead, one-more, none-bad, no-others}
 use Rattle.sj_trace.proofs.read.read_trace.Goals as goal
 
-pub returns-in_default-clause-no_refusal : goal.returns-in_default-clause-no_refusal
-returns-in_default-clause-no_refusal c = λ events is.
+pub returns-in_default-clause-refuses_no_trace : goal.returns-in_default-clause-refuses_no_trace
+returns-in_default-clause-refuses_no_trace c = λ events is.
     let read = c.loop-rest.invariant in
     let divides = read.line_by_line ∙ ap (λ l. map line_of c.loop-rest.trace.events ++ l) c.first_line.ensures.line in
     absurd (none-bad c.args.text.now c.first_line.result.0.now events c.loop-rest.trace.events (lines c.first_line.result.1.now) is divides c.in_default.ensures)
