@@ -1,0 +1,5 @@
+mod Numbers
+mod Dividing
+mod Telling
+mod Joining
+mod Progress
