@@ -1,0 +1,4 @@
+pub mod Entry
+pub mod Fork
+pub mod Queue
+pub mod Root
