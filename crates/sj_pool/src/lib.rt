@@ -3,4 +3,5 @@
 #![tactic(auto)]
 
 pub mod entry;
+pub mod pool;
 mod tree;

@@ -6,6 +6,7 @@ ghost use Rattle.sj_pool.specs.Queue.{has_fitting, first_fitting, without_first_
 ghost use Rattle.sj_pool.specs.Root.{IsLeast};
 
 use crate::entry::Entry;
+use sj_base::ids::Task;
 use std::marker::Model;
 use std::mem;
 
@@ -139,6 +140,7 @@ impl Tree {
 
     /// Puts an entry where its urgency has it, into the box of a fork that isn't used. Logarithmic
     /// time.
+    #[tactic(auto, using(crate::proofs::Queues::put_in_order))]
     pub fn put_by_urgency(self, entry: Entry, spare: Box<Fork>) -> Tree
         requires { IsTrue (is_by_urgency self) }
         ensures { result ≡ put_by_urgency entry self }
@@ -149,10 +151,10 @@ impl Tree {
                 if fork.entry.precedes(&entry) {
                     let right = mem::replace(&mut fork.right, Tree::empty());
                     fork.right = right.put_by_urgency(entry, spare);
-                } else {
-                    let left = mem::replace(&mut fork.left, Tree::empty());
-                    fork.left = left.put_by_urgency(entry, spare);
+                    return Tree::balance(fork);
                 }
+                let left = mem::replace(&mut fork.left, Tree::empty());
+                fork.left = left.put_by_urgency(entry, spare);
                 Tree::balance(fork)
             }
         }
@@ -192,6 +194,7 @@ impl Tree {
     }
 
     /// Takes the first entry that fits out, in its fork's box. Logarithmic time.
+    #[tactic(auto, using(crate::proofs::Queues::take_in_order))]
     pub fn take(self, room: u64) -> (Option<Box<Fork>>, Tree)
         ensures taken { option_map (λ f. f.value.entry) result.0 ≡ first_fitting room self }
         ensures rest { result.1 ≡ without_first_fitting room self }
@@ -219,6 +222,21 @@ impl Tree {
 
 impl Fork {
     ghost use Rattle.sj_pool.specs.Fork.{in_order};
+
+    /// A fork that isn't used.
+    pub fn unused() -> Fork {
+        Fork {
+            entry: Entry {
+                task: Task(0),
+                priority: 0,
+                bytes: 0,
+            },
+            height: 0,
+            least: 0,
+            left: Tree::empty(),
+            right: Tree::empty(),
+        }
+    }
 
     /// The left child above its parent.
     fn raise_left(mut fork: Box<Fork>) -> Box<Fork>

@@ -1,0 +1,98 @@
+-- A pool as contracts see it: its policy, for how many workers and tasks it was made, and its queues.
+use Rattle.std.specs.Prelude.{◌≡◌, ℕ, ◌-◌, ◌<◌, Bool, true, false, nat_eq, is_some, List, [], ◌∷◌, ◌++◌, length, slice_set, slice_index_or, Option, None, Some, option_map, All, IsTrue}
+use Rattle.std.specs.List.{list_any, find, range_with_len}
+use Rattle.std.specs.Option.{option_and_then}
+use Rattle.sj_base.specs.declared.ids.Task.{Task}
+use Rattle.sj_base.specs.declared.mode.Policy.{Policy}
+use Rattle.sj_base.specs.declared.mode.Policy.TheVariants.{Eager, Prio, Ws}
+use Rattle.sj_pool.specs.declared.entry.Entry.{Entry}
+use Rattle.sj_pool.specs.Entry.{fits, precedes}
+use Rattle.sj_pool.specs.Queue.{has_fitting, first_fitting, without_first_fitting, put_by_urgency, is_by_urgency}
+
+pub record Pooled : Type 0 where
+  pub policy : Policy
+  pub workers : ℕ
+  pub limit : ℕ
+  pub queues : List (List Entry)
+
+abbrev pub pooled : Policy → ℕ → ℕ → List (List Entry) → Pooled
+pooled p w n qs = record { policy = p; workers = w; limit = n; queues = qs }
+
+-- one queue, or under ws one for each worker
+abbrev pub queue_count : Policy → ℕ → ℕ
+queue_count Ws workers = workers
+queue_count _ workers = 1
+
+-- the number of a worker's queue
+abbrev pub home : Policy → ℕ → ℕ
+home Ws w = w
+home _ w = 0
+
+abbrev pub queue : List (List Entry) → ℕ → List Entry
+queue qs i = slice_index_or qs i []
+
+-- ---- which tasks are there
+
+abbrev pub has_task : ℕ → List Entry → Bool
+has_task t es = list_any (λ e. nat_eq e.task.0 t) es
+
+abbrev pub contains : List (List Entry) → ℕ → Bool
+contains qs t = list_any (has_task t) qs
+
+-- ---- putting
+
+-- the entry goes behind all others, or under prio where its urgency has it
+abbrev pub put_into : Policy → Entry → List Entry → List Entry
+put_into Prio e es = put_by_urgency e es
+put_into _ e es = es ++ e ∷ []
+
+-- the entry goes to the queue of the worker that puts it
+abbrev pub with_entry : Pooled → Entry → ℕ → Pooled
+with_entry p e by =
+    let i = home p.policy by in
+    record p { queues = slice_set p.queues i (put_into p.policy e (queue p.queues i)) }
+
+-- ---- taking
+
+-- the queues in the order in which a worker looks for work: its own, and the next ones cyclically
+abbrev pub turns : ℕ → ℕ → List ℕ
+turns count first = range_with_len first (count - first) ++ range_with_len 0 first
+
+-- the first of these queues where an entry fits
+abbrev pub serving : List (List Entry) → ℕ → List ℕ → Option ℕ
+serving qs room order = find (λ i. has_fitting room (queue qs i)) order
+
+-- the queue that serves a worker
+abbrev pub serves : Pooled → ℕ → ℕ → Option ℕ
+serves p w room = serving p.queues room (turns (length p.queues) (home p.policy w))
+
+-- the entry that a worker takes: the first that fits in the queue that serves it
+abbrev pub entry_for : Pooled → ℕ → ℕ → Option Entry
+entry_for p w room = option_and_then (λ i. first_fitting room (queue p.queues i)) (serves p w room)
+
+abbrev pub without_fitting_at : List (List Entry) → ℕ → Option ℕ → List (List Entry)
+without_fitting_at qs room None = qs
+without_fitting_at qs room (Some i) = slice_set qs i (without_first_fitting room (queue qs i))
+
+-- the pool where that entry is taken out
+abbrev pub without_entry_for : Pooled → ℕ → ℕ → Pooled
+without_entry_for p w room = record p { queues = without_fitting_at p.queues room (serves p w room) }
+
+-- no entry that fits is more urgent
+abbrev pub IsMostUrgent : Entry → ℕ → List (List Entry) → Type 0
+IsMostUrgent e room qs = All (All (λ x. IsTrue (fits room x) → precedes x e ≡ false)) qs
+
+-- ---- what a pool keeps
+
+abbrev pub has_spare : {X : Type 0} → List (Option X) → ℕ → Bool
+has_spare xs t = is_some (slice_index_or xs t None)
+
+-- a fork is there for each task that isn't in a queue
+abbrev pub HasSpares : {X : Type 0} → List (Option X) → List (List Entry) → Type 0
+HasSpares xs qs = (t : ℕ) → t < length xs → contains qs t ≡ false → has_spare xs t ≡ true
+
+pub record IsPool {X : Type 0} (policy : Policy) (workers : ℕ) (qs : List (List Entry)) (spare : List (Option X)) : Type 0 where
+  pub some_worker : 0 < workers
+  pub count : length qs ≡ queue_count policy workers
+  pub spares : HasSpares spare qs
+  pub by_urgency : policy ≡ Prio → All (λ q. IsTrue (is_by_urgency q)) qs

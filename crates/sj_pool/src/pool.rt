@@ -1,0 +1,188 @@
+//! The pool of ready tasks of a scheduling policy.
+
+ghost use Rattle.std.specs.Prelude.{◌≡◌, ◌↔◌, ◌<◌, ◌+◌, ◌-◌, ◌^◌, [], All, IsTrue, IsNone, IfOk, IfSome, is_some, false, true, option_map, option_and_then, replicate, length};
+ghost use Rattle.std.specs.List.{range_with_len};
+ghost use Rattle.sj_base.specs.declared.mode.Policy.TheVariants.{Prio};
+ghost use Rattle.sj_pool.specs.declared.entry.Entry.{Entry};
+ghost use Rattle.sj_pool.specs.Queue.{has_fitting, is_by_urgency};
+ghost use Rattle.sj_pool.specs.Pool.{pooled, queue_count, home, queue, contains, put_into, with_entry, turns, serving, serves, entry_for, without_entry_for, IsMostUrgent, has_spare};
+
+use crate::entry::Entry;
+use crate::tree::{Fork, Tree};
+use sj_base::ids::{Task, Worker};
+use sj_base::memory::OutOfMemory;
+use sj_base::mode::Policy;
+use std::alloc::Global;
+use std::marker::Model;
+use std::mem;
+
+/// Ready tasks, each with a priority and the bytes of its footprint. Under `eager` and `prio` they
+/// are in one queue, under `ws` in one for each worker; a queue has its entries in the order in
+/// which they are taken.
+#[derive(Drop)]
+pub struct Pool {
+    policy: Policy,
+    workers: u8,
+    queues: Vec<Tree>,
+    /// For each task that isn't in a queue, the box in which it will be.
+    spare: Vec<Option<Box<Fork>>>,
+}
+
+impl Model for Pool {
+    ghost use Rattle.std.specs.Prelude.{length};
+    ghost use Rattle.sj_pool.specs.Pool.{Pooled, pooled, IsPool};
+
+    ghost Value = { Pooled };
+
+    ghost view = { λ p. pooled p.policy p.workers (length p.spare.items) p.queues.items };
+
+    ghost invariant = { λ p. IsPool p.policy p.workers p.queues.items p.spare.items };
+}
+
+/// So many empty queues.
+fn empty_queues(alloc: Global, count: u8) -> Result<Vec<Tree>, OutOfMemory>
+    ensures { IfOk result (λ v. v.items ≡ replicate count []) }
+{
+    let mut queues = Vec::new(alloc);
+    for _i in 0..count {
+        queues.push(Tree::empty())?;
+    }
+    Ok(queues)
+}
+
+/// So many boxes.
+fn boxes(alloc: Global, count: u32) -> Result<Vec<Option<Box<Fork>>>, OutOfMemory>
+    ensures length { IfOk result (λ v. length v.items ≡ count) }
+    ensures there { IfOk result (λ v. All (λ b. is_some b ≡ true) v.items) }
+{
+    let mut boxes = Vec::new(alloc);
+    for _i in 0..count {
+        boxes.push(Some(Box::new(alloc, Fork::unused())?))?;
+    }
+    Ok(boxes)
+}
+
+/// The number of a worker's queue.
+fn home(policy: Policy, w: Worker) -> usize
+    ensures { result ≡ home policy w.0 }
+{
+    match policy {
+        Policy::Ws => w.0 as usize,
+        Policy::Eager | Policy::Prio => 0,
+    }
+}
+
+/// Puts an entry into a queue.
+fn put_into(queue: Tree, policy: Policy, entry: Entry, spare: Box<Fork>) -> Tree
+    requires { policy ≡ Prio → IsTrue (is_by_urgency queue) }
+    ensures { result ≡ put_into policy entry queue }
+{
+    match policy {
+        Policy::Prio => queue.put_by_urgency(entry, spare),
+        Policy::Eager | Policy::Ws => queue.put_last(entry, spare),
+    }
+}
+
+/// The first of some queues where an entry fits.
+fn serving_between(queues: &[Tree], from: usize, to: usize, room: u64) -> Option<usize>
+    requires { to < length queues.now + 1 }
+    ensures first { result ≡ serving queues.now room (range_with_len from (to - from)) }
+    ensures within { IfSome result (λ i. i < length queues.now) }
+{
+    for i in from..to {
+        if queues[i].fits(room) {
+            return Some(i);
+        }
+    }
+    None
+}
+
+/// The queue that serves a worker whose own is the first: linear in the number of queues.
+fn serving(queues: &[Tree], first: usize, room: u64) -> Option<usize>
+    requires { first < length queues.now }
+    ensures queue { result ≡ serving queues.now room (turns (length queues.now) first) }
+    ensures within { IfSome result (λ i. i < length queues.now) }
+{
+    match serving_between(queues, first, queues.len(), room) {
+        Some(i) => Some(i),
+        None => serving_between(queues, 0, first, room),
+    }
+}
+
+impl Pool {
+    /// No task, and room for so many. Linear in the workers and tasks.
+    pub fn make(
+        alloc: Global,
+        policy: Policy,
+        workers: u8,
+        tasks: u32,
+    ) -> Result<Pool, OutOfMemory>
+        requires { 0 < workers }
+        ensures { IfOk result (λ p. p ≡ pooled policy workers tasks (replicate (queue_count policy workers) [])) }
+    {
+        let count = match policy {
+            Policy::Ws => workers,
+            Policy::Eager | Policy::Prio => 1,
+        };
+        let queues = empty_queues(alloc, count)?;
+        let spare = boxes(alloc, tasks)?;
+        Ok(Pool {
+            policy,
+            workers,
+            queues,
+            spare,
+        })
+    }
+
+    /// Puts a task into the queue of the worker that puts it: behind all others, or under `prio`
+    /// behind those that are more urgent. Logarithmic in the tasks; no memory.
+    pub fn put(&mut self, t: Task, priority: i32, bytes: u64, by: Worker)
+        requires absent { contains self.old.queues t.0 ≡ false }
+        requires known_task { t.0 < self.old.limit }
+        requires known_worker { by.0 < self.old.workers }
+        ensures { self.new ≡ with_entry self.old (record { task = t; priority = priority; bytes = bytes }) by.0 }
+    {
+        let i = home(self.policy, by);
+        let Some(spare) = mem::replace(&mut self.spare[t.0 as usize], None) else {
+            unreachable!()
+        };
+        let entry = Entry {
+            task: t,
+            priority,
+            bytes,
+        };
+        let old = mem::replace(&mut self.queues[i], Tree::empty());
+        self.queues[i] = put_into(old, self.policy, entry, spare);
+    }
+
+    /// Takes a task for a worker, by the policy among those of at most so many bytes; `None` exactly
+    /// where there is none. Logarithmic in the tasks, and under `ws` linear in the workers; no
+    /// memory.
+    pub fn take(&mut self, w: Worker, room: u64) -> Option<Task>
+        requires { w.0 < self.old.workers }
+        ensures task { result ≡ option_map (λ (e : Entry). e.task) (entry_for self.old w.0 room) }
+        ensures rest { self.new ≡ without_entry_for self.old w.0 room }
+        ensures none { IsNone result ↔ All (λ q. has_fitting room q ≡ false) self.old.queues }
+    {
+        let i = serving(&self.queues, home(self.policy, w), room)?;
+        let old = mem::replace(&mut self.queues[i], Tree::empty());
+        let (taken, rest) = old.take(room);
+        self.queues[i] = rest;
+        let fork = taken?;
+        let task = fork.entry.task;
+        let place = task.0 as usize;
+        if place < self.spare.len() {
+            self.spare[place] = Some(fork);
+        }
+        Some(task)
+    }
+
+    /// Under `prio`, what a worker takes is the most urgent of all that fit. No code: its contract is
+    /// the law.
+    pub fn the_most_urgent_is_taken(&self, w: Worker, room: u64)
+        requires { self.now.policy ≡ Prio }
+        ensures { IfSome (entry_for self.now w.0 room) (λ e. IsMostUrgent e room self.now.queues) }
+    {
+        let _ = &self.queues;
+    }
+}
