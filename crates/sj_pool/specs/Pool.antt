@@ -1,7 +1,7 @@
 -- A pool as contracts see it: its policy, for how many workers and tasks it was made, and its queues.
-use Rattle.std.specs.Prelude.{◌≡◌, ℕ, ◌-◌, ◌<◌, Bool, true, false, nat_eq, is_some, List, [], ◌∷◌, ◌++◌, length, slice_set, slice_index_or, Option, None, Some, option_map, All, IsTrue}
+use Rattle.std.specs.Prelude.{◌≡◌, ◌≢◌, ℕ, ◌-◌, ◌<◌, Bool, true, false, nat_eq, is_some, List, [], ◌∷◌, ◌++◌, length, slice_set, slice_index_or, Option, None, Some, option_map, All, IsTrue}
 use Rattle.std.specs.List.{list_any, find, range_with_len}
-use Rattle.std.specs.Option.{option_and_then}
+use Rattle.std.specs.Option.{option_and_then, option_map_or}
 use Rattle.sj_base.specs.declared.ids.Task.{Task}
 use Rattle.sj_base.specs.declared.mode.Policy.{Policy}
 use Rattle.sj_base.specs.declared.mode.Policy.TheVariants.{Eager, Prio, Ws}
@@ -70,13 +70,21 @@ serves p w room = serving p.queues room (turns (length p.queues) (home p.policy 
 abbrev pub entry_for : Pooled → ℕ → ℕ → Option Entry
 entry_for p w room = option_and_then (λ i. first_fitting room (queue p.queues i)) (serves p w room)
 
-abbrev pub without_fitting_at : List (List Entry) → ℕ → Option ℕ → List (List Entry)
-without_fitting_at qs room None = qs
-without_fitting_at qs room (Some i) = slice_set qs i (without_first_fitting room (queue qs i))
+-- its task
+abbrev pub task_for : Pooled → ℕ → ℕ → Option Task
+task_for p w room = option_map (λ e. e.task) (entry_for p w room)
 
--- the pool where that entry is taken out
+-- the task of the first entry of a queue that fits
+abbrev pub first_task : ℕ → List Entry → Option Task
+first_task room es = option_map (λ e. e.task) (first_fitting room es)
+
+-- the pool where the first entry that fits is taken out of a queue
+abbrev pub without_first_at : Pooled → ℕ → ℕ → Pooled
+without_first_at p i room = record p { queues = slice_set p.queues i (without_first_fitting room (queue p.queues i)) }
+
+-- the pool where the entry that a worker takes is taken out
 abbrev pub without_entry_for : Pooled → ℕ → ℕ → Pooled
-without_entry_for p w room = record p { queues = without_fitting_at p.queues room (serves p w room) }
+without_entry_for p w room = option_map_or (λ i. without_first_at p i room) (serves p w room) p
 
 -- no entry that fits is more urgent
 abbrev pub IsMostUrgent : Entry → ℕ → List (List Entry) → Type 0
@@ -87,7 +95,12 @@ IsMostUrgent e room qs = All (All (λ x. IsTrue (fits room x) → precedes x e �
 abbrev pub has_spare : {X : Type 0} → List (Option X) → ℕ → Bool
 has_spare xs t = is_some (slice_index_or xs t None)
 
--- a fork is there for each task that isn't in a queue
+-- no box is taken or given back but that of a task
+pub record KeepsOthers {X : Type 0} (old new : List (Option X)) (t : ℕ) : Type 0 where
+  pub room : length new ≡ length old
+  pub others : (u : ℕ) → u ≢ t → has_spare new u ≡ has_spare old u
+
+-- a box is there for each task that isn't in a queue
 abbrev pub HasSpares : {X : Type 0} → List (Option X) → List (List Entry) → Type 0
 HasSpares xs qs = (t : ℕ) → t < length xs → contains qs t ≡ false → has_spare xs t ≡ true
 

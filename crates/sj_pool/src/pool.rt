@@ -1,11 +1,10 @@
 //! The pool of ready tasks of a scheduling policy.
 
-ghost use Rattle.std.specs.Prelude.{◌≡◌, ◌↔◌, ◌<◌, ◌+◌, ◌-◌, ◌^◌, [], All, IsTrue, IsNone, IfOk, IfSome, is_some, false, true, option_map, option_and_then, replicate, length};
+ghost use Rattle.std.specs.Prelude.{◌≡◌, ◌↔◌, ◌<◌, ◌≤◌, ◌-◌, [], All, IsTrue, IsNone, IfOk, IfSome, is_some, false, true, replicate, length};
 ghost use Rattle.std.specs.List.{range_with_len};
 ghost use Rattle.sj_base.specs.declared.mode.Policy.TheVariants.{Prio};
-ghost use Rattle.sj_pool.specs.declared.entry.Entry.{Entry};
 ghost use Rattle.sj_pool.specs.Queue.{has_fitting, is_by_urgency};
-ghost use Rattle.sj_pool.specs.Pool.{pooled, queue_count, home, queue, contains, put_into, with_entry, turns, serving, serves, entry_for, without_entry_for, IsMostUrgent, has_spare};
+ghost use Rattle.sj_pool.specs.Pool.{pooled, queue_count, home, queue, contains, put_into, with_entry, turns, serving, first_task, without_first_at, entry_for, task_for, without_entry_for, IsMostUrgent, has_spare, KeepsOthers};
 
 use crate::entry::Entry;
 use crate::tree::{Fork, Tree};
@@ -84,8 +83,9 @@ fn put_into(queue: Tree, policy: Policy, entry: Entry, spare: Box<Fork>) -> Tree
 }
 
 /// The first of some queues where an entry fits.
+#[tactic(auto, using(crate::proofs::Serving::between))]
 fn serving_between(queues: &[Tree], from: usize, to: usize, room: u64) -> Option<usize>
-    requires { to < length queues.now + 1 }
+    requires { to ≤ length queues.now }
     ensures first { result ≡ serving queues.now room (range_with_len from (to - from)) }
     ensures within { IfSome result (λ i. i < length queues.now) }
 {
@@ -98,15 +98,41 @@ fn serving_between(queues: &[Tree], from: usize, to: usize, room: u64) -> Option
 }
 
 /// The queue that serves a worker whose own is the first: linear in the number of queues.
+#[tactic(auto, using(crate::proofs::Serving::two_parts))]
 fn serving(queues: &[Tree], first: usize, room: u64) -> Option<usize>
     requires { first < length queues.now }
-    ensures queue { result ≡ serving queues.now room (turns (length queues.now) first) }
+    ensures first { result ≡ serving queues.now room (turns (length queues.now) first) }
     ensures within { IfSome result (λ i. i < length queues.now) }
 {
     match serving_between(queues, first, queues.len(), room) {
         Some(i) => Some(i),
         None => serving_between(queues, 0, first, room),
     }
+}
+
+/// Takes the box of a task out.
+fn take_box(spare: &mut Vec<Option<Box<Fork>>>, t: Task) -> Box<Fork>
+    requires there { has_spare spare.old.items t.0 ≡ true }
+    ensures others { KeepsOthers spare.old.items spare.new.items t.0 }
+{
+    let Some(fork) = mem::replace(&mut spare[t.0 as usize], None) else {
+        unreachable!()
+    };
+    fork
+}
+
+/// Gives the box of an entry back, where it has a place.
+fn give_box(spare: &mut Vec<Option<Box<Fork>>>, fork: Box<Fork>) -> Task
+    ensures task { result ≡ fork.value.entry.task }
+    ensures there { result.0 < length spare.old.items → has_spare spare.new.items result.0 ≡ true }
+    ensures others { KeepsOthers spare.old.items spare.new.items result.0 }
+{
+    let task = fork.entry.task;
+    let place = task.0 as usize;
+    if place < spare.len() {
+        spare[place] = Some(fork);
+    }
+    task
 }
 
 impl Pool {
@@ -143,9 +169,7 @@ impl Pool {
         ensures { self.new ≡ with_entry self.old (record { task = t; priority = priority; bytes = bytes }) by.0 }
     {
         let i = home(self.policy, by);
-        let Some(spare) = mem::replace(&mut self.spare[t.0 as usize], None) else {
-            unreachable!()
-        };
+        let spare = take_box(&mut self.spare, t);
         let entry = Entry {
             task: t,
             priority,
@@ -155,26 +179,33 @@ impl Pool {
         self.queues[i] = put_into(old, self.policy, entry, spare);
     }
 
+    /// Takes the first entry that fits out of a queue.
+    fn take_at(&mut self, i: usize, room: u64) -> Task
+        requires within { i < length self.old.queues }
+        requires fitting { has_fitting room (queue self.old.queues i) ≡ true }
+        ensures task { first_task room (queue self.old.queues i) ≡ Some result }
+        ensures rest { self.new ≡ without_first_at self.old i room }
+    {
+        let old = mem::replace(&mut self.queues[i], Tree::empty());
+        let (taken, rest) = old.take(room);
+        self.queues[i] = rest;
+        let Some(fork) = taken else { unreachable!() };
+        give_box(&mut self.spare, fork)
+    }
+
     /// Takes a task for a worker, by the policy among those of at most so many bytes; `None` exactly
     /// where there is none. Logarithmic in the tasks, and under `ws` linear in the workers; no
     /// memory.
     pub fn take(&mut self, w: Worker, room: u64) -> Option<Task>
         requires { w.0 < self.old.workers }
-        ensures task { result ≡ option_map (λ (e : Entry). e.task) (entry_for self.old w.0 room) }
+        ensures task { result ≡ task_for self.old w.0 room }
         ensures rest { self.new ≡ without_entry_for self.old w.0 room }
         ensures none { IsNone result ↔ All (λ q. has_fitting room q ≡ false) self.old.queues }
     {
-        let i = serving(&self.queues, home(self.policy, w), room)?;
-        let old = mem::replace(&mut self.queues[i], Tree::empty());
-        let (taken, rest) = old.take(room);
-        self.queues[i] = rest;
-        let fork = taken?;
-        let task = fork.entry.task;
-        let place = task.0 as usize;
-        if place < self.spare.len() {
-            self.spare[place] = Some(fork);
+        match serving(&self.queues, home(self.policy, w), room) {
+            None => None,
+            Some(i) => Some(self.take_at(i, room)),
         }
-        Some(task)
     }
 
     /// Under `prio`, what a worker takes is the most urgent of all that fit. No code: its contract is

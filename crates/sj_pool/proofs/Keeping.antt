@@ -1,0 +1,70 @@
+-- A pool stays one where an entry is put into a queue or taken out of it.
+use Rattle.std.proofs.Common.{◌≡◌, ◌≢◌, ℕ, zero, suc, ◌+◌, ◌<◌, Bool, true, false, not, ◌||◌, nat_eq, List, [], ◌∷◌, ◌++◌, Option, None, Some, IsTrue, All, length, slice_set, slice_index_or, refl, absurd, sym, ap, arith, All-set, All-get_or, length-set}
+use Rattle.std.proofs.lemmas.Int.{ints}
+use Rattle.std.proofs.lemmas.List.Folds.{list_all-append, list_any-append}
+use Rattle.sj_base.specs.declared.mode.Policy.{Policy}
+use Rattle.sj_base.specs.declared.mode.Policy.TheVariants.{Eager, Prio, Ws}
+use Rattle.std.specs.List.{list_all}
+use Rattle.sj_pool.specs.declared.entry.Entry.{Entry}
+use Rattle.sj_pool.specs.Entry.{fits, precedes}
+use Rattle.sj_pool.specs.Queue.{has_fitting, first_fitting, without_first_fitting, put_by_urgency, is_by_urgency}
+use Rattle.sj_pool.specs.Pool.{queue, has_task, contains, put_into, has_spare, HasSpares, KeepsOthers, IsPool}
+
+-- ---- which tasks are in the queues
+
+pub contains-set_at : (qs : List (List Entry)) (i : ℕ) (q : List Entry) (t : ℕ) → i < length qs → contains (slice_set qs i q) t ≡ false → has_task t q ≡ false
+contains-set_at [] i q t l h = grind arith
+contains-set_at (x ∷ xs) zero q t l h = grind arith
+contains-set_at (x ∷ xs) (suc i) q t l h = grind (arith, contains-set_at xs i q t)
+
+pub contains-set_others : (qs : List (List Entry)) (i : ℕ) (q : List Entry) (t : ℕ) → contains (slice_set qs i q) t ≡ false → has_task t (queue qs i) ≡ false → contains qs t ≡ false
+contains-set_others [] i q t h k = refl
+contains-set_others (x ∷ xs) zero q t h k = grind arith
+contains-set_others (x ∷ xs) (suc i) q t h k = grind (arith, contains-set_others xs i q t)
+
+-- a task that isn't in a queue after another was put by urgency wasn't there before, nor is it that other
+pub has_task-put_by_urgency : (e : Entry) (es : List Entry) (t : ℕ) → has_task t (put_by_urgency e es) ≡ (nat_eq e.task.0 t || has_task t es)
+has_task-put_by_urgency e [] t = grind arith
+has_task-put_by_urgency e (x ∷ xs) t = grind (arith, has_task-put_by_urgency e xs t)
+
+pub has_task-put_last : (e : Entry) (es : List Entry) (t : ℕ) → has_task t (es ++ e ∷ []) ≡ (nat_eq e.task.0 t || has_task t es)
+has_task-put_last e [] t = grind arith
+has_task-put_last e (x ∷ xs) t = grind (arith, has_task-put_last e xs t)
+
+pub has_task-put : (p : Policy) (e : Entry) (es : List Entry) (t : ℕ) → has_task t (put_into p e es) ≡ (nat_eq e.task.0 t || has_task t es)
+has_task-put Eager e es t = has_task-put_last e es t
+has_task-put Prio e es t = has_task-put_by_urgency e es t
+has_task-put Ws e es t = has_task-put_last e es t
+
+pub has_task-taken : (room : ℕ) (es : List Entry) (e : Entry) (t : ℕ) → first_fitting room es ≡ Some e → nat_eq e.task.0 t ≡ false → has_task t (without_first_fitting room es) ≡ false → has_task t es ≡ false
+has_task-taken room [] e t f n h = refl
+has_task-taken room (x ∷ xs) e t f n h = grind (arith, has_task-taken room xs e t)
+
+-- ---- the order of urgency
+
+pub all-put : (a e : Entry) (es : List Entry) → precedes e a ≡ false → list_all (λ x. not (precedes x a)) es ≡ true → list_all (λ x. not (precedes x a)) (put_by_urgency e es) ≡ true
+all-put a e [] h k = grind arith
+all-put a e (x ∷ xs) h k = grind (arith, all-put a e xs h)
+
+-- one that isn't more urgent than another isn't more urgent than those that the other isn't less urgent than
+pub precedes-down : (a b e : Entry) → precedes b a ≡ false → precedes a e ≡ false → precedes b e ≡ false
+precedes-down a b e h k = grind (arith, ints)
+
+pub precedes-not_back : (a e : Entry) → precedes a e ≡ true → precedes e a ≡ false
+precedes-not_back a e h = grind (arith, ints)
+
+pub all-down : (a e : Entry) (es : List Entry) → precedes a e ≡ false → list_all (λ x. not (precedes x a)) es ≡ true → list_all (λ x. not (precedes x e)) es ≡ true
+all-down a e [] h k = refl
+all-down a e (x ∷ xs) h k = grind (arith, all-down a e xs h, precedes-down a x e)
+
+pub by_urgency-put : (e : Entry) (es : List Entry) → is_by_urgency es ≡ true → is_by_urgency (put_by_urgency e es) ≡ true
+by_urgency-put e [] h = grind arith
+by_urgency-put e (x ∷ xs) h = grind (arith, by_urgency-put e xs, all-put x e xs, all-down x e xs, precedes-not_back x e)
+
+pub all-taken : (a : Entry) (room : ℕ) (es : List Entry) → list_all (λ x. not (precedes x a)) es ≡ true → list_all (λ x. not (precedes x a)) (without_first_fitting room es) ≡ true
+all-taken a room [] h = refl
+all-taken a room (x ∷ xs) h = grind (arith, all-taken a room xs)
+
+pub by_urgency-taken : (room : ℕ) (es : List Entry) → is_by_urgency es ≡ true → is_by_urgency (without_first_fitting room es) ≡ true
+by_urgency-taken room [] h = refl
+by_urgency-taken room (x ∷ xs) h = grind (arith, by_urgency-taken room xs, all-taken x room xs)

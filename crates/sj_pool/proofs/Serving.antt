@@ -1,0 +1,41 @@
+-- Which queue serves a worker.
+use Rattle.std.proofs.Common.{◌≡◌, ℕ, zero, suc, ◌+◌, ◌-◌, ◌<◌, ◌≤◌, Bool, true, false, List, [], ◌∷◌, ◌++◌, None, Some, All, is_some, length, refl, arith, slice_index_or, if◌then◌else◌}
+use Rattle.std.proofs.lemmas.List.Folds.{find-append}
+use Rattle.std.specs.List.{range_with_len}
+use Rattle.sj_pool.specs.declared.entry.Entry.{Entry}
+use Rattle.sj_pool.specs.Queue.{has_fitting, first_fitting}
+use Rattle.sj_pool.specs.Pool.{queue, serving, turns}
+
+pub serving-step : (qs : List (List Entry)) (room i to : ℕ) → i < to → serving qs room (range_with_len i (to - i)) ≡ (if has_fitting room (queue qs i) then Some i else serving qs room (range_with_len (i + 1) (to - (i + 1))))
+serving-step qs room i to h =
+    let e : to - i ≡ suc (to - (i + 1)) = omega arith in
+    rw e refl
+
+pub serving-end : (qs : List (List Entry)) (room i to : ℕ) → to ≤ i → serving qs room (range_with_len i (to - i)) ≡ None
+serving-end qs room i to h =
+    let e : to - i ≡ 0 = omega arith in
+    rw e refl
+
+-- an entry fits in the queue that serves
+pub serving-fits : (qs : List (List Entry)) (room : ℕ) (order : List ℕ) (i : ℕ) → serving qs room order ≡ Some i → has_fitting room (queue qs i) ≡ true
+serving-fits qs room [] i h = grind arith
+serving-fits qs room (k ∷ ks) i h = grind (arith, serving-fits qs room ks i)
+
+-- where none fits in any queue, none serves
+pub serving-none : (qs : List (List Entry)) (room : ℕ) (order : List ℕ) → ((i : ℕ) → has_fitting room (queue qs i) ≡ false) → serving qs room order ≡ None
+serving-none qs room [] h = refl
+serving-none qs room (k ∷ ks) h = grind (arith, h k, serving-none qs room ks h)
+
+-- where none serves, none fits in the queues that were asked
+pub none-fits : (qs : List (List Entry)) (room a n i : ℕ) → serving qs room (range_with_len a n) ≡ None → a ≤ i → i < a + n → has_fitting room (queue qs i) ≡ false
+none-fits qs room a zero i h l m = grind arith
+none-fits qs room a (suc n) i h l m = grind (arith, none-fits qs room (a + 1) n i)
+
+-- an entry that fits is there
+pub first-there : (room : ℕ) (es : List Entry) → has_fitting room es ≡ true → is_some (first_fitting room es) ≡ true
+first-there room [] h = grind arith
+first-there room (e ∷ es) h = grind (arith, first-there room es)
+
+pub ruleset between = (serving-step, serving-end)
+
+pub ruleset two_parts = (find-append)
