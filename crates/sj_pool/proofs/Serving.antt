@@ -39,3 +39,5 @@ first-there room (e ∷ es) h = grind (arith, first-there room es)
 pub ruleset between = (serving-step, serving-end)
 
 pub ruleset two_parts = (find-append)
+
+pub ruleset found = (first-there)

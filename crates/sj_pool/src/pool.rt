@@ -1,9 +1,9 @@
 //! The pool of ready tasks of a scheduling policy.
 
-ghost use Rattle.std.specs.Prelude.{◌≡◌, ◌↔◌, ◌<◌, ◌≤◌, ◌-◌, [], All, IsTrue, IsNone, IfOk, IfSome, is_some, false, true, replicate, length};
+ghost use Rattle.std.specs.Prelude.{◌≡◌, ◌↔◌, ◌<◌, ◌≤◌, ◌-◌, [], All, IsTrue, IsNone, IfOk, IfSome, is_some, false, true, replicate, length, slice_set};
 ghost use Rattle.std.specs.List.{range_with_len};
 ghost use Rattle.sj_base.specs.declared.mode.Policy.TheVariants.{Prio};
-ghost use Rattle.sj_pool.specs.Queue.{has_fitting, is_by_urgency};
+ghost use Rattle.sj_pool.specs.Queue.{has_fitting, first_fitting, without_first_fitting, is_by_urgency};
 ghost use Rattle.sj_pool.specs.Pool.{pooled, queue_count, home, queue, contains, put_into, with_entry, turns, serving, first_task, without_first_at, entry_for, task_for, without_entry_for, IsMostUrgent, has_spare, KeepsOthers};
 
 use crate::entry::Entry;
@@ -110,6 +110,31 @@ fn serving(queues: &[Tree], first: usize, room: u64) -> Option<usize>
     }
 }
 
+/// Puts an entry into one of some queues.
+fn put_at(queues: &mut Vec<Tree>, i: usize, policy: Policy, entry: Entry, spare: Box<Fork>)
+    requires within { i < length queues.old.items }
+    requires in_order { policy ≡ Prio → All (λ q. IsTrue (is_by_urgency q)) queues.old.items }
+    ensures { queues.new.items ≡ slice_set queues.old.items i (put_into policy entry (queue queues.old.items i)) }
+{
+    let old = mem::replace(&mut queues[i], Tree::empty());
+    queues[i] = put_into(old, policy, entry, spare);
+}
+
+/// Takes the first entry that fits out of one of some queues.
+#[tactic(auto, using(crate::proofs::Serving::found))]
+fn take_first(queues: &mut Vec<Tree>, i: usize, room: u64) -> Box<Fork>
+    requires within { i < length queues.old.items }
+    requires fitting { has_fitting room (queue queues.old.items i) ≡ true }
+    ensures first { first_fitting room (queue queues.old.items i) ≡ Some result.value.entry }
+    ensures rest { queues.new.items ≡ slice_set queues.old.items i (without_first_fitting room (queue queues.old.items i)) }
+{
+    let old = mem::replace(&mut queues[i], Tree::empty());
+    let (taken, rest) = old.take(room);
+    queues[i] = rest;
+    let Some(fork) = taken else { unreachable!() };
+    fork
+}
+
 /// Takes the box of a task out.
 fn take_box(spare: &mut Vec<Option<Box<Fork>>>, t: Task) -> Box<Fork>
     requires there { has_spare spare.old.items t.0 ≡ true }
@@ -175,8 +200,7 @@ impl Pool {
             priority,
             bytes,
         };
-        let old = mem::replace(&mut self.queues[i], Tree::empty());
-        self.queues[i] = put_into(old, self.policy, entry, spare);
+        put_at(&mut self.queues, i, self.policy, entry, spare);
     }
 
     /// Takes the first entry that fits out of a queue.
@@ -186,10 +210,7 @@ impl Pool {
         ensures task { first_task room (queue self.old.queues i) ≡ Some result }
         ensures rest { self.new ≡ without_first_at self.old i room }
     {
-        let old = mem::replace(&mut self.queues[i], Tree::empty());
-        let (taken, rest) = old.take(room);
-        self.queues[i] = rest;
-        let Some(fork) = taken else { unreachable!() };
+        let fork = take_first(&mut self.queues, i, room);
         give_box(&mut self.spare, fork)
     }
 
