@@ -1,5 +1,5 @@
 -- A pool stays one where an entry is put into a queue or taken out of it.
-use Rattle.std.proofs.Common.{◌≡◌, ◌≢◌, ℕ, zero, suc, ◌+◌, ◌<◌, Bool, true, false, not, ◌||◌, nat_eq, List, [], ◌∷◌, ◌++◌, Option, None, Some, IsTrue, All, length, slice_set, slice_index_or, refl, sym, subst, ◌∙◌, arith, length-set}
+use Rattle.std.proofs.Common.{◌≡◌, ◌≢◌, ℕ, zero, suc, ◌+◌, ◌<◌, Bool, true, false, not, ◌||◌, nat_eq, List, [], ◌∷◌, ◌++◌, Option, None, Some, IsTrue, All, length, slice_set, slice_index_or, refl, inl, inr, sym, subst, ◌∙◌, arith, length-set}
 use Rattle.std.proofs.lemmas.Bool.{cases_eq}
 use Rattle.std.proofs.lemmas.Int.{ints}
 use Rattle.std.proofs.lemmas.List.Elements.{All-set, All-get_or}
@@ -100,13 +100,3 @@ keeps-taken {X} p w qs old new i room e pool at first kept there =
       (λ u ne h. let other : nat_eq e.task.0 u ≡ false = grind arith in has_task-taken room (queue qs i) e u first other h)
       (λ h l. there (subst (λ n. e.task.0 < n) kept.room l))
       (λ is h. by_urgency-taken room (queue qs i) h)
-
--- ---- the most urgent
-
-pub none-precedes : (room : ℕ) (e : Entry) (es : List Entry) → list_all (λ x. not (precedes x e)) es ≡ true → ByRecursion (λ x. IsTrue (fits room x) → precedes x e ≡ false) es
-none-precedes room e [] h = tt
-none-precedes room e (x ∷ xs) h = ((λ f. grind arith), none-precedes room e xs (grind arith))
-
-pub first-most_urgent : (room : ℕ) (es : List Entry) (e : Entry) → is_by_urgency es ≡ true → first_fitting room es ≡ Some e → ByRecursion (λ x. IsTrue (fits room x) → precedes x e ≡ false) es
-first-most_urgent room [] e h f = tt
-first-most_urgent room (x ∷ xs) e h f = ?

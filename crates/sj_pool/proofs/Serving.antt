@@ -40,4 +40,5 @@ pub ruleset between = (serving-step, serving-end)
 
 pub ruleset two_parts = (find-append)
 
-pub ruleset found = (first-there)
+pub never-none : (room : ℕ) (es : List Entry) → has_fitting room es ≡ true → None ≡ first_fitting room es → ⊥
+never-none room es h n = let t = first-there room es h in grind (arith, n)

@@ -121,7 +121,6 @@ fn put_at(queues: &mut Vec<Tree>, i: usize, policy: Policy, entry: Entry, spare:
 }
 
 /// Takes the first entry that fits out of one of some queues.
-#[tactic(auto, using(crate::proofs::Serving::found))]
 fn take_first(queues: &mut Vec<Tree>, i: usize, room: u64) -> Box<Fork>
     requires within { i < length queues.old.items }
     requires fitting { has_fitting room (queue queues.old.items i) ≡ true }
