@@ -10,7 +10,7 @@ use Rattle.std.specs.List.{list_all}
 use Rattle.sj_pool.specs.declared.entry.Entry.{Entry}
 use Rattle.sj_pool.specs.Entry.{fits, precedes}
 use Rattle.sj_pool.specs.Queue.{has_fitting, first_fitting, without_first_fitting, put_by_urgency, is_by_urgency}
-use Rattle.sj_pool.specs.Pool.{queue, has_task, contains, put_into, has_spare, HasSpares, KeepsOthers, IsPool}
+use Rattle.sj_pool.specs.Pool.{queue, home, queue_count, has_task, contains, put_into, has_spare, HasSpares, KeepsOthers, IsPool}
 
 -- ---- which tasks are in the queues
 
@@ -72,6 +72,12 @@ by_urgency-taken room [] h = refl
 by_urgency-taken room (x ∷ xs) h = grind (arith, by_urgency-taken room xs, all-taken x room xs)
 
 -- ---- the whole pool
+
+-- a worker has a queue
+pub home-within : (p : Policy) (workers w : ℕ) → w < workers → home p w < queue_count p workers
+home-within Eager workers w h = omega arith
+home-within Prio workers w h = omega arith
+home-within Ws workers w h = h
 
 -- a queue changes that loses no task but one, which has its box or is there; the boxes of the others stay
 pub keeps : {X : Type 0} (p : Policy) (w : ℕ) (qs : List (List Entry)) (old new : List (Option X)) (i : ℕ) (q : List Entry) (t : ℕ) → IsPool p w qs old → i < length qs → KeepsOthers old new t → ((u : ℕ) → u ≢ t → has_task u q ≡ false → has_task u (queue qs i) ≡ false) → (has_task t q ≡ false → t < length new → has_spare new t ≡ true) → (p ≡ Prio → is_by_urgency (queue qs i) ≡ true → is_by_urgency q ≡ true) → IsPool p w (slice_set qs i q) new

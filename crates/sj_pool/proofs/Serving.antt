@@ -1,7 +1,10 @@
 -- Which queue serves a worker.
-use Rattle.std.proofs.Common.{◌≡◌, ℕ, zero, suc, ◌+◌, ◌-◌, ◌<◌, ◌≤◌, Bool, true, false, List, [], ◌∷◌, ◌++◌, None, Some, All, is_some, length, refl, arith, slice_index_or, if◌then◌else◌}
+use Rattle.std.proofs.Common.{◌≡◌, ℕ, zero, suc, ◌+◌, ◌-◌, ◌<◌, ◌≤◌, Bool, true, false, List, [], ◌∷◌, ◌++◌, None, Some, All, is_some, length, refl, arith, slice_index_or, if◌then◌else◌, Option, sym, ◌∙◌, inl, inr}
+use Rattle.std.proofs.lemmas.Bool.{cases_lt}
+use Rattle.std.proofs.lemmas.List.Elements.{All-from_get_or}
 use Rattle.std.proofs.lemmas.List.Folds.{find-append}
 use Rattle.std.specs.List.{range_with_len}
+use Rattle.std.specs.Option.{option_or}
 use Rattle.sj_pool.specs.declared.entry.Entry.{Entry}
 use Rattle.sj_pool.specs.Queue.{has_fitting, first_fitting}
 use Rattle.sj_pool.specs.Pool.{queue, serving, turns}
@@ -42,3 +45,18 @@ pub ruleset two_parts = (find-append)
 
 pub never-none : (room : ℕ) (es : List Entry) → has_fitting room es ≡ true → None ≡ first_fitting room es → ⊥
 never-none room es h n = let t = first-there room es h in grind (arith, n)
+
+or-none : (a b : Option ℕ) → option_or a b ≡ None → (a ≡ None) × (b ≡ None)
+or-none None b h = (refl, h)
+or-none (Some i) b h = absurd (cc)
+
+-- where none serves a worker, none fits in any queue
+pub none-of-all : (qs : List (List Entry)) (room first : ℕ) → first ≤ length qs → serving qs room (turns (length qs) first) ≡ None → All (λ q. has_fitting room q ≡ false) qs
+none-of-all qs room first l h =
+    let fitting : ℕ → Bool = λ i. has_fitting room (queue qs i) in
+    let parts = or-none (serving qs room (range_with_len first (length qs - first))) (serving qs room (range_with_len 0 first)) (sym (find-append fitting (range_with_len first (length qs - first)) (range_with_len 0 first)) ∙ h) in
+    All-from_get_or (λ q. has_fitting room q ≡ false) qs [] (λ i m.
+      elim (cases_lt i first) as (λ _. has_fitting room (queue qs i) ≡ false) [
+        | inl below ↦ none-fits qs room 0 first i parts.1 (omega arith) (omega arith)
+        | inr above ↦ none-fits qs room first (length qs - first) i parts.0 (omega arith) (omega arith)
+      ])

@@ -1,5 +1,5 @@
 -- Under prio, the first entry that fits is the most urgent of those that fit.
-use Rattle.std.proofs.Common.{◌≡◌, ℕ, Bool, true, false, not, cond, List, [], ◌∷◌, Option, None, Some, IfSome, IsTrue, All, length, refl, arith, inl, inr, ◌⊎◌, sym}
+use Rattle.std.proofs.Common.{◌≡◌, ℕ, Bool, true, false, not, cond, List, [], ◌∷◌, Option, None, Some, IfSome, IsTrue, All, length, refl, arith, inl, inr, ◌⊎◌, subst}
 use Rattle.std.proofs.lemmas.Int.{ints}
 use Rattle.std.proofs.lemmas.List.Elements.{All-nil, All-cons, All-head, All-from_recursion}
 use Rattle.std.specs.List.{list_all, AllByRecursion}
@@ -35,7 +35,7 @@ first-most_urgent room (x ∷ xs) e h f =
       | inl t ↦
           let same : x ≡ e = grind arith in
           let all : list_all (λ y. not (precedes y x)) xs ≡ true = grind arith in
-          rw (sym same) ((λ k. not-itself x), none-precedes room x xs all)
+          subst (λ z. AllByRecursion (NotMoreUrgent room z) (x ∷ xs)) same ((λ k. not-itself x), none-precedes room x xs all)
       | inr n ↦
           let rest : is_by_urgency xs ≡ true = grind arith in
           let later : first_fitting room xs ≡ Some e = grind arith in
