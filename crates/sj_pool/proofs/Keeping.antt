@@ -1,16 +1,15 @@
 -- A pool stays one where an entry is put into a queue or taken out of it.
-use Rattle.std.proofs.Common.{◌≡◌, ◌≢◌, ℕ, zero, suc, ◌+◌, ◌<◌, Bool, true, false, not, ◌||◌, nat_eq, List, [], ◌∷◌, ◌++◌, Option, None, Some, IsTrue, All, length, slice_set, slice_index_or, refl, inl, inr, sym, subst, ◌∙◌, arith, length-set}
+use Rattle.std.proofs.Common.{◌≡◌, ◌≢◌, ℕ, zero, suc, ◌<◌, true, false, not, ◌||◌, nat_eq, List, [], ◌∷◌, ◌++◌, Option, Some, IsTrue, length, slice_set, refl, inl, inr, sym, subst, ◌∙◌, arith, length-set}
 use Rattle.std.proofs.lemmas.Bool.{cases_eq}
 use Rattle.std.proofs.lemmas.Int.{ints}
 use Rattle.std.proofs.lemmas.List.Elements.{All-set, All-get_or}
-use Rattle.std.proofs.lemmas.List.Folds.{list_all-append, list_any-append}
 use Rattle.sj_base.specs.declared.mode.Policy.{Policy}
 use Rattle.sj_base.specs.declared.mode.Policy.TheVariants.{Eager, Prio, Ws}
 use Rattle.std.specs.List.{list_all}
 use Rattle.sj_pool.specs.declared.entry.Entry.{Entry}
-use Rattle.sj_pool.specs.Entry.{fits, precedes}
-use Rattle.sj_pool.specs.Queue.{has_fitting, first_fitting, without_first_fitting, put_by_urgency, is_by_urgency}
-use Rattle.sj_pool.specs.Pool.{queue, home, queue_count, has_task, contains, put_into, has_spare, HasSpares, KeepsOthers, IsPool}
+use Rattle.sj_pool.specs.Entry.{precedes}
+use Rattle.sj_pool.specs.Queue.{first_fitting, without_first_fitting, put_by_urgency, is_by_urgency}
+use Rattle.sj_pool.specs.Pool.{queue, home, queue_count, has_task, contains, put_into, has_spare, KeepsOthers, IsPool}
 
 -- ---- which tasks are in the queues
 
@@ -73,36 +72,39 @@ by_urgency-taken room (x ∷ xs) h = grind (arith, by_urgency-taken room xs, all
 
 -- ---- the whole pool
 
--- a worker has a queue
-pub home-within : (p : Policy) (workers w : ℕ) → w < workers → home p w < queue_count p workers
+-- a worker's queue is one of them
+home-within : (p : Policy) (workers w : ℕ) → w < workers → home p w < queue_count p workers
 home-within Eager workers w h = omega arith
 home-within Prio workers w h = omega arith
 home-within Ws workers w h = h
 
+pub has-queue : {X : Type 0} (p : Policy) (workers : ℕ) (qs : List (List Entry)) (spare : List (Option X)) (w : ℕ) → IsPool p workers qs spare → w < workers → home p w < length qs
+has-queue {X} p workers qs spare w pool known = subst (λ n. home p w < n) (sym pool.count) (home-within p workers w known)
+
 -- a queue changes that loses no task but one, which has its box or is there; the boxes of the others stay
 pub keeps : {X : Type 0} (p : Policy) (w : ℕ) (qs : List (List Entry)) (old new : List (Option X)) (i : ℕ) (q : List Entry) (t : ℕ) → IsPool p w qs old → i < length qs → KeepsOthers old new t → ((u : ℕ) → u ≢ t → has_task u q ≡ false → has_task u (queue qs i) ≡ false) → (has_task t q ≡ false → t < length new → has_spare new t ≡ true) → (p ≡ Prio → is_by_urgency (queue qs i) ≡ true → is_by_urgency q ≡ true) → IsPool p w (slice_set qs i q) new
 keeps {X} p w qs old new i q t pool at kept others one ordered = record {
-    some_worker = pool.some_worker;
-    count = length-set qs i q ∙ pool.count;
-    spares = λ u l h.
+  some_worker = pool.some_worker;
+  count = length-set qs i q ∙ pool.count;
+  spares = λ u l h.
       let gone = contains-set_at qs i q u at h in
       elim (cases_eq u t) as (λ _. has_spare new u ≡ true) [
         | inl e ↦ let same : has_task t q ≡ false = subst (λ z. has_task z q ≡ false) e gone in subst (λ z. has_spare new z ≡ true) (sym e) (one same (subst (λ z. z < length new) e l))
         | inr ne ↦ kept.others u ne ∙ pool.spares u (subst (λ n. u < n) kept.room l) (contains-set_others qs i q u h (others u ne gone))
       ];
-    by_urgency = λ e. let all = pool.by_urgency e in All-set (λ z. IsTrue (is_by_urgency z)) qs i q (ordered e (All-get_or (λ z. IsTrue (is_by_urgency z)) qs i [] at all)) all
-  }
+  by_urgency = λ e. let all = pool.by_urgency e in All-set (λ z. IsTrue (is_by_urgency z)) qs i q (ordered e (All-get_or (λ z. IsTrue (is_by_urgency z)) qs i [] at all)) all;
+}
 
 pub keeps-put : {X : Type 0} (p : Policy) (w : ℕ) (qs : List (List Entry)) (old new : List (Option X)) (i : ℕ) (e : Entry) → IsPool p w qs old → i < length qs → KeepsOthers old new e.task.0 → IsPool p w (slice_set qs i (put_into p e (queue qs i))) new
 keeps-put {X} p w qs old new i e pool at kept =
     keeps p w qs old new i (put_into p e (queue qs i)) e.task.0 pool at kept
-      (λ u ne h. grind (arith, has_task-put p e (queue qs i) u))
-      (λ h l. grind (arith, has_task-put p e (queue qs i) e.task.0))
-      (λ is h. subst (λ z. is_by_urgency (put_into z e (queue qs i)) ≡ true) (sym is) (by_urgency-put e (queue qs i) h))
+    (λ u ne h. grind (arith, has_task-put p e (queue qs i) u))
+    (λ h l. grind (arith, has_task-put p e (queue qs i) e.task.0))
+    (λ is h. subst (λ z. is_by_urgency (put_into z e (queue qs i)) ≡ true) (sym is) (by_urgency-put e (queue qs i) h))
 
 pub keeps-taken : {X : Type 0} (p : Policy) (w : ℕ) (qs : List (List Entry)) (old new : List (Option X)) (i room : ℕ) (e : Entry) → IsPool p w qs old → i < length qs → first_fitting room (queue qs i) ≡ Some e → KeepsOthers old new e.task.0 → (e.task.0 < length old → has_spare new e.task.0 ≡ true) → IsPool p w (slice_set qs i (without_first_fitting room (queue qs i))) new
 keeps-taken {X} p w qs old new i room e pool at first kept there =
     keeps p w qs old new i (without_first_fitting room (queue qs i)) e.task.0 pool at kept
-      (λ u ne h. let other : nat_eq e.task.0 u ≡ false = grind arith in has_task-taken room (queue qs i) e u first other h)
-      (λ h l. there (subst (λ n. e.task.0 < n) kept.room l))
-      (λ is h. by_urgency-taken room (queue qs i) h)
+    (λ u ne h. let other : nat_eq e.task.0 u ≡ false = grind arith in has_task-taken room (queue qs i) e u first other h)
+    (λ h l. there (subst (λ n. e.task.0 < n) kept.room l))
+    (λ is h. by_urgency-taken room (queue qs i) h)

@@ -1,5 +1,5 @@
 -- Which queue serves a worker.
-use Rattle.std.proofs.Common.{◌≡◌, ℕ, zero, suc, ◌+◌, ◌-◌, ◌<◌, ◌≤◌, Bool, true, false, List, [], ◌∷◌, ◌++◌, None, Some, All, is_some, length, refl, arith, slice_index_or, if◌then◌else◌, Option, sym, ◌∙◌, inl, inr}
+use Rattle.std.proofs.Common.{◌≡◌, ℕ, zero, suc, ◌+◌, ◌-◌, ◌<◌, ◌≤◌, Bool, true, false, List, [], ◌∷◌, None, Some, All, is_some, length, refl, arith, if◌then◌else◌, Option, sym, ◌∙◌, inl, inr}
 use Rattle.std.proofs.lemmas.Bool.{cases_lt}
 use Rattle.std.proofs.lemmas.List.Elements.{All-from_get_or}
 use Rattle.std.proofs.lemmas.List.Folds.{find-append}
@@ -56,7 +56,7 @@ none-of-all qs room first l h =
     let fitting : ℕ → Bool = λ i. has_fitting room (queue qs i) in
     let parts = or-none (serving qs room (range_with_len first (length qs - first))) (serving qs room (range_with_len 0 first)) (sym (find-append fitting (range_with_len first (length qs - first)) (range_with_len 0 first)) ∙ h) in
     All-from_get_or (λ q. has_fitting room q ≡ false) qs [] (λ i m.
-      elim (cases_lt i first) as (λ _. has_fitting room (queue qs i) ≡ false) [
-        | inl below ↦ none-fits qs room 0 first i parts.1 (omega arith) (omega arith)
-        | inr above ↦ none-fits qs room first (length qs - first) i parts.0 (omega arith) (omega arith)
-      ])
+    elim (cases_lt i first) as (λ _. has_fitting room (queue qs i) ≡ false) [
+      | inl below ↦ none-fits qs room 0 first i parts.1 (omega arith) (omega arith)
+      | inr above ↦ none-fits qs room first (length qs - first) i parts.0 (omega arith) (omega arith)
+    ])

@@ -8,7 +8,7 @@ use Rattle.sj_base.specs.declared.mode.Policy.TheVariants.{Prio}
 use Rattle.sj_pool.specs.declared.entry.Entry.{Entry}
 use Rattle.sj_pool.specs.Entry.{fits, precedes}
 use Rattle.sj_pool.specs.Queue.{has_fitting, first_fitting, is_by_urgency}
-use Rattle.sj_pool.specs.Pool.{pooled, queue, serving, turns, entry_for, IsMostUrgent}
+use Rattle.sj_pool.specs.Pool.{pooled, queue, entry_for, IsMostUrgent}
 
 either : (b : Bool) → (b ≡ true) ⊎ (b ≡ false)
 either true = inl refl

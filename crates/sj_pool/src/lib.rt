@@ -4,4 +4,6 @@
 
 pub mod entry;
 pub mod pool;
+#[cfg(test)]
+mod tests;
 mod tree;

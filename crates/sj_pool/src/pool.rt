@@ -161,12 +161,7 @@ fn give_box(spare: &mut Vec<Option<Box<Fork>>>, fork: Box<Fork>) -> Task
 
 impl Pool {
     /// No task, and room for so many. Linear in the workers and tasks.
-    pub fn make(
-        alloc: Global,
-        policy: Policy,
-        workers: u8,
-        tasks: u32,
-    ) -> Result<Pool, OutOfMemory>
+    pub fn make(alloc: Global, policy: Policy, workers: u8, tasks: u32) -> Result<Pool, OutOfMemory>
         requires { 0 < workers }
         ensures { IfOk result (λ p. p ≡ pooled policy workers tasks (replicate (queue_count policy workers) [])) }
     {

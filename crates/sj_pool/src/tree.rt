@@ -94,7 +94,11 @@ impl Tree {
     fn close(mut fork: Box<Fork>) -> Tree
         ensures { result ≡ in_order fork.value }
     {
-        fork.height = fork.left.height().max(fork.right.height()).saturating_add(1);
+        fork.height = fork
+            .left
+            .height()
+            .max(fork.right.height())
+            .saturating_add(1);
         fork.least = fork.left.least(fork.right.least(fork.entry.bytes));
         Tree { root: Some(fork) }
     }

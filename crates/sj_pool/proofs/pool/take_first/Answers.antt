@@ -1,4 +1,4 @@
-use Rattle.std.proofs.Common.{◌≡◌, ◌∙◌, None, ap, sym, subst, arith, slice_set, set-set, option_map}
+use Rattle.std.proofs.Common.{◌≡◌, ◌∙◌, ap, subst, arith, slice_set, set-set, option_map}
 use Rattle.std.proofs.lemmas.Grind.{common_steps}
 use Rattle.sj_pool.specs.Queue.{first_fitting, without_first_fitting}
 use Rattle.sj_pool.specs.Pool.{queue}

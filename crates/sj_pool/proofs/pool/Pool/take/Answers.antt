@@ -1,6 +1,7 @@
-use Rattle.std.proofs.Common.{rules, ◌≡◌, ◌<◌, ◌≤◌, List, [], true, false, None, All, length, sym, subst, ap, ◌∙◌, refl, arith}
+use Rattle.std.proofs.Common.{◌≡◌, ◌<◌, ◌≤◌, [], true, false, All, length, sym, subst, ◌∙◌, refl, arith}
 use Rattle.sj_pool.specs.Queue.{has_fitting}
-use Rattle.sj_pool.specs.Pool.{Pooled, queue, serving, turns, home}
+use Rattle.sj_pool.specs.Pool.{Pooled, queue, turns}
+use Rattle.sj_pool.proofs.Keeping.{has-queue}
 use Rattle.sj_pool.proofs.Serving.{serving-fits, none-of-all}
 use Rattle.sj_pool.proofs.pool.Pool.take.Goals as goal
 
@@ -13,7 +14,10 @@ take_at-requires-clause-fitting c =
 pub returns-in-None-clause-none : goal.returns-in-None-clause-none
 returns-in-None-clause-none c =
     let same : c.deref.result.now ≡ c.args.self.now.queues = grind arith in
-    let within : c.home.result ≤ length c.deref.result.now = ? in
+    let p = c.self.inside in
+    let known : c.args.w.0 < p.workers = subst (λ (v : Pooled). c.args.w.0 < v.workers) (sym c.self.view_is) c.requires in
+    let at = has-queue p.policy p.workers p.queues.items p.spare.items c.args.w.0 c.self.invariant known in
+    let within : c.home.result ≤ length c.deref.result.now = grind arith in
     let none = none-of-all c.deref.result.now c.args.room c.home.result within (sym c.in-None.ensures.first) in
     ((λ _. subst (λ qs. All (λ q. has_fitting c.args.room q ≡ false) qs) same none), (λ _. refl))
 

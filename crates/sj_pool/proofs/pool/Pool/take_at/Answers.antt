@@ -14,4 +14,4 @@ invariant_of-self c =
     let others = subst (λ (t : Task). KeepsOthers p.spare.items new t.0) c.give_box.ensures.task c.give_box.ensures.others in
     let there = subst (λ (t : Task). t.0 < length p.spare.items → has_spare new t.0 ≡ true) c.give_box.ensures.task c.give_box.ensures.there in
     subst (λ (qs : List (List Entry)). IsPool p.policy p.workers qs new) (sym c.take_first-fork.ensures.rest)
-      (keeps-taken p.policy p.workers p.queues.items p.spare.items new c.args.i c.args.room e c.self.invariant at c.take_first-fork.ensures.first others there)
+    (keeps-taken p.policy p.workers p.queues.items p.spare.items new c.args.i c.args.room e c.self.invariant at c.take_first-fork.ensures.first others there)

@@ -12,4 +12,4 @@ returns c =
     let count : length p.queues.items ≡ 1 = keeps.count ∙ ap (λ z. queue_count z p.workers) is in
     let law = most-urgent p.workers (length p.spare.items) p.queues.items c.args.w.0 c.args.room count (keeps.by_urgency is) in
     subst (λ (v : Pooled). IfSome (entry_for v c.args.w.0 c.args.room) (λ e. IsMostUrgent e c.args.room v.queues)) c.self.view_is
-      (subst (λ z. IfSome (entry_for (pooled z p.workers (length p.spare.items) p.queues.items) c.args.w.0 c.args.room) (λ e. IsMostUrgent e c.args.room p.queues.items)) (sym is) law)
+    (subst (λ z. IfSome (entry_for (pooled z p.workers (length p.spare.items) p.queues.items) c.args.w.0 c.args.room) (λ e. IsMostUrgent e c.args.room p.queues.items)) (sym is) law)

@@ -1,4 +1,4 @@
-use Rattle.std.proofs.Common.{rules, ◌≡◌, ◌<◌, ◌∷◌, ◌++◌, IsTrue, arith, subst, length, length-append}
+use Rattle.std.proofs.Common.{rules, ◌≡◌, ◌∷◌, ◌++◌, IsTrue, arith, subst}
 use Rattle.std.proofs.lemmas.Grind.{common_steps}
 use Rattle.sj_pool.specs.Queue.{is_by_urgency}
 use Rattle.sj_pool.proofs.Queues.{order-left, order-right}
