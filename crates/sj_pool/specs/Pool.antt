@@ -1,5 +1,5 @@
 -- A pool as contracts see it: its policy, for how many workers and tasks it was made, and its queues.
-use Rattle.std.specs.Prelude.{◌≡◌, ◌≢◌, ℕ, ◌-◌, ◌<◌, Bool, true, false, nat_eq, is_some, List, [], ◌∷◌, ◌++◌, length, slice_set, slice_index_or, Option, None, option_map, All, IsTrue}
+use Rattle.std.specs.Prelude.{◌≡◌, ◌≢◌, ℕ, ◌-◌, ◌<◌, Bool, true, false, nat_eq, is_some, List, [], ◌∷◌, ◌++◌, length, slice_set, slice_index_or, replicate, Option, None, option_map, All, IsTrue}
 use Rattle.std.specs.List.{list_any, find, range_with_len}
 use Rattle.std.specs.Option.{option_and_then, option_map_or}
 use Rattle.sj_base.specs.declared.ids.Task.{Task}
@@ -18,10 +18,14 @@ pub record Pooled : Type 0 where
 abbrev pub pooled : Policy → ℕ → ℕ → List (List Entry) → Pooled
 pooled p w n qs = record { policy = p; workers = w; limit = n; queues = qs }
 
--- one queue, or under ws one for each worker
+-- how many queues there are: one, or under ws one for each worker
 abbrev pub queue_count : Policy → ℕ → ℕ
 queue_count Ws workers = workers
 queue_count _ workers = 1
+
+-- no entry
+abbrev pub empty : Policy → ℕ → ℕ → Pooled
+empty p w n = pooled p w n (replicate (queue_count p w) [])
 
 -- the number of a worker's queue
 abbrev pub home : Policy → ℕ → ℕ
@@ -46,11 +50,13 @@ abbrev pub put_into : Policy → Entry → List Entry → List Entry
 put_into Prio e es = put_by_urgency e es
 put_into _ e es = es ++ e ∷ []
 
+-- the queues where the entry is put into one
+abbrev pub with_entry_at : Policy → List (List Entry) → ℕ → Entry → List (List Entry)
+with_entry_at p qs i e = slice_set qs i (put_into p e (queue qs i))
+
 -- the entry goes to the queue of the worker that puts it
 abbrev pub with_entry : Pooled → Entry → ℕ → Pooled
-with_entry p e by =
-    let i = home p.policy by in
-    record p { queues = slice_set p.queues i (put_into p.policy e (queue p.queues i)) }
+with_entry p e by = record p { queues = with_entry_at p.policy p.queues (home p.policy by) e }
 
 -- ---- taking
 
@@ -78,13 +84,14 @@ task_for p w room = option_map (λ e. e.task) (entry_for p w room)
 abbrev pub first_task : ℕ → List Entry → Option Task
 first_task room es = option_map (λ e. e.task) (first_fitting room es)
 
--- the pool where the first entry that fits is taken out of a queue
-abbrev pub without_first_at : Pooled → ℕ → ℕ → Pooled
-without_first_at p i room = record p { queues = slice_set p.queues i (without_first_fitting room (queue p.queues i)) }
+-- the queues where the first entry that fits is taken out of one
+abbrev pub without_first_at : List (List Entry) → ℕ → ℕ → List (List Entry)
+without_first_at qs i room = slice_set qs i (without_first_fitting room (queue qs i))
 
--- the pool where the entry that a worker takes is taken out
+-- the entry that a worker takes is taken out, and all else stays
 abbrev pub without_entry_for : Pooled → ℕ → ℕ → Pooled
-without_entry_for p w room = option_map_or (λ i. without_first_at p i room) (serves p w room) p
+without_entry_for p w room =
+    record p { queues = option_map_or (λ i. without_first_at p.queues i room) (serves p w room) p.queues }
 
 -- no entry that fits is more urgent
 abbrev pub IsMostUrgent : Entry → ℕ → List (List Entry) → Type 0

@@ -1,10 +1,11 @@
 //! The pool of ready tasks of a scheduling policy.
 
-ghost use Rattle.std.specs.Prelude.{◌≡◌, ◌↔◌, ◌<◌, ◌≤◌, ◌-◌, [], All, IsTrue, IsNone, IfOk, IfSome, is_some, false, true, replicate, length, slice_set};
+ghost use Rattle.std.specs.Prelude.{◌≡◌, ◌↔◌, ◌<◌, ◌≤◌, ◌-◌, [], All, IsTrue, IsNone, IfOk, IfSome, is_some, false, true, replicate, length};
 ghost use Rattle.std.specs.List.{range_with_len};
 ghost use Rattle.sj_base.specs.declared.mode.Policy.TheVariants.{Prio};
-ghost use Rattle.sj_pool.specs.Queue.{has_fitting, first_fitting, without_first_fitting, is_by_urgency};
-ghost use Rattle.sj_pool.specs.Pool.{pooled, queue_count, home, queue, contains, put_into, with_entry, turns, serving, first_task, without_first_at, entry_for, task_for, without_entry_for, IsMostUrgent, has_spare, KeepsOthers};
+ghost use Rattle.sj_pool.specs.Entry.{entry};
+ghost use Rattle.sj_pool.specs.Queue.{has_fitting, first_fitting, is_by_urgency};
+ghost use Rattle.sj_pool.specs.Pool.{empty, home, queue, contains, put_into, with_entry, with_entry_at, turns, serving, first_task, without_first_at, entry_for, task_for, without_entry_for, IsMostUrgent, has_spare, KeepsOthers};
 
 use crate::entry::Entry;
 use crate::tree::{Fork, Tree};
@@ -114,7 +115,7 @@ fn serving(queues: &[Tree], first: usize, room: u64) -> Option<usize>
 fn put_at(queues: &mut Vec<Tree>, i: usize, policy: Policy, entry: Entry, spare: Box<Fork>)
     requires within { i < length queues.old.items }
     requires in_order { policy ≡ Prio → All (λ q. IsTrue (is_by_urgency q)) queues.old.items }
-    ensures { queues.new.items ≡ slice_set queues.old.items i (put_into policy entry (queue queues.old.items i)) }
+    ensures { queues.new.items ≡ with_entry_at policy queues.old.items i entry }
 {
     let old = mem::replace(&mut queues[i], Tree::empty());
     queues[i] = put_into(old, policy, entry, spare);
@@ -125,7 +126,7 @@ fn take_first(queues: &mut Vec<Tree>, i: usize, room: u64) -> Box<Fork>
     requires within { i < length queues.old.items }
     requires fitting { has_fitting room (queue queues.old.items i) ≡ true }
     ensures first { first_fitting room (queue queues.old.items i) ≡ Some result.value.entry }
-    ensures rest { queues.new.items ≡ slice_set queues.old.items i (without_first_fitting room (queue queues.old.items i)) }
+    ensures rest { queues.new.items ≡ without_first_at queues.old.items i room }
 {
     let old = mem::replace(&mut queues[i], Tree::empty());
     let (taken, rest) = old.take(room);
@@ -163,7 +164,7 @@ impl Pool {
     /// No task, and room for so many. Linear in the workers and tasks.
     pub fn make(alloc: Global, policy: Policy, workers: u8, tasks: u32) -> Result<Pool, OutOfMemory>
         requires { 0 < workers }
-        ensures { IfOk result (λ p. p ≡ pooled policy workers tasks (replicate (queue_count policy workers) [])) }
+        ensures { IfOk result (λ p. p ≡ empty policy workers tasks) }
     {
         let count = match policy {
             Policy::Ws => workers,
@@ -185,7 +186,7 @@ impl Pool {
         requires absent { contains self.old.queues t.0 ≡ false }
         requires known_task { t.0 < self.old.limit }
         requires known_worker { by.0 < self.old.workers }
-        ensures { self.new ≡ with_entry self.old (record { task = t; priority = priority; bytes = bytes }) by.0 }
+        ensures { self.new ≡ with_entry self.old (entry t priority bytes) by.0 }
     {
         let i = home(self.policy, by);
         let spare = take_box(&mut self.spare, t);
@@ -202,7 +203,7 @@ impl Pool {
         requires within { i < length self.old.queues }
         requires fitting { has_fitting room (queue self.old.queues i) ≡ true }
         ensures task { first_task room (queue self.old.queues i) ≡ Some result }
-        ensures rest { self.new ≡ without_first_at self.old i room }
+        ensures rest { self.new ≡ record self.old { queues = without_first_at self.old.queues i room } }
     {
         let fork = take_first(&mut self.queues, i, room);
         give_box(&mut self.spare, fork)

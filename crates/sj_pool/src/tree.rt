@@ -184,7 +184,7 @@ impl Tree {
     }
 
     /// One tree of two that differ by at most a level. Logarithmic time.
-    fn join(left: Tree, right: Tree) -> Tree
+    pub fn join(left: Tree, right: Tree) -> Tree
         ensures { result ≡ left ++ right }
     {
         match right.take_first() {
