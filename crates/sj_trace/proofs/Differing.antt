@@ -14,7 +14,7 @@ use Rattle.sj_base.specs.declared.ids.Place.TheVariants.{Node as AtNode, Disk as
 use Rattle.sj_base.specs.declared.trace.Event.{Event}
 use Rattle.sj_base.specs.declared.trace.Event.TheVariants.{Claim, Move, Moved, Drop, Run, End}
 use Rattle.sj_trace.specs.Text.{place_word, task_words, drop_words, transfer_words, words_of, joined_words, line_of}
-use Rattle.sj_trace.specs.Reading.{words, EventFits, TaskFits, DropFits, TransferFits, PlaceFits}
+use Rattle.sj_trace.specs.Reading.{between_spaces, EventFits, TaskFits, DropFits, TransferFits, PlaceFits}
 use Rattle.sj_trace.proofs.Joining.{words-event}
 
 same : (n m : ℕ) → n < 2 ^ 32 → m < 2 ^ 32 → decimal n ≡ decimal m → n ≡ m
@@ -78,7 +78,7 @@ words-same a b l k h = absurd (omega (arith, ap (λ ws. get_or (get_or ws 0 []) 
 line-same : (a b : Event) → EventFits a → EventFits b → line_of a ≡ line_of b → a ≡ b
 line-same a b l k h =
     let joined : joined_words a ≡ joined_words b = append_cancel_right (joined_words a) (joined_words b) (10 ∷ []) h in
-    words-same a b l k (sym (words-event a l) ∙ ap words joined ∙ words-event b k)
+    words-same a b l k (sym (words-event a l) ∙ ap between_spaces joined ∙ words-event b k)
 
 pub lines-same : (es fs : List Event) → All EventFits es → All EventFits fs → map line_of es ≡ map line_of fs → es ≡ fs
 lines-same [] [] l k h = refl
