@@ -12,7 +12,7 @@ use Rattle.sj_job.specs.declared.form.Form.{Form}
 use Rattle.sj_job.specs.declared.form.Form.TheVariants as form
 use Rattle.sj_job.specs.declared.job.Init.{Init}
 use Rattle.sj_job.specs.declared.job.RootInfo.{RootInfo}
-use Rattle.sj_job.specs.Statement.{TaskLine as KeptTask}
+use Rattle.sj_job.specs.declared.job.TaskLine.{TaskLine as KeptTask}
 use Rattle.sj_job.specs.declared.job.Act.{Act as KeptAct}
 use Rattle.sj_job.specs.declared.job.Act.TheVariants as kept
 use Rattle.sj_job.specs.declared.names.Found.{Found}

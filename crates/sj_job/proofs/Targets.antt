@@ -9,8 +9,8 @@ use Rattle.sj_codelet.specs.declared.kernel.Kernel.{Kernel}
 use Rattle.sj_codelet.specs.declared.formal.Formal.{Formal}
 use Rattle.sj_codelet.specs.Kernel.{codelet_of, formals_of, arguments_of, fits}
 use Rattle.sj_job.specs.declared.form.TaskForm.{TaskForm}
-use Rattle.sj_job.specs.Statement.{Operand as Access}
-use Rattle.sj_job.specs.Statement.{TaskLine as KeptTask}
+use Rattle.sj_job.specs.declared.job.Operand.{Operand as Access}
+use Rattle.sj_job.specs.declared.job.TaskLine.{TaskLine as KeptTask}
 use Rattle.sj_job.specs.declared.names.Standing.{Standing}
 use Rattle.sj_job.specs.declared.names.Standing.TheVariants.{Valued, Unvalued, Ended}
 use Rattle.sj_job.specs.declared.names.Found.{Found}

@@ -9,7 +9,7 @@ use Rattle.sj_codelet.specs.declared.formal.Formal.{Formal}
 use Rattle.sj_codelet.specs.Kernel.{arguments_of, formals_of, fits}
 use Rattle.sj_job.specs.declared.job.Init.{Init}
 use Rattle.sj_job.specs.declared.job.Init.TheVariants.{Values, Fill, Nothing}
-use Rattle.sj_job.specs.Statement.{Operand as Access}
+use Rattle.sj_job.specs.declared.job.Operand.{Operand as Access}
 use Rattle.sj_job.specs.declared.names.Known.{Known}
 use Rattle.sj_job.specs.declared.names.Standing.{Standing}
 use Rattle.sj_job.specs.declared.names.Standing.TheVariants.{Valued, Unvalued, Ended}

@@ -5,8 +5,8 @@ use Rattle.sj_base.specs.declared.mode.Mode.{Mode}
 use Rattle.sj_codelet.specs.Kernel.{codelet_of}
 use Rattle.sj_job.specs.declared.job.Init.{Init}
 use Rattle.sj_job.specs.declared.job.RootInfo.{RootInfo}
-use Rattle.sj_job.specs.Statement.{Operand as Access}
-use Rattle.sj_job.specs.Statement.{TaskLine as KeptTask}
+use Rattle.sj_job.specs.declared.job.Operand.{Operand as Access}
+use Rattle.sj_job.specs.declared.job.TaskLine.{TaskLine as KeptTask}
 use Rattle.sj_job.specs.declared.job.Act.{Act as KeptAct}
 use Rattle.sj_job.specs.declared.job.Act.TheVariants as kept
 use Rattle.sj_job.specs.declared.job.Statement.{Statement as Kept}

@@ -16,8 +16,8 @@ use Rattle.sj_codelet.specs.declared.kernel.Kernel.TheVariants.{Deliver}
 use Rattle.sj_codelet.specs.Kernel.{codelet_of}
 use Rattle.sj_job.specs.declared.job.Init.{Init}
 use Rattle.sj_job.specs.declared.job.RootInfo.{RootInfo}
-use Rattle.sj_job.specs.Statement.{Operand as Kept}
-use Rattle.sj_job.specs.Statement.{TaskLine as KeptTask}
+use Rattle.sj_job.specs.declared.job.Operand.{Operand as Kept}
+use Rattle.sj_job.specs.declared.job.TaskLine.{TaskLine as KeptTask}
 use Rattle.sj_job.specs.Table.{Table, a_root, name_of, info_of, AreDistinct}
 use Rattle.sj_job.specs.View.{operand_seen, task_seen, registration}
 use Rattle.sj_lower.specs.declared.lowerer.Lowerer.{Lowerer}

@@ -16,7 +16,7 @@ use Rattle.sj_base.specs.declared.program.Program.{Program}
 use Rattle.sj_codelet.specs.declared.kernel.Kernel.{Kernel}
 use Rattle.sj_codelet.specs.declared.kernel.Kernel.TheVariants.{Load, LoadFill, Deliver}
 use Rattle.sj_codelet.specs.Kernel.{codelet_of}
-use Rattle.sj_job.specs.Statement.{Operand as Kept}
+use Rattle.sj_job.specs.declared.job.Operand.{Operand as Kept}
 use Rattle.sj_job.specs.declared.job.Init.{Init}
 use Rattle.sj_job.specs.declared.job.Init.TheVariants.{Values, Fill, Nothing}
 use Rattle.sj_job.specs.Statement.{Register}

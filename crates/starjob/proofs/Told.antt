@@ -1,5 +1,6 @@
 -- The text of the deliveries is that of the printed arrays.
-use Rattle.std.proofs.Common.{◌≡◌, ℕ, suc, ◌+◌, ◌<◌, List, [], ◌∷◌, ◌++◌, map, length, get_or, drop, refl, ap, ◌∙◌, sym, arith, append_assoc}
+use Rattle.std.specs.Prelude.{slice_get}
+use Rattle.std.proofs.Common.{◌≡◌, ℕ, zero, suc, Option, Some, None, option_map, subst, ◌+◌, ◌<◌, List, [], ◌∷◌, ◌++◌, map, length, get_or, drop, refl, ap, ◌∙◌, sym, arith, append_assoc}
 use Rattle.std.proofs.Math.Seq.{drop-cons}
 use Rattle.std.proofs.lemmas.List.{get_or-map, length-map}
 use Rattle.sj_base.specs.Array.{Array}
@@ -17,6 +18,12 @@ told-printed names xs ps n a = (λ i. told (n i) (a i)) ∙ told_is ps
 
 begins : {X : Type 0} (xs : List X) (i : ℕ) (d : X) → i < length xs → drop i xs ≡ get_or xs i d ∷ drop (i + 1) xs
 begins xs i d lt = let s : suc i ≡ i + 1 = omega arith in drop-cons xs i d lt ∙ ap (λ k. get_or xs i d ∷ drop k xs) s
+
+-- what stands at a place
+pub found-at : {X Y : Type 0} (f : X → Y) (xs : List X) (i : ℕ) (y d : Y) → option_map f (slice_get xs i) ≡ Some y → get_or (map f xs) i d ≡ y
+found-at f [] i y d e = absurd (cc)
+found-at f (x ∷ xs) zero y d e = cc
+found-at f (x ∷ xs) (suc i) y d e = found-at f xs i y d e
 
 -- one delivery more
 pub told-more : {D : Type 0} (f : D → List ℕ × Kind) (ds : List D) (xs : List Array) (i : ℕ) (d : D) (x : Array) (text : List ℕ) → i < length ds → i < length xs → get_or ds i d ≡ d → get_or xs i x ≡ x

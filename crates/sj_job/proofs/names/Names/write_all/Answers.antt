@@ -1,7 +1,7 @@
 use Rattle.std.proofs.Common.{◌≡◌, ◌+◌, ◌∷◌, ◌<◌, ◌∙◌, ap, sym, subst, length, get_or, drop, map, refl, ℕ, List}
 use Rattle.std.proofs.lemmas.List.{length-map, get_or-map}
 use Rattle.sj_base.specs.declared.mode.Mode.TheVariants.{R}
-use Rattle.sj_job.specs.Statement.{Operand as Access}
+use Rattle.sj_job.specs.declared.job.Operand.{Operand as Access}
 use Rattle.sj_job.specs.Table.{Table, IsRoot}
 use Rattle.sj_job.specs.View.{operand_seen}
 use Rattle.sj_job.specs.Names.{known_in, after_write}
