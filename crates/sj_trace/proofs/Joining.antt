@@ -11,8 +11,8 @@ use Rattle.sj_base.specs.declared.ids.Place.{Place}
 use Rattle.sj_base.specs.declared.ids.Place.TheVariants.{Node as AtNode, Disk as OnDisk}
 use Rattle.sj_base.specs.declared.trace.Event.{Event}
 use Rattle.sj_base.specs.declared.trace.Event.TheVariants.{Claim, Move, Moved, Drop, Run, End}
-use Rattle.sj_trace.specs.Text.{place_word, words_of, joined_words, line_of, text_of, lines}
-use Rattle.sj_trace.specs.Reading.{words, IsReadFrom, EventFits, PlaceFits}
+use Rattle.sj_trace.specs.Text.{place_word, words_of, joined_words, line_of, text_of, whole_lines}
+use Rattle.sj_trace.specs.Reading.{between_spaces, IsReadFrom, EventFits, PlaceFits}
 
 -- no byte of a word is a space or LF
 abbrev IsInWord : ℕ → Type 0
@@ -34,7 +34,7 @@ joined-IsInLine (w ∷ v ∷ ws) are =
     All-append IsInLine w (32 ∷ join_with_byte 32 (v ∷ ws)) (All-weaker IsInWord IsInLine (λ b h. h.1) w are.0)
     (All-cons IsInLine 32 (join_with_byte 32 (v ∷ ws)) refl (joined-IsInLine (v ∷ ws) are.1))
 
-words-joined : (ws : List (List ℕ)) → 0 < length ws → AllByRecursion IsWord ws → words (join_with_byte 32 ws) ≡ ws
+words-joined : (ws : List (List ℕ)) → 0 < length ws → AllByRecursion IsWord ws → between_spaces (join_with_byte 32 ws) ≡ ws
 words-joined [] some are = absurd (omega arith)
 words-joined (w ∷ []) some are = slice_split_none (λ b. nat_eq b 32) w (spaceless w are.0)
 words-joined (w ∷ v ∷ ws) some are =
@@ -78,14 +78,14 @@ some-words (Drop c n) = omega arith
 some-words (Run t w) = omega arith
 some-words (End t w) = omega arith
 
-pub words-event : (e : Event) → EventFits e → words (joined_words e) ≡ words_of e
+pub words-event : (e : Event) → EventFits e → between_spaces (joined_words e) ≡ words_of e
 words-event e fits = words-joined (words_of e) (some-words e) (event-words e fits)
 
 -- the event whose line it is has its words
-pub line-read : (line rest : List ℕ) (r : Option Event) → rest ++ 10 ∷ [] ≡ line → IsReadFrom EventFits words_of (words rest) r → IsReadFrom EventFits line_of line r
+pub line-read : (line rest : List ℕ) (r : Option Event) → rest ++ 10 ∷ [] ≡ line → IsReadFrom EventFits words_of (between_spaces rest) r → IsReadFrom EventFits line_of line r
 line-read line rest None e none = λ a fits h.
     let same : joined_words a ≡ rest = append_cancel_right (joined_words a) rest (10 ∷ []) (h ∙ sym e) in
-    none a fits (sym (words-event a fits) ∙ ap words same)
+    none a fits (sym (words-event a fits) ∙ ap between_spaces same)
 line-read line rest (Some a) e read =
     let same : joined_words a ≡ rest = ap (join_with_byte 32) read.1 ∙ join_with_byte-slice_split 32 rest in
     (read.0, ap (λ l. l ++ 10 ∷ []) same ∙ e)
@@ -93,12 +93,12 @@ line-read line rest (Some a) e read =
 line-IsInLine : (e : Event) → EventFits e → All IsInLine (joined_words e)
 line-IsInLine e fits = joined-IsInLine (words_of e) (event-words e fits)
 
-one-line : (line rest : List ℕ) → AllByRecursion IsInLine line → lines ((line ++ 10 ∷ []) ++ rest) ≡ (line ++ 10 ∷ []) ∷ lines rest
+one-line : (line rest : List ℕ) → AllByRecursion IsInLine line → whole_lines ((line ++ 10 ∷ []) ++ rest) ≡ (line ++ 10 ∷ []) ∷ whole_lines rest
 one-line [] rest are = refl
 one-line (b ∷ bs) rest are = rw are.0 (ap (onto_first b) (one-line bs rest are.1))
 
 -- a text's lines are those that it was written with
-pub lines-text : (es : List Event) → All EventFits es → lines (text_of es) ≡ map line_of es
+pub lines-text : (es : List Event) → All EventFits es → whole_lines (text_of es) ≡ map line_of es
 lines-text [] fit = refl
 lines-text (e ∷ es) fit =
     one-line (joined_words e) (text_of es) (recursion_from_All IsInLine (joined_words e) (line-IsInLine e (All-head EventFits e es fit)))

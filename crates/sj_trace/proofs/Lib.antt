@@ -3,3 +3,4 @@ mod Dividing
 mod Telling
 mod Joining
 mod Progress
+mod Differing

@@ -4,7 +4,7 @@ use Rattle.std.proofs.lemmas.List.Splits.{length-slice_split}
 use Rattle.sj_base.specs.declared.trace.Event.{Event}
 use Rattle.sj_base.specs.declared.trace.Event.TheVariants.{Claim, Move, Moved, Drop, Run, End}
 use Rattle.sj_trace.specs.Text.{words_of, task_words, transfer_words, drop_words}
-use Rattle.sj_trace.specs.Reading.{words, EventFits, TaskFits, TransferFits, DropFits}
+use Rattle.sj_trace.specs.Reading.{between_spaces, EventFits, TaskFits, TransferFits, DropFits}
 
 -- no words of this kind say these words
 abbrev pub AreNone : {A : Type 0} → (A → Type 0) → (A → List (List ℕ)) → List (List ℕ) → Type 0
@@ -32,8 +32,8 @@ too_long (Moved c from to) verb first second third rest some h = let e : 0 ≡ l
 too_long a verb first second third rest some h = absurd (cc)
 
 -- no event has a fifth word
-pub too_many : (a : Event) (verb first second third : List ℕ) (ws : List (List ℕ)) (r : Option (Bor (List ℕ))) → MatchOption r (ws ≡ third ∷ []) (λ rest. ws ≡ third ∷ words rest.now) → is_some r ≡ true → words_of a ≡ verb ∷ first ∷ second ∷ ws → ⊥
+pub too_many : (a : Event) (verb first second third : List ℕ) (ws : List (List ℕ)) (r : Option (Bor (List ℕ))) → MatchOption r (ws ≡ third ∷ []) (λ rest. ws ≡ third ∷ between_spaces rest.now) → is_some r ≡ true → words_of a ≡ verb ∷ first ∷ second ∷ ws → ⊥
 too_many a verb first second third ws None cut some h = absurd (cc)
 too_many a verb first second third ws (Some rest) cut some h =
-    let long : 0 < length (words rest.now) = omega (arith, length-slice_split (λ b. nat_eq b 32) rest.now) in
-    too_long a verb first second third (words rest.now) long (h ∙ ap (λ l. verb ∷ first ∷ second ∷ l) cut)
+    let long : 0 < length (between_spaces rest.now) = omega (arith, length-slice_split (λ b. nat_eq b 32) rest.now) in
+    too_long a verb first second third (between_spaces rest.now) long (h ∙ ap (λ l. verb ∷ first ∷ second ∷ l) cut)

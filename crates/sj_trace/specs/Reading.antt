@@ -11,31 +11,35 @@ use Rattle.sj_base.specs.declared.trace.Event.{Event}
 use Rattle.sj_base.specs.declared.trace.Event.TheVariants.{Claim, Move, Moved, Drop, Run, End}
 use Rattle.sj_trace.specs.declared.read.TraceRefusal.{TraceRefusal}
 use Rattle.sj_trace.specs.declared.read.TraceRefusal.TheVariants.{BadLine, OutOfMemory}
-use Rattle.sj_trace.specs.Text.{lines, line_of, text_of}
+use Rattle.sj_trace.specs.Text.{whole_lines, line_of, text_of}
 
 -- what stands between the spaces
-abbrev pub words : List ℕ → List (List ℕ)
-words = slice_split (λ b. b == 32)
+abbrev pub between_spaces : List ℕ → List (List ℕ)
+between_spaces = slice_split (λ b. b == 32)
 
--- the value that is written so, and none where none of those that fit is
+-- a value whose numbers fit and that is written so; none where there is no such value
 abbrev pub IsReadFrom : {A B : Type 0} → (A → Type 0) → (A → B) → B → Option A → Type 0
 IsReadFrom {A} Fits write text None = (a : A) → Fits a → write a ≢ text
 IsReadFrom Fits write text (Some a) = Fits a × (write a ≡ text)
 
+-- a place's number is in its type
 abbrev pub PlaceFits : Place → Type 0
 PlaceFits (AtNode n) = n.0 < 2 ^ 8
 PlaceFits (OnDisk d) = d.0 < 2 ^ 8
 
+-- the numbers of a task and its worker
 abbrev pub TaskFits : Task × Worker → Type 0
 TaskFits (t, w) = (t.0 < 2 ^ 32) × (w.0 < 2 ^ 8)
 
+-- the numbers of a cell and two places
 abbrev pub TransferFits : Cell × Place × Place → Type 0
 TransferFits (c, from, to) = (c.0 < 2 ^ 32) × PlaceFits from × PlaceFits to
 
+-- the numbers of a cell and a node
 abbrev pub DropFits : Cell × Node → Type 0
 DropFits (c, n) = (c.0 < 2 ^ 32) × (n.0 < 2 ^ 8)
 
--- the numbers of an event are in their types
+-- all numbers of an event are in their types
 abbrev pub EventFits : Event → Type 0
 EventFits (Claim t w) = TaskFits (t, w)
 EventFits (Move c from to) = TransferFits (c, from, to)
@@ -44,18 +48,18 @@ EventFits (Drop c n) = DropFits (c, n)
 EventFits (Run t w) = TaskFits (t, w)
 EventFits (End t w) = TaskFits (t, w)
 
--- a text is the text of these events
+-- a text is that of these events, whose numbers are in their types
 pub record IsTextOf (text : List ℕ) (events : List Event) : Type 0 where
   pub fit : All EventFits events
   pub written : text_of events ≡ text
 
--- the first line that is no event's, by its number from 1
+-- the first line of a text that no event is written as, by its number from 1
 pub record IsFirstBadLine (text : List ℕ) (number : ℕ) : Type 0 where
   pub before : List Event
   pub line : List ℕ
   pub behind : List (List ℕ)
   pub fit : All EventFits before
-  pub divides : lines text ≡ map line_of before ++ line ∷ behind
+  pub divides : whole_lines text ≡ map line_of before ++ line ∷ behind
   pub counts : number ≡ length before + 1
   pub bad : (e : Event) → EventFits e → line_of e ≢ line
 

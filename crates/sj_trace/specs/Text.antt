@@ -14,17 +14,20 @@ use Rattle.sj_base.specs.declared.trace.Event.TheVariants.{Claim, Move, Moved, D
 abbrev pub word : List ℕ → ℕ → List ℕ
 word letter n = letter ++ decimal n
 
+-- a memory node or a disk
 abbrev pub place_word : Place → List ℕ
 place_word (AtNode n) = word (codes "n") n.0
 place_word (OnDisk d) = word (codes "d") d.0
 
--- a task and a worker, a cell and the places of its transfer, a cell and a node
+-- a task and its worker
 abbrev pub task_words : Task × Worker → List (List ℕ)
 task_words (t, w) = word (codes "t") t.0 ∷ word (codes "w") w.0 ∷ []
 
+-- a cell and the places of its transfer, from and to
 abbrev pub transfer_words : Cell × Place × Place → List (List ℕ)
 transfer_words (c, from, to) = word (codes "c") c.0 ∷ place_word from ∷ place_word to ∷ []
 
+-- a cell and the node that drops it
 abbrev pub drop_words : Cell × Node → List (List ℕ)
 drop_words (c, n) = word (codes "c") c.0 ∷ word (codes "n") n.0 ∷ []
 
@@ -37,16 +40,19 @@ words_of (Drop c n) = codes "drop" ∷ drop_words (c, n)
 words_of (Run t w) = codes "run" ∷ task_words (t, w)
 words_of (End t w) = codes "end" ∷ task_words (t, w)
 
+-- the words with one space between them
 abbrev pub joined_words : Event → List ℕ
 joined_words e = join_with_byte 32 (words_of e)
 
+-- those, and LF
 abbrev pub line_of : Event → List ℕ
 line_of e = joined_words e ++ codes "\n"
 
+-- the lines of the events, one behind another
 abbrev pub text_of : List Event → List ℕ
 text_of = flat_map line_of
 
 -- the lines of a text, each with its LF; what stands behind the last LF is a line if it isn't empty
-abbrev pub lines : List ℕ → List (List ℕ)
-lines [] = []
-lines (b ∷ bs) = if b == 10 then (b ∷ []) ∷ lines bs else onto_first b (lines bs)
+abbrev pub whole_lines : List ℕ → List (List ℕ)
+whole_lines [] = []
+whole_lines (b ∷ bs) = if b == 10 then (b ∷ []) ∷ whole_lines bs else onto_first b (whole_lines bs)

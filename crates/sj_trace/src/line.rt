@@ -1,8 +1,8 @@
 //! An event's line, read.
 
 ghost use Rattle.std.specs.Prelude.{◌≡◌, ◌≢◌, ◌∷◌, ◌++◌, ◌<◌, ℕ, List, [], length, MatchOption};
-ghost use Rattle.sj_trace.specs.Text.{words_of, line_of, task_words, transfer_words, drop_words, lines};
-ghost use Rattle.sj_trace.specs.Reading.{words, IsReadFrom, EventFits, TaskFits, TransferFits, DropFits};
+ghost use Rattle.sj_trace.specs.Text.{words_of, line_of, task_words, transfer_words, drop_words, whole_lines};
+ghost use Rattle.sj_trace.specs.Reading.{between_spaces, IsReadFrom, EventFits, TaskFits, TransferFits, DropFits};
 
 use crate::word::{cell, first_place, first_word, node, place, task, worker};
 use sj_base::ids::{Cell, Node, Place, Task, Worker};
@@ -11,7 +11,7 @@ use sj_base::trace::Event;
 /// The first line of a text, with its LF where it has one, and what stands behind it. Linear in the line.
 pub fn first_line(text: &[u8]) -> (&[u8], &[u8])
     requires { 0 < length text.now }
-    ensures line { lines text.now ≡ result.0.now ∷ lines result.1.now }
+    ensures line { whole_lines text.now ≡ result.0.now ∷ whole_lines result.1.now }
     ensures whole { text.now ≡ result.0.now ++ result.1.now }
     ensures some { 0 < length result.0.now }
 {
@@ -88,7 +88,7 @@ fn event_of_four(verb: &[u8], first: &[u8], second: &[u8], third: &[u8]) -> Opti
 
 /// The event that the words of a line tell.
 fn event_of_words(line: &[u8]) -> Option<Event>
-    ensures { IsReadFrom EventFits words_of (words line.now) result }
+    ensures { IsReadFrom EventFits words_of (between_spaces line.now) result }
 {
     let (verb, rest) = first_word(line);
     let (first, rest) = first_word(rest?);

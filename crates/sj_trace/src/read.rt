@@ -3,7 +3,7 @@
 ghost use Rattle.std.specs.Prelude.{◌≡◌, ◌<◌, ◌^◌, List, length, IfOk, IfErr};
 ghost use Rattle.sj_base.specs.declared.trace.Event.{Event};
 ghost use Rattle.sj_trace.specs.declared.read.TraceRefusal.TheVariants.{OutOfMemory};
-ghost use Rattle.sj_trace.specs.Text.{lines};
+ghost use Rattle.sj_trace.specs.Text.{whole_lines};
 ghost use Rattle.sj_trace.specs.Reading.{IsTextOf, IsRefusal};
 
 use crate::line::{event_of_line, first_line};
@@ -37,7 +37,7 @@ impl From<memory::OutOfMemory> for TraceRefusal {
 /// Reads the text of a trace, in the one form in which it is written: the events whose lines it has,
 /// or `BadLine` at the first line that no event is written as. Linear in the text.
 pub fn read_trace(alloc: Global, text: &[u8]) -> Result<Trace, TraceRefusal>
-    requires few_lines { length (lines text.now) < 2 ^ 32 }
+    requires few_lines { length (whole_lines text.now) < 2 ^ 32 }
     ensures ok { IfOk result (λ trace. IsTextOf text.now trace.events) }
     ensures bad_line { IfErr result (λ e. IsRefusal e text.now) }
     ensures reads_back { (events : List Event) → IsTextOf text.now events

@@ -1,7 +1,7 @@
 //! The text of a trace, reading it, and that memory suffices for both.
 
 ghost use Rattle.std.specs.Prelude.{◌<◌, ◌^◌, length};
-ghost use Rattle.sj_trace.specs.Text.{lines};
+ghost use Rattle.sj_trace.specs.Text.{whole_lines};
 
 use crate::read::{TraceRefusal, read_trace};
 use crate::text::text;
@@ -42,7 +42,7 @@ fn the_trace_of_a_run_out_of_core_is_read_back(rt: HostRuntime) -> Result<(), Tr
 
 /// The first bad line of a text, 0 where there is none.
 fn bad_line(alloc: Global, text: &[u8]) -> Result<u32, OutOfMemory>
-    requires { length (lines text.now) < 2 ^ 32 }
+    requires { length (whole_lines text.now) < 2 ^ 32 }
 {
     match read_trace(alloc, text) {
         Ok(_) => Ok(0),

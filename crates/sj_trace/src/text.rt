@@ -1,7 +1,7 @@
 //! A trace as text: a line for each event.
 
 ghost use Rattle.std.specs.Prelude.{◌≡◌, ◌++◌, codes, length, IfOk, OnOk};
-ghost use Rattle.sj_trace.specs.Text.{word, place_word, joined_words, line_of, lines};
+ghost use Rattle.sj_trace.specs.Text.{word, place_word, joined_words, line_of, whole_lines};
 ghost use Rattle.sj_trace.specs.Reading.{EventFits, IsTextOf};
 
 use itoa::Buffer;
@@ -102,7 +102,7 @@ fn event_fits(event: Event)
 /// The text of a trace. Linear in it.
 pub fn text(alloc: Global, trace: &Trace) -> Result<Vec<u8>, OutOfMemory>
     ensures text { IfOk result (λ v. IsTextOf v.items trace.now.events) }
-    ensures a_line_each { IfOk result (λ v. length (lines v.items) ≡ length trace.now.events) }
+    ensures a_line_each { IfOk result (λ v. length (whole_lines v.items) ≡ length trace.now.events) }
 {
     let mut text = Vec::new(alloc);
     for i in 0..trace.len() {

@@ -2,7 +2,7 @@
 
 ghost use Rattle.std.specs.Prelude.{◌≡◌, ◌∷◌, ◌<◌, ◌^◌, ◌==◌, [], MatchOption, ℕ, codes, decimal, position};
 ghost use Rattle.sj_trace.specs.Text.{word, place_word};
-ghost use Rattle.sj_trace.specs.Reading.{words, IsReadFrom, PlaceFits};
+ghost use Rattle.sj_trace.specs.Reading.{between_spaces, IsReadFrom, PlaceFits};
 
 use itoa::Buffer;
 use sj_base::ids::{Cell, DiskNo, Node, Place, Task, Worker};
@@ -17,8 +17,8 @@ pub fn first_place(text: &[u8], byte: u8) -> Option<usize>
 
 /// What stands before the first space, and what behind it where there is one. Linear up to it.
 pub fn first_word(line: &[u8]) -> (&[u8], Option<&[u8]>)
-    ensures { MatchOption result.1 (words line.now ≡ result.0.now ∷ [])
-        (λ rest. words line.now ≡ result.0.now ∷ words rest.now) }
+    ensures { MatchOption result.1 (between_spaces line.now ≡ result.0.now ∷ [])
+        (λ rest. between_spaces line.now ≡ result.0.now ∷ between_spaces rest.now) }
 {
     match first_place(line, b' ') {
         Some(end) => (&line[..end], Some(&line[end + 1..])),

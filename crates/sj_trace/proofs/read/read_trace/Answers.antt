@@ -1,6 +1,6 @@
 use Rattle.std.proofs.Common.{◌≡◌, List, [], ◌∷◌, ◌++◌, map, ap, sym, ◌∙◌, subst}
 use Rattle.sj_base.specs.declared.trace.Event.{Event}
-use Rattle.sj_trace.specs.Text.{line_of, lines}
+use Rattle.sj_trace.specs.Text.{line_of, whole_lines}
 use Rattle.sj_trace.proofs.Progress.{AreRead, one-more, none-bad, no-others}
 use Rattle.sj_trace.proofs.read.read_trace.Goals as goal
 
@@ -8,7 +8,7 @@ pub returns-in_default-clause-refuses_no_trace : goal.returns-in_default-clause-
 returns-in_default-clause-refuses_no_trace c = λ events is.
     let read = c.loop-rest.invariant in
     let divides = read.line_by_line ∙ ap (λ l. map line_of c.loop-rest.trace.events ++ l) c.first_line.ensures.line in
-    absurd (none-bad c.args.text.now c.first_line.result.0.now events c.loop-rest.trace.events (lines c.first_line.result.1.now) is divides c.in_default.ensures)
+    absurd (none-bad c.args.text.now c.first_line.result.0.now events c.loop-rest.trace.events (whole_lines c.first_line.result.1.now) is divides c.in_default.ensures)
 
 pub loop-rest-preserved : goal.loop-rest-preserved
 loop-rest-preserved c =
