@@ -16,7 +16,7 @@ expect() {
   if [ "$code" = "$2" ] && [ "$(cat out; echo .)" = "$3." ] && [[ "$(cat err; echo .)" == $4. ]]; then
     echo "ok: $1"
   else
-    echo "FAILED: $1: exit code $code, not $2"
+    echo "FAILED: $1: exit code $code, where $2 is wanted; its streams:"
     head -n 3 out err
     failed=1
   fi

@@ -1,11 +1,15 @@
--- The set of the example, and its laws: none of its codelets commutes or contributes, so there is nothing to hold.
-use Rattle.std.specs.Prelude.{Bool, true, false, ◌&&◌}
+-- The set of the example, its laws, and what a run with it hands over. None of its codelets commutes or contributes, so the laws
+-- have nothing to say.
+use Rattle.std.specs.Prelude.{◌≡◌, Bool, true, false, ◌&&◌, Option, Some, None}
 use Rattle.std.proofs.lemmas.Bool.{false≢true, and_parts}
+use Rattle.sj_base.specs.declared.program.Program.{Program}
 use Rattle.sj_base.specs.declared.mode.Reduction.TheVariants.{Plus, Least}
+use Rattle.sj_board.specs.Delivered.{Deliveries}
 use Rattle.sj_codelet.specs.declared.kernel.Kernel.{Kernel}
 use Rattle.sj_codelet.specs.declared.kernel.Kernel.TheVariants.{Transpose, Load, LoadFill, Deliver}
 use Rattle.sj_codelet.specs.Kernel.{contributes_of}
 use Rattle.sj_codelet.specs.Laws.{CommutingCommute, ContributingContribute, ReductionsReduce}
+use Rattle.sj_engine.specs.Run.{HasCodelets, deliveries_of}
 
 -- `transpose`, and what registrations and print statements are lowered to
 abbrev pub turns_has : Kernel → Bool
@@ -14,6 +18,11 @@ turns_has Load = true
 turns_has LoadFill = true
 turns_has Deliver = true
 turns_has _ = false
+
+-- the deliveries are those of the program; there are none where the set lacks one of its codelets
+abbrev pub Hands : Option Deliveries → Program → Type 0
+Hands (Some d) p = d.pairs ≡ deliveries_of p
+Hands None p = ¬ HasCodelets turns_has p
 
 pub turns_commuting : CommutingCommute turns_has
 turns_commuting Transpose h = absurd (false≢true h)

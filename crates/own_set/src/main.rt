@@ -2,14 +2,13 @@
 //! the arrays that the run hands over.
 #![tactic(auto)]
 
-ghost use Rattle.std.specs.Prelude.{◌≡◌, IsTrue, IfOk, Ok, List};
-ghost use Rattle.sj_engine.specs.Run.{HasCodelets, IsRunnable, deliveries_of};
+ghost use Rattle.std.specs.Prelude.{◌≡◌, ◌↔◌, IsTrue, IfOk, IfErr, Ok, List};
+ghost use Rattle.sj_engine.specs.Run.{HasCodelets};
 ghost use Rattle.sj_job.specs.declared.job.Statement.{Statement};
-ghost use Rattle.sj_job.specs.Reading.{job_of};
+ghost use Rattle.sj_job.specs.Reading.{job_of, IsRefusal};
 ghost use Rattle.sj_lower.specs.Lowering.{lowered};
-ghost use Rattle.own_set.specs.Turns.{turns_has};
+ghost use Rattle.own_set.specs.Turns.{turns_has, Hands};
 
-use sj_base::ids::Line;
 use sj_base::memory::OutOfMemory;
 use sj_base::program::{Codelet, Program};
 use sj_board::delivered::Delivered;
@@ -18,7 +17,7 @@ use sj_codelet::kernel::Kernel;
 use sj_codelet::set::Codelets;
 use sj_engine::run::run;
 use sj_job::read::read;
-use sj_job::reason::{ReadRefusal, Reason};
+use sj_job::reason::ReadRefusal;
 use sj_kernels::ring::Ring;
 use sj_lower::lower::lower;
 use std::alloc::Global;
@@ -64,7 +63,7 @@ impl Codelets for Turns {
 
 /// Whether the set has the codelet of each task. Linear in the tasks.
 fn has_codelets(program: &Program) -> bool
-    ensures { IsTrue result → HasCodelets turns_has program.now }
+    ensures { IsTrue result ↔ HasCodelets turns_has program.now }
 {
     program.tasks.items().iter().all(|task| match Kernel::of(task.codelet) {
         Some(kernel) => Turns.knows(kernel),
@@ -72,34 +71,36 @@ fn has_codelets(program: &Program) -> bool
     })
 }
 
-/// Runs the program of a text, and gives what its deliver tasks hand over.
-fn delivered(alloc: Global, text: &[u8]) -> Result<Delivered, ReadRefusal>
-    ensures { IfOk result (λ d. (ss : List Statement) × (job_of turns_has text.now ≡ Ok ss)
-        × (d.pairs ≡ deliveries_of (lowered ss 1))) }
+/// Runs the program of a text, and gives what its deliver tasks hand over; nothing where the set lacks one of its codelets.
+fn delivered(alloc: Global, text: &[u8]) -> Result<Option<Delivered>, ReadRefusal>
+    ensures ok { IfOk result (λ d. (ss : List Statement) × (job_of turns_has text.now ≡ Ok ss)
+        × Hands d (lowered ss 1)) }
+    ensures err { IfErr result (λ e. IsRefusal e (job_of turns_has text.now)) }
 {
     let job = read(alloc, text, &Turns)?;
     let program = lower(alloc, job.statements.items(), 1)?;
     if !has_codelets(&program) {
-        return Err(ReadRefusal::Refused {
-            line: Line(0),
-            reason: Reason::UnknownCodelet,
-        });
+        return Ok(None);
     }
     let outcome = run(alloc, Arc::new(alloc, program)?, &Turns);
     outcome.result?;
-    Ok(outcome.delivered)
+    Ok(Some(outcome.delivered))
+}
+
+/// Prints the elements of each array, one a line.
+fn print(rt: &HostRuntime, handed: &Delivered) -> io::Result<()> {
+    for i in 0..handed.len() {
+        for element in handed.tile(i).elements() {
+            println!(rt; "{element}")?;
+        }
+    }
+    Ok(())
 }
 
 fn main(rt: HostRuntime) -> io::Result<()> {
     match delivered(rt.alloc(), JOB) {
-        Ok(handed) => {
-            for i in 0..handed.len() {
-                for element in handed.tile(i).elements() {
-                    println!(rt; "{element}")?;
-                }
-            }
-        }
-        Err(refusal) => println!(rt; "{refusal:?}")?,
+        Ok(Some(handed)) => print(&rt, &handed),
+        Ok(None) => println!(rt; "the set lacks a codelet"),
+        Err(refusal) => println!(rt; "{refusal:?}"),
     }
-    Ok(())
 }

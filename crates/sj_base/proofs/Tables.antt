@@ -28,3 +28,14 @@ same_tables blank xs ys r c long_x long_y same = same_lists xs ys (long_x ∙ sy
     let place : k / c * c + k % c ≡ k = div-add-mod' k c in
     let here_too : k < length ys = omega arith in
     get_or_default xs k d blank here ∙ (ap (λ n. get_or xs n blank) (sym place) ∙ same (k / c) (k % c) (div_below k c r some inside) (mod_below k c some) ∙ ap (λ n. get_or ys n blank) place) ∙ get_or_default ys k blank d here_too)
+
+pub at-table : {X : Type 0} (blank : X) (d : Dims) (f : ℕ → ℕ → X) (p : ℕ) → p < area d → get_or (table d f) p blank ≡ f (p / d.cols) (p % d.cols)
+at-table blank d f p h = get_or-map-range_with_len (λ p. f (p / d.cols) (p % d.cols)) 0 (area d) p p blank h (omega arith)
+
+-- a list is the table of its items
+pub table_from_items : {X : Type 0} (blank : X) (d : Dims) (f : ℕ → ℕ → X) (xs : List X) → length xs ≡ area d → ((p : ℕ) → p < area d → get_or xs p blank ≡ f (p / d.cols) (p % d.cols)) → xs ≡ table d f
+table_from_items blank d f xs long same =
+    same_lists xs (table d f) (long ∙ sym (length-table d f)) (λ k e here.
+    let inside : k < area d = omega arith in
+    let there : k < length (table d f) = omega (arith, length-table d f) in
+    get_or_default xs k e blank here ∙ same k inside ∙ sym (at-table blank d f k inside) ∙ get_or_default (table d f) k blank e there)

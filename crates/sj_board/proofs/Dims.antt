@@ -26,8 +26,9 @@ use Rattle.sj_codelet.specs.Frame.{AreReady, IsReady, Slot, all_dims, arrays as 
 use Rattle.sj_codelet.specs.Kernel.{arguments_fit, dims_at, dims_fit, fits, formals_of, new_arrays, operand, same}
 use Rattle.sj_codelet.specs.Runs.{IsReadyFor}
 use Rattle.sj_core.specs.Fold.{held_in}
-use Rattle.sj_core.specs.Laws.{HasPlainModes, is_plain_mode}
-use Rattle.sj_core.specs.Program.{dims_of, is_written, no_task, same_cell, task_of}
+use Rattle.sj_core.specs.Laws.{HasPlainModes}
+use Rattle.sj_base.specs.Mode.{is_in_order, is_written}
+use Rattle.sj_core.specs.Program.{dims_of, no_task, same_cell, task_of}
 use Rattle.sj_core.specs.Proper.{Fits, Proper, MayHaveModes, Own, FirstPaste, Commuting, Contributing, mode_of, modes_writing_by, own_modes}
 use Rattle.sj_core.proofs.Reading.{same_cell-is}
 use Rattle.sj_board.specs.Operands.{CanRunOn, first_cell, is_deliver, is_deliver_task, is_output, kept, news_of, outputs, slot_for, slots_of}
@@ -131,36 +132,36 @@ cons-same x y xs ys e = (cc, cc)
 abbrev modes_in : Lowered → List Mode
 modes_in l = map (λ a. a.mode) l.accesses
 
-all-plain : (p : Program) → HasPlainModes p → (t : Task) → All (λ x. is_plain_mode x ≡ true) (modes_in (task_of p t))
-all-plain p plain t = All-map (λ x. is_plain_mode x ≡ true) (λ (a : Access). a.mode) (task_of p t).accesses (plain.modes t)
+all-plain : (p : Program) → HasPlainModes p → (t : Task) → All (λ x. is_in_order x ≡ true) (modes_in (task_of p t))
+all-plain p plain t = All-map (λ x. is_in_order x ≡ true) (λ (a : Access). a.mode) (task_of p t).accesses (plain.modes t)
 
 -- one written mode among several, in another's place
-one-other : (x : Mode) (ms : List Mode) → count_by is_written ms ≡ 1 → All (λ y. is_plain_mode y ≡ true) (map (λ y. if is_written y then x else y) ms) → is_plain_mode x ≡ true
+one-other : (x : Mode) (ms : List Mode) → count_by is_written ms ≡ 1 → All (λ y. is_in_order y ≡ true) (map (λ y. if is_written y then x else y) ms) → is_in_order x ≡ true
 one-other x [] e all = absurd (omega arith)
 one-other x (y ∷ ms) e all = by_cases (is_written y) refl (one-other x ms)
   where
     f : Mode → Mode
     f z = if is_written z then x else z
 
-    by_cases : (b : Bool) → is_written y ≡ b → (count_by is_written ms ≡ 1 → All (λ z. is_plain_mode z ≡ true) (map (λ z. if is_written z then x else z) ms) → is_plain_mode x ≡ true) → is_plain_mode x ≡ true
-    by_cases true h rest = ap (λ b. is_plain_mode (if b then x else y)) (sym h) ∙ All-head (λ z. is_plain_mode z ≡ true) (if is_written y then x else y) (map (λ z. if is_written z then x else z) ms) all
+    by_cases : (b : Bool) → is_written y ≡ b → (count_by is_written ms ≡ 1 → All (λ z. is_in_order z ≡ true) (map (λ z. if is_written z then x else z) ms) → is_in_order x ≡ true) → is_in_order x ≡ true
+    by_cases true h rest = ap (λ b. is_in_order (if b then x else y)) (sym h) ∙ All-head (λ z. is_in_order z ≡ true) (if is_written y then x else y) (map (λ z. if is_written z then x else z) ms) all
     by_cases false h rest =
         let one : Mode → ℕ = λ z. cond (is_written z) 1 0 in
         let c : count_by is_written (y ∷ ms) ≡ one y + count_by is_written ms = sum_by-cons one y ms in
         let none : one y ≡ 0 = ap (λ (b : Bool). let n : ℕ = cond b 1 0 in n) h in
         let left : count_by is_written ms ≡ 1 = sym (c ∙ ap (λ n. n + count_by is_written ms) none ∙ omega arith) ∙ e in
-        rest left (All-tail (λ z. is_plain_mode z ≡ true) (if is_written y then x else y) (map (λ z. if is_written z then x else z) ms) all)
+        rest left (All-tail (λ z. is_in_order z ≡ true) (if is_written y then x else y) (map (λ z. if is_written z then x else z) ms) all)
 
 -- the codelet's own modes, or those of a first paste
 data Modes (k : Kernel) (ms : List Mode) : Type 0 where
   IsOwn : ms ≡ own_modes k → Modes k ms
   IsPaste : k ≡ Paste → ms ≡ R ∷ W ∷ [] → Modes k ms
 
-plain-modes : (k : Kernel) (ms : List Mode) → All (λ x. is_plain_mode x ≡ true) ms → MayHaveModes k ms → Modes k ms
+plain-modes : (k : Kernel) (ms : List Mode) → All (λ x. is_in_order x ≡ true) ms → MayHaveModes k ms → Modes k ms
 plain-modes k ms all (Own e) = IsOwn e
 plain-modes k ms all (FirstPaste paste e) = IsPaste paste (e ∙ ap (modes_writing_by W) paste)
-plain-modes k ms all (Commuting may writes e) = absurd (false≢true (one-other Commute (own_modes k) writes (All-same (λ x. is_plain_mode x ≡ true) (modes_writing_by Commute k) ms (sym e) all)))
-plain-modes k ms all (Contributing by may writes e) = absurd (false≢true (one-other Redux (own_modes k) writes (All-same (λ x. is_plain_mode x ≡ true) (modes_writing_by Redux k) ms (sym e) all)))
+plain-modes k ms all (Commuting may writes e) = absurd (false≢true (one-other Commute (own_modes k) writes (All-same (λ x. is_in_order x ≡ true) (modes_writing_by Commute k) ms (sym e) all)))
+plain-modes k ms all (Contributing by may writes e) = absurd (false≢true (one-other Redux (own_modes k) writes (All-same (λ x. is_in_order x ≡ true) (modes_writing_by Redux k) ms (sym e) all)))
 
 written-flag : (f : Formal) → is_written (mode_of f) ≡ is_output f
 written-flag ReadFormal = refl

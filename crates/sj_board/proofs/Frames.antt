@@ -12,10 +12,11 @@ use Rattle.sj_base.specs.declared.program.Program.{Program}
 use Rattle.sj_base.specs.Array.{Array}
 use Rattle.sj_codelet.specs.Frame.{Slot, arrays as arrays_of}
 use Rattle.sj_codelet.specs.Kernel.{out}
-use Rattle.sj_core.specs.Laws.{HasPlainModes, is_plain_mode}
+use Rattle.sj_core.specs.Laws.{HasPlainModes}
+use Rattle.sj_base.specs.Mode.{is_in_order, is_written, starts_as_zeros}
 use Rattle.sj_core.specs.Operands.{found, results, worked_on, written_cells}
-use Rattle.sj_core.specs.Program.{is_written, starts_as_zeros, task_of, written_operands}
-use Rattle.sj_core.proofs.Folding.{Contains-from_filter}
+use Rattle.sj_core.specs.Program.{task_of, written_operands}
+use Rattle.sj_core.proofs.Readiness.{Contains-from_filter}
 use Rattle.sj_core.proofs.PlainModes.{mode-plain, worked_on-plain}
 use Rattle.sj_board.specs.Operands.{kept, news_of, outputs, slot_for, slots_of}
 
@@ -36,7 +37,7 @@ module _ (p : Program) (plain : HasPlainModes p) (t : Task) (w : Worker) where
   outputs-written = map-agree (λ (a : Access). a.cell) (worked_on p w) (written_operands (task_of p t)) (λ a h. sym (worked_on-plain p plain t w a (Contains-from_filter (λ (x : Access). is_written x.mode) (task_of p t).accesses a h)))
 
   module _ (arrays : List (Option Array)) (held : Cell → Array) (same : (a : Access) → Contains (task_of p t).accesses a → starts_as_zeros a.mode ≡ false → kept p arrays a.cell ≡ held a.cell) where
-    input : (x : Mode) (d : Cell) → is_plain_mode x ≡ true → (starts_as_zeros x ≡ false → kept p arrays d ≡ held d) → (slot_for p arrays (an_access x d)).array ≡ found p w held (an_access x d)
+    input : (x : Mode) (d : Cell) → is_in_order x ≡ true → (starts_as_zeros x ≡ false → kept p arrays d ≡ held d) → (slot_for p arrays (an_access x d)).array ≡ found p w held (an_access x d)
     input R d h e = e refl
     input W d h e = refl
     input RW d h e = e refl

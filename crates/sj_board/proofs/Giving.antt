@@ -14,8 +14,9 @@ use Rattle.sj_core.specs.declared.progress.Progress.TheVariants.{Waiting, Claime
 use Rattle.sj_core.specs.Coherent.{is_begun}
 use Rattle.sj_core.specs.Machine.{array_of, is_task_of, is_valid, progress, replica, worker_of}
 use Rattle.sj_core.specs.Needs.{node_of}
-use Rattle.sj_core.specs.Program.{dims_of, starts_as_zeros, task_of}
-use Rattle.sj_core.proofs.Advancing.{same_worker-refl}
+use Rattle.sj_core.specs.Program.{dims_of, task_of}
+use Rattle.sj_base.specs.Mode.{starts_as_zeros}
+use Rattle.sj_core.proofs.Replicas.{same_worker-refl}
 use Rattle.sj_board.specs.Board.{HasClaimed, HasTaskClaimed, HasTaskRunning, IsRunning, Standing, progress_of}
 use Rattle.sj_board.specs.Inside.{Keeps}
 use Rattle.sj_board.specs.Operands.{CanRunOn, first_cell, is_delivery, news_of, outputs, slots_of}

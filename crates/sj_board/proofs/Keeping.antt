@@ -25,12 +25,13 @@ use Rattle.sj_core.specs.Legal.{Replays}
 use Rattle.sj_core.specs.Machine.{CellState, Invalid, WorkerState, array_of, is_done, is_task_of, no_replica, opening, progress, replica, worker_of}
 use Rattle.sj_core.specs.Needs.{node_of}
 use Rattle.sj_core.specs.Program.{dims_of, has_cell, task_of}
-use Rattle.sj_core.proofs.Advancing.{same_task, same_worker-refl}
+use Rattle.sj_core.proofs.Advancing.{same_task}
+use Rattle.sj_core.proofs.Replicas.{same_worker-refl}
 use Rattle.sj_core.proofs.Delivering.{delivers}
 use Rattle.sj_core.proofs.Dependencies.{Proper-dependencies}
 use Rattle.sj_core.proofs.Opening.{opening-coherent}
 use Rattle.sj_core.proofs.Reading.{idle_row, no_row}
-use Rattle.sj_core.proofs.Separation.{active-begun, task_of-active, task_of-worker}
+use Rattle.sj_core.proofs.Advancing.{active-begun, task_of-active, task_of-worker}
 use Rattle.sj_core.proofs.Tables.{length-renewed, renewed-at}
 use Rattle.sj_board.specs.Board.{CanBeClaimed, IsIdle, Standing, HasDelivered, ended, ended_tasks, ends, progress_of, standing, starting}
 use Rattle.sj_board.specs.Delivered.{Deliveries}

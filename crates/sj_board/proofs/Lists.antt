@@ -11,7 +11,8 @@ use Rattle.sj_base.specs.Array.{Array}
 use Rattle.sj_codelet.specs.declared.formal.Formal.{Formal}
 use Rattle.sj_codelet.specs.declared.formal.Formal.TheVariants.{R, W, RW, Scratch}
 use Rattle.sj_codelet.specs.Frame.{Slot, shared, arrays, written}
-use Rattle.sj_core.specs.Program.{is_written, has_cell, same_cell}
+use Rattle.sj_core.specs.Program.{has_cell, same_cell}
+use Rattle.sj_base.specs.Mode.{is_written}
 use Rattle.sj_core.specs.Fold.{held_in}
 use Rattle.std.proofs.lemmas.Bool.{false≢true}
 use Rattle.std.proofs.lemmas.Bool.Decides.{Decides-eqb}

@@ -28,17 +28,19 @@ use Rattle.sj_core.specs.Coherent.{Coherent, is_begun}
 use Rattle.sj_core.specs.Machine.{State, CellState, is_idle, is_leaving, is_pinned, is_task_of, order, progress, replica, replica_in, scratch, used, free, worker_of, workers_at}
 use Rattle.sj_core.specs.Needs.{footprint, node_of, node_size, scratch_bytes, tile_bytes}
 use Rattle.sj_core.specs.Operands.{cells_of, worked_on}
-use Rattle.sj_core.specs.Program.{cells_of_program, data_operands, dims_of, distinct, has_cell, is_scratch, no_cell, no_task, task_of}
+use Rattle.sj_core.specs.Program.{cells_of_program, data_operands, dims_of, distinct, has_cell, no_cell, no_task, task_of}
+use Rattle.sj_base.specs.Mode.{is_scratch}
 use Rattle.sj_core.specs.Proper.{Fits, Proper}
 use Rattle.sj_core.specs.Step.{missing, none_leaving, to_come, victims_for}
 use Rattle.sj_core.specs.Victims.{covers, shortest_suffix}
 use Rattle.sj_core.proofs.CellLists.{share, sum-once, times, times-distinct, times-filter, times-program}
-use Rattle.sj_core.proofs.Claiming.{has_cell-distinct, has_cell-filter}
-use Rattle.sj_core.proofs.Holding.{entry-inside, leaving-by_some}
+use Rattle.sj_core.proofs.CellLists.{has_cell-distinct, has_cell-filter}
+use Rattle.sj_core.proofs.Reading.{entry-inside}
+use Rattle.sj_core.proofs.Replicas.{leaving-by_some}
 use Rattle.sj_core.proofs.PlainModes.{operand-inside, worked_on-plain}
-use Rattle.sj_core.proofs.Separation.{task_of-worker, task_of-active, active-begun}
+use Rattle.sj_core.proofs.Advancing.{task_of-worker, task_of-active, active-begun}
 use Rattle.sj_core.proofs.Sharing.{operand_for}
-use Rattle.sj_core.proofs.Workers.{idle-has_none, claimed_by-task_of}
+use Rattle.sj_core.proofs.Advancing.{idle-has_none, claimed_by-task_of}
 use Rattle.sj_core.proofs.Reading.{no_row}
 use Rattle.sj_board.specs.Plain.{IsBoardFor}
 use Rattle.sj_board.proofs.Next.{worker-one}

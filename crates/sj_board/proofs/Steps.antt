@@ -2,7 +2,7 @@
 use Rattle.std.proofs.Common.{◌≡◌, ℕ, zero, suc, ◌%◌, ◌<◌, ◌≤◌, Bool, true, false, not, ◌||◌, List, [], ◌∷◌, ◌++◌, map, length, get_or, set, refl, sym, ap, ◌∙◌, subst, inl, inr, Option, None, Some, arith, unwrap_or}
 use Rattle.std.specs.Prelude.{filter, if◌then◌else◌, is_some}
 use Rattle.std.specs.List.{list_all, Contains, range_with_len, zip}
-use Rattle.std.proofs.lemmas.Bool.{cases_lt, false≢true}
+use Rattle.std.proofs.lemmas.Bool.{cases_lt, false≢true, false_from_ne_true}
 use Rattle.std.proofs.lemmas.Fn.{FoldsTo-push}
 use Rattle.std.proofs.lemmas.List.{get_or_past}
 use Rattle.std.proofs.lemmas.List.Sums.{list_all-from_AllPass}
@@ -25,30 +25,35 @@ use Rattle.sj_core.specs.declared.progress.Progress.{Progress}
 use Rattle.sj_core.specs.declared.progress.Progress.TheVariants.{Waiting, Claimed, Running, Done}
 use Rattle.sj_deps.specs.Conflict.{Ready}
 use Rattle.sj_core.specs.Coherent.{Coherent, is_begun}
-use Rattle.sj_core.specs.Laws.{IsSound, is_plain_mode}
+use Rattle.sj_core.specs.Laws.{IsSound}
+use Rattle.sj_base.specs.Mode.{is_in_order, is_commute, is_scratch, starts_as_zeros}
 use Rattle.sj_core.specs.Machine.{with_replica_in, State, CellState, WorkerState, Replica, Invalid, Coming, Valid, Leaving, cell_state, is_entry, is_done, is_gone, is_idle, is_leaving, moves, is_task_of, worker_of, is_valid, progress, replica, replica_in, victims_of, worker_state, array_of, opening}
 use Rattle.sj_core.specs.Needs.{node_of, workers_of}
 use Rattle.sj_core.specs.Operands.{cells_of, commuting_cells, fresh_cells, results, worked_on, written_cells}
-use Rattle.sj_core.specs.Program.{data_operands, dims_of, has_cell, is_commute, is_scratch, same_cell, starts_as_zeros, task_of}
+use Rattle.sj_core.specs.Program.{data_operands, dims_of, has_cell, same_cell, task_of}
 use Rattle.sj_core.specs.Proper.{IsMachineFor}
 use Rattle.sj_core.specs.Step.{Claims, Ends, Runs, Step, array_at, is_in_use, is_moving, after_claim, after_end, after_run, claimed_replica, done_tasks, missing}
-use Rattle.sj_core.proofs.Advancing.{Runs-advances, same_worker-refl}
+use Rattle.sj_core.proofs.Advancing.{Runs-advances}
+use Rattle.sj_core.proofs.Replicas.{same_worker-refl}
 use Rattle.sj_core.proofs.Claiming.{claim-here, missing-absent}
 use Rattle.sj_core.proofs.PlainModes.{worked_on-plain}
 use Rattle.sj_core.proofs.Reading.{no_row, replica_in-no_row, workers_differ}
 use Rattle.sj_core.proofs.Tables.{length-renewed, renewed-at}
-use Rattle.sj_core.proofs.Workers.{Claims-worker, Claims-other_worker, end-other_worker, end-own_worker, end-transfer}
+use Rattle.sj_core.proofs.Claiming.{Claims-worker, Claims-other_worker}
+use Rattle.sj_core.proofs.Ending.{end-other_worker, end-own_worker, end-transfer}
 use Rattle.sj_core.specs.declared.progress.Transfer.{Transfer}
 use Rattle.sj_core.proofs.CellLists.{same_cell-refl, same_cell-from}
 use Rattle.sj_core.proofs.Dependencies.{Proper-dependencies}
 use Rattle.sj_core.proofs.Finding.{not_being_written, read-cell, read-not_fresh, read-written}
-use Rattle.sj_core.proofs.Holding.{end-other, entry-inside, not_true, run-other, run-own}
+use Rattle.sj_core.proofs.Ending.{end-other}
+use Rattle.sj_core.proofs.Reading.{entry-inside}
+use Rattle.sj_core.proofs.Running.{run-other, run-own}
 use Rattle.sj_core.proofs.Readiness.{Contains-filter}
-use Rattle.sj_core.proofs.Separation.{active-begun, task_of-active}
+use Rattle.sj_core.proofs.Advancing.{active-begun, task_of-active}
 use Rattle.sj_core.proofs.Sharing.{operand-has_cell, operand_for}
 use Rattle.sj_core.proofs.TaskCells.{fresh-among_written, written-among_cells}
 use Rattle.sj_core.specs.Fold.{held_in}
-use Rattle.sj_core.proofs.Forms.{end-written}
+use Rattle.sj_core.proofs.Ending.{end-written}
 use Rattle.sj_board.specs.Operands.{kept, news_of, outputs, with_arrays}
 use Rattle.sj_board.specs.Plain.{IsBoardFor}
 use Rattle.sj_board.specs.Stands.{IsUpToDate, OnlyRuns, Stands, the_worker}
@@ -75,7 +80,7 @@ sound-from p m s fit coherent = record {
   coherent = coherent;
 }
 
-plain_isn't_commute : (x : Mode) → is_plain_mode x ≡ true → is_commute x ≡ false
+plain_isn't_commute : (x : Mode) → is_in_order x ≡ true → is_commute x ≡ false
 plain_isn't_commute R h = refl
 plain_isn't_commute W h = refl
 plain_isn't_commute RW h = refl
@@ -224,7 +229,7 @@ module _ (p : Program) (m : Machine) (fit : IsBoardFor p m) (s : State) (sound :
       let deps = Proper-dependencies p fit.proper in
       let earlier = sound.order.earlier t (active-begun (progress s t) (task_of-active w (progress s t) mine)) in
       let written = read-written p m fit.proper deps fit.plain s sound t a earlier h reads in
-      let resting = not_being_written p m fit.proper deps fit.plain s sound t w a.cell mine (read-cell p m fit.proper deps fit.plain t w a h reads) spared in
+      let resting = not_being_written p m fit.proper deps s sound t w a.cell mine (read-cell p m fit.proper deps fit.plain t w a h reads) spared in
       let somewhere = sound.copies.valid_somewhere a.cell written resting in
       at_place somewhere.0 somewhere.1
     where
@@ -366,7 +371,7 @@ module _ (p : Program) (m : Machine) (fit : IsBoardFor p m) (s : State) (sound :
   unwritten-upto : (c : Cell) → has_cell (written_cells p t w) c ≡ false → IsUpToDate p s c
   unwritten-upto c unwritten u v runs =
       let e = only-one u v runs in
-      not_true (has_cell (fresh_cells p u v) c) (λ fresh. false≢true (sym unwritten ∙ fresh-among_written p t w c (sym (ap (λ (k : Task). has_cell (fresh_cells p k v) c) e.0 ∙ ap (λ (k : Worker). has_cell (fresh_cells p t k) c) e.1) ∙ fresh)))
+      false_from_ne_true (has_cell (fresh_cells p u v) c) (λ fresh. false≢true (sym unwritten ∙ fresh-among_written p t w c (sym (ap (λ (k : Task). has_cell (fresh_cells p k v) c) e.0 ∙ ap (λ (k : Worker). has_cell (fresh_cells p t k) c) e.1) ∙ fresh)))
 
 module _ (p : Program) (m : Machine) (fit : IsBoardFor p m) (tasks : List Progress) (arrays : List (Option Array)) (trace : List Event) (st : Stands p m tasks arrays trace) (every_cell : length arrays ≡ length p.cells) (t : Task) (w : Worker) (running : progress st.state t ≡ Running w) where
   w-is : w ≡ the_worker
@@ -415,13 +420,13 @@ module _ (p : Program) (m : Machine) (fit : IsBoardFor p m) (tasks : List Progre
   end-only_runs s' ended v =
       record {
         no_victims = elim (workers_differ v w) [
-          | inl e ↦ ap (λ (x : Worker). victims_of s' x) e ∙ elim (end-own_worker p m st.state t w s' st.coherent.state.rows ended st.coherent.workers) [
+          | inl e ↦ ap (λ (x : Worker). victims_of s' x) e ∙ elim (end-own_worker p m st.state t w s' ended) [
             | inl row ↦ ap (λ (r : WorkerState). r.victims) row ∙ (st.only_runs w).no_victims
             | inr none ↦ ap (λ (r : WorkerState). r.victims) none.1
           ]
-          | inr d ↦ ap (λ (r : WorkerState). r.victims) (end-other_worker p m st.state t w s' st.coherent.state.rows ended st.coherent.workers v d) ∙ (st.only_runs v).no_victims
+          | inr d ↦ ap (λ (r : WorkerState). r.victims) (end-other_worker p m st.state t w s' ended v d) ∙ (st.only_runs v).no_victims
         ];
-        no_transfer = end-transfer p m st.state t w s' st.coherent.state.rows ended st.coherent.workers v ∙ (st.only_runs v).no_transfer;
+        no_transfer = end-transfer p m st.state t w s' ended v ∙ (st.only_runs v).no_transfer;
       }
 
   pub stands-end : Stands p m (set tasks t.0 (Done w)) (with_arrays p (outputs (task_of p t)) (news_of p arrays t) arrays) (trace ++ End t w ∷ [])

@@ -7,7 +7,8 @@ use Rattle.sj_base.specs.Array.{Array, area}
 use Rattle.sj_base.specs.declared.program.Lowered.{Lowered}
 use Rattle.sj_codelet.specs.Frame.{Slot}
 use Rattle.sj_board.specs.Operands.{first_cell, is_delivery}
-use Rattle.sj_core.specs.Program.{dims_of, is_written, starts_as_zeros}
+use Rattle.sj_core.specs.Program.{dims_of}
+use Rattle.sj_base.specs.Mode.{is_written, starts_as_zeros}
 use Rattle.std.specs.declared.sync.Arc.{Arc}
 
 -- the arrays in the places of the cells

@@ -3,7 +3,8 @@
 ghost use Rattle.std.specs.Prelude.{◌≡◌, ◌<◌, ◌++◌, ◌∷◌, [], All, IfOk, length, map, option_map};
 ghost use Rattle.sj_codelet.specs.Frame.{arrays, shared};
 ghost use Rattle.sj_codelet.specs.Slot.{slot_of};
-ghost use Rattle.sj_core.specs.Program.{is_written, task_of};
+ghost use Rattle.sj_core.specs.Program.{task_of};
+ghost use Rattle.sj_base.specs.Mode.{is_written};
 ghost use Rattle.sj_board.specs.Operands.{slot_for, is_delivery};
 ghost use Rattle.sj_board.specs.Tiles.{arrays_in, AreShared, CanGive, outputs_among, put_all};
 

@@ -1,22 +1,16 @@
 -- One step of a task: from waiting to claimed, to running, to done; and that each keeps the order of conflicting tasks.
-use Rattle.std.proofs.Common.{◌≡◌, ◌≢◌, ℕ, ◌<◌, true, false, ◌||◌, length, refl, sym, ap, ◌∙◌, subst, inl, inr, ◌⊎◌, arith}
+use Rattle.std.proofs.Common.{ap, arith, false, inl, inr, length, not, refl, subst, sym, true, ℕ, ◌<◌, ◌||◌, ◌∙◌, ◌≡◌, ◌≢◌, ◌⊎◌}
+use Rattle.std.proofs.lemmas.Bool.{cases_eq, cases_lt, false≢true, true≢false, or_cases, not-true}
+use Rattle.std.proofs.lemmas.List.{get_or_past}
+use Rattle.std.proofs.lemmas.List.Sums.{AllPass-from_list_all}
 use Rattle.std.specs.Prelude.{IsTrue}
-use Rattle.std.proofs.lemmas.Bool.{cases_eq, false≢true, true≢false}
-use Rattle.std.proofs.lemmas.Bool.Decides.{Decides-eqb}
-use Rattle.sj_core.specs.Program.{has_cell}
-use Rattle.sj_core.specs.Operands.{cells_of}
-use Rattle.sj_base.specs.declared.ids.Task.{Task}
-use Rattle.sj_base.specs.declared.ids.Worker.{Worker}
-use Rattle.sj_base.specs.declared.program.Program.{Program}
-use Rattle.sj_base.specs.declared.program.Machine.{Machine}
-use Rattle.sj_core.specs.declared.progress.Progress.{Progress}
-use Rattle.sj_core.specs.declared.progress.Progress.TheVariants.{Waiting, Claimed, Running, Done}
+use Rattle.sj_core.proofs.Words.{Claimed, Done, Machine, Program, Progress, Running, State, Task, Waiting, Worker, cells_of, done_in, has_cell, is_claimed_by, is_done, is_idle, is_running_on, is_task_of, progress, worker_of}
 use Rattle.sj_deps.specs.Conflict.{Conflict}
-use Rattle.sj_core.specs.Machine.{State, progress, done_in, is_done, worker_of, same_worker}
-use Rattle.sj_core.specs.Step.{Claims, Runs, Ends, EarlierAreDone}
-use Rattle.sj_core.specs.Coherent.{HasRows, OrderIsKept, SharesCommuting, is_begun, is_active}
+use Rattle.sj_core.specs.Coherent.{HasRows, OrderIsKept, SharesCommuting, is_active, is_begun}
+use Rattle.sj_core.specs.Step.{Claims, EarlierAreDone, Ends, Runs}
 use Rattle.sj_core.proofs.Readiness.{Ready-earlier}
-use Rattle.sj_core.proofs.Reading.{progress-same, progress-other, progress-inside}
+use Rattle.sj_core.proofs.Reading.{progress-inside, progress-other, progress-same}
+use Rattle.sj_core.proofs.Replicas.{same_worker-is, same_worker-refl}
 
 pub same_task : (t u : Task) → (t ≡ u) ⊎ (t ≢ u)
 same_task t u =
@@ -24,6 +18,58 @@ same_task t u =
       | inl e ↦ inl (ap (λ (n : ℕ). let k : Task = record { 0 = n } in k) e)
       | inr d ↦ inr (λ e. d (ap (λ (k : Task). k.0) e))
     ]
+
+-- ---- whose task
+
+pub claimed_by-is : (w : Worker) (x : Progress) → is_claimed_by w x ≡ true → x ≡ Claimed w
+claimed_by-is w Waiting h = absurd (false≢true h)
+claimed_by-is w (Claimed v) h = ap Claimed (same_worker-is v w h)
+claimed_by-is w (Running v) h = absurd (false≢true h)
+claimed_by-is w (Done v) h = absurd (false≢true h)
+
+pub running_on-is : (w : Worker) (x : Progress) → is_running_on w x ≡ true → x ≡ Running w
+running_on-is w Waiting h = absurd (false≢true h)
+running_on-is w (Claimed v) h = absurd (false≢true h)
+running_on-is w (Running v) h = ap Running (same_worker-is v w h)
+running_on-is w (Done v) h = absurd (false≢true h)
+
+pub claimed-is_mine : (w : Worker) → is_task_of w (Claimed w) ≡ true
+claimed-is_mine w = ap (λ b. b || false) (same_worker-refl w)
+
+-- a claimed task is its worker's
+pub claimed_by-task_of : (w : Worker) (x : Progress) → is_claimed_by w x ≡ true → is_task_of w x ≡ true
+claimed_by-task_of w x h = ap (is_task_of w) (claimed_by-is w x h) ∙ claimed-is_mine w
+
+pub claimed-task_of : (s : State) (t : Task) (w : Worker) → progress s t ≡ Claimed w → is_task_of w (progress s t) ≡ true
+claimed-task_of s t w claimed = ap (is_task_of w) claimed ∙ claimed-is_mine w
+
+pub task_of-worker : (v : Worker) (x : Progress) → is_task_of v x ≡ true → worker_of x ≡ v
+task_of-worker v x h = elim (or_cases (is_claimed_by v x) (is_running_on v x) h) [ inl claimed ↦ ap worker_of (claimed_by-is v x claimed) | inr running ↦ ap worker_of (running_on-is v x running) ]
+
+pub task_of-active : (v : Worker) (x : Progress) → is_task_of v x ≡ true → is_active x ≡ true
+task_of-active v x h = ap (λ (w : Worker). is_task_of w x) (task_of-worker v x h) ∙ h
+
+pub active-begun : (x : Progress) → is_active x ≡ true → is_begun x ≡ true
+active-begun Waiting h = h
+active-begun (Claimed v) h = refl
+active-begun (Running v) h = refl
+active-begun (Done v) h = refl
+
+pub done-begun : (x : Progress) → is_done x ≡ true → is_begun x ≡ true
+done-begun Waiting h = h
+done-begun (Claimed w) h = refl
+done-begun (Running w) h = refl
+done-begun (Done w) h = refl
+
+-- a worker without a task has none of the table
+pub idle-has_none : (s : State) (w : Worker) (t : Task) → is_idle s w ≡ true → is_task_of w (progress s t) ≡ false
+idle-has_none s w t h =
+    elim (cases_lt t.0 (length s.tasks)) [
+      | inl inside ↦ not-true (is_task_of w (progress s t)) (AllPass-from_list_all (λ (x : Progress). not (is_task_of w x)) s.tasks h t.0 Waiting inside)
+      | inr past ↦ ap (is_task_of w) (get_or_past s.tasks t.0 Waiting past)
+    ]
+
+-- ---- a task goes on
 
 -- one task's progress changes, and no other's
 pub record Advances (s s' : State) (t : Task) (old new : Progress) : Type 0 where
@@ -82,13 +128,7 @@ active_isn't_done (Done w) h = sym h
 -- where the earlier conflicting tasks of each begun task are done, no two active tasks conflict
 pub apart-from_earlier : (p : Program) (s : State) → ((t : Task) → IsTrue (is_begun (progress s t)) → EarlierAreDone p s t) → (t u : Task) → IsTrue (is_active (progress s t)) → IsTrue (is_active (progress s u)) → u.0 < t.0 → ¬ Conflict p u.0 t.0
 apart-from_earlier p s earlier t u at au before conflict =
-    true≢false (sym (earlier t (begun (progress s t) at) u before conflict) ∙ active_isn't_done (progress s u) au)
-  where
-    begun : (x : Progress) → is_active x ≡ true → is_begun x ≡ true
-    begun Waiting h = h
-    begun (Claimed v) h = refl
-    begun (Running v) h = refl
-    begun (Done v) h = refl
+    true≢false (sym (earlier t (active-begun (progress s t) at) u before conflict) ∙ active_isn't_done (progress s u) au)
 
 -- each begun task still has its earlier conflicting tasks done
 pub earlier-kept : (p : Program) (s s' : State) (t : Task) (old new : Progress) → Advances s s' t old new → is_done old ≡ false → EarlierAreDone p s t → ((u : Task) → IsTrue (is_begun (progress s u)) → EarlierAreDone p s u) → (u : Task) → IsTrue (is_begun (progress s' u)) → EarlierAreDone p s' u
@@ -119,21 +159,12 @@ commuting-kept p s s' t old new a active same before u v au av d h =
           | inr d ↦ ap worker_of (a.others k d)
         ]
 
-pub same_worker-refl : (w : Worker) → same_worker w w ≡ true
-same_worker-refl w = (Decides-eqb w.0 w.0).1 refl
-
-pub claimed_is_active : (w : Worker) → is_active (Claimed w) ≡ true
-claimed_is_active w = ap (λ b. b || false) (same_worker-refl w)
-
-pub running_is_active : (w : Worker) → is_active (Running w) ≡ true
-running_is_active w = same_worker-refl w
-
 -- a run keeps the order of conflicting tasks
 pub Runs-keeps_order : (p : Program) (m : Machine) (s : State) (t : Task) (w : Worker) (s' : State) → Runs p m s t w s' → OrderIsKept p s → OrderIsKept p s'
 Runs-keeps_order p m s t w s' r o =
     let a = Runs-advances p m s t w s' r in
     let earlier = earlier-kept p s s' t (Claimed w) (Running w) a refl r.earlier o.earlier in
-    record { earlier = earlier; apart = apart-from_earlier p s' earlier; commuting = commuting-kept p s s' t (Claimed w) (Running w) a (claimed_is_active w) refl o.commuting }
+    record { earlier = earlier; apart = apart-from_earlier p s' earlier; commuting = commuting-kept p s s' t (Claimed w) (Running w) a (claimed-is_mine w) refl o.commuting }
 
 -- an end keeps the order of conflicting tasks
 pub Ends-keeps_order : (p : Program) (m : Machine) (s : State) (t : Task) (w : Worker) (s' : State) → Ends p m s t w s' → OrderIsKept p s → OrderIsKept p s'
@@ -141,7 +172,7 @@ Ends-keeps_order p m s t w s' e o =
     let a = Ends-advances p m s t w s' e in
     let begun : is_begun (progress s t) ≡ true = ap is_begun e.running in
     let earlier = earlier-kept p s s' t (Running w) (Done w) a refl (o.earlier t begun) o.earlier in
-    record { earlier = earlier; apart = apart-from_earlier p s' earlier; commuting = commuting-kept p s s' t (Running w) (Done w) a (running_is_active w) refl o.commuting }
+    record { earlier = earlier; apart = apart-from_earlier p s' earlier; commuting = commuting-kept p s s' t (Running w) (Done w) a (same_worker-refl w) refl o.commuting }
 
 -- a claim keeps that the earlier conflicting tasks of each begun task are done
 pub Claims-keeps_earlier : (p : Program) (m : Machine) (s : State) (t : Task) (w : Worker) (s' : State) → HasRows p m s → Claims p m s t w s' → OrderIsKept p s → (u : Task) → IsTrue (is_begun (progress s' u)) → EarlierAreDone p s' u

@@ -1,29 +1,18 @@
 -- A move that ends leaves a coherent state.
-use Rattle.std.proofs.Common.{◌≡◌, ◌≢◌, ◌<◌, Bool, true, false, length, refl, sym, ap, ◌∙◌, subst, inl, inr, ◌⊎◌, Option, None, Some, arith}
-use Rattle.std.specs.Prelude.{IfSome}
-use Rattle.std.proofs.lemmas.Bool.{false≢true, true≢false}
+use Rattle.std.proofs.Common.{Bool, None, Option, Some, ap, arith, false, inl, inr, length, refl, subst, sym, true, ◌<◌, ◌∙◌, ◌≡◌, ◌≢◌, ◌⊎◌}
+use Rattle.std.proofs.lemmas.Bool.{false_from_ne_true, false≢true, true≢false}
 use Rattle.std.proofs.lemmas.List.{length-set}
-use Rattle.sj_base.specs.Array.{Array, zeros}
-use Rattle.sj_base.specs.declared.ids.Cell.{Cell}
-use Rattle.sj_base.specs.declared.ids.DiskNo.{DiskNo}
-use Rattle.sj_base.specs.declared.ids.Node.{Node}
-use Rattle.sj_base.specs.declared.ids.Worker.{Worker}
-use Rattle.sj_base.specs.declared.ids.Place.{Place}
-use Rattle.sj_base.specs.declared.ids.Place.TheVariants.{Node as AtNode, Disk as OnDisk}
-use Rattle.sj_base.specs.declared.program.Program.{Program}
-use Rattle.sj_base.specs.declared.program.Machine.{Machine}
-use Rattle.sj_core.specs.Program.{same_cell, dims_of}
-use Rattle.sj_core.specs.Needs.{node_of}
-use Rattle.sj_core.specs.declared.progress.Transfer.{Transfer}
-use Rattle.sj_core.specs.Machine.{State, Replica, Invalid, Coming, Valid, Leaving, cell_state, replica, writes, transfer, moves, array_of, is_valid, is_entry, is_leaving_by, is_coming_by, with_replica, with_replica_in, with_transfer}
-use Rattle.sj_core.specs.Step.{EndsMove, a_transfer, array_at, disk_of}
-use Rattle.sj_core.specs.Coherent.{HasBlocks, IsOwnedBy, IsTransferTo, TransfersAreSound, CopiesAgree, Coherent, content}
+use Rattle.std.specs.Prelude.{IfSome}
+use Rattle.sj_core.proofs.Words.{Array, AtNode, Cell, Coming, DiskNo, Invalid, Leaving, Machine, Node, OnDisk, Place, Program, Replica, State, Task, Transfer, Valid, Worker, array_of, cell_state, dims_of, is_claimed_by, is_coming_by, is_entry, is_leaving_by, is_valid, moves, node_of, progress, replica, same_cell, transfer, with_replica, with_replica_in, with_transfer, writes, zeros}
+use Rattle.sj_core.specs.Coherent.{Coherent, CopiesAgree, HasBlocks, IsOwnedBy, IsTransferTo, TransfersAreSound, content}
 use Rattle.sj_core.specs.Laws.{IsSound}
-use Rattle.sj_core.proofs.Workers.{transfer-inside}
-use Rattle.sj_core.proofs.Holding.{not_true}
+use Rattle.sj_core.specs.Step.{EndsMove, a_transfer, array_at, disk_of}
+use Rattle.sj_core.proofs.Advancing.{claimed_by-is}
 use Rattle.sj_core.proofs.CellLists.{same_cell-refl}
-use Rattle.sj_core.proofs.Claimed.{value-is}
-use Rattle.sj_core.proofs.Placing.{replica-cases, writes-same, nodes-kept, disks-kept, pins-same, scratch-same, victims-same, transfer-cases, transfer-own, coming_by-one}
+use Rattle.sj_core.proofs.Finding.{array-told}
+use Rattle.sj_core.proofs.Placing.{disks-kept, nodes-kept, pins-same, replica-cases, scratch-same, transfer-cases, transfer-own, victims-same, writes-same}
+use Rattle.sj_core.proofs.Reading.{transfer-inside}
+use Rattle.sj_core.proofs.Replicas.{coming_by-is, coming_by-one}
 use Rattle.sj_core.proofs.Shifting.{Shifts, Shifts-coherent}
 
 module _ (p : Program) (m : Machine) (s : State) (h : IsSound p m s) (c : Cell) (from to : Place) (w : Worker) (s' : State) (moved : EndsMove p s c from to w s') where
@@ -61,14 +50,8 @@ module _ (p : Program) (m : Machine) (s : State) (h : IsSound p m s) (c : Cell) 
   entries : (x : Cell) (k : Node) → is_entry (replica after x (AtNode k)) ≡ is_entry (replica s x (AtNode k))
   entries x k = elim (cases x (AtNode k)) [
     | inl same ↦ ap is_entry same
-    | inr (e, at, is) ↦ ap is_entry is ∙ sym (ap (λ (y : Cell). is_entry (replica s y (AtNode k))) e ∙ coming-entry (replica s c (AtNode k)) (came k at))
+    | inr (e, at, is) ↦ ap is_entry is ∙ sym (ap (λ (y : Cell). is_entry (replica s y (AtNode k))) e ∙ ap is_entry (coming_by-is w (replica s c (AtNode k)) (came k at)))
   ]
-    where
-      coming-entry : (r : Replica) → is_coming_by w r ≡ true → is_entry r ≡ true
-      coming-entry Invalid h = h
-      coming-entry (Coming v) h = refl
-      coming-entry (Valid a) h = refl
-      coming-entry (Leaving v a) h = h
 
   leaves : (v : Worker) (x : Cell) (q : Place) → is_leaving_by v (replica after x q) ≡ true → is_leaving_by v (replica s x q) ≡ true
   leaves v x q leaving = elim (cases x q) [ inl same ↦ sym (ap (is_leaving_by v) same) ∙ leaving | inr (e, at, is) ↦ absurd (false≢true (sym (ap (is_leaving_by v) is) ∙ leaving)) ]
@@ -115,20 +98,14 @@ module _ (p : Program) (m : Machine) (s : State) (h : IsSound p m s) (c : Cell) 
     where
       -- what leaves at a place isn't brought there
       hollow : (v : Worker) (x : Cell) (q : Place) → x ≡ c → q ≡ to → is_leaving_by v (replica s x q) ≡ true → ⊥
-      hollow v x (AtNode k) e at leaving = apart v (replica s c (AtNode k)) (came k at) (ap (λ (y : Cell). is_leaving_by v (replica s y (AtNode k))) (sym e) ∙ leaving)
-        where
-          apart : (v : Worker) (r : Replica) → is_coming_by w r ≡ true → is_leaving_by v r ≡ true → ⊥
-          apart v Invalid hc hl = false≢true hc
-          apart v (Coming u) hc hl = false≢true hl
-          apart v (Valid a) hc hl = false≢true hc
-          apart v (Leaving u a) hc hl = false≢true hc
+      hollow v x (AtNode k) e at leaving = false≢true (sym (ap (is_leaving_by v) (coming_by-is w (replica s c (AtNode k)) (came k at))) ∙ ap (λ (y : Cell). is_leaving_by v (replica s y (AtNode k))) (sym e) ∙ leaving)
       hollow v x (OnDisk d) e at leaving = false≢true (sym (ap (is_leaving_by v) (was_invalid d at)) ∙ ap (λ (y : Cell). is_leaving_by v (replica s y (OnDisk d))) (sym e) ∙ leaving)
 
       still_leaves : (v : Worker) (x : Cell) (q : Place) → is_leaving_by v (replica s x q) ≡ true → is_leaving_by v (replica after x q) ≡ true
       still_leaves v x q leaving = elim (cases x q) [ inl same ↦ ap (is_leaving_by v) same ∙ leaving | inr (e, at, is) ↦ absurd (hollow v x q e at leaving) ]
 
       to_place : (v : Worker) (x : Cell) (from' to' : Place) → v ≢ w → ((d : DiskNo) → to' ≡ OnDisk d → x ≡ c → OnDisk d ≡ to → ⊥) → IsTransferTo m s v x from' to' → IsTransferTo m after v x from' to'
-      to_place v x from' (AtNode k) other alone target = (target.0, others_come v x k other target.1, λ y q. not_true (is_leaving_by v (replica after y q)) (λ leaving. false≢true (sym (target.2 y q) ∙ leaves v y q leaving)))
+      to_place v x from' (AtNode k) other alone target = (target.0, others_come v x k other target.1, λ y q. false_from_ne_true (is_leaving_by v (replica after y q)) (λ leaving. false≢true (sym (target.2 y q) ∙ leaves v y q leaving)))
       to_place v x from' (OnDisk d) other alone target = (still_leaves v x from' target.0, elim (cases x (OnDisk d)) [ inl stays ↦ stays ∙ target.1 | inr (e, at, is) ↦ absurd (alone d refl e at) ])
 
   blocks : HasBlocks p m after
@@ -141,7 +118,7 @@ module _ (p : Program) (m : Machine) (s : State) (h : IsSound p m s) (c : Cell) 
         ];
         home = λ x d valid. elim (cases x (OnDisk d)) [
           | inl same ↦ before.home x d (sym (ap is_valid same) ∙ valid)
-          | inr (e, at, is) ↦ before.aimed w ending d moved.under_way (sym at) ∙ ap (disk_of p m) (sym e)
+          | inr (e, at, is) ↦ ap (disk_of p m) e ∙ before.aimed w ending d moved.under_way (sym at)
         ];
         aimed = λ v x d under_way. before.aimed v x d (others v x under_way).1;
       }
@@ -156,7 +133,7 @@ module _ (p : Program) (m : Machine) (s : State) (h : IsSound p m s) (c : Cell) 
           | inl same ↦ subst (λ (r : Replica). IfSome (array_of r) (λ a. a ≡ content p s x)) (sym same) (before.alike x q (positive x some) unwritten)
           | inr (e, at, is) ↦
               let here = before.alike x from (positive x some) unwritten in
-              let holds : brought ≡ content p s x = value-is (array_of (replica s c from)) (content p s x) (zeros (dims_of p c)) (h.coherent.transfers.source w ending moved.under_way) (subst (λ (y : Cell). IfSome (array_of (replica s y from)) (λ a. a ≡ content p s x)) e here) in
+              let holds : brought ≡ content p s x = array-told (array_of (replica s c from)) (content p s x) (zeros (dims_of p c)) (h.coherent.transfers.source w ending moved.under_way) (subst (λ (y : Cell). IfSome (array_of (replica s y from)) (λ a. a ≡ content p s x)) e here) in
               subst (λ (r : Replica). IfSome (array_of r) (λ a. a ≡ content p s x)) (sym is) holds
         ];
       }
@@ -197,5 +174,8 @@ module _ (p : Program) (m : Machine) (s : State) (h : IsSound p m s) (c : Cell) 
     copies = copies;
   }
 
+  claims : (t : Task) × (is_claimed_by w (progress s t) ≡ true)
+  claims = h.coherent.workers.moves_for_claim w ending moved.under_way
+
   pub Ended_moves-keep_coherence : Coherent p m s'
-  Ended_moves-keep_coherence = subst (λ (z : State). Coherent p m z) (sym moved.leaves) (Shifts-coherent p m s h after.cells after.workers shift)
+  Ended_moves-keep_coherence = subst (λ (z : State). Coherent p m z) (sym moved.leaves) (Shifts-coherent p m s h claims.0 w (claimed_by-is w (progress s claims.0) claims.1) after.cells after.workers shift)

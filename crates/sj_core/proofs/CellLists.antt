@@ -1,26 +1,21 @@
 -- Lists of cells: which cells an edited list has, how often, and the sum over a list that has each at most once.
-use Rattle.std.proofs.Common.{◌≡◌, ℕ, zero, suc, ◌+◌, ◌<◌, ◌≤◌, Bool, true, false, not, ◌&&◌, ◌||◌, cond, List, [], ◌∷◌, ◌++◌, map, length, refl, sym, ap, ◌∙◌, inl, inr, arith}
-use Rattle.std.specs.Prelude.{fold, sum_by, count_by, if◌then◌else◌}
-use Rattle.std.specs.List.{filter, range_with_len}
-use Rattle.std.proofs.lemmas.Bool.{cases_eq, false≢true, and_parts, and_from}
+use Rattle.std.proofs.Common.{Bool, List, [], ap, arith, cond, false, get_or, length, not, refl, set, subst, sym, true, ℕ, ◌&&◌, ◌++◌, ◌+◌, ◌<◌, ◌||◌, ◌∙◌, ◌∷◌, ◌≡◌, ◌≤◌}
+use Rattle.std.proofs.lemmas.Bool.{and_from, and_parts, false_from_ne_true, false≢true, or_right, le-leb, lt-ltb}
 use Rattle.std.proofs.lemmas.Bool.Decides.{Decides-eqb}
-use Rattle.std.proofs.lemmas.List.Sums.{sum_by-cons, sum_by-append}
-use Rattle.sj_base.specs.declared.ids.Cell.{Cell}
-use Rattle.sj_base.specs.declared.program.Program.{Program}
-use Rattle.sj_core.specs.Program.{same_cell, has_cell, distinct, cells_of_program}
+use Rattle.std.proofs.lemmas.List.{ext_get_or, get_or-set_other, get_or-set_same, length-set}
+use Rattle.std.proofs.lemmas.List.Sums.{sum_by-append, sum_by-cons}
+use Rattle.std.specs.List.{filter}
+use Rattle.std.specs.Prelude.{count_by, fold, if◌then◌else◌, sum_by, nat_le, nat_lt}
+use Rattle.sj_core.proofs.Words.{Cell, Program, cells_of_program, distinct, has_cell, same_cell}
 use Rattle.sj_core.specs.Step.{to_front, without}
+use Rattle.sj_core.specs.Table.{renewed}
 use Rattle.sj_core.proofs.Reading.{same_cell-is}
-use Rattle.sj_core.proofs.Holding.{not_true}
-use Rattle.sj_core.proofs.Claiming.{has_cell-filter, filter-has_cell, has_cell-distinct}
-use Rattle.sj_core.proofs.Sums.{tally}
+use Rattle.sj_core.proofs.Sums.{tally, filter-sum-le, count-numbered, sum-plus, same_test}
+use Rattle.sj_core.proofs.Tables.{length-renewed, renewed-at}
+use Rattle.std.proofs.lemmas.Map.Views.{any-filter_same}
+use Rattle.std.proofs.lemmas.List.Folds.{list_any-append}
 
 -- ---- tests
-
--- two tests that imply each other are one
-pub same_test : (a b : Bool) → (a ≡ true → b ≡ true) → (b ≡ true → a ≡ true) → a ≡ b
-same_test true b f g = sym (f refl)
-same_test false true f g = g refl
-same_test false false f g = refl
 
 pub same_cell-refl : (c : Cell) → same_cell c c ≡ true
 same_cell-refl c = (Decides-eqb c.0 c.0).1 refl
@@ -33,11 +28,36 @@ same_cell-sym c d = same_test (same_cell c d) (same_cell d c) (λ h. same_cell-f
 
 -- ---- which cells a list has
 
+pub has_cell-append : (xs ys : List Cell) (c : Cell) → has_cell ys c ≡ true → has_cell (xs ++ ys) c ≡ true
+has_cell-append xs ys c h = list_any-append (λ d. same_cell d c) xs ys ∙ or_right (has_cell xs c) (has_cell ys c) h
+
 pub has_cell-filter_is : (f : Cell → Bool) (xs : List Cell) (c : Cell) → has_cell (filter f xs) c ≡ (f c && has_cell xs c)
-has_cell-filter_is f xs c =
-    same_test (has_cell (filter f xs) c) (f c && has_cell xs c)
-    (λ h. let both = has_cell-filter f xs c h in and_from (f c) (has_cell xs c) both.0 both.1)
-    (λ h. (let both = and_parts (f c) (has_cell xs c) h in filter-has_cell f xs c both.0 both.1))
+has_cell-filter_is f xs c = any-filter_same (λ d. same_cell d c) f (f c) (λ d same. ap f (same_cell-is d c same)) xs
+
+-- a cell that a filter keeps passes its test, and was in the list; and a cell of the list that passes is kept
+pub has_cell-filter : (f : Cell → Bool) (xs : List Cell) (c : Cell) → has_cell (filter f xs) c ≡ true → (f c ≡ true) × (has_cell xs c ≡ true)
+has_cell-filter f xs c h = and_parts (f c) (has_cell xs c) (sym (has_cell-filter_is f xs c) ∙ h)
+
+pub filter-has_cell : (f : Cell → Bool) (xs : List Cell) (c : Cell) → f c ≡ true → has_cell xs c ≡ true → has_cell (filter f xs) c ≡ true
+filter-has_cell f xs c passes h = has_cell-filter_is f xs c ∙ and_from (f c) (has_cell xs c) passes h
+
+-- a list without its repetitions has the same cells
+pub has_cell-distinct : (xs : List Cell) (c : Cell) → has_cell (distinct xs) c ≡ has_cell xs c
+has_cell-distinct [] c = refl
+has_cell-distinct (x ∷ xs) c = by_cases (has_cell xs x) refl (has_cell-distinct xs c)
+  where
+    repeated : (b : Bool) → same_cell x c ≡ b → has_cell xs x ≡ true → has_cell xs c ≡ (b || has_cell xs c)
+    repeated true same again = ap (has_cell xs) (sym (same_cell-is x c same)) ∙ again
+    repeated false same again = refl
+
+    by_cases : (b : Bool) → has_cell xs x ≡ b → has_cell (distinct xs) c ≡ has_cell xs c → has_cell (if b then distinct xs else x ∷ distinct xs) c ≡ (same_cell x c || has_cell xs c)
+    by_cases true again rest = rest ∙ repeated (same_cell x c) refl again
+    by_cases false once rest = ap (λ b. same_cell x c || b) rest
+
+-- the first of a list that has one, read with any default
+pub has_cell-head : (xs : List Cell) (d : Cell) → 0 < length xs → has_cell xs (get_or xs 0 d) ≡ true
+has_cell-head [] d some = absurd (omega arith)
+has_cell-head (x ∷ xs) d some = ap (λ b. b || has_cell xs x) (same_cell-refl x)
 
 pub has_cell-to_front : (xs : List Cell) (d c : Cell) → has_cell (to_front xs d) c ≡ (same_cell d c || has_cell xs c)
 has_cell-to_front xs d c = by_cases (same_cell d c) refl
@@ -72,12 +92,7 @@ pub times-append : (xs ys : List Cell) (c : Cell) → times (xs ++ ys) c ≡ tim
 times-append xs ys c = sum_by-append (λ d. tally (same_cell d c)) xs ys
 
 pub times-filter : (f : Cell → Bool) (xs : List Cell) (c : Cell) → times (filter f xs) c ≤ times xs c
-times-filter f [] c = omega arith
-times-filter f (x ∷ xs) c = by_cases (f x) (times-filter f xs c)
-  where
-    by_cases : (b : Bool) → times (filter f xs) c ≤ times xs c → times (cond b (x ∷ filter f xs) (filter f xs)) c ≤ times (x ∷ xs) c
-    by_cases true rest = let a = times-cons x (filter f xs) c in let b = times-cons x xs c in omega arith
-    by_cases false rest = let b = times-cons x xs c in omega arith
+times-filter f xs c = filter-sum-le (λ d. tally (same_cell d c)) f xs
 
 pub times-none : (xs : List Cell) (c : Cell) → has_cell xs c ≡ false → times xs c ≡ 0
 times-none [] c h = refl
@@ -135,37 +150,49 @@ times-distinct (x ∷ xs) c = by_cases (has_cell xs x) refl (times-distinct xs c
     by_cases true again rest = rest
     by_cases false new rest = first (same_cell x c) refl new rest
 
+-- ---- rows written one after another
+
+-- the row, written where it is chosen
+abbrev written_if : {X : Type 0} → (Cell → X → X) → Bool → Cell → X → X
+written_if f b c row = if b then f c row else row
+
+-- rows that are written one after another, each once, are the rows all written at once
+pub cells-written : {X : Type 0} (f : Cell → X → X) (d : X) (cs : List Cell) (rows : List X) → ((c : Cell) → times cs c ≤ 1) → fold (λ ys c. set ys c.0 (f c (get_or ys c.0 d))) rows cs ≡ renewed (λ k row. let c : Cell = record { 0 = k } in if has_cell cs c then f c row else row) rows
+cells-written f d [] rows once = ext_get_or d rows (renewed (λ k row. row) rows) (sym (length-renewed (λ k row. row) rows)) (λ i inside. sym (renewed-at (λ k row. row) rows i d inside))
+cells-written {X} f d (c ∷ cs) rows once =
+    let now : List X = set rows c.0 (f c (get_or rows c.0 d)) in
+    let later : ℕ → X → X = λ k row. let e : Cell = record { 0 = k } in if has_cell cs e then f e row else row in
+    let all : ℕ → X → X = λ k row. let e : Cell = record { 0 = k } in if same_cell c e || has_cell cs e then f e row else row in
+    let same_length : length now ≡ length rows = length-set rows c.0 (f c (get_or rows c.0 d)) in
+    cells-written f d cs now (λ e. (let o = once e in let t = times-cons c cs e in omega arith))
+    ∙ ext_get_or d (renewed later now) (renewed all rows) (length-renewed later now ∙ same_length ∙ sym (length-renewed all rows)) (λ i inside.
+    (let within : i < length now = omega (arith, inside, length-renewed later now) in
+    let before : i < length rows = omega (arith, within, same_length) in
+    renewed-at later now i d within ∙ at_row i (same_cell c (record { 0 = i })) refl before ∙ sym (renewed-at all rows i d before)))
+  where
+    new : has_cell cs c ≡ false
+    new = false_from_ne_true (has_cell cs c) (λ h. (let o = once c in let t = times-cons c cs c in let one : tally (same_cell c c) ≡ 1 = ap tally (same_cell-refl c) in let more = times-has cs c h in omega arith))
+
+    at_row : (i : ℕ) (b : Bool) → same_cell c (record { 0 = i }) ≡ b → i < length rows →
+        (let e : Cell = record { 0 = i } in written_if f (has_cell cs e) e (get_or (set rows c.0 (f c (get_or rows c.0 d))) i d)) ≡ (let e : Cell = record { 0 = i } in written_if f (same_cell c e || has_cell cs e) e (get_or rows i d))
+    at_row i true e inside =
+        let n : Cell = record { 0 = i } in
+        let is : c ≡ n = same_cell-is c n e in
+        let here : c.0 < length rows = subst (λ (k : Cell). k.0 < length rows) (sym is) inside in
+        let row : X = f c (get_or rows c.0 d) in
+        ap (λ b. written_if f b n (get_or (set rows c.0 row) i d)) (ap (has_cell cs) (sym is) ∙ new)
+        ∙ ap (λ (k : Cell). get_or (set rows c.0 row) k.0 d) (sym is) ∙ get_or-set_same rows c.0 row d here
+        ∙ ap (λ (k : Cell). f k (get_or rows k.0 d)) is
+        ∙ sym (ap (λ b. written_if f (b || has_cell cs n) n (get_or rows i d)) e)
+    at_row i false e inside =
+        let n : Cell = record { 0 = i } in
+        ap (written_if f (has_cell cs n) n) (get_or-set_other rows c.0 i (f c (get_or rows c.0 d)) d (λ k. false≢true (sym e ∙ same_cell-from c n (ap (λ (j : ℕ). let m : Cell = record { 0 = j } in m) (sym k)))))
+        ∙ sym (ap (λ b. written_if f (b || has_cell cs n) n (get_or rows i d)) e)
+
 -- ---- a program has each of its cells once
 
-abbrev number : ℕ → Cell
-number n = record { 0 = n }
-
-times-before : (a n : ℕ) (c : Cell) → c.0 < a → times (map number (range_with_len a n)) c ≡ 0
-times-before a zero c h = refl
-times-before a (suc n) c h =
-    let other : same_cell (number a) c ≡ false = not_true (same_cell (number a) c) (λ e. (let k : a ≡ c.0 = ap (λ (d : Cell). d.0) (same_cell-is (number a) c e) in omega arith)) in
-    let first = times-cons (number a) (map number (range_with_len (a + 1) n)) c in
-    let here : tally (same_cell (number a) c) ≡ 0 = ap tally other in
-    let later = times-before (a + 1) n c (omega arith) in
-    omega arith
-
-times-range : (a n : ℕ) (c : Cell) → a ≤ c.0 → c.0 < a + n → times (map number (range_with_len a n)) c ≡ 1
-times-range a zero c low high = absurd (omega arith)
-times-range a (suc n) c low high =
-    let first = times-cons (number a) (map number (range_with_len (a + 1) n)) c in
-    elim (cases_eq a c.0) [
-      | inl e ↦
-          let here : tally (same_cell (number a) c) ≡ 1 = ap tally ((Decides-eqb a c.0).1 e) in
-          let later = times-before (a + 1) n c (omega arith) in
-          omega arith
-      | inr d ↦
-          let other : tally (same_cell (number a) c) ≡ 0 = ap tally (not_true (same_cell (number a) c) (λ e. d (ap (λ (k : Cell). k.0) (same_cell-is (number a) c e)))) in
-          let later = times-range (a + 1) n c (omega arith) (omega arith) in
-          omega arith
-    ]
-
 pub times-program : (p : Program) (c : Cell) → c.0 < length p.cells → times (cells_of_program p) c ≡ 1
-times-program p c h = times-range 0 (length p.cells) c (omega arith) (omega arith)
+times-program p c h = count-numbered (λ n. record { 0 = n }) (λ d. same_cell d c) c.0 (λ i. refl) 0 (length p.cells) ∙ ap tally (and_from (nat_le 0 c.0) (nat_lt c.0 (0 + length p.cells)) (le-leb 0 c.0 (omega arith)) (lt-ltb c.0 (0 + length p.cells) (omega arith)))
 
 -- ---- the sum over a list that has each cell at most once
 
@@ -220,22 +247,8 @@ sum-once f all (x ∷ xs) inside once =
     let split = sum-plus (share f (has_cell (x ∷ xs))) (share f (same_cell x)) (share f (has_cell xs)) apart all in
     omega arith
   where
-    or_right : (a b : Bool) → b ≡ true → (a || b) ≡ true
-    or_right true b h = refl
-    or_right false b h = h
-
-    sum-plus : (h g k : Cell → ℕ) → ((c : Cell) → h c ≡ g c + k c) → (ys : List Cell) → sum_by h ys ≡ sum_by g ys + sum_by k ys
-    sum-plus h g k same [] = refl
-    sum-plus h g k same (y ∷ ys) =
-        let a = sum_by-cons h y ys in
-        let b = sum_by-cons g y ys in
-        let c = sum_by-cons k y ys in
-        let here = same y in
-        let later = sum-plus h g k same ys in
-        omega arith
-
     new : has_cell xs x ≡ false
-    new = not_true (has_cell xs x) (λ h. (let o = once x in let t = times-cons x xs x in let one : tally (same_cell x x) ≡ 1 = ap tally (same_cell-refl x) in let more = times-has xs x h in omega arith))
+    new = false_from_ne_true (has_cell xs x) (λ h. (let o = once x in let t = times-cons x xs x in let one : tally (same_cell x x) ≡ 1 = ap tally (same_cell-refl x) in let more = times-has xs x h in omega arith))
 
     apart : (c : Cell) → share f (has_cell (x ∷ xs)) c ≡ share f (same_cell x) c + share f (has_cell xs) c
     apart c = by_cases (same_cell x c) refl

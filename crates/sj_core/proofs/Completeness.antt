@@ -1,48 +1,21 @@
 -- A task's codelet has a new array for each operand that the task writes.
+use Rattle.sj_codelet.proofs.Table.{new_arrays-count}
+use Rattle.sj_codelet.specs.Formal.{is_output}
+use Rattle.sj_codelet.specs.declared.formal.Formal.{Formal}
+use Rattle.sj_codelet.specs.declared.formal.Formal.TheVariants.{R as ReadFormal, W as WriteFormal, RW as UpdateFormal, Scratch as ScratchFormal}
 use Rattle.std.proofs.Common.{◌≡◌, ◌+◌, Bool, true, false, cond, List, [], ◌∷◌, map, length, refl, sym, ap, ◌∙◌, None, Some, Option}
 use Rattle.std.specs.Prelude.{ℤ, count_by, if◌then◌else◌}
 use Rattle.std.specs.List.{filter}
 use Rattle.std.proofs.lemmas.List.{length-map}
 use Rattle.std.proofs.lemmas.List.Sums.{length-filter, sum_by-cons}
-use Rattle.sj_base.specs.declared.ids.Cell.{Cell}
-use Rattle.sj_base.specs.declared.ids.Task.{Task}
-use Rattle.sj_base.specs.declared.ids.Worker.{Worker}
+use Rattle.sj_core.proofs.Words.{Array, Cell, Program, Task, Worker, results, task_of, worked_on, written_cells, found}
 use Rattle.sj_base.specs.declared.mode.Mode.{Mode}
 use Rattle.sj_base.specs.declared.mode.Mode.TheVariants.{W, Redux, Commute}
 use Rattle.sj_base.specs.declared.mode.Access.{Access}
-use Rattle.sj_base.specs.declared.program.Program.{Program}
-use Rattle.sj_base.specs.Array.{Array}
 use Rattle.sj_codelet.specs.declared.kernel.Kernel.{Kernel}
-use Rattle.sj_codelet.specs.declared.kernel.Kernel.TheVariants.{Fill, Copy, Scale, Add, Axpy, Butterfly, Gemm, GemmThree, Transpose, Dot, Sum, Lowest, MinGemm, FwDiag, FwRow, FwCol, Load, LoadFill, Paste, Deliver, InitPlus, InitLeast}
-use Rattle.sj_codelet.specs.Kernel.{new_arrays}
-use Rattle.sj_core.specs.Program.{is_written, task_of}
-use Rattle.sj_core.specs.Operands.{worked_on, written_cells, results, found}
-use Rattle.sj_core.specs.Proper.{Fits, MayHaveModes, Own, FirstPaste, Commuting, Contributing, own_modes, modes_writing_by}
-
--- a kernel has a new array for each of its own operands that is written
-new_arrays-count : (k : Kernel) (args : List ℤ) (ins : List Array) → length (new_arrays k args ins) ≡ count_by is_written (own_modes k)
-new_arrays-count Fill args ins = refl
-new_arrays-count Copy args ins = refl
-new_arrays-count Scale args ins = refl
-new_arrays-count Add args ins = refl
-new_arrays-count Axpy args ins = refl
-new_arrays-count Butterfly args ins = refl
-new_arrays-count Gemm args ins = refl
-new_arrays-count GemmThree args ins = refl
-new_arrays-count Transpose args ins = refl
-new_arrays-count Dot args ins = refl
-new_arrays-count Sum args ins = refl
-new_arrays-count Lowest args ins = refl
-new_arrays-count MinGemm args ins = refl
-new_arrays-count FwDiag args ins = refl
-new_arrays-count FwRow args ins = refl
-new_arrays-count FwCol args ins = refl
-new_arrays-count Load args ins = refl
-new_arrays-count LoadFill args ins = refl
-new_arrays-count Paste args ins = refl
-new_arrays-count Deliver args ins = refl
-new_arrays-count InitPlus args ins = refl
-new_arrays-count InitLeast args ins = refl
+use Rattle.sj_codelet.specs.Kernel.{new_arrays, formals_of}
+use Rattle.sj_base.specs.Mode.{is_written}
+use Rattle.sj_core.specs.Proper.{Fits, MayHaveModes, Own, FirstPaste, Commuting, Contributing, own_modes, modes_writing_by, mode_of}
 
 -- a test counts as many after a map under which it answers the same
 count_by-map : {X Y : Type 0} (f : X → Y) (test : Y → Bool) (test' : X → Bool) (xs : List X) → ((x : X) → test (f x) ≡ test' x) → count_by test (map f xs) ≡ count_by test' xs
@@ -52,6 +25,16 @@ count_by-map f test test' (x ∷ xs) same =
     ∙ ap (λ b. cond b 1 0 + count_by test (map f xs)) (same x)
     ∙ ap (λ n. cond (test' x) 1 0 + n) (count_by-map f test test' xs same)
     ∙ sym (sum_by-cons (λ y. cond (test' y) 1 0) x xs)
+
+-- a kernel has a new array for each of its own operands that is written
+own-count : (k : Kernel) (args : List ℤ) (ins : List Array) → length (new_arrays k args ins) ≡ count_by is_written (own_modes k)
+own-count k args ins = new_arrays-count k args ins ∙ length-filter is_output (formals_of k) ∙ sym (count_by-map mode_of is_written is_output (formals_of k) by_formal)
+  where
+    by_formal : (f : Formal) → is_written (mode_of f) ≡ is_output f
+    by_formal ReadFormal = refl
+    by_formal WriteFormal = refl
+    by_formal UpdateFormal = refl
+    by_formal ScratchFormal = refl
 
 -- another mode for what is written is as many written operands
 writing_by-count : (x : Mode) → is_written x ≡ true → (k : Kernel) → count_by is_written (modes_writing_by x k) ≡ count_by is_written (own_modes k)
@@ -74,7 +57,7 @@ results-complete p t w held fit =
     let ins : List Array = map (found p w held) l.accesses in
     let writes : Access → Bool = λ a. is_written a.mode in
     ap (λ (o : Option Kernel). length (elim o as (λ _. List Array) [ None ↦ [] | Some k ↦ new_arrays k l.args ins ])) fit.codelet
-    ∙ new_arrays-count fit.kernel l.args ins
+    ∙ own-count fit.kernel l.args ins
     ∙ sym (modes-count fit.kernel (map (λ (a : Access). a.mode) l.accesses) fit.modes)
     ∙ count_by-map (λ (a : Access). a.mode) is_written writes l.accesses (λ a. refl)
     ∙ sym (length-filter writes l.accesses)

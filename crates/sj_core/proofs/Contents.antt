@@ -1,36 +1,25 @@
--- What cells ought to hold after a claim, a run and an end: their contents before, and the results of the task that ends.
-use Rattle.std.proofs.Common.{◌≡◌, ◌<◌, true, false, List, length, refl, sym, ap, ◌∙◌, inl, inr, arith}
-use Rattle.std.specs.List.{zip}
+-- What cells ought to hold after a step: their contents before, and the results of the task that ends.
+use Rattle.std.proofs.Common.{List, ap, arith, false, inl, inr, length, sym, true, ◌<◌, ◌∙◌, ◌≡◌}
 use Rattle.std.proofs.lemmas.Bool.{false≢true}
-use Rattle.sj_base.specs.declared.ids.Cell.{Cell}
-use Rattle.sj_base.specs.declared.ids.Task.{Task}
-use Rattle.sj_base.specs.declared.ids.Worker.{Worker}
-use Rattle.sj_base.specs.declared.ids.Place.TheVariants.{Node as AtNode}
-use Rattle.sj_base.specs.declared.program.Program.{Program}
-use Rattle.sj_base.specs.declared.program.Machine.{Machine}
-use Rattle.sj_base.specs.Array.{Array, zeros}
-use Rattle.sj_core.specs.Program.{has_cell, dims_of, no_task}
-use Rattle.sj_core.specs.Needs.{node_of}
-use Rattle.sj_core.specs.declared.progress.Progress.{Progress}
-use Rattle.sj_core.specs.declared.progress.Progress.TheVariants.{Waiting, Claimed, Running, Done}
+use Rattle.std.specs.List.{zip}
+use Rattle.sj_core.proofs.Words.{Array, AtNode, Cell, Machine, Program, Progress, Running, State, Task, Waiting, Worker, dims_of, done_by, done_in, has_cell, is_done, is_task_of, no_task, node_of, progress, results, worker_of, writes, written_cells, zeros}
 use Rattle.sj_deps.specs.Conflict.{Conflict, HasDependencies}
-use Rattle.sj_core.specs.Operands.{written_cells, results}
-use Rattle.sj_core.specs.Fold.{Contents, held_in, after_task, after_chosen}
-use Rattle.sj_core.specs.Machine.{State, progress, is_done, is_task_of, worker_of, done_in, done_by}
-use Rattle.sj_core.specs.Step.{Claims, Runs, Ends, array_at, result_at}
-use Rattle.sj_core.specs.Proper.{Proper}
-use Rattle.sj_core.specs.Coherent.{Coherent, HasRows, OrderIsKept, content, is_begun}
+use Rattle.sj_core.specs.Coherent.{Coherent, OrderIsKept, content}
+use Rattle.sj_core.specs.Fold.{Contents, after_chosen, after_task, held_in}
 use Rattle.sj_core.specs.Laws.{HasPlainModes}
-use Rattle.sj_core.proofs.Advancing.{Advances, Claims-advances, Runs-advances, Ends-advances, same_task, same_worker-refl}
+use Rattle.sj_core.specs.Proper.{Proper}
+use Rattle.sj_core.specs.Step.{Ends, array_at, result_at}
+use Rattle.sj_core.proofs.Advancing.{Advances, Ends-advances, done-begun, same_task}
 use Rattle.sj_core.proofs.Completeness.{results-complete}
 use Rattle.sj_core.proofs.Finding.{finds-content, read-cell}
 use Rattle.sj_core.proofs.Folding.{AddsTask, after_chosen-same, after_task-other, held-append, held_over, held_over-own, results-same}
 use Rattle.sj_core.proofs.PlainModes.{inserted, worked_on-plain}
 use Rattle.sj_core.proofs.Reading.{progress-inside}
+use Rattle.sj_core.proofs.Replicas.{same_worker-refl}
 
 -- ---- where no task more is done
 
-content-kept : (p : Program) (s s' : State) (t : Task) (old new : Progress) → Advances s s' t old new → is_done old ≡ false → is_done new ≡ false → (c : Cell) → content p s' c ≡ content p s c
+pub content-kept : (p : Program) (s s' : State) (t : Task) (old new : Progress) → Advances s s' t old new → is_done old ≡ false → is_done new ≡ false → (c : Cell) → content p s' c ≡ content p s c
 content-kept p s s' t old new a was is c = ap (λ (k : Contents). held_in p k c) (after_chosen-same p (done_in s') (done_in s) (done_by s') (done_by s) (length p.tasks) (λ u h. same u) (λ u h. workers u))
   where
     same : (u : Task) → done_in s' u ≡ done_in s u
@@ -47,21 +36,7 @@ content-kept p s s' t old new a was is c = ap (λ (k : Contents). held_in p k c)
           | inr d ↦ ap worker_of (a.others u d)
         ]
 
--- a claim leaves each cell's content
-pub Claims-content : (p : Program) (m : Machine) (s : State) (t : Task) (w : Worker) (s' : State) → HasRows p m s → Claims p m s t w s' → (c : Cell) → content p s' c ≡ content p s c
-Claims-content p m s t w s' rows claim = content-kept p s s' t Waiting (Claimed w) (Claims-advances p m s t w s' rows claim) refl refl
-
--- and so does a run
-pub Runs-content : (p : Program) (m : Machine) (s : State) (t : Task) (w : Worker) (s' : State) → Runs p m s t w s' → (c : Cell) → content p s' c ≡ content p s c
-Runs-content p m s t w s' run = content-kept p s s' t (Claimed w) (Running w) (Runs-advances p m s t w s' run) refl refl
-
 -- ---- an end
-
-pub done-begun : (x : Progress) → is_done x ≡ true → is_begun x ≡ true
-done-begun Waiting h = h
-done-begun (Claimed w) h = refl
-done-begun (Running w) h = refl
-done-begun (Done w) h = refl
 
 -- no task that is done and later conflicts with one that isn't done
 pub later-free : (p : Program) (s : State) (t : Task) → OrderIsKept p s → done_in s t ≡ false → (u : Task) → t.0 < u.0 → done_in s u ≡ true → ¬ Conflict p t.0 u.0

@@ -1,66 +1,22 @@
 -- A claim, a run and an end keep that a cell's write count is the number of done tasks that wrote it.
-use Rattle.std.proofs.Common.{◌≡◌, ◌≢◌, ℕ, zero, suc, ◌+◌, ◌<◌, ◌≤◌, Bool, true, false, ◌&&◌, cond, map, length, refl, sym, ap, ◌∙◌, subst, inl, inr, arith}
-use Rattle.std.specs.Prelude.{fold, count_by, if◌then◌else◌}
-use Rattle.std.specs.List.{range_with_len}
-use Rattle.std.proofs.lemmas.Bool.{cases_lt, false≢true}
-use Rattle.sj_base.specs.declared.ids.Cell.{Cell}
-use Rattle.sj_base.specs.declared.ids.Task.{Task}
-use Rattle.sj_base.specs.declared.ids.Worker.{Worker}
-use Rattle.sj_base.specs.declared.ids.Node.{Node}
-use Rattle.sj_base.specs.declared.ids.Place.TheVariants.{Node as AtNode}
-use Rattle.sj_base.specs.declared.program.Program.{Program}
-use Rattle.sj_base.specs.declared.program.Machine.{Machine}
-use Rattle.sj_core.specs.Program.{has_cell, tasks_of}
-use Rattle.sj_core.specs.Needs.{node_of}
-use Rattle.sj_core.specs.declared.progress.Progress.{Progress}
-use Rattle.sj_core.specs.declared.progress.Progress.TheVariants.{Waiting, Claimed, Running, Done}
-use Rattle.sj_core.specs.Operands.{written_cells}
-use Rattle.sj_core.specs.Machine.{State, CellState, progress, cell_state, writes, replica_in, with_replica_in, is_valid, is_done, worker_of}
-use Rattle.sj_core.specs.Step.{Claims, Runs, Ends, missing, claimed_replica, owned_at, initial, rewritten_at, result_at}
-use Rattle.sj_core.specs.Coherent.{HasRows, IsStateOf, TasksHaveCells, WritesAreCounted, has_written}
-use Rattle.sj_core.proofs.Reading.{no_row, cells-renewed_or, progress-inside}
-use Rattle.sj_core.proofs.Advancing.{Advances, Claims-advances, Runs-advances, Ends-advances, same_task}
-use Rattle.sj_core.proofs.Holding.{cells-touched, cells-untouched}
+use Rattle.std.proofs.Common.{Bool, ap, arith, false, inl, inr, length, refl, subst, sym, true, ◌&&◌, ◌+◌, ◌<◌, ◌∙◌, ◌≡◌, ◌≢◌}
+use Rattle.std.specs.Prelude.{count_by, nat_eq, nat_le, nat_lt}
+use Rattle.sj_core.proofs.Words.{AtNode, Cell, CellState, Done, Machine, Program, Progress, Running, State, Task, Waiting, Worker, has_cell, is_done, node_of, progress, tasks_of, worker_of, writes, written_cells}
+use Rattle.sj_core.specs.Coherent.{IsStateOf, TasksHaveCells, WritesAreCounted, has_written}
+use Rattle.sj_core.specs.Step.{Ends, after, result_at, rewritten_at}
+use Rattle.sj_core.proofs.Advancing.{Advances, Ends-advances, same_task}
+use Rattle.sj_core.proofs.Placing.{valid-row}
+use Rattle.sj_core.proofs.Reading.{cells-touched, cells-untouched, progress-inside}
 use Rattle.sj_core.proofs.TaskCells.{written-among_cells}
-use Rattle.std.proofs.lemmas.List.{get_or_past}
-
--- ---- sums over the tasks
-
-abbrev number : ℕ → Task
-number n = record { 0 = n }
-
-abbrev total : (Task → ℕ) → ℕ → ℕ → ℕ → ℕ
-total f z a n = fold (λ b t. b + f t) z (map number (range_with_len a n))
-
-total-shift : (f : Task → ℕ) (z a n : ℕ) → total f (z + 1) a n ≡ total f z a n + 1
-total-shift f z a zero = refl
-total-shift f z a (suc n) = ap (λ b. total f b (a + 1) n) (omega arith) ∙ total-shift f (z + f (number a)) (a + 1) n
-
-total-same : (f g : Task → ℕ) (z a n : ℕ) → ((t : Task) → a ≤ t.0 → f t ≡ g t) → total f z a n ≡ total g z a n
-total-same f g z a zero same = refl
-total-same f g z a (suc n) same = ap (λ b. total f (z + b) (a + 1) n) (same (number a) (omega arith)) ∙ total-same f g (z + g (number a)) (a + 1) n (λ t h. same t (omega arith))
-
--- one task more among those that count
-total-one : (f g : Task → ℕ) (t : Task) (z a n : ℕ) → a ≤ t.0 → t.0 < a + n → ((u : Task) → u ≢ t → f u ≡ g u) → g t ≡ f t + 1 → total g z a n ≡ total f z a n + 1
-total-one f g t z a zero low high others one = absurd (omega arith)
-total-one f g t z a (suc n) low high others one =
-    elim (same_task (number a) t) [
-      | inl e ↦
-          let head : g (number a) ≡ f (number a) + 1 = subst (λ (k : Task). g k ≡ f k + 1) (sym e) one in
-          let first : z + g (number a) ≡ (z + f (number a)) + 1 = omega arith in
-          let later : (u : Task) → a + 1 ≤ u.0 → g u ≡ f u = λ u h. sym (others u (λ same. (let k : u.0 ≡ a = ap (λ (j : Task). j.0) same ∙ sym (ap (λ (j : Task). j.0) e) in omega arith))) in
-          ap (λ b. total g b (a + 1) n) first ∙ total-same g f ((z + f (number a)) + 1) (a + 1) n later ∙ total-shift f (z + f (number a)) (a + 1) n
-      | inr d ↦
-          let beyond : a + 1 ≤ t.0 = (let k : a ≡ t.0 → ⊥ = λ e. d (ap number e) in omega arith) in
-          ap (λ b. total g (z + b) (a + 1) n) (sym (others (number a) d)) ∙ total-one f g t (z + f (number a)) (a + 1) n beyond (omega arith) others one
-    ]
+use Rattle.sj_core.proofs.Sums.{tally, sum-agree, sum-plus, count-numbered}
+use Rattle.std.proofs.lemmas.Bool.{eq-eqb, ne_eqb, and_from, le-leb, lt-ltb}
 
 -- ---- which tasks have written a cell
 
 written-other : (p : Program) (s s' : State) (c : Cell) (t u : Task) (old new : Progress) → Advances s s' t old new → u ≢ t → has_written p s' c u ≡ has_written p s c u
 written-other p s s' c t u old new a d = ap (λ (x : Progress). is_done x && has_cell (written_cells p u (worker_of x)) c) (a.others u d)
 
-written-undone : (p : Program) (s s' : State) (c : Cell) (t u : Task) (old new : Progress) → Advances s s' t old new → is_done old ≡ false → is_done new ≡ false → has_written p s' c u ≡ has_written p s c u
+pub written-undone : (p : Program) (s s' : State) (c : Cell) (t u : Task) (old new : Progress) → Advances s s' t old new → is_done old ≡ false → is_done new ≡ false → has_written p s' c u ≡ has_written p s c u
 written-undone p s s' c t u old new a before after =
     elim (same_task u t) [
       | inl e ↦ undone s' (ap (λ (k : Task). is_done (progress s' k)) e ∙ ap is_done a.is ∙ after) ∙ sym (undone s (ap (λ (k : Task). is_done (progress s k)) e ∙ ap is_done a.was ∙ before))
@@ -70,42 +26,10 @@ written-undone p s s' c t u old new a before after =
     undone : (z : State) → is_done (progress z u) ≡ false → has_written p z c u ≡ false
     undone z h = ap (λ b. b && has_cell (written_cells p u (worker_of (progress z u))) c) h
 
-counted-same : (p : Program) (s s' : State) (c : Cell) → ((u : Task) → has_written p s' c u ≡ has_written p s c u) → count_by (has_written p s' c) (tasks_of p) ≡ count_by (has_written p s c) (tasks_of p)
-counted-same p s s' c same = total-same (λ u. cond (has_written p s' c u) 1 0) (λ u. cond (has_written p s c u) 1 0) 0 0 (length p.tasks) (λ u h. ap (λ b. cond b 1 0) (same u))
+pub counted-same : (p : Program) (s s' : State) (c : Cell) → ((u : Task) → has_written p s' c u ≡ has_written p s c u) → count_by (has_written p s' c) (tasks_of p) ≡ count_by (has_written p s c) (tasks_of p)
+counted-same p s s' c same = sum-agree (λ u. tally (has_written p s' c u)) (λ u. tally (has_written p s c u)) (λ u. ap tally (same u)) (tasks_of p)
 
 -- ---- the laws
-
-pub Claims-keeps_counts : (p : Program) (m : Machine) (s : State) (t : Task) (w : Worker) (s' : State) → HasRows p m s → Claims p m s t w s' → WritesAreCounted p s → WritesAreCounted p s'
-Claims-keeps_counts p m s t w s' rows claim counts =
-    let n = node_of m w in
-    let f : Cell → CellState → CellState = λ d row. with_replica_in row (AtNode n) (claimed_replica w claim.evicted (missing p s t w n) d (replica_in row (AtNode n))) in
-    record {
-      counted = λ c.
-          (let same : writes s' c ≡ writes s c = ap (λ (z : State). writes z c) claim.leaves ∙ elim (cells-renewed_or s f c) [ inl row ↦ ap (λ (r : CellState). r.writes) row | inr none ↦ ap (λ (r : CellState). r.writes) none.1 ∙ sym (ap (λ (r : CellState). r.writes) none.0) ] in
-          same ∙ counts.counted c ∙ sym (counted-same p s s' c (λ u. written-undone p s s' c t u Waiting (Claimed w) (Claims-advances p m s t w s' rows claim) refl refl)));
-    }
-
-pub Runs-keeps_counts : (p : Program) (m : Machine) (s : State) (t : Task) (w : Worker) (s' : State) → Runs p m s t w s' → WritesAreCounted p s → WritesAreCounted p s'
-Runs-keeps_counts p m s t w s' run counts =
-    let n = node_of m w in
-    let f : Cell → CellState → CellState = λ d row. if has_cell (written_cells p t w) d then owned_at n (initial p s t w n d) row else row in
-    record {
-      counted = λ c.
-          (let same : writes s' c ≡ writes s c = ap (λ (z : State). writes z c) run.leaves ∙ elim (cells-renewed_or s f c) [ inl row ↦ ap (λ (r : CellState). r.writes) row ∙ either (has_cell (written_cells p t w) c) (owned_at n (initial p s t w n c) (cell_state s c)) (cell_state s c) refl | inr none ↦ ap (λ (r : CellState). r.writes) none.1 ∙ sym (ap (λ (r : CellState). r.writes) none.0) ] in
-          same ∙ counts.counted c ∙ sym (counted-same p s s' c (λ u. written-undone p s s' c t u (Claimed w) (Running w) (Runs-advances p m s t w s' run) refl refl)));
-    }
-  where
-    either : (b : Bool) (x y : CellState) → x.writes ≡ y.writes → (if b then x else y).writes ≡ y.writes
-    either true x y e = e
-    either false x y e = refl
-
--- a valid replica is one of a cell of the table
-valid-inside : (s : State) (c : Cell) (n : Node) → is_valid (replica_in (cell_state s c) (AtNode n)) ≡ true → c.0 < length s.cells
-valid-inside s c n h =
-    elim (cases_lt c.0 (length s.cells)) [
-      | inl inside ↦ inside
-      | inr past ↦ absurd (false≢true (sym (ap (λ (row : CellState). is_valid (replica_in row (AtNode n))) (get_or_past s.cells c.0 no_row past)) ∙ h))
-    ]
 
 pub Ends-keeps_counts : (p : Program) (m : Machine) (s : State) (t : Task) (w : Worker) (s' : State) → IsStateOf p m s → TasksHaveCells p m s → Ends p m s t w s' → WritesAreCounted p s → WritesAreCounted p s'
 Ends-keeps_counts p m s t w s' state cells ended counts = record { counted = λ c. by_cases c (has_cell (written_cells p t w) c) refl }
@@ -131,9 +55,13 @@ Ends-keeps_counts p m s t w s' state cells ended counts = record { counted = λ 
         ]))
     by_cases c true e =
         let there = cells.running t w c ended.running (written-among_cells p t w c e) in
-        let more : writes s' c ≡ writes s c + 1 = ap (λ (z : State). writes z c) ended.leaves ∙ ap (λ (r : CellState). r.writes) (cells-touched s (has_cell (written_cells p t w)) (λ d row. rewritten_at (node_of m w) (result_at p s t w (node_of m w) d) row) c (valid-inside s c (node_of m w) there) e) in
-        let old : Task → ℕ = λ u. cond (has_written p s c u) 1 0 in
-        let new : Task → ℕ = λ u. cond (has_written p s' c u) 1 0 in
-        let this : new t ≡ old t + 1 = ap (λ b. cond b 1 0) (now c ∙ e) ∙ sym (ap (λ b. cond b 1 0 + 1) (undone c)) in
-        let others : (u : Task) → u ≢ t → old u ≡ new u = λ u d. ap (λ b. cond b 1 0) (sym (written-other p s s' c t u (Running w) (Done w) (Ends-advances p m s t w s' ended) d)) in
-        more ∙ ap (λ k. k + 1) (counts.counted c) ∙ sym (total-one old new t 0 0 (length p.tasks) (omega arith) (omega (arith, inside)) others this)
+        let more : writes s' c ≡ writes s c + 1 = ap (λ (z : State). writes z c) ended.leaves ∙ ap (λ (r : CellState). r.writes) (cells-touched s (has_cell (written_cells p t w)) (λ d row. rewritten_at (node_of m w) (result_at p s t w (node_of m w) d) row) c (valid-row s c (AtNode (node_of m w)) there) e) in
+        let is_t : Task → Bool = λ u. nat_eq u.0 t.0 in
+        let each : (u : Task) → tally (has_written p s' c u) ≡ tally (has_written p s c u) + tally (is_t u) = λ u. elim (same_task u t) [
+          | inl f ↦ ap (λ (k : Task). tally (has_written p s' c k)) f ∙ ap tally (now c ∙ e) ∙ sym (ap (λ b. tally b + 1) (undone c)) ∙ ap (λ (k : Task). tally (has_written p s c k) + 1) (sym f) ∙ ap (λ b. tally (has_written p s c u) + tally b) (sym (eq-eqb u.0 t.0 (ap (λ (k : Task). k.0) f)))
+          | inr d ↦ ap tally (written-other p s s' c t u (Running w) (Done w) (Ends-advances p m s t w s' ended) d) ∙ (let none : tally (is_t u) ≡ 0 = ap tally (ne_eqb u.0 t.0 (λ g. d (ap (λ n. let k : Task = record { 0 = n } in k) g))) in omega arith)
+        ] in
+        let all = sum-plus (λ u. tally (has_written p s' c u)) (λ u. tally (has_written p s c u)) (λ u. tally (is_t u)) each (tasks_of p) in
+        let once = count-numbered (λ n. record { 0 = n }) is_t t.0 (λ n. refl) 0 (length p.tasks) ∙ ap tally (and_from (nat_le 0 t.0) (nat_lt t.0 (0 + length p.tasks)) (le-leb 0 t.0 (omega arith)) (lt-ltb t.0 (0 + length p.tasks) (omega (arith, inside)))) in
+        let before = counts.counted c in
+        omega arith

@@ -1,31 +1,28 @@
 -- The dependencies of a proper program can be counted: each access names a cell, and a task accesses a cell in one manner.
-use Rattle.std.proofs.Common.{◌≡◌, ℕ, zero, suc, ◌+◌, ◌<◌, Bool, true, false, not, List, [], ◌∷◌, map, length, get_or, refl, sym, ap, ◌∙◌, subst, inl, inr, ◌⊎◌, Option, None, Some, arith}
-use Rattle.std.specs.Prelude.{IsTrue, AllPairs, slice_get, option_and_then, is_some}
-use Rattle.std.specs.List.{filter, flat_map, Contains, range_with_len}
+use Rattle.std.proofs.Common.{List, None, Option, Some, [], ap, arith, false, get_or, inl, inr, length, map, not, refl, subst, suc, sym, true, zero, ℕ, ◌+◌, ◌<◌, ◌∙◌, ◌∷◌, ◌≡◌, ◌⊎◌}
 use Rattle.std.proofs.lemmas.Bool.{cases_lt}
 use Rattle.std.proofs.lemmas.Bool.Decides.{Decides-eqb}
 use Rattle.std.proofs.lemmas.List.{get_or_default}
 use Rattle.std.proofs.lemmas.List.Elements.{All-contains, Contains-append_cases}
-use Rattle.std.proofs.lemmas.List.FromFn.{length-range_with_len, get_or-range_with_len}
+use Rattle.std.proofs.lemmas.List.FromFn.{get_or-range_with_len, length-range_with_len}
 use Rattle.std.proofs.lemmas.Option.{slice_get-get_or, slice_get_past}
-use Rattle.sj_base.specs.declared.ids.Cell.{Cell}
-use Rattle.sj_base.specs.declared.ids.Worker.{Worker}
-use Rattle.sj_base.specs.declared.mode.Mode.{Mode}
-use Rattle.sj_base.specs.declared.mode.Mode.TheVariants.{R, W, RW, Scratch, Redux, Commute as CommuteMode}
+use Rattle.std.specs.List.{Contains, flat_map, range_with_len}
+use Rattle.std.specs.Prelude.{AllPairs, IsTrue, is_some, option_and_then, slice_get}
+use Rattle.sj_base.specs.Mode.{is_redux, is_scratch}
+use Rattle.sj_core.proofs.Words.{Cell, Program, Worker, cell_info, copy_of, data_operands, no_cell, no_task, same_cell}
 use Rattle.sj_base.specs.declared.mode.Access.{Access}
+use Rattle.sj_base.specs.declared.mode.Mode.{Mode}
+use Rattle.sj_base.specs.declared.mode.Mode.TheVariants.{Commute as CommuteMode, R, RW, Redux, Scratch, W}
 use Rattle.sj_base.specs.declared.program.CellInfo.{CellInfo}
 use Rattle.sj_base.specs.declared.program.Codelet.{Codelet}
 use Rattle.sj_base.specs.declared.program.Lowered.{Lowered}
-use Rattle.sj_base.specs.declared.program.Program.{Program}
+use Rattle.sj_deps.specs.Conflict.{HasDependencies, Uses, copies_of, usage, usages_of}
 use Rattle.sj_deps.specs.declared.manner.Manner.{Manner}
-use Rattle.sj_deps.specs.declared.manner.Manner.TheVariants.{Read, Write, Commute, Contribute}
+use Rattle.sj_deps.specs.declared.manner.Manner.TheVariants.{Commute, Contribute, Read, Write}
 use Rattle.sj_deps.specs.declared.manner.Usage.{Usage}
-use Rattle.sj_deps.specs.Conflict.{usage, usages_of, copies_of, Uses, HasDependencies}
-use Rattle.sj_core.specs.Program.{same_cell, cell_info, no_cell, no_task, is_scratch, is_redux, data_operands}
-use Rattle.sj_core.specs.Operands.{copy_of}
-use Rattle.sj_core.specs.Proper.{IsCopyOf, IsInit, IsCombine, IsPhase, Phase, Proper, access, task_number}
+use Rattle.sj_core.specs.Proper.{IsCombine, IsCopyOf, IsInit, IsPhase, Phase, Proper, access, task_number}
+use Rattle.sj_core.proofs.Readiness.{AllPairs-two, Contains-filter}
 use Rattle.sj_core.proofs.Sharing.{manner_of}
-use Rattle.sj_core.proofs.Readiness.{Contains-filter}
 
 -- ---- what lists contain
 
@@ -48,22 +45,6 @@ map-from : {X Y : Type 0} (f : X → Y) (xs : List X) (y : Y) → Contains (map 
 map-from f [] y h = absurd (none_is y h)
 map-from f (x ∷ xs) y (zero, l, e) = (x, (0, omega arith, refl), e)
 map-from f (x ∷ xs) y (suc k, l, e) = let (z, (j, m, same), is) = map-from f xs y (k, omega arith, e) in (z, (suc j, omega arith, same), is)
-
--- of two elements that a filter keeps the pair is related one way, or they are one
-pairs-of : {X : Type 0} (T : X → X → Type 0) (f : X → Bool) (xs : List X) (x y : X) → AllPairs T (filter f xs) → Contains xs x → Contains xs y → f x ≡ true → f y ≡ true → (x ≡ y) ⊎ (T x y ⊎ T y x)
-pairs-of T f xs x y pairs hx hy px py = by_places (Contains-filter f xs x px hx) (Contains-filter f xs y py hy)
-  where
-    by_places : Contains (filter f xs) x → Contains (filter f xs) y → (x ≡ y) ⊎ (T x y ⊎ T y x)
-    by_places (i, li, ei) (j, lj, ej) =
-        elim (cases_lt i j) [
-          | inl before ↦ inr (inl (subst (λ b. T x b) (get_or_default (filter f xs) j x y lj ∙ ej) (subst (λ a. T a (get_or (filter f xs) j x)) ei (pairs i j x before lj))))
-          | inr after ↦ elim (cases_lt j i) [
-            | inl before ↦ inr (inr (subst (λ b. T y b) (get_or_default (filter f xs) i y x li ∙ ei) (subst (λ a. T a (get_or (filter f xs) i y)) ej (pairs j i y before li))))
-            | inr not_after ↦
-                let same : i ≡ j = omega arith in
-                inl (sym ei ∙ get_or_default (filter f xs) i x y li ∙ ap (λ k. get_or (filter f xs) k y) same ∙ ej)
-          ]
-        ]
 
 -- ---- the operand behind a usage
 
@@ -179,7 +160,7 @@ module _ (p : Program) (proper : Proper p) where
       by_kinds (Direct accessed plain is manner) (Direct accessed' plain' is' manner') =
           let T : Access → Access → Type 0 = λ a b. IsTrue (same_cell a.cell b.cell) → (a.mode ≡ R) × (b.mode ≡ R) in
           let pairs : AllPairs T (data_operands (task_number p t)) = proper.unaliased t no_task x.inside in
-          let related = pairs-of T (λ a. not (is_scratch a.mode)) (task_number p t).accesses x.operand y.operand pairs x.among y.among accessed accessed' in
+          let related = AllPairs-two T (data_operands (task_number p t)) x.operand y.operand pairs (Contains-filter (λ a. not (is_scratch a.mode)) (task_number p t).accesses x.operand accessed x.among) (Contains-filter (λ a. not (is_scratch a.mode)) (task_number p t).accesses y.operand accessed' y.among) in
           sym manner ∙ ap (manner_of (task_number p t).codelet) (aliased related is is') ∙ manner'
 
   -- a proper program's dependencies can be counted

@@ -1,29 +1,19 @@
 -- A drop leaves a coherent state.
-use Rattle.std.proofs.Common.{◌≡◌, ◌<◌, Bool, true, false, not, ◌&&◌, length, refl, sym, ap, ◌∙◌, subst, inl, inr, ◌⊎◌, Option, None, Some, arith}
-use Rattle.std.specs.Prelude.{IfSome}
-use Rattle.std.proofs.lemmas.Bool.{false≢true, and_parts, and_from}
+use Rattle.std.proofs.Common.{Bool, None, Option, Some, ap, arith, false, inl, inr, length, not, refl, subst, sym, true, ◌&&◌, ◌<◌, ◌∙◌, ◌≡◌, ◌⊎◌}
+use Rattle.std.proofs.lemmas.Bool.{and_from, and_parts, false_from_ne_true, false≢true}
 use Rattle.std.proofs.lemmas.List.{length-set}
-use Rattle.sj_base.specs.declared.ids.Cell.{Cell}
-use Rattle.sj_base.specs.declared.ids.Node.{Node}
-use Rattle.sj_base.specs.declared.ids.Worker.{Worker}
-use Rattle.sj_base.specs.declared.ids.Place.{Place}
-use Rattle.sj_base.specs.declared.ids.Place.TheVariants.{Node as AtNode, Disk as OnDisk}
-use Rattle.sj_base.specs.declared.program.Program.{Program}
-use Rattle.sj_base.specs.declared.program.Machine.{Machine}
-use Rattle.sj_core.specs.Program.{same_cell}
-use Rattle.sj_core.specs.Needs.{node_of}
-use Rattle.sj_core.specs.declared.progress.Transfer.{Transfer}
-use Rattle.sj_core.specs.Machine.{State, Replica, Invalid, cell_state, replica, transfer, array_of, is_valid, is_entry, is_leaving, is_leaving_by, is_coming_by, with_replica, with_replica_in, writes}
-use Rattle.sj_core.specs.Step.{Drops, same_place, places_of, reads, is_read}
-use Rattle.sj_core.specs.Coherent.{IsTransferTo, TransfersAreSound, CopiesAgree, Coherent, content}
+use Rattle.std.specs.Prelude.{IfSome}
+use Rattle.sj_core.proofs.Words.{AtNode, Cell, Invalid, Machine, Node, OnDisk, Place, Program, Replica, State, Task, Transfer, Worker, array_of, cell_state, is_claimed_by, is_coming_by, is_entry, is_leaving, is_leaving_by, is_valid, node_of, progress, replica, same_cell, transfer, with_replica, with_replica_in, writes}
+use Rattle.sj_core.specs.Coherent.{Coherent, CopiesAgree, IsTransferTo, TransfersAreSound, content}
 use Rattle.sj_core.specs.Laws.{IsSound}
-use Rattle.sj_core.proofs.Reading.{list_any-worker}
-use Rattle.sj_core.proofs.Workers.{transfer-inside}
-use Rattle.sj_core.proofs.Holding.{not_true}
-use Rattle.sj_core.proofs.Forms.{HasBlocks-kept}
+use Rattle.sj_core.specs.Step.{Drops, is_read, places_of, same_place, reads}
+use Rattle.sj_core.proofs.Advancing.{claimed_by-is}
 use Rattle.sj_core.proofs.CellLists.{same_cell-from}
-use Rattle.sj_core.proofs.Values.{list_any-some}
-use Rattle.sj_core.proofs.Placing.{replica-cases, writes-same, nodes-kept, disks-kept, same_place-refl, owned-fails, leaving_isn't_entry, coming_isn't_leaving}
+use Rattle.sj_core.proofs.Changing.{HasBlocks-kept}
+use Rattle.sj_core.proofs.Placing.{disks-kept, nodes-kept, owned-fails, replica-cases, same_place-refl, writes-same}
+use Rattle.sj_core.proofs.Readiness.{list_any-some}
+use Rattle.sj_core.proofs.Reading.{list_any-worker, transfer-inside}
+use Rattle.sj_core.proofs.Replicas.{coming_by-is, leaving-by_some, leaving-is_none}
 use Rattle.sj_core.proofs.Shifting.{Shifts, Shifts-coherent}
 
 module _ (p : Program) (m : Machine) (s : State) (h : IsSound p m s) (c : Cell) (n : Node) (s' : State) (drop : Drops m s c n s') where
@@ -39,7 +29,7 @@ module _ (p : Program) (m : Machine) (s : State) (h : IsSound p m s) (c : Cell) 
       ]
 
   entries : (d : Cell) (k : Node) → is_entry (replica after d (AtNode k)) ≡ is_entry (replica s d (AtNode k))
-  entries d k = elim (cases d (AtNode k)) [ inl same ↦ ap is_entry same | inr (e, at, is, left) ↦ ap is_entry is ∙ sym (leaving_isn't_entry (replica s d (AtNode k)) left) ]
+  entries d k = elim (cases d (AtNode k)) [ inl same ↦ ap is_entry same | inr (e, at, is, left) ↦ ap is_entry is ∙ sym (leaving-is_none (replica s d (AtNode k)) left) ]
 
   leaves : (v : Worker) (d : Cell) (q : Place) → is_leaving_by v (replica after d q) ≡ true → is_leaving_by v (replica s d q) ≡ true
   leaves v d q leaving = elim (cases d q) [ inl same ↦ sym (ap (is_leaving_by v) same) ∙ leaving | inr (e, at, is, left) ↦ absurd (false≢true (sym (ap (is_leaving_by v) is) ∙ leaving)) ]
@@ -48,7 +38,7 @@ module _ (p : Program) (m : Machine) (s : State) (h : IsSound p m s) (c : Cell) 
   comes v d k coming = elim (cases d (AtNode k)) [ inl same ↦ sym (ap (is_coming_by v) same) ∙ coming | inr (e, at, is, left) ↦ absurd (false≢true (sym (ap (is_coming_by v) is) ∙ coming)) ]
 
   still_comes : (v : Worker) (d : Cell) (k : Node) → is_coming_by v (replica s d (AtNode k)) ≡ true → is_coming_by v (replica after d (AtNode k)) ≡ true
-  still_comes v d k coming = elim (cases d (AtNode k)) [ inl same ↦ ap (is_coming_by v) same ∙ coming | inr (e, at, is, left) ↦ absurd (false≢true (sym (coming_isn't_leaving v (replica s d (AtNode k)) coming) ∙ left)) ]
+  still_comes v d k coming = elim (cases d (AtNode k)) [ inl same ↦ ap (is_coming_by v) same ∙ coming | inr (e, at, is, left) ↦ absurd (false≢true (sym (ap is_leaving (coming_by-is v (replica s d (AtNode k)) coming)) ∙ left)) ]
 
   -- no transfer reads the dropped replica
   unread_by : (v : Worker) (x : Transfer) → transfer s v ≡ Some x → x.cell ≡ c → x.from ≡ AtNode n → ⊥
@@ -72,7 +62,7 @@ module _ (p : Program) (m : Machine) (s : State) (h : IsSound p m s) (c : Cell) 
       }
     where
       to_place : (v : Worker) (d : Cell) (from to : Place) → replica after d from ≡ replica s d from → IsTransferTo m s v d from to → IsTransferTo m after v d from to
-      to_place v d from (AtNode k) same target = (target.0, still_comes v d k target.1, λ x q. not_true (is_leaving_by v (replica after x q)) (λ leaving. false≢true (sym (target.2 x q) ∙ leaves v x q leaving)))
+      to_place v d from (AtNode k) same target = (target.0, still_comes v d k target.1, λ x q. false_from_ne_true (is_leaving_by v (replica after x q)) (λ leaving. false≢true (sym (target.2 x q) ∙ leaves v x q leaving)))
       to_place v d from (OnDisk k) same target = (ap (is_leaving_by v) same ∙ target.0, elim (cases d (OnDisk k)) [ inl same ↦ same ∙ target.1 | inr (e, at, is, left) ↦ is ])
 
   -- another replica of the dropped cell is valid
@@ -135,5 +125,12 @@ module _ (p : Program) (m : Machine) (s : State) (h : IsSound p m s) (c : Cell) 
     copies = copies;
   }
 
+  -- the replica leaves by the claim of a worker
+  by : (w : Worker) × (is_leaving_by w (replica s c (AtNode n)) ≡ true)
+  by = leaving-by_some (replica s c (AtNode n)) drop.leaving
+
+  claims : (t : Task) × (is_claimed_by by.0 (progress s t) ≡ true)
+  claims = (h.coherent.workers.evicted by.0 c n by.1).claims
+
   pub Drops-keeps_coherence : Coherent p m s'
-  Drops-keeps_coherence = subst (λ (z : State). Coherent p m z) (sym drop.leaves) (Shifts-coherent p m s h after.cells after.workers shift)
+  Drops-keeps_coherence = subst (λ (z : State). Coherent p m z) (sym drop.leaves) (Shifts-coherent p m s h claims.0 by.0 (claimed_by-is by.0 (progress s claims.0) claims.1) after.cells after.workers shift)

@@ -67,3 +67,12 @@ module _ {X : Type 0} (test : List X → Bool) where
       by_cases None e true h rest zero positive within = absurd (omega arith)
       by_cases None e true h rest (suc j) positive within = ap (λ ys. test (drop (suc j) ys)) (sym (some_is (x ∷ xs) vs h)) ∙ shortest_suffix-none xs e j
       by_cases None e false h rest j positive within = absurd (cc)
+
+  -- the shortest end of a list from behind: what an end of it has is its own
+  pub shortest_suffix-behind : (front xs vs : List X) → shortest_suffix test xs ≡ Some vs → shortest_suffix test (front ++ xs) ≡ Some vs
+  shortest_suffix-behind [] xs vs h = h
+  shortest_suffix-behind (x ∷ front) xs vs h = ap (λ (o : Option (List X)). option_or o (then_some (test (x ∷ front ++ xs)) (x ∷ front ++ xs))) (shortest_suffix-behind front xs vs h)
+
+  -- and where it has none, one element more makes the shortest end, or there still is none
+  pub shortest_suffix-next : (x : X) (xs : List X) → shortest_suffix test xs ≡ None → shortest_suffix test (x ∷ xs) ≡ then_some (test (x ∷ xs)) (x ∷ xs)
+  shortest_suffix-next x xs none = ap (λ (o : Option (List X)). option_or o (then_some (test (x ∷ xs)) (x ∷ xs))) none

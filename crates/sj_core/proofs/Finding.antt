@@ -1,61 +1,34 @@
--- What a claimed or running task finds on its worker's node: in a cell whose old value it reads, the cell's content.
-use Rattle.std.proofs.Common.{◌≡◌, ℕ, ◌<◌, Bool, true, false, not, ◌&&◌, cond, List, length, get_or, refl, sym, ap, ◌∙◌, subst, inl, inr, ◌⊎◌, Option, None, Some, arith}
-use Rattle.std.specs.Prelude.{IsTrue, All, count_by, is_some, unwrap_or, IfSome, if◌then◌else◌}
-use Rattle.std.specs.List.{Contains, AllPairs}
-use Rattle.std.proofs.lemmas.Bool.{cases_lt, cases_eq, false≢true}
+-- What a claimed or running task finds in the cells whose old value it reads; and which cells no running task writes, before and after a step.
+use Rattle.std.proofs.Common.{Bool, None, Option, Some, ap, arith, cond, false, get_or, inl, inr, length, not, refl, sym, true, ℕ, ◌&&◌, ◌<◌, ◌∙◌, ◌≡◌, ◌⊎◌, subst}
+use Rattle.std.proofs.lemmas.Bool.{and_parts, false_from_ne_true, false≢true, not-false}
 use Rattle.std.proofs.lemmas.Bool.Decides.{Decides-eqb}
-use Rattle.std.proofs.lemmas.List.{get_or_default}
+use Rattle.std.proofs.lemmas.List.Elements.{All-contains}
 use Rattle.std.proofs.lemmas.List.Folds.{Any-from_list_any, list_any_at}
 use Rattle.std.proofs.lemmas.List.FromFn.{get_or-map-range_with_len, length-map-range_with_len}
 use Rattle.std.proofs.lemmas.List.Sums.{get_or-le-sum_by}
-use Rattle.sj_base.specs.declared.ids.Cell.{Cell}
-use Rattle.sj_base.specs.declared.ids.Task.{Task}
-use Rattle.sj_base.specs.declared.ids.Worker.{Worker}
-use Rattle.sj_base.specs.declared.ids.Place.TheVariants.{Node as AtNode}
-use Rattle.sj_base.specs.declared.mode.Mode.{Mode}
-use Rattle.sj_base.specs.declared.mode.Mode.TheVariants.{R, W, RW, Scratch, Redux, Commute}
+use Rattle.std.specs.List.{Contains}
+use Rattle.std.specs.Prelude.{IfSome, IsTrue, count_by, if◌then◌else◌, is_some, unwrap_or}
+use Rattle.sj_core.proofs.Words.{Array, AtNode, Cell, Machine, Program, Progress, Replica, Running, State, Task, Worker, array_of, cells_of, data_operands, dims_of, done_by, fresh_cells, has_cell, is_running_on, is_task_of, is_valid, no_task, node_of, progress, replica, same_cell, task_of, tasks_of, worked_on, worker_of, writes, written_cells, zeros, Waiting}
+use Rattle.sj_base.specs.Mode.{is_redux, is_scratch, is_written, reads_value, starts_as_zeros}
 use Rattle.sj_base.specs.declared.mode.Access.{Access}
-use Rattle.sj_base.specs.declared.program.Program.{Program}
-use Rattle.sj_base.specs.declared.program.Machine.{Machine}
-use Rattle.sj_base.specs.Array.{Array, zeros}
-use Rattle.sj_core.specs.Program.{same_cell, has_cell, dims_of, task_of, tasks_of, no_task, is_scratch, is_written, is_redux, starts_as_zeros, data_operands}
-use Rattle.sj_core.specs.Needs.{node_of}
-use Rattle.sj_core.specs.declared.progress.Progress.{Progress}
-use Rattle.sj_core.specs.declared.progress.Progress.TheVariants.{Waiting, Claimed, Running, Done}
+use Rattle.sj_base.specs.declared.mode.Mode.{Mode}
+use Rattle.sj_base.specs.declared.mode.Mode.TheVariants.{R}
 use Rattle.sj_deps.specs.Conflict.{HasDependencies}
-use Rattle.sj_core.specs.Operands.{worked_on, cells_of, written_cells, fresh_cells}
-use Rattle.sj_core.specs.Machine.{State, Replica, progress, replica, writes, array_of, is_valid, is_running_on, is_task_of, worker_of, done_by}
-use Rattle.sj_core.specs.Step.{array_at, EarlierAreDone}
-use Rattle.sj_core.specs.Proper.{Proper, reads_value, gives_value, HasValueBefore}
-use Rattle.sj_core.specs.Coherent.{Coherent, content, is_being_written, has_written}
+use Rattle.sj_core.specs.Coherent.{Coherent, content, has_written, is_being_written, HasRows}
 use Rattle.sj_core.specs.Laws.{HasPlainModes}
-use Rattle.sj_core.proofs.Advancing.{same_task, same_worker-refl}
-use Rattle.sj_core.proofs.Folding.{Contains-from_filter, read-among_cells, reads_isn't_scratch}
-use Rattle.sj_core.proofs.Holding.{not_true}
-use Rattle.sj_core.proofs.PlainModes.{operand-inside, worked_on-plain, conflicts}
-use Rattle.sj_core.proofs.Reading.{same_worker-is}
-use Rattle.sj_core.proofs.Readiness.{Contains-filter}
-use Rattle.sj_core.proofs.Separation.{separated, task_of-worker, task_of-active, active-begun}
-use Rattle.sj_core.proofs.Sharing.{operand_for, operand-has_cell}
+use Rattle.sj_core.specs.Proper.{HasValueBefore, Proper, gives_value}
+use Rattle.sj_core.specs.Step.{EarlierAreDone, array_at}
+use Rattle.sj_core.proofs.Advancing.{active-begun, running_on-is, same_task, task_of-active, task_of-worker, Advances}
+use Rattle.sj_core.proofs.Folding.{read-among_cells}
+use Rattle.sj_core.proofs.Modes.{reads_isn't_scratch}
+use Rattle.sj_core.proofs.PlainModes.{conflicts, operand-inside, worked_on-plain}
+use Rattle.sj_core.proofs.Readiness.{AllPairs-two, Contains-filter, Contains-from_filter}
+use Rattle.sj_core.proofs.Replicas.{same_worker-refl}
+use Rattle.sj_core.proofs.Separation.{separated}
+use Rattle.sj_core.proofs.Sharing.{one, operand-has_cell, operand_for}
+use Rattle.sj_core.proofs.Reading.{progress-inside}
 
 -- ---- lists
-
-pub All-at : {X : Type 0} (P : X → Type 0) (xs : List X) (x : X) → All P xs → Contains xs x → P x
-All-at P xs x all (k, l, e) = subst P e (all k x l)
-
--- of two elements of a list one stands before the other, unless they are one
-AllPairs-two : {X : Type 0} (P : X → X → Type 0) (xs : List X) (x y : X) → AllPairs P xs → Contains xs x → Contains xs y → (x ≡ y) ⊎ (P x y ⊎ P y x)
-AllPairs-two {X} P xs x y pairs (i, l, e) (j, k, f) =
-    elim (cases_lt i j) [
-      | inl before ↦ inr (inl (ordered i j x y before k e f))
-      | inr after ↦ elim (cases_eq i j) [
-        | inl same ↦ inl (sym e ∙ get_or_default xs i x y l ∙ ap (λ n. get_or xs n y) same ∙ f)
-        | inr differ ↦ inr (inr (ordered j i y x (omega (arith, differ)) l f e))
-      ]
-    ]
-  where
-    ordered : (a b : ℕ) (u v : X) → a < b → b < length xs → get_or xs a u ≡ u → get_or xs b v ≡ v → P u v
-    ordered a b u v before inside eu ev = subst (λ z. P z v) eu (subst (λ z. P (get_or xs a u) z) (get_or_default xs b u v inside ∙ ev) (pairs a b u before inside))
 
 -- a task of the program that passes is counted
 pub task-counted : (p : Program) (test : Task → Bool) (u : Task) → u.0 < length p.tasks → test u ≡ true → 0 < count_by test (tasks_of p)
@@ -66,46 +39,14 @@ task-counted p test u inside passes =
     let counts : cond {A = ℕ} (test (get_or (tasks_of p) u.0 u)) 1 0 ≡ 1 = ap (λ b. cond {A = ℕ} b 1 0) (ap test at_u ∙ passes) in
     omega arith
 
-both : (x y : Bool) → (x && y) ≡ true → (x ≡ true) × (y ≡ true)
-both true y h = (refl, h)
-both false y h = absurd (false≢true h)
-
-not-false : (x : Bool) → not x ≡ true → x ≡ false
-not-false true h = absurd (false≢true h)
-not-false false h = refl
-
--- ---- modes
-
-pub value-read : (x : Mode) → starts_as_zeros x ≡ false → not (is_scratch x) ≡ true → reads_value x ≡ true
-value-read R h k = refl
-value-read W h k = sym h
-value-read RW h k = refl
-value-read Scratch h k = k
-value-read Redux h k = refl
-value-read Commute h k = refl
-
-pub read-value : (x : Mode) → reads_value x ≡ true → starts_as_zeros x ≡ false
-read-value R h = refl
-read-value W h = sym h
-read-value RW h = refl
-read-value Scratch h = sym h
-read-value Redux h = refl
-read-value Commute h = refl
-
 -- ---- running tasks
-
-pub running_on-is : (w : Worker) (x : Progress) → is_running_on w x ≡ true → x ≡ Running w
-running_on-is w Waiting h = absurd (false≢true h)
-running_on-is w (Claimed v) h = absurd (false≢true h)
-running_on-is w (Running v) h = ap Running (same_worker-is v w h)
-running_on-is w (Done v) h = absurd (false≢true h)
 
 -- a cell that is being written has a running task that writes it
 pub being_written-by : (p : Program) (s : State) (c : Cell) → is_being_written p s c ≡ true → (u : Task) × (progress s u ≡ Running (done_by s u)) × (has_cell (written_cells p u (done_by s u)) c ≡ true)
 being_written-by p s c h =
     let found = Any-from_list_any (λ t. is_running_on (worker_of (progress s t)) (progress s t) && has_cell (written_cells p t (worker_of (progress s t))) c) (tasks_of p) h in
     let u = found.1 in
-    let tests = both (is_running_on (done_by s u) (progress s u)) (has_cell (written_cells p u (done_by s u)) c) found.4 in
+    let tests = and_parts (is_running_on (done_by s u) (progress s u)) (has_cell (written_cells p u (done_by s u)) c) found.4 in
     (u, running_on-is (done_by s u) (progress s u) tests.0, tests.1)
 
 pub being_written-here : (p : Program) (s : State) (c : Cell) (u : Task) (v : Worker) → u.0 < length p.tasks → progress s u ≡ Running v → has_cell (written_cells p u v) c ≡ true → is_being_written p s c ≡ true
@@ -122,6 +63,20 @@ being_written-here p s c u v inside running writes =
 pub array-told : (o : Option Array) (a b : Array) → is_some o ≡ true → IfSome o (λ x. x ≡ a) → unwrap_or o b ≡ a
 array-told None a b h k = absurd (false≢true h)
 array-told (Some x) a b h k = k
+
+-- a cell of a task is written by no running task but this
+pub not_being_written : (p : Program) (m : Machine) → Proper p → HasDependencies p → (s : State) → Coherent p m s → (t : Task) (w : Worker) (c : Cell) → is_task_of w (progress s t) ≡ true → has_cell (cells_of p t w) c ≡ true → (progress s t ≡ Running w → has_cell (written_cells p t w) c ≡ false) → is_being_written p s c ≡ false
+not_being_written p m proper deps s sound t w c mine has spared = false_from_ne_true (is_being_written p s c) (λ h. (let by = being_written-by p s c h in by_task by.0 by.1 by.2))
+  where
+    by_task : (u : Task) → progress s u ≡ Running (done_by s u) → has_cell (written_cells p u (done_by s u)) c ≡ true → ⊥
+    by_task u running writes =
+        elim (same_task u t) [
+          | inl e ↦
+              let worker : done_by s u ≡ w = ap (λ (k : Task). worker_of (progress s k)) e ∙ task_of-worker w (progress s t) mine in
+              let here : progress s t ≡ Running w = ap (λ (k : Task). progress s k) (sym e) ∙ running ∙ ap Running worker in
+              false≢true (sym (spared here) ∙ ap (λ (k : Task). has_cell (written_cells p k w) c) (sym e) ∙ ap (λ (k : Worker). has_cell (written_cells p u k) c) (sym worker) ∙ writes)
+          | inr d ↦ separated p m proper.cells deps s sound.state sound.workers sound.order t u w (done_by s u) c (λ e. d (sym e)) mine (ap (is_task_of (done_by s u)) running ∙ same_worker-refl (done_by s u)) has writes
+        ]
 
 module _ (p : Program) (m : Machine) (proper : Proper p) (deps : HasDependencies p) (plain : HasPlainModes p) where
   -- a task that gives a cell a value writes it, whichever worker runs it
@@ -146,7 +101,7 @@ module _ (p : Program) (m : Machine) (proper : Proper p) (deps : HasDependencies
 
   -- such a cell is none whose old value another operand doesn't read
   pub read-not_fresh : (t : Task) (w : Worker) (a : Access) → Contains (task_of p t).accesses a → starts_as_zeros a.mode ≡ false → has_cell (fresh_cells p t w) a.cell ≡ false
-  read-not_fresh t w a h reads = not_true (has_cell (fresh_cells p t w) a.cell) (λ fresh.
+  read-not_fresh t w a h reads = false_from_ne_true (has_cell (fresh_cells p t w) a.cell) (λ fresh.
       (let l = task_of p t in
       let b = operand_for (worked_on p w) (λ x. starts_as_zeros x.mode) (data_operands l) a.cell fresh in
       let a_in : Contains (data_operands l) a = Contains-filter (λ x. not (is_scratch x.mode)) l.accesses a (reads_isn't_scratch a.mode reads) h in
@@ -174,7 +129,7 @@ module _ (p : Program) (m : Machine) (proper : Proper p) (deps : HasDependencies
     -- a cell whose old value a begun task reads has been written
     pub read-written : (t : Task) (a : Access) → EarlierAreDone p s t → Contains (task_of p t).accesses a → starts_as_zeros a.mode ≡ false → 0 < writes s a.cell
     read-written t a earlier h reads =
-        let value = All-at (λ (b : Access). IsTrue (reads_value b.mode) → HasValueBefore p t b.cell) (task_of p t).accesses a (proper.values.cells t) h (value-read a.mode reads (reads_isn't_scratch a.mode reads)) in
+        let value = All-contains (λ (b : Access). IsTrue (reads_value b.mode) → HasValueBefore p t b.cell) (task_of p t).accesses a (proper.values.cells t) h (not-false (reads_value a.mode) reads) in
         let u = value.0 in
         let v = done_by s u in
         let writes_it = gives-writes u v a.cell value.2 in
@@ -182,20 +137,6 @@ module _ (p : Program) (m : Machine) (proper : Proper p) (deps : HasDependencies
         let inside : u.0 < length p.tasks = omega (arith, operand-inside p t a h, value.1) in
         let counted = task-counted p (has_written p s a.cell) u inside (ap (λ b. b && has_cell (written_cells p u v) a.cell) done ∙ writes_it) in
         omega (arith, sound.counts.counted a.cell)
-
-    -- a cell of a task is written by no running task but this
-    pub not_being_written : (t : Task) (w : Worker) (c : Cell) → is_task_of w (progress s t) ≡ true → has_cell (cells_of p t w) c ≡ true → (progress s t ≡ Running w → has_cell (written_cells p t w) c ≡ false) → is_being_written p s c ≡ false
-    not_being_written t w c mine has spared = not_true (is_being_written p s c) (λ h. (let by = being_written-by p s c h in by_task by.0 by.1 by.2))
-      where
-        by_task : (u : Task) → progress s u ≡ Running (done_by s u) → has_cell (written_cells p u (done_by s u)) c ≡ true → ⊥
-        by_task u running writes =
-            elim (same_task u t) [
-              | inl e ↦
-                  let worker : done_by s u ≡ w = ap (λ (k : Task). worker_of (progress s k)) e ∙ task_of-worker w (progress s t) mine in
-                  let here : progress s t ≡ Running w = ap (λ (k : Task). progress s k) (sym e) ∙ running ∙ ap Running worker in
-                  false≢true (sym (spared here) ∙ ap (λ (k : Task). has_cell (written_cells p k w) c) (sym e) ∙ ap (λ (k : Worker). has_cell (written_cells p u k) c) (sym worker) ∙ writes)
-              | inr d ↦ separated p m proper.cells deps s sound.state sound.workers sound.order t u w (done_by s u) c (λ e. d (sym e)) mine (ap (is_task_of (done_by s u)) running ∙ same_worker-refl (done_by s u)) has writes
-            ]
 
     -- a task finds the content of each cell whose old value it reads
     pub finds-content : (t : Task) (w : Worker) (a : Access) → is_task_of w (progress s t) ≡ true → Contains (task_of p t).accesses a → starts_as_zeros a.mode ≡ false → is_valid (replica s a.cell (AtNode (node_of m w))) ≡ true →
@@ -205,7 +146,7 @@ module _ (p : Program) (m : Machine) (proper : Proper p) (deps : HasDependencies
         shared : (progress s t ≡ Running w → has_cell (written_cells p t w) a.cell ≡ false) → array_at p s (AtNode (node_of m w)) a.cell ≡ content p s a.cell
         shared spared =
             let earlier = sound.order.earlier t (active-begun (progress s t) (task_of-active w (progress s t) mine)) in
-            let resting = not_being_written t w a.cell mine (read-cell t w a h reads) spared in
+            let resting = not_being_written p m proper deps s sound t w a.cell mine (read-cell t w a h reads) spared in
             array-told (array_of (replica s a.cell (AtNode (node_of m w)))) (content p s a.cell) (zeros (dims_of p a.cell)) valid (sound.copies.alike a.cell (AtNode (node_of m w)) (read-written t a earlier h reads) resting)
 
         by_kind : (x : Bool) → is_running_on w (progress s t) ≡ x → (y : Bool) → has_cell (written_cells p t w) a.cell ≡ y → array_at p s (AtNode (node_of m w)) a.cell ≡ content p s a.cell
@@ -215,3 +156,30 @@ module _ (p : Program) (m : Machine) (proper : Proper p) (deps : HasDependencies
             ∙ ap (λ b. if b then zeros (dims_of p a.cell) else content p s a.cell) (read-not_fresh t w a h reads)
         by_kind true e false f = shared (λ k. f)
         by_kind false e y f = shared (λ k. absurd (false≢true (sym e ∙ ap (is_running_on w) k ∙ same_worker-refl w)))
+
+-- ---- cells at rest
+
+pub running-inside : (p : Program) (m : Machine) (s : State) (u : Task) (v : Worker) → HasRows p m s → progress s u ≡ Running v → u.0 < length p.tasks
+running-inside p m s u v rows running = omega (arith, progress-inside s u (λ h. not_waiting (sym running ∙ h)), rows.tasks)
+  where
+    not_waiting : Running v ≡ Waiting → ⊥
+    not_waiting e = cc
+
+-- a cell that isn't being written after a step wasn't before, unless the task of the step wrote it
+pub not_written-before : (p : Program) (m : Machine) (s s' : State) (t : Task) (old new : Progress) (c : Cell) → HasRows p m s → Advances s s' t old new → is_being_written p s' c ≡ false → ((v : Worker) → old ≡ Running v → has_cell (written_cells p t v) c ≡ false) → is_being_written p s c ≡ false
+not_written-before p m s s' t old new c rows a resting spared = false_from_ne_true (is_being_written p s c) (λ h. (let by = being_written-by p s c h in by_task by.0 (done_by s by.0) by.1 by.2))
+  where
+    by_task : (u : Task) (v : Worker) → progress s u ≡ Running v → has_cell (written_cells p u v) c ≡ true → ⊥
+    by_task u v running writes =
+        elim (same_task u t) [
+          | inl e ↦ false≢true (sym (spared v (sym a.was ∙ ap (λ (k : Task). progress s k) (sym e) ∙ running)) ∙ ap (λ (k : Task). has_cell (written_cells p k v) c) (sym e) ∙ writes)
+          | inr d ↦ false≢true (sym resting ∙ being_written-here p s' c u v (running-inside p m s u v rows running) (a.others u d ∙ running) writes)
+        ]
+
+-- and the other way round: one that isn't being written isn't after a step whose task doesn't begin to write it
+pub not_written-after : (p : Program) (m : Machine) (s s' : State) (t : Task) (old new : Progress) (c : Cell) → HasRows p m s' → Advances s s' t old new → is_being_written p s c ≡ false → ((v : Worker) → new ≡ Running v → has_cell (written_cells p t v) c ≡ false) → is_being_written p s' c ≡ false
+not_written-after p m s s' t old new c rows a resting spared = not_written-before p m s' s t new old c rows (record { was = a.is; is = a.was; others = λ u d. sym (a.others u d) }) resting spared
+
+-- a valid replica that agrees still does where neither it nor the cell's content has changed
+pub agrees-kept : (o o' : Option Array) (x x' : Array) → o' ≡ o → x' ≡ x → IfSome o (λ a. a ≡ x) → IfSome o' (λ a. a ≡ x')
+agrees-kept o o' x x' e f h = subst (λ (k : Option Array). IfSome k (λ a. a ≡ x')) (sym e) (subst (λ (y : Array). IfSome o (λ a. a ≡ y)) (sym f) h)

@@ -1,24 +1,18 @@
 -- What cells hold after tasks in submission order: on which tasks it depends, and that a task may come last.
-use Rattle.std.proofs.Common.{◌≡◌, ◌≢◌, ℕ, zero, suc, ◌<◌, ◌≤◌, Bool, true, false, not, ◌||◌, cond, List, [], ◌∷◌, ◌++◌, map, length, refl, sym, ap, ◌∙◌, inl, inr, Option, None, Some, arith}
-use Rattle.std.specs.List.{Contains, filter, find, zip}
-use Rattle.std.specs.Option.{option_or}
-use Rattle.std.proofs.lemmas.Bool.{cases_lt, false≢true, true≢false}
+use Rattle.std.proofs.Common.{Bool, List, None, Option, Some, [], ap, arith, cond, false, inl, inr, length, map, not, refl, suc, sym, true, zero, ℕ, ◌++◌, ◌<◌, ◌||◌, ◌∙◌, ◌∷◌, ◌≡◌, ◌≢◌, ◌≤◌}
+use Rattle.std.proofs.lemmas.Bool.{cases_lt, false_from_ne_true, false≢true, true≢false}
 use Rattle.std.proofs.lemmas.Bool.Decides.{Decides-eqb}
 use Rattle.std.proofs.lemmas.List.Folds.{find-append}
-use Rattle.sj_base.specs.declared.ids.Cell.{Cell}
-use Rattle.sj_base.specs.declared.ids.Task.{Task}
-use Rattle.sj_base.specs.declared.ids.Worker.{Worker}
-use Rattle.sj_base.specs.declared.mode.Mode.{Mode}
-use Rattle.sj_base.specs.declared.mode.Mode.TheVariants.{R, W, RW, Scratch, Redux, Commute}
+use Rattle.std.specs.List.{Contains, filter, find, zip}
+use Rattle.std.specs.Option.{option_or}
+use Rattle.sj_core.proofs.Words.{Array, Cell, Program, Task, Worker, cells_of, dims_of, has_cell, results, same_cell, task_of, worked_on, writes, written_cells, zeros, found}
+use Rattle.sj_base.specs.Mode.{is_scratch, is_written, starts_as_zeros}
 use Rattle.sj_base.specs.declared.mode.Access.{Access}
-use Rattle.sj_base.specs.declared.program.Program.{Program}
-use Rattle.sj_base.specs.Array.{Array, zeros}
 use Rattle.sj_codelet.specs.Kernel.{out}
-use Rattle.sj_core.specs.Program.{same_cell, has_cell, dims_of, task_of, is_scratch, is_written, starts_as_zeros}
-use Rattle.sj_core.specs.Operands.{worked_on, cells_of, written_cells, found, results}
-use Rattle.sj_core.specs.Fold.{Contents, held_in, after_task, after_chosen}
+use Rattle.sj_core.specs.Fold.{Contents, after_chosen, after_task, held_in}
 use Rattle.sj_core.proofs.Advancing.{same_task}
-use Rattle.sj_core.proofs.Holding.{not_true}
+use Rattle.sj_core.proofs.Modes.{reads_isn't_scratch}
+use Rattle.sj_core.proofs.Readiness.{Contains-from_filter}
 use Rattle.sj_core.proofs.Sharing.{operand-has_cell}
 use Rattle.sj_core.proofs.TaskCells.{written-among_cells}
 
@@ -30,19 +24,6 @@ number n = record { 0 = n }
 pub map-same : {X Y : Type 0} (f g : X → Y) (xs : List X) → ((x : X) → Contains xs x → f x ≡ g x) → map f xs ≡ map g xs
 map-same f g [] same = refl
 map-same f g (x ∷ xs) same = ap (λ y. y ∷ map f xs) (same x (0, omega arith, refl)) ∙ ap (λ ys. g x ∷ ys) (map-same f g xs (λ z h. same z (suc h.0, omega (arith, h.1), h.2)))
-
--- what a filter keeps is in the list
-pub Contains-from_filter : {X : Type 0} (f : X → Bool) (xs : List X) (x : X) → Contains (filter f xs) x → Contains xs x
-Contains-from_filter f [] x h = h
-Contains-from_filter {X} f (y ∷ xs) x h = by_first (f y) (Contains-from_filter f xs x) h
-  where
-    later : Contains xs x → Contains (y ∷ xs) x
-    later k = (suc k.0, omega (arith, k.1), k.2)
-
-    by_first : (b : Bool) → (Contains (filter f xs) x → Contains xs x) → Contains (cond b (y ∷ filter f xs) (filter f xs)) x → Contains (y ∷ xs) x
-    by_first true rest (zero, l, e) = (0, omega arith, e)
-    by_first true rest (suc k, l, e) = later (rest (k, omega arith, e))
-    by_first false rest k = later (rest k)
 
 -- ---- what was put into a cell last
 
@@ -92,14 +73,6 @@ results-same p t v w held held' same = ap (out (task_of p t).codelet (task_of p 
     by_start : (a : Access) (b : Bool) → (b ≡ false → held (worked_on p v a) ≡ held' (worked_on p w a)) → cond b (zeros (dims_of p a.cell)) (held (worked_on p v a)) ≡ cond b (zeros (dims_of p a.cell)) (held' (worked_on p w a))
     by_start a true e = refl
     by_start a false e = e refl
-
-pub reads_isn't_scratch : (x : Mode) → starts_as_zeros x ≡ false → not (is_scratch x) ≡ true
-reads_isn't_scratch R h = refl
-reads_isn't_scratch W h = refl
-reads_isn't_scratch RW h = refl
-reads_isn't_scratch Scratch h = sym h
-reads_isn't_scratch Redux h = refl
-reads_isn't_scratch Commute h = refl
 
 -- a cell whose old value a task reads is one of its cells
 pub read-among_cells : (p : Program) (t : Task) (w : Worker) (a : Access) → Contains (task_of p t).accesses a → starts_as_zeros a.mode ≡ false → has_cell (cells_of p t w) (worked_on p w a) ≡ true
@@ -191,7 +164,7 @@ cone-holds p chosen wider by by' (suc n) k c writers = by_choice (chosen t) (wid
         (rest c (λ u h. writers u (omega arith)))
     by_choice true false e f rest = absurd (false≢true (sym f ∙ k.within (number n) (omega arith) e))
     by_choice false true e f rest =
-        let other = not_true (has_cell (written_cells p (number n) (by' (number n))) c) (λ writes. false≢true (sym e ∙ writers (number n) (omega arith) f writes)) in
+        let other = false_from_ne_true (has_cell (written_cells p (number n) (by' (number n))) c) (λ writes. false≢true (sym e ∙ writers (number n) (omega arith) f writes)) in
         rest c (λ u h. writers u (omega arith)) ∙ sym (after_task-other p (by' (number n)) (number n) (after_chosen p wider by' n) c other)
     by_choice false false e f rest = rest c (λ u h. writers u (omega arith))
 
@@ -218,7 +191,7 @@ module _ (p : Program) (chosen chosen' : Task → Bool) (by by' : Task → Worke
 
   -- t's cells hold after all chosen tasks what they held after those before t
   inputs-hold : (d : Cell) → has_cell (cells_of p t w) d ≡ true → held_in p (after_chosen p chosen by n) d ≡ held_in p (after_chosen p chosen by t.0) d
-  inputs-hold d has = held-until p chosen by d t.0 n (omega arith) (λ u h k e. not_true (has_cell (written_cells p u (by u)) d) (λ writes.
+  inputs-hold d has = held-until p chosen by d t.0 n (omega arith) (λ u h k e. false_from_ne_true (has_cell (written_cells p u (by u)) d) (λ writes.
       (let differ : t.0 ≢ u.0 = λ same. false≢true (sym adds.absent ∙ ap chosen (ap number same) ∙ e) in
       last.unwritten u d (omega (arith, differ)) e writes has)))
 
@@ -226,7 +199,7 @@ module _ (p : Program) (chosen chosen' : Task → Bool) (by by' : Task → Worke
   written-last c writes =
       let has = written-among_cells p t w c writes in
       let old = after_chosen p chosen by t.0 in
-      let later = held-until p chosen' by' c (suc t.0) n inside (λ u h k e. not_true (has_cell (written_cells p u (by' u)) c) (λ over.
+      let later = held-until p chosen' by' c (suc t.0) n inside (λ u h k e. false_from_ne_true (has_cell (written_cells p u (by' u)) c) (λ over.
       (let was = chosen-before u (omega arith) e in
       last.unwritten u c (omega arith) was.0 (sym (ap (λ (v : Worker). has_cell (written_cells p u v) c) was.1) ∙ over) has))) in
       let same : after_chosen p chosen' by' t.0 ≡ old = after_chosen-same p chosen' chosen by' by t.0 (λ u h. adds.others u (λ e. less_isn't_same u h (ap (λ (k : Task). k.0) e))) (λ u h e. adds.workers u (λ f. less_isn't_same u h (ap (λ (k : Task). k.0) f))) in

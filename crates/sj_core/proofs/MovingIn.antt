@@ -1,34 +1,16 @@
 -- A move into a node that begins leaves a coherent state.
-use Rattle.std.proofs.Common.{◌≡◌, ℕ, Bool, true, false, not, ◌&&◌, refl, sym, ap, ◌∙◌, subst, inl, inr, ◌⊎◌, Option, None, Some}
-use Rattle.std.specs.Prelude.{IsTrue, position}
-use Rattle.std.proofs.lemmas.Bool.{false≢true, and_from}
-use Rattle.std.proofs.lemmas.List.{length-set}
+use Rattle.std.proofs.Common.{None, Option, Some, ap, false, inl, inr, not, refl, subst, sym, true, ℕ, ◌&&◌, ◌∙◌, ◌≡◌, ◌⊎◌}
+use Rattle.std.proofs.lemmas.Bool.{and_from, false_from_ne_true, false≢true}
 use Rattle.std.proofs.lemmas.List.Quantifiers.{position-Some}
-use Rattle.sj_base.specs.declared.ids.Cell.{Cell}
-use Rattle.sj_base.specs.declared.ids.DiskNo.{DiskNo}
-use Rattle.sj_base.specs.declared.ids.Node.{Node}
-use Rattle.sj_base.specs.declared.ids.Worker.{Worker}
-use Rattle.sj_base.specs.declared.ids.Place.{Place}
-use Rattle.sj_base.specs.declared.ids.Place.TheVariants.{Node as AtNode, Disk as OnDisk}
-use Rattle.sj_base.specs.declared.program.Program.{Program}
-use Rattle.sj_base.specs.declared.program.Machine.{Machine}
-use Rattle.sj_core.specs.Program.{same_cell, has_cell}
-use Rattle.sj_core.specs.declared.progress.Transfer.{Transfer}
-use Rattle.sj_core.specs.Operands.{fresh_cells}
-use Rattle.sj_core.specs.Machine.{State, Invalid, cell_state, replica, transfer, progress, is_valid, is_leaving_by, is_coming_by, is_claimed_by, with_transfer}
-use Rattle.sj_core.specs.Step.{BeginsMoveIn, a_transfer, source_of, disk_of, is_fresh}
-use Rattle.sj_core.specs.Coherent.{IsClaimed, IsTransferTo, NoneLeavesBy, TransfersAreSound, Coherent}
+use Rattle.std.specs.Prelude.{IsTrue, option_map, position}
+use Rattle.sj_core.proofs.Words.{AtNode, Cell, DiskNo, Invalid, Machine, Node, OnDisk, Place, Program, State, Transfer, Worker, cell_state, fresh_cells, has_cell, is_claimed_by, is_coming_by, is_valid, progress, replica, transfer, with_transfer}
+use Rattle.sj_core.specs.Coherent.{Coherent, IsClaimed, IsTransferTo, NoneLeavesBy, TransfersAreSound}
 use Rattle.sj_core.specs.Laws.{IsSound}
-use Rattle.sj_core.proofs.Reading.{same_cell-is}
-use Rattle.sj_core.proofs.Advancing.{same_worker-refl}
-use Rattle.sj_core.proofs.Workers.{room-leaves_none, leaving-isn't_resting}
-use Rattle.sj_core.proofs.Holding.{not_true}
-use Rattle.sj_core.proofs.Claimed.{list_any-task, claimed-inside, claimed-not_written, claimed-old_value}
-use Rattle.sj_core.proofs.Placing.{pins-same, scratch-same, victims-same, transfer-cases, owned-fails, position-none, valid-within}
-use Rattle.sj_core.proofs.Shifting.{Shifts, Shifts-coherent}
-
-pub some-is : (x y : Transfer) → Some x ≡ Some y → x ≡ y
-some-is x y e = cc
+use Rattle.sj_core.specs.Step.{BeginsMoveIn, a_transfer, disk_of, is_fresh}
+use Rattle.sj_core.proofs.Claimed.{claimed-inside, claimed-not_written, claimed-old_value, list_any-task}
+use Rattle.sj_core.proofs.Placing.{owned-fails, position-none, room-leaves_none, valid-within, transfer-is}
+use Rattle.sj_core.proofs.Replicas.{same_worker-refl}
+use Rattle.sj_core.proofs.Shifting.{Begun-coherent}
 
 module _ (p : Program) (m : Machine) (s : State) (h : IsSound p m s) (c : Cell) (from : Place) (n : Node) (w : Worker) (s' : State) (move : BeginsMoveIn p m s c from n w s') where
   abbrev begun : Transfer
@@ -42,7 +24,7 @@ module _ (p : Program) (m : Machine) (s : State) (h : IsSound p m s) (c : Cell) 
 
   -- the claimed task reads the cell's old value
   not_fresh : has_cell (fresh_cells p claimed.task w) c ≡ false
-  not_fresh = not_true (has_cell (fresh_cells p claimed.task w) c) (λ fresh.
+  not_fresh = false_from_ne_true (has_cell (fresh_cells p claimed.task w) c) (λ fresh.
       (let ours : is_claimed_by w (progress s claimed.task) ≡ true = ap (is_claimed_by w) claimed.claimed ∙ same_worker-refl w in
       let both = and_from (is_claimed_by w (progress s claimed.task)) (has_cell (fresh_cells p claimed.task w) c) ours fresh in
       let some : is_fresh p s w c ≡ true = list_any-task p (λ t. is_claimed_by w (progress s t) && has_cell (fresh_cells p t w) c) claimed.task (claimed-inside p m s h claimed.task w claimed.claimed) both in
@@ -52,22 +34,24 @@ module _ (p : Program) (m : Machine) (s : State) (h : IsSound p m s) (c : Cell) 
   somewhere : (q : Place) × IsTrue (is_valid (replica s c q))
   somewhere = h.coherent.copies.valid_somewhere c (claimed-old_value p m s h claimed.task w claimed.claimed c claimed.cell not_fresh) (claimed-not_written p m s h claimed.task w claimed.claimed c claimed.cell)
 
-  source_valid : is_valid (replica s c (source_of p m s c)) ≡ true
-  source_valid = by_position (position is_valid (cell_state s c).nodes) refl somewhere.0 somewhere.1
+  source_valid : is_valid (replica s c from) ≡ true
+  source_valid = by_position (position is_valid (cell_state s c).nodes) refl move.source somewhere.0 somewhere.1
     where
-      by_position : (o : Option ℕ) → position is_valid (cell_state s c).nodes ≡ o → (q : Place) → is_valid (replica s c q) ≡ true → is_valid (replica s c (elim o as (λ _. Place) [ None ↦ OnDisk (disk_of p m c) | Some k ↦ AtNode (record { 0 = k }) ])) ≡ true
-      by_position (Some k) e q valid = (position-Some is_valid (cell_state s c).nodes k Invalid e).1
-      by_position None e (AtNode k) valid = absurd (false≢true (sym (position-none is_valid (cell_state s c).nodes k.0 Invalid e (valid-within (cell_state s c).nodes k.0 valid)) ∙ valid))
-      by_position None e (OnDisk d) valid = ap (λ (x : DiskNo). is_valid (replica s c (OnDisk x))) (sym (h.coherent.state.blocks.home c d valid)) ∙ valid
+      found : (q : Place) → Some q ≡ Some from → is_valid (replica s c q) ≡ true → is_valid (replica s c from) ≡ true
+      found q e valid = let f : q ≡ from = cc in ap (λ (k : Place). is_valid (replica s c k)) (sym f) ∙ valid
+
+      by_position : (o : Option ℕ) → position is_valid (cell_state s c).nodes ≡ o → elim o as (λ _. Option Place) [ None ↦ option_map OnDisk (disk_of p m c) | Some k ↦ Some (AtNode (record { 0 = k })) ] ≡ Some from → (q : Place) → is_valid (replica s c q) ≡ true → is_valid (replica s c from) ≡ true
+      by_position (Some k) e f q valid = found (AtNode (record { 0 = k })) f (position-Some is_valid (cell_state s c).nodes k Invalid e).1
+      by_position None e f (AtNode k) valid = absurd (false≢true (sym (position-none is_valid (cell_state s c).nodes k.0 Invalid e (valid-within (cell_state s c).nodes k.0 valid)) ∙ valid))
+      by_position None e f (OnDisk d) valid = found (OnDisk d) (sym (ap (λ (o : Option DiskNo). option_map OnDisk o) (h.coherent.state.blocks.home c d valid)) ∙ f) valid
 
   -- nothing leaves by the claim any more
   none_leaves : NoneLeavesBy s w
-  none_leaves d (AtNode k) = not_true (is_leaving_by w (replica s d (AtNode k))) (λ leaving. false≢true (sym (room-leaves_none m s w d k move.room (h.coherent.workers.evicted w d k leaving)) ∙ leaving))
-  none_leaves d (OnDisk k) = not_true (is_leaving_by w (replica s d (OnDisk k))) (λ leaving. (let l = leaving-isn't_resting w (replica s d (OnDisk k)) leaving in (h.coherent.state.blocks.resting d k l.0 l.1).1 l.2))
+  none_leaves = room-leaves_none p m s h w move.room
 
   -- each transfer is as before, or is this one
   transfers : (v : Worker) (x : Transfer) → transfer after v ≡ Some x → (transfer s v ≡ Some x) ⊎ ((v ≡ w) × (begun ≡ x))
-  transfers v x h = elim (transfer-cases s w (Some begun) v) [ inl same ↦ inl (sym same ∙ h) | inr (e, is) ↦ inr (e, some-is begun x (sym is ∙ h)) ]
+  transfers = transfer-is s w begun
 
   to_node : (k : Node) (d : DiskNo) → AtNode k ≡ OnDisk d → ⊥
   to_node k d e = cc
@@ -81,7 +65,7 @@ module _ (p : Program) (m : Machine) (s : State) (h : IsSound p m s) (c : Cell) 
       record {
         source = λ v x under_way. elim (transfers v x under_way) [
           | inl same ↦ before.source v x same
-          | inr (e, is) ↦ subst (λ (y : Transfer). is_valid (replica s y.cell y.from) ≡ true) is (ap (λ (q : Place). is_valid (replica s c q)) move.source ∙ source_valid)
+          | inr (e, is) ↦ subst (λ (y : Transfer). is_valid (replica s y.cell y.from) ≡ true) is source_valid
         ];
         target = λ v x under_way. elim (transfers v x under_way) [
           | inl same ↦ to_place v x.cell x.from x.to (before.target v x same)
@@ -100,35 +84,5 @@ module _ (p : Program) (m : Machine) (s : State) (h : IsSound p m s) (c : Cell) 
       to_place v d from (AtNode k) target = target
       to_place v d from (OnDisk k) target = target
 
-  shift : Shifts p m s after.cells after.workers
-  shift = record {
-    rows = (let rows = h.coherent.state.rows in record { tasks = rows.tasks; cells = rows.cells; orders = rows.orders; workers = length-set s.workers w.0 _ ∙ rows.workers; nodes = rows.nodes; disks = rows.disks });
-    blocks = (let blocks = h.coherent.state.blocks in record {
-      resting = blocks.resting;
-      home = blocks.home;
-      aimed = λ v x d under_way to. elim (transfers v x under_way) [ inl same ↦ blocks.aimed v x d same to | inr (e, is) ↦ absurd (not_to_disk x d is to) ];
-    });
-    same_pins = pins-same s w (Some begun);
-    same_scratch = scratch-same s w (Some begun);
-    same_victims = victims-same s w (Some begun);
-    same_writes = λ d. refl;
-    same_entries = λ d k. refl;
-    leaves = λ v d q leaving. leaving;
-    comes = λ v d k coming. coming;
-    still_comes = λ v x d k leaving coming. coming;
-    pinned = λ v d pin valid. valid;
-    owned = λ d v a own q. refl;
-    unmoved = λ d v a own x. elim (transfer-cases s w (Some begun) x) [
-      | inl same ↦ ap (λ (o : Option Transfer). elim o as (λ _. Bool) [ None ↦ false | Some y ↦ same_cell y.cell d ]) same ∙ own.unmoved x
-      | inr (e, is) ↦ ap (λ (o : Option Transfer). elim o as (λ _. Bool) [ None ↦ false | Some y ↦ same_cell y.cell d ]) is ∙ not_true (same_cell c d) (λ same. false≢true (sym (owned-fails m s d v a own (is_coming_by w) refl refl (AtNode n)) ∙ ap (λ (y : Cell). is_coming_by w (replica s y (AtNode n))) (sym (same_cell-is c d same)) ∙ move.coming))
-    ];
-    movers = λ v x under_way. elim (transfers v x under_way) [
-      | inl same ↦ h.coherent.workers.moves_for_claim v x same
-      | inr (e, is) ↦ (claimed.task, ap (λ (y : Worker). is_claimed_by y (progress s claimed.task)) e ∙ ap (is_claimed_by w) claimed.claimed ∙ same_worker-refl w)
-    ];
-    moving = moving;
-    copies = record { valid_somewhere = h.coherent.copies.valid_somewhere; alike = h.coherent.copies.alike };
-  }
-
   pub Moves_in-keep_coherence : Coherent p m s'
-  Moves_in-keep_coherence = subst (λ (z : State). Coherent p m z) (sym move.leaves) (Shifts-coherent p m s h after.cells after.workers shift)
+  Moves_in-keep_coherence = subst (λ (z : State). Coherent p m z) (sym move.leaves) (Begun-coherent p m s h w begun (λ d to. absurd (to_node n d to)) moving (λ v a own. false≢true (sym (owned-fails m s c v a own (is_coming_by w) refl refl (AtNode n)) ∙ move.coming)) claimed.task claimed.claimed)

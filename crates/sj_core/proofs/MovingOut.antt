@@ -1,28 +1,14 @@
 -- A move out to a disk that begins leaves a coherent state.
-use Rattle.std.proofs.Common.{◌≡◌, Bool, true, false, not, ◌&&◌, refl, sym, ap, ◌∙◌, subst, inl, inr, ◌⊎◌, Option, None, Some, []}
-use Rattle.std.proofs.lemmas.Bool.{false≢true, and_from}
-use Rattle.std.proofs.lemmas.List.{length-set}
-use Rattle.sj_base.specs.Array.{Array}
-use Rattle.sj_base.specs.declared.ids.Cell.{Cell}
-use Rattle.sj_base.specs.declared.ids.Task.{Task}
-use Rattle.sj_base.specs.declared.ids.DiskNo.{DiskNo}
-use Rattle.sj_base.specs.declared.ids.Worker.{Worker}
-use Rattle.sj_base.specs.declared.ids.Place.{Place}
-use Rattle.sj_base.specs.declared.ids.Place.TheVariants.{Node as AtNode, Disk as OnDisk}
-use Rattle.sj_base.specs.declared.program.Program.{Program}
-use Rattle.sj_base.specs.declared.program.Machine.{Machine}
-use Rattle.sj_core.specs.Program.{same_cell}
-use Rattle.sj_core.specs.declared.progress.Transfer.{Transfer}
-use Rattle.sj_core.specs.Machine.{State, Replica, Invalid, Coming, Valid, Leaving, replica, transfer, progress, is_valid, is_leaving_by, is_claimed_by, with_transfer}
-use Rattle.sj_core.specs.Step.{BeginsMoveOut, a_transfer, disk_of, same_place, is_valid_elsewhere}
-use Rattle.sj_core.specs.Coherent.{IsTransferTo, TransfersAreSound, Coherent}
+use Rattle.std.proofs.Common.{Bool, Some, [], ap, false, inl, inr, not, refl, subst, sym, true, ◌&&◌, ◌∙◌, ◌≡◌, ◌⊎◌}
+use Rattle.std.proofs.lemmas.Bool.{and_from, false≢true}
+use Rattle.sj_core.proofs.Words.{Array, AtNode, Cell, Coming, DiskNo, Invalid, Leaving, Machine, OnDisk, Place, Program, Replica, State, Task, Transfer, Valid, Worker, is_claimed_by, is_leaving_by, is_valid, progress, replica, transfer, with_transfer}
+use Rattle.sj_core.specs.Coherent.{Coherent, IsTransferTo, TransfersAreSound}
 use Rattle.sj_core.specs.Laws.{IsSound}
-use Rattle.sj_core.proofs.Reading.{same_cell-is}
-use Rattle.sj_core.proofs.Workers.{leaving-isn't_resting}
-use Rattle.sj_core.proofs.Holding.{not_true}
-use Rattle.sj_core.proofs.Placing.{pins-same, scratch-same, victims-same, transfer-cases, owned-fails, same_place-is, list_any-place, leaving_by-valid, leaving_by-one}
-use Rattle.sj_core.proofs.Shifting.{Shifts, Shifts-coherent}
-use Rattle.sj_core.proofs.MovingIn.{some-is}
+use Rattle.sj_core.specs.Step.{BeginsMoveOut, a_transfer, is_valid_elsewhere, same_place}
+use Rattle.sj_core.proofs.Advancing.{claimed_by-is}
+use Rattle.sj_core.proofs.Placing.{list_any-place, owned-fails, same_place-is, transfer-is}
+use Rattle.sj_core.proofs.Replicas.{leaving_by-is, leaving_by-one, leaving_by-valid}
+use Rattle.sj_core.proofs.Shifting.{Begun-coherent}
 
 module _ (p : Program) (m : Machine) (s : State) (h : IsSound p m s) (c : Cell) (from : Place) (d : DiskNo) (w : Worker) (s' : State) (move : BeginsMoveOut p m s c from d w s') where
   abbrev begun : Transfer
@@ -33,7 +19,7 @@ module _ (p : Program) (m : Machine) (s : State) (h : IsSound p m s) (c : Cell) 
 
   -- no replica on a disk leaves
   stays_on_disk : (v : Worker) (x : Cell) (k : DiskNo) → is_leaving_by v (replica s x (OnDisk k)) ≡ true → ⊥
-  stays_on_disk v x k leaving = let l = leaving-isn't_resting v (replica s x (OnDisk k)) leaving in (h.coherent.state.blocks.resting x k l.0 l.1).1 l.2
+  stays_on_disk v x k leaving = let is = leaving_by-is v (replica s x (OnDisk k)) leaving in (h.coherent.state.blocks.resting x k v is.0).1 is.1
 
   -- a valid replica of the cell is the one that leaves
   only_one : (q : Place) → is_valid (replica s c q) ≡ true → q ≡ from
@@ -61,7 +47,7 @@ module _ (p : Program) (m : Machine) (s : State) (h : IsSound p m s) (c : Cell) 
 
   -- each transfer is as before, or is this one
   transfers : (v : Worker) (x : Transfer) → transfer after v ≡ Some x → (transfer s v ≡ Some x) ⊎ ((v ≡ w) × (begun ≡ x))
-  transfers v x h = elim (transfer-cases s w (Some begun) v) [ inl same ↦ inl (sym same ∙ h) | inr (e, is) ↦ inr (e, some-is begun x (sym is ∙ h)) ]
+  transfers = transfer-is s w begun
 
   -- another worker's transfer of the cell to a disk would read the same replica
   reads_the_same : (v : Worker) (x : Transfer) (k : DiskNo) → transfer s v ≡ Some x → x.to ≡ OnDisk k → x.cell ≡ c → v ≡ w
@@ -113,38 +99,5 @@ module _ (p : Program) (m : Machine) (s : State) (h : IsSound p m s) (c : Cell) 
   disk-is : (k : DiskNo) → OnDisk d ≡ OnDisk k → d ≡ k
   disk-is k e = cc
 
-  shift : Shifts p m s after.cells after.workers
-  shift = record {
-    rows = (let rows = h.coherent.state.rows in record { tasks = rows.tasks; cells = rows.cells; orders = rows.orders; workers = length-set s.workers w.0 _ ∙ rows.workers; nodes = rows.nodes; disks = rows.disks });
-    blocks = (let blocks = h.coherent.state.blocks in record {
-      resting = blocks.resting;
-      home = blocks.home;
-      aimed = λ v x k under_way to. elim (transfers v x under_way) [
-        | inl same ↦ blocks.aimed v x k same to
-        | inr (e, is) ↦ sym (disk-is k (ap (λ (y : Transfer). y.to) is ∙ to)) ∙ move.target ∙ ap (λ (y : Transfer). disk_of p m y.cell) is
-      ];
-    });
-    same_pins = pins-same s w (Some begun);
-    same_scratch = scratch-same s w (Some begun);
-    same_victims = victims-same s w (Some begun);
-    same_writes = λ x. refl;
-    same_entries = λ x k. refl;
-    leaves = λ v x q leaving. leaving;
-    comes = λ v x k coming. coming;
-    still_comes = λ v x y k leaving coming. coming;
-    pinned = λ v x pin valid. valid;
-    owned = λ x v a own q. refl;
-    unmoved = λ x v a own u. elim (transfer-cases s w (Some begun) u) [
-      | inl same ↦ ap (λ (o : Option Transfer). elim o as (λ _. Bool) [ None ↦ false | Some y ↦ same_cell y.cell x ]) same ∙ own.unmoved u
-      | inr (e, is) ↦ ap (λ (o : Option Transfer). elim o as (λ _. Bool) [ None ↦ false | Some y ↦ same_cell y.cell x ]) is ∙ not_true (same_cell c x) (λ same. false≢true (sym (owned-fails m s x v a own (is_leaving_by w) refl refl from) ∙ ap (λ (y : Cell). is_leaving_by w (replica s y from)) (sym (same_cell-is c x same)) ∙ move.leaving))
-    ];
-    movers = λ v x under_way. elim (transfers v x under_way) [
-      | inl same ↦ h.coherent.workers.moves_for_claim v x same
-      | inr (e, is) ↦ (claims.0, ap (λ (y : Worker). is_claimed_by y (progress s claims.0)) e ∙ claims.1)
-    ];
-    moving = moving;
-    copies = record { valid_somewhere = h.coherent.copies.valid_somewhere; alike = h.coherent.copies.alike };
-  }
-
   pub Moves_out-keep_coherence : Coherent p m s'
-  Moves_out-keep_coherence = subst (λ (z : State). Coherent p m z) (sym move.leaves) (Shifts-coherent p m s h after.cells after.workers shift)
+  Moves_out-keep_coherence = subst (λ (z : State). Coherent p m z) (sym move.leaves) (Begun-coherent p m s h w begun (λ k to. move.target ∙ ap Some (disk-is k to)) moving (λ v a own. false≢true (sym (owned-fails m s c v a own (is_leaving_by w) refl refl from) ∙ move.leaving)) claims.0 (claimed_by-is w (progress s claims.0) claims.1))

@@ -1,26 +1,14 @@
 -- The opening state is coherent.
-use Rattle.std.proofs.Common.{◌≡◌, ℕ, zero, suc, ◌+◌, ◌<◌, true, ◌&&◌, cond, List, [], ◌∷◌, length, get_or, replicate, refl, sym, ap, ◌∙◌, inl, inr, ◌⊎◌, None, Some, arith}
-use Rattle.std.specs.Prelude.{fold, sum_by, count_by}
-use Rattle.std.proofs.lemmas.List.{get_or_past, get_or-replicate, length-replicate}
-use Rattle.std.proofs.lemmas.List.Elements.{All-replicate}
+use Rattle.std.proofs.Common.{Option, None, Some, List, [], ap, arith, cond, get_or, inl, inr, length, refl, replicate, suc, sym, true, zero, ℕ, ◌&&◌, ◌+◌, ◌<◌, ◌∙◌, ◌∷◌, ◌≡◌, ◌⊎◌}
 use Rattle.std.proofs.lemmas.Bool.{cases_lt, false≢true}
-use Rattle.sj_base.specs.declared.ids.Cell.{Cell}
-use Rattle.sj_base.specs.declared.ids.Task.{Task}
-use Rattle.sj_base.specs.declared.ids.Node.{Node}
-use Rattle.sj_base.specs.declared.ids.Worker.{Worker}
-use Rattle.sj_base.specs.declared.ids.Place.{Place}
-use Rattle.sj_base.specs.declared.ids.Place.TheVariants.{Node as AtNode, Disk as OnDisk}
-use Rattle.sj_base.specs.declared.program.Program.{Program}
-use Rattle.sj_base.specs.declared.program.Machine.{Machine}
-use Rattle.sj_base.specs.Array.{Array}
-use Rattle.sj_core.specs.Program.{same_cell, has_cell, tasks_of}
-use Rattle.sj_core.specs.Needs.{tile_bytes}
-use Rattle.sj_core.specs.declared.progress.Progress.TheVariants.{Waiting, Claimed, Running}
-use Rattle.sj_core.specs.declared.progress.Transfer.{Transfer}
-use Rattle.sj_core.specs.Machine.{CellState, WorkerState, Invalid, Coming, Leaving, progress, cell_state, replica, replica_in, writes, order, worker_state, transfer, pins, scratch, workers_at, used, no_replica, opening, is_valid, is_entry, is_leaving_by, is_coming_by, is_task_of, is_done, done_by}
-use Rattle.sj_core.specs.Operands.{written_cells}
-use Rattle.sj_core.specs.Coherent.{Coherent, is_begun, is_active, has_written}
-use Rattle.sj_core.proofs.Reading.{no_row, idle_row, replica_in-no_row}
+use Rattle.std.proofs.lemmas.List.{get_or-replicate, get_or_past, length-replicate}
+use Rattle.std.proofs.lemmas.List.Elements.{All-replicate}
+use Rattle.std.specs.Prelude.{count_by, fold, sum_by}
+use Rattle.sj_core.proofs.Words.{AtNode, Cell, CellState, Coming, Invalid, Leaving, Machine, Node, OnDisk, Place, Program, Task, Transfer, Waiting, Worker, WorkerState, cell_state, done_by, has_cell, is_coming_by, is_done, is_entry, is_leaving_by, is_task_of, is_valid, no_replica, opening, order, pins, progress, replica, replica_in, same_cell, scratch, tasks_of, tile_bytes, transfer, worker_state, workers_at, writes, written_cells, used}
+use Rattle.sj_core.specs.Coherent.{Coherent, has_written, is_active, is_begun}
+use Rattle.sj_core.proofs.Reading.{idle_row, no_row, replica_in-no_row}
+use Rattle.sj_core.proofs.Advancing.{claimed-is_mine}
+use Rattle.sj_core.proofs.Replicas.{same_worker-refl}
 
 all_same : {X : Type 0} (n i : ℕ) (a : X) → get_or (replicate n a) i a ≡ a
 all_same zero i a = refl
@@ -30,9 +18,6 @@ all_same (suc n) (suc i) a = all_same n i a
 sum-zero : {X : Type 0} (f : X → ℕ) → ((x : X) → f x ≡ 0) → (a : ℕ) (xs : List X) → fold (λ b x. b + f x) a xs ≡ a
 sum-zero f none a [] = refl
 sum-zero f none a (x ∷ xs) = ap (λ b. fold (λ c y. c + f y) b xs) (let e = none x in omega arith) ∙ sum-zero f none a xs
-
-some_isn't_none : (x : Transfer) → None ≡ Some x → ⊥
-some_isn't_none x e = cc
 
 module _ (p : Program) (m : Machine) where
   waits : (t : Task) → progress (opening p m) t ≡ Waiting
@@ -72,7 +57,7 @@ module _ (p : Program) (m : Machine) where
   not_coming w c q h = false≢true (sym (ap (is_coming_by w) (nowhere c q)) ∙ h)
 
   not_moving : (w : Worker) (x : Transfer) → transfer (opening p m) w ≡ Some x → ⊥
-  not_moving w x h = some_isn't_none x (sym (ap (λ (row : WorkerState). row.transfer) (idle w)) ∙ h)
+  not_moving w x h = let none : ◌≡◌ {A = Option Transfer} None (Some x) = sym (ap (λ (row : WorkerState). row.transfer) (idle w)) ∙ h in cc
 
   not_begun : (t : Task) → is_begun (progress (opening p m) t) ≡ true → ⊥
   not_begun t h = false≢true (sym (ap is_begun (waits t)) ∙ h)
@@ -82,12 +67,6 @@ module _ (p : Program) (m : Machine) where
 
   not_task_of : (w : Worker) (t : Task) → is_task_of w (progress (opening p m) t) ≡ true → ⊥
   not_task_of w t h = false≢true (sym (ap (is_task_of w) (waits t)) ∙ h)
-
-  not_running : (t : Task) (w : Worker) → progress (opening p m) t ≡ Running w → ⊥
-  not_running t w h = let e : Waiting ≡ Running w = sym (waits t) ∙ h in cc
-
-  not_claimed : (t : Task) (w : Worker) → progress (opening p m) t ≡ Claimed w → ⊥
-  not_claimed t w h = let e : Waiting ≡ Claimed w = sym (waits t) ∙ h in cc
 
   not_pinned : (w : Worker) (c : Cell) → has_cell (pins (opening p m) w) c ≡ true → ⊥
   not_pinned w c h = false≢true (sym (ap (λ (row : WorkerState). has_cell row.pins c) (idle w)) ∙ h)
@@ -107,12 +86,6 @@ module _ (p : Program) (m : Machine) where
   not_positive : (c : Cell) → 0 < writes (opening p m) c → ⊥
   not_positive c h = let e = unwritten c in omega arith
 
-  coming_isn't_invalid : (w : Worker) → Invalid ≡ Coming w → ⊥
-  coming_isn't_invalid w e = cc
-
-  leaving_isn't_invalid : (w : Worker) (a : Array) → Invalid ≡ Leaving w a → ⊥
-  leaving_isn't_invalid w a e = cc
-
   pub opening-coherent : Coherent p m (opening p m)
   opening-coherent = record {
     state = record {
@@ -129,15 +102,15 @@ module _ (p : Program) (m : Machine) where
         once = λ n c. (let e = ap (λ (cs : List Cell). count_by (λ d. same_cell d c) cs) (empty n) in omega arith);
       };
       blocks = record {
-        resting = λ c d w a. (λ e. coming_isn't_invalid w (sym (nowhere c (OnDisk d)) ∙ e), λ e. leaving_isn't_invalid w a (sym (nowhere c (OnDisk d)) ∙ e));
+        resting = λ c d w a. (λ e. (let f : Invalid ≡ Coming w = sym (nowhere c (OnDisk d)) ∙ e in cc), λ e. (let f : Invalid ≡ Leaving w a = sym (nowhere c (OnDisk d)) ∙ e in cc));
         home = λ c d h. absurd (false≢true (sym (ap is_valid (nowhere c (OnDisk d))) ∙ h));
         aimed = λ w x d h e. absurd (not_moving w x h);
       };
       staff = record { staffed = λ t h. absurd (not_begun t h) };
     };
-    writers = record { owned = λ t w c h has. absurd (not_running t w h) };
+    writers = record { owned = λ t w c h has. absurd (not_task_of w t (ap (is_task_of w) h ∙ same_worker-refl w)) };
     copies = record { valid_somewhere = λ c h b. absurd (not_positive c h); alike = λ c q h b. absurd (not_positive c h) };
-    cells = record { running = λ t w c h has. absurd (not_running t w h); claimed = λ t w c h has. absurd (not_claimed t w h); pinned = λ t w c h has. absurd (not_task_of w t h) };
+    cells = record { running = λ t w c h has. absurd (not_task_of w t (ap (is_task_of w) h ∙ same_worker-refl w)); claimed = λ t w c h has. absurd (not_task_of w t (ap (is_task_of w) h ∙ claimed-is_mine w)); pinned = λ t w c h has. absurd (not_task_of w t h) };
     pins = record { stays = λ w c h. absurd (not_pinned w c h); own = λ w c h. absurd (not_pinned w c h); coming_here = λ w c n h. absurd (not_coming w c (AtNode n) h); coming_claimed = λ w c n h. absurd (not_coming w c (AtNode n) h); coming_pinned = λ w c n h. absurd (not_coming w c (AtNode n) h) };
     transfers = record { source = λ w x h. absurd (not_moving w x h); target = λ w x h. absurd (not_moving w x h); apart = λ v w x y d e hv hw f g k. absurd (not_moving v x hv) };
     bytes = record { entries = λ n. (let e = nothing_used n in omega arith); leaving = λ n w c h. absurd (not_leaving w c (AtNode n) h) };

@@ -1,31 +1,22 @@
 -- What the accessors of a state give after one replica, or one worker's transfer, was written.
-use Rattle.std.proofs.Common.{◌≡◌, ◌≢◌, ℕ, ◌<◌, Bool, true, false, not, List, map, length, get_or, cond, ltb, ◌||◌, set, refl, sym, ap, ◌∙◌, subst, inl, inr, ◌⊎◌, Option, None, Some, arith}
-use Rattle.std.specs.Prelude.{All, position}
-use Rattle.std.specs.List.{list_any, range_with_len, position_or_len}
-use Rattle.std.proofs.lemmas.List.{length-set, get_or_past, get_or-set_same, get_or-set_other}
+use Rattle.std.proofs.Common.{Bool, List, None, Option, Some, ap, arith, cond, false, get_or, inl, inr, length, ltb, map, not, refl, set, subst, sym, true, ℕ, ◌<◌, ◌||◌, ◌∙◌, ◌≡◌, ◌≢◌, ◌⊎◌}
+use Rattle.std.proofs.lemmas.Bool.{cases_eq, cases_lt, false_from_ne_true, false≢true, ltb-false, not-true}
+use Rattle.std.proofs.lemmas.Bool.Decides.{Decides-eqb}
+use Rattle.std.proofs.lemmas.List.{get_or-set_other, get_or-set_same, get_or_past, length-set}
 use Rattle.std.proofs.lemmas.List.Elements.{All-set}
-use Rattle.std.proofs.lemmas.List.Folds.{list_any_at, list_any-append}
+use Rattle.std.proofs.lemmas.List.Folds.{list_any-append, list_any_at}
 use Rattle.std.proofs.lemmas.List.FromFn.{get_or-map-range_with_len, length-map-range_with_len}
 use Rattle.std.proofs.lemmas.List.Sums.{fails_before_first}
-use Rattle.std.proofs.lemmas.Bool.{cases_lt, cases_eq, false≢true, ltb-false}
-use Rattle.std.proofs.lemmas.Bool.Decides.{Decides-eqb}
-use Rattle.sj_base.specs.declared.ids.Cell.{Cell}
-use Rattle.sj_base.specs.declared.ids.DiskNo.{DiskNo}
-use Rattle.sj_base.specs.declared.ids.Node.{Node}
-use Rattle.sj_base.specs.declared.ids.Worker.{Worker}
-use Rattle.sj_base.specs.declared.ids.Place.{Place}
-use Rattle.sj_base.specs.declared.ids.Place.TheVariants.{Node as AtNode, Disk as OnDisk}
-use Rattle.sj_base.specs.Array.{Array}
-use Rattle.sj_base.specs.declared.program.Program.{Program}
-use Rattle.sj_base.specs.declared.program.Machine.{Machine}
-use Rattle.sj_core.specs.Needs.{node_of}
-use Rattle.sj_core.specs.Step.{same_place, places_of}
-use Rattle.sj_core.specs.Coherent.{IsOwnedBy, HasRows}
-use Rattle.sj_core.specs.declared.progress.Transfer.{Transfer}
-use Rattle.sj_core.specs.Machine.{State, CellState, WorkerState, Replica, Invalid, Coming, Valid, Leaving, is_valid, is_entry, is_leaving, is_leaving_by, is_coming_by, cell_state, replica, replica_in, writes, worker_state, pins, scratch, victims_of, transfer, with_replica, with_replica_in, with_transfer}
-use Rattle.sj_core.proofs.Reading.{no_row, idle_row, replica_in-no_row, same_node, workers_differ, same_worker-is}
+use Rattle.std.specs.List.{list_any, position_or_len, range_with_len}
+use Rattle.std.specs.Prelude.{All, position}
+use Rattle.sj_core.proofs.Words.{Array, AtNode, Cell, CellState, DiskNo, Invalid, Machine, Node, OnDisk, Place, Program, Replica, State, Transfer, Valid, Worker, WorkerState, cell_state, has_room, is_gone, is_leaving_by, is_valid, node_of, pins, replica, replica_in, scratch, transfer, victims_of, with_replica, with_replica_in, with_transfer, worker_state, writes}
+use Rattle.sj_core.specs.Coherent.{HasRows, IsOwnedBy}
+use Rattle.sj_core.specs.Laws.{IsSound}
+use Rattle.sj_core.specs.Step.{places_of, same_place}
+use Rattle.sj_core.proofs.Reading.{idle_row, list_all-has, no_row, replica_in-no_row, same_node, workers_differ}
+use Rattle.sj_core.proofs.Replicas.{leaving_by-is}
 
-cells_differ : (c d : Cell) → (c ≡ d) ⊎ (c ≢ d)
+pub cells_differ : (c d : Cell) → (c ≡ d) ⊎ (c ≢ d)
 cells_differ c d =
     elim (cases_eq c.0 d.0) [
       | inl e ↦ inl (ap (λ (i : ℕ). let j : Cell = record { 0 = i } in j) e)
@@ -41,8 +32,15 @@ disks_differ d e =
 
 -- ---- one replica
 
+-- a replica that was written where the table has the cell and its row the place is there
+pub replica-at_node : (s : State) (c : Cell) (n : Node) (r : Replica) → c.0 < length s.cells → n.0 < length (cell_state s c).nodes → replica (with_replica s c (AtNode n) r) c (AtNode n) ≡ r
+replica-at_node s c n r inside within = ap (λ (row : CellState). replica_in row (AtNode n)) (get_or-set_same s.cells c.0 (with_replica_in (cell_state s c) (AtNode n) r) no_row inside) ∙ get_or-set_same (cell_state s c).nodes n.0 r Invalid within
+
+pub replica-on_disk : (s : State) (c : Cell) (d : DiskNo) (r : Replica) → c.0 < length s.cells → d.0 < length (cell_state s c).disks → replica (with_replica s c (OnDisk d) r) c (OnDisk d) ≡ r
+replica-on_disk s c d r inside within = ap (λ (row : CellState). replica_in row (OnDisk d)) (get_or-set_same s.cells c.0 (with_replica_in (cell_state s c) (OnDisk d) r) no_row inside) ∙ get_or-set_same (cell_state s c).disks d.0 r Invalid within
+
 -- of a row in which one replica was written each is as before, or is that one
-replica_in-cases : (row : CellState) (q k : Place) (r : Replica) → (replica_in (with_replica_in row q r) k ≡ replica_in row k) ⊎ ((k ≡ q) × (replica_in (with_replica_in row q r) k ≡ r))
+pub replica_in-cases : (row : CellState) (q k : Place) (r : Replica) → (replica_in (with_replica_in row q r) k ≡ replica_in row k) ⊎ ((k ≡ q) × (replica_in (with_replica_in row q r) k ≡ r))
 replica_in-cases row (AtNode n) (OnDisk d) r = inl refl
 replica_in-cases row (OnDisk d) (AtNode n) r = inl refl
 replica_in-cases row (AtNode n) (AtNode k) r =
@@ -98,27 +96,26 @@ module _ (s : State) (c : Cell) (q : Place) (r : Replica) where
       writes_in (OnDisk d) = refl
 
   -- each row keeps its length
-  pub nodes-kept : (n : ℕ) → All (λ (row : CellState). length row.nodes ≡ n) s.cells → All (λ (row : CellState). length row.nodes ≡ n) (with_replica s c q r).cells
-  nodes-kept n all =
+  kept : (size : CellState → ℕ) → ((row : CellState) → size (with_replica_in row q r) ≡ size row) → (n : ℕ) → All (λ (row : CellState). size row ≡ n) s.cells → All (λ (row : CellState). size row ≡ n) (with_replica s c q r).cells
+  kept size same n all =
       elim (cases_lt c.0 (length s.cells)) [
-        | inl inside ↦ All-set (λ (row : CellState). length row.nodes ≡ n) s.cells c.0 (with_replica_in (cell_state s c) q r) (here q (all c.0 no_row inside)) all
-        | inr past ↦ λ i d inside. (let bound : i < length s.cells = omega (arith, inside, length-set s.cells c.0 (with_replica_in (cell_state s c) q r)) in subst (λ (row : CellState). length row.nodes ≡ n) (sym (get_or-set_other s.cells c.0 i (with_replica_in (cell_state s c) q r) d (λ e. (omega arith)))) (all i d bound))
+        | inl inside ↦ All-set (λ (row : CellState). size row ≡ n) s.cells c.0 (with_replica_in (cell_state s c) q r) (same (cell_state s c) ∙ all c.0 no_row inside) all
+        | inr past ↦ λ i d inside. (let bound : i < length s.cells = omega (arith, inside, length-set s.cells c.0 (with_replica_in (cell_state s c) q r)) in subst (λ (row : CellState). size row ≡ n) (sym (get_or-set_other s.cells c.0 i (with_replica_in (cell_state s c) q r) d (λ e. (omega arith)))) (all i d bound))
       ]
+
+  pub nodes-kept : (n : ℕ) → All (λ (row : CellState). length row.nodes ≡ n) s.cells → All (λ (row : CellState). length row.nodes ≡ n) (with_replica s c q r).cells
+  nodes-kept = kept (λ row. length row.nodes) (same q)
     where
-      here : (q : Place) → length (cell_state s c).nodes ≡ n → length (with_replica_in (cell_state s c) q r).nodes ≡ n
-      here (AtNode k) e = length-set (cell_state s c).nodes k.0 r ∙ e
-      here (OnDisk d) e = e
+      same : (k : Place) (row : CellState) → length (with_replica_in row k r).nodes ≡ length row.nodes
+      same (AtNode n) row = length-set row.nodes n.0 r
+      same (OnDisk d) row = refl
 
   pub disks-kept : (n : ℕ) → All (λ (row : CellState). length row.disks ≡ n) s.cells → All (λ (row : CellState). length row.disks ≡ n) (with_replica s c q r).cells
-  disks-kept n all =
-      elim (cases_lt c.0 (length s.cells)) [
-        | inl inside ↦ All-set (λ (row : CellState). length row.disks ≡ n) s.cells c.0 (with_replica_in (cell_state s c) q r) (here q (all c.0 no_row inside)) all
-        | inr past ↦ λ i d inside. (let bound : i < length s.cells = omega (arith, inside, length-set s.cells c.0 (with_replica_in (cell_state s c) q r)) in subst (λ (row : CellState). length row.disks ≡ n) (sym (get_or-set_other s.cells c.0 i (with_replica_in (cell_state s c) q r) d (λ e. (omega arith)))) (all i d bound))
-      ]
+  disks-kept = kept (λ row. length row.disks) (same q)
     where
-      here : (q : Place) → length (cell_state s c).disks ≡ n → length (with_replica_in (cell_state s c) q r).disks ≡ n
-      here (AtNode k) e = e
-      here (OnDisk d) e = length-set (cell_state s c).disks d.0 r ∙ e
+      same : (k : Place) (row : CellState) → length (with_replica_in row k r).disks ≡ length row.disks
+      same (AtNode n) row = refl
+      same (OnDisk d) row = length-set row.disks d.0 r
 
 -- ---- one transfer
 
@@ -153,6 +150,13 @@ module _ (s : State) (w : Worker) (move : Option Transfer) where
   pub transfer-own : w.0 < length s.workers → transfer (with_transfer s w move) w ≡ move
   transfer-own inside = ap (λ (row : WorkerState). row.transfer) (get_or-set_same s.workers w.0 moving_row idle_row inside)
 
+-- where a transfer was begun, each that is under way was before, or is that one
+pub transfer-is : (s : State) (w : Worker) (begun : Transfer) (v : Worker) (x : Transfer) → transfer (with_transfer s w (Some begun)) v ≡ Some x → (transfer s v ≡ Some x) ⊎ ((v ≡ w) × (begun ≡ x))
+transfer-is s w begun v x now = elim (transfer-cases s w (Some begun) v) [ inl same ↦ inl (sym same ∙ now) | inr (e, is) ↦ inr (e, is_one (sym is ∙ now)) ]
+  where
+    is_one : Some begun ≡ Some x → begun ≡ x
+    is_one e = cc
+
 -- ---- places
 
 pub same_place-is : (q k : Place) → same_place q k ≡ true → q ≡ k
@@ -176,40 +180,6 @@ owned-cases m s c v a own q = by_place (same_place q (AtNode (node_of m v))) ref
 -- and so a replica of it passes no test that a valid and an invalid one fail
 pub owned-fails : (m : Machine) (s : State) (c : Cell) (v : Worker) (a : Array) → IsOwnedBy m s c v a → (test : Replica → Bool) → test (Valid a) ≡ false → test Invalid ≡ false → (q : Place) → test (replica s c q) ≡ false
 owned-fails m s c v a own test valid invalid q = elim (owned-cases m s c v a own q) [ inl e ↦ ap test e ∙ valid | inr e ↦ ap test e ∙ invalid ]
-
--- ---- replicas
-
-pub leaving_isn't_entry : (r : Replica) → is_leaving r ≡ true → is_entry r ≡ false
-leaving_isn't_entry Invalid h = refl
-leaving_isn't_entry (Coming v) h = absurd (false≢true h)
-leaving_isn't_entry (Valid a) h = absurd (false≢true h)
-leaving_isn't_entry (Leaving v a) h = refl
-
-pub coming_isn't_leaving : (v : Worker) (r : Replica) → is_coming_by v r ≡ true → is_leaving r ≡ false
-coming_isn't_leaving v Invalid h = refl
-coming_isn't_leaving v (Coming u) h = refl
-coming_isn't_leaving v (Valid a) h = refl
-coming_isn't_leaving v (Leaving u a) h = sym h
-
-pub leaving_by-valid : (v : Worker) (r : Replica) → is_leaving_by v r ≡ true → is_valid r ≡ true
-leaving_by-valid v Invalid h = absurd (false≢true h)
-leaving_by-valid v (Coming u) h = absurd (false≢true h)
-leaving_by-valid v (Valid a) h = absurd (false≢true h)
-leaving_by-valid v (Leaving u a) h = refl
-
--- a replica leaves by one claim
-pub leaving_by-one : (v w : Worker) (r : Replica) → is_leaving_by v r ≡ true → is_leaving_by w r ≡ true → v ≡ w
-leaving_by-one v w Invalid hv hw = absurd (false≢true hv)
-leaving_by-one v w (Coming u) hv hw = absurd (false≢true hv)
-leaving_by-one v w (Valid a) hv hw = absurd (false≢true hv)
-leaving_by-one v w (Leaving u a) hv hw = sym (same_worker-is u v hv) ∙ same_worker-is u w hw
-
--- and comes by one
-pub coming_by-one : (v w : Worker) (r : Replica) → is_coming_by v r ≡ true → is_coming_by w r ≡ true → v ≡ w
-coming_by-one v w Invalid hv hw = absurd (false≢true hv)
-coming_by-one v w (Coming u) hv hw = sym (same_worker-is u v hv) ∙ same_worker-is u w hw
-coming_by-one v w (Valid a) hv hw = absurd (false≢true hv)
-coming_by-one v w (Leaving u a) hv hw = absurd (false≢true hv)
 
 -- ---- where a valid replica is
 
@@ -259,3 +229,13 @@ position-none {X} test xs k d none inside = by_test (ltb (position_or_len test x
     by_test : (b : Bool) → ltb (position_or_len test xs) (length xs) ≡ b → cond b (Some (position_or_len test xs)) None ≡ None → test (get_or xs k d) ≡ false
     by_test true e found = absurd (let f : Some (position_or_len test xs) ≡ None = found in cc)
     by_test false e found = fails_before_first test xs k d (omega (arith, ltb-false (position_or_len test xs) (length xs) e, inside))
+
+-- ---- victims
+
+-- no victim of the worker leaves by its claim once it has room
+pub room-leaves_none : (p : Program) (m : Machine) (s : State) → IsSound p m s → (w : Worker) → has_room m s w ≡ true → (c : Cell) (q : Place) → is_leaving_by w (replica s c q) ≡ false
+room-leaves_none p m s h w room c (AtNode n) = false_from_ne_true (is_leaving_by w (replica s c (AtNode n))) (λ leaving.
+    (let evicted = h.coherent.workers.evicted w c n leaving in
+    let gone = list_all-has (is_gone m s w) (victims_of s w) c room evicted.victim in
+    false≢true (sym (not-true (is_leaving_by w (replica s c (AtNode (node_of m w)))) gone) ∙ ap (λ (k : Node). is_leaving_by w (replica s c (AtNode k))) (sym evicted.here) ∙ leaving)))
+room-leaves_none p m s h w room c (OnDisk d) = false_from_ne_true (is_leaving_by w (replica s c (OnDisk d))) (λ leaving. (let is = leaving_by-is w (replica s c (OnDisk d)) leaving in (h.coherent.state.blocks.resting c d w is.0).1 is.1))

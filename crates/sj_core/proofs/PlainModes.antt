@@ -1,26 +1,22 @@
 -- Programs without REDUX and COMMUTE accesses: tasks that share a written cell conflict, and folds don't depend on workers.
-use Rattle.std.proofs.Common.{◌≡◌, ℕ, ◌<◌, Bool, true, false, not, length, refl, sym, ap, ◌∙◌, subst, inl, inr, arith}
-use Rattle.std.specs.Prelude.{if◌then◌else◌}
-use Rattle.std.specs.List.{Contains}
+use Rattle.std.proofs.Common.{Bool, ap, arith, inl, inr, length, not, refl, subst, sym, true, ℕ, ◌<◌, ◌∙◌, ◌≡◌}
 use Rattle.std.proofs.lemmas.Bool.{cases_lt, false≢true}
 use Rattle.std.proofs.lemmas.List.{get_or_past}
-use Rattle.sj_base.specs.declared.ids.Cell.{Cell}
-use Rattle.sj_base.specs.declared.ids.Task.{Task}
-use Rattle.sj_base.specs.declared.ids.Worker.{Worker}
-use Rattle.sj_base.specs.declared.mode.Mode.{Mode}
-use Rattle.sj_base.specs.declared.mode.Mode.TheVariants.{R, W, RW, Scratch, Redux, Commute}
+use Rattle.std.specs.List.{Contains}
+use Rattle.std.specs.Prelude.{if◌then◌else◌}
+use Rattle.sj_base.specs.Mode.{is_in_order, is_scratch, is_written}
+use Rattle.sj_core.proofs.Words.{Cell, Program, Task, Worker, cells_of, copy_of, has_cell, no_task, task_of, worked_on, written_cells}
 use Rattle.sj_base.specs.declared.mode.Access.{Access}
+use Rattle.sj_base.specs.declared.mode.Mode.{Mode}
+use Rattle.sj_base.specs.declared.mode.Mode.TheVariants.{Commute, R, RW, Redux, Scratch, W}
 use Rattle.sj_base.specs.declared.program.Lowered.{Lowered}
-use Rattle.sj_base.specs.declared.program.Program.{Program}
-use Rattle.sj_core.specs.Program.{has_cell, task_of, no_task, is_scratch, is_written, is_redux}
-use Rattle.sj_deps.specs.declared.manner.Manner.TheVariants.{Read, Write}
-use Rattle.sj_deps.specs.Conflict.{usage, Uses, IsShared, Conflict, HasDependencies}
-use Rattle.sj_core.specs.Operands.{copy_of, worked_on, cells_of, written_cells}
-use Rattle.sj_core.specs.Fold.{held_in, after_task, after_chosen}
-use Rattle.sj_core.specs.Proper.{access}
-use Rattle.sj_core.specs.Laws.{HasPlainModes, is_plain_mode}
-use Rattle.sj_core.proofs.Sharing.{operand_for, used_by_operand, one, manner_of, write_isn't_read}
-use Rattle.sj_core.proofs.Folding.{WorksAlike, HasWriters, AddsTask, cone-holds, insertion}
+use Rattle.sj_deps.specs.Conflict.{Conflict, HasDependencies, IsShared, Uses}
+use Rattle.sj_deps.specs.declared.manner.Manner.TheVariants.{Write}
+use Rattle.sj_core.specs.Fold.{after_chosen, after_task, held_in}
+use Rattle.sj_core.specs.Laws.{HasPlainModes}
+use Rattle.sj_core.proofs.Folding.{AddsTask, HasWriters, WorksAlike, cone-holds, insertion}
+use Rattle.sj_core.proofs.Modes.{plain_isn't_redux, written_isn't_scratch}
+use Rattle.sj_core.proofs.Sharing.{manner_of, operand-uses, operand_for, write_isn't_read}
 
 -- a task with an operand is one of the program
 pub operand-inside : (p : Program) (t : Task) (a : Access) → Contains (task_of p t).accesses a → t.0 < length p.tasks
@@ -33,17 +29,9 @@ operand-inside p t a h =
     none : Contains no_task.accesses a → ⊥
     none (k, l, e) = omega arith
 
-plain_isn't_redux : (x : Mode) → is_plain_mode x ≡ true → is_redux x ≡ false
-plain_isn't_redux R h = refl
-plain_isn't_redux W h = refl
-plain_isn't_redux RW h = refl
-plain_isn't_redux Scratch h = refl
-plain_isn't_redux Redux h = sym h
-plain_isn't_redux Commute h = refl
-
 module _ (p : Program) (plain : HasPlainModes p) where
-  pub mode-plain : (t : Task) (a : Access) → Contains (task_of p t).accesses a → is_plain_mode a.mode ≡ true
-  mode-plain t a (k, l, e) = sym (ap (λ (b : Access). is_plain_mode b.mode) e) ∙ plain.modes t k a l
+  pub mode-plain : (t : Task) (a : Access) → Contains (task_of p t).accesses a → is_in_order a.mode ≡ true
+  mode-plain t a (k, l, e) = sym (ap (λ (b : Access). is_in_order b.mode) e) ∙ plain.modes t k a l
 
   -- an operand's cell is itself what is worked on
   pub worked_on-plain : (t : Task) (w : Worker) (a : Access) → Contains (task_of p t).accesses a → worked_on p w a ≡ a.cell
@@ -52,21 +40,19 @@ module _ (p : Program) (plain : HasPlainModes p) where
   pub works-alike : (t : Task) (v w : Worker) → WorksAlike p t v w
   works-alike t v w a h = worked_on-plain t v a h ∙ sym (worked_on-plain t w a h)
 
-  reads-or_writes : (t : Task) (x : Mode) (d : Cell) → t.0 < length p.tasks → Contains (task_of p t).accesses (access x d) → not (is_scratch x) ≡ true → is_plain_mode x ≡ true → Uses p t.0 d.0 (manner_of (task_of p t).codelet x)
-  reads-or_writes t R d inside h accessed ordered = used_by_operand p t (access R d) (usage Read d.0) inside h (one (usage Read d.0))
-  reads-or_writes t W d inside h accessed ordered = used_by_operand p t (access W d) (usage Write d.0) inside h (one (usage Write d.0))
-  reads-or_writes t RW d inside h accessed ordered = used_by_operand p t (access RW d) (usage Write d.0) inside h (one (usage Write d.0))
-  reads-or_writes t Scratch d inside h accessed ordered = absurd (false≢true accessed)
-  reads-or_writes t Redux d inside h accessed ordered = absurd (false≢true ordered)
-  reads-or_writes t Commute d inside h accessed ordered = absurd (false≢true ordered)
+  uses : (t : Task) (a : Access) (w : Worker) → Contains (task_of p t).accesses a → not (is_scratch a.mode) ≡ true → Uses p t.0 (worked_on p w a).0 (manner_of (task_of p t).codelet a.mode)
+  uses t a w h accessed = operand-uses p t w a.mode a.cell (operand-inside p t a h) h accessed (λ redux. absurd (false≢true (sym (plain_isn't_redux a.mode (mode-plain t a h)) ∙ redux)))
 
-  writes-alone : (t : Task) (x : Mode) (d : Cell) → t.0 < length p.tasks → Contains (task_of p t).accesses (access x d) → is_written x ≡ true → is_plain_mode x ≡ true → Uses p t.0 d.0 Write
-  writes-alone t W d inside h written ordered = reads-or_writes t W d inside h refl refl
-  writes-alone t RW d inside h written ordered = reads-or_writes t RW d inside h refl refl
-  writes-alone t R d inside h written ordered = absurd (false≢true written)
-  writes-alone t Scratch d inside h written ordered = absurd (false≢true written)
-  writes-alone t Redux d inside h written ordered = absurd (false≢true ordered)
-  writes-alone t Commute d inside h written ordered = absurd (false≢true ordered)
+  writes : (t : Task) (a : Access) → Contains (task_of p t).accesses a → is_written a.mode ≡ true → manner_of (task_of p t).codelet a.mode ≡ Write
+  writes t a h written = by_mode a.mode written (mode-plain t a h)
+    where
+      by_mode : (x : Mode) → is_written x ≡ true → is_in_order x ≡ true → manner_of (task_of p t).codelet x ≡ Write
+      by_mode R e f = absurd (false≢true e)
+      by_mode W e f = refl
+      by_mode RW e f = refl
+      by_mode Scratch e f = absurd (false≢true e)
+      by_mode Redux e f = absurd (false≢true f)
+      by_mode Commute e f = absurd (false≢true f)
 
   module _ (deps : HasDependencies p) where
     -- a task that works on a cell that another one writes conflicts with it
@@ -75,8 +61,8 @@ module _ (p : Program) (plain : HasPlainModes p) where
         let a = operand_for (worked_on p v) (λ a. not (is_scratch a.mode)) (task_of p u).accesses c hu in
         let b = operand_for (worked_on p w) (λ a. is_written a.mode) (task_of p t).accesses c ht in
         let m = manner_of (task_of p u).codelet a.0.mode in
-        let ua : Uses p u.0 c.0 m = subst (λ (q : Cell). Uses p u.0 q.0 m) (sym (worked_on-plain u v a.0 a.1) ∙ a.3) (reads-or_writes u a.0.mode a.0.cell (operand-inside p u a.0 a.1) a.1 a.2 (mode-plain u a.0 a.1)) in
-        let tb : Uses p t.0 c.0 Write = subst (λ (q : Cell). Uses p t.0 q.0 Write) (sym (worked_on-plain t w b.0 b.1) ∙ b.3) (writes-alone t b.0.mode b.0.cell (operand-inside p t b.0 b.1) b.1 b.2 (mode-plain t b.0 b.1)) in (
+        let ua : Uses p u.0 c.0 m = subst (λ (q : Cell). Uses p u.0 q.0 m) a.3 (uses u a.0 v a.1 a.2) in
+        let tb : Uses p t.0 c.0 Write = subst (Uses p t.0 c.0) (writes t b.0 b.1 b.2) (subst (λ (q : Cell). Uses p t.0 q.0 (manner_of (task_of p t).codelet b.0.mode)) b.3 (uses t b.0 w b.1 (written_isn't_scratch b.0.mode b.2))) in (
           record { cell = c.0; manner_of_t = m; manner_of_u = Write; first = ua; second = tb; written = λ both. write_isn't_read both.1; apart = λ n g. subst IsShared (sym (deps.manners t.0 c.0 Write n tb g.second)) g.shared },
           record { cell = c.0; manner_of_t = Write; manner_of_u = m; first = tb; second = ua; written = λ both. write_isn't_read both.0; apart = λ n g. subst IsShared (sym (deps.manners t.0 c.0 Write n tb g.first)) g.shared },
         )

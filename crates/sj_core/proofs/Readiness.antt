@@ -1,16 +1,15 @@
 -- The tasks that are done in a state, as a list and as a test; when a waiting task is ready.
-use Rattle.std.proofs.Common.{◌≡◌, ℕ, zero, suc, ◌<◌, Bool, true, false, cond, List, [], ◌∷◌, length, get_or, refl, sym, ap, ◌∙◌, inl, inr, arith, subst}
-use Rattle.std.proofs.lemmas.List.{get_or_past}
-use Rattle.std.proofs.lemmas.List.FromFn.{length-range_with_len, get_or-range_with_len}
-use Rattle.std.proofs.lemmas.Bool.{cases_lt}
+use Rattle.std.proofs.Common.{◌||◌, Bool, List, [], ap, arith, cond, false, get_or, inl, inr, length, refl, subst, suc, sym, true, zero, ℕ, ◌<◌, ◌∙◌, ◌∷◌, ◌≡◌, ◌⊎◌, map}
+use Rattle.std.proofs.lemmas.Bool.{cases_eq, cases_lt}
+use Rattle.std.proofs.lemmas.List.{get_or_default, get_or_past}
+use Rattle.std.proofs.lemmas.List.Folds.{Any-from_list_any}
+use Rattle.std.proofs.lemmas.List.FromFn.{get_or-range_with_len, length-range_with_len}
 use Rattle.std.proofs.lemmas.List.Sums.{AllPass-from_list_all}
-use Rattle.std.specs.List.{Contains, filter, list_all, range_with_len}
-use Rattle.sj_base.specs.declared.ids.Task.{Task}
-use Rattle.sj_base.specs.declared.program.Program.{Program}
-use Rattle.sj_core.specs.declared.progress.Progress.TheVariants.{Waiting}
+use Rattle.std.specs.List.{Contains, filter, list_all, list_any, range_with_len}
+use Rattle.std.specs.Prelude.{AllPairs}
+use Rattle.sj_core.proofs.Words.{Program, State, Task, Waiting, done_in, is_done, progress}
 use Rattle.sj_deps.specs.Conflict.{Ready}
-use Rattle.sj_core.specs.Machine.{State, progress, done_in, is_done}
-use Rattle.sj_core.specs.Step.{done_tasks, EarlierAreDone}
+use Rattle.sj_core.specs.Step.{EarlierAreDone, after, done_tasks}
 
 Contains-cons : {X : Type 0} (y : X) (xs : List X) (x : X) → Contains xs x → Contains (y ∷ xs) x
 Contains-cons y xs x (k, l, e) = (suc k, omega arith, e)
@@ -37,6 +36,42 @@ filter-Contains {X} f (y ∷ xs) x c = kept (f y) refl (filter-Contains f xs x) 
     kept true e rest (zero, l, same) = ap f (sym same) ∙ e
     kept true e rest (suc k, l, same) = rest (k, omega arith, same)
     kept false e rest c = rest c
+
+-- what a filter keeps is in the list
+pub Contains-from_filter : {X : Type 0} (f : X → Bool) (xs : List X) (x : X) → Contains (filter f xs) x → Contains xs x
+Contains-from_filter f [] x h = h
+Contains-from_filter {X} f (y ∷ xs) x h = by_first (f y) (Contains-from_filter f xs x) h
+  where
+    later : Contains xs x → Contains (y ∷ xs) x
+    later k = (suc k.0, omega (arith, k.1), k.2)
+
+    by_first : (b : Bool) → (Contains (filter f xs) x → Contains xs x) → Contains (cond b (y ∷ filter f xs) (filter f xs)) x → Contains (y ∷ xs) x
+    by_first true rest (zero, l, e) = (0, omega arith, e)
+    by_first true rest (suc k, l, e) = later (rest (k, omega arith, e))
+    by_first false rest k = later (rest k)
+
+-- a test of what a map gives
+pub list_any-map : {X Y : Type 0} (test : Y → Bool) (f : X → Y) (xs : List X) → list_any test (map f xs) ≡ list_any (λ x. test (f x)) xs
+list_any-map test f [] = refl
+list_any-map test f (x ∷ xs) = ap (λ b. test (f x) || b) (list_any-map test f xs)
+
+-- an element that passes a test that some element passes
+pub list_any-some : {X : Type 0} (test : X → Bool) (xs : List X) → list_any test xs ≡ true → (x : X) × Contains xs x × (test x ≡ true)
+list_any-some test xs h = let found = Any-from_list_any test xs h in (found.1, (found.0, found.2, found.3), found.4)
+
+-- of two elements of a list one stands before the other, unless they are one
+pub AllPairs-two : {X : Type 0} (P : X → X → Type 0) (xs : List X) (x y : X) → AllPairs P xs → Contains xs x → Contains xs y → (x ≡ y) ⊎ (P x y ⊎ P y x)
+AllPairs-two {X} P xs x y pairs (i, l, e) (j, k, f) =
+    elim (cases_lt i j) [
+      | inl before ↦ inr (inl (ordered i j x y before k e f))
+      | inr after ↦ elim (cases_eq i j) [
+        | inl same ↦ inl (sym e ∙ get_or_default xs i x y l ∙ ap (λ n. get_or xs n y) same ∙ f)
+        | inr differ ↦ inr (inr (ordered j i y x (omega (arith, differ)) l f e))
+      ]
+    ]
+  where
+    ordered : (a b : ℕ) (u v : X) → a < b → b < length xs → get_or xs a u ≡ u → get_or xs b v ≡ v → P u v
+    ordered a b u v before inside eu ev = subst (λ z. P z v) eu (subst (λ z. P (get_or xs a u) z) (get_or_default xs b u v inside ∙ ev) (pairs a b u before inside))
 
 -- a task that is done stands in the list of those that are
 pub done_tasks-has : (s : State) (t : Task) → done_in s t ≡ true → Contains (done_tasks s) t.0

@@ -1,27 +1,17 @@
 -- What the accessors of a state give after a claim, a run and an end.
-use Rattle.std.proofs.Common.{◌≡◌, ◌≢◌, ℕ, zero, suc, ◌<◌, Bool, true, false, ◌&&◌, ◌||◌, List, [], ◌∷◌, length, get_or, set, map, refl, sym, ap, ◌∙◌, inl, inr, ◌⊎◌, None, arith}
-use Rattle.std.proofs.lemmas.List.{get_or_past, get_or-set_same, get_or-set_other}
-use Rattle.std.proofs.lemmas.Bool.{cases_lt, cases_eq, false≢true}
+use Rattle.std.proofs.Common.{Bool, List, None, Option, Some, [], ap, arith, false, get_or, inl, inr, length, map, not, refl, suc, sym, true, zero, ℕ, ◌&&◌, ◌<◌, ◌||◌, ◌∙◌, ◌∷◌, ◌≡◌, ◌≢◌, ◌⊎◌}
+use Rattle.std.proofs.lemmas.Bool.{cases_eq, cases_lt, false_from_ne_true, false≢true, not-true}
 use Rattle.std.proofs.lemmas.Bool.Decides.{Decides-eqb}
-use Rattle.std.specs.List.{list_all, list_any}
+use Rattle.std.proofs.lemmas.List.{get_or-set_other, get_or-set_same, get_or_past}
 use Rattle.std.proofs.lemmas.List.Folds.{list_any_at}
 use Rattle.std.proofs.lemmas.List.FromFn.{get_or-map-range_with_len, length-map-range_with_len}
-use Rattle.sj_base.specs.declared.ids.Cell.{Cell}
-use Rattle.sj_base.specs.declared.ids.Task.{Task}
-use Rattle.sj_base.specs.declared.ids.Node.{Node}
-use Rattle.sj_base.specs.declared.ids.Worker.{Worker}
-use Rattle.sj_base.specs.declared.ids.Place.{Place}
-use Rattle.sj_base.specs.declared.ids.Place.TheVariants.{Node as AtNode, Disk as OnDisk}
-use Rattle.sj_base.specs.declared.program.Machine.{Machine}
-use Rattle.sj_core.specs.Program.{same_cell, has_cell}
-use Rattle.sj_core.specs.Needs.{workers_of}
+use Rattle.std.proofs.lemmas.List.Sums.{AllPass-from_list_all}
+use Rattle.std.specs.List.{list_all, list_any}
+use Rattle.std.specs.Prelude.{if◌then◌else◌}
+use Rattle.sj_core.proofs.Words.{AtNode, Cell, CellState, Invalid, Machine, Node, OnDisk, Place, Progress, Replica, State, Task, Transfer, Waiting, Worker, WorkerState, cell_state, has_cell, is_entry, is_leaving, moves, progress, replica, replica_in, same_cell, transfer, with_cells, with_progress, with_replica_in, with_worker, worker_state, workers_of}
+use Rattle.sj_core.specs.Step.{none_leaving}
 use Rattle.sj_core.specs.Table.{renewed}
-use Rattle.sj_base.specs.Array.{Array}
-use Rattle.sj_core.proofs.Tables.{renewed-at, renewed-at_or, length-renewed}
-use Rattle.sj_core.specs.declared.progress.Progress.{Progress}
-use Rattle.sj_core.specs.declared.progress.Progress.TheVariants.{Waiting}
-use Rattle.sj_core.specs.Machine.{State, CellState, WorkerState, Replica, Invalid, Coming, Valid, Leaving, progress, cell_state, replica_in, worker_state, with_progress, with_cells, with_worker, with_replica_in, is_leaving, is_leaving_by, same_worker}
-use Rattle.sj_core.specs.Step.{owned_at}
+use Rattle.sj_core.proofs.Tables.{length-renewed, renewed-at, renewed-at_or}
 
 -- ---- tasks
 
@@ -90,43 +80,62 @@ workers_differ v w =
       | inr d ↦ inr (λ e. d (ap (λ (j : Worker). j.0) e))
     ]
 
-pub same_worker-is : (v w : Worker) → same_worker v w ≡ true → v ≡ w
-same_worker-is v w h = ap (λ (i : ℕ). let j : Worker = record { 0 = i } in j) ((Decides-eqb v.0 w.0).0 h)
-
--- ---- what leaves
-
-pub leaving_by-leaves : (w : Worker) (r : Replica) → is_leaving_by w r ≡ true → is_leaving r ≡ true
-leaving_by-leaves w Invalid h = h
-leaving_by-leaves w (Coming v) h = h
-leaving_by-leaves w (Valid a) h = h
-leaving_by-leaves w (Leaving v a) h = refl
-
--- of a row's replicas after one was made valid, none leaves that didn't before
-pub set_valid-leaving : (w : Worker) (rs : List Replica) (n k : ℕ) (a : Array) → is_leaving_by w (get_or (set rs n (Valid a)) k Invalid) ≡ true → is_leaving_by w (get_or rs k Invalid) ≡ true
-set_valid-leaving w [] n k a h = h
-set_valid-leaving w (r ∷ rs) zero zero a h = absurd (false≢true h)
-set_valid-leaving w (r ∷ rs) zero (suc k) a h = h
-set_valid-leaving w (r ∷ rs) (suc n) zero a h = h
-set_valid-leaving w (r ∷ rs) (suc n) (suc k) a h = set_valid-leaving w rs n k a h
-
 pub all_invalid : (rs : List Replica) (k : ℕ) → get_or (map (λ r. Invalid) rs) k Invalid ≡ Invalid
 all_invalid [] k = refl
 all_invalid (r ∷ rs) zero = refl
 all_invalid (r ∷ rs) (suc k) = all_invalid rs k
 
--- a cell that a node owns leaves nowhere
-pub owned_at-leaving : (w : Worker) (n : Node) (a : Array) (row : CellState) (q : Place) → is_leaving_by w (replica_in (owned_at n a row) q) ≡ false
-owned_at-leaving w n a row (OnDisk d) = ap (is_leaving_by w) (all_invalid row.disks d.0)
-owned_at-leaving w n a row (AtNode k) = nowhere (is_leaving_by w (get_or (set (map (λ r. Invalid) row.nodes) n.0 (Valid a)) k.0 Invalid)) refl
-  where
-    nowhere : (b : Bool) → is_leaving_by w (get_or (set (map (λ r. Invalid) row.nodes) n.0 (Valid a)) k.0 Invalid) ≡ b → is_leaving_by w (get_or (set (map (λ r. Invalid) row.nodes) n.0 (Valid a)) k.0 Invalid) ≡ false
-    nowhere false e = e
-    nowhere true e = absurd (false≢true (sym (ap (is_leaving_by w) (all_invalid row.nodes k.0)) ∙ set_valid-leaving w (map (λ r. Invalid) row.nodes) n.0 k.0 a e))
+-- the cells whose rows a test leaves alone
+pub cells-untouched : (s : State) (test : Cell → Bool) (g : Cell → CellState → CellState) (c : Cell) → test c ≡ false → cell_state (with_cells s (λ d row. if test d then g d row else row)) c ≡ cell_state s c
+cells-untouched s test g c h =
+    elim (cells-renewed_or s (λ d row. if test d then g d row else row) c) [
+      | inl row ↦ row ∙ ap (λ b. if b then g c (cell_state s c) else cell_state s c) h
+      | inr none ↦ none.1 ∙ sym none.0
+    ]
 
--- ---- lists of cells and of workers
+-- and those that it picks
+pub cells-touched : (s : State) (test : Cell → Bool) (g : Cell → CellState → CellState) (c : Cell) → c.0 < length s.cells → test c ≡ true → cell_state (with_cells s (λ d row. if test d then g d row else row)) c ≡ g c (cell_state s c)
+cells-touched s test g c inside h =
+    renewed-at (λ k row. let d : Cell = record { 0 = k } in if test d then g d row else row) s.cells c.0 no_row inside ∙ ap (λ b. if b then g c (cell_state s c) else cell_state s c) h
+
+-- an entry is a cell of the table, at a node of its row
+pub entry-inside : (s : State) (c : Cell) (n : Node) → is_entry (replica s c (AtNode n)) ≡ true → (c.0 < length s.cells) × (n.0 < length (cell_state s c).nodes)
+entry-inside s c n h = (
+  elim (cases_lt c.0 (length s.cells)) [ inl inside ↦ inside | inr past ↦ absurd (false≢true (sym (ap (λ (row : CellState). is_entry (replica_in row (AtNode n))) (get_or_past s.cells c.0 no_row past)) ∙ h)) ],
+  elim (cases_lt n.0 (length (cell_state s c).nodes)) [ inl inside ↦ inside | inr past ↦ absurd (false≢true (sym (ap is_entry (get_or_past (cell_state s c).nodes n.0 Invalid past)) ∙ h)) ],
+)
+
+-- no replica leaves on a node that is settled
+pub settled-at : (s : State) (n : Node) (c : Cell) → none_leaving s n ≡ true → is_leaving (replica s c (AtNode n)) ≡ false
+settled-at s n c h =
+    elim (cases_lt c.0 (length s.cells)) [
+      | inl inside ↦ not-true (is_leaving (replica s c (AtNode n))) (AllPass-from_list_all (λ (row : CellState). not (is_leaving (replica_in row (AtNode n)))) s.cells h c.0 no_row inside)
+      | inr past ↦ ap (λ (row : CellState). is_leaving (replica_in row (AtNode n))) (get_or_past s.cells c.0 no_row past)
+    ]
+
+-- a worker with a transfer is one of the table, and its transfer is one of its cell
+pub transfer-inside : (s : State) (w : Worker) (x : Transfer) → transfer s w ≡ Some x → w.0 < length s.workers
+transfer-inside s w x h =
+    elim (cases_lt w.0 (length s.workers)) [
+      | inl inside ↦ inside
+      | inr past ↦ absurd (let none : transfer s w ≡ None = ap (λ (row : WorkerState). row.transfer) (get_or_past s.workers w.0 idle_row past) in let e : ◌≡◌ {A = Option Transfer} None (Some x) = sym none ∙ h in cc)
+    ]
+
+pub moves-it : (s : State) (w : Worker) (x : Transfer) → transfer s w ≡ Some x → moves s w x.cell ≡ true
+moves-it s w x h = ap (λ (o : Option Transfer). elim o as (λ _. Bool) [ None ↦ false | Some y ↦ same_cell y.cell x.cell ]) h ∙ (Decides-eqb x.cell.0 x.cell.0).1 refl
 
 pub same_cell-is : (c d : Cell) → same_cell c d ≡ true → c ≡ d
 same_cell-is c d h = ap (λ (i : ℕ). let j : Cell = record { 0 = i } in j) ((Decides-eqb c.0 d.0).0 h)
+
+-- where no transfer is one of the cell, none moves it
+pub unmoved-from : (s : State) (v : Worker) (c : Cell) → ((x : Transfer) → transfer s v ≡ Some x → x.cell ≡ c → ⊥) → moves s v c ≡ false
+unmoved-from s v c none = by_transfer (transfer s v) refl
+  where
+    by_transfer : (o : Option Transfer) → transfer s v ≡ o → (elim o as (λ _. Bool) [ None ↦ false | Some x ↦ same_cell x.cell c ]) ≡ false
+    by_transfer None e = refl
+    by_transfer (Some x) e = false_from_ne_true (same_cell x.cell c) (λ same. none x e (same_cell-is x.cell c same))
+
+-- ---- lists of cells and of workers
 
 -- a test that each cell of a list passes is passed by a cell that the list has
 pub list_all-has : (test : Cell → Bool) (cs : List Cell) (c : Cell) → list_all test cs ≡ true → has_cell cs c ≡ true → test c ≡ true

@@ -1,12 +1,9 @@
 -- Each step keeps coherence whole, and so does each legal trace; a complete one leaves what all tasks leave in submission order.
 use Rattle.std.proofs.Common.{List, [], ◌∷◌, subst}
-use Rattle.sj_base.specs.declared.ids.Place.TheVariants.{Node as AtNode, Disk as OnDisk}
+use Rattle.sj_core.proofs.Words.{AtNode, Machine, OnDisk, Program, State, opening}
 use Rattle.sj_base.specs.declared.trace.Event.{Event}
 use Rattle.sj_base.specs.declared.trace.Event.TheVariants.{Claim, Move, Moved, Drop, Run, End}
-use Rattle.sj_base.specs.declared.program.Program.{Program}
-use Rattle.sj_base.specs.declared.program.Machine.{Machine}
-use Rattle.sj_core.specs.Machine.{State, opening}
-use Rattle.sj_core.specs.Step.{Step}
+use Rattle.sj_core.specs.Step.{Step, mover_of}
 use Rattle.sj_core.specs.Legal.{Leads, Replays, IsComplete}
 use Rattle.sj_core.specs.Proper.{Proper, IsMachineFor}
 use Rattle.sj_core.specs.Coherent.{Coherent}
@@ -17,7 +14,7 @@ use Rattle.sj_core.proofs.MovingIn.{Moves_in-keep_coherence}
 use Rattle.sj_core.proofs.MovingOut.{Moves_out-keep_coherence}
 use Rattle.sj_core.proofs.Arriving.{Ended_moves-keep_coherence}
 use Rattle.sj_core.proofs.Coherence.{Claims-keeps_coherence, Runs-keeps_coherence, Ends-keeps_coherence}
-use Rattle.sj_core.proofs.Completing.{complete-final}
+use Rattle.sj_core.proofs.Delivering.{complete-final}
 use Rattle.sj_core.proofs.Opening.{opening-coherent}
 
 module _ (p : Program) (m : Machine) (proper : Proper p) (machine : IsMachineFor p m) (plain : HasPlainModes p) where
@@ -27,9 +24,9 @@ module _ (p : Program) (m : Machine) (proper : Proper p) (machine : IsMachineFor
   -- each legal step keeps coherence whole
   Step-keeps_coherence : (s : State) (e : Event) (s' : State) → Coherent p m s → Step p m s e s' → Coherent p m s'
   Step-keeps_coherence s (Claim t w) s' c step = Claims-keeps_coherence p m s s' t w (sound s c) step
-  Step-keeps_coherence s (Move x from (AtNode n)) s' c (w, step) = Moves_in-keep_coherence p m s (sound s c) x from n w s' step
-  Step-keeps_coherence s (Move x from (OnDisk d)) s' c (w, step) = Moves_out-keep_coherence p m s (sound s c) x from d w s' step
-  Step-keeps_coherence s (Moved x from to) s' c (w, step) = Ended_moves-keep_coherence p m s (sound s c) x from to w s' step
+  Step-keeps_coherence s (Move x from (AtNode n)) s' c step = Moves_in-keep_coherence p m s (sound s c) x from n (mover_of s x from (AtNode n)) s' step
+  Step-keeps_coherence s (Move x from (OnDisk d)) s' c step = Moves_out-keep_coherence p m s (sound s c) x from d (mover_of s x from (OnDisk d)) s' step
+  Step-keeps_coherence s (Moved x from to) s' c step = Ended_moves-keep_coherence p m s (sound s c) x from to (mover_of s x from to) s' step
   Step-keeps_coherence s (Drop x n) s' c step = Drops-keeps_coherence p m s (sound s c) x n s' step
   Step-keeps_coherence s (Run t w) s' c step = Runs-keeps_coherence p m s s' t w (sound s c) step
   Step-keeps_coherence s (End t w) s' c step = Ends-keeps_coherence p m s s' t w (sound s c) plain step

@@ -1,74 +1,27 @@
 -- Claimed and running tasks keep apart: none writes a cell on which another works. And a claim keeps the order of tasks.
-use Rattle.std.proofs.Common.{◌≡◌, ◌≢◌, ℕ, ◌<◌, Bool, true, false, not, ◌&&◌, ◌||◌, length, get_or, refl, sym, ap, ◌∙◌, subst, inl, inr, arith}
-use Rattle.std.specs.Prelude.{IsTrue, if◌then◌else◌}
+use Rattle.std.proofs.Common.{Bool, ap, arith, get_or, inl, inr, length, not, subst, sym, true, ℕ, ◌&&◌, ◌<◌, ◌∙◌, ◌≡◌, ◌≢◌}
+use Rattle.std.proofs.lemmas.Bool.{cases_eq, cases_lt, false≢true, true≢false}
+use Rattle.std.proofs.lemmas.Bool.Decides.{Decides-eqb}
 use Rattle.std.proofs.lemmas.List.Folds.{list_any_at}
 use Rattle.std.proofs.lemmas.List.FromFn.{get_or-map-range_with_len, length-map-range_with_len}
-use Rattle.std.proofs.lemmas.Bool.{cases_lt, cases_eq, false≢true, true≢false}
-use Rattle.std.proofs.lemmas.Bool.Decides.{Decides-eqb}
-use Rattle.sj_base.specs.declared.ids.Cell.{Cell}
-use Rattle.sj_base.specs.declared.ids.Task.{Task}
-use Rattle.sj_base.specs.declared.ids.Worker.{Worker}
-use Rattle.sj_base.specs.declared.mode.Mode.{Mode}
-use Rattle.sj_base.specs.declared.mode.Mode.TheVariants.{R, W, RW, Scratch, Redux, Commute}
-use Rattle.sj_base.specs.declared.program.Program.{Program}
-use Rattle.sj_base.specs.declared.program.Machine.{Machine}
-use Rattle.sj_core.specs.Program.{has_cell, task_of, tasks_of, is_commute, is_redux, is_written}
-use Rattle.sj_core.specs.declared.progress.Progress.{Progress}
-use Rattle.sj_core.specs.declared.progress.Progress.TheVariants.{Waiting, Claimed, Running, Done}
+use Rattle.std.specs.Prelude.{IsTrue, if◌then◌else◌}
+use Rattle.sj_base.specs.Mode.{is_commute, is_written}
+use Rattle.sj_core.proofs.Words.{Cell, Claimed, Machine, Program, Progress, State, Task, Waiting, Worker, cells_of, commuting_cells, copy_of, has_cell, is_done, is_task_of, progress, task_of, tasks_of, worked_on, worker_of, written_cells}
 use Rattle.sj_deps.specs.Conflict.{HasDependencies}
-use Rattle.sj_core.specs.Operands.{copy_of, worked_on, cells_of, written_cells, commuting_cells}
-use Rattle.sj_core.specs.Machine.{State, progress, is_done, worker_of, is_task_of, same_worker}
-use Rattle.sj_core.specs.Step.{Claims, is_in_use}
+use Rattle.sj_core.specs.Coherent.{IsStateOf, OrderIsKept, SharesCommuting, WorkersAreSound, is_active}
 use Rattle.sj_core.specs.Proper.{NamesCells}
-use Rattle.sj_core.specs.Coherent.{IsStateOf, WorkersAreSound, OrderIsKept, SharesCommuting, is_begun, is_active}
+use Rattle.sj_core.specs.Step.{Claims, after, is_in_use}
+use Rattle.sj_core.proofs.Advancing.{Advances, Claims-advances, Claims-keeps_earlier, active-begun, active_isn't_done, apart-from_earlier, idle-has_none, same_task, task_of-active, task_of-worker}
+use Rattle.sj_core.proofs.Modes.{commute_isn't_redux, commutes_is_written}
 use Rattle.sj_core.proofs.Readiness.{Ready-earlier}
-use Rattle.sj_core.proofs.Reading.{same_worker-is, list_all-has, progress-inside}
-use Rattle.sj_core.proofs.Advancing.{Advances, Claims-advances, same_task, active_isn't_done, apart-from_earlier, Claims-keeps_earlier}
+use Rattle.sj_core.proofs.Reading.{list_all-has, progress-inside}
+use Rattle.sj_core.proofs.Sharing.{Commuting, Conflicting, Contributing, Sharing, operand-has_cell, operand_for, sharing}
 use Rattle.sj_core.proofs.TaskCells.{written-among_cells}
-use Rattle.sj_core.proofs.Sharing.{Sharing, Conflicting, Commuting, Contributing, sharing, operand_for, operand-has_cell}
-use Rattle.sj_core.proofs.Workers.{idle-has_none}
-
--- ---- a worker's task
-
-pub task_of-worker : (v : Worker) (x : Progress) → is_task_of v x ≡ true → worker_of x ≡ v
-task_of-worker v Waiting h = absurd (false≢true h)
-task_of-worker v (Claimed w) h = same_worker-is w v (sym (or_false (same_worker w v)) ∙ h)
-  where
-    or_false : (b : Bool) → (b || false) ≡ b
-    or_false true = refl
-    or_false false = refl
-task_of-worker v (Running w) h = same_worker-is w v h
-task_of-worker v (Done w) h = absurd (false≢true h)
-
-pub task_of-active : (v : Worker) (x : Progress) → is_task_of v x ≡ true → is_active x ≡ true
-task_of-active v x h = ap (λ (w : Worker). is_task_of w x) (task_of-worker v x h) ∙ h
-
-pub active-begun : (x : Progress) → is_active x ≡ true → is_begun x ≡ true
-active-begun Waiting h = h
-active-begun (Claimed v) h = refl
-active-begun (Running v) h = refl
-active-begun (Done v) h = refl
 
 active-isn't_waiting : (x : Progress) → is_active x ≡ true → x ≢ Waiting
 active-isn't_waiting x h e = false≢true (sym (ap is_active e) ∙ h)
 
 -- ---- commuting cells are written
-
-commutes_is_written : (x : Mode) → is_commute x ≡ true → is_written x ≡ true
-commutes_is_written R h = h
-commutes_is_written W h = refl
-commutes_is_written RW h = refl
-commutes_is_written Scratch h = h
-commutes_is_written Redux h = refl
-commutes_is_written Commute h = refl
-
-commute_isn't_redux : (x : Mode) → is_commute x ≡ true → is_redux x ≡ false
-commute_isn't_redux R h = refl
-commute_isn't_redux W h = refl
-commute_isn't_redux RW h = refl
-commute_isn't_redux Scratch h = refl
-commute_isn't_redux Redux h = sym h
-commute_isn't_redux Commute h = refl
 
 pub commuting-among_written : (p : Program) (t : Task) (w : Worker) (c : Cell) → has_cell (commuting_cells p t) c ≡ true → has_cell (written_cells p t w) c ≡ true
 commuting-among_written p t w c h =

@@ -1,67 +1,44 @@
 -- Two tasks that work on one cell, of which one writes it: they conflict, or commute, or contribute by one worker.
-use Rattle.std.proofs.Common.{◌≡◌, ◌≢◌, ℕ, zero, suc, ◌+◌, ◌<◌, Bool, true, false, not, ◌||◌, cond, List, [], ◌∷◌, map, length, refl, sym, ap, ◌∙◌, subst, inl, inr, ◌⊎◌, Option, None, Some, arith}
-use Rattle.std.specs.Prelude.{IsTrue, slice_get, option_and_then, is_some}
-use Rattle.std.specs.List.{filter, flat_map, Contains, range_with_len}
+use Rattle.std.proofs.Common.{Bool, List, None, Option, Some, [], ap, arith, inl, inr, length, map, not, refl, subst, suc, sym, true, zero, ℕ, ◌+◌, ◌<◌, ◌∙◌, ◌∷◌, ◌≡◌, ◌≢◌, ◌⊎◌}
 use Rattle.std.proofs.lemmas.Bool.{false≢true}
-use Rattle.std.proofs.lemmas.List.Elements.{Contains-append_left, Contains-append_right}
-use Rattle.std.proofs.lemmas.List.FromFn.{length-range_with_len, get_or-range_with_len}
-use Rattle.std.proofs.lemmas.List.{length-map, get_or-map}
-use Rattle.sj_base.specs.declared.ids.Cell.{Cell}
-use Rattle.sj_base.specs.declared.ids.Task.{Task}
-use Rattle.sj_base.specs.declared.ids.Worker.{Worker}
-use Rattle.sj_base.specs.declared.mode.Mode.{Mode}
-use Rattle.sj_base.specs.declared.mode.Mode.TheVariants.{R, W, RW, Scratch, Redux, Commute as CommuteMode}
-use Rattle.sj_base.specs.declared.mode.Access.{Access}
-use Rattle.sj_base.specs.declared.program.Codelet.{Codelet}
-use Rattle.sj_base.specs.declared.program.CellInfo.{CellInfo}
-use Rattle.sj_base.specs.declared.program.Lowered.{Lowered}
-use Rattle.sj_base.specs.declared.program.Program.{Program}
-use Rattle.sj_core.specs.Program.{same_cell, has_cell, is_scratch, is_written, is_redux, is_commute, cell_info, task_of, no_cell, no_task}
-use Rattle.std.proofs.lemmas.Option.{slice_get-get_or}
-use Rattle.sj_deps.specs.declared.manner.Manner.{Manner}
-use Rattle.sj_deps.specs.declared.manner.Manner.TheVariants.{Read, Write, Commute, Contribute}
-use Rattle.sj_deps.specs.declared.manner.Usage.{Usage}
-use Rattle.sj_deps.specs.Conflict.{usage, usages, usages_of, copies_of, Uses, IsShared, SameGroup, Conflict, HasDependencies}
-use Rattle.sj_core.specs.Operands.{copy_of, worked_on, cells_of, written_cells, commuting_cells}
-use Rattle.sj_core.specs.Proper.{NamesCells, access}
 use Rattle.std.proofs.lemmas.Bool.Decides.{Decides-eqb}
+use Rattle.std.proofs.lemmas.List.{get_or-map, length-map}
+use Rattle.std.proofs.lemmas.List.Elements.{Contains-append_left, Contains-append_right}
+use Rattle.std.proofs.lemmas.List.Folds.{list_any_at}
+use Rattle.std.proofs.lemmas.List.FromFn.{get_or-range_with_len, length-range_with_len}
+use Rattle.std.proofs.lemmas.Option.{slice_get-get_or}
+use Rattle.std.specs.List.{Contains, filter, flat_map, range_with_len}
+use Rattle.std.specs.Prelude.{IsTrue, is_some, option_and_then, slice_get}
+use Rattle.sj_base.specs.Mode.{is_commute, is_redux, is_scratch, is_written}
+use Rattle.sj_core.proofs.Words.{Cell, Program, Task, Worker, cell_info, cells_of, commuting_cells, copy_of, has_cell, no_cell, no_task, same_cell, task_of, worked_on, writes, written_cells}
+use Rattle.sj_base.specs.declared.mode.Access.{Access}
+use Rattle.sj_base.specs.declared.mode.Mode.{Mode}
+use Rattle.sj_base.specs.declared.mode.Mode.TheVariants.{Commute as CommuteMode, R, RW, Redux, Scratch, W}
+use Rattle.sj_base.specs.declared.program.CellInfo.{CellInfo}
+use Rattle.sj_base.specs.declared.program.Codelet.{Codelet}
+use Rattle.sj_base.specs.declared.program.Lowered.{Lowered}
+use Rattle.sj_deps.specs.Conflict.{Conflict, HasDependencies, IsShared, SameGroup, Uses, copies_of, usage, usages, usages_of}
+use Rattle.sj_deps.specs.declared.manner.Manner.{Manner}
+use Rattle.sj_deps.specs.declared.manner.Manner.TheVariants.{Commute, Contribute, Read, Write}
+use Rattle.sj_deps.specs.declared.manner.Usage.{Usage}
+use Rattle.sj_core.specs.Proper.{NamesCells, access}
+use Rattle.sj_core.proofs.Modes.{written_isn't_scratch}
+use Rattle.sj_core.proofs.Readiness.{Contains-filter, Contains-from_filter, filter-Contains, list_any-some, list_any-map}
 use Rattle.sj_core.proofs.Reading.{same_cell-is}
-use Rattle.sj_core.proofs.TaskCells.{written_isn't_scratch}
 
 -- ---- an operand behind a cell
 
 -- a cell that a list of operands gives is given by one of them
 pub operand_for : (g : Access → Cell) (f : Access → Bool) (xs : List Access) (c : Cell) → has_cell (map g (filter f xs)) c ≡ true → (a : Access) × Contains xs a × (f a ≡ true) × (g a ≡ c)
-operand_for g f [] c h = absurd (false≢true h)
-operand_for g f (a ∷ xs) c h = by_cases (f a) refl h (operand_for g f xs c)
-  where
-    later : ((b : Access) × Contains xs b × (f b ≡ true) × (g b ≡ c)) → (b : Access) × Contains (a ∷ xs) b × (f b ≡ true) × (g b ≡ c)
-    later (b, (k, l, e), passes, is) = (b, (suc k, omega arith, e), passes, is)
-
-    here : (x : Bool) → f a ≡ true → same_cell (g a) c ≡ x → (x || has_cell (map g (filter f xs)) c) ≡ true → (has_cell (map g (filter f xs)) c ≡ true → (b : Access) × Contains xs b × (f b ≡ true) × (g b ≡ c)) → (b : Access) × Contains (a ∷ xs) b × (f b ≡ true) × (g b ≡ c)
-    here true passes same h rest = (a, (0, omega arith, refl), passes, same_cell-is (g a) c same)
-    here false passes same h rest = later (rest h)
-
-    by_cases : (x : Bool) → f a ≡ x → has_cell (map g (cond x (a ∷ filter f xs) (filter f xs))) c ≡ true → (has_cell (map g (filter f xs)) c ≡ true → (b : Access) × Contains xs b × (f b ≡ true) × (g b ≡ c)) → (b : Access) × Contains (a ∷ xs) b × (f b ≡ true) × (g b ≡ c)
-    by_cases true passes h rest = here (same_cell (g a) c) passes refl h rest
-    by_cases false fails h rest = later (rest h)
+operand_for g f xs c h =
+    let found = list_any-some (λ a. same_cell (g a) c) (filter f xs) (sym (list_any-map (λ d. same_cell d c) g (filter f xs)) ∙ h) in
+    (found.0, Contains-from_filter f xs found.0 found.1, filter-Contains f xs found.0 found.1, same_cell-is (g found.0) c found.2)
 
 -- and an operand of the list gives its cell
 pub operand-has_cell : (g : Access → Cell) (f : Access → Bool) (xs : List Access) (a : Access) (c : Cell) → Contains xs a → f a ≡ true → same_cell (g a) c ≡ true → has_cell (map g (filter f xs)) c ≡ true
-operand-has_cell g f [] a c (k, l, e) passes same = absurd (omega arith)
-operand-has_cell g f (b ∷ xs) a c (zero, l, e) passes same =
-    let first : f b ≡ true = ap f e ∙ passes in
-    let same_b : same_cell (g b) c ≡ true = ap (λ (x : Access). same_cell (g x) c) e ∙ same in
-    ap (λ x. has_cell (map g (cond x (b ∷ filter f xs) (filter f xs))) c) first ∙ ap (λ x. x || has_cell (map g (filter f xs)) c) same_b
-operand-has_cell g f (b ∷ xs) a c (suc k, l, e) passes same = by_cases (f b) (operand-has_cell g f xs a c (k, omega arith, e) passes same)
-  where
-    or_true : (x : Bool) → (x || true) ≡ true
-    or_true true = refl
-    or_true false = refl
-
-    by_cases : (x : Bool) → has_cell (map g (filter f xs)) c ≡ true → has_cell (map g (cond x (b ∷ filter f xs) (filter f xs))) c ≡ true
-    by_cases true rest = ap (λ y. same_cell (g b) c || y) rest ∙ or_true (same_cell (g b) c)
-    by_cases false rest = rest
+operand-has_cell g f xs a c h passes same =
+    let (k, within, is) = Contains-filter f xs a passes h in
+    list_any-map (λ d. same_cell d c) g (filter f xs) ∙ list_any_at (λ b. same_cell (g b) c) (filter f xs) k a within (ap (λ (b : Access). same_cell (g b) c) is ∙ same)
 
 -- ---- how a task uses the cell of an operand
 
@@ -99,15 +76,15 @@ copy-among p d first v inside has h =
     let Q : Option Cell → Type 0 = λ o. Contains (copies o) (copy o).0 in
     subst P (sym got) (subst Q (sym has) (v.0, omega (arith, length-range_with_len first.0 p.workers), get_or-range_with_len first.0 p.workers v.0 (first.0 + v.0) h))
 
-pub operand-uses : (p : Program) (t : Task) (v : Worker) (x : Mode) (d : Cell) → t.0 < length p.tasks → v.0 < p.workers → Contains (task_of p t).accesses (access x d) → not (is_scratch x) ≡ true → (is_redux x ≡ true → (d.0 < length p.cells) × ((first : Cell) × ((cell_info p d).partials ≡ Some first))) → Uses p t.0 (worked_on p v (access x d)).0 (manner_of (task_of p t).codelet x)
-operand-uses p t v R d inside some h accessed copies = used_by_operand p t (access R d) (usage Read d.0) inside h (one (usage Read d.0))
-operand-uses p t v W d inside some h accessed copies = used_by_operand p t (access W d) (usage Write d.0) inside h (one (usage Write d.0))
-operand-uses p t v RW d inside some h accessed copies = used_by_operand p t (access RW d) (usage Write d.0) inside h (one (usage Write d.0))
-operand-uses p t v Scratch d inside some h accessed copies = absurd (false≢true accessed)
-operand-uses p t v CommuteMode d inside some h accessed copies = used_by_operand p t (access CommuteMode d) (usage (Commute (task_of p t).codelet) d.0) inside h (one (usage (Commute (task_of p t).codelet) d.0))
-operand-uses p t v Redux d inside some h accessed copies =
+pub operand-uses : (p : Program) (t : Task) (v : Worker) (x : Mode) (d : Cell) → t.0 < length p.tasks → Contains (task_of p t).accesses (access x d) → not (is_scratch x) ≡ true → (is_redux x ≡ true → (v.0 < p.workers) × (d.0 < length p.cells) × ((first : Cell) × ((cell_info p d).partials ≡ Some first))) → Uses p t.0 (worked_on p v (access x d)).0 (manner_of (task_of p t).codelet x)
+operand-uses p t v R d inside h accessed copies = used_by_operand p t (access R d) (usage Read d.0) inside h (one (usage Read d.0))
+operand-uses p t v W d inside h accessed copies = used_by_operand p t (access W d) (usage Write d.0) inside h (one (usage Write d.0))
+operand-uses p t v RW d inside h accessed copies = used_by_operand p t (access RW d) (usage Write d.0) inside h (one (usage Write d.0))
+operand-uses p t v Scratch d inside h accessed copies = absurd (false≢true accessed)
+operand-uses p t v CommuteMode d inside h accessed copies = used_by_operand p t (access CommuteMode d) (usage (Commute (task_of p t).codelet) d.0) inside h (one (usage (Commute (task_of p t).codelet) d.0))
+operand-uses p t v Redux d inside h accessed copies =
     let c = copies refl in
-    used_by_operand p t (access Redux d) (usage Contribute (copy_of p d v).0) inside h (Contains-map (usage Contribute) (copies_of p d.0) (copy_of p d v).0 (copy-among p d c.1.0 v c.0 c.1.1 some))
+    used_by_operand p t (access Redux d) (usage Contribute (copy_of p d v).0) inside h (Contains-map (usage Contribute) (copies_of p d.0) (copy_of p d v).0 (copy-among p d c.2.0 v c.1 c.2.1 c.0))
   where
     Contains-map : {X Y : Type 0} (f : X → Y) (xs : List X) (x : X) → Contains xs x → Contains (map f xs) (f x)
     Contains-map f xs x (k, l, e) = (k, omega (arith, length-map xs f), get_or-map f xs k x (f x) l ∙ ap f e)
@@ -204,8 +181,8 @@ module _ (p : Program) (names : NamesCells p) (deps : HasDependencies p) (u t : 
   sharing hu ht =
       let a = operand_for (worked_on p v) (λ a. not (is_scratch a.mode)) (task_of p u).accesses c hu in
       let b = operand_for (worked_on p w) (λ a. is_written a.mode) (task_of p t).accesses c ht in
-      let ua = operand-uses p u v a.0.mode a.0.cell u_in v_in a.1 a.2 (redux-has_copies p names u u_in a.0.mode a.0.cell a.1) in
-      let tb = operand-uses p t w b.0.mode b.0.cell t_in w_in b.1 (written_isn't_scratch b.0.mode b.2) (redux-has_copies p names t t_in b.0.mode b.0.cell b.1) in
+      let ua = operand-uses p u v a.0.mode a.0.cell u_in a.1 a.2 (λ redux. (let c = redux-has_copies p names u u_in a.0.mode a.0.cell a.1 redux in (v_in, c.0, c.1))) in
+      let tb = operand-uses p t w b.0.mode b.0.cell t_in b.1 (written_isn't_scratch b.0.mode b.2) (λ redux. (let c = redux-has_copies p names t t_in b.0.mode b.0.cell b.1 redux in (w_in, c.0, c.1))) in
       by_modes a.0.mode b.0.mode a.0.cell b.0.cell a.1 b.1 a.2 b.2 a.3 b.3
       (subst (λ (q : Cell). Uses p u.0 q.0 (manner_of (task_of p u).codelet a.0.mode)) a.3 ua)
       (subst (λ (q : Cell). Uses p t.0 q.0 (manner_of (task_of p t).codelet b.0.mode)) b.3 tb)

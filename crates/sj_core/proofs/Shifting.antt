@@ -1,25 +1,16 @@
 -- A step that changes replicas and transfers alone, and what it owes so as to leave a coherent state.
-use Rattle.std.proofs.Common.{◌≡◌, true, false, List, sym, ap, ◌∙◌, Some, arith}
-use Rattle.std.proofs.lemmas.Bool.{false≢true}
-use Rattle.sj_base.specs.Array.{Array}
-use Rattle.sj_base.specs.declared.ids.Cell.{Cell}
-use Rattle.sj_base.specs.declared.ids.Task.{Task}
-use Rattle.sj_base.specs.declared.ids.Node.{Node}
-use Rattle.sj_base.specs.declared.ids.Worker.{Worker}
-use Rattle.sj_base.specs.declared.ids.Place.{Place}
-use Rattle.sj_base.specs.declared.ids.Place.TheVariants.{Node as AtNode}
-use Rattle.sj_base.specs.declared.program.Program.{Program}
-use Rattle.sj_base.specs.declared.program.Machine.{Machine}
-use Rattle.sj_core.specs.Program.{has_cell}
-use Rattle.sj_core.specs.Needs.{node_of}
-use Rattle.sj_core.specs.declared.progress.Transfer.{Transfer}
-use Rattle.sj_core.specs.Machine.{State, CellState, WorkerState, progress, replica, writes, pins, scratch, victims_of, transfer, moves, is_valid, is_entry, is_leaving, is_leaving_by, is_coming_by, is_claimed_by, is_task_of}
-use Rattle.sj_core.specs.Coherent.{HasRows, HasBlocks, IsStateOf, IsOwnedBy, WritersOwn, CopiesAgree, TasksHaveCells, PinsHold, TransfersAreSound, NodesSuffice, WorkersAreSound, OrderIsKept, WritesAreCounted, Coherent}
+use Rattle.std.proofs.Common.{List, Some, false, inl, inr, refl, sym, true, ◌∙◌, ◌≡◌, ap, subst}
+use Rattle.sj_core.proofs.Words.{Array, AtNode, Cell, CellState, Claimed, Machine, Node, Place, Program, Running, State, Task, Transfer, Worker, WorkerState, has_cell, is_claimed_by, is_coming_by, is_entry, is_leaving_by, is_valid, moves, node_of, pins, progress, replica, scratch, transfer, victims_of, writes, DiskNo, OnDisk, with_transfer}
+use Rattle.sj_core.specs.Coherent.{Coherent, CopiesAgree, HasBlocks, HasRows, IsOwnedBy, TransfersAreSound}
 use Rattle.sj_core.specs.Laws.{IsSound}
-use Rattle.sj_core.proofs.Advancing.{same_worker-refl}
-use Rattle.sj_core.proofs.Holding.{leaving-by_some, not_true}
-use Rattle.sj_core.proofs.Reading.{leaving_by-leaves}
-use Rattle.sj_core.proofs.Bytes.{NodesSuffice-fewer}
+use Rattle.sj_core.proofs.Advancing.{claimed-is_mine, task_of-worker}
+use Rattle.sj_core.proofs.Changing.{Changes, Changes-coherent, Changes-writers}
+use Rattle.sj_core.specs.Step.{disk_of}
+use Rattle.std.proofs.lemmas.List.{length-set}
+use Rattle.std.proofs.lemmas.Bool.{true≢false}
+use Rattle.sj_core.proofs.Placing.{transfer-is, pins-same, scratch-same, victims-same}
+use Rattle.sj_core.proofs.Reading.{unmoved-from, moves-it}
+use Rattle.sj_core.proofs.Replicas.{same_worker-refl}
 
 -- the state with other cells and workers
 abbrev pub shifted : State → List CellState → List WorkerState → State
@@ -45,91 +36,81 @@ pub record Shifts (p : Program) (m : Machine) (s : State) (cells : List CellStat
   pub moving : TransfersAreSound m (shifted s cells workers)
   pub copies : CopiesAgree p (shifted s cells workers)
 
-module _ (p : Program) (m : Machine) (s : State) (h : IsSound p m s) (cells : List CellState) (workers : List WorkerState) (shift : Shifts p m s cells workers) where
+module _ (p : Program) (m : Machine) (s : State) (h : IsSound p m s) (t : Task) (w : Worker) (claimed : progress s t ≡ Claimed w) (cells : List CellState) (workers : List WorkerState) (shift : Shifts p m s cells workers) where
   abbrev after : State
   after = shifted s cells workers
 
-  shift-state : IsStateOf p m after
-  shift-state =
-      let before = h.coherent.state in
-      record {
-        rows = shift.rows;
-        entries = record { entries = λ n c. before.entries.entries n c ∙ sym (shift.same_entries c n); once = before.entries.once };
-        blocks = shift.blocks;
-        staff = record { staffed = before.staff.staffed };
-      }
-
-  shift-writers : WritersOwn p m after
-  shift-writers = record {
-    owned = λ t w c runs written. (let old = h.coherent.writers.owned t w c runs written in
-        record {
-          valid = shift.owned c w _ old (AtNode (node_of m w)) ∙ old.valid;
-          only = λ q elsewhere. shift.owned c w _ old q ∙ old.only q elsewhere;
-          pinned = ap (λ (cs : List Cell). has_cell cs c) (shift.same_pins w) ∙ old.pinned;
-          unmoved = shift.unmoved c w _ old;
-        });
+  change : Changes p m s after t (Claimed w) (Claimed w) w
+  change = record {
+    advance = record { was = claimed; is = claimed; others = λ u d. refl };
+    mine = claimed-is_mine w;
+    still_mine = λ v has. sym (task_of-worker v (Claimed w) has);
+    state = (let before = h.coherent.state in record {
+      rows = shift.rows;
+      entries = record { entries = λ n c. before.entries.entries n c ∙ sym (shift.same_entries c n); once = before.entries.once };
+      blocks = shift.blocks;
+      staff = record { staffed = before.staff.staffed };
+    });
+    rows = λ v. inl (shift.same_pins v, shift.same_scratch v, λ e. claimed-is_mine w);
+    victims = shift.same_victims;
+    entries = λ c k now. sym (shift.same_entries c k) ∙ now;
+    leaves = shift.leaves;
+    comes = shift.comes;
+    still_comes = shift.still_comes;
+    moves_on = shift.movers;
+    claims_on = λ e. inr refl;
+    stays = λ u v c d has cell. (λ was. shift.same_entries c (node_of m v) ∙ was, λ was. shift.pinned v c (h.coherent.cells.pinned u v c has cell) was);
+    claimed = λ c e has. shift.same_entries c (node_of m w) ∙ h.coherent.cells.claimed t w c claimed has;
+    running = λ c e has. absurd (let f : Claimed w ≡ Running w = e in cc);
+    transfers = shift.moving;
+    order = (let before = h.coherent.order in record { earlier = before.earlier; apart = before.apart; commuting = λ t u at au d shares. before.commuting t u at au d (record { cell = shares.cell; commuting = shares.commuting; shared = shares.shared }) });
+    counts = record { counted = λ c. shift.same_writes c ∙ h.coherent.counts.counted c };
   }
-
-  shift-cells : TasksHaveCells p m after
-  shift-cells =
-      let before = h.coherent.cells in
-      record {
-        running = λ t w c runs has. shift.pinned w c (before.pinned t w c (ap (is_task_of w) runs ∙ same_worker-refl w) has) (before.running t w c runs has);
-        claimed = λ t w c claims has. shift.same_entries c (node_of m w) ∙ before.claimed t w c claims has;
-        pinned = λ t w c ours has. ap (λ (cs : List Cell). has_cell cs c) (shift.same_pins w) ∙ before.pinned t w c ours has;
-      }
-
-  shift-pins : PinsHold p m after
-  shift-pins =
-      let before = h.coherent.pins in
-      let old : (v : Worker) (c : Cell) → has_cell (pins after v) c ≡ true → has_cell (pins s v) c ≡ true = λ v c pin. ap (λ (cs : List Cell). has_cell cs c) (sym (shift.same_pins v)) ∙ pin in
-      record {
-        stays = λ v c pin. not_true (is_leaving (replica after c (AtNode (node_of m v)))) (λ leaves.
-            (let by = leaving-by_some (replica after c (AtNode (node_of m v))) leaves in
-            false≢true (sym (before.stays v c (old v c pin)) ∙ leaving_by-leaves by.0 (replica s c (AtNode (node_of m v))) (shift.leaves by.0 c (AtNode (node_of m v)) by.1))));
-        own = λ v c pin. (let held = before.own v c (old v c pin) in record { task = held.task; has = held.has; cell = held.cell });
-        coming_here = λ v c n coming. before.coming_here v c n (shift.comes v c n coming);
-        coming_claimed = λ v c n coming. (let claimed = before.coming_claimed v c n (shift.comes v c n coming) in record { task = claimed.task; claimed = claimed.claimed; cell = claimed.cell });
-        coming_pinned = λ v c n coming. ap (λ (cs : List Cell). has_cell cs c) (shift.same_pins v) ∙ before.coming_pinned v c n (shift.comes v c n coming);
-      }
-
-  shift-bytes : NodesSuffice p m after
-  shift-bytes =
-      NodesSuffice-fewer p m s after h.coherent.state shift-state h.coherent.bytes (λ k c has. has)
-      (λ v. (let same = shift.same_scratch v in omega arith))
-      (λ k v c leaving. shift.leaves v c (AtNode k) leaving)
-      (λ k v c d leaving coming. shift.still_comes v c d k leaving coming)
-
-  shift-workers : WorkersAreSound p m after
-  shift-workers =
-      let before = h.coherent.workers in
-      record {
-        evicted = λ v c n leaving. (let old = before.evicted v c n (shift.leaves v c (AtNode n) leaving) in record { here = old.here; claims = old.claims; victim = ap (λ (cs : List Cell). has_cell cs c) (shift.same_victims v) ∙ old.victim });
-        one_evicts = λ u v c d n lu lv. before.one_evicts u v c d n (shift.leaves u c (AtNode n) lu) (shift.leaves v d (AtNode n) lv);
-        one_task = before.one_task;
-        moves_for_claim = shift.movers;
-        scratch = λ v. record { own = λ t ours. shift.same_scratch v ∙ (before.scratch v).own t ours; none = λ none. shift.same_scratch v ∙ (before.scratch v).none none };
-      }
-
-  shift-order : OrderIsKept p after
-  shift-order =
-      let before = h.coherent.order in
-      record { earlier = before.earlier; apart = before.apart; commuting = λ t u at au d shares. before.commuting t u at au d (record { cell = shares.cell; commuting = shares.commuting; shared = shares.shared }) }
-
-  shift-counts : WritesAreCounted p after
-  shift-counts = record { counted = λ c. shift.same_writes c ∙ h.coherent.counts.counted c }
 
   -- it leaves a coherent state
   pub Shifts-coherent : Coherent p m after
-  Shifts-coherent = record {
-    state = shift-state;
-    writers = shift-writers;
-    copies = shift.copies;
-    cells = shift-cells;
-    pins = shift-pins;
-    transfers = shift.moving;
-    bytes = shift-bytes;
-    workers = shift-workers;
-    order = shift-order;
-    counts = shift-counts;
+  Shifts-coherent = Changes-coherent p m s h after t (Claimed w) (Claimed w) w change
+      (Changes-writers p m s h after t (Claimed w) (Claimed w) w change
+      (λ u v c d runs written. (let old = h.coherent.writers.owned u v c runs written in (shift.owned c v _ old, shift.unmoved c v _ old, refl)))
+      (λ c e. absurd (let f : Claimed w ≡ Running w = e in cc)))
+      shift.copies
+
+-- a move that begins, of a cell that no running task owns: the blocks where it goes, transfers are sound with it, and the worker has a claimed task
+module _ (p : Program) (m : Machine) (s : State) (h : IsSound p m s) (w : Worker) (begun : Transfer) (aimed : (d : DiskNo) → begun.to ≡ OnDisk d → disk_of p m begun.cell ≡ Some d) (moving : TransfersAreSound m (with_transfer s w (Some begun)))
+    (free : (v : Worker) (a : Array) → IsOwnedBy m s begun.cell v a → ⊥) (t : Task) (claimed : progress s t ≡ Claimed w) where
+  abbrev now : State
+  now = with_transfer s w (Some begun)
+
+  begins : Shifts p m s now.cells now.workers
+  begins = record {
+    rows = (let rows = h.coherent.state.rows in record { tasks = rows.tasks; cells = rows.cells; orders = rows.orders; workers = length-set s.workers w.0 _ ∙ rows.workers; nodes = rows.nodes; disks = rows.disks });
+    blocks = (let blocks = h.coherent.state.blocks in record {
+      resting = blocks.resting;
+      home = blocks.home;
+      aimed = λ v x d under_way to. elim (transfer-is s w begun v x under_way) [ inl same ↦ blocks.aimed v x d same to | inr (e, is) ↦ subst (λ (y : Transfer). disk_of p m y.cell ≡ Some d) is (aimed d (ap (λ (y : Transfer). y.to) is ∙ to)) ];
+    });
+    same_pins = pins-same s w (Some begun);
+    same_scratch = scratch-same s w (Some begun);
+    same_victims = victims-same s w (Some begun);
+    same_writes = λ d. refl;
+    same_entries = λ d k. refl;
+    leaves = λ v d q leaving. leaving;
+    comes = λ v d k coming. coming;
+    still_comes = λ v x d k leaving coming. coming;
+    pinned = λ v d pin valid. valid;
+    owned = λ d v a own q. refl;
+    unmoved = λ d v a own x. unmoved-from now x d (λ y under_way e. elim (transfer-is s w begun x y under_way) [
+      | inl same ↦ true≢false (sym (moves-it s x y same) ∙ ap (moves s x) e ∙ own.unmoved x)
+      | inr (f, is) ↦ free v a (subst (λ (k : Cell). IsOwnedBy m s k v a) (sym e ∙ sym (ap (λ (z : Transfer). z.cell) is)) own)
+    ]);
+    movers = λ v x under_way. elim (transfer-is s w begun v x under_way) [
+      | inl same ↦ h.coherent.workers.moves_for_claim v x same
+      | inr (e, is) ↦ (t, ap (λ (y : Worker). is_claimed_by y (progress s t)) e ∙ ap (is_claimed_by w) claimed ∙ same_worker-refl w)
+    ];
+    moving = moving;
+    copies = record { valid_somewhere = h.coherent.copies.valid_somewhere; alike = h.coherent.copies.alike };
   }
+
+  -- it leaves a coherent state
+  pub Begun-coherent : Coherent p m now
+  Begun-coherent = Shifts-coherent p m s h t w claimed now.cells now.workers begins

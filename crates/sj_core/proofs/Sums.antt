@@ -1,13 +1,20 @@
 -- Sums over lists whose terms balance, or bound one another, element by element.
-use Rattle.std.proofs.Common.{◌≡◌, ℕ, ◌+◌, ◌≤◌, Bool, true, false, not, cond, List, [], ◌∷◌, refl, sym, ap, ◌∙◌, arith}
-use Rattle.std.specs.Prelude.{sum_by, count_by}
-use Rattle.std.specs.List.{filter}
-use Rattle.std.proofs.lemmas.List.Sums.{sum_by-cons}
+use Rattle.std.proofs.Common.{◌≡◌, ℕ, ◌+◌, ◌≤◌, Bool, true, false, not, cond, List, [], ◌∷◌, refl, sym, ap, ◌∙◌, arith, map, inl, inr, ◌&&◌, ◌<◌, zero, suc, ◌*◌}
+use Rattle.std.specs.Prelude.{sum_by, count_by, nat_le, nat_lt, nat_eq}
+use Rattle.std.specs.List.{filter, range_with_len}
+use Rattle.std.proofs.lemmas.List.Sums.{sum_by-cons, sum_by-le-sum_by}
 use Rattle.std.proofs.lemmas.List.Filters.{sum_by-filter_both}
+use Rattle.std.proofs.lemmas.Bool.{false_from_ne_true, and_parts, and_from, and_left, leb-true, ltb-true, le-leb, lt-leb, lt-ltb, eq-eqb, ne_eqb, cases_eq}
 
 -- what an element counts by a test
 abbrev pub tally : Bool → ℕ
 tally b = cond b 1 0
+
+-- two tests that imply each other are one
+pub same_test : (a b : Bool) → (a ≡ true → b ≡ true) → (b ≡ true → a ≡ true) → a ≡ b
+same_test true b f g = sym (f refl)
+same_test false true f g = g refl
+same_test false false f g = refl
 
 -- two sums that balance two others
 pub sum-balanced : {X : Type 0} (f g h k : X → ℕ) → ((x : X) → f x + g x ≡ h x + k x) → (xs : List X) → sum_by f xs + sum_by g xs ≡ sum_by h xs + sum_by k xs
@@ -60,41 +67,65 @@ sum-filter-le f g test le (x ∷ xs) = by_cases (test x) refl (sum-filter-le f g
 pub filter-sum-le : {X : Type 0} (f : X → ℕ) (test : X → Bool) (xs : List X) → sum_by f (filter test xs) ≤ sum_by f xs
 filter-sum-le f test xs = let both = sum_by-filter_both test (λ x. not (test x)) (λ x. refl) f xs in omega arith
 
--- where no element passes the test, and the terms of the others are no larger
-sum-none_more : {X : Type 0} (f g : X → ℕ) (test : X → Bool) → ((x : X) → test x ≡ false → f x ≤ g x) → (xs : List X) → count_by test xs ≡ 0 → sum_by f xs ≤ sum_by g xs
-sum-none_more f g test le [] none = omega arith
-sum-none_more f g test le (x ∷ xs) none = by_cases (test x) refl (sum-none_more f g test le xs)
+-- a sum of two terms each
+pub sum-plus : {X : Type 0} (h f g : X → ℕ) → ((x : X) → h x ≡ f x + g x) → (xs : List X) → sum_by h xs ≡ sum_by f xs + sum_by g xs
+sum-plus h f g same xs = let all = sum-balanced h (λ x. 0) f g (λ x. (let here = same x in omega arith)) xs in let none = nothing xs in omega arith
   where
-    by_cases : (b : Bool) → test x ≡ b → (count_by test xs ≡ 0 → sum_by f xs ≤ sum_by g xs) → sum_by f (x ∷ xs) ≤ sum_by g (x ∷ xs)
-    by_cases true e later = absurd (let one : tally (test x) ≡ 1 = ap tally e in let c = sum_by-cons (λ y. tally (test y)) x xs in omega arith)
-    by_cases false e later =
-        let one : tally (test x) ≡ 0 = ap tally e in
+    nothing : {X : Type 0} (ys : List X) → sum_by (λ x. 0) ys ≡ 0
+    nothing [] = refl
+    nothing (y ∷ ys) = let a = sum_by-cons (λ x. 0) y ys in let rest = nothing ys in omega arith
+
+-- so much for each element that passes
+sum-each : {X : Type 0} (test : X → Bool) (more : ℕ) (xs : List X) → sum_by (λ x. cond (test x) more 0) xs ≡ more * count_by test xs
+sum-each test more [] = omega arith
+sum-each test more (x ∷ xs) = by_test (test x) refl (sum-each test more xs)
+  where
+    by_test : (b : Bool) → test x ≡ b → sum_by (λ y. cond (test y) more 0) xs ≡ more * count_by test xs → sum_by (λ y. cond (test y) more 0) (x ∷ xs) ≡ more * count_by test (x ∷ xs)
+    by_test true e rest =
+        let a = sum_by-cons (λ y. cond (test y) more 0) x xs in
         let c = sum_by-cons (λ y. tally (test y)) x xs in
-        let here = le x e in
-        let rest = later (omega arith) in
-        let a = sum_by-cons f x xs in
-        let b = sum_by-cons g x xs in
-        omega arith
+        let here : cond (test x) more 0 ≡ more = ap (λ b. cond b more 0) e in
+        let one : tally (test x) ≡ 1 = ap tally e in
+        let count : count_by test (x ∷ xs) ≡ 1 + count_by test xs = omega arith in
+        a ∙ ap (λ n. n + sum_by (λ y. cond (test y) more 0) xs) here ∙ ap (λ n. more + n) rest ∙ (omega arith) ∙ ap (λ n. more * n) (sym count)
+    by_test false e rest =
+        let a = sum_by-cons (λ y. cond (test y) more 0) x xs in
+        let c = sum_by-cons (λ y. tally (test y)) x xs in
+        let here : cond (test x) more 0 ≡ 0 = ap (λ b. cond b more 0) e in
+        let none : tally (test x) ≡ 0 = ap tally e in
+        let count : count_by test (x ∷ xs) ≡ count_by test xs = omega arith in
+        a ∙ ap (λ n. n + sum_by (λ y. cond (test y) more 0) xs) here ∙ (omega arith) ∙ ap (λ n. more * n) (sym count)
 
 -- where at most one element passes the test, whose term grows by so much, and no other's does
-pub sum-one_more : {X : Type 0} (f g : X → ℕ) (test : X → Bool) (more : ℕ) → ((x : X) → test x ≡ false → f x ≤ g x) → ((x : X) → test x ≡ true → f x ≤ g x + more) → (xs : List X) → count_by test xs ≤ 1 → sum_by f xs ≤ sum_by g xs + more
-sum-one_more f g test more le one [] once = omega arith
-sum-one_more f g test more le one (x ∷ xs) once = by_cases (test x) refl (sum-one_more f g test more le one xs)
+pub sum-one_more : {X : Type 0} (f g : X → ℕ) (test : X → Bool) (more : ℕ) → ((x : X) → f x ≤ g x + cond (test x) more 0) → (xs : List X) → count_by test xs ≤ 1 → sum_by f xs ≤ sum_by g xs + more
+sum-one_more f g test more le xs once =
+    let all = sum_by-le-sum_by f (λ x. g x + cond (test x) more 0) xs le in
+    let both = sum-plus (λ x. g x + cond (test x) more 0) g (λ x. cond (test x) more 0) (λ x. refl) xs in
+    let most = at_most (count_by test xs) once (sum-each test more xs) in
+    omega arith
   where
-    by_cases : (b : Bool) → test x ≡ b → (count_by test xs ≤ 1 → sum_by f xs ≤ sum_by g xs + more) → sum_by f (x ∷ xs) ≤ sum_by g (x ∷ xs) + more
-    by_cases true e later =
-        let is_one : tally (test x) ≡ 1 = ap tally e in
-        let c = sum_by-cons (λ y. tally (test y)) x xs in
-        let here = one x e in
-        let rest = sum-none_more f g test le xs (omega arith) in
-        let a = sum_by-cons f x xs in
-        let b = sum_by-cons g x xs in
-        omega arith
-    by_cases false e later =
-        let is_none : tally (test x) ≡ 0 = ap tally e in
-        let c = sum_by-cons (λ y. tally (test y)) x xs in
-        let here = le x e in
-        let rest = later (omega arith) in
-        let a = sum_by-cons f x xs in
-        let b = sum_by-cons g x xs in
-        omega arith
+    at_most : (n : ℕ) → n ≤ 1 → sum_by (λ x. cond (test x) more 0) xs ≡ more * n → sum_by (λ x. cond (test x) more 0) xs ≤ more
+    at_most zero h e = omega arith
+    at_most (suc zero) h e = omega arith
+    at_most (suc (suc n)) h e = absurd (omega arith)
+
+-- of numbered elements the test passes that of one number
+pub count-numbered : {X : Type 0} (number : ℕ → X) (test : X → Bool) (k : ℕ) → ((i : ℕ) → test (number i) ≡ nat_eq i k) → (a n : ℕ) → count_by test (map number (range_with_len a n)) ≡ tally (nat_le a k && nat_lt k (a + n))
+count-numbered number test k is a zero = ap tally (sym (false_from_ne_true (nat_le a k && nat_lt k (a + 0)) (λ h. (let both = and_parts (nat_le a k) (nat_lt k (a + 0)) h in let low = leb-true a k both.0 in let high = ltb-true k (a + 0) both.1 in omega arith))))
+count-numbered number test k is a (suc n) =
+    let first = sum_by-cons (λ x. tally (test x)) (number a) (map number (range_with_len (a + 1) n)) in
+    let later = count-numbered number test k is (a + 1) n in
+    elim (cases_eq a k) [
+      | inl e ↦
+          let here : tally (test (number a)) ≡ 1 = ap tally (is a ∙ eq-eqb a k e) in
+          let beyond : tally (nat_le (a + 1) k && nat_lt k (a + 1 + n)) ≡ 0 = ap tally (and_left (nat_le (a + 1) k) (nat_lt k (a + 1 + n)) (lt-leb (a + 1) k (omega arith))) in
+          let now : tally (nat_le a k && nat_lt k (a + suc n)) ≡ 1 = ap tally (and_from (nat_le a k) (nat_lt k (a + suc n)) (le-leb a k (omega arith)) (lt-ltb k (a + suc n) (omega arith))) in
+          omega arith
+      | inr d ↦
+          let other : tally (test (number a)) ≡ 0 = ap tally (is a ∙ ne_eqb a k d) in
+          let same : tally (nat_le (a + 1) k && nat_lt k (a + 1 + n)) ≡ tally (nat_le a k && nat_lt k (a + suc n)) = ap tally (same_test (nat_le (a + 1) k && nat_lt k (a + 1 + n)) (nat_le a k && nat_lt k (a + suc n)) (further (a + 1) (a + 1 + n) a (a + suc n) (λ l h. (omega arith)) (λ l h. (omega arith))) (further a (a + suc n) (a + 1) (a + 1 + n) (λ l h. (omega arith)) (λ l h. (omega arith)))) in
+          omega arith
+    ]
+  where
+    further : (a b c d : ℕ) → (a ≤ k → k < b → c ≤ k) → (a ≤ k → k < b → k < d) → (nat_le a k && nat_lt k b) ≡ true → (nat_le c k && nat_lt k d) ≡ true
+    further a b c d low high h = (let both = and_parts (nat_le a k) (nat_lt k b) h in and_from (nat_le c k) (nat_lt k d) (le-leb c k (low (leb-true a k both.0) (ltb-true k b both.1))) (lt-ltb k d (high (leb-true a k both.0) (ltb-true k b both.1))))

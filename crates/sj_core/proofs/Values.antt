@@ -1,41 +1,27 @@
 -- A cell whose old value a task reads has been written by the time that the task may run.
-use Rattle.std.proofs.Common.{◌≡◌, ℕ, zero, suc, ◌<◌, Bool, true, false, not, ◌&&◌, ◌||◌, cond, List, [], ◌∷◌, length, get_or, refl, sym, ap, ◌∙◌, subst, inl, inr, ◌⊎◌, arith}
-use Rattle.std.specs.Prelude.{IsTrue}
-use Rattle.std.specs.List.{list_any, Contains}
+use Rattle.std.proofs.Common.{ap, arith, cond, false, get_or, inl, inr, length, not, refl, subst, suc, sym, true, zero, ℕ, ◌&&◌, ◌<◌, ◌∙◌, ◌≡◌, ◌⊎◌}
 use Rattle.std.proofs.lemmas.Bool.{false≢true}
 use Rattle.std.proofs.lemmas.Bool.Decides.{Decides-eqb}
 use Rattle.std.proofs.lemmas.List.Elements.{All-contains}
 use Rattle.std.proofs.lemmas.List.FromFn.{get_or-map-range_with_len, length-map-range_with_len}
 use Rattle.std.proofs.lemmas.List.Sums.{get_or-le-sum_by}
-use Rattle.sj_base.specs.declared.ids.Cell.{Cell}
-use Rattle.sj_base.specs.declared.ids.Task.{Task}
-use Rattle.sj_base.specs.declared.ids.Worker.{Worker}
-use Rattle.sj_base.specs.declared.mode.Mode.{Mode}
-use Rattle.sj_base.specs.declared.mode.Mode.TheVariants.{R, W, RW, Scratch, Redux, Commute as CommuteMode}
+use Rattle.std.specs.List.{Contains}
+use Rattle.std.specs.Prelude.{IsTrue}
+use Rattle.sj_base.specs.Mode.{is_redux, is_scratch, is_written, reads_value, starts_as_zeros}
+use Rattle.sj_core.proofs.Words.{Cell, Program, State, Task, Worker, cells_of, copy_of, data_operands, done_by, fresh_cells, has_cell, same_cell, task_of, tasks_of, worked_on, writes, written_cells}
 use Rattle.sj_base.specs.declared.mode.Access.{Access}
-use Rattle.sj_base.specs.declared.program.Program.{Program}
+use Rattle.sj_base.specs.declared.mode.Mode.{Mode}
+use Rattle.sj_base.specs.declared.mode.Mode.TheVariants.{Commute as CommuteMode, R, RW, Redux, Scratch, W}
+use Rattle.sj_deps.specs.Conflict.{Conflict, IsShared, Uses}
 use Rattle.sj_deps.specs.declared.manner.Manner.{Manner}
 use Rattle.sj_deps.specs.declared.manner.Manner.TheVariants.{Write}
-use Rattle.sj_deps.specs.Conflict.{Uses, IsShared, Conflict}
-use Rattle.sj_core.specs.Program.{same_cell, has_cell, task_of, tasks_of, is_scratch, is_written, is_redux, starts_as_zeros, data_operands}
-use Rattle.sj_core.specs.Operands.{copy_of, worked_on, cells_of, written_cells, fresh_cells}
-use Rattle.sj_core.specs.Machine.{State, writes, done_by}
-use Rattle.sj_core.specs.Step.{EarlierAreDone}
-use Rattle.sj_core.specs.Proper.{Proper, HasValueBefore, reads_value, gives_value, access}
 use Rattle.sj_core.specs.Coherent.{WritesAreCounted, has_written}
-use Rattle.sj_core.proofs.Readiness.{Contains-filter}
-use Rattle.sj_core.proofs.Reading.{same_cell-is}
-use Rattle.sj_core.proofs.Sharing.{manner_of, operand_for, operand-has_cell, operand-uses, redux-has_copies, write_isn't_read}
+use Rattle.sj_core.specs.Proper.{HasValueBefore, Proper, access, gives_value}
+use Rattle.sj_core.specs.Step.{EarlierAreDone}
 use Rattle.sj_core.proofs.Dependencies.{Proper-dependencies}
-
--- an element that passes a test that some element passes
-pub list_any-some : {X : Type 0} (test : X → Bool) (xs : List X) → list_any test xs ≡ true → (x : X) × Contains xs x × (test x ≡ true)
-list_any-some test [] h = absurd (false≢true h)
-list_any-some {X} test (x ∷ xs) h = by_cases (test x) refl h (list_any-some test xs)
-  where
-    by_cases : (b : Bool) → test x ≡ b → (b || list_any test xs) ≡ true → (list_any test xs ≡ true → (y : X) × Contains xs y × (test y ≡ true)) → (y : X) × Contains (x ∷ xs) y × (test y ≡ true)
-    by_cases true e h rest = (x, (0, omega arith, refl), e)
-    by_cases false e h rest = let (y, (k, l, is), passes) = rest h in (y, (suc k, omega arith, is), passes)
+use Rattle.sj_core.proofs.Readiness.{Contains-filter, list_any-some}
+use Rattle.sj_core.proofs.Reading.{same_cell-is}
+use Rattle.sj_core.proofs.Sharing.{manner_of, operand-has_cell, operand-uses, operand_for, redux-has_copies, write_isn't_read}
 
 module _ (p : Program) (proper : Proper p) (s : State) (t : Task) (w : Worker) (inside : t.0 < length p.tasks) (staffed : w.0 < p.workers) (earlier : EarlierAreDone p s t) (c : Cell) where
   -- a task conflicts with each later one that uses what it writes by itself
@@ -60,13 +46,13 @@ module _ (p : Program) (proper : Proper p) (s : State) (t : Task) (w : Worker) (
   giver u u_in W d has passes =
       let same = same_cell-is d c passes in
       inr (
-        subst (λ (q : Cell). Uses p u.0 q.0 Write) same (operand-uses p u w W d u_in staffed has refl (λ e. absurd (false≢true e))),
+        subst (λ (q : Cell). Uses p u.0 q.0 Write) same (operand-uses p u w W d u_in has refl (λ e. absurd (false≢true e))),
         λ v. operand-has_cell (worked_on p v) (λ a. is_written a.mode) (task_of p u).accesses (access W d) c has refl passes,
       )
   giver u u_in RW d has passes =
       let same = same_cell-is d c passes in
       inr (
-        subst (λ (q : Cell). Uses p u.0 q.0 Write) same (operand-uses p u w RW d u_in staffed has refl (λ e. absurd (false≢true e))),
+        subst (λ (q : Cell). Uses p u.0 q.0 Write) same (operand-uses p u w RW d u_in has refl (λ e. absurd (false≢true e))),
         λ v. operand-has_cell (worked_on p v) (λ a. is_written a.mode) (task_of p u).accesses (access RW d) c has refl passes,
       )
 
@@ -91,7 +77,7 @@ module _ (p : Program) (proper : Proper p) (s : State) (t : Task) (w : Worker) (
   old_value : has_cell (cells_of p t w) c ≡ true → has_cell (fresh_cells p t w) c ≡ false → HasValueBefore p t c × ((n : Manner) × Uses p t.0 c.0 n)
   old_value has not_fresh =
       let found = operand_for (worked_on p w) (λ a. not (is_scratch a.mode)) (task_of p t).accesses c has in
-      let uses = operand-uses p t w found.0.mode found.0.cell inside staffed found.1 found.2 (redux-has_copies p proper.cells t inside found.0.mode found.0.cell found.1) in
+      let uses = operand-uses p t w found.0.mode found.0.cell inside found.1 found.2 (λ redux. (let c = redux-has_copies p proper.cells t inside found.0.mode found.0.cell found.1 redux in (staffed, c.0, c.1))) in
       (by_mode found.0.mode found.0.cell found.1 found.2 found.3, (manner_of (task_of p t).codelet found.0.mode, subst (λ (q : Cell). Uses p t.0 q.0 (manner_of (task_of p t).codelet found.0.mode)) found.3 uses))
     where
       value : (a : Access) → Contains (task_of p t).accesses a → reads_value a.mode ≡ true → HasValueBefore p t a.cell

@@ -1,30 +1,15 @@
 -- Needs, first fit and victims on small programs, with the numbers worked out by hand.
 use Rattle.std.proofs.Common.{◌≡◌, ℕ, not, List, [], ◌∷◌, map, refl, Option, Some, None}
-use Rattle.std.specs.Prelude.{pos, option_map, nat_eq}
-use Rattle.sj_base.specs.declared.ids.Cell.{Cell}
-use Rattle.sj_base.specs.declared.mode.Mode.{Mode}
+use Rattle.std.specs.Prelude.{option_map, nat_eq}
 use Rattle.sj_base.specs.declared.mode.Mode.TheVariants.{R, Scratch, Redux}
-use Rattle.sj_base.specs.declared.mode.Access.{Access}
-use Rattle.sj_base.specs.declared.mode.Policy.TheVariants.{Eager}
-use Rattle.sj_base.specs.declared.program.CellInfo.{CellInfo}
-use Rattle.sj_base.specs.declared.program.Lowered.{Lowered}
-use Rattle.sj_base.specs.declared.program.Program.{Program}
-use Rattle.sj_base.specs.declared.program.Machine.{Machine}
-use Rattle.sj_core.specs.Needs.{Block, footprint, swap_need, place, room}
+use Rattle.sj_core.proofs.Words.{Block, Program, footprint, swap_need, place, room}
 use Rattle.sj_core.specs.Victims.{victims}
-
-abbrev columns : ℕ → Option Cell → CellInfo
-columns n partials = record { root = record { 0 = 0 }; dims = record { rows = 1; cols = n }; partials = partials }
-
-abbrev access : Mode → ℕ → Access
-access mode n = record { mode = mode; cell = record { 0 = n } }
-
-abbrev a_task : List Access → Lowered
-a_task accesses = record { codelet = record { 0 = 0 }; args = []; accesses = accesses; line = record { 0 = 5 }; priority = pos 0 }
+use Rattle.sj_codelet.specs.declared.kernel.Kernel.TheVariants.{Sum, GemmThree}
+use Rattle.sj_core.proofs.Jobs.{a_machine, a_task, access, columns}
 
 -- a vector of four, a scalar under reduction, and its copies for two workers
 abbrev reduction : Program
-reduction = record { cells = columns 4 None ∷ columns 1 (Some (record { 0 = 2 })) ∷ columns 1 None ∷ columns 1 None ∷ []; tasks = a_task (access R 0 ∷ access Redux 1 ∷ []) ∷ a_task (access R 0 ∷ access R 0 ∷ access Scratch 1 ∷ []) ∷ []; deliveries = []; workers = 2 }
+reduction = record { cells = columns 4 None ∷ columns 1 (Some (record { 0 = 2 })) ∷ columns 1 None ∷ columns 1 None ∷ []; tasks = a_task Sum [] (access R 0 ∷ access Redux 1 ∷ []) ∷ a_task GemmThree [] (access R 0 ∷ access R 0 ∷ access Scratch 1 ∷ []) ∷ []; deliveries = []; workers = 2 }
 
 -- 56 + 32 + 32 + 32
 pub swap_is : swap_need reduction ≡ 152
@@ -51,11 +36,8 @@ fits_three = refl
 pub footprints_are : (footprint reduction (record { 0 = 0 }) ≡ 40) × (footprint reduction (record { 0 = 1 }) ≡ 40)
 footprints_are = (refl, refl)
 
-abbrev with_workers : ℕ → Machine
-with_workers n = record { workers = n; nodes = 48 ∷ 1000 ∷ []; disks = []; policy = Eager }
-
 -- a node without a worker has no room for a task
-pub rooms_are : (room (with_workers 1) ≡ 48) × (room (with_workers 2) ≡ 1000)
+pub rooms_are : (room (a_machine 1 (48 ∷ 1000 ∷ []) []) ≡ 48) × (room (a_machine 2 (48 ∷ 1000 ∷ []) []) ≡ 1000)
 rooms_are = (refl, refl)
 
 -- entries of 8, 16, 24 and 32 bytes, most recent first, the third pinned; 4 bytes are free

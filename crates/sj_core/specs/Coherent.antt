@@ -56,8 +56,8 @@ pub record HasEntries (s : State) : Type 0 where
 -- a replica on a disk is invalid or valid, and only the disk of the cell's block has one or gets one
 pub record HasBlocks (p : Program) (m : Machine) (s : State) : Type 0 where
   pub resting : (c : Cell) (d : DiskNo) (w : Worker) (a : Array) → (replica s c (OnDisk d) ≢ Coming w) × (replica s c (OnDisk d) ≢ Leaving w a)
-  pub home : (c : Cell) (d : DiskNo) → IsTrue (is_valid (replica s c (OnDisk d))) → d ≡ disk_of p m c
-  pub aimed : (w : Worker) (x : Transfer) (d : DiskNo) → transfer s w ≡ Some x → x.to ≡ OnDisk d → d ≡ disk_of p m x.cell
+  pub home : (c : Cell) (d : DiskNo) → IsTrue (is_valid (replica s c (OnDisk d))) → disk_of p m c ≡ Some d
+  pub aimed : (w : Worker) (x : Transfer) (d : DiskNo) → transfer s w ≡ Some x → x.to ≡ OnDisk d → disk_of p m x.cell ≡ Some d
 
 -- the task is claimed, running or done
 abbrev pub is_begun : Progress → Bool

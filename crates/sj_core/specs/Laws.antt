@@ -1,6 +1,6 @@
 -- What the steps of a task keep: laws of all proper programs, machines and coherent states.
 use Rattle.sj_base.specs.declared.ids.Cell.{Cell}
-use Rattle.std.specs.Prelude.{◌≡◌, Bool, true, false, IsTrue, List, [], ◌∷◌, length, All, Contains, IfSome}
+use Rattle.std.specs.Prelude.{◌≡◌, ◌<◌, Some, IsTrue, List, [], ◌∷◌, length, All, Contains, IfSome}
 use Rattle.sj_base.specs.declared.ids.Task.{Task}
 use Rattle.sj_base.specs.declared.ids.Node.{Node}
 use Rattle.sj_base.specs.declared.ids.Worker.{Worker}
@@ -8,12 +8,12 @@ use Rattle.sj_base.specs.declared.ids.DiskNo.{DiskNo}
 use Rattle.sj_base.specs.declared.ids.Place.{Place}
 use Rattle.sj_base.specs.declared.program.Program.{Program}
 use Rattle.sj_base.specs.declared.program.Machine.{Machine}
-use Rattle.sj_core.specs.Machine.{State, progress, replica, array_of, is_valid}
-use Rattle.sj_core.specs.Proper.{Proper, IsMachineFor, reads_value, gives_value, access}
+use Rattle.sj_core.specs.Machine.{State, progress, replica, transfer, array_of, is_valid}
+use Rattle.sj_core.specs.Proper.{Proper, IsMachineFor, HasSwapFor, gives_value, access}
+use Rattle.sj_base.specs.Mode.{reads_value, is_in_order}
 use Rattle.sj_core.specs.Coherent.{Coherent}
-use Rattle.sj_core.specs.Step.{Claims, BeginsMoveIn, BeginsMoveOut, EndsMove, Drops, Runs, Ends, array_at}
-use Rattle.sj_base.specs.declared.mode.Mode.{Mode}
-use Rattle.sj_base.specs.declared.mode.Mode.TheVariants.{R, Redux, Commute}
+use Rattle.sj_core.specs.Step.{Claims, BeginsMoveIn, BeginsMoveOut, EndsMove, Drops, Runs, Ends, Step, a_transfer, after, array_at, disk_of, mover_of}
+use Rattle.sj_base.specs.declared.mode.Mode.TheVariants.{R}
 use Rattle.sj_base.specs.declared.mode.Access.{Access}
 use Rattle.sj_base.specs.declared.ids.Place.TheVariants.{Node as AtNode}
 use Rattle.sj_base.specs.declared.trace.Event.{Event}
@@ -22,7 +22,7 @@ use Rattle.sj_core.specs.declared.progress.Progress.TheVariants.{Claimed, Runnin
 use Rattle.sj_core.specs.Program.{task_of}
 use Rattle.sj_core.specs.Needs.{node_of}
 use Rattle.sj_core.specs.Fold.{held_before, given}
-use Rattle.sj_core.specs.Legal.{Replays, IsComplete}
+use Rattle.sj_core.specs.Legal.{Replays, IsComplete, state_of}
 
 -- a coherent state of a proper program on a machine for it
 pub record IsSound (p : Program) (m : Machine) (s : State) : Type 0 where
@@ -60,15 +60,9 @@ IsKeptByDrops Fact = (p : Program) (m : Machine) (s s' : State) (c : Cell) (n : 
 
 -- ---- programs whose accesses are all in order
 
--- the operand is none to which tasks contribute in any order
-abbrev pub is_plain_mode : Mode → Bool
-is_plain_mode Redux = false
-is_plain_mode Commute = false
-is_plain_mode _ = true
-
 -- no task has a REDUX or a COMMUTE access
 pub record HasPlainModes (p : Program) : Type 0 where
-  pub modes : (t : Task) → All (λ a. IsTrue (is_plain_mode a.mode)) (task_of p t).accesses
+  pub modes : (t : Task) → All (λ a. IsTrue (is_in_order a.mode)) (task_of p t).accesses
 
 -- the fact holds after each end in a coherent state of a program with such accesses alone
 abbrev pub IsKeptByPlainEnds : (Program → Machine → State → Type 0) → Type 0
@@ -90,6 +84,26 @@ abbrev pub DeliversGiven : Type 0
 DeliversGiven = (p : Program) (m : Machine) (s : State) (t : Task) (w : Worker) (c : Cell) → IsSound p m s → HasPlainModes p → (task_of p t).accesses ≡ access R c ∷ [] → HasAtHand m s t w c → array_at p s (AtNode (node_of m w)) c ≡ given p t
 
 -- ---- whole traces
+
+-- a step leaves one state
+abbrev pub StepsLeaveOneState : Type 0
+StepsLeaveOneState = (p : Program) (m : Machine) (s s' : State) (e : Event) → Step p m s e s' → s' ≡ after p m s e
+
+-- and so does a legal trace
+abbrev pub TracesLeaveOneState : Type 0
+TracesLeaveOneState = (p : Program) (m : Machine) (s : State) (trace : List Event) → Replays p m trace s → s ≡ state_of p m trace
+
+-- in a coherent state a transfer that is under way is the one that its event speaks of
+abbrev pub MovesHaveOneWorker : Type 0
+MovesHaveOneWorker = (p : Program) (m : Machine) (s : State) (c : Cell) (from to : Place) (w : Worker) → Coherent p m s → transfer s w ≡ Some (a_transfer c from to) → w ≡ mover_of s c from to
+
+-- where the blocks fit, each cell of the program has its disk
+abbrev pub EachCellHasDisk : Type 0
+EachCellHasDisk = (p : Program) (m : Machine) (c : Cell) → HasSwapFor p m → c.0 < length p.cells → (d : DiskNo) × (disk_of p m c ≡ Some d)
+
+-- a cell's disk is one of the machine's
+abbrev pub DisksAreOfMachine : Type 0
+DisksAreOfMachine = (p : Program) (m : Machine) (c : Cell) (d : DiskNo) → disk_of p m c ≡ Some d → d.0 < length m.disks
 
 -- the array of a cell after all tasks of the program in submission order, with each contribution by worker 0
 abbrev pub final : Program → Cell → Array

@@ -1,11 +1,11 @@
 -- Traces: the state that the events of a trace leave, and which traces are legal and complete.
-use Rattle.std.specs.Prelude.{IsTrue, List}
+use Rattle.std.specs.Prelude.{IsTrue, List, fold}
 use Rattle.std.specs.List.{FoldsTo, list_all}
 use Rattle.sj_base.specs.declared.trace.Event.{Event}
 use Rattle.sj_base.specs.declared.program.Program.{Program}
 use Rattle.sj_base.specs.declared.program.Machine.{Machine}
 use Rattle.sj_core.specs.Machine.{State, opening, is_done}
-use Rattle.sj_core.specs.Step.{Step}
+use Rattle.sj_core.specs.Step.{Step, after}
 
 -- the events, each a legal step, lead from one state to another
 abbrev pub Leads : Program → Machine → State → List Event → State → Type 0
@@ -14,6 +14,10 @@ Leads p m s trace s' = FoldsTo (Step p m) s trace s'
 -- the events, each a legal step, leave this state when they begin with nothing done
 abbrev pub Replays : Program → Machine → List Event → State → Type 0
 Replays p m trace s = Leads p m (opening p m) trace s
+
+-- the state that the events leave one after another when they begin with nothing done
+abbrev pub state_of : Program → Machine → List Event → State
+state_of p m trace = fold (after p m) (opening p m) trace
 
 -- each event of the trace is a legal step
 pub record Legal (p : Program) (m : Machine) (trace : List Event) : Type 0 where

@@ -11,7 +11,8 @@ use Rattle.sj_base.specs.declared.program.Lowered.{Lowered}
 use Rattle.sj_base.specs.declared.program.Program.{Program}
 use Rattle.sj_base.specs.declared.program.Machine.{Machine}
 use Rattle.sj_base.specs.Array.{area}
-use Rattle.sj_core.specs.Program.{distinct, dims_of, task_of, is_scratch, data_operands}
+use Rattle.sj_core.specs.Program.{distinct, dims_of, task_of, data_operands}
+use Rattle.sj_base.specs.Mode.{is_scratch}
 
 -- the bytes of a tile: eight for each element
 abbrev pub tile_bytes : Program → Cell → ℕ

@@ -6,7 +6,8 @@ use Rattle.sj_base.specs.declared.ids.Worker.{Worker}
 use Rattle.sj_base.specs.declared.mode.Access.{Access}
 use Rattle.sj_base.specs.declared.program.Program.{Program}
 use Rattle.sj_base.specs.Array.{Array, zeros}
-use Rattle.sj_core.specs.Program.{cell_info, dims_of, task_of, is_redux, is_commute, starts_as_zeros, data_operands, written_operands}
+use Rattle.sj_core.specs.Program.{cell_info, dims_of, task_of, data_operands, written_operands}
+use Rattle.sj_base.specs.Mode.{is_redux, is_commute, starts_as_zeros}
 use Rattle.sj_codelet.specs.Kernel.{out}
 
 -- the partial copy of a cell on which a worker's contributions add up; the cell itself where it has none

@@ -1,10 +1,9 @@
 -- Looking up the cells and the tasks of a lowered program, and what a mode does with its operand.
-use Rattle.std.specs.Prelude.{Bool, true, false, not, nat_eq, None, List, [], ◌∷◌, map, filter, length, pos, if◌then◌else◌}
+use Rattle.std.specs.Prelude.{Bool, nat_eq, None, List, [], ◌∷◌, map, filter, length, pos, if◌then◌else◌}
 use Rattle.std.specs.List.{slice_index_or, list_any, range_with_len}
 use Rattle.sj_base.specs.declared.ids.Cell.{Cell}
 use Rattle.sj_base.specs.declared.ids.Task.{Task}
-use Rattle.sj_base.specs.declared.mode.Mode.{Mode}
-use Rattle.sj_base.specs.declared.mode.Mode.TheVariants.{R, W, Scratch, Redux, Commute}
+use Rattle.sj_base.specs.Mode.{is_data, is_written}
 use Rattle.sj_base.specs.declared.mode.Access.{Access}
 use Rattle.sj_base.specs.declared.tile.Dims.{Dims}
 use Rattle.sj_base.specs.declared.program.CellInfo.{CellInfo}
@@ -48,34 +47,9 @@ tasks_of p = map (λ n. record { 0 = n }) (range_with_len 0 (length p.tasks))
 abbrev pub cells_of_program : Program → List Cell
 cells_of_program p = map (λ n. record { 0 = n }) (range_with_len 0 (length p.cells))
 
--- the operand is a buffer that lasts for this task alone
-abbrev pub is_scratch : Mode → Bool
-is_scratch Scratch = true
-is_scratch _ = false
-
--- the operand gets a new value
-abbrev pub is_written : Mode → Bool
-is_written R = false
-is_written Scratch = false
-is_written _ = true
-
--- the operand's old value isn't read: the task finds zeros
-abbrev pub starts_as_zeros : Mode → Bool
-starts_as_zeros W = true
-starts_as_zeros Scratch = true
-starts_as_zeros _ = false
-
-abbrev pub is_redux : Mode → Bool
-is_redux Redux = true
-is_redux _ = false
-
-abbrev pub is_commute : Mode → Bool
-is_commute Commute = true
-is_commute _ = false
-
 -- the operands that are accesses to data: all but scratch, in operand order
 abbrev pub data_operands : Lowered → List Access
-data_operands l = filter (λ a. not (is_scratch a.mode)) l.accesses
+data_operands l = filter (λ a. is_data a.mode) l.accesses
 
 -- the operands that get new values, in operand order
 abbrev pub written_operands : Lowered → List Access

@@ -1,5 +1,5 @@
 -- What the lowered program of a job is always like: seven facts that the runtime asks for.
-use Rattle.std.specs.Prelude.{◌≡◌, ℕ, ◌^◌, ◌<◌, ◌≤◌, ◌⊎◌, Bool, true, false, not, ◌&&◌, IsTrue, nat_eq, Some, None, List, [], ◌∷◌, map, length, All, AllPairs, count_by, is_some, if◌then◌else◌}
+use Rattle.std.specs.Prelude.{◌≡◌, ℕ, ◌^◌, ◌<◌, ◌≤◌, ◌⊎◌, Bool, not, ◌&&◌, IsTrue, nat_eq, Some, None, List, [], ◌∷◌, map, length, All, AllPairs, count_by, is_some, if◌then◌else◌}
 use Rattle.std.specs.List.{slice_index_or, list_any, Contains}
 use Rattle.sj_base.specs.declared.ids.Cell.{Cell}
 use Rattle.sj_base.specs.declared.ids.Task.{Task}
@@ -13,7 +13,8 @@ use Rattle.sj_base.specs.declared.program.Program.{Program}
 use Rattle.sj_base.specs.declared.program.Machine.{Machine}
 use Rattle.sj_core.specs.Needs.{place}
 use Rattle.sj_base.specs.Array.{area}
-use Rattle.sj_core.specs.Program.{same_cell, cell_info, dims_of, task_of, is_written, is_redux, data_operands}
+use Rattle.sj_core.specs.Program.{same_cell, cell_info, dims_of, task_of, data_operands}
+use Rattle.sj_base.specs.Mode.{is_written, is_redux, reads_value}
 use Rattle.sj_codelet.specs.declared.kernel.Kernel.{Kernel}
 use Rattle.sj_codelet.specs.declared.kernel.Kernel.TheVariants.{Paste, Deliver}
 use Rattle.sj_codelet.specs.declared.formal.Formal.{Formal}
@@ -81,12 +82,6 @@ abbrev pub IsUnaliased : Lowered → Type 0
 IsUnaliased l = AllPairs (λ a b. IsTrue (same_cell a.cell b.cell) → (a.mode ≡ R) × (b.mode ≡ R)) (data_operands l)
 
 -- ---- 4: values
-
--- the operand's old value is read
-abbrev pub reads_value : Mode → Bool
-reads_value W = false
-reads_value Scratch = false
-reads_value _ = true
 
 -- the task gives the cell a value that isn't a contribution
 abbrev pub gives_value : Lowered → Cell → Bool
@@ -156,7 +151,7 @@ pub record IsOpenAt (f : Phase) (n : ℕ) : Type 0 where
   pub unfinished : (k : ℕ) × Contains f.combines k × (n ≤ k)
 
 -- each partial copy is filled once, then come the contributions, then each copy is combined once, in worker order,
--- and meanwhile nothing else accesses the cell or its copies
+-- and meanwhile nothing else accesses the cell or its copies; a scratch buffer is no access
 pub record IsPhase (p : Program) (f : Phase) : Type 0 where
   pub inits_by_worker : length f.inits ≡ p.workers
   pub combines_by_worker : length f.combines ≡ p.workers
@@ -167,7 +162,7 @@ pub record IsPhase (p : Program) (f : Phase) : Type 0 where
   pub inits_first : All (λ i. All (λ n. i < n) f.contributions) f.inits
   pub combines_last : All (λ n. All (λ k. n < k) f.combines) f.contributions
   pub in_worker_order : AllPairs (λ j k. j < k) f.combines
-  pub alone : (n : ℕ) (a : Access) → IsOpenAt f n → Contains (task_number p n).accesses a → Touches p f.cell a → IsMember f n ⊎ IsFirstUnit p f n
+  pub alone : (n : ℕ) (a : Access) → IsOpenAt f n → Contains (data_operands (task_number p n)) a → Touches p f.cell a → IsMember f n ⊎ IsFirstUnit p f n
 
 pub record HasPhases (p : Program) : Type 0 where
   pub phases : List Phase

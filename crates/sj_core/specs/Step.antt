@@ -1,7 +1,7 @@
 -- The legal steps of a run: for each kind of event what it needs, and the state that it leaves
 -- (StarPU Handbook, "Data Management" and "Out Of Core"; CCPE 2011, "Data management").
-use Rattle.std.specs.Prelude.{◌≡◌, ℕ, ◌+◌, ◌<◌, ◌≤◌, Bool, false, not, ◌&&◌, ◌||◌, IsTrue, nat_eq, Option, Some, None, List, [], ◌∷◌, ◌++◌, map, filter, fold, length, sum_by, unwrap_or, if◌then◌else◌}
-use Rattle.std.specs.List.{slice_index_or, slice_set, list_any, list_all, range_with_len, zip, position}
+use Rattle.std.specs.Prelude.{◌≡◌, ℕ, ◌+◌, ◌<◌, ◌≤◌, Bool, false, not, ◌&&◌, ◌||◌, IsTrue, nat_eq, Option, Some, None, List, [], ◌∷◌, ◌++◌, map, filter, fold, length, sum_by, unwrap_or, slice_get, option_map, option_and_then, if◌then◌else◌}
+use Rattle.std.specs.List.{slice_set, list_any, list_all, range_with_len, zip, position}
 use Rattle.sj_base.specs.declared.ids.Cell.{Cell}
 use Rattle.sj_base.specs.declared.ids.Task.{Task}
 use Rattle.sj_base.specs.declared.ids.Node.{Node}
@@ -26,10 +26,9 @@ use Rattle.sj_core.specs.Machine.{State, CellState, Replica, Invalid, Coming, Va
 
 -- ---- words on where replicas are
 
--- the disk on which the cell's block lies
-abbrev pub disk_of : Program → Machine → Cell → DiskNo
-disk_of p m c =
-    elim (place p m.disks) [ None ↦ record { 0 = 0 } | Some blocks ↦ (slice_index_or blocks c.0 (record { disk = record { 0 = 0 }; position = 0 })).disk ]
+-- the disk on which the cell's block lies; none where the blocks don't fit the machine's disks
+abbrev pub disk_of : Program → Machine → Cell → Option DiskNo
+disk_of p m c = option_map (λ b. b.disk) (option_and_then (λ blocks. slice_get blocks c.0) (place p m.disks))
 
 abbrev pub same_place : Place → Place → Bool
 same_place (AtNode a) (AtNode b) = nat_eq a.0 b.0
@@ -46,10 +45,10 @@ places_of m =
 abbrev pub is_valid_elsewhere : Machine → State → Cell → Place → Bool
 is_valid_elsewhere m s c here = list_any (λ q. not (same_place q here) && is_valid (replica s c q)) (places_of m)
 
--- where a node fetches the cell from: the valid node with the least number, else the disk of its block
-abbrev pub source_of : Program → Machine → State → Cell → Place
+-- where a node fetches the cell from: the valid node with the least number, else the disk of its block if it has one
+abbrev pub source_of : Program → Machine → State → Cell → Option Place
 source_of p m s c =
-    elim (position is_valid (cell_state s c).nodes) [ None ↦ OnDisk (disk_of p m c) | Some n ↦ AtNode (record { 0 = n }) ]
+    elim (position is_valid (cell_state s c).nodes) [ None ↦ option_map OnDisk (disk_of p m c) | Some n ↦ Some (AtNode (record { 0 = n })) ]
 
 -- the array of a valid replica
 abbrev pub array_at : Program → State → Place → Cell → Array
@@ -158,7 +157,7 @@ pub record BeginsMoveIn (p : Program) (m : Machine) (s : State) (c : Cell) (from
   pub coming : IsTrue (is_coming_by w (replica s c (AtNode n)))
   pub old_value_needed : IsTrue (not (is_fresh p s w c))
   pub room : IsTrue (has_room m s w)
-  pub source : from ≡ source_of p m s c
+  pub source : source_of p m s c ≡ Some from
   pub leaves : s' ≡ with_transfer s w (Some (a_transfer c from (AtNode n)))
 
 -- `move c from to` out to a disk: a worker begins to write a victim of its claim that has no other valid replica
@@ -166,7 +165,7 @@ pub record BeginsMoveOut (p : Program) (m : Machine) (s : State) (c : Cell) (fro
   pub free : transfer s w ≡ None
   pub leaving : IsTrue (is_leaving_by w (replica s c from))
   pub only : IsTrue (not (is_valid_elsewhere m s c from))
-  pub target : d ≡ disk_of p m c
+  pub target : disk_of p m c ≡ Some d
   pub leaves : s' ≡ with_transfer s w (Some (a_transfer c from (OnDisk d)))
 
 -- `moved c from to`: the transfer is over, and the replica at its target is valid
@@ -242,12 +241,34 @@ pub record Ends (p : Program) (m : Machine) (s : State) (t : Task) (w : Worker) 
 
 -- ---- the step relation
 
+-- the worker by whose claim a replica is coming or leaving
+abbrev pub claimant_of : Replica → Worker
+claimant_of (Coming w) = w
+claimant_of (Leaving w a) = w
+claimant_of _ = record { 0 = 0 }
+
+-- the worker of a move, which its event doesn't name: the cell comes to the node, or leaves for the disk, by its claim
+abbrev pub mover_of : State → Cell → Place → Place → Worker
+mover_of s c from (AtNode n) = claimant_of (replica s c (AtNode n))
+mover_of s c from (OnDisk d) = claimant_of (replica s c from)
+
 -- the event is legal in s, and leaves s'
 abbrev pub Step : Program → Machine → State → Event → State → Type 0
 Step p m s (Claim t w) s' = Claims p m s t w s'
-Step p m s (Move c from (AtNode n)) s' = (w : Worker) × BeginsMoveIn p m s c from n w s'
-Step p m s (Move c from (OnDisk d)) s' = (w : Worker) × BeginsMoveOut p m s c from d w s'
-Step p m s (Moved c from to) s' = (w : Worker) × EndsMove p s c from to w s'
+Step p m s (Move c from (AtNode n)) s' = BeginsMoveIn p m s c from n (mover_of s c from (AtNode n)) s'
+Step p m s (Move c from (OnDisk d)) s' = BeginsMoveOut p m s c from d (mover_of s c from (OnDisk d)) s'
+Step p m s (Moved c from to) s' = EndsMove p s c from to (mover_of s c from to) s'
 Step p m s (Drop c n) s' = Drops m s c n s'
 Step p m s (Run t w) s' = Runs p m s t w s'
 Step p m s (End t w) s' = Ends p m s t w s'
+
+-- ---- the state that an event leaves
+
+-- the state that the event leaves where it is legal in s
+abbrev pub after : Program → Machine → State → Event → State
+after p m s (Claim t w) = after_claim p m s t w (unwrap_or (victims_for p m s t w) [])
+after p m s (Move c from to) = with_transfer s (mover_of s c from to) (Some (a_transfer c from to))
+after p m s (Moved c from to) = with_transfer (with_replica s c to (Valid (array_at p s from c))) (mover_of s c from to) None
+after p m s (Drop c n) = with_replica s c (AtNode n) Invalid
+after p m s (Run t w) = after_run p m s t w
+after p m s (End t w) = after_end p m s t w

@@ -7,7 +7,7 @@ ghost use Rattle.sj_base.specs.declared.program.Program.{Program};
 ghost use Rattle.sj_base.specs.declared.program.Machine.{Machine};
 ghost use Rattle.sj_core.specs.Bound.{HasAtMostThreePerTask, is_of_task};
 ghost use Rattle.sj_core.specs.Coherent.{Coherent, IsStateOf, NodesSuffice, OrderIsKept, PinsHold, TasksHaveCells, TransfersAreSound, WorkersAreSound, WritesAreCounted};
-ghost use Rattle.sj_core.specs.Laws.{CompleteHoldsFinal, CompleteTracesHoldFinal, DeliversGiven, FindsEarlierTasks, IsKeptByClaims, IsKeptByDrops, IsKeptByEndedMoves, IsKeptByEnds, IsKeptByMovesIn, IsKeptByMovesOut, IsKeptByPlainEnds, IsKeptByRuns, TracesKeepCoherence};
+ghost use Rattle.sj_core.specs.Laws.{CompleteHoldsFinal, CompleteTracesHoldFinal, DeliversGiven, DisksAreOfMachine, EachCellHasDisk, FindsEarlierTasks, IsKeptByClaims, IsKeptByDrops, IsKeptByEndedMoves, IsKeptByEnds, IsKeptByMovesIn, IsKeptByMovesOut, IsKeptByPlainEnds, IsKeptByRuns, MovesHaveOneWorker, StepsLeaveOneState, TracesKeepCoherence, TracesLeaveOneState};
 ghost use Rattle.sj_core.specs.Legal.{IsFinished, IsLegal};
 ghost use Rattle.sj_core.specs.Machine.{opening};
 ghost use Rattle.sj_core.specs.Once.{EachRanOnce};
@@ -82,6 +82,19 @@ pub fn completions()
 pub fn traces()
     ensures keep_coherence { TracesKeepCoherence }
     ensures hold_final { CompleteTracesHoldFinal }
+{}
+
+/// The state that a step leaves, and that a legal trace leaves, is a function of its events.
+pub fn states()
+    ensures steps { StepsLeaveOneState }
+    ensures traces { TracesLeaveOneState }
+    ensures moves { MovesHaveOneWorker }
+{}
+
+/// Where blocks lie: each cell's on one of the machine's disks, if all fit there.
+pub fn blocks()
+    ensures each_has_disk { EachCellHasDisk }
+    ensures of_machine { DisksAreOfMachine }
 {}
 
 /// In a trace that is legal and finished each task was claimed, ran and ended once.

@@ -99,6 +99,7 @@ module _ {D : Type 0} (size : D → ℕ) (held : D → Option (List ℕ)) where
     where
       nothing : ℕ
       nothing = 0
+
       none-taken : (n d z : ℕ) → z ≡ 0 → get_or (replicate n z) d 0 ≡ 0
       none-taken zero d z e = refl
       none-taken (suc n) zero z e = e
@@ -167,13 +168,13 @@ module _ {D : Type 0} (size : D → ℕ) (held : D → Option (List ℕ)) where
       ];
       apart = λ a b f g ne ef eg same. elim (which a f ef) [
         | inl new ↦ elim (which b g eg) [
-            | inl too ↦ absurd (ne (new.0 ∙ sym too.0))
-            | inr old ↦ inr (behind f g b new.1 old.1 (sym same))
-          ]
+          | inl too ↦ absurd (ne (new.0 ∙ sym too.0))
+          | inr old ↦ inr (behind f g b new.1 old.1 (sym same))
+        ]
         | inr old ↦ elim (which b g eg) [
-            | inl new ↦ inl (behind g f a new.1 old.1 same)
-            | inr too ↦ s.laid_out.apart a b f g ne old.1 too.1 same
-          ]
+          | inl new ↦ inl (behind g f a new.1 old.1 same)
+          | inr too ↦ s.laid_out.apart a b f g ne old.1 too.1 same
+        ]
       ];
     }
 

@@ -1,11 +1,13 @@
 -- What a store and a fetch leave of a set of disks.
 use Rattle.std.proofs.Common.{◌≡◌, ◌≢◌, ℕ, zero, suc, ◌+◌, ◌-◌, ◌*◌, ◌^◌, ◌<◌, ◌≤◌, ◌⊎◌, inl, inr, Bool, true, false, ℤ, List, [], ◌∷◌, ◌++◌, length, take, drop, get_or, slice_range, map, w64, refl, sym, ap, ◌∙◌, subst, arith, Option, Some, None, Result, Ok, Err, length-append}
-use Rattle.std.specs.Prelude.{slice_get, slice_set, option_map, All, FitsSigned, IfErr, IfSome, IsSome, IsSomeAnd, IsTrue, is_ok, OnOk}
+use Rattle.std.specs.Prelude.{slice_get, slice_set, option_map, is_some, All, FitsSigned, IfErr, IfSome, IsSome, IsSomeAnd, IsTrue, is_ok, OnOk}
 use Rattle.std.proofs.Math.Seq.{take-append_seam}
 use Rattle.std.proofs.lemmas.Bool.{cases_eq, cases_lt}
 use Rattle.std.proofs.lemmas.List.{get_or-set_same, get_or-set_other, append_cancel_left, get_or_past, length-map, length-set, take-take}
 use Rattle.std.proofs.lemmas.Option.{slice_get_within}
 use Rattle.sj_base.specs.declared.ids.DiskNo.{DiskNo}
+use Rattle.std.specs.List.{AllZip}
+use Rattle.sj_edge.specs.GivenBack.{AreGivenBack, IsGivenBack}
 use Rattle.sj_edge.specs.Held.{Fills, GivesHeld, HoldsAnyIn, written}
 use Rattle.sj_edge.proofs.Ranges.{slice_range-written, slice_range-written-before, slice_range-written-after}
 use Rattle.sj_disk.specs.declared.directory.Extent.{Extent}
@@ -13,10 +15,10 @@ use Rattle.sj_disk.specs.declared.header.Header.{Header}
 use Rattle.sj_disk.specs.declared.directory.LastStore.{LastStore}
 use Rattle.sj_disk.specs.Block.{block, block_bytes, element_bytes, header, header_bytes}
 use Rattle.sj_disk.specs.Calls.{Fetches, Stores}
-use Rattle.sj_disk.specs.Directory.{AreApart, IsLaidOut, disk_state, extent_of, last_store, with_store}
+use Rattle.sj_disk.specs.Directory.{AreApart, DiskState, IsLaidOut, disk_state, extent_of, last_store, with_store}
 use Rattle.sj_disk.specs.declared.refusal.DiskRefusal.{DiskRefusal}
 use Rattle.sj_disk.specs.declared.refusal.DiskRefusal.TheVariants.{DiskFault}
-use Rattle.sj_disk.specs.Holding.{ChangesAt, HaveHeaders, Holds, KeepsBlock, Tells}
+use Rattle.sj_disk.specs.Holding.{ChangesAt, CountsStay, HaveHeaders, Holds, KeepsBlock, Tells}
 use Rattle.sj_disk.specs.Refusals.{is_damage, is_fault, RefusesFor}
 use Rattle.sj_disk.specs.Sound.{AreFilled, IsSound}
 use Rattle.sj_disk.specs.Transfers.{Looks, Writes}
@@ -67,6 +69,13 @@ pub if-some : {X : Type 0} (P : X → Type 0) (o : Option X) (x : X) → o ≡ S
 if-some P None x e h = tt
 if-some P (Some y) x e h = subst P (the (x ≡ y) (cc)) h
 
+-- what is known of a cell's extent in a set's state is so of the one that was looked up in its directory
+pub looked-up : {D : Type 0} (P : Extent → Type 0) (slice inner : List (Option Extent)) (c : ℕ) (e : Extent) (t : DiskState D) → slice ≡ inner → inner ≡ t.directory → extent_of slice c ≡ Some e → IsSomeAnd (extent_of t.directory c) P → (extent_of inner c ≡ Some e) × (extent_of t.directory c ≡ Some e) × P e
+looked-up P slice inner c e t same view look known =
+    let here : extent_of inner c ≡ Some e = ap (λ d. extent_of d c) (sym same) ∙ look in
+    let there : extent_of t.directory c ≡ Some e = ap (λ d. extent_of d c) (sym view) ∙ here in
+    (here, there, some-and P (extent_of t.directory c) e there known)
+
 -- ---- one disk changed
 
 -- a disk of the list in the place of another
@@ -91,6 +100,12 @@ each P Q d old new ch same changed k x y ex ey = elim (cases_eq k d) [
       let so : x ≡ y = let o = ch.others_stay k ne in the (x ≡ y) (cc) in
       subst (λ z. Q x z) so (same x)
 ]
+
+zips : {D : Type 0} (Q : D → D → Type 0) (old new : List D) → length new ≡ length old → ((k : ℕ) (x y : D) → slice_get old k ≡ Some x → slice_get new k ≡ Some y → Q x y) → AllZip Q old new
+zips Q [] [] n h = tt
+zips Q [] (y ∷ new) n h = absurd (omega arith)
+zips Q (x ∷ old) [] n h = absurd (omega arith)
+zips Q (x ∷ old) (y ∷ new) n h = (h 0 x y refl refl, zips Q old new (omega arith) (λ k. h (suc k)))
 
 -- each disk had a predecessor
 before : {D : Type 0} (P : D → D → Type 0) (d : ℕ) (old new : List D) → ChangesAt d P old new → (k : ℕ) (y : D) → slice_get new k ≡ Some y → (x : D) × (slice_get old k ≡ Some x)
@@ -138,6 +153,13 @@ gives-same (Some zs) at c writes xs ys n fx fy told hx hy =
     element_bytes-same xs ys fx fy (append_cancel_left (header_bytes (header c writes (length ys))) (element_bytes xs) (element_bytes ys) (sym front ∙ same))
 
 module _ {D : Type 0} (size faults mismatches : D → ℕ) (held : D → Option (List ℕ)) where
+  tells-still : (a b : Option (List ℕ)) (at n : ℕ) → HoldsAnyIn at n a b → is_some b ≡ is_some a
+  tells-still None b at n any = ap is_some any.2
+  tells-still (Some xs) b at n any = ap is_some any.2
+
+  back-same : (x : D) → IsGivenBack size faults mismatches held x x
+  back-same x = record { size_stays = refl; tells_as_before = refl; faults_never_fall = omega arith; mismatches_never_fall = omega arith }
+
   -- ---- a look changes nothing that is held
 
   pub sound-look : (failed differed : Bool) (d : ℕ) (old new : List D) (sizes taken : List ℕ) (directory : List (Option Extent)) → ChangesAt d (Looks size faults mismatches held failed differed) old new → IsSound size held old sizes taken directory → IsSound size held new sizes taken directory
@@ -159,6 +181,47 @@ module _ {D : Type 0} (size faults mismatches : D → ℕ) (held : D → Option 
             let x = before P d old new ch f.disk.0 y ey in
             subst (λ h. GivesHeld h f.position (header_bytes (header c l.writes f.length))) (sym (same_held f.disk.0 x.0 y x.1 ey)) (s.headers c f l e store ok x.0 x.1);
       }
+
+  module _ (failed differed : Bool) (d : ℕ) (old new : List D) (ch : ChangesAt d (Looks size faults mismatches held failed differed) old new) where
+    pub back-look : AreGivenBack size faults mismatches held old new
+    back-look = zips (IsGivenBack size faults mismatches held) old new ch.as_many (each (Looks size faults mismatches held failed differed) (IsGivenBack size faults mismatches held) d old new ch back-same (λ x y ex p. record {
+      size_stays = p.size_stays;
+      tells_as_before = ap is_some p.told_bytes_stay;
+      faults_never_fall = p.fails_only_where_faults_rose.never_falls;
+      mismatches_never_fall = p.differs_only_where_mismatches_rose.never_falls;
+    }))
+
+    pub keeps-look : (f : Extent) → KeepsBlock held f old new
+    keeps-look f bytes n h y ey =
+        let P : D → D → Type 0 = Looks size faults mismatches held failed differed in
+        let x = before P d old new ch f.disk.0 y ey in
+        let same : held y ≡ held x.0 = each P (λ x y. held y ≡ held x) d old new ch (λ x. refl) (λ x y e p. p.told_bytes_stay) f.disk.0 x.0 y x.1 ey in
+        subst (λ a. GivesHeld a f.position bytes) (sym same) (h x.0 x.1)
+
+  pub counts-look : (d : ℕ) (old new : List D) → ChangesAt d (Looks size faults mismatches held false false) old new → CountsStay faults mismatches old new
+  counts-look d old new ch =
+      let P : D → D → Type 0 = Looks size faults mismatches held false false in
+      (
+        same-map faults old new ch.as_many (each P (λ x y. faults y ≡ faults x) d old new ch (λ x. refl) (λ x y e p. p.a_fault_is_counted_once)),
+        same-map mismatches old new ch.as_many (each P (λ x y. mismatches y ≡ mismatches x) d old new ch (λ x. refl) (λ x y e p. p.a_mismatch_is_counted_once)),
+      )
+
+  pub counts-write : {A : Type 0} (d at : ℕ) (bytes : List ℕ) (r : Result A DiskRefusal) (old new : List D) → ChangesAt d (Writes size faults mismatches held at bytes r) old new → OnOk r (CountsStay faults mismatches old new)
+  counts-write d at bytes (Err e) old new ch = tt
+  counts-write {A = A} d at bytes (Ok x) old new ch =
+      let P : D → D → Type 0 = Writes {A = A} {E = DiskRefusal} size faults mismatches held at bytes (Ok x) in
+      (
+        same-map faults old new ch.as_many (each P (λ x y. faults y ≡ faults x) d old new ch (λ x. refl) (λ x y e p. p.a_fault_is_counted_once)),
+        same-map mismatches old new ch.as_many (each P (λ x y. mismatches y ≡ mismatches x) d old new ch (λ x. refl) (λ x y e p. p.mismatches_stay)),
+      )
+
+  pub back-write : {A : Type 0} (d at : ℕ) (bytes : List ℕ) (r : Result A DiskRefusal) (old new : List D) → ChangesAt d (Writes size faults mismatches held at bytes r) old new → AreGivenBack size faults mismatches held old new
+  back-write d at bytes r old new ch = zips (IsGivenBack size faults mismatches held) old new ch.as_many (each (Writes size faults mismatches held at bytes r) (IsGivenBack size faults mismatches held) d old new ch back-same (λ x y ex p. record {
+    size_stays = p.size_stays;
+    tells_as_before = tells-still (held x) (held y) at (length bytes) p.changes_no_byte_outside;
+    faults_never_fall = p.fails_only_where_faults_rose.never_falls;
+    mismatches_never_fall = omega (arith, p.mismatches_stay);
+  }))
 
   -- ---- a store
 
@@ -299,11 +362,18 @@ module _ {D : Type 0} (size faults mismatches : D → ℕ) (held : D → Option 
     unfolding W
     stored ok same named = record {
       writes_the_block = ch;
+      holds_the_block_where_it_ended_well = when-ok r holds-stored;
+      no_count_rose_where_it_ended_well = counts-write e.disk.0 e.position (block c writes xs) r old new ch;
+      disks_are_given_back = back-write e.disk.0 e.position (block c writes xs) r old new ch;
       notes_how_it_ended = ap (λ b. slice_set directory c (Some (with_store e writes b))) same;
       takes_no_more = refl;
       other_blocks_stay = keeps-other;
       refused_by_its_disk = named;
     }
+      where
+        when-ok : {P : Type 0} (q : Result A DiskRefusal) → (IsTrue (is_ok q) → P) → OnOk q P
+        when-ok (Ok x) h = h refl
+        when-ok (Err x) h = tt
 
   -- what was written, said as the block of the cell
   pub store-change : {A E : Type 0} (old new : List D) (c : ℕ) (e : Extent) (writes : ℕ) (ys xs : List ℤ) (r : Result A E) → ys ≡ xs → length xs ≡ e.length → ChangesAt e.disk.0 (Writes size faults mismatches held e.position (header_bytes (header c writes e.length) ++ element_bytes ys) r) old new → ChangesAt e.disk.0 (Writes size faults mismatches held e.position (block c writes xs) r) old new
@@ -326,6 +396,9 @@ module _ {D : Type 0} (size faults mismatches : D → ℕ) (held : D → Option 
     pub fetched : OnOk r (All (FitsSigned w64) xs) → Fetches size faults mismatches held c writes xs r (disk_state old taken directory) (disk_state new taken directory) e
     fetched fits = record {
       looks_at_its_disk = ch;
+      all_blocks_stay = keeps-look (is_fault r) (is_damage r) e.disk.0 old new ch;
+      no_count_rose_where_it_ended_well = quiet r ch;
+      disks_are_given_back = back-look (is_fault r) (is_damage r) e.disk.0 old new ch;
       directory_stays = refl;
       takes_no_more = refl;
       gives_what_is_held = on-ok r its-block gives;
@@ -337,6 +410,10 @@ module _ {D : Type 0} (size faults mismatches : D → ℕ) (held : D → Option 
         on-ok : (q : Result A DiskRefusal) {P Q : Type 0} → (P → Q) → OnOk q P → OnOk q Q
         on-ok (Ok x) f h = f h
         on-ok (Err x) f h = tt
+
+        quiet : (q : Result A DiskRefusal) → ChangesAt e.disk.0 (Looks size faults mismatches held (is_fault q) (is_damage q)) old new → OnOk q (CountsStay faults mismatches old new)
+        quiet (Ok x) h = counts-look e.disk.0 old new h
+        quiet (Err x) h = tt
         both : (q : Result A DiskRefusal) {P Q R : Type 0} → (P → Q → R) → OnOk q P → OnOk q Q → OnOk q R
         both (Ok x) f h k = f h k
         both (Err x) f h k = tt

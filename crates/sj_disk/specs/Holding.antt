@@ -30,6 +30,10 @@ abbrev pub KeepsBlock : {D : Type 0} → (D → Option (List ℕ)) → Extent �
 KeepsBlock held e old new =
     (bytes : List ℕ) → length bytes ≡ block_bytes e.length → Holds held old e bytes → Holds held new e bytes
 
+-- both counts of each disk are as they were
+abbrev pub CountsStay : {D : Type 0} → (D → ℕ) → (D → ℕ) → List D → List D → Type 0
+CountsStay faults mismatches old new = (map faults new ≡ map faults old) × (map mismatches new ≡ map mismatches old)
+
 -- a cell whose last store ended well has its header there
 abbrev pub HaveHeaders : {D : Type 0} → (D → Option (List ℕ)) → List D → List (Option Extent) → Type 0
 HaveHeaders held disks directory =

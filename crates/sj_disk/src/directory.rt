@@ -79,8 +79,5 @@ fn make_room(directory: &mut Vec<Option<Extent>>, many: usize) -> Result<(), All
 pub fn first_fit(sizes: &[u64], taken: &[u64], need: u64) -> Option<usize>
     ensures { result ≡ first_fit sizes.now taken.now need }
 {
-    sizes
-        .iter()
-        .zip(taken)
-        .position(|(size, taken)| *taken as u128 + need as u128 <= *size as u128)
+    sizes.iter().zip(taken).position(|(size, taken)| *taken as u128 + need as u128 <= *size as u128)
 }

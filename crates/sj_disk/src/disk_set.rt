@@ -205,12 +205,7 @@ impl<D: Disk> DiskSet<D> {
     /// tile; takes no memory.
     ///
     /// After a refusal the tile holds any elements.
-    pub fn fetch(
-        &mut self,
-        cell: Cell,
-        writes: u64,
-        tile: &mut Tile,
-    ) -> Result<(), DiskRefusal>
+    pub fn fetch(&mut self, cell: Cell, writes: u64, tile: &mut Tile) -> Result<(), DiskRefusal>
         requires stored { IsSomeAnd (extent_of self.old.directory cell.0)
             (λ e. (length tile.old.elements ≡ e.length)
             × (e.last_store ≡ Some (last_store writes true))) }

@@ -30,7 +30,9 @@ impl From<AllocError> for ReserveRefusal {
 #[derive(Clone, Copy, Debug, PartialEq, Eq)]
 pub enum DiskRefusal {
     /// The disk refused a call.
-    DiskFault { disk: DiskNo },
+    DiskFault {
+        disk: DiskNo,
+    },
     /// The disk holds another header than the one that was last stored there.
     Damaged {
         disk: DiskNo,

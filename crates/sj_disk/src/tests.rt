@@ -13,27 +13,29 @@ use sj_edge::disk::{CheckFault, Disk};
 use sj_edge::memory_disk::MemDisk;
 use sj_edge::source::Failed;
 use sj_edge::sure::SureDisk;
+use std::alloc::Global;
+use std::process::Abort;
 
 /// A row of elements.
-fn row(rt: &HostRuntime, elements: &[i64]) -> Result<Tile, OutOfMemory> {
+fn row(rt: &impl Abort, alloc: Global, elements: &[i64]) -> Result<Tile, OutOfMemory> {
+    assert!(rt; elements.len() < 1000);
     let dims = Dims {
         rows: 1,
         cols: elements.len() as u32,
     };
-    assert!(rt; dims.area() == elements.len() as u64);
-    Ok(Tile::of(dims, Vec::from_slice(rt.alloc(), elements)?))
+    Ok(Tile::of(dims, Vec::from_slice(alloc, elements)?))
 }
 
-fn set_of<D: Disk>(rt: &HostRuntime, disks: Vec<D>) -> DiskSet<D> {
+fn set_of<D: Disk>(rt: &impl Abort, alloc: Global, disks: Vec<D>) -> DiskSet<D> {
     assert!(rt; disks.len() <= 16);
-    match DiskSet::make(rt.alloc(), disks) {
+    match DiskSet::make(alloc, disks) {
         Ok(set) => set,
         Err(_) => panic!(rt; "out of memory"),
     }
 }
 
 fn reserve<D: Disk>(
-    rt: &HostRuntime,
+    rt: &impl Abort,
     set: &mut DiskSet<D>,
     cell: u32,
     length: u64,
@@ -46,7 +48,7 @@ fn reserve<D: Disk>(
 }
 
 fn store<D: Disk>(
-    rt: &HostRuntime,
+    rt: &impl Abort,
     set: &mut DiskSet<D>,
     cell: u32,
     writes: u64,
@@ -60,7 +62,7 @@ fn store<D: Disk>(
 }
 
 fn fetch<D: Disk>(
-    rt: &HostRuntime,
+    rt: &impl Abort,
     set: &mut DiskSet<D>,
     cell: u32,
     writes: u64,
@@ -79,22 +81,31 @@ fn fetch<D: Disk>(
     set.fetch(Cell(cell), writes, tile)
 }
 
+/// The one disk of a set.
+fn close_one<D: Disk>(rt: &impl Abort, set: DiskSet<D>) -> D {
+    let mut disks = set.close();
+    match disks.pop() {
+        Some(disk) => disk,
+        None => panic!(rt; "no disk"),
+    }
+}
+
 #[test]
 fn a_block_is_a_header_and_the_elements(rt: HostRuntime) -> Result<(), OutOfMemory> {
     let disk = SureDisk::new(rt.alloc(), 64)?;
-    let mut set = set_of(&rt, Vec::from_array(rt.alloc(), [disk])?);
+    let mut set = set_of(&rt, rt.alloc(), Vec::from_array(rt.alloc(), [disk])?);
     assert_eq!(rt; reserve(&rt, &mut set, 0, 3), Ok(DiskNo(0)));
-    let stored = row(&rt, &[1, 2, 3])?;
+    let stored = row(&rt, rt.alloc(), &[1, 2, 3])?;
     assert_eq!(rt; store(&rt, &mut set, 0, 1, &stored), Ok(()));
-    let mut fetched = row(&rt, &[0, 0, 0])?;
+    let mut fetched = row(&rt, rt.alloc(), &[0, 0, 0])?;
     assert_eq!(rt; fetch(&rt, &mut set, 0, 1, &mut fetched), Ok(()));
     assert_eq!(rt; fetched.elements(), [1i64, 2, 3].as_slice());
-    let disks = set.close();
+    let disk = close_one(&rt, set);
     let block: [u8; 48] = [
         0, 0, 0, 0, 0, 0, 0, 0, 1, 0, 0, 0, 0, 0, 0, 0, 3, 0, 0, 0, 0, 0, 0, 0, // the header
         1, 0, 0, 0, 0, 0, 0, 0, 2, 0, 0, 0, 0, 0, 0, 0, 3, 0, 0, 0, 0, 0, 0, 0,
     ];
-    assert_eq!(rt; disks[0].bytes()[..48], block);
+    assert_eq!(rt; disk.bytes().get(..48), Some(block.as_slice()));
     Ok(())
 }
 
@@ -102,7 +113,7 @@ fn a_block_is_a_header_and_the_elements(rt: HostRuntime) -> Result<(), OutOfMemo
 fn cells_go_to_the_first_disk_with_room(rt: HostRuntime) -> Result<(), OutOfMemory> {
     let small = SureDisk::new(rt.alloc(), 60)?;
     let large = SureDisk::new(rt.alloc(), 96)?;
-    let mut set = set_of(&rt, Vec::from_array(rt.alloc(), [small, large])?);
+    let mut set = set_of(&rt, rt.alloc(), Vec::from_array(rt.alloc(), [small, large])?);
     assert_eq!(rt; reserve(&rt, &mut set, 3, 5), Ok(DiskNo(1)));
     assert_eq!(rt; reserve(&rt, &mut set, 0, 2), Ok(DiskNo(0)));
     assert_eq!(rt; reserve(&rt, &mut set, 1, 1), Ok(DiskNo(1)));
@@ -116,22 +127,24 @@ fn cells_go_to_the_first_disk_with_room(rt: HostRuntime) -> Result<(), OutOfMemo
 fn a_failing_disk_is_named_and_the_directory_says_so(rt: HostRuntime) -> Result<(), OutOfMemory> {
     let fail = Vec::from_array(rt.alloc(), [2, 6])?;
     let disk = MemDisk::new(rt.alloc(), 64, fail)?;
-    let mut set = set_of(&rt, Vec::from_array(rt.alloc(), [disk])?);
+    let mut set = set_of(&rt, rt.alloc(), Vec::from_array(rt.alloc(), [disk])?);
     let fault = Err(DiskRefusal::DiskFault { disk: DiskNo(0) });
     assert_eq!(rt; reserve(&rt, &mut set, 0, 2), Ok(DiskNo(0)));
-    let mut tile = row(&rt, &[-1, i64::MAX])?;
+    let mut tile = row(&rt, rt.alloc(), &[-1, i64::MAX])?;
     assert_eq!(rt; store(&rt, &mut set, 0, 7, &tile), fault);
     let failed = LastStore {
         writes: 7,
         ended_ok: false,
     };
-    assert_eq!(rt; set.extent(Cell(0)).and_then(|e| e.last_store), Some(failed));
+    assert_eq!(rt;
+        set.extent(Cell(0)).and_then(|e| e.last_store),
+        Some(failed)
+    );
     assert_eq!(rt; store(&rt, &mut set, 0, 8, &tile), Ok(()));
     assert_eq!(rt; fetch(&rt, &mut set, 0, 8, &mut tile), fault);
     assert_eq!(rt; fetch(&rt, &mut set, 0, 8, &mut tile), Ok(()));
     assert_eq!(rt; tile.elements(), [-1i64, i64::MAX].as_slice());
-    let disks = set.close();
-    assert_eq!(rt; disks[0].faults(), 2);
+    assert_eq!(rt; close_one(&rt, set).faults(), 2);
     Ok(())
 }
 
@@ -178,9 +191,9 @@ fn a_lost_write_is_damage_with_both_headers(rt: HostRuntime) -> Result<(), OutOf
         inner: SureDisk::new(rt.alloc(), 64)?,
         writes: 0,
     };
-    let mut set = set_of(&rt, Vec::from_array(rt.alloc(), [disk])?);
+    let mut set = set_of(&rt, rt.alloc(), Vec::from_array(rt.alloc(), [disk])?);
     assert_eq!(rt; reserve(&rt, &mut set, 4, 2), Ok(DiskNo(0)));
-    let mut tile = row(&rt, &[5, 6])?;
+    let mut tile = row(&rt, rt.alloc(), &[5, 6])?;
     assert_eq!(rt; store(&rt, &mut set, 4, 1, &tile), Ok(()));
     assert_eq!(rt; store(&rt, &mut set, 4, 2, &tile), Ok(()));
     let header = |writes| Header {
@@ -194,7 +207,6 @@ fn a_lost_write_is_damage_with_both_headers(rt: HostRuntime) -> Result<(), OutOf
         found: header(1),
     };
     assert_eq!(rt; fetch(&rt, &mut set, 4, 2, &mut tile), Err(damaged));
-    let disks = set.close();
-    assert_eq!(rt; disks[0].inner.mismatches(), 1);
+    assert_eq!(rt; close_one(&rt, set).inner.mismatches(), 1);
     Ok(())
 }

@@ -48,7 +48,12 @@ fn write_elements<D: Disk>(disk: &mut D, at: u64, elements: &[i64]) -> Result<()
     let mut start = 0;
     while start < elements.len() {
         let stop = elements.len().min(start + PIECE);
-        write_piece(disk, at + 8 * start as u64, &elements[start..stop], &mut buffer)?;
+        write_piece(
+            disk,
+            at + 8 * start as u64,
+            &elements[start..stop],
+            &mut buffer,
+        )?;
         start = stop;
     }
     Ok(())
@@ -111,7 +116,12 @@ fn read_elements<D: Disk>(disk: &mut D, at: u64, elements: &mut [i64]) -> Result
     let mut start = 0;
     while start < elements.len() {
         let stop = elements.len().min(start + PIECE);
-        read_piece(disk, at + 8 * start as u64, &mut elements[start..stop], &mut buffer)?;
+        read_piece(
+            disk,
+            at + 8 * start as u64,
+            &mut elements[start..stop],
+            &mut buffer,
+        )?;
         start = stop;
     }
     Ok(())

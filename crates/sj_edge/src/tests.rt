@@ -13,10 +13,9 @@ use crate::source::{Failed, Source};
 use crate::standard::{StdSink, StdSource};
 use crate::sure::{SureDisk, SureSink, SureSource};
 use sj_base::ids::Task;
-use std::fs;
-use std::io;
 use std::io::{ErrorKind, Read, Write};
 use std::test::Fail;
+use std::{fs, io};
 
 #[test]
 fn a_memory_source_gives_its_bytes_and_fails_where_told(rt: HostRuntime) -> Result<(), Fail> {
@@ -239,7 +238,10 @@ fn a_file_disk_keeps_bytes_in_its_file(rt: HostRuntime) -> Result<(), Fail> {
     let mut buf = [9; 3];
     assert_eq!(rt; again.read(6, &mut buf), Ok(()));
     assert_eq!(rt; buf, [0, 0, 7]);
-    fs::OpenOptions::new().write(true).open(&rt, path)?.set_len(31)?;
+    fs::OpenOptions::new()
+        .write(true)
+        .open(&rt, path)?
+        .set_len(31)?;
     assert_eq!(rt; again.read(28, &mut buf), Ok(()));
     assert_eq!(rt; again.read(29, &mut buf), Err(Failed));
     assert_eq!(rt; again.check(8, &[7; 24]), Err(CheckFault::Failed));

@@ -1,6 +1,5 @@
 pub mod Products
 pub mod Panels
 pub mod Turns
-pub mod Pastes
 pub mod Places
 pub mod Tiles

@@ -1,7 +1,7 @@
 -- What a statement that lines may say has.
 use Rattle.std.proofs.Common.{◌≡◌, ℕ, ◌<◌, ◌&&◌, nat_le, Bool, true, false, List, [], ◌∷◌, Option, Some, None, option_map, Result, Ok, Err, cond, unwrap_or, refl, ap, subst, ◌∙◌, arith}
 use Rattle.std.specs.Prelude.{find}
-use Rattle.std.proofs.lemmas.Bool.{false≢true}
+use Rattle.std.proofs.lemmas.Bool.{false≢true, and_parts}
 use Rattle.std.proofs.lemmas.Bool.Decides.{nat_tests}
 use Rattle.sj_base.specs.declared.program.Codelet.{Codelet}
 use Rattle.sj_codelet.specs.declared.kernel.Kernel.{Kernel}
@@ -18,7 +18,6 @@ use Rattle.sj_job.specs.Sound.{IsSoundAct}
 use Rattle.sj_job.specs.Well.{IsAllowed}
 use Rattle.sj_job.proofs.Sounding.{sound_from_allowed}
 use Rattle.sj_job.proofs.Spelled.{spelled_from_said}
-use Rattle.sj_lower.proofs.Writing.{and_parts}
 
 -- ---- no reason
 

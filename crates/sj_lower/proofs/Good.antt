@@ -3,7 +3,7 @@ use Rattle.std.proofs.Common.{◌≡◌, ℕ, ◌<◌, ◌≤◌, Bool, true, fa
 use Rattle.std.specs.Prelude.{◌||◌}
 use Rattle.std.specs.List.{All, AllPairs, list_all, list_any}
 use Rattle.std.specs.Str.{bytes_eq}
-use Rattle.std.proofs.lemmas.Bool.{false≢true}
+use Rattle.std.proofs.lemmas.Bool.{false≢true, and_parts}
 use Rattle.std.proofs.lemmas.Bool.Decides.{Decides-eqb}
 use Rattle.std.proofs.lemmas.List.Elements.{All-nil, All-cons}
 use Rattle.std.proofs.lemmas.List.Kept.{AllPairs-cons, AllPairs-filter}
@@ -19,25 +19,24 @@ use Rattle.sj_base.specs.Array.{area}
 use Rattle.sj_codelet.specs.declared.kernel.Kernel.{Kernel}
 use Rattle.sj_codelet.specs.declared.kernel.Kernel.TheVariants.{Load, LoadFill, Deliver}
 use Rattle.sj_codelet.specs.Kernel.{fits}
-use Rattle.sj_core.specs.Program.{same_cell, dims_of, is_scratch}
-use Rattle.sj_core.specs.Proper.{HasValueBefore, Fits, MayHaveModes, IsUnaliased, reads_value}
+use Rattle.sj_core.specs.Program.{same_cell, dims_of}
+use Rattle.sj_base.specs.Mode.{is_scratch, reads_value, is_in_order}
+use Rattle.sj_core.specs.Proper.{HasValueBefore, Fits, MayHaveModes, IsUnaliased}
 use Rattle.sj_job.specs.declared.job.Operand.{Operand}
 use Rattle.sj_job.specs.declared.job.TaskLine.{TaskLine}
 use Rattle.sj_job.specs.State.{State, root_of}
 use Rattle.sj_job.specs.Judge.{needs_value, clashes, is_aliased, is_read_only}
 use Rattle.sj_job.specs.Sound.{is_plain, has_root, has_values, IsSoundTask, dims_of as root_dims}
 use Rattle.sj_lower.specs.Lowering.{Lowering, access_of, own_task, an_access}
-use Rattle.sj_core.specs.Laws.{is_plain_mode}
 use Rattle.sj_lower.proofs.Contents.{task_at, same_cell-is}
 use Rattle.sj_lower.proofs.Holding.{cell_of, handle_is, bytes_eq-itself}
 use Rattle.sj_lower.proofs.Running.{root_there, valued_there, dims_there, or_none, kernel_there}
 use Rattle.sj_lower.proofs.Agreeing.{Agrees}
-use Rattle.sj_lower.proofs.Writing.{and_parts}
 
 -- a task of the program is one that it may have at that number
 pub record IsGood (p : Program) (n : ℕ) (l : Lowered) : Type 0 where
   pub cells : All (λ a. a.cell.0 < length p.cells) l.accesses
-  pub plain : All (λ a. is_plain_mode a.mode ≡ true) l.accesses
+  pub plain : All (λ a. is_in_order a.mode ≡ true) l.accesses
   pub fits : Fits p l
   pub unaliased : IsUnaliased l
   pub values : All (λ a. reads_value a.mode ≡ true → HasValueBefore p (task_at n) a.cell) l.accesses
@@ -53,7 +52,7 @@ alone P x i j d h k = absurd (omega arith)
 pub good_load : (p : Program) (n : ℕ) (xs : List ℤ) (c : Cell) (line : Line) → c.0 < length p.cells → length xs ≡ area (dims_of p c) → IsGood p n (own_task Load xs (an_access W c) line)
 good_load p n xs c line inside e = record {
   cells = one_alone (λ (a : Access). a.cell.0 < length p.cells) (an_access W c) inside;
-  plain = one_alone (λ (a : Access). is_plain_mode a.mode ≡ true) (an_access W c) refl;
+  plain = one_alone (λ (a : Access). is_in_order a.mode ≡ true) (an_access W c) refl;
   fits = record { kernel = Load; codelet = refl; operands = ap (λ b. (true && b) && true) ((Decides-eqb (length xs) (area (dims_of p c))).1 e); modes = MayHaveModes.Own refl };
   unaliased = alone (λ (a b : Access). same_cell a.cell b.cell ≡ true → (a.mode ≡ R) × (b.mode ≡ R)) (an_access W c);
   values = one_alone (λ (a : Access). reads_value a.mode ≡ true → HasValueBefore p (task_at n) a.cell) (an_access W c) (λ h. absurd (false≢true h));
@@ -62,7 +61,7 @@ good_load p n xs c line inside e = record {
 pub good_fill : (p : Program) (n : ℕ) (a b c d e : ℤ) (x : Cell) (line : Line) → x.0 < length p.cells → IsGood p n (own_task LoadFill (a ∷ b ∷ c ∷ d ∷ e ∷ []) (an_access W x) line)
 good_fill p n a b c d e x line inside = record {
   cells = one_alone (λ (a : Access). a.cell.0 < length p.cells) (an_access W x) inside;
-  plain = one_alone (λ (a : Access). is_plain_mode a.mode ≡ true) (an_access W x) refl;
+  plain = one_alone (λ (a : Access). is_in_order a.mode ≡ true) (an_access W x) refl;
   fits = record { kernel = LoadFill; codelet = refl; operands = refl; modes = MayHaveModes.Own refl };
   unaliased = alone (λ (a b : Access). same_cell a.cell b.cell ≡ true → (a.mode ≡ R) × (b.mode ≡ R)) (an_access W x);
   values = one_alone (λ (a : Access). reads_value a.mode ≡ true → HasValueBefore p (task_at n) a.cell) (an_access W x) (λ h. absurd (false≢true h));
@@ -71,7 +70,7 @@ good_fill p n a b c d e x line inside = record {
 pub good_deliver : (p : Program) (n : ℕ) (c : Cell) (line : Line) → c.0 < length p.cells → HasValueBefore p (task_at n) c → IsGood p n (own_task Deliver [] (an_access R c) line)
 good_deliver p n c line inside given = record {
   cells = one_alone (λ (a : Access). a.cell.0 < length p.cells) (an_access R c) inside;
-  plain = one_alone (λ (a : Access). is_plain_mode a.mode ≡ true) (an_access R c) refl;
+  plain = one_alone (λ (a : Access). is_in_order a.mode ≡ true) (an_access R c) refl;
   fits = record { kernel = Deliver; codelet = refl; operands = refl; modes = MayHaveModes.Own refl };
   unaliased = alone (λ (a b : Access). same_cell a.cell b.cell ≡ true → (a.mode ≡ R) × (b.mode ≡ R)) (an_access R c);
   values = one_alone (λ (a : Access). reads_value a.mode ≡ true → HasValueBefore p (task_at n) a.cell) (an_access R c) (λ h. given);
@@ -79,7 +78,7 @@ good_deliver p n c line inside given = record {
 
 -- ---- tasks of task lines
 
-plain_modes : (m : Mode) → is_plain m ≡ true → is_plain_mode m ≡ true
+plain_modes : (m : Mode) → is_plain m ≡ true → is_in_order m ≡ true
 plain_modes R h = refl
 plain_modes W h = refl
 plain_modes RW h = refl
@@ -121,11 +120,11 @@ all_inside p L S (o ∷ os) g more rooted =
     let b = and_parts (has_root S o.name) (list_all (λ o. has_root S o.name) os) rooted in
     All-cons (λ (a : Access). a.cell.0 < length p.cells) (access_of L o) (each_of (access_of L) os) (omega (arith, cell_inside p L S o g b.0, more)) (all_inside p L S os g more b.1)
 
-all_plain : (L : Lowering) (os : List Operand) → list_all (λ o. is_plain o.mode) os ≡ true → All (λ (a : Access). is_plain_mode a.mode ≡ true) (each_of (access_of L) os)
-all_plain L [] h = All-nil (λ (a : Access). is_plain_mode a.mode ≡ true)
+all_plain : (L : Lowering) (os : List Operand) → list_all (λ o. is_plain o.mode) os ≡ true → All (λ (a : Access). is_in_order a.mode ≡ true) (each_of (access_of L) os)
+all_plain L [] h = All-nil (λ (a : Access). is_in_order a.mode ≡ true)
 all_plain L (o ∷ os) h =
     let a = and_parts (is_plain o.mode) (list_all (λ o. is_plain o.mode) os) h in
-    All-cons (λ (a : Access). is_plain_mode a.mode ≡ true) (access_of L o) (each_of (access_of L) os) (plain_modes o.mode a.0) (all_plain L os a.1)
+    All-cons (λ (a : Access). is_in_order a.mode ≡ true) (access_of L o) (each_of (access_of L) os) (plain_modes o.mode a.0) (all_plain L os a.1)
 
 one_given : (p : Program) (L : Lowering) (S : State) (o : Operand) → Agrees p L S → has_values S o.name ≡ true → HasValueBefore p (task_at (length L.tasks)) (cell_of L o.name)
 one_given p L S o g valued =

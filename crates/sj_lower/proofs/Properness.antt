@@ -20,10 +20,11 @@ use Rattle.sj_codelet.specs.declared.kernel.Kernel.TheVariants.{Deliver}
 use Rattle.sj_codelet.specs.Kernel.{kernel_of}
 use Rattle.sj_core.specs.Fold.{given}
 use Rattle.sj_core.specs.Operands.{copy_of}
-use Rattle.sj_core.specs.Program.{no_cell, no_task, cell_info, task_of, is_redux}
-use Rattle.sj_core.specs.Proper.{Proper, NamesCells, IsCopyOf, IsPlain, Fits, IsUnaliased, reads_value, HasValueBefore, ReadsValues, HasPhases, HasDeliveries, IsWithinLimits, IsPhase, task_number, access}
+use Rattle.sj_core.specs.Program.{no_cell, no_task, cell_info, task_of}
+use Rattle.sj_base.specs.Mode.{is_redux, reads_value, is_in_order}
+use Rattle.sj_core.specs.Proper.{Proper, NamesCells, IsCopyOf, IsPlain, Fits, IsUnaliased, HasValueBefore, ReadsValues, HasPhases, HasDeliveries, IsWithinLimits, IsPhase, task_number, access}
 use Rattle.sj_job.specs.declared.job.Statement.{Statement}
-use Rattle.sj_core.specs.Laws.{is_plain_mode, HasPlainModes}
+use Rattle.sj_core.specs.Laws.{HasPlainModes}
 use Rattle.sj_lower.specs.Delivering.{DeliversPrinted, CountsPrints, NamesDeliverTasks, DeliversInOrder}
 use Rattle.sj_lower.proofs.Contents.{task_at}
 use Rattle.sj_lower.proofs.Good.{IsGood}
@@ -43,7 +44,7 @@ module _ (p : Program) (ss : List Statement) (w : IsWhole p ss) where
   no_copy : (q c : Cell) (v : Worker) → IsCopyOf p q c v → ⊥
   no_copy q c v h = false≢true (sym (ap (λ (o : Option Cell). is_some o) (no_partials c)) ∙ h.has_copies)
 
-  plain_isn't : (m : Mode) → is_plain_mode m ≡ true → is_redux m ≡ true → ⊥
+  plain_isn't : (m : Mode) → is_in_order m ≡ true → is_redux m ≡ true → ⊥
   plain_isn't R h e = false≢true e
   plain_isn't W h e = false≢true e
   plain_isn't RW h e = false≢true e
@@ -59,8 +60,8 @@ module _ (p : Program) (ss : List Statement) (w : IsWhole p ss) where
         | inr past ↦ subst (λ (l : Lowered). All (P n) l.accesses) (sym (get_or_past p.tasks n no_task past)) (All-nil (P n))
       ]
 
-  all_plain : (n : ℕ) → All (λ (a : Access). is_plain_mode a.mode ≡ true) (task_of p (task_at n)).accesses
-  all_plain = every_task (λ n a. is_plain_mode a.mode ≡ true) (λ n h. (w.good n h).plain)
+  all_plain : (n : ℕ) → All (λ (a : Access). is_in_order a.mode ≡ true) (task_of p (task_at n)).accesses
+  all_plain = every_task (λ n a. is_in_order a.mode ≡ true) (λ n h. (w.good n h).plain)
 
   names_cells : NamesCells p
   names_cells = record {
@@ -69,13 +70,13 @@ module _ (p : Program) (ss : List Statement) (w : IsWhole p ss) where
     apart = λ q c d v u h k. absurd (no_copy q c v h);
     plain = λ q c v h. absurd (no_copy q c v h);
     reduced = each_task (λ (l : Lowered). All (λ (a : Access). is_redux a.mode ≡ true → is_some (cell_info p a.cell).partials ≡ true) l.accesses) (λ n g.
-        All-weaker (λ (a : Access). is_plain_mode a.mode ≡ true) (λ (a : Access). is_redux a.mode ≡ true → is_some (cell_info p a.cell).partials ≡ true) (λ a h e. absurd (plain_isn't a.mode h e)) (task_of p (task_at n)).accesses g.plain);
+        All-weaker (λ (a : Access). is_in_order a.mode ≡ true) (λ (a : Access). is_redux a.mode ≡ true → is_some (cell_info p a.cell).partials ≡ true) (λ a h e. absurd (plain_isn't a.mode h e)) (task_of p (task_at n)).accesses g.plain);
   }
 
   reads_values : ReadsValues p
   reads_values = record {
     cells = λ t. every_task (λ n a. reads_value a.mode ≡ true → HasValueBefore p (task_at n) a.cell) (λ n h. (w.good n h).values) t.0;
-    copies = λ t. All-weaker (λ (a : Access). is_plain_mode a.mode ≡ true) (λ (a : Access). is_redux a.mode ≡ true → (v : Worker) → v.0 < p.workers → HasValueBefore p t (copy_of p a.cell v)) (λ a h e. absurd (plain_isn't a.mode h e)) (task_of p t).accesses (all_plain t.0);
+    copies = λ t. All-weaker (λ (a : Access). is_in_order a.mode ≡ true) (λ (a : Access). is_redux a.mode ≡ true → (v : Worker) → v.0 < p.workers → HasValueBefore p t (copy_of p a.cell v)) (λ a h e. absurd (plain_isn't a.mode h e)) (task_of p t).accesses (all_plain t.0);
   }
 
   has_phases : HasPhases p
@@ -83,7 +84,7 @@ module _ (p : Program) (ss : List Statement) (w : IsWhole p ss) where
     phases = [];
     each = All-nil (IsPhase p);
     copies = λ n a c v h k. absurd (no_copy a.cell c v k);
-    contributions = λ n c h. absurd (plain_isn't Redux (All-contains (λ (a : Access). is_plain_mode a.mode ≡ true) (task_number p n).accesses (access Redux c) (all_plain n) h) refl);
+    contributions = λ n c h. absurd (plain_isn't Redux (All-contains (λ (a : Access). is_in_order a.mode ≡ true) (task_number p n).accesses (access Redux c) (all_plain n) h) refl);
   }
 
   has_deliveries : HasDeliveries p
@@ -114,7 +115,7 @@ module _ (p : Program) (ss : List Statement) (w : IsWhole p ss) where
   }
 
   pub plain : HasPlainModes p
-  plain = record { modes = λ t. every_task (λ n a. is_plain_mode a.mode ≡ true) (λ n inside. (w.good n inside).plain) t.0 }
+  plain = record { modes = λ t. every_task (λ n a. is_in_order a.mode ≡ true) (λ n inside. (w.good n inside).plain) t.0 }
 
   pub delivers_printed : DeliversPrinted p ss
   delivers_printed = ap (λ (ds : List Delivery). each_of (λ (d : Delivery). given p d.task) ds) w.deliveries ∙ w.delivered.arrays

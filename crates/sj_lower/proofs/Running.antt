@@ -3,7 +3,7 @@ use Rattle.std.proofs.Common.{◌≡◌, ℕ, ◌+◌, Bool, true, false, not, �
 use Rattle.std.specs.List.{zip, filter, list_all, list_any}
 use Rattle.std.specs.Option.{is_some}
 use Rattle.std.specs.Str.{bytes_eq}
-use Rattle.std.proofs.lemmas.Bool.{false≢true}
+use Rattle.std.proofs.lemmas.Bool.{false≢true, and_parts}
 use Rattle.std.proofs.lemmas.List.{length-map}
 use Rattle.sj_base.specs.declared.ids.Cell.{Cell}
 use Rattle.sj_base.specs.declared.tile.Dims.{Dims}
@@ -16,7 +16,8 @@ use Rattle.sj_base.specs.Array.{Array, array, zeros}
 use Rattle.sj_codelet.specs.declared.kernel.Kernel.{Kernel}
 use Rattle.sj_codelet.specs.declared.formal.Formal.{Formal}
 use Rattle.sj_codelet.specs.Kernel.{formals_of, out, fits}
-use Rattle.sj_core.specs.Program.{same_cell, dims_of, task_of, is_written, is_redux}
+use Rattle.sj_core.specs.Program.{same_cell, dims_of, task_of}
+use Rattle.sj_base.specs.Mode.{is_written, is_redux}
 use Rattle.sj_core.specs.Proper.{own_modes}
 use Rattle.sj_core.specs.Fold.{Contents, held_in, after_task}
 use Rattle.sj_core.specs.Operands.{worked_on, written_cells, found, results}
@@ -29,7 +30,7 @@ use Rattle.sj_job.specs.Sound.{is_plain, has_root, has_values, IsSoundTask, dims
 use Rattle.sj_lower.specs.Lowering.{Lowering, access_of}
 use Rattle.sj_lower.proofs.Contents.{first_worker, task_at, same_cell-itself}
 use Rattle.sj_lower.proofs.Holding.{cell_of, handle_is, AreApart, Holds, GivesAll, IsOther, holds-put_all, holds-later}
-use Rattle.sj_lower.proofs.Writing.{and_parts, written_of, written_of-map, modes_are, all_dims, out_dims, IsCall, call_of, fit_from_fits}
+use Rattle.sj_lower.proofs.Writing.{written_of, written_of-map, modes_are, all_dims, out_dims, IsCall, call_of, fit_from_fits}
 
 -- ---- words
 

@@ -3,7 +3,7 @@ use Rattle.std.proofs.Common.{◌≡◌, ℕ, zero, suc, ◌+◌, ◌*◌, ◌/�
 use Rattle.std.specs.Prelude.{nat_le}
 use Rattle.std.specs.List.{zip, filter, list_all, range_with_len}
 use Rattle.std.specs.Option.{is_some}
-use Rattle.std.proofs.lemmas.Bool.{false≢true}
+use Rattle.std.proofs.lemmas.Bool.{false≢true, and_parts}
 use Rattle.std.proofs.lemmas.Bool.Decides.{nat_tests}
 use Rattle.std.proofs.lemmas.Int.{ints}
 use Rattle.std.proofs.Math.Nat.{mod-eq-sub-div-mul, div-mul-le_self}
@@ -18,7 +18,8 @@ use Rattle.sj_codelet.specs.declared.kernel.Kernel.TheVariants.{Load, LoadFill, 
 use Rattle.sj_codelet.specs.Ring.{wrap}
 use Rattle.sj_codelet.specs.Kernel.{out}
 use Rattle.sj_codelet.specs.Equations.{loadfill}
-use Rattle.sj_core.specs.Program.{dims_of, task_of, is_written}
+use Rattle.sj_core.specs.Program.{dims_of, task_of}
+use Rattle.sj_base.specs.Mode.{is_written}
 use Rattle.sj_core.specs.Fold.{Contents, held_in, after_task}
 use Rattle.sj_core.specs.Operands.{worked_on, found}
 use Rattle.sj_job.specs.declared.job.Init.{Init}
@@ -28,7 +29,6 @@ use Rattle.sj_job.specs.Judge.{is_side}
 use Rattle.sj_lower.specs.Lowering.{own_task, an_access}
 use Rattle.sj_lower.proofs.Contents.{first_worker, task_at}
 use Rattle.sj_lower.proofs.Holding.{unwrapped}
-use Rattle.sj_lower.proofs.Writing.{and_parts}
 
 -- ---- dimensions
 

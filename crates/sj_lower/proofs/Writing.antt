@@ -16,15 +16,12 @@ use Rattle.sj_codelet.specs.declared.formal.Formal.TheVariants.{R as FormalR, W 
 use Rattle.sj_codelet.specs.Kernel.{kernel_of, formals_of, arguments_fit, dims_fit, fits, fits_in, same, new_arrays, out}
 use Rattle.sj_codelet.specs.Equations.{after_turns}
 use Rattle.sj_codelet.specs.Runs.{formals_in}
-use Rattle.sj_core.specs.Program.{is_written}
+use Rattle.sj_base.specs.Mode.{is_written}
 use Rattle.sj_core.specs.Proper.{mode_of, own_modes}
 use Rattle.sj_job.specs.declared.job.Operand.{Operand}
 use Rattle.sj_job.specs.Judge.{mode_fits, modes_fit}
 use Rattle.sj_job.specs.Sound.{is_plain}
-
-pub and_parts : (b c : Bool) → (b && c) ≡ true → (b ≡ true) × (c ≡ true)
-and_parts true c e = (refl, e)
-and_parts false c e = absurd (cc)
+use Rattle.std.proofs.lemmas.Bool.{and_parts}
 
 -- ---- modes
 

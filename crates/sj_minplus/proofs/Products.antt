@@ -18,3 +18,8 @@ same_least_at (suc n) z f g k =
 
 pub same_least : (n m : ℕ) (z w : ℤ) (f g : ℕ → ℤ) → n ≡ m → z ≡ w → ((q : ℕ) → q < n → f q ≡ g q) → least_below n z f ≡ least_below m w g
 same_least n m z w f g e h k = rw (← e, ← h) (same_least_at n z f g k)
+
+pub least_two_steps : (f : ℕ → ℤ) (n : ℕ) (z low u v new : ℤ) → low ≡ least_below n z f → new ≡ int_min (int_min low u) v → u ≡ f n → v ≡ f (n + 1) → new ≡ least_below (n + 2) z f
+least_two_steps f n z low u v new e h k i =
+    let two : n + 1 + 1 ≡ n + 2 = omega arith in
+    least_step f (n + 1) z (int_min low u) v new (least_step f n z low u (int_min low u) e refl k) h i ∙ ap (λ m. least_below m z f) two

@@ -13,7 +13,7 @@ use Rattle.sj_codelet.specs.Kernel.{formals_of}
 use Rattle.sj_codelet.specs.Laws.{IsTile, IsCall, result_of, unit_of, combined, DoCommute, DoesContribute, IsReduction}
 use Rattle.sj_minplus.specs.LeastArrays.{IsBelowInf, lowest_comm, lowest_assoc, lowest_unit, lowest_swap, lowest_contributes, mingemm_swap, mingemm_contributes}
 
-below_inf : (z : ℤ) → FitsSigned w64 z → z ≤ℤ inf
+pub below_inf : (z : ℤ) → FitsSigned w64 z → z ≤ℤ inf
 below_inf (pos n) h = let f = h.sfits in omega (arith, ints)
 below_inf (negsuc n) h = omega (arith, ints)
 

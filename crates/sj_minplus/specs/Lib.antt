@@ -1,4 +1,6 @@
 pub mod Matrix
+pub mod Short
+pub mod Lanes
 pub mod Turns
 pub mod Has
 pub mod LeastArrays

@@ -1,7 +1,13 @@
 //! Worked examples, by hand.
 
-ghost use Rattle.std.specs.Prelude.{◌≡◌};
+ghost use Rattle.std.specs.Prelude.{◌≡◌, [], ◌∷◌, IsTrue, IfOk};
+ghost use Rattle.sj_codelet.specs.Kernel.{fits_in};
+ghost use Rattle.sj_codelet.specs.Frame.{all_dims, own, shared};
+ghost use Rattle.sj_codelet.specs.Runs.{IsReadyFor};
+ghost use Rattle.sj_minplus.specs.Has.{library_has};
+ghost use Rattle.sj_minplus.specs.Lanes.{AreLanes};
 
+use crate::lanes::plus8;
 use crate::least::{init_least, lowest};
 use crate::library::Library;
 use crate::product::mingemm;
@@ -9,11 +15,13 @@ use crate::sum::{INF, plus};
 use crate::ways::{fwcol, fwdiag, fwrow};
 use sj_base::memory::OutOfMemory;
 use sj_base::mode::Reduction;
+use sj_base::program::Codelet;
 use sj_base::tile::{Dims, Tile};
 use sj_codelet::frame::Frame;
-use sj_codelet::kernel::{ADD, FWDIAG, INIT_LEAST, LOWEST, MINGEMM, SUM};
+use sj_codelet::kernel::{ADD, FWCOL, FWDIAG, FWROW, INIT_LEAST, LOWEST, MINGEMM, SUM};
 use sj_codelet::set::Codelets;
 use std::alloc::Global;
+use std::simd::prelude::*;
 use std::sync::Arc;
 
 const TOP: i64 = i64::MAX - 1;
@@ -120,6 +128,201 @@ fn blocks_with_negative_ways_back_are_as_from_copies(rt: HostRuntime) {
         fwdiag(&mut a, 3);
         assert_eq!(rt; a, from_copies(block));
     }
+}
+
+/// Kinds of numbers that meet in a kernel, over and over, from one of them on.
+fn extremes(from: usize) -> [i64; 17] {
+    let kinds = [INF, TOP, 0, -1, LEAST];
+    let mut made = [0; 17];
+    for i in 0..17 {
+        made[i] = kinds[(from % 5 + i) % 5];
+    }
+    made
+}
+
+/// The sum as it is written down: the exact one, kept below `INF`.
+fn plain_sum(a: i64, b: i64) -> i64 {
+    if a == INF || b == INF {
+        INF
+    } else {
+        a.saturating_add(b).min(TOP)
+    }
+}
+
+#[test]
+fn rows_of_any_length_are_as_element_by_element(rt: HostRuntime) {
+    for from in 0..5 {
+        let x = extremes(from);
+        let y = extremes(from + 2);
+        for n in [0usize, 1, 7, 8, 9, 17] {
+            let mut low = y;
+            lowest(&x[..n], &mut low[..n]);
+            let mut least = y;
+            mingemm(&x[..1], &x[..n], &mut least[..n], 1, 1, n as u32);
+            let mut row = y;
+            fwrow(&x[..1], &mut row[..n], 1, n as u32);
+            let mut col = y;
+            fwcol(&x[..1], &mut col[..n], 1, n as u32);
+            for i in 0..17 {
+                let old = y[i];
+                assert_eq!(rt; low[i], if i < n { old.min(x[i]) } else { old });
+                let way = if i < n {
+                    old.min(plain_sum(x[0], x[i]))
+                } else {
+                    old
+                };
+                assert_eq!(rt; least[i], way);
+                let way = if i < n {
+                    old.min(plain_sum(x[0], old))
+                } else {
+                    old
+                };
+                assert_eq!(rt; row[i], way);
+                assert_eq!(rt; col[i], way);
+            }
+        }
+    }
+}
+
+#[test]
+fn lanes_are_as_single_sums(rt: HostRuntime) {
+    for from in 0..5 {
+        for other in 0..5 {
+            let a = extremes(from);
+            let b = extremes(other);
+            let x = eight(&a);
+            let y = eight(&b);
+            let sums = plus8(x, y).to_array();
+            for i in 0..8 {
+                assert_eq!(rt; sums[i], plain_sum(a[i], b[i]));
+            }
+        }
+    }
+}
+
+/// The first eight.
+fn eight(xs: &[i64; 17]) -> i64x8
+    ensures { AreLanes result }
+{
+    i64x8::from_array([xs[0], xs[1], xs[2], xs[3], xs[4], xs[5], xs[6], xs[7]])
+}
+
+/// The product of 3 by 5 and 5 by 9 elements, one sum after another.
+fn plain_product(a: &[i64; 15], b: &[i64; 45], mut c: [i64; 27]) -> [i64; 27] {
+    for i in 0..3 {
+        for j in 0..9 {
+            for l in 0..5 {
+                c[i * 9 + j] = c[i * 9 + j].min(plain_sum(a[i * 5 + l], b[l * 9 + j]));
+            }
+        }
+    }
+    c
+}
+
+/// Any numbers, or short ones: every eighth or so is `INF`, and the others are from 0 below 2^62.
+fn numbers<const N: usize>(seed: i64, short: bool) -> [i64; N] {
+    let mut made = [0; N];
+    let mut seed = seed;
+    for i in 0..N {
+        seed = seed
+            .wrapping_mul(6364136223846793005)
+            .wrapping_add(1442695040888963407);
+        let inf = (seed >> 20) & 7 == 0;
+        made[i] = if inf {
+            INF
+        } else if short {
+            seed & (TOP >> 1)
+        } else {
+            seed
+        };
+    }
+    made
+}
+
+#[test]
+fn products_of_short_and_of_any_numbers_are_as_one_sum_after_another(rt: HostRuntime) {
+    for seed in 0i64..20 {
+        for short in [true, false] {
+            let a = numbers(seed, short);
+            let b = numbers(seed + 100, short);
+            let c = numbers(seed + 200, short);
+            let mut made = c;
+            mingemm(&a, &b, &mut made, 3, 5, 9);
+            assert_eq!(rt; made, plain_product(&a, &b, c));
+        }
+    }
+}
+
+/// Runs a codelet of the library, and tells whether the last operand's elements are as they should be then.
+fn ends_as(
+    alloc: Global,
+    id: Codelet,
+    frame: &mut Frame,
+    elements: &[i64],
+) -> Result<bool, OutOfMemory>
+    requires fits { IsTrue (fits_in library_has id [] (all_dims frame.old.slots)) }
+    requires ready { IsReadyFor id frame.old.slots }
+{
+    Library.run(alloc, id, &[], frame)?;
+    let n = frame.len();
+    Ok(n > 0 && frame.tile(n - 1).elements() == elements)
+}
+
+/// The same of a tile alone.
+fn alone(alloc: Global, id: Codelet, x: Tile, elements: &[i64]) -> Result<bool, OutOfMemory>
+    requires fits { IsTrue (fits_in library_has id [] (x.dims ∷ [])) }
+    requires ready { IsReadyFor id (own x ∷ []) }
+{
+    let mut frame = Frame::with_room(alloc, 1)?;
+    frame.push_own(x);
+    ends_as(alloc, id, &mut frame, elements)
+}
+
+/// The same of a tile beside one that is only read.
+fn beside(
+    alloc: Global,
+    id: Codelet,
+    d: Tile,
+    x: Tile,
+    elements: &[i64],
+) -> Result<bool, OutOfMemory>
+    requires fits { IsTrue (fits_in library_has id [] (d.dims ∷ x.dims ∷ [])) }
+    requires ready { IsReadyFor id (shared d ∷ own x ∷ []) }
+{
+    let mut frame = Frame::with_room(alloc, 2)?;
+    frame.push_shared(Arc::new(alloc, d)?);
+    frame.push_own(x);
+    ends_as(alloc, id, &mut frame, elements)
+}
+
+/// A tile of one row and two columns.
+fn pair(alloc: Global, first: i64, second: i64) -> Result<Tile, OutOfMemory>
+    ensures { IfOk result (λ t. t.dims ≡ record { rows = 1; cols = 2 }) }
+{
+    Ok(Tile::of(Dims { rows: 1, cols: 2 }, vec![in alloc; first, second]?))
+}
+
+/// A tile of one element.
+fn single(alloc: Global, element: i64) -> Result<Tile, OutOfMemory>
+    ensures { IfOk result (λ t. t.dims ≡ record { rows = 1; cols = 1 }) }
+{
+    Ok(Tile::of(Dims { rows: 1, cols: 1 }, vec![in alloc; element]?))
+}
+
+#[test]
+fn the_library_runs_each_codelet_of_min_plus(rt: HostRuntime) -> Result<(), OutOfMemory> {
+    let alloc = rt.alloc();
+    let unit = Tile::zeros(alloc, Dims { rows: 1, cols: 2 })?;
+    assert!(rt; alone(alloc, INIT_LEAST, unit, &[INF, INF])?);
+    let block = single(alloc, -3)?;
+    assert!(rt; alone(alloc, FWDIAG, block, &[-6])?);
+    let (x, y) = (pair(alloc, 3, INF)?, pair(alloc, 5, 4)?);
+    assert!(rt; beside(alloc, LOWEST, x, y, &[3, 4])?);
+    let (d, row) = (single(alloc, -1)?, pair(alloc, 5, INF)?);
+    assert!(rt; beside(alloc, FWROW, d, row, &[4, INF])?);
+    let (d, column) = (single(alloc, -1)?, single(alloc, 5)?);
+    assert!(rt; beside(alloc, FWCOL, d, column, &[4])?);
+    Ok(())
 }
 
 /// The min-plus product of a row and a column, as the library runs it on a task's frame.

@@ -1,4 +1,5 @@
 pub mod Admitting
+pub mod CallerLemmas
 pub mod Choosing
 pub mod Kept
 pub mod Putting

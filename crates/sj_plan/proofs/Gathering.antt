@@ -1,63 +1,54 @@
--- A plan's children hold each element once, and put back they make the array again.
-use Rattle.std.proofs.Common.{◌≡◌, ℕ, ℤ, ◌+◌, ◌-◌, ◌<◌, Bool, true, false, cond, ◌||◌, List, [], ◌∷◌, sym, ap, refl, ◌∙◌, arith}
-use Rattle.std.specs.List.{fold, list_any}
+-- Rectangles that tile an array, with their windows of it put in place in any order, make the array again.
+use Rattle.std.proofs.Common.{◌≡◌, ℕ, ◌+◌, ◌-◌, ◌<◌, cond, List, [], ◌∷◌, map, sym, ap, refl, ◌∙◌, arith}
+use Rattle.std.specs.List.{AllByRecursion, list_any}
 use Rattle.std.proofs.lemmas.Bool.{cond-true}
+use Rattle.std.proofs.lemmas.List.Elements.{recursion_from_All}
+use Rattle.std.proofs.lemmas.List.Sorted.{sum_by-IsPermutation}
 use Rattle.sj_base.specs.declared.tile.Dims.{Dims}
 use Rattle.sj_base.specs.Array.{Array, element}
-use Rattle.sj_plan.specs.declared.parts.Parts.{Parts}
 use Rattle.sj_plan.specs.declared.rect.Rect.{Rect}
-use Rattle.sj_plan.specs.Parts.{Fits, places}
-use Rattle.sj_plan.specs.Rect.{holds, child, children_of}
-use Rattle.sj_plan.specs.Window.{window, with_window, IsWhole, Reassemble}
-use Rattle.sj_plan.proofs.Lists.{any-map, any-places}
-use Rattle.sj_plan.proofs.Splitting.{held}
-use Rattle.sj_plan.proofs.Windows.{written, element-with_window, element-window, holds-true, Holds-from_true, IsWhole-tabulate, same_arrays}
+use Rattle.sj_plan.specs.Pieces.{IsTiling}
+use Rattle.sj_plan.specs.Rect.{holds}
+use Rattle.sj_plan.specs.Window.{window, with_window, gathered, IsWhole, Reassemble}
+use Rattle.sj_plan.proofs.Lists.{any-map, any_counted}
+use Rattle.sj_plan.proofs.Windows.{cond_same, cond_twice, element-with_window, element-window, Holds-from_true, IsWhole-with_window, same_arrays}
 
-abbrev put_back : Array → Array → Rect → Array
-put_back a b r = with_window b r (window a r)
+abbrev IsPart : Array → Rect × Array → Type 0
+IsPart a part = part.1 ≡ window a part.0
 
-cond_same : (t : Bool) (x y e : ℤ) → (t ≡ true → x ≡ y) → cond t x e ≡ cond t y e
-cond_same true x y e h = h refl
-cond_same false x y e h = refl
-
-cond_twice : (s t : Bool) (x e : ℤ) → cond t x (cond s x e) ≡ cond (s || t) x e
-cond_twice true true x e = refl
-cond_twice true false x e = refl
-cond_twice false true x e = refl
-cond_twice false false x e = refl
-
-element-put_back : (a b : Array) (r : Rect) (i j : ℕ) → i < b.dims.rows → j < b.dims.cols → element (put_back a b r) i j ≡ cond (holds r i j) (element a i j) (element b i j)
-element-put_back a b r i j in_rows in_cols =
-    element-with_window b r (window a r) i j in_rows in_cols ∙ cond_same (holds r i j) _ (element a i j) (element b i j) (λ t.
+element-put_back : (a b : Array) (part : Rect × Array) (i j : ℕ) → IsPart a part → i < b.dims.rows → j < b.dims.cols → element (with_window b part.0 part.1) i j ≡ cond (holds part.0 i j) (element a i j) (element b i j)
+element-put_back a b part i j is in_rows in_cols =
+    let r = part.0 in
+    element-with_window b r part.1 i j in_rows in_cols ∙ cond_same (holds r i j) _ (element a i j) (element b i j) (λ t.
     let h = Holds-from_true r i j t in
-    ap (λ n. element (window a r) n (0 + (j - r.col))) (omega arith) ∙ ap (λ n. element (window a r) (i - r.row) n) (omega arith)
+    ap (λ (x : Array). element x (0 + (i - r.row)) (0 + (j - r.col))) is ∙ ap (λ n. element (window a r) n (0 + (j - r.col))) (omega arith) ∙ ap (λ n. element (window a r) (i - r.row) n) (omega arith)
     ∙ element-window a r (i - r.row) (j - r.col) (omega (arith, h.0.0, h.0.1)) (omega (arith, h.1.0, h.1.1)) ∙ ap (λ n. element a n (r.col + (j - r.col))) (omega (arith, h.0.0)) ∙ ap (λ n. element a i n) (omega (arith, h.1.0)))
 
-dims-put_back : (a : Array) (rs : List Rect) (b : Array) → (fold (put_back a) b rs).dims ≡ b.dims
-dims-put_back a [] b = refl
-dims-put_back a (r ∷ rs) b = dims-put_back a rs (put_back a b r)
+dims-gathered : (parts : List (Rect × Array)) (b : Array) → (gathered b parts).dims ≡ b.dims
+dims-gathered [] b = refl
+dims-gathered (part ∷ parts) b = dims-gathered parts (with_window b part.0 part.1)
 
-IsWhole-put_back : (a : Array) (rs : List Rect) (b : Array) → IsWhole b → IsWhole (fold (put_back a) b rs)
-IsWhole-put_back a [] b whole = whole
-IsWhole-put_back a (r ∷ rs) b whole = IsWhole-put_back a rs (put_back a b r) (IsWhole-tabulate b.dims (written b r (window a r)))
+IsWhole-gathered : (parts : List (Rect × Array)) (b : Array) → IsWhole b → IsWhole (gathered b parts)
+IsWhole-gathered [] b whole = whole
+IsWhole-gathered (part ∷ parts) b whole = IsWhole-gathered parts (with_window b part.0 part.1) (IsWhole-with_window b part.0 part.1)
 
-element-all_back : (a : Array) (i j : ℕ) (rs : List Rect) (b : Array) → i < b.dims.rows → j < b.dims.cols → element (fold (put_back a) b rs) i j ≡ cond (list_any (λ r. holds r i j) rs) (element a i j) (element b i j)
-element-all_back a i j [] b in_rows in_cols = refl
-element-all_back a i j (r ∷ rs) b in_rows in_cols =
-    element-all_back a i j rs (put_back a b r) in_rows in_cols ∙ ap (λ e. cond (list_any (λ r. holds r i j) rs) (element a i j) e) (element-put_back a b r i j in_rows in_cols) ∙ cond_twice (holds r i j) (list_any (λ r. holds r i j) rs) (element a i j) (element b i j)
+element-gathered : (a : Array) (i j : ℕ) (parts : List (Rect × Array)) → AllByRecursion (IsPart a) parts → (b : Array) → i < b.dims.rows → j < b.dims.cols → element (gathered b parts) i j ≡ cond (list_any (λ part. holds part.0 i j) parts) (element a i j) (element b i j)
+element-gathered a i j [] are b in_rows in_cols = refl
+element-gathered a i j (part ∷ parts) are b in_rows in_cols =
+    element-gathered a i j parts are.1 (with_window b part.0 part.1) in_rows in_cols
+    ∙ ap (λ e. cond (list_any (λ p. holds p.0 i j) parts) (element a i j) e) (element-put_back a b part i j are.0 in_rows in_cols)
+    ∙ cond_twice (holds part.0 i j) (list_any (λ p. holds p.0 i j) parts) (element a i j) (element b i j)
 
-children_of-cover : (d : Dims) (p : Parts) (i j : ℕ) → Fits p d → i < d.rows → j < d.cols → list_any (λ r. holds r i j) (children_of d p) ≡ true
-children_of-cover d p i j fits in_rows in_cols =
-    let row = held d.rows p.r i fits.some_rows in_rows in
-    let col = held d.cols p.c j fits.some_cols in_cols in
-    let place : ℕ × ℕ = (row.0, col.0) in
-    any-map (λ r. holds r i j) (child d p) (places p) ∙ any-places (λ place. holds (child d p place) i j) p place (row.1.0, col.1.0) (holds-true (child d p place) i j (row.1.1, col.1.1))
-
-pub children_of-reassemble : (d : Dims) (p : Parts) → Fits p d → Reassemble d (children_of d p)
-children_of-reassemble d p fits a blank dims_a whole_a dims_b whole_b =
-    let rs = children_of d p in
-    let same = dims-put_back a rs blank in
-    same_arrays (fold (put_back a) blank rs) a (same ∙ dims_b ∙ sym dims_a) (IsWhole-put_back a rs blank whole_b) whole_a (λ i j in_rows in_cols.
+pub tiling-reassembles : (d : Dims) (rects : List Rect) → IsTiling d rects → Reassemble d rects
+tiling-reassembles d rects tiling a blank parts dims_a whole_a dims_b whole_b order are =
+    let same = dims-gathered parts blank in
+    let each = recursion_from_All (IsPart a) parts are in
+    same_arrays (gathered blank parts) a (same ∙ dims_b ∙ sym dims_a) (IsWhole-gathered parts blank whole_b) whole_a (λ i j in_rows in_cols.
     let in_blank_rows : i < blank.dims.rows = omega (arith, ap (λ (e : Dims). e.rows) same) in
     let in_blank_cols : j < blank.dims.cols = omega (arith, ap (λ (e : Dims). e.cols) same) in
-    element-all_back a i j rs blank in_blank_rows in_blank_cols ∙ cond-true _ _ _ (children_of-cover d p i j fits (omega (arith, ap (λ (e : Dims). e.rows) dims_b)) (omega (arith, ap (λ (e : Dims). e.cols) dims_b))))
+    let test = λ (r : Rect). holds r i j in
+    let places = map (λ (part : Rect × Array). part.0) parts in
+    let once = tiling.once i j (omega (arith, ap (λ (e : Dims). e.rows) dims_b)) (omega (arith, ap (λ (e : Dims). e.cols) dims_b)) in
+    let counted = sum_by-IsPermutation (λ r. cond (test r) 1 0) rects places order in
+    let held = sym (any-map test (λ (part : Rect × Array). part.0) parts) ∙ any_counted test places (omega arith) in
+    element-gathered a i j parts each blank in_blank_rows in_blank_cols ∙ cond-true _ _ _ held)

@@ -1,3 +1,5 @@
+pub mod Copying
+pub mod Counting
 pub mod Gathering
 pub mod Lists
 pub mod Overlapping

@@ -1,16 +1,19 @@
 -- Lists that a loop makes over the numbers from 0 on.
-use Rattle.std.proofs.Common.{◌≡◌, ℕ, zero, suc, ◌+◌, ◌-◌, ◌*◌, ◌<◌, ◌≤◌, Bool, true, false, cond, ◌&&◌, ◌||◌, List, [], ◌∷◌, ◌++◌, map, sym, ap, refl, ◌∙◌, zero-mul, arith}
-use Rattle.std.specs.List.{AllByRecursion, filter, flat_map, range_with_len, count_by, list_any}
+use Rattle.std.proofs.Common.{◌≡◌, ℕ, zero, suc, ◌+◌, ◌-◌, ◌*◌, ◌<◌, ◌≤◌, Bool, true, false, cond, ◌&&◌, ◌||◌, eqb, ltb, List, [], ◌∷◌, ◌++◌, map, sym, ap, refl, ◌∙◌, zero-mul, arith}
+use Rattle.std.specs.List.{AllByRecursion, AllPairs, filter, flat_map, range_with_len, count_by, list_any}
 use Rattle.std.proofs.lemmas.List.{append_assoc, append-nil, map-append, map-id}
 use Rattle.std.proofs.lemmas.List.Concat.{flat_map-append}
+use Rattle.std.proofs.lemmas.List.Elements.{All-from_recursion, recursion_from_All}
+use Rattle.std.proofs.lemmas.List.Kept.{AllPairs-cons}
 use Rattle.std.proofs.lemmas.List.FromFn.{map-range_with_len_more}
-use Rattle.std.proofs.lemmas.List.Sums.{sum_by-cons, sum_by-append}
+use Rattle.std.proofs.lemmas.List.Sums.{sum_by-cons, sum_by-append, sum_by_push}
 use Rattle.std.proofs.lemmas.List.FromFn.{length-range_with_len, get_or-range_with_len}
 use Rattle.std.proofs.lemmas.List.Folds.{list_any_at, list_any-append}
 use Rattle.sj_plan.specs.declared.parts.Parts.{Parts}
 use Rattle.sj_plan.specs.Parts.{IsPlace, places}
 use Rattle.std.proofs.lemmas.Simd.{map-map}
-use Rattle.std.proofs.lemmas.Bool.{cond-false}
+use Rattle.std.proofs.lemmas.Bool.{cond-true, cond-false, lt-ltb, le-ltb}
+use Rattle.std.proofs.lemmas.Bool.Decides.{nat_tests}
 
 suc-add : (k : ℕ) → suc k ≡ k + 1
 suc-add k = omega arith
@@ -100,6 +103,10 @@ pub each-map : {X Y : Type 0} (Q : Y → Type 0) (f : X → Y) (xs : List X) →
 each-map Q f [] a = tt
 each-map Q f (x ∷ xs) a = (a.0, each-map Q f xs a.1)
 
+pub each-from_map : {X Y : Type 0} (Q : Y → Type 0) (f : X → Y) (xs : List X) → AllByRecursion Q (map f xs) → AllByRecursion (λ x. Q (f x)) xs
+each-from_map Q f [] a = tt
+each-from_map Q f (x ∷ xs) a = (a.0, each-from_map Q f xs a.1)
+
 pub each-flat_map : {X Y : Type 0} (Q : Y → Type 0) (f : X → List Y) (xs : List X) → AllByRecursion (λ x. AllByRecursion Q (f x)) xs → AllByRecursion Q (flat_map f xs)
 each-flat_map Q f [] a = tt
 each-flat_map Q f (x ∷ xs) a = each-append Q (f x) (flat_map f xs) a.0 (each-flat_map Q f xs a.1)
@@ -145,3 +152,123 @@ any-range t n k below h =
 pub any-places : (t : ℕ × ℕ → Bool) (p : Parts) (place : ℕ × ℕ) → IsPlace p place → t place ≡ true → list_any t (places p) ≡ true
 any-places t p place inside h =
     any-flat_map t (grid_row p.c) (range_with_len 0 p.r) ∙ any-range (λ i. list_any t (grid_row p.c i)) p.r place.0 inside.0 (any-map t (λ j. (place.0, j)) (range_with_len 0 p.c) ∙ any-range (λ j. t (place.0, j)) p.c place.1 inside.1 h)
+
+-- Q holds of each item of a list, from what holds of each item or of all
+pub each-of : {X : Type 0} (Q : X → Type 0) → ((x : X) → Q x) → (xs : List X) → AllByRecursion Q xs
+each-of Q h [] = tt
+each-of Q h (x ∷ xs) = (h x, each-of Q h xs)
+
+pub each-all : {X : Type 0} (P Q : X → Type 0) → ((x : X) → P x → Q x) → (xs : List X) → AllByRecursion P xs → AllByRecursion Q xs
+each-all P Q h [] a = tt
+each-all P Q h (x ∷ xs) a = (h x a.0, each-all P Q h xs a.1)
+
+pub each-range_from : (Q : ℕ → Type 0) (a n : ℕ) → ((k : ℕ) → a ≤ k → Q k) → AllByRecursion Q (range_with_len a n)
+each-range_from Q a zero h = tt
+each-range_from Q a (suc n) h = (h a (omega arith), each-range_from Q (a + 1) n (λ k from. h k (omega arith)))
+
+-- filters that keep all, and none
+pub filter_all : {X : Type 0} (p : X → Bool) (xs : List X) → AllByRecursion (λ x. p x ≡ true) xs → filter p xs ≡ xs
+filter_all p [] a = refl
+filter_all p (x ∷ xs) a = cond-true (p x) (x ∷ filter p xs) (filter p xs) a.0 ∙ ap (λ ys. x ∷ ys) (filter_all p xs a.1)
+
+pub filter_gone : {X : Type 0} (p : X → Bool) (xs : List X) → AllByRecursion (λ x. p x ≡ false) xs → filter p xs ≡ []
+filter_gone p [] a = refl
+filter_gone p (x ∷ xs) a = cond-false (p x) (x ∷ filter p xs) (filter p xs) a.0 ∙ filter_gone p xs a.1
+
+map-keep : {X Y : Type 0} (f : X → Y) (t : Bool) (x : X) (ys : List X) → map f (cond t (x ∷ ys) ys) ≡ cond t (f x ∷ map f ys) (map f ys)
+map-keep f true x ys = refl
+map-keep f false x ys = refl
+
+-- what passes, seen through f
+pub map-filter : {X Y : Type 0} (f : X → Y) (p : Y → Bool) (xs : List X) → map f (filter (λ x. p (f x)) xs) ≡ filter p (map f xs)
+map-filter f p [] = refl
+map-filter f p (x ∷ xs) =
+    map-keep f (p (f x)) x (filter (λ y. p (f y)) xs) ∙ ap (λ ys. cond (p (f x)) (f x ∷ ys) ys) (map-filter f p xs)
+
+or_true : (c : Bool) → (c || true) ≡ true
+or_true true = refl
+or_true false = refl
+
+either : (a b c d : Bool) → (a ≡ true → c ≡ true) → (b ≡ true → d ≡ true) → (a || b) ≡ true → (c || d) ≡ true
+either true b c d f g h = ap (λ x. x || d) (f refl)
+either false b c d f g h = ap (λ x. c || x) (g h) ∙ or_true c
+
+pub any-implied : {X : Type 0} (s t : X → Bool) → ((x : X) → s x ≡ true → t x ≡ true) → (xs : List X) → list_any s xs ≡ true → list_any t xs ≡ true
+any-implied s t h [] some = some
+any-implied s t h (x ∷ xs) some = either (s x) (list_any s xs) (t x) (list_any t xs) (h x) (any-implied s t h xs) some
+
+counted_more : (b : Bool) (n : ℕ) (r : Bool) → 0 < cond b 1 0 + n → (0 < n → r ≡ true) → (b || r) ≡ true
+counted_more true n r h f = refl
+counted_more false n r h f = f (omega arith)
+
+-- a count that isn't 0 has found some item
+pub any_counted : {X : Type 0} (t : X → Bool) (xs : List X) → 0 < count_by t xs → list_any t xs ≡ true
+any_counted t [] h = absurd (omega arith)
+any_counted t (x ∷ xs) h =
+    counted_more (t x) (count_by t xs) (list_any t xs) (omega (arith, sum_by-cons (λ y. cond (t y) 1 0) x xs)) (any_counted t xs)
+
+-- R holds of each item and each later one
+abbrev pub Ordered : {X : Type 0} → (X → X → Type 0) → List X → Type 0
+Ordered R [] = Unit {0}
+Ordered R (x ∷ xs) = AllByRecursion (R x) xs × Ordered R xs
+
+pub ordered-append : {X : Type 0} (R : X → X → Type 0) (xs ys : List X) → Ordered R xs → Ordered R ys → AllByRecursion (λ x. AllByRecursion (R x) ys) xs → Ordered R (xs ++ ys)
+ordered-append R [] ys a b across = b
+ordered-append R (x ∷ xs) ys a b across = (each-append (R x) xs ys a.0 across.0, ordered-append R xs ys a.1 b across.1)
+
+pub ordered-map : {X Y : Type 0} (R : Y → Y → Type 0) (f : X → Y) (xs : List X) → Ordered (λ x y. R (f x) (f y)) xs → Ordered R (map f xs)
+ordered-map R f [] a = tt
+ordered-map R f (x ∷ xs) a = (each-map (R (f x)) f xs a.0, ordered-map R f xs a.1)
+
+pub ordered-from_map : {X Y : Type 0} (R : Y → Y → Type 0) (f : X → Y) (xs : List X) → Ordered R (map f xs) → Ordered (λ x y. R (f x) (f y)) xs
+ordered-from_map R f [] a = tt
+ordered-from_map R f (x ∷ xs) a = (each-from_map (R (f x)) f xs a.0, ordered-from_map R f xs a.1)
+
+ordered-range : (R : ℕ → ℕ → Type 0) → ((j k : ℕ) → j < k → R j k) → (a n : ℕ) → Ordered R (range_with_len a n)
+ordered-range R h a zero = tt
+ordered-range R h a (suc n) = (each-range_from (R a) (a + 1) n (λ k from. h a k (omega arith)), ordered-range R h (a + 1) n)
+
+ordered-rows : (R : ℕ × ℕ → ℕ × ℕ → Type 0) → ((i k j l : ℕ) → i < k → R (i, j) (k, l)) → ((i j l : ℕ) → j < l → R (i, j) (i, l)) → (c a n : ℕ) → Ordered R (flat_map (grid_row c) (range_with_len a n))
+ordered-rows R down right c a zero = tt
+ordered-rows R down right c a (suc n) =
+    ordered-append R (grid_row c a) (flat_map (grid_row c) (range_with_len (a + 1) n)) (ordered-map R (λ j. (a, j)) (range_with_len 0 c) (ordered-range (λ j l. R (a, j) (a, l)) (right a) 0 c)) (ordered-rows R down right c (a + 1) n)
+    (each-map (λ x. AllByRecursion (R x) (flat_map (grid_row c) (range_with_len (a + 1) n))) (λ j. (a, j)) (range_with_len 0 c) (each-of (λ j. AllByRecursion (R (a, j)) (flat_map (grid_row c) (range_with_len (a + 1) n))) (λ j.
+    each-flat_map (R (a, j)) (grid_row c) (range_with_len (a + 1) n) (each-range_from (λ k. AllByRecursion (R (a, j)) (grid_row c k)) (a + 1) n (λ k from.
+    each-map (R (a, j)) (λ l. (k, l)) (range_with_len 0 c) (each-of (λ l. R (a, j) (k, l)) (λ l. down a k j l (omega arith)) (range_with_len 0 c))))) (range_with_len 0 c)))
+
+-- places stand row by row
+pub ordered-places : (R : ℕ × ℕ → ℕ × ℕ → Type 0) → ((i k j l : ℕ) → i < k → R (i, j) (k, l)) → ((i j l : ℕ) → j < l → R (i, j) (i, l)) → (p : Parts) → Ordered R (places p)
+ordered-places R down right p = ordered-rows R down right p.c 0 p.r
+
+pub pairs-from_ordered : {X : Type 0} (R : X → X → Type 0) (xs : List X) → Ordered R xs → AllPairs R xs
+pairs-from_ordered R [] a = λ i j d below inside. absurd (omega arith)
+pairs-from_ordered R (x ∷ xs) a = AllPairs-cons R x xs (All-from_recursion (R x) xs a.0) (pairs-from_ordered R xs a.1)
+
+pub ordered-from_pairs : {X : Type 0} (R : X → X → Type 0) (xs : List X) → AllPairs R xs → Ordered R xs
+ordered-from_pairs R [] a = tt
+ordered-from_pairs R (x ∷ xs) a =
+    (recursion_from_All (R x) xs (λ j d inside. a 0 (suc j) d (omega arith) (omega arith)), ordered-from_pairs R xs (λ i j d below inside. a (suc i) (suc j) d (omega arith) (omega arith)))
+
+one_number : (k m : ℕ) → cond (ltb k m) 1 0 + cond (eqb k m) 1 0 ≡ cond (ltb k (m + 1)) 1 0
+one_number k m = grind (arith, nat_tests)
+
+count_first : (k m : ℕ) → count_by (eqb k) (range_with_len 0 m) ≡ cond (ltb k m) 1 0
+count_first k zero = sym (ap (λ t. cond t 1 0) (le-ltb k 0 (omega arith)))
+count_first k (suc m) =
+    ap (count_by (eqb k)) (ap (range_with_len 0) (suc-add m) ∙ range_more m) ∙ sum_by_push (λ j. cond (eqb k j) 1 0) (range_with_len 0 m) m ∙ ap (λ n. n + cond (eqb k m) 1 0) (count_first k m) ∙ one_number k m ∙ ap (λ n. cond (ltb k n) 1 0) (sym (suc-add m))
+
+count_one : (k n : ℕ) → k < n → count_by (eqb k) (range_with_len 0 n) ≡ 1
+count_one k n h = count_first k n ∙ ap (λ t. cond t 1 0) (lt-ltb k n h)
+
+one_by_one : {a b : ℕ} → a ≡ 1 → b ≡ 1 → a * b ≡ 1
+one_by_one {a} {b} e f = rw (e, f) refl
+
+-- each place stands in the list of places once
+pub count_places : (p : Parts) (place : ℕ × ℕ) → IsPlace p place → count_by (λ (other : ℕ × ℕ). eqb place.0 other.0 && eqb place.1 other.1) (places p) ≡ 1
+count_places p place inside =
+    count_grid (eqb place.0) (eqb place.1) p.c (range_with_len 0 p.r) ∙ one_by_one (count_one place.0 p.r inside.0) (count_one place.1 p.c inside.1)
+
+pub count_by-map : {X Y : Type 0} (p : Y → Bool) (f : X → Y) (xs : List X) → count_by p (map f xs) ≡ count_by (λ x. p (f x)) xs
+count_by-map p f [] = refl
+count_by-map p f (x ∷ xs) =
+    sum_by-cons (λ y. cond (p y) 1 0) (f x) (map f xs) ∙ ap (λ n. cond (p (f x)) 1 0 + n) (count_by-map p f xs) ∙ sym (sum_by-cons (λ y. cond (p (f y)) 1 0) x xs)

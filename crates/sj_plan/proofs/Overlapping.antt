@@ -12,15 +12,14 @@ use Rattle.sj_plan.specs.declared.interval.Interval.{Interval}
 use Rattle.sj_plan.specs.declared.parts.Parts.{Parts}
 use Rattle.sj_plan.specs.declared.paste.Paste.{Paste}
 use Rattle.sj_plan.specs.Interval.{Lies, part, shared}
-use Rattle.sj_plan.specs.Parts.{places}
-use Rattle.sj_plan.specs.Paste.{overlaps, paste_at}
+use Rattle.sj_plan.specs.Paste.{overlaps, paste_at, pastes_of, pastes_to}
 use Rattle.sj_plan.proofs.Lists.{grid_row, nothing_before, nothing_after, filter_none}
 
 -- v has the numbers of the parts of n items in p parts that share an index with an interval
 abbrev pub AreOverlapping : ℕ → ℕ → Interval → Interval → Type 0
 AreOverlapping n p of v = (k : ℕ) → k < p → (Lies k v ↔ (0 < (shared (part n p k) of).len))
 
-apart : (n p : ℕ) (of v : Interval) (k : ℕ) → AreOverlapping n p of v → k < p → (Lies k v → ⊥) → (shared (part n p k) of).len ≤ 0
+pub apart : (n p : ℕ) (of v : Interval) (k : ℕ) → AreOverlapping n p of v → k < p → (Lies k v → ⊥) → (shared (part n p k) of).len ≤ 0
 apart n p of v k exactly below outside = elim (cases_lt 0 (shared (part n p k) of).len) as (λ _. (shared (part n p k) of).len ≤ 0) [
   | inl meets ↦ absurd (outside ((exactly k below).1 meets))
   | inr none ↦ none
@@ -89,27 +88,26 @@ from_rows-after d old new to v exactly inside =
 
 -- the pastes to some children of row part i of the new plan
 abbrev pub to_row : Dims → Parts → Parts → ℕ → List ℕ → List Paste
-to_row d old new i xs = filter overlaps (flat_map (λ j. map (λ from. paste_at d old new from (i, j)) (places old)) xs)
+to_row d old new i xs = flat_map (λ j. pastes_to d old new (i, j)) xs
 
 pub to_row-append : (d : Dims) (old new : Parts) (i : ℕ) (xs ys : List ℕ) → to_row d old new i (xs ++ ys) ≡ to_row d old new i xs ++ to_row d old new i ys
-to_row-append d old new i xs ys =
-    let f = λ (j : ℕ). map (λ (from : ℕ × ℕ). paste_at d old new from (i, j)) (places old) in
-    ap (filter overlaps) (flat_map-append f xs ys) ∙ filter-append overlaps (flat_map f xs) (flat_map f ys)
+to_row-append d old new i xs ys = flat_map-append (λ j. pastes_to d old new (i, j)) xs ys
 
-pub to_row-one : (d : Dims) (old new : Parts) (i j : ℕ) → filter overlaps (map (λ from. paste_at d old new from (i, j)) (places old)) ≡ to_row d old new i (j ∷ [])
-to_row-one d old new i j = ap (filter overlaps) (sym (append-nil (map (λ (from : ℕ × ℕ). paste_at d old new from (i, j)) (places old))))
+pub to_row-one : (d : Dims) (old new : Parts) (i j : ℕ) → pastes_to d old new (i, j) ≡ to_row d old new i (j ∷ [])
+to_row-one d old new i j = sym (append-nil (pastes_to d old new (i, j)))
 
 -- the pastes to the children of some row parts of the new plan
 abbrev pub to_rows : Dims → Parts → Parts → List ℕ → List Paste
-to_rows d old new xs =
-    filter overlaps (flat_map (λ to. map (λ from. paste_at d old new from to) (places old)) (flat_map (grid_row new.c) xs))
+to_rows d old new xs = flat_map (pastes_to d old new) (flat_map (grid_row new.c) xs)
 
 pub to_rows-append : (d : Dims) (old new : Parts) (xs ys : List ℕ) → to_rows d old new (xs ++ ys) ≡ to_rows d old new xs ++ to_rows d old new ys
 to_rows-append d old new xs ys =
-    let f = λ (to : ℕ × ℕ). map (λ (from : ℕ × ℕ). paste_at d old new from to) (places old) in
-    ap (λ zs. filter overlaps (flat_map f zs)) (flat_map-append (grid_row new.c) xs ys) ∙ ap (filter overlaps) (flat_map-append f (flat_map (grid_row new.c) xs) (flat_map (grid_row new.c) ys)) ∙ filter-append overlaps (flat_map f (flat_map (grid_row new.c) xs)) (flat_map f (flat_map (grid_row new.c) ys))
+    ap (flat_map (pastes_to d old new)) (flat_map-append (grid_row new.c) xs ys) ∙ flat_map-append (pastes_to d old new) (flat_map (grid_row new.c) xs) (flat_map (grid_row new.c) ys)
 
 pub to_rows-one : (d : Dims) (old new : Parts) (i : ℕ) → to_row d old new i (range_with_len 0 new.c) ≡ to_rows d old new (i ∷ [])
 to_rows-one d old new i =
-    let f = λ (to : ℕ × ℕ). map (λ (from : ℕ × ℕ). paste_at d old new from to) (places old) in
-    sym (ap (λ zs. filter overlaps (flat_map f zs)) (append-nil (grid_row new.c i)) ∙ ap (filter overlaps) (flat_map-map f (λ j. (i, j)) (range_with_len 0 new.c)))
+    sym (ap (flat_map (pastes_to d old new)) (append-nil (grid_row new.c i)) ∙ flat_map-map (pastes_to d old new) (λ j. (i, j)) (range_with_len 0 new.c))
+
+-- the pastes to all row parts of the new plan are all pastes
+pub all_rows : (d : Dims) (old new : Parts) (made found : List Paste) (i : ℕ) → made ≡ found → found ≡ to_rows d old new (range_with_len 0 i) → i ≡ new.r → pastes_of d old new ≡ made
+all_rows d old new made found i e f last = sym (e ∙ f ∙ ap (λ n. to_rows d old new (range_with_len 0 n)) last)

@@ -1,23 +1,35 @@
 -- Arrays by their elements: what a table, a window and an array with a window have in each place.
-use Rattle.std.proofs.Common.{◌≡◌, ℕ, ℤ, pos, zero, suc, ◌+◌, ◌-◌, ◌*◌, ◌<◌, ◌≤◌, true, false, cond, ◌&&◌, ltb, leb, List, [], ◌++◌, map, length, get_or, take, drop, sym, ap, refl, ◌∙◌, arith, inl, inr, ◌⊎◌}
+use Rattle.std.proofs.Common.{◌≡◌, ℕ, ℤ, pos, zero, suc, ◌+◌, ◌-◌, ◌*◌, ◌<◌, ◌≤◌, Bool, true, false, cond, ◌&&◌, ◌||◌, ltb, leb, List, [], ◌++◌, map, length, get_or, take, drop, sym, ap, refl, ◌∙◌, arith}
 use Rattle.std.specs.List.{flat_map, range_with_len}
-use Rattle.std.proofs.lemmas.List.{length-append, get_or_append_left, get_or-append_right, get_or-take, get_or-drop, take_at, length-take, length-take-le, length-drop, append-nil}
+use Rattle.std.proofs.lemmas.List.{length-append, get_or_append_left, get_or-append_right, get_or-take, get_or-drop, take_at, length-take, length-drop, append-nil}
 use Rattle.std.proofs.lemmas.List.FromFn.{get_or-map-range_with_len, length-map-range_with_len, fill_by_all}
 use Rattle.std.proofs.lemmas.Nat.{row_fits}
-use Rattle.std.proofs.lemmas.Bool.{cases_lt, cases_order, lt-ltb, le-ltb, le-leb, leb-true, ltb-true, and_from, and_parts, false_from_ne_true, cond-true, cond-false}
+use Rattle.std.proofs.lemmas.Bool.{lt-ltb, le-leb, leb-true, ltb-true, and_from, and_parts, false_from_ne_true, cond-true, cond-false}
 use Rattle.std.proofs.lemmas.List.Concat.{flat_map-append}
 use borrow.Rule.Slice.PartMut.{put_mid}
 use Rattle.sj_base.specs.declared.tile.Dims.{Dims}
 use Rattle.sj_base.specs.Array.{Array, area, array, element}
 use Rattle.sj_base.specs.Window.{table}
+use Rattle.sj_base.proofs.Pasting.{pasted_step}
 use Rattle.sj_base.proofs.Tables.{item-table, length-table, same_tables}
 use Rattle.sj_plan.specs.declared.rect.Rect.{Rect}
-use Rattle.sj_plan.specs.Rect.{Holds, Within, holds, dims_of}
+use Rattle.sj_plan.specs.Rect.{Holds, Within, holds, dims_of, place_of}
 use Rattle.sj_plan.specs.Window.{window, with_window, IsWhole}
 use Rattle.sj_plan.proofs.Lists.{appended_more}
 
 abbrev pub tabulate : Dims → (ℕ → ℕ → ℤ) → Array
 tabulate d f = array d (table d f)
+
+-- a choice where one case is known, and two choices of one value
+pub cond_same : (t : Bool) (x y e : ℤ) → (t ≡ true → x ≡ y) → cond t x e ≡ cond t y e
+cond_same true x y e h = h refl
+cond_same false x y e h = refl
+
+pub cond_twice : (s t : Bool) (x e : ℤ) → cond t x (cond s x e) ≡ cond (s || t) x e
+cond_twice true true x e = refl
+cond_twice true false x e = refl
+cond_twice false true x e = refl
+cond_twice false false x e = refl
 
 -- row i of a table of c columns
 abbrev pub table_row : {X : Type 0} → (ℕ → ℕ → X) → ℕ → ℕ → List X
@@ -92,33 +104,15 @@ window_more a r i now next d xs within whole same_dims same_elements h e f =
     let cut_here = ap (λ (e : Dims). cut e.cols xs r i) same_dims ∙ ap (λ ys. cut a.dims.cols ys r i) same_elements in
     appended_more (flat_map row) (flat_map-append row) [] now next i e (f ∙ ap (λ ys. now ++ ys) (cut_here ∙ copied ∙ sym (append-nil (row i))))
 
--- a list with the part from s on, of length w, written over
-abbrev Put : ℕ → ℕ → List ℤ → List ℤ → List ℤ
-Put s w xs ys = put_mid s w xs ys
-
-length-put : (s w : ℕ) (xs ys : List ℤ) → s + w ≤ length xs → length ys ≡ w → length (Put s w xs ys) ≡ length xs
-length-put s w xs ys fits long =
-    omega (arith, length-append (take s xs) (ys ++ drop w (drop s xs)), length-append ys (drop w (drop s xs)), length-take s xs, length-drop w (drop s xs), length-drop s xs)
-
-put_before : (s w : ℕ) (xs ys : List ℤ) (k : ℕ) → s ≤ length xs → k < s → get_or (Put s w xs ys) k (pos 0) ≡ get_or xs k (pos 0)
-put_before s w xs ys k fits h =
-    let long = length-take s xs in
-    get_or_append_left (take s xs) _ (pos 0) k (omega arith) ∙ get_or-take s xs k (pos 0) h
-
-put_within : (s w : ℕ) (xs ys : List ℤ) (k : ℕ) → s ≤ length xs → k < length ys → get_or (Put s w xs ys) (s + k) (pos 0) ≡ get_or ys k (pos 0)
-put_within s w xs ys k fits h =
-    get_or-append_right (take s xs) _ s (s + k) (pos 0) (length-take-le s xs fits) (omega arith) ∙ ap (λ n. get_or (ys ++ drop w (drop s xs)) n (pos 0)) (omega arith) ∙ get_or_append_left ys _ (pos 0) k h
-
-put_after : (s w : ℕ) (xs ys : List ℤ) (k : ℕ) → s ≤ length xs → length ys ≡ w → s + w ≤ k → get_or (Put s w xs ys) k (pos 0) ≡ get_or xs k (pos 0)
-put_after s w xs ys k fits long h =
-    get_or-append_right (take s xs) _ s k (pos 0) (length-take-le s xs fits) (omega arith) ∙ get_or-append_right ys _ w (k - s) (pos 0) long (omega arith) ∙ get_or-drop w (drop s xs) (k - s - w) (pos 0) ∙ get_or-drop s xs (w + (k - s - w)) (pos 0) ∙ ap (λ n. get_or xs n (pos 0)) (omega arith)
-
 -- what an array with a window has in row i and column j
 abbrev pub written : Array → Rect → Array → ℕ → ℕ → ℤ
 written a r b i j = cond (holds r i j) (element b (0 + (i - r.row)) (0 + (j - r.col))) (element a i j)
 
 pub element-with_window : (a : Array) (r : Rect) (b : Array) (i j : ℕ) → i < a.dims.rows → j < a.dims.cols → element (with_window a r b) i j ≡ written a r b i j
 element-with_window a r b i j in_rows in_cols = element-tabulate a.dims (written a r b) i j in_rows in_cols
+
+pub IsWhole-with_window : (a : Array) (r : Rect) (b : Array) → IsWhole (with_window a r b)
+IsWhole-with_window a r b = IsWhole-tabulate a.dims (written a r b)
 
 pub holds-true : (r : Rect) (i j : ℕ) → Holds r i j → holds r i j ≡ true
 holds-true r i j h =
@@ -141,100 +135,16 @@ written-inside a r b i j h =
 pub written-outside : (a : Array) (r : Rect) (b : Array) (i j : ℕ) → (Holds r i j → ⊥) → written a r b i j ≡ element a i j
 written-outside a r b i j h = cond-false (holds r i j) _ _ (holds-false r i j h)
 
--- before any row is written
-pub gathered_none : (a : Array) (r : Rect) (b : Array) → IsWhole a → a.elements ≡ (with_window a (record r { rows = 0 }) b).elements
-gathered_none a r b whole =
-    same_tables (pos 0) a.elements _ a.dims.rows a.dims.cols whole (IsWhole-tabulate a.dims (written a (record r { rows = 0 }) b)) (λ i j in_rows in_cols.
-    sym (element-with_window a (record r { rows = 0 }) b i j in_rows in_cols ∙ written-outside a (record r { rows = 0 }) b i j (λ h. absurd (omega (arith, h.0.0, h.0.1)))))
-
--- the tests of a row that is not the one being written
-same_test : (row k i : ℕ) → (i < row + k) ⊎ (row + k < i) → ltb i (row + k) ≡ ltb i (row + (k + 1))
-same_test row k i (inl below) = lt-ltb i (row + k) below ∙ sym (lt-ltb i (row + (k + 1)) (omega arith))
-same_test row k i (inr above) = le-ltb i (row + k) (omega arith) ∙ sym (le-ltb i (row + (k + 1)) (omega arith))
-
-same_written : (a : Array) (r : Rect) (b : Array) (k i j : ℕ) → (i < r.row + k) ⊎ (r.row + k < i) → written a (record r { rows = k }) b i j ≡ written a (record r { rows = k + 1 }) b i j
-same_written a r b k i j other =
-    ap (λ t. cond ((leb r.row i && t) && (leb r.col j && ltb j (r.col + r.cols))) (element b (0 + (i - r.row)) (0 + (j - r.col))) (element a i j)) (same_test r.row k i other)
-
--- row k of a rectangle written over an array that has the rows before it, place by place
-record Writing (a : Array) (r : Rect) (b : Array) (k : ℕ) (now row : List ℤ) : Type 0 where
-  within : Within r a.dims
-  in_rect : k < r.rows
-  dims : b.dims ≡ dims_of r
-  long : length now ≡ a.dims.rows * a.dims.cols
-  long_row : length row ≡ r.cols
-  before : now ≡ (with_window a (record r { rows = k }) b).elements
-  copied : (j : ℕ) → j < r.cols → get_or row j (pos 0) ≡ element b k j
-
-place_before : (a : Array) (r : Rect) (b : Array) (k : ℕ) (now row : List ℤ) → Writing a r b k now row → (i j : ℕ) → i < a.dims.rows → j < a.dims.cols → get_or now (i * a.dims.cols + j) (pos 0) ≡ written a (record r { rows = k }) b i j
-place_before a r b k now row w i j in_rows in_cols =
-    ap (λ ys. get_or ys (i * a.dims.cols + j) (pos 0)) w.before ∙ element-with_window a (record r { rows = k }) b i j in_rows in_cols
-
-abbrev row_start : Array → Rect → ℕ → ℕ
-row_start a r k = (r.row + k) * a.dims.cols + r.col
-
-row_start-fits : (a : Array) (r : Rect) (b : Array) (k : ℕ) (now row : List ℤ) → Writing a r b k now row → row_start a r k + r.cols ≤ length now
-row_start-fits a r b k now row w =
-    let inside = row_inside a.dims.rows a.dims.cols r.row r.col r.rows r.cols k w.within.0 w.within.1 w.in_rect in
-    omega (arith, w.long)
-
-abbrev WritesPlace : Array → Rect → Array → ℕ → List ℤ → List ℤ → ℕ → ℕ → Type 0
-WritesPlace a r b k now row i j =
-    get_or (Put (row_start a r k) r.cols now row) (i * a.dims.cols + j) (pos 0) ≡ written a (record r { rows = k + 1 }) b i j
-
-other_row : (a : Array) (r : Rect) (b : Array) (k : ℕ) (now row : List ℤ) → Writing a r b k now row → (i j : ℕ) → i < a.dims.rows → j < a.dims.cols → (i < r.row + k) ⊎ (r.row + k < i) → WritesPlace a r b k now row i j
-other_row a r b k now row w i j in_rows in_cols (inl below) =
-    let fits = row_start-fits a r b k now row w in
-    let earlier = row_fits i a.dims.cols (r.row + k) a.dims.cols below (omega arith) in
-    put_before (row_start a r k) r.cols now row (i * a.dims.cols + j) (omega arith) (omega arith) ∙ place_before a r b k now row w i j in_rows in_cols ∙ same_written a r b k i j (inl below)
-other_row a r b k now row w i j in_rows in_cols (inr above) =
-    let fits = row_start-fits a r b k now row w in
-    let later = row_fits (r.row + k) a.dims.cols i a.dims.cols above (omega arith) in
-    let across = w.within.1 in
-    put_after (row_start a r k) r.cols now row (i * a.dims.cols + j) (omega arith) w.long_row (omega arith) ∙ place_before a r b k now row w i j in_rows in_cols ∙ same_written a r b k i j (inr above)
-
-at_place : (x y col j : ℕ) → col ≤ j → x ≡ y → x + j ≡ y + col + (j - col)
-at_place x y col j h e = omega arith
-
-this_row : (a : Array) (r : Rect) (b : Array) (k : ℕ) (now row : List ℤ) → Writing a r b k now row → (i j : ℕ) → i < a.dims.rows → j < a.dims.cols → i ≡ r.row + k → WritesPlace a r b k now row i j
-this_row a r b k now row w i j in_rows in_cols here =
-    let s = row_start a r k in
-    let at = i * a.dims.cols + j in
-    let fits = row_start-fits a r b k now row w in
-    let start : i * a.dims.cols ≡ (r.row + k) * a.dims.cols = ap (λ n. n * a.dims.cols) here in
-    let not_yet = written-outside a (record r { rows = k }) b i j (λ h. absurd (omega (arith, h.0.1))) in
-    elim (cases_lt j r.col) as (λ _. WritesPlace a r b k now row i j) [
-      | inl left ↦ put_before s r.cols now row at (omega arith) (omega arith) ∙ place_before a r b k now row w i j in_rows in_cols ∙ not_yet ∙ sym (written-outside a (record r { rows = k + 1 }) b i j (λ h. absurd (omega (arith, h.1.0))))
-      | inr from ↦ elim (cases_lt j (r.col + r.cols)) as (λ _. WritesPlace a r b k now row i j) [
-        | inl inside ↦ ap (λ n. get_or (Put s r.cols now row) n (pos 0)) (at_place _ _ r.col j from start) ∙ put_within s r.cols now row (j - r.col) (omega arith) (omega (arith, w.long_row)) ∙ w.copied (j - r.col) (omega arith) ∙ ap (λ n. element b n (j - r.col)) (omega arith) ∙ sym (written-inside a (record r { rows = k + 1 }) b i j ((omega arith, omega arith), (from, inside)))
-        | inr right ↦ put_after s r.cols now row at (omega arith) w.long_row (omega arith) ∙ place_before a r b k now row w i j in_rows in_cols ∙ not_yet ∙ sym (written-outside a (record r { rows = k + 1 }) b i j (λ h. absurd (omega (arith, h.1.1))))
-      ]
-    ]
-
-writes_place : (a : Array) (r : Rect) (b : Array) (k : ℕ) (now row : List ℤ) → Writing a r b k now row → (i j : ℕ) → i < a.dims.rows → j < a.dims.cols → WritesPlace a r b k now row i j
-writes_place a r b k now row w i j in_rows in_cols = elim (cases_order i (r.row + k)) as (λ _. WritesPlace a r b k now row i j) [
-  | inl here ↦ this_row a r b k now row w i j in_rows in_cols here
-  | inr other ↦ other_row a r b k now row w i j in_rows in_cols other
-]
-
--- one row more of a rectangle that is written
+-- one row more of a rectangle that is written, as `gather` copies it
 pub gathered_more : (a : Array) (r : Rect) (b : Array) (k : ℕ) (now row : List ℤ) (d : Dims) (xs : List ℤ) → Within r a.dims → IsWhole b → b.dims ≡ dims_of r → d ≡ a.dims → xs ≡ b.elements → k < r.rows → now ≡ (with_window a (record r { rows = k }) b).elements → row ≡ take (k * r.cols + r.cols - k * r.cols) (drop (k * r.cols) xs) → put_mid ((r.row + k) * d.cols + r.col) ((r.row + k) * d.cols + r.col + r.cols - ((r.row + k) * d.cols + r.col)) now row ≡ (with_window a (record r { rows = k + 1 }) b).elements
 gathered_more a r b k now row d xs within whole dims same_dims same_elements h e f =
-    let cols = a.dims.cols in
-    let s = (r.row + k) * cols + r.col in
-    let before = record r { rows = k } in
-    let after = record r { rows = k + 1 } in
-    let long_now : length now ≡ a.dims.rows * cols = ap length e ∙ IsWhole-tabulate a.dims (written a before b) in
-    let inside = row_inside a.dims.rows cols r.row r.col r.rows r.cols k within.0 within.1 h in
+    let long : length now ≡ area a.dims = ap length e ∙ IsWhole-with_window a (record r { rows = k }) b in
+    let start : k * r.cols ≡ (0 + k) * b.dims.cols + 0 = ap (λ (x : Dims). k * x.cols) (sym dims) ∙ omega arith in
+    let inside = row_inside a.dims.rows a.dims.cols r.row r.col r.rows r.cols k within.0 within.1 h in
     let long_b : length b.elements ≡ r.rows * r.cols = whole ∙ ap area dims in
     let inside_b = row_fits k r.cols r.rows r.cols h (omega arith) in
-    let row_is : row ≡ take (k * r.cols + r.cols - k * r.cols) (drop (k * r.cols) b.elements) = f ∙ ap (λ ys. take (k * r.cols + r.cols - k * r.cols) (drop (k * r.cols) ys)) same_elements in
-    let long_row : length row ≡ r.cols = ap length row_is ∙ omega (arith, length-take (k * r.cols + r.cols - k * r.cols) (drop (k * r.cols) b.elements), length-drop (k * r.cols) b.elements) in
-    let inside_row : (j : ℕ) → j < r.cols → get_or row j (pos 0) ≡ element b k j = λ j below. ap (λ ys. get_or ys j (pos 0)) row_is ∙ get_or-take (k * r.cols + r.cols - k * r.cols) (drop (k * r.cols) b.elements) j (pos 0) (omega arith) ∙ get_or-drop (k * r.cols) b.elements j (pos 0) ∙ ap (λ (e : Dims). get_or b.elements (k * e.cols + j) (pos 0)) (sym dims) in
-    let w : Writing a r b k now row = record { within = within; in_rect = h; dims = dims; long = long_now; long_row = long_row; before = e; copied = inside_row } in
-    let width : s + r.cols - s ≡ r.cols = omega arith in
-    let start = ap (λ (e : Dims). put_mid ((r.row + k) * e.cols + r.col) ((r.row + k) * e.cols + r.col + r.cols - ((r.row + k) * e.cols + r.col)) now row) same_dims ∙ ap (λ w. put_mid s w now row) width in
-    start ∙ same_tables (pos 0) (Put s r.cols now row) _ a.dims.rows cols (length-put s r.cols now row (omega arith) long_row ∙ long_now) (IsWhole-tabulate a.dims (written a after b)) (λ i j in_rows in_cols. writes_place a r b k now row w i j in_rows in_cols ∙ sym (element-with_window a after b i j in_rows in_cols))
+    let first : (r.row + k) * d.cols + r.col ≡ (r.row + k) * a.dims.cols + r.col = ap (λ (x : Dims). (r.row + k) * x.cols + r.col) same_dims in
+    pasted_step b (0, 0) (dims_of r) a (place_of r) k _ _ _ _ now row long within.1 first (omega arith) start (omega arith) (omega arith) (omega arith) (f ∙ ap (λ ys. take (k * r.cols + r.cols - k * r.cols) (drop (k * r.cols) ys)) same_elements) e
 
 -- a list lent whole and written back
 pub written_back : (a : Array) (r : Rect) (b : Array) (xs : List ℤ) (k : ℕ) → IsWhole a → k ≡ r.rows → xs ≡ (with_window a (record r { rows = k }) b).elements → array a.dims (take (length a.elements) (xs ++ drop (length xs) a.elements)) ≡ with_window a r b

@@ -1,5 +1,6 @@
 -- Intervals of indices, and how items are split into parts, one after another.
 use Rattle.std.specs.Prelude.{ℕ, zero, suc, ◌+◌, ◌-◌, ◌/◌, ◌%◌, ◌<◌, ◌≤◌, min, max, nat_lt, if◌then◌else◌}
+use Rattle.std.specs.List.{count_by, range_with_len, sum_by}
 use Rattle.sj_plan.specs.declared.interval.Interval.{Interval}
 
 -- x is an index of the interval
@@ -24,3 +25,11 @@ abbrev pub shared : Interval → Interval → Interval
 shared a b =
     let first = max a.first b.first in
     record { first = first; len = min (a.first + a.len) (b.first + b.len) - first }
+
+-- how many of p parts of n items share an index with an interval
+abbrev pub meeting : ℕ → ℕ → Interval → ℕ
+meeting n p v = count_by (λ k. nat_lt 0 (shared (part n p k) v).len) (range_with_len 0 p)
+
+-- how many pairs of one of p parts and one of q parts share an index
+abbrev pub meetings : ℕ → ℕ → ℕ → ℕ
+meetings n p q = sum_by (λ k. meeting n p (part n q k)) (range_with_len 0 q)

@@ -1,5 +1,5 @@
 -- A rectangle of an array, read and written.
-use Rattle.std.specs.Prelude.{◌≡◌, List, length}
+use Rattle.std.specs.Prelude.{◌≡◌, All, IsPermutation, List, length, map}
 use Rattle.std.specs.List.{fold}
 use Rattle.sj_base.specs.declared.tile.Dims.{Dims}
 use Rattle.sj_base.specs.Array.{Array, area}
@@ -15,12 +15,16 @@ window a r = window_at a (place_of r) (dims_of r)
 abbrev pub with_window : Array → Rect → Array → Array
 with_window a r b = pasted b (0, 0) (dims_of r) a (place_of r)
 
+-- a with arrays put into their rectangles, one after another
+abbrev pub gathered : Array → List (Rect × Array) → Array
+gathered a parts = fold (λ b part. with_window b part.0 part.1) a parts
+
 -- the array has as many elements as its dimensions say
 abbrev pub IsWhole : Array → Type 0
 IsWhole a = length a.elements ≡ area a.dims
 
--- the windows of these rectangles, put back one after another over any array of the dimensions,
--- make the array that they were taken from
+-- the windows of these rectangles, put back in any order over any array of the dimensions, make the array that they were
+-- taken from
 abbrev pub Reassemble : Dims → List Rect → Type 0
 Reassemble d rects =
-    (a blank : Array) → a.dims ≡ d → IsWhole a → blank.dims ≡ d → IsWhole blank → fold (λ b r. with_window b r (window a r)) blank rects ≡ a
+    (a blank : Array) (parts : List (Rect × Array)) → a.dims ≡ d → IsWhole a → blank.dims ≡ d → IsWhole blank → IsPermutation rects (map (λ part. part.0) parts) → All (λ part. part.1 ≡ window a part.0) parts → gathered blank parts ≡ a

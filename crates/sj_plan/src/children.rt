@@ -1,9 +1,10 @@
 //! The children of a partition plan.
 
-ghost use Rattle.std.specs.Prelude.{◌≡◌, ◌<◌, ◌++◌, ℕ, map, count_by, IfOk, OnOk};
+ghost use Rattle.std.specs.Prelude.{◌≡◌, ◌<◌, ◌++◌, map, IfOk, OnOk};
 ghost use Rattle.std.specs.List.{range_with_len};
 ghost use Rattle.sj_plan.specs.Parts.{Fits};
-ghost use Rattle.sj_plan.specs.Rect.{IsOnlyChild, Within, child, children_of, holds};
+ghost use Rattle.sj_plan.specs.Pieces.{AreInOrder, IsTiling};
+ghost use Rattle.sj_plan.specs.Rect.{IsOnlyChild, Within, child, children_of};
 ghost use Rattle.sj_plan.specs.Window.{Reassemble};
 
 use crate::interval::{part, part_holding};
@@ -53,10 +54,12 @@ pub fn children(alloc: Global, dims: Dims, parts: Parts) -> Result<Sequence<Rect
     ensures children { IfOk result (λ rects. rects ≡ children_of dims parts) }
 
     // Every element lies in exactly one child.
-    ensures tile { IfOk result (λ rects. (row col : ℕ) → row < dims.rows → col < dims.cols →
-        count_by (λ r. holds r row col) rects ≡ 1) }
+    ensures tile { IfOk result (IsTiling dims) }
 
-    // What `split` gives of them, put back by `gather`, is the array again.
+    // Each ends above or left of where the later ones begin.
+    ensures order { IfOk result AreInOrder }
+
+    // What `split` gives of them, put back by `gather` in any order, is the array again.
     ensures reassemble { IfOk result (Reassemble dims) }
 {
     let mut rects = Vec::with_capacity(alloc, parts.r as usize * parts.c as usize)?;

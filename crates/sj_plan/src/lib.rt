@@ -4,6 +4,7 @@
 #![tactic(auto)]
 
 pub mod children;
+pub mod count;
 pub mod interval;
 pub mod parts;
 pub mod paste;

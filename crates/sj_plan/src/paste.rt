@@ -3,9 +3,9 @@
 ghost use Rattle.std.specs.Prelude.{◌≡◌, ◌<◌, ◌++◌, ◌↔◌, ℕ, All, Any, map, IfOk, OnOk};
 ghost use Rattle.std.specs.List.{filter, flat_map, range_with_len};
 ghost use Rattle.sj_plan.specs.Interval.{part, shared};
-ghost use Rattle.sj_plan.specs.Parts.{Fits, IsPlace, places};
+ghost use Rattle.sj_plan.specs.Parts.{Fits, IsPlace};
 ghost use Rattle.sj_plan.specs.Rect.{Overlap, child};
-ghost use Rattle.sj_plan.specs.Paste.{IsBetween, Joins, Repartition, overlaps, paste_at, pastes_of};
+ghost use Rattle.sj_plan.specs.Paste.{BeginEachOnce, IsBetween, Joins, Repartition, is_first, overlaps, paste_at, pastes_of, pastes_to};
 
 use crate::children::rect;
 use crate::interval::{part, parts_overlapping};
@@ -29,6 +29,16 @@ pub struct Paste {
     pub cols: u32,
 }
 
+impl Paste {
+    /// Whether it is the first paste to its new child, of which nothing is there yet: it writes the child (W), and the later
+    /// ones read and write it (RW). Constant time.
+    pub fn is_first(&self) -> bool
+        ensures { result ≡ is_first self.now }
+    {
+        self.at_to.0 == 0 && self.at_to.1 == 0
+    }
+}
+
 /// The pastes that turn the children of the old plan into those of the new one: one for each pair
 /// that overlaps, by new child, then old child, row by row. Linear in their number.
 pub fn pastes(
@@ -45,6 +55,9 @@ pub fn pastes(
     // There is one exactly for those pairs of children that have an element in common.
     ensures exactly { IfOk result (λ pastes. (from to : ℕ × ℕ) → IsPlace old from → IsPlace new to →
         (Any (Joins from to) pastes ↔ Overlap (child dims old from) (child dims new to))) }
+
+    // Of the pastes to a new child the first has its first element, and no other has.
+    ensures begin { IfOk result (BeginEachOnce new) }
 
     // Applied in order, they make the new plan's children of any array from the old plan's.
     ensures repartition { IfOk result (Repartition dims old new) }
@@ -67,9 +80,8 @@ fn push_to_row(
     requires old_plan { Fits old dims }
     requires new_plan { Fits new dims }
     requires row_part { i < new.r }
-    ensures { OnOk result (found.new.items ≡ found.old.items ++ filter overlaps
-        (flat_map (λ j. map (λ from. paste_at dims old new from (i, j)) (places old))
-        (range_with_len 0 new.c))) }
+    ensures { OnOk result (found.new.items ≡ found.old.items ++ flat_map
+        (λ j. pastes_to dims old new (i, j)) (range_with_len 0 new.c)) }
 {
     for j in 0..new.c {
         push_to(found, dims, old, new, (i, j))?;
@@ -88,8 +100,7 @@ fn push_to(
     requires old_plan { Fits old dims }
     requires new_plan { Fits new dims }
     requires place { IsPlace new to }
-    ensures { OnOk result (found.new.items ≡ found.old.items
-        ++ filter overlaps (map (λ from. paste_at dims old new from to) (places old))) }
+    ensures { OnOk result (found.new.items ≡ found.old.items ++ pastes_to dims old new to) }
 {
     let rows = part(dims.rows, new.r, to.0);
     let overlapping = parts_overlapping(dims.rows, old.r, rows);

@@ -3,6 +3,7 @@
 ghost use Rattle.std.specs.Prelude.{◌≡◌};
 
 use crate::children::{child_holding, children};
+use crate::count::count_pastes;
 use crate::interval::{Interval, part, parts_overlapping};
 use crate::parts::Parts;
 use crate::paste::{Paste, pastes};
@@ -121,6 +122,13 @@ fn boundaries_that_do_not_meet_give_a_paste_for_each_overlap(rt: HostRuntime) ->
         paste((1, 1), (2, 0), (1, 0), (0, 2), 1, 1),
     ];
     assert_eq!(rt; found.items(), wanted.as_slice());
+    assert_eq!(rt; count_pastes(dims, old, new), 8);
+    let begun = found
+        .items()
+        .iter()
+        .filter(|paste| paste.is_first())
+        .count();
+    assert_eq!(rt; begun, 3);
     Ok(())
 }
 

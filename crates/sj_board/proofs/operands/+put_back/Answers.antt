@@ -3,7 +3,7 @@ use Rattle.std.proofs.lemmas.List.{map-set, length-set, length_push}
 use Rattle.sj_base.specs.Array.{Array}
 use Rattle.sj_base.specs.declared.mode.Access.{Access}
 use Rattle.sj_codelet.specs.Frame.{Slot, shared, arrays}
-use Rattle.sj_core.specs.Program.{is_written}
+use Rattle.sj_base.specs.Mode.{is_written}
 use Rattle.sj_board.specs.Tiles.{arrays_in, put_all, outputs_among}
 use Rattle.sj_board.proofs.Lists.{All-front, counted-before, put_back-skips, put_back-puts}
 use Rattle.sj_board.proofs.operands.+put_back.Goals as goal

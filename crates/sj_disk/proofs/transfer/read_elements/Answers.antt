@@ -16,8 +16,7 @@ loop-start-preserved g c =
     let inv = c.loop-start.invariant in
     let at : ℕ = c.args.at + 8 * c.loop-start.start in
     let e = ends-piece c.loop-start.elements c.read_piece.new.elements c.loop-start.start c.min-stop.result (omega arith) (omega arith) c.read_piece.auto.elements in
-    let here = subst (λ (h : Option (List ℕ)). GivesHeld h at (element_bytes c.read_piece.new.elements)) inv.1.told_bytes_stay c.in_ok-read_piece.ensures.gives in
-    (
+    let here = subst (λ (h : Option (List ℕ)). GivesHeld h at (element_bytes c.read_piece.new.elements)) inv.1.told_bytes_stay c.in_ok-read_piece.ensures.gives in (
       reaches-piece c.loop-start.elements c.read_piece.new.elements c.loop-start.start c.min-stop.result _ inv.0 e,
       looks-then _ _ _ _ _ _ c.args.disk.now c.loop-start.disk c.read_piece.new.disk inv.1 c.in_ok-read_piece.ensures.looks,
       gives-piece (g.D.Disk.held c.args.disk.now) c.args.at at c.loop-start.elements c.read_piece.new.elements c.loop-start.start c.min-stop.result _ inv.0 e refl inv.2 here,

@@ -1,21 +1,16 @@
-use Rattle.std.proofs.Common.{◌≡◌, ◌+◌, ◌-◌, ◌*◌, ◌≤◌, length, take, drop, refl, ap, ◌∙◌, arith}
-use Rattle.std.proofs.lemmas.Grind.{rows}
-use Rattle.sj_minplus.proofs.Matrices.{length_slice, at_slice}
-use Rattle.sj_minplus.proofs.Parts.{column_rows}
+use Rattle.std.proofs.Common.{◌≡◌, refl, ap, ◌∙◌, arith}
 use Rattle.sj_codelet.specs.Equations.{after_turns}
 use Rattle.sj_minplus.specs.Matrix.{matrix}
 use Rattle.sj_minplus.specs.Turns.{column_turn}
 use Rattle.sj_minplus.proofs.Turns.{turn_more}
+use Rattle.sj_minplus.proofs.Naturals.{column_natural}
 use Rattle.sj_minplus.proofs.ways.fwcol.Goals as goal
 
+pub turn_column-requires-clause-natural : goal.turn_column-requires-clause-natural
+turn_column-requires-clause-natural c = λ s. column_natural (matrix c.args.n c.args.n c.args.d.now) (c.none_negative_of-natural.ensures.first s) c.loop-k.k c.args.m c.args.n c.args.a.now c.loop-k.a c.loop-k.invariant (c.none_negative_of-natural.ensures.second s)
+
 pub loop-k-preserved : goal.loop-k-preserved
-loop-k-preserved c =
-    let n = c.args.n in
-    let k = c.loop-k.k in
-    let fits : k * n + n ≤ length c.args.d.now = grind (arith, rows) in
-    let wide : length (take (k * n + n - k * n) (drop (k * n) c.args.d.now)) ≡ n = length_slice (k * n) (k * n + n) n c.args.d.now (omega arith) fits in
-    let turn = column_rows c.args.m n k c.args.d.now c.loop-k.a (take (k * n + n - k * n) (drop (k * n) c.args.d.now)) c.relax_rows.new.a (omega arith) wide (λ j l. at_slice (k * n) (k * n + n - k * n) c.args.d.now j (omega arith)) c.relax_rows.ensures in
-    turn_more (column_turn (matrix n n c.args.d.now)) (λ k x. refl) k c.args.m n c.args.a.now c.loop-k.a c.relax_rows.new.a c.loop-k.invariant turn
+loop-k-preserved c = turn_more (column_turn (matrix c.args.n c.args.n c.args.d.now)) (λ k x. refl) c.loop-k.k c.args.m c.args.n c.args.a.now c.loop-k.a c.turn_column.new.a c.loop-k.invariant c.turn_column.ensures
 
 pub returns : goal.returns
 returns c =

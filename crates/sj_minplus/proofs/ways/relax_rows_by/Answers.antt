@@ -13,7 +13,7 @@ loop-i-preserved c =
     let i = c.loop-i.i in
     let fits : i * n + n ≤ length c.loop-i.a = grind (arith, rows) in
     let long : length (take (i * n + n - i * n) (drop (i * n) c.loop-i.a)) ≡ n = length_slice (i * n) (i * n + n) n c.loop-i.a (omega arith) fits in
-    rows_more (λ i j. int_min (at c.args.a.now (i * length c.args.through.now + j)) (plus (at c.args.d.now ((c.args.first + i) * c.args.n + c.args.k)) (at c.args.through.now j))) n i (i * n) (i * n + n - i * n) c.args.a.now c.loop-i.a c.relax.new.row refl (omega arith) fits (c.relax.auto.row ∙ long) (λ j below. let read : at (take (i * n + n - i * n) (drop (i * n) c.loop-i.a)) j ≡ at c.args.a.now (i * n + j) = at_slice (i * n) (i * n + n - i * n) c.loop-i.a j (omega arith) ∙ row_rest _ _ _ _ _ c.loop-i.invariant j in grind (arith, to_z-of_z, c.relax.ensures j)) c.loop-i.invariant
+    rows_more (λ i j. int_min (at c.args.a.now (i * length c.args.through.now + j)) (plus (at c.args.d.now ((c.args.first + i) * c.args.n + c.args.k)) (at c.args.through.now j))) n i (i * n) (i * n + n - i * n) c.args.a.now c.loop-i.a c.relax_either.new.row refl (omega arith) fits (c.relax_either.auto.row ∙ long) (λ j below. let read : at (take (i * n + n - i * n) (drop (i * n) c.loop-i.a)) j ≡ at c.args.a.now (i * n + j) = at_slice (i * n) (i * n + n - i * n) c.loop-i.a j (omega arith) ∙ row_rest _ _ _ _ _ c.loop-i.invariant j in grind (arith, to_z-of_z, c.relax_either.ensures j)) c.loop-i.invariant
 
 pub returns : goal.returns
 returns c = λ i j above inside. row_done _ _ _ _ _ c.loop-i.invariant i j (omega arith) inside

@@ -1,0 +1,277 @@
+-- A step in which a claimed or running task goes on, or a replica moves: nothing more leaves or comes. What it owes, and that it
+-- keeps what tasks, pins, bytes and workers ask of a coherent state.
+use Rattle.std.proofs.Common.{Bool, List, Some, [], arith, false, inl, inr, sym, true, ◌||◌, ◌∙◌, ◌≡◌, ◌≢◌, ◌≤◌, ◌⊎◌, ap, subst, get_or, length, not, ℕ, ◌<◌}
+use Rattle.std.proofs.lemmas.Bool.{false_from_ne_true, false≢true}
+use Rattle.std.specs.Prelude.{if◌then◌else◌, All, nat_eq}
+use Rattle.sj_core.proofs.Words.{Array, AtNode, Cell, Claimed, Machine, Node, OnDisk, Place, Program, Progress, Running, State, Task, Transfer, Valid, Worker, cells_of, dims_of, fresh_cells, has_cell, is_claimed_by, is_coming_by, is_entry, is_leaving, is_leaving_by, is_task_of, is_valid, moves, node_of, order, pins, progress, replica, scratch, transfer, victims_of, written_cells, zeros, Coming, DiskNo, Invalid, Leaving, worker_of}
+use Rattle.sj_core.specs.Coherent.{Coherent, CopiesAgree, IsOwnedBy, IsStateOf, IsTransferTo, NodesSuffice, OrderIsKept, PinsHold, TasksHaveCells, TransfersAreSound, WorkersAreSound, WritersOwn, WritesAreCounted, content, written_content, HasBlocks, HasWorkers, is_begun}
+use Rattle.sj_core.specs.Laws.{IsSound}
+use Rattle.sj_core.specs.Step.{leave, same_place}
+use Rattle.sj_core.proofs.Advancing.{Advances, claimed_by-is, claimed_by-task_of, same_task, task_of-worker}
+use Rattle.sj_core.proofs.Bytes.{fewer-entries, fewer-leaving}
+use Rattle.sj_core.proofs.Replicas.{leaving-by_some, leaving_by-leaves, same_worker-refl}
+use Rattle.std.proofs.lemmas.Bool.Decides.{Decides-eqb}
+use Rattle.sj_core.specs.Table.{renewed}
+use Rattle.sj_core.proofs.Tables.{length-renewed, renewed-at}
+
+-- ---- parts
+
+-- what holds of each row of a table holds where each row was renewed so as to keep it
+pub All-renewed : {X : Type 0} (P : X → Type 0) (f : ℕ → X → X) (xs : List X) → ((i : ℕ) (x : X) → P x → P (f i x)) → All P xs → All P (renewed f xs)
+All-renewed P f xs keeps all i d inside =
+    let within : i < length xs = omega (arith, inside, length-renewed f xs) in
+    subst P (sym (renewed-at f xs i d within)) (keeps i (get_or xs i d) (all i d within))
+
+-- where a task advances to a worker of the program, each begun task still has one
+pub HasWorkers-kept : (p : Program) (s s' : State) (t : Task) (old new : Progress) → Advances s s' t old new → (worker_of new).0 < p.workers → HasWorkers p s → HasWorkers p s'
+HasWorkers-kept p s s' t old new a staffed before = record {
+  staffed = λ u begun. elim (same_task u t) [
+    | inl e ↦ subst (λ (k : Task). (worker_of (progress s' k)).0 < p.workers) (sym e) (subst (λ (x : Progress). (worker_of x).0 < p.workers) (sym a.is) staffed)
+    | inr d ↦ subst (λ (x : Progress). (worker_of x).0 < p.workers) (sym (a.others u d)) (before.staffed u (sym (ap is_begun (a.others u d)) ∙ begun))
+  ];
+}
+
+-- where each replica on a disk is as it was or invalid, and transfers are as they were, blocks are where they ought to be
+pub HasBlocks-kept : (p : Program) (m : Machine) (s s' : State) → ((c : Cell) (d : DiskNo) → (replica s' c (OnDisk d) ≡ Invalid) ⊎ (replica s' c (OnDisk d) ≡ replica s c (OnDisk d))) → ((v : Worker) → transfer s' v ≡ transfer s v) → HasBlocks p m s → HasBlocks p m s'
+HasBlocks-kept p m s s' disks moves before = record {
+  resting = λ c d v a. elim (disks c d) [
+    | inl none ↦ (λ e. (let f : Invalid ≡ Coming v = sym none ∙ e in cc), λ e. (let f : Invalid ≡ Leaving v a = sym none ∙ e in cc))
+    | inr same ↦ (λ e. (before.resting c d v a).0 (sym same ∙ e), λ e. (before.resting c d v a).1 (sym same ∙ e))
+  ];
+  home = λ c d valid. elim (disks c d) [
+    | inl none ↦ absurd (false≢true (sym (ap is_valid none) ∙ valid))
+    | inr same ↦ before.home c d (sym (ap is_valid same) ∙ valid)
+  ];
+  aimed = λ v x d under_way e. before.aimed v x d (sym (moves v) ∙ under_way) e;
+}
+
+pub place_differs : (k n : Node) → k ≢ n → not (same_place (AtNode k) (AtNode n)) ≡ true
+place_differs k n d = ap not (false_from_ne_true (nat_eq k.0 n.0) (λ e. d (ap (λ (i : ℕ). let j : Node = record { 0 = i } in j) ((Decides-eqb k.0 n.0).0 e))))
+
+pub places_differ : (k n : Node) → not (same_place (AtNode k) (AtNode n)) ≡ true → k ≢ n
+places_differ k n h e = false≢true (sym (ap not ((Decides-eqb k.0 n.0).1 (ap (λ (j : Node). j.0) e))) ∙ h)
+
+-- ---- the step
+
+-- what a step of the task t of the worker w owes, in which the task goes from old to new
+pub record Changes (p : Program) (m : Machine) (s s' : State) (t : Task) (old new : Progress) (w : Worker) : Type 0 where
+  pub advance : Advances s s' t old new
+  pub mine : is_task_of w old ≡ true
+  pub still_mine : (v : Worker) → is_task_of v new ≡ true → v ≡ w
+  pub state : IsStateOf p m s'
+  -- a worker keeps its pins and scratch, or it was w, which has no task any more
+  pub rows : (v : Worker) → ((pins s' v ≡ pins s v) × (scratch s' v ≡ scratch s v) × (v ≡ w → is_task_of w new ≡ true)) ⊎ ((v ≡ w) × (pins s' v ≡ []) × (scratch s' v ≡ 0) × (is_task_of w new ≡ false))
+  pub victims : (v : Worker) → victims_of s' v ≡ victims_of s v
+  -- no more entries; nothing more leaves or comes; w's claim has what it had only if it is still a claim
+  pub entries : (c : Cell) (k : Node) → is_entry (replica s' c (AtNode k)) ≡ true → is_entry (replica s c (AtNode k)) ≡ true
+  pub leaves : (v : Worker) (c : Cell) (q : Place) → is_leaving_by v (replica s' c q) ≡ true → is_leaving_by v (replica s c q) ≡ true
+  pub comes : (v : Worker) (c : Cell) (k : Node) → is_coming_by v (replica s' c (AtNode k)) ≡ true → is_coming_by v (replica s c (AtNode k)) ≡ true
+  pub still_comes : (v : Worker) (c d : Cell) (k : Node) → is_leaving_by v (replica s' d (AtNode k)) ≡ true → is_coming_by v (replica s c (AtNode k)) ≡ true → is_coming_by v (replica s' c (AtNode k)) ≡ true
+  pub moves_on : (v : Worker) (x : Transfer) → transfer s' v ≡ Some x → (u : Task) × (is_claimed_by v (progress s u) ≡ true)
+  pub claims_on : old ≡ Claimed w → (((c : Cell) (k : Node) → is_leaving_by w (replica s' c (AtNode k)) ≡ false) × ((c : Cell) (k : Node) → is_coming_by w (replica s' c (AtNode k)) ≡ false) × ((x : Transfer) → transfer s' w ≡ Some x → ⊥)) ⊎ (new ≡ Claimed w)
+  -- other tasks' cells stay, its own are there
+  pub stays : (u : Task) (v : Worker) (c : Cell) → u ≢ t → is_task_of v (progress s u) ≡ true → has_cell (cells_of p u v) c ≡ true → (is_entry (replica s c (AtNode (node_of m v))) ≡ true → is_entry (replica s' c (AtNode (node_of m v))) ≡ true) × (is_valid (replica s c (AtNode (node_of m v))) ≡ true → is_valid (replica s' c (AtNode (node_of m v))) ≡ true)
+  pub claimed : (c : Cell) → new ≡ Claimed w → has_cell (cells_of p t w) c ≡ true → is_entry (replica s' c (AtNode (node_of m w))) ≡ true
+  pub running : (c : Cell) → new ≡ Running w → has_cell (cells_of p t w) c ≡ true → is_valid (replica s' c (AtNode (node_of m w))) ≡ true
+  pub transfers : TransfersAreSound m s'
+  pub order : OrderIsKept p s'
+  pub counts : WritesAreCounted p s'
+
+module _ (p : Program) (m : Machine) (s : State) (h : IsSound p m s) (s' : State) (t : Task) (old new : Progress) (w : Worker) (change : Changes p m s s' t old new w) where
+  -- a task of a worker after the step was its task before; one of before still is, but for t
+  was_task : (v : Worker) (u : Task) → is_task_of v (progress s' u) ≡ true → is_task_of v (progress s u) ≡ true
+  was_task v u has = elim (same_task u t) [
+    | inr d ↦ sym (ap (is_task_of v) (change.advance.others u d)) ∙ has
+    | inl e ↦
+        let is : v ≡ w = change.still_mine v (sym (ap (λ (k : Task). is_task_of v (progress s' k)) e ∙ ap (is_task_of v) change.advance.is) ∙ has) in
+        ap (λ (x : Worker). is_task_of x (progress s u)) is ∙ ap (λ (k : Task). is_task_of w (progress s k)) e ∙ ap (is_task_of w) change.advance.was ∙ change.mine
+  ]
+
+  its_worker : (v : Worker) → is_task_of v (progress s t) ≡ true → v ≡ w
+  its_worker v has = sym (task_of-worker v (progress s t) has) ∙ task_of-worker w (progress s t) (ap (is_task_of w) change.advance.was ∙ change.mine)
+
+  others-task : (u : Task) (v : Worker) → u ≢ t → is_task_of v (progress s u) ≡ true → v ≢ w
+  others-task u v d has e = d (h.coherent.workers.one_task u t w (ap (λ (x : Worker). is_task_of x (progress s u)) (sym e) ∙ has) (ap (is_task_of w) change.advance.was ∙ change.mine))
+
+  pub Changes-pins_other : (v : Worker) → v ≢ w → pins s' v ≡ pins s v
+  Changes-pins_other v d = elim (change.rows v) [ inl (same, scratch, has) ↦ same | inr (e, none, scratch, has) ↦ absurd (d e) ]
+
+  -- pins are where they were
+  was_pinned : (v : Worker) (c : Cell) → has_cell (pins s' v) c ≡ true → has_cell (pins s v) c ≡ true
+  was_pinned v c pin = elim (change.rows v) [
+    | inl (same, scratch, has) ↦ ap (λ (cs : List Cell). has_cell cs c) (sym same) ∙ pin
+    | inr (e, none, scratch, has) ↦ absurd (false≢true (ap (λ (cs : List Cell). has_cell cs c) (sym none) ∙ pin))
+  ]
+
+  -- and stay there while the worker has a task
+  still_pinned : (v : Worker) (u : Task) (c : Cell) → is_task_of v (progress s' u) ≡ true → has_cell (pins s v) c ≡ true → has_cell (pins s' v) c ≡ true
+  still_pinned v u c has pin = elim (change.rows v) [
+    | inl (same, scratch, k) ↦ ap (λ (cs : List Cell). has_cell cs c) same ∙ pin
+    | inr (e, none, scratch, idle) ↦ absurd (elim (same_task u t) [
+      | inr d ↦ others-task u v d (was_task v u has) e
+      | inl f ↦ false≢true (sym idle ∙ ap (λ (x : Worker). is_task_of x new) (sym e) ∙ sym (ap (λ (k : Task). is_task_of v (progress s' k)) f ∙ ap (is_task_of v) change.advance.is) ∙ has)
+    ])
+  ]
+
+  -- a claim is still one, where w's that goes on isn't one that still has something to do
+  still_claims : (v : Worker) (u : Task) → is_claimed_by v (progress s u) ≡ true → (v ≡ w → old ≡ Claimed w → new ≡ Claimed w) → is_claimed_by v (progress s' u) ≡ true
+  still_claims v u claims on = elim (same_task u t) [
+    | inr d ↦ ap (is_claimed_by v) (change.advance.others u d) ∙ claims
+    | inl e ↦
+        let here : is_claimed_by v old ≡ true = sym (ap (λ (k : Task). is_claimed_by v (progress s k)) e ∙ ap (is_claimed_by v) change.advance.was) ∙ claims in
+        let is : v ≡ w = its_worker v (ap (is_task_of v) change.advance.was ∙ claimed_by-task_of v old here) in
+        ap (λ (k : Task). is_claimed_by v (progress s' k)) e ∙ ap (is_claimed_by v) (change.advance.is ∙ on is (claimed_by-is w old (ap (λ (x : Worker). is_claimed_by x old) (sym is) ∙ here))) ∙ ap (λ (x : Worker). is_claimed_by x (Claimed w)) is ∙ same_worker-refl w
+  ]
+
+  leaving_on : (c : Cell) (k : Node) → is_leaving_by w (replica s' c (AtNode k)) ≡ true → old ≡ Claimed w → new ≡ Claimed w
+  leaving_on c k leaving claimed = elim (change.claims_on claimed) [ inr on ↦ on | inl (none, come, move) ↦ absurd (false≢true (sym (none c k) ∙ leaving)) ]
+
+  coming_on : (c : Cell) (k : Node) → is_coming_by w (replica s' c (AtNode k)) ≡ true → old ≡ Claimed w → new ≡ Claimed w
+  coming_on c k coming claimed = elim (change.claims_on claimed) [ inr on ↦ on | inl (leave, none, move) ↦ absurd (false≢true (sym (none c k) ∙ coming)) ]
+
+  pub Changes-cells : TasksHaveCells p m s'
+  Changes-cells =
+      let before = h.coherent.cells in
+      record {
+        running = λ u v c runs has. elim (same_task u t) [
+          | inr d ↦
+              let was : progress s u ≡ Running v = sym (change.advance.others u d) ∙ runs in
+              (change.stays u v c d (ap (is_task_of v) was ∙ same_worker-refl v) has).1 (before.running u v c was has)
+          | inl e ↦
+              let now : new ≡ Running v = sym (ap (λ (k : Task). progress s' k) e ∙ change.advance.is) ∙ runs in
+              let is : v ≡ w = change.still_mine v (ap (is_task_of v) now ∙ same_worker-refl v) in
+              ap (λ (x : Worker). is_valid (replica s' c (AtNode (node_of m x)))) is ∙ change.running c (now ∙ ap (λ (x : Worker). Running x) is) (ap (λ (x : Worker). has_cell (cells_of p t x) c) (sym is) ∙ ap (λ (k : Task). has_cell (cells_of p k v) c) (sym e) ∙ has)
+        ];
+        claimed = λ u v c claims has. elim (same_task u t) [
+          | inr d ↦
+              let was : progress s u ≡ Claimed v = sym (change.advance.others u d) ∙ claims in
+              (change.stays u v c d (ap (is_task_of v) was ∙ ap (λ b. b || false) (same_worker-refl v)) has).0 (before.claimed u v c was has)
+          | inl e ↦
+              let now : new ≡ Claimed v = sym (ap (λ (k : Task). progress s' k) e ∙ change.advance.is) ∙ claims in
+              let is : v ≡ w = change.still_mine v (ap (is_task_of v) now ∙ ap (λ b. b || false) (same_worker-refl v)) in
+              ap (λ (x : Worker). is_entry (replica s' c (AtNode (node_of m x)))) is ∙ change.claimed c (now ∙ ap (λ (x : Worker). Claimed x) is) (ap (λ (x : Worker). has_cell (cells_of p t x) c) (sym is) ∙ ap (λ (k : Task). has_cell (cells_of p k v) c) (sym e) ∙ has)
+        ];
+        pinned = λ u v c has cell. still_pinned v u c has (before.pinned u v c (was_task v u has) cell);
+      }
+
+  pub Changes-pins : PinsHold p m s'
+  Changes-pins =
+      let before = h.coherent.pins in
+      record {
+        stays = λ v c pin. false_from_ne_true (is_leaving (replica s' c (AtNode (node_of m v)))) (λ leaves.
+            (let by = leaving-by_some (replica s' c (AtNode (node_of m v))) leaves in
+            false≢true (sym (before.stays v c (was_pinned v c pin)) ∙ leaving_by-leaves by.0 (replica s c (AtNode (node_of m v))) (change.leaves by.0 c (AtNode (node_of m v)) by.1))));
+        own = λ v c pin. (let held = before.own v c (was_pinned v c pin) in record {
+          task = held.task;
+          cell = held.cell;
+          has = elim (same_task held.task t) [
+            | inr d ↦ ap (is_task_of v) (change.advance.others held.task d) ∙ held.has
+            | inl e ↦ elim (change.rows v) [
+              | inr (is, none, scratch, idle) ↦ absurd (false≢true (ap (λ (cs : List Cell). has_cell cs c) (sym none) ∙ pin))
+              | inl (same, scratch, has) ↦
+                  let is : v ≡ w = its_worker v (ap (λ (k : Task). is_task_of v (progress s k)) (sym e) ∙ held.has) in
+                  ap (λ (k : Task). is_task_of v (progress s' k)) e ∙ ap (is_task_of v) change.advance.is ∙ ap (λ (x : Worker). is_task_of x new) is ∙ has is
+            ]
+          ];
+        });
+        coming_here = λ v c k coming. before.coming_here v c k (change.comes v c k coming);
+        coming_claimed = λ v c k coming.
+            (let claimed = before.coming_claimed v c k (change.comes v c k coming) in
+            record { task = claimed.task; cell = claimed.cell; claimed = claimed_by-is v (progress s' claimed.task) (still_claims v claimed.task (ap (is_claimed_by v) claimed.claimed ∙ same_worker-refl v) (λ is. coming_on c k (ap (λ (x : Worker). is_coming_by x (replica s' c (AtNode k))) (sym is) ∙ coming))) });
+        coming_pinned = λ v c k coming.
+            (let claimed = before.coming_claimed v c k (change.comes v c k coming) in
+            let claims = still_claims v claimed.task (ap (is_claimed_by v) claimed.claimed ∙ same_worker-refl v) (λ is. coming_on c k (ap (λ (x : Worker). is_coming_by x (replica s' c (AtNode k))) (sym is) ∙ coming)) in
+            still_pinned v claimed.task c (claimed_by-task_of v (progress s' claimed.task) claims) (before.coming_pinned v c k (change.comes v c k coming)));
+      }
+
+  pub Changes-bytes : NodesSuffice p m s'
+  Changes-bytes =
+      let fewer : (k : Node) (c : Cell) → has_cell (order s' k) c ≡ true → has_cell (order s k) c ≡ true = λ k c has. h.coherent.state.entries.entries k c ∙ change.entries c k (sym (change.state.entries.entries k c) ∙ has) in
+      let scratches : (v : Worker) → scratch s' v ≤ scratch s v = λ v. elim (change.rows v) [ inl (pins, same, has) ↦ omega arith | inr (e, pins, none, has) ↦ omega arith ] in
+      record {
+        entries = λ k. (let less = fewer-entries p m s s' h.coherent.state change.state k (fewer k) (λ v here. scratches v) in let enough = h.coherent.bytes.entries k in omega arith);
+        leaving = λ k v d leaving. (let less = fewer-leaving p m s s' h.coherent.state change.state k (fewer k) (λ v here. scratches v) v (λ c. change.leaves v c (AtNode k)) (λ c. change.still_comes v c d k leaving) in let enough = h.coherent.bytes.leaving k v d (change.leaves v d (AtNode k) leaving) in omega arith);
+      }
+
+  pub Changes-workers : WorkersAreSound p m s'
+  Changes-workers =
+      let before = h.coherent.workers in
+      record {
+        evicted = λ v c k leaving.
+            (let was = before.evicted v c k (change.leaves v c (AtNode k) leaving) in
+            record { here = was.here; claims = (was.claims.0, still_claims v was.claims.0 was.claims.1 (λ is. leaving_on c k (ap (λ (x : Worker). is_leaving_by x (replica s' c (AtNode k))) (sym is) ∙ leaving))); victim = ap (λ (cs : List Cell). has_cell cs c) (change.victims v) ∙ was.victim });
+        one_evicts = λ u v c d k lu lv. before.one_evicts u v c d k (change.leaves u c (AtNode k) lu) (change.leaves v d (AtNode k) lv);
+        one_task = λ u v x hu hv. before.one_task u v x (was_task x u hu) (was_task x v hv);
+        moves_for_claim = λ v x under_way.
+            (let was = change.moves_on v x under_way in
+            (was.0, still_claims v was.0 was.1 (λ is claimed. elim (change.claims_on claimed) [ inr on ↦ on | inl (leave, come, none) ↦ absurd (none x (ap (transfer s') (sym is) ∙ under_way)) ])));
+        scratch = λ v. record {
+          own = λ u has. elim (change.rows v) [
+            | inl (pins, same, k) ↦ same ∙ (before.scratch v).own u (was_task v u has)
+            | inr (e, pins, none, idle) ↦ absurd (elim (same_task u t) [
+              | inr d ↦ others-task u v d (was_task v u has) e
+              | inl f ↦ false≢true (sym idle ∙ ap (λ (x : Worker). is_task_of x new) (sym e) ∙ sym (ap (λ (k : Task). is_task_of v (progress s' k)) f ∙ ap (is_task_of v) change.advance.is) ∙ has)
+            ])
+          ];
+          none = λ idle. elim (change.rows v) [
+            | inr (e, pins, none, k) ↦ none
+            | inl (pins, same, has) ↦ same ∙ (before.scratch v).none (λ u. false_from_ne_true (is_task_of v (progress s u)) (λ mine. elim (same_task u t) [
+              | inr d ↦ false≢true (sym (idle u) ∙ ap (is_task_of v) (change.advance.others u d) ∙ mine)
+              | inl f ↦
+                  let is : v ≡ w = its_worker v (ap (λ (k : Task). is_task_of v (progress s k)) (sym f) ∙ mine) in
+                  false≢true (sym (idle t) ∙ ap (is_task_of v) change.advance.is ∙ ap (λ (x : Worker). is_task_of x new) is ∙ has is)
+            ]))
+          ];
+        };
+      }
+
+  -- a writer's cells are its own, where another's are left alone, with their contents, and t's are its own
+  pub Changes-writers :
+      ((u : Task) (v : Worker) (c : Cell) → u ≢ t → progress s u ≡ Running v → has_cell (written_cells p u v) c ≡ true → ((q : Place) → replica s' c q ≡ replica s c q) × ((x : Worker) → moves s' x c ≡ false) × (content p s' c ≡ content p s c)) →
+      ((c : Cell) → new ≡ Running w → has_cell (written_cells p t w) c ≡ true → IsOwnedBy m s' c w (written_content p s' t w c)) → WritersOwn p m s'
+  Changes-writers alone own = record {
+    owned = λ u v c runs written. elim (same_task u t) [
+      | inl e ↦
+          let now : new ≡ Running v = sym (ap (λ (k : Task). progress s' k) e ∙ change.advance.is) ∙ runs in
+          let is : v ≡ w = change.still_mine v (ap (is_task_of v) now ∙ same_worker-refl v) in
+          subst (λ (k : Task). IsOwnedBy m s' c v (written_content p s' k v c)) (sym e) (subst (λ (x : Worker). IsOwnedBy m s' c x (written_content p s' t x c)) (sym is)
+          (own c (now ∙ ap (λ (x : Worker). Running x) is) (ap (λ (x : Worker). has_cell (written_cells p t x) c) (sym is) ∙ ap (λ (k : Task). has_cell (written_cells p k v) c) (sym e) ∙ written)))
+      | inr d ↦
+          let was : progress s u ≡ Running v = sym (change.advance.others u d) ∙ runs in
+          let before = h.coherent.writers.owned u v c was written in
+          let left = alone u v c d was written in
+          record {
+            valid = left.0 (AtNode (node_of m v)) ∙ before.valid ∙ ap (λ (a : Array). Valid (if has_cell (fresh_cells p u v) c then zeros (dims_of p c) else a)) (sym left.2);
+            only = λ q elsewhere. left.0 q ∙ before.only q elsewhere;
+            pinned = ap (λ (cs : List Cell). has_cell cs c) (Changes-pins_other v (others-task u v d (ap (is_task_of v) was ∙ same_worker-refl v))) ∙ before.pinned;
+            unmoved = left.1;
+          }
+    ];
+  }
+
+  pub Changes-coherent : WritersOwn p m s' → CopiesAgree p s' → Coherent p m s'
+  Changes-coherent writers copies = record {
+    state = change.state;
+    writers = writers;
+    copies = copies;
+    cells = Changes-cells;
+    pins = Changes-pins;
+    transfers = change.transfers;
+    bytes = Changes-bytes;
+    workers = Changes-workers;
+    order = change.order;
+    counts = change.counts;
+  }
+
+-- a step that leaves alone the cells that move, and the transfers, keeps transfers sound
+pub TransfersAreSound-spared : (p : Program) (m : Machine) (s s' : State) (touched : Cell → Bool) → ((c : Cell) (q : Place) → touched c ≡ false → replica s' c q ≡ replica s c q) → ((v : Worker) (c : Cell) (q : Place) → is_leaving_by v (replica s' c q) ≡ true → is_leaving_by v (replica s c q) ≡ true) →
+    ((v : Worker) → transfer s' v ≡ transfer s v) → ((v : Worker) (x : Transfer) → transfer s v ≡ Some x → touched x.cell ≡ false) → TransfersAreSound m s → TransfersAreSound m s'
+TransfersAreSound-spared p m s s' touched stays leaves same spared before = record {
+  source = λ v x now. (let was = sym (same v) ∙ now in ap is_valid (stays x.cell x.from (spared v x was)) ∙ before.source v x was);
+  target = λ v x now. (let was = sym (same v) ∙ now in to_place v x.cell x.from x.to (spared v x was) (before.target v x was));
+  apart = λ u v x y d e hu hv. before.apart u v x y d e (sym (same u) ∙ hu) (sym (same v) ∙ hv);
+}
+  where
+    to_place : (v : Worker) (c : Cell) (from to : Place) → touched c ≡ false → IsTransferTo m s v c from to → IsTransferTo m s' v c from to
+    to_place v c from (AtNode k) e target = (target.0, ap (is_coming_by v) (stays c (AtNode k) e) ∙ target.1, λ d q. false_from_ne_true (is_leaving_by v (replica s' d q)) (λ leaving. false≢true (sym (target.2 d q) ∙ leaves v d q leaving)))
+    to_place v c from (OnDisk d) e target = (ap (is_leaving_by v) (stays c from e) ∙ target.0, stays c (OnDisk d) e ∙ target.1)

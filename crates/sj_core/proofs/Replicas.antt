@@ -1,0 +1,63 @@
+-- What a test of one replica says of it.
+use Rattle.std.proofs.Common.{ap, false, inl, inr, refl, sym, true, ◌∙◌, ◌≡◌, ◌⊎◌}
+use Rattle.std.proofs.lemmas.Bool.{false≢true}
+use Rattle.std.proofs.lemmas.Bool.Decides.{Decides-eqb}
+use Rattle.sj_core.proofs.Words.{Array, Coming, Invalid, Leaving, Replica, Valid, Worker, is_coming_by, is_entry, is_leaving, is_leaving_by, is_valid, same_worker}
+use Rattle.sj_core.specs.Step.{claimant_of}
+
+pub same_worker-is : (v w : Worker) → same_worker v w ≡ true → v ≡ w
+same_worker-is v w h = ap (λ i. let j : Worker = record { 0 = i } in j) ((Decides-eqb v.0 w.0).0 h)
+
+pub same_worker-refl : (w : Worker) → same_worker w w ≡ true
+same_worker-refl w = (Decides-eqb w.0 w.0).1 refl
+
+pub coming_by-is : (w : Worker) (r : Replica) → is_coming_by w r ≡ true → r ≡ Coming w
+coming_by-is w Invalid h = absurd (false≢true h)
+coming_by-is w (Coming v) h = ap Coming (same_worker-is v w h)
+coming_by-is w (Valid a) h = absurd (false≢true h)
+coming_by-is w (Leaving v a) h = absurd (false≢true h)
+
+pub leaving_by-is : (w : Worker) (r : Replica) → is_leaving_by w r ≡ true → (a : Array) × (r ≡ Leaving w a)
+leaving_by-is w Invalid h = absurd (false≢true h)
+leaving_by-is w (Coming v) h = absurd (false≢true h)
+leaving_by-is w (Valid a) h = absurd (false≢true h)
+leaving_by-is w (Leaving v a) h = (a, ap (λ (u : Worker). Leaving u a) (same_worker-is v w h))
+
+pub leaving-by_some : (r : Replica) → is_leaving r ≡ true → (w : Worker) × (is_leaving_by w r ≡ true)
+leaving-by_some Invalid h = absurd (false≢true h)
+leaving-by_some (Coming v) h = absurd (false≢true h)
+leaving-by_some (Valid a) h = absurd (false≢true h)
+leaving-by_some (Leaving v a) h = (v, same_worker-refl v)
+
+-- an entry comes or is valid, and doesn't leave
+pub entry-cases : (r : Replica) → is_entry r ≡ true → ((w : Worker) × (r ≡ Coming w)) ⊎ ((a : Array) × (r ≡ Valid a))
+entry-cases Invalid h = absurd (false≢true h)
+entry-cases (Coming w) h = inl (w, refl)
+entry-cases (Valid a) h = inr (a, refl)
+entry-cases (Leaving w a) h = absurd (false≢true h)
+
+-- a replica that doesn't leave and is no entry is invalid
+pub invalid-is : (r : Replica) → is_entry r ≡ false → is_leaving r ≡ false → r ≡ Invalid
+invalid-is Invalid h k = refl
+invalid-is (Coming w) h k = absurd (false≢true (sym h))
+invalid-is (Valid a) h k = absurd (false≢true (sym h))
+invalid-is (Leaving w a) h k = absurd (false≢true (sym k))
+
+pub leaving_by-leaves : (w : Worker) (r : Replica) → is_leaving_by w r ≡ true → is_leaving r ≡ true
+leaving_by-leaves w r h = ap is_leaving (leaving_by-is w r h).1
+
+pub leaving_by-valid : (w : Worker) (r : Replica) → is_leaving_by w r ≡ true → is_valid r ≡ true
+leaving_by-valid w r h = ap is_valid (leaving_by-is w r h).1
+
+pub leaving_by-no_entry : (w : Worker) (r : Replica) → is_leaving_by w r ≡ true → is_entry r ≡ false
+leaving_by-no_entry w r h = ap is_entry (leaving_by-is w r h).1
+
+-- a replica leaves by one claim, and comes by one
+pub leaving_by-one : (v w : Worker) (r : Replica) → is_leaving_by v r ≡ true → is_leaving_by w r ≡ true → v ≡ w
+leaving_by-one v w r hv hw = ap claimant_of (sym (leaving_by-is v r hv).1 ∙ (leaving_by-is w r hw).1)
+
+pub coming_by-one : (v w : Worker) (r : Replica) → is_coming_by v r ≡ true → is_coming_by w r ≡ true → v ≡ w
+coming_by-one v w r hv hw = ap claimant_of (sym (coming_by-is v r hv) ∙ coming_by-is w r hw)
+
+pub leaving-is_none : (r : Replica) → is_leaving r ≡ true → is_entry r ≡ false
+leaving-is_none r h = let by = leaving-by_some r h in leaving_by-no_entry by.0 r by.1

@@ -1,0 +1,304 @@
+-- The beginning of a kernel's run leaves a coherent state.
+use Rattle.std.proofs.Common.{Bool, List, None, Option, Some, [], arith, false, inl, inr, length, map, not, refl, sym, true, ℕ, ◌&&◌, ◌<◌, ◌||◌, ◌∙◌, ◌≡◌, ◌≢◌, ◌≤◌, ◌⊎◌, ap, subst}
+use Rattle.std.proofs.lemmas.Bool.{cases_Bool, false_from_ne_true, false≢true, true_from_ne_false, cond_both}
+use Rattle.std.proofs.lemmas.Bool.Decides.{Decides-eqb}
+use Rattle.std.proofs.lemmas.List.{get_or-set_same, length-map, length-set}
+use Rattle.std.specs.Prelude.{All, if◌then◌else◌, nat_eq}
+use Rattle.sj_core.proofs.Words.{Array, AtNode, Cell, CellState, Claimed, Invalid, Machine, Node, OnDisk, Place, Program, Progress, Replica, Running, State, Task, Transfer, Valid, Worker, WorkerState, array_of, cell_state, cells_of, dims_of, fresh_cells, has_cell, is_coming_by, is_entry, is_leaving_by, is_task_of, is_valid, moves, node_of, order, progress, replica, replica_in, same_cell, transfer, worker_of, worker_state, writes, written_cells, zeros}
+use Rattle.sj_core.specs.Coherent.{Coherent, CopiesAgree, HasEntries, HasRows, IsStateOf, IsTransferTo, WritersOwn, content, is_begun, is_being_written}
+use Rattle.sj_core.specs.Laws.{IsSound}
+use Rattle.sj_core.specs.Step.{Runs, array_at, initial, is_moving, owned_at, same_place, without}
+use Rattle.sj_core.proofs.Advancing.{Advances, Runs-advances, Runs-keeps_order, claimed-is_mine, claimed-task_of}
+use Rattle.sj_core.proofs.CellLists.{has_cell-without, times, times-filter}
+use Rattle.sj_core.proofs.Changing.{Changes, Changes-coherent, Changes-writers, TransfersAreSound-spared, HasBlocks-kept, place_differs, All-renewed, HasWorkers-kept}
+use Rattle.sj_core.proofs.Claimed.{claimed-not_written, claimed-old_value}
+use Rattle.sj_core.proofs.Contents.{content-kept}
+use Rattle.sj_core.proofs.Counting.{counted-same, written-undone}
+use Rattle.sj_core.proofs.Dependencies.{Proper-dependencies}
+use Rattle.sj_core.proofs.Finding.{array-told, being_written-here, not_written-after, not_written-before, running-inside, agrees-kept}
+use Rattle.sj_core.proofs.Placing.{replica_in-cases, room-leaves_none, same_place-refl}
+use Rattle.sj_core.proofs.Reading.{all_invalid, cells-renewed_or, cells-touched, cells-untouched, entry-inside, list_all-has, list_any-worker, moves-it, replica_in-no_row, same_node, transfer-inside, unmoved-from}
+use Rattle.sj_core.proofs.Replicas.{coming_by-is, same_worker-is, same_worker-refl}
+use Rattle.sj_core.proofs.Separation.{separated}
+use Rattle.sj_core.proofs.Tables.{length-renewed, renewed-at_or}
+use Rattle.sj_core.proofs.TaskCells.{fresh-among_written, written-among_cells}
+
+module _ (p : Program) (m : Machine) (s : State) (t : Task) (w : Worker) (s' : State) (run : Runs p m s t w s') where
+  abbrev owns : Cell → CellState → CellState
+  owns c row = owned_at (node_of m w) (initial p s t w (node_of m w) c) row
+
+  run-row : (c : Cell) → has_cell (written_cells p t w) c ≡ false → cell_state s' c ≡ cell_state s c
+  run-row c spared = ap (λ (z : State). cell_state z c) run.leaves ∙ cells-untouched s (has_cell (written_cells p t w)) owns c spared
+
+  -- what the task doesn't write stays as it is
+  pub run-other : (c : Cell) (q : Place) → has_cell (written_cells p t w) c ≡ false → replica s' c q ≡ replica s c q
+  run-other c q spared = ap (λ (row : CellState). replica_in row q) (run-row c spared)
+
+  -- what it writes is valid on its worker's node
+  pub run-own : (c : Cell) → has_cell (written_cells p t w) c ≡ true → c.0 < length s.cells → (node_of m w).0 < length (cell_state s c).nodes → replica s' c (AtNode (node_of m w)) ≡ Valid (initial p s t w (node_of m w) c)
+  run-own c written inside within =
+      let n = node_of m w in
+      let a = initial p s t w n c in
+      ap (λ (z : State). replica z c (AtNode n)) run.leaves
+      ∙ ap (λ (row : CellState). replica_in row (AtNode n)) (cells-touched s (has_cell (written_cells p t w)) owns c inside written)
+      ∙ get_or-set_same (map (λ r. Invalid) (cell_state s c).nodes) n.0 (Valid a) Invalid (omega (arith, length-map (cell_state s c).nodes (λ (r : Replica). Invalid), within))
+
+  -- and nowhere else
+  run-written : (c : Cell) (q : Place) → has_cell (written_cells p t w) c ≡ true → (replica s' c q ≡ Invalid) ⊎ ((q ≡ AtNode (node_of m w)) × (replica s' c q ≡ Valid (initial p s t w (node_of m w) c)))
+  run-written c q written =
+      let left = ap (λ (z : State). replica z c q) run.leaves in
+      elim (cells-renewed_or s (λ d row. if has_cell (written_cells p t w) d then owns d row else row) c) [
+        | inr none ↦ inl (left ∙ ap (λ (r : CellState). replica_in r q) none.1 ∙ replica_in-no_row q)
+        | inl row ↦
+            let bare : CellState = record { nodes = map (λ r. Invalid) (cell_state s c).nodes; disks = map (λ r. Invalid) (cell_state s c).disks; writes = writes s c } in
+            let is : replica s' c q ≡ replica_in (owns c (cell_state s c)) q = left ∙ ap (λ (r : CellState). replica_in r q) row ∙ ap (λ b. replica_in (if b then owns c (cell_state s c) else cell_state s c) q) written in
+            elim (replica_in-cases bare (AtNode (node_of m w)) q (Valid (initial p s t w (node_of m w) c))) [
+              | inl same ↦ inl (is ∙ same ∙ nowhere q)
+              | inr (at, valid) ↦ inr (at, is ∙ valid)
+            ]
+      ]
+    where
+      nowhere : (q : Place) → replica_in (record { nodes = map (λ r. Invalid) (cell_state s c).nodes; disks = map (λ r. Invalid) (cell_state s c).disks; writes = writes s c }) q ≡ Invalid
+      nowhere (AtNode k) = all_invalid (cell_state s c).nodes k.0
+      nowhere (OnDisk d) = all_invalid (cell_state s c).disks d.0
+
+  pub run-only : (c : Cell) (q : Place) → has_cell (written_cells p t w) c ≡ true → not (same_place q (AtNode (node_of m w))) ≡ true → replica s' c q ≡ Invalid
+  run-only c q written elsewhere = elim (run-written c q written) [ inl none ↦ none | inr (at, is) ↦ absurd (false≢true (sym (ap (λ (k : Place). not (same_place k (AtNode (node_of m w)))) at ∙ ap not (same_place-refl (AtNode (node_of m w)))) ∙ elsewhere)) ]
+
+  -- a test that an invalid and a valid replica fail is passed by none that didn't before, and by none of a written cell
+  run-fewer : (test : Replica → Bool) → test Invalid ≡ false → ((a : Array) → test (Valid a) ≡ false) → (c : Cell) (q : Place) → test (replica s' c q) ≡ true → (has_cell (written_cells p t w) c ≡ false) × (test (replica s c q) ≡ true)
+  run-fewer test none valid c q passes = by_test (has_cell (written_cells p t w) c) refl
+    where
+      by_test : (b : Bool) → has_cell (written_cells p t w) c ≡ b → (has_cell (written_cells p t w) c ≡ false) × (test (replica s c q) ≡ true)
+      by_test false spared = (spared, sym (ap test (run-other c q spared)) ∙ passes)
+      by_test true written = absurd (elim (run-written c q written) [ inl is ↦ false≢true (sym (ap test is ∙ none) ∙ passes) | inr (at, is) ↦ false≢true (sym (ap test is ∙ valid (initial p s t w (node_of m w) c)) ∙ passes) ])
+
+  pub run-leaving : (v : Worker) (c : Cell) (q : Place) → is_leaving_by v (replica s' c q) ≡ true → is_leaving_by v (replica s c q) ≡ true
+  run-leaving v c q leaving = (run-fewer (is_leaving_by v) refl (λ a. refl) c q leaving).1
+
+  pub run-coming : (v : Worker) (c : Cell) (q : Place) → is_coming_by v (replica s' c q) ≡ true → (has_cell (written_cells p t w) c ≡ false) × (is_coming_by v (replica s c q) ≡ true)
+  run-coming v c q coming = run-fewer (is_coming_by v) refl (λ a. refl) c q coming
+
+  pub run-worker : (v : Worker) → worker_state s' v ≡ worker_state s v
+  run-worker v = ap (λ (z : State). worker_state z v) run.leaves
+
+  run-transfer : (v : Worker) → transfer s' v ≡ transfer s v
+  run-transfer v = ap (λ (row : WorkerState). row.transfer) (run-worker v)
+
+  -- ---- orders
+
+  order-after : (k : Node) → order s' k ≡ (if nat_eq k.0 (node_of m w).0 then order s k else without (written_cells p t w) (order s k))
+  order-after k = ap (λ (z : State). order z k) run.leaves ∙ renewed-at_or (λ i cs. if nat_eq i (node_of m w).0 then cs else without (written_cells p t w) cs) s.orders k.0 [] (either (nat_eq k.0 (node_of m w).0))
+    where
+      either : (b : Bool) → (if b then [] else without (written_cells p t w) []) ≡ []
+      either true = refl
+      either false = refl
+
+  pub run-order_here : order s' (node_of m w) ≡ order s (node_of m w)
+  run-order_here = order-after (node_of m w) ∙ ap (λ b. if b then order s (node_of m w) else without (written_cells p t w) (order s (node_of m w))) ((Decides-eqb (node_of m w).0 (node_of m w).0).1 refl)
+
+  pub run-order_elsewhere : (k : Node) → k ≢ node_of m w → order s' k ≡ without (written_cells p t w) (order s k)
+  run-order_elsewhere k d = order-after k ∙ ap (λ b. if b then order s k else without (written_cells p t w) (order s k)) (false_from_ne_true (nat_eq k.0 (node_of m w).0) (λ e. d (ap (λ (i : ℕ). let j : Node = record { 0 = i } in j) ((Decides-eqb k.0 (node_of m w).0).0 e))))
+
+module _ (p : Program) (m : Machine) (s : State) (h : IsSound p m s) (t : Task) (w : Worker) (s' : State) (run : Runs p m s t w s') where
+  advance : Advances s s' t (Claimed w) (Running w)
+  advance = Runs-advances p m s t w s' run
+
+  mine : is_task_of w (progress s t) ≡ true
+  mine = claimed-task_of s t w run.claimed
+
+  -- a written cell is an entry of the node
+  entry : (c : Cell) → has_cell (written_cells p t w) c ≡ true → is_entry (replica s c (AtNode (node_of m w))) ≡ true
+  entry c written = h.coherent.cells.claimed t w c run.claimed (written-among_cells p t w c written)
+
+  own : (c : Cell) → has_cell (written_cells p t w) c ≡ true → replica s' c (AtNode (node_of m w)) ≡ Valid (initial p s t w (node_of m w) c)
+  own c written = let inside = entry-inside s c (node_of m w) (entry c written) in run-own p m s t w s' run c written inside.0 inside.1
+
+  -- another task's cells aren't written
+  pub run-spares : (u : Task) (v : Worker) (c : Cell) → u ≢ t → is_task_of v (progress s u) ≡ true → has_cell (cells_of p u v) c ≡ true → has_cell (written_cells p t w) c ≡ false
+  run-spares u v c d has cell = false_from_ne_true (has_cell (written_cells p t w) c) (separated p m h.proper.cells (Proper-dependencies p h.proper) s h.coherent.state h.coherent.workers h.coherent.order u t v w c d has mine cell)
+
+  -- a cell of the task whose old value it reads is valid on the node
+  present : (c : Cell) → has_cell (cells_of p t w) c ≡ true → has_cell (fresh_cells p t w) c ≡ false → is_valid (replica s c (AtNode (node_of m w))) ≡ true
+  present c has not_fresh = sym (ap (λ b. b || is_valid (replica s c (AtNode (node_of m w)))) not_fresh) ∙ list_all-has (λ d. has_cell (fresh_cells p t w) d || is_valid (replica s d (AtNode (node_of m w)))) (cells_of p t w) c run.present has
+
+  spared-present : (c : Cell) → has_cell (cells_of p t w) c ≡ true → has_cell (written_cells p t w) c ≡ false → is_valid (replica s c (AtNode (node_of m w))) ≡ true
+  spared-present c has spared = present c has (false_from_ne_true (has_cell (fresh_cells p t w) c) (λ fresh. false≢true (sym spared ∙ fresh-among_written p t w c fresh)))
+
+  -- none of the worker's victims leaves any more, and what comes by its claim is written without being read
+  none_leaves : (c : Cell) (q : Place) → is_leaving_by w (replica s c q) ≡ false
+  none_leaves = room-leaves_none p m s h w run.room
+
+  coming-is_fresh : (c : Cell) (k : Node) → is_coming_by w (replica s c (AtNode k)) ≡ true → has_cell (written_cells p t w) c ≡ true
+  coming-is_fresh c k coming =
+      let own = h.coherent.pins.coming_claimed w c k coming in
+      let here = h.coherent.pins.coming_here w c k coming in
+      let one = h.coherent.workers.one_task own.task t w (claimed-task_of s own.task w own.claimed) mine in
+      let has : has_cell (cells_of p t w) c ≡ true = sym (ap (λ (u : Task). has_cell (cells_of p u w) c) one) ∙ own.cell in
+      true_from_ne_false (has_cell (written_cells p t w) c) (λ spared.
+      (let valid = ap (λ (j : Node). is_valid (replica s c (AtNode j))) here ∙ spared-present c has spared in
+      false≢true (sym (ap is_valid (coming_by-is w (replica s c (AtNode k)) coming)) ∙ valid)))
+
+  -- a cell that moves isn't written, and so the worker itself moves none
+  pub run-unmoved : (v : Worker) (x : Transfer) → transfer s v ≡ Some x → has_cell (written_cells p t w) x.cell ≡ false
+  run-unmoved v x under_way = false_from_ne_true (has_cell (written_cells p t w) x.cell) (λ written.
+      (let still = list_all-has (λ c. not (is_moving m s c)) (written_cells p t w) x.cell run.unmoved written in
+      let inside : v.0 < m.workers = omega (arith, transfer-inside s v x under_way, h.coherent.state.rows.workers) in
+      false≢true (sym (ap not (list_any-worker (λ k. moves s k x.cell) m v inside (moves-it s v x under_way))) ∙ still)))
+
+  moves_none : (x : Transfer) → transfer s w ≡ Some x → ⊥
+  moves_none x under_way = by_target x.to (h.coherent.transfers.target w x under_way)
+    where
+      by_target : (to : Place) → IsTransferTo m s w x.cell x.from to → ⊥
+      by_target (AtNode k) target = false≢true (sym (run-unmoved w x under_way) ∙ coming-is_fresh x.cell k target.1)
+      by_target (OnDisk d) target = false≢true (sym (none_leaves x.cell x.from) ∙ target.0)
+
+  -- ---- the state's own form
+
+  run-rows : HasRows p m s'
+  run-rows =
+      let rows = h.coherent.state.rows in
+      let f : ℕ → CellState → CellState = λ k row. let c : Cell = record { 0 = k } in if has_cell (written_cells p t w) c then owned_at (node_of m w) (initial p s t w (node_of m w) c) row else row in
+      record {
+        tasks = ap (λ (z : State). length z.tasks) run.leaves ∙ length-set s.tasks t.0 (Running w) ∙ rows.tasks;
+        cells = ap (λ (z : State). length z.cells) run.leaves ∙ length-renewed f s.cells ∙ rows.cells;
+        orders = ap (λ (z : State). length z.orders) run.leaves ∙ length-renewed (λ i cs. if nat_eq i (node_of m w).0 then cs else without (written_cells p t w) cs) s.orders ∙ rows.orders;
+        workers = ap (λ (z : State). length z.workers) run.leaves ∙ rows.workers;
+        nodes = subst (λ (z : State). All (λ row. length row.nodes ≡ length m.nodes) z.cells) (sym run.leaves) (All-renewed (λ row. length row.nodes ≡ length m.nodes) f s.cells (λ i row e. cond_both (has_cell (written_cells p t w) (record { 0 = i })) _ row (λ (r : CellState). length r.nodes ≡ length m.nodes) (λ b. length-set (map (λ r. Invalid) row.nodes) (node_of m w).0 _ ∙ length-map row.nodes (λ (r : Replica). Invalid) ∙ e) (λ b. e)) rows.nodes);
+        disks = subst (λ (z : State). All (λ row. length row.disks ≡ length m.disks) z.cells) (sym run.leaves) (All-renewed (λ row. length row.disks ≡ length m.disks) f s.cells (λ i row e. cond_both (has_cell (written_cells p t w) (record { 0 = i })) _ row (λ (r : CellState). length r.disks ≡ length m.disks) (λ b. length-map row.disks (λ (r : Replica). Invalid) ∙ e) (λ b. e)) rows.disks);
+      }
+
+  entries-here : (c : Cell) (b : Bool) → has_cell (written_cells p t w) c ≡ b → has_cell (order s (node_of m w)) c ≡ is_entry (replica s' c (AtNode (node_of m w)))
+  entries-here c true written = h.coherent.state.entries.entries (node_of m w) c ∙ entry c written ∙ sym (ap is_entry (own c written))
+  entries-here c false spared = h.coherent.state.entries.entries (node_of m w) c ∙ sym (ap is_entry (run-other p m s t w s' run c (AtNode (node_of m w)) spared))
+
+  entries-elsewhere : (k : Node) (c : Cell) → k ≢ node_of m w → (b : Bool) → has_cell (written_cells p t w) c ≡ b → (not b && has_cell (order s k) c) ≡ is_entry (replica s' c (AtNode k))
+  entries-elsewhere k c d true written = sym (ap is_entry (run-only p m s t w s' run c (AtNode k) written (place_differs k (node_of m w) d)))
+  entries-elsewhere k c d false spared = h.coherent.state.entries.entries k c ∙ sym (ap is_entry (run-other p m s t w s' run c (AtNode k) spared))
+
+  run-entries : HasEntries s'
+  run-entries = record {
+    entries = λ k c. elim (same_node k (node_of m w)) [
+      | inl e ↦ subst (λ (j : Node). has_cell (order s' j) c ≡ is_entry (replica s' c (AtNode j))) (sym e) (ap (λ (cs : List Cell). has_cell cs c) (run-order_here p m s t w s' run) ∙ entries-here c (has_cell (written_cells p t w) c) refl)
+      | inr d ↦ ap (λ (cs : List Cell). has_cell cs c) (run-order_elsewhere p m s t w s' run k d) ∙ has_cell-without (written_cells p t w) (order s k) c ∙ entries-elsewhere k c d (has_cell (written_cells p t w) c) refl
+    ];
+    once = λ k c. elim (same_node k (node_of m w)) [
+      | inl e ↦ subst (λ (j : Node). times (order s' j) c ≤ 1) (sym e) (subst (λ (cs : List Cell). times cs c ≤ 1) (sym (run-order_here p m s t w s' run)) (h.coherent.state.entries.once (node_of m w) c))
+      | inr d ↦
+          let fewer : times (without (written_cells p t w) (order s k)) c ≤ times (order s k) c = times-filter (λ x. not (has_cell (written_cells p t w) x)) (order s k) c in
+          let before : times (order s k) c ≤ 1 = h.coherent.state.entries.once k c in
+          subst (λ (cs : List Cell). times cs c ≤ 1) (sym (run-order_elsewhere p m s t w s' run k d)) (omega arith)
+    ];
+  }
+
+  -- a replica elsewhere is gone, or as it was
+  either : (c : Cell) (q : Place) → not (same_place q (AtNode (node_of m w))) ≡ true → (replica s' c q ≡ Invalid) ⊎ (replica s' c q ≡ replica s c q)
+  either c q away = elim (cases_Bool (has_cell (written_cells p t w) c)) [ inl written ↦ inl (run-only p m s t w s' run c q written away) | inr spared ↦ inr (run-other p m s t w s' run c q spared) ]
+
+  run-state : IsStateOf p m s'
+  run-state = record {
+    rows = run-rows;
+    entries = run-entries;
+    blocks = HasBlocks-kept p m s s' (λ c d. either c (OnDisk d) refl) (run-transfer p m s t w s' run) h.coherent.state.blocks;
+    staff = HasWorkers-kept p s s' t (Claimed w) (Running w) advance (subst (λ (x : Progress). (worker_of x).0 < p.workers) run.claimed (h.coherent.state.staff.staffed t (ap is_begun run.claimed))) h.coherent.state.staff;
+  }
+
+  -- ---- the change
+
+  fewer_entries : (c : Cell) (k : Node) → is_entry (replica s' c (AtNode k)) ≡ true → is_entry (replica s c (AtNode k)) ≡ true
+  fewer_entries c k now = elim (cases_Bool (has_cell (written_cells p t w) c)) [
+    | inr spared ↦ sym (ap is_entry (run-other p m s t w s' run c (AtNode k) spared)) ∙ now
+    | inl written ↦ elim (run-written p m s t w s' run c (AtNode k) written) [ inl none ↦ absurd (false≢true (sym (ap is_entry none) ∙ now)) | inr (at, is) ↦ ap (λ (q : Place). is_entry (replica s c q)) at ∙ entry c written ]
+  ]
+
+  -- what comes by the claim of a worker whose victims leave still comes
+  still_comes : (v : Worker) (c d : Cell) (k : Node) → is_leaving_by v (replica s' d (AtNode k)) ≡ true → is_coming_by v (replica s c (AtNode k)) ≡ true → is_coming_by v (replica s' c (AtNode k)) ≡ true
+  still_comes v c d k leaving coming =
+      let before = run-leaving p m s t w s' run v d (AtNode k) leaving in
+      let claimed = h.coherent.pins.coming_claimed v c k coming in
+      let other : claimed.task ≢ t = λ e. (let same : Claimed v ≡ Claimed w = sym claimed.claimed ∙ ap (λ (u : Task). progress s u) e ∙ run.claimed in let is : v ≡ w = cc in false≢true (sym (none_leaves d (AtNode k)) ∙ ap (λ (x : Worker). is_leaving_by x (replica s d (AtNode k))) (sym is) ∙ before)) in
+      ap (is_coming_by v) (run-other p m s t w s' run c (AtNode k) (run-spares claimed.task v c other (claimed-task_of s claimed.task v claimed.claimed) claimed.cell)) ∙ coming
+
+  pub run-change : Changes p m s s' t (Claimed w) (Running w) w
+  run-change = record {
+    advance = advance;
+    mine = claimed-is_mine w;
+    still_mine = λ v has. sym (same_worker-is w v has);
+    state = run-state;
+    rows = λ v. inl (ap (λ (row : WorkerState). row.pins) (run-worker p m s t w s' run v), ap (λ (row : WorkerState). row.scratch) (run-worker p m s t w s' run v), λ e. same_worker-refl w);
+    victims = λ v. ap (λ (row : WorkerState). row.victims) (run-worker p m s t w s' run v);
+    entries = fewer_entries;
+    leaves = run-leaving p m s t w s' run;
+    comes = λ v c k coming. (run-coming p m s t w s' run v c (AtNode k) coming).1;
+    still_comes = still_comes;
+    moves_on = λ v x under_way. h.coherent.workers.moves_for_claim v x (sym (run-transfer p m s t w s' run v) ∙ under_way);
+    claims_on = λ claimed. inl (
+      λ c k. false_from_ne_true (is_leaving_by w (replica s' c (AtNode k))) (λ leaving. false≢true (sym (none_leaves c (AtNode k)) ∙ run-leaving p m s t w s' run w c (AtNode k) leaving)),
+      λ c k. false_from_ne_true (is_coming_by w (replica s' c (AtNode k))) (λ coming. (let was = run-coming p m s t w s' run w c (AtNode k) coming in false≢true (sym was.0 ∙ coming-is_fresh c k was.1))),
+      λ x under_way. moves_none x (sym (run-transfer p m s t w s' run w) ∙ under_way),
+    );
+    stays = λ u v c d has cell. (let same = run-other p m s t w s' run c (AtNode (node_of m v)) (run-spares u v c d has cell) in (λ was. ap is_entry same ∙ was, λ was. ap is_valid same ∙ was));
+    claimed = λ c e has. absurd (let f : Running w ≡ Claimed w = e in cc);
+    running = λ c e has. elim (cases_Bool (has_cell (written_cells p t w) c)) [ inl written ↦ ap is_valid (own c written) | inr spared ↦ ap is_valid (run-other p m s t w s' run c (AtNode (node_of m w)) spared) ∙ spared-present c has spared ];
+    transfers = TransfersAreSound-spared p m s s' (has_cell (written_cells p t w)) (run-other p m s t w s' run) (run-leaving p m s t w s' run) (run-transfer p m s t w s' run) run-unmoved h.coherent.transfers;
+    order = Runs-keeps_order p m s t w s' run h.coherent.order;
+    counts = record { counted = λ c. run-writes c ∙ h.coherent.counts.counted c ∙ sym (counted-same p s s' c (λ u. written-undone p s s' c t u (Claimed w) (Running w) advance refl refl)) };
+  }
+    where
+      run-writes : (c : Cell) → writes s' c ≡ writes s c
+      run-writes c = ap (λ (z : State). writes z c) run.leaves ∙ elim (cells-renewed_or s (λ d row. if has_cell (written_cells p t w) d then owned_at (node_of m w) (initial p s t w (node_of m w) d) row else row) c) [
+        | inl row ↦ ap (λ (r : CellState). r.writes) row ∙ cond_both (has_cell (written_cells p t w) c) (owned_at (node_of m w) (initial p s t w (node_of m w) c) (cell_state s c)) (cell_state s c) (λ (r : CellState). r.writes ≡ writes s c) (λ b. refl) (λ b. refl)
+        | inr none ↦ ap (λ (r : CellState). r.writes) (none.1 ∙ sym none.0)
+      ]
+
+  -- ---- contents
+
+  run-content : (c : Cell) → content p s' c ≡ content p s c
+  run-content = content-kept p s s' t (Claimed w) (Running w) advance refl refl
+
+  -- a written cell begins with zeros, or with what it ought to hold
+  run-initial : (c : Cell) → has_cell (written_cells p t w) c ≡ true → (b : Bool) → has_cell (fresh_cells p t w) c ≡ b → (if b then zeros (dims_of p c) else array_at p s (AtNode (node_of m w)) c) ≡ (if b then zeros (dims_of p c) else content p s' c)
+  run-initial c written true fresh = refl
+  run-initial c written false not_fresh =
+      let has = written-among_cells p t w c written in
+      let some = claimed-old_value p m s h t w run.claimed c has not_fresh in
+      array-told (array_of (replica s c (AtNode (node_of m w)))) (content p s c) (zeros (dims_of p c)) (present c has not_fresh) (h.coherent.copies.alike c (AtNode (node_of m w)) some (claimed-not_written p m s h t w run.claimed c has)) ∙ sym (run-content c)
+
+  run-moves : (v : Worker) (c : Cell) → moves s' v c ≡ moves s v c
+  run-moves v c = ap (λ (o : Option Transfer). elim o as (λ _. Bool) [ None ↦ false | Some x ↦ same_cell x.cell c ]) (run-transfer p m s t w s' run v)
+
+  run-writers : WritersOwn p m s'
+  run-writers = Changes-writers p m s h s' t (Claimed w) (Running w) w run-change
+      (λ u v c d runs written.
+      (let spared = run-spares u v c d (ap (is_task_of v) runs ∙ same_worker-refl v) (written-among_cells p u v c written) in
+      (λ q. run-other p m s t w s' run c q spared, λ x. run-moves x c ∙ (h.coherent.writers.owned u v c runs written).unmoved x, run-content c)))
+      (λ c e written. record {
+        valid = own c written ∙ ap (λ (x : Array). Valid x) (run-initial c written (has_cell (fresh_cells p t w) c) refl);
+        only = λ q away. run-only p m s t w s' run c q written away;
+        pinned = ap (λ (row : WorkerState). has_cell row.pins c) (run-worker p m s t w s' run w) ∙ h.coherent.cells.pinned t w c mine (written-among_cells p t w c written);
+        unmoved = λ v. run-moves v c ∙ unmoved-from s v c (λ x under_way e. false≢true (sym (run-unmoved v x under_way) ∙ ap (has_cell (written_cells p t w)) e ∙ written));
+      })
+
+  pub run-rested : (c : Cell) → is_being_written p s' c ≡ false → is_being_written p s c ≡ false
+  run-rested c resting = not_written-before p m s s' t (Claimed w) (Running w) c h.coherent.state.rows advance resting (λ v e. absurd (let f : Claimed w ≡ Running v = e in cc))
+
+  -- a cell that isn't being written after the run isn't the task's; and one that the task doesn't write rests as before
+  pub run-spared : (c : Cell) → is_being_written p s' c ≡ false → has_cell (written_cells p t w) c ≡ false
+  run-spared c resting = false_from_ne_true (has_cell (written_cells p t w) c) (λ written. false≢true (sym resting ∙ being_written-here p s' c t w (running-inside p m s' t w run-rows advance.is) advance.is written))
+
+  pub run-rests : (c : Cell) → has_cell (written_cells p t w) c ≡ false → is_being_written p s c ≡ false → is_being_written p s' c ≡ false
+  run-rests c spared resting = not_written-after p m s s' t (Claimed w) (Running w) c run-rows advance resting (λ v e. (let is : w ≡ v = cc in ap (λ (x : Worker). has_cell (written_cells p t x) c) (sym is) ∙ spared))
+
+  run-copies : CopiesAgree p s'
+  run-copies = record {
+    valid_somewhere = λ c some resting.
+        (let row = run-row p m s t w s' run c (run-spared c resting) in
+        let q = h.coherent.copies.valid_somewhere c (omega (arith, ap (λ (r : CellState). r.writes) row, some)) (run-rested c resting) in
+        (q.0, ap (λ (r : CellState). is_valid (replica_in r q.0)) row ∙ q.1));
+    alike = λ c q some resting.
+        (let row = run-row p m s t w s' run c (run-spared c resting) in
+        agrees-kept (array_of (replica s c q)) (array_of (replica s' c q)) (content p s c) (content p s' c) (ap (λ (r : CellState). array_of (replica_in r q)) row) (run-content c) (h.coherent.copies.alike c q (omega (arith, ap (λ (r : CellState). r.writes) row, some)) (run-rested c resting)));
+  }
+
+  pub Runs-coherent : Coherent p m s'
+  Runs-coherent = Changes-coherent p m s h s' t (Claimed w) (Running w) w run-change run-writers run-copies

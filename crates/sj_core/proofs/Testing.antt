@@ -1,0 +1,130 @@
+-- A computed test of legal traces, for worked runs: in it a task begins only once all earlier tasks are done.
+use Rattle.std.proofs.Common.{Bool, List, None, Option, Some, [], ap, false, length, not, refl, true, ◌&&◌, ◌∙◌, ◌∷◌, ◌≡◌}
+use Rattle.std.proofs.lemmas.Bool.{and_parts, eqb-true, false≢true, leb-true, ltb-true}
+use Rattle.std.specs.List.{list_all, range_with_len}
+use Rattle.std.specs.Prelude.{fold, is_none, is_some, nat_eq, nat_le, nat_lt, unwrap_or}
+use Rattle.sj_core.proofs.Words.{AtNode, Cell, Claimed, DiskNo, Done, Machine, Node, OnDisk, Place, Program, Progress, Running, State, Task, Transfer, Waiting, commuting_cells, done_in, footprint, has_room, is_claimed_by, is_coming_by, is_idle, is_leaving, is_leaving_by, is_running_on, is_waiting, node_of, node_size, opening, progress, replica, same_cell, transfer, written_cells}
+use Rattle.sj_base.specs.declared.trace.Event.{Event}
+use Rattle.sj_base.specs.declared.trace.Event.TheVariants.{Claim, Drop, End, Move, Moved, Run}
+use Rattle.sj_codelet.specs.Kernel.{fits}
+use Rattle.sj_core.specs.Legal.{Leads, Legal}
+use Rattle.sj_core.specs.Step.{Step, a_transfer, after, disk_of, is_fresh, is_in_use, is_moving, is_present, is_read, is_valid_elsewhere, mover_of, none_leaving, same_place, source_of, victims_for}
+use Rattle.sj_core.proofs.Advancing.{claimed_by-is, running_on-is}
+use Rattle.sj_core.proofs.Jobs.{worker}
+use Rattle.sj_core.proofs.Placing.{same_place-is}
+use Rattle.sj_core.proofs.Readiness.{EarlierAreDone-all, Ready-from}
+use Rattle.sj_core.proofs.Reading.{same_cell-is}
+
+abbrev all_earlier_done : State → Task → Bool
+all_earlier_done s t = list_all (λ n. done_in s (record { 0 = n })) (range_with_len 0 t.0)
+
+abbrev is_here : Option Place → Place → Bool
+is_here None q = false
+is_here (Some k) q = same_place k q
+
+abbrev is_on : Option DiskNo → DiskNo → Bool
+is_on None d = false
+is_on (Some k) d = nat_eq k.0 d.0
+
+abbrev is_transfer : Cell → Place → Place → Option Transfer → Bool
+is_transfer c from to None = false
+is_transfer c from to (Some x) = same_cell x.cell c && same_place x.from from && same_place x.to to
+
+-- the event is a step, as far as the test sees
+abbrev is_step : Program → Machine → State → Event → Bool
+is_step p m s (Claim t w) =
+    nat_lt w.0 p.workers && (is_waiting (progress s t) && (nat_lt t.0 (length p.tasks) && (all_earlier_done s t && (is_idle s w && (nat_le (footprint p t) (node_size m (node_of m w)) && (none_leaving s (node_of m w) && (list_all (λ c. not (is_in_use p s c)) (commuting_cells p t) && is_some (victims_for p m s t w))))))))
+is_step p m s (Move c from (AtNode n)) =
+    let w = mover_of s c from (AtNode n) in
+    nat_eq n.0 (node_of m w).0 && (is_none (transfer s w) && (is_coming_by w (replica s c (AtNode n)) && (not (is_fresh p s w c) && (has_room m s w && is_here (source_of p m s c) from))))
+is_step p m s (Move c from (OnDisk d)) =
+    let w = mover_of s c from (OnDisk d) in
+    is_none (transfer s w) && (is_leaving_by w (replica s c from) && (not (is_valid_elsewhere m s c from) && is_on (disk_of p m c) d))
+is_step p m s (Moved c from to) = is_transfer c from to (transfer s (mover_of s c from to))
+is_step p m s (Drop c n) = is_leaving (replica s c (AtNode n)) && (not (is_read m s c (AtNode n)) && is_valid_elsewhere m s c (AtNode n))
+is_step p m s (Run t w) =
+    is_claimed_by w (progress s t) && (all_earlier_done s t && (has_room m s w && (is_present p s t w (node_of m w) && list_all (λ c. not (is_moving m s c)) (written_cells p t w))))
+is_step p m s (End t w) = is_running_on w (progress s t)
+
+-- ---- the test is right
+
+waiting-is : (x : Progress) → is_waiting x ≡ true → x ≡ Waiting
+waiting-is Waiting h = refl
+waiting-is (Claimed v) h = absurd (false≢true h)
+waiting-is (Running v) h = absurd (false≢true h)
+waiting-is (Done v) h = absurd (false≢true h)
+
+none-is : {X : Type 0} (o : Option X) → is_none o ≡ true → o ≡ None
+none-is None h = refl
+none-is (Some x) h = absurd (false≢true h)
+
+some-is : {X : Type 0} (o : Option X) (d : X) → is_some o ≡ true → o ≡ Some (unwrap_or o d)
+some-is None d h = absurd (false≢true h)
+some-is (Some x) d h = refl
+
+here-is : (o : Option Place) (q : Place) → is_here o q ≡ true → o ≡ Some q
+here-is None q h = absurd (false≢true h)
+here-is (Some k) q h = ap Some (same_place-is k q h)
+
+on-is : (o : Option DiskNo) (d : DiskNo) → is_on o d ≡ true → o ≡ Some d
+on-is None d h = absurd (false≢true h)
+on-is (Some k) d h = ap (λ i. Some (record { 0 = i })) (eqb-true k.0 d.0 h)
+
+transfer-is : (c : Cell) (from to : Place) (o : Option Transfer) → is_transfer c from to o ≡ true → o ≡ Some (a_transfer c from to)
+transfer-is c from to None h = absurd (false≢true h)
+transfer-is c from to (Some x) h =
+    let both = and_parts _ _ h in
+    let parts = and_parts _ _ both.0 in
+    ap (λ (d : Cell). Some (a_transfer d x.from x.to)) (same_cell-is x.cell c parts.0) ∙ ap (λ (q : Place). Some (a_transfer c q x.to)) (same_place-is x.from from parts.1) ∙ ap (λ (q : Place). Some (a_transfer c from q)) (same_place-is x.to to both.1)
+
+module _ (p : Program) (m : Machine) where
+  step-from : (s : State) (e : Event) → is_step p m s e ≡ true → Step p m s e (after p m s e)
+  step-from s (Claim t w) h =
+      let (worker, h1) = and_parts _ _ h in
+      let (waits, h2) = and_parts _ _ h1 in
+      let (inside, h3) = and_parts _ _ h2 in
+      let (earlier, h4) = and_parts _ _ h3 in
+      let (idle, h5) = and_parts _ _ h4 in
+      let (fits, h6) = and_parts _ _ h5 in
+      let (settled, h7) = and_parts _ _ h6 in
+      let (alone, room) = and_parts _ _ h7 in
+      let waiting = waiting-is (progress s t) waits in
+      record { worker = ltb-true w.0 p.workers worker; waiting = waiting; ready = Ready-from p s t (ltb-true t.0 (length p.tasks) inside) waiting (EarlierAreDone-all p s t earlier); idle = idle; fits = leb-true (footprint p t) (node_size m (node_of m w)) fits; settled = settled; alone = alone; evicted = unwrap_or (victims_for p m s t w) []; chosen = some-is (victims_for p m s t w) [] room; leaves = refl }
+  step-from s (Move c from (AtNode n)) h =
+      let w = mover_of s c from (AtNode n) in
+      let (own_node, h1) = and_parts _ _ h in
+      let (free, h2) = and_parts _ _ h1 in
+      let (coming, h3) = and_parts _ _ h2 in
+      let (needed, h4) = and_parts _ _ h3 in
+      let (room, source) = and_parts _ _ h4 in
+      record { own_node = ap (λ i. let k : Node = record { 0 = i } in k) (eqb-true n.0 (node_of m w).0 own_node); free = none-is (transfer s w) free; coming = coming; old_value_needed = needed; room = room; source = here-is (source_of p m s c) from source; leaves = refl }
+  step-from s (Move c from (OnDisk d)) h =
+      let (free, h1) = and_parts _ _ h in
+      let (leaving, h2) = and_parts _ _ h1 in
+      let (only, target) = and_parts _ _ h2 in
+      record { free = none-is (transfer s (mover_of s c from (OnDisk d))) free; leaving = leaving; only = only; target = on-is (disk_of p m c) d target; leaves = refl }
+  step-from s (Moved c from to) h = record { under_way = transfer-is c from to (transfer s (mover_of s c from to)) h; leaves = refl }
+  step-from s (Drop c n) h =
+      let (leaving, h1) = and_parts _ _ h in
+      let (unread, shared) = and_parts _ _ h1 in
+      record { leaving = leaving; unread = unread; shared = shared; leaves = refl }
+  step-from s (Run t w) h =
+      let (claimed, h1) = and_parts _ _ h in
+      let (earlier, h2) = and_parts _ _ h1 in
+      let (room, h3) = and_parts _ _ h2 in
+      let (present, unmoved) = and_parts _ _ h3 in
+      record { claimed = claimed_by-is w (progress s t) claimed; earlier = EarlierAreDone-all p s t earlier; room = room; present = present; unmoved = unmoved; leaves = refl }
+  step-from s (End t w) h = record { running = running_on-is w (progress s t) h; leaves = refl }
+
+  -- each event of the trace passes in the state that the ones before it leave
+  abbrev pub are_steps : State → List Event → Bool
+  are_steps s [] = true
+  are_steps s (e ∷ trace) = is_step p m s e && are_steps (after p m s e) trace
+
+  leads-from : (s : State) (trace : List Event) → are_steps s trace ≡ true → Leads p m s trace (fold (after p m) s trace)
+  leads-from s [] h = refl
+  leads-from s (e ∷ trace) h = let (first, later) = and_parts (is_step p m s e) (are_steps (after p m s e) trace) h in (after p m s e, step-from s e first, leads-from (after p m s e) trace later)
+
+  -- such a trace is legal
+  pub legal-from : (trace : List Event) → are_steps (opening p m) trace ≡ true → Legal p m trace
+  legal-from trace h = record { left = fold (after p m) (opening p m) trace; replays = leads-from (opening p m) trace h }

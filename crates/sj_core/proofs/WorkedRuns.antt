@@ -1,0 +1,145 @@
+-- Worked jobs whose runs are legal and complete: a sum, vectors that don't fit their node together, a reduction.
+use Rattle.std.proofs.Common.{◌≡◌, ℕ, zero, suc, List, [], ◌∷◌, refl, ap, None, arith, lit<, lit≤}
+use Rattle.std.specs.Prelude.{pos}
+use Rattle.std.specs.Int.{int_wrap}
+use Rattle.std.proofs.lemmas.Bool.{false≢true}
+use Rattle.sj_base.specs.declared.mode.Mode.TheVariants.{R, W, RW}
+use Rattle.sj_core.proofs.Words.{Machine, Program, State, Valid, order, replica, victims_of, writes}
+use Rattle.sj_base.specs.declared.trace.Event.{Event}
+use Rattle.sj_base.specs.declared.trace.Event.TheVariants.{Claim, Move, Moved, Drop, Run, End}
+use Rattle.sj_codelet.specs.declared.kernel.Kernel.TheVariants.{Load, Add, Deliver}
+use Rattle.sj_codelet.specs.Equations.{vector}
+use Rattle.sj_deps.specs.declared.manner.Manner.{Manner}
+use Rattle.sj_deps.specs.declared.manner.Manner.TheVariants.{Read, Write, Commute, Contribute}
+use Rattle.sj_deps.specs.declared.manner.Usage.{Usage}
+use Rattle.sj_deps.specs.Conflict.{Conflict, Uses, IsShared}
+use Rattle.sj_core.specs.Fold.{given}
+use Rattle.sj_core.specs.Legal.{Legal, IsComplete, state_of}
+use Rattle.sj_core.specs.Proper.{IsMachineFor, HasSwapFor}
+use Rattle.sj_core.specs.Step.{Claims, Runs, disk_of}
+use Rattle.sj_core.proofs.Jobs.{a_machine, a_task, access, cell, columns, disk, node, task, turn, worker}
+use Rattle.sj_core.proofs.Readiness.{Ready-earlier}
+use Rattle.sj_core.proofs.Reduction
+use Rattle.sj_core.proofs.Testing.{legal-from}
+
+-- ---- a sum
+
+-- x: 1 2 3, y: 10 20 30, y becomes y + x, y is printed
+abbrev pub sum : Program
+sum = record {
+  cells = columns 3 None ∷ columns 3 None ∷ [];
+  tasks = a_task Load (pos 1 ∷ pos 2 ∷ pos 3 ∷ []) (access W 0 ∷ []) ∷ a_task Load (pos 10 ∷ pos 20 ∷ pos 30 ∷ []) (access W 1 ∷ []) ∷ a_task Add [] (access R 0 ∷ access RW 1 ∷ []) ∷ a_task Deliver [] (access R 1 ∷ []) ∷ [];
+  deliveries = (record { task = task 3; root = record { 0 = 1 }; place = (0, 0); print = 0 }) ∷ [];
+  workers = 1;
+}
+
+-- a node of 64 bytes and a disk
+abbrev pub machine : Machine
+machine = a_machine 1 (64 ∷ []) (4096 ∷ [])
+
+abbrev sum-trace : List Event
+sum-trace = turn 0 0 (turn 1 0 (turn 2 0 (turn 3 0 [])))
+
+pub sum-legal : Legal sum machine sum-trace
+sum-legal = legal-from sum machine sum-trace refl
+
+pub sum-complete : IsComplete (state_of sum machine sum-trace)
+sum-complete = refl
+
+-- what is printed is y + x
+pub sum-delivers : given sum (task 3) ≡ vector (pos 11 ∷ pos 22 ∷ pos 33 ∷ [])
+unfolding int_wrap
+sum-delivers = refl
+
+-- at the end the printed cell, which was written twice, holds that array on the node, and so that is its owner
+pub sum-leaves : (replica (state_of sum machine sum-trace) (cell 1) node ≡ Valid (given sum (task 3))) × (writes (state_of sum machine sum-trace) (cell 1) ≡ 2)
+sum-leaves = (refl, refl)
+
+-- the second load writes what the sum updates, and neither commutes
+load_conflicts : Conflict sum 1 2
+load_conflicts = record { cell = 1; manner_of_t = Write; manner_of_u = Write; first = (0, lit< tt, refl); second = (1, lit< tt, refl); written = λ both. (let e = both.0 in write_isn't_read e); apart = λ m g. unshared m g.shared g.first }
+  where
+    write_isn't_read : Write ≡ Read → ⊥
+    write_isn't_read e = cc
+
+    unshared : (m : Manner) → IsShared m → Uses sum 1 1 m → ⊥
+    unshared Read h u = h
+    unshared Write h u = h
+    unshared (Commute k) h (zero, l, e) = let f : Write ≡ Commute k = ap (λ (u : Usage). u.manner) e in cc
+    unshared (Commute k) h (suc n, l, e) = absurd (omega arith)
+    unshared Contribute h (zero, l, e) = let f : Write ≡ Contribute = ap (λ (u : Usage). u.manner) e in cc
+    unshared Contribute h (suc n, l, e) = absurd (omega arith)
+
+-- the sum may not be claimed while the second load isn't done: no state follows
+pub sum-waits : (s' : State) → ¬ Claims sum machine (state_of sum machine (turn 0 0 [])) (task 2) (worker 0) s'
+sum-waits s' c = false≢true (Ready-earlier sum (state_of sum machine (turn 0 0 [])) (task 2) c.ready (task 1) (lit< tt) load_conflicts)
+
+-- ---- vectors of which two fit the node, and three don't
+
+-- a: 1 2 3, b: 4 5 6, c: 7 8 9, and a is printed
+abbrev pub three : Program
+three = record {
+  cells = columns 3 None ∷ columns 3 None ∷ columns 3 None ∷ [];
+  tasks = a_task Load (pos 1 ∷ pos 2 ∷ pos 3 ∷ []) (access W 0 ∷ []) ∷ a_task Load (pos 4 ∷ pos 5 ∷ pos 6 ∷ []) (access W 1 ∷ []) ∷ a_task Load (pos 7 ∷ pos 8 ∷ pos 9 ∷ []) (access W 2 ∷ []) ∷ a_task Deliver [] (access R 0 ∷ []) ∷ [];
+  deliveries = [];
+  workers = 1;
+}
+
+pub is_its_machine : IsMachineFor three machine
+is_its_machine = record { workers = refl; some_worker = lit≤ tt; few_workers = lit≤ tt; some_node = lit≤ tt; few_nodes = lit≤ tt; few_disks = lit≤ tt }
+
+-- the disk takes all three; where there is none, no cell has a disk
+pub has_its_swap : HasSwapFor three machine
+has_its_swap = record { blocks_fit = refl }
+
+pub has_no_disk : disk_of three (a_machine 1 (64 ∷ []) []) (cell 0) ≡ None
+has_no_disk = refl
+
+-- the cell's one replica is written to the disk and dropped from the node
+abbrev evict : ℕ → List Event → List Event
+evict c rest = Move (cell c) node disk ∷ Moved (cell c) node disk ∷ Drop (cell c) (record { 0 = 0 }) ∷ rest
+
+-- the loads, of which the third evicts a vector, and the claim of the delivery
+abbrev loads : List Event → List Event
+loads rest = turn 0 0 (turn 1 0 (Claim (task 2) (worker 0) ∷ evict 0 (Run (task 2) (worker 0) ∷ End (task 2) (worker 0) ∷ Claim (task 3) (worker 0) ∷ rest)))
+
+abbrev three-trace : List Event
+three-trace = loads (evict 1 (Move (cell 0) disk node ∷ Moved (cell 0) disk node ∷ Run (task 3) (worker 0) ∷ End (task 3) (worker 0) ∷ []))
+
+pub three-legal : Legal three machine three-trace
+three-legal = legal-from three machine three-trace refl
+
+pub three-complete : IsComplete (state_of three machine three-trace)
+three-complete = refl
+
+-- the delivery evicts the least recent vector, and its own comes first
+pub three-evicts : (victims_of (state_of three machine (loads [])) (worker 0) ≡ cell 1 ∷ []) × (order (state_of three machine (loads [])) (record { 0 = 0 }) ≡ cell 0 ∷ cell 2 ∷ [])
+three-evicts = (refl, refl)
+
+-- the vector that comes back from the disk is the one that was loaded
+pub three-brings_back : replica (state_of three machine three-trace) (cell 0) node ≡ Valid (vector (pos 1 ∷ pos 2 ∷ pos 3 ∷ []))
+three-brings_back = refl
+
+-- the delivery may not run while its victim is leaving
+pub three-waits : (s' : State) → ¬ Runs three machine (state_of three machine (loads [])) (task 3) (worker 0) s'
+three-waits s' r = false≢true r.room
+
+-- ---- a reduction by two workers
+
+abbrev two_workers : Machine
+two_workers = a_machine 2 (64 ∷ []) (4096 ∷ [])
+
+-- the second worker contributes, while the phase is open the first one runs the task with scratch
+abbrev reduction-trace : List Event
+reduction-trace = turn 0 0 (turn 1 1 (turn 2 0 (turn 3 0 (turn 4 1 (turn 5 1 (turn 6 0 (turn 7 0 (turn 8 0 (turn 9 1 [])))))))))
+
+pub reduction-legal : Legal Reduction.job two_workers reduction-trace
+reduction-legal = legal-from Reduction.job two_workers reduction-trace refl
+
+pub reduction-complete : IsComplete (state_of Reduction.job two_workers reduction-trace)
+reduction-complete = refl
+
+-- 5 + 2, also where a worker other than the first contributed
+pub reduction-delivers : (given Reduction.job (task 9) ≡ vector (pos 7 ∷ [])) × (replica (state_of Reduction.job two_workers reduction-trace) (cell 2) node ≡ Valid (vector (pos 7 ∷ [])))
+unfolding int_wrap
+reduction-delivers = (refl, refl)

@@ -1,0 +1,6 @@
+//! The text of a trace.
+#![tactic(auto)]
+
+#[cfg(test)]
+mod tests;
+pub mod text;
