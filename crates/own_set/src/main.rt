@@ -4,7 +4,7 @@
 
 ghost use Rattle.std.specs.Prelude.{◌≡◌, ◌↔◌, IsTrue, IfOk, IfErr, Ok, List};
 ghost use Rattle.sj_engine.specs.Run.{HasCodelets};
-ghost use Rattle.sj_job.specs.declared.job.Statement.{Statement};
+ghost use Rattle.sj_job.specs.Act.{Statement};
 ghost use Rattle.sj_job.specs.Reading.{job_of, IsRefusal};
 ghost use Rattle.sj_lower.specs.Lowering.{lowered};
 ghost use Rattle.own_set.specs.Turns.{turns_has, Hands};
@@ -19,7 +19,7 @@ use sj_engine::run::run;
 use sj_job::read::read;
 use sj_job::reason::ReadRefusal;
 use sj_kernels::ring::Ring;
-use sj_lower::lower::lower;
+use sj_lower::lower::{LoweredJob, lower};
 use std::alloc::Global;
 use std::io;
 use std::sync::Arc;
@@ -78,7 +78,7 @@ fn delivered(alloc: Global, text: &[u8]) -> Result<Option<Delivered>, ReadRefusa
     ensures err { IfErr result (λ e. IsRefusal e (job_of turns_has text.now)) }
 {
     let job = read(alloc, text, &Turns)?;
-    let program = lower(alloc, job.statements.items(), 1)?;
+    let LoweredJob { program, .. } = lower(alloc, job, 1)?;
     if !has_codelets(&program) {
         return Ok(None);
     }

@@ -1,4 +1,4 @@
--- When a state is coherent: nine facts that hold at every moment of a legal run
+-- When a state is coherent: ten facts that hold at every moment of a legal run
 -- (CCPE 2011, "Data management": the states of replicas).
 use Rattle.std.specs.Prelude.{◌≡◌, ◌≢◌, ℕ, ◌+◌, ◌<◌, ◌≤◌, Bool, true, false, not, ◌&&◌, IsTrue, nat_eq, Some, List, filter, length, sum_by, All, IfSome, count_by, if◌then◌else◌}
 use Rattle.std.specs.List.{list_any}
@@ -211,7 +211,7 @@ pub record OrderIsKept (p : Program) (s : State) : Type 0 where
 pub record WritesAreCounted (p : Program) (s : State) : Type 0 where
   pub counted : (c : Cell) → writes s c ≡ count_by (has_written p s c) (tasks_of p)
 
--- ---- all nine, of a state of the program and the machine
+-- ---- all ten, of a state of the program and the machine
 
 pub record Coherent (p : Program) (m : Machine) (s : State) : Type 0 where
   pub state : IsStateOf p m s

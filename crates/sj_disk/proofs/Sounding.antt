@@ -200,8 +200,7 @@ module _ {D : Type 0} (size faults mismatches : D → ℕ) (held : D → Option 
 
   pub counts-look : (d : ℕ) (old new : List D) → ChangesAt d (Looks size faults mismatches held false false) old new → CountsStay faults mismatches old new
   counts-look d old new ch =
-      let P : D → D → Type 0 = Looks size faults mismatches held false false in
-      (
+      let P : D → D → Type 0 = Looks size faults mismatches held false false in (
         same-map faults old new ch.as_many (each P (λ x y. faults y ≡ faults x) d old new ch (λ x. refl) (λ x y e p. p.a_fault_is_counted_once)),
         same-map mismatches old new ch.as_many (each P (λ x y. mismatches y ≡ mismatches x) d old new ch (λ x. refl) (λ x y e p. p.a_mismatch_is_counted_once)),
       )
@@ -209,8 +208,7 @@ module _ {D : Type 0} (size faults mismatches : D → ℕ) (held : D → Option 
   pub counts-write : {A : Type 0} (d at : ℕ) (bytes : List ℕ) (r : Result A DiskRefusal) (old new : List D) → ChangesAt d (Writes size faults mismatches held at bytes r) old new → OnOk r (CountsStay faults mismatches old new)
   counts-write d at bytes (Err e) old new ch = tt
   counts-write {A = A} d at bytes (Ok x) old new ch =
-      let P : D → D → Type 0 = Writes {A = A} {E = DiskRefusal} size faults mismatches held at bytes (Ok x) in
-      (
+      let P : D → D → Type 0 = Writes {A = A} {E = DiskRefusal} size faults mismatches held at bytes (Ok x) in (
         same-map faults old new ch.as_many (each P (λ x y. faults y ≡ faults x) d old new ch (λ x. refl) (λ x y e p. p.a_fault_is_counted_once)),
         same-map mismatches old new ch.as_many (each P (λ x y. mismatches y ≡ mismatches x) d old new ch (λ x. refl) (λ x y e p. p.mismatches_stay)),
       )
@@ -414,6 +412,7 @@ module _ {D : Type 0} (size faults mismatches : D → ℕ) (held : D → Option 
         quiet : (q : Result A DiskRefusal) → ChangesAt e.disk.0 (Looks size faults mismatches held (is_fault q) (is_damage q)) old new → OnOk q (CountsStay faults mismatches old new)
         quiet (Ok x) h = counts-look e.disk.0 old new h
         quiet (Err x) h = tt
+
         both : (q : Result A DiskRefusal) {P Q R : Type 0} → (P → Q → R) → OnOk q P → OnOk q Q → OnOk q R
         both (Ok x) f h k = f h k
         both (Err x) f h k = tt

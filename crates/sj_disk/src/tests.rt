@@ -113,7 +113,11 @@ fn a_block_is_a_header_and_the_elements(rt: HostRuntime) -> Result<(), OutOfMemo
 fn cells_go_to_the_first_disk_with_room(rt: HostRuntime) -> Result<(), OutOfMemory> {
     let small = SureDisk::new(rt.alloc(), 60)?;
     let large = SureDisk::new(rt.alloc(), 96)?;
-    let mut set = set_of(&rt, rt.alloc(), Vec::from_array(rt.alloc(), [small, large])?);
+    let mut set = set_of(
+        &rt,
+        rt.alloc(),
+        Vec::from_array(rt.alloc(), [small, large])?,
+    );
     assert_eq!(rt; reserve(&rt, &mut set, 3, 5), Ok(DiskNo(1)));
     assert_eq!(rt; reserve(&rt, &mut set, 0, 2), Ok(DiskNo(0)));
     assert_eq!(rt; reserve(&rt, &mut set, 1, 1), Ok(DiskNo(1)));

@@ -2,7 +2,7 @@
 
 use sj_base::ids::Task;
 
-/// Called before and after each task's kernel, outside of any lock.
+/// What workers are to call before and after each task's kernel, outside of any lock. With one worker nothing calls it yet.
 ///
 /// It may wait, and it changes nothing that a contract sees.
 pub trait Gate: Sync {

@@ -7,48 +7,18 @@ use Rattle.sj_base.specs.declared.mode.Mode.{Mode}
 use Rattle.sj_base.specs.declared.mode.Mode.TheVariants.{R, W, RW, Scratch, Redux, Commute}
 use Rattle.sj_base.specs.Array.{Array}
 use Rattle.sj_codelet.specs.declared.kernel.Kernel.{Kernel}
-use Rattle.sj_codelet.specs.declared.kernel.Kernel.TheVariants.{Fill, Copy, Scale, Add, Axpy, Butterfly, Gemm, GemmThree, Transpose, Dot, Sum, Lowest, MinGemm, FwDiag, FwRow, FwCol, Load, LoadFill, Paste, Deliver, InitPlus, InitLeast}
 use Rattle.sj_codelet.specs.declared.formal.Formal.{Formal}
 use Rattle.sj_codelet.specs.declared.formal.Formal.TheVariants.{R as FormalR, W as FormalW, RW as FormalRW, Scratch as FormalScratch}
 use Rattle.sj_codelet.specs.Kernel.{kernel_of, formals_of, arguments_fit, dims_fit, fits, new_arrays, out}
-use Rattle.sj_job.specs.declared.job.Operand.{Operand}
-use Rattle.sj_job.specs.declared.job.TaskLine.{TaskLine}
+use Rattle.sj_codelet.specs.Formal.{is_output}
+use Rattle.sj_codelet.proofs.Table.{new_arrays-count}
+use Rattle.sj_job.specs.Statement.{Operand, TaskLine}
 use Rattle.sj_job.specs.State.{State}
 use Rattle.sj_job.specs.Meaning.{is_written, written_names}
 use Rattle.sj_job.specs.Judge.{mode_fits, modes_fit}
 use Rattle.sj_job.specs.Sound.{dims_of, IsSoundTask}
 
-abbrev writes : Formal → Bool
-writes FormalR = false
-writes FormalW = true
-writes FormalRW = true
-writes FormalScratch = false
-
-gives : (k : Kernel) (args : List ℤ) (ins : List Array) → length (new_arrays k args ins) ≡ length (filter writes (formals_of k))
-gives Fill args ins = refl
-gives Copy args ins = refl
-gives Scale args ins = refl
-gives Add args ins = refl
-gives Axpy args ins = refl
-gives Butterfly args ins = refl
-gives Gemm args ins = refl
-gives GemmThree args ins = refl
-gives Transpose args ins = refl
-gives Dot args ins = refl
-gives Sum args ins = refl
-gives Lowest args ins = refl
-gives MinGemm args ins = refl
-gives FwDiag args ins = refl
-gives FwRow args ins = refl
-gives FwCol args ins = refl
-gives Load args ins = refl
-gives LoadFill args ins = refl
-gives Paste args ins = refl
-gives Deliver args ins = refl
-gives InitPlus args ins = refl
-gives InitLeast args ins = refl
-
-written_as : (f : Formal) (m : Mode) → mode_fits f m ≡ true → is_written m ≡ writes f
+written_as : (f : Formal) (m : Mode) → mode_fits f m ≡ true → is_written m ≡ is_output f
 written_as FormalR R e = refl
 written_as FormalR W e = absurd (cc)
 written_as FormalR RW e = absurd (cc)
@@ -84,15 +54,15 @@ one_more true false x xs y ys e l = absurd (cc)
 one_more false true x xs y ys e l = absurd (cc)
 one_more false false x xs y ys e l = l
 
-written_formals : (fs : List Formal) (os : List Operand) → length os ≡ length fs → modes_fit fs os ≡ true → length (filter (λ o. is_written o.mode) os) ≡ length (filter writes fs)
+written_formals : (fs : List Formal) (os : List Operand) → length os ≡ length fs → modes_fit fs os ≡ true → length (filter (λ o. is_written o.mode) os) ≡ length (filter is_output fs)
 written_formals [] [] l e = refl
 written_formals [] (o ∷ os) l e = absurd (omega (arith, l))
 written_formals (f ∷ fs) [] l e = absurd (omega (arith, l))
 written_formals (f ∷ fs) (o ∷ os) l e =
     let m = and_parts (mode_fits f o.mode) (modes_fit fs os) e in
-    one_more (is_written o.mode) (writes f) o (filter (λ p. is_written p.mode) os) f (filter writes fs) (written_as f o.mode m.0) (written_formals fs os (omega (arith, l)) m.1)
+    one_more (is_written o.mode) (is_output f) o (filter (λ p. is_written p.mode) os) f (filter is_output fs) (written_as f o.mode m.0) (written_formals fs os (omega (arith, l)) m.1)
 
-written_length : (fs : List Formal) (os : List Operand) → length os ≡ length fs → modes_fit fs os ≡ true → length (written_names os) ≡ length (filter writes fs)
+written_length : (fs : List Formal) (os : List Operand) → length os ≡ length fs → modes_fit fs os ≡ true → length (written_names os) ≡ length (filter is_output fs)
 written_length fs os l e = length-map (filter (λ (o : Operand). is_written o.mode) os) (λ (o : Operand). o.name) ∙ written_formals fs os l e
 
 same_length : (a b : ℕ) → nat_eq a b ≡ true → a ≡ b
@@ -103,7 +73,7 @@ by_kernel has args ds os ins None l f m = absurd (cc)
 by_kernel has args ds os ins (Some k) l f m =
     let counted = (and_parts (nat_eq (length ds) (length (formals_of k))) (arguments_fit k args ds) (and_parts (nat_eq (length ds) (length (formals_of k)) && arguments_fit k args ds) (dims_fit k args ds) (and_parts (has k) (fits k args ds) f).1).0).0 in
     let as_many : length os ≡ length (formals_of k) = sym l ∙ same_length (length ds) (length (formals_of k)) counted in
-    gives k args ins ∙ sym (written_length (formals_of k) os as_many m)
+    new_arrays-count k args ins ∙ sym (written_length (formals_of k) os as_many m)
 
 pub gives_all : (has : Kernel → Bool) (S : State) (t : TaskLine) (ins : List Array) → IsSoundTask has S t → length (out t.codelet t.args ins) ≡ length (written_names t.operands)
 gives_all has S t ins h =

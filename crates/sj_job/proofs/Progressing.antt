@@ -1,36 +1,20 @@
 -- A text read one line further.
 use Rattle.std.proofs.Common.{◌≡◌, ℕ, ◌+◌, ◌≤◌, Bool, List, [], ◌∷◌, ◌++◌, length, map, refl, ap, ◌∙◌, sym, arith, Result, Ok, Err, append_assoc, length-append}
 use Rattle.sj_codelet.specs.declared.kernel.Kernel.{Kernel}
-use Rattle.sj_job.specs.declared.job.Act.{Act}
-use Rattle.sj_job.specs.declared.job.Statement.{Statement}
+use Rattle.sj_job.specs.Act.{Act}
+use Rattle.sj_job.specs.Act.{Statement}
 use Rattle.sj_job.specs.declared.reason.Reason.{Reason}
-use Rattle.sj_job.specs.declared.read.Verdict.{Verdict}
-use Rattle.sj_job.specs.declared.read.Verdict.TheVariants.{Skipped, Does, Bad}
+use Rattle.sj_job.specs.Verdict.{Verdict}
+use Rattle.sj_job.specs.Verdict.{Skipped, Does, Bad}
 use Rattle.sj_job.specs.State.{State, start}
-use Rattle.sj_job.specs.Meaning.{apply, run_from, written_names, operand_array}
+use Rattle.sj_job.specs.Meaning.{apply, run_from}
 use Rattle.sj_job.specs.Judge.{scope_of}
 use Rattle.sj_job.specs.Reading.{Refusal, refusal, statement, before, reading, verdict_of}
 use Rattle.sj_job.specs.Progress.{after, text_with}
-use Rattle.sj_codelet.specs.Kernel.{out}
-use Rattle.sj_job.specs.declared.job.Act.TheVariants.{Register, Task, Print, Invalidate, Unregister}
-use Rattle.sj_job.proofs.Seen.{put_all_registers, invalidate_registers}
 
 pub run_from-push : (S : State) (ss : List Statement) (s : Statement) → run_from S (ss ++ s ∷ []) ≡ apply s.act (run_from S ss)
 run_from-push S [] s = refl
 run_from-push S (t ∷ ts) s = run_from-push (apply t.act S) ts s
-
--- a statement registers one name at most
-apply_counts : (act : Act) (S : State) → (apply act S).registered ≤ S.registered + 1
-apply_counts (Register r) S = omega arith
-apply_counts (Task t) S = omega (arith, put_all_registers (written_names t.operands) (out t.codelet t.args (map (operand_array S) t.operands)) S)
-apply_counts (Print name) S = omega arith
-apply_counts (Invalidate name) S = omega (arith, invalidate_registers name S)
-apply_counts (Unregister name) S = omega arith
-
--- no more names than statements
-pub registered-le : (S : State) (ss : List Statement) → (run_from S ss).registered ≤ S.registered + length ss
-registered-le S [] = omega arith
-registered-le S (t ∷ ts) = omega (arith, registered-le (apply t.act S) ts, apply_counts t.act S)
 
 pub after-push : (ss : List Statement) (s : Statement) (r : Result (List Statement) Refusal) → after (ss ++ s ∷ []) r ≡ after ss (before s r)
 after-push ss s (Ok more) = ap Ok (append_assoc ss (s ∷ []) more)

@@ -1,24 +1,32 @@
 -- The reader's names go on agreeing with the state, statement by statement.
 use Rattle.std.specs.FinMap as map
-use Rattle.std.proofs.Common.{◌≡◌, ℕ, zero, suc, ◌+◌, ◌≤◌, Bool, true, false, List, [], ◌∷◌, length, drop, refl, ap, ◌∙◌, sym, subst, Option, Some, None, option_map, is_some, cond, ◌||◌, ℤ, map as each_of, filter, replicate, arith, bytes_eq}
+use Rattle.std.proofs.Common.{◌≡◌, ℕ, zero, suc, ◌+◌, ◌≤◌, Bool, true, false, List, [], ◌∷◌, length, drop, refl, ap, ◌∙◌, sym, subst, Option, Some, None, option_map, is_some, cond, ◌||◌, ℤ, map as each_of, filter, replicate, arith, bytes_eq, get_or, length-append, ◌++◌, ◌<◌}
+use Rattle.std.proofs.Math.ListN.{set}
+use Rattle.std.proofs.lemmas.List.{length-set}
 use Rattle.std.specs.List.{list_all, list_any, range_with_len}
 use Rattle.std.specs.Ordering.{nat_cmp, eq_by_cmp}
 use Rattle.std.specs.Cmp.{eq_by_cmp_equiv}
 use Rattle.std.specs.Cmp.Lexicographic.{slice_cmp, nat_list_cmp_total, texts_ties, same_text}
-use Rattle.std.specs.Map.{lookup}
-use Rattle.std.specs.BTreeMap.{is_at, Updates}
-use Rattle.std.specs.BTreeSet.{Updates as Adds}
 use Rattle.sj_base.specs.Array.{Array, area}
 use Rattle.sj_job.specs.declared.job.Init.{Init}
 use Rattle.sj_job.specs.declared.job.Init.TheVariants.{Values, Fill, Nothing}
-use Rattle.sj_job.specs.declared.job.Register.{Register}
-use Rattle.sj_job.specs.declared.job.Operand.{Operand}
+use Rattle.sj_job.specs.Statement.{Register}
+use Rattle.sj_job.specs.Statement.{Operand}
 use Rattle.sj_job.specs.declared.names.Known.{Known}
+use Rattle.sj_base.specs.declared.ids.Root.{Root as RootNumber}
+use Rattle.sj_base.specs.declared.tile.Dims.{Dims}
+use Rattle.sj_job.specs.declared.job.RootInfo.{RootInfo}
+use Rattle.sj_job.specs.declared.names.Standing.{Standing}
+use Rattle.sj_job.specs.declared.names.Standing.TheVariants.{Valued, Unvalued, Ended}
+use Rattle.sj_job.specs.declared.names.Found.{Found}
 use Rattle.sj_job.specs.declared.names.Names.{Names}
 use Rattle.sj_job.specs.State.{Root, State, root_of, start}
 use Rattle.sj_job.specs.Meaning.{no_values, first_elements, registered_root, register, is_written, written_names, put, put_all, invalidate, unregister}
 use Rattle.sj_job.specs.Judge.{known_of, scope_of}
-use Rattle.sj_job.specs.Names.{known_in, ended_in, scope_in, gives_values, revalued, after_write, after_writes}
+use Rattle.sj_job.specs.Names.{IsCounted, known_in, ended_in, known_by, known_from, ended_from, found_in, scope_in, gives_values, first_standing, revalued_standing, revalued, after_write, after_writes}
+use Rattle.sj_job.specs.Table.{Table, table, a_root, name_of, info_of, root_in, IsRoot, with_root}
+use Rattle.sj_job.specs.View.{registration}
+use Rattle.sj_job.proofs.Places.{a_found, found_with, found-set, found-pushed}
 use Rattle.sj_job.specs.Sees.{Sees, Shows}
 
 -- what a state shows the reasons of a name
@@ -65,19 +73,48 @@ filled_insert : (S : State) (name : List ℕ) (new : Root) → AreFilled S → 1
 filled_insert S name new h p q x e =
     filled_by (eq_by_cmp (slice_cmp nat_cmp) q name) new (root_of S q) x p (h q) (sym (map.get-insert nat_list_cmp_total S.roots name new q) ∙ e)
 
-pub shows_registered : (old new : Names) (S : State) (r : Register) → let known : Known = record { dims = r.dims; valued = gives_values r.init } in 1 ≤ area r.dims → Shows old S → new.registered ≡ old.registered + 1 → ((q : List ℕ) → ended_in new q ≡ ended_in old q) → Updates (slice_cmp nat_cmp) old.roots new.roots r.name (Some known) → Shows new (register r S)
-shows_registered old new S r p h k d u = record {
-  registered = k ∙ ap (λ m. m + 1) h.registered;
-  ended = λ q. d q ∙ h.ended q;
-  known = λ q.
-      let known : Known = record { dims = r.dims; valued = gives_values r.init } in
-      let same : known ≡ known_of (registered_root r) = ap (λ v. let k : Known = record { dims = r.dims; valued = v } in k) (sym (valued_first r r.init p)) in
-      u.0 q
-      ∙ one_more (is_at (slice_cmp nat_cmp r.name) q) known (known_in old q) (registered_root r) (root_of S q) same (h.known q)
-      ∙ ap (λ b. option_map known_of (cond b (Some (registered_root r)) (root_of S q))) ((eq_by_cmp_equiv nat_list_cmp_total).symm r.name q)
-      ∙ ap (option_map known_of) (sym (map.get-insert nat_list_cmp_total S.roots r.name (registered_root r) q));
-  filled = filled_insert S r.name (registered_root r) h.filled p;
-}
+first_known : (d : Dims) (i : Init) → known_by d (first_standing i) ≡ Some (record { dims = d; valued = gives_values i })
+first_known d (Values xs) = refl
+first_known d (Fill a b) = refl
+first_known d Nothing = refl
+
+known_pushed : (b : Bool) (f : Found) (o : Option Found) → known_from (cond b (Some f) o) ≡ cond b (known_by f.dims f.standing) (known_from o)
+known_pushed true f o = refl
+known_pushed false f o = refl
+
+ended_pushed : (b : Bool) (i : Init) (n : RootNumber) (d : Dims) (o : Option Found) → (b ≡ true → o ≡ None) → ended_from (cond b (Some (a_found n d (first_standing i))) o) ≡ ended_from o
+ended_pushed true (Values xs) n d o h = sym (ap ended_from (h refl))
+ended_pushed true (Fill x y) n d o h = sym (ap ended_from (h refl))
+ended_pushed true Nothing n d o h = sym (ap ended_from (h refl))
+ended_pushed false i n d o h = refl
+
+pub shows_registered : (old new : Names) (S : State) (name : List ℕ) (info : RootInfo) (init : Init) → 1 ≤ area info.dims → Shows old S → root_in old.roots name ≡ None → length old.roots.infos ≡ length old.roots.names
+    → new.roots ≡ with_root name info old.roots → new.standings.items ≡ old.standings.items ++ first_standing init ∷ [] → IsCounted new → Shows new (register (registration name info init) S)
+shows_registered old new S name info init p h none k e s counted =
+    let r = registration name info init in
+    let count : length old.standings.items ≡ length old.roots.names = omega (arith, old.standings.ok, h.counted) in
+    let found : (q : List ℕ) → found_in new q ≡ cond (bytes_eq q name) (Some (a_found (a_root (length old.roots.names)) info.dims (first_standing init))) (found_in old q) = λ q.
+    ap (λ (T : Table). found_with T new.standings.items q) e
+    ∙ ap (λ (xs : List Standing). found_with (with_root name info old.roots) xs q) s
+    ∙ found-pushed old.roots old.standings.items name info (first_standing init) q k count none in
+    record {
+      counted = counted;
+      registered = ap (λ (T : Table). length T.names) e ∙ length-append old.roots.names (name ∷ []) ∙ ap (λ m. m + 1) h.registered;
+      ended = λ q.
+          ap ended_from (found q)
+          ∙ ended_pushed (bytes_eq q name) init (a_root (length old.roots.names)) info.dims (found_in old q) (λ t. ap (found_in old) (same_text q name (sym t)) ∙ ap (λ o. option_map (λ (r : RootNumber). a_found r (info_of old.roots r).dims (get_or old.standings.items r.0 Ended)) o) none)
+          ∙ h.ended q;
+      known = λ q.
+          let known : Known = record { dims = info.dims; valued = gives_values init } in
+          let same : known ≡ known_of (registered_root r) = ap (λ v. let k : Known = record { dims = info.dims; valued = v } in k) (sym (valued_first r init p)) in
+          ap known_from (found q)
+          ∙ known_pushed (bytes_eq q name) (a_found (a_root (length old.roots.names)) info.dims (first_standing init)) (found_in old q)
+          ∙ ap (λ o. cond (bytes_eq q name) o (known_in old q)) (first_known info.dims init)
+          ∙ one_more (bytes_eq q name) known (known_in old q) (registered_root r) (root_of S q) same (h.known q)
+          ∙ ap (λ b. option_map known_of (cond b (Some (registered_root r)) (root_of S q))) (texts_ties q name)
+          ∙ ap (option_map known_of) (sym (map.get-insert nat_list_cmp_total S.roots name (registered_root r) q));
+      filled = filled_insert S name (registered_root r) h.filled p;
+    }
 
 -- ---- a root less
 
@@ -93,21 +130,46 @@ either : (b k : Bool) → cond b true k ≡ (b || k)
 either true k = refl
 either false k = refl
 
-pub shows_ended : (old new : Names) (S : State) (name : List ℕ) → Shows old S → new.registered ≡ old.registered → Adds (slice_cmp nat_cmp) old.ended new.ended name true → Updates (slice_cmp nat_cmp) old.roots new.roots name None → Shows new (unregister name S)
-shows_ended old new S name h k d u = record {
-  registered = k ∙ h.registered;
-  ended = λ q.
-      d.0 q
-      ∙ ap (cond (is_at (slice_cmp nat_cmp name) q) true) (h.ended q)
-      ∙ ap (λ b. cond b true (list_any (bytes_eq q) S.ended)) ((eq_by_cmp_equiv nat_list_cmp_total).symm name q ∙ sym (texts_ties q name))
-      ∙ either (bytes_eq q name) (list_any (bytes_eq q) S.ended);
-  known = λ q.
-      u.0 q
-      ∙ less (is_at (slice_cmp nat_cmp name) q) (known_in old q) (root_of S q) (h.known q)
-      ∙ ap (λ b. option_map known_of (cond b None (root_of S q))) ((eq_by_cmp_equiv nat_list_cmp_total).symm name q)
-      ∙ ap (option_map known_of) (sym (map.get-remove nat_list_cmp_total S.roots name q));
-  filled = λ q x e. filled_less (eq_by_cmp (slice_cmp nat_cmp) q name) (root_of S q) x (h.filled q) (sym (map.get-remove nat_list_cmp_total S.roots name q) ∙ e);
-}
+known_over : (b : Bool) (n : RootNumber) (d : Dims) (o : Option Found) → known_from (cond b (Some (a_found n d Ended)) o) ≡ cond b None (known_from o)
+known_over true n d o = refl
+known_over false n d o = refl
+
+ended_over : (b : Bool) (n : RootNumber) (d : Dims) (o : Option Found) → ended_from (cond b (Some (a_found n d Ended)) o) ≡ cond b true (ended_from o)
+ended_over true n d o = refl
+ended_over false n d o = refl
+
+-- the standing of one root is another one
+pub record IsSet (old new : Names) (r : RootNumber) (st : Standing) : Type 0 where
+  pub roots : new.roots ≡ old.roots
+  pub standings : new.standings.items ≡ set old.standings.items r.0 st
+  pub root : IsRoot old.roots r
+  pub below : r.0 < length old.standings.items
+
+found_set : (old new : Names) (r : RootNumber) (st : Standing) (q : List ℕ) → IsSet old new r st → found_in new q ≡ cond (bytes_eq q (name_of old.roots r)) (Some (a_found r (info_of old.roots r).dims st)) (found_in old q)
+found_set old new r st q h =
+    ap (λ (T : Table). found_with T new.standings.items q) h.roots
+    ∙ ap (λ (xs : List Standing). found_with old.roots xs q) h.standings
+    ∙ found-set old.roots old.standings.items r st q h.root h.below
+
+pub shows_ended : (old new : Names) (S : State) (r : RootNumber) → Shows old S → IsSet old new r Ended → IsCounted new → Shows new (unregister (name_of old.roots r) S)
+shows_ended old new S r h k counted =
+    let name = name_of old.roots r in
+    record {
+      counted = counted;
+      registered = ap (λ (T : Table). length T.names) k.roots ∙ h.registered;
+      ended = λ q.
+          ap ended_from (found_set old new r Ended q k)
+          ∙ ended_over (bytes_eq q name) r (info_of old.roots r).dims (found_in old q)
+          ∙ ap (cond (bytes_eq q name) true) (h.ended q)
+          ∙ either (bytes_eq q name) (list_any (bytes_eq q) S.ended);
+      known = λ q.
+          ap known_from (found_set old new r Ended q k)
+          ∙ known_over (bytes_eq q name) r (info_of old.roots r).dims (found_in old q)
+          ∙ less (bytes_eq q name) (known_in old q) (root_of S q) (h.known q)
+          ∙ ap (λ b. option_map known_of (cond b None (root_of S q))) (texts_ties q name)
+          ∙ ap (option_map known_of) (sym (map.get-remove nat_list_cmp_total S.roots name q));
+      filled = λ q x e. filled_less (eq_by_cmp (slice_cmp nat_cmp) q name) (root_of S q) x (h.filled q) (sym (map.get-remove nat_list_cmp_total S.roots name q) ∙ e);
+    }
 
 -- ---- other elements in place of a name's old ones
 
@@ -151,12 +213,13 @@ replaced_counts f S name (Some r) = (refl, refl)
 revalued_same : (v : Bool) (name : List ℕ) (k l : List ℕ → Option Known) → ((q : List ℕ) → k q ≡ l q) → (q : List ℕ) → revalued v name k q ≡ revalued v name l q
 revalued_same v name k l h q = ap (λ o. cond (bytes_eq q name) (option_map (with_valued v) o) o) (h q)
 
-pub shows_invalidated : (old new : Names) (S : State) (name : List ℕ) → Shows old S → new.registered ≡ old.registered → ((q : List ℕ) → ended_in new q ≡ ended_in old q) → ((q : List ℕ) → known_in new q ≡ revalued false name (known_in old) q) → Shows new (invalidate name S)
-shows_invalidated old new S name h k d u =
+pub shows_invalidated : (old new : Names) (S : State) (name : List ℕ) → Shows old S → IsCounted new → new.roots ≡ old.roots → ((q : List ℕ) → ended_in new q ≡ ended_in old q) → ((q : List ℕ) → known_in new q ≡ revalued false name (known_in old) q) → Shows new (invalidate name S)
+shows_invalidated old new S name h counted k d u =
     let f : Root → List (Option ℤ) = λ r. no_values r.dims in
     let counts = replaced_counts f S name (root_of S name) in
     record {
-      registered = k ∙ h.registered ∙ sym counts.0;
+      counted = counted;
+      registered = ap (λ (T : Table). length T.names) k ∙ h.registered ∙ sym counts.0;
       ended = λ q. d q ∙ h.ended q ∙ ap (list_any (bytes_eq q)) (sym counts.1);
       known = λ q. u q ∙ revalued_same false name (known_in old) (shown S) h.known q ∙ sym (replaced_shows false f S name (root_of S name) refl (λ r e. none_some (area r.dims) (h.filled name r e)) q);
       filled = replaced_filled f S name (root_of S name) refl h.filled;
@@ -200,47 +263,73 @@ after_writes_same os k l h q = λ i. after_writes os (λ p. h p i) q
 pub written_more : (os : List Operand) (i : ℕ) (o : Operand) (k new : List ℕ → Option Known) → drop i os ≡ o ∷ drop (i + 1) os → ((q : List ℕ) → new q ≡ after_write o k q) → (q : List ℕ) → after_writes (drop (i + 1) os) new q ≡ after_writes (drop i os) k q
 written_more os i o k new e h q = after_writes_same (drop (i + 1) os) new (after_write o k) h q ∙ ap (λ l. after_writes l k q) (sym e)
 
-updated : (b v : Bool) (known : Known) (k : Option Known) → (b ≡ true → k ≡ Some known) → cond b (Some (with_valued v known)) k ≡ cond b (option_map (with_valued v) k) k
-updated true v known k h = sym (ap (option_map (with_valued v)) (h refl))
-updated false v known k h = refl
+restood : (v : Bool) (d : Dims) (st : Standing) → known_by d (revalued_standing v st) ≡ option_map (with_valued v) (known_by d st)
+restood true d Valued = refl
+restood true d Unvalued = refl
+restood true d Ended = refl
+restood false d Valued = refl
+restood false d Unvalued = refl
+restood false d Ended = refl
 
--- what was written for a name is seen
-pub revalued_from : (v : Bool) (name : List ℕ) (known : Known) (k : List ℕ → Option Known) (n : Option Known) (q : List ℕ) → k name ≡ Some known → n ≡ cond (is_at (slice_cmp nat_cmp name) q) (Some (with_valued v known)) (k q) → n ≡ revalued v name k q
-revalued_from v name known k n q e u =
-    u
-    ∙ ap (λ b. cond b (Some (with_valued v known)) (k q)) ((eq_by_cmp_equiv nat_list_cmp_total).symm name q ∙ sym (texts_ties q name))
-    ∙ updated (bytes_eq q name) v known (k q) (λ t. ap k (same_text q name (sym t)) ∙ e)
+as_ended : (v : Bool) (n : RootNumber) (d : Dims) (st : Standing) → ended_from (Some (a_found n d (revalued_standing v st))) ≡ ended_from (Some (a_found n d st))
+as_ended true n d Valued = refl
+as_ended true n d Unvalued = refl
+as_ended true n d Ended = refl
+as_ended false n d Valued = refl
+as_ended false n d Unvalued = refl
+as_ended false n d Ended = refl
 
-pub shows_put : (old new : Names) (S : State) (os : List Operand) (arrays : List Array) → length arrays ≡ length (written_names os) → Shows old S → new.registered ≡ old.registered → ((q : List ℕ) → ended_in new q ≡ ended_in old q) → ((q : List ℕ) → known_in new q ≡ after_writes os (known_in old) q) → Shows new (put_all (written_names os) arrays S)
-shows_put old new S os arrays l h k d u =
+known_again : (v b : Bool) (n : RootNumber) (d : Dims) (st : Standing) (o : Option Found) → (b ≡ true → o ≡ Some (a_found n d st)) → known_from (cond b (Some (a_found n d (revalued_standing v st))) o) ≡ cond b (option_map (with_valued v) (known_from o)) (known_from o)
+known_again v true n d st o h = restood v d st ∙ sym (ap (λ o. option_map (with_valued v) (known_from o)) (h refl))
+known_again v false n d st o h = refl
+
+ended_again : (v b : Bool) (n : RootNumber) (d : Dims) (st : Standing) (o : Option Found) → (b ≡ true → o ≡ Some (a_found n d st)) → ended_from (cond b (Some (a_found n d (revalued_standing v st))) o) ≡ ended_from o
+ended_again v true n d st o h = as_ended v n d st ∙ sym (ap ended_from (h refl))
+ended_again v false n d st o h = refl
+
+found_there : (old : Names) (r : RootNumber) (q : List ℕ) → IsRoot old.roots r → bytes_eq q (name_of old.roots r) ≡ true → found_in old q ≡ Some (a_found r (info_of old.roots r).dims (get_or old.standings.items r.0 Ended))
+found_there old r q h t =
+    ap (found_in old) (same_text q (name_of old.roots r) (sym t))
+    ∙ ap (option_map (λ (s : RootNumber). a_found s (info_of old.roots s).dims (get_or old.standings.items s.0 Ended))) h
+
+-- what was set for a root that is valued or not
+pub known_revalued : (old new : Names) (r : RootNumber) (v : Bool) (q : List ℕ) → IsSet old new r (revalued_standing v (get_or old.standings.items r.0 Ended)) → known_in new q ≡ revalued v (name_of old.roots r) (known_in old) q
+known_revalued old new r v q h =
+    ap known_from (found_set old new r _ q h)
+    ∙ known_again v (bytes_eq q (name_of old.roots r)) r (info_of old.roots r).dims (get_or old.standings.items r.0 Ended) (found_in old q) (found_there old r q h.root)
+
+pub ended_revalued : (old new : Names) (r : RootNumber) (v : Bool) (q : List ℕ) → IsSet old new r (revalued_standing v (get_or old.standings.items r.0 Ended)) → ended_in new q ≡ ended_in old q
+ended_revalued old new r v q h =
+    ap ended_from (found_set old new r _ q h)
+    ∙ ended_again v (bytes_eq q (name_of old.roots r)) r (info_of old.roots r).dims (get_or old.standings.items r.0 Ended) (found_in old q) (found_there old r q h.root)
+
+pub shows_put : (old new : Names) (S : State) (os : List Operand) (arrays : List Array) → length arrays ≡ length (written_names os) → Shows old S → IsCounted new → new.roots ≡ old.roots → ((q : List ℕ) → ended_in new q ≡ ended_in old q) → ((q : List ℕ) → known_in new q ≡ after_writes os (known_in old) q) → Shows new (put_all (written_names os) arrays S)
+shows_put old new S os arrays l h counted k d u =
     let counts = put_all_counts (written_names os) arrays S in
     record {
-      registered = k ∙ h.registered ∙ sym counts.0;
+      counted = counted;
+      registered = ap (λ (T : Table). length T.names) k ∙ h.registered ∙ sym counts.0;
       ended = λ q. d q ∙ h.ended q ∙ ap (list_any (bytes_eq q)) (sym counts.1);
       known = λ q. u q ∙ sym (put_all_shows os arrays S (known_in old) (λ p. sym (h.known p)) l q);
       filled = put_all_filled (written_names os) arrays S h.filled;
     }
 
--- a statement registers one name at most
-pub put_all_registers : (ns : List (List ℕ)) (arrays : List Array) (S : State) → (put_all ns arrays S).registered ≡ S.registered
-put_all_registers ns arrays S = (put_all_counts ns arrays S).0
-
-pub invalidate_registers : (name : List ℕ) (S : State) → (invalidate name S).registered ≡ S.registered
-invalidate_registers name S = let f : Root → List (Option ℤ) = λ r. no_values r.dims in (replaced_counts f S name (root_of S name)).0
-
 -- ---- whole scopes
 
 -- before the first statement
-pub sees_start : (new : Names) → new.statements ≡ 0 → new.registered ≡ 0 → new.roots.entries ≡ [] → new.ended.keys ≡ [] → Sees new 0 start
-sees_start new s k e d = record {
-  statements = s;
-  shows = record {
-    registered = k;
-    ended = λ q. ap (λ ks. list_any (is_at (slice_cmp nat_cmp q)) ks) d;
-    known = λ q. ap (λ es. lookup (is_at (slice_cmp nat_cmp q)) es) e ∙ ap (option_map known_of) (sym (map.get-empty (slice_cmp nat_cmp) q));
-    filled = λ q r f. let empty : root_of start q ≡ None = map.get-empty (slice_cmp nat_cmp) q in absurd (cc);
-  };
-}
+pub sees_start : (new : Names) → new.statements ≡ 0 → new.roots ≡ table [] [] → new.standings.items ≡ [] → Sees new 0 start
+sees_start new s e d =
+    let nothing : (q : List ℕ) → found_in new q ≡ None = λ q. ap (λ (T : Table). found_with T new.standings.items q) e in
+    record {
+      statements = s;
+      shows = record {
+        counted = omega (arith, new.standings.ok, ap length d, ap (λ (T : Table). length T.names) e);
+        registered = ap (λ (T : Table). length T.names) e;
+        ended = λ q. ap ended_from (nothing q);
+        known = λ q. ap known_from (nothing q) ∙ ap (option_map known_of) (sym (map.get-empty (slice_cmp nat_cmp) q));
+        filled = λ q r f. let empty : root_of start q ≡ None = map.get-empty (slice_cmp nat_cmp) q in absurd (cc);
+      };
+    }
 
 -- the reasons see the same scope
 pub same_scope : (names : Names) (n : ℕ) (S : State) → Sees names n S → scope_in names ≡ scope_of n S

@@ -1,6 +1,6 @@
 -- An act that is allowed is sound.
 use Rattle.std.proofs.Common.{◌≡◌, ℕ, ◌≤◌, ◌*◌, ◌&&◌, ◌||◌, not, nat_le, Bool, true, false, List, [], ◌∷◌, map, refl, ap, ◌∙◌, sym, subst, Option, Some, None, option_map, is_some, Result, Ok, Err, cond, arith, ℤ, unwrap_or}
-use Rattle.std.specs.Prelude.{find}
+use Rattle.std.specs.Prelude.{find, is_none}
 use Rattle.std.specs.List.{list_all, list_any}
 use Rattle.std.proofs.lemmas.Bool.Decides.{nat_tests}
 use Rattle.std.proofs.lemmas.Nat.{mul-le}
@@ -8,27 +8,32 @@ use Rattle.sj_base.specs.declared.tile.Dims.{Dims}
 use Rattle.sj_base.specs.declared.program.Codelet.{Codelet}
 use Rattle.sj_base.specs.Array.{area}
 use Rattle.sj_codelet.specs.declared.kernel.Kernel.{Kernel}
-use Rattle.sj_codelet.specs.declared.kernel.Kernel.TheVariants.{Fill, Copy, Scale, Add, Axpy, Butterfly, Gemm, GemmThree, Transpose, Dot, Sum, Lowest, MinGemm, FwDiag, FwRow, FwCol, Load, LoadFill, Paste, Deliver, InitPlus, InitLeast}
-use Rattle.sj_codelet.specs.Kernel.{kernels, kernel_of, codelet_of, has_name, named_in, formals_of, fits, fits_in}
+use Rattle.sj_codelet.specs.Kernel.{kernels, kernel_of, codelet_of, has_name, formals_of, fits, fits_in}
 use Rattle.sj_codelet.specs.Runs.{formals_in}
+use Rattle.sj_codelet.proofs.Table.{kernel_of-codelet_of}
 use Rattle.sj_job.specs.declared.job.Init.{Init}
-use Rattle.sj_job.specs.declared.job.Init.TheVariants.{Values, Fill as Filling, Nothing}
-use Rattle.sj_job.specs.declared.job.Register.{Register}
-use Rattle.sj_job.specs.declared.job.Operand.{Operand}
-use Rattle.sj_job.specs.declared.job.TaskLine.{TaskLine}
-use Rattle.sj_job.specs.declared.job.Act.{Act}
+use Rattle.sj_job.specs.declared.job.Init.TheVariants.{Values, Fill, Nothing}
+use Rattle.sj_job.specs.Statement.{Register}
+use Rattle.sj_job.specs.Statement.{Operand}
+use Rattle.sj_job.specs.Statement.{TaskLine}
+use Rattle.sj_job.specs.Act.{Act}
 use Rattle.sj_job.specs.declared.reason.Reason.{Reason}
-use Rattle.sj_job.specs.declared.reason.Reason.TheVariants.{UnknownCodelet}
-use Rattle.sj_job.specs.declared.sentence.Registration.{Registration}
-use Rattle.sj_job.specs.declared.sentence.Call.{Call}
-use Rattle.sj_job.specs.declared.sentence.Sentence.{Sentence}
-use Rattle.sj_job.specs.declared.sentence.Sentence.TheVariants.{Register as Registering, Task, Print, Invalidate, Unregister}
-use Rattle.sj_job.specs.Sentence.{said}
+use Rattle.sj_job.specs.declared.form.ArrayForm.{ArrayForm}
+use Rattle.sj_job.specs.declared.form.OperandForm.{OperandForm}
+use Rattle.sj_job.specs.declared.form.TaskForm.{TaskForm}
+use Rattle.sj_job.specs.declared.form.Form.{Form}
+use Rattle.sj_job.specs.declared.form.Form.TheVariants as form
+use Rattle.sj_base.specs.declared.mode.Mode.{Mode}
+use Rattle.sj_base.specs.declared.mode.Mode.TheVariants.{R, W, RW, Scratch, Redux, Commute}
+use Rattle.sj_job.specs.declared.reason.Reason.TheVariants.{Word, Number, NotBuilt}
+use Rattle.sj_job.specs.Act.{Register as Registers, Task, Print, Invalidate, Unregister}
+use Rattle.sj_job.specs.Form.{form_of}
+use Rattle.sj_job.specs.Word.{integer}
+use Rattle.sj_job.specs.Sentence.{is_misplaced, is_numbered, is_built, is_built_mode, rows_of, cols_of, init_said, registered_by, operand_said, operands_said, priority_said, task_said, said_of, said}
 use Rattle.sj_job.specs.State.{State, Root, root_of, is_valued}
-use Rattle.sj_job.specs.Judge.{Scope, scope_of, is_begun, known_of, first_of, complaint, act_of, judged, register_reasons, task_reasons, print_reasons, name_reasons, operand_reasons, kernel_in, is_shaped, modes_fit, dims_in, is_side, is_outside, is_miscounted, is_unknown, is_ended, needs_value, lacks_value, is_priority}
+use Rattle.sj_job.specs.Judge.{Scope, scope_of, is_begun, known_of, first_of, unless, judged_by, judged_call, judged_task, judged, kernel_named, register_reasons, line_reasons, print_reasons, name_reasons, operand_reasons, is_shaped, modes_fit, dims_in, is_side, is_outside, is_miscounted, is_unknown, is_ended, needs_value, lacks_value, is_priority}
 use Rattle.sj_job.specs.Well.{IsAllowed}
 use Rattle.sj_job.specs.Sound.{dims_of, has_root, has_values, is_plain, IsSoundTask, InitFits, IsSoundRegistration, IsSoundAct}
-use Rattle.sj_job.proofs.Spelled.{IsSpelled, spelled_from_said}
 
 -- ---- tests
 
@@ -63,19 +68,20 @@ none_hold : (cs : List (Bool × Reason)) → first_of cs ≡ None → NoneHolds 
 none_hold [] e = tt
 none_hold (c ∷ cs) e = let p = none_first c.0 c.1 (first_of cs) e in (p.0, none_hold cs p.1)
 
--- what a sentence without a reason does
-by_complaint : (scope : Scope) (s : Sentence) (act : Act) (o : Option Reason) → complaint scope s ≡ o → (elim o as (λ _. Result Act Reason) [ Some why ↦ Err why | None ↦ Ok (act_of s) ]) ≡ Ok act → (complaint scope s ≡ None) × (act_of s ≡ act)
-by_complaint scope s act (Some why) p e = absurd (cc)
-by_complaint scope s act None p e = (p, cc)
+-- an act against which there is no reason
+pub unless_parts : (o : Option Reason) (a act : Act) → unless o a ≡ Ok act → (o ≡ None) × (a ≡ act)
+unless_parts (Some why) a act e = absurd (cc)
+unless_parts None a act e = (refl, cc)
 
-does : (scope : Scope) (s : Sentence) (act : Act) → judged scope s ≡ Ok act → (complaint scope s ≡ None) × (act_of s ≡ act)
-does scope s act e = by_complaint scope s act (complaint scope s) refl e
+by_parts : (o : Option Reason) (r : Result Act Reason) (act : Act) → judged_by o r ≡ Ok act → (o ≡ None) × (r ≡ Ok act)
+by_parts (Some why) r act e = absurd (cc)
+by_parts None r act e = (refl, e)
 
 -- ---- registrations
 
 fits_init : (i : Init) (r c : ℕ) → is_miscounted i r c ≡ false → let d : Dims = record { rows = r; cols = c } in InitFits i d
 fits_init (Values zs) r c e = grind (arith, nat_tests)
-fits_init (Filling a b) r c e = tt
+fits_init (Fill a b) r c e = tt
 fits_init Nothing r c e = tt
 
 -- dimensions within their limits
@@ -104,16 +110,16 @@ not_taken : (o : Option Root) → is_some (option_map known_of o) ≡ false → 
 not_taken None e = refl
 not_taken (Some r) e = absurd (cc)
 
-sound_registration : (n : ℕ) (S : State) (t : Registration) → complaint (scope_of n S) (Registering t) ≡ None → let r : Register = record { name = t.name; kind = t.kind; dims = record { rows = t.rows; cols = t.cols }; init = t.init } in IsSoundRegistration S r
-sound_registration n S t e =
-    let h = none_hold (register_reasons (scope_of n S) t) e in
-    let i = inside t.rows t.cols h.1.1.0 in
+sound_registration : (n : ℕ) (S : State) (a : ArrayForm) → first_of (register_reasons (scope_of n S) a.name (rows_of a.size) (cols_of a.size) (init_said a.init)) ≡ None → IsSoundRegistration S (registered_by a)
+sound_registration n S a e =
+    let h = none_hold (register_reasons (scope_of n S) a.name (rows_of a.size) (cols_of a.size) (init_said a.init)) e in
+    let i = inside (rows_of a.size) (cols_of a.size) h.1.1.0 in
     record {
       rows = i.rows_in;
       cols = i.cols_in;
       elements = i.few;
-      values = fits_init t.init t.rows t.cols h.1.1.1.1.1.0;
-      fresh = not_taken (root_of S t.name) h.1.1.1.1.0;
+      values = fits_init (init_said a.init) (rows_of a.size) (cols_of a.size) h.1.1.1.1.1.0;
+      fresh = not_taken (root_of S a.name) h.1.1.1.1.0;
     }
 
 -- ---- names
@@ -159,52 +165,13 @@ all_valued n S (o ∷ os) e h =
     both (not (needs_value o.mode) || has_values S o.name) (list_all (λ o. not (needs_value o.mode) || has_values S o.name) os)
     (needed_by (needs_value o.mode) (lacks_value (scope_of n S) o.name) (has_values S o.name) p.0 (λ l. valued n S o.name l q.0)) (all_valued n S os p.1 q.1)
 
-kernel_of-codelet_of : (k : Kernel) → kernel_of (codelet_of k) ≡ Some k
-kernel_of-codelet_of Fill = refl
-kernel_of-codelet_of Copy = refl
-kernel_of-codelet_of Scale = refl
-kernel_of-codelet_of Add = refl
-kernel_of-codelet_of Axpy = refl
-kernel_of-codelet_of Butterfly = refl
-kernel_of-codelet_of Gemm = refl
-kernel_of-codelet_of GemmThree = refl
-kernel_of-codelet_of Transpose = refl
-kernel_of-codelet_of Dot = refl
-kernel_of-codelet_of Sum = refl
-kernel_of-codelet_of Lowest = refl
-kernel_of-codelet_of MinGemm = refl
-kernel_of-codelet_of FwDiag = refl
-kernel_of-codelet_of FwRow = refl
-kernel_of-codelet_of FwCol = refl
-kernel_of-codelet_of Load = refl
-kernel_of-codelet_of LoadFill = refl
-kernel_of-codelet_of Paste = refl
-kernel_of-codelet_of Deliver = refl
-kernel_of-codelet_of InitPlus = refl
-kernel_of-codelet_of InitLeast = refl
-
 found_here : (p : Kernel → Bool) (x : Kernel) (ks : List Kernel) (k : Kernel) (b : Bool) → (find p ks ≡ Some k → p k ≡ true) → p x ≡ b → cond b (Some x) (find p ks) ≡ Some k → p k ≡ true
 found_here p x ks k true rest h e = let same : x ≡ k = cc in subst (λ j. p j ≡ true) same h
 found_here p x ks k false rest h e = rest e
 
-found_passes : (p : Kernel → Bool) (ks : List Kernel) (k : Kernel) → find p ks ≡ Some k → p k ≡ true
+pub found_passes : (p : Kernel → Bool) (ks : List Kernel) (k : Kernel) → find p ks ≡ Some k → p k ≡ true
 found_passes p [] k e = absurd (cc)
 found_passes p (x ∷ ks) k e = found_here p x ks k (p x) (found_passes p ks k) refl e
-
--- a codelet of the set by its name
-record IsKnown (has : Kernel → Bool) (c : Option Codelet) (k : Kernel) : Type 0 where
-  id : kernel_of (unwrap_or c (record { 0 = 0 })) ≡ Some k
-  known : has k ≡ true
-
-by_find : (has : Kernel → Bool) (name : List ℕ) (k : Kernel) (o : Option Kernel) → find (λ k. has k && has_name name k) kernels ≡ o → kernel_in (option_map codelet_of o) ≡ Some k → IsKnown has (option_map codelet_of o) k
-by_find has name k None f e = absurd (cc)
-by_find has name k (Some j) f e =
-    let same : j ≡ k = cc (kernel_of-codelet_of j) in
-    record { id = kernel_of-codelet_of j ∙ ap Some same; known = subst (λ i. has i ≡ true) same (and_parts (has j) (has_name name j) (found_passes (λ k. has k && has_name name k) kernels j f)).0 }
-
-named_known : (has : Kernel → Bool) (name : List ℕ) (k : Kernel) (c : Option Codelet) → named_in has name ≡ c → kernel_in c ≡ Some k → IsKnown has c k
-named_known has name k c n e =
-    subst (λ d. IsKnown has d k) n (by_find has name k (find (λ k. has k && has_name name k) kernels) refl (ap kernel_in n ∙ e))
 
 by_root : (o : Option Root) → (elim (option_map known_of o) as (λ _. Dims) [ None ↦ record { rows = 0; cols = 0 } | Some k ↦ k.dims ]) ≡ (elim o as (λ _. Dims) [ None ↦ record { rows = 0; cols = 0 } | Some r ↦ r.dims ])
 by_root None = refl
@@ -222,44 +189,91 @@ fits_known has id args ds k e h f = ap (λ (o : Option Kernel). elim o as (λ _.
 formals_known : (id : Codelet) (os : List Operand) (k : Kernel) → kernel_of id ≡ Some k → modes_fit (formals_of k) os ≡ true → modes_fit (formals_in id) os ≡ true
 formals_known id os k e m = ap (λ (o : Option Kernel). modes_fit (elim o [ None ↦ [] | Some j ↦ formals_of j ]) os) e ∙ m
 
--- what the conditions in front of the codelet's tell of a task
-record IsSoundLine (S : State) (t : Call) : Type 0 where
-  plain : list_all (λ o. is_plain o.mode) t.operands ≡ true
-  rooted : list_all (λ o. has_root S o.name) t.operands ≡ true
-  priority : is_priority t.priority ≡ true
+plain_mode : (m : Mode) → is_built_mode m ≡ true → is_plain m ≡ true
+plain_mode R e = refl
+plain_mode W e = refl
+plain_mode RW e = refl
+plain_mode Scratch e = refl
+plain_mode Redux e = absurd (cc)
+plain_mode Commute e = absurd (cc)
 
-shaped : (has : Kernel → Bool) (n : ℕ) (S : State) (t : Call) (o : Option Kernel) → kernel_in t.codelet ≡ o → ((k : Kernel) → kernel_in t.codelet ≡ Some k → IsKnown has t.codelet k) → NoneHolds (elim o as (λ _. List (Bool × Reason)) [ None ↦ (true, UnknownCodelet) ∷ [] | Some k ↦ operand_reasons (scope_of n S) k t ]) → IsSoundLine S t → let line : TaskLine = record { codelet = unwrap_or t.codelet (record { 0 = 0 }); args = t.args; operands = t.operands; priority = t.priority } in IsSoundTask has S line
-shaped has n S t None e known h l = absurd (let c = h.0 in cc)
-shaped has n S t (Some k) e known h l =
-    let b = not_false (is_shaped (scope_of n S) k t) h.1.0 in
-    let both_parts = and_parts (modes_fit (formals_of k) t.operands) (fits k t.args (map (dims_in (scope_of n S)) t.operands)) b in
-    let there = known k e in
-    record {
-      fits = fits_known has (unwrap_or t.codelet (record { 0 = 0 })) t.args (map (λ o. dims_of S o.name) t.operands) k there.id there.known (ap (fits k t.args) (sym (all_dims_seen n S t.operands)) ∙ both_parts.1);
-      modes = formals_known (unwrap_or t.codelet (record { 0 = 0 })) t.operands k there.id both_parts.0;
-      plain = l.plain;
+plain_operands : (os : List OperandForm) → list_all (λ o. is_none o.child && is_built_mode o.mode) os ≡ true → list_all (λ p. is_plain p.mode) (map operand_said os) ≡ true
+plain_operands [] e = refl
+plain_operands (o ∷ os) e =
+    let p = and_parts (is_none o.child && is_built_mode o.mode) (list_all (λ o. is_none o.child && is_built_mode o.mode) os) e in
+    both (is_plain o.mode) (list_all (λ p. is_plain p.mode) (map operand_said os)) (plain_mode o.mode (and_parts (is_none o.child) (is_built_mode o.mode) p.0).1) (plain_operands os p.1)
+
+-- a task against which there is no reason
+pub record IsJudged (has : Kernel → Bool) (s : Scope) (t : TaskForm) (act : Act) : Type 0 where
+  pub kernel : Kernel
+  pub named : kernel_named has t.codelet ≡ Some kernel
+  pub is : Task (task_said kernel t) ≡ act
+  pub line : first_of (line_reasons s (priority_said t.priority) (operands_said t)) ≡ None
+  pub operands : first_of (operand_reasons s kernel (map integer t.args) (operands_said t)) ≡ None
+
+by_kernel : (has : Kernel → Bool) (s : Scope) (t : TaskForm) (act : Act) (o : Option Kernel) → kernel_named has t.codelet ≡ o → first_of (line_reasons s (priority_said t.priority) (operands_said t)) ≡ None → judged_call s o t ≡ Ok act → IsJudged has s t act
+by_kernel has s t act None n l e = absurd (cc)
+by_kernel has s t act (Some k) n l e =
+    let p = unless_parts (first_of (operand_reasons s k (map integer t.args) (operands_said t))) (Task (task_said k t)) act e in
+    record { kernel = k; named = n; is = p.1; line = l; operands = p.0 }
+
+pub judged-task : (has : Kernel → Bool) (s : Scope) (t : TaskForm) (act : Act) → judged_task has s t ≡ Ok act → IsJudged has s t act
+judged-task has s t act e =
+    let p = by_parts (first_of (line_reasons s (priority_said t.priority) (operands_said t))) (judged_call s (kernel_named has t.codelet) t) act e in
+    by_kernel has s t act (kernel_named has t.codelet) refl p.0 p.1
+
+sound_task : (has : Kernel → Bool) (n : ℕ) (S : State) (t : TaskForm) (act : Act) → is_built (form.Task t) ≡ true → IsJudged has (scope_of n S) t act → IsSoundAct has S act
+sound_task has n S t act b j =
+    let k = j.kernel in
+    let os = operands_said t in
+    let args = map integer t.args in
+    let l = none_hold (line_reasons (scope_of n S) (priority_said t.priority) os) j.line in
+    let h = none_hold (operand_reasons (scope_of n S) k args os) j.operands in
+    let has_k = (and_parts (has k) (has_name t.codelet k) (found_passes (λ k. has k && has_name t.codelet k) kernels k j.named)).0 in
+    let shaped = and_parts (modes_fit (formals_of k) os) (fits k args (map (dims_in (scope_of n S)) os)) (not_false (is_shaped (scope_of n S) k args os) h.1.0) in
+    let rooted = all_there n S os l.1.1.0 l.1.1.1.0 in
+    subst (IsSoundAct has S) j.is (record {
+      fits = fits_known has (codelet_of k) args (map (λ o. dims_of S o.name) os) k (kernel_of-codelet_of k) has_k (ap (fits k args) (sym (all_dims_seen n S os)) ∙ shaped.1);
+      modes = formals_known (codelet_of k) os k (kernel_of-codelet_of k) shaped.0;
+      plain = plain_operands t.operands b;
       apart = h.1.1.0;
-      rooted = l.rooted;
-      valued = all_valued n S t.operands h.1.1.1.0 l.rooted;
-      priority = l.priority;
-    }
-
-sound_task : (has : Kernel → Bool) (n : ℕ) (S : State) (t : Call) → IsSpelled has t → complaint (scope_of n S) (Task t) ≡ None → IsSoundAct has S (act_of (Task t))
-sound_task has n S t s e =
-    let h = none_hold (task_reasons (scope_of n S) t) e in
-    shaped has n S t (kernel_in t.codelet) refl (λ k e. named_known has s.name k t.codelet s.codelet e) h.1.1.1.1
-    (record { plain = s.plain; rooted = all_there n S t.operands h.1.1.0 h.1.1.1.0; priority = not_false (is_priority t.priority) h.1.0 })
+      rooted = rooted;
+      valued = all_valued n S os h.1.1.1.0 rooted;
+      priority = not_false (is_priority (priority_said t.priority)) l.1.0;
+    })
 
 -- ---- acts
 
-sound_sentence : (has : Kernel → Bool) (n : ℕ) (S : State) (ws : List (List ℕ)) (s : Sentence) → said has (is_begun (scope_of n S)) ws ≡ Ok s → complaint (scope_of n S) s ≡ None → IsSoundAct has S (act_of s)
-sound_sentence has n S ws (Registering r) w e = sound_registration n S r e
-sound_sentence has n S ws (Task t) w e = sound_task has n S t (spelled_from_said has (is_begun (scope_of n S)) ws t w) e
-sound_sentence has n S ws (Print name) w e = sound_print n S name e
-sound_sentence has n S ws (Invalidate name) w e = sound_name n S name e
-sound_sentence has n S ws (Unregister name) w e = sound_name n S name e
+pub sound_from_judged : (has : Kernel → Bool) (n : ℕ) (S : State) (f : Form) (act : Act) → is_built f ≡ true → judged has (scope_of n S) f ≡ Ok act → IsSoundAct has S act
+sound_from_judged has n S (form.Workers w) act b e = absurd (cc)
+sound_from_judged has n S (form.Node w) act b e = absurd (cc)
+sound_from_judged has n S (form.Policy p) act b e = absurd (cc)
+sound_from_judged has n S (form.Register a) act b e =
+    let p = unless_parts (first_of (register_reasons (scope_of n S) a.name (rows_of a.size) (cols_of a.size) (init_said a.init))) (Registers (registered_by a)) act e in
+    subst (IsSoundAct has S) p.1 (sound_registration n S a p.0)
+sound_from_judged has n S (form.Plan name r c) act b e = absurd (cc)
+sound_from_judged has n S (form.Redux name by) act b e = absurd (cc)
+sound_from_judged has n S (form.Task t) act b e = sound_task has n S t act b (judged-task has (scope_of n S) t act e)
+sound_from_judged has n S (form.Print name) act b e =
+    let p = unless_parts (first_of (print_reasons (scope_of n S) name)) (Print name) act e in subst (IsSoundAct has S) p.1 (sound_print n S name p.0)
+sound_from_judged has n S (form.Invalidate name) act b e =
+    let p = unless_parts (first_of (name_reasons (scope_of n S) name)) (Invalidate name) act e in subst (IsSoundAct has S) p.1 (sound_name n S name p.0)
+sound_from_judged has n S (form.Unregister name) act b e =
+    let p = unless_parts (first_of (name_reasons (scope_of n S) name)) (Unregister name) act e in subst (IsSoundAct has S) p.1 (sound_name n S name p.0)
+
+by_order : (f g : Form) (m n b : Bool) → is_built f ≡ b → cond m (Err Word) (cond (not n) (Err Number) (cond (not b) (Err NotBuilt) (Ok f))) ≡ Ok g → (f ≡ g) × (is_built g ≡ true)
+by_order f g true n b h e = absurd (cc)
+by_order f g false false b h e = absurd (cc)
+by_order f g false true false h e = absurd (cc)
+by_order f g false true true h e = let same : f ≡ g = cc in (same, ap is_built (sym same) ∙ h)
+
+pub said-built : (begun : Bool) (f g : Form) → said_of begun f ≡ Ok g → (f ≡ g) × (is_built g ≡ true)
+said-built begun f g e = by_order f g (is_misplaced begun f) (is_numbered f) (is_built f) refl e
+
+by_form : (begun : Bool) (o : Option Form) (g : Form) → (elim o as (λ _. Result Form Reason) [ None ↦ Err Word | Some f ↦ said_of begun f ]) ≡ Ok g → is_built g ≡ true
+by_form begun None g e = absurd (cc)
+by_form begun (Some f) g e = (said-built begun f g e).1
 
 pub sound_from_allowed : (has : Kernel → Bool) (n : ℕ) (S : State) (act : Act) → IsAllowed has (scope_of n S) act → IsSoundAct has S act
 sound_from_allowed has n S act h =
-    let d = does (scope_of n S) h.sentence act h.judged in
-    subst (IsSoundAct has S) d.1 (sound_sentence has n S h.words h.sentence h.spelled d.0)
+    sound_from_judged has n S h.form act (by_form (is_begun (scope_of n S)) (form_of h.words) h.form h.spelled) h.judged

@@ -2,13 +2,13 @@
 use Rattle.std.proofs.Common.{◌≡◌, ℕ, ◌+◌, not, Bool, true, false, List, [], ◌∷◌, refl, ◌∙◌, subst, Result, Ok, Err, cond}
 use Rattle.std.specs.List.{list_all}
 use Rattle.sj_codelet.specs.declared.kernel.Kernel.{Kernel}
-use Rattle.sj_job.specs.declared.job.Act.{Act}
-use Rattle.sj_job.specs.declared.job.Statement.{Statement}
+use Rattle.sj_job.specs.Act.{Act}
+use Rattle.sj_job.specs.Act.{Statement}
 use Rattle.sj_job.specs.declared.reason.Reason.{Reason}
 use Rattle.sj_job.specs.declared.reason.Reason.TheVariants.{Word}
-use Rattle.sj_job.specs.declared.sentence.Sentence.{Sentence}
-use Rattle.sj_job.specs.declared.read.Verdict.{Verdict}
-use Rattle.sj_job.specs.declared.read.Verdict.TheVariants.{Skipped, Does, Bad}
+use Rattle.sj_job.specs.declared.form.Form.{Form}
+use Rattle.sj_job.specs.Verdict.{Verdict}
+use Rattle.sj_job.specs.Verdict.{Skipped, Does, Bad}
 use Rattle.sj_job.specs.State.{State}
 use Rattle.sj_job.specs.Meaning.{apply}
 use Rattle.sj_job.specs.Word.{words, is_allowed, is_skipped}
@@ -17,13 +17,13 @@ use Rattle.sj_job.specs.Judge.{Scope, scope_of, is_begun, judged}
 use Rattle.sj_job.specs.Reading.{Refusal, refusal, statement, before, act_in, statement_in, reading, verdict_of}
 use Rattle.sj_job.specs.Well.{IsAllowed, IsWell}
 
-by_sentence : (has : Kernel → Bool) (scope : Scope) (ws : List (List ℕ)) (act : Act) (r : Result Sentence Reason) → said has (is_begun scope) ws ≡ r → (elim r as (λ _. Result Act Reason) [ Err why ↦ Err why | Ok s ↦ judged scope s ]) ≡ Ok act → IsAllowed has scope act
-by_sentence has scope ws act (Err why) p e = absurd (cc)
-by_sentence has scope ws act (Ok s) p e = record { words = ws; sentence = s; spelled = p; judged = e }
+by_form : (has : Kernel → Bool) (scope : Scope) (ws : List (List ℕ)) (act : Act) (r : Result Form Reason) → said (is_begun scope) ws ≡ r → (elim r as (λ _. Result Act Reason) [ Err why ↦ Err why | Ok f ↦ judged has scope f ]) ≡ Ok act → IsAllowed has scope act
+by_form has scope ws act (Err why) p e = absurd (cc)
+by_form has scope ws act (Ok f) p e = record { words = ws; form = f; spelled = p; judged = e }
 
 by_allowed : (has : Kernel → Bool) (scope : Scope) (l : List ℕ) (act : Act) (b : Bool) → cond b (Err Word) (act_in has scope (words l)) ≡ Ok act → IsAllowed has scope act
 by_allowed has scope l act true e = absurd (cc)
-by_allowed has scope l act false e = by_sentence has scope (words l) act (said has (is_begun scope) (words l)) refl e
+by_allowed has scope l act false e = by_form has scope (words l) act (said (is_begun scope) (words l)) refl e
 
 by_skipped : (has : Kernel → Bool) (scope : Scope) (l : List ℕ) (act : Act) (b : Bool) (r : Result Act Reason) → statement_in has scope l ≡ r → (cond b Skipped (elim r as (λ _. Verdict) [ Err why ↦ Bad why | Ok a ↦ Does a ])) ≡ Does act → IsAllowed has scope act
 by_skipped has scope l act true r p e = absurd (cc)

@@ -241,13 +241,6 @@ redux_of (name ∷ []) = None
 redux_of (name ∷ by ∷ []) = if is_name name then option_map (form.Redux name) (reduction_of by) else None
 redux_of (name ∷ by ∷ w ∷ ws) = None
 
--- whether a line that begins with this word has a name behind it and no more
-abbrev pub takes_name : Keyword → Bool
-takes_name keyword.Print = true
-takes_name keyword.Invalidate = true
-takes_name keyword.Unregister = true
-takes_name k = false
-
 -- the form of a line that begins with this word
 abbrev pub form_behind : Keyword → List (List ℕ) → Option Form
 form_behind keyword.Workers ws = option_map form.Workers (alone ws)

@@ -1,7 +1,6 @@
 -- The grammar of a line in its own words: how each form is written, and what it says.
 use Rattle.std.specs.Prelude.{◌≡◌, ℕ, Bool, true, false, ◌&&◌, ◌||◌, not, ◌==◌, map, Option, Some, None, Result, Ok, Err, List, [], ◌∷◌, ◌++◌, codes, IsTrue}
 use Rattle.std.specs.List.{list_all, join_with_byte}
-use Rattle.sj_codelet.specs.declared.kernel.Kernel.{Kernel}
 use Rattle.sj_job.specs.declared.form.Size.{Size}
 use Rattle.sj_job.specs.declared.form.Size.TheVariants.{Vector, Matrix}
 use Rattle.sj_job.specs.declared.form.InitForm.{InitForm}
@@ -10,12 +9,11 @@ use Rattle.sj_job.specs.declared.form.OperandForm.{OperandForm}
 use Rattle.sj_job.specs.declared.form.TaskForm.{TaskForm}
 use Rattle.sj_job.specs.declared.form.Form.{Form}
 use Rattle.sj_job.specs.declared.form.Form.TheVariants.{Workers, Node, Policy, Register, Plan, Redux, Task, Print, Invalidate, Unregister}
-use Rattle.sj_job.specs.declared.sentence.Sentence.{Sentence}
 use Rattle.sj_job.specs.declared.reason.Reason.{Reason}
 use Rattle.sj_job.specs.declared.reason.Reason.TheVariants as reason
 use Rattle.sj_job.specs.Word.{is_name}
 use Rattle.sj_job.specs.Form.{policy_word, reduction_word, mode_word, is_bracket}
-use Rattle.sj_job.specs.Sentence.{is_numbered, is_built, is_misplaced, sentence_of}
+use Rattle.sj_job.specs.Sentence.{is_numbered, is_built, is_misplaced}
 
 -- ---- how a form is written
 
@@ -112,13 +110,11 @@ pub record StandsAs (begun : Bool) (ws : List (List ℕ)) (f : Form) : Type 0 wh
   pub spelled : Spells ws f
   pub placed : IsTrue (not (is_misplaced begun f))
 
--- the words say a sentence: they spell a form that is read, in its place, with numbers where it has numbers
-pub record SaysSentence (has : Kernel → Bool) (begun : Bool) (ws : List (List ℕ)) (s : Sentence) : Type 0 where
-  pub form : Form
-  pub stands : StandsAs begun ws form
-  pub numbered : IsTrue (is_numbered form)
-  pub built : IsTrue (is_built form)
-  pub sentence : sentence_of has form ≡ Ok s
+-- the words say a form: they spell it in its place, with numbers where it has numbers, and it is read
+pub record SaysForm (begun : Bool) (ws : List (List ℕ)) (f : Form) : Type 0 where
+  pub stands : StandsAs begun ws f
+  pub numbered : IsTrue (is_numbered f)
+  pub built : IsTrue (is_built f)
 
 -- a form in its place, but a word or a piece in the place of a number says none
 pub record LacksNumber (begun : Bool) (ws : List (List ℕ)) : Type 0 where
@@ -133,10 +129,10 @@ pub record LacksBuilding (begun : Bool) (ws : List (List ℕ)) : Type 0 where
   pub numbered : IsTrue (is_numbered form)
   pub unbuilt : IsTrue (not (is_built form))
 
--- what these words say: a sentence, or why they say none
-abbrev pub Says : (Kernel → Bool) → Bool → List (List ℕ) → Result Sentence Reason → Type 0
-Says has begun ws (Ok s) = SaysSentence has begun ws s
-Says has begun ws (Err reason.Word) = (f : Form) → ¬ (StandsAs begun ws f)
-Says has begun ws (Err reason.Number) = LacksNumber begun ws
-Says has begun ws (Err reason.NotBuilt) = LacksBuilding begun ws
-Says has begun ws (Err why) = ⊥
+-- what these words say: a form, or why they say none
+abbrev pub Says : Bool → List (List ℕ) → Result Form Reason → Type 0
+Says begun ws (Ok f) = SaysForm begun ws f
+Says begun ws (Err reason.Word) = (f : Form) → ¬ (StandsAs begun ws f)
+Says begun ws (Err reason.Number) = LacksNumber begun ws
+Says begun ws (Err reason.NotBuilt) = LacksBuilding begun ws
+Says begun ws (Err why) = ⊥

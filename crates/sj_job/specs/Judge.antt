@@ -1,29 +1,28 @@
--- Why a sentence is refused: the conditions of the reasons, in their order.
-use Rattle.std.specs.Prelude.{ℕ, ◌*◌, Bool, true, false, ◌&&◌, ◌||◌, not, nat_eq, nat_le, nat_lt, Option, Some, None, Result, Ok, Err, List, [], ◌∷◌, length, map, option_map, is_some, unwrap_or, zip, if◌then◌else◌, ℤ, pos, negsuc}
+-- Why a form is refused: the conditions of the reasons, in their order.
+use Rattle.std.specs.Prelude.{ℕ, ◌*◌, Bool, true, false, ◌&&◌, ◌||◌, not, nat_eq, nat_le, nat_lt, Option, Some, None, find, Result, Ok, Err, List, [], ◌∷◌, length, map, option_map, is_some, unwrap_or, zip, if◌then◌else◌, ℤ, pos, negsuc}
 use Rattle.std.specs.List.{list_all, list_any}
 use Rattle.std.specs.Int.RustNames.{int_le}
 use Rattle.std.specs.Str.{bytes_eq}
 use Rattle.sj_base.specs.declared.tile.Dims.{Dims}
 use Rattle.sj_base.specs.declared.mode.Mode.{Mode}
 use Rattle.sj_base.specs.declared.mode.Mode.TheVariants.{R, W, RW, Scratch, Redux, Commute}
-use Rattle.sj_base.specs.declared.program.Codelet.{Codelet}
 use Rattle.sj_codelet.specs.declared.kernel.Kernel.{Kernel}
 use Rattle.sj_codelet.specs.declared.formal.Formal.{Formal}
 use Rattle.sj_codelet.specs.declared.formal.Formal.TheVariants.{R as FormalR, W as FormalW, RW as FormalRW, Scratch as FormalScratch}
-use Rattle.sj_codelet.specs.Kernel.{kernel_of, arguments_of, formals_of, fits}
+use Rattle.sj_codelet.specs.Kernel.{kernels, has_name, arguments_of, formals_of, fits}
 use Rattle.sj_job.specs.declared.job.Init.{Init}
 use Rattle.sj_job.specs.declared.job.Init.TheVariants.{Values, Fill, Nothing}
-use Rattle.sj_job.specs.declared.job.Operand.{Operand}
-use Rattle.sj_job.specs.declared.job.Act.{Act}
-use Rattle.sj_job.specs.declared.job.Act.TheVariants.{Register as Registers, Task as Tasks, Print as Prints, Invalidate as Invalidates, Unregister as Unregisters}
-use Rattle.sj_job.specs.declared.sentence.Registration.{Registration}
-use Rattle.sj_job.specs.declared.sentence.Call.{Call}
-use Rattle.sj_job.specs.declared.sentence.Sentence.{Sentence}
-use Rattle.sj_job.specs.declared.sentence.Sentence.TheVariants.{Register, Task, Print, Invalidate, Unregister}
+use Rattle.sj_job.specs.Statement.{Operand}
+use Rattle.sj_job.specs.Act.{Act}
+use Rattle.sj_job.specs.Act.{Register as Registers, Task as Tasks, Print as Prints, Invalidate as Invalidates, Unregister as Unregisters}
+use Rattle.sj_job.specs.declared.form.TaskForm.{TaskForm}
+use Rattle.sj_job.specs.declared.form.Form.{Form}
+use Rattle.sj_job.specs.declared.form.Form.TheVariants as form
 use Rattle.sj_job.specs.declared.reason.Reason.{Reason}
-use Rattle.sj_job.specs.declared.reason.Reason.TheVariants.{UnknownName, TakenName, UnknownCodelet, OperandCount, Shape, Aliased, NoValue, Limit, EndedName}
+use Rattle.sj_job.specs.declared.reason.Reason.TheVariants.{UnknownName, TakenName, UnknownCodelet, OperandCount, Shape, Aliased, NoValue, Limit, EndedName, NotBuilt}
 use Rattle.sj_job.specs.declared.reason.LimitKind.TheVariants.{Statements, Names, Elements, Priority}
 use Rattle.sj_job.specs.declared.names.Known.{Known}
+use Rattle.sj_job.specs.Sentence.{rows_of, cols_of, init_said, registered_by, operands_said, priority_said, task_said}
 use Rattle.sj_job.specs.State.{Root, State, root_of, is_valued}
 
 -- what the reasons look at in a root
@@ -84,23 +83,19 @@ is_miscounted (Values zs) rows cols = not (nat_eq (length zs) (rows * cols))
 is_miscounted (Fill a b) rows cols = false
 is_miscounted Nothing rows cols = false
 
-abbrev pub register_reasons : Scope → Registration → List (Bool × Reason)
-register_reasons s r =
+abbrev pub register_reasons : Scope → List ℕ → ℕ → ℕ → Init → List (Bool × Reason)
+register_reasons s name rows cols init =
     (is_full s, Limit Statements)
     ∷ (has_names s, Limit Names)
-    ∷ (is_outside r.rows r.cols, Limit Elements)
-    ∷ (is_ended s r.name, EndedName)
-    ∷ (is_taken s r.name, TakenName)
-    ∷ (is_miscounted r.init r.rows r.cols, Shape)
+    ∷ (is_outside rows cols, Limit Elements)
+    ∷ (is_ended s name, EndedName)
+    ∷ (is_taken s name, TakenName)
+    ∷ (is_miscounted init rows cols, Shape)
     ∷ []
 
-abbrev pub kernel_in : Option Codelet → Option Kernel
-kernel_in None = None
-kernel_in (Some id) = kernel_of id
-
 -- arguments and operands are as many as the codelet has
-abbrev pub is_counted : Kernel → Call → Bool
-is_counted k t = nat_eq (length t.args) (arguments_of k) && nat_eq (length t.operands) (length (formals_of k))
+abbrev pub is_counted : Kernel → List ℤ → List Operand → Bool
+is_counted k args os = nat_eq (length args) (arguments_of k) && nat_eq (length os) (length (formals_of k))
 
 -- an operand's mode is the codelet's; contributions and commuting accesses stand for written operands
 abbrev pub mode_fits : Formal → Mode → Bool
@@ -120,8 +115,8 @@ modes_fit fs os = list_all (λ p. mode_fits p.0 p.1.mode) (zip fs os)
 abbrev pub dims_in : Scope → Operand → Dims
 dims_in s o = elim (s.known o.name) [ None ↦ record { rows = 0; cols = 0 } | Some k ↦ k.dims ]
 
-abbrev pub is_shaped : Scope → Kernel → Call → Bool
-is_shaped s k t = modes_fit (formals_of k) t.operands && fits k t.args (map (dims_in s) t.operands)
+abbrev pub is_shaped : Scope → Kernel → List ℤ → List Operand → Bool
+is_shaped s k args os = modes_fit (formals_of k) os && fits k args (map (dims_in s) os)
 
 abbrev pub is_read_only : Mode → Bool
 is_read_only R = true
@@ -149,31 +144,26 @@ abbrev pub is_lacking : Scope → Operand → Bool
 is_lacking s o = needs_value o.mode && lacks_value s o.name
 
 -- the operands' own conditions, for a codelet of the table
-abbrev pub operand_reasons : Scope → Kernel → Call → List (Bool × Reason)
-operand_reasons s k t =
-    (not (is_counted k t), OperandCount)
-    ∷ (not (is_shaped s k t), Shape)
-    ∷ (is_aliased t.operands, Aliased)
-    ∷ (list_any (is_lacking s) t.operands, NoValue)
+abbrev pub operand_reasons : Scope → Kernel → List ℤ → List Operand → List (Bool × Reason)
+operand_reasons s k args os =
+    (not (is_counted k args os), OperandCount)
+    ∷ (not (is_shaped s k args os), Shape)
+    ∷ (is_aliased os, Aliased)
+    ∷ (list_any (is_lacking s) os, NoValue)
     ∷ []
-
-abbrev pub codelet_reasons : Scope → Call → List (Bool × Reason)
-codelet_reasons s t = elim (kernel_in t.codelet) [
-  | None ↦ (true, UnknownCodelet) ∷ []
-  | Some k ↦ operand_reasons s k t
-]
 
 -- a priority from -1000 to 1000
 abbrev pub is_priority : ℤ → Bool
 is_priority p = int_le (negsuc 999) p && int_le p (pos 1000)
 
-abbrev pub task_reasons : Scope → Call → List (Bool × Reason)
-task_reasons s t =
+-- the conditions before the codelet's
+abbrev pub line_reasons : Scope → ℤ → List Operand → List (Bool × Reason)
+line_reasons s priority os =
     (is_full s, Limit Statements)
-    ∷ (not (is_priority t.priority), Limit Priority)
-    ∷ (list_any (λ o. is_unknown s o.name) t.operands, UnknownName)
-    ∷ (list_any (λ o. is_ended s o.name) t.operands, EndedName)
-    ∷ codelet_reasons s t
+    ∷ (not (is_priority priority), Limit Priority)
+    ∷ (list_any (λ o. is_unknown s o.name) os, UnknownName)
+    ∷ (list_any (λ o. is_ended s o.name) os, EndedName)
+    ∷ []
 
 abbrev pub print_reasons : Scope → List ℕ → List (Bool × Reason)
 print_reasons s name =
@@ -191,35 +181,39 @@ name_reasons s name =
     ∷ (is_ended s name, EndedName)
     ∷ []
 
-abbrev pub reasons : Scope → Sentence → List (Bool × Reason)
-reasons s (Register r) = register_reasons s r
-reasons s (Task t) = task_reasons s t
-reasons s (Print name) = print_reasons s name
-reasons s (Invalidate name) = name_reasons s name
-reasons s (Unregister name) = name_reasons s name
+-- an act against which there is no reason, or the reason
+abbrev pub unless : Option Reason → Act → Result Act Reason
+unless None act = Ok act
+unless (Some why) act = Err why
 
--- the first reason against a sentence, or none
-abbrev pub complaint : Scope → Sentence → Option Reason
-complaint s sentence = first_of (reasons s sentence)
+-- the codelet that a job calls by this name
+abbrev pub kernel_named : (Kernel → Bool) → List ℕ → Option Kernel
+kernel_named has name = find (λ k. has k && has_name name k) kernels
 
--- what a sentence does where there is no reason against it
-abbrev pub act_of : Sentence → Act
-act_of (Register r) = Registers (record {
-  name = r.name;
-  kind = r.kind;
-  dims = record { rows = r.rows; cols = r.cols };
-  init = r.init;
-})
-act_of (Task t) = Tasks (record {
-  codelet = unwrap_or t.codelet (record { 0 = 0 });
-  args = t.args;
-  operands = t.operands;
-  priority = t.priority;
-})
-act_of (Print name) = Prints name
-act_of (Invalidate name) = Invalidates name
-act_of (Unregister name) = Unregisters name
+-- what the codelet's conditions leave of a task
+abbrev pub judged_call : Scope → Option Kernel → TaskForm → Result Act Reason
+judged_call s None t = Err UnknownCodelet
+judged_call s (Some k) t = unless (first_of (operand_reasons s k (task_said k t).args (operands_said t))) (Tasks (task_said k t))
 
--- what a sentence does, or the first reason against it
-abbrev pub judged : Scope → Sentence → Result Act Reason
-judged s sentence = elim (complaint s sentence) [ Some why ↦ Err why | None ↦ Ok (act_of sentence) ]
+-- what the reasons before the codelet's leave
+abbrev pub judged_by : Option Reason → Result Act Reason → Result Act Reason
+judged_by None r = r
+judged_by (Some why) r = Err why
+
+abbrev pub judged_task : (Kernel → Bool) → Scope → TaskForm → Result Act Reason
+judged_task has s t =
+    judged_by (first_of (line_reasons s (priority_said t.priority) (operands_said t)))
+    (judged_call s (kernel_named has t.codelet) t)
+
+-- what a form that is built does, or the first reason against it
+abbrev pub judged : (Kernel → Bool) → Scope → Form → Result Act Reason
+judged has s (form.Workers n) = Err NotBuilt
+judged has s (form.Node n) = Err NotBuilt
+judged has s (form.Policy p) = Err NotBuilt
+judged has s (form.Register a) = unless (first_of (register_reasons s a.name (rows_of a.size) (cols_of a.size) (init_said a.init))) (Registers (registered_by a))
+judged has s (form.Plan name r c) = Err NotBuilt
+judged has s (form.Redux name by) = Err NotBuilt
+judged has s (form.Task t) = judged_task has s t
+judged has s (form.Print name) = unless (first_of (print_reasons s name)) (Prints name)
+judged has s (form.Invalidate name) = unless (first_of (name_reasons s name)) (Invalidates name)
+judged has s (form.Unregister name) = unless (first_of (name_reasons s name)) (Unregisters name)

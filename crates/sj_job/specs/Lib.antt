@@ -1,5 +1,10 @@
 pub mod Word
 pub mod Reason
+pub mod Statement
+pub mod Act
+pub mod Verdict
+pub mod Table
+pub mod View
 pub mod State
 pub mod Meaning
 pub mod Form
@@ -8,6 +13,7 @@ pub mod Judge
 pub mod Reading
 pub mod Names
 pub mod Sees
+pub mod Submits
 pub mod Progress
 pub mod Well
 pub mod Sound

@@ -11,12 +11,12 @@ use Rattle.sj_codelet.specs.Kernel.{out}
 use Rattle.sj_job.specs.declared.job.Kind.{Kind}
 use Rattle.sj_job.specs.declared.job.Init.{Init}
 use Rattle.sj_job.specs.declared.job.Init.TheVariants.{Values, Fill, Nothing}
-use Rattle.sj_job.specs.declared.job.Register.{Register}
-use Rattle.sj_job.specs.declared.job.Operand.{Operand}
-use Rattle.sj_job.specs.declared.job.TaskLine.{TaskLine}
-use Rattle.sj_job.specs.declared.job.Act.{Act}
-use Rattle.sj_job.specs.declared.job.Act.TheVariants.{Register as Registers, Task, Print, Invalidate, Unregister}
-use Rattle.sj_job.specs.declared.job.Statement.{Statement}
+use Rattle.sj_job.specs.Statement.{Register}
+use Rattle.sj_job.specs.Statement.{Operand}
+use Rattle.sj_job.specs.Statement.{TaskLine}
+use Rattle.sj_job.specs.Act.{Act}
+use Rattle.sj_job.specs.Act.{Register as Registers, Task, Print, Invalidate, Unregister}
+use Rattle.sj_job.specs.Act.{Statement}
 use Rattle.sj_job.specs.State.{Root, State, start, root_of}
 
 -- no value at each element

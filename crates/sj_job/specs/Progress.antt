@@ -1,7 +1,7 @@
 -- How far a text is read.
 use Rattle.std.specs.Prelude.{ℕ, Bool, Result, Ok, Err, List, ◌++◌, length}
 use Rattle.sj_codelet.specs.declared.kernel.Kernel.{Kernel}
-use Rattle.sj_job.specs.declared.job.Statement.{Statement}
+use Rattle.sj_job.specs.Act.{Statement}
 use Rattle.sj_job.specs.State.{start}
 use Rattle.sj_job.specs.Meaning.{run_from}
 use Rattle.sj_job.specs.Reading.{Refusal, reading}

@@ -3,11 +3,13 @@ use Rattle.std.specs.Prelude.{◌≡◌, ℕ, ◌+◌, Bool, not, ◌&&◌, nat_
 use Rattle.std.specs.List.{list_all}
 use Rattle.sj_base.specs.declared.ids.Line.{Line}
 use Rattle.sj_codelet.specs.declared.kernel.Kernel.{Kernel}
-use Rattle.sj_job.specs.declared.job.Act.{Act}
-use Rattle.sj_job.specs.declared.job.Statement.{Statement}
-use Rattle.sj_job.specs.declared.read.Verdict.{Verdict}
-use Rattle.sj_job.specs.declared.read.Verdict.TheVariants.{Skipped, Does, Bad}
+use Rattle.sj_job.specs.Act.{Act}
+use Rattle.sj_job.specs.Act.{Statement}
+use Rattle.sj_job.specs.Verdict.{Verdict}
+use Rattle.sj_job.specs.Verdict.{Skipped, Does, Bad}
 use Rattle.sj_job.specs.declared.reason.Reason.{Reason}
+use Rattle.sj_job.specs.declared.reason.Objection.{Objection}
+use Rattle.sj_job.specs.declared.reason.Objection.TheVariants.{Bad as Objected, OutOfMemory as NoMemory}
 use Rattle.sj_job.specs.declared.reason.ReadRefusal.{ReadRefusal}
 use Rattle.sj_job.specs.declared.reason.ReadRefusal.TheVariants.{Refused, OutOfMemory}
 use Rattle.sj_job.specs.declared.reason.Reason.TheVariants.{Header, Word, Limit}
@@ -28,10 +30,7 @@ refusal n why = record { line = record { 0 = n }; reason = why }
 
 -- what words do: what they say, where no reason stands against it
 abbrev pub act_in : (Kernel → Bool) → Scope → List (List ℕ) → Result Act Reason
-act_in set scope words = elim (said set (is_begun scope) words) [
-  | Err why ↦ Err why
-  | Ok sentence ↦ judged scope sentence
-]
+act_in set scope words = elim (said (is_begun scope) words) [ Err why ↦ Err why | Ok f ↦ judged set scope f ]
 
 -- what a line does where the reasons see this scope
 abbrev pub statement_in : (Kernel → Bool) → Scope → List ℕ → Result Act Reason
@@ -78,6 +77,11 @@ abbrev pub job_of : (Kernel → Bool) → List ℕ → Result (List Statement) R
 job_of set text =
     if nat_lt text_limit (length text) then Err (refusal 0 (Limit Text))
     else reading_header set 1 (lines text)
+
+-- a line is bad for a reason, or memory ran out
+abbrev pub IsBad : Objection → Verdict → Type 0
+IsBad NoMemory v = Unit {0}
+IsBad (Objected why) v = v ≡ Bad why
 
 -- a text is refused at its first bad line for its first reason, or memory ran out
 abbrev pub IsRefusal : ReadRefusal → Result (List Statement) Refusal → Type 0

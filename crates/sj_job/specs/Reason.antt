@@ -1,6 +1,8 @@
 -- The reasons' numbers.
-use Rattle.std.specs.Prelude.{ℕ}
+use Rattle.std.specs.Prelude.{◌≡◌, ℕ, Result, Err}
 use Rattle.sj_job.specs.declared.reason.Reason.{Reason}
+use Rattle.sj_job.specs.declared.reason.Objection.{Objection}
+use Rattle.sj_job.specs.declared.reason.Objection.TheVariants.{Bad, OutOfMemory}
 use Rattle.sj_job.specs.declared.reason.Reason.TheVariants.{Header, Word, Number, UnknownName, TakenName, UnknownCodelet, OperandCount, Shape, Part, Aliased, NoValue, NoReduction, NotLawful, MixedOutputs, Limit, EndedName, NotBuilt}
 
 abbrev pub code_of : Reason → ℕ
@@ -21,3 +23,8 @@ code_of MixedOutputs = 14
 code_of (Limit kind) = 15
 code_of EndedName = 16
 code_of NotBuilt = 17
+
+-- a line that gives this is bad for this reason, or memory ran out
+abbrev pub Objects : {A : Type 0} → Objection → Result A Reason → Type 0
+Objects OutOfMemory r = Unit {0}
+Objects (Bad why) r = r ≡ Err why

@@ -5,12 +5,12 @@ use Rattle.std.specs.Str.{bytes_eq}
 use Rattle.sj_base.specs.declared.mode.Mode.{Mode}
 use Rattle.sj_base.specs.declared.mode.Mode.TheVariants.{R, W, RW, Scratch, Redux, Commute}
 use Rattle.sj_codelet.specs.declared.kernel.Kernel.{Kernel}
-use Rattle.sj_codelet.specs.Kernel.{named_in}
+use Rattle.sj_codelet.specs.Kernel.{codelet_of}
 use Rattle.sj_job.specs.declared.job.Kind.{Kind}
 use Rattle.sj_job.specs.declared.job.Kind.TheVariants as kind
 use Rattle.sj_job.specs.declared.job.Init.{Init}
 use Rattle.sj_job.specs.declared.job.Init.TheVariants.{Values, Fill, Nothing}
-use Rattle.sj_job.specs.declared.job.Operand.{Operand}
+use Rattle.sj_job.specs.Statement.{Operand}
 use Rattle.sj_job.specs.declared.form.Size.{Size}
 use Rattle.sj_job.specs.declared.form.Size.TheVariants as size
 use Rattle.sj_job.specs.declared.form.InitForm.{InitForm}
@@ -20,10 +20,7 @@ use Rattle.sj_job.specs.declared.form.OperandForm.{OperandForm}
 use Rattle.sj_job.specs.declared.form.TaskForm.{TaskForm}
 use Rattle.sj_job.specs.declared.form.Form.{Form}
 use Rattle.sj_job.specs.declared.form.Form.TheVariants as form
-use Rattle.sj_job.specs.declared.sentence.Registration.{Registration}
-use Rattle.sj_job.specs.declared.sentence.Call.{Call}
-use Rattle.sj_job.specs.declared.sentence.Sentence.{Sentence}
-use Rattle.sj_job.specs.declared.sentence.Sentence.TheVariants.{Register, Task, Print, Invalidate, Unregister}
+use Rattle.sj_job.specs.Statement.{Register, TaskLine}
 use Rattle.sj_job.specs.declared.reason.Reason.{Reason}
 use Rattle.sj_job.specs.declared.reason.Reason.TheVariants.{Word, Number, NotBuilt}
 use Rattle.sj_job.specs.Word.{is_count, is_integer, count, integer}
@@ -91,7 +88,7 @@ is_built (form.Print name) = true
 is_built (form.Invalidate name) = true
 is_built (form.Unregister name) = true
 
--- ---- the sentence of a form
+-- ---- what the parts of a form say
 
 abbrev pub kind_of : Size → Kind
 kind_of (size.Vector n) = kind.Vector
@@ -111,12 +108,11 @@ init_said (init.Values vs) = Values (map integer vs)
 init_said (init.Fill a b) = Fill (integer a) (integer b)
 init_said init.Nothing = Nothing
 
-abbrev pub registration_of : ArrayForm → Registration
-registration_of a = record {
+abbrev pub registered_by : ArrayForm → Register
+registered_by a = record {
   name = a.name;
   kind = kind_of a.size;
-  rows = rows_of a.size;
-  cols = cols_of a.size;
+  dims = record { rows = rows_of a.size; cols = cols_of a.size };
   init = init_said a.init;
 }
 
@@ -128,25 +124,16 @@ abbrev pub priority_said : Option (List ℕ) → ℤ
 priority_said None = pos 0
 priority_said (Some p) = integer p
 
-abbrev pub call_of : (Kernel → Bool) → TaskForm → Call
-call_of has t = record {
-  codelet = named_in has t.codelet;
+abbrev pub operands_said : TaskForm → List Operand
+operands_said t = map operand_said t.operands
+
+abbrev pub task_said : Kernel → TaskForm → TaskLine
+task_said k t = record {
+  codelet = codelet_of k;
   args = map integer t.args;
-  operands = map operand_said t.operands;
+  operands = operands_said t;
   priority = priority_said t.priority;
 }
-
-abbrev pub sentence_of : (Kernel → Bool) → Form → Result Sentence Reason
-sentence_of has (form.Workers n) = Err NotBuilt
-sentence_of has (form.Node n) = Err NotBuilt
-sentence_of has (form.Policy p) = Err NotBuilt
-sentence_of has (form.Register a) = Ok (Register (registration_of a))
-sentence_of has (form.Plan name r c) = Err NotBuilt
-sentence_of has (form.Redux name by) = Err NotBuilt
-sentence_of has (form.Task t) = Ok (Task (call_of has t))
-sentence_of has (form.Print name) = Ok (Print name)
-sentence_of has (form.Invalidate name) = Ok (Invalidate name)
-sentence_of has (form.Unregister name) = Ok (Unregister name)
 
 -- ---- a line
 
@@ -158,19 +145,19 @@ is_setting f = false
 
 -- settings stand before the statements, of which one has begun the job
 abbrev pub is_misplaced : Bool → Form → Bool
-is_misplaced begun f = begun && is_setting f
+is_misplaced begun f = is_setting f && begun
 
--- what a form says: the order of the reasons
-abbrev pub said_of : (Kernel → Bool) → Bool → Form → Result Sentence Reason
-said_of has begun f =
+-- a form that stands in its place with numbers where it has numbers, and is read: the order of the reasons
+abbrev pub said_of : Bool → Form → Result Form Reason
+said_of begun f =
     if is_misplaced begun f then Err Word
     else if not (is_numbered f) then Err Number
     else if not (is_built f) then Err NotBuilt
-    else sentence_of has f
+    else Ok f
 
--- what a line of these words says, where a statement stands before it or none does, with the codelets of a set
-abbrev pub said : (Kernel → Bool) → Bool → List (List ℕ) → Result Sentence Reason
-said has begun ws = elim (form_of ws) [ None ↦ Err Word | Some f ↦ said_of has begun f ]
+-- what a line of these words says, where a statement stands before it or none does
+abbrev pub said : Bool → List (List ℕ) → Result Form Reason
+said begun ws = elim (form_of ws) [ None ↦ Err Word | Some f ↦ said_of begun f ]
 
 -- the first line that isn't skipped
 abbrev pub is_header : List (List ℕ) → Bool

@@ -10,10 +10,10 @@ use Rattle.sj_codelet.specs.Kernel.{fits_in}
 use Rattle.sj_codelet.specs.Runs.{formals_in}
 use Rattle.sj_job.specs.declared.job.Init.{Init}
 use Rattle.sj_job.specs.declared.job.Init.TheVariants.{Values, Fill, Nothing}
-use Rattle.sj_job.specs.declared.job.Register.{Register}
-use Rattle.sj_job.specs.declared.job.TaskLine.{TaskLine}
-use Rattle.sj_job.specs.declared.job.Act.{Act}
-use Rattle.sj_job.specs.declared.job.Act.TheVariants.{Register as Registers, Task, Print, Invalidate, Unregister}
+use Rattle.sj_job.specs.Statement.{Register}
+use Rattle.sj_job.specs.Statement.{TaskLine}
+use Rattle.sj_job.specs.Act.{Act}
+use Rattle.sj_job.specs.Act.{Register as Registers, Task, Print, Invalidate, Unregister}
 use Rattle.sj_job.specs.State.{State, root_of, is_valued}
 use Rattle.sj_job.specs.Judge.{is_side, is_priority, modes_fit, needs_value, is_aliased}
 

@@ -1,9 +1,8 @@
 -- Statements that lines may say without complaint, one after another.
 use Rattle.std.specs.Prelude.{◌≡◌, ℕ, ◌+◌, Bool, Ok, List, [], ◌∷◌}
 use Rattle.sj_codelet.specs.declared.kernel.Kernel.{Kernel}
-use Rattle.sj_job.specs.declared.job.Act.{Act}
-use Rattle.sj_job.specs.declared.job.Statement.{Statement}
-use Rattle.sj_job.specs.declared.sentence.Sentence.{Sentence}
+use Rattle.sj_job.specs.declared.form.Form.{Form}
+use Rattle.sj_job.specs.Act.{Act, Statement}
 use Rattle.sj_job.specs.Sentence.{said}
 use Rattle.sj_job.specs.State.{State}
 use Rattle.sj_job.specs.Meaning.{apply}
@@ -12,9 +11,9 @@ use Rattle.sj_job.specs.Judge.{Scope, scope_of, is_begun, judged}
 -- words say this act, and no reason stands against it
 pub record IsAllowed (has : Kernel → Bool) (scope : Scope) (act : Act) : Type 0 where
   pub words : List (List ℕ)
-  pub sentence : Sentence
-  pub spelled : said has (is_begun scope) words ≡ Ok sentence
-  pub judged : judged scope sentence ≡ Ok act
+  pub form : Form
+  pub spelled : said (is_begun scope) words ≡ Ok form
+  pub judged : judged has scope form ≡ Ok act
 
 -- each statement is allowed in the state that those before it leave, of which k stand before the first
 abbrev pub IsWell : (Kernel → Bool) → ℕ → State → List Statement → Type 0

@@ -3,7 +3,6 @@
 ghost use Rattle.std.specs.Prelude.{◌≡◌, ◌==◌, [], map, IfOk};
 ghost use Rattle.std.specs.List.{slice_split};
 
-use crate::name::Name;
 use sj_base::memory::OutOfMemory;
 use sj_base::mode::{Mode, Policy, Reduction};
 use sj_base::sequence::Sequence;
@@ -128,7 +127,7 @@ pub enum InitForm<'a> {
 /// `vector NAME N INIT` or `matrix NAME R C INIT`, with `by r c` before the values or without.
 #[derive(Debug, Drop)]
 pub struct ArrayForm<'a> {
-    pub name: Name,
+    pub name: Piece<'a>,
     pub size: Size<'a>,
     pub parts: Option<(Piece<'a>, Piece<'a>)>,
     pub init: InitForm<'a>,
@@ -137,7 +136,7 @@ pub struct ArrayForm<'a> {
 /// `NAME:MODE` or `NAME[i,j]:MODE`.
 #[derive(Debug, Drop)]
 pub struct OperandForm<'a> {
-    pub name: Name,
+    pub name: Piece<'a>,
     pub child: Option<(Piece<'a>, Piece<'a>)>,
     pub mode: Mode,
 }
@@ -159,10 +158,10 @@ pub enum Form<'a> {
     Node(Piece<'a>),
     Policy(Policy),
     Register(ArrayForm<'a>),
-    Plan(Name, Piece<'a>, Piece<'a>),
-    Redux(Name, Reduction),
+    Plan(Piece<'a>, Piece<'a>, Piece<'a>),
+    Redux(Piece<'a>, Reduction),
     Task(TaskForm<'a>),
-    Print(Name),
-    Invalidate(Name),
-    Unregister(Name),
+    Print(Piece<'a>),
+    Invalidate(Piece<'a>),
+    Unregister(Piece<'a>),
 }

@@ -1,10 +1,8 @@
 //! The grammar of a line.
 
 ghost use Rattle.std.specs.Prelude.{◌≡◌, ◌↔◌, ℕ, Bool, Some, Result, List};
-ghost use Rattle.sj_codelet.specs.declared.kernel.Kernel.{Kernel};
 ghost use Rattle.sj_job.specs.declared.form.Form.{Form};
 ghost use Rattle.sj_job.specs.declared.reason.Reason.{Reason};
-ghost use Rattle.sj_job.specs.declared.sentence.Sentence.{Sentence};
 ghost use Rattle.sj_job.specs.Form.{form_of};
 ghost use Rattle.sj_job.specs.Sentence.{said};
 ghost use Rattle.sj_job.specs.Grammar.{Spells, Says};
@@ -14,7 +12,6 @@ ghost use Rattle.sj_job.specs.Grammar.{Spells, Says};
 pub fn grammar()
     ensures spelled { (words : List (List ℕ)) (form : Form) →
         ((form_of words ≡ Some form) ↔ Spells words form) }
-    ensures said { (has : Kernel → Bool) (begun : Bool) (words : List (List ℕ))
-        (says : Result Sentence Reason) →
-        ((said has begun words ≡ says) ↔ Says has begun words says) }
+    ensures said { (begun : Bool) (words : List (List ℕ)) (says : Result Form Reason) →
+        ((said begun words ≡ says) ↔ Says begun words says) }
 {}

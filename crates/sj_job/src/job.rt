@@ -3,18 +3,25 @@
 ghost use Rattle.std.specs.Prelude.{◌≡◌};
 ghost use Rattle.sj_job.specs.Meaning.{is_written};
 
-use crate::name::Name;
-use sj_base::ids::Line;
+use crate::roots::Roots;
+use sj_base::ids::{Line, Root};
 use sj_base::mode::Mode;
-use sj_base::program::Codelet;
 use sj_base::sequence::Sequence;
 use sj_base::tile::Dims;
+use sj_codelet::kernel::Kernel;
 
 /// Whether a root was registered as a vector or as a matrix; they differ in how they are printed.
 #[derive(Clone, Copy, Debug, PartialEq, Eq)]
 pub enum Kind {
     Vector,
     Matrix,
+}
+
+/// What is fixed of a root beside its name.
+#[derive(Clone, Copy, Debug, PartialEq, Eq)]
+pub struct RootInfo {
+    pub kind: Kind,
+    pub dims: Dims,
 }
 
 /// The elements that a root has from its registration on.
@@ -28,19 +35,10 @@ pub enum Init {
     Nothing,
 }
 
-/// `vector NAME N INIT` or `matrix NAME R C INIT`: registers a root handle.
-#[derive(Debug, Drop)]
-pub struct Register {
-    pub name: Name,
-    pub kind: Kind,
-    pub dims: Dims,
-    pub init: Init,
-}
-
 /// `NAME:MODE`: an operand of a task.
-#[derive(Debug, Drop)]
+#[derive(Clone, Copy, Debug, PartialEq, Eq)]
 pub struct Operand {
-    pub name: Name,
+    pub root: Root,
     pub mode: Mode,
 }
 
@@ -59,7 +57,7 @@ impl Operand {
 /// `task CODELET OPERANDS`: submits a task.
 #[derive(Debug, Drop)]
 pub struct TaskLine {
-    pub codelet: Codelet,
+    pub kernel: Kernel,
     pub args: Sequence<i64>,
     pub operands: Sequence<Operand>,
     /// Higher is more urgent; 0 where the line has no `prio=`.
@@ -69,13 +67,14 @@ pub struct TaskLine {
 /// What a statement does.
 #[derive(Debug, Drop)]
 pub enum Act {
-    Register(Register),
+    /// `vector NAME N INIT` or `matrix NAME R C INIT`: registers the next root, with these first elements.
+    Register(Init),
     Task(TaskLine),
-    Print(Name),
+    Print(Root),
     /// The elements have no value any more.
-    Invalidate(Name),
+    Invalidate(Root),
     /// The name is ended for good.
-    Unregister(Name),
+    Unregister(Root),
 }
 
 /// An act and the line that it stands in.
@@ -85,8 +84,9 @@ pub struct Statement {
     pub act: Act,
 }
 
-/// The statements of a job text, in order.
-#[derive(Debug, Drop)]
+/// The statements of a job text, in order, and the roots that they register.
+#[derive(Drop)]
 pub struct Job {
+    pub roots: Roots,
     pub statements: Sequence<Statement>,
 }

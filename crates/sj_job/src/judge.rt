@@ -1,21 +1,29 @@
-//! Why a sentence is refused.
+//! Why a form that is built is refused.
 
-ghost use Rattle.std.specs.Prelude.{◌≡◌, ◌*◌, ◌^◌, ◌<◌, ◌≤◌, ◌&&◌, not, map, length, IfOk, IfNone};
+ghost use Rattle.std.specs.Prelude.{◌≡◌, ◌*◌, ◌^◌, Ok, ◌<◌, ◌≤◌, None, Some, false, map, length, All, IfOk, IfErr, IfNone, IfSome, IsTrue, MatchOption};
 ghost use Rattle.std.specs.List.{list_any};
-ghost use Rattle.sj_codelet.specs.Kernel.{arguments_of, formals_of};
-ghost use Rattle.sj_job.specs.Names.{scope_in};
-ghost use Rattle.sj_job.specs.Judge.{first_of, is_full, is_side, is_outside, is_miscounted, register_reasons, kernel_in, is_counted, mode_fits, modes_fit, dims_in, is_shaped, clashes, is_aliased, is_unknown, is_ended, needs_value, is_lacking, is_priority, operand_reasons, codelet_reasons, task_reasons, name_reasons, print_reasons, judged};
+ghost use Rattle.sj_job.specs.declared.names.Names.{Names};
+ghost use Rattle.sj_job.specs.Form.{each_some};
+ghost use Rattle.sj_job.specs.Sentence.{operand_said, operands_said, priority_said, task_said};
+ghost use Rattle.sj_job.specs.Word.{integer};
+ghost use Rattle.sj_job.specs.Names.{IsCounted, scope_in, found_in, is_over, is_unvalued, target_in, any_over, targets_fit, target_dims, is_counted_for, is_shaped_for, collide, any_collide, is_wanting, target_reasons, operand_by};
+ghost use Rattle.sj_job.specs.Table.{root_in, name_of, IsRoot};
+ghost use Rattle.sj_job.specs.View.{operand_seen, task_seen};
+ghost use Rattle.sj_job.specs.Reason.{Objects};
+ghost use Rattle.sj_job.specs.Act.{Task};
+ghost use Rattle.sj_job.specs.Judge.{first_of, is_side, is_outside, is_miscounted, register_reasons, mode_fits, needs_value, is_priority, print_reasons, name_reasons, judged_task};
 
-use crate::job::{Act, Init, Operand, Register, TaskLine};
-use crate::name::Name;
-use crate::names::Names;
-use crate::reason::{LimitKind, Reason};
-use crate::sentence::{Call, Registration, Sentence};
+use crate::form::{OperandForm, TaskForm};
+use crate::job::{Init, Operand, TaskLine};
+use crate::names::{Found, Names, Standing, Target};
+use crate::reason::{LimitKind, Objection, Reason};
 use sj_base::memory::OutOfMemory;
 use sj_base::mode::Mode;
+use sj_base::sequence::Sequence;
 use sj_base::tile::Dims;
 use sj_codelet::formal::Formal;
-use sj_codelet::kernel::{FILL, Kernel};
+use sj_codelet::kernel::Kernel;
+use sj_codelet::set::Codelets;
 use std::alloc::{AllocError, Global};
 
 /// The most statements of a job.
@@ -58,32 +66,119 @@ fn is_miscounted(init: &Init, rows: u64, cols: u64) -> bool
     }
 }
 
-/// The first reason against a registration. Logarithmic in the names.
-fn register_complaint(names: &Names, r: &Registration) -> Option<Reason>
-    ensures first { result ≡ first_of (register_reasons (scope_in names.now) r.now) }
-    ensures within { IfNone result ((r.now.rows ≤ SIDE) × (r.now.cols ≤ SIDE)) }
+/// The first reason against a registration. Linear in the name.
+pub fn register_complaint(
+    names: &Names,
+    name: &[u8],
+    rows: u64,
+    cols: u64,
+    init: &Init,
+) -> Option<Reason>
+    requires { IsCounted names.now }
+    ensures first { result
+        ≡ first_of (register_reasons (scope_in names.now) name.now rows cols init.now) }
+    ensures within { IfNone result ((rows ≤ SIDE) × (cols ≤ SIDE)) }
+    ensures few { IfNone result (length names.now.roots.names < NAMES) }
+    ensures fresh { IfNone result (root_in names.now.roots name.now ≡ None) }
 {
     if STATEMENTS <= names.statements {
         Some(Reason::Limit(LimitKind::Statements))
-    } else if NAMES <= names.registered {
+    } else if NAMES <= names.roots.len() as u64 {
         Some(Reason::Limit(LimitKind::Names))
-    } else if is_outside(r.rows, r.cols) {
+    } else if is_outside(rows, cols) {
         Some(Reason::Limit(LimitKind::Elements))
-    } else if names.is_ended(&r.name) {
+    } else if names.is_ended(name) {
         Some(Reason::EndedName)
-    } else if names.is_taken(&r.name) {
+    } else if names.is_taken(name) {
         Some(Reason::TakenName)
-    } else if is_miscounted(&r.init, r.rows, r.cols) {
+    } else if is_miscounted(init, rows, cols) {
         Some(Reason::Shape)
     } else {
         None
     }
 }
 
-fn is_counted(kernel: Kernel, call: &Call) -> bool
-    ensures { result ≡ is_counted kernel call.now }
+/// The root of a name, or the first reason against a statement that needs a name and nothing else. Linear in the name.
+pub fn named_root(names: &Names, name: &[u8]) -> Result<Found, Reason>
+    requires { IsCounted names.now }
+    ensures found { IfOk result (λ f. found_in names.now name.now ≡ Some f) }
+    ensures none { IfOk result (λ f. first_of (name_reasons (scope_in names.now) name.now) ≡ None) }
+    ensures why { IfErr result
+        (λ why. first_of (name_reasons (scope_in names.now) name.now) ≡ Some why) }
 {
-    call.args.len() == kernel.arguments() && call.operands.len() == kernel.formals().len()
+    if STATEMENTS <= names.statements {
+        return Err(Reason::Limit(LimitKind::Statements));
+    }
+    let Some(found) = names.find(name) else {
+        return Err(Reason::UnknownName);
+    };
+    if found.is_over() {
+        return Err(Reason::EndedName);
+    }
+    Ok(found)
+}
+
+/// The root of a name, or the first reason against printing it. Linear in the name.
+pub fn printed_root(names: &Names, name: &[u8]) -> Result<Found, Reason>
+    requires { IsCounted names.now }
+    ensures found { IfOk result (λ f. found_in names.now name.now ≡ Some f) }
+    ensures none { IfOk result (λ f. first_of (print_reasons (scope_in names.now) name.now) ≡ None) }
+    ensures why { IfErr result
+        (λ why. first_of (print_reasons (scope_in names.now) name.now) ≡ Some why) }
+{
+    let found = named_root(names, name)?;
+    if is_unvalued(found.standing) {
+        return Err(Reason::NoValue);
+    }
+    Ok(found)
+}
+
+fn is_unvalued(standing: Standing) -> bool
+    ensures { result ≡ is_unvalued standing }
+{
+    match standing {
+        Standing::Unvalued => true,
+        Standing::Valued | Standing::Ended => false,
+    }
+}
+
+/// An operand with its root, or `None` where its name has none. Linear in the name.
+fn target_of(names: &Names, operand: &OperandForm<'_>) -> Option<Target>
+    requires { IsCounted names.now }
+    ensures { result ≡ target_in names.now (operand_said operand.now) }
+{
+    let found = names.find(operand.name.bytes())?;
+    Some(Target {
+        found,
+        mode: operand.mode,
+    })
+}
+
+/// The operands with their roots, or `None` where a name has none. Linear in the operands and their names.
+fn targets_of(
+    alloc: Global,
+    names: &Names,
+    operands: &[OperandForm<'_>],
+) -> Result<Option<Vec<Target>>, OutOfMemory>
+    requires { IsCounted names.now }
+    ensures { IfOk result (λ r. MatchOption r
+        (each_some (target_in names.now) (map operand_said operands.now) ≡ None)
+        (λ ts. each_some (target_in names.now) (map operand_said operands.now) ≡ Some ts.items)) }
+{
+    let mut targets = Vec::with_capacity(alloc, operands.len())?;
+    for operand in operands {
+        match target_of(names, operand) {
+            Some(target) => targets.push(target)?,
+            None => return Ok(None),
+        }
+    }
+    Ok(Some(targets))
+}
+
+fn any_over(targets: &[Target]) -> bool
+    ensures { result ≡ any_over targets.now }
+{
+    targets.iter().any(|t| t.found.is_over())
 }
 
 fn mode_fits(formal: Formal, mode: Mode) -> bool
@@ -97,92 +192,67 @@ fn mode_fits(formal: Formal, mode: Mode) -> bool
     }
 }
 
-fn modes_fit(formals: &[Formal], operands: &[Operand]) -> bool
-    ensures { result ≡ modes_fit formals.now operands.now }
+fn targets_fit(formals: &[Formal], targets: &[Target]) -> bool
+    ensures { result ≡ targets_fit formals.now targets.now }
 {
     formals
         .iter()
-        .zip(operands.iter())
-        .all(|(formal, operand)| mode_fits(*formal, operand.mode))
+        .zip(targets.iter())
+        .all(|(formal, target)| mode_fits(*formal, target.mode))
 }
 
-fn clashes(o: &Operand, p: &Operand) -> bool
-    ensures { result ≡ clashes o.now p.now }
+fn collide(t: &Target, u: &Target) -> bool
+    ensures { result ≡ collide t.now u.now }
 {
-    o.name == p.name && !(o.mode == Mode::R && p.mode == Mode::R)
+    t.found.root.0 == u.found.root.0 && !(t.mode == Mode::R && u.mode == Mode::R)
 }
 
-fn is_aliased(operands: &[Operand]) -> bool
-    ensures { result ≡ is_aliased operands.now }
+fn any_collide(targets: &[Target]) -> bool
+    ensures { result ≡ any_collide targets.now }
 {
-    match operands.split_first() {
+    match targets.split_first() {
         Some((first, rest)) => {
-            if clashes_with_any(first, rest) {
+            if collides_with_any(first, rest) {
                 return true;
             }
-            is_aliased(rest)
+            any_collide(rest)
         }
         None => false,
     }
 }
 
-fn clashes_with_any(o: &Operand, others: &[Operand]) -> bool
-    ensures { result ≡ list_any (clashes o.now) others.now }
+fn collides_with_any(t: &Target, others: &[Target]) -> bool
+    ensures { result ≡ list_any (collide t.now) others.now }
 {
-    others.iter().any(|p| clashes(o, p))
+    others.iter().any(|u| collide(t, u))
 }
 
-fn dims_in(alloc: Global, names: &Names, operands: &[Operand]) -> Result<Vec<Dims>, AllocError>
-    ensures { IfOk result (λ dims. dims.items ≡ map (dims_in (scope_in names.now)) operands.now) }
+fn dims_of(alloc: Global, targets: &[Target]) -> Result<Vec<Dims>, AllocError>
+    ensures { IfOk result (λ dims. dims.items ≡ target_dims targets.now) }
 {
-    operands.iter().map(|o| names.dims_in(o)).collect(alloc)
+    targets.iter().map(|t| t.found.dims).collect(alloc)
+}
+
+fn is_counted(kernel: Kernel, args: &[i64], targets: &[Target]) -> bool
+    ensures { result ≡ is_counted_for kernel args.now targets.now }
+{
+    args.len() == kernel.arguments() && targets.len() == kernel.formals().len()
 }
 
 /// Whether modes and dimensions are as the codelet takes them.
-fn is_shaped(alloc: Global, names: &Names, kernel: Kernel, call: &Call) -> Result<bool, OutOfMemory>
-    ensures { IfOk result (λ shaped. shaped ≡ is_shaped (scope_in names.now) kernel call.now) }
+fn is_shaped(
+    alloc: Global,
+    kernel: Kernel,
+    args: &[i64],
+    targets: &[Target],
+) -> Result<bool, OutOfMemory>
+    ensures { IfOk result (λ shaped. shaped ≡ is_shaped_for kernel args.now targets.now) }
 {
-    if !modes_fit(kernel.formals(), call.operands.items()) {
+    if !targets_fit(kernel.formals(), targets) {
         return Ok(false);
     }
-    let dims = dims_in(alloc, names, call.operands.items())?;
-    Ok(kernel.fits(call.args.items(), &dims))
-}
-
-/// The first reason against the operands of a codelet. Linear in them, times the logarithm of the
-/// names.
-fn operand_complaint(
-    alloc: Global,
-    names: &Names,
-    kernel: Kernel,
-    call: &Call,
-) -> Result<Option<Reason>, OutOfMemory>
-    ensures { IfOk result
-        (λ why. why ≡ first_of (operand_reasons (scope_in names.now) kernel call.now)) }
-{
-    if !is_counted(kernel, call) {
-        Ok(Some(Reason::OperandCount))
-    } else if !is_shaped(alloc, names, kernel, call)? {
-        Ok(Some(Reason::Shape))
-    } else if is_aliased(call.operands.items()) {
-        Ok(Some(Reason::Aliased))
-    } else if lacks_values(names, call.operands.items()) {
-        Ok(Some(Reason::NoValue))
-    } else {
-        Ok(None)
-    }
-}
-
-fn has_unknown(names: &Names, operands: &[Operand]) -> bool
-    ensures { result ≡ list_any (λ o. is_unknown (scope_in names.now) o.name) operands.now }
-{
-    operands.iter().any(|o| names.is_unknown(&o.name))
-}
-
-fn has_ended(names: &Names, operands: &[Operand]) -> bool
-    ensures { result ≡ list_any (λ o. is_ended (scope_in names.now) o.name) operands.now }
-{
-    operands.iter().any(|o| names.is_ended(&o.name))
+    let dims = dims_of(alloc, targets)?;
+    Ok(kernel.fits(args, &dims))
 }
 
 fn needs_value(mode: Mode) -> bool
@@ -195,166 +265,106 @@ fn needs_value(mode: Mode) -> bool
 }
 
 /// Whether an operand whose old value is needed has none.
-fn lacks_values(names: &Names, operands: &[Operand]) -> bool
-    ensures { result ≡ list_any (is_lacking (scope_in names.now)) operands.now }
+fn any_wanting(targets: &[Target]) -> bool
+    ensures { result ≡ list_any is_wanting targets.now }
 {
-    operands
+    targets
         .iter()
-        .any(|o| needs_value(o.mode) && names.lacks_value(&o.name))
+        .any(|t| needs_value(t.mode) && is_unvalued(t.found.standing))
 }
 
-/// The codelet of a call.
-fn kernel_in(call: &Call) -> Option<Kernel>
-    ensures { result ≡ kernel_in call.now.codelet }
-{
-    match call.codelet {
-        Some(id) => Kernel::of(id),
-        None => None,
-    }
-}
-
-fn codelet_complaint(
+/// The first reason against the operands of a codelet. Linear in them.
+fn target_complaint(
     alloc: Global,
-    names: &Names,
-    call: &Call,
+    kernel: Kernel,
+    args: &[i64],
+    targets: &[Target],
 ) -> Result<Option<Reason>, OutOfMemory>
-    ensures { IfOk result (λ why. why ≡ first_of (codelet_reasons (scope_in names.now) call.now)) }
+    ensures { IfOk result
+        (λ why. why ≡ first_of (target_reasons kernel args.now targets.now)) }
 {
-    match kernel_in(call) {
-        Some(kernel) => operand_complaint(alloc, names, kernel, call),
-        None => Ok(Some(Reason::UnknownCodelet)),
-    }
-}
-
-fn has_priority(call: &Call) -> bool
-    ensures { result ≡ is_priority call.now.priority }
-{
-    LEAST_PRIORITY <= call.priority && call.priority <= GREATEST_PRIORITY
-}
-
-/// The first reason against a task. Linear in its operands, times the logarithm of the names.
-fn task_complaint(alloc: Global, names: &Names, call: &Call) -> Result<Option<Reason>, OutOfMemory>
-    ensures { IfOk result (λ why. why ≡ first_of (task_reasons (scope_in names.now) call.now)) }
-{
-    if STATEMENTS <= names.statements {
-        return Ok(Some(Reason::Limit(LimitKind::Statements)));
-    }
-    if !has_priority(call) {
-        return Ok(Some(Reason::Limit(LimitKind::Priority)));
-    }
-    if has_unknown(names, call.operands.items()) {
-        return Ok(Some(Reason::UnknownName));
-    }
-    if has_ended(names, call.operands.items()) {
-        return Ok(Some(Reason::EndedName));
-    }
-    codelet_complaint(alloc, names, call)
-}
-
-/// The first reason against a statement that needs a name and nothing else. Logarithmic in the names.
-fn name_complaint(names: &Names, name: &Name) -> Option<Reason>
-    ensures { result ≡ first_of (name_reasons (scope_in names.now) name.now) }
-{
-    if STATEMENTS <= names.statements {
-        Some(Reason::Limit(LimitKind::Statements))
-    } else if names.is_unknown(name) {
-        Some(Reason::UnknownName)
-    } else if names.is_ended(name) {
-        Some(Reason::EndedName)
+    if !is_counted(kernel, args, targets) {
+        Ok(Some(Reason::OperandCount))
+    } else if !is_shaped(alloc, kernel, args, targets)? {
+        Ok(Some(Reason::Shape))
+    } else if any_collide(targets) {
+        Ok(Some(Reason::Aliased))
+    } else if any_wanting(targets) {
+        Ok(Some(Reason::NoValue))
     } else {
-        None
+        Ok(None)
     }
 }
 
-/// The first reason against a print statement. Logarithmic in the names.
-fn print_complaint(names: &Names, name: &Name) -> Option<Reason>
-    ensures { result ≡ first_of (print_reasons (scope_in names.now) name.now) }
+fn operands_of(alloc: Global, targets: &[Target]) -> Result<Vec<Operand>, AllocError>
+    ensures { IfOk result (λ os. os.items ≡ map operand_by targets.now) }
 {
-    if STATEMENTS <= names.statements {
-        Some(Reason::Limit(LimitKind::Statements))
-    } else if names.is_unknown(name) {
-        Some(Reason::UnknownName)
-    } else if names.is_ended(name) {
-        Some(Reason::EndedName)
-    } else if names.lacks_value(name) {
-        Some(Reason::NoValue)
-    } else {
-        None
-    }
+    targets.iter().map(|t| operand_by(t)).collect(alloc)
 }
 
-fn judge_registration(names: &Names, r: Registration) -> Result<Act, Reason>
-    ensures { result ≡ judged (scope_in names.now) (Sentence.Register r) }
+fn operand_by(target: &Target) -> Operand
+    ensures { result ≡ operand_by target.now }
 {
-    match register_complaint(names, &r) {
-        Some(why) => Err(why),
-        None => Ok(Act::Register(Register {
-            name: r.name,
-            kind: r.kind,
-            dims: Dims {
-                rows: r.rows as u32,
-                cols: r.cols as u32,
-            },
-            init: r.init,
-        })),
+    Operand {
+        root: target.found.root,
+        mode: target.mode,
     }
 }
 
-fn judge_call(alloc: Global, names: &Names, call: Call) -> Result<Result<Act, Reason>, OutOfMemory>
-    ensures { IfOk result (λ act. act ≡ judged (scope_in names.now) (Sentence.Task call)) }
+fn has_priority(priority: i64) -> bool
+    ensures { result ≡ is_priority priority }
 {
-    match task_complaint(alloc, names, &call)? {
-        Some(why) => Ok(Err(why)),
-        None => Ok(Ok(Act::Task(TaskLine {
-            codelet: call.codelet.unwrap_or(FILL),
-            args: call.args,
-            operands: call.operands,
-            priority: call.priority as i32,
-        }))),
-    }
+    LEAST_PRIORITY <= priority && priority <= GREATEST_PRIORITY
 }
 
-fn judge_print(names: &Names, name: Name) -> Result<Act, Reason>
-    ensures { result ≡ judged (scope_in names.now) (Sentence.Print name) }
+fn narrowed(priority: i64) -> i32
+    requires { IsTrue (is_priority priority) }
+    ensures { result ≡ priority }
 {
-    match print_complaint(names, &name) {
-        Some(why) => Err(why),
-        None => Ok(Act::Print(name)),
-    }
+    priority as i32
 }
 
-fn judge_invalidation(names: &Names, name: Name) -> Result<Act, Reason>
-    ensures { result ≡ judged (scope_in names.now) (Sentence.Invalidate name) }
-{
-    match name_complaint(names, &name) {
-        Some(why) => Err(why),
-        None => Ok(Act::Invalidate(name)),
-    }
-}
-
-fn judge_ending(names: &Names, name: Name) -> Result<Act, Reason>
-    ensures { result ≡ judged (scope_in names.now) (Sentence.Unregister name) }
-{
-    match name_complaint(names, &name) {
-        Some(why) => Err(why),
-        None => Ok(Act::Unregister(name)),
-    }
-}
-
-/// What a sentence does, or the first reason against it. Linear in its operands, times the
-/// logarithm of the names.
-pub fn judge(
+/// The task of a form with these arguments and this priority, or why there is none. Linear in its words, but that the name of
+/// the codelet is looked up in the table.
+pub fn judge_task<C: Codelets>(
     alloc: Global,
     names: &Names,
-    sentence: Sentence,
-) -> Result<Result<Act, Reason>, OutOfMemory>
-    ensures { IfOk result (λ act. act ≡ judged (scope_in names.now) sentence) }
+    form: &TaskForm<'_>,
+    args: Sequence<i64>,
+    priority: i64,
+    codelets: &C,
+) -> Result<TaskLine, Objection>
+    requires counted { IsCounted names.now }
+    requires args { args ≡ map integer form.now.args }
+    requires priority { priority ≡ priority_said form.now.priority }
+    ensures ok { IfOk result (λ t.
+        judged_task C.has (scope_in names.now) form.now ≡ Ok (Task (task_seen names.now.roots t))) }
+    ensures roots { IfOk result (λ t. All (λ o. IsRoot names.now.roots o.root) t.operands) }
+    ensures err { IfErr result (λ e. Objects e (judged_task C.has (scope_in names.now) form.now)) }
 {
-    match sentence {
-        Sentence::Register(registration) => Ok(judge_registration(names, registration)),
-        Sentence::Task(call) => judge_call(alloc, names, call),
-        Sentence::Print(name) => Ok(judge_print(names, name)),
-        Sentence::Invalidate(name) => Ok(judge_invalidation(names, name)),
-        Sentence::Unregister(name) => Ok(judge_ending(names, name)),
+    if STATEMENTS <= names.statements {
+        return Err(Objection::Bad(Reason::Limit(LimitKind::Statements)));
     }
+    if !has_priority(priority) {
+        return Err(Objection::Bad(Reason::Limit(LimitKind::Priority)));
+    }
+    let Some(targets) = targets_of(alloc, names, form.operands.items())? else {
+        return Err(Objection::Bad(Reason::UnknownName));
+    };
+    if any_over(&targets) {
+        return Err(Objection::Bad(Reason::EndedName));
+    }
+    let Some(kernel) = codelets.kernel_named(form.codelet.bytes()) else {
+        return Err(Objection::Bad(Reason::UnknownCodelet));
+    };
+    if let Some(why) = target_complaint(alloc, kernel, args.items(), &targets)? {
+        return Err(Objection::Bad(why));
+    }
+    let operands = operands_of(alloc, &targets)?;
+    Ok(TaskLine {
+        kernel,
+        args,
+        operands: Sequence::of(operands),
+        priority: narrowed(priority),
+    })
 }

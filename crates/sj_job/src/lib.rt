@@ -6,12 +6,13 @@ pub mod grammar;
 pub mod job;
 pub mod judge;
 pub mod line;
-pub mod name;
 pub mod names;
+pub mod number;
 pub mod read;
 pub mod reason;
-pub mod sentence;
+pub mod roots;
 pub mod spell;
+pub mod submit;
 #[cfg(test)]
 mod tests;
 #[cfg(test)]

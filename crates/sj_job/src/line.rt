@@ -3,6 +3,7 @@
 ghost use Rattle.std.specs.Prelude.{◌≡◌, ◌==◌, ◌≤◌, ℕ, List, [], length, map, not, position, MatchOption, IfOk};
 ghost use Rattle.sj_job.specs.Word.{lines, words, is_blank, is_allowed, is_empty, is_skipped, begins_with, CutsOff};
 ghost use Rattle.std.specs.List.{list_all, position_or_len};
+ghost use Rattle.sj_job.specs.Sentence.{is_header};
 
 use memchr::memchr;
 use std::alloc::{AllocError, Global};
@@ -102,5 +103,15 @@ pub fn is_skipped(words: &[&[u8]]) -> bool
     match words.first() {
         Some(word) => word.first() == Some(&b'#'),
         None => true,
+    }
+}
+
+/// Whether these words are the header. Constant time.
+pub fn is_header(words: &[&[u8]]) -> bool
+    ensures { result ≡ is_header (map (λ w. w.now) words.now) }
+{
+    match words {
+        [first, second] => *first == b"starjob".as_slice() && *second == b"1".as_slice(),
+        _ => false,
     }
 }

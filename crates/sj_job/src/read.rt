@@ -1,25 +1,24 @@
 //! Reading a job text.
 
-ghost use Rattle.std.specs.Prelude.{◌≡◌, ◌+◌, ◌≤◌, ◌<◌, ◌^◌, ◌∷◌, ℕ, Bool, List, length, map, Ok, IfOk, IfErr, OnOk};
+ghost use Rattle.std.specs.Prelude.{◌≡◌, ◌+◌, ◌≤◌, ◌<◌, ◌^◌, ◌∷◌, ℕ, Bool, List, length, Ok, IfOk, IfErr, IfNone, IfSome, OnOk};
 ghost use Rattle.sj_codelet.specs.declared.kernel.Kernel.{Kernel};
 ghost use Rattle.sj_job.specs.Word.{lines};
 ghost use Rattle.sj_job.specs.State.{start};
-ghost use Rattle.sj_job.specs.Names.{scope_in};
-ghost use Rattle.sj_job.specs.Reading.{reading, reading_header, job_of, act_in, verdict_of, IsRefusal};
-ghost use Rattle.sj_job.specs.declared.job.Statement.{Statement};
-ghost use Rattle.sj_job.specs.Meaning.{run_from};
-ghost use Rattle.sj_job.specs.Sees.{Sees};
+ghost use Rattle.sj_job.specs.Names.{IsCounted, scope_in};
+ghost use Rattle.sj_job.specs.Verdict.{Skipped};
+ghost use Rattle.sj_job.specs.Reading.{reading, reading_header, job_of, verdict_of, IsBad, IsRefusal};
 ghost use Rattle.sj_job.specs.Progress.{text_with};
+ghost use Rattle.sj_job.specs.Submits.{LineDoes, AreRead};
+ghost use Rattle.sj_job.specs.View.{seen_from, statements_of, IsNumbered};
 ghost use Rattle.sj_job.specs.Well.{IsWell};
 
 use crate::job::{Act, Job, Statement};
-use crate::judge::judge;
-use crate::line::{are_allowed, is_skipped, next_line, words};
+use crate::line::{are_allowed, is_header, is_skipped, next_line, words};
 use crate::names::Names;
-use crate::reason::{LimitKind, ReadRefusal, Reason};
-use crate::sentence::{is_header, read_sentence};
+use crate::reason::{LimitKind, Objection, ReadRefusal, Reason};
+use crate::spell::form_of;
+use crate::submit::submit;
 use sj_base::ids::Line;
-use sj_base::memory::OutOfMemory;
 use sj_base::sequence::Sequence;
 use sj_codelet::set::Codelets;
 use std::alloc::Global;
@@ -27,53 +26,34 @@ use std::alloc::Global;
 /// The longest text that is read, in bytes.
 pub const TEXT: usize = 67_108_864;
 
-/// What a line does.
-#[derive(Debug, Drop)]
-pub enum Verdict {
-    Skipped,
-    Does(Act),
-    Bad(Reason),
-}
-
-/// What the words of an allowed line do, or why they are refused.
-fn act_of_words<C: Codelets>(
+/// What a line does, `None` where it says nothing. Linear in it, but that a codelet is looked up in the table.
+fn act_of_line<C: Codelets>(
     alloc: Global,
-    names: &Names,
-    words: Vec<&[u8]>,
-    codelets: &C,
-) -> Result<Result<Act, Reason>, OutOfMemory>
-    ensures { IfOk result
-        (λ act. act ≡ act_in C.has (scope_in names.now) (map (λ w. w.now) words.entry.items)) }
-{
-    match read_sentence(alloc, words, names.statements > 0, codelets)? {
-        Ok(sentence) => judge(alloc, names, sentence),
-        Err(why) => Ok(Err(why)),
-    }
-}
-
-/// What a line does. Linear in it, but for the look-up of names.
-fn judge_line<C: Codelets>(
-    alloc: Global,
-    names: &Names,
+    names: &mut Names,
     line: &[u8],
     codelets: &C,
-) -> Result<Verdict, OutOfMemory>
-    ensures { IfOk result (λ verdict. verdict ≡ verdict_of C.has (scope_in names.now) line.now) }
+) -> Result<Option<Act>, Objection>
+    requires counted { IsCounted names.old }
+    requires room { names.old.statements + 1 < 2 ^ 64 }
+    ensures skips { IfOk result (λ a. IfNone a
+        ((names.new ≡ names.old) × (verdict_of C.has (scope_in names.old) line.now ≡ Skipped))) }
+    ensures does { IfOk result (λ a. IfSome a (LineDoes C.has names.old line.now names.new)) }
+    ensures err { IfErr result (λ e. IsBad e (verdict_of C.has (scope_in names.old) line.now)) }
 {
     let words = words(alloc, line)?;
     if is_skipped(&words) {
-        return Ok(Verdict::Skipped);
+        return Ok(None);
     }
     if !are_allowed(&words) {
-        return Ok(Verdict::Bad(Reason::Word));
+        return Err(Objection::Bad(Reason::Word));
     }
-    match act_of_words(alloc, names, words, codelets)? {
-        Ok(act) => Ok(Verdict::Does(act)),
-        Err(reason) => Ok(Verdict::Bad(reason)),
-    }
+    let Some(form) = form_of(alloc, &words)? else {
+        return Err(Objection::Bad(Reason::Word));
+    };
+    Ok(Some(submit(alloc, names, &form, codelets)?))
 }
 
-/// Reads one line more. Linear in it, but for the look-up of names.
+/// Reads one line more. Linear in it, but that a codelet is looked up in the table.
 fn read_line<C: Codelets>(
     alloc: Global,
     names: &mut Names,
@@ -82,42 +62,42 @@ fn read_line<C: Codelets>(
     line: &[u8],
     codelets: &C,
 ) -> Result<(), ReadRefusal>
-    requires { Sees names.old (length statements.old.items) (run_from start statements.old.items) }
-    ensures names { OnOk result
-        (Sees names.new (length statements.new.items) (run_from start statements.new.items)) }
+    requires { AreRead names.old statements.old.items }
+    ensures names { OnOk result (AreRead names.new statements.new.items) }
     ensures ok { OnOk result ((rest : List (List ℕ)) →
-        text_with C.has statements.old.items number (line.now ∷ rest)
-        ≡ text_with C.has statements.new.items (number + 1) rest) }
-    ensures err { IfErr result (λ e. (rest : List (List ℕ)) →
-        IsRefusal e (text_with C.has statements.old.items number (line.now ∷ rest))) }
+        text_with C.has (seen_from names.old.roots 0 statements.old.items) number (line.now ∷ rest)
+        ≡ text_with C.has (seen_from names.new.roots 0 statements.new.items) (number + 1) rest) }
+    ensures err { IfErr result (λ e. (rest : List (List ℕ)) → IsRefusal e
+        (text_with C.has (seen_from names.old.roots 0 statements.old.items) number (line.now ∷ rest))) }
 {
-    match judge_line(alloc, names, line, codelets)? {
-        Verdict::Skipped => Ok(()),
-        Verdict::Bad(reason) => Err(ReadRefusal::Refused {
-            line: Line(number),
-            reason,
-        }),
-        Verdict::Does(act) => {
-            names.note(alloc, &act)?;
+    match act_of_line(alloc, names, line, codelets) {
+        Ok(None) => Ok(()),
+        Ok(Some(act)) => {
             statements.push(Statement {
                 line: Line(number),
                 act,
             })?;
             Ok(())
         }
+        Err(Objection::Bad(reason)) => Err(ReadRefusal::Refused {
+            line: Line(number),
+            reason,
+        }),
+        Err(Objection::OutOfMemory) => Err(ReadRefusal::OutOfMemory),
     }
 }
 
-/// The statements behind the header, whose first line has this number. Linear in the text, but for the look-up of
-/// names.
+/// The job of the lines from a number on. Linear in them, but that codelets are looked up in the table.
 fn read_statements<C: Codelets>(
     alloc: Global,
     text: &[u8],
     first: u32,
     codelets: &C,
-) -> Result<Vec<Statement>, ReadRefusal>
+) -> Result<Job, ReadRefusal>
     requires { first + length text.now < 2 ^ 32 }
-    ensures ok { IfOk result (λ ss. reading C.has 0 start first (lines text.now) ≡ Ok ss.items) }
+    ensures ok { IfOk result (λ job.
+        reading C.has 0 start first (lines text.now) ≡ Ok (statements_of job)) }
+    ensures numbered { IfOk result (λ job. IsNumbered job.roots job.statements) }
     ensures err { IfErr result (λ e. IsRefusal e (reading C.has 0 start first (lines text.now))) }
 {
     let mut names = Names::none(alloc);
@@ -129,7 +109,10 @@ fn read_statements<C: Codelets>(
         number += 1;
         rest = tail;
     }
-    Ok(statements)
+    Ok(Job {
+        roots: names.roots,
+        statements: Sequence::of(statements),
+    })
 }
 
 /// What follows the header, and the number of the next line. Linear in what stands before it.
@@ -163,11 +146,12 @@ fn skip_header(alloc: Global, text: &[u8]) -> Result<(&[u8], u32), ReadRefusal>
     })
 }
 
-/// Reads a job text: one pass over it, and a look-up for each name in the logarithm of the names.
+/// Reads a job text: one pass over it. Each name is looked up once, in time linear in it, and each codelet in the table.
 pub fn read<C: Codelets>(alloc: Global, text: &[u8], codelets: &C) -> Result<Job, ReadRefusal>
-    ensures ok { IfOk result (λ job. job_of C.has text.now ≡ Ok job.statements) }
+    ensures ok { IfOk result (λ job. job_of C.has text.now ≡ Ok (statements_of job)) }
     ensures err { IfErr result (λ e. IsRefusal e (job_of C.has text.now)) }
-    ensures well { IfOk result (λ job. IsWell C.has 0 start job.statements) }
+    ensures well { IfOk result (λ job. IsWell C.has 0 start (statements_of job)) }
+    ensures numbered { IfOk result (λ job. IsNumbered job.roots job.statements) }
 {
     if text.len() > TEXT {
         return Err(ReadRefusal::Refused {
@@ -176,8 +160,5 @@ pub fn read<C: Codelets>(alloc: Global, text: &[u8], codelets: &C) -> Result<Job
         });
     }
     let (rest, number) = skip_header(alloc, text)?;
-    let statements = read_statements(alloc, rest, number, codelets)?;
-    Ok(Job {
-        statements: Sequence::of(statements),
-    })
+    read_statements(alloc, rest, number, codelets)
 }

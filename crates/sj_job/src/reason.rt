@@ -88,6 +88,35 @@ impl Reason {
     }
 }
 
+/// Why a line does nothing: its first reason, or want of memory.
+#[derive(Clone, Copy, Debug, PartialEq, Eq)]
+pub enum Objection {
+    Bad(Reason),
+    OutOfMemory,
+}
+
+impl From<memory::OutOfMemory> for Objection {
+    ghost use Rattle.std.specs.Prelude.{◌≡◌};
+    ghost use Rattle.sj_job.specs.declared.reason.Objection.TheVariants.{OutOfMemory};
+
+    ghost from_gives = { λ _ e. e ≡ OutOfMemory };
+
+    fn from(_: memory::OutOfMemory) -> Self {
+        Objection::OutOfMemory
+    }
+}
+
+impl From<AllocError> for Objection {
+    ghost use Rattle.std.specs.Prelude.{◌≡◌};
+    ghost use Rattle.sj_job.specs.declared.reason.Objection.TheVariants.{OutOfMemory};
+
+    ghost from_gives = { λ _ e. e ≡ OutOfMemory };
+
+    fn from(_: AllocError) -> Self {
+        Objection::OutOfMemory
+    }
+}
+
 /// Why a text gave no job: the first bad line and its first reason, or want of memory.
 #[derive(Clone, Copy, Debug, PartialEq, Eq)]
 pub enum ReadRefusal {

@@ -4,11 +4,10 @@ ghost use Rattle.std.specs.Prelude.{◌≡◌, ◌==◌, ◌+◌, ◌<◌, not, 
 ghost use Rattle.std.specs.List.{before_first, after_first, list_all};
 ghost use Rattle.sj_job.specs.Word.{is_name};
 ghost use Rattle.sj_job.specs.declared.form.Keyword.TheVariants as keyword;
-ghost use Rattle.sj_job.specs.Form.{keyword_of, policy_of, reduction_of, mode_of, is_bracket, pieces_of, bracketed, around_last, child_of, operand_of, each_some, priority_of, with_priority, task_of, values_of, fill_of, init_of, parted, layout_of, array_of, vector_of, matrix_of, alone, name_in, plan_of, redux_of, takes_name, form_behind, form_of};
+ghost use Rattle.sj_job.specs.Form.{keyword_of, policy_of, reduction_of, mode_of, is_bracket, pieces_of, bracketed, around_last, child_of, operand_of, each_some, priority_of, with_priority, task_of, values_of, fill_of, init_of, parted, layout_of, array_of, vector_of, matrix_of, alone, name_in, plan_of, redux_of, form_behind, form_of};
 
 use crate::form::{ArrayForm, Form, InitForm, Keyword, OperandForm, Piece, Pieces, Size, TaskForm};
 use crate::line::first_place;
-use crate::name::Name;
 use crate::word::is_name;
 use memchr::memrchr;
 use sj_base::memory::OutOfMemory;
@@ -201,11 +200,7 @@ fn operand_of<'a>(alloc: Global, word: &'a [u8]) -> Result<Option<OperandForm<'a
         return Ok(None);
     };
     match child_of(pieces.items()) {
-        Some(child) => Ok(Some(OperandForm {
-            name: Name::of(alloc, name.bytes())?,
-            child,
-            mode,
-        })),
+        Some(child) => Ok(Some(OperandForm { name, child, mode })),
         None => Ok(None),
     }
 }
@@ -341,7 +336,7 @@ fn parted<'a>(alloc: Global, words: &[&'a [u8]]) -> Result<Option<Layout<'a>>, O
 /// A name and a size, and what follows them. Linear in the words.
 fn array_of<'a>(
     alloc: Global,
-    name: &[u8],
+    name: &'a [u8],
     size: Size<'a>,
     words: &[&'a [u8]],
 ) -> Result<Option<ArrayForm<'a>>, OutOfMemory>
@@ -352,7 +347,7 @@ fn array_of<'a>(
     }
     match layout_of(alloc, words)? {
         Some((parts, init)) => Ok(Some(ArrayForm {
-            name: Name::of(alloc, name)?,
+            name: Piece::of(name),
             size,
             parts,
             init,
@@ -395,38 +390,37 @@ fn alone<'a>(words: &[&'a [u8]]) -> Option<Piece<'a>>
 }
 
 /// `NAME`. Linear in the name.
-fn name_in(alloc: Global, words: &[&[u8]]) -> Result<Option<Name>, OutOfMemory>
-    ensures { IfOk result (λ name. name ≡ name_in (map (λ w. w.now) words.now)) }
+fn name_in<'a>(words: &[&'a [u8]]) -> Option<Piece<'a>>
+    ensures { result ≡ name_in (map (λ w. w.now) words.now) }
 {
     match words {
-        [name] if is_name(name) => Ok(Some(Name::of(alloc, name)?)),
-        _ => Ok(None),
+        [name] if is_name(name) => Some(Piece::of(name)),
+        _ => None,
     }
 }
 
 /// `NAME r c`. Linear in the name.
-fn plan_of<'a>(alloc: Global, words: &[&'a [u8]]) -> Result<Option<Form<'a>>, OutOfMemory>
-    ensures { IfOk result (λ form. form ≡ plan_of (map (λ w. w.now) words.now)) }
+fn plan_of<'a>(words: &[&'a [u8]]) -> Option<Form<'a>>
+    ensures { result ≡ plan_of (map (λ w. w.now) words.now) }
 {
     match words {
         [name, r, c] if is_name(name) => {
-            let name = Name::of(alloc, name)?;
-            Ok(Some(Form::Plan(name, Piece::of(r), Piece::of(c))))
+            Some(Form::Plan(Piece::of(name), Piece::of(r), Piece::of(c)))
         }
-        _ => Ok(None),
+        _ => None,
     }
 }
 
 /// `NAME plus` or `NAME least`. Linear in the name.
-fn redux_of<'a>(alloc: Global, words: &[&'a [u8]]) -> Result<Option<Form<'a>>, OutOfMemory>
-    ensures { IfOk result (λ form. form ≡ redux_of (map (λ w. w.now) words.now)) }
+fn redux_of<'a>(words: &[&'a [u8]]) -> Option<Form<'a>>
+    ensures { result ≡ redux_of (map (λ w. w.now) words.now) }
 {
     let [name, by] = words else {
-        return Ok(None);
+        return None;
     };
     match reduction_of(by) {
-        Some(by) if is_name(name) => Ok(Some(Form::Redux(Name::of(alloc, name)?, by))),
-        _ => Ok(None),
+        Some(by) if is_name(name) => Some(Form::Redux(Piece::of(name), by)),
+        _ => None,
     }
 }
 
@@ -440,25 +434,6 @@ fn policy_line<'a>(words: &[&'a [u8]]) -> Option<Form<'a>>
             None => None,
         },
         None => None,
-    }
-}
-
-/// `print NAME`, `invalidate NAME` or `unregister NAME`. Linear in the name.
-fn name_line<'a>(
-    alloc: Global,
-    keyword: Keyword,
-    words: &[&[u8]],
-) -> Result<Option<Form<'a>>, OutOfMemory>
-    requires { IsTrue (takes_name keyword) }
-    ensures { IfOk result (λ form. form ≡ form_behind keyword (map (λ w. w.now) words.now)) }
-{
-    let Some(name) = name_in(alloc, words)? else {
-        return Ok(None);
-    };
-    match keyword {
-        Keyword::Print => Ok(Some(Form::Print(name))),
-        Keyword::Invalidate => Ok(Some(Form::Invalidate(name))),
-        _ => Ok(Some(Form::Unregister(name))),
     }
 }
 
@@ -476,12 +451,12 @@ fn form_behind<'a>(
         Keyword::Policy => Ok(policy_line(words)),
         Keyword::Vector => Ok(vector_of(alloc, words)?.map(Form::Register)),
         Keyword::Matrix => Ok(matrix_of(alloc, words)?.map(Form::Register)),
-        Keyword::Plan => plan_of(alloc, words),
-        Keyword::Redux => redux_of(alloc, words),
+        Keyword::Plan => Ok(plan_of(words)),
+        Keyword::Redux => Ok(redux_of(words)),
         Keyword::Task => Ok(task_of(alloc, words)?.map(Form::Task)),
-        Keyword::Print | Keyword::Invalidate | Keyword::Unregister => {
-            name_line(alloc, keyword, words)
-        }
+        Keyword::Print => Ok(name_in(words).map(Form::Print)),
+        Keyword::Invalidate => Ok(name_in(words).map(Form::Invalidate)),
+        Keyword::Unregister => Ok(name_in(words).map(Form::Unregister)),
     }
 }
 

@@ -1,6 +1,5 @@
 //! What texts give: a job, or the first bad line and the first reason against it.
 
-use crate::name::Name;
 use crate::read::read;
 use crate::reason::{LimitKind, ReadRefusal, Reason};
 use sj_base::ids::Line;
@@ -391,14 +390,5 @@ fn a_text_above_the_limit_is_refused_at_line_0(rt: HostRuntime) -> Result<(), Fa
         reason: Reason::Limit(LimitKind::Text),
     };
     assert_eq!(rt; gives(alloc, &text), Err(wanted));
-    Ok(())
-}
-
-#[test]
-fn a_name_has_its_bytes_and_so_has_its_copy(rt: HostRuntime) -> Result<(), Fail> {
-    let alloc = rt.alloc();
-    let name = Name::of(alloc, b"x_1")?;
-    assert_eq!(rt; name.bytes(), b"x_1".as_slice());
-    assert_eq!(rt; name.copy(alloc)?.bytes(), b"x_1".as_slice());
     Ok(())
 }

@@ -1,25 +1,36 @@
 //! What single lines say, line by line.
 
-use crate::job::{Init, Kind};
-use crate::line::words;
-use crate::reason::Reason;
-use crate::sentence::{Call, Registration, Sentence, read_sentence};
+use crate::job::{Act, Init, Job, Kind, RootInfo};
+use crate::read::read;
+use crate::reason::{ReadRefusal, Reason};
+use crate::roots::Roots;
+use sj_base::ids::Root;
 use sj_base::memory::OutOfMemory;
 use sj_base::mode::Mode;
+use sj_codelet::kernel::Kernel;
 use sj_kernels::ring::Ring;
 use std::alloc::{AllocGlobal, Global};
 use std::process::Abort;
 use std::test::Fail;
 
-fn said(alloc: Global, line: &str, begun: bool) -> Result<Result<Sentence, Reason>, OutOfMemory> {
-    let words = words(alloc, line.as_bytes())?;
-    read_sentence(alloc, words, begun, &Ring)
+/// The job of a line, behind a statement or alone.
+fn job_of(alloc: Global, line: &str, begun: bool) -> Result<Job, ReadRefusal> {
+    let before = if begun { "vector begun 1 none\n" } else { "" };
+    let text = format!(in alloc; "starjob 1\n{before}{line}\n")?;
+    read(alloc, text.as_bytes(), &Ring)
 }
 
+/// Why a line says no form that is read, or `None` where it says one.
 fn reason_of(alloc: Global, line: &str, begun: bool) -> Result<Option<Reason>, OutOfMemory> {
-    match said(alloc, line, begun)? {
-        Ok(_) => Ok(None),
-        Err(reason) => Ok(Some(reason)),
+    match job_of(alloc, line, begun) {
+        Err(ReadRefusal::OutOfMemory) => Err(OutOfMemory),
+        Err(
+            ReadRefusal::Refused {
+                reason: reason @ (Reason::Word | Reason::Number | Reason::NotBuilt),
+                ..
+            },
+        ) => Ok(Some(reason)),
+        _ => Ok(None),
     }
 }
 
@@ -205,45 +216,52 @@ fn settings_behind_a_statement_are_words(rt: HostRuntime) -> Result<(), Fail> {
     Ok(())
 }
 
-fn registration(alloc: Global, line: &str) -> Result<Option<Registration>, OutOfMemory> {
-    match said(alloc, line, false)? {
-        Ok(Sentence::Register(registration)) => Ok(Some(registration)),
-        _ => Ok(None),
+/// What is fixed of a root, where there is one of this number.
+fn info_of(roots: &Roots, root: Root) -> Option<RootInfo> {
+    if (root.0 as usize) < roots.len() {
+        return Some(roots.info(root));
     }
-}
-
-fn call(alloc: Global, line: &str) -> Result<Option<Call>, OutOfMemory> {
-    match said(alloc, line, false)? {
-        Ok(Sentence::Task(call)) => Ok(Some(call)),
-        _ => Ok(None),
-    }
+    None
 }
 
 #[test]
-fn a_registration_has_its_dimensions_and_values(rt: HostRuntime) -> Result<(), Fail> {
-    let x = registration(rt.alloc(), "vector x 3 values 1 -2 inf")?.ok_or("a vector")?;
-    assert_eq!(rt; x.name.bytes(), b"x".as_slice());
-    assert_eq!(rt; (x.kind, x.rows, x.cols), (Kind::Vector, 1, 3));
-    let Init::Values(values) = &x.init else {
+fn a_registration_has_its_name_dimensions_and_values(rt: HostRuntime) -> Result<(), Fail> {
+    let job = job_of(rt.alloc(), "matrix x_1 1 2 values -1 inf", false)?;
+    let Some(root) = job.roots.find(b"x_1") else {
+        return Err(Fail::from("a root"));
+    };
+    assert_eq!(rt; (root, job.roots.len()), (Root(0), 1));
+    let info = info_of(&job.roots, root).ok_or("its dimensions")?;
+    assert_eq!(rt;
+        (info.kind, info.dims.rows, info.dims.cols),
+        (Kind::Matrix, 1, 2)
+    );
+    let Some(statement) = job.statements.items().first() else {
+        return Err(Fail::from("a statement"));
+    };
+    let Act::Register(Init::Values(values)) = &statement.act else {
         return Err(Fail::from("values"));
     };
-    assert_eq!(rt; values.items(), [1, -2, i64::MAX].as_slice());
-    let a = registration(rt.alloc(), "matrix A 02 4 fill -1 inf")?.ok_or("a matrix")?;
-    assert_eq!(rt; (a.kind, a.rows, a.cols), (Kind::Matrix, 2, 4));
-    assert!(rt; matches!(&a.init, Init::Fill(-1, i64::MAX)));
+    assert_eq!(rt; values.items(), [-1, i64::MAX].as_slice());
     Ok(())
 }
 
 #[test]
-fn a_task_has_its_arguments_operands_and_priority(rt: HostRuntime) -> Result<(), Fail> {
-    let call = call(rt.alloc(), "task fill(0,-1) x:W yy:SCRATCH prio=-7")?.ok_or("a task")?;
-    assert_eq!(rt; call.args.items(), [0, -1].as_slice());
-    assert_eq!(rt; call.priority, -7);
-    assert_eq!(rt; call.operands.len(), 2);
-    let [x, y] = call.operands.items() else {
+fn a_task_has_its_codelet_arguments_operands_and_priority(rt: HostRuntime) -> Result<(), Fail> {
+    let lines = "vector x 1 fill 0 0\nvector yy 1 fill 0 0\ntask axpy(-3) x:R yy:RW prio=-7";
+    let job = job_of(rt.alloc(), lines, false)?;
+    let Some(statement) = job.statements.items().last() else {
+        return Err(Fail::from("a statement"));
+    };
+    let Act::Task(task) = &statement.act else {
+        return Err(Fail::from("a task"));
+    };
+    assert_eq!(rt; (task.kernel, task.priority), (Kernel::Axpy, -7));
+    assert_eq!(rt; task.args.items(), [-3i64].as_slice());
+    let [x, y] = task.operands.items() else {
         return Err(Fail::from("two operands"));
     };
-    assert_eq!(rt; (x.name.bytes(), x.mode), (b"x".as_slice(), Mode::W));
-    assert_eq!(rt; (y.name.bytes(), y.mode), (b"yy".as_slice(), Mode::Scratch));
+    assert_eq!(rt; (x.root, x.mode), (Root(0), Mode::R));
+    assert_eq!(rt; (y.root, y.mode), (Root(1), Mode::RW));
     Ok(())
 }

@@ -24,15 +24,15 @@ use Rattle.sj_core.specs.Proper.{HasValueBefore, gives_value}
 use Rattle.sj_core.specs.Fold.{Contents, held_in, after_task}
 use Rattle.sj_job.specs.declared.job.Init.{Init}
 use Rattle.sj_job.specs.declared.job.Init.TheVariants.{Values, Fill, Nothing}
-use Rattle.sj_job.specs.declared.job.Register.{Register}
-use Rattle.sj_job.specs.declared.job.TaskLine.{TaskLine}
-use Rattle.sj_job.specs.declared.job.Act.{Act}
-use Rattle.sj_job.specs.declared.job.Act.TheVariants.{Register as Registers, Task as Tasks, Print as Prints, Invalidate as Invalidates, Unregister as Unregisters}
+use Rattle.sj_job.specs.Statement.{Register}
+use Rattle.sj_job.specs.Statement.{TaskLine}
+use Rattle.sj_job.specs.Act.{Act}
+use Rattle.sj_job.specs.Act.{Register as Registers, Task as Tasks, Print as Prints, Invalidate as Invalidates, Unregister as Unregisters}
 use Rattle.sj_job.specs.State.{Root, State, root_of, is_valued, start}
 use Rattle.sj_job.specs.Meaning.{array_of, first_elements, registered_root, register, no_values, invalidate, unregister, run_task, apply}
 use Rattle.sj_job.specs.Sound.{has_root, IsSoundTask, IsSoundRegistration, IsSoundAct}
-use Rattle.sj_lower.specs.declared.handle.Handle.{Handle}
-use Rattle.sj_lower.specs.Lowering.{Lowering, nothing, handle_of, next_handle, own_task, an_access, access_of, first_tasks, lower_registration, lower_task, lower_print, lower_unregistration, lower_act}
+use Rattle.sj_lower.specs.Lowering.{Handle}
+use Rattle.sj_lower.specs.Lowering.{Lowering, nothing, handle_of, next_handle, own_task, an_access, access_of, first_tasks, lower_registration, lower_task, lower_print, lower_act}
 use Rattle.sj_lower.proofs.Contents.{first_worker, task_at, contents_before, contents-next, same_cell-itself, held-same, held-other}
 use Rattle.sj_lower.proofs.Holding.{get-put, get-gone, same_name, HasHandle, Holds, AreApart, later, holds-later}
 use Rattle.sj_lower.proofs.Running.{root_there, holds-task}
@@ -64,7 +64,7 @@ begins-before p line (Registers r) L b = record { cells = _; tasks = _; all_cell
 begins-before p line (Tasks t) L b = record { cells = b.cells; tasks = _; all_cells = b.all_cells; all_tasks = behind p.tasks L.tasks _ b.tasks b.all_tasks }
 begins-before p line (Prints name) L b = record { cells = b.cells; tasks = _; all_cells = b.all_cells; all_tasks = behind p.tasks L.tasks _ b.tasks b.all_tasks }
 begins-before p line (Invalidates name) L b = b
-begins-before p line (Unregisters name) L b = record { cells = b.cells; tasks = b.tasks; all_cells = b.all_cells; all_tasks = b.all_tasks }
+begins-before p line (Unregisters name) L b = b
 
 -- ---- what agrees
 
@@ -268,29 +268,12 @@ agrees_invalidated p L S name h g = record {
         })
     holds_case q t false eb e = g.holds q t e
 
-agrees_unregistered : (p : Program) (L : Lowering) (S : State) (name : List ℕ) → Agrees p L S → Agrees p (lower_unregistration name L) (unregister name S)
-agrees_unregistered p L S name g = record {
-  names = record {
-    inside = λ q h e. inside_case q h (bytes_eq name q) e;
-    apart = λ q u h i x y same. apart_case q u h i (bytes_eq name q) (bytes_eq name u) x y same;
-  };
-  holds = λ q t e. holds_case q t (bytes_eq name q) refl (sym (get-gone S.roots name q) ∙ e);
-}
+agrees_unregistered : (p : Program) (L : Lowering) (S : State) (name : List ℕ) → Agrees p L S → Agrees p L (unregister name S)
+agrees_unregistered p L S name g = record { names = g.names; holds = λ q t e. holds_case q t (bytes_eq name q) (sym (get-gone S.roots name q) ∙ e) }
   where
-    inside_case : (q : List ℕ) (h : Handle) (b : Bool) → cond b None (L.handles q) ≡ Some h → h.cell.0 < length L.cells
-    inside_case q h true e = absurd (none_isn't h e)
-    inside_case q h false e = g.names.inside q h e
-
-    apart_case : (q u : List ℕ) (h i : Handle) (b c : Bool) → cond b None (L.handles q) ≡ Some h → cond c None (L.handles u) ≡ Some i → h.cell ≡ i.cell → q ≡ u
-    apart_case q u h i true c x y same = absurd (none_isn't h x)
-    apart_case q u h i false true x y same = absurd (none_isn't i y)
-    apart_case q u h i false false x y same = g.names.apart q u h i x y same
-
-    holds_case : (q : List ℕ) (t : Root) (c : Bool) → bytes_eq name q ≡ c → cond c None (root_of S q) ≡ Some t → HasHandle p (lower_unregistration name L) (length L.tasks) (contents_before p (length L.tasks)) q t
-    holds_case q t true eb e = absurd (none_isn't t e)
-    holds_case q t false eb e =
-        let o = g.holds q t e in
-        record { handle = o.handle; is = ap (λ c. cond c None (L.handles q)) eb ∙ o.is; cell = o.cell }
+    holds_case : (q : List ℕ) (t : Root) (c : Bool) → cond c None (root_of S q) ≡ Some t → HasHandle p L (length L.tasks) (contents_before p (length L.tasks)) q t
+    holds_case q t true e = absurd (none_isn't t e)
+    holds_case q t false e = g.holds q t e
 
 -- before the first statement
 pub agrees_start : (p : Program) → Agrees p nothing start

@@ -22,8 +22,8 @@ use Rattle.sj_codelet.specs.Kernel.{fits}
 use Rattle.sj_core.specs.Program.{same_cell, dims_of}
 use Rattle.sj_base.specs.Mode.{is_scratch, reads_value, is_in_order}
 use Rattle.sj_core.specs.Proper.{HasValueBefore, Fits, MayHaveModes, IsUnaliased}
-use Rattle.sj_job.specs.declared.job.Operand.{Operand}
-use Rattle.sj_job.specs.declared.job.TaskLine.{TaskLine}
+use Rattle.sj_job.specs.Statement.{Operand}
+use Rattle.sj_job.specs.Statement.{TaskLine}
 use Rattle.sj_job.specs.State.{State, root_of}
 use Rattle.sj_job.specs.Judge.{needs_value, clashes, is_aliased, is_read_only}
 use Rattle.sj_job.specs.Sound.{is_plain, has_root, has_values, IsSoundTask, dims_of as root_dims}

@@ -17,7 +17,7 @@ use Rattle.sj_core.specs.Proper.{HasValueBefore}
 use Rattle.sj_core.specs.Fold.{Contents, held_in}
 use Rattle.sj_job.specs.State.{Root, Roots, State, root_of, is_valued}
 use Rattle.sj_job.specs.Meaning.{array_of, put, put_all}
-use Rattle.sj_lower.specs.declared.handle.Handle.{Handle}
+use Rattle.sj_lower.specs.Lowering.{Handle}
 use Rattle.sj_lower.specs.Lowering.{Lowering, handle_of}
 use Rattle.sj_lower.proofs.Contents.{NotAmong, held-same, held-other, held-moved, same_cell-is, task_at}
 

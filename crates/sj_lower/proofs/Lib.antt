@@ -12,3 +12,5 @@ pub mod Delivered
 pub mod Allowed
 pub mod Whole
 pub mod Properness
+pub mod Naming
+pub mod Going

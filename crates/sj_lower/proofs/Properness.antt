@@ -23,7 +23,7 @@ use Rattle.sj_core.specs.Operands.{copy_of}
 use Rattle.sj_core.specs.Program.{no_cell, no_task, cell_info, task_of}
 use Rattle.sj_base.specs.Mode.{is_redux, reads_value, is_in_order}
 use Rattle.sj_core.specs.Proper.{Proper, NamesCells, IsCopyOf, IsPlain, Fits, IsUnaliased, HasValueBefore, ReadsValues, HasPhases, HasDeliveries, IsWithinLimits, IsPhase, task_number, access}
-use Rattle.sj_job.specs.declared.job.Statement.{Statement}
+use Rattle.sj_job.specs.Act.{Statement}
 use Rattle.sj_core.specs.Laws.{HasPlainModes}
 use Rattle.sj_lower.specs.Delivering.{DeliversPrinted, CountsPrints, NamesDeliverTasks, DeliversInOrder}
 use Rattle.sj_lower.proofs.Contents.{task_at}

@@ -21,8 +21,8 @@ use Rattle.sj_base.specs.Mode.{is_written, is_redux}
 use Rattle.sj_core.specs.Proper.{own_modes}
 use Rattle.sj_core.specs.Fold.{Contents, held_in, after_task}
 use Rattle.sj_core.specs.Operands.{worked_on, written_cells, found, results}
-use Rattle.sj_job.specs.declared.job.Operand.{Operand}
-use Rattle.sj_job.specs.declared.job.TaskLine.{TaskLine}
+use Rattle.sj_job.specs.Statement.{Operand}
+use Rattle.sj_job.specs.Statement.{TaskLine}
 use Rattle.sj_job.specs.State.{Root, State, root_of, is_valued}
 use Rattle.sj_job.specs.Meaning.{array_of, seen_by, operand_array, is_written as writes, written_names, run_task}
 use Rattle.sj_job.specs.Judge.{modes_fit, needs_value, clashes, is_aliased, is_read_only}

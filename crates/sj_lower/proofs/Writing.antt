@@ -18,7 +18,7 @@ use Rattle.sj_codelet.specs.Equations.{after_turns}
 use Rattle.sj_codelet.specs.Runs.{formals_in}
 use Rattle.sj_base.specs.Mode.{is_written}
 use Rattle.sj_core.specs.Proper.{mode_of, own_modes}
-use Rattle.sj_job.specs.declared.job.Operand.{Operand}
+use Rattle.sj_job.specs.Statement.{Operand}
 use Rattle.sj_job.specs.Judge.{mode_fits, modes_fit}
 use Rattle.sj_job.specs.Sound.{is_plain}
 use Rattle.std.proofs.lemmas.Bool.{and_parts}

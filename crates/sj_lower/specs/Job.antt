@@ -1,7 +1,7 @@
 -- The statements of a job.
 use Rattle.std.specs.Prelude.{Bool, List}
 use Rattle.sj_codelet.specs.declared.kernel.Kernel.{Kernel}
-use Rattle.sj_job.specs.declared.job.Statement.{Statement}
+use Rattle.sj_job.specs.Act.{Statement}
 use Rattle.sj_job.specs.State.{start}
 use Rattle.sj_job.specs.Well.{IsWell}
 

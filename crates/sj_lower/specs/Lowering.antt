@@ -2,6 +2,7 @@
 use Rattle.std.specs.Prelude.{ℕ, ◌+◌, Option, Some, None, List, [], ◌∷◌, ◌++◌, ℤ, pos, map, length, unwrap_or, if◌then◌else◌}
 use Rattle.std.specs.Str.{bytes_eq}
 use Rattle.sj_base.specs.declared.ids.Cell.{Cell}
+use Rattle.sj_base.specs.declared.ids.Root.{Root}
 use Rattle.sj_base.specs.declared.ids.Line.{Line}
 use Rattle.sj_base.specs.declared.mode.Mode.{Mode}
 use Rattle.sj_base.specs.declared.mode.Mode.TheVariants.{R, W}
@@ -15,15 +16,20 @@ use Rattle.sj_base.specs.declared.program.Program.{Program}
 use Rattle.sj_codelet.specs.declared.kernel.Kernel.{Kernel}
 use Rattle.sj_codelet.specs.declared.kernel.Kernel.TheVariants.{Load, LoadFill, Deliver}
 use Rattle.sj_codelet.specs.Kernel.{codelet_of}
+use Rattle.sj_job.specs.declared.job.Operand.{Operand as Kept}
 use Rattle.sj_job.specs.declared.job.Init.{Init}
 use Rattle.sj_job.specs.declared.job.Init.TheVariants.{Values, Fill, Nothing}
-use Rattle.sj_job.specs.declared.job.Register.{Register}
-use Rattle.sj_job.specs.declared.job.Operand.{Operand}
-use Rattle.sj_job.specs.declared.job.TaskLine.{TaskLine}
-use Rattle.sj_job.specs.declared.job.Act.{Act}
-use Rattle.sj_job.specs.declared.job.Act.TheVariants.{Register as Registers, Task as Tasks, Print as Prints, Invalidate as Invalidates, Unregister as Unregisters}
-use Rattle.sj_job.specs.declared.job.Statement.{Statement}
-use Rattle.sj_lower.specs.declared.handle.Handle.{Handle}
+use Rattle.sj_job.specs.Statement.{Register}
+use Rattle.sj_job.specs.Statement.{Operand}
+use Rattle.sj_job.specs.Statement.{TaskLine}
+use Rattle.sj_job.specs.Act.{Act}
+use Rattle.sj_job.specs.Act.{Register as Registers, Task as Tasks, Print as Prints, Invalidate as Invalidates, Unregister as Unregisters}
+use Rattle.sj_job.specs.Act.{Statement}
+
+-- what a name stands for: a root and the cell of its elements
+pub record Handle : Type 0 where
+  pub root : Root
+  pub cell : Cell
 
 -- what the statements so far gave, the handle of each name, and how many roots and print statements there were
 pub record Lowering : Type 0 where
@@ -40,9 +46,9 @@ nothing = record { cells = []; tasks = []; deliveries = []; handles = λ name. N
 
 -- ---- names
 
--- the name has this handle, or none, and each other name has what it had
-abbrev pub with_handle : List ℕ → Option Handle → (List ℕ → Option Handle) → List ℕ → Option Handle
-with_handle name h handles q = if bytes_eq name q then h else handles q
+-- the name has this handle, and each other name has what it had
+abbrev pub with_handle : List ℕ → Handle → (List ℕ → Option Handle) → List ℕ → Option Handle
+with_handle name h handles q = if bytes_eq name q then Some h else handles q
 
 -- the handle of a name; that of the first root where it has none
 abbrev pub handle_of : Lowering → List ℕ → Handle
@@ -82,6 +88,10 @@ with_first r c line L = with_tasks (first_tasks r.init r.dims c line) L
 abbrev pub access_of : Lowering → Operand → Access
 access_of L o = an_access o.mode (handle_of L o.name).cell
 
+-- the same of an operand that has its root, whose cell has the root's number
+abbrev pub access_by : Kept → Access
+access_by o = an_access o.mode (record { 0 = o.root.0 })
+
 -- ---- statements
 
 -- the handle of the next root: the next number and the next cell
@@ -94,7 +104,7 @@ lower_registration line r L = record {
   cells = L.cells ++ record { root = (next_handle L).root; dims = r.dims; partials = None } ∷ [];
   tasks = L.tasks ++ first_tasks r.init r.dims (next_handle L).cell line;
   deliveries = L.deliveries;
-  handles = with_handle r.name (Some (next_handle L)) L.handles;
+  handles = with_handle r.name (next_handle L) L.handles;
   roots = L.roots + 1;
   prints = L.prints;
 }
@@ -118,16 +128,12 @@ lower_print line name L = record {
   prints = L.prints + 1;
 }
 
--- the name is ended; its cells stay
-abbrev pub lower_unregistration : List ℕ → Lowering → Lowering
-lower_unregistration name L = record { cells = L.cells; tasks = L.tasks; deliveries = L.deliveries; handles = with_handle name None L.handles; roots = L.roots; prints = L.prints }
-
 abbrev pub lower_act : Line → Act → Lowering → Lowering
 lower_act line (Registers r) L = lower_registration line r L
 lower_act line (Tasks t) L = lower_task line t L
 lower_act line (Prints name) L = lower_print line name L
 lower_act line (Invalidates name) L = L
-lower_act line (Unregisters name) L = lower_unregistration name L
+lower_act line (Unregisters name) L = L
 
 -- what one statement more gives
 abbrev pub lower_one : Statement → Lowering → Lowering

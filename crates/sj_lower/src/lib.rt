@@ -1,7 +1,6 @@
 //! Lowering: a job becomes a program of tasks over cells, one cell for each root.
 #![tactic(auto)]
 
-mod handle;
 pub mod lower;
 mod lowerer;
 #[cfg(test)]

@@ -1,30 +1,27 @@
 //! What the statements so far are lowered to.
 
-ghost use Rattle.std.specs.Prelude.{◌≡◌, ◌∷◌, [], map, IfOk, OnOk};
-ghost use Rattle.sj_lower.specs.Lowering.{nothing, handle_of, access_of, task_by, fill_arguments, with_tasks, with_first, lower_registration, lower_task, lower_print, lower_unregistration, lower_one, program_of};
-ghost use Rattle.sj_lower.specs.Counts.{IsWithin};
-ghost use Rattle.sj_lower.specs.Seen.{seen};
+ghost use Rattle.std.specs.Prelude.{◌≡◌, ◌+◌, ◌<◌, ◌≤◌, ◌++◌, ◌∷◌, [], All, length, map, vec_len, IfOk, OnOk};
+ghost use Rattle.sj_job.specs.Table.{Table, AreDistinct, a_root, name_of, info_of};
+ghost use Rattle.sj_job.specs.View.{IsPlaced, count_after, registration, statement_seen, task_seen};
+ghost use Rattle.sj_lower.specs.Lowering.{Lowering, nothing, fill_arguments, task_by, first_tasks, access_by, lower_registration, lower_task, lower_print, lower_one, program_of};
+ghost use Rattle.sj_lower.specs.Seen.{Follows, Grows, HasTasks};
 
-use crate::handle::Handle;
 use sj_base::ids::{Cell, Line, Root, Task};
 use sj_base::memory::OutOfMemory;
 use sj_base::mode::{Access, Mode};
 use sj_base::program::{CellInfo, Codelet, Delivery, Lowered, Program};
 use sj_base::sequence::Sequence;
 use sj_codelet::kernel::{DELIVER, LOAD, LOADFILL};
-use sj_job::job::{Act, Init, Operand, Register, Statement, TaskLine};
-use sj_job::name::Name;
+use sj_job::job::{Act, Init, Operand, RootInfo, Statement, TaskLine};
+use sj_job::roots::Roots;
 use std::alloc::{AllocError, Global};
-use std::collections::BTreeMap;
 
-/// The cells, tasks and deliveries so far, and the handle of each name that hasn't ended.
+/// The cells, tasks and deliveries so far. The cell of a root has the root's number.
 #[derive(Drop)]
 pub struct Lowerer {
     pub cells: Vec<CellInfo>,
     pub tasks: Vec<Lowered>,
     pub deliveries: Vec<Delivery>,
-    pub handles: BTreeMap<Name, Handle>,
-    pub roots: u32,
     pub prints: u32,
 }
 
@@ -39,154 +36,149 @@ fn fill_arguments(alloc: Global, a: i64, b: i64, cols: u32) -> Result<Vec<i64>, 
 fn own_task(
     alloc: Global,
     codelet: Codelet,
-    args: Vec<i64>,
+    args: Sequence<i64>,
     access: Access,
     line: Line,
 ) -> Result<Lowered, OutOfMemory>
-    ensures { IfOk result (λ task. task ≡ task_by codelet args.items access line) }
+    ensures { IfOk result (λ task. task ≡ task_by codelet args access line) }
 {
     let accesses = vec![in alloc; access]?;
     Ok(Lowered {
         codelet,
-        args: Sequence::of(args),
+        args,
         accesses: Sequence::of(accesses),
         line,
         priority: 0,
     })
 }
 
+/// The cell of a root.
+fn cell_of(root: Root) -> Cell
+    ensures { result.0 ≡ root.0 }
+{
+    Cell(root.0)
+}
+
+fn access_by(operand: &Operand) -> Access
+    ensures { result ≡ access_by operand.now }
+{
+    Access {
+        mode: operand.mode,
+        cell: cell_of(operand.root),
+    }
+}
+
+fn accesses(alloc: Global, operands: &[Operand]) -> Result<Vec<Access>, AllocError>
+    ensures { IfOk result (λ v. v.items ≡ map access_by operands.now) }
+{
+    operands.iter().map(|o| access_by(o)).collect(alloc)
+}
+
 impl Lowerer {
     /// Before the first statement.
     pub fn nothing(alloc: Global) -> Lowerer
-        ensures { seen result ≡ nothing }
+        ensures { (T : Table) → Follows T result nothing }
     {
         Lowerer {
             cells: Vec::new(alloc),
             tasks: Vec::new(alloc),
             deliveries: Vec::new(alloc),
-            handles: BTreeMap::new(alloc),
-            roots: 0,
             prints: 0,
         }
     }
 
-    /// The handle of a name; that of the first root where it has none. Logarithmic in the names.
-    fn handle_of(&self, name: &Name) -> Handle
-        ensures { result ≡ handle_of (seen self.now) name.now }
-    {
-        match self.handles.get(name) {
-            Some(handle) => *handle,
-            None => Handle {
-                root: Root(0),
-                cell: Cell(0),
-            },
-        }
-    }
-
-    fn push_task(&mut self, task: Lowered) -> Result<(), OutOfMemory>
-        ensures { OnOk result (seen self.new ≡ with_tasks (task ∷ []) (seen self.old)) }
-    {
-        self.tasks.push(task)?;
-        Ok(())
-    }
-
-    /// Appends the task that gives a cell its first elements, where it has any. Linear in the values.
+    /// Appends the task that gives a cell its first elements, where it has any. Constant time.
     fn push_first_task(
         &mut self,
         alloc: Global,
-        register: &Register,
+        init: Init,
+        info: RootInfo,
         cell: Cell,
         line: Line,
     ) -> Result<(), OutOfMemory>
-        ensures { OnOk result (seen self.new ≡ with_first register.now cell line (seen self.old)) }
+        ensures { OnOk result (HasTasks self.old self.new
+            (self.old.tasks.items ++ first_tasks init info.dims cell line)) }
     {
         let access = Access {
             mode: Mode::W,
             cell,
         };
-        match &register.init {
+        match init {
             Init::Values(values) => {
-                let args = Vec::from_slice(alloc, values.items())?;
-                self.push_task(own_task(alloc, LOAD, args, access, line)?)
+                self.tasks
+                    .push(own_task(alloc, LOAD, values, access, line)?)?;
             }
             Init::Fill(a, b) => {
-                let args = fill_arguments(alloc, *a, *b, register.dims.cols)?;
-                self.push_task(own_task(alloc, LOADFILL, args, access, line)?)
+                let args = Sequence::of(fill_arguments(alloc, a, b, info.dims.cols)?);
+                self.tasks
+                    .push(own_task(alloc, LOADFILL, args, access, line)?)?;
             }
-            Init::Nothing => Ok(()),
+            Init::Nothing => {}
         }
-    }
-
-    /// A root with one cell, and the task that gives it its first elements. Linear in the values, and logarithmic in the names.
-    fn register(
-        &mut self,
-        alloc: Global,
-        register: &Register,
-        line: Line,
-    ) -> Result<(), OutOfMemory>
-        requires { IsWithin 262144 (seen self.old) }
-        ensures { OnOk result (seen self.new ≡ lower_registration line register.now (seen self.old)) }
-    {
-        let handle = Handle {
-            root: Root(self.roots),
-            cell: Cell(self.cells.len() as u32),
-        };
-        self.push_first_task(alloc, register, handle.cell, line)?;
-        self.cells.push(CellInfo {
-            root: handle.root,
-            dims: register.dims,
-            partials: None,
-        })?;
-        self.handles.insert(register.name.copy(alloc)?, handle)?;
-        self.roots += 1;
         Ok(())
     }
 
-    fn access_of(&self, operand: &Operand) -> Access
-        ensures { result ≡ access_of (seen self.now) operand.now }
+    /// A root with one cell, and the task that gives it its first elements. Constant time.
+    fn register(
+        &mut self,
+        alloc: Global,
+        info: RootInfo,
+        init: Init,
+        line: Line,
+    ) -> Result<(), OutOfMemory>
+        requires { vec_len self.old.cells < 4096 }
+        ensures grows { OnOk result (Grows self.old self.new (vec_len self.old.cells + 1)) }
+        ensures follows { OnOk result ((T : Table) (L : Lowering) → Follows T self.old L → AreDistinct T.names
+            → L.roots < length T.names → Follows T self.new
+            (lower_registration line (registration (name_of T (a_root L.roots)) info init) L)) }
     {
-        Access {
-            mode: operand.mode,
-            cell: self.handle_of(&operand.name).cell,
-        }
+        let number = self.cells.len() as u32;
+        self.push_first_task(alloc, init, info, Cell(number), line)?;
+        self.cells.push(CellInfo {
+            root: Root(number),
+            dims: info.dims,
+            partials: None,
+        })?;
+        Ok(())
     }
 
-    fn accesses(&self, alloc: Global, operands: &[Operand]) -> Result<Vec<Access>, AllocError>
-        ensures { IfOk result (λ v. v.items ≡ map (access_of (seen self.now)) operands.now) }
+    /// A task over the cells of its operands. Linear in them.
+    fn task(&mut self, alloc: Global, task: TaskLine, line: Line) -> Result<(), OutOfMemory>
+        ensures grows { OnOk result (Grows self.old self.new (vec_len self.old.cells)) }
+        ensures follows { OnOk result ((T : Table) (L : Lowering) → Follows T self.old L
+            → All (λ o. o.root.0 < L.roots) task.operands
+            → Follows T self.new (lower_task line (task_seen T task) L)) }
     {
-        operands.iter().map(|o| self.access_of(o)).collect(alloc)
-    }
-
-    /// A task over the cells of its operands. Linear in its arguments and operands, times the logarithm of the names.
-    fn task(&mut self, alloc: Global, task: &TaskLine, line: Line) -> Result<(), OutOfMemory>
-        ensures { OnOk result (seen self.new ≡ lower_task line task.now (seen self.old)) }
-    {
-        let args = Vec::from_slice(alloc, task.args.items())?;
-        let accesses = self.accesses(alloc, task.operands.items())?;
-        self.push_task(Lowered {
-            codelet: task.codelet,
-            args: Sequence::of(args),
+        let accesses = accesses(alloc, task.operands.items())?;
+        self.tasks.push(Lowered {
+            codelet: task.kernel.id(),
+            args: task.args,
             accesses: Sequence::of(accesses),
             line,
             priority: task.priority,
-        })
+        })?;
+        Ok(())
     }
 
-    /// A task that hands over the cell of a name. Logarithmic in the names.
-    fn print(&mut self, alloc: Global, name: &Name, line: Line) -> Result<(), OutOfMemory>
-        requires { IsWithin 262144 (seen self.old) }
-        ensures { OnOk result (seen self.new ≡ lower_print line name.now (seen self.old)) }
+    /// A task that hands over the cell of a root. Constant time.
+    fn print(&mut self, alloc: Global, root: Root, line: Line) -> Result<(), OutOfMemory>
+        requires tasks { vec_len self.old.tasks < 262144 }
+        requires prints { self.old.prints < 262144 }
+        ensures grows { OnOk result (Grows self.old self.new (vec_len self.old.cells)) }
+        ensures follows { OnOk result ((T : Table) (L : Lowering) → Follows T self.old L → root.0 < L.roots
+            → Follows T self.new (lower_print line (name_of T root) L)) }
     {
-        let handle = self.handle_of(name);
         let access = Access {
             mode: Mode::R,
-            cell: handle.cell,
+            cell: cell_of(root),
         };
         let task = Task(self.tasks.len() as u32);
-        self.push_task(own_task(alloc, DELIVER, Vec::new(alloc), access, line)?)?;
+        let args = Sequence::of(Vec::new(alloc));
+        self.tasks
+            .push(own_task(alloc, DELIVER, args, access, line)?)?;
         self.deliveries.push(Delivery {
             task,
-            root: handle.root,
+            root,
             place: (0, 0),
             print: self.prints,
         })?;
@@ -194,33 +186,40 @@ impl Lowerer {
         Ok(())
     }
 
-    /// Ends a name. Logarithmic in the names.
-    fn unregister(&mut self, name: &Name)
-        ensures { seen self.new ≡ lower_unregistration name.now (seen self.old) }
+    /// Lowers one statement more. Linear in its operands.
+    pub fn add(
+        &mut self,
+        alloc: Global,
+        roots: &Roots,
+        statement: Statement,
+    ) -> Result<(), OutOfMemory>
+        requires tasks { vec_len self.old.tasks < 262144 }
+        requires prints { self.old.prints ≤ vec_len self.old.tasks }
+        requires fits { count_after (vec_len self.old.cells) statement.act ≤ length roots.now.names }
+        requires placed { IsPlaced (vec_len self.old.cells) statement.act }
+        ensures follows { OnOk result ((L : Lowering) → Follows roots.now self.old L → Follows roots.now self.new
+            (lower_one (statement_seen roots.now (vec_len self.old.cells) statement) L)) }
+        ensures grows { OnOk result (Grows self.old self.new
+            (count_after (vec_len self.old.cells) statement.act)) }
     {
-        self.handles.remove(name);
-    }
-
-    /// Lowers one statement more. Linear in what it names and logarithmic in the names.
-    pub fn add(&mut self, alloc: Global, statement: &Statement) -> Result<(), OutOfMemory>
-        requires { IsWithin 262144 (seen self.old) }
-        ensures { OnOk result (seen self.new ≡ lower_one statement.now (seen self.old)) }
-    {
-        match &statement.act {
-            Act::Register(register) => self.register(alloc, register, statement.line),
-            Act::Task(task) => self.task(alloc, task, statement.line),
-            Act::Print(name) => self.print(alloc, name, statement.line),
-            Act::Invalidate(_) => Ok(()),
-            Act::Unregister(name) => {
-                self.unregister(name);
-                Ok(())
+        let Statement { line, act } = statement;
+        match act {
+            Act::Register(init) => {
+                let count = roots.len();
+                let number = self.cells.len();
+                prove!(number < count);
+                let info = roots.info(Root(number as u32));
+                self.register(alloc, info, init, line)
             }
+            Act::Task(task) => self.task(alloc, task, line),
+            Act::Print(root) => self.print(alloc, root, line),
+            Act::Invalidate(_) | Act::Unregister(_) => Ok(()),
         }
     }
 
     /// The program of the statements so far. Constant time.
     pub fn program(self, workers: u8) -> Program
-        ensures { result ≡ program_of workers (seen self) }
+        ensures { (T : Table) (L : Lowering) → Follows T self L → result ≡ program_of workers L }
     {
         Program {
             cells: Sequence::of(self.cells),

@@ -14,8 +14,8 @@ use std::alloc::Global;
 /// The program of a text.
 fn program_of(alloc: Global, text: &str, workers: u8) -> Result<Program, ReadRefusal> {
     let job = read(alloc, text.as_bytes(), &Ring)?;
-    let program = lower(alloc, job.statements.items(), workers)?;
-    Ok(program)
+    let lowered = lower(alloc, job, workers)?;
+    Ok(lowered.program)
 }
 
 /// A lowered task: its codelet, arguments, operands by cell, line and priority.

@@ -18,7 +18,9 @@ use sj_base::mode::Reduction;
 use sj_base::program::Codelet;
 use sj_base::tile::{Dims, Tile};
 use sj_codelet::frame::Frame;
-use sj_codelet::kernel::{ADD, FWCOL, FWDIAG, FWROW, INIT_LEAST, LOWEST, MINGEMM, SUM};
+use sj_codelet::kernel::{
+    ADD, FWCOL, FWDIAG, FWROW, INIT_LEAST, INIT_PLUS, LOWEST, MINGEMM, PASTE, SUM,
+};
 use sj_codelet::set::Codelets;
 use std::alloc::Global;
 use std::simd::prelude::*;
@@ -373,6 +375,30 @@ fn the_library_runs_a_ring_codelet_on_a_frame(rt: HostRuntime) -> Result<(), Out
     let b = Tile::of(dims, vec![in alloc; 3i64]?);
     let b = sum_on_a_frame(alloc, a, b)?;
     assert_eq!(rt; b.elements(), [LEAST + 2].as_slice());
+    Ok(())
+}
+
+/// The first element of a pair pasted over the second one of another, as the library runs it on a task's frame.
+fn paste_on_a_frame(alloc: Global, old: Tile, new: Tile) -> Result<Tile, OutOfMemory>
+    requires old { old.dims ≡ record { rows = 1; cols = 2 } }
+    requires new { new.dims ≡ record { rows = 1; cols = 2 } }
+{
+    let mut frame = Frame::with_room(alloc, 2)?;
+    frame.push_shared(Arc::new(alloc, old)?);
+    frame.push_own(new);
+    Library.run(alloc, PASTE, &[0, 0, 0, 1, 1, 1], &mut frame)?;
+    Ok(frame.take_own())
+}
+
+#[test]
+fn the_library_runs_the_codelets_of_the_ring_that_no_job_names(
+    rt: HostRuntime,
+) -> Result<(), OutOfMemory> {
+    let alloc = rt.alloc();
+    let unit = Tile::zeros(alloc, Dims { rows: 1, cols: 2 })?;
+    assert!(rt; alone(alloc, INIT_PLUS, unit, &[0, 0])?);
+    let pasted = paste_on_a_frame(alloc, pair(alloc, 5, -6)?, pair(alloc, 1, 2)?)?;
+    assert_eq!(rt; pasted.elements(), [1i64, 5].as_slice());
     Ok(())
 }
 

@@ -1,7 +1,8 @@
 //! A trace as text: a line for each event.
 
-ghost use Rattle.std.specs.Prelude.{◌≡◌, ◌++◌, codes, IfOk, OnOk};
-ghost use Rattle.sj_trace.specs.Text.{word, place_word, joined_words, line_of, text_of};
+ghost use Rattle.std.specs.Prelude.{◌≡◌, ◌++◌, codes, length, IfOk, OnOk};
+ghost use Rattle.sj_trace.specs.Text.{word, place_word, joined_words, line_of, whole_lines};
+ghost use Rattle.sj_trace.specs.Reading.{EventFits, IsTextOf};
 
 use itoa::Buffer;
 use sj_base::ids::{Cell, Node, Place, Task, Worker};
@@ -50,7 +51,8 @@ fn write_move(
     to: Place,
 ) -> Result<(), OutOfMemory>
     ensures { OnOk result (text.new.items ≡ text.old.items ++ verb.now
-        ++ codes " " ++ word (codes "c") c.0 ++ codes " " ++ place_word from ++ codes " " ++ place_word to) }
+        ++ codes " " ++ word (codes "c") c.0
+        ++ codes " " ++ place_word from ++ codes " " ++ place_word to) }
 {
     text.extend_from_slice(verb)?;
     write_word(text, b"c", c.0)?;
@@ -92,13 +94,21 @@ fn write_line(text: &mut Vec<u8>, event: Event) -> Result<(), OutOfMemory>
     Ok(())
 }
 
+/// The numbers of an event are in their types.
+fn event_fits(event: Event)
+    ensures { EventFits event }
+{}
+
 /// The text of a trace. Linear in it.
 pub fn text(alloc: Global, trace: &Trace) -> Result<Vec<u8>, OutOfMemory>
-    ensures { IfOk result (λ v. v.items ≡ text_of trace.now.events) }
+    ensures text { IfOk result (λ v. IsTextOf v.items trace.now.events) }
+    ensures a_line_each { IfOk result (λ v. length (whole_lines v.items) ≡ length trace.now.events) }
 {
     let mut text = Vec::new(alloc);
     for i in 0..trace.len() {
-        write_line(&mut text, trace.get(i))?;
+        let event = trace.get(i);
+        event_fits(event);
+        write_line(&mut text, event)?;
     }
     Ok(text)
 }

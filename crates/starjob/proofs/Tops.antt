@@ -12,7 +12,7 @@ use Rattle.sj_job.specs.declared.reason.LimitKind.TheVariants.{Text}
 use Rattle.sj_job.specs.declared.reason.ReadRefusal.{ReadRefusal}
 use Rattle.sj_job.specs.declared.reason.ReadRefusal.TheVariants.{Refused as Bad, OutOfMemory as NoMemory}
 use Rattle.sj_job.specs.Word.{lines}
-use Rattle.sj_job.specs.declared.job.Statement.{Statement}
+use Rattle.sj_job.specs.Act.{Statement}
 use Rattle.starjob.specs.declared.status.Status.{Status}
 use Rattle.starjob.specs.declared.status.Status.TheVariants.{Done, Usage, Refused, SourceFault, SinkFault, OutOfMemory}
 use Rattle.starjob.specs.declared.source_text.Unread.{Unread}
@@ -87,16 +87,16 @@ module _ (has : Kernel → Bool) (source source' out out' : Device) (text : List
         out_never_failed = a.1;
       }
   answered-by Usage a = a
-  answered-by (Refused line reason) a = record { cause = holds (λ job. job ≡ Err (record { line = line; reason = reason })) a.0; read = read; nothing_ran = a.1; }
+  answered-by (Refused line reason) a = record { cause = holds (λ job. job ≡ Err (record { line = line; reason = reason })) a.0; read = read; nothing_ran = a.1 }
   answered-by SourceFault a = absurd a
   answered-by SinkFault a =
       let p = both_of (λ ss. TakesPrefix out.bytes out'.bytes (text_of ss)) (λ ss. RanWhole ss trace) (job_of has text) a.0 in
-      record { cause = a.1; front = holds (λ job. IsOkAnd job (λ ss. TakesPrefix out.bytes out'.bytes (text_of ss))) p.0; each_task_ran_once = holds (λ job. IsOkAnd job (λ ss. RanWhole ss trace)) p.1; read = read; }
-  answered-by OutOfMemory a = record { ran = holds (λ job. Began job trace) a; source_never_failed = read.never_failed; }
+      record { cause = a.1; front = holds (λ job. IsOkAnd job (λ ss. TakesPrefix out.bytes out'.bytes (text_of ss))) p.0; each_task_ran_once = holds (λ job. IsOkAnd job (λ ss. RanWhole ss trace)) p.1; read = read }
+  answered-by OutOfMemory a = record { ran = holds (λ job. Began job trace) a; source_never_failed = read.never_failed }
 
 -- memory ran out before the text was read
 pub unread-memory : (has : Kernel → Bool) (source source' : Device) (trace : List Event) → trace ≡ [] → source'.faults ≡ source.faults → MemoryRanOut has source source' trace
-unread-memory has source source' trace e same = record { ran = by_bytes source.bytes; source_never_failed = same; }
+unread-memory has source source' trace e same = record { ran = by_bytes source.bytes; source_never_failed = same }
   where
     by_bytes : (bytes : Option (List ℕ)) → IfSome bytes (λ text. Began (job_of has text) trace)
     by_bytes None = tt
@@ -126,7 +126,7 @@ complete-by has OutOfMemory source source' out out' trace a o s k = tt
 -- what was read of a source, to its end or to one byte more than the longest text
 pub read-by : (r : Result (Vec ℕ Global) Unread) (source source' : Device) → IfOk r (λ text. length text.items ≤ text_limit + 1) → IfOk r (λ text. Consumes source.bytes source'.bytes text.items) → IfOk r (λ text. length text.items ≤ text_limit → IsAtEnd source'.bytes) → source'.faults ≡ counted source.faults (is_fault r) → IfOk r (λ _. IsRead source source')
 read-by (Err e) source source' bound taken end same = tt
-read-by (Ok text) source source' bound taken end same = record { taken = by_bytes source.bytes source'.bytes taken end; never_failed = same; }
+read-by (Ok text) source source' bound taken end same = record { taken = by_bytes source.bytes source'.bytes taken end; never_failed = same }
   where
     by_bytes : (old new : Option (List ℕ)) → Consumes old new text.items → (length text.items ≤ text_limit → IsAtEnd new) → IfSome old (λ whole. new ≡ Some (drop (text_limit + 1) whole))
     by_bytes None new h e = tt

@@ -3,7 +3,7 @@ use Rattle.std.proofs.Common.{◌≡◌, ℕ, List, [], Result, Ok, Err}
 use Rattle.sj_base.specs.declared.trace.Event.{Event}
 use Rattle.sj_engine.specs.Machine.{one_node}
 use Rattle.sj_engine.proofs.Starting.{nothing-legal}
-use Rattle.sj_job.specs.declared.job.Statement.{Statement}
+use Rattle.sj_job.specs.Act.{Statement}
 use Rattle.sj_job.specs.Reading.{Refusal}
 use Rattle.sj_lower.specs.Lowering.{lowered}
 use Rattle.starjob.specs.Traces.{Began}

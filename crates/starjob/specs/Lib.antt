@@ -1,5 +1,4 @@
 pub mod Device
-pub mod Kinds
 pub mod Output
 pub mod Printing
 pub mod Report

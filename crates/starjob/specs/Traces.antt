@@ -6,7 +6,7 @@ use Rattle.sj_codelet.specs.declared.kernel.Kernel.TheVariants.{Load, LoadFill, 
 use Rattle.sj_core.specs.Legal.{IsFinished, IsLegal}
 use Rattle.sj_core.specs.Once.{EachRanOnce}
 use Rattle.sj_engine.specs.Machine.{one_node}
-use Rattle.sj_job.specs.declared.job.Statement.{Statement}
+use Rattle.sj_job.specs.Act.{Statement}
 use Rattle.sj_job.specs.Reading.{Refusal}
 use Rattle.sj_lower.specs.Lowering.{lowered}
 

@@ -1,7 +1,6 @@
 //! `starjob`: reads a job text, runs its tasks, and prints the arrays asked for.
 #![tactic(auto)]
 
-mod kinds;
 mod output;
 mod printing;
 mod report;

@@ -9,7 +9,6 @@ use itoa::Buffer;
 use sj_base::memory::OutOfMemory;
 use sj_base::tile::{Dims, Tile};
 use sj_job::job::Kind;
-use sj_job::name::Name;
 
 /// Appends an element: decimal, or `inf`.
 fn write_element(text: &mut Vec<u8>, element: i64) -> Result<(), OutOfMemory>
@@ -99,13 +98,13 @@ fn write_dims(text: &mut Vec<u8>, dims: Dims) -> Result<(), OutOfMemory>
 /// text.
 pub fn write_array(
     text: &mut Vec<u8>,
-    name: &Name,
+    name: &[u8],
     kind: Kind,
     tile: &Tile,
 ) -> Result<(), OutOfMemory>
     ensures { OnOk result (text.new.items ≡ text.old.items ++ block_of kind name.now tile.now) }
 {
-    text.extend_from_slice(name.bytes())?;
+    text.extend_from_slice(name)?;
     match kind {
         Kind::Vector => {
             text.extend_from_slice(b": ")?;

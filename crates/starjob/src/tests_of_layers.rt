@@ -31,8 +31,8 @@ fn sum_program(alloc: Global) -> Result<Arc<Program>, Fail>
     ensures set { IfOk result (λ p. HasCodelets library_has p.value) }
 {
     let job = read(alloc, SUM.as_bytes(), &Library)?;
-    let program = program_of(alloc, job.statements.items())?;
-    Ok(program)
+    let ready = program_of(alloc, job)?;
+    Ok(ready.program)
 }
 
 #[test]

@@ -7,6 +7,7 @@ ghost use Rattle.sj_edge.specs.GivenBack.{AreUntouched};
 ghost use Rattle.sj_job.specs.declared.reason.Reason.{Reason};
 ghost use Rattle.sj_job.specs.Reading.{job_of};
 ghost use Rattle.sj_job.specs.State.{start};
+ghost use Rattle.sj_job.specs.View.{statements_of, IsNumbered};
 ghost use Rattle.sj_job.specs.Well.{IsWell};
 ghost use Rattle.sj_minplus.specs.Has.{library_has};
 ghost use Rattle.starjob.specs.Device.{seen};
@@ -55,12 +56,13 @@ struct Answer {
 }
 
 /// Runs a job that was read.
-fn run_read<C: Codelets>(alloc: Global, job: &Job, codelets: &C) -> JobRun
-    requires job { IsWell C.has 0 start job.now.statements }
+fn run_read<C: Codelets>(alloc: Global, job: Job, codelets: &C) -> JobRun
+    requires job { IsWell C.has 0 start (statements_of job) }
+    requires numbered { IsNumbered job.roots job.statements }
     requires own { HasOwnCodelets C.has }
-    ensures { RunsText (Ok job.now.statements) result.text result.trace.events }
+    ensures { RunsText (Ok (statements_of job)) result.text result.trace.events }
 {
-    let Run { result, trace } = run_job(alloc, job.statements.items(), codelets);
+    let Run { result, trace } = run_job(alloc, job, codelets);
     match result {
         Ok(text) => JobRun {
             text: Ok(text),
@@ -79,7 +81,7 @@ fn run_text<C: Codelets>(alloc: Global, text: &[u8], codelets: &C) -> JobRun
     ensures { RunsText (job_of C.has text.now) result.text result.trace.events }
 {
     match read(alloc, text, codelets) {
-        Ok(job) => run_read(alloc, &job, codelets),
+        Ok(job) => run_read(alloc, job, codelets),
         Err(refusal) => JobRun {
             text: Err(refusal),
             trace: Trace::empty(alloc),

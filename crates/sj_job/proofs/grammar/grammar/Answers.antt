@@ -4,5 +4,5 @@ use Rattle.sj_job.proofs.grammar.grammar.Goals as goal
 pub returns : goal.returns
 returns c = record {
   spelled = λ words form. (found-spells words form, spells-found words form);
-  said = λ has begun words says. (said-says has begun words says, says-said has begun words says);
+  said = λ begun words says. (said-says begun words says, says-said begun words says);
 }

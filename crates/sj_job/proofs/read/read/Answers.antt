@@ -1,9 +1,11 @@
-use Rattle.std.proofs.Common.{ap, sym, ◌∙◌, Ok}
+use Rattle.std.proofs.Common.{ap}
 use Rattle.sj_job.specs.Word.{lines}
 use Rattle.sj_job.specs.State.{start}
+use Rattle.sj_job.specs.View.{statements_of}
+use Rattle.sj_job.proofs.Submitting.{weaker_ok}
 use Rattle.sj_job.proofs.Welling.{well_from_reading}
 use Rattle.sj_job.proofs.read.read.Goals as goal
 
 pub returns-clause-well : goal.returns-clause-well
 returns-clause-well g c =
-    well_from_reading g.C.Codelets.has 0 start c.in_ok-rest.number (lines c.in_ok-rest.rest.now) c.of.result (c.in_ok-statements.ensures.ok ∙ ap Ok (sym c.of.ensures))
+    weaker_ok c.read_statements.result (λ job e. well_from_reading g.C.Codelets.has 0 start c.in_ok-rest.number (lines c.in_ok-rest.rest.now) (statements_of job) e) c.read_statements.ensures.ok

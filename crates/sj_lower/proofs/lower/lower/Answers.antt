@@ -1,72 +1,84 @@
-use Rattle.std.proofs.Common.{◌≡◌, ℕ, ◌+◌, ◌≤◌, ◌<◌, get_or, arith, length, take, ap, subst, sym, ◌∙◌, ◌++◌, ◌∷◌, [], length-take, List}
-use Rattle.std.proofs.lemmas.List.{take_more, take_all}
-use Rattle.sj_job.specs.declared.job.Statement.{Statement}
-use Rattle.sj_job.specs.State.{start}
+use Rattle.std.proofs.Common.{◌≡◌, ◌∙◌, ℕ, ◌+◌, ◌≤◌, List, [], ◌∷◌, refl, ap, subst, sym, length, arith}
+use Rattle.std.specs.Vec.Iter.{into_iter_items}
 use Rattle.sj_base.specs.declared.program.Program.{Program}
+use Rattle.sj_job.specs.declared.job.Statement.{Statement as Kept}
+use Rattle.sj_job.specs.Act.{Statement}
+use Rattle.sj_job.specs.State.{start}
+use Rattle.sj_job.specs.Table.{Table, IsTable}
+use Rattle.sj_job.specs.View.{ArePlaced, count_from, seen_from, statements_of}
+use Rattle.sj_job.proofs.Views.{length-seen}
+use Rattle.sj_lower.specs.Lowering.{nothing, lower_from, lowered, program_of}
 use Rattle.sj_lower.specs.Job.{IsJob}
+use Rattle.sj_lower.proofs.Few.{few_statements}
+use Rattle.sj_lower.proofs.Going.{GoesOn, going-start, going-fits, going-end}
+use Rattle.sj_lower.proofs.Naming.{names-printed}
 use Rattle.sj_lower.proofs.Whole.{IsWhole, whole}
 use Rattle.sj_lower.proofs.Properness.{proper, plain, delivers_printed, counts_prints, names_deliver_tasks, delivers_in_order}
-use Rattle.sj_lower.specs.Lowering.{Lowering, nothing, lower_from, lower_one, program_of}
-use Rattle.sj_lower.specs.Counts.{IsWithin}
-use Rattle.sj_lower.specs.Seen.{seen}
-use Rattle.sj_lower.proofs.Counting.{within_more, within_statements, lower_from-push}
-use Rattle.sj_lower.proofs.Few.{few_statements}
 use Rattle.sj_lower.proofs.lower.lower.Goals as goal
 
-pub add-requires : goal.add-requires
-add-requires c =
-    let ss = c.args.statements.now in
-    let few : 0 + length ss ≤ 262144 = few_statements c.requires.has 0 start ss c.requires.well (omega arith) in
-    let here = take c.loop-statement.statement-index ss in
-    subst (λ (L : Lowering). IsWithin 262144 L) (sym c.loop-statement.invariant)
-    (within_more (length here) 262144 (lower_from nothing here) (omega (arith, length-take c.loop-statement.statement-index ss)) (within_statements here))
+pub loop-statement-init : goal.loop-statement-init
+loop-statement-init c =
+    let T = c.args.job.roots in
+    let gives = c.into_iter-statement-iterator.ensures.into_iter_gives in
+    let vec = c.into_items-statement-items.result in
+    let ss = into_iter_items c.into_iter-statement-iterator.result in
+    let same : ss ≡ c.args.job.statements = gives.0 ∙ c.into_items-statement-items.ensures in
+    let few = few_statements c.requires.job.has 0 start (statements_of c.args.job) c.requires.job.well (omega arith) in
+    record {
+      going = going-start T c.nothing-lowerer.result ss (c.nothing-lowerer.ensures T) (subst (λ (xs : List Kept). ArePlaced 0 xs) (sym same) c.requires.numbered.placed)
+          (ap (count_from 0) same ∙ c.requires.numbered.counted) (omega (arith, few, length-seen T 0 c.args.job.statements, ap length same));
+      left = omega (arith, gives.1, vec.ok, ap length gives.0);
+    }
 
-one_more_of : (ss : List Statement) (i : ℕ) (s : Statement) → i < length ss → s ≡ get_or ss i s → take (i + 1) ss ≡ take i ss ++ s ∷ []
-one_more_of ss i s h e = take_more ss i s h ∙ ap (λ t. take i ss ++ t ∷ []) (sym e)
+pub add-requires-clause-fits : goal.add-requires-clause-fits
+add-requires-clause-fits c =
+    let at = c.loop-statement in
+    let all = into_iter_items c.into_iter-statement-iterator.result in
+    going-fits c.args.job.roots at.lowerer all (into_iter_items c.next.new.self) c.in-Some.statement
+    (subst (λ (xs : List Kept). GoesOn c.args.job.roots at.lowerer all xs) c.in-Some.ensures.steps.0 at.invariant.going)
 
-pub loop-statement-preserved : goal.loop-statement-preserved
-loop-statement-preserved c =
-    let ss = c.args.statements.now in
-    let s = c.statement-item.result in
-    c.in_ok-add.ensures
-    ∙ ap (lower_one s) c.loop-statement.invariant
-    ∙ sym (lower_from-push nothing (take c.loop-statement.statement-index ss) s)
-    ∙ ap (λ (ts : List Statement). lower_from nothing ts) (sym (one_more_of ss c.loop-statement.statement-index s c.loop-statement-test.true c.statement-item.is))
+nothing_left : (l : List Kept) → length l ≡ 0 → l ≡ []
+nothing_left [] h = refl
+nothing_left (x ∷ xs) h = absurd (omega arith)
 
--- after the last statement the program is that of the job
-whole_after : (p : Program) (L : Lowering) (ss : List Statement) (i workers : ℕ) → IsJob ss → p ≡ program_of workers L → L ≡ lower_from nothing (take i ss) → length ss ≤ i → IsWhole p ss
-whole_after p L ss i workers j e f h =
-    subst (λ (q : Program). IsWhole q ss) (sym (e ∙ ap (program_of workers) (f ∙ ap (lower_from nothing) (take_all i ss h)))) (whole j.has ss workers j.well)
+pub returns-clause-is : goal.returns-clause-is
+returns-clause-is c =
+    let T = c.args.job.roots in
+    let at = c.loop-statement in
+    let all = into_iter_items c.into_iter-statement-iterator.result in
+    let same : all ≡ c.args.job.statements = c.into_iter-statement-iterator.ensures.into_iter_gives.0 ∙ c.into_items-statement-items.ensures in
+    let empty = nothing_left (into_iter_items at.statement-iterator) (sym at.invariant.left ∙ c.in-None.ensures.steps.0) in
+    c.program.ensures T at.invariant.going.so_far at.invariant.going.follows
+    ∙ ap (program_of c.args.workers) (going-end T at.lowerer all (into_iter_items at.statement-iterator) at.invariant.going empty ∙ ap (λ (xs : List Kept). lower_from nothing (seen_from T 0 xs)) same)
+
+-- the program is that of the job
+whole_job : (p : Program) (ss : List Statement) (workers : ℕ) (j : IsJob ss) → p ≡ lowered ss workers → IsWhole p ss
+whole_job p ss workers j e = subst (λ (q : Program). IsWhole q ss) (sym e) (whole j.has ss workers j.well)
 
 few_in : (ss : List Statement) → IsJob ss → length ss ≤ 262144
 few_in ss j = let few = few_statements j.has 0 start ss j.well (omega arith) in omega (arith, few)
 
 pub returns-clause-proper : goal.returns-clause-proper
 returns-clause-proper c =
-    proper c.program.result c.args.statements.now
-    (whole_after c.program.result (seen c.loop-statement.lowerer) c.args.statements.now c.loop-statement.statement-index c.args.workers c.requires c.program.ensures c.loop-statement.invariant c.loop-statement-test.false) (few_in c.args.statements.now c.requires)
+    proper c.program.result (statements_of c.args.job) (whole_job c.program.result (statements_of c.args.job) c.args.workers c.requires.job (returns-clause-is c)) (few_in (statements_of c.args.job) c.requires.job)
 
 pub returns-clause-plain : goal.returns-clause-plain
-returns-clause-plain c =
-    plain c.program.result c.args.statements.now
-    (whole_after c.program.result (seen c.loop-statement.lowerer) c.args.statements.now c.loop-statement.statement-index c.args.workers c.requires c.program.ensures c.loop-statement.invariant c.loop-statement-test.false)
+returns-clause-plain c = plain c.program.result (statements_of c.args.job) (whole_job c.program.result (statements_of c.args.job) c.args.workers c.requires.job (returns-clause-is c))
 
 pub returns-clause-prints : goal.returns-clause-prints
-returns-clause-prints c =
-    delivers_printed c.program.result c.args.statements.now
-    (whole_after c.program.result (seen c.loop-statement.lowerer) c.args.statements.now c.loop-statement.statement-index c.args.workers c.requires c.program.ensures c.loop-statement.invariant c.loop-statement-test.false)
+returns-clause-prints c = delivers_printed c.program.result (statements_of c.args.job) (whole_job c.program.result (statements_of c.args.job) c.args.workers c.requires.job (returns-clause-is c))
 
 pub returns-clause-counted : goal.returns-clause-counted
-returns-clause-counted c =
-    counts_prints c.program.result c.args.statements.now
-    (whole_after c.program.result (seen c.loop-statement.lowerer) c.args.statements.now c.loop-statement.statement-index c.args.workers c.requires c.program.ensures c.loop-statement.invariant c.loop-statement-test.false)
+returns-clause-counted c = counts_prints c.program.result (statements_of c.args.job) (whole_job c.program.result (statements_of c.args.job) c.args.workers c.requires.job (returns-clause-is c))
 
 pub returns-clause-handed_over : goal.returns-clause-handed_over
-returns-clause-handed_over c =
-    names_deliver_tasks c.program.result c.args.statements.now
-    (whole_after c.program.result (seen c.loop-statement.lowerer) c.args.statements.now c.loop-statement.statement-index c.args.workers c.requires c.program.ensures c.loop-statement.invariant c.loop-statement-test.false)
+returns-clause-handed_over c = names_deliver_tasks c.program.result (statements_of c.args.job) (whole_job c.program.result (statements_of c.args.job) c.args.workers c.requires.job (returns-clause-is c))
 
 pub returns-clause-in_order : goal.returns-clause-in_order
-returns-clause-in_order c =
-    delivers_in_order c.program.result c.args.statements.now
-    (whole_after c.program.result (seen c.loop-statement.lowerer) c.args.statements.now c.loop-statement.statement-index c.args.workers c.requires c.program.ensures c.loop-statement.invariant c.loop-statement-test.false)
+returns-clause-in_order c = delivers_in_order c.program.result (statements_of c.args.job) (whole_job c.program.result (statements_of c.args.job) c.args.workers c.requires.job (returns-clause-is c))
+
+pub returns-clause-named : goal.returns-clause-named
+returns-clause-named c =
+    let T = c.args.job.roots in
+    let is_table : IsTable T = subst (λ (U : Table). IsTable U) c.roots.view_is c.roots.invariant in
+    names-printed c.requires.job.has T c.program.result c.args.job.statements (ap (λ (p : Program). p.deliveries) (returns-clause-is c)) is_table.2 c.requires.numbered.counted c.requires.numbered.placed c.requires.job.well

@@ -1,7 +1,10 @@
-use Rattle.std.proofs.Common.{◌≡◌, take}
-use Rattle.sj_lower.specs.Lowering.{nothing, lower_from}
-use Rattle.sj_lower.specs.Seen.{seen}
+use Rattle.std.proofs.Common.{◌≡◌, length}
+use Rattle.std.specs.Vec.Iter.{into_iter_items, into_iter_len}
+use Rattle.sj_lower.proofs.Going.{GoesOn}
 use Rattle.sj_lower.proofs.lower.lower.Given as goal
 
 abbrev pub invariant-loop-statement : goal.invariant-loop-statement
-invariant-loop-statement l = seen l.lowerer ≡ lower_from nothing (take l.statement-index l.statements)
+invariant-loop-statement l = record {
+  going : GoesOn l.fn.job.roots l.lowerer (into_iter_items l.initial.statement-iterator) (into_iter_items l.statement-iterator);
+  left : into_iter_len l.statement-iterator ≡ length (into_iter_items l.statement-iterator);
+}

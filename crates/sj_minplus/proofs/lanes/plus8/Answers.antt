@@ -1,8 +1,4 @@
-use Rattle.std.proofs.Common.{◌≡◌, ◌-ℤ◌, ◌+ℤ◌, if◌then◌else◌, pos}
-use Rattle.std.specs.Int.{w64, int_wrap}
-use Rattle.std.specs.Int.Signed.{lt_z}
 use Rattle.sj_base.specs.Array.{at}
-use Rattle.sj_codelet.specs.MinPlus.{inf, greatest, least}
 use Rattle.sj_minplus.proofs.Vectors.{passed, lanes_passed, lane_fits, lane_plus}
 use Rattle.sj_minplus.proofs.lanes.plus8.Goals as goal
 

@@ -1,4 +1,4 @@
-use Rattle.std.proofs.Common.{ℕ, ℤ, ◌+◌, ◌-◌, ◌%◌, ◌^◌, ◌+ℤ◌, ◌-ℤ◌}
+use Rattle.std.proofs.Common.{ℕ, ℤ, ◌+◌, ◌%◌, ◌^◌, ◌+ℤ◌}
 use Rattle.sj_minplus.proofs.Vectors.{at_wrapped, lanes_wrapped, wraps_sum}
 use Rattle.sj_minplus.proofs.lanes.sums.Goals as goal
 

@@ -1,18 +1,19 @@
-use Rattle.std.proofs.Common.{◌≡◌, ◌+◌, ◌++◌, ◌∷◌, [], flat_map, take, get_or, ap, sym, ◌∙◌, append-nil}
-use Rattle.std.proofs.lemmas.List.{take_more}
-use Rattle.std.proofs.lemmas.List.Concat.{flat_map-append}
+use Rattle.std.proofs.Common.{◌≡◌, ◌+◌, ◌++◌, ◌∷◌, [], length, take, ap, ◌∙◌, arith}
+use Rattle.std.proofs.lemmas.List.{take_more, take_all}
 use Rattle.std.proofs.lemmas.Option.{get_or_from_slice_get, slice_get_within}
-use Rattle.sj_trace.specs.Text.{line_of, text_of}
+use Rattle.sj_trace.proofs.Progress.{text-more, line-each}
 use Rattle.sj_trace.proofs.text.text.Goals as goal
 
 pub loop-i-preserved : goal.loop-i-preserved
 loop-i-preserved c =
     let events = c.args.trace.now.events in
-    let event = c.get.result in
-    let here = get_or_from_slice_get events c.loop-i.i event event c.get.ensures in
-    let more : take (c.loop-i.i + 1) events ≡ take c.loop-i.i events ++ event ∷ [] = take_more events c.loop-i.i event (slice_get_within events c.loop-i.i event c.get.ensures) ∙ ap (λ e. take c.loop-i.i events ++ e ∷ []) here in
-    c.in_ok-write_line.ensures
-    ∙ ap (λ s. s ++ line_of event) c.loop-i.invariant
-    ∙ ap (λ s. text_of (take c.loop-i.i events) ++ s) (sym (append-nil (line_of event)))
-    ∙ sym (flat_map-append line_of (take c.loop-i.i events) (event ∷ []))
-    ∙ ap text_of (sym more)
+    let event = c.get-event.result in
+    let here = get_or_from_slice_get events c.loop-i.i event event c.get-event.ensures in
+    let more : take (c.loop-i.i + 1) events ≡ take c.loop-i.i events ++ event ∷ [] = take_more events c.loop-i.i event (slice_get_within events c.loop-i.i event c.get-event.ensures) ∙ ap (λ e. take c.loop-i.i events ++ e ∷ []) here in
+    rw (more, c.in_ok-write_line.ensures) (text-more c.loop-i.text.items (take c.loop-i.i events) event c.loop-i.invariant c.event_fits.ensures)
+
+pub returns-clause-a_line_each : goal.returns-clause-a_line_each
+returns-clause-a_line_each c =
+    let events = c.args.trace.now.events in
+    let all : take c.loop-i.i events ≡ events = take_all c.loop-i.i events (omega arith) in
+    line-each c.loop-i.text.items (take c.loop-i.i events) c.loop-i.invariant ∙ ap length all

@@ -1,24 +1,33 @@
-use Rattle.std.proofs.Common.{rules, arith, ◌≡◌, ◌<◌, length, get_or}
-use Rattle.sj_job.specs.Meaning.{printed}
-use Rattle.starjob.specs.Output.{output}
-use Rattle.starjob.specs.Printing.{arrays_of}
-use Rattle.starjob.proofs.Telling.{goes_start, goes_can, goes_on}
+use Rattle.std.proofs.Common.{◌≡◌, ◌<◌, ◌+◌, drop, ◌∙◌, ◌++◌, ℕ, List, ap, sym, subst, get_or, length, map, refl, arith}
+use Rattle.std.proofs.lemmas.List.{get_or_default, length-map}
+use Rattle.sj_base.specs.declared.ids.Task.{Task}
+use Rattle.sj_base.specs.declared.program.Delivery.{Delivery}
+use Rattle.sj_base.specs.Array.{Array}
+use Rattle.sj_job.specs.declared.job.RootInfo.{RootInfo}
+use Rattle.sj_lower.specs.Delivering.{printed_as}
+use Rattle.starjob.specs.Output.{block_of}
+use Rattle.starjob.specs.Printing.{arrays_of, names_of, told}
+use Rattle.starjob.proofs.Told.{told-more, found-at}
 use Rattle.starjob.proofs.printing.text_of.Goals as goal
 
-pub loop-statement-init : goal.loop-statement-init
-loop-statement-init c = goes_start c.none-kinds.result c.new-text.result.items (arrays_of c.args.delivered.now) c.args.statements.now c.none-kinds.ensures c.new-text.ensures.items c.requires
+abbrev no_delivery : Delivery
+no_delivery = record { task = record { 0 = 0 }; root = record { 0 = 0 }; place = (0, 0); print = 0 }
 
-pub tell-requires : goal.tell-requires
-tell-requires c =
-    let ss = c.args.statements.now in
-    let lt : c.loop-statement.statement-index < length ss = omega arith in
-    let at : get_or ss c.loop-statement.statement-index c.statement-item.result ≡ c.statement-item.result = search rules in
-    goes_can c.loop-statement.kinds c.loop-statement.text.items (arrays_of c.args.delivered.now) c.loop-statement.at c.loop-statement.statement-index ss c.statement-item.result (output (printed ss)) lt at c.loop-statement.invariant
-
-pub loop-statement-preserved : goal.loop-statement-preserved
-loop-statement-preserved c =
-    let ss = c.args.statements.now in
-    let lt : c.loop-statement.statement-index < length ss = omega arith in
-    let at : get_or ss c.loop-statement.statement-index c.statement-item.result ≡ c.statement-item.result = search rules in
-    goes_on c.loop-statement.kinds c.follow.new.self c.loop-statement.text.items c.tell.new.text.items (arrays_of c.args.delivered.now) c.loop-statement.at c.in_ok-at.at c.loop-statement.statement-index ss c.statement-item.result (output (printed ss)) lt at c.loop-statement.invariant
-    c.in_ok-follow.ensures c.in_ok-at.ensures
+pub loop-i-preserved : goal.loop-i-preserved
+loop-i-preserved c =
+    let T = c.args.roots.now in
+    let ds = c.args.deliveries.now in
+    let pairs = c.args.delivered.now.pairs in
+    let xs = arrays_of c.args.delivered.now in
+    let i = c.loop-i.i in
+    let x = c.tile.result.now in
+    let d = get_or ds i no_delivery in
+    let inside : i < length ds = c.loop-i-test.true in
+    let in_pairs : i < length xs = omega (arith, c.requires.as_many, length-map pairs (λ (pair : Task × Array). pair.1), inside) in
+    let same : get_or ds i d ≡ d = get_or_default ds i d no_delivery inside in
+    let array : get_or xs i x ≡ x = found-at (λ (pair : Task × Array). pair.1) pairs i x x c.tile.ensures in
+    let wrote : c.write_array.new.text.items ≡ c.loop-i.text.items ++ block_of (printed_as T d.root).1 (printed_as T d.root).0 x =
+    c.in_ok-write_array.ensures ∙ (λ k. c.loop-i.text.items ++ block_of ((c.info-info.ensures k).kind) (c.name-name.ensures k) x) in
+    ap (λ (text : List ℕ). text ++ told (drop (i + 1) (names_of T ds)) (drop (i + 1) xs)) wrote
+    ∙ told-more (λ (e : Delivery). printed_as T e.root) ds xs i d x c.loop-i.text.items inside in_pairs same array
+    ∙ c.loop-i.invariant

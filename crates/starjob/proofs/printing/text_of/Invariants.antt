@@ -1,9 +1,8 @@
-use Rattle.std.proofs.Common.{drop}
-use Rattle.sj_job.specs.Meaning.{printed}
-use Rattle.starjob.specs.Output.{output}
-use Rattle.starjob.specs.Printing.{Goes, arrays_of}
+use Rattle.std.proofs.Common.{◌≡◌, ◌++◌, drop}
+use Rattle.starjob.specs.Printing.{arrays_of, names_of, told}
 use Rattle.starjob.proofs.printing.text_of.Given as goal
 
-abbrev pub invariant-loop-statement : goal.invariant-loop-statement
-invariant-loop-statement l =
-    Goes l.kinds l.text.items (arrays_of l.delivered) l.at (drop l.statement-index l.statements) (output (printed l.statements))
+-- what is written so far goes before what is told of the rest
+abbrev pub invariant-loop-i : goal.invariant-loop-i
+invariant-loop-i l =
+    l.text.items ++ told (drop l.i (names_of l.roots l.deliveries)) (drop l.i (arrays_of l.delivered)) ≡ told (names_of l.roots l.deliveries) (arrays_of l.delivered)

@@ -25,7 +25,7 @@ pub returns-in-Ok-clause-out_stays_in_silence : goal.returns-in-Ok-clause-out_st
 returns-in-Ok-clause-out_stays_in_silence g c = λ silent.
     let has = g.C.Codelets.has in
     c.answer_text.ensures.out_stays_in_silence (silent-by has (seen g.S.Source.left g.S.Source.faults c.args.source.now) c.deref.result.now
-        (subst (λ (t : List ℕ). IfSome (g.S.Source.left c.args.source.now) (λ whole. job_of has whole ≡ job_of has t)) (sym c.deref.ensures.value) (c.in-Ok.ensures.job has)) silent)
+    (subst (λ (t : List ℕ). IfSome (g.S.Source.left c.args.source.now) (λ whole. job_of has whole ≡ job_of has t)) (sym c.deref.ensures.value) (c.in-Ok.ensures.job has)) silent)
 
 abbrev failed : Unread → Result (Vec ℕ Global) Unread
 failed x = Err x

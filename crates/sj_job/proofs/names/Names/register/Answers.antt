@@ -1,15 +1,19 @@
-use Rattle.std.proofs.Common.{refl, subst, List, ℕ, Bool, Some}
-use Rattle.std.specs.Ordering.{nat_cmp}
-use Rattle.std.specs.Cmp.Lexicographic.{slice_cmp}
-use Rattle.std.specs.BTreeMap.{Updates}
-use Rattle.sj_job.specs.declared.names.Known.{Known}
+use Rattle.std.proofs.Common.{ap, ◌+◌, ◌∙◌, ◌∷◌, ◌++◌, [], length, sym, arith, rules, length-append}
+use Rattle.sj_job.specs.Table.{Table}
+use Rattle.sj_job.specs.View.{registration}
 use Rattle.sj_job.proofs.Seen.{shows_registered}
 use Rattle.sj_job.proofs.Sounding.{has_elements}
 use Rattle.sj_job.proofs.names.Names.register.Goals as goal
 
 pub returns-clause-names : goal.returns-clause-names
-returns-clause-names c = λ S h s.
-    let r = c.args.r.now in
-    let valued : List ℕ → Bool → Type 0 = λ name v. let known : Known = record { dims = r.dims; valued = v } in Updates (slice_cmp nat_cmp) c.args.self.now.roots c.insert.new.self name (Some known) in
-    shows_registered c.args.self.now _ S r (has_elements S r s) h refl (λ q. refl)
-    (subst (valued r.name) c.gives_values-valued.ensures (subst (λ name. valued name c.gives_values-valued.result) c.in_ok-copy.ensures c.in_ok-insert.ensures.updates))
+returns-clause-names c = λ n S h s.
+    let name = c.args.name.now in
+    let info = c.args.info in
+    let init = c.args.init.now in
+    let names = ap (λ (T : Table). length T.names) c.in_ok-add.ensures.added in
+    record {
+      statements = ap (λ m. m + 1) h.statements;
+      shows = shows_registered c.args.self.now _ S name info init (has_elements S (registration name info init) s) h.shows c.requires.fresh c.add.ensures.whole
+          c.in_ok-add.ensures.added (c.in_ok-push.ensures.items ∙ ap (λ st. c.args.self.now.standings.items ++ st ∷ []) c.first_standing.ensures)
+          (omega (arith, c.in_ok-push.ensures.len, names, length-append c.args.self.now.roots.names (name ∷ []), c.requires.counted));
+    }

@@ -1,19 +1,20 @@
-use Rattle.std.proofs.Common.{◌≡◌, ◌+◌, ◌∷◌, ◌<◌, ◌∙◌, ap, sym, subst, length, get_or, drop}
-use Rattle.sj_job.specs.Names.{known_in}
-use Rattle.sj_job.proofs.Each.{begins}
-use Rattle.sj_job.proofs.Seen.{written_more}
+use Rattle.std.proofs.Common.{◌≡◌, ◌+◌, ◌∙◌, ap, map, ℕ, List, Option}
+use Rattle.sj_codelet.specs.Kernel.{out}
+use Rattle.sj_job.specs.declared.names.Known.{Known}
+use Rattle.sj_job.specs.Meaning.{operand_array}
+use Rattle.sj_job.specs.View.{operand_seen, task_seen}
+use Rattle.sj_job.specs.Names.{known_in, after_writes}
+use Rattle.sj_job.proofs.Giving.{gives_all}
+use Rattle.sj_job.proofs.Seen.{shows_put}
 use Rattle.sj_job.proofs.names.Names.run.Goals as goal
 
-pub loop-operand-preserved : goal.loop-operand-preserved
-loop-operand-preserved c =
-    let os = c.args.task.now.operands in
-    let i = c.loop-operand.operand-index in
-    let o = c.operand-item.result in
-    let same : c.items-operand-items.result.now ≡ os = c.items-operand-items.ensures in
-    let rest : drop i os ≡ o ∷ drop (i + 1) os = begins os i o (subst (λ xs. i < length xs) same c.loop-operand-test.true) (ap (λ xs. get_or xs i o) (sym same) ∙ sym c.operand-item.is) in
+pub returns-clause-names : goal.returns-clause-names
+returns-clause-names c = λ has n S h s.
+    let t = task_seen c.args.self.now.roots c.args.task.now in
+    let arrays = out t.codelet t.args (map (operand_array S) t.operands) in
+    let known = λ (q : List ℕ). c.write_all.ensures.known q ∙ ap (λ os. after_writes (map (operand_seen c.args.self.now.roots) os) (known_in c.args.self.now) q) c.items.ensures in
+    let shown = shows_put c.args.self.now c.write_all.new.self S t.operands arrays (gives_all has S t (map (operand_array S) t.operands) s) h.shows c.write_all.ensures.counted c.write_all.ensures.roots c.write_all.ensures.ended known in
     record {
-      counted = c.write.ensures.count ∙ c.loop-operand.invariant.counted;
-      registered = c.write.ensures.registered ∙ c.loop-operand.invariant.registered;
-      ended = λ q. c.write.ensures.ended q ∙ c.loop-operand.invariant.ended q;
-      known = λ q. written_more os i o (known_in c.loop-operand.self) (known_in c.write.new.self) rest c.write.ensures.known q ∙ c.loop-operand.invariant.known q;
+      statements = ap (λ m. m + 1) (c.write_all.ensures.count ∙ h.statements);
+      shows = record { counted = shown.counted; registered = shown.registered; ended = shown.ended; known = shown.known; filled = shown.filled };
     }

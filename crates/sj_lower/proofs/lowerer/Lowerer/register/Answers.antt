@@ -1,18 +1,17 @@
-use Rattle.std.proofs.Common.{arith, Some, List, ℕ, subst}
-use Rattle.std.specs.Ordering.{nat_cmp}
-use Rattle.std.specs.Cmp.Lexicographic.{slice_cmp}
-use Rattle.std.specs.BTreeMap.{get, Updates}
-use Rattle.sj_lower.specs.Seen.{seen}
-use Rattle.sj_lower.proofs.Stepping.{handles_updated, handle_at, registration_is}
+use Rattle.std.proofs.Common.{◌≡◌, ◌∙◌, ◌++◌, ◌∷◌, [], ℕ, ap, sym, refl, length, arith, rules}
+use Rattle.sj_base.specs.declared.program.CellInfo.{CellInfo}
+use Rattle.sj_lower.specs.declared.lowerer.Lowerer.{Lowerer}
+use Rattle.sj_lower.specs.Lowering.{first_tasks}
+use Rattle.sj_lower.proofs.Stepping.{follows_registration, cell_for}
 use Rattle.sj_lower.proofs.lowerer.Lowerer.register.Goals as goal
 
-pub returns : goal.returns
-returns c =
+pub returns-clause-follows : goal.returns-clause-follows
+returns-clause-follows c = λ T L f d few.
+    let h = c.in_ok-push_first_task.ensures in
     let old = c.args.self.now in
-    let first = c.push_first_task.new.self in
-    let r = c.args.register.now in
-    let h = handle_at old.roots c.len.result in
-    registration_is (seen old) (seen first) c.len.result c.args.line r c.push.new.self.items (get (slice_cmp nat_cmp) c.insert.new.self) (omega (arith, c.len.ensures, old.cells.ok)) c.in_ok-push_first_task.ensures
-    c.in_ok-push.ensures.items
-    (handles_updated first.handles c.insert.new.self r.name (Some h)
-    (subst (λ (name : List ℕ). Updates (slice_cmp nat_cmp) first.handles c.insert.new.self name (Some h)) c.in_ok-copy.ensures c.in_ok-insert.ensures.updates))
+    let info = c.args.info in
+    let number : c.len-number.result ≡ length old.cells.items = omega (arith, c.len-number.ensures, old.cells.ok) in
+    follows_registration T old _ L info c.args.init c.args.line f d few
+    (c.in_ok-push.ensures.items ∙ (λ i. (h.cells i).items ++ cell_for (number i) info ∷ []))
+    (h.tasks_are ∙ ap (λ (n : ℕ). old.tasks.items ++ first_tasks c.args.init info.dims (record { 0 = n }) c.args.line) number)
+    (λ i. (h.deliveries i).items) h.prints

@@ -1,0 +1,196 @@
+-- What forms do, and that the names follow.
+use Rattle.std.proofs.Common.{◌≡◌, ℕ, ◌+◌, ◌<◌, not, ◌&&◌, Bool, true, false, List, [], ◌∷◌, ◌++◌, length, map, get_or, Option, Some, None, is_some, cond, refl, ap, sym, subst, ◌∙◌, arith, Result, Ok, Err, All, length-append}
+use Rattle.std.specs.Prelude.{is_none, IfOk, IfErr}
+use Rattle.std.specs.List.{list_all}
+use Rattle.std.proofs.Math.Seq.{get_or-append_seam}
+use Rattle.sj_base.specs.declared.ids.Root.{Root as RootNumber}
+use Rattle.sj_base.specs.declared.tile.Dims.{Dims}
+use Rattle.sj_codelet.specs.declared.kernel.Kernel.{Kernel}
+use Rattle.sj_job.specs.declared.form.ArrayForm.{ArrayForm}
+use Rattle.sj_job.specs.declared.form.TaskForm.{TaskForm}
+use Rattle.sj_job.specs.declared.form.Form.{Form}
+use Rattle.sj_job.specs.declared.form.Form.TheVariants as form
+use Rattle.sj_job.specs.declared.job.Init.{Init}
+use Rattle.sj_job.specs.declared.job.RootInfo.{RootInfo}
+use Rattle.sj_job.specs.declared.job.TaskLine.{TaskLine as KeptTask}
+use Rattle.sj_job.specs.declared.job.Act.{Act as KeptAct}
+use Rattle.sj_job.specs.declared.job.Act.TheVariants as kept
+use Rattle.sj_job.specs.declared.names.Found.{Found}
+use Rattle.sj_job.specs.declared.names.Names.{Names}
+use Rattle.sj_job.specs.declared.reason.Reason.{Reason}
+use Rattle.sj_job.specs.declared.reason.Reason.TheVariants.{Word, Number, NotBuilt}
+use Rattle.sj_job.specs.Statement.{Register as Registration}
+use Rattle.sj_job.specs.Act.{Act, Register, Task, Print, Invalidate, Unregister}
+use Rattle.sj_job.specs.Sentence.{is_numbered, is_built, is_misplaced, is_numbered_array, is_numbered_task, kind_of, rows_of, cols_of, init_said, registered_by, said_of}
+use Rattle.sj_job.specs.State.{State}
+use Rattle.sj_job.specs.Meaning.{apply, register, run_task, invalidate, unregister}
+use Rattle.sj_job.specs.Sound.{IsSoundAct, IsSoundTask, IsSoundRegistration}
+use Rattle.sj_job.specs.Judge.{Scope, scope_of, is_begun, first_of, unless, judged, judged_task, register_reasons, print_reasons, name_reasons}
+use Rattle.sj_job.specs.Table.{Table, table, a_root, no_info, name_of, info_of, IsRoot, with_root}
+use Rattle.sj_job.specs.View.{registration, task_seen, act_seen, count_after, IsPlaced, Extends}
+use Rattle.sj_job.specs.Names.{scope_in, found_in}
+use Rattle.sj_job.specs.Sees.{Sees}
+use Rattle.sj_job.specs.Submits.{done_in, act_noted, Notes, Submits}
+use Rattle.sj_job.proofs.Places.{is-at, is-root}
+use Rattle.sj_job.proofs.Seen.{same_scope}
+use Rattle.sj_job.proofs.Sounding.{sound_from_judged, said-built}
+use Rattle.sj_job.proofs.Targets.{found-root}
+
+pub weaker_ok : {A E : Type 0} {P Q : A → Type 0} (r : Result A E) → ((a : A) → P a → Q a) → IfOk r P → IfOk r Q
+weaker_ok (Ok a) f h = f a h
+weaker_ok (Err e) f h = h
+
+pub weaker_err : {A E : Type 0} {P Q : E → Type 0} (r : Result A E) → ((e : E) → P e → Q e) → IfErr r P → IfErr r Q
+weaker_err (Ok a) f h = h
+weaker_err (Err e) f h = f e h
+
+-- ---- what a form does
+
+done_from : (Kernel → Bool) → Scope → Result Form Reason → Result Act Reason
+done_from has s r = elim r [ Err why ↦ Err why | Ok g ↦ judged has s g ]
+
+said_placed : (begun : Bool) (f : Form) → is_misplaced begun f ≡ false → is_numbered f ≡ true → is_built f ≡ true → said_of begun f ≡ Ok f
+said_placed begun f m n b = λ i. cond (m i) (Err Word) (cond (not (n i)) (Err Number) (cond (not (b i)) (Err NotBuilt) (Ok f)))
+
+pub done_placed : (has : Kernel → Bool) (s : Scope) (f : Form) → is_misplaced (is_begun s) f ≡ false → is_numbered f ≡ true → is_built f ≡ true → done_in has s f ≡ judged has s f
+unfolding done_from
+done_placed has s f m n b = ap (done_from has s) (said_placed (is_begun s) f m n b)
+
+sound_by : (has : Kernel → Bool) (n : ℕ) (S : State) (f : Form) (act : Act) (r : Result Form Reason) → said_of (is_begun (scope_of n S)) f ≡ r → (elim r as (λ _. Result Act Reason) [ Err why ↦ Err why | Ok g ↦ judged has (scope_of n S) g ]) ≡ Ok act → IsSoundAct has S act
+sound_by has n S f act (Err why) p e = absurd (cc)
+sound_by has n S f act (Ok g) p e = sound_from_judged has n S g act (said-built (is_begun (scope_of n S)) f g p).1 e
+
+-- what is done is sound
+pub sound_done : (has : Kernel → Bool) (old : Names) (n : ℕ) (S : State) (f : Form) (act : Act) → Sees old n S → done_in has (scope_in old) f ≡ Ok act → IsSoundAct has S act
+sound_done has old n S f act h e =
+    sound_by has n S f act (said_of (is_begun (scope_of n S)) f) refl (ap (λ (s : Scope). done_in has s f) (sym (same_scope old n S h)) ∙ e)
+
+-- ---- registrations
+
+abbrev pub info_by : ArrayForm → RootInfo
+info_by a = record { kind = kind_of a.size; dims = record { rows = rows_of a.size; cols = cols_of a.size } }
+
+pub none_is : {A : Type 0} (o : Option A) → is_some o ≡ false → is_none o ≡ true
+none_is None e = refl
+none_is (Some x) e = absurd (cc)
+
+pub all_numbered : (a b c : Bool) → a ≡ true → b ≡ true → c ≡ true → (a && b && c) ≡ true
+all_numbered a b c x y z = λ i. x i && y i && z i
+
+last_seen : (T : Table) (name : List ℕ) (info : RootInfo) (init : Init) → length T.infos ≡ length T.names → act_seen (with_root name info T) (length T.names) (kept.Register init) ≡ Register (registration name info init)
+last_seen T name info init e =
+    let named = get_or-append_seam T.names name [] [] in
+    let known : get_or (T.infos ++ info ∷ []) (length T.names) no_info ≡ info = ap (λ n. get_or (T.infos ++ info ∷ []) n no_info) (sym e) ∙ get_or-append_seam T.infos info [] no_info in
+    λ i. Register (registration (named i) (known i) init)
+
+-- what a registration needs to have been done
+pub record Registers (old new : Names) (a : ArrayForm) (name : List ℕ) (info : RootInfo) (init : Init) : Type 0 where
+  pub name_is : name ≡ a.name
+  pub info_is : info ≡ info_by a
+  pub init_is : init ≡ init_said a.init
+  pub numbered : is_numbered_array a ≡ true
+  pub built : is_none a.parts ≡ true
+  pub unopposed : first_of (register_reasons (scope_in old) a.name (rows_of a.size) (cols_of a.size) (init_said a.init)) ≡ None
+  pub whole : length old.roots.infos ≡ length old.roots.names
+  pub roots : new.roots ≡ with_root name info old.roots
+  pub sees : (n : ℕ) (S : State) → Sees old n S → IsSoundRegistration S (registration name info init) → Sees new (n + 1) (register (registration name info init) S)
+
+pub registers : (has : Kernel → Bool) (old new : Names) (a : ArrayForm) (name : List ℕ) (info : RootInfo) (init : Init) → Registers old new a name info init → Submits has old (form.Register a) new (kept.Register init)
+registers has old new a name info init h =
+    let said : registered_by a ≡ registration name info init = λ i. registration (sym h.name_is i) (sym h.info_is i) (sym h.init_is i) in
+    let seen : act_noted old new (kept.Register init) ≡ Register (registration name info init) = ap (λ (T : Table). act_seen T (length old.roots.names) (kept.Register init)) h.roots ∙ last_seen old.roots name info init h.whole in
+    let done : done_in has (scope_in old) (form.Register a) ≡ Ok (Register (registered_by a)) =
+    done_placed has (scope_in old) (form.Register a) refl h.numbered h.built ∙ ap (λ o. unless o (Register (registered_by a))) h.unopposed in
+    record {
+      act = done ∙ ap (λ r. Ok (Register r)) said ∙ ap Ok (sym seen);
+      notes = record {
+        placed = tt;
+        counted = ap (λ (T : Table). length T.names) h.roots ∙ length-append old.roots.names (name ∷ []);
+        kept = (name ∷ [], info ∷ [], h.roots);
+        whole = λ e. omega (arith, e, ap (λ (T : Table). length T.infos) h.roots, ap (λ (T : Table). length T.names) h.roots, length-append old.roots.infos (info ∷ []), length-append old.roots.names (name ∷ []));
+        sees = λ n S k.
+            let sound = subst (λ (r : Registration). IsSoundAct has S (Register r)) said (sound_done has old n S (form.Register a) (Register (registered_by a)) k done) in
+            subst (λ (x : Act). Sees new (n + 1) (apply x S)) (sym seen) (h.sees n S k sound);
+      };
+    }
+
+-- ---- the others
+
+append_none : {A : Type 0} (xs : List A) → xs ≡ xs ++ []
+append_none [] = refl
+append_none (x ∷ xs) = ap (λ ys. x ∷ ys) (append_none xs)
+
+same_table : (old new : Names) → new.roots ≡ old.roots → Extends old.roots new.roots
+same_table old new e = ([], [], e ∙ (λ i. table (append_none old.roots.names i) (append_none old.roots.infos i)))
+
+same_whole : (old new : Names) → new.roots ≡ old.roots → length old.roots.infos ≡ length old.roots.names → length new.roots.infos ≡ length new.roots.names
+same_whole old new e h = ap (λ (T : Table). length T.infos) e ∙ h ∙ ap (λ (T : Table). length T.names) (sym e)
+
+-- what a task needs to have been done
+pub record Runs (has : Kernel → Bool) (old new : Names) (t : TaskForm) (line : KeptTask) : Type 0 where
+  pub numbered : is_numbered_task t ≡ true
+  pub built : is_built (form.Task t) ≡ true
+  pub judged : judged_task has (scope_in old) t ≡ Ok (Task (task_seen old.roots line))
+  pub operands : All (λ o. IsRoot old.roots o.root) line.operands
+  pub roots : new.roots ≡ old.roots
+  pub sees : (n : ℕ) (S : State) → Sees old n S → IsSoundTask has S (task_seen old.roots line) → Sees new (n + 1) (run_task (task_seen old.roots line) S)
+
+pub runs : (has : Kernel → Bool) (old new : Names) (t : TaskForm) (line : KeptTask) → Runs has old new t line → Submits has old (form.Task t) new (kept.Task line)
+runs has old new t line h =
+    let seen : act_noted old new (kept.Task line) ≡ Task (task_seen old.roots line) = ap (λ (T : Table). act_seen T (length old.roots.names) (kept.Task line)) h.roots in
+    let done : done_in has (scope_in old) (form.Task t) ≡ Ok (Task (task_seen old.roots line)) = done_placed has (scope_in old) (form.Task t) refl h.numbered h.built ∙ h.judged in
+    record {
+      act = done ∙ ap Ok (sym seen);
+      notes = record {
+        placed = λ k d lt. (is-at old.roots (name_of old.roots (get_or line.operands k d).root) (get_or line.operands k d).root (h.operands k d lt)).below;
+        counted = ap (λ (T : Table). length T.names) h.roots;
+        kept = same_table old new h.roots;
+        whole = same_whole old new h.roots;
+        sees = λ n S k. subst (λ (x : Act). Sees new (n + 1) (apply x S)) (sym seen) (h.sees n S k (sound_done has old n S (form.Task t) (Task (task_seen old.roots line)) k done));
+      };
+    }
+
+pub found-is-root : (old : Names) (q : List ℕ) (f : Found) → found_in old q ≡ Some f → IsRoot old.roots f.root
+found-is-root old q f e = is-root old.roots q f.root (found-root old q f e)
+
+pub found-named : (old : Names) (q : List ℕ) (f : Found) → found_in old q ≡ Some f → name_of old.roots f.root ≡ q
+found-named old q f e = (is-at old.roots q f.root (found-root old q f e)).named
+
+found-below : (old : Names) (q : List ℕ) (f : Found) → found_in old q ≡ Some f → f.root.0 < length old.roots.names
+found-below old q f e = (is-at old.roots q f.root (found-root old q f e)).below
+
+pub printed : (has : Kernel → Bool) (old new : Names) (q : List ℕ) (f : Found) → found_in old q ≡ Some f → first_of (print_reasons (scope_in old) q) ≡ None → new.roots ≡ old.roots → ((n : ℕ) (S : State) → Sees old n S → Sees new (n + 1) S) → Submits has old (form.Print q) new (kept.Print f.root)
+printed has old new q f e none roots sees =
+    let named : name_of new.roots f.root ≡ q = ap (λ (T : Table). name_of T f.root) roots ∙ found-named old q f e in
+    record {
+      act = ap (λ o. unless o (Print q)) none ∙ ap (λ (n : List ℕ). Ok (Print n)) (sym named);
+      notes = record { placed = found-below old q f e; counted = ap (λ (T : Table). length T.names) roots; kept = same_table old new roots; whole = same_whole old new roots; sees = sees };
+    }
+
+pub invalidated : (has : Kernel → Bool) (old new : Names) (q : List ℕ) (f : Found) → found_in old q ≡ Some f → first_of (name_reasons (scope_in old) q) ≡ None → new.roots ≡ old.roots → ((n : ℕ) (S : State) → Sees old n S → Sees new (n + 1) (invalidate (name_of old.roots f.root) S)) → Submits has old (form.Invalidate q) new (kept.Invalidate f.root)
+invalidated has old new q f e none roots sees =
+    let named : name_of new.roots f.root ≡ name_of old.roots f.root = ap (λ (T : Table). name_of T f.root) roots in
+    record {
+      act = ap (λ o. unless o (Invalidate q)) none ∙ ap (λ (n : List ℕ). Ok (Invalidate n)) (sym (named ∙ found-named old q f e));
+      notes = record {
+        placed = found-below old q f e;
+        counted = ap (λ (T : Table). length T.names) roots;
+        kept = same_table old new roots;
+        whole = same_whole old new roots;
+        sees = λ n S h. subst (λ (m : List ℕ). Sees new (n + 1) (invalidate m S)) (sym named) (sees n S h);
+      };
+    }
+
+pub ended : (has : Kernel → Bool) (old new : Names) (q : List ℕ) (f : Found) → found_in old q ≡ Some f → first_of (name_reasons (scope_in old) q) ≡ None → new.roots ≡ old.roots → ((n : ℕ) (S : State) → Sees old n S → Sees new (n + 1) (unregister (name_of old.roots f.root) S)) → Submits has old (form.Unregister q) new (kept.Unregister f.root)
+ended has old new q f e none roots sees =
+    let named : name_of new.roots f.root ≡ name_of old.roots f.root = ap (λ (T : Table). name_of T f.root) roots in
+    record {
+      act = ap (λ o. unless o (Unregister q)) none ∙ ap (λ (n : List ℕ). Ok (Unregister n)) (sym (named ∙ found-named old q f e));
+      notes = record {
+        placed = found-below old q f e;
+        counted = ap (λ (T : Table). length T.names) roots;
+        kept = same_table old new roots;
+        whole = same_whole old new roots;
+        sees = λ n S h. subst (λ (m : List ℕ). Sees new (n + 1) (unregister m S)) (sym named) (sees n S h);
+      };
+    }

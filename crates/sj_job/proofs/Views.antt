@@ -1,0 +1,81 @@
+-- What is kept of statements, seen with a table that has grown, and with one statement more.
+use Rattle.std.proofs.Common.{◌≡◌, ℕ, suc, ◌+◌, ◌<◌, ◌≤◌, List, [], ◌∷◌, ◌++◌, length, map, get_or, refl, ap, sym, subst, ◌∙◌, arith, All}
+use Rattle.std.proofs.lemmas.List.{get_or_append_left}
+use Rattle.sj_base.specs.declared.ids.Root.{Root}
+use Rattle.sj_base.specs.declared.mode.Mode.{Mode}
+use Rattle.sj_job.specs.declared.job.RootInfo.{RootInfo}
+use Rattle.sj_job.specs.declared.job.Init.{Init}
+use Rattle.sj_job.specs.declared.job.Operand.{Operand as Access}
+use Rattle.sj_job.specs.declared.job.Act.{Act as KeptAct}
+use Rattle.sj_job.specs.declared.job.Act.TheVariants as kept
+use Rattle.sj_job.specs.declared.job.Statement.{Statement as Kept}
+use Rattle.sj_job.specs.Statement.{Operand, TaskLine}
+use Rattle.sj_job.specs.Act.{Act, Register, Task, Print, Invalidate, Unregister, Statement}
+use Rattle.sj_job.specs.Table.{Table, table, a_root, no_info, name_of, info_of}
+use Rattle.sj_job.specs.View.{operand_seen, task_seen, registration, act_seen, statement_seen, seen_from, count_after, count_from, IsPlaced, ArePlaced, Extends}
+use Rattle.sj_codelet.specs.Kernel.{codelet_of}
+
+-- ---- counts
+
+pub count-grows : (k : ℕ) (a : KeptAct) → k ≤ count_after k a
+count-grows k (kept.Register init) = omega arith
+count-grows k (kept.Task t) = omega arith
+count-grows k (kept.Print r) = omega arith
+count-grows k (kept.Invalidate r) = omega arith
+count-grows k (kept.Unregister r) = omega arith
+
+pub counts-grow : (k : ℕ) (ss : List Kept) → k ≤ count_from k ss
+counts-grow k [] = omega arith
+counts-grow k (s ∷ ss) = omega (arith, count-grows k s.act, counts-grow (count_after k s.act) ss)
+
+pub count-push : (k : ℕ) (ss : List Kept) (s : Kept) → count_from k (ss ++ s ∷ []) ≡ count_after (count_from k ss) s.act
+count-push k [] s = refl
+count-push k (t ∷ ts) s = count-push (count_after k t.act) ts s
+
+pub seen-push : (T : Table) (k : ℕ) (ss : List Kept) (s : Kept) → seen_from T k (ss ++ s ∷ []) ≡ seen_from T k ss ++ statement_seen T (count_from k ss) s ∷ []
+seen-push T k [] s = refl
+seen-push T k (t ∷ ts) s = ap (λ us. statement_seen T k t ∷ us) (seen-push T (count_after k t.act) ts s)
+
+pub length-seen : (T : Table) (k : ℕ) (ss : List Kept) → length (seen_from T k ss) ≡ length ss
+length-seen T k [] = refl
+length-seen T k (s ∷ ss) = ap suc (length-seen T (count_after k s.act) ss)
+
+pub placed-push : (k : ℕ) (ss : List Kept) (s : Kept) → ArePlaced k ss → IsPlaced (count_from k ss) s.act → ArePlaced k (ss ++ s ∷ [])
+placed-push k [] s h p = (p, tt)
+placed-push k (t ∷ ts) s h p = (h.0, placed-push (count_after k t.act) ts s h.1 p)
+
+-- ---- a table that has grown
+
+name-kept : (T : Table) (names : List (List ℕ)) (infos : List RootInfo) (r : Root) → r.0 < length T.names → name_of (table (T.names ++ names) (T.infos ++ infos)) r ≡ name_of T r
+name-kept T names infos r lt = get_or_append_left T.names names [] r.0 lt
+
+operands-kept : (T : Table) (names : List (List ℕ)) (infos : List RootInfo) (os : List Access) → All (λ o. o.root.0 < length T.names) os → map (operand_seen (table (T.names ++ names) (T.infos ++ infos))) os ≡ map (operand_seen T) os
+operands-kept T names infos [] h = refl
+operands-kept T names infos (o ∷ os) h =
+    let mk : List ℕ → Operand = λ n. record { name = n; mode = o.mode } in
+    λ i. mk (name-kept T names infos o.root (h 0 o (omega arith)) i) ∷ operands-kept T names infos os (λ k d lt. h (suc k) d (omega arith)) i
+
+all_within : (os : List Access) (k n : ℕ) → k ≤ n → All (λ o. o.root.0 < k) os → All (λ o. o.root.0 < n) os
+all_within os k n le h = λ i d lt. omega (arith, h i d lt)
+
+act-kept : (T : Table) (names : List (List ℕ)) (infos : List RootInfo) (k : ℕ) (a : KeptAct) → length T.infos ≡ length T.names → count_after k a ≤ length T.names → IsPlaced k a → act_seen (table (T.names ++ names) (T.infos ++ infos)) k a ≡ act_seen T k a
+act-kept T names infos k (kept.Register init) e le h =
+    let in_names : k < length T.names = omega arith in
+    let in_infos : k < length T.infos = omega arith in
+    λ i. Register (registration (name-kept T names infos (a_root k) in_names i) (get_or_append_left T.infos infos no_info k in_infos i) init)
+act-kept T names infos k (kept.Task t) e le h =
+    let line : List Operand → TaskLine = λ os. record { codelet = codelet_of t.kernel; args = t.args; operands = os; priority = t.priority } in
+    ap (λ os. Task (line os)) (operands-kept T names infos t.operands (all_within t.operands k (length T.names) le h))
+act-kept T names infos k (kept.Print r) e le h = ap Print (name-kept T names infos r (omega arith))
+act-kept T names infos k (kept.Invalidate r) e le h = ap Invalidate (name-kept T names infos r (omega arith))
+act-kept T names infos k (kept.Unregister r) e le h = ap Unregister (name-kept T names infos r (omega arith))
+
+kept_in : (T : Table) (names : List (List ℕ)) (infos : List RootInfo) (k : ℕ) (ss : List Kept) → length T.infos ≡ length T.names → count_from k ss ≤ length T.names → ArePlaced k ss → seen_from (table (T.names ++ names) (T.infos ++ infos)) k ss ≡ seen_from T k ss
+kept_in T names infos k [] e le h = refl
+kept_in T names infos k (s ∷ ss) e le h =
+    let mk : Act → Statement = λ a. record { line = s.line; act = a } in
+    λ i. mk (act-kept T names infos k s.act e (omega (arith, counts-grow (count_after k s.act) ss)) h.0 i)
+    ∷ kept_in T names infos (count_after k s.act) ss e le h.1 i
+
+pub seen-kept : (old new : Table) (k : ℕ) (ss : List Kept) → length old.infos ≡ length old.names → Extends old new → count_from k ss ≤ length old.names → ArePlaced k ss → seen_from new k ss ≡ seen_from old k ss
+seen-kept old new k ss e x le h = ap (λ (T : Table). seen_from T k ss) x.2 ∙ kept_in old x.0 x.1 k ss e le h

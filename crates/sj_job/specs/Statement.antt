@@ -1,0 +1,26 @@
+-- What the statements of a job say, with the names that the text has.
+use Rattle.std.specs.Prelude.{ℕ, ℤ, List}
+use Rattle.sj_base.specs.declared.tile.Dims.{Dims}
+use Rattle.sj_base.specs.declared.mode.Mode.{Mode}
+use Rattle.sj_base.specs.declared.program.Codelet.{Codelet}
+use Rattle.sj_job.specs.declared.job.Kind.{Kind}
+use Rattle.sj_job.specs.declared.job.Init.{Init}
+
+-- a root handle and its first elements
+pub record Register : Type 0 where
+  pub name : List ℕ
+  pub kind : Kind
+  pub dims : Dims
+  pub init : Init
+
+-- an operand of a task
+pub record Operand : Type 0 where
+  pub name : List ℕ
+  pub mode : Mode
+
+-- a task
+pub record TaskLine : Type 0 where
+  pub codelet : Codelet
+  pub args : List ℤ
+  pub operands : List Operand
+  pub priority : ℤ

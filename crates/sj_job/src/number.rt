@@ -1,0 +1,90 @@
+//! The numbers of a form.
+
+ghost use Rattle.std.specs.Prelude.{◌≡◌, true, false, map, IfOk, MatchOption};
+ghost use Rattle.std.specs.List.{list_all};
+ghost use Rattle.sj_job.specs.Word.{is_count, is_integer, integer};
+ghost use Rattle.sj_job.specs.Sentence.{are_counts, is_numbered_size, is_numbered_init, is_numbered_priority, rows_of, cols_of, init_said, priority_said};
+
+use crate::form::{InitForm, Piece, Size};
+use crate::job::Init;
+use crate::word::{count_of, integer_of};
+use sj_base::memory::OutOfMemory;
+use sj_base::sequence::Sequence;
+use std::alloc::Global;
+
+/// Whether a word says a count. Linear in it.
+pub fn is_count(word: &[u8]) -> bool
+    ensures { result ≡ is_count word.now }
+{
+    count_of(word).is_some()
+}
+
+/// Whether both words say counts, where there are two. Linear in them.
+pub fn are_counts(pair: &Option<(Piece<'_>, Piece<'_>)>) -> bool
+    ensures { result ≡ are_counts pair.now }
+{
+    match pair {
+        Some((a, b)) => is_count(a.bytes()) && is_count(b.bytes()),
+        None => true,
+    }
+}
+
+/// The integers that words say, or `None` where one says none. Linear in the words.
+pub fn integers(alloc: Global, words: &[&[u8]]) -> Result<Option<Sequence<i64>>, OutOfMemory>
+    ensures { IfOk result (λ r. MatchOption r
+        (list_all is_integer (map (λ w. w.now) words.now) ≡ false)
+        (λ zs. (list_all is_integer (map (λ w. w.now) words.now) ≡ true)
+        × (zs ≡ map integer (map (λ w. w.now) words.now)))) }
+{
+    let mut values = Vec::with_capacity(alloc, words.len())?;
+    for word in words {
+        match integer_of(word) {
+            Some(value) => values.push(value)?,
+            None => return Ok(None),
+        }
+    }
+    Ok(Some(Sequence::of(values)))
+}
+
+/// Rows and columns, or `None` where a word says no count. Linear in the words.
+pub fn size_of(size: &Size<'_>) -> Option<(u64, u64)>
+    ensures { MatchOption result (is_numbered_size size.now ≡ false)
+        (λ p. (is_numbered_size size.now ≡ true)
+        × (p.0 ≡ rows_of size.now) × (p.1 ≡ cols_of size.now)) }
+{
+    match size {
+        Size::Vector(n) => Some((1, count_of(n.bytes())?)),
+        Size::Matrix(r, c) => Some((count_of(r.bytes())?, count_of(c.bytes())?)),
+    }
+}
+
+/// The first elements, or `None` where a word says no integer. Linear in the words.
+pub fn init_of(alloc: Global, init: &InitForm<'_>) -> Result<Option<Init>, OutOfMemory>
+    ensures { IfOk result (λ r. MatchOption r (is_numbered_init init.now ≡ false)
+        (λ said. (is_numbered_init init.now ≡ true) × (said ≡ init_said init.now))) }
+{
+    match init {
+        InitForm::Values(values) => Ok(integers(alloc, values.items())?.map(Init::Values)),
+        InitForm::Fill(a, b) => Ok(fill_of(a, b)),
+        InitForm::Nothing => Ok(Some(Init::Nothing)),
+    }
+}
+
+fn fill_of(a: &Piece<'_>, b: &Piece<'_>) -> Option<Init>
+    ensures { MatchOption result (is_numbered_init (InitForm.Fill a.now b.now) ≡ false)
+        (λ said. (is_numbered_init (InitForm.Fill a.now b.now) ≡ true)
+        × (said ≡ init_said (InitForm.Fill a.now b.now))) }
+{
+    Some(Init::Fill(integer_of(a.bytes())?, integer_of(b.bytes())?))
+}
+
+/// The priority, 0 where there is none; `None` where the word says no integer. Linear in the word.
+pub fn priority_of(priority: &Option<Piece<'_>>) -> Option<i64>
+    ensures { MatchOption result (is_numbered_priority priority.now ≡ false)
+        (λ p. (is_numbered_priority priority.now ≡ true) × (p ≡ priority_said priority.now)) }
+{
+    match priority {
+        Some(word) => integer_of(word.bytes()),
+        None => Some(0),
+    }
+}

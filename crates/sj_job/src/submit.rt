@@ -1,0 +1,228 @@
+//! What a form does to the names, and what is kept of it.
+
+ghost use Rattle.std.specs.Prelude.{◌≡◌, ◌+◌, ◌<◌, ◌^◌, ◌&&◌, Bool, false, IfOk, IfErr, is_none};
+ghost use Rattle.sj_codelet.specs.declared.kernel.Kernel.{Kernel};
+ghost use Rattle.std.specs.List.{list_all};
+ghost use Rattle.sj_job.specs.Judge.{is_begun};
+ghost use Rattle.sj_job.specs.Names.{IsCounted, scope_in};
+ghost use Rattle.sj_job.specs.Reason.{Objects};
+ghost use Rattle.sj_job.specs.Sentence.{is_misplaced, is_built_mode, is_setting, kind_of, are_counts};
+ghost use Rattle.sj_job.specs.Submits.{done_in, unbuilt, Submits};
+
+use crate::form::{ArrayForm, Form, OperandForm, Piece, Size, TaskForm};
+use crate::job::{Act, Kind, RootInfo};
+use crate::judge::{judge_task, named_root, printed_root, register_complaint};
+use crate::names::Names;
+use crate::number::{are_counts, init_of, integers, is_count, priority_of, size_of};
+use crate::reason::{Objection, Reason};
+use sj_base::mode::Mode;
+use sj_base::tile::Dims;
+use sj_codelet::set::Codelets;
+use std::alloc::Global;
+
+fn is_built_mode(mode: Mode) -> bool
+    ensures { result ≡ is_built_mode mode }
+{
+    match mode {
+        Mode::R | Mode::W | Mode::RW | Mode::Scratch => true,
+        Mode::Redux | Mode::Commute => false,
+    }
+}
+
+fn are_built(operands: &[OperandForm<'_>]) -> bool
+    ensures { result ≡ list_all (λ o. is_none o.child && is_built_mode o.mode) operands.now }
+{
+    operands
+        .iter()
+        .all(|o| o.child.is_none() && is_built_mode(o.mode))
+}
+
+fn have_counted_children(operands: &[OperandForm<'_>]) -> bool
+    ensures { result ≡ list_all (λ o. are_counts o.child) operands.now }
+{
+    operands.iter().all(|o| are_counts(&o.child))
+}
+
+fn is_setting(form: &Form<'_>) -> bool
+    ensures { result ≡ is_setting form.now }
+{
+    match form {
+        Form::Workers(_) | Form::Node(_) | Form::Policy(_) => true,
+        _ => false,
+    }
+}
+
+fn kind_of(size: &Size<'_>) -> Kind
+    ensures { result ≡ kind_of size.now }
+{
+    match size {
+        Size::Vector(_) => Kind::Vector,
+        Size::Matrix(_, _) => Kind::Matrix,
+    }
+}
+
+/// Registers a root. Linear in the words.
+fn submit_array(alloc: Global, names: &mut Names, array: &ArrayForm<'_>) -> Result<Act, Objection>
+    requires counted { IsCounted names.old }
+    requires room { names.old.statements + 1 < 2 ^ 64 }
+    ensures ok { IfOk result (λ a. (has : Kernel → Bool) →
+        Submits has names.old (Form.Register array.now) names.new a) }
+    ensures err { IfErr result (λ e. (has : Kernel → Bool) →
+        Objects e (done_in has (scope_in names.old) (Form.Register array.now))) }
+{
+    let Some((rows, cols)) = size_of(&array.size) else {
+        return Err(Objection::Bad(Reason::Number));
+    };
+    if !are_counts(&array.parts) {
+        return Err(Objection::Bad(Reason::Number));
+    }
+    let Some(init) = init_of(alloc, &array.init)? else {
+        return Err(Objection::Bad(Reason::Number));
+    };
+    if array.parts.is_some() {
+        return Err(Objection::Bad(Reason::NotBuilt));
+    }
+    let name = array.name.bytes();
+    if let Some(why) = register_complaint(names, name, rows, cols, &init) {
+        return Err(Objection::Bad(why));
+    }
+    let dims = Dims {
+        rows: rows as u32,
+        cols: cols as u32,
+    };
+    let kind = kind_of(&array.size);
+    names.register(alloc, name, RootInfo { kind, dims }, &init)?;
+    Ok(Act::Register(init))
+}
+
+/// Submits a task. Linear in the words.
+fn submit_task<C: Codelets>(
+    alloc: Global,
+    names: &mut Names,
+    task: &TaskForm<'_>,
+    codelets: &C,
+) -> Result<Act, Objection>
+    requires counted { IsCounted names.old }
+    requires room { names.old.statements + 1 < 2 ^ 64 }
+    ensures ok { IfOk result (λ a. Submits C.has names.old (Form.Task task.now) names.new a) }
+    ensures err { IfErr result (λ e. Objects e (done_in C.has (scope_in names.old) (Form.Task task.now))) }
+{
+    let Some(args) = integers(alloc, task.args.items())? else {
+        return Err(Objection::Bad(Reason::Number));
+    };
+    if !have_counted_children(task.operands.items()) {
+        return Err(Objection::Bad(Reason::Number));
+    }
+    let Some(priority) = priority_of(&task.priority) else {
+        return Err(Objection::Bad(Reason::Number));
+    };
+    if !are_built(task.operands.items()) {
+        return Err(Objection::Bad(Reason::NotBuilt));
+    }
+    let task = judge_task(alloc, names, task, args, priority, codelets)?;
+    names.run(&task);
+    Ok(Act::Task(task))
+}
+
+/// Submits a print statement. Linear in the name, as are the next two.
+fn submit_print(names: &mut Names, name: &Piece<'_>) -> Result<Act, Objection>
+    requires counted { IsCounted names.old }
+    requires room { names.old.statements + 1 < 2 ^ 64 }
+    ensures ok { IfOk result (λ a. (has : Kernel → Bool) → Submits has names.old (Form.Print name.now) names.new a) }
+    ensures err { IfErr result (λ e. (has : Kernel → Bool) →
+        Objects e (done_in has (scope_in names.old) (Form.Print name.now))) }
+{
+    match printed_root(names, name.bytes()) {
+        Ok(found) => {
+            names.print();
+            Ok(Act::Print(found.root))
+        }
+        Err(why) => Err(Objection::Bad(why)),
+    }
+}
+
+fn submit_invalidation(names: &mut Names, name: &Piece<'_>) -> Result<Act, Objection>
+    requires counted { IsCounted names.old }
+    requires room { names.old.statements + 1 < 2 ^ 64 }
+    ensures ok { IfOk result (λ a. (has : Kernel → Bool) → Submits has names.old (Form.Invalidate name.now) names.new a) }
+    ensures err { IfErr result (λ e. (has : Kernel → Bool) →
+        Objects e (done_in has (scope_in names.old) (Form.Invalidate name.now))) }
+{
+    match named_root(names, name.bytes()) {
+        Ok(found) => {
+            names.invalidate(found.root);
+            Ok(Act::Invalidate(found.root))
+        }
+        Err(why) => Err(Objection::Bad(why)),
+    }
+}
+
+fn submit_ending(names: &mut Names, name: &Piece<'_>) -> Result<Act, Objection>
+    requires counted { IsCounted names.old }
+    requires room { names.old.statements + 1 < 2 ^ 64 }
+    ensures ok { IfOk result (λ a. (has : Kernel → Bool) → Submits has names.old (Form.Unregister name.now) names.new a) }
+    ensures err { IfErr result (λ e. (has : Kernel → Bool) →
+        Objects e (done_in has (scope_in names.old) (Form.Unregister name.now))) }
+{
+    match named_root(names, name.bytes()) {
+        Ok(found) => {
+            names.unregister(found.root);
+            Ok(Act::Unregister(found.root))
+        }
+        Err(why) => Err(Objection::Bad(why)),
+    }
+}
+
+/// Why a form that this version doesn't read is refused.
+fn unbuilt(numbered: bool) -> Objection
+    ensures { result ≡ unbuilt numbered }
+{
+    if numbered {
+        Objection::Bad(Reason::NotBuilt)
+    } else {
+        Objection::Bad(Reason::Number)
+    }
+}
+
+/// Does what a form in its place says. Linear in its words.
+fn submit_placed<C: Codelets>(
+    alloc: Global,
+    names: &mut Names,
+    form: &Form<'_>,
+    codelets: &C,
+) -> Result<Act, Objection>
+    requires counted { IsCounted names.old }
+    requires room { names.old.statements + 1 < 2 ^ 64 }
+    requires placed { is_misplaced (is_begun (scope_in names.old)) form.now ≡ false }
+    ensures ok { IfOk result (λ a. Submits C.has names.old form.now names.new a) }
+    ensures err { IfErr result (λ e. Objects e (done_in C.has (scope_in names.old) form.now)) }
+{
+    match form {
+        Form::Workers(n) | Form::Node(n) => Err(unbuilt(is_count(n.bytes()))),
+        Form::Plan(_, r, c) => Err(unbuilt(is_count(r.bytes()) && is_count(c.bytes()))),
+        Form::Policy(_) | Form::Redux(_, _) => Err(Objection::Bad(Reason::NotBuilt)),
+        Form::Register(array) => submit_array(alloc, names, array),
+        Form::Task(task) => submit_task(alloc, names, task, codelets),
+        Form::Print(name) => submit_print(names, name),
+        Form::Invalidate(name) => submit_invalidation(names, name),
+        Form::Unregister(name) => submit_ending(names, name),
+    }
+}
+
+/// Does what a form says, or says why not: settings stand before the statements. Linear in its words.
+pub fn submit<C: Codelets>(
+    alloc: Global,
+    names: &mut Names,
+    form: &Form<'_>,
+    codelets: &C,
+) -> Result<Act, Objection>
+    requires counted { IsCounted names.old }
+    requires room { names.old.statements + 1 < 2 ^ 64 }
+    ensures ok { IfOk result (λ a. Submits C.has names.old form.now names.new a) }
+    ensures err { IfErr result (λ e. Objects e (done_in C.has (scope_in names.old) form.now)) }
+{
+    if is_setting(form) && names.statements > 0 {
+        return Err(Objection::Bad(Reason::Word));
+    }
+    submit_placed(alloc, names, form, codelets)
+}

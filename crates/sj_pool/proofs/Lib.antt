@@ -1,0 +1,4 @@
+pub mod Keeping
+pub mod Queues
+pub mod Serving
+pub mod Urgency

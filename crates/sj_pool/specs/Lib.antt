@@ -1,0 +1,5 @@
+pub mod Entry
+pub mod Fork
+pub mod Pool
+pub mod Queue
+pub mod Root

@@ -1,0 +1,9 @@
+//! The pool of ready tasks: which of them a worker takes next, under each scheduling policy
+//! (StarPU Handbook, "Scheduling Policies": `eager`, `prio` and `ws`).
+#![tactic(auto)]
+
+pub mod entry;
+pub mod pool;
+#[cfg(test)]
+mod tests;
+mod tree;

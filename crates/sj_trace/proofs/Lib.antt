@@ -1,0 +1,6 @@
+mod Numbers
+mod Dividing
+mod Telling
+mod Joining
+mod Progress
+mod Differing

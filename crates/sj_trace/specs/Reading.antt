@@ -1,0 +1,69 @@
+-- Reading the text of a trace: the words of a line, and the event whose line it is.
+use Rattle.std.specs.Prelude.{◌≡◌, ◌≢◌, ◌+◌, ◌<◌, ◌^◌, ℕ, List, ◌∷◌, ◌++◌, ◌==◌, Option, Some, None, map, length}
+use Rattle.std.specs.List.{All, slice_split}
+use Rattle.sj_base.specs.declared.ids.Cell.{Cell}
+use Rattle.sj_base.specs.declared.ids.Node.{Node}
+use Rattle.sj_base.specs.declared.ids.Task.{Task}
+use Rattle.sj_base.specs.declared.ids.Worker.{Worker}
+use Rattle.sj_base.specs.declared.ids.Place.{Place}
+use Rattle.sj_base.specs.declared.ids.Place.TheVariants.{Node as AtNode, Disk as OnDisk}
+use Rattle.sj_base.specs.declared.trace.Event.{Event}
+use Rattle.sj_base.specs.declared.trace.Event.TheVariants.{Claim, Move, Moved, Drop, Run, End}
+use Rattle.sj_trace.specs.declared.read.TraceRefusal.{TraceRefusal}
+use Rattle.sj_trace.specs.declared.read.TraceRefusal.TheVariants.{BadLine, OutOfMemory}
+use Rattle.sj_trace.specs.Text.{whole_lines, line_of, text_of}
+
+-- what stands between the spaces
+abbrev pub between_spaces : List ℕ → List (List ℕ)
+between_spaces = slice_split (λ b. b == 32)
+
+-- a value whose numbers fit and that is written so; none where there is no such value
+abbrev pub IsReadFrom : {A B : Type 0} → (A → Type 0) → (A → B) → B → Option A → Type 0
+IsReadFrom {A} Fits write text None = (a : A) → Fits a → write a ≢ text
+IsReadFrom Fits write text (Some a) = Fits a × (write a ≡ text)
+
+-- a place's number is in its type
+abbrev pub PlaceFits : Place → Type 0
+PlaceFits (AtNode n) = n.0 < 2 ^ 8
+PlaceFits (OnDisk d) = d.0 < 2 ^ 8
+
+-- the numbers of a task and its worker
+abbrev pub TaskFits : Task × Worker → Type 0
+TaskFits (t, w) = (t.0 < 2 ^ 32) × (w.0 < 2 ^ 8)
+
+-- the numbers of a cell and two places
+abbrev pub TransferFits : Cell × Place × Place → Type 0
+TransferFits (c, from, to) = (c.0 < 2 ^ 32) × PlaceFits from × PlaceFits to
+
+-- the numbers of a cell and a node
+abbrev pub DropFits : Cell × Node → Type 0
+DropFits (c, n) = (c.0 < 2 ^ 32) × (n.0 < 2 ^ 8)
+
+-- all numbers of an event are in their types
+abbrev pub EventFits : Event → Type 0
+EventFits (Claim t w) = TaskFits (t, w)
+EventFits (Move c from to) = TransferFits (c, from, to)
+EventFits (Moved c from to) = TransferFits (c, from, to)
+EventFits (Drop c n) = DropFits (c, n)
+EventFits (Run t w) = TaskFits (t, w)
+EventFits (End t w) = TaskFits (t, w)
+
+-- a text is that of these events, whose numbers are in their types
+pub record IsTextOf (text : List ℕ) (events : List Event) : Type 0 where
+  pub fit : All EventFits events
+  pub written : text_of events ≡ text
+
+-- the first line of a text that no event is written as, by its number from 1
+pub record IsFirstBadLine (text : List ℕ) (number : ℕ) : Type 0 where
+  pub before : List Event
+  pub line : List ℕ
+  pub behind : List (List ℕ)
+  pub fit : All EventFits before
+  pub divides : whole_lines text ≡ map line_of before ++ line ∷ behind
+  pub counts : number ≡ length before + 1
+  pub bad : (e : Event) → EventFits e → line_of e ≢ line
+
+-- a text is refused at its first bad line, or memory ran out
+abbrev pub IsRefusal : TraceRefusal → List ℕ → Type 0
+IsRefusal OutOfMemory text = Unit {0}
+IsRefusal (BadLine line) text = IsFirstBadLine text line.0
