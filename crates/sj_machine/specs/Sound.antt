@@ -1,0 +1,70 @@
+-- What is true of every run between two calls.
+use Rattle.std.specs.Prelude.{◌≡◌, ◌≤◌, ℕ, Option, true, Some, IsTrue, IfSome, IsSomeAnd, List, slice_get, option_and_then}
+use Rattle.sj_base.specs.declared.ids.Cell.{Cell}
+use Rattle.sj_base.specs.declared.ids.DiskNo.{DiskNo}
+use Rattle.sj_base.specs.declared.ids.Place.TheVariants.{Disk as OnDisk}
+use Rattle.sj_base.specs.declared.program.Program.{Program}
+use Rattle.sj_base.specs.declared.program.Machine.{Machine}
+use Rattle.sj_base.specs.Array.{area}
+use Rattle.sj_core.specs.Coherent.{Coherent}
+use Rattle.sj_core.specs.Laws.{HasPlainModes}
+use Rattle.sj_core.specs.Legal.{Replays}
+use Rattle.sj_core.specs.Machine.{State, is_valid, replica, writes}
+use Rattle.sj_core.specs.Needs.{Block, place}
+use Rattle.sj_core.specs.Program.{dims_of}
+use Rattle.sj_core.specs.Proper.{HasSwapFor, IsMachineFor, Proper}
+use Rattle.sj_core.specs.Step.{array_at}
+use Rattle.sj_edge.specs.GivenBack.{AreGivenBack}
+use Rattle.sj_disk.specs.declared.directory.Extent.{Extent}
+use Rattle.sj_disk.specs.Block.{block}
+use Rattle.sj_disk.specs.Directory.{DiskState, extent_of, last_store}
+use Rattle.sj_disk.specs.Holding.{Holds}
+use Rattle.sj_machine.specs.Agrees.{Agrees, Rows, owed_in}
+use Rattle.sj_machine.specs.Standing.{AllTell, Standing, state}
+
+-- ---- the disks
+
+-- the block that the cell gets on the machine's disks
+abbrev pub block_of : Program → Machine → Cell → Option Block
+block_of p m c = option_and_then (λ blocks. slice_get blocks c.0) (place p m.disks)
+
+-- the extent is that block, of the cell's elements
+pub record IsBlock (p : Program) (c : Cell) (b : Block) (e : Extent) : Type 0 where
+  pub disk : e.disk ≡ b.disk
+  pub position : e.position ≡ b.position
+  pub whole : e.length ≡ area (dims_of p c)
+
+-- each cell has its block, and where its replica on a disk is valid the last store ended well with the cell's write count;
+-- what the block holds is said where all disks tell
+pub record HoldsBlocks {D : Type 0} (held : D → Option (List ℕ)) (p : Program) (m : Machine) (s : State) (Tells : Type 0) (disks : DiskState D) : Type 0 where
+  pub placed : (c : Cell) → IfSome (block_of p m c) (λ b. IsSomeAnd (extent_of disks.directory c.0) (IsBlock p c b))
+  pub stored :
+      (c : Cell) (d : DiskNo) → IsTrue (is_valid (replica s c (OnDisk d)))
+      → IsSomeAnd (extent_of disks.directory c.0) (λ e. e.last_store ≡ Some (last_store (writes s c) true))
+  pub blocks :
+      Tells → (c : Cell) (d : DiskNo) → IsTrue (is_valid (replica s c (OnDisk d)))
+      → IsSomeAnd (extent_of disks.directory c.0) (λ e. Holds held disks.disks e (block c.0 (writes s c) (array_at p s (OnDisk d) c).elements))
+
+-- ---- all of it
+
+-- the program is proper and plain, and the machine is one for it, with room for its blocks
+pub record IsRunOf (p : Program) (m : Machine) : Type 0 where
+  pub proper : Proper p
+  pub plain : HasPlainModes p
+  pub machine : IsMachineFor p m
+  pub swap : HasSwapFor p m
+
+-- the trace is legal and its state coherent, the disks hold their blocks, and came back from each call
+pub record IsSoundRun {D : Type 0} (size faults mismatches : D → ℕ) (held : D → Option (List ℕ)) (b : Standing D) : Type 0 where
+  pub run : IsRunOf b.program b.machine
+  pub legal : Replays b.program b.machine b.trace (state b)
+  pub coherent : Coherent b.program b.machine (state b)
+  pub blocks : HoldsBlocks held b.program b.machine (state b) (AllTell held b) b.disks
+  pub given_back : AreGivenBack size faults mismatches held b.opened b.disks.disks
+
+-- the run is sound, the rows agree with its state, and the trace has room for the events that are owed
+pub record Keeps {D : Type 0} (size faults mismatches : D → ℕ) (held : D → Option (List ℕ)) (b : Standing D) (rows : Rows) (owed spare : ℕ) : Type 0 where
+  pub sound : IsSoundRun size faults mismatches held b
+  pub agrees : Agrees b.program b.machine (state b) (AllTell held b) rows
+  pub owes : owed_in rows ≤ owed
+  pub room : owed ≤ spare

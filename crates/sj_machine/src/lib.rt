@@ -1,0 +1,9 @@
+//! The state of a run on its machine: how far each task is, where each cell has copies, what each node and each worker
+//! holds, and the trace of events. Each call that is an event is one legal step of the machine.
+#![tactic(auto)]
+
+pub mod copies;
+pub mod delivered;
+pub mod hold;
+pub mod mark;
+pub mod run_state;

@@ -1,0 +1,129 @@
+//! The state of a run, and the events that change it.
+
+ghost use Rattle.std.specs.Prelude.{◌≡◌, ◌<◌, IfOk, OnErr, OnOk, None, length};
+ghost use Rattle.sj_base.specs.declared.ids.Place.TheVariants.{Node as AtNode};
+ghost use Rattle.sj_core.specs.Step.{mover_of};
+ghost use Rattle.sj_machine.specs.Agrees.{with_transfer_of};
+ghost use Rattle.sj_machine.specs.Copies.{CanShare, row_of, tile_kept, with_copy, with_row};
+ghost use Rattle.sj_machine.specs.Standing.{CanHappen, IsShareOf, state, with_event};
+ghost use Rattle.sj_machine.specs.Tiles.{array_in};
+
+use crate::copies::Copies;
+use crate::delivered::Delivered;
+use crate::hold::Hold;
+use crate::mark::Mark;
+use sj_base::ids::{Cell, Node, Place, Worker};
+use sj_base::memory::OutOfMemory;
+use sj_base::program::{Machine, Program};
+use sj_base::tile::Tile;
+use sj_base::trace::{Event, Trace};
+use sj_core::progress::{Progress, Transfer};
+use sj_disk::disk_set::DiskSet;
+use sj_edge::disk::Disk;
+use sj_node::store::NodeStore;
+use std::marker::Model;
+use std::snapshot::Snapshot;
+use std::sync::Arc;
+
+/// How far a run is, on its machine.
+#[derive(Drop)]
+pub struct RunState<D: Disk> {
+    program: Arc<Program>,
+    machine: Machine,
+    tasks: Vec<Progress>,
+    cells: Vec<Copies>,
+    nodes: Vec<NodeStore>,
+    workers: Vec<Hold>,
+    disks: DiskSet<D>,
+    /// The disks as they were when the run was made.
+    opened: Snapshot<DiskSet<D>>,
+    trace: Trace,
+    /// For how many events the trace has room whatever comes: one for each copy that leaves, each transfer, and each
+    /// claimed or running task.
+    owed: u64,
+    delivered: Delivered,
+}
+
+impl<D: Disk> Model for RunState<D> {
+    ghost use Rattle.sj_machine.specs.Agrees.{rows_of};
+    ghost use Rattle.sj_machine.specs.Sound.{Keeps};
+    ghost use Rattle.sj_machine.specs.Standing.{Standing, standing};
+
+    ghost Value = { Standing D };
+
+    ghost view = { λ b. standing b.program.value b.machine b.trace b.delivered b.disks b.opened.value };
+
+    ghost invariant = { λ b. Keeps D.size D.faults D.mismatches D.held
+        (standing b.program.value b.machine b.trace b.delivered b.disks b.opened.value)
+        (rows_of b.tasks.items b.cells.items b.nodes.items b.workers.items) b.owed b.trace.spare };
+}
+
+/// The copy of a cell at a node goes. Constant time.
+fn clear(cells: &mut Vec<Copies>, cell: Cell, n: Node)
+    requires cell { cell.0 < length cells.old.items }
+    requires node { n.0 < length (row_of cells.old.items cell).marks }
+    ensures { cells.new.items ≡ with_row cells.old.items cell (λ row. with_copy row n Mark.Invalid None) }
+{
+    let row = &mut cells[cell.0 as usize];
+    row.put(n, Mark::Invalid, None);
+}
+
+/// A share of the tile that is kept of a cell at a node; none of its block on a disk. Constant time.
+fn share_of(cells: &[Copies], cell: Cell, place: Place) -> Result<Option<Arc<Tile>>, OutOfMemory>
+    requires { CanShare cells.now cell place }
+    ensures { IfOk result (λ share. array_in share ≡ tile_kept cells.now cell place) }
+{
+    match place {
+        Place::Node(n) => Ok(Some(cells[cell.0 as usize].share(n)?)),
+        Place::Disk(_) => Ok(None),
+    }
+}
+
+/// A worker begins a transfer, or ends it. Constant time.
+fn set_transfer(workers: &mut Vec<Hold>, w: Worker, transfer: Option<Transfer>)
+    requires { w.0 < length workers.old.items }
+    ensures { workers.new.items ≡ with_transfer_of workers.old.items w transfer }
+{
+    let row = &mut workers[w.0 as usize];
+    row.set_transfer(transfer);
+}
+
+impl<D: Disk> RunState<D> {
+    /// A leaving copy goes from its node, since another is valid and no transfer reads it. Constant time, and no memory.
+    pub fn drop_copy(&mut self, cell: Cell, n: Node)
+        requires { CanHappen self.old (Event.Drop cell n) }
+        ensures { self.new ≡ with_event self.old (Event.Drop cell n) }
+    {
+        clear(&mut self.cells, cell, n);
+        self.owed -= 1;
+        self.trace.add(Event::Drop(cell, n));
+    }
+
+    /// A worker begins a move of a cell: one that its claim brings, or a victim of its claim. Hands out a share of the tile
+    /// at the source, where that is a node. After an `Err` the run is as before. Constant time, but for moving the trace
+    /// as it grows.
+    pub fn begin_move(
+        &mut self,
+        w: Worker,
+        cell: Cell,
+        from: Place,
+        to: Place,
+    ) -> Result<Option<Arc<Tile>>, OutOfMemory>
+        requires can { CanHappen self.old (Event.Move cell from to) }
+        requires mover { mover_of (state self.old) cell from to ≡ w }
+        ensures ok { OnOk result (self.new ≡ with_event self.old (Event.Move cell from to)) }
+        ensures share { IfOk result (λ share. IsShareOf D.held self.old cell from
+            (array_in share)) }
+        ensures err { OnErr result (self.new ≡ self.old) }
+    {
+        let share = share_of(&self.cells, cell, from)?;
+        let Some(room) = self.owed.checked_add(2) else {
+            return Err(OutOfMemory);
+        };
+        self.trace.reserve(room)?;
+        set_transfer(&mut self.workers, w, Some(Transfer { cell, from, to }));
+        self.owed += 1;
+        self.trace.add(Event::Move(cell, from, to));
+        Ok(share)
+    }
+}
