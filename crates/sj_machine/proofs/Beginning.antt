@@ -105,8 +105,8 @@ module _ {D : Type 0} (size faults mismatches : D → ℕ) (held : D → Option 
             keeps.agrees.tiles.there c n r.1 ∙ r.0,
           )
 
-  pub begin-share : IsShareOf held b c from (tile_kept rows.cells c from)
-  begin-share = by_source from (λ n at. begins.read n at)
+  share-kept : IsShareOf held b c from (tile_kept rows.cells c from)
+  share-kept = by_source from (λ n at. begins.read n at)
     where
       by_source : (q : Place) → ((n : Node) → q ≡ AtNode n → (is_valid (replica s c (AtNode n)) ≡ true) × (is_being_written p s c ≡ false)) → IsShareOf held b c q (tile_kept rows.cells c q)
       by_source (OnDisk d) read = refl
@@ -118,6 +118,9 @@ module _ {D : Type 0} (size faults mismatches : D → ℕ) (held : D → Option 
           by_tile : (o : Option Array) → is_some o ≡ true → IfSome o (λ a. a.dims ≡ dims_of p c) → (AllTell held b → IfSome o (λ a. array_of (replica s c (AtNode n)) ≡ Some a)) → IsSomeAnd o (IsTileOf held b c (AtNode n))
           by_tile None there dims arrays = absurd (false≢true there)
           by_tile (Some a) there dims arrays = record { dims = dims; array = λ tells. sym (ap (λ (o : Option Array). unwrap_or o (zeros (dims_of p c))) (arrays tells)) }
+
+  pub begin-share : (b' : Standing D) (share : Option Array) → b ≡ b' → share ≡ tile_kept rows.cells c from → IsShareOf held b' c from share
+  begin-share b' share same is = subst (λ (x : Standing D). IsShareOf held x c from share) same (subst (λ (o : Option Array). IsShareOf held b c from o) (sym is) share-kept)
 
   abbrev after_begin : Rows
   after_begin = rows_of rows.tasks rows.cells rows.nodes (new_workers p m s w begun rows.workers)

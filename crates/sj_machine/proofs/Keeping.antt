@@ -1,6 +1,7 @@
 -- What one legal event more leaves: a legal trace, a coherent state, and blocks that stay.
 use Rattle.std.proofs.Common.{◌≡◌, ◌≤◌, ℕ, Bool, true, List, [], ◌∷◌, ◌++◌, Option, Some, None, sym, ap, ◌∙◌, subst}
 use Rattle.std.specs.Prelude.{IsSomeAnd, unwrap_or}
+use Rattle.sj_base.specs.Recorded.{Recorded}
 use Rattle.sj_base.specs.declared.trace.Event.{Event}
 use Rattle.sj_core.proofs.Words.{AtNode, Cell, DiskNo, Machine, OnDisk, Program, Replica, State, array_of, dims_of, is_valid, replica, writes}
 use Rattle.sj_base.specs.Array.{Array, zeros}
@@ -24,8 +25,8 @@ HoldsBlocks-kept held p m s s' Tells disks kept had = record {
   placed = had.placed;
   stored = λ c d valid. (let k = kept c d valid in subst (λ (n : ℕ). IsSomeAnd (extent_of disks.directory c.0) (λ e. e.last_store ≡ Some (last_store n true))) (sym k.1) (had.stored c d (sym (ap is_valid k.0) ∙ valid)));
   blocks = λ tells c d valid. (let k = kept c d valid in
-    subst (λ (n : ℕ). IsSomeAnd (extent_of disks.directory c.0) (λ e. Holds held disks.disks e (block c.0 n (array_at p s' (OnDisk d) c).elements))) (sym k.1)
-    (subst (λ (r : Replica). IsSomeAnd (extent_of disks.directory c.0) (λ e. Holds held disks.disks e (block c.0 (writes s c) (unwrap_or (array_of r) (zeros (dims_of p c))).elements))) (sym k.0) (had.blocks tells c d (sym (ap is_valid k.0) ∙ valid))));
+      subst (λ (n : ℕ). IsSomeAnd (extent_of disks.directory c.0) (λ e. Holds held disks.disks e (block c.0 n (array_at p s' (OnDisk d) c).elements))) (sym k.1)
+      (subst (λ (r : Replica). IsSomeAnd (extent_of disks.directory c.0) (λ e. Holds held disks.disks e (block c.0 (writes s c) (unwrap_or (array_of r) (zeros (dims_of p c))).elements))) (sym k.0) (had.blocks tells c d (sym (ap is_valid k.0) ∙ valid))));
 }
 
 module _ {D : Type 0} (size faults mismatches : D → ℕ) (held : D → Option (List ℕ)) (b : Standing D) (rows : Rows) (owed spare : ℕ) (keeps : Keeps size faults mismatches held b rows owed spare) where
@@ -55,3 +56,9 @@ module _ {D : Type 0} (size faults mismatches : D → ℕ) (held : D → Option 
         owes = owes;
         room = fits;
       }
+
+-- as the code leaves it: the trace has the event, and the rows are these
+pub keeps-told : {D : Type 0} (size faults mismatches : D → ℕ) (held : D → Option (List ℕ)) (b : Standing D) (e : Event) (rows rows' : Rows) (owed : ℕ) (trace' : Recorded) → trace'.events ≡ b.trace ++ e ∷ [] → rows' ≡ rows → Keeps size faults mismatches held (with_event b e) rows owed trace'.spare → Keeps size faults mismatches held (record b { trace = trace'.events }) rows' owed trace'.spare
+keeps-told size faults mismatches held b e rows rows' owed trace' told is keeps =
+    subst (λ (r : Rows). Keeps size faults mismatches held (record b { trace = trace'.events }) r owed trace'.spare) (sym is)
+    (subst (λ (es : List Event). Keeps size faults mismatches held (record b { trace = es }) rows owed trace'.spare) (sym told) keeps)

@@ -59,13 +59,13 @@ module _ (rows : List Copies) (c : Cell) (n : Node) (x : Mark) (tile : Option Ar
       elim (cells_differ d c) [
         | inr other ↦ There (λ both. other both.0) (ap (λ (row : Copies). mark_at row k) (row-other rows c d change other)) (ap (λ (row : Copies). tile_at row k) (row-other rows c d change other))
         | inl e ↦ (
-          let row : row_of new d ≡ change (row_of rows c) = ap (row_of new) e ∙ row-same rows c change inside in
-          let back : row_of rows c ≡ row_of rows d = ap (row_of rows) (sym e) in
-          elim (same_node k n) [
-            | inl at ↦ Here e at (ap (λ (r : Copies). mark_at r k) row ∙ ap (mark_at (change (row_of rows c))) at ∙ get_or-set_same (row_of rows c).marks n.0 x Invalid marks) (ap (λ (r : Copies). tile_at r k) row ∙ ap (tile_at (change (row_of rows c))) at ∙ get_or-set_same (row_of rows c).tiles n.0 tile None tiles)
-            | inr far ↦ There (λ both. far both.1) (ap (λ (r : Copies). mark_at r k) row ∙ get_or-set_other (row_of rows c).marks n.0 k.0 x Invalid (node_number n k far) ∙ ap (λ (r : Copies). mark_at r k) back) (ap (λ (r : Copies). tile_at r k) row ∙ get_or-set_other (row_of rows c).tiles n.0 k.0 tile None (node_number n k far) ∙ ap (λ (r : Copies). tile_at r k) back)
-          ]
-        )
+            let row : row_of new d ≡ change (row_of rows c) = ap (row_of new) e ∙ row-same rows c change inside in
+            let back : row_of rows c ≡ row_of rows d = ap (row_of rows) (sym e) in
+            elim (same_node k n) [
+              | inl at ↦ Here e at (ap (λ (r : Copies). mark_at r k) row ∙ ap (mark_at (change (row_of rows c))) at ∙ get_or-set_same (row_of rows c).marks n.0 x Invalid marks) (ap (λ (r : Copies). tile_at r k) row ∙ ap (tile_at (change (row_of rows c))) at ∙ get_or-set_same (row_of rows c).tiles n.0 tile None tiles)
+              | inr far ↦ There (λ both. far both.1) (ap (λ (r : Copies). mark_at r k) row ∙ get_or-set_other (row_of rows c).marks n.0 k.0 x Invalid (node_number n k far) ∙ ap (λ (r : Copies). mark_at r k) back) (ap (λ (r : Copies). tile_at r k) row ∙ get_or-set_other (row_of rows c).tiles n.0 k.0 tile None (node_number n k far) ∙ ap (λ (r : Copies). tile_at r k) back)
+            ]
+            )
       ]
 
   -- what is owed for copies
