@@ -1,7 +1,9 @@
 -- What is true of every run between two calls.
-use Rattle.std.specs.Prelude.{◌≡◌, ◌≤◌, ℕ, Option, true, Some, IsTrue, IfSome, IsSomeAnd, List, slice_get, option_and_then}
+use Rattle.std.specs.Prelude.{◌≡◌, ◌≤◌, ℕ, All, FitsSigned, length, Option, true, Some, IsTrue, IfSome, IsSomeAnd, List, slice_get, option_and_then}
+use Rattle.std.specs.Int.{w64}
 use Rattle.sj_base.specs.declared.ids.Cell.{Cell}
 use Rattle.sj_base.specs.declared.ids.DiskNo.{DiskNo}
+use Rattle.sj_base.specs.declared.ids.Place.{Place}
 use Rattle.sj_base.specs.declared.ids.Place.TheVariants.{Disk as OnDisk}
 use Rattle.sj_base.specs.declared.program.Program.{Program}
 use Rattle.sj_base.specs.declared.program.Machine.{Machine}
@@ -34,16 +36,25 @@ pub record IsBlock (p : Program) (c : Cell) (b : Block) (e : Extent) : Type 0 wh
   pub position : e.position ≡ b.position
   pub whole : e.length ≡ area (dims_of p c)
 
+-- where all disks tell: the block holds the cell's array at the disk, with its dimensions, in 64 bits each
+pub record HoldsArray {D : Type 0} (held : D → Option (List ℕ)) (disks : List D) (p : Program) (s : State) (c : Cell) (q : Place) (e : Extent) : Type 0 where
+  pub dims : (array_at p s q c).dims ≡ dims_of p c
+  pub whole : length (array_at p s q c).elements ≡ e.length
+  pub fits : All (FitsSigned w64) (array_at p s q c).elements
+  pub told : Holds held disks e (block c.0 (writes s c) (array_at p s q c).elements)
+
+-- the last store of the cell ended well, with the cell's write count
+pub record IsStored (s : State) (c : Cell) (e : Extent) : Type 0 where
+  pub last : e.last_store ≡ Some (last_store (writes s c) true)
+
 -- each cell has its block, and where its replica on a disk is valid the last store ended well with the cell's write count;
 -- what the block holds is said where all disks tell
 pub record HoldsBlocks {D : Type 0} (held : D → Option (List ℕ)) (p : Program) (m : Machine) (s : State) (Tells : Type 0) (disks : DiskState D) : Type 0 where
   pub placed : (c : Cell) → IfSome (block_of p m c) (λ b. IsSomeAnd (extent_of disks.directory c.0) (IsBlock p c b))
-  pub stored :
-      (c : Cell) (d : DiskNo) → IsTrue (is_valid (replica s c (OnDisk d)))
-      → IsSomeAnd (extent_of disks.directory c.0) (λ e. e.last_store ≡ Some (last_store (writes s c) true))
+  pub stored : (c : Cell) (d : DiskNo) → IsTrue (is_valid (replica s c (OnDisk d))) → IsSomeAnd (extent_of disks.directory c.0) (IsStored s c)
   pub blocks :
       Tells → (c : Cell) (d : DiskNo) → IsTrue (is_valid (replica s c (OnDisk d)))
-      → IsSomeAnd (extent_of disks.directory c.0) (λ e. Holds held disks.disks e (block c.0 (writes s c) (array_at p s (OnDisk d) c).elements))
+      → IsSomeAnd (extent_of disks.directory c.0) (HoldsArray held disks.disks p s c (OnDisk d))
 
 -- ---- all of it
 
