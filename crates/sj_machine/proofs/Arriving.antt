@@ -1,6 +1,6 @@
 -- What the end of a move leaves.
-use Rattle.std.proofs.Common.{◌≡◌, ◌++◌, ◌∷◌, [], ◌≤◌, ◌<◌, ◌+◌, ◌-◌, ℕ, Bool, true, false, List, Option, None, Some, refl, sym, ap, ◌∙◌, subst, arith, inl, inr, length, get_or, set, sum_by}
-use Rattle.std.specs.Prelude.{All, IfSome, IsSomeAnd}
+use Rattle.std.proofs.Common.{◌≡◌, ◌++◌, ◌∷◌, [], ◌≤◌, ◌<◌, ◌+◌, ◌-◌, ℕ, Bool, true, false, List, Option, None, Some, refl, sym, ap, ◌∙◌, subst, arith, inl, inr, length, get_or, is_some, set, sum_by}
+use Rattle.std.specs.Prelude.{All, IfSome, IsSomeAnd, unwrap_or}
 use Rattle.std.proofs.lemmas.Bool.{false≢true}
 use Rattle.std.proofs.lemmas.List.{length-set}
 use Rattle.std.proofs.lemmas.List.Elements.{All-get_or, All-set}
@@ -8,9 +8,9 @@ use Rattle.std.proofs.lemmas.List.Sums.{sum_by-set}
 use Rattle.sj_base.specs.Recorded.{Recorded}
 use Rattle.sj_base.specs.declared.trace.Event.TheVariants.{Moved}
 use Rattle.sj_core.specs.declared.progress.Transfer.{Transfer}
-use Rattle.sj_core.proofs.Words.{Array, AtNode, Cell, CellState, Coming, DiskNo, Invalid, Machine, Node, OnDisk, Place, Program, Replica, State, Valid, Worker, WorkerState, array_of, cell_state, dims_of, is_coming_by, is_entry, is_valid, replica, transfer, with_replica, with_transfer, worker_state, writes}
+use Rattle.sj_core.proofs.Words.{Array, AtNode, Cell, CellState, Coming, DiskNo, Invalid, Machine, Node, OnDisk, Place, Program, Replica, State, Valid, Worker, WorkerState, array_of, cell_state, dims_of, is_coming_by, is_entry, is_valid, replica, transfer, with_replica, with_transfer, worker_state, writes, zeros}
 use Rattle.sj_core.proofs.Blocks.{disk-within}
-use Rattle.sj_core.proofs.Placing.{replica-cases, replica-on_disk, writes-same}
+use Rattle.sj_core.proofs.Placing.{cells_differ, replica-cases, replica-on_disk, writes-same}
 use Rattle.sj_core.proofs.Reading.{idle_row, no_row, transfer-inside}
 use Rattle.sj_core.proofs.Replicas.{coming_by-is}
 use Rattle.sj_core.proofs.States.{one-mover}
@@ -21,11 +21,11 @@ use Rattle.sj_machine.specs.Mark.{mark_of, owed_for}
 use Rattle.sj_machine.specs.declared.mark.Mark.TheVariants.{Valid as ValidMark}
 use Rattle.sj_machine.specs.Agrees.{Agrees, HasMarks, HasTiles, IsWide, Rows, owed_by_worker, owed_in, rows_of, transfer_in, with_transfer_of}
 use Rattle.sj_machine.specs.Copies.{Copies, mark_at, owed_in as owed_in_copies, row_of, stored, tile_at, with_copy, with_row}
-use Rattle.sj_machine.specs.Sound.{HoldsArray, HoldsBlocks, IsStored, Keeps}
+use Rattle.sj_machine.specs.Sound.{HoldsArray, HoldsBlocks, IsCopyOf, IsStored, IsWrittenOut, Keeps}
 use Rattle.sj_machine.specs.Standing.{AllTell, CanHappen, IsTileMoved, IsTileOf, Standing, state, with_event}
-use Rattle.sj_machine.proofs.Keeping.{HoldsBlocks-kept, keeps-event, keeps-told}
+use Rattle.sj_machine.proofs.Keeping.{HoldsArray-moved, HoldsBlocks-kept, IsSomeAnd-map, IsStored-kept, array-same, keeps-event, keeps-told}
 use Rattle.sj_machine.proofs.Marking.{HasMarks-copy, HasTiles-copy, cell-inside, mark-inside, on_disk, tile-inside}
-use Rattle.sj_machine.proofs.Reading.{no_copies, owed-copy, row-kept, row-same}
+use Rattle.sj_machine.proofs.Reading.{no_copies, owed-copy, row-kept, row-other, row-same}
 use Rattle.sj_machine.proofs.Resting.{entry-cell, entry-node, rests, valid-cell}
 use Rattle.sj_machine.proofs.Transferring.{new_workers, transfer-agrees, transfer-owed}
 
@@ -123,6 +123,98 @@ module _ {D : Type 0} (size faults mismatches : D → ℕ) (held : D → Option 
         (HoldsBlocks-kept held p m s (with_replica s c (AtNode n) (Valid here)) (AllTell held b) b.disks (λ d k v. (on_disk p m s coherent.state.rows rows.cells keeps.agrees.marks c n in_cell in_node (Valid here) (Some tile) d k, writes-same s c (AtNode n) (Valid here) d)) keeps.sound.blocks)
         spare' left
 
+  -- a move out to a disk
+  module _ (d : DiskNo) (under_way : transfer s w ≡ Some (a_transfer c from (OnDisk d))) (written : IsSomeAnd (extent_of b.disks.directory c.0) (IsCopyOf held b c from)) where
+    abbrev out : Array
+    out = array_at p s from c
+
+    abbrev s1 : State
+    s1 = with_replica s c (OnDisk d) (Valid out)
+
+    aimed : disk_of p m c ≡ Some d
+    aimed = coherent.state.blocks.aimed w (a_transfer c from (OnDisk d)) d under_way refl
+
+    read_cell : c.0 < length p.cells
+    read_cell = valid-cell p m s coherent c from (coherent.transfers.source w (a_transfer c from (OnDisk d)) under_way)
+
+    pub out-cell : c.0 < length rows.cells
+    out-cell = omega (arith, read_cell, keeps.agrees.marks.every_cell)
+
+    on_state : replica s1 c (OnDisk d) ≡ Valid out
+    on_state =
+        let inside : c.0 < length s.cells = omega (arith, read_cell, coherent.state.rows.cells) in
+        let within : d.0 < length (cell_state s c).disks = omega (arith, disk-within p m c d aimed, All-get_or (λ (row : CellState). length row.disks ≡ length m.disks) s.cells c.0 no_row inside coherent.state.rows.disks) in
+        replica-on_disk s c d (Valid out) inside within
+
+    abbrev new_cells : List Copies
+    new_cells = with_row rows.cells c stored
+
+    at_nodes : (x : Cell) (k : Node) → replica s1 x (AtNode k) ≡ replica s x (AtNode k)
+    at_nodes x k = elim (replica-cases s c (OnDisk d) (Valid out) x (AtNode k)) [ inl same ↦ same | inr (e, at, is) ↦ absurd (let apart : AtNode k ≡ OnDisk d = at in cc) ]
+
+    mark-stays : (x : Cell) (k : Node) → mark_at (row_of new_cells x) k ≡ mark_at (row_of rows.cells x) k
+    mark-stays x k = row-kept (λ (row : Copies). mark_at row k ≡ mark_at (row_of rows.cells x) k) rows.cells c x stored out-cell (λ h. h) refl
+
+    tile-stays : (x : Cell) (k : Node) → tile_at (row_of new_cells x) k ≡ tile_at (row_of rows.cells x) k
+    tile-stays x k = row-kept (λ (row : Copies). tile_at row k ≡ tile_at (row_of rows.cells x) k) rows.cells c x stored out-cell (λ h. h) refl
+
+    agrees-out : Agrees p m s1 (AllTell held b) (rows_of rows.tasks new_cells rows.nodes rows.workers)
+    agrees-out = record {
+      tasks = keeps.agrees.tasks;
+      workers = keeps.agrees.workers;
+      marks = record {
+        every_cell = length-set rows.cells c.0 _ ∙ keeps.agrees.marks.every_cell;
+        wide = All-set (IsWide (length m.nodes)) rows.cells c.0 (stored (row_of rows.cells c)) (let had = All-get_or (IsWide (length m.nodes)) rows.cells c.0 no_copies out-cell keeps.agrees.marks.wide in record { marks = had.marks; tiles = had.tiles }) keeps.agrees.marks.wide;
+        marks = λ x k. mark-stays x k ∙ keeps.agrees.marks.marks x k ∙ ap mark_of (sym (at_nodes x k));
+        on_disk = disks-agree;
+        writes = λ x. row-kept (λ (row : Copies). row.writes ≡ (row_of rows.cells x).writes) rows.cells c x stored out-cell (λ h. h) refl ∙ keeps.agrees.marks.writes x ∙ sym (writes-same s c (OnDisk d) (Valid out) x);
+      };
+      tiles = record {
+        there = λ x k resting. ap is_some (tile-stays x k) ∙ keeps.agrees.tiles.there x k resting ∙ ap is_valid (sym (at_nodes x k));
+        out = λ x k being. tile-stays x k ∙ keeps.agrees.tiles.out x k being;
+        dims = λ x k. subst (λ (o : Option Array). IfSome o (λ a. a.dims ≡ dims_of p x)) (sym (tile-stays x k)) (keeps.agrees.tiles.dims x k);
+        arrays = λ tells x k. subst (λ (o : Option Array). IfSome o (λ a. array_of (replica s1 x (AtNode k)) ≡ Some a)) (sym (tile-stays x k)) (subst (λ (r : Replica). IfSome (tile_at (row_of rows.cells x) k) (λ a. array_of r ≡ Some a)) (sym (at_nodes x k)) (keeps.agrees.tiles.arrays tells x k));
+      };
+      stores = record { every_node = keeps.agrees.stores.every_node; stores = keeps.agrees.stores.stores };
+    }
+      where
+        disks-agree : (x : Cell) (k : DiskNo) → disk_of p m x ≡ Some k → (row_of new_cells x).on_disk ≡ is_valid (replica s1 x (OnDisk k))
+        disks-agree x k home =
+            elim (cells_differ x c) [
+              | inr other ↦ ap (λ (row : Copies). row.on_disk) (row-other rows.cells c x stored other) ∙ keeps.agrees.marks.on_disk x k home ∙ elim (replica-cases s c (OnDisk d) (Valid out) x (OnDisk k)) [ inl same ↦ ap is_valid (sym same) | inr (e, at, is) ↦ absurd (other e) ]
+              | inl e ↦ (
+                let one : Some d ≡ Some k = sym aimed ∙ ap (disk_of p m) (sym e) ∙ home in
+                let is : d ≡ k = cc in
+                ap (λ (y : Cell). (row_of new_cells y).on_disk) e ∙ ap (λ (row : Copies). row.on_disk) (row-same rows.cells c stored out-cell) ∙ ap is_valid (sym on_state) ∙ ap (λ (j : DiskNo). is_valid (replica s1 c (OnDisk j))) is ∙ ap (λ (y : Cell). is_valid (replica s1 y (OnDisk k))) (sym e)
+              )
+            ]
+
+    blocks-out : HoldsBlocks held p m s1 (AllTell held b) b.disks
+    blocks-out = record {
+      placed = keeps.sound.blocks.placed;
+      stored = λ x k valid. elim (replica-cases s c (OnDisk d) (Valid out) x (OnDisk k)) [
+        | inl same ↦ IsSomeAnd-map (IsStored s x) (IsStored s1 x) (λ e is. IsStored-kept s s1 x e (count x) is) (extent_of b.disks.directory x.0) (keeps.sound.blocks.stored x k (ap is_valid (sym same) ∙ valid))
+        | inr (e, at, is) ↦ subst (λ (y : Cell). IsSomeAnd (extent_of b.disks.directory y.0) (IsStored s1 y)) (sym e) (IsSomeAnd-map (IsCopyOf held b c from) (IsStored s1 c) (λ f copy. IsStored-kept s s1 c f (count c) copy.last) (extent_of b.disks.directory c.0) written)
+      ];
+      blocks = λ tells x k valid. elim (replica-cases s c (OnDisk d) (Valid out) x (OnDisk k)) [
+        | inl same ↦ IsSomeAnd-map (HoldsArray held b.disks.disks p s x (OnDisk k)) (HoldsArray held b.disks.disks p s1 x (OnDisk k)) (λ e is. HoldsArray-moved held b.disks.disks p s s1 x (OnDisk k) (OnDisk k) e (array-same p s s1 x (OnDisk k) same) (count x) is) (extent_of b.disks.directory x.0) (keeps.sound.blocks.blocks tells x k (ap is_valid (sym same) ∙ valid))
+        | inr (e, at, is) ↦ subst (λ (y : Cell). IsSomeAnd (extent_of b.disks.directory y.0) (HoldsArray held b.disks.disks p s1 y (OnDisk k))) (sym e)
+          (IsSomeAnd-map (IsCopyOf held b c from) (HoldsArray held b.disks.disks p s1 c (OnDisk k)) (λ f copy. HoldsArray-moved held b.disks.disks p s s1 c from (OnDisk k) f (here_now k (ap (λ (y : Cell). replica s1 y (OnDisk k)) (sym e) ∙ is)) (count c) (copy.array tells)) (extent_of b.disks.directory c.0) written)
+      ];
+    }
+      where
+        count : (x : Cell) → writes s1 x ≡ writes s x
+        count x = writes-same s c (OnDisk d) (Valid out) x
+
+        here_now : (k : DiskNo) → replica s1 c (OnDisk k) ≡ Valid out → array_at p s1 (OnDisk k) c ≡ array_at p s from c
+        here_now k is = ap (λ (r : Replica). unwrap_or (array_of r) (zeros (dims_of p c))) is
+
+    same-owed : sum_by owed_in_copies new_cells ≡ sum_by owed_in_copies rows.cells
+    same-owed = omega (arith, sum_by-set owed_in_copies rows.cells c.0 (stored (row_of rows.cells c)) no_copies out-cell)
+
+    pub keeps-moved_out : (spare' : ℕ) → spare' + 1 ≡ spare → Keeps size faults mismatches held (with_event b (Moved c from (OnDisk d))) (rows_of rows.tasks new_cells rows.nodes (new_workers p m s w None rows.workers)) (owed - 1) spare'
+    keeps-moved_out spare' left = keeps-moved (OnDisk d) under_way new_cells agrees-out same-owed blocks-out spare' left
+
 -- ---- as the code finds it
 
 -- an `IfSome` of a value that is there
@@ -149,3 +241,17 @@ module _ {D : Type 0} (size faults mismatches : D → ℕ) (held : D → Option 
         (told ∙ ap (λ (q : Place). b.trace ++ Moved x.cell x.from q ∷ []) at)
         (ap (λ (cs : List Copies). rows_of rows.tasks cs rows.nodes ws') cells ∙ ap (λ (vs : List WorkerState). rows_of rows.tasks (with_row rows.cells x.cell (λ row. with_copy row n ValidMark (Some tile))) rows.nodes vs) workers)
         (keeps-moved_in size faults mismatches held b rows owed spare keeps w x.cell x.from n (moving (AtNode n) at) tile tile-is trace'.spare left)
+
+  module _ (d : DiskNo) (at : x.to ≡ OnDisk d) (given : IsWrittenOut held b' w) where
+    is-written : IsSomeAnd (extent_of b.disks.directory x.cell.0) (IsCopyOf held b x.cell x.from)
+    is-written = told-of (λ (y : Transfer). IsSomeAnd (extent_of b.disks.directory y.cell.0) (IsCopyOf held b y.cell y.from)) (transfer (state b) w) (a_transfer x.cell x.from (OnDisk d)) (moving (OnDisk d) at) (subst (λ (z : Standing D). IsWrittenOut held z w) (sym same) given)
+
+    pub found-out_cell : x.cell.0 < length rows.cells
+    found-out_cell = out-cell size faults mismatches held b rows owed spare keeps w x.cell x.from d (moving (OnDisk d) at) is-written
+
+    pub found-moved_out : (trace' : Recorded) (cells' : List Copies) (ws' : List WorkerState) → trace'.events ≡ b.trace ++ Moved x.cell x.from x.to ∷ [] → trace'.spare + 1 ≡ spare → cells' ≡ with_row rows.cells x.cell stored → ws' ≡ with_transfer_of rows.workers w None → Keeps size faults mismatches held (record b { trace = trace'.events }) (rows_of rows.tasks cells' rows.nodes ws') (owed - 1) trace'.spare
+    found-moved_out trace' cells' ws' told left cells workers =
+        keeps-told size faults mismatches held b (Moved x.cell x.from (OnDisk d)) (rows_of rows.tasks (with_row rows.cells x.cell stored) rows.nodes (with_transfer_of rows.workers w None)) (rows_of rows.tasks cells' rows.nodes ws') (owed - 1) trace'
+        (told ∙ ap (λ (q : Place). b.trace ++ Moved x.cell x.from q ∷ []) at)
+        (ap (λ (cs : List Copies). rows_of rows.tasks cs rows.nodes ws') cells ∙ ap (λ (vs : List WorkerState). rows_of rows.tasks (with_row rows.cells x.cell stored) rows.nodes vs) workers)
+        (keeps-moved_out size faults mismatches held b rows owed spare keeps w x.cell x.from d (moving (OnDisk d) at) is-written trace'.spare left)

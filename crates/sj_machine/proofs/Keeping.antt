@@ -20,16 +20,20 @@ use Rattle.sj_machine.specs.Agrees.{Agrees, Rows, owed_in}
 use Rattle.sj_machine.specs.Sound.{HoldsArray, HoldsBlocks, IsSoundRun, IsStored, Keeps}
 use Rattle.sj_machine.specs.Standing.{AllTell, CanHappen, Standing, state, with_event}
 
--- a block that holds a cell's array still does where the replica and the count of writes stay
-HoldsArray-kept : {D : Type 0} (held : D → Option (List ℕ)) (disks : List D) (p : Program) (s s' : State) (c : Cell) (q : Place) (e : Extent) → replica s' c q ≡ replica s c q → writes s' c ≡ writes s c → HoldsArray held disks p s c q e → HoldsArray held disks p s' c q e
-HoldsArray-kept held disks p s s' c q e same count had =
-    let a : array_at p s' q c ≡ array_at p s q c = ap (λ (r : Replica). unwrap_or (array_of r) (zeros (dims_of p c))) same in
-    record {
-      dims = ap (λ (x : Array). x.dims) a ∙ had.dims;
-      whole = ap (λ (x : Array). length x.elements) a ∙ had.whole;
-      fits = subst (λ (x : Array). All (FitsSigned w64) x.elements) (sym a) had.fits;
-      told = subst (λ (n : ℕ). Holds held disks e (block c.0 n (array_at p s' q c).elements)) (sym count) (subst (λ (x : Array). Holds held disks e (block c.0 (writes s c) x.elements)) (sym a) had.told);
-    }
+-- a block that holds a cell's array still does where the array and the count of writes stay, at whichever place
+pub HoldsArray-moved : {D : Type 0} (held : D → Option (List ℕ)) (disks : List D) (p : Program) (s s' : State) (c : Cell) (q q' : Place) (e : Extent) → array_at p s' q' c ≡ array_at p s q c → writes s' c ≡ writes s c → HoldsArray held disks p s c q e → HoldsArray held disks p s' c q' e
+HoldsArray-moved held disks p s s' c q q' e a count had = record {
+  dims = ap (λ (x : Array). x.dims) a ∙ had.dims;
+  whole = ap (λ (x : Array). length x.elements) a ∙ had.whole;
+  fits = subst (λ (x : Array). All (FitsSigned w64) x.elements) (sym a) had.fits;
+  told = subst (λ (n : ℕ). Holds held disks e (block c.0 n (array_at p s' q' c).elements)) (sym count) (subst (λ (x : Array). Holds held disks e (block c.0 (writes s c) x.elements)) (sym a) had.told);
+}
+
+pub array-same : (p : Program) (s s' : State) (c : Cell) (q : Place) → replica s' c q ≡ replica s c q → array_at p s' q c ≡ array_at p s q c
+array-same p s s' c q same = ap (λ (r : Replica). unwrap_or (array_of r) (zeros (dims_of p c))) same
+
+pub IsStored-kept : (s s' : State) (c : Cell) (e : Extent) → writes s' c ≡ writes s c → IsStored s c e → IsStored s' c e
+IsStored-kept s s' c e count is = record { last = is.last ∙ ap (λ (n : ℕ). Some (last_store n true)) (sym count) }
 
 pub IsSomeAnd-map : {X : Type 0} (P Q : X → Type 0) → ((x : X) → P x → Q x) → (o : Option X) → IsSomeAnd o P → IsSomeAnd o Q
 IsSomeAnd-map P Q f None h = h
@@ -39,8 +43,8 @@ IsSomeAnd-map P Q f (Some x) h = f x h
 pub HoldsBlocks-kept : {D : Type 0} (held : D → Option (List ℕ)) (p : Program) (m : Machine) (s s' : State) (Tells : Type 0) (disks : DiskState D) → ((c : Cell) (d : DiskNo) → is_valid (replica s' c (OnDisk d)) ≡ true → (replica s' c (OnDisk d) ≡ replica s c (OnDisk d)) × (writes s' c ≡ writes s c)) → HoldsBlocks held p m s Tells disks → HoldsBlocks held p m s' Tells disks
 HoldsBlocks-kept held p m s s' Tells disks kept had = record {
   placed = had.placed;
-  stored = λ c d valid. (let k = kept c d valid in IsSomeAnd-map (IsStored s c) (IsStored s' c) (λ e is. record { last = is.last ∙ ap (λ (n : ℕ). Some (last_store n true)) (sym k.1) }) (extent_of disks.directory c.0) (had.stored c d (sym (ap is_valid k.0) ∙ valid)));
-  blocks = λ tells c d valid. (let k = kept c d valid in IsSomeAnd-map (HoldsArray held disks.disks p s c (OnDisk d)) (HoldsArray held disks.disks p s' c (OnDisk d)) (λ e is. HoldsArray-kept held disks.disks p s s' c (OnDisk d) e k.0 k.1 is) (extent_of disks.directory c.0) (had.blocks tells c d (sym (ap is_valid k.0) ∙ valid)));
+  stored = λ c d valid. (let k = kept c d valid in IsSomeAnd-map (IsStored s c) (IsStored s' c) (λ e is. IsStored-kept s s' c e k.1 is) (extent_of disks.directory c.0) (had.stored c d (sym (ap is_valid k.0) ∙ valid)));
+  blocks = λ tells c d valid. (let k = kept c d valid in IsSomeAnd-map (HoldsArray held disks.disks p s c (OnDisk d)) (HoldsArray held disks.disks p s' c (OnDisk d)) (λ e is. HoldsArray-moved held disks.disks p s s' c (OnDisk d) (OnDisk d) e (array-same p s s' c (OnDisk d) k.0) k.1 is) (extent_of disks.directory c.0) (had.blocks tells c d (sym (ap is_valid k.0) ∙ valid)));
 }
 
 module _ {D : Type 0} (size faults mismatches : D → ℕ) (held : D → Option (List ℕ)) (b : Standing D) (rows : Rows) (owed spare : ℕ) (keeps : Keeps size faults mismatches held b rows owed spare) where
