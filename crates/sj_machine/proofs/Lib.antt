@@ -5,5 +5,6 @@ pub mod Keeping
 pub mod Marking
 pub mod Reading
 pub mod Resting
+pub mod Storing
 pub mod Tiles
 pub mod Transferring

@@ -1,12 +1,14 @@
 //! The state of a run, and the events that change it.
 
-ghost use Rattle.std.specs.Prelude.{◌≡◌, ◌<◌, IfOk, IsSome, OnErr, OnOk, None, Some, false, length, true};
+ghost use Rattle.std.specs.Prelude.{◌≡◌, ◌<◌, All, FitsSigned, IfOk, IsSome, OnErr, OnOk, None, Some, false, length, true};
+ghost use Rattle.std.specs.Int.{w64};
+ghost use Rattle.sj_base.specs.Array.{area};
 ghost use Rattle.sj_base.specs.declared.ids.Place.TheVariants.{Disk as OnDisk, Node as AtNode};
 ghost use Rattle.sj_core.specs.Step.{mover_of};
 ghost use Rattle.sj_machine.specs.Agrees.{transfer_in, with_transfer_of};
 ghost use Rattle.sj_machine.specs.Copies.{CanShare, row_of, stored, tile_kept, with_copy, with_row};
-ghost use Rattle.sj_machine.specs.Sound.{IsWrittenOut};
-ghost use Rattle.sj_machine.specs.Standing.{CanHappen, HasMoved, IsMovingIn, IsMovingOut, IsShareOf, IsTileMoved, is_node, state, with_event};
+ghost use Rattle.sj_machine.specs.Sound.{FetchesMoved, IsWrittenOut, OnlyDisksChange, StoresMoved};
+ghost use Rattle.sj_machine.specs.Standing.{CanHappen, HasDimsMoved, HasMoved, IsFetching, IsMovingIn, IsMovingOut, IsShareOf, IsTileMoved, is_node, state, with_event};
 ghost use Rattle.sj_machine.specs.Tiles.{array_in};
 
 use crate::copies::Copies;
@@ -20,6 +22,7 @@ use sj_base::tile::Tile;
 use sj_base::trace::{Event, Trace};
 use sj_core::progress::{Progress, Transfer};
 use sj_disk::disk_set::DiskSet;
+use sj_disk::refusal::DiskRefusal;
 use sj_edge::disk::Disk;
 use sj_node::store::NodeStore;
 use std::marker::Model;
@@ -121,6 +124,33 @@ fn disk_at(place: Place) -> DiskNo
     }
 }
 
+/// Reads each element, since what is read is known to fit its type. It does nothing, so that no code is left of it.
+fn told(elements: &[i64])
+    ensures { All (FitsSigned w64) elements.now }
+{
+    for x in elements {
+        let _element = *x;
+    }
+}
+
+/// No code: its contract is what a tile's type says of its elements.
+fn measured(tile: &Tile)
+    ensures whole { length tile.now.elements ≡ area tile.now.dims }
+    ensures fits { All (FitsSigned w64) tile.now.elements }
+{
+    let elements = tile.elements();
+    told(elements);
+}
+
+/// How many tasks have written a cell. Constant time.
+fn writes_of(cells: &[Copies], cell: Cell) -> u64
+    requires { cell.0 < length cells.now }
+    ensures { result ≡ (row_of cells.now cell).writes }
+{
+    let row = &cells[cell.0 as usize];
+    row.writes()
+}
+
 /// The cell's block on its disk is a copy from now on. Constant time.
 fn mark_stored(cells: &mut Vec<Copies>, cell: Cell)
     requires { cell.0 < length cells.old.items }
@@ -205,5 +235,39 @@ impl<D: Disk> RunState<D> {
         set_transfer(&mut self.workers, w, None);
         self.owed -= 1;
         self.trace.add(Event::Moved(x.cell, x.from, x.to));
+    }
+
+    /// Writes the tile of a worker's move to the block of its cell. No event, and no memory. Linear in the tile.
+    ///
+    /// After an `Err` the block may hold any bytes, and the move is still under way.
+    pub fn store(&mut self, w: Worker, tile: &Tile) -> Result<(), DiskRefusal>
+        requires under_way { IsMovingOut self.old w }
+        requires tile { IsTileMoved D.held self.old w tile.now }
+        ensures no_event { OnlyDisksChange self.old self.new }
+        ensures stores { StoresMoved D.size D.faults D.mismatches D.held w tile.now.elements result self.old self.new }
+        ensures written { OnOk result (IsWrittenOut D.held self.new w) }
+    {
+        let x = transfer_of(&self.workers, w);
+        let _d = disk_at(x.to);
+        measured(tile);
+        let writes = writes_of(&self.cells, x.cell);
+        self.disks.store(x.cell, writes, tile)
+    }
+
+    /// Reads the block of the cell of a worker's move into a tile. No event, and no memory. Linear in the tile.
+    ///
+    /// After an `Err` the tile holds any elements, and the move is still under way.
+    pub fn fetch(&mut self, w: Worker, tile: &mut Tile) -> Result<(), DiskRefusal>
+        requires under_way { IsFetching self.old w }
+        requires dims { HasDimsMoved self.old w tile.old.dims }
+        ensures no_event { OnlyDisksChange self.old self.new }
+        ensures fetches { FetchesMoved D.size D.faults D.mismatches D.held w tile.new.elements result self.old self.new }
+        ensures tile { OnOk result (IsTileMoved D.held self.old w tile.new) }
+    {
+        let x = transfer_of(&self.workers, w);
+        let _d = disk_at(x.from);
+        let _dims = tile.dims();
+        let writes = writes_of(&self.cells, x.cell);
+        self.disks.fetch(x.cell, writes, tile)
     }
 }
