@@ -2,6 +2,7 @@ pub mod Arriving
 pub mod Beginning
 pub mod Dropping
 pub mod Keeping
+pub mod Making
 pub mod Marking
 pub mod Reading
 pub mod Resting

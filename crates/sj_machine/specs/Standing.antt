@@ -31,6 +31,10 @@ pub record Standing (D : Type 0) : Type 0 where
 abbrev pub standing : {D : Type 0} → Program → Machine → Recorded → Deliveries → DiskState D → DiskState D → Standing D
 standing p m trace delivered disks opened = record { program = p; machine = m; trace = trace.events; delivered = delivered.pairs; disks = disks; opened = opened.disks }
 
+-- nothing has happened
+abbrev pub starting : {D : Type 0} → Program → Machine → DiskState D → Standing D
+starting p m disks = record { program = p; machine = m; trace = []; delivered = []; disks = disks; opened = disks.disks }
+
 -- the state that the events leave
 abbrev pub state : {D : Type 0} → Standing D → State
 state b = state_of b.program b.machine b.trace

@@ -1,14 +1,15 @@
 //! The state of a run, and the events that change it.
 
-ghost use Rattle.std.specs.Prelude.{◌≡◌, ◌<◌, All, FitsSigned, IfOk, IsSome, OnErr, OnOk, None, Some, false, length, true};
+ghost use Rattle.std.specs.Prelude.{◌≡◌, ◌<◌, All, FitsSigned, IfErr, IfOk, IsSome, OnErr, OnOk, None, Some, false, length, map, replicate, true};
 ghost use Rattle.std.specs.Int.{w64};
 ghost use Rattle.sj_base.specs.Array.{area};
 ghost use Rattle.sj_base.specs.declared.ids.Place.TheVariants.{Disk as OnDisk, Node as AtNode};
 ghost use Rattle.sj_core.specs.Step.{mover_of};
-ghost use Rattle.sj_machine.specs.Agrees.{transfer_in, with_transfer_of};
-ghost use Rattle.sj_machine.specs.Copies.{CanShare, row_of, stored, tile_kept, with_copy, with_row};
-ghost use Rattle.sj_machine.specs.Sound.{FetchesMoved, IsWrittenOut, OnlyDisksChange, StoresMoved};
-ghost use Rattle.sj_machine.specs.Standing.{CanHappen, HasDimsMoved, HasMoved, IsFetching, IsMovingIn, IsMovingOut, IsShareOf, IsTileMoved, is_node, state, with_event};
+ghost use Rattle.sj_node.specs.Store.{empty};
+ghost use Rattle.sj_machine.specs.Agrees.{idle, transfer_in, with_transfer_of};
+ghost use Rattle.sj_machine.specs.Copies.{CanShare, none_at, row_of, stored, tile_kept, with_copy, with_row};
+ghost use Rattle.sj_machine.specs.Sound.{CanStart, FetchesMoved, IsWrittenOut, OnlyDisksChange, StoresMoved};
+ghost use Rattle.sj_machine.specs.Standing.{CanHappen, HasDimsMoved, HasMoved, IsFetching, IsMovingIn, IsMovingOut, IsShareOf, IsTileMoved, is_node, starting, state, with_event};
 ghost use Rattle.sj_machine.specs.Tiles.{array_in};
 
 use crate::copies::Copies;
@@ -25,6 +26,7 @@ use sj_disk::disk_set::DiskSet;
 use sj_disk::refusal::DiskRefusal;
 use sj_edge::disk::Disk;
 use sj_node::store::NodeStore;
+use std::alloc::Global;
 use std::marker::Model;
 use std::snapshot::Snapshot;
 use std::sync::Arc;
@@ -60,6 +62,53 @@ impl<D: Disk> Model for RunState<D> {
     ghost invariant = { λ b. Keeps D.size D.faults D.mismatches D.held
         (standing b.program.value b.machine b.trace b.delivered b.disks b.opened.value)
         (rows_of b.tasks.items b.cells.items b.nodes.items b.workers.items) b.owed b.trace.spare };
+}
+
+/// Why a run isn't made: want of memory. Its program and its disks come back.
+#[derive(Drop)]
+pub struct RunRefusal<D: Disk> {
+    pub program: Arc<Program>,
+    pub disks: DiskSet<D>,
+}
+
+/// All tasks waiting. Linear in them.
+fn waiting(alloc: Global, count: usize) -> Result<Vec<Progress>, OutOfMemory>
+    ensures { IfOk result (λ v. v.items ≡ replicate count Progress.Waiting) }
+{
+    Ok(vec![in alloc; Progress::Waiting; count]?)
+}
+
+/// No copy of any cell at any node. Linear in the cells and nodes.
+fn no_copies(alloc: Global, count: usize, nodes: usize) -> Result<Vec<Copies>, OutOfMemory>
+    ensures { IfOk result (λ v. v.items ≡ replicate count (none_at nodes)) }
+{
+    let mut rows = Vec::new(alloc);
+    for _i in 0..count {
+        rows.push(Copies::none(alloc, nodes)?)?;
+    }
+    Ok(rows)
+}
+
+/// Empty nodes of these sizes. Linear in the cells and nodes.
+fn empty_nodes(alloc: Global, sizes: &[u64], cells: u32) -> Result<Vec<NodeStore>, OutOfMemory>
+    ensures { IfOk result (λ v. v.items ≡ map (λ size. empty size cells) sizes.now) }
+{
+    let mut nodes = Vec::new(alloc);
+    for size in sizes {
+        nodes.push(NodeStore::make(alloc, *size, cells)?)?;
+    }
+    Ok(nodes)
+}
+
+/// Workers with nothing in hand. Linear in them.
+fn idle_workers(alloc: Global, count: u8) -> Result<Vec<Hold>, OutOfMemory>
+    ensures { IfOk result (λ v. v.items ≡ replicate count idle) }
+{
+    let mut workers = Vec::new(alloc);
+    for _i in 0..count {
+        workers.push(Hold::nothing(alloc))?;
+    }
+    Ok(workers)
 }
 
 /// The copy of a cell at a node goes. Constant time.
@@ -171,6 +220,46 @@ fn put_copy(cells: &mut Vec<Copies>, cell: Cell, n: Node, tile: Arc<Tile>)
 }
 
 impl<D: Disk> RunState<D> {
+    /// A run on which nothing has happened. The program and the disks come back where memory is wanting. Linear in tasks,
+    /// and in cells times nodes.
+    pub fn make(
+        alloc: Global,
+        program: Arc<Program>,
+        machine: Machine,
+        disks: DiskSet<D>,
+    ) -> Result<RunState<D>, RunRefusal<D>>
+        requires { CanStart program.value machine disks }
+        ensures ok { IfOk result (λ b. b ≡ starting program.value machine disks) }
+        ensures err { IfErr result (λ r. (r.program.value ≡ program.value) × (r.disks ≡ disks)) }
+    {
+        let Ok(tasks) = waiting(alloc, program.tasks.len()) else {
+            return Err(RunRefusal { program, disks });
+        };
+        let Ok(cells) = no_copies(alloc, program.cells.len(), machine.nodes.len()) else {
+            return Err(RunRefusal { program, disks });
+        };
+        let Ok(nodes) = empty_nodes(alloc, machine.nodes.items(), program.cells.len() as u32) else {
+            return Err(RunRefusal { program, disks });
+        };
+        let Ok(workers) = idle_workers(alloc, machine.workers) else {
+            return Err(RunRefusal { program, disks });
+        };
+        let opened = Snapshot::of(&disks);
+        Ok(RunState {
+            program,
+            machine,
+            tasks,
+            cells,
+            nodes,
+            workers,
+            disks,
+            opened,
+            trace: Trace::empty(alloc),
+            owed: 0,
+            delivered: Delivered::empty(alloc),
+        })
+    }
+
     /// A leaving copy goes from its node, since another is valid and no transfer reads it. Constant time, and no memory.
     pub fn drop_copy(&mut self, cell: Cell, n: Node)
         requires { CanHappen self.old (Event.Drop cell n) }
