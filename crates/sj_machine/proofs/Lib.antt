@@ -1,9 +1,12 @@
 pub mod Arriving
 pub mod Beginning
 pub mod Dropping
+pub mod Entries
 pub mod Keeping
+pub mod Lists
 pub mod Making
 pub mod Marking
+pub mod Operands
 pub mod Reading
 pub mod Resting
 pub mod Storing

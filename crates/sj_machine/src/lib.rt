@@ -7,3 +7,4 @@ pub mod delivered;
 pub mod hold;
 pub mod mark;
 pub mod run_state;
+mod running;
