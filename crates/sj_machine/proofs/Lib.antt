@@ -1,4 +1,5 @@
 pub mod Beginning
+pub mod ClaimEntries
 pub mod Dropping
 pub mod Keeping
 pub mod Marking

@@ -1,0 +1,65 @@
+-- What a claim does to the rows, and when it can't be made.
+use Rattle.std.specs.Prelude.{◌≡◌, ◌≤◌, ◌<◌, ◌+◌, ℕ, Option, Some, None, IsTrue, List, [], ◌∷◌, map, fold, slice_set}
+use Rattle.sj_base.specs.declared.ids.Cell.{Cell}
+use Rattle.sj_base.specs.declared.ids.Node.{Node}
+use Rattle.sj_base.specs.declared.ids.Task.{Task}
+use Rattle.sj_base.specs.declared.ids.Worker.{Worker}
+use Rattle.sj_base.specs.declared.ids.Place.TheVariants.{Node as AtNode}
+use Rattle.sj_base.specs.declared.program.Program.{Program}
+use Rattle.sj_base.specs.declared.program.Machine.{Machine}
+use Rattle.sj_core.specs.Machine.{State, WorkerState, is_idle, is_leaving, progress, replica}
+use Rattle.sj_core.specs.Needs.{footprint, node_of, node_size, scratch_bytes, tile_bytes}
+use Rattle.sj_core.specs.Operands.{cells_of, commuting_cells}
+use Rattle.sj_core.specs.Program.{task_of, has_cell}
+use Rattle.sj_core.specs.Step.{done_tasks, is_in_use, missing, none_leaving, victims_for}
+use Rattle.sj_core.specs.declared.progress.Progress.TheVariants.{Waiting}
+use Rattle.sj_deps.specs.Conflict.{Ready}
+use Rattle.sj_node.specs.Entry.{has_entry, pins_of, repinned, to_front}
+use Rattle.sj_node.specs.Store.{Store, with_entries}
+use Rattle.sj_machine.specs.Copies.{Copies, row_of, with_row}
+use Rattle.sj_machine.specs.declared.mark.Mark.{Mark}
+
+-- ---- a plan
+
+-- the cells of a task, in operand order; those of them without an entry on the node, with their bytes; the bytes of its
+-- scratch; and the victims, most recent first
+pub record ClaimPlan : Type 0 where
+  pub cells : List Cell
+  pub missing : List Cell
+  pub bytes : List ℕ
+  pub scratch : ℕ
+  pub victims : List Cell
+
+-- the plan of a claim that evicts these victims
+abbrev pub plan_with : Program → Machine → State → Task → Worker → List Cell → ClaimPlan
+plan_with p m s t w evicted = record {
+  cells = cells_of p t w;
+  missing = missing p s t w (node_of m w);
+  bytes = map (tile_bytes p) (missing p s t w (node_of m w));
+  scratch = scratch_bytes p (task_of p t);
+  victims = evicted;
+}
+
+-- it is the plan of the claim, with the victims that the claim has
+pub record IsPlan (p : Program) (m : Machine) (s : State) (t : Task) (w : Worker) (plan : ClaimPlan) : Type 0 where
+  pub chosen : victims_for p m s t w ≡ Some plan.victims
+  pub rest : plan ≡ plan_with p m s t w plan.victims
+
+-- ---- one change each
+
+-- with this mark at a node
+abbrev pub with_mark : Copies → Node → Mark → Copies
+with_mark row n x = record row { marks = slice_set row.marks n.0 x }
+
+-- the rows with this mark of each of these cells at a node
+abbrev pub marked : List Copies → List Cell → Node → Mark → List Copies
+marked rows cs n x = fold (λ kept c. with_row kept c (λ row. with_mark row n x)) rows cs
+
+-- a cell of the node comes to the front, with one pin more
+abbrev pub taken : Store → Cell → Store
+taken s c = with_entries s (repinned (λ n. n + 1) c (to_front c s.entries))
+
+-- each of these cells can be taken, one after another
+abbrev pub CanTakeAll : Store → List Cell → Type 0
+CanTakeAll s [] = Unit {0}
+CanTakeAll s (c ∷ cs) = IsTrue (has_entry s.entries c) × (pins_of s.entries c < 1024) × CanTakeAll (taken s c) cs
