@@ -1,5 +1,7 @@
 pub mod Beginning
 pub mod ClaimEntries
+pub mod ClaimPins
+pub mod ClaimMarks
 pub mod Dropping
 pub mod Keeping
 pub mod Marking
