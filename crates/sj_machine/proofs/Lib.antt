@@ -2,6 +2,7 @@ pub mod Beginning
 pub mod ClaimEntries
 pub mod ClaimPins
 pub mod ClaimMarks
+pub mod ClaimStores
 pub mod Dropping
 pub mod Keeping
 pub mod Marking

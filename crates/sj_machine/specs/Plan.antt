@@ -1,5 +1,5 @@
 -- What a claim does to the rows, and when it can't be made.
-use Rattle.std.specs.Prelude.{◌≡◌, ◌≤◌, ◌<◌, ◌+◌, ℕ, Option, Some, None, IsTrue, List, [], ◌∷◌, map, fold, slice_set}
+use Rattle.std.specs.Prelude.{◌≡◌, ◌≤◌, ◌<◌, ◌+◌, ℕ, Option, Some, None, false, IsTrue, All, List, [], ◌∷◌, map, fold, length, sum, slice_set, slice_index_or}
 use Rattle.sj_base.specs.declared.ids.Cell.{Cell}
 use Rattle.sj_base.specs.declared.ids.Node.{Node}
 use Rattle.sj_base.specs.declared.ids.Task.{Task}
@@ -14,8 +14,8 @@ use Rattle.sj_core.specs.Program.{task_of, has_cell}
 use Rattle.sj_core.specs.Step.{done_tasks, is_in_use, missing, none_leaving, victims_for}
 use Rattle.sj_core.specs.declared.progress.Progress.TheVariants.{Waiting}
 use Rattle.sj_deps.specs.Conflict.{Ready}
-use Rattle.sj_node.specs.Entry.{has_entry, pins_of, repinned, to_front}
-use Rattle.sj_node.specs.Store.{Store, with_entries}
+use Rattle.sj_node.specs.Entry.{AreDistinct, admitted, has_entry, pins_of, repinned, to_front, without_all}
+use Rattle.sj_node.specs.Store.{Store, empty, free, with_entries}
 use Rattle.sj_machine.specs.Copies.{Copies, row_of, with_row}
 use Rattle.sj_machine.specs.declared.mark.Mark.{Mark}
 
@@ -63,3 +63,34 @@ taken s c = with_entries s (repinned (λ n. n + 1) c (to_front c s.entries))
 abbrev pub CanTakeAll : Store → List Cell → Type 0
 CanTakeAll s [] = Unit {0}
 CanTakeAll s (c ∷ cs) = IsTrue (has_entry s.entries c) × (pins_of s.entries c < 1024) × CanTakeAll (taken s c) cs
+
+-- the node with the plan's victims away and its missing cells there
+abbrev pub admitting : Store → ClaimPlan → Store
+admitting s plan = with_entries s (admitted plan.victims plan.missing plan.bytes s.entries)
+
+-- and all cells of the task taken
+abbrev pub taking : Store → ClaimPlan → Store
+taking s plan = fold taken (admitting s plan) plan.cells
+
+-- and its scratch held
+abbrev pub holding : Store → ClaimPlan → Store
+holding s plan = record (taking s plan) { scratch = (taking s plan).scratch + plan.scratch }
+
+-- the node can do all this
+pub record CanHold (s : Store) (plan : ClaimPlan) : Type 0 where
+  pub victims_there : All (λ c. IsTrue (has_entry s.entries c)) plan.victims
+  pub victims_unpinned : All (λ c. pins_of s.entries c ≡ 0) plan.victims
+  pub cells_differ : AreDistinct plan.missing
+  pub cells_absent : All (λ c. has_entry s.entries c ≡ false) plan.missing
+  pub paired : length plan.missing ≡ length plan.bytes
+  pub fits : sum plan.bytes ≤ free (with_entries s (without_all plan.victims s.entries))
+  pub few : length s.entries + length plan.missing ≤ s.limit
+  pub cells : CanTakeAll (admitting s plan) plan.cells
+  pub scratch : plan.scratch ≤ free (taking s plan)
+
+abbrev pub store_at : List Store → Node → Store
+store_at nodes n = slice_index_or nodes n.0 (empty 0 0)
+
+-- the worker's row with the plan in hand
+abbrev pub row_with : WorkerState → ClaimPlan → WorkerState
+row_with row plan = record { pins = plan.cells; scratch = plan.scratch; victims = plan.victims; transfer = row.transfer }
