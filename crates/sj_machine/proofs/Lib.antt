@@ -1,3 +1,4 @@
+pub mod Arriving
 pub mod Beginning
 pub mod ClaimEntries
 pub mod ClaimPins

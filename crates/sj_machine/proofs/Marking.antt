@@ -55,7 +55,7 @@ module _ (p : Program) (m : Machine) (s : State) (has_rows : HasRows p m s) (cel
         node_is : AtNode k ≡ AtNode n → k ≡ n
         node_is at = cc
 
-    on_disk : (d : Cell) (k : DiskNo) → replica s' d (OnDisk k) ≡ replica s d (OnDisk k)
+    pub on_disk : (d : Cell) (k : DiskNo) → replica s' d (OnDisk k) ≡ replica s d (OnDisk k)
     on_disk d k =
         elim (replica-cases s c (AtNode n) r d (OnDisk k)) [
           | inl same ↦ same

@@ -82,6 +82,10 @@ pub record Agrees (p : Program) (m : Machine) (s : State) (Tells : Type 0) (rows
 
 -- ---- changing rows
 
+-- the transfer of a worker
+abbrev pub transfer_in : List WorkerState → Worker → Option Transfer
+transfer_in ws w = (slice_index_or ws w.0 (record { pins = []; scratch = 0; victims = []; transfer = None })).transfer
+
 -- the rows of workers with one worker's transfer changed
 abbrev pub with_transfer_of : List WorkerState → Worker → Option Transfer → List WorkerState
 with_transfer_of ws w move = slice_set ws w.0 (record (slice_index_or ws w.0 (record { pins = []; scratch = 0; victims = []; transfer = None })) { transfer = move })

@@ -1,16 +1,18 @@
 -- A run as contracts see it: its program and its machine, the events so far, what was handed over, and the disks.
-use Rattle.std.specs.Prelude.{◌≡◌, ℕ, Option, None, IsSome, IsSomeAnd, All, List, [], ◌∷◌, ◌++◌}
+use Rattle.std.specs.Prelude.{◌≡◌, ℕ, Bool, true, false, Option, None, IfSome, IsSome, IsSomeAnd, All, List, [], ◌∷◌, ◌++◌}
 use Rattle.sj_base.specs.declared.ids.Task.{Task}
 use Rattle.sj_base.specs.declared.ids.Cell.{Cell}
 use Rattle.sj_base.specs.declared.ids.Place.{Place}
 use Rattle.sj_base.specs.declared.ids.Place.TheVariants.{Node as AtNode, Disk as OnDisk}
+use Rattle.sj_base.specs.declared.ids.Worker.{Worker}
 use Rattle.sj_base.specs.declared.trace.Event.{Event}
+use Rattle.sj_base.specs.declared.trace.Event.TheVariants.{Moved}
 use Rattle.sj_base.specs.declared.program.Program.{Program}
 use Rattle.sj_base.specs.declared.program.Machine.{Machine}
 use Rattle.sj_base.specs.Array.{Array}
 use Rattle.sj_base.specs.Recorded.{Recorded}
 use Rattle.sj_core.specs.Legal.{state_of}
-use Rattle.sj_core.specs.Machine.{State}
+use Rattle.sj_core.specs.Machine.{State, transfer}
 use Rattle.sj_core.specs.Program.{dims_of}
 use Rattle.sj_core.specs.Step.{Step, after, array_at}
 use Rattle.sj_disk.specs.Directory.{DiskState}
@@ -53,3 +55,30 @@ pub record IsTileOf {D : Type 0} (held : D → Option (List ℕ)) (b : Standing 
 abbrev pub IsShareOf : {D : Type 0} → (D → Option (List ℕ)) → Standing D → Cell → Place → Option Array → Type 0
 IsShareOf held b c (AtNode n) share = IsSomeAnd share (IsTileOf held b c (AtNode n))
 IsShareOf held b c (OnDisk d) share = share ≡ None
+
+-- ---- moves
+
+-- the place is a node
+abbrev pub is_node : Place → Bool
+is_node (AtNode n) = true
+is_node (OnDisk d) = false
+
+-- the worker's transfer brings a cell to a node
+abbrev pub IsMovingIn : {D : Type 0} → Standing D → Worker → Type 0
+IsMovingIn b w = IsSomeAnd (transfer (state b) w) (λ x. is_node x.to ≡ true)
+
+-- the worker's transfer brings a cell to a disk
+abbrev pub IsMovingOut : {D : Type 0} → Standing D → Worker → Type 0
+IsMovingOut b w = IsSomeAnd (transfer (state b) w) (λ x. is_node x.to ≡ false)
+
+-- the worker's transfer brings a cell from a disk
+abbrev pub IsFetching : {D : Type 0} → Standing D → Worker → Type 0
+IsFetching b w = IsSomeAnd (transfer (state b) w) (λ x. is_node x.from ≡ false)
+
+-- the array is that of the cell of the worker's transfer, at its source
+abbrev pub IsTileMoved : {D : Type 0} → (D → Option (List ℕ)) → Standing D → Worker → Array → Type 0
+IsTileMoved held b w a = IfSome (transfer (state b) w) (λ x. IsTileOf held b x.cell x.from a)
+
+-- the worker's transfer has ended, and nothing else has happened
+abbrev pub HasMoved : {D : Type 0} → Worker → Standing D → Standing D → Type 0
+HasMoved w old new = IfSome (transfer (state old) w) (λ x. new ≡ with_event old (Moved x.cell x.from x.to))

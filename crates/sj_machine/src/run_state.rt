@@ -1,18 +1,19 @@
 //! The state of a run, and the events that change it.
 
-ghost use Rattle.std.specs.Prelude.{◌≡◌, ◌<◌, IfOk, OnErr, OnOk, None, length};
-ghost use Rattle.sj_base.specs.declared.ids.Place.TheVariants.{Node as AtNode};
+ghost use Rattle.std.specs.Prelude.{◌≡◌, ◌<◌, IfOk, IsSome, OnErr, OnOk, None, Some, false, length, true};
+ghost use Rattle.sj_base.specs.declared.ids.Place.TheVariants.{Disk as OnDisk, Node as AtNode};
 ghost use Rattle.sj_core.specs.Step.{mover_of};
-ghost use Rattle.sj_machine.specs.Agrees.{with_transfer_of};
-ghost use Rattle.sj_machine.specs.Copies.{CanShare, row_of, tile_kept, with_copy, with_row};
-ghost use Rattle.sj_machine.specs.Standing.{CanHappen, IsShareOf, state, with_event};
+ghost use Rattle.sj_machine.specs.Agrees.{transfer_in, with_transfer_of};
+ghost use Rattle.sj_machine.specs.Copies.{CanShare, row_of, stored, tile_kept, with_copy, with_row};
+ghost use Rattle.sj_machine.specs.Sound.{IsWrittenOut};
+ghost use Rattle.sj_machine.specs.Standing.{CanHappen, HasMoved, IsMovingIn, IsMovingOut, IsShareOf, IsTileMoved, is_node, state, with_event};
 ghost use Rattle.sj_machine.specs.Tiles.{array_in};
 
 use crate::copies::Copies;
 use crate::delivered::Delivered;
 use crate::hold::Hold;
 use crate::mark::Mark;
-use sj_base::ids::{Cell, Node, Place, Worker};
+use sj_base::ids::{Cell, DiskNo, Node, Place, Worker};
 use sj_base::memory::OutOfMemory;
 use sj_base::program::{Machine, Program};
 use sj_base::tile::Tile;
@@ -88,6 +89,57 @@ fn set_transfer(workers: &mut Vec<Hold>, w: Worker, transfer: Option<Transfer>)
     row.set_transfer(transfer);
 }
 
+/// A worker's transfer, where it has one. Constant time.
+fn transfer_of(workers: &[Hold], w: Worker) -> Transfer
+    requires inside { w.0 < length workers.now }
+    requires some { IsSome (transfer_in workers.now w) }
+    ensures { transfer_in workers.now w ≡ Some result }
+{
+    let row = &workers[w.0 as usize];
+    row.transfer().unwrap()
+}
+
+/// The node that a place is. Constant time.
+fn node_at(place: Place) -> Node
+    requires { is_node place ≡ true }
+    ensures { place ≡ AtNode result }
+{
+    match place {
+        Place::Node(n) => n,
+        Place::Disk(_) => unreachable!(),
+    }
+}
+
+/// The disk that a place is. Constant time.
+fn disk_at(place: Place) -> DiskNo
+    requires { is_node place ≡ false }
+    ensures { place ≡ OnDisk result }
+{
+    match place {
+        Place::Node(_) => unreachable!(),
+        Place::Disk(d) => d,
+    }
+}
+
+/// The cell's block on its disk is a copy from now on. Constant time.
+fn mark_stored(cells: &mut Vec<Copies>, cell: Cell)
+    requires { cell.0 < length cells.old.items }
+    ensures { cells.new.items ≡ with_row cells.old.items cell stored }
+{
+    let row = &mut cells[cell.0 as usize];
+    row.store();
+}
+
+/// The cell has a valid copy at a node from now on. Constant time.
+fn put_copy(cells: &mut Vec<Copies>, cell: Cell, n: Node, tile: Arc<Tile>)
+    requires cell { cell.0 < length cells.old.items }
+    requires node { n.0 < length (row_of cells.old.items cell).marks }
+    ensures { cells.new.items ≡ with_row cells.old.items cell (λ row. with_copy row n Mark.Valid (Some tile.value)) }
+{
+    let row = &mut cells[cell.0 as usize];
+    row.put(n, Mark::Valid, Some(tile));
+}
+
 impl<D: Disk> RunState<D> {
     /// A leaving copy goes from its node, since another is valid and no transfer reads it. Constant time, and no memory.
     pub fn drop_copy(&mut self, cell: Cell, n: Node)
@@ -125,5 +177,33 @@ impl<D: Disk> RunState<D> {
         self.owed += 1;
         self.trace.add(Event::Move(cell, from, to));
         Ok(share)
+    }
+
+    /// The move of a worker into a node ends: the tile is there. Constant time, and no memory.
+    pub fn end_move_in(&mut self, w: Worker, tile: Arc<Tile>)
+        requires under_way { IsMovingIn self.old w }
+        requires tile { IsTileMoved D.held self.old w tile.value }
+        ensures { HasMoved w self.old self.new }
+    {
+        let x = transfer_of(&self.workers, w);
+        let n = node_at(x.to);
+        put_copy(&mut self.cells, x.cell, n, tile);
+        set_transfer(&mut self.workers, w, None);
+        self.owed -= 1;
+        self.trace.add(Event::Moved(x.cell, x.from, x.to));
+    }
+
+    /// The move of a worker out to a disk ends: the cell's block there is a copy. Constant time, and no memory.
+    pub fn end_move_out(&mut self, w: Worker)
+        requires under_way { IsMovingOut self.old w }
+        requires written { IsWrittenOut D.held self.old w }
+        ensures { HasMoved w self.old self.new }
+    {
+        let x = transfer_of(&self.workers, w);
+        let _d = disk_at(x.to);
+        mark_stored(&mut self.cells, x.cell);
+        set_transfer(&mut self.workers, w, None);
+        self.owed -= 1;
+        self.trace.add(Event::Moved(x.cell, x.from, x.to));
     }
 }
