@@ -4,6 +4,7 @@ pub mod ClaimEntries
 pub mod ClaimPins
 pub mod ClaimMarks
 pub mod ClaimStores
+pub mod ClaimLoops
 pub mod Dropping
 pub mod Keeping
 pub mod Marking
