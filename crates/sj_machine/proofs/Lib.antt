@@ -5,6 +5,7 @@ pub mod ClaimPins
 pub mod ClaimMarks
 pub mod ClaimStores
 pub mod ClaimLoops
+pub mod ClaimRows
 pub mod Dropping
 pub mod Keeping
 pub mod Marking
