@@ -254,3 +254,41 @@ module _ {D : Type 0} (size faults mismatches : D → ℕ) (held : D → Option 
       keeps-event size faults mismatches held b rows owed spare keeps (Claim t w) after_claims (owed + (length claim_plan.victims + 1)) spare' can
       (HoldsBlocks-kept held p m s s' (AllTell held b) b.disks (λ c d v. (claim-on_disk p m s t w s' claim c d, claim-writes p m s t w s' claim c)) keeps.sound.blocks)
       agrees (omega (arith, owes, keeps.owes)) fits
+
+pub keeps-owed : {D : Type 0} (size faults mismatches : D → ℕ) (held : D → Option (List ℕ)) (b : Standing D) (rows : Rows) (spare owed owed' : ℕ) → owed ≡ owed' → Keeps size faults mismatches held b rows owed spare → Keeps size faults mismatches held b rows owed' spare
+keeps-owed size faults mismatches held b rows spare owed owed' same keeps = subst (λ (k : ℕ). Keeps size faults mismatches held b rows k spare) same keeps
+
+-- ---- by a plan, and a node that is the worker's
+
+-- the rows after a claim by this plan
+abbrev pub claimed_rows : Rows → Task → Worker → Node → ClaimPlan → Rows
+claimed_rows rows t w k plan = rows_of (set rows.tasks t.0 (Claimed w)) (marked (marked rows.cells plan.victims k (LeavingMark w)) plan.missing k (ComingMark w)) (set rows.nodes k.0 (holding (store_at rows.nodes k) plan)) (set rows.workers w.0 (row_with (row_at rows.workers w) plan))
+
+-- each change can be made
+pub record CanChange (rows : Rows) (w : Worker) (k : Node) (plan : ClaimPlan) : Type 0 where
+  pub hold : CanHold (store_at rows.nodes k) plan
+  pub victims : All (λ c. c.0 < length rows.cells) plan.victims
+  pub wide : All (λ row. k.0 < length row.marks) rows.cells
+  pub missing : All (λ c. c.0 < length (marked rows.cells plan.victims k (LeavingMark w))) plan.missing
+  pub wide_left : All (λ row. k.0 < length row.marks) (marked rows.cells plan.victims k (LeavingMark w))
+
+module _ {D : Type 0} (size faults mismatches : D → ℕ) (held : D → Option (List ℕ)) (b : Standing D) (rows : Rows) (owed spare : ℕ) (keeps : Keeps size faults mismatches held b rows owed spare) (t : Task) (w : Worker) (can : CanHappen b (Claim t w)) (plan : ClaimPlan) (is : IsPlan b.program b.machine (state b) t w plan) (k : Node) (at : k ≡ node_of b.machine w) where
+  same_plan : plan ≡ claim_plan size faults mismatches held b rows owed spare keeps t w can
+  same_plan = plan-is b.program b.machine (state b) t w (after b.program b.machine (state b) (Claim t w)) can plan is
+
+  pub can-change : CanChange rows w k plan
+  can-change =
+      subst (λ (j : Node). CanChange rows w j plan) (sym at)
+      (subst (λ (x : ClaimPlan). CanChange rows w (node_of b.machine w) x) (sym same_plan) (record {
+        hold = claim-can_hold size faults mismatches held b rows owed spare keeps t w can;
+        victims = claim-victims size faults mismatches held b rows owed spare keeps t w can;
+        wide = claim-wide size faults mismatches held b rows owed spare keeps t w can;
+        missing = claim-missing size faults mismatches held b rows owed spare keeps t w can;
+        wide_left = claim-wide_left size faults mismatches held b rows owed spare keeps t w can;
+      }))
+
+  pub keeps-claimed : (spare' : ℕ) → owed + (length plan.victims + 1) ≤ spare' → Keeps size faults mismatches held (with_event b (Claim t w)) (claimed_rows rows t w k plan) (owed + (length plan.victims + 1)) spare'
+  keeps-claimed spare' =
+      subst (λ (j : Node). owed + (length plan.victims + 1) ≤ spare' → Keeps size faults mismatches held (with_event b (Claim t w)) (claimed_rows rows t w j plan) (owed + (length plan.victims + 1)) spare') (sym at)
+      (subst (λ (x : ClaimPlan). owed + (length x.victims + 1) ≤ spare' → Keeps size faults mismatches held (with_event b (Claim t w)) (claimed_rows rows t w (node_of b.machine w) x) (owed + (length x.victims + 1)) spare') (sym same_plan)
+      (keeps-claim size faults mismatches held b rows owed spare keeps t w can spare'))
