@@ -1,18 +1,18 @@
 -- The entries of a node, whose bytes and pins are told by the cell, while a claim admits, touches and pins its cells.
-use Rattle.std.proofs.Common.{◌≡◌, ℕ, ◌+◌, ◌<◌, ◌≤◌, Bool, true, false, not, ◌||◌, cond, List, [], ◌∷◌, ◌++◌, map, filter, fold, length, refl, sym, ap, ◌∙◌, subst, arith, sum_by, nat_eq}
-use Rattle.std.specs.List.{zip, list_any, find}
+use Rattle.std.proofs.Common.{◌≡◌, ℕ, ◌+◌, ◌≤◌, Bool, true, false, not, ◌||◌, cond, List, [], ◌∷◌, ◌++◌, map, filter, fold, length, refl, sym, ap, ◌∙◌, subst, arith, sum_by, nat_eq}
+use Rattle.std.specs.List.{find}
 use Rattle.std.specs.Option.{option_map_or}
-use Rattle.std.specs.Prelude.{IsTrue, Option, Some, None}
-use Rattle.std.proofs.lemmas.Bool.{false≢true, or_left, or_right}
+use Rattle.std.specs.Prelude.{Some}
+use Rattle.std.proofs.lemmas.Bool.{false≢true, or_right}
 use Rattle.std.proofs.lemmas.List.Elements.{filter-append, filter_agree}
 use Rattle.std.proofs.lemmas.List.Sums.{sum_by-cons}
 use Rattle.sj_core.proofs.Words.{Cell, has_cell, same_cell}
-use Rattle.sj_core.proofs.CellLists.{has_cell-to_front, same_cell-refl, same_cell-sym, times, times-cons, times-has, times-to_front}
+use Rattle.sj_core.proofs.CellLists.{has_cell-to_front, same_cell-refl, same_cell-sym, times, times-cons, times-to_front}
 use Rattle.sj_core.proofs.Reading.{same_cell-is}
 use Rattle.sj_core.proofs.Sums.{tally}
 use Rattle.sj_core.specs.Step.{to_front, without}
 use Rattle.sj_node.proofs.CallerLemmas.{filter-map}
-use Rattle.sj_node.specs.Entry.{Entry, has_entry, is_among, is_of, pins_of, put_all, repinned, to_front as entry_to_front, total, unpinned, without as without_entry, without_all}
+use Rattle.sj_node.specs.Entry.{Entry, has_entry, is_among, is_of, pins_of, put_all, repinned, to_front as entry_to_front, total, without as without_entry, without_all}
 use Rattle.sj_node.specs.Store.{Store, with_entries}
 use Rattle.sj_machine.specs.Plan.{CanTakeAll, taken}
 
@@ -160,7 +160,7 @@ module _ (bytes : Cell → ℕ) where
         entries-has pins cs d ∙ here,
         (let most = entries-pins pins cs d in let bound = few d in omega arith),
         subst (λ (x : Store). CanTakeAll x ds) (sym (entries-taken s pins d cs here (once d)))
-        (can_take-all s (bumped pins d) ds (to_front cs d) (λ c h. has_cell-to_front cs d c ∙ or_right (same_cell d c) (has_cell cs c) (there c (or_right (same_cell d c) (has_cell ds c) h))) (λ c. times-to_front cs d c (once c)) (λ c. (let bound = few c in let most = tally-le (same_cell d c) in omega arith))),
+            (can_take-all s (bumped pins d) ds (to_front cs d) (λ c h. has_cell-to_front cs d c ∙ or_right (same_cell d c) (has_cell cs c) (there c (or_right (same_cell d c) (has_cell ds c) h))) (λ c. times-to_front cs d c (once c)) (λ c. (let bound = few c in let most = tally-le (same_cell d c) in omega arith))),
       )
     where
       tally-le : (b : Bool) → tally b ≤ 1

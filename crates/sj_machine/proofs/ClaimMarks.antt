@@ -1,16 +1,15 @@
 -- The rows of cells after a claim marked its victims and the cells that it brings.
-use Rattle.std.proofs.Common.{◌≡◌, ◌≢◌, ℕ, ◌+◌, ◌<◌, ◌≤◌, Bool, true, false, ◌||◌, List, [], ◌∷◌, length, fold, get_or, set, refl, sym, ap, ◌∙◌, subst, arith, inl, inr, sum_by}
+use Rattle.std.proofs.Common.{◌≡◌, ◌≢◌, ℕ, ◌+◌, ◌<◌, ◌≤◌, Bool, true, false, ◌||◌, List, [], ◌∷◌, length, refl, sym, ap, ◌∙◌, arith, inl, inr, sum_by}
 use Rattle.std.specs.Prelude.{All}
-use Rattle.std.proofs.lemmas.Bool.{cases_lt, false≢true, or_left, or_right, or_parts}
-use Rattle.std.proofs.lemmas.List.{get_or-set_other, get_or-set_same, get_or_past, length-set}
+use Rattle.std.proofs.lemmas.Bool.{false≢true, or_right, or_parts}
+use Rattle.std.proofs.lemmas.List.{get_or-set_other, get_or-set_same, length-set}
 use Rattle.std.proofs.lemmas.List.Elements.{All-get_or, All-set}
 use Rattle.std.proofs.lemmas.List.Sums.{sum_by-cons, sum_by-set}
 use Rattle.sj_base.specs.declared.ids.Cell.{Cell}
 use Rattle.sj_base.specs.declared.ids.Node.{Node}
-use Rattle.sj_base.specs.Array.{Array}
 use Rattle.sj_core.proofs.CellLists.{same_cell-from, same_cell-refl}
 use Rattle.sj_core.proofs.Placing.{cells_differ}
-use Rattle.sj_core.proofs.Reading.{same_cell-is, same_node}
+use Rattle.sj_core.proofs.Reading.{same_cell-is}
 use Rattle.sj_core.specs.Program.{has_cell, same_cell}
 use Rattle.sj_machine.specs.declared.mark.Mark.{Mark}
 use Rattle.sj_machine.specs.declared.mark.Mark.TheVariants.{Invalid}
@@ -18,7 +17,7 @@ use Rattle.sj_machine.specs.Mark.{owed_for}
 use Rattle.sj_machine.specs.Agrees.{IsWide}
 use Rattle.sj_machine.specs.Copies.{Copies, mark_at, owed_in, row_of, with_row}
 use Rattle.sj_machine.specs.Plan.{marked, with_mark}
-use Rattle.sj_machine.proofs.Reading.{no_copies, row-kept, row-other, row-same}
+use Rattle.sj_machine.proofs.Reading.{no_copies, row-other, row-same}
 
 node_number : (n k : Node) → k ≢ n → k.0 ≢ n.0
 node_number n k h e = h (ap (λ (i : ℕ). let j : Node = record { 0 = i } in j) e)

@@ -1,7 +1,6 @@
 -- A worker pins at most as many cells as a codelet has operands, and so a node's entries have few pins.
-use Rattle.std.proofs.Common.{◌≡◌, ℕ, ◌+◌, ◌*◌, ◌<◌, ◌≤◌, Bool, true, false, ◌&&◌, List, [], ◌∷◌, map, length, get_or, set, replicate, refl, sym, ap, ◌∙◌, subst, arith, inl, inr, sum_by}
-use Rattle.std.specs.List.{filter}
-use Rattle.std.specs.Prelude.{All, IsTrue, count_by, nat_eq}
+use Rattle.std.proofs.Common.{◌≡◌, ℕ, ◌≤◌, Bool, ◌&&◌, List, [], ◌∷◌, map, length, get_or, set, replicate, sym, ap, ◌∙◌, subst, arith, inl, inr}
+use Rattle.std.specs.Prelude.{count_by, nat_eq}
 use Rattle.std.proofs.lemmas.Bool.{and_parts, cases_eq, cases_lt, eqb-true}
 use Rattle.std.proofs.lemmas.List.{get_or-replicate, get_or-set_other, get_or-set_same, get_or_past, length-map, length-replicate, length-set}
 use Rattle.std.proofs.lemmas.List.Elements.{All-get_or}
@@ -12,15 +11,15 @@ use Rattle.sj_base.specs.declared.mode.Access.{Access}
 use Rattle.sj_base.specs.declared.program.Lowered.{Lowered}
 use Rattle.sj_base.specs.declared.trace.Event.{Event}
 use Rattle.sj_base.specs.declared.trace.Event.TheVariants.{Claim, Move, Moved, Drop, Run, End}
-use Rattle.sj_codelet.specs.Kernel.{arguments_fit, dims_fit, fits, formals_of}
+use Rattle.sj_codelet.specs.Kernel.{arguments_fit, dims_fit, formals_of}
 use Rattle.sj_codelet.specs.declared.kernel.Kernel.{Kernel}
 use Rattle.sj_codelet.specs.declared.kernel.Kernel.TheVariants.{Fill, Copy, Scale, Add, Axpy, Butterfly, Gemm, GemmThree, Transpose, Dot, Sum, Lowest, MinGemm, FwDiag, FwRow, FwCol, Load, LoadFill, Paste, Deliver, InitPlus, InitLeast}
 use Rattle.sj_core.proofs.Placing.{pins-same}
 use Rattle.sj_core.proofs.Reading.{idle_row}
-use Rattle.sj_core.proofs.Words.{AtNode, Cell, Machine, Node, OnDisk, Place, Program, State, Task, Valid, Worker, WorkerState, cells_of, data_operands, dims_of, no_task, node_of, opening, pins, same_cell, task_of, transfer, with_replica, worked_on, worker_state, workers_at, workers_of}
+use Rattle.sj_core.proofs.Words.{AtNode, Cell, Machine, Node, OnDisk, Program, State, Task, Valid, Worker, WorkerState, cells_of, data_operands, dims_of, no_task, node_of, opening, pins, same_cell, task_of, with_replica, worked_on, workers_at, workers_of}
 use Rattle.sj_core.specs.Legal.{Leads, Replays}
 use Rattle.sj_core.specs.Proper.{Fits, IsMachineFor, Proper}
-use Rattle.sj_core.specs.Step.{Step, array_at, mover_of}
+use Rattle.sj_core.specs.Step.{Step, array_at}
 use Rattle.sj_machine.specs.Agrees.{pins_on}
 
 -- ---- operands

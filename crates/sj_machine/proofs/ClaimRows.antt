@@ -1,9 +1,9 @@
 -- What a claim leaves: rows that agree with the state after it.
-use Rattle.std.proofs.Common.{◌≡◌, ◌≢◌, ℕ, ◌+◌, ◌<◌, ◌≤◌, Bool, true, false, List, [], ◌∷◌, ◌++◌, Option, None, Some, cond, length, get_or, set, refl, sym, ap, ◌∙◌, subst, arith, inl, inr, is_some, sum_by}
+use Rattle.std.proofs.Common.{◌≡◌, ◌≢◌, ℕ, ◌+◌, ◌<◌, ◌≤◌, Bool, true, false, List, [], ◌∷◌, Option, Some, cond, length, get_or, set, refl, sym, ap, ◌∙◌, subst, arith, inl, inr, is_some, sum_by}
 use Rattle.std.specs.Prelude.{All, IfSome}
 use Rattle.std.proofs.lemmas.Bool.{false≢true, true_from_ne_false}
 use Rattle.std.proofs.lemmas.List.{get_or-set_other, get_or-set_same, get_or_default, length-set}
-use Rattle.std.proofs.lemmas.List.Elements.{All-get_or, All-weaker}
+use Rattle.std.proofs.lemmas.List.Elements.{All-weaker}
 use Rattle.std.proofs.lemmas.List.Sums.{sum_by-cons, sum_by-set}
 use Rattle.sj_base.specs.declared.trace.Event.TheVariants.{Claim}
 use Rattle.sj_core.proofs.Bytes.{entry-cell}
@@ -11,20 +11,20 @@ use Rattle.sj_core.proofs.ClaimKeeps.{claim-rested, claim-rests}
 use Rattle.sj_core.proofs.Claiming.{ClaimCase, Comes, Leaves, Stays, claim-array, claim-cases, claim-elsewhere, claim-here, claim-on_disk, claim-own_cells, claim-writes, evicted-free, missing-absent, task-cell, victim-valid}
 use Rattle.sj_core.proofs.Reading.{entry-inside, idle_row, same_node}
 use Rattle.sj_core.proofs.Replicas.{coming_by-is}
-use Rattle.sj_core.proofs.Words.{Array, AtNode, Cell, Coming, DiskNo, Leaving, Machine, Node, OnDisk, Place, Program, Replica, State, Task, Valid, Worker, WorkerState, array_of, cells_of, dims_of, has_cell, is_entry, is_valid, node_of, progress, replica, transfer, writes}
+use Rattle.sj_core.proofs.Words.{Array, AtNode, Cell, Coming, Leaving, Machine, Node, Place, Program, State, Task, Worker, WorkerState, array_of, cells_of, dims_of, has_cell, is_entry, is_valid, node_of, replica}
 use Rattle.sj_core.specs.declared.progress.Progress.{Progress}
 use Rattle.sj_core.specs.declared.progress.Progress.TheVariants.{Claimed, Waiting}
-use Rattle.sj_core.specs.Coherent.{Coherent, is_being_written}
+use Rattle.sj_core.specs.Coherent.{is_being_written}
 use Rattle.sj_core.specs.Laws.{IsSound}
-use Rattle.sj_core.specs.Step.{Claims, after, after_claim, disk_of, leave, missing, victims_for}
+use Rattle.sj_core.specs.Step.{Claims, after, leave, missing}
 use Rattle.sj_node.specs.Store.{Store, empty}
 use Rattle.sj_machine.specs.Agrees.{Agrees, HasMarks, HasStores, HasTiles, IsWide, Rows, owed_by_task, owed_by_worker, owed_in, pins_on, row_at, rows_of, store_of}
 use Rattle.sj_machine.specs.Copies.{Copies, mark_at, owed_in as owed_in_copies, row_of, tile_at}
-use Rattle.sj_machine.specs.Mark.{mark_of, owed_for}
+use Rattle.sj_machine.specs.Mark.{mark_of}
 use Rattle.sj_machine.specs.declared.mark.Mark.{Mark}
 use Rattle.sj_machine.specs.declared.mark.Mark.TheVariants.{Coming as ComingMark, Leaving as LeavingMark}
 use Rattle.sj_machine.specs.Plan.{CanHold, ClaimPlan, IsPlan, holding, marked, plan_with, row_with, store_at, with_mark}
-use Rattle.sj_machine.specs.Sound.{HoldsBlocks, Keeps}
+use Rattle.sj_machine.specs.Sound.{Keeps}
 use Rattle.sj_machine.specs.Standing.{AllTell, CanHappen, Standing, state, with_event}
 use Rattle.sj_machine.proofs.ClaimMarks.{field-marked, length-marked, marked-elsewhere, marked-here, marked-other, owed-marked, wide-marked}
 use Rattle.sj_machine.proofs.ClaimPins.{few-cells, pins-few, pins_on-few}
@@ -204,11 +204,11 @@ module _ {D : Type 0} (size faults mismatches : D → ℕ) (held : D → Option 
     every_node = length-set rows.nodes n.0 _ ∙ keeps.agrees.stores.every_node;
     stores = λ k inside. elim (same_node k n) [
       | inl e ↦ subst (λ (j : Node). get_or (set rows.nodes n.0 (holding (store_at rows.nodes n) claim_plan)) j.0 (store_of p m s' j) ≡ store_of p m s' j) (sym e)
-        (get_or-set_same rows.nodes n.0 (holding (store_at rows.nodes n) claim_plan) (store_of p m s' n) claim-node ∙ ap (λ (x : Store). holding x claim_plan) store-is ∙ holding-is p m s sound t w s' claim)
+          (get_or-set_same rows.nodes n.0 (holding (store_at rows.nodes n) claim_plan) (store_of p m s' n) claim-node ∙ ap (λ (x : Store). holding x claim_plan) store-is ∙ holding-is p m s sound t w s' claim)
       | inr other ↦
-        let same = store-elsewhere p m s sound t w s' claim k other in
-        get_or-set_other rows.nodes n.0 k.0 (holding (store_at rows.nodes n) claim_plan) (store_of p m s' k) (λ e. other (ap (λ (i : ℕ). let j : Node = record { 0 = i } in j) e))
-        ∙ ap (λ (x : Store). get_or rows.nodes k.0 x) same ∙ keeps.agrees.stores.stores k inside ∙ sym same
+          let same = store-elsewhere p m s sound t w s' claim k other in
+          get_or-set_other rows.nodes n.0 k.0 (holding (store_at rows.nodes n) claim_plan) (store_of p m s' k) (λ e. other (ap (λ (i : ℕ). let j : Node = record { 0 = i } in j) e))
+          ∙ ap (λ (x : Store). get_or rows.nodes k.0 x) same ∙ keeps.agrees.stores.stores k inside ∙ sym same
     ];
   }
 

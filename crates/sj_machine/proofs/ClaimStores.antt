@@ -1,8 +1,8 @@
 -- What a claim leaves of the nodes' stores.
-use Rattle.std.proofs.Common.{◌≡◌, ◌≢◌, ℕ, ◌+◌, ◌-◌, ◌<◌, ◌≤◌, Bool, true, false, not, ◌&&◌, ◌||◌, cond, List, [], ◌∷◌, ◌++◌, Some, map, filter, fold, length, get_or, refl, sym, ap, ◌∙◌, subst, arith, inl, inr, ◌⊎◌, sum, sum_by}
-use Rattle.std.specs.List.{AllByRecursion, IsDistinct, list_any}
+use Rattle.std.proofs.Common.{◌≡◌, ◌≢◌, ℕ, ◌+◌, ◌<◌, ◌≤◌, Bool, true, false, not, ◌||◌, cond, List, [], ◌∷◌, map, fold, length, get_or, refl, sym, ap, ◌∙◌, subst, arith, inl, inr, sum, sum_by}
+use Rattle.std.specs.List.{AllByRecursion, IsDistinct}
 use Rattle.std.specs.Prelude.{All, IsTrue, count_by, nat_eq, nat_le, nat_lt}
-use Rattle.std.proofs.lemmas.Bool.{and_from, and_parts, cases_Bool, false_from_ne_true, false≢true, le-leb, lt-ltb, or_cases, or_parts, or_left, or_right}
+use Rattle.std.proofs.lemmas.Bool.{and_from, false_from_ne_true, false≢true, le-leb, lt-ltb, or_cases, or_parts, or_left, or_right}
 use Rattle.std.proofs.lemmas.Bool.Decides.{Decides-eqb}
 use Rattle.std.proofs.lemmas.List.{length-map}
 use Rattle.std.proofs.lemmas.List.Folds.{list_any_at}
@@ -13,14 +13,13 @@ use Rattle.sj_core.proofs.Bytes.{entry-cell, once-bytes}
 use Rattle.sj_core.proofs.CellLists.{has_cell-fronted, has_cell-without, share, sum-once, times, times-cons, times-distinct, times-filter, times-has, times-none, times-program}
 use Rattle.sj_core.proofs.ClaimKeeps.{Claims-coherent, claim-order_elsewhere, claim-order_here}
 use Rattle.sj_core.proofs.Claiming.{Claims-other_worker, Claims-worker, absent-missing, evicted-free, missing-absent, own-spared, pinned-at, pins-inside, task-cell}
-use Rattle.sj_core.proofs.Reading.{idle_row, same_cell-is, same_node, workers_differ}
 use Rattle.sj_core.proofs.Replicas.{same_worker-is, same_worker-refl}
 use Rattle.sj_core.proofs.Sums.{count-numbered, sum-agree, sum-filter, sum-filter-le, sum-plus, tally}
-use Rattle.sj_core.proofs.Words.{AtNode, Cell, Coming, Invalid, Leaving, Machine, Node, Replica, Valid, Program, State, Task, Worker, WorkerState, cells_of, cells_of_program, distinct, has_cell, is_claimed_by, is_entry, is_leaving, is_pinned, is_running_on, is_valid, node_of, node_size, order, pins, progress, replica, same_cell, same_worker, scratch, scratch_bytes, task_of, tile_bytes, worker_state, workers_at, workers_of}
+use Rattle.sj_core.proofs.Words.{AtNode, Cell, Coming, Invalid, Leaving, Machine, Node, Replica, Valid, Program, State, Task, Worker, WorkerState, cells_of, cells_of_program, distinct, has_cell, is_claimed_by, is_entry, is_leaving, is_running_on, is_valid, node_of, node_size, order, pins, progress, replica, same_cell, same_worker, scratch, scratch_bytes, task_of, tile_bytes, worker_state, workers_at, workers_of}
 use Rattle.sj_core.specs.Coherent.{Coherent}
 use Rattle.sj_core.specs.Laws.{IsSound}
-use Rattle.sj_core.specs.Step.{Claims, missing, to_front, without}
-use Rattle.sj_node.specs.Entry.{AreDistinct, Entry, admitted, has_entry, pins_of, put_all, total, without_all}
+use Rattle.sj_core.specs.Step.{Claims, missing, without}
+use Rattle.sj_node.specs.Entry.{AreDistinct, Entry, has_entry, pins_of, put_all, total, without_all}
 use Rattle.sj_node.specs.Store.{Store, free, store, with_entries}
 use Rattle.sj_machine.specs.Agrees.{entry_of, pins_on, store_of}
 use Rattle.sj_machine.specs.Plan.{CanHold, CanTakeAll, ClaimPlan, admitting, holding, plan_with, taken, taking}

@@ -1,22 +1,19 @@
 -- What a claim does to the rows, and when it can't be made.
-use Rattle.std.specs.Prelude.{◌≡◌, ◌≤◌, ◌<◌, ◌+◌, ℕ, Option, Some, None, false, IsTrue, All, List, [], ◌∷◌, map, fold, length, sum, slice_set, slice_index_or}
+use Rattle.std.specs.Prelude.{◌≡◌, ◌≤◌, ◌<◌, ◌+◌, ℕ, Some, false, IsTrue, All, List, [], ◌∷◌, map, fold, length, sum, slice_set, slice_index_or}
 use Rattle.sj_base.specs.declared.ids.Cell.{Cell}
 use Rattle.sj_base.specs.declared.ids.Node.{Node}
 use Rattle.sj_base.specs.declared.ids.Task.{Task}
 use Rattle.sj_base.specs.declared.ids.Worker.{Worker}
-use Rattle.sj_base.specs.declared.ids.Place.TheVariants.{Node as AtNode}
 use Rattle.sj_base.specs.declared.program.Program.{Program}
 use Rattle.sj_base.specs.declared.program.Machine.{Machine}
-use Rattle.sj_core.specs.Machine.{State, WorkerState, is_idle, is_leaving, progress, replica}
-use Rattle.sj_core.specs.Needs.{footprint, node_of, node_size, scratch_bytes, tile_bytes}
-use Rattle.sj_core.specs.Operands.{cells_of, commuting_cells}
-use Rattle.sj_core.specs.Program.{task_of, has_cell}
-use Rattle.sj_core.specs.Step.{done_tasks, is_in_use, missing, none_leaving, victims_for}
-use Rattle.sj_core.specs.declared.progress.Progress.TheVariants.{Waiting}
-use Rattle.sj_deps.specs.Conflict.{Ready}
+use Rattle.sj_core.specs.Machine.{State, WorkerState}
+use Rattle.sj_core.specs.Needs.{node_of, scratch_bytes, tile_bytes}
+use Rattle.sj_core.specs.Operands.{cells_of}
+use Rattle.sj_core.specs.Program.{task_of}
+use Rattle.sj_core.specs.Step.{missing, victims_for}
 use Rattle.sj_node.specs.Entry.{AreDistinct, admitted, has_entry, pins_of, repinned, to_front, without_all}
 use Rattle.sj_node.specs.Store.{Store, empty, free, with_entries}
-use Rattle.sj_machine.specs.Copies.{Copies, row_of, with_row}
+use Rattle.sj_machine.specs.Copies.{Copies, with_row}
 use Rattle.sj_machine.specs.declared.mark.Mark.{Mark}
 
 -- ---- a plan

@@ -1,4 +1,4 @@
-use Rattle.std.proofs.Common.{rules, ◌≡◌, ◌<◌, ◌+◌, arith, refl, ap, sym, ◌∙◌, subst, get_or, set}
+use Rattle.std.proofs.Common.{rules, ◌≡◌, ◌+◌, arith, refl, ap, sym, ◌∙◌, subst, get_or, set}
 use Rattle.std.proofs.lemmas.List.{get_or_default}
 use Rattle.sj_base.specs.declared.ids.Cell.{Cell}
 use Rattle.sj_machine.proofs.Reading.{no_copies}

@@ -1,8 +1,5 @@
-use Rattle.std.proofs.Common.{rules, ◌≡◌, ◌<◌, arith, refl, ap, sym, ◌∙◌, subst}
-use Rattle.sj_base.specs.declared.ids.Cell.{Cell}
-use Rattle.sj_node.specs.Entry.{has_entry, pins_of}
-use Rattle.sj_node.specs.Store.{Store}
-use Rattle.sj_machine.proofs.ClaimLoops.{IsTaking, has-to_front, pins-to_front, taking-ends, taking-has, taking-next, taking-pins}
+use Rattle.std.proofs.Common.{arith, refl}
+use Rattle.sj_machine.proofs.ClaimLoops.{has-to_front, pins-to_front, taking-ends, taking-has, taking-next, taking-pins}
 use Rattle.sj_machine.proofs.claiming.take_all.Goals as goal
 
 pub loop-cell-init : goal.loop-cell-init

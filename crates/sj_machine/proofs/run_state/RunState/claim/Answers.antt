@@ -1,11 +1,11 @@
-use Rattle.std.proofs.Common.{◌≡◌, ◌<◌, ◌≤◌, ◌+◌, ◌∙◌, ◌++◌, ◌∷◌, [], List, ℕ, length, max, arith, ap, rules, set, subst, sym}
+use Rattle.std.proofs.Common.{◌≡◌, ◌<◌, ◌≤◌, ◌+◌, ◌∙◌, ◌++◌, ◌∷◌, [], List, length, max, arith, ap, rules, set, subst, sym}
 use Rattle.std.specs.Prelude.{All}
 use Rattle.sj_base.specs.declared.ids.Cell.{Cell}
 use Rattle.sj_base.specs.declared.trace.Event.TheVariants.{Claim}
 use Rattle.sj_core.specs.Machine.{WorkerState}
 use Rattle.sj_core.specs.declared.progress.Progress.TheVariants.{Claimed}
 use Rattle.sj_node.specs.Store.{Store}
-use Rattle.sj_machine.specs.Agrees.{Rows, rows_of}
+use Rattle.sj_machine.specs.Agrees.{rows_of}
 use Rattle.sj_machine.specs.Copies.{Copies}
 use Rattle.sj_machine.specs.Plan.{IsPlan, marked}
 use Rattle.sj_machine.specs.Standing.{CanHappen, Standing, state}
@@ -63,9 +63,9 @@ invariant_of-self-2 g c =
     let told : c.add.new.self.events ≡ _ = c.add.ensures.events ∙ ap (λ es. es ++ Claim a.t a.w ∷ []) c.reserve.ensures.events in
     let nodes : c.hold_all.new.nodes.items ≡ (claimed_rows (rows_of i.tasks.items i.cells.items i.nodes.items i.workers.items) a.t a.w n a.plan).nodes = search rules in
     let rows : rows_of (set i.tasks.items a.t.0 (Claimed a.w)) c.mark_all-2.new.cells.items c.hold_all.new.nodes.items c.take_plan.new.workers.items ≡ claimed_rows (rows_of i.tasks.items i.cells.items i.nodes.items i.workers.items) a.t a.w n a.plan =
-        ap (λ (cs : List Copies). rows_of (set i.tasks.items a.t.0 (Claimed a.w)) cs c.hold_all.new.nodes.items c.take_plan.new.workers.items) came
-        ∙ ap (λ (ns : List Store). rows_of (set i.tasks.items a.t.0 (Claimed a.w)) (marked (marked i.cells.items a.plan.victims n (Leaving a.w)) a.plan.missing n (Coming a.w)) ns c.take_plan.new.workers.items) nodes
-        ∙ ap (λ (ws : List WorkerState). rows_of (set i.tasks.items a.t.0 (Claimed a.w)) (marked (marked i.cells.items a.plan.victims n (Leaving a.w)) a.plan.missing n (Coming a.w)) (claimed_rows (rows_of i.tasks.items i.cells.items i.nodes.items i.workers.items) a.t a.w n a.plan).nodes ws) c.take_plan.ensures in
+    ap (λ (cs : List Copies). rows_of (set i.tasks.items a.t.0 (Claimed a.w)) cs c.hold_all.new.nodes.items c.take_plan.new.workers.items) came
+    ∙ ap (λ (ns : List Store). rows_of (set i.tasks.items a.t.0 (Claimed a.w)) (marked (marked i.cells.items a.plan.victims n (Leaving a.w)) a.plan.missing n (Coming a.w)) ns c.take_plan.new.workers.items) nodes
+    ∙ ap (λ (ws : List WorkerState). rows_of (set i.tasks.items a.t.0 (Claimed a.w)) (marked (marked i.cells.items a.plan.victims n (Leaving a.w)) a.plan.missing n (Coming a.w)) (claimed_rows (rows_of i.tasks.items i.cells.items i.nodes.items i.workers.items) a.t a.w n a.plan).nodes ws) c.take_plan.ensures in
     let owes : i.owed + (length a.plan.victims + 1) ≡ i.owed + (length c.victims.result.now + 1) = omega (arith, chosen) in
     keeps-owed _ _ _ _ _ _ _ _ _ owes
     (keeps-told _ _ _ _ _ _ _ _ _ c.add.new.self told rows (keeps-claimed _ _ _ _ _ _ _ _ c.self.invariant a.t a.w can a.plan is n c.node_of-n.ensures c.add.new.self.spare room))
