@@ -183,10 +183,10 @@ module _ {D : Type 0} (size faults mismatches : D → ℕ) (held : D → Option 
             elim (cells_differ x c) [
               | inr other ↦ ap (λ (row : Copies). row.on_disk) (row-other rows.cells c x stored other) ∙ keeps.agrees.marks.on_disk x k home ∙ elim (replica-cases s c (OnDisk d) (Valid out) x (OnDisk k)) [ inl same ↦ ap is_valid (sym same) | inr (e, at, is) ↦ absurd (other e) ]
               | inl e ↦ (
-                let one : Some d ≡ Some k = sym aimed ∙ ap (disk_of p m) (sym e) ∙ home in
-                let is : d ≡ k = cc in
-                ap (λ (y : Cell). (row_of new_cells y).on_disk) e ∙ ap (λ (row : Copies). row.on_disk) (row-same rows.cells c stored out-cell) ∙ ap is_valid (sym on_state) ∙ ap (λ (j : DiskNo). is_valid (replica s1 c (OnDisk j))) is ∙ ap (λ (y : Cell). is_valid (replica s1 y (OnDisk k))) (sym e)
-              )
+                  let one : Some d ≡ Some k = sym aimed ∙ ap (disk_of p m) (sym e) ∙ home in
+                  let is : d ≡ k = cc in
+                  ap (λ (y : Cell). (row_of new_cells y).on_disk) e ∙ ap (λ (row : Copies). row.on_disk) (row-same rows.cells c stored out-cell) ∙ ap is_valid (sym on_state) ∙ ap (λ (j : DiskNo). is_valid (replica s1 c (OnDisk j))) is ∙ ap (λ (y : Cell). is_valid (replica s1 y (OnDisk k))) (sym e)
+                  )
             ]
 
     blocks-out : HoldsBlocks held p m s1 (AllTell held b) b.disks
@@ -199,7 +199,7 @@ module _ {D : Type 0} (size faults mismatches : D → ℕ) (held : D → Option 
       blocks = λ tells x k valid. elim (replica-cases s c (OnDisk d) (Valid out) x (OnDisk k)) [
         | inl same ↦ IsSomeAnd-map (HoldsArray held b.disks.disks p s x (OnDisk k)) (HoldsArray held b.disks.disks p s1 x (OnDisk k)) (λ e is. HoldsArray-moved held b.disks.disks p s s1 x (OnDisk k) (OnDisk k) e (array-same p s s1 x (OnDisk k) same) (count x) is) (extent_of b.disks.directory x.0) (keeps.sound.blocks.blocks tells x k (ap is_valid (sym same) ∙ valid))
         | inr (e, at, is) ↦ subst (λ (y : Cell). IsSomeAnd (extent_of b.disks.directory y.0) (HoldsArray held b.disks.disks p s1 y (OnDisk k))) (sym e)
-          (IsSomeAnd-map (IsCopyOf held b c from) (HoldsArray held b.disks.disks p s1 c (OnDisk k)) (λ f copy. HoldsArray-moved held b.disks.disks p s s1 c from (OnDisk k) f (here_now k (ap (λ (y : Cell). replica s1 y (OnDisk k)) (sym e) ∙ is)) (count c) (copy.array tells)) (extent_of b.disks.directory c.0) written)
+            (IsSomeAnd-map (IsCopyOf held b c from) (HoldsArray held b.disks.disks p s1 c (OnDisk k)) (λ f copy. HoldsArray-moved held b.disks.disks p s s1 c from (OnDisk k) f (here_now k (ap (λ (y : Cell). replica s1 y (OnDisk k)) (sym e) ∙ is)) (count c) (copy.array tells)) (extent_of b.disks.directory c.0) written)
       ];
     }
       where

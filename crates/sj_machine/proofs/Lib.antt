@@ -8,8 +8,10 @@ pub mod ClaimLoops
 pub mod ClaimRows
 pub mod Dropping
 pub mod Keeping
+pub mod Making
 pub mod Marking
 pub mod Reading
 pub mod Resting
+pub mod Storing
 pub mod Tiles
 pub mod Transferring

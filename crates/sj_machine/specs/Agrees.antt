@@ -81,9 +81,13 @@ pub record Agrees (p : Program) (m : Machine) (s : State) (Tells : Type 0) (rows
 
 -- ---- changing rows
 
+-- a worker with nothing in hand
+abbrev pub idle : WorkerState
+idle = record { pins = []; scratch = 0; victims = []; transfer = None }
+
 -- the row of a worker
 abbrev pub row_at : List WorkerState → Worker → WorkerState
-row_at ws w = slice_index_or ws w.0 (record { pins = []; scratch = 0; victims = []; transfer = None })
+row_at ws w = slice_index_or ws w.0 idle
 
 -- the transfer of a worker
 abbrev pub transfer_in : List WorkerState → Worker → Option Transfer

@@ -83,6 +83,11 @@ pub record Keeps {D : Type 0} (size faults mismatches : D → ℕ) (held : D →
   pub owes : owed_in rows ≤ owed
   pub room : owed ≤ spare
 
+-- a run of the program can be made on the machine with these disks: each cell has its block
+pub record CanStart {D : Type 0} (p : Program) (m : Machine) (disks : DiskState D) : Type 0 where
+  pub run : IsRunOf p m
+  pub placed : (c : Cell) → IfSome (block_of p m c) (λ b. IsSomeAnd (extent_of disks.directory c.0) (IsBlock p c b))
+
 -- ---- disk transfers
 
 -- the last store of the cell ended well, and is its array at a place

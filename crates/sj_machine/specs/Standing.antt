@@ -7,6 +7,7 @@ use Rattle.sj_base.specs.declared.ids.Place.TheVariants.{Node as AtNode, Disk as
 use Rattle.sj_base.specs.declared.ids.Worker.{Worker}
 use Rattle.sj_base.specs.declared.trace.Event.{Event}
 use Rattle.sj_base.specs.declared.trace.Event.TheVariants.{Moved}
+use Rattle.sj_base.specs.declared.tile.Dims.{Dims}
 use Rattle.sj_base.specs.declared.program.Program.{Program}
 use Rattle.sj_base.specs.declared.program.Machine.{Machine}
 use Rattle.sj_base.specs.Array.{Array}
@@ -29,6 +30,10 @@ pub record Standing (D : Type 0) : Type 0 where
 
 abbrev pub standing : {D : Type 0} → Program → Machine → Recorded → Deliveries → DiskState D → DiskState D → Standing D
 standing p m trace delivered disks opened = record { program = p; machine = m; trace = trace.events; delivered = delivered.pairs; disks = disks; opened = opened.disks }
+
+-- nothing has happened
+abbrev pub starting : {D : Type 0} → Program → Machine → DiskState D → Standing D
+starting p m disks = record { program = p; machine = m; trace = []; delivered = []; disks = disks; opened = disks.disks }
 
 -- the state that the events leave
 abbrev pub state : {D : Type 0} → Standing D → State
@@ -78,6 +83,10 @@ IsFetching b w = IsSomeAnd (transfer (state b) w) (λ x. is_node x.from ≡ fals
 -- the array is that of the cell of the worker's transfer, at its source
 abbrev pub IsTileMoved : {D : Type 0} → (D → Option (List ℕ)) → Standing D → Worker → Array → Type 0
 IsTileMoved held b w a = IfSome (transfer (state b) w) (λ x. IsTileOf held b x.cell x.from a)
+
+-- these are the dimensions of the cell of the worker's transfer
+abbrev pub HasDimsMoved : {D : Type 0} → Standing D → Worker → Dims → Type 0
+HasDimsMoved b w dims = IfSome (transfer (state b) w) (λ x. dims ≡ dims_of b.program x.cell)
 
 -- the worker's transfer has ended, and nothing else has happened
 abbrev pub HasMoved : {D : Type 0} → Worker → Standing D → Standing D → Type 0

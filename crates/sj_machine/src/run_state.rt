@@ -1,13 +1,16 @@
 //! The state of a run, and the events that change it.
 
-ghost use Rattle.std.specs.Prelude.{◌≡◌, ◌<◌, IfOk, IsSome, OnErr, OnOk, None, Some, false, length, true};
+ghost use Rattle.std.specs.Prelude.{◌≡◌, ◌<◌, All, FitsSigned, IfErr, IfOk, IsSome, OnErr, OnOk, None, Some, false, length, map, replicate, true};
+ghost use Rattle.std.specs.Int.{w64};
+ghost use Rattle.sj_base.specs.Array.{area};
 ghost use Rattle.sj_base.specs.declared.ids.Place.TheVariants.{Disk as OnDisk, Node as AtNode};
 ghost use Rattle.sj_core.specs.Step.{mover_of};
-ghost use Rattle.sj_machine.specs.Agrees.{transfer_in, with_transfer_of};
-ghost use Rattle.sj_machine.specs.Copies.{CanShare, row_of, stored, tile_kept, with_copy, with_row};
+ghost use Rattle.sj_node.specs.Store.{empty};
+ghost use Rattle.sj_machine.specs.Agrees.{idle, transfer_in, with_transfer_of};
+ghost use Rattle.sj_machine.specs.Copies.{CanShare, none_at, row_of, stored, tile_kept, with_copy, with_row};
 ghost use Rattle.sj_machine.specs.Plan.{IsPlan};
-ghost use Rattle.sj_machine.specs.Sound.{IsWrittenOut};
-ghost use Rattle.sj_machine.specs.Standing.{CanHappen, HasMoved, IsMovingIn, IsMovingOut, IsShareOf, IsTileMoved, is_node, state, with_event};
+ghost use Rattle.sj_machine.specs.Sound.{CanStart, FetchesMoved, IsWrittenOut, OnlyDisksChange, StoresMoved};
+ghost use Rattle.sj_machine.specs.Standing.{CanHappen, HasDimsMoved, HasMoved, IsFetching, IsMovingIn, IsMovingOut, IsShareOf, IsTileMoved, is_node, starting, state, with_event};
 ghost use Rattle.sj_machine.specs.Tiles.{array_in};
 
 use crate::claiming::{hold_all, mark_all, node_of, take_plan};
@@ -23,8 +26,10 @@ use sj_base::tile::Tile;
 use sj_base::trace::{Event, Trace};
 use sj_core::progress::{Progress, Transfer};
 use sj_disk::disk_set::DiskSet;
+use sj_disk::refusal::DiskRefusal;
 use sj_edge::disk::Disk;
 use sj_node::store::NodeStore;
+use std::alloc::Global;
 use std::marker::Model;
 use std::snapshot::Snapshot;
 use std::sync::Arc;
@@ -60,6 +65,53 @@ impl<D: Disk> Model for RunState<D> {
     ghost invariant = { λ b. Keeps D.size D.faults D.mismatches D.held
         (standing b.program.value b.machine b.trace b.delivered b.disks b.opened.value)
         (rows_of b.tasks.items b.cells.items b.nodes.items b.workers.items) b.owed b.trace.spare };
+}
+
+/// Why a run isn't made: want of memory. Its program and its disks come back.
+#[derive(Drop)]
+pub struct RunRefusal<D: Disk> {
+    pub program: Arc<Program>,
+    pub disks: DiskSet<D>,
+}
+
+/// All tasks waiting. Linear in them.
+fn waiting(alloc: Global, count: usize) -> Result<Vec<Progress>, OutOfMemory>
+    ensures { IfOk result (λ v. v.items ≡ replicate count Progress.Waiting) }
+{
+    Ok(vec![in alloc; Progress::Waiting; count]?)
+}
+
+/// No copy of any cell at any node. Linear in the cells and nodes.
+fn no_copies(alloc: Global, count: usize, nodes: usize) -> Result<Vec<Copies>, OutOfMemory>
+    ensures { IfOk result (λ v. v.items ≡ replicate count (none_at nodes)) }
+{
+    let mut rows = Vec::new(alloc);
+    for _i in 0..count {
+        rows.push(Copies::none(alloc, nodes)?)?;
+    }
+    Ok(rows)
+}
+
+/// Empty nodes of these sizes. Linear in the cells and nodes.
+fn empty_nodes(alloc: Global, sizes: &[u64], cells: u32) -> Result<Vec<NodeStore>, OutOfMemory>
+    ensures { IfOk result (λ v. v.items ≡ map (λ size. empty size cells) sizes.now) }
+{
+    let mut nodes = Vec::new(alloc);
+    for size in sizes {
+        nodes.push(NodeStore::make(alloc, *size, cells)?)?;
+    }
+    Ok(nodes)
+}
+
+/// Workers with nothing in hand. Linear in them.
+fn idle_workers(alloc: Global, count: u8) -> Result<Vec<Hold>, OutOfMemory>
+    ensures { IfOk result (λ v. v.items ≡ replicate count idle) }
+{
+    let mut workers = Vec::new(alloc);
+    for _i in 0..count {
+        workers.push(Hold::nothing(alloc))?;
+    }
+    Ok(workers)
 }
 
 /// The copy of a cell at a node goes. Constant time.
@@ -124,6 +176,33 @@ fn disk_at(place: Place) -> DiskNo
     }
 }
 
+/// Reads each element, since what is read is known to fit its type. It does nothing, so that no code is left of it.
+fn told(elements: &[i64])
+    ensures { All (FitsSigned w64) elements.now }
+{
+    for x in elements {
+        let _element = *x;
+    }
+}
+
+/// No code: its contract is what a tile's type says of its elements.
+fn measured(tile: &Tile)
+    ensures whole { length tile.now.elements ≡ area tile.now.dims }
+    ensures fits { All (FitsSigned w64) tile.now.elements }
+{
+    let elements = tile.elements();
+    told(elements);
+}
+
+/// How many tasks have written a cell. Constant time.
+fn writes_of(cells: &[Copies], cell: Cell) -> u64
+    requires { cell.0 < length cells.now }
+    ensures { result ≡ (row_of cells.now cell).writes }
+{
+    let row = &cells[cell.0 as usize];
+    row.writes()
+}
+
 /// The cell's block on its disk is a copy from now on. Constant time.
 fn mark_stored(cells: &mut Vec<Copies>, cell: Cell)
     requires { cell.0 < length cells.old.items }
@@ -144,6 +223,46 @@ fn put_copy(cells: &mut Vec<Copies>, cell: Cell, n: Node, tile: Arc<Tile>)
 }
 
 impl<D: Disk> RunState<D> {
+    /// A run on which nothing has happened. The program and the disks come back where memory is wanting. Linear in tasks,
+    /// and in cells times nodes.
+    pub fn make(
+        alloc: Global,
+        program: Arc<Program>,
+        machine: Machine,
+        disks: DiskSet<D>,
+    ) -> Result<RunState<D>, RunRefusal<D>>
+        requires { CanStart program.value machine disks }
+        ensures ok { IfOk result (λ b. b ≡ starting program.value machine disks) }
+        ensures err { IfErr result (λ r. (r.program.value ≡ program.value) × (r.disks ≡ disks)) }
+    {
+        let Ok(tasks) = waiting(alloc, program.tasks.len()) else {
+            return Err(RunRefusal { program, disks });
+        };
+        let Ok(cells) = no_copies(alloc, program.cells.len(), machine.nodes.len()) else {
+            return Err(RunRefusal { program, disks });
+        };
+        let Ok(nodes) = empty_nodes(alloc, machine.nodes.items(), program.cells.len() as u32) else {
+            return Err(RunRefusal { program, disks });
+        };
+        let Ok(workers) = idle_workers(alloc, machine.workers) else {
+            return Err(RunRefusal { program, disks });
+        };
+        let opened = Snapshot::of(&disks);
+        Ok(RunState {
+            program,
+            machine,
+            tasks,
+            cells,
+            nodes,
+            workers,
+            disks,
+            opened,
+            trace: Trace::empty(alloc),
+            owed: 0,
+            delivered: Delivered::empty(alloc),
+        })
+    }
+
     /// A worker takes a ready task by its plan: it pins the task's cells on its node and brings them to the front, the
     /// plan's victims leave, and the cells that were missing come. After an `Err` the run is as before. Linear in the
     /// operands and the victims, but for moving the trace as it grows.
@@ -233,5 +352,39 @@ impl<D: Disk> RunState<D> {
         set_transfer(&mut self.workers, w, None);
         self.owed -= 1;
         self.trace.add(Event::Moved(x.cell, x.from, x.to));
+    }
+
+    /// Writes the tile of a worker's move to the block of its cell. No event, and no memory. Linear in the tile.
+    ///
+    /// After an `Err` the block may hold any bytes, and the move is still under way.
+    pub fn store(&mut self, w: Worker, tile: &Tile) -> Result<(), DiskRefusal>
+        requires under_way { IsMovingOut self.old w }
+        requires tile { IsTileMoved D.held self.old w tile.now }
+        ensures no_event { OnlyDisksChange self.old self.new }
+        ensures stores { StoresMoved D.size D.faults D.mismatches D.held w tile.now.elements result self.old self.new }
+        ensures written { OnOk result (IsWrittenOut D.held self.new w) }
+    {
+        let x = transfer_of(&self.workers, w);
+        let _d = disk_at(x.to);
+        measured(tile);
+        let writes = writes_of(&self.cells, x.cell);
+        self.disks.store(x.cell, writes, tile)
+    }
+
+    /// Reads the block of the cell of a worker's move into a tile. No event, and no memory. Linear in the tile.
+    ///
+    /// After an `Err` the tile holds any elements, and the move is still under way.
+    pub fn fetch(&mut self, w: Worker, tile: &mut Tile) -> Result<(), DiskRefusal>
+        requires under_way { IsFetching self.old w }
+        requires dims { HasDimsMoved self.old w tile.old.dims }
+        ensures no_event { OnlyDisksChange self.old self.new }
+        ensures fetches { FetchesMoved D.size D.faults D.mismatches D.held w tile.new.elements result self.old self.new }
+        ensures tile { OnOk result (IsTileMoved D.held self.old w tile.new) }
+    {
+        let x = transfer_of(&self.workers, w);
+        let _d = disk_at(x.from);
+        let _dims = tile.dims();
+        let writes = writes_of(&self.cells, x.cell);
+        self.disks.fetch(x.cell, writes, tile)
     }
 }
