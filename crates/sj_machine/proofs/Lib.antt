@@ -1,5 +1,11 @@
 pub mod Arriving
 pub mod Beginning
+pub mod ClaimEntries
+pub mod ClaimPins
+pub mod ClaimMarks
+pub mod ClaimStores
+pub mod ClaimLoops
+pub mod ClaimRows
 pub mod Dropping
 pub mod Entries
 pub mod Keeping

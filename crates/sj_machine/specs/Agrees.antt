@@ -1,5 +1,5 @@
 -- When rows that are kept of a run agree with the state that its events leave.
-use Rattle.std.specs.Prelude.{◌≡◌, ℕ, ◌+◌, ◌<◌, ◌≤◌, Bool, true, false, Option, Some, None, List, [], map, All, IfSome, count_by, filter, is_some, length, slice_index_or, slice_set, sum_by}
+use Rattle.std.specs.Prelude.{◌≡◌, ℕ, ◌+◌, ◌<◌, true, false, Option, Some, None, List, [], map, All, IfSome, count_by, is_some, length, slice_index_or, slice_set, sum_by}
 use Rattle.sj_base.specs.declared.ids.Cell.{Cell}
 use Rattle.sj_base.specs.declared.ids.Node.{Node}
 use Rattle.sj_base.specs.declared.ids.DiskNo.{DiskNo}
@@ -7,7 +7,6 @@ use Rattle.sj_base.specs.declared.ids.Worker.{Worker}
 use Rattle.sj_base.specs.declared.ids.Place.TheVariants.{Node as AtNode, Disk as OnDisk}
 use Rattle.sj_base.specs.declared.program.Program.{Program}
 use Rattle.sj_base.specs.declared.program.Machine.{Machine}
-use Rattle.sj_base.specs.Array.{Array}
 use Rattle.sj_core.specs.declared.progress.Progress.{Progress}
 use Rattle.sj_core.specs.declared.progress.Progress.TheVariants.{Claimed, Running}
 use Rattle.sj_core.specs.declared.progress.Transfer.{Transfer}
@@ -85,6 +84,10 @@ pub record Agrees (p : Program) (m : Machine) (s : State) (Tells : Type 0) (rows
 -- a worker with nothing in hand
 abbrev pub idle : WorkerState
 idle = record { pins = []; scratch = 0; victims = []; transfer = None }
+
+-- the row of a worker
+abbrev pub row_at : List WorkerState → Worker → WorkerState
+row_at ws w = slice_index_or ws w.0 idle
 
 -- the transfer of a worker
 abbrev pub transfer_in : List WorkerState → Worker → Option Transfer

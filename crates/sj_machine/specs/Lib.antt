@@ -2,6 +2,7 @@ pub mod Agrees
 pub mod Copies
 pub mod Delivered
 pub mod Mark
+pub mod Plan
 pub mod Running
 pub mod Sound
 pub mod Standing

@@ -2,6 +2,7 @@
 
 ghost use Rattle.std.specs.Prelude.{◌≡◌, ◌<◌, IfOk, IsTrue, Some, None, is_some, length, map, replicate};
 ghost use Rattle.sj_machine.specs.Copies.{lent_at, mark_at, none_at, stored, tile_at, with_copy};
+ghost use Rattle.sj_machine.specs.Plan.{with_mark};
 ghost use Rattle.sj_machine.specs.Tiles.{array_in};
 
 use crate::mark::Mark;
@@ -127,6 +128,14 @@ impl Copies {
     {
         self.marks[n.0 as usize] = mark;
         self.tiles[n.0 as usize] = tile;
+    }
+
+    /// Puts a mark at a node; the tile stays. Constant time.
+    pub fn set_mark(&mut self, n: Node, mark: Mark)
+        requires { n.0 < length self.old.marks }
+        ensures { self.new ≡ with_mark self.old n mark }
+    {
+        self.marks[n.0 as usize] = mark;
     }
 
     /// Its block on a disk is a copy from now on. Constant time.

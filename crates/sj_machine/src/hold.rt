@@ -2,7 +2,9 @@
 
 ghost use Rattle.std.specs.Prelude.{◌≡◌, None, []};
 ghost use Rattle.sj_core.specs.Machine.{WorkerState};
+ghost use Rattle.sj_machine.specs.Plan.{row_with};
 
+use crate::plan::Plan;
 use sj_base::ids::Cell;
 use sj_core::progress::Transfer;
 use std::alloc::Global;
@@ -65,6 +67,16 @@ impl Hold {
         ensures { self.new ≡ record self.old { transfer = transfer } }
     {
         self.transfer = transfer;
+    }
+
+    /// Has a claim's plan in hand. Linear in the pins and the victims that it had.
+    pub fn take(&mut self, plan: Plan)
+        ensures { self.new ≡ row_with self.old plan }
+    {
+        self.scratch = plan.scratch();
+        let (cells, victims) = plan.into_lists();
+        self.pins = cells;
+        self.victims = victims;
     }
 
     /// Lets its pins and its scratch go. Linear in the pins.

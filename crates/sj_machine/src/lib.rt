@@ -2,9 +2,11 @@
 //! holds, and the trace of events. Each call that is an event is one legal step of the machine.
 #![tactic(auto)]
 
+pub mod claiming;
 pub mod copies;
 pub mod delivered;
 pub mod hold;
 pub mod mark;
+pub mod plan;
 pub mod run_state;
 mod running;

@@ -8,15 +8,18 @@ ghost use Rattle.sj_core.specs.Step.{mover_of};
 ghost use Rattle.sj_node.specs.Store.{empty};
 ghost use Rattle.sj_machine.specs.Agrees.{idle, transfer_in, with_transfer_of};
 ghost use Rattle.sj_machine.specs.Copies.{CanShare, none_at, row_of, stored, tile_kept, with_copy, with_row};
+ghost use Rattle.sj_machine.specs.Plan.{IsPlan};
 ghost use Rattle.sj_machine.specs.Sound.{CanStart, FetchesMoved, IsWrittenOut, OnlyDisksChange, StoresMoved};
 ghost use Rattle.sj_machine.specs.Standing.{CanHappen, HasDimsMoved, HasMoved, IsFetching, IsMovingIn, IsMovingOut, IsShareOf, IsTileMoved, is_node, starting, state, with_event};
 ghost use Rattle.sj_machine.specs.Tiles.{array_in};
 
+use crate::claiming::{hold_all, mark_all, node_of, take_plan};
 use crate::copies::Copies;
 use crate::delivered::Delivered;
 use crate::hold::Hold;
 use crate::mark::Mark;
-use sj_base::ids::{Cell, DiskNo, Node, Place, Worker};
+use crate::plan::Plan;
+use sj_base::ids::{Cell, DiskNo, Node, Place, Task, Worker};
 use sj_base::memory::OutOfMemory;
 use sj_base::program::{Machine, Program};
 use sj_base::tile::Tile;
@@ -258,6 +261,31 @@ impl<D: Disk> RunState<D> {
             owed: 0,
             delivered: Delivered::empty(alloc),
         })
+    }
+
+    /// A worker takes a ready task by its plan: it pins the task's cells on its node and brings them to the front, the
+    /// plan's victims leave, and the cells that were missing come. After an `Err` the run is as before. Linear in the
+    /// operands and the victims, but for moving the trace as it grows.
+    pub fn claim(&mut self, t: Task, w: Worker, plan: Plan) -> Result<(), OutOfMemory>
+        requires can { CanHappen self.old (Event.Claim t w) }
+        requires plan { IsPlan self.old.program self.old.machine (state self.old) t w plan }
+        ensures ok { OnOk result (self.new ≡ with_event self.old (Event.Claim t w)) }
+        ensures err { OnErr result (self.new ≡ self.old) }
+    {
+        let n = node_of(&self.machine, w);
+        let more = plan.victims().len() as u64 + 1;
+        let Some(room) = self.owed.checked_add(more + 1) else {
+            return Err(OutOfMemory);
+        };
+        self.trace.reserve(room)?;
+        hold_all(&mut self.nodes, n, &plan)?;
+        mark_all(&mut self.cells, plan.victims(), n, Mark::Leaving(w));
+        mark_all(&mut self.cells, plan.missing(), n, Mark::Coming(w));
+        self.tasks[t.0 as usize] = Progress::Claimed(w);
+        take_plan(&mut self.workers, w, plan);
+        self.owed += more;
+        self.trace.add(Event::Claim(t, w));
+        Ok(())
     }
 
     /// A leaving copy goes from its node, since another is valid and no transfer reads it. Constant time, and no memory.

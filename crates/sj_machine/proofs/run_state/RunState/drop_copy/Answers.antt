@@ -1,7 +1,7 @@
-use Rattle.std.proofs.Common.{◌<◌, ◌≤◌, arith, subst, sym}
+use Rattle.std.proofs.Common.{arith, subst, sym}
 use Rattle.sj_base.specs.declared.trace.Event.TheVariants.{Drop}
 use Rattle.sj_machine.specs.Standing.{CanHappen, Standing}
-use Rattle.sj_machine.proofs.Dropping.{drop-cell, drop-node, drop-owed, keeps-drop}
+use Rattle.sj_machine.proofs.Dropping.{drop-owed, keeps-drop}
 use Rattle.sj_machine.proofs.run_state.RunState.drop_copy.Goals as goal
 
 pub overflow_sub-self : goal.overflow_sub-self
