@@ -18,3 +18,4 @@ pub mod Resting
 pub mod Storing
 pub mod Tiles
 pub mod Transferring
+pub mod Written
