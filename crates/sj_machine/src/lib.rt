@@ -7,5 +7,6 @@ pub mod copies;
 pub mod delivered;
 pub mod hold;
 pub mod mark;
+pub mod needs;
 pub mod plan;
 pub mod run_state;
