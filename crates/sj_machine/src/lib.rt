@@ -7,6 +7,7 @@ pub mod copies;
 pub mod delivered;
 pub mod hold;
 pub mod mark;
+pub mod needs;
 pub mod plan;
 pub mod run_state;
 mod running;
