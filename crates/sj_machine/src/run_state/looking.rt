@@ -1,0 +1,63 @@
+//! What is read of a run.
+
+use super::RunState;
+use crate::delivered::Delivered;
+use sj_base::ids::{Task, Worker};
+use sj_base::program::{Machine, Program};
+use sj_base::trace::Trace;
+use sj_core::progress::{Progress, Transfer};
+use sj_disk::disk_set::DiskSet;
+use sj_edge::disk::Disk;
+
+impl<D: Disk> RunState<D> {
+    ghost use Rattle.std.specs.Prelude.{◌≡◌, ◌<◌, length};
+    ghost use Rattle.sj_core.specs.Machine.{progress, transfer};
+    ghost use Rattle.sj_machine.specs.Sound.{IsSoundRun};
+    ghost use Rattle.sj_machine.specs.Standing.{state};
+
+    /// The program. Constant time.
+    pub fn program(&self) -> &Program
+        ensures { result.now ≡ self.now.program }
+    {
+        &self.program
+    }
+
+    /// The machine. Constant time.
+    pub fn machine(&self) -> &Machine
+        ensures { result.now ≡ self.now.machine }
+    {
+        &self.machine
+    }
+
+    /// How far a task is. Constant time.
+    pub fn progress(&self, t: Task) -> Progress
+        requires { t.0 < length self.now.program.tasks }
+        ensures { result ≡ progress (state self.now) t }
+    {
+        self.tasks[t.0 as usize]
+    }
+
+    /// A worker's transfer, where it has one. Constant time.
+    pub fn transfer(&self, w: Worker) -> Option<Transfer>
+        requires { w.0 < self.now.program.workers }
+        ensures { result ≡ transfer (state self.now) w }
+    {
+        self.workers[w.0 as usize].transfer()
+    }
+
+    /// No code: its contract is what is true of every run.
+    pub fn is_sound(&self)
+        ensures { IsSoundRun D.size D.faults D.mismatches D.held self.now }
+    {
+        let _ = &self.trace;
+    }
+
+    /// What was handed over, the events, and the disks. Constant time, and no memory.
+    pub fn close(self) -> (Delivered, Trace, DiskSet<D>)
+        ensures delivered { result.0.pairs ≡ self.delivered }
+        ensures trace { result.1.events ≡ self.trace }
+        ensures disks { result.2 ≡ self.disks }
+    {
+        (self.delivered, self.trace, self.disks)
+    }
+}
