@@ -1,5 +1,6 @@
 pub mod Arriving
 pub mod Beginning
+pub mod Boarding
 pub mod ClaimEntries
 pub mod ClaimPins
 pub mod ClaimMarks
@@ -8,6 +9,8 @@ pub mod ClaimLoops
 pub mod ClaimRows
 pub mod Dropping
 pub mod Entries
+pub mod Failing
+pub mod Hands
 pub mod Keeping
 pub mod Lists
 pub mod Making

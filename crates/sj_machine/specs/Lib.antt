@@ -1,4 +1,6 @@
 pub mod Agrees
+pub mod Board
+pub mod BoardSound
 pub mod Copies
 pub mod Delivered
 pub mod Mark

@@ -2,9 +2,12 @@
 //! holds, and the trace of events. Each call that is an event is one legal step of the machine.
 #![tactic(auto)]
 
+pub mod board;
 pub mod claiming;
 pub mod copies;
 pub mod delivered;
+pub mod fault;
+pub mod hand;
 pub mod hold;
 pub mod mark;
 pub mod needs;

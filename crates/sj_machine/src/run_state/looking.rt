@@ -1,8 +1,9 @@
 //! What is read of a run.
 
 use super::RunState;
+use crate::claiming::node_of;
 use crate::delivered::Delivered;
-use sj_base::ids::{Task, Worker};
+use sj_base::ids::{Node, Task, Worker};
 use sj_base::program::{Machine, Program};
 use sj_base::trace::Trace;
 use sj_core::progress::{Progress, Transfer};
@@ -12,6 +13,7 @@ use sj_edge::disk::Disk;
 impl<D: Disk> RunState<D> {
     ghost use Rattle.std.specs.Prelude.{◌≡◌, ◌<◌, length};
     ghost use Rattle.sj_core.specs.Machine.{progress, transfer};
+    ghost use Rattle.sj_core.specs.Needs.{node_of};
     ghost use Rattle.sj_machine.specs.Sound.{IsSoundRun};
     ghost use Rattle.sj_machine.specs.Standing.{state};
 
@@ -27,6 +29,13 @@ impl<D: Disk> RunState<D> {
         ensures { result.now ≡ self.now.machine }
     {
         &self.machine
+    }
+
+    /// The node to which a worker is bound. Constant time.
+    pub fn node_of(&self, w: Worker) -> Node
+        ensures { result ≡ node_of self.now.machine w }
+    {
+        node_of(&self.machine, w)
     }
 
     /// How far a task is. Constant time.
