@@ -42,6 +42,7 @@ pool_for-same p m hands pool w h inside same is = record {
   policy = is.policy;
   workers = is.workers;
   tasks = is.tasks;
+  queues = is.queues;
   entries = is.entries;
   fits = hand-set (λ v x. (t : Task) → x.given ≡ Some t → footprint p t ≤ node_size m (node_of m v)) hands w h inside (λ t g. is.fits w t (sym same ∙ g)) is.fits;
 }

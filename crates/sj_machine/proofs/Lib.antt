@@ -10,12 +10,14 @@ pub mod ClaimRows
 pub mod Dropping
 pub mod Entries
 pub mod Failing
+pub mod Giving
 pub mod Hands
 pub mod Keeping
 pub mod Lists
 pub mod Making
 pub mod Marking
 pub mod Operands
+pub mod Pooling
 pub mod Reading
 pub mod Resting
 pub mod Storing

@@ -17,7 +17,7 @@ use Rattle.sj_core.specs.declared.progress.Progress.TheVariants.{Waiting}
 use Rattle.sj_core.specs.declared.progress.Transfer.{Transfer}
 use Rattle.sj_deps.specs.Conflict.{Ready}
 use Rattle.sj_pool.specs.Entry.{entry}
-use Rattle.sj_pool.specs.Pool.{Pooled, with_entry}
+use Rattle.sj_pool.specs.Pool.{Pooled, task_for, with_entry, without_entry_for}
 use Rattle.sj_pool.specs.declared.entry.Entry.{Entry}
 use Rattle.sj_machine.specs.Standing.{AllTell, Standing, state, with_event}
 use Rattle.sj_machine.specs.declared.fault.RunFault.{RunFault}
@@ -105,9 +105,13 @@ EndsMoveOf w old new = IfSome (transfer (state old.run) w) (λ x. new ≡ has_ev
 abbrev pub room_of : {D : Type 0} → BoardState D → Worker → ℕ
 room_of b w = node_size b.run.machine (node_of b.run.machine w)
 
--- a worker puts the task into the pool
-abbrev pub with_pooled : {D : Type 0} → BoardState D → Task → Worker → BoardState D
-with_pooled b t w = record b { pool = with_entry b.pool (entry_of b.run.program t) w.0 }
+-- the worker was given the task that the pool has for it
+abbrev pub given_next : {D : Type 0} → BoardState D → Worker → BoardState D
+given_next b w = record (with_hand b w (record (hand_of b w) { given = task_for b.pool w.0 (room_of b w) })) { pool = without_entry_for b.pool w.0 (room_of b w) }
+
+-- the worker has put the task that it was given back into the pool
+abbrev pub given_back : {D : Type 0} → BoardState D → Task → Worker → BoardState D
+given_back b t w = record (with_hand b w (record (hand_of b w) { given = None })) { pool = with_entry b.pool (entry_of b.run.program t) w.0 }
 
 -- ---- faults
 

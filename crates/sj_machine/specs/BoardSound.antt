@@ -1,5 +1,5 @@
 -- What is true of every board between two calls.
-use Rattle.std.specs.Prelude.{◌≡◌, ◌↔◌, ℕ, ◌+◌, ◌<◌, ◌≤◌, ◌⊎◌, Bool, true, false, IsTrue, nat_eq, Option, Some, None, IfSome, is_some, All, List, map, length, count_by, sum_by}
+use Rattle.std.specs.Prelude.{◌≡◌, ◌↔◌, ℕ, ◌+◌, ◌<◌, ◌≤◌, ◌⊎◌, Bool, true, false, IsTrue, nat_eq, Option, Some, None, IfSome, is_some, All, List, length, count_by, sum_by, slice_index_or}
 use Rattle.std.specs.List.{Contains}
 use Rattle.sj_base.specs.declared.ids.Task.{Task}
 use Rattle.sj_base.specs.declared.ids.Worker.{Worker}
@@ -8,12 +8,11 @@ use Rattle.sj_base.specs.declared.program.Machine.{Machine}
 use Rattle.sj_core.specs.Legal.{IsComplete}
 use Rattle.sj_core.specs.Machine.{State, is_task_of, progress}
 use Rattle.sj_core.specs.Needs.{footprint, node_of, node_size}
-use Rattle.sj_core.specs.Program.{tasks_of}
 use Rattle.sj_core.specs.Step.{done_tasks}
 use Rattle.sj_core.specs.declared.progress.Progress.TheVariants.{Waiting}
 use Rattle.sj_deps.specs.Conflict.{Ready}
 use Rattle.sj_deps.specs.Progress.{Progress as Dependencies}
-use Rattle.sj_pool.specs.Pool.{Pooled}
+use Rattle.sj_pool.specs.Pool.{Pooled, queue_count}
 use Rattle.sj_pool.specs.declared.entry.Entry.{Entry}
 use Rattle.sj_machine.specs.Board.{BoardState, HasCause, entry_of, hand_in}
 use Rattle.sj_machine.specs.Sound.{IsSoundRun}
@@ -70,6 +69,7 @@ pub record IsPoolFor (p : Program) (m : Machine) (hands : List Hand) (pool : Poo
   pub policy : pool.policy ≡ m.policy
   pub workers : pool.workers ≡ p.workers
   pub tasks : pool.limit ≡ length p.tasks
+  pub queues : length pool.queues ≡ queue_count pool.policy pool.workers
   pub entries : All (All (IsEntry p)) pool.queues
   pub fits : (w : Worker) (t : Task) → (hand_in hands w).given ≡ Some t → footprint p t ≤ node_size m (node_of m w)
 
@@ -95,8 +95,13 @@ pub record CountsDone (p : Program) (s : State) (deps : Dependencies) : Type 0 w
   pub program : deps.program ≡ p
   pub done : (n : ℕ) → Contains deps.done n ↔ Contains (done_tasks s) n
 
+-- the bytes that each task needs on its node
+pub record AreFootprints (p : Program) (footprints : List ℕ) : Type 0 where
+  pub every_task : length footprints ≡ length p.tasks
+  pub bytes : (t : Task) → t.0 < length p.tasks → slice_index_or footprints t.0 0 ≡ footprint p t
+
 pub record KeepsBoard {D : Type 0} (faults mismatches : D → ℕ) (held : D → Option (List ℕ)) (b : BoardState D) (deps : Dependencies) (footprints : List ℕ) : Type 0 where
   pub fault : IfSome b.fault (HasCause faults mismatches held b.run)
   pub inside : IsSoundIn b.run.program b.run.machine (state b.run) b.hands b.pool b.fault
   pub counts : CountsDone b.run.program (state b.run) deps
-  pub bytes : footprints ≡ map (footprint b.run.program) (tasks_of b.run.program)
+  pub bytes : AreFootprints b.run.program footprints

@@ -1,9 +1,13 @@
 //! The board: the state of a run, what each worker has in hand, and the pool of ready tasks.
 
-ghost use Rattle.std.specs.Prelude.{◌≡◌, ◌<◌, All, IfOk, None, OnErr, OnOk, is_some, length, slice_set, true};
+ghost use Rattle.std.specs.Prelude.{◌≡◌, ◌↔◌, ◌<◌, All, IfOk, IsNone, None, false, OnErr, OnOk, is_some, length, slice_set, true};
+ghost use Rattle.sj_base.specs.declared.trace.Event.TheVariants.{Drop, Move};
 ghost use Rattle.sj_core.specs.Needs.{node_of};
 ghost use Rattle.sj_core.specs.Step.{mover_of};
-ghost use Rattle.sj_machine.specs.Board.{EndsMoveOf, HasCause, IsBusy, IsOver, IsWorking, RunsNone, failed, first_fault, hand_in, has_event, stopped, transfer_of};
+ghost use Rattle.sj_machine.specs.Board.{EndsMoveOf, HasCause, IsBusy, IsFree, IsOver, IsWorking, RunsNone, WasGiven, entry_of, failed, first_fault, given_back, given_next, hand_in, has_event, room_of, stopped, transfer_of};
+ghost use Rattle.sj_machine.specs.BoardSound.{AreFootprints};
+ghost use Rattle.sj_pool.specs.Pool.{contains, task_for, with_entry};
+ghost use Rattle.sj_pool.specs.Queue.{has_fitting};
 ghost use Rattle.sj_machine.specs.Sound.{IsWrittenOut};
 ghost use Rattle.sj_machine.specs.Standing.{CanHappen, IsMovingIn, IsMovingOut, IsShareOf, IsTileMoved, state};
 ghost use Rattle.sj_machine.specs.Tiles.{array_in};
@@ -12,14 +16,13 @@ use crate::delivered::Delivered;
 use crate::fault::RunFault;
 use crate::hand::Hand;
 use crate::run_state::RunState;
-use sj_base::ids::{Cell, Node, Place, Task, Worker};
+use sj_base::ids::{Cell, Place, Task, Worker};
 use sj_base::memory::OutOfMemory;
-use sj_base::program::{Machine, Program};
+use sj_base::program::Program;
 use sj_base::tile::Tile;
-use sj_base::trace::{Event, Trace};
+use sj_base::trace::Trace;
 use sj_deps::deps::Deps;
 use sj_disk::disk_set::DiskSet;
-use sj_disk::refusal::DiskRefusal;
 use sj_edge::disk::Disk;
 use sj_pool::pool::Pool;
 use std::marker::Model;
@@ -87,6 +90,20 @@ fn first_of(kept: Option<RunFault>, fault: RunFault) -> Option<RunFault>
     }
 }
 
+/// Puts a task into the pool. Logarithmic in the tasks; no memory.
+fn put_ready(pool: &mut Pool, program: &Program, footprints: &[u64], t: Task, by: Worker)
+    requires task { t.0 < length program.now.tasks }
+    requires bytes { AreFootprints program.now footprints.now }
+    requires absent { contains pool.old.queues t.0 ≡ false }
+    requires known_task { t.0 < pool.old.limit }
+    requires known_worker { by.0 < pool.old.workers }
+    ensures { pool.new ≡ with_entry pool.old (entry_of program.now t) by.0 }
+{
+    let i = t.0 as usize;
+    let priority = program.tasks.items()[i].priority;
+    pool.put(t, priority, footprints[i], by);
+}
+
 impl<D: Disk> Board<D> {
     /// The program. Constant time.
     pub fn program(&self) -> &Program
@@ -102,12 +119,35 @@ impl<D: Disk> Board<D> {
         self.fault.is_some()
     }
 
+    /// Gives a worker a ready task from the pool, by the policy among those that fit its node; `None` exactly where there is
+    /// none. Logarithmic in the tasks, and under `ws` linear in the workers; no memory.
+    pub fn next(&mut self, w: Worker) -> Option<Task>
+        requires free { IsFree self.old w }
+        ensures task { result ≡ task_for self.old.pool w.0 (room_of self.old w) }
+        ensures rest { self.new ≡ given_next self.old w }
+        ensures none { IsNone result ↔ All (λ q. has_fitting (room_of self.old w) q ≡ false) self.old.pool.queues }
+    {
+        let room = self.run.node_size(w);
+        let task = self.pool.take(w, room);
+        give(&mut self.hands, w, task);
+        task
+    }
+
+    /// Puts the task that a worker was given back into the pool. Logarithmic in the tasks; no memory.
+    pub fn give_back(&mut self, t: Task, w: Worker)
+        requires given { WasGiven self.old w t }
+        ensures { self.new ≡ given_back self.old t w }
+    {
+        put_ready(&mut self.pool, self.run.program(), &self.footprints, t, w);
+        give(&mut self.hands, w, None);
+    }
+
     /// A leaving copy goes from the worker's node, since another is valid and no transfer reads it. Constant time, and no
     /// memory.
     pub fn drop_copy(&mut self, w: Worker, cell: Cell)
         requires busy { IsBusy self.old w }
-        requires can { CanHappen self.old.run (Event.Drop cell (node_of self.old.run.machine w)) }
-        ensures { self.new ≡ has_event self.old (Event.Drop cell (node_of self.old.run.machine w)) }
+        requires can { CanHappen self.old.run (Drop cell (node_of self.old.run.machine w)) }
+        ensures { self.new ≡ has_event self.old (Drop cell (node_of self.old.run.machine w)) }
     {
         let n = self.run.node_of(w);
         self.run.drop_copy(cell, n);
@@ -124,9 +164,9 @@ impl<D: Disk> Board<D> {
         to: Place,
     ) -> Result<Option<Arc<Tile>>, OutOfMemory>
         requires busy { IsBusy self.old w }
-        requires can { CanHappen self.old.run (Event.Move cell from to) }
+        requires can { CanHappen self.old.run (Move cell from to) }
         requires mover { mover_of (state self.old.run) cell from to ≡ w }
-        ensures ok { OnOk result (self.new ≡ has_event self.old (Event.Move cell from to)) }
+        ensures ok { OnOk result (self.new ≡ has_event self.old (Move cell from to)) }
         ensures share { IfOk result (λ share. IsShareOf D.held self.old.run cell from
             (array_in share)) }
         ensures err { OnErr result (self.new ≡ self.old) }

@@ -13,7 +13,7 @@ use sj_edge::disk::Disk;
 impl<D: Disk> RunState<D> {
     ghost use Rattle.std.specs.Prelude.{◌≡◌, ◌<◌, length};
     ghost use Rattle.sj_core.specs.Machine.{progress, transfer};
-    ghost use Rattle.sj_core.specs.Needs.{node_of};
+    ghost use Rattle.sj_core.specs.Needs.{node_of, node_size};
     ghost use Rattle.sj_machine.specs.Sound.{IsSoundRun};
     ghost use Rattle.sj_machine.specs.Standing.{state};
 
@@ -36,6 +36,14 @@ impl<D: Disk> RunState<D> {
         ensures { result ≡ node_of self.now.machine w }
     {
         node_of(&self.machine, w)
+    }
+
+    /// The bytes of the node to which a worker is bound. Constant time.
+    pub fn node_size(&self, w: Worker) -> u64
+        ensures { result ≡ node_size self.now.machine (node_of self.now.machine w) }
+    {
+        let n = node_of(&self.machine, w);
+        self.machine.nodes.items()[n.0 as usize]
     }
 
     /// How far a task is. Constant time.
