@@ -9,10 +9,12 @@ pub mod ClaimRows
 pub mod Dropping
 pub mod Entries
 pub mod Keeping
+pub mod Lending
 pub mod Lists
 pub mod Making
 pub mod Marking
 pub mod Operands
+pub mod Owning
 pub mod Reading
 pub mod Resting
 pub mod Storing
