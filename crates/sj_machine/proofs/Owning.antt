@@ -338,3 +338,39 @@ module _ {D : Type 0} (size faults mismatches : D → ℕ) (held : D → Option 
 
       share : (a : Access) → Contains (task_of p t).accesses a → reads_value a.mode ≡ true → IsShareIn held b w a (shared (kept_at rows.cells n a.cell))
       share a has reads = record { shared = refl; tile = by_tile a.cell (tile_at (row_of rows.cells a.cell) n) (read-there a has reads) (keeps.agrees.tiles.dims a.cell n) (λ tells. keeps.agrees.tiles.arrays tells a.cell n) }
+
+-- ---- as the code finds it
+
+module _ {D : Type 0} (size faults mismatches : D → ℕ) (held : D → Option (List ℕ)) (b : Standing D) (rows : Rows) (owed spare : ℕ) (keeps : Keeps size faults mismatches held b rows owed spare) (t : Task) (w : Worker) (b' : Standing D) (same : b ≡ b') (can' : CanHappen b' (Run t w)) (at : Node) (bound : at ≡ node_of b.machine w) (accesses : List Access) (of_task : accesses ≡ (task_of b.program t).accesses) where
+  now-can : CanHappen b (Run t w)
+  now-can = subst (λ (x : Standing D). CanHappen x (Run t w)) (sym same) can'
+
+  pub found-run_task : t.0 < length rows.tasks
+  found-run_task = run-task size faults mismatches held b rows owed spare keeps t w now-can
+
+  pub found-can_give : (cells : List Copies) → cells ≡ rows.cells → All (CanGive cells at) accesses
+  found-can_give cells is =
+      subst (λ (cs : List Copies). All (CanGive cs at) accesses) (sym is)
+      (subst (λ (j : Node). All (CanGive rows.cells j) accesses) (sym bound)
+      (subst (λ (l : List Access). All (CanGive rows.cells (node_of b.machine w)) l) (sym of_task) (run-can_give size faults mismatches held b rows owed spare keeps t w now-can)))
+
+  pub found-run_shares : (cells : List Copies) (slots : List Slot) (old : List Slot) → cells ≡ rows.cells → old ≡ [] → slots ≡ old ++ shares_at cells at accesses → AreSharesFor held b' t w slots
+  found-run_shares cells slots old is none made =
+      run-shares size faults mismatches held b rows owed spare keeps t w now-can b' slots same
+      (made ∙ ap (λ (l : List Slot). l ++ shares_at cells at accesses) none ∙ ap (λ (cs : List Copies). shares_at cs at accesses) is ∙ ap (λ (j : Node). shares_at rows.cells j accesses) bound ∙ ap (λ (l : List Access). shares_at rows.cells (node_of b.machine w) l) of_task)
+
+  module _ (written : List Cell) (is : written ≡ written_among accesses) where
+    all-written : written ≡ written_among (task_of b.program t).accesses
+    all-written = is ∙ ap written_among of_task
+
+    pub found-run_cells : All (λ c. c.0 < length rows.cells) written
+    found-run_cells = subst (λ (l : List Cell). All (λ c. c.0 < length rows.cells) l) (sym all-written) (run-cells size faults mismatches held b rows owed spare keeps t w now-can)
+
+    pub found-run_unpinned : (k : ℕ) (d : Store) → k < length rows.nodes → k ≢ at.0 → AreUnpinned written (get_or rows.nodes k d).entries
+    found-run_unpinned k d inside far = subst (λ (l : List Cell). AreUnpinned l (get_or rows.nodes k d).entries) (sym all-written) (run-unpinned size faults mismatches held b rows owed spare keeps t w now-can k d inside (λ e. far (e ∙ sym (ap (λ (j : Node). j.0) bound))))
+
+    pub found-keeps_run : (trace' : Recorded) (tasks' : List Progress) (cells' : List Copies) (nodes' : List Store) → trace'.events ≡ b.trace ++ Run t w ∷ [] → owed ≤ trace'.spare → tasks' ≡ set rows.tasks t.0 (Running w) → cells' ≡ lend_each at written rows.cells → length nodes' ≡ length rows.nodes → ((k : ℕ) (d : Store) → k < length rows.nodes → get_or nodes' k d ≡ evicted_at at written k (get_or rows.nodes k d)) → Keeps size faults mismatches held (record b { trace = trace'.events }) (rows_of tasks' cells' nodes' rows.workers) owed trace'.spare
+    found-keeps_run trace' tasks' cells' nodes' told room tasks cells every each =
+        keeps-run size faults mismatches held b rows owed spare keeps t w now-can trace' tasks' cells' nodes' told room tasks
+        (cells ∙ ap (λ (j : Node). lend_each j written rows.cells) bound ∙ ap (λ (l : List Cell). lend_each (node_of b.machine w) l rows.cells) all-written) every
+        (λ k d inside. each k d inside ∙ ap (λ (j : Node). evicted_at j written k (get_or rows.nodes k d)) bound ∙ ap (λ (l : List Cell). evicted_at (node_of b.machine w) l k (get_or rows.nodes k d)) all-written)
