@@ -32,10 +32,10 @@ pub owed-lent : (row : Copies) (n : Node) → owed_in (lent_at row n) ≡ 0
 owed-lent row n =
     elim (cases_lt n.0 (length row.marks)) [
       | inl inside ↦ (
-        let within : n.0 < length (map (λ (x : Mark). Invalid) row.marks) = omega (arith, inside, length-map row.marks (λ (x : Mark). Invalid)) in
-        let change : sum_by owed_for (set (map (λ (x : Mark). Invalid) row.marks) n.0 Valid) + owed_for (get_or (map (λ (x : Mark). Invalid) row.marks) n.0 Invalid) ≡ sum_by owed_for (map (λ (x : Mark). Invalid) row.marks) + 0 = sum_by-set owed_for (map (λ (x : Mark). Invalid) row.marks) n.0 Valid Invalid within in
-        omega (arith, change, owed-none row.marks)
-      )
+          let within : n.0 < length (map (λ (x : Mark). Invalid) row.marks) = omega (arith, inside, length-map row.marks (λ (x : Mark). Invalid)) in
+          let change : sum_by owed_for (set (map (λ (x : Mark). Invalid) row.marks) n.0 Valid) + owed_for (get_or (map (λ (x : Mark). Invalid) row.marks) n.0 Invalid) ≡ sum_by owed_for (map (λ (x : Mark). Invalid) row.marks) + 0 = sum_by-set owed_for (map (λ (x : Mark). Invalid) row.marks) n.0 Valid Invalid within in
+          omega (arith, change, owed-none row.marks)
+          )
       | inr past ↦ ap (sum_by owed_for) (set-past (map (λ (x : Mark). Invalid) row.marks) n.0 Valid (omega (arith, past, length-map row.marks (λ (x : Mark). Invalid)))) ∙ owed-none row.marks
     ]
   where

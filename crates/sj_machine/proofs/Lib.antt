@@ -8,6 +8,7 @@ pub mod ClaimLoops
 pub mod ClaimRows
 pub mod Dropping
 pub mod Entries
+pub mod Finishing
 pub mod Keeping
 pub mod Lending
 pub mod Lists
@@ -15,9 +16,11 @@ pub mod Making
 pub mod Marking
 pub mod Operands
 pub mod Owning
+pub mod Putting
 pub mod Reading
 pub mod Resting
 pub mod Storing
 pub mod Tiles
 pub mod Transferring
+pub mod Unpinning
 pub mod Written

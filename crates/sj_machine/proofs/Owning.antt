@@ -51,7 +51,7 @@ use Rattle.sj_machine.proofs.Written.{written-once, written-plain}
 
 -- ---- lists
 
-get-any : {X : Type 0} (xs : List X) (k : ℕ) (a b : X) → k < length xs → get_or xs k a ≡ get_or xs k b
+pub get-any : {X : Type 0} (xs : List X) (k : ℕ) (a b : X) → k < length xs → get_or xs k a ≡ get_or xs k b
 get-any [] k a b h = absurd (omega arith)
 get-any (x ∷ xs) zero a b h = refl
 get-any (x ∷ xs) (suc k) a b h = get-any xs k a b (omega arith)
@@ -201,9 +201,9 @@ module _ {D : Type 0} (size faults mismatches : D → ℕ) (held : D → Option 
   tiles-agree : HasTiles p s' (AllTell held b) new
   tiles-agree = record {
     there = λ c k rests. (
-      let spare : has_cell ws c ≡ false = has-written c ∙ run-spared p m s h t w s' run c rests in
-      ap (λ (r : Copies). is_some (tile_at r k)) (row-left c spare) ∙ keeps.agrees.tiles.there c k (run-rested p m s h t w s' run c rests) ∙ ap is_valid (sym (other c (AtNode k) spare))
-    );
+        let spare : has_cell ws c ≡ false = has-written c ∙ run-spared p m s h t w s' run c rests in
+        ap (λ (r : Copies). is_some (tile_at r k)) (row-left c spare) ∙ keeps.agrees.tiles.there c k (run-rested p m s h t w s' run c rests) ∙ ap is_valid (sym (other c (AtNode k) spare))
+        );
     out = λ c k being. elim (cases_Bool (has_cell ws c)) [
       | inl has ↦ ap (λ (r : Copies). tile_at r k) (row-lent c has) ∙ lent-tile (row_of rows.cells c) n k
       | inr spare ↦ ap (λ (r : Copies). tile_at r k) (row-left c spare) ∙ keeps.agrees.tiles.out c k (was-being c spare being)
@@ -238,10 +238,10 @@ module _ {D : Type 0} (size faults mismatches : D → ℕ) (held : D → Option 
           elim (same_task holds.task t) [
             | inr d ↦ false≢true (sym (run-spares p m s h t w s' run holds.task v c d holds.has holds.cell) ∙ written c has)
             | inl e ↦ (
-              let mine : is_task_of v (progress s t) ≡ true = ap (λ (u : Task). is_task_of v (progress s u)) (sym e) ∙ holds.has in
-              let same : v ≡ w = sym (task_of-worker v (progress s t) mine) ∙ ap worker_of run.claimed in
-              far (sym at ∙ ap (node_of m) same)
-            )
+                let mine : is_task_of v (progress s t) ≡ true = ap (λ (u : Task). is_task_of v (progress s u)) (sym e) ∙ holds.has in
+                let same : v ≡ w = sym (task_of-worker v (progress s t) mine) ∙ ap worker_of run.claimed in
+                far (sym at ∙ ap (node_of m) same)
+                )
           ]
 
   store-at : (k : ℕ) (d : Store) → k < length rows.nodes → (let j : Node = record { 0 = k } in get_or rows.nodes k d ≡ store_of p m s j)
@@ -270,12 +270,12 @@ module _ {D : Type 0} (size faults mismatches : D → ℕ) (held : D → Option 
   stores-agree nodes' every each = record {
     every_node = every ∙ keeps.agrees.stores.every_node;
     stores = λ k inside. (
-      let within : k.0 < length rows.nodes = omega (arith, inside, keeps.agrees.stores.every_node) in
-      each k.0 (store_of p m s' k) within ∙ ap (evicted_at n ws k.0) (store-at k.0 (store_of p m s' k) within) ∙ elim (same_node k n) [
-        | inl at ↦ ap (λ b. if b then store_of p m s k else with_entries (store_of p m s k) (without_all ws (store_of p m s k).entries)) ((Decides-eqb k.0 n.0).1 (ap (λ (j : Node). j.0) at)) ∙ ap (store_of p m s) at ∙ sym store-here ∙ ap (store_of p m s') (sym at)
-        | inr far ↦ ap (λ b. if b then store_of p m s k else with_entries (store_of p m s k) (without_all ws (store_of p m s k).entries)) (false_from_ne_true (nat_eq k.0 n.0) (λ e. far (ap (λ (i : ℕ). let j : Node = record { 0 = i } in j) ((Decides-eqb k.0 n.0).0 e)))) ∙ sym (store-there k far)
-      ]
-    );
+        let within : k.0 < length rows.nodes = omega (arith, inside, keeps.agrees.stores.every_node) in
+        each k.0 (store_of p m s' k) within ∙ ap (evicted_at n ws k.0) (store-at k.0 (store_of p m s' k) within) ∙ elim (same_node k n) [
+          | inl at ↦ ap (λ b. if b then store_of p m s k else with_entries (store_of p m s k) (without_all ws (store_of p m s k).entries)) ((Decides-eqb k.0 n.0).1 (ap (λ (j : Node). j.0) at)) ∙ ap (store_of p m s) at ∙ sym store-here ∙ ap (store_of p m s') (sym at)
+          | inr far ↦ ap (λ b. if b then store_of p m s k else with_entries (store_of p m s k) (without_all ws (store_of p m s k).entries)) (false_from_ne_true (nat_eq k.0 n.0) (λ e. far (ap (λ (i : ℕ). let j : Node = record { 0 = i } in j) ((Decides-eqb k.0 n.0).0 e)))) ∙ sym (store-there k far)
+        ]
+        );
   }
 
   -- ---- all of it

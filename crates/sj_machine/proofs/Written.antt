@@ -70,8 +70,8 @@ module _ (p : Program) (proper : Proper p) (plain : HasPlainModes p) (t : Task) 
       let pairs : AllPairs (λ a b. IsTrue (same_cell a.cell b.cell) → (a.mode ≡ R) × (b.mode ≡ R)) (filter (λ (a : Access). is_written a.mode) (data_operands (task_of p t))) = AllPairs-filter (λ a b. IsTrue (same_cell a.cell b.cell) → (a.mode ≡ R) × (b.mode ≡ R)) (λ (a : Access). is_written a.mode) (data_operands (task_of p t)) (proper.unaliased t.0 no_task inside) in
       let ws : List Access = filter (λ (a : Access). is_written a.mode) (task_of p t).accesses in
       let apart : AllPairs Apart ws = λ i j d before within same. (
-        let there = subst (λ (l : List Access). AllPairs (λ a b. IsTrue (same_cell a.cell b.cell) → (a.mode ≡ R) × (b.mode ≡ R)) l) (sym among_data) pairs in
-        written_isn't_read (get_or ws i d).mode (written_at i d (omega (arith, before, within))) (there i j d before within same).0
+      let there = subst (λ (l : List Access). AllPairs (λ a b. IsTrue (same_cell a.cell b.cell) → (a.mode ≡ R) × (b.mode ≡ R)) l) (sym among_data) pairs in
+      written_isn't_read (get_or ws i d).mode (written_at i d (omega (arith, before, within))) (there i j d before within same).0
       ) in
       subst (λ (l : List Cell). times l c ≤ 1) (written-plain w) (once ws apart c)
     where

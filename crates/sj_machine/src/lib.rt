@@ -5,6 +5,7 @@
 pub mod claiming;
 pub mod copies;
 pub mod delivered;
+mod ending;
 pub mod hold;
 pub mod mark;
 pub mod plan;

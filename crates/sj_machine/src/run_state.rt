@@ -10,14 +10,14 @@ ghost use Rattle.sj_node.specs.Store.{empty};
 ghost use Rattle.sj_machine.specs.Agrees.{idle, transfer_in, with_transfer_of};
 ghost use Rattle.sj_machine.specs.Copies.{CanShare, none_at, row_of, stored, tile_kept, with_copy, with_row};
 ghost use Rattle.sj_machine.specs.Plan.{IsPlan};
-ghost use Rattle.sj_machine.specs.Running.{AreSharesFor, read_among};
-ghost use Rattle.sj_machine.specs.Sound.{CanStart, FetchesMoved, IsWrittenOut, OnlyDisksChange, StoresMoved};
+ghost use Rattle.sj_machine.specs.Running.{AreResultsFor, AreSharesFor, read_among};
+ghost use Rattle.sj_machine.specs.Sound.{CanStart, FetchesMoved, IsSoundRun, IsWrittenOut, OnlyDisksChange, StoresMoved};
 ghost use Rattle.sj_machine.specs.Standing.{CanHappen, HasDimsMoved, HasMoved, IsFetching, IsMovingIn, IsMovingOut, IsShareOf, IsTileMoved, is_node, starting, state, with_event};
 ghost use Rattle.sj_machine.specs.Tiles.{array_in};
 
 use crate::claiming::{hold_all, mark_all, node_of, take_plan};
 use crate::copies::Copies;
-use crate::delivered::Delivered;
+use crate::ending::{let_go, put_back, release_at};
 use crate::hold::Hold;
 use crate::mark::Mark;
 use crate::plan::Plan;
@@ -54,7 +54,6 @@ pub struct RunState<D: Disk> {
     /// For how many events the trace has room whatever comes: one for each copy that leaves, each transfer, and each
     /// claimed or running task.
     owed: u64,
-    delivered: Delivered,
 }
 
 impl<D: Disk> Model for RunState<D> {
@@ -64,10 +63,10 @@ impl<D: Disk> Model for RunState<D> {
 
     ghost Value = { Standing D };
 
-    ghost view = { λ b. standing b.program.value b.machine b.trace b.delivered b.disks b.opened.value };
+    ghost view = { λ b. standing b.program.value b.machine b.trace b.disks b.opened.value };
 
     ghost invariant = { λ b. Keeps D.size D.faults D.mismatches D.held
-        (standing b.program.value b.machine b.trace b.delivered b.disks b.opened.value)
+        (standing b.program.value b.machine b.trace b.disks b.opened.value)
         (rows_of b.tasks.items b.cells.items b.nodes.items b.workers.items) b.owed b.trace.spare };
 }
 
@@ -263,7 +262,6 @@ impl<D: Disk> RunState<D> {
             opened,
             trace: Trace::empty(alloc),
             owed: 0,
-            delivered: Delivered::empty(alloc),
         })
     }
 
@@ -422,5 +420,29 @@ impl<D: Disk> RunState<D> {
         self.tasks[t.0 as usize] = Progress::Running(w);
         self.trace.add(Event::Run(t, w));
         Ok(frame)
+    }
+
+    /// The kernel of a task has ended. The frame has shares of its results, in the order of its written operands. Linear in the
+    /// operands, and no memory.
+    pub fn end(&mut self, t: Task, w: Worker, mut written: Frame)
+        requires can { CanHappen self.old (Event.End t w) }
+        requires written { AreResultsFor D.held self.old t w written.slots }
+        ensures { self.new ≡ with_event self.old (Event.End t w) }
+    {
+        let n = node_of(&self.machine, w);
+        let accesses = task_at(&self.program, t).accesses.items();
+        put_back(&mut self.cells, accesses, n, &mut written);
+        release_at(&mut self.nodes, n, &self.workers, w);
+        let_go(&mut self.workers, w);
+        self.tasks[t.0 as usize] = Progress::Done(w);
+        self.owed -= 1;
+        self.trace.add(Event::End(t, w));
+    }
+
+    /// No code: its contract is what is true of every run.
+    pub fn is_sound(&self)
+        ensures { IsSoundRun D.size D.faults D.mismatches D.held self.now }
+    {
+        let _ = &self.program;
     }
 }
