@@ -22,7 +22,6 @@ use Rattle.sj_machine.specs.declared.mark.Mark.TheVariants.{Invalid as NoMark}
 use Rattle.sj_machine.specs.Mark.{mark_of, owed_for}
 use Rattle.sj_machine.specs.Agrees.{Agrees, IsWide, Rows, entry_of, owed_by_task, owed_by_worker, owed_in, rows_of, store_of}
 use Rattle.sj_machine.specs.Copies.{Copies, mark_at, none_at, owed_in as owed_in_copies, row_of, tile_at}
-use Rattle.sj_machine.specs.Delivered.{Deliveries}
 use Rattle.sj_machine.specs.Sound.{IsBlock, IsRunOf, Keeps, block_of}
 use Rattle.sj_machine.specs.Standing.{AllTell, Standing, standing, starting}
 use Rattle.sj_machine.proofs.Reading.{no_copies}
@@ -149,10 +148,9 @@ module _ {D : Type 0} (size faults mismatches : D → ℕ) (held : D → Option 
   }
 
   -- as the code makes it
-  pub keeps-made : (tasks : List Progress) (cells : List Copies) (nodes : List Store) (workers : List WorkerState) (trace : Recorded) (delivered : Deliveries) (opened : DiskState D) → tasks ≡ (first_rows p m).tasks → cells ≡ (first_rows p m).cells → nodes ≡ (first_rows p m).nodes → workers ≡ (first_rows p m).workers → trace.events ≡ [] → delivered.pairs ≡ [] → opened ≡ disks → Keeps size faults mismatches held (standing p m trace delivered disks opened) (rows_of tasks cells nodes workers) 0 trace.spare
-  keeps-made tasks cells nodes workers trace delivered opened t c n w none empty as_opened =
+  pub keeps-made : (tasks : List Progress) (cells : List Copies) (nodes : List Store) (workers : List WorkerState) (trace : Recorded) (opened : DiskState D) → tasks ≡ (first_rows p m).tasks → cells ≡ (first_rows p m).cells → nodes ≡ (first_rows p m).nodes → workers ≡ (first_rows p m).workers → trace.events ≡ [] → opened ≡ disks → Keeps size faults mismatches held (standing p m trace disks opened) (rows_of tasks cells nodes workers) 0 trace.spare
+  keeps-made tasks cells nodes workers trace opened t c n w none as_opened =
       let rows : rows_of tasks cells nodes workers ≡ first_rows p m = ap (λ (x : List Progress). rows_of x cells nodes workers) t ∙ ap (λ (x : List Copies). rows_of (first_rows p m).tasks x nodes workers) c ∙ ap (λ (x : List Store). rows_of (first_rows p m).tasks (first_rows p m).cells x workers) n ∙ ap (λ (x : List WorkerState). rows_of (first_rows p m).tasks (first_rows p m).cells (first_rows p m).nodes x) w in
-      subst (λ (o : DiskState D). Keeps size faults mismatches held (standing p m trace delivered disks o) (rows_of tasks cells nodes workers) 0 trace.spare) (sym as_opened)
-      (subst (λ (r : Rows). Keeps size faults mismatches held (standing p m trace delivered disks disks) r 0 trace.spare) (sym rows)
-      (subst (λ (es : List Event). Keeps size faults mismatches held (record { program = p; machine = m; trace = es; delivered = delivered.pairs; disks = disks; opened = disks.disks }) (first_rows p m) 0 trace.spare) (sym none)
-      (subst (λ (ds : List (Task × Array)). Keeps size faults mismatches held (record { program = p; machine = m; trace = []; delivered = ds; disks = disks; opened = disks.disks }) (first_rows p m) 0 trace.spare) (sym empty) (keeps-first trace.spare))))
+      subst (λ (o : DiskState D). Keeps size faults mismatches held (standing p m trace disks o) (rows_of tasks cells nodes workers) 0 trace.spare) (sym as_opened)
+      (subst (λ (r : Rows). Keeps size faults mismatches held (standing p m trace disks disks) r 0 trace.spare) (sym rows)
+      (subst (λ (es : List Event). Keeps size faults mismatches held (record { program = p; machine = m; trace = es; disks = disks; opened = disks.disks }) (first_rows p m) 0 trace.spare) (sym none) (keeps-first trace.spare)))

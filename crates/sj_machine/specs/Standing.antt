@@ -1,4 +1,4 @@
--- A run as contracts see it: its program and its machine, the events so far, what was handed over, and the disks.
+-- A run as contracts see it: its program and its machine, the events so far, and the disks.
 use Rattle.std.specs.Prelude.{◌≡◌, ℕ, Bool, true, false, Option, None, IfSome, IsSome, IsSomeAnd, All, List, [], ◌∷◌, ◌++◌}
 use Rattle.sj_base.specs.declared.ids.Task.{Task}
 use Rattle.sj_base.specs.declared.ids.Cell.{Cell}
@@ -17,23 +17,21 @@ use Rattle.sj_core.specs.Machine.{State, transfer}
 use Rattle.sj_core.specs.Program.{dims_of}
 use Rattle.sj_core.specs.Step.{Step, after, array_at}
 use Rattle.sj_disk.specs.Directory.{DiskState}
-use Rattle.sj_machine.specs.Delivered.{Deliveries}
 
 -- a run: `opened` is the disks as they were when it was made
 pub record Standing (D : Type 0) : Type 0 where
   pub program : Program
   pub machine : Machine
   pub trace : List Event
-  pub delivered : List (Task × Array)
   pub disks : DiskState D
   pub opened : List D
 
-abbrev pub standing : {D : Type 0} → Program → Machine → Recorded → Deliveries → DiskState D → DiskState D → Standing D
-standing p m trace delivered disks opened = record { program = p; machine = m; trace = trace.events; delivered = delivered.pairs; disks = disks; opened = opened.disks }
+abbrev pub standing : {D : Type 0} → Program → Machine → Recorded → DiskState D → DiskState D → Standing D
+standing p m trace disks opened = record { program = p; machine = m; trace = trace.events; disks = disks; opened = opened.disks }
 
 -- nothing has happened
 abbrev pub starting : {D : Type 0} → Program → Machine → DiskState D → Standing D
-starting p m disks = record { program = p; machine = m; trace = []; delivered = []; disks = disks; opened = disks.disks }
+starting p m disks = record { program = p; machine = m; trace = []; disks = disks; opened = disks.disks }
 
 -- the state that the events leave
 abbrev pub state : {D : Type 0} → Standing D → State

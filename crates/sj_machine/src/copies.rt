@@ -1,7 +1,7 @@
 //! What is kept of the copies of one cell.
 
-ghost use Rattle.std.specs.Prelude.{◌≡◌, ◌<◌, IfOk, IsTrue, Some, None, is_some, length, map, replicate};
-ghost use Rattle.sj_machine.specs.Copies.{lent_at, mark_at, none_at, stored, tile_at, with_copy};
+ghost use Rattle.std.specs.Prelude.{◌≡◌, ◌+◌, ◌^◌, ◌<◌, IfOk, IsTrue, Some, None, is_some, length, map, replicate};
+ghost use Rattle.sj_machine.specs.Copies.{lent_at, mark_at, none_at, stored, tile_at, with_copy, written_at};
 ghost use Rattle.sj_machine.specs.Plan.{with_mark};
 ghost use Rattle.sj_machine.specs.Tiles.{array_in};
 
@@ -154,5 +154,16 @@ impl Copies {
         clear_tiles(&mut self.tiles);
         self.marks[n.0 as usize] = Mark::Valid;
         self.on_disk = false;
+    }
+
+    /// The node has a new tile, and the cell is written once more. Constant time.
+    pub fn rewrite(&mut self, n: Node, tile: Arc<Tile>)
+        requires node { n.0 < length self.old.marks }
+        requires few { self.old.writes + 1 < 2 ^ 64 }
+        ensures { self.new ≡ written_at self.old n tile.value }
+    {
+        self.marks[n.0 as usize] = Mark::Valid;
+        self.tiles[n.0 as usize] = Some(tile);
+        self.writes += 1;
     }
 }

@@ -48,6 +48,13 @@ impl Hold {
         &self.pins
     }
 
+    /// The scratch bytes that it holds. Constant time.
+    pub fn scratch(&self) -> u64
+        ensures { result ≡ self.now.scratch }
+    {
+        self.scratch
+    }
+
     /// The victims of its claim. Constant time.
     pub fn victims(&self) -> &[Cell]
         ensures { result.now ≡ self.now.victims }

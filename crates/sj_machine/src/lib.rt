@@ -8,6 +8,7 @@ pub mod copies;
 pub mod delivered;
 pub mod fault;
 pub mod hand;
+mod ending;
 pub mod hold;
 pub mod mark;
 pub mod needs;

@@ -2,6 +2,7 @@
 
 ghost use Rattle.std.specs.Prelude.{◌≡◌, ◌≢◌, ℕ, ◌+◌, ◌<◌, ◌≤◌, ◌++◌, ◌∷◌, [], All, IfOk, OnOk, length, slice_index_or, slice_set};
 ghost use Rattle.sj_base.specs.Mode.{is_written, reads_value};
+ghost use Rattle.sj_core.specs.Program.{task_of};
 ghost use Rattle.sj_machine.specs.Agrees.{IsWide};
 ghost use Rattle.sj_machine.specs.Copies.{lent_at, with_row};
 ghost use Rattle.sj_machine.specs.Running.{AreUnpinned, CanGive, evicted_at, lend_each, read_among, shares_at, written_among};
@@ -9,12 +10,21 @@ ghost use Rattle.sj_node.specs.Entry.{pins_of, without, without_all};
 ghost use Rattle.sj_node.specs.Store.{Store, with_entries};
 
 use crate::copies::Copies;
-use sj_base::ids::{Cell, Node};
+use sj_base::ids::{Cell, Node, Task};
 use sj_base::memory::OutOfMemory;
 use sj_base::mode::{Access, Mode};
+use sj_base::program::{Lowered, Program};
 use sj_codelet::frame::Frame;
 use sj_node::store::NodeStore;
 use std::alloc::Global;
+
+/// A task of a program. Constant time.
+pub fn task_at(program: &Program, t: Task) -> &Lowered
+    requires { t.0 < length program.now.tasks }
+    ensures { result.now ≡ task_of program.now t }
+{
+    &program.tasks.items()[t.0 as usize]
+}
 
 /// Whether an operand of this mode gets a new value.
 pub fn is_written(mode: Mode) -> bool
