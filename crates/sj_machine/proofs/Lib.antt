@@ -6,6 +6,7 @@ pub mod ClaimMarks
 pub mod ClaimStores
 pub mod ClaimLoops
 pub mod ClaimRows
+pub mod ClaimPlanning
 pub mod Dropping
 pub mod Keeping
 pub mod Making

@@ -3,6 +3,7 @@ pub mod Copies
 pub mod Delivered
 pub mod Mark
 pub mod Plan
+pub mod Planning
 pub mod Sound
 pub mod Standing
 pub mod Tiles

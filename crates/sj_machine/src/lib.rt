@@ -6,6 +6,7 @@ pub mod claiming;
 pub mod copies;
 pub mod delivered;
 pub mod hold;
+pub mod leaving;
 pub mod mark;
 pub mod needs;
 pub mod plan;
