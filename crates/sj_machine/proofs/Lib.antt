@@ -7,6 +7,7 @@ pub mod ClaimStores
 pub mod ClaimLoops
 pub mod ClaimRows
 pub mod ClaimPlanning
+pub mod ClaimFinding
 pub mod Dropping
 pub mod Keeping
 pub mod Making
