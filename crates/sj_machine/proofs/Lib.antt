@@ -8,6 +8,7 @@ pub mod ClaimLoops
 pub mod ClaimRows
 pub mod ClaimPlanning
 pub mod ClaimFinding
+pub mod ClaimChoice
 pub mod Dropping
 pub mod Keeping
 pub mod Making
