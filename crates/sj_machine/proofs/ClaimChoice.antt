@@ -1,20 +1,18 @@
 -- What is answered to a claim: its plan, or why it can't be made.
-use Rattle.std.proofs.Common.{◌≡◌, ℕ, ◌+◌, ◌*◌, ◌^◌, ◌<◌, ◌≤◌, true, false, List, Option, Some, None, length, get_or, option_map, refl, sym, ap, ◌∙◌, subst, arith, inl, inr}
-use Rattle.std.specs.Prelude.{All, Result, Ok, Err, IfErr, IfOk, OnOk}
+use Rattle.std.proofs.Common.{◌≡◌, ℕ, ◌^◌, ◌<◌, ◌≤◌, true, List, Option, Some, None, length, get_or, option_map, sym, ap, ◌∙◌, subst, arith}
+use Rattle.std.specs.Prelude.{All, Result, IfErr, IfOk, OnOk}
 use Rattle.std.specs.Option.{ok_or}
 use Rattle.std.proofs.lemmas.List.{get_or_default}
 use Rattle.std.proofs.lemmas.List.Elements.{All-get_or, All-weaker}
 use Rattle.sj_base.specs.Array.{area}
-use Rattle.sj_base.specs.declared.mode.Access.{Access}
 use Rattle.sj_base.specs.declared.program.CellInfo.{CellInfo}
 use Rattle.sj_base.specs.declared.program.Lowered.{Lowered}
 use Rattle.sj_base.specs.declared.trace.Event.TheVariants.{Claim}
-use Rattle.sj_core.proofs.Words.{AtNode, Cell, Machine, Node, Program, State, Task, Worker, WorkerState, no_cell, no_task, node_of, replica, task_of}
+use Rattle.sj_core.proofs.Words.{Cell, Machine, Node, Program, State, Task, Worker, WorkerState, no_cell, no_task, node_of, task_of}
 use Rattle.sj_core.specs.Laws.{IsSound}
 use Rattle.sj_core.specs.Step.{none_leaving}
 use Rattle.sj_node.specs.Store.{Store}
 use Rattle.sj_machine.specs.Agrees.{IsWide, Rows, store_of}
-use Rattle.sj_machine.specs.Copies.{Copies}
 use Rattle.sj_machine.specs.Plan.{ClaimPlan, IsPlan, IsSmallCell}
 use Rattle.sj_machine.specs.Planning.{HasSmallTask, IsWhy, MayClaim, NoneLeaves, chosen_on, is_leaving_at, planned}
 use Rattle.sj_machine.specs.Sound.{Keeps}
@@ -68,7 +66,7 @@ module _ {D : Type 0} (size faults mismatches : D → ℕ) (held : D → Option 
   choice-small = record {
     task = may.ready.task;
     cells = All-weaker (λ a. a.cell.0 < length p.cells) (λ a. IsSmallCell p a.cell) (λ a inside. record { cell = inside; small = All-get_or (λ (c : CellInfo). area c.dims ≤ 2 ^ 24) p.cells a.cell.0 no_cell inside sound.proper.limits.elements }) (task_of p t).accesses
-      (All-get_or (λ (l : Lowered). All (λ a. a.cell.0 < length p.cells) l.accesses) p.tasks t.0 no_task may.ready.task sound.proper.cells.named);
+        (All-get_or (λ (l : Lowered). All (λ a. a.cell.0 < length p.cells) l.accesses) p.tasks t.0 no_task may.ready.task sound.proper.cells.named);
     few = few-operands p sound.proper t;
   }
 

@@ -1,10 +1,10 @@
 -- What a plan on a node says of the claim in the state: its cells, its victims, and why it can't be made.
-use Rattle.std.proofs.Common.{◌≡◌, ℕ, ◌+◌, ◌-◌, ◌<◌, ◌≤◌, Bool, true, false, not, ◌&&◌, ◌||◌, cond, List, [], ◌∷◌, ◌++◌, Option, Some, None, map, filter, length, get_or, reverse, option_map, refl, sym, ap, ◌∙◌, subst, arith, inl, inr, sum, sum_by, nat_eq}
+use Rattle.std.proofs.Common.{◌≡◌, ℕ, ◌+◌, ◌-◌, Bool, true, false, not, ◌&&◌, ◌||◌, cond, List, [], ◌∷◌, ◌++◌, Option, Some, None, map, filter, length, reverse, option_map, refl, sym, ap, ◌∙◌, subst, arith, inl, inr, sum_by, nat_eq}
 use Rattle.std.specs.List.{list_all, list_any}
 use Rattle.std.specs.Bool.{then_some}
 use Rattle.std.specs.Option.{option_or}
-use Rattle.std.specs.Prelude.{All, IsTrue, count_by, if◌then◌else◌, unwrap_or}
-use Rattle.std.proofs.lemmas.Bool.{cases_lt, eq-eqb, false_from_ne_true, false≢true, ne_eqb}
+use Rattle.std.specs.Prelude.{All, if◌then◌else◌, unwrap_or}
+use Rattle.std.proofs.lemmas.Bool.{cases_lt, false_from_ne_true, false≢true, ne_eqb}
 use Rattle.std.proofs.lemmas.List.{get_or_default, get_or_past, map-append, reverse-append, reverse-reverse}
 use Rattle.std.proofs.lemmas.List.Elements.{All-filter, All-get_or, All-head, All-tail, All-weaker, filter_agree}
 use Rattle.std.proofs.lemmas.List.Sums.{list_all-from_AllPass, sum_by-cons}
@@ -14,18 +14,18 @@ use Rattle.sj_core.proofs.CellLists.{times, times-has, times-none}
 use Rattle.sj_core.proofs.Modes.{plain_isn't_commute, plain_isn't_redux}
 use Rattle.sj_core.proofs.Reading.{idle_row, no_row, same_cell-is}
 use Rattle.sj_core.proofs.Replicas.{leaving-by_some}
-use Rattle.sj_core.proofs.Words.{AtNode, Cell, CellState, Coming, Invalid, Leaving, Machine, Node, Place, Program, Replica, State, Task, Valid, Worker, WorkerState, cells_of, commuting_cells, copy_of, data_operands, distinct, free, has_cell, is_leaving, is_pinned, node_of, node_size, order, pins, replica, replica_in, same_cell, scratch, scratch_bytes, task_of, tile_bytes, victims_of, worked_on, workers_at}
+use Rattle.sj_core.proofs.Words.{AtNode, Cell, CellState, Coming, Invalid, Leaving, Machine, Node, Program, Replica, State, Task, Valid, Worker, WorkerState, cells_of, copy_of, data_operands, distinct, free, has_cell, is_leaving, is_pinned, node_of, node_size, order, pins, replica, replica_in, same_cell, scratch, scratch_bytes, task_of, tile_bytes, victims_of, worked_on, workers_at}
 use Rattle.sj_core.specs.Coherent.{Coherent}
 use Rattle.sj_core.specs.Laws.{HasPlainModes}
 use Rattle.sj_core.specs.Step.{Claims, after, after_claim, is_in_use, missing, none_leaving, to_come, victims_for}
 use Rattle.sj_core.specs.Victims.{covers, shortest_suffix, victims}
 use Rattle.sj_base.specs.declared.trace.Event.TheVariants.{Claim}
 use Rattle.sj_node.proofs.CallerLemmas.{victims-map}
-use Rattle.sj_node.specs.Entry.{Entry, has_entry, is_spare, victim_cells}
+use Rattle.sj_node.specs.Entry.{Entry, has_entry, is_spare}
 use Rattle.sj_node.specs.Store.{Store, free as free_bytes}
 use Rattle.sj_node.specs.Victims.{shortest_suffix as shortest_end, victims as victims_among}
 use Rattle.sj_machine.specs.Agrees.{HasMarks, pins_on, store_of}
-use Rattle.sj_machine.specs.Copies.{Copies, mark_at, row_of}
+use Rattle.sj_machine.specs.Copies.{Copies}
 use Rattle.sj_machine.specs.Mark.{is_leaving as is_leaving_mark, mark_of}
 use Rattle.sj_machine.specs.Plan.{ClaimPlan, IsPlan, plan_with}
 use Rattle.sj_machine.specs.Planning.{CommutersAreFree, MayClaim, NoneLeaves, chosen_on, is_leaving_at, lacking, named, need_on, planned}

@@ -1,10 +1,9 @@
 -- What is found in planning a claim.
-use Rattle.std.proofs.Common.{◌≡◌, ℕ, ◌+◌, ◌*◌, ◌^◌, ◌<◌, ◌≤◌, Bool, true, false, not, ◌&&◌, ◌||◌, cond, List, [], ◌∷◌, Option, Some, None, map, filter, length, get_or, reverse, option_map, refl, sym, ap, ◌∙◌, subst, arith, inl, inr, sum, sum_by}
-use Rattle.std.specs.List.{list_all, list_any}
-use Rattle.std.specs.Prelude.{All, IsTrue, if◌then◌else◌, count_by, nat_eq}
-use Rattle.std.proofs.lemmas.Bool.{and_parts, false≢true, or_right}
-use Rattle.std.proofs.lemmas.List.{length-map, reverse-reverse}
-use Rattle.std.proofs.lemmas.List.Elements.{All-filter, All-get_or, All-head, All-tail}
+use Rattle.std.proofs.Common.{◌≡◌, ℕ, ◌+◌, ◌*◌, ◌^◌, ◌≤◌, Bool, true, false, not, ◌||◌, List, [], ◌∷◌, Some, None, map, filter, length, reverse, option_map, refl, sym, ap, ◌∙◌, subst, arith, sum, sum_by}
+use Rattle.std.specs.Prelude.{All, if◌then◌else◌, count_by}
+use Rattle.std.proofs.lemmas.Bool.{false≢true}
+use Rattle.std.proofs.lemmas.List.{length-map}
+use Rattle.std.proofs.lemmas.List.Elements.{All-filter, All-head, All-tail}
 use Rattle.std.proofs.lemmas.List.Sums.{count_by-le-length, length-filter, sum-map, sum_by-le}
 use Rattle.sj_base.specs.Mode.{is_data}
 use Rattle.sj_base.specs.declared.mode.Access.{Access}

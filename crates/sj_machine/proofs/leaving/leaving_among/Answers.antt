@@ -1,6 +1,5 @@
-use Rattle.std.proofs.Common.{◌≡◌, ◌∙◌, List, false, subst, sym, take_all, arith}
+use Rattle.std.proofs.Common.{◌≡◌, ◌∙◌, false, subst, sym, take_all, arith}
 use Rattle.std.proofs.lemmas.List.Elements.{All-more}
-use Rattle.sj_base.specs.declared.ids.Cell.{Cell}
 use Rattle.sj_machine.specs.Planning.{NoneLeaves, is_leaving_at}
 use Rattle.sj_machine.proofs.leaving.leaving_among.Goals as goal
 

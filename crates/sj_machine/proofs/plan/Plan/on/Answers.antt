@@ -1,4 +1,4 @@
-use Rattle.std.proofs.Common.{rules, ◌≡◌, ◌+◌, ◌<◌, ◌≤◌, ◌∙◌, List, Option, Some, None, ap, arith, subst, sym, reverse, sum, sum_by, length, filter, map, not, option_map}
+use Rattle.std.proofs.Common.{rules, ◌≡◌, ◌+◌, ◌∙◌, List, Some, None, ap, arith, subst, sym, reverse, sum, sum_by, filter, map, not, option_map}
 use Rattle.std.specs.Prelude.{All}
 use Rattle.sj_base.specs.declared.ids.Cell.{Cell}
 use Rattle.sj_base.specs.declared.mode.Access.{Access}
@@ -8,7 +8,7 @@ use Rattle.sj_core.specs.Needs.{tile_bytes, scratch_bytes}
 use Rattle.sj_node.specs.Entry.{has_entry}
 use Rattle.sj_node.specs.Store.{victims_of}
 use Rattle.sj_machine.specs.Plan.{IsSmallCell}
-use Rattle.sj_machine.specs.Planning.{HasSmallTask, chosen_on, lacking, named, planned}
+use Rattle.sj_machine.specs.Planning.{lacking, named}
 use Rattle.sj_machine.proofs.ClaimPlanning.{lacking-small, lacking-sum, missing-is, planned-none, planned-some}
 use Rattle.sj_machine.proofs.plan.Plan.on.Goals as goal
 
@@ -70,8 +70,8 @@ returns c =
     let weighs : c.in_ok-bytes.bytes.items ≡ map (tile_bytes p) c.in_ok-missing.missing.items = search rules in
     let holds : c.scratch_bytes-scratch.result ≡ scratch_bytes p (task_of p t) = c.scratch_bytes-scratch.ensures.bytes ∙ ap (λ (xs : List Access). sum_by (λ a. tile_bytes p a.cell) (filter (λ a. is_scratch a.mode) xs)) accesses in
     let found : option_map (λ v. v.items) c.in_ok-victims.field-0 ≡ option_map reverse (victims_of c.in_ok-cells.cells.items s (sum c.in_ok-bytes.bytes.items + c.scratch_bytes-scratch.result)) =
-        c.in_ok-victims.ensures
-        ∙ ap (λ (cs : List Cell). option_map reverse (victims_of cs s (c.total.result + c.scratch_bytes-scratch.result))) c.deref-4.ensures.value
-        ∙ ap (λ n. option_map reverse (victims_of c.in_ok-cells.cells.items s (n + c.scratch_bytes-scratch.result))) (c.total.ensures ∙ ap sum c.deref-3.ensures.value) in
+    c.in_ok-victims.ensures
+    ∙ ap (λ (cs : List Cell). option_map reverse (victims_of cs s (c.total.result + c.scratch_bytes-scratch.result))) c.deref-4.ensures.value
+    ∙ ap (λ n. option_map reverse (victims_of c.in_ok-cells.cells.items s (n + c.scratch_bytes-scratch.result))) (c.total.ensures ∙ ap sum c.deref-3.ensures.value) in
     let some : Some c.in-Some.victims.items ≡ option_map reverse (victims_of c.in_ok-cells.cells.items s (sum c.in_ok-bytes.bytes.items + c.scratch_bytes-scratch.result)) = ap (option_map (λ v. v.items)) (sym c.in-Some.is) ∙ found in
     planned-some p t s _ _ _ _ names lacks weighs holds c.in-Some.victims.items some

@@ -1,14 +1,9 @@
-use Rattle.std.proofs.Common.{rules, ◌≡◌, ◌∙◌, List, Option, None, Some, All, true, ap, option_map, refl, subst, sym, length}
-use Rattle.std.specs.Prelude.{IfErr, IfOk, OnOk, Result}
-use Rattle.sj_base.specs.declared.ids.Cell.{Cell}
-use Rattle.sj_base.specs.declared.trace.Event.TheVariants.{Claim}
+use Rattle.std.proofs.Common.{◌≡◌, ◌∙◌, List, All, true, ap, option_map, refl, subst, sym}
 use Rattle.sj_base.specs.declared.program.Program.{Program}
 use Rattle.sj_core.specs.Machine.{WorkerState}
 use Rattle.sj_machine.specs.Copies.{Copies}
-use Rattle.sj_machine.specs.Plan.{ClaimPlan, IsPlan}
 use Rattle.sj_machine.specs.Planning.{IsWhy, MayClaim, NoneLeaves, chosen_on, is_leaving_at, planned}
-use Rattle.sj_machine.specs.Standing.{CanHappen, Standing, state}
-use Rattle.sj_machine.specs.declared.plan.Why.{Why}
+use Rattle.sj_machine.specs.Standing.{Standing, state}
 use Rattle.sj_machine.specs.declared.plan.Why.TheVariants.{Leaving}
 use Rattle.sj_machine.proofs.ClaimChoice.{answer-told, choice-found, choice-leaving}
 use Rattle.sj_machine.proofs.run_state.RunState.claim_plan.Goals as goal
