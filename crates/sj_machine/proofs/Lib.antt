@@ -10,11 +10,17 @@ pub mod ClaimPlanning
 pub mod ClaimFinding
 pub mod ClaimChoice
 pub mod Dropping
+pub mod Entries
 pub mod Keeping
+pub mod Lending
+pub mod Lists
 pub mod Making
 pub mod Marking
+pub mod Operands
+pub mod Owning
 pub mod Reading
 pub mod Resting
 pub mod Storing
 pub mod Tiles
 pub mod Transferring
+pub mod Written

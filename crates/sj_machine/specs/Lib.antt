@@ -4,6 +4,7 @@ pub mod Delivered
 pub mod Mark
 pub mod Plan
 pub mod Planning
+pub mod Running
 pub mod Sound
 pub mod Standing
 pub mod Tiles

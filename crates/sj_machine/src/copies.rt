@@ -1,7 +1,7 @@
 //! What is kept of the copies of one cell.
 
-ghost use Rattle.std.specs.Prelude.{◌≡◌, ◌<◌, IfOk, IsTrue, Some, None, is_some, length, replicate};
-ghost use Rattle.sj_machine.specs.Copies.{mark_at, none_at, stored, tile_at, with_copy};
+ghost use Rattle.std.specs.Prelude.{◌≡◌, ◌<◌, IfOk, IsTrue, Some, None, is_some, length, map, replicate};
+ghost use Rattle.sj_machine.specs.Copies.{lent_at, mark_at, none_at, stored, tile_at, with_copy};
 ghost use Rattle.sj_machine.specs.Plan.{with_mark};
 ghost use Rattle.sj_machine.specs.Tiles.{array_in};
 
@@ -52,6 +52,24 @@ fn no_tiles(alloc: Global, count: usize) -> Result<Vec<Option<Arc<Tile>>>, OutOf
         tiles.push(None)?;
     }
     Ok(tiles)
+}
+
+/// No copy in any of these places. Linear in them.
+fn clear_marks(marks: &mut Vec<Mark>)
+    ensures { marks.new.items ≡ map (λ x. Mark.Invalid) marks.old.items }
+{
+    for i in 0..marks.len() {
+        marks[i] = Mark::Invalid;
+    }
+}
+
+/// No tile in any of these places. Linear in them.
+fn clear_tiles(tiles: &mut Vec<Option<Arc<Tile>>>)
+    ensures { tiles.new.items ≡ map (λ x. None) tiles.old.items }
+{
+    for i in 0..tiles.len() {
+        tiles[i] = None;
+    }
 }
 
 impl Copies {
@@ -125,5 +143,16 @@ impl Copies {
         ensures { self.new ≡ stored self.old }
     {
         self.on_disk = true;
+    }
+
+    /// The one copy is a node's own from now on, and its tile leaves. Linear in the nodes.
+    pub fn lend(&mut self, n: Node)
+        requires { n.0 < length self.old.marks }
+        ensures { self.new ≡ lent_at self.old n }
+    {
+        clear_marks(&mut self.marks);
+        clear_tiles(&mut self.tiles);
+        self.marks[n.0 as usize] = Mark::Valid;
+        self.on_disk = false;
     }
 }

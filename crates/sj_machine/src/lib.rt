@@ -11,3 +11,4 @@ pub mod mark;
 pub mod needs;
 pub mod plan;
 pub mod run_state;
+mod running;

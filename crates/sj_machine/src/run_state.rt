@@ -1,15 +1,17 @@
 //! The state of a run, and the events that change it.
 
-ghost use Rattle.std.specs.Prelude.{◌≡◌, ◌<◌, All, FitsSigned, IfErr, IfOk, IsSome, OnErr, OnOk, None, Some, false, length, map, replicate, true};
+ghost use Rattle.std.specs.Prelude.{◌≡◌, ◌<◌, ◌≤◌, [], All, FitsSigned, IfErr, IfOk, IsSome, OnErr, OnOk, None, Some, false, length, map, replicate, true};
 ghost use Rattle.std.specs.Int.{w64};
 ghost use Rattle.sj_base.specs.Array.{area};
 ghost use Rattle.sj_base.specs.declared.ids.Place.TheVariants.{Disk as OnDisk, Node as AtNode};
+ghost use Rattle.sj_core.specs.Program.{task_of};
 ghost use Rattle.sj_core.specs.Step.{mover_of};
 ghost use Rattle.sj_node.specs.Store.{empty};
 ghost use Rattle.sj_machine.specs.Agrees.{idle, transfer_in, with_transfer_of};
 ghost use Rattle.sj_machine.specs.Copies.{CanShare, none_at, row_of, stored, tile_kept, with_copy, with_row};
 ghost use Rattle.sj_machine.specs.Plan.{IsPlan};
 ghost use Rattle.sj_machine.specs.Planning.{IsWhy, MayClaim};
+ghost use Rattle.sj_machine.specs.Running.{AreSharesFor, read_among};
 ghost use Rattle.sj_machine.specs.Sound.{CanStart, FetchesMoved, IsWrittenOut, OnlyDisksChange, StoresMoved};
 ghost use Rattle.sj_machine.specs.Standing.{CanHappen, HasDimsMoved, HasMoved, IsFetching, IsMovingIn, IsMovingOut, IsShareOf, IsTileMoved, is_node, starting, state, with_event};
 ghost use Rattle.sj_machine.specs.Tiles.{array_in};
@@ -21,11 +23,13 @@ use crate::hold::Hold;
 use crate::leaving::leaving_at;
 use crate::mark::Mark;
 use crate::plan::{Plan, Why};
+use crate::running::{evict_elsewhere, lend_each, share_into, task_at, written_among};
 use sj_base::ids::{Cell, DiskNo, Node, Place, Task, Worker};
 use sj_base::memory::OutOfMemory;
 use sj_base::program::{Machine, Program};
 use sj_base::tile::Tile;
 use sj_base::trace::{Event, Trace};
+use sj_codelet::frame::Frame;
 use sj_core::progress::{Progress, Transfer};
 use sj_disk::disk_set::DiskSet;
 use sj_disk::refusal::DiskRefusal;
@@ -409,5 +413,37 @@ impl<D: Disk> RunState<D> {
         let _dims = tile.dims();
         let writes = writes_of(&self.cells, x.cell);
         self.disks.fetch(x.cell, writes, tile)
+    }
+
+    /// The kernel of a task begins that its worker has claimed. Appends to the frame shares of the operands whose old value
+    /// is read, in order; of the cells that it writes, the run keeps no tile. After an `Err` the run is as before. Linear in
+    /// the operands, and in the nodes for each written one.
+    pub fn run(
+        &mut self,
+        alloc: Global,
+        t: Task,
+        w: Worker,
+        mut frame: Frame,
+    ) -> Result<Frame, OutOfMemory>
+        requires can { CanHappen self.old (Event.Run t w) }
+        requires empty { frame.slots ≡ [] }
+        requires room { length (read_among (task_of self.old.program t).accesses) ≤ frame.spare }
+        ensures ok { OnOk result (self.new ≡ with_event self.old (Event.Run t w)) }
+        ensures shares { IfOk result (λ f. AreSharesFor D.held self.old t w f.slots) }
+        ensures err { OnErr result (self.new ≡ self.old) }
+    {
+        let n = node_of(&self.machine, w);
+        let accesses = task_at(&self.program, t).accesses.items();
+        share_into(&self.cells, n, accesses, &mut frame)?;
+        let written = written_among(alloc, accesses)?;
+        let Some(room) = self.owed.checked_add(1) else {
+            return Err(OutOfMemory);
+        };
+        self.trace.reserve(room)?;
+        lend_each(&mut self.cells, &written, n, self.machine.nodes.len());
+        evict_elsewhere(&mut self.nodes, &written, n);
+        self.tasks[t.0 as usize] = Progress::Running(w);
+        self.trace.add(Event::Run(t, w));
+        Ok(frame)
     }
 }
