@@ -12,7 +12,6 @@ ghost use Rattle.sj_machine.specs.Sound.{IsWrittenOut};
 ghost use Rattle.sj_machine.specs.Standing.{CanHappen, IsMovingIn, IsMovingOut, IsShareOf, IsTileMoved, state};
 ghost use Rattle.sj_machine.specs.Tiles.{array_in};
 
-use crate::delivered::Delivered;
 use crate::fault::RunFault;
 use crate::hand::Hand;
 use crate::run_state::RunState;
@@ -217,16 +216,15 @@ impl<D: Disk> Board<D> {
         stop_hand(&mut self.hands, w);
     }
 
-    /// What was handed over, the events, the disks, and the first fault. Constant time, and no memory.
-    pub fn close(self) -> (Delivered, Trace, DiskSet<D>, Option<RunFault>)
+    /// The events, the disks, and the first fault. Constant time, and no memory.
+    pub fn close(self) -> (Trace, DiskSet<D>, Option<RunFault>)
         requires idle { All (λ hand. hand.task ≡ None) self.hands }
-        ensures delivered { result.0.pairs ≡ self.run.delivered }
-        ensures trace { result.1.events ≡ self.run.trace }
-        ensures disks { result.2 ≡ self.run.disks }
-        ensures fault { result.3 ≡ self.fault }
+        ensures trace { result.0.events ≡ self.run.trace }
+        ensures disks { result.1 ≡ self.run.disks }
+        ensures fault { result.2 ≡ self.fault }
     {
         let fault = self.fault;
-        let (delivered, trace, disks) = self.run.close();
-        (delivered, trace, disks, fault)
+        let (trace, disks) = self.run.close();
+        (trace, disks, fault)
     }
 }

@@ -10,6 +10,7 @@ pub mod fault;
 pub mod hand;
 mod ending;
 pub mod hold;
+pub mod leaving;
 pub mod mark;
 pub mod needs;
 pub mod plan;

@@ -4,16 +4,24 @@ ghost use Rattle.std.specs.Prelude.{◌≡◌, ◌≤◌, ◌<◌, ◌^◌, ◌*
 ghost use Rattle.sj_base.specs.Array.{area};
 ghost use Rattle.sj_base.specs.Mode.{is_data, is_scratch};
 ghost use Rattle.sj_core.specs.Needs.{tile_bytes as bytes_of_tile};
-ghost use Rattle.sj_core.specs.Program.{dims_of, distinct, has_cell};
+ghost use Rattle.sj_core.specs.Program.{dims_of, distinct, has_cell, task_of};
 ghost use Rattle.sj_node.specs.Entry.{has_entry};
 ghost use Rattle.sj_machine.specs.Plan.{IsSmallCell};
 
-use sj_base::ids::Cell;
+use sj_base::ids::{Cell, Task};
 use sj_base::memory::OutOfMemory;
 use sj_base::mode::{Access, Mode};
 use sj_base::program::Program;
 use sj_node::store::NodeStore;
 use std::alloc::Global;
+
+/// The operands of a task. Constant time.
+pub fn accesses_of(program: &Program, t: Task) -> &[Access]
+    requires { t.0 < length program.now.tasks }
+    ensures { result.now ≡ (task_of program.now t).accesses }
+{
+    program.tasks.items()[t.0 as usize].accesses.items()
+}
 
 /// The bytes of a cell's tile. Constant time.
 fn tile_bytes(program: &Program, cell: Cell) -> u64
@@ -51,7 +59,8 @@ fn scratch_of(program: &Program, access: Access) -> u64
 pub fn scratch_bytes(program: &Program, accesses: &[Access]) -> u64
     requires cells { All (λ a. IsSmallCell program.now a.cell) accesses.now }
     requires few { length accesses.now ≤ 5 }
-    ensures { result ≡ sum_by (λ a. bytes_of_tile program.now a.cell) (filter (λ a. is_scratch a.mode) accesses.now) }
+    ensures small { result ≤ 5 * 2 ^ 27 }
+    ensures bytes { result ≡ sum_by (λ a. bytes_of_tile program.now a.cell) (filter (λ a. is_scratch a.mode) accesses.now) }
 {
     let mut bytes = 0;
     for access in accesses {

@@ -2,7 +2,6 @@
 
 use super::RunState;
 use crate::claiming::node_of;
-use crate::delivered::Delivered;
 use sj_base::ids::{Node, Task, Worker};
 use sj_base::program::{Machine, Program};
 use sj_base::trace::Trace;
@@ -14,7 +13,6 @@ impl<D: Disk> RunState<D> {
     ghost use Rattle.std.specs.Prelude.{◌≡◌, ◌<◌, length};
     ghost use Rattle.sj_core.specs.Machine.{progress, transfer};
     ghost use Rattle.sj_core.specs.Needs.{node_of, node_size};
-    ghost use Rattle.sj_machine.specs.Sound.{IsSoundRun};
     ghost use Rattle.sj_machine.specs.Standing.{state};
 
     /// The program. Constant time.
@@ -62,19 +60,11 @@ impl<D: Disk> RunState<D> {
         self.workers[w.0 as usize].transfer()
     }
 
-    /// No code: its contract is what is true of every run.
-    pub fn is_sound(&self)
-        ensures { IsSoundRun D.size D.faults D.mismatches D.held self.now }
+    /// The events, and the disks. Constant time, and no memory.
+    pub fn close(self) -> (Trace, DiskSet<D>)
+        ensures trace { result.0.events ≡ self.trace }
+        ensures disks { result.1 ≡ self.disks }
     {
-        let _ = &self.trace;
-    }
-
-    /// What was handed over, the events, and the disks. Constant time, and no memory.
-    pub fn close(self) -> (Delivered, Trace, DiskSet<D>)
-        ensures delivered { result.0.pairs ≡ self.delivered }
-        ensures trace { result.1.events ≡ self.trace }
-        ensures disks { result.2 ≡ self.disks }
-    {
-        (self.delivered, self.trace, self.disks)
+        (self.trace, self.disks)
     }
 }
