@@ -6,6 +6,9 @@ pub mod ClaimMarks
 pub mod ClaimStores
 pub mod ClaimLoops
 pub mod ClaimRows
+pub mod ClaimPlanning
+pub mod ClaimFinding
+pub mod ClaimChoice
 pub mod Dropping
 pub mod Entries
 pub mod Finishing

@@ -1,15 +1,16 @@
 -- What a claim does to the rows, and when it can't be made.
-use Rattle.std.specs.Prelude.{◌≡◌, ◌≤◌, ◌<◌, ◌+◌, ℕ, Some, false, IsTrue, All, List, [], ◌∷◌, map, fold, length, sum, slice_set, slice_index_or}
+use Rattle.std.specs.Prelude.{◌≡◌, ◌≤◌, ◌<◌, ◌+◌, ◌^◌, ℕ, Some, false, IsTrue, All, List, [], ◌∷◌, map, fold, length, sum, slice_set, slice_index_or}
 use Rattle.sj_base.specs.declared.ids.Cell.{Cell}
 use Rattle.sj_base.specs.declared.ids.Node.{Node}
 use Rattle.sj_base.specs.declared.ids.Task.{Task}
 use Rattle.sj_base.specs.declared.ids.Worker.{Worker}
 use Rattle.sj_base.specs.declared.program.Program.{Program}
 use Rattle.sj_base.specs.declared.program.Machine.{Machine}
+use Rattle.sj_base.specs.Array.{area}
 use Rattle.sj_core.specs.Machine.{State, WorkerState}
 use Rattle.sj_core.specs.Needs.{node_of, scratch_bytes, tile_bytes}
 use Rattle.sj_core.specs.Operands.{cells_of}
-use Rattle.sj_core.specs.Program.{task_of}
+use Rattle.sj_core.specs.Program.{dims_of, task_of}
 use Rattle.sj_core.specs.Step.{missing, victims_for}
 use Rattle.sj_node.specs.Entry.{AreDistinct, admitted, has_entry, pins_of, repinned, to_front, without_all}
 use Rattle.sj_node.specs.Store.{Store, empty, free, with_entries}
@@ -41,6 +42,13 @@ plan_with p m s t w evicted = record {
 pub record IsPlan (p : Program) (m : Machine) (s : State) (t : Task) (w : Worker) (plan : ClaimPlan) : Type 0 where
   pub chosen : victims_for p m s t w ≡ Some plan.victims
   pub rest : plan ≡ plan_with p m s t w plan.victims
+
+-- ---- what a task needs
+
+-- the cell is one of the program, within the limit of elements
+pub record IsSmallCell (p : Program) (c : Cell) : Type 0 where
+  pub cell : c.0 < length p.cells
+  pub small : area (dims_of p c) ≤ 2 ^ 24
 
 -- ---- one change each
 

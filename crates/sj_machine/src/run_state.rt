@@ -12,6 +12,7 @@ ghost use Rattle.sj_machine.specs.Copies.{CanShare, none_at, row_of, stored, til
 ghost use Rattle.sj_machine.specs.Plan.{IsPlan};
 ghost use Rattle.sj_machine.specs.Running.{AreResultsFor, AreSharesFor, read_among};
 ghost use Rattle.sj_machine.specs.Sound.{CanStart, FetchesMoved, IsSoundRun, IsWrittenOut, OnlyDisksChange, StoresMoved};
+ghost use Rattle.sj_machine.specs.Planning.{IsWhy, MayClaim};
 ghost use Rattle.sj_machine.specs.Standing.{CanHappen, HasDimsMoved, HasMoved, IsFetching, IsMovingIn, IsMovingOut, IsShareOf, IsTileMoved, is_node, starting, state, with_event};
 ghost use Rattle.sj_machine.specs.Tiles.{array_in};
 
@@ -19,8 +20,9 @@ use crate::claiming::{hold_all, mark_all, node_of, take_plan};
 use crate::copies::Copies;
 use crate::ending::{let_go, put_back, release_at};
 use crate::hold::Hold;
+use crate::leaving::leaving_at;
 use crate::mark::Mark;
-use crate::plan::Plan;
+use crate::plan::{Plan, Why};
 use crate::running::{evict_elsewhere, lend_each, share_into, task_at, written_among};
 use sj_base::ids::{Cell, DiskNo, Node, Place, Task, Worker};
 use sj_base::memory::OutOfMemory;
@@ -263,6 +265,27 @@ impl<D: Disk> RunState<D> {
             trace: Trace::empty(alloc),
             owed: 0,
         })
+    }
+
+    /// The plan of a claim of a ready task by an idle worker, or why the claim can't be made now. Linear in the operands,
+    /// the victims, the entries that are passed and the victims of each worker's last claim.
+    pub fn claim_plan(
+        &self,
+        alloc: Global,
+        t: Task,
+        w: Worker,
+    ) -> Result<Result<Plan, Why>, OutOfMemory>
+        requires { MayClaim self.now.program self.now.machine (state self.now) t w }
+        ensures can { IfOk result (λ found. OnOk found (CanHappen self.now (Event.Claim t w))) }
+        ensures plan { IfOk result (λ found. IfOk found (IsPlan self.now.program self.now.machine (state self.now) t w)) }
+        ensures why { IfOk result (λ found. IfErr found (IsWhy self.now.program self.now.machine (state self.now) t w)) }
+    {
+        let n = node_of(&self.machine, w);
+        if let Some(cell) = leaving_at(&self.cells, n, &self.workers) {
+            return Ok(Err(Why::Leaving(cell)));
+        }
+        let found = Plan::on(alloc, &self.program, &self.nodes[n.0 as usize], t)?;
+        Ok(found.ok_or(Why::NoRoom))
     }
 
     /// A worker takes a ready task by its plan: it pins the task's cells on its node and brings them to the front, the
