@@ -10,9 +10,9 @@ ghost use Rattle.sj_node.specs.Store.{empty};
 ghost use Rattle.sj_machine.specs.Agrees.{idle, transfer_in, with_transfer_of};
 ghost use Rattle.sj_machine.specs.Copies.{CanShare, none_at, row_of, stored, tile_kept, with_copy, with_row};
 ghost use Rattle.sj_machine.specs.Plan.{IsPlan};
-ghost use Rattle.sj_machine.specs.Planning.{IsWhy, MayClaim};
 ghost use Rattle.sj_machine.specs.Running.{AreResultsFor, AreSharesFor, read_among};
 ghost use Rattle.sj_machine.specs.Sound.{CanStart, FetchesMoved, IsSoundRun, IsWrittenOut, OnlyDisksChange, StoresMoved};
+ghost use Rattle.sj_machine.specs.Planning.{IsWhy, MayClaim};
 ghost use Rattle.sj_machine.specs.Standing.{CanHappen, HasDimsMoved, HasMoved, IsFetching, IsMovingIn, IsMovingOut, IsShareOf, IsTileMoved, is_node, starting, state, with_event};
 ghost use Rattle.sj_machine.specs.Tiles.{array_in};
 
