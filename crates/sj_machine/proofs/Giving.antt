@@ -8,7 +8,8 @@ use Rattle.sj_pool.proofs.Serving.{serving-fits}
 use Rattle.sj_pool.specs.Entry.{entry}
 use Rattle.sj_pool.specs.Pool.{Pooled, contains, home, queue_count, serves, task_for, turns, with_entry, without_entry_for}
 use Rattle.sj_pool.specs.declared.entry.Entry.{Entry}
-use Rattle.sj_machine.specs.Board.{BoardState, board_state, empty_hand, entry_of, given_back, given_next, hand_in, hand_of, room_of}
+use Rattle.sj_machine.specs.Board.{BoardState, board_state, empty_hand, given_back, given_next, hand_in, hand_of, room_of}
+use Rattle.sj_machine.specs.Filling.{entry_of}
 use Rattle.sj_machine.specs.BoardSound.{IsEntry, IsPoolFor, IsSoundIn, IsToBeTaken, KeepsBoard, is_given, times_given, times_pooled}
 use Rattle.sj_machine.specs.Standing.{Standing, state}
 use Rattle.sj_machine.specs.declared.fault.RunFault.{RunFault}
@@ -17,7 +18,7 @@ use Rattle.std.proofs.lemmas.Option.{none-some}
 use Rattle.sj_machine.proofs.Hands.{given-set, hand-set, stands-same}
 use Rattle.sj_machine.proofs.Pooling.{IsTakenFrom, Serves, queues-length, all-pooled, all-taken, home-inside, none-contains, once, taken-entry, times-put, times-taken}
 
-once-given : (t : Task) (hand : Hand) → cond {A = ℕ} (is_given t hand) 1 0 ≡ once t hand.given
+pub once-given : (t : Task) (hand : Hand) → cond {A = ℕ} (is_given t hand) 1 0 ≡ once t hand.given
 once-given t hand = by_given hand.given
   where
     by_given : (g : Option Task) → cond {A = ℕ} (is_given t (record { given = g; task = None; has_stopped = false })) 1 0 ≡ once t g

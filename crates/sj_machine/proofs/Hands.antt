@@ -11,13 +11,17 @@ use Rattle.sj_machine.specs.BoardSound.{HandsAgree, IsPoolFor, StandsOnce, Stops
 use Rattle.sj_machine.specs.declared.fault.RunFault.{RunFault}
 use Rattle.sj_machine.specs.declared.hand.Hand.{Hand}
 
--- what is so of a new hand of one worker, and of the old ones of all others, is so of each worker's
-pub hand-set : (P : Worker → Hand → Type 0) (hands : List Hand) (w : Worker) (h : Hand) → w.0 < length hands → P w h → ((v : Worker) → P v (hand_in hands v)) → (v : Worker) → P v (hand_in (slice_set hands w.0 h) v)
-hand-set P hands w h inside here there v =
+-- what is so of a new hand of one worker, and of the old ones of the others, is so of each worker's
+pub hand-set_apart : (P : Worker → Hand → Type 0) (hands : List Hand) (w : Worker) (h : Hand) → w.0 < length hands → P w h → ((v : Worker) → v ≢ w → P v (hand_in hands v)) → (v : Worker) → P v (hand_in (slice_set hands w.0 h) v)
+hand-set_apart P hands w h inside here there v =
     elim (cases_eq v.0 w.0) as (λ _. P v (hand_in (slice_set hands w.0 h) v)) [
       | inl e ↦ subst (λ (n : ℕ). P (record { 0 = n }) (slice_index_or (slice_set hands w.0 h) n empty_hand)) (sym e) (subst (P w) (sym (get_or-set_same hands w.0 h empty_hand inside)) here)
-      | inr ne ↦ subst (P v) (sym (get_or-set_other hands w.0 v.0 h empty_hand ne)) (there v)
+      | inr ne ↦ subst (P v) (sym (get_or-set_other hands w.0 v.0 h empty_hand ne)) (there v (λ e. ne (ap (λ (x : Worker). x.0) e)))
     ]
+
+-- and where it is so of all old ones
+pub hand-set : (P : Worker → Hand → Type 0) (hands : List Hand) (w : Worker) (h : Hand) → w.0 < length hands → P w h → ((v : Worker) → P v (hand_in hands v)) → (v : Worker) → P v (hand_in (slice_set hands w.0 h) v)
+hand-set P hands w h inside here there v = hand-set_apart P hands w h inside here (λ u apart. there u) v
 
 -- how often a task is given, where one hand changes
 pub given-set : (hands : List Hand) (w : Worker) (h : Hand) (t : Task) → w.0 < length hands → times_given (slice_set hands w.0 h) t + cond {A = ℕ} (is_given t (hand_in hands w)) 1 0 ≡ times_given hands t + cond {A = ℕ} (is_given t h) 1 0

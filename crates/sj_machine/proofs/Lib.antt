@@ -15,6 +15,7 @@ pub mod Entries
 pub mod Failing
 pub mod Giving
 pub mod Hands
+pub mod FillLoop
 pub mod Finishing
 pub mod Keeping
 pub mod Lending
@@ -22,12 +23,17 @@ pub mod Lists
 pub mod Making
 pub mod Marking
 pub mod Operands
+pub mod PoolFilling
 pub mod Pooling
 pub mod Owning
 pub mod Putting
 pub mod Reading
 pub mod Resting
+pub mod Starting
+pub mod Stepping
 pub mod Storing
+pub mod Taking
+pub mod TaskEnding
 pub mod Tiles
 pub mod Transferring
 pub mod Unpinning

@@ -6,7 +6,7 @@ use Rattle.sj_base.specs.declared.ids.Worker.{Worker}
 use Rattle.sj_base.specs.declared.program.Program.{Program}
 use Rattle.sj_base.specs.declared.program.Machine.{Machine}
 use Rattle.sj_base.specs.declared.trace.Event.{Event}
-use Rattle.sj_base.specs.declared.trace.Event.TheVariants.{Moved}
+use Rattle.sj_base.specs.declared.trace.Event.TheVariants.{Claim, End, Moved}
 use Rattle.sj_core.specs.Legal.{IsComplete}
 use Rattle.sj_core.specs.Machine.{State, is_claimed_by, is_running_on, is_task_of, progress, transfer}
 use Rattle.sj_core.specs.Needs.{footprint, node_of, node_size}
@@ -16,9 +16,8 @@ use Rattle.sj_core.specs.declared.progress.Progress.{Progress}
 use Rattle.sj_core.specs.declared.progress.Progress.TheVariants.{Waiting}
 use Rattle.sj_core.specs.declared.progress.Transfer.{Transfer}
 use Rattle.sj_deps.specs.Conflict.{Ready}
-use Rattle.sj_pool.specs.Entry.{entry}
 use Rattle.sj_pool.specs.Pool.{Pooled, task_for, with_entry, without_entry_for}
-use Rattle.sj_pool.specs.declared.entry.Entry.{Entry}
+use Rattle.sj_machine.specs.Filling.{entry_of, with_each}
 use Rattle.sj_machine.specs.Standing.{AllTell, Standing, state, with_event}
 use Rattle.sj_machine.specs.declared.fault.RunFault.{RunFault}
 use Rattle.sj_machine.specs.declared.fault.RunFault.TheVariants.{Damaged, DiskFault, OutOfMemory}
@@ -93,10 +92,6 @@ transfer_of b w = if is_some (hand_of b w).task then transfer (state b.run) w el
 abbrev pub has_event : {D : Type 0} → BoardState D → Event → BoardState D
 has_event b e = record b { run = with_event b.run e }
 
--- the task, its priority and the bytes that it needs on a node
-abbrev pub entry_of : Program → Task → Entry
-entry_of p t = entry t (task_of p t).priority (footprint p t)
-
 -- the worker's transfer has ended, and nothing else has happened
 abbrev pub EndsMoveOf : {D : Type 0} → Worker → BoardState D → BoardState D → Type 0
 EndsMoveOf w old new = IfSome (transfer (state old.run) w) (λ x. new ≡ has_event old (Moved x.cell x.from x.to))
@@ -112,6 +107,14 @@ given_next b w = record (with_hand b w (record (hand_of b w) { given = task_for 
 -- the worker has put the task that it was given back into the pool
 abbrev pub given_back : {D : Type 0} → BoardState D → Task → Worker → BoardState D
 given_back b t w = record (with_hand b w (record (hand_of b w) { given = None })) { pool = with_entry b.pool (entry_of b.run.program t) w.0 }
+
+-- the worker has claimed the task that it was given
+abbrev pub has_claimed : {D : Type 0} → BoardState D → Task → Worker → BoardState D
+has_claimed b t w = with_hand (has_event b (Claim t w)) w (record (hand_of b w) { given = None; task = Some t })
+
+-- the worker's task has ended, and these are in the pool
+abbrev pub has_ended : {D : Type 0} → BoardState D → Task → Worker → List Task → BoardState D
+has_ended b t w ready = record (with_hand (has_event b (End t w)) w (record (hand_of b w) { task = None })) { pool = with_each b.run.program (Some w) b.pool ready }
 
 -- ---- faults
 

@@ -14,7 +14,8 @@ use Rattle.sj_deps.specs.Conflict.{Ready}
 use Rattle.sj_deps.specs.Progress.{Progress as Dependencies}
 use Rattle.sj_pool.specs.Pool.{Pooled, queue_count}
 use Rattle.sj_pool.specs.declared.entry.Entry.{Entry}
-use Rattle.sj_machine.specs.Board.{BoardState, HasCause, entry_of, hand_in}
+use Rattle.sj_machine.specs.Board.{BoardState, HasCause, hand_in}
+use Rattle.sj_machine.specs.Filling.{entry_of}
 use Rattle.sj_machine.specs.Sound.{IsSoundRun}
 use Rattle.sj_machine.specs.Standing.{Standing, state}
 use Rattle.sj_machine.specs.declared.fault.RunFault.{RunFault}

@@ -1,29 +1,37 @@
 //! The board: the state of a run, what each worker has in hand, and the pool of ready tasks.
 
-ghost use Rattle.std.specs.Prelude.{◌≡◌, ◌↔◌, ◌<◌, All, IfOk, IsNone, None, false, OnErr, OnOk, is_some, length, slice_set, true};
-ghost use Rattle.sj_base.specs.declared.trace.Event.TheVariants.{Drop, Move};
+ghost use Rattle.std.specs.Prelude.{◌≡◌, ◌↔◌, ◌<◌, ◌≤◌, [], All, IfErr, IfOk, IsNone, None, Some, OnErr, OnOk, is_some, length, slice_set, true};
+ghost use Rattle.sj_base.specs.declared.trace.Event.TheVariants.{Claim, Drop, End, Move, Run};
 ghost use Rattle.sj_core.specs.Needs.{node_of};
 ghost use Rattle.sj_core.specs.Step.{mover_of};
-ghost use Rattle.sj_machine.specs.Board.{EndsMoveOf, HasCause, IsBusy, IsFree, IsOver, IsWorking, RunsNone, WasGiven, entry_of, failed, first_fault, given_back, given_next, hand_in, has_event, room_of, stopped, transfer_of};
-ghost use Rattle.sj_machine.specs.BoardSound.{AreFootprints};
-ghost use Rattle.sj_pool.specs.Pool.{contains, task_for, with_entry};
+ghost use Rattle.sj_machine.specs.Board.{EndsMoveOf, HasCause, HasTask, IsBusy, IsFree, IsIdle, IsOver, IsWorking, RunsNone, WasGiven, failed, first_fault, given_back, given_next, hand_in, has_claimed, has_event, room_of, stopped, transfer_of};
+ghost use Rattle.sj_pool.specs.Pool.{task_for};
 ghost use Rattle.sj_pool.specs.Queue.{has_fitting};
+ghost use Rattle.sj_core.specs.Program.{task_of};
+ghost use Rattle.sj_machine.specs.Planning.{IsRefusal};
+ghost use Rattle.sj_machine.specs.Releasing.{EndsTask};
+ghost use Rattle.sj_machine.specs.Running.{AreResultsFor, AreSharesFor, read_among};
 ghost use Rattle.sj_machine.specs.Sound.{IsWrittenOut};
 ghost use Rattle.sj_machine.specs.Standing.{CanHappen, IsMovingIn, IsMovingOut, IsShareOf, IsTileMoved, state};
 ghost use Rattle.sj_machine.specs.Tiles.{array_in};
 
 use crate::fault::RunFault;
+use crate::filling::put_ready;
 use crate::hand::Hand;
+use crate::refusal::ClaimRefusal;
+use crate::releasing::release;
 use crate::run_state::RunState;
 use sj_base::ids::{Cell, Place, Task, Worker};
 use sj_base::memory::OutOfMemory;
 use sj_base::program::Program;
 use sj_base::tile::Tile;
 use sj_base::trace::Trace;
+use sj_codelet::frame::Frame;
 use sj_deps::deps::Deps;
 use sj_disk::disk_set::DiskSet;
 use sj_edge::disk::Disk;
 use sj_pool::pool::Pool;
+use std::alloc::Global;
 use std::marker::Model;
 use std::sync::Arc;
 
@@ -79,6 +87,16 @@ fn give(hands: &mut Vec<Hand>, w: Worker, given: Option<Task>)
     hand.given = given;
 }
 
+/// A worker takes the task that it was given. Constant time.
+fn take(hands: &mut Vec<Hand>, w: Worker, t: Task)
+    requires { w.0 < length hands.old.items }
+    ensures { hands.new.items ≡ slice_set hands.old.items w.0 (record (hand_in hands.old.items w) { given = None; task = Some t }) }
+{
+    let hand = &mut hands[w.0 as usize];
+    hand.given = None;
+    hand.task = Some(t);
+}
+
 /// The first of two faults, where there is one already. Constant time.
 fn first_of(kept: Option<RunFault>, fault: RunFault) -> Option<RunFault>
     ensures { result ≡ first_fault kept fault }
@@ -87,20 +105,6 @@ fn first_of(kept: Option<RunFault>, fault: RunFault) -> Option<RunFault>
         Some(first) => Some(first),
         None => Some(fault),
     }
-}
-
-/// Puts a task into the pool. Logarithmic in the tasks; no memory.
-fn put_ready(pool: &mut Pool, program: &Program, footprints: &[u64], t: Task, by: Worker)
-    requires task { t.0 < length program.now.tasks }
-    requires bytes { AreFootprints program.now footprints.now }
-    requires absent { contains pool.old.queues t.0 ≡ false }
-    requires known_task { t.0 < pool.old.limit }
-    requires known_worker { by.0 < pool.old.workers }
-    ensures { pool.new ≡ with_entry pool.old (entry_of program.now t) by.0 }
-{
-    let i = t.0 as usize;
-    let priority = program.tasks.items()[i].priority;
-    pool.put(t, priority, footprints[i], by);
 }
 
 impl<D: Disk> Board<D> {
@@ -139,6 +143,76 @@ impl<D: Disk> Board<D> {
     {
         put_ready(&mut self.pool, self.run.program(), &self.footprints, t, w);
         give(&mut self.hands, w, None);
+    }
+
+    /// A worker claims the task that it was given, where no fault is kept. After an `Err` the board is as before, so that the
+    /// task is still in the worker's hand. Linear in the operands, the victims and the pinned entries that are passed, but for
+    /// moving the trace as it grows.
+    pub fn claim(&mut self, alloc: Global, t: Task, w: Worker) -> Result<(), ClaimRefusal>
+        requires given { WasGiven self.old w t }
+        requires idle { IsIdle self.old w }
+        requires no_fault { self.old.fault ≡ None }
+        ensures can { OnOk result (CanHappen self.old.run (Claim t w)) }
+        ensures ok { OnOk result (self.new ≡ has_claimed self.old t w) }
+        ensures err { OnErr result (self.new ≡ self.old) }
+        ensures why { IfErr result (IsRefusal self.old.run.program self.old.run.machine (state self.old.run) t w) }
+    {
+        self.run.is_sound();
+        let Ok(found) = self.run.claim_plan(alloc, t, w) else {
+            return Err(ClaimRefusal::OutOfMemory);
+        };
+        let plan = match found {
+            Ok(plan) => plan,
+            Err(why) => return Err(ClaimRefusal::NotNow(why)),
+        };
+        let Ok(()) = self.run.claim(t, w, plan) else {
+            return Err(ClaimRefusal::OutOfMemory);
+        };
+        take(&mut self.hands, w, t);
+        Ok(())
+    }
+
+    /// The kernel of the task begins that a worker has claimed. Appends to the frame shares of the operands whose old value
+    /// is read, in order; of the cells that it writes, the board keeps no tile. After an `Err` the board is as before. Linear
+    /// in the operands, and in the nodes for each written one.
+    pub fn run(
+        &mut self,
+        alloc: Global,
+        t: Task,
+        w: Worker,
+        frame: Frame,
+    ) -> Result<Frame, OutOfMemory>
+        requires task { HasTask self.old w t }
+        requires can { CanHappen self.old.run (Run t w) }
+        requires empty { frame.slots ≡ [] }
+        requires room { length (read_among (task_of self.old.run.program t).accesses) ≤ frame.spare }
+        ensures ok { OnOk result (self.new ≡ has_event self.old (Run t w)) }
+        ensures shares { IfOk result (λ f. AreSharesFor D.held self.old.run t w f.slots) }
+        ensures err { OnErr result (self.new ≡ self.old) }
+    {
+        self.run.run(alloc, t, w, frame)
+    }
+
+    /// The kernel of a worker's task has ended. The frame has shares of its results, in the order of its written operands. The
+    /// tasks that become ready go to the pool, by number. Linear in the operands and in the accesses that are released, and
+    /// for each of these tasks logarithmic in all; no memory.
+    pub fn end(&mut self, t: Task, w: Worker, written: Frame)
+        requires task { HasTask self.old w t }
+        requires can { CanHappen self.old.run (End t w) }
+        requires written { AreResultsFor D.held self.old.run t w written.slots }
+        ensures { EndsTask self.old t w self.new }
+    {
+        self.run.is_sound();
+        self.run.end(t, w, written);
+        release(
+            &mut self.deps,
+            &mut self.pool,
+            self.run.program(),
+            &self.footprints,
+            t,
+            w,
+        );
+        let_go(&mut self.hands, w);
     }
 
     /// A leaving copy goes from the worker's node, since another is valid and no transfer reads it. Constant time, and no
