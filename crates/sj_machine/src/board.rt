@@ -1,6 +1,6 @@
 //! The board: the state of a run, what each worker has in hand, and the pool of ready tasks.
 
-ghost use Rattle.std.specs.Prelude.{◌≡◌, ◌↔◌, ◌<◌, ◌≤◌, [], All, IfErr, IfOk, IsNone, None, Some, OnErr, OnOk, is_some, length, slice_set, true};
+ghost use Rattle.std.specs.Prelude.{◌≡◌, ◌↔◌, ◌<◌, ◌≤◌, [], All, IfErr, IfOk, IsNone, None, Some, false, OnErr, OnOk, is_some, length, slice_set, true};
 ghost use Rattle.sj_base.specs.declared.trace.Event.TheVariants.{Claim, Drop, End, Move, Run};
 ghost use Rattle.sj_core.specs.Needs.{node_of};
 ghost use Rattle.sj_core.specs.Step.{mover_of};
