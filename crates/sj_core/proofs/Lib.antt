@@ -35,11 +35,13 @@ pub mod Running
 pub mod Separation
 pub mod Sharing
 pub mod Shifting
+pub mod Sized
 pub mod States
 pub mod Sums
 pub mod Tables
 pub mod TaskCells
 pub mod Testing
+pub mod Tiles
 pub mod Values
 pub mod Words
 pub mod Worked
