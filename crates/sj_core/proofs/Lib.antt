@@ -39,6 +39,7 @@ pub mod Sized
 pub mod States
 pub mod Sums
 pub mod Tables
+pub mod Swapping
 pub mod TaskCells
 pub mod Testing
 pub mod Tiles
