@@ -16,6 +16,7 @@ pub mod Dependencies
 pub mod Dropping
 pub mod Ending
 pub mod Eviction
+pub mod Exchanging
 pub mod Finding
 pub mod Folding
 pub mod Jobs
@@ -43,6 +44,7 @@ pub mod Swapping
 pub mod TaskCells
 pub mod Testing
 pub mod Tiles
+pub mod Updating
 pub mod Values
 pub mod Words
 pub mod Worked

@@ -1,6 +1,11 @@
 -- What the steps of a task keep: laws of all proper programs, machines and coherent states.
 use Rattle.sj_base.specs.declared.ids.Cell.{Cell}
-use Rattle.std.specs.Prelude.{◌≡◌, ◌<◌, Some, IsTrue, List, [], ◌∷◌, length, All, Contains, IfSome}
+use Rattle.std.specs.Prelude.{◌≡◌, ◌<◌, Bool, false, FitsSigned, None, Some, IsTrue, List, [], ◌∷◌, length, All, Contains, IfSome}
+use Rattle.std.specs.Int.{w64}
+use Rattle.sj_base.specs.declared.program.Codelet.{Codelet}
+use Rattle.sj_codelet.specs.declared.kernel.Kernel.{Kernel}
+use Rattle.sj_codelet.specs.Kernel.{kernel_of}
+use Rattle.sj_codelet.specs.Laws.{CommutingCommute, ContributingContribute, ReductionsReduce}
 use Rattle.sj_base.specs.declared.ids.Task.{Task}
 use Rattle.sj_base.specs.declared.ids.Node.{Node}
 use Rattle.sj_base.specs.declared.ids.Worker.{Worker}
@@ -57,6 +62,20 @@ IsKeptByEndedMoves Fact = (p : Program) (m : Machine) (s s' : State) (c : Cell) 
 -- the fact holds after each drop in a coherent state
 abbrev pub IsKeptByDrops : (Program → Machine → State → Type 0) → Type 0
 IsKeptByDrops Fact = (p : Program) (m : Machine) (s s' : State) (c : Cell) (n : Node) → IsSound p m s → Drops m s c n s' → Fact p m s'
+
+-- ---- the set of a program's codelets
+
+-- a set that has these codelets has the one of this id
+abbrev pub is_known : (Kernel → Bool) → Codelet → Bool
+is_known has id = elim (kernel_of id) [ None ↦ false | Some kernel ↦ has kernel ]
+
+-- the set has each codelet of the program and obeys the laws of a set; and each argument of a task is an i64
+pub record IsLawful (has : Kernel → Bool) (p : Program) : Type 0 where
+  pub known : All (λ l. IsTrue (is_known has l.codelet)) p.tasks
+  pub arguments : All (λ l. All (FitsSigned w64) l.args) p.tasks
+  pub commuting : CommutingCommute has
+  pub contributing : ContributingContribute has
+  pub reducing : ReductionsReduce has
 
 -- ---- programs whose accesses are all in order
 
