@@ -121,7 +121,7 @@ module _ (p : Program) (proper : Proper p) where
       by_kind (AsCopy redux w copy manner) = (proper.cells.copies c o.operand.cell w copy).0
 
   -- the inits and combines of a phase contribute to nothing
-  own-of_phase : (f : Phase) → IsPhase p f → (t : ℕ) → Contains f.inits t ⊎ Contains f.combines t → (a : Access) → Contains (task_number p t).accesses a → a.mode ≡ Redux → ⊥
+  pub own-of_phase : (f : Phase) → IsPhase p f → (t : ℕ) → Contains f.inits t ⊎ Contains f.combines t → (a : Access) → Contains (task_number p t).accesses a → a.mode ≡ Redux → ⊥
   own-of_phase f phase t (inl (k, l, e)) a has redux =
       let at_k : get_or f.inits k 0 ≡ t = get_or_default f.inits k 0 t l ∙ e in
       let init : IsInit f.by (copy_of p f.cell (record { 0 = k })) (task_number p t) = subst (λ n. IsInit f.by (copy_of p f.cell (record { 0 = k })) (task_number p n)) at_k (phase.inits (record { 0 = k }) (omega (arith, l, phase.inits_by_worker))) in

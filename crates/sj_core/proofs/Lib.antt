@@ -8,6 +8,7 @@ pub mod ClaimKeeps
 pub mod Claimed
 pub mod Claiming
 pub mod Coherence
+pub mod Combining
 pub mod Completeness
 pub mod Contents
 pub mod Counting
@@ -25,6 +26,7 @@ pub mod MovingIn
 pub mod MovingOut
 pub mod Once
 pub mod Opening
+pub mod Phases
 pub mod Placing
 pub mod PlainModes
 pub mod Readiness

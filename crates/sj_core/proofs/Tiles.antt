@@ -20,7 +20,7 @@ use Rattle.sj_codelet.specs.Laws.{IsTile}
 use Rattle.sj_codelet.specs.MinPlus.{greatest, inf, is_inf, least, least_below, plus}
 use Rattle.sj_codelet.specs.Ring.{wrap}
 
-abbrev IsLong : ℤ → Type 0
+abbrev pub IsLong : ℤ → Type 0
 IsLong z = FitsSigned w64 z
 
 -- ---- numbers
@@ -28,7 +28,7 @@ IsLong z = FitsSigned w64 z
 zero-long : IsLong (pos 0)
 zero-long = record { sfits = lit< tt }
 
-inf-long : IsLong inf
+pub inf-long : IsLong inf
 inf-long = record { sfits = lit< tt }
 
 wrap-long : (z : ℤ) → IsLong (wrap z)
@@ -59,7 +59,7 @@ least_below-long (suc n) z f hz hf = min-long (least_below n z f) (f n) (least_b
 -- ---- arrays
 
 -- an array of this many elements, each of them an i64
-tile : (d : Dims) (f : ℕ → ℤ) → ((p : ℕ) → IsLong (f p)) → IsTile (each d f)
+pub tile : (d : Dims) (f : ℕ → ℤ) → ((p : ℕ) → IsLong (f p)) → IsTile (each d f)
 tile d f h = record { whole = length-map-range_with_len f 0 (area d); in_range = All-map IsLong f (range_with_len 0 (area d)) (λ i e l. h (get_or (range_with_len 0 (area d)) i e)) }
 
 abbrev none : Array
@@ -76,7 +76,7 @@ at-long a h p = elim (cases_lt p (length a.elements)) [
 ]
 
 -- an operand, and what stands for one that isn't there
-operand-tile : (ins : List Array) → All IsTile ins → (n : ℕ) → IsTile (operand ins n)
+pub operand-tile : (ins : List Array) → All IsTile ins → (n : ℕ) → IsTile (operand ins n)
 operand-tile ins h n = elim (cases_lt n (length ins)) [
   | inl inside ↦ All-get_or IsTile ins n none inside h
   | inr past ↦ subst IsTile (sym (get_or_past ins n none past)) (record { whole = refl; in_range = All-nil IsLong })

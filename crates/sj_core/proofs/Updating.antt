@@ -33,12 +33,12 @@ use Rattle.sj_core.proofs.Swapping.{Updates}
 -- ---- codelets
 
 -- a commuting codelet updates its last operand, and only reads those before, scratch aside
-record UpdatesLast (k : Kernel) : Type 0 where
-  first : List Formal
-  formals : formals_of k ≡ first ++ UpdateFormal ∷ []
-  read_only : list_all (λ f. not (is_output f)) first ≡ true
+pub record UpdatesLast (k : Kernel) : Type 0 where
+  pub first : List Formal
+  pub formals : formals_of k ≡ first ++ UpdateFormal ∷ []
+  pub read_only : list_all (λ f. not (is_output f)) first ≡ true
 
-updates-last : (k : Kernel) → commutes_of k ≡ true → UpdatesLast k
+pub updates-last : (k : Kernel) → commutes_of k ≡ true → UpdatesLast k
 updates-last Scale h = record { first = []; formals = refl; read_only = refl }
 updates-last Add h = record { first = ReadFormal ∷ []; formals = refl; read_only = refl }
 updates-last Axpy h = record { first = ReadFormal ∷ []; formals = refl; read_only = refl }
@@ -51,7 +51,7 @@ updates-last MinGemm h = record { first = ReadFormal ∷ ReadFormal ∷ []; form
 updates-last k h = absurd (false≢true h)
 
 -- a contributing codelet commutes
-contributing-commutes : (k : Kernel) (by : Reduction) → contributes_of k by ≡ true → commutes_of k ≡ true
+pub contributing-commutes : (k : Kernel) (by : Reduction) → contributes_of k by ≡ true → commutes_of k ≡ true
 contributing-commutes k Plus h = then (contributes_of k Plus) (commutes_of k) (by_table (λ j. not (contributes_of j Plus) || commutes_of j) refl k) h
 contributing-commutes k Least h = then (contributes_of k Least) (commutes_of k) (by_table (λ j. not (contributes_of j Least) || commutes_of j) refl k) h
 
