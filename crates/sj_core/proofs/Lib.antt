@@ -20,6 +20,7 @@ pub mod Eviction
 pub mod Exchanging
 pub mod Finding
 pub mod Folding
+pub mod Found
 pub mod Jobs
 pub mod Modes
 pub mod MovingIn
