@@ -77,15 +77,15 @@ pub record IsLawful (has : Kernel → Bool) (p : Program) : Type 0 where
   pub contributing : ContributingContribute has
   pub reducing : ReductionsReduce has
 
+-- the fact holds after each end in a coherent state, by the laws of the program's set
+abbrev pub IsKeptByLawfulEnds : (Program → Machine → State → Type 0) → Type 0
+IsKeptByLawfulEnds Fact = (has : Kernel → Bool) (p : Program) (m : Machine) (s s' : State) (t : Task) (w : Worker) → IsSound p m s → IsLawful has p → Ends p m s t w s' → Fact p m s'
+
 -- ---- programs whose accesses are all in order
 
 -- no task has a REDUX or a COMMUTE access
 pub record HasPlainModes (p : Program) : Type 0 where
   pub modes : (t : Task) → All (λ a. IsTrue (is_in_order a.mode)) (task_of p t).accesses
-
--- the fact holds after each end in a coherent state of a program with such accesses alone
-abbrev pub IsKeptByPlainEnds : (Program → Machine → State → Type 0) → Type 0
-IsKeptByPlainEnds Fact = (p : Program) (m : Machine) (s s' : State) (t : Task) (w : Worker) → IsSound p m s → HasPlainModes p → Ends p m s t w s' → Fact p m s'
 
 -- ---- what a task finds
 
