@@ -14,6 +14,7 @@ pub mod Contents
 pub mod Counting
 pub mod Delivering
 pub mod Dependencies
+pub mod Depending
 pub mod Dropping
 pub mod Ending
 pub mod Eviction
