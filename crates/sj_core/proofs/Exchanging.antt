@@ -88,8 +88,8 @@ module _ (has : Kernel → Bool) (p : Program) (proper : Proper p) (lawful : IsL
       where
         both : (oa : is_in_order a.mode ≡ false) (ob : is_in_order b.mode ≡ false) → ((j k : Kernel) → kernel_of (task_of p t).codelet ≡ Some j → kernel_of (task_of p u).codelet ≡ Some k → Exchange j k) → MaySwap p proper lawful.arguments t u w v
         both oa ob exchange =
-            let x : Updates p t w d = subst (Updates p t w) ea (updates p proper t t_in w w_in a ta oa) in
-            let y : Updates p u v d = subst (Updates p u v) eb (updates p proper u u_in v v_in b ub ob) in
+            let x : Updates p t w d = subst (Updates p t w) ea (updates p proper t t_in a ta oa w w_in) in
+            let y : Updates p u v d = subst (Updates p u v) eb (updates p proper u u_in b ub ob v v_in) in
             Together d x y (exchange x.kernel y.kernel x.codelet y.codelet)
 
         commuting : a.mode ≡ CommuteMode → (task_of p t).codelet ≡ (task_of p u).codelet → (j k : Kernel) → kernel_of (task_of p t).codelet ≡ Some j → kernel_of (task_of p u).codelet ≡ Some k → Exchange j k

@@ -11,6 +11,7 @@ pub mod Coherence
 pub mod Combining
 pub mod Completeness
 pub mod Contents
+pub mod Copies
 pub mod Counting
 pub mod Delivering
 pub mod Dependencies

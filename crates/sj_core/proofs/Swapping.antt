@@ -7,7 +7,7 @@ use Rattle.std.specs.List.{Contains, find, zip}
 use Rattle.std.proofs.lemmas.Bool.{cases_Bool, cases_eq, cases_lt, false_from_ne_true, false≢true}
 use Rattle.std.proofs.lemmas.List.{map-append}
 use Rattle.std.proofs.lemmas.List.Elements.{All-get_or}
-use Rattle.sj_base.specs.Mode.{starts_as_zeros}
+use Rattle.sj_base.specs.Mode.{is_redux, starts_as_zeros}
 use Rattle.sj_base.specs.declared.mode.Access.{Access}
 use Rattle.sj_codelet.proofs.Table.{each_dims}
 use Rattle.sj_codelet.specs.Kernel.{fits, kernel_of, new_arrays, operand}
@@ -25,7 +25,7 @@ use Rattle.sj_core.proofs.TaskCells.{written-among_cells}
 
 -- ---- one cell that a task updates
 
--- the task writes this cell alone, by its last operand, whose old value it reads, and it reads the cell by no other
+-- the task writes this cell alone, by its last operand, whose old value it reads; those before it have no contribution, and don't read the cell
 pub record Updates (p : Program) (t : Task) (w : Worker) (d : Cell) : Type 0 where
   pub kernel : Kernel
   pub codelet : kernel_of (task_of p t).codelet ≡ Some kernel
@@ -35,6 +35,7 @@ pub record Updates (p : Program) (t : Task) (w : Worker) (d : Cell) : Type 0 whe
   pub reads : starts_as_zeros last.mode ≡ false
   pub cell : worked_on p w last ≡ d
   pub written : written_cells p t w ≡ d ∷ []
+  pub direct : (a : Access) → Contains before a → is_redux a.mode ≡ false
   pub others : (a : Access) → Contains before a → starts_as_zeros a.mode ≡ false → worked_on p w a ≢ d
 
 -- the operands before the last one, as the task finds them

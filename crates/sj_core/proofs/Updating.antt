@@ -105,12 +105,12 @@ pub Contains-map : {X Y : Type 0} (f : X → Y) (xs : List X) (x : X) → Contai
 Contains-map f xs x (k, l, e) = (k, omega (arith, length-map xs f), get_or-map f xs k x (f x) l ∙ ap f e)
 
 -- where a map ends, its list does
-record EndsBy {X Y : Type 0} (g : X → Y) (xs : List X) (ys : List Y) (y : Y) : Type 0 where
-  first : List X
-  last : X
-  is : xs ≡ first ++ last ∷ []
-  before : map g first ≡ ys
-  end : g last ≡ y
+pub record EndsBy {X Y : Type 0} (g : X → Y) (xs : List X) (ys : List Y) (y : Y) : Type 0 where
+  pub first : List X
+  pub last : X
+  pub is : xs ≡ first ++ last ∷ []
+  pub before : map g first ≡ ys
+  pub end : g last ≡ y
 
 ends-by : {X Y : Type 0} (g : X → Y) (xs : List X) (ys : List Y) (y : Y) → map g xs ≡ ys ++ y ∷ [] → EndsBy g xs ys y
 ends-by g [] [] y e = absurd (let n : 0 ≡ 1 = ap length e in omega arith)
@@ -138,7 +138,7 @@ out-is_written Scratch h = absurd (true≢false h)
 out-is_written Redux h = refl
 out-is_written CommuteMode h = refl
 
-out-reads : (x : Mode) → is_in_order x ≡ false → starts_as_zeros x ≡ false
+pub out-reads : (x : Mode) → is_in_order x ≡ false → starts_as_zeros x ≡ false
 out-reads R h = absurd (true≢false h)
 out-reads W h = absurd (true≢false h)
 out-reads RW h = absurd (true≢false h)
@@ -166,21 +166,21 @@ module _ (p : Program) (proper : Proper p) (t : Task) (inside : t.0 < length p.t
   pub shared-codelet : (a : Access) → Contains (task_of p t).accesses a → is_in_order a.mode ≡ false → IsShared own-fit.kernel (map (λ b. b.mode) (task_of p t).accesses) a.mode
   shared-codelet a among out = shared-modes own-fit.kernel (map (λ b. b.mode) (task_of p t).accesses) a.mode own-fit.modes out (Contains-map (λ (b : Access). b.mode) (task_of p t).accesses a among)
 
-  module _ (w : Worker) (staffed : w.0 < p.workers) (a : Access) (among : Contains (task_of p t).accesses a) (out : is_in_order a.mode ≡ false) where
-    shared : IsShared own-fit.kernel (map (λ b. b.mode) (task_of p t).accesses) a.mode
+  module _ (a : Access) (among : Contains (task_of p t).accesses a) (out : is_in_order a.mode ≡ false) where
+    pub shared : IsShared own-fit.kernel (map (λ b. b.mode) (task_of p t).accesses) a.mode
     shared = shared-codelet a among out
 
-    abbrev in_place : Mode → Mode
+    abbrev pub in_place : Mode → Mode
     in_place mode = cond (is_written mode) a.mode mode
 
-    last_row : UpdatesLast own-fit.kernel
+    pub last_row : UpdatesLast own-fit.kernel
     last_row = updates-last own-fit.kernel shared.commutes
 
-    ends : EndsBy (λ (b : Access). b.mode) (task_of p t).accesses (map in_place (map mode_of last_row.first)) a.mode
+    pub ends : EndsBy (λ (b : Access). b.mode) (task_of p t).accesses (map in_place (map mode_of last_row.first)) a.mode
     ends = ends-by (λ (b : Access). b.mode) (task_of p t).accesses (map in_place (map mode_of last_row.first)) a.mode (shared.modes ∙ ap (λ (fs : List Formal). map in_place (map mode_of fs)) last_row.formals ∙ ap (map in_place) (map-append mode_of last_row.first (UpdateFormal ∷ [])) ∙ map-append in_place (map mode_of last_row.first) (RW ∷ []))
 
     -- an operand before the last one is only read, or scratch
-    first-is : (b : Access) → Contains ends.first b → (b.mode ≡ R) ⊎ (b.mode ≡ Scratch)
+    pub first-is : (b : Access) → Contains ends.first b → (b.mode ≡ R) ⊎ (b.mode ≡ Scratch)
     first-is b h =
         let placed = map-from in_place (map mode_of last_row.first) b.mode (subst (λ (ms : List Mode). Contains ms b.mode) ends.before (Contains-map (λ (z : Access). z.mode) ends.first b h)) in
         let formal = map-from mode_of last_row.first placed.0 placed.1 in
@@ -195,15 +195,34 @@ module _ (p : Program) (proper : Proper p) (t : Task) (inside : t.0 < length p.t
         by_formal WriteFormal read e = absurd (false≢true read)
         by_formal UpdateFormal read e = absurd (false≢true read)
 
-    last-is : ends.last ≡ a
+    pub last-is : ends.last ≡ a
     last-is = elim (Contains-append_cases ends.first (ends.last ∷ []) a (subst (λ (xs : List Access). Contains xs a) ends.is among)) [
       | inr here ↦ one_is ends.last a here
       | inl h ↦ elim (first-is a h) [ inl e ↦ absurd (false≢true (sym out ∙ ap is_in_order e)) | inr e ↦ absurd (false≢true (sym out ∙ ap is_in_order e)) ]
     ]
 
+    unwritten : (b : Access) → Contains ends.first b → is_written b.mode ≡ false
+    unwritten b h = elim (first-is b h) [ inl e ↦ ap is_written e | inr e ↦ ap is_written e ]
+
+    pub unaliased : (w : Worker) → w.0 < p.workers → (b : Access) → Contains ends.first b → starts_as_zeros b.mode ≡ false → worked_on p w b ≢ worked_on p w a
+    unaliased w staffed b h reads e = elim (first-is b h) [
+      | inr scratch ↦ true≢false (ap starts_as_zeros (sym scratch) ∙ reads)
+      | inl read ↦
+          let b_in = subst (λ (xs : List Access). Contains xs b) (sym ends.is) (Contains-append_left ends.first (ends.last ∷ []) b h) in
+          let first : Uses p t.0 (worked_on p w a).0 Read = subst (λ (q : Cell). Uses p t.0 q.0 Read) e (subst (λ (x : Mode). Uses p t.0 (worked_on p w b).0 (manner_of (task_of p t).codelet x)) read (operand-used w staffed b b_in (ap (λ (x : Mode). not (is_scratch x)) read))) in
+          let second = operand-used w staffed a among (written_isn't_scratch a.mode (out-is_written a.mode out)) in
+          out-isn't_read (task_of p t).codelet a.mode out ((Proper-dependencies p proper).manners t.0 (worked_on p w a).0 Read (manner_of (task_of p t).codelet a.mode) first second)
+    ]
+
+    pub written-one : (w : Worker) → written_cells p t w ≡ worked_on p w a ∷ []
+    written-one w =
+        ap (λ (xs : List Access). map (worked_on p w) (filter (λ b. is_written b.mode) xs)) ends.is
+        ∙ ap (map (worked_on p w)) (filter-last (λ b. is_written b.mode) ends.first ends.last unwritten (ap is_written ends.end ∙ out-is_written a.mode out))
+        ∙ ap (λ (b : Access). worked_on p w b ∷ []) last-is
+
     -- it updates the operand's cell
-    pub updates : Updates p t w (worked_on p w a)
-    updates = record {
+    abbrev pub updates : (w : Worker) → w.0 < p.workers → Updates p t w (worked_on p w a)
+    updates w staffed = record {
       kernel = own-fit.kernel;
       codelet = own-fit.codelet;
       before = ends.first;
@@ -211,18 +230,7 @@ module _ (p : Program) (proper : Proper p) (t : Task) (inside : t.0 < length p.t
       accesses = ends.is;
       reads = ap starts_as_zeros ends.end ∙ out-reads a.mode out;
       cell = ap (worked_on p w) last-is;
-      written = ap (λ (xs : List Access). map (worked_on p w) (filter (λ b. is_written b.mode) xs)) ends.is
-          ∙ ap (map (worked_on p w)) (filter-last (λ b. is_written b.mode) ends.first ends.last unwritten (ap is_written ends.end ∙ out-is_written a.mode out))
-          ∙ ap (λ (b : Access). worked_on p w b ∷ []) last-is;
-      others = λ b h reads e. elim (first-is b h) [
-        | inr scratch ↦ true≢false (ap starts_as_zeros (sym scratch) ∙ reads)
-        | inl read ↦
-            let b_in = subst (λ (xs : List Access). Contains xs b) (sym ends.is) (Contains-append_left ends.first (ends.last ∷ []) b h) in
-            let first : Uses p t.0 (worked_on p w a).0 Read = subst (λ (q : Cell). Uses p t.0 q.0 Read) e (subst (λ (x : Mode). Uses p t.0 (worked_on p w b).0 (manner_of (task_of p t).codelet x)) read (operand-used w staffed b b_in (ap (λ (x : Mode). not (is_scratch x)) read))) in
-            let second = operand-used w staffed a among (written_isn't_scratch a.mode (out-is_written a.mode out)) in
-            out-isn't_read (task_of p t).codelet a.mode out ((Proper-dependencies p proper).manners t.0 (worked_on p w a).0 Read (manner_of (task_of p t).codelet a.mode) first second)
-      ];
+      written = written-one w;
+      direct = λ b h. elim (first-is b h) [ inl e ↦ ap is_redux e | inr e ↦ ap is_redux e ];
+      others = unaliased w staffed;
     }
-      where
-        unwritten : (b : Access) → Contains ends.first b → is_written b.mode ≡ false
-        unwritten b h = elim (first-is b h) [ inl e ↦ ap is_written e | inr e ↦ ap is_written e ]
