@@ -45,6 +45,10 @@ module _ (p : Program) (proper : Proper p) where
       let phase = All-contains (IsPhase p) proper.phases.phases f.0 proper.phases.each f.1 in
       record { phase = f.0; is_phase = phase; cell = f.2; among = f.3; by_kernel = All-contains (λ n. IsContribution f.0.by f.0.cell (task_number p n)) f.0.contributions t.0 phase.contributions f.3 }
 
+  -- the codelet of a contribution is one of the reduction's
+  pub kernel-contributes : (t : Task) (f : Phase) (k : Kernel) → kernel_of (task_of p t).codelet ≡ Some k → IsContribution f.by f.cell (task_of p t) → contributes_of k f.by ≡ true
+  kernel-contributes t f k e own = let g : Some own.kernel ≡ Some k = sym own.codelet ∙ e in let one : own.kernel ≡ k = cc in ap (λ (y : Kernel). contributes_of y f.by) (sym one) ∙ own.contributes
+
   -- the copy that is worked on is one of the operand's cell
   pub copy-of : (t : Task) → t.0 < length p.tasks → (w : Worker) → w.0 < p.workers → (a : Access) → Contains (task_of p t).accesses a → a.mode ≡ Redux → IsCopyOf p (worked_on p w a) a.cell w
   copy-of t inside w staffed a h redux =
@@ -119,18 +123,15 @@ module _ (p : Program) (proper : Proper p) where
         let cells : a.cell ≡ b.cell = proper.cells.apart q a.cell b.cell w v copy (subst (λ (d : Cell). IsCopyOf p d b.cell v) (sym same) other) in
         let of_t = contributes t a ta ra in
         let f = of_t.phase in
-        let own = kernel-contributes t f ej of_t.by_kernel in
+        let own = kernel-contributes t f j ej of_t.by_kernel in
         elim (cases_lt u.0 (combine_at f of_t.is_phase w w_in)) [
           | inl within ↦
               let later = contributes-between f of_t.is_phase w w_in t.0 u.0 b of_t.among before (omega (arith, within)) ub rb (sym cells ∙ sym of_t.cell) in
-              let second = kernel-contributes u f ek (All-contains (λ n. IsContribution f.by f.cell (task_number p n)) f.contributions u.0 of_t.is_phase.contributions later) in
+              let second = kernel-contributes u f k ek (All-contains (λ n. IsContribution f.by f.cell (task_number p n)) f.contributions u.0 of_t.is_phase.contributions later) in
               contributing-exchange f.by (reduces f of_t.is_phase w w_in) j k own second (does_contribute f of_t.is_phase w w_in t t_in j ej own) (does_contribute f of_t.is_phase w w_in u u_in k ek second)
           | inr past ↦ absurd (free (parted f of_t.is_phase of_t.cell copy.is past of_t.among))
         ]
       where
-        kernel-contributes : (x : Task) (f : Phase) → {i : Kernel} → kernel_of (task_of p x).codelet ≡ Some i → IsContribution f.by f.cell (task_of p x) → contributes_of i f.by ≡ true
-        kernel-contributes x f {i} e own = let g : Some own.kernel ≡ Some i = sym own.codelet ∙ e in let one : own.kernel ≡ i = cc in ap (λ (y : Kernel). contributes_of y f.by) (sym one) ∙ own.contributes
-
         -- where the copy is combined in between they conflict
         parted : (f : Phase) (phase : IsPhase p f) → f.cell ≡ a.cell → worked_on p w a ≡ copy_of p a.cell w → combine_at f phase w w_in ≤ u.0 → Contains f.contributions t.0 → Conflict p t.0 u.0
         parted f phase cell is past among =
