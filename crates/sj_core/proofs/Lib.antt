@@ -38,6 +38,7 @@ pub mod Reading
 pub mod Reduction
 pub mod Replaying
 pub mod Replicas
+pub mod Rerouting
 pub mod Running
 pub mod Separation
 pub mod Sharing
