@@ -22,7 +22,7 @@ use Rattle.sj_core.proofs.Copies.{AtWork, Contribution, IsRefilled, OfCell, OfCo
 use Rattle.sj_core.proofs.Depending.{step-same}
 use Rattle.sj_core.proofs.Folding.{after_chosen-same, after_task-other, number, read-among_cells}
 use Rattle.sj_core.proofs.Modes.{reads_isn't_scratch}
-use Rattle.sj_core.proofs.Phases.{Contributes, combine-after, combine-among, combine_at, contributes, copy-of, init-among, init-before, init_at, reduces}
+use Rattle.sj_core.proofs.Phases.{Contributes, combine-after, combine-among, combine-reads, combine_at, contributes, copy-of, init-among, init-before, init_at, reduces}
 use Rattle.sj_core.proofs.PlainModes.{operand-inside}
 use Rattle.sj_core.proofs.Reading.{same_cell-is}
 use Rattle.sj_core.proofs.Sharing.{operand_for}
@@ -139,6 +139,14 @@ module _ (has : Kernel → Bool) (p : Program) (proper : Proper p) (lawful : IsL
         unor true e = refl
         unor false e = e
 
+    -- a task that writes another cell reads no copy but one that it combines
+    reads-elsewhere : (y : Worker) → y.0 < p.workers → n ≢ get_or f.combines y.0 0 → (d : Cell) → has_cell (written_cells p (number n) v) d ≡ true → d ≢ copy_of p c y → (b : Access) → Contains (task_of p (number n)).accesses b → starts_as_zeros b.mode ≡ false → worked_on p v b ≢ copy_of p c y
+    reads-elsewhere y y_in no_combine d writes differ b h reads e = by_kind (on-copy y y_in (sym (ap (has_cell (cells_of p (number n) v)) e) ∙ read-among_cells p (number n) v b h reads))
+      where
+        by_kind : OnCopy n v y → ⊥
+        by_kind (Merges at) = no_combine at
+        by_kind (Adds z hz redux' cell own_worker own) = differ (sym (writes-only z hz redux' cell own d writes) ∙ ap (copy_of p c) own_worker)
+
     -- a copy that holds more by z in the one than in the other still does after each task but its combine
     carried : (one other : Contents) → AreSized p one → AreSized p other → (y : Worker) → y.0 < p.workers → n ≢ get_or f.combines y.0 0 → (z : Array) → IsTile z → z.dims ≡ dims_of p c →
         (Contains f.contributions n → (b : Access) → Contains (task_of p (number n)).accesses b → starts_as_zeros b.mode ≡ false → is_redux b.mode ≡ false → held_in p one b.cell ≡ held_in p other b.cell) →
@@ -167,3 +175,168 @@ module _ (has : Kernel → Bool) (p : Program) (proper : Proper p) (lawful : IsL
             ∙ combined-swap f.by law z (more_by other) (held_in p other (copy_of p c y)) tz fills.0 of_other.tile (dz ∙ as_large) (fills.1 ∙ as_large)
             ∙ ap (λ (d : Cell). combined f.by z (combined f.by (more_by other) (held_in p other d))) (sym at)
             ∙ ap (combined f.by z) (sym (adds has p proper lawful f phase (number n) n_in b h redux' cell own v v_in other sized') ∙ ap (held_in p (after_task p v (number n) other)) at)
+
+  -- ---- the two folds
+
+  abbrev one : ℕ → Contents
+  one n = after_chosen p every by n
+
+  abbrev other : ℕ → Contents
+  other n = after_chosen p every by' n
+
+  one-sized : (n : ℕ) → n ≤ length p.tasks → AreSized p (one n)
+  one-sized n l = after_chosen-sized p proper lawful.arguments every by staffed n l
+
+  other-sized : (n : ℕ) → n ≤ length p.tasks → AreSized p (other n)
+  other-sized n l = after_chosen-sized p proper lawful.arguments every by' staffed' n l
+
+  -- each other task runs on the same worker in both
+  other-next : (n : ℕ) → n ≢ t.0 → other (suc n) ≡ after_task p (by (number n)) (number n) (other n)
+  other-next n d = ap (λ (v : Worker). after_task p v (number n) (other n)) (others (number n) (λ e. d (ap (λ (u : Task). u.0) e)))
+
+  -- what the contribution adds
+  abbrev x : Array
+  x = part has p proper lawful f phase t t_in a among redux cell-is of_t.among (by t) (staffed t) (one t.0)
+
+  x-fills : IsTile x × (x.dims ≡ dims_of p c)
+  x-fills = part-fills has p proper lawful f phase t t_in a among redux cell-is of_t.among (by t) (staffed t) (one t.0) (one-sized t.0 (omega (arith, t_in)))
+
+  abbrev Same : ℕ → Cell → Type 0
+  Same n d = held_in p (one n) d ≡ held_in p (other n) d
+
+  abbrev More : ℕ → Cell → Type 0
+  More n d = held_in p (one n) d ≡ combined f.by x (held_in p (other n) d)
+
+  abbrev Less : ℕ → Cell → Type 0
+  Less n d = held_in p (other n) d ≡ combined f.by x (held_in p (one n) d)
+
+  -- until the first of the two copies is combined
+  record Begun (n : ℕ) : Type 0 where
+    alike : (d : Cell) → d ≢ q → d ≢ q' → Same n d
+    more : More n q
+    less : Less n q'
+
+  -- until the second is
+  record Halfway (n : ℕ) : Type 0 where
+    alike : (d : Cell) → d ≢ q → d ≢ q' → d ≢ c → Same n d
+    more : More n c
+    less : Less n q'
+
+  -- and then
+  record Over (n : ℕ) : Type 0 where
+    alike : (d : Cell) → (d ≡ q → IsRefilled p proper f phase has_copies (by t) k n) → (d ≡ q' → IsRefilled p proper f phase has_copies (by' t) k' n) → Same n d
+
+  data Differ (n : ℕ) : Type 0 where
+    Before : n ≤ t.0 → one n ≡ other n → Differ n
+    First : t.0 < n → n ≤ k → Begun n → Differ n
+    Second : k < n → n ≤ k' → Halfway n → Differ n
+    Last : k' < n → Over n → Differ n
+
+  -- the copies are no other cells
+  begin-same : (n : ℕ) → n ≤ t.0 → one n ≡ other n
+  begin-same n l = after_chosen-same p every every by by' n (λ u h. refl) (λ u h e. sym (others u (λ f. (let g : u.0 ≡ t.0 = ap (λ (k : Task). k.0) f in omega (arith, l, h, g)))))
+
+  -- ---- the contribution itself
+
+  entered : Begun (suc t.0)
+  entered = record {
+    alike = λ d dq dq'. spared (by t) (staffed t) (one t.0) d (λ e. dq (e ∙ at (by t) (staffed t))) ∙ ap (λ (z : Contents). held_in p z d) (begin-same t.0 (omega arith)) ∙ sym (spared (by' t) (staffed' t) (other t.0) d (λ e. dq' (e ∙ at (by' t) (staffed' t))));
+    more = ap (held_in p (one (suc t.0))) (sym (at (by t) (staffed t)))
+        ∙ adds has p proper lawful f phase t t_in a among redux cell-is of_t.among (by t) (staffed t) (one t.0) (one-sized t.0 (omega (arith, t_in)))
+        ∙ ap (λ (d : Cell). combined f.by x (held_in p (one t.0) d)) (at (by t) (staffed t))
+        ∙ ap (combined f.by x) (ap (λ (z : Contents). held_in p z q) (begin-same t.0 (omega arith)) ∙ sym (spared (by' t) (staffed' t) (other t.0) q (λ e. apart (e ∙ at (by' t) (staffed' t)))));
+    less = ap (held_in p (other (suc t.0))) (sym (at (by' t) (staffed' t)))
+        ∙ adds has p proper lawful f phase t t_in a among redux cell-is of_t.among (by' t) (staffed' t) (other t.0) (other-sized t.0 (omega (arith, t_in)))
+        ∙ ap (λ (m : Array). combined f.by m (held_in p (other t.0) (worked_on p (by' t) a))) (part-same has p proper lawful f phase t t_in a among redux cell-is of_t.among (by' t) (by t) (staffed' t) (staffed t) (other t.0) (one t.0) (λ b h reads. ap (λ (z : Contents). held_in p z b.cell) (sym (begin-same t.0 (omega arith)))))
+        ∙ ap (λ (d : Cell). combined f.by x (held_in p (other t.0) d)) (at (by' t) (staffed' t))
+        ∙ ap (combined f.by x) (ap (λ (z : Contents). held_in p z q') (sym (begin-same t.0 (omega arith))) ∙ sym (spared (by t) (staffed t) (one t.0) q' (λ e. apart (sym (e ∙ at (by t) (staffed t))))));
+  }
+    where
+      at : (v : Worker) → v.0 < p.workers → worked_on p v a ≡ copy_of p c v
+      at v v_in = works-on t t_in v v_in a among redux cell-is
+
+      spared : (v : Worker) (v_in : v.0 < p.workers) (before : Contents) (d : Cell) → d ≢ worked_on p v a → held_in p (after_task p v t before) d ≡ held_in p before d
+      spared v v_in before d differ = update-spares p proper lawful.arguments t t_in v v_in (worked_on p v a) (update has p proper lawful f phase t t_in a among redux cell-is of_t.among v v_in) before d differ
+
+  -- ---- until the first copy is combined
+
+  continues : (n : ℕ) → t.0 < n → n < k → n < length p.tasks → Begun n → Begun (suc n)
+  continues n later before inside h =
+      let v = by (number n) in
+      let v_in = staffed (number n) in
+      let differs : n ≢ t.0 = λ e. omega (arith, later, e) in
+      let within : n ≤ k' = omega (arith, before, k-before) in
+      let first : n ≢ k = λ e. omega (arith, before, e) in
+      let second : n ≢ k' = λ e. omega (arith, before, k-before, e) in
+      let moved = other-next n differs in
+      let sized = one-sized n (omega (arith, inside)) in
+      let sized' = other-sized n (omega (arith, inside)) in
+      record {
+        alike = λ d dq dq'.
+            step-same p proper (number n) inside v (one n) (other n) d
+            (λ writes b has_b reads. h.alike (worked_on p v b) (reads-elsewhere n later within v v_in (by t) (staffed t) first d writes dq b has_b reads) (reads-elsewhere n later within v v_in (by' t) (staffed' t) second d writes dq' b has_b reads))
+            (λ spared. h.alike d dq dq')
+            ∙ ap (λ (z : Contents). held_in p z d) (sym moved);
+        more = carried n later within v v_in (one n) (other n) sized sized' (by t) (staffed t) first x x-fills.0 x-fills.1
+            (λ own b has_b reads direct. h.alike b.cell (reads-none n later within v v_in own b has_b reads direct (by t) (staffed t)) (reads-none n later within v v_in own b has_b reads direct (by' t) (staffed' t)))
+            h.more
+            ∙ ap (λ (z : Contents). combined f.by x (held_in p z q)) (sym moved);
+        less = ap (λ (z : Contents). held_in p z q') moved
+            ∙ carried n later within v v_in (other n) (one n) sized' sized (by' t) (staffed' t) second x x-fills.0 x-fills.1
+            (λ own b has_b reads direct. sym (h.alike b.cell (reads-none n later within v v_in own b has_b reads direct (by t) (staffed t)) (reads-none n later within v v_in own b has_b reads direct (by' t) (staffed' t))))
+            h.less;
+      }
+
+  -- ---- a copy is combined
+
+  combine-inside : (y : Worker) (y_in : y.0 < p.workers) → get_or f.combines y.0 0 < length p.tasks
+  combine-inside y y_in = operand-inside p (number (get_or f.combines y.0 0)) (access R (copy_of p c y)) (combine-reads p proper f phase y y_in)
+
+  module _ (y : Worker) (y_in : y.0 < p.workers) (n : ℕ) (at : n ≡ get_or f.combines y.0 0) (v : Worker) (v_in : v.0 < p.workers) where
+    is-combine : IsCombine f.by (copy_of p c y) c (task_number p n)
+    is-combine = subst (λ i. IsCombine f.by (copy_of p c y) c (task_number p i)) (sym at) (phase.combines y y_in)
+
+    n-inside : n < length p.tasks
+    n-inside = omega (arith, at, combine-inside y y_in)
+
+    merged : (before : Contents) → held_in p (after_task p v (number n) before) c ≡ combined f.by (held_in p before (copy_of p c y)) (held_in p before c)
+    merged before = merges has p proper lawful f phase has_copies y y_in (number n) n-inside is-combine v v_in before
+
+    merge-spares : (before : Contents) (d : Cell) → d ≢ c → held_in p (after_task p v (number n) before) d ≡ held_in p before d
+    merge-spares before d differ = update-spares p proper lawful.arguments (number n) n-inside v v_in c (merge has p proper lawful f phase has_copies y y_in (number n) n-inside is-combine v v_in) before d differ
+
+    merge-writes : (d : Cell) → has_cell (written_cells p (number n) v) d ≡ true → d ≡ c
+    merge-writes d writes = elim (cases_Bool (same_cell c d)) [
+      | inl e ↦ sym (same_cell-is c d e)
+      | inr e ↦ absurd (false≢true (sym (ap (λ (cs : List Cell). has_cell cs d) (merge has p proper lawful f phase has_copies y y_in (number n) n-inside is-combine v v_in).written ∙ ap (λ b. b || false) e) ∙ writes))
+    ]
+
+  copy-not_cell : (y : Worker) → y.0 < p.workers → copy_of p c y ≢ c
+  copy-not_cell y y_in = copy-bare p proper c has_copies y y_in c has_copies
+
+  one-fills : (n : ℕ) → n ≤ length p.tasks → (y : Worker) → y.0 < p.workers → IsTile (held_in p (one n) (copy_of p c y)) × ((held_in p (one n) (copy_of p c y)).dims ≡ dims_of p c)
+  one-fills n l y y_in = let fills = one-sized n l (copy_of p c y) in (fills.tile, fills.dims ∙ copy-dims y y_in)
+
+  other-fills : (n : ℕ) → n ≤ length p.tasks → (y : Worker) → y.0 < p.workers → IsTile (held_in p (other n) (copy_of p c y)) × ((held_in p (other n) (copy_of p c y)).dims ≡ dims_of p c)
+  other-fills n l y y_in = let fills = other-sized n l (copy_of p c y) in (fills.tile, fills.dims ∙ copy-dims y y_in)
+
+  t-first : t.0 < k
+  t-first = combine-after p proper f phase (by t) (staffed t) t.0 of_t.among
+
+  halves : k < length p.tasks → Begun k → Halfway (suc k)
+  halves inside h =
+      let v = by (number k) in
+      let v_in = staffed (number k) in
+      let l : k ≤ length p.tasks = omega (arith, inside) in
+      let moved = other-next k (λ e. omega (arith, t-first, e)) in
+      let of_copy = other-fills k l (by t) (staffed t) in
+      let of_cell = other-sized k l c in
+      record {
+        alike = λ d dq dq' dc. merge-spares (by t) (staffed t) k refl v v_in (one k) d dc ∙ h.alike d dq dq' ∙ sym (merge-spares (by t) (staffed t) k refl v v_in (other k) d dc) ∙ ap (λ (z : Contents). held_in p z d) (sym moved);
+        more = merged (by t) (staffed t) k refl v v_in (one k)
+            ∙ ap (λ (m : Array). combined f.by m (held_in p (one k) c)) h.more
+            ∙ ap (combined f.by (combined f.by x (held_in p (other k) q))) (h.alike c (λ e. copy-not_cell (by t) (staffed t) (sym e)) (λ e. copy-not_cell (by' t) (staffed' t) (sym e)))
+            ∙ law.associative x (held_in p (other k) q) (held_in p (other k) c) x-fills.0 of_copy.0 of_cell.tile (x-fills.1 ∙ sym of_copy.1) (of_copy.1 ∙ sym of_cell.dims)
+            ∙ ap (combined f.by x) (sym (merged (by t) (staffed t) k refl v v_in (other k)) ∙ ap (λ (z : Contents). held_in p z c) (sym moved));
+        less = ap (λ (z : Contents). held_in p z q') moved ∙ merge-spares (by t) (staffed t) k refl v v_in (other k) q' (copy-not_cell (by' t) (staffed' t)) ∙ h.less ∙ ap (combined f.by x) (sym (merge-spares (by t) (staffed t) k refl v v_in (one k) q' (copy-not_cell (by' t) (staffed' t))));
+      }
