@@ -2,10 +2,10 @@
 -- copies, until they are filled anew.
 use Rattle.std.proofs.Common.{Bool, List, [], ap, arith, false, get_or, inl, inr, length, map, not, refl, subst, suc, sym, true, zero, ℕ, ℤ, ◌++◌, ◌+◌, ◌<◌, ◌||◌, ◌∙◌, ◌∷◌, ◌≡◌, ◌≢◌, ◌≤◌, ◌⊎◌}
 use Rattle.std.specs.Prelude.{All, AllPairs, is_some}
-use Rattle.std.specs.List.{Contains}
+use Rattle.std.specs.List.{Contains, filter}
 use Rattle.std.proofs.lemmas.Bool.{cases_Bool, cases_eq, cases_lt, false_from_ne_true, false≢true, true≢false}
 use Rattle.std.proofs.lemmas.List.Elements.{Contains-append_left}
-use Rattle.sj_base.specs.Mode.{is_in_order, is_redux, is_scratch, starts_as_zeros}
+use Rattle.sj_base.specs.Mode.{is_redux, is_scratch, is_written, starts_as_zeros}
 use Rattle.sj_base.specs.declared.mode.Access.{Access}
 use Rattle.sj_base.specs.declared.mode.Mode.{Mode}
 use Rattle.sj_base.specs.declared.mode.Mode.TheVariants.{R, RW, Redux, W}
@@ -340,3 +340,172 @@ module _ (has : Kernel → Bool) (p : Program) (proper : Proper p) (lawful : IsL
             ∙ ap (combined f.by x) (sym (merged (by t) (staffed t) k refl v v_in (other k)) ∙ ap (λ (z : Contents). held_in p z c) (sym moved));
         less = ap (λ (z : Contents). held_in p z q') moved ∙ merge-spares (by t) (staffed t) k refl v v_in (other k) q' (copy-not_cell (by' t) (staffed' t)) ∙ h.less ∙ ap (combined f.by x) (sym (merge-spares (by t) (staffed t) k refl v v_in (one k) q' (copy-not_cell (by' t) (staffed' t))));
       }
+
+  -- ---- until the second copy is combined
+
+  -- no contribution comes after a combine
+  none-left : (n : ℕ) → k < n → Contains f.contributions n → ⊥
+  none-left n later own = omega (arith, later, combine-after p proper (contributes p proper t a among redux).phase phase (by t) (staffed t) n own)
+
+  unused : (n : ℕ) → k < n → n ≤ k' → (v : Worker) → v.0 < p.workers → (y : Worker) → y.0 < p.workers → n ≢ get_or f.combines y.0 0 → has_cell (cells_of p (number n) v) (copy_of p c y) ≡ true → ⊥
+  unused n later before v v_in y y_in no_combine works = by_kind (on-copy n (omega (arith, later, t-first)) before v v_in y y_in works)
+    where
+      by_kind : OnCopy n v y → ⊥
+      by_kind (Merges at) = no_combine at
+      by_kind (Adds b h redux' cell own_worker own) = none-left n later own
+
+  goes_on : (n : ℕ) → k < n → n < k' → n < length p.tasks → Halfway n → Halfway (suc n)
+  goes_on n later before inside h =
+      let v = by (number n) in
+      let v_in = staffed (number n) in
+      let after_t : t.0 < n = omega (arith, later, t-first) in
+      let within : n ≤ k' = omega (arith, before) in
+      let first : n ≢ k = λ e. omega (arith, later, e) in
+      let second : n ≢ k' = λ e. omega (arith, before, e) in
+      let moved = other-next n (λ e. omega (arith, after_t, e)) in
+      record {
+        alike = λ d dq dq' dc.
+            step-same p proper (number n) inside v (one n) (other n) d
+            (λ writes b has_b reads. h.alike (worked_on p v b)
+            (λ e. unused n later within v v_in (by t) (staffed t) first (sym (ap (has_cell (cells_of p (number n) v)) e) ∙ read-among_cells p (number n) v b has_b reads))
+            (λ e. unused n later within v v_in (by' t) (staffed' t) second (sym (ap (has_cell (cells_of p (number n) v)) e) ∙ read-among_cells p (number n) v b has_b reads))
+            (λ e. (let by_combine = on-cell n after_t within v v_in (sym (ap (has_cell (cells_of p (number n) v)) e) ∙ read-among_cells p (number n) v b has_b reads) in dc (merge-writes by_combine.0 by_combine.1 n by_combine.2 v v_in d writes))))
+            (λ spared. h.alike d dq dq' dc)
+            ∙ ap (λ (z : Contents). held_in p z d) (sym moved);
+        more = elim (cases_Bool (has_cell (written_cells p (number n) v) c)) [
+              | inr spared ↦ after_task-other p v (number n) (one n) c spared ∙ h.more ∙ ap (combined f.by x) (sym (after_task-other p v (number n) (other n) c spared))
+              | inl writes ↦ (let by_combine = on-cell n after_t within v v_in (written-among_cells p (number n) v c writes) in merged-more n later before inside h by_combine.0 by_combine.1 by_combine.2 v v_in)
+            ]
+            ∙ ap (λ (z : Contents). combined f.by x (held_in p z c)) (sym moved);
+        less = ap (λ (z : Contents). held_in p z q') moved
+            ∙ after_task-other p v (number n) (other n) q' (resting n later within v v_in second)
+            ∙ h.less
+            ∙ ap (combined f.by x) (sym (after_task-other p v (number n) (one n) q' (resting n later within v v_in second)));
+      }
+    where
+      resting : (n : ℕ) → k < n → n ≤ k' → (v : Worker) → v.0 < p.workers → n ≢ k' → has_cell (written_cells p (number n) v) q' ≡ false
+      resting n later within v v_in second = false_from_ne_true (has_cell (written_cells p (number n) v) q') (λ writes. unused n later within v v_in (by' t) (staffed' t) second (written-among_cells p (number n) v q' writes))
+
+      -- another copy is combined
+      merged-more : (n : ℕ) → k < n → n < k' → n < length p.tasks → Halfway n → (y : Worker) (y_in : y.0 < p.workers) → n ≡ get_or f.combines y.0 0 → (v : Worker) → v.0 < p.workers → held_in p (after_task p v (number n) (one n)) c ≡ combined f.by x (held_in p (after_task p v (number n) (other n)) c)
+      merged-more n later before inside h y y_in at v v_in =
+          let l : n ≤ length p.tasks = omega (arith, inside) in
+          let of_copy = other-fills n l y y_in in
+          let of_cell = other-sized n l c in
+          let not_first : copy_of p c y ≢ q = λ e. (let same = ap (λ (u : Worker). get_or f.combines u.0 0) (copy-own p proper c has_copies y (by t) e) in omega (arith, later, at, same)) in
+          let not_second : copy_of p c y ≢ q' = λ e. (let same = ap (λ (u : Worker). get_or f.combines u.0 0) (copy-own p proper c has_copies y (by' t) e) in omega (arith, before, at, same)) in
+          merged y y_in n at v v_in (one n)
+          ∙ ap (λ (m : Array). combined f.by m (held_in p (one n) c)) (h.alike (copy_of p c y) not_first not_second (copy-not_cell y y_in))
+          ∙ ap (combined f.by (held_in p (other n) (copy_of p c y))) h.more
+          ∙ combined-swap f.by law x (held_in p (other n) (copy_of p c y)) (held_in p (other n) c) x-fills.0 of_copy.0 of_cell.tile (x-fills.1 ∙ sym of_cell.dims) (of_copy.1 ∙ sym of_cell.dims)
+          ∙ ap (combined f.by x) (sym (merged y y_in n at v v_in (other n)))
+
+  -- ---- both are combined
+
+  -- while the phase is open no copy is filled anew
+  no-refill : (i : ℕ) → t.0 < i → i ≤ k' → (y : Worker) → y.0 < p.workers → (task_number p i).accesses ≡ access W (copy_of p c y) ∷ [] → ⊥
+  no-refill i later before y y_in fills = by_kind (operand-at i later before y y_in (access W (copy_of p c y)) (subst (λ (xs : List Access). Contains xs (access W (copy_of p c y))) (sym fills) (0, omega arith, refl)) refl (inr (y, y_in, refl)))
+    where
+      by_kind : AtWork p proper f phase has_copies i y (access W (copy_of p c y)) → ⊥
+      by_kind (Contribution own redux' same) = cc
+      by_kind (OfCopy z z_in at e) = let g : W ≡ R = ap (λ (b : Access). b.mode) e in cc
+      by_kind (OfCell z z_in at e) = let g : W ≡ RW = ap (λ (b : Access). b.mode) e in cc
+
+  ends : k' < length p.tasks → Halfway k' → Over (suc k')
+  ends inside h = record {
+    alike = λ d fresh fresh'.
+        (let dq : d ≢ q = λ e. (let r = fresh e in no-refill r.at (omega (arith, t-first, r.after)) (omega (arith, r.before)) (by t) (staffed t) r.fills) in
+        let dq' : d ≢ q' = λ e. (let r = fresh' e in omega (arith, r.after, r.before)) in
+        by_cell d dq dq' (cases_Bool (same_cell d c)) ∙ ap (λ (z : Contents). held_in p z d) (sym moved));
+  }
+    where
+      v : Worker
+      v = by (number k')
+
+      v_in : (by (number k')).0 < p.workers
+      v_in = staffed (number k')
+
+      moved : other (suc k') ≡ after_task p (by (number k')) (number k') (other k')
+      moved = other-next k' (λ e. omega (arith, t-first, k-before, e))
+
+      cell : held_in p (after_task p (by (number k')) (number k') (one k')) c ≡ held_in p (after_task p (by (number k')) (number k') (other k')) c
+      cell =
+          let l : k' ≤ length p.tasks = omega (arith, inside) in
+          let of_copy = one-fills k' l (by' t) (staffed' t) in
+          let of_cell = other-sized k' l c in
+          merged (by' t) (staffed' t) k' refl (by (number k')) v_in (one k')
+          ∙ ap (combined f.by (held_in p (one k') q')) h.more
+          ∙ combined-swap f.by law x (held_in p (one k') q') (held_in p (other k') c) x-fills.0 of_copy.0 of_cell.tile (x-fills.1 ∙ sym of_cell.dims) (of_copy.1 ∙ sym of_cell.dims)
+          ∙ sym (law.associative x (held_in p (one k') q') (held_in p (other k') c) x-fills.0 of_copy.0 of_cell.tile (x-fills.1 ∙ sym of_copy.1) (of_copy.1 ∙ sym of_cell.dims))
+          ∙ ap (λ (m : Array). combined f.by m (held_in p (other k') c)) (sym h.less)
+          ∙ sym (merged (by' t) (staffed' t) k' refl (by (number k')) v_in (other k'))
+
+      by_cell : (d : Cell) → d ≢ q → d ≢ q' → (same_cell d c ≡ true) ⊎ (same_cell d c ≡ false) → held_in p (after_task p (by (number k')) (number k') (one k')) d ≡ held_in p (after_task p (by (number k')) (number k') (other k')) d
+      by_cell d dq dq' (inl e) = subst (λ (z : Cell). held_in p (after_task p (by (number k')) (number k') (one k')) z ≡ held_in p (after_task p (by (number k')) (number k') (other k')) z) (sym (same_cell-is d c e)) cell
+      by_cell d dq dq' (inr e) =
+          let dc : d ≢ c = λ f. true≢false (sym (same_cell-refl d ∙ refl) ∙ ap (same_cell d) f ∙ e) in
+          merge-spares (by' t) (staffed' t) k' refl (by (number k')) v_in (one k') d dc ∙ h.alike d dq dq' dc ∙ sym (merge-spares (by' t) (staffed' t) k' refl (by (number k')) v_in (other k') d dc)
+
+  -- ---- after the phase
+
+  rests : (n : ℕ) → k' < n → n < length p.tasks → Over n → Over (suc n)
+  rests n later inside h =
+      let v = by (number n) in
+      let v_in = staffed (number n) in
+      record {
+        alike = λ d fresh fresh'.
+            step-same p proper (number n) inside v (one n) (other n) d
+            (λ writes b has_b reads. h.alike (worked_on p v b)
+            (λ e. refilled p proper f phase has_copies (by t) (staffed t) n (omega (arith, later, k-before)) v v_in b has_b reads e)
+            (λ e. refilled p proper f phase has_copies (by' t) (staffed' t) n later v v_in b has_b reads e))
+            (λ spared. h.alike d (λ e. earlier (by t) k d e spared (fresh e)) (λ e. earlier (by' t) k' d e spared (fresh' e)))
+            ∙ ap (λ (z : Contents). held_in p z d) (sym (other-next n (λ e. omega (arith, later, t-first, k-before, e))));
+      }
+    where
+      -- what the task doesn't write was filled before it
+      earlier : (y : Worker) (m : ℕ) (d : Cell) → d ≡ copy_of p c y → has_cell (written_cells p (number n) (by (number n))) d ≡ false → IsRefilled p proper f phase has_copies y m (suc n) → IsRefilled p proper f phase has_copies y m n
+      earlier y m d is spared r = elim (cases_lt r.at n) [
+        | inl before ↦ record { at = r.at; after = r.after; before = before; fills = r.fills }
+        | inr here ↦
+            let at : r.at ≡ n = omega (arith, here, r.before) in
+            let fills : (task_number p n).accesses ≡ access W (copy_of p c y) ∷ [] = subst (λ i. (task_number p i).accesses ≡ access W (copy_of p c y) ∷ []) at r.fills in
+            let writes : written_cells p (number n) (by (number n)) ≡ copy_of p c y ∷ [] = ap (λ (xs : List Access). map (worked_on p (by (number n))) (filter (λ b. is_written b.mode) xs)) fills in
+            absurd (false≢true (sym spared ∙ ap (λ (cs : List Cell). has_cell cs d) writes ∙ ap (λ b. b || false) (ap (same_cell (copy_of p c y)) is ∙ same_cell-refl (copy_of p c y))))
+      ]
+
+  -- ---- all along
+
+  differ : (n : ℕ) → n ≤ length p.tasks → Differ n
+  differ zero l = Before (omega arith) refl
+  differ (suc n) l = by_stage (differ n (omega (arith, l)))
+    where
+      by_stage : Differ n → Differ (suc n)
+      by_stage (Before before same) = elim (cases_lt n t.0) [
+        | inl less ↦ Before (omega (arith, less)) (begin-same (suc n) (omega (arith, less)))
+        | inr here ↦ (let e : t.0 ≡ n = omega (arith, before, here) in subst (λ i. Differ (suc i)) e (First (omega arith) (omega (arith, t-first)) entered))
+      ]
+      by_stage (First later before h) = elim (cases_lt n k) [
+        | inl less ↦ First (omega (arith, later)) (omega (arith, less)) (continues n later less (omega (arith, l)) h)
+        | inr here ↦ (let e : k ≡ n = omega (arith, before, here) in subst (λ i. Differ (suc i)) e (Second (omega arith) (omega (arith, k-before)) (halves (omega (arith, l, e)) (subst Begun (sym e) h))))
+      ]
+      by_stage (Second later before h) = elim (cases_lt n k') [
+        | inl less ↦ Second (omega (arith, later)) (omega (arith, less)) (goes_on n later less (omega (arith, l)) h)
+        | inr here ↦ (let e : k' ≡ n = omega (arith, before, here) in subst (λ i. Differ (suc i)) e (Last (omega arith) (ends (omega (arith, l, e)) (subst Halfway (sym e) h))))
+      ]
+      by_stage (Last later h) = Last (omega (arith, later)) (rests n later (omega (arith, l)) h)
+
+  -- a cell that is no partial copy, and under no open phase, holds the same
+  pub rerouted : (n : ℕ) → n ≤ length p.tasks → (d : Cell) → IsPlain p d → ((g : Phase) → IsPhase p g → g.cell ≡ d → ¬ IsOpenAt g n) → held_in p (after_chosen p every by n) d ≡ held_in p (after_chosen p every by' n) d
+  rerouted n l d plain closed = by_stage (differ n l)
+    where
+      not_copy : (y : Worker) → y.0 < p.workers → d ≢ copy_of p c y
+      not_copy y y_in e = plain c y (record { has_copies = has_copies; of_worker = y_in; is = e })
+
+      by_stage : Differ n → held_in p (after_chosen p every by n) d ≡ held_in p (after_chosen p every by' n) d
+      by_stage (Before before same) = ap (λ (z : Contents). held_in p z d) same
+      by_stage (First later before h) = h.alike d (not_copy (by t) (staffed t)) (not_copy (by' t) (staffed' t))
+      by_stage (Second later before h) = h.alike d (not_copy (by t) (staffed t)) (not_copy (by' t) (staffed' t)) (λ e. closed (contributes p proper t a among redux).phase phase (sym e) (record {
+        begun = (init_at p proper f phase (by t) (staffed t), init-among p proper f phase (by t) (staffed t), omega (arith, init-before p proper f phase (by t) (staffed t) t.0 of_t.among, later, t-first));
+        unfinished = (k', combine-among p proper f phase (by' t) (staffed' t), before);
+      }))
+      by_stage (Last later h) = h.alike d (λ e. absurd (not_copy (by t) (staffed t) e)) (λ e. absurd (not_copy (by' t) (staffed' t) e))
