@@ -1,9 +1,9 @@
 -- Contributions by codelets of one reduction may be exchanged: each combines an array that doesn't depend on the old one.
-use Rattle.std.proofs.Common.{Bool, List, [], ap, arith, cond, false, length, map, not, refl, subst, suc, sym, true, ℕ, ℤ, ◌++◌, ◌+◌, ◌&&◌, ◌∙◌, ◌∷◌, ◌≡◌}
-use Rattle.std.specs.Prelude.{All, FitsSigned, IsTrue, nat_eq}
+use Rattle.std.proofs.Common.{Bool, List, [], ap, arith, cond, false, length, not, refl, sym, true, ℕ, ℤ, ◌++◌, ◌&&◌, ◌∙◌, ◌∷◌, ◌≡◌}
+use Rattle.std.specs.Prelude.{All, FitsSigned, nat_eq}
 use Rattle.std.specs.Int.{w64}
 use Rattle.std.specs.List.{list_all}
-use Rattle.std.proofs.lemmas.Bool.{and_parts, false≢true, not-true}
+use Rattle.std.proofs.lemmas.Bool.{and_parts, not-true}
 use Rattle.std.proofs.lemmas.Bool.Decides.{nat_tests}
 use Rattle.std.proofs.lemmas.List.{length-append, length-map, map-append}
 use Rattle.std.proofs.lemmas.List.Elements.{All-append, All-cons, All-head, All-nil, All-tail}
@@ -21,7 +21,7 @@ use Rattle.sj_codelet.specs.declared.formal.Formal.TheVariants.{RW as UpdateForm
 use Rattle.sj_codelet.specs.declared.kernel.Kernel.{Kernel}
 use Rattle.sj_core.proofs.Swapping.{Exchange}
 use Rattle.sj_core.proofs.Tiles.{inf-long, new_arrays-tiles, operand-tile, tile, zeros-tile}
-use Rattle.sj_core.proofs.Updating.{UpdatesLast, contributing-commutes, updates-last}
+use Rattle.sj_core.proofs.Updating.{contributing-commutes, updates-last}
 
 -- ---- what a commuting codelet makes
 

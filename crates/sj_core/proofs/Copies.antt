@@ -1,23 +1,22 @@
 -- The partial copies of a cell under reduction: which tasks work on them while a phase is open, and what these leave there.
-use Rattle.std.proofs.Common.{Bool, List, None, Option, Some, [], ap, arith, cond, false, get_or, inl, inr, length, map, not, refl, subst, suc, sym, true, zero, ℕ, ℤ, ◌+◌, ◌++◌, ◌<◌, ◌∙◌, ◌∷◌, ◌≡◌, ◌≢◌, ◌≤◌, ◌⊎◌}
-use Rattle.std.specs.Prelude.{All, AllPairs, IsTrue, is_some}
+use Rattle.std.proofs.Common.{List, None, Option, Some, [], ap, arith, cond, false, get_or, inl, inr, not, refl, subst, suc, sym, true, zero, ℕ, ◌+◌, ◌<◌, ◌∙◌, ◌∷◌, ◌≡◌, ◌≢◌, ◌≤◌, ◌⊎◌}
+use Rattle.std.specs.Prelude.{All, IsTrue, is_some}
 use Rattle.std.specs.List.{Contains}
-use Rattle.std.proofs.lemmas.Bool.{cases_eq, cases_lt, false≢true, true≢false}
+use Rattle.std.proofs.lemmas.Bool.{cases_lt, false≢true, true≢false}
 use Rattle.std.proofs.lemmas.Bool.Decides.{Decides-eqb}
 use Rattle.std.proofs.lemmas.List.{get_or_default}
 use Rattle.std.proofs.lemmas.List.Elements.{All-contains, Contains-get_or}
-use Rattle.sj_base.specs.Mode.{is_in_order, is_redux, is_scratch, is_written, starts_as_zeros}
+use Rattle.sj_base.specs.Mode.{is_redux, is_scratch, starts_as_zeros}
 use Rattle.sj_base.specs.declared.mode.Access.{Access}
 use Rattle.sj_base.specs.declared.mode.Mode.{Mode}
 use Rattle.sj_base.specs.declared.mode.Mode.TheVariants.{Commute as CommuteMode, R, RW, Redux, Scratch, W}
-use Rattle.sj_core.proofs.Words.{Array, Cell, Program, Task, Worker, cell_info, cells_of, copy_of, data_operands, dims_of, has_cell, no_task, same_cell, task_of, worked_on, written_cells, zeros}
+use Rattle.sj_core.proofs.Words.{Cell, Program, Worker, cell_info, copy_of, data_operands, no_task, same_cell, worked_on}
 use Rattle.sj_core.specs.Proper.{IsCombine, IsContribution, IsCopyOf, IsFirstUnit, IsInit, IsMember, IsOpenAt, IsPhase, Phase, Proper, Touches, access, task_number}
-use Rattle.sj_core.proofs.Dependencies.{none_is, not_both, one_is, own-of_phase}
+use Rattle.sj_core.proofs.Dependencies.{not_both, one_is, own-of_phase}
 use Rattle.sj_core.proofs.Folding.{number}
-use Rattle.sj_core.proofs.Phases.{combine-after, combine-among, combine-reads, combine_at, contributes, copy-of, init-among, init-before, init-reads, init_at}
+use Rattle.sj_core.proofs.Phases.{combine-after, combine-among, combine-reads, combine_at, contributes, copy-of, init-among, init-before, init_at}
 use Rattle.sj_core.proofs.PlainModes.{operand-inside}
 use Rattle.sj_core.proofs.Readiness.{AllPairs-two, Contains-filter}
-use Rattle.sj_core.proofs.Sharing.{operand_for}
 
 -- a mode is REDUX or not
 pub redux_or : (x : Mode) → (x ≡ Redux) ⊎ (is_redux x ≡ false)
@@ -176,7 +175,7 @@ module _ (p : Program) (proper : Proper p) where
         let two : access R (copy_of p f.cell combine.0) ∷ access RW f.cell ∷ [] ≡ access W d ∷ [] = sym combine.2.operands ∙ e in
         cc
 
-    init-of : (n : ℕ) → Contains f.inits n → (x : Worker) × IsInit f.by (copy_of p f.cell x) (task_number p n)
+    pub init-of : (n : ℕ) → Contains f.inits n → (x : Worker) × IsInit f.by (copy_of p f.cell x) (task_number p n)
     init-of n (k, l, e) =
         let x : Worker = record { 0 = k } in
         let at_k : get_or f.inits k 0 ≡ n = get_or_default f.inits k 0 n l ∙ e in

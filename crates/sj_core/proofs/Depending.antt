@@ -1,5 +1,5 @@
 -- On which tasks a cell depends, whatever the modes: those with which its writers conflict, and no member of their groups beside those that write it.
-use Rattle.std.proofs.Common.{Bool, List, [], ap, arith, cond, false, inl, inr, length, map, not, refl, subst, suc, sym, true, zero, ℕ, ◌<◌, ◌||◌, ◌≤◌, ◌∙◌, ◌∷◌, ◌≡◌, ◌≢◌, ◌⊎◌}
+use Rattle.std.proofs.Common.{Bool, List, ap, arith, cond, false, inl, inr, length, not, refl, subst, suc, sym, true, zero, ℕ, ◌<◌, ◌≤◌, ◌∙◌, ◌≡◌, ◌≢◌}
 use Rattle.std.specs.List.{Contains, zip}
 use Rattle.std.proofs.lemmas.Bool.{cases_Bool, false_from_ne_true, false≢true}
 use Rattle.std.proofs.lemmas.List.Elements.{All-get_or}
@@ -10,9 +10,8 @@ use Rattle.sj_base.specs.declared.mode.Mode.TheVariants.{Commute as CommuteMode,
 use Rattle.sj_base.specs.declared.program.Codelet.{Codelet}
 use Rattle.sj_codelet.specs.declared.kernel.Kernel.{Kernel}
 use Rattle.sj_deps.specs.Conflict.{Conflict, IsShared, Uses}
-use Rattle.sj_deps.specs.declared.manner.Manner.{Manner}
-use Rattle.sj_deps.specs.declared.manner.Manner.TheVariants.{Commute, Contribute, Read, Write}
-use Rattle.sj_core.proofs.Words.{Array, Cell, Program, Task, Worker, cells_of, has_cell, no_task, results, same_cell, task_of, worked_on, written_cells}
+use Rattle.sj_deps.specs.declared.manner.Manner.TheVariants.{Read}
+use Rattle.sj_core.proofs.Words.{Array, Cell, Program, Task, Worker, cells_of, has_cell, no_task, results, task_of, worked_on, written_cells}
 use Rattle.sj_core.specs.Fold.{Contents, after_chosen, after_task, held_in}
 use Rattle.sj_core.specs.Laws.{IsLawful}
 use Rattle.sj_core.specs.Proper.{Fits, Proper}
@@ -22,7 +21,6 @@ use Rattle.sj_core.proofs.Exchanging.{may-swap}
 use Rattle.sj_core.proofs.Folding.{after_task-other, held-append, held_over, held_over-own, number, read-among_cells, results-same}
 use Rattle.sj_core.proofs.Modes.{written_isn't_scratch}
 use Rattle.sj_core.proofs.Phases.{contributions-exchange}
-use Rattle.sj_core.proofs.Reading.{same_cell-is}
 use Rattle.sj_core.proofs.Sharing.{conflict-by, manner_of, operand_for}
 use Rattle.sj_core.proofs.Swapping.{Apart, MaySwap, Together}
 use Rattle.sj_core.proofs.Updating.{operand-used}

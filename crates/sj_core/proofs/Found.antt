@@ -1,5 +1,5 @@
 -- What a claimed or running task finds where it works, whatever the modes: the content of each cell whose old value it reads.
-use Rattle.std.proofs.Common.{Bool, ap, arith, cond, false, inl, inr, length, not, refl, subst, sym, true, ℕ, ◌<◌, ◌∙◌, ◌≡◌, ◌⊎◌}
+use Rattle.std.proofs.Common.{Bool, ap, cond, false, inl, inr, not, refl, subst, sym, true, ◌<◌, ◌∙◌, ◌≡◌, ◌⊎◌}
 use Rattle.std.specs.List.{Contains}
 use Rattle.std.specs.Prelude.{IsTrue, unwrap_or}
 use Rattle.std.proofs.lemmas.Bool.{false_from_ne_true, false≢true}
@@ -10,8 +10,8 @@ use Rattle.sj_base.specs.declared.mode.Mode.{Mode}
 use Rattle.sj_base.specs.declared.mode.Mode.TheVariants.{Commute as CommuteMode, R, RW, Redux, Scratch, W}
 use Rattle.sj_base.specs.declared.program.Codelet.{Codelet}
 use Rattle.sj_deps.specs.Conflict.{Uses}
-use Rattle.sj_deps.specs.declared.manner.Manner.TheVariants.{Commute, Contribute, Read, Write}
-use Rattle.sj_core.proofs.Words.{Array, AtNode, Cell, Machine, Program, Replica, Running, State, Task, Worker, array_of, cells_of, copy_of, data_operands, dims_of, fresh_cells, has_cell, is_running_on, is_task_of, is_valid, no_task, node_of, progress, replica, same_cell, task_of, worked_on, writes, written_cells, zeros}
+use Rattle.sj_deps.specs.declared.manner.Manner.TheVariants.{Write}
+use Rattle.sj_core.proofs.Words.{AtNode, Cell, Machine, Program, Replica, Running, State, Task, Worker, array_of, cells_of, copy_of, data_operands, dims_of, fresh_cells, has_cell, is_running_on, is_task_of, is_valid, no_task, node_of, progress, replica, same_cell, task_of, worked_on, written_cells, zeros}
 use Rattle.sj_core.specs.Coherent.{Coherent, content}
 use Rattle.sj_core.specs.Proper.{Proper}
 use Rattle.sj_core.specs.Step.{array_at}

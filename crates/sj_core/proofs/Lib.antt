@@ -24,6 +24,7 @@ pub mod Exchanging
 pub mod Finding
 pub mod Folding
 pub mod Found
+pub mod Given
 pub mod Jobs
 pub mod Modes
 pub mod MovingIn
@@ -54,5 +55,6 @@ pub mod Tiles
 pub mod Updating
 pub mod Values
 pub mod Words
+pub mod Workers
 pub mod Worked
 pub mod WorkedRuns

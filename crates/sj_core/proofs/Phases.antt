@@ -1,5 +1,5 @@
 -- The phases of a program: which tasks contribute to a cell, and what stands between them.
-use Rattle.std.proofs.Common.{Bool, List, None, Option, Some, [], ap, arith, cond, get_or, inl, inr, length, not, refl, subst, sym, true, ℕ, ◌<◌, ◌&&◌, ◌∙◌, ◌∷◌, ◌≡◌, ◌≢◌, ◌≤◌, ◌⊎◌}
+use Rattle.std.proofs.Common.{Bool, List, None, Option, Some, ap, arith, cond, get_or, inl, inr, length, not, refl, subst, sym, true, ℕ, ◌<◌, ◌&&◌, ◌∙◌, ◌≡◌, ◌≢◌, ◌≤◌, ◌⊎◌}
 use Rattle.std.specs.Prelude.{All, IsTrue, is_some}
 use Rattle.std.specs.List.{Contains}
 use Rattle.std.proofs.lemmas.Bool.{and_from, cases_lt}
@@ -7,17 +7,15 @@ use Rattle.std.proofs.lemmas.List.Elements.{All-contains, All-get_or, Contains-g
 use Rattle.sj_base.specs.Mode.{is_redux, is_scratch}
 use Rattle.sj_base.specs.declared.mode.Access.{Access}
 use Rattle.sj_base.specs.declared.mode.Mode.{Mode}
-use Rattle.sj_base.specs.declared.mode.Mode.TheVariants.{Commute as CommuteMode, R, RW, Redux, Scratch, W}
-use Rattle.sj_base.specs.declared.mode.Reduction.{Reduction}
+use Rattle.sj_base.specs.declared.mode.Mode.TheVariants.{R, Redux, W}
 use Rattle.sj_codelet.specs.Kernel.{combine_of, contributes_of, has_reduction, init_of, kernel_of}
 use Rattle.sj_codelet.specs.Laws.{DoesContribute, IsReduction}
 use Rattle.sj_codelet.specs.declared.kernel.Kernel.{Kernel}
-use Rattle.sj_deps.specs.Conflict.{Conflict, SameGroup, Uses}
-use Rattle.sj_deps.specs.declared.manner.Manner.{Manner}
-use Rattle.sj_deps.specs.declared.manner.Manner.TheVariants.{Contribute, Read, Write}
-use Rattle.sj_core.proofs.Words.{Cell, Program, Task, Worker, cell_info, copy_of, data_operands, no_task, task_of, worked_on}
+use Rattle.sj_deps.specs.Conflict.{Conflict, Uses}
+use Rattle.sj_deps.specs.declared.manner.Manner.TheVariants.{Contribute, Read}
+use Rattle.sj_core.proofs.Words.{Cell, Program, Task, Worker, copy_of, no_task, task_of, worked_on}
 use Rattle.sj_core.specs.Laws.{IsLawful, is_known}
-use Rattle.sj_core.specs.Proper.{IsCombine, IsContribution, IsCopyOf, IsFirstUnit, IsInit, IsMember, IsOpenAt, IsPhase, Phase, Proper, Touches, access, task_number}
+use Rattle.sj_core.specs.Proper.{IsContribution, IsCopyOf, IsFirstUnit, IsMember, IsOpenAt, IsPhase, Phase, Proper, access, task_number}
 use Rattle.sj_core.proofs.Combining.{contributing-exchange}
 use Rattle.sj_core.proofs.Dependencies.{Proper-dependencies, own-of_phase}
 use Rattle.sj_core.proofs.Exchanging.{ContributionsExchange}

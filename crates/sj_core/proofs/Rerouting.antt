@@ -1,20 +1,19 @@
 -- One contribution by another worker: until both workers' copies are combined they differ by what it adds, and then nothing does but the
 -- copies, until they are filled anew.
-use Rattle.std.proofs.Common.{Bool, List, [], ap, arith, false, get_or, inl, inr, length, map, not, refl, subst, suc, sym, true, zero, ℕ, ℤ, ◌++◌, ◌+◌, ◌<◌, ◌||◌, ◌∙◌, ◌∷◌, ◌≡◌, ◌≢◌, ◌≤◌, ◌⊎◌}
-use Rattle.std.specs.Prelude.{All, AllPairs, is_some}
+use Rattle.std.proofs.Common.{Bool, List, [], ap, arith, false, get_or, inl, inr, length, map, not, refl, subst, suc, sym, true, zero, ℕ, ◌<◌, ◌||◌, ◌∙◌, ◌∷◌, ◌≡◌, ◌≢◌, ◌≤◌, ◌⊎◌}
+use Rattle.std.specs.Prelude.{is_some}
 use Rattle.std.specs.List.{Contains, filter}
-use Rattle.std.proofs.lemmas.Bool.{cases_Bool, cases_eq, cases_lt, false_from_ne_true, false≢true, true≢false}
+use Rattle.std.proofs.lemmas.Bool.{cases_Bool, cases_lt, false_from_ne_true, false≢true, true≢false}
 use Rattle.std.proofs.lemmas.List.Elements.{Contains-append_left}
 use Rattle.sj_base.specs.Mode.{is_redux, is_scratch, is_written, starts_as_zeros}
 use Rattle.sj_base.specs.declared.mode.Access.{Access}
-use Rattle.sj_base.specs.declared.mode.Mode.{Mode}
 use Rattle.sj_base.specs.declared.mode.Mode.TheVariants.{R, RW, Redux, W}
 use Rattle.sj_codelet.specs.Laws.{IsReduction, IsTile, combined}
 use Rattle.sj_codelet.specs.declared.kernel.Kernel.{Kernel}
 use Rattle.sj_core.proofs.Words.{Array, Cell, Program, Task, Worker, cell_info, cells_of, copy_of, dims_of, has_cell, same_cell, task_of, worked_on, written_cells}
 use Rattle.sj_core.specs.Fold.{Contents, after_chosen, after_task, held_in}
 use Rattle.sj_core.specs.Laws.{IsLawful}
-use Rattle.sj_core.specs.Proper.{IsCombine, IsCopyOf, IsOpenAt, IsPhase, IsPlain, Phase, Proper, access, task_number}
+use Rattle.sj_core.specs.Proper.{IsCombine, IsOpenAt, IsPhase, IsPlain, Phase, Proper, access, task_number}
 use Rattle.sj_core.proofs.Adding.{adds, merge, merges, part, part-fills, part-same, update}
 use Rattle.sj_core.proofs.CellLists.{same_cell-refl}
 use Rattle.sj_core.proofs.Combining.{combined-swap}
@@ -26,12 +25,11 @@ use Rattle.sj_core.proofs.Phases.{Contributes, combine-after, combine-among, com
 use Rattle.sj_core.proofs.PlainModes.{operand-inside}
 use Rattle.sj_core.proofs.Reading.{same_cell-is}
 use Rattle.sj_core.proofs.Sharing.{operand_for}
-use Rattle.sj_core.proofs.Sized.{AreSized, Fills, after_chosen-sized}
-use Rattle.sj_core.proofs.Swapping.{Updates, update-spares}
+use Rattle.sj_core.proofs.Sized.{AreSized, after_chosen-sized}
+use Rattle.sj_core.proofs.Swapping.{update-spares}
 use Rattle.sj_core.proofs.TaskCells.{written-among_cells}
-use Rattle.sj_core.proofs.Updating.{out-reads}
 
-abbrev every : Task → Bool
+abbrev pub every : Task → Bool
 every u = true
 
 module _ (has : Kernel → Bool) (p : Program) (proper : Proper p) (lawful : IsLawful has p) (by by' : Task → Worker) (staffed : (u : Task) → (by u).0 < p.workers) (staffed' : (u : Task) → (by' u).0 < p.workers)

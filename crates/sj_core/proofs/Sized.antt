@@ -1,8 +1,8 @@
 -- After any tasks of a proper program each cell holds a tile of its own dimensions.
-use Rattle.std.proofs.Common.{Bool, List, None, Option, Some, [], ap, arith, cond, false, length, map, refl, subst, suc, sym, true, zero, ℕ, ℤ, get_or, ◌+◌, ◌++◌, ◌≤◌, ◌<◌, ◌∙◌, ◌∷◌, ◌≡◌, ◌&&◌, ◌||◌}
+use Rattle.std.proofs.Common.{Bool, List, None, Option, Some, [], ap, arith, cond, false, length, map, refl, subst, suc, sym, true, zero, ℕ, get_or, ◌+◌, ◌≤◌, ◌<◌, ◌∙◌, ◌∷◌, ◌≡◌, ◌&&◌}
 use Rattle.std.specs.Prelude.{All, FitsSigned, IsTrue, is_some, nat_eq, if◌then◌else◌}
 use Rattle.std.specs.Int.{w64}
-use Rattle.std.specs.List.{Contains, filter, find, zip}
+use Rattle.std.specs.List.{filter, find, zip}
 use Rattle.std.proofs.lemmas.Bool.{false≢true}
 use Rattle.std.proofs.lemmas.Bool.Decides.{nat_tests}
 use Rattle.std.proofs.lemmas.List.{length-map}
@@ -11,7 +11,6 @@ use Rattle.sj_base.specs.Mode.{is_redux, is_written, starts_as_zeros}
 use Rattle.sj_base.specs.declared.mode.Access.{Access}
 use Rattle.sj_base.specs.declared.mode.Mode.{Mode}
 use Rattle.sj_base.specs.declared.mode.Mode.TheVariants.{Commute, Redux, W}
-use Rattle.sj_base.specs.declared.tile.Dims.{Dims}
 use Rattle.sj_codelet.proofs.Table.{each_dims, new_arrays-dims}
 use Rattle.sj_codelet.specs.Formal.{is_output, outputs_among}
 use Rattle.sj_codelet.specs.Kernel.{arguments_fit, dims_fit, fits, formals_of, new_arrays}
@@ -21,7 +20,7 @@ use Rattle.sj_codelet.specs.declared.formal.Formal.TheVariants.{R as ReadFormal,
 use Rattle.sj_codelet.specs.declared.kernel.Kernel.{Kernel}
 use Rattle.sj_core.proofs.Words.{Array, Cell, Program, Task, Worker, cell_info, copy_of, dims_of, found, no_task, results, same_cell, task_of, worked_on, written_cells, zeros}
 use Rattle.sj_core.specs.Fold.{Contents, after_chosen, after_task, held_in}
-use Rattle.sj_core.specs.Proper.{Commuting, Contributing, FirstPaste, Fits, IsCopyOf, MayHaveModes, NamesCells, Own, Proper, mode_of, modes_writing_by, own_modes}
+use Rattle.sj_core.specs.Proper.{Commuting, Contributing, FirstPaste, Fits, MayHaveModes, Own, Proper, mode_of, modes_writing_by, own_modes}
 use Rattle.sj_core.proofs.Folding.{held-append, held_over, map-same}
 use Rattle.sj_core.proofs.Reading.{same_cell-is}
 use Rattle.sj_core.proofs.Tiles.{new_arrays-tiles, zeros-tile}

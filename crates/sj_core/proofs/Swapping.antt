@@ -1,10 +1,10 @@
 -- Tasks that may change places: they work on different cells, or each updates one and the same cell by codelets that may be exchanged.
 -- One that may change places with all later chosen tasks may be put last.
-use Rattle.std.proofs.Common.{Bool, List, None, Option, Some, [], ap, arith, cond, false, inl, inr, length, map, refl, subst, suc, sym, true, zero, ℕ, ℤ, ◌++◌, ◌<◌, ◌≤◌, ◌||◌, ◌∙◌, ◌∷◌, ◌≡◌, ◌≢◌, ◌⊎◌}
+use Rattle.std.proofs.Common.{Bool, List, None, Option, Some, [], ap, arith, cond, false, inl, inr, length, map, refl, subst, suc, sym, true, zero, ℕ, ℤ, ◌++◌, ◌<◌, ◌≤◌, ◌||◌, ◌∙◌, ◌∷◌, ◌≡◌, ◌≢◌}
 use Rattle.std.specs.Prelude.{All, FitsSigned, IsTrue, if◌then◌else◌}
 use Rattle.std.specs.Int.{w64}
 use Rattle.std.specs.List.{Contains, find, zip}
-use Rattle.std.proofs.lemmas.Bool.{cases_Bool, cases_eq, cases_lt, false_from_ne_true, false≢true}
+use Rattle.std.proofs.lemmas.Bool.{cases_Bool, cases_lt, false_from_ne_true}
 use Rattle.std.proofs.lemmas.List.{map-append}
 use Rattle.std.proofs.lemmas.List.Elements.{All-get_or}
 use Rattle.sj_base.specs.Mode.{is_redux, starts_as_zeros}
@@ -20,7 +20,7 @@ use Rattle.sj_core.proofs.CellLists.{same_cell-refl}
 use Rattle.sj_core.proofs.Completeness.{results-complete}
 use Rattle.sj_core.proofs.Folding.{AddsTask, after_chosen-same, after_task-other, after_task-same, held-append, held_over, map-same}
 use Rattle.sj_core.proofs.Reading.{same_cell-is}
-use Rattle.sj_core.proofs.Sized.{AreSized, after_chosen-sized, after_task-sized, fit, ins-fit, ins-tiles}
+use Rattle.sj_core.proofs.Sized.{AreSized, after_chosen-sized, fit, ins-fit, ins-tiles}
 use Rattle.sj_core.proofs.TaskCells.{written-among_cells}
 
 -- ---- one cell that a task updates

@@ -1,17 +1,16 @@
 -- What a codelet makes of tiles is tiles: each of its new arrays has its elements, and each element is an i64.
-use Rattle.std.proofs.Common.{Bool, List, [], ap, arith, cond, length, lit<, map, refl, subst, suc, sym, true, zero, ℕ, false, ℤ, pos, negsuc, get_or, inl, inr, ◌+◌, ◌/◌, ◌*◌, ◌%◌, ◌<◌, ◌∙◌, ◌∷◌, ◌≡◌, ◌≤◌, ◌&&◌, ◌+ℤ◌, ◌⊎◌, ◌||◌, ◌≤ℤ◌}
-use Rattle.std.specs.Prelude.{All, FitsSigned, IsTrue, nat_eq, nat_le, if◌then◌else◌}
-use Rattle.std.specs.Int.{int_max, int_min, int_wrap, w64}
+use Rattle.std.proofs.Common.{Bool, List, [], ap, arith, length, lit<, map, refl, subst, suc, sym, true, zero, ℕ, false, ℤ, pos, negsuc, get_or, inl, inr, ◌+◌, ◌/◌, ◌*◌, ◌%◌, ◌∙◌, ◌∷◌, ◌≡◌, ◌&&◌, ◌+ℤ◌, ◌⊎◌, ◌||◌, ◌≤ℤ◌}
+use Rattle.std.specs.Prelude.{All, FitsSigned, IsTrue, nat_eq, if◌then◌else◌}
+use Rattle.std.specs.Int.{int_max, int_min, w64}
 use Rattle.std.specs.List.{range_with_len}
-use Rattle.std.proofs.lemmas.Bool.{and_parts, cases_lt}
-use Rattle.std.proofs.lemmas.Bool.Decides.{nat_tests, Decides-eqb}
+use Rattle.std.proofs.lemmas.Bool.{cases_lt}
+use Rattle.std.proofs.lemmas.Bool.Decides.{nat_tests}
 use Rattle.std.proofs.lemmas.Int.{SFits-int_wrap, clamps, ints}
 use Rattle.std.proofs.lemmas.List.{get_or-map, get_or_past, length-map, length-replicate}
-use Rattle.std.proofs.lemmas.List.Elements.{All-cons, All-from_get_or, All-get_or, All-map, All-nil, All-replicate}
+use Rattle.std.proofs.lemmas.List.Elements.{All-cons, All-get_or, All-map, All-nil, All-replicate}
 use Rattle.std.proofs.lemmas.List.FromFn.{length-map-range_with_len}
 use Rattle.sj_base.specs.declared.tile.Dims.{Dims}
 use Rattle.sj_base.specs.Array.{Array, area, array, at, each, element, grid, zeros}
-use Rattle.sj_base.specs.Window.{in_rect}
 use Rattle.sj_codelet.specs.declared.kernel.Kernel.{Kernel}
 use Rattle.sj_codelet.specs.declared.kernel.Kernel.TheVariants.{Fill, Copy, Scale, Add, Axpy, Butterfly, Gemm, GemmThree, Transpose, Dot, Sum, Lowest, MinGemm, FwDiag, FwRow, FwCol, Load, LoadFill, Paste, Deliver, InitPlus, InitLeast}
 use Rattle.sj_codelet.specs.Equations.{add, after_turns, mingemm, subtract}

@@ -1,6 +1,5 @@
 -- A task with a COMMUTE or a REDUX operand updates one cell alone, by its last operand.
-use Rattle.std.proofs.Common.{Bool, List, [], ap, arith, cond, false, inl, inr, length, map, not, refl, subst, suc, sym, true, zero, ℕ, ◌++◌, ◌<◌, ◌||◌, ◌&&◌, ◌∙◌, ◌∷◌, ◌≡◌, ◌≢◌, ◌⊎◌}
-use Rattle.std.specs.Prelude.{All}
+use Rattle.std.proofs.Common.{Bool, List, [], ap, arith, cond, false, inl, inr, length, map, not, refl, subst, suc, sym, true, ◌++◌, ◌<◌, ◌||◌, ◌∙◌, ◌∷◌, ◌≡◌, ◌≢◌, ◌⊎◌}
 use Rattle.std.specs.List.{Contains, filter, list_all}
 use Rattle.std.proofs.lemmas.Bool.{false≢true, true≢false, not-true}
 use Rattle.std.proofs.lemmas.List.{get_or-map, length-map, map-append}
@@ -15,17 +14,16 @@ use Rattle.sj_base.specs.declared.mode.Reduction.TheVariants.{Plus, Least}
 use Rattle.sj_base.specs.declared.program.Codelet.{Codelet}
 use Rattle.sj_codelet.proofs.Table.{by_table}
 use Rattle.sj_codelet.specs.Formal.{is_output}
-use Rattle.sj_codelet.specs.Kernel.{commutes_of, contributes_of, formals_of, kernel_of}
+use Rattle.sj_codelet.specs.Kernel.{commutes_of, contributes_of, formals_of}
 use Rattle.sj_codelet.specs.declared.formal.Formal.{Formal}
 use Rattle.sj_codelet.specs.declared.formal.Formal.TheVariants.{R as ReadFormal, W as WriteFormal, RW as UpdateFormal, Scratch as ScratchFormal}
 use Rattle.sj_codelet.specs.declared.kernel.Kernel.{Kernel}
 use Rattle.sj_codelet.specs.declared.kernel.Kernel.TheVariants.{Add, Axpy, Dot, Gemm, GemmThree, Lowest, MinGemm, Scale, Sum}
-use Rattle.sj_deps.specs.Conflict.{HasDependencies, Uses}
-use Rattle.sj_deps.specs.declared.manner.Manner.{Manner}
-use Rattle.sj_deps.specs.declared.manner.Manner.TheVariants.{Commute, Contribute, Read, Write}
+use Rattle.sj_deps.specs.Conflict.{Uses}
+use Rattle.sj_deps.specs.declared.manner.Manner.TheVariants.{Read}
 use Rattle.sj_core.proofs.Words.{Cell, Program, Task, Worker, no_task, task_of, worked_on, written_cells}
-use Rattle.sj_core.specs.Proper.{Commuting, Contributing, FirstPaste, Fits, MayHaveModes, Own, Proper, access, mode_of, modes_writing_by, own_modes}
-use Rattle.sj_core.proofs.Dependencies.{Proper-dependencies, map-from, none_is, one_is}
+use Rattle.sj_core.specs.Proper.{Commuting, Contributing, FirstPaste, Fits, MayHaveModes, Own, Proper, mode_of, modes_writing_by, own_modes}
+use Rattle.sj_core.proofs.Dependencies.{Proper-dependencies, map-from, one_is}
 use Rattle.sj_core.proofs.Modes.{then, written_isn't_scratch}
 use Rattle.sj_core.proofs.Sharing.{manner_of, operand-uses, redux-has_copies}
 use Rattle.sj_core.proofs.Swapping.{Updates}

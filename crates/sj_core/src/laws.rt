@@ -7,7 +7,7 @@ ghost use Rattle.sj_base.specs.declared.program.Program.{Program};
 ghost use Rattle.sj_base.specs.declared.program.Machine.{Machine};
 ghost use Rattle.sj_core.specs.Bound.{HasAtMostThreePerTask, is_of_task};
 ghost use Rattle.sj_core.specs.Coherent.{Coherent, IsStateOf, NodesSuffice, OrderIsKept, PinsHold, TasksHaveCells, TransfersAreSound, WorkersAreSound, WritesAreCounted};
-ghost use Rattle.sj_core.specs.Laws.{CompleteHoldsFinal, CompleteTracesHoldFinal, DeliversGiven, DisksAreOfMachine, EachCellHasDisk, FindsEarlierTasks, IsKeptByClaims, IsKeptByDrops, IsKeptByEndedMoves, IsKeptByEnds, IsKeptByLawfulEnds, IsKeptByMovesIn, IsKeptByMovesOut, IsKeptByRuns, MovesHaveOneWorker, StepsLeaveOneState, TracesKeepCoherence, TracesLeaveOneState};
+ghost use Rattle.sj_core.specs.Laws.{CompleteHoldsFinal, CompleteTracesHoldFinal, DeliversGiven, DisksAreOfMachine, EachCellHasDisk, FindsContent, FindsEarlierTasks, IsKeptByClaims, IsKeptByDrops, IsKeptByEndedMoves, IsKeptByEnds, IsKeptByLawfulEnds, IsKeptByMovesIn, IsKeptByMovesOut, IsKeptByRuns, MovesHaveOneWorker, StepsLeaveOneState, TakesAnyWorker, TracesKeepCoherence, TracesLeaveOneState};
 ghost use Rattle.sj_core.specs.Legal.{IsFinished, IsLegal};
 ghost use Rattle.sj_core.specs.Machine.{opening};
 ghost use Rattle.sj_core.specs.Once.{EachRanOnce};
@@ -67,10 +67,13 @@ pub fn drops()
     ensures { IsKeptByDrops Coherent }
 {}
 
-/// What a task finds on its worker's node: what all tasks before it, in submission order, have left in its cells.
+/// What a task finds on its worker's node: what the tasks that are done leave in its cells; and in a cell that no phase holds open what all
+/// tasks before it leave, in submission order, whatever the workers of contributions and the order of commuting tasks.
 pub fn deliveries()
+    ensures finds_content { FindsContent }
     ensures finds_earlier_tasks { FindsEarlierTasks }
     ensures delivers_given { DeliversGiven }
+    ensures takes_any_worker { TakesAnyWorker }
 {}
 
 /// What the cells hold where all tasks are done: what the tasks leave one after another in submission order.
