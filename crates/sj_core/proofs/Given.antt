@@ -59,7 +59,7 @@ module _ (p : Program) (proper : Proper p) where
   pub read-settled : (t : Task) (c : Cell) → (task_of p t).accesses ≡ access R c ∷ [] → IsSettled p t.0 c
   read-settled t c alone = record {
     plain = λ d w copy. (let found = proper.phases.copies t.0 (access R c) d w reads copy in
-    of_phase found.0 (All-contains (IsPhase p) proper.phases.phases found.0 proper.phases.each found.1) found.3);
+        of_phase found.0 (All-contains (IsPhase p) proper.phases.phases found.0 proper.phases.each found.1) found.3);
     closed = λ f phase same is_open. by_kind f phase (phase.alone t.0 (access R c) is_open (Contains-filter (λ b. not (is_scratch b.mode)) (task_of p t).accesses (access R c) refl reads) (inl (sym same)));
   }
     where

@@ -371,9 +371,9 @@ module _ (has : Kernel → Bool) (p : Program) (proper : Proper p) (lawful : IsL
             (λ spared. h.alike d dq dq' dc)
             ∙ ap (λ (z : Contents). held_in p z d) (sym moved);
         more = elim (cases_Bool (has_cell (written_cells p (number n) v) c)) [
-              | inr spared ↦ after_task-other p v (number n) (one n) c spared ∙ h.more ∙ ap (combined f.by x) (sym (after_task-other p v (number n) (other n) c spared))
-              | inl writes ↦ (let by_combine = on-cell n after_t within v v_in (written-among_cells p (number n) v c writes) in merged-more n later before inside h by_combine.0 by_combine.1 by_combine.2 v v_in)
-            ]
+          | inr spared ↦ after_task-other p v (number n) (one n) c spared ∙ h.more ∙ ap (combined f.by x) (sym (after_task-other p v (number n) (other n) c spared))
+          | inl writes ↦ (let by_combine = on-cell n after_t within v v_in (written-among_cells p (number n) v c writes) in merged-more n later before inside h by_combine.0 by_combine.1 by_combine.2 v v_in)
+        ]
             ∙ ap (λ (z : Contents). combined f.by x (held_in p z c)) (sym moved);
         less = ap (λ (z : Contents). held_in p z q') moved
             ∙ after_task-other p v (number n) (other n) q' (resting n later within v v_in second)
