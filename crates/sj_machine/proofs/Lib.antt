@@ -31,6 +31,7 @@ pub mod Reading
 pub mod Resting
 pub mod Starting
 pub mod Stepping
+pub mod Sparing
 pub mod Storing
 pub mod Taking
 pub mod TaskEnding

@@ -10,5 +10,6 @@ pub mod Planning
 pub mod Releasing
 pub mod Running
 pub mod Sound
+pub mod Sparing
 pub mod Standing
 pub mod Tiles
