@@ -22,10 +22,12 @@ pub mod Lending
 pub mod Lists
 pub mod Making
 pub mod Marking
+pub mod Opening
 pub mod Operands
 pub mod PoolFilling
 pub mod Pooling
 pub mod Owning
+pub mod Prepared
 pub mod Putting
 pub mod Reading
 pub mod Resting

@@ -7,6 +7,7 @@ pub mod Filling
 pub mod Mark
 pub mod Plan
 pub mod Planning
+pub mod Preparing
 pub mod Releasing
 pub mod Running
 pub mod Sound

@@ -11,19 +11,21 @@ ghost use Rattle.sj_core.specs.Program.{task_of};
 ghost use Rattle.sj_machine.specs.Planning.{IsRefusal};
 ghost use Rattle.sj_machine.specs.Releasing.{EndsTask};
 ghost use Rattle.sj_machine.specs.Running.{AreResultsFor, AreSharesFor, read_among};
-ghost use Rattle.sj_machine.specs.Sound.{IsWrittenOut};
+ghost use Rattle.sj_machine.specs.Sound.{CanStart, IsWrittenOut};
+ghost use Rattle.sj_machine.specs.Preparing.{IsOpening};
 ghost use Rattle.sj_machine.specs.Standing.{CanHappen, IsMovingIn, IsMovingOut, IsShareOf, IsTileMoved, state};
 ghost use Rattle.sj_machine.specs.Tiles.{array_in};
 
 use crate::fault::RunFault;
 use crate::filling::put_ready;
 use crate::hand::Hand;
+use crate::preparing::prepare;
 use crate::refusal::ClaimRefusal;
 use crate::releasing::release;
-use crate::run_state::RunState;
+use crate::run_state::{RunRefusal, RunState};
 use sj_base::ids::{Cell, Place, Task, Worker};
 use sj_base::memory::OutOfMemory;
-use sj_base::program::Program;
+use sj_base::program::{Machine, Program};
 use sj_base::tile::Tile;
 use sj_base::trace::Trace;
 use sj_codelet::frame::Frame;
@@ -108,6 +110,36 @@ fn first_of(kept: Option<RunFault>, fault: RunFault) -> Option<RunFault>
 }
 
 impl<D: Disk> Board<D> {
+    /// A board on which nothing has happened, with the tasks that are ready in the pool. The program and the disks come back
+    /// where memory is wanting. Linear in the tasks and their accesses, and in cells times nodes; for each ready task
+    /// logarithmic in all.
+    pub fn make(
+        alloc: Global,
+        program: Arc<Program>,
+        machine: Machine,
+        disks: DiskSet<D>,
+    ) -> Result<Board<D>, RunRefusal<D>>
+        requires { CanStart program.value machine disks }
+        ensures ok { IfOk result (IsOpening program.value machine disks) }
+        ensures err { IfErr result (λ r. (r.program.value ≡ program.value) × (r.disks ≡ disks)) }
+    {
+        let Ok(parts) = prepare(alloc, &program, machine.policy) else {
+            return Err(RunRefusal { program, disks });
+        };
+        let run = match RunState::make(alloc, program, machine, disks) {
+            Ok(run) => run,
+            Err(refusal) => return Err(refusal),
+        };
+        Ok(Board {
+            run,
+            deps: parts.deps,
+            footprints: parts.footprints,
+            hands: parts.hands,
+            pool: parts.pool,
+            fault: None,
+        })
+    }
+
     /// The program. Constant time.
     pub fn program(&self) -> &Program
         ensures { result.now ≡ self.now.run.program }

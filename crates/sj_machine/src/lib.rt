@@ -15,6 +15,7 @@ pub mod leaving;
 pub mod mark;
 pub mod needs;
 pub mod plan;
+mod preparing;
 pub mod refusal;
 mod releasing;
 pub mod run_state;

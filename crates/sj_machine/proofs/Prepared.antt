@@ -1,0 +1,113 @@
+-- What a board has beside its run when nothing has happened.
+use Rattle.std.proofs.Common.{◌≡◌, ◌≢◌, ℕ, ◌+◌, ◌<◌, ◌≤◌, ◌^◌, ◌⊎◌, ◌↔◌, Bool, true, false, not, List, [], ◌∷◌, ◌++◌, All, inl, inr, refl, sym, subst, ap, ◌∙◌, arith, length, filter, map, get_or, slice_index_or}
+use Rattle.std.specs.Prelude.{AllPairs, sum}
+use Rattle.std.specs.List.{Contains}
+use Rattle.std.specs.List.Sorted.{IsStrictlyIncreasing}
+use Rattle.std.proofs.lemmas.Bool.{cases_eq, cases_lt}
+use Rattle.std.proofs.lemmas.List.Elements.{All-contains_itself, All-get_or, All-weaker, Contains-append_left, Contains-push, Contains-push_cases}
+use Rattle.std.proofs.lemmas.List.{get_or-map, length-map, map-append}
+use Rattle.std.proofs.lemmas.List.Kept.{AllPairs-from_increasing}
+use Rattle.std.proofs.lemmas.List.Quantifiers.{all_pairs_push}
+use Rattle.std.proofs.lemmas.List.Sums.{sum-map}
+use Rattle.sj_base.specs.Mode.{is_data, is_scratch}
+use Rattle.sj_base.specs.declared.ids.Cell.{Cell}
+use Rattle.sj_base.specs.declared.ids.Task.{Task}
+use Rattle.sj_base.specs.declared.program.CellInfo.{CellInfo}
+use Rattle.sj_base.specs.declared.program.Lowered.{Lowered}
+use Rattle.sj_base.specs.declared.program.Program.{Program}
+use Rattle.sj_base.specs.Array.{area}
+use Rattle.sj_core.specs.Needs.{footprint, scratch_bytes, tile_bytes}
+use Rattle.sj_core.specs.Program.{distinct, no_cell, no_task, task_of}
+use Rattle.sj_core.specs.Proper.{Proper}
+use Rattle.sj_deps.specs.Conflict.{Ready}
+use Rattle.sj_node.specs.Entry.{Entry, has_entry}
+use Rattle.sj_node.specs.Store.{Store}
+use Rattle.sj_machine.specs.Plan.{IsSmallCell}
+use Rattle.sj_machine.specs.Planning.{HasSmallTask, lacking, named}
+use Rattle.sj_machine.proofs.ClaimPins.{few-operands}
+use Rattle.sj_machine.specs.Preparing.{AreReadyBelow, HasSmallTasks}
+
+-- a node without entries lacks each cell
+pub lacks-all : (cs : List Cell) → filter (λ c. not (has_entry [] c)) cs ≡ cs
+lacks-all [] = refl
+lacks-all (c ∷ cs) = ap (λ (ds : List Cell). c ∷ ds) (lacks-all cs)
+
+pub lacking-all : (p : Program) (s : Store) (t : Task) → s.entries ≡ [] → lacking p s t ≡ distinct (named p t)
+lacking-all p s t none = ap (λ (es : List Entry). filter (λ c. not (has_entry es c)) (distinct (named p t))) none ∙ lacks-all (distinct (named p t))
+
+-- what a task brings to it is all that it needs
+pub brings-all : (p : Program) (s : Store) (t : Task) → s.entries ≡ [] → sum (map (tile_bytes p) (lacking p s t)) + scratch_bytes p (task_of p t) ≡ footprint p t
+brings-all p s t none = ap (λ (cs : List Cell). sum (map (tile_bytes p) cs) + scratch_bytes p (task_of p t)) (lacking-all p s t none) ∙ ap (λ (n : ℕ). n + scratch_bytes p (task_of p t)) (sum-map (tile_bytes p) (distinct (named p t)))
+
+-- ---- the tasks that are ready
+
+pub ready-none : (p : Program) (done : List ℕ) → AreReadyBelow p done 0 []
+ready-none p done = record {
+  each = λ u. (λ (i, l, e). absurd (omega (arith, l)), λ (below, r). absurd (omega (arith, below)));
+  by_number = λ k within. absurd (omega (arith, within));
+}
+
+module _ (p : Program) (done : List ℕ) (n : ℕ) (ts : List Task) (so_far : AreReadyBelow p done n ts) where
+  abbrev next : Task
+  next = record { 0 = n }
+
+  numbered : (u : Task) → u.0 ≡ n → next ≡ u
+  numbered u e = ap (λ (k : ℕ). let x : Task = record { 0 = k } in x) (sym e)
+
+  below : (k d : ℕ) → k < length (map (λ (t : Task). t.0) ts) → get_or (map (λ (t : Task). t.0) ts) k d < n
+  below k d within =
+      let inside : k < length ts = omega (arith, within, length-map ts (λ (t : Task). t.0)) in
+      let at : get_or (map (λ (t : Task). t.0) ts) k d ≡ (get_or ts k next).0 = get_or-map (λ (t : Task). t.0) ts k next d inside in
+      subst (λ (x : ℕ). x < n) (sym at) ((so_far.each (get_or ts k next)).0 (All-get_or (Contains ts) ts k next inside (All-contains_itself ts))).0
+
+  rising : AllPairs (λ x y. x < y) (map (λ (t : Task). t.0) (ts ++ next ∷ []))
+  rising = subst (AllPairs (λ x y. x < y)) (sym (map-append (λ (t : Task). t.0) ts (next ∷ []))) (all_pairs_push (λ x y. x < y) (map (λ (t : Task). t.0) ts) n (AllPairs-from_increasing (map (λ (t : Task). t.0) ts) so_far.by_number) below)
+
+  -- one more that is ready
+  pub ready-more : Ready p done n → AreReadyBelow p done (n + 1) (ts ++ next ∷ [])
+  ready-more ready = record {
+    each = λ u. (there u, back u);
+    by_number = λ k within. rising k (k + 1) 0 (omega arith) within;
+  }
+    where
+      there : (u : Task) → Contains (ts ++ next ∷ []) u → (u.0 < n + 1) × Ready p done u.0
+      there u c = elim (Contains-push_cases ts next u c) as (λ _. (u.0 < n + 1) × Ready p done u.0) [
+        | inl had ↦ let h = (so_far.each u).0 had in (omega (arith, h.0), h.1)
+        | inr e ↦ subst (λ (x : Task). (x.0 < n + 1) × Ready p done x.0) e (omega arith, ready)
+      ]
+
+      back : (u : Task) → (u.0 < n + 1) × Ready p done u.0 → Contains (ts ++ next ∷ []) u
+      back u h = elim (cases_eq u.0 n) as (λ _. Contains (ts ++ next ∷ []) u) [
+        | inl e ↦ subst (Contains (ts ++ next ∷ [])) (numbered u e) (Contains-push ts next)
+        | inr d ↦ Contains-append_left ts (next ∷ []) u ((so_far.each u).1 (omega (arith, h.0, d), h.1))
+      ]
+
+  -- or one that isn't
+  pub ready-past : ¬ Ready p done n → AreReadyBelow p done (n + 1) ts
+  ready-past unready = record {
+    each = λ u. (λ c. let h = (so_far.each u).0 c in (omega (arith, h.0), h.1), back u);
+    by_number = so_far.by_number;
+  }
+    where
+      back : (u : Task) → (u.0 < n + 1) × Ready p done u.0 → Contains ts u
+      back u h = elim (cases_eq u.0 n) as (λ _. Contains ts u) [
+        | inl e ↦ absurd (unready (subst (Ready p done) e h.1))
+        | inr d ↦ (so_far.each u).1 (omega (arith, h.0, d), h.1)
+      ]
+
+-- all tasks have been looked at
+pub ready-all : (p : Program) (done : List ℕ) (n : ℕ) (ts : List Task) → length p.tasks ≤ n → AreReadyBelow p done n ts → (u : Task) → Contains ts u ↔ Ready p done u.0
+ready-all p done n ts all looked u = (λ c. ((looked.each u).0 c).1, λ r. (looked.each u).1 (omega (arith, r.task, all), r))
+
+-- ---- small tasks
+
+pub proper-small : (p : Program) → Proper p → HasSmallTasks p
+proper-small p proper = record {
+  few = proper.limits.tasks;
+  each = λ t known. record {
+    task = known;
+    cells = All-weaker (λ a. a.cell.0 < length p.cells) (λ a. IsSmallCell p a.cell) (λ a inside. record { cell = inside; small = All-get_or (λ (c : CellInfo). area c.dims ≤ 2 ^ 24) p.cells a.cell.0 no_cell inside proper.limits.elements }) (task_of p t).accesses
+        (All-get_or (λ (l : Lowered). All (λ a. a.cell.0 < length p.cells) l.accesses) p.tasks t.0 no_task known proper.cells.named);
+    few = few-operands p proper t;
+  };
+}

@@ -1,0 +1,57 @@
+-- What a program needs so that a board can be made for it.
+use Rattle.std.specs.Prelude.{◌≡◌, ◌≤◌, ◌<◌, ◌^◌, ◌↔◌, ℕ, Option, None, List, [], length, map, replicate}
+use Rattle.std.specs.List.{Contains}
+use Rattle.std.specs.List.Sorted.{IsStrictlyIncreasing}
+use Rattle.sj_base.specs.declared.ids.Task.{Task}
+use Rattle.sj_base.specs.declared.mode.Policy.{Policy}
+use Rattle.sj_base.specs.declared.program.Program.{Program}
+use Rattle.sj_base.specs.declared.program.Machine.{Machine}
+use Rattle.sj_deps.specs.Progress.{Progress as Dependencies, progress}
+use Rattle.sj_disk.specs.Directory.{DiskState}
+use Rattle.sj_pool.specs.Pool.{Pooled, empty}
+use Rattle.sj_machine.specs.Board.{BoardState, board_state, empty_hand}
+use Rattle.sj_machine.specs.BoardSound.{AreFootprints}
+use Rattle.sj_machine.specs.Filling.{with_each}
+use Rattle.sj_machine.specs.Standing.{starting}
+use Rattle.sj_machine.specs.declared.hand.Hand.{Hand}
+use Rattle.sj_deps.specs.Conflict.{Ready}
+use Rattle.sj_machine.specs.Planning.{HasSmallTask}
+
+-- its tasks are not too many, and each has few operands, of cells that aren't too large
+pub record HasSmallTasks (p : Program) : Type 0 where
+  pub few : length p.tasks ≤ 2 ^ 22
+  pub each : (t : Task) → t.0 < length p.tasks → HasSmallTask p t
+
+-- these tasks are ready, each among the first so many, and no other of those
+pub record AreReadyBelow (p : Program) (done : List ℕ) (n : ℕ) (ts : List Task) : Type 0 where
+  pub each : (u : Task) → Contains ts u ↔ ((u.0 < n) × Ready p done u.0)
+  pub by_number : IsStrictlyIncreasing (map (λ u. u.0) ts)
+
+-- ---- a board when nothing has happened
+
+-- these are the tasks that are ready when none is done, by number
+pub record AreFirst (p : Program) (ready : List Task) : Type 0 where
+  pub each : (u : Task) → Contains ready u ↔ Ready p [] u.0
+  pub by_number : IsStrictlyIncreasing (map (λ u. u.0) ready)
+
+-- the pool of a program whose tasks are these: each is put by the worker of its number, modulo the workers
+abbrev pub first_pool : Program → Policy → List Task → Pooled
+first_pool p policy ready = with_each p None (empty policy p.workers (length p.tasks)) ready
+
+abbrev pub first_hands : Program → List Hand
+first_hands p = replicate p.workers empty_hand
+
+-- the parts beside the run
+pub record IsPrepared (p : Program) (policy : Policy) (deps : Dependencies) (footprints : List ℕ) (hands : List Hand) (pool : Pooled) : Type 0 where
+  pub deps_are : deps ≡ progress p []
+  pub bytes : AreFootprints p footprints
+  pub hands_are : hands ≡ first_hands p
+  pub ready : List Task
+  pub first : AreFirst p ready
+  pub pool_is : pool ≡ first_pool p policy ready
+
+-- a board on which nothing has happened: its ready tasks are in the pool
+pub record IsOpening {D : Type 0} (p : Program) (m : Machine) (disks : DiskState D) (b : BoardState D) : Type 0 where
+  pub ready : List Task
+  pub first : AreFirst p ready
+  pub opens : b ≡ board_state (starting p m disks) (first_hands p) (first_pool p m.policy ready) None

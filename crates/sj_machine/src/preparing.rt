@@ -1,0 +1,109 @@
+//! What a board has beside its run when nothing has happened.
+
+ghost use Rattle.std.specs.Prelude.{◌≡◌, ◌↔◌, ◌+◌, ◌<◌, [], Contains, IfOk, OnOk, length, map};
+ghost use Rattle.std.specs.List.Sorted.{IsStrictlyIncreasing};
+ghost use Rattle.sj_base.specs.declared.ids.Task.{Task};
+ghost use Rattle.sj_core.specs.Needs.{footprint};
+ghost use Rattle.sj_deps.specs.Conflict.{Ready};
+ghost use Rattle.sj_machine.specs.BoardSound.{AreFootprints};
+ghost use Rattle.sj_machine.specs.Planning.{HasSmallTask};
+ghost use Rattle.sj_core.specs.Proper.{Proper};
+ghost use Rattle.sj_machine.specs.Preparing.{AreReadyBelow, HasSmallTasks, IsPrepared};
+
+use crate::filling::put_each;
+use crate::hand::{EMPTY, Hand};
+use crate::needs::{accesses_of, bytes_of, data_cells, lacking_cells, scratch_bytes, total};
+use sj_base::ids::Task;
+use sj_base::memory::OutOfMemory;
+use sj_base::mode::Policy;
+use sj_base::program::Program;
+use sj_deps::deps::Deps;
+use sj_node::store::NodeStore;
+use sj_pool::pool::Pool;
+use std::alloc::Global;
+
+/// The bytes that a task needs on its node: what it brings to one without entries. Quadratic in the operands, which are few.
+fn footprint_of(
+    alloc: Global,
+    program: &Program,
+    nothing: &NodeStore,
+    t: Task,
+) -> Result<u64, OutOfMemory>
+    requires small { HasSmallTask program.now t }
+    requires nothing { nothing.now.entries ≡ [] }
+    ensures { IfOk result (λ n. n ≡ footprint program.now t) }
+{
+    let accesses = accesses_of(program, t);
+    let cells = data_cells(alloc, accesses)?;
+    let missing = lacking_cells(alloc, nothing, &cells)?;
+    let bytes = bytes_of(alloc, program, &missing)?;
+    Ok(total(&bytes) + scratch_bytes(program, accesses))
+}
+
+/// The bytes that each task needs on its node. Linear in the tasks.
+pub fn footprints_of(alloc: Global, program: &Program) -> Result<Vec<u64>, OutOfMemory>
+    requires { HasSmallTasks program.now }
+    ensures { IfOk result (λ v. AreFootprints program.now v.items) }
+{
+    let nothing = NodeStore::make(alloc, 0, 0)?;
+    let mut bytes = Vec::new(alloc);
+    for i in 0..program.tasks.len() {
+        bytes.push(footprint_of(alloc, program, &nothing, Task(i as u32))?)?;
+    }
+    Ok(bytes)
+}
+
+/// Appends a task, if it is ready, to those before it that are. Constant time, but for moving the list as it grows.
+fn add_if_ready(deps: &Deps, ready: &mut Vec<Task>, t: Task) -> Result<(), OutOfMemory>
+    requires { AreReadyBelow deps.now.program deps.now.done t.0 ready.old.items }
+    ensures { OnOk result (AreReadyBelow deps.now.program deps.now.done (t.0 + 1) ready.new.items) }
+{
+    if deps.is_ready(t) {
+        ready.push(t)?;
+    }
+    Ok(())
+}
+
+/// The tasks that are ready, by number. Linear in all tasks.
+pub fn ready_tasks(alloc: Global, deps: &Deps, count: u32) -> Result<Vec<Task>, OutOfMemory>
+    requires { count ≡ length deps.now.program.tasks }
+    ensures each { IfOk result (λ v. (u : Task) → Contains v.items u ↔ Ready deps.now.program deps.now.done u.0) }
+    ensures by_number { IfOk result (λ v. IsStrictlyIncreasing (map (λ u. u.0) v.items)) }
+{
+    let mut ready = Vec::new(alloc);
+    for i in 0..count {
+        add_if_ready(deps, &mut ready, Task(i))?;
+    }
+    Ok(ready)
+}
+
+/// What a board has beside its run.
+#[derive(Drop)]
+pub struct Parts {
+    pub deps: Deps,
+    pub footprints: Vec<u64>,
+    pub hands: Vec<Hand>,
+    pub pool: Pool,
+}
+
+/// What a board has beside its run when nothing has happened: its ready tasks are in the pool. Linear in the tasks and
+/// their accesses, and for each ready task logarithmic in all.
+pub fn prepare(alloc: Global, program: &Program, policy: Policy) -> Result<Parts, OutOfMemory>
+    requires proper { Proper program.now }
+    requires workers { 0 < program.now.workers }
+    ensures { IfOk result (λ r. IsPrepared program.now policy r.deps r.footprints.items r.hands.items r.pool) }
+{
+    let count = program.tasks.len() as u32;
+    let deps = Deps::of(alloc, program)?;
+    let footprints = footprints_of(alloc, program)?;
+    let hands = vec![in alloc; EMPTY; program.workers as usize]?;
+    let mut pool = Pool::make(alloc, policy, program.workers, count)?;
+    let ready = ready_tasks(alloc, &deps, count)?;
+    put_each(&mut pool, program, &footprints, &ready, None);
+    Ok(Parts {
+        deps,
+        footprints,
+        hands,
+        pool,
+    })
+}
