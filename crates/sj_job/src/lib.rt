@@ -17,4 +17,5 @@ pub mod submit;
 mod tests;
 #[cfg(test)]
 mod tests_of_lines;
+pub mod track;
 pub mod word;
