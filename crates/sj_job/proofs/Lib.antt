@@ -3,6 +3,7 @@ pub mod Dividing
 pub mod Digits
 pub mod Each
 pub mod Last
+pub mod Children
 pub mod Places
 pub mod Seen
 pub mod Giving
