@@ -1,5 +1,5 @@
 -- The children of a root and its elements: what a change of the root does to its track.
-use Rattle.std.proofs.Common.{◌≡◌, ℕ, zero, suc, ◌+◌, ◌-◌, ◌*◌, ◌/◌, ◌%◌, ◌<◌, ◌≤◌, Bool, true, false, not, ◌&&◌, ◌||◌, cond, Option, Some, None, is_some, List, length, get_or, map, replicate, refl, sym, ap, subst, ◌∙◌, arith, ℤ, get_or-set_same, get_or-set_other}
+use Rattle.std.proofs.Common.{◌≡◌, ℕ, zero, suc, ◌+◌, ◌-◌, ◌*◌, ◌/◌, ◌%◌, ◌<◌, ◌≤◌, Bool, true, false, not, ◌&&◌, ◌||◌, cond, Option, Some, None, is_some, unwrap_or, nat_eq, nat_lt, List, length, get_or, map, replicate, refl, sym, ap, subst, ◌∙◌, arith, ℤ, get_or-set_same, get_or-set_other}
 use Rattle.std.specs.Prelude.{is_none, pos, ◌+ℤ◌, ◌*ℤ◌}
 use Rattle.std.proofs.Math.ListN.{set}
 use Rattle.std.specs.List.{list_all, range_with_len}
@@ -9,6 +9,7 @@ use Rattle.std.proofs.lemmas.List.Sums.{AllPass-from_list_all, list_all-from_All
 use Rattle.std.proofs.lemmas.List.Folds.{list_all_at}
 use Rattle.std.proofs.lemmas.Nat.{div_below, mod_below, div-add-mod', div-mul-add, mod-mul-add, mul-add-lt, mul-le}
 use Rattle.std.proofs.lemmas.Bool.{ltb-true, lt-ltb, and_parts}
+use Rattle.std.proofs.lemmas.Bool.Decides.{nat_tests}
 use Rattle.sj_base.specs.declared.tile.Dims.{Dims}
 use Rattle.sj_base.specs.Array.{Array, area, element}
 use Rattle.sj_base.specs.Window.{item, table}
@@ -26,7 +27,7 @@ use Rattle.sj_job.specs.Statement.{Register}
 use Rattle.sj_job.specs.State.{Root, is_valued, is_blank, is_child, child_rect, child_elements, is_valued_child}
 use Rattle.sj_job.specs.Meaning.{first_elements, no_values, registered_root, with_parts, with_elements, with_child}
 use Rattle.sj_job.specs.Track.{Track, Tracks, all_valued, none_valued, children_count, number, is_set, even, written}
-use Rattle.sj_job.specs.Judge.{Known, known_of}
+use Rattle.sj_job.specs.Judge.{Known, known_of, is_child_said}
 use Rattle.sj_job.specs.Names.{gives_values, known_with}
 use Rattle.sj_job.specs.Sound.{InitFits}
 
@@ -80,6 +81,26 @@ placed p k h = let some = some_factor p.r p.c k h in (div_below k p.c p.r some h
 pub place-from_test : (p : Parts) (place : ℕ × ℕ) → is_child p place ≡ true → IsPlace p place
 place-from_test p place e =
     let h = and_parts _ _ e in (ltb-true place.0 p.r h.0, ltb-true place.1 p.c h.1)
+
+-- ---- what an index says
+
+one_is_below : (n : ℕ) → nat_eq n 1 ≡ true → nat_lt 0 n ≡ true
+one_is_below n e = grind (arith, nat_tests)
+
+both_true : (b c : Bool) → (b && c) ≡ true → (b ≡ true) × (c ≡ true)
+both_true true c e = (refl, e)
+both_true false c e = absurd (cc)
+
+true_both : (b c : Bool) → b ≡ true → c ≡ true → (b && c) ≡ true
+true_both true c e f = f
+true_both false c e f = absurd (cc)
+
+-- a name alone is the first child, an index its own
+pub said-child : (p : Parts) (index : Option (ℕ × ℕ)) → is_child_said p index ≡ true → is_child p (unwrap_or index (0, 0)) ≡ true
+said-child p None e =
+    let h = both_true (nat_eq p.r 1) (nat_eq p.c 1) e in
+    true_both (nat_lt 0 p.r) (nat_lt 0 p.c) (one_is_below p.r h.0) (one_is_below p.c h.1)
+said-child p (Some index) e = e
 
 -- ---- elements
 
@@ -245,16 +266,16 @@ item-written place a r row col in_rows in_cols =
     item-table None r.dims (λ i j. cond (holds rect i j) (Some (element a (i - rect.row) (j - rect.col))) (item None r.dims.cols r.elements i j)) row col in_rows in_cols
 
 written_by : (t : Track) (r : Root) (place : ℕ × ℕ) (a : Array) (other : ℕ × ℕ) (row col : ℕ) (b : Bool) → Tracks t r → IsPlace r.parts place → IsPlace r.parts other → Holds (child_rect r other) row col → holds (child_rect r place) row col ≡ b → is_some (cond b (Some (element a (row - (child_rect r place).row) (col - (child_rect r place).col))) (item None r.dims.cols r.elements row col)) ≡ is_set (written t place) other
-written_by t r place a other row col true h at there holds e =
-    let same : place ≡ other = one_holder r.dims r.parts place other row col (Holds-from_true (child_rect r place) row col e) holds in
+written_by t r place a other row col true h at there lies e =
+    let same : place ≡ other = one_holder r.dims r.parts place other row col (Holds-from_true (child_rect r place) row col e) lies in
     let below : number t.parts place < length t.valued = let lt = number-below t.parts place (subst (λ (x : Parts). IsPlace x place) (sym h.parts) at) in omega (arith, h.counted, ap children_count h.parts) in
     sym (get_or-set_same t.valued (number t.parts place) true false below) ∙ ap (λ x. is_set (written t place) x) same
-written_by t r place a other row col false h at there holds e =
+written_by t r place a other row col false h at there lies e =
     let apart : number t.parts other ≡ number t.parts place → ⊥ = λ k.
     let same = number-alone t.parts other place (subst (λ (x : Parts). IsPlace x other) (sym h.parts) there) (subst (λ (x : Parts). IsPlace x place) (sym h.parts) at) k in
-    let yes : holds (child_rect r place) row col ≡ true = holds-true (child_rect r place) row col (subst (λ x. Holds (child_rect r x) row col) same holds) in
+    let yes : holds (child_rect r place) row col ≡ true = holds-true (child_rect r place) row col (subst (λ x. Holds (child_rect r x) row col) same lies) in
     contrary (holds (child_rect r place) row col) yes e in
-    h.valued other row col there holds ∙ sym (get_or-set_other t.valued (number t.parts place) (number t.parts other) true false apart)
+    h.valued other row col there lies ∙ sym (get_or-set_other t.valued (number t.parts place) (number t.parts other) true false apart)
   where
     contrary : (b : Bool) → b ≡ true → b ≡ false → ⊥
     contrary b e f = absurd (cc)
@@ -265,8 +286,8 @@ tracks-written place a t r h at = record {
   fits = h.fits;
   whole = length-table r.dims (λ i j. cond (holds (child_rect r place) i j) (Some (element a (i - (child_rect r place).row) (j - (child_rect r place).col))) (item None r.dims.cols r.elements i j));
   counted = length-set t.valued (number t.parts place) true ∙ h.counted;
-  valued = λ other row col there holds.
-      let inside = held-inside r.dims r.parts other row col there holds in
+  valued = λ other row col there lies.
+      let inside = held-inside r.dims r.parts other row col there lies in
       ap is_some (item-written place a r row col inside.0 inside.1)
-      ∙ written_by t r place a other row col (holds (child_rect r place) row col) h at there holds refl;
+      ∙ written_by t r place a other row col (holds (child_rect r place) row col) h at there lies refl;
 }

@@ -4,6 +4,7 @@ pub mod Digits
 pub mod Each
 pub mod Last
 pub mod Children
+mod Marks
 pub mod Places
 pub mod Seen
 pub mod Giving

@@ -1,8 +1,8 @@
 -- The reader's names go on agreeing with the state, statement by statement.
 use Rattle.std.specs.FinMap as map
-use Rattle.std.proofs.Common.{◌≡◌, ℕ, zero, suc, ◌+◌, ◌≤◌, Bool, true, false, List, [], ◌∷◌, length, drop, refl, ap, ◌∙◌, sym, subst, Option, Some, None, option_map, cond, ◌||◌, arith, bytes_eq, get_or, length-append, ◌++◌, ◌<◌, All, get_or-set_same, get_or-set_other, map as each_of, filter}
+use Rattle.std.proofs.Common.{◌≡◌, ℕ, zero, suc, ◌+◌, ◌≤◌, Bool, true, false, List, [], ◌∷◌, length, drop, refl, ap, ◌∙◌, sym, subst, inl, inr, Option, Some, None, option_map, cond, ◌||◌, arith, bytes_eq, get_or, length-append, ◌++◌, ◌<◌, All, get_or-set_same, get_or-set_other, map as each_of, filter}
 use Rattle.std.proofs.Math.ListN.{set}
-use Rattle.std.proofs.lemmas.List.{length-set}
+use Rattle.std.proofs.lemmas.List.{length-set, get_or_read}
 use Rattle.std.proofs.lemmas.Bool.{cases_eq}
 use Rattle.std.specs.List.{list_any, AllByRecursion}
 use Rattle.std.specs.Ordering.{nat_cmp, eq_by_cmp}
@@ -29,7 +29,7 @@ use Rattle.sj_job.specs.Track.{Track, Tracks, all_valued, none_valued, even, wri
 use Rattle.sj_job.specs.View.{operand_seen, registration}
 use Rattle.sj_job.specs.Sees.{IsTracked, StandsFor, IsFound, Sees, Shows}
 use Rattle.sj_job.proofs.Children.{all_valued-same, none_valued-same, tracks-known, tracks-registered, tracks-planned, tracks-invalidated, tracks-written}
-use Rattle.sj_job.proofs.Places.{a_found, entry, found_with, found-set, found-pushed}
+use Rattle.sj_job.proofs.Places.{a_found, entry, found_with, found-set, found-pushed, is-at}
 
 -- what is found of each name is so of its root
 abbrev pub AllFound : Table → List Standing → State → Type 0
@@ -375,3 +375,27 @@ sees_start new s e d =
 -- a standing more
 pub written_more : (os : List Access) (i : ℕ) (o : Access) (now new : List Standing) → drop i os ≡ o ∷ drop (i + 1) os → new ≡ after_write o now → after_writes (drop (i + 1) os) new ≡ after_writes (drop i os) now
 written_more os i o now new e h = ap (after_writes (drop (i + 1) os)) h ∙ ap (λ l. after_writes l now) (sym e)
+
+-- ---- the list of standings
+
+-- the standing of a root that was read
+pub at-standing : (sts : List Standing) (k : ℕ) (st : Standing) → k < length sts → st ≡ get_or sts k st → st ≡ get_or sts k Ended
+at-standing sts k st lt e = get_or_read sts k st lt e Ended
+
+pub below-length : (names : Names) (r : RootNumber) → IsCounted names → IsRoot names.roots r → r.0 < length names.standings.items
+below-length names r counted root = omega (arith, names.standings.ok, counted, (is-at names.roots (name_of names.roots r) r root).below)
+
+pub fits-in : (names : Names) (o : Access) → IsCounted names → IsRoot names.roots o.root → IsPlaceIn (plan_in (standing_of names o.root)) o.place → FitsIn names.roots names.standings.items o
+fits-in names o counted root place = record { root = root; below = below-length names o.root counted root; place = place }
+
+pub counted-once : (old new : Names) (o : Access) → IsCounted old → new.roots ≡ old.roots → new.standings.items ≡ after_write o old.standings.items → IsCounted new
+counted-once old new o h roots standings =
+    omega (arith, h, old.standings.ok, new.standings.ok, ap length standings, length-written o old.standings.items, ap (λ (T : Table). length T.names) roots)
+
+length-all : (os : List Access) (sts : List Standing) → length (after_writes os sts) ≡ length sts
+length-all [] sts = refl
+length-all (o ∷ os) sts = length-all os (after_write o sts) ∙ length-written o sts
+
+pub counted-written : (old new : Names) (os : List Access) → IsCounted old → new.roots ≡ old.roots → new.standings.items ≡ after_writes os old.standings.items → IsCounted new
+counted-written old new os h roots standings =
+    omega (arith, h, old.standings.ok, new.standings.ok, ap length standings, length-all os old.standings.items, ap (λ (T : Table). length T.names) roots)
