@@ -3,6 +3,7 @@ use Rattle.std.proofs.Common.{◌≡◌, ℕ, zero, suc, ◌+◌, ◌<◌, Bool,
 use Rattle.std.proofs.Math.ListN.{set}
 use Rattle.std.specs.List.{list_all, count_by}
 use Rattle.std.proofs.lemmas.List.{get_or-replicate, set-get_or}
+use Rattle.std.proofs.lemmas.List.Sums.{sum_by-cons}
 use Rattle.sj_plan.specs.declared.parts.Parts.{Parts}
 use Rattle.sj_plan.specs.Parts.{IsPlace}
 use Rattle.sj_job.specs.declared.track.Marks.{Marks}
@@ -32,7 +33,7 @@ one_valued : (xs : List Bool) → count_by not (true ∷ xs) ≡ count_by not xs
 one_valued xs = refl
 
 one_blank : (xs : List Bool) → count_by not (false ∷ xs) ≡ count_by not xs + 1
-one_blank xs = let e : 1 + count_by not xs ≡ count_by not xs + 1 = omega arith in e
+one_blank xs = let e : count_by not (false ∷ xs) ≡ 1 + count_by not xs = sum_by-cons (λ b. cond (not b) 1 0) false xs in omega (arith, e)
 
 some_blank : (xs : List Bool) → 0 < count_by not xs → list_all (λ b. b) xs ≡ false
 some_blank [] h = absurd (omega (arith, h))

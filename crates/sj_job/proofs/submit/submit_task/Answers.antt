@@ -5,9 +5,6 @@ use Rattle.sj_job.specs.Sentence.{is_numbered_priority, are_counts, is_built_mod
 use Rattle.sj_job.proofs.Submitting.{runs, all_numbered}
 use Rattle.sj_job.proofs.submit.submit_task.Goals as goal
 
-pub judge_task-requires-clause-children : goal.judge_task-requires-clause-children
-judge_task-requires-clause-children g c = ap (list_all (λ o. are_counts o.child)) (sym c.items-2.ensures) ∙ sym c.have_counted_children.ensures ∙ c.if-not-have_counted_children.false
-
 pub returns-clause-ok : goal.returns-clause-ok
 returns-clause-ok g c =
     let t = c.args.task.now in

@@ -1,4 +1,5 @@
 use Rattle.std.proofs.Common.{◌≡◌, ◌+◌, ◌∷◌, ◌<◌, ◌∙◌, ap, sym, subst, length, get_or, drop, refl, ℕ, List}
+use Rattle.std.proofs.lemmas.List.{get_or_default}
 use Rattle.sj_base.specs.declared.mode.Mode.TheVariants.{R}
 use Rattle.sj_job.specs.declared.job.Operand.{Operand as Access}
 use Rattle.sj_job.specs.Table.{Table, IsRoot}
@@ -29,7 +30,7 @@ loop-operand-preserved c =
     let os = c.args.operands.now in
     let o = get_or os i no_operand in
     let root : IsRoot now.roots o.root = subst (λ (T : Table). IsRoot T o.root) (sym c.loop-operand.invariant.rooted) (c.requires.roots i no_operand c.loop-operand-test.true) in
-    let rest : drop i os ≡ o ∷ drop (i + 1) os = begins os i o c.loop-operand-test.true refl in
+    let rest : drop i os ≡ o ∷ drop (i + 1) os = begins os i o c.loop-operand-test.true (get_or_default os i o no_operand c.loop-operand-test.true) in
     let done = c.in_ok-write.ensures in
     record {
       counted = done.count ∙ c.loop-operand.invariant.counted;
