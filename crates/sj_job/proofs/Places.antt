@@ -14,7 +14,7 @@ use Rattle.sj_base.specs.declared.tile.Dims.{Dims}
 use Rattle.sj_job.specs.declared.job.RootInfo.{RootInfo}
 use Rattle.sj_job.specs.declared.names.Standing.{Standing}
 use Rattle.sj_job.specs.declared.names.Standing.TheVariants.{Ended}
-use Rattle.sj_job.specs.declared.names.Found.{Found}
+use Rattle.sj_job.specs.Names.{Found}
 use Rattle.sj_job.specs.Table.{Table, table, a_root, name_of, no_info, info_of, root_in, IsRoot, with_root}
 
 -- ---- places in lists

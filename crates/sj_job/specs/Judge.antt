@@ -25,8 +25,7 @@ use Rattle.sj_job.specs.declared.form.Form.TheVariants as form
 use Rattle.sj_job.specs.declared.reason.Reason.{Reason}
 use Rattle.sj_job.specs.declared.reason.Reason.TheVariants.{UnknownName, TakenName, UnknownCodelet, OperandCount, Part, Shape, Aliased, NoValue, Limit, EndedName, NotBuilt}
 use Rattle.sj_job.specs.declared.reason.LimitKind.TheVariants.{Statements, Names, Elements, Parts as PartsLimit, Priority}
-use Rattle.sj_job.specs.Word.{count}
-use Rattle.sj_job.specs.Sentence.{rows_of, cols_of, init_said, parts_said, registered_by, operands_said, priority_said, task_said}
+use Rattle.sj_job.specs.Sentence.{rows_of, cols_of, init_said, parts_said, index_said, registered_by, operands_said, priority_said, task_said}
 use Rattle.sj_job.specs.State.{Root, State, root_of, is_valued, is_blank, is_child, is_valued_child}
 
 -- what the reasons look at in a root: whether all its elements have a value, whether none has, and which children of the
@@ -156,13 +155,13 @@ abbrev pub modes_fit : List Formal → List Operand → Bool
 modes_fit fs os = list_all (λ p. mode_fits p.0 p.1.mode) (zip fs os)
 
 -- an index is that of a child; a name alone is the whole array, which is a child where it is the only one
-abbrev pub is_child_said : Parts → Option (List ℕ × List ℕ) → Bool
+abbrev pub is_child_said : Parts → Option (ℕ × ℕ) → Bool
 is_child_said p None = nat_eq p.r 1 && nat_eq p.c 1
-is_child_said p (Some index) = is_child p (count index.0, count index.1)
+is_child_said p (Some index) = is_child p index
 
 -- an operand is no child of its name's active plan
 abbrev pub is_missing : Scope → OperandForm → Bool
-is_missing s o = elim (s.known o.name) [ None ↦ false | Some k ↦ not (is_child_said k.parts o.child) ]
+is_missing s o = elim (s.known o.name) [ None ↦ false | Some k ↦ not (is_child_said k.parts (index_said o.child)) ]
 
 -- the dimensions of an operand's child
 abbrev pub dims_in : Scope → Operand → Dims

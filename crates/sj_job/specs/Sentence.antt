@@ -1,5 +1,5 @@
 -- What the words of a line say.
-use Rattle.std.specs.Prelude.{ℕ, Bool, true, false, ◌&&◌, not, map, Option, Some, None, Result, Ok, Err, List, [], ◌∷◌, ℤ, pos, codes, if◌then◌else◌}
+use Rattle.std.specs.Prelude.{ℕ, Bool, true, false, ◌&&◌, not, map, Option, Some, None, unwrap_or, Result, Ok, Err, List, [], ◌∷◌, ℤ, pos, codes, if◌then◌else◌}
 use Rattle.std.specs.List.{list_all}
 use Rattle.std.specs.Str.{bytes_eq}
 use Rattle.sj_base.specs.declared.mode.Mode.{Mode}
@@ -124,13 +124,17 @@ registered_by a = record {
   init = init_said a.init;
 }
 
--- the child of an index; a name alone means the first
-abbrev pub place_said : Option (List ℕ × List ℕ) → ℕ × ℕ
-place_said None = (0, 0)
-place_said (Some p) = (count p.0, count p.1)
+-- the index of a child, where there is one
+abbrev pub index_said : Option (List ℕ × List ℕ) → Option (ℕ × ℕ)
+index_said None = None
+index_said (Some p) = Some (count p.0, count p.1)
+
+-- the place of a child; a name alone means the first
+abbrev pub place_said : OperandForm → ℕ × ℕ
+place_said o = unwrap_or (index_said o.child) (0, 0)
 
 abbrev pub operand_said : OperandForm → Operand
-operand_said o = record { name = o.name; place = place_said o.child; mode = o.mode }
+operand_said o = record { name = o.name; place = place_said o; mode = o.mode }
 
 -- the integer of `prio=`, or 0 without it
 abbrev pub priority_said : Option (List ℕ) → ℤ

@@ -46,6 +46,13 @@ is_blank r = list_all is_none r.elements
 
 -- ---- children
 
+abbrev pub dims_with : ℕ → ℕ → Dims
+dims_with rows cols = record { rows = rows; cols = cols }
+
+-- the plan of r by c parts
+abbrev pub plan_with : ℕ → ℕ → Parts
+plan_with r c = record { r = r; c = c }
+
 -- [i, j] is a child of the plan
 abbrev pub is_child : Parts → ℕ × ℕ → Bool
 is_child p place = nat_lt place.0 p.r && nat_lt place.1 p.c

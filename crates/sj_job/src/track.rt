@@ -115,12 +115,8 @@ impl Tracked {
         requires even { IsTrue (all_valued self.old || none_valued self.old) }
         ensures { self.new ≡ even parts (all_valued self.old) }
     {
-        self.parts = parts;
-        self.marks = if self.is_all() {
-            Marks::All
-        } else {
-            Marks::Blank
-        };
+        let valued = self.is_all();
+        *self = Tracked::even(parts, valued);
     }
 
     /// No child has a value from now on.
