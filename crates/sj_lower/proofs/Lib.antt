@@ -1,11 +1,13 @@
-pub mod Stepping
-pub mod Counting
-pub mod Few
-pub mod Writing
+pub mod Places
 pub mod Contents
+pub mod Folding
+pub mod Laid
+pub mod Elements
 pub mod Holding
+pub mod Writing
 pub mod Running
-pub mod Starting
+pub mod Filling
+pub mod Pasting
 pub mod Agreeing
 pub mod Good
 pub mod Delivered
@@ -13,4 +15,3 @@ pub mod Allowed
 pub mod Whole
 pub mod Properness
 pub mod Naming
-pub mod Going

@@ -1,7 +1,2 @@
-//! Lowering: a job becomes a program of tasks over cells, one cell for each root.
+//! Lowering: a job becomes a program of tasks over cells, one cell for each child of each plan that a root takes.
 #![tactic(auto)]
-
-pub mod lower;
-mod lowerer;
-#[cfg(test)]
-mod tests;
