@@ -35,9 +35,13 @@ with_handle name h handles q = if bytes_eq name q then Some h else handles q
 abbrev pub first_cell : Cells → List ℕ → Parts → ℕ
 first_cell C name p = elim (C.handles name) [ None ↦ 0 | Some h ↦ unwrap_or (h.first p) 0 ]
 
--- the cell of a child of that plan
+-- the cells of a plan's children, row by row from the first on
+abbrev pub cells_from : ℕ → Parts → ℕ × ℕ → Cell
+cells_from first p place = record { 0 = first + number p place }
+
+-- the cell of a child of a plan that a name has taken
 abbrev pub cell_of : Cells → List ℕ → Parts → ℕ × ℕ → Cell
-cell_of C name p place = record { 0 = first_cell C name p + number p place }
+cell_of C name p place = cells_from (first_cell C name p) p place
 
 -- ---- plans
 
