@@ -15,3 +15,5 @@ pub mod Allowed
 pub mod Whole
 pub mod Properness
 pub mod Naming
+pub mod Pushing
+pub mod Laying

@@ -4,3 +4,4 @@ pub mod Lowering
 pub mod Limits
 pub mod Job
 pub mod Delivering
+pub mod Seen

@@ -1,4 +1,5 @@
 //! Lowering: a job becomes a program of tasks over cells, one cell for each child of each plan that a root takes.
 #![tactic(auto)]
 
+mod layout;
 mod rows;
