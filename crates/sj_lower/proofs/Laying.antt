@@ -22,17 +22,18 @@ use Rattle.sj_job.specs.declared.job.Init.{Init}
 use Rattle.sj_job.specs.declared.job.RootInfo.{RootInfo}
 use Rattle.sj_job.specs.declared.job.Act.TheVariants as kept
 use Rattle.sj_job.specs.View.{act_seen}
+use Rattle.sj_job.specs.Track.{children_count}
 use Rattle.sj_lower.specs.Lowering.{cells_after}
-use Rattle.sj_lower.specs.Seen.{taken, same_taken, handle_in, Lays, first_after}
-use Rattle.sj_lower.proofs.Laid.{same_name, bytes_eq-itself, take-by}
-use Rattle.sj_lower.proofs.Places.{length-places}
+use Rattle.sj_lower.specs.Seen.{taken, same_taken, handle_in, Lays, first_after, children_after}
+use Rattle.sj_lower.proofs.Laid.{same_name, bytes_eq-itself, some_is, take-by}
+use Rattle.sj_lower.proofs.Places.{length-places, parts-are}
 
 first_there : (C : Cells) (name : List ℕ) (p : Parts) (h : Handle) (f : ℕ) → C.handles name ≡ Some h → h.first p ≡ Some f → first_cell C name p ≡ f
 first_there C name p h f e g = ap (λ (o : Option Handle). elim o as (λ _. ℕ) [ None ↦ 0 | Some h ↦ unwrap_or (h.first p) 0 ]) e ∙ ap (λ o. unwrap_or o 0) g
 
 -- a plan that was taken before
 pub lays_old : (T : Table) (l : Layout) (C : Cells) (r : Root) (p : Parts) (f : ℕ) → Lays T l C → r.0 < C.roots → get same_taken l.firsts (taken r.0 p) ≡ Some f
-    → Lays T l (take (name_of T r) p C) × (first_cell (take (name_of T r) p C) (name_of T r) p ≡ f)
+    → Lays T l (take (name_of T r) p C) × (first_cell (take (name_of T r) p C) (name_of T r) p ≡ f) × (f + children_count p ≤ length (take (name_of T r) p C).rows)
 lays_old T l C r p f s inside there =
     let name = name_of T r in
     let h = handle_in T l r.0 in
@@ -42,7 +43,7 @@ lays_old T l C r p f s inside there =
       handles = with_handle name (taking p (length C.rows) h) C.handles;
       roots = C.roots;
     })) there in
-    (subst (Lays T l) (sym same) s, ap (λ (D : Cells). first_cell D name p) same ∙ first_there C name p h f is there)
+    (subst (Lays T l) (sym same) s, ap (λ (D : Cells). first_cell D name p) same ∙ first_there C name p h f is there, subst (λ (D : Cells). f + children_count p ≤ length D.rows) (sym same) (s.room r.0 p f there))
 
 -- a plan that is new
 news : (T : Table) (l : Layout) (C : Cells) (r : Root) (p : Parts) → Lays T l C → r.0 < C.roots → get same_taken l.firsts (taken r.0 p) ≡ None → take (name_of T r) p C ≡ record {
@@ -71,7 +72,7 @@ unequal m n h = by_test (nat_eq m n) refl
 
 pub lays_new : (T : Table) (old new : Layout) (C : Cells) (r : Root) (d : Dims) (p : Parts) (first : ℕ) → Lays T old C → r.0 < C.roots → AreDistinct T.names → C.roots ≤ length T.names → (info_of T r).dims ≡ d → get same_taken old.firsts (taken r.0 p) ≡ None
     → new.infos.items ≡ old.infos.items ++ each_of (rect_cell r) (children_of d p) → ((q : Taken) → get same_taken new.firsts q ≡ cond (same_taken (taken r.0 p) q) (Some first) (get same_taken old.firsts q)) → new.roots ≡ old.roots → first ≡ length old.infos.items
-    → Lays T new (take (name_of T r) p C) × (first_cell (take (name_of T r) p C) (name_of T r) p ≡ first)
+    → Lays T new (take (name_of T r) p C) × (first_cell (take (name_of T r) p C) (name_of T r) p ≡ first) × (first + children_count p ≤ length (take (name_of T r) p C).rows)
 lays_new T old new C r d p first s inside distinct few dims none rows firsts roots number =
     let whole = news T old C r p s inside none in
     let one = number ∙ ap length s.rows in
@@ -80,14 +81,26 @@ lays_new T old new C r d p first s inside distinct few dims none rows firsts roo
         rows = rows ∙ (λ i. s.rows i ++ each_of (rect_cell r) (children_of (sym dims i) p)) ∙ ap (λ is. C.rows ++ is) (map-map (rect_cell r) (child (info_of T r).dims p) (places p));
         roots = roots ∙ s.roots;
         handles = λ m lt. by_name m lt (bytes_eq (name_of T r) (name_of T (a_root m))) refl;
+        room = λ m q f e. room_by m q f (same_taken (taken r.0 p) (taken m q)) refl (sym (firsts (taken m q)) ∙ e);
         fresh = λ m q past. sym (there m (λ same. omega (arith, same, past, inside)) q) ∙ s.fresh m q past;
       }),
       ap (λ (D : Cells). first_cell D (name_of T r) p) whole
       ∙ ap (λ b. elim (cond b (Some (taking p (length C.rows) (handle_in T old r.0))) (C.handles (name_of T r))) as (λ _. ℕ) [ None ↦ 0 | Some h ↦ unwrap_or (h.first p) 0 ]) (bytes_eq-itself (name_of T r))
       ∙ ap (λ b. unwrap_or (cond b (Some (length C.rows)) (get same_taken old.firsts (taken r.0 p))) 0) (both (nat_eq p.r p.r) (nat_eq p.c p.c) (equal p.r) (equal p.c))
       ∙ sym one,
+      subst (λ (D : Cells). first + children_count p ≤ length D.rows) (sym whole) (omega (arith, one, longer)),
     )
   where
+    longer : length (C.rows ++ each_of (child_cell r (info_of T r).dims p) (places p)) ≡ length C.rows + children_count p
+    longer = length-append C.rows (each_of (child_cell r (info_of T r).dims p) (places p)) ∙ ap (λ n. length C.rows + n) (length-places (child_cell r (info_of T r).dims p) p)
+
+    room_by : (m : ℕ) (q : Parts) (f : ℕ) (b : Bool) → same_taken (taken r.0 p) (taken m q) ≡ b → cond b (Some first) (get same_taken old.firsts (taken m q)) ≡ Some f → f + children_count q ≤ length (C.rows ++ each_of (child_cell r (info_of T r).dims p) (places p))
+    room_by m q f true t e =
+        let plan : p ≡ q = parts-are p q (and_parts (nat_eq r.0 m) (same_parts p q) t).1 in
+        let is : first ≡ f = some_is first f e in
+        subst (λ (x : Parts). f + children_count x ≤ length (C.rows ++ each_of (child_cell r (info_of T r).dims p) (places p))) plan (omega (arith, is, number, ap length s.rows, longer))
+    room_by m q f false t e = omega (arith, s.room m q f e, longer)
+
     both : (a b : Bool) → a ≡ true → b ≡ true → (a && b) ≡ true
     both true b e f = f
     both false b e f = e
@@ -123,6 +136,7 @@ lays_root T old new C s distinct few rows firsts roots = record {
   rows = rows ∙ s.rows;
   roots = roots ∙ ap (λ n. n + 1) s.roots;
   handles = λ m lt. by_name m lt (bytes_eq (name_of T (a_root C.roots)) (name_of T (a_root m))) refl;
+  room = λ m q f e. s.room m q f (ap (λ x. get same_taken x (taken m q)) (sym firsts) ∙ e);
   fresh = λ m q past. ap (λ f. get same_taken f (taken m q)) firsts ∙ s.fresh m q (omega (arith, past));
 }
   where
@@ -150,12 +164,12 @@ root_at T old C s distinct few =
 
 -- what the root's first plan leaves, is what the registration does
 pub lays_register : (T : Table) (old new : Layout) (C : Cells) (info : RootInfo) (init : Init) (first : ℕ) → Lays T old C → AreDistinct T.names → old.roots + 1 ≤ length T.names → info ≡ info_of T (a_root old.roots)
-    → ((D : Cells) → Lays T (one_root_more old) D → old.roots < D.roots → AreDistinct T.names → D.roots ≤ length T.names → (info_of T (a_root old.roots)).dims ≡ info.dims → Lays T new (take (name_of T (a_root old.roots)) info.parts D) × (first_cell (take (name_of T (a_root old.roots)) info.parts D) (name_of T (a_root old.roots)) info.parts ≡ first))
-    → Lays T new (cells_after (act_seen T old.roots (kept.Register init)) C) × (first_after (act_seen T old.roots (kept.Register init)) (cells_after (act_seen T old.roots (kept.Register init)) C) ≡ first)
+    → ((D : Cells) → Lays T (one_root_more old) D → old.roots < D.roots → AreDistinct T.names → D.roots ≤ length T.names → (info_of T (a_root old.roots)).dims ≡ info.dims → Lays T new (take (name_of T (a_root old.roots)) info.parts D) × (first_cell (take (name_of T (a_root old.roots)) info.parts D) (name_of T (a_root old.roots)) info.parts ≡ first) × (first + children_count info.parts ≤ length (take (name_of T (a_root old.roots)) info.parts D).rows))
+    → Lays T new (cells_after (act_seen T old.roots (kept.Register init)) C) × (first_after (act_seen T old.roots (kept.Register init)) (cells_after (act_seen T old.roots (kept.Register init)) C) ≡ first) × (first + children_after (act_seen T old.roots (kept.Register init)) ≤ length (cells_after (act_seen T old.roots (kept.Register init)) C).rows)
 lays_register T old new C info init first s distinct few is takes =
     let D = with_root (name_of T (a_root old.roots)) (info_of T (a_root old.roots)).dims C in
     let h = takes D (root_at T old C s distinct few) (omega (arith, s.roots)) distinct (omega (arith, s.roots, few)) (ap (λ (x : RootInfo). x.dims) (sym is)) in
-    subst (λ (x : RootInfo). Lays T new (take (name_of T (a_root old.roots)) x.parts D) × (first_cell (take (name_of T (a_root old.roots)) x.parts D) (name_of T (a_root old.roots)) x.parts ≡ first)) is h
+    subst (λ (x : RootInfo). Lays T new (take (name_of T (a_root old.roots)) x.parts D) × (first_cell (take (name_of T (a_root old.roots)) x.parts D) (name_of T (a_root old.roots)) x.parts ≡ first) × (first + children_count x.parts ≤ length (take (name_of T (a_root old.roots)) x.parts D).rows)) is h
 
 pub full_register : (T : Table) (old : Layout) (C : Cells) (info : RootInfo) (init : Init) → Lays T old C → AreDistinct T.names → old.roots + 1 ≤ length T.names → info ≡ info_of T (a_root old.roots)
     → ((D : Cells) → Lays T (one_root_more old) D → old.roots < D.roots → (info_of T (a_root old.roots)).dims ≡ info.dims → most < length (take (name_of T (a_root old.roots)) info.parts D).rows)

@@ -8,7 +8,8 @@ ghost use Rattle.sj_plan.specs.Rect.{dims_of};
 ghost use Rattle.sj_lower.specs.Cells.{Cells, rect_cell, first_cell, take, no_cells};
 ghost use Rattle.sj_lower.specs.Limits.{most};
 ghost use Rattle.sj_lower.specs.Lowering.{cells_after};
-ghost use Rattle.sj_lower.specs.Seen.{Lays, IsCut, first_after};
+ghost use Rattle.sj_lower.specs.Seen.{Lays, IsCut, first_after, children_after};
+ghost use Rattle.sj_job.specs.Track.{children_count};
 
 use indexmap::IndexMap;
 use sj_base::ids::Root;
@@ -70,7 +71,8 @@ impl Layout {
         ensures taken { IfOk result (λ o. IfSome o (λ first. (T : Table) (C : Cells) → Lays T self.old C
             → root.0 < C.roots → AreDistinct T.names → C.roots ≤ length T.names → (info_of T root).dims ≡ dims
             → Lays T self.new (take (name_of T root) parts C)
-            × (first_cell (take (name_of T root) parts C) (name_of T root) parts ≡ first))) }
+            × (first_cell (take (name_of T root) parts C) (name_of T root) parts ≡ first)
+            × (first + children_count parts ≤ length (take (name_of T root) parts C).rows))) }
         ensures full { IfOk result (λ o. IfNone o ((T : Table) (C : Cells) → Lays T self.old C
             → root.0 < C.roots → (info_of T root).dims ≡ dims
             → most < length (take (name_of T root) parts C).rows)) }
@@ -112,7 +114,9 @@ impl Layout {
             → AreDistinct roots.now.names
             → Lays roots.now self.new (cells_after (act_seen roots.now self.old.roots act.now) C)
             × (first_after (act_seen roots.now self.old.roots act.now)
-                (cells_after (act_seen roots.now self.old.roots act.now) C) ≡ first))) }
+                (cells_after (act_seen roots.now self.old.roots act.now) C) ≡ first)
+            × (first + children_after (act_seen roots.now self.old.roots act.now)
+                ≤ length (cells_after (act_seen roots.now self.old.roots act.now) C).rows))) }
         ensures full { IfOk result (λ o. IfNone o ((C : Cells) → Lays roots.now self.old C
             → AreDistinct roots.now.names
             → most < length (cells_after (act_seen roots.now self.old.roots act.now) C).rows)) }

@@ -7,7 +7,7 @@ use Rattle.sj_job.specs.View.{act_seen, count_after}
 use Rattle.sj_lower.specs.Cells.{Cells}
 use Rattle.sj_lower.specs.Limits.{most}
 use Rattle.sj_lower.specs.Lowering.{cells_after}
-use Rattle.sj_lower.specs.Seen.{Lays, first_after}
+use Rattle.sj_lower.specs.Seen.{Lays, first_after, children_after}
 use Rattle.sj_lower.proofs.Laying.{lays_register, full_register}
 use Rattle.sj_lower.proofs.layout.Layout.lay.Goals as goal
 
@@ -17,7 +17,7 @@ returns-in_ok-first-in-Register-clause-laid c =
     let l = c.args.self.now in
     let is = c.in-Register.is in
     let fits : l.roots + 1 ≤ length T.names = subst (λ (a : Kept). count_after l.roots a ≤ length T.names) is c.requires.fits in
-    subst (λ (a : Kept). IfSome c.in_ok-first-in-Register.first (λ f. (C : Cells) → Lays T l C → AreDistinct T.names → Lays T c.take.new.self (cells_after (act_seen T l.roots a) C) × (first_after (act_seen T l.roots a) (cells_after (act_seen T l.roots a) C) ≡ f))) (sym is)
+    subst (λ (a : Kept). IfSome c.in_ok-first-in-Register.first (λ f. (C : Cells) → Lays T l C → AreDistinct T.names → Lays T c.take.new.self (cells_after (act_seen T l.roots a) C) × (first_after (act_seen T l.roots a) (cells_after (act_seen T l.roots a) C) ≡ f) × (f + children_after (act_seen T l.roots a) ≤ length (cells_after (act_seen T l.roots a) C).rows))) (sym is)
     (IfSome_then c.in_ok-first-in-Register.first c.in_ok-first-in-Register.ensures.taken (λ f h C s distinct.
     lays_register T l c.take.new.self C c.info-info.result c.in-Register.field-0 f s distinct fits c.info-info.ensures (λ D. h T D)))
 
