@@ -1,18 +1,31 @@
 -- What is lowered so far, as contracts see it.
-use Rattle.std.specs.Prelude.{◌≡◌, ◌<◌, ◌≤◌, ◌+◌, ◌&&◌, nat_eq, Bool, ℕ, Option, Some, None, List, length, vec_len, slice_get}
+use Rattle.std.specs.Prelude.{◌≡◌, ◌<◌, ◌≤◌, ◌+◌, ◌&&◌, nat_eq, Bool, ℕ, Option, Some, None, List, [], length, vec_len, slice_index_or, slice_set, if◌then◌else◌}
+use Rattle.std.specs.List.{fold}
 use Rattle.indexmap.specs.IndexMap.{IndexMap, get}
 use Rattle.sj_base.specs.declared.ids.Line.{Line}
+use Rattle.sj_base.specs.declared.mode.Access.{Access}
+use Rattle.sj_codelet.specs.declared.kernel.Kernel.{Kernel}
 use Rattle.sj_plan.specs.declared.parts.Parts.{Parts}
-use Rattle.sj_plan.specs.Parts.{Fits}
+use Rattle.sj_plan.specs.Parts.{Fits, IsPlace}
 use Rattle.sj_job.specs.declared.job.Act.{Act as Kept}
 use Rattle.sj_job.specs.declared.job.Act.TheVariants as kept
+use Rattle.sj_job.specs.declared.job.Operand.{Operand}
 use Rattle.sj_job.specs.Act.{Act}
 use Rattle.sj_job.specs.Act.{Register as Registers, Plan as Plans, Task as Tasks, Print as Prints, Invalidate as Invalidates, Unregister as Unregisters}
-use Rattle.sj_job.specs.Table.{Table, a_root, name_of, info_of}
-use Rattle.sj_job.specs.Track.{children_count}
+use Rattle.sj_job.specs.State.{Root, State, root_of}
+use Rattle.sj_job.specs.Meaning.{is_written, apply}
+use Rattle.sj_job.specs.Sound.{IsSoundAct}
+use Rattle.sj_job.specs.Table.{Table, AreDistinct, a_root, name_of, info_of, undivided}
+use Rattle.sj_job.specs.Track.{Track, Tracks, children_count, written}
+use Rattle.sj_job.specs.View.{act_seen, count_after, IsPlaced}
 use Rattle.sj_lower.specs.declared.layout.Taken.{Taken}
 use Rattle.sj_lower.specs.declared.layout.Layout.{Layout}
-use Rattle.sj_lower.specs.Cells.{Cells, Handle, first_cell}
+use Rattle.sj_lower.specs.declared.lowerer.Active.{Active}
+use Rattle.sj_lower.specs.declared.lowerer.Lowerer.{Lowerer}
+use Rattle.sj_lower.specs.Cells.{Cells, Handle, first_cell, cells_from}
+use Rattle.sj_lower.specs.Rows.{an_access}
+use Rattle.sj_lower.specs.Limits.{most}
+use Rattle.sj_lower.specs.Lowering.{Lowering, cells_after, lower_one}
 
 -- ---- cells
 
@@ -62,3 +75,79 @@ first_after (Tasks t) C = 0
 first_after (Prints name) C = 0
 first_after (Invalidates name) C = 0
 first_after (Unregisters name) C = 0
+
+-- ---- tasks
+
+-- what stands for the active plan of a root that isn't there
+abbrev pub no_active : Active
+no_active = record { tracked = record { parts = undivided; valued = [] }; first = 0 }
+
+abbrev pub active_at : List Active → ℕ → Active
+active_at actives n = slice_index_or actives n no_active
+
+-- the active plan of a root: which children have a value, and the first cell, as in the handle of its name
+pub record IsActive (T : Table) (C : Cells) (n : ℕ) (a : Active) (r : Root) : Type 0 where
+  pub dims : r.dims ≡ (info_of T (a_root n)).dims
+  pub tracks : Tracks a.tracked r
+  pub handle : Handle
+  pub named : C.handles (name_of T (a_root n)) ≡ Some handle
+  pub taken : handle.first r.parts ≡ Some a.first
+  pub room : a.first + children_count r.parts ≤ most
+
+-- there is one for each root
+pub record AreActive (T : Table) (C : Cells) (actives : List Active) (S : State) : Type 0 where
+  pub counted : length actives ≡ C.roots
+  pub each : (n : ℕ) (r : Root) → n < C.roots → root_of S (name_of T (a_root n)) ≡ Some r → IsActive T C n (active_at actives n) r
+
+-- the code has the tasks and deliveries of the definition, and the active plans of the state
+pub record Follows (T : Table) (l : Lowerer) (S : State) (L : Lowering) : Type 0 where
+  pub tasks : l.tasks.items ≡ L.tasks
+  pub deliveries : l.deliveries.items ≡ L.deliveries
+  pub prints : l.prints ≡ L.prints
+  pub actives : AreActive T L.cells l.actives.items S
+
+-- an act may come next
+pub record IsNext (T : Table) (l : Lowerer) (a : Kept) (S : State) (L : Lowering) : Type 0 where
+  pub has : Kernel → Bool
+  pub follows : Follows T l S L
+  pub sound : IsSoundAct has S (act_seen T L.cells.roots a)
+  pub placed : IsPlaced L.cells.roots a
+  pub distinct : AreDistinct T.names
+  pub few : count_after L.cells.roots a ≤ length T.names
+  pub table : length T.names ≤ 4096
+
+pub record HasNext (T : Table) (l : Lowerer) (a : Kept) : Type 0 where
+  pub state : State
+  pub lowering : Lowering
+  pub next : IsNext T l a state lowering
+
+-- the code does with a statement what the definition does, if the plan that it makes active has this first cell
+abbrev pub Does : Table → Lowerer → Lowerer → Kept → ℕ → Line → Type 0
+Does T old new a first line =
+    (S : State) (L : Lowering) → IsNext T old a S L → let act = act_seen T L.cells.roots a in first_after act (cells_after act L.cells) ≡ first
+    → Follows T new (apply act S) (lower_one S (record { line = line; act = act }) L)
+
+-- the cells of the plan that an act makes active are within the limit, from this one on
+abbrev pub HasRoom : Table → ℕ → Kept → ℕ → Type 0
+HasRoom T n a first = first + children_after (act_seen T n a) ≤ most
+
+-- an operand is a child of its root's active plan, whose cells are within the limit
+pub record AreIn (actives : List Active) (o : Operand) : Type 0 where
+  pub root : o.root.0 < length actives
+  pub place : IsPlace (active_at actives o.root.0).tracked.parts o.place
+  pub room : (active_at actives o.root.0).first + children_count (active_at actives o.root.0).tracked.parts ≤ most
+
+-- an operand as an access to its child's cell
+abbrev pub access_by : List Active → Operand → Access
+access_by actives o =
+    let a = active_at actives o.root.0 in
+    an_access o.mode (cells_from a.first a.tracked.parts o.place)
+
+-- the active plans after an operand is written, if it is
+abbrev pub after_write : List Active → Operand → List Active
+after_write actives o =
+    let a = active_at actives o.root.0 in
+    if is_written o.mode then slice_set actives o.root.0 (record { tracked = written a.tracked o.place; first = a.first }) else actives
+
+abbrev pub after_writes : List Operand → List Active → List Active
+after_writes os actives = fold after_write actives os

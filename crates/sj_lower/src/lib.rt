@@ -2,4 +2,5 @@
 #![tactic(auto)]
 
 mod layout;
+mod lowerer;
 mod rows;

@@ -1,0 +1,295 @@
+//! What the statements so far are lowered to.
+
+ghost use Rattle.std.specs.Prelude.{◌≡◌, ◌+◌, ◌<◌, ◌≤◌, ◌++◌, ◌∷◌, [], ℕ, List, All, length, map, vec_len, IfOk, OnOk};
+ghost use Rattle.sj_base.specs.declared.ids.Line.{Line};
+ghost use Rattle.sj_job.specs.State.{State, start};
+ghost use Rattle.sj_job.specs.Table.{Table};
+ghost use Rattle.sj_job.specs.View.{act_seen};
+ghost use Rattle.sj_job.specs.declared.job.Act.TheVariants as kept;
+ghost use Rattle.sj_job.specs.Names.{gives_values};
+ghost use Rattle.sj_job.specs.Sound.{InitFits};
+ghost use Rattle.sj_job.specs.Track.{children_count};
+ghost use Rattle.sj_plan.specs.Parts.{Fits};
+ghost use Rattle.sj_lower.specs.Cells.{Cells, cells_from};
+ghost use Rattle.sj_lower.specs.Limits.{most};
+ghost use Rattle.sj_lower.specs.Lowering.{Lowering, nothing, load_rows, rows_of, program_of};
+ghost use Rattle.sj_lower.specs.Seen.{Follows, HasNext, IsNext, Does, HasRoom, AreIn, access_by, after_writes};
+
+use crate::rows::{
+    Placed, push_deliveries, push_delivers, push_fills, push_loads, push_pastes,
+};
+use sj_base::ids::{Line, Root};
+use sj_base::memory::OutOfMemory;
+use sj_base::mode::Access;
+use sj_base::program::{Delivery, Lowered};
+use sj_base::sequence::Sequence;
+use sj_job::job::{Act, Init, Operand, RootInfo, TaskLine};
+use sj_job::roots::Roots;
+use sj_job::track::Tracked;
+use sj_plan::count::count_pastes;
+use sj_plan::parts::Parts;
+use std::alloc::Global;
+
+/// A root's active plan with the children that have a value, and the cell of its first child.
+#[derive(Drop)]
+pub struct Active {
+    pub tracked: Tracked,
+    pub first: u32,
+}
+
+/// The active plan of each root, the tasks and deliveries so far, and how many print statements there were.
+#[derive(Drop)]
+pub struct Lowerer {
+    pub actives: Vec<Active>,
+    pub tasks: Vec<Lowered>,
+    pub deliveries: Vec<Delivery>,
+    pub prints: u32,
+}
+
+impl Active {
+    /// The active plan and its cells. Constant time.
+    fn placed(&self) -> Placed
+        ensures parts { result.parts ≡ self.now.tracked.parts }
+        ensures first { result.first ≡ self.now.first }
+    {
+        Placed {
+            parts: self.tracked.parts(),
+            first: self.first,
+        }
+    }
+}
+
+/// The accesses of operands to the cells of their children. Linear in them.
+fn accesses(
+    alloc: Global,
+    actives: &[Active],
+    operands: &[Operand],
+) -> Result<Vec<Access>, OutOfMemory>
+    requires { All (AreIn actives.now) operands.now }
+    ensures { IfOk result (λ v. v.items ≡ map (access_by actives.now) operands.now) }
+{
+    let mut accesses = Vec::with_capacity(alloc, operands.len())?;
+    for operand in operands {
+        let placed = actives[operand.root.0 as usize].placed();
+        accesses.push(Access {
+            mode: operand.mode,
+            cell: placed.cell(operand.place),
+        })?;
+    }
+    Ok(accesses)
+}
+
+/// The children that a task writes have a value from now on. Linear in its operands.
+fn write_all(
+    actives: &mut Vec<Active>,
+    alloc: Global,
+    operands: &[Operand],
+) -> Result<(), OutOfMemory>
+    requires { All (AreIn actives.old.items) operands.now }
+    ensures { OnOk result (actives.new.items ≡ after_writes operands.now actives.old.items) }
+{
+    for operand in operands {
+        if operand.is_written() {
+            let active = &mut actives[operand.root.0 as usize];
+            active
+                .tracked
+                .write(alloc, operand.place.0, operand.place.1)?;
+        }
+    }
+    Ok(())
+}
+
+impl Lowerer {
+    /// Before the first statement.
+    pub fn nothing(alloc: Global) -> Lowerer
+        ensures { (T : Table) → Follows T result start nothing }
+    {
+        Lowerer {
+            actives: Vec::new(alloc),
+            tasks: Vec::new(alloc),
+            deliveries: Vec::new(alloc),
+            prints: 0,
+        }
+    }
+
+    /// How many tasks a statement gives. Constant time, but for a plan line linear in its parts of rows and of columns.
+    pub fn count(&self, roots: &Roots, act: &Act) -> u64
+        requires { HasNext roots.now self.now act.now }
+        ensures { (S : State) (L : Lowering) (C : Cells) (line : Line) → IsNext roots.now self.now act.now S L
+            → result ≡ length (rows_of S C line (act_seen roots.now (vec_len self.now.actives) act.now)) }
+    {
+        match act {
+            Act::Register(Init::Nothing) => 0,
+            Act::Register(_) => {
+                let parts = roots.info(Root(self.actives.len() as u32)).parts;
+                parts.r as u64 * parts.c as u64
+            }
+            Act::Plan(root, parts) => self.count_plan(roots, *root, *parts),
+            Act::Task(_) => 1,
+            Act::Print(root) => {
+                let parts = self.actives[root.0 as usize].tracked.parts();
+                parts.r as u64 * parts.c as u64
+            }
+            Act::Invalidate(_) | Act::Unregister(_) => 0,
+        }
+    }
+
+    /// How many pastes a plan line gives.
+    fn count_plan(&self, roots: &Roots, root: Root, parts: Parts) -> u64
+        requires { HasNext roots.now self.now (kept.Plan root parts) }
+        ensures { (S : State) (L : Lowering) (C : Cells) (line : Line) → IsNext roots.now self.now (kept.Plan root parts) S L
+            → result ≡ length (rows_of S C line (act_seen roots.now (vec_len self.now.actives) (kept.Plan root parts))) }
+    {
+        let active = &self.actives[root.0 as usize];
+        let old = active.tracked.parts();
+        if old == parts || !active.tracked.is_all() {
+            return 0;
+        }
+        count_pastes(roots.info(root).dims, old, parts)
+    }
+
+    /// A root whose children are loaded, if it has values. Linear in them.
+    fn register(
+        &mut self,
+        alloc: Global,
+        roots: &Roots,
+        init: Init,
+        first: u32,
+        line: Line,
+    ) -> Result<(), OutOfMemory>
+        requires next { HasNext roots.now self.old (kept.Register init) }
+        requires room { HasRoom roots.now (vec_len self.old.actives) (kept.Register init) first }
+        ensures does { OnOk result (Does roots.now self.old self.new (kept.Register init) first line) }
+    {
+        let info = roots.info(Root(self.actives.len() as u32));
+        let placed = Placed {
+            parts: info.parts,
+            first,
+        };
+        let valued = push_first(&mut self.tasks, alloc, info, placed, init, line)?;
+        self.actives.push(Active {
+            tracked: Tracked::even(info.parts, valued),
+            first,
+        })?;
+        Ok(())
+    }
+
+    /// Another plan of a root, into whose children the old ones are pasted if the root has values. Linear in the pairs that
+    /// overlap.
+    fn plan(
+        &mut self,
+        alloc: Global,
+        roots: &Roots,
+        root: Root,
+        placed: Placed,
+        line: Line,
+    ) -> Result<(), OutOfMemory>
+        requires next { HasNext roots.now self.old (kept.Plan root placed.parts) }
+        requires room { HasRoom roots.now (vec_len self.old.actives) (kept.Plan root placed.parts) placed.first }
+        ensures does { OnOk result (Does roots.now self.old self.new (kept.Plan root placed.parts) placed.first line) }
+    {
+        let active = &self.actives[root.0 as usize];
+        let old = active.placed();
+        if old.parts != placed.parts && active.tracked.is_all() {
+            let dims = roots.info(root).dims;
+            push_pastes(&mut self.tasks, alloc, dims, old, placed, line)?;
+        }
+        let active = &mut self.actives[root.0 as usize];
+        active.tracked.plan(placed.parts);
+        active.first = placed.first;
+        Ok(())
+    }
+
+    /// A task over the cells of its operands. Linear in them.
+    fn task(
+        &mut self,
+        alloc: Global,
+        roots: &Roots,
+        task: TaskLine,
+        line: Line,
+    ) -> Result<(), OutOfMemory>
+        requires next { HasNext roots.now self.old (kept.Task task) }
+        ensures does { OnOk result (Does roots.now self.old self.new (kept.Task task) 0 line) }
+    {
+        let operands = task.operands.items();
+        let accesses = accesses(alloc, &self.actives, operands)?;
+        write_all(&mut self.actives, alloc, operands)?;
+        self.tasks.push(Lowered {
+            codelet: task.kernel.id(),
+            args: task.args,
+            accesses: Sequence::of(accesses),
+            line,
+            priority: task.priority,
+        })?;
+        Ok(())
+    }
+
+    /// Tasks that hand over the children of a root. Linear in them.
+    fn print(
+        &mut self,
+        alloc: Global,
+        roots: &Roots,
+        root: Root,
+        line: Line,
+    ) -> Result<(), OutOfMemory>
+        requires next { HasNext roots.now self.old (kept.Print root) }
+        requires few { (S : State) (L : Lowering) (C : Cells) → IsNext roots.now self.old (kept.Print root) S L
+            → vec_len self.old.tasks + length (rows_of S C line (act_seen roots.now (vec_len self.old.actives) (kept.Print root))) ≤ most }
+        requires prints { self.old.prints ≤ vec_len self.old.tasks }
+        ensures does { OnOk result (Does roots.now self.old self.new (kept.Print root) 0 line) }
+        ensures prints { OnOk result (self.new.prints ≤ vec_len self.new.tasks) }
+    {
+        let placed = self.actives[root.0 as usize].placed();
+        let dims = roots.info(root).dims;
+        let task = self.tasks.len() as u32;
+        push_delivers(&mut self.tasks, alloc, placed, line)?;
+        push_deliveries(
+            &mut self.deliveries,
+            alloc,
+            root,
+            dims,
+            placed.parts,
+            task,
+            self.prints,
+        )?;
+        self.prints += 1;
+        Ok(())
+    }
+
+    /// A root without values.
+    fn invalidate(&mut self, roots: &Roots, root: Root, line: Line)
+        requires next { HasNext roots.now self.old (kept.Invalidate root) }
+        ensures does { Does roots.now self.old self.new (kept.Invalidate root) 0 line }
+    {
+        self.actives[root.0 as usize].tracked.invalidate();
+    }
+}
+
+/// The tasks that give a root's children their first elements; whether there are any. Linear in them.
+fn push_first(
+    tasks: &mut Vec<Lowered>,
+    alloc: Global,
+    info: RootInfo,
+    placed: Placed,
+    init: Init,
+    line: Line,
+) -> Result<bool, OutOfMemory>
+    requires plan { Fits placed.parts info.dims }
+    requires cells { placed.first + children_count placed.parts ≤ most }
+    requires values { InitFits init info.dims }
+    ensures tasks { OnOk result (tasks.new.items ≡ tasks.old.items
+        ++ load_rows init info.dims placed.parts (cells_from placed.first placed.parts) line) }
+    ensures valued { IfOk result (λ valued. valued ≡ gives_values init) }
+{
+    match init {
+        Init::Values(values) => {
+            push_loads(tasks, alloc, info.dims, placed, values, line)?;
+            Ok(true)
+        }
+        Init::Fill(a, b) => {
+            push_fills(tasks, alloc, info.dims, placed, (a, b), line)?;
+            Ok(true)
+        }
+        Init::Nothing => Ok(false),
+    }
+}
