@@ -17,3 +17,4 @@ pub mod Properness
 pub mod Naming
 pub mod Pushing
 pub mod Laying
+pub mod Following

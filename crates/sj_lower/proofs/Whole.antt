@@ -99,7 +99,7 @@ plans_good p C S name r s line n f e cells laid b t stand =
     by_cases false true ec ev stand = pastes_good p C name r s line n f cells laid b t ec ev stand
 
 -- the tasks of a print statement, by its root
-deliver_rows-are : (S : State) (C : Cells) (name : List ℕ) (line : Line) (r : Root) → root_of S name ≡ Some r → deliver_rows S C name line ≡ each_of (λ place. deliver_row (cell_of C name r.parts place) line) (places r.parts)
+pub deliver_rows-are : (S : State) (C : Cells) (name : List ℕ) (line : Line) (r : Root) → root_of S name ≡ Some r → deliver_rows S C name line ≡ each_of (λ place. deliver_row (cell_of C name r.parts place) line) (places r.parts)
 deliver_rows-are S C name line r e = ap (λ (o : Option Root). let s = (elim o as (λ _. Parts) [ None ↦ undivided | Some r ↦ r.parts ]) in each_of (λ place. deliver_row (cell_of C name s place) line) (places s)) e
 
 prints_good : (p : Program) (C : Cells) (S : State) (name : List ℕ) (r : Root) (line : Line) (n : ℕ) → root_of S name ≡ Some r → is_valued r ≡ true → HasCells p C → AreLaid C → HasRoot p C n (contents_before p n) name r → AreGood p n (deliver_rows S C name line)
@@ -182,7 +182,7 @@ NamesAll T S L (s ∷ ss) = NamesAct T S L.cells s.act × NamesAll T (apply s.ac
 found_there : (S : State) (name : List ℕ) (r : Root) → root_of S name ≡ Some r → found_by S name ≡ record { name = name; kind = r.kind; array = array_of r } ∷ []
 found_there S name r e = ap (λ (o : Option Root). elim o as (λ _. List Printed) [ None ↦ [] | Some r ↦ record { name = name; kind = r.kind; array = array_of r } ∷ [] ]) e
 
-print_deliveries-are : (S : State) (C : Cells) (name : List ℕ) (n print : ℕ) (h : Handle) (r : Root) → C.handles name ≡ Some h → root_of S name ≡ Some r → h.dims ≡ r.dims → print_deliveries S C name n print ≡ deliveries_by r n h.root print
+pub print_deliveries-are : (S : State) (C : Cells) (name : List ℕ) (n print : ℕ) (h : Handle) (r : Root) → C.handles name ≡ Some h → root_of S name ≡ Some r → h.dims ≡ r.dims → print_deliveries S C name n print ≡ deliveries_by r n h.root print
 print_deliveries-are S C name n print h r eh er ed =
     ap (λ (o : Option Handle). elim o as (λ _. List Delivery) [ None ↦ [] | Some h ↦ each_of (a_delivery n h.root h.dims (parts_in S name) print) (places (parts_in S name)) ]) eh
     ∙ ap (λ (o : Option Root). let s = (elim o as (λ _. Parts) [ None ↦ undivided | Some r ↦ r.parts ]) in each_of (a_delivery n h.root h.dims s print) (places s)) er
