@@ -1,4 +1,5 @@
 pub mod Places
+pub mod Children
 pub mod Contents
 pub mod Folding
 pub mod Laid

@@ -10,7 +10,7 @@ ghost use Rattle.sj_plan.specs.Paste.{pastes_of};
 ghost use Rattle.sj_plan.specs.Rect.{Within};
 ghost use Rattle.sj_plan.specs.Window.{window};
 ghost use Rattle.sj_lower.specs.Cells.{cells_from};
-ghost use Rattle.sj_lower.specs.Rows.{task_by, load_row, fill_row, paste_row, deliver_row, paste_arguments, paste_mode};
+ghost use Rattle.sj_lower.specs.Rows.{task_by, load_row, fill_arguments, fill_row, paste_row, deliver_row, paste_arguments, paste_mode};
 ghost use Rattle.sj_lower.specs.Lowering.{load_rows, a_delivery};
 
 use sj_base::ids::{Cell, Line, Root, Task};
@@ -67,6 +67,22 @@ fn load_arguments(alloc: Global, whole: &Tile, rect: Rect) -> Result<Vec<i64>, O
     Ok(Vec::from_slice(alloc, child.elements())?)
 }
 
+/// Loads one child of a root with its elements.
+fn load_row(
+    alloc: Global,
+    whole: &Tile,
+    rect: Rect,
+    cell: Cell,
+    line: Line,
+) -> Result<Lowered, OutOfMemory>
+    requires { Within rect whole.now.dims }
+    ensures { IfOk result (λ l. l ≡ load_row whole.now.elements whole.now.dims rect cell line) }
+{
+    let args = load_arguments(alloc, whole, rect)?;
+    let accesses = vec![in alloc; Access { mode: Mode::W, cell }]?;
+    Ok(own_task(LOAD, args, accesses, line))
+}
+
 /// Loads each child of a root with these elements. Linear in the elements; a root of one child gives its own list away.
 pub fn push_loads(
     tasks: &mut Vec<Lowered>,
@@ -111,14 +127,46 @@ fn push_windows(
     let rects = children(alloc, whole.dims(), placed.parts)?;
     let count = placed.parts.r * placed.parts.c;
     for k in 0..count {
-        let args = load_arguments(alloc, whole, rects.items()[k as usize])?;
-        let accesses = vec![in alloc; Access {
-            mode: Mode::W,
-            cell: Cell(placed.first + k),
-        }]?;
-        tasks.push(own_task(LOAD, args, accesses, line))?;
+        let rect = rects.items()[k as usize];
+        let cell = Cell(placed.first + k);
+        tasks.push(load_row(alloc, whole, rect, cell, line)?)?;
     }
     Ok(())
+}
+
+/// The arguments of the load of a child of a root of so many columns.
+fn fill_arguments(
+    alloc: Global,
+    fill: (i64, i64),
+    cols: u32,
+    rect: Rect,
+) -> Result<Vec<i64>, OutOfMemory>
+    ensures { IfOk result (λ args. args.items ≡ fill_arguments fill.0 fill.1 cols rect) }
+{
+    let args = [
+        fill.0,
+        fill.1,
+        rect.row as i64,
+        rect.col as i64,
+        cols as i64,
+    ];
+    Ok(Vec::from_array(alloc, args)?)
+}
+
+/// Loads one child of a root whose element at position i is `a + b·i`.
+fn fill_row(
+    alloc: Global,
+    fill: (i64, i64),
+    dims: Dims,
+    rect: Rect,
+    cell: Cell,
+    line: Line,
+) -> Result<Lowered, OutOfMemory>
+    ensures { IfOk result (λ l. l ≡ fill_row fill.0 fill.1 dims rect cell line) }
+{
+    let args = fill_arguments(alloc, fill, dims.cols, rect)?;
+    let accesses = vec![in alloc; Access { mode: Mode::W, cell }]?;
+    Ok(own_task(LOADFILL, args, accesses, line))
 }
 
 /// Loads each child of a root whose element at position i is `a + b·i`. Linear in the children.
@@ -139,23 +187,8 @@ pub fn push_fills(
     let count = placed.parts.r * placed.parts.c;
     for k in 0..count {
         let rect = rects.items()[k as usize];
-        let args = [
-            fill.0,
-            fill.1,
-            rect.row as i64,
-            rect.col as i64,
-            dims.cols as i64,
-        ];
-        let accesses = vec![in alloc; Access {
-            mode: Mode::W,
-            cell: Cell(placed.first + k),
-        }]?;
-        tasks.push(own_task(
-            LOADFILL,
-            Vec::from_array(alloc, args)?,
-            accesses,
-            line,
-        ))?;
+        let cell = Cell(placed.first + k);
+        tasks.push(fill_row(alloc, fill, dims, rect, cell, line)?)?;
     }
     Ok(())
 }
@@ -234,6 +267,14 @@ pub fn push_pastes(
     Ok(())
 }
 
+/// Hands over a cell.
+fn deliver_row(alloc: Global, cell: Cell, line: Line) -> Result<Lowered, OutOfMemory>
+    ensures { IfOk result (λ l. l ≡ deliver_row cell line) }
+{
+    let accesses = vec![in alloc; Access { mode: Mode::R, cell }]?;
+    Ok(own_task(DELIVER, Vec::new(alloc), accesses, line))
+}
+
 /// Hands over the cell of each child of a plan. Linear in the children.
 pub fn push_delivers(
     tasks: &mut Vec<Lowered>,
@@ -248,11 +289,8 @@ pub fn push_delivers(
 {
     let count = placed.parts.r * placed.parts.c;
     for k in 0..count {
-        let accesses = vec![in alloc; Access {
-            mode: Mode::R,
-            cell: Cell(placed.first + k),
-        }]?;
-        tasks.push(own_task(DELIVER, Vec::new(alloc), accesses, line))?;
+        let cell = Cell(placed.first + k);
+        tasks.push(deliver_row(alloc, cell, line)?)?;
     }
     Ok(())
 }
