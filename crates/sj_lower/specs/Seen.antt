@@ -113,6 +113,7 @@ pub record IsNext (T : Table) (l : Lowerer) (a : Kept) (S : State) (L : Lowering
   pub sound : IsSoundAct has S (act_seen T L.cells.roots a)
   pub placed : IsPlaced L.cells.roots a
   pub distinct : AreDistinct T.names
+  pub numbered : (n : ℕ) (h : Handle) → n < L.cells.roots → L.cells.handles (name_of T (a_root n)) ≡ Some h → (h.root ≡ a_root n) × (h.dims ≡ (info_of T (a_root n)).dims)
   pub few : count_after L.cells.roots a ≤ length T.names
   pub table : length T.names ≤ 4096
 
