@@ -1,12 +1,12 @@
 -- What the code's steps leave is what the definition says.
-use Rattle.std.proofs.Common.{◌≡◌, ℕ, ◌+◌, ◌<◌, ◌≤◌, Bool, true, false, cond, not, ◌&&◌, ◌||◌, Option, Some, None, List, [], ◌∷◌, ◌++◌, pos, length, get_or, unwrap_or, map as each_of, refl, ap, sym, subst, ◌∙◌, inl, inr, arith, length-append, get_or-set_same, get_or-set_other}
+use Rattle.std.proofs.Common.{◌≡◌, ℕ, ◌+◌, ◌*◌, ◌<◌, ◌≤◌, Bool, true, false, cond, not, ◌&&◌, ◌||◌, Option, Some, None, List, [], ◌∷◌, ◌++◌, pos, length, get_or, unwrap_or, map as each_of, refl, ap, sym, subst, ◌∙◌, inl, inr, arith, length-append, get_or-set_same, get_or-set_other}
 use Rattle.std.proofs.Math.ListN.{set}
 use Rattle.std.specs.List.{All, AllByRecursion, fold, list_all, filter}
 use Rattle.std.specs.Str.{bytes_eq}
 use Rattle.std.specs.Prelude.{◌⊎◌}
 use Rattle.std.proofs.Math.Seq.{get_or-append_seam}
 use Rattle.std.proofs.lemmas.Bool.{false≢true, and_parts, cases_lt}
-use Rattle.std.proofs.lemmas.List.{append-nil, get_or_append_left, length-set}
+use Rattle.std.proofs.lemmas.List.{append-nil, get_or_append_left, get_or_default, length-set}
 use Rattle.std.proofs.lemmas.List.Elements.{All-nil, All-cons, All-head, All-tail}
 use Rattle.sj_base.specs.declared.ids.Cell.{Cell}
 use Rattle.sj_base.specs.declared.ids.Line.{Line}
@@ -35,7 +35,8 @@ use Rattle.sj_job.specs.Meaning.{registered_root, register, with_parts, with_ele
 use Rattle.sj_job.specs.Names.{gives_values}
 use Rattle.sj_job.specs.Sound.{has_child, has_values, has_none, has_root, dims_of as root_dims, IsSoundPlan, IsSoundTask}
 use Rattle.sj_job.specs.Table.{Table, AreDistinct, a_root, name_of, info_of, undivided}
-use Rattle.sj_job.specs.Track.{Track, Tracks, all_valued, none_valued, children_count, even}
+use Rattle.sj_job.specs.Track.{Track, Tracks, IsPlan, all_valued, none_valued, children_count, even}
+use Rattle.sj_lower.proofs.Places.{length-places}
 use Rattle.sj_job.specs.View.{operand_seen, task_seen, registration, act_seen, count_after, IsPlaced}
 use Rattle.sj_job.proofs.Children.{tracks-registered, tracks-planned, tracks-invalidated, all_valued-same, none_valued-same}
 use Rattle.sj_lower.specs.declared.lowerer.Active.{Active}
@@ -44,7 +45,7 @@ use Rattle.sj_lower.specs.Cells.{Cells, Handle, same_parts, first_cell, cells_fr
 use Rattle.sj_lower.specs.Limits.{most}
 use Rattle.sj_lower.specs.Rows.{an_access, paste_row, deliver_row}
 use Rattle.sj_lower.specs.Lowering.{Lowering, cells_after, load_rows, parts_in, active_cell, access_of, plan_rows, task_row, deliver_rows, a_delivery, print_deliveries, rows_of, lower_one}
-use Rattle.sj_lower.specs.Seen.{no_active, active_at, IsActive, AreActive, Follows, IsNext, Does, HasRoom, AreIn, access_by, children_after, first_after}
+use Rattle.sj_lower.specs.Seen.{no_active, active_at, pasted_by, IsActive, AreActive, Follows, IsNext, Does, HasRoom, AreIn, access_by, children_after, first_after}
 use Rattle.sj_lower.proofs.Agreeing.{plan_rows-are}
 use Rattle.sj_lower.proofs.Holding.{get-put, get-gone, root-change}
 use Rattle.sj_lower.proofs.Laid.{same_name, bytes_eq-itself, some_is, none_isn't, IsTaken, take-keeps, take-takes, take-roots, root-keeps, root-there}
@@ -167,11 +168,7 @@ does-register T old new init first line room et ed ep ea S L next place = record
 
 -- ---- plans
 
--- what a plan line gives, by the code's active plan
-abbrev pub pasted_by : Table → Active → RootNumber → Parts → ℕ → Line → List Lowered
-pasted_by T a r p first line = cond (same_parts a.tracked.parts p || not (all_valued a.tracked)) [] (each_of (paste_row (cells_from a.first a.tracked.parts) (cells_from first p) line) (pastes_of (info_of T r).dims a.tracked.parts p))
-
-pub plan_rows-by : (T : Table) (C : Cells) (S : State) (r : RootNumber) (p : Parts) (first : ℕ) (line : Line) (a : Active) (root : Root) → root_of S (name_of T r) ≡ Some root → IsActive T C r.0 a root → first_cell C (name_of T r) p ≡ first → plan_rows S C (name_of T r) p line ≡ pasted_by T a r p first line
+pub plan_rows-by : (T : Table) (C : Cells) (S : State) (r : RootNumber) (p : Parts) (first : ℕ) (line : Line) (a : Active) (root : Root) → root_of S (name_of T r) ≡ Some root → IsActive T C r.0 a root → first_cell C (name_of T r) p ≡ first → plan_rows S C (name_of T r) p line ≡ pasted_by (info_of T r).dims a p first line
 plan_rows-by T C S r p first line a root there is place =
     plan_rows-are S C (name_of T r) p line root there
     ∙ (λ i. cond (same_parts (sym is.tracks.parts i) p || not (sym (all_valued-same a.tracked root is.tracks) i)) [] (each_of (paste_row (cells_from (active-first T C r.0 a root is i) (sym is.tracks.parts i)) (cells_from (place i) p) line) (pastes_of (is.dims i) (sym is.tracks.parts i) p)))
@@ -205,7 +202,7 @@ plan-even T l S L r p next =
     (λ i. all_valued-same t k.root k.active.tracks i || none_valued-same t k.root k.active.tracks i) ∙ sym (values_are S (name_of T r) k.root k.is_root) ∙ next.sound.even
 
 pub does-plan : (T : Table) (old new : Lowerer) (r : RootNumber) (p : Parts) (first : ℕ) (line : Line) → let a = active_at old.actives.items r.0 in HasRoom T (length old.actives.items) (kept.Plan r p) first
-    → new.tasks.items ≡ old.tasks.items ++ pasted_by T a r p first line → new.deliveries.items ≡ old.deliveries.items → new.prints ≡ old.prints
+    → new.tasks.items ≡ old.tasks.items ++ pasted_by (info_of T r).dims a p first line → new.deliveries.items ≡ old.deliveries.items → new.prints ≡ old.prints
     → new.actives.items ≡ set old.actives.items r.0 (record { tracked = even p (all_valued a.tracked); first = first }) → Does T old new (kept.Plan r p) first line
 does-plan T old new r p first line room et ed ep ea S L next place = record {
   tasks = et ∙ (λ i. next.follows.tasks i ++ sym (plan_rows-by T D S r p first line a root k.is_root kept_here place) i);
@@ -352,3 +349,20 @@ does-unregister T l r line S L next place = record {
     by_test : (n : ℕ) (t : Root) → n < L.cells.roots → (b : Bool) → cond b None (root_of S (name_of T (a_root n))) ≡ Some t → IsActive T L.cells n (active_at l.actives.items n) t
     by_test n t lt true e = absurd (none_isn't t e)
     by_test n t lt false e = next.follows.actives.each n t lt e
+
+-- an item that is there, whatever stands for one that isn't
+pub at-default : (as' : List Active) (i : ℕ) (d : Active) → i < length as' → get_or as' i d ≡ active_at as' i
+at-default as' i d h = get_or_default as' i d no_active h
+
+positive : (a b : ℕ) → 0 < a → 0 < b → 0 < a * b
+positive a b h k = grind arith
+
+pub fits-plan : (p : Parts) (d : Dims) → Fits p d → IsPlan p
+fits-plan p d f = record { some = positive p.r p.c f.some_rows f.some_cols; few = f.few }
+
+-- the tasks of a print statement are as many as the children
+pub many-delivered : (T : Table) (l : Lowerer) (S : State) (L : Lowering) (r : RootNumber) (line : Line) → IsNext T l (kept.Print r) S L → length (deliver_rows S L.cells (name_of T r) line) ≡ children_count (active_at l.actives.items r.0).tracked.parts
+many-delivered T l S L r line next =
+    let k = print-known T l S L r next in
+    let a = active_at l.actives.items r.0 in
+    ap length (deliver_rows-by T L.cells S r line a k.root k.is_root k.active) ∙ length-places (λ place. deliver_row (cells_from a.first a.tracked.parts place) line) a.tracked.parts

@@ -1,6 +1,6 @@
 //! What the statements so far are lowered to.
 
-ghost use Rattle.std.specs.Prelude.{◌≡◌, ◌+◌, ◌<◌, ◌≤◌, ◌++◌, ◌∷◌, [], ℕ, List, All, length, map, vec_len, IfOk, OnOk};
+ghost use Rattle.std.specs.Prelude.{◌≡◌, ◌+◌, ◌<◌, ◌≤◌, ◌++◌, ◌∷◌, ◌||◌, [], ℕ, List, All, IsTrue, length, map, vec_len, IfOk, OnOk};
 ghost use Rattle.sj_base.specs.declared.ids.Line.{Line};
 ghost use Rattle.sj_job.specs.State.{State, start};
 ghost use Rattle.sj_job.specs.Table.{Table};
@@ -8,12 +8,12 @@ ghost use Rattle.sj_job.specs.View.{act_seen};
 ghost use Rattle.sj_job.specs.declared.job.Act.TheVariants as kept;
 ghost use Rattle.sj_job.specs.Names.{gives_values};
 ghost use Rattle.sj_job.specs.Sound.{InitFits};
-ghost use Rattle.sj_job.specs.Track.{children_count};
+ghost use Rattle.sj_job.specs.Track.{IsPlan, all_valued, none_valued, even, children_count};
 ghost use Rattle.sj_plan.specs.Parts.{Fits};
 ghost use Rattle.sj_lower.specs.Cells.{Cells, cells_from};
 ghost use Rattle.sj_lower.specs.Limits.{most};
 ghost use Rattle.sj_lower.specs.Lowering.{Lowering, nothing, load_rows, rows_of, program_of};
-ghost use Rattle.sj_lower.specs.Seen.{Follows, HasNext, IsNext, Does, HasRoom, AreIn, access_by, after_writes};
+ghost use Rattle.sj_lower.specs.Seen.{Follows, HasNext, IsNext, Does, HasRoom, AreIn, access_by, after_writes, pasted_by};
 
 use crate::rows::{
     Placed, push_deliveries, push_delivers, push_fills, push_loads, push_pastes,
@@ -27,6 +27,7 @@ use sj_job::job::{Act, Init, Operand, RootInfo, TaskLine};
 use sj_job::roots::Roots;
 use sj_job::track::Tracked;
 use sj_plan::count::count_pastes;
+use sj_base::tile::Dims;
 use sj_plan::parts::Parts;
 use std::alloc::Global;
 
@@ -57,6 +58,43 @@ impl Active {
             first: self.first,
         }
     }
+}
+
+impl Active {
+    /// Another plan is active from now on. Constant time.
+    fn plan(&mut self, placed: Placed)
+        requires plan { IsPlan placed.parts }
+        requires even { IsTrue (all_valued self.old.tracked || none_valued self.old.tracked) }
+        ensures tracked { self.new.tracked ≡ even placed.parts (all_valued self.old.tracked) }
+        ensures first { self.new.first ≡ placed.first }
+    {
+        self.tracked.plan(placed.parts);
+        self.first = placed.first;
+    }
+}
+
+/// Pastes the children of the active plan into those of another one, if it is another and the root has values. Linear in the
+/// pairs that overlap.
+fn push_plan(
+    tasks: &mut Vec<Lowered>,
+    alloc: Global,
+    dims: Dims,
+    active: &Active,
+    placed: Placed,
+    line: Line,
+) -> Result<(), OutOfMemory>
+    requires old_plan { Fits active.now.tracked.parts dims }
+    requires new_plan { Fits placed.parts dims }
+    requires old_cells { active.now.first + children_count active.now.tracked.parts ≤ most }
+    requires new_cells { placed.first + children_count placed.parts ≤ most }
+    ensures { OnOk result (tasks.new.items
+        ≡ tasks.old.items ++ pasted_by dims active.now placed.parts placed.first line) }
+{
+    let old = active.placed();
+    if old.parts == placed.parts || !active.tracked.is_all() {
+        return Ok(());
+    }
+    push_pastes(tasks, alloc, dims, old, placed, line)
 }
 
 /// The accesses of operands to the cells of their children. Linear in them.
@@ -188,15 +226,10 @@ impl Lowerer {
         requires room { HasRoom roots.now (vec_len self.old.actives) (kept.Plan root placed.parts) placed.first }
         ensures does { OnOk result (Does roots.now self.old self.new (kept.Plan root placed.parts) placed.first line) }
     {
+        let dims = roots.info(root).dims;
         let active = &self.actives[root.0 as usize];
-        let old = active.placed();
-        if old.parts != placed.parts && active.tracked.is_all() {
-            let dims = roots.info(root).dims;
-            push_pastes(&mut self.tasks, alloc, dims, old, placed, line)?;
-        }
-        let active = &mut self.actives[root.0 as usize];
-        active.tracked.plan(placed.parts);
-        active.first = placed.first;
+        push_plan(&mut self.tasks, alloc, dims, active, placed, line)?;
+        self.actives[root.0 as usize].plan(placed);
         Ok(())
     }
 
