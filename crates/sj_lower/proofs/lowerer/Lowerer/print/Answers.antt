@@ -70,6 +70,10 @@ returns-clause-does c =
 pub returns-clause-prints : goal.returns-clause-prints
 returns-clause-prints c =
     let P = c.placed-placed.result in
-    let plan = push_delivers-requires-clause-plan c in
+    let n = c.requires.next in
+    let l = c.args.self.now in
+    let k = print-known c.args.roots.now l n.state n.lowering c.args.root n.next in
+    let is : c.index.result.now ≡ active_at l.actives.items c.args.root.0 = c.index.ensures ∙ at-default l.actives.items c.args.root.0 c.index.result.now (omega (arith, n.next.placed, n.next.follows.actives.counted)) in
+    let plan = subst IsPlan (sym (c.placed-placed.ensures.parts ∙ ap (λ (a : Active). a.tracked.parts) is ∙ k.active.tracks.parts)) (fits-plan k.root.parts k.root.dims k.active.tracks.fits) in
     let row = λ (place : ℕ × ℕ). deliver_row (cells_from P.first P.parts place) c.args.line in
     omega (arith, c.requires.prints, c.args.self.now.tasks.ok, c.push_delivers.new.tasks.ok, ap length c.in_ok-push_delivers.ensures, length-append c.args.self.now.tasks.items (map row (places P.parts)), length-places row P.parts, plan.some)
