@@ -197,7 +197,9 @@ impl Lowerer {
     ) -> Result<(), OutOfMemory>
         requires next { HasNext roots.now self.old (kept.Register init) }
         requires room { HasRoom roots.now (vec_len self.old.actives) (kept.Register init) first }
+        requires prints { self.old.prints ≤ vec_len self.old.tasks }
         ensures does { OnOk result (Does roots.now self.old self.new (kept.Register init) first line) }
+        ensures prints { OnOk result (self.new.prints ≤ vec_len self.new.tasks) }
     {
         let info = roots.info(Root(self.actives.len() as u32));
         let placed = Placed {
@@ -224,7 +226,9 @@ impl Lowerer {
     ) -> Result<(), OutOfMemory>
         requires next { HasNext roots.now self.old (kept.Plan root placed.parts) }
         requires room { HasRoom roots.now (vec_len self.old.actives) (kept.Plan root placed.parts) placed.first }
+        requires prints { self.old.prints ≤ vec_len self.old.tasks }
         ensures does { OnOk result (Does roots.now self.old self.new (kept.Plan root placed.parts) placed.first line) }
+        ensures prints { OnOk result (self.new.prints ≤ vec_len self.new.tasks) }
     {
         let dims = roots.info(root).dims;
         let active = &self.actives[root.0 as usize];
@@ -242,7 +246,9 @@ impl Lowerer {
         line: Line,
     ) -> Result<(), OutOfMemory>
         requires next { HasNext roots.now self.old (kept.Task task) }
+        requires prints { self.old.prints ≤ vec_len self.old.tasks }
         ensures does { OnOk result (Does roots.now self.old self.new (kept.Task task) 0 line) }
+        ensures prints { OnOk result (self.new.prints ≤ vec_len self.new.tasks) }
     {
         let operands = task.operands.items();
         let accesses = accesses(alloc, &self.actives, operands)?;
@@ -293,8 +299,39 @@ impl Lowerer {
     fn invalidate(&mut self, roots: &Roots, root: Root, line: Line)
         requires next { HasNext roots.now self.old (kept.Invalidate root) }
         ensures does { Does roots.now self.old self.new (kept.Invalidate root) 0 line }
+        ensures prints { self.new.prints ≡ self.old.prints }
+        ensures tasks { self.new.tasks ≡ self.old.tasks }
     {
         self.actives[root.0 as usize].tracked.invalidate();
+    }
+
+    /// Lowers one statement more, where the plan that it makes active has its cells from `first` on. Linear in its operands, and
+    /// in the tasks that it gives.
+    pub fn add(
+        &mut self,
+        alloc: Global,
+        roots: &Roots,
+        act: Act,
+        first: u32,
+        line: Line,
+    ) -> Result<(), OutOfMemory>
+        requires next { HasNext roots.now self.old act }
+        requires room { HasRoom roots.now (vec_len self.old.actives) act first }
+        requires few { (S : State) (L : Lowering) (C : Cells) → IsNext roots.now self.old act S L
+            → vec_len self.old.tasks + length (rows_of S C line (act_seen roots.now (vec_len self.old.actives) act)) ≤ most }
+        requires prints { self.old.prints ≤ vec_len self.old.tasks }
+        ensures does { OnOk result (Does roots.now self.old self.new act first line) }
+        ensures prints { OnOk result (self.new.prints ≤ vec_len self.new.tasks) }
+    {
+        match act {
+            Act::Register(init) => self.register(alloc, roots, init, first, line)?,
+            Act::Plan(root, parts) => self.plan(alloc, roots, root, Placed { parts, first }, line)?,
+            Act::Task(task) => self.task(alloc, roots, task, line)?,
+            Act::Print(root) => self.print(alloc, roots, root, line)?,
+            Act::Invalidate(root) => self.invalidate(roots, root, line),
+            Act::Unregister(_) => {}
+        }
+        Ok(())
     }
 }
 

@@ -6,8 +6,8 @@ use Rattle.sj_lower.specs.Seen.{active_at}
 use Rattle.sj_lower.proofs.Following.{does-invalidate, at-default}
 use Rattle.sj_lower.proofs.lowerer.Lowerer.invalidate.Goals as goal
 
-pub returns : goal.returns
-returns c = record { does =
+pub returns-clause-does : goal.returns-clause-does
+returns-clause-does c =
     let l = c.args.self.now in
     let i = c.args.root.0 in
     let next = c.requires.next.next in
@@ -15,4 +15,3 @@ returns c = record { does =
     does-invalidate c.args.roots.now l _ c.args.root c.args.line refl refl refl
     ((λ k. set l.actives.items i (record { tracked = c.invalidate.ensures k; first = c.index_mut.result.now.first }))
     ∙ (λ k. set l.actives.items i (record { tracked = even (is k).tracked.parts false; first = (is k).first })))
-}

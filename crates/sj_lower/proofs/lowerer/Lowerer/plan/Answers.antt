@@ -1,4 +1,4 @@
-use Rattle.std.proofs.Common.{◌≡◌, ◌∙◌, ◌++◌, ◌||◌, ◌+◌, ◌≤◌, true, refl, ap, sym, subst, arith}
+use Rattle.std.proofs.Common.{◌≡◌, ◌∙◌, ◌++◌, ◌||◌, ◌+◌, ◌≤◌, true, refl, ap, sym, subst, length, arith, length-append}
 use Rattle.std.proofs.Math.ListN.{set}
 use Rattle.sj_job.specs.declared.job.RootInfo.{RootInfo}
 use Rattle.sj_base.specs.declared.tile.Dims.{Dims}
@@ -11,8 +11,8 @@ use Rattle.sj_lower.specs.Seen.{active_at, pasted_by}
 use Rattle.sj_lower.proofs.Following.{does-plan, at-default, plan-known, plan-fits, plan-even, fits-plan}
 use Rattle.sj_lower.proofs.lowerer.Lowerer.plan.Goals as goal
 
-pub returns : goal.returns
-returns c = record { does =
+pub returns-clause-does : goal.returns-clause-does
+returns-clause-does c =
     let T = c.args.roots.now in
     let l = c.args.self.now in
     let i = c.args.root.0 in
@@ -23,7 +23,6 @@ returns c = record { does =
     (c.in_ok-push_plan.ensures ∙ (λ k. l.tasks.items ++ pasted_by (c.info.ensures k).dims (is k) c.args.placed.parts c.args.placed.first c.args.line)) refl refl
     ((λ k. set l.actives.items i (record { tracked = c.plan.ensures.tracked k; first = c.plan.ensures.first k }))
     ∙ (λ k. set l.actives.items i (record { tracked = even c.args.placed.parts (all_valued (also k).tracked); first = c.args.placed.first })))
-}
 
 pub push_plan-requires-clause-old_plan : goal.push_plan-requires-clause-old_plan
 push_plan-requires-clause-old_plan c =
@@ -57,3 +56,7 @@ plan-requires-clause-even c =
     let l = c.args.self.now in
     let is : c.index_mut.result.now ≡ active_at l.actives.items c.args.root.0 = c.index_mut.ensures.value ∙ at-default l.actives.items c.args.root.0 c.index_mut.result.now (omega (arith, n.next.placed, n.next.follows.actives.counted)) in
     ap (λ (a : Active). all_valued a.tracked || none_valued a.tracked) is ∙ plan-even c.args.roots.now l n.state n.lowering c.args.root c.args.placed.parts n.next
+
+pub returns-clause-prints : goal.returns-clause-prints
+returns-clause-prints c =
+    omega (arith, c.requires.prints, c.args.self.now.tasks.ok, c.push_plan.new.tasks.ok, ap length c.in_ok-push_plan.ensures, length-append c.args.self.now.tasks.items (pasted_by c.info.result.dims c.index-active.result.now c.args.placed.parts c.args.placed.first c.args.line))
