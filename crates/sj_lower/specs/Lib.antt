@@ -5,3 +5,4 @@ pub mod Limits
 pub mod Job
 pub mod Delivering
 pub mod Seen
+pub mod Progress

@@ -2,5 +2,6 @@
 #![tactic(auto)]
 
 mod layout;
+pub mod lower;
 mod lowerer;
 mod rows;
