@@ -19,3 +19,4 @@ pub mod Naming
 pub mod Pushing
 pub mod Laying
 pub mod Following
+pub mod Tracking
