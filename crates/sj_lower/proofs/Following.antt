@@ -83,7 +83,7 @@ changed-actives T C D as' S i f r new g below d few roots keeps there is M chang
   where
     beside : (n : ℕ) (t : Root) → n < C.roots → (i ≡ n → ⊥) → cond (bytes_eq (name_of T (a_root i)) (name_of T (a_root n))) (Some (f r)) (root_of S (name_of T (a_root n))) ≡ Some t → IsActive T D n (active_at (set as' i new) n) t
     beside n t lt other e =
-        subst (λ (a : Active). IsActive T D n a t) (sym (get_or-set_other as' i n new no_active other))
+        subst (λ (a : Active). IsActive T D n a t) (sym (get_or-set_other as' i n new no_active (λ e. other (sym e))))
         (kept-active T C D n (active_at as' n) t (λ d s f k. keeps (name_of T (a_root n)) d s f k) (g.each n t lt (sym (ap (λ b. cond b (Some (f r)) (root_of S (name_of T (a_root n)))) (other_root T i n d (omega (arith, below, few)) (omega (arith, lt, few)) other)) ∙ e)))
 
     by_number : (n : ℕ) (t : Root) → n < C.roots → (n < i) ⊎ (i ≤ n) → (i < n) ⊎ (n ≤ i) → cond (bytes_eq (name_of T (a_root i)) (name_of T (a_root n))) (Some (f r)) (root_of S (name_of T (a_root n))) ≡ Some t → IsActive T D n (active_at (set as' i new) n) t

@@ -20,3 +20,4 @@ pub mod Pushing
 pub mod Laying
 pub mod Following
 pub mod Tracking
+pub mod Counting
