@@ -1,5 +1,5 @@
 -- What is lowered so far, as contracts see it.
-use Rattle.std.specs.Prelude.{◌≡◌, ◌<◌, ◌≤◌, ◌+◌, ◌&&◌, nat_eq, Bool, ℕ, Option, Some, None, List, [], length, vec_len, slice_index_or, slice_set, if◌then◌else◌}
+use Rattle.std.specs.Prelude.{◌≡◌, ◌<◌, ◌≤◌, ◌+◌, ◌&&◌, nat_eq, Bool, ℕ, Option, Some, None, List, [], length, vec_len, ◌||◌, not, map, slice_index_or, slice_set, if◌then◌else◌}
 use Rattle.std.specs.List.{fold}
 use Rattle.indexmap.specs.IndexMap.{IndexMap, get}
 use Rattle.sj_base.specs.declared.ids.Line.{Line}
@@ -7,6 +7,9 @@ use Rattle.sj_base.specs.declared.mode.Access.{Access}
 use Rattle.sj_codelet.specs.declared.kernel.Kernel.{Kernel}
 use Rattle.sj_plan.specs.declared.parts.Parts.{Parts}
 use Rattle.sj_plan.specs.Parts.{Fits, IsPlace}
+use Rattle.sj_plan.specs.Paste.{pastes_of}
+use Rattle.sj_base.specs.declared.tile.Dims.{Dims}
+use Rattle.sj_base.specs.declared.program.Lowered.{Lowered}
 use Rattle.sj_job.specs.declared.job.Act.{Act as Kept}
 use Rattle.sj_job.specs.declared.job.Act.TheVariants as kept
 use Rattle.sj_job.specs.declared.job.Operand.{Operand}
@@ -16,14 +19,14 @@ use Rattle.sj_job.specs.State.{Root, State, root_of}
 use Rattle.sj_job.specs.Meaning.{is_written, apply}
 use Rattle.sj_job.specs.Sound.{IsSoundAct}
 use Rattle.sj_job.specs.Table.{Table, AreDistinct, a_root, name_of, info_of, undivided}
-use Rattle.sj_job.specs.Track.{Track, Tracks, children_count, written}
+use Rattle.sj_job.specs.Track.{Track, Tracks, all_valued, children_count, written}
 use Rattle.sj_job.specs.View.{act_seen, count_after, IsPlaced}
 use Rattle.sj_lower.specs.declared.layout.Taken.{Taken}
 use Rattle.sj_lower.specs.declared.layout.Layout.{Layout}
 use Rattle.sj_lower.specs.declared.lowerer.Active.{Active}
 use Rattle.sj_lower.specs.declared.lowerer.Lowerer.{Lowerer}
-use Rattle.sj_lower.specs.Cells.{Cells, Handle, first_cell, cells_from}
-use Rattle.sj_lower.specs.Rows.{an_access}
+use Rattle.sj_lower.specs.Cells.{Cells, Handle, same_parts, first_cell, cells_from}
+use Rattle.sj_lower.specs.Rows.{an_access, paste_row}
 use Rattle.sj_lower.specs.Limits.{most}
 use Rattle.sj_lower.specs.Lowering.{Lowering, cells_after, lower_one}
 
@@ -113,6 +116,7 @@ pub record IsNext (T : Table) (l : Lowerer) (a : Kept) (S : State) (L : Lowering
   pub sound : IsSoundAct has S (act_seen T L.cells.roots a)
   pub placed : IsPlaced L.cells.roots a
   pub distinct : AreDistinct T.names
+  pub numbered : (n : ℕ) (h : Handle) → n < L.cells.roots → L.cells.handles (name_of T (a_root n)) ≡ Some h → (h.root ≡ a_root n) × (h.dims ≡ (info_of T (a_root n)).dims)
   pub few : count_after L.cells.roots a ≤ length T.names
   pub table : length T.names ≤ 4096
 
@@ -151,3 +155,9 @@ after_write actives o =
 
 abbrev pub after_writes : List Operand → List Active → List Active
 after_writes os actives = fold after_write actives os
+
+-- what a plan line gives, by the active plan of its root
+abbrev pub pasted_by : Dims → Active → Parts → ℕ → Line → List Lowered
+pasted_by d a p first line =
+    if same_parts a.tracked.parts p || not (all_valued a.tracked) then []
+    else map (paste_row (cells_from a.first a.tracked.parts) (cells_from first p) line) (pastes_of d a.tracked.parts p)

@@ -1,6 +1,6 @@
 //! What the statements so far are lowered to.
 
-ghost use Rattle.std.specs.Prelude.{◌≡◌, ◌+◌, ◌<◌, ◌≤◌, ◌++◌, ◌∷◌, ◌||◌, [], not, ℕ, List, All, length, map, vec_len, IfOk, OnOk};
+ghost use Rattle.std.specs.Prelude.{◌≡◌, ◌+◌, ◌<◌, ◌≤◌, ◌++◌, ◌∷◌, ◌||◌, [], not, ℕ, List, All, IsTrue, length, map, vec_len, IfOk, OnOk};
 ghost use Rattle.sj_base.specs.declared.ids.Line.{Line};
 ghost use Rattle.sj_job.specs.State.{State, start};
 ghost use Rattle.sj_job.specs.Table.{Table};
@@ -10,12 +10,12 @@ ghost use Rattle.sj_job.specs.Names.{gives_values};
 ghost use Rattle.sj_job.specs.Sound.{InitFits};
 ghost use Rattle.sj_base.specs.declared.ids.Cell.{Cell};
 ghost use Rattle.sj_base.specs.declared.tile.Dims.{Dims};
-ghost use Rattle.sj_job.specs.Track.{all_valued, children_count};
+ghost use Rattle.sj_job.specs.Track.{IsPlan, all_valued, none_valued, even, children_count};
 ghost use Rattle.sj_plan.specs.Parts.{Fits};
 ghost use Rattle.sj_lower.specs.Cells.{Cells, cells_from, same_parts};
 ghost use Rattle.sj_lower.specs.Limits.{most};
 ghost use Rattle.sj_lower.specs.Lowering.{Lowering, nothing, load_rows, rows_of, program_of};
-ghost use Rattle.sj_lower.specs.Seen.{Follows, HasNext, IsNext, Does, HasRoom, AreIn, access_by, after_writes};
+ghost use Rattle.sj_lower.specs.Seen.{Follows, HasNext, IsNext, Does, HasRoom, AreIn, access_by, after_writes, pasted_by};
 
 use crate::rows::{
     Placed, push_deliveries, push_delivers, push_fills, push_loads, push_pastes,
@@ -29,6 +29,7 @@ use sj_job::job::{Act, Init, Operand, RootInfo, TaskLine};
 use sj_job::roots::Roots;
 use sj_job::track::Tracked;
 use sj_plan::count::count_pastes;
+use sj_base::tile::Dims;
 use sj_plan::parts::Parts;
 use std::alloc::Global;
 
@@ -67,6 +68,17 @@ impl Active {
         let active = self.tracked.parts();
         (active.r == parts.r && active.c == parts.c) || !self.tracked.is_all()
     }
+
+    /// Another plan is active from now on. Constant time.
+    fn plan(&mut self, placed: Placed)
+        requires plan { IsPlan placed.parts }
+        requires even { IsTrue (all_valued self.old.tracked || none_valued self.old.tracked) }
+        ensures tracked { self.new.tracked ≡ even placed.parts (all_valued self.old.tracked) }
+        ensures first { self.new.first ≡ placed.first }
+    {
+        self.tracked.plan(placed.parts);
+        self.first = placed.first;
+    }
 }
 
 /// How many tasks give a root's children their first elements. Constant time.
@@ -77,6 +89,30 @@ fn count_first(init: &Init, parts: Parts) -> u64
         Init::Values(_) | Init::Fill(_, _) => parts.r as u64 * parts.c as u64,
         Init::Nothing => 0,
     }
+}
+
+/// Pastes the children of the active plan into those of another one, if it is another and the root has values. Linear in the
+/// pairs that overlap.
+fn push_plan(
+    tasks: &mut Vec<Lowered>,
+    alloc: Global,
+    dims: Dims,
+    active: &Active,
+    placed: Placed,
+    line: Line,
+) -> Result<(), OutOfMemory>
+    requires old_plan { Fits active.now.tracked.parts dims }
+    requires new_plan { Fits placed.parts dims }
+    requires old_cells { active.now.first + children_count active.now.tracked.parts ≤ most }
+    requires new_cells { placed.first + children_count placed.parts ≤ most }
+    ensures { OnOk result (tasks.new.items
+        ≡ tasks.old.items ++ pasted_by dims active.now placed.parts placed.first line) }
+{
+    let old = active.placed();
+    if old.parts == placed.parts || !active.tracked.is_all() {
+        return Ok(());
+    }
+    push_pastes(tasks, alloc, dims, old, placed, line)
 }
 
 /// The accesses of operands to the cells of their children. Linear in them.
@@ -177,7 +213,9 @@ impl Lowerer {
     ) -> Result<(), OutOfMemory>
         requires next { HasNext roots.now self.old (kept.Register init) }
         requires room { HasRoom roots.now (vec_len self.old.actives) (kept.Register init) first }
+        requires prints { self.old.prints ≤ vec_len self.old.tasks }
         ensures does { OnOk result (Does roots.now self.old self.new (kept.Register init) first line) }
+        ensures prints { OnOk result (self.new.prints ≤ vec_len self.new.tasks) }
     {
         let info = roots.info(Root(self.actives.len() as u32));
         let placed = Placed {
@@ -204,17 +242,14 @@ impl Lowerer {
     ) -> Result<(), OutOfMemory>
         requires next { HasNext roots.now self.old (kept.Plan root placed.parts) }
         requires room { HasRoom roots.now (vec_len self.old.actives) (kept.Plan root placed.parts) placed.first }
+        requires prints { self.old.prints ≤ vec_len self.old.tasks }
         ensures does { OnOk result (Does roots.now self.old self.new (kept.Plan root placed.parts) placed.first line) }
+        ensures prints { OnOk result (self.new.prints ≤ vec_len self.new.tasks) }
     {
+        let dims = roots.info(root).dims;
         let active = &self.actives[root.0 as usize];
-        let old = active.placed();
-        if old.parts != placed.parts && active.tracked.is_all() {
-            let dims = roots.info(root).dims;
-            push_pastes(&mut self.tasks, alloc, dims, old, placed, line)?;
-        }
-        let active = &mut self.actives[root.0 as usize];
-        active.tracked.plan(placed.parts);
-        active.first = placed.first;
+        push_plan(&mut self.tasks, alloc, dims, active, placed, line)?;
+        self.actives[root.0 as usize].plan(placed);
         Ok(())
     }
 
@@ -227,7 +262,9 @@ impl Lowerer {
         line: Line,
     ) -> Result<(), OutOfMemory>
         requires next { HasNext roots.now self.old (kept.Task task) }
+        requires prints { self.old.prints ≤ vec_len self.old.tasks }
         ensures does { OnOk result (Does roots.now self.old self.new (kept.Task task) 0 line) }
+        ensures prints { OnOk result (self.new.prints ≤ vec_len self.new.tasks) }
     {
         let operands = task.operands.items();
         let accesses = accesses(alloc, &self.actives, operands)?;
@@ -278,8 +315,39 @@ impl Lowerer {
     fn invalidate(&mut self, roots: &Roots, root: Root, line: Line)
         requires next { HasNext roots.now self.old (kept.Invalidate root) }
         ensures does { Does roots.now self.old self.new (kept.Invalidate root) 0 line }
+        ensures prints { self.new.prints ≡ self.old.prints }
+        ensures tasks { self.new.tasks ≡ self.old.tasks }
     {
         self.actives[root.0 as usize].tracked.invalidate();
+    }
+
+    /// Lowers one statement more, where the plan that it makes active has its cells from `first` on. Linear in its operands, and
+    /// in the tasks that it gives.
+    pub fn add(
+        &mut self,
+        alloc: Global,
+        roots: &Roots,
+        act: Act,
+        first: u32,
+        line: Line,
+    ) -> Result<(), OutOfMemory>
+        requires next { HasNext roots.now self.old act }
+        requires room { HasRoom roots.now (vec_len self.old.actives) act first }
+        requires few { (S : State) (L : Lowering) (C : Cells) → IsNext roots.now self.old act S L
+            → vec_len self.old.tasks + length (rows_of S C line (act_seen roots.now (vec_len self.old.actives) act)) ≤ most }
+        requires prints { self.old.prints ≤ vec_len self.old.tasks }
+        ensures does { OnOk result (Does roots.now self.old self.new act first line) }
+        ensures prints { OnOk result (self.new.prints ≤ vec_len self.new.tasks) }
+    {
+        match act {
+            Act::Register(init) => self.register(alloc, roots, init, first, line)?,
+            Act::Plan(root, parts) => self.plan(alloc, roots, root, Placed { parts, first }, line)?,
+            Act::Task(task) => self.task(alloc, roots, task, line)?,
+            Act::Print(root) => self.print(alloc, roots, root, line)?,
+            Act::Invalidate(root) => self.invalidate(roots, root, line),
+            Act::Unregister(_) => {}
+        }
+        Ok(())
     }
 }
 

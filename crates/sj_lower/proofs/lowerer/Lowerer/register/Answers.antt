@@ -1,0 +1,29 @@
+use Rattle.std.proofs.Common.{◌≡◌, ◌∙◌, ◌++◌, ◌∷◌, [], ℕ, length, refl, ap, sym, subst, vec_len, arith, length-append}
+use Rattle.sj_job.specs.declared.job.Act.TheVariants as kept
+use Rattle.sj_lower.specs.Seen.{HasRoom}
+use Rattle.sj_job.specs.declared.job.RootInfo.{RootInfo}
+use Rattle.sj_job.specs.Names.{gives_values}
+use Rattle.sj_job.specs.Table.{a_root, info_of}
+use Rattle.sj_job.specs.Track.{even}
+use Rattle.sj_lower.specs.declared.lowerer.Active.{Active}
+use Rattle.sj_lower.specs.Cells.{cells_from}
+use Rattle.sj_lower.specs.Lowering.{load_rows}
+use Rattle.sj_lower.proofs.Following.{does-register}
+use Rattle.sj_lower.proofs.lowerer.Lowerer.register.Goals as goal
+
+pub returns-clause-does : goal.returns-clause-does
+returns-clause-does c =
+    let T = c.args.roots.now in
+    let l = c.args.self.now in
+    let counted : vec_len l.actives ≡ length l.actives.items = omega (arith, l.actives.ok) in
+    let number : c.len.result ≡ length l.actives.items = omega (arith, c.len.ensures, l.actives.ok) in
+    let info : c.info-info.result ≡ info_of T (a_root (length l.actives.items)) = c.info-info.ensures ∙ ap (λ (n : ℕ). info_of T (a_root n)) number in
+    does-register T l _ c.args.init c.args.first c.args.line (subst (λ (n : ℕ). HasRoom T n (kept.Register c.args.init) c.args.first) counted c.requires.room)
+    (c.in_ok-valued.ensures.tasks ∙ (λ k. l.tasks.items ++ load_rows c.args.init (info k).dims (info k).parts (cells_from c.args.first (info k).parts) c.args.line)) refl refl
+    (c.in_ok-push.ensures.items
+    ∙ ap (λ t. l.actives.items ++ record { tracked = t; first = c.args.first } ∷ []) (c.even.ensures ∙ (λ k. even (info k).parts (c.in_ok-valued.ensures.valued k))))
+
+pub returns-clause-prints : goal.returns-clause-prints
+returns-clause-prints c =
+    let info = c.info-info.result in
+    omega (arith, c.requires.prints, c.args.self.now.tasks.ok, c.push_first.new.tasks.ok, ap length c.in_ok-valued.ensures.tasks, length-append c.args.self.now.tasks.items (load_rows c.args.init info.dims info.parts (cells_from c.args.first info.parts) c.args.line))
