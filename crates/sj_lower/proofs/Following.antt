@@ -74,7 +74,7 @@ other_root T m n d hm hn other = by_test (bytes_eq (name_of T (a_root m)) (name_
     by_test true e = absurd (other (d m n hm hn (same_name (name_of T (a_root m)) (name_of T (a_root n)) e)))
 
 -- the active plans after a change of one root
-changed-actives : (T : Table) (C D : Cells) (as' : List Active) (S : State) (i : ℕ) (f : Root → Root) (r : Root) (new : Active) → AreActive T C as' S → i < C.roots → AreDistinct T.names → C.roots ≤ length T.names → D.roots ≡ C.roots
+pub changed-actives : (T : Table) (C D : Cells) (as' : List Active) (S : State) (i : ℕ) (f : Root → Root) (r : Root) (new : Active) → AreActive T C as' S → i < C.roots → AreDistinct T.names → C.roots ≤ length T.names → D.roots ≡ C.roots
     → ((q : List ℕ) (d : Dims) (s : Parts) (g : ℕ) → IsTaken C q d s g → IsTaken D q d s g) → root_of S (name_of T (a_root i)) ≡ Some r → IsActive T D i new (f r)
     → (M : State) → ((q : List ℕ) → root_of M q ≡ cond (bytes_eq (name_of T (a_root i)) q) (Some (f r)) (root_of S q)) → AreActive T D (set as' i new) M
 changed-actives T C D as' S i f r new g below d few roots keeps there is M change = record {

@@ -19,3 +19,5 @@ pub mod Naming
 pub mod Pushing
 pub mod Laying
 pub mod Following
+pub mod Tracking
+pub mod Counting

@@ -1,6 +1,6 @@
 //! What the statements so far are lowered to.
 
-ghost use Rattle.std.specs.Prelude.{◌≡◌, ◌+◌, ◌<◌, ◌≤◌, ◌++◌, ◌∷◌, ◌||◌, [], ℕ, List, All, IsTrue, length, map, vec_len, IfOk, OnOk};
+ghost use Rattle.std.specs.Prelude.{◌≡◌, ◌+◌, ◌<◌, ◌≤◌, ◌++◌, ◌∷◌, ◌||◌, [], not, ℕ, List, All, IsTrue, length, map, vec_len, IfOk, OnOk};
 ghost use Rattle.sj_base.specs.declared.ids.Line.{Line};
 ghost use Rattle.sj_job.specs.State.{State, start};
 ghost use Rattle.sj_job.specs.Table.{Table};
@@ -8,9 +8,11 @@ ghost use Rattle.sj_job.specs.View.{act_seen};
 ghost use Rattle.sj_job.specs.declared.job.Act.TheVariants as kept;
 ghost use Rattle.sj_job.specs.Names.{gives_values};
 ghost use Rattle.sj_job.specs.Sound.{InitFits};
+ghost use Rattle.sj_base.specs.declared.ids.Cell.{Cell};
+ghost use Rattle.sj_base.specs.declared.tile.Dims.{Dims};
 ghost use Rattle.sj_job.specs.Track.{IsPlan, all_valued, none_valued, even, children_count};
 ghost use Rattle.sj_plan.specs.Parts.{Fits};
-ghost use Rattle.sj_lower.specs.Cells.{Cells, cells_from};
+ghost use Rattle.sj_lower.specs.Cells.{Cells, cells_from, same_parts};
 ghost use Rattle.sj_lower.specs.Limits.{most};
 ghost use Rattle.sj_lower.specs.Lowering.{Lowering, nothing, load_rows, rows_of, program_of};
 ghost use Rattle.sj_lower.specs.Seen.{Follows, HasNext, IsNext, Does, HasRoom, AreIn, access_by, after_writes, pasted_by};
@@ -58,9 +60,15 @@ impl Active {
             first: self.first,
         }
     }
-}
 
-impl Active {
+    /// Whether a line with this plan gives no task: it is active already, or an element has no value. Constant time.
+    fn is_idle(&self, parts: Parts) -> bool
+        ensures { result ≡ (same_parts self.now.tracked.parts parts || not (all_valued self.now.tracked)) }
+    {
+        let active = self.tracked.parts();
+        (active.r == parts.r && active.c == parts.c) || !self.tracked.is_all()
+    }
+
     /// Another plan is active from now on. Constant time.
     fn plan(&mut self, placed: Placed)
         requires plan { IsPlan placed.parts }
@@ -70,6 +78,16 @@ impl Active {
     {
         self.tracked.plan(placed.parts);
         self.first = placed.first;
+    }
+}
+
+/// How many tasks give a root's children their first elements. Constant time.
+fn count_first(init: &Init, parts: Parts) -> u64
+    ensures { (d : Dims) (cell : ℕ × ℕ → Cell) (line : Line) → result ≡ length (load_rows init.now d parts cell line) }
+{
+    match init {
+        Init::Values(_) | Init::Fill(_, _) => parts.r as u64 * parts.c as u64,
+        Init::Nothing => 0,
     }
 }
 
@@ -157,10 +175,9 @@ impl Lowerer {
             → result ≡ length (rows_of S C line (act_seen roots.now (vec_len self.now.actives) act.now)) }
     {
         match act {
-            Act::Register(Init::Nothing) => 0,
-            Act::Register(_) => {
-                let parts = roots.info(Root(self.actives.len() as u32)).parts;
-                parts.r as u64 * parts.c as u64
+            Act::Register(init) => {
+                let info = roots.info(Root(self.actives.len() as u32));
+                count_first(init, info.parts)
             }
             Act::Plan(root, parts) => self.count_plan(roots, *root, *parts),
             Act::Task(_) => 1,
@@ -179,11 +196,10 @@ impl Lowerer {
             → result ≡ length (rows_of S C line (act_seen roots.now (vec_len self.now.actives) (kept.Plan root parts))) }
     {
         let active = &self.actives[root.0 as usize];
-        let old = active.tracked.parts();
-        if old == parts || !active.tracked.is_all() {
+        if active.is_idle(parts) {
             return 0;
         }
-        count_pastes(roots.info(root).dims, old, parts)
+        count_pastes(roots.info(root).dims, active.tracked.parts(), parts)
     }
 
     /// A root whose children are loaded, if it has values. Linear in them.
