@@ -1,5 +1,7 @@
 pub mod Places
 pub mod Children
+pub mod Coming
+pub mod Going
 pub mod Contents
 pub mod Folding
 pub mod Laid

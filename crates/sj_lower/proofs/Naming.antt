@@ -11,7 +11,7 @@ use Rattle.sj_base.specs.Array.{Array}
 use Rattle.sj_codelet.specs.declared.kernel.Kernel.{Kernel}
 use Rattle.sj_codelet.specs.Kernel.{out}
 use Rattle.sj_plan.specs.declared.parts.Parts.{Parts}
-use Rattle.sj_plan.specs.Parts.{places}
+use Rattle.sj_plan.specs.Parts.{Fits, places}
 use Rattle.std.specs.Option.{is_some}
 use Rattle.sj_job.specs.declared.job.Kind.{Kind}
 use Rattle.sj_job.specs.declared.job.Act.{Act as KeptAct}
@@ -27,17 +27,19 @@ use Rattle.sj_job.proofs.Views.{count-grows, counts-grow}
 use Rattle.sj_lower.specs.Cells.{Cells, Handle, with_handle, taking, child_cell, take_by, take, next_handle, with_root}
 use Rattle.sj_lower.specs.Lowering.{Lowering, nothing, cells_after, lower_one}
 use Rattle.sj_lower.specs.Delivering.{printed_as}
+use Rattle.sj_lower.specs.Seen.{IsCut}
+use Rattle.sj_job.specs.Sound.{IsSoundAct}
 use Rattle.sj_lower.proofs.Holding.{get-put, get-gone, root-change}
 use Rattle.sj_lower.proofs.Laid.{same_name, bytes_eq-itself, some_is, none_isn't, take-roots}
 use Rattle.sj_lower.proofs.Whole.{NamesAct, NamesAll}
 
 -- ---- kinds
 
-abbrev kind_by : Option Root → Option Kind
-kind_by o = option_map (λ (r : Root). r.kind) o
+abbrev kind_by : Option Root → Option (Kind × Dims)
+kind_by o = option_map (λ (r : Root). (r.kind, r.dims)) o
 
--- a change that keeps a root's kind keeps the kinds of all
-changed_kinds : (f : Root → Root) (name : List ℕ) (S : State) (q : List ℕ) → ((r : Root) → (f r).kind ≡ r.kind) → kind_by (root_of (change f name S) q) ≡ kind_by (root_of S q)
+-- a change that keeps a root's kind and dimensions keeps those of all
+changed_kinds : (f : Root → Root) (name : List ℕ) (S : State) (q : List ℕ) → ((r : Root) → ((f r).kind, (f r).dims) ≡ (r.kind, r.dims)) → kind_by (root_of (change f name S) q) ≡ kind_by (root_of S q)
 changed_kinds f name S q keeps = by_root (root_of S name) refl
   where
     by_name : (r : Root) → root_of S name ≡ Some r → (b : Bool) → bytes_eq name q ≡ b → kind_by (cond b (Some (f r)) (root_of S q)) ≡ kind_by (root_of S q)
@@ -61,39 +63,40 @@ task_kinds t S q = put_all_kinds (written_of t.operands) _ S q
 
 -- ---- the roots of a state have numbers
 
-record HasNumber (T : Table) (n : ℕ) (q : List ℕ) (k : Kind) : Type 0 where
+record HasNumber (T : Table) (n : ℕ) (q : List ℕ) (k : Kind × Dims) : Type 0 where
   number : ℕ
   below : number < n
   named : name_of T (a_root number) ≡ q
-  kind : (info_of T (a_root number)).kind ≡ k
+  kind : (info_of T (a_root number)).kind ≡ k.0
+  dims : (info_of T (a_root number)).dims ≡ k.1
 
 abbrev Knows : Table → ℕ → State → Type 0
-Knows T n S = (q : List ℕ) (r : Root) → root_of S q ≡ Some r → HasNumber T n q r.kind
+Knows T n S = (q : List ℕ) (r : Root) → root_of S q ≡ Some r → HasNumber T n q (r.kind, r.dims)
 
-kind_from : (T : Table) (n : ℕ) (q : List ℕ) (r : Root) (o : Option Root) → kind_by (Some r) ≡ kind_by o → ((s : Root) → o ≡ Some s → HasNumber T n q s.kind) → HasNumber T n q r.kind
+kind_from : (T : Table) (n : ℕ) (q : List ℕ) (r : Root) (o : Option Root) → kind_by (Some r) ≡ kind_by o → ((s : Root) → o ≡ Some s → HasNumber T n q (s.kind, s.dims)) → HasNumber T n q (r.kind, r.dims)
 kind_from T n q r None e h = absurd (cc)
-kind_from T n q r (Some s) e h = let same : r.kind ≡ s.kind = cc in subst (HasNumber T n q) (sym same) (h s refl)
+kind_from T n q r (Some s) e h = let same : (r.kind, r.dims) ≡ (s.kind, s.dims) = some_is (r.kind, r.dims) (s.kind, s.dims) e in subst (HasNumber T n q) (sym same) (h s refl)
 
 -- a state with the same kinds
 knows_kept : (T : Table) (n : ℕ) (S new : State) → ((q : List ℕ) → kind_by (root_of new q) ≡ kind_by (root_of S q)) → Knows T n S → Knows T n new
 knows_kept T n S new e k q r h = kind_from T n q r (root_of S q) (sym (ap kind_by h) ∙ e q) (k q)
 
-later : (T : Table) (n : ℕ) (q : List ℕ) (k : Kind) → HasNumber T n q k → HasNumber T (n + 1) q k
-later T n q k h = record { number = h.number; below = omega (arith, h.below); named = h.named; kind = h.kind }
+later : (T : Table) (n : ℕ) (q : List ℕ) (k : Kind × Dims) → HasNumber T n q k → HasNumber T (n + 1) q k
+later T n q k h = record { number = h.number; below = omega (arith, h.below); named = h.named; kind = h.kind; dims = h.dims }
 
-knows_registered : (T : Table) (n : ℕ) (S : State) (r : Registration) → name_of T (a_root n) ≡ r.name → (info_of T (a_root n)).kind ≡ r.kind → Knows T n S → Knows T (n + 1) (register r S)
-knows_registered T n S r en ek k q s h = by_test (bytes_eq r.name q) refl (sym (get-put S.roots r.name (registered_root r) q) ∙ h)
+knows_registered : (T : Table) (n : ℕ) (S : State) (r : Registration) → name_of T (a_root n) ≡ r.name → (info_of T (a_root n)).kind ≡ r.kind → (info_of T (a_root n)).dims ≡ r.dims → Knows T n S → Knows T (n + 1) (register r S)
+knows_registered T n S r en ek ed k q s h = by_test (bytes_eq r.name q) refl (sym (get-put S.roots r.name (registered_root r) q) ∙ h)
   where
-    by_test : (b : Bool) → bytes_eq r.name q ≡ b → cond b (Some (registered_root r)) (root_of S q) ≡ Some s → HasNumber T (n + 1) q s.kind
+    by_test : (b : Bool) → bytes_eq r.name q ≡ b → cond b (Some (registered_root r)) (root_of S q) ≡ Some s → HasNumber T (n + 1) q (s.kind, s.dims)
     by_test true t e =
         let same : registered_root r ≡ s = cc in
-        record { number = n; below = omega arith; named = en ∙ same_name r.name q t; kind = ek ∙ ap (λ (x : Root). x.kind) same }
-    by_test false t e = later T n q s.kind (k q s e)
+        record { number = n; below = omega arith; named = en ∙ same_name r.name q t; kind = ek ∙ ap (λ (x : Root). x.kind) same; dims = ed ∙ ap (λ (x : Root). x.dims) same }
+    by_test false t e = later T n q (s.kind, s.dims) (k q s e)
 
 knows_ended : (T : Table) (n : ℕ) (S : State) (name : List ℕ) → Knows T n S → Knows T n (unregister name S)
 knows_ended T n S name k q s h = by_test (bytes_eq name q) (sym (get-gone S.roots name q) ∙ h)
   where
-    by_test : (b : Bool) → cond b None (root_of S q) ≡ Some s → HasNumber T n q s.kind
+    by_test : (b : Bool) → cond b None (root_of S q) ≡ Some s → HasNumber T n q (s.kind, s.dims)
     by_test true e = absurd (cc)
     by_test false e = k q s e
 
@@ -163,7 +166,7 @@ numbered-act T n C S (kept.Register init) d few t =
     record {
       handles = handles_taken T (n + 1) D r.name r.parts (handles_rooted T n C d (omega (arith, few)) t.roots t.handles);
       roots = take-roots D r.name r.parts ∙ ap (λ m. m + 1) t.roots;
-      knows = knows_registered T n S r refl refl t.knows;
+      knows = knows_registered T n S r refl refl refl t.knows;
     }
 numbered-act T n C S (kept.Plan r p) d few t = record {
   handles = handles_taken T n C (name_of T r) p t.handles;
@@ -209,3 +212,21 @@ numbered-none T = record {
   roots = refl;
   knows = λ q r e. let none : root_of start q ≡ None = map.get-empty (slice_cmp nat_cmp) q in absurd (cc);
 }
+
+-- ---- the plan that an act makes active
+
+pub numbered-cut : (has : Kernel → Bool) (T : Table) (n : ℕ) (C : Cells) (S : State) (a : KeptAct) → AreDistinct T.names → n ≤ length T.names → IsPlaced n a → AreNumbered T n C S → IsSoundAct has S (act_seen T n a) → IsCut T n a
+numbered-cut has T n C S (kept.Register init) d few placed t sound = sound.parts
+numbered-cut has T n C S (kept.Plan r p) d few placed t sound = by_root (root_of S (name_of T r)) refl sound.rooted sound.parts
+  where
+    by_root : (o : Option Root) → root_of S (name_of T r) ≡ o → is_some o ≡ true → Fits p (elim o as (λ _. Dims) [ None ↦ record { rows = 0; cols = 0 } | Some x ↦ x.dims ]) → Fits p (info_of T r).dims
+    by_root None is rooted fits = absurd (cc)
+    by_root (Some x) is rooted fits =
+        let k = t.knows (name_of T r) x is in
+        let one : k.number ≡ r.0 = d k.number r.0 (omega (arith, k.below, few)) (omega (arith, placed, few)) k.named in
+        let same : x.dims ≡ (info_of T r).dims = sym k.dims ∙ ap (λ m. (info_of T (a_root m)).dims) one in
+        subst (Fits p) same fits
+numbered-cut has T n C S (kept.Task task) d few placed t sound = tt
+numbered-cut has T n C S (kept.Print r) d few placed t sound = tt
+numbered-cut has T n C S (kept.Invalidate r) d few placed t sound = tt
+numbered-cut has T n C S (kept.Unregister r) d few placed t sound = tt

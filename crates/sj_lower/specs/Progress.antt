@@ -15,7 +15,7 @@ use Rattle.sj_lower.specs.declared.lower.LowerRefusal.TheVariants.{TooManyCells,
 use Rattle.sj_lower.specs.declared.lower.Progress.{Progress}
 use Rattle.sj_lower.specs.Limits.{most, over, cells_in, tasks_in}
 use Rattle.sj_lower.specs.Lowering.{Lowering, lower_one}
-use Rattle.sj_lower.specs.Seen.{Lays, Follows}
+use Rattle.sj_lower.specs.Seen.{Lays, Follows, IsCut}
 
 -- the code has what the statements so far gave: the cells, and the tasks unless there are too many
 pub record IsAt (T : Table) (g : Progress) (S : State) (L : Lowering) : Type 0 where
@@ -31,6 +31,7 @@ pub record IsComing (T : Table) (g : Progress) (s : Kept) (S : State) (L : Lower
   pub at : IsAt T g S L
   pub sound : IsSoundAct has S (act_seen T L.cells.roots s.act)
   pub placed : IsPlaced L.cells.roots s.act
+  pub cut : IsCut T L.cells.roots s.act
   pub distinct : AreDistinct T.names
   pub few : count_after L.cells.roots s.act ≤ length T.names
   pub table : length T.names ≤ 4096

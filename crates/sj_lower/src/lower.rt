@@ -90,7 +90,7 @@ impl Progress {
         if self.over.is_some() {
             return Ok(());
         }
-        if self.lowerer.tasks.len() as u64 + self.lowerer.count(roots, &act) > MOST as u64 {
+        if self.lowerer.count(roots, &act) > (MOST - self.lowerer.tasks.len()) as u64 {
             self.over = Some(line);
             return Ok(());
         }
