@@ -1,6 +1,6 @@
 -- One statement more: what its lowering needs, and what it leaves.
 use Rattle.std.proofs.Common.{◌≡◌, ℕ, ◌+◌, ◌<◌, ◌≤◌, Option, Some, None, List, ◌++◌, length, vec_len, refl, ap, sym, subst, ◌∙◌, arith, length-append, if◌then◌else◌, nat_lt, Bool, true, false, is_some, ◌-◌}
-use Rattle.std.proofs.lemmas.Nat.{nat_tests}
+use Rattle.std.proofs.lemmas.Bool.Decides.{nat_tests}
 use Rattle.sj_base.specs.declared.ids.Line.{Line}
 use Rattle.sj_job.specs.declared.job.Act.{Act as KeptAct}
 use Rattle.sj_job.specs.declared.job.Statement.{Statement as Kept}

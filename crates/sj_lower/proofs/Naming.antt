@@ -35,11 +35,14 @@ use Rattle.sj_lower.proofs.Whole.{NamesAct, NamesAll}
 
 -- ---- kinds
 
+abbrev traits : Root → Kind × Dims
+traits r = (r.kind, r.dims)
+
 abbrev kind_by : Option Root → Option (Kind × Dims)
-kind_by o = option_map (λ (r : Root). (r.kind, r.dims)) o
+kind_by o = option_map traits o
 
 -- a change that keeps a root's kind and dimensions keeps those of all
-changed_kinds : (f : Root → Root) (name : List ℕ) (S : State) (q : List ℕ) → ((r : Root) → ((f r).kind, (f r).dims) ≡ (r.kind, r.dims)) → kind_by (root_of (change f name S) q) ≡ kind_by (root_of S q)
+changed_kinds : (f : Root → Root) (name : List ℕ) (S : State) (q : List ℕ) → ((r : Root) → traits (f r) ≡ traits r) → kind_by (root_of (change f name S) q) ≡ kind_by (root_of S q)
 changed_kinds f name S q keeps = by_root (root_of S name) refl
   where
     by_name : (r : Root) → root_of S name ≡ Some r → (b : Bool) → bytes_eq name q ≡ b → kind_by (cond b (Some (f r)) (root_of S q)) ≡ kind_by (root_of S q)
@@ -71,11 +74,11 @@ record HasNumber (T : Table) (n : ℕ) (q : List ℕ) (k : Kind × Dims) : Type 
   dims : (info_of T (a_root number)).dims ≡ k.1
 
 abbrev Knows : Table → ℕ → State → Type 0
-Knows T n S = (q : List ℕ) (r : Root) → root_of S q ≡ Some r → HasNumber T n q (r.kind, r.dims)
+Knows T n S = (q : List ℕ) (r : Root) → root_of S q ≡ Some r → HasNumber T n q (traits r)
 
-kind_from : (T : Table) (n : ℕ) (q : List ℕ) (r : Root) (o : Option Root) → kind_by (Some r) ≡ kind_by o → ((s : Root) → o ≡ Some s → HasNumber T n q (s.kind, s.dims)) → HasNumber T n q (r.kind, r.dims)
+kind_from : (T : Table) (n : ℕ) (q : List ℕ) (r : Root) (o : Option Root) → kind_by (Some r) ≡ kind_by o → ((s : Root) → o ≡ Some s → HasNumber T n q (traits s)) → HasNumber T n q (traits r)
 kind_from T n q r None e h = absurd (cc)
-kind_from T n q r (Some s) e h = let same : (r.kind, r.dims) ≡ (s.kind, s.dims) = some_is (r.kind, r.dims) (s.kind, s.dims) e in subst (HasNumber T n q) (sym same) (h s refl)
+kind_from T n q r (Some s) e h = let same : traits r ≡ traits s = some_is (traits r) (traits s) e in subst (HasNumber T n q) (sym same) (h s refl)
 
 -- a state with the same kinds
 knows_kept : (T : Table) (n : ℕ) (S new : State) → ((q : List ℕ) → kind_by (root_of new q) ≡ kind_by (root_of S q)) → Knows T n S → Knows T n new
@@ -87,16 +90,16 @@ later T n q k h = record { number = h.number; below = omega (arith, h.below); na
 knows_registered : (T : Table) (n : ℕ) (S : State) (r : Registration) → name_of T (a_root n) ≡ r.name → (info_of T (a_root n)).kind ≡ r.kind → (info_of T (a_root n)).dims ≡ r.dims → Knows T n S → Knows T (n + 1) (register r S)
 knows_registered T n S r en ek ed k q s h = by_test (bytes_eq r.name q) refl (sym (get-put S.roots r.name (registered_root r) q) ∙ h)
   where
-    by_test : (b : Bool) → bytes_eq r.name q ≡ b → cond b (Some (registered_root r)) (root_of S q) ≡ Some s → HasNumber T (n + 1) q (s.kind, s.dims)
+    by_test : (b : Bool) → bytes_eq r.name q ≡ b → cond b (Some (registered_root r)) (root_of S q) ≡ Some s → HasNumber T (n + 1) q (traits s)
     by_test true t e =
         let same : registered_root r ≡ s = cc in
         record { number = n; below = omega arith; named = en ∙ same_name r.name q t; kind = ek ∙ ap (λ (x : Root). x.kind) same; dims = ed ∙ ap (λ (x : Root). x.dims) same }
-    by_test false t e = later T n q (s.kind, s.dims) (k q s e)
+    by_test false t e = later T n q (traits s) (k q s e)
 
 knows_ended : (T : Table) (n : ℕ) (S : State) (name : List ℕ) → Knows T n S → Knows T n (unregister name S)
 knows_ended T n S name k q s h = by_test (bytes_eq name q) (sym (get-gone S.roots name q) ∙ h)
   where
-    by_test : (b : Bool) → cond b None (root_of S q) ≡ Some s → HasNumber T n q (s.kind, s.dims)
+    by_test : (b : Bool) → cond b None (root_of S q) ≡ Some s → HasNumber T n q (traits s)
     by_test true e = absurd (cc)
     by_test false e = k q s e
 
