@@ -85,8 +85,10 @@ impl Active {
 fn count_first(init: &Init, parts: Parts) -> u64
     ensures { (d : Dims) (cell : ℕ × ℕ → Cell) (line : Line) → result ≡ length (load_rows init.now d parts cell line) }
 {
+    let children = parts.r as u64 * parts.c as u64;
     match init {
-        Init::Values(_) | Init::Fill(_, _) => parts.r as u64 * parts.c as u64,
+        Init::Values(_) => children,
+        Init::Fill(_, _) => children,
         Init::Nothing => 0,
     }
 }

@@ -1,4 +1,5 @@
 use Rattle.std.proofs.Common.{◌≡◌, ◌∙◌, ◌*◌, ap, sym, subst, length, get_or, rules}
+use Rattle.std.specs.Prelude.{vec_len}
 use Rattle.std.proofs.lemmas.List.{get_or_read}
 use Rattle.sj_plan.specs.declared.parts.Parts.{Parts}
 use Rattle.sj_job.specs.declared.job.Act.{Act as Kept}
@@ -12,7 +13,7 @@ use Rattle.sj_lower.proofs.lowerer.Lowerer.count.Goals as goal
 pub returns-in-Plan : goal.returns-in-Plan
 returns-in-Plan c = λ S L C line next.
     c.count_plan.ensures S L C line (subst (λ (a : Kept). IsNext c.args.roots.now c.args.self.now a S L) c.in-Plan.is next)
-    ∙ ap (λ (a : Kept). length (rows_of S C line (act_seen c.args.roots.now (length c.args.self.now.actives.items) a))) (sym c.in-Plan.is)
+    ∙ ap (λ (a : Kept). length (rows_of S C line (act_seen c.args.roots.now (vec_len c.args.self.now.actives) a))) (sym c.in-Plan.is)
 
 pub returns-in-Print : goal.returns-in-Print
 returns-in-Print c = λ S L C line next.
@@ -22,4 +23,4 @@ returns-in-Print c = λ S L C line next.
     let plan : c.parts-parts.result ≡ (active_at as' r.0).tracked.parts = c.parts-parts.ensures.parts ∙ ap (λ (a : Active). a.tracked.parts) at in
     ap (λ (p : Parts). p.r * p.c) plan
     ∙ count-print c.args.roots.now c.args.self.now r S L C line (subst (λ (a : Kept). IsNext c.args.roots.now c.args.self.now a S L) c.in-Print.is next)
-    ∙ ap (λ (a : Kept). length (rows_of S C line (act_seen c.args.roots.now (length as') a))) (sym c.in-Print.is)
+    ∙ ap (λ (a : Kept). length (rows_of S C line (act_seen c.args.roots.now (vec_len c.args.self.now.actives) a))) (sym c.in-Print.is)
