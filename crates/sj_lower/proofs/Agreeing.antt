@@ -1,17 +1,15 @@
 -- Statement by statement, the cells of a program agree with the names of its job.
 use Rattle.std.specs.FinMap as map
-use Rattle.std.proofs.Common.{◌≡◌, ℕ, ◌+◌, ◌*◌, ◌<◌, ◌≤◌, Bool, true, false, cond, not, ◌||◌, Option, Some, None, List, [], ◌∷◌, ◌++◌, ℤ, pos, length, map as each_of, refl, sym, ap, subst, ◌∙◌, arith, append_assoc, length-append}
-use Rattle.std.specs.Prelude.{nat_le}
-use Rattle.std.specs.List.{list_all, flat_map, range_with_len}
-use Rattle.std.specs.Option.{is_some, is_none}
+use Rattle.std.proofs.Common.{◌≡◌, ℕ, ◌+◌, ◌≤◌, Bool, true, false, cond, not, ◌||◌, Option, Some, None, List, [], ◌∷◌, ◌++◌, ℤ, pos, length, map as each_of, refl, sym, ap, subst, ◌∙◌, arith, append_assoc, length-append}
+use Rattle.std.specs.List.{list_all}
+use Rattle.std.specs.Option.{is_none}
 use Rattle.std.specs.Str.{bytes_eq}
-use Rattle.std.proofs.lemmas.Bool.{false≢true, and_parts}
+use Rattle.std.proofs.lemmas.Bool.{false≢true}
 use Rattle.std.proofs.lemmas.List.{length-map, length-replicate}
 use Rattle.std.proofs.lemmas.List.FromFn.{length-map-range_with_len}
 use Rattle.sj_base.specs.declared.ids.Cell.{Cell}
 use Rattle.sj_base.specs.declared.ids.Line.{Line}
 use Rattle.sj_base.specs.declared.tile.Dims.{Dims}
-use Rattle.sj_base.specs.declared.mode.Mode.TheVariants.{W}
 use Rattle.sj_base.specs.declared.program.CellInfo.{CellInfo}
 use Rattle.sj_base.specs.declared.program.Lowered.{Lowered}
 use Rattle.sj_base.specs.declared.program.Program.{Program}
@@ -19,13 +17,13 @@ use Rattle.sj_base.specs.Array.{Array, array, area, zeros}
 use Rattle.sj_codelet.specs.Equations.{loadfill}
 use Rattle.sj_codelet.specs.declared.kernel.Kernel.{Kernel}
 use Rattle.sj_codelet.specs.declared.kernel.Kernel.TheVariants.{Load, LoadFill}
-use Rattle.sj_core.specs.Program.{same_cell, dims_of}
+use Rattle.sj_core.specs.Program.{same_cell}
 use Rattle.sj_core.specs.Proper.{HasValueBefore}
-use Rattle.sj_core.specs.Fold.{Contents, held_in, after_task}
+use Rattle.sj_core.specs.Fold.{Contents, held_in}
 use Rattle.sj_plan.specs.declared.parts.Parts.{Parts}
 use Rattle.sj_plan.specs.Parts.{Fits, IsPlace, places}
 use Rattle.sj_plan.specs.Paste.{pastes_of}
-use Rattle.sj_plan.specs.Rect.{child, dims_of as rect_dims}
+use Rattle.sj_plan.specs.Rect.{child}
 use Rattle.sj_plan.specs.Window.{window}
 use Rattle.sj_job.specs.declared.job.Init.{Init}
 use Rattle.sj_job.specs.declared.job.Init.TheVariants.{Values, Fill, Nothing}
@@ -34,19 +32,19 @@ use Rattle.sj_job.specs.Act.{Act, Statement}
 use Rattle.sj_job.specs.Act.{Register as Registers, Plan as Plans, Task as Tasks, Print as Prints, Invalidate as Invalidates, Unregister as Unregisters}
 use Rattle.sj_job.specs.State.{Root, State, root_of, is_valued, is_blank, is_valued_child, start}
 use Rattle.sj_job.specs.Meaning.{array_of, child_array, integers_of, first_elements, registered_root, register, no_values, with_parts, with_elements, plan, invalidate, unregister, run_task, apply}
-use Rattle.sj_job.specs.Sound.{has_root, has_values, has_none, dims_of as root_dims, InitFits, IsSoundTask, IsSoundRegistration, IsSoundPlan, IsSoundAct}
-use Rattle.sj_lower.specs.Cells.{Cells, Handle, same_parts, cell_of, take, with_root, next_handle, no_cells}
-use Rattle.sj_lower.specs.Rows.{load_row, fill_row, fill_arguments, paste_row, deliver_row}
-use Rattle.sj_lower.specs.Lowering.{Lowering, nothing, cells_after, load_rows, parts_in, active_cell, access_of, is_idle, plan_rows, task_row, deliver_rows, rows_of, lower_one}
-use Rattle.sj_lower.proofs.Contents.{first_worker, task_at, contents_before, contents-next, same_cell-is}
+use Rattle.sj_job.specs.Sound.{has_root, has_values, has_none, InitFits, IsSoundTask, IsSoundRegistration, IsSoundPlan, IsSoundAct}
+use Rattle.sj_lower.specs.Cells.{Cells, Handle, same_parts, cell_of, take, with_root, next_handle}
+use Rattle.sj_lower.specs.Rows.{load_row, fill_row, fill_arguments, paste_row}
+use Rattle.sj_lower.specs.Lowering.{Lowering, nothing, cells_after, load_rows, parts_in, active_cell, is_idle, plan_rows, task_row, deliver_rows, rows_of, lower_one}
+use Rattle.sj_lower.proofs.Contents.{task_at, contents_before, contents-next, same_cell-is}
 use Rattle.sj_lower.proofs.Elements.{child-within, child-window, valued-child, blank-child, no_values-blank, unwrapped, filled-window}
 use Rattle.sj_lower.proofs.Filling.{AreFilled, HaveOwn, rows-filled, rows-give, blocks-give, after_load, after_fill, after_delivers, gives_own}
-use Rattle.sj_lower.proofs.Folding.{Stand, stand-there, after_row-is, after_rows, contents-rows, one_gives, given-rows, later}
+use Rattle.sj_lower.proofs.Folding.{Stand, stand-there, after_rows, contents-rows, one_gives, given-rows, later}
 use Rattle.sj_lower.proofs.Holding.{IsHeld, HasRoot, HaveRoots, HasCells, cell-dims, get-put, get-gone, root-change}
 use Rattle.sj_lower.proofs.Laid.{same_name, bytes_eq-itself, some_is, none_isn't, IsTaken, AreLaid, cell-is, cells-apart, laid-none, laid-root, laid-take, root-keeps, root-there, take-keeps, take-takes, take-grows}
-use Rattle.sj_lower.proofs.Pasting.{IsNoOld, HoldOld, rows_to, rows-by_child, pastes-filled, pastes-give}
+use Rattle.sj_lower.proofs.Pasting.{rows_to, rows-by_child, pastes-filled, pastes-give}
 use Rattle.sj_lower.proofs.Places.{parts-are, parts-itself}
-use Rattle.sj_lower.proofs.Running.{root_there, or_none, holds-task}
+use Rattle.sj_lower.proofs.Running.{root_there, holds-task}
 
 -- ---- the program begins with what is lowered so far
 

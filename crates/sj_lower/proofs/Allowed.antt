@@ -1,5 +1,5 @@
 -- What a statement that lines may say has.
-use Rattle.std.proofs.Common.{◌≡◌, ℕ, ◌&&◌, Bool, true, false, List, Option, Some, None, Result, Ok, Err, ap, subst, sym, ◌∙◌}
+use Rattle.std.proofs.Common.{◌≡◌, ℕ, ◌&&◌, Bool, true, false, List, Some, Ok, ap, subst, sym, ◌∙◌}
 use Rattle.std.proofs.lemmas.Bool.{false≢true}
 use Rattle.sj_codelet.specs.declared.kernel.Kernel.{Kernel}
 use Rattle.sj_codelet.specs.declared.kernel.Kernel.TheVariants.{Deliver}
@@ -11,7 +11,7 @@ use Rattle.sj_job.specs.declared.form.Form.{Form}
 use Rattle.sj_job.specs.declared.form.Form.TheVariants as form
 use Rattle.sj_job.specs.Sentence.{init_said, parts_said, registered_by}
 use Rattle.sj_job.specs.State.{State}
-use Rattle.sj_job.specs.Judge.{Scope, scope_of, first_of, unless, judged, register_reasons, plan_reasons, print_reasons, name_reasons}
+use Rattle.sj_job.specs.Judge.{Scope, scope_of, first_of, judged, register_reasons, plan_reasons, print_reasons, name_reasons}
 use Rattle.sj_job.specs.Sound.{IsSoundAct}
 use Rattle.sj_job.specs.Well.{IsAllowed}
 use Rattle.sj_job.proofs.Sounding.{IsJudged, unless_parts, judged-task, found_passes, sound_from_allowed}

@@ -1,20 +1,20 @@
 -- One statement more: what its lowering needs, and what it leaves.
-use Rattle.std.proofs.Common.{◌≡◌, ℕ, ◌+◌, ◌<◌, ◌≤◌, Option, Some, None, List, ◌++◌, length, vec_len, refl, ap, sym, subst, ◌∙◌, arith, length-append, if◌then◌else◌, nat_lt, Bool, true, false, is_some, ◌-◌}
+use Rattle.std.proofs.Common.{◌≡◌, ℕ, ◌+◌, ◌<◌, ◌≤◌, Option, Some, None, length, vec_len, refl, ap, sym, subst, ◌∙◌, arith, length-append, if◌then◌else◌, nat_lt, Bool, true, false, is_some, ◌-◌}
 use Rattle.std.proofs.lemmas.Bool.Decides.{nat_tests}
 use Rattle.sj_base.specs.declared.ids.Line.{Line}
 use Rattle.sj_job.specs.declared.job.Act.{Act as KeptAct}
 use Rattle.sj_job.specs.declared.job.Statement.{Statement as Kept}
 use Rattle.sj_job.specs.State.{State}
-use Rattle.sj_job.specs.Table.{Table, AreDistinct, a_root, name_of, info_of}
+use Rattle.sj_job.specs.Table.{Table, AreDistinct}
 use Rattle.sj_job.specs.View.{act_seen, statement_seen}
 use Rattle.sj_lower.specs.declared.layout.Layout.{Layout}
 use Rattle.sj_lower.specs.declared.lowerer.Lowerer.{Lowerer}
 use Rattle.sj_lower.specs.declared.lower.Progress.{Progress}
 use Rattle.sj_lower.specs.Cells.{Cells, Handle}
-use Rattle.sj_lower.specs.Limits.{most, tasks_in, cells_in}
+use Rattle.sj_lower.specs.Limits.{most, tasks_in}
 use Rattle.sj_lower.specs.Lowering.{Lowering, cells_after, rows_of, lower_one}
-use Rattle.sj_lower.specs.Seen.{Lays, IsNext, HasNext, HasRoom, Does, Follows, handle_in, first_after, children_after}
-use Rattle.sj_lower.specs.Progress.{IsAt, IsComing, HasComing, Goes, over_after}
+use Rattle.sj_lower.specs.Seen.{Lays, IsNext, HasNext, HasRoom, Does, handle_in, first_after, children_after}
+use Rattle.sj_lower.specs.Progress.{IsComing, HasComing, Goes, over_after}
 use Rattle.sj_lower.proofs.Laid.{some_is}
 
 -- no statement so far is the first with too many tasks: the next one's tasks may be made

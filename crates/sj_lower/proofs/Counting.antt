@@ -1,9 +1,7 @@
 -- How many tasks a statement gives.
-use Rattle.std.proofs.Common.{◌≡◌, ℕ, ◌*◌, Bool, true, false, not, ◌||◌, cond, List, [], length, map, refl, ap, sym, subst, ◌∙◌, Option, Some, None}
-use Rattle.sj_base.specs.declared.ids.Cell.{Cell}
+use Rattle.std.proofs.Common.{◌≡◌, ℕ, ◌*◌, true, false, not, ◌||◌, cond, List, [], length, map, ap, sym, subst, ◌∙◌, Option, Some, None}
 use Rattle.sj_base.specs.declared.ids.Line.{Line}
 use Rattle.sj_base.specs.declared.ids.Root.{Root as RootNumber}
-use Rattle.sj_base.specs.declared.program.Lowered.{Lowered}
 use Rattle.sj_base.specs.declared.tile.Dims.{Dims}
 use Rattle.sj_plan.specs.declared.parts.Parts.{Parts}
 use Rattle.sj_plan.specs.Parts.{Fits, places}

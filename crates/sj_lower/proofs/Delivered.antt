@@ -1,11 +1,11 @@
 -- Deliveries follow the print statements.
-use Rattle.std.proofs.Common.{◌≡◌, ℕ, zero, suc, ◌+◌, ◌-◌, ◌*◌, ◌<◌, ◌≤◌, Bool, true, false, cond, Option, Some, None, List, [], ◌∷◌, ◌++◌, length, get_or, map as each_of, refl, sym, ap, subst, ◌∙◌, inl, inr, arith, append_assoc, length-append, pos}
+use Rattle.std.proofs.Common.{◌≡◌, ℕ, zero, suc, ◌+◌, ◌-◌, ◌*◌, ◌<◌, ◌≤◌, Bool, true, false, cond, Some, List, [], ◌∷◌, ◌++◌, length, get_or, map as each_of, refl, sym, ap, subst, ◌∙◌, inl, inr, arith, length-append, pos}
 use Rattle.std.specs.Prelude.{◌⊎◌, nat_eq, count_by, slice_get, IsPermutation}
 use Rattle.std.specs.List.{All, AllPairs, AllByRecursion, filter}
-use Rattle.std.proofs.lemmas.Bool.{false≢true, cases_lt, cond-true, cond-false}
+use Rattle.std.proofs.lemmas.Bool.{false≢true, cases_lt}
 use Rattle.std.proofs.lemmas.Bool.Decides.{Decides-eqb}
 use Rattle.std.proofs.lemmas.List.{append-nil, length-map, length-replicate}
-use Rattle.std.proofs.lemmas.List.Elements.{All-nil, All-append, All-weaker, All-map, All-get_or, All-from_recursion, recursion_from_All, filter-append}
+use Rattle.std.proofs.lemmas.List.Elements.{All-nil, All-append, All-weaker, All-from_recursion, recursion_from_All, filter-append}
 use Rattle.std.proofs.lemmas.List.Sorted.{IsPermutation-map, All-permutation}
 use Rattle.std.proofs.lemmas.List.Sums.{sum_by-cons, sum_by-append}
 use Rattle.std.proofs.lemmas.Option.{slice_get_within}
@@ -13,11 +13,10 @@ use Rattle.std.proofs.lemmas.Simd.{map-map}
 use Rattle.sj_base.specs.declared.ids.Cell.{Cell}
 use Rattle.sj_base.specs.declared.ids.Line.{Line}
 use Rattle.sj_base.specs.declared.ids.Root.{Root as RootNumber}
-use Rattle.sj_base.specs.declared.tile.Dims.{Dims}
 use Rattle.sj_base.specs.declared.program.Lowered.{Lowered}
 use Rattle.sj_base.specs.declared.program.Delivery.{Delivery}
 use Rattle.sj_base.specs.declared.program.Program.{Program}
-use Rattle.sj_base.specs.Array.{Array, array, area, zeros}
+use Rattle.sj_base.specs.Array.{Array, area, zeros}
 use Rattle.sj_codelet.specs.declared.kernel.Kernel.TheVariants.{Deliver}
 use Rattle.sj_codelet.specs.Kernel.{kernel_of}
 use Rattle.sj_core.specs.Program.{task_of, data_operands}
@@ -25,29 +24,27 @@ use Rattle.sj_core.specs.Operands.{worked_on}
 use Rattle.sj_core.specs.Fold.{Contents, given, held_before, held_in}
 use Rattle.sj_plan.specs.declared.parts.Parts.{Parts}
 use Rattle.sj_plan.specs.declared.rect.Rect.{Rect}
-use Rattle.sj_plan.specs.Parts.{Fits, IsPlace, places}
+use Rattle.sj_plan.specs.Parts.{IsPlace, places}
 use Rattle.sj_plan.specs.Paste.{same_place}
-use Rattle.sj_plan.specs.Rect.{child, children_of, place_of, dims_of as rect_dims, Within}
+use Rattle.sj_plan.specs.Rect.{child, children_of, Within}
 use Rattle.sj_plan.specs.Window.{window, gathered, IsWhole}
 use Rattle.sj_plan.proofs.Gathering.{tiling-reassembles}
-use Rattle.sj_plan.proofs.Lists.{each-map, each-places, each-of, each-all, filter_all, filter_gone, count_by-map, count_places, Ordered, ordered-append, pairs-from_ordered, ordered-from_pairs}
+use Rattle.sj_plan.proofs.Lists.{each-map, each-places, each-of, each-all, filter_all, filter_gone, count_by-map, count_places, ordered-append, pairs-from_ordered, ordered-from_pairs}
 use Rattle.sj_plan.proofs.Tiling.{children_of-tiling}
 use Rattle.sj_job.specs.State.{Root, State, root_of, is_valued}
-use Rattle.sj_job.specs.Meaning.{Printed, array_of, integers_of, found_by}
-use Rattle.sj_job.specs.Sound.{has_values}
-use Rattle.sj_job.specs.Table.{Table, info_of, undivided}
+use Rattle.sj_job.specs.Meaning.{Printed, array_of}
+use Rattle.sj_job.specs.Table.{Table, info_of}
 use Rattle.sj_job.specs.Track.{number}
-use Rattle.sj_lower.specs.Cells.{Cells, Handle, cell_of}
+use Rattle.sj_lower.specs.Cells.{Cells, cell_of}
 use Rattle.sj_lower.specs.Rows.{deliver_row}
-use Rattle.sj_lower.specs.Lowering.{Lowering, nothing, parts_in, active_cell, deliver_rows, a_delivery, print_deliveries}
+use Rattle.sj_lower.specs.Lowering.{Lowering, nothing, a_delivery}
 use Rattle.sj_lower.specs.Delivering.{part_of, printed_as, Assemble}
 use Rattle.sj_lower.proofs.Contents.{first_worker, task_at, contents_before, contents-next}
 use Rattle.sj_lower.proofs.Elements.{child-within, child-window, valued-child}
 use Rattle.sj_lower.proofs.Filling.{after_deliver}
 use Rattle.sj_lower.proofs.Folding.{Stand, after_row-is}
 use Rattle.sj_lower.proofs.Holding.{HasRoot}
-use Rattle.sj_lower.proofs.Places.{same_pair, place-is, place-itself, number-below, number-apart, length-places, place_at, place_at-inside, number-place_at, places-at, places-by_number}
-use Rattle.sj_lower.proofs.Running.{active_cell-is}
+use Rattle.sj_lower.proofs.Places.{place-is, place-itself, number-below, number-apart, length-places, place_at, place_at-inside, number-place_at, places-at, places-by_number}
 
 -- ---- lists
 

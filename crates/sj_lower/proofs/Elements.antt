@@ -1,33 +1,32 @@
 -- The elements of a root's children: as windows of its array, and after a child is written.
-use Rattle.std.proofs.Common.{◌≡◌, ℕ, zero, suc, ◌+◌, ◌-◌, ◌*◌, ◌/◌, ◌%◌, ◌<◌, ◌≤◌, Bool, true, false, cond, not, ◌&&◌, ◌||◌, Option, Some, None, List, [], ◌∷◌, ℤ, pos, ◌+ℤ◌, ◌*ℤ◌, length, get_or, unwrap_or, map, replicate, refl, sym, ap, subst, ◌∙◌, arith}
+use Rattle.std.proofs.Common.{◌≡◌, ℕ, zero, suc, ◌+◌, ◌-◌, ◌*◌, ◌/◌, ◌%◌, ◌<◌, ◌≤◌, Bool, true, false, cond, ◌&&◌, Option, Some, None, List, [], ◌∷◌, ℤ, pos, ◌+ℤ◌, ◌*ℤ◌, length, get_or, unwrap_or, map, replicate, refl, sym, ap, ◌∙◌, arith}
 use Rattle.std.specs.List.{list_all, range_with_len}
 use Rattle.std.specs.Option.{is_some, is_none}
 use Rattle.std.proofs.Math.ListN.{get_or-map}
 use Rattle.std.proofs.lemmas.Bool.{false≢true, and_parts}
 use Rattle.std.proofs.lemmas.Bool.Decides.{nat_tests}
 use Rattle.std.proofs.lemmas.Int.{ints}
-use Rattle.std.proofs.lemmas.List.FromFn.{length-map-range_with_len, get_or-map-range_with_len}
+use Rattle.std.proofs.lemmas.List.FromFn.{get_or-map-range_with_len}
 use Rattle.std.proofs.lemmas.List.Folds.{list_all_at}
 use Rattle.std.proofs.lemmas.Nat.{div_below, mod_below, mul-add-lt}
 use Rattle.std.proofs.lemmas.Simd.{map-map}
 use Rattle.std.proofs.lemmas.Bool.{cond-true, cond-false}
 use Rattle.sj_base.specs.declared.tile.Dims.{Dims}
 use Rattle.sj_base.specs.Array.{Array, array, area, element, zeros}
-use Rattle.sj_base.specs.Window.{item, table, read_rect, write_rect, in_rect}
+use Rattle.sj_base.specs.Window.{item, table, read_rect, in_rect}
 use Rattle.sj_base.proofs.Tables.{length-table, item-table, same_tables}
 use Rattle.sj_codelet.specs.Ring.{wrap}
 use Rattle.sj_codelet.specs.Equations.{loadfill}
 use Rattle.sj_plan.specs.declared.parts.Parts.{Parts}
 use Rattle.sj_plan.specs.declared.rect.Rect.{Rect}
 use Rattle.sj_plan.specs.Parts.{Fits, IsPlace}
-use Rattle.sj_plan.specs.Rect.{child, place_of, dims_of, Within, Holds, holds}
+use Rattle.sj_plan.specs.Rect.{child, place_of, dims_of, Within, holds}
 use Rattle.sj_plan.specs.Window.{window, IsWhole}
 use Rattle.sj_plan.proofs.Splitting.{part_end, part_len-positive, lies_alone}
 use Rattle.sj_plan.proofs.Windows.{tabulate, IsWhole-tabulate, element-tabulate, same_arrays, holds-true, holds-false}
-use Rattle.sj_job.specs.declared.job.Init.{Init}
-use Rattle.sj_job.specs.declared.job.Init.TheVariants.{Values, Fill, Nothing}
+use Rattle.sj_job.specs.declared.job.Init.TheVariants.{Fill}
 use Rattle.sj_job.specs.State.{Root, is_valued, is_blank, is_child, child_rect, child_elements, is_valued_child}
-use Rattle.sj_job.specs.Meaning.{integers_of, array_of, child_array, with_child, with_parts, first_elements, no_values}
+use Rattle.sj_job.specs.Meaning.{integers_of, array_of, child_array, with_child, first_elements}
 use Rattle.sj_lower.proofs.Places.{same_pair}
 
 -- ---- tables

@@ -1,8 +1,7 @@
 -- Tasks that fill the cells of a plan's children, one child after another.
-use Rattle.std.proofs.Common.{◌≡◌, ℕ, Bool, true, false, ◌||◌, ◌&&◌, List, [], ◌∷◌, ◌++◌, ℤ, pos, map as each_of, refl, sym, ap, subst, ◌∙◌, arith}
-use Rattle.std.specs.List.{AllByRecursion, flat_map, list_any}
+use Rattle.std.proofs.Common.{◌≡◌, ℕ, true, false, ◌||◌, List, [], ◌∷◌, ℤ, pos, map as each_of, refl, ap, subst, ◌∙◌}
+use Rattle.std.specs.List.{flat_map}
 use Rattle.std.proofs.lemmas.List.Concat.{flat_map_single}
-use Rattle.std.proofs.lemmas.Bool.{false≢true}
 use Rattle.sj_base.specs.declared.ids.Cell.{Cell}
 use Rattle.sj_base.specs.declared.ids.Line.{Line}
 use Rattle.sj_base.specs.declared.tile.Dims.{Dims}
@@ -23,7 +22,7 @@ use Rattle.sj_plan.specs.Window.{window}
 use Rattle.sj_plan.proofs.Lists.{each-places, any-places, any-map, any-flat_map}
 use Rattle.sj_lower.specs.Rows.{an_access, own_task, load_row, fill_row, deliver_row}
 use Rattle.sj_lower.proofs.Contents.{held-same, held-other, same_cell-is, same_cell-itself}
-use Rattle.sj_lower.proofs.Folding.{after_row, after_rows, one_gives, Fills, IsBlock, IsBeside, IsAlone, blocks-others, blocks-fill}
+use Rattle.sj_lower.proofs.Folding.{after_row, after_rows, one_gives, IsBlock, IsBeside, IsAlone, blocks-others, blocks-fill}
 use Rattle.sj_lower.proofs.Places.{place-itself}
 
 -- ---- all children of a plan

@@ -1,55 +1,48 @@
 -- What the code's steps leave is what the definition says.
-use Rattle.std.proofs.Common.{◌≡◌, ℕ, ◌+◌, ◌*◌, ◌<◌, ◌≤◌, Bool, true, false, cond, not, ◌&&◌, ◌||◌, Option, Some, None, List, [], ◌∷◌, ◌++◌, pos, length, get_or, unwrap_or, map as each_of, refl, ap, sym, subst, ◌∙◌, inl, inr, arith, length-append, get_or-set_same, get_or-set_other}
+use Rattle.std.proofs.Common.{◌≡◌, ℕ, ◌+◌, ◌*◌, ◌<◌, ◌≤◌, Bool, true, false, cond, not, ◌||◌, Option, Some, None, List, [], ◌∷◌, ◌++◌, length, get_or, unwrap_or, map as each_of, refl, ap, sym, subst, ◌∙◌, inl, inr, arith, length-append, get_or-set_same, get_or-set_other}
 use Rattle.std.proofs.Math.ListN.{set}
-use Rattle.std.specs.List.{All, AllByRecursion, fold, list_all, filter}
+use Rattle.std.specs.List.{All, AllByRecursion, list_all}
 use Rattle.std.specs.Str.{bytes_eq}
 use Rattle.std.specs.Prelude.{◌⊎◌}
 use Rattle.std.proofs.Math.Seq.{get_or-append_seam}
-use Rattle.std.proofs.lemmas.Bool.{false≢true, and_parts, cases_lt}
+use Rattle.std.proofs.lemmas.Bool.{and_parts, cases_lt}
 use Rattle.std.proofs.lemmas.List.{append-nil, get_or_append_left, get_or_default, length-set}
-use Rattle.std.proofs.lemmas.List.Elements.{All-nil, All-cons, All-head, All-tail}
-use Rattle.sj_base.specs.declared.ids.Cell.{Cell}
+use Rattle.std.proofs.lemmas.List.Elements.{All-head, All-tail}
 use Rattle.sj_base.specs.declared.ids.Line.{Line}
 use Rattle.sj_base.specs.declared.ids.Root.{Root as RootNumber}
 use Rattle.sj_base.specs.declared.mode.Access.{Access}
 use Rattle.sj_base.specs.declared.tile.Dims.{Dims}
-use Rattle.sj_base.specs.declared.program.Delivery.{Delivery}
 use Rattle.sj_base.specs.declared.program.Lowered.{Lowered}
-use Rattle.sj_base.specs.Array.{Array}
-use Rattle.sj_codelet.specs.declared.kernel.Kernel.{Kernel}
-use Rattle.sj_codelet.specs.Kernel.{codelet_of, out}
+use Rattle.sj_codelet.specs.Kernel.{codelet_of}
 use Rattle.sj_plan.specs.declared.parts.Parts.{Parts}
-use Rattle.sj_plan.specs.Parts.{Fits, IsPlace, places}
+use Rattle.sj_plan.specs.Parts.{Fits, places}
 use Rattle.sj_plan.specs.Paste.{pastes_of}
 use Rattle.sj_job.specs.declared.job.Act.{Act as Kept}
 use Rattle.sj_job.specs.declared.job.Act.TheVariants as kept
 use Rattle.sj_job.specs.declared.job.Init.{Init}
 use Rattle.sj_job.specs.declared.job.Operand.{Operand as KeptOperand}
-use Rattle.sj_job.specs.declared.job.RootInfo.{RootInfo}
 use Rattle.sj_job.specs.declared.job.TaskLine.{TaskLine as KeptTask}
-use Rattle.sj_job.specs.Act.{Act, Statement}
-use Rattle.sj_job.specs.Act.{Register as Registers, Plan as Plans, Task as Tasks, Print as Prints, Invalidate as Invalidates, Unregister as Unregisters}
-use Rattle.sj_job.specs.Statement.{Operand, Register}
+use Rattle.sj_job.specs.Statement.{Register}
 use Rattle.sj_job.specs.State.{Root, State, root_of, is_valued, is_blank}
-use Rattle.sj_job.specs.Meaning.{registered_root, register, with_parts, with_elements, no_values, plan, invalidate, unregister, run_task, apply}
+use Rattle.sj_job.specs.Meaning.{registered_root, with_parts, with_elements, no_values, plan, invalidate, run_task}
 use Rattle.sj_job.specs.Names.{gives_values}
-use Rattle.sj_job.specs.Sound.{has_child, has_values, has_none, has_root, dims_of as root_dims, IsSoundPlan, IsSoundTask}
-use Rattle.sj_job.specs.Table.{Table, AreDistinct, a_root, name_of, info_of, undivided}
-use Rattle.sj_job.specs.Track.{Track, Tracks, IsPlan, all_valued, none_valued, children_count, even}
+use Rattle.sj_job.specs.Sound.{has_child, has_values, has_none, dims_of as root_dims}
+use Rattle.sj_job.specs.Table.{Table, AreDistinct, a_root, name_of, info_of}
+use Rattle.sj_job.specs.Track.{IsPlan, all_valued, none_valued, children_count, even}
 use Rattle.sj_lower.proofs.Places.{length-places}
-use Rattle.sj_job.specs.View.{operand_seen, task_seen, registration, act_seen, count_after, IsPlaced}
+use Rattle.sj_job.specs.View.{operand_seen, task_seen, registration, act_seen}
 use Rattle.sj_job.proofs.Children.{tracks-registered, tracks-planned, tracks-invalidated, all_valued-same, none_valued-same}
 use Rattle.sj_lower.specs.declared.lowerer.Active.{Active}
 use Rattle.sj_lower.specs.declared.lowerer.Lowerer.{Lowerer}
-use Rattle.sj_lower.specs.Cells.{Cells, Handle, same_parts, first_cell, cells_from, cell_of, take, with_root, next_handle}
+use Rattle.sj_lower.specs.Cells.{Cells, Handle, same_parts, first_cell, cells_from, take, with_root, next_handle}
 use Rattle.sj_lower.specs.Limits.{most}
 use Rattle.sj_lower.specs.Rows.{an_access, paste_row, deliver_row}
-use Rattle.sj_lower.specs.Lowering.{Lowering, cells_after, load_rows, parts_in, active_cell, access_of, plan_rows, task_row, deliver_rows, a_delivery, print_deliveries, rows_of, lower_one}
-use Rattle.sj_lower.specs.Seen.{no_active, active_at, pasted_by, IsActive, AreActive, Follows, IsNext, Does, HasRoom, AreIn, access_by, children_after, first_after}
+use Rattle.sj_lower.specs.Lowering.{Lowering, load_rows, access_of, plan_rows, deliver_rows, a_delivery, print_deliveries}
+use Rattle.sj_lower.specs.Seen.{no_active, active_at, pasted_by, IsActive, AreActive, IsNext, Does, HasRoom, access_by, children_after}
 use Rattle.sj_lower.proofs.Agreeing.{plan_rows-are}
 use Rattle.sj_lower.proofs.Holding.{get-put, get-gone, root-change}
 use Rattle.sj_lower.proofs.Laid.{same_name, bytes_eq-itself, some_is, none_isn't, IsTaken, take-keeps, take-takes, take-roots, root-keeps, root-there}
-use Rattle.sj_lower.proofs.Running.{IsThere, child_there, root_there, valued_there, active_cell-is}
+use Rattle.sj_lower.proofs.Running.{child_there, root_there, valued_there, active_cell-is}
 use Rattle.sj_lower.proofs.Whole.{deliver_rows-are, print_deliveries-are}
 
 -- ---- active plans

@@ -1,11 +1,9 @@
 -- A job lowered one statement after another.
-use Rattle.std.proofs.Common.{◌≡◌, ℕ, ◌+◌, ◌<◌, ◌≤◌, Bool, true, false, List, [], ◌∷◌, length, vec_len, refl, ap, sym, subst, ◌∙◌, arith, Option, Some, None, if◌then◌else◌, nat_lt}
+use Rattle.std.proofs.Common.{◌≡◌, ℕ, ◌+◌, ◌<◌, ◌≤◌, Bool, true, false, List, [], ◌∷◌, length, refl, ap, sym, subst, ◌∙◌, arith, Option, Some, None, if◌then◌else◌, nat_lt}
 use Rattle.std.proofs.lemmas.Bool.Decides.{nat_tests}
 use Rattle.sj_base.specs.declared.ids.Line.{Line}
 use Rattle.sj_codelet.specs.declared.kernel.Kernel.{Kernel}
 use Rattle.sj_job.specs.declared.job.Statement.{Statement as Kept}
-use Rattle.sj_job.specs.declared.reason.LimitKind.TheVariants.{Cells, Tasks}
-use Rattle.sj_job.specs.Reading.{Refusal}
 use Rattle.sj_job.specs.State.{State, start}
 use Rattle.sj_job.specs.Meaning.{apply}
 use Rattle.sj_job.specs.Table.{Table, IsTable}
@@ -15,7 +13,7 @@ use Rattle.sj_job.proofs.Views.{counts-grow, count-grows}
 use Rattle.sj_lower.specs.declared.lower.LowerRefusal.{LowerRefusal}
 use Rattle.sj_lower.specs.declared.lower.LowerRefusal.TheVariants.{TooManyCells, TooManyTasks, OutOfMemory}
 use Rattle.sj_lower.specs.declared.lower.Progress.{Progress}
-use Rattle.sj_lower.specs.Limits.{most, over, cells_in, tasks_in, first_above, late_tasks, late_cells, late_limit}
+use Rattle.sj_lower.specs.Limits.{most, cells_in, tasks_in, first_above, late_tasks, late_cells, late_limit}
 use Rattle.sj_lower.specs.Lowering.{Lowering, nothing, lower_from, lower_one}
 use Rattle.sj_lower.specs.Progress.{IsAt, IsComing, HasComing, Goes, IsFull, IsOver, IsLate, over_after}
 use Rattle.sj_lower.proofs.Allowed.{can_be}

@@ -1,12 +1,12 @@
 -- Each lowered task is as a proper program has it.
 use Rattle.std.proofs.Common.{◌≡◌, ℕ, ◌+◌, ◌<◌, ◌≤◌, Bool, true, false, cond, not, ◌&&◌, List, [], ◌∷◌, ◌++◌, ℤ, pos, length, map as each_of, refl, sym, ap, subst, ◌∙◌, inl, inr, arith, length-append}
-use Rattle.std.specs.Prelude.{◌||◌, ◌⊎◌, nat_le}
+use Rattle.std.specs.Prelude.{◌||◌}
 use Rattle.std.specs.List.{All, AllPairs, AllByRecursion, flat_map, list_all, list_any}
 use Rattle.std.specs.Int.RustNames.{int_le}
 use Rattle.std.specs.Str.{bytes_eq}
 use Rattle.std.proofs.lemmas.Bool.{false≢true, and_parts, and_from, le-leb, cases_lt}
 use Rattle.std.proofs.lemmas.Bool.Decides.{Decides-eqb}
-use Rattle.std.proofs.lemmas.List.Elements.{All-nil, All-cons, recursion_from_All}
+use Rattle.std.proofs.lemmas.List.Elements.{All-nil, All-cons}
 use Rattle.std.proofs.lemmas.List.Kept.{AllPairs-cons, AllPairs-filter}
 use Rattle.sj_base.specs.declared.ids.Cell.{Cell}
 use Rattle.sj_base.specs.declared.ids.Line.{Line}
@@ -16,7 +16,7 @@ use Rattle.sj_base.specs.declared.mode.Mode.TheVariants.{R, W, RW, Scratch, Redu
 use Rattle.sj_base.specs.declared.mode.Access.{Access}
 use Rattle.sj_base.specs.declared.program.Lowered.{Lowered}
 use Rattle.sj_base.specs.declared.program.Program.{Program}
-use Rattle.sj_base.specs.Array.{Array, array, area, element}
+use Rattle.sj_base.specs.Array.{array, area, element}
 use Rattle.sj_base.proofs.Tables.{length-table}
 use Rattle.sj_codelet.specs.declared.kernel.Kernel.{Kernel}
 use Rattle.sj_codelet.specs.declared.kernel.Kernel.TheVariants.{Load, LoadFill, Paste as PasteKernel, Deliver}
@@ -30,15 +30,15 @@ use Rattle.sj_plan.specs.declared.paste.Paste.{Paste}
 use Rattle.sj_plan.specs.declared.rect.Rect.{Rect}
 use Rattle.sj_plan.specs.Parts.{IsPlace, Fits as PlanFits}
 use Rattle.sj_plan.specs.Paste.{same_place, copy_of, is_first, pastes_to, IsBetween}
-use Rattle.sj_plan.specs.Pieces.{begins, BeginOnce}
+use Rattle.sj_plan.specs.Pieces.{BeginOnce}
 use Rattle.sj_plan.specs.Rect.{child, dims_of as rect_dims}
 use Rattle.sj_plan.specs.Window.{window}
 use Rattle.sj_job.specs.Statement.{Operand, TaskLine}
-use Rattle.sj_job.specs.State.{State, root_of}
+use Rattle.sj_job.specs.State.{State}
 use Rattle.sj_job.specs.Judge.{needs_value, clashes, is_aliased, is_read_only}
 use Rattle.sj_job.specs.Sound.{is_plain, has_child, has_child_values, child_dims, IsSoundTask}
-use Rattle.sj_lower.specs.Cells.{Cells, cell_of}
-use Rattle.sj_lower.specs.Rows.{an_access, own_task, load_row, fill_row, fill_arguments, paste_arguments, paste_mode, paste_row, deliver_row}
+use Rattle.sj_lower.specs.Cells.{Cells}
+use Rattle.sj_lower.specs.Rows.{an_access, own_task, load_row, fill_row, paste_arguments, paste_row, deliver_row}
 use Rattle.sj_lower.specs.Lowering.{access_of, task_row}
 use Rattle.sj_lower.proofs.Contents.{task_at, same_cell-is}
 use Rattle.sj_lower.proofs.Folding.{Stand, later}

@@ -1,6 +1,6 @@
 -- A program's cells hold what the children of the job's roots hold.
 use Rattle.std.specs.FinMap as map
-use Rattle.std.proofs.Common.{◌≡◌, ℕ, ◌+◌, ◌<◌, ◌≤◌, Bool, true, false, cond, ◌&&◌, Option, Some, None, List, [], ◌∷◌, ◌++◌, ℤ, length, get_or, map as each_of, refl, sym, ap, subst, ◌∙◌, arith}
+use Rattle.std.proofs.Common.{◌≡◌, ℕ, ◌<◌, ◌≤◌, Bool, true, false, cond, ◌&&◌, Option, Some, None, List, [], ◌∷◌, ◌++◌, ℤ, length, get_or, map as each_of, refl, sym, ap, subst, ◌∙◌}
 use Rattle.std.specs.List.{zip, list_all}
 use Rattle.std.specs.Option.{is_some}
 use Rattle.std.specs.Str.{bytes_eq}
@@ -23,13 +23,13 @@ use Rattle.sj_plan.specs.Paste.{same_place}
 use Rattle.sj_plan.specs.Rect.{child, dims_of as rect_dims}
 use Rattle.sj_plan.specs.Window.{IsWhole}
 use Rattle.sj_job.specs.Statement.{Operand}
-use Rattle.sj_job.specs.State.{Root, Roots, State, root_of, is_child, child_rect, child_elements, is_valued_child}
+use Rattle.sj_job.specs.State.{Root, Roots, State, root_of, is_child, child_rect, is_valued_child}
 use Rattle.sj_job.specs.Meaning.{integers_of, child_array, change, with_child, put, put_all}
 use Rattle.sj_lower.specs.Cells.{Cells, cell_of}
 use Rattle.sj_lower.proofs.Contents.{NotAmong, held-same, held-other, held-moved, same_cell-is, task_at}
 use Rattle.sj_lower.proofs.Elements.{written-whole, written-other, written-array}
 use Rattle.sj_lower.proofs.Folding.{later}
-use Rattle.sj_lower.proofs.Laid.{same_name, bytes_eq-itself, some_is, IsTaken, AreLaid, cell-is, cell-inside, cell-row, cells-apart, taken-once}
+use Rattle.sj_lower.proofs.Laid.{same_name, bytes_eq-itself, some_is, IsTaken, AreLaid, cell-inside, cell-row, cells-apart}
 use Rattle.sj_lower.proofs.Places.{place-is, place-itself}
 
 -- ---- names

@@ -1,10 +1,8 @@
 -- Each child of each plan that a root has taken has a cell of its own.
-use Rattle.std.proofs.Common.{◌≡◌, ℕ, ◌+◌, ◌-◌, ◌*◌, ◌^◌, ◌<◌, ◌≤◌, Bool, true, false, cond, Option, Some, None, List, [], ◌∷◌, ◌++◌, length, get_or, unwrap_or, map as each_of, refl, sym, ap, subst, ◌∙◌, inl, inr, arith, length-append}
-use Rattle.std.specs.Prelude.{◌⊎◌}
-use Rattle.std.specs.List.{All, AllByRecursion}
+use Rattle.std.proofs.Common.{◌≡◌, ℕ, ◌+◌, ◌-◌, ◌*◌, ◌^◌, ◌<◌, ◌≤◌, Bool, true, false, cond, Option, Some, None, List, [], ◌++◌, length, get_or, unwrap_or, map as each_of, refl, sym, ap, subst, ◌∙◌, arith, length-append}
+use Rattle.std.specs.List.{All}
 use Rattle.std.specs.Option.{is_some}
 use Rattle.std.specs.Str.{bytes_eq}
-use Rattle.std.proofs.lemmas.Bool.{false≢true}
 use Rattle.std.proofs.lemmas.List.{get_or_append_left, get_or-append_right, append-nil}
 use Rattle.std.proofs.lemmas.List.Elements.{All-append, All-from_recursion}
 use Rattle.std.proofs.lemmas.Slice.Eq.{bytes_eq-Decides}
@@ -20,7 +18,7 @@ use Rattle.sj_plan.specs.Rect.{child, dims_of}
 use Rattle.sj_plan.proofs.Lists.{each-map, each-places}
 use Rattle.sj_plan.proofs.Splitting.{part_end}
 use Rattle.sj_job.specs.Track.{number}
-use Rattle.sj_lower.specs.Cells.{Cells, Handle, same_parts, with_handle, with_first, first_cell, cell_of, taking, child_cell, take_by, take, next_handle, with_root, no_cells}
+use Rattle.sj_lower.specs.Cells.{Cells, Handle, same_parts, with_handle, cell_of, taking, child_cell, take_by, take, next_handle, with_root, no_cells}
 use Rattle.sj_lower.proofs.Places.{parts-are, parts-itself, number-below, number-apart, length-places, places-at}
 
 pub same_name : (a b : List ℕ) → bytes_eq a b ≡ true → a ≡ b

@@ -1,5 +1,5 @@
 -- The code's layout is that of the definition, after a root takes a plan.
-use Rattle.std.proofs.Common.{◌≡◌, ℕ, ◌+◌, ◌*◌, ◌<◌, ◌≤◌, Bool, true, false, cond, ◌&&◌, Option, Some, None, List, [], ◌∷◌, ◌++◌, length, map as each_of, unwrap_or, refl, sym, ap, subst, ◌∙◌, arith, length-append}
+use Rattle.std.proofs.Common.{◌≡◌, ℕ, ◌+◌, ◌*◌, ◌<◌, ◌≤◌, Bool, true, false, cond, ◌&&◌, Option, Some, None, List, ◌++◌, length, map as each_of, unwrap_or, refl, sym, ap, subst, ◌∙◌, arith, length-append}
 use Rattle.std.specs.Prelude.{nat_eq}
 use Rattle.std.specs.Option.{is_some}
 use Rattle.std.specs.Str.{bytes_eq}
@@ -9,14 +9,13 @@ use Rattle.std.proofs.lemmas.Simd.{map-map}
 use Rattle.indexmap.specs.IndexMap.{get}
 use Rattle.sj_base.specs.declared.ids.Root.{Root}
 use Rattle.sj_base.specs.declared.tile.Dims.{Dims}
-use Rattle.sj_base.specs.declared.program.CellInfo.{CellInfo}
 use Rattle.sj_plan.specs.declared.parts.Parts.{Parts}
 use Rattle.sj_plan.specs.Parts.{places}
 use Rattle.sj_plan.specs.Rect.{child, children_of}
 use Rattle.sj_job.specs.Table.{Table, AreDistinct, a_root, name_of, info_of}
 use Rattle.sj_lower.specs.declared.layout.Taken.{Taken}
 use Rattle.sj_lower.specs.declared.layout.Layout.{Layout}
-use Rattle.sj_lower.specs.Cells.{Cells, Handle, same_parts, with_handle, with_first, first_cell, taking, rect_cell, child_cell, take_by, take, next_handle, with_root}
+use Rattle.sj_lower.specs.Cells.{Cells, Handle, same_parts, with_handle, with_first, first_cell, taking, rect_cell, child_cell, take, next_handle, with_root}
 use Rattle.sj_lower.specs.Limits.{most}
 use Rattle.sj_job.specs.declared.job.Init.{Init}
 use Rattle.sj_job.specs.declared.job.RootInfo.{RootInfo}

@@ -1,7 +1,6 @@
 -- The number of a root is its name's, as the job's table has it.
 use Rattle.std.specs.FinMap as map
 use Rattle.std.proofs.Common.{◌≡◌, ℕ, ◌+◌, ◌<◌, ◌≤◌, Bool, true, false, cond, List, [], ◌∷◌, ◌++◌, map as each_of, length, refl, ap, sym, subst, ◌∙◌, Option, Some, None, option_map, arith, bytes_eq, inl, inr}
-use Rattle.std.proofs.lemmas.Slice.Eq.{bytes_eq-Decides}
 use Rattle.std.proofs.lemmas.Bool.{cases_lt}
 use Rattle.std.specs.Ordering.{nat_cmp}
 use Rattle.std.specs.Cmp.Lexicographic.{slice_cmp}
@@ -9,7 +8,6 @@ use Rattle.sj_base.specs.declared.ids.Root.{Root as RootNumber}
 use Rattle.sj_base.specs.declared.tile.Dims.{Dims}
 use Rattle.sj_base.specs.Array.{Array}
 use Rattle.sj_codelet.specs.declared.kernel.Kernel.{Kernel}
-use Rattle.sj_codelet.specs.Kernel.{out}
 use Rattle.sj_plan.specs.declared.parts.Parts.{Parts}
 use Rattle.sj_plan.specs.Parts.{Fits, places}
 use Rattle.std.specs.Option.{is_some}
@@ -18,11 +16,10 @@ use Rattle.sj_job.specs.declared.job.Act.{Act as KeptAct}
 use Rattle.sj_job.specs.declared.job.Act.TheVariants as kept
 use Rattle.sj_job.specs.declared.job.Statement.{Statement as Kept}
 use Rattle.sj_job.specs.Statement.{Register as Registration, Operand, TaskLine}
-use Rattle.sj_job.specs.Act.{Act, Statement}
 use Rattle.sj_job.specs.Table.{Table, a_root, name_of, info_of, AreDistinct}
 use Rattle.sj_job.specs.View.{registration, task_seen, act_seen, statement_seen, seen_from, count_after, count_from, IsPlaced, ArePlaced}
 use Rattle.sj_job.specs.State.{Root, State, root_of, start}
-use Rattle.sj_job.specs.Meaning.{registered_root, register, change, with_parts, with_elements, with_child, no_values, plan, invalidate, unregister, put, put_all, written_of, run_task, operand_array, apply}
+use Rattle.sj_job.specs.Meaning.{registered_root, register, change, with_parts, with_elements, with_child, no_values, plan, invalidate, unregister, put, put_all, written_of, run_task, apply}
 use Rattle.sj_job.proofs.Views.{count-grows, counts-grow}
 use Rattle.sj_lower.specs.Cells.{Cells, Handle, with_handle, taking, child_cell, take_by, take, next_handle, with_root}
 use Rattle.sj_lower.specs.Lowering.{Lowering, nothing, cells_after, lower_one}
@@ -30,7 +27,7 @@ use Rattle.sj_lower.specs.Delivering.{printed_as}
 use Rattle.sj_lower.specs.Seen.{IsCut}
 use Rattle.sj_job.specs.Sound.{IsSoundAct}
 use Rattle.sj_lower.proofs.Holding.{get-put, get-gone, root-change}
-use Rattle.sj_lower.proofs.Laid.{same_name, bytes_eq-itself, some_is, none_isn't, take-roots}
+use Rattle.sj_lower.proofs.Laid.{same_name, bytes_eq-itself, some_is, take-roots}
 use Rattle.sj_lower.proofs.Whole.{NamesAct, NamesAll}
 
 -- ---- kinds

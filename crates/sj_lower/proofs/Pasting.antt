@@ -1,17 +1,15 @@
 -- The paste tasks of a plan line make in the new plan's cells what pastes make of the old plan's children.
-use Rattle.std.proofs.Common.{◌≡◌, ℕ, Bool, true, false, cond, ◌||◌, ◌&&◌, not, List, [], ◌∷◌, ◌++◌, ℤ, pos, length, map, refl, sym, ap, subst, ◌∙◌, arith}
-use Rattle.std.specs.List.{AllByRecursion, filter, flat_map, list_any}
+use Rattle.std.proofs.Common.{◌≡◌, ℕ, Bool, true, false, cond, ◌||◌, List, [], ◌∷◌, ◌++◌, pos, map, refl, sym, ap, subst, ◌∙◌}
+use Rattle.std.specs.List.{AllByRecursion, flat_map}
 use Rattle.std.proofs.lemmas.Bool.{false≢true}
 use Rattle.std.proofs.lemmas.List.{map-append, length-replicate}
-use Rattle.std.proofs.lemmas.List.Elements.{recursion_from_All}
 use Rattle.sj_base.specs.declared.ids.Cell.{Cell}
 use Rattle.sj_base.specs.declared.ids.Line.{Line}
-use Rattle.sj_base.specs.declared.mode.Mode.{Mode}
 use Rattle.sj_base.specs.declared.mode.Mode.TheVariants.{R, W, RW}
 use Rattle.sj_base.specs.declared.tile.Dims.{Dims}
 use Rattle.sj_base.specs.declared.program.Lowered.{Lowered}
 use Rattle.sj_base.specs.declared.program.Program.{Program}
-use Rattle.sj_base.specs.Array.{Array, array, area, zeros}
+use Rattle.sj_base.specs.Array.{Array, area, zeros}
 use Rattle.sj_base.specs.Window.{pasted}
 use Rattle.sj_codelet.specs.declared.kernel.Kernel.TheVariants.{Paste as PasteKernel}
 use Rattle.sj_core.specs.Program.{same_cell, dims_of}
@@ -29,11 +27,11 @@ use Rattle.sj_plan.proofs.Lists.{each-map, each-filter, each-places}
 use Rattle.sj_plan.proofs.Repartitioning.{pastes_to-copies, pastes_to-make}
 use Rattle.sj_plan.proofs.Splitting.{part_len-positive}
 use Rattle.sj_plan.proofs.Tiling.{children_of-tiling, children_of-order}
-use Rattle.sj_lower.specs.Rows.{an_access, own_task, paste_arguments, paste_mode, paste_row}
-use Rattle.sj_lower.proofs.Contents.{held-same, held-other, same_cell-is, same_cell-itself}
+use Rattle.sj_lower.specs.Rows.{an_access, own_task, paste_arguments, paste_row}
+use Rattle.sj_lower.proofs.Contents.{held-same, held-other, same_cell-itself}
 use Rattle.sj_lower.proofs.Elements.{child-within}
 use Rattle.sj_lower.proofs.Filling.{AreFilled, HaveOwn, blocks-filled}
-use Rattle.sj_lower.proofs.Folding.{after_row, after_rows, one_gives, Fills, IsBlock}
+use Rattle.sj_lower.proofs.Folding.{after_row, after_rows, one_gives, Fills}
 
 -- ---- one paste
 

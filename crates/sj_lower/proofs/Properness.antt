@@ -1,8 +1,8 @@
 -- The program of a job is proper.
-use Rattle.std.proofs.Common.{◌≡◌, ℕ, ◌<◌, ◌≤◌, ◌^◌, true, Option, Some, None, List, [], length, get_or, map as each_of, refl, sym, ap, subst, ◌∙◌, inl, inr, arith}
+use Rattle.std.proofs.Common.{◌≡◌, ℕ, ◌<◌, ◌≤◌, ◌^◌, true, Option, Some, None, List, [], length, get_or, refl, sym, ap, subst, ◌∙◌, inl, inr, arith}
 use Rattle.std.specs.Option.{is_some}
 use Rattle.std.specs.Prelude.{nat_eq, count_by}
-use Rattle.std.specs.List.{All, AllPairs, range_with_len}
+use Rattle.std.specs.List.{All, AllPairs}
 use Rattle.std.proofs.lemmas.Bool.{false≢true, cases_lt}
 use Rattle.std.proofs.lemmas.List.{get_or_past}
 use Rattle.std.proofs.lemmas.List.Elements.{All-nil, All-from_get_or, All-get_or, All-weaker, All-contains}
@@ -18,16 +18,15 @@ use Rattle.sj_base.specs.declared.program.Program.{Program}
 use Rattle.sj_base.specs.Array.{area}
 use Rattle.sj_codelet.specs.declared.kernel.Kernel.TheVariants.{Deliver}
 use Rattle.sj_codelet.specs.Kernel.{kernel_of}
-use Rattle.sj_core.specs.Fold.{given}
 use Rattle.sj_core.specs.Operands.{copy_of}
 use Rattle.sj_core.specs.Program.{no_cell, no_task, cell_info, task_of}
 use Rattle.sj_base.specs.Mode.{is_redux, reads_value, is_in_order}
 use Rattle.sj_core.specs.Proper.{Proper, NamesCells, IsCopyOf, IsPlain, Fits, IsUnaliased, HasValueBefore, ReadsValues, HasPhases, HasDeliveries, IsWithinLimits, IsPhase, task_number, access}
 use Rattle.sj_job.specs.Act.{Statement}
 use Rattle.sj_core.specs.Laws.{HasPlainModes}
-use Rattle.sj_job.specs.Meaning.{Printed, printed}
+use Rattle.sj_job.specs.Meaning.{printed}
 use Rattle.sj_job.specs.Table.{Table}
-use Rattle.sj_lower.specs.Delivering.{deliveries_for, IsPrinted, DeliversPrinted, NamesDeliverTasks, DeliversInOrder}
+use Rattle.sj_lower.specs.Delivering.{DeliversPrinted, NamesDeliverTasks, DeliversInOrder}
 use Rattle.sj_lower.proofs.Contents.{task_at}
 use Rattle.sj_lower.proofs.Good.{IsGood}
 use Rattle.sj_lower.proofs.Delivered.{AreHanded, of_print}

@@ -32,13 +32,13 @@ use Rattle.sj_job.specs.Statement.{Operand, TaskLine}
 use Rattle.sj_job.specs.State.{Root, State, root_of, is_valued, is_child, child_rect, is_valued_child}
 use Rattle.sj_job.specs.Meaning.{child_array, seen_by, operand_array, is_written as writes, written_of as written_operands, run_task}
 use Rattle.sj_job.specs.Judge.{modes_fit, needs_value, clashes, is_aliased, is_read_only}
-use Rattle.sj_job.specs.Sound.{is_plain, has_root, has_child, has_child_values, child_dims, IsSoundTask}
+use Rattle.sj_job.specs.Sound.{is_plain, has_child, has_child_values, child_dims, IsSoundTask}
 use Rattle.sj_job.specs.Table.{undivided}
 use Rattle.sj_lower.specs.Cells.{Cells, cell_of}
 use Rattle.sj_lower.specs.Lowering.{active_cell, access_of}
 use Rattle.sj_lower.proofs.Contents.{first_worker, task_at, same_cell-itself}
 use Rattle.sj_lower.proofs.Elements.{child-whole}
-use Rattle.sj_lower.proofs.Holding.{HasCells, HaveRoots, Gives, GivesAll, IsOther, same_child, cell-dims, holds-put_all, holds-later}
+use Rattle.sj_lower.proofs.Holding.{HasCells, HaveRoots, GivesAll, IsOther, same_child, cell-dims, holds-put_all, holds-later}
 use Rattle.sj_lower.proofs.Laid.{AreLaid}
 use Rattle.sj_lower.proofs.Writing.{written_of, written_of-map, modes_are, all_dims, AreWhole, out_dims, out_whole, IsCall, call_of, fit_from_fits}
 

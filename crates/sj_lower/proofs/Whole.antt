@@ -1,10 +1,9 @@
 -- All statements: the tasks of the lowered program are good, and its deliveries are those of the job's prints.
-use Rattle.std.proofs.Common.{◌≡◌, ℕ, ◌+◌, ◌*◌, ◌<◌, ◌≤◌, ◌^◌, Bool, true, false, cond, not, ◌||◌, Option, Some, None, List, [], ◌∷◌, ◌++◌, pos, length, map as each_of, refl, sym, ap, subst, ◌∙◌, inl, inr, arith, append_assoc, length-append}
-use Rattle.std.specs.List.{All, AllByRecursion, flat_map}
+use Rattle.std.proofs.Common.{◌≡◌, ℕ, ◌+◌, ◌<◌, ◌≤◌, ◌^◌, Bool, true, false, cond, not, ◌||◌, Option, Some, None, List, [], ◌∷◌, ◌++◌, length, map as each_of, refl, sym, ap, subst, ◌∙◌, inl, inr, arith, append_assoc, length-append}
+use Rattle.std.specs.List.{All}
 use Rattle.std.specs.Str.{bytes_eq}
 use Rattle.std.proofs.lemmas.Bool.{false≢true, cases_lt}
 use Rattle.std.proofs.lemmas.List.{append-nil}
-use Rattle.sj_base.specs.declared.ids.Cell.{Cell}
 use Rattle.sj_base.specs.declared.ids.Line.{Line}
 use Rattle.sj_base.specs.declared.tile.Dims.{Dims}
 use Rattle.sj_base.specs.declared.program.CellInfo.{CellInfo}
@@ -13,15 +12,15 @@ use Rattle.sj_base.specs.declared.program.Lowered.{Lowered}
 use Rattle.sj_base.specs.declared.program.Program.{Program}
 use Rattle.sj_base.specs.Array.{area}
 use Rattle.sj_codelet.specs.declared.kernel.Kernel.{Kernel}
-use Rattle.sj_codelet.specs.declared.kernel.Kernel.TheVariants.{Load, LoadFill, Paste as PasteKernel, Deliver}
+use Rattle.sj_codelet.specs.declared.kernel.Kernel.TheVariants.{Deliver}
 use Rattle.sj_codelet.specs.Kernel.{kernel_of}
-use Rattle.sj_core.specs.Program.{dims_of, task_of}
+use Rattle.sj_core.specs.Program.{task_of}
 use Rattle.sj_core.specs.Fold.{Contents}
 use Rattle.sj_plan.specs.declared.parts.Parts.{Parts}
 use Rattle.sj_plan.specs.declared.paste.Paste.{Paste}
-use Rattle.sj_plan.specs.Parts.{Fits, IsPlace, places}
+use Rattle.sj_plan.specs.Parts.{IsPlace, places}
 use Rattle.sj_plan.specs.Paste.{pastes_of}
-use Rattle.sj_plan.specs.Rect.{child, dims_of as rect_dims}
+use Rattle.sj_plan.specs.Rect.{child}
 use Rattle.sj_plan.proofs.Lists.{each-map, each-of, each-places}
 use Rattle.sj_job.specs.declared.job.Init.{Init}
 use Rattle.sj_job.specs.declared.job.Init.TheVariants.{Values, Fill, Nothing}
@@ -30,12 +29,11 @@ use Rattle.sj_job.specs.Act.{Act, Statement}
 use Rattle.sj_job.specs.Act.{Register as Registers, Plan as Plans, Task as Tasks, Print as Prints, Invalidate as Invalidates, Unregister as Unregisters}
 use Rattle.sj_job.specs.State.{Root, State, root_of, is_valued, start}
 use Rattle.sj_job.specs.Meaning.{Printed, array_of, registered_root, with_parts, apply, found_by, prints, printed_from, printed, run_from}
-use Rattle.sj_job.specs.Sound.{has_values}
 use Rattle.sj_job.specs.Table.{Table, info_of, undivided}
 use Rattle.sj_job.specs.Well.{IsWell}
-use Rattle.sj_lower.specs.Cells.{Cells, Handle, same_parts, cell_of, take}
+use Rattle.sj_lower.specs.Cells.{Cells, Handle, same_parts, cell_of}
 use Rattle.sj_lower.specs.Rows.{load_row, fill_row, paste_row, deliver_row}
-use Rattle.sj_lower.specs.Lowering.{Lowering, nothing, cells_after, load_rows, parts_in, active_cell, is_idle, plan_rows, deliver_rows, task_row, a_delivery, print_deliveries, rows_of, deliveries_of, prints_after, lower_one, lower_from, lowered}
+use Rattle.sj_lower.specs.Lowering.{Lowering, nothing, cells_after, load_rows, parts_in, is_idle, plan_rows, deliver_rows, a_delivery, print_deliveries, rows_of, lower_one, lower_from, lowered}
 use Rattle.sj_lower.specs.Delivering.{printed_as}
 use Rattle.sj_lower.proofs.Contents.{task_at, contents_before}
 use Rattle.sj_lower.proofs.Elements.{valued-child}
@@ -45,10 +43,10 @@ use Rattle.sj_lower.proofs.Laid.{AreLaid, IsTaken, bytes_eq-itself, cell-inside,
 use Rattle.sj_lower.proofs.Pasting.{rows_to, rows-by_child}
 use Rattle.sj_lower.proofs.Places.{parts-itself, length-places}
 use Rattle.sj_lower.proofs.Running.{root_there, valued_there}
-use Rattle.sj_lower.proofs.Allowed.{CanBe, DoesNotDeliver, can_be}
+use Rattle.sj_lower.proofs.Allowed.{CanBe, can_be}
 use Rattle.sj_lower.proofs.Agreeing.{Agrees, Begins, begins-before, stands, differs, plan_rows-are, has-taken, agrees_start, agrees_act}
 use Rattle.sj_lower.proofs.Good.{IsGood, AreGood, CanPaste, good-all, good-at, good-blocks, good_load, good_fill, good_deliver, good_pastes_to, good_task}
-use Rattle.sj_lower.proofs.Delivered.{AreDelivered, NoneDelivers, Stands, deliveries_by, delivered_none, delivered_beside, delivered_print}
+use Rattle.sj_lower.proofs.Delivered.{AreDelivered, NoneDelivers, deliveries_by, delivered_none, delivered_beside, delivered_print}
 
 -- ---- the tasks of each statement are good
 

@@ -1,5 +1,5 @@
 -- How far a job is lowered, and why it isn't.
-use Rattle.std.specs.Prelude.{◌≡◌, ◌<◌, ◌≤◌, ℕ, Bool, nat_lt, Option, Some, None, length, vec_len, if◌then◌else◌}
+use Rattle.std.specs.Prelude.{◌≡◌, ◌<◌, ◌≤◌, Bool, nat_lt, Option, Some, None, length, vec_len, if◌then◌else◌}
 use Rattle.sj_base.specs.declared.ids.Line.{Line}
 use Rattle.sj_codelet.specs.declared.kernel.Kernel.{Kernel}
 use Rattle.sj_job.specs.declared.job.Statement.{Statement as Kept}

@@ -1,7 +1,7 @@
 -- What is lowered so far, as contracts see it.
-use Rattle.std.specs.Prelude.{◌≡◌, ◌<◌, ◌≤◌, ◌+◌, ◌&&◌, nat_eq, Bool, ℕ, Option, Some, None, List, [], length, vec_len, ◌||◌, not, map, slice_index_or, slice_set, if◌then◌else◌}
+use Rattle.std.specs.Prelude.{◌≡◌, ◌<◌, ◌≤◌, ◌+◌, ◌&&◌, nat_eq, Bool, ℕ, Some, None, List, [], length, ◌||◌, not, map, slice_index_or, slice_set, if◌then◌else◌}
 use Rattle.std.specs.List.{fold}
-use Rattle.indexmap.specs.IndexMap.{IndexMap, get}
+use Rattle.indexmap.specs.IndexMap.{get}
 use Rattle.sj_base.specs.declared.ids.Line.{Line}
 use Rattle.sj_base.specs.declared.mode.Access.{Access}
 use Rattle.sj_codelet.specs.declared.kernel.Kernel.{Kernel}
@@ -19,7 +19,7 @@ use Rattle.sj_job.specs.State.{Root, State, root_of}
 use Rattle.sj_job.specs.Meaning.{is_written, apply}
 use Rattle.sj_job.specs.Sound.{IsSoundAct}
 use Rattle.sj_job.specs.Table.{Table, AreDistinct, a_root, name_of, info_of, undivided}
-use Rattle.sj_job.specs.Track.{Track, Tracks, all_valued, children_count, written}
+use Rattle.sj_job.specs.Track.{Tracks, all_valued, children_count, written}
 use Rattle.sj_job.specs.View.{act_seen, count_after, IsPlaced}
 use Rattle.sj_lower.specs.declared.layout.Taken.{Taken}
 use Rattle.sj_lower.specs.declared.layout.Layout.{Layout}

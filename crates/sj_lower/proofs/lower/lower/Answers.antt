@@ -1,21 +1,18 @@
-use Rattle.std.proofs.Common.{◌≡◌, ◌∙◌, ℕ, ◌+◌, ◌≤◌, List, [], ◌∷◌, Option, Some, None, refl, ap, subst, sym, length, vec_len, arith, Result, Ok, Err, IfErr, IsErrAnd}
+use Rattle.std.proofs.Common.{◌≡◌, ◌∙◌, ℕ, ◌≤◌, List, [], ◌∷◌, None, refl, ap, subst, sym, length, arith, Result, Ok, Err, IfErr, IsErrAnd}
 use Rattle.std.specs.Vec.Iter.{into_iter_items}
 use Rattle.sj_base.specs.declared.program.Program.{Program}
-use Rattle.sj_codelet.specs.declared.kernel.Kernel.{Kernel}
 use Rattle.sj_job.specs.declared.job.Statement.{Statement as Kept}
-use Rattle.sj_job.specs.Act.{Statement}
 use Rattle.sj_job.specs.State.{State, start}
 use Rattle.sj_job.specs.Table.{Table, IsTable}
 use Rattle.sj_job.specs.View.{ArePlaced, IsNumbered, count_from, seen_from, statements_of}
 use Rattle.sj_job.specs.Well.{IsWell}
-use Rattle.sj_job.proofs.Views.{counts-grow}
 use Rattle.sj_lower.specs.declared.lower.LowerRefusal.{LowerRefusal}
 use Rattle.sj_lower.specs.declared.lower.Progress.{Progress}
 use Rattle.sj_lower.specs.Job.{IsJob}
-use Rattle.sj_lower.specs.Limits.{late_limit, late_tasks}
+use Rattle.sj_lower.specs.Limits.{late_limit}
 use Rattle.sj_lower.specs.Lowering.{Lowering, nothing, lower_from, lowered, program_of}
-use Rattle.sj_lower.specs.Progress.{IsAt, IsFull, IsLate, IsOver}
-use Rattle.sj_lower.proofs.Going.{GoesOn, IsDone, going-start, going-has, going-more, going-full, going-end, done-over}
+use Rattle.sj_lower.specs.Progress.{IsAt, IsFull, IsLate}
+use Rattle.sj_lower.proofs.Going.{GoesOn, IsDone, going-start, going-has, going-more, going-full, going-end}
 use Rattle.sj_lower.proofs.Naming.{names-all, numbered-none}
 use Rattle.sj_lower.proofs.Whole.{IsWhole, whole}
 use Rattle.sj_lower.proofs.Properness.{proper, plain, delivers_printed, names_deliver_tasks, delivers_in_order}

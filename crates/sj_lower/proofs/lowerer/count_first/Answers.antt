@@ -1,4 +1,4 @@
-use Rattle.std.proofs.Common.{◌≡◌, ◌∙◌, ap, sym, ℕ, ◌*◌, length}
+use Rattle.std.proofs.Common.{◌∙◌, ap, sym, ℕ, length}
 use Rattle.sj_plan.specs.Rect.{child}
 use Rattle.sj_job.specs.declared.job.Init.{Init}
 use Rattle.sj_lower.specs.Rows.{load_row, fill_row}

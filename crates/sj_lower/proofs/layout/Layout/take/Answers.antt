@@ -1,12 +1,10 @@
-use Rattle.std.proofs.Common.{◌≡◌, ◌∙◌, ◌++◌, ◌*◌, ℕ, Some, None, List, length, map, refl, sym, ap, arith, length-append}
+use Rattle.std.proofs.Common.{◌≡◌, ◌∙◌, ◌++◌, List, length, map, refl, sym, ap, arith, length-append}
 use Rattle.std.proofs.lemmas.List.{length-map}
 use Rattle.std.specs.Option.{option_copied}
-use Rattle.sj_base.specs.declared.program.CellInfo.{CellInfo}
 use Rattle.sj_plan.specs.declared.rect.Rect.{Rect}
 use Rattle.sj_plan.specs.Rect.{child, children_of}
-use Rattle.sj_job.specs.Table.{name_of}
 use Rattle.sj_lower.specs.Cells.{rect_cell}
-use Rattle.sj_lower.proofs.Laying.{lays_old, lays_new, lays_full}
+use Rattle.sj_lower.proofs.Laying.{lays_new, lays_full}
 use Rattle.sj_lower.proofs.Places.{length-places}
 use Rattle.sj_lower.proofs.layout.Layout.take.Goals as goal
 

@@ -1,10 +1,6 @@
-use Rattle.std.proofs.Common.{◌≡◌, ℕ, ◌+◌, ◌<◌, ◌≤◌, Option, None, Some, IfSome, refl, subst, sym, arith}
-use Rattle.std.proofs.lemmas.Option.{IfSome_then}
+use Rattle.std.proofs.Common.{◌≡◌, ℕ, ◌+◌, ◌<◌, Option, Some, IfSome, refl, subst, arith}
 use Rattle.sj_job.specs.Table.{Table}
-use Rattle.sj_job.specs.View.{statement_seen}
 use Rattle.sj_job.specs.declared.job.Act.{Act as Kept}
-use Rattle.sj_lower.specs.Limits.{most, tasks_in}
-use Rattle.sj_lower.specs.Lowering.{lower_one}
 use Rattle.sj_lower.specs.declared.layout.Layout.{Layout}
 use Rattle.sj_lower.proofs.Coming.{has-next, has-room, with-tasks, few-with, few-so-far, none-over, goes-late, goes-on, IsLaid}
 use Rattle.sj_lower.proofs.lower.Progress.add.Goals as goal

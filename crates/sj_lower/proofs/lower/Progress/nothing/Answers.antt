@@ -1,4 +1,4 @@
-use Rattle.std.proofs.Common.{◌≡◌, ◌≤◌, ℕ, arith}
+use Rattle.std.proofs.Common.{arith}
 use Rattle.sj_lower.proofs.lower.Progress.nothing.Goals as goal
 
 pub returns-clause-at : goal.returns-clause-at

@@ -1,4 +1,4 @@
-use Rattle.std.proofs.Common.{◌≡◌, ◌+◌, ◌≤◌, sym, subst, length, refl}
+use Rattle.std.proofs.Common.{◌+◌, ◌≤◌, sym, subst, length, refl}
 use Rattle.std.specs.Prelude.{vec_len}
 use Rattle.sj_job.specs.declared.job.Act.{Act as Kept}
 use Rattle.sj_job.specs.View.{act_seen}

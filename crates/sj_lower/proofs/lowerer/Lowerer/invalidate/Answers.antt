@@ -1,7 +1,6 @@
-use Rattle.std.proofs.Common.{◌≡◌, ◌∙◌, refl, ap, sym, false, arith}
+use Rattle.std.proofs.Common.{◌≡◌, ◌∙◌, refl, false, arith}
 use Rattle.std.proofs.Math.ListN.{set}
-use Rattle.sj_job.specs.Track.{Track, even}
-use Rattle.sj_lower.specs.declared.lowerer.Active.{Active}
+use Rattle.sj_job.specs.Track.{even}
 use Rattle.sj_lower.specs.Seen.{active_at}
 use Rattle.sj_lower.proofs.Following.{does-invalidate, at-default}
 use Rattle.sj_lower.proofs.lowerer.Lowerer.invalidate.Goals as goal

@@ -1,4 +1,4 @@
-use Rattle.std.proofs.Common.{◌≡◌, ◌∙◌, ◌++◌, ◌||◌, ◌+◌, ◌≤◌, true, refl, ap, sym, subst, length, arith, length-append}
+use Rattle.std.proofs.Common.{◌≡◌, ◌∙◌, ◌++◌, ◌||◌, ◌+◌, ◌≤◌, refl, ap, sym, subst, length, arith, length-append}
 use Rattle.std.proofs.Math.ListN.{set}
 use Rattle.sj_job.specs.declared.job.RootInfo.{RootInfo}
 use Rattle.sj_base.specs.declared.tile.Dims.{Dims}
@@ -8,7 +8,7 @@ use Rattle.sj_job.specs.Track.{all_valued, none_valued, even, children_count}
 use Rattle.sj_lower.specs.Limits.{most}
 use Rattle.sj_lower.specs.declared.lowerer.Active.{Active}
 use Rattle.sj_lower.specs.Seen.{active_at, pasted_by}
-use Rattle.sj_lower.proofs.Following.{does-plan, at-default, plan-known, plan-fits, plan-even, fits-plan}
+use Rattle.sj_lower.proofs.Following.{does-plan, at-default, plan-known, plan-fits, plan-even}
 use Rattle.sj_lower.proofs.lowerer.Lowerer.plan.Goals as goal
 
 pub returns-clause-does : goal.returns-clause-does

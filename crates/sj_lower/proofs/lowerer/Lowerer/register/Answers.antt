@@ -1,11 +1,8 @@
-use Rattle.std.proofs.Common.{◌≡◌, ◌∙◌, ◌++◌, ◌∷◌, [], ℕ, length, refl, ap, sym, subst, vec_len, arith, length-append}
+use Rattle.std.proofs.Common.{◌≡◌, ◌∙◌, ◌++◌, ◌∷◌, [], ℕ, length, refl, ap, subst, vec_len, arith, length-append}
 use Rattle.sj_job.specs.declared.job.Act.TheVariants as kept
 use Rattle.sj_lower.specs.Seen.{HasRoom}
-use Rattle.sj_job.specs.declared.job.RootInfo.{RootInfo}
-use Rattle.sj_job.specs.Names.{gives_values}
 use Rattle.sj_job.specs.Table.{a_root, info_of}
 use Rattle.sj_job.specs.Track.{even}
-use Rattle.sj_lower.specs.declared.lowerer.Active.{Active}
 use Rattle.sj_lower.specs.Cells.{cells_from}
 use Rattle.sj_lower.specs.Lowering.{load_rows}
 use Rattle.sj_lower.proofs.Following.{does-register}
