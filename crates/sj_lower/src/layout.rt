@@ -1,10 +1,9 @@
 //! The cells of a job's roots: a plan's children get cells when their root first takes the plan.
 
-ghost use Rattle.std.specs.Prelude.{◌≡◌, ◌+◌, ◌<◌, ◌≤◌, ◌++◌, ℕ, List, length, map, vec_len, IfOk, IfSome, IfNone, OnOk};
+ghost use Rattle.std.specs.Prelude.{◌≡◌, ◌+◌, ◌<◌, ◌≤◌, ◌++◌, length, map, vec_len, IfOk, IfSome, IfNone, OnOk};
 ghost use Rattle.sj_job.specs.Table.{Table, AreDistinct, name_of, info_of};
 ghost use Rattle.sj_job.specs.View.{IsPlaced, act_seen, count_after};
-ghost use Rattle.sj_plan.specs.Parts.{Fits, places};
-ghost use Rattle.sj_plan.specs.Rect.{dims_of};
+ghost use Rattle.sj_plan.specs.Parts.{Fits};
 ghost use Rattle.sj_lower.specs.Cells.{Cells, rect_cell, first_cell, take, no_cells};
 ghost use Rattle.sj_lower.specs.Limits.{most};
 ghost use Rattle.sj_lower.specs.Lowering.{cells_after};
@@ -114,9 +113,9 @@ impl Layout {
             → AreDistinct roots.now.names
             → Lays roots.now self.new (cells_after (act_seen roots.now self.old.roots act.now) C)
             × (first_after (act_seen roots.now self.old.roots act.now)
-                (cells_after (act_seen roots.now self.old.roots act.now) C) ≡ first)
+            (cells_after (act_seen roots.now self.old.roots act.now) C) ≡ first)
             × (first + children_after (act_seen roots.now self.old.roots act.now)
-                ≤ length (cells_after (act_seen roots.now self.old.roots act.now) C).rows))) }
+            ≤ length (cells_after (act_seen roots.now self.old.roots act.now) C).rows))) }
         ensures full { IfOk result (λ o. IfNone o ((C : Cells) → Lays roots.now self.old C
             → AreDistinct roots.now.names
             → most < length (cells_after (act_seen roots.now self.old.roots act.now) C).rows)) }

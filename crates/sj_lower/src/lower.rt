@@ -1,6 +1,6 @@
 //! Lowering a job.
 
-ghost use Rattle.std.specs.Prelude.{◌≡◌, ◌≤◌, None, Some, IfOk, IfErr, IfNone, IfSome, OnOk, length, vec_len};
+ghost use Rattle.std.specs.Prelude.{◌≡◌, None, Some, IfOk, IfErr, OnOk};
 ghost use Rattle.sj_core.specs.Laws.{HasPlainModes};
 ghost use Rattle.sj_core.specs.Proper.{Proper};
 ghost use Rattle.sj_job.specs.State.{State, start};
@@ -113,7 +113,9 @@ impl Progress {
             return Err(LowerRefusal::TooManyTasks { line });
         }
         let Lowerer {
-            tasks, deliveries, ..
+            tasks,
+            deliveries,
+            ..
         } = lowerer;
         Ok(Program {
             cells: Sequence::of(layout.infos),
