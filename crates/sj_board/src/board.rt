@@ -186,8 +186,8 @@ impl Board {
 
     /// The kernel of the task that the worker has claimed begins. The frame has the task's operands: a share of what is only
     /// read, the tile itself of what is read and written, zeros for what is written or scratch. After an `Err` the board is
-    /// as before. Linear in the elements of the operands that begin as zeros, and of those that are written while somebody
-    /// has a share of what was handed over.
+    /// as before. Linear in the elements of the operands that begin as zeros, and of a written tile of which somebody else
+    /// has a share, as of one that was handed over.
     pub fn run(&mut self, alloc: Global, w: Worker) -> Result<Frame, OutOfMemory>
         requires claimed { HasTaskClaimed self.old w }
         ensures ok { OnOk result ((t : Task) → HasClaimed self.old w t → self.new ≡ begun self.old t w) }
