@@ -1,9 +1,10 @@
 //! The numbers of a form.
 
-ghost use Rattle.std.specs.Prelude.{◌≡◌, true, false, map, IfOk, MatchOption};
+ghost use Rattle.std.specs.Prelude.{◌≡◌, ◌&&◌, true, false, map, IfOk, IsTrue, MatchOption};
 ghost use Rattle.std.specs.List.{list_all};
-ghost use Rattle.sj_job.specs.Word.{is_count, is_integer, integer};
-ghost use Rattle.sj_job.specs.Sentence.{are_counts, is_numbered_size, is_numbered_init, is_numbered_priority, rows_of, cols_of, init_said, priority_said};
+ghost use Rattle.sj_job.specs.Word.{count, is_count, is_integer, integer};
+ghost use Rattle.sj_job.specs.Sentence.{are_counts, is_numbered_size, is_numbered_init, is_numbered_priority, rows_of, cols_of, init_said, parts_said, index_said, priority_said};
+ghost use Rattle.sj_job.specs.State.{plan_with};
 
 use crate::form::{InitForm, Piece, Size};
 use crate::job::Init;
@@ -26,6 +27,36 @@ pub fn are_counts(pair: &Option<(Piece<'_>, Piece<'_>)>) -> bool
     match pair {
         Some((a, b)) => is_count(a.bytes()) && is_count(b.bytes()),
         None => true,
+    }
+}
+
+/// The counts that two words say, or `None` where one says none. Linear in the words.
+pub fn pair_of(a: &Piece<'_>, b: &Piece<'_>) -> Option<(u64, u64)>
+    ensures { MatchOption result ((is_count a.now && is_count b.now) ≡ false) (λ p.
+        ((is_count a.now && is_count b.now) ≡ true) × (p.0 ≡ count a.now) × (p.1 ≡ count b.now)) }
+{
+    Some((count_of(a.bytes())?, count_of(b.bytes())?))
+}
+
+/// The parts of rows and of columns that `by r c` says, 1 and 1 without it; `None` where a word says no count. Linear in the words.
+pub fn parts_of(by: &Option<(Piece<'_>, Piece<'_>)>) -> Option<(u64, u64)>
+    ensures { MatchOption result (are_counts by.now ≡ false)
+        (λ p. (are_counts by.now ≡ true) × (plan_with p.0 p.1 ≡ parts_said by.now)) }
+{
+    match by {
+        Some((r, c)) => pair_of(r, c),
+        None => Some((1, 1)),
+    }
+}
+
+/// The index that two words say, where there are two. Linear in the words.
+pub fn index_of(child: &Option<(Piece<'_>, Piece<'_>)>) -> Option<(u64, u64)>
+    requires { IsTrue (are_counts child.now) }
+    ensures { result ≡ index_said child.now }
+{
+    match child {
+        Some((i, j)) => pair_of(i, j),
+        None => None,
     }
 }
 
