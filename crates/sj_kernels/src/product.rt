@@ -11,6 +11,7 @@ ghost use Rattle.sj_kernels.specs.Rows.{row_product};
 ghost use Rattle.sj_kernels.specs.Panels.{with_terms, with_terms_within, part, column_sum, row_within};
 
 use crate::elementwise::axpy;
+use crate::scalar::with_product;
 
 /// How many rows of the right factor a panel has.
 const PANEL: usize = 32;
@@ -230,12 +231,6 @@ fn column(a: &[i64], b: &[i64], n: usize, j: usize, start: i64) -> i64
         total = with_product(total, a[l], b[l * n + j]);
     }
     total
-}
-
-fn with_product(total: i64, x: i64, y: i64) -> i64
-    ensures { result ≡ wrap (total +ℤ (x *ℤ y)) }
-{
-    total.wrapping_add(x.wrapping_mul(y))
 }
 
 /// `c = c + a B`, wrapping, for a row `a` and a row `c`.
