@@ -2,7 +2,7 @@ use Rattle.std.proofs.Common.{◌≡◌, ◌+◌, ◌*◌, ◌%◌, ℤ, ◌+ℤ
 use Rattle.std.proofs.lemmas.Int.{to_z-of_z, wrapping_add-bits, wrapping_mul-bits, int_wrap-add_right}
 use mir.ValLaws.{of_z_fits}
 use Rattle.sj_codelet.specs.Ring.{wrap}
-use Rattle.sj_kernels.proofs.product.with_product.Goals as goal
+use Rattle.sj_kernels.proofs.scalar.with_product.Goals as goal
 
 pub returns : goal.returns
 returns c =
