@@ -320,14 +320,18 @@ fn main(rt: HostRuntime) -> io::Result<()> {
 }
 RT
 built kernel_speed first.txt
-gcc -O3 -o loops "$here/loops.c"
-gcc -O3 -march=x86-64-v2 -o loops_v2 "$here/loops.c"
-core=$(($(nproc) - 1))
+program=loops
 turns="1 2 3"
-if [ "${1-}" = large ]; then turns=1; fi
+if [ "${1-}" = large ]; then
+    program=large
+    turns=1
+fi
+gcc -O3 -o loops "$here/$program.c"
+gcc -O3 -march=x86-64-v2 -o loops_v2 "$here/$program.c"
+core=$(($(nproc) - 1))
 for _ in $turns; do
-    taskset -c $core ./loops "$@" >> c.txt
-    taskset -c $core ./loops_v2 "$@" >> c_v2.txt
+    taskset -c $core ./loops >> c.txt
+    taskset -c $core ./loops_v2 >> c_v2.txt
     taskset -c $core crates/kernel_speed/out/kernel_speed "$@" >> rattle.txt
 done
 echo "cores: $(nproc), of which one is used, load: $(cut -d ' ' -f 1 /proc/loadavg)"
@@ -337,7 +341,8 @@ def read(path):
     least, sums = {}, {}
     for line in open(path):
         name, sides, calls, taken, sum_ = line.split()
-        key = name, tuple(int(n) for n in sides.split("x"))
+        m, _, n = sides.partition("x")
+        key = name, (int(m), int(n or m))
         each = int(taken) / int(calls) / 1000
         least[key] = min(each, least.get(key, each))
         sums.setdefault(key, []).append(sum_)
