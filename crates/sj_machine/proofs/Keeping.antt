@@ -66,7 +66,7 @@ module _ {D : Type 0} (size faults mismatches : D → ℕ) (held : D → Option 
         sound = record {
           run = keeps.sound.run;
           legal = legal;
-          coherent = Replays-coherent p m keeps.sound.run.proper keeps.sound.run.machine keeps.sound.run.plain (b.trace ++ e ∷ []) (state (with_event b e)) legal;
+          coherent = Replays-coherent p m keeps.sound.run.proper keeps.sound.run.machine keeps.sound.run.has keeps.sound.run.lawful (b.trace ++ e ∷ []) (state (with_event b e)) legal;
           blocks = subst (λ (z : State). HoldsBlocks held p m z (AllTell held b) b.disks) (sym now) blocks;
           given_back = keeps.sound.given_back;
         };

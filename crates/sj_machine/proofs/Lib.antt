@@ -22,6 +22,7 @@ pub mod Owning
 pub mod Putting
 pub mod Reading
 pub mod Resting
+pub mod Sparing
 pub mod Storing
 pub mod Tiles
 pub mod Transferring

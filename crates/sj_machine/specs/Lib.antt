@@ -6,5 +6,6 @@ pub mod Plan
 pub mod Planning
 pub mod Running
 pub mod Sound
+pub mod Sparing
 pub mod Standing
 pub mod Tiles

@@ -1,5 +1,5 @@
 -- What is true of every run between two calls.
-use Rattle.std.specs.Prelude.{◌≡◌, ◌≤◌, ℕ, ℤ, All, Result, FitsSigned, length, Option, true, Some, IsTrue, IfSome, IsSomeAnd, List, slice_get, option_and_then}
+use Rattle.std.specs.Prelude.{◌≡◌, ◌≤◌, Bool, ℕ, ℤ, All, Result, FitsSigned, length, Option, true, Some, IsTrue, IfSome, IsSomeAnd, List, slice_get, option_and_then}
 use Rattle.std.specs.Int.{w64}
 use Rattle.sj_base.specs.declared.ids.Cell.{Cell}
 use Rattle.sj_base.specs.declared.ids.DiskNo.{DiskNo}
@@ -9,8 +9,9 @@ use Rattle.sj_base.specs.declared.ids.Place.TheVariants.{Disk as OnDisk}
 use Rattle.sj_base.specs.declared.program.Program.{Program}
 use Rattle.sj_base.specs.declared.program.Machine.{Machine}
 use Rattle.sj_base.specs.Array.{area}
+use Rattle.sj_codelet.specs.declared.kernel.Kernel.{Kernel}
 use Rattle.sj_core.specs.Coherent.{Coherent}
-use Rattle.sj_core.specs.Laws.{HasPlainModes}
+use Rattle.sj_core.specs.Laws.{HasPlainModes, IsLawful}
 use Rattle.sj_core.specs.Legal.{Replays}
 use Rattle.sj_core.specs.Machine.{State, is_valid, replica, transfer, writes}
 use Rattle.sj_core.specs.Needs.{Block, place}
@@ -61,9 +62,12 @@ pub record HoldsBlocks {D : Type 0} (held : D → Option (List ℕ)) (p : Progra
 
 -- ---- all of it
 
--- the program is proper and plain, and the machine is one for it, with room for its blocks
+-- the program is proper and plain, with codelets of a set that obeys the laws of a set, and the machine is one for it,
+-- with room for its blocks
 pub record IsRunOf (p : Program) (m : Machine) : Type 0 where
   pub proper : Proper p
+  pub has : Kernel → Bool
+  pub lawful : IsLawful has p
   pub plain : HasPlainModes p
   pub machine : IsMachineFor p m
   pub swap : HasSwapFor p m

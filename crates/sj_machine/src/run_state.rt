@@ -13,6 +13,7 @@ ghost use Rattle.sj_machine.specs.Plan.{IsPlan};
 ghost use Rattle.sj_machine.specs.Running.{AreResultsFor, AreSharesFor, read_among};
 ghost use Rattle.sj_machine.specs.Sound.{CanStart, FetchesMoved, IsSoundRun, IsWrittenOut, OnlyDisksChange, StoresMoved};
 ghost use Rattle.sj_machine.specs.Planning.{IsWhy, MayClaim};
+ghost use Rattle.sj_machine.specs.Sparing.{EventsSpareUsed};
 ghost use Rattle.sj_machine.specs.Standing.{CanHappen, HasDimsMoved, HasMoved, IsFetching, IsMovingIn, IsMovingOut, IsShareOf, IsTileMoved, is_node, starting, state, with_event};
 ghost use Rattle.sj_machine.specs.Tiles.{array_in};
 
@@ -465,6 +466,14 @@ impl<D: Disk> RunState<D> {
     /// No code: its contract is what is true of every run.
     pub fn is_sound(&self)
         ensures { IsSoundRun D.size D.faults D.mismatches D.held self.now }
+    {
+        let _ = &self.program;
+    }
+
+    /// No code: its contract is the law that no event takes away a copy that a claimed or running task pins, or that a
+    /// transfer reads, or changes its array, but for the run of the task that writes it.
+    pub fn events_spare_what_is_used(&self)
+        ensures { EventsSpareUsed self.now }
     {
         let _ = &self.program;
     }
