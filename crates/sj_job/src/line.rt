@@ -150,12 +150,12 @@ impl<'a> Words<'a> {
     pub fn collect(&self, alloc: Global) -> Result<Vec<&'a [u8]>, AllocError>
         ensures { IfOk result (λ ws. map (λ w. w.now) ws.items ≡ self.now) }
     {
-        words(alloc, self.line)
+        listed(alloc, self.line)
     }
 }
 
 /// The words of a line. Linear in the line.
-fn words(alloc: Global, line: &[u8]) -> Result<Vec<&[u8]>, AllocError>
+fn listed(alloc: Global, line: &[u8]) -> Result<Vec<&[u8]>, AllocError>
     ensures { IfOk result (λ ws. map (λ w. w.now) ws.items ≡ words line.now) }
 {
     let mut words = Vec::new(alloc);
