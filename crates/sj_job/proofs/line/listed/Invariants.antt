@@ -1,6 +1,6 @@
 use Rattle.std.proofs.Common.{◌≡◌, ◌++◌, length, map}
 use Rattle.sj_job.specs.Word.{words}
-use Rattle.sj_job.proofs.line.words.Given as goal
+use Rattle.sj_job.proofs.line.listed.Given as goal
 
 -- the words so far, and those of the rest
 abbrev pub invariant-loop-word : goal.invariant-loop-word
