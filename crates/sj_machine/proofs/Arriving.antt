@@ -1,25 +1,24 @@
 -- What the end of a move leaves.
-use Rattle.std.proofs.Common.{◌≡◌, ◌++◌, ◌∷◌, [], ◌≤◌, ◌<◌, ◌+◌, ◌-◌, ℕ, Bool, true, false, List, Option, None, Some, refl, sym, ap, ◌∙◌, subst, arith, inl, inr, length, get_or, is_some, set, sum_by}
-use Rattle.std.specs.Prelude.{All, IfSome, IsSomeAnd, unwrap_or}
-use Rattle.std.proofs.lemmas.Bool.{false≢true}
+use Rattle.std.proofs.Common.{◌≡◌, ◌++◌, ◌∷◌, [], ◌<◌, ◌+◌, ◌-◌, ℕ, true, List, Option, None, Some, refl, sym, ap, ◌∙◌, subst, arith, inl, inr, length, get_or, is_some, sum_by}
+use Rattle.std.specs.Prelude.{IfSome, IsSomeAnd, unwrap_or}
 use Rattle.std.proofs.lemmas.List.{length-set}
 use Rattle.std.proofs.lemmas.List.Elements.{All-get_or, All-set}
 use Rattle.std.proofs.lemmas.List.Sums.{sum_by-set}
 use Rattle.sj_base.specs.Recorded.{Recorded}
 use Rattle.sj_base.specs.declared.trace.Event.TheVariants.{Moved}
 use Rattle.sj_core.specs.declared.progress.Transfer.{Transfer}
-use Rattle.sj_core.proofs.Words.{Array, AtNode, Cell, CellState, Coming, DiskNo, Invalid, Machine, Node, OnDisk, Place, Program, Replica, State, Valid, Worker, WorkerState, array_of, cell_state, dims_of, is_coming_by, is_entry, is_valid, replica, transfer, with_replica, with_transfer, worker_state, writes, zeros}
+use Rattle.sj_core.proofs.Words.{Array, AtNode, Cell, CellState, Coming, DiskNo, Machine, Node, OnDisk, Place, Program, Replica, State, Valid, Worker, WorkerState, array_of, cell_state, dims_of, is_coming_by, is_entry, is_valid, replica, transfer, with_replica, with_transfer, writes, zeros}
 use Rattle.sj_core.proofs.Blocks.{disk-within}
 use Rattle.sj_core.proofs.Placing.{cells_differ, replica-cases, replica-on_disk, writes-same}
 use Rattle.sj_core.proofs.Reading.{idle_row, no_row, transfer-inside}
 use Rattle.sj_core.proofs.Replicas.{coming_by-is}
 use Rattle.sj_core.proofs.States.{one-mover}
-use Rattle.sj_core.specs.Coherent.{Coherent, is_being_written}
+use Rattle.sj_core.specs.Coherent.{Coherent}
 use Rattle.sj_core.specs.Step.{EndsMove, a_transfer, after, array_at, disk_of, mover_of}
 use Rattle.sj_disk.specs.Directory.{extent_of}
 use Rattle.sj_machine.specs.Mark.{mark_of, owed_for}
 use Rattle.sj_machine.specs.declared.mark.Mark.TheVariants.{Valid as ValidMark}
-use Rattle.sj_machine.specs.Agrees.{Agrees, HasMarks, HasTiles, IsWide, Rows, owed_by_worker, owed_in, rows_of, transfer_in, with_transfer_of}
+use Rattle.sj_machine.specs.Agrees.{Agrees, IsWide, Rows, owed_by_worker, rows_of, transfer_in, with_transfer_of}
 use Rattle.sj_machine.specs.Copies.{Copies, mark_at, owed_in as owed_in_copies, row_of, stored, tile_at, with_copy, with_row}
 use Rattle.sj_machine.specs.Sound.{HoldsArray, HoldsBlocks, IsCopyOf, IsStored, IsWrittenOut, Keeps}
 use Rattle.sj_machine.specs.Standing.{AllTell, CanHappen, IsTileMoved, IsTileOf, Standing, state, with_event}

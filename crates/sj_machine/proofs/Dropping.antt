@@ -1,16 +1,15 @@
 -- What a drop leaves.
-use Rattle.std.proofs.Common.{◌≡◌, ◌++◌, ◌∷◌, [], ◌≤◌, ◌<◌, ◌+◌, ◌-◌, ℕ, Bool, true, false, List, Option, None, Some, refl, sym, ap, ◌∙◌, subst, arith, inl, inr, length}
+use Rattle.std.proofs.Common.{◌≡◌, ◌++◌, ◌∷◌, [], ◌<◌, ◌+◌, ◌-◌, ℕ, true, false, List, Option, None, refl, sym, ap, ◌∙◌, subst, arith, inl, inr, length}
 use Rattle.sj_base.specs.declared.ids.Cell.{Cell}
 use Rattle.sj_base.specs.declared.ids.Node.{Node}
 use Rattle.sj_base.specs.Recorded.{Recorded}
 use Rattle.sj_base.specs.declared.trace.Event.{Event}
 use Rattle.sj_base.specs.declared.trace.Event.TheVariants.{Drop}
-use Rattle.sj_core.proofs.Words.{AtNode, Coming, DiskNo, Invalid, Leaving, Valid, Machine, OnDisk, Place, Program, Replica, State, is_leaving, is_valid, replica, with_replica, writes}
+use Rattle.sj_core.proofs.Words.{AtNode, Coming, DiskNo, Invalid, Leaving, Valid, Machine, OnDisk, Program, Replica, State, is_leaving, is_valid, replica, with_replica}
 use Rattle.sj_core.proofs.Placing.{replica-cases, writes-same}
 use Rattle.sj_core.specs.Step.{Drops, after}
 use Rattle.sj_core.specs.Coherent.{is_being_written}
 use Rattle.sj_machine.specs.Mark.{mark_of, owed_for}
-use Rattle.sj_machine.specs.declared.mark.Mark.{Mark}
 use Rattle.sj_machine.specs.declared.mark.Mark.TheVariants.{Invalid as NoMark}
 use Rattle.sj_machine.specs.Agrees.{Agrees, Rows, owed_in, rows_of}
 use Rattle.sj_machine.specs.Copies.{Copies, mark_at, row_of, with_copy, with_row}

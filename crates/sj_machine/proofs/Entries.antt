@@ -1,5 +1,5 @@
 -- Entries of a node that are taken away.
-use Rattle.std.proofs.Common.{◌≡◌, ◌≢◌, ◌<◌, ◌≤◌, ◌+◌, ℕ, Bool, true, false, List, [], ◌∷◌, ◌∙◌, ap, arith, Option, Some, inl, inr, cond, find, get_or, length, not, refl, sym, take, subst}
+use Rattle.std.proofs.Common.{◌≡◌, ◌<◌, ℕ, true, false, List, [], ◌∷◌, ◌∙◌, ap, arith, Some, inl, inr, cond, find, get_or, length, not, refl, take}
 use Rattle.std.specs.Prelude.{All}
 use Rattle.std.specs.Option.{option_map_or}
 use Rattle.std.proofs.lemmas.Bool.{cases_Bool, or_parts}

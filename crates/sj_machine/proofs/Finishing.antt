@@ -1,10 +1,10 @@
 -- What the end of a run leaves.
-use Rattle.std.proofs.Common.{◌≡◌, ◌≢◌, ◌<◌, ◌≤◌, ◌+◌, ◌-◌, ◌^◌, ℕ, zero, suc, Bool, true, false, not, List, [], ◌∷◌, ◌++◌, Option, None, Some, ◌∙◌, ap, arith, count_by, cond, find, get_or, inl, inr, is_some, length, map, refl, set, sum_by, sym, subst, ◌||◌}
-use Rattle.std.specs.Prelude.{All, Contains, IfSome, filter, if◌then◌else◌}
+use Rattle.std.proofs.Common.{◌≡◌, ◌≢◌, ◌<◌, ◌≤◌, ◌+◌, ◌-◌, ◌^◌, ℕ, Bool, true, false, not, List, [], ◌∷◌, ◌++◌, Option, None, Some, ◌∙◌, ap, arith, cond, find, get_or, inl, inr, is_some, length, map, refl, set, sum_by, sym, subst, ◌||◌}
+use Rattle.std.specs.Prelude.{All, IfSome, filter}
 use Rattle.std.specs.List.{AllByRecursion, AllZip, zip}
-use Rattle.std.proofs.lemmas.Bool.{cases_Bool, cases_lt, false_from_ne_true, false≢true}
+use Rattle.std.proofs.lemmas.Bool.{cases_Bool, false≢true}
 use Rattle.std.proofs.lemmas.Nat.{mod_below}
-use Rattle.std.proofs.lemmas.List.{get_or-set_other, get_or-set_same, get_or_past, length-map, length-set}
+use Rattle.std.proofs.lemmas.List.{get_or-set_other, get_or-set_same, length-map, length-set}
 use Rattle.std.proofs.lemmas.List.Elements.{All-from_get_or, All-from_recursion, All-get_or}
 use Rattle.std.proofs.lemmas.List.Folds.{list_any_at}
 use Rattle.std.proofs.lemmas.List.FromFn.{length-map-range_with_len}
@@ -14,35 +14,34 @@ use Rattle.sj_base.specs.Recorded.{Recorded}
 use Rattle.sj_base.specs.declared.mode.Access.{Access}
 use Rattle.sj_base.specs.declared.trace.Event.TheVariants.{End}
 use Rattle.sj_base.specs.Mode.{is_written}
-use Rattle.sj_codelet.specs.Frame.{Slot, arrays, shared}
+use Rattle.sj_codelet.specs.Frame.{Slot, arrays}
 use Rattle.sj_core.specs.declared.progress.Progress.{Progress}
-use Rattle.sj_core.specs.declared.progress.Progress.TheVariants.{Claimed, Done, Running, Waiting}
-use Rattle.sj_core.proofs.Words.{Array, AtNode, Cell, CellState, Coming, DiskNo, Invalid, Leaving, Machine, Node, OnDisk, Place, Program, Replica, State, Task, Valid, Worker, WorkerState, array_of, cell_state, cells_of, dims_of, has_cell, is_entry, is_leaving, is_task_of, is_valid, no_task, node_of, node_size, order, pins, progress, replica, same_cell, scratch, task_of, tasks_of, tile_bytes, with_cells, worker_of, worker_state, workers_at, writes, written_cells, zeros}
+use Rattle.sj_core.specs.declared.progress.Progress.TheVariants.{Done, Running, Waiting}
+use Rattle.sj_core.proofs.Words.{Array, AtNode, Cell, CellState, Coming, Invalid, Leaving, Machine, Node, OnDisk, Place, Program, Replica, State, Task, Valid, Worker, WorkerState, array_of, cells_of, dims_of, has_cell, is_entry, is_leaving, is_task_of, is_valid, no_task, node_of, node_size, order, pins, progress, replica, same_cell, scratch, task_of, tasks_of, tile_bytes, worker_of, worker_state, workers_at, writes, written_cells, zeros}
 use Rattle.sj_core.proofs.Advancing.{Ends-advances}
 use Rattle.sj_core.proofs.CellLists.{same_cell-refl, times}
 use Rattle.sj_core.proofs.Changing.{place_differs}
 use Rattle.sj_core.proofs.Ending.{end-elsewhere, end-other, end-other_worker, end-own_worker, end-spares, end-written}
 use Rattle.sj_core.proofs.Finding.{being_written-by, being_written-here, not_written-before, running-inside}
 use Rattle.sj_core.proofs.Placing.{valid-row}
-use Rattle.sj_core.proofs.Reading.{cells-touched, cells-untouched, entry-inside, idle_row, same_cell-is, same_node, workers_differ}
+use Rattle.sj_core.proofs.Reading.{cells-touched, cells-untouched, idle_row, same_cell-is, same_node}
 use Rattle.sj_core.proofs.Replicas.{same_worker-refl}
 use Rattle.sj_core.proofs.TaskCells.{written-among_cells}
-use Rattle.sj_core.specs.Coherent.{IsHeld, IsOwnedBy, has_written, is_begun, is_being_written, written_content}
+use Rattle.sj_core.specs.Coherent.{IsOwnedBy, has_written, is_begun, is_being_written, written_content}
 use Rattle.sj_core.specs.Fold.{held_in}
 use Rattle.sj_core.specs.Laws.{IsSound}
 use Rattle.sj_core.specs.Operands.{results}
 use Rattle.sj_core.specs.Program.{written_operands}
 use Rattle.sj_core.specs.Step.{Ends, after_end, array_at, result_at, rewritten_at, same_place}
-use Rattle.sj_node.specs.Store.{Store, store, with_entries}
+use Rattle.sj_node.specs.Store.{Store, store}
 use Rattle.sj_machine.specs.Mark.{mark_of}
-use Rattle.sj_machine.specs.declared.mark.Mark.{Mark}
 use Rattle.sj_machine.specs.declared.mark.Mark.TheVariants.{Invalid as NoMark, Valid as ValidMark}
-use Rattle.sj_machine.specs.Agrees.{Agrees, HasMarks, HasStores, HasTiles, IsWide, Rows, entry_of, owed_by_task, owed_by_worker, owed_in, pins_on, row_at, rows_of, store_of}
-use Rattle.sj_machine.specs.Copies.{Copies, mark_at, owed_in as owed_in_copies, row_of, tile_at, written_at}
+use Rattle.sj_machine.specs.Agrees.{HasMarks, HasStores, HasTiles, IsWide, Rows, owed_by_task, owed_by_worker, owed_in, pins_on, row_at, rows_of, store_of}
+use Rattle.sj_machine.specs.Copies.{Copies, mark_at, row_of, tile_at, written_at}
 use Rattle.sj_machine.specs.Plan.{store_at}
-use Rattle.sj_machine.specs.Running.{AreResultsFor, AreShared, CanRelease, CanRewrite, IsResultIn, let_go, put_each, released, unpinned_each, written_among}
+use Rattle.sj_machine.specs.Running.{AreResultsFor, AreShared, CanRelease, CanRewrite, IsResultIn, let_go, put_each, released, written_among}
 use Rattle.sj_machine.specs.Sound.{HoldsBlocks, Keeps}
-use Rattle.sj_machine.specs.Standing.{AllTell, CanHappen, Standing, state, with_event}
+use Rattle.sj_machine.specs.Standing.{AllTell, CanHappen, Standing, state}
 use Rattle.sj_machine.proofs.ClaimEntries.{entries}
 use Rattle.sj_machine.proofs.ClaimPins.{few-operands}
 use Rattle.sj_machine.proofs.ClaimStores.{sum-at, sum-grown}

@@ -1,23 +1,22 @@
 -- What one legal event more leaves: a legal trace, a coherent state, and blocks that stay.
-use Rattle.std.proofs.Common.{◌≡◌, ◌≤◌, ℕ, Bool, true, List, [], ◌∷◌, ◌++◌, length, Option, Some, None, sym, ap, ◌∙◌, subst}
+use Rattle.std.proofs.Common.{◌≡◌, ◌≤◌, ℕ, true, List, [], ◌∷◌, ◌++◌, length, Option, Some, None, sym, ap, ◌∙◌, subst}
 use Rattle.std.specs.Prelude.{All, FitsSigned, IsSomeAnd, unwrap_or}
 use Rattle.std.specs.Int.{w64}
 use Rattle.sj_base.specs.Recorded.{Recorded}
 use Rattle.sj_base.specs.declared.trace.Event.{Event}
-use Rattle.sj_core.proofs.Words.{AtNode, Cell, DiskNo, Machine, OnDisk, Place, Program, Replica, State, array_of, dims_of, is_valid, replica, writes}
+use Rattle.sj_core.proofs.Words.{Cell, DiskNo, Machine, OnDisk, Place, Program, Replica, State, array_of, dims_of, is_valid, replica, writes}
 use Rattle.sj_base.specs.Array.{Array, zeros}
 use Rattle.sj_core.proofs.Replaying.{Replays-coherent}
 use Rattle.sj_core.proofs.States.{Replays-more, state_of-more}
-use Rattle.sj_core.specs.Coherent.{Coherent}
-use Rattle.sj_core.specs.Legal.{Replays, state_of}
+use Rattle.sj_core.specs.Legal.{Replays}
 use Rattle.sj_core.specs.Laws.{IsSound}
-use Rattle.sj_core.specs.Step.{Step, after, array_at}
+use Rattle.sj_core.specs.Step.{after, array_at}
 use Rattle.sj_disk.specs.declared.directory.Extent.{Extent}
 use Rattle.sj_disk.specs.Block.{block}
 use Rattle.sj_disk.specs.Directory.{DiskState, extent_of, last_store}
 use Rattle.sj_disk.specs.Holding.{Holds}
 use Rattle.sj_machine.specs.Agrees.{Agrees, Rows, owed_in}
-use Rattle.sj_machine.specs.Sound.{HoldsArray, HoldsBlocks, IsSoundRun, IsStored, Keeps}
+use Rattle.sj_machine.specs.Sound.{HoldsArray, HoldsBlocks, IsStored, Keeps}
 use Rattle.sj_machine.specs.Standing.{AllTell, CanHappen, Standing, state, with_event}
 
 -- a block that holds a cell's array still does where the array and the count of writes stay, at whichever place

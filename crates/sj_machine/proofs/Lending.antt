@@ -1,14 +1,13 @@
 -- The rows of cells after some became one node's own.
-use Rattle.std.proofs.Common.{◌≡◌, ◌≢◌, ◌<◌, ◌≤◌, ◌+◌, ℕ, zero, suc, Bool, true, false, List, [], ◌∷◌, Option, None, Some, ◌∙◌, ap, arith, fold, get_or, inl, inr, length, map, refl, set, sum_by, sym, subst}
+use Rattle.std.proofs.Common.{◌≡◌, ◌≢◌, ◌<◌, ◌≤◌, ◌+◌, ℕ, zero, suc, List, [], ◌∷◌, Option, None, ◌∙◌, ap, arith, get_or, inl, inr, length, map, refl, set, sum_by}
 use Rattle.std.specs.Prelude.{All, if◌then◌else◌}
-use Rattle.std.proofs.lemmas.Bool.{cases_lt, false≢true}
-use Rattle.std.proofs.lemmas.List.{get_or-set_other, get_or-set_same, get_or_past, length-map, length-set}
-use Rattle.std.proofs.lemmas.List.Elements.{All-get_or, All-set, All-tail}
+use Rattle.std.proofs.lemmas.Bool.{cases_lt}
+use Rattle.std.proofs.lemmas.List.{get_or-set_other, get_or-set_same, length-map, length-set}
+use Rattle.std.proofs.lemmas.List.Elements.{All-get_or, All-set}
 use Rattle.std.proofs.lemmas.List.Sums.{sum_by-cons, sum_by-set}
 use Rattle.sj_base.specs.Array.{Array}
 use Rattle.sj_core.proofs.Words.{Cell, Node, has_cell}
 use Rattle.sj_core.proofs.CellLists.{cells-written, times}
-use Rattle.sj_core.proofs.Reading.{same_node}
 use Rattle.sj_core.proofs.Tables.{renewed-at}
 use Rattle.sj_machine.specs.declared.mark.Mark.{Mark}
 use Rattle.sj_machine.specs.declared.mark.Mark.TheVariants.{Invalid, Valid}

@@ -1,14 +1,12 @@
 -- The rows of cells agree with a state after one replica was written in both.
-use Rattle.std.proofs.Common.{◌≡◌, ◌≢◌, ℕ, ◌+◌, ◌<◌, ◌≤◌, Bool, true, false, List, Option, None, Some, length, get_or, set, refl, sym, ap, ◌∙◌, subst, inl, inr, ◌⊎◌, arith, is_some}
-use Rattle.std.specs.Prelude.{All, IfSome}
+use Rattle.std.proofs.Common.{◌≡◌, ◌<◌, true, false, List, Option, None, Some, length, refl, sym, ap, ◌∙◌, subst, inl, inr, arith, is_some}
+use Rattle.std.specs.Prelude.{IfSome}
 use Rattle.std.proofs.lemmas.List.{length-set}
 use Rattle.std.proofs.lemmas.List.Elements.{All-get_or}
-use Rattle.std.proofs.lemmas.Bool.{cases_lt, false≢true}
-use Rattle.sj_core.proofs.Words.{Array, AtNode, Cell, DiskNo, Machine, Node, OnDisk, Place, Program, Replica, State, array_of, cell_state, dims_of, is_valid, replica, replica_in, with_replica, writes}
-use Rattle.sj_core.proofs.Placing.{cells_differ, replica-at_node, replica-cases, writes-same}
-use Rattle.sj_core.proofs.Reading.{same_node}
+use Rattle.std.proofs.lemmas.Bool.{false≢true}
+use Rattle.sj_core.proofs.Words.{Array, AtNode, Cell, DiskNo, Machine, Node, OnDisk, Program, Replica, State, array_of, cell_state, dims_of, is_valid, replica, with_replica}
+use Rattle.sj_core.proofs.Placing.{replica-at_node, replica-cases, writes-same}
 use Rattle.sj_core.specs.Coherent.{HasRows, is_being_written}
-use Rattle.sj_core.specs.Step.{disk_of}
 use Rattle.sj_machine.specs.Mark.{mark_of}
 use Rattle.sj_machine.specs.Agrees.{HasMarks, HasTiles, IsWide}
 use Rattle.sj_machine.specs.Copies.{Copies, mark_at, row_of, tile_at, with_copy, with_row}

@@ -1,6 +1,5 @@
 -- The operands of a task, one after another.
-use Rattle.std.proofs.Common.{◌≡◌, ◌<◌, ◌≤◌, ◌+◌, ℕ, Bool, List, [], ◌∷◌, ◌++◌, ◌∙◌, ap, arith, cond, drop, get_or, length, map, refl, sym, take}
-use Rattle.std.specs.Prelude.{filter}
+use Rattle.std.proofs.Common.{◌≡◌, ◌<◌, ◌≤◌, ◌+◌, ℕ, List, [], ◌∷◌, ◌++◌, ◌∙◌, ap, arith, drop, get_or, length, map, sym, take}
 use Rattle.std.proofs.lemmas.List.{append_assoc, length-append, map-append, take-append-drop, take_more}
 use Rattle.std.proofs.lemmas.List.Elements.{filter-append}
 use Rattle.sj_base.specs.declared.ids.Node.{Node}

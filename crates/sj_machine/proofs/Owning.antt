@@ -1,12 +1,12 @@
 -- What the beginning of a run leaves.
-use Rattle.std.proofs.Common.{◌≡◌, ◌≢◌, ◌<◌, ◌≤◌, ◌+◌, ℕ, zero, suc, Bool, true, false, not, List, [], ◌∷◌, ◌++◌, Option, None, Some, ◌∙◌, ap, arith, count_by, cond, filter, get_or, inl, inr, is_some, length, map, nat_eq, refl, set, sum_by, sym, subst, ◌||◌}
-use Rattle.std.specs.Prelude.{All, Contains, IfSome, IsTrue, if◌then◌else◌, unwrap_or}
+use Rattle.std.proofs.Common.{◌≡◌, ◌≢◌, ◌<◌, ◌≤◌, ℕ, zero, suc, Bool, true, false, not, List, [], ◌∷◌, ◌++◌, Option, None, Some, ◌∙◌, ap, arith, count_by, get_or, inl, inr, is_some, length, map, nat_eq, refl, set, sum_by, sym, subst, ◌||◌}
+use Rattle.std.specs.Prelude.{All, Contains, IfSome, if◌then◌else◌, unwrap_or}
 use Rattle.std.specs.List.{AllZip}
-use Rattle.std.proofs.lemmas.Bool.{cases_Bool, cases_lt, false_from_ne_true, false≢true, not-false, not-true}
+use Rattle.std.proofs.lemmas.Bool.{cases_Bool, cases_lt, false_from_ne_true, false≢true}
 use Rattle.std.proofs.lemmas.Bool.Decides.{Decides-eqb}
 use Rattle.std.proofs.lemmas.Nat.{mod_below}
-use Rattle.std.proofs.lemmas.List.{get_or-map, get_or_past, length-map, length-set}
-use Rattle.std.proofs.lemmas.List.Elements.{All-from_get_or, All-get_or, Contains-get_or, filter_passes}
+use Rattle.std.proofs.lemmas.List.{get_or-map, get_or_past, length-map}
+use Rattle.std.proofs.lemmas.List.Elements.{All-get_or, Contains-get_or}
 use Rattle.std.proofs.lemmas.List.Folds.{list_any_at}
 use Rattle.std.proofs.lemmas.List.Sums.{sum_by-cons, sum_by-set}
 use Rattle.sj_base.specs.Recorded.{Recorded}
@@ -15,13 +15,13 @@ use Rattle.sj_base.specs.declared.trace.Event.TheVariants.{Run}
 use Rattle.sj_base.specs.Mode.{reads_value, starts_as_zeros}
 use Rattle.sj_codelet.specs.Frame.{Slot, shared}
 use Rattle.sj_core.specs.declared.progress.Progress.{Progress}
-use Rattle.sj_core.specs.declared.progress.Progress.TheVariants.{Claimed, Running, Waiting}
-use Rattle.sj_core.proofs.Words.{Array, AtNode, Cell, CellState, DiskNo, Invalid, Machine, Node, OnDisk, Place, Program, Replica, State, Task, Valid, Worker, WorkerState, array_of, cell_state, cells_of, dims_of, fresh_cells, has_cell, is_entry, is_task_of, is_valid, node_of, node_size, no_task, order, pins, progress, replica, replica_in, same_cell, scratch, task_of, tile_bytes, with_cells, worker_of, workers_at, writes, written_cells, zeros}
-use Rattle.sj_core.proofs.Advancing.{claimed_by-is, claimed-task_of, same_task, task_of-worker}
+use Rattle.sj_core.specs.declared.progress.Progress.TheVariants.{Running, Waiting}
+use Rattle.sj_core.proofs.Words.{Array, AtNode, Cell, CellState, Invalid, Machine, Node, OnDisk, Place, Program, Replica, State, Task, Valid, Worker, array_of, cell_state, cells_of, dims_of, fresh_cells, has_cell, is_entry, is_task_of, is_valid, node_of, node_size, no_task, order, pins, progress, replica, same_cell, scratch, task_of, worker_of, workers_at, writes, written_cells, zeros}
+use Rattle.sj_core.proofs.Advancing.{same_task, task_of-worker}
 use Rattle.sj_core.proofs.CellLists.{times, times-none}
-use Rattle.sj_core.proofs.Claimed.{claimed-inside, claimed-not_written, claimed-staffed}
+use Rattle.sj_core.proofs.Claimed.{claimed-inside, claimed-not_written}
 use Rattle.sj_core.proofs.Dependencies.{Proper-dependencies}
-use Rattle.sj_core.proofs.Finding.{being_written-by, being_written-here, read-cell, read-not_fresh}
+use Rattle.sj_core.proofs.Finding.{read-cell, read-not_fresh}
 use Rattle.sj_core.proofs.Readiness.{Contains-from_filter, filter-Contains}
 use Rattle.sj_core.proofs.Reading.{cells-renewed_or, entry-inside, list_all-has, same_node}
 use Rattle.sj_core.proofs.Running.{run-only, run-order_elsewhere, run-order_here, run-other, run-own, run-rested, run-rests, run-spared, run-spares}
@@ -30,23 +30,20 @@ use Rattle.sj_core.proofs.TaskCells.{written-among_cells}
 use Rattle.sj_core.specs.Coherent.{IsHeld, is_being_written}
 use Rattle.sj_core.specs.Laws.{IsSound}
 use Rattle.sj_core.specs.Needs.{workers_of}
-use Rattle.sj_core.specs.Step.{Runs, after_run, array_at, initial, owned_at, same_place, without}
+use Rattle.sj_core.specs.Step.{Runs, after_run, initial, owned_at, same_place, without}
 use Rattle.sj_node.proofs.CallerLemmas.{filter-map}
 use Rattle.sj_node.specs.Entry.{Entry, is_among, without_all}
 use Rattle.sj_node.specs.Store.{Store, store, with_entries}
 use Rattle.sj_machine.specs.Mark.{mark_of}
-use Rattle.sj_machine.specs.declared.mark.Mark.{Mark}
-use Rattle.sj_machine.specs.declared.mark.Mark.TheVariants.{Invalid as NoMark, Valid as ValidMark}
-use Rattle.sj_machine.specs.Agrees.{Agrees, HasMarks, HasStores, HasTiles, IsWide, Rows, entry_of, owed_by_task, owed_in, pins_on, rows_of, store_of}
-use Rattle.sj_machine.specs.Copies.{Copies, lent_at, mark_at, owed_in as owed_in_copies, row_of, tile_at}
+use Rattle.sj_machine.specs.Agrees.{HasMarks, HasStores, HasTiles, IsWide, Rows, entry_of, owed_by_task, pins_on, rows_of, store_of}
+use Rattle.sj_machine.specs.Copies.{Copies, lent_at, mark_at, row_of, tile_at}
 use Rattle.sj_machine.specs.Running.{AreSharesFor, AreUnpinned, CanGive, IsShareIn, evicted_at, kept_at, lend_each, read_among, shares_at, written_among}
 use Rattle.sj_machine.specs.Sound.{HoldsBlocks, Keeps}
-use Rattle.sj_machine.specs.Standing.{AllTell, CanHappen, IsTileOf, Standing, state, with_event}
+use Rattle.sj_machine.specs.Standing.{AllTell, CanHappen, IsTileOf, Standing, state}
 use Rattle.sj_machine.proofs.Keeping.{HoldsBlocks-kept, keeps-event, keeps-told, sound_state}
 use Rattle.sj_machine.proofs.Lending.{LendsKeep, lend-keeps, lend-row, lent-mark_here, lent-mark_there, lent-tile}
-use Rattle.sj_machine.proofs.Marking.{cell-inside}
 use Rattle.sj_machine.proofs.Reading.{no_copies}
-use Rattle.sj_machine.proofs.Resting.{entry-cell, entry-node}
+use Rattle.sj_machine.proofs.Resting.{entry-cell}
 use Rattle.sj_machine.proofs.Written.{written-once, written-plain}
 
 -- ---- lists

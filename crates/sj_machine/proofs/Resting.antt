@@ -1,5 +1,5 @@
 -- Where a replica can be, and what is not so of a cell that a running task writes.
-use Rattle.std.proofs.Common.{◌≡◌, ◌<◌, Bool, true, false, sym, ap, ◌∙◌, arith, length, All}
+use Rattle.std.proofs.Common.{◌≡◌, ◌<◌, Bool, true, false, sym, ◌∙◌, arith, length}
 use Rattle.std.proofs.lemmas.Bool.{false≢true, false_from_ne_true}
 use Rattle.std.proofs.lemmas.List.Elements.{All-get_or}
 use Rattle.sj_core.proofs.Words.{Array, AtNode, Cell, CellState, Machine, Node, Place, Program, Replica, State, Invalid, Valid, cell_state, is_entry, is_leaving, is_valid, replica}

@@ -1,11 +1,11 @@
 -- No event takes away a copy that a task or a transfer works on.
-use Rattle.std.proofs.Common.{◌≡◌, Bool, true, false, Option, None, Some, ◌∙◌, ap, arith, inl, inr, nat_eq, not, sym, subst, ◌||◌, ◌++◌, ◌∷◌, [], List, ℕ}
+use Rattle.std.proofs.Common.{◌≡◌, true, false, Option, None, Some, ◌∙◌, ap, inl, inr, nat_eq, sym, subst, ◌||◌, List, ℕ}
 use Rattle.std.proofs.lemmas.Bool.{cases_Bool, false≢true, not-true}
 use Rattle.sj_base.specs.declared.trace.Event.{Event}
 use Rattle.sj_base.specs.declared.trace.Event.TheVariants.{Claim, Move, Moved, Drop, Run, End}
 use Rattle.std.proofs.lemmas.Bool.Decides.{Decides-eqb}
 use Rattle.sj_core.specs.Needs.{workers_of}
-use Rattle.sj_core.proofs.Words.{Array, AtNode, Cell, Coming, DiskNo, Invalid, Machine, Node, OnDisk, Place, Program, Replica, State, Valid, Worker, array_of, has_cell, is_leaving, is_pinned, node_of, pins, replica, transfer, with_replica, with_transfer, workers_at}
+use Rattle.sj_core.proofs.Words.{Array, AtNode, Cell, Invalid, Machine, Node, OnDisk, Place, Program, Replica, State, Valid, Worker, array_of, has_cell, is_leaving, is_pinned, node_of, pins, replica, transfer, workers_at}
 use Rattle.sj_core.proofs.Claiming.{claim-array}
 use Rattle.sj_core.proofs.Ending.{end-other}
 use Rattle.sj_core.proofs.Placing.{replica-cases}
@@ -15,11 +15,11 @@ use Rattle.sj_core.proofs.Running.{run-other}
 use Rattle.sj_core.proofs.States.{state_of-more}
 use Rattle.sj_core.specs.Coherent.{IsTransferTo}
 use Rattle.sj_core.specs.Laws.{IsSound}
-use Rattle.sj_core.specs.Step.{Drops, EndsMove, Step, a_transfer, after, array_at, is_read, mover_of}
+use Rattle.sj_core.specs.Step.{Step, a_transfer, after, array_at, is_read, mover_of}
 use Rattle.sj_machine.specs.Agrees.{Rows}
 use Rattle.sj_machine.specs.Sound.{Keeps}
 use Rattle.sj_machine.specs.Sparing.{EventsSpareUsed, SparesUsed, is_used}
-use Rattle.sj_machine.specs.Standing.{CanHappen, Standing, state, with_event}
+use Rattle.sj_machine.specs.Standing.{Standing, state}
 use Rattle.sj_machine.proofs.Keeping.{sound_state}
 
 module _ (p : Program) (m : Machine) (s : State) (h : IsSound p m s) where
@@ -32,10 +32,10 @@ module _ (p : Program) (m : Machine) (s : State) (h : IsSound p m s) where
   left-unused c n leaving unread used =
       elim (cases_Bool (is_pinned m s n c)) [
         | inl pinned ↦ (
-          let by = list_any-some (λ w. has_cell (pins s w) c) (workers_at m n) pinned in
-          let at : node_of m by.0 ≡ n = (let e = (Decides-eqb (node_of m by.0).0 n.0).0 (filter-Contains (λ w. nat_eq (node_of m w).0 n.0) (workers_of m) by.0 by.1) in ap (λ (i : ℕ). let j : Node = record { 0 = i } in j) e) in
-          false≢true (sym (h.coherent.pins.stays by.0 c by.2) ∙ ap (λ (k : Node). is_leaving (replica s c (AtNode k))) at ∙ leaving)
-        )
+            let by = list_any-some (λ w. has_cell (pins s w) c) (workers_at m n) pinned in
+            let at : node_of m by.0 ≡ n = (let e = (Decides-eqb (node_of m by.0).0 n.0).0 (filter-Contains (λ w. nat_eq (node_of m w).0 n.0) (workers_of m) by.0 by.1) in ap (λ (i : ℕ). let j : Node = record { 0 = i } in j) e) in
+            false≢true (sym (h.coherent.pins.stays by.0 c by.2) ∙ ap (λ (k : Node). is_leaving (replica s c (AtNode k))) at ∙ leaving)
+            )
         | inr free ↦ false≢true (sym (ap (λ x. x || is_read m s c (AtNode n)) free ∙ unread) ∙ used)
       ]
 

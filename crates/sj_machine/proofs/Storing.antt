@@ -1,17 +1,16 @@
 -- What a store and a fetch of a disk leave: the same state, over disks that hold what they held.
-use Rattle.std.proofs.Common.{◌≡◌, ◌≢◌, ◌≤◌, ◌<◌, ◌+◌, ◌*◌, ℕ, ℤ, Bool, true, false, List, [], ◌∷◌, Option, None, Some, refl, sym, ap, ◌∙◌, subst, arith, inl, inr, ◌⊎◌, length, get_or, is_some, set}
-use Rattle.std.specs.Prelude.{All, FitsSigned, IfSome, IsSome, IsSomeAnd, OnOk, Result, Ok, Err, is_ok, option_map, option_and_then, slice_get, unwrap_or}
+use Rattle.std.proofs.Common.{◌≡◌, ◌≢◌, ◌<◌, ℕ, ℤ, Bool, true, List, Option, None, Some, refl, sym, ap, ◌∙◌, subst, arith, inl, inr, ◌⊎◌, length, get_or, is_some}
+use Rattle.std.specs.Prelude.{All, FitsSigned, IfSome, IsSome, IsSomeAnd, OnOk, Result, Ok, Err, is_ok, option_map, slice_get}
 use Rattle.std.specs.Int.{w64}
-use Rattle.std.proofs.lemmas.Bool.{cases_eq, cases_lt, false≢true}
+use Rattle.std.proofs.lemmas.Bool.{cases_lt, false≢true}
 use Rattle.std.proofs.lemmas.List.{get_or-set_other, get_or-set_same, get_or_past}
 use Rattle.std.proofs.lemmas.List.Elements.{All-get_or, AllZip-get_or, length_all_zip}
 use Rattle.std.proofs.lemmas.Option.{get_or_from_slice_get, slice_get_within}
 use Rattle.sj_base.specs.Array.{area}
 use Rattle.sj_base.specs.declared.tile.Dims.{Dims}
 use Rattle.sj_core.specs.declared.progress.Transfer.{Transfer}
-use Rattle.sj_core.proofs.Words.{Array, AtNode, Block, Cell, DiskNo, Invalid, Machine, Node, OnDisk, Place, Program, Replica, State, Worker, WorkerState, array_of, dims_of, is_valid, place, replica, transfer, writes}
+use Rattle.sj_core.proofs.Words.{Array, Block, Cell, DiskNo, Machine, OnDisk, Place, Program, State, Worker, WorkerState, dims_of, is_valid, replica, transfer, writes}
 use Rattle.sj_core.proofs.Placing.{cells_differ}
-use Rattle.sj_core.specs.Coherent.{Coherent}
 use Rattle.sj_core.specs.Step.{a_transfer, array_at, disk_of}
 use Rattle.sj_edge.specs.GivenBack.{AreGivenBack, IsGivenBack}
 use Rattle.sj_edge.proofs.GivenBackLemmas.{all_given_back-then}
@@ -20,10 +19,10 @@ use Rattle.sj_disk.specs.declared.refusal.DiskRefusal.{DiskRefusal}
 use Rattle.sj_disk.specs.Block.{block, block_bytes, element_bytes, header, header_bytes}
 use Rattle.sj_disk.specs.Calls.{Fetches, Stores}
 use Rattle.sj_disk.specs.Directory.{DiskState, extent_of, last_store, with_store}
-use Rattle.sj_disk.specs.Holding.{Holds, KeepsBlock, Tells}
+use Rattle.sj_disk.specs.Holding.{Holds, Tells}
 use Rattle.sj_disk.proofs.Bytes.{length-element_bytes, length-header_bytes}
 use Rattle.std.proofs.lemmas.List.{length-append}
-use Rattle.sj_machine.specs.Agrees.{Agrees, Rows, rows_of, transfer_in}
+use Rattle.sj_machine.specs.Agrees.{Rows, transfer_in}
 use Rattle.sj_machine.specs.Copies.{Copies, row_of}
 use Rattle.sj_machine.specs.Sound.{HoldsArray, HoldsBlocks, IsBlock, IsCopyOf, FetchesMoved, IsStored, IsWrittenOut, Keeps, StoresMoved, block_of}
 use Rattle.sj_machine.specs.Standing.{AllTell, HasDimsMoved, IsTileMoved, IsTileOf, Standing, state}

@@ -1,17 +1,17 @@
 -- The cells that a task of a plain program writes, and the operands that it reads.
-use Rattle.std.proofs.Common.{◌≡◌, ◌<◌, ◌≤◌, ◌+◌, ℕ, suc, Bool, true, false, List, [], ◌∷◌, ◌∙◌, ap, arith, get_or, inl, inr, length, map, not, refl, sym, subst, ◌&&◌}
-use Rattle.std.specs.Prelude.{All, AllPairs, Contains, IsTrue, filter}
-use Rattle.std.proofs.lemmas.Bool.{false_from_ne_true, false≢true, not-true}
+use Rattle.std.proofs.Common.{◌≡◌, ◌<◌, ◌≤◌, ◌+◌, ℕ, suc, Bool, true, false, List, [], ◌∷◌, ◌∙◌, ap, arith, get_or, length, map, refl, sym, subst, ◌&&◌}
+use Rattle.std.specs.Prelude.{AllPairs, Contains, IsTrue, filter}
+use Rattle.std.proofs.lemmas.Bool.{false_from_ne_true, false≢true}
 use Rattle.std.proofs.lemmas.List.Elements.{All-get_or, filter_passes}
 use Rattle.std.proofs.lemmas.List.Kept.{AllPairs-filter}
 use Rattle.sj_base.specs.declared.mode.Access.{Access}
 use Rattle.sj_base.specs.declared.mode.Mode.{Mode}
 use Rattle.sj_base.specs.declared.mode.Mode.TheVariants.{R, W, RW, Scratch, Redux, Commute}
-use Rattle.sj_base.specs.Mode.{is_data, is_written, reads_value, starts_as_zeros}
+use Rattle.sj_base.specs.Mode.{is_data, is_written}
 use Rattle.sj_core.proofs.Words.{Cell, Program, Task, Worker, data_operands, has_cell, no_task, same_cell, task_of, worked_on, written_cells}
 use Rattle.sj_core.proofs.CellLists.{same_cell-from, times, times-cons, times-none}
 use Rattle.sj_core.proofs.Folding.{map-same}
-use Rattle.sj_core.proofs.PlainModes.{operand-inside, worked_on-plain}
+use Rattle.sj_core.proofs.PlainModes.{worked_on-plain}
 use Rattle.sj_core.proofs.Reading.{same_cell-is}
 use Rattle.sj_core.proofs.Readiness.{Contains-from_filter, list_any-map, list_any-some}
 use Rattle.sj_core.proofs.Sums.{tally}

@@ -1,6 +1,5 @@
 -- A run as contracts see it: its program and its machine, the events so far, and the disks.
 use Rattle.std.specs.Prelude.{◌≡◌, ℕ, Bool, true, false, Option, None, IfSome, IsSome, IsSomeAnd, All, List, [], ◌∷◌, ◌++◌}
-use Rattle.sj_base.specs.declared.ids.Task.{Task}
 use Rattle.sj_base.specs.declared.ids.Cell.{Cell}
 use Rattle.sj_base.specs.declared.ids.Place.{Place}
 use Rattle.sj_base.specs.declared.ids.Place.TheVariants.{Node as AtNode, Disk as OnDisk}

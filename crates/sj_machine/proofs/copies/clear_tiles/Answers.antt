@@ -1,4 +1,4 @@
-use Rattle.std.proofs.Common.{◌≡◌, ◌<◌, ◌∙◌, ℕ, arith, get_or, length, None}
+use Rattle.std.proofs.Common.{◌<◌, ◌∙◌, arith, length, None}
 use Rattle.std.proofs.lemmas.List.{length-set}
 use Rattle.sj_machine.proofs.Lists.{map-const, set-more}
 use Rattle.sj_machine.proofs.copies.clear_tiles.Goals as goal

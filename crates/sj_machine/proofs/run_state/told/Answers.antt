@@ -1,4 +1,4 @@
-use Rattle.std.proofs.Common.{ℕ, arith, pos}
+use Rattle.std.proofs.Common.{arith, pos}
 use Rattle.std.specs.Prelude.{FitsSigned}
 use Rattle.std.specs.Int.{w64}
 use Rattle.std.proofs.lemmas.List.Elements.{All-from_get_or}

@@ -1,6 +1,6 @@
-use Rattle.std.proofs.Common.{◌≡◌, ◌∙◌, List, ap, get_or, sym, take}
+use Rattle.std.proofs.Common.{◌∙◌, List, ap, get_or, sym}
 use Rattle.sj_base.specs.declared.ids.Cell.{Cell}
-use Rattle.sj_node.specs.Entry.{Entry, pins_of, without, without_all}
+use Rattle.sj_node.specs.Entry.{Entry, pins_of, without}
 use Rattle.sj_node.specs.Store.{Store, with_entries}
 use Rattle.sj_node.proofs.Putting.{without_all-none, without_all_more}
 use Rattle.sj_machine.proofs.Entries.{unpinned-rest}

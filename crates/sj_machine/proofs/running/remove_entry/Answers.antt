@@ -1,4 +1,4 @@
-use Rattle.std.proofs.Common.{◌≡◌, ◌∙◌, List, ap, false, sym}
+use Rattle.std.proofs.Common.{◌∙◌, List, ap, sym}
 use Rattle.sj_node.specs.Entry.{Entry}
 use Rattle.sj_node.specs.Store.{with_entries}
 use Rattle.sj_machine.proofs.Entries.{without-absent}

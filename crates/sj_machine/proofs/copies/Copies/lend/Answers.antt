@@ -1,4 +1,4 @@
-use Rattle.std.proofs.Common.{◌≡◌, ◌∙◌, ap, List, Option, None, false, map, set}
+use Rattle.std.proofs.Common.{◌∙◌, ap, List, Option, false, map, set}
 use Rattle.sj_base.specs.Array.{Array}
 use Rattle.sj_machine.specs.declared.mark.Mark.{Mark}
 use Rattle.sj_machine.specs.declared.mark.Mark.TheVariants.{Invalid, Valid}

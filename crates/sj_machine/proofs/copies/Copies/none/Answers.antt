@@ -1,4 +1,4 @@
-use Rattle.std.proofs.Common.{◌≡◌, ◌∙◌, ap, List, Option, false, replicate}
+use Rattle.std.proofs.Common.{◌∙◌, ap, List, Option, false, replicate}
 use Rattle.sj_base.specs.Array.{Array}
 use Rattle.sj_machine.specs.Copies.{Copies}
 use Rattle.sj_machine.specs.Tiles.{arrays_in}

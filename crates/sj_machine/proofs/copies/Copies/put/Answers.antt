@@ -1,4 +1,4 @@
-use Rattle.std.proofs.Common.{◌≡◌, ◌∙◌, ap, List, Option, map, set}
+use Rattle.std.proofs.Common.{◌∙◌, ap, List, Option, set}
 use Rattle.sj_base.specs.Array.{Array}
 use Rattle.sj_machine.specs.Copies.{Copies, with_copy}
 use Rattle.sj_machine.specs.Tiles.{array_in}

@@ -1,4 +1,4 @@
-use Rattle.std.proofs.Common.{◌≡◌, ◌+◌, ◌∙◌, ap, List, Option, Some, set}
+use Rattle.std.proofs.Common.{◌+◌, ◌∙◌, ap, List, Option, Some, set}
 use Rattle.sj_base.specs.Array.{Array}
 use Rattle.sj_machine.specs.declared.mark.Mark.TheVariants.{Valid}
 use Rattle.sj_machine.specs.Copies.{Copies, written_at}

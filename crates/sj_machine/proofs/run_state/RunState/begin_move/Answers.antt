@@ -1,9 +1,8 @@
-use Rattle.std.proofs.Common.{◌≡◌, ◌≤◌, ◌<◌, ◌+◌, ◌∙◌, ◌++◌, ◌∷◌, [], List, Option, max, arith, ap, rules, subst, sym, ℕ}
-use Rattle.sj_base.specs.Array.{Array}
+use Rattle.std.proofs.Common.{◌≡◌, ◌≤◌, ◌+◌, ◌∙◌, ◌++◌, ◌∷◌, [], List, max, arith, ap, rules, subst, sym}
 use Rattle.sj_base.specs.declared.trace.Event.TheVariants.{Move}
 use Rattle.sj_core.specs.Machine.{WorkerState}
 use Rattle.sj_core.specs.Step.{mover_of}
-use Rattle.sj_machine.specs.Agrees.{Rows, rows_of}
+use Rattle.sj_machine.specs.Agrees.{rows_of}
 use Rattle.sj_machine.specs.Copies.{CanShare, Copies, tile_kept}
 use Rattle.sj_machine.specs.Standing.{CanHappen, Standing, state}
 use Rattle.sj_machine.specs.Tiles.{array_in}

@@ -1,4 +1,4 @@
-use Rattle.std.proofs.Common.{◌≡◌, ◌<◌, ◌≤◌, ◌∙◌, List, arith, ap, refl}
+use Rattle.std.proofs.Common.{◌≡◌, ◌<◌, ◌∙◌, arith, ap, refl}
 use Rattle.sj_base.specs.declared.program.Lowered.{Lowered}
 use Rattle.sj_base.specs.declared.program.Program.{Program}
 use Rattle.sj_core.specs.Program.{task_of}

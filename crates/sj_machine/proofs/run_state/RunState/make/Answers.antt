@@ -1,7 +1,6 @@
 use Rattle.std.proofs.Common.{◌≡◌, ◌∙◌, ℕ, List, ap, length, map, replicate, rules}
 use Rattle.sj_core.specs.declared.progress.Progress.TheVariants.{Waiting}
 use Rattle.sj_node.specs.Store.{empty}
-use Rattle.sj_machine.specs.Agrees.{idle}
 use Rattle.sj_machine.specs.Copies.{none_at}
 use Rattle.sj_machine.proofs.Making.{keeps-made}
 use Rattle.sj_machine.proofs.run_state.RunState.make.Goals as goal
