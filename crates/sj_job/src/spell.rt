@@ -335,10 +335,7 @@ fn parted<'a>(words: &Words<'a>) -> Option<Layout<'a>>
 }
 
 /// The values behind the parts.
-fn with_parts<'a>(
-    parts: Option<(Piece<'a>, Piece<'a>)>,
-    words: &Words<'a>,
-) -> Option<Layout<'a>>
+fn with_parts<'a>(parts: Option<(Piece<'a>, Piece<'a>)>, words: &Words<'a>) -> Option<Layout<'a>>
     ensures { result ≡ with_parts parts.entry words.now }
 {
     match init_of(words) {
