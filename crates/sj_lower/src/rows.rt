@@ -79,11 +79,12 @@ fn load_row(
     ensures { IfOk result (λ l. l ≡ load_row whole.now.elements whole.now.dims rect cell line) }
 {
     let args = load_arguments(alloc, whole, rect)?;
-    let write = Access {
-        mode: Mode::W,
-        cell,
-    };
-    let accesses = vec![in alloc; write]?;
+    let accesses = vec![in alloc;
+        Access {
+            mode: Mode::W,
+            cell
+        },
+    ]?;
     Ok(own_task(LOAD, args, accesses, line))
 }
 
@@ -169,11 +170,12 @@ fn fill_row(
     ensures { IfOk result (λ l. l ≡ fill_row fill.0 fill.1 dims rect cell line) }
 {
     let args = fill_arguments(alloc, fill, dims.cols, rect)?;
-    let write = Access {
-        mode: Mode::W,
-        cell,
-    };
-    let accesses = vec![in alloc; write]?;
+    let accesses = vec![in alloc;
+        Access {
+            mode: Mode::W,
+            cell
+        },
+    ]?;
     Ok(own_task(LOADFILL, args, accesses, line))
 }
 
@@ -279,11 +281,12 @@ pub fn push_pastes(
 fn deliver_row(alloc: Global, cell: Cell, line: Line) -> Result<Lowered, OutOfMemory>
     ensures { IfOk result (λ l. l ≡ deliver_row cell line) }
 {
-    let read = Access {
-        mode: Mode::R,
-        cell,
-    };
-    let accesses = vec![in alloc; read]?;
+    let accesses = vec![in alloc;
+        Access {
+            mode: Mode::R,
+            cell
+        },
+    ]?;
     Ok(own_task(DELIVER, Vec::new(alloc), accesses, line))
 }
 
