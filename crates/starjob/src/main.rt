@@ -1,8 +1,8 @@
 //! `starjob`: reads a job text, runs its tasks, and prints the arrays asked for.
 #![tactic(auto)]
 
+mod gathering;
 mod output;
-mod printing;
 mod report;
 mod running;
 mod sink_text;
