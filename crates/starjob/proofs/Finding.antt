@@ -49,12 +49,12 @@ given-at p pairs k t a handed et ea =
 pub finds-more : (places : List ℕ) (pairs : List (Task × Array)) (i : ℕ) (u t : Task) → u.0 < length places → slice_get (tasks_in pairs) i ≡ Some u → (t.0 ≢ u.0 → Finds places pairs t) → Finds (set places u.0 i) pairs t
 finds-more places pairs i u t inside at old = elim (cases_eq t.0 u.0) [
   | inl same ↦
-    let t_is : u ≡ t = ap task_at (sym same) in
-    let place : get_or (set places u.0 i) t.0 0 ≡ i = ap (λ n. get_or (set places u.0 i) n 0) same ∙ get_or-set_same places u.0 i 0 inside in
-    (rw (length-set places u.0 i, same) inside, ap (slice_get (tasks_in pairs)) place ∙ at ∙ ap Some t_is)
+      let t_is : u ≡ t = ap task_at (sym same) in
+      let place : get_or (set places u.0 i) t.0 0 ≡ i = ap (λ n. get_or (set places u.0 i) n 0) same ∙ get_or-set_same places u.0 i 0 inside in
+      (rw (length-set places u.0 i, same) inside, ap (slice_get (tasks_in pairs)) place ∙ at ∙ ap Some t_is)
   | inr other ↦
-    let before = old other in
-    (rw (length-set places u.0 i) before.0, ap (slice_get (tasks_in pairs)) (get_or-set_other places u.0 t.0 i 0 other) ∙ before.1)
+      let before = old other in
+      (rw (length-set places u.0 i) before.0, ap (slice_get (tasks_in pairs)) (get_or-set_other places u.0 t.0 i 0 other) ∙ before.1)
 ]
 
 abbrev FindsFirst : List ℕ → List (Task × Array) → ℕ → Type 0

@@ -41,26 +41,26 @@ module _ {X : Type 0} (f : X → ℕ) where
   first-of k [] asc = (refl, refl)
   first-of k (x ∷ xs) asc = elim (cases_lt (f x) k) [
     | inl below ↦
-      let here : nat_le k (f x) ≡ false = grind (arith, nat_tests) in
-      let next : nat_le (k + 1) (f x) ≡ false = grind (arith, nat_tests) in
-      let same : nat_eq (f x) k ≡ false = grind (arith, nat_tests) in
-      rw (here, next, same) (first-of k xs (rest-ascending x xs asc))
+        let here : nat_le k (f x) ≡ false = grind (arith, nat_tests) in
+        let next : nat_le (k + 1) (f x) ≡ false = grind (arith, nat_tests) in
+        let same : nat_eq (f x) k ≡ false = grind (arith, nat_tests) in
+        rw (here, next, same) (first-of k xs (rest-ascending x xs asc))
     | inr up ↦ elim (cases_eq (f x) k) [
       | inl e ↦
-        let here : nat_le k (f x) ≡ true = grind (arith, nat_tests) in
-        let next : nat_le (k + 1) (f x) ≡ false = grind (arith, nat_tests) in
-        let same : nat_eq (f x) k ≡ true = grind (arith, nat_tests) in
-        let rest = first-of k xs (rest-ascending x xs asc) in
-        let n = these k (from k xs) in
-        let one : 1 + n ≡ suc n = omega arith in
-        rw (here, next, same) (ap (λ m. take m (x ∷ from k xs)) one ∙ ap (λ ys. x ∷ ys) rest.0, ap (λ m. drop m (x ∷ from k xs)) one ∙ rest.1)
+          let here : nat_le k (f x) ≡ true = grind (arith, nat_tests) in
+          let next : nat_le (k + 1) (f x) ≡ false = grind (arith, nat_tests) in
+          let same : nat_eq (f x) k ≡ true = grind (arith, nat_tests) in
+          let rest = first-of k xs (rest-ascending x xs asc) in
+          let n = these k (from k xs) in
+          let one : 1 + n ≡ suc n = omega arith in
+          rw (here, next, same) (ap (λ m. take m (x ∷ from k xs)) one ∙ ap (λ ys. x ∷ ys) rest.0, ap (λ m. drop m (x ∷ from k xs)) one ∙ rest.1)
       | inr other ↦
-        let here : nat_le k (f x) ≡ true = grind (arith, nat_tests) in
-        let next : nat_le (k + 1) (f x) ≡ true = grind (arith, nat_tests) in
-        let same : nat_eq (f x) k ≡ false = grind (arith, nat_tests) in
-        let least = first-least x xs asc in
-        let above = all-above k xs (λ i d l. let h = least i d l in omega (arith, h, up, other)) in
-        rw (here, next, same) (sym above.0, ap (λ ys. x ∷ ys) above.1)
+          let here : nat_le k (f x) ≡ true = grind (arith, nat_tests) in
+          let next : nat_le (k + 1) (f x) ≡ true = grind (arith, nat_tests) in
+          let same : nat_eq (f x) k ≡ false = grind (arith, nat_tests) in
+          let least = first-least x xs asc in
+          let above = all-above k xs (λ i d l. let h = least i d l in omega (arith, h, up, other)) in
+          rw (here, next, same) (sym above.0, ap (λ ys. x ∷ ys) above.1)
     ]
   ]
 

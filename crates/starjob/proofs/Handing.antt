@@ -46,8 +46,8 @@ handed-over p pairs e named =
     let tasks : map (λ (pair : Task × Array). pair.0) (deliveries_of p) ≡ deliver_tasks p = map-map (λ (pair : Task × Array). pair.0) make (deliver_tasks p) ∙ map-id (deliver_tasks p) in
     subst (HandedOver p) (sym e) (record {
       of_program = All-map (λ (pair : Task × Array). pair.0.0 < length p.tasks) make (deliver_tasks p)
-      (All-weaker (Contains (deliver_tasks p)) (λ t. t.0 < length p.tasks) (λ t h. tasks-inside p t (Contains-from_filter (is_deliver_task p) (tasks_of p) t h)) (deliver_tasks p) (All-contains_itself (deliver_tasks p)));
+          (All-weaker (Contains (deliver_tasks p)) (λ t. t.0 < length p.tasks) (λ t h. tasks-inside p t (Contains-from_filter (is_deliver_task p) (tasks_of p) t h)) (deliver_tasks p) (All-contains_itself (deliver_tasks p)));
       given = All-map (λ (pair : Task × Array). pair.1 ≡ given p pair.0) make (deliver_tasks p) (λ k t l. refl);
       every = All-weaker (λ (d : Delivery). (d.task.0 < length p.tasks) × (kernel_of (task_of p d.task).codelet ≡ Some Deliver)) (λ (d : Delivery). Contains (map (λ (pair : Task × Array). pair.0) (deliveries_of p)) d.task)
-      (λ d h. subst (λ (ts : List Task). Contains ts d.task) (sym tasks) (Contains-filter (is_deliver_task p) (tasks_of p) d.task (kernel-delivery (task_of p d.task).codelet h.1) (tasks-has p d.task h.0))) p.deliveries named;
+          (λ d h. subst (λ (ts : List Task). Contains ts d.task) (sym tasks) (Contains-filter (is_deliver_task p) (tasks_of p) d.task (kernel-delivery (task_of p d.task).codelet h.1) (tasks-has p d.task h.0))) p.deliveries named;
     })

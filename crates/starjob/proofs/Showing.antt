@@ -37,13 +37,13 @@ of-print p k d has = (Decides-eqb d.print k).0 (filter-Contains (λ e. nat_eq e.
 last-greatest : (ds : List Delivery) (last d : Delivery) → AllPairs (λ x y. x.print ≤ y.print) ds → get_or ds (length ds - 1) last ≡ last → Contains ds d → d.print ≤ last.print
 last-greatest ds last d asc is (i, inside, at) = elim (cases_eq i (length ds - 1)) [
   | inl e ↦
-    let same : d ≡ last = sym at ∙ get_or_default ds i d last inside ∙ ap (λ n. get_or ds n last) e ∙ is in
-    subst (λ (x : Delivery). x.print ≤ last.print) (sym same) (omega arith)
+      let same : d ≡ last = sym at ∙ get_or_default ds i d last inside ∙ ap (λ n. get_or ds n last) e ∙ is in
+      subst (λ (x : Delivery). x.print ≤ last.print) (sym same) (omega arith)
   | inr other ↦
-    let end : length ds - 1 < length ds = omega (arith, inside) in
-    let below : (get_or ds i d).print ≤ (get_or ds (length ds - 1) d).print = asc i (length ds - 1) d (omega (arith, inside, other)) end in
-    let there : get_or ds (length ds - 1) d ≡ last = get_or_default ds (length ds - 1) d last end ∙ is in
-    subst (λ (x : Delivery). d.print ≤ x.print) there (subst (λ (x : Delivery). x.print ≤ (get_or ds (length ds - 1) d).print) at below)
+      let end : length ds - 1 < length ds = omega (arith, inside) in
+      let below : (get_or ds i d).print ≤ (get_or ds (length ds - 1) d).print = asc i (length ds - 1) d (omega (arith, inside, other)) end in
+      let there : get_or ds (length ds - 1) d ≡ last = get_or_default ds (length ds - 1) d last end ∙ is in
+      subst (λ (x : Delivery). d.print ≤ x.print) there (subst (λ (x : Delivery). x.print ≤ (get_or ds (length ds - 1) d).print) at below)
 ]
 
 -- how many print statements there are, from the last delivery
@@ -71,23 +71,23 @@ module _ (T : Table) (p : Program) (ss : List Statement) (h : DeliversPrinted T 
   pub count-prints : prints_of p ≡ length (printed ss)
   count-prints = elim (slice_get_cases p.deliveries (length p.deliveries - 1)).1 [
     | inl some ↦
-      let last = some.0 in
-      let is : prints_of p ≡ last.print + 1 = ap prints_to some.2 in
-      let below : last.print < length (printed ss) = subst (λ (d : Delivery). d.print < length (printed ss)) some.3 (h.below (length p.deliveries - 1) last some.1) in
-      let least : length (printed ss) ≤ last.print + 1 = elim (cases_lt (last.print + 1) (length (printed ss))) [
-        | inl more ↦
-          let k = last.print + 1 in
-          let of_k = first-of-print k more in
-          absurd (let h = last-greatest p.deliveries last (first_delivery k) h.ascending some.3 of_k.1 in omega (arith, h, of_k.0))
-        | inr le ↦ le
-      ] in
-      is ∙ omega (arith, below, least)
+        let last = some.0 in
+        let is : prints_of p ≡ last.print + 1 = ap prints_to some.2 in
+        let below : last.print < length (printed ss) = subst (λ (d : Delivery). d.print < length (printed ss)) some.3 (h.below (length p.deliveries - 1) last some.1) in
+        let least : length (printed ss) ≤ last.print + 1 = elim (cases_lt (last.print + 1) (length (printed ss))) [
+          | inl more ↦
+              let k = last.print + 1 in
+              let of_k = first-of-print k more in
+              absurd (let h = last-greatest p.deliveries last (first_delivery k) h.ascending some.3 of_k.1 in omega (arith, h, of_k.0))
+          | inr le ↦ le
+        ] in
+        is ∙ omega (arith, below, least)
     | inr none ↦
-      let is : prints_of p ≡ 0 = ap prints_to none.1 in
-      elim (cases_lt 0 (length (printed ss))) [
-        | inl some ↦ let in_none = (first-of-print 0 some).1 in absurd (omega (arith, in_none.1, none.0))
-        | inr le ↦ is ∙ omega (arith, le)
-      ]
+        let is : prints_of p ≡ 0 = ap prints_to none.1 in
+        elim (cases_lt 0 (length (printed ss))) [
+          | inl some ↦ let in_none = (first-of-print 0 some).1 in absurd (omega (arith, in_none.1, none.0))
+          | inr le ↦ is ∙ omega (arith, le)
+        ]
   ]
 
   -- what the deliveries of a print statement show is what it finds

@@ -70,11 +70,7 @@ impl<'a> ByTask<'a> {
 }
 
 /// At the number of each task that handed something over the place of that, of so many tasks.
-fn places_of(
-    alloc: Global,
-    tasks: usize,
-    delivered: &Delivered,
-) -> Result<Vec<usize>, OutOfMemory>
+fn places_of(alloc: Global, tasks: usize, delivered: &Delivered) -> Result<Vec<usize>, OutOfMemory>
     requires { All (λ pair. pair.0.0 < tasks) delivered.now.pairs }
     ensures { IfOk result (λ places. IsIndex places.items delivered.now.pairs) }
 {
@@ -105,11 +101,7 @@ fn rect_of(delivery: &Delivery, dims: Dims) -> Rect
 }
 
 /// Deliveries put in their places of a tile.
-fn put_in_place(
-    tile: &mut Tile,
-    deliveries: &[Delivery],
-    handed: &ByTask,
-)
+fn put_in_place(tile: &mut Tile, deliveries: &[Delivery], handed: &ByTask)
     requires handed { All (Contains handed.now.deliveries) deliveries.now }
     requires within { All (λ d. Within (part_of handed.now d).0 tile.old.dims) deliveries.now }
     ensures { tile.new ≡ gathered tile.old (map (part_of handed.now) deliveries.now) }
@@ -130,7 +122,11 @@ fn whole<'a>(dims: Dims, deliveries: &[Delivery], handed: &'a ByTask) -> Option<
         return None;
     };
     let tile = handed.tile(one);
-    if tile.dims() == dims { Some(tile) } else { None }
+    if tile.dims() == dims {
+        Some(tile)
+    } else {
+        None
+    }
 }
 
 /// Appends what is printed of the deliveries of a print statement.
@@ -162,7 +158,10 @@ fn count_of(deliveries: &[Delivery], print: u64) -> usize
     ensures count { result ≡ prefix_len (λ d. nat_eq d.print print) deliveries.now }
     ensures bound { result ≤ length deliveries.now }
 {
-    deliveries.iter().take_while(|d| d.print as u64 == print).count()
+    deliveries
+        .iter()
+        .take_while(|d| d.print as u64 == print)
+        .count()
 }
 
 /// How many print statements there are deliveries of. Constant time.

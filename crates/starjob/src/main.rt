@@ -11,7 +11,11 @@ mod status;
 #[cfg(test)]
 mod tests;
 #[cfg(test)]
+mod tests_of_gathering;
+#[cfg(test)]
 mod tests_of_layers;
+#[cfg(test)]
+mod tests_of_plans;
 mod top;
 
 use sj_edge::gate::OpenGate;
