@@ -1,24 +1,22 @@
 -- The children of a root and its elements: what a change of the root does to its track.
-use Rattle.std.proofs.Common.{◌≡◌, ℕ, zero, suc, ◌+◌, ◌-◌, ◌*◌, ◌/◌, ◌%◌, ◌<◌, ◌≤◌, Bool, true, false, not, ◌&&◌, ◌||◌, cond, Option, Some, None, is_some, unwrap_or, nat_eq, nat_lt, List, length, get_or, map, replicate, refl, sym, ap, subst, ◌∙◌, arith, ℤ, get_or-set_same, get_or-set_other}
+use Rattle.std.proofs.Common.{◌≡◌, ℕ, zero, suc, ◌+◌, ◌-◌, ◌*◌, ◌/◌, ◌%◌, ◌<◌, ◌≤◌, Bool, true, false, not, ◌&&◌, ◌||◌, cond, Option, Some, None, is_some, unwrap_or, nat_eq, nat_lt, length, get_or, refl, sym, ap, subst, ◌∙◌, arith, ℤ, get_or-set_same, get_or-set_other}
 use Rattle.std.specs.Prelude.{is_none, pos, ◌+ℤ◌, ◌*ℤ◌}
-use Rattle.std.proofs.Math.ListN.{set}
-use Rattle.std.specs.List.{list_all, range_with_len}
+use Rattle.std.specs.List.{list_all}
 use Rattle.std.proofs.lemmas.List.{length-set, length-map, get_or-map, get_or-replicate, get_or_default, length-replicate}
 use Rattle.std.proofs.lemmas.List.FromFn.{get_or-map-range_with_len, length-map-range_with_len}
 use Rattle.std.proofs.lemmas.List.Sums.{AllPass-from_list_all, list_all-from_AllPass}
 use Rattle.std.proofs.lemmas.List.Folds.{list_all_at}
 use Rattle.std.proofs.lemmas.Nat.{div_below, mod_below, div-add-mod', div-mul-add, mod-mul-add, mul-add-lt, mul-le}
-use Rattle.std.proofs.lemmas.Bool.{ltb-true, lt-ltb, and_parts}
+use Rattle.std.proofs.lemmas.Bool.{ltb-true, and_parts}
 use Rattle.std.proofs.lemmas.Bool.Decides.{nat_tests}
 use Rattle.sj_base.specs.declared.tile.Dims.{Dims}
 use Rattle.sj_base.specs.Array.{Array, area, element}
-use Rattle.sj_base.specs.Window.{item, table}
+use Rattle.sj_base.specs.Window.{item}
 use Rattle.sj_base.proofs.Tables.{length-table, item-table, at-table}
 use Rattle.sj_codelet.specs.Ring.{wrap}
 use Rattle.sj_plan.specs.declared.parts.Parts.{Parts}
-use Rattle.sj_plan.specs.declared.rect.Rect.{Rect}
 use Rattle.sj_plan.specs.Parts.{Fits, IsPlace}
-use Rattle.sj_plan.specs.Rect.{Holds, holds, child, dims_of, place_of}
+use Rattle.sj_plan.specs.Rect.{Holds, holds, child, dims_of}
 use Rattle.sj_plan.proofs.Splitting.{held, lies_alone, part_end, part_len-positive}
 use Rattle.sj_plan.proofs.Windows.{holds-true, Holds-from_true}
 use Rattle.sj_job.specs.declared.job.Init.{Init}
@@ -27,7 +25,7 @@ use Rattle.sj_job.specs.Statement.{Register}
 use Rattle.sj_job.specs.State.{Root, is_valued, is_blank, is_child, child_rect, child_elements, is_valued_child}
 use Rattle.sj_job.specs.Meaning.{first_elements, no_values, registered_root, with_parts, with_elements, with_child}
 use Rattle.sj_job.specs.Track.{Track, Tracks, all_valued, none_valued, children_count, number, is_set, even, written}
-use Rattle.sj_job.specs.Judge.{Known, known_of, is_child_said}
+use Rattle.sj_job.specs.Judge.{known_of, is_child_said}
 use Rattle.sj_job.specs.Names.{gives_values, known_with}
 use Rattle.sj_job.specs.Sound.{InitFits}
 

@@ -8,7 +8,7 @@ use Rattle.sj_plan.specs.declared.parts.Parts.{Parts}
 use Rattle.sj_plan.specs.Parts.{IsPlace}
 use Rattle.sj_job.specs.declared.track.Marks.{Marks}
 use Rattle.sj_job.specs.declared.track.Marks.TheVariants.{All, Blank, Mixed}
-use Rattle.sj_job.specs.Track.{Track, AreMarks, AreMixed, all_valued, children_count, even, is_set, none_valued, number, track_by, written}
+use Rattle.sj_job.specs.Track.{Track, AreMarks, AreMixed, all_valued, children_count, is_set, none_valued, number, track_by, written}
 use Rattle.sj_job.proofs.Children.{number-below}
 
 -- ---- lists of marks

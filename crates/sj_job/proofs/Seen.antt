@@ -1,13 +1,13 @@
 -- The reader's names go on agreeing with the state, statement by statement.
 use Rattle.std.specs.FinMap as map
-use Rattle.std.proofs.Common.{◌≡◌, ℕ, zero, suc, ◌+◌, ◌≤◌, Bool, true, false, List, [], ◌∷◌, length, drop, refl, ap, ◌∙◌, sym, subst, inl, inr, Option, Some, None, option_map, cond, ◌||◌, arith, bytes_eq, get_or, length-append, ◌++◌, ◌<◌, All, get_or-set_same, get_or-set_other, map as each_of, filter}
+use Rattle.std.proofs.Common.{◌≡◌, ℕ, suc, ◌+◌, Bool, true, false, List, [], ◌∷◌, length, drop, refl, ap, ◌∙◌, sym, subst, inl, inr, Option, Some, None, option_map, cond, ◌||◌, arith, bytes_eq, get_or, length-append, ◌++◌, ◌<◌, get_or-set_same, get_or-set_other, map as each_of}
 use Rattle.std.proofs.Math.ListN.{set}
 use Rattle.std.proofs.lemmas.List.{length-set, get_or_read}
 use Rattle.std.proofs.lemmas.Bool.{cases_eq}
 use Rattle.std.specs.List.{list_any, AllByRecursion}
-use Rattle.std.specs.Ordering.{nat_cmp, eq_by_cmp}
+use Rattle.std.specs.Ordering.{nat_cmp}
 use Rattle.std.specs.Cmp.Lexicographic.{slice_cmp, nat_list_cmp_total, texts_ties, same_text}
-use Rattle.sj_base.specs.Array.{Array, area}
+use Rattle.sj_base.specs.Array.{Array}
 use Rattle.sj_base.specs.declared.ids.Root.{Root as RootNumber}
 use Rattle.sj_base.specs.declared.tile.Dims.{Dims}
 use Rattle.sj_plan.specs.declared.parts.Parts.{Parts}
@@ -18,16 +18,16 @@ use Rattle.sj_job.specs.declared.job.RootInfo.{RootInfo}
 use Rattle.sj_job.specs.declared.names.Standing.{Standing}
 use Rattle.sj_job.specs.declared.names.Standing.TheVariants.{Live, Ended}
 use Rattle.sj_job.specs.declared.names.Names.{Names}
-use Rattle.sj_job.specs.Statement.{Register, Operand}
+use Rattle.sj_job.specs.Statement.{Operand}
 use Rattle.sj_job.specs.State.{Root, State, root_of, start, is_valued, is_blank}
 use Rattle.sj_job.specs.Meaning.{no_values, registered_root, register, is_written, written_of, with_parts, with_elements, with_child, change, plan, put, put_all, invalidate, unregister}
-use Rattle.sj_job.specs.Judge.{Known, known_of, scope_of}
-use Rattle.sj_job.specs.Names.{Found, IsCounted, IsPlaceIn, after_write, after_writes, child_written, ended_from, ended_in, first_standing, found_in, gives_values, invalidated, is_over, known_by, known_from, known_in, known_with, plan_in, planned, scope_in, standing_of}
-use Rattle.sj_job.specs.Sound.{InitFits, IsSoundPlan, IsSoundRegistration, dims_of, has_values, has_none}
+use Rattle.sj_job.specs.Judge.{known_of, scope_of}
+use Rattle.sj_job.specs.Names.{Found, IsCounted, IsPlaceIn, after_write, after_writes, child_written, ended_from, first_standing, found_in, invalidated, is_over, known_by, known_from, plan_in, planned, scope_in, standing_of}
+use Rattle.sj_job.specs.Sound.{IsSoundPlan, IsSoundRegistration}
 use Rattle.sj_job.specs.Table.{Table, table, a_root, name_of, info_of, root_in, IsRoot, with_root}
-use Rattle.sj_job.specs.Track.{Track, Tracks, all_valued, none_valued, even, written}
+use Rattle.sj_job.specs.Track.{all_valued, none_valued, even}
 use Rattle.sj_job.specs.View.{operand_seen, registration}
-use Rattle.sj_job.specs.Sees.{IsTracked, StandsFor, IsFound, Sees, Shows}
+use Rattle.sj_job.specs.Sees.{StandsFor, IsFound, Sees, Shows}
 use Rattle.sj_job.proofs.Children.{all_valued-same, none_valued-same, tracks-known, tracks-registered, tracks-planned, tracks-invalidated, tracks-written}
 use Rattle.sj_job.proofs.Places.{a_found, entry, found_with, found-set, found-pushed, is-at}
 
@@ -259,8 +259,8 @@ plan_written place Ended = refl
 plan_set : (place : ℕ × ℕ) (sts : List Standing) (k n : ℕ) → k < length sts → plan_in (get_or (set sts k (child_written place (get_or sts k Ended))) n Ended) ≡ plan_in (get_or sts n Ended)
 plan_set place sts k n lt = elim (cases_eq n k) as (λ _. plan_in (get_or (set sts k (child_written place (get_or sts k Ended))) n Ended) ≡ plan_in (get_or sts n Ended)) [
   | inl same ↦
-    let st = child_written place (get_or sts k Ended) in
-    ap (λ m. plan_in (get_or (set sts k st) m Ended)) same ∙ ap plan_in (get_or-set_same sts k st Ended lt) ∙ plan_written place (get_or sts k Ended) ∙ ap (λ m. plan_in (get_or sts m Ended)) (sym same)
+      let st = child_written place (get_or sts k Ended) in
+      ap (λ m. plan_in (get_or (set sts k st) m Ended)) same ∙ ap plan_in (get_or-set_same sts k st Ended lt) ∙ plan_written place (get_or sts k Ended) ∙ ap (λ m. plan_in (get_or sts m Ended)) (sym same)
   | inr other ↦ ap plan_in (get_or-set_other sts k n (child_written place (get_or sts k Ended)) Ended other)
 ]
 

@@ -18,7 +18,6 @@ use Rattle.sj_job.specs.declared.job.Init.{Init}
 use Rattle.sj_job.specs.declared.job.Init.TheVariants.{Values, Fill, Nothing}
 use Rattle.sj_job.specs.Statement.{Register}
 use Rattle.sj_job.specs.Statement.{Operand}
-use Rattle.sj_job.specs.Statement.{TaskLine}
 use Rattle.sj_job.specs.Act.{Act}
 use Rattle.sj_job.specs.declared.reason.Reason.{Reason}
 use Rattle.sj_job.specs.declared.form.ArrayForm.{ArrayForm}
@@ -32,11 +31,11 @@ use Rattle.sj_job.specs.declared.reason.Reason.TheVariants.{Word, Number, NotBui
 use Rattle.sj_job.specs.Act.{Register as Registers, Plan, Task, Print, Invalidate, Unregister}
 use Rattle.sj_job.specs.Form.{form_of}
 use Rattle.sj_job.specs.Word.{integer}
-use Rattle.sj_job.specs.Sentence.{is_misplaced, is_numbered, is_built, is_built_mode, rows_of, cols_of, init_said, parts_said, index_said, registered_by, operand_said, operands_said, priority_said, task_said, said_of, said}
+use Rattle.sj_job.specs.Sentence.{is_misplaced, is_numbered, is_built, is_built_mode, rows_of, cols_of, init_said, parts_said, index_said, registered_by, operand_said, operands_said, priority_said, task_said, said_of}
 use Rattle.sj_job.specs.State.{State, Root, root_of, is_valued, is_blank, is_child, child_rect, is_valued_child}
 use Rattle.sj_job.specs.Judge.{Scope, scope_of, is_begun, known_of, first_of, unless, judged_by, judged_call, judged_task, judged, kernel_named, register_reasons, line_reasons, print_reasons, name_reasons, plan_reasons, operand_reasons, is_shaped, modes_fit, dims_in, dims_known, is_child_said, is_crowded, is_cut, is_uncut, is_missing, is_lacking, child_lacks_value, is_side, is_outside, is_miscounted, is_unknown, is_ended, needs_value, lacks_value, is_priority}
 use Rattle.sj_job.specs.Well.{IsAllowed}
-use Rattle.sj_job.specs.Sound.{dims_of, has_root, has_values, has_none, child_dims, has_child, has_child_values, is_plain, IsSoundTask, InitFits, IsSoundRegistration, IsSoundPlan, IsSoundAct}
+use Rattle.sj_job.specs.Sound.{has_root, has_values, child_dims, has_child, has_child_values, is_plain, InitFits, IsSoundRegistration, IsSoundPlan, IsSoundAct}
 use Rattle.sj_job.proofs.Children.{said-child}
 
 -- ---- tests

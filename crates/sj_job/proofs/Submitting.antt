@@ -1,10 +1,8 @@
 -- What forms do, and that the names follow.
-use Rattle.std.proofs.Common.{◌≡◌, ℕ, ◌+◌, ◌<◌, not, ◌&&◌, Bool, true, false, List, [], ◌∷◌, ◌++◌, length, map, get_or, Option, Some, None, is_some, cond, refl, ap, sym, subst, ◌∙◌, arith, Result, Ok, Err, All, length-append}
+use Rattle.std.proofs.Common.{◌≡◌, ℕ, ◌+◌, not, ◌&&◌, Bool, true, false, List, [], ◌∷◌, ◌++◌, length, get_or, Some, None, cond, refl, ap, sym, subst, ◌∙◌, arith, Result, Ok, Err, All, length-append}
 use Rattle.std.specs.Prelude.{IfOk, IfErr}
-use Rattle.std.specs.List.{list_all}
 use Rattle.std.proofs.Math.Seq.{get_or-append_seam}
 use Rattle.sj_base.specs.declared.ids.Root.{Root as RootNumber}
-use Rattle.sj_base.specs.declared.tile.Dims.{Dims}
 use Rattle.sj_codelet.specs.declared.kernel.Kernel.{Kernel}
 use Rattle.sj_plan.specs.declared.parts.Parts.{Parts}
 use Rattle.sj_job.specs.declared.form.ArrayForm.{ArrayForm}
@@ -27,7 +25,7 @@ use Rattle.sj_job.specs.State.{State, plan_with}
 use Rattle.sj_job.specs.Meaning.{apply, register, run_task, plan, invalidate, unregister}
 use Rattle.sj_job.specs.Sound.{IsSoundAct, IsSoundTask, IsSoundRegistration, IsSoundPlan}
 use Rattle.sj_job.specs.Judge.{Scope, scope_of, is_begun, first_of, unless, judged, judged_task, register_reasons, plan_reasons, print_reasons, name_reasons}
-use Rattle.sj_job.specs.Table.{Table, table, a_root, no_info, name_of, info_of, root_in, IsRoot, with_root}
+use Rattle.sj_job.specs.Table.{Table, table, no_info, name_of, root_in, IsRoot, with_root}
 use Rattle.sj_job.specs.View.{registration, task_seen, act_seen, count_after, IsPlaced, Extends}
 use Rattle.sj_job.specs.Names.{scope_in}
 use Rattle.sj_job.specs.Sees.{Sees}
@@ -202,6 +200,6 @@ plans has old new q r c root p h =
     record {
       act = done ∙ ap (λ (n : List ℕ). Ok (Plan n p)) (sym (named ∙ here));
       notes = noted old new (kept.Plan root p) (is-at old.roots q root h.there).below refl h.roots (λ n S k.
-      let sound = sound_done has old n S (form.Plan q r c) (Plan q p) k done in
-      subst (λ (m : List ℕ). Sees new (n + 1) (plan m p S)) (sym named) (h.sees n S k (subst (λ (m : List ℕ). IsSoundPlan S m p) (sym here) sound)));
+          let sound = sound_done has old n S (form.Plan q r c) (Plan q p) k done in
+          subst (λ (m : List ℕ). Sees new (n + 1) (plan m p S)) (sym named) (h.sees n S k (subst (λ (m : List ℕ). IsSoundPlan S m p) (sym here) sound)));
     }

@@ -1,7 +1,6 @@
 -- A task line's operands with their roots: the reasons are the same.
-use Rattle.std.proofs.Common.{◌≡◌, ℕ, zero, suc, ◌<◌, ◌&&◌, ◌||◌, not, nat_eq, nat_lt, Bool, true, false, List, [], ◌∷◌, length, map, get_or, Option, Some, None, option_map, is_some, cond, refl, ap, sym, subst, ◌∙◌, arith, ℤ, Result, Ok, Err, bytes_eq, unwrap_or}
-use Rattle.std.specs.List.{list_any, list_all, zip}
-use Rattle.std.proofs.lemmas.List.{length-map}
+use Rattle.std.proofs.Common.{◌≡◌, ℕ, zero, suc, ◌<◌, ◌&&◌, ◌||◌, not, nat_eq, Bool, true, false, List, [], ◌∷◌, length, map, get_or, Option, Some, None, option_map, is_some, cond, refl, ap, sym, subst, ◌∙◌, arith, ℤ, Result, Ok, Err, bytes_eq, unwrap_or}
+use Rattle.std.specs.List.{list_any}
 use Rattle.std.proofs.lemmas.Bool.Decides.{Decides-eqb}
 use Rattle.sj_base.specs.declared.ids.Root.{Root}
 use Rattle.sj_base.specs.declared.tile.Dims.{Dims}
@@ -9,7 +8,6 @@ use Rattle.sj_base.specs.declared.mode.Mode.{Mode}
 use Rattle.sj_codelet.specs.declared.kernel.Kernel.{Kernel}
 use Rattle.sj_codelet.specs.declared.formal.Formal.{Formal}
 use Rattle.sj_codelet.specs.Kernel.{codelet_of, formals_of, arguments_of, fits}
-use Rattle.sj_plan.specs.declared.parts.Parts.{Parts}
 use Rattle.sj_plan.specs.Parts.{IsPlace}
 use Rattle.sj_plan.specs.Paste.{same_place}
 use Rattle.sj_plan.specs.Rect.{child, dims_of}
@@ -30,11 +28,11 @@ use Rattle.sj_job.specs.Form.{each_some}
 use Rattle.sj_job.specs.Word.{integer}
 use Rattle.sj_job.specs.Sentence.{index_said, place_said, operand_said, operands_said, priority_said, task_said}
 use Rattle.sj_job.specs.State.{is_child}
-use Rattle.sj_job.specs.Table.{Table, name_of, root_in, IsRoot}
+use Rattle.sj_job.specs.Table.{name_of, root_in, IsRoot}
 use Rattle.sj_job.specs.Track.{Track, is_set}
 use Rattle.sj_job.specs.View.{operand_seen, task_seen}
-use Rattle.sj_job.specs.Judge.{Known, Scope, first_of, is_full, is_priority, is_unknown, is_ended, is_child_said, is_missing, dims_in, modes_fit, mode_fits, is_read_only, clashes, is_aliased, needs_value, is_lacking, is_counted, is_shaped, operand_reasons, line_reasons, kernel_named, judged_by, judged_call, judged_task, unless}
-use Rattle.sj_job.specs.Names.{Found, IsPlaceIn, a_target, any_collide, any_missing, any_over, collide, ended_from, found_at, found_in, is_counted_for, is_over, is_shaped_for, is_wanting, known_by, known_from, known_with, no_child, operand_by, plan_in, scope_in, standing_of, target_by, target_dims, target_in, target_reasons, target_under, targets_fit}
+use Rattle.sj_job.specs.Judge.{Known, first_of, is_full, is_priority, is_unknown, is_ended, is_child_said, is_missing, dims_in, modes_fit, mode_fits, is_read_only, clashes, is_aliased, needs_value, is_lacking, is_counted, is_shaped, operand_reasons, kernel_named, judged_by, judged_call, judged_task, unless}
+use Rattle.sj_job.specs.Names.{Found, IsPlaceIn, a_target, any_collide, any_missing, any_over, collide, ended_from, found_at, found_in, is_counted_for, is_over, is_shaped_for, is_wanting, known_by, known_from, known_with, no_child, operand_by, plan_in, scope_in, standing_of, target_by, target_dims, target_in, target_reasons, targets_fit}
 use Rattle.sj_job.proofs.Children.{place-from_test, said-child}
 use Rattle.sj_job.proofs.Places.{is-at, is-root, same-text, text-itself}
 

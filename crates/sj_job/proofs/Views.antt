@@ -1,18 +1,16 @@
 -- What is kept of statements, seen with a table that has grown, and with one statement more.
-use Rattle.std.proofs.Common.{◌≡◌, ℕ, suc, ◌+◌, ◌<◌, ◌≤◌, List, [], ◌∷◌, ◌++◌, length, map, get_or, refl, ap, sym, subst, ◌∙◌, arith, All}
+use Rattle.std.proofs.Common.{◌≡◌, ℕ, suc, ◌<◌, ◌≤◌, List, [], ◌∷◌, ◌++◌, length, map, refl, ap, ◌∙◌, arith, All}
 use Rattle.std.proofs.lemmas.List.{get_or_append_left}
 use Rattle.sj_base.specs.declared.ids.Root.{Root}
-use Rattle.sj_base.specs.declared.mode.Mode.{Mode}
 use Rattle.sj_job.specs.declared.job.RootInfo.{RootInfo}
-use Rattle.sj_job.specs.declared.job.Init.{Init}
 use Rattle.sj_job.specs.declared.job.Operand.{Operand as Access}
 use Rattle.sj_job.specs.declared.job.Act.{Act as KeptAct}
 use Rattle.sj_job.specs.declared.job.Act.TheVariants as kept
 use Rattle.sj_job.specs.declared.job.Statement.{Statement as Kept}
 use Rattle.sj_job.specs.Statement.{Operand, TaskLine}
 use Rattle.sj_job.specs.Act.{Act, Register, Plan, Task, Print, Invalidate, Unregister, Statement}
-use Rattle.sj_job.specs.Table.{Table, table, a_root, no_info, name_of, info_of}
-use Rattle.sj_job.specs.View.{operand_seen, task_seen, registration, act_seen, statement_seen, seen_from, count_after, count_from, IsPlaced, ArePlaced, Extends}
+use Rattle.sj_job.specs.Table.{Table, table, a_root, no_info, name_of}
+use Rattle.sj_job.specs.View.{operand_seen, registration, act_seen, statement_seen, seen_from, count_after, count_from, IsPlaced, ArePlaced, Extends}
 use Rattle.sj_codelet.specs.Kernel.{codelet_of}
 
 -- ---- counts

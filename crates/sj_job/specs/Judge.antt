@@ -1,5 +1,5 @@
 -- Why a form is refused: the conditions of the reasons, in their order.
-use Rattle.std.specs.Prelude.{ℕ, ◌*◌, Bool, true, false, ◌&&◌, ◌||◌, not, nat_eq, nat_le, nat_lt, Option, Some, None, find, Result, Ok, Err, List, [], ◌∷◌, length, map, option_map, is_some, unwrap_or, zip, if◌then◌else◌, ℤ, pos, negsuc}
+use Rattle.std.specs.Prelude.{ℕ, ◌*◌, Bool, true, false, ◌&&◌, ◌||◌, not, nat_eq, nat_le, nat_lt, Option, Some, None, find, Result, Ok, Err, List, [], ◌∷◌, length, map, option_map, is_some, zip, if◌then◌else◌, ℤ, pos, negsuc}
 use Rattle.std.specs.List.{list_all, list_any}
 use Rattle.std.specs.Int.RustNames.{int_le}
 use Rattle.std.specs.Str.{bytes_eq}
@@ -25,7 +25,7 @@ use Rattle.sj_job.specs.declared.form.Form.TheVariants as form
 use Rattle.sj_job.specs.declared.reason.Reason.{Reason}
 use Rattle.sj_job.specs.declared.reason.Reason.TheVariants.{UnknownName, TakenName, UnknownCodelet, OperandCount, Part, Shape, Aliased, NoValue, Limit, EndedName, NotBuilt}
 use Rattle.sj_job.specs.declared.reason.LimitKind.TheVariants.{Statements, Names, Elements, Parts as PartsLimit, Priority}
-use Rattle.sj_job.specs.Sentence.{rows_of, cols_of, init_said, parts_said, index_said, registered_by, operands_said, priority_said, task_said}
+use Rattle.sj_job.specs.Sentence.{init_said, parts_said, index_said, registered_by, operands_said, priority_said, task_said}
 use Rattle.sj_job.specs.State.{Root, State, root_of, is_valued, is_blank, is_child, is_valued_child}
 
 -- what the reasons look at in a root: whether all its elements have a value, whether none has, and which children of the

@@ -1,5 +1,5 @@
 -- The reader's names as the reasons see them.
-use Rattle.std.specs.Prelude.{◌≡◌, ℕ, ◌<◌, Bool, true, false, ◌&&◌, ◌||◌, not, nat_eq, List, [], ◌∷◌, Option, Some, None, option_map, unwrap_or, length, map, zip, if◌then◌else◌, vec_len, ℤ, IsTrue, slice_set}
+use Rattle.std.specs.Prelude.{◌≡◌, ℕ, Bool, true, false, ◌&&◌, ◌||◌, not, nat_eq, List, [], ◌∷◌, Option, Some, None, option_map, unwrap_or, length, map, zip, if◌then◌else◌, vec_len, ℤ, IsTrue, slice_set}
 use Rattle.std.specs.List.{slice_index_or, list_all, list_any}
 use Rattle.sj_base.specs.declared.ids.Root.{Root}
 use Rattle.sj_base.specs.declared.tile.Dims.{Dims}
@@ -15,7 +15,6 @@ use Rattle.sj_job.specs.declared.form.OperandForm.{OperandForm}
 use Rattle.sj_job.specs.declared.job.Init.{Init}
 use Rattle.sj_job.specs.declared.job.Init.TheVariants.{Values, Fill, Nothing}
 use Rattle.sj_job.specs.declared.job.Operand.{Operand as Access}
-use Rattle.sj_job.specs.declared.job.RootInfo.{RootInfo}
 use Rattle.sj_job.specs.declared.names.Standing.{Standing}
 use Rattle.sj_job.specs.declared.names.Standing.TheVariants.{Live, Ended}
 use Rattle.sj_job.specs.declared.names.Names.{Names}
@@ -27,7 +26,7 @@ use Rattle.sj_job.specs.State.{is_child}
 use Rattle.sj_job.specs.Table.{root_in, info_of}
 use Rattle.sj_job.specs.Track.{Track, all_valued, none_valued, even, is_set, written}
 use Rattle.sj_job.specs.Meaning.{is_written}
-use Rattle.sj_job.specs.Judge.{Known, Scope, first_of, is_child_said, is_read_only, mode_fits, needs_value}
+use Rattle.sj_job.specs.Judge.{Known, Scope, is_child_said, is_read_only, mode_fits, needs_value}
 
 -- each root has a standing
 abbrev pub IsCounted : Names → Type 0

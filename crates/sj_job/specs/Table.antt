@@ -3,7 +3,6 @@ use Rattle.std.specs.Prelude.{◌≡◌, ℕ, ◌<◌, ◌≤◌, Option, Some, 
 use Rattle.std.specs.List.{slice_index_or}
 use Rattle.std.specs.Str.{bytes_eq}
 use Rattle.sj_base.specs.declared.ids.Root.{Root}
-use Rattle.sj_base.specs.declared.tile.Dims.{Dims}
 use Rattle.sj_plan.specs.declared.parts.Parts.{Parts}
 use Rattle.sj_job.specs.declared.job.Kind.TheVariants.{Vector}
 use Rattle.sj_job.specs.declared.job.RootInfo.{RootInfo}

@@ -296,13 +296,7 @@ fn target_of(names: &Names, operand: &OperandForm<'_>) -> Option<Target>
     let root = names.find(operand.name.bytes())?;
     let dims = names.roots.info(root).dims;
     let index = index_of(&operand.child);
-    Some(target_by(
-        root,
-        dims,
-        operand.mode,
-        index,
-        names.standing(root),
-    ))
+    Some(target_by(root, dims, operand.mode, index, names.standing(root)))
 }
 
 /// The operands with their roots, or `None` where a name has none. Linear in the operands and their words.

@@ -14,7 +14,9 @@ use crate::form::{ArrayForm, Form, OperandForm, Piece, Size, TaskForm};
 use crate::job::{Act, Kind, RootInfo};
 use crate::judge::{judge_task, named_root, planned_root, printed_root, register_complaint};
 use crate::names::Names;
-use crate::number::{are_counts, init_of, integers, is_count, pair_of, parts_of, priority_of, size_of};
+use crate::number::{
+    are_counts, init_of, integers, is_count, pair_of, parts_of, priority_of, size_of,
+};
 use crate::reason::{Objection, Reason};
 use sj_base::mode::Mode;
 use sj_base::tile::Dims;
@@ -34,9 +36,7 @@ fn is_built_mode(mode: Mode) -> bool
 fn are_built(operands: &[OperandForm<'_>]) -> bool
     ensures { result ≡ list_all (λ o. is_built_mode o.mode) operands.now }
 {
-    operands
-        .iter()
-        .all(|o| is_built_mode(o.mode))
+    operands.iter().all(|o| is_built_mode(o.mode))
 }
 
 fn have_counted_children(operands: &[OperandForm<'_>]) -> bool

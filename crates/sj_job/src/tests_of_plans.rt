@@ -233,7 +233,8 @@ fn job_of(alloc: Global, text: &str) -> Result<Job, Fail> {
 
 #[test]
 fn plans_and_children_are_kept(rt: HostRuntime) -> Result<(), Fail> {
-    let text = "starjob 1\nmatrix y 1 1 none\nmatrix A 3 4 by 3 2 fill 0 1\ntask scale(2) A[2,1]:RW\nplan A 1 4\n";
+    let text =
+        "starjob 1\nmatrix y 1 1 none\nmatrix A 3 4 by 3 2 fill 0 1\ntask scale(2) A[2,1]:RW\nplan A 1 4\n";
     let job = job_of(rt.alloc(), text)?;
     let [_, _, task, plan] = job.statements.items() else {
         return Err(Fail::from("four statements"));

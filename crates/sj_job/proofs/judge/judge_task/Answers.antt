@@ -1,15 +1,14 @@
-use Rattle.std.proofs.Common.{◌≡◌, ◌∙◌, ◌<◌, ap, sym, subst, true, false, None, Some, List, ℕ, map, arith, rules, length, get_or, nat_le, w32, w64, to_z, of_z, FitsSigned}
+use Rattle.std.proofs.Common.{◌≡◌, ◌∙◌, ◌<◌, ap, sym, subst, true, false, None, Some, map, arith, rules, length, get_or, w32, w64, to_z, of_z, FitsSigned}
 use Rattle.std.proofs.lemmas.Bool.Decides.{nat_tests}
 use Rattle.std.proofs.lemmas.Int.{to_z-of_z}
 use Rattle.std.specs.List.{list_all}
-use Rattle.sj_job.specs.declared.judge.Target.{Target}
 use Rattle.sj_job.specs.Form.{each_some}
 use Rattle.sj_job.specs.Word.{integer}
 use Rattle.sj_job.specs.Sentence.{are_counts, priority_said}
 use Rattle.sj_job.specs.Names.{IsPlaceIn, plan_in, standing_of, scope_in, target_in, any_over, operand_by, target_reasons}
 use Rattle.sj_job.specs.Table.{IsRoot}
 use Rattle.sj_job.specs.Judge.{is_full, is_priority, first_of, kernel_named}
-use Rattle.sj_job.proofs.Targets.{IsInLine, task-full, task-early, task-unknown, task-ended, task-codelet, task-why, task-ok, all-kept}
+use Rattle.sj_job.proofs.Targets.{task-unknown, task-ended, task-codelet, task-why, task-ok, all-kept}
 use Rattle.sj_job.proofs.judge.judge_task.Goals as goal
 
 pub returns-in_default-clause-err : goal.returns-in_default-clause-err

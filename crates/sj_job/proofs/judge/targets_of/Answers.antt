@@ -1,4 +1,4 @@
-use Rattle.std.proofs.Common.{◌≡◌, ◌∙◌, sym, ap, option_map, ◌++◌, ◌+◌, drop, get_or}
+use Rattle.std.proofs.Common.{◌∙◌, sym, ap, option_map, ◌++◌, ◌+◌, drop}
 use Rattle.std.proofs.lemmas.List.Sums.{AllPass-from_list_all}
 use Rattle.sj_job.specs.Form.{each_some}
 use Rattle.sj_job.specs.Names.{target_in}

@@ -1,5 +1,4 @@
-use Rattle.std.proofs.Common.{◌≡◌, ◌∙◌, ap, sym, true, ℕ}
-use Rattle.sj_base.specs.declared.tile.Dims.{Dims}
+use Rattle.std.proofs.Common.{◌∙◌, sym, ℕ}
 use Rattle.sj_plan.specs.declared.parts.Parts.{Parts}
 use Rattle.sj_job.specs.State.{dims_with}
 use Rattle.sj_job.specs.declared.job.Kind.{Kind}

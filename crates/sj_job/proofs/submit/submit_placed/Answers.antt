@@ -1,4 +1,4 @@
-use Rattle.std.proofs.Common.{sym, subst, ap}
+use Rattle.std.proofs.Common.{sym, subst}
 use Rattle.std.specs.Prelude.{IfOk, IfErr}
 use Rattle.sj_job.specs.declared.form.Form.{Form}
 use Rattle.sj_job.specs.Names.{scope_in}

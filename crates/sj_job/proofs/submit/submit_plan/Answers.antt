@@ -1,5 +1,4 @@
-use Rattle.std.proofs.Common.{◌≡◌, ◌∙◌, ap, sym, ℕ, List}
-use Rattle.sj_plan.specs.declared.parts.Parts.{Parts}
+use Rattle.std.proofs.Common.{◌∙◌, ap, sym}
 use Rattle.sj_job.specs.Judge.{first_of, plan_reasons}
 use Rattle.sj_job.specs.Names.{scope_in}
 use Rattle.sj_job.specs.State.{plan_with}

@@ -1,4 +1,4 @@
-use Rattle.std.proofs.Common.{◌≡◌, ◌∙◌, ap, sym}
+use Rattle.std.proofs.Common.{◌∙◌, ap, sym}
 use Rattle.sj_job.specs.Judge.{first_of, print_reasons}
 use Rattle.sj_job.specs.Names.{scope_in}
 use Rattle.sj_job.specs.Table.{root_in}

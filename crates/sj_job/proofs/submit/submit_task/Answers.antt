@@ -1,4 +1,4 @@
-use Rattle.std.proofs.Common.{◌≡◌, ◌∙◌, ap, sym, true, List, ℕ}
+use Rattle.std.proofs.Common.{◌∙◌, ap, sym}
 use Rattle.std.specs.List.{list_all}
 use Rattle.sj_job.specs.Word.{is_integer}
 use Rattle.sj_job.specs.Sentence.{is_numbered_priority, are_counts, is_built_mode}

@@ -1,4 +1,4 @@
-use Rattle.std.proofs.Common.{◌≡◌, ◌+◌, ◌∷◌, ◌<◌, ◌∙◌, ap, sym, subst, length, get_or, drop, refl, ℕ, List}
+use Rattle.std.proofs.Common.{◌≡◌, ◌+◌, ◌∷◌, ◌∙◌, ap, sym, subst, get_or, drop}
 use Rattle.std.proofs.lemmas.List.{get_or_default}
 use Rattle.sj_base.specs.declared.mode.Mode.TheVariants.{R}
 use Rattle.sj_job.specs.declared.job.Operand.{Operand as Access}

@@ -1,4 +1,4 @@
-use Rattle.std.proofs.Common.{◌≡◌, ℕ, List, drop, get_or}
+use Rattle.std.proofs.Common.{◌≡◌, ℕ, drop, get_or}
 use Rattle.sj_job.specs.declared.names.Standing.TheVariants.{Ended}
 use Rattle.sj_job.specs.Names.{IsCounted, after_writes, plan_in}
 use Rattle.sj_job.proofs.names.Names.write_all.Given as goal

@@ -1,5 +1,5 @@
 use Rattle.std.proofs.Common.{◌≡◌, ◌∙◌, ap, sym, rules, get_or, false}
-use Rattle.sj_job.specs.Track.{track_by, FitMarks, AreMixed}
+use Rattle.sj_job.specs.Track.{track_by, AreMixed}
 use Rattle.sj_job.proofs.Marks.{wrote-in-all, wrote-last}
 use Rattle.sj_job.proofs.track.Tracked.write.Goals as goal
 
