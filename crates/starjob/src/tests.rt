@@ -475,10 +475,10 @@ pub fn answer(rt: &HostRuntime, text: &[u8], room: u64) -> Result<(u8, MemSink, 
     Ok((outcome.status.code(), out, err))
 }
 
-/// Each job is done, and prints what is wanted.
-pub fn are_printed(rt: &HostRuntime, cases: &[Printing]) -> Result<(), Fail> {
-    for case in cases.iter() {
-        let (code, out, err) = answer(rt, case.text.as_bytes(), 1000)?;
+#[test]
+fn jobs_print_what_their_tasks_make(rt: HostRuntime) -> Result<(), Fail> {
+    for case in PRINTINGS.iter() {
+        let (code, out, err) = answer(&rt, case.text.as_bytes(), 1000)?;
         assert_eq!(rt; code, 0, "{}", case.shows);
         assert_eq!(rt; out.taken(), case.out.as_bytes(), "{}", case.shows);
         assert!(rt; err.taken().is_empty(), "{}", case.shows);
@@ -486,27 +486,17 @@ pub fn are_printed(rt: &HostRuntime, cases: &[Printing]) -> Result<(), Fail> {
     Ok(())
 }
 
-/// Each job is refused, as the line says that is wanted.
-pub fn are_refused(rt: &HostRuntime, cases: &[Refusal]) -> Result<(), Fail> {
-    for case in cases.iter() {
-        let (code, out, err) = answer(rt, case.text.as_bytes(), 1000)?;
+#[test]
+fn a_refused_job_names_its_first_bad_line_and_its_first_reason(
+    rt: HostRuntime,
+) -> Result<(), Fail> {
+    for case in REFUSALS.iter() {
+        let (code, out, err) = answer(&rt, case.text.as_bytes(), 1000)?;
         assert_eq!(rt; code, 3, "{}", case.shows);
         assert!(rt; out.taken().is_empty(), "{}", case.shows);
         assert_eq!(rt; err.taken(), case.err.as_bytes(), "{}", case.shows);
     }
     Ok(())
-}
-
-#[test]
-fn jobs_print_what_their_tasks_make(rt: HostRuntime) -> Result<(), Fail> {
-    are_printed(&rt, &PRINTINGS)
-}
-
-#[test]
-fn a_refused_job_names_its_first_bad_line_and_its_first_reason(
-    rt: HostRuntime,
-) -> Result<(), Fail> {
-    are_refused(&rt, &REFUSALS)
 }
 
 #[test]

@@ -1,6 +1,6 @@
 //! Whole jobs over partition plans, from bytes to bytes, and the limits that are counted in lowering.
 
-use crate::tests::{Printing, Refusal, answer, are_printed, are_refused};
+use crate::tests::{Printing, Refusal, answer};
 use std::alloc::Global;
 use std::test::Fail;
 
@@ -132,14 +132,26 @@ const REFUSALS: [Refusal; 12] = [
 
 #[test]
 fn jobs_over_plans_print_what_their_tasks_make(rt: HostRuntime) -> Result<(), Fail> {
-    are_printed(&rt, &PRINTINGS)
+    for case in PRINTINGS.iter() {
+        let (code, out, err) = answer(&rt, case.text.as_bytes(), 1000)?;
+        assert_eq!(rt; code, 0, "{}", case.shows);
+        assert_eq!(rt; out.taken(), case.out.as_bytes(), "{}", case.shows);
+        assert!(rt; err.taken().is_empty(), "{}", case.shows);
+    }
+    Ok(())
 }
 
 #[test]
 fn a_refused_job_over_plans_names_its_first_bad_line_and_its_first_reason(
     rt: HostRuntime,
 ) -> Result<(), Fail> {
-    are_refused(&rt, &REFUSALS)
+    for case in REFUSALS.iter() {
+        let (code, out, err) = answer(&rt, case.text.as_bytes(), 1000)?;
+        assert_eq!(rt; code, 3, "{}", case.shows);
+        assert!(rt; out.taken().is_empty(), "{}", case.shows);
+        assert_eq!(rt; err.taken(), case.err.as_bytes(), "{}", case.shows);
+    }
+    Ok(())
 }
 
 /// Appends registrations of so many arrays of 4,096 children.
