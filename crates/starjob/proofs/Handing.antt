@@ -1,10 +1,11 @@
 -- What a run hands over is what the deliver tasks have to hand over.
 use Rattle.std.proofs.Common.{◌≡◌, ℕ, ◌<◌, true, List, [], length, map, refl, sym, ap, ◌∙◌, subst, arith, Some}
-use Rattle.std.specs.Prelude.{All, Contains, filter}
+use Rattle.std.specs.Prelude.{All, Contains, IsPermutation, filter}
 use Rattle.std.specs.List.{range_with_len}
 use Rattle.std.proofs.lemmas.List.Elements.{All-map, All-contains_itself, All-weaker}
 use Rattle.std.proofs.lemmas.List.FromFn.{length-map-range_with_len, get_or-map-range_with_len}
 use Rattle.std.proofs.lemmas.List.{map-id}
+use Rattle.std.proofs.lemmas.List.Sorted.{All-permutation, Contains-permutation, IsPermutation-map}
 use Rattle.std.proofs.lemmas.Simd.{map-map}
 use Rattle.sj_base.specs.declared.ids.Task.{Task}
 use Rattle.sj_base.specs.declared.program.Codelet.{Codelet}
@@ -51,3 +52,14 @@ handed-over p pairs e named =
       every = All-weaker (λ (d : Delivery). (d.task.0 < length p.tasks) × (kernel_of (task_of p d.task).codelet ≡ Some Deliver)) (λ (d : Delivery). Contains (map (λ (pair : Task × Array). pair.0) (deliveries_of p)) d.task)
           (λ d h. subst (λ (ts : List Task). Contains ts d.task) (sym tasks) (Contains-filter (is_deliver_task p) (tasks_of p) d.task (kernel-delivery (task_of p d.task).codelet h.1) (tasks-has p d.task h.0))) p.deliveries named;
     })
+
+-- in whatever order it is listed
+pub in-any-order : (p : Program) (xs ys : List (Task × Array)) → IsPermutation xs ys → HandedOver p xs → HandedOver p ys
+in-any-order p xs ys same handed =
+    let task : Task × Array → Task = λ pair. pair.0 in
+    record {
+      of_program = All-permutation (λ (pair : Task × Array). pair.0.0 < length p.tasks) xs ys same handed.of_program;
+      given = All-permutation (λ (pair : Task × Array). pair.1 ≡ given p pair.0) xs ys same handed.given;
+      every = All-weaker (λ (d : Delivery). Contains (map task xs) d.task) (λ (d : Delivery). Contains (map task ys) d.task)
+      (λ d h. Contains-permutation (map task xs) (map task ys) d.task (IsPermutation-map task xs ys same) h) p.deliveries handed.every;
+    }

@@ -7,7 +7,7 @@ use Rattle.sj_job.specs.Reading.{IsRefusal, Refusal}
 use Rattle.sj_lower.specs.declared.lower.LowerRefusal.{LowerRefusal}
 use Rattle.sj_lower.specs.declared.lower.LowerRefusal.TheVariants.{TooManyCells, TooManyTasks, OutOfMemory}
 use Rattle.sj_lower.specs.Limits.{late_limit}
-use Rattle.sj_lower.specs.Refused.{IsLate}
+use Rattle.sj_lower.specs.Progress.{IsLate}
 use Rattle.starjob.specs.Refused.{refusal_of}
 use Rattle.starjob.specs.Top.{JobOrRefusal, within_limits}
 

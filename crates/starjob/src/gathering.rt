@@ -23,7 +23,7 @@ use std::marker::Model;
 
 /// What the deliver tasks of a program handed over, each found by its task. Contracts see the program.
 #[derive(Drop)]
-pub struct ByTask<'a> {
+struct ByTask<'a> {
     program: &'a Program,
     delivered: &'a Delivered,
     /// At a task's number its place in what was handed over.
@@ -44,7 +44,7 @@ impl<'a> Model for ByTask<'a> {
 
 impl<'a> ByTask<'a> {
     /// The places of what was handed over. Linear in the program's tasks.
-    pub fn of(
+    fn of(
         alloc: Global,
         program: &'a Program,
         delivered: &'a Delivered,
@@ -61,7 +61,7 @@ impl<'a> ByTask<'a> {
     }
 
     /// What a delivery's task handed over. Constant time.
-    pub fn tile(&self, delivery: &Delivery) -> &Tile
+    fn tile(&self, delivery: &Delivery) -> &Tile
         requires { Contains self.now.deliveries delivery.now }
         ensures { result.now ≡ given self.now delivery.now.task }
     {
@@ -69,7 +69,7 @@ impl<'a> ByTask<'a> {
     }
 }
 
-/// At the number of each task that handed something over the place of that, of so many tasks.
+/// At the number of each task that handed something over the place of that. Linear in the number of all tasks.
 fn places_of(alloc: Global, tasks: usize, delivered: &Delivered) -> Result<Vec<usize>, OutOfMemory>
     requires { All (λ pair. pair.0.0 < tasks) delivered.now.pairs }
     ensures { IfOk result (λ places. IsIndex places.items delivered.now.pairs) }
@@ -81,7 +81,7 @@ fn places_of(alloc: Global, tasks: usize, delivered: &Delivered) -> Result<Vec<u
     Ok(places)
 }
 
-/// A tile of zeros.
+/// A tile of zeros, whatever the dimensions: that a root's are small is no fact of its table. Linear in its elements.
 fn blank(alloc: Global, dims: Dims) -> Result<Tile, OutOfMemory>
     ensures { IfOk result (λ t. t ≡ zeros dims) }
 {
@@ -100,7 +100,7 @@ fn rect_of(delivery: &Delivery, dims: Dims) -> Rect
     }
 }
 
-/// Deliveries put in their places of a tile.
+/// Puts what deliveries handed over in their places of a tile. Linear in its elements; no memory.
 fn put_in_place(tile: &mut Tile, deliveries: &[Delivery], handed: &ByTask)
     requires handed { All (Contains handed.now.deliveries) deliveries.now }
     requires within { All (λ d. Within (part_of handed.now d).0 tile.old.dims) deliveries.now }
@@ -112,7 +112,7 @@ fn put_in_place(tile: &mut Tile, deliveries: &[Delivery], handed: &ByTask)
     }
 }
 
-/// The one tile that is the whole array, where there is one.
+/// The tile that was handed over for a whole array, where there is one. Constant time.
 fn whole<'a>(dims: Dims, deliveries: &[Delivery], handed: &'a ByTask) -> Option<&'a Tile>
     requires handed { All (Contains handed.now.deliveries) deliveries.now }
     requires within { All (λ d. Within (part_of handed.now d).0 dims) deliveries.now }
@@ -129,7 +129,7 @@ fn whole<'a>(dims: Dims, deliveries: &[Delivery], handed: &'a ByTask) -> Option<
     }
 }
 
-/// Appends what is printed of the deliveries of a print statement.
+/// Appends what is printed of the deliveries of a print statement. Linear in the elements and in the text.
 fn write_print(
     alloc: Global,
     text: &mut Vec<u8>,
@@ -174,7 +174,8 @@ fn prints_of(program: &Program) -> u64
     }
 }
 
-/// What a job prints, of what its deliver tasks handed over in whatever order. One print statement's array is made at a time.
+/// What a job prints, from what its deliver tasks handed over in whatever order: of each print statement the array that its
+/// deliveries make. Linear in the program's tasks, in the elements and in the text; one array is made at a time.
 pub fn text_of(
     alloc: Global,
     roots: &Roots,

@@ -84,9 +84,11 @@ pub fn program_of(alloc: Global, job: Job) -> Result<Ready, ReadRefusal>
     requires job { IsJob (statements_of job) }
     requires numbered { IsNumbered job.roots job.statements }
     ensures is { IfOk result (λ r. r.program.value ≡ lowered (statements_of job) 1) }
-    ensures within { IfOk result (λ r. within_limits (Ok (statements_of job)) ≡ Ok (statements_of job)) }
+    ensures within { IfOk result (λ r.
+        within_limits (Ok (statements_of job)) ≡ Ok (statements_of job)) }
     ensures runnable { IfOk result (λ r. IsRunnable r.program.value) }
-    ensures prints { IfOk result (λ r. DeliversPrinted r.roots r.program.value (statements_of job)) }
+    ensures prints { IfOk result (λ r.
+        DeliversPrinted r.roots r.program.value (statements_of job)) }
     ensures handed_over { IfOk result (λ r. NamesDeliverTasks r.program.value) }
     ensures refused { IfErr result (λ e. IsRefusal e (within_limits (Ok (statements_of job)))) }
 {
