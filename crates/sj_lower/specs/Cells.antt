@@ -6,6 +6,7 @@ use Rattle.sj_base.specs.declared.ids.Root.{Root}
 use Rattle.sj_base.specs.declared.tile.Dims.{Dims}
 use Rattle.sj_base.specs.declared.program.CellInfo.{CellInfo}
 use Rattle.sj_plan.specs.declared.parts.Parts.{Parts}
+use Rattle.sj_plan.specs.declared.rect.Rect.{Rect}
 use Rattle.sj_plan.specs.Parts.{places}
 use Rattle.sj_plan.specs.Rect.{child, dims_of}
 use Rattle.sj_job.specs.Track.{number}
@@ -35,9 +36,13 @@ with_handle name h handles q = if bytes_eq name q then Some h else handles q
 abbrev pub first_cell : Cells → List ℕ → Parts → ℕ
 first_cell C name p = elim (C.handles name) [ None ↦ 0 | Some h ↦ unwrap_or (h.first p) 0 ]
 
--- the cell of a child of that plan
+-- the cells of a plan's children, row by row from the first on
+abbrev pub cells_from : ℕ → Parts → ℕ × ℕ → Cell
+cells_from first p place = record { 0 = first + number p place }
+
+-- the cell of a child of a plan that a name has taken
 abbrev pub cell_of : Cells → List ℕ → Parts → ℕ × ℕ → Cell
-cell_of C name p place = record { 0 = first_cell C name p + number p place }
+cell_of C name p place = cells_from (first_cell C name p) p place
 
 -- ---- plans
 
@@ -48,9 +53,13 @@ with_first p n first q = if same_parts p q then Some n else first q
 abbrev pub taking : Parts → ℕ → Handle → Handle
 taking p n h = record { root = h.root; dims = h.dims; first = with_first p n h.first }
 
--- the cell of a child of a root
+-- the cell of a rectangle of a root
+abbrev pub rect_cell : Root → Rect → CellInfo
+rect_cell root r = record { root = root; dims = dims_of r; partials = None }
+
+-- the cell of a child
 abbrev pub child_cell : Root → Dims → Parts → ℕ × ℕ → CellInfo
-child_cell root d p place = record { root = root; dims = dims_of (child d p place); partials = None }
+child_cell root d p place = rect_cell root (child d p place)
 
 -- the plan's children are cells: new ones, if the plan wasn't taken before
 abbrev pub take_by : List ℕ → Parts → Handle → Cells → Cells

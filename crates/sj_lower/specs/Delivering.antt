@@ -1,5 +1,5 @@
 -- How the deliveries of a program follow the print statements of a job.
-use Rattle.std.specs.Prelude.{◌≡◌, ◌<◌, ◌≤◌, ℕ, Some, List, [], map, length, slice_get, nat_eq, All, AllPairs, IsPermutation}
+use Rattle.std.specs.Prelude.{◌≡◌, ◌<◌, ◌≤◌, ℕ, Some, List, map, length, slice_get, nat_eq, All, AllPairs, IsPermutation}
 use Rattle.std.specs.List.{filter}
 use Rattle.sj_base.specs.declared.program.Delivery.{Delivery}
 use Rattle.sj_base.specs.declared.program.Program.{Program}

@@ -4,3 +4,5 @@ pub mod Lowering
 pub mod Limits
 pub mod Job
 pub mod Delivering
+pub mod Seen
+pub mod Progress

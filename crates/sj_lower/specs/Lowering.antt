@@ -1,6 +1,6 @@
 -- What a job is lowered to: its statements give cells, tasks over cells and deliveries, one statement after another, each in
 -- the state that the statements before it leave.
-use Rattle.std.specs.Prelude.{ℕ, ◌+◌, Bool, ◌||◌, not, Option, Some, None, List, [], ◌∷◌, ◌++◌, ℤ, map, length, if◌then◌else◌}
+use Rattle.std.specs.Prelude.{ℕ, ◌+◌, Bool, ◌||◌, not, Some, None, List, [], ◌∷◌, ◌++◌, map, length, if◌then◌else◌}
 use Rattle.sj_base.specs.declared.ids.Cell.{Cell}
 use Rattle.sj_base.specs.declared.ids.Line.{Line}
 use Rattle.sj_base.specs.declared.ids.Root.{Root as RootNumber}
@@ -15,14 +15,14 @@ use Rattle.sj_plan.specs.Paste.{pastes_of}
 use Rattle.sj_plan.specs.Rect.{child, place_of}
 use Rattle.sj_job.specs.declared.job.Init.{Init}
 use Rattle.sj_job.specs.declared.job.Init.TheVariants.{Values, Fill, Nothing}
-use Rattle.sj_job.specs.Statement.{Register, Operand, TaskLine}
+use Rattle.sj_job.specs.Statement.{Operand, TaskLine}
 use Rattle.sj_job.specs.Act.{Act, Statement}
 use Rattle.sj_job.specs.Act.{Register as Registers, Plan as Plans, Task as Tasks, Print as Prints, Invalidate as Invalidates, Unregister as Unregisters}
 use Rattle.sj_job.specs.State.{Root, State, start, root_of, is_valued}
 use Rattle.sj_job.specs.Meaning.{apply}
 use Rattle.sj_job.specs.Table.{undivided}
 use Rattle.sj_job.specs.Track.{number}
-use Rattle.sj_lower.specs.Cells.{Cells, Handle, same_parts, cell_of, take, with_root, no_cells}
+use Rattle.sj_lower.specs.Cells.{Cells, same_parts, cell_of, take, with_root, no_cells}
 use Rattle.sj_lower.specs.Rows.{an_access, load_row, fill_row, paste_row, deliver_row}
 
 -- ---- cells
