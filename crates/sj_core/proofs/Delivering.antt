@@ -1,30 +1,27 @@
--- What a task finds in the cells whose old value it reads is what all tasks before it leave, in submission order; and where all tasks
--- are done, cells hold what they leave.
-use Rattle.std.proofs.Common.{List, [], ap, arith, false, length, map, not, refl, subst, sym, true, ℕ, ◌<◌, ◌||◌, ◌∙◌, ◌∷◌, ◌≡◌, ◌≢◌, ◌&&◌}
+-- Without REDUX and COMMUTE, and from no law of a set: what a task finds in the cells whose old value it reads is what all tasks before
+-- it leave, in submission order.
+use Rattle.std.proofs.Common.{List, [], ap, arith, false, length, map, not, refl, subst, sym, true, ℕ, ◌<◌, ◌||◌, ◌∙◌, ◌∷◌, ◌≡◌, ◌≢◌}
 use Rattle.std.proofs.lemmas.Bool.{false_from_ne_true, false≢true}
 use Rattle.std.specs.List.{Contains, filter, slice_index_or}
-use Rattle.std.specs.Prelude.{IsTrue, IfSome}
-use Rattle.sj_base.specs.Mode.{is_scratch, reads_value, is_redux, is_written}
-use Rattle.sj_core.proofs.Words.{AtNode, Cell, Machine, Program, State, Task, Worker, cells_of, done_by, done_in, has_cell, is_done, is_task_of, is_valid, node_of, progress, replica, task_of, worked_on, written_cells, Array, Running, Waiting, array_of, same_cell, writes}
+use Rattle.std.specs.Prelude.{IsTrue}
+use Rattle.sj_base.specs.Mode.{is_scratch, reads_value}
+use Rattle.sj_core.proofs.Words.{AtNode, Cell, Machine, Program, State, Task, Worker, cells_of, done_by, done_in, has_cell, is_done, is_task_of, is_valid, node_of, progress, replica, task_of, worked_on, written_cells}
 use Rattle.sj_base.specs.declared.mode.Access.{Access}
 use Rattle.sj_base.specs.declared.mode.Mode.TheVariants.{R}
 use Rattle.sj_deps.specs.Conflict.{HasDependencies}
-use Rattle.sj_core.specs.Coherent.{Coherent, content, is_begun, has_written, is_being_written}
+use Rattle.sj_core.specs.Coherent.{Coherent, content, is_begun}
 use Rattle.sj_core.specs.Fold.{given, held_before}
-use Rattle.sj_core.specs.Laws.{Brought, HasAtHand, HasPlainModes, Works, HoldsFinal, final}
-use Rattle.sj_core.specs.Proper.{Proper, access, gives_value}
+use Rattle.sj_core.specs.Laws.{Brought, HasAtHand, HasPlainModes, Works}
+use Rattle.sj_core.specs.Proper.{Proper, access}
 use Rattle.sj_core.specs.Step.{EarlierAreDone, array_at}
 use Rattle.sj_core.proofs.Advancing.{done-begun}
 use Rattle.sj_core.proofs.Contents.{later-free}
-use Rattle.sj_core.proofs.Finding.{finds-content, read-cell, being_written-by, gives-writes, task-counted}
+use Rattle.sj_core.proofs.Finding.{read-cell}
+use Rattle.sj_core.proofs.Found.{found-content}
 use Rattle.sj_core.proofs.Folding.{held-until}
-use Rattle.sj_core.proofs.PlainModes.{cone, conflicts, operand-inside}
+use Rattle.sj_core.proofs.PlainModes.{cone, conflicts, operand-inside, worked_on-plain}
 use Rattle.sj_core.proofs.Replicas.{same_worker-refl}
 use Rattle.sj_core.proofs.Sharing.{one}
-use Rattle.std.proofs.lemmas.List.Folds.{Any-from_list_any}
-use Rattle.std.proofs.lemmas.List.Sums.{AllPass-from_list_all}
-use Rattle.sj_core.specs.Legal.{IsComplete}
-use Rattle.sj_core.proofs.Reading.{progress-inside}
 
 module _ (p : Program) (m : Machine) (proper : Proper p) (deps : HasDependencies p) (plain : HasPlainModes p) (s : State) (sound : Coherent p m s) where
   -- the content of a cell of a task that isn't done, and whose earlier conflicting tasks are, is what it holds after all tasks before
@@ -42,7 +39,10 @@ module _ (p : Program) (m : Machine) (proper : Proper p) (deps : HasDependencies
       array_at p s (AtNode (node_of m w)) a.cell ≡ held_before p t.0 a.cell
   finds t w a h reads mine begun undone valid =
       let value = ap not reads in
-      finds-content p m proper deps plain s sound t w a mine h value valid
+      let same = worked_on-plain p plain t w a h in
+      ap (array_at p s (AtNode (node_of m w))) (sym same)
+      ∙ found-content p proper m s sound t w mine a h value (ap (λ (c : Cell). is_valid (replica s c (AtNode (node_of m w)))) same ∙ valid)
+      ∙ ap (content p s) same
       ∙ content-before t w a.cell (operand-inside p t a h) undone (sound.order.earlier t begun) (read-cell p m proper deps plain t w a h value)
 
   -- an operand whose old value a task reads is as all tasks before left it
@@ -60,39 +60,3 @@ module _ (p : Program) (m : Machine) (proper : Proper p) (deps : HasDependencies
       let named : cells_of p t v ≡ c ∷ [] = ap (λ (xs : List Access). map (worked_on p v) (filter (λ a. not (is_scratch a.mode)) xs)) one in
       finds-earlier t w (access R c) among refl at_hand
       ∙ ap (λ (cs : List Cell). held_before p t.0 (slice_index_or cs 0 (record { 0 = 0 }))) (sym named)
-
--- ---- where all tasks are done
-
-module _ (p : Program) (m : Machine) (proper : Proper p) (deps : HasDependencies p) (plain : HasPlainModes p) (s : State) (sound : Coherent p m s) (complete : IsComplete s) where
-  all-done : (u : Task) → u.0 < length p.tasks → done_in s u ≡ true
-  all-done u inside = AllPass-from_list_all is_done s.tasks complete u.0 Waiting (omega (arith, inside, sound.state.rows.tasks))
-
-  -- each cell's content is what all tasks leave
-  all-content : (c : Cell) → content p s c ≡ final p c
-  all-content c = cone p plain deps (done_in s) (λ u. true) (done_by s) (λ u. record { 0 = 0 }) (length p.tasks) c (λ u l done. refl) (λ u v before l done among conflict. all-done u (omega (arith, before, l))) (λ u l among writes. all-done u l)
-
-  none-written : (c : Cell) → is_being_written p s c ≡ false
-  none-written c = false_from_ne_true (is_being_written p s c) (λ h. (let by = being_written-by p s c h in by_task by.0 by.1))
-    where
-      not_waiting : (v : Worker) → Running v ≡ Waiting → ⊥
-      not_waiting v e = cc
-
-      by_task : (u : Task) → progress s u ≡ Running (done_by s u) → ⊥
-      by_task u running =
-          let inside : u.0 < length p.tasks = omega (arith, progress-inside s u (λ e. not_waiting (done_by s u) (sym running ∙ e)), sound.state.rows.tasks) in
-          false≢true (sym (ap is_done running) ∙ all-done u inside)
-
-  -- a cell to which a task gives a value has been written
-  all-written : (t : Task) (c : Cell) → gives_value (task_of p t) c ≡ true → 0 < writes s c
-  all-written t c gives =
-      let given = Any-from_list_any (λ (a : Access). is_written a.mode && not (is_redux a.mode) && same_cell a.cell c) (task_of p t).accesses gives in
-      let inside = operand-inside p t given.1 (given.0, given.2, given.3) in
-      let writes_it = gives-writes p m proper deps plain t (done_by s t) c gives in
-      let counted = task-counted p (has_written p s c) t inside (ap (λ b. b && has_cell (written_cells p t (done_by s t)) c) (all-done t inside) ∙ writes_it) in
-      omega (arith, sound.counts.counted c)
-
-  pub complete-final : HoldsFinal p s
-  complete-final = record {
-    somewhere = λ t c gives. sound.copies.valid_somewhere c (all-written t c gives) (none-written c);
-    alike = λ t c q gives. subst (λ (x : Array). IfSome (array_of (replica s c q)) (λ a. a ≡ x)) (all-content c) (sound.copies.alike c q (all-written t c gives) (none-written c));
-  }

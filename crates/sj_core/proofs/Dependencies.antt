@@ -26,11 +26,11 @@ use Rattle.sj_core.proofs.Sharing.{manner_of}
 
 -- ---- what lists contain
 
-one_is : {X : Type 0} (x y : X) → Contains (x ∷ []) y → x ≡ y
+pub one_is : {X : Type 0} (x y : X) → Contains (x ∷ []) y → x ≡ y
 one_is x y (zero, l, e) = e
 one_is x y (suc k, l, e) = absurd (omega arith)
 
-none_is : {X : Type 0} (y : X) → Contains [] y → ⊥
+pub none_is : {X : Type 0} (y : X) → Contains [] y → ⊥
 none_is y (k, l, e) = omega arith
 
 flat_map-from : {X Y : Type 0} (f : X → List Y) (xs : List X) (y : Y) → Contains (flat_map f xs) y → (x : X) × Contains xs x × Contains (f x) y
@@ -41,7 +41,7 @@ flat_map-from {X} f (x ∷ xs) y h = by_part (Contains-append_cases (f x) (flat_
     by_part (inl here) rest = (x, (0, omega arith, refl), here)
     by_part (inr later) rest = let (z, (k, l, e), has) = rest later in (z, (suc k, omega arith, e), has)
 
-map-from : {X Y : Type 0} (f : X → Y) (xs : List X) (y : Y) → Contains (map f xs) y → (x : X) × Contains xs x × (f x ≡ y)
+pub map-from : {X Y : Type 0} (f : X → Y) (xs : List X) (y : Y) → Contains (map f xs) y → (x : X) × Contains xs x × (f x ≡ y)
 map-from f [] y h = absurd (none_is y h)
 map-from f (x ∷ xs) y (zero, l, e) = (x, (0, omega arith, refl), e)
 map-from f (x ∷ xs) y (suc k, l, e) = let (z, (j, m, same), is) = map-from f xs y (k, omega arith, e) in (z, (suc j, omega arith, same), is)
@@ -121,7 +121,7 @@ module _ (p : Program) (proper : Proper p) where
       by_kind (AsCopy redux w copy manner) = (proper.cells.copies c o.operand.cell w copy).0
 
   -- the inits and combines of a phase contribute to nothing
-  own-of_phase : (f : Phase) → IsPhase p f → (t : ℕ) → Contains f.inits t ⊎ Contains f.combines t → (a : Access) → Contains (task_number p t).accesses a → a.mode ≡ Redux → ⊥
+  pub own-of_phase : (f : Phase) → IsPhase p f → (t : ℕ) → Contains f.inits t ⊎ Contains f.combines t → (a : Access) → Contains (task_number p t).accesses a → a.mode ≡ Redux → ⊥
   own-of_phase f phase t (inl (k, l, e)) a has redux =
       let at_k : get_or f.inits k 0 ≡ t = get_or_default f.inits k 0 t l ∙ e in
       let init : IsInit f.by (copy_of p f.cell (record { 0 = k })) (task_number p t) = subst (λ n. IsInit f.by (copy_of p f.cell (record { 0 = k })) (task_number p n)) at_k (phase.inits (record { 0 = k }) (omega (arith, l, phase.inits_by_worker))) in
@@ -139,7 +139,7 @@ module _ (p : Program) (proper : Proper p) where
       by_place (suc (suc j), m, is) = omega arith
 
   -- a task doesn't access a partial copy and contribute to its cell
-  not_both : (t : ℕ) (c d : Cell) (w : Worker) → IsCopyOf p c d w → (a b : Access) → Contains (task_number p t).accesses a → a.cell ≡ c → Contains (task_number p t).accesses b → b.mode ≡ Redux → ⊥
+  pub not_both : (t : ℕ) (c d : Cell) (w : Worker) → IsCopyOf p c d w → (a b : Access) → Contains (task_number p t).accesses a → a.cell ≡ c → Contains (task_number p t).accesses b → b.mode ≡ Redux → ⊥
   not_both t c d w copy a b ha is hb redux =
       let of_a : IsCopyOf p a.cell d w = subst (λ (q : Cell). IsCopyOf p q d w) (sym is) copy in
       let f = proper.phases.copies t a d w ha of_a in

@@ -6,12 +6,12 @@ use Rattle.std.proofs.lemmas.Option.{MatchOption-from_none}
 use Rattle.std.specs.Prelude.{All, IfSome, if◌then◌else◌}
 use Rattle.sj_core.proofs.Words.{Array, AtNode, Cell, CellState, Claimed, Done, Invalid, Machine, Node, OnDisk, Place, Program, Progress, Replica, Running, State, Task, Transfer, Valid, Worker, WorkerState, array_of, cell_state, cells_of, has_cell, is_coming_by, is_entry, is_leaving_by, is_task_of, is_valid, moves, node_of, order, pins, progress, replica, replica_in, same_cell, scratch, transfer, victims_of, worker_of, worker_state, writes, written_cells}
 use Rattle.sj_core.specs.Coherent.{Coherent, CopiesAgree, HasRows, IsOwnedBy, IsStateOf, WritersOwn, content, is_begun, is_being_written, written_content}
-use Rattle.sj_core.specs.Laws.{HasPlainModes, IsSound}
+use Rattle.sj_core.specs.Laws.{IsSound}
 use Rattle.sj_core.specs.Step.{Ends, result_at, rewritten_at, same_place}
 use Rattle.sj_core.proofs.Advancing.{Advances, Ends-advances, Ends-keeps_order}
 use Rattle.sj_core.proofs.CellLists.{times}
 use Rattle.sj_core.proofs.Changing.{Changes, Changes-coherent, Changes-writers, TransfersAreSound-spared, HasBlocks-kept, All-renewed, HasWorkers-kept}
-use Rattle.sj_core.proofs.Contents.{end-content-other, end-content-own}
+use Rattle.sj_core.proofs.Contents.{PutsLast, end-content-other, end-content-own}
 use Rattle.sj_core.proofs.Counting.{Ends-keeps_counts}
 use Rattle.sj_core.proofs.Dependencies.{Proper-dependencies}
 use Rattle.sj_core.proofs.Placing.{replica_in-cases, same_place-is, same_place-refl}
@@ -187,14 +187,14 @@ module _ (p : Program) (m : Machine) (s : State) (h : IsSound p m s) (t : Task) 
       released : {X : Type 0} (f : WorkerState → X) → {x : X} → f (record { pins = []; scratch = 0; victims = victims_of s w; transfer = transfer s w }) ≡ x → f idle_row ≡ x → f (worker_state s' w) ≡ x
       released f own none = elim (end-own_worker p m s t w s' ended) [ inl is ↦ ap f is ∙ own | inr is ↦ ap f is.1 ∙ none ]
 
-  -- ---- contents, in programs without REDUX and COMMUTE
+  -- ---- contents, where a task with which no later one conflicts may be put last
 
-  module _ (plain : HasPlainModes p) where
+  module _ (puts_last : PutsLast p) where
     end-moves : (v : Worker) (c : Cell) → moves s' v c ≡ moves s v c
     end-moves v c = ap (λ (o : Option Transfer). elim o as (λ _. Bool) [ None ↦ false | Some y ↦ same_cell y.cell c ]) (end-transfer p m s t w s' ended v)
 
     spared-content : (c : Cell) → has_cell (written_cells p t w) c ≡ false → content p s' c ≡ content p s c
-    spared-content c spared = end-content-other p m h.proper (Proper-dependencies p h.proper) plain s h.coherent t w s' ended c spared
+    spared-content c spared = end-content-other p m h.proper puts_last s h.coherent t w s' ended c spared
 
     end-writers : WritersOwn p m s'
     end-writers = Changes-writers p m s h s' t (Running w) (Done w) w end-change
@@ -208,7 +208,7 @@ module _ (p : Program) (m : Machine) (s : State) (h : IsSound p m s) (t : Task) 
 
     -- what the task wrote is valid on its worker's node with the new content, and nowhere else
     end-own : (c : Cell) → has_cell (written_cells p t w) c ≡ true → replica s' c (AtNode (node_of m w)) ≡ Valid (content p s' c)
-    end-own c written = (end-written c written).0 ∙ ap Valid (sym (end-content-own p m h.proper (Proper-dependencies p h.proper) plain s h.coherent t w s' ended c written))
+    end-own c written = (end-written c written).0 ∙ ap Valid (sym (end-content-own p m h.proper puts_last s h.coherent t w s' ended c written))
 
     end-alone : (c : Cell) (q : Place) → has_cell (written_cells p t w) c ≡ true → (replica s' c q ≡ Valid (content p s' c)) ⊎ (replica s' c q ≡ Invalid)
     end-alone c q written = elim (cases_Bool (same_place q (AtNode (node_of m w)))) [

@@ -1,24 +1,24 @@
 -- What a claimed or running task finds in the cells whose old value it reads; and which cells no running task writes, before and after a step.
 use Rattle.std.proofs.Common.{Bool, None, Option, Some, ap, arith, cond, false, get_or, inl, inr, length, not, refl, sym, true, ℕ, ◌&&◌, ◌<◌, ◌∙◌, ◌≡◌, ◌⊎◌, subst}
-use Rattle.std.proofs.lemmas.Bool.{and_parts, false_from_ne_true, false≢true, not-false}
+use Rattle.std.proofs.lemmas.Bool.{and_parts, false_from_ne_true, false≢true, not-false, not-true}
 use Rattle.std.proofs.lemmas.Bool.Decides.{Decides-eqb}
 use Rattle.std.proofs.lemmas.List.Elements.{All-contains}
 use Rattle.std.proofs.lemmas.List.Folds.{Any-from_list_any, list_any_at}
 use Rattle.std.proofs.lemmas.List.FromFn.{get_or-map-range_with_len, length-map-range_with_len}
 use Rattle.std.proofs.lemmas.List.Sums.{get_or-le-sum_by}
 use Rattle.std.specs.List.{Contains}
-use Rattle.std.specs.Prelude.{IfSome, IsTrue, count_by, if◌then◌else◌, is_some, unwrap_or}
-use Rattle.sj_core.proofs.Words.{Array, AtNode, Cell, Machine, Program, Progress, Replica, Running, State, Task, Worker, array_of, cells_of, data_operands, dims_of, done_by, fresh_cells, has_cell, is_running_on, is_task_of, is_valid, no_task, node_of, progress, replica, same_cell, task_of, tasks_of, worked_on, worker_of, writes, written_cells, zeros, Waiting}
+use Rattle.std.specs.Prelude.{IfSome, IsTrue, count_by, is_some, unwrap_or}
+use Rattle.sj_core.proofs.Words.{Array, Cell, Machine, Program, Progress, Running, State, Task, Worker, cells_of, copy_of, data_operands, done_by, fresh_cells, has_cell, is_running_on, is_task_of, no_task, progress, same_cell, task_of, tasks_of, worked_on, worker_of, writes, written_cells, Waiting}
 use Rattle.sj_base.specs.Mode.{is_redux, is_scratch, is_written, reads_value, starts_as_zeros}
 use Rattle.sj_base.specs.declared.mode.Access.{Access}
 use Rattle.sj_base.specs.declared.mode.Mode.{Mode}
 use Rattle.sj_base.specs.declared.mode.Mode.TheVariants.{R}
 use Rattle.sj_deps.specs.Conflict.{HasDependencies}
-use Rattle.sj_core.specs.Coherent.{Coherent, content, has_written, is_being_written, HasRows}
+use Rattle.sj_core.specs.Coherent.{Coherent, has_written, is_being_written, HasRows}
 use Rattle.sj_core.specs.Laws.{HasPlainModes}
 use Rattle.sj_core.specs.Proper.{HasValueBefore, Proper, gives_value}
-use Rattle.sj_core.specs.Step.{EarlierAreDone, array_at}
-use Rattle.sj_core.proofs.Advancing.{active-begun, running_on-is, same_task, task_of-active, task_of-worker, Advances}
+use Rattle.sj_core.specs.Step.{EarlierAreDone}
+use Rattle.sj_core.proofs.Advancing.{running_on-is, same_task, task_of-worker, Advances}
 use Rattle.sj_core.proofs.Folding.{read-among_cells}
 use Rattle.sj_core.proofs.Modes.{reads_isn't_scratch}
 use Rattle.sj_core.proofs.PlainModes.{conflicts, operand-inside, worked_on-plain}
@@ -78,23 +78,24 @@ not_being_written p m proper deps s sound t w c mine has spared = false_from_ne_
           | inr d ↦ separated p m proper.cells deps s sound.state sound.workers sound.order t u w (done_by s u) c (λ e. d (sym e)) mine (ap (is_task_of (done_by s u)) running ∙ same_worker-refl (done_by s u)) has writes
         ]
 
-module _ (p : Program) (m : Machine) (proper : Proper p) (deps : HasDependencies p) (plain : HasPlainModes p) where
-  -- a task that gives a cell a value writes it, whichever worker runs it
-  pub gives-writes : (u : Task) (v : Worker) (c : Cell) → gives_value (task_of p u) c ≡ true → has_cell (written_cells p u v) c ≡ true
-  gives-writes u v c h =
-      let gives : Access → Bool = λ a. is_written a.mode && not (is_redux a.mode) && same_cell a.cell c in
-      let given = Any-from_list_any gives (task_of p u).accesses h in
-      let b = given.1 in
-      let among : Contains (task_of p u).accesses b = (given.0, given.2, given.3) in
-      let tests = three (is_written b.mode) (not (is_redux b.mode)) (same_cell b.cell c) given.4 in
-      operand-has_cell (worked_on p v) (λ a. is_written a.mode) (task_of p u).accesses b c among tests.0 (ap (λ (q : Cell). same_cell q c) (worked_on-plain p plain u v b among) ∙ tests.2)
-    where
-      three : (x y z : Bool) → (x && y && z) ≡ true → (x ≡ true) × (y ≡ true) × (z ≡ true)
-      three true true true h = (refl, refl, refl)
-      three true true false h = absurd (false≢true h)
-      three true false z h = absurd (false≢true h)
-      three false y z h = absurd (false≢true h)
+-- a task that gives a cell a value writes it, whichever worker runs it
+pub gives-writes : (p : Program) (u : Task) (v : Worker) (c : Cell) → gives_value (task_of p u) c ≡ true → has_cell (written_cells p u v) c ≡ true
+gives-writes p u v c h =
+    let gives : Access → Bool = λ a. is_written a.mode && not (is_redux a.mode) && same_cell a.cell c in
+    let given = Any-from_list_any gives (task_of p u).accesses h in
+    let b = given.1 in
+    let among : Contains (task_of p u).accesses b = (given.0, given.2, given.3) in
+    let tests = three (is_written b.mode) (not (is_redux b.mode)) (same_cell b.cell c) given.4 in
+    let direct : worked_on p v b ≡ b.cell = ap (λ x. cond x (copy_of p b.cell v) b.cell) (not-true (is_redux b.mode) tests.1) in
+    operand-has_cell (worked_on p v) (λ a. is_written a.mode) (task_of p u).accesses b c among tests.0 (ap (λ (q : Cell). same_cell q c) direct ∙ tests.2)
+  where
+    three : (x y z : Bool) → (x && y && z) ≡ true → (x ≡ true) × (y ≡ true) × (z ≡ true)
+    three true true true h = (refl, refl, refl)
+    three true true false h = absurd (false≢true h)
+    three true false z h = absurd (false≢true h)
+    three false y z h = absurd (false≢true h)
 
+module _ (p : Program) (m : Machine) (proper : Proper p) (deps : HasDependencies p) (plain : HasPlainModes p) where
   -- an operand whose old value is read gives the task its cell
   pub read-cell : (t : Task) (w : Worker) (a : Access) → Contains (task_of p t).accesses a → starts_as_zeros a.mode ≡ false → has_cell (cells_of p t w) a.cell ≡ true
   read-cell t w a h reads = sym (ap (has_cell (cells_of p t w)) (worked_on-plain p plain t w a h)) ∙ read-among_cells p t w a h reads
@@ -132,30 +133,11 @@ module _ (p : Program) (m : Machine) (proper : Proper p) (deps : HasDependencies
         let value = All-contains (λ (b : Access). IsTrue (reads_value b.mode) → HasValueBefore p t b.cell) (task_of p t).accesses a (proper.values.cells t) h (not-false (reads_value a.mode) reads) in
         let u = value.0 in
         let v = done_by s u in
-        let writes_it = gives-writes u v a.cell value.2 in
+        let writes_it = gives-writes p u v a.cell value.2 in
         let done = earlier u value.1 (conflicts p plain deps t u v v a.cell (read-cell t v a h reads) writes_it).1 in
         let inside : u.0 < length p.tasks = omega (arith, operand-inside p t a h, value.1) in
         let counted = task-counted p (has_written p s a.cell) u inside (ap (λ b. b && has_cell (written_cells p u v) a.cell) done ∙ writes_it) in
         omega (arith, sound.counts.counted a.cell)
-
-    -- a task finds the content of each cell whose old value it reads
-    pub finds-content : (t : Task) (w : Worker) (a : Access) → is_task_of w (progress s t) ≡ true → Contains (task_of p t).accesses a → starts_as_zeros a.mode ≡ false → is_valid (replica s a.cell (AtNode (node_of m w))) ≡ true →
-        array_at p s (AtNode (node_of m w)) a.cell ≡ content p s a.cell
-    finds-content t w a mine h reads valid = by_kind (is_running_on w (progress s t)) refl (has_cell (written_cells p t w) a.cell) refl
-      where
-        shared : (progress s t ≡ Running w → has_cell (written_cells p t w) a.cell ≡ false) → array_at p s (AtNode (node_of m w)) a.cell ≡ content p s a.cell
-        shared spared =
-            let earlier = sound.order.earlier t (active-begun (progress s t) (task_of-active w (progress s t) mine)) in
-            let resting = not_being_written p m proper deps s sound t w a.cell mine (read-cell t w a h reads) spared in
-            array-told (array_of (replica s a.cell (AtNode (node_of m w)))) (content p s a.cell) (zeros (dims_of p a.cell)) valid (sound.copies.alike a.cell (AtNode (node_of m w)) (read-written t a earlier h reads) resting)
-
-        by_kind : (x : Bool) → is_running_on w (progress s t) ≡ x → (y : Bool) → has_cell (written_cells p t w) a.cell ≡ y → array_at p s (AtNode (node_of m w)) a.cell ≡ content p s a.cell
-        by_kind true e true f =
-            let owned = sound.writers.owned t w a.cell (running_on-is w (progress s t) e) f in
-            ap (λ (r : Replica). unwrap_or (array_of r) (zeros (dims_of p a.cell))) owned.valid
-            ∙ ap (λ b. if b then zeros (dims_of p a.cell) else content p s a.cell) (read-not_fresh t w a h reads)
-        by_kind true e false f = shared (λ k. f)
-        by_kind false e y f = shared (λ k. absurd (false≢true (sym e ∙ ap (is_running_on w) k ∙ same_worker-refl w)))
 
 -- ---- cells at rest
 

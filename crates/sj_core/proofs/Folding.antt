@@ -16,7 +16,7 @@ use Rattle.sj_core.proofs.Readiness.{Contains-from_filter}
 use Rattle.sj_core.proofs.Sharing.{operand-has_cell}
 use Rattle.sj_core.proofs.TaskCells.{written-among_cells}
 
-abbrev number : ℕ → Task
+abbrev pub number : ℕ → Task
 number n = record { 0 = n }
 
 -- ---- lists

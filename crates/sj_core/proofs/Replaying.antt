@@ -1,23 +1,23 @@
 -- Each step keeps coherence whole, and so does each legal trace; a complete one leaves what all tasks leave in submission order.
-use Rattle.std.proofs.Common.{List, [], ◌∷◌, subst}
+use Rattle.std.proofs.Common.{Bool, List, [], ◌∷◌, subst}
 use Rattle.sj_core.proofs.Words.{AtNode, Machine, OnDisk, Program, State, opening}
 use Rattle.sj_base.specs.declared.trace.Event.{Event}
 use Rattle.sj_base.specs.declared.trace.Event.TheVariants.{Claim, Move, Moved, Drop, Run, End}
+use Rattle.sj_codelet.specs.declared.kernel.Kernel.{Kernel}
 use Rattle.sj_core.specs.Step.{Step, mover_of}
 use Rattle.sj_core.specs.Legal.{Leads, Replays, IsComplete}
 use Rattle.sj_core.specs.Proper.{Proper, IsMachineFor}
 use Rattle.sj_core.specs.Coherent.{Coherent}
-use Rattle.sj_core.specs.Laws.{IsSound, HasPlainModes, HoldsFinal}
-use Rattle.sj_core.proofs.Dependencies.{Proper-dependencies}
+use Rattle.sj_core.specs.Laws.{IsLawful, IsSound, HoldsFinal}
 use Rattle.sj_core.proofs.Dropping.{Drops-keeps_coherence}
 use Rattle.sj_core.proofs.MovingIn.{Moves_in-keep_coherence}
 use Rattle.sj_core.proofs.MovingOut.{Moves_out-keep_coherence}
 use Rattle.sj_core.proofs.Arriving.{Ended_moves-keep_coherence}
-use Rattle.sj_core.proofs.Coherence.{Claims-keeps_coherence, Runs-keeps_coherence, Ends-keeps_coherence}
-use Rattle.sj_core.proofs.Delivering.{complete-final}
+use Rattle.sj_core.proofs.Coherence.{Claims-keeps_coherence, Runs-keeps_coherence, Lawful_ends-keep_coherence}
+use Rattle.sj_core.proofs.Given.{complete-final}
 use Rattle.sj_core.proofs.Opening.{opening-coherent}
 
-module _ (p : Program) (m : Machine) (proper : Proper p) (machine : IsMachineFor p m) (plain : HasPlainModes p) where
+module _ (p : Program) (m : Machine) (proper : Proper p) (machine : IsMachineFor p m) (has : Kernel → Bool) (lawful : IsLawful has p) where
   sound : (s : State) → Coherent p m s → IsSound p m s
   sound s c = record { proper = proper; machine = machine; coherent = c }
 
@@ -29,7 +29,7 @@ module _ (p : Program) (m : Machine) (proper : Proper p) (machine : IsMachineFor
   Step-keeps_coherence s (Moved x from to) s' c step = Ended_moves-keep_coherence p m s (sound s c) x from to (mover_of s x from to) s' step
   Step-keeps_coherence s (Drop x n) s' c step = Drops-keeps_coherence p m s (sound s c) x n s' step
   Step-keeps_coherence s (Run t w) s' c step = Runs-keeps_coherence p m s s' t w (sound s c) step
-  Step-keeps_coherence s (End t w) s' c step = Ends-keeps_coherence p m s s' t w (sound s c) plain step
+  Step-keeps_coherence s (End t w) s' c step = Lawful_ends-keep_coherence has p m s s' t w (sound s c) lawful step
 
   Leads-keeps_coherence : (trace : List Event) (s s' : State) → Coherent p m s → Leads p m s trace s' → Coherent p m s'
   Leads-keeps_coherence [] s s' c leads = subst (λ (z : State). Coherent p m z) leads c
@@ -41,4 +41,4 @@ module _ (p : Program) (m : Machine) (proper : Proper p) (machine : IsMachineFor
 
   -- where it is complete, the cells hold what all tasks leave in submission order
   pub Replays-final : (trace : List Event) (s : State) → Replays p m trace s → IsComplete s → HoldsFinal p s
-  Replays-final trace s replays complete = complete-final p m proper (Proper-dependencies p proper) plain s (Replays-coherent trace s replays) complete
+  Replays-final trace s replays complete = complete-final p m s (sound s (Replays-coherent trace s replays)) complete has lawful

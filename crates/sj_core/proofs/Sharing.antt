@@ -120,23 +120,31 @@ contribute_isn't_read e = cc
 commute_isn't_contribute : (k : Codelet) → Commute k ≡ Contribute → ⊥
 commute_isn't_contribute k e = cc
 
+-- two tasks use a cell that not both only read, by no one shared manner
+pub conflict-by : (p : Program) → HasDependencies p → (u t c : ℕ) (m n : Manner) → Uses p u c m → Uses p t c n → ¬ ((m ≡ Read) × (n ≡ Read)) → ((IsShared n → ⊥) ⊎ ((IsShared m → ⊥) ⊎ (m ≢ n))) → Conflict p u t
+conflict-by p deps u t c m n um tn written either = record { cell = c; manner_of_t = m; manner_of_u = n; first = um; second = tn; written = written; apart = apart either }
+  where
+    apart : ((IsShared n → ⊥) ⊎ ((IsShared m → ⊥) ⊎ (m ≢ n))) → (k : Manner) → ¬ SameGroup p u t c k
+    apart (inl alone) k g = alone (subst IsShared (sym (deps.manners t c n k tn g.second)) g.shared)
+    apart (inr (inl alone)) k g = alone (subst IsShared (sym (deps.manners u c m k um g.first)) g.shared)
+    apart (inr (inr differ)) k g = differ (deps.manners u c m k um g.first ∙ sym (deps.manners t c n k tn g.second))
+
+-- a conflict has no direction
+pub Conflict-sym : (p : Program) (u t : ℕ) → Conflict p u t → Conflict p t u
+Conflict-sym p u t h = record {
+  cell = h.cell;
+  manner_of_t = h.manner_of_u;
+  manner_of_u = h.manner_of_t;
+  first = h.second;
+  second = h.first;
+  written = λ both. h.written (both.1, both.0);
+  apart = λ k g. h.apart k (record { shared = g.shared; first = g.second; second = g.first; alike = λ v n between. g.alike v n (elim between [ inl b ↦ inr b | inr b ↦ inl b ]) });
+}
+
 module _ (p : Program) (names : NamesCells p) (deps : HasDependencies p) (u t : Task) (v w : Worker) (c : Cell) (u_in : u.0 < length p.tasks) (t_in : t.0 < length p.tasks) (v_in : v.0 < p.workers) (w_in : w.0 < p.workers) where
   -- where t's manner is no shared one, or u's, or they differ, the tasks conflict
   conflicting : (m n : Manner) → Uses p u.0 c.0 m → Uses p t.0 c.0 n → (n ≡ Read → ⊥) → ((IsShared n → ⊥) ⊎ ((IsShared m → ⊥) ⊎ (m ≢ n))) → Sharing p u t v w c
-  conflicting m n um tn writes apart =
-      Conflicting
-      (record { cell = c.0; manner_of_t = m; manner_of_u = n; first = um; second = tn; written = λ both. writes both.1; apart = forward apart })
-      (record { cell = c.0; manner_of_t = n; manner_of_u = m; first = tn; second = um; written = λ both. writes both.0; apart = backward apart })
-    where
-      forward : ((IsShared n → ⊥) ⊎ ((IsShared m → ⊥) ⊎ (m ≢ n))) → (k : Manner) → ¬ SameGroup p u.0 t.0 c.0 k
-      forward (inl alone) k g = alone (subst IsShared (sym (deps.manners t.0 c.0 n k tn g.second)) g.shared)
-      forward (inr (inl alone)) k g = alone (subst IsShared (sym (deps.manners u.0 c.0 m k um g.first)) g.shared)
-      forward (inr (inr differ)) k g = differ (deps.manners u.0 c.0 m k um g.first ∙ sym (deps.manners t.0 c.0 n k tn g.second))
-
-      backward : ((IsShared n → ⊥) ⊎ ((IsShared m → ⊥) ⊎ (m ≢ n))) → (k : Manner) → ¬ SameGroup p t.0 u.0 c.0 k
-      backward (inl alone) k g = alone (subst IsShared (sym (deps.manners t.0 c.0 n k tn g.first)) g.shared)
-      backward (inr (inl alone)) k g = alone (subst IsShared (sym (deps.manners u.0 c.0 m k um g.second)) g.shared)
-      backward (inr (inr differ)) k g = differ (deps.manners u.0 c.0 m k um g.second ∙ sym (deps.manners t.0 c.0 n k tn g.first))
+  conflicting m n um tn writes apart = let forward = conflict-by p deps u.0 t.0 c.0 m n um tn (λ both. writes both.1) apart in Conflicting forward (Conflict-sym p u.0 t.0 forward)
 
   -- the copies of two REDUX operands are one only where the worker is
   one_copy : (d e : Cell) → is_some (cell_info p d).partials ≡ true → is_some (cell_info p e).partials ≡ true → copy_of p d v ≡ c → copy_of p e w ≡ c → v ≡ w

@@ -1,6 +1,11 @@
 -- What the steps of a task keep: laws of all proper programs, machines and coherent states.
 use Rattle.sj_base.specs.declared.ids.Cell.{Cell}
-use Rattle.std.specs.Prelude.{◌≡◌, ◌<◌, Some, IsTrue, List, [], ◌∷◌, length, All, Contains, IfSome}
+use Rattle.std.specs.Prelude.{◌≡◌, ℕ, ◌<◌, ◌≤◌, Bool, false, true, FitsSigned, None, Some, IsTrue, List, [], ◌∷◌, length, All, Contains, IfSome}
+use Rattle.std.specs.Int.{w64}
+use Rattle.sj_base.specs.declared.program.Codelet.{Codelet}
+use Rattle.sj_codelet.specs.declared.kernel.Kernel.{Kernel}
+use Rattle.sj_codelet.specs.Kernel.{kernel_of}
+use Rattle.sj_codelet.specs.Laws.{CommutingCommute, ContributingContribute, ReductionsReduce}
 use Rattle.sj_base.specs.declared.ids.Task.{Task}
 use Rattle.sj_base.specs.declared.ids.Node.{Node}
 use Rattle.sj_base.specs.declared.ids.Worker.{Worker}
@@ -9,9 +14,9 @@ use Rattle.sj_base.specs.declared.ids.Place.{Place}
 use Rattle.sj_base.specs.declared.program.Program.{Program}
 use Rattle.sj_base.specs.declared.program.Machine.{Machine}
 use Rattle.sj_core.specs.Machine.{State, progress, replica, transfer, array_of, is_valid}
-use Rattle.sj_core.specs.Proper.{Proper, IsMachineFor, HasSwapFor, gives_value, access}
+use Rattle.sj_core.specs.Proper.{Proper, IsMachineFor, HasSwapFor, IsOpenAt, IsPhase, IsPlain, Phase, gives_value, access}
 use Rattle.sj_base.specs.Mode.{reads_value, is_in_order}
-use Rattle.sj_core.specs.Coherent.{Coherent}
+use Rattle.sj_core.specs.Coherent.{Coherent, content}
 use Rattle.sj_core.specs.Step.{Claims, BeginsMoveIn, BeginsMoveOut, EndsMove, Drops, Runs, Ends, Step, a_transfer, after, array_at, disk_of, mover_of}
 use Rattle.sj_base.specs.declared.mode.Mode.TheVariants.{R}
 use Rattle.sj_base.specs.declared.mode.Access.{Access}
@@ -21,7 +26,8 @@ use Rattle.sj_base.specs.Array.{Array}
 use Rattle.sj_core.specs.declared.progress.Progress.TheVariants.{Claimed, Running}
 use Rattle.sj_core.specs.Program.{task_of}
 use Rattle.sj_core.specs.Needs.{node_of}
-use Rattle.sj_core.specs.Fold.{held_before, given}
+use Rattle.sj_core.specs.Operands.{worked_on}
+use Rattle.sj_core.specs.Fold.{after_chosen, held_in, held_before, given}
 use Rattle.sj_core.specs.Legal.{Replays, IsComplete, state_of}
 
 -- a coherent state of a proper program on a machine for it
@@ -58,15 +64,29 @@ IsKeptByEndedMoves Fact = (p : Program) (m : Machine) (s s' : State) (c : Cell) 
 abbrev pub IsKeptByDrops : (Program → Machine → State → Type 0) → Type 0
 IsKeptByDrops Fact = (p : Program) (m : Machine) (s s' : State) (c : Cell) (n : Node) → IsSound p m s → Drops m s c n s' → Fact p m s'
 
+-- ---- the set of a program's codelets
+
+-- a set that has these codelets has the one of this id
+abbrev pub is_known : (Kernel → Bool) → Codelet → Bool
+is_known has id = elim (kernel_of id) [ None ↦ false | Some kernel ↦ has kernel ]
+
+-- the set has each codelet of the program and obeys the laws of a set; and each argument of a task is an i64
+pub record IsLawful (has : Kernel → Bool) (p : Program) : Type 0 where
+  pub known : All (λ l. IsTrue (is_known has l.codelet)) p.tasks
+  pub arguments : All (λ l. All (FitsSigned w64) l.args) p.tasks
+  pub commuting : CommutingCommute has
+  pub contributing : ContributingContribute has
+  pub reducing : ReductionsReduce has
+
+-- the fact holds after each end in a coherent state, by the laws of the program's set
+abbrev pub IsKeptByLawfulEnds : (Program → Machine → State → Type 0) → Type 0
+IsKeptByLawfulEnds Fact = (has : Kernel → Bool) (p : Program) (m : Machine) (s s' : State) (t : Task) (w : Worker) → IsSound p m s → IsLawful has p → Ends p m s t w s' → Fact p m s'
+
 -- ---- programs whose accesses are all in order
 
 -- no task has a REDUX or a COMMUTE access
 pub record HasPlainModes (p : Program) : Type 0 where
   pub modes : (t : Task) → All (λ a. IsTrue (is_in_order a.mode)) (task_of p t).accesses
-
--- the fact holds after each end in a coherent state of a program with such accesses alone
-abbrev pub IsKeptByPlainEnds : (Program → Machine → State → Type 0) → Type 0
-IsKeptByPlainEnds Fact = (p : Program) (m : Machine) (s s' : State) (t : Task) (w : Worker) → IsSound p m s → HasPlainModes p → Ends p m s t w s' → Fact p m s'
 
 -- ---- what a task finds
 
@@ -75,13 +95,26 @@ pub data HasAtHand (m : Machine) (s : State) (t : Task) (w : Worker) (c : Cell) 
   Works : progress s t ≡ Running w → HasAtHand m s t w c
   Brought : progress s t ≡ Claimed w → IsTrue (is_valid (replica s c (AtNode (node_of m w)))) → HasAtHand m s t w c
 
--- each operand whose old value a task reads has on its worker's node the array that its cell holds after all tasks before it
+-- each operand whose old value a task reads has on its worker's node what the tasks that are done leave in the cell that is worked on
+abbrev pub FindsContent : Type 0
+FindsContent = (p : Program) (m : Machine) (s : State) (t : Task) (w : Worker) (a : Access) → IsSound p m s → Contains (task_of p t).accesses a → IsTrue (reads_value a.mode) → HasAtHand m s t w (worked_on p w a) → array_at p s (AtNode (node_of m w)) (worked_on p w a) ≡ content p s (worked_on p w a)
+
+-- the cell is no partial copy, and no phase of it is open at the task of this number
+pub record IsSettled (p : Program) (n : ℕ) (c : Cell) : Type 0 where
+  pub plain : IsPlain p c
+  pub closed : (f : Phase) → IsPhase p f → f.cell ≡ c → ¬ IsOpenAt f n
+
+-- and where such an operand stands in the order of tasks, that is the array that its cell holds after all tasks before
 abbrev pub FindsEarlierTasks : Type 0
-FindsEarlierTasks = (p : Program) (m : Machine) (s : State) (t : Task) (w : Worker) (a : Access) → IsSound p m s → HasPlainModes p → Contains (task_of p t).accesses a → IsTrue (reads_value a.mode) → HasAtHand m s t w a.cell → array_at p s (AtNode (node_of m w)) a.cell ≡ held_before p t.0 a.cell
+FindsEarlierTasks = (has : Kernel → Bool) (p : Program) (m : Machine) (s : State) (t : Task) (w : Worker) (a : Access) → IsSound p m s → IsLawful has p → Contains (task_of p t).accesses a → IsTrue (reads_value a.mode) → IsTrue (is_in_order a.mode) → IsSettled p t.0 a.cell → HasAtHand m s t w a.cell → array_at p s (AtNode (node_of m w)) a.cell ≡ held_before p t.0 a.cell
 
 -- a task that reads one cell and does nothing else has on its worker's node the array that it hands over
 abbrev pub DeliversGiven : Type 0
-DeliversGiven = (p : Program) (m : Machine) (s : State) (t : Task) (w : Worker) (c : Cell) → IsSound p m s → HasPlainModes p → (task_of p t).accesses ≡ access R c ∷ [] → HasAtHand m s t w c → array_at p s (AtNode (node_of m w)) c ≡ given p t
+DeliversGiven = (has : Kernel → Bool) (p : Program) (m : Machine) (s : State) (t : Task) (w : Worker) (c : Cell) → IsSound p m s → IsLawful has p → (task_of p t).accesses ≡ access R c ∷ [] → HasAtHand m s t w c → array_at p s (AtNode (node_of m w)) c ≡ given p t
+
+-- what such a cell holds after all tasks below n doesn't depend on the workers of contributions
+abbrev pub TakesAnyWorker : Type 0
+TakesAnyWorker = (has : Kernel → Bool) (p : Program) (n : ℕ) (c : Cell) (by : Task → Worker) → Proper p → IsLawful has p → n ≤ length p.tasks → IsSettled p n c → 0 < p.workers → ((u : Task) → (by u).0 < p.workers) → held_in p (after_chosen p (λ u. true) by n) c ≡ held_before p n c
 
 -- ---- whole traces
 
@@ -109,19 +142,19 @@ DisksAreOfMachine = (p : Program) (m : Machine) (c : Cell) (d : DiskNo) → disk
 abbrev pub final : Program → Cell → Array
 final p c = held_before p (length p.tasks) c
 
--- each cell to which a task gives a value has a valid replica, and each holds what all tasks leave
+-- each cell to which a task gives a value has a valid replica, and each holds what all tasks leave, unless the cell is a partial copy
 pub record HoldsFinal (p : Program) (s : State) : Type 0 where
   pub somewhere : (t : Task) (c : Cell) → IsTrue (gives_value (task_of p t) c) → (q : Place) × IsTrue (is_valid (replica s c q))
-  pub alike : (t : Task) (c : Cell) (q : Place) → IsTrue (gives_value (task_of p t) c) → IfSome (array_of (replica s c q)) (λ a. a ≡ final p c)
+  pub alike : (t : Task) (c : Cell) (q : Place) → IsTrue (gives_value (task_of p t) c) → IsPlain p c → IfSome (array_of (replica s c q)) (λ a. a ≡ final p c)
 
 -- it is so where all tasks are done
 abbrev pub CompleteHoldsFinal : Type 0
-CompleteHoldsFinal = (p : Program) (m : Machine) (s : State) → IsSound p m s → HasPlainModes p → IsComplete s → HoldsFinal p s
+CompleteHoldsFinal = (has : Kernel → Bool) (p : Program) (m : Machine) (s : State) → IsSound p m s → IsLawful has p → IsComplete s → HoldsFinal p s
 
--- each legal trace of a proper program with such accesses alone leaves a coherent state
+-- each legal trace of a proper program leaves a coherent state, by the laws of its set
 abbrev pub TracesKeepCoherence : Type 0
-TracesKeepCoherence = (p : Program) (m : Machine) (s : State) (trace : List Event) → Proper p → IsMachineFor p m → HasPlainModes p → Replays p m trace s → Coherent p m s
+TracesKeepCoherence = (has : Kernel → Bool) (p : Program) (m : Machine) (s : State) (trace : List Event) → Proper p → IsMachineFor p m → IsLawful has p → Replays p m trace s → Coherent p m s
 
 -- and where it is complete, that state holds what all tasks leave
 abbrev pub CompleteTracesHoldFinal : Type 0
-CompleteTracesHoldFinal = (p : Program) (m : Machine) (s : State) (trace : List Event) → Proper p → IsMachineFor p m → HasPlainModes p → Replays p m trace s → IsComplete s → HoldsFinal p s
+CompleteTracesHoldFinal = (has : Kernel → Bool) (p : Program) (m : Machine) (s : State) (trace : List Event) → Proper p → IsMachineFor p m → IsLawful has p → Replays p m trace s → IsComplete s → HoldsFinal p s

@@ -7,7 +7,7 @@ ghost use Rattle.sj_base.specs.declared.program.Program.{Program};
 ghost use Rattle.sj_base.specs.declared.program.Machine.{Machine};
 ghost use Rattle.sj_core.specs.Bound.{HasAtMostThreePerTask, is_of_task};
 ghost use Rattle.sj_core.specs.Coherent.{Coherent, IsStateOf, NodesSuffice, OrderIsKept, PinsHold, TasksHaveCells, TransfersAreSound, WorkersAreSound, WritesAreCounted};
-ghost use Rattle.sj_core.specs.Laws.{CompleteHoldsFinal, CompleteTracesHoldFinal, DeliversGiven, DisksAreOfMachine, EachCellHasDisk, FindsEarlierTasks, IsKeptByClaims, IsKeptByDrops, IsKeptByEndedMoves, IsKeptByEnds, IsKeptByMovesIn, IsKeptByMovesOut, IsKeptByPlainEnds, IsKeptByRuns, MovesHaveOneWorker, StepsLeaveOneState, TracesKeepCoherence, TracesLeaveOneState};
+ghost use Rattle.sj_core.specs.Laws.{CompleteHoldsFinal, CompleteTracesHoldFinal, DeliversGiven, DisksAreOfMachine, EachCellHasDisk, FindsContent, FindsEarlierTasks, IsKeptByClaims, IsKeptByDrops, IsKeptByEndedMoves, IsKeptByEnds, IsKeptByLawfulEnds, IsKeptByMovesIn, IsKeptByMovesOut, IsKeptByRuns, MovesHaveOneWorker, StepsLeaveOneState, TakesAnyWorker, TracesKeepCoherence, TracesLeaveOneState};
 ghost use Rattle.sj_core.specs.Legal.{IsFinished, IsLegal};
 ghost use Rattle.sj_core.specs.Machine.{opening};
 ghost use Rattle.sj_core.specs.Once.{EachRanOnce};
@@ -34,7 +34,7 @@ pub fn runs()
     ensures { IsKeptByRuns Coherent }
 {}
 
-/// What the end of a kernel's run keeps of every program; of one without REDUX and COMMUTE it leaves a coherent state.
+/// The end of a kernel's run leaves a coherent state, by the laws of the program's set. Eight of its ten facts need no law.
 pub fn ends()
     ensures order_is_kept { IsKeptByEnds (λ p m s. OrderIsKept p s) }
     ensures workers_are_sound { IsKeptByEnds WorkersAreSound }
@@ -44,7 +44,7 @@ pub fn ends()
     ensures writes_are_counted { IsKeptByEnds (λ p m s. WritesAreCounted p s) }
     ensures is_a_state { IsKeptByEnds IsStateOf }
     ensures nodes_suffice { IsKeptByEnds NodesSuffice }
-    ensures coherent { IsKeptByPlainEnds Coherent }
+    ensures coherent { IsKeptByLawfulEnds Coherent }
 {}
 
 /// The beginning of a move into a node leaves a coherent state.
@@ -67,10 +67,13 @@ pub fn drops()
     ensures { IsKeptByDrops Coherent }
 {}
 
-/// What a task finds on its worker's node: what all tasks before it, in submission order, have left in its cells.
+/// What a task finds on its worker's node: what the tasks that are done leave in its cells; and in a cell that no phase holds open what all
+/// tasks before it leave, in submission order, whatever the workers of contributions and the order of commuting tasks.
 pub fn deliveries()
+    ensures finds_content { FindsContent }
     ensures finds_earlier_tasks { FindsEarlierTasks }
     ensures delivers_given { DeliversGiven }
+    ensures takes_any_worker { TakesAnyWorker }
 {}
 
 /// What the cells hold where all tasks are done: what the tasks leave one after another in submission order.

@@ -8,6 +8,7 @@ ghost use Rattle.sj_job.specs.State.{plan_with};
 
 use crate::form::{InitForm, Piece, Size};
 use crate::job::Init;
+use crate::line::Words;
 use crate::word::{count_of, integer_of};
 use sj_base::memory::OutOfMemory;
 use sj_base::sequence::Sequence;
@@ -77,6 +78,23 @@ pub fn integers(alloc: Global, words: &[&[u8]]) -> Result<Option<Sequence<i64>>,
     Ok(Some(Sequence::of(values)))
 }
 
+/// The integers that the words of a line say, or `None` where one says none. Linear in the words.
+fn values_of(alloc: Global, words: &Words<'_>) -> Result<Option<Sequence<i64>>, OutOfMemory>
+    ensures { IfOk result (λ r. MatchOption r (list_all is_integer words.now ≡ false)
+        (λ zs. (list_all is_integer words.now ≡ true) × (zs ≡ map integer words.now))) }
+{
+    let mut values = Vec::new(alloc);
+    let mut rest = words.again();
+    while let Some((word, behind)) = rest.split_first() {
+        match integer_of(word) {
+            Some(value) => values.push(value)?,
+            None => return Ok(None),
+        }
+        rest = behind;
+    }
+    Ok(Some(Sequence::of(values)))
+}
+
 /// Rows and columns, or `None` where a word says no count. Linear in the words.
 pub fn size_of(size: &Size<'_>) -> Option<(u64, u64)>
     ensures { MatchOption result (is_numbered_size size.now ≡ false)
@@ -95,7 +113,7 @@ pub fn init_of(alloc: Global, init: &InitForm<'_>) -> Result<Option<Init>, OutOf
         (λ said. (is_numbered_init init.now ≡ true) × (said ≡ init_said init.now))) }
 {
     match init {
-        InitForm::Values(values) => Ok(integers(alloc, values.items())?.map(Init::Values)),
+        InitForm::Values(values) => Ok(values_of(alloc, values)?.map(Init::Values)),
         InitForm::Fill(a, b) => Ok(fill_of(a, b)),
         InitForm::Nothing => Ok(Some(Init::Nothing)),
     }

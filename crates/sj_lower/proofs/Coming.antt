@@ -73,7 +73,7 @@ pub with-tasks : (T : Table) (g : Progress) (s : Kept) (S : State) (L : Lowering
 with-tasks T g s S L k e c count =
     let C = cells_after (act_seen T L.cells.roots s.act) L.cells in
     let more : k ≡ length (rows_of S C s.line (act_seen T L.cells.roots s.act)) =
-        subst (λ (n : ℕ). k ≡ length (rows_of S C s.line (act_seen T n s.act))) (same_roots T g s S L e c) (count S L C s.line (is-next T g s S L e c)) in
+    subst (λ (n : ℕ). k ≡ length (rows_of S C s.line (act_seen T n s.act))) (same_roots T g s S L e c) (count S L C s.line (is-next T g s S L e c)) in
     omega (arith, length-append L.tasks (rows_of S C s.line (act_seen T L.cells.roots s.act)), more, g.lowerer.tasks.ok, ap length (c.at.follows e).tasks)
 
 -- tasks so far are within the limit

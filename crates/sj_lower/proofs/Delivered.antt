@@ -302,18 +302,18 @@ delivered_print T p L M S out line name r root t named dims there ed ep et g = r
   counted = ep ∙ ap (λ n. n + 1) g.counted ∙ sym more_out;
   printed = subst (λ (ds : List Delivery). All (λ (d : Delivery). d.print < length (out ++ x ∷ [])) ds) (sym ed)
       (All-append (λ (d : Delivery). d.print < length (out ++ x ∷ [])) L.deliveries news (All-weaker (λ (d : Delivery). d.print < length out) (λ (d : Delivery). d.print < length (out ++ x ∷ [])) (λ d h. omega (arith, more_out)) L.deliveries g.printed)
-          (from_places (λ (d : Delivery). d.print < length (out ++ x ∷ [])) (λ place h. omega (arith, more_out, g.counted))));
+      (from_places (λ (d : Delivery). d.print < length (out ++ x ∷ [])) (λ place h. omega (arith, more_out, g.counted))));
   in_order = subst (λ (ds : List Delivery). AllPairs (λ (d e : Delivery). d.print ≤ e.print) ds) (sym ed)
       (pairs-append (λ (d e : Delivery). d.print ≤ e.print) L.deliveries news g.in_order same_print
-          (each-all (λ (d : Delivery). d.print < length out) (λ (d : Delivery). AllByRecursion (λ (e : Delivery). d.print ≤ e.print) news) (λ d h. all_places (λ (e : Delivery). d.print ≤ e.print) r n root L.prints (λ place at. omega (arith, h, g.counted))) L.deliveries (recursion_from_All (λ (d : Delivery). d.print < length out) L.deliveries g.printed)));
+      (each-all (λ (d : Delivery). d.print < length out) (λ (d : Delivery). AllByRecursion (λ (e : Delivery). d.print ≤ e.print) news) (λ d h. all_places (λ (e : Delivery). d.print ≤ e.print) r n root L.prints (λ place at. omega (arith, h, g.counted))) L.deliveries (recursion_from_All (λ (d : Delivery). d.print < length out) L.deliveries g.printed)));
   rooted = subst (λ (ds : List Delivery). All (λ (d : Delivery). d.root.0 < length T.names) ds) (sym ed)
       (All-append (λ (d : Delivery). d.root.0 < length T.names) L.deliveries news g.rooted (from_places (λ (d : Delivery). d.root.0 < length T.names) (λ place h. there)));
   below = subst (λ (ds : List Delivery). All (λ (d : Delivery). d.task.0 < length M.tasks) ds) (sym ed)
       (All-append (λ (d : Delivery). d.task.0 < length M.tasks) L.deliveries news (All-weaker (λ (d : Delivery). d.task.0 < n) (λ (d : Delivery). d.task.0 < length M.tasks) (λ d h. omega (arith, et)) L.deliveries g.below)
-          (from_places (λ (d : Delivery). d.task.0 < length M.tasks) (λ place h. omega (arith, et, number-below r.parts place h))));
+      (from_places (λ (d : Delivery). d.task.0 < length M.tasks) (λ place h. omega (arith, et, number-below r.parts place h))));
   ascending = subst (λ (ds : List Delivery). AllPairs (λ (d e : Delivery). d.task.0 < e.task.0) ds) (sym ed)
       (pairs-append (λ (d e : Delivery). d.task.0 < e.task.0) L.deliveries news g.ascending rising
-          (each-all (λ (d : Delivery). d.task.0 < n) (λ (d : Delivery). AllByRecursion (λ (e : Delivery). d.task.0 < e.task.0) news) (λ d h. all_places (λ (e : Delivery). d.task.0 < e.task.0) r n root L.prints (λ place at. omega (arith, h))) L.deliveries (recursion_from_All (λ (d : Delivery). d.task.0 < n) L.deliveries g.below)));
+      (each-all (λ (d : Delivery). d.task.0 < n) (λ (d : Delivery). AllByRecursion (λ (e : Delivery). d.task.0 < e.task.0) news) (λ d h. all_places (λ (e : Delivery). d.task.0 < e.task.0) r n root L.prints (λ place at. omega (arith, h))) L.deliveries (recursion_from_All (λ (d : Delivery). d.task.0 < n) L.deliveries g.below)));
   delivers = subst (λ (ds : List Delivery). All (λ (d : Delivery). Delivers p d.task.0) ds) (sym ed)
       (All-append (λ (d : Delivery). Delivers p d.task.0) L.deliveries news g.delivers (from_places (λ (d : Delivery). Delivers p d.task.0) (λ place h. ap (λ (l : Lowered). kernel_of l.codelet) (child_task p L.cells S name r n line place t h))));
   once = λ m h e. ap (count_by (λ (d : Delivery). nat_eq d.task.0 m)) ed ∙ sum_by-append (λ (d : Delivery). cond (nat_eq d.task.0 m) 1 0) L.deliveries news ∙ both m h e (cases_lt m n);

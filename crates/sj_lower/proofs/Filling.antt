@@ -54,7 +54,9 @@ rows-filled p row cell x s k puts own =
       record {
         value = ap (λ (n : Contents). held_in p n (cell place)) (puts place inside k) ∙ held-same p (cell place) (x place) k;
         others = λ d beside. ap (λ (n : Contents). held_in p n d) (puts place inside k) ∙ held-other p (cell place) (x place) k d beside;
-      }, tt)) tt own)
+      },
+      tt,
+    )) tt own)
 
 -- each of the cells gets a value
 pub rows-give : (row : ℕ × ℕ → Lowered) (s : Parts) (place : ℕ × ℕ) (c : Cell) → IsPlace s place → gives_value (row place) c ≡ true → one_gives (each_of row (places s)) c ≡ true

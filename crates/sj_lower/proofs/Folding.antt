@@ -33,8 +33,7 @@ stand-there p xs [] more e = tt
 stand-there p xs (l ∷ ls) more e =
     let split : p.tasks ≡ ((xs ++ l ∷ []) ++ ls) ++ more = e ∙ ap (λ ys. ys ++ more) (sym (append_assoc xs (l ∷ []) ls)) in
     let longer : length (xs ++ l ∷ []) ≡ length xs + 1 = length-append xs (l ∷ []) in
-    let whole : length p.tasks ≡ length (((xs ++ l ∷ []) ++ ls) ++ more) = ap length split in
-    (
+    let whole : length p.tasks ≡ length (((xs ++ l ∷ []) ++ ls) ++ more) = ap length split in (
       at_seam p.tasks xs (ls ++ more) l no_task (split ∙ append_assoc (xs ++ l ∷ []) ls more),
       omega (arith, whole, length-append ((xs ++ l ∷ []) ++ ls) more, length-append (xs ++ l ∷ []) ls, longer),
       subst (λ (n : ℕ). Stand p n ls) longer (stand-there p (xs ++ l ∷ []) ls more split),

@@ -324,8 +324,8 @@ does-invalidate T old new r line et ed ep ea S L next place =
       prints = ep ∙ next.follows.prints;
       actives = subst (λ (as' : List Active). AreActive T L.cells as' (invalidate (name_of T r) S)) (sym ea)
           (changed-actives T L.cells L.cells old.actives.items S r.0 empty k.root (record { tracked = even a.tracked.parts false; first = a.first }) next.follows.actives next.placed next.distinct next.few refl (λ q d s g t. t) k.is_root
-              (record { dims = k.active.dims; tracks = tracks-invalidated a.tracked k.root k.active.tracks; handle = k.active.handle; named = k.active.named; taken = k.active.taken; room = k.active.room })
-              (invalidate (name_of T r) S) (λ q. root-change empty (name_of T r) S k.root q k.is_root));
+          (record { dims = k.active.dims; tracks = tracks-invalidated a.tracked k.root k.active.tracks; handle = k.active.handle; named = k.active.named; taken = k.active.taken; room = k.active.room })
+          (invalidate (name_of T r) S) (λ q. root-change empty (name_of T r) S k.root q k.is_root));
     }
 
 pub does-unregister : (T : Table) (l : Lowerer) (r : RootNumber) (line : Line) → Does T l l (kept.Unregister r) 0 line

@@ -133,8 +133,8 @@ going-full T g whole rest s (TooManyCells line) table w full =
     let S = apply (act_seen T n s.act) w.state in
     let L = lower_one w.state (statement_seen T n s) w.so_far in
     let first : first_above cells_in start nothing (seen_from T 0 whole) ≡ Some line =
-        w.late_cells ∙ too_many (cells_in L) (Some s.line) (first_above cells_in S L (seen_from T (count_after n s.act) rest)) (full.1 w.state w.so_far (going-coming T g whole rest s table w))
-        ∙ ap Some (sym full.0) in
+    w.late_cells ∙ too_many (cells_in L) (Some s.line) (first_above cells_in S L (seen_from T (count_after n s.act) rest)) (full.1 w.state w.so_far (going-coming T g whole rest s table w))
+    ∙ ap Some (sym full.0) in
     ap (λ o. late_cells o (late_tasks (first_above tasks_in start nothing (seen_from T 0 whole)))) first
 
 -- nothing is left

@@ -189,14 +189,14 @@ laid_new C name p h there none fit a = record {
     | New eq ep ed ef er ↦ elim (old_or_new C name p h there u e t g l) as (λ _. (q ≡ u) × (s ≡ t) × (place ≡ other)) [
       | Old n es ↦ absurd (omega (arith, ef, same, a.inside u e t g n, number-below t other ho))
       | New eq2 ep2 ed2 ef2 er2 ↦ (let st : s ≡ t = sym ep ∙ ep2 in
-        (sym eq ∙ eq2, st, number-apart s place other hp (subst (λ (x : Parts). IsPlace x other) (sym st) ho) (equal f g (length C.rows) (number s place) (number t other) ef ef2 same ∙ ap (λ (x : Parts). number x other) (sym st))))
+          (sym eq ∙ eq2, st, number-apart s place other hp (subst (λ (x : Parts). IsPlace x other) (sym st) ho) (equal f g (length C.rows) (number s place) (number t other) ef ef2 same ∙ ap (λ (x : Parts). number x other) (sym st))))
     ]
   ];
   sized = λ q i e. by_test q i (bytes_eq name q) e;
   small = All-append (λ (i : CellInfo). (i.partials ≡ None) × (area i.dims ≤ 2 ^ 24)) C.rows (each_of (child_cell h.root h.dims p) (places p)) a.small
       (All-from_recursion (λ (i : CellInfo). (i.partials ≡ None) × (area i.dims ≤ 2 ^ 24)) (each_of (child_cell h.root h.dims p) (places p))
-          (each-map (λ (i : CellInfo). (i.partials ≡ None) × (area i.dims ≤ 2 ^ 24)) (child_cell h.root h.dims p) (places p)
-              (each-places (λ place. (None ≡ None) × (area (dims_of (child h.dims p place)) ≤ 2 ^ 24)) p (λ place hp. (refl, omega (arith, child_area h.dims p place hp, a.sized name h there))))));
+      (each-map (λ (i : CellInfo). (i.partials ≡ None) × (area i.dims ≤ 2 ^ 24)) (child_cell h.root h.dims p) (places p)
+      (each-places (λ place. (None ≡ None) × (area (dims_of (child h.dims p place)) ≤ 2 ^ 24)) p (λ place hp. (refl, omega (arith, child_area h.dims p place hp, a.sized name h there))))));
 }
   where
     past : (f n m : ℕ) → f ≡ n → (f + m) - n ≡ m
@@ -249,12 +249,15 @@ pub take-takes : (C : Cells) (name : List ℕ) (p : Parts) (h : Handle) → C.ha
 take-takes C name p h there =
     subst (λ (D : Cells). (f : ℕ) × IsTaken D name h.dims p f) (sym (take-by C name p h there)) (by_first C name p h (λ (D : Cells). (f : ℕ) × IsTaken D name h.dims p f)
     (λ f e. (f, record { handle = h; is = there; dims = refl; first = e }))
-    (λ e. (length C.rows, record {
-      handle = taking p (length C.rows) h;
-      is = ap (λ b. cond b (Some (taking p (length C.rows) h)) (C.handles name)) (bytes_eq-itself name);
-      dims = refl;
-      first = ap (λ b. cond b (Some (length C.rows)) (h.first p)) (parts-itself p);
-    })))
+    (λ e. (
+      length C.rows,
+      record {
+        handle = taking p (length C.rows) h;
+        is = ap (λ b. cond b (Some (taking p (length C.rows) h)) (C.handles name)) (bytes_eq-itself name);
+        dims = refl;
+        first = ap (λ b. cond b (Some (length C.rows)) (h.first p)) (parts-itself p);
+      },
+    )))
 
 -- cells are only added
 pub take-grows : (C : Cells) (name : List ℕ) (p : Parts) → (more : List CellInfo) × ((take name p C).rows ≡ C.rows ++ more)

@@ -74,8 +74,7 @@ pub lays_new : (T : Table) (old new : Layout) (C : Cells) (r : Root) (d : Dims) 
     → Lays T new (take (name_of T r) p C) × (first_cell (take (name_of T r) p C) (name_of T r) p ≡ first) × (first + children_count p ≤ length (take (name_of T r) p C).rows)
 lays_new T old new C r d p first s inside distinct few dims none rows firsts roots number =
     let whole = news T old C r p s inside none in
-    let one = number ∙ ap length s.rows in
-    (
+    let one = number ∙ ap length s.rows in (
       subst (Lays T new) (sym whole) (record {
         rows = rows ∙ (λ i. s.rows i ++ each_of (rect_cell r) (children_of (sym dims i) p)) ∙ ap (λ is. C.rows ++ is) (map-map (rect_cell r) (child (info_of T r).dims p) (places p));
         roots = roots ∙ s.roots;
@@ -84,9 +83,9 @@ lays_new T old new C r d p first s inside distinct few dims none rows firsts roo
         fresh = λ m q past. sym (there m (λ same. omega (arith, same, past, inside)) q) ∙ s.fresh m q past;
       }),
       ap (λ (D : Cells). first_cell D (name_of T r) p) whole
-      ∙ ap (λ b. elim (cond b (Some (taking p (length C.rows) (handle_in T old r.0))) (C.handles (name_of T r))) as (λ _. ℕ) [ None ↦ 0 | Some h ↦ unwrap_or (h.first p) 0 ]) (bytes_eq-itself (name_of T r))
-      ∙ ap (λ b. unwrap_or (cond b (Some (length C.rows)) (get same_taken old.firsts (taken r.0 p))) 0) (both (nat_eq p.r p.r) (nat_eq p.c p.c) (equal p.r) (equal p.c))
-      ∙ sym one,
+          ∙ ap (λ b. elim (cond b (Some (taking p (length C.rows) (handle_in T old r.0))) (C.handles (name_of T r))) as (λ _. ℕ) [ None ↦ 0 | Some h ↦ unwrap_or (h.first p) 0 ]) (bytes_eq-itself (name_of T r))
+          ∙ ap (λ b. unwrap_or (cond b (Some (length C.rows)) (get same_taken old.firsts (taken r.0 p))) 0) (both (nat_eq p.r p.r) (nat_eq p.c p.c) (equal p.r) (equal p.c))
+          ∙ sym one,
       subst (λ (D : Cells). first + children_count p ≤ length D.rows) (sym whole) (omega (arith, one, longer)),
     )
   where

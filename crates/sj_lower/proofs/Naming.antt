@@ -188,8 +188,7 @@ names_act T n C S (kept.Print r) d few placed t = λ h root there is.
     let number : h.root ≡ r = sym (ap (λ (h : Handle). h.root) same) ∙ own.2.root in
     let k = t.knows (name_of T r) root is in
     let one : k.number ≡ r.0 = d k.number r.0 (omega (arith, k.below, few)) (omega (arith, placed, few)) k.named in
-    let kind : (info_of T r).kind ≡ root.kind = ap (λ m. (info_of T (a_root m)).kind) (sym one) ∙ k.kind in
-    (
+    let kind : (info_of T r).kind ≡ root.kind = ap (λ m. (info_of T (a_root m)).kind) (sym one) ∙ k.kind in (
       ap (printed_as T) number ∙ (λ i. (name_of T r, kind i)),
       ap (λ (x : RootNumber). (info_of T x).dims) number ∙ sym own.2.dims ∙ ap (λ (h : Handle). h.dims) same,
       subst (λ (x : RootNumber). x.0 < length T.names) (sym number) (omega (arith, placed, few)),
@@ -202,9 +201,10 @@ names-all T n L S [] d few placed t = tt
 names-all T n L S (s ∷ ss) d few placed t =
     let m = count_after n s.act in
     let here = counts-grow m ss in
-    let before = count-grows n s.act in
-    (names_act T n L.cells S s.act d (omega (arith, few, here, before)) placed.0 t,
-    names-all T m (lower_one S (statement_seen T n s) L) (apply (act_seen T n s.act) S) ss d few placed.1 (numbered-act T n L.cells S s.act d (omega (arith, few, here)) t))
+    let before = count-grows n s.act in (
+      names_act T n L.cells S s.act d (omega (arith, few, here, before)) placed.0 t,
+      names-all T m (lower_one S (statement_seen T n s) L) (apply (act_seen T n s.act) S) ss d few placed.1 (numbered-act T n L.cells S s.act d (omega (arith, few, here)) t),
+    )
 
 pub numbered-none : (T : Table) → AreNumbered T 0 nothing.cells start
 numbered-none T = record {

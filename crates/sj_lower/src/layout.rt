@@ -114,9 +114,9 @@ impl Layout {
             → AreDistinct roots.now.names
             → Lays roots.now self.new (cells_after (act_seen roots.now self.old.roots act.now) C)
             × (first_after (act_seen roots.now self.old.roots act.now)
-                (cells_after (act_seen roots.now self.old.roots act.now) C) ≡ first)
+            (cells_after (act_seen roots.now self.old.roots act.now) C) ≡ first)
             × (first + children_after (act_seen roots.now self.old.roots act.now)
-                ≤ length (cells_after (act_seen roots.now self.old.roots act.now) C).rows))) }
+            ≤ length (cells_after (act_seen roots.now self.old.roots act.now) C).rows))) }
         ensures full { IfOk result (λ o. IfNone o ((C : Cells) → Lays roots.now self.old C
             → AreDistinct roots.now.names
             → most < length (cells_after (act_seen roots.now self.old.roots act.now) C).rows)) }

@@ -113,7 +113,9 @@ impl Progress {
             return Err(LowerRefusal::TooManyTasks { line });
         }
         let Lowerer {
-            tasks, deliveries, ..
+            tasks,
+            deliveries,
+            ..
         } = lowerer;
         Ok(Program {
             cells: Sequence::of(layout.infos),

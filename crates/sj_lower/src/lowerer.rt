@@ -17,19 +17,17 @@ ghost use Rattle.sj_lower.specs.Limits.{most};
 ghost use Rattle.sj_lower.specs.Lowering.{Lowering, nothing, load_rows, rows_of, program_of};
 ghost use Rattle.sj_lower.specs.Seen.{Follows, HasNext, IsNext, Does, HasRoom, AreIn, access_by, after_writes, pasted_by};
 
-use crate::rows::{
-    Placed, push_deliveries, push_delivers, push_fills, push_loads, push_pastes,
-};
+use crate::rows::{Placed, push_deliveries, push_delivers, push_fills, push_loads, push_pastes};
 use sj_base::ids::{Line, Root};
 use sj_base::memory::OutOfMemory;
 use sj_base::mode::Access;
 use sj_base::program::{Delivery, Lowered};
 use sj_base::sequence::Sequence;
+use sj_base::tile::Dims;
 use sj_job::job::{Act, Init, Operand, RootInfo, TaskLine};
 use sj_job::roots::Roots;
 use sj_job::track::Tracked;
 use sj_plan::count::count_pastes;
-use sj_base::tile::Dims;
 use sj_plan::parts::Parts;
 use std::alloc::Global;
 

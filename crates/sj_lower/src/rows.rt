@@ -79,7 +79,12 @@ fn load_row(
     ensures { IfOk result (λ l. l ≡ load_row whole.now.elements whole.now.dims rect cell line) }
 {
     let args = load_arguments(alloc, whole, rect)?;
-    let accesses = vec![in alloc; Access { mode: Mode::W, cell }]?;
+    let accesses = vec![in alloc;
+        Access {
+            mode: Mode::W,
+            cell
+        },
+    ]?;
     Ok(own_task(LOAD, args, accesses, line))
 }
 
@@ -165,7 +170,12 @@ fn fill_row(
     ensures { IfOk result (λ l. l ≡ fill_row fill.0 fill.1 dims rect cell line) }
 {
     let args = fill_arguments(alloc, fill, dims.cols, rect)?;
-    let accesses = vec![in alloc; Access { mode: Mode::W, cell }]?;
+    let accesses = vec![in alloc;
+        Access {
+            mode: Mode::W,
+            cell
+        },
+    ]?;
     Ok(own_task(LOADFILL, args, accesses, line))
 }
 
@@ -258,7 +268,7 @@ pub fn push_pastes(
     requires new_cells { new.first + children_count new.parts ≤ 262144 }
     ensures { OnOk result (tasks.new.items ≡ tasks.old.items
         ++ map (paste_row (cells_from old.first old.parts) (cells_from new.first new.parts) line)
-            (pastes_of dims old.parts new.parts)) }
+        (pastes_of dims old.parts new.parts)) }
 {
     let pastes = pastes(alloc, dims, old.parts, new.parts)?;
     for paste in pastes.items() {
@@ -271,7 +281,12 @@ pub fn push_pastes(
 fn deliver_row(alloc: Global, cell: Cell, line: Line) -> Result<Lowered, OutOfMemory>
     ensures { IfOk result (λ l. l ≡ deliver_row cell line) }
 {
-    let accesses = vec![in alloc; Access { mode: Mode::R, cell }]?;
+    let accesses = vec![in alloc;
+        Access {
+            mode: Mode::R,
+            cell
+        },
+    ]?;
     Ok(own_task(DELIVER, Vec::new(alloc), accesses, line))
 }
 

@@ -1,5 +1,5 @@
 -- The entries of a node: the cells that are valid or coming there, with their bytes and pins, most recent first.
-use Rattle.std.specs.Prelude.{ℕ, Bool, not, nat_eq, Option, option_map, List, ◌∷◌, ◌++◌, map, filter, fold, reverse, sum_by, cond}
+use Rattle.std.specs.Prelude.{ℕ, Bool, not, ◌&&◌, nat_eq, Option, option_map, List, ◌∷◌, ◌++◌, map, filter, fold, reverse, sum_by, cond}
 use Rattle.std.specs.List.{IsDistinct, list_any, find, zip}
 use Rattle.std.specs.Option.{option_map_or}
 use Rattle.sj_base.specs.declared.ids.Cell.{Cell}
@@ -76,8 +76,12 @@ admitted victims cells bytes es = put_all cells bytes (without_all victims es)
 
 -- ---- choosing
 
--- the cells that a need evicts beside so many free bytes, least recent first; none where all unpinned entries
--- don't make room for it
-abbrev pub victim_cells : List Entry → ℕ → ℕ → Option (List Cell)
-victim_cells es free need =
-    option_map (λ vs. map (λ e. e.cell) (reverse vs)) (victims (λ e. e.bytes) is_unpinned es free need)
+-- nothing pins the entry, and it is none of these cells'
+abbrev pub is_spare : List Cell → Entry → Bool
+is_spare held e = is_unpinned e && not (is_among held e)
+
+-- the cells that a need evicts beside so many free bytes, least recent first, these cells spared; none where all
+-- spare entries don't make room for it
+abbrev pub victim_cells : List Cell → List Entry → ℕ → ℕ → Option (List Cell)
+victim_cells held es free need =
+    option_map (λ vs. map (λ e. e.cell) (reverse vs)) (victims (λ e. e.bytes) (is_spare held) es free need)

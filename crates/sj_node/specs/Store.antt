@@ -27,6 +27,6 @@ used s = total s.entries + s.scratch
 abbrev pub free : Store → ℕ
 free s = s.size - used s
 
--- the cells that a need evicts, least recent first; none where all unpinned entries don't make room for it
-abbrev pub victims_of : Store → ℕ → Option (List Cell)
-victims_of s need = victim_cells s.entries (free s) need
+-- the cells that a need evicts, least recent first, these cells spared; none where all spare entries don't make room for it
+abbrev pub victims_of : List Cell → Store → ℕ → Option (List Cell)
+victims_of held s need = victim_cells held s.entries (free s) need

@@ -109,15 +109,16 @@ impl Entries {
         let _ = self.cache.promote(&cell.0);
     }
 
-    /// The cells to evict for a need, least recent first; `None` where all unpinned entries and the
-    /// free bytes don't cover it.
+    /// The cells to evict for a need, least recent first, those held spared; `None` where all other unpinned
+    /// entries and the free bytes don't cover it.
     pub fn victims(
         &self,
         alloc: Global,
+        held: &[Cell],
         free: u64,
         need: u64,
     ) -> Result<Option<Vec<Cell>>, OutOfMemory>
-        ensures { IfOk result (λ found. option_map (λ v. v.items) found ≡ victim_cells self.now.order free need) }
+        ensures { IfOk result (λ found. option_map (λ v. v.items) found ≡ victim_cells held.now self.now.order free need) }
     {
         let mut found = Vec::new(alloc);
         let mut lacking = need.saturating_sub(free);
@@ -126,7 +127,7 @@ impl Entries {
             let Some((cell, room)) = rest.next_back() else {
                 return Ok(None);
             };
-            if room.pins == 0 {
+            if room.pins == 0 && !held.contains(&Cell(*cell)) {
                 found.push(Cell(*cell))?;
                 lacking = lacking.saturating_sub(room.bytes);
             }

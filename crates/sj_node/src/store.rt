@@ -100,12 +100,17 @@ impl NodeStore {
     }
 
     /// The cells to evict for a need, least recent first: the fewest of the least recently used unpinned
-    /// ones whose bytes with the free ones cover it. `None` exactly where all of them don't. Linear in
-    /// the victims and in the pinned entries that are passed.
-    pub fn victims(&self, alloc: Global, need: u64) -> Result<Option<Vec<Cell>>, OutOfMemory>
-        ensures { IfOk result (λ found. option_map (λ v. v.items) found ≡ victims_of self.now need) }
+    /// ones, those that the claim holds spared, whose bytes with the free ones cover it. `None` exactly where
+    /// all of them don't. Linear in the victims and in the entries that are passed, each by the cells held.
+    pub fn victims(
+        &self,
+        alloc: Global,
+        held: &[Cell],
+        need: u64,
+    ) -> Result<Option<Vec<Cell>>, OutOfMemory>
+        ensures { IfOk result (λ found. option_map (λ v. v.items) found ≡ victims_of held.now self.now need) }
     {
-        self.entries.victims(alloc, self.free(), need)
+        self.entries.victims(alloc, held, self.free(), need)
     }
 
     /// Brings a cell to the front. One look-up, and no memory.

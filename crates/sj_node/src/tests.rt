@@ -13,12 +13,14 @@ fn the_least_recently_used_unpinned_cells_are_victims(rt: HostRuntime) -> Result
     node.insert(Cell(2), 40)?;
     node.pin(Cell(0));
     assert_eq!(rt; node.free(), 10);
-    let victims = node.victims(alloc, 70)?;
+    let victims = node.victims(alloc, &[], 70)?;
     assert!(rt; victims.is_some_and(|v| v.as_slice() == [Cell(1), Cell(2)].as_slice()));
     node.touch(Cell(1));
-    let victims = node.victims(alloc, 25)?;
+    let victims = node.victims(alloc, &[], 25)?;
     assert!(rt; victims.is_some_and(|v| v.as_slice() == [Cell(2)].as_slice()));
-    assert!(rt; node.victims(alloc, 71)?.is_none());
+    let victims = node.victims(alloc, &[Cell(2)], 25)?;
+    assert!(rt; victims.is_some_and(|v| v.as_slice() == [Cell(1)].as_slice()));
+    assert!(rt; node.victims(alloc, &[], 71)?.is_none());
     Ok(())
 }
 
@@ -36,7 +38,7 @@ fn a_claim_replaces_victims_by_its_cells(rt: HostRuntime) -> Result<(), OutOfMem
     node.remove(Cell(2));
     node.release(10);
     assert_eq!(rt; node.free(), 30);
-    let victims = node.victims(rt.alloc(), 100)?;
+    let victims = node.victims(rt.alloc(), &[], 100)?;
     assert!(rt; victims.is_some_and(|v| v.as_slice() == [Cell(1), Cell(3)].as_slice()));
     Ok(())
 }

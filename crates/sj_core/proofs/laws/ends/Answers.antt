@@ -1,5 +1,5 @@
 use Rattle.sj_core.proofs.Changing.{Changes-bytes, Changes-cells, Changes-pins, Changes-workers}
-use Rattle.sj_core.proofs.Coherence.{Ends-keeps_coherence}
+use Rattle.sj_core.proofs.Coherence.{Lawful_ends-keep_coherence}
 use Rattle.sj_core.proofs.Ending.{end-change}
 use Rattle.sj_core.specs.declared.progress.Progress.TheVariants.{Done, Running}
 use Rattle.sj_core.proofs.laws.ends.Goals as goal
@@ -14,5 +14,5 @@ returns c = record {
   writes_are_counted = λ p m s s' t w h ended. (end-change p m s h t w s' ended).counts;
   is_a_state = λ p m s s' t w h ended. (end-change p m s h t w s' ended).state;
   nodes_suffice = λ p m s s' t w h ended. Changes-bytes p m s h s' t (Running w) (Done w) w (end-change p m s h t w s' ended);
-  coherent = Ends-keeps_coherence;
+  coherent = Lawful_ends-keep_coherence;
 }

@@ -3,6 +3,6 @@ use Rattle.sj_core.proofs.laws.traces.Goals as goal
 
 pub returns : goal.returns
 returns c = record {
-  keep_coherence = λ p m s trace proper machine plain replays. Replays-coherent p m proper machine plain trace s replays;
-  hold_final = λ p m s trace proper machine plain replays complete. Replays-final p m proper machine plain trace s replays complete;
+  keep_coherence = λ has p m s trace proper machine lawful replays. Replays-coherent p m proper machine has lawful trace s replays;
+  hold_final = λ has p m s trace proper machine lawful replays complete. Replays-final p m proper machine has lawful trace s replays complete;
 }

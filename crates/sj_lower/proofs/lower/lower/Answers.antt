@@ -67,7 +67,7 @@ returns-in_err-add-clause-refused c =
     let same : all ≡ c.args.job.statements = c.into_iter-statement-iterator.ensures.into_iter_gives.0 ∙ c.into_items-statement-items.ensures in
     let going = subst (λ (xs : List Kept). GoesOn T at.progress all xs) c.in-Some.ensures.steps.0 at.invariant.going in
     let full : (e : LowerRefusal) → IsFull T at.progress c.in-Some.statement e → IsLate e (late_limit (statements_of c.args.job)) =
-        λ e h. subst (λ (xs : List Kept). IsLate e (late_limit (seen_from T 0 xs))) same (going-full T at.progress all (into_iter_items c.next.new.self) c.in-Some.statement e table going h) in
+    λ e h. subst (λ (xs : List Kept). IsLate e (late_limit (seen_from T 0 xs))) same (going-full T at.progress all (into_iter_items c.next.new.self) c.in-Some.statement e table going h) in
     as_handed c.from_residual.result c.in_err-add.field-0.0 (λ e. IsLate e (late_limit (statements_of c.args.job))) c.from_residual.ensures.1 (full c.in_err-add.field-0.0 c.in_err-add.ensures.full)
 
 nothing_left : (l : List Kept) → length l ≡ 0 → l ≡ []

@@ -16,8 +16,17 @@ pub returns-clause-few : goal.returns-clause-few
 returns-clause-few c =
     let cells : c.push_cells.new.infos.items ≡ c.args.self.now.infos.items ++ map (rect_cell c.args.root) (children_of c.args.dims c.args.parts) =
     c.in_ok-push_cells.ensures ∙ ap (λ (rs : List Rect). c.args.self.now.infos.items ++ map (rect_cell c.args.root) rs) (c.items.ensures ∙ c.in_ok-rects.ensures.children) in
-    omega (arith, c.len-first.ensures, c.args.self.now.infos.ok, c.push_cells.new.infos.ok, ap length cells, length-append c.args.self.now.infos.items (map (rect_cell c.args.root) (children_of c.args.dims c.args.parts)),
-    length-map (children_of c.args.dims c.args.parts) (rect_cell c.args.root), length-places (child c.args.dims c.args.parts) c.args.parts, c.if-first-parts-gt-MOST.false)
+    omega (
+      arith,
+      c.len-first.ensures,
+      c.args.self.now.infos.ok,
+      c.push_cells.new.infos.ok,
+      ap length cells,
+      length-append c.args.self.now.infos.items (map (rect_cell c.args.root) (children_of c.args.dims c.args.parts)),
+      length-map (children_of c.args.dims c.args.parts) (rect_cell c.args.root),
+      length-places (child c.args.dims c.args.parts) c.args.parts,
+      c.if-first-parts-gt-MOST.false,
+    )
 
 pub returns-clause-taken : goal.returns-clause-taken
 returns-clause-taken c = λ T C s inside distinct few dims.

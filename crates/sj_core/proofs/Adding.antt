@@ -1,0 +1,105 @@
+-- What the tasks of a phase leave: a contribution adds to its worker's copy, and a combine adds the copy to the cell.
+use Rattle.std.proofs.Common.{Bool, List, [], ap, false, length, map, refl, sym, true, ◌++◌, ◌<◌, ◌∙◌, ◌∷◌, ◌≡◌, ℤ}
+use Rattle.std.specs.Prelude.{All, FitsSigned, is_some, if◌then◌else◌}
+use Rattle.std.specs.Int.{w64}
+use Rattle.std.specs.List.{Contains, filter}
+use Rattle.std.proofs.lemmas.List.Elements.{All-contains, All-get_or}
+use Rattle.sj_base.specs.Mode.{is_in_order, is_redux, is_written, starts_as_zeros}
+use Rattle.sj_base.specs.declared.mode.Access.{Access}
+use Rattle.sj_base.specs.declared.mode.Mode.TheVariants.{R, RW, Redux}
+use Rattle.sj_base.specs.declared.mode.Reduction.{Reduction}
+use Rattle.sj_base.specs.declared.mode.Reduction.TheVariants.{Least, Plus}
+use Rattle.sj_codelet.specs.Kernel.{combine_of, contributes_of}
+use Rattle.sj_codelet.specs.Laws.{DoesContribute, IsCall, IsTile, combined, result_of}
+use Rattle.sj_codelet.specs.declared.kernel.Kernel.{Kernel}
+use Rattle.sj_core.proofs.Words.{Array, Program, Task, Worker, cell_info, copy_of, dims_of, found, no_task, task_of, worked_on, zeros}
+use Rattle.sj_core.specs.Fold.{Contents, after_task, held_in}
+use Rattle.sj_core.specs.Laws.{IsLawful}
+use Rattle.sj_core.specs.Proper.{IsCombine, IsContribution, IsPhase, Phase, Proper, access, task_number}
+use Rattle.sj_core.proofs.Combining.{call-with, combines, contribution, contribution-fills}
+use Rattle.sj_core.proofs.Copies.{copy-bare, direct-cell}
+use Rattle.sj_core.proofs.Dependencies.{one_is}
+use Rattle.sj_core.proofs.Folding.{map-same}
+use Rattle.sj_core.proofs.Phases.{does_contribute, kernel-contributes, reduces}
+use Rattle.sj_core.proofs.Sized.{AreSized, worked_on-dims}
+use Rattle.sj_core.proofs.Swapping.{Updates, first_ins, update-call, updated}
+use Rattle.sj_core.proofs.Tiles.{zeros-tile}
+use Rattle.sj_core.proofs.Updating.{updates}
+
+module _ (has : Kernel → Bool) (p : Program) (proper : Proper p) (lawful : IsLawful has p) (f : Phase) (phase : IsPhase p f) where
+  -- ---- contributions
+
+  module _ (t : Task) (inside : t.0 < length p.tasks) (a : Access) (among : Contains (task_of p t).accesses a) (redux : a.mode ≡ Redux) (cell : a.cell ≡ f.cell) (own : Contains f.contributions t.0) where
+    abbrev pub update : (w : Worker) → w.0 < p.workers → Updates p t w (worked_on p w a)
+    update w staffed = updates p proper t inside a among (ap is_in_order redux) w staffed
+
+    -- what the task adds, from what cells hold
+    abbrev pub part : (w : Worker) → w.0 < p.workers → Contents → Array
+    part w staffed before = contribution f.by (update w staffed).kernel (task_of p t).args (first_ins p t w (worked_on p w a) (update w staffed) (held_in p before)) (zeros (dims_of p f.cell))
+
+    -- it depends on the cells that are read alone, and on no worker
+    pub part-same : (v w : Worker) (v_in : v.0 < p.workers) (w_in : w.0 < p.workers) (before before' : Contents) → ((b : Access) → Contains (update v v_in).before b → starts_as_zeros b.mode ≡ false → held_in p before b.cell ≡ held_in p before' b.cell) → part v v_in before ≡ part w w_in before'
+    part-same v w v_in w_in before before' same = ap (λ (ins : List Array). contribution f.by (update v v_in).kernel (task_of p t).args ins (zeros (dims_of p f.cell))) (map-same (found p v (held_in p before)) (found p w (held_in p before')) (update v v_in).before (λ b h. by_start b h (starts_as_zeros b.mode) refl))
+      where
+        by_start : (b : Access) → Contains (update v v_in).before b → (s : Bool) → starts_as_zeros b.mode ≡ s → (if s then zeros (dims_of p b.cell) else held_in p before (worked_on p v b)) ≡ (if s then zeros (dims_of p b.cell) else held_in p before' (worked_on p w b))
+        by_start b h true e = refl
+        by_start b h false e =
+            let direct = (update v v_in).direct b h in
+            ap (held_in p before) (direct-cell p v b direct) ∙ same b h e ∙ ap (held_in p before') (sym (direct-cell p w b direct))
+
+    module _ (w : Worker) (staffed : w.0 < p.workers) (before : Contents) (sized : AreSized p before) where
+      abbrev ins : List Array
+      ins = first_ins p t w (worked_on p w a) (update w staffed) (held_in p before)
+
+      contributes : contributes_of (update w staffed).kernel f.by ≡ true
+      contributes = kernel-contributes p proper t f (update w staffed).kernel (update w staffed).codelet (All-contains (λ n. IsContribution f.by f.cell (task_number p n)) f.contributions t.0 phase.contributions own)
+
+      through : DoesContribute (update w staffed).kernel f.by
+      through = does_contribute p proper has lawful f phase w staffed t inside (update w staffed).kernel (update w staffed).codelet contributes
+
+      call : IsCall (update w staffed).kernel (task_of p t).args (ins ++ held_in p before (worked_on p w a) ∷ [])
+      call = update-call p proper lawful.arguments t inside w staffed (worked_on p w a) (update w staffed) before sized
+
+      held-dims : (held_in p before (worked_on p w a)).dims ≡ dims_of p f.cell
+      held-dims = (sized (worked_on p w a)).dims ∙ worked_on-dims p proper lawful.arguments w staffed a ∙ ap (dims_of p) cell
+
+      -- it adds a tile of the cell's dimensions
+      pub part-fills : IsTile (part w staffed before) × ((part w staffed before).dims ≡ dims_of p f.cell)
+      part-fills =
+          contribution-fills f.by (reduces p proper has lawful f phase w staffed) (update w staffed).kernel contributes through (task_of p t).args ins (zeros (dims_of p f.cell)) (All-get_or (λ l. All (FitsSigned w64) l.args) p.tasks t.0 no_task inside lawful.arguments)
+          (call-with (update w staffed).kernel (task_of p t).args ins (held_in p before (worked_on p w a)) (zeros (dims_of p f.cell)) call (zeros-tile (dims_of p f.cell)) (sym held-dims))
+
+      -- the copy is combined with it
+      pub adds : held_in p (after_task p w t before) (worked_on p w a) ≡ combined f.by (part w staffed before) (held_in p before (worked_on p w a))
+      adds =
+          updated p proper lawful.arguments t inside w staffed (worked_on p w a) (update w staffed) before
+          ∙ combines f.by (reduces p proper has lawful f phase w staffed) (update w staffed).kernel contributes through (task_of p t).args ins (held_in p before (worked_on p w a)) (zeros (dims_of p f.cell)) held-dims call
+
+  -- ---- combines
+
+  module _ (has_copies : is_some (cell_info p f.cell).partials ≡ true) (x : Worker) (x_in : x.0 < p.workers) (t : Task) (inside : t.0 < length p.tasks) (combine : IsCombine f.by (copy_of p f.cell x) f.cell (task_of p t)) (w : Worker) (staffed : w.0 < p.workers) where
+    pub merge : Updates p t w f.cell
+    merge = record {
+      kernel = combine_of f.by;
+      codelet = combine.codelet;
+      before = access R (copy_of p f.cell x) ∷ [];
+      last = access RW f.cell;
+      accesses = combine.operands;
+      reads = refl;
+      cell = refl;
+      written = ap (λ (xs : List Access). map (worked_on p w) (filter (λ b. is_written b.mode) xs)) combine.operands;
+      direct = λ b h. ap (λ (z : Access). is_redux z.mode) (sym (only b h));
+      others = λ b h reads e. copy-bare p proper f.cell has_copies x x_in f.cell has_copies (ap (worked_on p w) (only b h) ∙ e);
+    }
+      where
+        only : (b : Access) → Contains (access R (copy_of p f.cell x) ∷ []) b → access R (copy_of p f.cell x) ≡ b
+        only b h = one_is (access R (copy_of p f.cell x)) b h
+
+    -- the cell is combined with the copy
+    pub merges : (before : Contents) → held_in p (after_task p w t before) f.cell ≡ combined f.by (held_in p before (copy_of p f.cell x)) (held_in p before f.cell)
+    unfolding merge
+    merges before = updated p proper lawful.arguments t inside w staffed f.cell merge before ∙ by_reduction f.by (task_of p t).args (held_in p before (copy_of p f.cell x)) (held_in p before f.cell)
+      where
+        by_reduction : (by : Reduction) (args : List ℤ) (u v : Array) → result_of (combine_of by) args (u ∷ []) v ≡ combined by u v
+        by_reduction Plus args u v = refl
+        by_reduction Least args u v = refl

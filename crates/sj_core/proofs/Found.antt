@@ -1,0 +1,111 @@
+-- What a claimed or running task finds where it works, whatever the modes: the content of each cell whose old value it reads.
+use Rattle.std.proofs.Common.{Bool, ap, cond, false, inl, inr, not, refl, subst, sym, true, ◌<◌, ◌∙◌, ◌≡◌, ◌⊎◌}
+use Rattle.std.specs.List.{Contains}
+use Rattle.std.specs.Prelude.{IsTrue, unwrap_or}
+use Rattle.std.proofs.lemmas.Bool.{false_from_ne_true, false≢true}
+use Rattle.std.proofs.lemmas.Bool.Decides.{Decides-eqb}
+use Rattle.sj_base.specs.Mode.{is_redux, is_scratch, starts_as_zeros}
+use Rattle.sj_base.specs.declared.mode.Access.{Access}
+use Rattle.sj_base.specs.declared.mode.Mode.{Mode}
+use Rattle.sj_base.specs.declared.mode.Mode.TheVariants.{Commute as CommuteMode, R, RW, Redux, Scratch, W}
+use Rattle.sj_base.specs.declared.program.Codelet.{Codelet}
+use Rattle.sj_deps.specs.Conflict.{Uses}
+use Rattle.sj_deps.specs.declared.manner.Manner.TheVariants.{Write}
+use Rattle.sj_core.proofs.Words.{AtNode, Cell, Machine, Program, Replica, Running, State, Task, Worker, array_of, cells_of, copy_of, data_operands, dims_of, fresh_cells, has_cell, is_running_on, is_task_of, is_valid, no_task, node_of, progress, replica, same_cell, task_of, worked_on, written_cells, zeros}
+use Rattle.sj_core.specs.Coherent.{Coherent, content}
+use Rattle.sj_core.specs.Proper.{Proper}
+use Rattle.sj_core.specs.Step.{array_at}
+use Rattle.sj_core.proofs.Advancing.{active-begun, running_on-is, task_of-active}
+use Rattle.sj_core.proofs.Dependencies.{Proper-dependencies}
+use Rattle.sj_core.proofs.Finding.{array-told, not_being_written}
+use Rattle.sj_core.proofs.Folding.{read-among_cells}
+use Rattle.sj_core.proofs.Modes.{reads_isn't_scratch}
+use Rattle.sj_core.proofs.PlainModes.{operand-inside}
+use Rattle.sj_core.proofs.Readiness.{AllPairs-two, Contains-filter, Contains-from_filter, filter-Contains}
+use Rattle.sj_core.proofs.Replicas.{same_worker-refl}
+use Rattle.sj_core.proofs.Separation.{worker-inside}
+use Rattle.sj_core.proofs.Sharing.{manner_of, operand_for}
+use Rattle.sj_core.proofs.Updating.{operand-used}
+use Rattle.sj_core.proofs.Values.{old_value-written}
+
+module _ (p : Program) (proper : Proper p) where
+  -- a cell whose old value one operand reads is none that another one finds as zeros
+  pub found-not_fresh : (t : Task) (w : Worker) → w.0 < p.workers → (a : Access) → Contains (task_of p t).accesses a → starts_as_zeros a.mode ≡ false → has_cell (fresh_cells p t w) (worked_on p w a) ≡ false
+  found-not_fresh t w staffed a h reads = false_from_ne_true (has_cell (fresh_cells p t w) (worked_on p w a)) (λ fresh.
+      (let l = task_of p t in
+      let accessed : Access → Bool = λ x. not (is_scratch x.mode) in
+      let b = operand_for (worked_on p w) (λ x. starts_as_zeros x.mode) (data_operands l) (worked_on p w a) fresh in
+      let b_in = Contains-from_filter accessed l.accesses b.0 b.1 in
+      let b_data : not (is_scratch b.0.mode) ≡ true = filter-Contains accessed l.accesses b.0 b.1 in
+      let a_in = Contains-filter accessed l.accesses a (reads_isn't_scratch a.mode reads) h in
+      let inside = operand-inside p t a h in
+      let first = operand-used p proper t inside w staffed a h (reads_isn't_scratch a.mode reads) in
+      let second = subst (λ (q : Cell). Uses p t.0 q.0 (manner_of l.codelet b.0.mode)) b.3 (operand-used p proper t inside w staffed b.0 b_in b_data) in
+      let manners : manner_of l.codelet a.mode ≡ manner_of l.codelet b.0.mode = (Proper-dependencies p proper).manners t.0 (worked_on p w a).0 (manner_of l.codelet a.mode) (manner_of l.codelet b.0.mode) first second in
+      let write = fresh-write l.codelet b.0.mode b_data b.2 in
+      let update = reads-update l.codelet a.mode reads (manners ∙ write.1) in
+      let cells : a.cell ≡ b.0.cell = sym (direct a update) ∙ sym b.3 ∙ direct b.0 (ap is_redux write.0) in
+      by_places a b.0 reads b.2 cells (AllPairs-two (λ x y. IsTrue (same_cell x.cell y.cell) → (x.mode ≡ R) × (y.mode ≡ R)) (data_operands l) a b.0 (proper.unaliased t.0 no_task inside) a_in b.1)))
+    where
+      direct : (x : Access) → is_redux x.mode ≡ false → worked_on p w x ≡ x.cell
+      direct x e = ap (λ b. cond b (copy_of p x.cell w) x.cell) e
+
+      fresh-write : (k : Codelet) (x : Mode) → not (is_scratch x) ≡ true → starts_as_zeros x ≡ true → (x ≡ W) × (manner_of k x ≡ Write)
+      fresh-write k R e f = absurd (false≢true f)
+      fresh-write k W e f = (refl, refl)
+      fresh-write k RW e f = absurd (false≢true f)
+      fresh-write k Scratch e f = absurd (false≢true e)
+      fresh-write k Redux e f = absurd (false≢true f)
+      fresh-write k CommuteMode e f = absurd (false≢true f)
+
+      reads-update : (k : Codelet) (x : Mode) → starts_as_zeros x ≡ false → manner_of k x ≡ Write → is_redux x ≡ false
+      reads-update k R e f = refl
+      reads-update k W e f = refl
+      reads-update k RW e f = refl
+      reads-update k Scratch e f = refl
+      reads-update k Redux e f = absurd (cc)
+      reads-update k CommuteMode e f = refl
+
+      same : (x y : Cell) → x ≡ y → same_cell x y ≡ true
+      same x y e = (Decides-eqb x.0 y.0).1 (ap (λ (q : Cell). q.0) e)
+
+      read_isn't_fresh : (x : Mode) → starts_as_zeros x ≡ true → x ≡ R → ⊥
+      read_isn't_fresh x e f = false≢true (sym (ap starts_as_zeros f) ∙ e)
+
+      by_places : (a b : Access) → starts_as_zeros a.mode ≡ false → starts_as_zeros b.mode ≡ true → a.cell ≡ b.cell → ((a ≡ b) ⊎ ((IsTrue (same_cell a.cell b.cell) → (a.mode ≡ R) × (b.mode ≡ R)) ⊎ (IsTrue (same_cell b.cell a.cell) → (b.mode ≡ R) × (a.mode ≡ R)))) → ⊥
+      by_places a b reads fresh e (inl one) = false≢true (sym reads ∙ ap (λ (x : Access). starts_as_zeros x.mode) one ∙ fresh)
+      by_places a b reads fresh e (inr (inl pair)) = read_isn't_fresh b.mode fresh (pair (same a.cell b.cell e)).1
+      by_places a b reads fresh e (inr (inr pair)) = read_isn't_fresh b.mode fresh (pair (same b.cell a.cell (sym e))).0
+
+  module _ (m : Machine) (s : State) (sound : Coherent p m s) (t : Task) (w : Worker) (mine : is_task_of w (progress s t) ≡ true) where
+    task-staffed : w.0 < p.workers
+    task-staffed = worker-inside p m proper.cells (Proper-dependencies p proper) s sound.state sound.workers sound.order t w mine
+
+    -- a task finds the content of each cell whose old value it reads
+    pub found-content : (a : Access) → Contains (task_of p t).accesses a → starts_as_zeros a.mode ≡ false → is_valid (replica s (worked_on p w a) (AtNode (node_of m w))) ≡ true →
+        array_at p s (AtNode (node_of m w)) (worked_on p w a) ≡ content p s (worked_on p w a)
+    found-content a h reads valid = by_kind (is_running_on w (progress s t)) refl (has_cell (written_cells p t w) (worked_on p w a)) refl
+      where
+        c : Cell
+        c = worked_on p w a
+
+        has : has_cell (cells_of p t w) c ≡ true
+        has = read-among_cells p t w a h reads
+
+        not_fresh : has_cell (fresh_cells p t w) c ≡ false
+        not_fresh = found-not_fresh t w task-staffed a h reads
+
+        shared : (progress s t ≡ Running w → has_cell (written_cells p t w) c ≡ false) → array_at p s (AtNode (node_of m w)) c ≡ content p s c
+        shared spared =
+            let earlier = sound.order.earlier t (active-begun (progress s t) (task_of-active w (progress s t) mine)) in
+            let resting = not_being_written p m proper (Proper-dependencies p proper) s sound t w c mine has spared in
+            let some = old_value-written p proper s t w (operand-inside p t a h) task-staffed earlier c sound.counts has not_fresh in
+            array-told (array_of (replica s c (AtNode (node_of m w)))) (content p s c) (zeros (dims_of p c)) valid (sound.copies.alike c (AtNode (node_of m w)) some resting)
+
+        by_kind : (x : Bool) → is_running_on w (progress s t) ≡ x → (y : Bool) → has_cell (written_cells p t w) c ≡ y → array_at p s (AtNode (node_of m w)) c ≡ content p s c
+        by_kind true e true f =
+            let owned = sound.writers.owned t w c (running_on-is w (progress s t) e) f in
+            ap (λ (r : Replica). unwrap_or (array_of r) (zeros (dims_of p c))) owned.valid
+            ∙ ap (λ b. cond b (zeros (dims_of p c)) (content p s c)) not_fresh
+        by_kind true e false f = shared (λ k. f)
+        by_kind false e y f = shared (λ k. absurd (false≢true (sym e ∙ ap (is_running_on w) k ∙ same_worker-refl w)))

@@ -1,0 +1,182 @@
+-- What a task finds where it works: the contents of its cells; and in a settled cell of an access in order what all tasks before it leave, in
+-- submission order. Where all tasks are done, cells hold what all tasks leave.
+use Rattle.std.proofs.Common.{Bool, List, [], ap, arith, false, get_or, inl, inr, length, map, not, refl, subst, sym, true, ℕ, ◌<◌, ◌||◌, ◌∙◌, ◌∷◌, ◌≡◌, ◌≢◌, ◌&&◌, ◌⊎◌}
+use Rattle.std.proofs.lemmas.Bool.{false_from_ne_true, false≢true}
+use Rattle.std.proofs.lemmas.List.Elements.{All-contains, Contains-get_or}
+use Rattle.std.proofs.lemmas.List.Folds.{Any-from_list_any}
+use Rattle.std.proofs.lemmas.List.Sums.{AllPass-from_list_all}
+use Rattle.std.specs.List.{Contains, filter, slice_index_or}
+use Rattle.std.specs.Prelude.{IfSome, IsTrue, is_some}
+use Rattle.sj_base.specs.Mode.{is_in_order, is_redux, is_scratch, is_written, reads_value}
+use Rattle.sj_base.specs.declared.mode.Access.{Access}
+use Rattle.sj_base.specs.declared.mode.Mode.TheVariants.{R, RW, Redux, W}
+use Rattle.sj_codelet.specs.declared.kernel.Kernel.{Kernel}
+use Rattle.sj_deps.specs.Conflict.{Conflict}
+use Rattle.sj_core.proofs.Words.{Array, AtNode, Cell, Machine, Program, Progress, Running, State, Task, Waiting, Worker, array_of, cell_info, cells_of, copy_of, done_by, done_in, has_cell, is_done, is_task_of, node_of, progress, replica, same_cell, task_of, worked_on, worker_of, writes, written_cells}
+use Rattle.sj_core.specs.Coherent.{content, has_written, is_begun, is_being_written}
+use Rattle.sj_core.specs.Fold.{given, held_before, held_in}
+use Rattle.sj_core.specs.Laws.{Brought, HasAtHand, HoldsFinal, IsLawful, IsSettled, IsSound, Works, final}
+use Rattle.sj_core.specs.Legal.{IsComplete}
+use Rattle.sj_core.specs.Proper.{IsContribution, IsFirstUnit, IsMember, IsOpenAt, IsPhase, IsPlain, Phase, Proper, access, gives_value, task_number}
+use Rattle.sj_core.specs.Step.{EarlierAreDone, array_at}
+use Rattle.sj_core.proofs.Advancing.{done-begun}
+use Rattle.sj_core.proofs.Contents.{all-staffed, later-free}
+use Rattle.sj_core.proofs.Copies.{combine-of, direct-cell, init-of}
+use Rattle.sj_core.proofs.Depending.{cone-shared, in_order-conflicts}
+use Rattle.sj_core.proofs.Dependencies.{one_is}
+use Rattle.sj_core.proofs.Finding.{being_written-by, gives-writes, task-counted}
+use Rattle.sj_core.proofs.Folding.{after_chosen-same, held-until, read-among_cells}
+use Rattle.sj_core.proofs.Found.{found-content}
+use Rattle.sj_core.proofs.Modes.{plain_isn't_redux, reads_isn't_scratch}
+use Rattle.sj_core.proofs.PlainModes.{operand-inside}
+use Rattle.sj_core.proofs.Readiness.{Contains-filter}
+use Rattle.sj_core.proofs.Reading.{progress-inside}
+use Rattle.sj_core.proofs.Replicas.{same_worker-refl}
+use Rattle.sj_core.proofs.Sharing.{Conflict-sym, one, redux-has_copies}
+use Rattle.sj_core.proofs.Workers.{workers-alike}
+
+-- ---- phases
+
+module _ (p : Program) (proper : Proper p) where
+  -- the cell of a phase has partial copies
+  phase-has_copies : (f : Phase) → IsPhase p f → is_some (cell_info p f.cell).partials ≡ true
+  phase-has_copies f phase =
+      let n = get_or f.contributions 0 0 in
+      let named = (All-contains (λ i. IsContribution f.by f.cell (task_number p i)) f.contributions n phase.contributions (Contains-get_or f.contributions 0 0 phase.contributed)).operand in
+      let t : Task = record { 0 = n } in
+      ap is_some (redux-has_copies p proper.cells t (operand-inside p t (access Redux f.cell) named) Redux f.cell named refl).1.1
+
+  -- no phase is open after the last task
+  pub none-open : (f : Phase) → IsPhase p f → ¬ IsOpenAt f (length p.tasks)
+  none-open f phase is_open =
+      let k = is_open.unfinished.0 in
+      let t : Task = record { 0 = k } in
+      let combine = combine-of p proper f phase (phase-has_copies f phase) k is_open.unfinished.1 in
+      let inside = operand-inside p t (access RW f.cell) (subst (λ (xs : List Access). Contains xs (access RW f.cell)) (sym combine.2.operands) (1, omega arith, refl)) in
+      omega (arith, inside, is_open.unfinished.2)
+
+  -- the cell of a task that reads it and does nothing else is settled
+  pub read-settled : (t : Task) (c : Cell) → (task_of p t).accesses ≡ access R c ∷ [] → IsSettled p t.0 c
+  read-settled t c alone = record {
+    plain = λ d w copy. (let found = proper.phases.copies t.0 (access R c) d w reads copy in
+        of_phase found.0 (All-contains (IsPhase p) proper.phases.phases found.0 proper.phases.each found.1) found.3);
+    closed = λ f phase same is_open. by_kind f phase (phase.alone t.0 (access R c) is_open (Contains-filter (λ b. not (is_scratch b.mode)) (task_of p t).accesses (access R c) refl reads) (inl (sym same)));
+  }
+    where
+      reads : Contains (task_of p t).accesses (access R c)
+      reads = subst (λ (xs : List Access). Contains xs (access R c)) (sym alone) (one (access R c))
+
+      fills_not : (d : Cell) → (task_of p t).accesses ≡ access W d ∷ [] → ⊥
+      fills_not d e = let f : R ≡ W = ap (λ (xs : List Access). (get_or xs 0 (access W d)).mode) (sym alone ∙ e) in cc
+
+      of_phase : (f : Phase) → IsPhase p f → (Contains f.inits t.0 ⊎ Contains f.combines t.0) → ⊥
+      of_phase f phase (inl init) = let own = init-of p proper f phase (phase-has_copies f phase) t.0 init in fills_not (copy_of p f.cell own.0) own.1.operands
+      of_phase f phase (inr combine) =
+          let own = combine-of p proper f phase (phase-has_copies f phase) t.0 combine in
+          let e : access R c ∷ [] ≡ access R (copy_of p f.cell own.0) ∷ access RW f.cell ∷ [] = sym alone ∙ own.2.operands in
+          cc
+
+      by_kind : (f : Phase) → IsPhase p f → IsMember f t.0 ⊎ IsFirstUnit p f t.0 → ⊥
+      by_kind f phase (inl (inl init)) = of_phase f phase (inl init)
+      by_kind f phase (inl (inr (inr combine))) = of_phase f phase (inr combine)
+      by_kind f phase (inl (inr (inl own))) =
+          let named = (All-contains (λ i. IsContribution f.by f.cell (task_number p i)) f.contributions t.0 phase.contributions own).operand in
+          let e = one_is (access R c) (access Redux f.cell) (subst (λ (xs : List Access). Contains xs (access Redux f.cell)) alone named) in
+          let g : R ≡ Redux = ap (λ (b : Access). b.mode) e in
+          cc
+      by_kind f phase (inr first) = fills_not f.cell first.init.operands
+
+-- ---- what a task finds
+
+module _ (p : Program) (m : Machine) (s : State) (h : IsSound p m s) where
+  some_worker : 0 < p.workers
+  some_worker = omega (arith, h.machine.workers, h.machine.some_worker)
+
+  staffed : (u : Task) → (done_by s u).0 < p.workers
+  staffed = all-staffed p s some_worker h.coherent.state.staff
+
+  -- each operand whose old value is read is found as the content of the cell that is worked on
+  pub finds-content : (t : Task) (w : Worker) (a : Access) → Contains (task_of p t).accesses a → IsTrue (reads_value a.mode) → HasAtHand m s t w (worked_on p w a) → array_at p s (AtNode (node_of m w)) (worked_on p w a) ≡ content p s (worked_on p w a)
+  finds-content t w a among reads (Works running) = found-content p h.proper m s h.coherent t w (ap (is_task_of w) running ∙ same_worker-refl w) a among (ap not reads) (h.coherent.cells.running t w (worked_on p w a) running (read-among_cells p t w a among (ap not reads)))
+  finds-content t w a among reads (Brought claimed valid) = found-content p h.proper m s h.coherent t w (ap (is_task_of w) claimed ∙ ap (λ b. b || false) (same_worker-refl w)) a among (ap not reads) valid
+
+  module _ (has : Kernel → Bool) (lawful : IsLawful has p) where
+    -- the content of a settled cell of an access in order is what the cell holds after all tasks before
+    content-settled : (t : Task) (w : Worker) → w.0 < p.workers → (a : Access) → Contains (task_of p t).accesses a → not (is_scratch a.mode) ≡ true → is_in_order a.mode ≡ true → done_in s t ≡ false → EarlierAreDone p s t → IsSettled p t.0 a.cell → content p s a.cell ≡ held_before p t.0 a.cell
+    content-settled t w w_in a among accessed in_order undone earlier settled =
+        held-until p (done_in s) (done_by s) a.cell t.0 (length p.tasks) (omega (arith, inside)) (λ u l k done. false_from_ne_true (has_cell (written_cells p u (done_by s u)) a.cell) (λ writes.
+        (let differ : t.0 ≢ u.0 = λ e. false≢true (sym undone ∙ ap (λ (n : ℕ). done_in s (record { 0 = n })) e ∙ done) in
+        later-free p s t h.coherent.order undone u (omega (arith, differ)) done (Conflict-sym p u.0 t.0 (conflicts u k writes)))))
+        ∙ cone-shared has p h.proper lawful (done_by s) staffed (done_in s) t.0 (omega (arith, inside)) (λ u v before l done conflict. h.coherent.order.earlier v (done-begun (progress s v) done) u before conflict) a.cell
+        (λ u l writes. earlier u l (conflicts u (omega (arith, l, inside)) writes))
+        ∙ workers-alike has p h.proper lawful t.0 (omega (arith, inside)) a.cell settled.plain settled.closed (done_by s) (λ u. record { 0 = 0 }) staffed (λ u. some_worker)
+      where
+        inside : t.0 < length p.tasks
+        inside = operand-inside p t a among
+
+        conflicts : (u : Task) → u.0 < length p.tasks → has_cell (written_cells p u (done_by s u)) a.cell ≡ true → Conflict p u.0 t.0
+        conflicts u u_in writes = in_order-conflicts p h.proper u t u_in inside (done_by s u) w (staffed u) w_in a among accessed in_order (ap (has_cell (written_cells p u (done_by s u))) (direct-cell p w a (plain_isn't_redux a.mode in_order)) ∙ writes)
+
+    pub finds-earlier : (t : Task) (w : Worker) (a : Access) → Contains (task_of p t).accesses a → IsTrue (reads_value a.mode) → IsTrue (is_in_order a.mode) → IsSettled p t.0 a.cell → HasAtHand m s t w a.cell → array_at p s (AtNode (node_of m w)) a.cell ≡ held_before p t.0 a.cell
+    finds-earlier t w a among reads in_order settled at_hand =
+        let same = direct-cell p w a (plain_isn't_redux a.mode in_order) in
+        ap (array_at p s (AtNode (node_of m w))) (sym same)
+        ∙ finds-content t w a among reads (subst (HasAtHand m s t w) (sym same) at_hand)
+        ∙ ap (content p s) same
+        ∙ by_hand at_hand
+      where
+        by_hand : HasAtHand m s t w a.cell → content p s a.cell ≡ held_before p t.0 a.cell
+        by_hand (Works running) =
+            let begun = ap is_begun running in
+            let w_in = subst (λ (x : Progress). (worker_of x).0 < p.workers) running (h.coherent.state.staff.staffed t begun) in
+            content-settled t w w_in a among (reads_isn't_scratch a.mode (ap not reads)) in_order (ap is_done running) (h.coherent.order.earlier t begun) settled
+        by_hand (Brought claimed valid) =
+            let begun = ap is_begun claimed in
+            let w_in = subst (λ (x : Progress). (worker_of x).0 < p.workers) claimed (h.coherent.state.staff.staffed t begun) in
+            content-settled t w w_in a among (reads_isn't_scratch a.mode (ap not reads)) in_order (ap is_done claimed) (h.coherent.order.earlier t begun) settled
+
+    -- a task with one R operand hands over what it is given
+    pub delivers-given : (t : Task) (w : Worker) (c : Cell) → (task_of p t).accesses ≡ access R c ∷ [] → HasAtHand m s t w c → array_at p s (AtNode (node_of m w)) c ≡ given p t
+    delivers-given t w c alone at_hand =
+        let among : Contains (task_of p t).accesses (access R c) = subst (λ (xs : List Access). Contains xs (access R c)) (sym alone) (one (access R c)) in
+        let v : Worker = record { 0 = 0 } in
+        let named : cells_of p t v ≡ c ∷ [] = ap (λ (xs : List Access). map (worked_on p v) (filter (λ a. not (is_scratch a.mode)) xs)) alone in
+        finds-earlier t w (access R c) among refl refl (read-settled p h.proper t c alone) at_hand
+        ∙ ap (λ (cs : List Cell). held_before p t.0 (slice_index_or cs 0 (record { 0 = 0 }))) (sym named)
+
+  -- ---- where all tasks are done
+
+  module _ (complete : IsComplete s) where
+    all-done : (u : Task) → u.0 < length p.tasks → done_in s u ≡ true
+    all-done u inside = AllPass-from_list_all is_done s.tasks complete u.0 Waiting (omega (arith, inside, h.coherent.state.rows.tasks))
+
+    none-written : (c : Cell) → is_being_written p s c ≡ false
+    none-written c = false_from_ne_true (is_being_written p s c) (λ writing. (let by = being_written-by p s c writing in by_task by.0 by.1))
+      where
+        not_waiting : (v : Worker) → Running v ≡ Waiting → ⊥
+        not_waiting v e = cc
+
+        by_task : (u : Task) → progress s u ≡ Running (done_by s u) → ⊥
+        by_task u running =
+            let inside : u.0 < length p.tasks = omega (arith, progress-inside s u (λ e. not_waiting (done_by s u) (sym running ∙ e)), h.coherent.state.rows.tasks) in
+            false≢true (sym (ap is_done running) ∙ all-done u inside)
+
+    -- a cell to which a task gives a value has been written
+    all-written : (t : Task) (c : Cell) → gives_value (task_of p t) c ≡ true → 0 < writes s c
+    all-written t c gives =
+        let given_by = Any-from_list_any (λ (a : Access). is_written a.mode && not (is_redux a.mode) && same_cell a.cell c) (task_of p t).accesses gives in
+        let inside = operand-inside p t given_by.1 (given_by.0, given_by.2, given_by.3) in
+        let counted = task-counted p (has_written p s c) t inside (ap (λ b. b && has_cell (written_cells p t (done_by s t)) c) (all-done t inside) ∙ gives-writes p t (done_by s t) c gives) in
+        omega (arith, h.coherent.counts.counted c)
+
+    -- the content of a cell that is no partial copy is what all tasks leave
+    all-content : (has : Kernel → Bool) → IsLawful has p → (c : Cell) → IsPlain p c → content p s c ≡ final p c
+    all-content has lawful c plain =
+        ap (λ z. held_in p z c) (after_chosen-same p (done_in s) (λ u. true) (done_by s) (done_by s) (length p.tasks) (λ u l. all-done u l) (λ u l e. refl))
+        ∙ workers-alike has p h.proper lawful (length p.tasks) (omega arith) c plain (λ f phase same. none-open p h.proper f phase) (done_by s) (λ u. record { 0 = 0 }) staffed (λ u. some_worker)
+
+    pub complete-final : (has : Kernel → Bool) → IsLawful has p → HoldsFinal p s
+    complete-final has lawful = record {
+      somewhere = λ t c gives. h.coherent.copies.valid_somewhere c (all-written t c gives) (none-written c);
+      alike = λ t c q gives plain. subst (λ (x : Array). IfSome (array_of (replica s c q)) (λ a. a ≡ x)) (all-content has lawful c plain) (h.coherent.copies.alike c q (all-written t c gives) (none-written c));
+    }

@@ -1,0 +1,171 @@
+-- After any tasks of a proper program each cell holds a tile of its own dimensions.
+use Rattle.std.proofs.Common.{Bool, List, None, Option, Some, [], ap, arith, cond, false, length, map, refl, subst, suc, sym, true, zero, ℕ, get_or, ◌+◌, ◌≤◌, ◌<◌, ◌∙◌, ◌∷◌, ◌≡◌, ◌&&◌}
+use Rattle.std.specs.Prelude.{All, FitsSigned, IsTrue, is_some, nat_eq, if◌then◌else◌}
+use Rattle.std.specs.Int.{w64}
+use Rattle.std.specs.List.{filter, find, zip}
+use Rattle.std.proofs.lemmas.Bool.{false≢true}
+use Rattle.std.proofs.lemmas.Bool.Decides.{nat_tests}
+use Rattle.std.proofs.lemmas.List.{length-map}
+use Rattle.std.proofs.lemmas.List.Elements.{All-get_or, All-head, All-map, All-tail}
+use Rattle.sj_base.specs.Mode.{is_redux, is_written, starts_as_zeros}
+use Rattle.sj_base.specs.declared.mode.Access.{Access}
+use Rattle.sj_base.specs.declared.mode.Mode.{Mode}
+use Rattle.sj_base.specs.declared.mode.Mode.TheVariants.{Commute, Redux, W}
+use Rattle.sj_codelet.proofs.Table.{each_dims, new_arrays-dims}
+use Rattle.sj_codelet.specs.Formal.{is_output, outputs_among}
+use Rattle.sj_codelet.specs.Kernel.{arguments_fit, dims_fit, fits, formals_of, new_arrays}
+use Rattle.sj_codelet.specs.Laws.{IsTile}
+use Rattle.sj_codelet.specs.declared.formal.Formal.{Formal}
+use Rattle.sj_codelet.specs.declared.formal.Formal.TheVariants.{R as ReadFormal, W as WriteFormal, RW as UpdateFormal, Scratch as ScratchFormal}
+use Rattle.sj_codelet.specs.declared.kernel.Kernel.{Kernel}
+use Rattle.sj_core.proofs.Words.{Array, Cell, Program, Task, Worker, cell_info, copy_of, dims_of, found, no_task, results, same_cell, task_of, worked_on, written_cells, zeros}
+use Rattle.sj_core.specs.Fold.{Contents, after_chosen, after_task, held_in}
+use Rattle.sj_core.specs.Proper.{Commuting, Contributing, FirstPaste, Fits, MayHaveModes, Own, Proper, mode_of, modes_writing_by, own_modes}
+use Rattle.sj_core.proofs.Folding.{held-append, held_over, map-same}
+use Rattle.sj_core.proofs.Reading.{same_cell-is}
+use Rattle.sj_core.proofs.Tiles.{new_arrays-tiles, zeros-tile}
+
+-- ---- which operands get new arrays
+
+same_items : {X : Type 0} (x y : X) (xs ys : List X) → x ∷ xs ≡ y ∷ ys → (x ≡ y) × (xs ≡ ys)
+same_items x y xs ys e = (cc, cc)
+
+map-map : {X Y Z : Type 0} (f : Y → Z) (g : X → Y) (xs : List X) → map f (map g xs) ≡ map (λ x. f (g x)) xs
+map-map f g [] = refl
+map-map f g (x ∷ xs) = ap (λ ys. f (g x) ∷ ys) (map-map f g xs)
+
+own-flags : (fs : List Formal) → map is_written (map mode_of fs) ≡ map is_output fs
+own-flags [] = refl
+own-flags (ReadFormal ∷ fs) = ap (λ bs. false ∷ bs) (own-flags fs)
+own-flags (WriteFormal ∷ fs) = ap (λ bs. true ∷ bs) (own-flags fs)
+own-flags (UpdateFormal ∷ fs) = ap (λ bs. true ∷ bs) (own-flags fs)
+own-flags (ScratchFormal ∷ fs) = ap (λ bs. false ∷ bs) (own-flags fs)
+
+writing-flags : (x : Mode) → is_written x ≡ true → (k : Kernel) → map is_written (modes_writing_by x k) ≡ map is_output (formals_of k)
+writing-flags x written k = map-map is_written (λ mode. if is_written mode then x else mode) (own_modes k) ∙ map-same (λ mode. is_written (if is_written mode then x else mode)) is_written (own_modes k) (λ mode h. by_mode mode (is_written mode) refl) ∙ own-flags (formals_of k)
+  where
+    by_mode : (mode : Mode) (b : Bool) → is_written mode ≡ b → is_written (if b then x else mode) ≡ is_written mode
+    by_mode mode true e = written ∙ sym e
+    by_mode mode false e = refl
+
+written-flags : (k : Kernel) (modes : List Mode) → MayHaveModes k modes → map is_written modes ≡ map is_output (formals_of k)
+written-flags k modes (Own e) = ap (map is_written) e ∙ own-flags (formals_of k)
+written-flags k modes (FirstPaste is e) = ap (map is_written) e ∙ writing-flags W refl k
+written-flags k modes (Commuting may one e) = ap (map is_written) e ∙ writing-flags Commute refl k
+written-flags k modes (Contributing by may one e) = ap (map is_written) e ∙ writing-flags Redux refl k
+
+-- the outputs of a codelet stand where a task's operands are written
+outputs-written : {X : Type 0} (g : Access → X) (fs : List Formal) (list : List Access) → map (λ a. is_written a.mode) list ≡ map is_output fs → outputs_among fs (map g list) ≡ map g (filter (λ a. is_written a.mode) list)
+outputs-written g [] [] e = refl
+outputs-written g [] (a ∷ list) e = absurd (let n : suc (length list) ≡ 0 = sym (ap suc (length-map list (λ (b : Access). is_written b.mode))) ∙ ap length e in omega arith)
+outputs-written g (f ∷ fs) [] e = refl
+outputs-written {X} g (f ∷ fs) (a ∷ list) e =
+    let both = same_items (is_written a.mode) (is_output f) (map (λ (b : Access). is_written b.mode) list) (map is_output fs) e in
+    by_flag (is_written a.mode) (is_output f) both.0 (outputs-written g fs list both.1)
+  where
+    by_flag : (b c : Bool) → b ≡ c → outputs_among fs (map g list) ≡ map g (filter (λ x. is_written x.mode) list) → (if c then g a ∷ outputs_among fs (map g list) else outputs_among fs (map g list)) ≡ map g (cond b (a ∷ filter (λ x. is_written x.mode) list) (filter (λ x. is_written x.mode) list))
+    by_flag true true e rest = ap (λ ys. g a ∷ ys) rest
+    by_flag false false e rest = rest
+    by_flag true false e rest = absurd (false≢true (sym e))
+    by_flag false true e rest = absurd (false≢true e)
+
+-- ---- sizes
+
+-- the array is a tile as large as the cell
+pub record Fills (p : Program) (c : Cell) (a : Array) : Type 0 where
+  pub tile : IsTile a
+  pub dims : a.dims ≡ dims_of p c
+
+-- each cell holds such an array
+abbrev pub AreSized : Program → Contents → Type 0
+AreSized p contents = (c : Cell) → Fills p c (held_in p contents c)
+
+pub zeros-fill : (p : Program) (c : Cell) → Fills p c (zeros (dims_of p c))
+zeros-fill p c = record { tile = zeros-tile (dims_of p c); dims = refl }
+
+-- the arrays of a list are tiles as large as these cells
+held_over-sized : (p : Program) (cs : List Cell) (arrays : List Array) (c : Cell) (below : Array) → All IsTile arrays → each_dims arrays ≡ map (dims_of p) cs → Fills p c below → Fills p c (held_over (zip cs arrays) c below)
+held_over-sized p [] arrays c below tiles dims h = h
+held_over-sized p (d ∷ cs) [] c below tiles dims h = h
+held_over-sized p (d ∷ cs) (a ∷ arrays) c below tiles dims h =
+    let both = same_items a.dims (dims_of p d) (each_dims arrays) (map (dims_of p) cs) dims in
+    by_first (same_cell d c) refl (All-head IsTile a arrays tiles) both.0 (held_over-sized p cs arrays c below (All-tail IsTile a arrays tiles) both.1 h)
+  where
+    by_first : (b : Bool) → same_cell d c ≡ b → IsTile a → a.dims ≡ dims_of p d → Fills p c (held_over (zip cs arrays) c below) → Fills p c (elim (cond b (Some (d, a)) (find (λ (entry : Cell × Array). same_cell entry.0 c) (zip cs arrays))) as (λ _. Array) [ None ↦ below | Some entry ↦ entry.1 ])
+    by_first true e tile dims rest = record { tile = tile; dims = dims ∙ ap (dims_of p) (same_cell-is d c e) }
+    by_first false e tile dims rest = rest
+
+module _ (p : Program) (proper : Proper p) (arguments : All (λ l. All (FitsSigned w64) l.args) p.tasks) where
+  -- the cell that is worked on is as large as the operand's
+  pub worked_on-dims : (w : Worker) → w.0 < p.workers → (a : Access) → dims_of p (worked_on p w a) ≡ dims_of p a.cell
+  worked_on-dims w staffed a = by_mode (is_redux a.mode)
+    where
+      copy : (o : Option Cell) → (cell_info p a.cell).partials ≡ o → dims_of p (copy_of p a.cell w) ≡ dims_of p a.cell
+      copy None e = ap (λ (o : Option Cell). dims_of p (elim o as (λ _. Cell) [ None ↦ a.cell | Some f ↦ record { 0 = f.0 + w.0 } ])) e
+      copy (Some f) e = (proper.cells.copies (copy_of p a.cell w) a.cell w (record { has_copies = ap is_some e; of_worker = staffed; is = refl })).1
+
+      by_mode : (b : Bool) → dims_of p (if b then copy_of p a.cell w else a.cell) ≡ dims_of p a.cell
+      by_mode true = copy (cell_info p a.cell).partials refl
+      by_mode false = refl
+
+  pub found-fills : (w : Worker) → w.0 < p.workers → (held : Cell → Array) → ((c : Cell) → Fills p c (held c)) → (a : Access) → Fills p a.cell (found p w held a)
+  found-fills w staffed held sized a = by_start (starts_as_zeros a.mode)
+    where
+      by_start : (b : Bool) → Fills p a.cell (if b then zeros (dims_of p a.cell) else held (worked_on p w a))
+      by_start true = zeros-fill p a.cell
+      by_start false = record { tile = (sized (worked_on p w a)).tile; dims = (sized (worked_on p w a)).dims ∙ worked_on-dims w staffed a }
+
+  module _ (t : Task) (inside : t.0 < length p.tasks) (w : Worker) (staffed : w.0 < p.workers) (held : Cell → Array) (sized : (c : Cell) → Fills p c (held c)) where
+    pub fit : Fits p (task_of p t)
+    fit = All-get_or (Fits p) p.tasks t.0 no_task inside proper.codelets
+
+    abbrev pub ins : List Array
+    ins = map (found p w held) (task_of p t).accesses
+
+    ins-dims : each_dims ins ≡ map (λ a. dims_of p a.cell) (task_of p t).accesses
+    ins-dims = map-map (λ (x : Array). x.dims) (found p w held) (task_of p t).accesses ∙ map-same (λ a. (found p w held a).dims) (λ a. dims_of p a.cell) (task_of p t).accesses (λ a h. (found-fills w staffed held sized a).dims)
+
+    -- the operands that a task finds are such as its codelet takes
+    pub ins-fit : IsTrue (fits fit.kernel (task_of p t).args (each_dims ins))
+    ins-fit = ap (fits fit.kernel (task_of p t).args) ins-dims ∙ fit.operands
+
+    pub ins-tiles : All IsTile ins
+    ins-tiles = All-map IsTile (found p w held) (task_of p t).accesses (λ i d l. (found-fills w staffed held sized (get_or (task_of p t).accesses i d)).tile)
+
+    made : results p t w held ≡ new_arrays fit.kernel (task_of p t).args ins
+    made = ap (λ (o : Option Kernel). elim o as (λ _. List Array) [ None ↦ [] | Some k ↦ new_arrays k (task_of p t).args ins ]) fit.codelet
+
+    -- the new arrays are tiles as large as the cells that the task writes
+    results-tiles : All IsTile (results p t w held)
+    results-tiles = subst (All IsTile) (sym made) (new_arrays-tiles fit.kernel (task_of p t).args ins (All-get_or (λ l. All (FitsSigned w64) l.args) p.tasks t.0 no_task inside arguments) ins-fit ins-tiles)
+
+    results-dims : each_dims (results p t w held) ≡ map (dims_of p) (written_cells p t w)
+    results-dims =
+        let l = task_of p t in
+        let parts = three (length (each_dims ins)) (length (formals_of fit.kernel)) (arguments_fit fit.kernel l.args (each_dims ins)) (dims_fit fit.kernel l.args (each_dims ins)) ins-fit in
+        ap each_dims made
+        ∙ new_arrays-dims fit.kernel l.args ins (sym (length-map ins (λ (x : Array). x.dims)) ∙ parts.0) parts.1
+        ∙ ap (outputs_among (formals_of fit.kernel)) ins-dims
+        ∙ outputs-written (λ a. dims_of p a.cell) (formals_of fit.kernel) l.accesses (sym (map-map is_written (λ (a : Access). a.mode) l.accesses) ∙ written-flags fit.kernel (map (λ (a : Access). a.mode) l.accesses) fit.modes)
+        ∙ map-same (λ a. dims_of p a.cell) (λ a. dims_of p (worked_on p w a)) (filter (λ a. is_written a.mode) l.accesses) (λ a h. sym (worked_on-dims w staffed a))
+        ∙ sym (map-map (dims_of p) (worked_on p w) (filter (λ a. is_written a.mode) l.accesses))
+      where
+        three : (n m : ℕ) (b c : Bool) → (nat_eq n m && b && c) ≡ true → (n ≡ m) × (c ≡ true)
+        three n m true c h = (grind (arith, nat_tests), grind (arith, nat_tests))
+        three n m false c h = absurd (grind (arith, nat_tests))
+
+  -- a task leaves cells sized
+  pub after_task-sized : (t : Task) → t.0 < length p.tasks → (w : Worker) → w.0 < p.workers → (before : Contents) → AreSized p before → AreSized p (after_task p w t before)
+  after_task-sized t inside w staffed before sized c =
+      let held = held_in p before in
+      subst (Fills p c) (sym (held-append p (zip (written_cells p t w) (results p t w held)) before c))
+      (held_over-sized p (written_cells p t w) (results p t w held) c (held c) (results-tiles t inside w staffed held sized) (results-dims t inside w staffed held sized) (sized c))
+
+  -- and so do any tasks
+  pub after_chosen-sized : (chosen : Task → Bool) (by : Task → Worker) → ((u : Task) → (by u).0 < p.workers) → (n : ℕ) → n ≤ length p.tasks → AreSized p (after_chosen p chosen by n)
+  after_chosen-sized chosen by staffed zero l c = zeros-fill p c
+  after_chosen-sized chosen by staffed (suc n) l c = by_choice (chosen (record { 0 = n })) (λ d. after_chosen-sized chosen by staffed n (omega arith) d)
+    where
+      by_choice : (b : Bool) → AreSized p (after_chosen p chosen by n) → Fills p c (held_in p (if b then after_task p (by (record { 0 = n })) (record { 0 = n }) (after_chosen p chosen by n) else after_chosen p chosen by n) c)
+      by_choice true sized = after_task-sized (record { 0 = n }) (omega arith) (by (record { 0 = n })) (staffed (record { 0 = n })) (after_chosen p chosen by n) sized c
+      by_choice false sized = sized c

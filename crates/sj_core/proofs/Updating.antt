@@ -1,0 +1,234 @@
+-- A task with a COMMUTE or a REDUX operand updates one cell alone, by its last operand.
+use Rattle.std.proofs.Common.{Bool, List, [], ap, arith, cond, false, inl, inr, length, map, not, refl, subst, suc, sym, true, ◌++◌, ◌<◌, ◌||◌, ◌∙◌, ◌∷◌, ◌≡◌, ◌≢◌, ◌⊎◌}
+use Rattle.std.specs.List.{Contains, filter, list_all}
+use Rattle.std.proofs.lemmas.Bool.{false≢true, true≢false, not-true}
+use Rattle.std.proofs.lemmas.List.{get_or-map, length-map, map-append}
+use Rattle.std.proofs.lemmas.List.Elements.{All-get_or, Contains-append_cases, Contains-append_left}
+use Rattle.std.proofs.lemmas.List.Sums.{AllPass-from_list_all}
+use Rattle.sj_base.specs.Mode.{is_in_order, is_redux, is_scratch, is_written, starts_as_zeros}
+use Rattle.sj_base.specs.declared.mode.Access.{Access}
+use Rattle.sj_base.specs.declared.mode.Mode.{Mode}
+use Rattle.sj_base.specs.declared.mode.Mode.TheVariants.{Commute as CommuteMode, R, RW, Redux, Scratch, W}
+use Rattle.sj_base.specs.declared.mode.Reduction.{Reduction}
+use Rattle.sj_base.specs.declared.mode.Reduction.TheVariants.{Plus, Least}
+use Rattle.sj_base.specs.declared.program.Codelet.{Codelet}
+use Rattle.sj_codelet.proofs.Table.{by_table}
+use Rattle.sj_codelet.specs.Formal.{is_output}
+use Rattle.sj_codelet.specs.Kernel.{commutes_of, contributes_of, formals_of}
+use Rattle.sj_codelet.specs.declared.formal.Formal.{Formal}
+use Rattle.sj_codelet.specs.declared.formal.Formal.TheVariants.{R as ReadFormal, W as WriteFormal, RW as UpdateFormal, Scratch as ScratchFormal}
+use Rattle.sj_codelet.specs.declared.kernel.Kernel.{Kernel}
+use Rattle.sj_codelet.specs.declared.kernel.Kernel.TheVariants.{Add, Axpy, Dot, Gemm, GemmThree, Lowest, MinGemm, Scale, Sum}
+use Rattle.sj_deps.specs.Conflict.{Uses}
+use Rattle.sj_deps.specs.declared.manner.Manner.TheVariants.{Read}
+use Rattle.sj_core.proofs.Words.{Cell, Program, Task, Worker, no_task, task_of, worked_on, written_cells}
+use Rattle.sj_core.specs.Proper.{Commuting, Contributing, FirstPaste, Fits, MayHaveModes, Own, Proper, mode_of, modes_writing_by, own_modes}
+use Rattle.sj_core.proofs.Dependencies.{Proper-dependencies, map-from, one_is}
+use Rattle.sj_core.proofs.Modes.{then, written_isn't_scratch}
+use Rattle.sj_core.proofs.Sharing.{manner_of, operand-uses, redux-has_copies}
+use Rattle.sj_core.proofs.Swapping.{Updates}
+
+-- ---- codelets
+
+-- a commuting codelet updates its last operand, and only reads those before, scratch aside
+pub record UpdatesLast (k : Kernel) : Type 0 where
+  pub first : List Formal
+  pub formals : formals_of k ≡ first ++ UpdateFormal ∷ []
+  pub read_only : list_all (λ f. not (is_output f)) first ≡ true
+
+pub updates-last : (k : Kernel) → commutes_of k ≡ true → UpdatesLast k
+updates-last Scale h = record { first = []; formals = refl; read_only = refl }
+updates-last Add h = record { first = ReadFormal ∷ []; formals = refl; read_only = refl }
+updates-last Axpy h = record { first = ReadFormal ∷ []; formals = refl; read_only = refl }
+updates-last Gemm h = record { first = ReadFormal ∷ ReadFormal ∷ []; formals = refl; read_only = refl }
+updates-last GemmThree h = record { first = ReadFormal ∷ ReadFormal ∷ ReadFormal ∷ ScratchFormal ∷ []; formals = refl; read_only = refl }
+updates-last Dot h = record { first = ReadFormal ∷ ReadFormal ∷ []; formals = refl; read_only = refl }
+updates-last Sum h = record { first = ReadFormal ∷ []; formals = refl; read_only = refl }
+updates-last Lowest h = record { first = ReadFormal ∷ []; formals = refl; read_only = refl }
+updates-last MinGemm h = record { first = ReadFormal ∷ ReadFormal ∷ []; formals = refl; read_only = refl }
+updates-last k h = absurd (false≢true h)
+
+-- a contributing codelet commutes
+pub contributing-commutes : (k : Kernel) (by : Reduction) → contributes_of k by ≡ true → commutes_of k ≡ true
+contributing-commutes k Plus h = then (contributes_of k Plus) (commutes_of k) (by_table (λ j. not (contributes_of j Plus) || commutes_of j) refl k) h
+contributing-commutes k Least h = then (contributes_of k Least) (commutes_of k) (by_table (λ j. not (contributes_of j Least) || commutes_of j) refl k) h
+
+-- a codelet contributes to one reduction alone
+pub one_reduction : (k : Kernel) (by by' : Reduction) → contributes_of k by ≡ true → contributes_of k by' ≡ true → by ≡ by'
+one_reduction k Plus Plus h h' = refl
+one_reduction k Least Least h h' = refl
+one_reduction k Plus Least h h' = absurd (true≢false (sym h' ∙ not-true (contributes_of k Least) (then (contributes_of k Plus) (not (contributes_of k Least)) (by_table (λ j. not (contributes_of j Plus) || not (contributes_of j Least)) refl k) h)))
+one_reduction k Least Plus h h' = absurd (true≢false (sym h ∙ not-true (contributes_of k Least) (then (contributes_of k Plus) (not (contributes_of k Least)) (by_table (λ j. not (contributes_of j Plus) || not (contributes_of j Least)) refl k) h')))
+
+-- ---- modes
+
+own-in_order : (f : Formal) → is_in_order (mode_of f) ≡ true
+own-in_order ReadFormal = refl
+own-in_order WriteFormal = refl
+own-in_order UpdateFormal = refl
+own-in_order ScratchFormal = refl
+
+-- a mode in place of the codelet's own is the given one, or stands in order
+writing-is : (x y : Mode) (k : Kernel) → Contains (modes_writing_by x k) y → (y ≡ x) ⊎ (is_in_order y ≡ true)
+writing-is x y k h =
+    let own = map-from (λ mode. cond (is_written mode) x mode) (own_modes k) y h in
+    let formal = map-from mode_of (formals_of k) own.0 own.1 in
+    by_mode own.0 (is_written own.0) own.2 (ap is_in_order (sym formal.2) ∙ own-in_order formal.0)
+  where
+    by_mode : (mode : Mode) (b : Bool) → cond b x mode ≡ y → is_in_order mode ≡ true → (y ≡ x) ⊎ (is_in_order y ≡ true)
+    by_mode mode true e f = inl (sym e)
+    by_mode mode false e f = inr (ap is_in_order (sym e) ∙ f)
+
+-- the modes of a codelet of which one stands out of order
+pub record IsShared (k : Kernel) (ms : List Mode) (x : Mode) : Type 0 where
+  pub commutes : commutes_of k ≡ true
+  pub modes : ms ≡ modes_writing_by x k
+  pub contributes : x ≡ Redux → (by : Reduction) × (contributes_of k by ≡ true)
+
+shared-modes : (k : Kernel) (modes : List Mode) (x : Mode) → MayHaveModes k modes → is_in_order x ≡ false → Contains modes x → IsShared k modes x
+shared-modes k modes x (Own e) out h = let formal = map-from mode_of (formals_of k) x (subst (λ (ms : List Mode). Contains ms x) e h) in absurd (false≢true (sym out ∙ ap is_in_order (sym formal.2) ∙ own-in_order formal.0))
+shared-modes k modes x (FirstPaste is e) out h = elim (writing-is W x k (subst (λ (ms : List Mode). Contains ms x) e h)) [ inl f ↦ absurd (false≢true (sym out ∙ ap is_in_order f)) | inr f ↦ absurd (false≢true (sym out ∙ f)) ]
+shared-modes k modes x (Commuting may one e) out h = elim (writing-is CommuteMode x k (subst (λ (ms : List Mode). Contains ms x) e h)) [
+  | inl f ↦ record { commutes = may; modes = subst (λ (y : Mode). modes ≡ modes_writing_by y k) (sym f) e; contributes = λ g. absurd (let is : CommuteMode ≡ Redux = sym f ∙ g in cc) }
+  | inr f ↦ absurd (false≢true (sym out ∙ f))
+]
+shared-modes k modes x (Contributing by may one e) out h = elim (writing-is Redux x k (subst (λ (ms : List Mode). Contains ms x) e h)) [
+  | inl f ↦ record { commutes = contributing-commutes k by may; modes = subst (λ (y : Mode). modes ≡ modes_writing_by y k) (sym f) e; contributes = λ g. (by, may) }
+  | inr f ↦ absurd (false≢true (sym out ∙ f))
+]
+
+-- ---- lists
+
+pub Contains-map : {X Y : Type 0} (f : X → Y) (xs : List X) (x : X) → Contains xs x → Contains (map f xs) (f x)
+Contains-map f xs x (k, l, e) = (k, omega (arith, length-map xs f), get_or-map f xs k x (f x) l ∙ ap f e)
+
+-- where a map ends, its list does
+pub record EndsBy {X Y : Type 0} (g : X → Y) (xs : List X) (ys : List Y) (y : Y) : Type 0 where
+  pub first : List X
+  pub last : X
+  pub is : xs ≡ first ++ last ∷ []
+  pub before : map g first ≡ ys
+  pub end : g last ≡ y
+
+ends-by : {X Y : Type 0} (g : X → Y) (xs : List X) (ys : List Y) (y : Y) → map g xs ≡ ys ++ y ∷ [] → EndsBy g xs ys y
+ends-by g [] [] y e = absurd (let n : 0 ≡ 1 = ap length e in omega arith)
+ends-by g [] (z ∷ ys) y e = absurd (let n : 0 ≡ suc (length (ys ++ y ∷ [])) = ap length e in omega arith)
+ends-by g (x ∷ []) [] y e = record { first = []; last = x; is = refl; before = refl; end = let f : g x ∷ [] ≡ y ∷ [] = e in cc }
+ends-by g (x ∷ w ∷ xs) [] y e = absurd (let n : suc (suc (length (map g xs))) ≡ 1 = ap length e in omega arith)
+ends-by g (x ∷ xs) (z ∷ ys) y e =
+    let f : g x ∷ map g xs ≡ z ∷ (ys ++ y ∷ []) = e in
+    let heads : g x ≡ z = cc in
+    let tails : map g xs ≡ ys ++ y ∷ [] = cc in
+    let rest = ends-by g xs ys y tails in
+    record { first = x ∷ rest.first; last = rest.last; is = ap (λ zs. x ∷ zs) rest.is; before = ap (λ zs. g x ∷ zs) rest.before ∙ ap (λ v. v ∷ ys) heads; end = rest.end }
+
+filter-last : {X : Type 0} (f : X → Bool) (xs : List X) (x : X) → ((y : X) → Contains xs y → f y ≡ false) → f x ≡ true → filter f (xs ++ x ∷ []) ≡ x ∷ []
+filter-last f [] x none passes = ap (λ b. cond b (x ∷ []) []) passes
+filter-last f (y ∷ xs) x none passes = ap (λ b. cond b (y ∷ filter f (xs ++ x ∷ [])) (filter f (xs ++ x ∷ []))) (none y (0, omega arith, refl)) ∙ filter-last f xs x (λ z h. none z (suc h.0, omega (arith, h.1), h.2)) passes
+
+-- ---- tasks
+
+out-is_written : (x : Mode) → is_in_order x ≡ false → is_written x ≡ true
+out-is_written R h = absurd (true≢false h)
+out-is_written W h = absurd (true≢false h)
+out-is_written RW h = absurd (true≢false h)
+out-is_written Scratch h = absurd (true≢false h)
+out-is_written Redux h = refl
+out-is_written CommuteMode h = refl
+
+pub out-reads : (x : Mode) → is_in_order x ≡ false → starts_as_zeros x ≡ false
+out-reads R h = absurd (true≢false h)
+out-reads W h = absurd (true≢false h)
+out-reads RW h = absurd (true≢false h)
+out-reads Scratch h = absurd (true≢false h)
+out-reads Redux h = refl
+out-reads CommuteMode h = refl
+
+out-isn't_read : (k : Codelet) (x : Mode) → is_in_order x ≡ false → Read ≢ manner_of k x
+out-isn't_read k R h e = true≢false h
+out-isn't_read k W h e = true≢false h
+out-isn't_read k RW h e = true≢false h
+out-isn't_read k Scratch h e = true≢false h
+out-isn't_read k Redux h e = cc
+out-isn't_read k CommuteMode h e = cc
+
+module _ (p : Program) (proper : Proper p) (t : Task) (inside : t.0 < length p.tasks) where
+  -- a data operand of a task uses the cell that is worked on
+  pub operand-used : (w : Worker) → w.0 < p.workers → (a : Access) → Contains (task_of p t).accesses a → not (is_scratch a.mode) ≡ true → Uses p t.0 (worked_on p w a).0 (manner_of (task_of p t).codelet a.mode)
+  operand-used w staffed a among accessed = operand-uses p t w a.mode a.cell inside among accessed (λ redux. (let c = redux-has_copies p proper.cells t inside a.mode a.cell among redux in (staffed, c.0, c.1)))
+
+  pub own-fit : Fits p (task_of p t)
+  own-fit = All-get_or (Fits p) p.tasks t.0 no_task inside proper.codelets
+
+  -- the codelet of a task with an operand out of order
+  pub shared-codelet : (a : Access) → Contains (task_of p t).accesses a → is_in_order a.mode ≡ false → IsShared own-fit.kernel (map (λ b. b.mode) (task_of p t).accesses) a.mode
+  shared-codelet a among out = shared-modes own-fit.kernel (map (λ b. b.mode) (task_of p t).accesses) a.mode own-fit.modes out (Contains-map (λ (b : Access). b.mode) (task_of p t).accesses a among)
+
+  module _ (a : Access) (among : Contains (task_of p t).accesses a) (out : is_in_order a.mode ≡ false) where
+    pub shared : IsShared own-fit.kernel (map (λ b. b.mode) (task_of p t).accesses) a.mode
+    shared = shared-codelet a among out
+
+    abbrev pub in_place : Mode → Mode
+    in_place mode = cond (is_written mode) a.mode mode
+
+    pub last_row : UpdatesLast own-fit.kernel
+    last_row = updates-last own-fit.kernel shared.commutes
+
+    pub ends : EndsBy (λ (b : Access). b.mode) (task_of p t).accesses (map in_place (map mode_of last_row.first)) a.mode
+    ends = ends-by (λ (b : Access). b.mode) (task_of p t).accesses (map in_place (map mode_of last_row.first)) a.mode (shared.modes ∙ ap (λ (fs : List Formal). map in_place (map mode_of fs)) last_row.formals ∙ ap (map in_place) (map-append mode_of last_row.first (UpdateFormal ∷ [])) ∙ map-append in_place (map mode_of last_row.first) (RW ∷ []))
+
+    -- an operand before the last one is only read, or scratch
+    pub first-is : (b : Access) → Contains ends.first b → (b.mode ≡ R) ⊎ (b.mode ≡ Scratch)
+    first-is b h =
+        let placed = map-from in_place (map mode_of last_row.first) b.mode (subst (λ (ms : List Mode). Contains ms b.mode) ends.before (Contains-map (λ (z : Access). z.mode) ends.first b h)) in
+        let formal = map-from mode_of last_row.first placed.0 placed.1 in
+        by_formal formal.0 (passes formal.0 formal.1) (ap in_place formal.2 ∙ placed.2)
+      where
+        passes : (f : Formal) → Contains last_row.first f → not (is_output f) ≡ true
+        passes f (k, l, e) = ap (λ (g : Formal). not (is_output g)) (sym e) ∙ AllPass-from_list_all (λ g. not (is_output g)) last_row.first last_row.read_only k f l
+
+        by_formal : (f : Formal) → not (is_output f) ≡ true → in_place (mode_of f) ≡ b.mode → (b.mode ≡ R) ⊎ (b.mode ≡ Scratch)
+        by_formal ReadFormal read e = inl (sym e)
+        by_formal ScratchFormal read e = inr (sym e)
+        by_formal WriteFormal read e = absurd (false≢true read)
+        by_formal UpdateFormal read e = absurd (false≢true read)
+
+    pub last-is : ends.last ≡ a
+    last-is = elim (Contains-append_cases ends.first (ends.last ∷ []) a (subst (λ (xs : List Access). Contains xs a) ends.is among)) [
+      | inr here ↦ one_is ends.last a here
+      | inl h ↦ elim (first-is a h) [ inl e ↦ absurd (false≢true (sym out ∙ ap is_in_order e)) | inr e ↦ absurd (false≢true (sym out ∙ ap is_in_order e)) ]
+    ]
+
+    unwritten : (b : Access) → Contains ends.first b → is_written b.mode ≡ false
+    unwritten b h = elim (first-is b h) [ inl e ↦ ap is_written e | inr e ↦ ap is_written e ]
+
+    pub unaliased : (w : Worker) → w.0 < p.workers → (b : Access) → Contains ends.first b → starts_as_zeros b.mode ≡ false → worked_on p w b ≢ worked_on p w a
+    unaliased w staffed b h reads e = elim (first-is b h) [
+      | inr scratch ↦ true≢false (ap starts_as_zeros (sym scratch) ∙ reads)
+      | inl read ↦
+          let b_in = subst (λ (xs : List Access). Contains xs b) (sym ends.is) (Contains-append_left ends.first (ends.last ∷ []) b h) in
+          let first : Uses p t.0 (worked_on p w a).0 Read = subst (λ (q : Cell). Uses p t.0 q.0 Read) e (subst (λ (x : Mode). Uses p t.0 (worked_on p w b).0 (manner_of (task_of p t).codelet x)) read (operand-used w staffed b b_in (ap (λ (x : Mode). not (is_scratch x)) read))) in
+          let second = operand-used w staffed a among (written_isn't_scratch a.mode (out-is_written a.mode out)) in
+          out-isn't_read (task_of p t).codelet a.mode out ((Proper-dependencies p proper).manners t.0 (worked_on p w a).0 Read (manner_of (task_of p t).codelet a.mode) first second)
+    ]
+
+    pub written-one : (w : Worker) → written_cells p t w ≡ worked_on p w a ∷ []
+    written-one w =
+        ap (λ (xs : List Access). map (worked_on p w) (filter (λ b. is_written b.mode) xs)) ends.is
+        ∙ ap (map (worked_on p w)) (filter-last (λ b. is_written b.mode) ends.first ends.last unwritten (ap is_written ends.end ∙ out-is_written a.mode out))
+        ∙ ap (λ (b : Access). worked_on p w b ∷ []) last-is
+
+    -- it updates the operand's cell
+    abbrev pub updates : (w : Worker) → w.0 < p.workers → Updates p t w (worked_on p w a)
+    updates w staffed = record {
+      kernel = own-fit.kernel;
+      codelet = own-fit.codelet;
+      before = ends.first;
+      last = ends.last;
+      accesses = ends.is;
+      reads = ap starts_as_zeros ends.end ∙ out-reads a.mode out;
+      cell = ap (worked_on p w) last-is;
+      written = written-one w;
+      direct = λ b h. elim (first-is b h) [ inl e ↦ ap is_redux e | inr e ↦ ap is_redux e ];
+      others = unaliased w staffed;
+    }

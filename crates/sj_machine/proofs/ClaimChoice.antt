@@ -1,0 +1,94 @@
+-- What is answered to a claim: its plan, or why it can't be made.
+use Rattle.std.proofs.Common.{◌≡◌, ℕ, ◌^◌, ◌<◌, ◌≤◌, true, List, Option, Some, None, length, get_or, option_map, sym, ap, ◌∙◌, subst, arith}
+use Rattle.std.specs.Prelude.{All, Result, IfErr, IfOk, OnOk}
+use Rattle.std.specs.Option.{ok_or}
+use Rattle.std.proofs.lemmas.List.{get_or_default}
+use Rattle.std.proofs.lemmas.List.Elements.{All-get_or, All-weaker}
+use Rattle.sj_base.specs.Array.{area}
+use Rattle.sj_base.specs.declared.program.CellInfo.{CellInfo}
+use Rattle.sj_base.specs.declared.program.Lowered.{Lowered}
+use Rattle.sj_base.specs.declared.trace.Event.TheVariants.{Claim}
+use Rattle.sj_core.proofs.Words.{Cell, Machine, Node, Program, State, Task, Worker, WorkerState, no_cell, no_task, node_of, task_of}
+use Rattle.sj_core.specs.Laws.{IsSound}
+use Rattle.sj_core.specs.Step.{none_leaving}
+use Rattle.sj_node.specs.Store.{Store}
+use Rattle.sj_machine.specs.Agrees.{IsWide, Rows, store_of}
+use Rattle.sj_machine.specs.Plan.{ClaimPlan, IsPlan, IsSmallCell}
+use Rattle.sj_machine.specs.Planning.{HasSmallTask, IsWhy, MayClaim, NoneLeaves, chosen_on, is_leaving_at, planned}
+use Rattle.sj_machine.specs.Sound.{Keeps}
+use Rattle.sj_machine.specs.Standing.{CanHappen, Standing, state}
+use Rattle.sj_machine.specs.declared.plan.Why.{Why}
+use Rattle.sj_machine.specs.declared.plan.Why.TheVariants.{Leaving, NoRoom}
+use Rattle.sj_machine.proofs.ClaimFinding.{commuters-free, leaves-same, none-leaves, plan-right, plan-wrong}
+use Rattle.sj_machine.proofs.ClaimPins.{few-operands}
+use Rattle.sj_machine.proofs.Keeping.{sound_state}
+
+-- the answer: where it is a plan, the claim can happen and the plan is its; else the reason stands
+pub record IsAnswer {D : Type 0} (b : Standing D) (t : Task) (w : Worker) (answer : Result ClaimPlan Why) : Type 0 where
+  pub can : OnOk answer (CanHappen b (Claim t w))
+  pub plan : IfOk answer (IsPlan b.program b.machine (state b) t w)
+  pub why : IfErr answer (IsWhy b.program b.machine (state b) t w)
+
+pub answer-told : {D : Type 0} (b b' : Standing D) (t : Task) (w : Worker) (r r' : Result ClaimPlan Why) → b ≡ b' → r' ≡ r → IsAnswer b t w r → IsAnswer b' t w r'
+answer-told b b' t w r r' same is answer = subst (λ (x : Standing _). IsAnswer x t w r') same (subst (λ (x : Result ClaimPlan Why). IsAnswer b t w x) (sym is) answer)
+
+module _ {D : Type 0} (size faults mismatches : D → ℕ) (held : D → Option (List ℕ)) (b : Standing D) (rows : Rows) (owed spare : ℕ) (keeps : Keeps size faults mismatches held b rows owed spare) (t : Task) (w : Worker) (may : MayClaim b.program b.machine (state b) t w) (k : Node) (at : k ≡ node_of b.machine w) where
+  abbrev p : Program
+  p = b.program
+
+  abbrev m : Machine
+  m = b.machine
+
+  abbrev s : State
+  s = state b
+
+  sound : IsSound p m s
+  sound = sound_state size faults mismatches held b rows owed spare keeps
+
+  -- ---- that it can be answered
+
+  pub choice-some_node : 0 < length m.nodes
+  choice-some_node = omega (arith, sound.machine.some_node)
+
+  pub choice-few_nodes : length m.nodes ≤ 16
+  choice-few_nodes = sound.machine.few_nodes
+
+  within : k.0 < length m.nodes
+  within = subst (λ (j : Node). j.0 < length m.nodes) (sym at) (let some = sound.machine.some_node in omega arith)
+
+  pub choice-node : k.0 < length rows.nodes
+  choice-node = omega (arith, within, keeps.agrees.stores.every_node)
+
+  pub choice-wide : All (λ row. k.0 < length row.marks) rows.cells
+  choice-wide = All-weaker (IsWide (length m.nodes)) (λ row. k.0 < length row.marks) (λ row is. omega (arith, is.marks, within)) rows.cells keeps.agrees.marks.wide
+
+  pub choice-small : HasSmallTask p t
+  choice-small = record {
+    task = may.ready.task;
+    cells = All-weaker (λ a. a.cell.0 < length p.cells) (λ a. IsSmallCell p a.cell) (λ a inside. record { cell = inside; small = All-get_or (λ (c : CellInfo). area c.dims ≤ 2 ^ 24) p.cells a.cell.0 no_cell inside sound.proper.limits.elements }) (task_of p t).accesses
+        (All-get_or (λ (l : Lowered). All (λ a. a.cell.0 < length p.cells) l.accesses) p.tasks t.0 no_task may.ready.task sound.proper.cells.named);
+    few = few-operands p sound.proper t;
+  }
+
+  -- ---- the answer
+
+  pub choice-leaving : (c : Cell) → is_leaving_at rows.cells k c ≡ true → IsWhy p m s t w (Leaving c)
+  choice-leaving c leaves = (
+    commuters-free p keeps.sound.run.plain t w s,
+    sym (leaves-same p m s sound.coherent rows.cells keeps.agrees.marks (node_of m w) c) ∙ ap (λ (j : Node). is_leaving_at rows.cells j c) (sym at) ∙ leaves,
+  )
+
+  pub choice-found : All (λ row. NoneLeaves rows.cells k row.victims) rows.workers → (store d : Store) → store ≡ get_or rows.nodes k.0 d → (found : Option ClaimPlan) → found ≡ option_map (planned p store t) (chosen_on p store t) → IsAnswer b t w (ok_or found NoRoom)
+  choice-found none store d read found is = by_found found is
+    where
+      settled : none_leaving s (node_of m w) ≡ true
+      settled = none-leaves p m s sound.coherent rows.cells keeps.agrees.marks (node_of m w)
+          (subst (λ (j : Node). All (λ row. NoneLeaves rows.cells j row.victims) s.workers) at
+          (subst (λ (ws : List WorkerState). All (λ row. NoneLeaves rows.cells k row.victims) ws) keeps.agrees.workers none))
+
+      store-is : store ≡ store_of p m s (node_of m w)
+      store-is = read ∙ get_or_default rows.nodes k.0 d (store_of p m s k) choice-node ∙ keeps.agrees.stores.stores k within ∙ ap (store_of p m s) at
+
+      by_found : (o : Option ClaimPlan) → o ≡ option_map (planned p store t) (chosen_on p store t) → IsAnswer b t w (ok_or o NoRoom)
+      by_found (Some plan) e = (let right = plan-right p m s keeps.sound.run.plain t w may settled store plan store-is e in record { can = right.0; plan = right.1; why = tt })
+      by_found None e = record { can = tt; plan = tt; why = (commuters-free p keeps.sound.run.plain t w s, settled, plan-wrong p m s keeps.sound.run.plain t w may settled store store-is e) }

@@ -1,0 +1,32 @@
+-- Entries of a node that are taken away.
+use Rattle.std.proofs.Common.{◌≡◌, ◌<◌, ℕ, true, false, List, [], ◌∷◌, ◌∙◌, ap, arith, Some, inl, inr, cond, find, get_or, length, not, refl, take}
+use Rattle.std.specs.Prelude.{All}
+use Rattle.std.specs.Option.{option_map_or}
+use Rattle.std.proofs.lemmas.Bool.{cases_Bool, or_parts}
+use Rattle.std.proofs.lemmas.List.Elements.{All-filter, All-tail}
+use Rattle.std.proofs.lemmas.List.Folds.{list_any_at}
+use Rattle.sj_base.specs.declared.ids.Cell.{Cell}
+use Rattle.sj_node.specs.Entry.{Entry, has_entry, is_among, is_of, pins_of, without, without_all}
+use Rattle.sj_machine.specs.Running.{AreUnpinned}
+
+-- where the cell has no entry
+pub without-absent : (c : Cell) (es : List Entry) → has_entry es c ≡ false → without c es ≡ es
+without-absent c [] h = refl
+without-absent c (e ∷ es) h =
+    let parts = or_parts (is_of c e) (has_entry es c) h in
+    ap (λ b. cond (not b) (e ∷ without c es) (without c es)) parts.0 ∙ ap (λ (xs : List Entry). e ∷ xs) (without-absent c es parts.1)
+
+-- a cell none of whose entries is pinned
+pub unpinned-pins : (c : Cell) (es : List Entry) → All (λ e. is_of c e ≡ true → e.pins ≡ 0) es → pins_of es c ≡ 0
+unpinned-pins c [] h = refl
+unpinned-pins c (e ∷ es) h =
+    elim (cases_Bool (is_of c e)) [
+      | inl is ↦ ap (λ b. option_map_or (λ (x : Entry). x.pins) (cond b (Some e) (find (is_of c) es)) 0) is ∙ h 0 e (omega arith) is
+      | inr other ↦ ap (λ b. option_map_or (λ (x : Entry). x.pins) (cond b (Some e) (find (is_of c) es)) 0) other ∙ unpinned-pins c es (All-tail (λ (x : Entry). is_of c x ≡ true → x.pins ≡ 0) e es h)
+    ]
+
+-- a cell among those whose entries are unpinned, with some of these entries gone
+pub unpinned-rest : (cells : List Cell) (es : List Entry) (i : ℕ) (d : Cell) → i < length cells → AreUnpinned cells es → pins_of (without_all (take i cells) es) (get_or cells i d) ≡ 0
+unpinned-rest cells es i d inside h =
+    let c = get_or cells i d in
+    unpinned-pins c (without_all (take i cells) es) (All-filter (λ e. not (is_among (take i cells) e)) (λ e. is_of c e ≡ true → e.pins ≡ 0) es (λ k x within is. h k x within (list_any_at (λ y. is_of y (get_or es k x)) cells i d inside is)))

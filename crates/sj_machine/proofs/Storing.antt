@@ -1,0 +1,320 @@
+-- What a store and a fetch of a disk leave: the same state, over disks that hold what they held.
+use Rattle.std.proofs.Common.{◌≡◌, ◌≢◌, ◌<◌, ℕ, ℤ, Bool, true, List, Option, None, Some, refl, sym, ap, ◌∙◌, subst, arith, inl, inr, ◌⊎◌, length, get_or, is_some}
+use Rattle.std.specs.Prelude.{All, FitsSigned, IfSome, IsSome, IsSomeAnd, OnOk, Result, Ok, Err, is_ok, option_map, slice_get}
+use Rattle.std.specs.Int.{w64}
+use Rattle.std.proofs.lemmas.Bool.{cases_lt, false≢true}
+use Rattle.std.proofs.lemmas.List.{get_or-set_other, get_or-set_same, get_or_past}
+use Rattle.std.proofs.lemmas.List.Elements.{All-get_or, AllZip-get_or, length_all_zip}
+use Rattle.std.proofs.lemmas.Option.{get_or_from_slice_get, slice_get_within}
+use Rattle.sj_base.specs.Array.{area}
+use Rattle.sj_base.specs.declared.tile.Dims.{Dims}
+use Rattle.sj_core.specs.declared.progress.Transfer.{Transfer}
+use Rattle.sj_core.proofs.Words.{Array, Block, Cell, DiskNo, Machine, OnDisk, Place, Program, State, Worker, WorkerState, dims_of, is_valid, replica, transfer, writes}
+use Rattle.sj_core.proofs.Placing.{cells_differ}
+use Rattle.sj_core.specs.Step.{a_transfer, array_at, disk_of}
+use Rattle.sj_edge.specs.GivenBack.{AreGivenBack, IsGivenBack}
+use Rattle.sj_edge.proofs.GivenBackLemmas.{all_given_back-then}
+use Rattle.sj_disk.specs.declared.directory.Extent.{Extent}
+use Rattle.sj_disk.specs.declared.refusal.DiskRefusal.{DiskRefusal}
+use Rattle.sj_disk.specs.Block.{block, block_bytes, element_bytes, header, header_bytes}
+use Rattle.sj_disk.specs.Calls.{Fetches, Stores}
+use Rattle.sj_disk.specs.Directory.{DiskState, extent_of, last_store, with_store}
+use Rattle.sj_disk.specs.Holding.{Holds, Tells}
+use Rattle.sj_disk.proofs.Bytes.{length-element_bytes, length-header_bytes}
+use Rattle.std.proofs.lemmas.List.{length-append}
+use Rattle.sj_machine.specs.Agrees.{Rows, transfer_in}
+use Rattle.sj_machine.specs.Copies.{Copies, row_of}
+use Rattle.sj_machine.specs.Sound.{HoldsArray, HoldsBlocks, IsBlock, IsCopyOf, FetchesMoved, IsStored, IsWrittenOut, Keeps, StoresMoved, block_of}
+use Rattle.sj_machine.specs.Standing.{AllTell, HasDimsMoved, IsTileMoved, IsTileOf, Standing, state}
+use Rattle.sj_machine.proofs.Resting.{valid-cell}
+
+-- the block of elements has its header and eight bytes for each
+length-block : (c n : ℕ) (xs : List ℤ) → length (block c n xs) ≡ block_bytes (length xs)
+length-block c n xs = omega (arith, length-append (header_bytes (header c n (length xs))) (element_bytes xs), length-header_bytes (header c n (length xs)), length-element_bytes xs)
+
+-- what is there, and what is known of it
+some-at : {X : Type 0} (P : X → Type 0) (o : Option X) → IsSomeAnd o P → (x : X) × (o ≡ Some x) × P x
+some-at P None h = absurd h
+some-at P (Some x) h = (x, refl, h)
+
+some-and : {X : Type 0} (P : X → Type 0) (o : Option X) (x : X) → o ≡ Some x → P x → IsSomeAnd o P
+some-and {X} P o x e h = subst (λ (k : Option X). IsSomeAnd k P) (sym e) h
+
+told-at : {X : Type 0} (P : X → Type 0) (o : Option X) (x : X) → o ≡ Some x → IfSome o P → P x
+told-at {X} P o x e h = subst (λ (k : Option X). IfSome k P) e h
+
+told-from : {X : Type 0} (P : X → Type 0) (o : Option X) (x : X) → o ≡ Some x → P x → IfSome o P
+told-from {X} P o x e h = subst (λ (k : Option X). IfSome k P) (sym e) h
+
+-- disks that all told still tell
+told_as : {X : Type 0} (a b : Option X) → is_some b ≡ is_some a → IsSome a → IsSome b
+told_as None b e h = absurd (false≢true h)
+told_as (Some x) None e h = absurd (false≢true e)
+told_as (Some x) (Some y) e h = refl
+
+tell-still : {D : Type 0} (size faults mismatches : D → ℕ) (held : D → Option (List ℕ)) (xs ys : List D) → AreGivenBack size faults mismatches held xs ys → All (λ x. IsSome (held x)) xs → (k : ℕ) (y : D) → slice_get ys k ≡ Some y → IsSome (held y)
+tell-still {D} size faults mismatches held xs ys back all k y there =
+    let R : D → D → Type 0 = IsGivenBack size faults mismatches held in
+    let inside : k < length xs = omega (arith, slice_get_within ys k y there, length_all_zip R xs ys back) in
+    let one = AllZip-get_or R xs ys k y y back inside in
+    let was = All-get_or (λ x. IsSome (held x)) xs k y inside all in
+    subst (λ (z : D). IsSome (held z)) (get_or_from_slice_get ys k y y there) (told_as (held (get_or xs k y)) (held (get_or ys k y)) one.tells_as_before was)
+
+module _ {D : Type 0} (size faults mismatches : D → ℕ) (held : D → Option (List ℕ)) (b : Standing D) (rows : Rows) (owed spare : ℕ) (keeps : Keeps size faults mismatches held b rows owed spare) (c : Cell) where
+  abbrev p : Program
+  p = b.program
+
+  abbrev m : Machine
+  m = b.machine
+
+  abbrev s : State
+  s = state b
+
+  -- the extent of a cell that has a disk
+  extent : (d : DiskNo) → disk_of p m c ≡ Some d → (e : Extent) × (extent_of b.disks.directory c.0 ≡ Some e) × (e.length ≡ area (dims_of p c))
+  extent d home = by_block (block_of p m c) refl home
+    where
+      by_block : (o : Option Block) → block_of p m c ≡ o → option_map (λ (k : Block). k.disk) o ≡ Some d → (e : Extent) × (extent_of b.disks.directory c.0 ≡ Some e) × (e.length ≡ area (dims_of p c))
+      by_block None e is = absurd (let f : ◌≡◌ {A = Option DiskNo} None (Some d) = is in cc)
+      by_block (Some k) e is =
+          let found = some-at (IsBlock p c k) (extent_of b.disks.directory c.0) (told-at (λ (k : Block). IsSomeAnd (extent_of b.disks.directory c.0) (IsBlock p c k)) (block_of p m c) k e (keeps.sound.blocks.placed c)) in
+          (found.0, found.1, found.2.whole)
+
+  -- the same state over other disks
+  keeps-over : (new : DiskState D) → HoldsBlocks held p m s (AllTell held b) new → AreGivenBack size faults mismatches held b.disks.disks new.disks → Keeps size faults mismatches held (record b { disks = new }) rows owed spare
+  keeps-over new blocks back = record {
+    sound = record {
+      run = keeps.sound.run;
+      legal = keeps.sound.legal;
+      coherent = keeps.sound.coherent;
+      blocks = blocks;
+      given_back = all_given_back-then size faults mismatches held b.opened b.disks.disks new.disks keeps.sound.given_back back;
+    };
+    agrees = keeps.agrees;
+    owes = keeps.owes;
+    room = keeps.room;
+  }
+
+  -- ---- a store of a cell that moves to its disk
+  module _ (w : Worker) (from : Place) (d : DiskNo) (under_way : transfer s w ≡ Some (a_transfer c from (OnDisk d))) (tile : Array) (is : IsTileOf held b c from tile) (whole : length tile.elements ≡ area tile.dims) (fits : All (FitsSigned w64) tile.elements) where
+    aimed : disk_of p m c ≡ Some d
+    aimed = keeps.sound.coherent.state.blocks.aimed w (a_transfer c from (OnDisk d)) d under_way refl
+
+    -- no block of the cell is a copy
+    not_valid : (k : DiskNo) → is_valid (replica s c (OnDisk k)) ≡ true → ⊥
+    not_valid k valid =
+        let home = keeps.sound.coherent.state.blocks.home c k valid in
+        let one : Some d ≡ Some k = sym aimed ∙ home in
+        let same : d ≡ k = cc in
+        false≢true (sym (ap is_valid (keeps.sound.coherent.transfers.target w (a_transfer c from (OnDisk d)) under_way).1) ∙ ap (λ (j : DiskNo). is_valid (replica s c (OnDisk j))) same ∙ valid)
+
+    pub store-reserved : IsSomeAnd (extent_of b.disks.directory c.0) (λ e. length tile.elements ≡ e.length)
+    store-reserved = let e = extent d aimed in some-and (λ e. length tile.elements ≡ e.length) (extent_of b.disks.directory c.0) e.0 e.1 (whole ∙ ap area is.dims ∙ sym e.2)
+
+    module _ {A : Type 0} (result : Result A DiskRefusal) (new : DiskState D) (stores : IfSome (extent_of b.disks.directory c.0) (Stores size faults mismatches held c.0 (writes s c) tile.elements result b.disks new)) where
+      its : Extent
+      its = (extent d aimed).0
+
+      its-is : extent_of b.disks.directory c.0 ≡ Some its
+      unfolding its
+      its-is = (extent d aimed).1
+
+      its-whole : its.length ≡ area (dims_of p c)
+      unfolding its
+      its-whole = (extent d aimed).2
+
+      of_it : Stores size faults mismatches held c.0 (writes s c) tile.elements result b.disks new its
+      of_it = told-at (Stores size faults mismatches held c.0 (writes s c) tile.elements result b.disks new) (extent_of b.disks.directory c.0) its its-is stores
+
+      within : c.0 < length b.disks.directory
+      within = elim (cases_lt c.0 (length b.disks.directory)) [
+        | inl inside ↦ inside
+        | inr past ↦ absurd (let none : ◌≡◌ {A = Option Extent} None (Some its) = sym (get_or_past b.disks.directory c.0 None past) ∙ its-is in cc)
+      ]
+
+      now : extent_of new.directory c.0 ≡ Some (with_store its (writes s c) (is_ok result))
+      now = ap (λ (dir : List (Option Extent)). extent_of dir c.0) of_it.notes_how_it_ended ∙ get_or-set_same b.disks.directory c.0 (Some (with_store its (writes s c) (is_ok result))) None within
+
+      other : (x : Cell) → x ≢ c → extent_of new.directory x.0 ≡ extent_of b.disks.directory x.0
+      other x far = ap (λ (dir : List (Option Extent)). extent_of dir x.0) of_it.notes_how_it_ended ∙ get_or-set_other b.disks.directory c.0 x.0 (Some (with_store its (writes s c) (is_ok result))) None (λ e. far (ap (λ (i : ℕ). let j : Cell = record { 0 = i } in j) e))
+
+      apart : (x : Cell) (k : DiskNo) → is_valid (replica s x (OnDisk k)) ≡ true → x ≢ c
+      apart x k valid e = not_valid k (ap (λ (y : Cell). is_valid (replica s y (OnDisk k))) (sym e) ∙ valid)
+
+      blocks' : HoldsBlocks held p m s (AllTell held b) new
+      blocks' = record {
+        placed = λ x. placed_at x (cells_differ x c);
+        stored = λ x k valid. subst (λ (o : Option Extent). IsSomeAnd o (IsStored s x)) (sym (other x (apart x k valid))) (keeps.sound.blocks.stored x k valid);
+        blocks = λ tells x k valid. (
+            let far = apart x k valid in
+            let found = some-at (HoldsArray held b.disks.disks p s x (OnDisk k)) (extent_of b.disks.directory x.0) (keeps.sound.blocks.blocks tells x k valid) in
+            some-and (HoldsArray held new.disks p s x (OnDisk k)) (extent_of new.directory x.0) found.0 (other x far ∙ found.1) (record {
+              dims = found.2.dims;
+              whole = found.2.whole;
+              fits = found.2.fits;
+              told = of_it.other_blocks_stay x.0 found.0 (λ e. far (ap (λ (i : ℕ). let j : Cell = record { 0 = i } in j) e)) found.1 (block x.0 (writes s x) (array_at p s (OnDisk k) x).elements) (length-block x.0 (writes s x) (array_at p s (OnDisk k) x).elements ∙ ap block_bytes found.2.whole) found.2.told;
+            })
+            );
+      }
+        where
+          placed_at : (x : Cell) → (x ≡ c) ⊎ (x ≢ c) → IfSome (block_of p m x) (λ k. IsSomeAnd (extent_of new.directory x.0) (IsBlock p x k))
+          placed_at x (inr far) = subst (λ (o : Option Extent). IfSome (block_of p m x) (λ k. IsSomeAnd o (IsBlock p x k))) (sym (other x far)) (keeps.sound.blocks.placed x)
+          placed_at x (inl e) = subst (λ (y : Cell). IfSome (block_of p m y) (λ k. IsSomeAnd (extent_of new.directory y.0) (IsBlock p y k))) (sym e) (here (block_of p m c) (keeps.sound.blocks.placed c))
+            where
+              here : (o : Option Block) → IfSome o (λ k. IsSomeAnd (extent_of b.disks.directory c.0) (IsBlock p c k)) → IfSome o (λ k. IsSomeAnd (extent_of new.directory c.0) (IsBlock p c k))
+              here None h = h
+              here (Some k) h =
+                  let had = told-at (IsBlock p c k) (extent_of b.disks.directory c.0) its its-is (some-if (extent_of b.disks.directory c.0) h) in
+                  some-and (IsBlock p c k) (extent_of new.directory c.0) (with_store its (writes s c) (is_ok result)) now (record { disk = had.disk; position = had.position; whole = had.whole })
+                where
+                  some-if : (o : Option Extent) → IsSomeAnd o (IsBlock p c k) → IfSome o (IsBlock p c k)
+                  some-if None h = absurd h
+                  some-if (Some e) h = h
+
+      pub keeps-stored : Keeps size faults mismatches held (record b { disks = new }) rows owed spare
+      keeps-stored = keeps-over new blocks' of_it.disks_are_given_back
+
+      pub stored-well : is_ok result ≡ true → IsWrittenOut held (record b { disks = new }) w
+      stored-well ok =
+          told-from (λ (y : Transfer). IsSomeAnd (extent_of new.directory y.cell.0) (IsCopyOf held (record b { disks = new }) y.cell y.from)) (transfer s w) (a_transfer c from (OnDisk d)) under_way
+          (some-and (IsCopyOf held (record b { disks = new }) c from) (extent_of new.directory c.0) (with_store its (writes s c) (is_ok result)) now (record {
+            last = record { last = ap (λ (y : Bool). Some (last_store (writes s c) y)) ok };
+            array = λ tells. (
+                let same : tile ≡ array_at p s from c = is.array tells in
+                record {
+                  dims = ap (λ (a : Array). a.dims) (sym same) ∙ is.dims;
+                  whole = ap (λ (a : Array). length a.elements) (sym same) ∙ whole ∙ ap area is.dims ∙ sym its-whole;
+                  fits = subst (λ (a : Array). All (FitsSigned w64) a.elements) same fits;
+                  told = subst (λ (a : Array). Holds held new.disks its (block c.0 (writes s c) a.elements)) same (on_ok result ok of_it.holds_the_block_where_it_ended_well);
+                }
+                );
+          }))
+        where
+          on_ok : (r : Result A DiskRefusal) → is_ok r ≡ true → OnOk r (Holds held new.disks its (block c.0 (writes s c) tile.elements)) → Holds held new.disks its (block c.0 (writes s c) tile.elements)
+          on_ok (Ok u) e h = h
+          on_ok (Err x) e h = absurd (false≢true e)
+
+  -- ---- a fetch of a cell that moves from its disk
+  module _ (w : Worker) (d : DiskNo) (to : Place) (under_way : transfer s w ≡ Some (a_transfer c (OnDisk d) to)) (tile : Array) (dims : tile.dims ≡ dims_of p c) (whole : length tile.elements ≡ area tile.dims) where
+    valid : is_valid (replica s c (OnDisk d)) ≡ true
+    valid = keeps.sound.coherent.transfers.source w (a_transfer c (OnDisk d) to) under_way
+
+    its_extent : (e : Extent) × (extent_of b.disks.directory c.0 ≡ Some e) × (e.length ≡ area (dims_of p c))
+    its_extent = extent d (keeps.sound.coherent.state.blocks.home c d valid)
+
+    stored_at : (e : Extent) → extent_of b.disks.directory c.0 ≡ Some e → e.last_store ≡ Some (last_store (writes s c) true)
+    stored_at e is =
+        let found = some-at (IsStored s c) (extent_of b.disks.directory c.0) (keeps.sound.blocks.stored c d valid) in
+        let one : Some found.0 ≡ Some e = sym found.1 ∙ is in
+        let same : found.0 ≡ e = cc in
+        subst (λ (x : Extent). x.last_store ≡ Some (last_store (writes s c) true)) same found.2.last
+
+    pub fetch-stored : IsSomeAnd (extent_of b.disks.directory c.0) (λ e. (length tile.elements ≡ e.length) × (e.last_store ≡ Some (last_store (writes s c) true)))
+    fetch-stored = let e = its_extent in some-and (λ e. (length tile.elements ≡ e.length) × (e.last_store ≡ Some (last_store (writes s c) true))) (extent_of b.disks.directory c.0) e.0 e.1 (whole ∙ ap area dims ∙ sym e.2, stored_at e.0 e.1)
+
+    module _ {A : Type 0} (result : Result A DiskRefusal) (got : Array) (same_dims : got.dims ≡ tile.dims) (new : DiskState D) (fetches : IfSome (extent_of b.disks.directory c.0) (Fetches size faults mismatches held c.0 (writes s c) got.elements result b.disks new)) where
+      fetched : Fetches size faults mismatches held c.0 (writes s c) got.elements result b.disks new its_extent.0
+      fetched = told-at (Fetches size faults mismatches held c.0 (writes s c) got.elements result b.disks new) (extent_of b.disks.directory c.0) its_extent.0 its_extent.1 fetches
+
+      same_extents : (x : Cell) → extent_of new.directory x.0 ≡ extent_of b.disks.directory x.0
+      same_extents x = ap (λ (dir : List (Option Extent)). extent_of dir x.0) fetched.directory_stays
+
+      blocks_stay : HoldsBlocks held p m s (AllTell held b) new
+      blocks_stay = record {
+        placed = λ x. subst (λ (o : Option Extent). IfSome (block_of p m x) (λ k. IsSomeAnd o (IsBlock p x k))) (sym (same_extents x)) (keeps.sound.blocks.placed x);
+        stored = λ x k valid. subst (λ (o : Option Extent). IsSomeAnd o (IsStored s x)) (sym (same_extents x)) (keeps.sound.blocks.stored x k valid);
+        blocks = λ tells x k valid. (
+            let found = some-at (HoldsArray held b.disks.disks p s x (OnDisk k)) (extent_of b.disks.directory x.0) (keeps.sound.blocks.blocks tells x k valid) in
+            some-and (HoldsArray held new.disks p s x (OnDisk k)) (extent_of new.directory x.0) found.0 (same_extents x ∙ found.1) (record {
+              dims = found.2.dims;
+              whole = found.2.whole;
+              fits = found.2.fits;
+              told = fetched.all_blocks_stay found.0 (block x.0 (writes s x) (array_at p s (OnDisk k) x).elements) (length-block x.0 (writes s x) (array_at p s (OnDisk k) x).elements ∙ ap block_bytes found.2.whole) found.2.told;
+            })
+            );
+      }
+
+      pub keeps-fetched : Keeps size faults mismatches held (record b { disks = new }) rows owed spare
+      keeps-fetched = keeps-over new blocks_stay fetched.disks_are_given_back
+
+      pub fetched-well : (b' : Standing D) → b ≡ b' → is_ok result ≡ true → IsTileMoved held b' w got
+      fetched-well b' same ok =
+          subst (λ (z : Standing D). IsTileMoved held z w got) same
+          (told-from (λ (y : Transfer). IsTileOf held b y.cell y.from got) (transfer s w) (a_transfer c (OnDisk d) to) under_way (record {
+            dims = same_dims ∙ dims;
+            array = λ tells. (
+                let found = some-at (HoldsArray held b.disks.disks p s c (OnDisk d)) (extent_of b.disks.directory c.0) (keeps.sound.blocks.blocks tells c d valid) in
+                let one : Some found.0 ≡ Some its_extent.0 = sym found.1 ∙ its_extent.1 in
+                let is : found.0 ≡ its_extent.0 = cc in
+                let has : HoldsArray held b.disks.disks p s c (OnDisk d) its_extent.0 = subst (λ (e : Extent). HoldsArray held b.disks.disks p s c (OnDisk d) e) is found.2 in
+                let tell : Tells held b.disks.disks its_extent.0 = λ x there. tell-still size faults mismatches held b.opened b.disks.disks keeps.sound.given_back tells its_extent.0.disk.0 x there in
+                let elements : got.elements ≡ (array_at p s (OnDisk d) c).elements = on_ok result ok fetched.gives_what_was_stored (array_at p s (OnDisk d) c).elements has.fits has.whole tell has.told in
+                ap (λ (xs : List ℤ). (let a : Array = record { dims = got.dims; elements = xs } in a)) elements ∙ ap (λ (ds : Dims). (let a : Array = record { dims = ds; elements = (array_at p s (OnDisk d) c).elements } in a)) (same_dims ∙ dims ∙ sym has.dims)
+                );
+          }))
+        where
+          on_ok : (r : Result A DiskRefusal) → is_ok r ≡ true → OnOk r ((ys : List ℤ) → All (FitsSigned w64) ys → length ys ≡ its_extent.0.length → Tells held b.disks.disks its_extent.0 → Holds held b.disks.disks its_extent.0 (block c.0 (writes s c) ys) → got.elements ≡ ys) → (ys : List ℤ) → All (FitsSigned w64) ys → length ys ≡ its_extent.0.length → Tells held b.disks.disks its_extent.0 → Holds held b.disks.disks its_extent.0 (block c.0 (writes s c) ys) → got.elements ≡ ys
+          on_ok (Ok u) e h = h
+          on_ok (Err x) e h = absurd (false≢true e)
+
+-- ---- as the code finds it
+
+pub OnOk-from : {A : Type 0} (r : Result A DiskRefusal) (P : Type 0) → (is_ok r ≡ true → P) → OnOk r P
+OnOk-from (Ok u) P h = h refl
+OnOk-from (Err x) P h = tt
+
+module _ {D : Type 0} (size faults mismatches : D → ℕ) (held : D → Option (List ℕ)) (b : Standing D) (rows : Rows) (owed spare : ℕ) (keeps : Keeps size faults mismatches held b rows owed spare) (w : Worker) (b' : Standing D) (same : b ≡ b') (ws : List WorkerState) (read : ws ≡ rows.workers) (x : Transfer) (found : transfer_in ws w ≡ Some x) where
+  at-place : (q : Place) → x.to ≡ q → transfer (state b) w ≡ Some (a_transfer x.cell x.from q)
+  at-place q at = ap (λ (rs : List WorkerState). transfer_in rs w) (sym (read ∙ keeps.agrees.workers)) ∙ found ∙ ap (λ (k : Place). Some (a_transfer x.cell x.from k)) at
+
+  from-place : (q : Place) → x.from ≡ q → transfer (state b) w ≡ Some (a_transfer x.cell q x.to)
+  from-place q at = ap (λ (rs : List WorkerState). transfer_in rs w) (sym (read ∙ keeps.agrees.workers)) ∙ found ∙ ap (λ (k : Place). Some (a_transfer x.cell k x.to)) at
+
+  pub moved-cell : (cells' : List Copies) → cells' ≡ rows.cells → x.cell.0 < length cells'
+  moved-cell cells' is =
+      let source = keeps.sound.coherent.transfers.source w x (at-place x.to refl) in
+      let inside = valid-cell b.program b.machine (state b) keeps.sound.coherent x.cell x.from source in
+      omega (arith, ap length is, inside, keeps.agrees.marks.every_cell)
+
+  counted : (cells' : List Copies) (n : ℕ) → cells' ≡ rows.cells → n ≡ (row_of cells' x.cell).writes → n ≡ writes (state b) x.cell
+  counted cells' n is count = count ∙ ap (λ (cs : List Copies). (row_of cs x.cell).writes) is ∙ keeps.agrees.marks.writes x.cell
+
+  module _ (d : DiskNo) (at : x.to ≡ OnDisk d) (tile : Array) (given : IsTileMoved held b' w tile) (whole : length tile.elements ≡ area tile.dims) (fits : All (FitsSigned w64) tile.elements) where
+    tile-of : IsTileOf held b x.cell x.from tile
+    tile-of = told-at (λ (y : Transfer). IsTileOf held b y.cell y.from tile) (transfer (state b) w) (a_transfer x.cell x.from (OnDisk d)) (at-place (OnDisk d) at) (subst (λ (z : Standing D). IsTileMoved held z w tile) (sym same) given)
+
+    pub found-reserved : IsSomeAnd (extent_of b.disks.directory x.cell.0) (λ e. length tile.elements ≡ e.length)
+    found-reserved = store-reserved size faults mismatches held b rows owed spare keeps x.cell w x.from d (at-place (OnDisk d) at) tile tile-of whole fits
+
+    module _ {A : Type 0} (result : Result A DiskRefusal) (new : DiskState D) (cells' : List Copies) (n : ℕ) (is : cells' ≡ rows.cells) (count : n ≡ (row_of cells' x.cell).writes) (stores : IfSome (extent_of b.disks.directory x.cell.0) (Stores size faults mismatches held x.cell.0 n tile.elements result b.disks new)) where
+      its-stores : IfSome (extent_of b.disks.directory x.cell.0) (Stores size faults mismatches held x.cell.0 (writes (state b) x.cell) tile.elements result b.disks new)
+      its-stores = subst (λ (k : ℕ). IfSome (extent_of b.disks.directory x.cell.0) (Stores size faults mismatches held x.cell.0 k tile.elements result b.disks new)) (counted cells' n is count) stores
+
+      pub found-keeps_stored : Keeps size faults mismatches held (record b { disks = new }) rows owed spare
+      found-keeps_stored = keeps-stored size faults mismatches held b rows owed spare keeps x.cell w x.from d (at-place (OnDisk d) at) tile tile-of whole fits result new its-stores
+
+      pub found-stored : OnOk result (IsWrittenOut held (record b { disks = new }) w)
+      found-stored = OnOk-from result (IsWrittenOut held (record b { disks = new }) w) (stored-well size faults mismatches held b rows owed spare keeps x.cell w x.from d (at-place (OnDisk d) at) tile tile-of whole fits result new its-stores)
+
+      pub found-stores : StoresMoved size faults mismatches held w tile.elements result b' (record b' { disks = new })
+      found-stores = subst (λ (z : Standing D). StoresMoved size faults mismatches held w tile.elements result z (record z { disks = new })) same (told-from (λ (y : Transfer). IfSome (extent_of b.disks.directory y.cell.0) (Stores size faults mismatches held y.cell.0 (writes (state b) y.cell) tile.elements result b.disks new)) (transfer (state b) w) (a_transfer x.cell x.from x.to) (at-place x.to refl) its-stores)
+
+  module _ (d : DiskNo) (at : x.from ≡ OnDisk d) (tile : Array) (given : HasDimsMoved b' w tile.dims) (whole : length tile.elements ≡ area tile.dims) where
+    dims-of : tile.dims ≡ dims_of b.program x.cell
+    dims-of = told-at (λ (y : Transfer). tile.dims ≡ dims_of b.program y.cell) (transfer (state b) w) (a_transfer x.cell x.from x.to) (at-place x.to refl) (subst (λ (z : Standing D). HasDimsMoved z w tile.dims) (sym same) given)
+
+    pub found-to_fetch : (cells' : List Copies) (n : ℕ) → cells' ≡ rows.cells → n ≡ (row_of cells' x.cell).writes → IsSomeAnd (extent_of b.disks.directory x.cell.0) (λ e. (length tile.elements ≡ e.length) × (e.last_store ≡ Some (last_store n true)))
+    found-to_fetch cells' n is count = subst (λ (k : ℕ). IsSomeAnd (extent_of b.disks.directory x.cell.0) (λ e. (length tile.elements ≡ e.length) × (e.last_store ≡ Some (last_store k true)))) (sym (counted cells' n is count)) (fetch-stored size faults mismatches held b rows owed spare keeps x.cell w d x.to (from-place (OnDisk d) at) tile dims-of whole)
+
+    module _ {A : Type 0} (result : Result A DiskRefusal) (got : Array) (same_dims : got.dims ≡ tile.dims) (new : DiskState D) (cells' : List Copies) (n : ℕ) (is : cells' ≡ rows.cells) (count : n ≡ (row_of cells' x.cell).writes) (fetches : IfSome (extent_of b.disks.directory x.cell.0) (Fetches size faults mismatches held x.cell.0 n got.elements result b.disks new)) where
+      its-fetches : IfSome (extent_of b.disks.directory x.cell.0) (Fetches size faults mismatches held x.cell.0 (writes (state b) x.cell) got.elements result b.disks new)
+      its-fetches = subst (λ (k : ℕ). IfSome (extent_of b.disks.directory x.cell.0) (Fetches size faults mismatches held x.cell.0 k got.elements result b.disks new)) (counted cells' n is count) fetches
+
+      pub found-keeps_fetched : Keeps size faults mismatches held (record b { disks = new }) rows owed spare
+      found-keeps_fetched = keeps-fetched size faults mismatches held b rows owed spare keeps x.cell w d x.to (from-place (OnDisk d) at) tile dims-of whole result got same_dims new its-fetches
+
+      pub found-fetched : OnOk result (IsTileMoved held b' w got)
+      found-fetched = OnOk-from result (IsTileMoved held b' w got) (fetched-well size faults mismatches held b rows owed spare keeps x.cell w d x.to (from-place (OnDisk d) at) tile dims-of whole result got same_dims new its-fetches b' same)
+
+      pub found-fetches : FetchesMoved size faults mismatches held w got.elements result b' (record b' { disks = new })
+      found-fetches = subst (λ (z : Standing D). FetchesMoved size faults mismatches held w got.elements result z (record z { disks = new })) same (told-from (λ (y : Transfer). IfSome (extent_of b.disks.directory y.cell.0) (Fetches size faults mismatches held y.cell.0 (writes (state b) y.cell) got.elements result b.disks new)) (transfer (state b) w) (a_transfer x.cell x.from x.to) (at-place x.to refl) its-fetches)

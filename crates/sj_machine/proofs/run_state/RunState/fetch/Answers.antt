@@ -1,0 +1,16 @@
+use Rattle.sj_machine.proofs.Storing.{found-fetched, found-keeps_fetched, found-to_fetch, moved-cell}
+use Rattle.sj_machine.proofs.run_state.RunState.fetch.Goals as goal
+
+pub writes_of-writes-requires : goal.writes_of-writes-requires
+writes_of-writes-requires g c = moved-cell _ _ _ _ _ _ _ _ c.self.invariant c.args.w _ c.self.view_is _ c.deref.ensures.value c.transfer_of-x.result c.transfer_of-x.ensures _ c.deref-2.ensures.value
+
+pub fetch-requires : goal.fetch-requires
+fetch-requires g c = record {
+  stored = found-to_fetch _ _ _ _ _ _ _ _ c.self.invariant c.args.w _ c.self.view_is _ c.deref.ensures.value c.transfer_of-x.result c.transfer_of-x.ensures c.disk_at-d.result c.disk_at-d.ensures c.args.tile.now c.requires.dims c.dims-dims.ensures.whole _ c.writes_of-writes.result c.deref-2.ensures.value c.writes_of-writes.ensures;
+}
+
+pub invariant_of-self : goal.invariant_of-self
+invariant_of-self g c = found-keeps_fetched _ _ _ _ _ _ _ _ c.self.invariant c.args.w _ c.self.view_is _ c.deref.ensures.value c.transfer_of-x.result c.transfer_of-x.ensures c.disk_at-d.result c.disk_at-d.ensures c.args.tile.now c.requires.dims c.dims-dims.ensures.whole c.fetch.result c.fetch.new.tile c.fetch.ensures.dims_stay c.fetch.new.self _ c.writes_of-writes.result c.deref-2.ensures.value c.writes_of-writes.ensures c.fetch.ensures.fetches
+
+pub returns-clause-tile : goal.returns-clause-tile
+returns-clause-tile g c = found-fetched _ _ _ _ _ _ _ _ c.self.invariant c.args.w _ c.self.view_is _ c.deref.ensures.value c.transfer_of-x.result c.transfer_of-x.ensures c.disk_at-d.result c.disk_at-d.ensures c.args.tile.now c.requires.dims c.dims-dims.ensures.whole c.fetch.result c.fetch.new.tile c.fetch.ensures.dims_stay c.fetch.new.self _ c.writes_of-writes.result c.deref-2.ensures.value c.writes_of-writes.ensures c.fetch.ensures.fetches

@@ -1,0 +1,16 @@
+use Rattle.sj_machine.proofs.Storing.{found-keeps_stored, found-reserved, found-stored, moved-cell}
+use Rattle.sj_machine.proofs.run_state.RunState.store.Goals as goal
+
+pub writes_of-writes-requires : goal.writes_of-writes-requires
+writes_of-writes-requires g c = moved-cell _ _ _ _ _ _ _ _ c.self.invariant c.args.w _ c.self.view_is _ c.deref.ensures.value c.transfer_of-x.result c.transfer_of-x.ensures _ c.deref-2.ensures.value
+
+pub store-requires : goal.store-requires
+store-requires g c = record {
+  reserved = found-reserved _ _ _ _ _ _ _ _ c.self.invariant c.args.w _ c.self.view_is _ c.deref.ensures.value c.transfer_of-x.result c.transfer_of-x.ensures c.disk_at-d.result c.disk_at-d.ensures c.args.tile.now c.requires.tile c.measured.ensures.whole c.measured.ensures.fits;
+}
+
+pub invariant_of-self : goal.invariant_of-self
+invariant_of-self g c = found-keeps_stored _ _ _ _ _ _ _ _ c.self.invariant c.args.w _ c.self.view_is _ c.deref.ensures.value c.transfer_of-x.result c.transfer_of-x.ensures c.disk_at-d.result c.disk_at-d.ensures c.args.tile.now c.requires.tile c.measured.ensures.whole c.measured.ensures.fits c.store.result c.store.new.self _ c.writes_of-writes.result c.deref-2.ensures.value c.writes_of-writes.ensures c.store.ensures
+
+pub returns-clause-written : goal.returns-clause-written
+returns-clause-written g c = found-stored _ _ _ _ _ _ _ _ c.self.invariant c.args.w _ c.self.view_is _ c.deref.ensures.value c.transfer_of-x.result c.transfer_of-x.ensures c.disk_at-d.result c.disk_at-d.ensures c.args.tile.now c.requires.tile c.measured.ensures.whole c.measured.ensures.fits c.store.result c.store.new.self _ c.writes_of-writes.result c.deref-2.ensures.value c.writes_of-writes.ensures c.store.ensures

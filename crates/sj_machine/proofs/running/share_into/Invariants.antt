@@ -1,0 +1,9 @@
+use Rattle.std.proofs.Common.{◌≡◌, ◌+◌, ◌++◌, length, take}
+use Rattle.sj_machine.specs.Running.{read_among, shares_at}
+use Rattle.sj_machine.proofs.running.share_into.Given as goal
+
+abbrev pub invariant-loop-access : goal.invariant-loop-access
+invariant-loop-access l = record {
+  slots : l.frame.slots ≡ l.fn.frame.slots ++ shares_at l.cells l.n (take l.access-index l.accesses);
+  room : l.frame.spare + length (read_among (take l.access-index l.accesses)) ≡ l.fn.frame.spare;
+}

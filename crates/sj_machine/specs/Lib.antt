@@ -1,0 +1,11 @@
+pub mod Agrees
+pub mod Copies
+pub mod Delivered
+pub mod Mark
+pub mod Plan
+pub mod Planning
+pub mod Running
+pub mod Sound
+pub mod Sparing
+pub mod Standing
+pub mod Tiles

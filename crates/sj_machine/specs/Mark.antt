@@ -1,0 +1,28 @@
+-- What a cell is at a node, its array aside.
+use Rattle.std.specs.Prelude.{ℕ, Bool, true, false}
+use Rattle.sj_core.specs.Machine.{Replica, Invalid as NoReplica, Coming as ComingReplica, Valid as ValidReplica, Leaving as LeavingReplica}
+use Rattle.sj_machine.specs.declared.mark.Mark.{Mark}
+use Rattle.sj_machine.specs.declared.mark.Mark.TheVariants.{Invalid, Coming, Valid, Leaving}
+
+-- the mark of a replica
+abbrev pub mark_of : Replica → Mark
+mark_of NoReplica = Invalid
+mark_of (ComingReplica w) = Coming w
+mark_of (ValidReplica a) = Valid
+mark_of (LeavingReplica w a) = Leaving w
+
+-- there is a copy: one that leaves is still valid
+abbrev pub is_there : Mark → Bool
+is_there Invalid = false
+is_there (Coming w) = false
+is_there Valid = true
+is_there (Leaving w) = true
+
+abbrev pub is_leaving : Mark → Bool
+is_leaving (Leaving w) = true
+is_leaving _ = false
+
+-- the events that are owed for a mark: one where a copy leaves
+abbrev pub owed_for : Mark → ℕ
+owed_for (Leaving w) = 1
+owed_for _ = 0

@@ -1,0 +1,81 @@
+-- Planning a claim: what it needs beside room on its node, what it finds there, and why it can't be made.
+use Rattle.std.specs.Prelude.{◌≡◌, ◌≤◌, ◌<◌, ◌+◌, ℕ, Bool, false, not, Option, None, IsTrue, All, List, filter, map, length, option_map, reverse, sum_by}
+use Rattle.std.specs.List.{list_all}
+use Rattle.sj_base.specs.declared.ids.Cell.{Cell}
+use Rattle.sj_base.specs.declared.ids.Node.{Node}
+use Rattle.sj_base.specs.declared.ids.Task.{Task}
+use Rattle.sj_base.specs.declared.ids.Worker.{Worker}
+use Rattle.sj_base.specs.declared.ids.Place.TheVariants.{Node as AtNode}
+use Rattle.sj_base.specs.declared.program.Program.{Program}
+use Rattle.sj_base.specs.declared.program.Machine.{Machine}
+use Rattle.sj_core.specs.Machine.{State, is_idle, is_leaving, progress, replica}
+use Rattle.sj_core.specs.Needs.{footprint, node_of, node_size, scratch_bytes, tile_bytes}
+use Rattle.sj_core.specs.Operands.{commuting_cells}
+use Rattle.sj_core.specs.Program.{data_operands, distinct, has_cell, task_of}
+use Rattle.sj_core.specs.Step.{done_tasks, is_in_use, none_leaving, victims_for}
+use Rattle.sj_core.specs.declared.progress.Progress.TheVariants.{Waiting}
+use Rattle.sj_deps.specs.Conflict.{Ready}
+use Rattle.sj_node.specs.Entry.{has_entry}
+use Rattle.sj_node.specs.Store.{Store, victims_of}
+use Rattle.sj_machine.specs.Copies.{Copies, mark_at, row_of}
+use Rattle.sj_machine.specs.Mark.{is_leaving as is_leaving_mark}
+use Rattle.sj_machine.specs.Plan.{ClaimPlan, IsSmallCell}
+use Rattle.sj_machine.specs.declared.plan.Why.{Why}
+use Rattle.sj_machine.specs.declared.plan.Why.TheVariants.{Commute, Leaving, NoRoom}
+
+-- ---- what a task finds on a node
+
+-- each operand is such a cell, and they are few
+pub record HasSmallTask (p : Program) (t : Task) : Type 0 where
+  pub task : t.0 < length p.tasks
+  pub cells : All (λ a. IsSmallCell p a.cell) (task_of p t).accesses
+  pub few : length (task_of p t).accesses ≤ 5
+
+-- the cells of a task's accesses to data, in operand order
+abbrev pub named : Program → Task → List Cell
+named p t = map (λ a. a.cell) (data_operands (task_of p t))
+
+-- those of them without an entry on a node, each once
+abbrev pub lacking : Program → Store → Task → List Cell
+lacking p s t = filter (λ c. not (has_entry s.entries c)) (distinct (named p t))
+
+-- the bytes that a task brings to a node
+abbrev pub need_on : Program → Store → Task → ℕ
+need_on p s t = sum_by (tile_bytes p) (lacking p s t) + scratch_bytes p (task_of p t)
+
+-- the victims of a task on a node, most recent first
+abbrev pub chosen_on : Program → Store → Task → Option (List Cell)
+chosen_on p s t = option_map reverse (victims_of (named p t) s (need_on p s t))
+
+-- the plan of a task on a node that evicts these
+abbrev pub planned : Program → Store → Task → List Cell → ClaimPlan
+planned p s t evicted = record { cells = named p t; missing = lacking p s t; bytes = map (tile_bytes p) (lacking p s t); scratch = scratch_bytes p (task_of p t); victims = evicted }
+
+-- ---- why a claim can't be made
+
+-- what a claim needs beside room on its node
+pub record MayClaim (p : Program) (m : Machine) (s : State) (t : Task) (w : Worker) : Type 0 where
+  pub worker : w.0 < p.workers
+  pub waiting : progress s t ≡ Waiting
+  pub ready : Ready p (done_tasks s) t.0
+  pub idle : IsTrue (is_idle s w)
+  pub fits : footprint p t ≤ node_size m (node_of m w)
+
+-- no commuting cell of the task is one of a claimed or running task
+abbrev pub CommutersAreFree : Program → State → Task → Type 0
+CommutersAreFree p s t = IsTrue (list_all (λ c. not (is_in_use p s c)) (commuting_cells p t))
+
+-- the reasons, in the order in which they are tested: a commuting cell is in use, a replica leaves the node, or the free
+-- bytes and all unpinned entries that aren't the task's don't cover the need
+abbrev pub IsWhy : Program → Machine → State → Task → Worker → Why → Type 0
+IsWhy p m s t w (Commute c) = IsTrue (has_cell (commuting_cells p t) c) × IsTrue (is_in_use p s c)
+IsWhy p m s t w (Leaving c) = CommutersAreFree p s t × IsTrue (is_leaving (replica s c (AtNode (node_of m w))))
+IsWhy p m s t w NoRoom = CommutersAreFree p s t × IsTrue (none_leaving s (node_of m w)) × (victims_for p m s t w ≡ None)
+
+-- a copy of the cell leaves the node
+abbrev pub is_leaving_at : List Copies → Node → Cell → Bool
+is_leaving_at rows n c = is_leaving_mark (mark_at (row_of rows c) n)
+
+-- none of these does
+abbrev pub NoneLeaves : List Copies → Node → List Cell → Type 0
+NoneLeaves rows n cs = All (λ c. is_leaving_at rows n c ≡ false) cs

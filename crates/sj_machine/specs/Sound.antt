@@ -1,0 +1,118 @@
+-- What is true of every run between two calls.
+use Rattle.std.specs.Prelude.{◌≡◌, ◌≤◌, Bool, ℕ, ℤ, All, Result, FitsSigned, length, Option, true, Some, IsTrue, IfSome, IsSomeAnd, List, slice_get, option_and_then}
+use Rattle.std.specs.Int.{w64}
+use Rattle.sj_base.specs.declared.ids.Cell.{Cell}
+use Rattle.sj_base.specs.declared.ids.DiskNo.{DiskNo}
+use Rattle.sj_base.specs.declared.ids.Worker.{Worker}
+use Rattle.sj_base.specs.declared.ids.Place.{Place}
+use Rattle.sj_base.specs.declared.ids.Place.TheVariants.{Disk as OnDisk}
+use Rattle.sj_base.specs.declared.program.Program.{Program}
+use Rattle.sj_base.specs.declared.program.Machine.{Machine}
+use Rattle.sj_base.specs.Array.{area}
+use Rattle.sj_codelet.specs.declared.kernel.Kernel.{Kernel}
+use Rattle.sj_core.specs.Coherent.{Coherent}
+use Rattle.sj_core.specs.Laws.{HasPlainModes, IsLawful}
+use Rattle.sj_core.specs.Legal.{Replays}
+use Rattle.sj_core.specs.Machine.{State, is_valid, replica, transfer, writes}
+use Rattle.sj_core.specs.Needs.{Block, place}
+use Rattle.sj_core.specs.Program.{dims_of}
+use Rattle.sj_core.specs.Proper.{HasSwapFor, IsMachineFor, Proper}
+use Rattle.sj_core.specs.Step.{array_at}
+use Rattle.sj_edge.specs.GivenBack.{AreGivenBack}
+use Rattle.sj_disk.specs.declared.directory.Extent.{Extent}
+use Rattle.sj_disk.specs.declared.refusal.DiskRefusal.{DiskRefusal}
+use Rattle.sj_disk.specs.Block.{block}
+use Rattle.sj_disk.specs.Calls.{Fetches, Stores}
+use Rattle.sj_disk.specs.Directory.{DiskState, extent_of, last_store}
+use Rattle.sj_disk.specs.Holding.{Holds}
+use Rattle.sj_machine.specs.Agrees.{Agrees, Rows, owed_in}
+use Rattle.sj_machine.specs.Standing.{AllTell, Standing, state}
+
+-- ---- the disks
+
+-- the block that the cell gets on the machine's disks
+abbrev pub block_of : Program → Machine → Cell → Option Block
+block_of p m c = option_and_then (λ blocks. slice_get blocks c.0) (place p m.disks)
+
+-- the extent is that block, of the cell's elements
+pub record IsBlock (p : Program) (c : Cell) (b : Block) (e : Extent) : Type 0 where
+  pub disk : e.disk ≡ b.disk
+  pub position : e.position ≡ b.position
+  pub whole : e.length ≡ area (dims_of p c)
+
+-- where all disks tell: the block holds the cell's array at the disk, with its dimensions, in 64 bits each
+pub record HoldsArray {D : Type 0} (held : D → Option (List ℕ)) (disks : List D) (p : Program) (s : State) (c : Cell) (q : Place) (e : Extent) : Type 0 where
+  pub dims : (array_at p s q c).dims ≡ dims_of p c
+  pub whole : length (array_at p s q c).elements ≡ e.length
+  pub fits : All (FitsSigned w64) (array_at p s q c).elements
+  pub told : Holds held disks e (block c.0 (writes s c) (array_at p s q c).elements)
+
+-- the last store of the cell ended well, with the cell's write count
+pub record IsStored (s : State) (c : Cell) (e : Extent) : Type 0 where
+  pub last : e.last_store ≡ Some (last_store (writes s c) true)
+
+-- each cell has its block, and where its replica on a disk is valid the last store ended well with the cell's write count;
+-- what the block holds is said where all disks tell
+pub record HoldsBlocks {D : Type 0} (held : D → Option (List ℕ)) (p : Program) (m : Machine) (s : State) (Tells : Type 0) (disks : DiskState D) : Type 0 where
+  pub placed : (c : Cell) → IfSome (block_of p m c) (λ b. IsSomeAnd (extent_of disks.directory c.0) (IsBlock p c b))
+  pub stored : (c : Cell) (d : DiskNo) → IsTrue (is_valid (replica s c (OnDisk d))) → IsSomeAnd (extent_of disks.directory c.0) (IsStored s c)
+  pub blocks :
+      Tells → (c : Cell) (d : DiskNo) → IsTrue (is_valid (replica s c (OnDisk d)))
+      → IsSomeAnd (extent_of disks.directory c.0) (HoldsArray held disks.disks p s c (OnDisk d))
+
+-- ---- all of it
+
+-- the program is proper and plain, with codelets of a set that obeys the laws of a set, and the machine is one for it,
+-- with room for its blocks
+pub record IsRunOf (p : Program) (m : Machine) : Type 0 where
+  pub proper : Proper p
+  pub has : Kernel → Bool
+  pub lawful : IsLawful has p
+  pub plain : HasPlainModes p
+  pub machine : IsMachineFor p m
+  pub swap : HasSwapFor p m
+
+-- the trace is legal and its state coherent, the disks hold their blocks, and came back from each call
+pub record IsSoundRun {D : Type 0} (size faults mismatches : D → ℕ) (held : D → Option (List ℕ)) (b : Standing D) : Type 0 where
+  pub run : IsRunOf b.program b.machine
+  pub legal : Replays b.program b.machine b.trace (state b)
+  pub coherent : Coherent b.program b.machine (state b)
+  pub blocks : HoldsBlocks held b.program b.machine (state b) (AllTell held b) b.disks
+  pub given_back : AreGivenBack size faults mismatches held b.opened b.disks.disks
+
+-- the run is sound, the rows agree with its state, and the trace has room for the events that are owed
+pub record Keeps {D : Type 0} (size faults mismatches : D → ℕ) (held : D → Option (List ℕ)) (b : Standing D) (rows : Rows) (owed spare : ℕ) : Type 0 where
+  pub sound : IsSoundRun size faults mismatches held b
+  pub agrees : Agrees b.program b.machine (state b) (AllTell held b) rows
+  pub owes : owed_in rows ≤ owed
+  pub room : owed ≤ spare
+
+-- a run of the program can be made on the machine with these disks: each cell has its block
+pub record CanStart {D : Type 0} (p : Program) (m : Machine) (disks : DiskState D) : Type 0 where
+  pub run : IsRunOf p m
+  pub placed : (c : Cell) → IfSome (block_of p m c) (λ b. IsSomeAnd (extent_of disks.directory c.0) (IsBlock p c b))
+
+-- ---- disk transfers
+
+-- the last store of the cell ended well, and is its array at a place
+pub record IsCopyOf {D : Type 0} (held : D → Option (List ℕ)) (b : Standing D) (c : Cell) (q : Place) (e : Extent) : Type 0 where
+  pub last : IsStored (state b) c e
+  pub array : AllTell held b → HoldsArray held b.disks.disks b.program (state b) c q e
+
+-- the block of the cell of the worker's transfer is what stands at its source
+abbrev pub IsWrittenOut : {D : Type 0} → (D → Option (List ℕ)) → Standing D → Worker → Type 0
+IsWrittenOut held b w = IfSome (transfer (state b) w) (λ x. IsSomeAnd (extent_of b.disks.directory x.cell.0) (IsCopyOf held b x.cell x.from))
+
+-- no event has happened: the disks alone may have changed
+abbrev pub OnlyDisksChange : {D : Type 0} → Standing D → Standing D → Type 0
+OnlyDisksChange old new = new ≡ record old { disks = new.disks }
+
+-- the disks changed by a store of these elements for the cell of the worker's transfer
+abbrev pub StoresMoved : {D A : Type 0} → (D → ℕ) → (D → ℕ) → (D → ℕ) → (D → Option (List ℕ)) → Worker → List ℤ → Result A DiskRefusal → Standing D → Standing D → Type 0
+StoresMoved size faults mismatches held w xs result old new =
+    IfSome (transfer (state old) w) (λ x. IfSome (extent_of old.disks.directory x.cell.0) (Stores size faults mismatches held x.cell.0 (writes (state old) x.cell) xs result old.disks new.disks))
+
+-- the disks changed by a fetch of these elements for the cell of the worker's transfer
+abbrev pub FetchesMoved : {D A : Type 0} → (D → ℕ) → (D → ℕ) → (D → ℕ) → (D → Option (List ℕ)) → Worker → List ℤ → Result A DiskRefusal → Standing D → Standing D → Type 0
+FetchesMoved size faults mismatches held w xs result old new =
+    IfSome (transfer (state old) w) (λ x. IfSome (extent_of old.disks.directory x.cell.0) (Fetches size faults mismatches held x.cell.0 (writes (state old) x.cell) xs result old.disks new.disks))

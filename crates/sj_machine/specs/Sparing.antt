@@ -1,0 +1,34 @@
+-- What no event takes away: copies that tasks and transfers work on.
+use Rattle.std.specs.Prelude.{◌≡◌, Bool, true, false, ◌||◌, Some}
+use Rattle.sj_base.specs.declared.ids.Cell.{Cell}
+use Rattle.sj_base.specs.declared.ids.Place.{Place}
+use Rattle.sj_base.specs.declared.ids.Place.TheVariants.{Node as AtNode, Disk as OnDisk}
+use Rattle.sj_base.specs.declared.trace.Event.{Event}
+use Rattle.sj_base.specs.declared.trace.Event.TheVariants.{Run, End}
+use Rattle.sj_base.specs.declared.program.Program.{Program}
+use Rattle.sj_base.specs.declared.program.Machine.{Machine}
+use Rattle.sj_base.specs.Array.{Array}
+use Rattle.sj_core.specs.Machine.{State, array_of, is_pinned, replica}
+use Rattle.sj_core.specs.Operands.{written_cells}
+use Rattle.sj_core.specs.Program.{has_cell}
+use Rattle.sj_core.specs.Step.{is_read}
+use Rattle.sj_machine.specs.Standing.{CanHappen, Standing, state, with_event}
+
+-- a claimed or running task pins the copy, or a transfer reads it
+abbrev pub is_used : Machine → State → Cell → Place → Bool
+is_used m s c (AtNode n) = is_pinned m s n c || is_read m s c (AtNode n)
+is_used m s c (OnDisk d) = is_read m s c (OnDisk d)
+
+-- the event is the beginning or the end of a run that writes the cell
+abbrev pub writes_cell : Program → Event → Cell → Bool
+writes_cell p (Run t w) c = has_cell (written_cells p t w) c
+writes_cell p (End t w) c = has_cell (written_cells p t w) c
+writes_cell p _ c = false
+
+-- each copy that is used is still valid with its array, but for those that the event's own task writes
+abbrev pub SparesUsed : Program → Machine → State → Event → State → Type 0
+SparesUsed p m s e s' = (c : Cell) (q : Place) (a : Array) → is_used m s c q ≡ true → array_of (replica s c q) ≡ Some a → writes_cell p e c ≡ false → array_of (replica s' c q) ≡ Some a
+
+-- it is so of each event that can happen
+abbrev pub EventsSpareUsed : {D : Type 0} → Standing D → Type 0
+EventsSpareUsed b = (e : Event) → CanHappen b e → SparesUsed b.program b.machine (state b) e (state (with_event b e))

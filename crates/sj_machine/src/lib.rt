@@ -1,0 +1,15 @@
+//! The state of a run on its machine: how far each task is, where each cell has copies, what each node and each worker
+//! holds, and the trace of events. Each call that is an event is one legal step of the machine.
+#![tactic(auto)]
+
+pub mod claiming;
+pub mod copies;
+pub mod delivered;
+mod ending;
+pub mod hold;
+pub mod leaving;
+pub mod mark;
+pub mod needs;
+pub mod plan;
+pub mod run_state;
+mod running;

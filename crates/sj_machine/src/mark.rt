@@ -1,0 +1,35 @@
+//! What a cell is at a node.
+
+ghost use Rattle.std.specs.Prelude.{◌≡◌};
+ghost use Rattle.sj_machine.specs.Mark.{is_leaving, is_there};
+
+use sj_base::ids::Worker;
+
+/// What a cell is at a node, its array aside.
+#[derive(Clone, Copy, Debug, PartialEq, Eq)]
+pub enum Mark {
+    /// It has no copy there.
+    Invalid,
+    /// The claim of a worker brings a copy.
+    Coming(Worker),
+    /// It has a copy there.
+    Valid,
+    /// It has a copy there that the claim of a worker evicts, and that is still valid.
+    Leaving(Worker),
+}
+
+impl Mark {
+    /// Whether there is a copy. Constant time.
+    pub fn is_there(self) -> bool
+        ensures { result ≡ is_there self }
+    {
+        matches!(self, Mark::Valid | Mark::Leaving(_))
+    }
+
+    /// Whether there is a copy that leaves. Constant time.
+    pub fn is_leaving(self) -> bool
+        ensures { result ≡ is_leaving self }
+    {
+        matches!(self, Mark::Leaving(_))
+    }
+}

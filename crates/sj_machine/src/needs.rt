@@ -1,0 +1,115 @@
+//! What a task needs on its node.
+
+ghost use Rattle.std.specs.Prelude.{◌≡◌, ◌≤◌, ◌<◌, ◌^◌, ◌*◌, ◌&&◌, ◌∷◌, [], All, IfOk, filter, length, map, not, sum, sum_by};
+ghost use Rattle.sj_base.specs.Array.{area};
+ghost use Rattle.sj_base.specs.Mode.{is_data, is_scratch};
+ghost use Rattle.sj_core.specs.Needs.{tile_bytes as bytes_of_tile};
+ghost use Rattle.sj_core.specs.Program.{dims_of, distinct, has_cell, task_of};
+ghost use Rattle.sj_node.specs.Entry.{has_entry};
+ghost use Rattle.sj_machine.specs.Plan.{IsSmallCell};
+
+use sj_base::ids::{Cell, Task};
+use sj_base::memory::OutOfMemory;
+use sj_base::mode::{Access, Mode};
+use sj_base::program::Program;
+use sj_node::store::NodeStore;
+use std::alloc::Global;
+
+/// The operands of a task. Constant time.
+pub fn accesses_of(program: &Program, t: Task) -> &[Access]
+    requires { t.0 < length program.now.tasks }
+    ensures { result.now ≡ (task_of program.now t).accesses }
+{
+    program.tasks.items()[t.0 as usize].accesses.items()
+}
+
+/// The bytes of a cell's tile. Constant time.
+fn tile_bytes(program: &Program, cell: Cell) -> u64
+    requires { IsSmallCell program.now cell }
+    ensures { result ≡ bytes_of_tile program.now cell }
+{
+    8 * program.cells.items()[cell.0 as usize].dims.area()
+}
+
+/// The bytes of each cell's tile. Linear in the cells.
+pub fn bytes_of(alloc: Global, program: &Program, cells: &[Cell]) -> Result<Vec<u64>, OutOfMemory>
+    requires { All (IsSmallCell program.now) cells.now }
+    ensures { IfOk result (λ bytes. bytes.items ≡ map (bytes_of_tile program.now) cells.now) }
+{
+    let mut bytes = Vec::new(alloc);
+    for cell in cells {
+        bytes.push(tile_bytes(program, *cell))?;
+    }
+    Ok(bytes)
+}
+
+/// The bytes of an operand that is a scratch buffer; none of another. Constant time.
+fn scratch_of(program: &Program, access: Access) -> u64
+    requires { IsSmallCell program.now access.cell }
+    ensures { result ≡ sum_by (λ a. bytes_of_tile program.now a.cell) (filter (λ a. is_scratch a.mode) (access ∷ [])) }
+{
+    if access.mode == Mode::Scratch {
+        tile_bytes(program, access.cell)
+    } else {
+        0
+    }
+}
+
+/// The bytes of scratch buffers among operands. Linear in the operands.
+pub fn scratch_bytes(program: &Program, accesses: &[Access]) -> u64
+    requires cells { All (λ a. IsSmallCell program.now a.cell) accesses.now }
+    requires few { length accesses.now ≤ 5 }
+    ensures small { result ≤ 5 * 2 ^ 27 }
+    ensures bytes { result ≡ sum_by (λ a. bytes_of_tile program.now a.cell) (filter (λ a. is_scratch a.mode) accesses.now) }
+{
+    let mut bytes = 0;
+    for access in accesses {
+        bytes += scratch_of(program, *access);
+    }
+    bytes
+}
+
+/// The cells of the operands that are accesses to data, in order. Linear in the operands.
+pub fn data_cells(alloc: Global, accesses: &[Access]) -> Result<Vec<Cell>, OutOfMemory>
+    ensures { IfOk result (λ cells. cells.items ≡ map (λ a. a.cell) (filter (λ a. is_data a.mode) accesses.now)) }
+{
+    let mut cells = Vec::new(alloc);
+    for access in accesses {
+        if access.mode != Mode::Scratch {
+            cells.push(access.cell)?;
+        }
+    }
+    Ok(cells)
+}
+
+/// Whether a cell has no entry on a node, and isn't among those that come after it. Linear in these.
+fn is_lacking(node: &NodeStore, cell: Cell, later: &[Cell]) -> bool
+    ensures { result ≡ (not (has_cell later.now cell) && not (has_entry node.now.entries cell)) }
+{
+    !later.contains(&cell) && !node.has(cell)
+}
+
+/// The cells without an entry on a node, each once. Quadratic in the cells, which are a task's few.
+pub fn lacking_cells(
+    alloc: Global,
+    node: &NodeStore,
+    cells: &[Cell],
+) -> Result<Vec<Cell>, OutOfMemory>
+    ensures { IfOk result (λ lacking. lacking.items ≡ filter (λ c. not (has_entry node.now.entries c)) (distinct cells.now)) }
+{
+    let mut lacking = Vec::new(alloc);
+    for i in 0..cells.len() {
+        if is_lacking(node, cells[i], &cells[i + 1..]) {
+            lacking.push(cells[i])?;
+        }
+    }
+    Ok(lacking)
+}
+
+/// The sum of these. Linear in them.
+pub fn total(bytes: &[u64]) -> u64
+    requires { sum bytes.now < 2 ^ 63 }
+    ensures { result ≡ sum bytes.now }
+{
+    bytes.iter().sum::<u64>()
+}

@@ -1,0 +1,134 @@
+//! Plans of claims.
+
+ghost use Rattle.std.specs.Prelude.{◌≡◌, IfOk, option_map, reverse};
+ghost use Rattle.sj_node.specs.Store.{victims_of};
+ghost use Rattle.sj_machine.specs.Planning.{HasSmallTask, chosen_on, planned};
+
+use crate::needs::{accesses_of, bytes_of, data_cells, lacking_cells, scratch_bytes, total};
+use sj_base::ids::{Cell, Task};
+use sj_base::memory::OutOfMemory;
+use sj_base::program::Program;
+use sj_node::store::NodeStore;
+use std::alloc::Global;
+use std::marker::Model;
+
+/// Why a claim can't be made now.
+#[derive(Clone, Copy, Debug, PartialEq, Eq)]
+pub enum Why {
+    /// A commuting cell of the task belongs to another claimed or running task.
+    Commute(Cell),
+    /// A copy of this cell leaves the worker's node.
+    Leaving(Cell),
+    /// The free bytes of the node and all entries that could be evicted don't cover what the task brings.
+    NoRoom,
+}
+
+/// What a claim is to do: the cells of its task in operand order, those of them that it brings to the worker's node, with
+/// their bytes, the bytes of the task's scratch, and the victims, the most recently used first.
+#[derive(Drop)]
+pub struct Plan {
+    cells: Vec<Cell>,
+    missing: Vec<Cell>,
+    bytes: Vec<u64>,
+    scratch: u64,
+    victims: Vec<Cell>,
+}
+
+impl Model for Plan {
+    ghost use Rattle.sj_machine.specs.Plan.{ClaimPlan};
+
+    ghost Value = { ClaimPlan };
+
+    ghost view = { λ c. record { cells = c.cells.items; missing = c.missing.items; bytes = c.bytes.items; scratch = c.scratch; victims = c.victims.items } };
+}
+
+/// The victims of a need, the most recently used first, those held spared; none where there is no room. Linear in the
+/// victims and in the entries that are passed, each by the cells held.
+fn recent_victims(
+    alloc: Global,
+    node: &NodeStore,
+    held: &[Cell],
+    need: u64,
+) -> Result<Option<Vec<Cell>>, OutOfMemory>
+    ensures { IfOk result (λ found. option_map (λ v. v.items) found ≡ option_map reverse (victims_of held.now node.now need)) }
+{
+    let Some(mut victims) = node.victims(alloc, held, need)? else {
+        return Ok(None);
+    };
+    victims.reverse();
+    Ok(Some(victims))
+}
+
+impl Plan {
+    /// The cells of the task, in operand order. Constant time.
+    pub fn cells(&self) -> &[Cell]
+        ensures { result.now ≡ self.now.cells }
+    {
+        &self.cells
+    }
+
+    /// Those that it brings. Constant time.
+    pub fn missing(&self) -> &[Cell]
+        ensures { result.now ≡ self.now.missing }
+    {
+        &self.missing
+    }
+
+    /// The bytes of each that it brings. Constant time.
+    pub fn bytes(&self) -> &[u64]
+        ensures { result.now ≡ self.now.bytes }
+    {
+        &self.bytes
+    }
+
+    /// The bytes of the task's scratch. Constant time.
+    pub fn scratch(&self) -> u64
+        ensures { result ≡ self.now.scratch }
+    {
+        self.scratch
+    }
+
+    /// The victims, the most recently used first. Constant time.
+    pub fn victims(&self) -> &[Cell]
+        ensures { result.now ≡ self.now.victims }
+    {
+        &self.victims
+    }
+
+    /// The cells of the task, and the victims. Constant time.
+    pub fn into_lists(self) -> (Vec<Cell>, Vec<Cell>)
+        ensures cells { result.0.items ≡ self.cells }
+        ensures victims { result.1.items ≡ self.victims }
+    {
+        (self.cells, self.victims)
+    }
+
+    /// The plan of a task on a node, where there is room for it. Linear in the operands, the victims and the entries that
+    /// are passed, each by the operands.
+    pub fn on(
+        alloc: Global,
+        program: &Program,
+        node: &NodeStore,
+        t: Task,
+    ) -> Result<Option<Plan>, OutOfMemory>
+        requires { HasSmallTask program.now t }
+        ensures { IfOk result (λ plan. plan ≡ option_map (planned program.now node.now t) (chosen_on program.now node.now t)) }
+    {
+        let accesses = accesses_of(program, t);
+        let cells = data_cells(alloc, accesses)?;
+        let missing = lacking_cells(alloc, node, &cells)?;
+        let bytes = bytes_of(alloc, program, &missing)?;
+        let scratch = scratch_bytes(program, accesses);
+        let need = total(&bytes) + scratch;
+        let Some(victims) = recent_victims(alloc, node, &cells, need)? else {
+            return Ok(None);
+        };
+        Ok(Some(Plan {
+            cells,
+            missing,
+            bytes,
+            scratch,
+            victims,
+        }))
+    }
+}

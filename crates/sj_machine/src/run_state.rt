@@ -1,0 +1,480 @@
+//! The state of a run, and the events that change it.
+
+ghost use Rattle.std.specs.Prelude.{◌≡◌, ◌<◌, ◌≤◌, [], All, FitsSigned, IfErr, IfOk, IsSome, OnErr, OnOk, None, Some, false, length, map, replicate, true};
+ghost use Rattle.std.specs.Int.{w64};
+ghost use Rattle.sj_base.specs.Array.{area};
+ghost use Rattle.sj_base.specs.declared.ids.Place.TheVariants.{Disk as OnDisk, Node as AtNode};
+ghost use Rattle.sj_core.specs.Program.{task_of};
+ghost use Rattle.sj_core.specs.Step.{mover_of};
+ghost use Rattle.sj_node.specs.Store.{empty};
+ghost use Rattle.sj_machine.specs.Agrees.{idle, transfer_in, with_transfer_of};
+ghost use Rattle.sj_machine.specs.Copies.{CanShare, none_at, row_of, stored, tile_kept, with_copy, with_row};
+ghost use Rattle.sj_machine.specs.Plan.{IsPlan};
+ghost use Rattle.sj_machine.specs.Running.{AreResultsFor, AreSharesFor, read_among};
+ghost use Rattle.sj_machine.specs.Sound.{CanStart, FetchesMoved, IsSoundRun, IsWrittenOut, OnlyDisksChange, StoresMoved};
+ghost use Rattle.sj_machine.specs.Planning.{IsWhy, MayClaim};
+ghost use Rattle.sj_machine.specs.Sparing.{EventsSpareUsed};
+ghost use Rattle.sj_machine.specs.Standing.{CanHappen, HasDimsMoved, HasMoved, IsFetching, IsMovingIn, IsMovingOut, IsShareOf, IsTileMoved, is_node, starting, state, with_event};
+ghost use Rattle.sj_machine.specs.Tiles.{array_in};
+
+use crate::claiming::{hold_all, mark_all, node_of, take_plan};
+use crate::copies::Copies;
+use crate::ending::{let_go, put_back, release_at};
+use crate::hold::Hold;
+use crate::leaving::leaving_at;
+use crate::mark::Mark;
+use crate::plan::{Plan, Why};
+use crate::running::{evict_elsewhere, lend_each, share_into, task_at, written_among};
+use sj_base::ids::{Cell, DiskNo, Node, Place, Task, Worker};
+use sj_base::memory::OutOfMemory;
+use sj_base::program::{Machine, Program};
+use sj_base::tile::Tile;
+use sj_base::trace::{Event, Trace};
+use sj_codelet::frame::Frame;
+use sj_core::progress::{Progress, Transfer};
+use sj_disk::disk_set::DiskSet;
+use sj_disk::refusal::DiskRefusal;
+use sj_edge::disk::Disk;
+use sj_node::store::NodeStore;
+use std::alloc::Global;
+use std::marker::Model;
+use std::snapshot::Snapshot;
+use std::sync::Arc;
+
+/// How far a run is, on its machine.
+#[derive(Drop)]
+pub struct RunState<D: Disk> {
+    program: Arc<Program>,
+    machine: Machine,
+    tasks: Vec<Progress>,
+    cells: Vec<Copies>,
+    nodes: Vec<NodeStore>,
+    workers: Vec<Hold>,
+    disks: DiskSet<D>,
+    /// The disks as they were when the run was made.
+    opened: Snapshot<DiskSet<D>>,
+    trace: Trace,
+    /// For how many events the trace has room whatever comes: one for each copy that leaves, each transfer, and each
+    /// claimed or running task.
+    owed: u64,
+}
+
+impl<D: Disk> Model for RunState<D> {
+    ghost use Rattle.sj_machine.specs.Agrees.{rows_of};
+    ghost use Rattle.sj_machine.specs.Sound.{Keeps};
+    ghost use Rattle.sj_machine.specs.Standing.{Standing, standing};
+
+    ghost Value = { Standing D };
+
+    ghost view = { λ b. standing b.program.value b.machine b.trace b.disks b.opened.value };
+
+    ghost invariant = { λ b. Keeps D.size D.faults D.mismatches D.held
+        (standing b.program.value b.machine b.trace b.disks b.opened.value)
+        (rows_of b.tasks.items b.cells.items b.nodes.items b.workers.items) b.owed b.trace.spare };
+}
+
+/// Why a run isn't made: want of memory. Its program and its disks come back.
+#[derive(Drop)]
+pub struct RunRefusal<D: Disk> {
+    pub program: Arc<Program>,
+    pub disks: DiskSet<D>,
+}
+
+/// All tasks waiting. Linear in them.
+fn waiting(alloc: Global, count: usize) -> Result<Vec<Progress>, OutOfMemory>
+    ensures { IfOk result (λ v. v.items ≡ replicate count Progress.Waiting) }
+{
+    Ok(vec![in alloc; Progress::Waiting; count]?)
+}
+
+/// No copy of any cell at any node. Linear in the cells and nodes.
+fn no_copies(alloc: Global, count: usize, nodes: usize) -> Result<Vec<Copies>, OutOfMemory>
+    ensures { IfOk result (λ v. v.items ≡ replicate count (none_at nodes)) }
+{
+    let mut rows = Vec::new(alloc);
+    for _i in 0..count {
+        rows.push(Copies::none(alloc, nodes)?)?;
+    }
+    Ok(rows)
+}
+
+/// Empty nodes of these sizes. Linear in the cells and nodes.
+fn empty_nodes(alloc: Global, sizes: &[u64], cells: u32) -> Result<Vec<NodeStore>, OutOfMemory>
+    ensures { IfOk result (λ v. v.items ≡ map (λ size. empty size cells) sizes.now) }
+{
+    let mut nodes = Vec::new(alloc);
+    for size in sizes {
+        nodes.push(NodeStore::make(alloc, *size, cells)?)?;
+    }
+    Ok(nodes)
+}
+
+/// Workers with nothing in hand. Linear in them.
+fn idle_workers(alloc: Global, count: u8) -> Result<Vec<Hold>, OutOfMemory>
+    ensures { IfOk result (λ v. v.items ≡ replicate count idle) }
+{
+    let mut workers = Vec::new(alloc);
+    for _i in 0..count {
+        workers.push(Hold::nothing(alloc))?;
+    }
+    Ok(workers)
+}
+
+/// The copy of a cell at a node goes. Constant time.
+fn clear(cells: &mut Vec<Copies>, cell: Cell, n: Node)
+    requires cell { cell.0 < length cells.old.items }
+    requires node { n.0 < length (row_of cells.old.items cell).marks }
+    ensures { cells.new.items ≡ with_row cells.old.items cell (λ row. with_copy row n Mark.Invalid None) }
+{
+    let row = &mut cells[cell.0 as usize];
+    row.put(n, Mark::Invalid, None);
+}
+
+/// A share of the tile that is kept of a cell at a node; none of its block on a disk. Constant time.
+fn share_of(cells: &[Copies], cell: Cell, place: Place) -> Result<Option<Arc<Tile>>, OutOfMemory>
+    requires { CanShare cells.now cell place }
+    ensures { IfOk result (λ share. array_in share ≡ tile_kept cells.now cell place) }
+{
+    match place {
+        Place::Node(n) => Ok(Some(cells[cell.0 as usize].share(n)?)),
+        Place::Disk(_) => Ok(None),
+    }
+}
+
+/// A worker begins a transfer, or ends it. Constant time.
+fn set_transfer(workers: &mut Vec<Hold>, w: Worker, transfer: Option<Transfer>)
+    requires { w.0 < length workers.old.items }
+    ensures { workers.new.items ≡ with_transfer_of workers.old.items w transfer }
+{
+    let row = &mut workers[w.0 as usize];
+    row.set_transfer(transfer);
+}
+
+/// A worker's transfer, where it has one. Constant time.
+fn transfer_of(workers: &[Hold], w: Worker) -> Transfer
+    requires inside { w.0 < length workers.now }
+    requires some { IsSome (transfer_in workers.now w) }
+    ensures { transfer_in workers.now w ≡ Some result }
+{
+    let row = &workers[w.0 as usize];
+    row.transfer().unwrap()
+}
+
+/// The node that a place is. Constant time.
+fn node_at(place: Place) -> Node
+    requires { is_node place ≡ true }
+    ensures { place ≡ AtNode result }
+{
+    match place {
+        Place::Node(n) => n,
+        Place::Disk(_) => unreachable!(),
+    }
+}
+
+/// The disk that a place is. Constant time.
+fn disk_at(place: Place) -> DiskNo
+    requires { is_node place ≡ false }
+    ensures { place ≡ OnDisk result }
+{
+    match place {
+        Place::Node(_) => unreachable!(),
+        Place::Disk(d) => d,
+    }
+}
+
+/// Reads each element, since what is read is known to fit its type. It does nothing, so that no code is left of it.
+fn told(elements: &[i64])
+    ensures { All (FitsSigned w64) elements.now }
+{
+    for x in elements {
+        let _element = *x;
+    }
+}
+
+/// No code: its contract is what a tile's type says of its elements.
+fn measured(tile: &Tile)
+    ensures whole { length tile.now.elements ≡ area tile.now.dims }
+    ensures fits { All (FitsSigned w64) tile.now.elements }
+{
+    let elements = tile.elements();
+    told(elements);
+}
+
+/// How many tasks have written a cell. Constant time.
+fn writes_of(cells: &[Copies], cell: Cell) -> u64
+    requires { cell.0 < length cells.now }
+    ensures { result ≡ (row_of cells.now cell).writes }
+{
+    let row = &cells[cell.0 as usize];
+    row.writes()
+}
+
+/// The cell's block on its disk is a copy from now on. Constant time.
+fn mark_stored(cells: &mut Vec<Copies>, cell: Cell)
+    requires { cell.0 < length cells.old.items }
+    ensures { cells.new.items ≡ with_row cells.old.items cell stored }
+{
+    let row = &mut cells[cell.0 as usize];
+    row.store();
+}
+
+/// The cell has a valid copy at a node from now on. Constant time.
+fn put_copy(cells: &mut Vec<Copies>, cell: Cell, n: Node, tile: Arc<Tile>)
+    requires cell { cell.0 < length cells.old.items }
+    requires node { n.0 < length (row_of cells.old.items cell).marks }
+    ensures { cells.new.items ≡ with_row cells.old.items cell (λ row. with_copy row n Mark.Valid (Some tile.value)) }
+{
+    let row = &mut cells[cell.0 as usize];
+    row.put(n, Mark::Valid, Some(tile));
+}
+
+impl<D: Disk> RunState<D> {
+    /// A run on which nothing has happened. The program and the disks come back where memory is wanting. Linear in tasks,
+    /// and in cells times nodes.
+    pub fn make(
+        alloc: Global,
+        program: Arc<Program>,
+        machine: Machine,
+        disks: DiskSet<D>,
+    ) -> Result<RunState<D>, RunRefusal<D>>
+        requires { CanStart program.value machine disks }
+        ensures ok { IfOk result (λ b. b ≡ starting program.value machine disks) }
+        ensures err { IfErr result (λ r. (r.program.value ≡ program.value) × (r.disks ≡ disks)) }
+    {
+        let Ok(tasks) = waiting(alloc, program.tasks.len()) else {
+            return Err(RunRefusal { program, disks });
+        };
+        let Ok(cells) = no_copies(alloc, program.cells.len(), machine.nodes.len()) else {
+            return Err(RunRefusal { program, disks });
+        };
+        let Ok(nodes) = empty_nodes(alloc, machine.nodes.items(), program.cells.len() as u32) else {
+            return Err(RunRefusal { program, disks });
+        };
+        let Ok(workers) = idle_workers(alloc, machine.workers) else {
+            return Err(RunRefusal { program, disks });
+        };
+        let opened = Snapshot::of(&disks);
+        Ok(RunState {
+            program,
+            machine,
+            tasks,
+            cells,
+            nodes,
+            workers,
+            disks,
+            opened,
+            trace: Trace::empty(alloc),
+            owed: 0,
+        })
+    }
+
+    /// The plan of a claim of a ready task by an idle worker, or why the claim can't be made now. Linear in the operands,
+    /// the victims, the entries that are passed and the victims of each worker's last claim.
+    pub fn claim_plan(
+        &self,
+        alloc: Global,
+        t: Task,
+        w: Worker,
+    ) -> Result<Result<Plan, Why>, OutOfMemory>
+        requires { MayClaim self.now.program self.now.machine (state self.now) t w }
+        ensures can { IfOk result (λ found. OnOk found (CanHappen self.now (Event.Claim t w))) }
+        ensures plan { IfOk result (λ found. IfOk found (IsPlan self.now.program self.now.machine (state self.now) t w)) }
+        ensures why { IfOk result (λ found. IfErr found (IsWhy self.now.program self.now.machine (state self.now) t w)) }
+    {
+        let n = node_of(&self.machine, w);
+        if let Some(cell) = leaving_at(&self.cells, n, &self.workers) {
+            return Ok(Err(Why::Leaving(cell)));
+        }
+        let found = Plan::on(alloc, &self.program, &self.nodes[n.0 as usize], t)?;
+        Ok(found.ok_or(Why::NoRoom))
+    }
+
+    /// A worker takes a ready task by its plan: it pins the task's cells on its node and brings them to the front, the
+    /// plan's victims leave, and the cells that were missing come. After an `Err` the run is as before. Linear in the
+    /// operands and the victims, but for moving the trace as it grows.
+    pub fn claim(&mut self, t: Task, w: Worker, plan: Plan) -> Result<(), OutOfMemory>
+        requires can { CanHappen self.old (Event.Claim t w) }
+        requires plan { IsPlan self.old.program self.old.machine (state self.old) t w plan }
+        ensures ok { OnOk result (self.new ≡ with_event self.old (Event.Claim t w)) }
+        ensures err { OnErr result (self.new ≡ self.old) }
+    {
+        let n = node_of(&self.machine, w);
+        let more = plan.victims().len() as u64 + 1;
+        let Some(room) = self.owed.checked_add(more + 1) else {
+            return Err(OutOfMemory);
+        };
+        self.trace.reserve(room)?;
+        hold_all(&mut self.nodes, n, &plan)?;
+        mark_all(&mut self.cells, plan.victims(), n, Mark::Leaving(w));
+        mark_all(&mut self.cells, plan.missing(), n, Mark::Coming(w));
+        self.tasks[t.0 as usize] = Progress::Claimed(w);
+        take_plan(&mut self.workers, w, plan);
+        self.owed += more;
+        self.trace.add(Event::Claim(t, w));
+        Ok(())
+    }
+
+    /// A leaving copy goes from its node, since another is valid and no transfer reads it. Constant time, and no memory.
+    pub fn drop_copy(&mut self, cell: Cell, n: Node)
+        requires { CanHappen self.old (Event.Drop cell n) }
+        ensures { self.new ≡ with_event self.old (Event.Drop cell n) }
+    {
+        clear(&mut self.cells, cell, n);
+        self.owed -= 1;
+        self.trace.add(Event::Drop(cell, n));
+    }
+
+    /// A worker begins a move of a cell: one that its claim brings, or a victim of its claim. Hands out a share of the tile
+    /// at the source, where that is a node. After an `Err` the run is as before. Constant time, but for moving the trace
+    /// as it grows.
+    pub fn begin_move(
+        &mut self,
+        w: Worker,
+        cell: Cell,
+        from: Place,
+        to: Place,
+    ) -> Result<Option<Arc<Tile>>, OutOfMemory>
+        requires can { CanHappen self.old (Event.Move cell from to) }
+        requires mover { mover_of (state self.old) cell from to ≡ w }
+        ensures ok { OnOk result (self.new ≡ with_event self.old (Event.Move cell from to)) }
+        ensures share { IfOk result (λ share. IsShareOf D.held self.old cell from
+            (array_in share)) }
+        ensures err { OnErr result (self.new ≡ self.old) }
+    {
+        let share = share_of(&self.cells, cell, from)?;
+        let Some(room) = self.owed.checked_add(2) else {
+            return Err(OutOfMemory);
+        };
+        self.trace.reserve(room)?;
+        set_transfer(&mut self.workers, w, Some(Transfer { cell, from, to }));
+        self.owed += 1;
+        self.trace.add(Event::Move(cell, from, to));
+        Ok(share)
+    }
+
+    /// The move of a worker into a node ends: the tile is there. Constant time, and no memory.
+    pub fn end_move_in(&mut self, w: Worker, tile: Arc<Tile>)
+        requires under_way { IsMovingIn self.old w }
+        requires tile { IsTileMoved D.held self.old w tile.value }
+        ensures { HasMoved w self.old self.new }
+    {
+        let x = transfer_of(&self.workers, w);
+        let n = node_at(x.to);
+        put_copy(&mut self.cells, x.cell, n, tile);
+        set_transfer(&mut self.workers, w, None);
+        self.owed -= 1;
+        self.trace.add(Event::Moved(x.cell, x.from, x.to));
+    }
+
+    /// The move of a worker out to a disk ends: the cell's block there is a copy. Constant time, and no memory.
+    pub fn end_move_out(&mut self, w: Worker)
+        requires under_way { IsMovingOut self.old w }
+        requires written { IsWrittenOut D.held self.old w }
+        ensures { HasMoved w self.old self.new }
+    {
+        let x = transfer_of(&self.workers, w);
+        let _d = disk_at(x.to);
+        mark_stored(&mut self.cells, x.cell);
+        set_transfer(&mut self.workers, w, None);
+        self.owed -= 1;
+        self.trace.add(Event::Moved(x.cell, x.from, x.to));
+    }
+
+    /// Writes the tile of a worker's move to the block of its cell. No event, and no memory. Linear in the tile.
+    ///
+    /// After an `Err` the block may hold any bytes, and the move is still under way.
+    pub fn store(&mut self, w: Worker, tile: &Tile) -> Result<(), DiskRefusal>
+        requires under_way { IsMovingOut self.old w }
+        requires tile { IsTileMoved D.held self.old w tile.now }
+        ensures no_event { OnlyDisksChange self.old self.new }
+        ensures stores { StoresMoved D.size D.faults D.mismatches D.held w tile.now.elements result self.old self.new }
+        ensures written { OnOk result (IsWrittenOut D.held self.new w) }
+    {
+        let x = transfer_of(&self.workers, w);
+        let _d = disk_at(x.to);
+        measured(tile);
+        let writes = writes_of(&self.cells, x.cell);
+        self.disks.store(x.cell, writes, tile)
+    }
+
+    /// Reads the block of the cell of a worker's move into a tile. No event, and no memory. Linear in the tile.
+    ///
+    /// After an `Err` the tile holds any elements, and the move is still under way.
+    pub fn fetch(&mut self, w: Worker, tile: &mut Tile) -> Result<(), DiskRefusal>
+        requires under_way { IsFetching self.old w }
+        requires dims { HasDimsMoved self.old w tile.old.dims }
+        ensures no_event { OnlyDisksChange self.old self.new }
+        ensures fetches { FetchesMoved D.size D.faults D.mismatches D.held w tile.new.elements result self.old self.new }
+        ensures tile { OnOk result (IsTileMoved D.held self.old w tile.new) }
+    {
+        let x = transfer_of(&self.workers, w);
+        let _d = disk_at(x.from);
+        let _dims = tile.dims();
+        let writes = writes_of(&self.cells, x.cell);
+        self.disks.fetch(x.cell, writes, tile)
+    }
+
+    /// The kernel of a task begins that its worker has claimed. Appends to the frame shares of the operands whose old value
+    /// is read, in order; of the cells that it writes, the run keeps no tile. After an `Err` the run is as before. Linear in
+    /// the operands, and in the nodes for each written one.
+    pub fn run(
+        &mut self,
+        alloc: Global,
+        t: Task,
+        w: Worker,
+        mut frame: Frame,
+    ) -> Result<Frame, OutOfMemory>
+        requires can { CanHappen self.old (Event.Run t w) }
+        requires empty { frame.slots ≡ [] }
+        requires room { length (read_among (task_of self.old.program t).accesses) ≤ frame.spare }
+        ensures ok { OnOk result (self.new ≡ with_event self.old (Event.Run t w)) }
+        ensures shares { IfOk result (λ f. AreSharesFor D.held self.old t w f.slots) }
+        ensures err { OnErr result (self.new ≡ self.old) }
+    {
+        let n = node_of(&self.machine, w);
+        let accesses = task_at(&self.program, t).accesses.items();
+        share_into(&self.cells, n, accesses, &mut frame)?;
+        let written = written_among(alloc, accesses)?;
+        let Some(room) = self.owed.checked_add(1) else {
+            return Err(OutOfMemory);
+        };
+        self.trace.reserve(room)?;
+        lend_each(&mut self.cells, &written, n, self.machine.nodes.len());
+        evict_elsewhere(&mut self.nodes, &written, n);
+        self.tasks[t.0 as usize] = Progress::Running(w);
+        self.trace.add(Event::Run(t, w));
+        Ok(frame)
+    }
+
+    /// The kernel of a task has ended. The frame has shares of its results, in the order of its written operands. Linear in the
+    /// operands, and no memory.
+    pub fn end(&mut self, t: Task, w: Worker, mut written: Frame)
+        requires can { CanHappen self.old (Event.End t w) }
+        requires written { AreResultsFor D.held self.old t w written.slots }
+        ensures { self.new ≡ with_event self.old (Event.End t w) }
+    {
+        let n = node_of(&self.machine, w);
+        let accesses = task_at(&self.program, t).accesses.items();
+        put_back(&mut self.cells, accesses, n, &mut written);
+        release_at(&mut self.nodes, n, &self.workers, w);
+        let_go(&mut self.workers, w);
+        self.tasks[t.0 as usize] = Progress::Done(w);
+        self.owed -= 1;
+        self.trace.add(Event::End(t, w));
+    }
+
+    /// No code: its contract is what is true of every run.
+    pub fn is_sound(&self)
+        ensures { IsSoundRun D.size D.faults D.mismatches D.held self.now }
+    {
+        let _ = &self.program;
+    }
+
+    /// No code: its contract is the law that no event takes away a copy that a claimed or running task pins, or that a
+    /// transfer reads, or changes its array, but for the run of the task that writes it.
+    pub fn events_spare_what_is_used(&self)
+        ensures { EventsSpareUsed self.now }
+    {
+        let _ = &self.program;
+    }
+}
