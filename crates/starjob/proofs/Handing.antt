@@ -61,5 +61,5 @@ in-any-order p xs ys same handed =
       of_program = All-permutation (λ (pair : Task × Array). pair.0.0 < length p.tasks) xs ys same handed.of_program;
       given = All-permutation (λ (pair : Task × Array). pair.1 ≡ given p pair.0) xs ys same handed.given;
       every = All-weaker (λ (d : Delivery). Contains (map task xs) d.task) (λ (d : Delivery). Contains (map task ys) d.task)
-      (λ d h. Contains-permutation (map task xs) (map task ys) d.task (IsPermutation-map task xs ys same) h) p.deliveries handed.every;
+          (λ d h. Contains-permutation (map task xs) (map task ys) d.task (IsPermutation-map task xs ys same) h) p.deliveries handed.every;
     }
