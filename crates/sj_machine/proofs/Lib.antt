@@ -1,5 +1,6 @@
 pub mod Arriving
 pub mod Beginning
+pub mod Boarding
 pub mod ClaimEntries
 pub mod ClaimPins
 pub mod ClaimMarks
@@ -11,6 +12,10 @@ pub mod ClaimFinding
 pub mod ClaimChoice
 pub mod Dropping
 pub mod Entries
+pub mod Failing
+pub mod Giving
+pub mod Hands
+pub mod FillLoop
 pub mod Finishing
 pub mod Keeping
 pub mod Lending
@@ -18,12 +23,18 @@ pub mod Lists
 pub mod Making
 pub mod Marking
 pub mod Operands
+pub mod PoolFilling
+pub mod Pooling
 pub mod Owning
 pub mod Putting
 pub mod Reading
 pub mod Resting
+pub mod Starting
+pub mod Stepping
 pub mod Sparing
 pub mod Storing
+pub mod Taking
+pub mod TaskEnding
 pub mod Tiles
 pub mod Transferring
 pub mod Unpinning

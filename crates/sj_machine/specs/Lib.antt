@@ -1,9 +1,13 @@
 pub mod Agrees
+pub mod Board
+pub mod BoardSound
 pub mod Copies
 pub mod Delivered
+pub mod Filling
 pub mod Mark
 pub mod Plan
 pub mod Planning
+pub mod Releasing
 pub mod Running
 pub mod Sound
 pub mod Sparing

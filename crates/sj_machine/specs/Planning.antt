@@ -20,6 +20,8 @@ use Rattle.sj_node.specs.Store.{Store, victims_of}
 use Rattle.sj_machine.specs.Copies.{Copies, mark_at, row_of}
 use Rattle.sj_machine.specs.Mark.{is_leaving as is_leaving_mark}
 use Rattle.sj_machine.specs.Plan.{ClaimPlan, IsSmallCell}
+use Rattle.sj_machine.specs.declared.refusal.ClaimRefusal.{ClaimRefusal}
+use Rattle.sj_machine.specs.declared.refusal.ClaimRefusal.TheVariants.{NotNow, OutOfMemory}
 use Rattle.sj_machine.specs.declared.plan.Why.{Why}
 use Rattle.sj_machine.specs.declared.plan.Why.TheVariants.{Commute, Leaving, NoRoom}
 
@@ -71,6 +73,11 @@ abbrev pub IsWhy : Program → Machine → State → Task → Worker → Why →
 IsWhy p m s t w (Commute c) = IsTrue (has_cell (commuting_cells p t) c) × IsTrue (is_in_use p s c)
 IsWhy p m s t w (Leaving c) = CommutersAreFree p s t × IsTrue (is_leaving (replica s c (AtNode (node_of m w))))
 IsWhy p m s t w NoRoom = CommutersAreFree p s t × IsTrue (none_leaving s (node_of m w)) × (victims_for p m s t w ≡ None)
+
+-- why a claim isn't made: one of these reasons, or want of memory
+abbrev pub IsRefusal : Program → Machine → State → Task → Worker → ClaimRefusal → Type 0
+IsRefusal p m s t w (NotNow why) = IsWhy p m s t w why
+IsRefusal p m s t w OutOfMemory = Unit {0}
 
 -- a copy of the cell leaves the node
 abbrev pub is_leaving_at : List Copies → Node → Cell → Bool

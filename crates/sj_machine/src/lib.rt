@@ -2,14 +2,20 @@
 //! holds, and the trace of events. Each call that is an event is one legal step of the machine.
 #![tactic(auto)]
 
+pub mod board;
 pub mod claiming;
 pub mod copies;
 pub mod delivered;
 mod ending;
+pub mod fault;
+mod filling;
+pub mod hand;
 pub mod hold;
 pub mod leaving;
 pub mod mark;
 pub mod needs;
 pub mod plan;
+pub mod refusal;
+mod releasing;
 pub mod run_state;
 mod running;

@@ -17,6 +17,8 @@ ghost use Rattle.sj_machine.specs.Sparing.{EventsSpareUsed};
 ghost use Rattle.sj_machine.specs.Standing.{CanHappen, HasDimsMoved, HasMoved, IsFetching, IsMovingIn, IsMovingOut, IsShareOf, IsTileMoved, is_node, starting, state, with_event};
 ghost use Rattle.sj_machine.specs.Tiles.{array_in};
 
+mod looking;
+
 use crate::claiming::{hold_all, mark_all, node_of, take_plan};
 use crate::copies::Copies;
 use crate::ending::{let_go, put_back, release_at};

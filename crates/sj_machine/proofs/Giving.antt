@@ -1,0 +1,145 @@
+-- A board stays sound where a worker is given a task from the pool, and where it gives one back.
+use Rattle.std.proofs.Common.{◌≡◌, ℕ, ◌+◌, ◌<◌, ◌≤◌, Bool, true, false, IsTrue, nat_eq, nat_le, ◌⊎◌, Option, Some, None, List, All, cond, refl, sym, subst, ap, ◌∙◌, arith, length, length-set, slice_set, is_some}
+use Rattle.std.proofs.lemmas.List.Sums.{get_or-le-sum_by}
+use Rattle.sj_core.proofs.Words.{Machine, Program, State, Task, Worker, footprint, is_task_of, node_of, node_size, progress, task_of}
+use Rattle.sj_core.specs.Legal.{IsComplete}
+use Rattle.sj_deps.specs.Progress.{Progress as Dependencies}
+use Rattle.sj_pool.proofs.Serving.{serving-fits}
+use Rattle.sj_pool.specs.Entry.{entry}
+use Rattle.sj_pool.specs.Pool.{Pooled, contains, home, queue_count, serves, task_for, turns, with_entry, without_entry_for}
+use Rattle.sj_pool.specs.declared.entry.Entry.{Entry}
+use Rattle.sj_machine.specs.Board.{BoardState, board_state, empty_hand, given_back, given_next, hand_in, hand_of, room_of}
+use Rattle.sj_machine.specs.Filling.{entry_of}
+use Rattle.sj_machine.specs.BoardSound.{IsEntry, IsPoolFor, IsSoundIn, IsToBeTaken, KeepsBoard, is_given, times_given, times_pooled}
+use Rattle.sj_machine.specs.Standing.{Standing, state}
+use Rattle.sj_machine.specs.declared.fault.RunFault.{RunFault}
+use Rattle.sj_machine.specs.declared.hand.Hand.{Hand}
+use Rattle.std.proofs.lemmas.Option.{none-some}
+use Rattle.sj_machine.proofs.Hands.{given-set, hand-set, stands-same}
+use Rattle.sj_machine.proofs.Pooling.{IsTakenFrom, Serves, queues-length, all-pooled, all-taken, home-inside, none-contains, once, taken-entry, times-put, times-taken}
+
+pub once-given : (t : Task) (hand : Hand) → cond {A = ℕ} (is_given t hand) 1 0 ≡ once t hand.given
+once-given t hand = by_given hand.given
+  where
+    by_given : (g : Option Task) → cond {A = ℕ} (is_given t (record { given = g; task = None; has_stopped = false })) 1 0 ≡ once t g
+    by_given None = refl
+    by_given (Some u) = refl
+
+-- as the code leaves it
+pub keeps-left : {D : Type 0} (faults mismatches : D → ℕ) (held : D → Option (List ℕ)) (run : Standing D) (hs hs' : List Hand) (q q' : Pooled) (fault : Option RunFault) (deps : Dependencies) (footprints : List ℕ) → hs' ≡ hs → q' ≡ q → KeepsBoard faults mismatches held (board_state run hs q fault) deps footprints → KeepsBoard faults mismatches held (board_state run hs' q' fault) deps footprints
+keeps-left faults mismatches held run hs hs' q q' fault deps footprints h e keeps =
+    subst (λ (x : List Hand). KeepsBoard faults mismatches held (board_state run x q' fault) deps footprints) (sym h)
+    (subst (λ (x : Pooled). KeepsBoard faults mismatches held (board_state run hs x fault) deps footprints) (sym e) keeps)
+
+module _ {D : Type 0} (faults mismatches : D → ℕ) (held : D → Option (List ℕ)) (b : BoardState D) (deps : Dependencies) (footprints : List ℕ) (keeps : KeepsBoard faults mismatches held b deps footprints) (w : Worker) (known : w.0 < b.run.program.workers) where
+  abbrev p : Program
+  p = b.run.program
+
+  abbrev m : Machine
+  m = b.run.machine
+
+  abbrev s : State
+  s = state b.run
+
+  pub hand-inside : w.0 < length b.hands
+  hand-inside = subst (λ (n : ℕ). w.0 < n) (sym keeps.inside.hands_agree.every_worker) known
+
+  abbrev giving : Option Task → Hand
+  giving g = record (hand_of b w) { given = g }
+
+  -- a worker's hand has another given task, and the pool has changed so that each task stands as often as before
+  pub keeps-given : (g : Option Task) (pool' : Pooled) → ((t : Task) → times_pooled pool' t + once t g ≡ times_pooled b.pool t + once t (hand_of b w).given) → IsPoolFor p m (slice_set b.hands w.0 (giving g)) pool' → KeepsBoard faults mismatches held (record b { hands = slice_set b.hands w.0 (giving g); pool = pool' }) deps footprints
+  keeps-given g pool' same fits = record {
+    fault = keeps.fault;
+    inside = record {
+      hands_agree = record {
+        every_worker = length-set b.hands w.0 (giving g) ∙ keeps.inside.hands_agree.every_worker;
+        has = hand-set (λ v h. (t : Task) → h.task ≡ Some t → IsTrue (is_task_of v (progress s t))) b.hands w (giving g) hand-inside (keeps.inside.hands_agree.has w) keeps.inside.hands_agree.has;
+        tells = λ none. hand-set (λ v h. (t : Task) → IsTrue (is_task_of v (progress s t)) → h.task ≡ Some t) b.hands w (giving g) hand-inside (keeps.inside.hands_agree.tells none w) (keeps.inside.hands_agree.tells none);
+      };
+      stops = record {
+        no_task = hand-set (λ v h. h.has_stopped ≡ true → h.task ≡ None) b.hands w (giving g) hand-inside (keeps.inside.stops.no_task w) keeps.inside.stops.no_task;
+        over = hand-set (λ v h. h.has_stopped ≡ true → IsComplete s ⊎ IsTrue (is_some b.fault)) b.hands w (giving g) hand-inside (keeps.inside.stops.over w) keeps.inside.stops.over;
+      };
+      stands_once = stands-same p s b.hands (slice_set b.hands w.0 (giving g)) b.pool pool' (λ t. omega (arith, same t, given-set b.hands w (giving g) t hand-inside, once-given t (giving g), once-given t (hand_of b w))) keeps.inside.stands_once;
+      pool_fits = fits;
+    };
+    counts = keeps.counts;
+    bytes = keeps.bytes;
+  }
+
+  -- ---- a task from the pool
+
+  abbrev room : ℕ
+  room = room_of b w
+
+  serving : Serves b.pool.queues room (serves b.pool w.0 room)
+  serving i is = serving-fits b.pool.queues room (turns (length b.pool.queues) (home b.pool.policy w.0)) i is
+
+  fitting : (t : Task) → IsTakenFrom (IsEntry p) room t → footprint p t ≤ room
+  fitting t taken =
+      let bytes : taken.entry.bytes ≡ footprint p t = ap (λ (e : Entry). e.bytes) taken.has ∙ ap (footprint p) taken.task in
+      let fits : nat_le taken.entry.bytes room ≡ true = taken.fitting in
+      subst (λ (n : ℕ). n ≤ room) bytes (grind arith)
+
+  fits-next : IsPoolFor p m (slice_set b.hands w.0 (giving (task_for b.pool w.0 room))) (without_entry_for b.pool w.0 room)
+  fits-next = record {
+    policy = keeps.inside.pool_fits.policy;
+    workers = keeps.inside.pool_fits.workers;
+    tasks = keeps.inside.pool_fits.tasks;
+    queues = queues-length b.pool.queues room (serves b.pool w.0 room) ∙ keeps.inside.pool_fits.queues;
+    entries = all-taken (IsEntry p) b.pool.queues room (serves b.pool w.0 room) serving keeps.inside.pool_fits.entries;
+    fits = hand-set (λ v x. (t : Task) → x.given ≡ Some t → footprint p t ≤ node_size m (node_of m v)) b.hands w (giving (task_for b.pool w.0 room)) hand-inside (λ t g. fitting t (taken-entry (IsEntry p) b.pool.queues room (serves b.pool w.0 room) t serving keeps.inside.pool_fits.entries g)) keeps.inside.pool_fits.fits;
+  }
+
+  pub keeps-next : (hand_of b w).given ≡ None → KeepsBoard faults mismatches held (given_next b w) deps footprints
+  keeps-next free = keeps-given (task_for b.pool w.0 room) (without_entry_for b.pool w.0 room) (λ t. omega (arith, times-taken b.pool.queues room (serves b.pool w.0 room) t serving, ap (once t) free)) fits-next
+
+  -- as the code leaves it
+  pub keeps-next_left : (n : ℕ) (g : Option Task) (hands' : List Hand) (pool' : Pooled) → n ≡ room → g ≡ task_for b.pool w.0 n → hands' ≡ slice_set b.hands w.0 (giving g) → pool' ≡ without_entry_for b.pool w.0 n → (hand_of b w).given ≡ None → KeepsBoard faults mismatches held (board_state b.run hands' pool' b.fault) deps footprints
+  keeps-next_left n g hands' pool' size task hands pool free =
+      keeps-left faults mismatches held b.run _ hands' _ pool' b.fault deps footprints (hands ∙ ap (λ (o : Option Task). slice_set b.hands w.0 (giving o)) (task ∙ ap (task_for b.pool w.0) size)) (pool ∙ ap (without_entry_for b.pool w.0) size) (keeps-next free)
+
+  -- ---- a task back to the pool
+
+  module _ (t : Task) (given : (hand_of b w).given ≡ Some t) where
+    stands-here : 1 ≤ times_given b.hands t
+    stands-here =
+        let least : cond {A = ℕ} (is_given t (hand_of b w)) 1 0 ≤ times_given b.hands t = get_or-le-sum_by (λ (x : Hand). cond {A = ℕ} (is_given t x) 1 0) b.hands w.0 empty_hand hand-inside in
+        let one : once t (Some t) ≡ 1 = grind arith in
+        omega (arith, least, once-given t (hand_of b w), ap (once t) given, one)
+
+    pub back-taken : IsToBeTaken p s t
+    back-taken = keeps.inside.stands_once.only t (omega (arith, stands-here))
+
+    pub back-task : t.0 < length p.tasks
+    back-task = back-taken.ready.task
+
+    pub back-absent : contains b.pool.queues t.0 ≡ false
+    back-absent = none-contains b.pool.queues t (omega (arith, stands-here, keeps.inside.stands_once.once t back-taken))
+
+    pub back-known : t.0 < b.pool.limit
+    back-known = subst (λ (n : ℕ). t.0 < n) (sym keeps.inside.pool_fits.tasks) back-task
+
+    pub back-worker : w.0 < b.pool.workers
+    back-worker = subst (λ (n : ℕ). w.0 < n) (sym keeps.inside.pool_fits.workers) known
+
+    home-here : home b.pool.policy w.0 < length b.pool.queues
+    home-here = subst (λ (n : ℕ). home b.pool.policy w.0 < n) (sym keeps.inside.pool_fits.queues) (home-inside b.pool.policy b.pool.workers w.0 back-worker)
+
+    fits-back : IsPoolFor p m (slice_set b.hands w.0 (giving None)) (with_entry b.pool (entry_of p t) w.0)
+    fits-back = record {
+      policy = keeps.inside.pool_fits.policy;
+      workers = keeps.inside.pool_fits.workers;
+      tasks = keeps.inside.pool_fits.tasks;
+      queues = length-set b.pool.queues (home b.pool.policy w.0) _ ∙ keeps.inside.pool_fits.queues;
+      entries = all-pooled (IsEntry p) b.pool.policy b.pool.queues (home b.pool.policy w.0) (entry_of p t) home-here refl keeps.inside.pool_fits.entries;
+      fits = hand-set (λ v x. (u : Task) → x.given ≡ Some u → footprint p u ≤ node_size m (node_of m v)) b.hands w (giving None) hand-inside (λ u none. absurd (none-some u none)) keeps.inside.pool_fits.fits;
+    }
+
+    pub keeps-back : KeepsBoard faults mismatches held (given_back b t w) deps footprints
+    keeps-back = keeps-given None (with_entry b.pool (entry_of p t) w.0) (λ u. omega (arith, times-put b.pool.policy b.pool.queues (home b.pool.policy w.0) (entry_of p t) u home-here, ap (once u) given)) fits-back
+
+    -- as the code leaves it
+    pub keeps-back_left : (p' : Program) (hands' : List Hand) (pool' : Pooled) → p' ≡ p → hands' ≡ slice_set b.hands w.0 (giving None) → pool' ≡ with_entry b.pool (entry_of p' t) w.0 → KeepsBoard faults mismatches held (board_state b.run hands' pool' b.fault) deps footprints
+    keeps-back_left p' hands' pool' same hands pool = keeps-left faults mismatches held b.run _ hands' _ pool' b.fault deps footprints hands (pool ∙ ap (λ (q : Program). with_entry b.pool (entry_of q t) w.0) same) keeps-back

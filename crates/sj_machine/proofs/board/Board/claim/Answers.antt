@@ -1,0 +1,35 @@
+use Rattle.std.proofs.Common.{◌≡◌, None, refl, subst, sym}
+use Rattle.std.specs.Prelude.{IfErr, OnOk, Result}
+use Rattle.sj_base.specs.declared.trace.Event.TheVariants.{Claim}
+use Rattle.sj_machine.specs.Board.{BoardState, IsIdle, WasGiven}
+use Rattle.sj_machine.specs.Plan.{ClaimPlan}
+use Rattle.sj_machine.specs.Planning.{IsWhy, MayClaim}
+use Rattle.sj_machine.specs.Standing.{CanHappen, state}
+use Rattle.sj_machine.specs.declared.plan.Why.{Why}
+use Rattle.sj_machine.proofs.Taking.{keeps-claimed_left, may-claim}
+use Rattle.sj_machine.proofs.board.Board.claim.Goals as goal
+
+pub claim_plan-requires : goal.claim_plan-requires
+claim_plan-requires g c =
+    let given = subst (λ (b : BoardState _). WasGiven b c.args.w c.args.t) (sym c.self.view_is) c.requires.given in
+    let idle = subst (λ (b : BoardState _). IsIdle b c.args.w) (sym c.self.view_is) c.requires.idle in
+    let none = subst (λ (b : BoardState _). b.fault ≡ None) (sym c.self.view_is) c.requires.no_fault in
+    may-claim _ _ _ _ _ _ _ c.self.invariant c.is_sound.ensures c.args.w given.works c.args.t given.given idle.no_task none
+
+pub returns-in-Err-clause-why : goal.returns-in-Err-clause-why
+returns-in-Err-clause-why g c =
+    let why = subst (λ (found : Result ClaimPlan Why). IfErr found (IsWhy c.self.inside.run.program c.self.inside.run.machine (state c.self.inside.run) c.args.t c.args.w)) c.in-Err.is c.in-Ok.ensures.why in
+    subst (λ (b : BoardState _). IsWhy b.run.program b.run.machine (state b.run) c.args.t c.args.w c.in-Err.why) c.self.view_is why
+
+pub invariant_of-self-2 : goal.invariant_of-self-2
+invariant_of-self-2 g c =
+    let given = subst (λ (b : BoardState _). WasGiven b c.args.w c.args.t) (sym c.self.view_is) c.requires.given in
+    let idle = subst (λ (b : BoardState _). IsIdle b c.args.w) (sym c.self.view_is) c.requires.idle in
+    let none = subst (λ (b : BoardState _). b.fault ≡ None) (sym c.self.view_is) c.requires.no_fault in
+    let can = subst (λ (found : Result ClaimPlan Why). OnOk found (CanHappen c.self.inside.run (Claim c.args.t c.args.w))) c.in-Ok-found.is c.in-Ok.ensures.can in
+    keeps-claimed_left _ _ _ _ _ _ _ c.self.invariant c.is_sound.ensures c.args.w given.works c.args.t given.given idle.no_task none can _ _ c.in-Ok-claim.ensures.ok c.take.ensures
+
+pub returns-clause-can : goal.returns-clause-can
+returns-clause-can g c =
+    let can = subst (λ (found : Result ClaimPlan Why). OnOk found (CanHappen c.self.inside.run (Claim c.args.t c.args.w))) c.in-Ok-found.is c.in-Ok.ensures.can in
+    subst (λ (b : BoardState _). CanHappen b.run (Claim c.args.t c.args.w)) c.self.view_is can

@@ -1,0 +1,146 @@
+-- A board as contracts see it: the run, what each worker has in hand, the pool of ready tasks, and the first fault.
+use Rattle.std.specs.Prelude.{◌≡◌, ◌≢◌, ℕ, ◌+◌, ◌<◌, ◌≤◌, ◌⊎◌, Bool, true, false, IsTrue, nat_eq, Option, Some, None, IfSome, IsSomeAnd, is_some, All, List, map, replicate, length, count_by, sum_by, slice_get, slice_index_or, slice_set, if◌then◌else◌}
+use Rattle.std.specs.List.{list_all, Contains}
+use Rattle.sj_base.specs.declared.ids.Task.{Task}
+use Rattle.sj_base.specs.declared.ids.Worker.{Worker}
+use Rattle.sj_base.specs.declared.program.Program.{Program}
+use Rattle.sj_base.specs.declared.program.Machine.{Machine}
+use Rattle.sj_base.specs.declared.trace.Event.{Event}
+use Rattle.sj_base.specs.declared.trace.Event.TheVariants.{Claim, End, Moved}
+use Rattle.sj_core.specs.Legal.{IsComplete}
+use Rattle.sj_core.specs.Machine.{State, is_claimed_by, is_running_on, is_task_of, progress, transfer}
+use Rattle.sj_core.specs.Needs.{footprint, node_of, node_size}
+use Rattle.sj_core.specs.Program.{task_of}
+use Rattle.sj_core.specs.Step.{done_tasks}
+use Rattle.sj_core.specs.declared.progress.Progress.{Progress}
+use Rattle.sj_core.specs.declared.progress.Progress.TheVariants.{Waiting}
+use Rattle.sj_core.specs.declared.progress.Transfer.{Transfer}
+use Rattle.sj_deps.specs.Conflict.{Ready}
+use Rattle.sj_pool.specs.Pool.{Pooled, task_for, with_entry, without_entry_for}
+use Rattle.sj_machine.specs.Filling.{entry_of, with_each}
+use Rattle.sj_machine.specs.Standing.{AllTell, Standing, state, with_event}
+use Rattle.sj_machine.specs.declared.fault.RunFault.{RunFault}
+use Rattle.sj_machine.specs.declared.fault.RunFault.TheVariants.{Damaged, DiskFault, OutOfMemory}
+use Rattle.sj_machine.specs.declared.hand.Hand.{Hand}
+
+-- a board: `fault` is the first one
+pub record BoardState (D : Type 0) : Type 0 where
+  pub run : Standing D
+  pub hands : List Hand
+  pub pool : Pooled
+  pub fault : Option RunFault
+
+abbrev pub board_state : {D : Type 0} → Standing D → List Hand → Pooled → Option RunFault → BoardState D
+board_state run hands pool fault = record { run = run; hands = hands; pool = pool; fault = fault }
+
+-- ---- workers
+
+-- nothing in hand
+abbrev pub empty_hand : Hand
+empty_hand = record { given = None; task = None; has_stopped = false }
+
+abbrev pub hand_in : List Hand → Worker → Hand
+hand_in hands w = slice_index_or hands w.0 empty_hand
+
+abbrev pub hand_of : {D : Type 0} → BoardState D → Worker → Hand
+hand_of b w = hand_in b.hands w
+
+abbrev pub with_hand : {D : Type 0} → BoardState D → Worker → Hand → BoardState D
+with_hand b w hand = record b { hands = slice_set b.hands w.0 hand }
+
+-- it is a worker of the program, and hasn't stopped
+pub record IsWorking {D : Type 0} (b : BoardState D) (w : Worker) : Type 0 where
+  pub known : w.0 < b.run.program.workers
+  pub goes_on : (hand_of b w).has_stopped ≡ false
+
+-- it has neither claimed a task nor runs one
+pub record IsIdle {D : Type 0} (b : BoardState D) (w : Worker) : Type 0 where
+  pub works : IsWorking b w
+  pub no_task : (hand_of b w).task ≡ None
+
+-- nor was it given one
+pub record IsFree {D : Type 0} (b : BoardState D) (w : Worker) : Type 0 where
+  pub idle : IsIdle b w
+  pub none_given : (hand_of b w).given ≡ None
+
+-- it was given the task
+pub record WasGiven {D : Type 0} (b : BoardState D) (w : Worker) (t : Task) : Type 0 where
+  pub works : IsWorking b w
+  pub given : (hand_of b w).given ≡ Some t
+
+-- it has claimed the task, or runs it
+pub record HasTask {D : Type 0} (b : BoardState D) (w : Worker) (t : Task) : Type 0 where
+  pub works : IsWorking b w
+  pub task : (hand_of b w).task ≡ Some t
+
+-- it has claimed a task, or runs one
+pub record IsBusy {D : Type 0} (b : BoardState D) (w : Worker) : Type 0 where
+  pub works : IsWorking b w
+  pub task : IsTrue (is_some (hand_of b w).task)
+
+-- the task in its row, if there is one, doesn't run
+abbrev pub RunsNone : {D : Type 0} → BoardState D → Worker → Type 0
+RunsNone b w = IfSome (hand_of b w).task (λ t. is_running_on w (progress (state b.run) t) ≡ false)
+
+-- the transfer in its row: none once it has no task there
+abbrev pub transfer_of : {D : Type 0} → BoardState D → Worker → Option Transfer
+transfer_of b w = if is_some (hand_of b w).task then transfer (state b.run) w else None
+
+-- ---- what the calls make
+
+-- one event more
+abbrev pub has_event : {D : Type 0} → BoardState D → Event → BoardState D
+has_event b e = record b { run = with_event b.run e }
+
+-- the worker's transfer has ended, and nothing else has happened
+abbrev pub EndsMoveOf : {D : Type 0} → Worker → BoardState D → BoardState D → Type 0
+EndsMoveOf w old new = IfSome (transfer (state old.run) w) (λ x. new ≡ has_event old (Moved x.cell x.from x.to))
+
+-- the bytes of a worker's node
+abbrev pub room_of : {D : Type 0} → BoardState D → Worker → ℕ
+room_of b w = node_size b.run.machine (node_of b.run.machine w)
+
+-- the worker was given the task that the pool has for it
+abbrev pub given_next : {D : Type 0} → BoardState D → Worker → BoardState D
+given_next b w = record (with_hand b w (record (hand_of b w) { given = task_for b.pool w.0 (room_of b w) })) { pool = without_entry_for b.pool w.0 (room_of b w) }
+
+-- the worker has put the task that it was given back into the pool
+abbrev pub given_back : {D : Type 0} → BoardState D → Task → Worker → BoardState D
+given_back b t w = record (with_hand b w (record (hand_of b w) { given = None })) { pool = with_entry b.pool (entry_of b.run.program t) w.0 }
+
+-- the worker has claimed the task that it was given
+abbrev pub has_claimed : {D : Type 0} → BoardState D → Task → Worker → BoardState D
+has_claimed b t w = with_hand (has_event b (Claim t w)) w (record (hand_of b w) { given = None; task = Some t })
+
+-- the worker's task has ended, and these are in the pool
+abbrev pub has_ended : {D : Type 0} → BoardState D → Task → Worker → List Task → BoardState D
+has_ended b t w ready = record (with_hand (has_event b (End t w)) w (record (hand_of b w) { task = None })) { pool = with_each b.run.program (Some w) b.pool ready }
+
+-- ---- faults
+
+-- the count of the disk with this number is above what it was
+abbrev pub HasRisen : {D : Type 0} → (D → ℕ) → List D → List D → ℕ → Type 0
+HasRisen count old new d = IsSomeAnd (slice_get old d) (λ x. IsSomeAnd (slice_get new d) (λ y. count x < count y))
+
+-- the fault has its cause: a disk of which a count rose since the run was made
+abbrev pub HasCause : {D : Type 0} → (D → ℕ) → (D → ℕ) → (D → Option (List ℕ)) → Standing D → RunFault → Type 0
+HasCause faults mismatches held b (DiskFault d) = HasRisen faults b.opened b.disks.disks d.0
+HasCause faults mismatches held b (Damaged d want found) = HasRisen mismatches b.opened b.disks.disks d.0 × (want ≢ found) × ¬ AllTell held b
+HasCause faults mismatches held b OutOfMemory = Unit {0}
+
+-- all tasks are done, or a fault is kept
+abbrev pub IsOver : {D : Type 0} → BoardState D → Type 0
+IsOver b = IsComplete (state b.run) ⊎ IsTrue (is_some b.fault)
+
+-- the first fault, where there is one already
+abbrev pub first_fault : Option RunFault → RunFault → Option RunFault
+first_fault None fault = Some fault
+first_fault (Some first) fault = Some first
+
+-- the worker has failed: the first fault is kept, and its row has no task any more
+abbrev pub failed : {D : Type 0} → BoardState D → Worker → RunFault → BoardState D
+failed b w fault = record (with_hand b w (record (hand_of b w) { task = None })) { fault = first_fault b.fault fault }
+
+-- the worker has stopped
+abbrev pub stopped : {D : Type 0} → BoardState D → Worker → BoardState D
+stopped b w = with_hand b w (record (hand_of b w) { task = None; has_stopped = true })

@@ -1,0 +1,304 @@
+//! The board: the state of a run, what each worker has in hand, and the pool of ready tasks.
+
+ghost use Rattle.std.specs.Prelude.{◌≡◌, ◌↔◌, ◌<◌, ◌≤◌, [], All, IfErr, IfOk, IsNone, None, Some, false, OnErr, OnOk, is_some, length, slice_set, true};
+ghost use Rattle.sj_base.specs.declared.trace.Event.TheVariants.{Claim, Drop, End, Move, Run};
+ghost use Rattle.sj_core.specs.Needs.{node_of};
+ghost use Rattle.sj_core.specs.Step.{mover_of};
+ghost use Rattle.sj_machine.specs.Board.{EndsMoveOf, HasCause, HasTask, IsBusy, IsFree, IsIdle, IsOver, IsWorking, RunsNone, WasGiven, failed, first_fault, given_back, given_next, hand_in, has_claimed, has_event, room_of, stopped, transfer_of};
+ghost use Rattle.sj_pool.specs.Pool.{task_for};
+ghost use Rattle.sj_pool.specs.Queue.{has_fitting};
+ghost use Rattle.sj_core.specs.Program.{task_of};
+ghost use Rattle.sj_machine.specs.Planning.{IsRefusal};
+ghost use Rattle.sj_machine.specs.Releasing.{EndsTask};
+ghost use Rattle.sj_machine.specs.Running.{AreResultsFor, AreSharesFor, read_among};
+ghost use Rattle.sj_machine.specs.Sound.{IsWrittenOut};
+ghost use Rattle.sj_machine.specs.Standing.{CanHappen, IsMovingIn, IsMovingOut, IsShareOf, IsTileMoved, state};
+ghost use Rattle.sj_machine.specs.Tiles.{array_in};
+
+use crate::fault::RunFault;
+use crate::filling::put_ready;
+use crate::hand::Hand;
+use crate::refusal::ClaimRefusal;
+use crate::releasing::release;
+use crate::run_state::RunState;
+use sj_base::ids::{Cell, Place, Task, Worker};
+use sj_base::memory::OutOfMemory;
+use sj_base::program::Program;
+use sj_base::tile::Tile;
+use sj_base::trace::Trace;
+use sj_codelet::frame::Frame;
+use sj_deps::deps::Deps;
+use sj_disk::disk_set::DiskSet;
+use sj_edge::disk::Disk;
+use sj_pool::pool::Pool;
+use std::alloc::Global;
+use std::marker::Model;
+use std::sync::Arc;
+
+/// A run with its workers: what each of them has in hand, which ready tasks are there to be taken, and the first fault.
+#[derive(Drop)]
+pub struct Board<D: Disk> {
+    run: RunState<D>,
+    deps: Deps,
+    /// The bytes that each task needs on its node.
+    footprints: Vec<u64>,
+    hands: Vec<Hand>,
+    pool: Pool,
+    fault: Option<RunFault>,
+}
+
+impl<D: Disk> Model for Board<D> {
+    ghost use Rattle.sj_machine.specs.Board.{BoardState, board_state};
+    ghost use Rattle.sj_machine.specs.BoardSound.{KeepsBoard};
+
+    ghost Value = { BoardState D };
+
+    ghost view = { λ b. board_state b.run b.hands.items b.pool b.fault };
+
+    ghost invariant = { λ b. KeepsBoard D.faults D.mismatches D.held
+        (board_state b.run b.hands.items b.pool b.fault) b.deps b.footprints.items };
+}
+
+/// A worker's row loses its task. Constant time.
+fn let_go(hands: &mut Vec<Hand>, w: Worker)
+    requires { w.0 < length hands.old.items }
+    ensures { hands.new.items ≡ slice_set hands.old.items w.0 (record (hand_in hands.old.items w) { task = None }) }
+{
+    let hand = &mut hands[w.0 as usize];
+    hand.task = None;
+}
+
+/// A worker's row tells that it has stopped, and loses its task. Constant time.
+fn stop_hand(hands: &mut Vec<Hand>, w: Worker)
+    requires { w.0 < length hands.old.items }
+    ensures { hands.new.items ≡ slice_set hands.old.items w.0 (record (hand_in hands.old.items w) { task = None; has_stopped = true }) }
+{
+    let hand = &mut hands[w.0 as usize];
+    hand.task = None;
+    hand.has_stopped = true;
+}
+
+/// A worker is given a task, or none. Constant time.
+fn give(hands: &mut Vec<Hand>, w: Worker, given: Option<Task>)
+    requires { w.0 < length hands.old.items }
+    ensures { hands.new.items ≡ slice_set hands.old.items w.0 (record (hand_in hands.old.items w) { given = given }) }
+{
+    let hand = &mut hands[w.0 as usize];
+    hand.given = given;
+}
+
+/// A worker takes the task that it was given. Constant time.
+fn take(hands: &mut Vec<Hand>, w: Worker, t: Task)
+    requires { w.0 < length hands.old.items }
+    ensures { hands.new.items ≡ slice_set hands.old.items w.0 (record (hand_in hands.old.items w) { given = None; task = Some t }) }
+{
+    let hand = &mut hands[w.0 as usize];
+    hand.given = None;
+    hand.task = Some(t);
+}
+
+/// The first of two faults, where there is one already. Constant time.
+fn first_of(kept: Option<RunFault>, fault: RunFault) -> Option<RunFault>
+    ensures { result ≡ first_fault kept fault }
+{
+    match kept {
+        Some(first) => Some(first),
+        None => Some(fault),
+    }
+}
+
+impl<D: Disk> Board<D> {
+    /// The program. Constant time.
+    pub fn program(&self) -> &Program
+        ensures { result.now ≡ self.now.run.program }
+    {
+        self.run.program()
+    }
+
+    /// Whether a fault is kept. Constant time.
+    pub fn failed(&self) -> bool
+        ensures { result ≡ is_some self.now.fault }
+    {
+        self.fault.is_some()
+    }
+
+    /// Gives a worker a ready task from the pool, by the policy among those that fit its node; `None` exactly where there is
+    /// none. Logarithmic in the tasks, and under `ws` linear in the workers; no memory.
+    pub fn next(&mut self, w: Worker) -> Option<Task>
+        requires free { IsFree self.old w }
+        ensures task { result ≡ task_for self.old.pool w.0 (room_of self.old w) }
+        ensures rest { self.new ≡ given_next self.old w }
+        ensures none { IsNone result ↔ All (λ q. has_fitting (room_of self.old w) q ≡ false) self.old.pool.queues }
+    {
+        let room = self.run.node_size(w);
+        let task = self.pool.take(w, room);
+        give(&mut self.hands, w, task);
+        task
+    }
+
+    /// Puts the task that a worker was given back into the pool. Logarithmic in the tasks; no memory.
+    pub fn give_back(&mut self, t: Task, w: Worker)
+        requires given { WasGiven self.old w t }
+        ensures { self.new ≡ given_back self.old t w }
+    {
+        put_ready(&mut self.pool, self.run.program(), &self.footprints, t, w);
+        give(&mut self.hands, w, None);
+    }
+
+    /// A worker claims the task that it was given, where no fault is kept. After an `Err` the board is as before, so that the
+    /// task is still in the worker's hand. Linear in the operands, the victims and the pinned entries that are passed, but for
+    /// moving the trace as it grows.
+    pub fn claim(&mut self, alloc: Global, t: Task, w: Worker) -> Result<(), ClaimRefusal>
+        requires given { WasGiven self.old w t }
+        requires idle { IsIdle self.old w }
+        requires no_fault { self.old.fault ≡ None }
+        ensures can { OnOk result (CanHappen self.old.run (Claim t w)) }
+        ensures ok { OnOk result (self.new ≡ has_claimed self.old t w) }
+        ensures err { OnErr result (self.new ≡ self.old) }
+        ensures why { IfErr result (IsRefusal self.old.run.program self.old.run.machine (state self.old.run) t w) }
+    {
+        self.run.is_sound();
+        let Ok(found) = self.run.claim_plan(alloc, t, w) else {
+            return Err(ClaimRefusal::OutOfMemory);
+        };
+        let plan = match found {
+            Ok(plan) => plan,
+            Err(why) => return Err(ClaimRefusal::NotNow(why)),
+        };
+        let Ok(()) = self.run.claim(t, w, plan) else {
+            return Err(ClaimRefusal::OutOfMemory);
+        };
+        take(&mut self.hands, w, t);
+        Ok(())
+    }
+
+    /// The kernel of the task begins that a worker has claimed. Appends to the frame shares of the operands whose old value
+    /// is read, in order; of the cells that it writes, the board keeps no tile. After an `Err` the board is as before. Linear
+    /// in the operands, and in the nodes for each written one.
+    pub fn run(
+        &mut self,
+        alloc: Global,
+        t: Task,
+        w: Worker,
+        frame: Frame,
+    ) -> Result<Frame, OutOfMemory>
+        requires task { HasTask self.old w t }
+        requires can { CanHappen self.old.run (Run t w) }
+        requires empty { frame.slots ≡ [] }
+        requires room { length (read_among (task_of self.old.run.program t).accesses) ≤ frame.spare }
+        ensures ok { OnOk result (self.new ≡ has_event self.old (Run t w)) }
+        ensures shares { IfOk result (λ f. AreSharesFor D.held self.old.run t w f.slots) }
+        ensures err { OnErr result (self.new ≡ self.old) }
+    {
+        self.run.run(alloc, t, w, frame)
+    }
+
+    /// The kernel of a worker's task has ended. The frame has shares of its results, in the order of its written operands. The
+    /// tasks that become ready go to the pool, by number. Linear in the operands and in the accesses that are released, and
+    /// for each of these tasks logarithmic in all; no memory.
+    pub fn end(&mut self, t: Task, w: Worker, written: Frame)
+        requires task { HasTask self.old w t }
+        requires can { CanHappen self.old.run (End t w) }
+        requires written { AreResultsFor D.held self.old.run t w written.slots }
+        ensures { EndsTask self.old t w self.new }
+    {
+        self.run.is_sound();
+        self.run.end(t, w, written);
+        release(
+            &mut self.deps,
+            &mut self.pool,
+            self.run.program(),
+            &self.footprints,
+            t,
+            w,
+        );
+        let_go(&mut self.hands, w);
+    }
+
+    /// A leaving copy goes from the worker's node, since another is valid and no transfer reads it. Constant time, and no
+    /// memory.
+    pub fn drop_copy(&mut self, w: Worker, cell: Cell)
+        requires busy { IsBusy self.old w }
+        requires can { CanHappen self.old.run (Drop cell (node_of self.old.run.machine w)) }
+        ensures { self.new ≡ has_event self.old (Drop cell (node_of self.old.run.machine w)) }
+    {
+        let n = self.run.node_of(w);
+        self.run.drop_copy(cell, n);
+    }
+
+    /// A worker begins a move of a cell: one that its claim brings, or a victim of its claim. Hands out a share of the tile
+    /// at the source, where that is a node. After an `Err` the board is as before. Constant time, but for moving the trace
+    /// as it grows.
+    pub fn begin_move(
+        &mut self,
+        w: Worker,
+        cell: Cell,
+        from: Place,
+        to: Place,
+    ) -> Result<Option<Arc<Tile>>, OutOfMemory>
+        requires busy { IsBusy self.old w }
+        requires can { CanHappen self.old.run (Move cell from to) }
+        requires mover { mover_of (state self.old.run) cell from to ≡ w }
+        ensures ok { OnOk result (self.new ≡ has_event self.old (Move cell from to)) }
+        ensures share { IfOk result (λ share. IsShareOf D.held self.old.run cell from
+            (array_in share)) }
+        ensures err { OnErr result (self.new ≡ self.old) }
+    {
+        self.run.begin_move(w, cell, from, to)
+    }
+
+    /// The move of a worker into a node ends: the tile is there. Constant time, and no memory.
+    pub fn end_move_in(&mut self, w: Worker, tile: Arc<Tile>)
+        requires busy { IsBusy self.old w }
+        requires under_way { IsMovingIn self.old.run w }
+        requires tile { IsTileMoved D.held self.old.run w tile.value }
+        ensures { EndsMoveOf w self.old self.new }
+    {
+        self.run.end_move_in(w, tile);
+    }
+
+    /// The move of a worker out to a disk ends: the cell's block there is a copy. Constant time, and no memory.
+    pub fn end_move_out(&mut self, w: Worker)
+        requires busy { IsBusy self.old w }
+        requires under_way { IsMovingOut self.old.run w }
+        requires written { IsWrittenOut D.held self.old.run w }
+        ensures { EndsMoveOf w self.old self.new }
+    {
+        self.run.end_move_out(w);
+    }
+
+    /// A worker has failed: the board keeps the first fault, and the worker has no task any more. The task and the move that
+    /// it had stay in the state for good. Constant time, and no memory.
+    pub fn fail(&mut self, w: Worker, fault: RunFault)
+        requires works { IsWorking self.old w }
+        requires cause { HasCause D.faults D.mismatches D.held self.old.run fault }
+        ensures { self.new ≡ failed self.old w fault }
+    {
+        let_go(&mut self.hands, w);
+        self.fault = first_of(self.fault, fault);
+    }
+
+    /// A worker stops, since all tasks are done or a fault is kept. A task that it had claimed stays so for good. Constant
+    /// time, and no memory.
+    pub fn stop(&mut self, w: Worker)
+        requires works { IsWorking self.old w }
+        requires runs_none { RunsNone self.old w }
+        requires moves_none { transfer_of self.old w ≡ None }
+        requires over { IsOver self.old }
+        ensures { self.new ≡ stopped self.old w }
+    {
+        stop_hand(&mut self.hands, w);
+    }
+
+    /// The events, the disks, and the first fault. Constant time, and no memory.
+    pub fn close(self) -> (Trace, DiskSet<D>, Option<RunFault>)
+        requires idle { All (λ hand. hand.task ≡ None) self.hands }
+        ensures trace { result.0.events ≡ self.run.trace }
+        ensures disks { result.1 ≡ self.run.disks }
+        ensures fault { result.2 ≡ self.fault }
+    {
+        let fault = self.fault;
+        let (trace, disks) = self.run.close();
+        (trace, disks, fault)
+    }
+}
