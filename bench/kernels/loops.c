@@ -1,33 +1,8 @@
 // Times the plain loops of loops.h. Prints for each sample the kernel, the side of the tile, the calls, the nanoseconds,
 // and a sum over what was written.
-#include "loops.h"
+#include "samples.h"
 
 enum { SAMPLES = 5 };
-
-static int64_t now(void) {
-    struct timespec t;
-    clock_gettime(CLOCK_MONOTONIC, &t);
-    return t.tv_sec * INT64_C(1000000000) + t.tv_nsec;
-}
-
-static int64_t *numbers(size_t count, uint64_t seed) {
-    int64_t *made = grab(count);
-    for (size_t k = 0; k < count; k++) {
-        seed = seed * UINT64_C(6364136223846793005) + UINT64_C(1442695040888963407);
-        made[k] = (int64_t)seed;
-    }
-    return made;
-}
-
-// Lengths from 0 to 4094, and every sixteenth or so is INF.
-static int64_t *lengths(size_t count, uint64_t seed) {
-    int64_t *made = numbers(count, seed);
-    for (size_t k = 0; k < count; k++) {
-        uint64_t high = (uint64_t)made[k] >> 52;
-        made[k] = high % 16 == 15 ? INF : (int64_t)high;
-    }
-    return made;
-}
 
 static void say(const char *name, size_t n, int calls, int64_t taken, const int64_t *written, size_t count) {
     uint64_t sum = 0;

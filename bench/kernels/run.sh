@@ -4,7 +4,9 @@
 # written here and built in a scratch folder, so that the gate doesn't run it. The three take turns on one core, three
 # times five samples each (one of a cubic kernel on the largest tiles), and the best counts. Prints a table of C's time
 # as a multiple of ours, so that 1 is as fast and more is faster: first against C without machine flags, then for
-# x86-64-v2, where C takes the sum of min-plus in a form in which nothing branches within a row.
+# x86-64-v2, where C takes the sum of min-plus in a form in which nothing branches within a row. With the argument `large`
+# in place of these tiles one row and one column of 1,048,576 elements, and 4096 by 4096, in one turn; each cell then begins
+# with our nanoseconds a step, and C leaves out the cubic kernels of min-plus at 4096, which would take it an hour.
 set -eu
 here=$(cd "$(dirname "$0")" && pwd)
 . "$here/../scratch.sh"
@@ -23,6 +25,7 @@ use sj_minplus::least::lowest;
 use sj_minplus::product::mingemm;
 use sj_minplus::ways::{fwcol, fwdiag, fwrow};
 use std::alloc::Global;
+use std::env;
 use std::io;
 use std::time::Instant;
 
@@ -83,9 +86,20 @@ fn is_cubic(kernel: Kernel) -> bool {
     )
 }
 
+// The product is of m by k and k by n, and all others are on m by n.
+#[derive(Clone, Copy)]
+struct Sides {
+    m: u32,
+    k: u32,
+    n: u32,
+}
+
 // As many calls as take about two milliseconds, and one at least.
-fn calls(kernel: Kernel, n: u32) -> u32 {
-    match (is_cubic(kernel), n) {
+fn calls(kernel: Kernel, sides: Sides) -> u32 {
+    if sides.m != sides.n {
+        return 2;
+    }
+    match (is_cubic(kernel), sides.n) {
         (true, 8) => 4000,
         (true, 20) => 400,
         (true, 64) => 16,
@@ -96,23 +110,34 @@ fn calls(kernel: Kernel, n: u32) -> u32 {
         (false, 64) => 800,
         (false, 128) => 160,
         (false, 256) => 32,
+        (false, 4096) => 1,
         (false, _) => 2,
     }
 }
 
 // The cubic kernels on the largest tiles take long, and have one sample a turn.
-fn samples(kernel: Kernel, n: u32) -> u32 {
-    if is_cubic(kernel) && n == 1024 { 1 } else { SAMPLES }
+fn samples(kernel: Kernel, sides: Sides) -> u32 {
+    if is_cubic(kernel) && sides.k >= 1024 { 1 } else { SAMPLES }
+}
+
+// Whether the kernel's blocks are as large as these sides say.
+fn fits(kernel: Kernel, sides: Sides) -> bool {
+    match kernel {
+        Kernel::FwDiag => sides.m == sides.k && sides.k == sides.n,
+        Kernel::FwRow => sides.m == sides.k,
+        Kernel::FwCol => sides.k == sides.n,
+        _ => true,
+    }
 }
 
 fn next(seed: i64) -> i64 {
     seed.wrapping_mul(6364136223846793005).wrapping_add(1442695040888963407)
 }
 
-fn numbers(alloc: Global, n: u32, seed: i64) -> Result<Vec<i64>, OutOfMemory> {
+fn numbers(alloc: Global, sides: Sides, seed: i64) -> Result<Vec<i64>, OutOfMemory> {
     let mut made = Vec::new(alloc);
     let mut seed = seed;
-    for _ in 0..n as usize * n as usize {
+    for _ in 0..sides.m as usize * sides.n as usize {
         seed = next(seed);
         made.push(seed)?;
     }
@@ -120,10 +145,10 @@ fn numbers(alloc: Global, n: u32, seed: i64) -> Result<Vec<i64>, OutOfMemory> {
 }
 
 // Lengths from 0 to 4094, and every sixteenth or so is INF.
-fn lengths(alloc: Global, n: u32, seed: i64) -> Result<Vec<i64>, OutOfMemory> {
+fn lengths(alloc: Global, sides: Sides, seed: i64) -> Result<Vec<i64>, OutOfMemory> {
     let mut made = Vec::new(alloc);
     let mut seed = seed;
-    for _ in 0..n as usize * n as usize {
+    for _ in 0..sides.m as usize * sides.n as usize {
         seed = next(seed);
         let high = (seed >> 52) & 4095;
         made.push(if high % 16 == 15 { i64::MAX } else { high })?;
@@ -143,14 +168,17 @@ fn reduce(kernel: Kernel, first: i64, x: &mut [i64], y: &[i64], s: &mut [i64]) {
     }
 }
 
-fn ring(kernel: Kernel, call: i64, n: u32, x: &[i64], y: &[i64], z: &mut [i64]) {
-    let area = n as usize * n as usize;
-    if x.len() != area || y.len() != area || z.len() != area {
+fn ring(kernel: Kernel, call: i64, sides: Sides, x: &[i64], y: &[i64], z: &mut [i64]) {
+    let Sides { m, k, n } = sides;
+    let left = m as usize * k as usize;
+    let right = k as usize * n as usize;
+    let area = m as usize * n as usize;
+    if x.len() != area || y.len() != area || z.len() != area || left > area || right > area {
         return;
     }
     match kernel {
-        Kernel::Gemm => gemm(x, y, z, n, n, n),
-        Kernel::Transpose => transpose(x, z, n, n),
+        Kernel::Gemm => gemm(&x[..left], &y[..right], z, m, k, n),
+        Kernel::Transpose => transpose(x, z, m, n),
         Kernel::Add => add(x, z),
         Kernel::Axpy => axpy(call, x, z),
         Kernel::Scale => scale(call, z),
@@ -158,137 +186,188 @@ fn ring(kernel: Kernel, call: i64, n: u32, x: &[i64], y: &[i64], z: &mut [i64]) 
     }
 }
 
-fn least(kernel: Kernel, n: u32, x: &[i64], y: &[i64], from: &[i64], z: &mut [i64]) {
-    let area = n as usize * n as usize;
+fn least(kernel: Kernel, sides: Sides, x: &[i64], y: &[i64], from: &[i64], z: &mut [i64]) {
+    let Sides { m, k, n } = sides;
+    let left = m as usize * k as usize;
+    let right = k as usize * n as usize;
+    let block = k as usize * k as usize;
+    let area = m as usize * n as usize;
     if x.len() != area || y.len() != area || from.len() != area || z.len() != area {
+        return;
+    }
+    if left > area || right > area || block > area {
         return;
     }
     copy(from, z);
     match kernel {
         Kernel::Lowest => lowest(x, z),
-        Kernel::MinGemm => mingemm(x, y, z, n, n, n),
-        Kernel::FwDiag => fwdiag(z, n),
-        Kernel::FwRow => fwrow(x, z, n, n),
-        Kernel::FwCol => fwcol(x, z, n, n),
+        Kernel::MinGemm => mingemm(&x[..left], &y[..right], z, m, k, n),
+        Kernel::FwDiag if block == area => fwdiag(z, k),
+        Kernel::FwRow if right == area => fwrow(&x[..block], z, k, n),
+        Kernel::FwCol if left == area => fwcol(&x[..block], z, k, m),
         _ => {}
     }
 }
 
-fn said(rt: &HostRuntime, kernel: Kernel, n: u32, calls: u32, start: &Instant, written: &[i64]) {
+fn said(
+    rt: &HostRuntime,
+    kernel: Kernel,
+    sides: Sides,
+    calls: u32,
+    start: &Instant,
+    written: &[i64],
+) {
     if let Ok(taken) = start.elapsed(rt) {
         let mut sum = 0i64;
         for x in written {
             sum = sum.wrapping_mul(31).wrapping_add(*x);
         }
-        let _ = println!(rt; "{} {n} {calls} {} {sum}", name(kernel), taken.as_nanos());
+        let Sides { m, k: _, n } = sides;
+        let _ = println!(rt; "{} {m}x{n} {calls} {} {sum}", name(kernel), taken.as_nanos());
     }
 }
 
-fn time_reduction(rt: &HostRuntime, kernel: Kernel, n: u32) -> Result<(), OutOfMemory> {
-    let mut x = numbers(rt.alloc(), n, 1)?;
-    let y = numbers(rt.alloc(), n, 2)?;
+fn time_reduction(rt: &HostRuntime, kernel: Kernel, sides: Sides) -> Result<(), OutOfMemory> {
+    let mut x = numbers(rt.alloc(), sides, 1)?;
+    let y = numbers(rt.alloc(), sides, 2)?;
     let mut s = [0i64; 1];
-    let calls = calls(kernel, n);
-    for _ in 0..samples(kernel, n) {
+    let calls = calls(kernel, sides);
+    for _ in 0..samples(kernel, sides) {
         if let Ok(start) = Instant::now(rt) {
             for call in 0..calls {
                 reduce(kernel, call as i64, x.as_mut_slice(), y.as_slice(), &mut s);
             }
-            said(rt, kernel, n, calls, &start, &s);
+            said(rt, kernel, sides, calls, &start, &s);
         }
     }
     Ok(())
 }
 
-fn time_ring(rt: &HostRuntime, kernel: Kernel, n: u32) -> Result<(), OutOfMemory> {
-    let x = numbers(rt.alloc(), n, 1)?;
-    let y = numbers(rt.alloc(), n, 2)?;
-    let mut z = numbers(rt.alloc(), n, 3)?;
-    let calls = calls(kernel, n);
-    for _ in 0..samples(kernel, n) {
+fn time_ring(rt: &HostRuntime, kernel: Kernel, sides: Sides) -> Result<(), OutOfMemory> {
+    let x = numbers(rt.alloc(), sides, 1)?;
+    let y = numbers(rt.alloc(), sides, 2)?;
+    let mut z = numbers(rt.alloc(), sides, 3)?;
+    let calls = calls(kernel, sides);
+    for _ in 0..samples(kernel, sides) {
         if let Ok(start) = Instant::now(rt) {
             for call in 0..calls {
-                ring(kernel, call as i64, n, x.as_slice(), y.as_slice(), z.as_mut_slice());
+                ring(kernel, call as i64, sides, x.as_slice(), y.as_slice(), z.as_mut_slice());
             }
-            said(rt, kernel, n, calls, &start, z.as_slice());
+            said(rt, kernel, sides, calls, &start, z.as_slice());
         }
     }
     Ok(())
 }
 
-fn time_least(rt: &HostRuntime, kernel: Kernel, n: u32) -> Result<(), OutOfMemory> {
-    let x = lengths(rt.alloc(), n, 4)?;
-    let y = lengths(rt.alloc(), n, 5)?;
-    let from = lengths(rt.alloc(), n, 6)?;
-    let mut z = lengths(rt.alloc(), n, 6)?;
-    let calls = calls(kernel, n);
-    for _ in 0..samples(kernel, n) {
+fn time_least(rt: &HostRuntime, kernel: Kernel, sides: Sides) -> Result<(), OutOfMemory> {
+    let x = lengths(rt.alloc(), sides, 4)?;
+    let y = lengths(rt.alloc(), sides, 5)?;
+    let from = lengths(rt.alloc(), sides, 6)?;
+    let mut z = lengths(rt.alloc(), sides, 6)?;
+    let calls = calls(kernel, sides);
+    for _ in 0..samples(kernel, sides) {
         if let Ok(start) = Instant::now(rt) {
             for _ in 0..calls {
-                least(kernel, n, x.as_slice(), y.as_slice(), from.as_slice(), z.as_mut_slice());
+                least(kernel, sides, x.as_slice(), y.as_slice(), from.as_slice(), z.as_mut_slice());
             }
-            said(rt, kernel, n, calls, &start, z.as_slice());
+            said(rt, kernel, sides, calls, &start, z.as_slice());
         }
     }
     Ok(())
 }
 
-fn time_all(rt: &HostRuntime) -> Result<(), OutOfMemory> {
+fn time(rt: &HostRuntime, kernel: Kernel, sides: Sides) -> Result<(), OutOfMemory> {
+    if !fits(kernel, sides) {
+        return Ok(());
+    }
+    match kernel {
+        Kernel::Dot | Kernel::Sum => time_reduction(rt, kernel, sides),
+        Kernel::Gemm | Kernel::Transpose | Kernel::Add | Kernel::Axpy | Kernel::Scale => {
+            time_ring(rt, kernel, sides)
+        }
+        _ => time_least(rt, kernel, sides),
+    }
+}
+
+fn time_squares(rt: &HostRuntime) -> Result<(), OutOfMemory> {
     for kernel in KERNELS.iter().copied() {
         for n in [8u32, 20, 64, 128, 256, 1024] {
-            match kernel {
-                Kernel::Dot | Kernel::Sum => time_reduction(rt, kernel, n)?,
-                Kernel::Gemm
-                | Kernel::Transpose
-                | Kernel::Add
-                | Kernel::Axpy
-                | Kernel::Scale => time_ring(rt, kernel, n)?,
-                _ => time_least(rt, kernel, n)?,
-            }
+            time(rt, kernel, Sides { m: n, k: n, n })?;
         }
     }
     Ok(())
+}
+
+fn time_large(rt: &HostRuntime) -> Result<(), OutOfMemory> {
+    for kernel in KERNELS.iter().copied() {
+        time(rt, kernel, Sides { m: 1, k: 1, n: 1048576 })?;
+        time(rt, kernel, Sides { m: 1048576, k: 1, n: 1 })?;
+        time(rt, kernel, Sides { m: 4096, k: 4096, n: 4096 })?;
+    }
+    Ok(())
+}
+
+fn is_large(rt: &HostRuntime) -> bool {
+    match env::args(rt) {
+        Ok(args) => args.count() > 1,
+        Err(_) => false,
+    }
 }
 
 fn main(rt: HostRuntime) -> io::Result<()> {
-    let _ = time_all(&rt);
+    let _ = if is_large(&rt) { time_large(&rt) } else { time_squares(&rt) };
     Ok(())
 }
 RT
 built kernel_speed first.txt
-gcc -O3 -o loops "$here/loops.c"
-gcc -O3 -march=x86-64-v2 -o loops_v2 "$here/loops.c"
+program=loops
+turns="1 2 3"
+if [ "${1-}" = large ]; then
+    program=large
+    turns=1
+fi
+gcc -O3 -o loops "$here/$program.c"
+gcc -O3 -march=x86-64-v2 -o loops_v2 "$here/$program.c"
 core=$(($(nproc) - 1))
-for _ in 1 2 3; do
+for _ in $turns; do
     taskset -c $core ./loops >> c.txt
     taskset -c $core ./loops_v2 >> c_v2.txt
-    taskset -c $core crates/kernel_speed/out/kernel_speed >> rattle.txt
+    taskset -c $core crates/kernel_speed/out/kernel_speed "$@" >> rattle.txt
 done
 echo "cores: $(nproc), of which one is used, load: $(cut -d ' ' -f 1 /proc/loadavg)"
-python3 - rattle.txt c.txt c_v2.txt <<'PY'
+python3 - rattle.txt c.txt c_v2.txt "$@" <<'PY'
 import sys
 def read(path):
     least, sums = {}, {}
     for line in open(path):
-        name, n, calls, taken, sum_ = line.split()
-        key = name, int(n)
+        name, sides, calls, taken, sum_ = line.split()
+        m, _, n = sides.partition("x")
+        key = name, (int(m), int(n or m))
         each = int(taken) / int(calls) / 1000
         least[key] = min(each, least.get(key, each))
         sums.setdefault(key, []).append(sum_)
     return least, sums
-(ours, sums), (c, c_sums), (v2, v2_sums) = map(read, sys.argv[1:])
-sides = sorted({n for _, n in ours})
-print("| Kernel | " + " | ".join(f"{n}" for n in sides) + " |")
-print("|---" * (len(sides) + 1) + "|")
+(ours, sums), (c, c_sums), (v2, v2_sums) = map(read, sys.argv[1:4])
+large = len(sys.argv) > 4
+CUBIC = ("gemm", "mingemm", "fwdiag", "fwrow", "fwcol")
+every = list(dict.fromkeys(sides for _, sides in ours))
+print("| Kernel | " + " | ".join(f"{m} by {n}" if large else f"{n}" for m, n in every) + " |")
+print("|---" * (len(every) + 1) + "|")
+def cell(name, form, second, sides):
+    key = name, sides
+    if key not in ours:
+        return "-"
+    m, n = sides
+    steps = m * n * (n if m == n and name in CUBIC else 1)
+    shown = f"{ours[key] * 1000 / steps:.2f} ns, " if large else ""
+    if (form, sides) not in c:
+        return shown + "-"
+    same = sums[key] == c_sums[form, sides] == v2_sums[second, sides]
+    wrong = "" if same else " ANOTHER RESULT"
+    return f"{shown}{c[form, sides] / ours[key]:.2f} / {v2[second, sides] / ours[key]:.2f}{wrong}"
 for name in dict.fromkeys(name for name, _ in ours):
-    for form in [name] + [form for form in (name + "_by_b",) if (form, sides[0]) in c]:
-        second = name + "_chosen" if (name + "_chosen", sides[0]) in v2 else form
-        cells = []
-        for n in sides:
-            key = name, n
-            same = sums[key] == c_sums[form, n] == v2_sums[second, n]
-            wrong = "" if same else " ANOTHER RESULT"
-            cells.append(f"{c[form, n] / ours[key]:.2f} / {v2[second, n] / ours[key]:.2f}{wrong}")
+    for form in [name] + [form for form in (name + "_by_b",) if any(key[0] == form for key in c)]:
+        second = name + "_chosen" if any(key[0] == name + "_chosen" for key in v2) else form
         what = name if form == name else f"{name}, C in the order of B"
-        print(f"| {what} | " + " | ".join(cells) + " |")
+        print(f"| {what} | " + " | ".join(cell(name, form, second, sides) for sides in every) + " |")
 PY

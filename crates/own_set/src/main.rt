@@ -5,11 +5,12 @@
 ghost use Rattle.std.specs.Prelude.{◌≡◌, ◌↔◌, IsTrue, IfOk, IfErr, Ok, List};
 ghost use Rattle.sj_engine.specs.Run.{HasCodelets};
 ghost use Rattle.sj_job.specs.Act.{Statement};
-ghost use Rattle.sj_job.specs.Reading.{job_of, IsRefusal};
+ghost use Rattle.sj_job.specs.Reading.{job_of};
 ghost use Rattle.sj_lower.specs.Lowering.{lowered};
+ghost use Rattle.own_set.specs.NotRun.{IsNotRun};
 ghost use Rattle.own_set.specs.Turns.{turns_has, Hands};
 
-use sj_base::memory::OutOfMemory;
+use sj_base::memory;
 use sj_base::program::{Codelet, Program};
 use sj_board::delivered::Delivered;
 use sj_codelet::frame::Frame;
@@ -19,7 +20,7 @@ use sj_engine::run::run;
 use sj_job::read::read;
 use sj_job::reason::ReadRefusal;
 use sj_kernels::ring::Ring;
-use sj_lower::lower::{LoweredJob, lower};
+use sj_lower::lower::{LowerRefusal, LoweredJob, lower};
 use std::alloc::Global;
 use std::io;
 use std::sync::Arc;
@@ -56,7 +57,7 @@ impl Codelets for Turns {
         id: Codelet,
         args: &[i64],
         frame: &mut Frame,
-    ) -> Result<(), OutOfMemory> {
+    ) -> Result<(), memory::OutOfMemory> {
         Ring.run(alloc, id, args, frame)
     }
 }
@@ -71,18 +72,68 @@ fn has_codelets(program: &Program) -> bool
     })
 }
 
+/// Why a text isn't run.
+#[derive(Debug, Drop)]
+enum NotRun {
+    /// One of its lines is bad.
+    Text(ReadRefusal),
+    /// It has too many cells or tasks.
+    Limit(LowerRefusal),
+    OutOfMemory,
+}
+
+impl From<ReadRefusal> for NotRun {
+    ghost use Rattle.std.specs.Prelude.{◌≡◌};
+    ghost use Rattle.own_set.specs.declared.NotRun.TheVariants.{Text};
+
+    ghost from_gives = { λ refusal e. e ≡ Text refusal };
+
+    fn from(refusal: ReadRefusal) -> Self {
+        NotRun::Text(refusal)
+    }
+}
+
+impl From<LowerRefusal> for NotRun {
+    ghost use Rattle.std.specs.Prelude.{◌≡◌};
+    ghost use Rattle.own_set.specs.declared.NotRun.TheVariants.{Limit};
+
+    ghost from_gives = { λ refusal e. e ≡ Limit refusal };
+
+    fn from(refusal: LowerRefusal) -> Self {
+        NotRun::Limit(refusal)
+    }
+}
+
+impl From<memory::OutOfMemory> for NotRun {
+    ghost use Rattle.std.specs.Prelude.{◌≡◌};
+    ghost use Rattle.own_set.specs.declared.NotRun.TheVariants.{OutOfMemory};
+
+    ghost from_gives = { λ _ e. e ≡ OutOfMemory };
+
+    fn from(_: memory::OutOfMemory) -> Self {
+        NotRun::OutOfMemory
+    }
+}
+
+/// A program to be run.
+fn shared(alloc: Global, program: Program) -> Result<Arc<Program>, memory::OutOfMemory>
+    ensures { IfOk result (λ p. p.value ≡ program) }
+{
+    Ok(Arc::new(alloc, program)?)
+}
+
 /// Runs the program of a text, and gives what its deliver tasks hand over; nothing where the set lacks one of its codelets.
-fn delivered(alloc: Global, text: &[u8]) -> Result<Option<Delivered>, ReadRefusal>
+fn delivered(alloc: Global, text: &[u8]) -> Result<Option<Delivered>, NotRun>
     ensures ok { IfOk result (λ d. (ss : List Statement) × (job_of turns_has text.now ≡ Ok ss)
         × Hands d (lowered ss 1)) }
-    ensures err { IfErr result (λ e. IsRefusal e (job_of turns_has text.now)) }
+    ensures err { IfErr result (λ e. IsNotRun e (job_of turns_has text.now)) }
 {
     let job = read(alloc, text, &Turns)?;
     let LoweredJob { program, .. } = lower(alloc, job, 1)?;
     if !has_codelets(&program) {
         return Ok(None);
     }
-    let outcome = run(alloc, Arc::new(alloc, program)?, &Turns);
+    let outcome = run(alloc, shared(alloc, program)?, &Turns);
     outcome.result?;
     Ok(Some(outcome.delivered))
 }

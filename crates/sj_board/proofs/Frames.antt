@@ -28,7 +28,7 @@ pub map-map : {X Y Z : Type 0} (f : Y → Z) (g : X → Y) (xs : List X) → map
 map-map f g [] = refl
 map-map f g (x ∷ xs) = ap (λ l. f (g x) ∷ l) (map-map f g xs)
 
-abbrev an_access : Mode → Cell → Access
+abbrev pub an_access : Mode → Cell → Access
 an_access x d = record { mode = x; cell = d }
 
 module _ (p : Program) (plain : HasPlainModes p) (t : Task) (w : Worker) where

@@ -1,6 +1,7 @@
 -- What a claimed task needs of the board: its operands can be given.
-use Rattle.std.proofs.Common.{◌≡◌, ℕ, ◌<◌, ◌≤◌, Bool, true, false, ◌||◌, List, [], ◌∷◌, length, get_or, refl, sym, ap, ◌∙◌, subst, Option, None, Some, arith}
+use Rattle.std.proofs.Common.{◌≡◌, ℕ, ◌<◌, ◌≤◌, true, false, ◌||◌, List, [], ◌∷◌, length, get_or, refl, sym, ap, ◌∙◌, subst, Option, None, Some, arith}
 use Rattle.std.proofs.lemmas.List.{get_or_default, length-map}
+use Rattle.std.proofs.lemmas.List.Elements.{All-get_or}
 use Rattle.std.specs.Prelude.{All, is_some, slice_index_or}
 use Rattle.std.specs.List.{Contains}
 use Rattle.sj_base.specs.declared.ids.Task.{Task}
@@ -14,21 +15,19 @@ use Rattle.sj_core.specs.declared.progress.Progress.TheVariants.{Waiting, Claime
 use Rattle.sj_core.specs.Coherent.{is_begun}
 use Rattle.sj_core.specs.Machine.{array_of, is_task_of, is_valid, progress, replica, worker_of}
 use Rattle.sj_core.specs.Needs.{node_of}
-use Rattle.sj_core.specs.Program.{dims_of, task_of}
+use Rattle.sj_core.specs.Program.{dims_of, no_task, task_of}
+use Rattle.sj_core.specs.Proper.{IsUnaliased}
 use Rattle.sj_base.specs.Mode.{starts_as_zeros}
 use Rattle.sj_core.proofs.Replicas.{same_worker-refl}
 use Rattle.sj_board.specs.Board.{HasClaimed, HasTaskClaimed, HasTaskRunning, IsRunning, Standing, progress_of}
 use Rattle.sj_board.specs.Inside.{Keeps}
 use Rattle.sj_board.specs.Operands.{CanRunOn, first_cell, is_delivery, news_of, outputs, slots_of}
-use Rattle.sj_board.specs.Tiles.{CanGive, CanHandOver}
+use Rattle.sj_board.specs.Tiles.{AreApart, CanGive, CanHandOver}
 use Rattle.sj_board.proofs.Dims.{news-dims, can-run, deliver-reads, the-fit}
 use Rattle.sj_board.proofs.Keeping.{begun-inside, in-hand-is, sized-at}
+use Rattle.sj_board.proofs.Places.{apart-unaliased, or-by}
 use Rattle.sj_board.proofs.Room.{cell-inside, few-accesses, tile-small}
 use Rattle.sj_board.proofs.Steps.{it-is, none-runs, read-valid}
-
-or-by : (a b : Bool) → (a ≡ false → b ≡ true) → (a || b) ≡ true
-or-by true b h = refl
-or-by false b h = h refl
 
 -- a fact of three things, of three equal ones
 pub moved : {A B C : Type 0} (P : A → B → C → Type 0) (a a' : A) (b b' : B) (c c' : C) → a' ≡ a → b' ≡ b → c' ≡ c → P a b c → P a' b' c'
@@ -106,6 +105,9 @@ module _ (b : Standing) (first : ℕ) (hand : Option Task) (gift : Option Array)
 
       among : is_delivery (task_of b.program t).codelet ≡ true → Contains (task_of b.program t).accesses (record { mode = R; cell = first_cell (task_of b.program t) })
       among h = subst (λ (l : List Access). Contains l (record { mode = R; cell = first_cell (task_of b.program t) })) (sym (reads h)) (0, omega arith, refl)
+
+  pub apart-here : AreApart (task_of b.program t).accesses
+  apart-here = apart-unaliased (task_of b.program t).accesses (All-get_or IsUnaliased b.program.tasks t.0 no_task claimed-inside keeps.fits.proper.unaliased)
 
   pub few-here : length (task_of b.program t).accesses ≤ 5
   few-here = few-accesses b.program (task_of b.program t) (the-fit b.program keeps.fits.proper keeps.fits.plain t claimed-inside)

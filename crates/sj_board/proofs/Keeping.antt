@@ -1,5 +1,5 @@
 -- What a board keeps, kept by each of its events.
-use Rattle.std.proofs.Common.{◌≡◌, ◌≢◌, ℕ, zero, suc, ◌+◌, ◌<◌, ◌≤◌, Bool, true, false, ◌||◌, cond, List, [], ◌∷◌, ◌++◌, map, length, get_or, set, refl, sym, ap, ◌∙◌, subst, inl, inr, Option, None, Some, arith, unwrap_or}
+use Rattle.std.proofs.Common.{◌≡◌, ◌≢◌, ℕ, ◌+◌, ◌<◌, ◌≤◌, Bool, true, false, ◌||◌, cond, List, [], ◌∷◌, ◌++◌, length, get_or, set, refl, sym, ap, ◌∙◌, subst, inl, inr, Option, None, Some, arith, unwrap_or}
 use Rattle.std.specs.Prelude.{filter, filter_map, if◌then◌else◌, replicate}
 use Rattle.std.specs.List.{Contains, zip}
 use Rattle.std.proofs.lemmas.Bool.{cases_lt, false≢true}
@@ -33,7 +33,7 @@ use Rattle.sj_core.proofs.Opening.{opening-coherent}
 use Rattle.sj_core.proofs.Reading.{idle_row, no_row}
 use Rattle.sj_core.proofs.Advancing.{active-begun, task_of-active, task_of-worker}
 use Rattle.sj_core.proofs.Tables.{length-renewed, renewed-at}
-use Rattle.sj_board.specs.Board.{CanBeClaimed, IsIdle, Standing, HasDelivered, ended, ended_tasks, ends, progress_of, standing, starting}
+use Rattle.sj_board.specs.Board.{CanBeClaimed, IsIdle, Standing, HasDelivered, begun, ended, ended_tasks, ends, progress_of, standing, starting}
 use Rattle.sj_board.specs.Delivered.{Deliveries}
 use Rattle.sj_board.specs.Inside.{Keeps, events_to_come, gift_of}
 use Rattle.sj_board.specs.Operands.{first_cell, handed, handed_by, is_deliver_task, kept, news_of, outputs, with_arrays}
@@ -122,6 +122,9 @@ module _ (b : Standing) (first : ℕ) (hand : Option Task) (gift : Option Array)
           let same : v ≡ w = worker-one v w v_in (one-worker w worker) in
           absurd (false≢true (sym (idle-at w b.tasks idle u.0) ∙ ap (λ (y : Worker). is_task_of y (progress_of b u)) (sym same) ∙ e))
 
+  pub idle-runs_none : (w : Worker) → w.0 < b.program.workers → IsIdle b w → (u : Task) (v : Worker) → progress_of b u ≡ Running v → ⊥
+  idle-runs_none w worker idle u v runs = false≢true (sym (free-at w worker idle u v) ∙ ap (is_task_of v) runs ∙ running-is v)
+
   -- a claim
   module _ (t : Task) (w : Worker) (worker : w.0 < b.program.workers) (can : CanBeClaimed b t) (idle : IsIdle b w) (trace : Recorded) (delivered : Deliveries) (events : trace.events ≡ b.trace ++ Claim t w ∷ []) (left : 3 ≤ trace.spare + 1) (pairs : delivered.pairs ≡ b.delivered) (one_left : 1 ≤ delivered.spare) where
     in_table : t.0 < length b.tasks
@@ -179,6 +182,14 @@ module _ (b : Standing) (first : ℕ) (hand : Option Task) (gift : Option Array)
 
     pub in-hand-is : (u : Task) (v : Worker) → is_task_of v (progress_of b u) ≡ true → u ≡ t
     in-hand-is u v h = let k : Some u ≡ Some t = sym (keeps.in_hand u v h) ∙ held in cc
+
+    pub runs-in_hand : (u : Task) (v : Worker) → progress_of b u ≡ Running v → u ≡ t
+    runs-in_hand u v runs = in-hand-is u v (ap (is_task_of v) runs ∙ running-is v)
+
+    pub claimed-runs_none : (w : Worker) → progress_of b t ≡ Claimed w → (u : Task) (v : Worker) → progress_of b u ≡ Running v → ⊥
+    claimed-runs_none w claimed u v runs =
+        let k : Claimed w ≡ Running v = sym claimed ∙ ap (λ (k : Task). progress_of b k) (sym (runs-in_hand u v runs)) ∙ runs in
+        cc
 
   -- a run
   module _ (t : Task) (w : Worker) (claimed : progress_of b t ≡ Claimed w) (held : hand ≡ Some t) (new_gift : Option Array) (gives : new_gift ≡ gift_of b t) (trace : Recorded) (delivered : Deliveries) (events : trace.events ≡ b.trace ++ Run t w ∷ []) (left : trace.spare + 1 ≡ spare) (pairs : delivered.pairs ≡ b.delivered) where
@@ -312,7 +323,13 @@ module _ (b : Standing) (first : ℕ) (hand : Option Task) (gift : Option Array)
       delivered = subst (λ (es : List Event). HasDelivered b.program es delivered.pairs) (sym events) (subst (λ (ds : List (Task × Array)). HasDelivered b.program (b.trace ++ End t w ∷ []) ds) (sym pairs) (ending b.program b.arrays b.trace b.delivered t w given-is keeps.delivered));
     }
 
--- ---- what an end makes of a board, told part by part
+-- ---- what a run and an end make of a board, told part by part
+
+pub begun-is : (b : Standing) (t : Task) (w : Worker) (new_arrays : List (Option Array)) (trace : Recorded) (delivered : Deliveries) → new_arrays ≡ b.arrays → trace.events ≡ b.trace ++ Run t w ∷ [] → delivered.pairs ≡ b.delivered →
+    standing b.program b.machine (set b.tasks t.0 (Running w)) new_arrays trace delivered ≡ begun b t w
+begun-is b t w new_arrays trace delivered e f g =
+    let made : List (Option Array) → List Event → List (Task × Array) → Standing = λ arrays events pairs. record { program = b.program; machine = b.machine; tasks = set b.tasks t.0 (Running w); arrays = arrays; trace = events; delivered = pairs } in
+    ap (λ (l : List (Option Array)). made l trace.events delivered.pairs) e ∙ ap (λ (l : List Event). made b.arrays l delivered.pairs) f ∙ ap (λ (l : List (Task × Array)). made b.arrays (b.trace ++ Run t w ∷ []) l) g
 
 pub ended-is : (b : Standing) (t : Task) (w : Worker) (new_arrays : List (Option Array)) (trace : Recorded) (delivered : Deliveries) → new_arrays ≡ with_arrays b.program (outputs (task_of b.program t)) (news_of b.program b.arrays t) b.arrays →
     trace.events ≡ b.trace ++ End t w ∷ [] → delivered.pairs ≡ b.delivered ++ handed b.program b.arrays t → standing b.program b.machine (set b.tasks t.0 (Done w)) new_arrays trace delivered ≡ ended b t w
@@ -380,7 +397,3 @@ starting-is p m tasks arrays trace delivered e f g h =
     ∙ ap (λ (l : List (Option Array)). made (replicate (length p.tasks) Waiting) l trace.events delivered.pairs) f
     ∙ ap (λ (l : List Event). made (replicate (length p.tasks) Waiting) (replicate (length p.cells) None) l delivered.pairs) g
     ∙ ap (λ (l : List (Task × Array)). made (replicate (length p.tasks) Waiting) (replicate (length p.cells) None) [] l) h
-
-pub map-replicate : {X Y : Type 0} (f : X → Y) (n : ℕ) (x : X) → map f (replicate n x) ≡ replicate n (f x)
-map-replicate f zero x = refl
-map-replicate f (suc n) x = ap (λ l. f x ∷ l) (map-replicate f n x)

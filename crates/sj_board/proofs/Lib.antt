@@ -2,7 +2,9 @@ pub mod Lists
 pub mod Dims
 pub mod Frames
 pub mod Giving
+pub mod Holding
 pub mod Keeping
 pub mod Next
+pub mod Places
 pub mod Room
 pub mod Steps

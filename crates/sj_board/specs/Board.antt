@@ -1,6 +1,6 @@
--- A board as contracts see it: how far each task is, what is kept of each cell, the events so far, and what was handed over.
+-- A board as contracts see it: how far each task is, the array of each cell, the events so far, and what was handed over.
 use Rattle.std.specs.Prelude.{◌≡◌, ℕ, ◌≤◌, not, IsTrue, Option, None, List, [], ◌∷◌, ◌++◌, map, filter, filter_map, replicate, length, Some, All, slice_index_or, slice_set}
-use Rattle.std.specs.List.{list_all, range_with_len}
+use Rattle.std.specs.List.{fold, list_all, range_with_len}
 use Rattle.sj_base.specs.declared.ids.Task.{Task}
 use Rattle.sj_base.specs.declared.ids.Worker.{Worker}
 use Rattle.sj_base.specs.declared.trace.Event.{Event}
@@ -18,7 +18,8 @@ use Rattle.sj_core.specs.Fold.{given}
 use Rattle.sj_board.specs.Delivered.{Deliveries}
 use Rattle.sj_board.specs.Operands.{handed, is_deliver_task, news_of, outputs, with_arrays}
 
--- a board of a program and a machine: each task's progress, each cell's kept array, the events, and what was handed over
+-- a board of a program and a machine: each task's progress, the array that ended tasks left in each cell, the events, and
+-- what was handed over
 pub record Standing : Type 0 where
   pub program : Program
   pub machine : Machine
@@ -32,6 +33,17 @@ standing p m tasks arrays trace delivered = record { program = p; machine = m; t
 
 abbrev pub progress_of : Standing → Task → Progress
 progress_of b t = slice_index_or b.tasks t.0 Waiting
+
+-- ---- the arrays that the tasks have left
+
+-- the arrays after an event: where a task ends, the cells that it writes have its new ones
+abbrev pub arrays_with : Program → List (Option Array) → Event → List (Option Array)
+arrays_with p arrays (End t w) = with_arrays p (outputs (task_of p t)) (news_of p arrays t) arrays
+arrays_with p arrays _ = arrays
+
+-- the array of each cell after the events, from the tasks that have ended, one after another; none where none wrote it
+abbrev pub arrays_left : Program → List Event → List (Option Array)
+arrays_left p trace = fold (arrays_with p) (replicate (length p.cells) None) trace
 
 -- ---- conditions
 

@@ -1,5 +1,5 @@
 -- What a board keeps beside what contracts see: its counters and the room for what is still to come.
-use Rattle.std.specs.Prelude.{◌≡◌, ℕ, ◌<◌, ◌≤◌, true, false, Option, Some, None, length, slice_index_or}
+use Rattle.std.specs.Prelude.{◌≡◌, ℕ, ◌<◌, ◌≤◌, true, false, List, Option, Some, None, length, slice_index_or}
 use Rattle.sj_base.specs.declared.ids.Cell.{Cell}
 use Rattle.sj_base.specs.declared.ids.Task.{Task}
 use Rattle.sj_base.specs.declared.ids.Worker.{Worker}
@@ -8,9 +8,9 @@ use Rattle.sj_core.specs.declared.progress.Progress.{Progress}
 use Rattle.sj_core.specs.declared.progress.Progress.TheVariants.{Waiting, Claimed, Running, Done}
 use Rattle.sj_core.specs.Coherent.{is_active}
 use Rattle.sj_core.specs.Machine.{is_done, is_task_of}
-use Rattle.sj_core.specs.Program.{dims_of, task_of}
-use Rattle.sj_board.specs.Board.{Standing, progress_of, HasDelivered}
-use Rattle.sj_board.specs.Operands.{gift_for}
+use Rattle.sj_core.specs.Program.{dims_of, has_cell, task_of}
+use Rattle.sj_board.specs.Board.{Standing, IsRunning, progress_of, HasDelivered}
+use Rattle.sj_board.specs.Operands.{gift_for, outputs}
 use Rattle.sj_board.specs.Plain.{IsBoardFor}
 use Rattle.sj_board.specs.Stands.{Stands}
 
@@ -40,3 +40,17 @@ pub record Keeps (b : Standing) (first : ℕ) (hand : Option Task) (gift : Optio
   pub room_delivered : (t : Task) → is_active (progress_of b t) ≡ true → 0 < room
   pub gifts : (t : Task) (w : Worker) → progress_of b t ≡ Running w → gift ≡ gift_of b t
   pub delivered : HasDelivered b.program b.trace b.delivered
+
+-- no running task writes the cell
+abbrev pub IsUnwritten : Standing → Cell → Type 0
+IsUnwritten b c = (t : Task) (w : Worker) → IsRunning b w t → has_cell (outputs (task_of b.program t)) c ≡ false
+
+-- the arrays in the tiles' places: the cells' own, but where a running task writes
+pub record Holds (b : Standing) (tiles : List (Option Array)) : Type 0 where
+  pub every_place : length tiles ≡ length b.arrays
+  pub same : (c : Cell) → IsUnwritten b c → slice_index_or tiles c.0 None ≡ slice_index_or b.arrays c.0 None
+
+-- all that holds of a board's own fields
+pub record IsInside (b : Standing) (tiles : List (Option Array)) (first : ℕ) (hand : Option Task) (gift : Option Array) (spare room : ℕ) : Type 0 where
+  pub keeps : Keeps b first hand gift spare room
+  pub holds : Holds b tiles

@@ -21,7 +21,7 @@ use Rattle.sj_core.specs.Program.{has_cell}
 abbrev pub the_worker : Worker
 the_worker = record { 0 = 0 }
 
--- the cell isn't one that a running task writes without reading it: such a one still has its old array on the board
+-- the cell isn't one that a running task writes without reading it: of such a one the board still tells the old array
 abbrev pub IsUpToDate : Program → State → Cell → Type 0
 IsUpToDate p s c = (t : Task) (w : Worker) → progress s t ≡ Running w → has_cell (fresh_cells p t w) c ≡ false
 

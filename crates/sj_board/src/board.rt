@@ -10,10 +10,11 @@ ghost use Rattle.sj_core.specs.declared.progress.Progress.TheVariants.{Waiting};
 ghost use Rattle.sj_board.specs.Board.{AreAllDone, CanBeClaimed, HasClaimed, HasDelivered, HasTaskClaimed, HasTaskRunning, IsIdle, IsNext, IsRunning, begun, claimed, ended, starting};
 ghost use Rattle.sj_board.specs.Operands.{CanRunOn, gift_for, handed_by, news_of, slots_of};
 ghost use Rattle.sj_board.specs.Plain.{IsBoardFor};
-ghost use Rattle.sj_board.specs.Tiles.{CanHandOver, arrays_in};
+ghost use Rattle.sj_board.specs.Tiles.{CanHandOver};
 
 use crate::delivered::Delivered;
 use crate::operands::{frame_of, is_delivery, put_back, task_at};
+use crate::tiles::Tiles;
 use sj_base::ids::{Task, Worker};
 use sj_base::memory::OutOfMemory;
 use sj_base::program::{Lowered, Machine, Program};
@@ -31,8 +32,8 @@ pub struct Board {
     program: Arc<Program>,
     machine: Machine,
     tasks: Vec<Progress>,
-    /// The array of each cell, where it has one. A cell that the running task writes keeps its old one until the task ends.
-    tiles: Vec<Option<Arc<Tile>>>,
+    /// The tile of each cell, where it has one. A cell that the running task updates has none here until the task ends.
+    tiles: Tiles,
     /// Where the first task stands that isn't done: since tasks go in any order, some after it may be done too.
     first: usize,
     /// The worker's task, or the one that it had last.
@@ -45,15 +46,14 @@ pub struct Board {
 
 impl Model for Board {
     ghost use Rattle.std.specs.Prelude.{option_map};
-    ghost use Rattle.sj_board.specs.Board.{Standing, standing};
-    ghost use Rattle.sj_board.specs.Inside.{Keeps};
-    ghost use Rattle.sj_board.specs.Tiles.{arrays_in};
+    ghost use Rattle.sj_board.specs.Board.{Standing, arrays_left, standing};
+    ghost use Rattle.sj_board.specs.Inside.{IsInside};
 
     ghost Value = { Standing };
 
-    ghost view = { λ b. standing b.program.value b.machine b.tasks.items (arrays_in b.tiles.items) b.trace b.delivered };
+    ghost view = { λ b. standing b.program.value b.machine b.tasks.items (arrays_left b.program.value b.trace.events) b.trace b.delivered };
 
-    ghost invariant = { λ b. Keeps (standing b.program.value b.machine b.tasks.items (arrays_in b.tiles.items) b.trace b.delivered) b.first b.hand (option_map (λ t. t.value) b.gift) b.trace.spare b.delivered.spare };
+    ghost invariant = { λ b. IsInside (standing b.program.value b.machine b.tasks.items (arrays_left b.program.value b.trace.events) b.trace b.delivered) b.tiles b.first b.hand (option_map (λ t. t.value) b.gift) b.trace.spare b.delivered.spare };
 }
 
 /// All tasks waiting. Linear in them.
@@ -64,33 +64,22 @@ fn waiting(alloc: Global, count: usize) -> Result<Vec<Progress>, OutOfMemory>
     Ok(tasks)
 }
 
-/// No tile in any place. Linear in the places.
-fn no_tiles(alloc: Global, count: usize) -> Result<Vec<Option<Arc<Tile>>>, OutOfMemory>
-    ensures { IfOk result (λ v. v.items ≡ replicate count None) }
-{
-    let mut tiles = Vec::new(alloc);
-    for _i in 0..count {
-        tiles.push(None)?;
-    }
-    Ok(tiles)
-}
-
-/// A further share of the operand that a task hands over, where it is a deliver task. Constant time.
+/// A further share of the operand that a task hands over, where it is a deliver task. The tiles stay. Constant time.
 fn gift_of(
+    alloc: Global,
     program: &Program,
-    tiles: &[Option<Arc<Tile>>],
+    tiles: &mut Tiles,
     task: &Lowered,
 ) -> Result<Option<Arc<Tile>>, OutOfMemory>
-    requires { CanHandOver program.now (arrays_in tiles.now) task.now }
-    ensures { IfOk result (λ gift. option_map (λ t. t.value) gift ≡ gift_for program.now (arrays_in tiles.now) task.now) }
+    requires { CanHandOver program.now tiles.old task.now }
+    ensures gift { IfOk result (λ gift. option_map (λ t. t.value) gift ≡ gift_for program.now tiles.old task.now) }
+    ensures same { tiles.new ≡ tiles.old }
 {
     if !is_delivery(task.codelet) {
         return Ok(None);
     }
-    match &tiles[task.accesses.items()[0].cell.0 as usize] {
-        Some(tile) => Ok(Some(tile.clone()?)),
-        None => unreachable!(),
-    }
+    let tile = tiles.share(alloc, task.accesses.items()[0].cell.0 as usize)?;
+    Ok(Some(tile))
 }
 
 /// Appends what a task hands over, if there is anything. Constant time, and no memory.
@@ -133,7 +122,7 @@ impl Board {
         let Ok(tasks) = waiting(alloc, program.tasks.len()) else {
             return Err(program);
         };
-        let Ok(tiles) = no_tiles(alloc, program.cells.len()) else {
+        let Ok(tiles) = Tiles::none(alloc, program.cells.len()) else {
             return Err(program);
         };
         Ok(Board {
@@ -196,8 +185,9 @@ impl Board {
     }
 
     /// The kernel of the task that the worker has claimed begins. The frame has the task's operands: a share of what is only
-    /// read, a copy of what is read and written, zeros for what is written or scratch. After an `Err` the board is as before.
-    /// Linear in the elements of the operands that aren't only read.
+    /// read, the tile itself of what is read and written, zeros for what is written or scratch. After an `Err` the board is
+    /// as before. Linear in the elements of the operands that begin as zeros, and of a written tile of which somebody else
+    /// has a share, as of one that was handed over.
     pub fn run(&mut self, alloc: Global, w: Worker) -> Result<Frame, OutOfMemory>
         requires claimed { HasTaskClaimed self.old w }
         ensures ok { OnOk result ((t : Task) → HasClaimed self.old w t → self.new ≡ begun self.old t w) }
@@ -209,8 +199,9 @@ impl Board {
             unreachable!();
         };
         let task = task_at(&self.program, t);
-        let frame = frame_of(alloc, &self.program, &self.tiles, task.accesses.items())?;
-        self.gift = gift_of(&self.program, &self.tiles, task)?;
+        let gift = gift_of(alloc, &self.program, &mut self.tiles, task)?;
+        let frame = frame_of(alloc, &self.program, &mut self.tiles, task.accesses.items())?;
+        self.gift = gift;
         self.trace.add(Event::Run(t, w));
         self.tasks[t.0 as usize] = Progress::Running(w);
         Ok(frame)

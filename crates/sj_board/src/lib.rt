@@ -6,3 +6,4 @@ pub mod board;
 pub mod delivered;
 mod operands;
 pub mod shares;
+mod tiles;

@@ -1,13 +1,14 @@
 //! The operands of a task from the tiles of the cells, and the tiles that it has written put in their places.
 
-ghost use Rattle.std.specs.Prelude.{◌≡◌, ◌<◌, ◌++◌, ◌∷◌, [], All, IfOk, length, map, option_map};
+ghost use Rattle.std.specs.Prelude.{◌≡◌, ◌<◌, ◌≤◌, ◌++◌, ◌∷◌, [], All, IfOk, OnErr, OnOk, length, map};
 ghost use Rattle.sj_codelet.specs.Frame.{arrays, shared};
 ghost use Rattle.sj_codelet.specs.Slot.{slot_of};
 ghost use Rattle.sj_core.specs.Program.{task_of};
 ghost use Rattle.sj_base.specs.Mode.{is_written};
 ghost use Rattle.sj_board.specs.Operands.{slot_for, is_delivery};
-ghost use Rattle.sj_board.specs.Tiles.{arrays_in, AreShared, CanGive, outputs_among, put_all};
+ghost use Rattle.sj_board.specs.Tiles.{AreApart, AreShared, CanGive, array_in, is_updated, outputs_among, put_all, returned, without, without_updated};
 
+use crate::tiles::Tiles;
 use sj_base::ids::Task;
 use sj_base::memory::OutOfMemory;
 use sj_base::mode::{Access, Mode};
@@ -28,6 +29,16 @@ fn is_written(mode: Mode) -> bool
     }
 }
 
+/// Whether an operand of this mode gets a new value and its old one is read.
+fn is_updated(mode: Mode) -> bool
+    ensures { result ≡ is_updated mode }
+{
+    match mode {
+        Mode::R | Mode::W | Mode::Scratch => false,
+        Mode::RW | Mode::Redux | Mode::Commute => true,
+    }
+}
+
 /// A task of a program. Constant time.
 pub fn task_at(program: &Program, t: Task) -> &Lowered
     requires { t.0 < length program.now.tasks }
@@ -43,45 +54,86 @@ pub fn is_delivery(codelet: Codelet) -> bool
     matches!(Kernel::of(codelet), Some(Kernel::Deliver))
 }
 
-/// One operand: a share where it is only read, and else a tile of the task's own. Constant time where it is only read, and
-/// else linear in its elements.
+/// One operand: a share where it is only read, zeros where its old value isn't read, and else the tile itself, which
+/// leaves its place. After an `Err` all tiles are in their places. Linear in the elements where they are zeros or somebody
+/// else has a share of the tile, and else constant time.
 fn operand(
     alloc: Global,
     program: &Program,
-    tiles: &[Option<Arc<Tile>>],
+    tiles: &mut Tiles,
     access: Access,
 ) -> Result<Operand, OutOfMemory>
-    requires { CanGive program.now (arrays_in tiles.now) access }
-    ensures { IfOk result (λ o. slot_of o ≡ slot_for program.now (arrays_in tiles.now) access) }
+    requires { CanGive program.now tiles.old access }
+    ensures slot { IfOk result (λ o. slot_of o ≡ slot_for program.now tiles.old access) }
+    ensures ok { OnOk result (tiles.new ≡ without access tiles.old) }
+    ensures err { OnErr result (tiles.new ≡ tiles.old) }
 {
-    let c = access.cell.0 as usize;
-    if matches!(access.mode, Mode::W | Mode::Scratch) {
-        return Ok(Operand::Own(Tile::zeros(alloc, program.cells.items()[c].dims)?));
-    }
-    let Some(tile) = &tiles[c] else {
-        unreachable!();
-    };
+    let place = access.cell.0 as usize;
     match access.mode {
-        Mode::R => Ok(Operand::Shared(tile.clone()?)),
-        _ => Ok(Operand::Own(tile.copy(alloc)?)),
+        Mode::W | Mode::Scratch => {
+            let zeros = Tile::zeros(alloc, program.cells.items()[place].dims)?;
+            Ok(Operand::Own(zeros))
+        }
+        Mode::R => Ok(Operand::Shared(tiles.share(alloc, place)?)),
+        Mode::RW | Mode::Redux | Mode::Commute => Ok(Operand::Own(tiles.take(alloc, place)?)),
     }
 }
 
-/// The operands of a task in order. The sum of their costs.
+/// Puts the tile of an access back where it left its place. Constant time.
+fn give_back(tiles: &mut Tiles, access: Access, operand: Operand)
+    requires { access.cell.0 < length tiles.old }
+    ensures { tiles.new ≡ returned access (array_in operand) tiles.old }
+{
+    if is_updated(access.mode) {
+        tiles.put(access.cell.0 as usize, operand);
+    }
+}
+
+/// Appends the operands of these accesses to a frame. After an `Err` the frame has the operands that it had, and all tiles
+/// are in their places. The sum of their costs.
+fn append_operands(
+    alloc: Global,
+    program: &Program,
+    tiles: &mut Tiles,
+    accesses: &[Access],
+    frame: &mut Frame,
+) -> Result<(), OutOfMemory>
+    requires room { length accesses.now ≤ frame.old.spare }
+    requires can { All (CanGive program.now tiles.old) accesses.now }
+    requires apart { AreApart accesses.now }
+    ensures slots { OnOk result (frame.new.slots ≡ frame.old.slots ++ map (slot_for program.now tiles.old) accesses.now) }
+    ensures ok { OnOk result (tiles.new ≡ without_updated accesses.now tiles.old) }
+    ensures same { OnErr result (frame.new.slots ≡ frame.old.slots) }
+    ensures err { OnErr result (tiles.new ≡ tiles.old) }
+{
+    let Some((first, rest)) = accesses.split_first() else {
+        return Ok(());
+    };
+    frame.push(operand(alloc, program, tiles, *first)?);
+    if let Err(wanting) = append_operands(alloc, program, tiles, rest, frame) {
+        give_back(tiles, *first, frame.take_last());
+        return Err(wanting);
+    }
+    Ok(())
+}
+
+/// The operands of a task in order. The tiles of the cells that it updates leave their places. After an `Err` all tiles
+/// are in their places. The sum of their costs.
 pub fn frame_of(
     alloc: Global,
     program: &Program,
-    tiles: &[Option<Arc<Tile>>],
+    tiles: &mut Tiles,
     accesses: &[Access],
 ) -> Result<Frame, OutOfMemory>
     requires few { length accesses.now < 256 }
-    requires can { All (CanGive program.now (arrays_in tiles.now)) accesses.now }
-    ensures { IfOk result (λ f. f.slots ≡ map (slot_for program.now (arrays_in tiles.now)) accesses.now) }
+    requires can { All (CanGive program.now tiles.old) accesses.now }
+    requires apart { AreApart accesses.now }
+    ensures slots { IfOk result (λ f. f.slots ≡ map (slot_for program.now tiles.old) accesses.now) }
+    ensures ok { OnOk result (tiles.new ≡ without_updated accesses.now tiles.old) }
+    ensures err { OnErr result (tiles.new ≡ tiles.old) }
 {
     let mut frame = Frame::with_room(alloc, accesses.len() as u8)?;
-    for access in accesses {
-        frame.push(operand(alloc, program, tiles, *access)?);
-    }
+    append_operands(alloc, program, tiles, accesses, &mut frame)?;
     Ok(frame)
 }
 
@@ -99,12 +151,11 @@ fn take_shared(frame: &mut Frame) -> Arc<Tile>
 
 /// Puts the shared operands of a frame, the last first, in the places of the cells that a task writes. Linear in the
 /// accesses, and no memory.
-pub fn put_back(tiles: &mut [Option<Arc<Tile>>], accesses: &[Access], written: &mut Frame)
+pub fn put_back(tiles: &mut Tiles, accesses: &[Access], written: &mut Frame)
     requires cells { All (λ a. a.cell.0 < length tiles.old) accesses.now }
     requires shared { AreShared written.old.slots }
     requires count { length written.old.slots ≡ length (outputs_among accesses.now) }
-    ensures { arrays_in tiles.new
-        ≡ put_all (outputs_among accesses.now) (arrays written.old.slots) (arrays_in tiles.old) }
+    ensures { tiles.new ≡ put_all (outputs_among accesses.now) (arrays written.old.slots) tiles.old }
 {
     let Some((last, before)) = accesses.split_last() else {
         return;
@@ -113,6 +164,6 @@ pub fn put_back(tiles: &mut [Option<Arc<Tile>>], accesses: &[Access], written: &
         put_back(tiles, before, written);
         return;
     }
-    tiles[last.cell.0 as usize] = Some(take_shared(written));
+    tiles.put(last.cell.0 as usize, Operand::Shared(take_shared(written)));
     put_back(tiles, before, written);
 }

@@ -46,8 +46,8 @@ fn one_node(alloc: Global) -> Result<Machine, OutOfMemory>
     })
 }
 
-/// Runs the next task from its claim to its end. The kernel's cost, and linear in the elements of the operands that aren't
-/// only read.
+/// Runs the next task from its claim to its end. The kernel's cost, and linear in the elements of the operands that begin as
+/// zeros, and of a written one that was handed over before.
 fn run_task<C: Codelets>(
     alloc: Global,
     board: &mut Board,
@@ -101,7 +101,8 @@ fn nothing_run(alloc: Global) -> RunOutcome
 }
 
 /// Runs a program by one worker on one node: its tasks in submission order, each from its claim to its end. The cost of the
-/// kernels, and linear in the tasks, their operands, and the elements of the operands that aren't only read.
+/// kernels, and linear in the tasks, their operands, the elements of the operands that begin as zeros, and those of what was
+/// handed over and is written again.
 pub fn run<C: Codelets>(alloc: Global, program: Arc<Program>, codelets: &C) -> RunOutcome
     requires runnable { IsRunnable program.value }
     requires set { HasCodelets C.has program.value }

@@ -1,5 +1,5 @@
 -- A name that is new goes behind the others.
-use Rattle.std.proofs.Common.{◌≡◌, ℕ, ◌+◌, ◌<◌, ◌≤◌, Bool, true, false, not, ◌||◌, List, [], ◌∷◌, ◌++◌, length, map, get_or, nat_lt, position, Option, Some, None, option_map, cond, refl, ap, sym, subst, ◌∙◌, arith, length-append, bytes_eq}
+use Rattle.std.proofs.Common.{◌≡◌, ℕ, ◌+◌, ◌<◌, ◌≤◌, Bool, true, false, ◌||◌, List, [], ◌∷◌, ◌++◌, length, map, get_or, nat_lt, position, Option, Some, None, option_map, cond, refl, ap, sym, ◌∙◌, arith, length-append, bytes_eq}
 use Rattle.std.proofs.Math.Seq.{get_or-append_seam}
 use Rattle.std.specs.List.{position_or_len, list_any}
 use Rattle.std.proofs.lemmas.List.{get_or_append_left, map-append}
@@ -9,7 +9,7 @@ use Rattle.std.proofs.lemmas.Slice.Eq.{bytes_eq-Decides}
 use Rattle.std.proofs.lemmas.Bool.Decides.{nat_tests}
 use Rattle.indexmap.specs.IndexSet.{insert_key}
 use Rattle.sj_job.specs.declared.job.RootInfo.{RootInfo}
-use Rattle.sj_job.specs.Table.{Table, table, a_root, root_in, with_root, AreDistinct, IsTable}
+use Rattle.sj_job.specs.Table.{Table, a_root, root_in, with_root, AreDistinct, IsTable}
 
 -- ---- where no name is found
 

@@ -1,9 +1,11 @@
 -- A line is divided into its words one after another, and has as its bytes those of its words and blanks.
-use Rattle.std.proofs.Common.{◌≡◌, ℕ, suc, ◌+◌, ◌<◌, ◌≤◌, ◌&&◌, ◌||◌, not, Bool, true, false, List, [], ◌∷◌, length, take, drop, filter, refl, ap, ◌∙◌, sym, cond, arith, nat_lt, length-take, length-drop, Some, None, unwrap_or, position, ◌-◌, subst}
+use Rattle.std.proofs.Common.{◌≡◌, ℕ, suc, ◌+◌, ◌<◌, ◌≤◌, ◌&&◌, ◌||◌, not, Bool, true, false, List, [], ◌∷◌, ◌++◌, length, take, drop, filter, refl, ap, ◌∙◌, sym, cond, arith, nat_lt, length-take, length-drop, Some, None, unwrap_or, position, ◌-◌, subst}
 use Rattle.std.specs.List.{slice_split, onto_first, list_all, position_or_len}
 use Rattle.std.proofs.lemmas.Bool.Decides.{nat_tests}
 use Rattle.std.proofs.lemmas.List.Sums.{prefix_len-le-length}
-use Rattle.std.proofs.lemmas.List.{take_all, drop_all}
+use Rattle.std.proofs.lemmas.List.{take_all, drop_all, append-nil}
+use Rattle.std.proofs.lemmas.List.Elements.{filter-append}
+use Rattle.std.proofs.lemmas.List.Folds.{list_all-append}
 use Rattle.std.proofs.lemmas.List.Splits.{slice_split-cons_yes, slice_split-cons_no}
 use Rattle.sj_job.specs.Word.{words, is_blank, is_empty, is_allowed, CutsOff}
 
@@ -167,3 +169,36 @@ allowed-full ((b ∷ w) ∷ parts) =
 -- a line's bytes are allowed where those of its words are, since blanks are
 pub allowed-words : (line : List ℕ) → list_all (list_all is_allowed) (words line) ≡ list_all is_allowed line
 allowed-words line = allowed-full (parts_of line) ∙ allowed-parts line
+
+-- ---- blanks at the end
+
+onto-append : (b : ℕ) (ps w : List (List ℕ)) (v : List ℕ) (behind : List (List ℕ)) → ps ≡ v ∷ behind → onto_first b (ps ++ w) ≡ onto_first b ps ++ w
+onto-append b ps w v behind e = subst (λ qs. onto_first b (qs ++ w) ≡ onto_first b qs ++ w) (sym e) refl
+
+parts-more : (b c : ℕ) (bs : List ℕ) (t : Bool) → is_blank b ≡ t → parts_of (bs ++ c ∷ []) ≡ parts_of bs ++ [] ∷ [] → parts_of ((b ∷ bs) ++ c ∷ []) ≡ parts_of (b ∷ bs) ++ [] ∷ []
+parts-more b c bs true e h =
+    slice_split-cons_yes is_blank b (bs ++ c ∷ []) e ∙ ap (λ ps. [] ∷ ps) h ∙ ap (λ ps. ps ++ [] ∷ []) (sym (slice_split-cons_yes is_blank b bs e))
+parts-more b c bs false e h =
+    let cut = cut_of bs in
+    slice_split-cons_no is_blank b (bs ++ c ∷ []) e ∙ ap (onto_first b) h ∙ onto-append b (parts_of bs) ([] ∷ []) (take (word_len bs) bs) cut.behind cut.parts
+    ∙ ap (λ ps. ps ++ [] ∷ []) (sym (slice_split-cons_no is_blank b bs e))
+
+parts-blank : (bs : List ℕ) (c : ℕ) → is_blank c ≡ true → parts_of (bs ++ c ∷ []) ≡ parts_of bs ++ [] ∷ []
+parts-blank [] c e = slice_split-cons_yes is_blank c [] e
+parts-blank (b ∷ bs) c e = parts-more b c bs (is_blank b) refl (parts-blank bs c e)
+
+-- a blank at the end doesn't matter
+pub words-before_blank : (line front : List ℕ) (c : ℕ) → line ≡ front ++ c ∷ [] → is_blank c ≡ true → words front ≡ words line
+words-before_blank line front c at e =
+    sym (ap words at ∙ ap full (parts-blank front c e) ∙ filter-append (λ w. not (is_empty w)) (parts_of front) ([] ∷ []) ∙ append-nil (words front))
+
+and_true : (b : Bool) → (b && true) ≡ b
+and_true true = refl
+and_true false = refl
+
+blank-allowed : (c : ℕ) (t : Bool) → is_blank c ≡ t → t ≡ true → is_allowed c ≡ true
+blank-allowed c t e f = ap (λ b. b || (nat_lt 32 c && nat_lt c 127)) (e ∙ f)
+
+pub allowed-before_blank : (line front : List ℕ) (c : ℕ) → line ≡ front ++ c ∷ [] → is_blank c ≡ true → list_all is_allowed front ≡ list_all is_allowed line
+allowed-before_blank line front c at e =
+    sym (ap (list_all is_allowed) at ∙ list_all-append is_allowed front (c ∷ []) ∙ ap (λ b. list_all is_allowed front && (b && true)) (blank-allowed c (is_blank c) refl e) ∙ and_true (list_all is_allowed front))

@@ -2,7 +2,7 @@
 use Rattle.std.proofs.Common.{◌≡◌, ℕ, zero, suc, ◌&&◌, Bool, true, false, take, ◌+◌, ◌<◌, List, [], ◌∷◌, ◌++◌, length, get_or, drop, map, refl, ap, ◌∙◌, sym, arith, Option, Some, None, option_map, append_assoc}
 use Rattle.std.proofs.Math.Seq.{drop-cons}
 use Rattle.std.specs.List.{list_all}
-use Rattle.std.proofs.lemmas.List.{get_or-map, length-map, take_more, take-map, map-append}
+use Rattle.std.proofs.lemmas.List.{get_or-map, get_or_default, length-map, take_more, take-map, map-append}
 use Rattle.std.proofs.lemmas.List.Folds.{list_all-append}
 use Rattle.sj_job.specs.Form.{each_some}
 
@@ -43,6 +43,13 @@ pub each_none_of : {W A B : Type 0} (f : A → Option B) (v : W → A) (ws : Lis
 each_none_of f v ws i d front lt e =
     let lt' : i < length (map v ws) = rw (length-map ws v) lt in
     each_none f (map v ws) i (v (get_or ws i d)) front lt' (get_or-map v ws i d (v (get_or ws i d)) lt) e
+
+-- the same of an element that was read
+pub each_more_at : {A B : Type 0} (f : A → Option B) (xs : List A) (i : ℕ) (d : A) (y : B) (front : List B) → i < length xs → f (get_or xs i d) ≡ Some y → option_map (λ ys. front ++ ys) (each_some f (drop i xs)) ≡ option_map (λ ys. (front ++ y ∷ []) ++ ys) (each_some f (drop (i + 1) xs))
+each_more_at f xs i d y front lt e = each_more f xs i (get_or xs i d) y front lt (get_or_default xs i (get_or xs i d) d lt) e
+
+pub each_none_at : {A B : Type 0} (f : A → Option B) (xs : List A) (i : ℕ) (d : A) (front : List B) → i < length xs → f (get_or xs i d) ≡ None → option_map (λ ys. front ++ ys) (each_some f (drop i xs)) ≡ None
+each_none_at f xs i d front lt e = each_none f xs i (get_or xs i d) front lt (get_or_default xs i (get_or xs i d) d lt) e
 
 -- ---- a test of each
 

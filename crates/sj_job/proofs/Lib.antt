@@ -3,6 +3,8 @@ pub mod Dividing
 pub mod Digits
 pub mod Each
 pub mod Last
+pub mod Children
+mod Marks
 pub mod Places
 pub mod Seen
 pub mod Giving

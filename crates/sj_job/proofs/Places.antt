@@ -1,9 +1,9 @@
 -- Names and the roots that they stand for.
-use Rattle.std.proofs.Common.{◌≡◌, ℕ, ◌+◌, ◌<◌, ◌≤◌, Bool, true, false, not, ◌||◌, List, [], ◌∷◌, ◌++◌, length, map, get_or, nat_eq, nat_lt, position, Option, Some, None, option_map, cond, refl, ap, sym, subst, ◌∙◌, arith, length-append, get_or-set_same, get_or-set_other, bytes_eq}
+use Rattle.std.proofs.Common.{◌≡◌, ℕ, ◌+◌, ◌<◌, ◌≤◌, Bool, true, false, not, List, [], ◌∷◌, ◌++◌, length, map, get_or, nat_eq, nat_lt, position, Option, Some, None, option_map, cond, refl, ap, sym, subst, ◌∙◌, arith, length-append, get_or-set_same, get_or-set_other, bytes_eq}
 use Rattle.std.proofs.Math.ListN.{set}
 use Rattle.std.proofs.Math.Seq.{get_or-append_seam}
 use Rattle.std.specs.List.{position_or_len}
-use Rattle.std.proofs.lemmas.List.{length-map, get_or_append_left, get_or-map}
+use Rattle.std.proofs.lemmas.List.{length-map, get_or_append_left}
 use Rattle.std.proofs.lemmas.List.Folds.{position_or_len_push}
 use Rattle.std.proofs.lemmas.List.Sums.{prefix_len-le-length}
 use Rattle.std.proofs.lemmas.List.Quantifiers.{position-Some}
@@ -14,8 +14,8 @@ use Rattle.sj_base.specs.declared.tile.Dims.{Dims}
 use Rattle.sj_job.specs.declared.job.RootInfo.{RootInfo}
 use Rattle.sj_job.specs.declared.names.Standing.{Standing}
 use Rattle.sj_job.specs.declared.names.Standing.TheVariants.{Ended}
-use Rattle.sj_job.specs.declared.names.Found.{Found}
-use Rattle.sj_job.specs.Table.{Table, table, a_root, name_of, no_info, info_of, root_in, IsRoot, with_root}
+use Rattle.sj_job.specs.Names.{Found}
+use Rattle.sj_job.specs.Table.{Table, a_root, name_of, no_info, info_of, root_in, IsRoot, with_root}
 
 -- ---- places in lists
 

@@ -1,21 +1,21 @@
 -- A line more is read.
-use Rattle.std.proofs.Common.{◌≡◌, ℕ, ◌+◌, ◌≤◌, Bool, List, [], ◌∷◌, ◌++◌, length, refl, ap, sym, subst, ◌∙◌, arith, Ok, Err, length-append}
+use Rattle.std.proofs.Common.{◌≡◌, ℕ, ◌+◌, Bool, List, [], ◌∷◌, ◌++◌, length, ap, sym, subst, ◌∙◌, arith, Err, length-append}
 use Rattle.sj_codelet.specs.declared.kernel.Kernel.{Kernel}
 use Rattle.sj_job.specs.declared.job.Act.{Act as KeptAct}
 use Rattle.sj_job.specs.declared.job.Statement.{Statement as Kept}
 use Rattle.sj_job.specs.declared.names.Names.{Names}
 use Rattle.sj_job.specs.declared.reason.Reason.{Reason}
-use Rattle.sj_job.specs.Act.{Act, Statement}
+use Rattle.sj_job.specs.Act.{Statement}
 use Rattle.sj_job.specs.Verdict.{Verdict, Skipped, Does, Bad}
 use Rattle.sj_job.specs.State.{State, start}
-use Rattle.sj_job.specs.Meaning.{apply, run_from}
+use Rattle.sj_job.specs.Meaning.{run_from}
 use Rattle.sj_job.specs.Judge.{Scope, scope_of}
 use Rattle.sj_job.specs.Names.{scope_in}
 use Rattle.sj_job.specs.Sees.{Sees}
 use Rattle.sj_job.specs.Reading.{statement, verdict_of, refusal}
 use Rattle.sj_job.specs.Progress.{text_with}
 use Rattle.sj_job.specs.Submits.{act_noted, LineDoes, AreRead}
-use Rattle.sj_job.specs.View.{act_seen, statement_seen, seen_from, count_from, count_after, IsPlaced}
+use Rattle.sj_job.specs.View.{act_seen, seen_from, count_after, IsPlaced}
 use Rattle.sj_job.proofs.Seen.{same_scope}
 use Rattle.sj_job.proofs.Progressing.{text_skipped, text_bad, text_does, run_from-push}
 use Rattle.sj_job.proofs.Views.{count-push, seen-push, length-seen, placed-push, seen-kept}

@@ -1,142 +1,127 @@
 -- The reader's names go on agreeing with the state, statement by statement.
 use Rattle.std.specs.FinMap as map
-use Rattle.std.proofs.Common.{◌≡◌, ℕ, zero, suc, ◌+◌, ◌≤◌, Bool, true, false, List, [], ◌∷◌, length, drop, refl, ap, ◌∙◌, sym, subst, Option, Some, None, option_map, is_some, cond, ◌||◌, ℤ, map as each_of, filter, replicate, arith, bytes_eq, get_or, length-append, ◌++◌, ◌<◌}
+use Rattle.std.proofs.Common.{◌≡◌, ℕ, suc, ◌+◌, Bool, true, false, List, [], ◌∷◌, length, drop, refl, ap, ◌∙◌, sym, subst, inl, inr, Option, Some, None, option_map, cond, ◌||◌, arith, bytes_eq, get_or, length-append, ◌++◌, ◌<◌, get_or-set_same, get_or-set_other, map as each_of}
 use Rattle.std.proofs.Math.ListN.{set}
-use Rattle.std.proofs.lemmas.List.{length-set}
-use Rattle.std.specs.List.{list_all, list_any, range_with_len}
-use Rattle.std.specs.Ordering.{nat_cmp, eq_by_cmp}
-use Rattle.std.specs.Cmp.{eq_by_cmp_equiv}
+use Rattle.std.proofs.lemmas.List.{length-set, get_or_read}
+use Rattle.std.proofs.lemmas.Bool.{cases_eq}
+use Rattle.std.specs.List.{list_any, AllByRecursion}
+use Rattle.std.specs.Ordering.{nat_cmp}
 use Rattle.std.specs.Cmp.Lexicographic.{slice_cmp, nat_list_cmp_total, texts_ties, same_text}
-use Rattle.sj_base.specs.Array.{Array, area}
-use Rattle.sj_job.specs.declared.job.Init.{Init}
-use Rattle.sj_job.specs.declared.job.Init.TheVariants.{Values, Fill, Nothing}
-use Rattle.sj_job.specs.Statement.{Register}
-use Rattle.sj_job.specs.Statement.{Operand}
-use Rattle.sj_job.specs.declared.names.Known.{Known}
+use Rattle.sj_base.specs.Array.{Array}
 use Rattle.sj_base.specs.declared.ids.Root.{Root as RootNumber}
 use Rattle.sj_base.specs.declared.tile.Dims.{Dims}
+use Rattle.sj_plan.specs.declared.parts.Parts.{Parts}
+use Rattle.sj_plan.specs.Parts.{Fits, IsPlace}
+use Rattle.sj_job.specs.declared.job.Init.{Init}
+use Rattle.sj_job.specs.declared.job.Operand.{Operand as Access}
 use Rattle.sj_job.specs.declared.job.RootInfo.{RootInfo}
 use Rattle.sj_job.specs.declared.names.Standing.{Standing}
-use Rattle.sj_job.specs.declared.names.Standing.TheVariants.{Valued, Unvalued, Ended}
-use Rattle.sj_job.specs.declared.names.Found.{Found}
+use Rattle.sj_job.specs.declared.names.Standing.TheVariants.{Live, Ended}
 use Rattle.sj_job.specs.declared.names.Names.{Names}
-use Rattle.sj_job.specs.State.{Root, State, root_of, start}
-use Rattle.sj_job.specs.Meaning.{no_values, first_elements, registered_root, register, is_written, written_names, put, put_all, invalidate, unregister}
+use Rattle.sj_job.specs.Statement.{Operand}
+use Rattle.sj_job.specs.State.{Root, State, root_of, start, is_valued, is_blank}
+use Rattle.sj_job.specs.Meaning.{no_values, registered_root, register, is_written, written_of, with_parts, with_elements, with_child, change, plan, put, put_all, invalidate, unregister}
 use Rattle.sj_job.specs.Judge.{known_of, scope_of}
-use Rattle.sj_job.specs.Names.{IsCounted, known_in, ended_in, known_by, known_from, ended_from, found_in, scope_in, gives_values, first_standing, revalued_standing, revalued, after_write, after_writes}
+use Rattle.sj_job.specs.Names.{Found, IsCounted, IsPlaceIn, after_write, after_writes, child_written, ended_from, first_standing, found_in, invalidated, is_over, known_by, known_from, plan_in, planned, scope_in, standing_of}
+use Rattle.sj_job.specs.Sound.{IsSoundPlan, IsSoundRegistration}
 use Rattle.sj_job.specs.Table.{Table, table, a_root, name_of, info_of, root_in, IsRoot, with_root}
-use Rattle.sj_job.specs.View.{registration}
-use Rattle.sj_job.proofs.Places.{a_found, found_with, found-set, found-pushed}
-use Rattle.sj_job.specs.Sees.{Sees, Shows}
+use Rattle.sj_job.specs.Track.{all_valued, none_valued, even}
+use Rattle.sj_job.specs.View.{operand_seen, registration}
+use Rattle.sj_job.specs.Sees.{StandsFor, IsFound, Sees, Shows}
+use Rattle.sj_job.proofs.Children.{all_valued-same, none_valued-same, tracks-known, tracks-registered, tracks-planned, tracks-invalidated, tracks-written}
+use Rattle.sj_job.proofs.Places.{a_found, entry, found_with, found-set, found-pushed, is-at}
 
--- what a state shows the reasons of a name
-abbrev pub shown : State → List ℕ → Option Known
-shown S q = option_map known_of (root_of S q)
+-- what is found of each name is so of its root
+abbrev pub AllFound : Table → List Standing → State → Type 0
+AllFound T sts S = (q : List ℕ) → IsFound (found_with T sts q) (root_of S q)
 
--- each root has an element
-abbrev pub AreFilled : State → Type 0
-AreFilled S = (q : List ℕ) (r : Root) → root_of S q ≡ Some r → 1 ≤ area r.dims
+-- ---- what the reasons see
 
-tied : (q name : List ℕ) → eq_by_cmp (slice_cmp nat_cmp) q name ≡ true → q ≡ name
-tied q name e = same_text q name (sym (texts_ties q name ∙ e))
+known_standing : (d : Dims) (st : Standing) (o : Option Root) → StandsFor d st o → known_by d st ≡ option_map known_of o
+known_standing d (Live t) o h = ap Some (tracks-known d t h.root h.dims h.tracks) ∙ sym (ap (option_map known_of) h.there)
+known_standing d Ended o h = sym (ap (option_map known_of) h)
 
--- ---- which roots are valued
+known_found : (f : Option Found) (o : Option Root) → IsFound f o → known_from f ≡ option_map known_of o
+known_found None o h = sym (ap (option_map known_of) h)
+known_found (Some f) o h = known_standing f.dims f.standing o h
 
-all_some : (xs : List ℤ) → list_all is_some (each_of Some xs) ≡ true
-all_some [] = refl
-all_some (x ∷ xs) = all_some xs
+-- the reasons see the same scope
+pub same_scope : (names : Names) (n : ℕ) (S : State) → Sees names n S → scope_in names ≡ scope_of n S
+same_scope names n S h = λ i. record {
+  statements = h.statements i;
+  registered = h.shows.registered i;
+  ended = λ q. h.shows.ended q i;
+  known = λ q. known_found (found_in names q) (root_of S q) (h.shows.found q) i;
+}
 
-all_some_of : (f : ℕ → ℤ) (ps : List ℕ) → list_all is_some (each_of (λ p. Some (f p)) ps) ≡ true
-all_some_of f [] = refl
-all_some_of f (p ∷ ps) = all_some_of f ps
+-- ---- a change of one root
 
-none_some : (n : ℕ) → 1 ≤ n → let none : Option ℤ = None in list_all is_some (replicate n none) ≡ false
-none_some zero h = absurd (omega (arith, h))
-none_some (suc n) h = refl
+changed_by : (Root → Root) → List ℕ → State → Option Root → State
+changed_by f name S o = elim o [
+  | None ↦ S
+  | Some r ↦ record { registered = S.registered; ended = S.ended; roots = map.insert S.roots name (f r) }
+]
 
-valued_first : (r : Register) (i : Init) → 1 ≤ area r.dims → list_all is_some (first_elements i r.dims) ≡ gives_values i
-valued_first r (Values xs) h = all_some xs
-valued_first r (Fill a b) h = all_some_of _ (range_with_len 0 (area r.dims))
-valued_first r Nothing h = none_some (area r.dims) h
+nothing_there : (b : Bool) (o : Option Root) → (b ≡ true → o ≡ None) → o ≡ cond b None o
+nothing_there true o h = h refl
+nothing_there false o h = refl
 
--- ---- a root more
+root_by : (f : Root → Root) (S : State) (name q : List ℕ) (o : Option Root) → root_of S name ≡ o → root_of (changed_by f name S o) q ≡ cond (bytes_eq q name) (option_map f o) (root_of S q)
+unfolding changed_by
+root_by f S name q None e = nothing_there (bytes_eq q name) (root_of S q) (λ t. ap (root_of S) (same_text q name (sym t)) ∙ e)
+root_by f S name q (Some r) e =
+    map.get-insert nat_list_cmp_total S.roots name (f r) q ∙ ap (λ b. cond b (Some (f r)) (root_of S q)) (sym (texts_ties q name))
 
-one_more : (b : Bool) (known : Known) (k : Option Known) (new : Root) (o : Option Root) → known ≡ known_of new → k ≡ option_map known_of o → cond b (Some known) k ≡ option_map known_of (cond b (Some new) o)
-one_more true known k new o e h = ap Some e
-one_more false known k new o e h = h
+root_changed : (f : Root → Root) (S : State) (name q : List ℕ) → root_of (change f name S) q ≡ cond (bytes_eq q name) (option_map f (root_of S name)) (root_of S q)
+unfolding changed_by
+root_changed f S name q = root_by f S name q (root_of S name) refl
 
-filled_by : (b : Bool) (new : Root) (o : Option Root) (x : Root) → 1 ≤ area new.dims → ((y : Root) → o ≡ Some y → 1 ≤ area y.dims) → cond b (Some new) o ≡ Some x → 1 ≤ area x.dims
-filled_by true new o x p h e = let same : new ≡ x = cc in subst (λ (r : Root). 1 ≤ area r.dims) same p
-filled_by false new o x p h e = h x e
+counts_by : (f : Root → Root) (S : State) (name : List ℕ) (o : Option Root) → ((changed_by f name S o).registered ≡ S.registered) × ((changed_by f name S o).ended ≡ S.ended)
+unfolding changed_by
+counts_by f S name None = (refl, refl)
+counts_by f S name (Some r) = (refl, refl)
 
-filled_insert : (S : State) (name : List ℕ) (new : Root) → AreFilled S → 1 ≤ area new.dims → (q : List ℕ) (x : Root) → map.get (map.insert S.roots name new) q ≡ Some x → 1 ≤ area x.dims
-filled_insert S name new h p q x e =
-    filled_by (eq_by_cmp (slice_cmp nat_cmp) q name) new (root_of S q) x p (h q) (sym (map.get-insert nat_list_cmp_total S.roots name new q) ∙ e)
+pub counts_changed : (f : Root → Root) (S : State) (name : List ℕ) → ((change f name S).registered ≡ S.registered) × ((change f name S).ended ≡ S.ended)
+unfolding changed_by
+counts_changed f S name = counts_by f S name (root_of S name)
 
-first_known : (d : Dims) (i : Init) → known_by d (first_standing i) ≡ Some (record { dims = d; valued = gives_values i })
-first_known d (Values xs) = refl
-first_known d (Fill a b) = refl
-first_known d Nothing = refl
+found_by : (b : Bool) (f : Found) (o : Option Found) (x y : Option Root) → (b ≡ true → StandsFor f.dims f.standing x) → IsFound o y → IsFound (cond b (Some f) o) (cond b x y)
+found_by true f o x y h k = h refl
+found_by false f o x y h k = k
 
-known_pushed : (b : Bool) (f : Found) (o : Option Found) → known_from (cond b (Some f) o) ≡ cond b (known_by f.dims f.standing) (known_from o)
-known_pushed true f o = refl
-known_pushed false f o = refl
+found_there : (T : Table) (sts : List Standing) (r : RootNumber) → IsRoot T r → found_with T sts (name_of T r) ≡ Some (a_found r (info_of T r).dims (get_or sts r.0 Ended))
+found_there T sts r h = ap (option_map (entry T sts)) h
 
-ended_pushed : (b : Bool) (i : Init) (n : RootNumber) (d : Dims) (o : Option Found) → (b ≡ true → o ≡ None) → ended_from (cond b (Some (a_found n d (first_standing i))) o) ≡ ended_from o
-ended_pushed true (Values xs) n d o h = sym (ap ended_from (h refl))
-ended_pushed true (Fill x y) n d o h = sym (ap ended_from (h refl))
-ended_pushed true Nothing n d o h = sym (ap ended_from (h refl))
-ended_pushed false i n d o h = refl
+-- how it stands with one root changes as the root does
+found-changed : (T : Table) (sts : List Standing) (S : State) (r : RootNumber) (st : Standing) (f : Root → Root) → IsRoot T r → r.0 < length sts → AllFound T sts S
+    → (StandsFor (info_of T r).dims (get_or sts r.0 Ended) (root_of S (name_of T r)) → StandsFor (info_of T r).dims st (option_map f (root_of S (name_of T r))))
+    → AllFound T (set sts r.0 st) (change f (name_of T r) S)
+found-changed T sts S r st f root below h step q =
+    let name = name_of T r in
+    let here : StandsFor (info_of T r).dims (get_or sts r.0 Ended) (root_of S name) = subst (λ o. IsFound o (root_of S name)) (found_there T sts r root) (h name) in
+    let both = found_by (bytes_eq q name) (a_found r (info_of T r).dims st) (found_with T sts q) (option_map f (root_of S name)) (root_of S q) (λ t. step here) (h q) in
+    subst (λ o. IsFound (found_with T (set sts r.0 st) q) o) (sym (root_changed f S name q))
+    (subst (λ o. IsFound o (cond (bytes_eq q name) (option_map f (root_of S name)) (root_of S q))) (sym (found-set T sts r st q root below)) both)
 
-pub shows_registered : (old new : Names) (S : State) (name : List ℕ) (info : RootInfo) (init : Init) → 1 ≤ area info.dims → Shows old S → root_in old.roots name ≡ None → length old.roots.infos ≡ length old.roots.names
-    → new.roots ≡ with_root name info old.roots → new.standings.items ≡ old.standings.items ++ first_standing init ∷ [] → IsCounted new → Shows new (register (registration name info init) S)
-shows_registered old new S name info init p h none k e s counted =
-    let r = registration name info init in
-    let count : length old.standings.items ≡ length old.roots.names = omega (arith, old.standings.ok, h.counted) in
-    let found : (q : List ℕ) → found_in new q ≡ cond (bytes_eq q name) (Some (a_found (a_root (length old.roots.names)) info.dims (first_standing init))) (found_in old q) = λ q.
-    ap (λ (T : Table). found_with T new.standings.items q) e
-    ∙ ap (λ (xs : List Standing). found_with (with_root name info old.roots) xs q) s
-    ∙ found-pushed old.roots old.standings.items name info (first_standing init) q k count none in
-    record {
-      counted = counted;
-      registered = ap (λ (T : Table). length T.names) e ∙ length-append old.roots.names (name ∷ []) ∙ ap (λ m. m + 1) h.registered;
-      ended = λ q.
-          ap ended_from (found q)
-          ∙ ended_pushed (bytes_eq q name) init (a_root (length old.roots.names)) info.dims (found_in old q) (λ t. ap (found_in old) (same_text q name (sym t)) ∙ ap (λ o. option_map (λ (r : RootNumber). a_found r (info_of old.roots r).dims (get_or old.standings.items r.0 Ended)) o) none)
-          ∙ h.ended q;
-      known = λ q.
-          let known : Known = record { dims = info.dims; valued = gives_values init } in
-          let same : known ≡ known_of (registered_root r) = ap (λ v. let k : Known = record { dims = info.dims; valued = v } in k) (sym (valued_first r init p)) in
-          ap known_from (found q)
-          ∙ known_pushed (bytes_eq q name) (a_found (a_root (length old.roots.names)) info.dims (first_standing init)) (found_in old q)
-          ∙ ap (λ o. cond (bytes_eq q name) o (known_in old q)) (first_known info.dims init)
-          ∙ one_more (bytes_eq q name) known (known_in old q) (registered_root r) (root_of S q) same (h.known q)
-          ∙ ap (λ b. option_map known_of (cond b (Some (registered_root r)) (root_of S q))) (texts_ties q name)
-          ∙ ap (option_map known_of) (sym (map.get-insert nat_list_cmp_total S.roots name (registered_root r) q));
-      filled = filled_insert S name (registered_root r) h.filled p;
-    }
+-- ---- ended names
 
--- ---- a root less
+abbrev unplanned : Option Parts → Bool
+unplanned None = true
+unplanned (Some p) = false
 
-less : (b : Bool) (k : Option Known) (o : Option Root) → k ≡ option_map known_of o → cond b None k ≡ option_map known_of (cond b None o)
-less true k o h = refl
-less false k o h = h
+over_plan : (st : Standing) → is_over st ≡ unplanned (plan_in st)
+over_plan (Live t) = refl
+over_plan Ended = refl
 
-filled_less : (b : Bool) (o : Option Root) (x : Root) → ((y : Root) → o ≡ Some y → 1 ≤ area y.dims) → cond b None o ≡ Some x → 1 ≤ area x.dims
-filled_less true o x h e = absurd (cc)
-filled_less false o x h e = h x e
+ended_by : (T : Table) (sts new : List Standing) (o : Option RootNumber) → ((n : ℕ) → is_over (get_or new n Ended) ≡ is_over (get_or sts n Ended)) → ended_from (option_map (entry T new) o) ≡ ended_from (option_map (entry T sts) o)
+ended_by T sts new None h = refl
+ended_by T sts new (Some r) h = h r.0
 
-either : (b k : Bool) → cond b true k ≡ (b || k)
-either true k = refl
-either false k = refl
-
-known_over : (b : Bool) (n : RootNumber) (d : Dims) (o : Option Found) → known_from (cond b (Some (a_found n d Ended)) o) ≡ cond b None (known_from o)
-known_over true n d o = refl
-known_over false n d o = refl
-
-ended_over : (b : Bool) (n : RootNumber) (d : Dims) (o : Option Found) → ended_from (cond b (Some (a_found n d Ended)) o) ≡ cond b true (ended_from o)
-ended_over true n d o = refl
-ended_over false n d o = refl
+over_set : (sts : List Standing) (k : ℕ) (st : Standing) (n : ℕ) → k < length sts → is_over st ≡ is_over (get_or sts k Ended) → is_over (get_or (set sts k st) n Ended) ≡ is_over (get_or sts n Ended)
+over_set sts k st n lt e = elim (cases_eq n k) as (λ _. is_over (get_or (set sts k st) n Ended) ≡ is_over (get_or sts n Ended)) [
+  | inl same ↦ ap (λ m. is_over (get_or (set sts k st) m Ended)) same ∙ ap is_over (get_or-set_same sts k st Ended lt) ∙ e ∙ ap (λ m. is_over (get_or sts m Ended)) (sym same)
+  | inr other ↦ ap is_over (get_or-set_other sts k n st Ended other)
+]
 
 -- the standing of one root is another one
 pub record IsSet (old new : Names) (r : RootNumber) (st : Standing) : Type 0 where
@@ -145,176 +130,233 @@ pub record IsSet (old new : Names) (r : RootNumber) (st : Standing) : Type 0 whe
   pub root : IsRoot old.roots r
   pub below : r.0 < length old.standings.items
 
-found_set : (old new : Names) (r : RootNumber) (st : Standing) (q : List ℕ) → IsSet old new r st → found_in new q ≡ cond (bytes_eq q (name_of old.roots r)) (Some (a_found r (info_of old.roots r).dims st)) (found_in old q)
-found_set old new r st q h =
-    ap (λ (T : Table). found_with T new.standings.items q) h.roots
-    ∙ ap (λ (xs : List Standing). found_with old.roots xs q) h.standings
-    ∙ found-set old.roots old.standings.items r st q h.root h.below
+-- a root changes, and its standing with it
+shows_changed : (old new : Names) (S : State) (r : RootNumber) (st : Standing) (f : Root → Root) → Shows old S → IsSet old new r st → IsCounted new → is_over st ≡ is_over (standing_of old r)
+    → (StandsFor (info_of old.roots r).dims (standing_of old r) (root_of S (name_of old.roots r)) → StandsFor (info_of old.roots r).dims st (option_map f (root_of S (name_of old.roots r))))
+    → Shows new (change f (name_of old.roots r) S)
+shows_changed old new S r st f h k counted over step =
+    let name = name_of old.roots r in
+    let counts = counts_changed f S name in
+    let found : (q : List ℕ) → found_in new q ≡ found_with old.roots (set old.standings.items r.0 st) q = λ q.
+    (λ i. found_with (k.roots i) (k.standings i) q) in
+    record {
+      counted = counted;
+      registered = ap (λ (T : Table). length T.names) k.roots ∙ h.registered ∙ sym counts.0;
+      ended = λ q.
+          ap ended_from (found q) ∙ ended_by old.roots old.standings.items (set old.standings.items r.0 st) (root_in old.roots q) (λ n. over_set old.standings.items r.0 st n k.below over)
+          ∙ h.ended q ∙ ap (list_any (bytes_eq q)) (sym counts.1);
+      found = λ q. subst (λ o. IsFound o (root_of (change f name S) q)) (sym (found q)) (found-changed old.roots old.standings.items S r st f k.root k.below h.found step q);
+    }
+
+-- ---- another plan
+
+over_planned : (p : Parts) (st : Standing) → is_over (planned p st) ≡ is_over st
+over_planned p (Live t) = refl
+over_planned p Ended = refl
+
+planned_step : (p : Parts) (d : Dims) (st : Standing) (o : Option Root) → ((r : Root) → o ≡ Some r → Fits p r.dims × (((is_valued r) || (is_blank r)) ≡ true)) → StandsFor d st o → StandsFor d (planned p st) (option_map (with_parts p) o)
+planned_step p d (Live t) o sound h =
+    let s = sound h.root h.there in
+    let either : (all_valued t || none_valued t) ≡ true = (λ i. all_valued-same t h.root h.tracks i || none_valued-same t h.root h.tracks i) ∙ s.1 in
+    record { root = with_parts p h.root; there = ap (option_map (with_parts p)) h.there; dims = h.dims; tracks = tracks-planned p t h.root h.tracks s.0 either }
+planned_step p d Ended o sound h = ap (option_map (with_parts p)) h
+
+-- what a plan line needs, of the root
+sound_there : (p : Parts) (o : Option Root) (r : Root) → Fits p (elim o as (λ _. Dims) [ None ↦ record { rows = 0; cols = 0 } | Some r ↦ r.dims ]) → ((elim o as (λ _. Bool) [ None ↦ false | Some r ↦ is_valued r ]) || (elim o as (λ _. Bool) [ None ↦ false | Some r ↦ is_blank r ])) ≡ true → o ≡ Some r → Fits p r.dims × ((is_valued r || is_blank r) ≡ true)
+sound_there p None r fits even e = absurd (cc)
+sound_there p (Some x) r fits even e = let same : x ≡ r = cc in subst (λ (y : Root). Fits p y.dims × ((is_valued y || is_blank y) ≡ true)) same (fits, even)
+
+pub shows_planned : (old new : Names) (S : State) (r : RootNumber) (p : Parts) → Shows old S → IsSet old new r (planned p (standing_of old r)) → IsCounted new → IsSoundPlan S (name_of old.roots r) p → Shows new (plan (name_of old.roots r) p S)
+shows_planned old new S r p h k counted sound =
+    shows_changed old new S r (planned p (standing_of old r)) (with_parts p) h k counted (over_planned p (standing_of old r))
+    (planned_step p (info_of old.roots r).dims (standing_of old r) (root_of S (name_of old.roots r)) (λ x e. sound_there p (root_of S (name_of old.roots r)) x sound.parts sound.even e))
+
+-- ---- no values
+
+over_invalidated : (st : Standing) → is_over (invalidated st) ≡ is_over st
+over_invalidated (Live t) = refl
+over_invalidated Ended = refl
+
+invalidated_step : (d : Dims) (st : Standing) (o : Option Root) → StandsFor d st o → StandsFor d (invalidated st) (option_map (λ (r : Root). with_elements (no_values r.dims) r) o)
+invalidated_step d (Live t) o h =
+    record { root = with_elements (no_values h.root.dims) h.root; there = ap (option_map (λ (r : Root). with_elements (no_values r.dims) r)) h.there; dims = h.dims; tracks = tracks-invalidated t h.root h.tracks }
+invalidated_step d Ended o h = ap (option_map (λ (r : Root). with_elements (no_values r.dims) r)) h
+
+pub shows_invalidated : (old new : Names) (S : State) (r : RootNumber) → Shows old S → IsSet old new r (invalidated (standing_of old r)) → IsCounted new → Shows new (invalidate (name_of old.roots r) S)
+shows_invalidated old new S r h k counted =
+    shows_changed old new S r (invalidated (standing_of old r)) (λ (x : Root). with_elements (no_values x.dims) x) h k counted (over_invalidated (standing_of old r))
+    (invalidated_step (info_of old.roots r).dims (standing_of old r) (root_of S (name_of old.roots r)))
+
+-- ---- a root less
+
+less_by : (b : Bool) (d : Dims) (r : RootNumber) (o : Option Found) (y : Option Root) → IsFound o y → IsFound (cond b (Some (a_found r d Ended)) o) (cond b None y)
+less_by true d r o y h = refl
+less_by false d r o y h = h
+
+either : (b k : Bool) → cond b true k ≡ (b || k)
+either true k = refl
+either false k = refl
+
+ended_over : (b : Bool) (n : RootNumber) (d : Dims) (o : Option Found) → ended_from (cond b (Some (a_found n d Ended)) o) ≡ cond b true (ended_from o)
+ended_over true n d o = refl
+ended_over false n d o = refl
 
 pub shows_ended : (old new : Names) (S : State) (r : RootNumber) → Shows old S → IsSet old new r Ended → IsCounted new → Shows new (unregister (name_of old.roots r) S)
 shows_ended old new S r h k counted =
     let name = name_of old.roots r in
+    let d = (info_of old.roots r).dims in
+    let found : (q : List ℕ) → found_in new q ≡ cond (bytes_eq q name) (Some (a_found r d Ended)) (found_in old q) = λ q.
+    (λ i. found_with (k.roots i) (k.standings i) q) ∙ found-set old.roots old.standings.items r Ended q k.root k.below in
+    let gone : (q : List ℕ) → root_of (unregister name S) q ≡ cond (bytes_eq q name) None (root_of S q) = λ q.
+    map.get-remove nat_list_cmp_total S.roots name q ∙ ap (λ b. cond b None (root_of S q)) (sym (texts_ties q name)) in
     record {
       counted = counted;
       registered = ap (λ (T : Table). length T.names) k.roots ∙ h.registered;
       ended = λ q.
-          ap ended_from (found_set old new r Ended q k)
-          ∙ ended_over (bytes_eq q name) r (info_of old.roots r).dims (found_in old q)
+          ap ended_from (found q)
+          ∙ ended_over (bytes_eq q name) r d (found_in old q)
           ∙ ap (cond (bytes_eq q name) true) (h.ended q)
           ∙ either (bytes_eq q name) (list_any (bytes_eq q) S.ended);
-      known = λ q.
-          ap known_from (found_set old new r Ended q k)
-          ∙ known_over (bytes_eq q name) r (info_of old.roots r).dims (found_in old q)
-          ∙ less (bytes_eq q name) (known_in old q) (root_of S q) (h.known q)
-          ∙ ap (λ b. option_map known_of (cond b None (root_of S q))) (texts_ties q name)
-          ∙ ap (option_map known_of) (sym (map.get-remove nat_list_cmp_total S.roots name q));
-      filled = λ q x e. filled_less (eq_by_cmp (slice_cmp nat_cmp) q name) (root_of S q) x (h.filled q) (sym (map.get-remove nat_list_cmp_total S.roots name q) ∙ e);
+      found = λ q. subst (λ o. IsFound o (root_of (unregister name S) q)) (sym (found q))
+          (subst (IsFound (cond (bytes_eq q name) (Some (a_found r d Ended)) (found_in old q))) (sym (gone q)) (less_by (bytes_eq q name) d r (found_in old q) (root_of S q) (h.found q)));
     }
 
--- ---- other elements in place of a name's old ones
+-- ---- a root more
 
-abbrev with_elements : List (Option ℤ) → Root → Root
-with_elements es r = record { kind = r.kind; dims = r.dims; elements = es }
+ended_pushed : (b : Bool) (p : Parts) (i : Init) (n : RootNumber) (d : Dims) (o : Option Found) → (b ≡ true → o ≡ None) → ended_from (cond b (Some (a_found n d (first_standing p i))) o) ≡ ended_from o
+ended_pushed true p i n d o h = sym (ap ended_from (h refl))
+ended_pushed false p i n d o h = refl
 
-abbrev replaced : (Root → List (Option ℤ)) → List ℕ → State → Option Root → State
-replaced f name S o = elim o [
-  | None ↦ S
-  | Some r ↦ record { registered = S.registered; ended = S.ended; roots = map.insert S.roots name (with_elements (f r) r) }
-]
-
-abbrev with_valued : Bool → Known → Known
-with_valued v k = record { dims = k.dims; valued = v }
-
-by_test : (v b : Bool) (new r : Root) (o : Option Root) → known_of new ≡ with_valued v (known_of r) → (b ≡ true → o ≡ Some r) → option_map known_of (cond b (Some new) o) ≡ cond b (option_map (with_valued v) (option_map known_of o)) (option_map known_of o)
-by_test v true new r o e h = ap Some e ∙ sym (ap (λ o. option_map (with_valued v) (option_map known_of o)) (h refl))
-by_test v false new r o e h = refl
-
-missing : (v b : Bool) (o : Option Root) → (b ≡ true → o ≡ None) → option_map known_of o ≡ cond b (option_map (with_valued v) (option_map known_of o)) (option_map known_of o)
-missing v true o h = ap (option_map known_of) (h refl) ∙ sym (ap (λ o. option_map (with_valued v) (option_map known_of o)) (h refl))
-missing v false o h = refl
-
-replaced_shows : (v : Bool) (f : Root → List (Option ℤ)) (S : State) (name : List ℕ) (o : Option Root) → root_of S name ≡ o → ((r : Root) → root_of S name ≡ Some r → list_all is_some (f r) ≡ v) → (q : List ℕ) → shown (replaced f name S o) q ≡ revalued v name (shown S) q
-replaced_shows v f S name None e h q = missing v (bytes_eq q name) (root_of S q) (λ t. ap (root_of S) (same_text q name (sym t)) ∙ e)
-replaced_shows v f S name (Some r) e h q =
-    let new = with_elements (f r) r in
-    let kept : known_of new ≡ with_valued v (known_of r) = ap (λ v. let k : Known = record { dims = r.dims; valued = v } in k) (h r e) in
-    ap (option_map known_of) (map.get-insert nat_list_cmp_total S.roots name new q ∙ ap (λ b. cond b (Some new) (root_of S q)) (sym (texts_ties q name)))
-    ∙ by_test v (bytes_eq q name) new r (root_of S q) kept (λ t. ap (root_of S) (same_text q name (sym t)) ∙ e)
-
-replaced_filled : (f : Root → List (Option ℤ)) (S : State) (name : List ℕ) (o : Option Root) → root_of S name ≡ o → AreFilled S → AreFilled (replaced f name S o)
-replaced_filled f S name None e h = h
-replaced_filled f S name (Some r) e h = filled_insert S name (with_elements (f r) r) h (h name r e)
-
-replaced_counts : (f : Root → List (Option ℤ)) (S : State) (name : List ℕ) (o : Option Root) → ((replaced f name S o).registered ≡ S.registered) × ((replaced f name S o).ended ≡ S.ended)
-replaced_counts f S name None = (refl, refl)
-replaced_counts f S name (Some r) = (refl, refl)
-
--- the same name revalued in equal scopes
-revalued_same : (v : Bool) (name : List ℕ) (k l : List ℕ → Option Known) → ((q : List ℕ) → k q ≡ l q) → (q : List ℕ) → revalued v name k q ≡ revalued v name l q
-revalued_same v name k l h q = ap (λ o. cond (bytes_eq q name) (option_map (with_valued v) o) o) (h q)
-
-pub shows_invalidated : (old new : Names) (S : State) (name : List ℕ) → Shows old S → IsCounted new → new.roots ≡ old.roots → ((q : List ℕ) → ended_in new q ≡ ended_in old q) → ((q : List ℕ) → known_in new q ≡ revalued false name (known_in old) q) → Shows new (invalidate name S)
-shows_invalidated old new S name h counted k d u =
-    let f : Root → List (Option ℤ) = λ r. no_values r.dims in
-    let counts = replaced_counts f S name (root_of S name) in
+pub shows_registered : (old new : Names) (S : State) (name : List ℕ) (info : RootInfo) (init : Init) → IsSoundRegistration S (registration name info init) → Shows old S → root_in old.roots name ≡ None → length old.roots.infos ≡ length old.roots.names
+    → new.roots ≡ with_root name info old.roots → new.standings.items ≡ old.standings.items ++ first_standing info.parts init ∷ [] → IsCounted new → Shows new (register (registration name info init) S)
+shows_registered old new S name info init sound h none k e s counted =
+    let r = registration name info init in
+    let here = a_found (a_root (length old.roots.names)) info.dims (first_standing info.parts init) in
+    let count : length old.standings.items ≡ length old.roots.names = omega (arith, old.standings.ok, h.counted) in
+    let found : (q : List ℕ) → found_in new q ≡ cond (bytes_eq q name) (Some here) (found_in old q) = λ q.
+    (λ i. found_with (e i) (s i) q) ∙ found-pushed old.roots old.standings.items name info (first_standing info.parts init) q k count none in
+    let more : (q : List ℕ) → root_of (register r S) q ≡ cond (bytes_eq q name) (Some (registered_root r)) (root_of S q) = λ q.
+    map.get-insert nat_list_cmp_total S.roots name (registered_root r) q ∙ ap (λ b. cond b (Some (registered_root r)) (root_of S q)) (sym (texts_ties q name)) in
     record {
       counted = counted;
-      registered = ap (λ (T : Table). length T.names) k ∙ h.registered ∙ sym counts.0;
-      ended = λ q. d q ∙ h.ended q ∙ ap (list_any (bytes_eq q)) (sym counts.1);
-      known = λ q. u q ∙ revalued_same false name (known_in old) (shown S) h.known q ∙ sym (replaced_shows false f S name (root_of S name) refl (λ r e. none_some (area r.dims) (h.filled name r e)) q);
-      filled = replaced_filled f S name (root_of S name) refl h.filled;
+      registered = ap (λ (T : Table). length T.names) e ∙ length-append old.roots.names (name ∷ []) ∙ ap (λ m. m + 1) h.registered;
+      ended = λ q.
+          ap ended_from (found q)
+          ∙ ended_pushed (bytes_eq q name) info.parts init (a_root (length old.roots.names)) info.dims (found_in old q) (λ t. ap (found_in old) (same_text q name (sym t)) ∙ ap (option_map (entry old.roots old.standings.items)) none)
+          ∙ h.ended q;
+      found = λ q. subst (λ o. IsFound o (root_of (register r S) q)) (sym (found q))
+          (subst (IsFound (cond (bytes_eq q name) (Some here) (found_in old q))) (sym (more q))
+          (found_by (bytes_eq q name) here (found_in old q) (Some (registered_root r)) (root_of S q)
+          (λ t. record { root = registered_root r; there = refl; dims = refl; tracks = tracks-registered r sound.parts sound.values }) (h.found q)));
     }
 
 -- ---- what a task writes
 
-abbrev put_elements : Array → Root → List (Option ℤ)
-put_elements a r = each_of Some a.elements
+plan_written : (place : ℕ × ℕ) (st : Standing) → plan_in (child_written place st) ≡ plan_in st
+plan_written place (Live t) = refl
+plan_written place Ended = refl
 
-put_all_filled : (ns : List (List ℕ)) (arrays : List Array) (S : State) → AreFilled S → AreFilled (put_all ns arrays S)
-put_all_filled [] arrays S h = h
-put_all_filled (n ∷ ns) [] S h = h
-put_all_filled (n ∷ ns) (a ∷ arrays) S h = put_all_filled ns arrays (put n a S) (replaced_filled (put_elements a) S n (root_of S n) refl h)
+plan_set : (place : ℕ × ℕ) (sts : List Standing) (k n : ℕ) → k < length sts → plan_in (get_or (set sts k (child_written place (get_or sts k Ended))) n Ended) ≡ plan_in (get_or sts n Ended)
+plan_set place sts k n lt = elim (cases_eq n k) as (λ _. plan_in (get_or (set sts k (child_written place (get_or sts k Ended))) n Ended) ≡ plan_in (get_or sts n Ended)) [
+  | inl same ↦
+      let st = child_written place (get_or sts k Ended) in
+      ap (λ m. plan_in (get_or (set sts k st) m Ended)) same ∙ ap plan_in (get_or-set_same sts k st Ended lt) ∙ plan_written place (get_or sts k Ended) ∙ ap (λ m. plan_in (get_or sts m Ended)) (sym same)
+  | inr other ↦ ap plan_in (get_or-set_other sts k n (child_written place (get_or sts k Ended)) Ended other)
+]
 
-put_all_counts : (ns : List (List ℕ)) (arrays : List Array) (S : State) → ((put_all ns arrays S).registered ≡ S.registered) × ((put_all ns arrays S).ended ≡ S.ended)
-put_all_counts [] arrays S = (refl, refl)
-put_all_counts (n ∷ ns) [] S = (refl, refl)
-put_all_counts (n ∷ ns) (a ∷ arrays) S =
-    let e = put_all_counts ns arrays (put n a S) in
-    let f = replaced_counts (put_elements a) S n (root_of S n) in
+plan_cond : (b : Bool) (place : ℕ × ℕ) (sts : List Standing) (k n : ℕ) → k < length sts → plan_in (get_or (cond b (set sts k (child_written place (get_or sts k Ended))) sts) n Ended) ≡ plan_in (get_or sts n Ended)
+plan_cond true place sts k n lt = plan_set place sts k n lt
+plan_cond false place sts k n lt = refl
+
+length_cond : (b : Bool) (sts : List Standing) (k : ℕ) (st : Standing) → length (cond b (set sts k st) sts) ≡ length sts
+length_cond true sts k st = length-set sts k st
+length_cond false sts k st = refl
+
+pub length-written : (o : Access) (sts : List Standing) → length (after_write o sts) ≡ length sts
+length-written o sts = length_cond (is_written o.mode) sts o.root.0 (child_written o.place (get_or sts o.root.0 Ended))
+
+pub plan-written : (o : Access) (sts : List Standing) (n : ℕ) → o.root.0 < length sts → plan_in (get_or (after_write o sts) n Ended) ≡ plan_in (get_or sts n Ended)
+plan-written o sts n lt = plan_cond (is_written o.mode) o.place sts o.root.0 n lt
+
+-- an operand is of a root, and its place is one of the active plan
+pub record FitsIn (T : Table) (sts : List Standing) (o : Access) : Type 0 where
+  pub root : IsRoot T o.root
+  pub below : o.root.0 < length sts
+  pub place : IsPlaceIn (plan_in (get_or sts o.root.0 Ended)) o.place
+
+fits_written : (T : Table) (o p : Access) (sts : List Standing) → o.root.0 < length sts → FitsIn T sts p → FitsIn T (after_write o sts) p
+fits_written T o p sts lt h = record {
+  root = h.root;
+  below = subst (λ n. p.root.0 < n) (sym (length-written o sts)) h.below;
+  place = subst (λ x. IsPlaceIn x p.place) (sym (plan-written o sts p.root.0 lt)) h.place;
+}
+
+all_fit_written : (T : Table) (o : Access) (os : List Access) (sts : List Standing) → o.root.0 < length sts → AllByRecursion (FitsIn T sts) os → AllByRecursion (FitsIn T (after_write o sts)) os
+all_fit_written T o [] sts lt h = h
+all_fit_written T o (p ∷ os) sts lt h = (fits_written T o p sts lt h.0, all_fit_written T o os sts lt h.1)
+
+plans_kept : (T : Table) (os : List Access) (sts : List Standing) (n : ℕ) → AllByRecursion (FitsIn T sts) os → plan_in (get_or (after_writes os sts) n Ended) ≡ plan_in (get_or sts n Ended)
+plans_kept T [] sts n h = refl
+plans_kept T (o ∷ os) sts n h = plans_kept T os (after_write o sts) n (all_fit_written T o os sts h.0.below h.1) ∙ plan-written o sts n h.0.below
+
+written_step : (a : Array) (place : ℕ × ℕ) (d : Dims) (st : Standing) (o : Option Root) → IsPlaceIn (plan_in st) place → StandsFor d st o → StandsFor d (child_written place st) (option_map (with_child place a) o)
+written_step a place d (Live t) o at h =
+    record { root = with_child place a h.root; there = ap (option_map (with_child place a)) h.there; dims = h.dims; tracks = tracks-written place a t h.root h.tracks (subst (λ (p : Parts). IsPlace p place) h.tracks.parts at) }
+written_step a place d Ended o at h = ap (option_map (with_child place a)) h
+
+found_put : (T : Table) (sts : List Standing) (S : State) (o : Access) (a : Array) → FitsIn T sts o → AllFound T sts S → AllFound T (set sts o.root.0 (child_written o.place (get_or sts o.root.0 Ended))) (put (operand_seen T o) a S)
+found_put T sts S o a fit h =
+    found-changed T sts S o.root (child_written o.place (get_or sts o.root.0 Ended)) (with_child o.place a) fit.root fit.below h
+    (written_step a o.place (info_of T o.root).dims (get_or sts o.root.0 Ended) (root_of S (name_of T o.root)) fit.place)
+
+abbrev seen : Table → List Access → List Operand
+seen T os = each_of (operand_seen T) os
+
+-- with as many arrays as operands are written, the children of these have their values
+put_by : (T : Table) (b : Bool) (o : Access) (os : List Access) (arrays : List Array) (sts : List Standing) (S : State) → FitsIn T sts o → AllFound T sts S → length arrays ≡ length (cond b (operand_seen T o ∷ written_of (seen T os)) (written_of (seen T os)))
+    → ((xs : List Array) (us : List Standing) (U : State) → us ≡ cond b (set sts o.root.0 (child_written o.place (get_or sts o.root.0 Ended))) sts → AllFound T us U → length xs ≡ length (written_of (seen T os)) → AllFound T (after_writes os us) (put_all (written_of (seen T os)) xs U))
+    → AllFound T (after_writes os (cond b (set sts o.root.0 (child_written o.place (get_or sts o.root.0 Ended))) sts)) (put_all (cond b (operand_seen T o ∷ written_of (seen T os)) (written_of (seen T os))) arrays S)
+put_by T true o os [] sts S fit h l rest = absurd (omega (arith, l))
+put_by T true o os (a ∷ arrays) sts S fit h l rest = rest arrays _ (put (operand_seen T o) a S) refl (found_put T sts S o a fit h) (omega (arith, l))
+put_by T false o os arrays sts S fit h l rest = rest arrays sts S refl h l
+
+all_put : (T : Table) (os : List Access) (arrays : List Array) (sts : List Standing) (S : State) → AllByRecursion (FitsIn T sts) os → AllFound T sts S → length arrays ≡ length (written_of (seen T os)) → AllFound T (after_writes os sts) (put_all (written_of (seen T os)) arrays S)
+all_put T [] arrays sts S fit h l = h
+all_put T (o ∷ os) arrays sts S fit h l =
+    put_by T (is_written o.mode) o os arrays sts S fit.0 h l (λ xs us U e k m. all_put T os xs us U (subst (λ (zs : List Standing). AllByRecursion (FitsIn T zs) os) (sym e) (all_fit_written T o os sts fit.0.below fit.1)) k m)
+
+put_counts : (os : List Operand) (arrays : List Array) (S : State) → ((put_all os arrays S).registered ≡ S.registered) × ((put_all os arrays S).ended ≡ S.ended)
+put_counts [] arrays S = (refl, refl)
+put_counts (o ∷ os) [] S = (refl, refl)
+put_counts (o ∷ os) (a ∷ arrays) S =
+    let e = put_counts os arrays (put o a S) in
+    let f = counts_changed (with_child o.place a) S o.name in
     (e.0 ∙ f.0, e.1 ∙ f.1)
 
-put_shows : (S : State) (known : List ℕ → Option Known) (n : List ℕ) (a : Array) → ((q : List ℕ) → shown S q ≡ known q) → (q : List ℕ) → shown (put n a S) q ≡ revalued true n known q
-put_shows S known n a h q = replaced_shows true (put_elements a) S n (root_of S n) refl (λ r e. all_some a.elements) q ∙ revalued_same true n (shown S) known h q
-
--- with as many arrays as operands are written, these have their values
-put_by : (b : Bool) (o : Operand) (os : List Operand) (arrays : List Array) (S : State) (known : List ℕ → Option Known) → ((xs : List Array) (T : State) (k : List ℕ → Option Known) → ((q : List ℕ) → shown T q ≡ k q) → length xs ≡ length (written_names os) → (q : List ℕ) → shown (put_all (written_names os) xs T) q ≡ after_writes os k q) → ((q : List ℕ) → shown S q ≡ known q) → length arrays ≡ length (each_of (λ (p : Operand). p.name) (cond b (o ∷ filter (λ p. is_written p.mode) os) (filter (λ p. is_written p.mode) os))) → (q : List ℕ) → shown (put_all (each_of (λ (p : Operand). p.name) (cond b (o ∷ filter (λ p. is_written p.mode) os) (filter (λ p. is_written p.mode) os))) arrays S) q ≡ after_writes os (cond b (revalued true o.name known) known) q
-put_by true o os [] S known rest h l = absurd (omega (arith, l))
-put_by true o os (a ∷ arrays) S known rest h l = rest arrays (put o.name a S) (revalued true o.name known) (put_shows S known o.name a h) (omega (arith, l))
-put_by false o os arrays S known rest h l = rest arrays S known h l
-
-put_all_shows : (os : List Operand) (arrays : List Array) (S : State) (known : List ℕ → Option Known) → ((q : List ℕ) → shown S q ≡ known q) → length arrays ≡ length (written_names os) → (q : List ℕ) → shown (put_all (written_names os) arrays S) q ≡ after_writes os known q
-put_all_shows [] arrays S known h l = h
-put_all_shows (o ∷ os) arrays S known h l = put_by (is_written o.mode) o os arrays S known (λ xs T k. put_all_shows os xs T k) h l
-
-after_writes_same : (os : List Operand) (k l : List ℕ → Option Known) → ((q : List ℕ) → k q ≡ l q) → (q : List ℕ) → after_writes os k q ≡ after_writes os l q
-after_writes_same os k l h q = λ i. after_writes os (λ p. h p i) q
-
--- one operand more is noted
-pub written_more : (os : List Operand) (i : ℕ) (o : Operand) (k new : List ℕ → Option Known) → drop i os ≡ o ∷ drop (i + 1) os → ((q : List ℕ) → new q ≡ after_write o k q) → (q : List ℕ) → after_writes (drop (i + 1) os) new q ≡ after_writes (drop i os) k q
-written_more os i o k new e h q = after_writes_same (drop (i + 1) os) new (after_write o k) h q ∙ ap (λ l. after_writes l k q) (sym e)
-
-restood : (v : Bool) (d : Dims) (st : Standing) → known_by d (revalued_standing v st) ≡ option_map (with_valued v) (known_by d st)
-restood true d Valued = refl
-restood true d Unvalued = refl
-restood true d Ended = refl
-restood false d Valued = refl
-restood false d Unvalued = refl
-restood false d Ended = refl
-
-as_ended : (v : Bool) (n : RootNumber) (d : Dims) (st : Standing) → ended_from (Some (a_found n d (revalued_standing v st))) ≡ ended_from (Some (a_found n d st))
-as_ended true n d Valued = refl
-as_ended true n d Unvalued = refl
-as_ended true n d Ended = refl
-as_ended false n d Valued = refl
-as_ended false n d Unvalued = refl
-as_ended false n d Ended = refl
-
-known_again : (v b : Bool) (n : RootNumber) (d : Dims) (st : Standing) (o : Option Found) → (b ≡ true → o ≡ Some (a_found n d st)) → known_from (cond b (Some (a_found n d (revalued_standing v st))) o) ≡ cond b (option_map (with_valued v) (known_from o)) (known_from o)
-known_again v true n d st o h = restood v d st ∙ sym (ap (λ o. option_map (with_valued v) (known_from o)) (h refl))
-known_again v false n d st o h = refl
-
-ended_again : (v b : Bool) (n : RootNumber) (d : Dims) (st : Standing) (o : Option Found) → (b ≡ true → o ≡ Some (a_found n d st)) → ended_from (cond b (Some (a_found n d (revalued_standing v st))) o) ≡ ended_from o
-ended_again v true n d st o h = as_ended v n d st ∙ sym (ap ended_from (h refl))
-ended_again v false n d st o h = refl
-
-found_there : (old : Names) (r : RootNumber) (q : List ℕ) → IsRoot old.roots r → bytes_eq q (name_of old.roots r) ≡ true → found_in old q ≡ Some (a_found r (info_of old.roots r).dims (get_or old.standings.items r.0 Ended))
-found_there old r q h t =
-    ap (found_in old) (same_text q (name_of old.roots r) (sym t))
-    ∙ ap (option_map (λ (s : RootNumber). a_found s (info_of old.roots s).dims (get_or old.standings.items s.0 Ended))) h
-
--- what was set for a root that is valued or not
-pub known_revalued : (old new : Names) (r : RootNumber) (v : Bool) (q : List ℕ) → IsSet old new r (revalued_standing v (get_or old.standings.items r.0 Ended)) → known_in new q ≡ revalued v (name_of old.roots r) (known_in old) q
-known_revalued old new r v q h =
-    ap known_from (found_set old new r _ q h)
-    ∙ known_again v (bytes_eq q (name_of old.roots r)) r (info_of old.roots r).dims (get_or old.standings.items r.0 Ended) (found_in old q) (found_there old r q h.root)
-
-pub ended_revalued : (old new : Names) (r : RootNumber) (v : Bool) (q : List ℕ) → IsSet old new r (revalued_standing v (get_or old.standings.items r.0 Ended)) → ended_in new q ≡ ended_in old q
-ended_revalued old new r v q h =
-    ap ended_from (found_set old new r _ q h)
-    ∙ ended_again v (bytes_eq q (name_of old.roots r)) r (info_of old.roots r).dims (get_or old.standings.items r.0 Ended) (found_in old q) (found_there old r q h.root)
-
-pub shows_put : (old new : Names) (S : State) (os : List Operand) (arrays : List Array) → length arrays ≡ length (written_names os) → Shows old S → IsCounted new → new.roots ≡ old.roots → ((q : List ℕ) → ended_in new q ≡ ended_in old q) → ((q : List ℕ) → known_in new q ≡ after_writes os (known_in old) q) → Shows new (put_all (written_names os) arrays S)
-shows_put old new S os arrays l h counted k d u =
-    let counts = put_all_counts (written_names os) arrays S in
-    record {
-      counted = counted;
-      registered = ap (λ (T : Table). length T.names) k ∙ h.registered ∙ sym counts.0;
-      ended = λ q. d q ∙ h.ended q ∙ ap (list_any (bytes_eq q)) (sym counts.1);
-      known = λ q. u q ∙ sym (put_all_shows os arrays S (known_in old) (λ p. sym (h.known p)) l q);
-      filled = put_all_filled (written_names os) arrays S h.filled;
-    }
+fit_from : (T : Table) (sts : List Standing) (os : List Access) → ((k : ℕ) (d : Access) → k < length os → FitsIn T sts (get_or os k d)) → AllByRecursion (FitsIn T sts) os
+fit_from T sts [] h = tt
+fit_from T sts (o ∷ os) h = (h 0 o (omega arith), fit_from T sts os (λ k d lt. h (suc k) d (omega (arith, lt))))
 
 -- ---- whole scopes
+
+pub shows_put : (old new : Names) (S : State) (os : List Access) (arrays : List Array) → length arrays ≡ length (written_of (each_of (operand_seen old.roots) os)) → Shows old S → IsCounted new → new.roots ≡ old.roots → new.standings.items ≡ after_writes os old.standings.items
+    → ((k : ℕ) (d : Access) → k < length os → FitsIn old.roots old.standings.items (get_or os k d))
+    → Shows new (put_all (written_of (each_of (operand_seen old.roots) os)) arrays S)
+shows_put old new S os arrays l h counted roots standings fits =
+    let T = old.roots in
+    let sts = old.standings.items in
+    let all = fit_from T sts os fits in
+    let counts = put_counts (written_of (seen T os)) arrays S in
+    let found : (q : List ℕ) → found_in new q ≡ found_with T (after_writes os sts) q = λ q. (λ i. found_with (roots i) (standings i) q) in
+    record {
+      counted = counted;
+      registered = ap (λ (U : Table). length U.names) roots ∙ h.registered ∙ sym counts.0;
+      ended = λ q.
+          ap ended_from (found q)
+          ∙ ended_by T sts (after_writes os sts) (root_in T q) (λ n. over_plan (get_or (after_writes os sts) n Ended) ∙ ap unplanned (plans_kept T os sts n all) ∙ sym (over_plan (get_or sts n Ended)))
+          ∙ h.ended q ∙ ap (list_any (bytes_eq q)) (sym counts.1);
+      found = λ q. subst (λ o. IsFound o (root_of (put_all (written_of (seen T os)) arrays S) q)) (sym (found q)) (all_put T os arrays sts S all h.found l q);
+    }
 
 -- before the first statement
 pub sees_start : (new : Names) → new.statements ≡ 0 → new.roots ≡ table [] [] → new.standings.items ≡ [] → Sees new 0 start
@@ -326,11 +368,34 @@ sees_start new s e d =
         counted = omega (arith, new.standings.ok, ap length d, ap (λ (T : Table). length T.names) e);
         registered = ap (λ (T : Table). length T.names) e;
         ended = λ q. ap ended_from (nothing q);
-        known = λ q. ap known_from (nothing q) ∙ ap (option_map known_of) (sym (map.get-empty (slice_cmp nat_cmp) q));
-        filled = λ q r f. let empty : root_of start q ≡ None = map.get-empty (slice_cmp nat_cmp) q in absurd (cc);
+        found = λ q. subst (λ o. IsFound o (root_of start q)) (sym (nothing q)) (map.get-empty (slice_cmp nat_cmp) q);
       };
     }
 
--- the reasons see the same scope
-pub same_scope : (names : Names) (n : ℕ) (S : State) → Sees names n S → scope_in names ≡ scope_of n S
-same_scope names n S h = λ i. record { statements = h.statements i; registered = h.shows.registered i; ended = λ q. h.shows.ended q i; known = λ q. h.shows.known q i }
+-- a standing more
+pub written_more : (os : List Access) (i : ℕ) (o : Access) (now new : List Standing) → drop i os ≡ o ∷ drop (i + 1) os → new ≡ after_write o now → after_writes (drop (i + 1) os) new ≡ after_writes (drop i os) now
+written_more os i o now new e h = ap (after_writes (drop (i + 1) os)) h ∙ ap (λ l. after_writes l now) (sym e)
+
+-- ---- the list of standings
+
+-- the standing of a root that was read
+pub at-standing : (sts : List Standing) (k : ℕ) (st : Standing) → k < length sts → st ≡ get_or sts k st → st ≡ get_or sts k Ended
+at-standing sts k st lt e = get_or_read sts k st lt e Ended
+
+pub below-length : (names : Names) (r : RootNumber) → IsCounted names → IsRoot names.roots r → r.0 < length names.standings.items
+below-length names r counted root = omega (arith, names.standings.ok, counted, (is-at names.roots (name_of names.roots r) r root).below)
+
+pub fits-in : (names : Names) (o : Access) → IsCounted names → IsRoot names.roots o.root → IsPlaceIn (plan_in (standing_of names o.root)) o.place → FitsIn names.roots names.standings.items o
+fits-in names o counted root place = record { root = root; below = below-length names o.root counted root; place = place }
+
+pub counted-once : (old new : Names) (o : Access) → IsCounted old → new.roots ≡ old.roots → new.standings.items ≡ after_write o old.standings.items → IsCounted new
+counted-once old new o h roots standings =
+    omega (arith, h, old.standings.ok, new.standings.ok, ap length standings, length-written o old.standings.items, ap (λ (T : Table). length T.names) roots)
+
+length-all : (os : List Access) (sts : List Standing) → length (after_writes os sts) ≡ length sts
+length-all [] sts = refl
+length-all (o ∷ os) sts = length-all os (after_write o sts) ∙ length-written o sts
+
+pub counted-written : (old new : Names) (os : List Access) → IsCounted old → new.roots ≡ old.roots → new.standings.items ≡ after_writes os old.standings.items → IsCounted new
+counted-written old new os h roots standings =
+    omega (arith, h, old.standings.ok, new.standings.ok, ap length standings, length-all os old.standings.items, ap (λ (T : Table). length T.names) roots)

@@ -1,6 +1,6 @@
 -- An act that is allowed is sound.
-use Rattle.std.proofs.Common.{◌≡◌, ℕ, ◌≤◌, ◌*◌, ◌&&◌, ◌||◌, not, nat_le, Bool, true, false, List, [], ◌∷◌, map, refl, ap, ◌∙◌, sym, subst, Option, Some, None, option_map, is_some, Result, Ok, Err, cond, arith, ℤ, unwrap_or}
-use Rattle.std.specs.Prelude.{find, is_none}
+use Rattle.std.proofs.Common.{◌≡◌, ℕ, ◌≤◌, ◌<◌, ◌*◌, ◌&&◌, ◌||◌, not, nat_le, nat_lt, Bool, true, false, List, [], ◌∷◌, map, refl, ap, ◌∙◌, sym, subst, Option, Some, None, option_map, is_some, Result, Ok, Err, cond, arith, ℤ, unwrap_or}
+use Rattle.std.specs.Prelude.{find}
 use Rattle.std.specs.List.{list_all, list_any}
 use Rattle.std.proofs.lemmas.Bool.Decides.{nat_tests}
 use Rattle.std.proofs.lemmas.Nat.{mul-le}
@@ -11,11 +11,13 @@ use Rattle.sj_codelet.specs.declared.kernel.Kernel.{Kernel}
 use Rattle.sj_codelet.specs.Kernel.{kernels, kernel_of, codelet_of, has_name, formals_of, fits, fits_in}
 use Rattle.sj_codelet.specs.Runs.{formals_in}
 use Rattle.sj_codelet.proofs.Table.{kernel_of-codelet_of}
+use Rattle.sj_plan.specs.declared.parts.Parts.{Parts}
+use Rattle.sj_plan.specs.Parts.{Fits}
+use Rattle.sj_plan.specs.Rect.{child, dims_of as rect_dims}
 use Rattle.sj_job.specs.declared.job.Init.{Init}
 use Rattle.sj_job.specs.declared.job.Init.TheVariants.{Values, Fill, Nothing}
 use Rattle.sj_job.specs.Statement.{Register}
 use Rattle.sj_job.specs.Statement.{Operand}
-use Rattle.sj_job.specs.Statement.{TaskLine}
 use Rattle.sj_job.specs.Act.{Act}
 use Rattle.sj_job.specs.declared.reason.Reason.{Reason}
 use Rattle.sj_job.specs.declared.form.ArrayForm.{ArrayForm}
@@ -26,14 +28,15 @@ use Rattle.sj_job.specs.declared.form.Form.TheVariants as form
 use Rattle.sj_base.specs.declared.mode.Mode.{Mode}
 use Rattle.sj_base.specs.declared.mode.Mode.TheVariants.{R, W, RW, Scratch, Redux, Commute}
 use Rattle.sj_job.specs.declared.reason.Reason.TheVariants.{Word, Number, NotBuilt}
-use Rattle.sj_job.specs.Act.{Register as Registers, Task, Print, Invalidate, Unregister}
+use Rattle.sj_job.specs.Act.{Register as Registers, Plan, Task, Print, Invalidate, Unregister}
 use Rattle.sj_job.specs.Form.{form_of}
 use Rattle.sj_job.specs.Word.{integer}
-use Rattle.sj_job.specs.Sentence.{is_misplaced, is_numbered, is_built, is_built_mode, rows_of, cols_of, init_said, registered_by, operand_said, operands_said, priority_said, task_said, said_of, said}
-use Rattle.sj_job.specs.State.{State, Root, root_of, is_valued}
-use Rattle.sj_job.specs.Judge.{Scope, scope_of, is_begun, known_of, first_of, unless, judged_by, judged_call, judged_task, judged, kernel_named, register_reasons, line_reasons, print_reasons, name_reasons, operand_reasons, is_shaped, modes_fit, dims_in, is_side, is_outside, is_miscounted, is_unknown, is_ended, needs_value, lacks_value, is_priority}
+use Rattle.sj_job.specs.Sentence.{is_misplaced, is_numbered, is_built, is_built_mode, rows_of, cols_of, init_said, parts_said, index_said, registered_by, operand_said, operands_said, priority_said, task_said, said_of}
+use Rattle.sj_job.specs.State.{State, Root, root_of, is_valued, is_blank, is_child, child_rect, is_valued_child}
+use Rattle.sj_job.specs.Judge.{Scope, scope_of, is_begun, known_of, first_of, unless, judged_by, judged_call, judged_task, judged, kernel_named, register_reasons, line_reasons, print_reasons, name_reasons, plan_reasons, operand_reasons, is_shaped, modes_fit, dims_in, dims_known, is_child_said, is_crowded, is_cut, is_uncut, is_missing, is_lacking, child_lacks_value, is_side, is_outside, is_miscounted, is_unknown, is_ended, needs_value, lacks_value, is_priority}
 use Rattle.sj_job.specs.Well.{IsAllowed}
-use Rattle.sj_job.specs.Sound.{dims_of, has_root, has_values, is_plain, IsSoundTask, InitFits, IsSoundRegistration, IsSoundAct}
+use Rattle.sj_job.specs.Sound.{has_root, has_values, child_dims, has_child, has_child_values, is_plain, InitFits, IsSoundRegistration, IsSoundPlan, IsSoundAct}
+use Rattle.sj_job.proofs.Children.{said-child}
 
 -- ---- tests
 
@@ -110,16 +113,34 @@ not_taken : (o : Option Root) → is_some (option_map known_of o) ≡ false → 
 not_taken None e = refl
 not_taken (Some r) e = absurd (cc)
 
-sound_registration : (n : ℕ) (S : State) (a : ArrayForm) → first_of (register_reasons (scope_of n S) a.name (rows_of a.size) (cols_of a.size) (init_said a.init)) ≡ None → IsSoundRegistration S (registered_by a)
+-- a plan that cuts an array into parts, none of them empty, and not too many
+small_enough : (n : ℕ) → nat_lt 4096 n ≡ false → n ≤ 4096
+small_enough n e = grind (arith, nat_tests)
+
+some_part : (n p : ℕ) → nat_le 1 p ≡ true → 0 < p
+some_part n p e = grind (arith, nat_tests)
+
+part_enough : (n p : ℕ) → nat_le p n ≡ true → p ≤ n
+part_enough n p e = grind (arith, nat_tests)
+
+pub fits_from : (d : Dims) (p : Parts) → is_crowded p ≡ false → is_uncut d p ≡ false → Fits p d
+fits_from d p crowded uncut =
+    let h = and_parts (is_cut d.rows p.r) (is_cut d.cols p.c) (not_false _ uncut) in
+    let r = and_parts (nat_le 1 p.r) (nat_le p.r d.rows) h.0 in
+    let c = and_parts (nat_le 1 p.c) (nat_le p.c d.cols) h.1 in
+    record { some_rows = some_part d.rows p.r r.0; rows = part_enough d.rows p.r r.1; some_cols = some_part d.cols p.c c.0; cols = part_enough d.cols p.c c.1; few = small_enough (p.r * p.c) crowded }
+
+sound_registration : (n : ℕ) (S : State) (a : ArrayForm) → first_of (register_reasons (scope_of n S) a.name (registered_by a).dims (parts_said a.parts) (init_said a.init)) ≡ None → IsSoundRegistration S (registered_by a)
 sound_registration n S a e =
-    let h = none_hold (register_reasons (scope_of n S) a.name (rows_of a.size) (cols_of a.size) (init_said a.init)) e in
+    let h = none_hold (register_reasons (scope_of n S) a.name (registered_by a).dims (parts_said a.parts) (init_said a.init)) e in
     let i = inside (rows_of a.size) (cols_of a.size) h.1.1.0 in
     record {
       rows = i.rows_in;
       cols = i.cols_in;
       elements = i.few;
-      values = fits_init (init_said a.init) (rows_of a.size) (cols_of a.size) h.1.1.1.1.1.0;
-      fresh = not_taken (root_of S a.name) h.1.1.1.1.0;
+      parts = fits_from (registered_by a).dims (parts_said a.parts) h.1.1.1.0 h.1.1.1.1.1.1.0;
+      values = fits_init (init_said a.init) (rows_of a.size) (cols_of a.size) h.1.1.1.1.1.1.1.0;
+      fresh = not_taken (root_of S a.name) h.1.1.1.1.1.0;
     }
 
 -- ---- names
@@ -131,7 +152,7 @@ root_by (Some r) ended e h = refl
 there : (n : ℕ) (S : State) (name : List ℕ) → is_unknown (scope_of n S) name ≡ false → is_ended (scope_of n S) name ≡ false → has_root S name ≡ true
 there n S name e h = root_by (root_of S name) (is_ended (scope_of n S) name) e h
 
-values_by : (o : Option Root) → (elim (option_map known_of o) as (λ _. Bool) [ None ↦ false | Some k ↦ not k.valued ]) ≡ false → is_some o ≡ true → (elim o as (λ _. Bool) [ None ↦ false | Some r ↦ is_valued r ]) ≡ true
+values_by : (o : Option Root) → (elim (option_map known_of o) as (λ _. Bool) [ None ↦ false | Some k ↦ not k.all ]) ≡ false → is_some o ≡ true → (elim o as (λ _. Bool) [ None ↦ false | Some r ↦ is_valued r ]) ≡ true
 values_by None e h = absurd (cc)
 values_by (Some r) e h = not_false (is_valued r) e
 
@@ -144,26 +165,55 @@ sound_name n S name e = let h = none_hold (name_reasons (scope_of n S) name) e i
 sound_print : (n : ℕ) (S : State) (name : List ℕ) → first_of (print_reasons (scope_of n S) name) ≡ None → has_values S name ≡ true
 sound_print n S name e = let h = none_hold (print_reasons (scope_of n S) name) e in valued n S name h.1.1.1.0 (there n S name h.1.0 h.1.1.0)
 
+-- ---- plans
+
+dims_by : (o : Option Root) → (elim (option_map known_of o) as (λ _. Dims) [ None ↦ record { rows = 0; cols = 0 } | Some k ↦ k.dims ]) ≡ (elim o as (λ _. Dims) [ None ↦ record { rows = 0; cols = 0 } | Some r ↦ r.dims ])
+dims_by None = refl
+dims_by (Some r) = refl
+
+even_by : (o : Option Root) → (elim (option_map known_of o) as (λ _. Bool) [ None ↦ false | Some k ↦ not (k.all || k.none) ]) ≡ false → is_some o ≡ true → ((elim o as (λ _. Bool) [ None ↦ false | Some r ↦ is_valued r ]) || (elim o as (λ _. Bool) [ None ↦ false | Some r ↦ is_blank r ])) ≡ true
+even_by None e h = absurd (cc)
+even_by (Some r) e h = not_false (is_valued r || is_blank r) e
+
+sound_plan : (n : ℕ) (S : State) (name : List ℕ) (p : Parts) → first_of (plan_reasons (scope_of n S) name p) ≡ None → IsSoundPlan S name p
+sound_plan n S name p e =
+    let h = none_hold (plan_reasons (scope_of n S) name p) e in
+    let rooted = there n S name h.1.1.0 h.1.1.1.0 in
+    record {
+      rooted = rooted;
+      parts = subst (Fits p) (dims_by (root_of S name)) (fits_from (dims_known (scope_of n S) name) p h.1.0 h.1.1.1.1.0);
+      even = even_by (root_of S name) h.1.1.1.1.1.0 rooted;
+    }
+
 -- ---- tasks
 
-all_there : (n : ℕ) (S : State) (os : List Operand) → list_any (λ o. is_unknown (scope_of n S) o.name) os ≡ false → list_any (λ o. is_ended (scope_of n S) o.name) os ≡ false → list_all (λ o. has_root S o.name) os ≡ true
-all_there n S [] e h = refl
-all_there n S (o ∷ os) e h =
-    let p = or_parts (is_unknown (scope_of n S) o.name) (list_any (λ o. is_unknown (scope_of n S) o.name) os) e in
-    let q = or_parts (is_ended (scope_of n S) o.name) (list_any (λ o. is_ended (scope_of n S) o.name) os) h in
-    both (has_root S o.name) (list_all (λ o. has_root S o.name) os) (there n S o.name p.0 q.0) (all_there n S os p.1 q.1)
+placed_by : (o : Option Root) (index : Option (ℕ × ℕ)) → (elim (option_map known_of o) as (λ _. Bool) [ None ↦ false | Some k ↦ not (is_child_said k.parts index) ]) ≡ false → is_some o ≡ true → (elim o as (λ _. Bool) [ None ↦ false | Some r ↦ is_child r.parts (unwrap_or index (0, 0)) ]) ≡ true
+placed_by None index e h = absurd (cc)
+placed_by (Some r) index e h = said-child r.parts index (not_false (is_child_said r.parts index) e)
+
+all_placed : (n : ℕ) (S : State) (os : List OperandForm) → list_any (λ o. is_unknown (scope_of n S) o.name) (map operand_said os) ≡ false → list_any (λ o. is_ended (scope_of n S) o.name) (map operand_said os) ≡ false → list_any (is_missing (scope_of n S)) os ≡ false → list_all (has_child S) (map operand_said os) ≡ true
+all_placed n S [] e h k = refl
+all_placed n S (o ∷ os) e h k =
+    let p = or_parts (is_unknown (scope_of n S) o.name) (list_any (λ o. is_unknown (scope_of n S) o.name) (map operand_said os)) e in
+    let q = or_parts (is_ended (scope_of n S) o.name) (list_any (λ o. is_ended (scope_of n S) o.name) (map operand_said os)) h in
+    let m = or_parts (is_missing (scope_of n S) o) (list_any (is_missing (scope_of n S)) os) k in
+    both (has_child S (operand_said o)) (list_all (has_child S) (map operand_said os)) (placed_by (root_of S o.name) (index_said o.child) m.0 (there n S o.name p.0 q.0)) (all_placed n S os p.1 q.1 m.1)
 
 needed_by : (b l v : Bool) → (b && l) ≡ false → (l ≡ false → v ≡ true) → (not b || v) ≡ true
 needed_by true l v e h = h e
 needed_by false l v e h = refl
 
-all_valued : (n : ℕ) (S : State) (os : List Operand) → list_any (λ o. needs_value o.mode && lacks_value (scope_of n S) o.name) os ≡ false → list_all (λ o. has_root S o.name) os ≡ true → list_all (λ o. not (needs_value o.mode) || has_values S o.name) os ≡ true
+child_values_by : (o : Option Root) (place : ℕ × ℕ) → (elim o as (λ _. Bool) [ None ↦ false | Some r ↦ is_child r.parts place ]) ≡ true → (elim (option_map known_of o) as (λ _. Bool) [ None ↦ false | Some k ↦ not (k.child place) ]) ≡ false → (elim o as (λ _. Bool) [ None ↦ false | Some r ↦ is_valued_child r place ]) ≡ true
+child_values_by None place h e = absurd (cc)
+child_values_by (Some r) place h e = not_false (is_valued_child r place) e
+
+all_valued : (n : ℕ) (S : State) (os : List Operand) → list_any (is_lacking (scope_of n S)) os ≡ false → list_all (has_child S) os ≡ true → list_all (λ o. not (needs_value o.mode) || has_child_values S o) os ≡ true
 all_valued n S [] e h = refl
 all_valued n S (o ∷ os) e h =
-    let p = or_parts (needs_value o.mode && lacks_value (scope_of n S) o.name) (list_any (λ o. needs_value o.mode && lacks_value (scope_of n S) o.name) os) e in
-    let q = and_parts (has_root S o.name) (list_all (λ o. has_root S o.name) os) h in
-    both (not (needs_value o.mode) || has_values S o.name) (list_all (λ o. not (needs_value o.mode) || has_values S o.name) os)
-    (needed_by (needs_value o.mode) (lacks_value (scope_of n S) o.name) (has_values S o.name) p.0 (λ l. valued n S o.name l q.0)) (all_valued n S os p.1 q.1)
+    let p = or_parts (is_lacking (scope_of n S) o) (list_any (is_lacking (scope_of n S)) os) e in
+    let q = and_parts (has_child S o) (list_all (has_child S) os) h in
+    both (not (needs_value o.mode) || has_child_values S o) (list_all (λ o. not (needs_value o.mode) || has_child_values S o) os)
+    (needed_by (needs_value o.mode) (child_lacks_value (scope_of n S) o) (has_child_values S o) p.0 (child_values_by (root_of S o.name) o.place q.0)) (all_valued n S os p.1 q.1)
 
 found_here : (p : Kernel → Bool) (x : Kernel) (ks : List Kernel) (k : Kernel) (b : Bool) → (find p ks ≡ Some k → p k ≡ true) → p x ≡ b → cond b (Some x) (find p ks) ≡ Some k → p k ≡ true
 found_here p x ks k true rest h e = let same : x ≡ k = cc in subst (λ j. p j ≡ true) same h
@@ -173,14 +223,14 @@ pub found_passes : (p : Kernel → Bool) (ks : List Kernel) (k : Kernel) → fin
 found_passes p [] k e = absurd (cc)
 found_passes p (x ∷ ks) k e = found_here p x ks k (p x) (found_passes p ks k) refl e
 
-by_root : (o : Option Root) → (elim (option_map known_of o) as (λ _. Dims) [ None ↦ record { rows = 0; cols = 0 } | Some k ↦ k.dims ]) ≡ (elim o as (λ _. Dims) [ None ↦ record { rows = 0; cols = 0 } | Some r ↦ r.dims ])
-by_root None = refl
-by_root (Some r) = refl
+by_root : (o : Option Root) (place : ℕ × ℕ) → (elim (option_map known_of o) as (λ _. Dims) [ None ↦ record { rows = 0; cols = 0 } | Some k ↦ rect_dims (child k.dims k.parts place) ]) ≡ (elim o as (λ _. Dims) [ None ↦ record { rows = 0; cols = 0 } | Some r ↦ rect_dims (child_rect r place) ])
+by_root None place = refl
+by_root (Some r) place = refl
 
-dims_seen : (k : ℕ) (S : State) (o : Operand) → dims_in (scope_of k S) o ≡ dims_of S o.name
-dims_seen k S o = by_root (root_of S o.name)
+dims_seen : (k : ℕ) (S : State) (o : Operand) → dims_in (scope_of k S) o ≡ child_dims S o
+dims_seen k S o = by_root (root_of S o.name) o.place
 
-all_dims_seen : (k : ℕ) (S : State) (os : List Operand) → map (dims_in (scope_of k S)) os ≡ map (λ o. dims_of S o.name) os
+all_dims_seen : (k : ℕ) (S : State) (os : List Operand) → map (dims_in (scope_of k S)) os ≡ map (child_dims S) os
 all_dims_seen k S os = λ i. map (λ o. dims_seen k S o i) os
 
 fits_known : (has : Kernel → Bool) (id : Codelet) (args : List ℤ) (ds : List Dims) (k : Kernel) → kernel_of id ≡ Some k → has k ≡ true → fits k args ds ≡ true → fits_in has id args ds ≡ true
@@ -197,11 +247,11 @@ plain_mode Scratch e = refl
 plain_mode Redux e = absurd (cc)
 plain_mode Commute e = absurd (cc)
 
-plain_operands : (os : List OperandForm) → list_all (λ o. is_none o.child && is_built_mode o.mode) os ≡ true → list_all (λ p. is_plain p.mode) (map operand_said os) ≡ true
+plain_operands : (os : List OperandForm) → list_all (λ o. is_built_mode o.mode) os ≡ true → list_all (λ p. is_plain p.mode) (map operand_said os) ≡ true
 plain_operands [] e = refl
 plain_operands (o ∷ os) e =
-    let p = and_parts (is_none o.child && is_built_mode o.mode) (list_all (λ o. is_none o.child && is_built_mode o.mode) os) e in
-    both (is_plain o.mode) (list_all (λ p. is_plain p.mode) (map operand_said os)) (plain_mode o.mode (and_parts (is_none o.child) (is_built_mode o.mode) p.0).1) (plain_operands os p.1)
+    let p = and_parts (is_built_mode o.mode) (list_all (λ o. is_built_mode o.mode) os) e in
+    both (is_plain o.mode) (list_all (λ p. is_plain p.mode) (map operand_said os)) (plain_mode o.mode p.0) (plain_operands os p.1)
 
 -- a task against which there is no reason
 pub record IsJudged (has : Kernel → Bool) (s : Scope) (t : TaskForm) (act : Act) : Type 0 where
@@ -209,12 +259,12 @@ pub record IsJudged (has : Kernel → Bool) (s : Scope) (t : TaskForm) (act : Ac
   pub named : kernel_named has t.codelet ≡ Some kernel
   pub is : Task (task_said kernel t) ≡ act
   pub line : first_of (line_reasons s (priority_said t.priority) (operands_said t)) ≡ None
-  pub operands : first_of (operand_reasons s kernel (map integer t.args) (operands_said t)) ≡ None
+  pub operands : first_of (operand_reasons s kernel (map integer t.args) t.operands (operands_said t)) ≡ None
 
 by_kernel : (has : Kernel → Bool) (s : Scope) (t : TaskForm) (act : Act) (o : Option Kernel) → kernel_named has t.codelet ≡ o → first_of (line_reasons s (priority_said t.priority) (operands_said t)) ≡ None → judged_call s o t ≡ Ok act → IsJudged has s t act
 by_kernel has s t act None n l e = absurd (cc)
 by_kernel has s t act (Some k) n l e =
-    let p = unless_parts (first_of (operand_reasons s k (map integer t.args) (operands_said t))) (Task (task_said k t)) act e in
+    let p = unless_parts (first_of (operand_reasons s k (map integer t.args) t.operands (operands_said t))) (Task (task_said k t)) act e in
     record { kernel = k; named = n; is = p.1; line = l; operands = p.0 }
 
 pub judged-task : (has : Kernel → Bool) (s : Scope) (t : TaskForm) (act : Act) → judged_task has s t ≡ Ok act → IsJudged has s t act
@@ -228,17 +278,17 @@ sound_task has n S t act b j =
     let os = operands_said t in
     let args = map integer t.args in
     let l = none_hold (line_reasons (scope_of n S) (priority_said t.priority) os) j.line in
-    let h = none_hold (operand_reasons (scope_of n S) k args os) j.operands in
+    let h = none_hold (operand_reasons (scope_of n S) k args t.operands os) j.operands in
     let has_k = (and_parts (has k) (has_name t.codelet k) (found_passes (λ k. has k && has_name t.codelet k) kernels k j.named)).0 in
-    let shaped = and_parts (modes_fit (formals_of k) os) (fits k args (map (dims_in (scope_of n S)) os)) (not_false (is_shaped (scope_of n S) k args os) h.1.0) in
-    let rooted = all_there n S os l.1.1.0 l.1.1.1.0 in
+    let shaped = and_parts (modes_fit (formals_of k) os) (fits k args (map (dims_in (scope_of n S)) os)) (not_false (is_shaped (scope_of n S) k args os) h.1.1.0) in
+    let placed = all_placed n S t.operands l.1.1.0 l.1.1.1.0 h.1.0 in
     subst (IsSoundAct has S) j.is (record {
-      fits = fits_known has (codelet_of k) args (map (λ o. dims_of S o.name) os) k (kernel_of-codelet_of k) has_k (ap (fits k args) (sym (all_dims_seen n S os)) ∙ shaped.1);
+      fits = fits_known has (codelet_of k) args (map (child_dims S) os) k (kernel_of-codelet_of k) has_k (ap (fits k args) (sym (all_dims_seen n S os)) ∙ shaped.1);
       modes = formals_known (codelet_of k) os k (kernel_of-codelet_of k) shaped.0;
       plain = plain_operands t.operands b;
-      apart = h.1.1.0;
-      rooted = rooted;
-      valued = all_valued n S os h.1.1.1.0 rooted;
+      apart = h.1.1.1.0;
+      placed = placed;
+      valued = all_valued n S os h.1.1.1.1.0 placed;
       priority = not_false (is_priority (priority_said t.priority)) l.1.0;
     })
 
@@ -249,9 +299,11 @@ sound_from_judged has n S (form.Workers w) act b e = absurd (cc)
 sound_from_judged has n S (form.Node w) act b e = absurd (cc)
 sound_from_judged has n S (form.Policy p) act b e = absurd (cc)
 sound_from_judged has n S (form.Register a) act b e =
-    let p = unless_parts (first_of (register_reasons (scope_of n S) a.name (rows_of a.size) (cols_of a.size) (init_said a.init))) (Registers (registered_by a)) act e in
+    let p = unless_parts (first_of (register_reasons (scope_of n S) a.name (registered_by a).dims (parts_said a.parts) (init_said a.init))) (Registers (registered_by a)) act e in
     subst (IsSoundAct has S) p.1 (sound_registration n S a p.0)
-sound_from_judged has n S (form.Plan name r c) act b e = absurd (cc)
+sound_from_judged has n S (form.Plan name r c) act b e =
+    let parts = parts_said (Some (r, c)) in
+    let p = unless_parts (first_of (plan_reasons (scope_of n S) name parts)) (Plan name parts) act e in subst (IsSoundAct has S) p.1 (sound_plan n S name parts p.0)
 sound_from_judged has n S (form.Redux name by) act b e = absurd (cc)
 sound_from_judged has n S (form.Task t) act b e = sound_task has n S t act b (judged-task has (scope_of n S) t act e)
 sound_from_judged has n S (form.Print name) act b e =

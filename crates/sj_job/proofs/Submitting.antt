@@ -1,11 +1,10 @@
 -- What forms do, and that the names follow.
-use Rattle.std.proofs.Common.{◌≡◌, ℕ, ◌+◌, ◌<◌, not, ◌&&◌, Bool, true, false, List, [], ◌∷◌, ◌++◌, length, map, get_or, Option, Some, None, is_some, cond, refl, ap, sym, subst, ◌∙◌, arith, Result, Ok, Err, All, length-append}
-use Rattle.std.specs.Prelude.{is_none, IfOk, IfErr}
-use Rattle.std.specs.List.{list_all}
+use Rattle.std.proofs.Common.{◌≡◌, ℕ, ◌+◌, not, ◌&&◌, Bool, true, false, List, [], ◌∷◌, ◌++◌, length, get_or, Some, None, cond, refl, ap, sym, subst, ◌∙◌, arith, Result, Ok, Err, All, length-append}
+use Rattle.std.specs.Prelude.{IfOk, IfErr}
 use Rattle.std.proofs.Math.Seq.{get_or-append_seam}
 use Rattle.sj_base.specs.declared.ids.Root.{Root as RootNumber}
-use Rattle.sj_base.specs.declared.tile.Dims.{Dims}
 use Rattle.sj_codelet.specs.declared.kernel.Kernel.{Kernel}
+use Rattle.sj_plan.specs.declared.parts.Parts.{Parts}
 use Rattle.sj_job.specs.declared.form.ArrayForm.{ArrayForm}
 use Rattle.sj_job.specs.declared.form.TaskForm.{TaskForm}
 use Rattle.sj_job.specs.declared.form.Form.{Form}
@@ -15,26 +14,25 @@ use Rattle.sj_job.specs.declared.job.RootInfo.{RootInfo}
 use Rattle.sj_job.specs.declared.job.TaskLine.{TaskLine as KeptTask}
 use Rattle.sj_job.specs.declared.job.Act.{Act as KeptAct}
 use Rattle.sj_job.specs.declared.job.Act.TheVariants as kept
-use Rattle.sj_job.specs.declared.names.Found.{Found}
 use Rattle.sj_job.specs.declared.names.Names.{Names}
 use Rattle.sj_job.specs.declared.reason.Reason.{Reason}
 use Rattle.sj_job.specs.declared.reason.Reason.TheVariants.{Word, Number, NotBuilt}
 use Rattle.sj_job.specs.Statement.{Register as Registration}
-use Rattle.sj_job.specs.Act.{Act, Register, Task, Print, Invalidate, Unregister}
-use Rattle.sj_job.specs.Sentence.{is_numbered, is_built, is_misplaced, is_numbered_array, is_numbered_task, kind_of, rows_of, cols_of, init_said, registered_by, said_of}
-use Rattle.sj_job.specs.State.{State}
-use Rattle.sj_job.specs.Meaning.{apply, register, run_task, invalidate, unregister}
-use Rattle.sj_job.specs.Sound.{IsSoundAct, IsSoundTask, IsSoundRegistration}
-use Rattle.sj_job.specs.Judge.{Scope, scope_of, is_begun, first_of, unless, judged, judged_task, register_reasons, print_reasons, name_reasons}
-use Rattle.sj_job.specs.Table.{Table, table, a_root, no_info, name_of, info_of, IsRoot, with_root}
+use Rattle.sj_job.specs.Act.{Act, Register, Plan, Task, Print, Invalidate, Unregister}
+use Rattle.sj_job.specs.Sentence.{is_numbered, is_built, is_misplaced, is_numbered_array, is_numbered_task, kind_of, rows_of, cols_of, init_said, parts_said, registered_by, said_of}
+use Rattle.sj_job.specs.Word.{is_count, count}
+use Rattle.sj_job.specs.State.{State, plan_with}
+use Rattle.sj_job.specs.Meaning.{apply, register, run_task, plan, invalidate, unregister}
+use Rattle.sj_job.specs.Sound.{IsSoundAct, IsSoundTask, IsSoundRegistration, IsSoundPlan}
+use Rattle.sj_job.specs.Judge.{Scope, scope_of, is_begun, first_of, unless, judged, judged_task, register_reasons, plan_reasons, print_reasons, name_reasons}
+use Rattle.sj_job.specs.Table.{Table, table, no_info, name_of, root_in, IsRoot, with_root}
 use Rattle.sj_job.specs.View.{registration, task_seen, act_seen, count_after, IsPlaced, Extends}
-use Rattle.sj_job.specs.Names.{scope_in, found_in}
+use Rattle.sj_job.specs.Names.{scope_in}
 use Rattle.sj_job.specs.Sees.{Sees}
 use Rattle.sj_job.specs.Submits.{done_in, act_noted, Notes, Submits}
-use Rattle.sj_job.proofs.Places.{is-at, is-root}
+use Rattle.sj_job.proofs.Places.{is-at}
 use Rattle.sj_job.proofs.Seen.{same_scope}
 use Rattle.sj_job.proofs.Sounding.{sound_from_judged, said-built}
-use Rattle.sj_job.proofs.Targets.{found-root}
 
 pub weaker_ok : {A E : Type 0} {P Q : A → Type 0} (r : Result A E) → ((a : A) → P a → Q a) → IfOk r P → IfOk r Q
 weaker_ok (Ok a) f h = f a h
@@ -68,11 +66,7 @@ sound_done has old n S f act h e =
 -- ---- registrations
 
 abbrev pub info_by : ArrayForm → RootInfo
-info_by a = record { kind = kind_of a.size; dims = record { rows = rows_of a.size; cols = cols_of a.size } }
-
-pub none_is : {A : Type 0} (o : Option A) → is_some o ≡ false → is_none o ≡ true
-none_is None e = refl
-none_is (Some x) e = absurd (cc)
+info_by a = record { kind = kind_of a.size; dims = record { rows = rows_of a.size; cols = cols_of a.size }; parts = parts_said a.parts }
 
 pub all_numbered : (a b c : Bool) → a ≡ true → b ≡ true → c ≡ true → (a && b && c) ≡ true
 all_numbered a b c x y z = λ i. x i && y i && z i
@@ -89,8 +83,7 @@ pub record Registers (old new : Names) (a : ArrayForm) (name : List ℕ) (info :
   pub info_is : info ≡ info_by a
   pub init_is : init ≡ init_said a.init
   pub numbered : is_numbered_array a ≡ true
-  pub built : is_none a.parts ≡ true
-  pub unopposed : first_of (register_reasons (scope_in old) a.name (rows_of a.size) (cols_of a.size) (init_said a.init)) ≡ None
+  pub unopposed : first_of (register_reasons (scope_in old) a.name (info_by a).dims (parts_said a.parts) (init_said a.init)) ≡ None
   pub whole : length old.roots.infos ≡ length old.roots.names
   pub roots : new.roots ≡ with_root name info old.roots
   pub sees : (n : ℕ) (S : State) → Sees old n S → IsSoundRegistration S (registration name info init) → Sees new (n + 1) (register (registration name info init) S)
@@ -100,7 +93,7 @@ registers has old new a name info init h =
     let said : registered_by a ≡ registration name info init = λ i. registration (sym h.name_is i) (sym h.info_is i) (sym h.init_is i) in
     let seen : act_noted old new (kept.Register init) ≡ Register (registration name info init) = ap (λ (T : Table). act_seen T (length old.roots.names) (kept.Register init)) h.roots ∙ last_seen old.roots name info init h.whole in
     let done : done_in has (scope_in old) (form.Register a) ≡ Ok (Register (registered_by a)) =
-    done_placed has (scope_in old) (form.Register a) refl h.numbered h.built ∙ ap (λ o. unless o (Register (registered_by a))) h.unopposed in
+    done_placed has (scope_in old) (form.Register a) refl h.numbered refl ∙ ap (λ o. unless o (Register (registered_by a))) h.unopposed in
     record {
       act = done ∙ ap (λ r. Ok (Register r)) said ∙ ap Ok (sym seen);
       notes = record {
@@ -150,47 +143,63 @@ runs has old new t line h =
       };
     }
 
-pub found-is-root : (old : Names) (q : List ℕ) (f : Found) → found_in old q ≡ Some f → IsRoot old.roots f.root
-found-is-root old q f e = is-root old.roots q f.root (found-root old q f e)
+named_as : (old : Names) (q : List ℕ) (r : RootNumber) → root_in old.roots q ≡ Some r → name_of old.roots r ≡ q
+named_as old q r e = (is-at old.roots q r e).named
 
-pub found-named : (old : Names) (q : List ℕ) (f : Found) → found_in old q ≡ Some f → name_of old.roots f.root ≡ q
-found-named old q f e = (is-at old.roots q f.root (found-root old q f e)).named
+-- what is noted of an act that registers nothing
+noted : (old new : Names) (a : KeptAct) → IsPlaced (length old.roots.names) a → count_after (length old.roots.names) a ≡ length old.roots.names → new.roots ≡ old.roots → ((n : ℕ) (S : State) → Sees old n S → Sees new (n + 1) (apply (act_noted old new a) S)) → Notes old new a
+noted old new a placed same roots sees = record {
+  placed = placed;
+  counted = ap (λ (T : Table). length T.names) roots ∙ sym same;
+  kept = same_table old new roots;
+  whole = same_whole old new roots;
+  sees = sees;
+}
 
-found-below : (old : Names) (q : List ℕ) (f : Found) → found_in old q ≡ Some f → f.root.0 < length old.roots.names
-found-below old q f e = (is-at old.roots q f.root (found-root old q f e)).below
-
-pub printed : (has : Kernel → Bool) (old new : Names) (q : List ℕ) (f : Found) → found_in old q ≡ Some f → first_of (print_reasons (scope_in old) q) ≡ None → new.roots ≡ old.roots → ((n : ℕ) (S : State) → Sees old n S → Sees new (n + 1) S) → Submits has old (form.Print q) new (kept.Print f.root)
-printed has old new q f e none roots sees =
-    let named : name_of new.roots f.root ≡ q = ap (λ (T : Table). name_of T f.root) roots ∙ found-named old q f e in
+pub printed : (has : Kernel → Bool) (old new : Names) (q : List ℕ) (r : RootNumber) → root_in old.roots q ≡ Some r → first_of (print_reasons (scope_in old) q) ≡ None → new.roots ≡ old.roots → ((n : ℕ) (S : State) → Sees old n S → Sees new (n + 1) S) → Submits has old (form.Print q) new (kept.Print r)
+printed has old new q r e none roots sees =
+    let named : name_of new.roots r ≡ q = ap (λ (T : Table). name_of T r) roots ∙ named_as old q r e in
     record {
       act = ap (λ o. unless o (Print q)) none ∙ ap (λ (n : List ℕ). Ok (Print n)) (sym named);
-      notes = record { placed = found-below old q f e; counted = ap (λ (T : Table). length T.names) roots; kept = same_table old new roots; whole = same_whole old new roots; sees = sees };
+      notes = noted old new (kept.Print r) (is-at old.roots q r e).below refl roots sees;
     }
 
-pub invalidated : (has : Kernel → Bool) (old new : Names) (q : List ℕ) (f : Found) → found_in old q ≡ Some f → first_of (name_reasons (scope_in old) q) ≡ None → new.roots ≡ old.roots → ((n : ℕ) (S : State) → Sees old n S → Sees new (n + 1) (invalidate (name_of old.roots f.root) S)) → Submits has old (form.Invalidate q) new (kept.Invalidate f.root)
-invalidated has old new q f e none roots sees =
-    let named : name_of new.roots f.root ≡ name_of old.roots f.root = ap (λ (T : Table). name_of T f.root) roots in
+pub invalidated : (has : Kernel → Bool) (old new : Names) (q : List ℕ) (r : RootNumber) → root_in old.roots q ≡ Some r → first_of (name_reasons (scope_in old) q) ≡ None → new.roots ≡ old.roots → ((n : ℕ) (S : State) → Sees old n S → Sees new (n + 1) (invalidate (name_of old.roots r) S)) → Submits has old (form.Invalidate q) new (kept.Invalidate r)
+invalidated has old new q r e none roots sees =
+    let named : name_of new.roots r ≡ name_of old.roots r = ap (λ (T : Table). name_of T r) roots in
     record {
-      act = ap (λ o. unless o (Invalidate q)) none ∙ ap (λ (n : List ℕ). Ok (Invalidate n)) (sym (named ∙ found-named old q f e));
-      notes = record {
-        placed = found-below old q f e;
-        counted = ap (λ (T : Table). length T.names) roots;
-        kept = same_table old new roots;
-        whole = same_whole old new roots;
-        sees = λ n S h. subst (λ (m : List ℕ). Sees new (n + 1) (invalidate m S)) (sym named) (sees n S h);
-      };
+      act = ap (λ o. unless o (Invalidate q)) none ∙ ap (λ (n : List ℕ). Ok (Invalidate n)) (sym (named ∙ named_as old q r e));
+      notes = noted old new (kept.Invalidate r) (is-at old.roots q r e).below refl roots (λ n S h. subst (λ (m : List ℕ). Sees new (n + 1) (invalidate m S)) (sym named) (sees n S h));
     }
 
-pub ended : (has : Kernel → Bool) (old new : Names) (q : List ℕ) (f : Found) → found_in old q ≡ Some f → first_of (name_reasons (scope_in old) q) ≡ None → new.roots ≡ old.roots → ((n : ℕ) (S : State) → Sees old n S → Sees new (n + 1) (unregister (name_of old.roots f.root) S)) → Submits has old (form.Unregister q) new (kept.Unregister f.root)
-ended has old new q f e none roots sees =
-    let named : name_of new.roots f.root ≡ name_of old.roots f.root = ap (λ (T : Table). name_of T f.root) roots in
+pub ended : (has : Kernel → Bool) (old new : Names) (q : List ℕ) (r : RootNumber) → root_in old.roots q ≡ Some r → first_of (name_reasons (scope_in old) q) ≡ None → new.roots ≡ old.roots → ((n : ℕ) (S : State) → Sees old n S → Sees new (n + 1) (unregister (name_of old.roots r) S)) → Submits has old (form.Unregister q) new (kept.Unregister r)
+ended has old new q r e none roots sees =
+    let named : name_of new.roots r ≡ name_of old.roots r = ap (λ (T : Table). name_of T r) roots in
     record {
-      act = ap (λ o. unless o (Unregister q)) none ∙ ap (λ (n : List ℕ). Ok (Unregister n)) (sym (named ∙ found-named old q f e));
-      notes = record {
-        placed = found-below old q f e;
-        counted = ap (λ (T : Table). length T.names) roots;
-        kept = same_table old new roots;
-        whole = same_whole old new roots;
-        sees = λ n S h. subst (λ (m : List ℕ). Sees new (n + 1) (unregister m S)) (sym named) (sees n S h);
-      };
+      act = ap (λ o. unless o (Unregister q)) none ∙ ap (λ (n : List ℕ). Ok (Unregister n)) (sym (named ∙ named_as old q r e));
+      notes = noted old new (kept.Unregister r) (is-at old.roots q r e).below refl roots (λ n S h. subst (λ (m : List ℕ). Sees new (n + 1) (unregister m S)) (sym named) (sees n S h));
+    }
+
+-- what a plan line needs to have been done
+pub record Plans (old new : Names) (q r c : List ℕ) (root : RootNumber) (p : Parts) : Type 0 where
+  pub there : root_in old.roots q ≡ Some root
+  pub numbered : (is_count r && is_count c) ≡ true
+  pub parts : p ≡ plan_with (count r) (count c)
+  pub unopposed : first_of (plan_reasons (scope_in old) q p) ≡ None
+  pub roots : new.roots ≡ old.roots
+  pub sees : (n : ℕ) (S : State) → Sees old n S → IsSoundPlan S (name_of old.roots root) p → Sees new (n + 1) (plan (name_of old.roots root) p S)
+
+pub plans : (has : Kernel → Bool) (old new : Names) (q r c : List ℕ) (root : RootNumber) (p : Parts) → Plans old new q r c root p → Submits has old (form.Plan q r c) new (kept.Plan root p)
+plans has old new q r c root p h =
+    let here = named_as old q root h.there in
+    let named : name_of new.roots root ≡ name_of old.roots root = ap (λ (T : Table). name_of T root) h.roots in
+    let done : done_in has (scope_in old) (form.Plan q r c) ≡ Ok (Plan q p) =
+    done_placed has (scope_in old) (form.Plan q r c) refl h.numbered refl
+    ∙ (λ i. unless (first_of (plan_reasons (scope_in old) q (sym h.parts i))) (Plan q (sym h.parts i)))
+    ∙ ap (λ o. unless o (Plan q p)) h.unopposed in
+    record {
+      act = done ∙ ap (λ (n : List ℕ). Ok (Plan n p)) (sym (named ∙ here));
+      notes = noted old new (kept.Plan root p) (is-at old.roots q root h.there).below refl h.roots (λ n S k.
+          let sound = sound_done has old n S (form.Plan q r c) (Plan q p) k done in
+          subst (λ (m : List ℕ). Sees new (n + 1) (plan m p S)) (sym named) (h.sees n S k (subst (λ (m : List ℕ). IsSoundPlan S m p) (sym here) sound)));
     }

@@ -1,64 +1,70 @@
 -- A task line's operands with their roots: the reasons are the same.
-use Rattle.std.proofs.Common.{◌≡◌, ℕ, zero, suc, ◌<◌, ◌&&◌, ◌||◌, not, nat_eq, Bool, true, false, List, [], ◌∷◌, length, map, get_or, Option, Some, None, option_map, is_some, cond, refl, ap, sym, subst, ◌∙◌, arith, ℤ, Result, Ok, Err, bytes_eq}
-use Rattle.std.specs.List.{list_any, list_all, zip}
-use Rattle.std.proofs.lemmas.Bool.Decides.{nat_tests, Decides-eqb}
+use Rattle.std.proofs.Common.{◌≡◌, ℕ, zero, suc, ◌<◌, ◌&&◌, ◌||◌, not, nat_eq, Bool, true, false, List, [], ◌∷◌, length, map, get_or, Option, Some, None, option_map, is_some, cond, refl, ap, sym, subst, ◌∙◌, arith, ℤ, Result, Ok, Err, bytes_eq, unwrap_or}
+use Rattle.std.specs.List.{list_any}
+use Rattle.std.proofs.lemmas.Bool.Decides.{Decides-eqb}
 use Rattle.sj_base.specs.declared.ids.Root.{Root}
 use Rattle.sj_base.specs.declared.tile.Dims.{Dims}
 use Rattle.sj_base.specs.declared.mode.Mode.{Mode}
 use Rattle.sj_codelet.specs.declared.kernel.Kernel.{Kernel}
 use Rattle.sj_codelet.specs.declared.formal.Formal.{Formal}
 use Rattle.sj_codelet.specs.Kernel.{codelet_of, formals_of, arguments_of, fits}
+use Rattle.sj_plan.specs.Parts.{IsPlace}
+use Rattle.sj_plan.specs.Paste.{same_place}
+use Rattle.sj_plan.specs.Rect.{child, dims_of}
+use Rattle.sj_job.specs.declared.form.OperandForm.{OperandForm}
 use Rattle.sj_job.specs.declared.form.TaskForm.{TaskForm}
 use Rattle.sj_job.specs.declared.job.Operand.{Operand as Access}
 use Rattle.sj_job.specs.declared.job.TaskLine.{TaskLine as KeptTask}
+use Rattle.sj_job.specs.declared.judge.Target.{Target}
 use Rattle.sj_job.specs.declared.names.Standing.{Standing}
-use Rattle.sj_job.specs.declared.names.Standing.TheVariants.{Valued, Unvalued, Ended}
-use Rattle.sj_job.specs.declared.names.Found.{Found}
-use Rattle.sj_job.specs.declared.names.Target.{Target}
-use Rattle.sj_job.specs.declared.names.Known.{Known}
+use Rattle.sj_job.specs.declared.names.Standing.TheVariants.{Live, Ended}
 use Rattle.sj_job.specs.declared.names.Names.{Names}
 use Rattle.sj_job.specs.declared.reason.Reason.{Reason}
-use Rattle.sj_job.specs.declared.reason.Reason.TheVariants.{UnknownName, UnknownCodelet, OperandCount, Shape, Aliased, NoValue, Limit, EndedName}
+use Rattle.sj_job.specs.declared.reason.Reason.TheVariants.{UnknownName, UnknownCodelet, OperandCount, Part, Shape, Aliased, NoValue, Limit, EndedName}
 use Rattle.sj_job.specs.declared.reason.LimitKind.TheVariants.{Statements, Priority}
 use Rattle.sj_job.specs.Statement.{Operand, TaskLine}
 use Rattle.sj_job.specs.Act.{Act, Task}
 use Rattle.sj_job.specs.Form.{each_some}
 use Rattle.sj_job.specs.Word.{integer}
-use Rattle.sj_job.specs.Sentence.{operands_said, priority_said, task_said}
-use Rattle.sj_job.specs.Table.{Table, name_of, root_in, IsRoot}
+use Rattle.sj_job.specs.Sentence.{index_said, place_said, operand_said, operands_said, priority_said, task_said}
+use Rattle.sj_job.specs.State.{is_child}
+use Rattle.sj_job.specs.Table.{name_of, root_in, IsRoot}
+use Rattle.sj_job.specs.Track.{Track, is_set}
 use Rattle.sj_job.specs.View.{operand_seen, task_seen}
-use Rattle.sj_job.specs.Judge.{Scope, first_of, is_full, is_priority, is_unknown, is_ended, dims_in, modes_fit, mode_fits, is_read_only, clashes, is_aliased, needs_value, is_lacking, is_counted, is_shaped, operand_reasons, line_reasons, kernel_named, judged_by, judged_call, judged_task, unless}
-use Rattle.sj_job.specs.Names.{scope_in, found_at, found_in, known_from, known_by, ended_from, is_over, is_unvalued, target_in, operand_by, any_over, targets_fit, target_dims, is_counted_for, is_shaped_for, collide, any_collide, is_wanting, target_reasons}
+use Rattle.sj_job.specs.Judge.{Known, first_of, is_full, is_priority, is_unknown, is_ended, is_child_said, is_missing, dims_in, modes_fit, mode_fits, is_read_only, clashes, is_aliased, needs_value, is_lacking, is_counted, is_shaped, operand_reasons, kernel_named, judged_by, judged_call, judged_task, unless}
+use Rattle.sj_job.specs.Names.{Found, IsPlaceIn, a_target, any_collide, any_missing, any_over, collide, ended_from, found_at, found_in, is_counted_for, is_over, is_shaped_for, is_wanting, known_by, known_from, known_with, no_child, operand_by, plan_in, scope_in, standing_of, target_by, target_dims, target_in, target_reasons, targets_fit}
+use Rattle.sj_job.proofs.Children.{place-from_test, said-child}
 use Rattle.sj_job.proofs.Places.{is-at, is-root, same-text, text-itself}
 
 -- ---- each operand with its root
 
-record IsTarget (names : Names) (o : Operand) (t : Target) : Type 0 where
-  found : found_in names o.name ≡ Some t.found
-  mode : t.mode ≡ o.mode
+abbrev a_target_of : OperandForm → Found → Target
+a_target_of o f = target_by f.root f.dims o.mode (index_said o.child) f.standing
 
-abbrev AreTargets : Names → List Operand → List Target → Type 0
+record IsTarget (names : Names) (o : OperandForm) (t : Target) : Type 0 where
+  of : Found
+  found : found_in names o.name ≡ Some of
+  is : a_target_of o of ≡ t
+
+abbrev AreTargets : Names → List OperandForm → List Target → Type 0
 AreTargets names [] [] = Unit {0}
 AreTargets names [] (t ∷ ts) = ⊥
 AreTargets names (o ∷ os) [] = ⊥
 AreTargets names (o ∷ os) (t ∷ ts) = IsTarget names o t × AreTargets names os ts
 
-abbrev a_target : Mode → Found → Target
-a_target m f = record { found = f; mode = m }
-
 abbrev onto : Option Target → Option (List Target) → Option (List Target)
 onto o rest = elim o [ None ↦ None | Some y ↦ option_map (λ ys. y ∷ ys) rest ]
 
-targets_cons : (names : Names) (o : Operand) (os : List Operand) (ts : List Target) (f : Option Found) (rest : Option (List Target)) → found_in names o.name ≡ f → onto (option_map (a_target o.mode) f) rest ≡ Some ts → ((us : List Target) → rest ≡ Some us → AreTargets names os us) → AreTargets names (o ∷ os) ts
+targets_cons : (names : Names) (o : OperandForm) (os : List OperandForm) (ts : List Target) (f : Option Found) (rest : Option (List Target)) → found_in names o.name ≡ f → onto (option_map (a_target_of o) f) rest ≡ Some ts → ((us : List Target) → rest ≡ Some us → AreTargets names os us) → AreTargets names (o ∷ os) ts
 targets_cons names o os ts None rest p e h = absurd (cc)
 targets_cons names o os ts (Some f) None p e h = absurd (cc)
 targets_cons names o os [] (Some f) (Some us) p e h = absurd (cc)
 targets_cons names o os (t ∷ ts) (Some f) (Some us) p e h =
-    let here : a_target o.mode f ≡ t = cc in
+    let here : a_target_of o f ≡ t = cc in
     let rest : us ≡ ts = cc in
-    (subst (IsTarget names o) here (record { found = p; mode = refl }), subst (AreTargets names os) rest (h us refl))
+    (record { of = f; found = p; is = here }, subst (AreTargets names os) rest (h us refl))
 
-targets : (names : Names) (os : List Operand) (ts : List Target) → each_some (target_in names) os ≡ Some ts → AreTargets names os ts
+targets : (names : Names) (os : List OperandForm) (ts : List Target) → each_some (target_in names) os ≡ Some ts → AreTargets names os ts
 targets names [] [] e = tt
 targets names [] (t ∷ ts) e = absurd (cc)
 targets names (o ∷ os) ts e = targets_cons names o os ts (found_in names o.name) (each_some (target_in names) os) refl e (λ us. targets names os us)
@@ -66,11 +72,10 @@ targets names (o ∷ os) ts e = targets_cons names o os ts (found_in names o.nam
 -- ---- unknown names
 
 unknown_by : (d : Dims) (st : Standing) → (not (is_some (known_by d st)) && not (is_over st)) ≡ false
-unknown_by d Valued = refl
-unknown_by d Unvalued = refl
+unknown_by d (Live t) = refl
 unknown_by d Ended = refl
 
-known_found : (names : Names) (q : List ℕ) (f : Found) → found_in names q ≡ Some f → is_unknown (scope_in names) q ≡ false
+pub known_found : (names : Names) (q : List ℕ) (f : Found) → found_in names q ≡ Some f → is_unknown (scope_in names) q ≡ false
 known_found names q f e = ap (λ o. not (is_some (known_from o)) && not (ended_from o)) e ∙ unknown_by f.dims f.standing
 
 or_false : (b c : Bool) → b ≡ false → c ≡ false → (b || c) ≡ false
@@ -85,85 +90,170 @@ or_left : (b c : Bool) → b ≡ true → (b || c) ≡ true
 or_left true c h = refl
 or_left false c h = absurd (cc)
 
-all_known : (names : Names) (os : List Operand) (ts : List Target) → AreTargets names os ts → list_any (λ o. is_unknown (scope_in names) o.name) os ≡ false
+all_known : (names : Names) (os : List OperandForm) (ts : List Target) → AreTargets names os ts → list_any (λ o. is_unknown (scope_in names) o.name) (map operand_said os) ≡ false
 all_known names [] [] h = refl
 all_known names [] (t ∷ ts) h = absurd h
 all_known names (o ∷ os) [] h = absurd h
-all_known names (o ∷ os) (t ∷ ts) h = or_false (is_unknown (scope_in names) o.name) (list_any (λ o. is_unknown (scope_in names) o.name) os) (known_found names o.name t.found h.0.found) (all_known names os ts h.1)
+all_known names (o ∷ os) (t ∷ ts) h = or_false (is_unknown (scope_in names) o.name) (list_any (λ o. is_unknown (scope_in names) o.name) (map operand_said os)) (known_found names o.name h.0.of h.0.found) (all_known names os ts h.1)
 
-unknown_cons : (names : Names) (o : Operand) (os : List Operand) (f : Option Found) (rest : Option (List Target)) → found_in names o.name ≡ f → each_some (target_in names) os ≡ rest → onto (option_map (a_target o.mode) f) rest ≡ None → (rest ≡ None → list_any (λ o. is_unknown (scope_in names) o.name) os ≡ true) → list_any (λ o. is_unknown (scope_in names) o.name) (o ∷ os) ≡ true
-unknown_cons names o os None rest p r e h = or_left (is_unknown (scope_in names) o.name) (list_any (λ o. is_unknown (scope_in names) o.name) os) (ap (λ o. not (is_some (known_from o)) && not (ended_from o)) p)
-unknown_cons names o os (Some f) None p r e h = or_right (is_unknown (scope_in names) o.name) (list_any (λ o. is_unknown (scope_in names) o.name) os) (h refl)
+unknown_cons : (names : Names) (o : OperandForm) (os : List OperandForm) (f : Option Found) (rest : Option (List Target)) → found_in names o.name ≡ f → each_some (target_in names) os ≡ rest → onto (option_map (a_target_of o) f) rest ≡ None → (rest ≡ None → list_any (λ o. is_unknown (scope_in names) o.name) (map operand_said os) ≡ true) → list_any (λ o. is_unknown (scope_in names) o.name) (map operand_said (o ∷ os)) ≡ true
+unknown_cons names o os None rest p r e h = or_left (is_unknown (scope_in names) o.name) (list_any (λ o. is_unknown (scope_in names) o.name) (map operand_said os)) (ap (λ o. not (is_some (known_from o)) && not (ended_from o)) p)
+unknown_cons names o os (Some f) None p r e h = or_right (is_unknown (scope_in names) o.name) (list_any (λ o. is_unknown (scope_in names) o.name) (map operand_said os)) (h refl)
 unknown_cons names o os (Some f) (Some us) p r e h = absurd (cc)
 
-some_unknown : (names : Names) (os : List Operand) → each_some (target_in names) os ≡ None → list_any (λ o. is_unknown (scope_in names) o.name) os ≡ true
+some_unknown : (names : Names) (os : List OperandForm) → each_some (target_in names) os ≡ None → list_any (λ o. is_unknown (scope_in names) o.name) (map operand_said os) ≡ true
 some_unknown names [] e = absurd (cc)
 some_unknown names (o ∷ os) e = unknown_cons names o os (found_in names o.name) (each_some (target_in names) os) refl refl e (some_unknown names os)
 
--- ---- the conditions of operands and targets
+-- ---- what a target says of its operand
 
-ended_same : (names : Names) (os : List Operand) (ts : List Target) → AreTargets names os ts → list_any (λ o. is_ended (scope_in names) o.name) os ≡ any_over ts
-ended_same names [] [] h = refl
-ended_same names [] (t ∷ ts) h = absurd h
-ended_same names (o ∷ os) [] h = absurd h
-ended_same names (o ∷ os) (t ∷ ts) h = λ i. ap ended_from h.0.found i || ended_same names os ts h.1 i
+over_by : (b : Bool) (x y : Target) → x.over ≡ false → y.over ≡ false → (cond b x y).over ≡ false
+over_by true x y e f = e
+over_by false x y e f = f
 
-length_same : (names : Names) (os : List Operand) (ts : List Target) → AreTargets names os ts → length os ≡ length ts
-length_same names [] [] h = refl
-length_same names [] (t ∷ ts) h = absurd h
-length_same names (o ∷ os) [] h = absurd h
-length_same names (o ∷ os) (t ∷ ts) h = ap suc (length_same names os ts h.1)
+over_target : (r : Root) (d : Dims) (m : Mode) (index : Option (ℕ × ℕ)) (st : Standing) → is_over st ≡ (target_by r d m index st).over
+over_target r d m index (Live t) =
+    sym (over_by (is_child_said t.parts index) (a_target r m false false (unwrap_or index (0, 0)) (dims_of (child d t.parts (unwrap_or index (0, 0)))) (is_set t (unwrap_or index (0, 0)))) (no_child r m false) refl refl)
+over_target r d m index Ended = refl
 
-fit_same : (names : Names) (fs : List Formal) (os : List Operand) (ts : List Target) → AreTargets names os ts → modes_fit fs os ≡ targets_fit fs ts
-fit_same names [] os ts h = refl
-fit_same names (f ∷ fs) [] [] h = refl
-fit_same names (f ∷ fs) [] (t ∷ ts) h = absurd h
-fit_same names (f ∷ fs) (o ∷ os) [] h = absurd h
-fit_same names (f ∷ fs) (o ∷ os) (t ∷ ts) h = λ i. mode_fits f (sym h.0.mode i) && fit_same names fs os ts h.1 i
+missing_by : (b : Bool) (x y : Target) → x.missing ≡ false → y.missing ≡ true → not b ≡ (cond b x y).missing
+missing_by true x y e f = sym e
+missing_by false x y e f = sym f
 
-dims_by : (d : Dims) (st : Standing) → is_over st ≡ false → (elim (known_by d st) as (λ _. Dims) [ None ↦ record { rows = 0; cols = 0 } | Some k ↦ k.dims ]) ≡ d
-dims_by d Valued e = refl
-dims_by d Unvalued e = refl
-dims_by d Ended e = absurd (cc)
+abbrev lost : Option (ℕ × ℕ) → Option Known → Bool
+lost index o = elim o as (λ _. Bool) [ None ↦ false | Some k ↦ not (is_child_said k.parts index) ]
+
+missing_target : (r : Root) (d : Dims) (m : Mode) (index : Option (ℕ × ℕ)) (st : Standing) → lost index (known_by d st) ≡ (target_by r d m index st).missing
+missing_target r d m index (Live t) =
+    missing_by (is_child_said t.parts index) (a_target r m false false (unwrap_or index (0, 0)) (dims_of (child d t.parts (unwrap_or index (0, 0)))) (is_set t (unwrap_or index (0, 0)))) (no_child r m false) refl refl
+missing_target r d m index Ended = refl
+
+-- a child of an active plan
+record IsChildOf (r : Root) (d : Dims) (m : Mode) (index : Option (ℕ × ℕ)) (st : Standing) (t : Target) : Type 0 where
+  track : Track
+  live : st ≡ Live track
+  said : is_child_said track.parts index ≡ true
+  is : t ≡ a_target r m false false (unwrap_or index (0, 0)) (dims_of (child d track.parts (unwrap_or index (0, 0)))) (is_set track (unwrap_or index (0, 0)))
+
+child_by : (r : Root) (d : Dims) (m : Mode) (index : Option (ℕ × ℕ)) (track : Track) (b : Bool) → is_child_said track.parts index ≡ b
+    → let t = cond b (a_target r m false false (unwrap_or index (0, 0)) (dims_of (child d track.parts (unwrap_or index (0, 0)))) (is_set track (unwrap_or index (0, 0)))) (no_child r m false) in t.missing ≡ false → IsChildOf r d m index (Live track) t
+child_by r d m index track true e h = record { track = track; live = refl; said = e; is = refl }
+child_by r d m index track false e h = absurd (cc)
+
+child_target : (r : Root) (d : Dims) (m : Mode) (index : Option (ℕ × ℕ)) (st : Standing) → (target_by r d m index st).over ≡ false → (target_by r d m index st).missing ≡ false → IsChildOf r d m index st (target_by r d m index st)
+child_target r d m index (Live t) e h = child_by r d m index t (is_child_said t.parts index) refl h
+child_target r d m index Ended e h = absurd (cc)
+
+-- an operand that is a child, with its target
+record IsLive (names : Names) (o : OperandForm) (t : Target) : Type 0 where
+  of : Found
+  found : found_in names o.name ≡ Some of
+  child : IsChildOf of.root of.dims o.mode (index_said o.child) of.standing t
+
+abbrev AreLive : Names → List OperandForm → List Target → Type 0
+AreLive names [] [] = Unit {0}
+AreLive names [] (t ∷ ts) = ⊥
+AreLive names (o ∷ os) [] = ⊥
+AreLive names (o ∷ os) (t ∷ ts) = IsLive names o t × AreLive names os ts
 
 or_parts : (b c : Bool) → (b || c) ≡ false → (b ≡ false) × (c ≡ false)
 or_parts true c e = absurd (cc)
 or_parts false c e = (refl, e)
 
-dims_same : (names : Names) (os : List Operand) (ts : List Target) → AreTargets names os ts → any_over ts ≡ false → map (dims_in (scope_in names)) os ≡ target_dims ts
-dims_same names [] [] h e = refl
-dims_same names [] (t ∷ ts) h e = absurd h
-dims_same names (o ∷ os) [] h e = absurd h
-dims_same names (o ∷ os) (t ∷ ts) h e =
-    let p = or_parts (is_over t.found.standing) (any_over ts) e in
-    let here : dims_in (scope_in names) o ≡ t.found.dims =
-    ap (λ (f : Option Found). elim (known_from f) as (λ _. Dims) [ None ↦ record { rows = 0; cols = 0 } | Some k ↦ k.dims ]) h.0.found
-    ∙ dims_by t.found.dims t.found.standing p.0 in
-    λ i. here i ∷ dims_same names os ts h.1 p.1 i
+lives : (names : Names) (os : List OperandForm) (ts : List Target) → AreTargets names os ts → any_over ts ≡ false → any_missing ts ≡ false → AreLive names os ts
+lives names [] [] h e f = tt
+lives names [] (t ∷ ts) h e f = absurd h
+lives names (o ∷ os) [] h e f = absurd h
+lives names (o ∷ os) (t ∷ ts) h e f =
+    let p = or_parts t.over (any_over ts) e in
+    let q = or_parts t.missing (any_missing ts) f in
+    let x = h.0.of in
+    let here = child_target x.root x.dims o.mode (index_said o.child) x.standing (ap (λ (u : Target). u.over) h.0.is ∙ p.0) (ap (λ (u : Target). u.missing) h.0.is ∙ q.0) in
+    (record { of = x; found = h.0.found; child = subst (IsChildOf x.root x.dims o.mode (index_said o.child) x.standing) h.0.is here }, lives names os ts h.1 p.1 q.1)
 
-lacks_by : (d : Dims) (st : Standing) → (elim (known_by d st) as (λ _. Bool) [ None ↦ false | Some k ↦ not k.valued ]) ≡ is_unvalued st
-lacks_by d Valued = refl
-lacks_by d Unvalued = refl
-lacks_by d Ended = refl
+-- ---- the conditions of operands and targets
 
-wanting_same : (names : Names) (os : List Operand) (ts : List Target) → AreTargets names os ts → list_any (is_lacking (scope_in names)) os ≡ list_any is_wanting ts
+ended_same : (names : Names) (os : List OperandForm) (ts : List Target) → AreTargets names os ts → list_any (λ o. is_ended (scope_in names) o.name) (map operand_said os) ≡ any_over ts
+ended_same names [] [] h = refl
+ended_same names [] (t ∷ ts) h = absurd h
+ended_same names (o ∷ os) [] h = absurd h
+ended_same names (o ∷ os) (t ∷ ts) h =
+    let x = h.0.of in
+    let here : is_ended (scope_in names) o.name ≡ t.over = ap ended_from h.0.found ∙ over_target x.root x.dims o.mode (index_said o.child) x.standing ∙ ap (λ (u : Target). u.over) h.0.is in
+    λ i. here i || ended_same names os ts h.1 i
+
+missing_same : (names : Names) (os : List OperandForm) (ts : List Target) → AreTargets names os ts → list_any (is_missing (scope_in names)) os ≡ any_missing ts
+missing_same names [] [] h = refl
+missing_same names [] (t ∷ ts) h = absurd h
+missing_same names (o ∷ os) [] h = absurd h
+missing_same names (o ∷ os) (t ∷ ts) h =
+    let x = h.0.of in
+    let here : is_missing (scope_in names) o ≡ t.missing =
+    ap (λ (f : Option Found). lost (index_said o.child) (known_from f)) h.0.found ∙ missing_target x.root x.dims o.mode (index_said o.child) x.standing ∙ ap (λ (u : Target). u.missing) h.0.is in
+    λ i. here i || missing_same names os ts h.1 i
+
+length_same : (names : Names) (os : List OperandForm) (ts : List Target) → AreTargets names os ts → length (map operand_said os) ≡ length ts
+length_same names [] [] h = refl
+length_same names [] (t ∷ ts) h = absurd h
+length_same names (o ∷ os) [] h = absurd h
+length_same names (o ∷ os) (t ∷ ts) h = ap suc (length_same names os ts h.1)
+
+mode_same : (names : Names) (o : OperandForm) (t : Target) → IsLive names o t → o.mode ≡ t.mode
+mode_same names o t h = sym (ap (λ (u : Target). u.mode) h.child.is)
+
+place_same : (names : Names) (o : OperandForm) (t : Target) → IsLive names o t → place_said o ≡ t.place
+place_same names o t h = sym (ap (λ (u : Target). u.place) h.child.is)
+
+fit_same : (names : Names) (fs : List Formal) (os : List OperandForm) (ts : List Target) → AreLive names os ts → modes_fit fs (map operand_said os) ≡ targets_fit fs ts
+fit_same names [] os ts h = refl
+fit_same names (f ∷ fs) [] [] h = refl
+fit_same names (f ∷ fs) [] (t ∷ ts) h = absurd h
+fit_same names (f ∷ fs) (o ∷ os) [] h = absurd h
+fit_same names (f ∷ fs) (o ∷ os) (t ∷ ts) h = λ i. mode_fits f (mode_same names o t h.0 i) && fit_same names fs os ts h.1 i
+
+-- what is known of a child's root
+known_live : (names : Names) (o : OperandForm) (t : Target) (h : IsLive names o t) → known_from (found_in names o.name) ≡ Some (known_with h.of.dims h.child.track)
+known_live names o t h = ap known_from h.found ∙ ap (known_by h.of.dims) h.child.live
+
+dims_same : (names : Names) (os : List OperandForm) (ts : List Target) → AreLive names os ts → map (dims_in (scope_in names)) (map operand_said os) ≡ target_dims ts
+dims_same names [] [] h = refl
+dims_same names [] (t ∷ ts) h = absurd h
+dims_same names (o ∷ os) [] h = absurd h
+dims_same names (o ∷ os) (t ∷ ts) h =
+    let here : dims_in (scope_in names) (operand_said o) ≡ t.dims =
+    ap (λ (k : Option Known). elim k as (λ _. Dims) [ None ↦ record { rows = 0; cols = 0 } | Some k ↦ dims_of (child k.dims k.parts (place_said o)) ]) (known_live names o t h.0)
+    ∙ sym (ap (λ (u : Target). u.dims) h.0.child.is) in
+    λ i. here i ∷ dims_same names os ts h.1 i
+
+valued_when : (b v : Bool) → b ≡ true → not (b && v) ≡ not v
+valued_when true v e = refl
+valued_when false v e = absurd (cc)
+
+wanting_same : (names : Names) (os : List OperandForm) (ts : List Target) → AreLive names os ts → list_any (is_lacking (scope_in names)) (map operand_said os) ≡ list_any is_wanting ts
 wanting_same names [] [] h = refl
 wanting_same names [] (t ∷ ts) h = absurd h
 wanting_same names (o ∷ os) [] h = absurd h
 wanting_same names (o ∷ os) (t ∷ ts) h =
-    let lacks : (elim (known_from (found_in names o.name)) as (λ _. Bool) [ None ↦ false | Some k ↦ not k.valued ]) ≡ is_unvalued t.found.standing =
-    ap (λ (f : Option Found). elim (known_from f) as (λ _. Bool) [ None ↦ false | Some k ↦ not k.valued ]) h.0.found
-    ∙ lacks_by t.found.dims t.found.standing in
-    λ i. (needs_value (sym h.0.mode i) && lacks i) || wanting_same names os ts h.1 i
+    let c = h.0.child in
+    let lacks : (elim (known_from (found_in names o.name)) as (λ _. Bool) [ None ↦ false | Some k ↦ not (k.child (place_said o)) ]) ≡ not t.valued =
+    ap (λ (k : Option Known). elim k as (λ _. Bool) [ None ↦ false | Some k ↦ not (k.child (place_said o)) ]) (known_live names o t h.0)
+    ∙ valued_when (is_child c.track.parts (place_said o)) (is_set c.track (place_said o)) (said-child c.track.parts (index_said o.child) c.said)
+    ∙ sym (ap (λ (u : Target). not u.valued) c.is) in
+    λ i. (needs_value (mode_same names o t h.0 i) && lacks i) || wanting_same names os ts h.1 i
 
 -- ---- names and roots
 
-root_by : (names : Names) (q : List ℕ) (f : Found) (o : Option Root) → root_in names.roots q ≡ o → option_map (found_at names) o ≡ Some f → root_in names.roots q ≡ Some f.root
-root_by names q f None p e = absurd (cc)
-root_by names q f (Some r) p e = let same : found_at names r ≡ f = cc in p ∙ ap (λ (g : Found). Some g.root) same
+found_by : (names : Names) (q : List ℕ) (f : Found) (o : Option Root) → root_in names.roots q ≡ o → option_map (found_at names) o ≡ Some f → (root_in names.roots q ≡ Some f.root) × (found_at names f.root ≡ f)
+found_by names q f None p e = absurd (cc)
+found_by names q f (Some r) p e =
+    let same : found_at names r ≡ f = cc in
+    (p ∙ ap (λ (g : Found). Some g.root) same, ap (λ (g : Found). found_at names g.root) (sym same) ∙ same)
 
 pub found-root : (names : Names) (q : List ℕ) (f : Found) → found_in names q ≡ Some f → root_in names.roots q ≡ Some f.root
-found-root names q f e = root_by names q f (root_in names.roots q) refl e
+found-root names q f e = (found_by names q f (root_in names.roots q) refl e).0
+
+found-at : (names : Names) (q : List ℕ) (f : Found) → found_in names q ≡ Some f → standing_of names f.root ≡ f.standing
+found-at names q f e = ap (λ (g : Found). g.standing) (found_by names q f (root_in names.roots q) refl e).1
 
 same_bools : (b c : Bool) → (b ≡ true → c ≡ true) → (c ≡ true → b ≡ true) → b ≡ c
 same_bools true true f g = refl
@@ -182,46 +272,85 @@ one_root names p q f g ef eg =
     (λ t. (Decides-eqb f.root.0 g.root.0).1 (roots_equal f.root g.root (sym rp ∙ ap (root_in names.roots) (same-text p q t) ∙ rq)))
     (λ t. text-itself p q (sym (is-at names.roots p f.root rp).named ∙ ap (λ n. get_or names.roots.names n []) ((Decides-eqb f.root.0 g.root.0).0 t) ∙ (is-at names.roots q g.root rq).named))
 
-clash_same : (names : Names) (o : Operand) (t : Target) (os : List Operand) (ts : List Target) → IsTarget names o t → AreTargets names os ts → list_any (clashes o) os ≡ list_any (collide t) ts
+root_same : (names : Names) (o : OperandForm) (t : Target) (h : IsLive names o t) → h.of.root ≡ t.root
+root_same names o t h = sym (ap (λ (u : Target). u.root) h.child.is)
+
+clash_same : (names : Names) (o : OperandForm) (t : Target) (os : List OperandForm) (ts : List Target) → IsLive names o t → AreLive names os ts → list_any (clashes (operand_said o)) (map operand_said os) ≡ list_any (collide t) ts
 clash_same names o t [] [] k h = refl
 clash_same names o t [] (u ∷ ts) k h = absurd h
 clash_same names o t (p ∷ os) [] k h = absurd h
 clash_same names o t (p ∷ os) (u ∷ ts) k h =
-    let named = one_root names o.name p.name t.found u.found k.found h.0.found in
-    λ i. (named i && not (is_read_only (sym k.mode i) && is_read_only (sym h.0.mode i))) || clash_same names o t os ts k h.1 i
+    let named : bytes_eq o.name p.name ≡ nat_eq t.root.0 u.root.0 =
+    one_root names o.name p.name k.of h.0.of k.found h.0.found ∙ (λ i. nat_eq (root_same names o t k i).0 (root_same names p u h.0 i).0) in
+    λ i. (named i && same_place (place_same names o t k i) (place_same names p u h.0 i) && not (is_read_only (mode_same names o t k i) && is_read_only (mode_same names p u h.0 i))) || clash_same names o t os ts k h.1 i
 
-aliased_same : (names : Names) (os : List Operand) (ts : List Target) → AreTargets names os ts → is_aliased os ≡ any_collide ts
+aliased_same : (names : Names) (os : List OperandForm) (ts : List Target) → AreLive names os ts → is_aliased (map operand_said os) ≡ any_collide ts
 aliased_same names [] [] h = refl
 aliased_same names [] (t ∷ ts) h = absurd h
 aliased_same names (o ∷ os) [] h = absurd h
 aliased_same names (o ∷ os) (t ∷ ts) h = λ i. clash_same names o t os ts h.0 h.1 i || aliased_same names os ts h.1 i
 
-seen_same : (names : Names) (os : List Operand) (ts : List Target) → AreTargets names os ts → map (operand_seen names.roots) (map operand_by ts) ≡ os
+seen_same : (names : Names) (os : List OperandForm) (ts : List Target) → AreLive names os ts → map (operand_seen names.roots) (map operand_by ts) ≡ map operand_said os
 seen_same names [] [] h = refl
 seen_same names [] (t ∷ ts) h = absurd h
 seen_same names (o ∷ os) [] h = absurd h
 seen_same names (o ∷ os) (t ∷ ts) h =
-    let named = (is-at names.roots o.name t.found.root (found-root names o.name t.found h.0.found)).named in
-    let mk : List ℕ → Mode → Operand = λ n m. record { name = n; mode = m } in
-    λ i. mk (named i) (h.0.mode i) ∷ seen_same names os ts h.1 i
+    let named : name_of names.roots t.root ≡ o.name = ap (name_of names.roots) (sym (root_same names o t h.0)) ∙ (is-at names.roots o.name h.0.of.root (found-root names o.name h.0.of h.0.found)).named in
+    let mk : List ℕ → (ℕ × ℕ) → Mode → Operand = λ n p m. record { name = n; place = p; mode = m } in
+    λ i. mk (named i) (sym (place_same names o t h.0) i) (sym (mode_same names o t h.0) i) ∷ seen_same names os ts h.1 i
 
-roots_at : (names : Names) (os : List Operand) (ts : List Target) (k : ℕ) (d : Access) → AreTargets names os ts → k < length (map operand_by ts) → IsRoot names.roots (get_or (map operand_by ts) k d).root
-roots_at names [] [] k d h lt = absurd (omega arith)
-roots_at names [] (t ∷ ts) k d h lt = absurd h
-roots_at names (o ∷ os) [] k d h lt = absurd h
-roots_at names (o ∷ os) (t ∷ ts) zero d h lt = is-root names.roots o.name t.found.root (found-root names o.name t.found h.0.found)
-roots_at names (o ∷ os) (t ∷ ts) (suc k) d h lt = roots_at names os ts k d h.1 (omega arith)
+-- what is kept of an operand is of a root, and a child of its active plan
+pub record IsKept (names : Names) (o : Access) : Type 0 where
+  pub root : IsRoot names.roots o.root
+  pub place : IsPlaceIn (plan_in (standing_of names o.root)) o.place
 
-pub all-roots : (names : Names) (os : List Operand) (ts : List Target) (k : ℕ) (d : Access) → each_some (target_in names) os ≡ Some ts → k < length (map operand_by ts) → IsRoot names.roots (get_or (map operand_by ts) k d).root
-all-roots names os ts k d e lt = roots_at names os ts k d (targets names os ts e) lt
+kept_by : (names : Names) (o : OperandForm) (t : Target) → IsLive names o t → IsKept names (operand_by t)
+kept_by names o t h =
+    let c = h.child in
+    let plan : Some c.track.parts ≡ plan_in (standing_of names t.root) =
+    sym (ap plan_in c.live) ∙ ap plan_in (sym (found-at names o.name h.of h.found)) ∙ ap (λ r. plan_in (standing_of names r)) (root_same names o t h) in
+    record {
+      root = subst (IsRoot names.roots) (root_same names o t h) (is-root names.roots o.name h.of.root (found-root names o.name h.of h.found));
+      place = subst (λ x. IsPlaceIn x t.place) plan (subst (IsPlace c.track.parts) (place_same names o t h) (place-from_test c.track.parts (place_said o) (said-child c.track.parts (index_said o.child) c.said)));
+    }
+
+kept_at : (names : Names) (os : List OperandForm) (ts : List Target) (k : ℕ) (d : Access) → AreLive names os ts → k < length (map operand_by ts) → IsKept names (get_or (map operand_by ts) k d)
+kept_at names [] [] k d h lt = absurd (omega arith)
+kept_at names [] (t ∷ ts) k d h lt = absurd h
+kept_at names (o ∷ os) [] k d h lt = absurd h
+kept_at names (o ∷ os) (t ∷ ts) zero d h lt = kept_by names o t h.0
+kept_at names (o ∷ os) (t ∷ ts) (suc k) d h lt = kept_at names os ts k d h.1 (omega arith)
+
+no_part : (k : Kernel) (args : List ℤ) (ts : List Target) (a b : Bool) (rest : Option Reason) → cond a (Some OperandCount) (cond b (Some Part) rest) ≡ None → b ≡ false
+no_part k args ts true b rest e = absurd (cc)
+no_part k args ts false true rest e = absurd (cc)
+no_part k args ts false false rest e = refl
+
+unmissed : (k : Kernel) (args : List ℤ) (ts : List Target) → first_of (target_reasons k args ts) ≡ None → any_missing ts ≡ false
+unmissed k args ts e =
+    no_part k args ts (not (is_counted_for k args ts)) (any_missing ts) (first_of ((not (is_shaped_for k args ts), Shape) ∷ (any_collide ts, Aliased) ∷ (list_any is_wanting ts, NoValue) ∷ [])) e
+
+pub all-kept : (names : Names) (os : List OperandForm) (ts : List Target) (kernel : Kernel) (args : List ℤ) (k : ℕ) (d : Access) → each_some (target_in names) os ≡ Some ts → any_over ts ≡ false → first_of (target_reasons kernel args ts) ≡ None → k < length (map operand_by ts) → IsKept names (get_or (map operand_by ts) k d)
+all-kept names os ts kernel args k d e over none lt = kept_at names os ts k d (lives names os ts (targets names os ts e) over (unmissed kernel args ts none)) lt
 
 -- ---- a task line
 
-reasons_same : (names : Names) (k : Kernel) (args : List ℤ) (os : List Operand) (ts : List Target) → AreTargets names os ts → any_over ts ≡ false → operand_reasons (scope_in names) k args os ≡ target_reasons k args ts
+abbrev rest_of : Bool → Bool → Bool → Option Reason
+rest_of shaped aliased wanting = first_of ((not shaped, Shape) ∷ (aliased, Aliased) ∷ (wanting, NoValue) ∷ [])
+
+behind_part : (b : Bool) (x y : Option Reason) → (b ≡ false → x ≡ y) → cond b (Some Part) x ≡ cond b (Some Part) y
+behind_part true x y h = refl
+behind_part false x y h = h refl
+
+reasons_same : (names : Names) (k : Kernel) (args : List ℤ) (os : List OperandForm) (ts : List Target) → AreTargets names os ts → any_over ts ≡ false → first_of (operand_reasons (scope_in names) k args os (map operand_said os)) ≡ first_of (target_reasons k args ts)
 reasons_same names k args os ts h e =
-    let counted : is_counted k args os ≡ is_counted_for k args ts = ap (λ n. nat_eq (length args) (arguments_of k) && nat_eq n (length (formals_of k))) (length_same names os ts h) in
-    let shaped : is_shaped (scope_in names) k args os ≡ is_shaped_for k args ts = λ i. fit_same names (formals_of k) os ts h i && fits k args (dims_same names os ts h e i) in
-    λ i. (not (counted i), OperandCount) ∷ (not (shaped i), Shape) ∷ (aliased_same names os ts h i, Aliased) ∷ (wanting_same names os ts h i, NoValue) ∷ []
+    let said = map operand_said os in
+    let counted : is_counted k args said ≡ is_counted_for k args ts = ap (λ n. nat_eq (length args) (arguments_of k) && nat_eq n (length (formals_of k))) (length_same names os ts h) in
+    let rest : any_missing ts ≡ false → rest_of (is_shaped (scope_in names) k args said) (is_aliased said) (list_any (is_lacking (scope_in names)) said) ≡ rest_of (is_shaped_for k args ts) (any_collide ts) (list_any is_wanting ts) =
+    λ f. let l = lives names os ts h e f in
+    λ i. rest_of (fit_same names (formals_of k) os ts l i && fits k args (dims_same names os ts l i)) (aliased_same names os ts l i) (wanting_same names os ts l i) in
+    (λ i. cond (not (counted i)) (Some OperandCount) (cond (missing_same names os ts h i) (Some Part) (rest_of (is_shaped (scope_in names) k args said) (is_aliased said) (list_any (is_lacking (scope_in names)) said))))
+    ∙ ap (cond (not (is_counted_for k args ts)) (Some OperandCount)) (behind_part (any_missing ts) _ _ rest)
 
 abbrev line_first : Bool → Bool → Bool → Bool → Option Reason
 line_first full early unknown ended = first_of ((full, Limit Statements) ∷ (early, Limit Priority) ∷ (unknown, UnknownName) ∷ (ended, EndedName) ∷ [])
@@ -235,35 +364,35 @@ task-full has names form full = ap (λ b. by_line has names form (line_first b (
 pub task-early : (has : Kernel → Bool) (names : Names) (form : TaskForm) → is_full (scope_in names) ≡ false → is_priority (priority_said form.priority) ≡ false → judged_task has (scope_in names) form ≡ Err (Limit Priority)
 task-early has names form full early = λ i. by_line has names form (line_first (full i) (not (early i)) (list_any (λ o. is_unknown (scope_in names) o.name) (operands_said form)) (list_any (λ o. is_ended (scope_in names) o.name) (operands_said form)))
 
-pub task-unknown : (has : Kernel → Bool) (names : Names) (form : TaskForm) → is_full (scope_in names) ≡ false → is_priority (priority_said form.priority) ≡ true → each_some (target_in names) (operands_said form) ≡ None → judged_task has (scope_in names) form ≡ Err UnknownName
-task-unknown has names form full early e = λ i. by_line has names form (line_first (full i) (not (early i)) (some_unknown names (operands_said form) e i) (list_any (λ o. is_ended (scope_in names) o.name) (operands_said form)))
+pub task-unknown : (has : Kernel → Bool) (names : Names) (form : TaskForm) → is_full (scope_in names) ≡ false → is_priority (priority_said form.priority) ≡ true → each_some (target_in names) form.operands ≡ None → judged_task has (scope_in names) form ≡ Err UnknownName
+task-unknown has names form full early e = λ i. by_line has names form (line_first (full i) (not (early i)) (some_unknown names form.operands e i) (list_any (λ o. is_ended (scope_in names) o.name) (operands_said form)))
 
 -- what holds behind the line's own conditions
 pub record IsInLine (names : Names) (form : TaskForm) (ts : List Target) : Type 0 where
   pub full : is_full (scope_in names) ≡ false
   pub early : is_priority (priority_said form.priority) ≡ true
-  pub found : each_some (target_in names) (operands_said form) ≡ Some ts
+  pub found : each_some (target_in names) form.operands ≡ Some ts
 
 pub task-ended : (has : Kernel → Bool) (names : Names) (form : TaskForm) (ts : List Target) → IsInLine names form ts → any_over ts ≡ true → judged_task has (scope_in names) form ≡ Err EndedName
 task-ended has names form ts h over =
-    let a = targets names (operands_said form) ts h.found in
-    let ended = ended_same names (operands_said form) ts a ∙ over in
-    λ i. by_line has names form (line_first (h.full i) (not (h.early i)) (all_known names (operands_said form) ts a i) (ended i))
+    let a = targets names form.operands ts h.found in
+    let ended = ended_same names form.operands ts a ∙ over in
+    λ i. by_line has names form (line_first (h.full i) (not (h.early i)) (all_known names form.operands ts a i) (ended i))
 
 in_line : (has : Kernel → Bool) (names : Names) (form : TaskForm) (ts : List Target) (o : Option Kernel) → IsInLine names form ts → any_over ts ≡ false → kernel_named has form.codelet ≡ o → judged_task has (scope_in names) form ≡ judged_call (scope_in names) o form
 in_line has names form ts o h over named =
-    let a = targets names (operands_said form) ts h.found in
-    let ended = ended_same names (operands_said form) ts a ∙ over in
-    λ i. judged_by (line_first (h.full i) (not (h.early i)) (all_known names (operands_said form) ts a i) (ended i)) (judged_call (scope_in names) (named i) form)
+    let a = targets names form.operands ts h.found in
+    let ended = ended_same names form.operands ts a ∙ over in
+    λ i. judged_by (line_first (h.full i) (not (h.early i)) (all_known names form.operands ts a i) (ended i)) (judged_call (scope_in names) (named i) form)
 
 pub task-codelet : (has : Kernel → Bool) (names : Names) (form : TaskForm) (ts : List Target) → IsInLine names form ts → any_over ts ≡ false → kernel_named has form.codelet ≡ None → judged_task has (scope_in names) form ≡ Err UnknownCodelet
 task-codelet has names form ts h over named = in_line has names form ts None h over named
 
 called : (has : Kernel → Bool) (names : Names) (form : TaskForm) (ts : List Target) (k : Kernel) (why : Option Reason) → IsInLine names form ts → any_over ts ≡ false → kernel_named has form.codelet ≡ Some k → first_of (target_reasons k (map integer form.args) ts) ≡ why → judged_task has (scope_in names) form ≡ unless why (Task (task_said k form))
 called has names form ts k why h over named e =
-    let a = targets names (operands_said form) ts h.found in
+    let a = targets names form.operands ts h.found in
     in_line has names form ts (Some k) h over named
-    ∙ ap (λ rs. unless (first_of rs) (Task (task_said k form))) (reasons_same names k (map integer form.args) (operands_said form) ts a over)
+    ∙ ap (λ o. unless o (Task (task_said k form))) (reasons_same names k (map integer form.args) form.operands ts a over)
     ∙ ap (λ o. unless o (Task (task_said k form))) e
 
 pub task-why : (has : Kernel → Bool) (names : Names) (form : TaskForm) (ts : List Target) (k : Kernel) (why : Reason) → IsInLine names form ts → any_over ts ≡ false → kernel_named has form.codelet ≡ Some k → first_of (target_reasons k (map integer form.args) ts) ≡ Some why → judged_task has (scope_in names) form ≡ Err why
@@ -273,8 +402,8 @@ pub task-ok : (has : Kernel → Bool) (names : Names) (form : TaskForm) (ts : Li
     → args ≡ map integer form.args → os ≡ map operand_by ts → p ≡ priority_said form.priority
     → let t : KeptTask = record { kernel = k; args = args; operands = os; priority = p } in judged_task has (scope_in names) form ≡ Ok (Task (task_seen names.roots t))
 task-ok has names form ts k args os p h over named e ea eo ep =
-    let a = targets names (operands_said form) ts h.found in
-    let same : map (operand_seen names.roots) os ≡ operands_said form = ap (map (operand_seen names.roots)) eo ∙ seen_same names (operands_said form) ts a in
+    let a = targets names form.operands ts h.found in
+    let same : map (operand_seen names.roots) os ≡ operands_said form = ap (map (operand_seen names.roots)) eo ∙ seen_same names form.operands ts (lives names form.operands ts a over (unmissed k (map integer form.args) ts e)) in
     let line : List ℤ → List Operand → ℤ → TaskLine = λ args os p. record { codelet = codelet_of k; args = args; operands = os; priority = p } in
     called has names form ts k None h over named e
     ∙ (λ i. Ok (Task (line (sym ea i) (sym same i) (sym ep i))))

@@ -1,24 +1,23 @@
 -- What is kept of statements, seen with a table that has grown, and with one statement more.
-use Rattle.std.proofs.Common.{◌≡◌, ℕ, suc, ◌+◌, ◌<◌, ◌≤◌, List, [], ◌∷◌, ◌++◌, length, map, get_or, refl, ap, sym, subst, ◌∙◌, arith, All}
+use Rattle.std.proofs.Common.{◌≡◌, ℕ, suc, ◌<◌, ◌≤◌, List, [], ◌∷◌, ◌++◌, length, map, refl, ap, ◌∙◌, arith, All}
 use Rattle.std.proofs.lemmas.List.{get_or_append_left}
 use Rattle.sj_base.specs.declared.ids.Root.{Root}
-use Rattle.sj_base.specs.declared.mode.Mode.{Mode}
 use Rattle.sj_job.specs.declared.job.RootInfo.{RootInfo}
-use Rattle.sj_job.specs.declared.job.Init.{Init}
 use Rattle.sj_job.specs.declared.job.Operand.{Operand as Access}
 use Rattle.sj_job.specs.declared.job.Act.{Act as KeptAct}
 use Rattle.sj_job.specs.declared.job.Act.TheVariants as kept
 use Rattle.sj_job.specs.declared.job.Statement.{Statement as Kept}
 use Rattle.sj_job.specs.Statement.{Operand, TaskLine}
-use Rattle.sj_job.specs.Act.{Act, Register, Task, Print, Invalidate, Unregister, Statement}
-use Rattle.sj_job.specs.Table.{Table, table, a_root, no_info, name_of, info_of}
-use Rattle.sj_job.specs.View.{operand_seen, task_seen, registration, act_seen, statement_seen, seen_from, count_after, count_from, IsPlaced, ArePlaced, Extends}
+use Rattle.sj_job.specs.Act.{Act, Register, Plan, Task, Print, Invalidate, Unregister, Statement}
+use Rattle.sj_job.specs.Table.{Table, table, a_root, no_info, name_of}
+use Rattle.sj_job.specs.View.{operand_seen, registration, act_seen, statement_seen, seen_from, count_after, count_from, IsPlaced, ArePlaced, Extends}
 use Rattle.sj_codelet.specs.Kernel.{codelet_of}
 
 -- ---- counts
 
 pub count-grows : (k : ℕ) (a : KeptAct) → k ≤ count_after k a
 count-grows k (kept.Register init) = omega arith
+count-grows k (kept.Plan r p) = omega arith
 count-grows k (kept.Task t) = omega arith
 count-grows k (kept.Print r) = omega arith
 count-grows k (kept.Invalidate r) = omega arith
@@ -52,7 +51,7 @@ name-kept T names infos r lt = get_or_append_left T.names names [] r.0 lt
 operands-kept : (T : Table) (names : List (List ℕ)) (infos : List RootInfo) (os : List Access) → All (λ o. o.root.0 < length T.names) os → map (operand_seen (table (T.names ++ names) (T.infos ++ infos))) os ≡ map (operand_seen T) os
 operands-kept T names infos [] h = refl
 operands-kept T names infos (o ∷ os) h =
-    let mk : List ℕ → Operand = λ n. record { name = n; mode = o.mode } in
+    let mk : List ℕ → Operand = λ n. record { name = n; place = o.place; mode = o.mode } in
     λ i. mk (name-kept T names infos o.root (h 0 o (omega arith)) i) ∷ operands-kept T names infos os (λ k d lt. h (suc k) d (omega arith)) i
 
 all_within : (os : List Access) (k n : ℕ) → k ≤ n → All (λ o. o.root.0 < k) os → All (λ o. o.root.0 < n) os
@@ -63,6 +62,7 @@ act-kept T names infos k (kept.Register init) e le h =
     let in_names : k < length T.names = omega arith in
     let in_infos : k < length T.infos = omega arith in
     λ i. Register (registration (name-kept T names infos (a_root k) in_names i) (get_or_append_left T.infos infos no_info k in_infos i) init)
+act-kept T names infos k (kept.Plan r p) e le h = ap (λ n. Plan n p) (name-kept T names infos r (omega arith))
 act-kept T names infos k (kept.Task t) e le h =
     let line : List Operand → TaskLine = λ os. record { codelet = codelet_of t.kernel; args = t.args; operands = os; priority = t.priority } in
     ap (λ os. Task (line os)) (operands-kept T names infos t.operands (all_within t.operands k (length T.names) le h))

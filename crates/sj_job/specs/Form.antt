@@ -1,5 +1,5 @@
 -- How the words of a line are spelled as one of the forms of the language.
-use Rattle.std.specs.Prelude.{ℕ, Bool, true, false, ◌&&◌, ◌||◌, not, ◌==◌, ◌-◌, nat_lt, nat_eq, take, drop, slice_index, find, option_map, option_and_then, Option, Some, None, List, [], ◌∷◌, length, codes, if◌then◌else◌}
+use Rattle.std.specs.Prelude.{ℕ, Bool, ◌&&◌, ◌||◌, not, ◌==◌, ◌-◌, nat_lt, nat_eq, take, drop, slice_index, find, option_map, option_and_then, Option, Some, None, List, [], ◌∷◌, length, codes, if◌then◌else◌}
 use Rattle.std.specs.List.{before_first, after_first, slice_split, list_all, starts_with}
 use Rattle.std.specs.Str.{bytes_eq}
 use Rattle.sj_base.specs.declared.mode.Mode.{Mode}

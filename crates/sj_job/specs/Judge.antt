@@ -1,5 +1,5 @@
 -- Why a form is refused: the conditions of the reasons, in their order.
-use Rattle.std.specs.Prelude.{ℕ, ◌*◌, Bool, true, false, ◌&&◌, ◌||◌, not, nat_eq, nat_le, nat_lt, Option, Some, None, find, Result, Ok, Err, List, [], ◌∷◌, length, map, option_map, is_some, unwrap_or, zip, if◌then◌else◌, ℤ, pos, negsuc}
+use Rattle.std.specs.Prelude.{ℕ, ◌*◌, Bool, true, false, ◌&&◌, ◌||◌, not, nat_eq, nat_le, nat_lt, Option, Some, None, find, Result, Ok, Err, List, [], ◌∷◌, length, map, option_map, is_some, zip, if◌then◌else◌, ℤ, pos, negsuc}
 use Rattle.std.specs.List.{list_all, list_any}
 use Rattle.std.specs.Int.RustNames.{int_le}
 use Rattle.std.specs.Str.{bytes_eq}
@@ -10,24 +10,35 @@ use Rattle.sj_codelet.specs.declared.kernel.Kernel.{Kernel}
 use Rattle.sj_codelet.specs.declared.formal.Formal.{Formal}
 use Rattle.sj_codelet.specs.declared.formal.Formal.TheVariants.{R as FormalR, W as FormalW, RW as FormalRW, Scratch as FormalScratch}
 use Rattle.sj_codelet.specs.Kernel.{kernels, has_name, arguments_of, formals_of, fits}
+use Rattle.sj_plan.specs.declared.parts.Parts.{Parts}
+use Rattle.sj_plan.specs.Paste.{same_place}
+use Rattle.sj_plan.specs.Rect.{child, dims_of}
 use Rattle.sj_job.specs.declared.job.Init.{Init}
 use Rattle.sj_job.specs.declared.job.Init.TheVariants.{Values, Fill, Nothing}
 use Rattle.sj_job.specs.Statement.{Operand}
 use Rattle.sj_job.specs.Act.{Act}
-use Rattle.sj_job.specs.Act.{Register as Registers, Task as Tasks, Print as Prints, Invalidate as Invalidates, Unregister as Unregisters}
+use Rattle.sj_job.specs.Act.{Register as Registers, Plan as Plans, Task as Tasks, Print as Prints, Invalidate as Invalidates, Unregister as Unregisters}
+use Rattle.sj_job.specs.declared.form.OperandForm.{OperandForm}
 use Rattle.sj_job.specs.declared.form.TaskForm.{TaskForm}
 use Rattle.sj_job.specs.declared.form.Form.{Form}
 use Rattle.sj_job.specs.declared.form.Form.TheVariants as form
 use Rattle.sj_job.specs.declared.reason.Reason.{Reason}
-use Rattle.sj_job.specs.declared.reason.Reason.TheVariants.{UnknownName, TakenName, UnknownCodelet, OperandCount, Shape, Aliased, NoValue, Limit, EndedName, NotBuilt}
-use Rattle.sj_job.specs.declared.reason.LimitKind.TheVariants.{Statements, Names, Elements, Priority}
-use Rattle.sj_job.specs.declared.names.Known.{Known}
-use Rattle.sj_job.specs.Sentence.{rows_of, cols_of, init_said, registered_by, operands_said, priority_said, task_said}
-use Rattle.sj_job.specs.State.{Root, State, root_of, is_valued}
+use Rattle.sj_job.specs.declared.reason.Reason.TheVariants.{UnknownName, TakenName, UnknownCodelet, OperandCount, Part, Shape, Aliased, NoValue, Limit, EndedName, NotBuilt}
+use Rattle.sj_job.specs.declared.reason.LimitKind.TheVariants.{Statements, Names, Elements, Parts as PartsLimit, Priority}
+use Rattle.sj_job.specs.Sentence.{init_said, parts_said, index_said, registered_by, operands_said, priority_said, task_said}
+use Rattle.sj_job.specs.State.{Root, State, root_of, is_valued, is_blank, is_child, is_valued_child}
 
--- what the reasons look at in a root
+-- what the reasons look at in a root: whether all its elements have a value, whether none has, and which children of the
+-- active plan have one at each element
+pub record Known : Type 0 where
+  pub dims : Dims
+  pub parts : Parts
+  pub all : Bool
+  pub none : Bool
+  pub child : ℕ × ℕ → Bool
+
 abbrev pub known_of : Root → Known
-known_of r = record { dims = r.dims; valued = is_valued r }
+known_of r = record { dims = r.dims; parts = r.parts; all = is_valued r; none = is_blank r; child = is_valued_child r }
 
 -- how many statements stand before a line, how many names were registered, whether a name was ended,
 -- what is known of the others
@@ -83,14 +94,45 @@ is_miscounted (Values zs) rows cols = not (nat_eq (length zs) (rows * cols))
 is_miscounted (Fill a b) rows cols = false
 is_miscounted Nothing rows cols = false
 
-abbrev pub register_reasons : Scope → List ℕ → ℕ → ℕ → Init → List (Bool × Reason)
-register_reasons s name rows cols init =
+-- the plan would have too many children
+abbrev pub is_crowded : Parts → Bool
+is_crowded p = nat_lt 4096 (p.r * p.c)
+
+-- n items are cut into so many parts, none of them empty
+abbrev pub is_cut : ℕ → ℕ → Bool
+is_cut n p = nat_le 1 p && nat_le p n
+
+-- a part of rows or of columns would be empty
+abbrev pub is_uncut : Dims → Parts → Bool
+is_uncut d p = not (is_cut d.rows p.r && is_cut d.cols p.c)
+
+abbrev pub register_reasons : Scope → List ℕ → Dims → Parts → Init → List (Bool × Reason)
+register_reasons s name d p init =
     (is_full s, Limit Statements)
     ∷ (has_names s, Limit Names)
-    ∷ (is_outside rows cols, Limit Elements)
+    ∷ (is_outside d.rows d.cols, Limit Elements)
+    ∷ (is_crowded p, Limit PartsLimit)
     ∷ (is_ended s name, EndedName)
     ∷ (is_taken s name, TakenName)
-    ∷ (is_miscounted init rows cols, Shape)
+    ∷ (is_uncut d p, Part)
+    ∷ (is_miscounted init d.rows d.cols, Shape)
+    ∷ []
+
+abbrev pub dims_known : Scope → List ℕ → Dims
+dims_known s name = elim (s.known name) [ None ↦ record { rows = 0; cols = 0 } | Some k ↦ k.dims ]
+
+-- some elements have a value, and others have none
+abbrev pub is_mixed : Scope → List ℕ → Bool
+is_mixed s name = elim (s.known name) [ None ↦ false | Some k ↦ not (k.all || k.none) ]
+
+abbrev pub plan_reasons : Scope → List ℕ → Parts → List (Bool × Reason)
+plan_reasons s name p =
+    (is_full s, Limit Statements)
+    ∷ (is_crowded p, Limit PartsLimit)
+    ∷ (is_unknown s name, UnknownName)
+    ∷ (is_ended s name, EndedName)
+    ∷ (is_uncut (dims_known s name) p, Part)
+    ∷ (is_mixed s name, NoValue)
     ∷ []
 
 -- arguments and operands are as many as the codelet has
@@ -112,8 +154,18 @@ mode_fits _ _ = false
 abbrev pub modes_fit : List Formal → List Operand → Bool
 modes_fit fs os = list_all (λ p. mode_fits p.0 p.1.mode) (zip fs os)
 
+-- an index is that of a child; a name alone is the whole array, which is a child where it is the only one
+abbrev pub is_child_said : Parts → Option (ℕ × ℕ) → Bool
+is_child_said p None = nat_eq p.r 1 && nat_eq p.c 1
+is_child_said p (Some index) = is_child p index
+
+-- an operand is no child of its name's active plan
+abbrev pub is_missing : Scope → OperandForm → Bool
+is_missing s o = elim (s.known o.name) [ None ↦ false | Some k ↦ not (is_child_said k.parts (index_said o.child)) ]
+
+-- the dimensions of an operand's child
 abbrev pub dims_in : Scope → Operand → Dims
-dims_in s o = elim (s.known o.name) [ None ↦ record { rows = 0; cols = 0 } | Some k ↦ k.dims ]
+dims_in s o = elim (s.known o.name) [ None ↦ record { rows = 0; cols = 0 } | Some k ↦ dims_of (child k.dims k.parts o.place) ]
 
 abbrev pub is_shaped : Scope → Kernel → List ℤ → List Operand → Bool
 is_shaped s k args os = modes_fit (formals_of k) os && fits k args (map (dims_in s) os)
@@ -122,9 +174,9 @@ abbrev pub is_read_only : Mode → Bool
 is_read_only R = true
 is_read_only _ = false
 
--- both name one array, and not both only read it
+-- both are one child, and not both only read it
 abbrev pub clashes : Operand → Operand → Bool
-clashes o p = bytes_eq o.name p.name && not (is_read_only o.mode && is_read_only p.mode)
+clashes o p = bytes_eq o.name p.name && same_place o.place p.place && not (is_read_only o.mode && is_read_only p.mode)
 
 abbrev pub is_aliased : List Operand → Bool
 is_aliased [] = false
@@ -136,17 +188,23 @@ needs_value RW = true
 needs_value Commute = true
 needs_value _ = false
 
+-- an element of a name has no value
 abbrev pub lacks_value : Scope → List ℕ → Bool
-lacks_value s name = elim (s.known name) [ None ↦ false | Some k ↦ not k.valued ]
+lacks_value s name = elim (s.known name) [ None ↦ false | Some k ↦ not k.all ]
+
+-- an element of an operand's child has none
+abbrev pub child_lacks_value : Scope → Operand → Bool
+child_lacks_value s o = elim (s.known o.name) [ None ↦ false | Some k ↦ not (k.child o.place) ]
 
 -- an operand's old value is needed and isn't there
 abbrev pub is_lacking : Scope → Operand → Bool
-is_lacking s o = needs_value o.mode && lacks_value s o.name
+is_lacking s o = needs_value o.mode && child_lacks_value s o
 
 -- the operands' own conditions, for a codelet of the table
-abbrev pub operand_reasons : Scope → Kernel → List ℤ → List Operand → List (Bool × Reason)
-operand_reasons s k args os =
+abbrev pub operand_reasons : Scope → Kernel → List ℤ → List OperandForm → List Operand → List (Bool × Reason)
+operand_reasons s k args forms os =
     (not (is_counted k args os), OperandCount)
+    ∷ (list_any (is_missing s) forms, Part)
     ∷ (not (is_shaped s k args os), Shape)
     ∷ (is_aliased os, Aliased)
     ∷ (list_any (is_lacking s) os, NoValue)
@@ -193,7 +251,8 @@ kernel_named has name = find (λ k. has k && has_name name k) kernels
 -- what the codelet's conditions leave of a task
 abbrev pub judged_call : Scope → Option Kernel → TaskForm → Result Act Reason
 judged_call s None t = Err UnknownCodelet
-judged_call s (Some k) t = unless (first_of (operand_reasons s k (task_said k t).args (operands_said t))) (Tasks (task_said k t))
+judged_call s (Some k) t =
+    unless (first_of (operand_reasons s k (task_said k t).args t.operands (operands_said t))) (Tasks (task_said k t))
 
 -- what the reasons before the codelet's leave
 abbrev pub judged_by : Option Reason → Result Act Reason → Result Act Reason
@@ -210,8 +269,10 @@ abbrev pub judged : (Kernel → Bool) → Scope → Form → Result Act Reason
 judged has s (form.Workers n) = Err NotBuilt
 judged has s (form.Node n) = Err NotBuilt
 judged has s (form.Policy p) = Err NotBuilt
-judged has s (form.Register a) = unless (first_of (register_reasons s a.name (rows_of a.size) (cols_of a.size) (init_said a.init))) (Registers (registered_by a))
-judged has s (form.Plan name r c) = Err NotBuilt
+judged has s (form.Register a) =
+    unless (first_of (register_reasons s a.name (registered_by a).dims (parts_said a.parts) (init_said a.init))) (Registers (registered_by a))
+judged has s (form.Plan name r c) =
+    let p = parts_said (Some (r, c)) in unless (first_of (plan_reasons s name p)) (Plans name p)
 judged has s (form.Redux name by) = Err NotBuilt
 judged has s (form.Task t) = judged_task has s t
 judged has s (form.Print name) = unless (first_of (print_reasons s name)) (Prints name)

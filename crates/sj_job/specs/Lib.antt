@@ -6,6 +6,7 @@ pub mod Verdict
 pub mod Table
 pub mod View
 pub mod State
+pub mod Track
 pub mod Meaning
 pub mod Form
 pub mod Sentence

@@ -5,7 +5,10 @@ use Rattle.std.specs.List.{range_with_len}
 use Rattle.sj_base.specs.declared.tile.Dims.{Dims}
 use Rattle.sj_base.specs.declared.mode.Mode.{Mode}
 use Rattle.sj_base.specs.declared.mode.Mode.TheVariants.{R, W, RW, Scratch, Redux, Commute}
-use Rattle.sj_base.specs.Array.{Array, array, area, zeros}
+use Rattle.sj_base.specs.Array.{Array, array, area, element, zeros}
+use Rattle.sj_base.specs.Window.{write_rect}
+use Rattle.sj_plan.specs.declared.parts.Parts.{Parts}
+use Rattle.sj_plan.specs.Rect.{place_of, dims_of}
 use Rattle.sj_codelet.specs.Ring.{wrap}
 use Rattle.sj_codelet.specs.Kernel.{out}
 use Rattle.sj_job.specs.declared.job.Kind.{Kind}
@@ -15,9 +18,9 @@ use Rattle.sj_job.specs.Statement.{Register}
 use Rattle.sj_job.specs.Statement.{Operand}
 use Rattle.sj_job.specs.Statement.{TaskLine}
 use Rattle.sj_job.specs.Act.{Act}
-use Rattle.sj_job.specs.Act.{Register as Registers, Task, Print, Invalidate, Unregister}
+use Rattle.sj_job.specs.Act.{Register as Registers, Plan, Task, Print, Invalidate, Unregister}
 use Rattle.sj_job.specs.Act.{Statement}
-use Rattle.sj_job.specs.State.{Root, State, start, root_of}
+use Rattle.sj_job.specs.State.{Root, State, start, root_of, child_rect, child_elements}
 
 -- no value at each element
 abbrev pub no_values : Dims → List (Option ℤ)
@@ -30,7 +33,7 @@ first_elements (Fill a b) d = each_of (λ p. Some (wrap (a +ℤ (b *ℤ pos p)))
 first_elements Nothing d = no_values d
 
 abbrev pub registered_root : Register → Root
-registered_root r = record { kind = r.kind; dims = r.dims; elements = first_elements r.init r.dims }
+registered_root r = record { kind = r.kind; dims = r.dims; parts = r.parts; elements = first_elements r.init r.dims }
 
 abbrev pub register : Register → State → State
 register r S = record S {
@@ -38,24 +41,50 @@ register r S = record S {
   roots = map.insert S.roots r.name (registered_root r);
 }
 
--- a root's array; an element without value doesn't matter, since it isn't read
-abbrev pub array_of : Root → Array
-array_of r = array r.dims (each_of (λ e. unwrap_or e (pos 0)) r.elements)
+-- another plan; every element stays
+abbrev pub with_parts : Parts → Root → Root
+with_parts p r = record { kind = r.kind; dims = r.dims; parts = p; elements = r.elements }
 
--- what a task reads of an operand: its elements, or zeros where the old value isn't read
-abbrev pub seen_by : Mode → Root → Array
-seen_by W r = zeros r.dims
-seen_by Scratch r = zeros r.dims
-seen_by R r = array_of r
-seen_by RW r = array_of r
-seen_by Redux r = array_of r
-seen_by Commute r = array_of r
+-- other elements
+abbrev pub with_elements : List (Option ℤ) → Root → Root
+with_elements es r = record { kind = r.kind; dims = r.dims; parts = r.parts; elements = es }
+
+-- what a root's name has after a change of it
+abbrev pub change : (Root → Root) → List ℕ → State → State
+change f name S = elim (root_of S name) [
+  | None ↦ S
+  | Some r ↦ record S { roots = map.insert S.roots name (f r) }
+]
+
+abbrev pub plan : List ℕ → Parts → State → State
+plan name p S = change (with_parts p) name S
+
+-- the integers of elements; one without value doesn't matter, since it isn't read
+abbrev pub integers_of : List (Option ℤ) → List ℤ
+integers_of es = each_of (λ e. unwrap_or e (pos 0)) es
+
+-- a root's whole array
+abbrev pub array_of : Root → Array
+array_of r = array r.dims (integers_of r.elements)
+
+-- the array of a child
+abbrev pub child_array : Root → ℕ × ℕ → Array
+child_array r place = array (dims_of (child_rect r place)) (integers_of (child_elements r place))
+
+-- what a task reads of a child: its elements, or zeros where the old value isn't read
+abbrev pub seen_by : Mode → Root → ℕ × ℕ → Array
+seen_by W r place = zeros (dims_of (child_rect r place))
+seen_by Scratch r place = zeros (dims_of (child_rect r place))
+seen_by R r place = child_array r place
+seen_by RW r place = child_array r place
+seen_by Redux r place = child_array r place
+seen_by Commute r place = child_array r place
 
 -- the array that a task sees of an operand
 abbrev pub operand_array : State → Operand → Array
 operand_array S o = elim (root_of S o.name) [
   | None ↦ array (record { rows = 0; cols = 0 }) []
-  | Some r ↦ seen_by o.mode r
+  | Some r ↦ seen_by o.mode r o.place
 ]
 
 abbrev pub is_written : Mode → Bool
@@ -66,35 +95,34 @@ is_written RW = true
 is_written Redux = true
 is_written Commute = true
 
--- the names that a task writes, in order
-abbrev pub written_names : List Operand → List (List ℕ)
-written_names os = each_of (λ o. o.name) (filter (λ o. is_written o.mode) os)
+-- the operands that a task writes, in order
+abbrev pub written_of : List Operand → List Operand
+written_of os = filter (λ o. is_written o.mode) os
 
--- a name's elements become those of an array
-abbrev pub put : List ℕ → Array → State → State
-put name a S = elim (root_of S name) [
-  | None ↦ S
-  | Some r ↦ record S { roots = map.insert S.roots name (record r { elements = each_of Some a.elements }) }
-]
+-- a child's elements become those of an array; the others stay
+abbrev pub with_child : ℕ × ℕ → Array → Root → Root
+with_child place a r =
+    let rect = child_rect r place in
+    with_elements (write_rect None r.dims r.elements (place_of rect) (dims_of rect) (λ i j. Some (element a i j))) r
 
--- each of these names gets its array, and no other changes
-abbrev pub put_all : List (List ℕ) → List Array → State → State
+abbrev pub put : Operand → Array → State → State
+put o a S = change (with_child o.place a) o.name S
+
+-- the child of each of these operands gets its array, and no other changes
+abbrev pub put_all : List Operand → List Array → State → State
 put_all [] arrays S = S
-put_all (n ∷ ns) [] S = S
-put_all (n ∷ ns) (a ∷ arrays) S = put_all ns arrays (put n a S)
+put_all (o ∷ os) [] S = S
+put_all (o ∷ os) (a ∷ arrays) S = put_all os arrays (put o a S)
 
 -- a task: the written operands get the codelet's new arrays
 abbrev pub run_task : TaskLine → State → State
 run_task t S =
     let news = out t.codelet t.args (each_of (operand_array S) t.operands) in
-    put_all (written_names t.operands) news S
+    put_all (written_of t.operands) news S
 
 -- every element of a name becomes no value
 abbrev pub invalidate : List ℕ → State → State
-invalidate name S = elim (root_of S name) [
-  | None ↦ S
-  | Some r ↦ record S { roots = map.insert S.roots name (record r { elements = no_values r.dims }) }
-]
+invalidate name S = change (λ r. with_elements (no_values r.dims) r) name S
 
 -- a name is taken away for good
 abbrev pub unregister : List ℕ → State → State
@@ -103,6 +131,7 @@ unregister name S = record S { ended = name ∷ S.ended; roots = map.remove S.ro
 -- what one statement does
 abbrev pub apply : Act → State → State
 apply (Registers r) S = register r S
+apply (Plan name p) S = plan name p S
 apply (Task t) S = run_task t S
 apply (Print name) S = S
 apply (Invalidate name) S = invalidate name S
@@ -132,6 +161,7 @@ found_by S name = elim (root_of S name) [
 -- what a statement prints
 abbrev pub prints : Act → State → List Printed
 prints (Registers r) S = []
+prints (Plan name p) S = []
 prints (Task t) S = []
 prints (Print name) S = found_by S name
 prints (Invalidate name) S = []

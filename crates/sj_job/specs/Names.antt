@@ -1,27 +1,32 @@
 -- The reader's names as the reasons see them.
-use Rattle.std.specs.Prelude.{◌≡◌, ℕ, Bool, true, false, ◌&&◌, ◌||◌, not, nat_eq, nat_lt, List, [], ◌∷◌, Option, Some, None, option_map, option_and_then, length, map, zip, if◌then◌else◌, vec_len, ℤ}
+use Rattle.std.specs.Prelude.{◌≡◌, ℕ, Bool, true, false, ◌&&◌, ◌||◌, not, nat_eq, List, [], ◌∷◌, Option, Some, None, option_map, unwrap_or, length, map, zip, if◌then◌else◌, vec_len, ℤ, IsTrue, slice_set}
 use Rattle.std.specs.List.{slice_index_or, list_all, list_any}
-use Rattle.std.specs.Str.{bytes_eq}
 use Rattle.sj_base.specs.declared.ids.Root.{Root}
 use Rattle.sj_base.specs.declared.tile.Dims.{Dims}
+use Rattle.sj_base.specs.declared.mode.Mode.{Mode}
 use Rattle.sj_codelet.specs.declared.kernel.Kernel.{Kernel}
 use Rattle.sj_codelet.specs.declared.formal.Formal.{Formal}
 use Rattle.sj_codelet.specs.Kernel.{arguments_of, formals_of, fits}
+use Rattle.sj_plan.specs.declared.parts.Parts.{Parts}
+use Rattle.sj_plan.specs.Parts.{IsPlace}
+use Rattle.sj_plan.specs.Paste.{same_place}
+use Rattle.sj_plan.specs.Rect.{child, dims_of}
+use Rattle.sj_job.specs.declared.form.OperandForm.{OperandForm}
 use Rattle.sj_job.specs.declared.job.Init.{Init}
 use Rattle.sj_job.specs.declared.job.Init.TheVariants.{Values, Fill, Nothing}
 use Rattle.sj_job.specs.declared.job.Operand.{Operand as Access}
-use Rattle.sj_job.specs.declared.names.Known.{Known}
 use Rattle.sj_job.specs.declared.names.Standing.{Standing}
-use Rattle.sj_job.specs.declared.names.Standing.TheVariants.{Valued, Unvalued, Ended}
-use Rattle.sj_job.specs.declared.names.Found.{Found}
-use Rattle.sj_job.specs.declared.names.Target.{Target}
+use Rattle.sj_job.specs.declared.names.Standing.TheVariants.{Live, Ended}
 use Rattle.sj_job.specs.declared.names.Names.{Names}
+use Rattle.sj_job.specs.declared.judge.Target.{Target}
 use Rattle.sj_job.specs.declared.reason.Reason.{Reason}
-use Rattle.sj_job.specs.declared.reason.Reason.TheVariants.{OperandCount, Shape, Aliased, NoValue}
-use Rattle.sj_job.specs.Statement.{Operand}
-use Rattle.sj_job.specs.Table.{root_in, name_of, info_of}
+use Rattle.sj_job.specs.declared.reason.Reason.TheVariants.{OperandCount, Part, Shape, Aliased, NoValue}
+use Rattle.sj_job.specs.Sentence.{index_said}
+use Rattle.sj_job.specs.State.{is_child}
+use Rattle.sj_job.specs.Table.{root_in, info_of}
+use Rattle.sj_job.specs.Track.{Track, all_valued, none_valued, even, is_set, written}
 use Rattle.sj_job.specs.Meaning.{is_written}
-use Rattle.sj_job.specs.Judge.{Scope, first_of, is_read_only, mode_fits, needs_value}
+use Rattle.sj_job.specs.Judge.{Known, Scope, is_child_said, is_read_only, mode_fits, needs_value}
 
 -- each root has a standing
 abbrev pub IsCounted : Names → Type 0
@@ -30,6 +35,12 @@ IsCounted names = vec_len names.standings ≡ length names.roots.names
 abbrev pub standing_of : Names → Root → Standing
 standing_of names r = slice_index_or names.standings.items r.0 Ended
 
+-- a root that was found by its name
+pub record Found : Type 0 where
+  pub root : Root
+  pub dims : Dims
+  pub standing : Standing
+
 abbrev pub found_at : Names → Root → Found
 found_at names r = record { root = r; dims = (info_of names.roots r).dims; standing = standing_of names r }
 
@@ -37,19 +48,37 @@ found_at names r = record { root = r; dims = (info_of names.roots r).dims; stand
 abbrev pub found_in : Names → List ℕ → Option Found
 found_in names q = option_map (found_at names) (root_in names.roots q)
 
+-- ---- how it stands with a root
+
 abbrev pub is_over : Standing → Bool
-is_over Valued = false
-is_over Unvalued = false
+is_over (Live t) = false
 is_over Ended = true
 
-abbrev pub is_unvalued : Standing → Bool
-is_unvalued Valued = false
-is_unvalued Unvalued = true
-is_unvalued Ended = false
+abbrev pub is_all : Standing → Bool
+is_all (Live t) = all_valued t
+is_all Ended = false
+
+abbrev pub is_none : Standing → Bool
+is_none (Live t) = none_valued t
+is_none Ended = false
+
+-- the active plan
+abbrev pub plan_in : Standing → Option Parts
+plan_in (Live t) = Some t.parts
+plan_in Ended = None
+
+-- what the reasons look at in a root with this track
+abbrev pub known_with : Dims → Track → Known
+known_with d t = record {
+  dims = d;
+  parts = t.parts;
+  all = all_valued t;
+  none = none_valued t;
+  child = λ place. is_child t.parts place && is_set t place;
+}
 
 abbrev pub known_by : Dims → Standing → Option Known
-known_by d Valued = Some (record { dims = d; valued = true })
-known_by d Unvalued = Some (record { dims = d; valued = false })
+known_by d (Live t) = Some (known_with d t)
 known_by d Ended = None
 
 abbrev pub known_from : Option Found → Option Known
@@ -77,56 +106,85 @@ scope_in names = record {
 -- ---- changes
 
 -- each element has a value from the registration on
-abbrev pub first_standing : Init → Standing
-first_standing (Values zs) = Valued
-first_standing (Fill a b) = Valued
-first_standing Nothing = Unvalued
-
-abbrev pub revalued_standing : Bool → Standing → Standing
-revalued_standing valued Ended = Ended
-revalued_standing true Valued = Valued
-revalued_standing true Unvalued = Valued
-revalued_standing false Valued = Unvalued
-revalued_standing false Unvalued = Unvalued
-
 abbrev pub gives_values : Init → Bool
 gives_values (Values zs) = true
 gives_values (Fill a b) = true
 gives_values Nothing = false
 
--- the name's root, if it has one, is valued or not
-abbrev pub revalued : Bool → List ℕ → (List ℕ → Option Known) → List ℕ → Option Known
-revalued valued name known q =
-    if bytes_eq q name then option_map (λ k. record { dims = k.dims; valued = valued }) (known q)
-    else known q
+abbrev pub first_standing : Parts → Init → Standing
+first_standing p init = Live (even p (gives_values init))
 
--- an operand's root is valued, if the task writes it
-abbrev pub after_write : Operand → (List ℕ → Option Known) → List ℕ → Option Known
-after_write o known = if is_written o.mode then revalued true o.name known else known
+abbrev pub planned : Parts → Standing → Standing
+planned p (Live t) = Live (even p (all_valued t))
+planned p Ended = Ended
 
--- the written operands' roots are valued
-abbrev pub after_writes : List Operand → (List ℕ → Option Known) → List ℕ → Option Known
-after_writes [] known = known
-after_writes (o ∷ os) known = after_writes os (after_write o known)
+abbrev pub invalidated : Standing → Standing
+invalidated (Live t) = Live (even t.parts false)
+invalidated Ended = Ended
+
+abbrev pub child_written : ℕ × ℕ → Standing → Standing
+child_written place (Live t) = Live (written t place)
+child_written place Ended = Ended
+
+-- all its children have a value, or none has
+abbrev pub IsEven : Standing → Type 0
+IsEven (Live t) = IsTrue (all_valued t || none_valued t)
+IsEven Ended = Unit {0}
+
+-- the place is one of the plan, where there is one
+abbrev pub IsPlaceIn : Option Parts → ℕ × ℕ → Type 0
+IsPlaceIn None place = Unit {0}
+IsPlaceIn (Some p) place = IsPlace p place
+
+-- the operand's child has a value from now on, if the task writes it
+abbrev pub after_write : Access → List Standing → List Standing
+after_write o sts =
+    if is_written o.mode then slice_set sts o.root.0 (child_written o.place (slice_index_or sts o.root.0 Ended)) else sts
+
+abbrev pub after_writes : List Access → List Standing → List Standing
+after_writes [] sts = sts
+after_writes (o ∷ os) sts = after_writes os (after_write o sts)
 
 -- ---- operands with their roots
 
+abbrev pub a_target : Root → Mode → Bool → Bool → ℕ × ℕ → Dims → Bool → Target
+a_target r m over missing place d valued =
+    record { root = r; mode = m; over = over; missing = missing; place = place; dims = d; valued = valued }
+
+-- the target of no child
+abbrev pub no_child : Root → Mode → Bool → Target
+no_child r m over = a_target r m over (not over) (0, 0) (record { rows = 0; cols = 0 }) false
+
+-- what an index or a name alone means under a plan
+abbrev pub target_under : Root → Dims → Mode → Option (ℕ × ℕ) → Track → Target
+target_under r d m index t =
+    if is_child_said t.parts index
+    then a_target r m false false (unwrap_or index (0, 0)) (dims_of (child d t.parts (unwrap_or index (0, 0)))) (is_set t (unwrap_or index (0, 0)))
+    else no_child r m false
+
+abbrev pub target_by : Root → Dims → Mode → Option (ℕ × ℕ) → Standing → Target
+target_by r d m index (Live t) = target_under r d m index t
+target_by r d m index Ended = no_child r m true
+
 -- an operand with its root, where its name has one
-abbrev pub target_in : Names → Operand → Option Target
-target_in names o = option_map (λ f. record { found = f; mode = o.mode }) (found_in names o.name)
+abbrev pub target_in : Names → OperandForm → Option Target
+target_in names o = option_map (λ f. target_by f.root f.dims o.mode (index_said o.child) f.standing) (found_in names o.name)
 
 -- what is kept of it
 abbrev pub operand_by : Target → Access
-operand_by t = record { root = t.found.root; mode = t.mode }
+operand_by t = record { root = t.root; place = t.place; mode = t.mode }
 
 abbrev pub any_over : List Target → Bool
-any_over ts = list_any (λ t. is_over t.found.standing) ts
+any_over ts = list_any (λ t. t.over) ts
+
+abbrev pub any_missing : List Target → Bool
+any_missing ts = list_any (λ t. t.missing) ts
 
 abbrev pub targets_fit : List Formal → List Target → Bool
 targets_fit fs ts = list_all (λ p. mode_fits p.0 p.1.mode) (zip fs ts)
 
 abbrev pub target_dims : List Target → List Dims
-target_dims ts = map (λ t. t.found.dims) ts
+target_dims ts = map (λ t. t.dims) ts
 
 abbrev pub is_counted_for : Kernel → List ℤ → List Target → Bool
 is_counted_for k args ts = nat_eq (length args) (arguments_of k) && nat_eq (length ts) (length (formals_of k))
@@ -134,20 +192,22 @@ is_counted_for k args ts = nat_eq (length args) (arguments_of k) && nat_eq (leng
 abbrev pub is_shaped_for : Kernel → List ℤ → List Target → Bool
 is_shaped_for k args ts = targets_fit (formals_of k) ts && fits k args (target_dims ts)
 
--- both are of one root, and not both only read it
+-- both are of one child, and not both only read it
 abbrev pub collide : Target → Target → Bool
-collide t u = nat_eq t.found.root.0 u.found.root.0 && not (is_read_only t.mode && is_read_only u.mode)
+collide t u =
+    nat_eq t.root.0 u.root.0 && same_place t.place u.place && not (is_read_only t.mode && is_read_only u.mode)
 
 abbrev pub any_collide : List Target → Bool
 any_collide [] = false
 any_collide (t ∷ ts) = list_any (collide t) ts || any_collide ts
 
 abbrev pub is_wanting : Target → Bool
-is_wanting t = needs_value t.mode && is_unvalued t.found.standing
+is_wanting t = needs_value t.mode && not t.valued
 
 abbrev pub target_reasons : Kernel → List ℤ → List Target → List (Bool × Reason)
 target_reasons k args ts =
     (not (is_counted_for k args ts), OperandCount)
+    ∷ (any_missing ts, Part)
     ∷ (not (is_shaped_for k args ts), Shape)
     ∷ (any_collide ts, Aliased)
     ∷ (list_any is_wanting ts, NoValue)

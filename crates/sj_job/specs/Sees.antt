@@ -1,21 +1,37 @@
 -- The reader's names agree with the state that the statements so far leave.
-use Rattle.std.specs.Prelude.{◌≡◌, ℕ, ◌≤◌, Some, List, option_map, length}
+use Rattle.std.specs.Prelude.{◌≡◌, ℕ, Option, Some, None, List, length}
 use Rattle.std.specs.List.{list_any}
 use Rattle.std.specs.Str.{bytes_eq}
-use Rattle.sj_base.specs.Array.{area}
+use Rattle.sj_base.specs.declared.tile.Dims.{Dims}
 use Rattle.sj_job.specs.declared.names.Names.{Names}
+use Rattle.sj_job.specs.declared.names.Standing.{Standing}
+use Rattle.sj_job.specs.declared.names.Standing.TheVariants.{Live, Ended}
 use Rattle.sj_job.specs.State.{Root, State, root_of}
-use Rattle.sj_job.specs.Judge.{known_of}
-use Rattle.sj_job.specs.Names.{ended_in, known_in, IsCounted}
+use Rattle.sj_job.specs.Track.{Track, Tracks}
+use Rattle.sj_job.specs.Names.{Found, IsCounted, ended_in, found_in}
+
+-- a root of these dimensions with this track
+pub record IsTracked (d : Dims) (t : Track) (o : Option Root) : Type 0 where
+  pub root : Root
+  pub there : o ≡ Some root
+  pub dims : root.dims ≡ d
+  pub tracks : Tracks t root
+
+-- how it stands with a name is so of its root
+abbrev pub StandsFor : Dims → Standing → Option Root → Type 0
+StandsFor d (Live t) o = IsTracked d t o
+StandsFor d Ended o = o ≡ None
+
+abbrev pub IsFound : Option Found → Option Root → Type 0
+IsFound None o = o ≡ None
+IsFound (Some f) o = StandsFor f.dims f.standing o
 
 -- what is known of the names is so in the state
 pub record Shows (names : Names) (S : State) : Type 0 where
   pub counted : IsCounted names
   pub registered : length names.roots.names ≡ S.registered
   pub ended : (q : List ℕ) → ended_in names q ≡ list_any (bytes_eq q) S.ended
-  pub known : (q : List ℕ) → known_in names q ≡ option_map known_of (root_of S q)
-  -- a root has an element, so without its values it isn't valued
-  pub filled : (q : List ℕ) (r : Root) → root_of S q ≡ Some r → 1 ≤ area r.dims
+  pub found : (q : List ℕ) → IsFound (found_in names q) (root_of S q)
 
 pub record Sees (names : Names) (n : ℕ) (S : State) : Type 0 where
   pub statements : names.statements ≡ n

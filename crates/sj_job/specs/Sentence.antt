@@ -1,11 +1,12 @@
 -- What the words of a line say.
-use Rattle.std.specs.Prelude.{ℕ, Bool, true, false, ◌&&◌, not, map, is_none, Option, Some, None, Result, Ok, Err, List, [], ◌∷◌, ℤ, pos, codes, if◌then◌else◌}
+use Rattle.std.specs.Prelude.{ℕ, Bool, true, false, ◌&&◌, not, map, Option, Some, None, unwrap_or, Result, Ok, Err, List, [], ◌∷◌, ℤ, pos, codes, if◌then◌else◌}
 use Rattle.std.specs.List.{list_all}
 use Rattle.std.specs.Str.{bytes_eq}
 use Rattle.sj_base.specs.declared.mode.Mode.{Mode}
 use Rattle.sj_base.specs.declared.mode.Mode.TheVariants.{R, W, RW, Scratch, Redux, Commute}
 use Rattle.sj_codelet.specs.declared.kernel.Kernel.{Kernel}
 use Rattle.sj_codelet.specs.Kernel.{codelet_of}
+use Rattle.sj_plan.specs.declared.parts.Parts.{Parts}
 use Rattle.sj_job.specs.declared.job.Kind.{Kind}
 use Rattle.sj_job.specs.declared.job.Kind.TheVariants as kind
 use Rattle.sj_job.specs.declared.job.Init.{Init}
@@ -21,6 +22,7 @@ use Rattle.sj_job.specs.declared.form.TaskForm.{TaskForm}
 use Rattle.sj_job.specs.declared.form.Form.{Form}
 use Rattle.sj_job.specs.declared.form.Form.TheVariants as form
 use Rattle.sj_job.specs.Statement.{Register, TaskLine}
+use Rattle.sj_job.specs.Table.{undivided}
 use Rattle.sj_job.specs.declared.reason.Reason.{Reason}
 use Rattle.sj_job.specs.declared.reason.Reason.TheVariants.{Word, Number, NotBuilt}
 use Rattle.sj_job.specs.Word.{is_count, is_integer, count, integer}
@@ -80,10 +82,10 @@ abbrev pub is_built : Form → Bool
 is_built (form.Workers n) = false
 is_built (form.Node n) = false
 is_built (form.Policy p) = false
-is_built (form.Register a) = is_none a.parts
-is_built (form.Plan name r c) = false
+is_built (form.Register a) = true
+is_built (form.Plan name r c) = true
 is_built (form.Redux name by) = false
-is_built (form.Task t) = list_all (λ o. is_none o.child && is_built_mode o.mode) t.operands
+is_built (form.Task t) = list_all (λ o. is_built_mode o.mode) t.operands
 is_built (form.Print name) = true
 is_built (form.Invalidate name) = true
 is_built (form.Unregister name) = true
@@ -108,16 +110,31 @@ init_said (init.Values vs) = Values (map integer vs)
 init_said (init.Fill a b) = Fill (integer a) (integer b)
 init_said init.Nothing = Nothing
 
+-- the plan that `by r c` names; without it the array is whole
+abbrev pub parts_said : Option (List ℕ × List ℕ) → Parts
+parts_said None = undivided
+parts_said (Some p) = record { r = count p.0; c = count p.1 }
+
 abbrev pub registered_by : ArrayForm → Register
 registered_by a = record {
   name = a.name;
   kind = kind_of a.size;
   dims = record { rows = rows_of a.size; cols = cols_of a.size };
+  parts = parts_said a.parts;
   init = init_said a.init;
 }
 
+-- the index of a child, where there is one
+abbrev pub index_said : Option (List ℕ × List ℕ) → Option (ℕ × ℕ)
+index_said None = None
+index_said (Some p) = Some (count p.0, count p.1)
+
+-- the place of a child; a name alone means the first
+abbrev pub place_said : OperandForm → ℕ × ℕ
+place_said o = unwrap_or (index_said o.child) (0, 0)
+
 abbrev pub operand_said : OperandForm → Operand
-operand_said o = record { name = o.name; mode = o.mode }
+operand_said o = record { name = o.name; place = place_said o; mode = o.mode }
 
 -- the integer of `prio=`, or 0 without it
 abbrev pub priority_said : Option (List ℕ) → ℤ

@@ -8,13 +8,16 @@ use Rattle.sj_base.specs.Array.{area}
 use Rattle.sj_codelet.specs.declared.kernel.Kernel.{Kernel}
 use Rattle.sj_codelet.specs.Kernel.{fits_in}
 use Rattle.sj_codelet.specs.Runs.{formals_in}
+use Rattle.sj_plan.specs.declared.parts.Parts.{Parts}
+use Rattle.sj_plan.specs.Parts.{Fits}
+use Rattle.sj_plan.specs.Rect.{dims_of as rect_dims}
 use Rattle.sj_job.specs.declared.job.Init.{Init}
 use Rattle.sj_job.specs.declared.job.Init.TheVariants.{Values, Fill, Nothing}
 use Rattle.sj_job.specs.Statement.{Register}
-use Rattle.sj_job.specs.Statement.{TaskLine}
+use Rattle.sj_job.specs.Statement.{Operand, TaskLine}
 use Rattle.sj_job.specs.Act.{Act}
-use Rattle.sj_job.specs.Act.{Register as Registers, Task, Print, Invalidate, Unregister}
-use Rattle.sj_job.specs.State.{State, root_of, is_valued}
+use Rattle.sj_job.specs.Act.{Register as Registers, Plan, Task, Print, Invalidate, Unregister}
+use Rattle.sj_job.specs.State.{State, root_of, is_valued, is_blank, is_child, child_rect, is_valued_child}
 use Rattle.sj_job.specs.Judge.{is_side, is_priority, modes_fit, needs_value, is_aliased}
 
 -- the dimensions of a name's root, or none by none
@@ -28,6 +31,24 @@ has_root S name = is_some (root_of S name)
 abbrev pub has_values : State → List ℕ → Bool
 has_values S name = elim (root_of S name) [ None ↦ false | Some r ↦ is_valued r ]
 
+-- a name has a root without any value
+abbrev pub has_none : State → List ℕ → Bool
+has_none S name = elim (root_of S name) [ None ↦ false | Some r ↦ is_blank r ]
+
+-- ---- operands
+
+-- the dimensions of an operand's child
+abbrev pub child_dims : State → Operand → Dims
+child_dims S o = elim (root_of S o.name) [ None ↦ record { rows = 0; cols = 0 } | Some r ↦ rect_dims (child_rect r o.place) ]
+
+-- an operand is a child of its name's active plan
+abbrev pub has_child : State → Operand → Bool
+has_child S o = elim (root_of S o.name) [ None ↦ false | Some r ↦ is_child r.parts o.place ]
+
+-- a child with a value at each element
+abbrev pub has_child_values : State → Operand → Bool
+has_child_values S o = elim (root_of S o.name) [ None ↦ false | Some r ↦ is_valued_child r o.place ]
+
 abbrev pub is_plain : Mode → Bool
 is_plain R = true
 is_plain W = true
@@ -38,12 +59,12 @@ is_plain Commute = false
 
 -- codelet, arguments, dimensions and modes of a task go together, and what it reads is there
 pub record IsSoundTask (has : Kernel → Bool) (S : State) (t : TaskLine) : Type 0 where
-  pub fits : IsTrue (fits_in has t.codelet t.args (map (λ o. dims_of S o.name) t.operands))
+  pub fits : IsTrue (fits_in has t.codelet t.args (map (child_dims S) t.operands))
   pub modes : IsTrue (modes_fit (formals_in t.codelet) t.operands)
   pub plain : IsTrue (list_all (λ o. is_plain o.mode) t.operands)
   pub apart : is_aliased t.operands ≡ false
-  pub rooted : IsTrue (list_all (λ o. has_root S o.name) t.operands)
-  pub valued : IsTrue (list_all (λ o. not (needs_value o.mode) || has_values S o.name) t.operands)
+  pub placed : IsTrue (list_all (has_child S) t.operands)
+  pub valued : IsTrue (list_all (λ o. not (needs_value o.mode) || has_child_values S o) t.operands)
   pub priority : IsTrue (is_priority t.priority)
 
 -- the first values are as many as the elements
@@ -52,17 +73,25 @@ InitFits (Values zs) d = length zs ≡ area d
 InitFits (Fill a b) d = Unit {0}
 InitFits Nothing d = Unit {0}
 
--- the dimensions are within their limits, and the name is new
+-- the dimensions are within their limits, the plan cuts them, and the name is new
 pub record IsSoundRegistration (S : State) (r : Register) : Type 0 where
   pub rows : IsTrue (is_side r.dims.rows)
   pub cols : IsTrue (is_side r.dims.cols)
   pub elements : area r.dims ≤ 16777216
+  pub parts : Fits r.parts r.dims
   pub values : InitFits r.init r.dims
   pub fresh : root_of S r.name ≡ None
+
+-- the plan cuts the array, whose elements all have a value, or none has
+pub record IsSoundPlan (S : State) (name : List ℕ) (p : Parts) : Type 0 where
+  pub rooted : IsTrue (has_root S name)
+  pub parts : Fits p (dims_of S name)
+  pub even : IsTrue (has_values S name || has_none S name)
 
 -- what an act needs of the state before it
 abbrev pub IsSoundAct : (Kernel → Bool) → State → Act → Type 0
 IsSoundAct has S (Registers r) = IsSoundRegistration S r
+IsSoundAct has S (Plan name p) = IsSoundPlan S name p
 IsSoundAct has S (Task t) = IsSoundTask has S t
 IsSoundAct has S (Print name) = IsTrue (has_values S name)
 IsSoundAct has S (Invalidate name) = IsTrue (has_root S name)

@@ -3,19 +3,22 @@ use Rattle.std.specs.Prelude.{ℕ, ℤ, List}
 use Rattle.sj_base.specs.declared.tile.Dims.{Dims}
 use Rattle.sj_base.specs.declared.mode.Mode.{Mode}
 use Rattle.sj_base.specs.declared.program.Codelet.{Codelet}
+use Rattle.sj_plan.specs.declared.parts.Parts.{Parts}
 use Rattle.sj_job.specs.declared.job.Kind.{Kind}
 use Rattle.sj_job.specs.declared.job.Init.{Init}
 
--- a root handle and its first elements
+-- a root handle, its first plan and its first elements
 pub record Register : Type 0 where
   pub name : List ℕ
   pub kind : Kind
   pub dims : Dims
+  pub parts : Parts
   pub init : Init
 
--- an operand of a task
+-- an operand of a task: a child of the active plan, which is [0, 0] where the name stands alone
 pub record Operand : Type 0 where
   pub name : List ℕ
+  pub place : ℕ × ℕ
   pub mode : Mode
 
 -- a task

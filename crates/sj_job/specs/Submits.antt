@@ -1,5 +1,5 @@
 -- What a form does to the reader's names.
-use Rattle.std.specs.Prelude.{◌≡◌, ℕ, ◌+◌, Bool, Option, Some, None, Result, Ok, Err, List, length, not, if◌then◌else◌}
+use Rattle.std.specs.Prelude.{◌≡◌, ℕ, ◌+◌, Bool, Result, Ok, Err, List, length, if◌then◌else◌}
 use Rattle.sj_codelet.specs.declared.kernel.Kernel.{Kernel}
 use Rattle.sj_job.specs.declared.form.Form.{Form}
 use Rattle.sj_job.specs.declared.job.Act.{Act as KeptAct}
@@ -10,7 +10,7 @@ use Rattle.sj_job.specs.declared.reason.Objection.TheVariants.{Bad}
 use Rattle.sj_job.specs.declared.reason.Reason.{Reason}
 use Rattle.sj_job.specs.declared.reason.Reason.TheVariants.{Number, NotBuilt}
 use Rattle.sj_job.specs.Act.{Act}
-use Rattle.sj_job.specs.Verdict.{Verdict, Does}
+use Rattle.sj_job.specs.Verdict.{Does}
 use Rattle.sj_job.specs.Sentence.{said_of}
 use Rattle.sj_job.specs.State.{State, start}
 use Rattle.sj_job.specs.Meaning.{apply, run_from}

@@ -3,7 +3,7 @@ use Rattle.std.specs.Prelude.{◌≡◌, ℕ, ◌<◌, ◌≤◌, Option, Some, 
 use Rattle.std.specs.List.{slice_index_or}
 use Rattle.std.specs.Str.{bytes_eq}
 use Rattle.sj_base.specs.declared.ids.Root.{Root}
-use Rattle.sj_base.specs.declared.tile.Dims.{Dims}
+use Rattle.sj_plan.specs.declared.parts.Parts.{Parts}
 use Rattle.sj_job.specs.declared.job.Kind.TheVariants.{Vector}
 use Rattle.sj_job.specs.declared.job.RootInfo.{RootInfo}
 
@@ -18,9 +18,13 @@ table names infos = record { names = names; infos = infos }
 abbrev pub a_root : ℕ → Root
 a_root n = record { 0 = n }
 
+-- the plan of one child, which is the whole array
+abbrev pub undivided : Parts
+undivided = record { r = 1; c = 1 }
+
 -- what stands for the root of a number that no root has
 abbrev pub no_info : RootInfo
-no_info = record { kind = Vector; dims = record { rows = 0; cols = 0 } }
+no_info = record { kind = Vector; dims = record { rows = 0; cols = 0 }; parts = undivided }
 
 abbrev pub name_of : Table → Root → List ℕ
 name_of T r = slice_index_or T.names r.0 []

@@ -1,7 +1,5 @@
 -- A job as contracts see it: its statements with names in place of the roots' numbers.
 use Rattle.std.specs.Prelude.{◌≡◌, ℕ, ◌+◌, ◌<◌, List, [], ◌∷◌, ◌++◌, map, length, All}
-use Rattle.sj_base.specs.declared.ids.Root.{Root}
-use Rattle.sj_base.specs.declared.mode.Mode.{Mode}
 use Rattle.sj_codelet.specs.Kernel.{codelet_of}
 use Rattle.sj_job.specs.declared.job.Init.{Init}
 use Rattle.sj_job.specs.declared.job.RootInfo.{RootInfo}
@@ -12,22 +10,23 @@ use Rattle.sj_job.specs.declared.job.Act.TheVariants as kept
 use Rattle.sj_job.specs.declared.job.Statement.{Statement as Kept}
 use Rattle.sj_job.specs.declared.job.Job.{Job}
 use Rattle.sj_job.specs.Statement.{Register as Registration, Operand, TaskLine}
-use Rattle.sj_job.specs.Act.{Act, Register, Task, Print, Invalidate, Unregister, Statement}
+use Rattle.sj_job.specs.Act.{Act, Register, Plan, Task, Print, Invalidate, Unregister, Statement}
 use Rattle.sj_job.specs.Table.{Table, table, a_root, name_of, info_of}
 
 -- an operand with the name of its root
 abbrev pub operand_seen : Table → Access → Operand
-operand_seen T o = record { name = name_of T o.root; mode = o.mode }
+operand_seen T o = record { name = name_of T o.root; place = o.place; mode = o.mode }
 
 abbrev pub task_seen : Table → KeptTask → TaskLine
 task_seen T t = record { codelet = codelet_of t.kernel; args = t.args; operands = map (operand_seen T) t.operands; priority = t.priority }
 
 abbrev pub registration : List ℕ → RootInfo → Init → Registration
-registration name info init = record { name = name; kind = info.kind; dims = info.dims; init = init }
+registration name info init = record { name = name; kind = info.kind; dims = info.dims; parts = info.parts; init = init }
 
 -- what is kept of an act, before which k roots were registered
 abbrev pub act_seen : Table → ℕ → KeptAct → Act
 act_seen T k (kept.Register init) = Register (registration (name_of T (a_root k)) (info_of T (a_root k)) init)
+act_seen T k (kept.Plan r p) = Plan (name_of T r) p
 act_seen T k (kept.Task t) = Task (task_seen T t)
 act_seen T k (kept.Print r) = Print (name_of T r)
 act_seen T k (kept.Invalidate r) = Invalidate (name_of T r)
@@ -39,6 +38,7 @@ statement_seen T k s = record { line = s.line; act = act_seen T k s.act }
 -- how many roots there are after an act
 abbrev pub count_after : ℕ → KeptAct → ℕ
 count_after k (kept.Register init) = k + 1
+count_after k (kept.Plan r p) = k
 count_after k (kept.Task t) = k
 count_after k (kept.Print r) = k
 count_after k (kept.Invalidate r) = k
@@ -60,6 +60,7 @@ statements_of job = seen_from job.roots 0 job.statements
 -- an act speaks of roots that were registered before it
 abbrev pub IsPlaced : ℕ → KeptAct → Type 0
 IsPlaced k (kept.Register init) = Unit {0}
+IsPlaced k (kept.Plan r p) = r.0 < k
 IsPlaced k (kept.Task t) = All (λ o. o.root.0 < k) t.operands
 IsPlaced k (kept.Print r) = r.0 < k
 IsPlaced k (kept.Invalidate r) = r.0 < k

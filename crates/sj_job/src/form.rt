@@ -3,6 +3,7 @@
 ghost use Rattle.std.specs.Prelude.{◌≡◌, ◌==◌, [], map, IfOk};
 ghost use Rattle.std.specs.List.{slice_split};
 
+use crate::line::Words;
 use sj_base::memory::OutOfMemory;
 use sj_base::mode::{Mode, Policy, Reduction};
 use sj_base::sequence::Sequence;
@@ -39,7 +40,7 @@ impl<'a> Piece<'a> {
     }
 }
 
-/// Words, or parts of one, in order. Contracts see a list of lists of bytes.
+/// Parts of a word, in order. Contracts see a list of lists of bytes.
 #[derive(Debug, Drop)]
 pub struct Pieces<'a> {
     items: Vec<&'a [u8]>,
@@ -61,14 +62,6 @@ impl<'a> Pieces<'a> {
         Pieces {
             items: Vec::new(alloc),
         }
-    }
-
-    /// These words. Linear in their number.
-    pub fn of(alloc: Global, words: &[&'a [u8]]) -> Result<Pieces<'a>, OutOfMemory>
-        ensures { IfOk result (λ pieces. pieces ≡ map (λ w. w.now) words.now) }
-    {
-        let items = Vec::from_slice(alloc, words)?;
-        Ok(Pieces { items })
     }
 
     /// What stands between the commas of a text. Linear in the text.
@@ -119,7 +112,7 @@ pub enum Size<'a> {
 /// `values V1 V2 ..`, `fill A B` or `none`.
 #[derive(Debug, Drop)]
 pub enum InitForm<'a> {
-    Values(Pieces<'a>),
+    Values(Words<'a>),
     Fill(Piece<'a>, Piece<'a>),
     Nothing,
 }

@@ -9,6 +9,7 @@ use sj_base::mode::Mode;
 use sj_base::sequence::Sequence;
 use sj_base::tile::Dims;
 use sj_codelet::kernel::Kernel;
+use sj_plan::parts::Parts;
 
 /// Whether a root was registered as a vector or as a matrix; they differ in how they are printed.
 #[derive(Clone, Copy, Debug, PartialEq, Eq)]
@@ -22,6 +23,8 @@ pub enum Kind {
 pub struct RootInfo {
     pub kind: Kind,
     pub dims: Dims,
+    /// The plan that is active from the registration on.
+    pub parts: Parts,
 }
 
 /// The elements that a root has from its registration on.
@@ -35,10 +38,12 @@ pub enum Init {
     Nothing,
 }
 
-/// `NAME:MODE`: an operand of a task.
+/// `NAME:MODE` or `NAME[i,j]:MODE`: an operand of a task.
 #[derive(Clone, Copy, Debug, PartialEq, Eq)]
 pub struct Operand {
     pub root: Root,
+    /// The child `[i, j]` of the active plan; `(0, 0)` where the name stands alone.
+    pub place: (u32, u32),
     pub mode: Mode,
 }
 
@@ -69,6 +74,8 @@ pub struct TaskLine {
 pub enum Act {
     /// `vector NAME N INIT` or `matrix NAME R C INIT`: registers the next root, with these first elements.
     Register(Init),
+    /// Makes a plan the active one.
+    Plan(Root, Parts),
     Task(TaskLine),
     Print(Root),
     /// The elements have no value any more.

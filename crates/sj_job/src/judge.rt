@@ -1,22 +1,28 @@
 //! Why a form that is built is refused.
 
-ghost use Rattle.std.specs.Prelude.{◌≡◌, ◌*◌, ◌^◌, Ok, ◌<◌, ◌≤◌, None, Some, false, map, length, All, IfOk, IfErr, IfNone, IfSome, IsTrue, MatchOption};
-ghost use Rattle.std.specs.List.{list_any};
+ghost use Rattle.std.specs.Prelude.{◌≡◌, ◌*◌, ◌^◌, Ok, ◌<◌, ◌≤◌, None, Some, true, false, map, length, unwrap_or, All, IfOk, IfErr, IfNone, IsTrue, MatchOption};
+ghost use Rattle.std.specs.List.{list_all, list_any};
+ghost use Rattle.sj_plan.specs.Parts.{IsPlace};
 ghost use Rattle.sj_job.specs.declared.names.Names.{Names};
 ghost use Rattle.sj_job.specs.Form.{each_some};
-ghost use Rattle.sj_job.specs.Sentence.{operand_said, operands_said, priority_said, task_said};
+ghost use Rattle.sj_job.specs.Sentence.{are_counts, priority_said};
 ghost use Rattle.sj_job.specs.Word.{integer};
-ghost use Rattle.sj_job.specs.Names.{IsCounted, scope_in, found_in, is_over, is_unvalued, target_in, any_over, targets_fit, target_dims, is_counted_for, is_shaped_for, collide, any_collide, is_wanting, target_reasons, operand_by};
-ghost use Rattle.sj_job.specs.Table.{root_in, name_of, IsRoot};
-ghost use Rattle.sj_job.specs.View.{operand_seen, task_seen};
+ghost use Rattle.sj_job.specs.Names.{IsCounted, IsEven, IsPlaceIn, any_collide, any_missing, any_over, collide, is_counted_for, is_shaped_for, is_wanting, no_child, operand_by, plan_in, scope_in, standing_of, target_by, target_dims, target_in, target_reasons, target_under, targets_fit};
+ghost use Rattle.sj_job.specs.State.{dims_with, plan_with};
+ghost use Rattle.sj_job.specs.Table.{root_in, IsRoot};
+ghost use Rattle.sj_job.specs.Track.{IsPlan};
+ghost use Rattle.sj_job.specs.View.{task_seen};
 ghost use Rattle.sj_job.specs.Reason.{Objects};
 ghost use Rattle.sj_job.specs.Act.{Task};
-ghost use Rattle.sj_job.specs.Judge.{first_of, is_side, is_outside, is_miscounted, register_reasons, mode_fits, needs_value, is_priority, print_reasons, name_reasons, judged_task};
+ghost use Rattle.sj_job.specs.Judge.{first_of, is_child_said, is_crowded, is_cut, is_miscounted, is_outside, is_priority, is_side, is_uncut, judged_task, mode_fits, name_reasons, needs_value, plan_reasons, print_reasons, register_reasons};
 
 use crate::form::{OperandForm, TaskForm};
 use crate::job::{Init, Operand, TaskLine};
-use crate::names::{Found, Names, Standing, Target};
+use crate::names::{Names, Standing};
+use crate::number::index_of;
 use crate::reason::{LimitKind, Objection, Reason};
+use crate::track::Tracked;
+use sj_base::ids::Root;
 use sj_base::memory::OutOfMemory;
 use sj_base::mode::Mode;
 use sj_base::sequence::Sequence;
@@ -24,6 +30,8 @@ use sj_base::tile::Dims;
 use sj_codelet::formal::Formal;
 use sj_codelet::kernel::Kernel;
 use sj_codelet::set::Codelets;
+use sj_plan::interval::part;
+use sj_plan::parts::Parts;
 use std::alloc::{AllocError, Global};
 
 /// The most statements of a job.
@@ -37,6 +45,9 @@ pub const SIDE: u64 = 1_048_576;
 
 /// The most elements of a root.
 pub const ELEMENTS: u64 = 16_777_216;
+
+/// The most children of a plan.
+pub const CHILDREN: u64 = 4_096;
 
 /// The least priority of a task.
 pub const LEAST_PRIORITY: i64 = -1_000;
@@ -66,31 +77,60 @@ fn is_miscounted(init: &Init, rows: u64, cols: u64) -> bool
     }
 }
 
+fn is_crowded(r: u64, c: u64) -> bool
+    ensures { result ≡ is_crowded (plan_with r c) }
+{
+    match r.checked_mul(c) {
+        Some(children) => CHILDREN < children,
+        None => true,
+    }
+}
+
+fn is_cut(items: u64, parts: u64) -> bool
+    ensures { result ≡ is_cut items parts }
+{
+    1 <= parts && parts <= items
+}
+
+fn is_uncut(rows: u64, cols: u64, r: u64, c: u64) -> bool
+    ensures { result ≡ is_uncut (dims_with rows cols) (plan_with r c) }
+{
+    !(is_cut(rows, r) && is_cut(cols, c))
+}
+
 /// The first reason against a registration. Linear in the name.
 pub fn register_complaint(
     names: &Names,
     name: &[u8],
-    rows: u64,
-    cols: u64,
+    size: (u64, u64),
+    parts: (u64, u64),
     init: &Init,
 ) -> Option<Reason>
     requires { IsCounted names.now }
     ensures first { result
-        ≡ first_of (register_reasons (scope_in names.now) name.now rows cols init.now) }
-    ensures within { IfNone result ((rows ≤ SIDE) × (cols ≤ SIDE)) }
+        ≡ first_of (register_reasons (scope_in names.now) name.now (dims_with size.0 size.1) (plan_with parts.0 parts.1) init.now) }
+    ensures within { IfNone result ((size.0 ≤ SIDE) × (size.1 ≤ SIDE)) }
+    ensures cut { IfNone result ((parts.0 ≤ SIDE) × (parts.1 ≤ SIDE)) }
+    ensures plan { IfNone result (IsPlan (plan_with parts.0 parts.1)) }
     ensures few { IfNone result (length names.now.roots.names < NAMES) }
     ensures fresh { IfNone result (root_in names.now.roots name.now ≡ None) }
 {
+    let (rows, cols) = size;
+    let (r, c) = parts;
     if STATEMENTS <= names.statements {
         Some(Reason::Limit(LimitKind::Statements))
     } else if NAMES <= names.roots.len() as u64 {
         Some(Reason::Limit(LimitKind::Names))
     } else if is_outside(rows, cols) {
         Some(Reason::Limit(LimitKind::Elements))
+    } else if is_crowded(r, c) {
+        Some(Reason::Limit(LimitKind::Parts))
     } else if names.is_ended(name) {
         Some(Reason::EndedName)
     } else if names.is_taken(name) {
         Some(Reason::TakenName)
+    } else if is_uncut(rows, cols, r, c) {
+        Some(Reason::Part)
     } else if is_miscounted(init, rows, cols) {
         Some(Reason::Shape)
     } else {
@@ -99,71 +139,177 @@ pub fn register_complaint(
 }
 
 /// The root of a name, or the first reason against a statement that needs a name and nothing else. Linear in the name.
-pub fn named_root(names: &Names, name: &[u8]) -> Result<Found, Reason>
+pub fn named_root(names: &Names, name: &[u8]) -> Result<Root, Reason>
     requires { IsCounted names.now }
-    ensures found { IfOk result (λ f. found_in names.now name.now ≡ Some f) }
-    ensures none { IfOk result (λ f. first_of (name_reasons (scope_in names.now) name.now) ≡ None) }
+    ensures root { IfOk result (λ r. root_in names.now.roots name.now ≡ Some r) }
+    ensures none { IfOk result (λ r. first_of (name_reasons (scope_in names.now) name.now) ≡ None) }
     ensures why { IfErr result
         (λ why. first_of (name_reasons (scope_in names.now) name.now) ≡ Some why) }
 {
     if STATEMENTS <= names.statements {
         return Err(Reason::Limit(LimitKind::Statements));
     }
-    let Some(found) = names.find(name) else {
+    let Some(root) = names.find(name) else {
         return Err(Reason::UnknownName);
     };
-    if found.is_over() {
+    if names.standing(root).is_over() {
         return Err(Reason::EndedName);
     }
-    Ok(found)
+    Ok(root)
 }
 
 /// The root of a name, or the first reason against printing it. Linear in the name.
-pub fn printed_root(names: &Names, name: &[u8]) -> Result<Found, Reason>
+pub fn printed_root(names: &Names, name: &[u8]) -> Result<Root, Reason>
     requires { IsCounted names.now }
-    ensures found { IfOk result (λ f. found_in names.now name.now ≡ Some f) }
-    ensures none { IfOk result (λ f. first_of (print_reasons (scope_in names.now) name.now) ≡ None) }
+    ensures root { IfOk result (λ r. root_in names.now.roots name.now ≡ Some r) }
+    ensures none { IfOk result (λ r. first_of (print_reasons (scope_in names.now) name.now) ≡ None) }
     ensures why { IfErr result
         (λ why. first_of (print_reasons (scope_in names.now) name.now) ≡ Some why) }
 {
-    let found = named_root(names, name)?;
-    if is_unvalued(found.standing) {
+    let root = named_root(names, name)?;
+    if !names.standing(root).is_all() {
         return Err(Reason::NoValue);
     }
-    Ok(found)
+    Ok(root)
 }
 
-fn is_unvalued(standing: Standing) -> bool
-    ensures { result ≡ is_unvalued standing }
+/// The root of a name, or the first reason against a plan of r by c parts for it. Linear in the name.
+pub fn planned_root(names: &Names, name: &[u8], r: u64, c: u64) -> Result<Root, Reason>
+    requires { IsCounted names.now }
+    ensures root { IfOk result (λ root. root_in names.now.roots name.now ≡ Some root) }
+    ensures even { IfOk result (λ root. IsEven (standing_of names.now root)) }
+    ensures cut { IfOk result (λ _. (r < 2 ^ 32) × (c < 2 ^ 32)) }
+    ensures plan { IfOk result (λ _. IsPlan (plan_with r c)) }
+    ensures none { IfOk result (λ _. first_of (plan_reasons (scope_in names.now) name.now (plan_with r c)) ≡ None) }
+    ensures why { IfErr result
+        (λ why. first_of (plan_reasons (scope_in names.now) name.now (plan_with r c)) ≡ Some why) }
 {
-    match standing {
-        Standing::Unvalued => true,
-        Standing::Valued | Standing::Ended => false,
+    if STATEMENTS <= names.statements {
+        return Err(Reason::Limit(LimitKind::Statements));
+    }
+    if is_crowded(r, c) {
+        return Err(Reason::Limit(LimitKind::Parts));
+    }
+    let root = named_root(names, name)?;
+    let dims = names.roots.info(root).dims;
+    if is_uncut(dims.rows as u64, dims.cols as u64, r, c) {
+        return Err(Reason::Part);
+    }
+    let standing = names.standing(root);
+    if !(standing.is_all() || standing.is_none()) {
+        return Err(Reason::NoValue);
+    }
+    Ok(root)
+}
+
+/// An operand of a task line whose root was found.
+#[derive(Clone, Copy, Debug, PartialEq, Eq)]
+pub struct Target {
+    pub root: Root,
+    pub mode: Mode,
+    /// The name is ended.
+    pub over: bool,
+    /// The name isn't ended, and the operand is no child of its active plan.
+    pub missing: bool,
+    /// The child, where there is one, as the next two.
+    pub place: (u32, u32),
+    pub dims: Dims,
+    pub valued: bool,
+}
+
+/// The target of no child.
+fn no_child(root: Root, mode: Mode, over: bool) -> Target
+    ensures { result ≡ no_child root mode over }
+{
+    Target {
+        root,
+        mode,
+        over,
+        missing: !over,
+        place: (0, 0),
+        dims: Dims { rows: 0, cols: 0 },
+        valued: false,
     }
 }
 
-/// An operand with its root, or `None` where its name has none. Linear in the name.
-fn target_of(names: &Names, operand: &OperandForm<'_>) -> Option<Target>
-    requires { IsCounted names.now }
-    ensures { result ≡ target_in names.now (operand_said operand.now) }
+/// The place of a child by its index; a name alone is the only child of its plan.
+fn child_said(parts: Parts, index: Option<(u64, u64)>) -> Option<(u32, u32)>
+    ensures { MatchOption result (is_child_said parts index ≡ false) (λ place.
+        (is_child_said parts index ≡ true) × (place ≡ unwrap_or index (0, 0)) × IsPlace parts place) }
 {
-    let found = names.find(operand.name.bytes())?;
-    Some(Target {
-        found,
-        mode: operand.mode,
-    })
+    match index {
+        Some((i, j)) if i < parts.r as u64 && j < parts.c as u64 => Some((i as u32, j as u32)),
+        None if parts.r == 1 && parts.c == 1 => Some((0, 0)),
+        _ => None,
+    }
 }
 
-/// The operands with their roots, or `None` where a name has none. Linear in the operands and their names.
+/// The child under the active plan. Constant time, as is the next.
+fn target_under(
+    root: Root,
+    dims: Dims,
+    mode: Mode,
+    index: Option<(u64, u64)>,
+    track: &Tracked,
+) -> Target
+    ensures { result ≡ target_under root dims mode index track.now }
+{
+    let parts = track.parts();
+    match child_said(parts, index) {
+        Some((i, j)) => Target {
+            root,
+            mode,
+            over: false,
+            missing: false,
+            place: (i, j),
+            dims: Dims {
+                rows: part(dims.rows, parts.r, i).len,
+                cols: part(dims.cols, parts.c, j).len,
+            },
+            valued: track.is_valued(i, j),
+        },
+        None => no_child(root, mode, false),
+    }
+}
+
+fn target_by(
+    root: Root,
+    dims: Dims,
+    mode: Mode,
+    index: Option<(u64, u64)>,
+    standing: &Standing,
+) -> Target
+    ensures { result ≡ target_by root dims mode index standing.now }
+{
+    match standing {
+        Standing::Live(track) => target_under(root, dims, mode, index, track),
+        Standing::Ended => no_child(root, mode, true),
+    }
+}
+
+/// An operand with its root, or `None` where its name has none. Linear in its words.
+fn target_of(names: &Names, operand: &OperandForm<'_>) -> Option<Target>
+    requires counted { IsCounted names.now }
+    requires numbered { IsTrue (are_counts operand.now.child) }
+    ensures { result ≡ target_in names.now operand.now }
+{
+    let root = names.find(operand.name.bytes())?;
+    let dims = names.roots.info(root).dims;
+    let index = index_of(&operand.child);
+    Some(target_by(root, dims, operand.mode, index, names.standing(root)))
+}
+
+/// The operands with their roots, or `None` where a name has none. Linear in the operands and their words.
 fn targets_of(
     alloc: Global,
     names: &Names,
     operands: &[OperandForm<'_>],
 ) -> Result<Option<Vec<Target>>, OutOfMemory>
-    requires { IsCounted names.now }
+    requires counted { IsCounted names.now }
+    requires numbered { IsTrue (list_all (λ o. are_counts o.child) operands.now) }
     ensures { IfOk result (λ r. MatchOption r
-        (each_some (target_in names.now) (map operand_said operands.now) ≡ None)
-        (λ ts. each_some (target_in names.now) (map operand_said operands.now) ≡ Some ts.items)) }
+        (each_some (target_in names.now) operands.now ≡ None)
+        (λ ts. each_some (target_in names.now) operands.now ≡ Some ts.items)) }
 {
     let mut targets = Vec::with_capacity(alloc, operands.len())?;
     for operand in operands {
@@ -178,7 +324,13 @@ fn targets_of(
 fn any_over(targets: &[Target]) -> bool
     ensures { result ≡ any_over targets.now }
 {
-    targets.iter().any(|t| t.found.is_over())
+    targets.iter().any(|t| t.over)
+}
+
+fn any_missing(targets: &[Target]) -> bool
+    ensures { result ≡ any_missing targets.now }
+{
+    targets.iter().any(|t| t.missing)
 }
 
 fn mode_fits(formal: Formal, mode: Mode) -> bool
@@ -204,7 +356,9 @@ fn targets_fit(formals: &[Formal], targets: &[Target]) -> bool
 fn collide(t: &Target, u: &Target) -> bool
     ensures { result ≡ collide t.now u.now }
 {
-    t.found.root.0 == u.found.root.0 && !(t.mode == Mode::R && u.mode == Mode::R)
+    t.root.0 == u.root.0
+        && (t.place.0 == u.place.0 && t.place.1 == u.place.1)
+        && !(t.mode == Mode::R && u.mode == Mode::R)
 }
 
 fn any_collide(targets: &[Target]) -> bool
@@ -230,7 +384,7 @@ fn collides_with_any(t: &Target, others: &[Target]) -> bool
 fn dims_of(alloc: Global, targets: &[Target]) -> Result<Vec<Dims>, AllocError>
     ensures { IfOk result (λ dims. dims.items ≡ target_dims targets.now) }
 {
-    targets.iter().map(|t| t.found.dims).collect(alloc)
+    targets.iter().map(|t| t.dims).collect(alloc)
 }
 
 fn is_counted(kernel: Kernel, args: &[i64], targets: &[Target]) -> bool
@@ -268,9 +422,7 @@ fn needs_value(mode: Mode) -> bool
 fn any_wanting(targets: &[Target]) -> bool
     ensures { result ≡ list_any is_wanting targets.now }
 {
-    targets
-        .iter()
-        .any(|t| needs_value(t.mode) && is_unvalued(t.found.standing))
+    targets.iter().any(|t| needs_value(t.mode) && !t.valued)
 }
 
 /// The first reason against the operands of a codelet. Linear in them.
@@ -285,6 +437,8 @@ fn target_complaint(
 {
     if !is_counted(kernel, args, targets) {
         Ok(Some(Reason::OperandCount))
+    } else if any_missing(targets) {
+        Ok(Some(Reason::Part))
     } else if !is_shaped(alloc, kernel, args, targets)? {
         Ok(Some(Reason::Shape))
     } else if any_collide(targets) {
@@ -306,7 +460,8 @@ fn operand_by(target: &Target) -> Operand
     ensures { result ≡ operand_by target.now }
 {
     Operand {
-        root: target.found.root,
+        root: target.root,
+        place: target.place,
         mode: target.mode,
     }
 }
@@ -335,11 +490,14 @@ pub fn judge_task<C: Codelets>(
     codelets: &C,
 ) -> Result<TaskLine, Objection>
     requires counted { IsCounted names.now }
+    requires children { IsTrue (list_all (λ o. are_counts o.child) form.now.operands) }
     requires args { args ≡ map integer form.now.args }
     requires priority { priority ≡ priority_said form.now.priority }
     ensures ok { IfOk result (λ t.
         judged_task C.has (scope_in names.now) form.now ≡ Ok (Task (task_seen names.now.roots t))) }
     ensures roots { IfOk result (λ t. All (λ o. IsRoot names.now.roots o.root) t.operands) }
+    ensures places { IfOk result (λ t.
+        All (λ o. IsPlaceIn (plan_in (standing_of names.now o.root)) o.place) t.operands) }
     ensures err { IfErr result (λ e. Objects e (judged_task C.has (scope_in names.now) form.now)) }
 {
     if STATEMENTS <= names.statements {

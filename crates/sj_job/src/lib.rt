@@ -17,4 +17,7 @@ pub mod submit;
 mod tests;
 #[cfg(test)]
 mod tests_of_lines;
+#[cfg(test)]
+mod tests_of_plans;
+pub mod track;
 pub mod word;

@@ -1,12 +1,13 @@
 //! The lines of a text and the words of a line.
 
-ghost use Rattle.std.specs.Prelude.{◌≡◌, ◌==◌, ◌≤◌, ℕ, List, [], length, map, not, position, MatchOption, IfOk};
+ghost use Rattle.std.specs.Prelude.{◌≡◌, ◌==◌, ◌≤◌, ◌∷◌, [], length, map, not, position, MatchOption, IfOk};
 ghost use Rattle.sj_job.specs.Word.{lines, words, is_blank, is_allowed, is_empty, is_skipped, begins_with, CutsOff};
 ghost use Rattle.std.specs.List.{list_all, position_or_len};
 ghost use Rattle.sj_job.specs.Sentence.{is_header};
 
 use memchr::memchr;
 use std::alloc::{AllocError, Global};
+use std::marker::Model;
 
 /// The first line of a text and what follows it, or `None` where there is no line. Linear in the line.
 pub fn next_line(text: &[u8]) -> Option<(&[u8], &[u8])>
@@ -38,18 +39,40 @@ pub fn is_blank(byte: u8) -> bool
     byte == b' ' || byte == b'\t' || byte == b'\r'
 }
 
-/// Whether every byte of a line of these words is one that a line may have: blanks always are. Linear in the words.
-pub fn are_allowed(line_words: &[&[u8]]) -> bool
-    ensures { (line : List ℕ) → words line ≡ map (λ w. w.now) line_words.now
-        → result ≡ list_all is_allowed line }
+/// A line without the blanks at its end. Linear in them.
+pub fn trimmed(line: &[u8]) -> &[u8]
+    ensures words { words result.now ≡ words line.now }
+    ensures allowed { list_all is_allowed result.now ≡ list_all is_allowed line.now }
 {
-    have_allowed_bytes(line_words)
+    let mut rest = line;
+    while let Some((last, front)) = rest.split_last() {
+        if !is_blank(*last) {
+            return rest;
+        }
+        rest = front;
+    }
+    rest
 }
 
-fn have_allowed_bytes(words: &[&[u8]]) -> bool
-    ensures { result ≡ list_all (λ w. list_all is_allowed w.now) words.now }
+/// Whether every byte of a line is one that a line may have. Linear in it.
+pub fn are_allowed(line: &[u8]) -> bool
+    ensures { result ≡ list_all is_allowed line.now }
 {
-    words.iter().all(|w| has_allowed_bytes(w))
+    have_allowed_bytes(line)
+}
+
+/// Whether every byte of its words is: blanks always are.
+fn have_allowed_bytes(line: &[u8]) -> bool
+    ensures { result ≡ list_all (list_all is_allowed) (words line.now) }
+{
+    let mut rest = line;
+    while let Some((word, tail)) = next_word(rest) {
+        if !has_allowed_bytes(word) {
+            return false;
+        }
+        rest = tail;
+    }
+    true
 }
 
 fn has_allowed_bytes(word: &[u8]) -> bool
@@ -83,8 +106,56 @@ fn next_word(line: &[u8]) -> Option<(&[u8], &[u8])>
     Some((&rest[..end], &rest[end..]))
 }
 
+/// The words of a line, or those behind some of them, in order. Contracts see the list of them.
+#[derive(Debug, Drop)]
+pub struct Words<'a> {
+    line: &'a [u8],
+}
+
+impl<'a> Model for Words<'a> {
+    ghost use Rattle.std.specs.Prelude.{List, ℕ};
+    ghost use Rattle.sj_job.specs.Word.{words};
+
+    ghost Value = { List (List ℕ) };
+
+    ghost view = { λ w. words w.line.now };
+}
+
+impl<'a> Words<'a> {
+    /// The words of a line. Constant time.
+    pub fn of(line: &'a [u8]) -> Words<'a>
+        ensures { result ≡ words line.now }
+    {
+        Words { line }
+    }
+
+    /// The same words once more. Constant time.
+    pub fn again(&self) -> Words<'a>
+        ensures { result ≡ self.now }
+    {
+        Words { line: self.line }
+    }
+
+    /// The first word and those behind it, or `None` where there is no word. Linear in what it passes.
+    pub fn split_first(&self) -> Option<(&'a [u8], Words<'a>)>
+        ensures { MatchOption result (self.now ≡ []) (λ cut. self.now ≡ cut.0.now ∷ cut.1) }
+    {
+        match next_word(self.line) {
+            Some((word, line)) => Some((word, Words { line })),
+            None => None,
+        }
+    }
+
+    /// All of them as a list. Linear in them.
+    pub fn collect(&self, alloc: Global) -> Result<Vec<&'a [u8]>, AllocError>
+        ensures { IfOk result (λ ws. map (λ w. w.now) ws.items ≡ self.now) }
+    {
+        listed(alloc, self.line)
+    }
+}
+
 /// The words of a line. Linear in the line.
-pub fn words(alloc: Global, line: &[u8]) -> Result<Vec<&[u8]>, AllocError>
+fn listed(alloc: Global, line: &[u8]) -> Result<Vec<&[u8]>, AllocError>
     ensures { IfOk result (λ ws. map (λ w. w.now) ws.items ≡ words line.now) }
 {
     let mut words = Vec::new(alloc);
@@ -96,22 +167,28 @@ pub fn words(alloc: Global, line: &[u8]) -> Result<Vec<&[u8]>, AllocError>
     Ok(words)
 }
 
-/// Whether a line of these words says nothing: it has none, or it is a comment. Constant time.
-pub fn is_skipped(words: &[&[u8]]) -> bool
-    ensures { result ≡ is_skipped (map (λ w. w.now) words.now) }
+/// Whether a line of these words says nothing: it has none, or it is a comment. Linear up to the end of the first.
+pub fn is_skipped(words: &Words<'_>) -> bool
+    ensures { result ≡ is_skipped words.now }
 {
-    match words.first() {
-        Some(word) => word.first() == Some(&b'#'),
+    match words.split_first() {
+        Some((word, _)) => word.first() == Some(&b'#'),
         None => true,
     }
 }
 
-/// Whether these words are the header. Constant time.
-pub fn is_header(words: &[&[u8]]) -> bool
-    ensures { result ≡ is_header (map (λ w. w.now) words.now) }
+/// Whether these words are the header. Linear in the first three.
+pub fn is_header(words: &Words<'_>) -> bool
+    ensures { result ≡ is_header words.now }
 {
-    match words {
-        [first, second] => *first == b"starjob".as_slice() && *second == b"1".as_slice(),
-        _ => false,
+    let Some((first, rest)) = words.split_first() else {
+        return false;
+    };
+    let Some((second, rest)) = rest.split_first() else {
+        return false;
+    };
+    match rest.split_first() {
+        Some(_) => false,
+        None => first == b"starjob".as_slice() && second == b"1".as_slice(),
     }
 }

@@ -1,65 +1,107 @@
 //! What the reader knows of a job's names, line by line.
 
-ghost use Rattle.std.specs.Prelude.{◌≡◌, ◌+◌, ◌<◌, ◌^◌, ℕ, List, Bool, None, All, length, OnOk, map, vec_len};
+ghost use Rattle.std.specs.Prelude.{◌≡◌, ◌+◌, ◌<◌, ◌^◌, ℕ, Bool, None, All, length, OnOk, slice_set};
 ghost use Rattle.sj_codelet.specs.declared.kernel.Kernel.{Kernel};
-ghost use Rattle.sj_job.specs.Names.{IsCounted, standing_of, found_in, known_in, ended_in, scope_in, is_over, revalued, after_write, after_writes, first_standing, revalued_standing};
+ghost use Rattle.sj_job.specs.Names.{IsCounted, IsEven, IsPlaceIn, after_write, after_writes, child_written, first_standing, invalidated, is_all, is_none, is_over, plan_in, planned, scope_in, standing_of};
 ghost use Rattle.sj_job.specs.State.{State, start};
-ghost use Rattle.sj_job.specs.Meaning.{apply, register, run_task, invalidate, unregister};
+ghost use Rattle.sj_job.specs.Meaning.{register, run_task, invalidate, plan, unregister};
 ghost use Rattle.sj_job.specs.Table.{name_of, root_in, with_root, IsRoot};
-ghost use Rattle.sj_job.specs.View.{operand_seen, task_seen, registration};
-ghost use Rattle.sj_job.specs.Sees.{Sees, Shows};
-ghost use Rattle.sj_job.specs.Sound.{IsSoundTask, IsSoundRegistration};
+ghost use Rattle.sj_job.specs.Track.{IsPlan};
+ghost use Rattle.sj_job.specs.View.{task_seen, registration};
+ghost use Rattle.sj_job.specs.Sees.{Sees};
+ghost use Rattle.sj_job.specs.Sound.{IsSoundPlan, IsSoundTask, IsSoundRegistration};
 ghost use Rattle.sj_job.specs.Judge.{is_taken, is_ended};
 
 use crate::job::{Init, Operand, RootInfo, TaskLine};
 use crate::roots::Roots;
+use crate::track::Tracked;
 use sj_base::ids::Root;
 use sj_base::memory::OutOfMemory;
-use sj_base::mode::Mode;
-use sj_base::tile::Dims;
+use sj_plan::parts::Parts;
 use std::alloc::Global;
 
-/// What the reasons look at in a root.
-#[derive(Clone, Copy, Debug, PartialEq, Eq)]
-pub struct Known {
-    pub dims: Dims,
-    /// Whether each element has a value.
-    pub valued: bool,
-}
-
-/// How it stands with a root: whether each element has a value, or its name is ended.
-#[derive(Clone, Copy, Debug, PartialEq, Eq)]
+/// How it stands with a root: which children of its active plan have a value, or that its name is ended.
+#[derive(Drop)]
 pub enum Standing {
-    Valued,
-    Unvalued,
+    Live(Tracked),
     Ended,
 }
 
-/// A root that was found by its name.
-#[derive(Clone, Copy, Debug, PartialEq, Eq)]
-pub struct Found {
-    pub root: Root,
-    pub dims: Dims,
-    pub standing: Standing,
-}
-
-impl Found {
-    /// Whether its name is ended. Constant time.
+impl Standing {
+    /// Whether the name is ended. Constant time, as are all calls but `write`.
     pub fn is_over(&self) -> bool
-        ensures { result ≡ is_over self.now.standing }
+        ensures { result ≡ is_over self.now }
     {
-        match self.standing {
-            Standing::Valued | Standing::Unvalued => false,
+        match self {
+            Standing::Live(_) => false,
             Standing::Ended => true,
+        }
+    }
+
+    /// Whether the root isn't ended, and all its elements have a value.
+    pub fn is_all(&self) -> bool
+        ensures { result ≡ is_all self.now }
+    {
+        match self {
+            Standing::Live(track) => track.is_all(),
+            Standing::Ended => false,
+        }
+    }
+
+    /// Whether the root isn't ended, and none of its elements has a value.
+    pub fn is_none(&self) -> bool
+        ensures { result ≡ is_none self.now }
+    {
+        match self {
+            Standing::Live(track) => track.is_none(),
+            Standing::Ended => false,
+        }
+    }
+
+    /// Another plan is active from now on.
+    fn plan(&mut self, parts: Parts)
+        requires plan { IsPlan parts }
+        requires even { IsEven self.old }
+        ensures { self.new ≡ planned parts self.old }
+    {
+        match self {
+            Standing::Live(track) => track.plan(parts),
+            Standing::Ended => {}
+        }
+    }
+
+    /// No element has a value from now on.
+    fn invalidate(&mut self)
+        ensures { self.new ≡ invalidated self.old }
+    {
+        match self {
+            Standing::Live(track) => track.invalidate(),
+            Standing::Ended => {}
+        }
+    }
+
+    /// A child has a value from now on.
+    fn write(&mut self, alloc: Global, place: (u32, u32)) -> Result<(), OutOfMemory>
+        requires { IsPlaceIn (plan_in self.old) place }
+        ensures { OnOk result (self.new ≡ child_written place self.old) }
+    {
+        match self {
+            Standing::Live(track) => track.write(alloc, place.0, place.1),
+            Standing::Ended => Ok(()),
         }
     }
 }
 
-/// An operand of a task line whose root was found.
-#[derive(Clone, Copy, Debug, PartialEq, Eq)]
-pub struct Target {
-    pub found: Found,
-    pub mode: Mode,
+/// How it stands with a root from its registration on.
+fn first_standing(parts: Parts, init: &Init) -> Standing
+    requires { IsPlan parts }
+    ensures { result ≡ first_standing parts init.now }
+{
+    let valued = match init {
+        Init::Values(_) | Init::Fill(_, _) => true,
+        Init::Nothing => false,
+    };
+    Standing::Live(Tracked::even(parts, valued))
 }
 
 /// How many statements were read, the roots that they registered, and how it stands with each.
@@ -83,16 +125,10 @@ impl Names {
     }
 
     /// The root of a name, ended or not. Linear in the name, as are the next two.
-    pub fn find(&self, name: &[u8]) -> Option<Found>
-        requires { IsCounted self.now }
-        ensures { result ≡ found_in self.now name.now }
+    pub fn find(&self, name: &[u8]) -> Option<Root>
+        ensures { result ≡ root_in self.now.roots name.now }
     {
-        let root = self.roots.find(name)?;
-        Some(Found {
-            root,
-            dims: self.roots.info(root).dims,
-            standing: self.standings[root.0 as usize],
-        })
+        self.roots.find(name)
     }
 
     /// Whether a name is registered, and not ended.
@@ -101,7 +137,7 @@ impl Names {
         ensures { result ≡ is_taken (scope_in self.now) name.now }
     {
         match self.find(name) {
-            Some(found) => !found.is_over(),
+            Some(root) => !self.standing(root).is_over(),
             None => false,
         }
     }
@@ -112,9 +148,18 @@ impl Names {
         ensures { result ≡ is_ended (scope_in self.now) name.now }
     {
         match self.find(name) {
-            Some(found) => found.is_over(),
+            Some(root) => self.standing(root).is_over(),
             None => false,
         }
+    }
+
+    /// How it stands with a root. Constant time.
+    pub fn standing(&self, root: Root) -> &Standing
+        requires counted { IsCounted self.now }
+        requires root { root.0 < length self.now.roots.names }
+        ensures { result.now ≡ standing_of self.now root }
+    {
+        &self.standings[root.0 as usize]
     }
 
     /// Notes a registration. Linear in the name.
@@ -128,6 +173,7 @@ impl Names {
         requires room { self.old.statements + 1 < 2 ^ 64 }
         requires fresh { root_in self.old.roots name.now ≡ None }
         requires few { length self.old.roots.names < 4096 }
+        requires plan { IsPlan info.parts }
         requires counted { IsCounted self.old }
         ensures whole { length self.old.roots.infos ≡ length self.old.roots.names }
         ensures roots { OnOk result (self.new.roots ≡ with_root name.now info self.old.roots) }
@@ -136,17 +182,36 @@ impl Names {
             → Sees self.new (n + 1) (register (registration name.now info init.now) S)) }
     {
         self.roots.add(alloc, name, info)?;
-        self.standings.push(first_standing(init))?;
+        self.standings.push(first_standing(info.parts, init))?;
         self.statements += 1;
         Ok(())
     }
 
-    /// Notes a print statement, which changes no root. Constant time, as are the next two.
+    /// Notes a print statement, which changes no root. Constant time, as are the next three.
     pub fn print(&mut self)
         requires { self.old.statements + 1 < 2 ^ 64 }
         ensures roots { self.new.roots ≡ self.old.roots }
         ensures names { (n : ℕ) (S : State) → Sees self.old n S → Sees self.new (n + 1) S }
     {
+        self.statements += 1;
+    }
+
+    /// Notes that another plan is active from now on.
+    pub fn plan(&mut self, root: Root, parts: Parts)
+        requires room { self.old.statements + 1 < 2 ^ 64 }
+        requires counted { IsCounted self.old }
+        requires root { IsRoot self.old.roots root }
+        requires plan { IsPlan parts }
+        requires even { IsEven (standing_of self.old root) }
+        ensures roots { self.new.roots ≡ self.old.roots }
+        ensures names { (n : ℕ) (S : State) → Sees self.old n S
+            → IsSoundPlan S (name_of self.old.roots root) parts
+            → Sees self.new (n + 1) (plan (name_of self.old.roots root) parts S) }
+    {
+        let place = root.0 as usize;
+        let count = self.standings.len();
+        prove!(place < count);
+        self.standings[place].plan(parts);
         self.statements += 1;
     }
 
@@ -159,7 +224,10 @@ impl Names {
         ensures names { (n : ℕ) (S : State) → Sees self.old n S
             → Sees self.new (n + 1) (invalidate (name_of self.old.roots root) S) }
     {
-        self.set_valued(root, false);
+        let place = root.0 as usize;
+        let count = self.standings.len();
+        prove!(place < count);
+        self.standings[place].invalidate();
         self.statements += 1;
     }
 
@@ -179,88 +247,53 @@ impl Names {
         self.statements += 1;
     }
 
-    /// Notes a task: what it writes has its values from now on. Linear in its operands.
-    pub fn run(&mut self, task: &TaskLine)
+    /// Notes a task: the children that it writes have a value from now on. Linear in its operands, but that the first value of a
+    /// root takes time linear in its children.
+    pub fn run(&mut self, alloc: Global, task: &TaskLine) -> Result<(), OutOfMemory>
         requires room { self.old.statements + 1 < 2 ^ 64 }
         requires counted { IsCounted self.old }
         requires roots { All (λ o. IsRoot self.old.roots o.root) task.now.operands }
-        ensures roots { self.new.roots ≡ self.old.roots }
-        ensures names { (has : Kernel → Bool) (n : ℕ) (S : State) → Sees self.old n S
+        requires places { All (λ o. IsPlaceIn (plan_in (standing_of self.old o.root)) o.place) task.now.operands }
+        ensures roots { OnOk result (self.new.roots ≡ self.old.roots) }
+        ensures names { OnOk result ((has : Kernel → Bool) (n : ℕ) (S : State) → Sees self.old n S
             → IsSoundTask has S (task_seen self.old.roots task.now)
-            → Sees self.new (n + 1) (run_task (task_seen self.old.roots task.now) S) }
+            → Sees self.new (n + 1) (run_task (task_seen self.old.roots task.now) S)) }
     {
-        self.write_all(task.operands.items());
+        self.write_all(alloc, task.operands.items())?;
         self.statements += 1;
+        Ok(())
     }
 
-    /// The written operands' roots have their values from now on.
-    fn write_all(&mut self, operands: &[Operand])
+    /// The written operands' children have a value from now on.
+    fn write_all(&mut self, alloc: Global, operands: &[Operand]) -> Result<(), OutOfMemory>
         requires counted { IsCounted self.old }
         requires roots { All (λ o. IsRoot self.old.roots o.root) operands.now }
-        ensures count { self.new.statements ≡ self.old.statements }
-        ensures roots { self.new.roots ≡ self.old.roots }
-        ensures counted { IsCounted self.new }
-        ensures ended { (q : List ℕ) → ended_in self.new q ≡ ended_in self.old q }
-        ensures known { (q : List ℕ) → known_in self.new q
-            ≡ after_writes (map (operand_seen self.old.roots) operands.now) (known_in self.old) q }
+        requires places { All (λ o. IsPlaceIn (plan_in (standing_of self.old o.root)) o.place) operands.now }
+        ensures count { OnOk result (self.new.statements ≡ self.old.statements) }
+        ensures roots { OnOk result (self.new.roots ≡ self.old.roots) }
+        ensures standings { OnOk result (self.new.standings.items ≡ after_writes operands.now self.old.standings.items) }
     {
         for operand in operands {
-            self.write(operand);
+            self.write(alloc, operand)?;
         }
+        Ok(())
     }
 
     /// The same of one operand.
-    fn write(&mut self, operand: &Operand)
+    fn write(&mut self, alloc: Global, operand: &Operand) -> Result<(), OutOfMemory>
         requires counted { IsCounted self.old }
         requires root { IsRoot self.old.roots operand.now.root }
-        ensures count { self.new.statements ≡ self.old.statements }
-        ensures roots { self.new.roots ≡ self.old.roots }
-        ensures counted { IsCounted self.new }
-        ensures ended { (q : List ℕ) → ended_in self.new q ≡ ended_in self.old q }
-        ensures known { (q : List ℕ) → known_in self.new q
-            ≡ after_write (operand_seen self.old.roots operand.now) (known_in self.old) q }
+        requires place { IsPlaceIn (plan_in (standing_of self.old operand.now.root)) operand.now.place }
+        ensures count { OnOk result (self.new.statements ≡ self.old.statements) }
+        ensures roots { OnOk result (self.new.roots ≡ self.old.roots) }
+        ensures standings { OnOk result (self.new.standings.items ≡ after_write operand.now self.old.standings.items) }
     {
         if operand.is_written() {
-            self.set_valued(operand.root, true);
+            let place = operand.root.0 as usize;
+            let count = self.standings.len();
+            prove!(place < count);
+            self.standings[place].write(alloc, operand.place)?;
         }
-    }
-
-    /// A root whose name isn't ended has all its values from now on, or none.
-    fn set_valued(&mut self, root: Root, valued: bool)
-        requires counted { IsCounted self.old }
-        requires root { IsRoot self.old.roots root }
-        ensures count { self.new.statements ≡ self.old.statements }
-        ensures roots { self.new.roots ≡ self.old.roots }
-        ensures counted { IsCounted self.new }
-        ensures ended { (q : List ℕ) → ended_in self.new q ≡ ended_in self.old q }
-        ensures known { (q : List ℕ) → known_in self.new q
-            ≡ revalued valued (name_of self.old.roots root) (known_in self.old) q }
-    {
-        let place = root.0 as usize;
-        let count = self.standings.len();
-        prove!(place < count);
-        let standing = self.standings[place];
-        self.standings[place] = revalued_standing(valued, standing);
-    }
-}
-
-/// An ended name stays so; another root is valued or not.
-fn revalued_standing(valued: bool, standing: Standing) -> Standing
-    ensures { result ≡ revalued_standing valued standing }
-{
-    match standing {
-        Standing::Ended => Standing::Ended,
-        Standing::Valued | Standing::Unvalued if valued => Standing::Valued,
-        Standing::Valued | Standing::Unvalued => Standing::Unvalued,
-    }
-}
-
-/// How it stands with a root from its registration on.
-fn first_standing(init: &Init) -> Standing
-    ensures { result ≡ first_standing init.now }
-{
-    match init {
-        Init::Values(_) | Init::Fill(_, _) => Standing::Valued,
-        Init::Nothing => Standing::Unvalued,
+        Ok(())
     }
 }

@@ -1,12 +1,14 @@
 //! The numbers of a form.
 
-ghost use Rattle.std.specs.Prelude.{◌≡◌, true, false, map, IfOk, MatchOption};
+ghost use Rattle.std.specs.Prelude.{◌≡◌, ◌&&◌, true, false, map, IfOk, IsTrue, MatchOption};
 ghost use Rattle.std.specs.List.{list_all};
-ghost use Rattle.sj_job.specs.Word.{is_count, is_integer, integer};
-ghost use Rattle.sj_job.specs.Sentence.{are_counts, is_numbered_size, is_numbered_init, is_numbered_priority, rows_of, cols_of, init_said, priority_said};
+ghost use Rattle.sj_job.specs.Word.{count, is_count, is_integer, integer};
+ghost use Rattle.sj_job.specs.Sentence.{are_counts, is_numbered_size, is_numbered_init, is_numbered_priority, rows_of, cols_of, init_said, parts_said, index_said, priority_said};
+ghost use Rattle.sj_job.specs.State.{plan_with};
 
 use crate::form::{InitForm, Piece, Size};
 use crate::job::Init;
+use crate::line::Words;
 use crate::word::{count_of, integer_of};
 use sj_base::memory::OutOfMemory;
 use sj_base::sequence::Sequence;
@@ -29,6 +31,36 @@ pub fn are_counts(pair: &Option<(Piece<'_>, Piece<'_>)>) -> bool
     }
 }
 
+/// The counts that two words say, or `None` where one says none. Linear in the words.
+pub fn pair_of(a: &Piece<'_>, b: &Piece<'_>) -> Option<(u64, u64)>
+    ensures { MatchOption result ((is_count a.now && is_count b.now) ≡ false) (λ p.
+        ((is_count a.now && is_count b.now) ≡ true) × (p.0 ≡ count a.now) × (p.1 ≡ count b.now)) }
+{
+    Some((count_of(a.bytes())?, count_of(b.bytes())?))
+}
+
+/// The parts of rows and of columns that `by r c` says, 1 and 1 without it; `None` where a word says no count. Linear in the words.
+pub fn parts_of(by: &Option<(Piece<'_>, Piece<'_>)>) -> Option<(u64, u64)>
+    ensures { MatchOption result (are_counts by.now ≡ false)
+        (λ p. (are_counts by.now ≡ true) × (plan_with p.0 p.1 ≡ parts_said by.now)) }
+{
+    match by {
+        Some((r, c)) => pair_of(r, c),
+        None => Some((1, 1)),
+    }
+}
+
+/// The index that two words say, where there are two. Linear in the words.
+pub fn index_of(child: &Option<(Piece<'_>, Piece<'_>)>) -> Option<(u64, u64)>
+    requires { IsTrue (are_counts child.now) }
+    ensures { result ≡ index_said child.now }
+{
+    match child {
+        Some((i, j)) => pair_of(i, j),
+        None => None,
+    }
+}
+
 /// The integers that words say, or `None` where one says none. Linear in the words.
 pub fn integers(alloc: Global, words: &[&[u8]]) -> Result<Option<Sequence<i64>>, OutOfMemory>
     ensures { IfOk result (λ r. MatchOption r
@@ -42,6 +74,23 @@ pub fn integers(alloc: Global, words: &[&[u8]]) -> Result<Option<Sequence<i64>>,
             Some(value) => values.push(value)?,
             None => return Ok(None),
         }
+    }
+    Ok(Some(Sequence::of(values)))
+}
+
+/// The integers that the words of a line say, or `None` where one says none. Linear in the words.
+fn values_of(alloc: Global, words: &Words<'_>) -> Result<Option<Sequence<i64>>, OutOfMemory>
+    ensures { IfOk result (λ r. MatchOption r (list_all is_integer words.now ≡ false)
+        (λ zs. (list_all is_integer words.now ≡ true) × (zs ≡ map integer words.now))) }
+{
+    let mut values = Vec::new(alloc);
+    let mut rest = words.again();
+    while let Some((word, behind)) = rest.split_first() {
+        match integer_of(word) {
+            Some(value) => values.push(value)?,
+            None => return Ok(None),
+        }
+        rest = behind;
     }
     Ok(Some(Sequence::of(values)))
 }
@@ -64,7 +113,7 @@ pub fn init_of(alloc: Global, init: &InitForm<'_>) -> Result<Option<Init>, OutOf
         (λ said. (is_numbered_init init.now ≡ true) × (said ≡ init_said init.now))) }
 {
     match init {
-        InitForm::Values(values) => Ok(integers(alloc, values.items())?.map(Init::Values)),
+        InitForm::Values(values) => Ok(values_of(alloc, values)?.map(Init::Values)),
         InitForm::Fill(a, b) => Ok(fill_of(a, b)),
         InitForm::Nothing => Ok(Some(Init::Nothing)),
     }

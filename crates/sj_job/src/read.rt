@@ -13,7 +13,7 @@ ghost use Rattle.sj_job.specs.View.{seen_from, statements_of, IsNumbered};
 ghost use Rattle.sj_job.specs.Well.{IsWell};
 
 use crate::job::{Act, Job, Statement};
-use crate::line::{are_allowed, is_header, is_skipped, next_line, words};
+use crate::line::{Words, are_allowed, is_header, is_skipped, next_line, trimmed};
 use crate::names::Names;
 use crate::reason::{LimitKind, Objection, ReadRefusal, Reason};
 use crate::spell::form_of;
@@ -40,11 +40,12 @@ fn act_of_line<C: Codelets>(
     ensures does { IfOk result (λ a. IfSome a (LineDoes C.has names.old line.now names.new)) }
     ensures err { IfErr result (λ e. IsBad e (verdict_of C.has (scope_in names.old) line.now)) }
 {
-    let words = words(alloc, line)?;
+    let line = trimmed(line);
+    let words = Words::of(line);
     if is_skipped(&words) {
         return Ok(None);
     }
-    if !are_allowed(&words) {
+    if !are_allowed(line) {
         return Err(Objection::Bad(Reason::Word));
     }
     let Some(form) = form_of(alloc, &words)? else {
@@ -116,7 +117,7 @@ fn read_statements<C: Codelets>(
 }
 
 /// What follows the header, and the number of the next line. Linear in what stands before it.
-fn skip_header(alloc: Global, text: &[u8]) -> Result<(&[u8], u32), ReadRefusal>
+fn skip_header(text: &[u8]) -> Result<(&[u8], u32), ReadRefusal>
     requires { length text.now < 2 ^ 31 }
     ensures bound { IfOk result (λ r. r.1 + length r.0.now ≤ 1 + length text.now) }
     ensures ok { IfOk result (λ r. (has : Kernel → Bool) →
@@ -127,9 +128,9 @@ fn skip_header(alloc: Global, text: &[u8]) -> Result<(&[u8], u32), ReadRefusal>
     let mut rest = text;
     let mut number = 1;
     while let Some((line, tail)) = next_line(rest) {
-        let words = words(alloc, line)?;
+        let words = Words::of(line);
         if !is_skipped(&words) {
-            if are_allowed(&words) && is_header(&words) {
+            if are_allowed(line) && is_header(&words) {
                 return Ok((tail, number + 1));
             }
             return Err(ReadRefusal::Refused {
@@ -159,6 +160,6 @@ pub fn read<C: Codelets>(alloc: Global, text: &[u8], codelets: &C) -> Result<Job
             reason: Reason::Limit(LimitKind::Text),
         });
     }
-    let (rest, number) = skip_header(alloc, text)?;
+    let (rest, number) = skip_header(text)?;
     read_statements(alloc, rest, number, codelets)
 }

@@ -4,10 +4,10 @@ ghost use Rattle.std.specs.Prelude.{◌≡◌, ◌==◌, ◌+◌, ◌<◌, not, 
 ghost use Rattle.std.specs.List.{before_first, after_first, list_all};
 ghost use Rattle.sj_job.specs.Word.{is_name};
 ghost use Rattle.sj_job.specs.declared.form.Keyword.TheVariants as keyword;
-ghost use Rattle.sj_job.specs.Form.{keyword_of, policy_of, reduction_of, mode_of, is_bracket, pieces_of, bracketed, around_last, child_of, operand_of, each_some, priority_of, with_priority, task_of, values_of, fill_of, init_of, parted, layout_of, array_of, vector_of, matrix_of, alone, name_in, plan_of, redux_of, form_behind, form_of};
+ghost use Rattle.sj_job.specs.Form.{keyword_of, policy_of, reduction_of, mode_of, is_bracket, pieces_of, bracketed, around_last, child_of, operand_of, each_some, priority_of, with_priority, task_of, values_of, fill_of, nothing_of, init_of, with_parts, parted, layout_of, array_of, vector_of, matrix_of, alone, name_in, plan_of, redux_of, form_behind, form_of};
 
 use crate::form::{ArrayForm, Form, InitForm, Keyword, OperandForm, Piece, Pieces, Size, TaskForm};
-use crate::line::first_place;
+use crate::line::{Words, first_place};
 use crate::word::is_name;
 use memchr::memrchr;
 use sj_base::memory::OutOfMemory;
@@ -245,8 +245,8 @@ fn with_priority<'a, 'b>(words: &'b [&'a [u8]]) -> (&'b [&'a [u8]], Option<Piece
 }
 
 /// `CODELET OPERANDS`. Linear in the words.
-fn task_of<'a>(alloc: Global, words: &[&'a [u8]]) -> Result<Option<TaskForm<'a>>, OutOfMemory>
-    ensures { IfOk result (λ task. task ≡ task_of (map (λ w. w.now) words.now)) }
+fn task_of<'a>(alloc: Global, words: &Words<'a>) -> Result<Option<TaskForm<'a>>, OutOfMemory>
+    ensures { IfOk result (λ task. task ≡ task_of words.now) }
 {
     let Some((first, rest)) = words.split_first() else {
         return Ok(None);
@@ -254,7 +254,8 @@ fn task_of<'a>(alloc: Global, words: &[&'a [u8]]) -> Result<Option<TaskForm<'a>>
     let Some((codelet, args)) = bracketed(alloc, first, b'(', b')')? else {
         return Ok(None);
     };
-    let (words, priority) = with_priority(rest);
+    let rest = rest.collect(alloc)?;
+    let (words, priority) = with_priority(&rest);
     match operands_of(alloc, words)? {
         Some(operands) => Ok(Some(TaskForm {
             codelet,
@@ -266,167 +267,173 @@ fn task_of<'a>(alloc: Global, words: &[&'a [u8]]) -> Result<Option<TaskForm<'a>>
     }
 }
 
-/// `values V1 V2 ..`, `fill A B` or `none`. Linear in the words.
-fn init_of<'a>(alloc: Global, words: &[&'a [u8]]) -> Result<Option<InitForm<'a>>, OutOfMemory>
-    ensures { IfOk result (λ init. init ≡ init_of (map (λ w. w.now) words.now)) }
+/// `values V1 V2 ..`, `fill A B` or `none`. Linear in the first words.
+fn init_of<'a>(words: &Words<'a>) -> Option<InitForm<'a>>
+    ensures { result ≡ init_of words.now }
 {
-    let Some((first, rest)) = words.split_first() else {
-        return Ok(None);
-    };
-    if *first == b"values".as_slice() {
-        values_of(alloc, rest)
-    } else if *first == b"fill".as_slice() {
-        Ok(fill_of(rest))
-    } else if *first == b"none".as_slice() && rest.is_empty() {
-        Ok(Some(InitForm::Nothing))
+    let (first, rest) = words.split_first()?;
+    if first == b"values".as_slice() {
+        values_of(&rest)
+    } else if first == b"fill".as_slice() {
+        fill_of(&rest)
+    } else if first == b"none".as_slice() {
+        nothing_of(&rest)
     } else {
-        Ok(None)
+        None
     }
 }
 
-/// `V1 V2 ..`, with one value at least. Linear in the words.
-fn values_of<'a>(alloc: Global, words: &[&'a [u8]]) -> Result<Option<InitForm<'a>>, OutOfMemory>
-    ensures { IfOk result (λ init. init ≡ values_of (map (λ w. w.now) words.now)) }
+/// `V1 V2 ..`, with one value at least. Linear in the first.
+fn values_of<'a>(words: &Words<'a>) -> Option<InitForm<'a>>
+    ensures { result ≡ values_of words.now }
 {
-    if words.is_empty() {
-        return Ok(None);
+    match words.split_first() {
+        Some(_) => Some(InitForm::Values(words.again())),
+        None => None,
     }
-    Ok(Some(InitForm::Values(Pieces::of(alloc, words)?)))
 }
 
-/// `A B`. Constant time.
-fn fill_of<'a>(words: &[&'a [u8]]) -> Option<InitForm<'a>>
-    ensures { result ≡ fill_of (map (λ w. w.now) words.now) }
+/// `A B`. Linear in the first three words, as are the next ones in theirs.
+fn fill_of<'a>(words: &Words<'a>) -> Option<InitForm<'a>>
+    ensures { result ≡ fill_of words.now }
 {
-    match words {
-        [a, b] => Some(InitForm::Fill(Piece::of(a), Piece::of(b))),
-        _ => None,
+    let (a, rest) = words.split_first()?;
+    let (b, rest) = rest.split_first()?;
+    match rest.split_first() {
+        Some(_) => None,
+        None => Some(InitForm::Fill(Piece::of(a), Piece::of(b))),
     }
 }
 
-/// What follows the size: `by r c` or nothing, and then the values. Linear in the words.
-fn layout_of<'a>(alloc: Global, words: &[&'a [u8]]) -> Result<Option<Layout<'a>>, OutOfMemory>
-    ensures { IfOk result (λ layout. layout ≡ layout_of (map (λ w. w.now) words.now)) }
+fn nothing_of<'a>(words: &Words<'a>) -> Option<InitForm<'a>>
+    ensures { result ≡ nothing_of words.now }
 {
-    let Some((first, rest)) = words.split_first() else {
-        return Ok(None);
-    };
-    if *first == b"by".as_slice() {
-        return parted(alloc, rest);
-    }
-    match init_of(alloc, words)? {
-        Some(init) => Ok(Some((None, init))),
-        None => Ok(None),
+    match words.split_first() {
+        Some(_) => None,
+        None => Some(InitForm::Nothing),
     }
 }
 
-/// `r c` and then the values. Linear in the words.
-fn parted<'a>(alloc: Global, words: &[&'a [u8]]) -> Result<Option<Layout<'a>>, OutOfMemory>
-    ensures { IfOk result (λ layout. layout ≡ parted (map (λ w. w.now) words.now)) }
+/// What follows the size: `by r c` or nothing, and then the values.
+fn layout_of<'a>(words: &Words<'a>) -> Option<Layout<'a>>
+    ensures { result ≡ layout_of words.now }
 {
-    let [r, c, rest @ ..] = words else {
-        return Ok(None);
-    };
-    match init_of(alloc, rest)? {
-        Some(init) => Ok(Some((Some((Piece::of(r), Piece::of(c))), init))),
-        None => Ok(None),
+    let (first, rest) = words.split_first()?;
+    if first == b"by".as_slice() {
+        return parted(&rest);
+    }
+    with_parts(None, words)
+}
+
+/// `r c` and then the values.
+fn parted<'a>(words: &Words<'a>) -> Option<Layout<'a>>
+    ensures { result ≡ parted words.now }
+{
+    let (r, rest) = words.split_first()?;
+    let (c, rest) = rest.split_first()?;
+    with_parts(Some((Piece::of(r), Piece::of(c))), &rest)
+}
+
+/// The values behind the parts.
+fn with_parts<'a>(parts: Option<(Piece<'a>, Piece<'a>)>, words: &Words<'a>) -> Option<Layout<'a>>
+    ensures { result ≡ with_parts parts.entry words.now }
+{
+    match init_of(words) {
+        Some(init) => Some((parts, init)),
+        None => None,
     }
 }
 
-/// A name and a size, and what follows them. Linear in the words.
-fn array_of<'a>(
-    alloc: Global,
-    name: &'a [u8],
-    size: Size<'a>,
-    words: &[&'a [u8]],
-) -> Result<Option<ArrayForm<'a>>, OutOfMemory>
-    ensures { IfOk result (λ a. a ≡ array_of name.now size.entry (map (λ w. w.now) words.now)) }
+/// A name and a size, and what follows them.
+fn array_of<'a>(name: &'a [u8], size: Size<'a>, words: &Words<'a>) -> Option<ArrayForm<'a>>
+    ensures { result ≡ array_of name.now size.entry words.now }
 {
     if !is_name(name) {
-        return Ok(None);
+        return None;
     }
-    match layout_of(alloc, words)? {
-        Some((parts, init)) => Ok(Some(ArrayForm {
+    match layout_of(words) {
+        Some((parts, init)) => Some(ArrayForm {
             name: Piece::of(name),
             size,
             parts,
             init,
-        })),
-        None => Ok(None),
+        }),
+        None => None,
     }
 }
 
-/// `NAME N INIT`. Linear in the words.
-fn vector_of<'a>(alloc: Global, words: &[&'a [u8]]) -> Result<Option<ArrayForm<'a>>, OutOfMemory>
-    ensures { IfOk result (λ array. array ≡ vector_of (map (λ w. w.now) words.now)) }
+/// `NAME N INIT`.
+fn vector_of<'a>(words: &Words<'a>) -> Option<ArrayForm<'a>>
+    ensures { result ≡ vector_of words.now }
 {
-    match words {
-        [name, n, rest @ ..] => array_of(alloc, name, Size::Vector(Piece::of(n)), rest),
-        _ => Ok(None),
+    let (name, rest) = words.split_first()?;
+    let (n, rest) = rest.split_first()?;
+    array_of(name, Size::Vector(Piece::of(n)), &rest)
+}
+
+/// `NAME R C INIT`.
+fn matrix_of<'a>(words: &Words<'a>) -> Option<ArrayForm<'a>>
+    ensures { result ≡ matrix_of words.now }
+{
+    let (name, rest) = words.split_first()?;
+    let (r, rest) = rest.split_first()?;
+    let (c, rest) = rest.split_first()?;
+    array_of(name, Size::Matrix(Piece::of(r), Piece::of(c)), &rest)
+}
+
+/// One word.
+fn alone<'a>(words: &Words<'a>) -> Option<Piece<'a>>
+    ensures { result ≡ alone words.now }
+{
+    let (word, rest) = words.split_first()?;
+    match rest.split_first() {
+        Some(_) => None,
+        None => Some(Piece::of(word)),
     }
 }
 
-/// `NAME R C INIT`. Linear in the words.
-fn matrix_of<'a>(alloc: Global, words: &[&'a [u8]]) -> Result<Option<ArrayForm<'a>>, OutOfMemory>
-    ensures { IfOk result (λ array. array ≡ matrix_of (map (λ w. w.now) words.now)) }
+/// `NAME`.
+fn name_in<'a>(words: &Words<'a>) -> Option<Piece<'a>>
+    ensures { result ≡ name_in words.now }
 {
-    match words {
-        [name, r, c, rest @ ..] => {
-            let size = Size::Matrix(Piece::of(r), Piece::of(c));
-            array_of(alloc, name, size, rest)
-        }
-        _ => Ok(None),
-    }
-}
-
-/// One word. Constant time.
-fn alone<'a>(words: &[&'a [u8]]) -> Option<Piece<'a>>
-    ensures { result ≡ alone (map (λ w. w.now) words.now) }
-{
-    match words {
-        [word] => Some(Piece::of(word)),
+    let (name, rest) = words.split_first()?;
+    match rest.split_first() {
+        None if is_name(name) => Some(Piece::of(name)),
         _ => None,
     }
 }
 
-/// `NAME`. Linear in the name.
-fn name_in<'a>(words: &[&'a [u8]]) -> Option<Piece<'a>>
-    ensures { result ≡ name_in (map (λ w. w.now) words.now) }
+/// `NAME r c`.
+fn plan_of<'a>(words: &Words<'a>) -> Option<Form<'a>>
+    ensures { result ≡ plan_of words.now }
 {
-    match words {
-        [name] if is_name(name) => Some(Piece::of(name)),
+    let (name, rest) = words.split_first()?;
+    let (r, rest) = rest.split_first()?;
+    let (c, rest) = rest.split_first()?;
+    match rest.split_first() {
+        None if is_name(name) => Some(Form::Plan(Piece::of(name), Piece::of(r), Piece::of(c))),
         _ => None,
     }
 }
 
-/// `NAME r c`. Linear in the name.
-fn plan_of<'a>(words: &[&'a [u8]]) -> Option<Form<'a>>
-    ensures { result ≡ plan_of (map (λ w. w.now) words.now) }
+/// `NAME plus` or `NAME least`.
+fn redux_of<'a>(words: &Words<'a>) -> Option<Form<'a>>
+    ensures { result ≡ redux_of words.now }
 {
-    match words {
-        [name, r, c] if is_name(name) => {
-            Some(Form::Plan(Piece::of(name), Piece::of(r), Piece::of(c)))
-        }
-        _ => None,
-    }
-}
-
-/// `NAME plus` or `NAME least`. Linear in the name.
-fn redux_of<'a>(words: &[&'a [u8]]) -> Option<Form<'a>>
-    ensures { result ≡ redux_of (map (λ w. w.now) words.now) }
-{
-    let [name, by] = words else {
+    let (name, rest) = words.split_first()?;
+    let (by, rest) = rest.split_first()?;
+    if rest.split_first().is_some() || !is_name(name) {
         return None;
-    };
+    }
     match reduction_of(by) {
-        Some(by) if is_name(name) => Some(Form::Redux(Piece::of(name), by)),
-        _ => None,
+        Some(by) => Some(Form::Redux(Piece::of(name), by)),
+        None => None,
     }
 }
 
-/// One word that is a policy's. Constant time.
-fn policy_line<'a>(words: &[&'a [u8]]) -> Option<Form<'a>>
-    ensures { result ≡ form_behind keyword.Policy (map (λ w. w.now) words.now) }
+/// One word that is a policy's.
+fn policy_line<'a>(words: &Words<'a>) -> Option<Form<'a>>
+    ensures { result ≡ form_behind keyword.Policy words.now }
 {
     match alone(words) {
         Some(word) => match policy_of(word.bytes()) {
@@ -441,16 +448,16 @@ fn policy_line<'a>(words: &[&'a [u8]]) -> Option<Form<'a>>
 fn form_behind<'a>(
     alloc: Global,
     keyword: Keyword,
-    words: &[&'a [u8]],
+    words: &Words<'a>,
 ) -> Result<Option<Form<'a>>, OutOfMemory>
-    ensures { IfOk result (λ form. form ≡ form_behind keyword (map (λ w. w.now) words.now)) }
+    ensures { IfOk result (λ form. form ≡ form_behind keyword words.now) }
 {
     match keyword {
         Keyword::Workers => Ok(alone(words).map(Form::Workers)),
         Keyword::Node => Ok(alone(words).map(Form::Node)),
         Keyword::Policy => Ok(policy_line(words)),
-        Keyword::Vector => Ok(vector_of(alloc, words)?.map(Form::Register)),
-        Keyword::Matrix => Ok(matrix_of(alloc, words)?.map(Form::Register)),
+        Keyword::Vector => Ok(vector_of(words).map(Form::Register)),
+        Keyword::Matrix => Ok(matrix_of(words).map(Form::Register)),
         Keyword::Plan => Ok(plan_of(words)),
         Keyword::Redux => Ok(redux_of(words)),
         Keyword::Task => Ok(task_of(alloc, words)?.map(Form::Task)),
@@ -460,15 +467,16 @@ fn form_behind<'a>(
     }
 }
 
-/// The form that these words spell, or `None` where no line is spelled so. Linear in the words.
-pub fn form_of<'a>(alloc: Global, words: &[&'a [u8]]) -> Result<Option<Form<'a>>, OutOfMemory>
-    ensures { IfOk result (λ form. form ≡ form_of (map (λ w. w.now) words.now)) }
+/// The form that these words spell, or `None` where no line is spelled so. Linear in the words, but that the values of an array
+/// aren't gone over.
+pub fn form_of<'a>(alloc: Global, words: &Words<'a>) -> Result<Option<Form<'a>>, OutOfMemory>
+    ensures { IfOk result (λ form. form ≡ form_of words.now) }
 {
     let Some((first, rest)) = words.split_first() else {
         return Ok(None);
     };
     match keyword_of(first) {
-        Some(keyword) => form_behind(alloc, keyword, rest),
+        Some(keyword) => form_behind(alloc, keyword, &rest),
         None => Ok(None),
     }
 }

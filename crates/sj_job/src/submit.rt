@@ -1,23 +1,27 @@
 //! What a form does to the names, and what is kept of it.
 
-ghost use Rattle.std.specs.Prelude.{◌≡◌, ◌+◌, ◌<◌, ◌^◌, ◌&&◌, Bool, false, IfOk, IfErr, is_none};
+ghost use Rattle.std.specs.Prelude.{◌≡◌, ◌+◌, ◌<◌, ◌^◌, ◌&&◌, Bool, false, IfOk, IfErr};
 ghost use Rattle.sj_codelet.specs.declared.kernel.Kernel.{Kernel};
 ghost use Rattle.std.specs.List.{list_all};
 ghost use Rattle.sj_job.specs.Judge.{is_begun};
 ghost use Rattle.sj_job.specs.Names.{IsCounted, scope_in};
 ghost use Rattle.sj_job.specs.Reason.{Objects};
 ghost use Rattle.sj_job.specs.Sentence.{is_misplaced, is_built_mode, is_setting, kind_of, are_counts};
+ghost use Rattle.sj_job.specs.State.{plan_with};
 ghost use Rattle.sj_job.specs.Submits.{done_in, unbuilt, Submits};
 
 use crate::form::{ArrayForm, Form, OperandForm, Piece, Size, TaskForm};
 use crate::job::{Act, Kind, RootInfo};
-use crate::judge::{judge_task, named_root, printed_root, register_complaint};
+use crate::judge::{judge_task, named_root, planned_root, printed_root, register_complaint};
 use crate::names::Names;
-use crate::number::{are_counts, init_of, integers, is_count, priority_of, size_of};
+use crate::number::{
+    are_counts, init_of, integers, is_count, pair_of, parts_of, priority_of, size_of,
+};
 use crate::reason::{Objection, Reason};
 use sj_base::mode::Mode;
 use sj_base::tile::Dims;
 use sj_codelet::set::Codelets;
+use sj_plan::parts::Parts;
 use std::alloc::Global;
 
 fn is_built_mode(mode: Mode) -> bool
@@ -30,11 +34,9 @@ fn is_built_mode(mode: Mode) -> bool
 }
 
 fn are_built(operands: &[OperandForm<'_>]) -> bool
-    ensures { result ≡ list_all (λ o. is_none o.child && is_built_mode o.mode) operands.now }
+    ensures { result ≡ list_all (λ o. is_built_mode o.mode) operands.now }
 {
-    operands
-        .iter()
-        .all(|o| o.child.is_none() && is_built_mode(o.mode))
+    operands.iter().all(|o| is_built_mode(o.mode))
 }
 
 fn have_counted_children(operands: &[OperandForm<'_>]) -> bool
@@ -73,26 +75,63 @@ fn submit_array(alloc: Global, names: &mut Names, array: &ArrayForm<'_>) -> Resu
     let Some((rows, cols)) = size_of(&array.size) else {
         return Err(Objection::Bad(Reason::Number));
     };
-    if !are_counts(&array.parts) {
+    let Some(parts) = parts_of(&array.parts) else {
         return Err(Objection::Bad(Reason::Number));
-    }
+    };
     let Some(init) = init_of(alloc, &array.init)? else {
         return Err(Objection::Bad(Reason::Number));
     };
-    if array.parts.is_some() {
-        return Err(Objection::Bad(Reason::NotBuilt));
-    }
     let name = array.name.bytes();
-    if let Some(why) = register_complaint(names, name, rows, cols, &init) {
+    if let Some(why) = register_complaint(names, name, (rows, cols), parts, &init) {
         return Err(Objection::Bad(why));
     }
     let dims = Dims {
         rows: rows as u32,
         cols: cols as u32,
     };
+    let parts = narrowed(parts.0, parts.1);
     let kind = kind_of(&array.size);
-    names.register(alloc, name, RootInfo { kind, dims }, &init)?;
+    names.register(alloc, name, RootInfo { kind, dims, parts }, &init)?;
     Ok(Act::Register(init))
+}
+
+/// A plan whose parts are within their limits.
+fn narrowed(r: u64, c: u64) -> Parts
+    requires rows { r < 2 ^ 32 }
+    requires cols { c < 2 ^ 32 }
+    ensures { result ≡ plan_with r c }
+{
+    Parts {
+        r: r as u32,
+        c: c as u32,
+    }
+}
+
+/// Makes a plan the active one. Linear in the words.
+fn submit_plan(
+    names: &mut Names,
+    name: &Piece<'_>,
+    r: &Piece<'_>,
+    c: &Piece<'_>,
+) -> Result<Act, Objection>
+    requires counted { IsCounted names.old }
+    requires room { names.old.statements + 1 < 2 ^ 64 }
+    ensures ok { IfOk result (λ a. (has : Kernel → Bool) →
+        Submits has names.old (Form.Plan name.now r.now c.now) names.new a) }
+    ensures err { IfErr result (λ e. (has : Kernel → Bool) →
+        Objects e (done_in has (scope_in names.old) (Form.Plan name.now r.now c.now))) }
+{
+    let Some((r, c)) = pair_of(r, c) else {
+        return Err(Objection::Bad(Reason::Number));
+    };
+    match planned_root(names, name.bytes(), r, c) {
+        Ok(root) => {
+            let parts = narrowed(r, c);
+            names.plan(root, parts);
+            Ok(Act::Plan(root, parts))
+        }
+        Err(why) => Err(Objection::Bad(why)),
+    }
 }
 
 /// Submits a task. Linear in the words.
@@ -120,7 +159,7 @@ fn submit_task<C: Codelets>(
         return Err(Objection::Bad(Reason::NotBuilt));
     }
     let task = judge_task(alloc, names, task, args, priority, codelets)?;
-    names.run(&task);
+    names.run(alloc, &task)?;
     Ok(Act::Task(task))
 }
 
@@ -133,9 +172,9 @@ fn submit_print(names: &mut Names, name: &Piece<'_>) -> Result<Act, Objection>
         Objects e (done_in has (scope_in names.old) (Form.Print name.now))) }
 {
     match printed_root(names, name.bytes()) {
-        Ok(found) => {
+        Ok(root) => {
             names.print();
-            Ok(Act::Print(found.root))
+            Ok(Act::Print(root))
         }
         Err(why) => Err(Objection::Bad(why)),
     }
@@ -149,9 +188,9 @@ fn submit_invalidation(names: &mut Names, name: &Piece<'_>) -> Result<Act, Objec
         Objects e (done_in has (scope_in names.old) (Form.Invalidate name.now))) }
 {
     match named_root(names, name.bytes()) {
-        Ok(found) => {
-            names.invalidate(found.root);
-            Ok(Act::Invalidate(found.root))
+        Ok(root) => {
+            names.invalidate(root);
+            Ok(Act::Invalidate(root))
         }
         Err(why) => Err(Objection::Bad(why)),
     }
@@ -165,9 +204,9 @@ fn submit_ending(names: &mut Names, name: &Piece<'_>) -> Result<Act, Objection>
         Objects e (done_in has (scope_in names.old) (Form.Unregister name.now))) }
 {
     match named_root(names, name.bytes()) {
-        Ok(found) => {
-            names.unregister(found.root);
-            Ok(Act::Unregister(found.root))
+        Ok(root) => {
+            names.unregister(root);
+            Ok(Act::Unregister(root))
         }
         Err(why) => Err(Objection::Bad(why)),
     }
@@ -199,7 +238,7 @@ fn submit_placed<C: Codelets>(
 {
     match form {
         Form::Workers(n) | Form::Node(n) => Err(unbuilt(is_count(n.bytes()))),
-        Form::Plan(_, r, c) => Err(unbuilt(is_count(r.bytes()) && is_count(c.bytes()))),
+        Form::Plan(name, r, c) => submit_plan(names, name, r, c),
         Form::Policy(_) | Form::Redux(_, _) => Err(Objection::Bad(Reason::NotBuilt)),
         Form::Register(array) => submit_array(alloc, names, array),
         Form::Task(task) => submit_task(alloc, names, task, codelets),

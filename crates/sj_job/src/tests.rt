@@ -9,10 +9,10 @@ use std::process::Abort;
 use std::test::Fail;
 
 /// A text, its first bad line, and why that is refused.
-type Refused = (&'static str, u32, Reason);
+pub type Refused = (&'static str, u32, Reason);
 
 /// A text gives so many statements, or memory ran out.
-fn gives(alloc: Global, text: &[u8]) -> Result<usize, ReadRefusal> {
+pub fn gives(alloc: Global, text: &[u8]) -> Result<usize, ReadRefusal> {
     let job = read(alloc, text, &Ring)?;
     Ok(job.statements.len())
 }
@@ -191,7 +191,7 @@ const FIRST_OF_TWO: [Refused; 20] = [
     ("vecter x 2 none\n", 1, Reason::Header),
     ("starjob 1\nvector 1x b none\n", 2, Reason::Word),
     ("starjob 1\nworkers b\n", 2, Reason::Number),
-    ("starjob 1\nvector x 0 by 1 1 none\n", 2, Reason::NotBuilt),
+    ("starjob 1\ntask cube x:COMMUTE\n", 2, Reason::NotBuilt),
     (
         "starjob 1\ntask scale(2) x:RW prio=1001\n",
         2,
@@ -262,7 +262,8 @@ const FIRST_OF_TWO: [Refused; 20] = [
     ("starjob \x01\n", 1, Reason::Header),
 ];
 
-fn are_refused(rt: &impl Abort, alloc: Global, cases: &[Refused]) {
+/// Each text is refused at its line for its reason.
+pub fn are_refused(rt: &impl Abort, alloc: Global, cases: &[Refused]) {
     for (text, line, reason) in cases {
         let wanted = ReadRefusal::Refused {
             line: Line(*line),

@@ -53,6 +53,12 @@ fn lines_without_fault_say_sentences(rt: HostRuntime) -> Result<(), Fail> {
         "vector x 1 values inf",
         "vector x 0 none",
         "vector by 4 fill 0 -1",
+        "vector by 4 by 1 2 fill 0 -1",
+        "matrix A 1 1 by 2 2 none",
+        "plan x 0 1",
+        "plan plan 007 9223372036854775807",
+        "task scale(2) x[0,2]:RW",
+        "task copy x[00,9223372036854775807]:R y:W",
         "vector values 007 values -9223372036854775808",
         "vector n2345678901234567890123456789_1 1 none",
         "matrix A 2 3 fill inf inf",
@@ -191,12 +197,8 @@ fn forms_that_are_not_built_say_so(rt: HostRuntime) -> Result<(), Fail> {
         "policy eager",
         "policy prio",
         "policy ws",
-        "plan x 0 1",
         "redux s plus",
         "redux s least",
-        "vector x 4 by 1 2 fill 0 1",
-        "matrix A 1 1 by 2 2 none",
-        "task scale(2) x[0,2]:RW",
         "task sum x:R s:REDUX",
         "task copy x:R y:COMMUTE",
     ];
@@ -209,10 +211,8 @@ fn settings_behind_a_statement_are_words(rt: HostRuntime) -> Result<(), Fail> {
         let reason = reason_of(rt.alloc(), line, true)?;
         assert_eq!(rt; reason, Some(Reason::Word), "{line}");
     }
-    for line in ["plan x 1 1", "redux x plus", "vector x 1 by 1 1 none"] {
-        let reason = reason_of(rt.alloc(), line, true)?;
-        assert_eq!(rt; reason, Some(Reason::NotBuilt), "{line}");
-    }
+    let reason = reason_of(rt.alloc(), "redux x plus", true)?;
+    assert_eq!(rt; reason, Some(Reason::NotBuilt));
     Ok(())
 }
 

@@ -3,3 +3,4 @@ pub mod Panels
 pub mod Turns
 pub mod Places
 pub mod Tiles
+pub mod Groups

@@ -41,20 +41,20 @@ column_more n j l p a b start t v h e place fa fb =
 pub column_all : (n j l k : ℕ) (a b : List ℤ) (start t : ℤ) → t ≡ column_sum n a b j l start → l ≡ k → t ≡ column_sum n a b j k start
 column_all n j l k a b start t e h = e ∙ ap (λ (q : ℕ). column_sum n a b j q start) h
 
-four : (f : ℕ → ℤ) (v w x y : ℤ) → v ≡ f 0 → w ≡ f 1 → x ≡ f 2 → y ≡ f 3 → v ∷ w ∷ x ∷ y ∷ [] ≡ listing 4 f
+three : (f : ℕ → ℤ) (v w x : ℤ) → v ≡ f 0 → w ≡ f 1 → x ≡ f 2 → v ∷ w ∷ x ∷ [] ≡ listing 3 f
 unfolding listing
-four f v w x y ev ew ex ey = cc
+three f v w x ev ew ex = cc
 
--- four columns side by side
-pub block_is : (n j l : ℕ) (a b c : List ℤ) (v w x y : ℤ) → l ≡ length a
-    → v ≡ column_sum n a b j l (at c 0) → w ≡ column_sum n a b (j + 1) l (at c 1) → x ≡ column_sum n a b (j + 2) l (at c 2) → y ≡ column_sum n a b (j + 3) l (at c 3)
-    → v ∷ w ∷ x ∷ y ∷ [] ≡ listing 4 (λ q. column_sum n a b (j + q) (length a) (at c q))
-block_is n j l a b c v w x y h ev ew ex ey =
+-- three columns side by side
+pub block_is : (n j l : ℕ) (a b c : List ℤ) (v w x : ℤ) → l ≡ length a
+    → v ≡ column_sum n a b j l (at c 0) → w ≡ column_sum n a b (j + 1) l (at c 1) → x ≡ column_sum n a b (j + 2) l (at c 2)
+    → v ∷ w ∷ x ∷ [] ≡ listing 3 (λ q. column_sum n a b (j + q) (length a) (at c q))
+block_is n j l a b c v w x h ev ew ex =
     let whole = λ (q : ℕ) (p : ℕ). ap (λ (k : ℕ). column_sum n a b p k (at c q)) h in
     let first : j ≡ j + 0 = omega arith in
-    four (λ q. column_sum n a b (j + q) (length a) (at c q)) v w x y
+    three (λ q. column_sum n a b (j + q) (length a) (at c q)) v w x
     (ev ∙ whole 0 j ∙ ap (λ (p : ℕ). column_sum n a b p (length a) (at c 0)) first)
-    (ew ∙ whole 1 (j + 1)) (ex ∙ whole 2 (j + 2)) (ey ∙ whole 3 (j + 3))
+    (ew ∙ whole 1 (j + 1)) (ex ∙ whole 2 (j + 2))
 
 -- what a call makes of an element that was read
 pub column_of : (n j l : ℕ) (a b : List ℤ) (start s v : ℤ) → v ≡ column_sum n a b j l s → s ≡ start → to_z w64 (of_z w64 v) ≡ column_sum n a b j l start

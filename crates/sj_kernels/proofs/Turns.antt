@@ -1,5 +1,5 @@
 -- A matrix that is transposed some columns at a time.
-use Rattle.std.proofs.Common.{◌≡◌, ℕ, ◌+◌, ◌-◌, ◌*◌, ◌/◌, ◌%◌, ◌<◌, ◌≤◌, Bool, true, false, ◌&&◌, cond, nat_lt, ℤ, pos, List, length, get_or, sym, ap, ◌∙◌, ⊎_elim, arith}
+use Rattle.std.proofs.Common.{◌≡◌, ℕ, ◌+◌, ◌-◌, ◌*◌, ◌%◌, ◌<◌, ◌≤◌, Bool, true, false, cond, nat_lt, ℤ, pos, List, length, sym, ap, ◌∙◌, ⊎_elim, arith}
 use Rattle.std.specs.List.{between}
 use Rattle.std.proofs.lemmas.List.Edits.{get_or-between}
 use Rattle.std.proofs.lemmas.Nat.{mul-add-lt}

@@ -1,7 +1,12 @@
 //! Kernels whose new element at a position depends on the old elements at this position alone.
 
-ghost use Rattle.std.specs.Prelude.{◌≡◌, length};
+ghost use Rattle.std.specs.Prelude.{◌≡◌, length, ◌+ℤ◌, ◌*ℤ◌};
+ghost use Rattle.sj_base.specs.Array.{at};
+ghost use Rattle.sj_codelet.specs.Ring.{wrap};
+ghost use Rattle.sj_codelet.specs.Listing.{listing};
 ghost use Rattle.sj_codelet.specs.Equations.{vector, fill, scale, add, subtract, axpy};
+
+use crate::scalar::{product, with_product};
 
 /// `x(i) = a + b i`, wrapping. Linear in `x`.
 pub fn fill(a: i64, b: i64, x: &mut [i64])
@@ -14,13 +19,37 @@ pub fn fill(a: i64, b: i64, x: &mut [i64])
     }
 }
 
-/// `x(i) = a x(i)`, wrapping. Linear in `x`.
+/// `x(i) = a x(i)`, wrapping. Linear in `x`. Eight elements at a time: of a loop over single ones the compiler makes
+/// vectors, whose 64-bit product is slower than single products.
 pub fn scale(a: i64, x: &mut [i64])
     ensures { x.new ≡ (scale a (vector x.old)).elements }
 {
-    for i in 0..x.len() {
-        x[i] = a.wrapping_mul(x[i]);
+    let n = x.len();
+    for q in 0..n / 8 {
+        let j = q * 8;
+        scale_eight(a, &mut x[j..j + 8]);
     }
+    for j in n / 8 * 8..n {
+        x[j] = product(a, x[j]);
+    }
+}
+
+#[inline(always)]
+fn scale_eight(a: i64, x: &mut [i64])
+    requires { length x.old ≡ 8 }
+    ensures { x.new ≡ listing 8 (λ q. wrap (a *ℤ at x.old q)) }
+{
+    let scaled = [
+        product(a, x[0]),
+        product(a, x[1]),
+        product(a, x[2]),
+        product(a, x[3]),
+        product(a, x[4]),
+        product(a, x[5]),
+        product(a, x[6]),
+        product(a, x[7]),
+    ];
+    x.copy_from_slice(&scaled);
 }
 
 /// `y(i) = x(i)`. Linear in `y`.
@@ -41,14 +70,38 @@ pub fn add(x: &[i64], y: &mut [i64])
     }
 }
 
-/// `y(i) = y(i) + a x(i)`, wrapping. Linear in `y`.
+/// `y(i) = y(i) + a x(i)`, wrapping. Linear in `y`. Eight elements at a time, as in `scale`.
 pub fn axpy(a: i64, x: &[i64], y: &mut [i64])
     requires { length x.now ≡ length y.old }
     ensures { y.new ≡ (axpy a (vector x.now) (vector y.old)).elements }
 {
-    for i in 0..y.len() {
-        y[i] = y[i].wrapping_add(a.wrapping_mul(x[i]));
+    let n = y.len();
+    for q in 0..n / 8 {
+        let j = q * 8;
+        axpy_eight(a, &x[j..j + 8], &mut y[j..j + 8]);
     }
+    for j in n / 8 * 8..n {
+        y[j] = with_product(y[j], a, x[j]);
+    }
+}
+
+#[inline(always)]
+fn axpy_eight(a: i64, x: &[i64], y: &mut [i64])
+    requires eight { length x.now ≡ 8 }
+    requires target { length y.old ≡ 8 }
+    ensures { y.new ≡ listing 8 (λ q. wrap (at y.old q +ℤ (a *ℤ at x.now q))) }
+{
+    let sums = [
+        with_product(y[0], a, x[0]),
+        with_product(y[1], a, x[1]),
+        with_product(y[2], a, x[2]),
+        with_product(y[3], a, x[3]),
+        with_product(y[4], a, x[4]),
+        with_product(y[5], a, x[5]),
+        with_product(y[6], a, x[6]),
+        with_product(y[7], a, x[7]),
+    ];
+    y.copy_from_slice(&sums);
 }
 
 /// New `x(i) = x(i) + y(i)` and new `y(i) = x(i) - y(i)`, both from the old ones and wrapping. Linear in `x`.

@@ -7,5 +7,6 @@ pub mod product;
 pub mod reduction;
 pub mod ring;
 mod runs;
+mod scalar;
 #[cfg(test)]
 mod tests;

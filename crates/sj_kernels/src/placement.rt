@@ -12,8 +12,11 @@ use crate::elementwise::{copy, fill};
 use sj_base::tile::Dims;
 use sj_codelet::window::Window;
 
-/// How many rows of A are turned at a time: as many elements as a line of the cache has.
-const ROWS: usize = 8;
+/// How many rows of A are turned at a time: their elements in a column fill two lines of the cache.
+const ROWS: usize = 16;
+
+/// How many of the remaining rows are turned at a time: half as many.
+const HALF: usize = 8;
 
 /// `B[j,i] = A[i,j]` for an m×n and an n×m matrix. Linear in the elements.
 pub fn transpose(a: &[i64], b: &mut [i64], m: u32, n: u32)
@@ -26,7 +29,10 @@ pub fn transpose(a: &[i64], b: &mut [i64], m: u32, n: u32)
     for t in 0..m / ROWS {
         turn(a, b, m, n, t * ROWS, ROWS);
     }
-    for i in m / ROWS * ROWS..m {
+    for t in m / ROWS * 2..m / HALF {
+        turn(a, b, m, n, t * HALF, HALF);
+    }
+    for i in m / HALF * HALF..m {
         turn(a, b, m, n, i, 1);
     }
 }

@@ -11,6 +11,7 @@ ghost use Rattle.sj_kernels.specs.Rows.{row_product};
 ghost use Rattle.sj_kernels.specs.Panels.{with_terms, with_terms_within, part, column_sum, row_within};
 
 use crate::elementwise::axpy;
+use crate::scalar::with_product;
 
 /// How many rows of the right factor a panel has.
 const PANEL: usize = 32;
@@ -173,7 +174,7 @@ fn add_to_rows(a: &[i64], e: &[i64], tile: &[i64], c: &mut [i64], n: usize, colu
     two_rows(a, e, tile, &mut top[from..to], &mut bottom[from..to]);
 }
 
-/// `c = c + a B` and `d = d + e B`, wrapping, for rows `a`, `e`, `c` and `d`, in blocks of four columns.
+/// `c = c + a B` and `d = d + e B`, wrapping, for rows `a`, `e`, `c` and `d`, in blocks of three columns.
 fn two_rows(a: &[i64], e: &[i64], b: &[i64], c: &mut [i64], d: &mut [i64])
     requires as_long { length e.now ≡ length a.now }
     requires as_wide { length d.old ≡ length c.old }
@@ -182,43 +183,41 @@ fn two_rows(a: &[i64], e: &[i64], b: &[i64], c: &mut [i64], d: &mut [i64])
     ensures second { d.new ≡ listing (length d.old) (row_product (length d.old) e.now b.now d.old) }
 {
     let n = c.len();
-    for q in 0..n / 4 {
-        let j = q * 4;
-        block(a, e, b, n, j, &mut c[j..j + 4], &mut d[j..j + 4]);
+    for q in 0..n / 3 {
+        let j = q * 3;
+        block(a, e, b, n, j, &mut c[j..j + 3], &mut d[j..j + 3]);
     }
-    for j in n / 4 * 4..n {
+    for j in n / 3 * 3..n {
         c[j] = column(a, b, n, j, c[j]);
         d[j] = column(e, b, n, j, d[j]);
     }
 }
 
-/// The same in four columns from `j` on. Its eight sums begin at the old elements: begun at 0, the compiler makes
-/// vectors of them, which are slower.
+/// The same in three columns from `j` on. All that a step needs stays in registers, with six sums and no more. They begin
+/// at the old elements: begun at 0, the compiler makes vectors of them, which are slower.
 fn block(a: &[i64], e: &[i64], b: &[i64], n: usize, j: usize, c: &mut [i64], d: &mut [i64])
     requires as_long { length e.now ≡ length a.now }
     requires right { length b.now ≡ length a.now * n }
-    requires within { j + 4 ≤ n }
-    requires four { length c.old ≡ 4 }
-    requires four_more { length d.old ≡ 4 }
-    ensures first { c.new ≡ listing 4 (λ q. column_sum n a.now b.now (j + q) (length a.now) (at c.old q)) }
-    ensures second { d.new ≡ listing 4 (λ q. column_sum n e.now b.now (j + q) (length e.now) (at d.old q)) }
+    requires within { j + 3 ≤ n }
+    requires three { length c.old ≡ 3 }
+    requires three_more { length d.old ≡ 3 }
+    ensures first { c.new ≡ listing 3 (λ q. column_sum n a.now b.now (j + q) (length a.now) (at c.old q)) }
+    ensures second { d.new ≡ listing 3 (λ q. column_sum n e.now b.now (j + q) (length e.now) (at d.old q)) }
 {
-    let (mut c0, mut c1, mut c2, mut c3) = (c[0], c[1], c[2], c[3]);
-    let (mut d0, mut d1, mut d2, mut d3) = (d[0], d[1], d[2], d[3]);
+    let (mut c0, mut c1, mut c2) = (c[0], c[1], c[2]);
+    let (mut d0, mut d1, mut d2) = (d[0], d[1], d[2]);
     for l in 0..a.len() {
         let place = l * n + j;
         let (x, y) = (a[l], e[l]);
         c0 = with_product(c0, x, b[place]);
         c1 = with_product(c1, x, b[place + 1]);
         c2 = with_product(c2, x, b[place + 2]);
-        c3 = with_product(c3, x, b[place + 3]);
         d0 = with_product(d0, y, b[place]);
         d1 = with_product(d1, y, b[place + 1]);
         d2 = with_product(d2, y, b[place + 2]);
-        d3 = with_product(d3, y, b[place + 3]);
     }
-    c.copy_from_slice(&[c0, c1, c2, c3]);
-    d.copy_from_slice(&[d0, d1, d2, d3]);
+    c.copy_from_slice(&[c0, c1, c2]);
+    d.copy_from_slice(&[d0, d1, d2]);
 }
 
 /// The element in column `j` of `a B`, and `start`, wrapping.
@@ -232,12 +231,6 @@ fn column(a: &[i64], b: &[i64], n: usize, j: usize, start: i64) -> i64
         total = with_product(total, a[l], b[l * n + j]);
     }
     total
-}
-
-fn with_product(total: i64, x: i64, y: i64) -> i64
-    ensures { result ≡ wrap (total +ℤ (x *ℤ y)) }
-{
-    total.wrapping_add(x.wrapping_mul(y))
 }
 
 /// `c = c + a B`, wrapping, for a row `a` and a row `c`.

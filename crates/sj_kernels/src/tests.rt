@@ -224,13 +224,13 @@ fn short_arrays_are_as_by_plain_loops(rt: HostRuntime) {
 
 #[test]
 fn rows_and_columns_past_the_eighth_are_turned_too(rt: HostRuntime) {
-    let mut a = [0i64; 153];
-    let mut b = [0i64; 153];
+    let mut a = [0i64; 225];
+    let mut b = [0i64; 225];
     extremes(&mut a);
-    transpose(&a, &mut b, 17, 9);
-    for i in 0..17 {
+    transpose(&a, &mut b, 25, 9);
+    for i in 0..25 {
         for j in 0..9 {
-            assert!(rt; b[j * 17 + i] == a[i * 9 + j]);
+            assert!(rt; b[j * 25 + i] == a[i * 9 + j]);
         }
     }
 }

@@ -1,57 +1,84 @@
--- A statement gives at most one cell, one task, one root and one print.
-use Rattle.std.proofs.Common.{◌≡◌, ℕ, ◌+◌, ◌≤◌, List, [], ◌∷◌, ◌++◌, length, refl, arith, length-append}
+-- How many tasks a statement gives.
+use Rattle.std.proofs.Common.{◌≡◌, ℕ, ◌*◌, true, false, not, ◌||◌, cond, List, [], length, map, ap, sym, subst, ◌∙◌, Option, Some, None}
 use Rattle.sj_base.specs.declared.ids.Line.{Line}
-use Rattle.sj_base.specs.declared.ids.Cell.{Cell}
+use Rattle.sj_base.specs.declared.ids.Root.{Root as RootNumber}
 use Rattle.sj_base.specs.declared.tile.Dims.{Dims}
-use Rattle.sj_job.specs.declared.job.Init.{Init}
-use Rattle.sj_job.specs.declared.job.Init.TheVariants.{Values, Fill, Nothing}
-use Rattle.sj_job.specs.Act.{Act}
-use Rattle.sj_job.specs.Act.{Register as Registers, Task as Tasks, Print as Prints, Invalidate as Invalidates, Unregister as Unregisters}
-use Rattle.sj_job.specs.Act.{Statement}
-use Rattle.sj_lower.specs.Lowering.{Lowering, nothing, first_tasks, lower_one, lower_act, lower_from}
-use Rattle.sj_lower.specs.Counts.{IsWithin}
+use Rattle.sj_plan.specs.declared.parts.Parts.{Parts}
+use Rattle.sj_plan.specs.Parts.{Fits, places}
+use Rattle.sj_plan.specs.Paste.{pastes_of}
+use Rattle.std.proofs.lemmas.List.{length-map}
+use Rattle.sj_job.specs.declared.job.Act.TheVariants as kept
+use Rattle.sj_job.specs.State.{Root, State, root_of, is_valued}
+use Rattle.sj_job.specs.Table.{Table, name_of, info_of, undivided}
+use Rattle.sj_job.specs.Track.{all_valued}
+use Rattle.sj_job.proofs.Children.{all_valued-same}
+use Rattle.sj_lower.specs.declared.lowerer.Lowerer.{Lowerer}
+use Rattle.sj_lower.specs.Cells.{Cells, same_parts, cell_of}
+use Rattle.sj_lower.specs.Rows.{paste_row, deliver_row}
+use Rattle.sj_lower.specs.Lowering.{Lowering, deliver_rows, plan_rows, active_cell}
+use Rattle.sj_lower.specs.Seen.{active_at, IsActive, IsNext}
+use Rattle.sj_lower.proofs.Agreeing.{plan_rows-are}
+use Rattle.sj_lower.proofs.Places.{length-places}
+use Rattle.sj_lower.proofs.Running.{root_there, valued_there}
 
-few_first : (i : Init) (d : Dims) (c : Cell) (line : Line) → length (first_tasks i d c line) ≤ 1
-few_first (Values xs) d c line = omega arith
-few_first (Fill a b) d c line = omega arith
-few_first Nothing d c line = omega arith
+-- the root that an act speaks of, with its active plan
+pub record Speaks (T : Table) (l : Lowerer) (r : RootNumber) (S : State) (L : Lowering) : Type 0 where
+  pub root : Root
+  pub there : root_of S (name_of T r) ≡ Some root
+  pub active : IsActive T L.cells r.0 (active_at l.actives.items r.0) root
 
-one_more : {X : Type 0} (n : ℕ) (xs : List X) (x : X) → length xs ≤ n → length (xs ++ x ∷ []) ≤ n + 1
-one_more n xs x h = omega (arith, length-append xs (x ∷ []))
+pub speaks-print : (T : Table) (l : Lowerer) (r : RootNumber) (S : State) (L : Lowering) → IsNext T l (kept.Print r) S L → Speaks T l r S L
+speaks-print T l r S L next =
+    let x = valued_there (root_of S (name_of T r)) next.sound in
+    record { root = x.0; there = x.1; active = next.follows.actives.each r.0 x.0 next.placed x.1 }
 
-at_most_one_more : {X : Type 0} (n : ℕ) (xs ys : List X) → length xs ≤ n → length ys ≤ 1 → length (xs ++ ys) ≤ n + 1
-at_most_one_more n xs ys h k = omega (arith, length-append xs ys)
+pub speaks-plan : (T : Table) (l : Lowerer) (r : RootNumber) (p : Parts) (S : State) (L : Lowering) → IsNext T l (kept.Plan r p) S L → Speaks T l r S L
+speaks-plan T l r p S L next =
+    let x = root_there (root_of S (name_of T r)) next.sound.rooted in
+    record { root = x.0; there = x.1; active = next.follows.actives.each r.0 x.0 next.placed x.1 }
 
-le_more : (m n : ℕ) → m ≤ n → m ≤ n + 1
-le_more m n h = omega arith
+-- ---- print statements
 
-within_act : (n : ℕ) (line : Line) (a : Act) (L : Lowering) → IsWithin n L → IsWithin (n + 1) (lower_act line a L)
-within_act n line (Registers r) L w = record {
-  cells = one_more n L.cells _ w.cells;
-  tasks = at_most_one_more n L.tasks _ w.tasks (few_first r.init r.dims (record { 0 = length L.cells }) line);
-  roots = omega (arith, w.roots);
-  prints = le_more L.prints n w.prints;
-}
-within_act n line (Tasks t) L w = record { cells = le_more (length L.cells) n w.cells; tasks = one_more n L.tasks _ w.tasks; roots = le_more L.roots n w.roots; prints = le_more L.prints n w.prints }
-within_act n line (Prints name) L w = record { cells = le_more (length L.cells) n w.cells; tasks = one_more n L.tasks _ w.tasks; roots = le_more L.roots n w.roots; prints = omega (arith, w.prints) }
-within_act n line (Invalidates name) L w = record { cells = le_more (length L.cells) n w.cells; tasks = le_more (length L.tasks) n w.tasks; roots = le_more L.roots n w.roots; prints = le_more L.prints n w.prints }
-within_act n line (Unregisters name) L w = record { cells = le_more (length L.cells) n w.cells; tasks = le_more (length L.tasks) n w.tasks; roots = le_more L.roots n w.roots; prints = le_more L.prints n w.prints }
+deliver_count : (S : State) (C : Cells) (name : List ℕ) (line : Line) (r : Root) → root_of S name ≡ Some r → length (deliver_rows S C name line) ≡ r.parts.r * r.parts.c
+deliver_count S C name line r e =
+    ap (λ (o : Option Root). length (map (λ place. deliver_row (active_cell S C name place) line) (places (elim o as (λ _. Parts) [ None ↦ undivided | Some r ↦ r.parts ])))) e
+    ∙ length-places (λ place. deliver_row (active_cell S C name place) line) r.parts
 
-pub within_more : (m n : ℕ) (L : Lowering) → m ≤ n → IsWithin m L → IsWithin n L
-within_more m n L h w = record { cells = omega (arith, w.cells); tasks = omega (arith, w.tasks); roots = omega (arith, w.roots); prints = omega (arith, w.prints) }
+pub count-print : (T : Table) (l : Lowerer) (r : RootNumber) (S : State) (L : Lowering) (C : Cells) (line : Line) → IsNext T l (kept.Print r) S L → let p = (active_at l.actives.items r.0).tracked.parts in p.r * p.c ≡ length (deliver_rows S C (name_of T r) line)
+count-print T l r S L C line next =
+    let x = speaks-print T l r S L next in
+    ap (λ (p : Parts). p.r * p.c) x.active.tracks.parts ∙ sym (deliver_count S C (name_of T r) line x.root x.there)
 
-within_from : (n : ℕ) (L : Lowering) (ss : List Statement) → IsWithin n L → IsWithin (n + length ss) (lower_from L ss)
-within_from n L [] w = within_more n (n + 0) L (omega arith) w
-within_from n L (s ∷ ss) w =
-    within_more (n + 1 + length ss) (n + length (s ∷ ss)) (lower_from (lower_one s L) ss) (omega arith) (within_from (n + 1) (lower_one s L) ss (within_act n s.line s.act L w))
+-- ---- plan lines
 
--- so many statements give no more than so many of anything
-pub within_statements : (ss : List Statement) → IsWithin (length ss) (lower_from nothing ss)
-within_statements ss =
-    within_more (0 + length ss) (length ss) (lower_from nothing ss) (omega arith)
-    (within_from 0 nothing ss (record { cells = omega arith; tasks = omega arith; roots = omega arith; prints = omega arith }))
+-- whether a plan line gives no task
+pub idle-same : (T : Table) (l : Lowerer) (r : RootNumber) (p : Parts) (S : State) (L : Lowering) (x : Speaks T l r S L) → let t = (active_at l.actives.items r.0).tracked in (same_parts t.parts p || not (all_valued t)) ≡ (same_parts x.root.parts p || not (is_valued x.root))
+idle-same T l r p S L x =
+    let t = (active_at l.actives.items r.0).tracked in
+    λ i. same_parts (x.active.tracks.parts i) p || not (all_valued-same t x.root x.active.tracks i)
 
--- one statement more, at the end
-pub lower_from-push : (L : Lowering) (ss : List Statement) (s : Statement) → lower_from L (ss ++ s ∷ []) ≡ lower_one s (lower_from L ss)
-lower_from-push L [] s = refl
-lower_from-push L (t ∷ ss) s = lower_from-push (lower_one t L) ss s
+pub count-idle : (T : Table) (l : Lowerer) (r : RootNumber) (p : Parts) (S : State) (L : Lowering) (C : Cells) (line : Line) → IsNext T l (kept.Plan r p) S L → (let t = (active_at l.actives.items r.0).tracked in (same_parts t.parts p || not (all_valued t)) ≡ true) → 0 ≡ length (plan_rows S C (name_of T r) p line)
+count-idle T l r p S L C line next idle =
+    let x = speaks-plan T l r p S L next in
+    sym (ap length (plan_rows-are S C (name_of T r) p line x.root x.there ∙ ap (λ b. cond b [] (map (paste_row (cell_of C (name_of T r) x.root.parts) (cell_of C (name_of T r) p) line) (pastes_of x.root.dims x.root.parts p))) (sym (idle-same T l r p S L x) ∙ idle)))
+
+pub count-pastes : (T : Table) (l : Lowerer) (r : RootNumber) (p : Parts) (S : State) (L : Lowering) (C : Cells) (line : Line) → IsNext T l (kept.Plan r p) S L → (let t = (active_at l.actives.items r.0).tracked in (same_parts t.parts p || not (all_valued t)) ≡ false)
+    → length (pastes_of (info_of T r).dims (active_at l.actives.items r.0).tracked.parts p) ≡ length (plan_rows S C (name_of T r) p line)
+count-pastes T l r p S L C line next busy =
+    let x = speaks-plan T l r p S L next in
+    let row = paste_row (cell_of C (name_of T r) x.root.parts) (cell_of C (name_of T r) p) line in
+    (λ i. length (pastes_of (sym x.active.dims i) (x.active.tracks.parts i) p))
+    ∙ sym (length-map (pastes_of x.root.dims x.root.parts p) row)
+    ∙ sym (ap length (plan_rows-are S C (name_of T r) p line x.root x.there ∙ ap (λ b. cond b [] (map row (pastes_of x.root.dims x.root.parts p))) (sym (idle-same T l r p S L x) ∙ busy)))
+
+-- both plans cut the root
+root_dims : (S : State) (name : List ℕ) (r : Root) → root_of S name ≡ Some r → (elim (root_of S name) as (λ _. Dims) [ None ↦ record { rows = 0; cols = 0 } | Some r ↦ r.dims ]) ≡ r.dims
+root_dims S name r e = ap (λ (o : Option Root). elim o as (λ _. Dims) [ None ↦ record { rows = 0; cols = 0 } | Some r ↦ r.dims ]) e
+
+pub fits-active : (T : Table) (l : Lowerer) (r : RootNumber) (S : State) (L : Lowering) → Speaks T l r S L → Fits (active_at l.actives.items r.0).tracked.parts (info_of T r).dims
+fits-active T l r S L x = subst (λ (d : Dims). Fits (active_at l.actives.items r.0).tracked.parts d) x.active.dims (subst (λ (p : Parts). Fits p x.root.dims) (sym x.active.tracks.parts) x.active.tracks.fits)
+
+pub fits-new : (T : Table) (l : Lowerer) (r : RootNumber) (p : Parts) (S : State) (L : Lowering) → IsNext T l (kept.Plan r p) S L → Fits p (info_of T r).dims
+fits-new T l r p S L next =
+    let x = speaks-plan T l r p S L next in
+    subst (Fits p) (root_dims S (name_of T r) x.root x.there ∙ x.active.dims) next.sound.parts

@@ -1,175 +1,370 @@
 -- Deliveries follow the print statements.
-use Rattle.std.proofs.Common.{◌≡◌, ℕ, zero, suc, ◌+◌, ◌<◌, Bool, true, false, cond, Option, Some, None, List, [], ◌∷◌, ◌++◌, length, get_or, map as each_of, refl, sym, ap, subst, ◌∙◌, inl, inr, arith, length-append}
-use Rattle.std.specs.Prelude.{nat_eq, count_by}
-use Rattle.std.specs.List.{All, AllPairs, range_with_len}
+use Rattle.std.proofs.Common.{◌≡◌, ℕ, zero, suc, ◌+◌, ◌-◌, ◌*◌, ◌<◌, ◌≤◌, Bool, true, false, cond, Some, List, [], ◌∷◌, ◌++◌, length, get_or, map as each_of, refl, sym, ap, subst, ◌∙◌, inl, inr, arith, length-append, pos}
+use Rattle.std.specs.Prelude.{◌⊎◌, nat_eq, count_by, slice_get, IsPermutation}
+use Rattle.std.specs.List.{All, AllPairs, AllByRecursion, filter}
 use Rattle.std.proofs.lemmas.Bool.{false≢true, cases_lt}
 use Rattle.std.proofs.lemmas.Bool.Decides.{Decides-eqb}
-use Rattle.std.proofs.lemmas.List.{map-append}
-use Rattle.std.proofs.lemmas.List.Elements.{All-nil, All-head, All-tail, All-push, All-weaker, All-get_or}
-use Rattle.std.proofs.lemmas.List.Quantifiers.{all_pairs_push}
-use Rattle.std.proofs.lemmas.List.Sums.{sum_by-append}
+use Rattle.std.proofs.lemmas.List.{append-nil, length-map, length-replicate}
+use Rattle.std.proofs.lemmas.List.Elements.{All-nil, All-append, All-weaker, All-from_recursion, recursion_from_All, filter-append}
+use Rattle.std.proofs.lemmas.List.Sorted.{IsPermutation-map, All-permutation}
+use Rattle.std.proofs.lemmas.List.Sums.{sum_by-cons, sum_by-append}
+use Rattle.std.proofs.lemmas.Option.{slice_get_within}
+use Rattle.std.proofs.lemmas.Simd.{map-map}
 use Rattle.sj_base.specs.declared.ids.Cell.{Cell}
 use Rattle.sj_base.specs.declared.ids.Line.{Line}
-use Rattle.sj_base.specs.declared.mode.Mode.TheVariants.{R}
+use Rattle.sj_base.specs.declared.ids.Root.{Root as RootNumber}
 use Rattle.sj_base.specs.declared.program.Lowered.{Lowered}
 use Rattle.sj_base.specs.declared.program.Delivery.{Delivery}
 use Rattle.sj_base.specs.declared.program.Program.{Program}
-use Rattle.sj_base.specs.Array.{Array}
+use Rattle.sj_base.specs.Array.{Array, area, zeros}
 use Rattle.sj_codelet.specs.declared.kernel.Kernel.TheVariants.{Deliver}
 use Rattle.sj_codelet.specs.Kernel.{kernel_of}
 use Rattle.sj_core.specs.Program.{task_of, data_operands}
 use Rattle.sj_core.specs.Operands.{worked_on}
-use Rattle.sj_core.specs.Fold.{given, held_before, held_in}
+use Rattle.sj_core.specs.Fold.{Contents, given, held_before, held_in}
+use Rattle.sj_plan.specs.declared.parts.Parts.{Parts}
+use Rattle.sj_plan.specs.declared.rect.Rect.{Rect}
+use Rattle.sj_plan.specs.Parts.{IsPlace, places}
+use Rattle.sj_plan.specs.Paste.{same_place}
+use Rattle.sj_plan.specs.Rect.{child, children_of, Within}
+use Rattle.sj_plan.specs.Window.{window, gathered, IsWhole}
+use Rattle.sj_plan.proofs.Gathering.{tiling-reassembles}
+use Rattle.sj_plan.proofs.Lists.{each-map, each-places, each-of, each-all, filter_all, filter_gone, count_by-map, count_places, ordered-append, pairs-from_ordered, ordered-from_pairs}
+use Rattle.sj_plan.proofs.Tiling.{children_of-tiling}
 use Rattle.sj_job.specs.State.{Root, State, root_of, is_valued}
-use Rattle.sj_job.specs.Meaning.{Printed, array_of, found_by}
-use Rattle.sj_job.specs.Sound.{has_values}
-use Rattle.sj_lower.specs.Lowering.{Lowering, nothing, handle_of, own_task, an_access, a_delivery, lower_print}
-use Rattle.sj_lower.proofs.Contents.{first_worker, task_at, contents_before}
-use Rattle.sj_lower.proofs.Holding.{cell_of, handle_is}
-use Rattle.sj_lower.proofs.Running.{valued_there}
-use Rattle.sj_lower.proofs.Agreeing.{Agrees, Begins, task_there}
+use Rattle.sj_job.specs.Meaning.{Printed, array_of}
+use Rattle.sj_job.specs.Table.{Table, info_of}
+use Rattle.sj_job.specs.Track.{number}
+use Rattle.sj_lower.specs.Cells.{Cells, cell_of}
+use Rattle.sj_lower.specs.Rows.{deliver_row}
+use Rattle.sj_lower.specs.Lowering.{Lowering, nothing, a_delivery}
+use Rattle.sj_lower.specs.Delivering.{part_of, printed_as, Assemble}
+use Rattle.sj_lower.proofs.Contents.{first_worker, task_at, contents_before, contents-next}
+use Rattle.sj_lower.proofs.Elements.{child-within, child-window, valued-child}
+use Rattle.sj_lower.proofs.Filling.{after_deliver}
+use Rattle.sj_lower.proofs.Folding.{Stand, after_row-is}
+use Rattle.sj_lower.proofs.Holding.{HasRoot}
+use Rattle.sj_lower.proofs.Places.{place-is, place-itself, number-below, number-apart, length-places, place_at, place_at-inside, number-place_at, places-at, places-by_number}
 
-pub record AreDelivered (p : Program) (L : Lowering) (out : List Printed) : Type 0 where
-  pub arrays : each_of (λ (d : Delivery). given p d.task) L.deliveries ≡ each_of (λ (x : Printed). x.array) out
-  pub numbered : each_of (λ (d : Delivery). d.print) L.deliveries ≡ range_with_len 0 (length L.deliveries)
-  pub prints : L.prints ≡ length L.deliveries
+-- ---- lists
+
+map-same : {X Y : Type 0} (f g : X → Y) (xs : List X) → AllByRecursion (λ x. f x ≡ g x) xs → each_of f xs ≡ each_of g xs
+map-same f g [] h = refl
+map-same f g (x ∷ xs) h = ap (λ y. y ∷ each_of f xs) h.0 ∙ ap (λ ys. g x ∷ ys) (map-same f g xs h.1)
+
+count-same : {X : Type 0} (f g : X → Bool) (xs : List X) → AllByRecursion (λ x. f x ≡ g x) xs → count_by f xs ≡ count_by g xs
+count-same f g [] h = refl
+count-same f g (x ∷ xs) h = sum_by-cons (λ y. cond (f y) 1 0) x xs ∙ (λ i. cond (h.0 i) 1 0 + count-same f g xs h.1 i) ∙ sym (sum_by-cons (λ y. cond (g y) 1 0) x xs)
+
+count-none : {X : Type 0} (f : X → Bool) (xs : List X) → AllByRecursion (λ x. f x ≡ false) xs → count_by f xs ≡ 0
+count-none f [] h = refl
+count-none f (x ∷ xs) h = sum_by-cons (λ y. cond (f y) 1 0) x xs ∙ (λ i. cond (h.0 i) 1 0 + count-none f xs h.1 i)
+
+pub slice-push : {X : Type 0} (xs : List X) (x y : X) (k : ℕ) → slice_get (xs ++ x ∷ []) k ≡ Some y → (slice_get xs k ≡ Some y) ⊎ ((k ≡ length xs) × (x ≡ y))
+slice-push [] x y zero e = inr (refl, cc)
+slice-push [] x y (suc k) e = absurd (cc)
+slice-push (z ∷ xs) x y zero e = inl e
+slice-push (z ∷ xs) x y (suc k) e = elim (slice-push xs x y k e) [
+  | inl old ↦ inl old
+  | inr new ↦ inr (omega (arith, new.0), new.1)
+]
+
+pairs-append : {X : Type 0} (R : X → X → Type 0) (xs ys : List X) → AllPairs R xs → AllPairs R ys → AllByRecursion (λ x. AllByRecursion (R x) ys) xs → AllPairs R (xs ++ ys)
+pairs-append R xs ys a b across = pairs-from_ordered R (xs ++ ys) (ordered-append R xs ys (ordered-from_pairs R xs a) (ordered-from_pairs R ys b) across)
+
+-- tests of numbers
+unequal : (m n : ℕ) → (m ≡ n → ⊥) → nat_eq m n ≡ false
+unequal m n h = by_test (nat_eq m n) refl
+  where
+    by_test : (b : Bool) → nat_eq m n ≡ b → b ≡ false
+    by_test false e = refl
+    by_test true e = absurd (h ((Decides-eqb m n).0 e))
+
+equal : (m n : ℕ) → m ≡ n → nat_eq m n ≡ true
+equal m n e = (Decides-eqb m n).1 e
+
+-- ---- what is delivered
+
+-- deliveries hand over the pieces of what a print statement finds
+pub record AreHanded (T : Table) (p : Program) (ds : List Delivery) (x : Printed) : Type 0 where
+  pub some : 0 < length ds
+  pub named : All (λ (d : Delivery). printed_as T d.root ≡ (x.name, x.kind)) ds
+  pub dims : All (λ (d : Delivery). (info_of T d.root).dims ≡ x.array.dims) ds
+  pub within : All (λ (d : Delivery). Within (part_of p d).0 x.array.dims) ds
+  pub array : Assemble p ds x.array
+
+-- the deliveries of print statement k
+abbrev pub of_print : ℕ → List Delivery → List Delivery
+of_print k ds = filter (λ d. nat_eq d.print k) ds
+
+abbrev pub Delivers : Program → ℕ → Type 0
+Delivers p n = kernel_of (task_of p (task_at n)).codelet ≡ Some Deliver
+
+pub record AreDelivered (T : Table) (p : Program) (L : Lowering) (out : List Printed) : Type 0 where
+  pub each : (k : ℕ) (x : Printed) → slice_get out k ≡ Some x → AreHanded T p (of_print k L.deliveries) x
+  pub counted : L.prints ≡ length out
+  pub printed : All (λ (d : Delivery). d.print < length out) L.deliveries
+  pub in_order : AllPairs (λ (d e : Delivery). d.print ≤ e.print) L.deliveries
+  pub rooted : All (λ (d : Delivery). d.root.0 < length T.names) L.deliveries
   pub below : All (λ (d : Delivery). d.task.0 < length L.tasks) L.deliveries
   pub ascending : AllPairs (λ (d e : Delivery). d.task.0 < e.task.0) L.deliveries
-  pub delivers : All (λ (d : Delivery). kernel_of (task_of p d.task).codelet ≡ Some Deliver) L.deliveries
-  pub once : (n : ℕ) → n < length L.tasks → kernel_of (task_of p (task_at n)).codelet ≡ Some Deliver → count_by (λ (d : Delivery). nat_eq d.task.0 n) L.deliveries ≡ 1
+  pub delivers : All (λ (d : Delivery). Delivers p d.task.0) L.deliveries
+  pub once : (n : ℕ) → n < length L.tasks → Delivers p n → count_by (λ (d : Delivery). nat_eq d.task.0 n) L.deliveries ≡ 1
 
-pub delivered_none : (p : Program) → AreDelivered p nothing []
-delivered_none p = record {
-  arrays = refl;
-  numbered = refl;
-  prints = refl;
+none_pair : {X : Type 0} (R : X → X → Type 0) → AllPairs R []
+none_pair R i j d h k = absurd (omega arith)
+
+pub delivered_none : (T : Table) (p : Program) → AreDelivered T p nothing []
+delivered_none T p = record {
+  each = λ k x e. absurd (nothing_there k x e);
+  counted = refl;
+  printed = All-nil (λ (d : Delivery). d.print < 0);
+  in_order = none_pair (λ (d e : Delivery). d.print ≤ e.print);
+  rooted = All-nil (λ (d : Delivery). d.root.0 < length T.names);
   below = All-nil (λ (d : Delivery). d.task.0 < 0);
-  ascending = λ i j d h k. absurd (omega arith);
-  delivers = All-nil (λ (d : Delivery). kernel_of (task_of p d.task).codelet ≡ Some Deliver);
+  ascending = none_pair (λ (d e : Delivery). d.task.0 < e.task.0);
+  delivers = All-nil (λ (d : Delivery). Delivers p d.task.0);
   once = λ n h e. absurd (omega arith);
 }
+  where
+    nothing_there : (k : ℕ) (x : Printed) → slice_get {X = Printed} [] k ≡ Some x → ⊥
+    nothing_there k x e = let h = slice_get_within {A = Printed} [] k x e in omega arith
 
--- ---- a task that doesn't deliver
+-- ---- tasks that don't deliver
 
-pub delivered_beside : (p : Program) (L M : Lowering) (out : List Printed) (l : Lowered) → M.deliveries ≡ L.deliveries → M.prints ≡ L.prints → M.tasks ≡ L.tasks ++ l ∷ [] → task_of p (task_at (length L.tasks)) ≡ l → (kernel_of l.codelet ≡ Some Deliver → ⊥) → AreDelivered p L out → AreDelivered p M out
-delivered_beside p L M out l ed ep et is other g = record {
-  arrays = ap (each_of (λ (d : Delivery). given p d.task)) ed ∙ g.arrays;
-  numbered = ap (each_of (λ (d : Delivery). d.print)) ed ∙ g.numbered ∙ ap (λ (ds : List Delivery). range_with_len 0 (length ds)) (sym ed);
-  prints = ep ∙ g.prints ∙ ap length (sym ed);
+abbrev pub NoneDelivers : List Lowered → Type 0
+NoneDelivers ls = AllByRecursion (λ l. kernel_of l.codelet ≡ Some Deliver → ⊥) ls
+
+not_among : (p : Program) (n m : ℕ) (ls : List Lowered) → Stand p n ls → NoneDelivers ls → n ≤ m → m < n + length ls → Delivers p m → ⊥
+not_among p n m [] s other lo hi e = omega arith
+not_among p n m (l ∷ ls) s other lo hi e =
+    elim (cases_lt n m) [
+      | inl later ↦ not_among p (n + 1) m ls s.2 other.1 (omega arith) (omega arith) e
+      | inr past ↦ (let here : n ≡ m = omega arith in other.0 (ap (λ (k : Lowered). kernel_of k.codelet) (sym s.0) ∙ ap (λ i. kernel_of (task_of p (task_at i)).codelet) here ∙ e))
+    ]
+
+pub delivered_beside : (T : Table) (p : Program) (L M : Lowering) (out : List Printed) (ls : List Lowered) → M.deliveries ≡ L.deliveries → M.prints ≡ L.prints → M.tasks ≡ L.tasks ++ ls → Stand p (length L.tasks) ls → NoneDelivers ls → AreDelivered T p L out → AreDelivered T p M out
+delivered_beside T p L M out ls ed ep et s other g = record {
+  each = λ k x e. subst (λ (ds : List Delivery). AreHanded T p (of_print k ds) x) (sym ed) (g.each k x e);
+  counted = ep ∙ g.counted;
+  printed = subst (λ (ds : List Delivery). All (λ (d : Delivery). d.print < length out) ds) (sym ed) g.printed;
+  in_order = subst (λ (ds : List Delivery). AllPairs (λ (d e : Delivery). d.print ≤ e.print) ds) (sym ed) g.in_order;
+  rooted = subst (λ (ds : List Delivery). All (λ (d : Delivery). d.root.0 < length T.names) ds) (sym ed) g.rooted;
   below = subst (λ (ds : List Delivery). All (λ (d : Delivery). d.task.0 < length M.tasks) ds) (sym ed) (All-weaker (λ (d : Delivery). d.task.0 < length L.tasks) (λ (d : Delivery). d.task.0 < length M.tasks) (λ d h. omega (arith, longer)) L.deliveries g.below);
   ascending = subst (λ (ds : List Delivery). AllPairs (λ (d e : Delivery). d.task.0 < e.task.0) ds) (sym ed) g.ascending;
-  delivers = subst (λ (ds : List Delivery). All (λ (d : Delivery). kernel_of (task_of p d.task).codelet ≡ Some Deliver) ds) (sym ed) g.delivers;
+  delivers = subst (λ (ds : List Delivery). All (λ (d : Delivery). Delivers p d.task.0) ds) (sym ed) g.delivers;
   once = λ n h e. ap (count_by (λ (d : Delivery). nat_eq d.task.0 n)) ed ∙ one n h e;
 }
   where
-    longer : length M.tasks ≡ length L.tasks + 1
-    longer = ap length et ∙ length-append L.tasks (l ∷ [])
+    longer : length M.tasks ≡ length L.tasks + length ls
+    longer = ap length et ∙ length-append L.tasks ls
 
-    one : (n : ℕ) → n < length M.tasks → kernel_of (task_of p (task_at n)).codelet ≡ Some Deliver → count_by (λ (d : Delivery). nat_eq d.task.0 n) L.deliveries ≡ 1
+    one : (n : ℕ) → n < length M.tasks → Delivers p n → count_by (λ (d : Delivery). nat_eq d.task.0 n) L.deliveries ≡ 1
     one n h e =
         elim (cases_lt n (length L.tasks)) [
           | inl inside ↦ g.once n inside e
-          | inr past ↦ (let here : n ≡ length L.tasks = omega (arith, longer) in absurd (other (ap (λ (k : Lowered). kernel_of k.codelet) (sym is) ∙ ap (λ m. kernel_of (task_of p (task_at m)).codelet) (sym here) ∙ e)))
+          | inr past ↦ absurd (not_among p (length L.tasks) n ls s other past (omega (arith, longer)) e)
         ]
 
--- the same tasks
-pub delivered_same : (p : Program) (L M : Lowering) (out : List Printed) → M.deliveries ≡ L.deliveries → M.prints ≡ L.prints → M.tasks ≡ L.tasks → AreDelivered p L out → AreDelivered p M out
-delivered_same p L M out ed ep et g = record {
-  arrays = ap (each_of (λ (d : Delivery). given p d.task)) ed ∙ g.arrays;
-  numbered = ap (each_of (λ (d : Delivery). d.print)) ed ∙ g.numbered ∙ ap (λ (ds : List Delivery). range_with_len 0 (length ds)) (sym ed);
-  prints = ep ∙ g.prints ∙ ap length (sym ed);
-  below = subst (λ (ds : List Delivery). All (λ (d : Delivery). d.task.0 < length M.tasks) ds) (sym ed) (subst (λ (ts : List Lowered). All (λ (d : Delivery). d.task.0 < length ts) L.deliveries) (sym et) g.below);
-  ascending = subst (λ (ds : List Delivery). AllPairs (λ (d e : Delivery). d.task.0 < e.task.0) ds) (sym ed) g.ascending;
-  delivers = subst (λ (ds : List Delivery). All (λ (d : Delivery). kernel_of (task_of p d.task).codelet ≡ Some Deliver) ds) (sym ed) g.delivers;
-  once = λ n h e. ap (count_by (λ (d : Delivery). nat_eq d.task.0 n)) ed ∙ g.once n (subst (λ (ts : List Lowered). n < length ts) et h) e;
+-- ---- the deliveries of one print statement
+
+-- a task among those that hand over
+delivers_there : (p : Program) (n i : ℕ) (cell : ℕ × ℕ → Cell) (line : Line) (ps : List (ℕ × ℕ)) → Stand p n (each_of (λ place. deliver_row (cell place) line) ps) → i < length ps → task_of p (task_at (n + i)) ≡ deliver_row (cell (get_or ps i (0, 0))) line
+delivers_there p n i cell line [] s h = absurd (omega arith)
+delivers_there p n zero cell line (q ∷ qs) s h = ap (λ m. task_of p (task_at m)) (none n) ∙ s.0
+  where
+    none : (n : ℕ) → n + 0 ≡ n
+    none n = omega arith
+delivers_there p n (suc i) cell line (q ∷ qs) s h = ap (λ m. task_of p (task_at m)) (next n i) ∙ delivers_there p (n + 1) i cell line qs s.2 (omega arith)
+  where
+    next : (n i : ℕ) → n + suc i ≡ (n + 1) + i
+    next n i = omega arith
+
+-- they change nothing
+delivers_keep : (p : Program) (n i : ℕ) (cell : ℕ × ℕ → Cell) (line : Line) (ps : List (ℕ × ℕ)) → Stand p n (each_of (λ place. deliver_row (cell place) line) ps) → i ≤ length ps → contents_before p (n + i) ≡ contents_before p n
+delivers_keep p n zero cell line ps s h = ap (contents_before p) (none n)
+  where
+    none : (n : ℕ) → n + 0 ≡ n
+    none n = omega arith
+delivers_keep p n (suc i) cell line [] s h = absurd (omega arith)
+delivers_keep p n (suc i) cell line (q ∷ qs) s h =
+    ap (contents_before p) (next n i) ∙ delivers_keep p (n + 1) i cell line qs s.2 (omega arith)
+    ∙ contents-next p n (n + 1) refl ∙ after_row-is p n (contents_before p n) (deliver_row (cell q) line) s.0 ∙ after_deliver p (contents_before p n) (cell q) line
+  where
+    next : (n i : ℕ) → n + suc i ≡ (n + 1) + i
+    next n i = omega arith
+
+given_there : (p : Program) (m : ℕ) (c : Cell) (line : Line) → task_of p (task_at m) ≡ deliver_row c line → given p (task_at m) ≡ held_in p (contents_before p m) c
+given_there p m c line e = ap (λ (l : Lowered). held_before p m (get_or (each_of (worked_on p first_worker) (data_operands l)) 0 (record { 0 = 0 }))) e
+
+at_child : (s : Parts) (place : ℕ × ℕ) → IsPlace s place → get_or (places s) (number s place) (0, 0) ≡ place
+at_child s place h =
+    ap (λ ps. get_or ps (number s place) (0, 0)) (sym (map_same (places s))) ∙ places-at (λ q. q) s place (0, 0) h
+  where
+    map_same : (ps : List (ℕ × ℕ)) → each_of (λ q. q) ps ≡ ps
+    map_same [] = refl
+    map_same (q ∷ qs) = ap (λ xs. q ∷ xs) (map_same qs)
+
+many : (s : Parts) → length (places s) ≡ s.r * s.c
+many s = sym (length-map (places s) (λ q. q)) ∙ length-places (λ q. q) s
+
+-- what holds where the tasks of a print statement stand
+pub record Stands (p : Program) (C : Cells) (S : State) (name : List ℕ) (r : Root) (n : ℕ) (line : Line) : Type 0 where
+  pub valued : is_valued r ≡ true
+  pub is_root : root_of S name ≡ Some r
+  pub has : HasRoot p C n (contents_before p n) name r
+  pub stand : Stand p n (each_of (λ place. deliver_row (cell_of C name r.parts place) line) (places r.parts))
+
+child_task : (p : Program) (C : Cells) (S : State) (name : List ℕ) (r : Root) (n : ℕ) (line : Line) (place : ℕ × ℕ) → Stands p C S name r n line → IsPlace r.parts place → task_of p (task_at (n + number r.parts place)) ≡ deliver_row (cell_of C name r.parts place) line
+child_task p C S name r n line place t h =
+    delivers_there p n (number r.parts place) (cell_of C name r.parts) line (places r.parts) t.stand (omega (arith, number-below r.parts place h, many r.parts))
+    ∙ ap (λ q. deliver_row (cell_of C name r.parts q) line) (at_child r.parts place h)
+
+-- a child's task hands over its window
+child_given : (p : Program) (C : Cells) (S : State) (name : List ℕ) (r : Root) (n : ℕ) (line : Line) (place : ℕ × ℕ) → Stands p C S name r n line → IsPlace r.parts place → given p (task_at (n + number r.parts place)) ≡ window (array_of r) (child r.dims r.parts place)
+child_given p C S name r n line place t h =
+    given_there p (n + number r.parts place) (cell_of C name r.parts place) line (child_task p C S name r n line place t h)
+    ∙ ap (λ (k : Contents). held_in p k (cell_of C name r.parts place)) (delivers_keep p n (number r.parts place) (cell_of C name r.parts) line (places r.parts) t.stand (omega (arith, number-below r.parts place h, many r.parts)))
+    ∙ (t.has.held place h (valued-child r place t.has.whole t.valued h)).value ∙ child-window r place
+
+abbrev piece_of : Root → ℕ × ℕ → Rect × Array
+piece_of r place = (child r.dims r.parts place, window (array_of r) (child r.dims r.parts place))
+
+abbrev IsPiece : Root → Rect × Array → Type 0
+IsPiece r part = part.1 ≡ window (array_of r) part.0
+
+child_part : (p : Program) (C : Cells) (S : State) (name : List ℕ) (r : Root) (n : ℕ) (line : Line) (root : RootNumber) (print : ℕ) (place : ℕ × ℕ) → Stands p C S name r n line → IsPlace r.parts place → part_of p (a_delivery n root r.dims r.parts print place) ≡ piece_of r place
+child_part p C S name r n line root print place t h =
+    let c = child r.dims r.parts place in
+    let part : Array → Rect × Array = λ a. (record { row = c.row; col = c.col; rows = a.dims.rows; cols = a.dims.cols }, a) in
+    ap part (child_given p C S name r n line place t h)
+
+abbrev pub deliveries_by : Root → ℕ → RootNumber → ℕ → List Delivery
+deliveries_by r n root print = each_of (a_delivery n root r.dims r.parts print) (places r.parts)
+
+all_places : (P : Delivery → Type 0) (r : Root) (n : ℕ) (root : RootNumber) (print : ℕ) → ((place : ℕ × ℕ) → IsPlace r.parts place → P (a_delivery n root r.dims r.parts print place)) → AllByRecursion P (deliveries_by r n root print)
+all_places P r n root print h = each-map P (a_delivery n root r.dims r.parts print) (places r.parts) (each-places (λ place. P (a_delivery n root r.dims r.parts print place)) r.parts h)
+
+whole_array : (p : Program) (C : Cells) (n : ℕ) (k : Contents) (name : List ℕ) (r : Root) → HasRoot p C n k name r → IsWhole (array_of r)
+whole_array p C n k name r h = length-map r.elements _ ∙ h.whole
+
+positive : (a b : ℕ) → 0 < a → 0 < b → 0 < a * b
+positive a b h k = grind arith
+
+-- the deliveries hand over what the print statement finds
+pub handed : (T : Table) (p : Program) (C : Cells) (S : State) (name : List ℕ) (r : Root) (n : ℕ) (line : Line) (root : RootNumber) (print : ℕ) → Stands p C S name r n line → printed_as T root ≡ (name, r.kind) → (info_of T root).dims ≡ r.dims
+    → AreHanded T p (deliveries_by r n root print) (record { name = name; kind = r.kind; array = array_of r })
+handed T p C S name r n line root print t named dims = record {
+  some = let e = length-places (a_delivery n root r.dims r.parts print) r.parts in omega (arith, e, positive r.parts.r r.parts.c t.has.fits.some_rows t.has.fits.some_cols);
+  named = All-from_recursion (λ (d : Delivery). printed_as T d.root ≡ (name, r.kind)) (deliveries_by r n root print) (all_places (λ (d : Delivery). printed_as T d.root ≡ (name, r.kind)) r n root print (λ place h. named));
+  dims = All-from_recursion (λ (d : Delivery). (info_of T d.root).dims ≡ r.dims) (deliveries_by r n root print) (all_places (λ (d : Delivery). (info_of T d.root).dims ≡ r.dims) r n root print (λ place h. dims));
+  within = All-from_recursion (λ (d : Delivery). Within (part_of p d).0 r.dims) (deliveries_by r n root print) (all_places (λ (d : Delivery). Within (part_of p d).0 r.dims) r n root print (λ place h.
+      subst (λ (x : Rect × Array). Within x.0 r.dims) (sym (child_part p C S name r n line root print place t h)) (child-within r.dims r.parts place h)));
+  array = λ parts order. assembled parts (subst (λ (xs : List (Rect × Array)). IsPermutation xs parts) pieces order);
 }
+  where
+    pieces : each_of (part_of p) (deliveries_by r n root print) ≡ each_of (piece_of r) (places r.parts)
+    pieces = map-map (part_of p) (a_delivery n root r.dims r.parts print) (places r.parts)
+        ∙ map-same (λ place. part_of p (a_delivery n root r.dims r.parts print place)) (piece_of r) (places r.parts) (each-places (λ place. part_of p (a_delivery n root r.dims r.parts print place) ≡ piece_of r place) r.parts (λ place h. child_part p C S name r n line root print place t h))
+
+    assembled : (parts : List (Rect × Array)) → IsPermutation (each_of (piece_of r) (places r.parts)) parts → gathered (zeros r.dims) parts ≡ array_of r
+    assembled parts order =
+        tiling-reassembles r.dims (children_of r.dims r.parts) (children_of-tiling r.dims r.parts t.has.fits) (array_of r) (zeros r.dims) parts refl (whole_array p C n (contents_before p n) name r t.has) refl (length-replicate (area r.dims) (pos 0))
+        (subst (λ (xs : List Rect). IsPermutation xs (each_of (λ (part : Rect × Array). part.0) parts)) (map-map (λ (part : Rect × Array). part.0) (piece_of r) (places r.parts)) (IsPermutation-map (λ (part : Rect × Array). part.0) (each_of (piece_of r) (places r.parts)) parts order))
+        (All-permutation (IsPiece r) (each_of (piece_of r) (places r.parts)) parts order (All-from_recursion (IsPiece r) (each_of (piece_of r) (places r.parts)) (each-map (IsPiece r) (piece_of r) (places r.parts) (each-of (λ place. IsPiece r (piece_of r place)) (λ place. refl) (places r.parts)))))
 
 -- ---- a print
 
-count_below : (n : ℕ) (ds : List Delivery) → All (λ (d : Delivery). d.task.0 < n) ds → count_by (λ (d : Delivery). nat_eq d.task.0 n) ds ≡ 0
-count_below n [] h = refl
-count_below n (d ∷ ds) h =
-    let k = All-head (λ (d : Delivery). d.task.0 < n) d ds h in
-    sum_by-append (λ (d : Delivery). cond (nat_eq d.task.0 n) 1 0) (d ∷ []) ds
-    ∙ by_cases (nat_eq d.task.0 n) refl k (count_below n ds (All-tail (λ (d : Delivery). d.task.0 < n) d ds h))
+-- a child's task has its number
+one_task : (s : Parts) (n m : ℕ) → n ≤ m → m < n + s.r * s.c → count_by (λ (place : ℕ × ℕ). nat_eq (n + number s place) m) (places s) ≡ 1
+one_task s n m lo hi =
+    let q = place_at s (m - n) in
+    let inside = place_at-inside s (m - n) (omega arith) in
+    count-same (λ (place : ℕ × ℕ). nat_eq (n + number s place) m) (same_place q) (places s) (each-places (λ place. nat_eq (n + number s place) m ≡ same_place q place) s (λ place h. by_test place h (same_place q place) refl))
+    ∙ count_places s q inside
   where
-    by_cases : (b : Bool) → nat_eq d.task.0 n ≡ b → d.task.0 < n → count_by (λ (d : Delivery). nat_eq d.task.0 n) ds ≡ 0 → (0 + cond (nat_eq d.task.0 n) 1 0) + count_by (λ (d : Delivery). nat_eq d.task.0 n) ds ≡ 0
-    by_cases true e k rest = absurd (omega (arith, (Decides-eqb d.task.0 n).0 e))
-    by_cases false e k rest = let c = ap {B = ℕ} (λ b. cond b 1 0) e in omega (arith, c, rest)
+    here : n + number s (place_at s (m - n)) ≡ m
+    here = ap (λ k. n + k) (number-place_at s (m - n)) ∙ omega arith
 
-range_more : (a n : ℕ) → range_with_len a (n + 1) ≡ range_with_len a n ++ (a + n) ∷ []
-range_more a zero = ap (λ (m : ℕ). m ∷ []) (omega arith)
-range_more a (suc n) =
-    ap (range_with_len a) (more_is n) ∙ ap (λ ms. a ∷ ms) (range_more (a + 1) n) ∙ ap (λ m. a ∷ (range_with_len (a + 1) n ++ m ∷ [])) (shifted a n)
-  where
-    more_is : (n : ℕ) → suc n + 1 ≡ suc (n + 1)
-    more_is n = omega arith
+    by_test : (place : ℕ × ℕ) → IsPlace s place → (b : Bool) → same_place (place_at s (m - n)) place ≡ b → nat_eq (n + number s place) m ≡ b
+    by_test place h true e = equal (n + number s place) m (ap (λ q. n + number s q) (sym (place-is (place_at s (m - n)) place e)) ∙ here)
+    by_test place h false e = unequal (n + number s place) m (λ same.
+        let one : number s place ≡ number s (place_at s (m - n)) = omega (arith, same, here) in
+        let is = number-apart s place (place_at s (m - n)) h (place_at-inside s (m - n) (omega arith)) one in
+        false≢true (sym e ∙ ap (same_place (place_at s (m - n))) is ∙ place-itself (place_at s (m - n))))
 
-    shifted : (a n : ℕ) → (a + 1) + n ≡ a + suc n
-    shifted a n = omega arith
-
-from_zero : (n : ℕ) → n ≡ 0 + n
-from_zero n = omega arith
-
-given_there : (p : Program) (n : ℕ) (c : Cell) (line : Line) → task_of p (task_at n) ≡ own_task Deliver [] (an_access R c) line → given p (task_at n) ≡ held_in p (contents_before p n) c
-given_there p n c line e = ap (λ (l : Lowered). held_before p n (get_or (each_of (worked_on p first_worker) (data_operands l)) 0 (record { 0 = 0 }))) e
-
-found_there : (S : State) (name : List ℕ) (r : Root) → root_of S name ≡ Some r → each_of (λ (x : Printed). x.array) (found_by S name) ≡ array_of r ∷ []
-found_there S name r e = ap (λ (o : Option Root). each_of (λ (x : Printed). x.array) (elim o as (λ _. List Printed) [ None ↦ [] | Some r ↦ record { name = name; kind = r.kind; array = array_of r } ∷ [] ])) e
-
-pub delivered_print : (p : Program) (L : Lowering) (S : State) (out : List Printed) (line : Line) (name : List ℕ) → Begins p (lower_print line name L) → Agrees p L S → has_values S name ≡ true → AreDelivered p L out → AreDelivered p (lower_print line name L) (out ++ found_by S name)
-delivered_print p L S out line name b a v g = record {
-  arrays = map-append (λ (d : Delivery). given p d.task) L.deliveries (d ∷ [])
-      ∙ ap (λ xs. xs ++ given p (task_at n) ∷ []) g.arrays
-      ∙ ap (λ (x : Array). each_of (λ (x : Printed). x.array) out ++ x ∷ []) handed
-      ∙ ap (λ xs. each_of (λ (x : Printed). x.array) out ++ xs) (sym (found_there S name there.0 there.1))
-      ∙ sym (map-append (λ (x : Printed). x.array) out (found_by S name));
-  numbered = map-append (λ (d : Delivery). d.print) L.deliveries (d ∷ [])
-      ∙ ap (λ xs. xs ++ L.prints ∷ []) g.numbered
-      ∙ ap (λ m. range_with_len 0 (length L.deliveries) ++ m ∷ []) g.prints
-      ∙ ap (λ (m : ℕ). range_with_len 0 (length L.deliveries) ++ m ∷ []) (from_zero (length L.deliveries)) ∙ sym (range_more 0 (length L.deliveries)) ∙ ap (range_with_len 0) (sym (length-append L.deliveries (d ∷ [])));
-  prints = ap (λ m. m + 1) g.prints ∙ sym (length-append L.deliveries (d ∷ []));
-  below = All-push (λ (d : Delivery). d.task.0 < length (L.tasks ++ l ∷ [])) L.deliveries d (All-weaker (λ (d : Delivery). d.task.0 < n) (λ (d : Delivery). d.task.0 < length (L.tasks ++ l ∷ [])) (λ e h. omega (arith, longer)) L.deliveries g.below) (omega (arith, longer));
-  ascending = all_pairs_push (λ (d e : Delivery). d.task.0 < e.task.0) L.deliveries d g.ascending (λ k e h. All-get_or (λ (d : Delivery). d.task.0 < n) L.deliveries k e h g.below);
-  delivers = All-push (λ (d : Delivery). kernel_of (task_of p d.task).codelet ≡ Some Deliver) L.deliveries d g.delivers (ap (λ (k : Lowered). kernel_of k.codelet) is);
-  once = one;
+pub delivered_print : (T : Table) (p : Program) (L M : Lowering) (S : State) (out : List Printed) (line : Line) (name : List ℕ) (r : Root) (root : RootNumber)
+    → Stands p L.cells S name r (length L.tasks) line → printed_as T root ≡ (name, r.kind) → (info_of T root).dims ≡ r.dims → root.0 < length T.names
+    → M.deliveries ≡ L.deliveries ++ deliveries_by r (length L.tasks) root L.prints → M.prints ≡ L.prints + 1 → length M.tasks ≡ length L.tasks + r.parts.r * r.parts.c
+    → AreDelivered T p L out → AreDelivered T p M (out ++ record { name = name; kind = r.kind; array = array_of r } ∷ [])
+delivered_print T p L M S out line name r root t named dims there ed ep et g = record {
+  each = λ k y e. subst (λ (ds : List Delivery). AreHanded T p (of_print k ds) y) (sym ed) (each_print k y (slice-push out x y k e));
+  counted = ep ∙ ap (λ n. n + 1) g.counted ∙ sym more_out;
+  printed = subst (λ (ds : List Delivery). All (λ (d : Delivery). d.print < length (out ++ x ∷ [])) ds) (sym ed)
+      (All-append (λ (d : Delivery). d.print < length (out ++ x ∷ [])) L.deliveries news (All-weaker (λ (d : Delivery). d.print < length out) (λ (d : Delivery). d.print < length (out ++ x ∷ [])) (λ d h. omega (arith, more_out)) L.deliveries g.printed)
+      (from_places (λ (d : Delivery). d.print < length (out ++ x ∷ [])) (λ place h. omega (arith, more_out, g.counted))));
+  in_order = subst (λ (ds : List Delivery). AllPairs (λ (d e : Delivery). d.print ≤ e.print) ds) (sym ed)
+      (pairs-append (λ (d e : Delivery). d.print ≤ e.print) L.deliveries news g.in_order same_print
+      (each-all (λ (d : Delivery). d.print < length out) (λ (d : Delivery). AllByRecursion (λ (e : Delivery). d.print ≤ e.print) news) (λ d h. all_places (λ (e : Delivery). d.print ≤ e.print) r n root L.prints (λ place at. omega (arith, h, g.counted))) L.deliveries (recursion_from_All (λ (d : Delivery). d.print < length out) L.deliveries g.printed)));
+  rooted = subst (λ (ds : List Delivery). All (λ (d : Delivery). d.root.0 < length T.names) ds) (sym ed)
+      (All-append (λ (d : Delivery). d.root.0 < length T.names) L.deliveries news g.rooted (from_places (λ (d : Delivery). d.root.0 < length T.names) (λ place h. there)));
+  below = subst (λ (ds : List Delivery). All (λ (d : Delivery). d.task.0 < length M.tasks) ds) (sym ed)
+      (All-append (λ (d : Delivery). d.task.0 < length M.tasks) L.deliveries news (All-weaker (λ (d : Delivery). d.task.0 < n) (λ (d : Delivery). d.task.0 < length M.tasks) (λ d h. omega (arith, et)) L.deliveries g.below)
+      (from_places (λ (d : Delivery). d.task.0 < length M.tasks) (λ place h. omega (arith, et, number-below r.parts place h))));
+  ascending = subst (λ (ds : List Delivery). AllPairs (λ (d e : Delivery). d.task.0 < e.task.0) ds) (sym ed)
+      (pairs-append (λ (d e : Delivery). d.task.0 < e.task.0) L.deliveries news g.ascending rising
+      (each-all (λ (d : Delivery). d.task.0 < n) (λ (d : Delivery). AllByRecursion (λ (e : Delivery). d.task.0 < e.task.0) news) (λ d h. all_places (λ (e : Delivery). d.task.0 < e.task.0) r n root L.prints (λ place at. omega (arith, h))) L.deliveries (recursion_from_All (λ (d : Delivery). d.task.0 < n) L.deliveries g.below)));
+  delivers = subst (λ (ds : List Delivery). All (λ (d : Delivery). Delivers p d.task.0) ds) (sym ed)
+      (All-append (λ (d : Delivery). Delivers p d.task.0) L.deliveries news g.delivers (from_places (λ (d : Delivery). Delivers p d.task.0) (λ place h. ap (λ (l : Lowered). kernel_of l.codelet) (child_task p L.cells S name r n line place t h))));
+  once = λ m h e. ap (count_by (λ (d : Delivery). nat_eq d.task.0 m)) ed ∙ sum_by-append (λ (d : Delivery). cond (nat_eq d.task.0 m) 1 0) L.deliveries news ∙ both m h e (cases_lt m n);
 }
   where
     n : ℕ
     n = length L.tasks
 
-    d : Delivery
-    d = a_delivery n (handle_of L name) L.prints
+    x : Printed
+    x = record { name = name; kind = r.kind; array = array_of r }
 
-    l : Lowered
-    l = own_task Deliver [] (an_access R (cell_of L name)) line
+    news : List Delivery
+    news = deliveries_by r n root L.prints
 
-    is : task_of p (task_at n) ≡ l
-    is = task_there p L l b.tasks b.all_tasks
+    more_out : length (out ++ x ∷ []) ≡ length out + 1
+    more_out = length-append out (x ∷ [])
 
-    longer : length (L.tasks ++ l ∷ []) ≡ n + 1
-    longer = length-append L.tasks (l ∷ [])
+    from_places : (P : Delivery → Type 0) → ((place : ℕ × ℕ) → IsPlace r.parts place → P (a_delivery n root r.dims r.parts L.prints place)) → All P news
+    from_places P h = All-from_recursion P news (all_places P r n root L.prints h)
 
-    there : (r : Root) × (root_of S name ≡ Some r) × (is_valued r ≡ true)
-    there = valued_there (root_of S name) v
+    news_at : (i : ℕ) (d : Delivery) → i < length news → get_or news i d ≡ a_delivery n root r.dims r.parts L.prints (place_at r.parts i)
+    news_at i d h = places-by_number (a_delivery n root r.dims r.parts L.prints) r.parts i d (omega (arith, length-places (a_delivery n root r.dims r.parts L.prints) r.parts))
 
-    handed : given p (task_at n) ≡ array_of there.0
-    handed =
-        let h = a.holds name there.0 there.1 in
-        given_there p n (cell_of L name) line is ∙ ap (λ i. held_in p (contents_before p n) i.cell) (handle_is L name h.handle h.is) ∙ h.cell.value there.2
+    same_print : AllPairs (λ (d e : Delivery). d.print ≤ e.print) news
+    same_print i j d h k = let a = ap (λ (d : Delivery). d.print) (news_at i d (omega arith)) in let b = ap (λ (d : Delivery). d.print) (news_at j d k) in omega (arith, a, b)
 
-    one : (m : ℕ) → m < length (L.tasks ++ l ∷ []) → kernel_of (task_of p (task_at m)).codelet ≡ Some Deliver → count_by (λ (d : Delivery). nat_eq d.task.0 m) (L.deliveries ++ d ∷ []) ≡ 1
-    one m h e =
-        sum_by-append (λ (d : Delivery). cond (nat_eq d.task.0 m) 1 0) L.deliveries (d ∷ [])
-        ∙ elim (cases_lt m n) [
-          | inl inside ↦ old m inside (nat_eq n m) refl (g.once m inside e)
-          | inr past ↦ (let here : m ≡ n = omega (arith, longer) in new m here (nat_eq n m) refl)
-        ]
-      where
-        old : (m : ℕ) → m < n → (b : Bool) → nat_eq n m ≡ b → count_by (λ (d : Delivery). nat_eq d.task.0 m) L.deliveries ≡ 1 → count_by (λ (d : Delivery). nat_eq d.task.0 m) L.deliveries + (0 + cond (nat_eq n m) 1 0) ≡ 1
-        old m h true e c = absurd (omega (arith, (Decides-eqb n m).0 e))
-        old m h false e c = let k = ap {B = ℕ} (λ b. cond b 1 0) e in omega (arith, k, c)
+    rising : AllPairs (λ (d e : Delivery). d.task.0 < e.task.0) news
+    rising i j d h k =
+        let a = ap (λ (d : Delivery). d.task.0) (news_at i d (omega arith)) in
+        let b = ap (λ (d : Delivery). d.task.0) (news_at j d k) in
+        omega (arith, a, b, number-place_at r.parts i, number-place_at r.parts j)
 
-        new : (m : ℕ) → m ≡ n → (b : Bool) → nat_eq n m ≡ b → count_by (λ (d : Delivery). nat_eq d.task.0 m) L.deliveries + (0 + cond (nat_eq n m) 1 0) ≡ 1
-        new m h true e = let k = ap {B = ℕ} (λ b. cond b 1 0) e in let c = ap (λ (i : ℕ). count_by (λ (d : Delivery). nat_eq d.task.0 i) L.deliveries) h ∙ count_below n L.deliveries g.below in omega (arith, k, c)
-        new m h false e = absurd (false≢true (sym e ∙ (Decides-eqb n m).1 (sym h)))
+    -- the old deliveries are of other print statements
+    each_print : (k : ℕ) (y : Printed) → (slice_get out k ≡ Some y) ⊎ ((k ≡ length out) × (x ≡ y)) → AreHanded T p (of_print k (L.deliveries ++ news)) y
+    each_print k y (inl e) =
+        let h = slice_get_within out k y e in
+        let gone : of_print k news ≡ [] = filter_gone (λ (d : Delivery). nat_eq d.print k) news (all_places (λ (d : Delivery). nat_eq d.print k ≡ false) r n root L.prints (λ place at. unequal L.prints k (λ same. omega (arith, same, h, g.counted)))) in
+        subst (λ (ds : List Delivery). AreHanded T p ds y) (sym (filter-append (λ (d : Delivery). nat_eq d.print k) L.deliveries news ∙ ap (λ ds. of_print k L.deliveries ++ ds) gone ∙ append-nil (of_print k L.deliveries))) (g.each k y e)
+    each_print k y (inr e) =
+        let gone : of_print k L.deliveries ≡ [] = filter_gone (λ (d : Delivery). nat_eq d.print k) L.deliveries (each-all (λ (d : Delivery). d.print < length out) (λ (d : Delivery). nat_eq d.print k ≡ false) (λ d h. unequal d.print k (λ same. omega (arith, same, h, e.0))) L.deliveries (recursion_from_All (λ (d : Delivery). d.print < length out) L.deliveries g.printed)) in
+        let all : of_print k news ≡ news = filter_all (λ (d : Delivery). nat_eq d.print k) news (all_places (λ (d : Delivery). nat_eq d.print k ≡ true) r n root L.prints (λ place at. equal L.prints k (omega (arith, g.counted, e.0)))) in
+        subst (λ (ds : List Delivery). AreHanded T p ds y) (sym (filter-append (λ (d : Delivery). nat_eq d.print k) L.deliveries news ∙ ap (λ ds. ds ++ of_print k news) gone ∙ all))
+        (subst (λ (y : Printed). AreHanded T p news y) e.1 (handed T p L.cells S name r n line root L.prints t named dims))
+
+    count_news : (m : ℕ) → count_by (λ (d : Delivery). nat_eq d.task.0 m) news ≡ count_by (λ (place : ℕ × ℕ). nat_eq (n + number r.parts place) m) (places r.parts)
+    count_news m = count_by-map (λ (d : Delivery). nat_eq d.task.0 m) (a_delivery n root r.dims r.parts L.prints) (places r.parts)
+
+    both : (m : ℕ) → m < length M.tasks → Delivers p m → (m < n) ⊎ (n ≤ m) → count_by (λ (d : Delivery). nat_eq d.task.0 m) L.deliveries + count_by (λ (d : Delivery). nat_eq d.task.0 m) news ≡ 1
+    both m h e (inl old) =
+        let none = count_news m ∙ count-none (λ (place : ℕ × ℕ). nat_eq (n + number r.parts place) m) (places r.parts) (each-of (λ place. nat_eq (n + number r.parts place) m ≡ false) (λ place. unequal (n + number r.parts place) m (λ same. omega (arith, same, old))) (places r.parts)) in
+        omega (arith, g.once m old e, none)
+    both m h e (inr new) =
+        let none = count-none (λ (d : Delivery). nat_eq d.task.0 m) L.deliveries (each-all (λ (d : Delivery). d.task.0 < n) (λ (d : Delivery). nat_eq d.task.0 m ≡ false) (λ d h. unequal d.task.0 m (λ same. omega (arith, same, h, new))) L.deliveries (recursion_from_All (λ (d : Delivery). d.task.0 < n) L.deliveries g.below)) in
+        omega (arith, none, count_news m ∙ one_task r.parts n m new (omega (arith, h, et)))

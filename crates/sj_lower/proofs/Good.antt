@@ -1,9 +1,10 @@
 -- Each lowered task is as a proper program has it.
-use Rattle.std.proofs.Common.{◌≡◌, ℕ, ◌<◌, ◌≤◌, Bool, true, false, not, ◌&&◌, List, [], ◌∷◌, ℤ, length, map as each_of, refl, sym, ap, subst, ◌∙◌, arith}
+use Rattle.std.proofs.Common.{◌≡◌, ℕ, ◌+◌, ◌<◌, ◌≤◌, Bool, true, false, cond, not, ◌&&◌, List, [], ◌∷◌, ◌++◌, ℤ, pos, length, map as each_of, refl, sym, ap, subst, ◌∙◌, inl, inr, arith, length-append}
 use Rattle.std.specs.Prelude.{◌||◌}
-use Rattle.std.specs.List.{All, AllPairs, list_all, list_any}
+use Rattle.std.specs.List.{All, AllPairs, AllByRecursion, flat_map, list_all, list_any}
+use Rattle.std.specs.Int.RustNames.{int_le}
 use Rattle.std.specs.Str.{bytes_eq}
-use Rattle.std.proofs.lemmas.Bool.{false≢true, and_parts}
+use Rattle.std.proofs.lemmas.Bool.{false≢true, and_parts, and_from, le-leb, cases_lt}
 use Rattle.std.proofs.lemmas.Bool.Decides.{Decides-eqb}
 use Rattle.std.proofs.lemmas.List.Elements.{All-nil, All-cons}
 use Rattle.std.proofs.lemmas.List.Kept.{AllPairs-cons, AllPairs-filter}
@@ -15,23 +16,37 @@ use Rattle.sj_base.specs.declared.mode.Mode.TheVariants.{R, W, RW, Scratch, Redu
 use Rattle.sj_base.specs.declared.mode.Access.{Access}
 use Rattle.sj_base.specs.declared.program.Lowered.{Lowered}
 use Rattle.sj_base.specs.declared.program.Program.{Program}
-use Rattle.sj_base.specs.Array.{area}
+use Rattle.sj_base.specs.Array.{array, area, element}
+use Rattle.sj_base.proofs.Tables.{length-table}
 use Rattle.sj_codelet.specs.declared.kernel.Kernel.{Kernel}
-use Rattle.sj_codelet.specs.declared.kernel.Kernel.TheVariants.{Load, LoadFill, Deliver}
+use Rattle.sj_codelet.specs.declared.kernel.Kernel.TheVariants.{Load, LoadFill, Paste as PasteKernel, Deliver}
 use Rattle.sj_codelet.specs.Kernel.{fits}
-use Rattle.sj_core.specs.Program.{same_cell, dims_of}
+use Rattle.sj_core.specs.Program.{same_cell, dims_of, task_of}
 use Rattle.sj_base.specs.Mode.{is_scratch, reads_value, is_in_order}
-use Rattle.sj_core.specs.Proper.{HasValueBefore, Fits, MayHaveModes, IsUnaliased}
-use Rattle.sj_job.specs.Statement.{Operand}
-use Rattle.sj_job.specs.Statement.{TaskLine}
-use Rattle.sj_job.specs.State.{State, root_of}
+use Rattle.sj_core.specs.Proper.{HasValueBefore, Fits, MayHaveModes, IsUnaliased, gives_value}
+use Rattle.sj_core.specs.Fold.{Contents}
+use Rattle.sj_plan.specs.declared.parts.Parts.{Parts}
+use Rattle.sj_plan.specs.declared.paste.Paste.{Paste}
+use Rattle.sj_plan.specs.declared.rect.Rect.{Rect}
+use Rattle.sj_plan.specs.Parts.{IsPlace, Fits as PlanFits}
+use Rattle.sj_plan.specs.Paste.{same_place, copy_of, is_first, pastes_to, IsBetween}
+use Rattle.sj_plan.specs.Pieces.{BeginOnce}
+use Rattle.sj_plan.specs.Rect.{child, dims_of as rect_dims}
+use Rattle.sj_plan.specs.Window.{window}
+use Rattle.sj_job.specs.Statement.{Operand, TaskLine}
+use Rattle.sj_job.specs.State.{State}
 use Rattle.sj_job.specs.Judge.{needs_value, clashes, is_aliased, is_read_only}
-use Rattle.sj_job.specs.Sound.{is_plain, has_root, has_values, IsSoundTask, dims_of as root_dims}
-use Rattle.sj_lower.specs.Lowering.{Lowering, access_of, own_task, an_access}
+use Rattle.sj_job.specs.Sound.{is_plain, has_child, has_child_values, child_dims, IsSoundTask}
+use Rattle.sj_lower.specs.Cells.{Cells}
+use Rattle.sj_lower.specs.Rows.{an_access, own_task, load_row, fill_row, paste_arguments, paste_row, deliver_row}
+use Rattle.sj_lower.specs.Lowering.{access_of, task_row}
 use Rattle.sj_lower.proofs.Contents.{task_at, same_cell-is}
-use Rattle.sj_lower.proofs.Holding.{cell_of, handle_is, bytes_eq-itself}
-use Rattle.sj_lower.proofs.Running.{root_there, valued_there, dims_there, or_none, kernel_there}
-use Rattle.sj_lower.proofs.Agreeing.{Agrees}
+use Rattle.sj_lower.proofs.Folding.{Stand, later}
+use Rattle.sj_lower.proofs.Holding.{HasCells, HaveRoots, cell-dims}
+use Rattle.sj_lower.proofs.Laid.{AreLaid, bytes_eq-itself, cell-inside, cells-apart}
+use Rattle.sj_lower.proofs.Pasting.{GoesTo, pastes-begin, pastes-go, pastes-between, paste-gives}
+use Rattle.sj_lower.proofs.Places.{place-itself}
+use Rattle.sj_lower.proofs.Running.{child_there, child_dims-are, child_values-are, active_cell-is, operand_cell, needed, or_none, kernel_there}
 
 -- a task of the program is one that it may have at that number
 pub record IsGood (p : Program) (n : ℕ) (l : Lowered) : Type 0 where
@@ -41,25 +56,91 @@ pub record IsGood (p : Program) (n : ℕ) (l : Lowered) : Type 0 where
   pub unaliased : IsUnaliased l
   pub values : All (λ a. reads_value a.mode ≡ true → HasValueBefore p (task_at n) a.cell) l.accesses
 
+-- ---- tasks one after another
+
+-- each of the tasks may stand in the program, from number n on
+abbrev pub AreGood : Program → ℕ → List Lowered → Type 0
+AreGood p n [] = Unit {0}
+AreGood p n (l ∷ ls) = IsGood p n l × AreGood p (n + 1) ls
+
+pub good-later : (p : Program) (m n : ℕ) (l : Lowered) → m ≤ n → IsGood p m l → IsGood p n l
+good-later p m n l h g = record {
+  cells = g.cells;
+  plain = g.plain;
+  fits = g.fits;
+  unaliased = g.unaliased;
+  values = λ k d inside e. later p m n _ h (g.values k d inside e);
+}
+
+-- tasks that all may stand at the first number
+good-each : (p : Program) (m n : ℕ) (ls : List Lowered) → m ≤ n → AllByRecursion (IsGood p m) ls → AreGood p n ls
+good-each p m n [] h g = tt
+good-each p m n (l ∷ ls) h g = (good-later p m n l h g.0, good-each p m (n + 1) ls (omega arith) g.1)
+
+pub good-all : (p : Program) (n : ℕ) (ls : List Lowered) → AllByRecursion (IsGood p n) ls → AreGood p n ls
+good-all p n ls g = good-each p n n ls (omega arith) g
+
+no_more : (n : ℕ) → n ≡ n + 0
+no_more n = omega arith
+
+one_first : {X : Type 0} (n : ℕ) (l : X) (ls : List X) → (n + 1) + length ls ≡ n + length (l ∷ ls)
+one_first n l ls = omega arith
+
+pub stand-append : (p : Program) (n : ℕ) (xs ys : List Lowered) → Stand p n (xs ++ ys) → Stand p n xs × Stand p (n + length xs) ys
+stand-append p n [] ys s = (tt, subst (λ (m : ℕ). Stand p m ys) (no_more n) s)
+stand-append p n (x ∷ xs) ys s =
+    let rest = stand-append p (n + 1) xs ys s.2 in
+    ((s.0, s.1, rest.0), subst (λ (m : ℕ). Stand p m ys) (one_first n x xs) rest.1)
+
+good-append : (p : Program) (n : ℕ) (xs ys : List Lowered) → AreGood p n xs → AreGood p (n + length xs) ys → AreGood p n (xs ++ ys)
+good-append p n [] ys g h = subst (λ (m : ℕ). AreGood p m ys) (sym (no_more n)) h
+good-append p n (x ∷ xs) ys g h = (g.0, good-append p (n + 1) xs ys g.1 (subst (λ (m : ℕ). AreGood p m ys) (sym (one_first n x xs)) h))
+
+-- blocks of tasks, each of which is good where it stands
+pub good-blocks : {X : Type 0} (p : Program) (n m : ℕ) (rows : X → List Lowered) (xs : List X) → n ≤ m → AllByRecursion (λ x. (k : ℕ) → n ≤ k → Stand p k (rows x) → AreGood p k (rows x)) xs → Stand p m (flat_map rows xs) → AreGood p m (flat_map rows xs)
+good-blocks p n m rows [] h g s = tt
+good-blocks p n m rows (x ∷ xs) h g s =
+    let both = stand-append p m (rows x) (flat_map rows xs) s in
+    good-append p m (rows x) (flat_map rows xs) (g.0 m h both.0) (good-blocks p n (m + length (rows x)) rows xs (omega arith) g.1 both.1)
+
+-- the task of a number among them is good
+pub good-at : (p : Program) (n : ℕ) (ls : List Lowered) (i : ℕ) → AreGood p n ls → Stand p n ls → n ≤ i → i < n + length ls → IsGood p i (task_of p (task_at i))
+good-at p n [] i g s lo hi = absurd (omega arith)
+good-at p n (l ∷ ls) i g s lo hi =
+    elim (cases_lt n i) [
+      | inl later ↦ good-at p (n + 1) ls i g.1 s.2 (omega arith) (omega arith)
+      | inr past ↦ (let here : n ≡ i = omega arith in subst (λ (m : ℕ). IsGood p m (task_of p (task_at m))) here (subst (λ (k : Lowered). IsGood p n k) (sym s.0) g.0))
+    ]
+
 -- ---- tasks of the runtime's own
 
 one_alone : {X : Type 0} (P : X → Type 0) (x : X) → P x → All P (x ∷ [])
 one_alone P x h = All-cons P x [] h (All-nil P)
 
+both_alone : {X : Type 0} (P : X → Type 0) (x y : X) → P x → P y → All P (x ∷ y ∷ [])
+both_alone P x y h k = All-cons P x (y ∷ []) h (one_alone P y k)
+
 alone : {X : Type 0} (P : X → X → Type 0) (x : X) → AllPairs P (x ∷ [])
 alone P x i j d h k = absurd (omega arith)
 
-pub good_load : (p : Program) (n : ℕ) (xs : List ℤ) (c : Cell) (line : Line) → c.0 < length p.cells → length xs ≡ area (dims_of p c) → IsGood p n (own_task Load xs (an_access W c) line)
-good_load p n xs c line inside e = record {
-  cells = one_alone (λ (a : Access). a.cell.0 < length p.cells) (an_access W c) inside;
-  plain = one_alone (λ (a : Access). is_in_order a.mode ≡ true) (an_access W c) refl;
-  fits = record { kernel = Load; codelet = refl; operands = ap (λ b. (true && b) && true) ((Decides-eqb (length xs) (area (dims_of p c))).1 e); modes = MayHaveModes.Own refl };
-  unaliased = alone (λ (a b : Access). same_cell a.cell b.cell ≡ true → (a.mode ≡ R) × (b.mode ≡ R)) (an_access W c);
-  values = one_alone (λ (a : Access). reads_value a.mode ≡ true → HasValueBefore p (task_at n) a.cell) (an_access W c) (λ h. absurd (false≢true h));
-}
+pair_alone : {X : Type 0} (P : X → X → Type 0) (x y : X) → P x y → AllPairs P (x ∷ y ∷ [])
+pair_alone P x y h = AllPairs-cons P x (y ∷ []) (one_alone (P x) y h) (alone P y)
 
-pub good_fill : (p : Program) (n : ℕ) (a b c d e : ℤ) (x : Cell) (line : Line) → x.0 < length p.cells → IsGood p n (own_task LoadFill (a ∷ b ∷ c ∷ d ∷ e ∷ []) (an_access W x) line)
-good_fill p n a b c d e x line inside = record {
+pub good_load : (p : Program) (n : ℕ) (xs : List ℤ) (d : Dims) (r : Rect) (c : Cell) (line : Line) → c.0 < length p.cells → dims_of p c ≡ rect_dims r → IsGood p n (load_row xs d r c line)
+good_load p n xs d r c line inside e =
+    let a = array d xs in
+    let args = (window a r).elements in
+    let many : length args ≡ area (dims_of p c) = length-table (rect_dims r) (λ i j. element a (r.row + i) (r.col + j)) ∙ ap area (sym e) in
+    record {
+      cells = one_alone (λ (a : Access). a.cell.0 < length p.cells) (an_access W c) inside;
+      plain = one_alone (λ (a : Access). is_in_order a.mode ≡ true) (an_access W c) refl;
+      fits = record { kernel = Load; codelet = refl; operands = ap (λ b. (true && b) && true) ((Decides-eqb (length args) (area (dims_of p c))).1 many); modes = MayHaveModes.Own refl };
+      unaliased = alone (λ (a b : Access). same_cell a.cell b.cell ≡ true → (a.mode ≡ R) × (b.mode ≡ R)) (an_access W c);
+      values = one_alone (λ (a : Access). reads_value a.mode ≡ true → HasValueBefore p (task_at n) a.cell) (an_access W c) (λ h. absurd (false≢true h));
+    }
+
+pub good_fill : (p : Program) (n : ℕ) (a b : ℤ) (d : Dims) (r : Rect) (x : Cell) (line : Line) → x.0 < length p.cells → IsGood p n (fill_row a b d r x line)
+good_fill p n a b d r x line inside = record {
   cells = one_alone (λ (a : Access). a.cell.0 < length p.cells) (an_access W x) inside;
   plain = one_alone (λ (a : Access). is_in_order a.mode ≡ true) (an_access W x) refl;
   fits = record { kernel = LoadFill; codelet = refl; operands = refl; modes = MayHaveModes.Own refl };
@@ -67,7 +148,7 @@ good_fill p n a b c d e x line inside = record {
   values = one_alone (λ (a : Access). reads_value a.mode ≡ true → HasValueBefore p (task_at n) a.cell) (an_access W x) (λ h. absurd (false≢true h));
 }
 
-pub good_deliver : (p : Program) (n : ℕ) (c : Cell) (line : Line) → c.0 < length p.cells → HasValueBefore p (task_at n) c → IsGood p n (own_task Deliver [] (an_access R c) line)
+pub good_deliver : (p : Program) (n : ℕ) (c : Cell) (line : Line) → c.0 < length p.cells → HasValueBefore p (task_at n) c → IsGood p n (deliver_row c line)
 good_deliver p n c line inside given = record {
   cells = one_alone (λ (a : Access). a.cell.0 < length p.cells) (an_access R c) inside;
   plain = one_alone (λ (a : Access). is_in_order a.mode ≡ true) (an_access R c) refl;
@@ -75,6 +156,68 @@ good_deliver p n c line inside given = record {
   unaliased = alone (λ (a b : Access). same_cell a.cell b.cell ≡ true → (a.mode ≡ R) × (b.mode ≡ R)) (an_access R c);
   values = one_alone (λ (a : Access). reads_value a.mode ≡ true → HasValueBefore p (task_at n) a.cell) (an_access R c) (λ h. given);
 }
+
+-- ---- pastes
+
+-- numbers of rows and columns are no negative arguments
+counts_pass : (a b c d e f : ℕ) → list_all (int_le (pos 0)) (pos a ∷ pos b ∷ pos c ∷ pos d ∷ pos e ∷ pos f ∷ []) ≡ true
+counts_pass a b c d e f = and_from _ _ (le-leb 0 a (omega arith)) (and_from _ _ (le-leb 0 b (omega arith)) (and_from _ _ (le-leb 0 c (omega arith)) (and_from _ _ (le-leb 0 d (omega arith)) (and_from _ _ (le-leb 0 e (omega arith)) (and_from _ _ (le-leb 0 f (omega arith)) refl)))))
+
+paste_fits : (d : Dims) (s t : Parts) (x : Paste) (o w : Dims) → IsBetween d s t x → o ≡ rect_dims (child d s x.from) → w ≡ rect_dims (child d t x.to) → fits PasteKernel (paste_arguments x) (o ∷ w ∷ []) ≡ true
+paste_fits d s t x o w h eo ew =
+    ap (λ (o : Dims). fits PasteKernel (paste_arguments x) (o ∷ w ∷ [])) eo ∙ ap (λ (w : Dims). fits PasteKernel (paste_arguments x) (rect_dims (child d s x.from) ∷ w ∷ [])) ew
+    ∙ and_from _ _ (and_from _ _ (counts_pass x.at_from.0 x.at_from.1 x.at_to.0 x.at_to.1 x.rows x.cols) (and_from _ _ (le-leb _ _ h.in_old.0) (le-leb _ _ h.in_old.1))) (and_from _ _ (le-leb _ _ h.in_new.0) (le-leb _ _ h.in_new.1))
+
+-- a paste from one cell into another, which has a value unless this is the first paste to it
+good_by : (p : Program) (n : ℕ) (x : Paste) (c e : Cell) (line : Line) (b : Bool) → c.0 < length p.cells → e.0 < length p.cells → same_cell c e ≡ false → fits PasteKernel (paste_arguments x) (dims_of p c ∷ dims_of p e ∷ []) ≡ true
+    → HasValueBefore p (task_at n) c → (b ≡ false → HasValueBefore p (task_at n) e) → IsGood p n (own_task PasteKernel (paste_arguments x) (an_access R c ∷ an_access (cond b W RW) e ∷ []) line)
+good_by p n x c e line true ic ie apart fit given had = record {
+  cells = both_alone (λ (a : Access). a.cell.0 < length p.cells) (an_access R c) (an_access W e) ic ie;
+  plain = both_alone (λ (a : Access). is_in_order a.mode ≡ true) (an_access R c) (an_access W e) refl refl;
+  fits = record { kernel = PasteKernel; codelet = refl; operands = fit; modes = MayHaveModes.FirstPaste refl refl };
+  unaliased = pair_alone (λ (a b : Access). same_cell a.cell b.cell ≡ true → (a.mode ≡ R) × (b.mode ≡ R)) (an_access R c) (an_access W e) (λ same. absurd (false≢true (sym apart ∙ same)));
+  values = both_alone (λ (a : Access). reads_value a.mode ≡ true → HasValueBefore p (task_at n) a.cell) (an_access R c) (an_access W e) (λ h. given) (λ h. absurd (false≢true h));
+}
+good_by p n x c e line false ic ie apart fit given had = record {
+  cells = both_alone (λ (a : Access). a.cell.0 < length p.cells) (an_access R c) (an_access RW e) ic ie;
+  plain = both_alone (λ (a : Access). is_in_order a.mode ≡ true) (an_access R c) (an_access RW e) refl refl;
+  fits = record { kernel = PasteKernel; codelet = refl; operands = fit; modes = MayHaveModes.Own refl };
+  unaliased = pair_alone (λ (a b : Access). same_cell a.cell b.cell ≡ true → (a.mode ≡ R) × (b.mode ≡ R)) (an_access R c) (an_access RW e) (λ same. absurd (false≢true (sym apart ∙ same)));
+  values = both_alone (λ (a : Access). reads_value a.mode ≡ true → HasValueBefore p (task_at n) a.cell) (an_access R c) (an_access RW e) (λ h. given) (λ h. had refl);
+}
+
+-- what pastes between these cells stand on
+pub record CanPaste (p : Program) (n : ℕ) (d : Dims) (s t : Parts) (old new : ℕ × ℕ → Cell) : Type 0 where
+  pub from_inside : (from : ℕ × ℕ) → IsPlace s from → (old from).0 < length p.cells
+  pub to_inside : (to : ℕ × ℕ) → IsPlace t to → (new to).0 < length p.cells
+  pub from_dims : (from : ℕ × ℕ) → IsPlace s from → dims_of p (old from) ≡ rect_dims (child d s from)
+  pub to_dims : (to : ℕ × ℕ) → IsPlace t to → dims_of p (new to) ≡ rect_dims (child d t to)
+  pub apart : (from to : ℕ × ℕ) → IsPlace s from → IsPlace t to → same_cell (old from) (new to) ≡ false
+  pub given : (from : ℕ × ℕ) → IsPlace s from → HasValueBefore p (task_at n) (old from)
+
+good_paste : (p : Program) (n m : ℕ) (d : Dims) (s t : Parts) (old new : ℕ × ℕ → Cell) (line : Line) (x : Paste) → CanPaste p n d s t old new → n ≤ m → IsBetween d s t x → (is_first x ≡ false → HasValueBefore p (task_at m) (new x.to)) → IsGood p m (paste_row old new line x)
+good_paste p n m d s t old new line x can h b had =
+    good_by p m x (old x.from) (new x.to) line (is_first x) (can.from_inside x.from b.from) (can.to_inside x.to b.to) (can.apart x.from x.to b.from b.to)
+    (paste_fits d s t x (dims_of p (old x.from)) (dims_of p (new x.to)) b (can.from_dims x.from b.from) (can.to_dims x.to b.to)) (later p n m (old x.from) h (can.given x.from b.from)) had
+
+-- further pastes to a child that has a value
+good_further : (p : Program) (n m : ℕ) (d : Dims) (s t : Parts) (old new : ℕ × ℕ → Cell) (line : Line) (to : ℕ × ℕ) (xs : List Paste) → CanPaste p n d s t old new → n ≤ m → AllByRecursion (IsBetween d s t) xs → AllByRecursion (GoesTo s to) xs → HasValueBefore p (task_at m) (new to) → AllByRecursion (IsGood p m) (each_of (paste_row old new line) xs)
+good_further p n m d s t old new line to [] can h bs gs had = tt
+good_further p n m d s t old new line to (x ∷ xs) can h bs gs had =
+    (good_paste p n m d s t old new line x can h bs.0 (λ e. subst (λ (q : ℕ × ℕ). HasValueBefore p (task_at m) (new q)) (sym gs.0.1) had), good_further p n m d s t old new line to xs can h bs.1 gs.1 had)
+
+-- all pastes to a child, of which the first gives it a value
+good_first : (p : Program) (n m : ℕ) (d : Dims) (s t : Parts) (old new : ℕ × ℕ → Cell) (line : Line) (to : ℕ × ℕ) (xs : List Paste) → CanPaste p n d s t old new → n ≤ m → AllByRecursion (IsBetween d s t) xs → AllByRecursion (GoesTo s to) xs → BeginOnce (each_of copy_of xs)
+    → Stand p m (each_of (paste_row old new line) xs) → AreGood p m (each_of (paste_row old new line) xs)
+good_first p n m d s t old new line to [] can h bs gs once stand = tt
+good_first p n m d s t old new line to (x ∷ xs) can h bs gs once stand =
+    let gives : HasValueBefore p (task_at (m + 1)) (new to) = (task_at m, omega arith, ap (λ (l : Lowered). gives_value l (new to)) stand.0 ∙ ap (λ (q : ℕ × ℕ). gives_value (paste_row old new line x) (new q)) (sym gs.0.1) ∙ paste-gives old new line x) in
+    (good_paste p n m d s t old new line x can h bs.0 (λ e. absurd (false≢true (sym e ∙ once.0))), good-all p (m + 1) (each_of (paste_row old new line) xs) (good_further p n (m + 1) d s t old new line to xs can (omega arith) bs.1 gs.1 gives))
+
+pub good_pastes_to : (p : Program) (n m : ℕ) (d : Dims) (s t : Parts) (old new : ℕ × ℕ → Cell) (line : Line) (to : ℕ × ℕ) → CanPaste p n d s t old new → PlanFits s d → PlanFits t d → IsPlace t to → n ≤ m
+    → Stand p m (each_of (paste_row old new line) (pastes_to d s t to)) → AreGood p m (each_of (paste_row old new line) (pastes_to d s t to))
+good_pastes_to p n m d s t old new line to can fs ft at h stand =
+    good_first p n m d s t old new line to (pastes_to d s t to) can h (pastes-between d s t to at) (pastes-go d s t to) (pastes-begin d s t to fs ft at) stand
 
 -- ---- tasks of task lines
 
@@ -94,55 +237,35 @@ reading_needs Scratch h e = e
 reading_needs Redux h e = absurd (false≢true h)
 reading_needs Commute h e = refl
 
-needed : (a b : Bool) → (not a || b) ≡ true → a ≡ true → b ≡ true
-needed true b e h = e
-needed false b e h = absurd (false≢true h)
+-- the operands' cells are there
+all_inside : (p : Program) (C : Cells) (S : State) (n : ℕ) (k : Contents) (os : List Operand) → HasCells p C → AreLaid C → HaveRoots p C n k S → list_all (has_child S) os ≡ true → All (λ (a : Access). a.cell.0 < length p.cells) (each_of (access_of S C) os)
+all_inside p C S n k [] cells laid has placed = All-nil (λ (a : Access). a.cell.0 < length p.cells)
+all_inside p C S n k (o ∷ os) cells laid has placed =
+    let b = and_parts (has_child S o) (list_all (has_child S) os) placed in
+    let t = child_there S o b.0 in
+    let r = has o.name t.root t.is_root in
+    let whole = ap length cells.1 in
+    let cell = ap (λ (c : Cell). c.0) (active_cell-is S C o.name o.place t.root t.is_root) in
+    All-cons (λ (a : Access). a.cell.0 < length p.cells) (access_of S C o) (each_of (access_of S C) os) (omega (arith, cell, cell-inside C o.name t.root.dims t.root.parts r.first o.place laid r.taken t.placed, whole, length-append C.rows cells.0)) (all_inside p C S n k os cells laid has b.1)
 
--- a cell of an operand that has a root
-cell_inside : (p : Program) (L : Lowering) (S : State) (o : Operand) → Agrees p L S → has_root S o.name ≡ true → (cell_of L o.name).0 < length L.cells
-cell_inside p L S o g rooted =
-    let r = root_there (root_of S o.name) rooted in
-    let b = g.holds o.name r.0 r.1 in
-    let e = ap (λ h. h.cell.0) (handle_is L o.name b.handle b.is) in
-    omega (arith, e, g.names.inside o.name b.handle b.is)
-
--- a name with values has a cell that is there
-pub name_inside : (p : Program) (L : Lowering) (S : State) (name : List ℕ) → Agrees p L S → has_values S name ≡ true → (cell_of L name).0 < length L.cells
-name_inside p L S name g valued =
-    let v = valued_there (root_of S name) valued in
-    let b = g.holds name v.0 v.1 in
-    let e = ap (λ h. h.cell.0) (handle_is L name b.handle b.is) in
-    omega (arith, e, g.names.inside name b.handle b.is)
-
-all_inside : (p : Program) (L : Lowering) (S : State) (os : List Operand) → Agrees p L S → length L.cells ≤ length p.cells → list_all (λ o. has_root S o.name) os ≡ true → All (λ (a : Access). a.cell.0 < length p.cells) (each_of (access_of L) os)
-all_inside p L S [] g more rooted = All-nil (λ (a : Access). a.cell.0 < length p.cells)
-all_inside p L S (o ∷ os) g more rooted =
-    let b = and_parts (has_root S o.name) (list_all (λ o. has_root S o.name) os) rooted in
-    All-cons (λ (a : Access). a.cell.0 < length p.cells) (access_of L o) (each_of (access_of L) os) (omega (arith, cell_inside p L S o g b.0, more)) (all_inside p L S os g more b.1)
-
-all_plain : (L : Lowering) (os : List Operand) → list_all (λ o. is_plain o.mode) os ≡ true → All (λ (a : Access). is_in_order a.mode ≡ true) (each_of (access_of L) os)
-all_plain L [] h = All-nil (λ (a : Access). is_in_order a.mode ≡ true)
-all_plain L (o ∷ os) h =
+all_plain : (S : State) (C : Cells) (os : List Operand) → list_all (λ o. is_plain o.mode) os ≡ true → All (λ (a : Access). is_in_order a.mode ≡ true) (each_of (access_of S C) os)
+all_plain S C [] h = All-nil (λ (a : Access). is_in_order a.mode ≡ true)
+all_plain S C (o ∷ os) h =
     let a = and_parts (is_plain o.mode) (list_all (λ o. is_plain o.mode) os) h in
-    All-cons (λ (a : Access). is_in_order a.mode ≡ true) (access_of L o) (each_of (access_of L) os) (plain_modes o.mode a.0) (all_plain L os a.1)
+    All-cons (λ (a : Access). is_in_order a.mode ≡ true) (access_of S C o) (each_of (access_of S C) os) (plain_modes o.mode a.0) (all_plain S C os a.1)
 
-one_given : (p : Program) (L : Lowering) (S : State) (o : Operand) → Agrees p L S → has_values S o.name ≡ true → HasValueBefore p (task_at (length L.tasks)) (cell_of L o.name)
-one_given p L S o g valued =
-    let v = valued_there (root_of S o.name) valued in
-    let b = g.holds o.name v.0 v.1 in
-    subst (λ (c : Cell). HasValueBefore p (task_at (length L.tasks)) c) (ap (λ h. h.cell) (sym (handle_is L o.name b.handle b.is))) (b.cell.given v.2)
-
--- a name with values has a cell that a task gave
-pub name_given : (p : Program) (L : Lowering) (S : State) (name : List ℕ) → Agrees p L S → has_values S name ≡ true → HasValueBefore p (task_at (length L.tasks)) (cell_of L name)
-name_given p L S name g valued = let o : Operand = record { name = name; mode = R } in one_given p L S o g valued
-
-all_given : (p : Program) (L : Lowering) (S : State) (os : List Operand) → Agrees p L S → list_all (λ o. is_plain o.mode) os ≡ true → list_all (λ o. not (needs_value o.mode) || has_values S o.name) os ≡ true → All (λ (a : Access). reads_value a.mode ≡ true → HasValueBefore p (task_at (length L.tasks)) a.cell) (each_of (access_of L) os)
-all_given p L S [] g h valued = All-nil (λ (a : Access). reads_value a.mode ≡ true → HasValueBefore p (task_at (length L.tasks)) a.cell)
-all_given p L S (o ∷ os) g h valued =
+all_given : (p : Program) (C : Cells) (S : State) (n : ℕ) (k : Contents) (os : List Operand) → HaveRoots p C n k S → list_all (λ o. is_plain o.mode) os ≡ true → list_all (has_child S) os ≡ true → list_all (λ o. not (needs_value o.mode) || has_child_values S o) os ≡ true → All (λ (a : Access). reads_value a.mode ≡ true → HasValueBefore p (task_at n) a.cell) (each_of (access_of S C) os)
+all_given p C S n k [] has h placed valued = All-nil (λ (a : Access). reads_value a.mode ≡ true → HasValueBefore p (task_at n) a.cell)
+all_given p C S n k (o ∷ os) has h placed valued =
     let a = and_parts (is_plain o.mode) (list_all (λ o. is_plain o.mode) os) h in
-    let c = and_parts (not (needs_value o.mode) || has_values S o.name) (list_all (λ o. not (needs_value o.mode) || has_values S o.name) os) valued in
-    All-cons (λ (a : Access). reads_value a.mode ≡ true → HasValueBefore p (task_at (length L.tasks)) a.cell) (access_of L o) (each_of (access_of L) os)
-    (λ e. one_given p L S o g (needed (needs_value o.mode) (has_values S o.name) c.0 (reading_needs o.mode a.0 e))) (all_given p L S os g a.1 c.1)
+    let b = and_parts (has_child S o) (list_all (has_child S) os) placed in
+    let c = and_parts (not (needs_value o.mode) || has_child_values S o) (list_all (λ o. not (needs_value o.mode) || has_child_values S o) os) valued in
+    let t = child_there S o b.0 in
+    let r = has o.name t.root t.is_root in
+    All-cons (λ (a : Access). reads_value a.mode ≡ true → HasValueBefore p (task_at n) a.cell) (access_of S C o) (each_of (access_of S C) os)
+    (λ e. subst (λ (c : Cell). HasValueBefore p (task_at n) c) (sym (active_cell-is S C o.name o.place t.root t.is_root))
+    (r.held o.place t.placed (sym (child_values-are S o t.root t.is_root) ∙ needed (needs_value o.mode) (has_child_values S o) c.0 (reading_needs o.mode a.0 e))).given)
+    (all_given p C S n k os has a.1 b.1 c.1)
 
 -- two operands on one cell only read it
 abbrev ReadOnly : Access → Access → Type 0
@@ -156,63 +279,63 @@ is_read Scratch h = absurd (false≢true h)
 is_read Redux h = absurd (false≢true h)
 is_read Commute h = absurd (false≢true h)
 
-no_clash : (a b c : Bool) → (a && not (b && c)) ≡ false → a ≡ true → (b ≡ true) × (c ≡ true)
-no_clash true true true e h = (refl, refl)
-no_clash true true false e h = absurd (false≢true (sym e))
-no_clash true false c e h = absurd (false≢true (sym e))
-no_clash false b c e h = absurd (false≢true h)
+no_clash : (a b c d : Bool) → (a && b && not (c && d)) ≡ false → a ≡ true → b ≡ true → (c ≡ true) × (d ≡ true)
+no_clash true true true true e h k = (refl, refl)
+no_clash true true true false e h k = absurd (false≢true (sym e))
+no_clash true true false d e h k = absurd (false≢true (sym e))
+no_clash true false c d e h k = absurd (false≢true k)
+no_clash false b c d e h k = absurd (false≢true h)
 
-pair_reads : (p : Program) (L : Lowering) (S : State) (o q : Operand) → Agrees p L S → has_root S o.name ≡ true → has_root S q.name ≡ true → clashes o q ≡ false → ReadOnly (access_of L o) (access_of L q)
-pair_reads p L S o q g ro rq e same =
-    let r = root_there (root_of S o.name) ro in
-    let t = root_there (root_of S q.name) rq in
-    let b = g.holds o.name r.0 r.1 in
-    let d = g.holds q.name t.0 t.1 in
-    let cells = sym (ap (λ h. h.cell) (handle_is L o.name b.handle b.is)) ∙ same_cell-is (cell_of L o.name) (cell_of L q.name) same ∙ ap (λ h. h.cell) (handle_is L q.name d.handle d.is) in
-    let named : o.name ≡ q.name = g.names.apart o.name q.name b.handle d.handle b.is d.is cells in
-    let k = no_clash (bytes_eq o.name q.name) (is_read_only o.mode) (is_read_only q.mode) e (ap (bytes_eq o.name) (sym named) ∙ bytes_eq-itself o.name) in
-    (is_read o.mode k.0, is_read q.mode k.1)
+pair_reads : (p : Program) (C : Cells) (S : State) (n : ℕ) (k : Contents) (o q : Operand) → AreLaid C → HaveRoots p C n k S → has_child S o ≡ true → has_child S q ≡ true → clashes o q ≡ false → ReadOnly (access_of S C o) (access_of S C q)
+pair_reads p C S n k o q laid has ho hq e same =
+    let t = child_there S o ho in
+    let u = child_there S q hq in
+    let r = has o.name t.root t.is_root in
+    let s = has q.name u.root u.is_root in
+    let cells = sym (active_cell-is S C o.name o.place t.root t.is_root) ∙ same_cell-is (operand_cell S C o) (operand_cell S C q) same ∙ active_cell-is S C q.name q.place u.root u.is_root in
+    let one = cells-apart C o.name q.name t.root.dims u.root.dims t.root.parts u.root.parts r.first s.first o.place q.place laid r.taken s.taken t.placed u.placed cells in
+    let reads = no_clash (bytes_eq o.name q.name) (same_place o.place q.place) (is_read_only o.mode) (is_read_only q.mode) e (ap (bytes_eq o.name) (sym one.0) ∙ bytes_eq-itself o.name) (ap (same_place o.place) (sym one.2) ∙ place-itself o.place) in
+    (is_read o.mode reads.0, is_read q.mode reads.1)
 
-none_clash : (p : Program) (L : Lowering) (S : State) (o : Operand) (os : List Operand) → Agrees p L S → has_root S o.name ≡ true → list_all (λ o. has_root S o.name) os ≡ true → list_any (clashes o) os ≡ false → All (ReadOnly (access_of L o)) (each_of (access_of L) os)
-none_clash p L S o [] g ro rooted e = All-nil (ReadOnly (access_of L o))
-none_clash p L S o (q ∷ os) g ro rooted e =
-    let b = and_parts (has_root S q.name) (list_all (λ o. has_root S o.name) os) rooted in
+none_clash : (p : Program) (C : Cells) (S : State) (n : ℕ) (k : Contents) (o : Operand) (os : List Operand) → AreLaid C → HaveRoots p C n k S → has_child S o ≡ true → list_all (has_child S) os ≡ true → list_any (clashes o) os ≡ false → All (ReadOnly (access_of S C o)) (each_of (access_of S C) os)
+none_clash p C S n k o [] laid has ho placed e = All-nil (ReadOnly (access_of S C o))
+none_clash p C S n k o (q ∷ os) laid has ho placed e =
+    let b = and_parts (has_child S q) (list_all (has_child S) os) placed in
     let c = or_none (clashes o q) (list_any (clashes o) os) e in
-    All-cons (ReadOnly (access_of L o)) (access_of L q) (each_of (access_of L) os) (pair_reads p L S o q g ro b.0 c.0) (none_clash p L S o os g ro b.1 c.1)
+    All-cons (ReadOnly (access_of S C o)) (access_of S C q) (each_of (access_of S C) os) (pair_reads p C S n k o q laid has ho b.0 c.0) (none_clash p C S n k o os laid has ho b.1 c.1)
 
-all_apart : (p : Program) (L : Lowering) (S : State) (os : List Operand) → Agrees p L S → list_all (λ o. has_root S o.name) os ≡ true → is_aliased os ≡ false → AllPairs ReadOnly (each_of (access_of L) os)
-all_apart p L S [] g rooted e = λ i j d h k. absurd (omega arith)
-all_apart p L S (o ∷ os) g rooted e =
-    let b = and_parts (has_root S o.name) (list_all (λ o. has_root S o.name) os) rooted in
+all_apart : (p : Program) (C : Cells) (S : State) (n : ℕ) (k : Contents) (os : List Operand) → AreLaid C → HaveRoots p C n k S → list_all (has_child S) os ≡ true → is_aliased os ≡ false → AllPairs ReadOnly (each_of (access_of S C) os)
+all_apart p C S n k [] laid has placed e = λ i j d h k. absurd (omega arith)
+all_apart p C S n k (o ∷ os) laid has placed e =
+    let b = and_parts (has_child S o) (list_all (has_child S) os) placed in
     let c = or_none (list_any (clashes o) os) (is_aliased os) e in
-    AllPairs-cons ReadOnly (access_of L o) (each_of (access_of L) os) (none_clash p L S o os g b.0 b.1 c.0) (all_apart p L S os g b.1 c.1)
+    AllPairs-cons ReadOnly (access_of S C o) (each_of (access_of S C) os) (none_clash p C S n k o os laid has b.0 b.1 c.0) (all_apart p C S n k os laid has b.1 c.1)
 
-all_dims_are : (p : Program) (L : Lowering) (S : State) (os : List Operand) → Agrees p L S → list_all (λ o. has_root S o.name) os ≡ true → each_of (λ (a : Access). dims_of p a.cell) (each_of (access_of L) os) ≡ each_of (λ (o : Operand). root_dims S o.name) os
-all_dims_are p L S [] g rooted = refl
-all_dims_are p L S (o ∷ os) g rooted =
-    let b = and_parts (has_root S o.name) (list_all (λ o. has_root S o.name) os) rooted in
-    let r = root_there (root_of S o.name) b.0 in
-    let h = g.holds o.name r.0 r.1 in
-    ap (λ (d : Dims). d ∷ each_of (λ (a : Access). dims_of p a.cell) (each_of (access_of L) os)) (ap (λ i. dims_of p i.cell) (handle_is L o.name h.handle h.is) ∙ h.cell.dims ∙ sym (dims_there S o.name r.0 r.1))
-    ∙ ap (λ (ds : List Dims). root_dims S o.name ∷ ds) (all_dims_are p L S os g b.1)
+all_dims_are : (p : Program) (C : Cells) (S : State) (n : ℕ) (k : Contents) (os : List Operand) → HasCells p C → AreLaid C → HaveRoots p C n k S → list_all (has_child S) os ≡ true → each_of (λ (a : Access). dims_of p a.cell) (each_of (access_of S C) os) ≡ each_of (child_dims S) os
+all_dims_are p C S n k [] cells laid has placed = refl
+all_dims_are p C S n k (o ∷ os) cells laid has placed =
+    let b = and_parts (has_child S o) (list_all (has_child S) os) placed in
+    let t = child_there S o b.0 in
+    let r = has o.name t.root t.is_root in
+    ap (λ (d : Dims). d ∷ each_of (λ (a : Access). dims_of p a.cell) (each_of (access_of S C) os)) (ap (dims_of p) (active_cell-is S C o.name o.place t.root t.is_root) ∙ cell-dims p C o.name t.root.dims t.root.parts r.first o.place cells laid r.taken t.placed ∙ sym (child_dims-are S o t.root t.is_root))
+    ∙ ap (λ (ds : List Dims). child_dims S o ∷ ds) (all_dims_are p C S n k os cells laid has b.1)
 
-modes_of_accesses : (L : Lowering) (os : List Operand) → each_of (λ (a : Access). a.mode) (each_of (access_of L) os) ≡ each_of (λ (o : Operand). o.mode) os
-modes_of_accesses L [] = refl
-modes_of_accesses L (o ∷ os) = ap (λ (ms : List Mode). o.mode ∷ ms) (modes_of_accesses L os)
+modes_of_accesses : (S : State) (C : Cells) (os : List Operand) → each_of (λ (a : Access). a.mode) (each_of (access_of S C) os) ≡ each_of (λ (o : Operand). o.mode) os
+modes_of_accesses S C [] = refl
+modes_of_accesses S C (o ∷ os) = ap (λ (ms : List Mode). o.mode ∷ ms) (modes_of_accesses S C os)
 
-pub good_task : (has : Kernel → Bool) (p : Program) (L : Lowering) (S : State) (t : TaskLine) (line : Line) → Agrees p L S → length L.cells ≤ length p.cells → IsSoundTask has S t
-    → IsGood p (length L.tasks) (record { codelet = t.codelet; args = t.args; accesses = each_of (access_of L) t.operands; line = line; priority = t.priority })
-good_task has p L S t line g more s =
-    let k = kernel_there has S t s in
+pub good_task : (has : Kernel → Bool) (p : Program) (C : Cells) (S : State) (n : ℕ) (k : Contents) (t : TaskLine) (line : Line) → HasCells p C → AreLaid C → HaveRoots p C n k S → IsSoundTask has S t → IsGood p n (task_row S C line t)
+good_task has p C S n k t line cells laid roots s =
+    let kernel = kernel_there has S t s in
     record {
-      cells = all_inside p L S t.operands g more s.rooted;
-      plain = all_plain L t.operands s.plain;
+      cells = all_inside p C S n k t.operands cells laid roots s.placed;
+      plain = all_plain S C t.operands s.plain;
       fits = record {
-        kernel = k.call.kernel;
-        codelet = k.call.is;
-        operands = ap (fits k.call.kernel t.args) (all_dims_are p L S t.operands g s.rooted) ∙ k.call.fits;
-        modes = MayHaveModes.Own (modes_of_accesses L t.operands ∙ k.modes);
+        kernel = kernel.call.kernel;
+        codelet = kernel.call.is;
+        operands = ap (fits kernel.call.kernel t.args) (all_dims_are p C S n k t.operands cells laid roots s.placed) ∙ kernel.call.fits;
+        modes = MayHaveModes.Own (modes_of_accesses S C t.operands ∙ kernel.modes);
       };
-      unaliased = AllPairs-filter ReadOnly (λ (a : Access). not (is_scratch a.mode)) (each_of (access_of L) t.operands) (all_apart p L S t.operands g s.rooted s.apart);
-      values = all_given p L S t.operands g s.plain s.valued;
+      unaliased = AllPairs-filter ReadOnly (λ (a : Access). not (is_scratch a.mode)) (each_of (access_of S C) t.operands) (all_apart p C S n k t.operands laid roots s.placed s.apart);
+      values = all_given p C S n k t.operands roots s.plain s.placed s.valued;
     }

@@ -1,33 +1,38 @@
--- A program's cells hold what the job's names hold.
+-- A program's cells hold what the children of the job's roots hold.
 use Rattle.std.specs.FinMap as map
-use Rattle.std.proofs.Common.{◌≡◌, ℕ, ◌<◌, ◌≤◌, Bool, true, false, cond, Option, Some, None, List, [], ◌∷◌, ◌++◌, ℤ, pos, unwrap_or, length, map as each_of, refl, sym, ap, subst, ◌∙◌, arith}
-use Rattle.std.specs.List.{zip}
+use Rattle.std.proofs.Common.{◌≡◌, ℕ, ◌<◌, ◌≤◌, Bool, true, false, cond, ◌&&◌, Option, Some, None, List, [], ◌∷◌, ◌++◌, ℤ, length, get_or, map as each_of, refl, sym, ap, subst, ◌∙◌}
+use Rattle.std.specs.List.{zip, list_all}
+use Rattle.std.specs.Option.{is_some}
 use Rattle.std.specs.Str.{bytes_eq}
 use Rattle.std.specs.Cmp.{eq_by_cmp_equiv}
 use Rattle.std.specs.Cmp.Lexicographic.{nat_list_cmp_total}
 use Rattle.std.proofs.lemmas.Map.Text.{is_eq-slice_cmp}
-use Rattle.std.proofs.lemmas.Slice.Eq.{bytes_eq-Decides}
 use Rattle.std.proofs.lemmas.Bool.{false≢true}
+use Rattle.std.proofs.lemmas.List.{get_or_append_left}
 use Rattle.sj_base.specs.declared.ids.Cell.{Cell}
 use Rattle.sj_base.specs.declared.tile.Dims.{Dims}
+use Rattle.sj_base.specs.declared.program.CellInfo.{CellInfo}
 use Rattle.sj_base.specs.declared.program.Program.{Program}
-use Rattle.sj_base.specs.Array.{Array, array, area}
-use Rattle.sj_core.specs.Program.{same_cell, dims_of}
+use Rattle.sj_base.specs.Array.{Array, area}
+use Rattle.sj_core.specs.Program.{no_cell, same_cell, dims_of}
 use Rattle.sj_core.specs.Proper.{HasValueBefore}
 use Rattle.sj_core.specs.Fold.{Contents, held_in}
-use Rattle.sj_job.specs.State.{Root, Roots, State, root_of, is_valued}
-use Rattle.sj_job.specs.Meaning.{array_of, put, put_all}
-use Rattle.sj_lower.specs.Lowering.{Handle}
-use Rattle.sj_lower.specs.Lowering.{Lowering, handle_of}
+use Rattle.sj_plan.specs.declared.parts.Parts.{Parts}
+use Rattle.sj_plan.specs.Parts.{Fits, IsPlace}
+use Rattle.sj_plan.specs.Paste.{same_place}
+use Rattle.sj_plan.specs.Rect.{child, dims_of as rect_dims}
+use Rattle.sj_plan.specs.Window.{IsWhole}
+use Rattle.sj_job.specs.Statement.{Operand}
+use Rattle.sj_job.specs.State.{Root, Roots, State, root_of, is_child, child_rect, is_valued_child}
+use Rattle.sj_job.specs.Meaning.{integers_of, child_array, change, with_child, put, put_all}
+use Rattle.sj_lower.specs.Cells.{Cells, cell_of}
 use Rattle.sj_lower.proofs.Contents.{NotAmong, held-same, held-other, held-moved, same_cell-is, task_at}
+use Rattle.sj_lower.proofs.Elements.{written-whole, written-other, written-array}
+use Rattle.sj_lower.proofs.Folding.{later}
+use Rattle.sj_lower.proofs.Laid.{same_name, bytes_eq-itself, some_is, IsTaken, AreLaid, cell-inside, cell-row, cells-apart}
+use Rattle.sj_lower.proofs.Places.{place-is, place-itself}
 
 -- ---- names
-
-pub same_name : (a b : List ℕ) → bytes_eq a b ≡ true → a ≡ b
-same_name a b h = (bytes_eq-Decides a b).0 h
-
-pub bytes_eq-itself : (a : List ℕ) → bytes_eq a a ≡ true
-bytes_eq-itself a = (bytes_eq-Decides a a).1 refl
 
 pub bytes_eq-sym : (a b : List ℕ) → bytes_eq a b ≡ bytes_eq b a
 bytes_eq-sym a b = sym (is_eq-slice_cmp a b) ∙ (eq_by_cmp_equiv nat_list_cmp_total).symm a b ∙ is_eq-slice_cmp b a
@@ -41,153 +46,205 @@ pub get-gone : (M : Roots) (name : List ℕ) (q : List ℕ) → map.get (map.rem
 get-gone M name q =
     map.get-remove nat_list_cmp_total M name q ∙ ap (λ b. cond b None (map.get M q)) (is_eq-slice_cmp q name ∙ bytes_eq-sym q name)
 
+change-there : (f : Root → Root) (name : List ℕ) (S : State) (r : Root) → root_of S name ≡ Some r → change f name S ≡ record { registered = S.registered; ended = S.ended; roots = map.insert S.roots name (f r) }
+change-there f name S r e = ap (λ (o : Option Root). elim o as (λ _. State) [
+  | None ↦ S
+  | Some r ↦ record { registered = S.registered; ended = S.ended; roots = map.insert S.roots name (f r) }
+]) e
+
+-- the roots after a change of one
+pub root-change : (f : Root → Root) (name : List ℕ) (S : State) (r : Root) (q : List ℕ) → root_of S name ≡ Some r → root_of (change f name S) q ≡ cond (bytes_eq name q) (Some (f r)) (root_of S q)
+root-change f name S r q e = ap (λ (T : State). root_of T q) (change-there f name S r e) ∙ get-put S.roots name (f r) q
+
 -- ---- what agrees
 
--- the cell is the root's: it has the dimensions, and where the root has values it holds them and some task gave them
-pub record IsCellOf (p : Program) (n : ℕ) (contents : Contents) (c : Cell) (r : Root) : Type 0 where
-  pub dims : dims_of p c ≡ r.dims
-  pub some : 1 ≤ area r.dims
-  pub value : is_valued r ≡ true → held_in p contents c ≡ array_of r
-  pub given : is_valued r ≡ true → HasValueBefore p (task_at n) c
+-- the cell holds the array, which some task gave it
+pub record IsHeld (p : Program) (n : ℕ) (k : Contents) (c : Cell) (x : Array) : Type 0 where
+  pub value : held_in p k c ≡ x
+  pub given : HasValueBefore p (task_at n) c
 
--- a name's handle, whose cell is the root's
-pub record HasHandle (p : Program) (L : Lowering) (n : ℕ) (contents : Contents) (q : List ℕ) (r : Root) : Type 0 where
-  pub handle : Handle
-  pub is : L.handles q ≡ Some handle
-  pub cell : IsCellOf p n contents handle.cell r
+-- a name's root is whole, its active plan is taken, and the cells of its children hold their arrays
+pub record HasRoot (p : Program) (C : Cells) (n : ℕ) (k : Contents) (q : List ℕ) (r : Root) : Type 0 where
+  pub fits : Fits r.parts r.dims
+  pub whole : length r.elements ≡ area r.dims
+  pub first : ℕ
+  pub taken : IsTaken C q r.dims r.parts first
+  pub held : (place : ℕ × ℕ) → IsPlace r.parts place → is_valued_child r place ≡ true → IsHeld p n k (cell_of C q r.parts place) (child_array r place)
 
--- each name with a root has a handle
-abbrev pub Holds : Program → Lowering → ℕ → Contents → State → Type 0
-Holds p L n contents S = (q : List ℕ) (r : Root) → root_of S q ≡ Some r → HasHandle p L n contents q r
+abbrev pub HaveRoots : Program → Cells → ℕ → Contents → State → Type 0
+HaveRoots p C n k S = (q : List ℕ) (r : Root) → root_of S q ≡ Some r → HasRoot p C n k q r
 
--- the cells of handles are there, and two names have two cells
-pub record AreApart (L : Lowering) : Type 0 where
-  pub inside : (q : List ℕ) (h : Handle) → L.handles q ≡ Some h → h.cell.0 < length L.cells
-  pub apart : (q u : List ℕ) (h i : Handle) → L.handles q ≡ Some h → L.handles u ≡ Some i → h.cell ≡ i.cell → q ≡ u
+-- the program's cells begin with these
+abbrev pub HasCells : Program → Cells → Type 0
+HasCells p C = (more : List CellInfo) × (p.cells ≡ C.rows ++ more)
 
-abbrev pub cell_of : Lowering → List ℕ → Cell
-cell_of L q = (handle_of L q).cell
+pub cell-dims : (p : Program) (C : Cells) (q : List ℕ) (d : Dims) (s : Parts) (f : ℕ) (place : ℕ × ℕ) → HasCells p C → AreLaid C → IsTaken C q d s f → IsPlace s place → dims_of p (cell_of C q s place) ≡ rect_dims (child d s place)
+cell-dims p C q d s f place has laid k h =
+    ap (λ (is : List CellInfo). (get_or is (cell_of C q s place).0 no_cell).dims) has.1
+    ∙ ap (λ (i : CellInfo). i.dims) (get_or_append_left C.rows has.0 no_cell (cell_of C q s place).0 (cell-inside C q d s f place laid k h))
+    ∙ cell-row C q d s f place laid k h
 
-pub handle_is : (L : Lowering) (q : List ℕ) (h : Handle) → L.handles q ≡ Some h → handle_of L q ≡ h
-handle_is L q h e = ap (λ o. unwrap_or o (record { root = record { 0 = 0 }; cell = record { 0 = 0 } })) e
+pub holds-later : (p : Program) (C : Cells) (m n : ℕ) (k : Contents) (S : State) → m ≤ n → HaveRoots p C m k S → HaveRoots p C n k S
+holds-later p C m n k S h has q r e =
+    let b = has q r e in
+    record { fits = b.fits; whole = b.whole; first = b.first; taken = b.taken; held = λ place inside v. record { value = (b.held place inside v).value; given = later p m n (cell_of C q r.parts place) h (b.held place inside v).given } }
 
-pub later : (p : Program) (m n : ℕ) (c : Cell) → m ≤ n → HasValueBefore p (task_at m) c → HasValueBefore p (task_at n) c
-later p m n c h g = (g.0, omega (arith, g.1), g.2)
-
-pub holds-later : (p : Program) (L : Lowering) (m n : ℕ) (contents : Contents) (S : State) → m ≤ n → Holds p L m contents S → Holds p L n contents S
-holds-later p L m n contents S h holds q r e =
-    let b = holds q r e in
-    record { handle = b.handle; is = b.is; cell = record { dims = b.cell.dims; some = b.cell.some; value = b.cell.value; given = λ v. later p m n b.handle.cell h (b.cell.given v) } }
-
--- contents that differ only where no name's cell is
-pub holds-same : (p : Program) (L : Lowering) (n : ℕ) (contents new : Contents) (S : State) → ((c : Cell) → c.0 < length L.cells → held_in p new c ≡ held_in p contents c) → AreApart L → Holds p L n contents S → Holds p L n new S
-holds-same p L n contents new S same names holds q r e =
-    let b = holds q r e in
-    record { handle = b.handle; is = b.is; cell = record { dims = b.cell.dims; some = b.cell.some; value = λ v. same b.handle.cell (names.inside q b.handle b.is) ∙ b.cell.value v; given = b.cell.given } }
+-- contents that differ only where no child's cell is
+pub holds-same : (p : Program) (C : Cells) (n : ℕ) (k new : Contents) (S : State) → ((c : Cell) → c.0 < length C.rows → held_in p new c ≡ held_in p k c) → AreLaid C → HaveRoots p C n k S → HaveRoots p C n new S
+holds-same p C n k new S same laid has q r e =
+    let b = has q r e in
+    record {
+      fits = b.fits;
+      whole = b.whole;
+      first = b.first;
+      taken = b.taken;
+      held = λ place inside v. record { value = same (cell_of C q r.parts place) (cell-inside C q r.dims r.parts b.first place laid b.taken inside) ∙ (b.held place inside v).value; given = (b.held place inside v).given };
+    }
 
 -- ---- one array put
 
-abbrev valued_root : Root → Array → Root
-valued_root r a = record { kind = r.kind; dims = r.dims; elements = each_of Some a.elements }
+-- both are one child
+abbrev pub same_child : Operand → Operand → Bool
+same_child o u = bytes_eq o.name u.name && same_place o.place u.place
 
-put_here : (S : State) (name : List ℕ) (a : Array) (r : Root) → root_of S name ≡ Some r → put name a S ≡ record { registered = S.registered; ended = S.ended; roots = map.insert S.roots name (valued_root r a) }
-put_here S name a r e = ap (λ (o : Option Root). elim o as (λ _. State) [
-  | None ↦ S
-  | Some r ↦ record { registered = S.registered; ended = S.ended; roots = map.insert S.roots name (valued_root r a) }
-]) e
+-- an operand is a child, which gets this array in this cell
+pub record Gives (p : Program) (C : Cells) (n : ℕ) (S : State) (c : Cell) (o : Operand) (a : Array) : Type 0 where
+  pub root : Root
+  pub is_root : root_of S o.name ≡ Some root
+  pub placed : IsPlace root.parts o.place
+  pub dims : a.dims ≡ rect_dims (child_rect root o.place)
+  pub whole : IsWhole a
+  pub cell_is : c ≡ cell_of C o.name root.parts o.place
+  pub given : HasValueBefore p (task_at n) c
 
-pub root-put : (S : State) (name : List ℕ) (a : Array) (r : Root) (q : List ℕ) → root_of S name ≡ Some r → root_of (put name a S) q ≡ cond (bytes_eq name q) (Some (valued_root r a)) (root_of S q)
-root-put S name a r q e = ap (λ (T : State). root_of T q) (put_here S name a r e) ∙ get-put S.roots name (valued_root r a) q
-
-pub unwrapped : (xs : List ℤ) → each_of (λ e. unwrap_or e (pos 0)) (each_of Some xs) ≡ xs
-unwrapped [] = refl
-unwrapped (x ∷ xs) = ap (λ ys. x ∷ ys) (unwrapped xs)
-
-array_is : (r : Root) (a : Array) → a.dims ≡ r.dims → array_of (valued_root r a) ≡ a
-array_is r a e = ap (array r.dims) (unwrapped a.elements) ∙ ap (λ (d : Dims). array d a.elements) (sym e)
-
-some_is : {X : Type 0} (x y : X) → Some x ≡ Some y → x ≡ y
-some_is x y e = cc
-
-put_case : (p : Program) (L : Lowering) (n : ℕ) (contents : Contents) (S : State) (name : List ℕ) (r : Root) (h : Handle) (a : Array) (q : List ℕ) (s : Root) (b : Bool)
-    → AreApart L → Holds p L n contents S → root_of S name ≡ Some r → L.handles name ≡ Some h → a.dims ≡ r.dims → HasValueBefore p (task_at n) h.cell
-    → bytes_eq name q ≡ b → cond b (Some (valued_root r a)) (root_of S q) ≡ Some s → HasHandle p L n ((h.cell, a) ∷ contents) q s
-put_case p L n contents S name r h a q s true names holds er eh d g same e =
-    let before = holds name r er in
-    let same_handle : before.handle ≡ h = some_is before.handle h (sym before.is ∙ eh) in
-    let old : IsCellOf p n contents h.cell r = subst (λ (i : Handle). IsCellOf p n contents i.cell r) same_handle before.cell in
-    subst (λ (t : Root). HasHandle p L n ((h.cell, a) ∷ contents) q t) (some_is (valued_root r a) s e) (record {
-      handle = h;
-      is = ap L.handles (sym (same_name name q same)) ∙ eh;
-      cell = record { dims = old.dims; some = old.some; value = λ v. held-same p h.cell a contents ∙ sym (array_is r a d); given = λ v. g };
-    })
-put_case p L n contents S name r h a q s false names holds er eh d g same e =
-    let b = holds q s e in
-    let other : same_cell h.cell b.handle.cell ≡ false = differ (same_cell h.cell b.handle.cell) refl in
-    record {
-      handle = b.handle;
-      is = b.is;
-      cell = record { dims = b.cell.dims; some = b.cell.some; value = λ v. held-other p h.cell a contents b.handle.cell other ∙ b.cell.value v; given = b.cell.given };
-    }
+differs : (c d : Cell) → (c ≡ d → ⊥) → same_cell c d ≡ false
+differs c d h = by_test (same_cell c d) refl
   where
-    differ : (t : Bool) → same_cell h.cell (holds q s e).handle.cell ≡ t → same_cell h.cell (holds q s e).handle.cell ≡ false
-    differ false k = k
-    differ true k =
-        let named : name ≡ q = names.apart name q h (holds q s e).handle eh (holds q s e).is (same_cell-is h.cell (holds q s e).handle.cell k) in
-        absurd (false≢true (sym same ∙ ap (bytes_eq name) (sym named) ∙ bytes_eq-itself name))
+    by_test : (b : Bool) → same_cell c d ≡ b → b ≡ false
+    by_test false e = refl
+    by_test true e = absurd (h (same_cell-is c d e))
 
-pub holds-put : (p : Program) (L : Lowering) (n : ℕ) (contents : Contents) (S : State) (name : List ℕ) (r : Root) (h : Handle) (a : Array)
-    → AreApart L → Holds p L n contents S → root_of S name ≡ Some r → L.handles name ≡ Some h → a.dims ≡ r.dims → HasValueBefore p (task_at n) h.cell
-    → Holds p L n ((h.cell, a) ∷ contents) (put name a S)
-holds-put p L n contents S name r h a names holds er eh d g q s e =
-    put_case p L n contents S name r h a q s (bytes_eq name q) names holds er eh d g refl (sym (root-put S name a r q er) ∙ e)
+other_place : (x y : ℕ × ℕ) → same_place x y ≡ false → x ≡ y → ⊥
+other_place x y e same = false≢true (sym e ∙ ap (same_place x) (sym same) ∙ place-itself x)
+
+other_name : (a b : List ℕ) → bytes_eq a b ≡ false → a ≡ b → ⊥
+other_name a b e same = false≢true (sym e ∙ ap (bytes_eq a) (sym same) ∙ bytes_eq-itself a)
+
+-- the root itself, after a child of it was put
+put_child : (p : Program) (C : Cells) (n : ℕ) (k : Contents) (S : State) (c : Cell) (o : Operand) (a : Array) → AreLaid C → (g : Gives p C n S c o a) → HasRoot p C n k o.name g.root → HasRoot p C n ((c, a) ∷ k) o.name (with_child o.place a g.root)
+put_child p C n k S c o a laid g b = record {
+  fits = b.fits;
+  whole = written-whole g.root o.place a;
+  first = b.first;
+  taken = b.taken;
+  held = λ place inside v. by_place place inside v (same_place o.place place) refl;
+}
+  where
+    by_place : (place : ℕ × ℕ) → IsPlace g.root.parts place → is_valued_child (with_child o.place a g.root) place ≡ true → (t : Bool) → same_place o.place place ≡ t → IsHeld p n ((c, a) ∷ k) (cell_of C o.name g.root.parts place) (child_array (with_child o.place a g.root) place)
+    by_place place inside v true t =
+        let here = place-is o.place place t in
+        subst (λ (x : ℕ × ℕ). IsHeld p n ((c, a) ∷ k) (cell_of C o.name g.root.parts x) (child_array (with_child o.place a g.root) x)) here
+        (subst (λ (d : Cell). IsHeld p n ((c, a) ∷ k) d (child_array (with_child o.place a g.root) o.place)) g.cell_is
+        (record { value = held-same p c a k ∙ sym (written-array g.root o.place a g.placed g.dims g.whole); given = g.given }))
+    by_place place inside v false t =
+        let apart = other_place o.place place t in
+        let stays = written-other g.root o.place place a g.placed inside apart in
+        let old = b.held place inside (ap (λ es. is_child g.root.parts place && list_all (λ (e : Option ℤ). is_some e) es) (sym stays) ∙ v) in
+        record {
+          value = held-other p c a k (cell_of C o.name g.root.parts place) (differs c (cell_of C o.name g.root.parts place) (λ e. apart (cells-apart C o.name o.name g.root.dims g.root.dims g.root.parts g.root.parts b.first b.first o.place place laid b.taken b.taken g.placed inside (sym g.cell_is ∙ e)).2))
+              ∙ old.value ∙ ap (λ es. record { dims = rect_dims (child_rect g.root place); elements = integers_of es }) (sym stays);
+          given = old.given;
+        }
+
+-- another name's root
+put_beside : (p : Program) (C : Cells) (n : ℕ) (k : Contents) (S : State) (c : Cell) (o : Operand) (a : Array) (q : List ℕ) (r : Root) → AreLaid C → (g : Gives p C n S c o a) → HasRoot p C n k o.name g.root → (o.name ≡ q → ⊥) → HasRoot p C n k q r → HasRoot p C n ((c, a) ∷ k) q r
+put_beside p C n k S c o a q r laid g b apart h = record {
+  fits = h.fits;
+  whole = h.whole;
+  first = h.first;
+  taken = h.taken;
+  held = λ place inside v. record {
+    value = held-other p c a k (cell_of C q r.parts place) (differs c (cell_of C q r.parts place) (λ e. apart (cells-apart C o.name q g.root.dims r.dims g.root.parts r.parts b.first h.first o.place place laid b.taken h.taken g.placed inside (sym g.cell_is ∙ e)).0)) ∙ (h.held place inside v).value;
+    given = (h.held place inside v).given;
+  };
+}
+
+pub holds-put : (p : Program) (C : Cells) (n : ℕ) (k : Contents) (S : State) (c : Cell) (o : Operand) (a : Array) → AreLaid C → HaveRoots p C n k S → Gives p C n S c o a → HaveRoots p C n ((c, a) ∷ k) (put o a S)
+holds-put p C n k S c o a laid has g q r e = by_test (bytes_eq o.name q) refl (sym (root-change (with_child o.place a) o.name S g.root q g.is_root) ∙ e)
+  where
+    by_test : (t : Bool) → bytes_eq o.name q ≡ t → cond t (Some (with_child o.place a g.root)) (root_of S q) ≡ Some r → HasRoot p C n ((c, a) ∷ k) q r
+    by_test true t e =
+        subst (λ (x : Root). HasRoot p C n ((c, a) ∷ k) q x) (some_is (with_child o.place a g.root) r e)
+        (subst (λ (u : List ℕ). HasRoot p C n ((c, a) ∷ k) u (with_child o.place a g.root)) (same_name o.name q t) (put_child p C n k S c o a laid g (has o.name g.root g.is_root)))
+    by_test false t e = put_beside p C n k S c o a q r laid g (has o.name g.root g.is_root) (other_name o.name q t) (has q r e)
 
 -- ---- the arrays of a task
 
--- a name's array, which a task below n gives
-pub record Gives (p : Program) (L : Lowering) (n : ℕ) (S : State) (name : List ℕ) (a : Array) : Type 0 where
-  pub root : Root
-  pub is_root : root_of S name ≡ Some root
-  pub dims : a.dims ≡ root.dims
-  pub given : HasValueBefore p (task_at n) (cell_of L name)
+-- the operand is none of these children
+abbrev pub IsOther : Operand → List Operand → Type 0
+IsOther o [] = Unit {0}
+IsOther o (u ∷ us) = (same_child o u ≡ false) × IsOther o us
 
--- the name is none of these
-abbrev pub IsOther : List ℕ → List (List ℕ) → Type 0
-IsOther name [] = Unit {0}
-IsOther name (q ∷ ns) = (bytes_eq name q ≡ false) × IsOther name ns
+-- arrays for operands, each another child
+abbrev pub GivesAll : Program → Cells → ℕ → State → (Operand → Cell) → List Operand → List Array → Type 0
+GivesAll p C n S cell [] xs = Unit {0}
+GivesAll p C n S cell (o ∷ os) [] = ⊥
+GivesAll p C n S cell (o ∷ os) (a ∷ xs) = Gives p C n S (cell o) o a × IsOther o os × GivesAll p C n S cell os xs
 
--- arrays for names, each of another name
-abbrev pub GivesAll : Program → Lowering → ℕ → State → List (List ℕ) → List Array → Type 0
-GivesAll p L n S [] xs = Unit {0}
-GivesAll p L n S (name ∷ ns) [] = ⊥
-GivesAll p L n S (name ∷ ns) (a ∷ xs) = Gives p L n S name a × IsOther name ns × GivesAll p L n S ns xs
-
-gives-after : (p : Program) (L : Lowering) (n : ℕ) (S : State) (name : List ℕ) (r : Root) (a : Array) (ns : List (List ℕ)) (xs : List Array) → root_of S name ≡ Some r → IsOther name ns → GivesAll p L n S ns xs → GivesAll p L n (put name a S) ns xs
-gives-after p L n S name r a [] xs er o g = tt
-gives-after p L n S name r a (q ∷ ns) [] er o g = absurd g
-gives-after p L n S name r a (q ∷ ns) (x ∷ xs) er o g =
-    (record { root = g.0.root; is_root = root-put S name a r q er ∙ ap (λ b. cond b (Some (valued_root r a)) (root_of S q)) o.0 ∙ g.0.is_root; dims = g.0.dims; given = g.0.given }, g.1, gives-after p L n S name r a ns xs er o.1 g.2)
-
-not_among : (p : Program) (L : Lowering) (n : ℕ) (contents : Contents) (S : State) (name : List ℕ) (h : Handle) (ns : List (List ℕ)) (xs : List Array) → AreApart L → Holds p L n contents S → L.handles name ≡ Some h → IsOther name ns → GivesAll p L n S ns xs → NotAmong h.cell (each_of (cell_of L) ns)
-not_among p L n contents S name h [] xs names holds eh o g = tt
-not_among p L n contents S name h (q ∷ ns) [] names holds eh o g = absurd g
-not_among p L n contents S name h (q ∷ ns) (x ∷ xs) names holds eh o g = (differ (same_cell h.cell (cell_of L q)) refl, not_among p L n contents S name h ns xs names holds eh o.1 g.2)
+gives-after : (p : Program) (C : Cells) (n : ℕ) (S : State) (c d : Cell) (o u : Operand) (a x : Array) → Gives p C n S c o a → Gives p C n S d u x → Gives p C n (put o a S) d u x
+gives-after p C n S c d o u a x g h = by_test (bytes_eq o.name u.name) refl
   where
-    differ : (t : Bool) → same_cell h.cell (cell_of L q) ≡ t → same_cell h.cell (cell_of L q) ≡ false
-    differ false k = k
-    differ true k =
-        let b = holds q g.0.root g.0.is_root in
-        let named : name ≡ q = names.apart name q h b.handle eh b.is (same_cell-is h.cell (cell_of L q) k ∙ ap (λ (i : Handle). i.cell) (handle_is L q b.handle b.is)) in
-        absurd (false≢true (sym o.0 ∙ ap (bytes_eq name) (sym named) ∙ bytes_eq-itself name))
+    by_test : (t : Bool) → bytes_eq o.name u.name ≡ t → Gives p C n (put o a S) d u x
+    by_test true t =
+        let same : g.root ≡ h.root = some_is g.root h.root (sym g.is_root ∙ ap (root_of S) (same_name o.name u.name t) ∙ h.is_root) in
+        record {
+          root = with_child o.place a h.root;
+          is_root = root-change (with_child o.place a) o.name S g.root u.name g.is_root ∙ ap (λ b. cond b (Some (with_child o.place a g.root)) (root_of S u.name)) t ∙ ap (λ (r : Root). Some (with_child o.place a r)) same;
+          placed = h.placed;
+          dims = h.dims;
+          whole = h.whole;
+          cell_is = h.cell_is;
+          given = h.given;
+        }
+    by_test false t = record {
+      root = h.root;
+      is_root = root-change (with_child o.place a) o.name S g.root u.name g.is_root ∙ ap (λ b. cond b (Some (with_child o.place a g.root)) (root_of S u.name)) t ∙ h.is_root;
+      placed = h.placed;
+      dims = h.dims;
+      whole = h.whole;
+      cell_is = h.cell_is;
+      given = h.given;
+    }
 
-pub holds-put_all : (p : Program) (L : Lowering) (n : ℕ) (ns : List (List ℕ)) (xs : List Array) (contents : Contents) (S : State) → AreApart L → Holds p L n contents S → GivesAll p L n S ns xs → Holds p L n (zip (each_of (cell_of L) ns) xs ++ contents) (put_all ns xs S)
-holds-put_all p L n [] xs contents S names holds g = holds
-holds-put_all p L n (name ∷ ns) [] contents S names holds g = absurd g
-holds-put_all p L n (name ∷ ns) (a ∷ xs) contents S names holds g =
-    let b = holds name g.0.root g.0.is_root in
-    let c_is = ap (λ (i : Handle). i.cell) (handle_is L name b.handle b.is) in
-    let here = holds-put p L n contents S name g.0.root b.handle a names holds g.0.is_root b.is g.0.dims (subst (λ (c : Cell). HasValueBefore p (task_at n) c) c_is g.0.given) in
-    let rest = holds-put_all p L n ns xs ((b.handle.cell, a) ∷ contents) (put name a S) names here (gives-after p L n S name g.0.root a ns xs g.0.is_root g.1 g.2) in
-    let away = not_among p L n contents S name b.handle ns xs names holds b.is g.1 g.2 in
-    holds-same p L n (zip (each_of (cell_of L) ns) xs ++ (b.handle.cell, a) ∷ contents) (zip (each_of (cell_of L) (name ∷ ns)) (a ∷ xs) ++ contents) (put_all (name ∷ ns) (a ∷ xs) S)
-    (λ d inside. ap (λ (c : Cell). held_in p ((c, a) ∷ zip (each_of (cell_of L) ns) xs ++ contents) d) c_is ∙ sym (held-moved p b.handle.cell a (each_of (cell_of L) ns) xs contents d away)) names rest
+all-after : (p : Program) (C : Cells) (n : ℕ) (S : State) (cell : Operand → Cell) (c : Cell) (o : Operand) (a : Array) (us : List Operand) (xs : List Array) → Gives p C n S c o a → GivesAll p C n S cell us xs → GivesAll p C n (put o a S) cell us xs
+all-after p C n S cell c o a [] xs g all = tt
+all-after p C n S cell c o a (u ∷ us) [] g all = absurd all
+all-after p C n S cell c o a (u ∷ us) (x ∷ xs) g all = (gives-after p C n S c (cell u) o u a x g all.0, all.1, all-after p C n S cell c o a us xs g all.2)
+
+cell_apart : (p : Program) (C : Cells) (n : ℕ) (k : Contents) (S : State) (c d : Cell) (o u : Operand) (a x : Array) → AreLaid C → HaveRoots p C n k S → Gives p C n S c o a → Gives p C n S d u x → same_child o u ≡ false → same_cell c d ≡ false
+cell_apart p C n k S c d o u a x laid has g h other =
+    let b = has o.name g.root g.is_root in
+    let i = has u.name h.root h.is_root in
+    differs c d (λ e.
+    let same = cells-apart C o.name u.name g.root.dims h.root.dims g.root.parts h.root.parts b.first i.first o.place u.place laid b.taken i.taken g.placed h.placed (sym g.cell_is ∙ e ∙ h.cell_is) in
+    false≢true (sym other ∙ both (bytes_eq o.name u.name) (same_place o.place u.place) (ap (bytes_eq o.name) (sym same.0) ∙ bytes_eq-itself o.name) (ap (same_place o.place) (sym same.2) ∙ place-itself o.place)))
+  where
+    both : (a b : Bool) → a ≡ true → b ≡ true → (a && b) ≡ true
+    both true b e f = f
+    both false b e f = e
+
+not_among : (p : Program) (C : Cells) (n : ℕ) (k : Contents) (S : State) (cell : Operand → Cell) (o : Operand) (a : Array) (us : List Operand) (xs : List Array) → AreLaid C → HaveRoots p C n k S → Gives p C n S (cell o) o a → IsOther o us → GivesAll p C n S cell us xs → NotAmong (cell o) (each_of cell us)
+not_among p C n k S cell o a [] xs laid has g other all = tt
+not_among p C n k S cell o a (u ∷ us) [] laid has g other all = absurd all
+not_among p C n k S cell o a (u ∷ us) (x ∷ xs) laid has g other all =
+    (cell_apart p C n k S (cell o) (cell u) o u a x laid has g all.0 other.0, not_among p C n k S cell o a us xs laid has g other.1 all.2)
+
+pub holds-put_all : (p : Program) (C : Cells) (n : ℕ) (cell : Operand → Cell) (os : List Operand) (xs : List Array) (k : Contents) (S : State) → AreLaid C → HaveRoots p C n k S → GivesAll p C n S cell os xs → HaveRoots p C n (zip (each_of cell os) xs ++ k) (put_all os xs S)
+holds-put_all p C n cell [] xs k S laid has all = has
+holds-put_all p C n cell (o ∷ os) [] k S laid has all = absurd all
+holds-put_all p C n cell (o ∷ os) (a ∷ xs) k S laid has all =
+    let here = holds-put p C n k S (cell o) o a laid has all.0 in
+    let rest = holds-put_all p C n cell os xs ((cell o, a) ∷ k) (put o a S) laid here (all-after p C n S cell (cell o) o a os xs all.0 all.2) in
+    let away = not_among p C n k S cell o a os xs laid has all.0 all.1 all.2 in
+    holds-same p C n (zip (each_of cell os) xs ++ (cell o, a) ∷ k) (zip (each_of cell (o ∷ os)) (a ∷ xs) ++ k) (put_all (o ∷ os) (a ∷ xs) S)
+    (λ d inside. sym (held-moved p (cell o) a (each_of cell os) xs k d away)) laid rest

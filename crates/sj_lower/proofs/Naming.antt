@@ -1,227 +1,232 @@
--- The deliveries are of the roots that the print statements name.
+-- The number of a root is its name's, as the job's table has it.
 use Rattle.std.specs.FinMap as map
-use Rattle.std.proofs.Common.{◌≡◌, ℕ, ◌+◌, ◌<◌, ◌≤◌, Bool, true, false, cond, List, [], ◌∷◌, ◌++◌, length, map as each_of, refl, ap, sym, subst, ◌∙◌, Option, Some, None, option_map, arith, bytes_eq, append_assoc, length-append}
-use Rattle.std.proofs.lemmas.List.{map-append, append-nil}
-use Rattle.std.specs.List.{list_all}
-use Rattle.std.specs.Option.{is_some}
-use Rattle.std.proofs.Common.{ℤ}
-use Rattle.std.specs.Ordering.{nat_cmp, eq_by_cmp}
-use Rattle.std.specs.Cmp.Lexicographic.{slice_cmp, nat_list_cmp_total, texts_ties, same_text}
-use Rattle.sj_base.specs.declared.ids.Line.{Line}
+use Rattle.std.proofs.Common.{◌≡◌, ℕ, ◌+◌, ◌<◌, ◌≤◌, Bool, true, false, cond, List, [], ◌∷◌, ◌++◌, map as each_of, length, refl, ap, sym, subst, ◌∙◌, Option, Some, None, option_map, arith, bytes_eq, inl, inr}
+use Rattle.std.proofs.lemmas.Bool.{cases_lt}
+use Rattle.std.specs.Ordering.{nat_cmp}
+use Rattle.std.specs.Cmp.Lexicographic.{slice_cmp}
 use Rattle.sj_base.specs.declared.ids.Root.{Root as RootNumber}
-use Rattle.sj_base.specs.declared.program.Delivery.{Delivery}
+use Rattle.sj_base.specs.declared.tile.Dims.{Dims}
 use Rattle.sj_base.specs.Array.{Array}
 use Rattle.sj_codelet.specs.declared.kernel.Kernel.{Kernel}
-use Rattle.sj_codelet.specs.Kernel.{out}
+use Rattle.sj_plan.specs.declared.parts.Parts.{Parts}
+use Rattle.sj_plan.specs.Parts.{Fits, places}
+use Rattle.std.specs.Option.{is_some}
 use Rattle.sj_job.specs.declared.job.Kind.{Kind}
 use Rattle.sj_job.specs.declared.job.Act.{Act as KeptAct}
 use Rattle.sj_job.specs.declared.job.Act.TheVariants as kept
 use Rattle.sj_job.specs.declared.job.Statement.{Statement as Kept}
-use Rattle.sj_job.specs.Statement.{Register as Registration, TaskLine}
-use Rattle.sj_job.specs.Act.{Act, Statement}
+use Rattle.sj_job.specs.Statement.{Register as Registration, Operand, TaskLine}
 use Rattle.sj_job.specs.Table.{Table, a_root, name_of, info_of, AreDistinct}
-use Rattle.sj_job.specs.View.{registration, task_seen, act_seen, seen_from, count_after, count_from, IsPlaced, ArePlaced}
+use Rattle.sj_job.specs.View.{registration, task_seen, act_seen, statement_seen, seen_from, count_after, count_from, IsPlaced, ArePlaced}
 use Rattle.sj_job.specs.State.{Root, State, root_of, start}
-use Rattle.sj_job.specs.Meaning.{Printed, registered_root, register, invalidate, unregister, no_values, put, put_all, written_names, run_task, operand_array, found_by, prints, printed_from, apply, array_of}
-use Rattle.sj_job.specs.Sound.{has_root, has_values, IsSoundAct}
-use Rattle.sj_job.specs.Well.{IsWell}
+use Rattle.sj_job.specs.Meaning.{registered_root, register, change, with_parts, with_elements, with_child, no_values, plan, invalidate, unregister, put, put_all, written_of, run_task, apply}
 use Rattle.sj_job.proofs.Views.{count-grows, counts-grow}
-use Rattle.sj_lower.specs.Lowering.{Lowering, Handle, nothing, lower_act, lower_from, handle_of}
-use Rattle.sj_lower.specs.Delivering.{printed_as, NamesPrinted}
-use Rattle.sj_base.specs.declared.program.Program.{Program}
-use Rattle.std.specs.List.{All}
-use Rattle.std.proofs.lemmas.List.Elements.{All-nil, All-push, All-weaker}
-use Rattle.sj_lower.specs.Seen.{handle_at}
-use Rattle.sj_lower.proofs.Holding.{get-put, get-gone, same_name}
-use Rattle.sj_lower.proofs.Allowed.{can_be}
-use Rattle.sj_lower.proofs.Stepping.{HasHandles, handle-there, handles_more}
+use Rattle.sj_lower.specs.Cells.{Cells, Handle, with_handle, taking, child_cell, take_by, take, next_handle, with_root}
+use Rattle.sj_lower.specs.Lowering.{Lowering, nothing, cells_after, lower_one}
+use Rattle.sj_lower.specs.Delivering.{printed_as}
+use Rattle.sj_lower.specs.Seen.{IsCut}
+use Rattle.sj_job.specs.Sound.{IsSoundAct}
+use Rattle.sj_lower.proofs.Holding.{get-put, get-gone, root-change}
+use Rattle.sj_lower.proofs.Laid.{same_name, bytes_eq-itself, some_is, take-roots}
+use Rattle.sj_lower.proofs.Whole.{NamesAct, NamesAll}
 
 -- ---- kinds
 
-abbrev kind_by : Option Root → Option Kind
-kind_by o = option_map (λ (r : Root). r.kind) o
+abbrev traits : Root → Kind × Dims
+traits r = (r.kind, r.dims)
 
-tied : (q name : List ℕ) → eq_by_cmp (slice_cmp nat_cmp) q name ≡ true → q ≡ name
-tied q name e = same_text q name (sym (texts_ties q name ∙ e))
+abbrev kind_by : Option Root → Option (Kind × Dims)
+kind_by o = option_map traits o
 
-kept_at : (b : Bool) (o : Option Root) (r new : Root) → new.kind ≡ r.kind → (b ≡ true → o ≡ Some r) → kind_by (cond b (Some new) o) ≡ kind_by o
-kept_at true o r new k e = ap Some k ∙ sym (ap kind_by (e refl))
-kept_at false o r new k e = refl
+-- a change that keeps a root's kind and dimensions keeps those of all
+changed_kinds : (f : Root → Root) (name : List ℕ) (S : State) (q : List ℕ) → ((r : Root) → traits (f r) ≡ traits r) → kind_by (root_of (change f name S) q) ≡ kind_by (root_of S q)
+changed_kinds f name S q keeps = by_root (root_of S name) refl
+  where
+    by_name : (r : Root) → root_of S name ≡ Some r → (b : Bool) → bytes_eq name q ≡ b → kind_by (cond b (Some (f r)) (root_of S q)) ≡ kind_by (root_of S q)
+    by_name r e true t = ap Some (keeps r) ∙ sym (ap kind_by (ap (root_of S) (sym (same_name name q t)) ∙ e))
+    by_name r e false t = refl
 
--- another root of the same kind under a name
-kept_root : (S : State) (name q : List ℕ) (r new : Root) → root_of S name ≡ Some r → new.kind ≡ r.kind → kind_by (map.get (map.insert S.roots name new) q) ≡ kind_by (root_of S q)
-kept_root S name q r new e k =
-    ap kind_by (map.get-insert nat_list_cmp_total S.roots name new q)
-    ∙ kept_at (eq_by_cmp (slice_cmp nat_cmp) q name) (root_of S q) r new k (λ t. ap (root_of S) (tied q name t) ∙ e)
+    by_root : (o : Option Root) → root_of S name ≡ o → kind_by (root_of (change f name S) q) ≡ kind_by (root_of S q)
+    by_root None e = ap (λ (o : Option Root). kind_by (root_of (elim o as (λ _. State) [
+      | None ↦ S
+      | Some r ↦ record { registered = S.registered; ended = S.ended; roots = map.insert S.roots name (f r) }
+    ]) q)) e
+    by_root (Some r) e = ap kind_by (root-change f name S r q e) ∙ by_name r e (bytes_eq name q) refl
 
-put_by : (S : State) (name : List ℕ) (a : Array) (q : List ℕ) (o : Option Root) → root_of S name ≡ o → kind_by (root_of (elim o as (λ _. State) [
-  | None ↦ S
-  | Some r ↦ record { registered = S.registered; ended = S.ended; roots = map.insert S.roots name (record { kind = r.kind; dims = r.dims; elements = each_of Some a.elements }) }
-]) q) ≡ kind_by (root_of S q)
-put_by S name a q None e = refl
-put_by S name a q (Some r) e = kept_root S name q r (record { kind = r.kind; dims = r.dims; elements = each_of Some a.elements }) e refl
-
-put_all_kinds : (names : List (List ℕ)) (arrays : List Array) (S : State) (q : List ℕ) → kind_by (root_of (put_all names arrays S) q) ≡ kind_by (root_of S q)
+put_all_kinds : (os : List Operand) (arrays : List Array) (S : State) (q : List ℕ) → kind_by (root_of (put_all os arrays S) q) ≡ kind_by (root_of S q)
 put_all_kinds [] arrays S q = refl
-put_all_kinds (n ∷ ns) [] S q = refl
-put_all_kinds (n ∷ ns) (a ∷ arrays) S q = put_all_kinds ns arrays (put n a S) q ∙ put_by S n a q (root_of S n) refl
+put_all_kinds (o ∷ os) [] S q = refl
+put_all_kinds (o ∷ os) (a ∷ arrays) S q = put_all_kinds os arrays (put o a S) q ∙ changed_kinds (with_child o.place a) o.name S q (λ r. refl)
 
 task_kinds : (t : TaskLine) (S : State) (q : List ℕ) → kind_by (root_of (run_task t S) q) ≡ kind_by (root_of S q)
-task_kinds t S q = put_all_kinds (written_names t.operands) (out t.codelet t.args (each_of (operand_array S) t.operands)) S q
-
-invalidated_by : (S : State) (name q : List ℕ) (o : Option Root) → root_of S name ≡ o → kind_by (root_of (elim o as (λ _. State) [
-  | None ↦ S
-  | Some r ↦ record { registered = S.registered; ended = S.ended; roots = map.insert S.roots name (record { kind = r.kind; dims = r.dims; elements = no_values r.dims }) }
-]) q) ≡ kind_by (root_of S q)
-invalidated_by S name q None e = refl
-invalidated_by S name q (Some r) e = kept_root S name q r (record { kind = r.kind; dims = r.dims; elements = no_values r.dims }) e refl
+task_kinds t S q = put_all_kinds (written_of t.operands) _ S q
 
 -- ---- the roots of a state have numbers
 
-record HasNumber (T : Table) (n : ℕ) (q : List ℕ) (k : Kind) : Type 0 where
+record HasNumber (T : Table) (n : ℕ) (q : List ℕ) (k : Kind × Dims) : Type 0 where
   number : ℕ
   below : number < n
   named : name_of T (a_root number) ≡ q
-  kind : (info_of T (a_root number)).kind ≡ k
+  kind : (info_of T (a_root number)).kind ≡ k.0
+  dims : (info_of T (a_root number)).dims ≡ k.1
 
 abbrev Knows : Table → ℕ → State → Type 0
-Knows T n S = (q : List ℕ) (r : Root) → root_of S q ≡ Some r → HasNumber T n q r.kind
+Knows T n S = (q : List ℕ) (r : Root) → root_of S q ≡ Some r → HasNumber T n q (traits r)
 
-kind_from : (T : Table) (n : ℕ) (q : List ℕ) (r : Root) (o : Option Root) → kind_by (Some r) ≡ kind_by o → ((s : Root) → o ≡ Some s → HasNumber T n q s.kind) → HasNumber T n q r.kind
+kind_from : (T : Table) (n : ℕ) (q : List ℕ) (r : Root) (o : Option Root) → kind_by (Some r) ≡ kind_by o → ((s : Root) → o ≡ Some s → HasNumber T n q (traits s)) → HasNumber T n q (traits r)
 kind_from T n q r None e h = absurd (cc)
-kind_from T n q r (Some s) e h = let same : r.kind ≡ s.kind = cc in subst (HasNumber T n q) (sym same) (h s refl)
+kind_from T n q r (Some s) e h = let same : traits r ≡ traits s = some_is (traits r) (traits s) e in subst (HasNumber T n q) (sym same) (h s refl)
 
 -- a state with the same kinds
 knows_kept : (T : Table) (n : ℕ) (S new : State) → ((q : List ℕ) → kind_by (root_of new q) ≡ kind_by (root_of S q)) → Knows T n S → Knows T n new
 knows_kept T n S new e k q r h = kind_from T n q r (root_of S q) (sym (ap kind_by h) ∙ e q) (k q)
 
-later : (T : Table) (n : ℕ) (q : List ℕ) (k : Kind) → HasNumber T n q k → HasNumber T (n + 1) q k
-later T n q k h = record { number = h.number; below = omega (arith, h.below); named = h.named; kind = h.kind }
+later : (T : Table) (n : ℕ) (q : List ℕ) (k : Kind × Dims) → HasNumber T n q k → HasNumber T (n + 1) q k
+later T n q k h = record { number = h.number; below = omega (arith, h.below); named = h.named; kind = h.kind; dims = h.dims }
 
-knows_registered : (T : Table) (n : ℕ) (S : State) (r : Registration) → name_of T (a_root n) ≡ r.name → (info_of T (a_root n)).kind ≡ r.kind → Knows T n S → Knows T (n + 1) (register r S)
-knows_registered T n S r en ek k q s h = by_test (bytes_eq r.name q) refl (sym (get-put S.roots r.name (registered_root r) q) ∙ h)
+knows_registered : (T : Table) (n : ℕ) (S : State) (r : Registration) → name_of T (a_root n) ≡ r.name → (info_of T (a_root n)).kind ≡ r.kind → (info_of T (a_root n)).dims ≡ r.dims → Knows T n S → Knows T (n + 1) (register r S)
+knows_registered T n S r en ek ed k q s h = by_test (bytes_eq r.name q) refl (sym (get-put S.roots r.name (registered_root r) q) ∙ h)
   where
-    by_test : (b : Bool) → bytes_eq r.name q ≡ b → cond b (Some (registered_root r)) (root_of S q) ≡ Some s → HasNumber T (n + 1) q s.kind
+    by_test : (b : Bool) → bytes_eq r.name q ≡ b → cond b (Some (registered_root r)) (root_of S q) ≡ Some s → HasNumber T (n + 1) q (traits s)
     by_test true t e =
         let same : registered_root r ≡ s = cc in
-        record { number = n; below = omega arith; named = en ∙ same_name r.name q t; kind = ek ∙ ap (λ (x : Root). x.kind) same }
-    by_test false t e = later T n q s.kind (k q s e)
+        record { number = n; below = omega arith; named = en ∙ same_name r.name q t; kind = ek ∙ ap (λ (x : Root). x.kind) same; dims = ed ∙ ap (λ (x : Root). x.dims) same }
+    by_test false t e = later T n q (traits s) (k q s e)
 
 knows_ended : (T : Table) (n : ℕ) (S : State) (name : List ℕ) → Knows T n S → Knows T n (unregister name S)
 knows_ended T n S name k q s h = by_test (bytes_eq name q) (sym (get-gone S.roots name q) ∙ h)
   where
-    by_test : (b : Bool) → cond b None (root_of S q) ≡ Some s → HasNumber T n q s.kind
+    by_test : (b : Bool) → cond b None (root_of S q) ≡ Some s → HasNumber T n q (traits s)
     by_test true e = absurd (cc)
     by_test false e = k q s e
 
+-- ---- handles
+
+-- a root's handle has its number and its dimensions
+pub record IsHandle (T : Table) (i : ℕ) (h : Handle) : Type 0 where
+  pub root : h.root ≡ a_root i
+  pub dims : h.dims ≡ (info_of T (a_root i)).dims
+
+-- the roots below this number have their handles
+abbrev pub HasHandles : Table → ℕ → Cells → Type 0
+HasHandles T n C = (i : ℕ) → i < n → (h : Handle) × (C.handles (name_of T (a_root i)) ≡ Some h) × IsHandle T i h
+
+handles_taken : (T : Table) (n : ℕ) (C : Cells) (name : List ℕ) (p : Parts) → HasHandles T n C → HasHandles T n (take name p C)
+handles_taken T n C name p has i lt = by_handle (C.handles name) refl
+  where
+    old : (h : Handle) × (C.handles (name_of T (a_root i)) ≡ Some h) × IsHandle T i h
+    old = has i lt
+
+    by_first : (g : Handle) → C.handles name ≡ Some g → (b : Bool) → (h : Handle) × ((cond b C (record {
+      rows = C.rows ++ each_of (child_cell g.root g.dims p) (places p);
+      handles = with_handle name (taking p (length C.rows) g) C.handles;
+      roots = C.roots;
+    })).handles (name_of T (a_root i)) ≡ Some h) × IsHandle T i h
+    by_first g e true = old
+    by_first g e false = by_name (bytes_eq name (name_of T (a_root i))) refl
+      where
+        by_name : (b : Bool) → bytes_eq name (name_of T (a_root i)) ≡ b → (h : Handle) × (cond b (Some (taking p (length C.rows) g)) (C.handles (name_of T (a_root i))) ≡ Some h) × IsHandle T i h
+        by_name true t =
+            let same : g ≡ old.0 = some_is g old.0 (sym e ∙ ap C.handles (same_name name (name_of T (a_root i)) t) ∙ old.1) in
+            (taking p (length C.rows) g, refl, record { root = ap (λ (h : Handle). h.root) same ∙ old.2.root; dims = ap (λ (h : Handle). h.dims) same ∙ old.2.dims })
+        by_name false t = old
+
+    by_handle : (o : Option Handle) → C.handles name ≡ o → (h : Handle) × ((elim o as (λ _. Cells) [ None ↦ C | Some h ↦ take_by name p h C ]).handles (name_of T (a_root i)) ≡ Some h) × IsHandle T i h
+    by_handle None e = old
+    by_handle (Some g) e = by_first g e (is_some (g.first p))
+
+handles_rooted : (T : Table) (n : ℕ) (C : Cells) → AreDistinct T.names → n < length T.names → C.roots ≡ n → HasHandles T n C → HasHandles T (n + 1) (with_root (name_of T (a_root n)) (info_of T (a_root n)).dims C)
+handles_rooted T n C d few count has i lt =
+    elim (cases_lt i n) [
+      | inl inside ↦ by_test inside (bytes_eq (name_of T (a_root n)) (name_of T (a_root i))) refl
+      | inr past ↦ (let same : i ≡ n = omega arith in subst (λ (m : ℕ). (h : Handle) × ((with_root (name_of T (a_root n)) (info_of T (a_root n)).dims C).handles (name_of T (a_root m)) ≡ Some h) × IsHandle T m h) (sym same) here)
+    ]
+  where
+    new : Handle
+    new = next_handle (info_of T (a_root n)).dims C
+
+    here : (h : Handle) × ((with_root (name_of T (a_root n)) (info_of T (a_root n)).dims C).handles (name_of T (a_root n)) ≡ Some h) × IsHandle T n h
+    here = (new, ap (λ b. cond b (Some new) (C.handles (name_of T (a_root n)))) (bytes_eq-itself (name_of T (a_root n))), record { root = ap a_root count; dims = refl })
+
+    by_test : i < n → (b : Bool) → bytes_eq (name_of T (a_root n)) (name_of T (a_root i)) ≡ b → (h : Handle) × (cond b (Some new) (C.handles (name_of T (a_root i))) ≡ Some h) × IsHandle T i h
+    by_test inside true e = absurd (let same : n ≡ i = d n i few (omega (arith, few, inside)) (same_name (name_of T (a_root n)) (name_of T (a_root i)) e) in omega (arith, same, inside))
+    by_test inside false e = has i inside
+
 -- ---- statement by statement
 
-abbrev names_of : Table → List Delivery → List (List ℕ × Kind)
-names_of T ds = each_of (λ (d : Delivery). printed_as T d.root) ds
-
-abbrev names_in : List Printed → List (List ℕ × Kind)
-names_in ps = each_of (λ (x : Printed). (x.name, x.kind)) ps
-
-record Tracks (T : Table) (n : ℕ) (L : Lowering) (S : State) : Type 0 where
-  handles : HasHandles T L
-  roots : L.roots ≡ n
-  cells : length L.cells ≡ n
+pub record AreNumbered (T : Table) (n : ℕ) (C : Cells) (S : State) : Type 0 where
+  pub handles : HasHandles T n C
+  pub roots : C.roots ≡ n
   knows : Knows T n S
-  rooted : All (λ (d : Delivery). d.root.0 < n) L.deliveries
 
-record Steps (T : Table) (n : ℕ) (L M : Lowering) (S new : State) (out : List Printed) : Type 0 where
-  tracks : Tracks T n M new
-  named : names_of T M.deliveries ≡ names_of T L.deliveries ++ names_in out
-
-found_kind : (S : State) (name : List ℕ) (k : Kind) (o : Option Root) → root_of S name ≡ o → (elim o as (λ _. Bool) [ None ↦ false | Some r ↦ true ]) ≡ true → ((r : Root) → o ≡ Some r → k ≡ r.kind) → (name, k) ∷ [] ≡ names_in (found_by S name)
-found_kind S name k None e v h = absurd (cc)
-found_kind S name k (Some r) e v h =
-    let same : List ℕ × Kind → List (List ℕ × Kind) = λ p. p ∷ [] in
-    (λ i. same (name, h r refl i))
-    ∙ sym (ap (λ (o : Option Root). names_in (elim o as (λ _. List Printed) [ None ↦ [] | Some r ↦ record { name = name; kind = r.kind; array = array_of r } ∷ [] ])) e)
-
-valued_some : (o : Option Root) → (elim o as (λ _. Bool) [ None ↦ false | Some r ↦ list_all (λ (e : Option ℤ). is_some e) r.elements ]) ≡ true → (elim o as (λ _. Bool) [ None ↦ false | Some r ↦ true ]) ≡ true
-valued_some None e = absurd (cc)
-valued_some (Some r) e = refl
-
-act_steps : (has : Kernel → Bool) (T : Table) (n : ℕ) (L : Lowering) (S : State) (line : Line) (a : KeptAct) → AreDistinct T.names → count_after n a ≤ length T.names → IsPlaced n a → IsSoundAct has S (act_seen T n a) → Tracks T n L S
-    → Steps T (count_after n a) L (lower_act line (act_seen T n a) L) S (apply (act_seen T n a) S) (prints (act_seen T n a) S)
-act_steps has T n L S line (kept.Register init) d few placed sound t = record {
-  tracks = record {
-    handles = subst (λ (m : ℕ). (i : ℕ) → i < L.roots + 1 → (lower_act line (act_seen T m (kept.Register init)) L).handles (name_of T (a_root i)) ≡ Some (handle_at i)) t.roots
-        (handles_more T L (record { root = record { 0 = L.roots }; cell = record { 0 = length L.cells } }) d (omega (arith, few, t.roots)) (ap (λ (c : ℕ). record { root = record { 0 = L.roots }; cell = record { 0 = c } }) (t.cells ∙ sym t.roots)) t.handles);
-    roots = ap (λ m. m + 1) t.roots;
-    cells = length-append L.cells _ ∙ ap (λ m. m + 1) t.cells;
-    knows = knows_registered T n S (registration (name_of T (a_root n)) (info_of T (a_root n)) init) refl refl t.knows;
-    rooted = All-weaker (λ (d : Delivery). d.root.0 < n) (λ (d : Delivery). d.root.0 < n + 1) (λ d h. omega (arith, h)) L.deliveries t.rooted;
-  };
-  named = sym (append-nil (names_of T L.deliveries));
-}
-act_steps has T n L S line (kept.Task task) d few placed sound t = record {
-  tracks = record { handles = t.handles; roots = t.roots; cells = t.cells; knows = knows_kept T n S (run_task (task_seen T task) S) (task_kinds (task_seen T task) S) t.knows; rooted = t.rooted };
-  named = sym (append-nil (names_of T L.deliveries));
-}
-act_steps has T n L S line (kept.Print r) d few placed sound t =
-    let q = name_of T r in
-    let below : r.0 < L.roots = omega (arith, t.roots, placed) in
-    let here = handle-there T L r t.handles below in
-    let kind_is : (s : Root) → root_of S q ≡ Some s → (info_of T r).kind ≡ s.kind = λ s e.
-    let h = t.knows q s e in
-    let same : h.number ≡ r.0 = d h.number r.0 (omega (arith, h.below, few)) (omega (arith, placed, few)) h.named in
-    ap (λ m. (info_of T (a_root m)).kind) (sym same) ∙ h.kind in
+pub numbered-act : (T : Table) (n : ℕ) (C : Cells) (S : State) (a : KeptAct) → AreDistinct T.names → count_after n a ≤ length T.names → AreNumbered T n C S → AreNumbered T (count_after n a) (cells_after (act_seen T n a) C) (apply (act_seen T n a) S)
+numbered-act T n C S (kept.Register init) d few t =
+    let r = registration (name_of T (a_root n)) (info_of T (a_root n)) init in
+    let D = with_root r.name r.dims C in
     record {
-      tracks = record {
-        handles = t.handles;
-        roots = t.roots;
-        cells = t.cells;
-        knows = t.knows;
-        rooted = All-push (λ (d : Delivery). d.root.0 < n) L.deliveries _ t.rooted (subst (λ (h : Handle). h.root.0 < n) (sym here) placed);
-      };
-      named = map-append (λ (d : Delivery). printed_as T d.root) L.deliveries _
-          ∙ ap (λ (h : Handle). names_of T L.deliveries ++ printed_as T h.root ∷ []) here
-          ∙ ap (λ ps. names_of T L.deliveries ++ ps) (found_kind S q (info_of T r).kind (root_of S q) refl (valued_some (root_of S q) sound) kind_is);
+      handles = handles_taken T (n + 1) D r.name r.parts (handles_rooted T n C d (omega (arith, few)) t.roots t.handles);
+      roots = take-roots D r.name r.parts ∙ ap (λ m. m + 1) t.roots;
+      knows = knows_registered T n S r refl refl refl t.knows;
     }
-act_steps has T n L S line (kept.Invalidate r) d few placed sound t = record {
-  tracks = record { handles = t.handles; roots = t.roots; cells = t.cells; knows = knows_kept T n S (invalidate (name_of T r) S) (λ q. invalidated_by S (name_of T r) q (root_of S (name_of T r)) refl) t.knows; rooted = t.rooted };
-  named = sym (append-nil (names_of T L.deliveries));
+numbered-act T n C S (kept.Plan r p) d few t = record {
+  handles = handles_taken T n C (name_of T r) p t.handles;
+  roots = take-roots C (name_of T r) p ∙ t.roots;
+  knows = knows_kept T n S (plan (name_of T r) p S) (λ q. changed_kinds (with_parts p) (name_of T r) S q (λ r. refl)) t.knows;
 }
-act_steps has T n L S line (kept.Unregister r) d few placed sound t = record {
-  tracks = record { handles = t.handles; roots = t.roots; cells = t.cells; knows = knows_ended T n S (name_of T r) t.knows; rooted = t.rooted };
-  named = sym (append-nil (names_of T L.deliveries));
-}
+numbered-act T n C S (kept.Task task) d few t = record { handles = t.handles; roots = t.roots; knows = knows_kept T n S (run_task (task_seen T task) S) (task_kinds (task_seen T task) S) t.knows }
+numbered-act T n C S (kept.Print r) d few t = t
+numbered-act T n C S (kept.Invalidate r) d few t = record { handles = t.handles; roots = t.roots; knows = knows_kept T n S (invalidate (name_of T r) S) (λ q. changed_kinds (λ r. with_elements (no_values r.dims) r) (name_of T r) S q (λ r. refl)) t.knows }
+numbered-act T n C S (kept.Unregister r) d few t = record { handles = t.handles; roots = t.roots; knows = knows_ended T n S (name_of T r) t.knows }
 
-record AreNamed (T : Table) (n : ℕ) (ds : List Delivery) (names : List (List ℕ × Kind)) : Type 0 where
-  named : names_of T ds ≡ names
-  rooted : All (λ (d : Delivery). d.root.0 < n) ds
+names_act : (T : Table) (n : ℕ) (C : Cells) (S : State) (a : KeptAct) → AreDistinct T.names → n ≤ length T.names → IsPlaced n a → AreNumbered T n C S → NamesAct T S C (act_seen T n a)
+names_act T n C S (kept.Register init) d few placed t = tt
+names_act T n C S (kept.Plan r p) d few placed t = tt
+names_act T n C S (kept.Task task) d few placed t = tt
+names_act T n C S (kept.Print r) d few placed t = λ h root there is.
+    let own = t.handles r.0 placed in
+    let same : own.0 ≡ h = some_is own.0 h (sym own.1 ∙ there) in
+    let number : h.root ≡ r = sym (ap (λ (h : Handle). h.root) same) ∙ own.2.root in
+    let k = t.knows (name_of T r) root is in
+    let one : k.number ≡ r.0 = d k.number r.0 (omega (arith, k.below, few)) (omega (arith, placed, few)) k.named in
+    let kind : (info_of T r).kind ≡ root.kind = ap (λ m. (info_of T (a_root m)).kind) (sym one) ∙ k.kind in (
+      ap (printed_as T) number ∙ (λ i. (name_of T r, kind i)),
+      ap (λ (x : RootNumber). (info_of T x).dims) number ∙ sym own.2.dims ∙ ap (λ (h : Handle). h.dims) same,
+      subst (λ (x : RootNumber). x.0 < length T.names) (sym number) (omega (arith, placed, few)),
+    )
+names_act T n C S (kept.Invalidate r) d few placed t = tt
+names_act T n C S (kept.Unregister r) d few placed t = tt
 
-named_from : (has : Kernel → Bool) (T : Table) (k n : ℕ) (L : Lowering) (S : State) (ss : List Kept) → AreDistinct T.names → count_from n ss ≤ length T.names → ArePlaced n ss → IsWell has k S (seen_from T n ss) → Tracks T n L S
-    → AreNamed T (count_from n ss) (lower_from L (seen_from T n ss)).deliveries (names_of T L.deliveries ++ names_in (printed_from S (seen_from T n ss)))
-named_from has T k n L S [] d few placed well t = record { named = sym (append-nil (names_of T L.deliveries)); rooted = t.rooted }
-named_from has T k n L S (s ∷ ss) d few placed well t =
-    let a = act_seen T n s.act in
+pub names-all : (T : Table) (n : ℕ) (L : Lowering) (S : State) (ss : List Kept) → AreDistinct T.names → count_from n ss ≤ length T.names → ArePlaced n ss → AreNumbered T n L.cells S → NamesAll T S L (seen_from T n ss)
+names-all T n L S [] d few placed t = tt
+names-all T n L S (s ∷ ss) d few placed t =
     let m = count_after n s.act in
-    let M = lower_act s.line a L in
-    let step = act_steps has T n L S s.line s.act d (omega (arith, few, counts-grow m ss)) placed.0 (can_be has k S a well.0).sound t in
-    let rest = named_from has T (k + 1) m M (apply a S) ss d few placed.1 well.1 step.tracks in
-    record {
-      named = rest.named
-          ∙ ap (λ ps. ps ++ names_in (printed_from (apply a S) (seen_from T m ss))) step.named
-          ∙ append_assoc (names_of T L.deliveries) (names_in (prints a S)) (names_in (printed_from (apply a S) (seen_from T m ss)))
-          ∙ ap (λ ps. names_of T L.deliveries ++ ps) (sym (map-append (λ (x : Printed). (x.name, x.kind)) (prints a S) (printed_from (apply a S) (seen_from T m ss))));
-      rooted = rest.rooted;
-    }
+    let here = counts-grow m ss in
+    let before = count-grows n s.act in (
+      names_act T n L.cells S s.act d (omega (arith, few, here, before)) placed.0 t,
+      names-all T m (lower_one S (statement_seen T n s) L) (apply (act_seen T n s.act) S) ss d few placed.1 (numbered-act T n L.cells S s.act d (omega (arith, few, here)) t),
+    )
 
-pub names-printed : (has : Kernel → Bool) (T : Table) (p : Program) (ss : List Kept) → p.deliveries ≡ (lower_from nothing (seen_from T 0 ss)).deliveries → AreDistinct T.names → count_from 0 ss ≡ length T.names → ArePlaced 0 ss → IsWell has 0 start (seen_from T 0 ss)
-    → NamesPrinted T p (seen_from T 0 ss)
-names-printed has T p ss e d count placed well =
-    let h = named_from has T 0 0 nothing start ss d (omega (arith, count)) placed well (record {
-      handles = λ n lt. absurd (omega arith);
-      roots = refl;
-      cells = refl;
-      knows = λ q r e. let none : root_of start q ≡ None = map.get-empty (slice_cmp nat_cmp) q in absurd (cc);
-      rooted = All-nil (λ (d : Delivery). d.root.0 < 0);
-    }) in
-    record {
-      named = ap (names_of T) e ∙ h.named;
-      rooted = subst (λ (ds : List Delivery). All (λ (d : Delivery). d.root.0 < length T.names) ds) (sym e) (subst (λ (n : ℕ). All (λ (d : Delivery). d.root.0 < n) (lower_from nothing (seen_from T 0 ss)).deliveries) count h.rooted);
-    }
+pub numbered-none : (T : Table) → AreNumbered T 0 nothing.cells start
+numbered-none T = record {
+  handles = λ i lt. absurd (omega arith);
+  roots = refl;
+  knows = λ q r e. let none : root_of start q ≡ None = map.get-empty (slice_cmp nat_cmp) q in absurd (cc);
+}
+
+-- ---- the plan that an act makes active
+
+pub numbered-cut : (has : Kernel → Bool) (T : Table) (n : ℕ) (C : Cells) (S : State) (a : KeptAct) → AreDistinct T.names → n ≤ length T.names → IsPlaced n a → AreNumbered T n C S → IsSoundAct has S (act_seen T n a) → IsCut T n a
+numbered-cut has T n C S (kept.Register init) d few placed t sound = sound.parts
+numbered-cut has T n C S (kept.Plan r p) d few placed t sound = by_root (root_of S (name_of T r)) refl sound.rooted sound.parts
+  where
+    by_root : (o : Option Root) → root_of S (name_of T r) ≡ o → is_some o ≡ true → Fits p (elim o as (λ _. Dims) [ None ↦ record { rows = 0; cols = 0 } | Some x ↦ x.dims ]) → Fits p (info_of T r).dims
+    by_root None is rooted fits = absurd (cc)
+    by_root (Some x) is rooted fits =
+        let k = t.knows (name_of T r) x is in
+        let one : k.number ≡ r.0 = d k.number r.0 (omega (arith, k.below, few)) (omega (arith, placed, few)) k.named in
+        let same : x.dims ≡ (info_of T r).dims = sym k.dims ∙ ap (λ m. (info_of T (a_root m)).dims) one in
+        subst (Fits p) same fits
+numbered-cut has T n C S (kept.Task task) d few placed t sound = tt
+numbered-cut has T n C S (kept.Print r) d few placed t sound = tt
+numbered-cut has T n C S (kept.Invalidate r) d few placed t sound = tt
+numbered-cut has T n C S (kept.Unregister r) d few placed t sound = tt

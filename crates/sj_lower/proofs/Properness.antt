@@ -1,8 +1,8 @@
 -- The program of a job is proper.
-use Rattle.std.proofs.Common.{◌≡◌, ℕ, ◌<◌, ◌≤◌, ◌^◌, true, Option, Some, None, List, [], length, get_or, map as each_of, refl, sym, ap, subst, ◌∙◌, inl, inr, arith}
+use Rattle.std.proofs.Common.{◌≡◌, ℕ, ◌<◌, ◌≤◌, ◌^◌, true, Option, Some, None, List, [], length, get_or, refl, sym, ap, subst, ◌∙◌, inl, inr, arith}
 use Rattle.std.specs.Option.{is_some}
 use Rattle.std.specs.Prelude.{nat_eq, count_by}
-use Rattle.std.specs.List.{All, AllPairs, range_with_len}
+use Rattle.std.specs.List.{All, AllPairs}
 use Rattle.std.proofs.lemmas.Bool.{false≢true, cases_lt}
 use Rattle.std.proofs.lemmas.List.{get_or_past}
 use Rattle.std.proofs.lemmas.List.Elements.{All-nil, All-from_get_or, All-get_or, All-weaker, All-contains}
@@ -18,19 +18,21 @@ use Rattle.sj_base.specs.declared.program.Program.{Program}
 use Rattle.sj_base.specs.Array.{area}
 use Rattle.sj_codelet.specs.declared.kernel.Kernel.TheVariants.{Deliver}
 use Rattle.sj_codelet.specs.Kernel.{kernel_of}
-use Rattle.sj_core.specs.Fold.{given}
 use Rattle.sj_core.specs.Operands.{copy_of}
 use Rattle.sj_core.specs.Program.{no_cell, no_task, cell_info, task_of}
 use Rattle.sj_base.specs.Mode.{is_redux, reads_value, is_in_order}
 use Rattle.sj_core.specs.Proper.{Proper, NamesCells, IsCopyOf, IsPlain, Fits, IsUnaliased, HasValueBefore, ReadsValues, HasPhases, HasDeliveries, IsWithinLimits, IsPhase, task_number, access}
 use Rattle.sj_job.specs.Act.{Statement}
 use Rattle.sj_core.specs.Laws.{HasPlainModes}
-use Rattle.sj_lower.specs.Delivering.{DeliversPrinted, CountsPrints, NamesDeliverTasks, DeliversInOrder}
+use Rattle.sj_job.specs.Meaning.{printed}
+use Rattle.sj_job.specs.Table.{Table}
+use Rattle.sj_lower.specs.Delivering.{DeliversPrinted, NamesDeliverTasks, DeliversInOrder}
 use Rattle.sj_lower.proofs.Contents.{task_at}
 use Rattle.sj_lower.proofs.Good.{IsGood}
+use Rattle.sj_lower.proofs.Delivered.{AreHanded, of_print}
 use Rattle.sj_lower.proofs.Whole.{IsWhole}
 
-module _ (p : Program) (ss : List Statement) (w : IsWhole p ss) where
+module _ (T : Table) (p : Program) (ss : List Statement) (w : IsWhole T p ss) where
   each_task : (P : Lowered → Type 0) → ((n : ℕ) → IsGood p n (task_of p (task_at n)) → P (task_of p (task_at n))) → All P p.tasks
   each_task P f = All-from_get_or P p.tasks no_task (λ n h. f n (w.good n h))
 
@@ -96,33 +98,36 @@ module _ (p : Program) (ss : List Statement) (w : IsWhole p ss) where
       all_are_plain : (as' : List Access) → All (λ (a : Access). IsPlain p a.cell) as'
       all_are_plain as' k d h = λ c v copy. no_copy (get_or as' k d).cell c v copy
 
-  within_limits : length ss ≤ 262144 → IsWithinLimits p
-  within_limits few = record {
-    tasks = let e = ap length w.tasks in omega (arith, e, w.within.tasks, few);
-    cells = let e = ap length w.lowered_cells in omega (arith, e, w.within.cells, few);
+  within_limits : length p.tasks ≤ 262144 → length p.cells ≤ 262144 → IsWithinLimits p
+  within_limits few_tasks few_cells = record {
+    tasks = omega (arith, few_tasks);
+    cells = omega (arith, few_cells);
     elements = All-weaker (λ (i : CellInfo). (i.partials ≡ None) × (area i.dims ≤ 2 ^ 24)) (λ (i : CellInfo). area i.dims ≤ 2 ^ 24) (λ i h. h.1) p.cells w.cells;
   }
 
-  pub proper : length ss ≤ 262144 → Proper p
-  proper few = record {
+  pub proper : length p.tasks ≤ 262144 → length p.cells ≤ 262144 → Proper p
+  proper few_tasks few_cells = record {
     cells = names_cells;
     codelets = each_task (Fits p) (λ n g. g.fits);
     unaliased = each_task IsUnaliased (λ n g. g.unaliased);
     values = reads_values;
     phases = has_phases;
     deliveries = has_deliveries;
-    limits = within_limits few;
+    limits = within_limits few_tasks few_cells;
   }
 
   pub plain : HasPlainModes p
   plain = record { modes = λ t. every_task (λ n a. is_in_order a.mode ≡ true) (λ n inside. (w.good n inside).plain) t.0 }
 
-  pub delivers_printed : DeliversPrinted p ss
-  delivers_printed = ap (λ (ds : List Delivery). each_of (λ (d : Delivery). given p d.task) ds) w.deliveries ∙ w.delivered.arrays
-
-  pub counts_prints : CountsPrints p
-  counts_prints =
-      ap (λ (ds : List Delivery). each_of (λ (d : Delivery). d.print) ds) w.deliveries ∙ w.delivered.numbered ∙ ap (λ (ds : List Delivery). range_with_len 0 (length ds)) (sym w.deliveries)
+  pub delivers_printed : DeliversPrinted T p ss
+  delivers_printed = record {
+    each = λ k x e.
+        let h = subst (λ (ds : List Delivery). AreHanded T p (of_print k ds) x) (sym w.deliveries) (w.delivered.each k x e) in
+        record { some = h.some; named = h.named; dims = h.dims; within = h.within; array = h.array };
+    below = subst (λ (ds : List Delivery). All (λ (d : Delivery). d.print < length (printed ss)) ds) (sym w.deliveries) w.delivered.printed;
+    ascending = subst (λ (ds : List Delivery). AllPairs (λ (d e : Delivery). d.print ≤ e.print) ds) (sym w.deliveries) w.delivered.in_order;
+    rooted = subst (λ (ds : List Delivery). All (λ (d : Delivery). d.root.0 < length T.names) ds) (sym w.deliveries) w.delivered.rooted;
+  }
 
   pub names_deliver_tasks : NamesDeliverTasks p
   names_deliver_tasks k d h =

@@ -1,10 +1,12 @@
--- A lowered task does to its cells what the task line does to its names.
+-- A lowered task does to its cells what the task line does to its children.
 use Rattle.std.proofs.Common.{◌≡◌, ℕ, ◌+◌, Bool, true, false, not, ◌&&◌, ◌||◌, cond, Option, Some, None, List, [], ◌∷◌, ◌++◌, map as each_of, refl, sym, ap, subst, ◌∙◌, arith}
-use Rattle.std.specs.List.{zip, filter, list_all, list_any}
+use Rattle.std.specs.Prelude.{nat_lt}
+use Rattle.std.specs.List.{AllByRecursion, zip, filter, list_all, list_any}
 use Rattle.std.specs.Option.{is_some}
 use Rattle.std.specs.Str.{bytes_eq}
 use Rattle.std.proofs.lemmas.Bool.{false≢true, and_parts}
-use Rattle.std.proofs.lemmas.List.{length-map}
+use Rattle.std.proofs.lemmas.Bool.Decides.{nat_tests}
+use Rattle.std.proofs.lemmas.List.{length-map, length-replicate}
 use Rattle.sj_base.specs.declared.ids.Cell.{Cell}
 use Rattle.sj_base.specs.declared.tile.Dims.{Dims}
 use Rattle.sj_base.specs.declared.mode.Mode.{Mode}
@@ -12,7 +14,7 @@ use Rattle.sj_base.specs.declared.mode.Mode.TheVariants.{R, W, RW, Scratch, Redu
 use Rattle.sj_base.specs.declared.mode.Access.{Access}
 use Rattle.sj_base.specs.declared.program.Lowered.{Lowered}
 use Rattle.sj_base.specs.declared.program.Program.{Program}
-use Rattle.sj_base.specs.Array.{Array, array, zeros}
+use Rattle.sj_base.specs.Array.{Array, array, area, zeros}
 use Rattle.sj_codelet.specs.declared.kernel.Kernel.{Kernel}
 use Rattle.sj_codelet.specs.declared.formal.Formal.{Formal}
 use Rattle.sj_codelet.specs.Kernel.{formals_of, out, fits}
@@ -21,16 +23,24 @@ use Rattle.sj_base.specs.Mode.{is_written, is_redux}
 use Rattle.sj_core.specs.Proper.{own_modes}
 use Rattle.sj_core.specs.Fold.{Contents, held_in, after_task}
 use Rattle.sj_core.specs.Operands.{worked_on, written_cells, found, results}
-use Rattle.sj_job.specs.Statement.{Operand}
-use Rattle.sj_job.specs.Statement.{TaskLine}
-use Rattle.sj_job.specs.State.{Root, State, root_of, is_valued}
-use Rattle.sj_job.specs.Meaning.{array_of, seen_by, operand_array, is_written as writes, written_names, run_task}
+use Rattle.sj_plan.specs.declared.parts.Parts.{Parts}
+use Rattle.sj_plan.specs.Parts.{IsPlace}
+use Rattle.sj_plan.specs.Paste.{same_place}
+use Rattle.sj_plan.specs.Rect.{dims_of as rect_dims}
+use Rattle.sj_plan.specs.Window.{IsWhole}
+use Rattle.sj_job.specs.Statement.{Operand, TaskLine}
+use Rattle.sj_job.specs.State.{Root, State, root_of, is_valued, is_child, child_rect, is_valued_child}
+use Rattle.sj_job.specs.Meaning.{child_array, seen_by, operand_array, is_written as writes, written_of as written_operands, run_task}
 use Rattle.sj_job.specs.Judge.{modes_fit, needs_value, clashes, is_aliased, is_read_only}
-use Rattle.sj_job.specs.Sound.{is_plain, has_root, has_values, IsSoundTask, dims_of as root_dims}
-use Rattle.sj_lower.specs.Lowering.{Lowering, access_of}
+use Rattle.sj_job.specs.Sound.{is_plain, has_child, has_child_values, child_dims, IsSoundTask}
+use Rattle.sj_job.specs.Table.{undivided}
+use Rattle.sj_lower.specs.Cells.{Cells, cell_of}
+use Rattle.sj_lower.specs.Lowering.{active_cell, access_of}
 use Rattle.sj_lower.proofs.Contents.{first_worker, task_at, same_cell-itself}
-use Rattle.sj_lower.proofs.Holding.{cell_of, handle_is, AreApart, Holds, GivesAll, IsOther, holds-put_all, holds-later}
-use Rattle.sj_lower.proofs.Writing.{written_of, written_of-map, modes_are, all_dims, out_dims, IsCall, call_of, fit_from_fits}
+use Rattle.sj_lower.proofs.Elements.{child-whole}
+use Rattle.sj_lower.proofs.Holding.{HasCells, HaveRoots, GivesAll, IsOther, same_child, cell-dims, holds-put_all, holds-later}
+use Rattle.sj_lower.proofs.Laid.{AreLaid}
+use Rattle.sj_lower.proofs.Writing.{written_of, written_of-map, modes_are, all_dims, AreWhole, out_dims, out_whole, IsCall, call_of, fit_from_fits}
 
 -- ---- words
 
@@ -60,7 +70,7 @@ plain_isn't_redux W e = refl
 plain_isn't_redux RW e = refl
 plain_isn't_redux Scratch e = refl
 plain_isn't_redux Redux e = absurd (false≢true e)
-plain_isn't_redux Commute e = refl
+plain_isn't_redux Commute e = absurd (false≢true e)
 
 pub root_there : (o : Option Root) → is_some o ≡ true → (r : Root) × (o ≡ Some r)
 root_there None e = absurd (false≢true e)
@@ -70,47 +80,76 @@ pub valued_there : (o : Option Root) → (elim o as (λ _. Bool) [ None ↦ fals
 valued_there None e = absurd (false≢true e)
 valued_there (Some r) e = (r, refl, e)
 
-pub dims_there : (S : State) (name : List ℕ) (r : Root) → root_of S name ≡ Some r → root_dims S name ≡ r.dims
-dims_there S name r e = ap (λ (o : Option Root). elim o as (λ _. Dims) [ None ↦ record { rows = 0; cols = 0 } | Some r ↦ r.dims ]) e
+-- ---- operands that are children
+
+pub is_child-place : (p : Parts) (place : ℕ × ℕ) → is_child p place ≡ true → IsPlace p place
+is_child-place p place h =
+    let both = and_parts (nat_lt place.0 p.r) (nat_lt place.1 p.c) h in
+    (grind (arith, nat_tests, both.0), grind (arith, nat_tests, both.1))
+
+-- an operand's root, of which it is a child
+pub record IsThere (S : State) (o : Operand) : Type 0 where
+  pub root : Root
+  pub is_root : root_of S o.name ≡ Some root
+  pub placed : IsPlace root.parts o.place
+
+pub child_there : (S : State) (o : Operand) → has_child S o ≡ true → IsThere S o
+child_there S o h = by_root (root_of S o.name) refl h
+  where
+    by_root : (x : Option Root) → root_of S o.name ≡ x → (elim x as (λ _. Bool) [ None ↦ false | Some r ↦ is_child r.parts o.place ]) ≡ true → IsThere S o
+    by_root None e h = absurd (false≢true h)
+    by_root (Some r) e h = record { root = r; is_root = e; placed = is_child-place r.parts o.place h }
+
+pub child_dims-are : (S : State) (o : Operand) (r : Root) → root_of S o.name ≡ Some r → child_dims S o ≡ rect_dims (child_rect r o.place)
+child_dims-are S o r e = ap (λ (x : Option Root). elim x as (λ _. Dims) [ None ↦ record { rows = 0; cols = 0 } | Some r ↦ rect_dims (child_rect r o.place) ]) e
+
+pub child_values-are : (S : State) (o : Operand) (r : Root) → root_of S o.name ≡ Some r → has_child_values S o ≡ is_valued_child r o.place
+child_values-are S o r e = ap (λ (x : Option Root). elim x as (λ _. Bool) [ None ↦ false | Some r ↦ is_valued_child r o.place ]) e
+
+pub active_cell-is : (S : State) (C : Cells) (name : List ℕ) (place : ℕ × ℕ) (r : Root) → root_of S name ≡ Some r → active_cell S C name place ≡ cell_of C name r.parts place
+active_cell-is S C name place r e = ap (λ (x : Option Root). cell_of C name (elim x as (λ _. Parts) [ None ↦ undivided | Some r ↦ r.parts ]) place) e
+
+-- the cell of an operand
+abbrev pub operand_cell : State → Cells → Operand → Cell
+operand_cell S C o = active_cell S C o.name o.place
 
 -- ---- what a task reads
 
-seen_there : (S : State) (o : Operand) (r : Root) → root_of S o.name ≡ Some r → operand_array S o ≡ seen_by o.mode r
-seen_there S o r e = ap (λ (x : Option Root). elim x as (λ _. Array) [ None ↦ array (record { rows = 0; cols = 0 }) [] | Some r ↦ seen_by o.mode r ]) e
+seen_there : (S : State) (o : Operand) (r : Root) → root_of S o.name ≡ Some r → operand_array S o ≡ seen_by o.mode r o.place
+seen_there S o r e = ap (λ (x : Option Root). elim x as (λ _. Array) [ None ↦ array (record { rows = 0; cols = 0 }) [] | Some r ↦ seen_by o.mode r o.place ]) e
 
-by_mode : (p : Program) (contents : Contents) (m : Mode) (c : Cell) (r : Root) → is_plain m ≡ true → dims_of p c ≡ r.dims → (needs_value m ≡ true → held_in p contents c ≡ array_of r)
-    → let a : Access = record { mode = m; cell = c } in found p first_worker (held_in p contents) a ≡ seen_by m r
-by_mode p contents R c r h d v = v refl
-by_mode p contents W c r h d v = ap zeros d
-by_mode p contents RW c r h d v = v refl
-by_mode p contents Scratch c r h d v = ap zeros d
-by_mode p contents Redux c r h d v = absurd (false≢true h)
-by_mode p contents Commute c r h d v = absurd (false≢true h)
+by_mode : (p : Program) (k : Contents) (m : Mode) (c : Cell) (r : Root) (place : ℕ × ℕ) → is_plain m ≡ true → dims_of p c ≡ rect_dims (child_rect r place) → (needs_value m ≡ true → held_in p k c ≡ child_array r place)
+    → let a : Access = record { mode = m; cell = c } in found p first_worker (held_in p k) a ≡ seen_by m r place
+by_mode p k R c r place h d v = v refl
+by_mode p k W c r place h d v = ap zeros d
+by_mode p k RW c r place h d v = v refl
+by_mode p k Scratch c r place h d v = ap zeros d
+by_mode p k Redux c r place h d v = absurd (false≢true h)
+by_mode p k Commute c r place h d v = absurd (false≢true h)
 
-needed : (a b : Bool) → (not a || b) ≡ true → a ≡ true → b ≡ true
+pub needed : (a b : Bool) → (not a || b) ≡ true → a ≡ true → b ≡ true
 needed true b e h = e
 needed false b e h = absurd (false≢true h)
 
--- an operand whose name has a root, and values where they are read
-one_found : (p : Program) (L : Lowering) (n : ℕ) (contents : Contents) (S : State) (o : Operand) → Holds p L n contents S → is_plain o.mode ≡ true → has_root S o.name ≡ true → (not (needs_value o.mode) || has_values S o.name) ≡ true → found p first_worker (held_in p contents) (access_of L o) ≡ operand_array S o
-one_found p L n contents S o holds h rooted valued =
-    let r = root_there (root_of S o.name) rooted in
-    let b = holds o.name r.0 r.1 in
-    let c_is = ap (λ h. h.cell) (handle_is L o.name b.handle b.is) in
-    ap (λ (c : Cell). let a : Access = record { mode = o.mode; cell = c } in found p first_worker (held_in p contents) a) c_is
-    ∙ by_mode p contents o.mode b.handle.cell r.0 h b.cell.dims (λ need.
-    let v = valued_there (root_of S o.name) (needed (needs_value o.mode) (has_values S o.name) valued need) in
-    b.cell.value (ap (λ (x : Option Root). elim x as (λ _. Bool) [ None ↦ true | Some s ↦ is_valued s ]) (sym r.1 ∙ v.1) ∙ v.2))
-    ∙ sym (seen_there S o r.0 r.1)
+-- an operand that is a child, with values where they are read
+one_found : (p : Program) (C : Cells) (n : ℕ) (k : Contents) (S : State) (o : Operand) → HasCells p C → AreLaid C → HaveRoots p C n k S → is_plain o.mode ≡ true → has_child S o ≡ true → (not (needs_value o.mode) || has_child_values S o) ≡ true → found p first_worker (held_in p k) (access_of S C o) ≡ operand_array S o
+one_found p C n k S o cells laid has h placed valued =
+    let t = child_there S o placed in
+    let b = has o.name t.root t.is_root in
+    let cell = active_cell-is S C o.name o.place t.root t.is_root in
+    ap (λ (c : Cell). let a : Access = record { mode = o.mode; cell = c } in found p first_worker (held_in p k) a) cell
+    ∙ by_mode p k o.mode (cell_of C o.name t.root.parts o.place) t.root o.place h (cell-dims p C o.name t.root.dims t.root.parts b.first o.place cells laid b.taken t.placed)
+    (λ needs. (b.held o.place t.placed (sym (child_values-are S o t.root t.is_root) ∙ needed (needs_value o.mode) (has_child_values S o) valued needs)).value)
+    ∙ sym (seen_there S o t.root t.is_root)
 
-all_found : (p : Program) (L : Lowering) (n : ℕ) (contents : Contents) (S : State) (os : List Operand) → Holds p L n contents S → list_all (λ o. is_plain o.mode) os ≡ true → list_all (λ o. has_root S o.name) os ≡ true → list_all (λ o. not (needs_value o.mode) || has_values S o.name) os ≡ true → each_of (found p first_worker (held_in p contents)) (each_of (access_of L) os) ≡ each_of (operand_array S) os
-all_found p L n contents S [] holds h rooted valued = refl
-all_found p L n contents S (o ∷ os) holds h rooted valued =
+all_found : (p : Program) (C : Cells) (n : ℕ) (k : Contents) (S : State) (os : List Operand) → HasCells p C → AreLaid C → HaveRoots p C n k S → list_all (λ o. is_plain o.mode) os ≡ true → list_all (has_child S) os ≡ true → list_all (λ o. not (needs_value o.mode) || has_child_values S o) os ≡ true → each_of (found p first_worker (held_in p k)) (each_of (access_of S C) os) ≡ each_of (operand_array S) os
+all_found p C n k S [] cells laid has h placed valued = refl
+all_found p C n k S (o ∷ os) cells laid has h placed valued =
     let a = and_parts (is_plain o.mode) (list_all (λ o. is_plain o.mode) os) h in
-    let b = and_parts (has_root S o.name) (list_all (λ o. has_root S o.name) os) rooted in
-    let c = and_parts (not (needs_value o.mode) || has_values S o.name) (list_all (λ o. not (needs_value o.mode) || has_values S o.name) os) valued in
-    ap (λ (x : Array). x ∷ each_of (found p first_worker (held_in p contents)) (each_of (access_of L) os)) (one_found p L n contents S o holds a.0 b.0 c.0)
-    ∙ ap (λ (xs : List Array). operand_array S o ∷ xs) (all_found p L n contents S os holds a.1 b.1 c.1)
+    let b = and_parts (has_child S o) (list_all (has_child S) os) placed in
+    let c = and_parts (not (needs_value o.mode) || has_child_values S o) (list_all (λ o. not (needs_value o.mode) || has_child_values S o) os) valued in
+    ap (λ (x : Array). x ∷ each_of (found p first_worker (held_in p k)) (each_of (access_of S C) os)) (one_found p C n k S o cells laid has a.0 b.0 c.0)
+    ∙ ap (λ (xs : List Array). operand_array S o ∷ xs) (all_found p C n k S os cells laid has a.1 b.1 c.1)
 
 -- ---- what a task writes
 
@@ -122,94 +161,94 @@ worked_plain p Scratch c h = refl
 worked_plain p Redux c h = absurd (false≢true h)
 worked_plain p Commute c h = refl
 
-cells_written : (p : Program) (L : Lowering) (os : List Operand) → list_all (λ o. is_plain o.mode) os ≡ true → each_of (worked_on p first_worker) (filter (λ a. is_written a.mode) (each_of (access_of L) os)) ≡ each_of (cell_of L) (written_names os)
-cells_written p L [] h = refl
-cells_written p L (o ∷ os) h =
+cells_written : (p : Program) (S : State) (C : Cells) (os : List Operand) → list_all (λ o. is_plain o.mode) os ≡ true → each_of (worked_on p first_worker) (filter (λ a. is_written a.mode) (each_of (access_of S C) os)) ≡ each_of (operand_cell S C) (written_operands os)
+cells_written p S C [] h = refl
+cells_written p S C (o ∷ os) h =
     let a = and_parts (is_plain o.mode) (list_all (λ o. is_plain o.mode) os) h in
-    by_cases (is_written o.mode) (writes o.mode) (sym (same_writes o.mode)) a.0 (cells_written p L os a.1)
+    by_cases (is_written o.mode) (writes o.mode) (sym (same_writes o.mode)) a.0 (cells_written p S C os a.1)
   where
-    by_cases : (b c : Bool) → b ≡ c → is_plain o.mode ≡ true → each_of (worked_on p first_worker) (filter (λ a. is_written a.mode) (each_of (access_of L) os)) ≡ each_of (cell_of L) (written_names os)
-        → each_of (worked_on p first_worker) (cond b (access_of L o ∷ filter (λ a. is_written a.mode) (each_of (access_of L) os)) (filter (λ a. is_written a.mode) (each_of (access_of L) os)))
-        ≡ each_of (cell_of L) (each_of (λ (o : Operand). o.name) (cond c (o ∷ filter (λ o. writes o.mode) os) (filter (λ o. writes o.mode) os)))
-    by_cases true true e h rest = ap (λ (c : Cell). c ∷ each_of (worked_on p first_worker) (filter (λ a. is_written a.mode) (each_of (access_of L) os))) (worked_plain p o.mode (cell_of L o.name) h) ∙ ap (λ (cs : List Cell). cell_of L o.name ∷ cs) rest
+    by_cases : (b c : Bool) → b ≡ c → is_plain o.mode ≡ true → each_of (worked_on p first_worker) (filter (λ a. is_written a.mode) (each_of (access_of S C) os)) ≡ each_of (operand_cell S C) (written_operands os)
+        → each_of (worked_on p first_worker) (cond b (access_of S C o ∷ filter (λ a. is_written a.mode) (each_of (access_of S C) os)) (filter (λ a. is_written a.mode) (each_of (access_of S C) os)))
+        ≡ each_of (operand_cell S C) (cond c (o ∷ written_operands os) (written_operands os))
+    by_cases true true e h rest = ap (λ (c : Cell). c ∷ each_of (worked_on p first_worker) (filter (λ a. is_written a.mode) (each_of (access_of S C) os))) (worked_plain p o.mode (operand_cell S C o) h) ∙ ap (λ (cs : List Cell). operand_cell S C o ∷ cs) rest
     by_cases true false e h rest = absurd (false≢true (sym e))
     by_cases false true e h rest = absurd (false≢true e)
     by_cases false false e h rest = rest
 
--- no name that is written stands in another operand
-other_written : (o : Operand) (os : List Operand) → writes o.mode ≡ true → list_any (clashes o) os ≡ false → IsOther o.name (written_names os)
+-- no child that is written stands in another operand
+other_written : (o : Operand) (os : List Operand) → writes o.mode ≡ true → list_any (clashes o) os ≡ false → IsOther o (written_operands os)
 other_written o [] w h = tt
 other_written o (p ∷ os) w h =
     let a = or_none (clashes o p) (list_any (clashes o) os) h in
-    by_cases (writes p.mode) (other_written o os w a.1) (clash o.mode p.mode (bytes_eq o.name p.name) w a.0)
+    by_cases (writes p.mode) (other_written o os w a.1) (clash o.mode p.mode (bytes_eq o.name p.name) (same_place o.place p.place) w a.0)
   where
-    clash : (m k : Mode) (b : Bool) → writes m ≡ true → (b && not (is_read_only m && is_read_only k)) ≡ false → b ≡ false
-    clash m k false w e = refl
-    clash R k true w e = absurd (false≢true w)
-    clash W k true w e = e
-    clash RW k true w e = e
-    clash Scratch k true w e = absurd (false≢true w)
-    clash Redux k true w e = e
-    clash Commute k true w e = e
+    clash : (m k : Mode) (b c : Bool) → writes m ≡ true → (b && c && not (is_read_only m && is_read_only k)) ≡ false → (b && c) ≡ false
+    clash m k false c w e = refl
+    clash m k true false w e = refl
+    clash R k true true w e = absurd (false≢true w)
+    clash W k true true w e = e
+    clash RW k true true w e = e
+    clash Scratch k true true w e = absurd (false≢true w)
+    clash Redux k true true w e = e
+    clash Commute k true true w e = e
 
-    by_cases : (b : Bool) → IsOther o.name (written_names os) → bytes_eq o.name p.name ≡ false → IsOther o.name (each_of (λ (o : Operand). o.name) (cond b (p ∷ filter (λ o. writes o.mode) os) (filter (λ o. writes o.mode) os)))
+    by_cases : (b : Bool) → IsOther o (written_operands os) → same_child o p ≡ false → IsOther o (cond b (p ∷ written_operands os) (written_operands os))
     by_cases true rest e = (e, rest)
     by_cases false rest e = rest
 
--- each written name's cell is one to which the accesses give a value
-abbrev Written : Lowering → List Access → List (List ℕ) → Type 0
-Written L accesses [] = Unit {0}
-Written L accesses (name ∷ ns) = (list_any (λ (a : Access). is_written a.mode && not (is_redux a.mode) && same_cell a.cell (cell_of L name)) accesses ≡ true) × Written L accesses ns
+-- each written child's cell is one to which the accesses give a value
+abbrev Written : State → Cells → List Access → List Operand → Type 0
+Written S C accesses [] = Unit {0}
+Written S C accesses (o ∷ os) = (list_any (λ (a : Access). is_written a.mode && not (is_redux a.mode) && same_cell a.cell (operand_cell S C o)) accesses ≡ true) × Written S C accesses os
 
-written-more : (L : Lowering) (a : Access) (accesses : List Access) (ns : List (List ℕ)) → Written L accesses ns → Written L (a ∷ accesses) ns
-written-more L a accesses [] w = tt
-written-more L a accesses (name ∷ ns) w =
-    (or_right (is_written a.mode && not (is_redux a.mode) && same_cell a.cell (cell_of L name)) (list_any (λ (a : Access). is_written a.mode && not (is_redux a.mode) && same_cell a.cell (cell_of L name)) accesses) w.0, written-more L a accesses ns w.1)
+written-more : (S : State) (C : Cells) (a : Access) (accesses : List Access) (os : List Operand) → Written S C accesses os → Written S C (a ∷ accesses) os
+written-more S C a accesses [] w = tt
+written-more S C a accesses (o ∷ os) w =
+    (or_right (is_written a.mode && not (is_redux a.mode) && same_cell a.cell (operand_cell S C o)) (list_any (λ (a : Access). is_written a.mode && not (is_redux a.mode) && same_cell a.cell (operand_cell S C o)) accesses) w.0, written-more S C a accesses os w.1)
 
 all_true : (a b c : Bool) → a ≡ true → b ≡ false → c ≡ true → (a && not b && c) ≡ true
 all_true true false c x y z = z
 all_true true true c x y z = absurd (false≢true (sym y))
 all_true false b c x y z = absurd (false≢true x)
 
-all_written : (L : Lowering) (os : List Operand) → list_all (λ o. is_plain o.mode) os ≡ true → Written L (each_of (access_of L) os) (written_names os)
-all_written L [] h = tt
-all_written L (o ∷ os) h =
+all_written : (S : State) (C : Cells) (os : List Operand) → list_all (λ o. is_plain o.mode) os ≡ true → Written S C (each_of (access_of S C) os) (written_operands os)
+all_written S C [] h = tt
+all_written S C (o ∷ os) h =
     let a = and_parts (is_plain o.mode) (list_all (λ o. is_plain o.mode) os) h in
-    by_cases (writes o.mode) refl a.0 (written-more L (access_of L o) (each_of (access_of L) os) (written_names os) (all_written L os a.1))
+    by_cases (writes o.mode) refl a.0 (written-more S C (access_of S C o) (each_of (access_of S C) os) (written_operands os) (all_written S C os a.1))
   where
-    by_cases : (b : Bool) → writes o.mode ≡ b → is_plain o.mode ≡ true → Written L (each_of (access_of L) (o ∷ os)) (written_names os) → Written L (each_of (access_of L) (o ∷ os)) (each_of (λ (o : Operand). o.name) (cond b (o ∷ filter (λ o. writes o.mode) os) (filter (λ o. writes o.mode) os)))
+    by_cases : (b : Bool) → writes o.mode ≡ b → is_plain o.mode ≡ true → Written S C (each_of (access_of S C) (o ∷ os)) (written_operands os) → Written S C (each_of (access_of S C) (o ∷ os)) (cond b (o ∷ written_operands os) (written_operands os))
     by_cases true w h rest = (
-      or_left (is_written o.mode && not (is_redux o.mode) && same_cell (cell_of L o.name) (cell_of L o.name)) (list_any (λ (a : Access). is_written a.mode && not (is_redux a.mode) && same_cell a.cell (cell_of L o.name)) (each_of (access_of L) os))
-          (all_true (is_written o.mode) (is_redux o.mode) (same_cell (cell_of L o.name) (cell_of L o.name)) (sym (same_writes o.mode) ∙ w) (plain_isn't_redux o.mode h) (same_cell-itself (cell_of L o.name))),
+      or_left (is_written o.mode && not (is_redux o.mode) && same_cell (operand_cell S C o) (operand_cell S C o)) (list_any (λ (a : Access). is_written a.mode && not (is_redux a.mode) && same_cell a.cell (operand_cell S C o)) (each_of (access_of S C) os))
+          (all_true (is_written o.mode) (is_redux o.mode) (same_cell (operand_cell S C o) (operand_cell S C o)) (sym (same_writes o.mode) ∙ w) (plain_isn't_redux o.mode h) (same_cell-itself (operand_cell S C o))),
       rest,
     )
     by_cases false w h rest = rest
 
-abbrev Rooted : State → List (List ℕ) → Type 0
-Rooted S [] = Unit {0}
-Rooted S (name ∷ ns) = (has_root S name ≡ true) × Rooted S ns
+abbrev Placed : State → List Operand → Type 0
+Placed S os = AllByRecursion (λ o. has_child S o ≡ true) os
 
-all_rooted : (S : State) (os : List Operand) → list_all (λ o. has_root S o.name) os ≡ true → Rooted S (written_names os)
-all_rooted S [] h = tt
-all_rooted S (o ∷ os) h =
-    let b = and_parts (has_root S o.name) (list_all (λ o. has_root S o.name) os) h in
-    by_cases (writes o.mode) b.0 (all_rooted S os b.1)
+all_placed : (S : State) (os : List Operand) → list_all (has_child S) os ≡ true → Placed S (written_operands os)
+all_placed S [] h = tt
+all_placed S (o ∷ os) h =
+    let b = and_parts (has_child S o) (list_all (has_child S) os) h in
+    by_cases (writes o.mode) b.0 (all_placed S os b.1)
   where
-    by_cases : (b : Bool) → has_root S o.name ≡ true → Rooted S (written_names os) → Rooted S (each_of (λ (o : Operand). o.name) (cond b (o ∷ filter (λ o. writes o.mode) os) (filter (λ o. writes o.mode) os)))
+    by_cases : (b : Bool) → has_child S o ≡ true → Placed S (written_operands os) → Placed S (cond b (o ∷ written_operands os) (written_operands os))
     by_cases true h rest = (h, rest)
     by_cases false h rest = rest
 
-abbrev AllOther : List (List ℕ) → Type 0
+abbrev AllOther : List Operand → Type 0
 AllOther [] = Unit {0}
-AllOther (name ∷ ns) = IsOther name ns × AllOther ns
+AllOther (o ∷ os) = IsOther o os × AllOther os
 
-all_other : (os : List Operand) → is_aliased os ≡ false → AllOther (written_names os)
+all_other : (os : List Operand) → is_aliased os ≡ false → AllOther (written_operands os)
 all_other [] h = tt
 all_other (o ∷ os) h =
     let a = or_none (list_any (clashes o) os) (is_aliased os) h in
     by_cases (writes o.mode) refl a.0 (all_other os a.1)
   where
-    by_cases : (b : Bool) → writes o.mode ≡ b → list_any (clashes o) os ≡ false → AllOther (written_names os) → AllOther (each_of (λ (o : Operand). o.name) (cond b (o ∷ filter (λ o. writes o.mode) os) (filter (λ o. writes o.mode) os)))
+    by_cases : (b : Bool) → writes o.mode ≡ b → list_any (clashes o) os ≡ false → AllOther (written_operands os) → AllOther (cond b (o ∷ written_operands os) (written_operands os))
     by_cases true w h rest = (other_written o os w h, rest)
     by_cases false w h rest = rest
 
@@ -219,28 +258,31 @@ head_of d e ds es h = cc
 tail_of : (d e : Dims) (ds es : List Dims) → (d ∷ ds) ≡ (e ∷ es) → ds ≡ es
 tail_of d e ds es h = cc
 
-gives_all : (p : Program) (L : Lowering) (n : ℕ) (S : State) (accesses : List Access) (ns : List (List ℕ)) (xs : List Array) → (task_of p (task_at n)).accesses ≡ accesses → Written L accesses ns → Rooted S ns → AllOther ns → all_dims xs ≡ each_of (root_dims S) ns → GivesAll p L (n + 1) S ns xs
-gives_all p L n S accesses [] xs t w r o d = tt
-gives_all p L n S accesses (name ∷ ns) [] t w r o d = absurd (cc)
-gives_all p L n S accesses (name ∷ ns) (a ∷ xs) t w r o d =
-    let root = root_there (root_of S name) r.0 in (
+gives_all : (p : Program) (C : Cells) (n : ℕ) (S : State) (accesses : List Access) (os : List Operand) (xs : List Array) → (task_of p (task_at n)).accesses ≡ accesses → Written S C accesses os → Placed S os → AllOther os → all_dims xs ≡ each_of (child_dims S) os → AreWhole xs → GivesAll p C (n + 1) S (operand_cell S C) os xs
+gives_all p C n S accesses [] xs t w r o d whole = tt
+gives_all p C n S accesses (u ∷ us) [] t w r o d whole = absurd (cc)
+gives_all p C n S accesses (u ∷ us) (a ∷ xs) t w r o d whole =
+    let there = child_there S u r.0 in (
       record {
-        root = root.0;
-        is_root = root.1;
-        dims = head_of a.dims (root_dims S name) (all_dims xs) (each_of (root_dims S) ns) d ∙ dims_there S name root.0 root.1;
-        given = (task_at n, omega arith, ap (λ (as' : List Access). list_any (λ (a : Access). is_written a.mode && not (is_redux a.mode) && same_cell a.cell (cell_of L name)) as') t ∙ w.0);
+        root = there.root;
+        is_root = there.is_root;
+        placed = there.placed;
+        dims = head_of a.dims (child_dims S u) (all_dims xs) (each_of (child_dims S) us) d ∙ child_dims-are S u there.root there.is_root;
+        whole = whole.0;
+        cell_is = active_cell-is S C u.name u.place there.root there.is_root;
+        given = (task_at n, omega arith, ap (λ (as' : List Access). list_any (λ (a : Access). is_written a.mode && not (is_redux a.mode) && same_cell a.cell (operand_cell S C u)) as') t ∙ w.0);
       },
       o.0,
-      gives_all p L n S accesses ns xs t w.1 r.1 o.1 (tail_of a.dims (root_dims S name) (all_dims xs) (each_of (root_dims S) ns) d),
+      gives_all p C n S accesses us xs t w.1 r.1 o.1 (tail_of a.dims (child_dims S u) (all_dims xs) (each_of (child_dims S) us) d) whole.1,
     )
 
 -- ---- the task as a whole
 
-seen_dims : (S : State) (o : Operand) (x : Option Root) → root_of S o.name ≡ x → (elim x as (λ _. Array) [ None ↦ array (record { rows = 0; cols = 0 }) [] | Some r ↦ seen_by o.mode r ]).dims ≡ (elim x as (λ _. Dims) [ None ↦ record { rows = 0; cols = 0 } | Some r ↦ r.dims ])
+seen_dims : (S : State) (o : Operand) (x : Option Root) → root_of S o.name ≡ x → (elim x as (λ _. Array) [ None ↦ array (record { rows = 0; cols = 0 }) [] | Some r ↦ seen_by o.mode r o.place ]).dims ≡ (elim x as (λ _. Dims) [ None ↦ record { rows = 0; cols = 0 } | Some r ↦ rect_dims (child_rect r o.place) ])
 seen_dims S o None e = refl
 seen_dims S o (Some r) e = by o.mode
   where
-    by : (m : Mode) → (seen_by m r).dims ≡ r.dims
+    by : (m : Mode) → (seen_by m r o.place).dims ≡ rect_dims (child_rect r o.place)
     by R = refl
     by W = refl
     by RW = refl
@@ -248,60 +290,84 @@ seen_dims S o (Some r) e = by o.mode
     by Redux = refl
     by Commute = refl
 
-all_seen_dims : (S : State) (os : List Operand) → all_dims (each_of (operand_array S) os) ≡ each_of (λ (o : Operand). root_dims S o.name) os
+all_seen_dims : (S : State) (os : List Operand) → all_dims (each_of (operand_array S) os) ≡ each_of (child_dims S) os
 all_seen_dims S [] = refl
-all_seen_dims S (o ∷ os) = ap (λ (d : Dims). d ∷ all_dims (each_of (operand_array S) os)) (seen_dims S o (root_of S o.name) refl) ∙ ap (λ (ds : List Dims). root_dims S o.name ∷ ds) (all_seen_dims S os)
+all_seen_dims S (o ∷ os) = ap (λ (d : Dims). d ∷ all_dims (each_of (operand_array S) os)) (seen_dims S o (root_of S o.name) refl) ∙ ap (λ (ds : List Dims). child_dims S o ∷ ds) (all_seen_dims S os)
 
-names_of_written : (S : State) (os : List Operand) → each_of (λ (o : Operand). root_dims S o.name) (filter (λ (o : Operand). is_written o.mode) os) ≡ each_of (root_dims S) (written_names os)
-names_of_written S [] = refl
-names_of_written S (o ∷ os) = by_cases (is_written o.mode) (writes o.mode) (sym (same_writes o.mode)) (names_of_written S os)
+seen_whole : (S : State) (o : Operand) (x : Option Root) → IsWhole (elim x as (λ _. Array) [ None ↦ array (record { rows = 0; cols = 0 }) [] | Some r ↦ seen_by o.mode r o.place ])
+seen_whole S o None = refl
+seen_whole S o (Some r) = by o.mode
   where
-    by_cases : (b c : Bool) → b ≡ c → each_of (λ (o : Operand). root_dims S o.name) (filter (λ (o : Operand). is_written o.mode) os) ≡ each_of (root_dims S) (written_names os)
-        → each_of (λ (o : Operand). root_dims S o.name) (cond b (o ∷ filter (λ (o : Operand). is_written o.mode) os) (filter (λ (o : Operand). is_written o.mode) os))
-        ≡ each_of (root_dims S) (each_of (λ (o : Operand). o.name) (cond c (o ∷ filter (λ o. writes o.mode) os) (filter (λ o. writes o.mode) os)))
-    by_cases true true e rest = ap (λ (ds : List Dims). root_dims S o.name ∷ ds) rest
+    none : IsWhole (zeros (rect_dims (child_rect r o.place)))
+    none = length-replicate (area (rect_dims (child_rect r o.place))) _
+
+    by : (m : Mode) → IsWhole (seen_by m r o.place)
+    by R = child-whole r o.place
+    by W = none
+    by RW = child-whole r o.place
+    by Scratch = none
+    by Redux = child-whole r o.place
+    by Commute = child-whole r o.place
+
+all_seen_whole : (S : State) (os : List Operand) → AreWhole (each_of (operand_array S) os)
+all_seen_whole S [] = tt
+all_seen_whole S (o ∷ os) = (seen_whole S o (root_of S o.name), all_seen_whole S os)
+
+dims_of_written : (S : State) (os : List Operand) → each_of (child_dims S) (filter (λ (o : Operand). is_written o.mode) os) ≡ each_of (child_dims S) (written_operands os)
+dims_of_written S [] = refl
+dims_of_written S (o ∷ os) = by_cases (is_written o.mode) (writes o.mode) (sym (same_writes o.mode)) (dims_of_written S os)
+  where
+    by_cases : (b c : Bool) → b ≡ c → each_of (child_dims S) (filter (λ (o : Operand). is_written o.mode) os) ≡ each_of (child_dims S) (written_operands os)
+        → each_of (child_dims S) (cond b (o ∷ filter (λ (o : Operand). is_written o.mode) os) (filter (λ (o : Operand). is_written o.mode) os))
+        ≡ each_of (child_dims S) (cond c (o ∷ written_operands os) (written_operands os))
+    by_cases true true e rest = ap (λ (ds : List Dims). child_dims S o ∷ ds) rest
     by_cases true false e rest = absurd (false≢true (sym e))
     by_cases false true e rest = absurd (false≢true e)
     by_cases false false e rest = rest
 
 -- the codelet, and that the operands have its modes
 pub record HasKernel (t : TaskLine) (S : State) : Type 0 where
-  pub call : IsCall t.codelet t.args (each_of (λ (o : Operand). root_dims S o.name) t.operands)
+  pub call : IsCall t.codelet t.args (each_of (child_dims S) t.operands)
   pub modes : each_of (λ (o : Operand). o.mode) t.operands ≡ own_modes call.kernel
 
 pub kernel_there : (has : Kernel → Bool) (S : State) (t : TaskLine) → IsSoundTask has S t → HasKernel t S
 kernel_there has S t s =
-    let c = call_of has t.codelet t.args (each_of (λ (o : Operand). root_dims S o.name) t.operands) s.fits in
-    let f = fit_from_fits c.kernel t.args (each_of (λ (o : Operand). root_dims S o.name) t.operands) c.fits in
+    let c = call_of has t.codelet t.args (each_of (child_dims S) t.operands) s.fits in
+    let f = fit_from_fits c.kernel t.args (each_of (child_dims S) t.operands) c.fits in
     record {
       call = c;
-      modes = modes_are (formals_of c.kernel) t.operands (ap (λ (fs : List Formal). modes_fit fs t.operands) (sym c.formals) ∙ s.modes) s.plain (sym (length-map t.operands (λ (o : Operand). root_dims S o.name)) ∙ f.count);
+      modes = modes_are (formals_of c.kernel) t.operands (ap (λ (fs : List Formal). modes_fit fs t.operands) (sym c.formals) ∙ s.modes) s.plain (sym (length-map t.operands (child_dims S)) ∙ f.count);
     }
 
-new_dims : (has : Kernel → Bool) (S : State) (t : TaskLine) → IsSoundTask has S t → all_dims (out t.codelet t.args (each_of (operand_array S) t.operands)) ≡ each_of (root_dims S) (written_names t.operands)
+new_dims : (has : Kernel → Bool) (S : State) (t : TaskLine) → IsSoundTask has S t → all_dims (out t.codelet t.args (each_of (operand_array S) t.operands)) ≡ each_of (child_dims S) (written_operands t.operands)
 new_dims has S t s =
     let k = kernel_there has S t s in
     let ins = each_of (operand_array S) t.operands in
     let dims = all_seen_dims S t.operands in
     out_dims k.call.kernel t.codelet t.args ins k.call.is (ap (fits k.call.kernel t.args) dims ∙ k.call.fits)
     ∙ ap (λ (ds : List Dims). written_of (own_modes k.call.kernel) ds) dims
-    ∙ ap (λ (ms : List Mode). written_of ms (each_of (λ (o : Operand). root_dims S o.name) t.operands)) (sym k.modes)
-    ∙ written_of-map (λ (o : Operand). root_dims S o.name) t.operands
-    ∙ names_of_written S t.operands
+    ∙ ap (λ (ms : List Mode). written_of ms (each_of (child_dims S) t.operands)) (sym k.modes)
+    ∙ written_of-map (child_dims S) t.operands
+    ∙ dims_of_written S t.operands
 
--- a lowered task leaves in its cells what the task line leaves under its names
-pub holds-task : (has : Kernel → Bool) (p : Program) (L : Lowering) (n : ℕ) (contents : Contents) (S : State) (t : TaskLine) (l : Lowered)
-    → AreApart L → Holds p L n contents S → IsSoundTask has S t → task_of p (task_at n) ≡ l → l.codelet ≡ t.codelet → l.args ≡ t.args → l.accesses ≡ each_of (access_of L) t.operands
-    → Holds p L (n + 1) (after_task p first_worker (task_at n) contents) (run_task t S)
-holds-task has p L n contents S t l names holds s is ec ea eo =
-    let accesses : (task_of p (task_at n)).accesses ≡ each_of (access_of L) t.operands = ap (λ (k : Lowered). k.accesses) is ∙ eo in
+new_whole : (has : Kernel → Bool) (S : State) (t : TaskLine) → IsSoundTask has S t → AreWhole (out t.codelet t.args (each_of (operand_array S) t.operands))
+new_whole has S t s =
+    let k = kernel_there has S t s in
+    out_whole k.call.kernel t.codelet t.args (each_of (operand_array S) t.operands) k.call.is (ap (fits k.call.kernel t.args) (all_seen_dims S t.operands) ∙ k.call.fits) (all_seen_whole S t.operands)
+
+-- a lowered task leaves in its cells what the task line leaves in its children
+pub holds-task : (has : Kernel → Bool) (p : Program) (C : Cells) (n : ℕ) (k : Contents) (S : State) (t : TaskLine) (l : Lowered)
+    → HasCells p C → AreLaid C → HaveRoots p C n k S → IsSoundTask has S t → task_of p (task_at n) ≡ l → l.codelet ≡ t.codelet → l.args ≡ t.args → l.accesses ≡ each_of (access_of S C) t.operands
+    → HaveRoots p C (n + 1) (after_task p first_worker (task_at n) k) (run_task t S)
+holds-task has p C n k S t l cells laid roots s is ec ea eo =
+    let accesses : (task_of p (task_at n)).accesses ≡ each_of (access_of S C) t.operands = ap (λ (k : Lowered). k.accesses) is ∙ eo in
     let outs = out t.codelet t.args (each_of (operand_array S) t.operands) in
-    let g = gives_all p L n S (each_of (access_of L) t.operands) (written_names t.operands) outs accesses (all_written L t.operands s.plain) (all_rooted S t.operands s.rooted) (all_other t.operands s.apart) (new_dims has S t s) in
-    let meant = holds-put_all p L (n + 1) (written_names t.operands) outs contents S names (holds-later p L n (n + 1) contents S (omega arith) holds) g in
-    let cells : written_cells p (task_at n) first_worker ≡ each_of (cell_of L) (written_names t.operands) = ap (λ (as' : List Access). each_of (worked_on p first_worker) (filter (λ a. is_written a.mode) as')) accesses ∙ cells_written p L t.operands s.plain in
-    let made : results p (task_at n) first_worker (held_in p contents) ≡ outs =
-    ap (λ (k : Lowered). out k.codelet k.args (each_of (found p first_worker (held_in p contents)) k.accesses)) is
-    ∙ (λ i. out (ec i) (ea i) (each_of (found p first_worker (held_in p contents)) (eo i)))
-    ∙ ap (out t.codelet t.args) (all_found p L n contents S t.operands holds s.plain s.rooted s.valued) in
-    let same : after_task p first_worker (task_at n) contents ≡ zip (each_of (cell_of L) (written_names t.operands)) outs ++ contents = λ i. zip (cells i) (made i) ++ contents in
-    subst (λ (c : Contents). Holds p L (n + 1) c (run_task t S)) (sym same) meant
+    let g = gives_all p C n S (each_of (access_of S C) t.operands) (written_operands t.operands) outs accesses (all_written S C t.operands s.plain) (all_placed S t.operands s.placed) (all_other t.operands s.apart) (new_dims has S t s) (new_whole has S t s) in
+    let meant = holds-put_all p C (n + 1) (operand_cell S C) (written_operands t.operands) outs k S laid (holds-later p C n (n + 1) k S (omega arith) roots) g in
+    let written : written_cells p (task_at n) first_worker ≡ each_of (operand_cell S C) (written_operands t.operands) = ap (λ (as' : List Access). each_of (worked_on p first_worker) (filter (λ a. is_written a.mode) as')) accesses ∙ cells_written p S C t.operands s.plain in
+    let made : results p (task_at n) first_worker (held_in p k) ≡ outs =
+    ap (λ (l : Lowered). out l.codelet l.args (each_of (found p first_worker (held_in p k)) l.accesses)) is
+    ∙ (λ i. out (ec i) (ea i) (each_of (found p first_worker (held_in p k)) (eo i)))
+    ∙ ap (out t.codelet t.args) (all_found p C n k S t.operands cells laid roots s.plain s.placed s.valued) in
+    let same : after_task p first_worker (task_at n) k ≡ zip (each_of (operand_cell S C) (written_operands t.operands)) outs ++ k = λ i. zip (written i) (made i) ++ k in
+    subst (λ (c : Contents). HaveRoots p C (n + 1) c (run_task t S)) (sym same) meant

@@ -1,22 +1,30 @@
 -- What a task writes: which operands get new arrays, and with which dimensions.
-use Rattle.std.proofs.Common.{◌≡◌, ℕ, zero, suc, Bool, true, false, ◌&&◌, cond, ℤ, Option, Some, None, List, [], ◌∷◌, map, length, refl, sym, ap, subst, ◌∙◌, arith}
+use Rattle.std.proofs.Common.{◌≡◌, ℕ, zero, suc, ◌+◌, ◌-◌, Bool, true, false, ◌&&◌, cond, ℤ, pos, Option, Some, None, List, [], ◌∷◌, map, length, refl, sym, ap, subst, ◌∙◌, arith}
 use Rattle.std.specs.Prelude.{nat_eq}
-use Rattle.std.specs.List.{filter, list_all}
+use Rattle.std.specs.List.{AllByRecursion, filter, list_all}
+use Rattle.std.proofs.lemmas.List.FromFn.{length-map-range_with_len}
 use Rattle.std.proofs.lemmas.Bool.Decides.{Decides-eqb}
-use Rattle.std.proofs.lemmas.List.{length-map}
+use Rattle.std.proofs.lemmas.List.{length-map, length-replicate}
 use Rattle.sj_base.specs.declared.tile.Dims.{Dims}
 use Rattle.sj_base.specs.declared.mode.Mode.{Mode}
 use Rattle.sj_base.specs.declared.mode.Mode.TheVariants.{R, W, RW, Scratch, Redux, Commute}
 use Rattle.sj_base.specs.declared.program.Codelet.{Codelet}
-use Rattle.sj_base.specs.Array.{Array}
+use Rattle.sj_base.specs.Array.{Array, area, each, element}
+use Rattle.sj_base.proofs.Tables.{length-table}
 use Rattle.sj_codelet.specs.declared.kernel.Kernel.{Kernel}
 use Rattle.sj_codelet.specs.declared.kernel.Kernel.TheVariants.{Fill, Copy, Scale, Add, Axpy, Butterfly, Gemm, GemmThree, Transpose, Dot, Sum, Lowest, MinGemm, FwDiag, FwRow, FwCol, Load, LoadFill, Paste, Deliver, InitPlus, InitLeast}
 use Rattle.sj_codelet.specs.declared.formal.Formal.{Formal}
 use Rattle.sj_codelet.specs.declared.formal.Formal.TheVariants.{R as FormalR, W as FormalW, RW as FormalRW, Scratch as FormalScratch}
-use Rattle.sj_codelet.specs.Kernel.{kernel_of, formals_of, arguments_fit, dims_fit, fits, fits_in, same, new_arrays, out}
-use Rattle.sj_codelet.specs.Equations.{after_turns}
+use Rattle.sj_codelet.specs.Kernel.{kernel_of, formals_of, arguments_fit, dims_fit, dims_at, fits, fits_in, operand, new_arrays, out}
+use Rattle.sj_codelet.specs.Formal.{outputs_among}
+use Rattle.sj_codelet.proofs.Table.{new_arrays-dims}
+use Rattle.sj_codelet.specs.Equations.{after_turns, paste}
+use Rattle.sj_codelet.specs.Window.{window_of}
+use Rattle.sj_codelet.specs.declared.window.Window.{Window}
+use Rattle.sj_base.specs.Window.{item, in_rect}
 use Rattle.sj_codelet.specs.Runs.{formals_in}
 use Rattle.sj_base.specs.Mode.{is_written}
+use Rattle.sj_plan.specs.Window.{IsWhole}
 use Rattle.sj_core.specs.Proper.{mode_of, own_modes}
 use Rattle.sj_job.specs.Statement.{Operand}
 use Rattle.sj_job.specs.Judge.{mode_fits, modes_fit}
@@ -77,77 +85,66 @@ written_of-map f (o ∷ os) = by_cases (is_written o.mode) (written_of-map f os)
     by_cases true e = ap (λ xs. f o ∷ xs) e
     by_cases false e = e
 
-one_of : {X : Type 0} (xs : List X) → length xs ≡ 1 → (a : X) × (xs ≡ a ∷ [])
-one_of [] e = absurd (omega arith)
-one_of (a ∷ []) e = (a, refl)
-one_of (a ∷ b ∷ xs) e = absurd (omega arith)
-
-two_of : {X : Type 0} (xs : List X) → length xs ≡ 2 → (a : X) × (b : X) × (xs ≡ a ∷ b ∷ [])
-two_of [] e = absurd (omega arith)
-two_of (a ∷ xs) e = let p = one_of xs (omega arith) in (a, p.0, ap (λ ys. a ∷ ys) p.1)
-
-three_of : {X : Type 0} (xs : List X) → length xs ≡ 3 → (a : X) × (b : X) × (c : X) × (xs ≡ a ∷ b ∷ c ∷ [])
-three_of [] e = absurd (omega arith)
-three_of (a ∷ xs) e = let p = two_of xs (omega arith) in (a, p.0, p.1, ap (λ ys. a ∷ ys) p.2)
-
-five_of : {X : Type 0} (xs : List X) → length xs ≡ 5 → (a : X) × (b : X) × (c : X) × (d : X) × (e : X) × (xs ≡ a ∷ b ∷ c ∷ d ∷ e ∷ [])
-five_of [] e = absurd (omega arith)
-five_of (a ∷ []) e = absurd (omega arith)
-five_of (a ∷ b ∷ xs) e = let p = three_of xs (omega arith) in (a, b, p.0, p.1, p.2, ap (λ ys. a ∷ b ∷ ys) p.3)
-
 -- the dimensions of arrays
 abbrev pub all_dims : List Array → List Dims
 all_dims xs = map (λ (a : Array). a.dims) xs
 
-turns_keep : (n : ℕ) (turn : ℕ → Array → Array) (a : Array) → ((k : ℕ) (m : Array) → (turn k m).dims ≡ m.dims) → (after_turns n turn a).dims ≡ a.dims
-turns_keep zero turn a h = refl
-turns_keep (suc n) turn a h = h n (after_turns n turn a) ∙ turns_keep n turn a h
+outputs-written : {X : Type 0} (fs : List Formal) (xs : List X) → outputs_among fs xs ≡ written_of (map mode_of fs) xs
+outputs-written [] xs = refl
+outputs-written (f ∷ fs) [] = refl
+outputs-written (FormalR ∷ fs) (x ∷ xs) = outputs-written fs xs
+outputs-written (FormalW ∷ fs) (x ∷ xs) = ap (λ ys. x ∷ ys) (outputs-written fs xs)
+outputs-written (FormalRW ∷ fs) (x ∷ xs) = ap (λ ys. x ∷ ys) (outputs-written fs xs)
+outputs-written (FormalScratch ∷ fs) (x ∷ xs) = outputs-written fs xs
 
-same_dims : (d e : Dims) → same d e ≡ true → d ≡ e
-same_dims d e h =
-    let p = and_parts (nat_eq d.rows e.rows) (nat_eq d.cols e.cols) h in
-    let r = (Decides-eqb d.rows e.rows).0 p.0 in
-    let c = (Decides-eqb d.cols e.cols).0 p.1 in
-    λ i. record { rows = r i; cols = c i }
+-- ---- whole arrays
 
-abbrev GivesDims : Kernel → List ℤ → List Array → Type 0
-GivesDims k args ins = all_dims (new_arrays k args ins) ≡ written_of (own_modes k) (all_dims ins)
+abbrev pub AreWhole : List Array → Type 0
+AreWhole xs = AllByRecursion IsWhole xs
 
-by_kernel : (k : Kernel) (args : List ℤ) (ins : List Array) → length ins ≡ length (formals_of k) → dims_fit k args (all_dims ins) ≡ true → GivesDims k args ins
-by_kernel Fill args ins l h = let p = one_of ins l in subst (GivesDims Fill args) (sym p.1) refl
-by_kernel Copy args ins l h =
-    let p = two_of ins l in
-    let e : same p.0.dims p.1.dims ≡ true = subst (λ (xs : List Array). dims_fit Copy args (all_dims xs) ≡ true) p.2 h in
-    subst (GivesDims Copy args) (sym p.2) (ap (λ (d : Dims). d ∷ []) (same_dims p.0.dims p.1.dims e))
-by_kernel Scale args ins l h = let p = one_of ins l in subst (GivesDims Scale args) (sym p.1) refl
-by_kernel Add args ins l h = let p = two_of ins l in subst (GivesDims Add args) (sym p.2) refl
-by_kernel Axpy args ins l h = let p = two_of ins l in subst (GivesDims Axpy args) (sym p.2) refl
-by_kernel Butterfly args ins l h =
-    let p = two_of ins l in
-    let e : same p.0.dims p.1.dims ≡ true = subst (λ (xs : List Array). dims_fit Butterfly args (all_dims xs) ≡ true) p.2 h in
-    subst (GivesDims Butterfly args) (sym p.2) (ap (λ (d : Dims). p.0.dims ∷ d ∷ []) (same_dims p.0.dims p.1.dims e))
-by_kernel Gemm args ins l h = let p = three_of ins l in subst (GivesDims Gemm args) (sym p.3) refl
-by_kernel GemmThree args ins l h = let p = five_of ins l in subst (GivesDims GemmThree args) (sym p.5) refl
-by_kernel Transpose args ins l h = let p = two_of ins l in subst (GivesDims Transpose args) (sym p.2) refl
-by_kernel Dot args ins l h = let p = three_of ins l in subst (GivesDims Dot args) (sym p.3) refl
-by_kernel Sum args ins l h = let p = two_of ins l in subst (GivesDims Sum args) (sym p.2) refl
-by_kernel Lowest args ins l h = let p = two_of ins l in subst (GivesDims Lowest args) (sym p.2) refl
-by_kernel MinGemm args ins l h = let p = three_of ins l in subst (GivesDims MinGemm args) (sym p.3) refl
-by_kernel FwDiag args ins l h =
-    let p = one_of ins l in
-    subst (GivesDims FwDiag args) (sym p.1) (ap (λ (d : Dims). d ∷ []) (turns_keep p.0.dims.rows _ p.0 (λ k m. refl)))
-by_kernel FwRow args ins l h =
-    let p = two_of ins l in
-    subst (GivesDims FwRow args) (sym p.2) (ap (λ (d : Dims). d ∷ []) (turns_keep p.0.dims.rows _ p.1 (λ k m. refl)))
-by_kernel FwCol args ins l h =
-    let p = two_of ins l in
-    subst (GivesDims FwCol args) (sym p.2) (ap (λ (d : Dims). d ∷ []) (turns_keep p.0.dims.rows _ p.1 (λ k m. refl)))
-by_kernel Load args ins l h = let p = one_of ins l in subst (GivesDims Load args) (sym p.1) refl
-by_kernel LoadFill args ins l h = let p = one_of ins l in subst (GivesDims LoadFill args) (sym p.1) refl
-by_kernel Paste args ins l h = let p = two_of ins l in subst (GivesDims Paste args) (sym p.2) refl
-by_kernel Deliver args ins l h = let p = one_of ins l in subst (GivesDims Deliver args) (sym p.1) refl
-by_kernel InitPlus args ins l h = let p = one_of ins l in subst (GivesDims InitPlus args) (sym p.1) refl
-by_kernel InitLeast args ins l h = let p = one_of ins l in subst (GivesDims InitLeast args) (sym p.1) refl
+operand_whole : (ins : List Array) (n : ℕ) → AreWhole ins → IsWhole (operand ins n)
+operand_whole [] n w = refl
+operand_whole (a ∷ ins) zero w = w.0
+operand_whole (a ∷ ins) (suc n) w = operand_whole ins n w.1
+
+each_whole : (d : Dims) (f : ℕ → ℤ) → IsWhole (each d f)
+each_whole d f = length-map-range_with_len f 0 (area d)
+
+turns_whole : (n : ℕ) (turn : ℕ → Array → Array) (a : Array) → ((k : ℕ) (m : Array) → IsWhole (turn k m)) → IsWhole a → IsWhole (after_turns n turn a)
+turns_whole zero turn a h w = w
+turns_whole (suc n) turn a h w = h n (after_turns n turn a)
+
+first_dims : (ins : List Array) → dims_at (all_dims ins) 0 ≡ (operand ins 0).dims
+first_dims [] = refl
+first_dims (a ∷ ins) = refl
+
+paste_whole : (w : Window) (old new : Array) → IsWhole (paste w old new)
+paste_whole w old new =
+    length-table new.dims (λ i j. cond (in_rect (w.new_row, w.new_col) (record { rows = w.rows; cols = w.cols }) i j) (element old (w.old_row + (i - w.new_row)) (w.old_col + (j - w.new_col))) (item (pos 0) new.dims.cols new.elements i j))
+
+new_arrays-whole : (k : Kernel) (args : List ℤ) (ins : List Array) → arguments_fit k args (all_dims ins) ≡ true → AreWhole ins → AreWhole (new_arrays k args ins)
+new_arrays-whole Fill args ins f w = (each_whole (operand ins 0).dims _, tt)
+new_arrays-whole Copy args ins f w = (operand_whole ins 0 w, tt)
+new_arrays-whole Scale args ins f w = (each_whole (operand ins 0).dims _, tt)
+new_arrays-whole Add args ins f w = (each_whole (operand ins 1).dims _, tt)
+new_arrays-whole Axpy args ins f w = (each_whole (operand ins 1).dims _, tt)
+new_arrays-whole Butterfly args ins f w = (each_whole (operand ins 0).dims _, (each_whole (operand ins 0).dims _, tt))
+new_arrays-whole Gemm args ins f w = (each_whole (operand ins 2).dims _, tt)
+new_arrays-whole GemmThree args ins f w = (each_whole (operand ins 4).dims _, tt)
+new_arrays-whole Transpose args ins f w = (each_whole (operand ins 1).dims _, tt)
+new_arrays-whole Dot args ins f w = (each_whole (operand ins 2).dims _, tt)
+new_arrays-whole Sum args ins f w = (each_whole (operand ins 1).dims _, tt)
+new_arrays-whole Lowest args ins f w = (each_whole (operand ins 1).dims _, tt)
+new_arrays-whole MinGemm args ins f w = (each_whole (operand ins 2).dims _, tt)
+new_arrays-whole FwDiag args ins f w = (turns_whole (operand ins 0).dims.rows _ (operand ins 0) (λ k m. each_whole m.dims _) (operand_whole ins 0 w), tt)
+new_arrays-whole FwRow args ins f w = (turns_whole (operand ins 0).dims.rows _ (operand ins 1) (λ k m. each_whole m.dims _) (operand_whole ins 1 w), tt)
+new_arrays-whole FwCol args ins f w = (turns_whole (operand ins 0).dims.rows _ (operand ins 1) (λ k m. each_whole m.dims _) (operand_whole ins 1 w), tt)
+new_arrays-whole Load args ins f w = ((Decides-eqb (length args) (area (dims_at (all_dims ins) 0))).0 f ∙ ap area (first_dims ins), tt)
+new_arrays-whole LoadFill args ins f w = (each_whole (operand ins 0).dims _, tt)
+new_arrays-whole Paste args ins f w = (paste_whole (window_of args) (operand ins 0) (operand ins 1), tt)
+new_arrays-whole Deliver args ins f w = tt
+new_arrays-whole InitPlus args ins f w = (length-replicate (area (operand ins 0).dims) (pos 0), tt)
+new_arrays-whole InitLeast args ins f w = (each_whole (operand ins 0).dims _, tt)
 
 -- arguments and operands of a codelet that fit: as many, and dimensions that go together
 pub record AreFit (k : Kernel) (args : List ℤ) (ds : List Dims) : Type 0 where
@@ -166,7 +163,14 @@ pub out_dims : (k : Kernel) (id : Codelet) (args : List ℤ) (ins : List Array) 
 out_dims k id args ins e h =
     let f = fit_from_fits k args (all_dims ins) h in
     ap (λ (o : Option Kernel). all_dims (elim o as (λ _. List Array) [ None ↦ [] | Some j ↦ new_arrays j args ins ])) e
-    ∙ by_kernel k args ins (sym (length-map ins (λ (a : Array). a.dims)) ∙ f.count) f.dims
+    ∙ new_arrays-dims k args ins (sym (length-map ins (λ (a : Array). a.dims)) ∙ f.count) f.dims
+    ∙ outputs-written (formals_of k) (all_dims ins)
+
+-- and are whole where the operands are
+pub out_whole : (k : Kernel) (id : Codelet) (args : List ℤ) (ins : List Array) → kernel_of id ≡ Some k → fits k args (all_dims ins) ≡ true → AreWhole ins → AreWhole (out id args ins)
+out_whole k id args ins e h w =
+    subst (λ (o : Option Kernel). AreWhole (elim o as (λ _. List Array) [ None ↦ [] | Some j ↦ new_arrays j args ins ])) (sym e)
+    (new_arrays-whole k args ins (fit_from_fits k args (all_dims ins) h).arguments w)
 
 -- the codelet of a sound task
 pub record IsCall (id : Codelet) (args : List ℤ) (ds : List Dims) : Type 0 where

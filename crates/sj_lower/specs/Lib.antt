@@ -1,5 +1,8 @@
+pub mod Cells
+pub mod Rows
 pub mod Lowering
-pub mod Counts
+pub mod Limits
 pub mod Job
-pub mod Seen
 pub mod Delivering
+pub mod Seen
+pub mod Progress

@@ -1,154 +1,151 @@
--- What a job is lowered to: its statements give cells, tasks over cells and deliveries, one statement after another.
-use Rattle.std.specs.Prelude.{ℕ, ◌+◌, Option, Some, None, List, [], ◌∷◌, ◌++◌, ℤ, pos, map, length, unwrap_or, if◌then◌else◌}
-use Rattle.std.specs.Str.{bytes_eq}
+-- What a job is lowered to: its statements give cells, tasks over cells and deliveries, one statement after another, each in
+-- the state that the statements before it leave.
+use Rattle.std.specs.Prelude.{ℕ, ◌+◌, Bool, ◌||◌, not, Some, None, List, [], ◌∷◌, ◌++◌, map, length, if◌then◌else◌}
 use Rattle.sj_base.specs.declared.ids.Cell.{Cell}
-use Rattle.sj_base.specs.declared.ids.Root.{Root}
 use Rattle.sj_base.specs.declared.ids.Line.{Line}
-use Rattle.sj_base.specs.declared.mode.Mode.{Mode}
-use Rattle.sj_base.specs.declared.mode.Mode.TheVariants.{R, W}
+use Rattle.sj_base.specs.declared.ids.Root.{Root as RootNumber}
 use Rattle.sj_base.specs.declared.mode.Access.{Access}
 use Rattle.sj_base.specs.declared.tile.Dims.{Dims}
-use Rattle.sj_base.specs.declared.program.Codelet.{Codelet}
-use Rattle.sj_base.specs.declared.program.CellInfo.{CellInfo}
 use Rattle.sj_base.specs.declared.program.Lowered.{Lowered}
 use Rattle.sj_base.specs.declared.program.Delivery.{Delivery}
 use Rattle.sj_base.specs.declared.program.Program.{Program}
-use Rattle.sj_codelet.specs.declared.kernel.Kernel.{Kernel}
-use Rattle.sj_codelet.specs.declared.kernel.Kernel.TheVariants.{Load, LoadFill, Deliver}
-use Rattle.sj_codelet.specs.Kernel.{codelet_of}
-use Rattle.sj_job.specs.declared.job.Operand.{Operand as Kept}
+use Rattle.sj_plan.specs.declared.parts.Parts.{Parts}
+use Rattle.sj_plan.specs.Parts.{places}
+use Rattle.sj_plan.specs.Paste.{pastes_of}
+use Rattle.sj_plan.specs.Rect.{child, place_of}
 use Rattle.sj_job.specs.declared.job.Init.{Init}
 use Rattle.sj_job.specs.declared.job.Init.TheVariants.{Values, Fill, Nothing}
-use Rattle.sj_job.specs.Statement.{Register}
-use Rattle.sj_job.specs.Statement.{Operand}
-use Rattle.sj_job.specs.Statement.{TaskLine}
-use Rattle.sj_job.specs.Act.{Act}
-use Rattle.sj_job.specs.Act.{Register as Registers, Task as Tasks, Print as Prints, Invalidate as Invalidates, Unregister as Unregisters}
-use Rattle.sj_job.specs.Act.{Statement}
+use Rattle.sj_job.specs.Statement.{Operand, TaskLine}
+use Rattle.sj_job.specs.Act.{Act, Statement}
+use Rattle.sj_job.specs.Act.{Register as Registers, Plan as Plans, Task as Tasks, Print as Prints, Invalidate as Invalidates, Unregister as Unregisters}
+use Rattle.sj_job.specs.State.{Root, State, start, root_of, is_valued}
+use Rattle.sj_job.specs.Meaning.{apply}
+use Rattle.sj_job.specs.Table.{undivided}
+use Rattle.sj_job.specs.Track.{number}
+use Rattle.sj_lower.specs.Cells.{Cells, same_parts, cell_of, take, with_root, no_cells}
+use Rattle.sj_lower.specs.Rows.{an_access, load_row, fill_row, paste_row, deliver_row}
 
--- what a name stands for: a root and the cell of its elements
-pub record Handle : Type 0 where
-  pub root : Root
-  pub cell : Cell
+-- ---- cells
 
--- what the statements so far gave, the handle of each name, and how many roots and print statements there were
+-- the cells after a statement: a registration and a plan line take a plan
+abbrev pub cells_after : Act → Cells → Cells
+cells_after (Registers r) C = take r.name r.parts (with_root r.name r.dims C)
+cells_after (Plans name p) C = take name p C
+cells_after (Tasks t) C = C
+cells_after (Prints name) C = C
+cells_after (Invalidates name) C = C
+cells_after (Unregisters name) C = C
+
+-- ---- tasks, where C are the cells after the statement, and S is the state before it
+
+-- each child of a root that has values is loaded, row by row
+abbrev pub load_rows : Init → Dims → Parts → (ℕ × ℕ → Cell) → Line → List Lowered
+load_rows (Values xs) d p cell line = map (λ place. load_row xs d (child d p place) (cell place) line) (places p)
+load_rows (Fill a b) d p cell line = map (λ place. fill_row a b d (child d p place) (cell place) line) (places p)
+load_rows Nothing d p cell line = []
+
+-- the active plan of a name
+abbrev pub parts_in : State → List ℕ → Parts
+parts_in S name = elim (root_of S name) [ None ↦ undivided | Some r ↦ r.parts ]
+
+-- the cell of a child of a name's active plan
+abbrev pub active_cell : State → Cells → List ℕ → ℕ × ℕ → Cell
+active_cell S C name place = cell_of C name (parts_in S name) place
+
+-- a plan line leaves the plan active that it names, or finds no values
+abbrev pub is_idle : Parts → Root → Bool
+is_idle p r = same_parts r.parts p || not (is_valued r)
+
+-- else the children of the active plan are pasted into those of the new one
+abbrev pub plan_rows : State → Cells → List ℕ → Parts → Line → List Lowered
+plan_rows S C name p line = elim (root_of S name) [
+  | None ↦ []
+  | Some r ↦ if is_idle p r then [] else map (paste_row (cell_of C name r.parts) (cell_of C name p) line) (pastes_of r.dims r.parts p)
+]
+
+-- an operand as an access to its child's cell
+abbrev pub access_of : State → Cells → Operand → Access
+access_of S C o = an_access o.mode (active_cell S C o.name o.place)
+
+abbrev pub task_row : State → Cells → Line → TaskLine → Lowered
+task_row S C line t = record { codelet = t.codelet; args = t.args; accesses = map (access_of S C) t.operands; line = line; priority = t.priority }
+
+-- each child of the active plan is handed over, row by row
+abbrev pub deliver_rows : State → Cells → List ℕ → Line → List Lowered
+deliver_rows S C name line = map (λ place. deliver_row (active_cell S C name place) line) (places (parts_in S name))
+
+abbrev pub rows_of : State → Cells → Line → Act → List Lowered
+rows_of S C line (Registers r) = load_rows r.init r.dims r.parts (cell_of C r.name r.parts) line
+rows_of S C line (Plans name p) = plan_rows S C name p line
+rows_of S C line (Tasks t) = task_row S C line t ∷ []
+rows_of S C line (Prints name) = deliver_rows S C name line
+rows_of S C line (Invalidates name) = []
+rows_of S C line (Unregisters name) = []
+
+-- ---- deliveries
+
+-- where a child belongs in its root, which a task hands over for a print statement
+abbrev pub a_delivery : ℕ → RootNumber → Dims → Parts → ℕ → ℕ × ℕ → Delivery
+a_delivery task root d p print place = record { task = record { 0 = task + number p place }; root = root; place = place_of (child d p place); print = print }
+
+-- the deliveries of a print statement, whose first task has this number
+abbrev pub print_deliveries : State → Cells → List ℕ → ℕ → ℕ → List Delivery
+print_deliveries S C name task print = elim (C.handles name) [
+  | None ↦ []
+  | Some h ↦ map (a_delivery task h.root h.dims (parts_in S name) print) (places (parts_in S name))
+]
+
+abbrev pub deliveries_of : State → Cells → ℕ → ℕ → Act → List Delivery
+deliveries_of S C task print (Registers r) = []
+deliveries_of S C task print (Plans name p) = []
+deliveries_of S C task print (Tasks t) = []
+deliveries_of S C task print (Prints name) = print_deliveries S C name task print
+deliveries_of S C task print (Invalidates name) = []
+deliveries_of S C task print (Unregisters name) = []
+
+-- how many print statements there are after a statement
+abbrev pub prints_after : Act → ℕ → ℕ
+prints_after (Registers r) n = n
+prints_after (Plans name p) n = n
+prints_after (Tasks t) n = n
+prints_after (Prints name) n = n + 1
+prints_after (Invalidates name) n = n
+prints_after (Unregisters name) n = n
+
+-- ---- statements
+
+-- what the statements so far gave, and how many print statements there were
 pub record Lowering : Type 0 where
-  pub cells : List CellInfo
+  pub cells : Cells
   pub tasks : List Lowered
   pub deliveries : List Delivery
-  pub handles : List ℕ → Option Handle
-  pub roots : ℕ
   pub prints : ℕ
 
 -- before the first statement
 abbrev pub nothing : Lowering
-nothing = record { cells = []; tasks = []; deliveries = []; handles = λ name. None; roots = 0; prints = 0 }
-
--- ---- names
-
--- the name has this handle, and each other name has what it had
-abbrev pub with_handle : List ℕ → Handle → (List ℕ → Option Handle) → List ℕ → Option Handle
-with_handle name h handles q = if bytes_eq name q then Some h else handles q
-
--- the handle of a name; that of the first root where it has none
-abbrev pub handle_of : Lowering → List ℕ → Handle
-handle_of L name = unwrap_or (L.handles name) (record { root = record { 0 = 0 }; cell = record { 0 = 0 } })
-
--- ---- tasks
-
-abbrev pub with_tasks : List Lowered → Lowering → Lowering
-with_tasks more L = record { cells = L.cells; tasks = L.tasks ++ more; deliveries = L.deliveries; handles = L.handles; roots = L.roots; prints = L.prints }
-
-abbrev pub an_access : Mode → Cell → Access
-an_access mode c = record { mode = mode; cell = c }
-
--- a task on one cell that no task line names
-abbrev pub task_by : Codelet → List ℤ → Access → Line → Lowered
-task_by codelet args access line = record { codelet = codelet; args = args; accesses = access ∷ []; line = line; priority = pos 0 }
-
--- a task of the runtime's own codelets on one cell
-abbrev pub own_task : Kernel → List ℤ → Access → Line → Lowered
-own_task k args access line = task_by (codelet_of k) args access line
-
--- the arguments of `loadfill` for a whole root of so many columns
-abbrev pub fill_arguments : ℤ → ℤ → ℕ → List ℤ
-fill_arguments a b cols = a ∷ b ∷ pos 0 ∷ pos 0 ∷ pos cols ∷ []
-
--- the tasks that give a cell of these dimensions its first elements
-abbrev pub first_tasks : Init → Dims → Cell → Line → List Lowered
-first_tasks (Values xs) d c line = own_task Load xs (an_access W c) line ∷ []
-first_tasks (Fill a b) d c line = own_task LoadFill (fill_arguments a b d.cols) (an_access W c) line ∷ []
-first_tasks Nothing d c line = []
-
--- a cell with the tasks that give it a root's first elements
-abbrev pub with_first : Register → Cell → Line → Lowering → Lowering
-with_first r c line L = with_tasks (first_tasks r.init r.dims c line) L
-
--- an operand as an access to the cell of its name
-abbrev pub access_of : Lowering → Operand → Access
-access_of L o = an_access o.mode (handle_of L o.name).cell
-
--- the same of an operand that has its root, whose cell has the root's number
-abbrev pub access_by : Kept → Access
-access_by o = an_access o.mode (record { 0 = o.root.0 })
-
--- ---- statements
-
--- the handle of the next root: the next number and the next cell
-abbrev pub next_handle : Lowering → Handle
-next_handle L = record { root = record { 0 = L.roots }; cell = record { 0 = length L.cells } }
-
--- a root of one cell arises, and a task gives it its first elements
-abbrev pub lower_registration : Line → Register → Lowering → Lowering
-lower_registration line r L = record {
-  cells = L.cells ++ record { root = (next_handle L).root; dims = r.dims; partials = None } ∷ [];
-  tasks = L.tasks ++ first_tasks r.init r.dims (next_handle L).cell line;
-  deliveries = L.deliveries;
-  handles = with_handle r.name (next_handle L) L.handles;
-  roots = L.roots + 1;
-  prints = L.prints;
-}
-
--- a task gives one task, over the cells of its operands
-abbrev pub lower_task : Line → TaskLine → Lowering → Lowering
-lower_task line t L = with_tasks (record { codelet = t.codelet; args = t.args; accesses = map (access_of L) t.operands; line = line; priority = t.priority } ∷ []) L
-
--- where the array of a whole root belongs that a task hands over
-abbrev pub a_delivery : ℕ → Handle → ℕ → Delivery
-a_delivery t h print = record { task = record { 0 = t }; root = h.root; place = (0, 0); print = print }
-
--- a print statement gives a task that hands the root's cell over
-abbrev pub lower_print : Line → List ℕ → Lowering → Lowering
-lower_print line name L = record {
-  cells = L.cells;
-  tasks = L.tasks ++ own_task Deliver [] (an_access R (handle_of L name).cell) line ∷ [];
-  deliveries = L.deliveries ++ a_delivery (length L.tasks) (handle_of L name) L.prints ∷ [];
-  handles = L.handles;
-  roots = L.roots;
-  prints = L.prints + 1;
-}
-
-abbrev pub lower_act : Line → Act → Lowering → Lowering
-lower_act line (Registers r) L = lower_registration line r L
-lower_act line (Tasks t) L = lower_task line t L
-lower_act line (Prints name) L = lower_print line name L
-lower_act line (Invalidates name) L = L
-lower_act line (Unregisters name) L = L
+nothing = record { cells = no_cells; tasks = []; deliveries = []; prints = 0 }
 
 -- what one statement more gives
-abbrev pub lower_one : Statement → Lowering → Lowering
-lower_one s L = lower_act s.line s.act L
+abbrev pub lower_one : State → Statement → Lowering → Lowering
+lower_one S s L =
+    let C = cells_after s.act L.cells in
+    record {
+      cells = C;
+      tasks = L.tasks ++ rows_of S C s.line s.act;
+      deliveries = L.deliveries ++ deliveries_of S C (length L.tasks) L.prints s.act;
+      prints = prints_after s.act L.prints;
+    }
 
 -- what statements give after others
-abbrev pub lower_from : Lowering → List Statement → Lowering
-lower_from L [] = L
-lower_from L (s ∷ ss) = lower_from (lower_one s L) ss
+abbrev pub lower_from : State → Lowering → List Statement → Lowering
+lower_from S L [] = L
+lower_from S L (s ∷ ss) = lower_from (apply s.act S) (lower_one S s L) ss
 
 -- ---- programs
 
 abbrev pub program_of : ℕ → Lowering → Program
-program_of workers L = record { cells = L.cells; tasks = L.tasks; deliveries = L.deliveries; workers = workers }
+program_of workers L = record { cells = L.cells.rows; tasks = L.tasks; deliveries = L.deliveries; workers = workers }
 
 -- what a job is lowered to
 abbrev pub lowered : List Statement → ℕ → Program
-lowered ss workers = program_of workers (lower_from nothing ss)
+lowered ss workers = program_of workers (lower_from start nothing ss)

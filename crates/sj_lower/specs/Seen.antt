@@ -1,32 +1,163 @@
 -- What is lowered so far, as contracts see it.
-use Rattle.std.specs.Prelude.{◌≡◌, ◌<◌, ◌≤◌, ◌+◌, ℕ, Some, List, length, vec_len}
+use Rattle.std.specs.Prelude.{◌≡◌, ◌<◌, ◌≤◌, ◌+◌, ◌&&◌, nat_eq, Bool, ℕ, Some, None, List, [], length, ◌||◌, not, map, slice_index_or, slice_set, if◌then◌else◌}
+use Rattle.std.specs.List.{fold}
+use Rattle.indexmap.specs.IndexMap.{get}
+use Rattle.sj_base.specs.declared.ids.Line.{Line}
+use Rattle.sj_base.specs.declared.mode.Access.{Access}
+use Rattle.sj_codelet.specs.declared.kernel.Kernel.{Kernel}
+use Rattle.sj_plan.specs.declared.parts.Parts.{Parts}
+use Rattle.sj_plan.specs.Parts.{Fits, IsPlace}
+use Rattle.sj_plan.specs.Paste.{pastes_of}
+use Rattle.sj_base.specs.declared.tile.Dims.{Dims}
 use Rattle.sj_base.specs.declared.program.Lowered.{Lowered}
-use Rattle.sj_job.specs.Table.{Table, a_root, name_of}
+use Rattle.sj_job.specs.declared.job.Act.{Act as Kept}
+use Rattle.sj_job.specs.declared.job.Act.TheVariants as kept
+use Rattle.sj_job.specs.declared.job.Operand.{Operand}
+use Rattle.sj_job.specs.Act.{Act}
+use Rattle.sj_job.specs.Act.{Register as Registers, Plan as Plans, Task as Tasks, Print as Prints, Invalidate as Invalidates, Unregister as Unregisters}
+use Rattle.sj_job.specs.State.{Root, State, root_of}
+use Rattle.sj_job.specs.Meaning.{is_written, apply}
+use Rattle.sj_job.specs.Sound.{IsSoundAct}
+use Rattle.sj_job.specs.Table.{Table, AreDistinct, a_root, name_of, info_of, undivided}
+use Rattle.sj_job.specs.Track.{Tracks, all_valued, children_count, written}
+use Rattle.sj_job.specs.View.{act_seen, count_after, IsPlaced}
+use Rattle.sj_lower.specs.declared.layout.Taken.{Taken}
+use Rattle.sj_lower.specs.declared.layout.Layout.{Layout}
+use Rattle.sj_lower.specs.declared.lowerer.Active.{Active}
 use Rattle.sj_lower.specs.declared.lowerer.Lowerer.{Lowerer}
-use Rattle.sj_lower.specs.Lowering.{Lowering, Handle}
+use Rattle.sj_lower.specs.Cells.{Cells, Handle, same_parts, first_cell, cells_from}
+use Rattle.sj_lower.specs.Rows.{an_access, paste_row}
+use Rattle.sj_lower.specs.Limits.{most}
+use Rattle.sj_lower.specs.Lowering.{Lowering, cells_after, lower_one}
 
--- the handle of the root of a number: the cell has the same number
-abbrev pub handle_at : ℕ → Handle
-handle_at n = record { root = record { 0 = n }; cell = record { 0 = n } }
+-- ---- cells
 
--- what is lowered so far has these cells, tasks and deliveries, and the roots of the table in their order
-pub record Follows (T : Table) (l : Lowerer) (L : Lowering) : Type 0 where
-  pub cells : l.cells.items ≡ L.cells
+abbrev pub taken : ℕ → Parts → Taken
+taken n p = record { root = n; r = p.r; c = p.c }
+
+abbrev pub same_taken : Taken → Taken → Bool
+same_taken x y = nat_eq x.root y.root && (nat_eq x.r y.r && nat_eq x.c y.c)
+
+-- the handle of the root of a number
+abbrev pub handle_in : Table → Layout → ℕ → Handle
+handle_in T l n = record { root = a_root n; dims = (info_of T (a_root n)).dims; first = λ p. get same_taken l.firsts (taken n p) }
+
+-- the cells so far are these, and the roots' handles say which plans they have taken
+pub record Lays (T : Table) (l : Layout) (C : Cells) : Type 0 where
+  pub rows : l.infos.items ≡ C.rows
+  pub roots : l.roots ≡ C.roots
+  pub handles : (n : ℕ) → n < C.roots → C.handles (name_of T (a_root n)) ≡ Some (handle_in T l n)
+  -- the cells of each plan that a root has taken are there
+  pub room : (n : ℕ) (p : Parts) (f : ℕ) → get same_taken l.firsts (taken n p) ≡ Some f → f + children_count p ≤ length C.rows
+  -- no root to come has taken a plan
+  pub fresh : (n : ℕ) (p : Parts) → C.roots ≤ n → get same_taken l.firsts (taken n p) ≡ None
+
+-- the plan that an act makes active cuts its root
+abbrev pub IsCut : Table → ℕ → Kept → Type 0
+IsCut T n (kept.Register init) = Fits (info_of T (a_root n)).parts (info_of T (a_root n)).dims
+IsCut T n (kept.Plan r p) = Fits p (info_of T r).dims
+IsCut T n (kept.Task t) = Unit {0}
+IsCut T n (kept.Print r) = Unit {0}
+IsCut T n (kept.Invalidate r) = Unit {0}
+IsCut T n (kept.Unregister r) = Unit {0}
+
+-- how many children the plan has that an act makes active, 0 where it makes none
+abbrev pub children_after : Act → ℕ
+children_after (Registers r) = children_count r.parts
+children_after (Plans name p) = children_count p
+children_after (Tasks t) = 0
+children_after (Prints name) = 0
+children_after (Invalidates name) = 0
+children_after (Unregisters name) = 0
+
+-- the first cell of the plan that an act makes active, 0 where it makes none
+abbrev pub first_after : Act → Cells → ℕ
+first_after (Registers r) C = first_cell C r.name r.parts
+first_after (Plans name p) C = first_cell C name p
+first_after (Tasks t) C = 0
+first_after (Prints name) C = 0
+first_after (Invalidates name) C = 0
+first_after (Unregisters name) C = 0
+
+-- ---- tasks
+
+-- what stands for the active plan of a root that isn't there
+abbrev pub no_active : Active
+no_active = record { tracked = record { parts = undivided; valued = [] }; first = 0 }
+
+abbrev pub active_at : List Active → ℕ → Active
+active_at actives n = slice_index_or actives n no_active
+
+-- the active plan of a root: which children have a value, and the first cell, as in the handle of its name
+pub record IsActive (T : Table) (C : Cells) (n : ℕ) (a : Active) (r : Root) : Type 0 where
+  pub dims : r.dims ≡ (info_of T (a_root n)).dims
+  pub tracks : Tracks a.tracked r
+  pub handle : Handle
+  pub named : C.handles (name_of T (a_root n)) ≡ Some handle
+  pub taken : handle.first r.parts ≡ Some a.first
+  pub room : a.first + children_count r.parts ≤ most
+
+-- there is one for each root
+pub record AreActive (T : Table) (C : Cells) (actives : List Active) (S : State) : Type 0 where
+  pub counted : length actives ≡ C.roots
+  pub each : (n : ℕ) (r : Root) → n < C.roots → root_of S (name_of T (a_root n)) ≡ Some r → IsActive T C n (active_at actives n) r
+
+-- the code has the tasks and deliveries of the definition, and the active plans of the state
+pub record Follows (T : Table) (l : Lowerer) (S : State) (L : Lowering) : Type 0 where
   pub tasks : l.tasks.items ≡ L.tasks
   pub deliveries : l.deliveries.items ≡ L.deliveries
   pub prints : l.prints ≡ L.prints
-  pub roots : L.roots ≡ length L.cells
-  pub handles : (n : ℕ) → n < L.roots → L.handles (name_of T (a_root n)) ≡ Some (handle_at n)
+  pub actives : AreActive T L.cells l.actives.items S
 
--- there are these tasks now, and else nothing has changed
-pub record HasTasks (old new : Lowerer) (tasks : List Lowered) : Type 0 where
-  pub tasks_are : new.tasks.items ≡ tasks
-  pub cells : new.cells ≡ old.cells
-  pub deliveries : new.deliveries ≡ old.deliveries
-  pub prints : new.prints ≡ old.prints
+-- an act may come next
+pub record IsNext (T : Table) (l : Lowerer) (a : Kept) (S : State) (L : Lowering) : Type 0 where
+  pub has : Kernel → Bool
+  pub follows : Follows T l S L
+  pub sound : IsSoundAct has S (act_seen T L.cells.roots a)
+  pub placed : IsPlaced L.cells.roots a
+  pub distinct : AreDistinct T.names
+  pub numbered : (n : ℕ) (h : Handle) → n < L.cells.roots → L.cells.handles (name_of T (a_root n)) ≡ Some h → (h.root ≡ a_root n) × (h.dims ≡ (info_of T (a_root n)).dims)
+  pub few : count_after L.cells.roots a ≤ length T.names
+  pub table : length T.names ≤ 4096
 
--- there are so many cells now, at most one task more, and no more print statements than tasks
-pub record Grows (old new : Lowerer) (cells : ℕ) : Type 0 where
-  pub cells_are : vec_len new.cells ≡ cells
-  pub tasks : vec_len new.tasks ≤ vec_len old.tasks + 1
-  pub prints : old.prints ≤ vec_len old.tasks → new.prints ≤ vec_len new.tasks
+pub record HasNext (T : Table) (l : Lowerer) (a : Kept) : Type 0 where
+  pub state : State
+  pub lowering : Lowering
+  pub next : IsNext T l a state lowering
+
+-- the code does with a statement what the definition does, if the plan that it makes active has this first cell
+abbrev pub Does : Table → Lowerer → Lowerer → Kept → ℕ → Line → Type 0
+Does T old new a first line =
+    (S : State) (L : Lowering) → IsNext T old a S L → let act = act_seen T L.cells.roots a in first_after act (cells_after act L.cells) ≡ first
+    → Follows T new (apply act S) (lower_one S (record { line = line; act = act }) L)
+
+-- the cells of the plan that an act makes active are within the limit, from this one on
+abbrev pub HasRoom : Table → ℕ → Kept → ℕ → Type 0
+HasRoom T n a first = first + children_after (act_seen T n a) ≤ most
+
+-- an operand is a child of its root's active plan, whose cells are within the limit
+pub record AreIn (actives : List Active) (o : Operand) : Type 0 where
+  pub root : o.root.0 < length actives
+  pub place : IsPlace (active_at actives o.root.0).tracked.parts o.place
+  pub room : (active_at actives o.root.0).first + children_count (active_at actives o.root.0).tracked.parts ≤ most
+
+-- an operand as an access to its child's cell
+abbrev pub access_by : List Active → Operand → Access
+access_by actives o =
+    let a = active_at actives o.root.0 in
+    an_access o.mode (cells_from a.first a.tracked.parts o.place)
+
+-- the active plans after an operand is written, if it is
+abbrev pub after_write : List Active → Operand → List Active
+after_write actives o =
+    let a = active_at actives o.root.0 in
+    if is_written o.mode then slice_set actives o.root.0 (record { tracked = written a.tracked o.place; first = a.first }) else actives
+
+abbrev pub after_writes : List Operand → List Active → List Active
+after_writes os actives = fold after_write actives os
+
+-- what a plan line gives, by the active plan of its root
+abbrev pub pasted_by : Dims → Active → Parts → ℕ → Line → List Lowered
+pasted_by d a p first line =
+    if same_parts a.tracked.parts p || not (all_valued a.tracked) then []
+    else map (paste_row (cells_from a.first a.tracked.parts) (cells_from first p) line) (pastes_of d a.tracked.parts p)

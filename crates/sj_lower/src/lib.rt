@@ -1,7 +1,7 @@
-//! Lowering: a job becomes a program of tasks over cells, one cell for each root.
+//! Lowering: a job becomes a program of tasks over cells, one cell for each child of each plan that a root takes.
 #![tactic(auto)]
 
+mod layout;
 pub mod lower;
 mod lowerer;
-#[cfg(test)]
-mod tests;
+mod rows;

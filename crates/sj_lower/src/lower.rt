@@ -1,19 +1,47 @@
 //! Lowering a job.
 
-ghost use Rattle.std.specs.Prelude.{◌≡◌, IfOk};
+ghost use Rattle.std.specs.Prelude.{◌≡◌, None, Some, IfOk, IfErr, OnOk};
 ghost use Rattle.sj_core.specs.Laws.{HasPlainModes};
 ghost use Rattle.sj_core.specs.Proper.{Proper};
+ghost use Rattle.sj_job.specs.State.{State, start};
+ghost use Rattle.sj_job.specs.Table.{Table};
 ghost use Rattle.sj_job.specs.View.{statements_of, IsNumbered};
-ghost use Rattle.sj_lower.specs.Lowering.{lowered};
+ghost use Rattle.sj_lower.specs.Delivering.{DeliversPrinted, NamesDeliverTasks, DeliversInOrder};
 ghost use Rattle.sj_lower.specs.Job.{IsJob};
-ghost use Rattle.sj_lower.specs.Delivering.{DeliversPrinted, NamesPrinted, CountsPrints, NamesDeliverTasks, DeliversInOrder};
+ghost use Rattle.sj_lower.specs.Limits.{late_limit};
+ghost use Rattle.sj_lower.specs.Lowering.{Lowering, lowered, nothing, program_of};
+ghost use Rattle.sj_lower.specs.Progress.{IsAt, HasComing, Goes, IsFull, IsOver, IsLate};
 
+use crate::layout::{Layout, MOST};
 use crate::lowerer::Lowerer;
-use sj_base::memory::OutOfMemory;
+use sj_base::ids::Line;
+use sj_base::memory;
 use sj_base::program::Program;
-use sj_job::job::Job;
+use sj_base::sequence::Sequence;
+use sj_job::job::{Job, Statement};
 use sj_job::roots::Roots;
 use std::alloc::Global;
+
+/// Why a job isn't lowered.
+#[derive(Clone, Copy, Debug, PartialEq, Eq)]
+pub enum LowerRefusal {
+    /// The statement at this line is the first with which there are more than 262,144 cells.
+    TooManyCells { line: Line },
+    /// There are never too many cells, and this is the first statement with which there are more than 262,144 tasks.
+    TooManyTasks { line: Line },
+    OutOfMemory,
+}
+
+impl From<memory::OutOfMemory> for LowerRefusal {
+    ghost use Rattle.std.specs.Prelude.{◌≡◌};
+    ghost use Rattle.sj_lower.specs.declared.lower.LowerRefusal.TheVariants.{OutOfMemory};
+
+    ghost from_gives = { λ _ e. e ≡ OutOfMemory };
+
+    fn from(_: memory::OutOfMemory) -> Self {
+        LowerRefusal::OutOfMemory
+    }
+}
 
 /// What a job is lowered to, and its roots.
 #[derive(Drop)]
@@ -22,28 +50,104 @@ pub struct LoweredJob {
     pub roots: Roots,
 }
 
-/// The program that a job gives, for so many workers, with the job's own values and arguments; and its roots. Its one error is
-/// want of memory. One pass over the statements: linear in them and in their operands.
-pub fn lower(alloc: Global, job: Job, workers: u8) -> Result<LoweredJob, OutOfMemory>
+/// How far a job is lowered. Once there are too many tasks, at a line, none is made any more, and only cells are counted.
+#[derive(Drop)]
+pub struct Progress {
+    pub layout: Layout,
+    pub lowerer: Lowerer,
+    pub over: Option<Line>,
+}
+
+impl Progress {
+    /// Before the first statement.
+    fn nothing(alloc: Global) -> Progress
+        ensures at { (T : Table) → IsAt T result start nothing }
+        ensures over { result.over ≡ None }
+    {
+        Progress {
+            layout: Layout::none(alloc),
+            lowerer: Lowerer::nothing(alloc),
+            over: None,
+        }
+    }
+
+    /// Lowers one statement more. Linear in its operands and in the cells and tasks that it gives; where these are too many,
+    /// in what it takes to count them.
+    fn add(
+        &mut self,
+        alloc: Global,
+        roots: &Roots,
+        statement: Statement,
+    ) -> Result<(), LowerRefusal>
+        requires { HasComing roots.now self.old statement }
+        ensures goes { OnOk result (Goes roots.now self.old self.new statement) }
+        ensures full { IfErr result (IsFull roots.now self.old statement) }
+    {
+        let Statement { line, act } = statement;
+        let Some(first) = self.layout.lay(alloc, roots, &act)? else {
+            return Err(LowerRefusal::TooManyCells { line });
+        };
+        if self.over.is_some() {
+            return Ok(());
+        }
+        if self.lowerer.count(roots, &act) > (MOST - self.lowerer.tasks.len()) as u64 {
+            self.over = Some(line);
+            return Ok(());
+        }
+        self.lowerer.add(alloc, roots, act, first, line)?;
+        Ok(())
+    }
+
+    /// The program of the statements so far, or the line with which there were too many tasks. Constant time.
+    fn finish(self, workers: u8) -> Result<Program, LowerRefusal>
+        ensures ok { IfOk result (λ p. (self.over ≡ None)
+            × ((T : Table) (S : State) (L : Lowering) → IsAt T self S L → p ≡ program_of workers L)) }
+        ensures err { IfErr result (λ e. IsOver e self.over) }
+    {
+        let Progress {
+            layout,
+            lowerer,
+            over,
+        } = self;
+        if let Some(line) = over {
+            return Err(LowerRefusal::TooManyTasks { line });
+        }
+        let Lowerer {
+            tasks,
+            deliveries,
+            ..
+        } = lowerer;
+        Ok(Program {
+            cells: Sequence::of(layout.infos),
+            tasks: Sequence::of(tasks),
+            deliveries: Sequence::of(deliveries),
+            workers,
+        })
+    }
+}
+
+/// The program that a job gives, for so many workers, with the job's own values and arguments; and its roots. Refused where there
+/// are too many cells, else where there are too many tasks, at the first line with which there are; or for want of memory. One
+/// pass over the statements: linear in them, in their operands, and in the cells and tasks that they give. A job with too many
+/// tasks takes no memory for those of the statements from that line on.
+pub fn lower(alloc: Global, job: Job, workers: u8) -> Result<LoweredJob, LowerRefusal>
     requires job { IsJob (statements_of job) }
     requires numbered { IsNumbered job.roots job.statements }
+    ensures fits { OnOk result (late_limit (statements_of job) ≡ None) }
     ensures is { IfOk result (λ l. l.program ≡ lowered (statements_of job) workers) }
     ensures roots { IfOk result (λ l. l.roots ≡ job.roots) }
     ensures proper { IfOk result (λ l. Proper l.program) }
     ensures plain { IfOk result (λ l. HasPlainModes l.program) }
-    ensures prints { IfOk result (λ l. DeliversPrinted l.program (statements_of job)) }
-    ensures named { IfOk result (λ l. NamesPrinted job.roots l.program (statements_of job)) }
-    ensures counted { IfOk result (λ l. CountsPrints l.program) }
+    ensures prints { IfOk result (λ l. DeliversPrinted job.roots l.program (statements_of job)) }
     ensures handed_over { IfOk result (λ l. NamesDeliverTasks l.program) }
     ensures in_order { IfOk result (λ l. DeliversInOrder l.program) }
+    ensures refused { IfErr result (λ e. IsLate e (late_limit (statements_of job))) }
 {
     let Job { roots, statements } = job;
-    let mut lowerer = Lowerer::nothing(alloc);
+    let mut progress = Progress::nothing(alloc);
     for statement in statements.into_items() {
-        lowerer.add(alloc, &roots, statement)?;
+        progress.add(alloc, &roots, statement)?;
     }
-    Ok(LoweredJob {
-        program: lowerer.program(workers),
-        roots,
-    })
+    let program = progress.finish(workers)?;
+    Ok(LoweredJob { program, roots })
 }

@@ -1,155 +1,274 @@
 //! What the statements so far are lowered to.
 
-ghost use Rattle.std.specs.Prelude.{◌≡◌, ◌+◌, ◌<◌, ◌≤◌, ◌++◌, ◌∷◌, [], All, length, map, vec_len, IfOk, OnOk};
-ghost use Rattle.sj_job.specs.Table.{Table, AreDistinct, a_root, name_of, info_of};
-ghost use Rattle.sj_job.specs.View.{IsPlaced, count_after, registration, statement_seen, task_seen};
-ghost use Rattle.sj_lower.specs.Lowering.{Lowering, nothing, fill_arguments, task_by, first_tasks, access_by, lower_registration, lower_task, lower_print, lower_one, program_of};
-ghost use Rattle.sj_lower.specs.Seen.{Follows, Grows, HasTasks};
+ghost use Rattle.std.specs.Prelude.{◌≡◌, ◌+◌, ◌<◌, ◌≤◌, ◌++◌, ◌||◌, not, ℕ, All, IsTrue, length, map, vec_len, IfOk, OnOk};
+ghost use Rattle.sj_base.specs.declared.ids.Line.{Line};
+ghost use Rattle.sj_job.specs.State.{State, start};
+ghost use Rattle.sj_job.specs.Table.{Table};
+ghost use Rattle.sj_job.specs.View.{act_seen};
+ghost use Rattle.sj_job.specs.declared.job.Act.TheVariants as kept;
+ghost use Rattle.sj_job.specs.Names.{gives_values};
+ghost use Rattle.sj_job.specs.Sound.{InitFits};
+ghost use Rattle.sj_base.specs.declared.ids.Cell.{Cell};
+ghost use Rattle.sj_base.specs.declared.tile.Dims.{Dims};
+ghost use Rattle.sj_job.specs.Track.{IsPlan, all_valued, none_valued, even, children_count};
+ghost use Rattle.sj_plan.specs.Parts.{Fits};
+ghost use Rattle.sj_lower.specs.Cells.{Cells, cells_from, same_parts};
+ghost use Rattle.sj_lower.specs.Limits.{most};
+ghost use Rattle.sj_lower.specs.Lowering.{Lowering, nothing, load_rows, rows_of};
+ghost use Rattle.sj_lower.specs.Seen.{Follows, HasNext, IsNext, Does, HasRoom, AreIn, access_by, after_writes, pasted_by};
 
-use sj_base::ids::{Cell, Line, Root, Task};
+use crate::rows::{Placed, push_deliveries, push_delivers, push_fills, push_loads, push_pastes};
+use sj_base::ids::{Line, Root};
 use sj_base::memory::OutOfMemory;
-use sj_base::mode::{Access, Mode};
-use sj_base::program::{CellInfo, Codelet, Delivery, Lowered, Program};
+use sj_base::mode::Access;
+use sj_base::program::{Delivery, Lowered};
 use sj_base::sequence::Sequence;
-use sj_codelet::kernel::{DELIVER, LOAD, LOADFILL};
-use sj_job::job::{Act, Init, Operand, RootInfo, Statement, TaskLine};
+use sj_base::tile::Dims;
+use sj_job::job::{Act, Init, Operand, RootInfo, TaskLine};
 use sj_job::roots::Roots;
-use std::alloc::{AllocError, Global};
+use sj_job::track::Tracked;
+use sj_plan::count::count_pastes;
+use sj_plan::parts::Parts;
+use std::alloc::Global;
 
-/// The cells, tasks and deliveries so far. The cell of a root has the root's number.
+/// A root's active plan with the children that have a value, and the cell of its first child.
+#[derive(Drop)]
+pub struct Active {
+    pub tracked: Tracked,
+    pub first: u32,
+}
+
+/// The active plan of each root, the tasks and deliveries so far, and how many print statements there were.
 #[derive(Drop)]
 pub struct Lowerer {
-    pub cells: Vec<CellInfo>,
+    pub actives: Vec<Active>,
     pub tasks: Vec<Lowered>,
     pub deliveries: Vec<Delivery>,
     pub prints: u32,
 }
 
-/// The arguments of a `loadfill` of a whole root of so many columns.
-fn fill_arguments(alloc: Global, a: i64, b: i64, cols: u32) -> Result<Vec<i64>, OutOfMemory>
-    ensures { IfOk result (λ args. args.items ≡ fill_arguments a b cols) }
-{
-    Ok(Vec::from_array(alloc, [a, b, 0, 0, cols as i64])?)
-}
+impl Active {
+    /// The active plan and its cells. Constant time.
+    fn placed(&self) -> Placed
+        ensures parts { result.parts ≡ self.now.tracked.parts }
+        ensures first { result.first ≡ self.now.first }
+    {
+        Placed {
+            parts: self.tracked.parts(),
+            first: self.first,
+        }
+    }
 
-/// A task of the runtime's own codelets on one cell.
-fn own_task(
-    alloc: Global,
-    codelet: Codelet,
-    args: Sequence<i64>,
-    access: Access,
-    line: Line,
-) -> Result<Lowered, OutOfMemory>
-    ensures { IfOk result (λ task. task ≡ task_by codelet args access line) }
-{
-    let accesses = vec![in alloc; access]?;
-    Ok(Lowered {
-        codelet,
-        args,
-        accesses: Sequence::of(accesses),
-        line,
-        priority: 0,
-    })
-}
+    /// Whether a line with this plan gives no task: it is active already, or an element has no value. Constant time.
+    fn is_idle(&self, parts: Parts) -> bool
+        ensures { result ≡ (same_parts self.now.tracked.parts parts || not (all_valued self.now.tracked)) }
+    {
+        let active = self.tracked.parts();
+        (active.r == parts.r && active.c == parts.c) || !self.tracked.is_all()
+    }
 
-/// The cell of a root.
-fn cell_of(root: Root) -> Cell
-    ensures { result.0 ≡ root.0 }
-{
-    Cell(root.0)
-}
-
-fn access_by(operand: &Operand) -> Access
-    ensures { result ≡ access_by operand.now }
-{
-    Access {
-        mode: operand.mode,
-        cell: cell_of(operand.root),
+    /// Another plan is active from now on. Constant time.
+    fn plan(&mut self, placed: Placed)
+        requires plan { IsPlan placed.parts }
+        requires even { IsTrue (all_valued self.old.tracked || none_valued self.old.tracked) }
+        ensures tracked { self.new.tracked ≡ even placed.parts (all_valued self.old.tracked) }
+        ensures first { self.new.first ≡ placed.first }
+    {
+        self.tracked.plan(placed.parts);
+        self.first = placed.first;
     }
 }
 
-fn accesses(alloc: Global, operands: &[Operand]) -> Result<Vec<Access>, AllocError>
-    ensures { IfOk result (λ v. v.items ≡ map access_by operands.now) }
+/// How many tasks give a root's children their first elements. Constant time.
+fn count_first(init: &Init, parts: Parts) -> u64
+    ensures { (d : Dims) (cell : ℕ × ℕ → Cell) (line : Line) → result ≡ length (load_rows init.now d parts cell line) }
 {
-    operands.iter().map(|o| access_by(o)).collect(alloc)
+    let children = parts.r as u64 * parts.c as u64;
+    match init {
+        Init::Values(_) => children,
+        Init::Fill(_, _) => children,
+        Init::Nothing => 0,
+    }
+}
+
+/// Pastes the children of the active plan into those of another one, if it is another and the root has values. Linear in the
+/// pairs that overlap.
+fn push_plan(
+    tasks: &mut Vec<Lowered>,
+    alloc: Global,
+    dims: Dims,
+    active: &Active,
+    placed: Placed,
+    line: Line,
+) -> Result<(), OutOfMemory>
+    requires old_plan { Fits active.now.tracked.parts dims }
+    requires new_plan { Fits placed.parts dims }
+    requires old_cells { active.now.first + children_count active.now.tracked.parts ≤ most }
+    requires new_cells { placed.first + children_count placed.parts ≤ most }
+    ensures { OnOk result (tasks.new.items
+        ≡ tasks.old.items ++ pasted_by dims active.now placed.parts placed.first line) }
+{
+    let old = active.placed();
+    if old.parts == placed.parts || !active.tracked.is_all() {
+        return Ok(());
+    }
+    push_pastes(tasks, alloc, dims, old, placed, line)
+}
+
+/// The accesses of operands to the cells of their children. Linear in them.
+fn accesses(
+    alloc: Global,
+    actives: &[Active],
+    operands: &[Operand],
+) -> Result<Vec<Access>, OutOfMemory>
+    requires { All (AreIn actives.now) operands.now }
+    ensures { IfOk result (λ v. v.items ≡ map (access_by actives.now) operands.now) }
+{
+    let mut accesses = Vec::with_capacity(alloc, operands.len())?;
+    for operand in operands {
+        let placed = actives[operand.root.0 as usize].placed();
+        accesses.push(Access {
+            mode: operand.mode,
+            cell: placed.cell(operand.place),
+        })?;
+    }
+    Ok(accesses)
+}
+
+/// The children that a task writes have a value from now on. Linear in its operands.
+fn write_all(
+    actives: &mut Vec<Active>,
+    alloc: Global,
+    operands: &[Operand],
+) -> Result<(), OutOfMemory>
+    requires { All (AreIn actives.old.items) operands.now }
+    ensures { OnOk result (actives.new.items ≡ after_writes operands.now actives.old.items) }
+{
+    for operand in operands {
+        if operand.is_written() {
+            let active = &mut actives[operand.root.0 as usize];
+            active
+                .tracked
+                .write(alloc, operand.place.0, operand.place.1)?;
+        }
+    }
+    Ok(())
 }
 
 impl Lowerer {
     /// Before the first statement.
     pub fn nothing(alloc: Global) -> Lowerer
-        ensures { (T : Table) → Follows T result nothing }
+        ensures { (T : Table) → Follows T result start nothing }
     {
         Lowerer {
-            cells: Vec::new(alloc),
+            actives: Vec::new(alloc),
             tasks: Vec::new(alloc),
             deliveries: Vec::new(alloc),
             prints: 0,
         }
     }
 
-    /// Appends the task that gives a cell its first elements, where it has any. Constant time.
-    fn push_first_task(
-        &mut self,
-        alloc: Global,
-        init: Init,
-        info: RootInfo,
-        cell: Cell,
-        line: Line,
-    ) -> Result<(), OutOfMemory>
-        ensures { OnOk result (HasTasks self.old self.new
-            (self.old.tasks.items ++ first_tasks init info.dims cell line)) }
+    /// How many tasks a statement gives. Constant time, but for a plan line linear in its parts of rows and of columns.
+    pub fn count(&self, roots: &Roots, act: &Act) -> u64
+        requires { HasNext roots.now self.now act.now }
+        ensures { (S : State) (L : Lowering) (C : Cells) (line : Line) → IsNext roots.now self.now act.now S L
+            → result ≡ length (rows_of S C line (act_seen roots.now (vec_len self.now.actives) act.now)) }
     {
-        let access = Access {
-            mode: Mode::W,
-            cell,
-        };
-        match init {
-            Init::Values(values) => {
-                self.tasks
-                    .push(own_task(alloc, LOAD, values, access, line)?)?;
+        match act {
+            Act::Register(init) => {
+                let info = roots.info(Root(self.actives.len() as u32));
+                count_first(init, info.parts)
             }
-            Init::Fill(a, b) => {
-                let args = Sequence::of(fill_arguments(alloc, a, b, info.dims.cols)?);
-                self.tasks
-                    .push(own_task(alloc, LOADFILL, args, access, line)?)?;
+            Act::Plan(root, parts) => self.count_plan(roots, *root, *parts),
+            Act::Task(_) => 1,
+            Act::Print(root) => {
+                let parts = self.actives[root.0 as usize].tracked.parts();
+                parts.r as u64 * parts.c as u64
             }
-            Init::Nothing => {}
+            Act::Invalidate(_) | Act::Unregister(_) => 0,
         }
-        Ok(())
     }
 
-    /// A root with one cell, and the task that gives it its first elements. Constant time.
+    /// How many pastes a plan line gives.
+    fn count_plan(&self, roots: &Roots, root: Root, parts: Parts) -> u64
+        requires { HasNext roots.now self.now (kept.Plan root parts) }
+        ensures { (S : State) (L : Lowering) (C : Cells) (line : Line) → IsNext roots.now self.now (kept.Plan root parts) S L
+            → result ≡ length (rows_of S C line (act_seen roots.now (vec_len self.now.actives) (kept.Plan root parts))) }
+    {
+        let active = &self.actives[root.0 as usize];
+        if active.is_idle(parts) {
+            return 0;
+        }
+        count_pastes(roots.info(root).dims, active.tracked.parts(), parts)
+    }
+
+    /// A root whose children are loaded, if it has values. Linear in them.
     fn register(
         &mut self,
         alloc: Global,
-        info: RootInfo,
+        roots: &Roots,
         init: Init,
+        first: u32,
         line: Line,
     ) -> Result<(), OutOfMemory>
-        requires { vec_len self.old.cells < 4096 }
-        ensures grows { OnOk result (Grows self.old self.new (vec_len self.old.cells + 1)) }
-        ensures follows { OnOk result ((T : Table) (L : Lowering) → Follows T self.old L → AreDistinct T.names
-            → L.roots < length T.names → Follows T self.new
-            (lower_registration line (registration (name_of T (a_root L.roots)) info init) L)) }
+        requires next { HasNext roots.now self.old (kept.Register init) }
+        requires room { HasRoom roots.now (vec_len self.old.actives) (kept.Register init) first }
+        requires prints { self.old.prints ≤ vec_len self.old.tasks }
+        ensures does { OnOk result (Does roots.now self.old self.new (kept.Register init) first line) }
+        ensures prints { OnOk result (self.new.prints ≤ vec_len self.new.tasks) }
     {
-        let number = self.cells.len() as u32;
-        self.push_first_task(alloc, init, info, Cell(number), line)?;
-        self.cells.push(CellInfo {
-            root: Root(number),
-            dims: info.dims,
-            partials: None,
+        let info = roots.info(Root(self.actives.len() as u32));
+        let placed = Placed {
+            parts: info.parts,
+            first,
+        };
+        let valued = push_first(&mut self.tasks, alloc, info, placed, init, line)?;
+        self.actives.push(Active {
+            tracked: Tracked::even(info.parts, valued),
+            first,
         })?;
         Ok(())
     }
 
-    /// A task over the cells of its operands. Linear in them.
-    fn task(&mut self, alloc: Global, task: TaskLine, line: Line) -> Result<(), OutOfMemory>
-        ensures grows { OnOk result (Grows self.old self.new (vec_len self.old.cells)) }
-        ensures follows { OnOk result ((T : Table) (L : Lowering) → Follows T self.old L
-            → All (λ o. o.root.0 < L.roots) task.operands
-            → Follows T self.new (lower_task line (task_seen T task) L)) }
+    /// Another plan of a root, into whose children the old ones are pasted if the root has values. Linear in the pairs that
+    /// overlap.
+    fn plan(
+        &mut self,
+        alloc: Global,
+        roots: &Roots,
+        root: Root,
+        placed: Placed,
+        line: Line,
+    ) -> Result<(), OutOfMemory>
+        requires next { HasNext roots.now self.old (kept.Plan root placed.parts) }
+        requires room { HasRoom roots.now (vec_len self.old.actives) (kept.Plan root placed.parts) placed.first }
+        requires prints { self.old.prints ≤ vec_len self.old.tasks }
+        ensures does { OnOk result (Does roots.now self.old self.new (kept.Plan root placed.parts) placed.first line) }
+        ensures prints { OnOk result (self.new.prints ≤ vec_len self.new.tasks) }
     {
-        let accesses = accesses(alloc, task.operands.items())?;
+        let dims = roots.info(root).dims;
+        let active = &self.actives[root.0 as usize];
+        push_plan(&mut self.tasks, alloc, dims, active, placed, line)?;
+        self.actives[root.0 as usize].plan(placed);
+        Ok(())
+    }
+
+    /// A task over the cells of its operands. Linear in them.
+    fn task(
+        &mut self,
+        alloc: Global,
+        roots: &Roots,
+        task: TaskLine,
+        line: Line,
+    ) -> Result<(), OutOfMemory>
+        requires next { HasNext roots.now self.old (kept.Task task) }
+        requires prints { self.old.prints ≤ vec_len self.old.tasks }
+        ensures does { OnOk result (Does roots.now self.old self.new (kept.Task task) 0 line) }
+        ensures prints { OnOk result (self.new.prints ≤ vec_len self.new.tasks) }
+    {
+        let operands = task.operands.items();
+        let accesses = accesses(alloc, &self.actives, operands)?;
+        write_all(&mut self.actives, alloc, operands)?;
         self.tasks.push(Lowered {
             codelet: task.kernel.id(),
             args: task.args,
@@ -160,72 +279,103 @@ impl Lowerer {
         Ok(())
     }
 
-    /// A task that hands over the cell of a root. Constant time.
-    fn print(&mut self, alloc: Global, root: Root, line: Line) -> Result<(), OutOfMemory>
-        requires tasks { vec_len self.old.tasks < 262144 }
-        requires prints { self.old.prints < 262144 }
-        ensures grows { OnOk result (Grows self.old self.new (vec_len self.old.cells)) }
-        ensures follows { OnOk result ((T : Table) (L : Lowering) → Follows T self.old L → root.0 < L.roots
-            → Follows T self.new (lower_print line (name_of T root) L)) }
+    /// Tasks that hand over the children of a root. Linear in them.
+    fn print(
+        &mut self,
+        alloc: Global,
+        roots: &Roots,
+        root: Root,
+        line: Line,
+    ) -> Result<(), OutOfMemory>
+        requires next { HasNext roots.now self.old (kept.Print root) }
+        requires few { (S : State) (L : Lowering) (C : Cells) → IsNext roots.now self.old (kept.Print root) S L
+            → vec_len self.old.tasks + length (rows_of S C line (act_seen roots.now (vec_len self.old.actives) (kept.Print root))) ≤ most }
+        requires prints { self.old.prints ≤ vec_len self.old.tasks }
+        ensures does { OnOk result (Does roots.now self.old self.new (kept.Print root) 0 line) }
+        ensures prints { OnOk result (self.new.prints ≤ vec_len self.new.tasks) }
     {
-        let access = Access {
-            mode: Mode::R,
-            cell: cell_of(root),
-        };
-        let task = Task(self.tasks.len() as u32);
-        let args = Sequence::of(Vec::new(alloc));
-        self.tasks
-            .push(own_task(alloc, DELIVER, args, access, line)?)?;
-        self.deliveries.push(Delivery {
-            task,
+        let placed = self.actives[root.0 as usize].placed();
+        let dims = roots.info(root).dims;
+        let task = self.tasks.len() as u32;
+        push_delivers(&mut self.tasks, alloc, placed, line)?;
+        push_deliveries(
+            &mut self.deliveries,
+            alloc,
             root,
-            place: (0, 0),
-            print: self.prints,
-        })?;
+            dims,
+            placed.parts,
+            task,
+            self.prints,
+        )?;
         self.prints += 1;
         Ok(())
     }
 
-    /// Lowers one statement more. Linear in its operands.
+    /// A root without values.
+    fn invalidate(&mut self, roots: &Roots, root: Root, line: Line)
+        requires next { HasNext roots.now self.old (kept.Invalidate root) }
+        ensures does { Does roots.now self.old self.new (kept.Invalidate root) 0 line }
+        ensures prints { self.new.prints ≡ self.old.prints }
+        ensures tasks { self.new.tasks ≡ self.old.tasks }
+    {
+        self.actives[root.0 as usize].tracked.invalidate();
+    }
+
+    /// Lowers one statement more, where the plan that it makes active has its cells from `first` on. Linear in its operands, and
+    /// in the tasks that it gives.
     pub fn add(
         &mut self,
         alloc: Global,
         roots: &Roots,
-        statement: Statement,
+        act: Act,
+        first: u32,
+        line: Line,
     ) -> Result<(), OutOfMemory>
-        requires tasks { vec_len self.old.tasks < 262144 }
+        requires next { HasNext roots.now self.old act }
+        requires room { HasRoom roots.now (vec_len self.old.actives) act first }
+        requires few { (S : State) (L : Lowering) (C : Cells) → IsNext roots.now self.old act S L
+            → vec_len self.old.tasks + length (rows_of S C line (act_seen roots.now (vec_len self.old.actives) act)) ≤ most }
         requires prints { self.old.prints ≤ vec_len self.old.tasks }
-        requires fits { count_after (vec_len self.old.cells) statement.act ≤ length roots.now.names }
-        requires placed { IsPlaced (vec_len self.old.cells) statement.act }
-        ensures follows { OnOk result ((L : Lowering) → Follows roots.now self.old L → Follows roots.now self.new
-            (lower_one (statement_seen roots.now (vec_len self.old.cells) statement) L)) }
-        ensures grows { OnOk result (Grows self.old self.new
-            (count_after (vec_len self.old.cells) statement.act)) }
+        ensures does { OnOk result (Does roots.now self.old self.new act first line) }
+        ensures prints { OnOk result (self.new.prints ≤ vec_len self.new.tasks) }
     {
-        let Statement { line, act } = statement;
         match act {
-            Act::Register(init) => {
-                let count = roots.len();
-                let number = self.cells.len();
-                prove!(number < count);
-                let info = roots.info(Root(number as u32));
-                self.register(alloc, info, init, line)
-            }
-            Act::Task(task) => self.task(alloc, task, line),
-            Act::Print(root) => self.print(alloc, root, line),
-            Act::Invalidate(_) | Act::Unregister(_) => Ok(()),
+            Act::Register(init) => self.register(alloc, roots, init, first, line)?,
+            Act::Plan(root, parts) => self.plan(alloc, roots, root, Placed { parts, first }, line)?,
+            Act::Task(task) => self.task(alloc, roots, task, line)?,
+            Act::Print(root) => self.print(alloc, roots, root, line)?,
+            Act::Invalidate(root) => self.invalidate(roots, root, line),
+            Act::Unregister(_) => {}
         }
+        Ok(())
     }
+}
 
-    /// The program of the statements so far. Constant time.
-    pub fn program(self, workers: u8) -> Program
-        ensures { (T : Table) (L : Lowering) → Follows T self L → result ≡ program_of workers L }
-    {
-        Program {
-            cells: Sequence::of(self.cells),
-            tasks: Sequence::of(self.tasks),
-            deliveries: Sequence::of(self.deliveries),
-            workers,
+/// The tasks that give a root's children their first elements; whether there are any. Linear in them.
+fn push_first(
+    tasks: &mut Vec<Lowered>,
+    alloc: Global,
+    info: RootInfo,
+    placed: Placed,
+    init: Init,
+    line: Line,
+) -> Result<bool, OutOfMemory>
+    requires plan { Fits placed.parts info.dims }
+    requires cells { placed.first + children_count placed.parts ≤ most }
+    requires values { InitFits init info.dims }
+    ensures tasks { OnOk result (tasks.new.items ≡ tasks.old.items
+        ++ load_rows init info.dims placed.parts (cells_from placed.first placed.parts) line) }
+    ensures valued { IfOk result (λ valued. valued ≡ gives_values init) }
+{
+    match init {
+        Init::Values(values) => {
+            push_loads(tasks, alloc, info.dims, placed, values, line)?;
+            Ok(true)
         }
+        Init::Fill(a, b) => {
+            push_fills(tasks, alloc, info.dims, placed, (a, b), line)?;
+            Ok(true)
+        }
+        Init::Nothing => Ok(false),
     }
 }

@@ -1,6 +1,7 @@
 //! Worked examples, by hand.
 
 ghost use Rattle.std.specs.Prelude.{◌≡◌, [], ◌∷◌, IsTrue, IfOk};
+ghost use Rattle.sj_base.specs.Array.{zeros};
 ghost use Rattle.sj_codelet.specs.Kernel.{fits_in};
 ghost use Rattle.sj_codelet.specs.Frame.{all_dims, own, shared};
 ghost use Rattle.sj_codelet.specs.Runs.{IsReadyFor};
@@ -19,7 +20,8 @@ use sj_base::program::Codelet;
 use sj_base::tile::{Dims, Tile};
 use sj_codelet::frame::Frame;
 use sj_codelet::kernel::{
-    ADD, FWCOL, FWDIAG, FWROW, INIT_LEAST, INIT_PLUS, LOWEST, MINGEMM, PASTE, SUM,
+    ADD, AXPY, BUTTERFLY, COPY, DELIVER, DOT, FILL, FWCOL, FWDIAG, FWROW, GEMM, GEMM3, INIT_LEAST,
+    INIT_PLUS, LOAD, LOADFILL, LOWEST, MINGEMM, PASTE, SCALE, SUM, TRANSPOSE,
 };
 use sj_codelet::set::Codelets;
 use std::alloc::Global;
@@ -259,42 +261,103 @@ fn products_of_short_and_of_any_numbers_are_as_one_sum_after_another(rt: HostRun
 fn ends_as(
     alloc: Global,
     id: Codelet,
+    args: &[i64],
     frame: &mut Frame,
     elements: &[i64],
 ) -> Result<bool, OutOfMemory>
-    requires fits { IsTrue (fits_in library_has id [] (all_dims frame.old.slots)) }
+    requires fits { IsTrue (fits_in library_has id args.now (all_dims frame.old.slots)) }
     requires ready { IsReadyFor id frame.old.slots }
 {
-    Library.run(alloc, id, &[], frame)?;
+    Library.run(alloc, id, args, frame)?;
     let n = frame.len();
     Ok(n > 0 && frame.tile(n - 1).elements() == elements)
 }
 
 /// The same of a tile alone.
-fn alone(alloc: Global, id: Codelet, x: Tile, elements: &[i64]) -> Result<bool, OutOfMemory>
-    requires fits { IsTrue (fits_in library_has id [] (x.dims ∷ [])) }
+fn alone(
+    alloc: Global,
+    id: Codelet,
+    args: &[i64],
+    x: Tile,
+    elements: &[i64],
+) -> Result<bool, OutOfMemory>
+    requires fits { IsTrue (fits_in library_has id args.now (x.dims ∷ [])) }
     requires ready { IsReadyFor id (own x ∷ []) }
 {
     let mut frame = Frame::with_room(alloc, 1)?;
     frame.push_own(x);
-    ends_as(alloc, id, &mut frame, elements)
+    ends_as(alloc, id, args, &mut frame, elements)
 }
 
 /// The same of a tile beside one that is only read.
 fn beside(
     alloc: Global,
     id: Codelet,
+    args: &[i64],
     d: Tile,
     x: Tile,
     elements: &[i64],
 ) -> Result<bool, OutOfMemory>
-    requires fits { IsTrue (fits_in library_has id [] (d.dims ∷ x.dims ∷ [])) }
+    requires fits { IsTrue (fits_in library_has id args.now (d.dims ∷ x.dims ∷ [])) }
     requires ready { IsReadyFor id (shared d ∷ own x ∷ []) }
 {
     let mut frame = Frame::with_room(alloc, 2)?;
     frame.push_shared(Arc::new(alloc, d)?);
     frame.push_own(x);
-    ends_as(alloc, id, &mut frame, elements)
+    ends_as(alloc, id, args, &mut frame, elements)
+}
+
+/// The same of a tile beside two that are only read.
+fn beside_two(
+    alloc: Global,
+    id: Codelet,
+    a: Tile,
+    b: Tile,
+    x: Tile,
+    elements: &[i64],
+) -> Result<bool, OutOfMemory>
+    requires fits { IsTrue (fits_in library_has id [] (a.dims ∷ b.dims ∷ x.dims ∷ [])) }
+    requires ready { IsReadyFor id (shared a ∷ shared b ∷ own x ∷ []) }
+{
+    let mut frame = Frame::with_room(alloc, 3)?;
+    frame.push_shared(Arc::new(alloc, a)?);
+    frame.push_shared(Arc::new(alloc, b)?);
+    frame.push_own(x);
+    ends_as(alloc, id, &[], &mut frame, elements)
+}
+
+/// The differences of two tiles that a butterfly changes.
+fn differences(alloc: Global, x: Tile, y: Tile, elements: &[i64]) -> Result<bool, OutOfMemory>
+    requires x { x.dims ≡ record { rows = 1; cols = 2 } }
+    requires y { y.dims ≡ record { rows = 1; cols = 2 } }
+{
+    let mut frame = Frame::with_room(alloc, 2)?;
+    frame.push_own(x);
+    frame.push_own(y);
+    ends_as(alloc, BUTTERFLY, &[], &mut frame, elements)
+}
+
+/// The product of three tiles, and what stood there.
+fn multiplied_twice(
+    alloc: Global,
+    a: Tile,
+    b: Tile,
+    d: Tile,
+    c: Tile,
+    elements: &[i64],
+) -> Result<bool, OutOfMemory>
+    requires a { a.dims ≡ record { rows = 1; cols = 1 } }
+    requires b { b.dims ≡ record { rows = 1; cols = 1 } }
+    requires d { d.dims ≡ record { rows = 1; cols = 2 } }
+    requires c { c.dims ≡ record { rows = 1; cols = 2 } }
+{
+    let mut frame = Frame::with_room(alloc, 5)?;
+    frame.push_shared(Arc::new(alloc, a)?);
+    frame.push_shared(Arc::new(alloc, b)?);
+    frame.push_shared(Arc::new(alloc, d)?);
+    frame.push_own(Tile::zeros(alloc, Dims { rows: 1, cols: 1 })?);
+    frame.push_own(c);
+    ends_as(alloc, GEMM3, &[], &mut frame, elements)
 }
 
 /// A tile of one row and two columns.
@@ -311,94 +374,95 @@ fn single(alloc: Global, element: i64) -> Result<Tile, OutOfMemory>
     Ok(Tile::of(Dims { rows: 1, cols: 1 }, vec![in alloc; element]?))
 }
 
+/// A tile of two rows and one column.
+fn column(alloc: Global, first: i64, second: i64) -> Result<Tile, OutOfMemory>
+    ensures { IfOk result (λ t. t.dims ≡ record { rows = 2; cols = 1 }) }
+{
+    Ok(Tile::of(Dims { rows: 2, cols: 1 }, vec![in alloc; first, second]?))
+}
+
+/// Two zeros in a row.
+fn zeros(alloc: Global) -> Result<Tile, OutOfMemory>
+    ensures { IfOk result (λ t. t ≡ zeros (record { rows = 1; cols = 2 })) }
+{
+    Tile::zeros(alloc, Dims { rows: 1, cols: 2 })
+}
+
 #[test]
 fn the_library_runs_each_codelet_of_min_plus(rt: HostRuntime) -> Result<(), OutOfMemory> {
     let alloc = rt.alloc();
-    let unit = Tile::zeros(alloc, Dims { rows: 1, cols: 2 })?;
-    assert!(rt; alone(alloc, INIT_LEAST, unit, &[INF, INF])?);
+    assert!(rt; alone(alloc, INIT_LEAST, &[], zeros(alloc)?, &[INF, INF])?);
     let block = single(alloc, -3)?;
-    assert!(rt; alone(alloc, FWDIAG, block, &[-6])?);
+    assert!(rt; alone(alloc, FWDIAG, &[], block, &[-6])?);
     let (x, y) = (pair(alloc, 3, INF)?, pair(alloc, 5, 4)?);
-    assert!(rt; beside(alloc, LOWEST, x, y, &[3, 4])?);
+    assert!(rt; beside(alloc, LOWEST, &[], x, y, &[3, 4])?);
     let (d, row) = (single(alloc, -1)?, pair(alloc, 5, INF)?);
-    assert!(rt; beside(alloc, FWROW, d, row, &[4, INF])?);
-    let (d, column) = (single(alloc, -1)?, single(alloc, 5)?);
-    assert!(rt; beside(alloc, FWCOL, d, column, &[4])?);
-    Ok(())
-}
-
-/// The min-plus product of a row and a column, as the library runs it on a task's frame.
-fn product_on_a_frame(alloc: Global, a: Tile, b: Tile, c: Tile) -> Result<Tile, OutOfMemory>
-    requires a { a.dims ≡ record { rows = 1; cols = 2 } }
-    requires b { b.dims ≡ record { rows = 2; cols = 1 } }
-    requires c { c.dims ≡ record { rows = 1; cols = 1 } }
-{
-    let mut frame = Frame::with_room(alloc, 3)?;
-    frame.push_shared(Arc::new(alloc, a)?);
-    frame.push_shared(Arc::new(alloc, b)?);
-    frame.push_own(c);
-    Library.run(alloc, MINGEMM, &[], &mut frame)?;
-    Ok(frame.take_own())
-}
-
-#[test]
-fn the_library_runs_a_product_on_a_frame(rt: HostRuntime) -> Result<(), OutOfMemory> {
-    let alloc = rt.alloc();
-    let a = Tile::of(
-        Dims { rows: 1, cols: 2 },
-        vec![in alloc; INF, 9223372036854775800]?,
+    assert!(rt; beside(alloc, FWROW, &[], d, row, &[4, INF])?);
+    let (d, block) = (single(alloc, -1)?, single(alloc, 5)?);
+    assert!(rt; beside(alloc, FWCOL, &[], d, block, &[4])?);
+    let (a, b) = (
+        pair(alloc, INF, 9223372036854775800)?,
+        column(alloc, 5, 100)?,
     );
-    let b = Tile::of(Dims { rows: 2, cols: 1 }, vec![in alloc; 5i64, 100]?);
-    let c = Tile::of(Dims { rows: 1, cols: 1 }, vec![in alloc; INF]?);
-    let c = product_on_a_frame(alloc, a, b, c)?;
-    assert_eq!(rt; c.elements(), [9223372036854775806i64].as_slice());
+    let c = single(alloc, INF)?;
+    assert!(rt; beside_two(alloc, MINGEMM, a, b, c, &[TOP])?);
     Ok(())
 }
 
-/// The sum of two single elements, as the library runs a codelet of ring arithmetic on a task's frame.
-fn sum_on_a_frame(alloc: Global, a: Tile, b: Tile) -> Result<Tile, OutOfMemory>
-    requires a { a.dims ≡ record { rows = 1; cols = 1 } }
-    requires b { b.dims ≡ record { rows = 1; cols = 1 } }
-{
-    let mut frame = Frame::with_room(alloc, 2)?;
-    frame.push_shared(Arc::new(alloc, a)?);
-    frame.push_own(b);
-    Library.run(alloc, ADD, &[], &mut frame)?;
-    Ok(frame.take_own())
-}
-
 #[test]
-fn the_library_runs_a_ring_codelet_on_a_frame(rt: HostRuntime) -> Result<(), OutOfMemory> {
+fn the_library_makes_elements(rt: HostRuntime) -> Result<(), OutOfMemory> {
     let alloc = rt.alloc();
-    let dims = Dims { rows: 1, cols: 1 };
-    let a = Tile::of(dims, vec![in alloc; INF]?);
-    let b = Tile::of(dims, vec![in alloc; 3i64]?);
-    let b = sum_on_a_frame(alloc, a, b)?;
-    assert_eq!(rt; b.elements(), [LEAST + 2].as_slice());
+    assert!(rt; alone(alloc, FILL, &[7, 2], zeros(alloc)?, &[7, 9])?);
+    assert!(rt; alone(alloc, LOAD, &[5, -6], zeros(alloc)?, &[5, -6])?);
+    let place = [100, 10, 1, 2, 5];
+    assert!(rt; alone(alloc, LOADFILL, &place, zeros(alloc)?, &[170, 180])?);
+    assert!(rt; alone(alloc, INIT_PLUS, &[], zeros(alloc)?, &[0, 0])?);
     Ok(())
 }
 
-/// The first element of a pair pasted over the second one of another, as the library runs it on a task's frame.
-fn paste_on_a_frame(alloc: Global, old: Tile, new: Tile) -> Result<Tile, OutOfMemory>
-    requires old { old.dims ≡ record { rows = 1; cols = 2 } }
-    requires new { new.dims ≡ record { rows = 1; cols = 2 } }
-{
-    let mut frame = Frame::with_room(alloc, 2)?;
-    frame.push_shared(Arc::new(alloc, old)?);
-    frame.push_own(new);
-    Library.run(alloc, PASTE, &[0, 0, 0, 1, 1, 1], &mut frame)?;
-    Ok(frame.take_own())
+#[test]
+fn the_library_changes_elements(rt: HostRuntime) -> Result<(), OutOfMemory> {
+    let alloc = rt.alloc();
+    let x = pair(alloc, 4, -5)?;
+    assert!(rt; alone(alloc, SCALE, &[3], x, &[12, -15])?);
+    let x = pair(alloc, 3, 4)?;
+    assert!(rt; alone(alloc, DELIVER, &[], x, &[3, 4])?);
+    let (x, y) = (pair(alloc, i64::MAX, 4)?, pair(alloc, 1, -6)?);
+    assert!(rt; beside(alloc, ADD, &[], x, y, &[LEAST, -2])?);
+    let (x, y) = (pair(alloc, 5, 6)?, pair(alloc, 1, 2)?);
+    assert!(rt; beside(alloc, AXPY, &[2], x, y, &[11, 14])?);
+    let (x, y) = (pair(alloc, 5, 6)?, pair(alloc, 1, 2)?);
+    assert!(rt; differences(alloc, x, y, &[4, 4])?);
+    Ok(())
 }
 
 #[test]
-fn the_library_runs_the_codelets_of_the_ring_that_no_job_names(
-    rt: HostRuntime,
-) -> Result<(), OutOfMemory> {
+fn the_library_moves_elements(rt: HostRuntime) -> Result<(), OutOfMemory> {
     let alloc = rt.alloc();
-    let unit = Tile::zeros(alloc, Dims { rows: 1, cols: 2 })?;
-    assert!(rt; alone(alloc, INIT_PLUS, unit, &[0, 0])?);
-    let pasted = paste_on_a_frame(alloc, pair(alloc, 5, -6)?, pair(alloc, 1, 2)?)?;
-    assert_eq!(rt; pasted.elements(), [1i64, 5].as_slice());
+    let x = pair(alloc, 5, -6)?;
+    assert!(rt; beside(alloc, COPY, &[], x, zeros(alloc)?, &[5, -6])?);
+    let x = pair(alloc, 5, -6)?;
+    let turned = Tile::zeros(alloc, Dims { rows: 2, cols: 1 })?;
+    assert!(rt; beside(alloc, TRANSPOSE, &[], x, turned, &[5, -6])?);
+    let (old, new) = (pair(alloc, 5, -6)?, pair(alloc, 1, 2)?);
+    assert!(rt; beside(alloc, PASTE, &[0, 0, 0, 1, 1, 1], old, new, &[1, 5])?);
+    Ok(())
+}
+
+#[test]
+fn the_library_multiplies_and_sums(rt: HostRuntime) -> Result<(), OutOfMemory> {
+    let alloc = rt.alloc();
+    let (a, b) = (single(alloc, 3)?, pair(alloc, 5, 6)?);
+    let c = pair(alloc, 1, 2)?;
+    assert!(rt; beside_two(alloc, GEMM, a, b, c, &[16, 20])?);
+    let (a, b) = (single(alloc, 3)?, single(alloc, 2)?);
+    let (d, c) = (pair(alloc, 5, 6)?, pair(alloc, 1, 2)?);
+    assert!(rt; multiplied_twice(alloc, a, b, d, c, &[31, 38])?);
+    let (x, y) = (pair(alloc, 3, 4)?, pair(alloc, 5, 6)?);
+    let s = single(alloc, 1)?;
+    assert!(rt; beside_two(alloc, DOT, x, y, s, &[40])?);
+    let (x, s) = (pair(alloc, 3, 4)?, single(alloc, 1)?);
+    assert!(rt; beside(alloc, SUM, &[], x, s, &[8])?);
     Ok(())
 }
 

@@ -18,7 +18,7 @@ use Rattle.starjob.specs.declared.status.Status.TheVariants.{Done, Usage, Refuse
 use Rattle.starjob.specs.declared.source_text.Unread.{Unread}
 use Rattle.starjob.specs.Device.{Device}
 use Rattle.starjob.specs.Streams.{IsRead, TakesPrefix, is_fault}
-use Rattle.starjob.specs.Top.{Answered, AnsweredText, HoldsJob, IsDoneOrOutOfMemory, JobOrRefusal, MemoryRanOut, PrintsNothing, RunsText, TellsSilentJob, TellsSoundJob, text_of}
+use Rattle.starjob.specs.Top.{Answered, AnsweredText, HoldsJob, IsDoneOrOutOfMemory, JobOrRefusal, MemoryRanOut, PrintsNothing, RunsText, TellsSilentJob, TellsSoundJob, sound_job_of, text_of, within_limits}
 use Rattle.starjob.specs.Traces.{Began, RanWhole}
 use Rattle.starjob.proofs.Tracing.{began_empty}
 use Rattle.sj_job.specs.Reading.{IsRefusal, Refusal, refusal, reading_header, job_of, text_limit}
@@ -66,31 +66,36 @@ short has text ok = by_length (nat_lt text_limit (length text)) refl
         absurd (refused_ok (job_of has text) _ (too_long has text lt) ok)
     by_length false e = grind (arith, nat_tests)
 
+-- nor one that is within all limits
+sound-ok : (job : JobOrRefusal) → IsOk (within_limits job) → IsOk job
+sound-ok (Ok ss) h = refl
+sound-ok (Err e) h = h
+
 module _ (has : Kernel → Bool) (source source' out out' : Device) (text : List ℕ) (trace : List Event)
     (same : IfSome source.bytes (λ whole. job_of has whole ≡ job_of has text)) (read : IsRead source source') (end : length text ≤ text_limit → IsAtEnd source'.bytes) where
   -- what is true of the job of the text that was read is true of the job that the source holds
-  holds : (P : JobOrRefusal → Type 0) → P (job_of has text) → HoldsJob has source P
+  holds : (P : JobOrRefusal → Type 0) → P (sound_job_of has text) → HoldsJob has source P
   holds P h = by_bytes source.bytes same
     where
-      by_bytes : (bytes : Option (List ℕ)) → IfSome bytes (λ whole. job_of has whole ≡ job_of has text) → IfSome bytes (λ whole. P (job_of has whole))
+      by_bytes : (bytes : Option (List ℕ)) → IfSome bytes (λ whole. job_of has whole ≡ job_of has text) → IfSome bytes (λ whole. P (sound_job_of has whole))
       by_bytes None e = tt
-      by_bytes (Some whole) e = subst P (sym e) h
+      by_bytes (Some whole) e = subst P (sym (ap within_limits e)) h
 
-  pub answered-by : (status : Status) → AnsweredText (job_of has text) status out out' trace → Answered has status source source' out out' trace
+  pub answered-by : (status : Status) → AnsweredText (sound_job_of has text) status out out' trace → Answered has status source source' out out' trace
   answered-by Done a =
-      let p = both_of (λ ss. Appends out.bytes out'.bytes (text_of ss)) (λ ss. RanWhole ss trace) (job_of has text) a.0 in
+      let p = both_of (λ ss. Appends out.bytes out'.bytes (text_of ss)) (λ ss. RanWhole ss trace) (sound_job_of has text) a.0 in
       record {
         printed = holds (λ job. IsOkAnd job (λ ss. Appends out.bytes out'.bytes (text_of ss))) p.0;
         each_task_ran_once = holds (λ job. IsOkAnd job (λ ss. RanWhole ss trace)) p.1;
         read = read;
-        read_to_the_end = end (short has text (is_ok _ (job_of has text) p.0));
+        read_to_the_end = end (short has text (sound-ok (job_of has text) (is_ok _ (sound_job_of has text) p.0)));
         out_never_failed = a.1;
       }
   answered-by Usage a = a
   answered-by (Refused line reason) a = record { cause = holds (λ job. job ≡ Err (record { line = line; reason = reason })) a.0; read = read; nothing_ran = a.1 }
   answered-by SourceFault a = absurd a
   answered-by SinkFault a =
-      let p = both_of (λ ss. TakesPrefix out.bytes out'.bytes (text_of ss)) (λ ss. RanWhole ss trace) (job_of has text) a.0 in
+      let p = both_of (λ ss. TakesPrefix out.bytes out'.bytes (text_of ss)) (λ ss. RanWhole ss trace) (sound_job_of has text) a.0 in
       record { cause = a.1; front = holds (λ job. IsOkAnd job (λ ss. TakesPrefix out.bytes out'.bytes (text_of ss))) p.0; each_task_ran_once = holds (λ job. IsOkAnd job (λ ss. RanWhole ss trace)) p.1; read = read }
   answered-by OutOfMemory a = record { ran = holds (λ job. Began job trace) a; source_never_failed = read.never_failed }
 
@@ -98,17 +103,17 @@ module _ (has : Kernel → Bool) (source source' out out' : Device) (text : List
 pub unread-memory : (has : Kernel → Bool) (source source' : Device) (trace : List Event) → trace ≡ [] → source'.faults ≡ source.faults → MemoryRanOut has source source' trace
 unread-memory has source source' trace e same = record { ran = by_bytes source.bytes; source_never_failed = same }
   where
-    by_bytes : (bytes : Option (List ℕ)) → IfSome bytes (λ text. Began (job_of has text) trace)
+    by_bytes : (bytes : Option (List ℕ)) → IfSome bytes (λ text. Began (sound_job_of has text) trace)
     by_bytes None = tt
-    by_bytes (Some text) = began_empty (job_of has text) trace e
+    by_bytes (Some text) = began_empty (sound_job_of has text) trace e
 
 -- what the source holds is silent where what was read of it is
-pub silent-by : (has : Kernel → Bool) (source : Device) (text : List ℕ) → IfSome source.bytes (λ whole. job_of has whole ≡ job_of has text) → TellsSilentJob has source → PrintsNothing (job_of has text)
+pub silent-by : (has : Kernel → Bool) (source : Device) (text : List ℕ) → IfSome source.bytes (λ whole. job_of has whole ≡ job_of has text) → TellsSilentJob has source → PrintsNothing (sound_job_of has text)
 silent-by has source text same h = by_bytes source.bytes same h
   where
-    by_bytes : (bytes : Option (List ℕ)) → IfSome bytes (λ whole. job_of has whole ≡ job_of has text) → IsSomeAnd bytes (λ whole. PrintsNothing (job_of has whole)) → PrintsNothing (job_of has text)
+    by_bytes : (bytes : Option (List ℕ)) → IfSome bytes (λ whole. job_of has whole ≡ job_of has text) → IsSomeAnd bytes (λ whole. PrintsNothing (sound_job_of has whole)) → PrintsNothing (sound_job_of has text)
     by_bytes None e h = absurd h
-    by_bytes (Some whole) e h = subst PrintsNothing e h
+    by_bytes (Some whole) e h = subst PrintsNothing (ap within_limits e) h
 
 -- a job that isn't refused, on devices that don't fail, is done, unless memory runs out
 pub complete-by : (has : Kernel → Bool) (status : Status) (source source' out out' : Device) (trace : List Event) → Answered has status source source' out out' trace → TellsSoundJob has source → (Rose source.faults source'.faults → ⊥) → (Rose out.faults out'.faults → ⊥) → IsDoneOrOutOfMemory status
@@ -116,9 +121,9 @@ complete-by has Done source source' out out' trace a o s k = tt
 complete-by has Usage source source' out out' trace a o s k = absurd a
 complete-by has (Refused line reason) source source' out out' trace a o s k = by_bytes source.bytes a.cause o
   where
-    by_bytes : (bytes : Option (List ℕ)) → IfSome bytes (λ text. job_of has text ≡ Err (record { line = line; reason = reason })) → IsSomeAnd bytes (λ text. IsOk (job_of has text)) → IsDoneOrOutOfMemory (Refused line reason)
+    by_bytes : (bytes : Option (List ℕ)) → IfSome bytes (λ text. sound_job_of has text ≡ Err (record { line = line; reason = reason })) → IsSomeAnd bytes (λ text. IsOk (sound_job_of has text)) → IsDoneOrOutOfMemory (Refused line reason)
     by_bytes None e h = absurd h
-    by_bytes (Some text) e h = absurd (refused_ok (job_of has text) _ e h)
+    by_bytes (Some text) e h = absurd (refused_ok (sound_job_of has text) _ e h)
 complete-by has SourceFault source source' out out' trace a o s k = absurd (s a.cause.count_rose)
 complete-by has SinkFault source source' out out' trace a o s k = absurd (k a.cause.count_rose)
 complete-by has OutOfMemory source source' out out' trace a o s k = tt
@@ -142,6 +147,9 @@ read-by (Ok text) source source' bound taken end same = record { taken = by_byte
             ap (λ l. drop (text_limit + 1) (text.items ++ l)) (e le) ∙ drop_all (text_limit + 1) (text.items ++ []) (omega (arith, length-append text.items [])) ∙ sym (e le)
 
 -- a text that wasn't run, and no event
-pub refused-runs : (job : JobOrRefusal) (e : ReadRefusal) (trace : List Event) → IsRefusal e job → trace ≡ [] → RunsText job (Err e) trace
+refused-runs : (job : JobOrRefusal) (e : ReadRefusal) (trace : List Event) → IsRefusal e job → trace ≡ [] → RunsText job (Err e) trace
 refused-runs job (Bad line reason) trace h none = (h, none)
 refused-runs job NoMemory trace h none = began_empty job trace none
+
+pub not-run : (job : JobOrRefusal) (e : ReadRefusal) (text : Result (Vec ℕ Global) ReadRefusal) (trace : List Event) → text ≡ Err e → IsRefusal e job → trace ≡ [] → RunsText job text trace
+not-run job e text trace is h none = subst (λ (r : Result (Vec ℕ Global) ReadRefusal). RunsText job r trace) (sym is) (refused-runs job e trace h none)

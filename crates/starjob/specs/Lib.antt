@@ -1,6 +1,7 @@
 pub mod Device
+pub mod Gathering
 pub mod Output
-pub mod Printing
+pub mod Refused
 pub mod Report
 pub mod Status
 pub mod Streams

@@ -27,6 +27,10 @@ block_of Matrix name a =
     name ++ codes " " ++ decimal a.dims.rows ++ codes " " ++ decimal a.dims.cols ++ codes ":\n"
     ++ flat_map row_text (rows_of a)
 
+-- what is written for what a print statement finds
+abbrev pub printed_block : Printed → List ℕ
+printed_block p = block_of p.kind p.name p.array
+
 -- what is written for the arrays that a job prints, in order
 abbrev pub output : List Printed → List ℕ
-output ps = flat_map (λ p. block_of p.kind p.name p.array) ps
+output ps = flat_map printed_block ps

@@ -1,5 +1,5 @@
 -- What the program's call promises, by how it ended.
-use Rattle.std.specs.Prelude.{◌≡◌, ℕ, Bool, IfSome, IsSomeAnd, Result, Ok, Err, IsOk, IsOkAnd, List, [], Vec}
+use Rattle.std.specs.Prelude.{◌≡◌, ℕ, Bool, Some, None, IfSome, IsSomeAnd, Result, Ok, Err, IsOk, IsOkAnd, List, [], Vec}
 use Rattle.std.specs.declared.alloc.Global.{Global}
 use Rattle.std.specs.Io.KnownBytes.{Appends, IsAtEnd}
 use Rattle.sj_base.specs.declared.trace.Event.{Event}
@@ -11,6 +11,7 @@ use Rattle.sj_job.specs.declared.reason.ReadRefusal.{ReadRefusal}
 use Rattle.sj_job.specs.declared.reason.ReadRefusal.TheVariants.{Refused as Bad, OutOfMemory as NoMemory}
 use Rattle.sj_job.specs.Meaning.{printed}
 use Rattle.sj_job.specs.Reading.{Refusal, job_of}
+use Rattle.sj_lower.specs.Limits.{late_limit}
 use Rattle.starjob.specs.declared.status.Status.{Status}
 use Rattle.starjob.specs.declared.status.Status.TheVariants.{Done, Usage, Refused, SourceFault, SinkFault, OutOfMemory}
 use Rattle.starjob.specs.Device.{Device, HasFailed}
@@ -22,21 +23,30 @@ use Rattle.starjob.specs.Traces.{Began, RanWhole}
 abbrev pub JobOrRefusal : Type 0
 JobOrRefusal = Result (List Statement) Refusal
 
+-- the same where statements that exceed a limit of lowering are refused at the line that first does
+abbrev pub within_limits : JobOrRefusal → JobOrRefusal
+within_limits (Ok ss) = elim (late_limit ss) [ None ↦ Ok ss | Some e ↦ Err e ]
+within_limits (Err e) = Err e
+
+-- what a job text says to the call: a bad line stands before any limit of lowering
+abbrev pub sound_job_of : (Kernel → Bool) → List ℕ → JobOrRefusal
+sound_job_of has text = within_limits (job_of has text)
+
 -- the text that statements print, run one after another on plain arrays
 abbrev pub text_of : List Statement → List ℕ
 text_of ss = output (printed ss)
 
 -- the source, where it tells its bytes, holds a job of which this is true
 abbrev pub HoldsJob : (Kernel → Bool) → Device → (JobOrRefusal → Type 0) → Type 0
-HoldsJob has source P = IfSome source.bytes (λ text. P (job_of has text))
+HoldsJob has source P = IfSome source.bytes (λ text. P (sound_job_of has text))
 
 -- the same of the statements of a job that isn't refused
 abbrev pub HoldsStatements : (Kernel → Bool) → Device → (List Statement → Type 0) → Type 0
 HoldsStatements has source P = HoldsJob has source (λ job. IsOkAnd job P)
 
--- the source tells a job against which no reason stands
+-- the source tells a job against which no reason stands, and which is within all limits
 abbrev pub TellsSoundJob : (Kernel → Bool) → Device → Type 0
-TellsSoundJob has source = IsSomeAnd source.bytes (λ text. IsOk (job_of has text))
+TellsSoundJob has source = IsSomeAnd source.bytes (λ text. IsOk (sound_job_of has text))
 
 -- the job isn't refused, and prints nothing
 abbrev pub PrintsNothing : JobOrRefusal → Type 0
@@ -44,7 +54,7 @@ PrintsNothing job = IsOkAnd job (λ ss. text_of ss ≡ [])
 
 -- the source tells such a job
 abbrev pub TellsSilentJob : (Kernel → Bool) → Device → Type 0
-TellsSilentJob has source = IsSomeAnd source.bytes (λ text. PrintsNothing (job_of has text))
+TellsSilentJob has source = IsSomeAnd source.bytes (λ text. PrintsNothing (sound_job_of has text))
 
 -- the printed arrays were written, each task ran once, and no device failed
 pub record JobIsDone (has : Kernel → Bool) (source source' out out' : Device) (trace : List Event) : Type 0 where
@@ -54,7 +64,7 @@ pub record JobIsDone (has : Kernel → Bool) (source source' out out' : Device) 
   pub read_to_the_end : IsAtEnd source'.bytes
   pub out_never_failed : out'.faults ≡ out.faults
 
--- this is the job's first bad line and the first reason against it
+-- this is the job's first bad line and the first reason against it, or the limit that it exceeds and the line that first does
 pub record JobIsRefused (has : Kernel → Bool) (line : Line) (reason : Reason) (source source' : Device) (trace : List Event) : Type 0 where
   pub cause : HoldsJob has source (λ job. job ≡ Err (record { line = line; reason = reason }))
   pub read : IsRead source source'

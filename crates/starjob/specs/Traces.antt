@@ -2,7 +2,7 @@
 use Rattle.std.specs.Prelude.{◌≡◌, Bool, IsTrue, Result, Ok, Err, List, []}
 use Rattle.sj_base.specs.declared.trace.Event.{Event}
 use Rattle.sj_codelet.specs.declared.kernel.Kernel.{Kernel}
-use Rattle.sj_codelet.specs.declared.kernel.Kernel.TheVariants.{Load, LoadFill, Deliver}
+use Rattle.sj_codelet.specs.declared.kernel.Kernel.TheVariants.{Load, LoadFill, Paste, Deliver}
 use Rattle.sj_core.specs.Legal.{IsFinished, IsLegal}
 use Rattle.sj_core.specs.Once.{EachRanOnce}
 use Rattle.sj_engine.specs.Machine.{one_node}
@@ -10,10 +10,11 @@ use Rattle.sj_job.specs.Act.{Statement}
 use Rattle.sj_job.specs.Reading.{Refusal}
 use Rattle.sj_lower.specs.Lowering.{lowered}
 
--- the set has the codelets to which registrations and print statements are lowered
+-- the set has the codelets to which registrations, plan lines and print statements are lowered
 pub record HasOwnCodelets (has : Kernel → Bool) : Type 0 where
   pub load : IsTrue (has Load)
   pub loadfill : IsTrue (has LoadFill)
+  pub paste : IsTrue (has Paste)
   pub deliver : IsTrue (has Deliver)
 
 -- the events are a legal run of the job's program from its start to its end, in which each of its tasks ran once

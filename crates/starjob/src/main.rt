@@ -1,8 +1,8 @@
 //! `starjob`: reads a job text, runs its tasks, and prints the arrays asked for.
 #![tactic(auto)]
 
+mod gathering;
 mod output;
-mod printing;
 mod report;
 mod running;
 mod sink_text;
@@ -11,7 +11,11 @@ mod status;
 #[cfg(test)]
 mod tests;
 #[cfg(test)]
+mod tests_of_gathering;
+#[cfg(test)]
 mod tests_of_layers;
+#[cfg(test)]
+mod tests_of_plans;
 mod top;
 
 use sj_edge::gate::OpenGate;

@@ -15,10 +15,10 @@ use std::alloc::Global;
 use std::test::Fail;
 
 /// A job text, and what `out` takes.
-struct Printing {
-    shows: &'static str,
-    text: &'static str,
-    out: &'static str,
+pub struct Printing {
+    pub shows: &'static str,
+    pub text: &'static str,
+    pub out: &'static str,
 }
 
 const PRINTINGS: [Printing; 30] = [
@@ -175,13 +175,13 @@ const PRINTINGS: [Printing; 30] = [
 ];
 
 /// A refused job text, and the line that `err` takes.
-struct Refusal {
-    shows: &'static str,
-    text: &'static str,
-    err: &'static str,
+pub struct Refusal {
+    pub shows: &'static str,
+    pub text: &'static str,
+    pub err: &'static str,
 }
 
-const REFUSALS: [Refusal; 55] = [
+const REFUSALS: [Refusal; 52] = [
     Refusal {
         shows: "no line",
         text: "",
@@ -301,21 +301,6 @@ const REFUSALS: [Refusal; 55] = [
         shows: "a policy",
         text: "starjob 1\npolicy prio\n",
         err: "starjob: line 2: not built\n",
-    },
-    Refusal {
-        shows: "a partition plan",
-        text: "starjob 1\nvector x 4 fill 0 1\nplan x 1 2\n",
-        err: "starjob: line 3: not built\n",
-    },
-    Refusal {
-        shows: "a first plan",
-        text: "starjob 1\nvector x 4 by 1 2 fill 0 1\n",
-        err: "starjob: line 2: not built\n",
-    },
-    Refusal {
-        shows: "a part of an array",
-        text: "starjob 1\nvector x 4 fill 0 1\ntask scale(2) x[0,0]:RW\n",
-        err: "starjob: line 3: not built\n",
     },
     Refusal {
         shows: "a reduction",
@@ -471,11 +456,11 @@ fn calls(alloc: Global, numbers: &[u64]) -> Result<Vec<u64>, Fail> {
     Ok(Vec::from_slice(alloc, numbers)?)
 }
 
-/// The exit code of a job text, and what `out` and `err` take.
-fn answer(rt: &HostRuntime, text: &'static str) -> Result<(u8, MemSink, MemSink), Fail> {
+/// The exit code of a job text, and what `out`, which has so much room, and `err` take.
+pub fn answer(rt: &HostRuntime, text: &[u8], room: u64) -> Result<(u8, MemSink, MemSink), Fail> {
     let alloc = rt.alloc();
-    let mut source = MemSource::new(bytes(alloc, text)?, Vec::new(alloc));
-    let mut out = MemSink::new(alloc, 1000, Vec::new(alloc))?;
+    let mut source = MemSource::new(Vec::from_slice(alloc, text)?, Vec::new(alloc));
+    let mut out = MemSink::new(alloc, room, Vec::new(alloc))?;
     let mut err = MemSink::new(alloc, 1000, Vec::new(alloc))?;
     let outcome = starjob(
         rt,
@@ -493,7 +478,7 @@ fn answer(rt: &HostRuntime, text: &'static str) -> Result<(u8, MemSink, MemSink)
 #[test]
 fn jobs_print_what_their_tasks_make(rt: HostRuntime) -> Result<(), Fail> {
     for case in PRINTINGS.iter() {
-        let (code, out, err) = answer(&rt, case.text)?;
+        let (code, out, err) = answer(&rt, case.text.as_bytes(), 1000)?;
         assert_eq!(rt; code, 0, "{}", case.shows);
         assert_eq!(rt; out.taken(), case.out.as_bytes(), "{}", case.shows);
         assert!(rt; err.taken().is_empty(), "{}", case.shows);
@@ -506,7 +491,7 @@ fn a_refused_job_names_its_first_bad_line_and_its_first_reason(
     rt: HostRuntime,
 ) -> Result<(), Fail> {
     for case in REFUSALS.iter() {
-        let (code, out, err) = answer(&rt, case.text)?;
+        let (code, out, err) = answer(&rt, case.text.as_bytes(), 1000)?;
         assert_eq!(rt; code, 3, "{}", case.shows);
         assert!(rt; out.taken().is_empty(), "{}", case.shows);
         assert_eq!(rt; err.taken(), case.err.as_bytes(), "{}", case.shows);

@@ -1,22 +1,18 @@
 //! The call that the program makes: words, source, sinks, disks and gate in, the outcome out.
 
-ghost use Rattle.std.specs.Prelude.{◌≡◌, ◌≢◌, ◌↔◌, [], Ok};
+ghost use Rattle.std.specs.Prelude.{◌≡◌, ◌≢◌, ◌↔◌, []};
 ghost use Rattle.sj_base.specs.declared.ids.Line.{Line};
 ghost use Rattle.sj_edge.specs.Faults.{Rose};
 ghost use Rattle.sj_edge.specs.GivenBack.{AreUntouched};
 ghost use Rattle.sj_job.specs.declared.reason.Reason.{Reason};
-ghost use Rattle.sj_job.specs.Reading.{job_of};
-ghost use Rattle.sj_job.specs.State.{start};
-ghost use Rattle.sj_job.specs.View.{statements_of, IsNumbered};
-ghost use Rattle.sj_job.specs.Well.{IsWell};
 ghost use Rattle.sj_minplus.specs.Has.{library_has};
 ghost use Rattle.starjob.specs.Device.{seen};
 ghost use Rattle.starjob.specs.Report.{line_of, TakesLine};
 ghost use Rattle.starjob.specs.Traces.{HasOwnCodelets};
-ghost use Rattle.starjob.specs.Top.{text_of, Answered, AnsweredText, IsBeforeWriting, IsDoneOrOutOfMemory, JobIsDone, JobIsRefused, MemoryRanOut, PrintsNothing, RunsText, SinkHasFailed, SourceHasFailed, TellsSilentJob, TellsSoundJob, WritesText};
+ghost use Rattle.starjob.specs.Top.{text_of, Answered, AnsweredText, IsBeforeWriting, IsDoneOrOutOfMemory, JobIsDone, JobIsRefused, MemoryRanOut, PrintsNothing, RunsText, SinkHasFailed, SourceHasFailed, sound_job_of, TellsSilentJob, TellsSoundJob, WritesText};
 
 use crate::report::report;
-use crate::running::{Run, run_job};
+use crate::running::{Run, nothing_run, run_job};
 use crate::sink_text::write_text;
 use crate::source_text::{Unread, read_source};
 use crate::status::Status;
@@ -26,7 +22,6 @@ use sj_edge::disk::Disk;
 use sj_edge::gate::Gate;
 use sj_edge::sink::Sink;
 use sj_edge::source::Source;
-use sj_job::job::Job;
 use sj_job::read::read;
 use sj_job::reason::ReadRefusal;
 use sj_minplus::library::Library;
@@ -41,13 +36,6 @@ pub struct Outcome {
     pub disks: Vec<Box<dyn Disk + Send>>,
 }
 
-/// What a job text prints, and the events of its run.
-#[derive(Drop)]
-struct JobRun {
-    text: Result<Vec<u8>, ReadRefusal>,
-    trace: Trace,
-}
-
 /// How a job ended, and the events of its run.
 #[derive(Drop)]
 struct Answer {
@@ -55,37 +43,14 @@ struct Answer {
     trace: Trace,
 }
 
-/// Runs a job that was read.
-fn run_read<C: Codelets>(alloc: Global, job: Job, codelets: &C) -> JobRun
-    requires job { IsWell C.has 0 start (statements_of job) }
-    requires numbered { IsNumbered job.roots job.statements }
-    requires own { HasOwnCodelets C.has }
-    ensures { RunsText (Ok (statements_of job)) result.text result.trace.events }
-{
-    let Run { result, trace } = run_job(alloc, job, codelets);
-    match result {
-        Ok(text) => JobRun {
-            text: Ok(text),
-            trace,
-        },
-        Err(_) => JobRun {
-            text: Err(ReadRefusal::OutOfMemory),
-            trace,
-        },
-    }
-}
-
 /// Runs a job text.
-fn run_text<C: Codelets>(alloc: Global, text: &[u8], codelets: &C) -> JobRun
+fn run_text<C: Codelets>(alloc: Global, text: &[u8], codelets: &C) -> Run
     requires own { HasOwnCodelets C.has }
-    ensures { RunsText (job_of C.has text.now) result.text result.trace.events }
+    ensures { RunsText (sound_job_of C.has text.now) result.text result.trace.events }
 {
     match read(alloc, text, codelets) {
-        Ok(job) => run_read(alloc, job, codelets),
-        Err(refusal) => JobRun {
-            text: Err(refusal),
-            trace: Trace::empty(alloc),
-        },
+        Ok(job) => run_job(alloc, job, codelets),
+        Err(refusal) => nothing_run(alloc, refusal),
     }
 }
 
@@ -109,12 +74,12 @@ fn answer_text<O: Sink, C: Codelets>(
     codelets: &C,
 ) -> Answer
     requires own { HasOwnCodelets C.has }
-    ensures answered { AnsweredText (job_of C.has text.now) result.status
+    ensures answered { AnsweredText (sound_job_of C.has text.now) result.status
         (seen O.taken O.faults out.old) (seen O.taken O.faults out.new) result.trace.events }
     ensures out_stays { IsBeforeWriting result.status → out.new ≡ out.old }
-    ensures out_stays_in_silence { PrintsNothing (job_of C.has text.now) → out.new ≡ out.old }
+    ensures out_stays_in_silence { PrintsNothing (sound_job_of C.has text.now) → out.new ≡ out.old }
 {
-    let JobRun { text, trace } = run_text(alloc, text, codelets);
+    let Run { text, trace } = run_text(alloc, text, codelets);
     match text {
         Ok(printed) => Answer {
             status: write_printed(out, &printed),

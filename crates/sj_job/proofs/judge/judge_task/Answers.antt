@@ -1,28 +1,28 @@
-use Rattle.std.proofs.Common.{◌≡◌, ◌∙◌, ◌<◌, ap, sym, subst, true, false, None, Some, List, ℕ, map, arith, rules, length, get_or, nat_le, w32, w64, to_z, of_z, FitsSigned}
+use Rattle.std.proofs.Common.{◌≡◌, ◌∙◌, ◌<◌, ap, sym, subst, true, false, None, Some, map, arith, rules, length, get_or, w32, w64, to_z, of_z, FitsSigned}
 use Rattle.std.proofs.lemmas.Bool.Decides.{nat_tests}
 use Rattle.std.proofs.lemmas.Int.{to_z-of_z}
-use Rattle.sj_job.specs.declared.names.Target.{Target}
+use Rattle.std.specs.List.{list_all}
 use Rattle.sj_job.specs.Form.{each_some}
 use Rattle.sj_job.specs.Word.{integer}
-use Rattle.sj_job.specs.Sentence.{operand_said, operands_said, priority_said}
-use Rattle.sj_job.specs.Names.{scope_in, target_in, any_over, operand_by, target_reasons}
+use Rattle.sj_job.specs.Sentence.{are_counts, priority_said}
+use Rattle.sj_job.specs.Names.{IsPlaceIn, plan_in, standing_of, scope_in, target_in, any_over, operand_by, target_reasons}
 use Rattle.sj_job.specs.Table.{IsRoot}
 use Rattle.sj_job.specs.Judge.{is_full, is_priority, first_of, kernel_named}
-use Rattle.sj_job.proofs.Targets.{IsInLine, task-full, task-early, task-unknown, task-ended, task-codelet, task-why, task-ok, all-roots}
+use Rattle.sj_job.proofs.Targets.{task-unknown, task-ended, task-codelet, task-why, task-ok, all-kept}
 use Rattle.sj_job.proofs.judge.judge_task.Goals as goal
 
 pub returns-in_default-clause-err : goal.returns-in_default-clause-err
 returns-in_default-clause-err g c =
     let full : is_full (scope_in c.args.names.now) ≡ false = grind (arith, nat_tests) in
     let early : is_priority (priority_said c.args.form.now.priority) ≡ true = ap is_priority (sym c.requires.priority ∙ sym (to_z-of_z w64 c.args.priority (let fits : FitsSigned w64 c.args.priority = search rules in fits))) ∙ sym c.has_priority.ensures ∙ c.if-not-has_priority.false in
-    let none : each_some (target_in c.args.names.now) (operands_said c.args.form.now) ≡ None = ap (λ os. each_some (target_in c.args.names.now) (map operand_said os)) (sym c.items.ensures) ∙ (rw c.in_default.is at c.in_ok-targets.ensures) in
+    let none : each_some (target_in c.args.names.now) c.args.form.now.operands ≡ None = ap (each_some (target_in c.args.names.now)) (sym c.items.ensures) ∙ (rw c.in_default.is at c.in_ok-targets.ensures) in
     task-unknown g.C.Codelets.has c.args.names.now c.args.form.now full early none
 
 pub returns-then-any_over-clause-err : goal.returns-then-any_over-clause-err
 returns-then-any_over-clause-err g c =
     let full : is_full (scope_in c.args.names.now) ≡ false = grind (arith, nat_tests) in
     let early : is_priority (priority_said c.args.form.now.priority) ≡ true = ap is_priority (sym c.requires.priority ∙ sym (to_z-of_z w64 c.args.priority (let fits : FitsSigned w64 c.args.priority = search rules in fits))) ∙ sym c.has_priority.ensures ∙ c.if-not-has_priority.false in
-    let found : each_some (target_in c.args.names.now) (operands_said c.args.form.now) ≡ Some c.in-Some.targets.items = ap (λ os. each_some (target_in c.args.names.now) (map operand_said os)) (sym c.items.ensures) ∙ (rw c.in-Some.is at c.in_ok-targets.ensures) in
+    let found : each_some (target_in c.args.names.now) c.args.form.now.operands ≡ Some c.in-Some.targets.items = ap (each_some (target_in c.args.names.now)) (sym c.items.ensures) ∙ (rw c.in-Some.is at c.in_ok-targets.ensures) in
     let over : any_over c.in-Some.targets.items ≡ true = ap any_over (sym c.deref.ensures.value) ∙ sym c.any_over.ensures ∙ c.if-any_over.true in
     task-ended g.C.Codelets.has c.args.names.now c.args.form.now c.in-Some.targets.items (record { full = full; early = early; found = found }) over
 
@@ -30,7 +30,7 @@ pub returns-in_default-kernel_named-clause-err : goal.returns-in_default-kernel_
 returns-in_default-kernel_named-clause-err g c =
     let full : is_full (scope_in c.args.names.now) ≡ false = grind (arith, nat_tests) in
     let early : is_priority (priority_said c.args.form.now.priority) ≡ true = ap is_priority (sym c.requires.priority ∙ sym (to_z-of_z w64 c.args.priority (let fits : FitsSigned w64 c.args.priority = search rules in fits))) ∙ sym c.has_priority.ensures ∙ c.if-not-has_priority.false in
-    let found : each_some (target_in c.args.names.now) (operands_said c.args.form.now) ≡ Some c.in-Some.targets.items = ap (λ os. each_some (target_in c.args.names.now) (map operand_said os)) (sym c.items.ensures) ∙ (rw c.in-Some.is at c.in_ok-targets.ensures) in
+    let found : each_some (target_in c.args.names.now) c.args.form.now.operands ≡ Some c.in-Some.targets.items = ap (each_some (target_in c.args.names.now)) (sym c.items.ensures) ∙ (rw c.in-Some.is at c.in_ok-targets.ensures) in
     let over : any_over c.in-Some.targets.items ≡ false = ap any_over (sym c.deref.ensures.value) ∙ sym c.any_over.ensures ∙ c.if-any_over.false in
     let named : kernel_named g.C.Codelets.has c.args.form.now.codelet ≡ None = ap (kernel_named g.C.Codelets.has) (sym c.bytes.ensures) ∙ sym c.kernel_named.ensures ∙ c.in_default-kernel_named.is in
     task-codelet g.C.Codelets.has c.args.names.now c.args.form.now c.in-Some.targets.items (record { full = full; early = early; found = found }) over named
@@ -39,7 +39,7 @@ pub returns-in-Some-2-clause-err : goal.returns-in-Some-2-clause-err
 returns-in-Some-2-clause-err g c =
     let full : is_full (scope_in c.args.names.now) ≡ false = grind (arith, nat_tests) in
     let early : is_priority (priority_said c.args.form.now.priority) ≡ true = ap is_priority (sym c.requires.priority ∙ sym (to_z-of_z w64 c.args.priority (let fits : FitsSigned w64 c.args.priority = search rules in fits))) ∙ sym c.has_priority.ensures ∙ c.if-not-has_priority.false in
-    let found : each_some (target_in c.args.names.now) (operands_said c.args.form.now) ≡ Some c.in-Some.targets.items = ap (λ os. each_some (target_in c.args.names.now) (map operand_said os)) (sym c.items.ensures) ∙ (rw c.in-Some.is at c.in_ok-targets.ensures) in
+    let found : each_some (target_in c.args.names.now) c.args.form.now.operands ≡ Some c.in-Some.targets.items = ap (each_some (target_in c.args.names.now)) (sym c.items.ensures) ∙ (rw c.in-Some.is at c.in_ok-targets.ensures) in
     let over : any_over c.in-Some.targets.items ≡ false = ap any_over (sym c.deref.ensures.value) ∙ sym c.any_over.ensures ∙ c.if-any_over.false in
     let k = c.in-Some-kernel_named.kernel in
     let named : kernel_named g.C.Codelets.has c.args.form.now.codelet ≡ Some k = ap (kernel_named g.C.Codelets.has) (sym c.bytes.ensures) ∙ sym c.kernel_named.ensures ∙ c.in-Some-kernel_named.is in
@@ -51,7 +51,7 @@ pub returns-clause-ok : goal.returns-clause-ok
 returns-clause-ok g c =
     let full : is_full (scope_in c.args.names.now) ≡ false = grind (arith, nat_tests) in
     let early : is_priority (priority_said c.args.form.now.priority) ≡ true = ap is_priority (sym c.requires.priority ∙ sym (to_z-of_z w64 c.args.priority (let fits : FitsSigned w64 c.args.priority = search rules in fits))) ∙ sym c.has_priority.ensures ∙ c.if-not-has_priority.false in
-    let found : each_some (target_in c.args.names.now) (operands_said c.args.form.now) ≡ Some c.in-Some.targets.items = ap (λ os. each_some (target_in c.args.names.now) (map operand_said os)) (sym c.items.ensures) ∙ (rw c.in-Some.is at c.in_ok-targets.ensures) in
+    let found : each_some (target_in c.args.names.now) c.args.form.now.operands ≡ Some c.in-Some.targets.items = ap (each_some (target_in c.args.names.now)) (sym c.items.ensures) ∙ (rw c.in-Some.is at c.in_ok-targets.ensures) in
     let over : any_over c.in-Some.targets.items ≡ false = ap any_over (sym c.deref.ensures.value) ∙ sym c.any_over.ensures ∙ c.if-any_over.false in
     let k = c.in-Some-kernel_named.kernel in
     let named : kernel_named g.C.Codelets.has c.args.form.now.codelet ≡ Some k = ap (kernel_named g.C.Codelets.has) (sym c.bytes.ensures) ∙ sym c.kernel_named.ensures ∙ c.in-Some-kernel_named.is in
@@ -65,6 +65,23 @@ returns-clause-ok g c =
 
 pub returns-clause-roots : goal.returns-clause-roots
 returns-clause-roots g c = λ k d lt.
-    let found : each_some (target_in c.args.names.now) (operands_said c.args.form.now) ≡ Some c.in-Some.targets.items = ap (λ os. each_some (target_in c.args.names.now) (map operand_said os)) (sym c.items.ensures) ∙ (rw c.in-Some.is at c.in_ok-targets.ensures) in
+    let found : each_some (target_in c.args.names.now) c.args.form.now.operands ≡ Some c.in-Some.targets.items = ap (each_some (target_in c.args.names.now)) (sym c.items.ensures) ∙ (rw c.in-Some.is at c.in_ok-targets.ensures) in
+    let over : any_over c.in-Some.targets.items ≡ false = ap any_over (sym c.deref.ensures.value) ∙ sym c.any_over.ensures ∙ c.if-any_over.false in
+    let kernel = c.in-Some-kernel_named.kernel in
+    let none : first_of (target_reasons kernel (map integer c.args.form.now.args) c.in-Some.targets.items) ≡ None =
+    (λ i. first_of (target_reasons kernel ((sym c.requires.args ∙ sym c.items-2.ensures) i) (sym c.deref-2.ensures.value i))) ∙ sym c.in_ok-why.ensures ∙ c.in_default-2.is in
     let os = c.of.ensures ∙ c.in_ok-operands.ensures ∙ ap (map operand_by) c.deref-3.ensures.value in
-    subst (λ xs. IsRoot c.args.names.now.roots (get_or xs k d).root) (sym os) (all-roots c.args.names.now (operands_said c.args.form.now) c.in-Some.targets.items k d found (subst (λ xs. k < length xs) os lt))
+    subst (λ xs. IsRoot c.args.names.now.roots (get_or xs k d).root) (sym os) (all-kept c.args.names.now c.args.form.now.operands c.in-Some.targets.items kernel (map integer c.args.form.now.args) k d found over none (subst (λ xs. k < length xs) os lt)).root
+
+pub returns-clause-places : goal.returns-clause-places
+returns-clause-places g c = λ k d lt.
+    let found : each_some (target_in c.args.names.now) c.args.form.now.operands ≡ Some c.in-Some.targets.items = ap (each_some (target_in c.args.names.now)) (sym c.items.ensures) ∙ (rw c.in-Some.is at c.in_ok-targets.ensures) in
+    let over : any_over c.in-Some.targets.items ≡ false = ap any_over (sym c.deref.ensures.value) ∙ sym c.any_over.ensures ∙ c.if-any_over.false in
+    let kernel = c.in-Some-kernel_named.kernel in
+    let none : first_of (target_reasons kernel (map integer c.args.form.now.args) c.in-Some.targets.items) ≡ None =
+    (λ i. first_of (target_reasons kernel ((sym c.requires.args ∙ sym c.items-2.ensures) i) (sym c.deref-2.ensures.value i))) ∙ sym c.in_ok-why.ensures ∙ c.in_default-2.is in
+    let os = c.of.ensures ∙ c.in_ok-operands.ensures ∙ ap (map operand_by) c.deref-3.ensures.value in
+    subst (λ xs. IsPlaceIn (plan_in (standing_of c.args.names.now (get_or xs k d).root)) (get_or xs k d).place) (sym os) (all-kept c.args.names.now c.args.form.now.operands c.in-Some.targets.items kernel (map integer c.args.form.now.args) k d found over none (subst (λ xs. k < length xs) os lt)).place
+
+pub targets_of-requires-clause-numbered : goal.targets_of-requires-clause-numbered
+targets_of-requires-clause-numbered g c = ap (list_all (λ o. are_counts o.child)) c.items.ensures ∙ c.requires.children

@@ -1,10 +1,9 @@
-use Rattle.std.proofs.Common.{◌≡◌, ◌++◌, drop, map, option_map}
+use Rattle.std.proofs.Common.{◌≡◌, ◌++◌, drop, option_map}
 use Rattle.sj_job.specs.Form.{each_some}
-use Rattle.sj_job.specs.Sentence.{operand_said}
 use Rattle.sj_job.specs.Names.{target_in}
 use Rattle.sj_job.proofs.judge.targets_of.Given as goal
 
 -- what is found so far goes before what the rest gives
 abbrev pub invariant-loop-operand : goal.invariant-loop-operand
 invariant-loop-operand l =
-    option_map (λ rest. l.targets.items ++ rest) (each_some (target_in l.names) (drop l.operand-index (map operand_said l.operands))) ≡ each_some (target_in l.names) (map operand_said l.operands)
+    option_map (λ rest. l.targets.items ++ rest) (each_some (target_in l.names) (drop l.operand-index l.operands)) ≡ each_some (target_in l.names) l.operands

@@ -1,6 +1,6 @@
-use Rattle.std.proofs.Common.{◌≡◌, ◌∙◌, ap, sym, List, ℕ, Bor, Some, ℤ, ◌++◌, ◌∷◌, [], map, take, pos, unwrap_or, is_some, true, rules, w64, FitsSigned}
+use Rattle.std.proofs.Common.{◌∙◌, ap, sym, List, ℕ, Bor, ℤ, ◌++◌, ◌∷◌, [], pos, unwrap_or, is_some, rules, w64, FitsSigned}
 use Rattle.std.proofs.lemmas.Int.{to_z-of_z}
-use Rattle.sj_job.specs.Word.{is_integer, integer, integer_of}
+use Rattle.sj_job.specs.Word.{is_integer, integer}
 use Rattle.sj_job.proofs.Each.{all_more_of, all_fails_of, map_more_of}
 use Rattle.sj_job.proofs.number.integers.Goals as goal
 

@@ -1,4 +1,3 @@
-use Rattle.std.proofs.Common.{ap}
 use Rattle.sj_job.specs.Word.{lines}
 use Rattle.sj_job.specs.State.{start}
 use Rattle.sj_job.specs.View.{statements_of}

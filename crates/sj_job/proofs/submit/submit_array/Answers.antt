@@ -1,11 +1,12 @@
-use Rattle.std.proofs.Common.{◌≡◌, ◌∙◌, ap, sym, true, ℕ}
-use Rattle.sj_base.specs.declared.tile.Dims.{Dims}
+use Rattle.std.proofs.Common.{◌∙◌, sym, ℕ}
+use Rattle.sj_plan.specs.declared.parts.Parts.{Parts}
+use Rattle.sj_job.specs.State.{dims_with}
 use Rattle.sj_job.specs.declared.job.Kind.{Kind}
 use Rattle.sj_job.specs.declared.job.RootInfo.{RootInfo}
 use Rattle.sj_job.specs.Sentence.{is_numbered_size, is_numbered_init, are_counts}
 use Rattle.sj_job.specs.Names.{scope_in}
 use Rattle.sj_job.specs.Judge.{first_of, register_reasons}
-use Rattle.sj_job.proofs.Submitting.{registers, all_numbered, none_is}
+use Rattle.sj_job.proofs.Submitting.{registers, all_numbered}
 use Rattle.sj_job.proofs.submit.submit_array.Goals as goal
 
 pub returns-clause-ok : goal.returns-clause-ok
@@ -14,14 +15,15 @@ returns-clause-ok c = λ has.
     let name_is = c.bytes-name.ensures in
     let init = rw c.in-Some-2.is at c.in_ok-init.ensures in
     let size = c.in-Some.ensures in
-    let mk : Kind → ℕ → ℕ → RootInfo = λ k r s. record { kind = k; dims = record { rows = r; cols = s } } in
-    registers has c.args.names.now _ a c.bytes-name.result.now (mk c.kind_of-kind.result c.in-Some.rows c.in-Some.cols) c.in-Some-2.init (record {
+    let parts = c.in-Some-parts_of.ensures in
+    let plan = c.narrowed-parts.ensures ∙ parts.1 in
+    let mk : Kind → ℕ → ℕ → Parts → RootInfo = λ k r s p. record { kind = k; dims = record { rows = r; cols = s }; parts = p } in
+    registers has c.args.names.now _ a c.bytes-name.result.now (mk c.kind_of-kind.result c.in-Some.rows c.in-Some.cols c.narrowed-parts.result) c.in-Some-2.init (record {
       name_is = name_is;
-      info_is = λ i. mk (c.kind_of-kind.ensures i) (size.1 i) (size.2 i);
+      info_is = λ i. mk (c.kind_of-kind.ensures i) (size.1 i) (size.2 i) (plan i);
       init_is = init.1;
-      numbered = all_numbered (is_numbered_size a.size) (are_counts a.parts) (is_numbered_init a.init) size.0 (sym c.are_counts.ensures ∙ c.if-not-are_counts.false) init.0;
-      built = none_is a.parts (sym c.is_some.ensures ∙ c.if-is_some.false);
-      unopposed = (λ i. first_of (register_reasons (scope_in c.args.names.now) (sym name_is i) (sym size.1 i) (sym size.2 i) (sym init.1 i))) ∙ sym c.in_default-register_complaint.ensures.first;
+      numbered = all_numbered (is_numbered_size a.size) (are_counts a.parts) (is_numbered_init a.init) size.0 parts.0 init.0;
+      unopposed = (λ i. first_of (register_reasons (scope_in c.args.names.now) (sym name_is i) (dims_with (sym size.1 i) (sym size.2 i)) (sym parts.1 i) (sym init.1 i))) ∙ sym c.in_default-register_complaint.ensures.first;
       whole = c.register.ensures.whole;
       roots = c.in_ok-register.ensures.roots;
       sees = c.in_ok-register.ensures.names;

@@ -1,4 +1,4 @@
-use Rattle.std.proofs.Common.{sym, subst, ap}
+use Rattle.std.proofs.Common.{sym, subst}
 use Rattle.std.specs.Prelude.{IfOk, IfErr}
 use Rattle.sj_job.specs.declared.form.Form.{Form}
 use Rattle.sj_job.specs.Names.{scope_in}
@@ -36,3 +36,13 @@ pub returns-in-Unregister-clause-err : goal.returns-in-Unregister-clause-err
 returns-in-Unregister-clause-err g c =
     subst (λ (f : Form). IfErr c.submit_ending.result (λ e. Objects e (done_in g.C.Codelets.has (scope_in c.args.names.now) f))) (sym c.in-Unregister.is)
     (weaker_err c.submit_ending.result (λ e h. h g.C.Codelets.has) c.submit_ending.ensures.err)
+
+pub returns-in-Plan-clause-ok : goal.returns-in-Plan-clause-ok
+returns-in-Plan-clause-ok g c =
+    subst (λ (f : Form). IfOk c.submit_plan.result (λ a. Submits g.C.Codelets.has c.args.names.now f c.submit_plan.new.names a)) (sym c.in-Plan.is)
+    (weaker_ok c.submit_plan.result (λ a h. h g.C.Codelets.has) c.submit_plan.ensures.ok)
+
+pub returns-in-Plan-clause-err : goal.returns-in-Plan-clause-err
+returns-in-Plan-clause-err g c =
+    subst (λ (f : Form). IfErr c.submit_plan.result (λ e. Objects e (done_in g.C.Codelets.has (scope_in c.args.names.now) f))) (sym c.in-Plan.is)
+    (weaker_err c.submit_plan.result (λ e h. h g.C.Codelets.has) c.submit_plan.ensures.err)

@@ -1,12 +1,13 @@
-use Rattle.std.proofs.Common.{◌≡◌, ◌∙◌, ap, sym, subst, None, Some, List, ℕ}
-use Rattle.sj_job.specs.Judge.{first_of, print_reasons, name_reasons}
-use Rattle.sj_job.specs.Names.{scope_in, found_in}
-use Rattle.sj_job.proofs.Submitting.{printed, found-is-root}
+use Rattle.std.proofs.Common.{◌∙◌, ap, sym}
+use Rattle.sj_job.specs.Judge.{first_of, print_reasons}
+use Rattle.sj_job.specs.Names.{scope_in}
+use Rattle.sj_job.specs.Table.{root_in}
+use Rattle.sj_job.proofs.Submitting.{printed}
 use Rattle.sj_job.proofs.submit.submit_print.Goals as goal
 
 pub returns-in-Ok-clause-ok : goal.returns-in-Ok-clause-ok
 returns-in-Ok-clause-ok c = λ has.
-    printed has c.args.names.now _ c.args.name.now c.in-Ok.found
-    (ap (found_in c.args.names.now) (sym c.bytes.ensures) ∙ c.in-Ok.ensures.found)
+    printed has c.args.names.now _ c.args.name.now c.in-Ok.root
+    (ap (root_in c.args.names.now.roots) (sym c.bytes.ensures) ∙ c.in-Ok.ensures.root)
     (ap (λ q. first_of (print_reasons (scope_in c.args.names.now) q)) (sym c.bytes.ensures) ∙ c.in-Ok.ensures.none)
     c.print.ensures.roots c.print.ensures.names

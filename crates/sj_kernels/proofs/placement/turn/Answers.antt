@@ -1,10 +1,10 @@
-use Rattle.std.proofs.Common.{◌≡◌, ℕ, ◌+◌, ◌*◌, ◌≤◌, List, ℤ, length, refl, ap, ◌∙◌, arith}
+use Rattle.std.proofs.Common.{◌≡◌, ℕ, ◌+◌, ◌*◌, ◌≤◌, length, refl, ap, ◌∙◌, arith}
 use Rattle.std.specs.List.{between}
 use Rattle.std.proofs.lemmas.List.Edits.{length-between}
 use Rattle.std.proofs.Math.Nat.{mul-le-mul_left}
 use Rattle.sj_base.specs.Array.{at}
 use Rattle.sj_codelet.specs.Listing.{listing}
-use Rattle.sj_codelet.proofs.Filling.{begun, listing_from_begun}
+use Rattle.sj_codelet.proofs.Filling.{listing_from_begun}
 use Rattle.sj_codelet.proofs.Rows.{begun_no_row, begun_row, length-row}
 use Rattle.sj_kernels.specs.Turned.{turned_within}
 use Rattle.sj_kernels.proofs.Turns.{turned_row}

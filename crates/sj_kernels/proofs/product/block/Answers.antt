@@ -10,11 +10,9 @@ loop-l-init c =
       c0 = column_none a.n a.j a.a.now a.b.now (at a.c.now 0) (search rules);
       c1 = column_none a.n (a.j + 1) a.a.now a.b.now (at a.c.now 1) (search rules);
       c2 = column_none a.n (a.j + 2) a.a.now a.b.now (at a.c.now 2) (search rules);
-      c3 = column_none a.n (a.j + 3) a.a.now a.b.now (at a.c.now 3) (search rules);
       d0 = column_none a.n a.j a.e.now a.b.now (at a.d.now 0) (search rules);
       d1 = column_none a.n (a.j + 1) a.e.now a.b.now (at a.d.now 1) (search rules);
       d2 = column_none a.n (a.j + 2) a.e.now a.b.now (at a.d.now 2) (search rules);
-      d3 = column_none a.n (a.j + 3) a.e.now a.b.now (at a.d.now 3) (search rules);
     }
 
 pub loop-l-preserved : goal.loop-l-preserved
@@ -26,11 +24,9 @@ loop-l-preserved c =
       c0 = column_more a.n a.j l place a.a.now a.b.now (at a.c.now 0) (to_z w64 c.loop-l.c0-bits) _ c.with_product-c0.ensures c.loop-l.invariant.c0 refl (search rules) (search rules);
       c1 = column_more a.n (a.j + 1) l (place + 1) a.a.now a.b.now (at a.c.now 1) (to_z w64 c.loop-l.c1-bits) _ c.with_product-c1.ensures c.loop-l.invariant.c1 (omega arith) (search rules) (search rules);
       c2 = column_more a.n (a.j + 2) l (place + 2) a.a.now a.b.now (at a.c.now 2) (to_z w64 c.loop-l.c2-bits) _ c.with_product-c2.ensures c.loop-l.invariant.c2 (omega arith) (search rules) (search rules);
-      c3 = column_more a.n (a.j + 3) l (place + 3) a.a.now a.b.now (at a.c.now 3) (to_z w64 c.loop-l.c3-bits) _ c.with_product-c3.ensures c.loop-l.invariant.c3 (omega arith) (search rules) (search rules);
       d0 = column_more a.n a.j l place a.e.now a.b.now (at a.d.now 0) (to_z w64 c.loop-l.d0-bits) _ c.with_product-d0.ensures c.loop-l.invariant.d0 refl (search rules) (search rules);
       d1 = column_more a.n (a.j + 1) l (place + 1) a.e.now a.b.now (at a.d.now 1) (to_z w64 c.loop-l.d1-bits) _ c.with_product-d1.ensures c.loop-l.invariant.d1 (omega arith) (search rules) (search rules);
       d2 = column_more a.n (a.j + 2) l (place + 2) a.e.now a.b.now (at a.d.now 2) (to_z w64 c.loop-l.d2-bits) _ c.with_product-d2.ensures c.loop-l.invariant.d2 (omega arith) (search rules) (search rules);
-      d3 = column_more a.n (a.j + 3) l (place + 3) a.e.now a.b.now (at a.d.now 3) (to_z w64 c.loop-l.d3-bits) _ c.with_product-d3.ensures c.loop-l.invariant.d3 (omega arith) (search rules) (search rules);
     }
 
 pub returns : goal.returns
@@ -39,6 +35,6 @@ returns c =
     let l = c.loop-l.l in
     let i = c.loop-l.invariant in
     record {
-      first = c.copy_from_slice.ensures.after ∙ block_is a.n a.j l a.a.now a.b.now a.c.now _ _ _ _ (omega arith) i.c0 i.c1 i.c2 i.c3;
-      second = c.copy_from_slice-2.ensures.after ∙ block_is a.n a.j l a.e.now a.b.now a.d.now _ _ _ _ (omega arith) i.d0 i.d1 i.d2 i.d3;
+      first = c.copy_from_slice.ensures.after ∙ block_is a.n a.j l a.a.now a.b.now a.c.now _ _ _ (omega arith) i.c0 i.c1 i.c2;
+      second = c.copy_from_slice-2.ensures.after ∙ block_is a.n a.j l a.e.now a.b.now a.d.now _ _ _ (omega arith) i.d0 i.d1 i.d2;
     }

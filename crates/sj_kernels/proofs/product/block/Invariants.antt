@@ -8,9 +8,7 @@ invariant-loop-l l = record {
   c0 : l.c0 ≡ column_sum l.n l.a l.b l.j l.l (at l.c 0);
   c1 : l.c1 ≡ column_sum l.n l.a l.b (l.j + 1) l.l (at l.c 1);
   c2 : l.c2 ≡ column_sum l.n l.a l.b (l.j + 2) l.l (at l.c 2);
-  c3 : l.c3 ≡ column_sum l.n l.a l.b (l.j + 3) l.l (at l.c 3);
   d0 : l.d0 ≡ column_sum l.n l.e l.b l.j l.l (at l.d 0);
   d1 : l.d1 ≡ column_sum l.n l.e l.b (l.j + 1) l.l (at l.d 1);
   d2 : l.d2 ≡ column_sum l.n l.e l.b (l.j + 2) l.l (at l.d 2);
-  d3 : l.d3 ≡ column_sum l.n l.e l.b (l.j + 3) l.l (at l.d 3);
 }

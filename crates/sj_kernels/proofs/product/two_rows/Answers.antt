@@ -9,7 +9,7 @@ use Rattle.sj_kernels.proofs.Panels.{column_of}
 use Rattle.sj_kernels.proofs.product.two_rows.Goals as goal
 
 pub loop-q-init : goal.loop-q-init
-loop-q-init c = record { first = begun_no_row 4 _ c.args.c.now; second = begun_no_row 4 _ c.args.d.now }
+loop-q-init c = record { first = begun_no_row 3 _ c.args.c.now; second = begun_no_row 3 _ c.args.d.now }
 
 pub loop-q-preserved : goal.loop-q-preserved
 loop-q-preserved c =
@@ -20,8 +20,8 @@ loop-q-preserved c =
     let f = row_product n a.a.now a.b.now a.c.now in
     let g = row_product n a.e.now a.b.now a.d.now in
     record {
-      first = begun_row q 4 _ f a.c.now c.loop-q.c c.block.new.c (omega arith) i.first (c.block.ensures.first ∙ same_listing 4 _ (λ p. f (q * 4 + p)) (λ p h. ap (λ (z : ℤ). column_sum n a.a.now a.b.now (q * 4 + p) (length a.a.now) z) (at-row_begun q 4 f a.c.now c.loop-q.c p i.first h)));
-      second = begun_row q 4 _ g a.d.now c.loop-q.d c.block.new.d (omega arith) i.second (c.block.ensures.second ∙ same_listing 4 _ (λ p. g (q * 4 + p)) (λ p h. ap (λ (z : ℤ). column_sum n a.e.now a.b.now (q * 4 + p) (length a.e.now) z) (at-row_begun q 4 g a.d.now c.loop-q.d p i.second h)));
+      first = begun_row q 3 _ f a.c.now c.loop-q.c c.block.new.c (omega arith) i.first (c.block.ensures.first ∙ same_listing 3 _ (λ p. f (q * 3 + p)) (λ p h. ap (λ (z : ℤ). column_sum n a.a.now a.b.now (q * 3 + p) (length a.a.now) z) (at-row_begun q 3 f a.c.now c.loop-q.c p i.first h)));
+      second = begun_row q 3 _ g a.d.now c.loop-q.d c.block.new.d (omega arith) i.second (c.block.ensures.second ∙ same_listing 3 _ (λ p. g (q * 3 + p)) (λ p h. ap (λ (z : ℤ). column_sum n a.e.now a.b.now (q * 3 + p) (length a.e.now) z) (at-row_begun q 3 g a.d.now c.loop-q.d p i.second h)));
     }
 
 pub loop-j-init : goal.loop-j-init
@@ -29,7 +29,7 @@ loop-j-init c =
     let a = c.args in
     let n = length a.c.now in
     let i = c.loop-q.invariant in
-    let here : c.loop-q.q * 4 ≡ n / 4 * 4 = omega arith in
+    let here : c.loop-q.q * 3 ≡ n / 3 * 3 = omega arith in
     record {
       first = i.first ∙ ap (λ (k : ℕ). begun k (row_product n a.a.now a.b.now a.c.now) a.c.now) here;
       second = i.second ∙ ap (λ (k : ℕ). begun k (row_product n a.e.now a.b.now a.d.now) a.d.now) here;

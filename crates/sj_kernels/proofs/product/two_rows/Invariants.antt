@@ -5,8 +5,8 @@ use Rattle.sj_kernels.proofs.product.two_rows.Given as goal
 
 abbrev pub invariant-loop-q : goal.invariant-loop-q
 invariant-loop-q l = record {
-  first : l.c ≡ begun (l.q * 4) (row_product l.n l.a l.b l.fn.c) l.fn.c;
-  second : l.d ≡ begun (l.q * 4) (row_product l.n l.e l.b l.fn.d) l.fn.d;
+  first : l.c ≡ begun (l.q * 3) (row_product l.n l.a l.b l.fn.c) l.fn.c;
+  second : l.d ≡ begun (l.q * 3) (row_product l.n l.e l.b l.fn.d) l.fn.d;
 }
 
 abbrev pub invariant-loop-j : goal.invariant-loop-j

@@ -1,19 +1,21 @@
-use Rattle.std.proofs.Common.{◌≡◌, ◌∙◌, ℕ, ◌+◌, ◌≤◌, List, [], ◌∷◌, refl, ap, subst, sym, length, arith}
+use Rattle.std.proofs.Common.{◌≡◌, ◌∙◌, ℕ, ◌≤◌, List, [], ◌∷◌, None, refl, ap, subst, sym, length, arith, Result, Ok, Err, IfErr, IsErrAnd}
 use Rattle.std.specs.Vec.Iter.{into_iter_items}
 use Rattle.sj_base.specs.declared.program.Program.{Program}
 use Rattle.sj_job.specs.declared.job.Statement.{Statement as Kept}
-use Rattle.sj_job.specs.Act.{Statement}
-use Rattle.sj_job.specs.State.{start}
+use Rattle.sj_job.specs.State.{State, start}
 use Rattle.sj_job.specs.Table.{Table, IsTable}
-use Rattle.sj_job.specs.View.{ArePlaced, count_from, seen_from, statements_of}
-use Rattle.sj_job.proofs.Views.{length-seen}
-use Rattle.sj_lower.specs.Lowering.{nothing, lower_from, lowered, program_of}
+use Rattle.sj_job.specs.View.{ArePlaced, IsNumbered, count_from, seen_from, statements_of}
+use Rattle.sj_job.specs.Well.{IsWell}
+use Rattle.sj_lower.specs.declared.lower.LowerRefusal.{LowerRefusal}
+use Rattle.sj_lower.specs.declared.lower.Progress.{Progress}
 use Rattle.sj_lower.specs.Job.{IsJob}
-use Rattle.sj_lower.proofs.Few.{few_statements}
-use Rattle.sj_lower.proofs.Going.{GoesOn, going-start, going-fits, going-end}
-use Rattle.sj_lower.proofs.Naming.{names-printed}
+use Rattle.sj_lower.specs.Limits.{late_limit}
+use Rattle.sj_lower.specs.Lowering.{Lowering, nothing, lower_from, lowered, program_of}
+use Rattle.sj_lower.specs.Progress.{IsAt, IsFull, IsLate}
+use Rattle.sj_lower.proofs.Going.{GoesOn, IsDone, going-start, going-has, going-more, going-full, going-end}
+use Rattle.sj_lower.proofs.Naming.{names-all, numbered-none}
 use Rattle.sj_lower.proofs.Whole.{IsWhole, whole}
-use Rattle.sj_lower.proofs.Properness.{proper, plain, delivers_printed, counts_prints, names_deliver_tasks, delivers_in_order}
+use Rattle.sj_lower.proofs.Properness.{proper, plain, delivers_printed, names_deliver_tasks, delivers_in_order}
 use Rattle.sj_lower.proofs.lower.lower.Goals as goal
 
 pub loop-statement-init : goal.loop-statement-init
@@ -23,62 +25,107 @@ loop-statement-init c =
     let vec = c.into_items-statement-items.result in
     let ss = into_iter_items c.into_iter-statement-iterator.result in
     let same : ss ≡ c.args.job.statements = gives.0 ∙ c.into_items-statement-items.ensures in
-    let few = few_statements c.requires.job.has 0 start (statements_of c.args.job) c.requires.job.well (omega arith) in
     record {
-      going = going-start T c.nothing-lowerer.result ss (c.nothing-lowerer.ensures T) (subst (λ (xs : List Kept). ArePlaced 0 xs) (sym same) c.requires.numbered.placed)
-          (ap (count_from 0) same ∙ c.requires.numbered.counted) (omega (arith, few, length-seen T 0 c.args.job.statements, ap length same));
+      going = going-start c.requires.job.has T c.nothing-progress.result ss (c.nothing-progress.ensures.at T) c.nothing-progress.ensures.over
+          (subst (λ (xs : List Kept). IsWell c.requires.job.has 0 start (seen_from T 0 xs)) (sym same) c.requires.job.well)
+          (subst (λ (xs : List Kept). ArePlaced 0 xs) (sym same) c.requires.numbered.placed)
+          (ap (count_from 0) same ∙ c.requires.numbered.counted);
       left = omega (arith, gives.1, vec.ok, ap length gives.0);
     }
 
-pub add-requires-clause-fits : goal.add-requires-clause-fits
-add-requires-clause-fits c =
+pub add-requires : goal.add-requires
+add-requires c =
+    let T = c.args.job.roots in
     let at = c.loop-statement in
     let all = into_iter_items c.into_iter-statement-iterator.result in
-    going-fits c.args.job.roots at.lowerer all (into_iter_items c.next.new.self) c.in-Some.statement
-    (subst (λ (xs : List Kept). GoesOn c.args.job.roots at.lowerer all xs) c.in-Some.ensures.steps.0 at.invariant.going)
+    let table : IsTable T = subst (λ (U : Table). IsTable U) c.roots.view_is c.roots.invariant in
+    going-has T at.progress all (into_iter_items c.next.new.self) c.in-Some.statement table
+    (subst (λ (xs : List Kept). GoesOn T at.progress all xs) c.in-Some.ensures.steps.0 at.invariant.going)
+
+pub loop-statement-preserved : goal.loop-statement-preserved
+loop-statement-preserved c =
+    let T = c.args.job.roots in
+    let at = c.loop-statement in
+    let all = into_iter_items c.into_iter-statement-iterator.result in
+    let table : IsTable T = subst (λ (U : Table). IsTable U) c.roots.view_is c.roots.invariant in
+    record {
+      going = going-more T at.progress c.add.new.self all (into_iter_items c.next.new.self) c.in-Some.statement table
+          (subst (λ (xs : List Kept). GoesOn T at.progress all xs) c.in-Some.ensures.steps.0 at.invariant.going) c.in_ok-add.ensures.goes;
+      left = omega (arith, at.invariant.left, c.in-Some.ensures.steps.1, ap length c.in-Some.ensures.steps.0);
+    }
+
+as_handed : {A : Type 0} (r : Result A LowerRefusal) (e : LowerRefusal) (P : LowerRefusal → Type 0) → IsErrAnd r (λ x. x ≡ e) → P e → IfErr r P
+as_handed (Ok x) e P is h = tt
+as_handed (Err x) e P is h = subst P (sym is) h
+
+pub returns-in_err-add-clause-refused : goal.returns-in_err-add-clause-refused
+returns-in_err-add-clause-refused c =
+    let T = c.args.job.roots in
+    let at = c.loop-statement in
+    let all = into_iter_items c.into_iter-statement-iterator.result in
+    let table : IsTable T = subst (λ (U : Table). IsTable U) c.roots.view_is c.roots.invariant in
+    let same : all ≡ c.args.job.statements = c.into_iter-statement-iterator.ensures.into_iter_gives.0 ∙ c.into_items-statement-items.ensures in
+    let going = subst (λ (xs : List Kept). GoesOn T at.progress all xs) c.in-Some.ensures.steps.0 at.invariant.going in
+    let full : (e : LowerRefusal) → IsFull T at.progress c.in-Some.statement e → IsLate e (late_limit (statements_of c.args.job)) =
+    λ e h. subst (λ (xs : List Kept). IsLate e (late_limit (seen_from T 0 xs))) same (going-full T at.progress all (into_iter_items c.next.new.self) c.in-Some.statement e table going h) in
+    as_handed c.from_residual.result c.in_err-add.field-0.0 (λ e. IsLate e (late_limit (statements_of c.args.job))) c.from_residual.ensures.1 (full c.in_err-add.field-0.0 c.in_err-add.ensures.full)
 
 nothing_left : (l : List Kept) → length l ≡ 0 → l ≡ []
 nothing_left [] h = refl
 nothing_left (x ∷ xs) h = absurd (omega arith)
 
-pub returns-clause-is : goal.returns-clause-is
-returns-clause-is c =
+-- the program is that of the job, and within the limits
+record IsMade (T : Table) (p : Program) (statements : List Kept) (workers : ℕ) : Type 0 where
+  is : p ≡ lowered (seen_from T 0 statements) workers
+  few_tasks : length p.tasks ≤ 262144
+  few_cells : length p.cells ≤ 262144
+
+made : (T : Table) (g : Progress) (all statements : List Kept) (p : Program) (workers : ℕ) → IsDone T g all → all ≡ statements → g.over ≡ None
+    → ((T : Table) (S : State) (L : Lowering) → IsAt T g S L → p ≡ program_of workers L) → IsMade T p statements workers
+made T g all statements p workers d same none finish =
+    let is : p ≡ program_of workers d.lowering = finish T d.state d.lowering d.at in
+    record {
+      is = is ∙ ap (program_of workers) (d.is ∙ ap (λ (xs : List Kept). lower_from start nothing (seen_from T 0 xs)) same);
+      few_tasks = omega (arith, d.at.few_tasks none, ap (λ (p : Program). length p.tasks) is);
+      few_cells = omega (arith, d.at.few_cells, ap (λ (p : Program). length p.cells) is);
+    }
+
+whole_job : (T : Table) (p : Program) (statements : List Kept) (workers : ℕ) → IsTable T → IsNumbered T statements → (j : IsJob (seen_from T 0 statements)) → IsMade T p statements workers → IsWhole T p (seen_from T 0 statements)
+whole_job T p statements workers table numbered j m =
+    let ss = seen_from T 0 statements in
+    let named = names-all T 0 nothing start statements table.2 (omega (arith, numbered.counted)) numbered.placed (numbered-none T) in
+    subst (λ (q : Program). IsWhole T q ss) (sym m.is) (whole j.has T ss workers j.well named)
+
+lowered_to : (c : goal.In_ok-program) → IsMade c.args.job.roots c.in_ok-program.program c.args.job.statements c.args.workers
+lowered_to c =
     let T = c.args.job.roots in
     let at = c.loop-statement in
     let all = into_iter_items c.into_iter-statement-iterator.result in
     let same : all ≡ c.args.job.statements = c.into_iter-statement-iterator.ensures.into_iter_gives.0 ∙ c.into_items-statement-items.ensures in
     let empty = nothing_left (into_iter_items at.statement-iterator) (sym at.invariant.left ∙ c.in-None.ensures.steps.0) in
-    c.program.ensures T at.invariant.going.so_far at.invariant.going.follows
-    ∙ ap (program_of c.args.workers) (going-end T at.lowerer all (into_iter_items at.statement-iterator) at.invariant.going empty ∙ ap (λ (xs : List Kept). lower_from nothing (seen_from T 0 xs)) same)
+    let going = subst (λ (xs : List Kept). GoesOn T at.progress all xs) empty at.invariant.going in
+    made T at.progress all c.args.job.statements c.in_ok-program.program c.args.workers (going-end T at.progress all going) same c.in_ok-program.ensures.ok.0 c.in_ok-program.ensures.ok.1
 
--- the program is that of the job
-whole_job : (p : Program) (ss : List Statement) (workers : ℕ) (j : IsJob ss) → p ≡ lowered ss workers → IsWhole p ss
-whole_job p ss workers j e = subst (λ (q : Program). IsWhole q ss) (sym e) (whole j.has ss workers j.well)
+whole_at : (c : goal.In_ok-program) → IsWhole c.args.job.roots c.in_ok-program.program (statements_of c.args.job)
+whole_at c =
+    let T = c.args.job.roots in
+    let table : IsTable T = subst (λ (U : Table). IsTable U) c.roots.view_is c.roots.invariant in
+    whole_job T c.in_ok-program.program c.args.job.statements c.args.workers table c.requires.numbered c.requires.job (lowered_to c)
 
-few_in : (ss : List Statement) → IsJob ss → length ss ≤ 262144
-few_in ss j = let few = few_statements j.has 0 start ss j.well (omega arith) in omega (arith, few)
+pub returns-clause-is : goal.returns-clause-is
+returns-clause-is c = (lowered_to c).is
 
 pub returns-clause-proper : goal.returns-clause-proper
-returns-clause-proper c =
-    proper c.program.result (statements_of c.args.job) (whole_job c.program.result (statements_of c.args.job) c.args.workers c.requires.job (returns-clause-is c)) (few_in (statements_of c.args.job) c.requires.job)
+returns-clause-proper c = let m = lowered_to c in proper c.args.job.roots c.in_ok-program.program (statements_of c.args.job) (whole_at c) m.few_tasks m.few_cells
 
 pub returns-clause-plain : goal.returns-clause-plain
-returns-clause-plain c = plain c.program.result (statements_of c.args.job) (whole_job c.program.result (statements_of c.args.job) c.args.workers c.requires.job (returns-clause-is c))
+returns-clause-plain c = plain c.args.job.roots c.in_ok-program.program (statements_of c.args.job) (whole_at c)
 
 pub returns-clause-prints : goal.returns-clause-prints
-returns-clause-prints c = delivers_printed c.program.result (statements_of c.args.job) (whole_job c.program.result (statements_of c.args.job) c.args.workers c.requires.job (returns-clause-is c))
-
-pub returns-clause-counted : goal.returns-clause-counted
-returns-clause-counted c = counts_prints c.program.result (statements_of c.args.job) (whole_job c.program.result (statements_of c.args.job) c.args.workers c.requires.job (returns-clause-is c))
+returns-clause-prints c = delivers_printed c.args.job.roots c.in_ok-program.program (statements_of c.args.job) (whole_at c)
 
 pub returns-clause-handed_over : goal.returns-clause-handed_over
-returns-clause-handed_over c = names_deliver_tasks c.program.result (statements_of c.args.job) (whole_job c.program.result (statements_of c.args.job) c.args.workers c.requires.job (returns-clause-is c))
+returns-clause-handed_over c = names_deliver_tasks c.args.job.roots c.in_ok-program.program (statements_of c.args.job) (whole_at c)
 
 pub returns-clause-in_order : goal.returns-clause-in_order
-returns-clause-in_order c = delivers_in_order c.program.result (statements_of c.args.job) (whole_job c.program.result (statements_of c.args.job) c.args.workers c.requires.job (returns-clause-is c))
-
-pub returns-clause-named : goal.returns-clause-named
-returns-clause-named c =
-    let T = c.args.job.roots in
-    let is_table : IsTable T = subst (λ (U : Table). IsTable U) c.roots.view_is c.roots.invariant in
-    names-printed c.requires.job.has T c.program.result c.args.job.statements (ap (λ (p : Program). p.deliveries) (returns-clause-is c)) is_table.2 c.requires.numbered.counted c.requires.numbered.placed c.requires.job.well
+returns-clause-in_order c = delivers_in_order c.args.job.roots c.in_ok-program.program (statements_of c.args.job) (whole_at c)

@@ -7,7 +7,7 @@ use Rattle.sj_board.proofs.board.Board.all_done.Goals as goal
 pub returns : goal.returns
 returns c =
     let b = c.self.inside in
-    let keeps = c.self.invariant in
+    let keeps = c.self.invariant.keeps in
     let n : c.len.result ≡ length b.tasks.items = search rules in
     subst (λ (s : Standing). (IsTrue (nat_eq b.first c.len.result) → AreAllDone s) × (AreAllDone s → IsTrue (nat_eq b.first c.len.result))) c.self.view_is (
       λ e. all_done-first b.tasks.items b.first keeps.upto keeps.done_below (ap (nat_eq b.first) (sym n) ∙ e),

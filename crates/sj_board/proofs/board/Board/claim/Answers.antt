@@ -1,7 +1,8 @@
 use Rattle.std.proofs.Common.{◌≡◌, ◌+◌, ◌<◌, ◌≤◌, ◌∙◌, ◌++◌, ◌∷◌, [], max, ap, sym, subst, arith, rules}
 use Rattle.sj_base.specs.declared.trace.Event.TheVariants.{Claim}
 use Rattle.sj_board.specs.Board.{CanBeClaimed, IsIdle, Standing}
-use Rattle.sj_board.proofs.Keeping.{keeps-claim}
+use Rattle.sj_board.proofs.Holding.{all-here, holds-all, keeps-arrays, left-claim}
+use Rattle.sj_board.proofs.Keeping.{idle-runs_none, keeps-claim}
 use Rattle.sj_board.proofs.board.Board.claim.Goals as goal
 
 pub invariant_of-self-2 : goal.invariant_of-self-2
@@ -18,4 +19,11 @@ invariant_of-self-2 c =
     let three : 3 ≤ c.add.new.self.spare + 1 = omega (arith, c.add.ensures.room, spare) in
     let room : c.reserve-2.new.self.spare ≡ max c.self.inside.delivered.spare 1 = search rules in
     let one_left : 1 ≤ c.reserve-2.new.self.spare = omega (arith, room) in
-    keeps-claim _ _ _ _ _ _ c.self.invariant t w worker can idle c.add.new.self c.reserve-2.new.self events three c.reserve-2.ensures.pairs one_left
+    let p = c.self.inside.program.value in
+    let keeps = c.self.invariant.keeps in
+    let arrays = left-claim p t w c.self.inside.trace.events c.add.new.self.events events in
+    let here = all-here _ c.self.inside.tiles c.self.invariant.holds (idle-runs_none _ _ _ _ _ _ keeps w worker idle) in
+    record {
+      keeps = keeps-arrays _ _ _ _ _ c.add.new.self c.reserve-2.new.self _ _ _ _ _ arrays (keeps-claim _ _ _ _ _ _ keeps t w worker can idle c.add.new.self c.reserve-2.new.self events three c.reserve-2.ensures.pairs one_left);
+      holds = holds-all _ c.self.inside.tiles (here ∙ sym arrays);
+    }

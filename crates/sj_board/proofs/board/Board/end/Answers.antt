@@ -1,6 +1,6 @@
-use Rattle.std.proofs.Common.{◌≡◌, ℕ, ◌<◌, ◌≤◌, ◌++◌, ◌∷◌, [], ◌∙◌, sym, ap, subst, List, Option, true, false, map, length, set, get_or, take, drop}
+use Rattle.std.proofs.Common.{◌≡◌, ℕ, ◌<◌, ◌≤◌, ◌++◌, ◌∷◌, [], ◌∙◌, sym, ap, subst, List, Option, true, false, map, length, set, get_or}
 use Rattle.std.specs.Prelude.{All, option_map}
-use Rattle.std.proofs.lemmas.List.{length-map, map-id, take_at}
+use Rattle.std.proofs.lemmas.List.{length-map, map-id}
 use Rattle.sj_base.specs.Array.{Array}
 use Rattle.sj_base.specs.declared.ids.Task.{Task}
 use Rattle.sj_base.specs.declared.mode.Access.{Access}
@@ -12,76 +12,73 @@ use Rattle.sj_core.specs.declared.progress.Progress.{Progress}
 use Rattle.sj_core.specs.declared.progress.Progress.TheVariants.{Waiting, Done}
 use Rattle.sj_core.specs.Machine.{is_done}
 use Rattle.sj_core.specs.Program.{task_of}
-use Rattle.sj_board.specs.Board.{IsRunning, Standing, ended, standing}
-use Rattle.sj_board.specs.Operands.{gift_for, handed, handed_by, news_of, outputs, with_arrays}
-use Rattle.sj_board.specs.Tiles.{arrays_in, outputs_among, put_all}
+use Rattle.sj_board.specs.Board.{IsRunning, Standing, arrays_left, ended, standing}
+use Rattle.sj_board.specs.Operands.{gift_for, handed, handed_by, news_of, outputs}
+use Rattle.sj_board.specs.Tiles.{outputs_among, put_all}
 use Rattle.sj_board.proofs.Giving.{cells-placed, news-count, running-in_hand, running-same}
-use Rattle.sj_board.proofs.Keeping.{ended-is, keeps-end}
-use Rattle.sj_board.proofs.Lists.{length-put_all, put_all-is}
+use Rattle.sj_board.proofs.Holding.{all-back, holds-all, left-end}
+use Rattle.sj_board.proofs.Keeping.{ended-is, keeps-end, runs-in_hand}
 use Rattle.sj_board.proofs.Frames.{map-map}
 use Rattle.sj_board.proofs.board.Board.end.Goals as goal
 
 pub put_back-requires-clause-cells : goal.put_back-requires-clause-cells
 put_back-requires-clause-cells c =
-    let b = c.self.inside in
+    let p = c.self.inside.program.value in
     let t = c.in-Some.t in
-    let running = running-in_hand _ _ _ _ _ _ c.self.invariant c.args.self.now c.self.view_is c.args.w t c.in-Some.is c.requires.running in
-    let task : c.task_at-task.result.now ≡ task_of b.program.value t = c.task_at-task.ensures ∙ ap (λ (q : Program). task_of q t) c.deref.ensures in
-    let accesses : c.items.result.now ≡ (task_of b.program.value t).accesses = c.items.ensures ∙ ap (λ (l : Lowered). l.accesses) task in
-    let places : length c.deref_mut.result.now ≡ length (arrays_in b.tiles.items) = ap length c.deref_mut.ensures.value ∙ sym (length-map b.tiles.items _) in
-    subst (λ (l : List Access). All (λ a. a.cell.0 < length c.deref_mut.result.now) l) (sym accesses) (subst (λ n. All (λ a. a.cell.0 < n) (task_of b.program.value t).accesses) (sym places) (cells-placed _ _ _ _ _ _ c.self.invariant t c.args.w running))
+    let keeps = c.self.invariant.keeps in
+    let running = running-in_hand _ _ _ _ _ _ keeps c.args.self.now c.self.view_is c.args.w t c.in-Some.is c.requires.running in
+    let task : c.task_at-task.result.now ≡ task_of p t = c.task_at-task.ensures ∙ ap (λ (q : Program). task_of q t) c.deref.ensures in
+    let accesses : c.items.result.now ≡ (task_of p t).accesses = c.items.ensures ∙ ap (λ (l : Lowered). l.accesses) task in
+    subst (λ (l : List Access). All (λ a. a.cell.0 < length c.self.inside.tiles) l) (sym accesses)
+    (subst (λ n. All (λ a. a.cell.0 < n) (task_of p t).accesses) (sym c.self.invariant.holds.every_place) (cells-placed _ _ _ _ _ _ keeps t c.args.w running))
 
 pub put_back-requires-clause-count : goal.put_back-requires-clause-count
 put_back-requires-clause-count c =
-    let b = c.self.inside in
-    let p = b.program.value in
+    let p = c.self.inside.program.value in
     let t = c.in-Some.t in
-    let running = running-in_hand _ _ _ _ _ _ c.self.invariant c.args.self.now c.self.view_is c.args.w t c.in-Some.is c.requires.running in
+    let keeps = c.self.invariant.keeps in
+    let kept = arrays_left p c.self.inside.trace.events in
+    let running = running-in_hand _ _ _ _ _ _ keeps c.args.self.now c.self.view_is c.args.w t c.in-Some.is c.requires.running in
     let seen : IsRunning c.args.self.now c.args.w t = subst (λ (s : Standing). IsRunning s c.args.w t) c.self.view_is running in
-    let news : c.args.written.slots ≡ map shared (news_of p (arrays_in b.tiles.items) t) = c.requires.written t seen ∙ ap (λ (s : Standing). map shared (news_of s.program s.arrays t)) (sym c.self.view_is) in
+    let news : c.args.written.slots ≡ map shared (news_of p kept t) = c.requires.written t seen ∙ ap (λ (s : Standing). map shared (news_of s.program s.arrays t)) (sym c.self.view_is) in
     let task : c.task_at-task.result.now ≡ task_of p t = c.task_at-task.ensures ∙ ap (λ (q : Program). task_of q t) c.deref.ensures in
     let accesses : c.items.result.now ≡ (task_of p t).accesses = c.items.ensures ∙ ap (λ (l : Lowered). l.accesses) task in
-    ap length news ∙ length-map (news_of p (arrays_in b.tiles.items) t) shared ∙ news-count _ _ _ _ _ _ c.self.invariant t c.args.w running ∙ ap (λ (l : List Access). length (outputs_among l)) (sym accesses)
+    ap length news ∙ length-map (news_of p kept t) shared ∙ news-count _ _ _ _ _ _ keeps t c.args.w running ∙ ap (λ (l : List Access). length (outputs_among l)) (sym accesses)
 
 -- ---- what the calls have made, part by part
 
 abbrev before : goal.After-drop-written-inside → Standing
-before c = standing c.self.inside.program.value c.self.inside.machine c.self.inside.tasks.items (arrays_in c.self.inside.tiles.items) c.self.inside.trace c.self.inside.delivered
+before c = standing c.self.inside.program.value c.self.inside.machine c.self.inside.tasks.items (arrays_left c.self.inside.program.value c.self.inside.trace.events) c.self.inside.trace c.self.inside.delivered
 
 in_hand : (c : goal.After-drop-written-inside) → IsRunning (before c) c.args.w c.in-Some.t
-in_hand c = running-in_hand _ _ _ _ _ _ c.self.invariant c.args.self.now c.self.view_is c.args.w c.in-Some.t c.in-Some.is c.requires.running
+in_hand c = running-in_hand _ _ _ _ _ _ c.self.invariant.keeps c.args.self.now c.self.view_is c.args.w c.in-Some.t c.in-Some.is c.requires.running
 
-whole : (c : goal.After-drop-written-inside) → arrays_in (take c.self.inside.tiles.len (c.put_back.new.tiles ++ drop (length c.put_back.new.tiles) c.self.inside.tiles.items))
-    ≡ with_arrays c.self.inside.program.value (outputs (task_of c.self.inside.program.value c.in-Some.t)) (news_of c.self.inside.program.value (arrays_in c.self.inside.tiles.items) c.in-Some.t) (arrays_in c.self.inside.tiles.items)
+told : (c : goal.After-drop-written-inside) → c.add.new.self.events ≡ c.self.inside.trace.events ++ End c.in-Some.t c.args.w ∷ []
+told c = c.add.ensures.events
+
+-- each tile is in its place
+whole : (c : goal.After-drop-written-inside) → c.put_back.new.tiles ≡ arrays_left c.self.inside.program.value c.add.new.self.events
 whole c =
-    let b = c.self.inside in
-    let p = b.program.value in
+    let p = c.self.inside.program.value in
     let t = c.in-Some.t in
-    let kept = arrays_in b.tiles.items in
-    let news = news_of p kept t in
-    let new = c.put_back.new.tiles in
+    let keeps = c.self.invariant.keeps in
+    let news = news_of p (before c).arrays t in
+    let old = c.self.inside.tiles in
     let seen : IsRunning c.args.self.now c.args.w t = subst (λ (s : Standing). IsRunning s c.args.w t) c.self.view_is (in_hand c) in
     let slots : c.args.written.slots ≡ map shared news = c.requires.written t seen ∙ ap (λ (s : Standing). map shared (news_of s.program s.arrays t)) (sym c.self.view_is) in
     let made : arrays c.args.written.slots ≡ news = ap arrays slots ∙ map-map (λ (s : Slot). s.array) shared news ∙ map-id news in
     let task : c.task_at-task.result.now ≡ task_of p t = c.task_at-task.ensures ∙ ap (λ (q : Program). task_of q t) c.deref.ensures in
     let accesses : c.items.result.now ≡ (task_of p t).accesses = c.items.ensures ∙ ap (λ (l : Lowered). l.accesses) task in
-    let put : arrays_in new ≡ put_all (outputs_among c.items.result.now) (arrays c.args.written.slots) (arrays_in c.deref_mut.result.now) = c.put_back.ensures in
-    let places : arrays_in c.deref_mut.result.now ≡ kept = ap arrays_in c.deref_mut.ensures.value in
-    let count : length new ≡ b.tiles.len =
-    sym (length-map new _) ∙ ap length put ∙ length-put_all (outputs_among c.items.result.now) (arrays c.args.written.slots) (arrays_in c.deref_mut.result.now) ∙ length-map c.deref_mut.result.now _ ∙ c.deref_mut.ensures.len in
-    let taken : take b.tiles.len (new ++ drop (length new) b.tiles.items) ≡ new = take_at new (drop (length new) b.tiles.items) b.tiles.len count in
-    ap arrays_in taken ∙ put ∙ ap (λ (l : List Access). put_all (outputs_among l) (arrays c.args.written.slots) (arrays_in c.deref_mut.result.now)) accesses
-    ∙ ap (λ (xs : List Array). put_all (outputs (task_of p t)) xs (arrays_in c.deref_mut.result.now)) made
-    ∙ ap (λ (l : List (Option Array)). put_all (outputs (task_of p t)) news l) places
-    ∙ put_all-is p (outputs (task_of p t)) news kept (sym (news-count _ _ _ _ _ _ c.self.invariant t c.args.w (in_hand c)))
+    c.put_back.ensures
+    ∙ ap (λ (l : List Access). put_all (outputs_among l) (arrays c.args.written.slots) old) accesses
+    ∙ ap (λ (xs : List Array). put_all (outputs (task_of p t)) xs old) made
+    ∙ all-back (before c) t old c.self.invariant.holds (runs-in_hand _ _ _ _ _ _ keeps t c.in-Some.is) (sym (news-count _ _ _ _ _ _ keeps t c.args.w (in_hand c)))
+    ∙ sym (left-end p t c.args.w c.self.inside.trace.events c.add.new.self.events (told c))
 
-told : (c : goal.After-drop-written-inside) → c.add.new.self.events ≡ c.self.inside.trace.events ++ End c.in-Some.t c.args.w ∷ []
-told c = c.add.ensures.events
-
-gave : (c : goal.After-drop-written-inside) → c.hand_over.new.delivered.pairs ≡ c.self.inside.delivered.pairs ++ handed c.self.inside.program.value (arrays_in c.self.inside.tiles.items) c.in-Some.t
+gave : (c : goal.After-drop-written-inside) → c.hand_over.new.delivered.pairs ≡ c.self.inside.delivered.pairs ++ handed c.self.inside.program.value (before c).arrays c.in-Some.t
 gave c =
     let t = c.in-Some.t in
-    let gift : option_map _ c.take-gift.result ≡ gift_for c.self.inside.program.value (arrays_in c.self.inside.tiles.items) (task_of c.self.inside.program.value t) = ap (option_map _) c.take-gift.ensures.value ∙ c.self.invariant.gifts t c.args.w (in_hand c) in
+    let gift : option_map _ c.take-gift.result ≡ gift_for c.self.inside.program.value (before c).arrays (task_of c.self.inside.program.value t) = ap (option_map _) c.take-gift.ensures.value ∙ c.self.invariant.keeps.gifts t c.args.w (in_hand c) in
     c.hand_over.ensures ∙ ap (λ (g : Option Array). c.self.inside.delivered.pairs ++ handed_by t g) gift
 
 pub invariant_of-self : goal.invariant_of-self
@@ -90,13 +87,17 @@ invariant_of-self c =
     let t = c.in-Some.t in
     let tasks : c.deref-2.result.now ≡ set b.tasks.items t.0 (Done c.args.w) = c.deref-2.ensures.value in
     let e = c.first_open-self-inside.ensures in
-    keeps-end _ _ _ _ _ _ c.self.invariant t c.args.w (in_hand c) c.in-Some.is c.first_open-self-inside.result _ _ c.add.new.self c.hand_over.new.delivered (whole c) (told c) (gave c)
-    e.from (subst (λ (l : List Progress). c.first_open-self-inside.result ≤ length l) tasks e.upto)
-    (subst (λ (l : List Progress). (k : ℕ) → b.first ≤ k → k < c.first_open-self-inside.result → is_done (get_or l k Waiting) ≡ true) tasks e.done)
-    (subst (λ (l : List Progress). c.first_open-self-inside.result < length l → is_done (get_or l c.first_open-self-inside.result Waiting) ≡ false) tasks e.«open»)
+    record {
+      keeps = keeps-end _ _ _ _ _ _ c.self.invariant.keeps t c.args.w (in_hand c) c.in-Some.is c.first_open-self-inside.result _ _ c.add.new.self c.hand_over.new.delivered (left-end b.program.value t c.args.w b.trace.events c.add.new.self.events (told c)) (told c) (gave c)
+          e.from (subst (λ (l : List Progress). c.first_open-self-inside.result ≤ length l) tasks e.upto)
+          (subst (λ (l : List Progress). (k : ℕ) → b.first ≤ k → k < c.first_open-self-inside.result → is_done (get_or l k Waiting) ≡ true) tasks e.done)
+          (subst (λ (l : List Progress). c.first_open-self-inside.result < length l → is_done (get_or l c.first_open-self-inside.result Waiting) ≡ false) tasks e.«open»);
+      holds = holds-all _ c.put_back.new.tiles (whole c);
+    }
 
 pub returns : goal.returns
 returns c =
     let t = c.in-Some.t in
-    λ u h. (let same = running-same _ _ _ _ _ _ c.self.invariant c.args.self.now c.self.view_is c.args.w t c.in-Some.is u h in
-    ended-is (before c) t c.args.w _ c.add.new.self c.hand_over.new.delivered (whole c) (told c) (gave c) ∙ ap (λ (k : Task). ended (before c) k c.args.w) (sym same) ∙ ap (λ (s : Standing). ended s u c.args.w) c.self.view_is)
+    λ u h. (let same = running-same _ _ _ _ _ _ c.self.invariant.keeps c.args.self.now c.self.view_is c.args.w t c.in-Some.is u h in
+    ended-is (before c) t c.args.w _ c.add.new.self c.hand_over.new.delivered (left-end c.self.inside.program.value t c.args.w c.self.inside.trace.events c.add.new.self.events (told c)) (told c) (gave c)
+    ∙ ap (λ (k : Task). ended (before c) k c.args.w) (sym same) ∙ ap (λ (s : Standing). ended s u c.args.w) c.self.view_is)

@@ -1,12 +1,14 @@
-use Rattle.std.proofs.Common.{ap, ◌+◌, ◌∙◌}
-use Rattle.sj_job.specs.Table.{name_of}
-use Rattle.sj_job.proofs.Seen.{shows_invalidated}
+use Rattle.std.proofs.Common.{◌∙◌, ◌+◌, ap, refl, rules}
+use Rattle.std.proofs.Math.ListN.{set}
+use Rattle.sj_job.specs.Names.{invalidated}
+use Rattle.sj_job.proofs.Seen.{shows_invalidated, at-standing}
 use Rattle.sj_job.proofs.names.Names.invalidate.Goals as goal
 
 pub returns-clause-names : goal.returns-clause-names
 returns-clause-names c = λ n S h.
-    let shown = shows_invalidated c.args.self.now c.set_valued.new.self S (name_of c.args.self.now.roots c.args.root) h.shows c.set_valued.ensures.counted c.set_valued.ensures.roots c.set_valued.ensures.ended c.set_valued.ensures.known in
+    let sts = c.args.self.now.standings.items in
+    let st = at-standing sts c.args.root.0 c.index_mut.result.now (search rules) (search rules) in
     record {
-      statements = ap (λ m. m + 1) (c.set_valued.ensures.count ∙ h.statements);
-      shows = record { counted = shown.counted; registered = shown.registered; ended = shown.ended; known = shown.known; filled = shown.filled };
+      statements = ap (λ m. m + 1) h.statements;
+      shows = shows_invalidated c.args.self.now _ S c.args.root h.shows (record { roots = refl; standings = ap (set sts c.args.root.0) (c.invalidate.ensures ∙ ap invalidated st); root = c.requires.root; below = search rules }) c.requires.counted;
     }

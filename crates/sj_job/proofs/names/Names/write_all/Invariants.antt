@@ -1,6 +1,6 @@
-use Rattle.std.proofs.Common.{◌≡◌, ℕ, List, drop, map}
-use Rattle.sj_job.specs.Names.{IsCounted, known_in, ended_in, after_writes}
-use Rattle.sj_job.specs.View.{operand_seen}
+use Rattle.std.proofs.Common.{◌≡◌, ℕ, drop, get_or}
+use Rattle.sj_job.specs.declared.names.Standing.TheVariants.{Ended}
+use Rattle.sj_job.specs.Names.{IsCounted, after_writes, plan_in}
 use Rattle.sj_job.proofs.names.Names.write_all.Given as goal
 
 abbrev pub invariant-loop-operand : goal.invariant-loop-operand
@@ -8,6 +8,6 @@ invariant-loop-operand l = record {
   counted : l.self.statements ≡ l.initial.self.statements;
   rooted : l.self.roots ≡ l.initial.self.roots;
   standing : IsCounted l.self;
-  ended : (q : List ℕ) → ended_in l.self q ≡ ended_in l.initial.self q;
-  known : (q : List ℕ) → after_writes (drop l.operand-index (map (operand_seen l.initial.self.roots) l.operands)) (known_in l.self) q ≡ after_writes (map (operand_seen l.initial.self.roots) l.operands) (known_in l.initial.self) q;
+  plans : (n : ℕ) → plan_in (get_or l.self.standings.items n Ended) ≡ plan_in (get_or l.initial.self.standings.items n Ended);
+  standings : after_writes (drop l.operand-index l.operands) l.self.standings.items ≡ after_writes l.operands l.initial.self.standings.items;
 }

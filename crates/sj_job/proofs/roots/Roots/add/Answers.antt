@@ -1,6 +1,6 @@
-use Rattle.std.proofs.Common.{◌≡◌, ◌∙◌, ◌++◌, ◌∷◌, [], ℕ, List, length, ap, map, sym, subst, position, None, bytes_eq}
+use Rattle.std.proofs.Common.{◌≡◌, ◌∙◌, ◌++◌, ◌∷◌, [], ℕ, List, ap, map, sym, subst, position, None, bytes_eq}
 use Rattle.sj_job.specs.declared.job.RootInfo.{RootInfo}
-use Rattle.sj_job.specs.Table.{Table, table, root_in, with_root, IsTable}
+use Rattle.sj_job.specs.Table.{Table, table, with_root, IsTable}
 use Rattle.sj_job.proofs.Adding.{key-added, table-pushed, no-place}
 use Rattle.sj_job.proofs.roots.Roots.add.Goals as goal
 

@@ -1,17 +1,26 @@
-use Rattle.std.proofs.Common.{◌≡◌, ◌∙◌, ◌++◌, ◌∷◌, [], ℕ, ap, sym, refl, length, arith, rules}
-use Rattle.sj_base.specs.declared.program.CellInfo.{CellInfo}
-use Rattle.sj_lower.specs.declared.lowerer.Lowerer.{Lowerer}
-use Rattle.sj_lower.specs.Lowering.{first_tasks}
-use Rattle.sj_lower.proofs.Stepping.{follows_registration, cell_for}
+use Rattle.std.proofs.Common.{◌≡◌, ◌∙◌, ◌++◌, ◌∷◌, [], ℕ, length, refl, ap, subst, vec_len, arith, length-append}
+use Rattle.sj_job.specs.declared.job.Act.TheVariants as kept
+use Rattle.sj_lower.specs.Seen.{HasRoom}
+use Rattle.sj_job.specs.Table.{a_root, info_of}
+use Rattle.sj_job.specs.Track.{even}
+use Rattle.sj_lower.specs.Cells.{cells_from}
+use Rattle.sj_lower.specs.Lowering.{load_rows}
+use Rattle.sj_lower.proofs.Following.{does-register}
 use Rattle.sj_lower.proofs.lowerer.Lowerer.register.Goals as goal
 
-pub returns-clause-follows : goal.returns-clause-follows
-returns-clause-follows c = λ T L f d few.
-    let h = c.in_ok-push_first_task.ensures in
-    let old = c.args.self.now in
-    let info = c.args.info in
-    let number : c.len-number.result ≡ length old.cells.items = omega (arith, c.len-number.ensures, old.cells.ok) in
-    follows_registration T old _ L info c.args.init c.args.line f d few
-    (c.in_ok-push.ensures.items ∙ (λ i. (h.cells i).items ++ cell_for (number i) info ∷ []))
-    (h.tasks_are ∙ ap (λ (n : ℕ). old.tasks.items ++ first_tasks c.args.init info.dims (record { 0 = n }) c.args.line) number)
-    (λ i. (h.deliveries i).items) h.prints
+pub returns-clause-does : goal.returns-clause-does
+returns-clause-does c =
+    let T = c.args.roots.now in
+    let l = c.args.self.now in
+    let counted : vec_len l.actives ≡ length l.actives.items = omega (arith, l.actives.ok) in
+    let number : c.len.result ≡ length l.actives.items = omega (arith, c.len.ensures, l.actives.ok) in
+    let info : c.info-info.result ≡ info_of T (a_root (length l.actives.items)) = c.info-info.ensures ∙ ap (λ (n : ℕ). info_of T (a_root n)) number in
+    does-register T l _ c.args.init c.args.first c.args.line (subst (λ (n : ℕ). HasRoom T n (kept.Register c.args.init) c.args.first) counted c.requires.room)
+    (c.in_ok-valued.ensures.tasks ∙ (λ k. l.tasks.items ++ load_rows c.args.init (info k).dims (info k).parts (cells_from c.args.first (info k).parts) c.args.line)) refl refl
+    (c.in_ok-push.ensures.items
+    ∙ ap (λ t. l.actives.items ++ record { tracked = t; first = c.args.first } ∷ []) (c.even.ensures ∙ (λ k. even (info k).parts (c.in_ok-valued.ensures.valued k))))
+
+pub returns-clause-prints : goal.returns-clause-prints
+returns-clause-prints c =
+    let info = c.info-info.result in
+    omega (arith, c.requires.prints, c.args.self.now.tasks.ok, c.push_first.new.tasks.ok, ap length c.in_ok-valued.ensures.tasks, length-append c.args.self.now.tasks.items (load_rows c.args.init info.dims info.parts (cells_from c.args.first info.parts) c.args.line))

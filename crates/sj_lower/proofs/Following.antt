@@ -1,0 +1,361 @@
+-- What the code's steps leave is what the definition says.
+use Rattle.std.proofs.Common.{◌≡◌, ℕ, ◌+◌, ◌*◌, ◌<◌, ◌≤◌, Bool, true, false, cond, not, ◌||◌, Option, Some, None, List, [], ◌∷◌, ◌++◌, length, get_or, unwrap_or, map as each_of, refl, ap, sym, subst, ◌∙◌, inl, inr, arith, length-append, get_or-set_same, get_or-set_other}
+use Rattle.std.proofs.Math.ListN.{set}
+use Rattle.std.specs.List.{All, AllByRecursion, list_all}
+use Rattle.std.specs.Str.{bytes_eq}
+use Rattle.std.specs.Prelude.{◌⊎◌}
+use Rattle.std.proofs.Math.Seq.{get_or-append_seam}
+use Rattle.std.proofs.lemmas.Bool.{and_parts, cases_lt}
+use Rattle.std.proofs.lemmas.List.{append-nil, get_or_append_left, get_or_default, length-set}
+use Rattle.std.proofs.lemmas.List.Elements.{All-head, All-tail}
+use Rattle.sj_base.specs.declared.ids.Line.{Line}
+use Rattle.sj_base.specs.declared.ids.Root.{Root as RootNumber}
+use Rattle.sj_base.specs.declared.mode.Access.{Access}
+use Rattle.sj_base.specs.declared.tile.Dims.{Dims}
+use Rattle.sj_base.specs.declared.program.Lowered.{Lowered}
+use Rattle.sj_codelet.specs.Kernel.{codelet_of}
+use Rattle.sj_plan.specs.declared.parts.Parts.{Parts}
+use Rattle.sj_plan.specs.Parts.{Fits, places}
+use Rattle.sj_plan.specs.Paste.{pastes_of}
+use Rattle.sj_job.specs.declared.job.Act.{Act as Kept}
+use Rattle.sj_job.specs.declared.job.Act.TheVariants as kept
+use Rattle.sj_job.specs.declared.job.Init.{Init}
+use Rattle.sj_job.specs.declared.job.Operand.{Operand as KeptOperand}
+use Rattle.sj_job.specs.declared.job.TaskLine.{TaskLine as KeptTask}
+use Rattle.sj_job.specs.Statement.{Register}
+use Rattle.sj_job.specs.State.{Root, State, root_of, is_valued, is_blank}
+use Rattle.sj_job.specs.Meaning.{registered_root, with_parts, with_elements, no_values, plan, invalidate, run_task}
+use Rattle.sj_job.specs.Names.{gives_values}
+use Rattle.sj_job.specs.Sound.{has_child, has_values, has_none, dims_of as root_dims}
+use Rattle.sj_job.specs.Table.{Table, AreDistinct, a_root, name_of, info_of}
+use Rattle.sj_job.specs.Track.{IsPlan, all_valued, none_valued, children_count, even}
+use Rattle.sj_lower.proofs.Places.{length-places}
+use Rattle.sj_job.specs.View.{operand_seen, task_seen, registration, act_seen}
+use Rattle.sj_job.proofs.Children.{tracks-registered, tracks-planned, tracks-invalidated, all_valued-same, none_valued-same}
+use Rattle.sj_lower.specs.declared.lowerer.Active.{Active}
+use Rattle.sj_lower.specs.declared.lowerer.Lowerer.{Lowerer}
+use Rattle.sj_lower.specs.Cells.{Cells, Handle, same_parts, first_cell, cells_from, take, with_root, next_handle}
+use Rattle.sj_lower.specs.Limits.{most}
+use Rattle.sj_lower.specs.Rows.{an_access, paste_row, deliver_row}
+use Rattle.sj_lower.specs.Lowering.{Lowering, load_rows, access_of, plan_rows, deliver_rows, a_delivery, print_deliveries}
+use Rattle.sj_lower.specs.Seen.{no_active, active_at, pasted_by, IsActive, AreActive, IsNext, Does, HasRoom, access_by, children_after}
+use Rattle.sj_lower.proofs.Agreeing.{plan_rows-are}
+use Rattle.sj_lower.proofs.Holding.{get-put, get-gone, root-change}
+use Rattle.sj_lower.proofs.Laid.{same_name, bytes_eq-itself, some_is, none_isn't, IsTaken, take-keeps, take-takes, take-roots, root-keeps, root-there}
+use Rattle.sj_lower.proofs.Running.{child_there, root_there, valued_there, active_cell-is}
+use Rattle.sj_lower.proofs.Whole.{deliver_rows-are, print_deliveries-are}
+
+-- ---- active plans
+
+-- the plan's cells are those of its name
+pub active-first : (T : Table) (C : Cells) (n : ℕ) (a : Active) (r : Root) → IsActive T C n a r → first_cell C (name_of T (a_root n)) r.parts ≡ a.first
+active-first T C n a r h =
+    ap (λ (o : Option Handle). elim o as (λ _. ℕ) [ None ↦ 0 | Some h ↦ unwrap_or (h.first r.parts) 0 ]) h.named ∙ ap (λ o. unwrap_or o 0) h.taken
+
+-- it stays so where the name keeps what it has taken
+kept-active : (T : Table) (C D : Cells) (n : ℕ) (a : Active) (r : Root) → ((d : Dims) (s : Parts) (f : ℕ) → IsTaken C (name_of T (a_root n)) d s f → IsTaken D (name_of T (a_root n)) d s f) → IsActive T C n a r → IsActive T D n a r
+kept-active T C D n a r keeps h =
+    let t = keeps h.handle.dims r.parts a.first (record { handle = h.handle; is = h.named; dims = refl; first = h.taken }) in
+    record { dims = h.dims; tracks = h.tracks; handle = t.handle; named = t.is; taken = t.first; room = h.room }
+
+-- two roots have two names
+other_root : (T : Table) (m n : ℕ) → AreDistinct T.names → m < length T.names → n < length T.names → (m ≡ n → ⊥) → bytes_eq (name_of T (a_root m)) (name_of T (a_root n)) ≡ false
+other_root T m n d hm hn other = by_test (bytes_eq (name_of T (a_root m)) (name_of T (a_root n))) refl
+  where
+    by_test : (b : Bool) → bytes_eq (name_of T (a_root m)) (name_of T (a_root n)) ≡ b → b ≡ false
+    by_test false e = refl
+    by_test true e = absurd (other (d m n hm hn (same_name (name_of T (a_root m)) (name_of T (a_root n)) e)))
+
+-- the active plans after a change of one root
+pub changed-actives : (T : Table) (C D : Cells) (as' : List Active) (S : State) (i : ℕ) (f : Root → Root) (r : Root) (new : Active) → AreActive T C as' S → i < C.roots → AreDistinct T.names → C.roots ≤ length T.names → D.roots ≡ C.roots
+    → ((q : List ℕ) (d : Dims) (s : Parts) (g : ℕ) → IsTaken C q d s g → IsTaken D q d s g) → root_of S (name_of T (a_root i)) ≡ Some r → IsActive T D i new (f r)
+    → (M : State) → ((q : List ℕ) → root_of M q ≡ cond (bytes_eq (name_of T (a_root i)) q) (Some (f r)) (root_of S q)) → AreActive T D (set as' i new) M
+changed-actives T C D as' S i f r new g below d few roots keeps there is M change = record {
+  counted = length-set as' i new ∙ g.counted ∙ sym roots;
+  each = λ n t lt e. by_number n t (omega (arith, lt, roots)) (cases_lt n i) (cases_lt i n) (sym (change (name_of T (a_root n))) ∙ e);
+}
+  where
+    beside : (n : ℕ) (t : Root) → n < C.roots → (i ≡ n → ⊥) → cond (bytes_eq (name_of T (a_root i)) (name_of T (a_root n))) (Some (f r)) (root_of S (name_of T (a_root n))) ≡ Some t → IsActive T D n (active_at (set as' i new) n) t
+    beside n t lt other e =
+        subst (λ (a : Active). IsActive T D n a t) (sym (get_or-set_other as' i n new no_active (λ e. other (sym e))))
+        (kept-active T C D n (active_at as' n) t (λ d s f k. keeps (name_of T (a_root n)) d s f k) (g.each n t lt (sym (ap (λ b. cond b (Some (f r)) (root_of S (name_of T (a_root n)))) (other_root T i n d (omega (arith, below, few)) (omega (arith, lt, few)) other)) ∙ e)))
+
+    by_number : (n : ℕ) (t : Root) → n < C.roots → (n < i) ⊎ (i ≤ n) → (i < n) ⊎ (n ≤ i) → cond (bytes_eq (name_of T (a_root i)) (name_of T (a_root n))) (Some (f r)) (root_of S (name_of T (a_root n))) ≡ Some t → IsActive T D n (active_at (set as' i new) n) t
+    by_number n t lt (inl less) up e = beside n t lt (λ same. omega (arith, less, same)) e
+    by_number n t lt (inr down) (inl more) e = beside n t lt (λ same. omega (arith, more, same)) e
+    by_number n t lt (inr down) (inr up) e =
+        let same : i ≡ n = omega (arith, down, up) in
+        let is_root : f r ≡ t = some_is (f r) t (sym (ap (λ b. cond b (Some (f r)) (root_of S (name_of T (a_root i)))) (bytes_eq-itself (name_of T (a_root i)))) ∙ ap (λ (m : ℕ). cond (bytes_eq (name_of T (a_root i)) (name_of T (a_root m))) (Some (f r)) (root_of S (name_of T (a_root m)))) same ∙ e) in
+        subst (λ (m : ℕ). IsActive T D m (active_at (set as' i new) m) t) same
+        (subst (λ (a : Active). IsActive T D i a t) (sym (get_or-set_same as' i new no_active (omega (arith, below, g.counted))))
+        (subst (λ (x : Root). IsActive T D i new x) is_root is))
+
+-- ---- registrations
+
+pub does-register : (T : Table) (old new : Lowerer) (init : Init) (first : ℕ) (line : Line) → let info = info_of T (a_root (length old.actives.items)) in HasRoom T (length old.actives.items) (kept.Register init) first
+    → new.tasks.items ≡ old.tasks.items ++ load_rows init info.dims info.parts (cells_from first info.parts) line → new.deliveries.items ≡ old.deliveries.items → new.prints ≡ old.prints
+    → new.actives.items ≡ old.actives.items ++ record { tracked = even info.parts (gives_values init); first = first } ∷ [] → Does T old new (kept.Register init) first line
+does-register T old new init first line room et ed ep ea S L next place = record {
+  tasks = et ∙ (λ i. next.follows.tasks i ++ load_rows init (info_of T (a_root (count i))).dims (info_of T (a_root (count i))).parts (cells_from first (info_of T (a_root (count i))).parts) line)
+      ∙ ap (λ f. L.tasks ++ load_rows init r.dims r.parts (cells_from f r.parts) line) (sym place);
+  deliveries = ed ∙ next.follows.deliveries ∙ sym (append-nil L.deliveries);
+  prints = ep ∙ next.follows.prints;
+  actives = record {
+    counted = ap length ea ∙ length-append old.actives.items (active ∷ []) ∙ ap (λ m. m + 1) count ∙ sym roots;
+    each = λ m t lt e. subst (λ (as' : List Active). IsActive T D m (active_at as' m) t) (sym ea) (by_number m t (omega (arith, lt, roots)) (cases_lt m n) (sym (get-put S.roots r.name (registered_root r) (name_of T (a_root m))) ∙ e));
+  };
+}
+  where
+    n : ℕ
+    n = L.cells.roots
+
+    count : length old.actives.items ≡ n
+    count = next.follows.actives.counted
+
+    r : Register
+    r = registration (name_of T (a_root n)) (info_of T (a_root n)) init
+
+    C : Cells
+    C = with_root r.name r.dims L.cells
+
+    D : Cells
+    D = take r.name r.parts C
+
+    roots : D.roots ≡ n + 1
+    roots = take-roots C r.name r.parts
+
+    there : C.handles r.name ≡ Some (next_handle r.dims L.cells)
+    there = root-there L.cells r.name r.dims
+
+    taken : (f : ℕ) × IsTaken D r.name r.dims r.parts f
+    taken = take-takes C r.name r.parts (next_handle r.dims L.cells) there
+
+    active : Active
+    active = record { tracked = even (info_of T (a_root (length old.actives.items))).parts (gives_values init); first = first }
+
+    is_first : taken.0 ≡ first
+    is_first = sym (ap (λ (o : Option Handle). elim o as (λ _. ℕ) [ None ↦ 0 | Some h ↦ unwrap_or (h.first r.parts) 0 ]) taken.1.is ∙ ap (λ o. unwrap_or o 0) taken.1.first) ∙ place
+
+    here : IsActive T D n (record { tracked = even r.parts (gives_values init); first = first }) (registered_root r)
+    here = record {
+      dims = refl;
+      tracks = tracks-registered r next.sound.parts next.sound.values;
+      handle = taken.1.handle;
+      named = taken.1.is;
+      taken = taken.1.first ∙ ap Some is_first;
+      room = subst (λ (m : ℕ). first + children_after (act_seen T m (kept.Register init)) ≤ most) count room;
+    }
+
+    by_number : (m : ℕ) (t : Root) → m < n + 1 → (m < n) ⊎ (n ≤ m) → cond (bytes_eq r.name (name_of T (a_root m))) (Some (registered_root r)) (root_of S (name_of T (a_root m))) ≡ Some t → IsActive T D m (active_at (old.actives.items ++ active ∷ []) m) t
+    by_number m t lt (inl inside) e =
+        let apart = other_root T n m next.distinct (omega (arith, next.few)) (omega (arith, inside, next.few)) (λ same. omega (arith, same, inside)) in
+        subst (λ (a : Active). IsActive T D m a t) (sym (get_or_append_left old.actives.items (active ∷ []) no_active m (omega (arith, count, inside))))
+        (kept-active T L.cells D m (active_at old.actives.items m) t (λ d s f k. take-keeps C r.name r.parts (next_handle r.dims L.cells) there (name_of T (a_root m)) d s f (root-keeps L.cells r.name r.dims (name_of T (a_root m)) d s f apart k))
+        (next.follows.actives.each m t inside (sym (ap (λ b. cond b (Some (registered_root r)) (root_of S (name_of T (a_root m)))) apart) ∙ e)))
+    by_number m t lt (inr past) e =
+        let same : n ≡ m = omega (arith, lt, past) in
+        let is_root : registered_root r ≡ t = some_is (registered_root r) t (sym (ap (λ b. cond b (Some (registered_root r)) (root_of S (name_of T (a_root n)))) (bytes_eq-itself r.name)) ∙ ap (λ (k : ℕ). cond (bytes_eq r.name (name_of T (a_root k))) (Some (registered_root r)) (root_of S (name_of T (a_root k)))) same ∙ e) in
+        subst (λ (k : ℕ). IsActive T D k (active_at (old.actives.items ++ active ∷ []) k) t) same
+        (subst (λ (a : Active). IsActive T D n a t) (sym (ap (λ k. get_or (old.actives.items ++ active ∷ []) k no_active) (sym count) ∙ get_or-append_seam old.actives.items active [] no_active ∙ ap (λ (k : ℕ). record { tracked = even (info_of T (a_root k)).parts (gives_values init); first = first }) count))
+        (subst (λ (x : Root). IsActive T D n (record { tracked = even r.parts (gives_values init); first = first }) x) is_root here))
+
+-- ---- plans
+
+pub plan_rows-by : (T : Table) (C : Cells) (S : State) (r : RootNumber) (p : Parts) (first : ℕ) (line : Line) (a : Active) (root : Root) → root_of S (name_of T r) ≡ Some root → IsActive T C r.0 a root → first_cell C (name_of T r) p ≡ first → plan_rows S C (name_of T r) p line ≡ pasted_by (info_of T r).dims a p first line
+plan_rows-by T C S r p first line a root there is place =
+    plan_rows-are S C (name_of T r) p line root there
+    ∙ (λ i. cond (same_parts (sym is.tracks.parts i) p || not (sym (all_valued-same a.tracked root is.tracks) i)) [] (each_of (paste_row (cells_from (active-first T C r.0 a root is i) (sym is.tracks.parts i)) (cells_from (place i) p) line) (pastes_of (is.dims i) (sym is.tracks.parts i) p)))
+
+-- a root with its active plan
+pub record IsKnown (T : Table) (l : Lowerer) (S : State) (L : Lowering) (r : RootNumber) : Type 0 where
+  pub root : Root
+  pub is_root : root_of S (name_of T r) ≡ Some root
+  pub active : IsActive T L.cells r.0 (active_at l.actives.items r.0) root
+
+pub known : (T : Table) (l : Lowerer) (a : Kept) (S : State) (L : Lowering) (r : RootNumber) → IsNext T l a S L → r.0 < L.cells.roots → (root : Root) → root_of S (name_of T r) ≡ Some root → IsKnown T l S L r
+known T l a S L r next lt root e = record { root = root; is_root = e; active = next.follows.actives.each r.0 root lt e }
+
+values_are : (S : State) (name : List ℕ) (r : Root) → root_of S name ≡ Some r → (has_values S name || has_none S name) ≡ (is_valued r || is_blank r)
+values_are S name r e = ap (λ (o : Option Root). (elim o as (λ _. Bool) [ None ↦ false | Some r ↦ is_valued r ]) || (elim o as (λ _. Bool) [ None ↦ false | Some r ↦ is_blank r ])) e
+
+dims_are : (S : State) (name : List ℕ) (r : Root) → root_of S name ≡ Some r → root_dims S name ≡ r.dims
+dims_are S name r e = ap (λ (o : Option Root). elim o as (λ _. Dims) [ None ↦ record { rows = 0; cols = 0 } | Some r ↦ r.dims ]) e
+
+-- a plan line's root, its plan and its values
+pub plan-known : (T : Table) (l : Lowerer) (S : State) (L : Lowering) (r : RootNumber) (p : Parts) → IsNext T l (kept.Plan r p) S L → IsKnown T l S L r
+plan-known T l S L r p next = let there = root_there (root_of S (name_of T r)) next.sound.rooted in known T l (kept.Plan r p) S L r next next.placed there.0 there.1
+
+pub plan-fits : (T : Table) (l : Lowerer) (S : State) (L : Lowering) (r : RootNumber) (p : Parts) (next : IsNext T l (kept.Plan r p) S L) → Fits p (plan-known T l S L r p next).root.dims
+plan-fits T l S L r p next = let k = plan-known T l S L r p next in subst (λ (d : Dims). Fits p d) (dims_are S (name_of T r) k.root k.is_root) next.sound.parts
+
+pub plan-even : (T : Table) (l : Lowerer) (S : State) (L : Lowering) (r : RootNumber) (p : Parts) → IsNext T l (kept.Plan r p) S L → (all_valued (active_at l.actives.items r.0).tracked || none_valued (active_at l.actives.items r.0).tracked) ≡ true
+plan-even T l S L r p next =
+    let k = plan-known T l S L r p next in
+    let t = (active_at l.actives.items r.0).tracked in
+    (λ i. all_valued-same t k.root k.active.tracks i || none_valued-same t k.root k.active.tracks i) ∙ sym (values_are S (name_of T r) k.root k.is_root) ∙ next.sound.even
+
+pub does-plan : (T : Table) (old new : Lowerer) (r : RootNumber) (p : Parts) (first : ℕ) (line : Line) → let a = active_at old.actives.items r.0 in HasRoom T (length old.actives.items) (kept.Plan r p) first
+    → new.tasks.items ≡ old.tasks.items ++ pasted_by (info_of T r).dims a p first line → new.deliveries.items ≡ old.deliveries.items → new.prints ≡ old.prints
+    → new.actives.items ≡ set old.actives.items r.0 (record { tracked = even p (all_valued a.tracked); first = first }) → Does T old new (kept.Plan r p) first line
+does-plan T old new r p first line room et ed ep ea S L next place = record {
+  tasks = et ∙ (λ i. next.follows.tasks i ++ sym (plan_rows-by T D S r p first line a root k.is_root kept_here place) i);
+  deliveries = ed ∙ next.follows.deliveries ∙ sym (append-nil L.deliveries);
+  prints = ep ∙ next.follows.prints;
+  actives = subst (λ (as' : List Active). AreActive T D as' (plan name p S)) (sym ea)
+      (changed-actives T L.cells D old.actives.items S r.0 (with_parts p) root new_active next.follows.actives next.placed next.distinct next.few (take-roots L.cells name p) keeps k.is_root here (plan name p S) (λ q. root-change (with_parts p) name S root q k.is_root));
+}
+  where
+    name : List ℕ
+    name = name_of T r
+
+    k : IsKnown T old S L r
+    k = plan-known T old S L r p next
+
+    root : Root
+    root = k.root
+
+    a : Active
+    a = active_at old.actives.items r.0
+
+    D : Cells
+    D = take name p L.cells
+
+    new_active : Active
+    new_active = record { tracked = even p (all_valued a.tracked); first = first }
+
+    keeps : (q : List ℕ) (d : Dims) (s : Parts) (g : ℕ) → IsTaken L.cells q d s g → IsTaken D q d s g
+    keeps q d s g t = take-keeps L.cells name p k.active.handle k.active.named q d s g t
+
+    kept_here : IsActive T D r.0 a root
+    kept_here = kept-active T L.cells D r.0 a root (keeps name) k.active
+
+    taken : (f : ℕ) × IsTaken D name k.active.handle.dims p f
+    taken = take-takes L.cells name p k.active.handle k.active.named
+
+    is_first : taken.0 ≡ first
+    is_first = sym (ap (λ (o : Option Handle). elim o as (λ _. ℕ) [ None ↦ 0 | Some h ↦ unwrap_or (h.first p) 0 ]) taken.1.is ∙ ap (λ o. unwrap_or o 0) taken.1.first) ∙ place
+
+    here : IsActive T D r.0 new_active (with_parts p root)
+    here = record {
+      dims = k.active.dims;
+      tracks = tracks-planned p a.tracked root k.active.tracks (plan-fits T old S L r p next) (plan-even T old S L r p next);
+      handle = taken.1.handle;
+      named = taken.1.is;
+      taken = taken.1.first ∙ ap Some is_first;
+      room = room;
+    }
+
+-- ---- tasks
+
+accesses_same : (T : Table) (S : State) (C : Cells) (as' : List Active) (os : List KeptOperand) → AreActive T C as' S → All (λ o. o.root.0 < C.roots) os → AllByRecursion (λ o. has_child S (operand_seen T o) ≡ true) os
+    → each_of (access_of S C) (each_of (operand_seen T) os) ≡ each_of (access_by as') os
+accesses_same T S C as' [] g placed there = refl
+accesses_same T S C as' (o ∷ os) g placed there =
+    let t = child_there S (operand_seen T o) there.0 in
+    let is = g.each o.root.0 t.root (All-head (λ (o : KeptOperand). o.root.0 < C.roots) o os placed) t.is_root in
+    let a = active_at as' o.root.0 in
+    ap (λ (x : Access). x ∷ each_of (access_of S C) (each_of (operand_seen T) os))
+    (ap (an_access o.mode) (active_cell-is S C (name_of T o.root) o.place t.root t.is_root ∙ (λ i. cells_from (active-first T C o.root.0 a t.root is i) (sym is.tracks.parts i) o.place)))
+    ∙ ap (λ (xs : List Access). access_by as' o ∷ xs) (accesses_same T S C as' os g (All-tail (λ (o : KeptOperand). o.root.0 < C.roots) o os placed) there.1)
+
+pub seen-children : (T : Table) (S : State) (os : List KeptOperand) → list_all (has_child S) (each_of (operand_seen T) os) ≡ true → AllByRecursion (λ o. has_child S (operand_seen T o) ≡ true) os
+seen-children T S [] h = tt
+seen-children T S (o ∷ os) h = let both = and_parts (has_child S (operand_seen T o)) (list_all (has_child S) (each_of (operand_seen T) os)) h in (both.0, seen-children T S os both.1)
+
+-- a task with these accesses
+abbrev pub lowered_task : KeptTask → Line → List Access → Lowered
+lowered_task t line accesses = record { codelet = codelet_of t.kernel; args = t.args; accesses = accesses; line = line; priority = t.priority }
+
+pub does-task : (T : Table) (old new : Lowerer) (t : KeptTask) (line : Line) → new.tasks.items ≡ old.tasks.items ++ lowered_task t line (each_of (access_by old.actives.items) t.operands) ∷ [] → new.deliveries.items ≡ old.deliveries.items → new.prints ≡ old.prints
+    → ((S : State) (L : Lowering) → IsNext T old (kept.Task t) S L → AreActive T L.cells new.actives.items (run_task (task_seen T t) S)) → Does T old new (kept.Task t) 0 line
+does-task T old new t line et ed ep actives S L next place = record {
+  tasks = et ∙ (λ i. next.follows.tasks i ++ lowered_task t line (sym (accesses_same T S L.cells old.actives.items t.operands next.follows.actives next.placed (seen-children T S t.operands next.sound.placed)) i) ∷ []);
+  deliveries = ed ∙ next.follows.deliveries ∙ sym (append-nil L.deliveries);
+  prints = ep ∙ next.follows.prints;
+  actives = actives S L next;
+}
+
+-- ---- prints
+
+pub print-known : (T : Table) (l : Lowerer) (S : State) (L : Lowering) (r : RootNumber) → IsNext T l (kept.Print r) S L → IsKnown T l S L r
+print-known T l S L r next = let there = valued_there (root_of S (name_of T r)) next.sound in known T l (kept.Print r) S L r next next.placed there.0 there.1
+
+-- the tasks of a print statement, by the code's active plan
+abbrev pub delivered_by : Active → Line → List Lowered
+delivered_by a line = each_of (λ place. deliver_row (cells_from a.first a.tracked.parts place) line) (places a.tracked.parts)
+
+pub deliver_rows-by : (T : Table) (C : Cells) (S : State) (r : RootNumber) (line : Line) (a : Active) (root : Root) → root_of S (name_of T r) ≡ Some root → IsActive T C r.0 a root → deliver_rows S C (name_of T r) line ≡ delivered_by a line
+deliver_rows-by T C S r line a root there is =
+    deliver_rows-are S C (name_of T r) line root there
+    ∙ (λ i. each_of (λ place. deliver_row (cells_from (active-first T C r.0 a root is i) (sym is.tracks.parts i) place) line) (places (sym is.tracks.parts i)))
+
+pub does-print : (T : Table) (old new : Lowerer) (r : RootNumber) (line : Line) → let a = active_at old.actives.items r.0 in new.tasks.items ≡ old.tasks.items ++ delivered_by a line
+    → new.deliveries.items ≡ old.deliveries.items ++ each_of (a_delivery (length old.tasks.items) r (info_of T r).dims a.tracked.parts old.prints) (places a.tracked.parts) → new.prints ≡ old.prints + 1
+    → new.actives.items ≡ old.actives.items → Does T old new (kept.Print r) 0 line
+does-print T old new r line et ed ep ea S L next place =
+    let k = print-known T old S L r next in
+    let a = active_at old.actives.items r.0 in
+    let h = k.active.handle in
+    let same = next.numbered r.0 h next.placed k.active.named in
+    let given : print_deliveries S L.cells (name_of T r) (length L.tasks) L.prints ≡ each_of (a_delivery (length L.tasks) r (info_of T r).dims a.tracked.parts L.prints) (places a.tracked.parts) =
+    print_deliveries-are S L.cells (name_of T r) (length L.tasks) L.prints h k.root k.active.named k.is_root (same.1 ∙ sym k.active.dims)
+    ∙ (λ i. each_of (a_delivery (length L.tasks) (same.0 i) (k.active.dims i) (sym k.active.tracks.parts i) L.prints) (places (sym k.active.tracks.parts i))) in
+    record {
+      tasks = et ∙ (λ i. next.follows.tasks i ++ sym (deliver_rows-by T L.cells S r line a k.root k.is_root k.active) i);
+      deliveries = ed ∙ (λ i. next.follows.deliveries i ++ each_of (a_delivery (length (next.follows.tasks i)) r (info_of T r).dims a.tracked.parts (next.follows.prints i)) (places a.tracked.parts)) ∙ ap (λ ds. L.deliveries ++ ds) (sym given);
+      prints = ep ∙ ap (λ n. n + 1) next.follows.prints;
+      actives = subst (λ (as' : List Active). AreActive T L.cells as' S) (sym ea) next.follows.actives;
+    }
+
+-- ---- the other statements
+
+pub invalidate-known : (T : Table) (l : Lowerer) (S : State) (L : Lowering) (r : RootNumber) → IsNext T l (kept.Invalidate r) S L → IsKnown T l S L r
+invalidate-known T l S L r next = let there = root_there (root_of S (name_of T r)) next.sound in known T l (kept.Invalidate r) S L r next next.placed there.0 there.1
+
+pub does-invalidate : (T : Table) (old new : Lowerer) (r : RootNumber) (line : Line) → let a = active_at old.actives.items r.0 in new.tasks.items ≡ old.tasks.items → new.deliveries.items ≡ old.deliveries.items → new.prints ≡ old.prints
+    → new.actives.items ≡ set old.actives.items r.0 (record { tracked = even a.tracked.parts false; first = a.first }) → Does T old new (kept.Invalidate r) 0 line
+does-invalidate T old new r line et ed ep ea S L next place =
+    let k = invalidate-known T old S L r next in
+    let a = active_at old.actives.items r.0 in
+    let empty = λ (r : Root). with_elements (no_values r.dims) r in
+    record {
+      tasks = et ∙ next.follows.tasks ∙ sym (append-nil L.tasks);
+      deliveries = ed ∙ next.follows.deliveries ∙ sym (append-nil L.deliveries);
+      prints = ep ∙ next.follows.prints;
+      actives = subst (λ (as' : List Active). AreActive T L.cells as' (invalidate (name_of T r) S)) (sym ea)
+          (changed-actives T L.cells L.cells old.actives.items S r.0 empty k.root (record { tracked = even a.tracked.parts false; first = a.first }) next.follows.actives next.placed next.distinct next.few refl (λ q d s g t. t) k.is_root
+          (record { dims = k.active.dims; tracks = tracks-invalidated a.tracked k.root k.active.tracks; handle = k.active.handle; named = k.active.named; taken = k.active.taken; room = k.active.room })
+          (invalidate (name_of T r) S) (λ q. root-change empty (name_of T r) S k.root q k.is_root));
+    }
+
+pub does-unregister : (T : Table) (l : Lowerer) (r : RootNumber) (line : Line) → Does T l l (kept.Unregister r) 0 line
+does-unregister T l r line S L next place = record {
+  tasks = next.follows.tasks ∙ sym (append-nil L.tasks);
+  deliveries = next.follows.deliveries ∙ sym (append-nil L.deliveries);
+  prints = next.follows.prints;
+  actives = record {
+    counted = next.follows.actives.counted;
+    each = λ n t lt e. by_test n t lt (bytes_eq (name_of T r) (name_of T (a_root n))) (sym (get-gone S.roots (name_of T r) (name_of T (a_root n))) ∙ e);
+  };
+}
+  where
+    by_test : (n : ℕ) (t : Root) → n < L.cells.roots → (b : Bool) → cond b None (root_of S (name_of T (a_root n))) ≡ Some t → IsActive T L.cells n (active_at l.actives.items n) t
+    by_test n t lt true e = absurd (none_isn't t e)
+    by_test n t lt false e = next.follows.actives.each n t lt e
+
+-- an item that is there, whatever stands for one that isn't
+pub at-default : (as' : List Active) (i : ℕ) (d : Active) → i < length as' → get_or as' i d ≡ active_at as' i
+at-default as' i d h = get_or_default as' i d no_active h
+
+positive : (a b : ℕ) → 0 < a → 0 < b → 0 < a * b
+positive a b h k = grind arith
+
+pub fits-plan : (p : Parts) (d : Dims) → Fits p d → IsPlan p
+fits-plan p d f = record { some = positive p.r p.c f.some_rows f.some_cols; few = f.few }
+
+-- the tasks of a print statement are as many as the children
+pub many-delivered : (T : Table) (l : Lowerer) (S : State) (L : Lowering) (r : RootNumber) (line : Line) → IsNext T l (kept.Print r) S L → length (deliver_rows S L.cells (name_of T r) line) ≡ children_count (active_at l.actives.items r.0).tracked.parts
+many-delivered T l S L r line next =
+    let k = print-known T l S L r next in
+    let a = active_at l.actives.items r.0 in
+    ap length (deliver_rows-by T L.cells S r line a k.root k.is_root k.active) ∙ length-places (λ place. deliver_row (cells_from a.first a.tracked.parts place) line) a.tracked.parts

@@ -1,0 +1,145 @@
+-- A task's operands and the active plans that it leaves.
+use Rattle.std.proofs.Common.{◌≡◌, ℕ, suc, ◌+◌, ◌<◌, ◌≤◌, Bool, true, false, cond, Option, Some, None, List, [], ◌∷◌, length, get_or, map, refl, ap, sym, subst, ◌∙◌, arith, All, get_or-set_same, get_or-set_other, inl, inr}
+use Rattle.std.proofs.Math.ListN.{set}
+use Rattle.std.specs.List.{AllByRecursion}
+use Rattle.std.specs.Str.{bytes_eq}
+use Rattle.std.proofs.lemmas.Bool.{cases_eq}
+use Rattle.std.proofs.lemmas.List.{length-map, length-set, get_or-map}
+use Rattle.std.proofs.lemmas.List.Sums.{AllPass-from_list_all}
+use Rattle.sj_base.specs.Array.{Array}
+use Rattle.sj_plan.specs.declared.parts.Parts.{Parts}
+use Rattle.sj_plan.specs.Parts.{IsPlace}
+use Rattle.sj_job.specs.declared.job.Act.TheVariants as kept
+use Rattle.sj_job.specs.declared.job.Operand.{Operand as KeptOperand}
+use Rattle.sj_job.specs.declared.job.TaskLine.{TaskLine as KeptTask}
+use Rattle.sj_job.specs.Statement.{Operand}
+use Rattle.sj_job.specs.State.{Root, State, root_of, is_child}
+use Rattle.sj_job.specs.Meaning.{is_written, written_of, with_child, put, put_all}
+use Rattle.sj_job.specs.Sound.{has_child}
+use Rattle.sj_job.specs.Table.{Table, AreDistinct, name_of}
+use Rattle.sj_job.specs.Track.{children_count, written}
+use Rattle.sj_job.specs.View.{operand_seen}
+use Rattle.sj_job.proofs.Children.{tracks-written}
+use Rattle.sj_lower.specs.declared.lowerer.Active.{Active}
+use Rattle.sj_lower.specs.declared.lowerer.Lowerer.{Lowerer}
+use Rattle.sj_lower.specs.Cells.{Cells}
+use Rattle.sj_lower.specs.Limits.{most}
+use Rattle.sj_lower.specs.Lowering.{Lowering}
+use Rattle.sj_lower.specs.Seen.{no_active, active_at, AreActive, IsNext, AreIn, after_write, after_writes}
+use Rattle.sj_lower.proofs.Following.{changed-actives}
+use Rattle.sj_lower.proofs.Holding.{root-change}
+use Rattle.sj_lower.proofs.Laid.{same_name}
+use Rattle.sj_lower.proofs.Running.{child_there}
+
+-- ---- operands
+
+-- a child of its name's active plan is one of its root's
+child-in : (T : Table) (C : Cells) (as' : List Active) (S : State) (o : KeptOperand) → AreActive T C as' S → o.root.0 < C.roots → has_child S (operand_seen T o) ≡ true → AreIn as' o
+child-in T C as' S o g lt h =
+    let t = child_there S (operand_seen T o) h in
+    let a = g.each o.root.0 t.root lt t.is_root in
+    record {
+      root = omega (arith, lt, g.counted);
+      place = subst (λ (p : Parts). IsPlace p o.place) (sym a.tracks.parts) t.placed;
+      room = subst (λ (p : Parts). (active_at as' o.root.0).first + children_count p ≤ most) (sym a.tracks.parts) a.room;
+    }
+
+pub are-in : (T : Table) (l : Lowerer) (t : KeptTask) (S : State) (L : Lowering) → IsNext T l (kept.Task t) S L → All (AreIn l.actives.items) t.operands
+are-in T l t S L next = λ k d lt.
+    let os = t.operands in
+    let seen = operand_seen T in
+    let o = get_or os k d in
+    let there : k < length (map seen os) = omega (arith, lt, length-map os seen) in
+    let h : has_child S (seen o) ≡ true = ap (has_child S) (sym (get_or-map seen os k d (seen d) lt)) ∙ AllPass-from_list_all (has_child S) (map seen os) next.sound.placed k (seen d) there in
+    child-in T L.cells l.actives.items S o next.follows.actives (next.placed k d lt) h
+
+-- ---- what a task writes
+
+abbrev child_by : ℕ × ℕ → Option Root → Bool
+child_by place o = elim o as (λ _. Bool) [ None ↦ false | Some r ↦ is_child r.parts place ]
+
+-- children stay children
+has-kept : (S : State) (o p : Operand) (x : Array) (r : Root) → root_of S o.name ≡ Some r → has_child S p ≡ true → has_child (put o x S) p ≡ true
+has-kept S o p x r e h = ap (child_by p.place) (root-change (with_child o.place x) o.name S r p.name e) ∙ by_test (bytes_eq o.name p.name) refl
+  where
+    by_test : (b : Bool) → bytes_eq o.name p.name ≡ b → child_by p.place (cond b (Some (with_child o.place x r)) (root_of S p.name)) ≡ true
+    by_test true t = sym (ap (child_by p.place) (ap (root_of S) (sym (same_name o.name p.name t)) ∙ e)) ∙ h
+    by_test false t = h
+
+all-kept : (T : Table) (S : State) (o : Operand) (x : Array) (r : Root) (os : List KeptOperand) → root_of S o.name ≡ Some r → AllByRecursion (λ (p : KeptOperand). has_child S (operand_seen T p) ≡ true) os → AllByRecursion (λ (p : KeptOperand). has_child (put o x S) (operand_seen T p) ≡ true) os
+all-kept T S o x r [] e h = tt
+all-kept T S o x r (p ∷ os) e h = (has-kept S o (operand_seen T p) x r e h.0, all-kept T S o x r os e h.1)
+
+-- the active plan of a root, one of whose children is written
+abbrev wrote : List Active → KeptOperand → Active
+wrote as' o = record { tracked = written (active_at as' o.root.0).tracked o.place; first = (active_at as' o.root.0).first }
+
+write-follows : (T : Table) (C : Cells) (as' : List Active) (S : State) (o : KeptOperand) (x : Array) → AreActive T C as' S → AreDistinct T.names → C.roots ≤ length T.names → o.root.0 < C.roots → has_child S (operand_seen T o) ≡ true → AreActive T C (set as' o.root.0 (wrote as' o)) (put (operand_seen T o) x S)
+write-follows T C as' S o x g d few lt h =
+    let t = child_there S (operand_seen T o) h in
+    let a = g.each o.root.0 t.root lt t.is_root in
+    let f = with_child o.place x in
+    changed-actives T C C as' S o.root.0 f t.root (wrote as' o) g lt d few refl (λ q d s g k. k) t.is_root
+    (record { dims = a.dims; tracks = tracks-written o.place x (active_at as' o.root.0).tracked t.root a.tracks t.placed; handle = a.handle; named = a.named; taken = a.taken; room = a.room })
+    (put (operand_seen T o) x S) (λ q. root-change f (name_of T o.root) S t.root q t.is_root)
+
+abbrev seen_of : Table → List KeptOperand → List Operand
+seen_of T os = written_of (map (operand_seen T) os)
+
+-- where there is an array for each written operand
+abbrev Follow : Table → Cells → List KeptOperand → List Array → List Active → State → Type 0
+Follow T C os xs as' S = AreActive T C (after_writes os as') (put_all (seen_of T os) xs S)
+
+write_by : (T : Table) (C : Cells) (as' : List Active) (S : State) (o : KeptOperand) (os : List KeptOperand) (xs : List Array) (b : Bool) → AreActive T C as' S → AreDistinct T.names → C.roots ≤ length T.names → o.root.0 < C.roots → has_child S (operand_seen T o) ≡ true → AllByRecursion (λ (p : KeptOperand). has_child S (operand_seen T p) ≡ true) os
+    → length (cond b (operand_seen T o ∷ seen_of T os) (seen_of T os)) ≤ length xs
+    → ((ys : List Array) (bs : List Active) (U : State) → AreActive T C bs U → AllByRecursion (λ (p : KeptOperand). has_child U (operand_seen T p) ≡ true) os → length (seen_of T os) ≤ length ys → Follow T C os ys bs U)
+    → AreActive T C (after_writes os (cond b (set as' o.root.0 (wrote as' o)) as')) (put_all (cond b (operand_seen T o ∷ seen_of T os) (seen_of T os)) xs S)
+write_by T C as' S o os [] true g d few lt h hs l rest = absurd (omega (arith, l))
+write_by T C as' S o os (x ∷ xs) true g d few lt h hs l rest =
+    let t = child_there S (operand_seen T o) h in
+    rest xs (set as' o.root.0 (wrote as' o)) (put (operand_seen T o) x S) (write-follows T C as' S o x g d few lt h) (all-kept T S (operand_seen T o) x t.root os t.is_root hs) (omega (arith, l))
+write_by T C as' S o os xs false g d few lt h hs l rest = rest xs as' S g hs l
+
+pub writes-follow : (T : Table) (C : Cells) (as' : List Active) (S : State) (os : List KeptOperand) (xs : List Array) → AreActive T C as' S → AreDistinct T.names → C.roots ≤ length T.names → All (λ (o : KeptOperand). o.root.0 < C.roots) os → AllByRecursion (λ (o : KeptOperand). has_child S (operand_seen T o) ≡ true) os → length (written_of (map (operand_seen T) os)) ≤ length xs → AreActive T C (after_writes os as') (put_all (written_of (map (operand_seen T) os)) xs S)
+writes-follow T C as' S [] xs g d few lts hs l = g
+writes-follow T C as' S (o ∷ os) xs g d few lts hs l =
+    write_by T C as' S o os xs (is_written o.mode) g d few (lts 0 o (omega arith)) hs.0 hs.1 l
+    (λ ys bs U k hk m. writes-follow T C bs U os ys k d few (λ i e lt. lts (suc i) e (omega (arith, lt))) hk m)
+
+-- ---- the code's loop over operands
+
+-- one operand's active plan has another child with a value, and keeps its plan and its cells
+pub record SamePlans (old new : List Active) : Type 0 where
+  pub counted : length new ≡ length old
+  pub parts : (n : ℕ) → (active_at new n).tracked.parts ≡ (active_at old n).tracked.parts
+  pub first : (n : ℕ) → (active_at new n).first ≡ (active_at old n).first
+
+same_set : (as' : List Active) (o : KeptOperand) → o.root.0 < length as' → SamePlans as' (set as' o.root.0 (wrote as' o))
+same_set as' o lt = record {
+  counted = length-set as' o.root.0 (wrote as' o);
+  parts = λ n. elim (cases_eq n o.root.0) as (λ _. (active_at (set as' o.root.0 (wrote as' o)) n).tracked.parts ≡ (active_at as' n).tracked.parts) [
+    | inl same ↦ ap (λ m. (active_at (set as' o.root.0 (wrote as' o)) m).tracked.parts) same ∙ ap (λ (a : Active). a.tracked.parts) (get_or-set_same as' o.root.0 (wrote as' o) no_active lt) ∙ ap (λ m. (active_at as' m).tracked.parts) (sym same)
+    | inr other ↦ ap (λ (a : Active). a.tracked.parts) (get_or-set_other as' o.root.0 n (wrote as' o) no_active other)
+  ];
+  first = λ n. elim (cases_eq n o.root.0) as (λ _. (active_at (set as' o.root.0 (wrote as' o)) n).first ≡ (active_at as' n).first) [
+    | inl same ↦ ap (λ m. (active_at (set as' o.root.0 (wrote as' o)) m).first) same ∙ ap (λ (a : Active). a.first) (get_or-set_same as' o.root.0 (wrote as' o) no_active lt) ∙ ap (λ m. (active_at as' m).first) (sym same)
+    | inr other ↦ ap (λ (a : Active). a.first) (get_or-set_other as' o.root.0 n (wrote as' o) no_active other)
+  ];
+}
+
+same_cond : (b : Bool) (as' : List Active) (o : KeptOperand) → o.root.0 < length as' → SamePlans as' (cond b (set as' o.root.0 (wrote as' o)) as')
+same_cond true as' o lt = same_set as' o lt
+same_cond false as' o lt = record { counted = refl; parts = λ n. refl; first = λ n. refl }
+
+pub same-written : (as' : List Active) (o : KeptOperand) → o.root.0 < length as' → SamePlans as' (after_write as' o)
+same-written as' o lt = same_cond (is_written o.mode) as' o lt
+
+pub same-again : (a b c : List Active) → SamePlans a b → SamePlans b c → SamePlans a c
+same-again a b c h k = record { counted = k.counted ∙ h.counted; parts = λ n. k.parts n ∙ h.parts n; first = λ n. k.first n ∙ h.first n }
+
+pub still-in : (old new : List Active) (o : KeptOperand) → SamePlans old new → AreIn old o → AreIn new o
+still-in old new o h i = record {
+  root = omega (arith, h.counted, i.root);
+  place = subst (λ (p : Parts). IsPlace p o.place) (sym (h.parts o.root.0)) i.place;
+  room = (let plan = h.parts o.root.0 in let first = h.first o.root.0 in let room = i.room in omega (arith, room, first, ap children_count plan));
+}

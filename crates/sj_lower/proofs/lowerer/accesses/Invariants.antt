@@ -1,0 +1,7 @@
+use Rattle.std.proofs.Common.{◌≡◌, map, take}
+use Rattle.sj_lower.specs.Seen.{access_by}
+use Rattle.sj_lower.proofs.lowerer.accesses.Given as goal
+
+-- the accesses of the operands so far
+abbrev pub invariant-loop-operand : goal.invariant-loop-operand
+invariant-loop-operand l = l.accesses.items ≡ map (access_by l.actives) (take l.operand-index l.operands)

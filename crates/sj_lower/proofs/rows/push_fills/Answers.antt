@@ -1,0 +1,32 @@
+use Rattle.std.proofs.Common.{◌≡◌, ◌∙◌, ◌+◌, ap, arith, rules, ℕ, length}
+use Rattle.sj_base.specs.declared.ids.Cell.{Cell}
+use Rattle.sj_plan.specs.declared.rect.Rect.{Rect}
+use Rattle.sj_plan.specs.Rect.{child, children_of}
+use Rattle.sj_lower.specs.Cells.{cells_from}
+use Rattle.sj_lower.specs.Rows.{fill_row}
+use Rattle.sj_lower.proofs.Children.{child-pushed, all-pushed, cell-at, rect-at, length-children}
+use Rattle.sj_lower.proofs.Places.{place_at}
+use Rattle.sj_lower.proofs.rows.push_fills.Goals as goal
+
+pub bounds-items-k : goal.bounds-items-k
+bounds-items-k c =
+    let listed : c.items.result.now ≡ children_of c.args.dims c.args.placed.parts = search rules in
+    omega (arith, c.loop-k-test.true, ap length listed, length-children c.args.dims c.args.placed.parts)
+
+pub loop-k-preserved : goal.loop-k-preserved
+loop-k-preserved c =
+    let p = c.args.placed.parts in
+    let first = c.args.placed.first in
+    let a = c.args.fill.0 in
+    let b = c.args.fill.1 in
+    let listed : c.items.result.now ≡ children_of c.args.dims p = search rules in
+    let mk : ℕ → Cell = λ n. record { 0 = n } in
+    child-pushed (λ (place : ℕ × ℕ). fill_row a b c.args.dims (child c.args.dims p place) (cells_from first p place) c.args.line) p c.args.tasks.now.items c.loop-k.tasks.items _ _ c.loop-k.k c.loop-k.invariant c.in_ok-push.ensures.items
+    (c.in_ok-fill_row.ensures
+    ∙ ap (λ (r : Rect). fill_row a b c.args.dims r (mk (first + c.loop-k.k)) c.args.line) (rect-at c.args.dims p c.items.result.now c.loop-k.k _ listed c.loop-k-test.true)
+    ∙ ap (λ (x : Cell). fill_row a b c.args.dims (child c.args.dims p (place_at p c.loop-k.k)) x c.args.line) (cell-at first p c.loop-k.k))
+
+pub returns : goal.returns
+returns c =
+    let p = c.args.placed.parts in
+    all-pushed (λ (place : ℕ × ℕ). fill_row c.args.fill.0 c.args.fill.1 c.args.dims (child c.args.dims p place) (cells_from c.args.placed.first p place) c.args.line) p c.args.tasks.now.items c.loop-k.tasks.items c.loop-k.k (omega (arith, c.loop-k.auto.k-end, c.loop-k-test.false)) c.loop-k.invariant

@@ -1,0 +1,28 @@
+-- A job against which no line speaks, and the limits of lowering.
+use Rattle.std.proofs.Common.{◌≡◌, List, Option, Some, None, Result, Ok, Err, ap}
+use Rattle.sj_job.specs.Act.{Statement}
+use Rattle.sj_job.specs.declared.reason.ReadRefusal.{ReadRefusal}
+use Rattle.sj_job.specs.declared.reason.ReadRefusal.TheVariants.{Refused, OutOfMemory as NoMemory}
+use Rattle.sj_job.specs.Reading.{IsRefusal, Refusal}
+use Rattle.sj_lower.specs.declared.lower.LowerRefusal.{LowerRefusal}
+use Rattle.sj_lower.specs.declared.lower.LowerRefusal.TheVariants.{TooManyCells, TooManyTasks, OutOfMemory}
+use Rattle.sj_lower.specs.Limits.{late_limit}
+use Rattle.sj_lower.specs.Progress.{IsLate}
+use Rattle.starjob.specs.Refused.{refusal_of}
+use Rattle.starjob.specs.Top.{JobOrRefusal, within_limits}
+
+abbrev limited : List Statement → Option Refusal → JobOrRefusal
+limited ss late = elim late [ None ↦ Ok ss | Some e ↦ Err e ]
+
+pub within : (ss : List Statement) → late_limit ss ≡ None → within_limits (Ok ss) ≡ Ok ss
+within ss e = ap (limited ss) e
+
+pub late : (ss : List Statement) (e : LowerRefusal) → IsLate e (late_limit ss) → IsRefusal (refusal_of e) (within_limits (Ok ss))
+late ss (TooManyCells line) h = ap (limited ss) h
+late ss (TooManyTasks line) h = ap (limited ss) h
+late ss OutOfMemory h = tt
+
+-- a line that is refused is refused before any limit of lowering
+pub early : (job : JobOrRefusal) (e : ReadRefusal) → IsRefusal e job → IsRefusal e (within_limits job)
+early job NoMemory h = tt
+early job (Refused line reason) h = ap within_limits h

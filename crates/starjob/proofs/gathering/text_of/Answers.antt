@@ -1,0 +1,55 @@
+use Rattle.std.proofs.Common.{◌≡◌, ◌<◌, ◌+◌, ◌++◌, refl, sym, ap, ◌∙◌, subst, arith, List, [], ◌∷◌, ℕ, map}
+use Rattle.std.specs.Prelude.{All, Contains}
+use Rattle.std.proofs.lemmas.List.{append-nil}
+use Rattle.std.proofs.lemmas.List.FromFn.{map-range_with_len_more}
+use Rattle.std.proofs.lemmas.Grind.{flat_map-append}
+use Rattle.std.specs.List.{range_with_len, flat_map}
+use Rattle.sj_base.specs.declared.program.Delivery.{Delivery}
+use Rattle.sj_base.specs.declared.program.Program.{Program}
+use Rattle.sj_job.specs.Meaning.{Printed}
+use Rattle.sj_lower.specs.Delivering.{deliveries_for}
+use Rattle.starjob.specs.Gathering.{IsShown, prints_of, shown}
+use Rattle.starjob.specs.Output.{output, printed_block}
+use Rattle.starjob.proofs.Grouping.{cut, from-zero, of-among}
+use Rattle.starjob.proofs.gathering.text_of.Goals as goal
+
+abbrev print_number : Delivery → ℕ
+print_number d = d.print
+
+pub loop-print-init : goal.loop-print-init
+loop-print-init c = record {
+  text = c.new-text.ensures.items;
+  rest = c.items-rest.ensures ∙ sym (from-zero print_number c.args.program.now.deliveries);
+}
+
+pub write_print-requires-clause-handed : goal.write_print-requires-clause-handed
+write_print-requires-clause-handed c =
+    let p = c.args.program.now in
+    let k = c.loop-print.print in
+    let both = cut print_number k c.count_of.result p.deliveries c.loop-print.rest.now c.split_at.result.0.now c.split_at.result.1.now c.requires.grouped.ascending c.loop-print.invariant.rest c.count_of.ensures.count c.split_at.ensures.front c.split_at.ensures.back in
+    subst (λ (q : Program). All (Contains q.deliveries) c.split_at.result.0.now) (sym c.in_ok-handed.ensures)
+    (subst (All (Contains p.deliveries)) (sym both.0) (of-among print_number k p.deliveries))
+
+pub write_print-requires-clause-shown : goal.write_print-requires-clause-shown
+write_print-requires-clause-shown c =
+    let p = c.args.program.now in
+    let T = c.args.roots.now in
+    let k = c.loop-print.print in
+    let both = cut print_number k c.count_of.result p.deliveries c.loop-print.rest.now c.split_at.result.0.now c.split_at.result.1.now c.requires.grouped.ascending c.loop-print.invariant.rest c.count_of.ensures.count c.split_at.ensures.front c.split_at.ensures.back in
+    let below : k < prints_of p = subst (λ (n : ℕ). k < n) c.prints_of-print-end.ensures c.loop-print-test.true in
+    subst (λ (q : Program). IsShown T q c.split_at.result.0.now) (sym c.in_ok-handed.ensures) (subst (IsShown T p) (sym both.0) (c.requires.grouped.each k below))
+
+pub loop-print-preserved : goal.loop-print-preserved
+loop-print-preserved c =
+    let p = c.args.program.now in
+    let T = c.args.roots.now in
+    let k = c.loop-print.print in
+    let both = cut print_number k c.count_of.result p.deliveries c.loop-print.rest.now c.split_at.result.0.now c.split_at.result.1.now c.requires.grouped.ascending c.loop-print.invariant.rest c.count_of.ensures.count c.split_at.ensures.front c.split_at.ensures.back in
+    let f : ℕ → Printed = λ n. shown T p (deliveries_for p n) in
+    let one : printed_block (shown T c.in_ok-handed.handed c.split_at.result.0.now) ≡ printed_block (f k) = λ i. printed_block (shown T (c.in_ok-handed.ensures i) (both.0 i)) in
+    let more : output (map f (range_with_len 0 (k + 1))) ≡ output (map f (range_with_len 0 k)) ++ printed_block (f k) =
+    ap output (map-range_with_len_more f 0 k k (omega arith)) ∙ flat_map-append printed_block (map f (range_with_len 0 k)) (f k ∷ []) ∙ ap (λ (xs : List ℕ). output (map f (range_with_len 0 k)) ++ xs) (append-nil (printed_block (f k))) in
+    record {
+      text = c.in_ok-write_print.ensures ∙ ap (λ (xs : List ℕ). xs ++ printed_block (shown T c.in_ok-handed.handed c.split_at.result.0.now)) c.loop-print.invariant.text ∙ ap (λ (xs : List ℕ). output (map f (range_with_len 0 k)) ++ xs) one ∙ sym more;
+      rest = both.1;
+    }
