@@ -1,5 +1,6 @@
 pub mod Agrees
 pub mod Board
+pub mod BoardRow
 pub mod BoardSound
 pub mod Copies
 pub mod Delivered

@@ -8,6 +8,7 @@ ghost use Rattle.sj_machine.specs.Board.{EndsMoveOf, HasCause, HasTask, IsBusy, 
 ghost use Rattle.sj_pool.specs.Pool.{task_for};
 ghost use Rattle.sj_pool.specs.Queue.{has_fitting};
 ghost use Rattle.sj_core.specs.Program.{task_of};
+ghost use Rattle.sj_machine.specs.BoardSound.{IsSoundBoard};
 ghost use Rattle.sj_machine.specs.Planning.{IsRefusal};
 ghost use Rattle.sj_machine.specs.Releasing.{EndsTask};
 ghost use Rattle.sj_machine.specs.Running.{AreResultsFor, AreSharesFor, read_among};
@@ -24,6 +25,7 @@ use crate::refusal::ClaimRefusal;
 use crate::releasing::release;
 use crate::run_state::{RunRefusal, RunState};
 use sj_base::ids::{Cell, Place, Task, Worker};
+use sj_base::keyed::Keyed;
 use sj_base::memory::OutOfMemory;
 use sj_base::program::{Machine, Program};
 use sj_base::tile::Tile;
@@ -59,6 +61,21 @@ impl<D: Disk> Model for Board<D> {
 
     ghost invariant = { λ b. KeepsBoard D.faults D.mismatches D.held
         (board_state b.run b.hands.items b.pool b.fault) b.deps b.footprints.items };
+}
+
+impl<D: Disk> Keyed for Board<D> {
+    ghost use Rattle.sj_machine.specs.BoardRow.{BoardKey, BoardRow, key_of, row_of_number};
+    ghost use Rattle.sj_machine.specs.BoardSound.{IsSoundBoard};
+
+    ghost Key = { BoardKey D };
+
+    ghost Row = { BoardRow };
+
+    ghost key = { key_of };
+
+    ghost row_of = { row_of_number };
+
+    ghost sound = { IsSoundBoard D.size D.faults D.mismatches D.held };
 }
 
 /// A worker's row loses its task. Constant time.
@@ -320,6 +337,13 @@ impl<D: Disk> Board<D> {
         ensures { self.new ≡ stopped self.old w }
     {
         stop_hand(&mut self.hands, w);
+    }
+
+    /// No code: its contract is what is true of every board.
+    pub fn is_sound(&self)
+        ensures { IsSoundBoard D.size D.faults D.mismatches D.held self.now }
+    {
+        self.run.is_sound();
     }
 
     /// The events, the disks, and the first fault. Constant time, and no memory.
