@@ -1,5 +1,5 @@
 -- A board stays sound where an event changes no task's progress.
-use Rattle.std.proofs.Common.{◌≡◌, ℕ, ◌<◌, List, [], Option, Some, None, IsTrue, subst, sym, ap, ◌∙◌, refl, slice_index_or, is_some, ◌⊎◌, ◌↔◌}
+use Rattle.std.proofs.Common.{◌≡◌, ℕ, List, [], Option, Some, None, IsTrue, subst, sym, ap, ◌∙◌, refl, slice_index_or, is_some, ◌⊎◌, ◌↔◌}
 use Rattle.std.specs.Prelude.{IfSome, IsSomeAnd, OnErr, OnOk, Ok, Err, Result}
 use Rattle.std.specs.List.{Contains}
 use Rattle.sj_base.specs.declared.trace.Event.{Event}
@@ -19,7 +19,7 @@ use Rattle.sj_deps.specs.Conflict.{Ready}
 use Rattle.sj_deps.specs.Progress.{Progress as Dependencies}
 use Rattle.sj_pool.specs.Pool.{Pooled}
 use Rattle.sj_machine.specs.Board.{BoardState, has_event}
-use Rattle.sj_machine.specs.BoardSound.{CountsDone, HandsAgree, IsSoundIn, IsToBeTaken, KeepsBoard, StandsOnce, StopsAtTheEnd}
+use Rattle.sj_machine.specs.BoardSound.{CountsDone, IsSoundIn, IsToBeTaken, KeepsBoard}
 use Rattle.sj_machine.specs.Standing.{HasMoved, Standing, state, with_event}
 use Rattle.sj_machine.specs.declared.fault.RunFault.{RunFault}
 use Rattle.sj_machine.specs.declared.hand.Hand.{Hand}

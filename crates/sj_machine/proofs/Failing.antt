@@ -1,5 +1,5 @@
 -- A board stays sound where a worker fails, and where it stops.
-use Rattle.std.proofs.Common.{◌≡◌, ℕ, ◌+◌, ◌<◌, Bool, true, false, IsTrue, Option, Some, None, List, inl, inr, refl, sym, subst, ap, ◌∙◌, length, length-set, slice_set, is_some}
+use Rattle.std.proofs.Common.{◌≡◌, ℕ, ◌+◌, ◌<◌, true, false, IsTrue, Option, Some, None, List, inl, inr, refl, sym, subst, ap, ◌∙◌, length, length-set, is_some}
 use Rattle.std.specs.Prelude.{IfSome}
 use Rattle.std.proofs.lemmas.Bool.{cases_lt, false≢true}
 use Rattle.std.proofs.lemmas.List.{get_or_past}
@@ -9,11 +9,10 @@ use Rattle.sj_core.specs.declared.progress.Progress.TheVariants.{Claimed, Done, 
 use Rattle.sj_core.proofs.Words.{Machine, Program, State, Task, Worker, is_done, is_task_of, progress}
 use Rattle.sj_core.specs.Legal.{IsComplete}
 use Rattle.sj_deps.specs.Progress.{Progress as Dependencies}
-use Rattle.sj_machine.specs.Board.{BoardState, HasCause, IsOver, IsWorking, failed, first_fault, hand_in, hand_of, stopped}
+use Rattle.sj_machine.specs.Board.{BoardState, HasCause, IsOver, IsWorking, failed, first_fault, hand_of, stopped}
 use Rattle.sj_machine.specs.BoardSound.{HandsAgree, KeepsBoard, StopsAtTheEnd, times_pooled}
-use Rattle.sj_machine.specs.Standing.{Standing, state}
+use Rattle.sj_machine.specs.Standing.{state}
 use Rattle.sj_machine.specs.declared.fault.RunFault.{RunFault}
-use Rattle.sj_machine.specs.declared.hand.Hand.{Hand}
 use Rattle.sj_machine.proofs.Hands.{given-same, hand-set, pool_for-same, stands-same}
 
 -- there is a fault from then on, and it has its cause

@@ -1,16 +1,15 @@
 -- A board stays sound where a worker is given a task from the pool, and where it gives one back.
-use Rattle.std.proofs.Common.{◌≡◌, ℕ, ◌+◌, ◌<◌, ◌≤◌, Bool, true, false, IsTrue, nat_eq, nat_le, ◌⊎◌, Option, Some, None, List, All, cond, refl, sym, subst, ap, ◌∙◌, arith, length, length-set, slice_set, is_some}
+use Rattle.std.proofs.Common.{◌≡◌, ℕ, ◌+◌, ◌<◌, ◌≤◌, true, false, IsTrue, nat_le, ◌⊎◌, Option, Some, None, List, cond, refl, sym, subst, ap, ◌∙◌, arith, length, length-set, slice_set, is_some}
 use Rattle.std.proofs.lemmas.List.Sums.{get_or-le-sum_by}
-use Rattle.sj_core.proofs.Words.{Machine, Program, State, Task, Worker, footprint, is_task_of, node_of, node_size, progress, task_of}
+use Rattle.sj_core.proofs.Words.{Machine, Program, State, Task, Worker, footprint, is_task_of, node_of, node_size, progress}
 use Rattle.sj_core.specs.Legal.{IsComplete}
 use Rattle.sj_deps.specs.Progress.{Progress as Dependencies}
 use Rattle.sj_pool.proofs.Serving.{serving-fits}
-use Rattle.sj_pool.specs.Entry.{entry}
-use Rattle.sj_pool.specs.Pool.{Pooled, contains, home, queue_count, serves, task_for, turns, with_entry, without_entry_for}
+use Rattle.sj_pool.specs.Pool.{Pooled, contains, home, serves, task_for, turns, with_entry, without_entry_for}
 use Rattle.sj_pool.specs.declared.entry.Entry.{Entry}
-use Rattle.sj_machine.specs.Board.{BoardState, board_state, empty_hand, given_back, given_next, hand_in, hand_of, room_of}
+use Rattle.sj_machine.specs.Board.{BoardState, board_state, empty_hand, given_back, given_next, hand_of, room_of}
 use Rattle.sj_machine.specs.Filling.{entry_of}
-use Rattle.sj_machine.specs.BoardSound.{IsEntry, IsPoolFor, IsSoundIn, IsToBeTaken, KeepsBoard, is_given, times_given, times_pooled}
+use Rattle.sj_machine.specs.BoardSound.{IsEntry, IsPoolFor, IsToBeTaken, KeepsBoard, is_given, times_given, times_pooled}
 use Rattle.sj_machine.specs.Standing.{Standing, state}
 use Rattle.sj_machine.specs.declared.fault.RunFault.{RunFault}
 use Rattle.sj_machine.specs.declared.hand.Hand.{Hand}

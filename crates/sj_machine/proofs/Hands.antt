@@ -1,14 +1,12 @@
 -- What becomes of a board's hands where one of them changes.
-use Rattle.std.proofs.Common.{◌≡◌, ◌≢◌, ℕ, ◌+◌, ◌<◌, ◌≤◌, Bool, true, false, IsTrue, Option, Some, None, List, cond, inl, inr, refl, sym, subst, ap, ◌∙◌, arith, length, length-set, slice_set, slice_index_or, is_some}
+use Rattle.std.proofs.Common.{◌≡◌, ◌≢◌, ℕ, ◌+◌, ◌<◌, ◌≤◌, Bool, false, Option, Some, None, List, cond, inl, inr, sym, subst, ap, ◌∙◌, arith, length, slice_set, slice_index_or}
 use Rattle.std.proofs.lemmas.Bool.{cases_eq}
 use Rattle.std.proofs.lemmas.List.{get_or-set_other, get_or-set_same}
 use Rattle.std.proofs.lemmas.List.Sums.{sum_by-set}
-use Rattle.sj_core.proofs.Words.{Machine, Program, State, Task, Worker, footprint, is_task_of, node_of, node_size, progress}
-use Rattle.sj_core.specs.Legal.{IsComplete}
+use Rattle.sj_core.proofs.Words.{Machine, Program, State, Task, Worker, footprint, node_of, node_size}
 use Rattle.sj_pool.specs.Pool.{Pooled}
 use Rattle.sj_machine.specs.Board.{empty_hand, hand_in}
-use Rattle.sj_machine.specs.BoardSound.{HandsAgree, IsPoolFor, StandsOnce, StopsAtTheEnd, is_given, times_given, times_pooled}
-use Rattle.sj_machine.specs.declared.fault.RunFault.{RunFault}
+use Rattle.sj_machine.specs.BoardSound.{IsPoolFor, StandsOnce, is_given, times_given, times_pooled}
 use Rattle.sj_machine.specs.declared.hand.Hand.{Hand}
 
 -- what is so of a new hand of one worker, and of the old ones of the others, is so of each worker's

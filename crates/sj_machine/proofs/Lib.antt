@@ -16,6 +16,7 @@ pub mod Failing
 pub mod Giving
 pub mod Hands
 pub mod FillLoop
+pub mod Faulting
 pub mod Finishing
 pub mod Keeping
 pub mod Lending

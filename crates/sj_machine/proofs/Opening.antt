@@ -1,6 +1,6 @@
 -- A board on which nothing has happened is sound.
-use Rattle.std.proofs.Common.{◌≡◌, ◌≢◌, ℕ, cond, ◌+◌, ◌*◌, ◌%◌, ◌<◌, ◌≤◌, ◌⊎◌, ◌↔◌, Bool, true, false, IsTrue, Option, Some, None, List, [], ◌∷◌, All, inl, inr, refl, sym, subst, ap, ◌∙◌, arith, length, map, replicate, get_or, is_some}
-use Rattle.std.specs.Prelude.{count_by, sum_by}
+use Rattle.std.proofs.Common.{◌≡◌, ℕ, cond, ◌+◌, ◌<◌, ◌≤◌, ◌↔◌, Option, None, List, [], All, inl, inr, refl, sym, subst, ap, ◌∙◌, arith, length, map, replicate, get_or}
+use Rattle.std.specs.Prelude.{count_by}
 use Rattle.std.specs.List.{Contains}
 use Rattle.std.specs.List.Sorted.{IsStrictlyIncreasing}
 use Rattle.std.proofs.lemmas.Bool.{cases_lt, false≢true}
@@ -10,10 +10,8 @@ use Rattle.std.proofs.lemmas.List.Folds.{sum_by-replicate}
 use Rattle.std.proofs.lemmas.List.Kept.{AllPairs-from_increasing}
 use Rattle.std.proofs.lemmas.Option.{none-some}
 use Rattle.sj_base.specs.declared.mode.Policy.{Policy}
-use Rattle.sj_base.specs.declared.mode.Policy.TheVariants.{Eager, Prio, Ws}
 use Rattle.sj_core.proofs.Readiness.{done_tasks-done}
 use Rattle.sj_core.proofs.Words.{Machine, Program, State, Task, Worker, is_done, is_task_of, opening, progress}
-use Rattle.sj_core.specs.declared.progress.Progress.{Progress}
 use Rattle.sj_core.specs.declared.progress.Progress.TheVariants.{Waiting}
 use Rattle.sj_core.specs.Step.{done_tasks}
 use Rattle.sj_deps.specs.Conflict.{Ready}
@@ -22,7 +20,7 @@ use Rattle.sj_disk.specs.Directory.{DiskState}
 use Rattle.sj_pool.specs.Pool.{Pooled, empty, queue_count}
 use Rattle.sj_pool.specs.declared.entry.Entry.{Entry}
 use Rattle.sj_machine.specs.Board.{board_state, empty_hand, hand_in}
-use Rattle.sj_machine.specs.BoardSound.{AreFootprints, IsEntry, IsPoolFor, IsToBeTaken, KeepsBoard, is_entry_of, is_given, times_given, times_pooled}
+use Rattle.sj_machine.specs.BoardSound.{AreFootprints, IsEntry, IsPoolFor, KeepsBoard, is_entry_of, is_given, times_given, times_pooled}
 use Rattle.sj_machine.specs.Filling.{CanPutEach, putter, with_each}
 use Rattle.sj_machine.specs.Preparing.{AreFirst, IsOpening, IsPrepared, first_hands, first_pool}
 use Rattle.sj_machine.specs.Standing.{Standing, starting}

@@ -1,11 +1,10 @@
 -- Tasks that stand nowhere in the pool can be put there one after another, and then each stands there once more.
-use Rattle.std.proofs.Common.{◌≡◌, ℕ, ◌+◌, ◌<◌, ◌≤◌, true, Option, Some, None, List, [], ◌∷◌, All, cond, refl, sym, subst, ap, ◌∙◌, arith, length, length-set, nat_eq}
+use Rattle.std.proofs.Common.{◌≡◌, ℕ, ◌+◌, ◌<◌, ◌≤◌, Option, List, [], ◌∷◌, All, cond, refl, sym, subst, ◌∙◌, arith, length, length-set, nat_eq}
 use Rattle.std.specs.Prelude.{count_by}
 use Rattle.std.proofs.lemmas.List.Elements.{All-head, All-tail}
 use Rattle.std.proofs.lemmas.List.Sums.{sum_by-cons}
 use Rattle.sj_core.proofs.Words.{Machine, Program, Task, Worker}
-use Rattle.sj_pool.specs.Pool.{Pooled, home, queue, put_into, with_entry}
-use Rattle.sj_pool.specs.declared.entry.Entry.{Entry}
+use Rattle.sj_pool.specs.Pool.{Pooled, home, queue, put_into}
 use Rattle.sj_machine.specs.BoardSound.{IsEntry, IsPoolFor, times_pooled}
 use Rattle.sj_machine.specs.Filling.{entry_of, CanPutEach, putter, with_each, with_task}
 use Rattle.sj_machine.specs.declared.hand.Hand.{Hand}

@@ -1,15 +1,13 @@
 -- What a board has beside its run when nothing has happened.
-use Rattle.std.proofs.Common.{◌≡◌, ◌≢◌, ℕ, ◌+◌, ◌<◌, ◌≤◌, ◌^◌, ◌⊎◌, ◌↔◌, Bool, true, false, not, List, [], ◌∷◌, ◌++◌, All, inl, inr, refl, sym, subst, ap, ◌∙◌, arith, length, filter, map, get_or, slice_index_or}
+use Rattle.std.proofs.Common.{◌≡◌, ℕ, ◌+◌, ◌<◌, ◌≤◌, ◌^◌, ◌↔◌, not, List, [], ◌∷◌, ◌++◌, All, inl, inr, refl, sym, subst, ap, ◌∙◌, arith, length, filter, map, get_or}
 use Rattle.std.specs.Prelude.{AllPairs, sum}
 use Rattle.std.specs.List.{Contains}
-use Rattle.std.specs.List.Sorted.{IsStrictlyIncreasing}
-use Rattle.std.proofs.lemmas.Bool.{cases_eq, cases_lt}
+use Rattle.std.proofs.lemmas.Bool.{cases_eq}
 use Rattle.std.proofs.lemmas.List.Elements.{All-contains_itself, All-get_or, All-weaker, Contains-append_left, Contains-push, Contains-push_cases}
 use Rattle.std.proofs.lemmas.List.{get_or-map, length-map, map-append}
 use Rattle.std.proofs.lemmas.List.Kept.{AllPairs-from_increasing}
 use Rattle.std.proofs.lemmas.List.Quantifiers.{all_pairs_push}
 use Rattle.std.proofs.lemmas.List.Sums.{sum-map}
-use Rattle.sj_base.specs.Mode.{is_data, is_scratch}
 use Rattle.sj_base.specs.declared.ids.Cell.{Cell}
 use Rattle.sj_base.specs.declared.ids.Task.{Task}
 use Rattle.sj_base.specs.declared.program.CellInfo.{CellInfo}
@@ -23,7 +21,7 @@ use Rattle.sj_deps.specs.Conflict.{Ready}
 use Rattle.sj_node.specs.Entry.{Entry, has_entry}
 use Rattle.sj_node.specs.Store.{Store}
 use Rattle.sj_machine.specs.Plan.{IsSmallCell}
-use Rattle.sj_machine.specs.Planning.{HasSmallTask, lacking, named}
+use Rattle.sj_machine.specs.Planning.{lacking, named}
 use Rattle.sj_machine.proofs.ClaimPins.{few-operands}
 use Rattle.sj_machine.specs.Preparing.{AreReadyBelow, HasSmallTasks}
 

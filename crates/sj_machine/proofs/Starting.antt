@@ -1,13 +1,11 @@
 -- A board stays sound where the kernel of a claimed task begins.
-use Rattle.std.proofs.Common.{◌≡◌, ◌≢◌, ℕ, ◌+◌, ◌<◌, ◌⊎◌, Bool, true, false, IsTrue, Option, Some, None, List, inl, inr, refl, sym, subst, ap, ◌∙◌, arith, length, is_some}
+use Rattle.std.proofs.Common.{◌≡◌, ℕ, ◌⊎◌, IsTrue, Option, List, inl, inr, refl, sym, subst, ap, ◌∙◌, arith, is_some}
 use Rattle.std.specs.Prelude.{OnErr, OnOk, Ok, Err, Result}
-use Rattle.std.proofs.lemmas.Bool.{false≢true}
 use Rattle.sj_base.specs.declared.trace.Event.TheVariants.{Run}
 use Rattle.sj_core.proofs.Advancing.{Advances, Runs-advances, same_task}
 use Rattle.sj_core.proofs.Reading.{progress-inside}
 use Rattle.sj_core.proofs.States.{state_of-more}
 use Rattle.sj_core.proofs.Words.{Machine, Program, State, Task, Worker, is_done, is_task_of, progress}
-use Rattle.sj_core.specs.declared.progress.Progress.{Progress}
 use Rattle.sj_core.specs.declared.progress.Progress.TheVariants.{Claimed, Running, Waiting}
 use Rattle.sj_core.specs.Legal.{IsComplete}
 use Rattle.sj_core.specs.Step.{after}

@@ -1,14 +1,13 @@
 -- What is said of ready tasks and of hands, where one task's progress changes.
-use Rattle.std.proofs.Common.{◌≡◌, ◌≢◌, ℕ, ◌+◌, ◌<◌, ◌⊎◌, ◌↔◌, Bool, true, false, IsTrue, nat_eq, Option, Some, None, List, inl, inr, refl, sym, subst, ap, ◌∙◌, arith, length, is_some}
+use Rattle.std.proofs.Common.{◌≡◌, ◌≢◌, ℕ, ◌<◌, ◌↔◌, false, List, inl, inr, sym, ap, ◌∙◌, length}
 use Rattle.std.specs.List.{Contains}
-use Rattle.std.proofs.lemmas.Bool.{cases_lt, false≢true}
+use Rattle.std.proofs.lemmas.Bool.{false≢true}
 use Rattle.std.proofs.lemmas.List.Sums.{AllPass-from_list_all}
 use Rattle.sj_core.proofs.Advancing.{Advances, same_task}
 use Rattle.sj_core.proofs.Readiness.{done_tasks-done, done_tasks-has}
-use Rattle.sj_core.proofs.Reading.{progress-inside}
-use Rattle.sj_core.proofs.Words.{Machine, Program, State, Task, Worker, done_in, is_done, is_task_of, progress}
+use Rattle.sj_core.proofs.Words.{Program, State, Task, done_in, is_done, progress}
 use Rattle.sj_core.specs.declared.progress.Progress.{Progress}
-use Rattle.sj_core.specs.declared.progress.Progress.TheVariants.{Claimed, Done, Running, Waiting}
+use Rattle.sj_core.specs.declared.progress.Progress.TheVariants.{Waiting}
 use Rattle.sj_core.specs.Legal.{IsComplete}
 use Rattle.sj_core.specs.Step.{done_tasks}
 use Rattle.sj_deps.specs.Conflict.{Ready}

@@ -1,5 +1,5 @@
 -- A board stays sound where a worker claims the task that it was given.
-use Rattle.std.proofs.Common.{◌≡◌, ◌≢◌, ℕ, ◌+◌, ◌<◌, ◌≤◌, ◌⊎◌, Bool, true, false, not, IsTrue, nat_eq, Option, Some, None, List, cond, inl, inr, refl, sym, subst, ap, ◌∙◌, arith, length, length-set, slice_set, slice_index_or, is_some}
+use Rattle.std.proofs.Common.{◌≡◌, ◌≢◌, ℕ, ◌+◌, ◌<◌, ◌≤◌, ◌⊎◌, true, false, not, IsTrue, Option, Some, None, List, inl, inr, refl, sym, subst, ap, ◌∙◌, arith, length, length-set, slice_set, is_some}
 use Rattle.std.proofs.lemmas.Bool.{cases_eq, false≢true, false_from_ne_true}
 use Rattle.std.proofs.lemmas.List.Elements.{All-from_get_or}
 use Rattle.std.proofs.lemmas.List.Sums.{list_all-from_AllPass}
@@ -7,14 +7,13 @@ use Rattle.std.proofs.lemmas.Option.{none-some}
 use Rattle.sj_base.specs.declared.trace.Event.TheVariants.{Claim}
 use Rattle.sj_core.proofs.Advancing.{Advances, Claims-advances, claimed-is_mine, same_task, task_of-worker}
 use Rattle.sj_core.proofs.States.{state_of-more}
-use Rattle.sj_core.proofs.Words.{Machine, Program, State, Task, Worker, footprint, is_done, is_idle, is_task_of, node_of, node_size, progress}
-use Rattle.sj_core.specs.declared.progress.Progress.{Progress}
+use Rattle.sj_core.proofs.Words.{Machine, Program, State, Task, Worker, footprint, is_done, is_task_of, node_of, node_size, progress}
 use Rattle.sj_core.specs.declared.progress.Progress.TheVariants.{Claimed, Waiting}
 use Rattle.sj_core.specs.Legal.{IsComplete}
 use Rattle.sj_core.specs.Step.{after}
 use Rattle.sj_deps.specs.Progress.{Progress as Dependencies}
-use Rattle.sj_machine.specs.Board.{BoardState, IsWorking, empty_hand, hand_in, hand_of, has_claimed}
-use Rattle.sj_machine.specs.BoardSound.{HandsAgree, IsPoolFor, IsToBeTaken, KeepsBoard, StandsOnce, StopsAtTheEnd, is_given, times_given, times_pooled}
+use Rattle.sj_machine.specs.Board.{BoardState, IsWorking, hand_in, hand_of, has_claimed}
+use Rattle.sj_machine.specs.BoardSound.{HandsAgree, IsToBeTaken, KeepsBoard, StandsOnce, StopsAtTheEnd, times_given, times_pooled}
 use Rattle.sj_machine.specs.Planning.{MayClaim}
 use Rattle.sj_machine.specs.Sound.{IsSoundRun}
 use Rattle.sj_machine.specs.Standing.{CanHappen, Standing, state, with_event}

@@ -1,8 +1,7 @@
 -- A board stays sound where a task ends, and the tasks that become ready go to the pool.
-use Rattle.std.proofs.Common.{◌≡◌, ◌≢◌, ℕ, suc, ◌+◌, ◌<◌, ◌≤◌, ◌⊎◌, ◌↔◌, Bool, true, false, IsTrue, nat_eq, Option, Some, None, List, [], ◌∷◌, ◌++◌, All, cond, inl, inr, refl, sym, subst, ap, ◌∙◌, arith, length, length-set, slice_set, is_some, map, get_or}
+use Rattle.std.proofs.Common.{◌≡◌, ◌≢◌, ℕ, suc, ◌+◌, ◌<◌, ◌≤◌, ◌⊎◌, ◌↔◌, true, false, IsTrue, nat_eq, Option, Some, None, List, [], ◌∷◌, ◌++◌, All, cond, inl, inr, refl, sym, subst, ap, ◌∙◌, arith, length, length-set, slice_set, is_some, map, get_or}
 use Rattle.std.specs.Prelude.{AllPairs}
 use Rattle.std.specs.List.{Contains}
-use Rattle.std.specs.List.Sorted.{IsStrictlyIncreasing}
 use Rattle.std.proofs.lemmas.Bool.{cases_eq, cases_lt, false≢true}
 use Rattle.std.proofs.lemmas.List.{get_or-map, length-map}
 use Rattle.std.proofs.lemmas.List.Elements.{All-contains_itself, All-from_get_or, All-get_or, Contains-append_cases, Contains-append_left, Contains-append_right}
@@ -10,22 +9,22 @@ use Rattle.std.proofs.lemmas.List.Kept.{AllPairs-from_increasing}
 use Rattle.std.proofs.lemmas.List.Sums.{get_or-le-sum_by}
 use Rattle.std.proofs.lemmas.Option.{none-some}
 use Rattle.sj_base.specs.declared.trace.Event.TheVariants.{End}
-use Rattle.sj_core.proofs.Advancing.{Advances, EarlierAreDone-kept, Ends-advances, same_task, task_of-worker}
+use Rattle.sj_core.proofs.Advancing.{Advances, Ends-advances, same_task, task_of-worker}
 use Rattle.sj_core.proofs.Readiness.{Ready-earlier, Ready-from, done_tasks-done, done_tasks-has}
 use Rattle.sj_core.proofs.Reading.{progress-inside}
 use Rattle.sj_core.proofs.States.{state_of-more}
-use Rattle.sj_core.proofs.Words.{Machine, Program, State, Task, Worker, done_in, footprint, is_done, is_task_of, node_of, node_size, progress}
+use Rattle.sj_core.proofs.Words.{Machine, Program, State, Task, Worker, done_in, is_done, is_task_of, progress}
 use Rattle.sj_core.specs.Coherent.{is_begun}
 use Rattle.sj_core.specs.Legal.{IsComplete}
 use Rattle.sj_core.specs.Step.{EarlierAreDone, after, done_tasks}
 use Rattle.sj_core.specs.declared.progress.Progress.{Progress}
 use Rattle.sj_core.specs.declared.progress.Progress.TheVariants.{Claimed, Done, Running, Waiting}
-use Rattle.sj_deps.specs.Conflict.{Conflict, Ready}
-use Rattle.sj_deps.specs.Progress.{BecomesReady, Progress as Dependencies, after as after_done}
+use Rattle.sj_deps.specs.Conflict.{Ready}
+use Rattle.sj_deps.specs.Progress.{Progress as Dependencies, after as after_done}
 use Rattle.sj_pool.specs.Pool.{Pooled}
 use Rattle.sj_machine.specs.Board.{BoardState, IsWorking, board_state, hand_in, hand_of, has_ended}
-use Rattle.sj_machine.specs.BoardSound.{CountsDone, HandsAgree, IsPoolFor, IsToBeTaken, KeepsBoard, StandsOnce, StopsAtTheEnd, times_given, times_pooled}
-use Rattle.sj_machine.specs.Filling.{CanPutEach, putter, with_each}
+use Rattle.sj_machine.specs.BoardSound.{HandsAgree, IsToBeTaken, KeepsBoard, StandsOnce, StopsAtTheEnd, times_given, times_pooled}
+use Rattle.sj_machine.specs.Filling.{CanPutEach, with_each}
 use Rattle.sj_machine.specs.Releasing.{AreReleased, BecomeReady, EndsTask, Releases}
 use Rattle.sj_machine.specs.Sound.{IsSoundRun}
 use Rattle.sj_machine.specs.Standing.{CanHappen, Standing, state, with_event}

@@ -1,21 +1,13 @@
 -- A board as contracts see it: the run, what each worker has in hand, the pool of ready tasks, and the first fault.
-use Rattle.std.specs.Prelude.{◌≡◌, ◌≢◌, ℕ, ◌+◌, ◌<◌, ◌≤◌, ◌⊎◌, Bool, true, false, IsTrue, nat_eq, Option, Some, None, IfSome, IsSomeAnd, is_some, All, List, map, replicate, length, count_by, sum_by, slice_get, slice_index_or, slice_set, if◌then◌else◌}
-use Rattle.std.specs.List.{list_all, Contains}
+use Rattle.std.specs.Prelude.{◌≡◌, ◌≢◌, ℕ, ◌<◌, ◌⊎◌, true, false, IsTrue, Option, Some, None, IfSome, IsSomeAnd, is_some, List, slice_get, slice_index_or, slice_set, if◌then◌else◌}
 use Rattle.sj_base.specs.declared.ids.Task.{Task}
 use Rattle.sj_base.specs.declared.ids.Worker.{Worker}
-use Rattle.sj_base.specs.declared.program.Program.{Program}
-use Rattle.sj_base.specs.declared.program.Machine.{Machine}
 use Rattle.sj_base.specs.declared.trace.Event.{Event}
 use Rattle.sj_base.specs.declared.trace.Event.TheVariants.{Claim, End, Moved}
 use Rattle.sj_core.specs.Legal.{IsComplete}
-use Rattle.sj_core.specs.Machine.{State, is_claimed_by, is_running_on, is_task_of, progress, transfer}
-use Rattle.sj_core.specs.Needs.{footprint, node_of, node_size}
-use Rattle.sj_core.specs.Program.{task_of}
-use Rattle.sj_core.specs.Step.{done_tasks}
-use Rattle.sj_core.specs.declared.progress.Progress.{Progress}
-use Rattle.sj_core.specs.declared.progress.Progress.TheVariants.{Waiting}
+use Rattle.sj_core.specs.Machine.{is_running_on, progress, transfer}
+use Rattle.sj_core.specs.Needs.{node_of, node_size}
 use Rattle.sj_core.specs.declared.progress.Transfer.{Transfer}
-use Rattle.sj_deps.specs.Conflict.{Ready}
 use Rattle.sj_pool.specs.Pool.{Pooled, task_for, with_entry, without_entry_for}
 use Rattle.sj_machine.specs.Filling.{entry_of, with_each}
 use Rattle.sj_machine.specs.Standing.{AllTell, Standing, state, with_event}
@@ -95,6 +87,10 @@ has_event b e = record b { run = with_event b.run e }
 -- the worker's transfer has ended, and nothing else has happened
 abbrev pub EndsMoveOf : {D : Type 0} → Worker → BoardState D → BoardState D → Type 0
 EndsMoveOf w old new = IfSome (transfer (state old.run) w) (λ x. new ≡ has_event old (Moved x.cell x.from x.to))
+
+-- no event has happened: the disks alone may have changed
+abbrev pub OnlyDisksChangeOn : {D : Type 0} → BoardState D → BoardState D → Type 0
+OnlyDisksChangeOn old new = new ≡ record old { run = record old.run { disks = new.run.disks } }
 
 -- the bytes of a worker's node
 abbrev pub room_of : {D : Type 0} → BoardState D → Worker → ℕ

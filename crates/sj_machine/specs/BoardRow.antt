@@ -1,5 +1,5 @@
 -- The key of a board, which no call changes, and the row of a worker, which its calls alone change.
-use Rattle.std.specs.Prelude.{◌≡◌, ℕ, Bool, true, false, Option, Some, None, List, [], filter, map, is_some, nat_eq, option_map, if◌then◌else◌}
+use Rattle.std.specs.Prelude.{ℕ, Bool, false, Option, List, [], filter, map, is_some, nat_eq, option_map, if◌then◌else◌}
 use Rattle.sj_base.specs.declared.ids.Task.{Task}
 use Rattle.sj_base.specs.declared.ids.Worker.{Worker}
 use Rattle.sj_base.specs.declared.ids.Place.TheVariants.{Node as AtNode}
@@ -8,7 +8,7 @@ use Rattle.sj_base.specs.declared.program.Machine.{Machine}
 use Rattle.sj_base.specs.declared.trace.Event.{Event}
 use Rattle.sj_base.specs.declared.trace.Event.TheVariants.{Claim, Run, End}
 use Rattle.sj_base.specs.Array.{Array}
-use Rattle.sj_core.specs.Machine.{WorkerState, is_running_on, progress, transfer, worker_state, writes}
+use Rattle.sj_core.specs.Machine.{WorkerState, is_running_on, progress, worker_state, writes}
 use Rattle.sj_core.specs.Needs.{node_of}
 use Rattle.sj_core.specs.Operands.{cells_of}
 use Rattle.sj_core.specs.Step.{array_at}

@@ -17,7 +17,7 @@ use Rattle.sj_pool.specs.declared.entry.Entry.{Entry}
 use Rattle.sj_machine.specs.Board.{BoardState, HasCause, hand_in}
 use Rattle.sj_machine.specs.Filling.{entry_of}
 use Rattle.sj_machine.specs.Sound.{IsSoundRun}
-use Rattle.sj_machine.specs.Standing.{Standing, state}
+use Rattle.sj_machine.specs.Standing.{state}
 use Rattle.sj_machine.specs.declared.fault.RunFault.{RunFault}
 use Rattle.sj_machine.specs.declared.hand.Hand.{Hand}
 

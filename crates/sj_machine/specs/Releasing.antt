@@ -1,5 +1,5 @@
 -- The tasks that become ready as a task ends.
-use Rattle.std.specs.Prelude.{◌≡◌, ◌↔◌, List, Some, None, Option, map}
+use Rattle.std.specs.Prelude.{◌≡◌, ◌↔◌, List, Some, map}
 use Rattle.std.specs.List.{Contains}
 use Rattle.std.specs.List.Sorted.{IsStrictlyIncreasing}
 use Rattle.sj_base.specs.declared.ids.Task.{Task}

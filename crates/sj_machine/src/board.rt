@@ -4,7 +4,7 @@ ghost use Rattle.std.specs.Prelude.{◌≡◌, ◌↔◌, ◌<◌, ◌≤◌, []
 ghost use Rattle.sj_base.specs.declared.trace.Event.TheVariants.{Claim, Drop, End, Move, Run};
 ghost use Rattle.sj_core.specs.Needs.{node_of};
 ghost use Rattle.sj_core.specs.Step.{mover_of};
-ghost use Rattle.sj_machine.specs.Board.{EndsMoveOf, HasCause, HasTask, IsBusy, IsFree, IsIdle, IsOver, IsWorking, RunsNone, WasGiven, failed, first_fault, given_back, given_next, hand_in, has_claimed, has_event, room_of, stopped, transfer_of};
+ghost use Rattle.sj_machine.specs.Board.{EndsMoveOf, HasCause, HasTask, IsBusy, IsFree, IsIdle, IsOver, IsWorking, OnlyDisksChangeOn, RunsNone, WasGiven, failed, first_fault, given_back, given_next, hand_in, has_claimed, has_event, room_of, stopped, transfer_of};
 ghost use Rattle.sj_pool.specs.Pool.{task_for};
 ghost use Rattle.sj_pool.specs.Queue.{has_fitting};
 ghost use Rattle.sj_core.specs.Program.{task_of};
@@ -12,9 +12,10 @@ ghost use Rattle.sj_machine.specs.BoardSound.{IsSoundBoard};
 ghost use Rattle.sj_machine.specs.Planning.{IsRefusal};
 ghost use Rattle.sj_machine.specs.Releasing.{EndsTask};
 ghost use Rattle.sj_machine.specs.Running.{AreResultsFor, AreSharesFor, read_among};
-ghost use Rattle.sj_machine.specs.Sound.{CanStart, IsWrittenOut};
+ghost use Rattle.sj_machine.specs.Sound.{CanStart, FetchesMoved, IsWrittenOut, StoresMoved};
 ghost use Rattle.sj_machine.specs.Preparing.{IsOpening};
-ghost use Rattle.sj_machine.specs.Standing.{CanHappen, IsMovingIn, IsMovingOut, IsShareOf, IsTileMoved, state};
+ghost use Rattle.sj_machine.specs.Sparing.{EventsSpareUsed};
+ghost use Rattle.sj_machine.specs.Standing.{CanHappen, HasDimsMoved, IsFetching, IsMovingIn, IsMovingOut, IsShareOf, IsTileMoved, state};
 ghost use Rattle.sj_machine.specs.Tiles.{array_in};
 
 use crate::fault::RunFault;
@@ -33,6 +34,7 @@ use sj_base::trace::Trace;
 use sj_codelet::frame::Frame;
 use sj_deps::deps::Deps;
 use sj_disk::disk_set::DiskSet;
+use sj_disk::refusal::DiskRefusal;
 use sj_edge::disk::Disk;
 use sj_pool::pool::Pool;
 use std::alloc::Global;
@@ -316,6 +318,34 @@ impl<D: Disk> Board<D> {
         self.run.end_move_out(w);
     }
 
+    /// Writes the tile of a worker's move to the block of its cell. No event, and no memory. Linear in the tile.
+    ///
+    /// After an `Err` the block may hold any bytes, and the move is still under way.
+    pub fn store(&mut self, w: Worker, tile: &Tile) -> Result<(), DiskRefusal>
+        requires busy { IsBusy self.old w }
+        requires under_way { IsMovingOut self.old.run w }
+        requires tile { IsTileMoved D.held self.old.run w tile.now }
+        ensures no_event { OnlyDisksChangeOn self.old self.new }
+        ensures stores { StoresMoved D.size D.faults D.mismatches D.held w tile.now.elements result self.old.run self.new.run }
+        ensures written { OnOk result (IsWrittenOut D.held self.new.run w) }
+    {
+        self.run.store(w, tile)
+    }
+
+    /// Reads the block of the cell of a worker's move into a tile. No event, and no memory. Linear in the tile.
+    ///
+    /// After an `Err` the tile holds any elements, and the move is still under way.
+    pub fn fetch(&mut self, w: Worker, tile: &mut Tile) -> Result<(), DiskRefusal>
+        requires busy { IsBusy self.old w }
+        requires under_way { IsFetching self.old.run w }
+        requires dims { HasDimsMoved self.old.run w tile.old.dims }
+        ensures no_event { OnlyDisksChangeOn self.old self.new }
+        ensures fetches { FetchesMoved D.size D.faults D.mismatches D.held w tile.new.elements result self.old.run self.new.run }
+        ensures tile { OnOk result (IsTileMoved D.held self.old.run w tile.new) }
+    {
+        self.run.fetch(w, tile)
+    }
+
     /// A worker has failed: the board keeps the first fault, and the worker has no task any more. The task and the move that
     /// it had stay in the state for good. Constant time, and no memory.
     pub fn fail(&mut self, w: Worker, fault: RunFault)
@@ -344,6 +374,14 @@ impl<D: Disk> Board<D> {
         ensures { IsSoundBoard D.size D.faults D.mismatches D.held self.now }
     {
         self.run.is_sound();
+    }
+
+    /// No code: its contract is that each event that can happen keeps every copy that a task pins or a transfer reads, but for
+    /// the cells that its own task writes.
+    pub fn events_spare_what_is_used(&self)
+        ensures { EventsSpareUsed self.now.run }
+    {
+        self.run.events_spare_what_is_used();
     }
 
     /// The events, the disks, and the first fault. Constant time, and no memory.

@@ -6,6 +6,7 @@ ghost use Rattle.sj_base.specs.Array.{area};
 ghost use Rattle.sj_base.specs.declared.ids.Place.TheVariants.{Disk as OnDisk, Node as AtNode};
 ghost use Rattle.sj_core.specs.Program.{task_of};
 ghost use Rattle.sj_core.specs.Step.{mover_of};
+ghost use Rattle.sj_edge.specs.GivenBack.{AreGivenBack};
 ghost use Rattle.sj_node.specs.Store.{empty};
 ghost use Rattle.sj_machine.specs.Agrees.{idle, transfer_in, with_transfer_of};
 ghost use Rattle.sj_machine.specs.Copies.{CanShare, none_at, row_of, stored, tile_kept, with_copy, with_row};
@@ -390,6 +391,7 @@ impl<D: Disk> RunState<D> {
         requires tile { IsTileMoved D.held self.old w tile.now }
         ensures no_event { OnlyDisksChange self.old self.new }
         ensures stores { StoresMoved D.size D.faults D.mismatches D.held w tile.now.elements result self.old self.new }
+        ensures given_back { AreGivenBack D.size D.faults D.mismatches D.held self.old.disks.disks self.new.disks.disks }
         ensures written { OnOk result (IsWrittenOut D.held self.new w) }
     {
         let x = transfer_of(&self.workers, w);
@@ -407,6 +409,7 @@ impl<D: Disk> RunState<D> {
         requires dims { HasDimsMoved self.old w tile.old.dims }
         ensures no_event { OnlyDisksChange self.old self.new }
         ensures fetches { FetchesMoved D.size D.faults D.mismatches D.held w tile.new.elements result self.old self.new }
+        ensures given_back { AreGivenBack D.size D.faults D.mismatches D.held self.old.disks.disks self.new.disks.disks }
         ensures tile { OnOk result (IsTileMoved D.held self.old w tile.new) }
     {
         let x = transfer_of(&self.workers, w);

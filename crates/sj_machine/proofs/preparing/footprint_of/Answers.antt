@@ -1,10 +1,10 @@
-use Rattle.std.proofs.Common.{rules, ◌≡◌, ◌+◌, ◌∙◌, List, ap, arith, subst, sym, sum, sum_by, filter, map, not}
+use Rattle.std.proofs.Common.{rules, ◌≡◌, ◌∙◌, List, ap, arith, subst, sym, sum, sum_by, filter, map, not}
 use Rattle.std.specs.Prelude.{All}
 use Rattle.sj_base.specs.declared.ids.Cell.{Cell}
 use Rattle.sj_base.specs.declared.mode.Access.{Access}
 use Rattle.sj_base.specs.Mode.{is_data, is_scratch}
 use Rattle.sj_core.specs.Program.{distinct, task_of}
-use Rattle.sj_core.specs.Needs.{footprint, tile_bytes, scratch_bytes}
+use Rattle.sj_core.specs.Needs.{tile_bytes, scratch_bytes}
 use Rattle.sj_node.specs.Entry.{has_entry}
 use Rattle.sj_machine.specs.Plan.{IsSmallCell}
 use Rattle.sj_machine.specs.Planning.{lacking, named}

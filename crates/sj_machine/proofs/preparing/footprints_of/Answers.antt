@@ -1,4 +1,4 @@
-use Rattle.std.proofs.Common.{◌≡◌, ◌<◌, arith, length}
+use Rattle.std.proofs.Common.{◌<◌, arith, length}
 use Rattle.sj_machine.proofs.preparing.footprints_of.Goals as goal
 
 pub footprint_of-requires-clause-small : goal.footprint_of-requires-clause-small

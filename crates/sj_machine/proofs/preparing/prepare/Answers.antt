@@ -1,4 +1,4 @@
-use Rattle.std.proofs.Common.{rules, ◌≡◌, ◌∙◌, ap, length, sym}
+use Rattle.std.proofs.Common.{rules, ◌≡◌}
 use Rattle.sj_core.proofs.Dependencies.{Proper-dependencies}
 use Rattle.sj_machine.specs.Preparing.{first_hands}
 use Rattle.sj_machine.proofs.Opening.{first-can, prepared}

@@ -1,9 +1,9 @@
-use Rattle.std.proofs.Common.{◌≡◌, None, refl, subst, sym}
+use Rattle.std.proofs.Common.{◌≡◌, None, subst, sym}
 use Rattle.std.specs.Prelude.{IfErr, OnOk, Result}
 use Rattle.sj_base.specs.declared.trace.Event.TheVariants.{Claim}
 use Rattle.sj_machine.specs.Board.{BoardState, IsIdle, WasGiven}
 use Rattle.sj_machine.specs.Plan.{ClaimPlan}
-use Rattle.sj_machine.specs.Planning.{IsWhy, MayClaim}
+use Rattle.sj_machine.specs.Planning.{IsWhy}
 use Rattle.sj_machine.specs.Standing.{CanHappen, state}
 use Rattle.sj_machine.specs.declared.plan.Why.{Why}
 use Rattle.sj_machine.proofs.Taking.{keeps-claimed_left, may-claim}

@@ -1,7 +1,7 @@
-use Rattle.std.proofs.Common.{◌≡◌, ◌<◌, arith, subst}
+use Rattle.std.proofs.Common.{◌<◌, arith, subst}
 use Rattle.sj_base.specs.declared.program.Program.{Program}
 use Rattle.sj_machine.specs.Preparing.{IsPrepared}
-use Rattle.sj_machine.proofs.Opening.{is-opening, opens-with}
+use Rattle.sj_machine.proofs.Opening.{opens-with}
 use Rattle.sj_machine.proofs.board.Board.make.Goals as goal
 
 pub invariant_of-result : goal.invariant_of-result

@@ -1,3 +1,7 @@
+use Rattle.std.proofs.Common.{subst}
+use Rattle.sj_edge.specs.GivenBack.{AreGivenBack}
+use Rattle.sj_machine.specs.Standing.{Standing}
+use Rattle.sj_machine.proofs.Faulting.{fetches-back}
 use Rattle.sj_machine.proofs.Storing.{found-fetched, found-keeps_fetched, found-to_fetch, moved-cell}
 use Rattle.sj_machine.proofs.run_state.RunState.fetch.Goals as goal
 
@@ -14,3 +18,9 @@ invariant_of-self g c = found-keeps_fetched _ _ _ _ _ _ _ _ c.self.invariant c.a
 
 pub returns-clause-tile : goal.returns-clause-tile
 returns-clause-tile g c = found-fetched _ _ _ _ _ _ _ _ c.self.invariant c.args.w _ c.self.view_is _ c.deref.ensures.value c.transfer_of-x.result c.transfer_of-x.ensures c.disk_at-d.result c.disk_at-d.ensures c.args.tile.now c.requires.dims c.dims-dims.ensures.whole c.fetch.result c.fetch.new.tile c.fetch.ensures.dims_stay c.fetch.new.self _ c.writes_of-writes.result c.deref-2.ensures.value c.writes_of-writes.ensures c.fetch.ensures.fetches
+
+pub returns-clause-given_back : goal.returns-clause-given_back
+returns-clause-given_back g c =
+    let stored = found-to_fetch _ _ _ _ _ _ _ _ c.self.invariant c.args.w _ c.self.view_is _ c.deref.ensures.value c.transfer_of-x.result c.transfer_of-x.ensures c.disk_at-d.result c.disk_at-d.ensures c.args.tile.now c.requires.dims c.dims-dims.ensures.whole _ c.writes_of-writes.result c.deref-2.ensures.value c.writes_of-writes.ensures in
+    let back = fetches-back g.D.Disk.size g.D.Disk.faults g.D.Disk.mismatches g.D.Disk.held _ _ _ _ c.self.inside.disks c.fetch.new.self _ stored c.fetch.ensures.fetches in
+    subst (λ (b : Standing _). AreGivenBack g.D.Disk.size g.D.Disk.faults g.D.Disk.mismatches g.D.Disk.held b.disks.disks c.fetch.new.self.disks) c.self.view_is back

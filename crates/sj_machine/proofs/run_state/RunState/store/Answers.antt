@@ -1,3 +1,7 @@
+use Rattle.std.proofs.Common.{subst}
+use Rattle.sj_edge.specs.GivenBack.{AreGivenBack}
+use Rattle.sj_machine.specs.Standing.{Standing}
+use Rattle.sj_machine.proofs.Faulting.{stores-back}
 use Rattle.sj_machine.proofs.Storing.{found-keeps_stored, found-reserved, found-stored, moved-cell}
 use Rattle.sj_machine.proofs.run_state.RunState.store.Goals as goal
 
@@ -14,3 +18,9 @@ invariant_of-self g c = found-keeps_stored _ _ _ _ _ _ _ _ c.self.invariant c.ar
 
 pub returns-clause-written : goal.returns-clause-written
 returns-clause-written g c = found-stored _ _ _ _ _ _ _ _ c.self.invariant c.args.w _ c.self.view_is _ c.deref.ensures.value c.transfer_of-x.result c.transfer_of-x.ensures c.disk_at-d.result c.disk_at-d.ensures c.args.tile.now c.requires.tile c.measured.ensures.whole c.measured.ensures.fits c.store.result c.store.new.self _ c.writes_of-writes.result c.deref-2.ensures.value c.writes_of-writes.ensures c.store.ensures
+
+pub returns-clause-given_back : goal.returns-clause-given_back
+returns-clause-given_back g c =
+    let reserved = found-reserved _ _ _ _ _ _ _ _ c.self.invariant c.args.w _ c.self.view_is _ c.deref.ensures.value c.transfer_of-x.result c.transfer_of-x.ensures c.disk_at-d.result c.disk_at-d.ensures c.args.tile.now c.requires.tile c.measured.ensures.whole c.measured.ensures.fits in
+    let back = stores-back g.D.Disk.size g.D.Disk.faults g.D.Disk.mismatches g.D.Disk.held _ _ _ _ c.self.inside.disks c.store.new.self _ reserved c.store.ensures in
+    subst (λ (b : Standing _). AreGivenBack g.D.Disk.size g.D.Disk.faults g.D.Disk.mismatches g.D.Disk.held b.disks.disks c.store.new.self.disks) c.self.view_is back

@@ -1,0 +1,60 @@
+-- A fault that is kept has its cause still where disks were used: their counts never fall.
+use Rattle.std.proofs.Common.{ℕ, ◌<◌, ◌≤◌, Option, Some, None, List, sym, subst, arith}
+use Rattle.std.specs.Prelude.{IfSome, IsSomeAnd, Result, ℤ, MatchOption, slice_get}
+use Rattle.std.specs.List.{AllZip}
+use Rattle.std.proofs.lemmas.Slice.Zip.{AllZip-left}
+use Rattle.sj_deps.specs.Progress.{Progress as Dependencies}
+use Rattle.sj_disk.specs.Calls.{Fetches, Stores}
+use Rattle.sj_disk.specs.Directory.{DiskState, extent_of}
+use Rattle.sj_disk.specs.declared.directory.Extent.{Extent}
+use Rattle.sj_disk.specs.declared.refusal.DiskRefusal.{DiskRefusal}
+use Rattle.sj_edge.specs.GivenBack.{AreGivenBack, IsGivenBack}
+use Rattle.sj_machine.specs.Board.{BoardState, HasCause, HasRisen}
+use Rattle.sj_machine.specs.BoardSound.{KeepsBoard}
+use Rattle.sj_machine.specs.Sound.{OnlyDisksChange}
+use Rattle.sj_machine.specs.Standing.{Standing}
+use Rattle.sj_machine.specs.declared.fault.RunFault.{RunFault}
+use Rattle.sj_machine.specs.declared.fault.RunFault.TheVariants.{Damaged, DiskFault, OutOfMemory}
+
+above : {D : Type 0} (count : D → ℕ) (n : ℕ) (Q : D → D → Type 0) (o o' : Option D) → ((y z : D) → Q y z → count y ≤ count z) → IsSomeAnd o (λ y. n < count y) → MatchOption o (Unit {0}) (λ y. IsSomeAnd o' (Q y)) → IsSomeAnd o' (λ z. n < count z)
+above count n Q None o' grows h back = absurd h
+above count n Q (Some y) None grows h back = absurd back
+above count n Q (Some y) (Some z) grows h back = omega (arith, h, grows y z back)
+
+-- a count that has risen is still above where it was
+pub risen-kept : {D : Type 0} (count : D → ℕ) (Q : D → D → Type 0) (opened old new : List D) (d : ℕ) → ((y z : D) → Q y z → count y ≤ count z) → AllZip Q old new → HasRisen count opened old d → HasRisen count opened new d
+risen-kept count Q opened old new d grows back risen = by_opened (slice_get opened d) risen
+  where
+    by_opened : (o : Option _) → IsSomeAnd o (λ x. IsSomeAnd (slice_get old d) (λ y. count x < count y)) → IsSomeAnd o (λ x. IsSomeAnd (slice_get new d) (λ y. count x < count y))
+    by_opened None h = h
+    by_opened (Some x) h = above count (count x) Q (slice_get old d) (slice_get new d) grows h (AllZip-left Q old new back d)
+
+module _ {D : Type 0} (size faults mismatches : D → ℕ) (held : D → Option (List ℕ)) (b : Standing D) (disks : DiskState D) (back : AreGivenBack size faults mismatches held b.disks.disks disks.disks) where
+  pub cause-kept : (fault : RunFault) → HasCause faults mismatches held b fault → HasCause faults mismatches held (record b { disks = disks }) fault
+  cause-kept (DiskFault d) risen = risen-kept faults (IsGivenBack size faults mismatches held) b.opened b.disks.disks disks.disks d.0 (λ y z given. given.faults_never_fall) back risen
+  cause-kept (Damaged d want found) (risen, differ, untold) = (risen-kept mismatches (IsGivenBack size faults mismatches held) b.opened b.disks.disks disks.disks d.0 (λ y z given. given.mismatches_never_fall) back risen, differ, untold)
+  cause-kept OutOfMemory h = h
+
+  pub kept-cause : (fault : Option RunFault) → IfSome fault (HasCause faults mismatches held b) → IfSome fault (HasCause faults mismatches held (record b { disks = disks }))
+  kept-cause None h = h
+  kept-cause (Some fault) h = cause-kept fault h
+
+-- where the disks alone change
+pub keeps-disks : {D : Type 0} (size faults mismatches : D → ℕ) (held : D → Option (List ℕ)) (b : BoardState D) (deps : Dependencies) (footprints : List ℕ) (run' : Standing D) → OnlyDisksChange b.run run' → AreGivenBack size faults mismatches held b.run.disks.disks run'.disks.disks → KeepsBoard faults mismatches held b deps footprints → KeepsBoard faults mismatches held (record b { run = run' }) deps footprints
+keeps-disks {D} size faults mismatches held b deps footprints run' only back keeps = subst (λ (r : Standing D). KeepsBoard faults mismatches held (record b { run = r }) deps footprints) (sym only) (record {
+  fault = kept-cause size faults mismatches held b.run run'.disks back b.fault keeps.fault;
+  inside = keeps.inside;
+  counts = keeps.counts;
+  bytes = keeps.bytes;
+})
+
+-- what is so of what stands there
+pub some-if : {X : Type 0} (Q P : X → Type 0) (R : Type 0) (o : Option X) → IsSomeAnd o Q → IfSome o P → ((x : X) → P x → R) → R
+some-if Q P R None some h f = absurd some
+some-if Q P R (Some x) some h f = f x h
+
+pub stores-back : {D A : Type 0} (size faults mismatches : D → ℕ) (held : D → Option (List ℕ)) (c n : ℕ) (xs : List ℤ) (result : Result A DiskRefusal) (old new : DiskState D) (Q : Extent → Type 0) → IsSomeAnd (extent_of old.directory c) Q → IfSome (extent_of old.directory c) (Stores size faults mismatches held c n xs result old new) → AreGivenBack size faults mismatches held old.disks new.disks
+stores-back size faults mismatches held c n xs result old new Q some stores = some-if Q (Stores size faults mismatches held c n xs result old new) (AreGivenBack size faults mismatches held old.disks new.disks) (extent_of old.directory c) some stores (λ e (is : Stores size faults mismatches held c n xs result old new e). is.disks_are_given_back)
+
+pub fetches-back : {D A : Type 0} (size faults mismatches : D → ℕ) (held : D → Option (List ℕ)) (c n : ℕ) (xs : List ℤ) (result : Result A DiskRefusal) (old new : DiskState D) (Q : Extent → Type 0) → IsSomeAnd (extent_of old.directory c) Q → IfSome (extent_of old.directory c) (Fetches size faults mismatches held c n xs result old new) → AreGivenBack size faults mismatches held old.disks new.disks
+fetches-back size faults mismatches held c n xs result old new Q some fetches = some-if Q (Fetches size faults mismatches held c n xs result old new) (AreGivenBack size faults mismatches held old.disks new.disks) (extent_of old.directory c) some fetches (λ e (is : Fetches size faults mismatches held c n xs result old new e). is.disks_are_given_back)
