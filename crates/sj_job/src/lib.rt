@@ -11,6 +11,7 @@ pub mod number;
 pub mod read;
 pub mod reason;
 pub mod roots;
+pub mod settings;
 pub mod spell;
 pub mod submit;
 #[cfg(test)]
