@@ -20,5 +20,7 @@ mod tests;
 mod tests_of_lines;
 #[cfg(test)]
 mod tests_of_plans;
+#[cfg(test)]
+mod tests_of_settings;
 pub mod track;
 pub mod word;
