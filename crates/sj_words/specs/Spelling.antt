@@ -64,7 +64,7 @@ first_then (Some a) others = option_map (λ xs. a ∷ xs) others
 
 -- what comes where the first thing isn't said
 abbrev pub or_else : {A : Type 0} → Option A → Option (List A) → Option (List A) → Option (List A)
-or_else None then others = others
+or_else None found others = others
 or_else (Some a) found others = found
 
 -- what the words say, from the left: the names, each with its value, which is empty at a flag
@@ -77,7 +77,7 @@ said (word ∷ (next ∷ rest)) = or_else (alone (named word)) (first_then (alon
 -- no name stands twice
 abbrev pub stands_once : List (Text × Text) → Bool
 stands_once [] = true
-stands_once (p ∷ ps) = not (list_any (λ q. bytes_eq q.0 p.0) ps) && stands_once ps
+stands_once (p ∷ ps) = not (list_any (λ q. bytes_eq p.0 q.0) ps) && stands_once ps
 
 -- the value of a name, where it is said
 abbrev pub given : Text → List (Text × Text) → Option Text

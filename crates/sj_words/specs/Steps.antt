@@ -27,4 +27,4 @@ said_names words = option_map (map (λ p. p.0)) (said words)
 
 abbrev pub are_distinct : List Text → Bool
 are_distinct [] = true
-are_distinct (n ∷ ns) = not (list_any (λ m. bytes_eq m n) ns) && are_distinct ns
+are_distinct (n ∷ ns) = not (list_any (λ m. bytes_eq n m) ns) && are_distinct ns

@@ -1,6 +1,10 @@
 //! What the words ask for.
 
-ghost use Rattle.std.specs.Prelude.{◌≡◌, ◌≤◌, ◌<◌, ℕ, List, Some, None, IfOk, IfErr, IfSome, MatchResult, option_map};
+ghost use Rattle.std.specs.Prelude.{◌≡◌, ◌≤◌, ◌<◌, ℕ, List, Some, None, IfOk, IfErr, IfSome, MatchResult, option_map, ◌^◌, true};
+ghost use Rattle.std.specs.Option.{SomeIff};
+ghost use Rattle.std.specs.List.{list_all};
+ghost use Rattle.std.specs.Char.{is_ascii_digit};
+ghost use Rattle.std.specs.Str.Parse.{digits_value};
 ghost use Rattle.clap.specs.Words.{found_of};
 ghost use Rattle.sj_words.specs.Command.{HoldsGiven};
 ghost use Rattle.sj_words.specs.Options.{IsWithinLimits, asked_for, is_number, number_in, options, policy_in, reads};
@@ -44,12 +48,22 @@ pub enum WordsRefusal {
 }
 
 impl From<AllocError> for WordsRefusal {
+    ghost use Rattle.std.specs.Prelude.{◌≡◌};
+    ghost use Rattle.sj_words.specs.declared.options.WordsRefusal.{WordsRefusal};
+
+    ghost from_gives = { λ _ refusal. refusal ≡ WordsRefusal.OutOfMemory };
+
     fn from(_: AllocError) -> Self {
         WordsRefusal::OutOfMemory
     }
 }
 
 impl From<OutOfMemory> for WordsRefusal {
+    ghost use Rattle.std.specs.Prelude.{◌≡◌};
+    ghost use Rattle.sj_words.specs.declared.options.WordsRefusal.{WordsRefusal};
+
+    ghost from_gives = { λ _ refusal. refusal ≡ WordsRefusal.OutOfMemory };
+
     fn from(_: OutOfMemory) -> Self {
         WordsRefusal::OutOfMemory
     }
@@ -60,16 +74,35 @@ impl From<OutOfMemory> for WordsRefusal {
 struct Unread;
 
 impl From<Unread> for WordsRefusal {
+    ghost use Rattle.std.specs.Prelude.{◌≡◌};
+    ghost use Rattle.sj_words.specs.declared.options.WordsRefusal.{WordsRefusal};
+
+    ghost from_gives = { λ _ refusal. refusal ≡ WordsRefusal.Unaccepted };
+
     fn from(_: Unread) -> Self {
         WordsRefusal::Unaccepted
     }
+}
+
+fn are_digits(bytes: &[u8]) -> bool
+    ensures { result ≡ list_all is_ascii_digit bytes.now }
+{
+    bytes.iter().all(|b| b.is_ascii_digit())
 }
 
 fn is_number(text: &str) -> bool
     ensures { result ≡ is_number text.now }
 {
     let bytes = text.as_bytes();
-    !bytes.is_empty() && bytes.len() <= 19 && bytes.iter().all(|b| b.is_ascii_digit())
+    !bytes.is_empty() && bytes.len() <= 19 && are_digits(bytes)
+}
+
+// The number that digits write, where it is below 2^64.
+fn value_of(digits: &str) -> Option<u64>
+    requires { is_number digits.now ≡ true }
+    ensures { SomeIff result (digits_value 10 digits.now < 2 ^ 64) (digits_value 10 digits.now) }
+{
+    digits.parse::<u64>().ok()
 }
 
 // The number that a text says, where it lies in the range.
@@ -79,8 +112,8 @@ fn number_in(text: &str, least: u64, greatest: u64) -> Option<u64>
     if !is_number(text) {
         return None;
     }
-    match text.parse::<u64>() {
-        Ok(number) if least <= number && number <= greatest => Some(number),
+    match value_of(text) {
+        Some(number) if least <= number && number <= greatest => Some(number),
         _ => None,
     }
 }

@@ -1,0 +1,4 @@
+pub mod Digits
+pub mod Equals
+pub mod Spelled
+pub mod Walking
