@@ -2,3 +2,4 @@ pub mod Digits
 pub mod Equals
 pub mod Spelled
 pub mod Walking
+pub mod Reading
