@@ -3,3 +3,4 @@ pub mod Equals
 pub mod Spelled
 pub mod Walking
 pub mod Reading
+pub mod Writing

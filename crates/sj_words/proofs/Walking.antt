@@ -26,11 +26,11 @@ the_app_is_simple = refl
 
 -- ---- tests that hold
 
-and_both : (a b : Bool) → (a && b) ≡ true → (a ≡ true) × (b ≡ true)
+pub and_both : (a b : Bool) → (a && b) ≡ true → (a ≡ true) × (b ≡ true)
 and_both true b e = (refl, e)
 and_both false b e = absurd (true≢false (sym e))
 
-or_cases : (a b : Bool) → (a || b) ≡ true → (a ≡ true) ⊎ (b ≡ true)
+pub or_cases : (a b : Bool) → (a || b) ≡ true → (a ≡ true) ⊎ (b ≡ true)
 or_cases true b e = inl refl
 or_cases false b e = inr e
 
@@ -42,7 +42,7 @@ not_true : (a : Bool) → not a ≡ true → a ≡ false
 not_true true e = absurd (true≢false (sym e))
 not_true false e = refl
 
-picks : {A : Type 0} (b : Bool) (x y : A) → (if b then Some x else None) ≡ Some y → (b ≡ true) × (x ≡ y)
+pub picks : {A : Type 0} (b : Bool) (x y : A) → (if b then Some x else None) ≡ Some y → (b ≡ true) × (x ≡ y)
 picks true x y e = (refl, same_Some x y e)
 picks false x y e = absurd (none-some y e)
 
@@ -85,7 +85,7 @@ two_dashes : (one : Option Text) (word t : Text) → ((s : Text) → one ≡ Som
 two_dashes None word t f e = absurd (none-some t e)
 two_dashes (Some s) word t f e = f s refl ∙ ap (λ x. 45 ∷ x) (dash_first s t e)
 
-named_whole : (word : Text) (head : Text × Option Text) → named word ≡ Some head → word ≡ 45 ∷ 45 ∷ rejoined head
+pub named_whole : (word : Text) (head : Text × Option Text) → named word ≡ Some head → word ≡ 45 ∷ 45 ∷ rejoined head
 named_whole word head e = named_rest (option_and_then after_dash (after_dash word)) word head (λ t is. two_dashes (after_dash word) word t (λ s. dash_first word s) is) e
 
 -- ---- one thing said, as `clap` walks over it
@@ -251,7 +251,7 @@ end_rows w = settled_rows rules w.held.pending w.held.rows
 abbrev Ends : List Text → List (Text × Text) → Type 0
 Ends words ps = (rows : List Row) (pending : Option (Text × List Text)) (skip p : ℕ) → end_rows (fold (walked rules []) (at rows pending skip p) words) ≡ fold use_pair (settled_rows rules pending rows) ps
 
-mapped : (q : Text × Text) (s : Option (List (Text × Text))) (ps : List (Text × Text)) → option_map (λ xs. q ∷ xs) s ≡ Some ps → (rest : List (Text × Text)) × (s ≡ Some rest) × (q ∷ rest ≡ ps)
+pub mapped : (q : Text × Text) (s : Option (List (Text × Text))) (ps : List (Text × Text)) → option_map (λ xs. q ∷ xs) s ≡ Some ps → (rest : List (Text × Text)) × (s ≡ Some rest) × (q ∷ rest ≡ ps)
 mapped q None ps e = absurd (none-some ps e)
 mapped q (Some rest) ps e = (rest, refl, same_Some (q ∷ rest) ps e)
 
@@ -260,7 +260,7 @@ ends_alone : (word : Text) (words : List Text) (a : Option (Text × Text)) (ps :
 ends_alone word words a ps is ih q e so =
     let m = mapped q (said words) ps so in
     subst (Ends (word ∷ words)) m.2 (λ rows pending skip p.
-      ap (λ w. end_rows (fold (walked rules []) w words)) (alone_step word (named word) q rows pending skip p refl (is ∙ e)) ∙ ih m.0 m.1 (use_pair (settled_rows rules pending rows) q) None skip p)
+    ap (λ w. end_rows (fold (walked rules []) w words)) (alone_step word (named word) q rows pending skip p refl (is ∙ e)) ∙ ih m.0 m.1 (use_pair (settled_rows rules pending rows) q) None skip p)
 
 ends_next : (word next : Text) (words : List Text) (ps : List (Text × Text)) → ((rest : List (Text × Text)) → said words ≡ Some rest → Ends words rest)
     → (q : Text × Text) → with_next (named word) next ≡ Some q → option_map (λ xs. q ∷ xs) (said words) ≡ Some ps → Ends (word ∷ next ∷ words) ps
@@ -268,8 +268,8 @@ ends_next word next words ps ih q e so =
     let m = mapped q (said words) ps so in
     let b = next_step word next (named word) q refl e in
     subst (Ends (word ∷ next ∷ words)) m.2 (λ rows pending skip p.
-      ap (λ w. end_rows (fold (walked rules []) w words)) (b.walks rows pending skip p) ∙ ih m.0 m.1 (settled_rows rules pending rows) (Some (q.0, q.1 ∷ [])) skip p
-      ∙ ap (λ r. fold use_pair r m.0) (b.settles (settled_rows rules pending rows)))
+    ap (λ w. end_rows (fold (walked rules []) w words)) (b.walks rows pending skip p) ∙ ih m.0 m.1 (settled_rows rules pending rows) (Some (q.0, q.1 ∷ [])) skip p
+    ∙ ap (λ r. fold use_pair r m.0) (b.settles (settled_rows rules pending rows)))
 
 ends_one : (word : Text) (a : Option (Text × Text)) (ps : List (Text × Text)) → alone (named word) ≡ a → ((rest : List (Text × Text)) → said [] ≡ Some rest → Ends [] rest) → first_then a (Some []) ≡ Some ps → Ends (word ∷ []) ps
 ends_one word None ps is ih so = absurd (none-some ps so)

@@ -3,3 +3,4 @@ pub mod Steps
 pub mod Command
 pub mod Options
 pub mod Machine
+pub mod Written

@@ -18,6 +18,7 @@
 #![tactic(auto)]
 
 mod command;
+mod law;
 mod machine;
 mod options;
 mod path;
@@ -26,6 +27,7 @@ mod swap;
 #[cfg(test)]
 mod tests;
 
+pub use law::words_mean_what_is_written;
 pub use machine::machine_of;
 pub use options::{Options, WordsRefusal, read_words};
 pub use path::SwapPath;
