@@ -4,3 +4,4 @@ pub mod Spelled
 pub mod Walking
 pub mod Reading
 pub mod Writing
+pub mod Passing

@@ -2,7 +2,7 @@
 use Rattle.std.proofs.Common.{◌≡◌, ◌∙◌, Bool, true, false, List, map, Option, Some, None, refl, sym, ap, option_map, if◌then◌else◌}
 use Rattle.std.specs.Option.{option_and_then}
 use Rattle.std.proofs.lemmas.Option.{none-some, same_Some}
-use Rattle.sj_words.specs.Spelling.{Text, said, stands_once}
+use Rattle.sj_words.specs.Spelling.{AreSpelled, Text, said, stands_once}
 use Rattle.sj_words.specs.Steps.{are_distinct, said_names}
 use Rattle.sj_words.specs.Options.{asked_for, options}
 use Rattle.sj_words.proofs.Spelled.{distinct_names}
@@ -37,3 +37,6 @@ refused words names s e =
 pub accepted : (words names : List Text) → (s : AreSaid words names) → true ≡ are_distinct names → options words ≡ asked_for s.ps
 accepted words names s e =
     ap (option_and_then (λ ps. if stands_once ps then asked_for ps else None)) s.said_are ∙ ap (λ b. if b then asked_for s.ps else None) (once_said words names true s e)
+
+pub are_spelled : (words names : List Text) → (s : AreSaid words names) → true ≡ are_distinct names → AreSpelled words
+are_spelled words names s e = record { ps = s.ps; said_are = s.said_are; once = once_said words names true s e }

@@ -34,11 +34,11 @@ pub or_cases : (a b : Bool) → (a || b) ≡ true → (a ≡ true) ⊎ (b ≡ tr
 or_cases true b e = inl refl
 or_cases false b e = inr e
 
-or_none : (a b : Bool) → (a || b) ≡ false → (a ≡ false) × (b ≡ false)
+pub or_none : (a b : Bool) → (a || b) ≡ false → (a ≡ false) × (b ≡ false)
 or_none true b e = absurd (true≢false e)
 or_none false b e = (refl, e)
 
-not_true : (a : Bool) → not a ≡ true → a ≡ false
+pub not_true : (a : Bool) → not a ≡ true → a ≡ false
 not_true true e = absurd (true≢false (sym e))
 not_true false e = refl
 
@@ -90,39 +90,39 @@ named_whole word head e = named_rest (option_and_then after_dash (after_dash wor
 
 -- ---- one thing said, as `clap` walks over it
 
-abbrev rules : List Rule
+abbrev pub rules : List Rule
 rules = (built the_app).top.rules
 
 -- the walk between two things said
-abbrev at : List Row → Option (Text × List Text) → ℕ → ℕ → Walk
+abbrev pub at : List Row → Option (Text × List Text) → ℕ → ℕ → Walk
 at rows pending skip p = record { held = record { rows = rows; pending = pending; skip = skip }; waiting = idle; position = p; is_trailing = false; stopped = None }
 
 -- the walk behind an option whose value is to come
-abbrev waits : Text → List Row → ℕ → ℕ → Walk
+abbrev pub waits : Text → List Row → ℕ → ℕ → Walk
 waits name rows skip p = record (at rows (Some (name, [])) skip p) { waiting = option name }
 
-abbrev pair_value : Text × Text → Text
+abbrev pub pair_value : Text × Text → Text
 pair_value q = if is_flag q.0 then codes "true" else q.1
 
-abbrev pair_row : Text × Text → Row
+abbrev pub pair_row : Text × Text → Row
 pair_row q = record { id = q.0; values = pair_value q ∷ []; count = None; source = Some CommandLine; reading = AsWritten }
 
-abbrev put : Text → Text → List Row → List Row
+abbrev pub put : Text → Text → List Row → List Row
 put name value rows = with_values name AsWritten CommandLine (value ∷ []) (without name rows)
 
-abbrev use_pair : List Row → Text × Text → List Row
+abbrev pub use_pair : List Row → Text × Text → List Row
 use_pair rows q = put q.0 (pair_value q) rows
 
 -- a next word that is the value of an option
 module _ (name word : Text) (rows : List Row) (skip p : ℕ) where
-  abbrev before : Held
+  abbrev pub before : Held
   before = record { rows = rows; pending = Some (name, []); skip = skip }
 
-  abbrev met : Bool → Option (Text × Option Text) → Option Text → Held × Step
+  abbrev pub met : Bool → Option (Text × Option Text) → Option Text → Held × Step
   met dashes long short = if dashes then (before, trailing p)
       else (elim long [ Some q ↦ long_word rules (option name) word q.0 q.1 before | None ↦ short_or_plain rules (option name) word short before ])
 
-  abbrev next_walk : Bool → Option (Text × Option Text) → Option Text → Walk
+  abbrev pub next_walk : Bool → Option (Text × Option Text) → Option Text → Walk
   next_walk dashes long short = after_step rules word (waits name rows skip p) (met dashes long short).0 (met dashes long short).1
 
   walked_next : walked rules [] (waits name rows skip p) word ≡ next_walk (bytes_eq word (45 ∷ 45 ∷ [])) (long_of word) (short_of word)
@@ -134,13 +134,13 @@ module _ (name word : Text) (rows : List Row) (skip p : ℕ) where
       go (Some q) = refl
 
 -- what `clap` does with an option of ours
-record Reads (name : Text) : Type 0 where
-  joined : (value : Text) (rows : List Row) (pending : Option (Text × List Text)) (skip p : ℕ) → walked rules [] (at rows pending skip p) (45 ∷ 45 ∷ (name ++ 61 ∷ value)) ≡ at (put name value (settled_rows rules pending rows)) None skip p
-  apart : (rows : List Row) (pending : Option (Text × List Text)) (skip p : ℕ) → walked rules [] (at rows pending skip p) (45 ∷ 45 ∷ name) ≡ waits name (settled_rows rules pending rows) skip p
-  value : (word : Text) (rows : List Row) (skip p : ℕ) → next_walk name word rows skip p false None None ≡ at rows (Some (name, word ∷ [])) skip p
-  settles : (value : Text) (rows : List Row) → settled_rows rules (Some (name, value ∷ [])) rows ≡ put name value rows
-  no_flag : is_flag name ≡ false
-  flag_else : bytes_eq (codes "trace") name ≡ false
+pub record Reads (name : Text) : Type 0 where
+  pub joined : (value : Text) (rows : List Row) (pending : Option (Text × List Text)) (skip p : ℕ) → walked rules [] (at rows pending skip p) (45 ∷ 45 ∷ (name ++ 61 ∷ value)) ≡ at (put name value (settled_rows rules pending rows)) None skip p
+  pub apart : (rows : List Row) (pending : Option (Text × List Text)) (skip p : ℕ) → walked rules [] (at rows pending skip p) (45 ∷ 45 ∷ name) ≡ waits name (settled_rows rules pending rows) skip p
+  pub value : (word : Text) (rows : List Row) (skip p : ℕ) → next_walk name word rows skip p false None None ≡ at rows (Some (name, word ∷ [])) skip p
+  pub settles : (value : Text) (rows : List Row) → settled_rows rules (Some (name, value ∷ [])) rows ≡ put name value rows
+  pub no_flag : is_flag name ≡ false
+  pub flag_else : bytes_eq (codes "trace") name ≡ false
 
 reads_workers : Reads (codes "workers")
 unfolding clap_on_literals
@@ -169,7 +169,7 @@ reads_swap_size = record { joined = λ v r q s p. refl; apart = λ r q s p. refl
 reads_at : (name other : Text) → Reads other → bytes_eq name other ≡ true → Reads name
 reads_at name other r e = subst Reads (sym ((bytes_eq-Decides name other).0 e)) r
 
-reads_option : (name : Text) → is_option name ≡ true → Reads name
+pub reads_option : (name : Text) → is_option name ≡ true → Reads name
 reads_option name e =
     ⊎_elim (reads_at name (codes "workers") reads_workers)
     (λ e. ⊎_elim (reads_at name (codes "sched") reads_sched)
@@ -191,16 +191,16 @@ value_as_given : (name value : Text) (rows : List Row) → is_flag name ≡ fals
 value_as_given name value rows e = ap (λ b. put name (if b then codes "true" else value) rows) (sym e)
 
 -- a value is no flag word
-is_no_dashes : (word : Text) → is_value word ≡ true → bytes_eq word (45 ∷ 45 ∷ []) ≡ false
+pub is_no_dashes : (word : Text) → is_value word ≡ true → bytes_eq word (45 ∷ 45 ∷ []) ≡ false
 is_no_dashes [] e = absurd (true≢false (sym e))
 is_no_dashes (b ∷ bs) e = ap (λ t. t && bytes_eq bs (45 ∷ [])) (not_true (b == 45) e)
 
-is_no_long : (word : Text) → is_value word ≡ true → long_of word ≡ None
+pub is_no_long : (word : Text) → is_value word ≡ true → long_of word ≡ None
 is_no_long [] e = absurd (true≢false (sym e))
 is_no_long (b ∷ bs) e =
     ap (λ t. option_and_then Rattle.clap.specs.Lexer.long_of_rest (option_and_then (Rattle.clap.specs.Lexer.strip_byte 45) (if t then Some bs else None))) (not_true (b == 45) e)
 
-is_no_short : (word : Text) → is_value word ≡ true → short_of word ≡ None
+pub is_no_short : (word : Text) → is_value word ≡ true → short_of word ≡ None
 is_no_short [] e = absurd (true≢false (sym e))
 is_no_short (b ∷ bs) e = ap (λ t. option_and_then Rattle.clap.specs.Lexer.short_of_rest (if t then Some bs else None)) (not_true (b == 45) e)
 
@@ -208,7 +208,7 @@ walked_value : (name word : Text) (rows : List Row) (skip p : ℕ) → Reads nam
 walked_value name word rows skip p r e =
     walked_next name word rows skip p ∙ (λ i. next_walk name word rows skip p (is_no_dashes word e i) (is_no_long word e i) (is_no_short word e i)) ∙ r.value word rows skip p
 
-alone_step : (word : Text) (head : Option (Text × Option Text)) (q : Text × Text) (rows : List Row) (pending : Option (Text × List Text)) (skip p : ℕ)
+pub alone_step : (word : Text) (head : Option (Text × Option Text)) (q : Text × Text) (rows : List Row) (pending : Option (Text × List Text)) (skip p : ℕ)
     → named word ≡ head → alone head ≡ Some q → walked rules [] (at rows pending skip p) word ≡ at (use_pair (settled_rows rules pending rows) q) None skip p
 alone_step word None q rows pending skip p is e = absurd (none-some q e)
 alone_step word (Some (name, None)) q rows pending skip p is e =
@@ -224,12 +224,12 @@ alone_step word (Some (name, Some value)) q rows pending skip p is e =
     ∙ ap (λ x. at x None skip p) (value_as_given name value (settled_rows rules pending rows) r.no_flag) ∙ ap (λ x. at (use_pair (settled_rows rules pending rows) x) None skip p) h.1
 
 -- an option and its value in the next word
-record ByNext (word next : Text) (q : Text × Text) : Type 0 where
-  walks : (rows : List Row) (pending : Option (Text × List Text)) (skip p : ℕ)
+pub record ByNext (word next : Text) (q : Text × Text) : Type 0 where
+  pub walks : (rows : List Row) (pending : Option (Text × List Text)) (skip p : ℕ)
       → walked rules [] (walked rules [] (at rows pending skip p) word) next ≡ at (settled_rows rules pending rows) (Some (q.0, q.1 ∷ [])) skip p
-  settles : (rows : List Row) → settled_rows rules (Some (q.0, q.1 ∷ [])) rows ≡ use_pair rows q
+  pub settles : (rows : List Row) → settled_rows rules (Some (q.0, q.1 ∷ [])) rows ≡ use_pair rows q
 
-next_step : (word next : Text) (head : Option (Text × Option Text)) (q : Text × Text) → named word ≡ head → with_next head next ≡ Some q → ByNext word next q
+pub next_step : (word next : Text) (head : Option (Text × Option Text)) (q : Text × Text) → named word ≡ head → with_next head next ≡ Some q → ByNext word next q
 next_step word next None q is e = absurd (none-some q e)
 next_step word next (Some (name, Some value)) q is e = absurd (none-some q e)
 next_step word next (Some (name, None)) q is e =
@@ -245,7 +245,7 @@ next_step word next (Some (name, None)) q is e =
 
 -- ---- all that is said
 
-abbrev end_rows : Walk → List Row
+abbrev pub end_rows : Walk → List Row
 end_rows w = settled_rows rules w.held.pending w.held.rows
 
 abbrev Ends : List Text → List (Text × Text) → Type 0
@@ -295,7 +295,7 @@ at_missing id change missing (r ∷ rs) none =
     let both = or_none (bytes_eq r.id id) (has_row id rs) none in
     ap (λ b. if b then change r ++ rs else r ∷ at_row id change missing rs) both.0 ∙ ap (λ xs. r ∷ xs) (at_missing id change missing rs both.1)
 
-put_new : (q : Text × Text) (rows : List Row) → has_row q.0 rows ≡ false → use_pair rows q ≡ rows ++ pair_row q ∷ []
+pub put_new : (q : Text × Text) (rows : List Row) → has_row q.0 rows ≡ false → use_pair rows q ≡ rows ++ pair_row q ∷ []
 put_new q rows none =
     ap (with_values q.0 AsWritten CommandLine (pair_value q ∷ [])) (at_missing q.0 (λ _. []) [] rows none ∙ append-nil rows)
     ∙ at_missing q.0 (Rattle.clap.specs.Walk.more_values CommandLine (pair_value q ∷ [])) (pair_row q ∷ []) rows none
@@ -307,10 +307,10 @@ has_row_append id (x ∷ xs) r none ne =
     ap (λ b. b || has_row id (xs ++ r ∷ [])) both.0 ∙ has_row_append id xs r both.1 ne
 
 -- no name of the pairs has a row
-abbrev are_new : List Row → List (Text × Text) → Bool
+abbrev pub are_new : List Row → List (Text × Text) → Bool
 are_new rows = list_all (λ q. not (has_row q.0 rows))
 
-new_more : (q : Text × Text) (rows : List Row) (ps : List (Text × Text)) → are_new rows ps ≡ true → list_any (λ p. bytes_eq q.0 p.0) ps ≡ false → are_new (rows ++ pair_row q ∷ []) ps ≡ true
+pub new_more : (q : Text × Text) (rows : List Row) (ps : List (Text × Text)) → are_new rows ps ≡ true → list_any (λ p. bytes_eq q.0 p.0) ps ≡ false → are_new (rows ++ pair_row q ∷ []) ps ≡ true
 new_more q rows [] new ne = refl
 new_more q rows (p ∷ ps) new ne =
     let both = and_both (not (has_row p.0 rows)) (are_new rows ps) new in
@@ -326,7 +326,7 @@ used_in_order (q ∷ ps) rows once new =
     ∙ used_in_order ps (rows ++ pair_row q ∷ []) apart.1 (new_more q rows ps both.1 (not_true (list_any (λ p. bytes_eq q.0 p.0) ps) apart.0))
     ∙ append_assoc rows (pair_row q ∷ []) (map pair_row ps)
 
-all_new : (ps : List (Text × Text)) → are_new [] ps ≡ true
+pub all_new : (ps : List (Text × Text)) → are_new [] ps ≡ true
 all_new [] = refl
 all_new (p ∷ ps) = all_new ps
 

@@ -1,5 +1,5 @@
 -- How the words of a command line are spelled, and what they say.
-use Rattle.std.specs.Prelude.{ℕ, Bool, true, false, not, ◌&&◌, ◌||◌, ◌==◌, List, [], ◌∷◌, Option, Some, None, option_map, option_and_then, codes, find, map, String, if◌then◌else◌}
+use Rattle.std.specs.Prelude.{◌≡◌, ℕ, Bool, true, false, not, ◌&&◌, ◌||◌, ◌==◌, List, [], ◌∷◌, Option, Some, None, option_map, option_and_then, codes, find, map, String, if◌then◌else◌}
 use Rattle.std.specs.String.{string_bytes}
 use Rattle.std.specs.declared.alloc.Global.{Global}
 use Rattle.std.specs.List.{before_first, after_first, list_any}
@@ -78,6 +78,12 @@ said (word ∷ (next ∷ rest)) = or_else (alone (named word)) (first_then (alon
 abbrev pub stands_once : List (Text × Text) → Bool
 stands_once [] = true
 stands_once (p ∷ ps) = not (list_any (λ q. bytes_eq p.0 q.0) ps) && stands_once ps
+
+-- the words say something, and no name twice
+pub record AreSpelled (words : List Text) : Type 0 where
+  pub ps : List (Text × Text)
+  pub said_are : said words ≡ Some ps
+  pub once : stands_once ps ≡ true
 
 -- the value of a name, where it is said
 abbrev pub given : Text → List (Text × Text) → Option Text

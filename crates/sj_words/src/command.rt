@@ -2,9 +2,10 @@
 
 ghost use Rattle.std.specs.Prelude.{◌≡◌, ℕ, List, IfOk, Some, true, false};
 ghost use Rattle.clap.specs.Words.{app_of, found_of, rule_of, with_rule};
-ghost use Rattle.sj_words.specs.Spelling.{said, stands_once, texts};
+ghost use Rattle.sj_words.specs.Spelling.{AreSpelled, said, texts};
 ghost use Rattle.sj_words.specs.Command.{HoldsGiven, option_rule, trace_rule, bare_app, the_app};
 
+use clap::error::ErrorKind;
 use clap::{Arg, ArgAction, ArgMatches, Command};
 use sj_base::memory::OutOfMemory;
 use std::alloc::{AllocError, Global};
@@ -76,17 +77,21 @@ fn command<'a>(alloc: Global) -> Result<Command<'a>, AllocError>
     command.arg(trace(alloc))
 }
 
-/// What the words give, as `clap` matches it. The words are spelled right, so it fails only where
-/// memory runs out. Linear in the words.
+/// What the words give, as `clap` matches it. It refuses no words that are spelled right, so the
+/// error is want of memory. Linear in the words.
 pub fn matches_of<'a>(alloc: Global, words: &'a [String]) -> Result<ArgMatches<'a>, OutOfMemory>
+    requires spelled { AreSpelled (texts words.now) }
     ensures { IfOk result (λ m. (ps : List (List ℕ × List ℕ)) → said (texts words.now) ≡ Some ps
-        → stands_once ps ≡ true → HoldsGiven (found_of m) ps) }
+        → HoldsGiven (found_of m) ps) }
 {
     let Ok(command) = command(alloc) else {
         return Err(OutOfMemory);
     };
     match command.try_get_matches_from(words) {
         Ok(matches) => Ok(matches),
-        Err(_) => Err(OutOfMemory),
+        Err(error) => match error.kind() {
+            ErrorKind::OutOfMemory => Err(OutOfMemory),
+            _ => unreachable!(),
+        },
     }
 }

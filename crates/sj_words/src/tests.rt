@@ -225,7 +225,7 @@ fn in_order(alloc: Global, order: usize) -> Result<Line, AllocError> {
     let mut line = Line::new(alloc);
     let mut left = vec![in alloc; 0, 1, 2, 3, 4, 5, 6]?;
     let mut code = order;
-    for turn in 0..7 {
+    for turn in 0..7u32 {
         let count = left.len().max(1);
         let at = code % count;
         code /= count;
@@ -279,7 +279,7 @@ fn lines_by_chance_are_read_as_the_model_reads_them(rt: HostRuntime) -> Result<(
         let line = by_chance(rt.alloc(), seed)?;
         assert!(rt; line.is_read(rt.alloc()));
         if line.model.is_accepted() {
-            accepted += 1;
+            accepted = accepted.saturating_add(1);
         }
     }
     assert!(rt; accepted > 200);
