@@ -1,19 +1,19 @@
 -- `clap` refuses no words that are spelled right.
-use Rattle.std.proofs.Common.{◌≡◌, ◌∙◌, ◌&&◌, ◌||◌, ◌⊎◌, ⊎_elim, ℕ, Bool, true, false, not, List, [], ◌∷◌, ◌++◌, map, Option, Some, None, is_some, refl, sym, ap, subst, codes, option_map, if◌then◌else◌}
+use Rattle.std.proofs.Common.{◌≡◌, ◌∙◌, ◌&&◌, ◌||◌, ⊎_elim, ℕ, Bool, true, false, not, List, [], ◌∷◌, ◌++◌, Option, Some, None, is_some, refl, sym, ap, subst, codes, option_map, if◌then◌else◌}
 use Rattle.std.specs.List.{fold, list_all, list_any}
 use Rattle.std.specs.Option.{option_map_or}
 use Rattle.std.specs.Str.{bytes_eq}
 use Rattle.std.proofs.lemmas.Slice.Eq.{bytes_eq-Decides}
-use Rattle.std.proofs.lemmas.Option.{none-some, same_Some}
+use Rattle.std.proofs.lemmas.Option.{none-some}
 use Rattle.clap.specs.Lexer.{long_of, short_of}
-use Rattle.clap.specs.Words.{App, Row, Rule, Shape, built, takes}
+use Rattle.clap.specs.Words.{Row, Shape, built, takes}
 use Rattle.clap.specs.Walk.{Held, Walk, walked, settled_rows, has_row, finished}
 use Rattle.clap.specs.Takes.{default_passes, entered_passes, is_valid, long_passes, settle_passes, step_passes, turn_passes, walk_passes}
 use Rattle.clap.specs.Simple.{entered}
 use Rattle.clap.proofs.OnLiterals.{clap_on_literals}
 use Rattle.sj_words.specs.Spelling.{Text, is_flag, is_option, is_value, named, alone, with_next, first_then, or_else, said, stands_once}
 use Rattle.sj_words.specs.Command.{the_app}
-use Rattle.sj_words.proofs.Walking.{Reads, reads_option, rules, at, waits, met, use_pair, pair_row, end_rows, ByNext, next_step, alone_step, named_whole, mapped, picks, and_both, or_cases, or_none, not_true, is_no_dashes, is_no_long, is_no_short, are_new, put_new, new_more, all_new}
+use Rattle.sj_words.proofs.Walking.{reads_option, rules, at, waits, met, use_pair, next_step, alone_step, named_whole, mapped, picks, and_both, or_cases, not_true, is_no_dashes, is_no_long, is_no_short, are_new, put_new, new_more, all_new}
 
 abbrev top : Shape
 top = (built the_app).top

@@ -1,11 +1,11 @@
 -- What words say, one thing at a time.
-use Rattle.std.proofs.Common.{◌≡◌, ◌<◌, ◌||◌, ◌&&◌, not, Bor, ℕ, List, [], ◌∷◌, ◌++◌, map, length, Option, Some, None, refl, sym, ap, ◌∙◌, arith, option_map, append_assoc, ap₂}
+use Rattle.std.proofs.Common.{◌≡◌, ◌||◌, ◌&&◌, not, Bor, List, [], ◌∷◌, ◌++◌, map, Option, Some, None, refl, sym, ap, ◌∙◌, option_map, append_assoc, ap₂}
 use Rattle.std.proofs.lemmas.List.{map-append}
 use Rattle.std.proofs.lemmas.Option.{none-some}
 use Rattle.std.specs.List.{list_any}
 use Rattle.std.specs.Str.{bytes_eq}
 use Rattle.sj_words.specs.Spelling.{Text, alone, with_next, first_then, named, or_else, said, stands_once}
-use Rattle.sj_words.specs.Steps.{are_distinct, first_said, said_alone_or, said_names, said_with_next, with_word_after}
+use Rattle.sj_words.specs.Steps.{are_distinct, first_said, said_alone_or, said_names, with_word_after}
 
 names_of : Option (List (Text × Text)) → Option (List Text)
 names_of = option_map (map (λ p. p.0))

@@ -1,5 +1,5 @@
 -- What `clap` finds in words that are spelled right.
-use Rattle.std.proofs.Common.{◌≡◌, ◌∙◌, ◌&&◌, ◌||◌, ◌==◌, ◌⊎◌, inl, inr, ⊎_elim, ℕ, suc, ◌+◌, Bool, true, false, true≢false, not, cond, List, [], ◌∷◌, ◌++◌, append_assoc, append-nil, map, length, take, drop, Option, Some, None, is_some, refl, sym, ap, subst, arith, codes, option_map, if◌then◌else◌}
+use Rattle.std.proofs.Common.{◌≡◌, ◌∙◌, ◌&&◌, ◌||◌, ◌==◌, ◌⊎◌, inl, inr, ⊎_elim, ℕ, suc, ◌+◌, Bool, true, false, true≢false, not, cond, List, [], ◌∷◌, ◌++◌, append_assoc, append-nil, map, take, drop, Option, Some, None, is_some, refl, sym, ap, subst, arith, codes, option_map, if◌then◌else◌}
 use Rattle.std.specs.List.{find, fold, list_all, list_any, position_or_len}
 use Rattle.std.specs.Option.{option_or, option_and_then}
 use Rattle.std.specs.Prelude.{slice_get}
@@ -9,15 +9,14 @@ use Rattle.std.proofs.lemmas.Bool.Decides.{Decides-eqb}
 use Rattle.std.proofs.lemmas.Option.{none-some, same_Some}
 use Rattle.std.proofs.lemmas.List.Folds.{find-append}
 use Rattle.clap.specs.Lexer.{long_of, short_of}
-use Rattle.clap.specs.Words.{App, Row, Rule, built, is_simple, matches_of, rows_of, first_of, one_of, first_value}
-use Rattle.clap.specs.Matches.{one_text}
+use Rattle.clap.specs.Words.{Row, Rule, built, is_simple, matches_of, rows_of, first_of, one_of}
 use Rattle.clap.specs.Walk.{Held, Walk, Waiting, Step, idle, option, trailing, walked, settled_rows, with_values, without, at_row, with_default, has_row, after_step, long_word, short_or_plain}
 use Rattle.clap.specs.declared.builder.value_parser.Reading.TheVariants.{AsWritten}
 use Rattle.clap.specs.declared.parser.matches.ValueSource.TheVariants.{DefaultValue, CommandLine}
 use Rattle.clap.specs.declared.parser.matches.Found.{Found}
 use Rattle.clap.proofs.OnLiterals.{clap_on_literals}
 use Rattle.clap.proofs.WalkLemmas.{first_value-rows, one_text-rows}
-use Rattle.sj_words.specs.Spelling.{Text, is_flag, is_option, is_value, is_equals, around_equals, after_dash, named, alone, with_next, with_value, first_then, or_else, said, stands_once, given}
+use Rattle.sj_words.specs.Spelling.{Text, is_flag, is_option, is_value, is_equals, around_equals, after_dash, named, alone, with_next, first_then, or_else, said, stands_once, given}
 use Rattle.sj_words.specs.Command.{the_app, HoldsGiven}
 
 pub the_app_is_simple : is_simple the_app ≡ true

@@ -1,11 +1,11 @@
 -- Words that are spelled right are those that are written so.
-use Rattle.std.proofs.Common.{◌≡◌, ◌∙◌, ◌↔◌, ◌&&◌, ◌||◌, ⊎_elim, Bool, true, false, true≢false, List, [], ◌∷◌, ◌++◌, map, Option, Some, None, refl, sym, ap, subst, codes, option_map, if◌then◌else◌}
+use Rattle.std.proofs.Common.{◌≡◌, ◌∙◌, ◌↔◌, ◌&&◌, ⊎_elim, Bool, true, false, List, [], ◌∷◌, ◌++◌, map, Option, Some, None, refl, sym, ap, subst, codes, option_map, if◌then◌else◌}
 use Rattle.std.specs.List.{list_all}
 use Rattle.std.specs.Option.{option_and_then}
 use Rattle.std.specs.Str.{bytes_eq}
 use Rattle.std.proofs.lemmas.Slice.Eq.{bytes_eq-Decides}
 use Rattle.std.proofs.lemmas.Option.{none-some, same_Some}
-use Rattle.sj_words.specs.Spelling.{Text, alone, first_then, is_flag, is_option, is_value, named, or_else, said, stands_once, with_next, with_value}
+use Rattle.sj_words.specs.Spelling.{Text, alone, first_then, is_flag, is_option, is_value, named, or_else, said, stands_once, with_next}
 use Rattle.sj_words.specs.Options.{asked_for, options}
 use Rattle.sj_words.specs.Written.{Item, flag, apart, joined, is_item, words_of, words_of_all, pair_of, AreWritten, AskFor}
 use Rattle.sj_words.specs.declared.options.Options.{Options}

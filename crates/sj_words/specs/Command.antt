@@ -1,5 +1,5 @@
 -- The command line as `clap` sees it, and what its matches must hold.
-use Rattle.std.specs.Prelude.{◌≡◌, ℕ, Bool, true, List, Option, Some, is_some, codes, if◌then◌else◌}
+use Rattle.std.specs.Prelude.{◌≡◌, true, List, Some, is_some, codes, if◌then◌else◌}
 use Rattle.clap.specs.Words.{App, Rule, new_app, new_rule, with_rule, first_value}
 use Rattle.clap.specs.Simple.{on_top}
 use Rattle.clap.specs.Matches.{one_text}

@@ -1,5 +1,5 @@
 -- What the words of a command line ask for.
-use Rattle.std.specs.Prelude.{◌≡◌, ◌≤◌, ℕ, ◌^◌, Bool, ◌&&◌, not, ◌==◌, nat_le, List, Option, Some, None, IfSome, is_some, true, ◌⊎◌, option_map, option_and_then, unwrap_or, length, codes, if◌then◌else◌}
+use Rattle.std.specs.Prelude.{◌≡◌, ◌≤◌, ℕ, ◌^◌, Bool, ◌&&◌, not, ◌==◌, nat_le, List, Option, Some, None, IfSome, is_some, true, ◌⊎◌, option_map, option_and_then, length, codes, if◌then◌else◌}
 use Rattle.std.specs.List.{list_all}
 use Rattle.std.specs.Char.{is_ascii_digit}
 use Rattle.std.specs.Str.{bytes_eq}

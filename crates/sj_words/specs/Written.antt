@@ -1,7 +1,7 @@
 -- The command lines that are accepted, as they are written.
-use Rattle.std.specs.Prelude.{◌≡◌, ◌↔◌, ℕ, Bool, true, ◌&&◌, List, [], ◌∷◌, ◌++◌, map, Option, Some}
+use Rattle.std.specs.Prelude.{◌≡◌, ◌↔◌, Bool, true, ◌&&◌, List, [], ◌∷◌, ◌++◌, map, Some}
 use Rattle.std.specs.List.{list_all}
-use Rattle.sj_words.specs.Spelling.{Text, is_flag, is_option, is_value, said, stands_once}
+use Rattle.sj_words.specs.Spelling.{Text, is_flag, is_option, is_value, stands_once}
 use Rattle.sj_words.specs.Options.{asked_for, options}
 use Rattle.sj_words.specs.declared.options.Options.{Options}
 

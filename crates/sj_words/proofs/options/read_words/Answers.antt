@@ -1,4 +1,4 @@
-use Rattle.std.proofs.Common.{◌∙◌, ap, map, sym, true, option_map, Bor}
+use Rattle.std.proofs.Common.{◌∙◌, ap, map, sym, option_map, Bor}
 use Rattle.std.proofs.lemmas.Result.{IfErr-weaker, IfOk-weaker}
 use Rattle.sj_words.specs.Spelling.{Text, texts}
 use Rattle.sj_words.specs.Steps.{are_distinct}
@@ -27,4 +27,4 @@ returns-clause-unaccepted c =
 pub matches_of-requires : goal.matches_of-requires
 matches_of-requires c =
     let s = are_said (texts c.args.words.now) (map (λ n. n.now) c.in-Some.names.items) (sym c.in_ok-names.ensures ∙ ap (option_map (λ names. map (λ n. n.now) names.items)) c.in-Some.is) in
-    are_spelled (texts c.args.words.now) (map (λ n. n.now) c.in-Some.names.items) s (c.if-not-are_distinct.ensures ∙ ap (λ ns. are_distinct (map (λ (n : Bor Text). n.now) ns)) c.as_slice.ensures.value)
+    record { spelled = are_spelled (texts c.args.words.now) (map (λ n. n.now) c.in-Some.names.items) s (c.if-not-are_distinct.ensures ∙ ap (λ ns. are_distinct (map (λ (n : Bor Text). n.now) ns)) c.as_slice.ensures.value) }
