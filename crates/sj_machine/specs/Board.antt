@@ -8,6 +8,7 @@ use Rattle.sj_core.specs.Legal.{IsComplete}
 use Rattle.sj_core.specs.Machine.{is_running_on, progress, transfer}
 use Rattle.sj_core.specs.Needs.{node_of, node_size}
 use Rattle.sj_core.specs.declared.progress.Transfer.{Transfer}
+use Rattle.sj_edge.specs.Faults.{Rose}
 use Rattle.sj_pool.specs.Pool.{Pooled, task_for, with_entry, without_entry_for}
 use Rattle.sj_machine.specs.Filling.{entry_of, with_each}
 use Rattle.sj_machine.specs.Standing.{AllTell, Standing, state, with_event}
@@ -114,9 +115,9 @@ has_ended b t w ready = record (with_hand (has_event b (End t w)) w (record (han
 
 -- ---- faults
 
--- the count of the disk with this number is above what it was
+-- the count of the disk with this number is above what it was, or stood at its last value
 abbrev pub HasRisen : {D : Type 0} → (D → ℕ) → List D → List D → ℕ → Type 0
-HasRisen count old new d = IsSomeAnd (slice_get old d) (λ x. IsSomeAnd (slice_get new d) (λ y. count x < count y))
+HasRisen count old new d = IsSomeAnd (slice_get old d) (λ x. IsSomeAnd (slice_get new d) (λ y. Rose (count x) (count y)))
 
 -- the fault has its cause: a disk of which a count rose since the run was made
 abbrev pub HasCause : {D : Type 0} → (D → ℕ) → (D → ℕ) → (D → Option (List ℕ)) → Standing D → RunFault → Type 0

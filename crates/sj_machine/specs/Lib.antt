@@ -2,7 +2,9 @@ pub mod Agrees
 pub mod Board
 pub mod BoardRow
 pub mod BoardSound
+pub mod Choosing
 pub mod Copies
+pub mod Counts
 pub mod Delivered
 pub mod Filling
 pub mod Mark
@@ -15,3 +17,4 @@ pub mod Sound
 pub mod Sparing
 pub mod Standing
 pub mod Tiles
+pub mod Todo

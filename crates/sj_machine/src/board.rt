@@ -1,10 +1,10 @@
 //! The board: the state of a run, what each worker has in hand, and the pool of ready tasks.
 
-ghost use Rattle.std.specs.Prelude.{◌≡◌, ◌↔◌, ◌<◌, ◌≤◌, [], All, IfErr, IfOk, IsNone, None, Some, false, OnErr, OnOk, is_some, length, slice_set, true};
+ghost use Rattle.std.specs.Prelude.{◌≡◌, ◌≢◌, ◌↔◌, ◌<◌, ◌≤◌, [], All, IfErr, IfOk, IsNone, None, Some, false, OnErr, OnOk, is_some, length, slice_set, true};
 ghost use Rattle.sj_base.specs.declared.trace.Event.TheVariants.{Claim, Drop, End, Move, Run};
 ghost use Rattle.sj_core.specs.Needs.{node_of};
 ghost use Rattle.sj_core.specs.Step.{mover_of};
-ghost use Rattle.sj_machine.specs.Board.{EndsMoveOf, HasCause, HasTask, IsBusy, IsFree, IsIdle, IsOver, IsWorking, OnlyDisksChangeOn, RunsNone, WasGiven, failed, first_fault, given_back, given_next, hand_in, has_claimed, has_event, room_of, stopped, transfer_of};
+ghost use Rattle.sj_machine.specs.Board.{EndsMoveOf, HasCause, HasTask, IsBusy, IsFree, IsIdle, IsOver, IsWorking, OnlyDisksChangeOn, RunsNone, WasGiven, failed, first_fault, given_back, given_next, hand_in, hand_of, has_claimed, has_event, room_of, stopped, transfer_of};
 ghost use Rattle.sj_pool.specs.Pool.{task_for};
 ghost use Rattle.sj_pool.specs.Queue.{has_fitting};
 ghost use Rattle.sj_core.specs.Program.{task_of};
@@ -14,7 +14,9 @@ ghost use Rattle.sj_machine.specs.Releasing.{EndsTask};
 ghost use Rattle.sj_machine.specs.Running.{AreResultsFor, AreSharesFor, read_among};
 ghost use Rattle.sj_machine.specs.Sound.{CanStart, FetchesMoved, IsWrittenOut, StoresMoved};
 ghost use Rattle.sj_machine.specs.Preparing.{IsOpening};
-ghost use Rattle.sj_machine.specs.Sparing.{EventsSpareUsed};
+ghost use Rattle.sj_machine.specs.Sparing.{EventsSpareUsed, Spares, SparesMoved};
+ghost use Rattle.sj_machine.specs.Counts.{AreCounted, fault_of};
+ghost use Rattle.sj_machine.specs.Todo.{AnotherGoesOn, CanBegin, IsMoverOf, IsTodoOf};
 ghost use Rattle.sj_machine.specs.Standing.{CanHappen, HasDimsMoved, IsFetching, IsMovingIn, IsMovingOut, IsShareOf, IsTileMoved, state};
 ghost use Rattle.sj_machine.specs.Tiles.{array_in};
 
@@ -25,6 +27,7 @@ use crate::preparing::prepare;
 use crate::refusal::ClaimRefusal;
 use crate::releasing::release;
 use crate::run_state::{RunRefusal, RunState};
+use crate::todo::Todo;
 use sj_base::ids::{Cell, Place, Task, Worker};
 use sj_base::keyed::Keyed;
 use sj_base::memory::OutOfMemory;
@@ -205,6 +208,7 @@ impl<D: Disk> Board<D> {
         requires no_fault { self.old.fault ≡ None }
         ensures can { OnOk result (CanHappen self.old.run (Claim t w)) }
         ensures ok { OnOk result (self.new ≡ has_claimed self.old t w) }
+        ensures spares { OnOk result (Spares self.old.run (Claim t w) self.new.run) }
         ensures err { OnErr result (self.new ≡ self.old) }
         ensures why { IfErr result (IsRefusal self.old.run.program self.old.run.machine (state self.old.run) t w) }
     {
@@ -238,9 +242,11 @@ impl<D: Disk> Board<D> {
         requires empty { frame.slots ≡ [] }
         requires room { length (read_among (task_of self.old.run.program t).accesses) ≤ frame.spare }
         ensures ok { OnOk result (self.new ≡ has_event self.old (Run t w)) }
+        ensures spares { OnOk result (Spares self.old.run (Run t w) self.new.run) }
         ensures shares { IfOk result (λ f. AreSharesFor D.held self.old.run t w f.slots) }
         ensures err { OnErr result (self.new ≡ self.old) }
     {
+        self.run.is_sound();
         self.run.run(alloc, t, w, frame)
     }
 
@@ -251,7 +257,8 @@ impl<D: Disk> Board<D> {
         requires task { HasTask self.old w t }
         requires can { CanHappen self.old.run (End t w) }
         requires written { AreResultsFor D.held self.old.run t w written.slots }
-        ensures { EndsTask self.old t w self.new }
+        ensures ends { EndsTask self.old t w self.new }
+        ensures spares { Spares self.old.run (End t w) self.new.run }
     {
         self.run.is_sound();
         self.run.end(t, w, written);
@@ -266,13 +273,38 @@ impl<D: Disk> Board<D> {
         let_go(&mut self.hands, w);
     }
 
+    /// What a worker does next, by the state alone: of its victims that aren't gone the least recently used is written to its disk
+    /// where it is the only valid copy, and else dropped; then the cells come that its claim brings, in operand order; then its
+    /// kernel begins. It waits only while another worker goes on. Linear in the victims of its claim, gone ones included, in the
+    /// nodes and in the workers; quadratic in the operands, which are a task's few. No memory.
+    pub fn plan_of(&self, w: Worker) -> Todo
+        requires works { IsWorking self.now w }
+        requires runs_none { RunsNone self.now w }
+        requires moves_none { transfer_of self.now w ≡ None }
+        ensures todo { IsTodoOf self.now w result }
+        ensures nothing { (result ≡ Todo.Nothing) ↔ ((hand_of self.now w).task ≡ None) }
+        ensures busy { result ≢ Todo.Nothing → IsBusy self.now w }
+        ensures can { CanBegin self.now w result }
+        ensures mover { IsMoverOf self.now w result }
+        ensures ends { result ≡ Todo.Wait →
+            AnotherGoesOn self.now.run.program self.now.run.machine (state self.now.run) w }
+    {
+        self.run.is_sound();
+        match self.hands[w.0 as usize].task {
+            Some(t) => self.run.next_step(t, w),
+            None => Todo::Nothing,
+        }
+    }
+
     /// A leaving copy goes from the worker's node, since another is valid and no transfer reads it. Constant time, and no
     /// memory.
     pub fn drop_copy(&mut self, w: Worker, cell: Cell)
         requires busy { IsBusy self.old w }
         requires can { CanHappen self.old.run (Drop cell (node_of self.old.run.machine w)) }
-        ensures { self.new ≡ has_event self.old (Drop cell (node_of self.old.run.machine w)) }
+        ensures drops { self.new ≡ has_event self.old (Drop cell (node_of self.old.run.machine w)) }
+        ensures spares { Spares self.old.run (Drop cell (node_of self.old.run.machine w)) self.new.run }
     {
+        self.run.is_sound();
         let n = self.run.node_of(w);
         self.run.drop_copy(cell, n);
     }
@@ -291,10 +323,12 @@ impl<D: Disk> Board<D> {
         requires can { CanHappen self.old.run (Move cell from to) }
         requires mover { mover_of (state self.old.run) cell from to ≡ w }
         ensures ok { OnOk result (self.new ≡ has_event self.old (Move cell from to)) }
+        ensures spares { OnOk result (Spares self.old.run (Move cell from to) self.new.run) }
         ensures share { IfOk result (λ share. IsShareOf D.held self.old.run cell from
             (array_in share)) }
         ensures err { OnErr result (self.new ≡ self.old) }
     {
+        self.run.is_sound();
         self.run.begin_move(w, cell, from, to)
     }
 
@@ -303,8 +337,10 @@ impl<D: Disk> Board<D> {
         requires busy { IsBusy self.old w }
         requires under_way { IsMovingIn self.old.run w }
         requires tile { IsTileMoved D.held self.old.run w tile.value }
-        ensures { EndsMoveOf w self.old self.new }
+        ensures moved { EndsMoveOf w self.old self.new }
+        ensures spares { SparesMoved w self.old.run self.new.run }
     {
+        self.run.is_sound();
         self.run.end_move_in(w, tile);
     }
 
@@ -313,8 +349,10 @@ impl<D: Disk> Board<D> {
         requires busy { IsBusy self.old w }
         requires under_way { IsMovingOut self.old.run w }
         requires written { IsWrittenOut D.held self.old.run w }
-        ensures { EndsMoveOf w self.old self.new }
+        ensures moved { EndsMoveOf w self.old self.new }
+        ensures spares { SparesMoved w self.old.run self.new.run }
     {
+        self.run.is_sound();
         self.run.end_move_out(w);
     }
 
@@ -327,6 +365,9 @@ impl<D: Disk> Board<D> {
         requires tile { IsTileMoved D.held self.old.run w tile.now }
         ensures no_event { OnlyDisksChangeOn self.old self.new }
         ensures stores { StoresMoved D.size D.faults D.mismatches D.held w tile.now.elements result self.old.run self.new.run }
+        ensures counts { AreCounted D.faults D.mismatches result self.old.run.disks.disks
+            self.new.run.disks.disks }
+        ensures cause { IfErr result (λ r. HasCause D.faults D.mismatches D.held self.new.run (fault_of r)) }
         ensures written { OnOk result (IsWrittenOut D.held self.new.run w) }
     {
         self.run.store(w, tile)
@@ -341,6 +382,9 @@ impl<D: Disk> Board<D> {
         requires dims { HasDimsMoved self.old.run w tile.old.dims }
         ensures no_event { OnlyDisksChangeOn self.old self.new }
         ensures fetches { FetchesMoved D.size D.faults D.mismatches D.held w tile.new.elements result self.old.run self.new.run }
+        ensures counts { AreCounted D.faults D.mismatches result self.old.run.disks.disks
+            self.new.run.disks.disks }
+        ensures cause { IfErr result (λ r. HasCause D.faults D.mismatches D.held self.new.run (fault_of r)) }
         ensures tile { OnOk result (IsTileMoved D.held self.old.run w tile.new) }
     {
         self.run.fetch(w, tile)

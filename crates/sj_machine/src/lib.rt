@@ -3,6 +3,7 @@
 #![tactic(auto)]
 
 pub mod board;
+mod choosing;
 pub mod claiming;
 pub mod copies;
 pub mod delivered;
@@ -20,3 +21,4 @@ pub mod refusal;
 mod releasing;
 pub mod run_state;
 mod running;
+pub mod todo;

@@ -10,6 +10,8 @@ ghost use Rattle.sj_edge.specs.GivenBack.{AreGivenBack};
 ghost use Rattle.sj_node.specs.Store.{empty};
 ghost use Rattle.sj_machine.specs.Agrees.{idle, transfer_in, with_transfer_of};
 ghost use Rattle.sj_machine.specs.Copies.{CanShare, none_at, row_of, stored, tile_kept, with_copy, with_row};
+ghost use Rattle.sj_machine.specs.Board.{HasCause};
+ghost use Rattle.sj_machine.specs.Counts.{AreCounted, fault_of};
 ghost use Rattle.sj_machine.specs.Plan.{IsPlan};
 ghost use Rattle.sj_machine.specs.Running.{AreResultsFor, AreSharesFor, read_among};
 ghost use Rattle.sj_machine.specs.Sound.{CanStart, FetchesMoved, IsSoundRun, IsWrittenOut, OnlyDisksChange, StoresMoved};
@@ -19,6 +21,7 @@ ghost use Rattle.sj_machine.specs.Standing.{CanHappen, HasDimsMoved, HasMoved, I
 ghost use Rattle.sj_machine.specs.Tiles.{array_in};
 
 mod looking;
+mod planning;
 
 use crate::claiming::{hold_all, mark_all, node_of, take_plan};
 use crate::copies::Copies;
@@ -391,6 +394,8 @@ impl<D: Disk> RunState<D> {
         requires tile { IsTileMoved D.held self.old w tile.now }
         ensures no_event { OnlyDisksChange self.old self.new }
         ensures stores { StoresMoved D.size D.faults D.mismatches D.held w tile.now.elements result self.old self.new }
+        ensures counts { AreCounted D.faults D.mismatches result self.old.disks.disks self.new.disks.disks }
+        ensures cause { IfErr result (λ r. HasCause D.faults D.mismatches D.held self.new (fault_of r)) }
         ensures given_back { AreGivenBack D.size D.faults D.mismatches D.held self.old.disks.disks self.new.disks.disks }
         ensures written { OnOk result (IsWrittenOut D.held self.new w) }
     {
@@ -409,6 +414,8 @@ impl<D: Disk> RunState<D> {
         requires dims { HasDimsMoved self.old w tile.old.dims }
         ensures no_event { OnlyDisksChange self.old self.new }
         ensures fetches { FetchesMoved D.size D.faults D.mismatches D.held w tile.new.elements result self.old self.new }
+        ensures counts { AreCounted D.faults D.mismatches result self.old.disks.disks self.new.disks.disks }
+        ensures cause { IfErr result (λ r. HasCause D.faults D.mismatches D.held self.new (fault_of r)) }
         ensures given_back { AreGivenBack D.size D.faults D.mismatches D.held self.old.disks.disks self.new.disks.disks }
         ensures tile { OnOk result (IsTileMoved D.held self.old w tile.new) }
     {
