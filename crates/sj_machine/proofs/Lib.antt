@@ -23,6 +23,7 @@ pub mod Lending
 pub mod Lists
 pub mod Making
 pub mod Marking
+pub mod NextRows
 pub mod NextSteps
 pub mod Opening
 pub mod Operands

@@ -4,6 +4,7 @@ use Rattle.std.specs.Prelude.{IsSomeAnd, MatchBool, MatchOption, if◌then◌els
 use Rattle.std.specs.List.{find, list_all, list_any}
 use Rattle.std.proofs.lemmas.Bool.{and_from, and_parts, cases_Bool, false_from_ne_true, false≢true, not-false, not-true, true_from_ne_false}
 use Rattle.std.proofs.lemmas.List.{reverse-append}
+use Rattle.std.proofs.lemmas.List.Folds.{list_any-append}
 use Rattle.std.proofs.lemmas.List.Quantifiers.{position-Some}
 use Rattle.std.proofs.lemmas.Option.{none-some}
 use Rattle.sj_base.specs.declared.trace.Event.TheVariants.{Drop, Move, Run}
@@ -63,14 +64,6 @@ find-none test (x ∷ xs) c e has = by_test (test x) refl e (find-none test xs c
           | inl same ↦ ap test (sym (same_cell-is x c same)) ∙ fails
           | inr other ↦ rest found (sym (ap (λ b. b || has_cell xs c) other) ∙ has)
         ]
-
-list_any-append : {X : Type 0} (test : X → Bool) (xs ys : List X) → list_any test (xs ++ ys) ≡ (list_any test xs || list_any test ys)
-list_any-append test [] ys = refl
-list_any-append test (x ∷ xs) ys = ap (λ b. test x || b) (list_any-append test xs ys) ∙ assoc (test x) (list_any test xs) (list_any test ys)
-  where
-    assoc : (a b c : Bool) → (a || (b || c)) ≡ ((a || b) || c)
-    assoc true b c = refl
-    assoc false b c = refl
 
 pub has_cell-reverse : (xs : List Cell) (c : Cell) → has_cell (reverse xs) c ≡ has_cell xs c
 has_cell-reverse [] c = refl

@@ -1,9 +1,8 @@
 //! What the rows say of a worker's next step.
 
-ghost use Rattle.std.specs.Prelude.{◌≡◌, ◌<◌, ◌||◌, All, filter, find, length, map, reverse};
-ghost use Rattle.std.specs.List.{list_all, list_any};
+ghost use Rattle.std.specs.Prelude.{◌≡◌, ◌<◌, ◌&&◌, All, find, length, reverse};
+ghost use Rattle.std.specs.List.{list_any};
 ghost use Rattle.sj_base.specs.declared.ids.Place.TheVariants.{Node as AtNode};
-ghost use Rattle.sj_base.specs.Mode.{is_data, starts_as_zeros};
 ghost use Rattle.sj_core.specs.Operands.{worked_on};
 ghost use Rattle.sj_core.specs.Program.{cell_info, has_cell};
 ghost use Rattle.sj_machine.specs.Choosing.{HasNumbers, are_present, are_unmoved, cells_among, fresh_among, is_brought, is_moving_in, leaves_in, moves_in, reads_in};
@@ -135,7 +134,7 @@ pub fn first_brought(
 }
 
 /// Whether each cell whose old value is read is on a node. Quadratic in the operands, which are a task's few.
-pub fn are_present(
+fn are_present(
     cells: &[Copies],
     program: &Program,
     n: Node,
@@ -154,7 +153,7 @@ pub fn are_present(
 }
 
 /// Whether no transfer moves a cell that is written. Linear in the operands times the workers.
-pub fn are_unmoved(workers: &[Hold], program: &Program, w: Worker, accesses: &[Access]) -> bool
+fn are_unmoved(workers: &[Hold], program: &Program, w: Worker, accesses: &[Access]) -> bool
     requires { HasNumbers program.now w }
     ensures { result ≡ are_unmoved workers.now program.now w accesses.now }
 {
@@ -163,4 +162,21 @@ pub fn are_unmoved(workers: &[Hold], program: &Program, w: Worker, accesses: &[A
         .filter(|a| is_written(a.mode))
         .map(|a| worked_on(program, w, *a))
         .all(|c| !is_moving(workers, c))
+}
+
+/// Whether the kernel of a claimed task may begin. Quadratic in the operands, which are a task's few, and linear in the workers
+/// for each written one.
+pub fn may_run(
+    cells: &[Copies],
+    workers: &[Hold],
+    program: &Program,
+    n: Node,
+    w: Worker,
+    accesses: &[Access],
+) -> bool
+    requires marks { All (λ row. n.0 < length row.marks) cells.now }
+    requires copies { HasNumbers program.now w }
+    ensures { result ≡ (are_present cells.now program.now n w accesses.now && are_unmoved workers.now program.now w accesses.now) }
+{
+    are_present(cells, program, n, w, accesses) && are_unmoved(workers, program, w, accesses)
 }

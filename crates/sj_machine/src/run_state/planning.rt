@@ -1,7 +1,7 @@
 //! What a worker does next.
 
 use super::RunState;
-use crate::choosing::{are_present, are_unmoved, first_brought, is_read, last_leaving};
+use crate::choosing::{first_brought, is_read, last_leaving, may_run};
 use crate::claiming::node_of;
 use crate::running::task_at;
 use crate::todo::Todo;
@@ -71,8 +71,7 @@ impl<D: Disk> RunState<D> {
     {
         let n = node_of(&self.machine, w);
         let accesses = task_at(&self.program, t).accesses.items();
-        let here = are_present(&self.cells, &self.program, n, w, accesses);
-        if here && are_unmoved(&self.workers, &self.program, w, accesses) {
+        if may_run(&self.cells, &self.workers, &self.program, n, w, accesses) {
             Todo::Start
         } else {
             Todo::Wait
