@@ -10,6 +10,7 @@ pub mod ClaimRows
 pub mod ClaimPlanning
 pub mod ClaimFinding
 pub mod ClaimChoice
+pub mod DiskCounts
 pub mod Dropping
 pub mod Entries
 pub mod Failing
@@ -23,6 +24,7 @@ pub mod Lending
 pub mod Lists
 pub mod Making
 pub mod Marking
+pub mod NextBoards
 pub mod NextRows
 pub mod NextSteps
 pub mod Opening
@@ -37,6 +39,7 @@ pub mod Resting
 pub mod Starting
 pub mod Stepping
 pub mod Sparing
+pub mod SparingBoards
 pub mod Storing
 pub mod Taking
 pub mod TaskEnding

@@ -401,6 +401,7 @@ impl<D: Disk> RunState<D> {
     {
         let x = transfer_of(&self.workers, w);
         let _d = disk_at(x.to);
+        let _extent = self.disks.extent(x.cell);
         measured(tile);
         let writes = writes_of(&self.cells, x.cell);
         self.disks.store(x.cell, writes, tile)
@@ -421,6 +422,7 @@ impl<D: Disk> RunState<D> {
     {
         let x = transfer_of(&self.workers, w);
         let _d = disk_at(x.from);
+        let _extent = self.disks.extent(x.cell);
         let _dims = tile.dims();
         let writes = writes_of(&self.cells, x.cell);
         self.disks.fetch(x.cell, writes, tile)
