@@ -1,8 +1,10 @@
-use Rattle.std.proofs.Common.{◌∙◌, ap, subst, sym}
+use Rattle.std.proofs.Common.{ap, subst, sym, ◌∙◌}
 use Rattle.sj_base.specs.declared.trace.Event.TheVariants.{End}
 use Rattle.sj_machine.specs.Board.{BoardState, HasTask}
 use Rattle.sj_machine.specs.Standing.{CanHappen, Standing}
 use Rattle.sj_machine.proofs.TaskEnding.{ends-can, ends-left, ends-ready, ends-task}
+use Rattle.sj_machine.specs.Sparing.{Spares}
+use Rattle.sj_machine.proofs.SparingBoards.{event-spares}
 use Rattle.sj_machine.proofs.board.Board.end.Goals as goal
 
 pub release-requires-clause-ready : goal.release-requires-clause-ready
@@ -23,8 +25,14 @@ invariant_of-self g c =
     let can = subst (λ (b : BoardState _). CanHappen b.run (End c.args.t c.args.w)) (sym c.self.view_is) c.requires.can in
     ends-left _ _ _ _ _ _ _ c.self.invariant c.is_sound.ensures c.args.w r.works c.args.t r.task can _ _ _ _ _ (c.program.ensures ∙ ap (λ (x : Standing _). x.program) c.end.ensures) c.end.ensures c.let_go.ensures c.release.ensures.deps c.release.ensures.pool
 
-pub returns : goal.returns
-returns g c =
+pub returns-clause-ends : goal.returns-clause-ends
+returns-clause-ends g c =
     let r = subst (λ (b : BoardState _). HasTask b c.args.w c.args.t) (sym c.self.view_is) c.requires.task in
     let can = subst (λ (b : BoardState _). CanHappen b.run (End c.args.t c.args.w)) (sym c.self.view_is) c.requires.can in
     ends-task _ _ _ _ _ _ _ c.self.invariant c.is_sound.ensures c.args.w r.works c.args.t r.task can _ _ _ _ _ (c.program.ensures ∙ ap (λ (x : Standing _). x.program) c.end.ensures) c.end.ensures c.let_go.ensures c.release.ensures.deps c.release.ensures.pool _ c.self.view_is
+
+pub returns-clause-spares : goal.returns-clause-spares
+returns-clause-spares g c =
+    let can = subst (λ (b : BoardState _). CanHappen b.run (End c.args.t c.args.w)) (sym c.self.view_is) c.requires.can in
+    subst (λ (b : BoardState _). Spares b.run (End c.args.t c.args.w) c.end.new.self) c.self.view_is
+    (event-spares _ _ _ _ c.self.inside.run c.is_sound.ensures (End c.args.t c.args.w) can c.end.new.self c.end.ensures)
