@@ -22,6 +22,10 @@ module _ {D : Type 0} (size faults mismatches : D → ℕ) (held : D → Option 
       subst (λ (x : Standing D). Spares b e x) (sym is)
       (subst (λ (z : State). SparesUsed b.program b.machine (state b) e z) (sym (state_of-more b.program b.machine b.trace e)) (Step-spares b.program b.machine (state b) sound e (after b.program b.machine (state b) e) can))
 
+  -- of the same run under another name
+  pub told-spares : (e : Event) → CanHappen b e → (b' : Standing D) → b' ≡ with_event b e → (x : Standing D) → b ≡ x → Spares x e b'
+  told-spares e can b' is x same = subst (λ (z : Standing D). Spares z e b') same (event-spares e can b' is)
+
   -- where the event comes if the call succeeds
   pub tried-spares : {A E : Type 0} (result : Result A E) (e : Event) → CanHappen b e → (b' : Standing D) → OnOk result (b' ≡ with_event b e) → OnOk result (Spares b e b')
   tried-spares (Ok a) e can b' is = event-spares e can b' is

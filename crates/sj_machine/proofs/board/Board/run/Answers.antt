@@ -8,6 +8,9 @@ use Rattle.sj_machine.specs.Sparing.{Spares}
 use Rattle.sj_machine.proofs.SparingBoards.{tried-spares}
 use Rattle.sj_machine.proofs.board.Board.run.Goals as goal
 
+pub run-requires-clause-can : goal.run-requires-clause-can
+run-requires-clause-can g c = subst (λ (b : BoardState _). CanHappen b.run (Run c.args.t c.args.w)) (sym c.self.view_is) c.requires.can
+
 pub invariant_of-self : goal.invariant_of-self
 invariant_of-self g c =
     let can = subst (λ (b : BoardState _). CanHappen b.run (Run c.args.t c.args.w)) (sym c.self.view_is) c.requires.can in
