@@ -6,6 +6,7 @@ pub mod Copies
 pub mod Delivered
 pub mod Filling
 pub mod Mark
+pub mod Operands
 pub mod Plan
 pub mod Planning
 pub mod Preparing
