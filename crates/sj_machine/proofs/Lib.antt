@@ -10,6 +10,7 @@ pub mod ClaimRows
 pub mod ClaimPlanning
 pub mod ClaimFinding
 pub mod ClaimChoice
+pub mod Commuting
 pub mod Dropping
 pub mod Entries
 pub mod Failing
@@ -24,7 +25,7 @@ pub mod Lists
 pub mod Making
 pub mod Marking
 pub mod Opening
-pub mod Operands
+pub mod Shares
 pub mod PoolFilling
 pub mod Pooling
 pub mod Owning

@@ -3,14 +3,14 @@ use Rattle.std.proofs.Common.{◌≡◌, ◌<◌, ◌≤◌, ◌+◌, ℕ, suc, 
 use Rattle.std.specs.Prelude.{All, filter}
 use Rattle.std.specs.List.{zip}
 use Rattle.std.proofs.lemmas.Bool.{false_from_ne_true, false≢true, or_parts}
-use Rattle.std.proofs.lemmas.List.{length-map, length-set, length_push, map-append}
+use Rattle.std.proofs.lemmas.List.{append_nil, length-map, length-set, length_push, map-append}
 use Rattle.std.proofs.lemmas.List.Elements.{All-get_or, All-set, filter-append}
 use Rattle.std.proofs.lemmas.List.Sums.{sum_by-set}
 use Rattle.sj_base.specs.Array.{Array, zeros}
 use Rattle.sj_base.specs.Mode.{is_written}
 use Rattle.sj_base.specs.declared.mode.Access.{Access}
 use Rattle.sj_codelet.specs.Frame.{Slot, arrays, shared}
-use Rattle.sj_core.proofs.Words.{Cell, Node, Program, dims_of, has_cell, same_cell}
+use Rattle.sj_core.proofs.Words.{Cell, Node, Program, Worker, dims_of, has_cell, same_cell}
 use Rattle.sj_core.proofs.CellLists.{same_cell-refl, times, times-cons, times-has}
 use Rattle.sj_core.proofs.Reading.{same_cell-is}
 use Rattle.sj_core.proofs.Sums.{tally}
@@ -19,15 +19,23 @@ use Rattle.sj_machine.specs.declared.mark.Mark.TheVariants.{Invalid, Valid}
 use Rattle.sj_machine.specs.Mark.{owed_for}
 use Rattle.sj_machine.specs.Agrees.{IsWide}
 use Rattle.sj_machine.specs.Copies.{Copies, mark_at, owed_in, row_of, with_row, written_at}
-use Rattle.sj_machine.specs.Running.{put_each, written_among}
+use Rattle.sj_core.specs.Operands.{worked_on}
+use Rattle.sj_machine.specs.Operands.{written_among}
+use Rattle.sj_machine.specs.Running.{put_each}
 use Rattle.sj_machine.proofs.Reading.{no_copies, row-other, row-same}
 
 -- ---- the operands from the last to the first
 
-pub among_written : (xs : List Access) (a : Access) → is_written a.mode ≡ true → written_among (xs ++ a ∷ []) ≡ written_among xs ++ a.cell ∷ []
-among_written xs a h =
-    ap (map (λ (b : Access). b.cell)) (filter-append (λ (b : Access). is_written b.mode) xs (a ∷ []) ∙ ap (λ b. filter (λ (b : Access). is_written b.mode) xs ++ cond b (a ∷ []) []) h)
-    ∙ map-append (λ (b : Access). b.cell) (filter (λ (b : Access). is_written b.mode) xs) (a ∷ [])
+among-push : (p : Program) (w : Worker) (xs : List Access) (a : Access) (x : Bool) → is_written a.mode ≡ x → written_among p w (xs ++ a ∷ []) ≡ written_among p w xs ++ map (worked_on p w) (cond x (a ∷ []) [])
+among-push p w xs a x h =
+    ap (map (worked_on p w)) (filter-append (λ (b : Access). is_written b.mode) xs (a ∷ []) ∙ ap (λ b. filter (λ (b : Access). is_written b.mode) xs ++ cond b (a ∷ []) []) h)
+    ∙ map-append (worked_on p w) (filter (λ (b : Access). is_written b.mode) xs) (cond x (a ∷ []) [])
+
+pub among_written : (p : Program) (w : Worker) (xs : List Access) (a : Access) → is_written a.mode ≡ true → written_among p w (xs ++ a ∷ []) ≡ written_among p w xs ++ worked_on p w a ∷ []
+among_written p w xs a h = among-push p w xs a true h
+
+pub among_unwritten : (p : Program) (w : Worker) (xs : List Access) (a : Access) → is_written a.mode ≡ false → written_among p w (xs ++ a ∷ []) ≡ written_among p w xs
+among_unwritten p w xs a h = among-push p w xs a false h ∙ append_nil (written_among p w xs)
 
 put_each-push : (n : Node) (cs : List Cell) (xs : List Array) (c : Cell) (x : Array) (rows : List Copies) → length cs ≡ length xs → put_each n (cs ++ c ∷ []) (xs ++ x ∷ []) rows ≡ put_each n cs xs (with_row rows c (λ row. written_at row n x))
 put_each-push n [] [] c x rows h = refl
@@ -35,13 +43,13 @@ put_each-push n [] (y ∷ xs) c x rows h = absurd (omega arith)
 put_each-push n (d ∷ cs) [] c x rows h = absurd (omega arith)
 put_each-push n (d ∷ cs) (y ∷ xs) c x rows h = ap (λ (rs : List Copies). with_row rs d (λ row. written_at row n y)) (put_each-push n cs xs c x rows (omega arith))
 
-pub put_back-puts : (n : Node) (accesses before : List Access) (last : Access) (slots slots' : List Slot) (x : Array) (rows : List Copies) → accesses ≡ before ++ last ∷ [] → slots ≡ slots' ++ shared x ∷ [] → is_written last.mode ≡ true → length slots ≡ length (written_among accesses) → put_each n (written_among before) (arrays slots') (with_row rows last.cell (λ row. written_at row n x)) ≡ put_each n (written_among accesses) (arrays slots) rows
-put_back-puts n accesses before last slots slots' x rows e made writes count =
-    let cells : written_among accesses ≡ written_among before ++ last.cell ∷ [] = ap written_among e ∙ among_written before last writes in
+pub put_back-puts : (p : Program) (w : Worker) (n : Node) (accesses before : List Access) (last : Access) (slots slots' : List Slot) (x : Array) (rows : List Copies) → accesses ≡ before ++ last ∷ [] → slots ≡ slots' ++ shared x ∷ [] → is_written last.mode ≡ true → length slots ≡ length (written_among p w accesses) → put_each n (written_among p w before) (arrays slots') (with_row rows (worked_on p w last) (λ row. written_at row n x)) ≡ put_each n (written_among p w accesses) (arrays slots) rows
+put_back-puts p w n accesses before last slots slots' x rows e made writes count =
+    let cells : written_among p w accesses ≡ written_among p w before ++ (worked_on p w last) ∷ [] = ap (written_among p w) e ∙ among_written p w before last writes in
     let news : arrays slots ≡ arrays slots' ++ x ∷ [] = ap arrays made ∙ map-append (λ (s : Slot). s.array) slots' (shared x ∷ []) in
-    let many : length (written_among before) ≡ length (arrays slots') = omega (arith, count, ap length cells, length_push (written_among before) last.cell, ap length made, length_push slots' (shared x), length-map slots' (λ (s : Slot). s.array)) in
-    sym (put_each-push n (written_among before) (arrays slots') last.cell x rows many)
-    ∙ sym (ap (λ (l : List Array). put_each n (written_among before ++ last.cell ∷ []) l rows) news)
+    let many : length (written_among p w before) ≡ length (arrays slots') = omega (arith, count, ap length cells, length_push (written_among p w before) (worked_on p w last), ap length made, length_push slots' (shared x), length-map slots' (λ (s : Slot). s.array)) in
+    sym (put_each-push n (written_among p w before) (arrays slots') (worked_on p w last) x rows many)
+    ∙ sym (ap (λ (l : List Array). put_each n (written_among p w before ++ (worked_on p w last) ∷ []) l rows) news)
     ∙ sym (ap (λ (l : List Cell). put_each n l (arrays slots) rows) cells)
 
 -- ---- what it keeps

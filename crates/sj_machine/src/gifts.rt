@@ -1,11 +1,11 @@
 //! What running deliver tasks are to hand over.
 
-ghost use Rattle.std.specs.Prelude.{◌≡◌, ◌<◌, IfOk, List, None, Option, count_by, length, replicate, slice_set};
-ghost use Rattle.sj_base.specs.Array.{Array};
+ghost use Rattle.std.specs.Prelude.{◌≡◌, ◌<◌, IfOk, None, length, replicate, slice_set};
 ghost use Rattle.sj_machine.specs.Delivered.{gift_in, is_delivery as hands_over};
 ghost use Rattle.sj_machine.specs.Preparing.{delivery_count};
 ghost use Rattle.sj_machine.specs.Tiles.{array_in};
 
+use crate::copies::no_tiles;
 use sj_base::ids::Worker;
 use sj_base::memory::OutOfMemory;
 use sj_base::program::{Codelet, Program};
@@ -55,10 +55,7 @@ impl Gifts {
     pub fn none(alloc: Global, workers: u8) -> Result<Gifts, OutOfMemory>
         ensures { IfOk result (λ g. g ≡ replicate workers None) }
     {
-        let mut tiles = Vec::new(alloc);
-        for _i in 0..workers {
-            tiles.push(None)?;
-        }
+        let tiles = no_tiles(alloc, workers as usize)?;
         Ok(Gifts { tiles })
     }
 

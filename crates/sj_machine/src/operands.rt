@@ -1,9 +1,8 @@
 //! The operands of a task as its worker works on them.
 
-ghost use Rattle.std.specs.Prelude.{◌≡◌, All, IfOk};
-ghost use Rattle.sj_base.specs.Mode.{is_written as is_written_mode, reads_value as reads_value_of};
+ghost use Rattle.std.specs.Prelude.{◌≡◌, ◌&&◌, All, IfOk};
+ghost use Rattle.sj_base.specs.Mode.{is_commute, is_written as is_written_mode, reads_value as reads_value_of};
 ghost use Rattle.sj_core.specs.Operands.{worked_on as cell_worked_on};
-ghost use Rattle.sj_core.specs.Program.{has_cell};
 ghost use Rattle.sj_machine.specs.Operands.{CanWorkOn, first_held, is_held, worked_among, written_among};
 
 use crate::hold::Hold;
@@ -98,13 +97,20 @@ fn is_held(workers: &[Hold], cell: Cell) -> bool
     false
 }
 
+/// Whether an operand commutes and a worker pins its cell. Linear in the workers and their pins.
+fn is_commuter_held(workers: &[Hold], access: Access) -> bool
+    ensures { result ≡ (is_commute access.mode && is_held workers.now access.cell) }
+{
+    access.mode == Mode::Commute && is_held(workers, access.cell)
+}
+
 /// The first cell of a commuting operand that a worker pins. Linear in the operands, and in the workers for each that
 /// commutes.
 pub fn commuter_held(workers: &[Hold], accesses: &[Access]) -> Option<Cell>
     ensures { result ≡ first_held workers.now accesses.now }
 {
     for access in accesses {
-        if access.mode == Mode::Commute && is_held(workers, access.cell) {
+        if is_commuter_held(workers, *access) {
             return Some(access.cell);
         }
     }

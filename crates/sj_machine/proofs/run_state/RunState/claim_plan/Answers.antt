@@ -25,7 +25,7 @@ returns-clause-can g c =
     let may = subst (λ (b : Standing _). MayClaim b.program b.machine (state b) a.t a.w) (sym c.self.view_is) c.requires in
     let told : All (λ row. NoneLeaves c.deref.result.now n row.victims) c.deref-2.result.now = c.in_default.ensures.none refl in
     let none = subst (λ (ws : List WorkerState). All (λ row. NoneLeaves i.cells.items n row.victims) ws) c.deref-2.ensures.value (subst (λ (rows : List Copies). All (λ row. NoneLeaves rows n row.victims) c.deref-2.result.now) c.deref.ensures.value told) in
-    let found : c.in_ok-found.found ≡ option_map (planned i.program.value c.index.result.now a.t) (chosen_on i.program.value c.index.result.now a.t) = c.in_ok-found.ensures ∙ ap (λ (p : Program). option_map (planned p c.index.result.now a.t) (chosen_on p c.index.result.now a.t)) c.deref-3.ensures in
+    let found : c.in_ok-found.found ≡ option_map (planned i.program.value c.index.result.now a.t a.w) (chosen_on i.program.value c.index.result.now a.t a.w) = c.in_ok-found.ensures ∙ ap (λ (p : Program). option_map (planned p c.index.result.now a.t a.w) (chosen_on p c.index.result.now a.t a.w)) c.deref-3.ensures in
     let answer = choice-found _ _ _ _ _ _ _ _ c.self.invariant a.t a.w may n c.node_of-n.ensures none c.index.result.now _ c.index.ensures c.in_ok-found.found found in
     (answer-told _ _ a.t a.w _ _ c.self.view_is c.ok_or.ensures.value answer).can
 
@@ -37,7 +37,7 @@ returns-clause-plan g c =
     let may = subst (λ (b : Standing _). MayClaim b.program b.machine (state b) a.t a.w) (sym c.self.view_is) c.requires in
     let told : All (λ row. NoneLeaves c.deref.result.now n row.victims) c.deref-2.result.now = c.in_default.ensures.none refl in
     let none = subst (λ (ws : List WorkerState). All (λ row. NoneLeaves i.cells.items n row.victims) ws) c.deref-2.ensures.value (subst (λ (rows : List Copies). All (λ row. NoneLeaves rows n row.victims) c.deref-2.result.now) c.deref.ensures.value told) in
-    let found : c.in_ok-found.found ≡ option_map (planned i.program.value c.index.result.now a.t) (chosen_on i.program.value c.index.result.now a.t) = c.in_ok-found.ensures ∙ ap (λ (p : Program). option_map (planned p c.index.result.now a.t) (chosen_on p c.index.result.now a.t)) c.deref-3.ensures in
+    let found : c.in_ok-found.found ≡ option_map (planned i.program.value c.index.result.now a.t a.w) (chosen_on i.program.value c.index.result.now a.t a.w) = c.in_ok-found.ensures ∙ ap (λ (p : Program). option_map (planned p c.index.result.now a.t a.w) (chosen_on p c.index.result.now a.t a.w)) c.deref-3.ensures in
     let answer = choice-found _ _ _ _ _ _ _ _ c.self.invariant a.t a.w may n c.node_of-n.ensures none c.index.result.now _ c.index.ensures c.in_ok-found.found found in
     (answer-told _ _ a.t a.w _ _ c.self.view_is c.ok_or.ensures.value answer).plan
 
@@ -49,6 +49,6 @@ returns-clause-why g c =
     let may = subst (λ (b : Standing _). MayClaim b.program b.machine (state b) a.t a.w) (sym c.self.view_is) c.requires in
     let told : All (λ row. NoneLeaves c.deref.result.now n row.victims) c.deref-2.result.now = c.in_default.ensures.none refl in
     let none = subst (λ (ws : List WorkerState). All (λ row. NoneLeaves i.cells.items n row.victims) ws) c.deref-2.ensures.value (subst (λ (rows : List Copies). All (λ row. NoneLeaves rows n row.victims) c.deref-2.result.now) c.deref.ensures.value told) in
-    let found : c.in_ok-found.found ≡ option_map (planned i.program.value c.index.result.now a.t) (chosen_on i.program.value c.index.result.now a.t) = c.in_ok-found.ensures ∙ ap (λ (p : Program). option_map (planned p c.index.result.now a.t) (chosen_on p c.index.result.now a.t)) c.deref-3.ensures in
+    let found : c.in_ok-found.found ≡ option_map (planned i.program.value c.index.result.now a.t a.w) (chosen_on i.program.value c.index.result.now a.t a.w) = c.in_ok-found.ensures ∙ ap (λ (p : Program). option_map (planned p c.index.result.now a.t a.w) (chosen_on p c.index.result.now a.t a.w)) c.deref-3.ensures in
     let answer = choice-found _ _ _ _ _ _ _ _ c.self.invariant a.t a.w may n c.node_of-n.ensures none c.index.result.now _ c.index.ensures c.in_ok-found.found found in
     (answer-told _ _ a.t a.w _ _ c.self.view_is c.ok_or.ensures.value answer).why
