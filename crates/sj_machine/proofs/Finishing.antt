@@ -41,7 +41,7 @@ use Rattle.sj_machine.specs.Agrees.{HasMarks, HasStores, HasTiles, IsWide, Rows,
 use Rattle.sj_machine.specs.Copies.{Copies, mark_at, row_of, tile_at, written_at}
 use Rattle.sj_machine.specs.Plan.{store_at}
 use Rattle.sj_machine.specs.Operands.{CanWorkOn, written_among}
-use Rattle.sj_machine.specs.Running.{AreResultsFor, AreShared, CanRelease, CanRewrite, IsResultIn, let_go, put_each, released}
+use Rattle.sj_machine.specs.Running.{AreResultsFor, AreShared, CanPutBack, CanRelease, CanRewrite, IsResultIn, let_go, put_each, released}
 use Rattle.sj_machine.specs.Sound.{HoldsBlocks, Keeps}
 use Rattle.sj_machine.specs.Standing.{AllTell, CanHappen, Standing, state}
 use Rattle.sj_machine.proofs.ClaimEntries.{entries}
@@ -439,17 +439,17 @@ module _ {D : Type 0} (size faults mismatches : D → ℕ) (held : D → Option 
     same-among : written_among q w accesses ≡ written_among b.program w (task_of b.program t).accesses
     same-among = ap (λ (x : Program). written_among x w accesses) program ∙ ap (written_among b.program w) of_task
 
-    pub found-end_can_work : All (CanWorkOn q w) accesses
+    found-end_can_work : All (CanWorkOn q w) accesses
     found-end_can_work =
         subst (λ (x : Program). All (CanWorkOn x w) accesses) (sym program)
         (subst (λ (l : List Access). All (CanWorkOn b.program w) l) (sym of_task) (end-can_work size faults mismatches held b rows owed spare keeps t w now-can))
 
-    pub found-end_cells : All (λ a. (worked_on q w a).0 < length rows.cells) accesses
+    found-end_cells : All (λ a. (worked_on q w a).0 < length rows.cells) accesses
     found-end_cells =
         subst (λ (x : Program). All (λ a. (worked_on x w a).0 < length rows.cells) accesses) (sym program)
         (subst (λ (l : List Access). All (λ a. (worked_on b.program w a).0 < length rows.cells) l) (sym of_task) (end-cells size faults mismatches held b rows owed spare keeps t w now-can))
 
-    pub found-end_rows : All (CanRewrite at (length (written_among q w accesses))) rows.cells
+    found-end_rows : All (CanRewrite at (length (written_among q w accesses))) rows.cells
     found-end_rows =
         subst (λ (l : List Cell). All (CanRewrite at (length l)) rows.cells) (sym same-among)
         (subst (λ (j : Node). All (CanRewrite j (length (written_among b.program w (task_of b.program t).accesses))) rows.cells) (sym bound) (end-rows size faults mismatches held b rows owed spare keeps t w now-can))
@@ -458,11 +458,14 @@ module _ {D : Type 0} (size faults mismatches : D → ℕ) (held : D → Option 
       now-given : AreResultsFor held b t w slots
       now-given = subst (λ (x : Standing D). AreResultsFor held x t w slots) (sym same) given
 
-      pub found-end_shared : AreShared slots
+      found-end_shared : AreShared slots
       found-end_shared = end-shared size faults mismatches held b rows owed spare keeps t w now-can slots now-given
 
-      pub found-end_count : length slots ≡ length (written_among q w accesses)
+      found-end_count : length slots ≡ length (written_among q w accesses)
       found-end_count = end-count size faults mismatches held b rows owed spare keeps t w now-can slots now-given ∙ ap length (sym same-among)
+
+      pub found-end_can_put : CanPutBack q w rows.cells at accesses slots
+      found-end_can_put = record { works = found-end_can_work; cells = found-end_cells; rewrites = found-end_rows; shares = found-end_shared; count = found-end_count }
 
       pub found-end_owed : 0 < owed
       found-end_owed = end-owed size faults mismatches held b rows owed spare keeps t w now-can slots now-given

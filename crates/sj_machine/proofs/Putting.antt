@@ -1,10 +1,10 @@
 -- The rows of cells after new tiles of some were put.
-use Rattle.std.proofs.Common.{◌≡◌, ◌<◌, ◌≤◌, ◌+◌, ℕ, suc, Bool, true, false, List, [], ◌∷◌, ◌++◌, None, Some, ◌∙◌, ap, arith, cond, find, length, map, refl, sum_by, sym, ◌||◌}
+use Rattle.std.proofs.Common.{◌≡◌, ◌<◌, ◌≤◌, ◌+◌, ℕ, suc, Bool, true, false, List, [], ◌∷◌, ◌++◌, None, Some, ◌∙◌, ap, arith, cond, find, length, map, refl, subst, sum_by, sym, ◌||◌}
 use Rattle.std.specs.Prelude.{All, filter}
 use Rattle.std.specs.List.{zip}
 use Rattle.std.proofs.lemmas.Bool.{false_from_ne_true, false≢true, or_parts}
-use Rattle.std.proofs.lemmas.List.{append_nil, length-map, length-set, length_push, map-append}
-use Rattle.std.proofs.lemmas.List.Elements.{All-get_or, All-set, filter-append}
+use Rattle.std.proofs.lemmas.List.{append-nil, get_or_append_left, get_or_push, length-map, length-set, length_push, map-append}
+use Rattle.std.proofs.lemmas.List.Elements.{All-get_or, All-set, All-weaker, filter-append}
 use Rattle.std.proofs.lemmas.List.Sums.{sum_by-set}
 use Rattle.sj_base.specs.Array.{Array, zeros}
 use Rattle.sj_base.specs.Mode.{is_written}
@@ -20,11 +20,20 @@ use Rattle.sj_machine.specs.Mark.{owed_for}
 use Rattle.sj_machine.specs.Agrees.{IsWide}
 use Rattle.sj_machine.specs.Copies.{Copies, mark_at, owed_in, row_of, with_row, written_at}
 use Rattle.sj_core.specs.Operands.{worked_on}
-use Rattle.sj_machine.specs.Operands.{written_among}
-use Rattle.sj_machine.specs.Running.{put_each}
+use Rattle.sj_machine.specs.Operands.{CanWorkOn, written_among}
+use Rattle.sj_machine.specs.Running.{CanPutBack, CanRewrite, put_each}
 use Rattle.sj_machine.proofs.Reading.{no_copies, row-other, row-same}
 
 -- ---- the operands from the last to the first
+
+-- what is so of all is so of those before the last, and of the last
+pub all-before : {X : Type 0} (P : X → Type 0) (xs before : List X) (last : X) → xs ≡ before ++ last ∷ [] → All P xs → All P before
+all-before P xs before last e all i d inside =
+    subst P (get_or_append_left before (last ∷ []) d i inside) (subst (All P) e all i d (omega (arith, inside, length_push before last)))
+
+pub all-last : {X : Type 0} (P : X → Type 0) (xs before : List X) (last : X) → xs ≡ before ++ last ∷ [] → All P xs → P last
+all-last P xs before last e all =
+    subst P (get_or_push before last last (length before) refl) (subst (All P) e all (length before) last (omega (arith, length_push before last)))
 
 among-push : (p : Program) (w : Worker) (xs : List Access) (a : Access) (x : Bool) → is_written a.mode ≡ x → written_among p w (xs ++ a ∷ []) ≡ written_among p w xs ++ map (worked_on p w) (cond x (a ∷ []) [])
 among-push p w xs a x h =
@@ -35,7 +44,7 @@ pub among_written : (p : Program) (w : Worker) (xs : List Access) (a : Access) �
 among_written p w xs a h = among-push p w xs a true h
 
 pub among_unwritten : (p : Program) (w : Worker) (xs : List Access) (a : Access) → is_written a.mode ≡ false → written_among p w (xs ++ a ∷ []) ≡ written_among p w xs
-among_unwritten p w xs a h = among-push p w xs a false h ∙ append_nil (written_among p w xs)
+among_unwritten p w xs a h = among-push p w xs a false h ∙ append-nil (written_among p w xs)
 
 put_each-push : (n : Node) (cs : List Cell) (xs : List Array) (c : Cell) (x : Array) (rows : List Copies) → length cs ≡ length xs → put_each n (cs ++ c ∷ []) (xs ++ x ∷ []) rows ≡ put_each n cs xs (with_row rows c (λ row. written_at row n x))
 put_each-push n [] [] c x rows h = refl
@@ -51,6 +60,35 @@ put_back-puts p w n accesses before last slots slots' x rows e made writes count
     sym (put_each-push n (written_among p w before) (arrays slots') (worked_on p w last) x rows many)
     ∙ sym (ap (λ (l : List Array). put_each n (written_among p w before ++ (worked_on p w last) ∷ []) l rows) news)
     ∙ sym (ap (λ (l : List Cell). put_each n l (arrays slots) rows) cells)
+
+-- what can be put back, before the last operand, where it isn't written
+pub can_put-skip : (p : Program) (w : Worker) (n : Node) (accesses before : List Access) (last : Access) (slots : List Slot) (rows : List Copies) → accesses ≡ before ++ last ∷ [] → is_written last.mode ≡ false → CanPutBack p w rows n accesses slots → CanPutBack p w rows n before slots
+can_put-skip p w n accesses before last slots rows e stays can =
+    let same : written_among p w accesses ≡ written_among p w before = ap (written_among p w) e ∙ among_unwritten p w before last stays in
+    record {
+      works = all-before (CanWorkOn p w) accesses before last e can.works;
+      cells = all-before (λ a. (worked_on p w a).0 < length rows) accesses before last e can.cells;
+      rewrites = subst (λ (l : List Cell). All (CanRewrite n (length l)) rows) same can.rewrites;
+      shares = can.shares;
+      count = can.count ∙ ap length same;
+    }
+
+-- and where it is, once it was put back
+pub can_put-take : (p : Program) (w : Worker) (n : Node) (accesses before : List Access) (last : Access) (slots slots' : List Slot) (x : Array) (rows rows' : List Copies) (c : Cell) → accesses ≡ before ++ last ∷ [] → is_written last.mode ≡ true → slots ≡ slots' ++ shared x ∷ [] → c ≡ worked_on p w last → rows' ≡ with_row rows c (λ row. written_at row n x) → CanPutBack p w rows n accesses slots → CanPutBack p w rows' n before slots'
+can_put-take p w n accesses before last slots slots' x rows rows' c e writes made at now can =
+    let among : written_among p w accesses ≡ written_among p w before ++ worked_on p w last ∷ [] = ap (written_among p w) e ∙ among_written p w before last writes in
+    let more : length (written_among p w accesses) ≡ length (written_among p w before) + 1 = ap length among ∙ length_push (written_among p w before) (worked_on p w last) in
+    let long : length rows' ≡ length rows = ap length now ∙ length-set rows c.0 (written_at (row_of rows c) n x) in
+    let inside : c.0 < length rows = subst (λ (d : Cell). d.0 < length rows) (sym at) (all-last (λ a. (worked_on p w a).0 < length rows) accesses before last e can.cells) in
+    let fewer : All (CanRewrite n (length (written_among p w before))) rows = All-weaker (CanRewrite n (length (written_among p w accesses))) (CanRewrite n (length (written_among p w before))) (λ row is. record { node = is.node; few = omega (arith, is.few, more) }) rows can.rewrites in
+    let here : CanRewrite n (length (written_among p w accesses)) (row_of rows c) = All-get_or (CanRewrite n (length (written_among p w accesses))) rows c.0 no_copies inside can.rewrites in
+    record {
+      works = all-before (CanWorkOn p w) accesses before last e can.works;
+      cells = subst (λ k. All (λ a. (worked_on p w a).0 < k) before) (sym long) (all-before (λ a. (worked_on p w a).0 < length rows) accesses before last e can.cells);
+      rewrites = subst (All (CanRewrite n (length (written_among p w before)))) (sym now) (All-set (CanRewrite n (length (written_among p w before))) rows c.0 (written_at (row_of rows c) n x) (record { node = omega (arith, here.node, length-set (row_of rows c).marks n.0 Valid); few = omega (arith, here.few, more) }) fewer);
+      shares = all-before (λ (y : Slot). y.owned ≡ false) slots slots' (shared x) made can.shares;
+      count = omega (arith, can.count, more, ap length made, length_push slots' (shared x));
+    }
 
 -- ---- what it keeps
 

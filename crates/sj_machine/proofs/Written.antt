@@ -1,6 +1,6 @@
 -- What a worker works on for the operands of a task: each written cell comes once, and all are cells of the program.
 use Rattle.std.proofs.Common.{◌≡◌, ◌<◌, ◌≤◌, ◌+◌, ◌^◌, ◌⊎◌, ℕ, suc, Bool, true, false, not, List, [], ◌∷◌, ◌∙◌, Option, None, Some, ap, arith, get_or, inl, inr, is_some, length, map, refl, sym, subst, ◌&&◌}
-use Rattle.std.specs.Prelude.{All, AllPairs, Contains, IsTrue, filter}
+use Rattle.std.specs.Prelude.{All, AllPairs, Contains, IsTrue, filter, if◌then◌else◌}
 use Rattle.std.proofs.lemmas.Bool.{false_from_ne_true, false≢true}
 use Rattle.std.proofs.lemmas.List.Elements.{All-from_get_or, All-get_or, Contains-get_or, filter_passes}
 use Rattle.std.proofs.lemmas.List.Kept.{AllPairs-filter}
@@ -135,14 +135,14 @@ module _ (p : Program) (proper : Proper p) (t : Task) (inside : t.0 < length p.t
 
   -- ---- the cells that are worked on
 
+  named-inside : (a : Access) → Contains (task_of p t).accesses a → a.cell.0 < length p.cells
+  named-inside a (i, l, e) = subst (λ (x : Access). x.cell.0 < length p.cells) e (proper.cells.named t.0 no_task inside i a l)
+
   worked-inside : (a : Access) → Contains (task_of p t).accesses a → (worked_on p w a).0 < length p.cells
   worked-inside a h = by_mode (redux_or a.mode)
     where
-      named : a.cell.0 < length p.cells
-      named = (λ (k, l, e). subst (λ (x : Access). x.cell.0 < length p.cells) e (proper.cells.named t.0 no_task inside k a l)) h
-
       by_mode : (a.mode ≡ Redux) ⊎ (is_redux a.mode ≡ false) → (worked_on p w a).0 < length p.cells
-      by_mode (inr direct) = subst (λ (c : Cell). c.0 < length p.cells) (sym (direct-cell p w a direct)) named
+      by_mode (inr direct) = subst (λ (c : Cell). c.0 < length p.cells) (sym (direct-cell p w a direct)) (named-inside a h)
       by_mode (inl redux) =
           let some = redux-has_copies p proper.cells t inside a.mode a.cell h (ap is_redux redux) in
           let is : worked_on p w a ≡ copy_of p a.cell w = ap (λ b. if b then copy_of p a.cell w else a.cell) (ap is_redux redux) in
@@ -155,7 +155,7 @@ module _ (p : Program) (proper : Proper p) (t : Task) (inside : t.0 < length p.t
   works-inside = all-operands (λ a. (worked_on p w a).0 < length p.cells) worked-inside
 
   pub can-work : All (CanWorkOn p w) (task_of p t).accesses
-  can-work = all-operands (CanWorkOn p w) (λ a h. record { cell = (λ (k, l, e). subst (λ (x : Access). x.cell.0 < length p.cells) e (proper.cells.named t.0 no_task inside k a l)) h; number = omega (arith, worked-inside a h, proper.limits.cells) })
+  can-work = all-operands (CanWorkOn p w) (λ a h. record { cell = named-inside a h; number = omega (arith, worked-inside a h, proper.limits.cells) })
 
   pub works-small : All (λ a. IsSmallCell p (worked_on p w a)) (task_of p t).accesses
   works-small = all-operands (λ a. IsSmallCell p (worked_on p w a)) (λ a h. record { cell = worked-inside a h; small = All-get_or (λ (c : CellInfo). area c.dims ≤ 2 ^ 24) p.cells (worked_on p w a).0 no_cell (worked-inside a h) proper.limits.elements })

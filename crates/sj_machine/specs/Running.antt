@@ -20,7 +20,7 @@ use Rattle.sj_node.specs.Entry.{Entry, is_among, pins_of, repinned, without_all}
 use Rattle.sj_node.specs.Store.{Store, with_entries}
 use Rattle.sj_machine.specs.Agrees.{row_at}
 use Rattle.sj_machine.specs.Copies.{Copies, lent_at, row_of, tile_at, with_row, written_at}
-use Rattle.sj_machine.specs.Operands.{CanWorkOn, read_among}
+use Rattle.sj_machine.specs.Operands.{CanWorkOn, read_among, written_among}
 use Rattle.sj_machine.specs.Standing.{AllTell, Standing, state}
 
 -- ---- shares
@@ -92,6 +92,14 @@ abbrev pub put_each : Node → List Cell → List Array → List Copies → List
 put_each n [] news rows = rows
 put_each n (c ∷ cells) [] rows = rows
 put_each n (c ∷ cells) (a ∷ news) rows = with_row (put_each n cells news rows) c (λ row. written_at row n a)
+
+-- these operands can be put in the places of what a worker works on for its written operands, at a node
+pub record CanPutBack (p : Program) (w : Worker) (rows : List Copies) (n : Node) (accesses : List Access) (slots : List Slot) : Type 0 where
+  pub works : All (CanWorkOn p w) accesses
+  pub cells : All (λ a. (worked_on p w a).0 < length rows) accesses
+  pub rewrites : All (CanRewrite n (length (written_among p w accesses))) rows
+  pub shares : AreShared slots
+  pub count : length slots ≡ length (written_among p w accesses)
 
 -- entries with one pin less for each of these cells
 abbrev pub unpinned_each : List Cell → List Entry → List Entry

@@ -5,9 +5,8 @@ ghost use Rattle.sj_codelet.specs.Frame.{arrays, shared};
 ghost use Rattle.sj_machine.specs.Agrees.{row_at};
 ghost use Rattle.sj_machine.specs.Copies.{with_row, written_at};
 ghost use Rattle.sj_machine.specs.Plan.{store_at};
-ghost use Rattle.sj_core.specs.Operands.{worked_on as cell_worked_on};
-ghost use Rattle.sj_machine.specs.Operands.{CanWorkOn, written_among};
-ghost use Rattle.sj_machine.specs.Running.{AreShared, CanRelease, CanRewrite, CanUnpin, let_go, put_each, released, unpinned_each};
+ghost use Rattle.sj_machine.specs.Operands.{written_among};
+ghost use Rattle.sj_machine.specs.Running.{AreShared, CanPutBack, CanRelease, CanRewrite, CanUnpin, let_go, put_each, released, unpinned_each};
 ghost use Rattle.sj_node.specs.Store.{with_entries};
 
 use crate::copies::Copies;
@@ -53,20 +52,19 @@ pub fn put_back(
     n: Node,
     written: &mut Frame,
 )
-    requires can { All (CanWorkOn program.now w) accesses.now }
-    requires cells { All (λ a. (cell_worked_on program.now w a).0 < length cells.old.items) accesses.now }
-    requires rows { All (CanRewrite n (length (written_among program.now w accesses.now))) cells.old.items }
-    requires shared { AreShared written.old.slots }
-    requires count { length written.old.slots ≡ length (written_among program.now w accesses.now) }
+    requires { CanPutBack program.now w cells.old.items n accesses.now written.old.slots }
     ensures { cells.new.items
         ≡ put_each n (written_among program.now w accesses.now) (arrays written.old.slots) cells.old.items }
 {
     let Some((last, before)) = accesses.split_last() else {
         return;
     };
-    if is_written(last.mode) {
-        rewrite(cells, worked_on(program, w, *last), n, take_shared(written));
+    if !is_written(last.mode) {
+        put_back(program, w, cells, before, n, written);
+        return;
     }
+    let cell = worked_on(program, w, *last);
+    rewrite(cells, cell, n, take_shared(written));
     put_back(program, w, cells, before, n, written);
 }
 
