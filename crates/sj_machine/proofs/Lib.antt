@@ -11,9 +11,12 @@ pub mod ClaimPlanning
 pub mod ClaimFinding
 pub mod ClaimChoice
 pub mod Commuting
+pub mod Delivering
 pub mod Dropping
+pub mod Ends
 pub mod Entries
 pub mod Failing
+pub mod Gifting
 pub mod Giving
 pub mod Hands
 pub mod FillLoop

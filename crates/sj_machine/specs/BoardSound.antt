@@ -117,13 +117,13 @@ undone s = count_by (λ x. not (is_done x)) s.tasks
 
 -- what the ends of tasks leave: arrays that were handed over, with room for those to come, and the count of the tasks that
 -- aren't done; and what running tasks are to hand over is kept
-pub record KeepsEnds {D : Type 0} (held : D → Option (List ℕ)) (b : BoardState D) (gifts : List (Option Array)) (spare left : ℕ) : Type 0 where
-  pub delivered : DeliversDone b.run.program (state b.run) (AllTell held b.run) b.delivered
-  pub gifts_kept : KeepsGifts b.run.program (state b.run) (AllTell held b.run) gifts
-  pub room : undelivered b.run.program (state b.run) ≤ spare
-  pub counted : undone (state b.run) ≡ left
+pub record KeepsEnds (p : Program) (s : State) (Tells : Type 0) (pairs : List (Task × Array)) (gifts : List (Option Array)) (spare left : ℕ) : Type 0 where
+  pub delivered : DeliversDone p s Tells pairs
+  pub gifts_kept : KeepsGifts p s Tells gifts
+  pub room : undelivered p s ≤ spare
+  pub counted : undone s ≡ left
 
 -- all of it
 pub record IsKept {D : Type 0} (faults mismatches : D → ℕ) (held : D → Option (List ℕ)) (b : BoardState D) (deps : Dependencies) (footprints : List ℕ) (gifts : List (Option Array)) (spare left : ℕ) : Type 0 where
   pub board : KeepsBoard faults mismatches held b deps footprints
-  pub ends : KeepsEnds held b gifts spare left
+  pub ends : KeepsEnds b.run.program (state b.run) (AllTell held b.run) b.delivered gifts spare left
