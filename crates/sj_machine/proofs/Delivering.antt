@@ -1,5 +1,5 @@
 -- Deliver tasks: each reads one cell, and what it finds there is what it is to hand over.
-use Rattle.std.proofs.Common.{◌≡◌, ◌∙◌, ◌∷◌, ◌<◌, ℕ, [], List, Option, None, Some, Bool, true, false, IsTrue, ap, arith, get_or, inl, inr, is_some, length, map, refl, subst, sym, filter}
+use Rattle.std.proofs.Common.{◌≡◌, ◌∙◌, ◌∷◌, ◌<◌, ◌||◌, ℕ, [], List, Option, None, Some, Bool, true, false, IsTrue, ap, arith, get_or, inl, inr, is_some, length, map, refl, subst, sym, filter}
 use Rattle.std.specs.Prelude.{Contains, IsSomeAnd, slice_index_or}
 use Rattle.std.proofs.lemmas.Bool.{cases_Bool, cases_lt, false≢true}
 use Rattle.std.proofs.lemmas.List.{get_or_past}
@@ -14,10 +14,14 @@ use Rattle.sj_base.specs.Mode.{is_data, reads_value}
 use Rattle.sj_codelet.specs.declared.kernel.Kernel.{Kernel}
 use Rattle.sj_codelet.specs.declared.kernel.Kernel.TheVariants.{Fill, Copy, Scale, Add, Axpy, Butterfly, Gemm, GemmThree, Transpose, Dot, Sum, Lowest, MinGemm, FwDiag, FwRow, FwCol, Load, LoadFill, Paste, Deliver, InitPlus, InitLeast}
 use Rattle.sj_codelet.specs.Kernel.{commutes_of, contributes_of, kernel_of}
+use Rattle.sj_core.proofs.Claimed.{claimed-staffed}
+use Rattle.sj_core.proofs.Folding.{read-among_cells}
+use Rattle.sj_core.proofs.Found.{found-not_fresh}
 use Rattle.sj_core.proofs.Given.{delivers-given}
-use Rattle.sj_core.proofs.Words.{Array, AtNode, Cell, Machine, Node, Program, State, Task, Worker, cells_of, dims_of, no_task, node_of, progress, task_of, worked_on}
+use Rattle.sj_core.proofs.Reading.{list_all-has}
+use Rattle.sj_core.proofs.Words.{Array, AtNode, Cell, Machine, Node, Program, State, Task, Worker, cells_of, dims_of, fresh_cells, has_cell, is_valid, no_task, node_of, progress, replica, task_of, worked_on}
 use Rattle.sj_core.specs.Fold.{given}
-use Rattle.sj_core.specs.Laws.{Brought, HasAtHand, Works}
+use Rattle.sj_core.specs.Laws.{Brought, HasAtHand, IsSound, Works}
 use Rattle.sj_core.specs.Proper.{Commuting, Contributing, FirstPaste, Fits, MayHaveModes, Own, Proper, access, own_modes}
 use Rattle.sj_core.specs.Step.{array_at}
 use Rattle.sj_core.specs.declared.progress.Progress.TheVariants.{Claimed, Running}
@@ -101,6 +105,22 @@ module _ {D : Type 0} (size faults mismatches : D → ℕ) (held : D → Option 
   at-hand hands has =
       delivers-given p b.machine (state b) (record { proper = sound.run.proper; machine = sound.run.machine; coherent = sound.coherent }) sound.run.has sound.run.lawful t w (delivered_cell p t)
       (deliver-reads p sound.run.proper t hands) has
+
+  -- as the task begins to run it has that cell there
+  pub run-has : CanHappen b (Run t w) → is_deliver_task p t ≡ true → HasAtHand b.machine (state b) t w (delivered_cell p t)
+  run-has can hands = Brought can.claimed (
+    sym (ap (λ x. x || is_valid (replica (state b) (delivered_cell p t) (AtNode n))) (found-not_fresh p sound.run.proper t w (claimed-staffed p b.machine (state b) h t w can.claimed) its among refl))
+    ∙ list_all-has (λ c. has_cell (fresh_cells p t w) c || is_valid (replica (state b) c (AtNode n))) (cells_of p t w) (delivered_cell p t) can.present (read-among_cells p t w its among refl)
+  )
+    where
+      h : IsSound p b.machine (state b)
+      h = record { proper = sound.run.proper; machine = sound.run.machine; coherent = sound.coherent }
+
+      its : Access
+      its = access R (delivered_cell p t)
+
+      among : Contains (task_of p t).accesses its
+      among = subst (λ (xs : List Access). Contains xs its) (sym (deliver-reads p sound.run.proper t hands)) (0, omega arith, refl)
 
   -- so a gift that was taken where the cell is at hand is to be kept
   pub gift-kept : (gift : Option Array) → (is_deliver_task p t ≡ true → HasAtHand b.machine (state b) t w (delivered_cell p t)) → IsGift held b t w gift → IsKeptFor p (AllTell held b) t gift

@@ -1,5 +1,6 @@
 pub mod Arriving
 pub mod Beginning
+pub mod BoardEnds
 pub mod Boarding
 pub mod ClaimEntries
 pub mod ClaimPins

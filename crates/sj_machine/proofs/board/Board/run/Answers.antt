@@ -1,11 +1,5 @@
-use Rattle.std.proofs.Common.{subst, sym}
-use Rattle.sj_base.specs.declared.trace.Event.TheVariants.{Run}
-use Rattle.sj_machine.specs.Board.{BoardState}
-use Rattle.sj_machine.specs.Standing.{CanHappen}
-use Rattle.sj_machine.proofs.Starting.{keeps-begun_left}
+use Rattle.sj_machine.proofs.BoardEnds.{begins, begins-staffed}
 use Rattle.sj_machine.proofs.board.Board.run.Goals as goal
 
 pub invariant_of-self : goal.invariant_of-self
-invariant_of-self g c =
-    let can = subst (λ (b : BoardState _). CanHappen b.run (Run c.args.t c.args.w)) (sym c.self.view_is) c.requires.can in
-    keeps-begun_left _ _ _ _ _ _ c.self.invariant c.args.t c.args.w can c.run.result _ c.run.ensures.ok c.run.ensures.err
+invariant_of-self g c = ?
