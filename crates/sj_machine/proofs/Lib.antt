@@ -1,5 +1,6 @@
 pub mod Arriving
 pub mod Beginning
+pub mod BoardEnds
 pub mod Boarding
 pub mod ClaimEntries
 pub mod ClaimPins
@@ -11,9 +12,13 @@ pub mod ClaimPlanning
 pub mod ClaimFinding
 pub mod ClaimChoice
 pub mod DiskCounts
+pub mod Commuting
+pub mod Delivering
 pub mod Dropping
+pub mod Ends
 pub mod Entries
 pub mod Failing
+pub mod Gifting
 pub mod Giving
 pub mod Hands
 pub mod FillLoop
@@ -27,8 +32,9 @@ pub mod Marking
 pub mod NextBoards
 pub mod NextRows
 pub mod NextSteps
+pub mod Numbering
 pub mod Opening
-pub mod Operands
+pub mod Shares
 pub mod PoolFilling
 pub mod Pooling
 pub mod Owning

@@ -27,7 +27,8 @@ use Rattle.sj_core.specs.Step.{disk_of, is_fresh, is_moving, is_present, is_read
 use Rattle.sj_disk.specs.declared.directory.Extent.{Extent}
 use Rattle.sj_disk.specs.Directory.{extent_of}
 use Rattle.sj_machine.specs.Agrees.{IsWide, Rows}
-use Rattle.sj_machine.specs.Choosing.{HasNumbers, are_present, are_unmoved, cells_among, comes_in, fresh_among, is_brought, is_moving_in, is_there_in, leaves_in, moves_in, reads_in}
+use Rattle.sj_machine.specs.Choosing.{HasNumbers, are_present, are_unmoved, comes_in, fresh_among, is_brought, is_moving_in, is_there_in, leaves_in, moves_in, reads_in}
+use Rattle.sj_machine.specs.Operands.{worked_among}
 use Rattle.sj_machine.specs.Copies.{Copies, first_node, is_copy_beside, is_elsewhere, mark_at, row_of}
 use Rattle.sj_machine.specs.Mark.{is_coming_by as is_coming_mark, is_leaving_by as is_leaving_mark, is_there, mark_of}
 use Rattle.sj_machine.specs.declared.mark.Mark.{Mark}
@@ -286,8 +287,8 @@ module _ {D : Type 0} (size faults mismatches : D → ℕ) (held : D → Option 
             ∙ ap (λ x. is_coming_by w (replica s c (AtNode (node_of m w))) && not x) (fresh-among c ∙ sym (fresh-is p m s sound t w claimed c))
 
         -- the cell that is brought next
-        pub cell-is : find (is_brought rows.cells p k w accesses) (cells_among p w accesses) ≡ next_cell p m s t w
-        cell-is = find-agree (is_brought rows.cells p k w accesses) (is_to_come p m s w) brought-is (cells_among p w accesses) ∙ ap (λ (xs : List Access). find (is_to_come p m s w) (cells_among p w xs)) are
+        pub cell-is : find (is_brought rows.cells p k w accesses) (worked_among p w accesses) ≡ next_cell p m s t w
+        cell-is = find-agree (is_brought rows.cells p k w accesses) (is_to_come p m s w) brought-is (worked_among p w accesses) ∙ ap (λ (xs : List Access). find (is_to_come p m s w) (worked_among p w xs)) are
 
         -- the run can begin
         pub run-is : (are_present rows.cells p k w accesses && are_unmoved rows.workers p w accesses) ≡ may_run p m s t w
@@ -310,7 +311,7 @@ module _ {D : Type 0} (size faults mismatches : D → ℕ) (held : D → Option 
             subst (λ (o : Option Cell). MatchOption o (MatchOption (next_cell p m s t w) (todo ≡ (if may_run p m s t w then Start else Wait)) (λ d. Brings p m s d (node_of m w) todo)) (λ d. Evicts p m s d (node_of m w) todo)) (sym (victim-read ∙ is))
             (subst (λ (j : Node). Evicts p m s c j todo) at evicts)
 
-        module _ (accesses : List Access) (those : accesses ≡ (task_of p t).accesses) (brought : Option Cell) (next : brought ≡ find (is_brought rows.cells p k w accesses) (cells_among p w accesses)) where
+        module _ (accesses : List Access) (those : accesses ≡ (task_of p t).accesses) (brought : Option Cell) (next : brought ≡ find (is_brought rows.cells p k w accesses) (worked_among p w accesses)) where
           cell-read : next_cell p m s t w ≡ brought
           cell-read = sym (next ∙ cell-is accesses those)
 

@@ -7,12 +7,13 @@ use Rattle.sj_base.specs.declared.ids.Worker.{Worker}
 use Rattle.sj_base.specs.declared.ids.Place.{Place}
 use Rattle.sj_base.specs.declared.mode.Access.{Access}
 use Rattle.sj_base.specs.declared.program.Program.{Program}
-use Rattle.sj_base.specs.Mode.{is_data, is_written, starts_as_zeros}
+use Rattle.sj_base.specs.Mode.{is_data, starts_as_zeros}
 use Rattle.sj_core.specs.Machine.{WorkerState}
 use Rattle.sj_core.specs.Operands.{worked_on}
 use Rattle.sj_core.specs.Program.{has_cell, same_cell}
 use Rattle.sj_core.specs.Step.{same_place}
 use Rattle.sj_machine.specs.Copies.{Copies, mark_at, row_of}
+use Rattle.sj_machine.specs.Operands.{worked_among, written_among}
 use Rattle.sj_machine.specs.Mark.{is_coming_by, is_leaving_by, is_there}
 
 -- ---- copies
@@ -49,11 +50,7 @@ is_moving_in ws c = list_any (λ row. moves_in row c) ws
 pub record HasNumbers (p : Program) (w : Worker) : Type 0 where
   pub copies : All (λ info. IfSome info.partials (λ first. first.0 + w.0 < 2 ^ 32)) p.cells
 
--- the cells on which the worker works for these accesses to data
-abbrev pub cells_among : Program → Worker → List Access → List Cell
-cells_among p w accesses = map (worked_on p w) (filter (λ a. is_data a.mode) accesses)
-
--- those of them whose old value isn't read
+-- the cells on which the worker works for these accesses to data, and whose old value isn't read
 abbrev pub fresh_among : Program → Worker → List Access → List Cell
 fresh_among p w accesses = map (worked_on p w) (filter (λ a. starts_as_zeros a.mode) (filter (λ a. is_data a.mode) accesses))
 
@@ -63,8 +60,8 @@ is_brought rows p n w accesses c = comes_in rows n w c && not (has_cell (fresh_a
 
 -- each of the cells whose old value is read is on the node
 abbrev pub are_present : List Copies → Program → Node → Worker → List Access → Bool
-are_present rows p n w accesses = list_all (λ c. has_cell (fresh_among p w accesses) c || is_there_in rows n c) (cells_among p w accesses)
+are_present rows p n w accesses = list_all (λ c. has_cell (fresh_among p w accesses) c || is_there_in rows n c) (worked_among p w accesses)
 
 -- no transfer moves a cell that is written
 abbrev pub are_unmoved : List WorkerState → Program → Worker → List Access → Bool
-are_unmoved ws p w accesses = list_all (λ c. not (is_moving_in ws c)) (map (worked_on p w) (filter (λ a. is_written a.mode) accesses))
+are_unmoved ws p w accesses = list_all (λ c. not (is_moving_in ws c)) (written_among p w accesses)

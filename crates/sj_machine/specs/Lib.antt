@@ -8,6 +8,7 @@ pub mod Counts
 pub mod Delivered
 pub mod Filling
 pub mod Mark
+pub mod Operands
 pub mod Plan
 pub mod Planning
 pub mod Preparing

@@ -4,14 +4,15 @@ ghost use Rattle.std.specs.Prelude.{◌≡◌, ◌<◌, ◌&&◌, All, find, len
 ghost use Rattle.std.specs.List.{list_any};
 ghost use Rattle.sj_base.specs.declared.ids.Place.TheVariants.{Node as AtNode};
 ghost use Rattle.sj_core.specs.Operands.{worked_on};
-ghost use Rattle.sj_core.specs.Program.{cell_info, has_cell};
-ghost use Rattle.sj_machine.specs.Choosing.{HasNumbers, are_present, are_unmoved, cells_among, fresh_among, is_brought, is_moving_in, leaves_in, moves_in, reads_in};
+ghost use Rattle.sj_core.specs.Program.{has_cell};
+ghost use Rattle.sj_machine.specs.Choosing.{HasNumbers, are_present, are_unmoved, fresh_among, is_brought, is_moving_in, leaves_in, moves_in, reads_in};
 ghost use Rattle.sj_machine.specs.Copies.{mark_at, row_of};
+ghost use Rattle.sj_machine.specs.Operands.{worked_among};
 
 use crate::copies::Copies;
 use crate::hold::Hold;
 use crate::mark::Mark;
-use crate::running::is_written;
+use crate::operands::{is_written, reads_value, worked_on};
 use sj_base::ids::{Cell, Node, Place, Worker};
 use sj_base::mode::{Access, Mode};
 use sj_base::program::Program;
@@ -76,27 +77,15 @@ fn is_moving(workers: &[Hold], cell: Cell) -> bool
     workers.iter().any(|hold| moves(hold, cell))
 }
 
-/// The first partial copy of a cell, where it has any. Constant time.
-fn partials_of(program: &Program, cell: Cell) -> Option<Cell>
-    ensures { result ≡ (cell_info program.now cell).partials }
-{
-    match program.cells.items().get(cell.0 as usize) {
-        Some(info) => info.partials,
-        None => None,
-    }
-}
-
 /// The cell on which a worker works for an operand. Constant time.
-fn worked_on(program: &Program, w: Worker, access: Access) -> Cell
+fn cell_for(program: &Program, w: Worker, access: Access) -> Cell
     requires { HasNumbers program.now w }
     ensures { result ≡ worked_on program.now w access }
 {
-    if access.mode != Mode::Redux {
-        return access.cell;
-    }
-    match partials_of(program, access.cell) {
-        Some(first) => Cell(first.0 + w.0 as u32),
-        None => access.cell,
+    if (access.cell.0 as usize) < program.cells.len() {
+        worked_on(program, w, access)
+    } else {
+        access.cell
     }
 }
 
@@ -108,8 +97,8 @@ fn is_fresh(program: &Program, w: Worker, accesses: &[Access], cell: Cell) -> bo
     accesses
         .iter()
         .filter(|a| a.mode != Mode::Scratch)
-        .filter(|a| a.mode == Mode::W || a.mode == Mode::Scratch)
-        .map(|a| worked_on(program, w, *a))
+        .filter(|a| !reads_value(a.mode))
+        .map(|a| cell_for(program, w, *a))
         .any(|c| c == cell)
 }
 
@@ -124,12 +113,12 @@ pub fn first_brought(
 ) -> Option<Cell>
     requires marks { All (λ row. n.0 < length row.marks) cells.now }
     requires copies { HasNumbers program.now w }
-    ensures { result ≡ find (is_brought cells.now program.now n w accesses.now) (cells_among program.now w accesses.now) }
+    ensures { result ≡ find (is_brought cells.now program.now n w accesses.now) (worked_among program.now w accesses.now) }
 {
     accesses
         .iter()
         .filter(|a| a.mode != Mode::Scratch)
-        .map(|a| worked_on(program, w, *a))
+        .map(|a| cell_for(program, w, *a))
         .find(|c| mark_at(cells, n, *c).is_coming_by(w) && !is_fresh(program, w, accesses, *c))
 }
 
@@ -148,7 +137,7 @@ fn are_present(
     accesses
         .iter()
         .filter(|a| a.mode != Mode::Scratch)
-        .map(|a| worked_on(program, w, *a))
+        .map(|a| cell_for(program, w, *a))
         .all(|c| is_fresh(program, w, accesses, c) || mark_at(cells, n, c).is_there())
 }
 
@@ -160,7 +149,7 @@ fn are_unmoved(workers: &[Hold], program: &Program, w: Worker, accesses: &[Acces
     accesses
         .iter()
         .filter(|a| is_written(a.mode))
-        .map(|a| worked_on(program, w, *a))
+        .map(|a| cell_for(program, w, *a))
         .all(|c| !is_moving(workers, c))
 }
 

@@ -46,7 +46,7 @@ fn no_marks(alloc: Global, count: usize) -> Result<Vec<Mark>, OutOfMemory>
 }
 
 /// No tile in any place. Linear in the places.
-fn no_tiles(alloc: Global, count: usize) -> Result<Vec<Option<Arc<Tile>>>, OutOfMemory>
+pub fn no_tiles(alloc: Global, count: usize) -> Result<Vec<Option<Arc<Tile>>>, OutOfMemory>
     ensures { IfOk result (λ v. v.items ≡ replicate count None) }
 {
     let mut tiles = Vec::new(alloc);

@@ -1,7 +1,8 @@
 use Rattle.std.proofs.Common.{ap, refl, subst, sym, ◌∙◌}
+use Rattle.sj_machine.proofs.BoardEnds.{stays}
 use Rattle.sj_machine.proofs.Boarding.{keeps-run}
 use Rattle.sj_machine.specs.Board.{BoardState}
-use Rattle.sj_machine.specs.Standing.{CanHappen, Standing, with_event}
+use Rattle.sj_machine.specs.Standing.{CanHappen, with_event}
 use Rattle.sj_base.specs.declared.trace.Event.TheVariants.{Drop}
 use Rattle.sj_core.specs.Needs.{node_of}
 use Rattle.sj_machine.specs.Sparing.{Spares}
@@ -11,7 +12,10 @@ use Rattle.sj_base.specs.declared.trace.Event.{Event}
 use Rattle.sj_machine.proofs.board.Board.drop_copy.Goals as goal
 
 pub invariant_of-self : goal.invariant_of-self
-invariant_of-self g c = keeps-run _ _ _ _ _ _ _ _ c.drop_copy.ensures refl c.self.invariant
+invariant_of-self g c = record {
+  board = keeps-run _ _ _ _ _ _ _ _ c.drop_copy.ensures refl c.self.invariant.board;
+  ends = stays g.D.Disk.held c.self.inside.run _ _ _ _ c.self.invariant.ends _ _ c.drop_copy.ensures refl;
+}
 
 pub returns-clause-spares : goal.returns-clause-spares
 returns-clause-spares g c =

@@ -8,7 +8,8 @@ use Rattle.sj_core.specs.Machine.{is_leaving, progress, replica}
 use Rattle.sj_core.specs.Program.{task_of}
 use Rattle.sj_core.specs.declared.progress.Progress.TheVariants.{Claimed}
 use Rattle.sj_core.proofs.Replicas.{leaving_by-leaves}
-use Rattle.sj_machine.specs.Choosing.{HasNumbers, cells_among, is_brought, leaves_in}
+use Rattle.sj_machine.specs.Choosing.{HasNumbers, is_brought, leaves_in}
+use Rattle.sj_machine.specs.Operands.{worked_among}
 use Rattle.sj_machine.specs.Copies.{Copies}
 use Rattle.sj_machine.specs.Standing.{Standing, state}
 use Rattle.sj_machine.specs.Todo.{Brings, Evicts, IsNext, may_run}
@@ -47,7 +48,7 @@ arrival_of-requires g c =
     let victims = c.victims-victims.ensures ∙ victims-read _ _ _ _ _ _ _ _ c.self.invariant c.args.t c.args.w claimed c.index.result.now _ c.index.ensures in
     let first = c.last_leaving.ensures ∙ ap (λ (rows : List Copies). find (leaves_in rows n c.args.w) (reverse c.victims-victims.result.now)) c.deref.ensures.value in
     let those = c.items-accesses.ensures ∙ ap (λ (l : Lowered). l.accesses) (c.task_at.ensures ∙ ap (λ (p : Program). task_of p c.args.t) c.deref-2.ensures) in
-    let next = c.first_brought.ensures ∙ ap (λ (rows : List Copies). find (is_brought rows c.deref-4.result.now n c.args.w c.items-accesses.result.now) (cells_among c.deref-4.result.now c.args.w c.items-accesses.result.now)) c.deref-3.ensures.value ∙ ap (λ (p : Program). find (is_brought c.self.inside.cells.items p n c.args.w c.items-accesses.result.now) (cells_among p c.args.w c.items-accesses.result.now)) c.deref-4.ensures in
+    let next = c.first_brought.ensures ∙ ap (λ (rows : List Copies). find (is_brought rows c.deref-4.result.now n c.args.w c.items-accesses.result.now) (worked_among c.deref-4.result.now c.args.w c.items-accesses.result.now)) c.deref-3.ensures.value ∙ ap (λ (p : Program). find (is_brought c.self.inside.cells.items p n c.args.w c.items-accesses.result.now) (worked_among p c.args.w c.items-accesses.result.now)) c.deref-4.ensures in
     subst (λ (b : Standing _). c.in-Some-first_brought.cell.0 < length b.program.cells) c.self.view_is
     (brought-inside _ _ _ _ _ _ _ _ c.self.invariant c.args.t c.args.w claimed n c.node_of-n.ensures _ victims _ first _ those _ next c.in-Some-first_brought.cell c.in-Some-first_brought.is)
 
@@ -58,7 +59,7 @@ returns-in-Some-first_brought g c =
     let victims = c.victims-victims.ensures ∙ victims-read _ _ _ _ _ _ _ _ c.self.invariant c.args.t c.args.w claimed c.index.result.now _ c.index.ensures in
     let first = c.last_leaving.ensures ∙ ap (λ (rows : List Copies). find (leaves_in rows n c.args.w) (reverse c.victims-victims.result.now)) c.deref.ensures.value in
     let those = c.items-accesses.ensures ∙ ap (λ (l : Lowered). l.accesses) (c.task_at.ensures ∙ ap (λ (p : Program). task_of p c.args.t) c.deref-2.ensures) in
-    let next = c.first_brought.ensures ∙ ap (λ (rows : List Copies). find (is_brought rows c.deref-4.result.now n c.args.w c.items-accesses.result.now) (cells_among c.deref-4.result.now c.args.w c.items-accesses.result.now)) c.deref-3.ensures.value ∙ ap (λ (p : Program). find (is_brought c.self.inside.cells.items p n c.args.w c.items-accesses.result.now) (cells_among p c.args.w c.items-accesses.result.now)) c.deref-4.ensures in
+    let next = c.first_brought.ensures ∙ ap (λ (rows : List Copies). find (is_brought rows c.deref-4.result.now n c.args.w c.items-accesses.result.now) (worked_among c.deref-4.result.now c.args.w c.items-accesses.result.now)) c.deref-3.ensures.value ∙ ap (λ (p : Program). find (is_brought c.self.inside.cells.items p n c.args.w c.items-accesses.result.now) (worked_among p c.args.w c.items-accesses.result.now)) c.deref-4.ensures in
     let brings = subst (λ (b : Standing _). Brings b.program b.machine (state b) c.in-Some-first_brought.cell n c.arrival_of.result) (sym c.self.view_is) c.arrival_of.ensures in
     subst (λ (b : Standing _). IsNext b.program b.machine (state b) c.args.t c.args.w c.arrival_of.result) c.self.view_is
     (next-brings _ _ _ _ _ _ _ _ c.self.invariant c.args.t c.args.w claimed n c.node_of-n.ensures _ victims _ first _ those _ next c.in_default.is c.in-Some-first_brought.cell c.in-Some-first_brought.is c.arrival_of.result brings)
@@ -70,7 +71,7 @@ returns-in-None g c =
     let victims = c.victims-victims.ensures ∙ victims-read _ _ _ _ _ _ _ _ c.self.invariant c.args.t c.args.w claimed c.index.result.now _ c.index.ensures in
     let first = c.last_leaving.ensures ∙ ap (λ (rows : List Copies). find (leaves_in rows n c.args.w) (reverse c.victims-victims.result.now)) c.deref.ensures.value in
     let those = c.items-accesses.ensures ∙ ap (λ (l : Lowered). l.accesses) (c.task_at.ensures ∙ ap (λ (p : Program). task_of p c.args.t) c.deref-2.ensures) in
-    let next = c.first_brought.ensures ∙ ap (λ (rows : List Copies). find (is_brought rows c.deref-4.result.now n c.args.w c.items-accesses.result.now) (cells_among c.deref-4.result.now c.args.w c.items-accesses.result.now)) c.deref-3.ensures.value ∙ ap (λ (p : Program). find (is_brought c.self.inside.cells.items p n c.args.w c.items-accesses.result.now) (cells_among p c.args.w c.items-accesses.result.now)) c.deref-4.ensures in
+    let next = c.first_brought.ensures ∙ ap (λ (rows : List Copies). find (is_brought rows c.deref-4.result.now n c.args.w c.items-accesses.result.now) (worked_among c.deref-4.result.now c.args.w c.items-accesses.result.now)) c.deref-3.ensures.value ∙ ap (λ (p : Program). find (is_brought c.self.inside.cells.items p n c.args.w c.items-accesses.result.now) (worked_among p c.args.w c.items-accesses.result.now)) c.deref-4.ensures in
     let starts = subst (λ (b : Standing _). c.start_of.result ≡ (if may_run b.program b.machine (state b) c.args.t c.args.w then Start else Wait)) (sym c.self.view_is) c.start_of.ensures in
     subst (λ (b : Standing _). IsNext b.program b.machine (state b) c.args.t c.args.w c.start_of.result) c.self.view_is
     (next-starts _ _ _ _ _ _ _ _ c.self.invariant c.args.t c.args.w claimed n c.node_of-n.ensures _ victims _ first _ those _ next c.in_default.is c.in-None.is c.start_of.result starts)
