@@ -278,6 +278,7 @@ impl<D: Disk> Board<D> {
         ensures shares { IfOk result (λ f. AreSharesFor D.held self.old.run t w f.slots) }
         ensures err { OnErr result (self.new ≡ self.old) }
     {
+        self.run.is_sound();
         let gift = self.run.gift(t, w)?;
         let frame = self.run.run(alloc, t, w, frame)?;
         self.gifts.keep(w, gift);
@@ -435,6 +436,7 @@ impl<D: Disk> Board<D> {
         ensures disks { result.2 ≡ self.run.disks }
         ensures fault { result.3 ≡ self.fault }
     {
+        self.run.is_sound();
         let fault = self.fault;
         let delivered = self.delivered;
         let (trace, disks) = self.run.close();
