@@ -9,14 +9,15 @@ use Rattle.std.proofs.lemmas.List.Sums.{AllPass-from_list_all, sum_by-cons}
 use Rattle.sj_base.specs.declared.program.Lowered.{Lowered}
 use Rattle.sj_base.specs.declared.trace.Event.{Event}
 use Rattle.sj_base.specs.declared.trace.Event.TheVariants.{Claim, End, Moved, Run}
-use Rattle.sj_core.proofs.Advancing.{Advances, Claims-advances, Ends-advances, Runs-advances, claimed-task_of, task_of-worker}
+use Rattle.sj_core.proofs.Advancing.{Advances, Claims-advances, Ends-advances, Runs-advances, claimed-is_mine, claimed-task_of}
 use Rattle.sj_core.proofs.Claimed.{claimed-inside, claimed-staffed}
+use Rattle.sj_core.proofs.Coherence.{Claims-keeps_coherence}
 use Rattle.sj_core.proofs.Finding.{running-inside}
 use Rattle.sj_core.proofs.Replicas.{same_worker-refl}
 use Rattle.sj_core.proofs.States.{state_of-more}
 use Rattle.sj_core.proofs.Sums.{sum-agree, tally}
 use Rattle.sj_core.proofs.Words.{Array, Machine, Program, State, Task, Worker, done_in, is_done, is_task_of, no_task, opening, progress, task_of, tasks_of, worker_of}
-use Rattle.sj_core.specs.Coherent.{is_begun}
+use Rattle.sj_core.specs.Coherent.{Coherent, is_begun}
 use Rattle.sj_core.specs.Laws.{IsSound}
 use Rattle.sj_core.specs.Legal.{IsComplete}
 use Rattle.sj_core.specs.Step.{after}
@@ -27,10 +28,12 @@ use Rattle.sj_core.specs.Machine.{transfer}
 use Rattle.sj_machine.specs.BoardSound.{KeepsEnds, undone}
 use Rattle.sj_disk.specs.Directory.{DiskState}
 use Rattle.sj_machine.specs.Delivered.{Deliveries, DeliversEach, IsKeptFor, gift_in, handed, is_deliver_task, is_delivery, undelivered}
+use Rattle.sj_machine.specs.Planning.{HoldsCommutersAlone}
 use Rattle.sj_machine.specs.Preparing.{IsReadyToDeliver, delivery_count}
 use Rattle.sj_machine.specs.Releasing.{IsGift}
 use Rattle.sj_machine.specs.Sound.{IsSoundRun}
 use Rattle.sj_machine.specs.Standing.{AllTell, CanHappen, HasMoved, Standing, starting, state, with_event}
+use Rattle.sj_machine.proofs.Commuting.{holds-alone}
 use Rattle.sj_machine.proofs.Delivering.{deliver-inside, gift-kept, kept-gift, run-has}
 use Rattle.sj_machine.proofs.Ends.{delivers-each, ends-begun, ends-claimed, ends-ended, ends-same, ends-some_left, ends-spare}
 
@@ -202,3 +205,19 @@ pub opens-run : {D : Type 0} (held : D → Option (List ℕ)) (p : Program) (m :
 opens-run {D} held p m disks run starts gifts delivered ready left all =
     subst (λ (r : Standing D). Keeps held r delivered.pairs gifts delivered.spare left) (sym starts)
     (opens p m (AllTell held (starting p m disks)) gifts ready.gifts_are delivered.pairs (ap (λ (x : Deliveries). x.pairs) ready.none) delivered.spare (ap (λ (x : Deliveries). x.spare) ready.none) left all)
+
+-- ---- a claim
+
+-- a worker that has claimed a task holds its commuting cells alone
+pub claims-alone : {D : Type 0} (size faults mismatches : D → ℕ) (held : D → Option (List ℕ)) (run : Standing D) → IsSoundRun size faults mismatches held run → (t : Task) (w : Worker) → CanHappen run (Claim t w) → (run' : Standing D) → run' ≡ with_event run (Claim t w) → (q : Program) → run.program ≡ q → HoldsCommutersAlone q (state run') t w
+claims-alone {D} size faults mismatches held run sound t w can run' is q program =
+    subst (λ (x : Program). HoldsCommutersAlone x (state run') t w) program
+    (subst (λ (r : Standing D). HoldsCommutersAlone run.program (state r) t w) (sym is)
+    (subst (λ (z : State). HoldsCommutersAlone run.program z t w) (sym (state_of-more run.program run.machine run.trace (Claim t w)))
+    (holds-alone run.program run.machine s' coherent t w (ap (is_task_of w) (Claims-advances run.program run.machine (state run) t w s' sound.coherent.state.rows can).is ∙ claimed-is_mine w))))
+  where
+    s' : State
+    s' = after run.program run.machine (state run) (Claim t w)
+
+    coherent : Coherent run.program run.machine s'
+    coherent = Claims-keeps_coherence run.program run.machine (state run) s' t w (record { proper = sound.run.proper; machine = sound.run.machine; coherent = sound.coherent }) can

@@ -109,9 +109,9 @@ module _ {D : Type 0} (size faults mismatches : D → ℕ) (held : D → Option 
   -- as the task begins to run it has that cell there
   pub run-has : CanHappen b (Run t w) → is_deliver_task p t ≡ true → HasAtHand b.machine (state b) t w (delivered_cell p t)
   run-has can hands = Brought can.claimed (
-    sym (ap (λ x. x || is_valid (replica (state b) (delivered_cell p t) (AtNode n))) (found-not_fresh p sound.run.proper t w (claimed-staffed p b.machine (state b) h t w can.claimed) its among refl))
-    ∙ list_all-has (λ c. has_cell (fresh_cells p t w) c || is_valid (replica (state b) c (AtNode n))) (cells_of p t w) (delivered_cell p t) can.present (read-among_cells p t w its among refl)
-  )
+      sym (ap (λ x. x || is_valid (replica (state b) (delivered_cell p t) (AtNode n))) (found-not_fresh p sound.run.proper t w (claimed-staffed p b.machine (state b) h t w can.claimed) its among refl))
+      ∙ list_all-has (λ c. has_cell (fresh_cells p t w) c || is_valid (replica (state b) c (AtNode n))) (cells_of p t w) (delivered_cell p t) can.present (read-among_cells p t w its among refl)
+      )
     where
       h : IsSound p b.machine (state b)
       h = record { proper = sound.run.proper; machine = sound.run.machine; coherent = sound.coherent }

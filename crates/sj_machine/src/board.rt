@@ -479,6 +479,7 @@ impl<D: Disk> Board<D> {
         ensures disks { result.2 ≡ self.run.disks }
         ensures fault { result.3 ≡ self.fault }
     {
+        self.run.is_sound();
         let fault = self.fault;
         let delivered = self.delivered;
         let (trace, disks) = self.run.close();

@@ -494,14 +494,7 @@ impl<D: Disk> RunState<D> {
     {
         let n = node_of(&self.machine, w);
         let accesses = task_at(&self.program, t).accesses.items();
-        put_back(
-            &self.program,
-            w,
-            &mut self.cells,
-            accesses,
-            n,
-            &mut written,
-        );
+        put_back(&self.program, w, &mut self.cells, accesses, n, &mut written);
         release_at(&mut self.nodes, n, &self.workers, w);
         let_go(&mut self.workers, w);
         self.tasks[t.0 as usize] = Progress::Done(w);

@@ -1,4 +1,4 @@
-use Rattle.std.proofs.Common.{ap, None, subst, sym, ◌≡◌}
+use Rattle.std.proofs.Common.{◌≡◌, None, ap, subst, sym}
 use Rattle.std.specs.Prelude.{IfErr, OnOk, Result}
 use Rattle.sj_base.specs.declared.trace.Event.TheVariants.{Claim}
 use Rattle.sj_machine.specs.Board.{BoardState, IsIdle, WasGiven}
@@ -6,7 +6,7 @@ use Rattle.sj_machine.specs.Plan.{ClaimPlan}
 use Rattle.sj_machine.specs.Planning.{IsWhy}
 use Rattle.sj_machine.specs.Standing.{CanHappen, Standing, state}
 use Rattle.sj_machine.specs.declared.plan.Why.{Why}
-use Rattle.sj_machine.proofs.BoardEnds.{stays-claimed}
+use Rattle.sj_machine.proofs.BoardEnds.{claims-alone, stays-claimed}
 use Rattle.sj_machine.proofs.Taking.{keeps-claimed_left, may-claim}
 use Rattle.sj_machine.proofs.SparingBoards.{told-spares}
 use Rattle.sj_machine.proofs.board.Board.claim.Goals as goal
@@ -43,3 +43,8 @@ pub returns-clause-spares : goal.returns-clause-spares
 returns-clause-spares g c =
     let can = subst (λ (found : Result ClaimPlan Why). OnOk found (CanHappen c.self.inside.run (Claim c.args.t c.args.w))) c.in-Ok-found.is c.in-Ok.ensures.can in
     told-spares _ _ _ _ c.self.inside.run c.is_sound.ensures (Claim c.args.t c.args.w) can _ c.in-Ok-claim.ensures.ok _ (ap (λ (b : BoardState _). b.run) c.self.view_is)
+
+pub returns-clause-one_worker : goal.returns-clause-one_worker
+returns-clause-one_worker g c =
+    let can = subst (λ (found : Result ClaimPlan Why). OnOk found (CanHappen c.self.inside.run (Claim c.args.t c.args.w))) c.in-Ok-found.is c.in-Ok.ensures.can in
+    claims-alone _ _ _ _ c.self.inside.run c.is_sound.ensures c.args.t c.args.w can _ c.in-Ok-claim.ensures.ok _ (ap (λ (b : BoardState _). b.run.program) c.self.view_is)
