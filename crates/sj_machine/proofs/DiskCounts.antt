@@ -127,7 +127,7 @@ call-cause {D} {A} size faults mismatches held b new number (Err (DiskFault d)) 
 call-cause {D} {A} size faults mismatches held b new number (Err (Damaged d want found)) back inside names changes untold =
     let named = names.damage d want found refl in (
       subst (λ (k : DiskNo). HasRisen mismatches b.opened new.disks k.0) (sym named.0)
-      (risen-at mismatches (IsGivenBack size faults mismatches held) number.0 (IsCall faults mismatches number (Err (Damaged d want found))) b.opened b.disks.disks new.disks (λ x y (is : IsGivenBack size faults mismatches held x y). is.mismatches_never_fall) (λ x y (is : IsCall {A = A} faults mismatches number (Err (Damaged d want found)) x y). (is.mismatches_rose refl, is.mismatches_grow)) back inside changes),
+          (risen-at mismatches (IsGivenBack size faults mismatches held) number.0 (IsCall faults mismatches number (Err (Damaged d want found))) b.opened b.disks.disks new.disks (λ x y (is : IsGivenBack size faults mismatches held x y). is.mismatches_never_fall) (λ x y (is : IsCall {A = A} faults mismatches number (Err (Damaged d want found)) x y). (is.mismatches_rose refl, is.mismatches_grow)) back inside changes),
       (λ same. named.1 (sym same)),
       untold refl,
     )

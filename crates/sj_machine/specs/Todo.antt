@@ -30,8 +30,8 @@ next_victim m s w = find (λ c. not (is_gone m s w c)) (reverse (victims_of s w)
 abbrev pub Evicts : Program → Machine → State → Cell → Node → Todo → Type 0
 Evicts p m s c n todo =
     MatchBool (is_valid_elsewhere m s c (AtNode n))
-      (todo ≡ (if is_read m s c (AtNode n) then Wait else Discard c))
-      (IsSomeAnd (disk_of p m c) (λ d. todo ≡ Transfer c (AtNode n) (OnDisk d) (writes s c)))
+    (todo ≡ (if is_read m s c (AtNode n) then Wait else Discard c))
+    (IsSomeAnd (disk_of p m c) (λ d. todo ≡ Transfer c (AtNode n) (OnDisk d) (writes s c)))
 
 -- ---- cells
 
@@ -59,10 +59,10 @@ may_run p m s t w = is_present p s t w (node_of m w) && list_all (λ c. not (is_
 abbrev pub IsNext : Program → Machine → State → Task → Worker → Todo → Type 0
 IsNext p m s t w todo =
     MatchOption (next_victim m s w)
-      (MatchOption (next_cell p m s t w)
-        (todo ≡ (if may_run p m s t w then Start else Wait))
-        (λ c. Brings p m s c (node_of m w) todo))
-      (λ c. Evicts p m s c (node_of m w) todo)
+    (MatchOption (next_cell p m s t w)
+    (todo ≡ (if may_run p m s t w then Start else Wait))
+    (λ c. Brings p m s c (node_of m w) todo))
+    (λ c. Evicts p m s c (node_of m w) todo)
 
 -- the worker's next step: nothing where it has no task
 abbrev pub IsTodoOf : {D : Type 0} → BoardState D → Worker → Todo → Type 0

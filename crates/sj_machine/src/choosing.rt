@@ -123,13 +123,7 @@ pub fn first_brought(
 }
 
 /// Whether each cell whose old value is read is on a node. Quadratic in the operands, which are a task's few.
-fn are_present(
-    cells: &[Copies],
-    program: &Program,
-    n: Node,
-    w: Worker,
-    accesses: &[Access],
-) -> bool
+fn are_present(cells: &[Copies], program: &Program, n: Node, w: Worker, accesses: &[Access]) -> bool
     requires marks { All (λ row. n.0 < length row.marks) cells.now }
     requires copies { HasNumbers program.now w }
     ensures { result ≡ are_present cells.now program.now n w accesses.now }

@@ -12,7 +12,7 @@ impl<D: Disk> RunState<D> {
     ghost use Rattle.std.specs.Prelude.{◌≡◌, ◌<◌, IsTrue, Some, if◌then◌else◌, length};
     ghost use Rattle.sj_base.specs.declared.ids.Place.TheVariants.{Node as AtNode};
     ghost use Rattle.sj_core.specs.Machine.{is_leaving, progress, replica};
-        ghost use Rattle.sj_core.specs.Step.{source_of};
+    ghost use Rattle.sj_core.specs.Step.{source_of};
     ghost use Rattle.sj_core.specs.declared.progress.Progress.TheVariants.{Claimed};
     ghost use Rattle.sj_machine.specs.Standing.{state};
     ghost use Rattle.sj_machine.specs.Todo.{Brings, Evicts, IsNext, may_run};

@@ -23,4 +23,3 @@ returns-clause-spares g c =
     let at = ap (λ (n : Node). Drop c.args.cell n) c.node_of-n.ensures in
     subst (λ (b : BoardState _). Spares b.run (Drop c.args.cell (node_of b.run.machine c.args.w)) c.drop_copy.new.self) c.self.view_is
     (event-spares _ _ _ _ c.self.inside.run c.is_sound.ensures (Drop c.args.cell (node_of c.self.inside.run.machine c.args.w)) can c.drop_copy.new.self (c.drop_copy.ensures ∙ ap (λ (e : Event). with_event c.self.inside.run e) at))
-
