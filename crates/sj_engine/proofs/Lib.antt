@@ -1,4 +1,4 @@
-pub mod Progressing
-pub mod OneTask
-pub mod Delivering
-pub mod Starting
+mod Answering
+mod KernelFacts
+mod OperandLists
+mod ResultLists

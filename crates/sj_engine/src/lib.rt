@@ -1,4 +1,6 @@
-//! The run of a program: one worker, on one thread, takes task after task from the board and runs its kernel.
+//! The run of a program by workers: each a thread that takes turns at a desk, over one board.
 #![tactic(auto)]
 
-pub mod run;
+mod kernel;
+mod operands;
+mod results;
