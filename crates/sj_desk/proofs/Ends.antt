@@ -9,7 +9,7 @@ use Rattle.atomic_table.specs.Table.{Me, Allows, Splits, Joins, Final, Seen, res
 use Rattle.sj_desk.specs.declared.view.View.{View}
 use Rattle.sj_desk.specs.declared.view.Opening.{Opening}
 use Rattle.sj_desk.specs.Seats.{DeskFacts, SeatFacts, new_seat, HasRowLeft, HasEachNumber}
-use Rattle.sj_desk.specs.Views.{IsSeated, seat_facts, left_of, sitting, ended, opening_rows, first_view, at_stage, dealing, dealt, joined, seated, desk_facts, opening_of, IsRowOf, IsIdle, IsDealer, Gathered}
+use Rattle.sj_desk.specs.Views.{no_tally, IsSeated, seat_facts, left_of, sitting, ended, opening_rows, first_view, at_stage, dealing, dealt, joined, seated, desk_facts, opening_of, IsRowOf, IsIdle, IsDealer, Gathered}
 use Rattle.sj_desk.specs.Turns.{IsRuled, Fills, Opens}
 use Rattle.sj_desk.proofs.Lists.{opening_next}
 use Rattle.std.proofs.lemmas.List.FromFn.{map-range_with_len_more}
@@ -60,17 +60,17 @@ module _ {T : Type 0} where
   none_without d seats whole positive none = let w = whole 0 positive in let less : w.1.0 < length seats = w.1.1 in omega arith
 
   -- after a seat is dealt: the dealer, and the seat
-  pub dealer_next : (d : DeskFacts T) (a : ℕ) (m n : Me (Option T) (View T)) → a < d.seats → m ≡ (sitting (opening_of d) (opening_rows d.opening a (d.seats - a)) 0 2, []) → n ≡ (dealing m.0, m.1)
-      → n ≡ (sitting (opening_of d) (opening_rows d.opening (a + 1) (d.seats - (a + 1))) 0 2, [])
+  pub dealer_next : (d : DeskFacts T) (a : ℕ) (m n : Me (Option T) (View T)) → a < d.seats → m ≡ (sitting (opening_of d) (opening_rows d.opening a (d.seats - a)) no_tally 2, []) → n ≡ (dealing m.0, m.1)
+      → n ≡ (sitting (opening_of d) (opening_rows d.opening (a + 1) (d.seats - (a + 1))) no_tally 2, [])
   dealer_next d a m n below e is =
-      is ∙ ap (λ (x : Me (Option T) (View T)). (dealing x.0, x.1)) (e ∙ ap (λ (l : List (ℕ × T)). (sitting (opening_of d) l 0 2, [])) (opening_next d.opening a d.seats below))
+      is ∙ ap (λ (x : Me (Option T) (View T)). (dealing x.0, x.1)) (e ∙ ap (λ (l : List (ℕ × T)). (sitting (opening_of d) l no_tally 2, [])) (opening_next d.opening a d.seats below))
 
-  pub dealt_me : (d : DeskFacts T) (a : ℕ) (m n : Me (Option T) (View T)) → a < d.seats → m ≡ (sitting (opening_of d) (opening_rows d.opening a (d.seats - a)) 0 2, []) → n ≡ (dealt m.0, [])
-      → n ≡ seated (opening_of d) a d.opening None 0
+  pub dealt_me : (d : DeskFacts T) (a : ℕ) (m n : Me (Option T) (View T)) → a < d.seats → m ≡ (sitting (opening_of d) (opening_rows d.opening a (d.seats - a)) no_tally 2, []) → n ≡ (dealt m.0, [])
+      → n ≡ seated (opening_of d) a d.opening None no_tally
   dealt_me d a m n below e is =
-      is ∙ ap (λ (x : Me (Option T) (View T)). (dealt x.0, [])) (e ∙ ap (λ (l : List (ℕ × T)). (sitting (opening_of d) l 0 2, [])) (opening_next d.opening a d.seats below))
+      is ∙ ap (λ (x : Me (Option T) (View T)). (dealt x.0, [])) (e ∙ ap (λ (l : List (ℕ × T)). (sitting (opening_of d) l no_tally 2, [])) (opening_next d.opening a d.seats below))
 
-  pub dealt_facts : (d : DeskFacts T) (ts : TableId) (a : ℕ) (n : Me (Option T) (View T)) → ts ≡ d.table → n ≡ seated (opening_of d) a d.opening None 0 → seat_facts ts a n.0 ≡ new_seat d a
+  pub dealt_facts : (d : DeskFacts T) (ts : TableId) (a : ℕ) (n : Me (Option T) (View T)) → ts ≡ d.table → n ≡ seated (opening_of d) a d.opening None no_tally → seat_facts ts a n.0 ≡ new_seat d a
   dealt_facts d ts a n table e = λ i. seat_facts (table i) a (e i).0
 
   pub dealt_list : (d : DeskFacts T) (a : ℕ) (xs ys : List (SeatFacts T)) (s : SeatFacts T) → xs ≡ map (new_seat d) (range_with_len 0 a) → ys ≡ xs ++ s ∷ [] → s ≡ new_seat d a
@@ -86,15 +86,15 @@ module _ {T : Type 0} where
     pub rows : me.0.rows ≡ (number, left) ∷ []
     pub row : IsRowOf s (number, left)
 
-  pub taken : (ts td : TableId) (number : ℕ) (me : Me (Option T) (View T)) (k : Opening T) (d : DeskFacts T) (s : SeatFacts T) → IsSeated number me → seat_facts ts number me.0 ≡ s → desk_facts td k ≡ d
+  pub taken : (ts td : TableId) (number : ℕ) (heard : Option ℕ) (me : Me (Option T) (View T)) (k : Opening T) (d : DeskFacts T) (s : SeatFacts T) → IsSeated number heard me → seat_facts ts number me.0 ≡ s → desk_facts td k ≡ d
       → s.desk ≡ Some d → s.found ≡ None → IsTaken ts number me d s
-  taken ts td number me k d s sat seen desk of idle =
-      let at = sits ts td number me k None s d sat seen desk of idle in
+  taken ts td number heard me k d s sat seen desk of idle =
+      let at = sits ts td number heard me k None s d sat seen desk of idle in
       let rows : me.0.rows ≡ (number, at.left) ∷ [] = ap (λ (x : Me (Option T) (View T)). x.0.rows) at.me_is in
       let key : k ≡ opening_of d = ap (λ (x : DeskFacts T). opening_of x) desk in
       record {
         table = at.table ∙ ap (λ (x : DeskFacts T). x.table) desk;
-        idle = (at.refusals, at.me_is ∙ (λ i. (sitting (key i) (sym rows i) at.refusals 2, [])));
+        idle = (at.tally, at.me_is ∙ (λ i. (sitting (key i) (sym rows i) at.tally 2, [])));
         left = at.left;
         rows = rows;
         row = (ap (λ (x : SeatFacts T). x.number) (sym seen), ap (λ (x : SeatFacts T). x.left) (sym seen) ∙ ap left_of rows);
@@ -136,16 +136,16 @@ module _ {T R : Type 0} (row_of : T → ℕ → R) (fits : Opening T → T → T
   pub opened_in : (m n : Me (Option T) (View T)) → m ≡ (at_stage 1 (first_view k), (0, Some k.value) ∷ []) → Opens m n → IsDealer d 0 n
   opened_in m n e f =
       let whole : k.seats ≡ k.seats - 0 = omega arith in
-      f ∙ ap (λ (x : Me (Option T) (View T)). (at_stage 2 x.0, rest x.1)) e ∙ ap (λ (n : ℕ). (sitting k (opening_rows k.value 0 n) 0 2, [])) whole
-      ∙ ap (λ (x : DeskFacts T). (sitting (opening_of x) (opening_rows x.opening 0 (x.seats - 0)) 0 2, [])) desk
+      f ∙ ap (λ (x : Me (Option T) (View T)). (at_stage 2 x.0, rest x.1)) e ∙ ap (λ (n : ℕ). (sitting k (opening_rows k.value 0 n) no_tally 2, [])) whole
+      ∙ ap (λ (x : DeskFacts T). (sitting (opening_of x) (opening_rows x.opening 0 (x.seats - 0)) no_tally 2, [])) desk
 
-  pub deals_at : (id a : ℕ) (me : Me (Option T) (View T)) → a < d.seats → me ≡ (sitting (opening_of d) (opening_rows d.opening a (d.seats - a)) 0 2, [])
+  pub deals_at : (id a : ℕ) (me : Me (Option T) (View T)) → a < d.seats → me ≡ (sitting (opening_of d) (opening_rows d.opening a (d.seats - a)) no_tally 2, [])
       → Splits (IsRuled row_of fits k) id me.0 (dealing me.0) (dealt me.0)
   deals_at id a me below e =
-      let to_key : sitting (opening_of d) ((a, d.opening) ∷ opening_rows d.opening (a + 1) (d.seats - (a + 1))) 0 2 ≡ sitting k ((a, k.value) ∷ opening_rows k.value (a + 1) (d.seats - (a + 1))) 0 2 =
-      ap (λ (x : Opening T). sitting x ((a, x.value) ∷ opening_rows x.value (a + 1) (d.seats - (a + 1))) 0 2) same_key in
-      let v : me.0 ≡ sitting k ((a, k.value) ∷ opening_rows k.value (a + 1) (d.seats - (a + 1))) 0 2 =
-      ap (λ (x : Me (Option T) (View T)). x.0) e ∙ ap (λ (l : List (ℕ × T)). sitting (opening_of d) l 0 2) (opening_next d.opening a d.seats below) ∙ to_key in
+      let to_key : sitting (opening_of d) ((a, d.opening) ∷ opening_rows d.opening (a + 1) (d.seats - (a + 1))) no_tally 2 ≡ sitting k ((a, k.value) ∷ opening_rows k.value (a + 1) (d.seats - (a + 1))) no_tally 2 =
+      ap (λ (x : Opening T). sitting x ((a, x.value) ∷ opening_rows x.value (a + 1) (d.seats - (a + 1))) no_tally 2) same_key in
+      let v : me.0 ≡ sitting k ((a, k.value) ∷ opening_rows k.value (a + 1) (d.seats - (a + 1))) no_tally 2 =
+      ap (λ (x : Me (Option T) (View T)). x.0) e ∙ ap (λ (l : List (ℕ × T)). sitting (opening_of d) l no_tally 2) (opening_next d.opening a d.seats below) ∙ to_key in
       subst (λ (y : View T). Splits (IsRuled row_of fits k) id y (dealing y) (dealt y)) (sym v) (deals row_of fits k id a (d.seats - (a + 1)))
 
   pub joins_at : (id other : ℕ) (m n : Me (Option T) (View T)) (rows more : List (ℕ × T)) → IsIdle d rows m → IsIdle d more n

@@ -1,7 +1,7 @@
 -- The seats of a desk, from what contracts see of them to what its table has, and the steps as the desk's calls ask for them.
-use Rattle.std.proofs.Common.{◌≡◌, ℕ, ◌+◌, ◌<◌, ◌≢◌, ◌==◌, List, [], ◌∷◌, sym, refl, ap, ◌∙◌, subst, Option, Some, None, IfSome}
-use Rattle.std.specs.Option.{IsSomeAnd}
-use Rattle.std.proofs.lemmas.Option.{same_Some}
+use Rattle.std.proofs.Common.{◌≡◌, ℕ, ◌+◌, ◌%◌, ◌^◌, ◌<◌, ◌≢◌, ◌==◌, List, [], ◌∷◌, sym, refl, ap, ◌∙◌, subst, Option, Some, None, is_some, true, false, true≢false, eqb, eq-eqb, IfSome}
+use Rattle.std.specs.Option.{IsSomeAnd, option_eq}
+use Rattle.std.proofs.lemmas.Option.{none-some, same_Some}
 use mathlib.Core.Logic.{dite}
 use native.Mathlib.Decide.{ℕ_discrete}
 use prog.Atomic.{either}
@@ -9,10 +9,11 @@ use Rattle.atomic_table.specs.Seated.{TableId}
 use Rattle.atomic_table.specs.Table.{Me, Allows, rest}
 use Rattle.sj_desk.specs.declared.view.View.{View}
 use Rattle.sj_desk.specs.declared.view.Opening.{Opening}
+use Rattle.sj_desk.specs.declared.view.Tally.{Tally}
 use Rattle.sj_desk.specs.Seats.{DeskFacts, SeatFacts, KeepsOtherRows}
-use Rattle.sj_desk.specs.Views.{view, seated, refused_view, found_view, left_by, IsSeated, desk_facts, desk_of, opening_of, seat_facts}
-use Rattle.sj_desk.specs.Turns.{IsRuled, Finds, Tries, Marks, Leaves}
-use Rattle.sj_desk.proofs.Steps.{tries, marks, leaves}
+use Rattle.sj_desk.specs.Views.{view, tally, one_more, hearing_tally, seated, refused_view, hearing_view, found_view, left_by, IsSeated, desk_facts, desk_of, opening_of, seat_facts}
+use Rattle.sj_desk.specs.Turns.{IsRuled, Finds, Tries, Marks, Leaves, Hears, Rings, Rests}
+use Rattle.sj_desk.proofs.Steps.{tries, marks, leaves, hears, rings, rests}
 
 pub some_and : {A : Type 0} (P : A → Type 0) (o : Option A) → IsSomeAnd o P → (x : A) × (o ≡ Some x) × P x
 some_and P None h = absurd h
@@ -21,17 +22,27 @@ some_and P (Some x) h = (x, refl, h)
 pub some_and_at : {A : Type 0} (P : A → Type 0) (o : Option A) (x : A) → o ≡ Some x → P x → IsSomeAnd o P
 some_and_at P o x e h = subst (λ y. IsSomeAnd y P) (sym e) h
 
+some_of : (o : Option ℕ) → is_some o ≡ true → (n : ℕ) × (o ≡ Some n)
+some_of None e = absurd (true≢false (sym e))
+some_of (Some n) e = (n, refl)
+
+-- a count that isn't the one heard
+pub unheard : (o : Option ℕ) (n : ℕ) → false ≡ option_eq eqb o (Some n) → o ≢ Some n
+unheard None n e is = none-some n is
+unheard (Some m) n e is = true≢false (sym (eq-eqb m n (same_Some m n is)) ∙ sym e)
+
 module _ {T : Type 0} where
   -- a seat of the desk with this key, which has found this
-  pub record SitsAt (ts td : TableId) (number : ℕ) (me : Me (Option T) (View T)) (k : Opening T) (found : Option T) : Type 0 where
+  pub record SitsAt (ts td : TableId) (number : ℕ) (heard : Option ℕ) (me : Me (Option T) (View T)) (k : Opening T) (found : Option T) : Type 0 where
     pub table : ts ≡ td
     pub left : T
-    pub refusals : ℕ
-    pub me_is : me ≡ seated k number left found refusals
+    pub tally : Tally
+    pub hears : tally.heard ≡ heard
+    pub me_is : me ≡ seated k number left found tally
 
-  pub sits : (ts td : TableId) (number : ℕ) (me : Me (Option T) (View T)) (k : Opening T) (found : Option T) (s : SeatFacts T) (d : DeskFacts T)
-      → IsSeated number me → seat_facts ts number me.0 ≡ s → desk_facts td k ≡ d → s.desk ≡ Some d → s.found ≡ found → SitsAt ts td number me k found
-  sits ts td number me k found s d sat seen desk of is =
+  pub sits : (ts td : TableId) (number : ℕ) (heard : Option ℕ) (me : Me (Option T) (View T)) (k : Opening T) (found : Option T) (s : SeatFacts T) (d : DeskFacts T)
+      → IsSeated number heard me → seat_facts ts number me.0 ≡ s → desk_facts td k ≡ d → s.desk ≡ Some d → s.found ≡ found → SitsAt ts td number heard me k found
+  sits ts td number heard me k found s d sat seen desk of is =
       let e : desk_facts ts sat.opening ≡ desk_facts td k =
       same_Some (desk_facts ts sat.opening) (desk_facts td k) (ap (λ (m : Me (Option T) (View T)). desk_of ts m.0.opening) (sym sat.me_is) ∙ ap (λ (x : SeatFacts T). x.desk) seen ∙ of ∙ ap Some (sym desk)) in
       let key : sat.opening ≡ k = ap (λ (x : DeskFacts T). opening_of x) e in
@@ -39,8 +50,9 @@ module _ {T : Type 0} where
       record {
         table = ap (λ (x : DeskFacts T). x.table) e;
         left = sat.left;
-        refusals = sat.refusals;
-        me_is = sat.me_is ∙ (λ p. seated (key p) number sat.left (f p) sat.refusals);
+        tally = sat.tally;
+        hears = sat.hears;
+        me_is = sat.me_is ∙ (λ p. seated (key p) number sat.left (f p) sat.tally);
       }
 
   -- what the seat found in its turn, and the rows that are kept
@@ -58,32 +70,59 @@ module _ {T : Type 0} where
   unfolding first_out
   same_out l x y d e = ap first_out (sym d ∙ e)
 
-  pub busy_seated : (number : ℕ) (left : T) (c : ℕ) (k : Opening T) (m n : Me (Option T) (View T)) → m ≡ seated k number left None c → n ≡ (refused_view m.0, m.1) → IsSeated number n
-  busy_seated number left c k m n e busy = record {
+  pub busy_seated : (number : ℕ) (heard : Option ℕ) (left : T) (c : Tally) (k : Opening T) (m n : Me (Option T) (View T)) → c.heard ≡ heard → m ≡ seated k number left None c → n ≡ (refused_view m.0, m.1)
+      → IsSeated number heard n
+  busy_seated number heard left c k m n hears e busy = record {
     opening = k;
     left = left;
     found = None;
-    refusals = c + 1;
+    tally = one_more c;
+    hears = hears;
     me_is = busy ∙ ap (λ (x : Me (Option T) (View T)). (refused_view x.0, x.1)) e;
   }
 
-  pub marked_seated : (number : ℕ) (left : T) (c : ℕ) (k : Opening T) (m n : Me (Option T) (View T)) (r : ℕ) → m ≡ seated k number left None c → Marks m r n → IsSeated number n
-  marked_seated number left c k m n r e marked = dite (ℕ_discrete r 0)
-      (λ free. record { opening = k; left = left; found = None; refusals = c; me_is = marked.free free ∙ e })
-      (λ busy. busy_seated number left c k m n e (marked.busy busy))
+  pub marked_seated : (number : ℕ) (heard : Option ℕ) (left : T) (c : Tally) (k : Opening T) (m n : Me (Option T) (View T)) (r : ℕ) → c.heard ≡ heard → m ≡ seated k number left None c → Marks m r n
+      → IsSeated number heard n
+  marked_seated number heard left c k m n r hears e marked = dite (ℕ_discrete r 0)
+      (λ free. record { opening = k; left = left; found = None; tally = c; hears = hears; me_is = marked.free free ∙ e })
+      (λ busy. busy_seated number heard left c k m n hears e (marked.busy busy))
+
+  pub hearing_seated : (number : ℕ) (left : T) (found : Option T) (c : Tally) (k : Opening T) (m n : Me (Option T) (View T)) (r : ℕ) → m ≡ seated k number left found c → Hears m r n → IsSeated number (Some r) n
+  hearing_seated number left found c k m n r e heard = record {
+    opening = k;
+    left = left;
+    found = found;
+    tally = hearing_tally c (Some r);
+    hears = refl;
+    me_is = heard ∙ ap (λ (x : Me (Option T) (View T)). (hearing_view x.0 (Some r), x.1)) e;
+  }
+
+  pub ringing_seated : (number : ℕ) (heard : Option ℕ) (m n : Me (Option T) (View T)) → IsSeated number heard m → Rings m n → IsSeated number heard n
+  ringing_seated number heard m n sat e = subst (IsSeated number heard) (sym e) sat
+
+  pub rested_seated : (number : ℕ) (left : T) (c : Tally) (k : Opening T) (m n : Me (Option T) (View T)) → m ≡ seated k number left None c → n ≡ (hearing_view m.0 None, m.1) → IsSeated number None n
+  rested_seated number left c k m n e rung = record {
+    opening = k;
+    left = left;
+    found = None;
+    tally = hearing_tally c None;
+    hears = refl;
+    me_is = rung ∙ ap (λ (x : Me (Option T) (View T)). (hearing_view x.0 None, x.1)) e;
+  }
 
   -- the seat, once its value is in the slot, and once it has left
-  pub put_in : (number : ℕ) (left found value : T) (c : ℕ) (k : Opening T) (m n : Me (Option T) (View T)) → m ≡ seated k number left (Some found) c → n ≡ (m.0, (0, Some value) ∷ rest m.1)
+  pub put_in : (number : ℕ) (left found value : T) (c : Tally) (k : Opening T) (m n : Me (Option T) (View T)) → m ≡ seated k number left (Some found) c → n ≡ (m.0, (0, Some value) ∷ rest m.1)
       → n ≡ (view (Some k) ((number, left) ∷ []) (Some found) c 2, (0, Some value) ∷ [])
   put_in number left found value c k m n e is = is ∙ ap (λ (x : Me (Option T) (View T)). (x.0, (0, Some value) ∷ rest x.1)) e
 
-  pub left_seated : (number : ℕ) (left found value : T) (c : ℕ) (k : Opening T) (m n o : Me (Option T) (View T)) → m ≡ seated k number left (Some found) c → n ≡ (m.0, (0, Some value) ∷ rest m.1)
-      → Leaves n o → IsSeated number o
-  left_seated number left found value c k m n o e is gone = record {
+  pub left_seated : (number : ℕ) (heard : Option ℕ) (left found value : T) (c : Tally) (k : Opening T) (m n o : Me (Option T) (View T)) → c.heard ≡ heard → m ≡ seated k number left (Some found) c → n ≡ (m.0, (0, Some value) ∷ rest m.1)
+      → Leaves n o → IsSeated number heard o
+  left_seated number heard left found value c k m n o hears e is gone = record {
     opening = k;
     left = value;
     found = None;
-    refusals = c;
+    tally = c;
+    hears = hears;
     me_is = gone ∙ ap (λ (x : Me (Option T) (View T)). (left_by x.0 x.1, rest x.1)) (put_in number left found value c k m n e is);
   }
 
@@ -98,21 +137,43 @@ module _ {T : Type 0} where
       }
 
 module _ {T R : Type 0} (row_of : T → ℕ → R) (fits : Opening T → T → Type 0) (k : Opening T) where
-  pub tries_at : (slots id number mark : ℕ) (left : T) (c : ℕ) (me : Me (Option T) (View T)) → slots ≡ 1 → mark ≢ 0 → me ≡ seated k number left None c
+  pub tries_at : (slots id number mark : ℕ) (left : T) (c : Tally) (me : Me (Option T) (View T)) → slots ≡ 1 → mark ≢ 0 → me ≡ seated k number left None c
       → Allows (IsRuled row_of fits k) slots id me 0 (λ n. either (n == 0) mark n) (λ r n. Tries row_of fits me r n)
   tries_at slots id number mark left c me one marked e =
       subst (λ x. Allows (IsRuled row_of fits k) x id me 0 (λ n. either (n == 0) mark n) (λ r n. Tries row_of fits me r n)) (sym one)
       (subst (λ (y : Me (Option T) (View T)). Allows (IsRuled row_of fits k) 1 id y 0 (λ n. either (n == 0) mark n) (λ r n. Tries row_of fits y r n)) (sym e)
       (tries row_of fits k id number left c mark marked))
 
-  pub marks_at : (slots id number : ℕ) (left : T) (c : ℕ) (me : Me (Option T) (View T)) → slots ≡ 1 → me ≡ seated k number left None c
+  pub marks_at : (slots id number : ℕ) (left : T) (c : Tally) (me : Me (Option T) (View T)) → slots ≡ 1 → me ≡ seated k number left None c
       → Allows (IsRuled row_of fits k) slots id me 0 (λ n. either (n == 1) 2 n) (λ r n. Marks me r n)
   marks_at slots id number left c me one e =
       subst (λ x. Allows (IsRuled row_of fits k) x id me 0 (λ n. either (n == 1) 2 n) (λ r n. Marks me r n)) (sym one)
       (subst (λ (y : Me (Option T) (View T)). Allows (IsRuled row_of fits k) 1 id y 0 (λ n. either (n == 1) 2 n) (λ r n. Marks y r n)) (sym e)
       (marks row_of fits k id number left c))
 
-  pub leaves_at : (slots id number : ℕ) (left found value : T) (c : ℕ) (me : Me (Option T) (View T)) → slots ≡ 1 → fits k value
+  pub hears_at : (slots id number : ℕ) (left : T) (found : Option T) (c : Tally) (me : Me (Option T) (View T)) → slots ≡ 1 → me ≡ seated k number left found c
+      → Allows (IsRuled row_of fits k) slots id me 1 (λ n. n) (λ r n. Hears me r n)
+  hears_at slots id number left found c me one e =
+      subst (λ x. Allows (IsRuled row_of fits k) x id me 1 (λ n. n) (λ r n. Hears me r n)) (sym one)
+      (subst (λ (y : Me (Option T) (View T)). Allows (IsRuled row_of fits k) 1 id y 1 (λ n. n) (λ r n. Hears y r n)) (sym e)
+      (hears row_of fits k id number left found c))
+
+  pub rings_at : (slots id number : ℕ) (left : T) (found : Option T) (c : Tally) (me : Me (Option T) (View T)) → slots ≡ 1 → me ≡ seated k number left found c
+      → Allows (IsRuled row_of fits k) slots id me 1 (λ n. (n + 1) % 2 ^ 64) (λ _ n. Rings me n)
+  rings_at slots id number left found c me one e =
+      subst (λ x. Allows (IsRuled row_of fits k) x id me 1 (λ n. (n + 1) % 2 ^ 64) (λ _ n. Rings me n)) (sym one)
+      (subst (λ (y : Me (Option T) (View T)). Allows (IsRuled row_of fits k) 1 id y 1 (λ n. (n + 1) % 2 ^ 64) (λ _ n. Rings y n)) (sym e)
+      (rings row_of fits k id number left found c))
+
+  pub rests_at : (slots id number : ℕ) (left : T) (c : Tally) (me : Me (Option T) (View T)) → slots ≡ 1 → is_some c.heard ≡ true → me ≡ seated k number left None c
+      → Allows (IsRuled row_of fits k) slots id me 1 (λ n. n) (λ r n. Rests me r n)
+  rests_at slots id number left c me one hears e =
+      let h = some_of c.heard hears in
+      subst (λ x. Allows (IsRuled row_of fits k) x id me 1 (λ n. n) (λ r n. Rests me r n)) (sym one)
+      (subst (λ (y : Me (Option T) (View T)). Allows (IsRuled row_of fits k) 1 id y 1 (λ n. n) (λ r n. Rests y r n)) (sym (e ∙ ap (λ o. seated k number left None (tally c.refusals o)) h.1))
+      (rests row_of fits k id number left c.refusals h.0))
+
+  pub leaves_at : (slots id number : ℕ) (left found value : T) (c : Tally) (me : Me (Option T) (View T)) → slots ≡ 1 → fits k value
       → ((n : ℕ) → n < k.seats → n ≢ number → row_of value n ≡ row_of found n) → me ≡ (view (Some k) ((number, left) ∷ []) (Some found) c 2, (0, Some value) ∷ [])
       → Allows (IsRuled row_of fits k) slots id me 0 (λ _. 0) (λ _ n. Leaves me n)
   leaves_at slots id number left found value c me one fit others e =
@@ -124,12 +185,14 @@ module _ {T R : Type 0} (row_of : T → ℕ → R) (fits : Opening T → T → T
   pub found_out : (m n : Me (Option T) (View T)) → (f : Finds row_of fits m n) → n.1 ≡ (0, Some f.value) ∷ rest n.1
   found_out m n f = let e : n.1 ≡ (0, Some f.value) ∷ m.1 = ap (λ (x : Me (Option T) (View T)). x.1) f.seat in e ∙ ap (λ (l : List (ℕ × Option T)). (0, Some f.value) ∷ rest l) (sym e)
 
-  pub found_seated : (number : ℕ) (left : T) (c : ℕ) (m n o : Me (Option T) (View T)) → m ≡ seated k number left None c → Finds row_of fits m n → o ≡ (n.0, (0, None) ∷ rest n.1) → IsSeated number o
-  found_seated number left c m n o e f is = record {
+  pub found_seated : (number : ℕ) (heard : Option ℕ) (left : T) (c : Tally) (m n o : Me (Option T) (View T)) → c.heard ≡ heard → m ≡ seated k number left None c → Finds row_of fits m n → o ≡ (n.0, (0, None) ∷ rest n.1)
+      → IsSeated number heard o
+  found_seated number heard left c m n o hears e f is = record {
     opening = k;
     left = left;
     found = Some f.value;
-    refusals = c;
+    tally = c;
+    hears = hears;
     me_is = is ∙ ap (λ (x : Me (Option T) (View T)). (x.0, (0, None) ∷ rest x.1)) (f.seat ∙ ap (λ (x : Me (Option T) (View T)). (found_view x.0 f.value, (0, Some f.value) ∷ x.1)) e);
   }
 

@@ -1,5 +1,5 @@
 -- Each step of the turn keeps its rule.
-use Rattle.std.proofs.Common.{◌≡◌, ℕ, ◌+◌, ◌<◌, ◌≢◌, ◌==◌, eqb, eq-eqb, ne_eqb, cond, List, [], ◌∷◌, length, set, slice_index, sym, refl, ap, ◌∙◌, inl, inr, ⊎_elim, subst, arith, Option, Some, None, Contains, length-set, get_or-set_same}
+use Rattle.std.proofs.Common.{◌≡◌, ℕ, ◌+◌, ◌<◌, ◌≢◌, ◌==◌, eqb, eq-eqb, ne_eqb, cond, List, [], ◌∷◌, length, set, slice_index, sym, refl, ap, ◌∙◌, inl, inr, ⊎_elim, subst, arith, Option, Some, None, Contains, length-set, get_or-set_same, get_or-set_other, ◌%◌, ◌^◌}
 use Rattle.std.specs.List.{AllByRecursion}
 use Rattle.std.proofs.lemmas.Option.{none-some, same_Some}
 use mathlib.Core.Logic.{dite}
@@ -11,8 +11,9 @@ use Rattle.atomic_table.specs.Table.{State, Me, Act, keeps, takes, gives, Valid,
 use Rattle.atomic_table.proofs.Lists.{set_here, set_else, at_longer, exchanged}
 use Rattle.sj_desk.specs.declared.view.View.{View}
 use Rattle.sj_desk.specs.declared.view.Opening.{Opening}
-use Rattle.sj_desk.specs.Views.{view, sitting, ended, opening_rows, first_view, at_stage, found_view, dealing, dealt, joined, seated}
-use Rattle.sj_desk.specs.Turns.{IsKeptRow, IsKeptView, IsHolder, IsOpen, made, filled, IsRuled, Tries, Marks, Leaves, Fills, Opens}
+use Rattle.sj_desk.specs.declared.view.Tally.{Tally}
+use Rattle.sj_desk.specs.Views.{view, tally, no_tally, one_more, hearing_tally, sitting, ended, opening_rows, first_view, at_stage, found_view, dealing, dealt, joined, seated}
+use Rattle.sj_desk.specs.Turns.{IsKeptRow, IsKeptView, IsHolder, IsOpen, made, filled, IsRuled, Tries, Marks, Leaves, Hears, Rings, Rests, Fills, Opens}
 use Rattle.sj_desk.proofs.Lists.{within, only, only_place, at_end, after_set, each_weaker, each_append, each_at, opening_each, opening_weaker}
 
 -- a seat that isn't in its turn is not the holder
@@ -49,16 +50,16 @@ module _ {T R : Type 0} (row_of : T → ℕ → R) (fits : Opening T → T → T
       absurd (omega arith)
   open_now s id v (inr (inr o)) at two = o
 
-  seized : (s : State (Option T) (View T)) (o : IsOpen row_of fits k s) (id number : ℕ) (left : T) (c mark : ℕ) → mark ≢ 0 → slice_index s.words 0 ≡ 0
+  seized : (s : State (Option T) (View T)) (o : IsOpen row_of fits k s) (id number : ℕ) (left : T) (c : Tally) (mark : ℕ) → mark ≢ 0 → slice_index s.words 0 ≡ 0
       → get_elem? s.views id ≡ some (sitting k ((number, left) ∷ []) c 2)
       → IsOpen row_of fits k (stepped s 0 mark id [] (found_view (sitting k ((number, left) ∷ []) c 2) o.current) (takes 0 (Some o.current)))
   seized s o id number left c mark marked free at =
       let v : View T = sitting k ((number, left) ∷ []) c 2 in
       let w : View T = found_view v o.current in
       let mine = o.views id v at in
-      let word : slice_index (set s.words 0 mark) 0 ≡ mark = get_or-set_same s.words 0 mark 0 (omega (arith, o.one_word)) in
+      let word : slice_index (set s.words 0 mark) 0 ≡ mark = get_or-set_same s.words 0 mark 0 (omega (arith, o.two_words)) in
       record {
-        one_word = length-set s.words 0 mark ∙ o.one_word;
+        two_words = length-set s.words 0 mark ∙ o.two_words;
         owner = o.owner;
         current = o.current;
         holder = id;
@@ -70,16 +71,16 @@ module _ {T R : Type 0} (row_of : T → ℕ → R) (fits : Opening T → T → T
       }
 
   -- a step of a seat that isn't in its turn, which leaves a free word free and a taken one taken
-  watched : (s : State (Option T) (View T)) (o : IsOpen row_of fits k s) (id : ℕ) (rows : List (ℕ × T)) (c d n : ℕ)
+  watched : (s : State (Option T) (View T)) (o : IsOpen row_of fits k s) (id : ℕ) (rows : List (ℕ × T)) (c d : Tally) (n : ℕ)
       → get_elem? s.views id ≡ some (sitting k rows c 2) → (n ≡ 0 → slice_index s.words 0 ≡ 0) → (slice_index s.words 0 ≡ 0 → n ≡ 0)
       → IsOpen row_of fits k (stepped s 0 n id [] (sitting k rows d 2) keeps)
   watched s o id rows c d n at back forth =
       let v : View T = sitting k rows c 2 in
       let w : View T = sitting k rows d 2 in
       let mine = o.views id v at in
-      let word : slice_index (set s.words 0 n) 0 ≡ n = get_or-set_same s.words 0 n 0 (omega (arith, o.one_word)) in
+      let word : slice_index (set s.words 0 n) 0 ≡ n = get_or-set_same s.words 0 n 0 (omega (arith, o.two_words)) in
       record {
-        one_word = length-set s.words 0 n ∙ o.one_word;
+        two_words = length-set s.words 0 n ∙ o.two_words;
         owner = o.owner;
         current = o.current;
         holder = o.holder;
@@ -99,7 +100,7 @@ module _ {T R : Type 0} (row_of : T → ℕ → R) (fits : Opening T → T → T
             record { stage = old.stage; rows = old.rows; turn = λ y e. let t = old.turn y e in ((λ z. t.0 (back (sym word ∙ z))), t.1, t.2) });
       }
 
-  pub tries : (id number : ℕ) (left : T) (c mark : ℕ) → mark ≢ 0
+  pub tries : (id number : ℕ) (left : T) (c : Tally) (mark : ℕ) → mark ≢ 0
       → Allows Ruled 1 id (seated k number left None c) 0 (λ n. either (n == 0) mark n) (λ r n. Tries row_of fits (seated k number left None c) r n)
   tries id number left c mark marked s ruled wide at _ =
       let v : View T = sitting k ((number, left) ∷ []) c 2 in
@@ -123,14 +124,14 @@ module _ {T R : Type 0} (row_of : T → ℕ → R) (fits : Opening T → T → T
         },
       ))
       (λ busy. (
-        sitting k ((number, left) ∷ []) (c + 1) 2,
+        sitting k ((number, left) ∷ []) (one_more c) 2,
         keeps,
         tt,
-        inr (inr (watched s o id ((number, left) ∷ []) c (c + 1) n at (λ e. e) (λ e. e))),
+        inr (inr (watched s o id ((number, left) ∷ []) c (one_more c) n at (λ e. e) (λ e. e))),
         record { taken = λ free. absurd (busy free); busy = λ _. refl },
       ))
 
-  pub marks : (id number : ℕ) (left : T) (c : ℕ)
+  pub marks : (id number : ℕ) (left : T) (c : Tally)
       → Allows Ruled 1 id (seated k number left None c) 0 (λ n. either (n == 1) 2 n) (λ r n. Marks (seated k number left None c) r n)
   marks id number left c s ruled wide at _ =
       let v : View T = sitting k ((number, left) ∷ []) c 2 in
@@ -145,14 +146,80 @@ module _ {T R : Type 0} (row_of : T → ℕ → R) (fits : Opening T → T → T
         record { free = λ _. refl; busy = λ ne. absurd (ne free) },
       ))
       (λ busy. (
-        sitting k ((number, left) ∷ []) (c + 1) 2,
+        sitting k ((number, left) ∷ []) (one_more c) 2,
         keeps,
         tt,
-        inr (inr (watched s o id ((number, left) ∷ []) c (c + 1) (either (eqb n 1) 2 n) at (free_marked n) (marked_free n))),
+        inr (inr (watched s o id ((number, left) ∷ []) c (one_more c) (either (eqb n 1) 2 n) at (free_marked n) (marked_free n))),
         record { free = λ e. absurd (busy e); busy = λ _. refl },
       ))
 
-  released : (s : State (Option T) (View T)) (o : IsOpen row_of fits k s) (id number : ℕ) (left found value : T) (c : ℕ) → length s.homes ≡ 1 → fits k value
+  -- a step on the bell, which leaves the seat's rows and what it found
+  at_bell : (s : State (Option T) (View T)) (o : IsOpen row_of fits k s) (id number : ℕ) (left : T) (found : Option T) (c d : Tally) (n : ℕ)
+      → get_elem? s.views id ≡ some (view (Some k) ((number, left) ∷ []) found c 2)
+      → IsOpen row_of fits k (stepped s 1 n id [] (view (Some k) ((number, left) ∷ []) found d 2) keeps)
+  at_bell s o id number left found c d n at =
+      let v : View T = view (Some k) ((number, left) ∷ []) found c 2 in
+      let w : View T = view (Some k) ((number, left) ∷ []) found d 2 in
+      let mine = o.views id v at in
+      let word : slice_index (set s.words 1 n) 0 ≡ slice_index s.words 0 = get_or-set_other s.words 1 0 n 0 (omega arith) in
+      record {
+        two_words = length-set s.words 1 n ∙ o.two_words;
+        owner = o.owner;
+        current = o.current;
+        holder = o.holder;
+        free = λ e. o.free (sym word ∙ e);
+        taken = λ ne. let h = o.taken (λ e. ne (word ∙ e)) in
+            dite (ℕ_discrete o.holder id)
+            (λ here. let same : h.view ≡ v = some-injective h.view v (sym h.there ∙ ap (get_elem? s.views) here ∙ at) in
+            record {
+              view = w;
+              there = ap (get_elem? (set s.views id w)) here ∙ set_here s.views id w (within s.views id v at);
+              found = ap (λ (x : View T). x.found) (sym same) ∙ h.found;
+              number = h.number;
+              below = h.below;
+              owned = h.owned;
+            })
+            (λ else. record { view = h.view; there = set_else s.views id o.holder w else ∙ h.there; found = h.found; number = h.number; below = h.below; owned = h.owned });
+        views = after_set (λ j u. IsKeptView row_of k.seats o.owner o.current o.holder (slice_index (set s.words 1 n) 0) j u) s.views id w
+            (record { stage = refl; rows = mine.rows; turn = λ y e. let t = mine.turn y e in ((λ z. t.0 (sym word ∙ z)), t.1, t.2) })
+            (λ j u other there. let old = o.views j u there in
+            record { stage = old.stage; rows = old.rows; turn = λ y e. let t = old.turn y e in ((λ z. t.0 (sym word ∙ z)), t.1, t.2) });
+      }
+
+  pub hears : (id number : ℕ) (left : T) (found : Option T) (c : Tally) → Allows Ruled 1 id (seated k number left found c) 1 (λ n. n) (λ r n. Hears (seated k number left found c) r n)
+  hears id number left found c s ruled wide at _ =
+      let o = open_now s id (view (Some k) ((number, left) ∷ []) found c 2) ruled at refl in
+      let n = slice_index s.words 1 in
+      (view (Some k) ((number, left) ∷ []) found (hearing_tally c (Some n)) 2, keeps, tt, inr (inr (at_bell s o id number left found c (hearing_tally c (Some n)) n at)), refl)
+
+  pub rings : (id number : ℕ) (left : T) (found : Option T) (c : Tally) → Allows Ruled 1 id (seated k number left found c) 1 (λ n. (n + 1) % 2 ^ 64) (λ _ n. Rings (seated k number left found c) n)
+  rings id number left found c s ruled wide at _ =
+      let o = open_now s id (view (Some k) ((number, left) ∷ []) found c 2) ruled at refl in
+      (view (Some k) ((number, left) ∷ []) found c 2, keeps, tt, inr (inr (at_bell s o id number left found c c ((slice_index s.words 1 + 1) % 2 ^ 64) at)), refl)
+
+  pub rests : (id number : ℕ) (left : T) (refusals heard : ℕ)
+      → let m = seated k number left None (tally refusals (Some heard)) in Allows Ruled 1 id m 1 (λ n. n) (λ r n. Rests m r n)
+  rests id number left refusals heard s ruled wide at _ =
+      let c = tally refusals (Some heard) in
+      let o = open_now s id (view (Some k) ((number, left) ∷ []) None c 2) ruled at refl in
+      let n = slice_index s.words 1 in
+      dite (ℕ_discrete heard n)
+      (λ same. (
+        view (Some k) ((number, left) ∷ []) None c 2,
+        keeps,
+        tt,
+        inr (inr (at_bell s o id number left None c c n at)),
+        record { still = λ _. refl; rung = λ ne. absurd (ne (ap Some same)) },
+      ))
+      (λ other. (
+        view (Some k) ((number, left) ∷ []) None (hearing_tally c None) 2,
+        keeps,
+        tt,
+        inr (inr (at_bell s o id number left None c (hearing_tally c None) n at)),
+        record { still = λ e. absurd (other (same_Some heard n e)); rung = λ _. refl },
+      ))
+
+  released : (s : State (Option T) (View T)) (o : IsOpen row_of fits k s) (id number : ℕ) (left found value : T) (c : Tally) → length s.homes ≡ 1 → fits k value
       → ((n : ℕ) → n < k.seats → n ≢ number → row_of value n ≡ row_of found n)
       → get_elem? s.views id ≡ some (view (Some k) ((number, left) ∷ []) (Some found) c 2)
       → IsOpen row_of fits k (stepped s 0 0 id ((0, Some value) ∷ []) (sitting k ((number, value) ∷ []) c 2) gives)
@@ -162,9 +229,9 @@ module _ {T R : Type 0} (row_of : T → ℕ → R) (fits : Opening T → T → T
       let mine = o.views id v at in
       let row = mine.rows.0 in
       let t = mine.turn found refl in
-      let word : slice_index (set s.words 0 0) 0 ≡ 0 = get_or-set_same s.words 0 0 0 (omega (arith, o.one_word)) in
+      let word : slice_index (set s.words 0 0) 0 ≡ 0 = get_or-set_same s.words 0 0 0 (omega (arith, o.two_words)) in
       record {
-        one_word = length-set s.words 0 0 ∙ o.one_word;
+        two_words = length-set s.words 0 0 ∙ o.two_words;
         owner = o.owner;
         current = value;
         holder = o.holder;
@@ -186,7 +253,7 @@ module _ {T R : Type 0} (row_of : T → ℕ → R) (fits : Opening T → T → T
             });
       }
 
-  pub leaves : (id number : ℕ) (left found value : T) (c : ℕ) → fits k value → ((n : ℕ) → n < k.seats → n ≢ number → row_of value n ≡ row_of found n)
+  pub leaves : (id number : ℕ) (left found value : T) (c : Tally) → fits k value → ((n : ℕ) → n < k.seats → n ≢ number → row_of value n ≡ row_of found n)
       → Allows Ruled 1 id (view (Some k) ((number, left) ∷ []) (Some found) c 2, (0, Some value) ∷ []) 0 (λ _. 0) (λ _ n. Leaves (view (Some k) ((number, left) ∷ []) (Some found) c 2, (0, Some value) ∷ []) n)
   leaves id number left found value c fit others s ruled wide at _ =
       let o = open_now s id (view (Some k) ((number, left) ∷ []) (Some found) c 2) ruled at refl in
@@ -213,9 +280,9 @@ module _ {T R : Type 0} (row_of : T → ℕ → R) (fits : Opening T → T → T
       let P : ℕ → State (Option T) (View T) → Type 0 = λ i x. (w : View T) × (a : Act (Option T)) × Valid x.homes [] a × Ruled (stepped x 0 (slice_index x.words 0) i [] w a) × Fills (first_view k, []) (w, carried_after [] a) in
       subst (λ i. P i s) (sym first) (subst (P 0) (sym (made_now s id ruled at)) (at_stage 1 (first_view k), takes 0 None, refl, inr (inl refl), refl))
 
-  opened : fits k k.value → IsOpen row_of fits k (record { words = 0 ∷ []; homes = some (Some k.value) ∷ []; views = at_stage 2 (first_view k) ∷ [] })
+  opened : fits k k.value → IsOpen row_of fits k (record { words = 0 ∷ 0 ∷ []; homes = some (Some k.value) ∷ []; views = at_stage 2 (first_view k) ∷ [] })
   opened fit = record {
-    one_word = refl;
+    two_words = refl;
     owner = λ _. 0;
     current = k.value;
     holder = 0;
@@ -233,11 +300,11 @@ module _ {T R : Type 0} (row_of : T → ℕ → R) (fits : Opening T → T → T
       let P : ℕ → State (Option T) (View T) → Type 0 = λ i x. (w : View T) × (a : Act (Option T)) × Valid x.homes m.1 a × Ruled (stepped x 0 0 i m.1 w a) × Opens m (w, carried_after m.1 a) in
       subst (λ i. P i s) (sym first) (subst (P 0) (sym (filled_now s id ruled at)) (at_stage 2 (first_view k), gives, tt, inr (inr (opened fit)), refl))
 
-  pub deals : (id a n : ℕ) → let v : View T = sitting k ((a, k.value) ∷ opening_rows k.value (a + 1) n) 0 2 in Splits Ruled id v (dealing v) (dealt v)
+  pub deals : (id a n : ℕ) → let v : View T = sitting k ((a, k.value) ∷ opening_rows k.value (a + 1) n) no_tally 2 in Splits Ruled id v (dealing v) (dealt v)
   deals id a n s ruled at =
-      let v : View T = sitting k ((a, k.value) ∷ opening_rows k.value (a + 1) n) 0 2 in
-      let l : View T = sitting k (opening_rows k.value (a + 1) n) 0 2 in
-      let r : View T = sitting k ((a, k.value) ∷ []) 0 2 in
+      let v : View T = sitting k ((a, k.value) ∷ opening_rows k.value (a + 1) n) no_tally 2 in
+      let l : View T = sitting k (opening_rows k.value (a + 1) n) no_tally 2 in
+      let r : View T = sitting k ((a, k.value) ∷ []) no_tally 2 in
       let o = open_now s id v ruled at refl in
       let mine = o.views id v at in
       let row = mine.rows.0 in
@@ -255,7 +322,7 @@ module _ {T R : Type 0} (row_of : T → ℕ → R) (fits : Opening T → T → T
       subst (λ (y : ℕ × View T). Kept y.0 y.1) (λ p. (sym (e.0 ∙ length-set s.views id l) p, e.1 p))
       (record { stage = refl; rows = (record { number = row.number; owned = either_here a a (length s.views) (o.owner a) refl; same = row.same }, tt); turn = λ y e. absurd (none-some y e) }) in
       inr (inr (record {
-        one_word = o.one_word;
+        two_words = o.two_words;
         owner = owner;
         current = o.current;
         holder = o.holder;
@@ -272,7 +339,7 @@ module _ {T R : Type 0} (row_of : T → ℕ → R) (fits : Opening T → T → T
         views = λ j u there. ⊎_elim (others j u) (last j u) (at_end (set s.views id l) r u j there);
       }))
 
-  pub gathers : (id other : ℕ) (rows more : List (ℕ × T)) (c d : ℕ) → let v : View T = sitting k rows c 2 in let w : View T = sitting k more d 2 in Joins Ruled id v other w (joined v w) ended
+  pub gathers : (id other : ℕ) (rows more : List (ℕ × T)) (c d : Tally) → let v : View T = sitting k rows c 2 in let w : View T = sitting k more d 2 in Joins Ruled id v other w (joined v w) ended
   gathers id other rows more c d s ruled at apart there =
       let v : View T = sitting k rows c 2 in
       let w : View T = sitting k more d 2 in
@@ -298,7 +365,7 @@ module _ {T R : Type 0} (row_of : T → ℕ → R) (fits : Opening T → T → T
       })
       (λ j u ne at_j else. let old = o.views j u at_j in record { stage = old.stage; rows = each_weaker (Old j) (New j) (λ x h. keep j x else h) u.rows old.rows; turn = old.turn }) in
       inr (inr (record {
-        one_word = o.one_word;
+        two_words = o.two_words;
         owner = owner;
         current = o.current;
         holder = o.holder;
@@ -324,7 +391,7 @@ module _ {T R : Type 0} (row_of : T → ℕ → R) (fits : Opening T → T → T
     pub fitting : fits k value
     pub same : AllByRecursion (λ r. row_of value r.0 ≡ row_of r.1 r.0) rows
 
-  pub closes : (id : ℕ) (rows : List (ℕ × T)) (c : ℕ) (words : List ℕ) (slots : List (Option T)) → ((n : ℕ) → n < k.seats → (r : ℕ × T) × Contains rows r × (r.0 ≡ n))
+  pub closes : (id : ℕ) (rows : List (ℕ × T)) (c : Tally) (words : List ℕ) (slots : List (Option T)) → ((n : ℕ) → n < k.seats → (r : ℕ × T) × Contains rows r × (r.0 ≡ n))
       → Final (Seen Ruled id (sitting k rows c 2)) words slots → Closes rows slots
   closes id rows c words slots whole f =
       let v : View T = sitting k rows c 2 in

@@ -6,7 +6,7 @@ use lib.ListN.{get_elem?}
 use Rattle.atomic_table.specs.Table.{State, Me, rest}
 use Rattle.sj_desk.specs.declared.view.View.{View}
 use Rattle.sj_desk.specs.declared.view.Opening.{Opening}
-use Rattle.sj_desk.specs.Views.{first_view, at_stage, refused_view, found_view, left_by}
+use Rattle.sj_desk.specs.Views.{first_view, at_stage, refused_view, hearing_view, found_view, left_by}
 
 -- the value has the key of the opening value, and is sound
 abbrev pub Fits : {T K : Type 0} → (T → K) → (T → Type 0) → Opening T → T → Type 0
@@ -37,7 +37,7 @@ module _ {T R : Type 0} (row_of : T → ℕ → R) where
   module _ (fits : Opening T → T → Type 0) (k : Opening T) where
     -- the desk once it is open: while the word is 0 the turn is free, and the slot at home holds a value that fits
     pub record IsOpen (s : State (Option T) (View T)) : Type 0 where
-      pub one_word : length s.words ≡ 1
+      pub two_words : length s.words ≡ 2
       pub owner : ℕ → ℕ
       pub current : T
       pub holder : ℕ
@@ -47,10 +47,10 @@ module _ {T R : Type 0} (row_of : T → ℕ → R) where
 
     -- the table as it is made, and then with the slot out
     abbrev pub made : State (Option T) (View T)
-    made = record { words = 1 ∷ []; homes = some None ∷ []; views = first_view k ∷ [] }
+    made = record { words = 1 ∷ 0 ∷ []; homes = some None ∷ []; views = first_view k ∷ [] }
 
     abbrev pub filled : State (Option T) (View T)
-    filled = record { words = 1 ∷ []; homes = none ∷ []; views = at_stage 1 (first_view k) ∷ [] }
+    filled = record { words = 1 ∷ 0 ∷ []; homes = none ∷ []; views = at_stage 1 (first_view k) ∷ [] }
 
     abbrev pub IsRuled : State (Option T) (View T) → Type 0
     IsRuled s = (s ≡ made) ⊎ (s ≡ filled) ⊎ IsOpen s
@@ -84,3 +84,16 @@ module _ {T : Type 0} where
 
   abbrev pub Opens : Me (Option T) (View T) → Me (Option T) (View T) → Type 0
   Opens m n = n ≡ (at_stage 2 m.0, rest m.1)
+
+  -- the seat hears the bell
+  abbrev pub Hears : Me (Option T) (View T) → ℕ → Me (Option T) (View T) → Type 0
+  Hears m count n = n ≡ (hearing_view m.0 (Some count), m.1)
+
+  -- a ring of the bell, which changes no seat
+  abbrev pub Rings : Me (Option T) (View T) → Me (Option T) (View T) → Type 0
+  Rings m n = n ≡ m
+
+  -- a look at the bell by a seat that rests: it rests on while the count is the one that it heard
+  pub record Rests (m : Me (Option T) (View T)) (count : ℕ) (n : Me (Option T) (View T)) : Type 0 where
+    pub still : m.0.tally.heard ≡ Some count → n ≡ m
+    pub rung : m.0.tally.heard ≢ Some count → n ≡ (hearing_view m.0 None, m.1)

@@ -5,23 +5,37 @@ use Rattle.atomic_table.specs.Seated.{TableId}
 use Rattle.atomic_table.specs.Table.{Me}
 use Rattle.sj_desk.specs.declared.view.View.{View}
 use Rattle.sj_desk.specs.declared.view.Opening.{Opening}
+use Rattle.sj_desk.specs.declared.view.Tally.{Tally}
 use Rattle.sj_desk.specs.Seats.{DeskFacts, SeatFacts}
 
--- a table of one word and one slot, for at least one seat
+-- a table of two words, the turn's and the bell's, and one slot, for at least one seat
 abbrev pub IsOneTurn : TableId → ℕ → Type 0
-IsOneTurn table seats = (table.words ≡ 1) × (table.slots ≡ 1) × (0 < seats)
+IsOneTurn table seats = (table.words ≡ 2) × (table.slots ≡ 1) × (0 < seats)
+
+-- so many tries found the turn taken, and the bell was heard at this count
+abbrev pub tally : ℕ → Option ℕ → Tally
+tally refusals heard = record { refusals = refusals; heard = heard }
+
+abbrev pub no_tally : Tally
+no_tally = tally 0 None
+
+abbrev pub one_more : Tally → Tally
+one_more c = tally (c.refusals + 1) c.heard
+
+abbrev pub hearing_tally : Tally → Option ℕ → Tally
+hearing_tally c heard = tally c.refusals heard
 
 module _ {T : Type 0} where
-  abbrev pub view : Option (Opening T) → List (ℕ × T) → Option T → ℕ → ℕ → View T
-  view opening rows found refusals stage = record { opening = opening; rows = rows; found = found; refusals = refusals; stage = stage }
+  abbrev pub view : Option (Opening T) → List (ℕ × T) → Option T → Tally → ℕ → View T
+  view opening rows found c stage = record { opening = opening; rows = rows; found = found; tally = c; stage = stage }
 
   -- a seat that isn't in its turn: before the desk opens the stage is 0, with the slot taken it is 1, and then 2
-  abbrev pub sitting : Opening T → List (ℕ × T) → ℕ → ℕ → View T
-  sitting k rows refusals stage = view (Some k) rows None refusals stage
+  abbrev pub sitting : Opening T → List (ℕ × T) → Tally → ℕ → View T
+  sitting k rows c stage = view (Some k) rows None c stage
 
   -- the view of a seat that was joined to another
   abbrev pub ended : View T
-  ended = view None [] None 0 2
+  ended = view None [] None no_tally 2
 
   -- n rows of the opening value, from the number a on
   abbrev pub opening_rows : T → ℕ → ℕ → List (ℕ × T)
@@ -29,18 +43,22 @@ module _ {T : Type 0} where
 
   -- the first view, which answers for all rows
   abbrev pub first_view : Opening T → View T
-  first_view k = sitting k (opening_rows k.value 0 k.seats) 0 0
+  first_view k = sitting k (opening_rows k.value 0 k.seats) no_tally 0
 
   abbrev pub at_stage : ℕ → View T → View T
-  at_stage stage v = view v.opening v.rows v.found v.refusals stage
+  at_stage stage v = view v.opening v.rows v.found v.tally stage
 
   -- after a try that found the turn taken
   abbrev pub refused_view : View T → View T
-  refused_view v = view v.opening v.rows v.found (v.refusals + 1) v.stage
+  refused_view v = view v.opening v.rows v.found (one_more v.tally) v.stage
+
+  -- after it heard the bell, or after it rested
+  abbrev pub hearing_view : View T → Option ℕ → View T
+  hearing_view v heard = view v.opening v.rows v.found (hearing_tally v.tally heard) v.stage
 
   -- in its turn
   abbrev pub found_view : View T → T → View T
-  found_view v value = view v.opening v.rows (Some value) v.refusals v.stage
+  found_view v value = view v.opening v.rows (Some value) v.tally v.stage
 
   abbrev pub row_left : List (ℕ × T) → T → List (ℕ × T)
   row_left [] value = []
@@ -48,7 +66,7 @@ module _ {T : Type 0} where
 
   -- after its turn
   abbrev pub left_view : View T → T → View T
-  left_view v value = view v.opening (row_left v.rows value) None v.refusals v.stage
+  left_view v value = view v.opening (row_left v.rows value) None v.tally v.stage
 
   -- the same, with the value that is in the slot
   abbrev pub left_in : View T → Option T → View T
@@ -69,30 +87,31 @@ module _ {T : Type 0} where
 
   -- the dealing seat after it has dealt one, and the seat that was dealt
   abbrev pub dealing : View T → View T
-  dealing v = view v.opening (later_rows v.rows) v.found v.refusals v.stage
+  dealing v = view v.opening (later_rows v.rows) v.found v.tally v.stage
 
   abbrev pub dealt : View T → View T
-  dealt v = view v.opening (first_row v.rows) None 0 v.stage
+  dealt v = view v.opening (first_row v.rows) None no_tally v.stage
 
   -- a seat that answers for another's rows too
   abbrev pub joined : View T → View T → View T
-  joined v w = view v.opening (w.rows ++ v.rows) v.found v.refusals v.stage
+  joined v w = view v.opening (w.rows ++ v.rows) v.found v.tally v.stage
 
   -- the slot is out with a seat in its turn, and empty while the value is with the caller
   abbrev pub slots_of : Option T → List (ℕ × Option T)
   slots_of None = []
   slots_of (Some value) = (0, None) ∷ []
 
-  abbrev pub seated : Opening T → ℕ → T → Option T → ℕ → Me (Option T) (View T)
-  seated k number left found refusals = (view (Some k) ((number, left) ∷ []) found refusals 2, slots_of found)
+  abbrev pub seated : Opening T → ℕ → T → Option T → Tally → Me (Option T) (View T)
+  seated k number left found c = (view (Some k) ((number, left) ∷ []) found c 2, slots_of found)
 
-  -- the seat answers for one row, that of its number
-  pub record IsSeated (number : ℕ) (me : Me (Option T) (View T)) : Type 0 where
+  -- the seat answers for one row, that of its number, and has heard this
+  pub record IsSeated (number : ℕ) (heard : Option ℕ) (me : Me (Option T) (View T)) : Type 0 where
     pub opening : Opening T
     pub left : T
     pub found : Option T
-    pub refusals : ℕ
-    pub me_is : me ≡ seated opening number left found refusals
+    pub tally : Tally
+    pub hears : tally.heard ≡ heard
+    pub me_is : me ≡ seated opening number left found tally
 
   abbrev pub desk_facts : TableId → Opening T → DeskFacts T
   desk_facts table k = record { table = table; opening = k.value; seats = k.seats }
@@ -107,7 +126,7 @@ module _ {T : Type 0} where
 
   -- a seat as contracts see it
   abbrev pub seat_facts : TableId → ℕ → View T → SeatFacts T
-  seat_facts table number v = record { desk = desk_of table v.opening; number = number; refusals = v.refusals; left = left_of v.rows; found = v.found }
+  seat_facts table number v = record { desk = desk_of table v.opening; number = number; refusals = v.tally.refusals; heard = v.tally.heard; left = left_of v.rows; found = v.found }
 
   abbrev pub opening_of : DeskFacts T → Opening T
   opening_of desk = record { value = desk.opening; seats = desk.seats }
@@ -121,7 +140,7 @@ module _ {T : Type 0} where
   IsFirst desk me = me ≡ (first_view (opening_of desk), [])
 
   abbrev pub IsDealer : DeskFacts T → ℕ → Me (Option T) (View T) → Type 0
-  IsDealer desk a me = me ≡ (sitting (opening_of desk) (opening_rows desk.opening a (desk.seats - a)) 0 2, [])
+  IsDealer desk a me = me ≡ (sitting (opening_of desk) (opening_rows desk.opening a (desk.seats - a)) no_tally 2, [])
 
   -- each number of the desk's seats is that of one of the rows
   abbrev pub HasEachRow : DeskFacts T → List (ℕ × T) → Type 0
@@ -129,7 +148,7 @@ module _ {T : Type 0} where
 
   -- a seat that isn't in its turn, and answers for these rows
   abbrev pub IsIdle : DeskFacts T → List (ℕ × T) → Me (Option T) (View T) → Type 0
-  IsIdle desk rows me = (c : ℕ) × (me ≡ (sitting (opening_of desk) rows c 2, []))
+  IsIdle desk rows me = (c : Tally) × (me ≡ (sitting (opening_of desk) rows c 2, []))
 
   -- some seats of the list are left, and the rows are those of the others
   abbrev pub Gathered : List (SeatFacts T) → List (SeatFacts T) → List (ℕ × T) → Type 0

@@ -1,11 +1,14 @@
 //! The turn lock and its calls.
 
-ghost use Rattle.std.specs.Prelude.{◌≡◌, ◌<◌, ◌≤◌, [], Some, None, All, IfOk, IfErr, OnErr, IfSome, IfNone, MatchBool, vec_capacity};
+ghost use Rattle.std.specs.Prelude.{◌≡◌, ◌<◌, ◌≤◌, [], Some, None, All, IfOk, IfErr, OnErr, IfSome, IfNone, OnSome, MatchBool, is_some, true, vec_capacity};
+ghost use Rattle.std.specs.Option.{IsSomeAnd};
 ghost use Rattle.std.specs.List.{AllZip};
-ghost use Rattle.sj_desk.specs.Seats.{new_seats, refused, in_turn, after_turn, retried, HasRowLeft, KeepsOtherRows, HasEachNumber, IsWaiting, AreInPlace};
+ghost use Rattle.sj_desk.specs.Seats.{new_seats, refused, in_turn, after_turn, retried, hearing, rested, HasRowLeft, KeepsOtherRows, HasEachNumber, IsWaiting, AreInPlace};
 ghost use Rattle.sj_desk.specs.Views.{IsRowOf, IsIdle, IsFirst, IsDealer, HasEachRow};
 
-use crate::rule::{Deal, Fill, Gather, Mark, Open, Release, Ticket, Try, TurnRule};
+use crate::rule::{
+    Deal, Fill, Gather, Hear, Mark, Open, Release, Rest, Ring, Ticket, Try, TurnRule,
+};
 use crate::seat::DeskSeat;
 use crate::view::{Opening, View};
 use atomic_table::Table;
@@ -15,12 +18,20 @@ use std::hint::spin_loop;
 use std::marker::Model;
 use std::sync::Wait;
 
+// The words of the table.
+const TURN: usize = 0;
+
+const BELL: usize = 1;
+
 // The turn word: free, taken, or taken while some seat may be asleep.
 const FREE: u64 = 0;
 
 const TAKEN: u64 = 1;
 
 const AWAITED: u64 = 2;
+
+// A sleep on a word compares its low 32 bits.
+const LOW: u64 = 1 << 32;
 
 // How often `enter` tries before it sleeps. It pauses after each try, twice as long as after the one before.
 const TRIES: u32 = 8;
@@ -71,7 +82,7 @@ impl<T: Keyed> Desk<T> {
             return Err(value);
         };
         let opening = Opening { value, seats };
-        let made = Table::vacant(alloc, &[TAKEN], 1, &opening);
+        let made = Table::vacant(alloc, &[TAKEN, 0], 1, &opening);
         let Opening { value, seats } = opening;
         let Ok((table, mut dealer)) = made else {
             list.destroy_empty();
@@ -94,10 +105,10 @@ impl<T: Keyed> Desk<T> {
         ensures dealer { IsDealer self.now 0 dealer.new.me }
     {
         let turn = &self.table.shared;
-        turn.load::<Fill>(dealer, 0);
+        turn.load::<Fill>(dealer, TURN);
         let out = turn.exchange(dealer, 0, Some(value));
         let None = out else { unreachable!() };
-        turn.store::<Open>(dealer, 0, FREE);
+        turn.store::<Open>(dealer, TURN, FREE);
     }
 
     // Deals each seat its row.
@@ -111,7 +122,11 @@ impl<T: Keyed> Desk<T> {
     {
         for number in 0..seats {
             let ticket = self.table.shared.split_seat::<Deal>(&mut dealer);
-            list.push_reserved(DeskSeat { number, ticket });
+            list.push_reserved(DeskSeat {
+                number,
+                heard: None,
+                ticket,
+            });
         }
         list
     }
@@ -128,7 +143,7 @@ impl<T: Keyed> Desk<T> {
         ensures none { IfNone result (seat.new ≡ refused seat.old) }
     {
         let turn = &self.table.shared;
-        let found = turn.compare_exchange::<Try>(&mut seat.ticket, 0, FREE, mark);
+        let found = turn.compare_exchange::<Try>(&mut seat.ticket, TURN, FREE, mark);
         if found != FREE {
             return None;
         }
@@ -142,7 +157,7 @@ impl<T: Keyed> Desk<T> {
         ensures { MatchBool result (seat.new ≡ refused seat.old) (seat.new ≡ seat.old) }
     {
         let turn = &self.table.shared;
-        turn.compare_exchange::<Mark>(&mut seat.ticket, 0, TAKEN, AWAITED) != FREE
+        turn.compare_exchange::<Mark>(&mut seat.ticket, TURN, TAKEN, AWAITED) != FREE
     }
 
     // The first tries of `enter`.
@@ -180,7 +195,7 @@ impl<T: Keyed> Desk<T> {
                 return value;
             }
             if self.mark(seat) {
-                self.table.shared.park(rt, 0, AWAITED as u32);
+                self.table.shared.park(rt, TURN, AWAITED as u32);
             }
         }
         unreachable!()
@@ -232,9 +247,65 @@ impl<T: Keyed> Desk<T> {
         let turn = &self.table.shared;
         let out = turn.exchange(&mut seat.ticket, 0, Some(value));
         let None = out else { unreachable!() };
-        if turn.swap::<Release>(&mut seat.ticket, 0, FREE) == AWAITED {
-            turn.wake_one(0);
+        if turn.swap::<Release>(&mut seat.ticket, TURN, FREE) == AWAITED {
+            turn.wake_one(TURN);
         }
+    }
+
+    /// Hears the bell, in a turn: every ring from here on ends the next [`Desk::rest`] of the seat, or
+    /// keeps it from beginning. One step, and no memory.
+    pub fn listen(&self, seat: &mut DeskSeat<T>)
+        requires of_this_desk { seat.old.desk ≡ Some self.now }
+        requires in_its_turn { is_some seat.old.found ≡ true }
+        ensures seat { IsSomeAnd seat.new.heard (λ count. seat.new ≡ hearing seat.old (Some count)) }
+    {
+        let count = self.table.shared.load::<Hear>(&mut seat.ticket, BELL);
+        seat.heard = Some(count);
+    }
+
+    /// Rings the bell: each seat that rests wakes, and one that heard the bell before doesn't go to
+    /// rest. To be called in the turn whose change others wait for, or after it, and never before.
+    /// One step and a wake of all that rest, and no memory: where no seat can be resting, leave it out.
+    pub fn ring(&self, seat: &mut DeskSeat<T>)
+        requires of_this_desk { seat.old.desk ≡ Some self.now }
+        ensures seat { seat.new ≡ seat.old }
+    {
+        let turn = &self.table.shared;
+        turn.fetch_add::<Ring>(&mut seat.ticket, BELL, 1);
+        turn.wake_all(BELL);
+    }
+
+    // A look at the bell. Gives the count that the seat heard, if it is still that.
+    fn quiet(&self, seat: &mut DeskSeat<T>) -> Option<u64>
+        requires of_this_desk { seat.old.desk ≡ Some self.now }
+        requires not_in_its_turn { seat.old.found ≡ None }
+        requires heard { is_some seat.old.heard ≡ true }
+        ensures still { OnSome result (seat.new ≡ seat.old) }
+        ensures rung { IfNone result (seat.new ≡ rested seat.old) }
+    {
+        let count = self.table.shared.load::<Rest>(&mut seat.ticket, BELL);
+        if seat.heard == Some(count) {
+            return Some(count);
+        }
+        seat.heard = None;
+        None
+    }
+
+    /// Sleeps until the bell has rung since the seat listened last; returns at once if it has by now.
+    /// It doesn't wake where the bell is silent. No memory.
+    pub fn rest<R: Wait>(&self, rt: &R, seat: &mut DeskSeat<T>)
+        requires of_this_desk { seat.old.desk ≡ Some self.now }
+        requires not_in_its_turn { seat.old.found ≡ None }
+        requires heard { is_some seat.old.heard ≡ true }
+        ensures seat { seat.new ≡ rested seat.old }
+    {
+        for _ in rt.forever() {
+            let Some(count) = self.quiet(seat) else {
+                return;
+            };
+            self.table.shared.park(rt, BELL, (count % LOW) as u32);
+        }
+        unreachable!()
     }
 
     /// Ends the desk, with all its seats, and gives the value. Linear in the seats, and no memory.
@@ -263,11 +334,13 @@ impl<T: Keyed> Desk<T> {
         };
         let DeskSeat {
             number: _,
+            heard: _,
             mut ticket,
         } = first;
         while let Some(seat) = seats.pop() {
             let DeskSeat {
                 number: _,
+                heard: _,
                 ticket: other,
             } = seat;
             turn.join_seat::<Gather>(&mut ticket, other);

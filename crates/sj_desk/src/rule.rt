@@ -1,6 +1,6 @@
 // The rule of the turn, and the kinds of step.
 ghost use Rattle.sj_desk.specs.Views.{first_view, dealing, dealt, joined, ended};
-ghost use Rattle.sj_desk.specs.Turns.{Fits, IsRuled, Tries, Marks, Leaves, Fills, Opens};
+ghost use Rattle.sj_desk.specs.Turns.{Fits, IsRuled, Tries, Marks, Leaves, Hears, Rings, Rests, Fills, Opens};
 
 use crate::view::{Opening, View};
 use atomic_table::{Join, Play, Seat, Shared, Split, TableRule};
@@ -36,6 +36,27 @@ impl<T> Play<Option<T>, View<T>> for Release {
     ghost then = { λ st m r n. Leaves m n };
 }
 
+/// The bell is heard.
+pub struct Hear;
+
+impl<T> Play<Option<T>, View<T>> for Hear {
+    ghost then = { λ st m r n. Hears m r n };
+}
+
+/// The bell is rung.
+pub struct Ring;
+
+impl<T> Play<Option<T>, View<T>> for Ring {
+    ghost then = { λ st m r n. Rings m n };
+}
+
+/// A look at the bell by a seat that rests.
+pub struct Rest;
+
+impl<T> Play<Option<T>, View<T>> for Rest {
+    ghost then = { λ st m r n. Rests m r n };
+}
+
 /// The first seat takes the empty slot.
 pub struct Fill;
 
@@ -68,7 +89,7 @@ impl<T> Join<View<T>> for Gather {
     ghost spent = { ended };
 }
 
-/// The turn word and the value's slot.
+/// The turn word, the bell's count and the value's slot.
 pub type Turn<T> = Shared<Option<T>, View<T>, Opening<T>, TurnRule>;
 
 /// The right of one seat to step.

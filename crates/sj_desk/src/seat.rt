@@ -7,11 +7,13 @@ use std::marker::Model;
 
 /// The right of one thread to take turns at a desk, and to change one row of its value.
 ///
-/// Contracts see its desk, its number, how many of its tries found the turn taken, the value that
-/// it left last, and in its turn the value that it found.
+/// Contracts see its desk, its number, how many of its tries found the turn taken, the count of the
+/// bell that it heard and hasn't rested on yet, the value that it left last, and in its turn the
+/// value that it found.
 #[derive(Drop)]
 pub struct DeskSeat<T> {
     pub(crate) number: u8,
+    pub(crate) heard: Option<u64>,
     pub(crate) ticket: Ticket<T>,
 }
 
@@ -23,7 +25,7 @@ impl<T> Model for DeskSeat<T> {
 
     ghost view = { λ s. seat_facts s.ticket.table_id s.number s.ticket.me.0 };
 
-    ghost invariant = { λ s. IsSeated s.number s.ticket.me };
+    ghost invariant = { λ s. IsSeated s.number s.heard s.ticket.me };
 }
 
 impl<T> DeskSeat<T> {

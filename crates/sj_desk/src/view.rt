@@ -7,6 +7,13 @@ pub struct Opening<T> {
     pub seats: u8,
 }
 
+/// What one seat counts: how many of its tries found the turn taken, and the bell's count that it
+/// heard and hasn't rested on yet.
+pub struct Tally {
+    pub refusals: u64,
+    pub heard: Option<u64>,
+}
+
 /// What one seat knows. No value of it is ever made.
 pub struct View<T> {
     pub opening: Option<Opening<T>>,
@@ -14,8 +21,7 @@ pub struct View<T> {
     pub rows: LinkedList<(u8, T)>,
     // In its turn, the value that it found.
     pub found: Option<T>,
-    // How many of its tries found the turn taken.
-    pub refusals: u64,
+    pub tally: Tally,
     // 0 and 1 while the desk is made, then 2.
     pub stage: u8,
 }

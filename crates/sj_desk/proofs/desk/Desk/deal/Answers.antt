@@ -1,7 +1,7 @@
-use Rattle.std.proofs.Common.{rules, ◌∙◌, ◌<◌, ap, None, length, arith}
+use Rattle.std.proofs.Common.{rules, refl, ◌∙◌, ◌<◌, ap, None, length, arith}
 use Rattle.std.proofs.lemmas.List.FromFn.{length-map-range_with_len}
 use Rattle.sj_desk.specs.Seats.{new_seat}
-use Rattle.sj_desk.specs.Views.{opening_of}
+use Rattle.sj_desk.specs.Views.{no_tally, opening_of}
 use Rattle.sj_desk.specs.Turns.{Fits}
 use Rattle.sj_desk.proofs.Ends.{deals_at, dealer_next, dealt_me, dealt_facts, dealt_list}
 use Rattle.sj_desk.proofs.desk.Desk.deal.Goals as goal
@@ -18,7 +18,8 @@ invariant_of-push_reserved g c =
       opening = opening_of c.args.self.now;
       left = c.args.self.now.opening;
       found = None;
-      refusals = 0;
+      tally = no_tally;
+      hears = refl;
       me_is = dealt_me c.args.self.now c.loop-number.number _ _ below c.loop-number.invariant.dealer c.split_seat-ticket.ensures.4;
     }
 

@@ -14,7 +14,7 @@ pub loop-seat-init : goal.loop-seat-init
 loop-seat-init g c =
     let d = c.args.self.now in
     let waits = All-pop (IsWaiting d) _ _ (Some c.in-Some.first) c.in-Some.ensures.items c.requires.waiting in
-    let t = taken _ _ _ _ _ d c.in-Some.first c.first.invariant c.first.view_is c.self.view_is waits.1.0 waits.1.1 in
+    let t = taken _ _ _ _ _ _ d c.in-Some.first c.first.invariant c.first.view_is c.self.view_is waits.1.0 waits.1.1 in
     record {
       table = t.table;
       idle = t.idle;
@@ -26,7 +26,7 @@ pub join_seat-requires : goal.join_seat-requires
 join_seat-requires g c =
     let d = c.args.self.now in
     let waits = All-pop (IsWaiting d) _ _ (Some c.in-Some-pop.seat) c.in-Some-pop.ensures.items c.loop-seat.invariant.waiting in
-    let t = taken _ _ _ _ _ d c.in-Some-pop.seat c.seat.invariant c.seat.view_is c.self.view_is waits.1.0 waits.1.1 in
+    let t = taken _ _ _ _ _ _ d c.in-Some-pop.seat c.seat.invariant c.seat.view_is c.self.view_is waits.1.0 waits.1.1 in
     let table = ap (λ (x : DeskFacts g.row.T.Denot). x.table) (sym c.self.view_is) in (
       c.loop-seat.invariant.table ∙ table,
       t.table ∙ table,
@@ -39,7 +39,7 @@ pub loop-seat-preserved : goal.loop-seat-preserved
 loop-seat-preserved g c =
     let d = c.args.self.now in
     let waits = All-pop (IsWaiting d) _ _ (Some c.in-Some-pop.seat) c.in-Some-pop.ensures.items c.loop-seat.invariant.waiting in
-    let t = taken _ _ _ _ _ d c.in-Some-pop.seat c.seat.invariant c.seat.view_is c.self.view_is waits.1.0 waits.1.1 in
+    let t = taken _ _ _ _ _ _ d c.in-Some-pop.seat c.seat.invariant c.seat.view_is c.self.view_is waits.1.0 waits.1.1 in
     record {
       table = c.join_seat.ensures.0 ∙ c.loop-seat.invariant.table;
       idle = joined_idle d _ _ c.seat.inside.ticket.me.0 c.loop-seat.invariant.idle c.join_seat.ensures.2;
