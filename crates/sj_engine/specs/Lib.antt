@@ -1,1 +1,6 @@
 pub mod Operands
+pub mod Outcome
+pub mod Picking
+pub mod Stage
+pub mod Stepping
+pub mod Turn
