@@ -1,4 +1,6 @@
 mod Answering
 mod KernelFacts
 mod OperandLists
+mod OtherRows
 mod ResultLists
+mod Turning

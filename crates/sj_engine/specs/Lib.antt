@@ -1,6 +1,10 @@
+pub mod Leaving
 pub mod Operands
 pub mod Outcome
 pub mod Picking
+pub mod Placing
 pub mod Stage
+pub mod Starting
 pub mod Stepping
 pub mod Turn
+pub mod Working

@@ -2,10 +2,15 @@
 #![tactic(auto)]
 
 mod ending;
+pub mod engine;
 mod kernel;
 mod moving;
 mod operands;
 mod picking;
+mod placing;
 mod results;
 pub mod shared_board;
+mod starting;
 mod stepping;
+pub mod turns;
+pub mod work;
