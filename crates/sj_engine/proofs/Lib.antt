@@ -1,6 +1,9 @@
 mod Answering
+mod BoardTurns
+mod ClaimTurns
 mod KernelFacts
 mod OperandLists
 mod OtherRows
+mod OwnRows
 mod ResultLists
 mod Turning

@@ -30,7 +30,7 @@ use Rattle.sj_machine.specs.Agrees.{idle}
 use Rattle.sj_machine.specs.Board.{BoardState, empty_hand, hand_in, hand_of, has_event, transfer_of, with_hand}
 use Rattle.sj_machine.specs.BoardRow.{BoardKey, BoardRow, arrays_for, is_event_of, key_of, row_for, row_of_number}
 use Rattle.sj_machine.specs.BoardSound.{IsSoundBoard}
-use Rattle.sj_machine.specs.Sparing.{EventsSpareUsed, SparesUsed, Spares}
+use Rattle.sj_machine.specs.Sparing.{SparesUsed, Spares}
 use Rattle.sj_machine.specs.Standing.{CanHappen, Standing, state, with_event}
 use Rattle.sj_machine.specs.declared.hand.Hand.{Hand}
 use Rattle.sj_engine.specs.Stage.{BeginsWith, KeepsEvents, row_in}
@@ -179,8 +179,8 @@ module _ {D : Type 0} (faults mismatches : D → ℕ) (w : Worker) where
     the-state = record { proper = sound.run.run.proper; machine = sound.run.run.machine; coherent = sound.run.coherent }
 
     -- an event of the worker, with its hand or not
-    pub turn-event : (e : Event) (b' : BoardState D) → IsBy b.run.machine (state b.run) w e → CanHappen b.run e → EventsSpareUsed b.run → b'.run ≡ with_event b.run e → ((v : Worker) → v ≢ w → hand_of b' v ≡ hand_of b v) → (b'.fault ≡ None → b.fault ≡ None) → IsTurnOf faults mismatches w b b'
-    turn-event e b' by can spare run hands fault = record {
+    pub turn-event : (e : Event) (b' : BoardState D) → IsBy b.run.machine (state b.run) w e → CanHappen b.run e → Spares b.run e b'.run → b'.run ≡ with_event b.run e → ((v : Worker) → v ≢ w → hand_of b' v ≡ hand_of b v) → (b'.fault ≡ None → b.fault ≡ None) → IsTurnOf faults mismatches w b b'
+    turn-event e b' by can spares run hands fault = record {
       key = ap (λ (r : Standing D). let k : BoardKey D = record { program = r.program; machine = r.machine; opened = r.opened } in k) run;
       others = others;
       events = subst (λ (r : Standing D). BeginsWith (filter (is_event_of w.0) r.trace) (row_in b w).events) (sym run) (events-more w.0 b.run.trace e);
@@ -200,13 +200,16 @@ module _ {D : Type 0} (faults mismatches : D → ℕ) (w : Worker) where
         step : Step p m (state b.run) e s'
         step = subst (λ (z : State). Step p m (state b.run) e z) (sym (state_of-more p m b.run.trace e)) can
 
+        spared : SparesUsed p m (state b.run) e s'
+        spared = subst (λ (r : Standing D). SparesUsed p m (state b.run) e (state r)) run spares
+
         others : (n : ℕ) → n ≢ w.0 → row_of_number b' n ≡ row_of_number b n
         others n other =
             let v = a_worker n in
             let differs : v ≢ w = λ same. other (ap (λ (x : Worker). x.0) same) in
             ap (λ (r : Standing D). row_of_parts r.program r.machine (state r) v (hand_of b' v) r.trace) run
             ∙ ap (λ (h : Hand). row_of_parts p m s' v h (b.run.trace ++ e ∷ [])) (hands v differs)
-            ∙ row-kept p m (state b.run) s' v (hand_of b v) b.run.trace (b.run.trace ++ e ∷ []) (Step-stays p m (state b.run) the-state v w differs e s' by step (spare e can))
+            ∙ row-kept p m (state b.run) s' v (hand_of b v) b.run.trace (b.run.trace ++ e ∷ []) (Step-stays p m (state b.run) the-state v w differs e s' by step spared)
             (λ u has. sound.inside.hands_agree.has v u has) (events-other n b.run.trace e (by-other m (state b.run) w v e differs by))
 
 -- the board is sound for the desk after a turn
