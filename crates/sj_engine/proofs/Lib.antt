@@ -1,4 +1,12 @@
 mod Answering
+mod BoardTurns
+mod ClaimTurns
 mod KernelFacts
 mod OperandLists
+mod OtherRows
+mod OwnRows
 mod ResultLists
+mod Turning
+pub mod FirstFit
+pub mod Outcomes
+pub mod Seating

@@ -1,5 +1,5 @@
 -- How far a worker is, as its row tells: what it has between two of its turns.
-use Rattle.std.specs.Prelude.{◌≡◌, ◌≢◌, ◌<◌, ℕ, false, true, Option, Some, None, List, IfSome, IsSomeAnd, map, ◌++◌}
+use Rattle.std.specs.Prelude.{◌≡◌, ◌≢◌, ◌<◌, ℕ, false, true, Option, Some, None, List, IfSome, IsSomeAnd, length, map, ◌++◌}
 use Rattle.std.specs.List.{AllZip}
 use Rattle.sj_base.specs.declared.ids.Cell.{Cell}
 use Rattle.sj_base.specs.declared.ids.Task.{Task}
@@ -68,6 +68,7 @@ pub record HoldShares (p : Program) (w : Worker) (t : Task) (r : BoardRow) (slot
   pub shares : arrays slots ≡ held_for p w holds (read_operands p t)
 
 pub record AreLent {D : Type 0} (held : D → Option (List ℕ)) (k : BoardKey D) (w : Worker) (t : Task) (r : BoardRow) (slots : List Slot) : Type 0 where
+  pub inside : t.0 < length k.program.tasks
   pub shares : AreSharesOf k.program t slots
   pub told : AllTell held k.opened → HoldShares k.program w t r slots
 
