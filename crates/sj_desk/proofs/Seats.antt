@@ -87,18 +87,15 @@ module _ {T : Type 0} where
       (λ free. record { opening = k; left = left; found = None; tally = c; hears = hears; me_is = marked.free free ∙ e })
       (λ busy. busy_seated number heard left c k m n hears e (marked.busy busy))
 
-  pub hearing_seated : (number : ℕ) (left : T) (found : Option T) (c : Tally) (k : Opening T) (m n : Me (Option T) (View T)) (r : ℕ) → m ≡ seated k number left found c → Hears m r n → IsSeated number (Some r) n
+  pub hearing_seated : (number : ℕ) (left : T) (found : Option T) (c : Tally) (k : Opening T) (m n : Me (Option T) (View T)) (r : ℕ) → m ≡ seated k number left found c → Hears 1 m r n → IsSeated number (Some r) n
   hearing_seated number left found c k m n r e heard = record {
     opening = k;
     left = left;
     found = found;
     tally = hearing_tally c (Some r);
     hears = refl;
-    me_is = heard ∙ ap (λ (x : Me (Option T) (View T)). (hearing_view x.0 (Some r), x.1)) e;
+    me_is = heard.1 ∙ ap (λ (x : Me (Option T) (View T)). (hearing_view x.0 (Some r), x.1)) e;
   }
-
-  pub ringing_seated : (number : ℕ) (heard : Option ℕ) (m n : Me (Option T) (View T)) → IsSeated number heard m → Rings m n → IsSeated number heard n
-  ringing_seated number heard m n sat e = subst (IsSeated number heard) (sym e) sat
 
   pub rested_seated : (number : ℕ) (left : T) (c : Tally) (k : Opening T) (m n : Me (Option T) (View T)) → m ≡ seated k number left None c → n ≡ (hearing_view m.0 None, m.1) → IsSeated number None n
   rested_seated number left c k m n e rung = record {
@@ -152,25 +149,25 @@ module _ {T R : Type 0} (row_of : T → ℕ → R) (fits : Opening T → T → T
       (marks row_of fits k id number left c))
 
   pub hears_at : (slots id number : ℕ) (left : T) (found : Option T) (c : Tally) (me : Me (Option T) (View T)) → slots ≡ 1 → me ≡ seated k number left found c
-      → Allows (IsRuled row_of fits k) slots id me 1 (λ n. n) (λ r n. Hears me r n)
+      → Allows (IsRuled row_of fits k) slots id me 1 (λ n. n) (λ r n. Hears 1 me r n)
   hears_at slots id number left found c me one e =
-      subst (λ x. Allows (IsRuled row_of fits k) x id me 1 (λ n. n) (λ r n. Hears me r n)) (sym one)
-      (subst (λ (y : Me (Option T) (View T)). Allows (IsRuled row_of fits k) 1 id y 1 (λ n. n) (λ r n. Hears y r n)) (sym e)
+      subst (λ x. Allows (IsRuled row_of fits k) x id me 1 (λ n. n) (λ r n. Hears 1 me r n)) (sym one)
+      (subst (λ (y : Me (Option T) (View T)). Allows (IsRuled row_of fits k) 1 id y 1 (λ n. n) (λ r n. Hears 1 y r n)) (sym e)
       (hears row_of fits k id number left found c))
 
   pub rings_at : (slots id number : ℕ) (left : T) (found : Option T) (c : Tally) (me : Me (Option T) (View T)) → slots ≡ 1 → me ≡ seated k number left found c
-      → Allows (IsRuled row_of fits k) slots id me 1 (λ n. (n + 1) % 2 ^ 64) (λ _ n. Rings me n)
+      → Allows (IsRuled row_of fits k) slots id me 1 (λ n. (n + 1) % 2 ^ 64) (λ _ n. Rings 1 me n)
   rings_at slots id number left found c me one e =
-      subst (λ x. Allows (IsRuled row_of fits k) x id me 1 (λ n. (n + 1) % 2 ^ 64) (λ _ n. Rings me n)) (sym one)
-      (subst (λ (y : Me (Option T) (View T)). Allows (IsRuled row_of fits k) 1 id y 1 (λ n. (n + 1) % 2 ^ 64) (λ _ n. Rings y n)) (sym e)
+      subst (λ x. Allows (IsRuled row_of fits k) x id me 1 (λ n. (n + 1) % 2 ^ 64) (λ _ n. Rings 1 me n)) (sym one)
+      (subst (λ (y : Me (Option T) (View T)). Allows (IsRuled row_of fits k) 1 id y 1 (λ n. (n + 1) % 2 ^ 64) (λ _ n. Rings 1 y n)) (sym e)
       (rings row_of fits k id number left found c))
 
   pub rests_at : (slots id number : ℕ) (left : T) (c : Tally) (me : Me (Option T) (View T)) → slots ≡ 1 → is_some c.heard ≡ true → me ≡ seated k number left None c
-      → Allows (IsRuled row_of fits k) slots id me 1 (λ n. n) (λ r n. Rests me r n)
+      → Allows (IsRuled row_of fits k) slots id me 1 (λ n. n) (λ r n. Rests 1 me r n)
   rests_at slots id number left c me one hears e =
       let h = some_of c.heard hears in
-      subst (λ x. Allows (IsRuled row_of fits k) x id me 1 (λ n. n) (λ r n. Rests me r n)) (sym one)
-      (subst (λ (y : Me (Option T) (View T)). Allows (IsRuled row_of fits k) 1 id y 1 (λ n. n) (λ r n. Rests y r n)) (sym (e ∙ ap (λ o. seated k number left None (tally c.refusals o)) h.1))
+      subst (λ x. Allows (IsRuled row_of fits k) x id me 1 (λ n. n) (λ r n. Rests 1 me r n)) (sym one)
+      (subst (λ (y : Me (Option T) (View T)). Allows (IsRuled row_of fits k) 1 id y 1 (λ n. n) (λ r n. Rests 1 y r n)) (sym (e ∙ ap (λ o. seated k number left None (tally c.refusals o)) h.1))
       (rests row_of fits k id number left c.refusals h.0))
 
   pub leaves_at : (slots id number : ℕ) (left found value : T) (c : Tally) (me : Me (Option T) (View T)) → slots ≡ 1 → fits k value

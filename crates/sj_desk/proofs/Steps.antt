@@ -186,19 +186,19 @@ module _ {T R : Type 0} (row_of : T → ℕ → R) (fits : Opening T → T → T
             record { stage = old.stage; rows = old.rows; turn = λ y e. let t = old.turn y e in ((λ z. t.0 (sym word ∙ z)), t.1, t.2) });
       }
 
-  pub hears : (id number : ℕ) (left : T) (found : Option T) (c : Tally) → Allows Ruled 1 id (seated k number left found c) 1 (λ n. n) (λ r n. Hears (seated k number left found c) r n)
+  pub hears : (id number : ℕ) (left : T) (found : Option T) (c : Tally) → Allows Ruled 1 id (seated k number left found c) 1 (λ n. n) (λ r n. Hears 1 (seated k number left found c) r n)
   hears id number left found c s ruled wide at _ =
       let o = open_now s id (view (Some k) ((number, left) ∷ []) found c 2) ruled at refl in
       let n = slice_index s.words 1 in
-      (view (Some k) ((number, left) ∷ []) found (hearing_tally c (Some n)) 2, keeps, tt, inr (inr (at_bell s o id number left found c (hearing_tally c (Some n)) n at)), refl)
+      (view (Some k) ((number, left) ∷ []) found (hearing_tally c (Some n)) 2, keeps, tt, inr (inr (at_bell s o id number left found c (hearing_tally c (Some n)) n at)), (refl, refl))
 
-  pub rings : (id number : ℕ) (left : T) (found : Option T) (c : Tally) → Allows Ruled 1 id (seated k number left found c) 1 (λ n. (n + 1) % 2 ^ 64) (λ _ n. Rings (seated k number left found c) n)
+  pub rings : (id number : ℕ) (left : T) (found : Option T) (c : Tally) → Allows Ruled 1 id (seated k number left found c) 1 (λ n. (n + 1) % 2 ^ 64) (λ _ n. Rings 1 (seated k number left found c) n)
   rings id number left found c s ruled wide at _ =
       let o = open_now s id (view (Some k) ((number, left) ∷ []) found c 2) ruled at refl in
-      (view (Some k) ((number, left) ∷ []) found c 2, keeps, tt, inr (inr (at_bell s o id number left found c c ((slice_index s.words 1 + 1) % 2 ^ 64) at)), refl)
+      (view (Some k) ((number, left) ∷ []) found c 2, keeps, tt, inr (inr (at_bell s o id number left found c c ((slice_index s.words 1 + 1) % 2 ^ 64) at)), (refl, refl))
 
   pub rests : (id number : ℕ) (left : T) (refusals heard : ℕ)
-      → let m = seated k number left None (tally refusals (Some heard)) in Allows Ruled 1 id m 1 (λ n. n) (λ r n. Rests m r n)
+      → let m = seated k number left None (tally refusals (Some heard)) in Allows Ruled 1 id m 1 (λ n. n) (λ r n. Rests 1 m r n)
   rests id number left refusals heard s ruled wide at _ =
       let c = tally refusals (Some heard) in
       let o = open_now s id (view (Some k) ((number, left) ∷ []) None c 2) ruled at refl in
@@ -209,14 +209,14 @@ module _ {T R : Type 0} (row_of : T → ℕ → R) (fits : Opening T → T → T
         keeps,
         tt,
         inr (inr (at_bell s o id number left None c c n at)),
-        record { still = λ _. refl; rung = λ ne. absurd (ne (ap Some same)) },
+        record { bell = refl; still = λ _. refl; rung = λ ne. absurd (ne (ap Some same)) },
       ))
       (λ other. (
         view (Some k) ((number, left) ∷ []) None (hearing_tally c None) 2,
         keeps,
         tt,
         inr (inr (at_bell s o id number left None c (hearing_tally c None) n at)),
-        record { still = λ e. absurd (other (same_Some heard n e)); rung = λ _. refl },
+        record { bell = refl; still = λ e. absurd (other (same_Some heard n e)); rung = λ _. refl },
       ))
 
   released : (s : State (Option T) (View T)) (o : IsOpen row_of fits k s) (id number : ℕ) (left found value : T) (c : Tally) → length s.homes ≡ 1 → fits k value

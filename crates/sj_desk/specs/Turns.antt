@@ -85,15 +85,16 @@ module _ {T : Type 0} where
   abbrev pub Opens : Me (Option T) (View T) → Me (Option T) (View T) → Type 0
   Opens m n = n ≡ (at_stage 2 m.0, rest m.1)
 
-  -- the seat hears the bell
-  abbrev pub Hears : Me (Option T) (View T) → ℕ → Me (Option T) (View T) → Type 0
-  Hears m count n = n ≡ (hearing_view m.0 (Some count), m.1)
+  -- the seat hears the bell, which is the word 1
+  abbrev pub Hears : ℕ → Me (Option T) (View T) → ℕ → Me (Option T) (View T) → Type 0
+  Hears word m count n = (word ≡ 1) × (n ≡ (hearing_view m.0 (Some count), m.1))
 
   -- a ring of the bell, which changes no seat
-  abbrev pub Rings : Me (Option T) (View T) → Me (Option T) (View T) → Type 0
-  Rings m n = n ≡ m
+  abbrev pub Rings : ℕ → Me (Option T) (View T) → Me (Option T) (View T) → Type 0
+  Rings word m n = (word ≡ 1) × (n ≡ m)
 
   -- a look at the bell by a seat that rests: it rests on while the count is the one that it heard
-  pub record Rests (m : Me (Option T) (View T)) (count : ℕ) (n : Me (Option T) (View T)) : Type 0 where
+  pub record Rests (word : ℕ) (m : Me (Option T) (View T)) (count : ℕ) (n : Me (Option T) (View T)) : Type 0 where
+    pub bell : word ≡ 1
     pub still : m.0.tally.heard ≡ Some count → n ≡ m
     pub rung : m.0.tally.heard ≢ Some count → n ≡ (hearing_view m.0 None, m.1)

@@ -9,11 +9,11 @@
 //!
 //! # How the turn is kept
 //!
-//! The *turn word* is 0 while the turn is free, 1 while it is taken, and 2 while it is taken and
+//! The table has two words and one slot. The *turn word* is 0 while the turn is free, 1 while it is taken, and 2 while it is taken and
 //! some seat may be asleep. The value lies in one *slot*. Each seat has a *ticket*, without
 //! bytes, which carries what the seat knows: the opening value, the rows that it answers for,
 //! each by its number and the value in which the seat left it, how many of its tries found the
-//! turn taken, and in its turn the value that it found. The seat whose ticket has found a value
+//! turn taken, the count of the bell that it heard, and in its turn the value that it found. The seat whose ticket has found a value
 //! is the *holder*.
 //!
 //! Between any two steps these hold:
@@ -25,6 +25,17 @@
 //! - A ticket that was joined to another answers for nothing, and is never the holder.
 //! - The word tells that the turn is taken, and nothing rests on what else it tells.
 //!
+//! # The bell
+//!
+//! A thread that finds nothing to do in its turn must sleep, and must not miss what another's turn
+//! brings. The second word, the *bell*, counts rings. [`Desk::listen`] reads it in the turn in
+//! which the thread looked, [`Desk::rest`] sleeps after that turn for as long as it is still at the
+//! count that was read, and [`Desk::ring`] raises it, in or after a turn that brings something, and
+//! wakes all that rest. Whoever brings something has the turn either before the one that looked,
+//! and then it was seen, or after it, and then the bell is rung at another count than the one that
+//! was read: nothing is lost between looking and sleeping. A seat may rest only once it has
+//! listened, and never in its turn.
+//!
 //! # The kinds of step
 //!
 //! | Step | Changes the ticket of |
@@ -35,6 +46,10 @@
 //! | a compare-exchange that takes the turn | the seat, which is now the holder |
 //! | a compare-exchange that finds the turn taken, to take it or to mark that a seat sleeps | the seat: one more try |
 //! | a compare-exchange that would mark that a seat sleeps, and finds the turn free | nobody |
+//! | a load of the bell in the seat's turn | the seat: it has heard that count |
+//! | a ring of the bell, which adds one to it | nobody |
+//! | a load of the bell by a seat that rests, which finds the count that it heard | nobody |
+//! | a load of the bell by a seat that rests, which finds another count | the seat: its rest is over |
 //! | the value is moved out of the slot, or into it, by the holder | nobody |
 //! | the swap that gives the turn back | the holder: its row is that of the value that it left |
 //! | two tickets are joined when the desk closes | both: one answers for the rows of both |
@@ -44,7 +59,8 @@
 //! What a step tells its seat can't name the key that the table was made with, nor another seat's
 //! ticket. So the opening value is a part of each ticket, and each call asks that the seat is of
 //! this desk. No clause says that a seat is ever served, in which order seats are, how long one
-//! waits, or that a seat which sleeps wakes: [`Desk::enter`] keeps its promise if it returns.
+//! waits, or that a seat which sleeps wakes: [`Desk::enter`] and [`Desk::rest`] keep their promise if
+//! they return. Of a rest it is said that it isn't over before the bell was found at another count.
 #![tactic(auto)]
 
 mod desk;

@@ -40,21 +40,21 @@ impl<T> Play<Option<T>, View<T>> for Release {
 pub struct Hear;
 
 impl<T> Play<Option<T>, View<T>> for Hear {
-    ghost then = { λ st m r n. Hears m r n };
+    ghost then = { λ st m r n. Hears st.word m r n };
 }
 
 /// The bell is rung.
 pub struct Ring;
 
 impl<T> Play<Option<T>, View<T>> for Ring {
-    ghost then = { λ st m r n. Rings m n };
+    ghost then = { λ st m r n. Rings st.word m n };
 }
 
 /// A look at the bell by a seat that rests.
 pub struct Rest;
 
 impl<T> Play<Option<T>, View<T>> for Rest {
-    ghost then = { λ st m r n. Rests m r n };
+    ghost then = { λ st m r n. Rests st.word m r n };
 }
 
 /// The first seat takes the empty slot.

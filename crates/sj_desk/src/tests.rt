@@ -10,6 +10,8 @@ use std::thread;
 use std::thread::Threads;
 use std::time::{Clock, Duration};
 
+mod sleep;
+
 // A journal that several write: its title is the key, and the row of a seat is that seat's entries.
 #[derive(Drop)]
 struct Journal {

@@ -1,5 +1,5 @@
 -- The bytes of headers and elements: how many there are, and that they say what they are of.
-use Rattle.std.proofs.Common.{◌≡◌, ℕ, zero, suc, ◌+◌, ◌-◌, ◌*◌, ◌^◌, ◌<◌, ◌≤◌, inl, inr, ℤ, pos, negsuc, List, [], ◌∷◌, ◌++◌, length, take, drop, get_or, slice_range, refl, sym, ap, ◌∙◌, subst, append_assoc, arith, Fits, w8, w64, of_z, to_z, length-append, length-take, length-drop}
+use Rattle.std.proofs.Common.{◌≡◌, ℕ, suc, ◌+◌, ◌-◌, ◌*◌, ◌^◌, ◌<◌, ◌≤◌, inl, inr, ℤ, pos, negsuc, List, [], ◌∷◌, ◌++◌, length, take, drop, get_or, slice_range, refl, sym, ap, ◌∙◌, subst, append_assoc, arith, Fits, w8, w64, of_z, to_z, length-append, length-take, length-drop}
 use Rattle.std.specs.Prelude.{All, FitsSigned}
 use Rattle.std.specs.Int.{from_le_bytes}
 use Rattle.std.proofs.Math.Facts.{Fits-lt-pow, Fits-of_lt, sfits_to_z}

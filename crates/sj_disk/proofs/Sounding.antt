@@ -1,5 +1,5 @@
 -- What a store and a fetch leave of a set of disks.
-use Rattle.std.proofs.Common.{◌≡◌, ◌≢◌, ℕ, zero, suc, ◌+◌, ◌-◌, ◌*◌, ◌^◌, ◌<◌, ◌≤◌, ◌⊎◌, inl, inr, Bool, true, false, ℤ, List, [], ◌∷◌, ◌++◌, length, take, drop, get_or, slice_range, map, w64, refl, sym, ap, ◌∙◌, subst, arith, Option, Some, None, Result, Ok, Err, length-append}
+use Rattle.std.proofs.Common.{◌≡◌, ◌≢◌, ℕ, zero, suc, ◌+◌, ◌-◌, ◌^◌, ◌<◌, ◌≤◌, ◌⊎◌, inl, inr, Bool, true, false, ℤ, List, [], ◌∷◌, ◌++◌, length, take, drop, get_or, slice_range, map, w64, refl, sym, ap, ◌∙◌, subst, arith, Option, Some, None, Result, Ok, Err, length-append}
 use Rattle.std.specs.Prelude.{slice_get, slice_set, option_map, is_some, All, FitsSigned, IfErr, IfSome, IsSome, IsSomeAnd, IsTrue, is_ok, OnOk}
 use Rattle.std.proofs.Math.Seq.{take-append_seam}
 use Rattle.std.proofs.lemmas.Bool.{cases_eq, cases_lt}
@@ -15,12 +15,12 @@ use Rattle.sj_disk.specs.declared.header.Header.{Header}
 use Rattle.sj_disk.specs.declared.directory.LastStore.{LastStore}
 use Rattle.sj_disk.specs.Block.{block, block_bytes, element_bytes, header, header_bytes}
 use Rattle.sj_disk.specs.Calls.{Fetches, Stores}
-use Rattle.sj_disk.specs.Directory.{AreApart, DiskState, IsLaidOut, disk_state, extent_of, last_store, with_store}
+use Rattle.sj_disk.specs.Directory.{DiskState, IsLaidOut, disk_state, extent_of, last_store, with_store}
 use Rattle.sj_disk.specs.declared.refusal.DiskRefusal.{DiskRefusal}
 use Rattle.sj_disk.specs.declared.refusal.DiskRefusal.TheVariants.{DiskFault}
 use Rattle.sj_disk.specs.Holding.{ChangesAt, CountsStay, HaveHeaders, Holds, KeepsBlock, Tells}
 use Rattle.sj_disk.specs.Refusals.{is_damage, is_fault, RefusesFor}
-use Rattle.sj_disk.specs.Sound.{AreFilled, IsSound}
+use Rattle.sj_disk.specs.Sound.{IsSound}
 use Rattle.sj_disk.specs.Transfers.{Looks, Writes}
 use Rattle.sj_disk.proofs.Bytes.{element_bytes-same, length-element_bytes, length-header_bytes}
 

@@ -1,7 +1,6 @@
 -- A block: the bytes that a disk keeps of a cell.
-use Rattle.std.specs.Prelude.{ℕ, ◌+◌, ◌*◌, ℤ, List, ◌++◌, length, flat_map, Option}
+use Rattle.std.specs.Prelude.{ℕ, ◌+◌, ◌*◌, ℤ, List, ◌++◌, length, flat_map}
 use Rattle.std.specs.Int.{w64, to_le_bytes, cast_unsigned}
-use Rattle.sj_edge.specs.Held.{GivesHeld}
 use Rattle.sj_disk.specs.declared.header.Header.{Header}
 
 -- the eight bytes of a number, the lowest first

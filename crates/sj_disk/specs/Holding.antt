@@ -1,11 +1,11 @@
 -- What the disks of a set hold, and how a store or a fetch changes them. The function `held` is the
 -- member of that name of the disks' type.
-use Rattle.std.specs.Prelude.{◌≡◌, ◌≢◌, ℕ, ◌+◌, ◌≤◌, List, length, Option, Some, None, IsSome, IsTrue, slice_get, map}
-use Rattle.sj_edge.specs.Held.{Fills, GivesHeld}
+use Rattle.std.specs.Prelude.{◌≡◌, ◌≢◌, ℕ, ◌+◌, ◌≤◌, List, length, Option, Some, IsSome, IsTrue, slice_get, map}
+use Rattle.sj_edge.specs.Held.{GivesHeld}
 use Rattle.sj_disk.specs.declared.directory.Extent.{Extent}
 use Rattle.sj_disk.specs.declared.directory.LastStore.{LastStore}
-use Rattle.sj_disk.specs.Block.{block, block_bytes, header, header_bytes}
-use Rattle.sj_disk.specs.Directory.{extent_of, IsLaidOut}
+use Rattle.sj_disk.specs.Block.{block_bytes, header, header_bytes}
+use Rattle.sj_disk.specs.Directory.{extent_of}
 
 -- of the disks that at place d alone changed, and P says how
 pub record ChangesAt {D : Type 0} (d : ℕ) (P : D → D → Type 0) (old new : List D) : Type 0 where

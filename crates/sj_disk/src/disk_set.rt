@@ -1,6 +1,6 @@
 //! The disks that evicted tiles are kept on.
 
-ghost use Rattle.std.specs.Prelude.{◌≡◌, ℕ, ◌↔◌, ◌+◌, ◌^◌, ◌<◌, ◌≤◌, ◌++◌, Some, None, Ok, Err, [], All, FitsSigned, IsSomeAnd, IfSome, IfOk, IfErr, OnOk, OnErr, true, false, length, map, replicate, slice_index_or};
+ghost use Rattle.std.specs.Prelude.{◌≡◌, ℕ, ◌↔◌, ◌+◌, ◌^◌, ◌<◌, ◌≤◌, ◌++◌, Some, None, Ok, Err, [], All, FitsSigned, IsSomeAnd, IfSome, IfOk, IfErr, OnOk, OnErr, true, false, length, map, option_map, replicate, slice_index_or};
 ghost use Rattle.std.specs.Int.{w64};
 ghost use Rattle.sj_disk.specs.Block.{block_bytes, element_bytes, header_bytes};
 ghost use Rattle.sj_disk.specs.Calls.{Fetches, Reserves, Stores};
@@ -170,6 +170,13 @@ impl<D: Disk> DiskSet<D> {
             self.now.directory }
     {
         extent_of(&self.directory, cell)
+    }
+
+    /// The disk on which a cell's block lies, where it has one. Constant time.
+    pub fn disk_of(&self, cell: Cell) -> Option<DiskNo>
+        ensures { result ≡ option_map (λ e. e.disk) (extent_of self.now.directory cell.0) }
+    {
+        extent_of(&self.directory, cell).map(|extent| extent.disk)
     }
 
     /// Writes a tile to the block of its cell, with the cell's write count. Linear in the tile;

@@ -2,7 +2,7 @@
 use Rattle.std.proofs.Common.{◌≡◌, ℕ, ◌+◌, ◌-◌, ◌*◌, ◌/◌, ◌%◌, ◌<◌, ◌≤◌, zero, suc, Bool, true, false, cond, nat_lt, ℤ, pos, ◌+ℤ◌, ◌*ℤ◌, List, [], ◌∷◌, ◌++◌, length, get_or, take, drop, min, w64, to_z, of_z, FitsSigned, sym, ap, ◌∙◌, ⊎_elim, arith}
 use Rattle.std.specs.List.{between}
 use Rattle.std.proofs.lemmas.Int.{ints, int_wrap_fits, int_wrap-add_left, to_z-of_z}
-use Rattle.std.proofs.lemmas.List.{length-take, length-drop, length-append, get_or-take, get_or-drop, get_or_append_left, get_or-append_right}
+use Rattle.std.proofs.lemmas.List.{length-take, length-drop, length-append, get_or-take, get_or-drop, get_or_append_left, get_or-append_right, take_at, drop_at, drop_all, drop-drop, append-nil}
 use Rattle.std.proofs.lemmas.List.Edits.{get_or-between, length-between}
 use Rattle.std.proofs.lemmas.Nat.{mod_below, mul-add-lt}
 use Rattle.std.proofs.lemmas.Bool.{cases_lt}
@@ -14,13 +14,13 @@ use Rattle.sj_base.specs.Window.{is_within}
 use Rattle.sj_codelet.specs.Listing.{listing}
 use Rattle.sj_codelet.proofs.Integers.{int_add-zero}
 use Rattle.sj_codelet.proofs.Sums.{same_sum, sum_below_more}
-use Rattle.sj_codelet.proofs.Filling.{listing_from_elements, at-listing, length-listing, same_listing}
+use Rattle.sj_codelet.proofs.Filling.{begun, listing_from_elements, at-listing, length-listing, same_listing}
 use Rattle.sj_kernels.proofs.Places.{passed_start}
 use Rattle.sj_kernels.specs.declared.product.Span.{Span}
 use Rattle.sj_kernels.specs.Panels.{column_sum, part, terms, with_terms, with_terms_within, row_within}
 use Rattle.sj_kernels.specs.Rows.{row_product}
 use Rattle.sj_kernels.specs.declared.product.Sides.{Sides}
-use Rattle.sj_codelet.proofs.Rows.{grid_at}
+use Rattle.sj_codelet.proofs.Rows.{grid_at, listing-add}
 
 -- a column's sum before the first term, begun at an element that was read
 pub column_none : (n j : ℕ) (a b : List ℤ) (start : ℤ) → FitsSigned w64 start → to_z w64 (of_z w64 start) ≡ column_sum n a b j 0 start
@@ -55,6 +55,47 @@ block_is n j l a b c v w x h ev ew ex =
     three (λ q. column_sum n a b (j + q) (length a) (at c q)) v w x
     (ev ∙ whole 0 j ∙ ap (λ (p : ℕ). column_sum n a b p (length a) (at c 0)) first)
     (ew ∙ whole 1 (j + 1)) (ex ∙ whole 2 (j + 2))
+
+two : (f : ℕ → ℤ) (v w : ℤ) → v ≡ f 0 → w ≡ f 1 → v ∷ w ∷ [] ≡ listing 2 f
+unfolding listing
+two f v w ev ew = cc
+
+-- two columns side by side
+pub pair_is : (n j l : ℕ) (a b c : List ℤ) (v w : ℤ) → l ≡ length a
+    → v ≡ column_sum n a b j l (at c 0) → w ≡ column_sum n a b (j + 1) l (at c 1)
+    → v ∷ w ∷ [] ≡ listing 2 (λ q. column_sum n a b (j + q) (length a) (at c q))
+pair_is n j l a b c v w h ev ew =
+    let whole = λ (q : ℕ) (p : ℕ). ap (λ (k : ℕ). column_sum n a b p k (at c q)) h in
+    let first : j ≡ j + 0 = omega arith in
+    two (λ q. column_sum n a b (j + q) (length a) (at c q)) v w
+    (ev ∙ whole 0 j ∙ ap (λ (p : ℕ). column_sum n a b p (length a) (at c 0)) first)
+    (ew ∙ whole 1 (j + 1))
+
+-- a row whose last part is written at one go
+pub last_part : (j w k : ℕ) (f : ℕ → ℤ) (ys zs row : List ℤ) → k ≡ w → j + w ≡ length ys → zs ≡ begun j f ys → row ≡ listing w (λ p. f (j + p)) → put_mid j k zs row ≡ listing (length ys) f
+unfolding begun
+last_part j w k f ys zs row same long e r =
+    let front = take_at (listing j f) (drop j ys) j (length-listing j f) in
+    let back = drop_at (listing j f) (drop j ys) j (length-listing j f) in
+    let past : length ys ≤ j + w = omega arith in
+    ap (λ (q : ℕ). put_mid j q zs row) same
+    ∙ ap (λ (ws : List ℤ). put_mid j w ws row) e
+    ∙ ap (λ (ws : List ℤ). ws ++ (row ++ drop w (drop j (listing j f ++ drop j ys)))) front
+    ∙ ap (λ (ws : List ℤ). listing j f ++ (row ++ drop w ws)) back
+    ∙ ap (λ (ws : List ℤ). listing j f ++ (row ++ ws)) (drop-drop w j ys ∙ drop_all (j + w) ys past)
+    ∙ ap (λ (ws : List ℤ). listing j f ++ ws) (append-nil row ∙ r)
+    ∙ sym (listing-add j w f)
+    ∙ ap (λ (q : ℕ). listing q f) long
+
+-- an element of that part, which hasn't been written yet
+pub at-last_part : (j m : ℕ) (f : ℕ → ℤ) (ys zs : List ℤ) (p : ℕ) → zs ≡ begun j f ys → j + p < m → m ≡ length ys → get_or (between j m zs) p (pos 0) ≡ get_or ys (j + p) (pos 0)
+unfolding begun
+at-last_part j m f ys zs p e h long =
+    get_or-between zs j m p (pos 0) h
+    ∙ ap (λ (ws : List ℤ). get_or ws (j + p) (pos 0)) e
+    ∙ get_or-append_right (listing j f) (drop j ys) j (j + p) (pos 0) (length-listing j f) (omega arith)
+    ∙ get_or-drop j ys (j + p - j) (pos 0)
+    ∙ ap (λ (q : ℕ). get_or ys q (pos 0)) (omega arith)
 
 -- what a call makes of an element that was read
 pub column_of : (n j l : ℕ) (a b : List ℤ) (start s v : ℤ) → v ≡ column_sum n a b j l s → s ≡ start → to_z w64 (of_z w64 v) ≡ column_sum n a b j l start

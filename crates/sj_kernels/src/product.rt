@@ -187,10 +187,50 @@ fn two_rows(a: &[i64], e: &[i64], b: &[i64], c: &mut [i64], d: &mut [i64])
         let j = q * 3;
         block(a, e, b, n, j, &mut c[j..j + 3], &mut d[j..j + 3]);
     }
-    for j in n / 3 * 3..n {
-        c[j] = column(a, b, n, j, c[j]);
-        d[j] = column(e, b, n, j, d[j]);
+    let j = n / 3 * 3;
+    last_columns(a, e, b, n, j, &mut c[j..n], &mut d[j..n]);
+}
+
+/// The same in the columns from `j` on, of which there are fewer than three.
+fn last_columns(a: &[i64], e: &[i64], b: &[i64], n: usize, j: usize, c: &mut [i64], d: &mut [i64])
+    requires as_long { length e.now ≡ length a.now }
+    requires right { length b.now ≡ length a.now * n }
+    requires few { length c.old < 3 }
+    requires as_wide { length d.old ≡ length c.old }
+    requires last { j + length c.old ≡ n }
+    ensures first { c.new ≡ listing (length c.old) (λ q. column_sum n a.now b.now (j + q) (length a.now) (at c.old q)) }
+    ensures second { d.new ≡ listing (length d.old) (λ q. column_sum n e.now b.now (j + q) (length e.now) (at d.old q)) }
+{
+    if c.len() == 2 {
+        two_columns(a, e, b, n, j, c, d);
+    } else if c.len() == 1 {
+        c[0] = column(a, b, n, j, c[0]);
+        d[0] = column(e, b, n, j, d[0]);
     }
+}
+
+/// The same in two columns from `j` on, as a block of three.
+fn two_columns(a: &[i64], e: &[i64], b: &[i64], n: usize, j: usize, c: &mut [i64], d: &mut [i64])
+    requires as_long { length e.now ≡ length a.now }
+    requires right { length b.now ≡ length a.now * n }
+    requires within { j + 2 ≤ n }
+    requires two { length c.old ≡ 2 }
+    requires two_more { length d.old ≡ 2 }
+    ensures first { c.new ≡ listing 2 (λ q. column_sum n a.now b.now (j + q) (length a.now) (at c.old q)) }
+    ensures second { d.new ≡ listing 2 (λ q. column_sum n e.now b.now (j + q) (length e.now) (at d.old q)) }
+{
+    let (mut c0, mut c1) = (c[0], c[1]);
+    let (mut d0, mut d1) = (d[0], d[1]);
+    for l in 0..a.len() {
+        let place = l * n + j;
+        let (x, y) = (a[l], e[l]);
+        c0 = with_product(c0, x, b[place]);
+        c1 = with_product(c1, x, b[place + 1]);
+        d0 = with_product(d0, y, b[place]);
+        d1 = with_product(d1, y, b[place + 1]);
+    }
+    c.copy_from_slice(&[c0, c1]);
+    d.copy_from_slice(&[d0, d1]);
 }
 
 /// The same in three columns from `j` on. All that a step needs stays in registers, with six sums and no more. They begin

@@ -1,26 +1,27 @@
 -- What is answered to a claim: its plan, or why it can't be made.
-use Rattle.std.proofs.Common.{◌≡◌, ℕ, ◌^◌, ◌<◌, ◌≤◌, true, List, Option, Some, None, length, get_or, option_map, sym, ap, ◌∙◌, subst, arith}
+use Rattle.std.proofs.Common.{◌≡◌, ℕ, ◌<◌, ◌≤◌, true, List, Option, Some, None, length, get_or, option_map, sym, ap, ◌∙◌, subst, arith}
 use Rattle.std.specs.Prelude.{All, Result, IfErr, IfOk, OnOk}
 use Rattle.std.specs.Option.{ok_or}
 use Rattle.std.proofs.lemmas.List.{get_or_default}
-use Rattle.std.proofs.lemmas.List.Elements.{All-get_or, All-weaker}
-use Rattle.sj_base.specs.Array.{area}
-use Rattle.sj_base.specs.declared.program.CellInfo.{CellInfo}
-use Rattle.sj_base.specs.declared.program.Lowered.{Lowered}
+use Rattle.std.proofs.lemmas.List.Elements.{All-weaker}
+use Rattle.sj_base.specs.declared.mode.Access.{Access}
 use Rattle.sj_base.specs.declared.trace.Event.TheVariants.{Claim}
-use Rattle.sj_core.proofs.Words.{Cell, Machine, Node, Program, State, Task, Worker, WorkerState, no_cell, no_task, node_of, task_of}
+use Rattle.sj_core.proofs.Words.{Cell, Machine, Node, Program, State, Task, Worker, WorkerState, node_of, task_of}
 use Rattle.sj_core.specs.Laws.{IsSound}
 use Rattle.sj_core.specs.Step.{none_leaving}
 use Rattle.sj_node.specs.Store.{Store}
 use Rattle.sj_machine.specs.Agrees.{IsWide, Rows, store_of}
-use Rattle.sj_machine.specs.Plan.{ClaimPlan, IsPlan, IsSmallCell}
-use Rattle.sj_machine.specs.Planning.{HasSmallTask, IsWhy, MayClaim, NoneLeaves, chosen_on, is_leaving_at, planned}
+use Rattle.sj_machine.specs.Operands.{first_held}
+use Rattle.sj_machine.specs.Plan.{ClaimPlan, IsPlan}
+use Rattle.sj_machine.specs.Planning.{CommutersAreFree, HasSmallWork, IsWhy, MayClaim, NoneLeaves, chosen_on, commuter_in_use, is_leaving_at, planned}
 use Rattle.sj_machine.specs.Sound.{Keeps}
 use Rattle.sj_machine.specs.Standing.{CanHappen, Standing, state}
 use Rattle.sj_machine.specs.declared.plan.Why.{Why}
-use Rattle.sj_machine.specs.declared.plan.Why.TheVariants.{Leaving, NoRoom}
-use Rattle.sj_machine.proofs.ClaimFinding.{commuters-free, leaves-same, none-leaves, plan-right, plan-wrong}
-use Rattle.sj_machine.proofs.ClaimPins.{few-operands}
+use Rattle.sj_machine.specs.declared.plan.Why.TheVariants.{Commute, Leaving, NoRoom}
+use Rattle.sj_machine.proofs.Commuting.{first-is}
+use Rattle.sj_machine.proofs.Prepared.{proper-small}
+use Rattle.sj_machine.proofs.Written.{can-work, works-small}
+use Rattle.sj_machine.proofs.ClaimFinding.{leaves-same, none-leaves, plan-right, plan-wrong}
 use Rattle.sj_machine.proofs.Keeping.{sound_state}
 
 -- the answer: where it is a plan, the claim can happen and the plan is its; else the reason stands
@@ -62,24 +63,32 @@ module _ {D : Type 0} (size faults mismatches : D → ℕ) (held : D → Option 
   pub choice-wide : All (λ row. k.0 < length row.marks) rows.cells
   choice-wide = All-weaker (IsWide (length m.nodes)) (λ row. k.0 < length row.marks) (λ row is. omega (arith, is.marks, within)) rows.cells keeps.agrees.marks.wide
 
-  pub choice-small : HasSmallTask p t
+  pub choice-small : HasSmallWork p t w
   choice-small = record {
-    task = may.ready.task;
-    cells = All-weaker (λ a. a.cell.0 < length p.cells) (λ a. IsSmallCell p a.cell) (λ a inside. record { cell = inside; small = All-get_or (λ (c : CellInfo). area c.dims ≤ 2 ^ 24) p.cells a.cell.0 no_cell inside sound.proper.limits.elements }) (task_of p t).accesses
-        (All-get_or (λ (l : Lowered). All (λ a. a.cell.0 < length p.cells) l.accesses) p.tasks t.0 no_task may.ready.task sound.proper.cells.named);
-    few = few-operands p sound.proper t;
+    task = (proper-small p sound.proper).each t may.ready.task;
+    can = can-work p sound.proper t may.ready.task w may.worker;
+    small = works-small p sound.proper t may.ready.task w may.worker;
   }
 
   -- ---- the answer
 
-  pub choice-leaving : (c : Cell) → is_leaving_at rows.cells k c ≡ true → IsWhy p m s t w (Leaving c)
-  choice-leaving c leaves = (
-    commuters-free p keeps.sound.run.plain t w s,
+  searched : (workers : List WorkerState) (accesses : List Access) → workers ≡ rows.workers → accesses ≡ (task_of p t).accesses → first_held workers accesses ≡ commuter_in_use p s t
+  searched workers accesses ws of_task = ap (λ (x : List WorkerState). first_held x accesses) (ws ∙ keeps.agrees.workers) ∙ ap (first_held s.workers) of_task ∙ first-is p m s sound.coherent t
+
+  pub choice-commuter : (workers : List WorkerState) (accesses : List Access) (c : Cell) → workers ≡ rows.workers → accesses ≡ (task_of p t).accesses → first_held workers accesses ≡ Some c → IsWhy p m s t w (Commute c)
+  choice-commuter workers accesses c ws of_task found = sym (searched workers accesses ws of_task) ∙ found
+
+  pub choice-free : (workers : List WorkerState) (accesses : List Access) → workers ≡ rows.workers → accesses ≡ (task_of p t).accesses → first_held workers accesses ≡ None → CommutersAreFree p s t
+  choice-free workers accesses ws of_task none = sym (searched workers accesses ws of_task) ∙ none
+
+  pub choice-leaving : CommutersAreFree p s t → (c : Cell) → is_leaving_at rows.cells k c ≡ true → IsWhy p m s t w (Leaving c)
+  choice-leaving free c leaves = (
+    free,
     sym (leaves-same p m s sound.coherent rows.cells keeps.agrees.marks (node_of m w) c) ∙ ap (λ (j : Node). is_leaving_at rows.cells j c) (sym at) ∙ leaves,
   )
 
-  pub choice-found : All (λ row. NoneLeaves rows.cells k row.victims) rows.workers → (store d : Store) → store ≡ get_or rows.nodes k.0 d → (found : Option ClaimPlan) → found ≡ option_map (planned p store t) (chosen_on p store t) → IsAnswer b t w (ok_or found NoRoom)
-  choice-found none store d read found is = by_found found is
+  pub choice-found : CommutersAreFree p s t → All (λ row. NoneLeaves rows.cells k row.victims) rows.workers → (store d : Store) → store ≡ get_or rows.nodes k.0 d → (found : Option ClaimPlan) → found ≡ option_map (planned p store t w) (chosen_on p store t w) → IsAnswer b t w (ok_or found NoRoom)
+  choice-found free none store d read found is = by_found found is
     where
       settled : none_leaving s (node_of m w) ≡ true
       settled = none-leaves p m s sound.coherent rows.cells keeps.agrees.marks (node_of m w)
@@ -89,6 +98,6 @@ module _ {D : Type 0} (size faults mismatches : D → ℕ) (held : D → Option 
       store-is : store ≡ store_of p m s (node_of m w)
       store-is = read ∙ get_or_default rows.nodes k.0 d (store_of p m s k) choice-node ∙ keeps.agrees.stores.stores k within ∙ ap (store_of p m s) at
 
-      by_found : (o : Option ClaimPlan) → o ≡ option_map (planned p store t) (chosen_on p store t) → IsAnswer b t w (ok_or o NoRoom)
-      by_found (Some plan) e = (let right = plan-right p m s keeps.sound.run.plain t w may settled store plan store-is e in record { can = right.0; plan = right.1; why = tt })
-      by_found None e = record { can = tt; plan = tt; why = (commuters-free p keeps.sound.run.plain t w s, settled, plan-wrong p m s keeps.sound.run.plain t w may settled store store-is e) }
+      by_found : (o : Option ClaimPlan) → o ≡ option_map (planned p store t w) (chosen_on p store t w) → IsAnswer b t w (ok_or o NoRoom)
+      by_found (Some plan) e = (let right = plan-right p m s t w may free settled store plan store-is e in record { can = right.0; plan = right.1; why = tt })
+      by_found None e = record { can = tt; plan = tt; why = (free, settled, plan-wrong p m s t w may free settled store store-is e) }

@@ -8,15 +8,11 @@ use Rattle.std.proofs.lemmas.Bool.{cases_lt, false_from_ne_true, false≢true, n
 use Rattle.std.proofs.lemmas.List.{get_or_default, get_or_past, map-append, reverse-append, reverse-reverse}
 use Rattle.std.proofs.lemmas.List.Elements.{All-filter, All-get_or, All-head, All-tail, All-weaker, filter_agree}
 use Rattle.std.proofs.lemmas.List.Sums.{list_all-from_AllPass, sum_by-cons}
-use Rattle.sj_base.specs.Mode.{is_commute, is_data, is_in_order}
-use Rattle.sj_base.specs.declared.mode.Access.{Access}
 use Rattle.sj_core.proofs.CellLists.{times, times-has, times-none}
-use Rattle.sj_core.proofs.Modes.{plain_isn't_commute, plain_isn't_redux}
 use Rattle.sj_core.proofs.Reading.{idle_row, no_row, same_cell-is}
 use Rattle.sj_core.proofs.Replicas.{leaving-by_some}
 use Rattle.sj_core.proofs.Words.{AtNode, Cell, CellState, Coming, Invalid, Leaving, Machine, Node, Program, Replica, State, Task, Valid, Worker, WorkerState, cells_of, copy_of, data_operands, distinct, free, has_cell, is_leaving, is_pinned, node_of, node_size, order, pins, replica, replica_in, same_cell, scratch, scratch_bytes, task_of, tile_bytes, victims_of, worked_on, workers_at}
 use Rattle.sj_core.specs.Coherent.{Coherent}
-use Rattle.sj_core.specs.Laws.{HasPlainModes}
 use Rattle.sj_core.specs.Step.{Claims, after, after_claim, is_in_use, missing, none_leaving, to_come, victims_for}
 use Rattle.sj_core.specs.Victims.{covers, shortest_suffix, victims}
 use Rattle.sj_base.specs.declared.trace.Event.TheVariants.{Claim}
@@ -28,7 +24,8 @@ use Rattle.sj_machine.specs.Agrees.{HasMarks, pins_on, store_of}
 use Rattle.sj_machine.specs.Copies.{Copies}
 use Rattle.sj_machine.specs.Mark.{is_leaving as is_leaving_mark, mark_of}
 use Rattle.sj_machine.specs.Plan.{ClaimPlan, IsPlan, plan_with}
-use Rattle.sj_machine.specs.Planning.{CommutersAreFree, MayClaim, NoneLeaves, chosen_on, is_leaving_at, lacking, named, need_on, planned}
+use Rattle.sj_machine.specs.Planning.{CommutersAreFree, MayClaim, NoneLeaves, chosen_on, is_leaving_at, lacking, need_on, planned}
+use Rattle.sj_machine.proofs.Commuting.{commuters-alone}
 use Rattle.sj_machine.proofs.ClaimEntries.{entries, entries-has, entries-total, entry}
 
 -- ---- lists
@@ -42,14 +39,6 @@ All-of P (x ∷ xs) c all h = by_cases (same_cell x c) refl h (All-of P xs c (Al
     by_cases true e h rest = subst P (same_cell-is x c e) (All-head P x xs all)
     by_cases false e h rest = rest h
 
-map-same : {X : Type 0} (f g : X → Cell) (xs : List X) → All (λ x. f x ≡ g x) xs → map f xs ≡ map g xs
-map-same f g [] all = refl
-map-same f g (x ∷ xs) all = ap (λ (c : Cell). c ∷ map f xs) (All-head (λ y. f y ≡ g y) x xs all) ∙ ap (λ (cs : List Cell). g x ∷ cs) (map-same f g xs (All-tail (λ y. f y ≡ g y) x xs all))
-
-filter-nothing : {X : Type 0} (test : X → Bool) (xs : List X) → All (λ x. test x ≡ false) xs → filter test xs ≡ []
-filter-nothing test [] all = refl
-filter-nothing test (x ∷ xs) all = ap (λ b. cond b (x ∷ filter test xs) (filter test xs)) (All-head (λ y. test y ≡ false) x xs all) ∙ filter-nothing test xs (All-tail (λ y. test y ≡ false) x xs all)
-
 map-reverse : {X Y : Type 0} (f : X → Y) (xs : List X) → map f (reverse xs) ≡ reverse (map f xs)
 map-reverse f [] = refl
 map-reverse f (x ∷ xs) = ap (map f) (reverse-append (x ∷ []) xs) ∙ map-append f (reverse xs) (x ∷ []) ∙ ap (λ ys. ys ++ f x ∷ []) (map-reverse f xs) ∙ sym (reverse-append (f x ∷ []) (map f xs))
@@ -58,20 +47,6 @@ map-reverse f (x ∷ xs) = ap (map f) (reverse-append (x ∷ []) xs) ∙ map-app
 same_end : {X : Type 0} (test : List X → Bool) (xs : List X) → shortest_end test xs ≡ shortest_suffix test xs
 same_end test [] = refl
 same_end test (x ∷ xs) = ap (λ o. option_or o (then_some (test (x ∷ xs)) (x ∷ xs))) (same_end test xs)
-
--- ---- a task of a plain program
-
-module _ (p : Program) (plain : HasPlainModes p) (t : Task) (w : Worker) where
-  pub cells-named : cells_of p t w ≡ named p t
-  cells-named = map-same (worked_on p w) (λ a. a.cell) (data_operands (task_of p t)) (All-filter (λ a. is_data a.mode) (λ a. worked_on p w a ≡ a.cell) (task_of p t).accesses
-      (All-weaker (λ a. is_in_order a.mode ≡ true) (λ a. worked_on p w a ≡ a.cell) (λ a ordered. ap (λ b. if b then copy_of p a.cell w else a.cell) (plain_isn't_redux a.mode ordered)) (task_of p t).accesses (plain.modes t)))
-
-  pub commuters-free : (s : State) → CommutersAreFree p s t
-  commuters-free s =
-      let cell : Access → Cell = λ a. a.cell in
-      let test : Access → Bool = λ a. is_commute a.mode in
-      let none : filter test (task_of p t).accesses ≡ [] = filter-nothing test (task_of p t).accesses (All-weaker (λ a. is_in_order a.mode ≡ true) (λ a. is_commute a.mode ≡ false) (λ a ordered. plain_isn't_commute a.mode ordered) (task_of p t).accesses (plain.modes t)) in
-      ap (λ (xs : List Access). list_all (λ c. not (is_in_use p s c)) (map cell xs)) none
 
 -- ---- pins
 
@@ -94,19 +69,17 @@ unpinned-is s c (v ∷ ws) = by_cases (has_cell (pins s v) c) refl (unpinned-is 
 
 -- ---- a plan on the node's store
 
-module _ (p : Program) (plain : HasPlainModes p) (m : Machine) (s : State) (t : Task) (w : Worker) where
+module _ (p : Program) (m : Machine) (s : State) (t : Task) (w : Worker) where
   abbrev n : Node
   n = node_of m w
 
   abbrev own : Store
   own = store_of p m s n
 
-  missing-lacking : missing p s t w n ≡ lacking p own t
-  missing-lacking =
-      ap (λ (cs : List Cell). filter (λ c. not (has_cell (order s n) c)) (distinct cs)) (cells-named p plain t w)
-      ∙ filter_agree (λ c. not (has_cell (order s n) c)) (λ c. not (has_entry own.entries c)) (λ c. ap not (sym (entries-has (tile_bytes p) (pins_on m s n) (order s n) c))) (distinct (named p t))
+  missing-lacking : missing p s t w n ≡ lacking own (cells_of p t w)
+  missing-lacking = filter_agree (λ c. not (has_cell (order s n) c)) (λ c. not (has_entry own.entries c)) (λ c. ap not (sym (entries-has (tile_bytes p) (pins_on m s n) (order s n) c))) (distinct (cells_of p t w))
 
-  need-same : to_come p s t w n ≡ need_on p own t
+  need-same : to_come p s t w n ≡ need_on p own t w
   need-same = ap (λ (cs : List Cell). sum_by (tile_bytes p) cs + scratch_bytes p (task_of p t)) missing-lacking
 
   free-same : free_bytes own ≡ free p m s n
@@ -120,24 +93,22 @@ module _ (p : Program) (plain : HasPlainModes p) (m : Machine) (s : State) (t : 
       same_cells [] = refl
       same_cells (c ∷ cs) = ap (λ (ds : List Cell). c ∷ ds) (same_cells cs)
 
-  pub chosen-same : chosen_on p own t ≡ victims_for p m s t w
+  pub chosen-same : chosen_on p own t w ≡ victims_for p m s t w
   chosen-same =
       let bytes = tile_bytes p in
       let f = entry bytes (pins_on m s n) in
-      let spare : Cell → Bool = λ c. is_spare (named p t) (f c) in
+      let spare : Cell → Bool = λ c. is_spare (cells_of p t w) (f c) in
       let free_of : Cell → Bool = λ c. not (is_pinned m s n c) && not (has_cell (cells_of p t w) c) in
-      let same_test : (c : Cell) → spare c ≡ free_of c = λ c. ap (λ b. b && not (has_cell (named p t) c)) (unpinned-is s c (workers_at m n)) ∙ ap (λ (cs : List Cell). not (is_pinned m s n c) && not (has_cell cs c)) (sym (cells-named p plain t w)) in
-      ap (λ o. option_map reverse (option_map (λ vs. map (λ (e : Entry). e.cell) (reverse vs)) o)) (victims-map f (λ e. e.bytes) (is_spare (named p t)) (order s n) (free_bytes own) (need_on p own t))
-      ∙ turned (victims_among bytes spare (order s n) (free_bytes own) (need_on p own t))
-      ∙ same_end (covers bytes (free_bytes own) (need_on p own t)) (filter spare (order s n))
-      ∙ ap (shortest_suffix (covers bytes (free_bytes own) (need_on p own t))) (filter_agree spare free_of same_test (order s n))
-      ∙ ap (λ (k : ℕ). victims bytes free_of (order s n) k (need_on p own t)) free-same
+      let same_test : (c : Cell) → spare c ≡ free_of c = λ c. ap (λ b. b && not (has_cell (cells_of p t w) c)) (unpinned-is s c (workers_at m n)) in
+      ap (λ o. option_map reverse (option_map (λ vs. map (λ (e : Entry). e.cell) (reverse vs)) o)) (victims-map f (λ e. e.bytes) (is_spare (cells_of p t w)) (order s n) (free_bytes own) (need_on p own t w))
+      ∙ turned (victims_among bytes spare (order s n) (free_bytes own) (need_on p own t w))
+      ∙ same_end (covers bytes (free_bytes own) (need_on p own t w)) (filter spare (order s n))
+      ∙ ap (shortest_suffix (covers bytes (free_bytes own) (need_on p own t w))) (filter_agree spare free_of same_test (order s n))
+      ∙ ap (λ (k : ℕ). victims bytes free_of (order s n) k (need_on p own t w)) free-same
       ∙ ap (λ (k : ℕ). victims bytes free_of (order s n) (free p m s n) k) (sym need-same)
 
-  pub planned-same : (evicted : List Cell) → planned p own t evicted ≡ plan_with p m s t w evicted
-  planned-same evicted =
-      ap (λ (cs : List Cell). let plan : ClaimPlan = record { cells = named p t; missing = cs; bytes = map (tile_bytes p) cs; scratch = scratch_bytes p (task_of p t); victims = evicted } in plan) (sym missing-lacking)
-      ∙ ap (λ (cs : List Cell). let plan : ClaimPlan = record { cells = cs; missing = missing p s t w n; bytes = map (tile_bytes p) (missing p s t w n); scratch = scratch_bytes p (task_of p t); victims = evicted } in plan) (sym (cells-named p plain t w))
+  pub planned-same : (evicted : List Cell) → planned p own t w evicted ≡ plan_with p m s t w evicted
+  planned-same evicted = ap (λ (cs : List Cell). let plan : ClaimPlan = record { cells = cells_of p t w; missing = cs; bytes = map (tile_bytes p) cs; scratch = scratch_bytes p (task_of p t); victims = evicted } in plan) (sym missing-lacking)
 
 -- ---- that nothing leaves
 
@@ -172,7 +143,7 @@ module _ (p : Program) (m : Machine) (s : State) (coherent : Coherent p m s) (ce
 
 -- ---- the claim
 
-module _ (p : Program) (m : Machine) (s : State) (plain : HasPlainModes p) (t : Task) (w : Worker) (may : MayClaim p m s t w) (settled : none_leaving s (node_of m w) ≡ true) where
+module _ (p : Program) (m : Machine) (s : State) (t : Task) (w : Worker) (may : MayClaim p m s t w) (free : CommutersAreFree p s t) (settled : none_leaving s (node_of m w) ≡ true) where
   pub can-claim : (evicted : List Cell) → victims_for p m s t w ≡ Some evicted → Claims p m s t w (after p m s (Claim t w))
   can-claim evicted chosen = record {
     worker = may.worker;
@@ -181,30 +152,30 @@ module _ (p : Program) (m : Machine) (s : State) (plain : HasPlainModes p) (t : 
     idle = may.idle;
     fits = may.fits;
     settled = settled;
-    alone = commuters-free p plain t w s;
+    alone = commuters-alone p s t free;
     evicted = evicted;
     chosen = chosen;
     leaves = ap (λ (o : Option (List Cell)). after_claim p m s t w (unwrap_or o [])) chosen;
   }
 
   -- a plan on the node is the claim's
-  pub plan-right : (store : Store) (plan : ClaimPlan) → store ≡ store_of p m s (node_of m w) → Some plan ≡ option_map (planned p store t) (chosen_on p store t) → Claims p m s t w (after p m s (Claim t w)) × IsPlan p m s t w plan
+  pub plan-right : (store : Store) (plan : ClaimPlan) → store ≡ store_of p m s (node_of m w) → Some plan ≡ option_map (planned p store t w) (chosen_on p store t w) → Claims p m s t w (after p m s (Claim t w)) × IsPlan p m s t w plan
   plan-right store plan is found =
-      by_chosen (victims_for p m s t w) refl (found ∙ ap (λ (x : Store). option_map (planned p x t) (chosen_on p x t)) is ∙ ap (option_map (planned p (store_of p m s (node_of m w)) t)) (chosen-same p plain m s t w))
+      by_chosen (victims_for p m s t w) refl (found ∙ ap (λ (x : Store). option_map (planned p x t w) (chosen_on p x t w)) is ∙ ap (option_map (planned p (store_of p m s (node_of m w)) t w)) (chosen-same p m s t w))
     where
       one : (x y : ClaimPlan) → Some x ≡ Some y → x ≡ y
       one x y e = cc
 
-      by_chosen : (o : Option (List Cell)) → victims_for p m s t w ≡ o → Some plan ≡ option_map (planned p (store_of p m s (node_of m w)) t) o → Claims p m s t w (after p m s (Claim t w)) × IsPlan p m s t w plan
+      by_chosen : (o : Option (List Cell)) → victims_for p m s t w ≡ o → Some plan ≡ option_map (planned p (store_of p m s (node_of m w)) t w) o → Claims p m s t w (after p m s (Claim t w)) × IsPlan p m s t w plan
       by_chosen None chosen found = absurd (cc)
       by_chosen (Some evicted) chosen found =
-          let same : plan ≡ plan_with p m s t w evicted = one plan (planned p (store_of p m s (node_of m w)) t evicted) found ∙ planned-same p plain m s t w evicted in
+          let same : plan ≡ plan_with p m s t w evicted = one plan (planned p (store_of p m s (node_of m w)) t w evicted) found ∙ planned-same p m s t w evicted in
           (can-claim evicted chosen, subst (λ (x : ClaimPlan). IsPlan p m s t w x) (sym same) (record { chosen = chosen; rest = refl }))
 
-  pub plan-wrong : (store : Store) → store ≡ store_of p m s (node_of m w) → ◌≡◌ {A = Option ClaimPlan} None (option_map (planned p store t) (chosen_on p store t)) → victims_for p m s t w ≡ None
+  pub plan-wrong : (store : Store) → store ≡ store_of p m s (node_of m w) → ◌≡◌ {A = Option ClaimPlan} None (option_map (planned p store t w) (chosen_on p store t w)) → victims_for p m s t w ≡ None
   plan-wrong store is none =
-      by_chosen (victims_for p m s t w) refl (none ∙ ap (λ (x : Store). option_map (planned p x t) (chosen_on p x t)) is ∙ ap (option_map (planned p (store_of p m s (node_of m w)) t)) (chosen-same p plain m s t w))
+      by_chosen (victims_for p m s t w) refl (none ∙ ap (λ (x : Store). option_map (planned p x t w) (chosen_on p x t w)) is ∙ ap (option_map (planned p (store_of p m s (node_of m w)) t w)) (chosen-same p m s t w))
     where
-      by_chosen : (o : Option (List Cell)) → victims_for p m s t w ≡ o → ◌≡◌ {A = Option ClaimPlan} None (option_map (planned p (store_of p m s (node_of m w)) t) o) → victims_for p m s t w ≡ None
+      by_chosen : (o : Option (List Cell)) → victims_for p m s t w ≡ o → ◌≡◌ {A = Option ClaimPlan} None (option_map (planned p (store_of p m s (node_of m w)) t w) o) → victims_for p m s t w ≡ None
       by_chosen None chosen found = chosen
       by_chosen (Some evicted) chosen found = absurd (cc)

@@ -3,28 +3,20 @@ use Rattle.std.proofs.Common.{◌≡◌, ℕ, ◌+◌, ◌*◌, ◌^◌, ◌≤�
 use Rattle.std.specs.Prelude.{All, if◌then◌else◌, count_by}
 use Rattle.std.proofs.lemmas.Bool.{false≢true}
 use Rattle.std.proofs.lemmas.List.{length-map}
-use Rattle.std.proofs.lemmas.List.Elements.{All-filter, All-head, All-tail}
+use Rattle.std.proofs.lemmas.List.Elements.{All-filter, All-head, All-map, All-tail}
 use Rattle.std.proofs.lemmas.List.Sums.{count_by-le-length, length-filter, sum-map, sum_by-le}
 use Rattle.sj_base.specs.Mode.{is_data}
 use Rattle.sj_base.specs.declared.mode.Access.{Access}
 use Rattle.sj_core.proofs.CellLists.{has_cell-distinct, has_cell-filter}
 use Rattle.sj_core.proofs.Reading.{same_cell-is}
-use Rattle.sj_core.proofs.Words.{Cell, Program, Task, data_operands, distinct, has_cell, same_cell, scratch_bytes, task_of, tile_bytes}
+use Rattle.sj_core.proofs.Words.{Cell, Program, Task, Worker, cells_of, distinct, has_cell, same_cell, scratch_bytes, task_of, tile_bytes, worked_on}
 use Rattle.sj_node.specs.Entry.{has_entry}
 use Rattle.sj_node.specs.Store.{Store, victims_of}
 use Rattle.sj_machine.specs.Plan.{ClaimPlan, IsSmallCell}
-use Rattle.sj_machine.specs.Planning.{HasSmallTask, chosen_on, lacking, named, need_on, planned}
+use Rattle.sj_machine.specs.Planning.{HasSmallTask, HasSmallWork, chosen_on, lacking, named, need_on, planned}
 use Rattle.sj_machine.proofs.ClaimStores.{All-has}
 
 -- ---- small cells
-
-named-has : (P : Cell → Type 0) (ops : List Access) (c : Cell) → All (λ a. P a.cell) ops → has_cell (map (λ a. a.cell) ops) c ≡ true → P c
-named-has P [] c all h = absurd (false≢true h)
-named-has P (a ∷ ops) c all h = by_cases (same_cell a.cell c) refl h (named-has P ops c (All-tail (λ x. P x.cell) a ops all))
-  where
-    by_cases : (b : Bool) → same_cell a.cell c ≡ b → (b || has_cell (map (λ x. x.cell) ops) c) ≡ true → (has_cell (map (λ x. x.cell) ops) c ≡ true → P c) → P c
-    by_cases true e h rest = subst P (same_cell-is a.cell c e) (All-head (λ x. P x.cell) a ops all)
-    by_cases false e h rest = rest h
 
 length-distinct : (xs : List Cell) → length (distinct xs) ≤ length xs
 length-distinct [] = omega arith
@@ -34,55 +26,79 @@ length-distinct (x ∷ xs) = by_cases (has_cell xs x) (length-distinct xs)
     by_cases true rest = omega arith
     by_cases false rest = omega arith
 
-module _ (p : Program) (t : Task) (small : HasSmallTask p t) (s : Store) where
-  pub lacking-small : All (IsSmallCell p) (lacking p s t)
-  lacking-small = All-has (IsSmallCell p) (lacking p s t) (λ c lacks.
-      (let both = has_cell-filter (λ d. not (has_entry s.entries d)) (distinct (named p t)) c lacks in
-      named-has (IsSmallCell p) (data_operands (task_of p t)) c (All-filter (λ a. is_data a.mode) (λ a. IsSmallCell p a.cell) (task_of p t).accesses small.cells) (sym (has_cell-distinct (named p t) c) ∙ both.1)))
+-- a task's few operands give few cells, each as small as what they are of
+pub few-data : (g : Access → Cell) (ops : List Access) → length ops ≤ 5 → length (map g (filter (λ a. is_data a.mode) ops)) ≤ 5
+few-data g ops few =
+    let kept : Access → Bool = λ x. is_data x.mode in
+    omega (arith, length-map (filter kept ops) g, length-filter kept ops, count_by-le-length kept ops, few)
 
-  few : length (lacking p s t) ≤ 5
-  few =
+pub small-data : (p : Program) (g : Access → Cell) (ops : List Access) → All (λ a. IsSmallCell p (g a)) ops → All (IsSmallCell p) (map g (filter (λ a. is_data a.mode) ops))
+small-data p g ops small = All-map (IsSmallCell p) g (filter (λ a. is_data a.mode) ops) (All-filter (λ a. is_data a.mode) (λ a. IsSmallCell p (g a)) ops small)
+
+module _ (p : Program) (cs : List Cell) (small : All (IsSmallCell p) cs) (few : length cs ≤ 5) (s : Store) where
+  pub lacking-small : All (IsSmallCell p) (lacking s cs)
+  lacking-small = All-has (IsSmallCell p) (lacking s cs) (λ c lacks.
+      (let both = has_cell-filter (λ d. not (has_entry s.entries d)) (distinct cs) c lacks in
+      small-has cs c small (sym (has_cell-distinct cs c) ∙ both.1)))
+    where
+      small-has : (xs : List Cell) (c : Cell) → All (IsSmallCell p) xs → has_cell xs c ≡ true → IsSmallCell p c
+      small-has [] c all h = absurd (false≢true h)
+      small-has (x ∷ xs) c all h = by_cases (same_cell x c) refl h (small-has xs c (All-tail (IsSmallCell p) x xs all))
+        where
+          by_cases : (b : Bool) → same_cell x c ≡ b → (b || has_cell xs c) ≡ true → (has_cell xs c ≡ true → IsSmallCell p c) → IsSmallCell p c
+          by_cases true e h rest = subst (IsSmallCell p) (same_cell-is x c e) (All-head (IsSmallCell p) x xs all)
+          by_cases false e h rest = rest h
+
+  few-lacking : length (lacking s cs) ≤ 5
+  few-lacking =
       let test : Cell → Bool = λ d. not (has_entry s.entries d) in
-      let a : length (lacking p s t) ≡ count_by test (distinct (named p t)) = length-filter test (distinct (named p t)) in
-      let b = count_by-le-length test (distinct (named p t)) in
-      let c = length-distinct (named p t) in
-      let kept : Access → Bool = λ x. is_data x.mode in
-      let cell : Access → Cell = λ x. x.cell in
-      let d : length (named p t) ≡ length (data_operands (task_of p t)) = length-map (data_operands (task_of p t)) cell in
-      let e : length (data_operands (task_of p t)) ≡ count_by kept (task_of p t).accesses = length-filter kept (task_of p t).accesses in
-      let f = count_by-le-length kept (task_of p t).accesses in
-      let g = small.few in
+      omega (arith, length-filter test (distinct cs), count_by-le-length test (distinct cs), length-distinct cs, few)
+
+  pub lacking-sum : sum (map (tile_bytes p) (lacking s cs)) ≤ 5 * 2 ^ 27
+  lacking-sum =
+      let a = sum-map (tile_bytes p) (lacking s cs) in
+      let b = sum_by-le (tile_bytes p) (2 ^ 27) (lacking s cs) (λ i d inside. (let is = lacking-small i d inside in let bound = is.small in omega arith)) in
+      let c = few-lacking in
       omega arith
 
-  pub lacking-sum : sum (map (tile_bytes p) (lacking p s t)) ≤ 5 * 2 ^ 27
-  lacking-sum =
-      let a = sum-map (tile_bytes p) (lacking p s t) in
-      let b = sum_by-le (tile_bytes p) (2 ^ 27) (lacking p s t) (λ i d inside. (let is = lacking-small i d inside in let bound = is.small in omega arith)) in
-      let c = few in
-      omega arith
+-- the cells that a task names, and those on which a worker works for it
+pub named-small : (p : Program) (t : Task) → HasSmallTask p t → All (IsSmallCell p) (named p t)
+named-small p t small = small-data p (λ a. a.cell) (task_of p t).accesses small.cells
+
+pub named-few : (p : Program) (t : Task) → HasSmallTask p t → length (named p t) ≤ 5
+named-few p t small = few-data (λ a. a.cell) (task_of p t).accesses small.few
+
+pub work-small : (p : Program) (t : Task) (w : Worker) → HasSmallWork p t w → All (IsSmallCell p) (cells_of p t w)
+work-small p t w small = small-data p (worked_on p w) (task_of p t).accesses small.small
+
+pub work-few : (p : Program) (t : Task) (w : Worker) → HasSmallWork p t w → length (cells_of p t w) ≤ 5
+work-few p t w small = few-data (worked_on p w) (task_of p t).accesses small.task.few
 
 -- ---- the plan on a node
 
-pub missing-is : (p : Program) (t : Task) (s : Store) (cells missing : List Cell) → cells ≡ named p t → missing ≡ filter (λ c. not (has_entry s.entries c)) (distinct cells) → missing ≡ lacking p s t
-missing-is p t s cells missing names lacks = lacks ∙ ap (λ (cs : List Cell). filter (λ c. not (has_entry s.entries c)) (distinct cs)) names
+pub missing-is : (s : Store) (cs cells missing : List Cell) → cells ≡ cs → missing ≡ filter (λ c. not (has_entry s.entries c)) (distinct cells) → missing ≡ lacking s cs
+missing-is s cs cells missing names lacks = lacks ∙ ap (lacking s) names
 
-module _ (p : Program) (t : Task) (s : Store) (cells missing : List Cell) (bytes : List ℕ) (scratch : ℕ) (names : cells ≡ named p t) (lacks : missing ≡ filter (λ c. not (has_entry s.entries c)) (distinct cells)) (weighs : bytes ≡ map (tile_bytes p) missing) (holds : scratch ≡ scratch_bytes p (task_of p t)) where
-  are_missing : missing ≡ lacking p s t
-  are_missing = missing-is p t s cells missing names lacks
+module _ (p : Program) (t : Task) (w : Worker) (s : Store) (cells missing : List Cell) (bytes : List ℕ) (scratch : ℕ) (names : cells ≡ cells_of p t w) (lacks : missing ≡ filter (λ c. not (has_entry s.entries c)) (distinct cells)) (weighs : bytes ≡ map (tile_bytes p) missing) (holds : scratch ≡ scratch_bytes p (task_of p t)) where
+  abbrev lacked : List Cell
+  lacked = lacking s (cells_of p t w)
 
-  need-is : sum bytes + scratch ≡ need_on p s t
-  need-is = ap (λ (n : ℕ). n + scratch) (ap sum weighs ∙ sum-map (tile_bytes p) missing ∙ ap (sum_by (tile_bytes p)) are_missing) ∙ ap (λ (n : ℕ). sum_by (tile_bytes p) (lacking p s t) + n) holds
+  are_missing : missing ≡ lacked
+  are_missing = missing-is s (cells_of p t w) cells missing names lacks
 
-  victims-are : victims_of cells s (sum bytes + scratch) ≡ victims_of (named p t) s (need_on p s t)
-  victims-are = ap (λ (cs : List Cell). victims_of cs s (sum bytes + scratch)) names ∙ ap (victims_of (named p t) s) need-is
+  need-is : sum bytes + scratch ≡ need_on p s t w
+  need-is = ap (λ (n : ℕ). n + scratch) (ap sum weighs ∙ sum-map (tile_bytes p) missing ∙ ap (sum_by (tile_bytes p)) are_missing) ∙ ap (λ (n : ℕ). sum_by (tile_bytes p) lacked + n) holds
 
-  pub planned-none : None ≡ option_map reverse (victims_of cells s (sum bytes + scratch)) → None ≡ option_map (planned p s t) (chosen_on p s t)
-  planned-none none = ap (option_map (planned p s t)) (none ∙ ap (option_map reverse) victims-are)
+  victims-are : victims_of cells s (sum bytes + scratch) ≡ victims_of (cells_of p t w) s (need_on p s t w)
+  victims-are = ap (λ (cs : List Cell). victims_of cs s (sum bytes + scratch)) names ∙ ap (victims_of (cells_of p t w) s) need-is
 
-  pub planned-some : (victims : List Cell) → Some victims ≡ option_map reverse (victims_of cells s (sum bytes + scratch)) → Some (let plan : ClaimPlan = record { cells = cells; missing = missing; bytes = bytes; scratch = scratch; victims = victims } in plan) ≡ option_map (planned p s t) (chosen_on p s t)
+  pub planned-none : None ≡ option_map reverse (victims_of cells s (sum bytes + scratch)) → None ≡ option_map (planned p s t w) (chosen_on p s t w)
+  planned-none none = ap (option_map (planned p s t w)) (none ∙ ap (option_map reverse) victims-are)
+
+  pub planned-some : (victims : List Cell) → Some victims ≡ option_map reverse (victims_of cells s (sum bytes + scratch)) → Some (let plan : ClaimPlan = record { cells = cells; missing = missing; bytes = bytes; scratch = scratch; victims = victims } in plan) ≡ option_map (planned p s t w) (chosen_on p s t w)
   planned-some victims some =
       ap (λ (cs : List Cell). Some (let plan : ClaimPlan = record { cells = cs; missing = missing; bytes = bytes; scratch = scratch; victims = victims } in plan)) names
-      ∙ ap (λ (bs : List ℕ). Some (let plan : ClaimPlan = record { cells = named p t; missing = missing; bytes = bs; scratch = scratch; victims = victims } in plan)) weighs
-      ∙ ap (λ (cs : List Cell). Some (let plan : ClaimPlan = record { cells = named p t; missing = cs; bytes = map (tile_bytes p) cs; scratch = scratch; victims = victims } in plan)) are_missing
-      ∙ ap (λ (n : ℕ). Some (let plan : ClaimPlan = record { cells = named p t; missing = lacking p s t; bytes = map (tile_bytes p) (lacking p s t); scratch = n; victims = victims } in plan)) holds
-      ∙ ap (option_map (planned p s t)) (some ∙ ap (option_map reverse) victims-are)
+      ∙ ap (λ (bs : List ℕ). Some (let plan : ClaimPlan = record { cells = cells_of p t w; missing = missing; bytes = bs; scratch = scratch; victims = victims } in plan)) weighs
+      ∙ ap (λ (cs : List Cell). Some (let plan : ClaimPlan = record { cells = cells_of p t w; missing = cs; bytes = map (tile_bytes p) cs; scratch = scratch; victims = victims } in plan)) are_missing
+      ∙ ap (λ (n : ℕ). Some (let plan : ClaimPlan = record { cells = cells_of p t w; missing = lacked; bytes = map (tile_bytes p) lacked; scratch = n; victims = victims } in plan)) holds
+      ∙ ap (option_map (planned p s t w)) (some ∙ ap (option_map reverse) victims-are)

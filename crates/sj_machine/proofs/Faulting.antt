@@ -8,6 +8,7 @@ use Rattle.sj_disk.specs.Calls.{Fetches, Stores}
 use Rattle.sj_disk.specs.Directory.{DiskState, extent_of}
 use Rattle.sj_disk.specs.declared.directory.Extent.{Extent}
 use Rattle.sj_disk.specs.declared.refusal.DiskRefusal.{DiskRefusal}
+use Rattle.sj_edge.specs.Faults.{Rose}
 use Rattle.sj_edge.specs.GivenBack.{AreGivenBack, IsGivenBack}
 use Rattle.sj_machine.specs.Board.{BoardState, HasCause, HasRisen}
 use Rattle.sj_machine.specs.BoardSound.{KeepsBoard}
@@ -16,16 +17,20 @@ use Rattle.sj_machine.specs.Standing.{Standing}
 use Rattle.sj_machine.specs.declared.fault.RunFault.{RunFault}
 use Rattle.sj_machine.specs.declared.fault.RunFault.TheVariants.{Damaged, DiskFault, OutOfMemory}
 
-above : {D : Type 0} (count : D → ℕ) (n : ℕ) (Q : D → D → Type 0) (o o' : Option D) → ((y z : D) → Q y z → count y ≤ count z) → IsSomeAnd o (λ y. n < count y) → MatchOption o (Unit {0}) (λ y. IsSomeAnd o' (Q y)) → IsSomeAnd o' (λ z. n < count z)
+-- a count that rose and never falls is above still
+risen-more : (n x y : ℕ) → Rose n x → x ≤ y → Rose n y
+risen-more n x y rose grew below = let last = rose (omega (arith, grew, below)) in (last.0, omega (arith, last.0, last.1, grew, below))
+
+above : {D : Type 0} (count : D → ℕ) (n : ℕ) (Q : D → D → Type 0) (o o' : Option D) → ((y z : D) → Q y z → count y ≤ count z) → IsSomeAnd o (λ y. Rose n (count y)) → MatchOption o (Unit {0}) (λ y. IsSomeAnd o' (Q y)) → IsSomeAnd o' (λ z. Rose n (count z))
 above count n Q None o' grows h back = absurd h
 above count n Q (Some y) None grows h back = absurd back
-above count n Q (Some y) (Some z) grows h back = omega (arith, h, grows y z back)
+above count n Q (Some y) (Some z) grows h back = risen-more n (count y) (count z) h (grows y z back)
 
 -- a count that has risen is still above where it was
 pub risen-kept : {D : Type 0} (count : D → ℕ) (Q : D → D → Type 0) (opened old new : List D) (d : ℕ) → ((y z : D) → Q y z → count y ≤ count z) → AllZip Q old new → HasRisen count opened old d → HasRisen count opened new d
 risen-kept count Q opened old new d grows back risen = by_opened (slice_get opened d) risen
   where
-    by_opened : (o : Option _) → IsSomeAnd o (λ x. IsSomeAnd (slice_get old d) (λ y. count x < count y)) → IsSomeAnd o (λ x. IsSomeAnd (slice_get new d) (λ y. count x < count y))
+    by_opened : (o : Option _) → IsSomeAnd o (λ x. IsSomeAnd (slice_get old d) (λ y. Rose (count x) (count y))) → IsSomeAnd o (λ x. IsSomeAnd (slice_get new d) (λ y. Rose (count x) (count y)))
     by_opened None h = h
     by_opened (Some x) h = above count (count x) Q (slice_get old d) (slice_get new d) grows h (AllZip-left Q old new back d)
 

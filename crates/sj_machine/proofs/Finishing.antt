@@ -17,7 +17,7 @@ use Rattle.sj_base.specs.Mode.{is_written}
 use Rattle.sj_codelet.specs.Frame.{Slot, arrays}
 use Rattle.sj_core.specs.declared.progress.Progress.{Progress}
 use Rattle.sj_core.specs.declared.progress.Progress.TheVariants.{Done, Running, Waiting}
-use Rattle.sj_core.proofs.Words.{Array, AtNode, Cell, CellState, Coming, Invalid, Leaving, Machine, Node, OnDisk, Place, Program, Replica, State, Task, Valid, Worker, WorkerState, array_of, cells_of, dims_of, has_cell, is_entry, is_leaving, is_task_of, is_valid, no_task, node_of, node_size, order, pins, progress, replica, same_cell, scratch, task_of, tasks_of, tile_bytes, worker_of, worker_state, workers_at, writes, written_cells, zeros}
+use Rattle.sj_core.proofs.Words.{Array, AtNode, Cell, CellState, Coming, Invalid, Leaving, Machine, Node, OnDisk, Place, Program, Replica, State, Task, Valid, Worker, WorkerState, array_of, cells_of, dims_of, has_cell, is_entry, is_leaving, is_task_of, is_valid, node_of, node_size, order, pins, progress, replica, same_cell, scratch, task_of, tasks_of, tile_bytes, worked_on, worker_of, worker_state, workers_at, writes, written_cells, zeros}
 use Rattle.sj_core.proofs.Advancing.{Ends-advances}
 use Rattle.sj_core.proofs.CellLists.{same_cell-refl, times}
 use Rattle.sj_core.proofs.Changing.{place_differs}
@@ -26,6 +26,7 @@ use Rattle.sj_core.proofs.Finding.{being_written-by, being_written-here, not_wri
 use Rattle.sj_core.proofs.Placing.{valid-row}
 use Rattle.sj_core.proofs.Reading.{cells-touched, cells-untouched, idle_row, same_cell-is, same_node}
 use Rattle.sj_core.proofs.Replicas.{same_worker-refl}
+use Rattle.sj_core.proofs.Sized.{worked_on-dims}
 use Rattle.sj_core.proofs.TaskCells.{written-among_cells}
 use Rattle.sj_core.specs.Coherent.{IsOwnedBy, has_written, is_begun, is_being_written, written_content}
 use Rattle.sj_core.specs.Fold.{held_in}
@@ -39,7 +40,8 @@ use Rattle.sj_machine.specs.declared.mark.Mark.TheVariants.{Invalid as NoMark, V
 use Rattle.sj_machine.specs.Agrees.{HasMarks, HasStores, HasTiles, IsWide, Rows, owed_by_task, owed_by_worker, owed_in, pins_on, row_at, rows_of, store_of}
 use Rattle.sj_machine.specs.Copies.{Copies, mark_at, row_of, tile_at, written_at}
 use Rattle.sj_machine.specs.Plan.{store_at}
-use Rattle.sj_machine.specs.Running.{AreResultsFor, AreShared, CanRelease, CanRewrite, IsResultIn, let_go, put_each, released, written_among}
+use Rattle.sj_machine.specs.Operands.{CanWorkOn, written_among}
+use Rattle.sj_machine.specs.Running.{AreResultsFor, AreShared, CanPutBack, CanRelease, CanRewrite, IsResultIn, let_go, put_each, released}
 use Rattle.sj_machine.specs.Sound.{HoldsBlocks, Keeps}
 use Rattle.sj_machine.specs.Standing.{AllTell, CanHappen, Standing, state}
 use Rattle.sj_machine.proofs.ClaimEntries.{entries}
@@ -51,20 +53,20 @@ use Rattle.sj_machine.proofs.Putting.{length-put_each, owes-put_each, put-row, p
 use Rattle.sj_machine.proofs.Reading.{no_copies}
 use Rattle.sj_machine.proofs.Resting.{entry-cell}
 use Rattle.sj_machine.proofs.Unpinning.{all-less, can-unpin, ext}
-use Rattle.sj_machine.proofs.Written.{written-once, written-plain}
+use Rattle.sj_machine.proofs.Written.{can-work, works-inside, written-once}
 
 -- the array of a written cell has its dimensions
-abbrev found-put : (p : Program) (ops : List Access) (slots : List Slot) (a : Access) (x : Slot) (c : Cell) → Bool → Array
-found-put p ops slots a x c b = elim (cond b (Some (a.cell, x.array)) (find (λ entry. same_cell entry.0 c) (zip (map (λ y. y.cell) ops) (arrays slots)))) as (λ _. Array) [ None ↦ zeros (dims_of p c) | Some entry ↦ entry.1 ]
+abbrev found-put : (p : Program) (w : Worker) (ops : List Access) (slots : List Slot) (a : Access) (x : Slot) (c : Cell) → Bool → Array
+found-put p w ops slots a x c b = elim (cond b (Some (worked_on p w a, x.array)) (find (λ entry. same_cell entry.0 c) (zip (map (worked_on p w) ops) (arrays slots)))) as (λ _. Array) [ None ↦ zeros (dims_of p c) | Some entry ↦ entry.1 ]
 
-held-dims : (p : Program) (ops : List Access) (slots : List Slot) (c : Cell) → AllZip (IsResultIn p) ops slots → has_cell (map (λ a. a.cell) ops) c ≡ true → (held_in p (zip (map (λ a. a.cell) ops) (arrays slots)) c).dims ≡ dims_of p c
-held-dims p [] slots c each h = absurd (false≢true h)
-held-dims p (a ∷ ops) [] c each h = absurd each
-held-dims p (a ∷ ops) (x ∷ slots) c each h = by_case (same_cell a.cell c) refl h (held-dims p ops slots c each.1)
+held-dims : (p : Program) (w : Worker) → ((a : Access) → dims_of p (worked_on p w a) ≡ dims_of p a.cell) → (ops : List Access) (slots : List Slot) (c : Cell) → AllZip (IsResultIn p) ops slots → has_cell (map (worked_on p w) ops) c ≡ true → (held_in p (zip (map (worked_on p w) ops) (arrays slots)) c).dims ≡ dims_of p c
+held-dims p w worked [] slots c each h = absurd (false≢true h)
+held-dims p w worked (a ∷ ops) [] c each h = absurd each
+held-dims p w worked (a ∷ ops) (x ∷ slots) c each h = by_case (same_cell (worked_on p w a) c) refl h (held-dims p w worked ops slots c each.1)
   where
-    by_case : (b : Bool) → same_cell a.cell c ≡ b → (b || has_cell (map (λ y. y.cell) ops) c) ≡ true → (has_cell (map (λ y. y.cell) ops) c ≡ true → (held_in p (zip (map (λ y. y.cell) ops) (arrays slots)) c).dims ≡ dims_of p c) → (held_in p (zip (map (λ y. y.cell) (a ∷ ops)) (arrays (x ∷ slots))) c).dims ≡ dims_of p c
-    by_case true e has rest = ap (λ b. (found-put p ops slots a x c b).dims) e ∙ each.0.dims ∙ ap (dims_of p) (same_cell-is a.cell c e)
-    by_case false e has rest = ap (λ b. (found-put p ops slots a x c b).dims) e ∙ rest has
+    by_case : (b : Bool) → same_cell (worked_on p w a) c ≡ b → (b || has_cell (map (worked_on p w) ops) c) ≡ true → (has_cell (map (worked_on p w) ops) c ≡ true → (held_in p (zip (map (worked_on p w) ops) (arrays slots)) c).dims ≡ dims_of p c) → (held_in p (zip (map (worked_on p w) (a ∷ ops)) (arrays (x ∷ slots))) c).dims ≡ dims_of p c
+    by_case true e has rest = ap (λ b. (found-put p w ops slots a x c b).dims) e ∙ each.0.dims ∙ sym (worked a) ∙ ap (dims_of p) (same_cell-is (worked_on p w a) c e)
+    by_case false e has rest = ap (λ b. (found-put p w ops slots a x c b).dims) e ∙ rest has
 
 all-shared : (p : Program) (ops : List Access) (slots : List Slot) → AllZip (IsResultIn p) ops slots → AllByRecursion (λ (x : Slot). x.owned ≡ false) slots
 all-shared p [] [] each = tt
@@ -109,8 +111,11 @@ module _ {D : Type 0} (size faults mismatches : D → ℕ) (held : D → Option 
   pub end-task : t.0 < length rows.tasks
   end-task = omega (arith, inside_task, h.coherent.state.rows.tasks, ap length keeps.agrees.tasks)
 
+  staffed : w.0 < p.workers
+  staffed = subst (λ (x : Progress). (worker_of x).0 < p.workers) ended.running (h.coherent.state.staff.staffed t (ap is_begun ended.running))
+
   end-worker : w.0 < m.workers
-  end-worker = (let staffed = h.coherent.state.staff.staffed t (ap is_begun ended.running) in let inside : w.0 < p.workers = subst (λ (x : Progress). (worker_of x).0 < p.workers) ended.running staffed in omega (arith, inside, keeps.sound.run.machine.workers))
+  end-worker = omega (arith, staffed, keeps.sound.run.machine.workers)
 
   pub end-worker_row : w.0 < length rows.workers
   end-worker_row = omega (arith, end-worker, h.coherent.state.rows.workers, ap length keeps.agrees.workers)
@@ -124,10 +129,10 @@ module _ {D : Type 0} (size faults mismatches : D → ℕ) (held : D → Option 
   -- ---- the cells that the task wrote
 
   abbrev ws : List Cell
-  ws = written_among (task_of p t).accesses
+  ws = written_among p w (task_of p t).accesses
 
   same-written : ws ≡ written_cells p t w
-  same-written = written-plain p keeps.sound.run.proper keeps.sound.run.plain t w
+  same-written = refl
 
   wrote : (c : Cell) → has_cell ws c ≡ true → has_cell (written_cells p t w) c ≡ true
   wrote c has = sym (ap (λ (cs : List Cell). has_cell cs c) same-written) ∙ has
@@ -145,7 +150,7 @@ module _ {D : Type 0} (size faults mismatches : D → ℕ) (held : D → Option 
   row-inside c has = (let in_program = entry-cell p m s h.coherent c n (ap is_entry (own c has).valid) in omega (arith, in_program, keeps.agrees.marks.every_cell))
 
   once : (c : Cell) → times ws c ≤ 1
-  once c = subst (λ (cs : List Cell). times cs c ≤ 1) (sym same-written) (written-once p keeps.sound.run.proper keeps.sound.run.plain t w inside_task c)
+  once c = written-once p keeps.sound.run.proper t inside_task w staffed c
 
   all-inside : All (λ c. c.0 < length rows.cells) ws
   all-inside = λ k d inside. row-inside (get_or ws k d) (list_any_at (λ e. same_cell e (get_or ws k d)) ws k d inside (same_cell-refl (get_or ws k d)))
@@ -155,8 +160,11 @@ module _ {D : Type 0} (size faults mismatches : D → ℕ) (held : D → Option 
 
   -- ---- what the code asks
 
-  pub end-cells : All (λ a. a.cell.0 < length rows.cells) (task_of p t).accesses
-  end-cells k d inside = (let named = keeps.sound.run.proper.cells.named t.0 no_task inside_task k d inside in omega (arith, named, keeps.agrees.marks.every_cell))
+  pub end-can_work : All (CanWorkOn p w) (task_of p t).accesses
+  end-can_work = can-work p keeps.sound.run.proper t inside_task w staffed
+
+  pub end-cells : All (λ a. (worked_on p w a).0 < length rows.cells) (task_of p t).accesses
+  end-cells k d inside = (let worked = works-inside p keeps.sound.run.proper t inside_task w staffed k d inside in omega (arith, worked, keeps.agrees.marks.every_cell))
 
   few-writes : (c : Cell) → writes s c ≤ 2 ^ 22
   few-writes c =
@@ -166,7 +174,7 @@ module _ {D : Type 0} (size faults mismatches : D → ℕ) (held : D → Option 
 
   few-written : length ws ≤ 5
   few-written =
-      let count : length ws ≡ length (filter (λ (a : Access). is_written a.mode) (task_of p t).accesses) = length-map (filter (λ (a : Access). is_written a.mode) (task_of p t).accesses) (λ (a : Access). a.cell) in
+      let count : length ws ≡ length (filter (λ (a : Access). is_written a.mode) (task_of p t).accesses) = length-map (filter (λ (a : Access). is_written a.mode) (task_of p t).accesses) (worked_on p w) in
       omega (arith, count, length-filter (λ (a : Access). is_written a.mode) (task_of p t).accesses, count_by-le-length (λ (a : Access). is_written a.mode) (task_of p t).accesses, few-operands p keeps.sound.run.proper t)
 
   pub end-rows : All (CanRewrite n (length ws)) rows.cells
@@ -269,7 +277,7 @@ module _ {D : Type 0} (size faults mismatches : D → ℕ) (held : D → Option 
     end-shared = All-from_recursion (λ (x : Slot). x.owned ≡ false) slots (all-shared p (written_operands (task_of p t)) slots results'.each)
 
     pub end-count : length slots ≡ length ws
-    end-count = AllZip-long (IsResultIn p) (written_operands (task_of p t)) slots results'.each ∙ sym (length-map (written_operands (task_of p t)) (λ (a : Access). a.cell))
+    end-count = AllZip-long (IsResultIn p) (written_operands (task_of p t)) slots results'.each ∙ sym (length-map (written_operands (task_of p t)) (worked_on p w))
 
     many : length ws ≡ length xs
     many = sym end-count ∙ sym (length-map slots (λ (x : Slot). x.array))
@@ -352,7 +360,7 @@ module _ {D : Type 0} (size faults mismatches : D → ℕ) (held : D → Option 
       dims = λ c k. elim (cases_Bool (has_cell ws c)) [
         | inr left ↦ subst (λ (r : Copies). IfSome (tile_at r k) (λ a. a.dims ≡ dims_of p c)) (sym (row-left c left)) (keeps.agrees.tiles.dims c k)
         | inl has ↦ elim (same_node k n) [
-          | inl at ↦ subst (λ (j : Node). IfSome (tile_at (row_of new c) j) (λ a. a.dims ≡ dims_of p c)) (sym at) (subst (λ (o : Option Array). IfSome o (λ a. a.dims ≡ dims_of p c)) (sym (tile-here c has)) (held-dims p (written_operands (task_of p t)) slots c results'.each has))
+          | inl at ↦ subst (λ (j : Node). IfSome (tile_at (row_of new c) j) (λ a. a.dims ≡ dims_of p c)) (sym at) (subst (λ (o : Option Array). IfSome o (λ a. a.dims ≡ dims_of p c)) (sym (tile-here c has)) (held-dims p w (worked_on-dims p keeps.sound.run.proper keeps.sound.run.lawful.arguments w staffed) (written_operands (task_of p t)) slots c results'.each has))
           | inr far ↦ subst (λ (o : Option Array). IfSome o (λ a. a.dims ≡ dims_of p c)) (sym (tile-far c k has far)) tt
         ]
       ];
@@ -427,29 +435,44 @@ module _ {D : Type 0} (size faults mismatches : D → ℕ) (held : D → Option 
       subst (λ (rs : List WorkerState). CanRelease (row_at rs w).pins (row_at rs w).scratch (store_at rows.nodes at)) (sym is)
       (subst (λ (j : Node). CanRelease (row_at rows.workers w).pins (row_at rows.workers w).scratch (store_at rows.nodes j)) (sym bound) (end-can_release size faults mismatches held b rows owed spare keeps t w now-can))
 
-  module _ (accesses : List Access) (of_task : accesses ≡ (task_of b.program t).accesses) where
-    pub found-end_cells : All (λ a. a.cell.0 < length rows.cells) accesses
-    found-end_cells = subst (λ (l : List Access). All (λ a. a.cell.0 < length rows.cells) l) (sym of_task) (end-cells size faults mismatches held b rows owed spare keeps t w now-can)
+  module _ (accesses : List Access) (of_task : accesses ≡ (task_of b.program t).accesses) (q : Program) (program : q ≡ b.program) where
+    same-among : written_among q w accesses ≡ written_among b.program w (task_of b.program t).accesses
+    same-among = ap (λ (x : Program). written_among x w accesses) program ∙ ap (written_among b.program w) of_task
 
-    pub found-end_rows : All (CanRewrite at (length (written_among accesses))) rows.cells
-    found-end_rows = subst (λ (l : List Access). All (CanRewrite at (length (written_among l))) rows.cells) (sym of_task) (subst (λ (j : Node). All (CanRewrite j (length (written_among (task_of b.program t).accesses))) rows.cells) (sym bound) (end-rows size faults mismatches held b rows owed spare keeps t w now-can))
+    found-end_can_work : All (CanWorkOn q w) accesses
+    found-end_can_work =
+        subst (λ (x : Program). All (CanWorkOn x w) accesses) (sym program)
+        (subst (λ (l : List Access). All (CanWorkOn b.program w) l) (sym of_task) (end-can_work size faults mismatches held b rows owed spare keeps t w now-can))
+
+    found-end_cells : All (λ a. (worked_on q w a).0 < length rows.cells) accesses
+    found-end_cells =
+        subst (λ (x : Program). All (λ a. (worked_on x w a).0 < length rows.cells) accesses) (sym program)
+        (subst (λ (l : List Access). All (λ a. (worked_on b.program w a).0 < length rows.cells) l) (sym of_task) (end-cells size faults mismatches held b rows owed spare keeps t w now-can))
+
+    found-end_rows : All (CanRewrite at (length (written_among q w accesses))) rows.cells
+    found-end_rows =
+        subst (λ (l : List Cell). All (CanRewrite at (length l)) rows.cells) (sym same-among)
+        (subst (λ (j : Node). All (CanRewrite j (length (written_among b.program w (task_of b.program t).accesses))) rows.cells) (sym bound) (end-rows size faults mismatches held b rows owed spare keeps t w now-can))
 
     module _ (slots : List Slot) (given : AreResultsFor held b' t w slots) where
       now-given : AreResultsFor held b t w slots
       now-given = subst (λ (x : Standing D). AreResultsFor held x t w slots) (sym same) given
 
-      pub found-end_shared : AreShared slots
+      found-end_shared : AreShared slots
       found-end_shared = end-shared size faults mismatches held b rows owed spare keeps t w now-can slots now-given
 
-      pub found-end_count : length slots ≡ length (written_among accesses)
-      found-end_count = end-count size faults mismatches held b rows owed spare keeps t w now-can slots now-given ∙ ap (λ (l : List Access). length (written_among l)) (sym of_task)
+      found-end_count : length slots ≡ length (written_among q w accesses)
+      found-end_count = end-count size faults mismatches held b rows owed spare keeps t w now-can slots now-given ∙ ap length (sym same-among)
+
+      pub found-end_can_put : CanPutBack q w rows.cells at accesses slots
+      found-end_can_put = record { works = found-end_can_work; cells = found-end_cells; rewrites = found-end_rows; shares = found-end_shared; count = found-end_count }
 
       pub found-end_owed : 0 < owed
       found-end_owed = end-owed size faults mismatches held b rows owed spare keeps t w now-can slots now-given
 
-      pub found-keeps_end : (trace' : Recorded) (tasks' : List Progress) (cells' : List Copies) (nodes' : List Store) (workers' : List WorkerState) (found : List WorkerState) → found ≡ rows.workers → trace'.events ≡ b.trace ++ End t w ∷ [] → trace'.spare + 1 ≡ spare → tasks' ≡ set rows.tasks t.0 (Done w) → cells' ≡ put_each at (written_among accesses) (arrays slots) rows.cells → nodes' ≡ set rows.nodes at.0 (released (row_at found w).pins (row_at found w).scratch (store_at rows.nodes at)) → workers' ≡ let_go rows.workers w → Keeps size faults mismatches held (record b { trace = trace'.events }) (rows_of tasks' cells' nodes' workers') (owed - 1) trace'.spare
+      pub found-keeps_end : (trace' : Recorded) (tasks' : List Progress) (cells' : List Copies) (nodes' : List Store) (workers' : List WorkerState) (found : List WorkerState) → found ≡ rows.workers → trace'.events ≡ b.trace ++ End t w ∷ [] → trace'.spare + 1 ≡ spare → tasks' ≡ set rows.tasks t.0 (Done w) → cells' ≡ put_each at (written_among q w accesses) (arrays slots) rows.cells → nodes' ≡ set rows.nodes at.0 (released (row_at found w).pins (row_at found w).scratch (store_at rows.nodes at)) → workers' ≡ let_go rows.workers w → Keeps size faults mismatches held (record b { trace = trace'.events }) (rows_of tasks' cells' nodes' workers') (owed - 1) trace'.spare
       found-keeps_end trace' tasks' cells' nodes' workers' found is told left tasks cells nodes workers =
           keeps-end size faults mismatches held b rows owed spare keeps t w now-can slots now-given trace' tasks' cells' nodes' workers' told left tasks
-          (cells ∙ ap (λ (j : Node). put_each j (written_among accesses) (arrays slots) rows.cells) bound ∙ ap (λ (l : List Access). put_each (node_of b.machine w) (written_among l) (arrays slots) rows.cells) of_task)
+          (cells ∙ ap (λ (j : Node). put_each j (written_among q w accesses) (arrays slots) rows.cells) bound ∙ ap (λ (l : List Cell). put_each (node_of b.machine w) l (arrays slots) rows.cells) same-among)
           (nodes ∙ ap (λ (rs : List WorkerState). set rows.nodes at.0 (released (row_at rs w).pins (row_at rs w).scratch (store_at rows.nodes at))) is ∙ ap (λ (j : Node). set rows.nodes j.0 (released (row_at rows.workers w).pins (row_at rows.workers w).scratch (store_at rows.nodes j))) bound)
           workers

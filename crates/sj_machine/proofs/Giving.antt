@@ -7,6 +7,7 @@ use Rattle.sj_deps.specs.Progress.{Progress as Dependencies}
 use Rattle.sj_pool.proofs.Serving.{serving-fits}
 use Rattle.sj_pool.specs.Pool.{Pooled, contains, home, serves, task_for, turns, with_entry, without_entry_for}
 use Rattle.sj_pool.specs.declared.entry.Entry.{Entry}
+use Rattle.sj_base.specs.Array.{Array}
 use Rattle.sj_machine.specs.Board.{BoardState, board_state, empty_hand, given_back, given_next, hand_of, room_of}
 use Rattle.sj_machine.specs.Filling.{entry_of}
 use Rattle.sj_machine.specs.BoardSound.{IsEntry, IsPoolFor, IsToBeTaken, KeepsBoard, is_given, times_given, times_pooled}
@@ -25,10 +26,10 @@ once-given t hand = by_given hand.given
     by_given (Some u) = refl
 
 -- as the code leaves it
-pub keeps-left : {D : Type 0} (faults mismatches : D → ℕ) (held : D → Option (List ℕ)) (run : Standing D) (hs hs' : List Hand) (q q' : Pooled) (fault : Option RunFault) (deps : Dependencies) (footprints : List ℕ) → hs' ≡ hs → q' ≡ q → KeepsBoard faults mismatches held (board_state run hs q fault) deps footprints → KeepsBoard faults mismatches held (board_state run hs' q' fault) deps footprints
-keeps-left faults mismatches held run hs hs' q q' fault deps footprints h e keeps =
-    subst (λ (x : List Hand). KeepsBoard faults mismatches held (board_state run x q' fault) deps footprints) (sym h)
-    (subst (λ (x : Pooled). KeepsBoard faults mismatches held (board_state run hs x fault) deps footprints) (sym e) keeps)
+pub keeps-left : {D : Type 0} (faults mismatches : D → ℕ) (held : D → Option (List ℕ)) (run : Standing D) (hs hs' : List Hand) (q q' : Pooled) (fault : Option RunFault) (delivered : List (Task × Array)) (deps : Dependencies) (footprints : List ℕ) → hs' ≡ hs → q' ≡ q → KeepsBoard faults mismatches held (board_state run hs q fault delivered) deps footprints → KeepsBoard faults mismatches held (board_state run hs' q' fault delivered) deps footprints
+keeps-left faults mismatches held run hs hs' q q' fault delivered deps footprints h e keeps =
+    subst (λ (x : List Hand). KeepsBoard faults mismatches held (board_state run x q' fault delivered) deps footprints) (sym h)
+    (subst (λ (x : Pooled). KeepsBoard faults mismatches held (board_state run hs x fault delivered) deps footprints) (sym e) keeps)
 
 module _ {D : Type 0} (faults mismatches : D → ℕ) (held : D → Option (List ℕ)) (b : BoardState D) (deps : Dependencies) (footprints : List ℕ) (keeps : KeepsBoard faults mismatches held b deps footprints) (w : Worker) (known : w.0 < b.run.program.workers) where
   abbrev p : Program
@@ -95,9 +96,9 @@ module _ {D : Type 0} (faults mismatches : D → ℕ) (held : D → Option (List
   keeps-next free = keeps-given (task_for b.pool w.0 room) (without_entry_for b.pool w.0 room) (λ t. omega (arith, times-taken b.pool.queues room (serves b.pool w.0 room) t serving, ap (once t) free)) fits-next
 
   -- as the code leaves it
-  pub keeps-next_left : (n : ℕ) (g : Option Task) (hands' : List Hand) (pool' : Pooled) → n ≡ room → g ≡ task_for b.pool w.0 n → hands' ≡ slice_set b.hands w.0 (giving g) → pool' ≡ without_entry_for b.pool w.0 n → (hand_of b w).given ≡ None → KeepsBoard faults mismatches held (board_state b.run hands' pool' b.fault) deps footprints
+  pub keeps-next_left : (n : ℕ) (g : Option Task) (hands' : List Hand) (pool' : Pooled) → n ≡ room → g ≡ task_for b.pool w.0 n → hands' ≡ slice_set b.hands w.0 (giving g) → pool' ≡ without_entry_for b.pool w.0 n → (hand_of b w).given ≡ None → KeepsBoard faults mismatches held (board_state b.run hands' pool' b.fault b.delivered) deps footprints
   keeps-next_left n g hands' pool' size task hands pool free =
-      keeps-left faults mismatches held b.run _ hands' _ pool' b.fault deps footprints (hands ∙ ap (λ (o : Option Task). slice_set b.hands w.0 (giving o)) (task ∙ ap (task_for b.pool w.0) size)) (pool ∙ ap (without_entry_for b.pool w.0) size) (keeps-next free)
+      keeps-left faults mismatches held b.run _ hands' _ pool' b.fault b.delivered deps footprints (hands ∙ ap (λ (o : Option Task). slice_set b.hands w.0 (giving o)) (task ∙ ap (task_for b.pool w.0) size)) (pool ∙ ap (without_entry_for b.pool w.0) size) (keeps-next free)
 
   -- ---- a task back to the pool
 
@@ -140,5 +141,5 @@ module _ {D : Type 0} (faults mismatches : D → ℕ) (held : D → Option (List
     keeps-back = keeps-given None (with_entry b.pool (entry_of p t) w.0) (λ u. omega (arith, times-put b.pool.policy b.pool.queues (home b.pool.policy w.0) (entry_of p t) u home-here, ap (once u) given)) fits-back
 
     -- as the code leaves it
-    pub keeps-back_left : (p' : Program) (hands' : List Hand) (pool' : Pooled) → p' ≡ p → hands' ≡ slice_set b.hands w.0 (giving None) → pool' ≡ with_entry b.pool (entry_of p' t) w.0 → KeepsBoard faults mismatches held (board_state b.run hands' pool' b.fault) deps footprints
-    keeps-back_left p' hands' pool' same hands pool = keeps-left faults mismatches held b.run _ hands' _ pool' b.fault deps footprints hands (pool ∙ ap (λ (q : Program). with_entry b.pool (entry_of q t) w.0) same) keeps-back
+    pub keeps-back_left : (p' : Program) (hands' : List Hand) (pool' : Pooled) → p' ≡ p → hands' ≡ slice_set b.hands w.0 (giving None) → pool' ≡ with_entry b.pool (entry_of p' t) w.0 → KeepsBoard faults mismatches held (board_state b.run hands' pool' b.fault b.delivered) deps footprints
+    keeps-back_left p' hands' pool' same hands pool = keeps-left faults mismatches held b.run _ hands' _ pool' b.fault b.delivered deps footprints hands (pool ∙ ap (λ (q : Program). with_entry b.pool (entry_of q t) w.0) same) keeps-back

@@ -1,5 +1,6 @@
 pub mod Arriving
 pub mod Beginning
+pub mod BoardEnds
 pub mod Boarding
 pub mod ClaimEntries
 pub mod ClaimPins
@@ -10,9 +11,14 @@ pub mod ClaimRows
 pub mod ClaimPlanning
 pub mod ClaimFinding
 pub mod ClaimChoice
+pub mod DiskCounts
+pub mod Commuting
+pub mod Delivering
 pub mod Dropping
+pub mod Ends
 pub mod Entries
 pub mod Failing
+pub mod Gifting
 pub mod Giving
 pub mod Hands
 pub mod FillLoop
@@ -23,8 +29,11 @@ pub mod Lending
 pub mod Lists
 pub mod Making
 pub mod Marking
+pub mod NextBoards
+pub mod NextRows
+pub mod NextSteps
 pub mod Opening
-pub mod Operands
+pub mod Shares
 pub mod PoolFilling
 pub mod Pooling
 pub mod Owning
@@ -35,6 +44,7 @@ pub mod Resting
 pub mod Starting
 pub mod Stepping
 pub mod Sparing
+pub mod SparingBoards
 pub mod Storing
 pub mod Taking
 pub mod TaskEnding

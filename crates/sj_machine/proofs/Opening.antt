@@ -19,6 +19,7 @@ use Rattle.sj_deps.specs.Progress.{Progress as Dependencies, progress as depende
 use Rattle.sj_disk.specs.Directory.{DiskState}
 use Rattle.sj_pool.specs.Pool.{Pooled, empty, queue_count}
 use Rattle.sj_pool.specs.declared.entry.Entry.{Entry}
+use Rattle.sj_base.specs.Array.{Array}
 use Rattle.sj_machine.specs.Board.{board_state, empty_hand, hand_in}
 use Rattle.sj_machine.specs.BoardSound.{AreFootprints, IsEntry, IsPoolFor, KeepsBoard, is_entry_of, is_given, times_given, times_pooled}
 use Rattle.sj_machine.specs.Filling.{CanPutEach, putter, with_each}
@@ -83,7 +84,7 @@ module _ (p : Program) (m : Machine) (some : 0 < p.workers) where
     times : (u : Task) → times_pooled (first_pool p m.policy ready) u + times_given (first_hands p) u ≡ times_among ready u
     times u = omega (arith, first-filled.times u, none-pooled m.policy u, none-given u)
 
-    pub keeps-opening : {D : Type 0} (faults mismatches : D → ℕ) (held : D → Option (List ℕ)) (disks : DiskState D) (footprints : List ℕ) → AreFootprints p footprints → KeepsBoard faults mismatches held (board_state (starting p m disks) (first_hands p) (first_pool p m.policy ready) None) (dependencies p []) footprints
+    pub keeps-opening : {D : Type 0} (faults mismatches : D → ℕ) (held : D → Option (List ℕ)) (disks : DiskState D) (footprints : List ℕ) → AreFootprints p footprints → KeepsBoard faults mismatches held (board_state (starting p m disks) (first_hands p) (first_pool p m.policy ready) None []) (dependencies p []) footprints
     keeps-opening faults mismatches held disks footprints bytes = record {
       fault = tt;
       inside = record {
@@ -138,17 +139,18 @@ module _ (p : Program) (policy : Policy) (some : 0 < p.workers) (deps : Dependen
   }
 
 -- a board of parts that are prepared
-pub opens-with : {D : Type 0} (faults mismatches : D → ℕ) (held : D → Option (List ℕ)) (p : Program) (m : Machine) (disks : DiskState D) (some : 0 < p.workers) (run : Standing D) (deps : Dependencies) (footprints : List ℕ) (hands : List Hand) (pool : Pooled) → run ≡ starting p m disks → IsPrepared p m.policy deps footprints hands pool → KeepsBoard faults mismatches held (board_state run hands pool None) deps footprints
-opens-with {D} faults mismatches held p m disks some run deps footprints hands pool starts parts =
-    subst (λ (r : Standing D). KeepsBoard faults mismatches held (board_state r hands pool None) deps footprints) (sym starts)
-    (subst (λ (hs : List Hand). KeepsBoard faults mismatches held (board_state (starting p m disks) hs pool None) deps footprints) (sym parts.hands_are)
-    (subst (λ (q : Pooled). KeepsBoard faults mismatches held (board_state (starting p m disks) (first_hands p) q None) deps footprints) (sym parts.pool_is)
-    (subst (λ (d : Dependencies). KeepsBoard faults mismatches held (board_state (starting p m disks) (first_hands p) (first_pool p m.policy parts.ready) None) d footprints) (sym parts.deps_are)
-    (keeps-opening p m some parts.ready parts.first faults mismatches held disks footprints parts.bytes))))
+pub opens-with : {D : Type 0} (faults mismatches : D → ℕ) (held : D → Option (List ℕ)) (p : Program) (m : Machine) (disks : DiskState D) (some : 0 < p.workers) (run : Standing D) (deps : Dependencies) (footprints : List ℕ) (hands : List Hand) (pool : Pooled) (pairs : List (Task × Array)) → pairs ≡ [] → run ≡ starting p m disks → IsPrepared p m.policy deps footprints hands pool → KeepsBoard faults mismatches held (board_state run hands pool None pairs) deps footprints
+opens-with {D} faults mismatches held p m disks some run deps footprints hands pool pairs none starts parts =
+    subst (λ (ds : List (Task × Array)). KeepsBoard faults mismatches held (board_state run hands pool None ds) deps footprints) (sym none)
+    (subst (λ (r : Standing D). KeepsBoard faults mismatches held (board_state r hands pool None []) deps footprints) (sym starts)
+    (subst (λ (hs : List Hand). KeepsBoard faults mismatches held (board_state (starting p m disks) hs pool None []) deps footprints) (sym parts.hands_are)
+    (subst (λ (q : Pooled). KeepsBoard faults mismatches held (board_state (starting p m disks) (first_hands p) q None []) deps footprints) (sym parts.pool_is)
+    (subst (λ (d : Dependencies). KeepsBoard faults mismatches held (board_state (starting p m disks) (first_hands p) (first_pool p m.policy parts.ready) None []) d footprints) (sym parts.deps_are)
+    (keeps-opening p m some parts.ready parts.first faults mismatches held disks footprints parts.bytes)))))
 
-pub is-opening : {D : Type 0} (p : Program) (m : Machine) (disks : DiskState D) (run : Standing D) (deps : Dependencies) (footprints : List ℕ) (hands : List Hand) (pool : Pooled) → run ≡ starting p m disks → IsPrepared p m.policy deps footprints hands pool → IsOpening p m disks (board_state run hands pool None)
-is-opening {D} p m disks run deps footprints hands pool starts parts = record {
+pub is-opening : {D : Type 0} (p : Program) (m : Machine) (disks : DiskState D) (run : Standing D) (deps : Dependencies) (footprints : List ℕ) (hands : List Hand) (pool : Pooled) (pairs : List (Task × Array)) → pairs ≡ [] → run ≡ starting p m disks → IsPrepared p m.policy deps footprints hands pool → IsOpening p m disks (board_state run hands pool None pairs)
+is-opening {D} p m disks run deps footprints hands pool pairs none starts parts = record {
   ready = parts.ready;
   first = parts.first;
-  opens = ap (λ (r : Standing D). board_state r hands pool None) starts ∙ ap (λ (hs : List Hand). board_state (starting p m disks) hs pool None) parts.hands_are ∙ ap (λ (q : Pooled). board_state (starting p m disks) (first_hands p) q None) parts.pool_is;
+  opens = ap (λ (ds : List (Task × Array)). board_state run hands pool None ds) none ∙ ap (λ (r : Standing D). board_state r hands pool None []) starts ∙ ap (λ (hs : List Hand). board_state (starting p m disks) hs pool None []) parts.hands_are ∙ ap (λ (q : Pooled). board_state (starting p m disks) (first_hands p) q None []) parts.pool_is;
 }

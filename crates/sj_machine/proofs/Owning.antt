@@ -16,16 +16,17 @@ use Rattle.sj_base.specs.Mode.{reads_value, starts_as_zeros}
 use Rattle.sj_codelet.specs.Frame.{Slot, shared}
 use Rattle.sj_core.specs.declared.progress.Progress.{Progress}
 use Rattle.sj_core.specs.declared.progress.Progress.TheVariants.{Running, Waiting}
-use Rattle.sj_core.proofs.Words.{Array, AtNode, Cell, CellState, Invalid, Machine, Node, OnDisk, Place, Program, Replica, State, Task, Valid, Worker, array_of, cell_state, cells_of, dims_of, fresh_cells, has_cell, is_entry, is_task_of, is_valid, node_of, node_size, no_task, order, pins, progress, replica, same_cell, scratch, task_of, worker_of, workers_at, writes, written_cells, zeros}
+use Rattle.sj_core.proofs.Words.{Array, AtNode, Cell, CellState, Invalid, Machine, Node, OnDisk, Place, Program, Replica, State, Task, Valid, Worker, array_of, cell_state, cells_of, dims_of, fresh_cells, has_cell, is_entry, is_task_of, is_valid, node_of, node_size, no_task, order, pins, progress, replica, same_cell, scratch, task_of, worked_on, worker_of, workers_at, writes, written_cells, zeros}
 use Rattle.sj_core.proofs.Advancing.{same_task, task_of-worker}
 use Rattle.sj_core.proofs.CellLists.{times, times-none}
-use Rattle.sj_core.proofs.Claimed.{claimed-inside, claimed-not_written}
-use Rattle.sj_core.proofs.Dependencies.{Proper-dependencies}
-use Rattle.sj_core.proofs.Finding.{read-cell, read-not_fresh}
+use Rattle.sj_core.proofs.Claimed.{claimed-inside, claimed-not_written, claimed-staffed}
+use Rattle.sj_core.proofs.Folding.{read-among_cells}
+use Rattle.sj_core.proofs.Found.{found-not_fresh}
 use Rattle.sj_core.proofs.Readiness.{Contains-from_filter, filter-Contains}
 use Rattle.sj_core.proofs.Reading.{cells-renewed_or, entry-inside, list_all-has, same_node}
 use Rattle.sj_core.proofs.Running.{run-only, run-order_elsewhere, run-order_here, run-other, run-own, run-rested, run-rests, run-spared, run-spares}
 use Rattle.sj_core.proofs.Changing.{place_differs}
+use Rattle.sj_core.proofs.Sized.{worked_on-dims}
 use Rattle.sj_core.proofs.TaskCells.{written-among_cells}
 use Rattle.sj_core.specs.Coherent.{IsHeld, is_being_written}
 use Rattle.sj_core.specs.Laws.{IsSound}
@@ -37,14 +38,15 @@ use Rattle.sj_node.specs.Store.{Store, store, with_entries}
 use Rattle.sj_machine.specs.Mark.{mark_of}
 use Rattle.sj_machine.specs.Agrees.{HasMarks, HasStores, HasTiles, IsWide, Rows, entry_of, owed_by_task, pins_on, rows_of, store_of}
 use Rattle.sj_machine.specs.Copies.{Copies, lent_at, mark_at, row_of, tile_at}
-use Rattle.sj_machine.specs.Running.{AreSharesFor, AreUnpinned, CanGive, IsShareIn, evicted_at, kept_at, lend_each, read_among, shares_at, written_among}
+use Rattle.sj_machine.specs.Operands.{CanWorkOn, read_among, written_among}
+use Rattle.sj_machine.specs.Running.{AreSharesFor, AreUnpinned, CanGive, IsShareIn, evicted_at, kept_at, lend_each, shares_at}
 use Rattle.sj_machine.specs.Sound.{HoldsBlocks, Keeps}
 use Rattle.sj_machine.specs.Standing.{AllTell, CanHappen, IsTileOf, Standing, state}
 use Rattle.sj_machine.proofs.Keeping.{HoldsBlocks-kept, keeps-event, keeps-told, sound_state}
 use Rattle.sj_machine.proofs.Lending.{LendsKeep, lend-keeps, lend-row, lent-mark_here, lent-mark_there, lent-tile}
 use Rattle.sj_machine.proofs.Reading.{no_copies}
 use Rattle.sj_machine.proofs.Resting.{entry-cell}
-use Rattle.sj_machine.proofs.Written.{written-once, written-plain}
+use Rattle.sj_machine.proofs.Written.{can-work, works-inside, written-once}
 
 -- ---- lists
 
@@ -102,10 +104,13 @@ module _ {D : Type 0} (size faults mismatches : D → ℕ) (held : D → Option 
   -- ---- the cells that the task writes
 
   abbrev ws : List Cell
-  ws = written_among (task_of p t).accesses
+  ws = written_among p w (task_of p t).accesses
 
   same-written : ws ≡ written_cells p t w
-  same-written = written-plain p keeps.sound.run.proper keeps.sound.run.plain t w
+  same-written = refl
+
+  staffed : w.0 < p.workers
+  staffed = claimed-staffed p m s h t w run.claimed
 
   has-written : (c : Cell) → has_cell ws c ≡ has_cell (written_cells p t w) c
   has-written c = ap (λ (cs : List Cell). has_cell cs c) same-written
@@ -123,7 +128,7 @@ module _ {D : Type 0} (size faults mismatches : D → ℕ) (held : D → Option 
   run-cells = λ k d inside. row-inside (get_or ws k d) (has-at ws k d inside)
 
   once : (c : Cell) → times ws c ≤ 1
-  once c = subst (λ (cs : List Cell). times cs c ≤ 1) (sym same-written) (written-once p keeps.sound.run.proper keeps.sound.run.plain t w inside_task c)
+  once c = written-once p keeps.sound.run.proper t inside_task w staffed c
 
   abbrev new : List Copies
   new = lend_each n ws rows.cells
@@ -306,59 +311,81 @@ module _ {D : Type 0} (size faults mismatches : D → ℕ) (held : D → Option 
   reads-old : (a : Access) → reads_value a.mode ≡ true → starts_as_zeros a.mode ≡ false
   reads-old a reads = ap not reads
 
-  read-valid : (a : Access) → Contains (task_of p t).accesses a → reads_value a.mode ≡ true → is_valid (replica s a.cell (AtNode n)) ≡ true
+  read-valid : (a : Access) → Contains (task_of p t).accesses a → reads_value a.mode ≡ true → is_valid (replica s (worked_on p w a) (AtNode n)) ≡ true
   read-valid a has reads =
-      sym (ap (λ b. b || is_valid (replica s a.cell (AtNode n))) (read-not_fresh p m keeps.sound.run.proper (Proper-dependencies p keeps.sound.run.proper) keeps.sound.run.plain t w a has (reads-old a reads)))
-      ∙ list_all-has (λ c. has_cell (fresh_cells p t w) c || is_valid (replica s c (AtNode n))) (cells_of p t w) a.cell run.present (read-cell p m keeps.sound.run.proper (Proper-dependencies p keeps.sound.run.proper) keeps.sound.run.plain t w a has (reads-old a reads))
+      sym (ap (λ b. b || is_valid (replica s (worked_on p w a) (AtNode n))) (found-not_fresh p keeps.sound.run.proper t w staffed a has (reads-old a reads)))
+      ∙ list_all-has (λ c. has_cell (fresh_cells p t w) c || is_valid (replica s c (AtNode n))) (cells_of p t w) (worked_on p w a) run.present (read-among_cells p t w a has (reads-old a reads))
 
-  read-rests : (a : Access) → Contains (task_of p t).accesses a → reads_value a.mode ≡ true → is_being_written p s a.cell ≡ false
-  read-rests a has reads = claimed-not_written p m s h t w run.claimed a.cell (read-cell p m keeps.sound.run.proper (Proper-dependencies p keeps.sound.run.proper) keeps.sound.run.plain t w a has (reads-old a reads))
+  read-rests : (a : Access) → Contains (task_of p t).accesses a → reads_value a.mode ≡ true → is_being_written p s (worked_on p w a) ≡ false
+  read-rests a has reads = claimed-not_written p m s h t w run.claimed (worked_on p w a) (read-among_cells p t w a has (reads-old a reads))
 
-  read-there : (a : Access) → Contains (task_of p t).accesses a → reads_value a.mode ≡ true → is_some (tile_at (row_of rows.cells a.cell) n) ≡ true
-  read-there a has reads = keeps.agrees.tiles.there a.cell n (read-rests a has reads) ∙ read-valid a has reads
+  pub read-there : (a : Access) → Contains (task_of p t).accesses a → reads_value a.mode ≡ true → is_some (tile_at (row_of rows.cells (worked_on p w a)) n) ≡ true
+  read-there a has reads = keeps.agrees.tiles.there (worked_on p w a) n (read-rests a has reads) ∙ read-valid a has reads
 
-  pub run-can_give : All (CanGive rows.cells n) (task_of p t).accesses
+  works : All (λ a. (worked_on p w a).0 < length p.cells) (task_of p t).accesses
+  works = works-inside p keeps.sound.run.proper t inside_task w staffed
+
+  pub run-can_work : All (CanWorkOn p w) (task_of p t).accesses
+  run-can_work = can-work p keeps.sound.run.proper t inside_task w staffed
+
+  pub run-can_give : All (CanGive p w rows.cells n) (task_of p t).accesses
   run-can_give k d inside =
       let a = get_or (task_of p t).accesses k d in
       let has : Contains (task_of p t).accesses a = Contains-get_or (task_of p t).accesses k d inside in
-      let named : a.cell.0 < length p.cells = keeps.sound.run.proper.cells.named t.0 no_task inside_task k d inside in
-      let cell : a.cell.0 < length rows.cells = omega (arith, named, keeps.agrees.marks.every_cell) in
-      let wide = All-get_or (IsWide (length m.nodes)) rows.cells a.cell.0 no_copies cell keeps.agrees.marks.wide in
-      record { cell = cell; node = omega (arith, wide.marks, run-node); tile = λ reads. read-there a has reads }
+      let worked : (worked_on p w a).0 < length p.cells = works k d inside in
+      let cell : (worked_on p w a).0 < length rows.cells = omega (arith, worked, keeps.agrees.marks.every_cell) in
+      let wide = All-get_or (IsWide (length m.nodes)) rows.cells (worked_on p w a).0 no_copies cell keeps.agrees.marks.wide in
+      record { works = run-can_work k d inside; cell = cell; node = omega (arith, wide.marks, run-node); tile = λ reads. read-there a has reads }
 
-  pub run-shares : (b' : Standing D) (slots : List Slot) → b ≡ b' → slots ≡ shares_at rows.cells n (task_of p t).accesses → AreSharesFor held b' t w slots
-  run-shares b' slots same is = subst (λ (x : Standing D). AreSharesFor held x t w slots) same (subst (λ (l : List Slot). AreSharesFor held b t w l) (sym is) (zipped (IsShareIn held b w) (λ (a : Access). shared (kept_at rows.cells n a.cell)) (read_among (task_of p t).accesses) (λ a h. share a (Contains-from_filter (λ (x : Access). reads_value x.mode) (task_of p t).accesses a h) (filter-Contains (λ (x : Access). reads_value x.mode) (task_of p t).accesses a h))))
+  -- the tile that is kept of what the worker works on is the array there
+  pub read-tile : (a : Access) → Contains (task_of p t).accesses a → reads_value a.mode ≡ true → IsTileOf held b (worked_on p w a) (AtNode n) (kept_at rows.cells n (worked_on p w a))
+  read-tile a has reads = by_tile (worked_on p w a) (tile_at (row_of rows.cells (worked_on p w a)) n) (read-there a has reads) (keeps.agrees.tiles.dims (worked_on p w a) n) (λ tells. keeps.agrees.tiles.arrays tells (worked_on p w a) n)
     where
       by_tile : (c : Cell) (o : Option Array) → is_some o ≡ true → IfSome o (λ a. a.dims ≡ dims_of p c) → (AllTell held b → IfSome o (λ a. array_of (replica s c (AtNode n)) ≡ Some a)) → IsTileOf held b c (AtNode n) (unwrap_or o (record { dims = record { rows = 0; cols = 0 }; elements = [] }))
       by_tile c None there dims arrays = absurd (false≢true there)
       by_tile c (Some a) there dims arrays = record { dims = dims; array = λ tells. sym (ap (λ (o : Option Array). unwrap_or o (zeros (dims_of p c))) (arrays tells)) }
 
-      share : (a : Access) → Contains (task_of p t).accesses a → reads_value a.mode ≡ true → IsShareIn held b w a (shared (kept_at rows.cells n a.cell))
-      share a has reads = record { shared = refl; tile = by_tile a.cell (tile_at (row_of rows.cells a.cell) n) (read-there a has reads) (keeps.agrees.tiles.dims a.cell n) (λ tells. keeps.agrees.tiles.arrays tells a.cell n) }
+  pub run-shares : (b' : Standing D) (slots : List Slot) → b ≡ b' → slots ≡ shares_at p w rows.cells n (task_of p t).accesses → AreSharesFor held b' t w slots
+  run-shares b' slots same is =
+      subst (λ (x : Standing D). AreSharesFor held x t w slots) same
+      (subst (λ (l : List Slot). AreSharesFor held b t w l) (sym is)
+      (zipped (IsShareIn held b w) (λ (a : Access). shared (kept_at rows.cells n (worked_on p w a))) (read_among (task_of p t).accesses) (λ a h. share a (Contains-from_filter (λ (x : Access). reads_value x.mode) (task_of p t).accesses a h) (filter-Contains (λ (x : Access). reads_value x.mode) (task_of p t).accesses a h))))
+    where
+      share : (a : Access) → Contains (task_of p t).accesses a → reads_value a.mode ≡ true → IsShareIn held b w a (shared (kept_at rows.cells n (worked_on p w a)))
+      share a has reads =
+          let tile = read-tile a has reads in
+          record { shared = refl; dims = tile.dims ∙ worked_on-dims p keeps.sound.run.proper keeps.sound.run.lawful.arguments w staffed a; array = tile.array }
 
 -- ---- as the code finds it
 
-module _ {D : Type 0} (size faults mismatches : D → ℕ) (held : D → Option (List ℕ)) (b : Standing D) (rows : Rows) (owed spare : ℕ) (keeps : Keeps size faults mismatches held b rows owed spare) (t : Task) (w : Worker) (b' : Standing D) (same : b ≡ b') (can' : CanHappen b' (Run t w)) (at : Node) (bound : at ≡ node_of b.machine w) (accesses : List Access) (of_task : accesses ≡ (task_of b.program t).accesses) where
+module _ {D : Type 0} (size faults mismatches : D → ℕ) (held : D → Option (List ℕ)) (b : Standing D) (rows : Rows) (owed spare : ℕ) (keeps : Keeps size faults mismatches held b rows owed spare) (t : Task) (w : Worker) (b' : Standing D) (same : b ≡ b') (can' : CanHappen b' (Run t w)) (at : Node) (bound : at ≡ node_of b.machine w) (accesses : List Access) (of_task : accesses ≡ (task_of b.program t).accesses) (q : Program) (program : q ≡ b.program) where
   now-can : CanHappen b (Run t w)
   now-can = subst (λ (x : Standing D). CanHappen x (Run t w)) (sym same) can'
 
   pub found-run_task : t.0 < length rows.tasks
   found-run_task = run-task size faults mismatches held b rows owed spare keeps t w now-can
 
-  pub found-can_give : (cells : List Copies) → cells ≡ rows.cells → All (CanGive cells at) accesses
-  found-can_give cells is =
-      subst (λ (cs : List Copies). All (CanGive cs at) accesses) (sym is)
-      (subst (λ (j : Node). All (CanGive rows.cells j) accesses) (sym bound)
-      (subst (λ (l : List Access). All (CanGive rows.cells (node_of b.machine w)) l) (sym of_task) (run-can_give size faults mismatches held b rows owed spare keeps t w now-can)))
+  pub found-can_work : All (CanWorkOn q w) accesses
+  found-can_work =
+      subst (λ (x : Program). All (CanWorkOn x w) accesses) (sym program)
+      (subst (λ (l : List Access). All (CanWorkOn b.program w) l) (sym of_task) (run-can_work size faults mismatches held b rows owed spare keeps t w now-can))
 
-  pub found-run_shares : (cells : List Copies) (slots : List Slot) (old : List Slot) → cells ≡ rows.cells → old ≡ [] → slots ≡ old ++ shares_at cells at accesses → AreSharesFor held b' t w slots
+  pub found-can_give : (cells : List Copies) → cells ≡ rows.cells → All (CanGive q w cells at) accesses
+  found-can_give cells is =
+      subst (λ (x : Program). All (CanGive x w cells at) accesses) (sym program)
+      (subst (λ (cs : List Copies). All (CanGive b.program w cs at) accesses) (sym is)
+      (subst (λ (j : Node). All (CanGive b.program w rows.cells j) accesses) (sym bound)
+      (subst (λ (l : List Access). All (CanGive b.program w rows.cells (node_of b.machine w)) l) (sym of_task) (run-can_give size faults mismatches held b rows owed spare keeps t w now-can))))
+
+  pub found-run_shares : (cells : List Copies) (slots : List Slot) (old : List Slot) → cells ≡ rows.cells → old ≡ [] → slots ≡ old ++ shares_at q w cells at accesses → AreSharesFor held b' t w slots
   found-run_shares cells slots old is none made =
       run-shares size faults mismatches held b rows owed spare keeps t w now-can b' slots same
-      (made ∙ ap (λ (l : List Slot). l ++ shares_at cells at accesses) none ∙ ap (λ (cs : List Copies). shares_at cs at accesses) is ∙ ap (λ (j : Node). shares_at rows.cells j accesses) bound ∙ ap (λ (l : List Access). shares_at rows.cells (node_of b.machine w) l) of_task)
+      (made ∙ ap (λ (l : List Slot). l ++ shares_at q w cells at accesses) none ∙ ap (λ (x : Program). shares_at x w cells at accesses) program ∙ ap (λ (cs : List Copies). shares_at b.program w cs at accesses) is
+      ∙ ap (λ (j : Node). shares_at b.program w rows.cells j accesses) bound ∙ ap (λ (l : List Access). shares_at b.program w rows.cells (node_of b.machine w) l) of_task)
 
-  module _ (written : List Cell) (is : written ≡ written_among accesses) where
-    all-written : written ≡ written_among (task_of b.program t).accesses
-    all-written = is ∙ ap written_among of_task
+  module _ (written : List Cell) (is : written ≡ written_among q w accesses) where
+    all-written : written ≡ written_among b.program w (task_of b.program t).accesses
+    all-written = is ∙ ap (λ (x : Program). written_among x w accesses) program ∙ ap (written_among b.program w) of_task
 
     pub found-run_cells : All (λ c. c.0 < length rows.cells) written
     found-run_cells = subst (λ (l : List Cell). All (λ c. c.0 < length rows.cells) l) (sym all-written) (run-cells size faults mismatches held b rows owed spare keeps t w now-can)

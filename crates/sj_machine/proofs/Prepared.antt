@@ -30,11 +30,11 @@ pub lacks-all : (cs : List Cell) → filter (λ c. not (has_entry [] c)) cs ≡ 
 lacks-all [] = refl
 lacks-all (c ∷ cs) = ap (λ (ds : List Cell). c ∷ ds) (lacks-all cs)
 
-pub lacking-all : (p : Program) (s : Store) (t : Task) → s.entries ≡ [] → lacking p s t ≡ distinct (named p t)
+pub lacking-all : (p : Program) (s : Store) (t : Task) → s.entries ≡ [] → lacking s (named p t) ≡ distinct (named p t)
 lacking-all p s t none = ap (λ (es : List Entry). filter (λ c. not (has_entry es c)) (distinct (named p t))) none ∙ lacks-all (distinct (named p t))
 
 -- what a task brings to it is all that it needs
-pub brings-all : (p : Program) (s : Store) (t : Task) → s.entries ≡ [] → sum (map (tile_bytes p) (lacking p s t)) + scratch_bytes p (task_of p t) ≡ footprint p t
+pub brings-all : (p : Program) (s : Store) (t : Task) → s.entries ≡ [] → sum (map (tile_bytes p) (lacking s (named p t))) + scratch_bytes p (task_of p t) ≡ footprint p t
 brings-all p s t none = ap (λ (cs : List Cell). sum (map (tile_bytes p) cs) + scratch_bytes p (task_of p t)) (lacking-all p s t none) ∙ ap (λ (n : ℕ). n + scratch_bytes p (task_of p t)) (sum-map (tile_bytes p) (distinct (named p t)))
 
 -- ---- the tasks that are ready

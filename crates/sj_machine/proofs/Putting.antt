@@ -1,16 +1,16 @@
 -- The rows of cells after new tiles of some were put.
-use Rattle.std.proofs.Common.{◌≡◌, ◌<◌, ◌≤◌, ◌+◌, ℕ, suc, Bool, true, false, List, [], ◌∷◌, ◌++◌, None, Some, ◌∙◌, ap, arith, cond, find, length, map, refl, sum_by, sym, ◌||◌}
+use Rattle.std.proofs.Common.{◌≡◌, ◌<◌, ◌≤◌, ◌+◌, ℕ, suc, Bool, true, false, List, [], ◌∷◌, ◌++◌, None, Some, ◌∙◌, ap, arith, cond, find, length, map, refl, subst, sum_by, sym, ◌||◌}
 use Rattle.std.specs.Prelude.{All, filter}
 use Rattle.std.specs.List.{zip}
 use Rattle.std.proofs.lemmas.Bool.{false_from_ne_true, false≢true, or_parts}
-use Rattle.std.proofs.lemmas.List.{length-map, length-set, length_push, map-append}
-use Rattle.std.proofs.lemmas.List.Elements.{All-get_or, All-set, filter-append}
+use Rattle.std.proofs.lemmas.List.{append-nil, get_or_append_left, get_or_push, length-map, length-set, length_push, map-append}
+use Rattle.std.proofs.lemmas.List.Elements.{All-get_or, All-set, All-weaker, filter-append}
 use Rattle.std.proofs.lemmas.List.Sums.{sum_by-set}
 use Rattle.sj_base.specs.Array.{Array, zeros}
 use Rattle.sj_base.specs.Mode.{is_written}
 use Rattle.sj_base.specs.declared.mode.Access.{Access}
 use Rattle.sj_codelet.specs.Frame.{Slot, arrays, shared}
-use Rattle.sj_core.proofs.Words.{Cell, Node, Program, dims_of, has_cell, same_cell}
+use Rattle.sj_core.proofs.Words.{Cell, Node, Program, Worker, dims_of, has_cell, same_cell}
 use Rattle.sj_core.proofs.CellLists.{same_cell-refl, times, times-cons, times-has}
 use Rattle.sj_core.proofs.Reading.{same_cell-is}
 use Rattle.sj_core.proofs.Sums.{tally}
@@ -19,15 +19,32 @@ use Rattle.sj_machine.specs.declared.mark.Mark.TheVariants.{Invalid, Valid}
 use Rattle.sj_machine.specs.Mark.{owed_for}
 use Rattle.sj_machine.specs.Agrees.{IsWide}
 use Rattle.sj_machine.specs.Copies.{Copies, mark_at, owed_in, row_of, with_row, written_at}
-use Rattle.sj_machine.specs.Running.{put_each, written_among}
+use Rattle.sj_core.specs.Operands.{worked_on}
+use Rattle.sj_machine.specs.Operands.{CanWorkOn, written_among}
+use Rattle.sj_machine.specs.Running.{CanPutBack, CanRewrite, put_each}
 use Rattle.sj_machine.proofs.Reading.{no_copies, row-other, row-same}
 
 -- ---- the operands from the last to the first
 
-pub among_written : (xs : List Access) (a : Access) → is_written a.mode ≡ true → written_among (xs ++ a ∷ []) ≡ written_among xs ++ a.cell ∷ []
-among_written xs a h =
-    ap (map (λ (b : Access). b.cell)) (filter-append (λ (b : Access). is_written b.mode) xs (a ∷ []) ∙ ap (λ b. filter (λ (b : Access). is_written b.mode) xs ++ cond b (a ∷ []) []) h)
-    ∙ map-append (λ (b : Access). b.cell) (filter (λ (b : Access). is_written b.mode) xs) (a ∷ [])
+-- what is so of all is so of those before the last, and of the last
+pub all-before : {X : Type 0} (P : X → Type 0) (xs before : List X) (last : X) → xs ≡ before ++ last ∷ [] → All P xs → All P before
+all-before P xs before last e all i d inside =
+    subst P (get_or_append_left before (last ∷ []) d i inside) (subst (All P) e all i d (omega (arith, inside, length_push before last)))
+
+pub all-last : {X : Type 0} (P : X → Type 0) (xs before : List X) (last : X) → xs ≡ before ++ last ∷ [] → All P xs → P last
+all-last P xs before last e all =
+    subst P (get_or_push before last last (length before) refl) (subst (All P) e all (length before) last (omega (arith, length_push before last)))
+
+among-push : (p : Program) (w : Worker) (xs : List Access) (a : Access) (x : Bool) → is_written a.mode ≡ x → written_among p w (xs ++ a ∷ []) ≡ written_among p w xs ++ map (worked_on p w) (cond x (a ∷ []) [])
+among-push p w xs a x h =
+    ap (map (worked_on p w)) (filter-append (λ (b : Access). is_written b.mode) xs (a ∷ []) ∙ ap (λ b. filter (λ (b : Access). is_written b.mode) xs ++ cond b (a ∷ []) []) h)
+    ∙ map-append (worked_on p w) (filter (λ (b : Access). is_written b.mode) xs) (cond x (a ∷ []) [])
+
+pub among_written : (p : Program) (w : Worker) (xs : List Access) (a : Access) → is_written a.mode ≡ true → written_among p w (xs ++ a ∷ []) ≡ written_among p w xs ++ worked_on p w a ∷ []
+among_written p w xs a h = among-push p w xs a true h
+
+pub among_unwritten : (p : Program) (w : Worker) (xs : List Access) (a : Access) → is_written a.mode ≡ false → written_among p w (xs ++ a ∷ []) ≡ written_among p w xs
+among_unwritten p w xs a h = among-push p w xs a false h ∙ append-nil (written_among p w xs)
 
 put_each-push : (n : Node) (cs : List Cell) (xs : List Array) (c : Cell) (x : Array) (rows : List Copies) → length cs ≡ length xs → put_each n (cs ++ c ∷ []) (xs ++ x ∷ []) rows ≡ put_each n cs xs (with_row rows c (λ row. written_at row n x))
 put_each-push n [] [] c x rows h = refl
@@ -35,14 +52,43 @@ put_each-push n [] (y ∷ xs) c x rows h = absurd (omega arith)
 put_each-push n (d ∷ cs) [] c x rows h = absurd (omega arith)
 put_each-push n (d ∷ cs) (y ∷ xs) c x rows h = ap (λ (rs : List Copies). with_row rs d (λ row. written_at row n y)) (put_each-push n cs xs c x rows (omega arith))
 
-pub put_back-puts : (n : Node) (accesses before : List Access) (last : Access) (slots slots' : List Slot) (x : Array) (rows : List Copies) → accesses ≡ before ++ last ∷ [] → slots ≡ slots' ++ shared x ∷ [] → is_written last.mode ≡ true → length slots ≡ length (written_among accesses) → put_each n (written_among before) (arrays slots') (with_row rows last.cell (λ row. written_at row n x)) ≡ put_each n (written_among accesses) (arrays slots) rows
-put_back-puts n accesses before last slots slots' x rows e made writes count =
-    let cells : written_among accesses ≡ written_among before ++ last.cell ∷ [] = ap written_among e ∙ among_written before last writes in
+pub put_back-puts : (p : Program) (w : Worker) (n : Node) (accesses before : List Access) (last : Access) (slots slots' : List Slot) (x : Array) (rows : List Copies) → accesses ≡ before ++ last ∷ [] → slots ≡ slots' ++ shared x ∷ [] → is_written last.mode ≡ true → length slots ≡ length (written_among p w accesses) → put_each n (written_among p w before) (arrays slots') (with_row rows (worked_on p w last) (λ row. written_at row n x)) ≡ put_each n (written_among p w accesses) (arrays slots) rows
+put_back-puts p w n accesses before last slots slots' x rows e made writes count =
+    let cells : written_among p w accesses ≡ written_among p w before ++ (worked_on p w last) ∷ [] = ap (written_among p w) e ∙ among_written p w before last writes in
     let news : arrays slots ≡ arrays slots' ++ x ∷ [] = ap arrays made ∙ map-append (λ (s : Slot). s.array) slots' (shared x ∷ []) in
-    let many : length (written_among before) ≡ length (arrays slots') = omega (arith, count, ap length cells, length_push (written_among before) last.cell, ap length made, length_push slots' (shared x), length-map slots' (λ (s : Slot). s.array)) in
-    sym (put_each-push n (written_among before) (arrays slots') last.cell x rows many)
-    ∙ sym (ap (λ (l : List Array). put_each n (written_among before ++ last.cell ∷ []) l rows) news)
+    let many : length (written_among p w before) ≡ length (arrays slots') = omega (arith, count, ap length cells, length_push (written_among p w before) (worked_on p w last), ap length made, length_push slots' (shared x), length-map slots' (λ (s : Slot). s.array)) in
+    sym (put_each-push n (written_among p w before) (arrays slots') (worked_on p w last) x rows many)
+    ∙ sym (ap (λ (l : List Array). put_each n (written_among p w before ++ (worked_on p w last) ∷ []) l rows) news)
     ∙ sym (ap (λ (l : List Cell). put_each n l (arrays slots) rows) cells)
+
+-- what can be put back, before the last operand, where it isn't written
+pub can_put-skip : (p : Program) (w : Worker) (n : Node) (accesses before : List Access) (last : Access) (slots : List Slot) (rows : List Copies) → accesses ≡ before ++ last ∷ [] → is_written last.mode ≡ false → CanPutBack p w rows n accesses slots → CanPutBack p w rows n before slots
+can_put-skip p w n accesses before last slots rows e stays can =
+    let same : written_among p w accesses ≡ written_among p w before = ap (written_among p w) e ∙ among_unwritten p w before last stays in
+    record {
+      works = all-before (CanWorkOn p w) accesses before last e can.works;
+      cells = all-before (λ a. (worked_on p w a).0 < length rows) accesses before last e can.cells;
+      rewrites = subst (λ (l : List Cell). All (CanRewrite n (length l)) rows) same can.rewrites;
+      shares = can.shares;
+      count = can.count ∙ ap length same;
+    }
+
+-- and where it is, once it was put back
+pub can_put-take : (p : Program) (w : Worker) (n : Node) (accesses before : List Access) (last : Access) (slots slots' : List Slot) (x : Array) (rows rows' : List Copies) (c : Cell) → accesses ≡ before ++ last ∷ [] → is_written last.mode ≡ true → slots ≡ slots' ++ shared x ∷ [] → c ≡ worked_on p w last → rows' ≡ with_row rows c (λ row. written_at row n x) → CanPutBack p w rows n accesses slots → CanPutBack p w rows' n before slots'
+can_put-take p w n accesses before last slots slots' x rows rows' c e writes made at now can =
+    let among : written_among p w accesses ≡ written_among p w before ++ worked_on p w last ∷ [] = ap (written_among p w) e ∙ among_written p w before last writes in
+    let more : length (written_among p w accesses) ≡ length (written_among p w before) + 1 = ap length among ∙ length_push (written_among p w before) (worked_on p w last) in
+    let long : length rows' ≡ length rows = ap length now ∙ length-set rows c.0 (written_at (row_of rows c) n x) in
+    let inside : c.0 < length rows = subst (λ (d : Cell). d.0 < length rows) (sym at) (all-last (λ a. (worked_on p w a).0 < length rows) accesses before last e can.cells) in
+    let fewer : All (CanRewrite n (length (written_among p w before))) rows = All-weaker (CanRewrite n (length (written_among p w accesses))) (CanRewrite n (length (written_among p w before))) (λ row is. record { node = is.node; few = omega (arith, is.few, more) }) rows can.rewrites in
+    let here : CanRewrite n (length (written_among p w accesses)) (row_of rows c) = All-get_or (CanRewrite n (length (written_among p w accesses))) rows c.0 no_copies inside can.rewrites in
+    record {
+      works = all-before (CanWorkOn p w) accesses before last e can.works;
+      cells = subst (λ k. All (λ a. (worked_on p w a).0 < k) before) (sym long) (all-before (λ a. (worked_on p w a).0 < length rows) accesses before last e can.cells);
+      rewrites = subst (All (CanRewrite n (length (written_among p w before)))) (sym now) (All-set (CanRewrite n (length (written_among p w before))) rows c.0 (written_at (row_of rows c) n x) (record { node = omega (arith, here.node, length-set (row_of rows c).marks n.0 Valid); few = omega (arith, here.few, more) }) fewer);
+      shares = all-before (λ (y : Slot). y.owned ≡ false) slots slots' (shared x) made can.shares;
+      count = omega (arith, can.count, more, ap length made, length_push slots' (shared x));
+    }
 
 -- ---- what it keeps
 

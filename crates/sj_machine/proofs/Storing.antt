@@ -52,7 +52,7 @@ told_as None b e h = absurd (false≢true h)
 told_as (Some x) None e h = absurd (false≢true e)
 told_as (Some x) (Some y) e h = refl
 
-tell-still : {D : Type 0} (size faults mismatches : D → ℕ) (held : D → Option (List ℕ)) (xs ys : List D) → AreGivenBack size faults mismatches held xs ys → All (λ x. IsSome (held x)) xs → (k : ℕ) (y : D) → slice_get ys k ≡ Some y → IsSome (held y)
+pub tell-still : {D : Type 0} (size faults mismatches : D → ℕ) (held : D → Option (List ℕ)) (xs ys : List D) → AreGivenBack size faults mismatches held xs ys → All (λ x. IsSome (held x)) xs → (k : ℕ) (y : D) → slice_get ys k ≡ Some y → IsSome (held y)
 tell-still {D} size faults mismatches held xs ys back all k y there =
     let R : D → D → Type 0 = IsGivenBack size faults mismatches held in
     let inside : k < length xs = omega (arith, slice_get_within ys k y there, length_all_zip R xs ys back) in

@@ -24,8 +24,10 @@ use Rattle.sj_deps.specs.Progress.{Progress as Dependencies, after as after_done
 use Rattle.sj_pool.specs.Pool.{Pooled}
 use Rattle.sj_machine.specs.Board.{BoardState, IsWorking, board_state, hand_in, hand_of, has_ended}
 use Rattle.sj_machine.specs.BoardSound.{HandsAgree, IsToBeTaken, KeepsBoard, StandsOnce, StopsAtTheEnd, times_given, times_pooled}
+use Rattle.sj_base.specs.Array.{Array}
+use Rattle.sj_machine.specs.Delivered.{handed}
 use Rattle.sj_machine.specs.Filling.{CanPutEach, with_each}
-use Rattle.sj_machine.specs.Releasing.{AreReleased, BecomeReady, EndsTask, Releases}
+use Rattle.sj_machine.specs.Releasing.{AreReleased, BecomeReady, EndsTask, IsGift, Releases}
 use Rattle.sj_machine.specs.Sound.{IsSoundRun}
 use Rattle.sj_machine.specs.Standing.{CanHappen, Standing, state, with_event}
 use Rattle.sj_machine.specs.declared.hand.Hand.{Hand}
@@ -156,7 +158,7 @@ module _ {D : Type 0} (size faults mismatches : D → ℕ) (held : D → Option 
     by_number = released.by_number;
   }
 
-  module _ (ts : List Task) (become : BecomeReady p s s' ts) where
+  module _ (ts : List Task) (become : BecomeReady p s s' ts) (gift : Option Array) where
     few : (u : Task) → times_among ts u ≤ 1
     few u = among-once ts u (AllPairs-from_increasing (map (λ (k : Task). k.0) ts) become.by_number)
 
@@ -198,7 +200,7 @@ module _ {D : Type 0} (size faults mismatches : D → ℕ) (held : D → Option 
     inside : w.0 < length b.hands
     inside = subst (λ (n : ℕ). w.0 < n) (sym keeps.inside.hands_agree.every_worker) works.known
 
-    ended-hands : HandsAgree p s' (has_ended b t w ts).hands b.fault
+    ended-hands : HandsAgree p s' (has_ended b t w ts gift).hands b.fault
     ended-hands = record {
       every_worker = length-set b.hands w.0 hand' ∙ keeps.inside.hands_agree.every_worker;
       has = hand-set_apart (λ v h. (u : Task) → h.task ≡ Some u → IsTrue (is_task_of v (progress s' u))) b.hands w hand' inside
@@ -229,13 +231,13 @@ module _ {D : Type 0} (size faults mismatches : D → ℕ) (held : D → Option 
     unfinished (inl complete) = absurd (not-complete s t inside-tasks (ap is_done step.was) complete)
     unfinished (inr some) = inr some
 
-    ended-stops : StopsAtTheEnd s' (has_ended b t w ts).hands b.fault
+    ended-stops : StopsAtTheEnd s' (has_ended b t w ts gift).hands b.fault
     ended-stops = record {
       no_task = hand-set (λ v h. h.has_stopped ≡ true → h.task ≡ None) b.hands w hand' inside (λ e. refl) keeps.inside.stops.no_task;
       over = hand-set (λ v h. h.has_stopped ≡ true → IsComplete s' ⊎ IsTrue (is_some b.fault)) b.hands w hand' inside (λ e. unfinished (keeps.inside.stops.over w e)) (λ v e. unfinished (keeps.inside.stops.over v e));
     }
 
-    times : (u : Task) → times_pooled (with_each p (Some w) b.pool ts) u + times_given (has_ended b t w ts).hands u ≡ times_pooled b.pool u + times_given b.hands u + times_among ts u
+    times : (u : Task) → times_pooled (with_each p (Some w) b.pool ts) u + times_given (has_ended b t w ts gift).hands u ≡ times_pooled b.pool u + times_given b.hands u + times_among ts u
     times u = omega (arith, filled.times u, given-same b.hands w hand' u inside refl)
 
     -- a ready task that isn't done waits, or was ready before
@@ -292,7 +294,7 @@ module _ {D : Type 0} (size faults mismatches : D → ℕ) (held : D → Option 
             let once = keeps.inside.stands_once.once u (record { waiting = sym (step.others u other) ∙ is.waiting; ready = before }) in
             absurd (omega (arith, none, once))
 
-    ended-stands : StandsOnce p s' (has_ended b t w ts).hands (with_each p (Some w) b.pool ts)
+    ended-stands : StandsOnce p s' (has_ended b t w ts gift).hands (with_each p (Some w) b.pool ts)
     ended-stands = record {
       once = λ u is. times u ∙ once-now u is;
       only = λ u some. elim (cases_lt 0 (times_pooled b.pool u + times_given b.hands u)) as (λ _. IsToBeTaken p s' u) [
@@ -303,7 +305,7 @@ module _ {D : Type 0} (size faults mismatches : D → ℕ) (held : D → Option 
       ];
     }
 
-    pub keeps-ended : KeepsBoard faults mismatches held (has_ended b t w ts) (after_done deps t.0) footprints
+    pub keeps-ended : KeepsBoard faults mismatches held (has_ended b t w ts gift) (after_done deps t.0) footprints
     keeps-ended = record {
       fault = keeps.fault;
       inside = record {
@@ -317,20 +319,23 @@ module _ {D : Type 0} (size faults mismatches : D → ℕ) (held : D → Option 
     }
 
   pub ends-can : (p' : Program) → p' ≡ p → (ts : List Task) → AreReleased deps t ts → CanPutEach p' (Some w) b.pool ts
-  ends-can p' same ts released = subst (λ (q : Program). CanPutEach q (Some w) b.pool ts) (sym same) (filled ts (released-become ts released)).can
+  ends-can p' same ts released = subst (λ (q : Program). CanPutEach q (Some w) b.pool ts) (sym same) (filled ts (released-become ts released) None).can
 
   -- as the code leaves it
-  module _ (p' : Program) (run' : Standing D) (hands' : List Hand) (pool' : Pooled) (deps' : Dependencies) (same : p' ≡ p) (ran : run' ≡ with_event b.run (End t w)) (handed : hands' ≡ slice_set b.hands w.0 (record (hand_of b w) { task = None })) (done : deps' ≡ after_done deps t.0) (put : Releases p' deps t w b.pool pool') where
-    left : board_state run' hands' pool' b.fault ≡ has_ended b t w put.ready
-    left = ap (λ (r : Standing D). board_state r hands' pool' b.fault) ran ∙ ap (λ (hs : List Hand). board_state (with_event b.run (End t w)) hs pool' b.fault) handed ∙ ap (λ (q : Pooled). board_state (with_event b.run (End t w)) (slice_set b.hands w.0 (record (hand_of b w) { task = None })) q b.fault) (put.put ∙ ap (λ (q : Program). with_each q (Some w) b.pool put.ready) same)
+  module _ (p' : Program) (run' : Standing D) (hands' : List Hand) (pool' : Pooled) (deps' : Dependencies) (delivered' : List (Task × Array)) (gift : Option Array) (same : p' ≡ p) (ran : run' ≡ with_event b.run (End t w)) (handed' : hands' ≡ slice_set b.hands w.0 (record (hand_of b w) { task = None })) (done : deps' ≡ after_done deps t.0) (put : Releases p' deps t w b.pool pool') (gave : delivered' ≡ b.delivered ++ handed t gift) where
+    abbrev left_hands : List Hand
+    left_hands = slice_set b.hands w.0 (record (hand_of b w) { task = None })
 
-    pub ends-left : KeepsBoard faults mismatches held (board_state run' hands' pool' b.fault) deps' footprints
+    left : board_state run' hands' pool' b.fault delivered' ≡ has_ended b t w put.ready gift
+    left =
+        ap (λ (r : Standing D). board_state r hands' pool' b.fault delivered') ran ∙ ap (λ (hs : List Hand). board_state (with_event b.run (End t w)) hs pool' b.fault delivered') handed'
+        ∙ ap (λ (q : Pooled). board_state (with_event b.run (End t w)) left_hands q b.fault delivered') (put.put ∙ ap (λ (q : Program). with_each q (Some w) b.pool put.ready) same)
+        ∙ ap (λ (ds : List (Task × Array)). board_state (with_event b.run (End t w)) left_hands (with_each p (Some w) b.pool put.ready) b.fault ds) gave
+
+    pub ends-left : KeepsBoard faults mismatches held (board_state run' hands' pool' b.fault delivered') deps' footprints
     ends-left =
-        subst (λ (x : Dependencies). KeepsBoard faults mismatches held (board_state run' hands' pool' b.fault) x footprints) (sym done)
-        (subst (λ (x : BoardState D). KeepsBoard faults mismatches held x (after_done deps t.0) footprints) (sym left) (keeps-ended put.ready (released-become put.ready put.released)))
+        subst (λ (x : Dependencies). KeepsBoard faults mismatches held (board_state run' hands' pool' b.fault delivered') x footprints) (sym done)
+        (subst (λ (x : BoardState D). KeepsBoard faults mismatches held x (after_done deps t.0) footprints) (sym left) (keeps-ended put.ready (released-become put.ready put.released) gift))
 
-    ends-here : EndsTask b t w (board_state run' hands' pool' b.fault)
-    ends-here = record { ready = put.ready; become = released-become put.ready put.released; leaves = left }
-
-    pub ends-task : (old : BoardState D) → b ≡ old → EndsTask old t w (board_state run' hands' pool' b.fault)
-    ends-task old is = subst (λ (x : BoardState D). EndsTask x t w (board_state run' hands' pool' b.fault)) is ends-here
+    pub ends-task : IsGift held b.run t w gift → (old : BoardState D) → b ≡ old → EndsTask held old t w (board_state run' hands' pool' b.fault delivered')
+    ends-task gives old is = subst (λ (x : BoardState D). EndsTask held x t w (board_state run' hands' pool' b.fault delivered')) is (record { ready = put.ready; become = released-become put.ready put.released; gift = gift; gives = gives; leaves = left })

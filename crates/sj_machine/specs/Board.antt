@@ -1,29 +1,34 @@
--- A board as contracts see it: the run, what each worker has in hand, the pool of ready tasks, and the first fault.
-use Rattle.std.specs.Prelude.{◌≡◌, ◌≢◌, ℕ, ◌<◌, ◌⊎◌, true, false, IsTrue, Option, Some, None, IfSome, IsSomeAnd, is_some, List, slice_get, slice_index_or, slice_set, if◌then◌else◌}
+-- A board as contracts see it: the run, what each worker has in hand, the pool of ready tasks, the first fault, and what
+-- deliver tasks have handed over.
+use Rattle.std.specs.Prelude.{◌≡◌, ◌≢◌, ℕ, ◌<◌, ◌⊎◌, true, false, IsTrue, Option, Some, None, IfSome, IsSomeAnd, is_some, List, ◌++◌, slice_get, slice_index_or, slice_set, if◌then◌else◌}
 use Rattle.sj_base.specs.declared.ids.Task.{Task}
 use Rattle.sj_base.specs.declared.ids.Worker.{Worker}
 use Rattle.sj_base.specs.declared.trace.Event.{Event}
 use Rattle.sj_base.specs.declared.trace.Event.TheVariants.{Claim, End, Moved}
+use Rattle.sj_base.specs.Array.{Array}
 use Rattle.sj_core.specs.Legal.{IsComplete}
 use Rattle.sj_core.specs.Machine.{is_running_on, progress, transfer}
 use Rattle.sj_core.specs.Needs.{node_of, node_size}
 use Rattle.sj_core.specs.declared.progress.Transfer.{Transfer}
+use Rattle.sj_edge.specs.Faults.{Rose}
 use Rattle.sj_pool.specs.Pool.{Pooled, task_for, with_entry, without_entry_for}
+use Rattle.sj_machine.specs.Delivered.{handed}
 use Rattle.sj_machine.specs.Filling.{entry_of, with_each}
 use Rattle.sj_machine.specs.Standing.{AllTell, Standing, state, with_event}
 use Rattle.sj_machine.specs.declared.fault.RunFault.{RunFault}
 use Rattle.sj_machine.specs.declared.fault.RunFault.TheVariants.{Damaged, DiskFault, OutOfMemory}
 use Rattle.sj_machine.specs.declared.hand.Hand.{Hand}
 
--- a board: `fault` is the first one
+-- a board: `fault` is the first one, and `delivered` has what ends of tasks have handed over, in their order
 pub record BoardState (D : Type 0) : Type 0 where
   pub run : Standing D
   pub hands : List Hand
   pub pool : Pooled
   pub fault : Option RunFault
+  pub delivered : List (Task × Array)
 
-abbrev pub board_state : {D : Type 0} → Standing D → List Hand → Pooled → Option RunFault → BoardState D
-board_state run hands pool fault = record { run = run; hands = hands; pool = pool; fault = fault }
+abbrev pub board_state : {D : Type 0} → Standing D → List Hand → Pooled → Option RunFault → List (Task × Array) → BoardState D
+board_state run hands pool fault delivered = record { run = run; hands = hands; pool = pool; fault = fault; delivered = delivered }
 
 -- ---- workers
 
@@ -108,15 +113,18 @@ given_back b t w = record (with_hand b w (record (hand_of b w) { given = None })
 abbrev pub has_claimed : {D : Type 0} → BoardState D → Task → Worker → BoardState D
 has_claimed b t w = with_hand (has_event b (Claim t w)) w (record (hand_of b w) { given = None; task = Some t })
 
--- the worker's task has ended, and these are in the pool
-abbrev pub has_ended : {D : Type 0} → BoardState D → Task → Worker → List Task → BoardState D
-has_ended b t w ready = record (with_hand (has_event b (End t w)) w (record (hand_of b w) { task = None })) { pool = with_each b.run.program (Some w) b.pool ready }
+-- the worker's task has ended, these are in the pool, and this was handed over
+abbrev pub has_ended : {D : Type 0} → BoardState D → Task → Worker → List Task → Option Array → BoardState D
+has_ended b t w ready gift = record (with_hand (has_event b (End t w)) w (record (hand_of b w) { task = None })) {
+  pool = with_each b.run.program (Some w) b.pool ready;
+  delivered = b.delivered ++ handed t gift;
+}
 
 -- ---- faults
 
--- the count of the disk with this number is above what it was
+-- the count of the disk with this number is above what it was, or stood at its last value
 abbrev pub HasRisen : {D : Type 0} → (D → ℕ) → List D → List D → ℕ → Type 0
-HasRisen count old new d = IsSomeAnd (slice_get old d) (λ x. IsSomeAnd (slice_get new d) (λ y. count x < count y))
+HasRisen count old new d = IsSomeAnd (slice_get old d) (λ x. IsSomeAnd (slice_get new d) (λ y. Rose (count x) (count y)))
 
 -- the fault has its cause: a disk of which a count rose since the run was made
 abbrev pub HasCause : {D : Type 0} → (D → ℕ) → (D → ℕ) → (D → Option (List ℕ)) → Standing D → RunFault → Type 0

@@ -1,12 +1,13 @@
 -- What is true of every board between two calls.
-use Rattle.std.specs.Prelude.{◌≡◌, ◌↔◌, ℕ, ◌+◌, ◌<◌, ◌≤◌, ◌⊎◌, Bool, true, false, IsTrue, nat_eq, Option, Some, None, IfSome, is_some, All, List, length, count_by, sum_by, slice_index_or}
+use Rattle.std.specs.Prelude.{◌≡◌, ◌↔◌, ℕ, ◌+◌, ◌<◌, ◌≤◌, ◌⊎◌, Bool, true, false, not, IsTrue, nat_eq, Option, Some, None, IfSome, is_some, All, List, length, count_by, sum_by, slice_index_or}
 use Rattle.std.specs.List.{Contains}
 use Rattle.sj_base.specs.declared.ids.Task.{Task}
 use Rattle.sj_base.specs.declared.ids.Worker.{Worker}
 use Rattle.sj_base.specs.declared.program.Program.{Program}
 use Rattle.sj_base.specs.declared.program.Machine.{Machine}
 use Rattle.sj_core.specs.Legal.{IsComplete}
-use Rattle.sj_core.specs.Machine.{State, is_task_of, progress}
+use Rattle.sj_base.specs.Array.{Array}
+use Rattle.sj_core.specs.Machine.{State, is_done, is_task_of, progress}
 use Rattle.sj_core.specs.Needs.{footprint, node_of, node_size}
 use Rattle.sj_core.specs.Step.{done_tasks}
 use Rattle.sj_core.specs.declared.progress.Progress.TheVariants.{Waiting}
@@ -15,9 +16,10 @@ use Rattle.sj_deps.specs.Progress.{Progress as Dependencies}
 use Rattle.sj_pool.specs.Pool.{Pooled, queue_count}
 use Rattle.sj_pool.specs.declared.entry.Entry.{Entry}
 use Rattle.sj_machine.specs.Board.{BoardState, HasCause, hand_in}
+use Rattle.sj_machine.specs.Delivered.{DeliversDone, KeepsGifts, undelivered}
 use Rattle.sj_machine.specs.Filling.{entry_of}
 use Rattle.sj_machine.specs.Sound.{IsSoundRun}
-use Rattle.sj_machine.specs.Standing.{state}
+use Rattle.sj_machine.specs.Standing.{AllTell, state}
 use Rattle.sj_machine.specs.declared.fault.RunFault.{RunFault}
 use Rattle.sj_machine.specs.declared.hand.Hand.{Hand}
 
@@ -83,11 +85,13 @@ pub record IsSoundIn (p : Program) (m : Machine) (s : State) (hands : List Hand)
   pub stands_once : StandsOnce p s hands pool
   pub pool_fits : IsPoolFor p m hands pool
 
--- the run is sound, a fault that is kept has its cause, and workers' hands and the pool fit the state
+-- the run is sound, a fault that is kept has its cause, workers' hands and the pool fit the state, and each deliver task that
+-- is done has handed over what it was given
 pub record IsSoundBoard {D : Type 0} (size faults mismatches : D → ℕ) (held : D → Option (List ℕ)) (b : BoardState D) : Type 0 where
   pub run : IsSoundRun size faults mismatches held b.run
   pub fault : IfSome b.fault (HasCause faults mismatches held b.run)
   pub inside : IsSoundIn b.run.program b.run.machine (state b.run) b.hands b.pool b.fault
+  pub delivered : DeliversDone b.run.program (state b.run) (AllTell held b.run) b.delivered
 
 -- ---- what a board keeps beside
 
@@ -106,3 +110,20 @@ pub record KeepsBoard {D : Type 0} (faults mismatches : D → ℕ) (held : D →
   pub inside : IsSoundIn b.run.program b.run.machine (state b.run) b.hands b.pool b.fault
   pub counts : CountsDone b.run.program (state b.run) deps
   pub bytes : AreFootprints b.run.program footprints
+
+-- how many tasks aren't done
+abbrev pub undone : State → ℕ
+undone s = count_by (λ x. not (is_done x)) s.tasks
+
+-- what the ends of tasks leave: arrays that were handed over, with room for those to come, and the count of the tasks that
+-- aren't done; and what running tasks are to hand over is kept
+pub record KeepsEnds (p : Program) (s : State) (Tells : Type 0) (pairs : List (Task × Array)) (gifts : List (Option Array)) (spare left : ℕ) : Type 0 where
+  pub delivered : DeliversDone p s Tells pairs
+  pub gifts_kept : KeepsGifts p s Tells gifts
+  pub room : undelivered p s ≤ spare
+  pub counted : undone s ≡ left
+
+-- all of it
+pub record IsKept {D : Type 0} (faults mismatches : D → ℕ) (held : D → Option (List ℕ)) (b : BoardState D) (deps : Dependencies) (footprints : List ℕ) (gifts : List (Option Array)) (spare left : ℕ) : Type 0 where
+  pub board : KeepsBoard faults mismatches held b deps footprints
+  pub ends : KeepsEnds b.run.program (state b.run) (AllTell held b.run) b.delivered gifts spare left

@@ -1,5 +1,6 @@
 -- What is kept of the copies of one cell.
-use Rattle.std.specs.Prelude.{ℕ, ◌+◌, ◌<◌, Bool, true, false, IsTrue, is_some, length, Option, Some, None, List, [], map, replicate, sum_by, slice_index_or, slice_set}
+use Rattle.std.specs.Prelude.{ℕ, ◌+◌, ◌<◌, Bool, true, false, not, ◌&&◌, ◌||◌, IsTrue, is_some, length, nat_eq, Option, Some, None, List, [], map, option_map, position, replicate, sum_by, slice_index_or, slice_set}
+use Rattle.std.specs.List.{list_any, range_with_len}
 use Rattle.sj_base.specs.declared.ids.Cell.{Cell}
 use Rattle.sj_base.specs.declared.ids.Node.{Node}
 use Rattle.sj_base.specs.declared.ids.Place.{Place}
@@ -7,7 +8,7 @@ use Rattle.sj_base.specs.declared.ids.Place.TheVariants.{Node as AtNode, Disk as
 use Rattle.sj_base.specs.Array.{Array}
 use Rattle.sj_machine.specs.declared.mark.Mark.{Mark}
 use Rattle.sj_machine.specs.declared.mark.Mark.TheVariants.{Invalid, Valid}
-use Rattle.sj_machine.specs.Mark.{owed_for}
+use Rattle.sj_machine.specs.Mark.{is_there, owed_for}
 
 -- what the cell is at each node, the tile that is kept there, whether its block on a disk is a copy, and how many tasks
 -- have written it
@@ -41,6 +42,18 @@ tile_kept rows c (OnDisk d) = None
 abbrev pub CanShare : List Copies → Cell → Place → Type 0
 CanShare rows c (AtNode n) = (c.0 < length rows) × (n.0 < length (row_of rows c).marks) × IsTrue (is_some (tile_at (row_of rows c) n))
 CanShare rows c (OnDisk d) = Unit {0}
+
+-- a copy is in this place, which is another than that
+abbrev pub is_copy_beside : List Mark → ℕ → ℕ → Bool
+is_copy_beside marks here k = not (nat_eq k here) && is_there (slice_index_or marks k Invalid)
+
+-- a copy is on a disk, or at another node
+abbrev pub is_elsewhere : Copies → Node → Bool
+is_elsewhere row n = row.on_disk || list_any (is_copy_beside row.marks n.0) (range_with_len 0 (length row.marks))
+
+-- the node with the least number at which a copy is
+abbrev pub first_node : Copies → Option Node
+first_node row = option_map (λ k. record { 0 = k }) (position is_there row.marks)
 
 -- the events that are owed for a cell's copies
 abbrev pub owed_in : Copies → ℕ

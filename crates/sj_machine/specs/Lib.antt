@@ -2,10 +2,13 @@ pub mod Agrees
 pub mod Board
 pub mod BoardRow
 pub mod BoardSound
+pub mod Choosing
 pub mod Copies
+pub mod Counts
 pub mod Delivered
 pub mod Filling
 pub mod Mark
+pub mod Operands
 pub mod Plan
 pub mod Planning
 pub mod Preparing
@@ -15,3 +18,4 @@ pub mod Sound
 pub mod Sparing
 pub mod Standing
 pub mod Tiles
+pub mod Todo

@@ -1,6 +1,7 @@
 -- What a cell is at a node, its array aside.
 use Rattle.std.specs.Prelude.{ℕ, Bool, true, false}
-use Rattle.sj_core.specs.Machine.{Replica, Invalid as NoReplica, Coming as ComingReplica, Valid as ValidReplica, Leaving as LeavingReplica}
+use Rattle.sj_base.specs.declared.ids.Worker.{Worker}
+use Rattle.sj_core.specs.Machine.{Replica, Invalid as NoReplica, Coming as ComingReplica, Valid as ValidReplica, Leaving as LeavingReplica, same_worker}
 use Rattle.sj_machine.specs.declared.mark.Mark.{Mark}
 use Rattle.sj_machine.specs.declared.mark.Mark.TheVariants.{Invalid, Coming, Valid, Leaving}
 
@@ -21,6 +22,16 @@ is_there (Leaving w) = true
 abbrev pub is_leaving : Mark → Bool
 is_leaving (Leaving w) = true
 is_leaving _ = false
+
+-- a copy leaves by the worker's claim
+abbrev pub is_leaving_by : Worker → Mark → Bool
+is_leaving_by w (Leaving v) = same_worker v w
+is_leaving_by w _ = false
+
+-- a copy comes by the worker's claim
+abbrev pub is_coming_by : Worker → Mark → Bool
+is_coming_by w (Coming v) = same_worker v w
+is_coming_by w _ = false
 
 -- the events that are owed for a mark: one where a copy leaves
 abbrev pub owed_for : Mark → ℕ

@@ -1,6 +1,5 @@
 -- Planning a claim: what it needs beside room on its node, what it finds there, and why it can't be made.
-use Rattle.std.specs.Prelude.{◌≡◌, ◌≤◌, ◌<◌, ◌+◌, ℕ, Bool, false, not, Option, None, IsTrue, All, List, filter, map, length, option_map, reverse, sum_by}
-use Rattle.std.specs.List.{list_all}
+use Rattle.std.specs.Prelude.{◌≡◌, ◌≢◌, ◌≤◌, ◌<◌, ◌+◌, ℕ, Bool, false, not, Option, Some, None, IsTrue, All, List, find, filter, map, length, option_map, reverse, sum_by}
 use Rattle.sj_base.specs.declared.ids.Cell.{Cell}
 use Rattle.sj_base.specs.declared.ids.Node.{Node}
 use Rattle.sj_base.specs.declared.ids.Task.{Task}
@@ -8,9 +7,9 @@ use Rattle.sj_base.specs.declared.ids.Worker.{Worker}
 use Rattle.sj_base.specs.declared.ids.Place.TheVariants.{Node as AtNode}
 use Rattle.sj_base.specs.declared.program.Program.{Program}
 use Rattle.sj_base.specs.declared.program.Machine.{Machine}
-use Rattle.sj_core.specs.Machine.{State, is_idle, is_leaving, progress, replica}
+use Rattle.sj_core.specs.Machine.{State, is_idle, is_leaving, pins, progress, replica}
 use Rattle.sj_core.specs.Needs.{footprint, node_of, node_size, scratch_bytes, tile_bytes}
-use Rattle.sj_core.specs.Operands.{commuting_cells}
+use Rattle.sj_core.specs.Operands.{cells_of, commuting_cells, worked_on}
 use Rattle.sj_core.specs.Program.{data_operands, distinct, has_cell, task_of}
 use Rattle.sj_core.specs.Step.{done_tasks, is_in_use, none_leaving, victims_for}
 use Rattle.sj_core.specs.declared.progress.Progress.TheVariants.{Waiting}
@@ -19,6 +18,7 @@ use Rattle.sj_node.specs.Entry.{has_entry}
 use Rattle.sj_node.specs.Store.{Store, victims_of}
 use Rattle.sj_machine.specs.Copies.{Copies, mark_at, row_of}
 use Rattle.sj_machine.specs.Mark.{is_leaving as is_leaving_mark}
+use Rattle.sj_machine.specs.Operands.{CanWorkOn}
 use Rattle.sj_machine.specs.Plan.{ClaimPlan, IsSmallCell}
 use Rattle.sj_machine.specs.declared.refusal.ClaimRefusal.{ClaimRefusal}
 use Rattle.sj_machine.specs.declared.refusal.ClaimRefusal.TheVariants.{NotNow, OutOfMemory}
@@ -33,25 +33,37 @@ pub record HasSmallTask (p : Program) (t : Task) : Type 0 where
   pub cells : All (λ a. IsSmallCell p a.cell) (task_of p t).accesses
   pub few : length (task_of p t).accesses ≤ 5
 
+-- and the worker can work on each of its operands, on such a cell
+pub record HasSmallWork (p : Program) (t : Task) (w : Worker) : Type 0 where
+  pub task : HasSmallTask p t
+  pub can : All (CanWorkOn p w) (task_of p t).accesses
+  pub small : All (λ a. IsSmallCell p (worked_on p w a)) (task_of p t).accesses
+
 -- the cells of a task's accesses to data, in operand order
 abbrev pub named : Program → Task → List Cell
 named p t = map (λ a. a.cell) (data_operands (task_of p t))
 
--- those of them without an entry on a node, each once
-abbrev pub lacking : Program → Store → Task → List Cell
-lacking p s t = filter (λ c. not (has_entry s.entries c)) (distinct (named p t))
+-- those of these cells without an entry on a node, each once
+abbrev pub lacking : Store → List Cell → List Cell
+lacking s cs = filter (λ c. not (has_entry s.entries c)) (distinct cs)
 
--- the bytes that a task brings to a node
-abbrev pub need_on : Program → Store → Task → ℕ
-need_on p s t = sum_by (tile_bytes p) (lacking p s t) + scratch_bytes p (task_of p t)
+-- the bytes that a worker's task brings to a node
+abbrev pub need_on : Program → Store → Task → Worker → ℕ
+need_on p s t w = sum_by (tile_bytes p) (lacking s (cells_of p t w)) + scratch_bytes p (task_of p t)
 
--- the victims of a task on a node, most recent first
-abbrev pub chosen_on : Program → Store → Task → Option (List Cell)
-chosen_on p s t = option_map reverse (victims_of (named p t) s (need_on p s t))
+-- the victims of a worker's task on a node, most recent first
+abbrev pub chosen_on : Program → Store → Task → Worker → Option (List Cell)
+chosen_on p s t w = option_map reverse (victims_of (cells_of p t w) s (need_on p s t w))
 
--- the plan of a task on a node that evicts these
-abbrev pub planned : Program → Store → Task → List Cell → ClaimPlan
-planned p s t evicted = record { cells = named p t; missing = lacking p s t; bytes = map (tile_bytes p) (lacking p s t); scratch = scratch_bytes p (task_of p t); victims = evicted }
+-- the plan of a worker's task on a node that evicts these
+abbrev pub planned : Program → Store → Task → Worker → List Cell → ClaimPlan
+planned p s t w evicted = record {
+  cells = cells_of p t w;
+  missing = lacking s (cells_of p t w);
+  bytes = map (tile_bytes p) (lacking s (cells_of p t w));
+  scratch = scratch_bytes p (task_of p t);
+  victims = evicted;
+}
 
 -- ---- why a claim can't be made
 
@@ -63,14 +75,18 @@ pub record MayClaim (p : Program) (m : Machine) (s : State) (t : Task) (w : Work
   pub idle : IsTrue (is_idle s w)
   pub fits : footprint p t ≤ node_size m (node_of m w)
 
--- no commuting cell of the task is one of a claimed or running task
-abbrev pub CommutersAreFree : Program → State → Task → Type 0
-CommutersAreFree p s t = IsTrue (list_all (λ c. not (is_in_use p s c)) (commuting_cells p t))
+-- the first commuting cell of the task that belongs to a claimed or running task
+abbrev pub commuter_in_use : Program → State → Task → Option Cell
+commuter_in_use p s t = find (is_in_use p s) (commuting_cells p t)
 
--- the reasons, in the order in which they are tested: a commuting cell is in use, a replica leaves the node, or the free
--- bytes and all unpinned entries that aren't the task's don't cover the need
+-- no commuting cell of the task belongs to a claimed or running task
+abbrev pub CommutersAreFree : Program → State → Task → Type 0
+CommutersAreFree p s t = commuter_in_use p s t ≡ None
+
+-- the reasons, in the order in which they are tested: a commuting cell is in use, the first such one; a replica leaves the
+-- node; or the free bytes and all unpinned entries that aren't the task's don't cover the need
 abbrev pub IsWhy : Program → Machine → State → Task → Worker → Why → Type 0
-IsWhy p m s t w (Commute c) = IsTrue (has_cell (commuting_cells p t) c) × IsTrue (is_in_use p s c)
+IsWhy p m s t w (Commute c) = commuter_in_use p s t ≡ Some c
 IsWhy p m s t w (Leaving c) = CommutersAreFree p s t × IsTrue (is_leaving (replica s c (AtNode (node_of m w))))
 IsWhy p m s t w NoRoom = CommutersAreFree p s t × IsTrue (none_leaving s (node_of m w)) × (victims_for p m s t w ≡ None)
 
@@ -78,6 +94,10 @@ IsWhy p m s t w NoRoom = CommutersAreFree p s t × IsTrue (none_leaving s (node_
 abbrev pub IsRefusal : Program → Machine → State → Task → Worker → ClaimRefusal → Type 0
 IsRefusal p m s t w (NotNow why) = IsWhy p m s t w why
 IsRefusal p m s t w OutOfMemory = Unit {0}
+
+-- no other worker holds a commuting cell of the task
+abbrev pub HoldsCommutersAlone : Program → State → Task → Worker → Type 0
+HoldsCommutersAlone p s t w = (c : Cell) (v : Worker) → IsTrue (has_cell (commuting_cells p t) c) → v ≢ w → has_cell (pins s v) c ≡ false
 
 -- a copy of the cell leaves the node
 abbrev pub is_leaving_at : List Copies → Node → Cell → Bool

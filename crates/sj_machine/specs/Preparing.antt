@@ -1,16 +1,18 @@
 -- What a program needs so that a board can be made for it.
-use Rattle.std.specs.Prelude.{◌≡◌, ◌≤◌, ◌<◌, ◌^◌, ◌↔◌, ℕ, None, List, [], length, map, replicate}
+use Rattle.std.specs.Prelude.{◌≡◌, ◌≤◌, ◌<◌, ◌^◌, ◌↔◌, ℕ, None, Option, List, [], count_by, length, map, replicate}
 use Rattle.std.specs.List.{Contains}
 use Rattle.std.specs.List.Sorted.{IsStrictlyIncreasing}
 use Rattle.sj_base.specs.declared.ids.Task.{Task}
 use Rattle.sj_base.specs.declared.mode.Policy.{Policy}
 use Rattle.sj_base.specs.declared.program.Program.{Program}
 use Rattle.sj_base.specs.declared.program.Machine.{Machine}
+use Rattle.sj_base.specs.Array.{Array}
 use Rattle.sj_deps.specs.Progress.{Progress as Dependencies, progress}
 use Rattle.sj_disk.specs.Directory.{DiskState}
 use Rattle.sj_pool.specs.Pool.{Pooled, empty}
 use Rattle.sj_machine.specs.Board.{BoardState, board_state, empty_hand}
 use Rattle.sj_machine.specs.BoardSound.{AreFootprints}
+use Rattle.sj_machine.specs.Delivered.{Deliveries, deliveries, is_delivery}
 use Rattle.sj_machine.specs.Filling.{with_each}
 use Rattle.sj_machine.specs.Standing.{starting}
 use Rattle.sj_machine.specs.declared.hand.Hand.{Hand}
@@ -50,8 +52,17 @@ pub record IsPrepared (p : Program) (policy : Policy) (deps : Dependencies) (foo
   pub first : AreFirst p ready
   pub pool_is : pool ≡ first_pool p policy ready
 
+-- how many tasks of a program hand an array over
+abbrev pub delivery_count : Program → ℕ
+delivery_count p = count_by (λ l. is_delivery l.codelet) p.tasks
+
+-- nothing is handed over yet or kept for that, and there is room for all of it
+pub record IsReadyToDeliver (p : Program) (gifts : List (Option Array)) (delivered : Deliveries) : Type 0 where
+  pub gifts_are : gifts ≡ replicate p.workers None
+  pub none : delivered ≡ deliveries [] (delivery_count p)
+
 -- a board on which nothing has happened: its ready tasks are in the pool
 pub record IsOpening {D : Type 0} (p : Program) (m : Machine) (disks : DiskState D) (b : BoardState D) : Type 0 where
   pub ready : List Task
   pub first : AreFirst p ready
-  pub opens : b ≡ board_state (starting p m disks) (first_hands p) (first_pool p m.policy ready) None
+  pub opens : b ≡ board_state (starting p m disks) (first_hands p) (first_pool p m.policy ready) None []

@@ -1,31 +1,42 @@
 -- The tasks that become ready as a task ends.
-use Rattle.std.specs.Prelude.{◌≡◌, ◌↔◌, List, Some, map}
+use Rattle.std.specs.Prelude.{◌≡◌, ◌↔◌, ℕ, false, IsTrue, IsSomeAnd, Option, List, Some, None, map}
 use Rattle.std.specs.List.{Contains}
 use Rattle.std.specs.List.Sorted.{IsStrictlyIncreasing}
 use Rattle.sj_base.specs.declared.ids.Task.{Task}
 use Rattle.sj_base.specs.declared.ids.Worker.{Worker}
+use Rattle.sj_base.specs.declared.ids.Place.TheVariants.{Node as AtNode}
 use Rattle.sj_base.specs.declared.program.Program.{Program}
 use Rattle.sj_base.specs.declared.trace.Event.TheVariants.{End}
+use Rattle.sj_base.specs.Array.{Array}
 use Rattle.sj_core.specs.Machine.{State}
+use Rattle.sj_core.specs.Needs.{node_of}
 use Rattle.sj_core.specs.Step.{done_tasks}
 use Rattle.sj_deps.specs.Conflict.{Ready}
 use Rattle.sj_deps.specs.Progress.{BecomesReady, Progress as Dependencies}
 use Rattle.sj_pool.specs.Pool.{Pooled}
 use Rattle.sj_machine.specs.Board.{BoardState, has_ended}
+use Rattle.sj_machine.specs.Delivered.{delivered_cell, is_deliver_task}
 use Rattle.sj_machine.specs.Filling.{with_each}
-use Rattle.sj_machine.specs.Standing.{state, with_event}
+use Rattle.sj_machine.specs.Standing.{IsTileOf, Standing, state, with_event}
 
 -- these are the tasks that are ready in the second state and weren't in the first, by number
 pub record BecomeReady (p : Program) (s s' : State) (ts : List Task) : Type 0 where
   pub each : (u : Task) → Contains ts u ↔ (Ready p (done_tasks s') u.0 × ¬ Ready p (done_tasks s) u.0)
   pub by_number : IsStrictlyIncreasing (map (λ u. u.0) ts)
 
--- the worker's task has ended: its event has happened, it has no task any more, and the tasks that became ready are in the
--- pool
-pub record EndsTask {D : Type 0} (old : BoardState D) (t : Task) (w : Worker) (new : BoardState D) : Type 0 where
+-- what a task hands over as it ends: the tile of its operand at its worker's node where it is a deliver task, else nothing
+pub record IsGift {D : Type 0} (held : D → Option (List ℕ)) (b : Standing D) (t : Task) (w : Worker) (gift : Option Array) : Type 0 where
+  pub some : IsTrue (is_deliver_task b.program t) → IsSomeAnd gift (IsTileOf held b (delivered_cell b.program t) (AtNode (node_of b.machine w)))
+  pub none : is_deliver_task b.program t ≡ false → gift ≡ None
+
+-- the worker's task has ended: its event has happened, it has no task any more, the tasks that became ready are in the pool,
+-- and what it hands over comes after what others have
+pub record EndsTask {D : Type 0} (held : D → Option (List ℕ)) (old : BoardState D) (t : Task) (w : Worker) (new : BoardState D) : Type 0 where
   pub ready : List Task
   pub become : BecomeReady old.run.program (state old.run) (state (with_event old.run (End t w))) ready
-  pub leaves : new ≡ has_ended old t w ready
+  pub gift : Option Array
+  pub gives : IsGift held old.run t w gift
+  pub leaves : new ≡ has_ended old t w ready gift
 
 -- ---- as the dependencies answer it
 

@@ -9,28 +9,19 @@ use Rattle.sj_base.specs.declared.ids.Place.TheVariants.{Node as AtNode}
 use Rattle.sj_base.specs.declared.mode.Access.{Access}
 use Rattle.sj_base.specs.declared.program.Program.{Program}
 use Rattle.sj_base.specs.Array.{Array}
-use Rattle.sj_base.specs.Mode.{is_written, reads_value}
 use Rattle.sj_codelet.specs.Frame.{Slot, arrays, shared}
+use Rattle.sj_base.specs.Mode.{reads_value}
 use Rattle.sj_core.specs.Machine.{WorkerState}
 use Rattle.sj_core.specs.Needs.{node_of}
 use Rattle.sj_core.specs.Program.{dims_of, task_of, written_operands}
-use Rattle.sj_core.specs.Operands.{results}
+use Rattle.sj_core.specs.Operands.{results, worked_on}
 use Rattle.sj_core.specs.Step.{array_at}
 use Rattle.sj_node.specs.Entry.{Entry, is_among, pins_of, repinned, without_all}
 use Rattle.sj_node.specs.Store.{Store, with_entries}
 use Rattle.sj_machine.specs.Agrees.{row_at}
 use Rattle.sj_machine.specs.Copies.{Copies, lent_at, row_of, tile_at, with_row, written_at}
-use Rattle.sj_machine.specs.Standing.{AllTell, IsTileOf, Standing, state}
-
--- ---- operands
-
--- the cells among the accesses that are written, in order
-abbrev pub written_among : List Access → List Cell
-written_among accesses = map (λ a. a.cell) (filter (λ a. is_written a.mode) accesses)
-
--- the accesses whose old value is read, in order
-abbrev pub read_among : List Access → List Access
-read_among accesses = filter (λ a. reads_value a.mode) accesses
+use Rattle.sj_machine.specs.Operands.{CanWorkOn, read_among, written_among}
+use Rattle.sj_machine.specs.Standing.{AllTell, Standing, state}
 
 -- ---- shares
 
@@ -38,20 +29,24 @@ read_among accesses = filter (λ a. reads_value a.mode) accesses
 abbrev pub kept_at : List Copies → Node → Cell → Array
 kept_at rows n c = unwrap_or (tile_at (row_of rows c) n) (record { dims = record { rows = 0; cols = 0 }; elements = [] })
 
--- shares of the tiles at a node of those operands whose old value is read, in order
-abbrev pub shares_at : List Copies → Node → List Access → List Slot
-shares_at rows n accesses = map (λ a. shared (kept_at rows n a.cell)) (read_among accesses)
+-- shares of the tiles at a node on which a worker works for those operands whose old value is read, in order
+abbrev pub shares_at : Program → Worker → List Copies → Node → List Access → List Slot
+shares_at p w rows n accesses = map (λ a. shared (kept_at rows n (worked_on p w a))) (read_among accesses)
 
--- a share of the operand can be given: its cell's row and place are there and, where its old value is read, a tile
-pub record CanGive (rows : List Copies) (n : Node) (a : Access) : Type 0 where
-  pub cell : a.cell.0 < length rows
-  pub node : n.0 < length (row_of rows a.cell).marks
-  pub tile : IsTrue (reads_value a.mode) → IsTrue (is_some (tile_at (row_of rows a.cell) n))
+-- a share can be given of what a worker works on for the operand: its row and place are there and, where the old value is
+-- read, a tile
+pub record CanGive (p : Program) (w : Worker) (rows : List Copies) (n : Node) (a : Access) : Type 0 where
+  pub works : CanWorkOn p w a
+  pub cell : (worked_on p w a).0 < length rows
+  pub node : n.0 < length (row_of rows (worked_on p w a)).marks
+  pub tile : IsTrue (reads_value a.mode) → IsTrue (is_some (tile_at (row_of rows (worked_on p w a)) n))
 
--- the operand is a share of its cell's tile at the worker's node
+-- the operand is a share of the tile that the worker works on, at its node: it has the dimensions of the operand's cell and,
+-- where all disks tell, is the array there
 pub record IsShareIn {D : Type 0} (held : D → Option (List ℕ)) (b : Standing D) (w : Worker) (a : Access) (slot : Slot) : Type 0 where
   pub shared : slot.owned ≡ false
-  pub tile : IsTileOf held b a.cell (AtNode (node_of b.machine w)) slot.array
+  pub dims : slot.array.dims ≡ dims_of b.program a.cell
+  pub array : AllTell held b → slot.array ≡ array_at b.program (state b) (AtNode (node_of b.machine w)) (worked_on b.program w a)
 
 -- shares of the operands of a task whose old value is read, in order
 abbrev pub AreSharesFor : {D : Type 0} → (D → Option (List ℕ)) → Standing D → Task → Worker → List Slot → Type 0
@@ -97,6 +92,14 @@ abbrev pub put_each : Node → List Cell → List Array → List Copies → List
 put_each n [] news rows = rows
 put_each n (c ∷ cells) [] rows = rows
 put_each n (c ∷ cells) (a ∷ news) rows = with_row (put_each n cells news rows) c (λ row. written_at row n a)
+
+-- these operands can be put in the places of what a worker works on for its written operands, at a node
+pub record CanPutBack (p : Program) (w : Worker) (rows : List Copies) (n : Node) (accesses : List Access) (slots : List Slot) : Type 0 where
+  pub works : All (CanWorkOn p w) accesses
+  pub cells : All (λ a. (worked_on p w a).0 < length rows) accesses
+  pub rewrites : All (CanRewrite n (length (written_among p w accesses))) rows
+  pub shares : AreShared slots
+  pub count : length slots ≡ length (written_among p w accesses)
 
 -- entries with one pin less for each of these cells
 abbrev pub unpinned_each : List Cell → List Entry → List Entry

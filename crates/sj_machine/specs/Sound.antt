@@ -11,7 +11,7 @@ use Rattle.sj_base.specs.declared.program.Machine.{Machine}
 use Rattle.sj_base.specs.Array.{area}
 use Rattle.sj_codelet.specs.declared.kernel.Kernel.{Kernel}
 use Rattle.sj_core.specs.Coherent.{Coherent}
-use Rattle.sj_core.specs.Laws.{HasPlainModes, IsLawful}
+use Rattle.sj_core.specs.Laws.{IsLawful}
 use Rattle.sj_core.specs.Legal.{Replays}
 use Rattle.sj_core.specs.Machine.{State, is_valid, replica, transfer, writes}
 use Rattle.sj_core.specs.Needs.{Block, place}
@@ -62,13 +62,12 @@ pub record HoldsBlocks {D : Type 0} (held : D → Option (List ℕ)) (p : Progra
 
 -- ---- all of it
 
--- the program is proper and plain, with codelets of a set that obeys the laws of a set, and the machine is one for it,
--- with room for its blocks
+-- the program is proper, with codelets of a set that obeys the laws of a set, and the machine is one for it, with room for
+-- its blocks
 pub record IsRunOf (p : Program) (m : Machine) : Type 0 where
   pub proper : Proper p
   pub has : Kernel → Bool
   pub lawful : IsLawful has p
-  pub plain : HasPlainModes p
   pub machine : IsMachineFor p m
   pub swap : HasSwapFor p m
 

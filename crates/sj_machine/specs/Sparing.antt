@@ -1,14 +1,15 @@
 -- What no event takes away: copies that tasks and transfers work on.
-use Rattle.std.specs.Prelude.{◌≡◌, Bool, true, false, ◌||◌, Some}
+use Rattle.std.specs.Prelude.{◌≡◌, Bool, true, false, ◌||◌, Some, IfSome}
 use Rattle.sj_base.specs.declared.ids.Cell.{Cell}
+use Rattle.sj_base.specs.declared.ids.Worker.{Worker}
 use Rattle.sj_base.specs.declared.ids.Place.{Place}
 use Rattle.sj_base.specs.declared.ids.Place.TheVariants.{Node as AtNode, Disk as OnDisk}
 use Rattle.sj_base.specs.declared.trace.Event.{Event}
-use Rattle.sj_base.specs.declared.trace.Event.TheVariants.{Run, End}
+use Rattle.sj_base.specs.declared.trace.Event.TheVariants.{End, Moved, Run}
 use Rattle.sj_base.specs.declared.program.Program.{Program}
 use Rattle.sj_base.specs.declared.program.Machine.{Machine}
 use Rattle.sj_base.specs.Array.{Array}
-use Rattle.sj_core.specs.Machine.{State, array_of, is_pinned, replica}
+use Rattle.sj_core.specs.Machine.{State, array_of, is_pinned, replica, transfer}
 use Rattle.sj_core.specs.Operands.{written_cells}
 use Rattle.sj_core.specs.Program.{has_cell}
 use Rattle.sj_core.specs.Step.{is_read}
@@ -32,3 +33,11 @@ SparesUsed p m s e s' = (c : Cell) (q : Place) (a : Array) → is_used m s c q �
 -- it is so of each event that can happen
 abbrev pub EventsSpareUsed : {D : Type 0} → Standing D → Type 0
 EventsSpareUsed b = (e : Event) → CanHappen b e → SparesUsed b.program b.machine (state b) e (state (with_event b e))
+
+-- of an event that has happened
+abbrev pub Spares : {D : Type 0} → Standing D → Event → Standing D → Type 0
+Spares old e new = SparesUsed old.program old.machine (state old) e (state new)
+
+-- of the end of the worker's transfer
+abbrev pub SparesMoved : {D : Type 0} → Worker → Standing D → Standing D → Type 0
+SparesMoved w old new = IfSome (transfer (state old) w) (λ x. Spares old (Moved x.cell x.from x.to) new)

@@ -1,30 +1,38 @@
-//! The board: the state of a run, what each worker has in hand, and the pool of ready tasks.
+//! The board: the state of a run, what each worker has in hand, the pool of ready tasks, and what was delivered.
 
-ghost use Rattle.std.specs.Prelude.{◌≡◌, ◌↔◌, ◌<◌, ◌≤◌, [], All, IfErr, IfOk, IsNone, None, Some, false, OnErr, OnOk, is_some, length, slice_set, true};
+ghost use Rattle.std.specs.Prelude.{◌≡◌, ◌↔◌, ◌+◌, ◌<◌, ◌≤◌, ◌++◌, [], All, IfErr, IfOk, IsNone, IsTrue, None, Some, false, OnErr, OnOk, is_some, length, slice_set, true, ◌≢◌};
 ghost use Rattle.sj_base.specs.declared.trace.Event.TheVariants.{Claim, Drop, End, Move, Run};
 ghost use Rattle.sj_core.specs.Needs.{node_of};
 ghost use Rattle.sj_core.specs.Step.{mover_of};
-ghost use Rattle.sj_machine.specs.Board.{EndsMoveOf, HasCause, HasTask, IsBusy, IsFree, IsIdle, IsOver, IsWorking, OnlyDisksChangeOn, RunsNone, WasGiven, failed, first_fault, given_back, given_next, hand_in, has_claimed, has_event, room_of, stopped, transfer_of};
+ghost use Rattle.sj_machine.specs.Board.{EndsMoveOf, HasCause, HasTask, IsBusy, IsFree, IsIdle, IsOver, IsWorking, OnlyDisksChangeOn, RunsNone, WasGiven, failed, first_fault, given_back, given_next, hand_in, hand_of, has_claimed, has_event, room_of, stopped, transfer_of};
 ghost use Rattle.sj_pool.specs.Pool.{task_for};
 ghost use Rattle.sj_pool.specs.Queue.{has_fitting};
 ghost use Rattle.sj_core.specs.Program.{task_of};
 ghost use Rattle.sj_machine.specs.BoardSound.{IsSoundBoard};
-ghost use Rattle.sj_machine.specs.Planning.{IsRefusal};
+ghost use Rattle.sj_core.specs.Legal.{IsComplete};
+ghost use Rattle.sj_machine.specs.Delivered.{DeliversEach, gift_in, handed};
+ghost use Rattle.sj_machine.specs.Operands.{read_among};
+ghost use Rattle.sj_machine.specs.Planning.{HoldsCommutersAlone, IsRefusal};
 ghost use Rattle.sj_machine.specs.Releasing.{EndsTask};
-ghost use Rattle.sj_machine.specs.Running.{AreResultsFor, AreSharesFor, read_among};
+ghost use Rattle.sj_machine.specs.Running.{AreResultsFor, AreSharesFor};
 ghost use Rattle.sj_machine.specs.Sound.{CanStart, FetchesMoved, IsWrittenOut, StoresMoved};
 ghost use Rattle.sj_machine.specs.Preparing.{IsOpening};
-ghost use Rattle.sj_machine.specs.Sparing.{EventsSpareUsed};
-ghost use Rattle.sj_machine.specs.Standing.{CanHappen, HasDimsMoved, IsFetching, IsMovingIn, IsMovingOut, IsShareOf, IsTileMoved, state};
+ghost use Rattle.sj_machine.specs.Sparing.{EventsSpareUsed, Spares, SparesMoved};
+ghost use Rattle.sj_machine.specs.Standing.{AllTell, CanHappen, HasDimsMoved, IsFetching, IsMovingIn, IsMovingOut, IsShareOf, IsTileMoved, state};
+ghost use Rattle.sj_machine.specs.Counts.{AreCounted, fault_of};
+ghost use Rattle.sj_machine.specs.Todo.{AnotherGoesOn, CanBegin, IsMoverOf, IsTodoOf};
 ghost use Rattle.sj_machine.specs.Tiles.{array_in};
 
+use crate::delivered::Delivered;
 use crate::fault::RunFault;
 use crate::filling::put_ready;
+use crate::gifts::Gifts;
 use crate::hand::Hand;
 use crate::preparing::prepare;
 use crate::refusal::ClaimRefusal;
 use crate::releasing::release;
 use crate::run_state::{RunRefusal, RunState};
+use crate::todo::Todo;
 use sj_base::ids::{Cell, Place, Task, Worker};
 use sj_base::keyed::Keyed;
 use sj_base::memory::OutOfMemory;
@@ -51,18 +59,25 @@ pub struct Board<D: Disk> {
     hands: Vec<Hand>,
     pool: Pool,
     fault: Option<RunFault>,
+    /// A share of what each worker's running task is to hand over.
+    gifts: Gifts,
+    /// What was handed over, with room for all that is to come.
+    delivered: Delivered,
+    /// How many tasks aren't done.
+    left: u64,
 }
 
 impl<D: Disk> Model for Board<D> {
     ghost use Rattle.sj_machine.specs.Board.{BoardState, board_state};
-    ghost use Rattle.sj_machine.specs.BoardSound.{KeepsBoard};
+    ghost use Rattle.sj_machine.specs.BoardSound.{IsKept};
 
     ghost Value = { BoardState D };
 
-    ghost view = { λ b. board_state b.run b.hands.items b.pool b.fault };
+    ghost view = { λ b. board_state b.run b.hands.items b.pool b.fault b.delivered.pairs };
 
-    ghost invariant = { λ b. KeepsBoard D.faults D.mismatches D.held
-        (board_state b.run b.hands.items b.pool b.fault) b.deps b.footprints.items };
+    ghost invariant = { λ b. IsKept D.faults D.mismatches D.held
+        (board_state b.run b.hands.items b.pool b.fault b.delivered.pairs) b.deps b.footprints.items
+        b.gifts b.delivered.spare b.left };
 }
 
 impl<D: Disk> Keyed for Board<D> {
@@ -128,6 +143,19 @@ fn first_of(kept: Option<RunFault>, fault: RunFault) -> Option<RunFault>
     }
 }
 
+/// Hands over what is kept for a worker's task. Constant time, and no memory.
+fn hand_over(delivered: &mut Delivered, gifts: &mut Gifts, t: Task, w: Worker)
+    requires worker { w.0 < length gifts.old }
+    requires room { IsTrue (is_some (gift_in gifts.old w)) → 0 < delivered.old.spare }
+    ensures pairs { delivered.new.pairs ≡ delivered.old.pairs ++ handed t (gift_in gifts.old w) }
+    ensures room { delivered.new.spare + length (handed t (gift_in gifts.old w)) ≡ delivered.old.spare }
+    ensures gifts { gifts.new ≡ slice_set gifts.old w.0 None }
+{
+    if let Some(tile) = gifts.take(w) {
+        delivered.add(t, tile);
+    }
+}
+
 impl<D: Disk> Board<D> {
     /// A board on which nothing has happened, with the tasks that are ready in the pool. The program and the disks come back
     /// where memory is wanting. Linear in the tasks and their accesses, and in cells times nodes; for each ready task
@@ -145,6 +173,7 @@ impl<D: Disk> Board<D> {
         let Ok(parts) = prepare(alloc, &program, machine.policy) else {
             return Err(RunRefusal { program, disks });
         };
+        let left = program.tasks.len() as u64;
         let run = match RunState::make(alloc, program, machine, disks) {
             Ok(run) => run,
             Err(refusal) => return Err(refusal),
@@ -156,6 +185,9 @@ impl<D: Disk> Board<D> {
             hands: parts.hands,
             pool: parts.pool,
             fault: None,
+            gifts: parts.gifts,
+            delivered: parts.delivered,
+            left,
         })
     }
 
@@ -171,6 +203,13 @@ impl<D: Disk> Board<D> {
         ensures { result ≡ is_some self.now.fault }
     {
         self.fault.is_some()
+    }
+
+    /// Whether all tasks are done. Constant time.
+    pub fn all_done(&self) -> bool
+        ensures { IsTrue result ↔ IsComplete (state self.now.run) }
+    {
+        self.left == 0
     }
 
     /// Gives a worker a ready task from the pool, by the policy among those that fit its node; `None` exactly where there is
@@ -197,14 +236,16 @@ impl<D: Disk> Board<D> {
     }
 
     /// A worker claims the task that it was given, where no fault is kept. After an `Err` the board is as before, so that the
-    /// task is still in the worker's hand. Linear in the operands, the victims and the pinned entries that are passed, but for
-    /// moving the trace as it grows.
+    /// task is still in the worker's hand. Linear in the operands, the victims and the pinned entries that are passed, and in
+    /// the workers for each commuting operand, but for moving the trace as it grows.
     pub fn claim(&mut self, alloc: Global, t: Task, w: Worker) -> Result<(), ClaimRefusal>
         requires given { WasGiven self.old w t }
         requires idle { IsIdle self.old w }
         requires no_fault { self.old.fault ≡ None }
         ensures can { OnOk result (CanHappen self.old.run (Claim t w)) }
         ensures ok { OnOk result (self.new ≡ has_claimed self.old t w) }
+        ensures spares { OnOk result (Spares self.old.run (Claim t w) self.new.run) }
+        ensures one_worker { OnOk result (HoldsCommutersAlone self.old.run.program (state self.new.run) t w) }
         ensures err { OnErr result (self.new ≡ self.old) }
         ensures why { IfErr result (IsRefusal self.old.run.program self.old.run.machine (state self.old.run) t w) }
     {
@@ -224,8 +265,8 @@ impl<D: Disk> Board<D> {
     }
 
     /// The kernel of the task begins that a worker has claimed. Appends to the frame shares of the operands whose old value
-    /// is read, in order; of the cells that it writes, the board keeps no tile. After an `Err` the board is as before. Linear
-    /// in the operands, and in the nodes for each written one.
+    /// is read, in order; of the cells that it writes, the board keeps no tile, and of what a deliver task hands over it keeps
+    /// a further share. After an `Err` the board is as before. Linear in the operands, and in the nodes for each written one.
     pub fn run(
         &mut self,
         alloc: Global,
@@ -238,20 +279,26 @@ impl<D: Disk> Board<D> {
         requires empty { frame.slots ≡ [] }
         requires room { length (read_among (task_of self.old.run.program t).accesses) ≤ frame.spare }
         ensures ok { OnOk result (self.new ≡ has_event self.old (Run t w)) }
+        ensures spares { OnOk result (Spares self.old.run (Run t w) self.new.run) }
         ensures shares { IfOk result (λ f. AreSharesFor D.held self.old.run t w f.slots) }
         ensures err { OnErr result (self.new ≡ self.old) }
     {
-        self.run.run(alloc, t, w, frame)
+        self.run.is_sound();
+        let gift = self.run.gift(t, w)?;
+        let frame = self.run.run(alloc, t, w, frame)?;
+        self.gifts.keep(w, gift);
+        Ok(frame)
     }
 
     /// The kernel of a worker's task has ended. The frame has shares of its results, in the order of its written operands. The
-    /// tasks that become ready go to the pool, by number. Linear in the operands and in the accesses that are released, and
+    /// tasks that become ready go to the pool, by number, and a deliver task hands its operand's tile over. Linear in the operands and in the accesses that are released, and
     /// for each of these tasks logarithmic in all; no memory.
     pub fn end(&mut self, t: Task, w: Worker, written: Frame)
         requires task { HasTask self.old w t }
         requires can { CanHappen self.old.run (End t w) }
         requires written { AreResultsFor D.held self.old.run t w written.slots }
-        ensures { EndsTask self.old t w self.new }
+        ensures ends { EndsTask D.held self.old t w self.new }
+        ensures spares { Spares self.old.run (End t w) self.new.run }
     {
         self.run.is_sound();
         self.run.end(t, w, written);
@@ -264,6 +311,31 @@ impl<D: Disk> Board<D> {
             w,
         );
         let_go(&mut self.hands, w);
+        hand_over(&mut self.delivered, &mut self.gifts, t, w);
+        self.left -= 1;
+    }
+
+    /// What a worker does next, by the state alone: of its victims that aren't gone the least recently used is written to its disk
+    /// where it is the only valid copy, and else dropped; then the cells come that its claim brings, in operand order; then its
+    /// kernel begins. It waits only while another worker goes on. Linear in the victims of its claim, gone ones included, in the
+    /// nodes and in the workers; quadratic in the operands, which are a task's few. No memory.
+    pub fn plan_of(&self, w: Worker) -> Todo
+        requires works { IsWorking self.now w }
+        requires runs_none { RunsNone self.now w }
+        requires moves_none { transfer_of self.now w ≡ None }
+        ensures todo { IsTodoOf self.now w result }
+        ensures nothing { (result ≡ Todo.Nothing) ↔ ((hand_of self.now w).task ≡ None) }
+        ensures busy { result ≢ Todo.Nothing → IsBusy self.now w }
+        ensures can { CanBegin self.now w result }
+        ensures mover { IsMoverOf self.now w result }
+        ensures ends { result ≡ Todo.Wait →
+            AnotherGoesOn self.now.run.program self.now.run.machine (state self.now.run) w }
+    {
+        self.run.is_sound();
+        match self.hands[w.0 as usize].task {
+            Some(t) => self.run.next_step(t, w),
+            None => Todo::Nothing,
+        }
     }
 
     /// A leaving copy goes from the worker's node, since another is valid and no transfer reads it. Constant time, and no
@@ -271,8 +343,10 @@ impl<D: Disk> Board<D> {
     pub fn drop_copy(&mut self, w: Worker, cell: Cell)
         requires busy { IsBusy self.old w }
         requires can { CanHappen self.old.run (Drop cell (node_of self.old.run.machine w)) }
-        ensures { self.new ≡ has_event self.old (Drop cell (node_of self.old.run.machine w)) }
+        ensures drops { self.new ≡ has_event self.old (Drop cell (node_of self.old.run.machine w)) }
+        ensures spares { Spares self.old.run (Drop cell (node_of self.old.run.machine w)) self.new.run }
     {
+        self.run.is_sound();
         let n = self.run.node_of(w);
         self.run.drop_copy(cell, n);
     }
@@ -291,10 +365,12 @@ impl<D: Disk> Board<D> {
         requires can { CanHappen self.old.run (Move cell from to) }
         requires mover { mover_of (state self.old.run) cell from to ≡ w }
         ensures ok { OnOk result (self.new ≡ has_event self.old (Move cell from to)) }
+        ensures spares { OnOk result (Spares self.old.run (Move cell from to) self.new.run) }
         ensures share { IfOk result (λ share. IsShareOf D.held self.old.run cell from
             (array_in share)) }
         ensures err { OnErr result (self.new ≡ self.old) }
     {
+        self.run.is_sound();
         self.run.begin_move(w, cell, from, to)
     }
 
@@ -303,8 +379,10 @@ impl<D: Disk> Board<D> {
         requires busy { IsBusy self.old w }
         requires under_way { IsMovingIn self.old.run w }
         requires tile { IsTileMoved D.held self.old.run w tile.value }
-        ensures { EndsMoveOf w self.old self.new }
+        ensures moved { EndsMoveOf w self.old self.new }
+        ensures spares { SparesMoved w self.old.run self.new.run }
     {
+        self.run.is_sound();
         self.run.end_move_in(w, tile);
     }
 
@@ -313,8 +391,10 @@ impl<D: Disk> Board<D> {
         requires busy { IsBusy self.old w }
         requires under_way { IsMovingOut self.old.run w }
         requires written { IsWrittenOut D.held self.old.run w }
-        ensures { EndsMoveOf w self.old self.new }
+        ensures moved { EndsMoveOf w self.old self.new }
+        ensures spares { SparesMoved w self.old.run self.new.run }
     {
+        self.run.is_sound();
         self.run.end_move_out(w);
     }
 
@@ -327,6 +407,9 @@ impl<D: Disk> Board<D> {
         requires tile { IsTileMoved D.held self.old.run w tile.now }
         ensures no_event { OnlyDisksChangeOn self.old self.new }
         ensures stores { StoresMoved D.size D.faults D.mismatches D.held w tile.now.elements result self.old.run self.new.run }
+        ensures counts { AreCounted D.faults D.mismatches result self.old.run.disks.disks
+            self.new.run.disks.disks }
+        ensures cause { IfErr result (λ r. HasCause D.faults D.mismatches D.held self.new.run (fault_of r)) }
         ensures written { OnOk result (IsWrittenOut D.held self.new.run w) }
     {
         self.run.store(w, tile)
@@ -341,6 +424,9 @@ impl<D: Disk> Board<D> {
         requires dims { HasDimsMoved self.old.run w tile.old.dims }
         ensures no_event { OnlyDisksChangeOn self.old self.new }
         ensures fetches { FetchesMoved D.size D.faults D.mismatches D.held w tile.new.elements result self.old.run self.new.run }
+        ensures counts { AreCounted D.faults D.mismatches result self.old.run.disks.disks
+            self.new.run.disks.disks }
+        ensures cause { IfErr result (λ r. HasCause D.faults D.mismatches D.held self.new.run (fault_of r)) }
         ensures tile { OnOk result (IsTileMoved D.held self.old.run w tile.new) }
     {
         self.run.fetch(w, tile)
@@ -384,15 +470,19 @@ impl<D: Disk> Board<D> {
         self.run.events_spare_what_is_used();
     }
 
-    /// The events, the disks, and the first fault. Constant time, and no memory.
-    pub fn close(self) -> (Trace, DiskSet<D>, Option<RunFault>)
+    /// What was delivered, the events, the disks, and the first fault. Constant time, and no memory.
+    pub fn close(self) -> (Delivered, Trace, DiskSet<D>, Option<RunFault>)
         requires idle { All (λ hand. hand.task ≡ None) self.hands }
-        ensures trace { result.0.events ≡ self.run.trace }
-        ensures disks { result.1 ≡ self.run.disks }
-        ensures fault { result.2 ≡ self.fault }
+        ensures delivered { result.0.pairs ≡ self.delivered }
+        ensures each { IsComplete (state self.run) → DeliversEach self.run.program (AllTell D.held self.run) result.0.pairs }
+        ensures trace { result.1.events ≡ self.run.trace }
+        ensures disks { result.2 ≡ self.run.disks }
+        ensures fault { result.3 ≡ self.fault }
     {
+        self.run.is_sound();
         let fault = self.fault;
+        let delivered = self.delivered;
         let (trace, disks) = self.run.close();
-        (trace, disks, fault)
+        (delivered, trace, disks, fault)
     }
 }

@@ -1,7 +1,9 @@
 //! What is kept of the copies of one cell.
 
-ghost use Rattle.std.specs.Prelude.{◌≡◌, ◌+◌, ◌^◌, ◌<◌, IfOk, IsTrue, Some, None, is_some, length, map, replicate};
-ghost use Rattle.sj_machine.specs.Copies.{lent_at, mark_at, none_at, stored, tile_at, with_copy, written_at};
+ghost use Rattle.std.specs.Prelude.{◌≡◌, ◌+◌, ◌^◌, ◌<◌, ◌≤◌, IfOk, IfSome, IsTrue, Some, None, is_some, length, map, position, replicate};
+ghost use Rattle.std.specs.List.{list_any, range_with_len};
+ghost use Rattle.sj_machine.specs.Mark.{is_there};
+ghost use Rattle.sj_machine.specs.Copies.{first_node, is_copy_beside, is_elsewhere, lent_at, mark_at, none_at, stored, tile_at, with_copy, written_at};
 ghost use Rattle.sj_machine.specs.Plan.{with_mark};
 ghost use Rattle.sj_machine.specs.Tiles.{array_in};
 
@@ -44,7 +46,7 @@ fn no_marks(alloc: Global, count: usize) -> Result<Vec<Mark>, OutOfMemory>
 }
 
 /// No tile in any place. Linear in the places.
-fn no_tiles(alloc: Global, count: usize) -> Result<Vec<Option<Arc<Tile>>>, OutOfMemory>
+pub fn no_tiles(alloc: Global, count: usize) -> Result<Vec<Option<Arc<Tile>>>, OutOfMemory>
     ensures { IfOk result (λ v. v.items ≡ replicate count None) }
 {
     let mut tiles = Vec::new(alloc);
@@ -52,6 +54,21 @@ fn no_tiles(alloc: Global, count: usize) -> Result<Vec<Option<Arc<Tile>>>, OutOf
         tiles.push(None)?;
     }
     Ok(tiles)
+}
+
+/// Whether there is a copy in another place than this. Linear in the places.
+fn is_at_another(marks: &[Mark], here: usize) -> bool
+    ensures { result ≡ list_any (is_copy_beside marks.now here) (range_with_len 0 (length marks.now)) }
+{
+    (0..marks.len()).any(|k| k != here && marks[k].is_there())
+}
+
+/// The first place with a copy. Linear in the places.
+fn first_copy(marks: &[Mark]) -> Option<usize>
+    ensures place { result ≡ position is_there marks.now }
+    ensures inside { IfSome result (λ k. k < length marks.now) }
+{
+    marks.iter().position(|mark| mark.is_there())
 }
 
 /// No copy in any of these places. Linear in them.
@@ -112,6 +129,24 @@ impl Copies {
         ensures { result ≡ self.now.on_disk }
     {
         self.on_disk
+    }
+
+    /// Whether a copy is on a disk, or at another node. Linear in the nodes.
+    pub fn is_elsewhere(&self, n: Node) -> bool
+        ensures { result ≡ is_elsewhere self.now n }
+    {
+        self.on_disk || is_at_another(&self.marks, n.0 as usize)
+    }
+
+    /// The node with the least number at which a copy is. Linear in the nodes.
+    pub fn first_node(&self) -> Option<Node>
+        requires { length self.now.marks ≤ 16 }
+        ensures { result ≡ first_node self.now }
+    {
+        match first_copy(&self.marks) {
+            Some(k) => Some(Node(k as u8)),
+            None => None,
+        }
     }
 
     /// How many tasks have written the cell. Constant time.

@@ -1,6 +1,7 @@
 //! The arrays that deliver tasks handed over.
 
-ghost use Rattle.std.specs.Prelude.{◌≡◌, ◌==◌, ◌+◌, ◌<◌, ◌++◌, ◌∷◌, [], length, max, slice_get, Some, OnOk, OnErr, option_map};
+ghost use Rattle.std.specs.Prelude.{◌≡◌, ◌==◌, ◌+◌, ◌<◌, ◌++◌, ◌∷◌, [], IfOk, Some, length, option_map, slice_get};
+ghost use Rattle.sj_machine.specs.Delivered.{deliveries};
 
 use sj_base::ids::Task;
 use sj_base::memory::OutOfMemory;
@@ -43,15 +44,12 @@ impl Delivered {
         }
     }
 
-    /// Makes room for at least so many more; the room that there was stays. No memory where there was as much. Linear in
-    /// what is there where it has to be moved.
-    pub fn reserve(&mut self, more: u64) -> Result<(), OutOfMemory>
-        ensures pairs { self.new.pairs ≡ self.old.pairs }
-        ensures room { OnOk result (self.new.spare ≡ max self.old.spare more) }
-        ensures err { OnErr result (self.new ≡ self.old) }
-        ensures only_where_wanting { OnErr result (self.old.spare < more) }
+    /// None, and room for so many. Linear in them.
+    pub fn with_room(alloc: Global, count: u64) -> Result<Delivered, OutOfMemory>
+        ensures { IfOk result (λ d. d ≡ deliveries [] count) }
     {
-        self.pairs.reserve(more)
+        let pairs = Roomy::with_room(alloc, count)?;
+        Ok(Delivered { pairs })
     }
 
     /// Appends a task and what it handed over. Constant time, and no memory.

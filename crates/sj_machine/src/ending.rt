@@ -5,14 +5,16 @@ ghost use Rattle.sj_codelet.specs.Frame.{arrays, shared};
 ghost use Rattle.sj_machine.specs.Agrees.{row_at};
 ghost use Rattle.sj_machine.specs.Copies.{with_row, written_at};
 ghost use Rattle.sj_machine.specs.Plan.{store_at};
-ghost use Rattle.sj_machine.specs.Running.{AreShared, CanRelease, CanRewrite, CanUnpin, let_go, put_each, released, unpinned_each, written_among};
+ghost use Rattle.sj_machine.specs.Operands.{written_among};
+ghost use Rattle.sj_machine.specs.Running.{AreShared, CanPutBack, CanRelease, CanRewrite, CanUnpin, let_go, put_each, released, unpinned_each};
 ghost use Rattle.sj_node.specs.Store.{with_entries};
 
 use crate::copies::Copies;
 use crate::hold::Hold;
-use crate::running::is_written;
+use crate::operands::{is_written, worked_on};
 use sj_base::ids::{Cell, Node, Worker};
 use sj_base::mode::Access;
+use sj_base::program::Program;
 use sj_base::tile::Tile;
 use sj_codelet::frame::{Frame, Operand};
 use sj_node::store::NodeStore;
@@ -40,25 +42,30 @@ fn rewrite(cells: &mut Vec<Copies>, cell: Cell, n: Node, tile: Arc<Tile>)
     row.rewrite(n, tile);
 }
 
-/// Puts the operands of a frame, the last first, in the places of the cells that a task writes. Linear in the accesses, and
-/// no memory.
-pub fn put_back(cells: &mut Vec<Copies>, accesses: &[Access], n: Node, written: &mut Frame)
-    requires cells { All (λ a. a.cell.0 < length cells.old.items) accesses.now }
-    requires rows { All (CanRewrite n (length (written_among accesses.now))) cells.old.items }
-    requires shared { AreShared written.old.slots }
-    requires count { length written.old.slots ≡ length (written_among accesses.now) }
+/// Puts the operands of a frame, the last first, in the places of the cells on which a worker works for the operands that it
+/// writes. Linear in the accesses, and no memory.
+pub fn put_back(
+    program: &Program,
+    w: Worker,
+    cells: &mut Vec<Copies>,
+    accesses: &[Access],
+    n: Node,
+    written: &mut Frame,
+)
+    requires { CanPutBack program.now w cells.old.items n accesses.now written.old.slots }
     ensures { cells.new.items
-        ≡ put_each n (written_among accesses.now) (arrays written.old.slots) cells.old.items }
+        ≡ put_each n (written_among program.now w accesses.now) (arrays written.old.slots) cells.old.items }
 {
     let Some((last, before)) = accesses.split_last() else {
         return;
     };
     if !is_written(last.mode) {
-        put_back(cells, before, n, written);
+        put_back(program, w, cells, before, n, written);
         return;
     }
-    rewrite(cells, last.cell, n, take_shared(written));
-    put_back(cells, before, n, written);
+    let cell = worked_on(program, w, *last);
+    rewrite(cells, cell, n, take_shared(written));
+    put_back(program, w, cells, before, n, written);
 }
 
 /// Takes a pin off each of these cells. A look-up for each.

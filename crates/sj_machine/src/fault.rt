@@ -2,6 +2,7 @@
 
 use sj_base::ids::DiskNo;
 use sj_disk::header::Header;
+use sj_disk::refusal::DiskRefusal;
 
 /// Why a run can't go on.
 #[derive(Clone, Copy, Debug, PartialEq, Eq)]
@@ -17,4 +18,18 @@ pub enum RunFault {
         found: Header,
     },
     OutOfMemory,
+}
+
+impl From<DiskRefusal> for RunFault {
+    ghost use Rattle.std.specs.Prelude.{◌≡◌};
+    ghost use Rattle.sj_machine.specs.Counts.{fault_of};
+
+    ghost from_gives = { λ refusal fault. fault ≡ fault_of refusal };
+
+    fn from(refusal: DiskRefusal) -> Self {
+        match refusal {
+            DiskRefusal::DiskFault { disk } => RunFault::DiskFault { disk },
+            DiskRefusal::Damaged { disk, want, found } => RunFault::Damaged { disk, want, found },
+        }
+    }
 }

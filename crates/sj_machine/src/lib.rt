@@ -3,20 +3,24 @@
 #![tactic(auto)]
 
 pub mod board;
+mod choosing;
 pub mod claiming;
 pub mod copies;
 pub mod delivered;
 mod ending;
 pub mod fault;
 mod filling;
+pub mod gifts;
 pub mod hand;
 pub mod hold;
 pub mod leaving;
 pub mod mark;
 pub mod needs;
+pub mod operands;
 pub mod plan;
 mod preparing;
 pub mod refusal;
 mod releasing;
 pub mod run_state;
 mod running;
+pub mod todo;

@@ -1,7 +1,7 @@
 //! What a cell is at a node.
 
 ghost use Rattle.std.specs.Prelude.{◌≡◌};
-ghost use Rattle.sj_machine.specs.Mark.{is_leaving, is_there};
+ghost use Rattle.sj_machine.specs.Mark.{is_coming_by, is_leaving, is_leaving_by, is_there};
 
 use sj_base::ids::Worker;
 
@@ -31,5 +31,25 @@ impl Mark {
         ensures { result ≡ is_leaving self }
     {
         matches!(self, Mark::Leaving(_))
+    }
+
+    /// Whether there is a copy that leaves by the claim of this worker. Constant time.
+    pub fn is_leaving_by(self, w: Worker) -> bool
+        ensures { result ≡ is_leaving_by w self }
+    {
+        match self {
+            Mark::Leaving(v) => v == w,
+            Mark::Invalid | Mark::Coming(_) | Mark::Valid => false,
+        }
+    }
+
+    /// Whether a copy comes by the claim of this worker. Constant time.
+    pub fn is_coming_by(self, w: Worker) -> bool
+        ensures { result ≡ is_coming_by w self }
+    {
+        match self {
+            Mark::Coming(v) => v == w,
+            Mark::Invalid | Mark::Leaving(_) | Mark::Valid => false,
+        }
     }
 }

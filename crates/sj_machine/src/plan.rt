@@ -2,10 +2,11 @@
 
 ghost use Rattle.std.specs.Prelude.{◌≡◌, IfOk, option_map, reverse};
 ghost use Rattle.sj_node.specs.Store.{victims_of};
-ghost use Rattle.sj_machine.specs.Planning.{HasSmallTask, chosen_on, planned};
+ghost use Rattle.sj_machine.specs.Planning.{HasSmallWork, chosen_on, planned};
 
-use crate::needs::{accesses_of, bytes_of, data_cells, lacking_cells, scratch_bytes, total};
-use sj_base::ids::{Cell, Task};
+use crate::needs::{accesses_of, bytes_of, lacking_cells, scratch_bytes, total};
+use crate::operands::worked_cells;
+use sj_base::ids::{Cell, Task, Worker};
 use sj_base::memory::OutOfMemory;
 use sj_base::program::Program;
 use sj_node::store::NodeStore;
@@ -103,19 +104,20 @@ impl Plan {
         (self.cells, self.victims)
     }
 
-    /// The plan of a task on a node, where there is room for it. Linear in the operands, the victims and the entries that
+    /// The plan of a worker's task on its node, where there is room for it. Linear in the operands, the victims and the entries that
     /// are passed, each by the operands.
     pub fn on(
         alloc: Global,
         program: &Program,
         node: &NodeStore,
         t: Task,
+        w: Worker,
     ) -> Result<Option<Plan>, OutOfMemory>
-        requires { HasSmallTask program.now t }
-        ensures { IfOk result (λ plan. plan ≡ option_map (planned program.now node.now t) (chosen_on program.now node.now t)) }
+        requires { HasSmallWork program.now t w }
+        ensures { IfOk result (λ plan. plan ≡ option_map (planned program.now node.now t w) (chosen_on program.now node.now t w)) }
     {
         let accesses = accesses_of(program, t);
-        let cells = data_cells(alloc, accesses)?;
+        let cells = worked_cells(alloc, program, w, accesses)?;
         let missing = lacking_cells(alloc, node, &cells)?;
         let bytes = bytes_of(alloc, program, &missing)?;
         let scratch = scratch_bytes(program, accesses);

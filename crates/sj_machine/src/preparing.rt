@@ -8,9 +8,11 @@ ghost use Rattle.sj_deps.specs.Conflict.{Ready};
 ghost use Rattle.sj_machine.specs.BoardSound.{AreFootprints};
 ghost use Rattle.sj_machine.specs.Planning.{HasSmallTask};
 ghost use Rattle.sj_core.specs.Proper.{Proper};
-ghost use Rattle.sj_machine.specs.Preparing.{AreReadyBelow, HasSmallTasks, IsPrepared};
+ghost use Rattle.sj_machine.specs.Preparing.{AreReadyBelow, HasSmallTasks, IsPrepared, IsReadyToDeliver};
 
+use crate::delivered::Delivered;
 use crate::filling::put_each;
+use crate::gifts::{Gifts, count_deliveries};
 use crate::hand::{EMPTY, Hand};
 use crate::needs::{accesses_of, bytes_of, data_cells, lacking_cells, scratch_bytes, total};
 use sj_base::ids::Task;
@@ -84,19 +86,24 @@ pub struct Parts {
     pub footprints: Vec<u64>,
     pub hands: Vec<Hand>,
     pub pool: Pool,
+    pub gifts: Gifts,
+    pub delivered: Delivered,
 }
 
-/// What a board has beside its run when nothing has happened: its ready tasks are in the pool. Linear in the tasks and
-/// their accesses, and for each ready task logarithmic in all.
+/// What a board has beside its run when nothing has happened: its ready tasks are in the pool, and there is room for what its
+/// deliver tasks hand over. Linear in the tasks and their accesses, and for each ready task logarithmic in all.
 pub fn prepare(alloc: Global, program: &Program, policy: Policy) -> Result<Parts, OutOfMemory>
     requires proper { Proper program.now }
     requires workers { 0 < program.now.workers }
-    ensures { IfOk result (λ r. IsPrepared program.now policy r.deps r.footprints.items r.hands.items r.pool) }
+    ensures prepared { IfOk result (λ r. IsPrepared program.now policy r.deps r.footprints.items r.hands.items r.pool) }
+    ensures delivers { IfOk result (λ r. IsReadyToDeliver program.now r.gifts r.delivered) }
 {
     let count = program.tasks.len() as u32;
     let deps = Deps::of(alloc, program)?;
     let footprints = footprints_of(alloc, program)?;
     let hands = vec![in alloc; EMPTY; program.workers as usize]?;
+    let gifts = Gifts::none(alloc, program.workers)?;
+    let delivered = Delivered::with_room(alloc, count_deliveries(program))?;
     let mut pool = Pool::make(alloc, policy, program.workers, count)?;
     let ready = ready_tasks(alloc, &deps, count)?;
     put_each(&mut pool, program, &footprints, &ready, None);
@@ -105,5 +112,7 @@ pub fn prepare(alloc: Global, program: &Program, policy: Policy) -> Result<Parts
         footprints,
         hands,
         pool,
+        gifts,
+        delivered,
     })
 }

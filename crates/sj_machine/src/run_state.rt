@@ -10,8 +10,12 @@ ghost use Rattle.sj_edge.specs.GivenBack.{AreGivenBack};
 ghost use Rattle.sj_node.specs.Store.{empty};
 ghost use Rattle.sj_machine.specs.Agrees.{idle, transfer_in, with_transfer_of};
 ghost use Rattle.sj_machine.specs.Copies.{CanShare, none_at, row_of, stored, tile_kept, with_copy, with_row};
+ghost use Rattle.sj_machine.specs.Board.{HasCause};
+ghost use Rattle.sj_machine.specs.Counts.{AreCounted, fault_of};
 ghost use Rattle.sj_machine.specs.Plan.{IsPlan};
-ghost use Rattle.sj_machine.specs.Running.{AreResultsFor, AreSharesFor, read_among};
+ghost use Rattle.sj_machine.specs.Operands.{read_among};
+ghost use Rattle.sj_machine.specs.Releasing.{IsGift};
+ghost use Rattle.sj_machine.specs.Running.{AreResultsFor, AreSharesFor};
 ghost use Rattle.sj_machine.specs.Sound.{CanStart, FetchesMoved, IsSoundRun, IsWrittenOut, OnlyDisksChange, StoresMoved};
 ghost use Rattle.sj_machine.specs.Planning.{IsWhy, MayClaim};
 ghost use Rattle.sj_machine.specs.Sparing.{EventsSpareUsed};
@@ -19,15 +23,18 @@ ghost use Rattle.sj_machine.specs.Standing.{CanHappen, HasDimsMoved, HasMoved, I
 ghost use Rattle.sj_machine.specs.Tiles.{array_in};
 
 mod looking;
+mod planning;
 
 use crate::claiming::{hold_all, mark_all, node_of, take_plan};
 use crate::copies::Copies;
 use crate::ending::{let_go, put_back, release_at};
+use crate::gifts::is_delivery;
 use crate::hold::Hold;
 use crate::leaving::leaving_at;
 use crate::mark::Mark;
+use crate::operands::{commuter_held, written_cells};
 use crate::plan::{Plan, Why};
-use crate::running::{evict_elsewhere, lend_each, share_into, task_at, written_among};
+use crate::running::{evict_elsewhere, lend_each, share_into, task_at};
 use sj_base::ids::{Cell, DiskNo, Node, Place, Task, Worker};
 use sj_base::memory::OutOfMemory;
 use sj_base::program::{Machine, Program};
@@ -272,7 +279,8 @@ impl<D: Disk> RunState<D> {
     }
 
     /// The plan of a claim of a ready task by an idle worker, or why the claim can't be made now. Linear in the operands,
-    /// the victims, the entries that are passed and the victims of each worker's last claim.
+    /// the victims, the entries that are passed and the victims of each worker's last claim, and in the workers for each
+    /// commuting operand.
     pub fn claim_plan(
         &self,
         alloc: Global,
@@ -284,11 +292,15 @@ impl<D: Disk> RunState<D> {
         ensures plan { IfOk result (λ found. IfOk found (IsPlan self.now.program self.now.machine (state self.now) t w)) }
         ensures why { IfOk result (λ found. IfErr found (IsWhy self.now.program self.now.machine (state self.now) t w)) }
     {
+        let accesses = task_at(&self.program, t).accesses.items();
+        if let Some(cell) = commuter_held(&self.workers, accesses) {
+            return Ok(Err(Why::Commute(cell)));
+        }
         let n = node_of(&self.machine, w);
         if let Some(cell) = leaving_at(&self.cells, n, &self.workers) {
             return Ok(Err(Why::Leaving(cell)));
         }
-        let found = Plan::on(alloc, &self.program, &self.nodes[n.0 as usize], t)?;
+        let found = Plan::on(alloc, &self.program, &self.nodes[n.0 as usize], t, w)?;
         Ok(found.ok_or(Why::NoRoom))
     }
 
@@ -391,11 +403,14 @@ impl<D: Disk> RunState<D> {
         requires tile { IsTileMoved D.held self.old w tile.now }
         ensures no_event { OnlyDisksChange self.old self.new }
         ensures stores { StoresMoved D.size D.faults D.mismatches D.held w tile.now.elements result self.old self.new }
+        ensures counts { AreCounted D.faults D.mismatches result self.old.disks.disks self.new.disks.disks }
+        ensures cause { IfErr result (λ r. HasCause D.faults D.mismatches D.held self.new (fault_of r)) }
         ensures given_back { AreGivenBack D.size D.faults D.mismatches D.held self.old.disks.disks self.new.disks.disks }
         ensures written { OnOk result (IsWrittenOut D.held self.new w) }
     {
         let x = transfer_of(&self.workers, w);
         let _d = disk_at(x.to);
+        let _extent = self.disks.extent(x.cell);
         measured(tile);
         let writes = writes_of(&self.cells, x.cell);
         self.disks.store(x.cell, writes, tile)
@@ -409,14 +424,33 @@ impl<D: Disk> RunState<D> {
         requires dims { HasDimsMoved self.old w tile.old.dims }
         ensures no_event { OnlyDisksChange self.old self.new }
         ensures fetches { FetchesMoved D.size D.faults D.mismatches D.held w tile.new.elements result self.old self.new }
+        ensures counts { AreCounted D.faults D.mismatches result self.old.disks.disks self.new.disks.disks }
+        ensures cause { IfErr result (λ r. HasCause D.faults D.mismatches D.held self.new (fault_of r)) }
         ensures given_back { AreGivenBack D.size D.faults D.mismatches D.held self.old.disks.disks self.new.disks.disks }
         ensures tile { OnOk result (IsTileMoved D.held self.old w tile.new) }
     {
         let x = transfer_of(&self.workers, w);
         let _d = disk_at(x.from);
+        let _extent = self.disks.extent(x.cell);
         let _dims = tile.dims();
         let writes = writes_of(&self.cells, x.cell);
         self.disks.fetch(x.cell, writes, tile)
+    }
+
+    /// A further share of the tile that a task will hand over, at the node of the worker that has claimed it, where it is a
+    /// deliver task. Constant time.
+    pub fn gift(&self, t: Task, w: Worker) -> Result<Option<Arc<Tile>>, OutOfMemory>
+        requires can { CanHappen self.now (Event.Run t w) }
+        ensures { IfOk result (λ gift. IsGift D.held self.now t w (array_in gift)) }
+    {
+        let task = task_at(&self.program, t);
+        if !is_delivery(task.codelet) {
+            return Ok(None);
+        }
+        let n = node_of(&self.machine, w);
+        let cell = task.accesses.items()[0].cell;
+        let row = &self.cells[cell.0 as usize];
+        Ok(Some(row.share(n)?))
     }
 
     /// The kernel of a task begins that its worker has claimed. Appends to the frame shares of the operands whose old value
@@ -438,8 +472,8 @@ impl<D: Disk> RunState<D> {
     {
         let n = node_of(&self.machine, w);
         let accesses = task_at(&self.program, t).accesses.items();
-        share_into(&self.cells, n, accesses, &mut frame)?;
-        let written = written_among(alloc, accesses)?;
+        share_into(&self.program, w, &self.cells, n, accesses, &mut frame)?;
+        let written = written_cells(alloc, &self.program, w, accesses)?;
         let Some(room) = self.owed.checked_add(1) else {
             return Err(OutOfMemory);
         };
@@ -460,7 +494,7 @@ impl<D: Disk> RunState<D> {
     {
         let n = node_of(&self.machine, w);
         let accesses = task_at(&self.program, t).accesses.items();
-        put_back(&mut self.cells, accesses, n, &mut written);
+        put_back(&self.program, w, &mut self.cells, accesses, n, &mut written);
         release_at(&mut self.nodes, n, &self.workers, w);
         let_go(&mut self.workers, w);
         self.tasks[t.0 as usize] = Progress::Done(w);

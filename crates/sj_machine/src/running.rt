@@ -1,22 +1,22 @@
 //! What a task takes from the rows of cells and nodes as it begins to run.
 
-ghost use Rattle.std.specs.Prelude.{◌≡◌, ◌≢◌, ℕ, ◌+◌, ◌<◌, ◌≤◌, ◌++◌, ◌∷◌, [], All, IfOk, OnOk, length, slice_index_or, slice_set};
-ghost use Rattle.sj_base.specs.Mode.{is_written, reads_value};
+ghost use Rattle.std.specs.Prelude.{◌≡◌, ◌≢◌, ℕ, ◌+◌, ◌<◌, ◌≤◌, ◌++◌, ◌∷◌, [], All, OnOk, length, slice_index_or, slice_set};
 ghost use Rattle.sj_core.specs.Program.{task_of};
 ghost use Rattle.sj_machine.specs.Agrees.{IsWide};
 ghost use Rattle.sj_machine.specs.Copies.{lent_at, with_row};
-ghost use Rattle.sj_machine.specs.Running.{AreUnpinned, CanGive, evicted_at, lend_each, read_among, shares_at, written_among};
+ghost use Rattle.sj_machine.specs.Operands.{read_among};
+ghost use Rattle.sj_machine.specs.Running.{AreUnpinned, CanGive, evicted_at, lend_each, shares_at};
 ghost use Rattle.sj_node.specs.Entry.{pins_of, without, without_all};
 ghost use Rattle.sj_node.specs.Store.{Store, with_entries};
 
 use crate::copies::Copies;
-use sj_base::ids::{Cell, Node, Task};
+use crate::operands::{reads_value, worked_on};
+use sj_base::ids::{Cell, Node, Task, Worker};
 use sj_base::memory::OutOfMemory;
-use sj_base::mode::{Access, Mode};
+use sj_base::mode::Access;
 use sj_base::program::{Lowered, Program};
 use sj_codelet::frame::Frame;
 use sj_node::store::NodeStore;
-use std::alloc::Global;
 
 /// A task of a program. Constant time.
 pub fn task_at(program: &Program, t: Task) -> &Lowered
@@ -26,69 +26,43 @@ pub fn task_at(program: &Program, t: Task) -> &Lowered
     &program.tasks.items()[t.0 as usize]
 }
 
-/// Whether an operand of this mode gets a new value.
-pub fn is_written(mode: Mode) -> bool
-    ensures { result ≡ is_written mode }
-{
-    match mode {
-        Mode::R | Mode::Scratch => false,
-        Mode::W | Mode::RW | Mode::Redux | Mode::Commute => true,
-    }
-}
-
-/// Whether the old value of an operand of this mode is read.
-fn reads_value(mode: Mode) -> bool
-    ensures { result ≡ reads_value mode }
-{
-    match mode {
-        Mode::W | Mode::Scratch => false,
-        Mode::R | Mode::RW | Mode::Redux | Mode::Commute => true,
-    }
-}
-
-/// The cells among these operands that are written, in order. Linear in the operands.
-pub fn written_among(alloc: Global, accesses: &[Access]) -> Result<Vec<Cell>, OutOfMemory>
-    ensures { IfOk result (λ v. v.items ≡ written_among accesses.now) }
-{
-    let cells = accesses
-        .iter()
-        .filter(|a| is_written(a.mode))
-        .map(|a| a.cell)
-        .collect(alloc)?;
-    Ok(cells)
-}
-
-/// Appends shares of the tiles at a node of those operands whose old value is read. Linear in the operands.
+/// Appends shares of the tiles at a node on which a worker works for those operands whose old value is read. Linear in the
+/// operands.
 pub fn share_into(
+    program: &Program,
+    w: Worker,
     cells: &[Copies],
     n: Node,
     accesses: &[Access],
     frame: &mut Frame,
 ) -> Result<(), OutOfMemory>
     requires room { length (read_among accesses.now) ≤ frame.old.spare }
-    requires can { All (CanGive cells.now n) accesses.now }
-    ensures { OnOk result (frame.new.slots ≡ frame.old.slots ++ shares_at cells.now n accesses.now) }
+    requires can { All (CanGive program.now w cells.now n) accesses.now }
+    ensures { OnOk result (frame.new.slots ≡ frame.old.slots ++ shares_at program.now w cells.now n accesses.now) }
 {
     for access in accesses {
-        share_one(cells, n, *access, frame)?;
+        share_one(program, w, cells, n, *access, frame)?;
     }
     Ok(())
 }
 
-/// Appends a share of an operand's tile at a node, if its old value is read. Constant time.
+/// Appends a share of the tile at a node on which a worker works for an operand, if its old value is read. Constant time.
 fn share_one(
+    program: &Program,
+    w: Worker,
     cells: &[Copies],
     n: Node,
     access: Access,
     frame: &mut Frame,
 ) -> Result<(), OutOfMemory>
     requires room { length (read_among (access ∷ [])) ≤ frame.old.spare }
-    requires can { CanGive cells.now n access }
-    ensures slots { OnOk result (frame.new.slots ≡ frame.old.slots ++ shares_at cells.now n (access ∷ [])) }
+    requires can { CanGive program.now w cells.now n access }
+    ensures slots { OnOk result (frame.new.slots ≡ frame.old.slots ++ shares_at program.now w cells.now n (access ∷ [])) }
     ensures room { OnOk result (frame.new.spare + length (read_among (access ∷ [])) ≡ frame.old.spare) }
 {
     if reads_value(access.mode) {
-        let row = &cells[access.cell.0 as usize];
+        let cell = worked_on(program, w, access);
+        let row = &cells[cell.0 as usize];
         frame.push_shared(row.share(n)?);
     }
     Ok(())

@@ -1,4 +1,4 @@
-use Rattle.std.proofs.Common.{◌∙◌, ap, sym, arith, rules}
+use Rattle.std.proofs.Common.{◌∙◌, ap}
 use Rattle.sj_edge.proofs.Ranges.{length-slice_range}
 use Rattle.sj_disk.specs.Block.{word}
 use Rattle.sj_disk.proofs.Bytes.{word-little, fits-range}

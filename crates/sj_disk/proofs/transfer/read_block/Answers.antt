@@ -1,4 +1,4 @@
-use Rattle.std.proofs.Common.{◌≡◌, ◌+◌, ℕ, length, sym, ap, subst}
+use Rattle.std.proofs.Common.{◌≡◌, ◌+◌, ℕ, length, sym, subst}
 use Rattle.sj_edge.specs.Held.{GivesHeld}
 use Rattle.sj_disk.specs.Block.{element_bytes, header_bytes}
 use Rattle.sj_disk.proofs.Bytes.{length-header_bytes}

@@ -1,4 +1,4 @@
-use Rattle.std.proofs.Common.{◌≡◌, ◌+◌, ℕ, length, is_err, refl, sym, ap, subst, arith}
+use Rattle.std.proofs.Common.{◌≡◌, ◌+◌, ℕ, length, is_err, sym, ap, subst, arith}
 use Rattle.sj_disk.specs.Block.{element_bytes, header_bytes}
 use Rattle.sj_disk.specs.Transfers.{Writes}
 use Rattle.sj_disk.proofs.Bytes.{length-header_bytes, length-element_bytes}

@@ -8,9 +8,3 @@ invariant-loop-q l = record {
   first : l.c ≡ begun (l.q * 3) (row_product l.n l.a l.b l.fn.c) l.fn.c;
   second : l.d ≡ begun (l.q * 3) (row_product l.n l.e l.b l.fn.d) l.fn.d;
 }
-
-abbrev pub invariant-loop-j : goal.invariant-loop-j
-invariant-loop-j l = record {
-  first : l.c ≡ begun l.j (row_product l.n l.a l.b l.fn.c) l.fn.c;
-  second : l.d ≡ begun l.j (row_product l.n l.e l.b l.fn.d) l.fn.d;
-}

@@ -1,17 +1,44 @@
-use Rattle.std.proofs.Common.{◌≡◌, ◌∙◌, ◌++◌, ◌∷◌, [], List, ap, rules, true}
+use Rattle.std.proofs.Common.{◌≡◌, ◌<◌, ◌∙◌, All, length, ◌++◌, ◌∷◌, [], List, ap, false, rules, sym, subst, true}
 use Rattle.sj_base.specs.Mode.{is_written}
 use Rattle.sj_codelet.specs.Frame.{arrays}
-use Rattle.sj_machine.specs.Copies.{Copies}
-use Rattle.sj_machine.specs.Running.{put_each, written_among}
-use Rattle.sj_machine.proofs.Putting.{put_back-puts}
+use Rattle.sj_machine.specs.Copies.{Copies, with_row, written_at}
+use Rattle.sj_core.specs.Operands.{worked_on}
+use Rattle.sj_base.specs.declared.ids.Cell.{Cell}
+use Rattle.sj_machine.specs.Operands.{CanWorkOn, written_among}
+use Rattle.sj_machine.specs.Running.{put_each}
+use Rattle.sj_machine.proofs.Putting.{all-last, can_put-skip, can_put-take, put_back-puts}
 use Rattle.sj_machine.proofs.ending.+put_back.Goals as goal
 
 pub returns : goal.returns
 returns t c =
+    let p = c.args.program.now in
+    let w = c.args.w in
     let before = c.in-Some.before.now in
     let last = c.in-Some.last.now in
     let x = c.take_shared.result in
     let e : c.args.accesses.now ≡ before ++ last ∷ [] = search rules in
     let h : is_written last.mode ≡ true = search rules in
-    c.put_back-2.ensures ∙ ap (λ (rs : List Copies). put_each c.args.n (written_among before) (arrays c.take_shared.new.frame.slots) rs) c.rewrite.ensures
-    ∙ put_back-puts c.args.n c.args.accesses.now before last c.args.written.now.slots c.take_shared.new.frame.slots x.value c.args.cells.now.items e c.take_shared.ensures h c.requires.count
+    c.put_back-2.ensures ∙ ap (λ (rs : List Copies). put_each c.args.n (written_among p w before) (arrays c.take_shared.new.frame.slots) rs) (c.rewrite.ensures ∙ ap (λ (d : Cell). with_row c.args.cells.now.items d (λ row. written_at row c.args.n x.value)) c.worked_on-cell.ensures)
+    ∙ put_back-puts p w c.args.n c.args.accesses.now before last c.args.written.now.slots c.take_shared.new.frame.slots x.value c.args.cells.now.items e c.take_shared.ensures h c.requires.count
+
+pub put_back-requires : goal.put_back-requires
+put_back-requires t c =
+    let e : c.args.accesses.now ≡ c.in-Some.before.now ++ c.in-Some.last.now ∷ [] = search rules in
+    let h : is_written c.in-Some.last.now.mode ≡ false = search rules in
+    (search rules, can_put-skip _ _ _ c.args.accesses.now c.in-Some.before.now c.in-Some.last.now _ _ e h c.requires)
+
+pub worked_on-cell-requires : goal.worked_on-cell-requires
+worked_on-cell-requires t c =
+    let e : c.args.accesses.now ≡ c.in-Some.before.now ++ c.in-Some.last.now ∷ [] = search rules in
+    all-last (CanWorkOn c.args.program.now c.args.w) c.args.accesses.now c.in-Some.before.now c.in-Some.last.now e c.requires.works
+
+pub rewrite-requires-clause-cell : goal.rewrite-requires-clause-cell
+rewrite-requires-clause-cell t c =
+    let e : c.args.accesses.now ≡ c.in-Some.before.now ++ c.in-Some.last.now ∷ [] = search rules in
+    subst (λ (d : Cell). d.0 < length c.args.cells.now.items) (sym c.worked_on-cell.ensures) (all-last (λ a. (worked_on c.args.program.now c.args.w a).0 < length c.args.cells.now.items) c.args.accesses.now c.in-Some.before.now c.in-Some.last.now e c.requires.cells)
+
+pub put_back-requires-2 : goal.put_back-requires-2
+put_back-requires-2 t c =
+    let e : c.args.accesses.now ≡ c.in-Some.before.now ++ c.in-Some.last.now ∷ [] = search rules in
+    let h : is_written c.in-Some.last.now.mode ≡ true = search rules in
+    (search rules, can_put-take _ _ _ c.args.accesses.now c.in-Some.before.now c.in-Some.last.now c.args.written.now.slots c.take_shared.new.frame.slots c.take_shared.result.value c.args.cells.now.items c.rewrite.new.cells.items c.worked_on-cell.result e h c.take_shared.ensures c.worked_on-cell.ensures c.rewrite.ensures c.requires)

@@ -1,8 +1,8 @@
 use Rattle.std.proofs.Common.{◌≤◌, ◌+◌, ◌∷◌, [], arith, get_or, length}
 use Rattle.sj_base.specs.declared.mode.Access.{Access}
 use Rattle.sj_base.specs.declared.mode.Mode.TheVariants.{R}
-use Rattle.sj_machine.specs.Running.{read_among}
-use Rattle.sj_machine.proofs.Operands.{read-more, read-some}
+use Rattle.sj_machine.specs.Operands.{read_among}
+use Rattle.sj_machine.proofs.Shares.{read-more, read-some}
 use Rattle.sj_machine.proofs.running.share_into.Goals as goal
 
 pub share_one-requires-clause-room : goal.share_one-requires-clause-room

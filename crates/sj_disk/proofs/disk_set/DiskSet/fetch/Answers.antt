@@ -1,8 +1,8 @@
-use Rattle.std.proofs.Common.{◌≡◌, ◌+◌, ℕ, ℤ, List, ◌++◌, Option, Some, length, take, drop, sym, ap, ◌∙◌, subst, arith, true}
+use Rattle.std.proofs.Common.{◌≡◌, ℕ, ℤ, List, ◌++◌, Some, length, take, drop, sym, ap, ◌∙◌, subst, arith, true}
 use Rattle.std.proofs.Math.Seq.{take-append_seam}
 use Rattle.sj_disk.specs.Calls.{Fetches}
 use Rattle.sj_disk.specs.declared.directory.Extent.{Extent}
-use Rattle.sj_disk.specs.Directory.{DiskState, extent_of, disk_state, last_store}
+use Rattle.sj_disk.specs.Directory.{DiskState, disk_state, last_store}
 use Rattle.sj_disk.proofs.Sounding.{fetched, if-some, inside-disk, inside-fits, looked-up, sound-look}
 use Rattle.sj_disk.proofs.disk_set.DiskSet.fetch.Goals as goal
 

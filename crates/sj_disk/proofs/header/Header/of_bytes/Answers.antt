@@ -1,4 +1,4 @@
-use Rattle.std.proofs.Common.{◌≡◌, ◌++◌, ◌∙◌, ap, sym, arith, rules}
+use Rattle.std.proofs.Common.{rules}
 use Rattle.sj_disk.specs.Block.{header_bytes, word}
 use Rattle.sj_disk.proofs.Bytes.{three_words}
 use Rattle.sj_disk.proofs.header.Header.of_bytes.Goals as goal

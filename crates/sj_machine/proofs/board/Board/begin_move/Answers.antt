@@ -1,7 +1,23 @@
-use Rattle.std.proofs.Common.{refl}
+use Rattle.std.proofs.Common.{refl, subst, sym}
 use Rattle.sj_base.specs.declared.trace.Event.TheVariants.{Move}
+use Rattle.sj_machine.proofs.BoardEnds.{stays-tried}
 use Rattle.sj_machine.proofs.Boarding.{keeps-tried}
+use Rattle.sj_machine.specs.Board.{BoardState}
+use Rattle.sj_machine.specs.Standing.{CanHappen}
+use Rattle.std.specs.Prelude.{OnOk}
+use Rattle.sj_machine.specs.Sparing.{Spares}
+use Rattle.sj_machine.proofs.SparingBoards.{tried-spares}
 use Rattle.sj_machine.proofs.board.Board.begin_move.Goals as goal
 
 pub invariant_of-self : goal.invariant_of-self
-invariant_of-self g c = keeps-tried _ _ _ _ _ _ c.begin_move.result (Move c.args.cell c.args.from c.args.to) _ c.begin_move.ensures.ok c.begin_move.ensures.err refl c.self.invariant
+invariant_of-self g c = record {
+  board = keeps-tried _ _ _ _ _ _ c.begin_move.result (Move c.args.cell c.args.from c.args.to) _ c.begin_move.ensures.ok c.begin_move.ensures.err refl c.self.invariant.board;
+  ends = stays-tried g.D.Disk.held c.self.inside.run _ _ _ _ c.self.invariant.ends c.begin_move.result (Move c.args.cell c.args.from c.args.to) _ c.begin_move.ensures.ok c.begin_move.ensures.err refl;
+}
+
+pub returns-clause-spares : goal.returns-clause-spares
+returns-clause-spares g c =
+    let e = Move c.args.cell c.args.from c.args.to in
+    let can = subst (λ (b : BoardState _). CanHappen b.run e) (sym c.self.view_is) c.requires.can in
+    subst (λ (b : BoardState _). OnOk c.begin_move.result (Spares b.run e c.begin_move.new.self)) c.self.view_is
+    (tried-spares _ _ _ _ c.self.inside.run c.is_sound.ensures c.begin_move.result e can c.begin_move.new.self c.begin_move.ensures.ok)

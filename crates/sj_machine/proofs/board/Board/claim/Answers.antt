@@ -1,12 +1,14 @@
-use Rattle.std.proofs.Common.{◌≡◌, None, subst, sym}
+use Rattle.std.proofs.Common.{◌≡◌, None, ap, subst, sym}
 use Rattle.std.specs.Prelude.{IfErr, OnOk, Result}
 use Rattle.sj_base.specs.declared.trace.Event.TheVariants.{Claim}
 use Rattle.sj_machine.specs.Board.{BoardState, IsIdle, WasGiven}
 use Rattle.sj_machine.specs.Plan.{ClaimPlan}
 use Rattle.sj_machine.specs.Planning.{IsWhy}
-use Rattle.sj_machine.specs.Standing.{CanHappen, state}
+use Rattle.sj_machine.specs.Standing.{CanHappen, Standing, state}
 use Rattle.sj_machine.specs.declared.plan.Why.{Why}
+use Rattle.sj_machine.proofs.BoardEnds.{claims-alone, stays-claimed}
 use Rattle.sj_machine.proofs.Taking.{keeps-claimed_left, may-claim}
+use Rattle.sj_machine.proofs.SparingBoards.{told-spares}
 use Rattle.sj_machine.proofs.board.Board.claim.Goals as goal
 
 pub claim_plan-requires : goal.claim_plan-requires
@@ -14,7 +16,7 @@ claim_plan-requires g c =
     let given = subst (λ (b : BoardState _). WasGiven b c.args.w c.args.t) (sym c.self.view_is) c.requires.given in
     let idle = subst (λ (b : BoardState _). IsIdle b c.args.w) (sym c.self.view_is) c.requires.idle in
     let none = subst (λ (b : BoardState _). b.fault ≡ None) (sym c.self.view_is) c.requires.no_fault in
-    may-claim _ _ _ _ _ _ _ c.self.invariant c.is_sound.ensures c.args.w given.works c.args.t given.given idle.no_task none
+    may-claim _ _ _ _ _ _ _ c.self.invariant.board c.is_sound.ensures c.args.w given.works c.args.t given.given idle.no_task none
 
 pub returns-in-Err-clause-why : goal.returns-in-Err-clause-why
 returns-in-Err-clause-why g c =
@@ -27,9 +29,22 @@ invariant_of-self-2 g c =
     let idle = subst (λ (b : BoardState _). IsIdle b c.args.w) (sym c.self.view_is) c.requires.idle in
     let none = subst (λ (b : BoardState _). b.fault ≡ None) (sym c.self.view_is) c.requires.no_fault in
     let can = subst (λ (found : Result ClaimPlan Why). OnOk found (CanHappen c.self.inside.run (Claim c.args.t c.args.w))) c.in-Ok-found.is c.in-Ok.ensures.can in
-    keeps-claimed_left _ _ _ _ _ _ _ c.self.invariant c.is_sound.ensures c.args.w given.works c.args.t given.given idle.no_task none can _ _ c.in-Ok-claim.ensures.ok c.take.ensures
+    record {
+      board = keeps-claimed_left _ _ _ _ _ _ _ c.self.invariant.board c.is_sound.ensures c.args.w given.works c.args.t given.given idle.no_task none can _ _ c.in-Ok-claim.ensures.ok c.take.ensures;
+      ends = stays-claimed g.D.Disk.held c.self.inside.run _ _ _ _ c.self.invariant.ends _ _ _ c.is_sound.ensures c.args.t c.args.w can _ c.in-Ok-claim.ensures.ok;
+    }
 
 pub returns-clause-can : goal.returns-clause-can
 returns-clause-can g c =
     let can = subst (λ (found : Result ClaimPlan Why). OnOk found (CanHappen c.self.inside.run (Claim c.args.t c.args.w))) c.in-Ok-found.is c.in-Ok.ensures.can in
     subst (λ (b : BoardState _). CanHappen b.run (Claim c.args.t c.args.w)) c.self.view_is can
+
+pub returns-clause-spares : goal.returns-clause-spares
+returns-clause-spares g c =
+    let can = subst (λ (found : Result ClaimPlan Why). OnOk found (CanHappen c.self.inside.run (Claim c.args.t c.args.w))) c.in-Ok-found.is c.in-Ok.ensures.can in
+    told-spares _ _ _ _ c.self.inside.run c.is_sound.ensures (Claim c.args.t c.args.w) can _ c.in-Ok-claim.ensures.ok _ (ap (λ (b : BoardState _). b.run) c.self.view_is)
+
+pub returns-clause-one_worker : goal.returns-clause-one_worker
+returns-clause-one_worker g c =
+    let can = subst (λ (found : Result ClaimPlan Why). OnOk found (CanHappen c.self.inside.run (Claim c.args.t c.args.w))) c.in-Ok-found.is c.in-Ok.ensures.can in
+    claims-alone _ _ _ _ c.self.inside.run c.is_sound.ensures c.args.t c.args.w can _ c.in-Ok-claim.ensures.ok _ (ap (λ (b : BoardState _). b.run.program) c.self.view_is)

@@ -1,6 +1,25 @@
-use Rattle.std.proofs.Common.{refl}
+use Rattle.std.proofs.Common.{ap, refl, subst, sym, ◌∙◌}
+use Rattle.sj_machine.proofs.BoardEnds.{stays}
 use Rattle.sj_machine.proofs.Boarding.{keeps-run}
+use Rattle.sj_machine.specs.Board.{BoardState}
+use Rattle.sj_machine.specs.Standing.{CanHappen, with_event}
+use Rattle.sj_base.specs.declared.trace.Event.TheVariants.{Drop}
+use Rattle.sj_core.specs.Needs.{node_of}
+use Rattle.sj_machine.specs.Sparing.{Spares}
+use Rattle.sj_machine.proofs.SparingBoards.{event-spares}
+use Rattle.sj_base.specs.declared.ids.Node.{Node}
+use Rattle.sj_base.specs.declared.trace.Event.{Event}
 use Rattle.sj_machine.proofs.board.Board.drop_copy.Goals as goal
 
 pub invariant_of-self : goal.invariant_of-self
-invariant_of-self g c = keeps-run _ _ _ _ _ _ _ _ c.drop_copy.ensures refl c.self.invariant
+invariant_of-self g c = record {
+  board = keeps-run _ _ _ _ _ _ _ _ c.drop_copy.ensures refl c.self.invariant.board;
+  ends = stays g.D.Disk.held c.self.inside.run _ _ _ _ c.self.invariant.ends _ _ c.drop_copy.ensures refl;
+}
+
+pub returns-clause-spares : goal.returns-clause-spares
+returns-clause-spares g c =
+    let can = subst (λ (b : BoardState _). CanHappen b.run (Drop c.args.cell (node_of b.run.machine c.args.w))) (sym c.self.view_is) c.requires.can in
+    let at = ap (λ (n : Node). Drop c.args.cell n) c.node_of-n.ensures in
+    subst (λ (b : BoardState _). Spares b.run (Drop c.args.cell (node_of b.run.machine c.args.w)) c.drop_copy.new.self) c.self.view_is
+    (event-spares _ _ _ _ c.self.inside.run c.is_sound.ensures (Drop c.args.cell (node_of c.self.inside.run.machine c.args.w)) can c.drop_copy.new.self (c.drop_copy.ensures ∙ ap (λ (e : Event). with_event c.self.inside.run e) at))

@@ -1,11 +1,17 @@
-use Rattle.std.proofs.Common.{◌<◌, arith, subst}
+use Rattle.std.proofs.Common.{◌<◌, ap, arith, rules, subst}
 use Rattle.sj_base.specs.declared.program.Program.{Program}
-use Rattle.sj_machine.specs.Preparing.{IsPrepared}
+use Rattle.sj_machine.specs.Delivered.{Deliveries}
+use Rattle.sj_machine.specs.Preparing.{IsPrepared, IsReadyToDeliver}
+use Rattle.sj_machine.proofs.BoardEnds.{opens-run}
 use Rattle.sj_machine.proofs.Opening.{opens-with}
 use Rattle.sj_machine.proofs.board.Board.make.Goals as goal
 
 pub invariant_of-result : goal.invariant_of-result
 invariant_of-result g c =
     let some : 0 < c.args.program.value.workers = omega (arith, c.requires.run.machine.some_worker, c.requires.run.machine.workers) in
-    let parts = subst (λ (p : Program). IsPrepared p c.args.machine.policy c.in-Ok.parts.deps c.in-Ok.parts.footprints.items c.in-Ok.parts.hands.items c.in-Ok.parts.pool) c.deref.ensures c.in-Ok.ensures in
-    opens-with _ _ _ c.args.program.value c.args.machine c.args.disks some _ _ _ _ _ c.in-Ok-make.ensures.ok parts
+    let parts = subst (λ (p : Program). IsPrepared p c.args.machine.policy c.in-Ok.parts.deps c.in-Ok.parts.footprints.items c.in-Ok.parts.hands.items c.in-Ok.parts.pool) c.deref.ensures c.in-Ok.ensures.prepared in
+    let delivers = subst (λ (p : Program). IsReadyToDeliver p c.in-Ok.parts.gifts c.in-Ok.parts.delivered) c.deref.ensures c.in-Ok.ensures.delivers in
+    record {
+      board = opens-with _ _ _ c.args.program.value c.args.machine c.args.disks some _ _ _ _ _ c.in-Ok.parts.delivered.pairs (ap (λ (x : Deliveries). x.pairs) delivers.none) c.in-Ok-make.ensures.ok parts;
+      ends = opens-run g.D.Disk.held c.args.program.value c.args.machine c.args.disks _ c.in-Ok-make.ensures.ok _ _ delivers _ (search rules);
+    }

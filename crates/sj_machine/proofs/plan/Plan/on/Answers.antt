@@ -2,14 +2,16 @@ use Rattle.std.proofs.Common.{rules, ◌≡◌, ◌+◌, ◌∙◌, List, Some, 
 use Rattle.std.specs.Prelude.{All}
 use Rattle.sj_base.specs.declared.ids.Cell.{Cell}
 use Rattle.sj_base.specs.declared.mode.Access.{Access}
-use Rattle.sj_base.specs.Mode.{is_data, is_scratch}
+use Rattle.sj_base.specs.Mode.{is_scratch}
+use Rattle.sj_core.specs.Operands.{cells_of}
 use Rattle.sj_core.specs.Program.{distinct, task_of}
 use Rattle.sj_core.specs.Needs.{tile_bytes, scratch_bytes}
 use Rattle.sj_node.specs.Entry.{has_entry}
 use Rattle.sj_node.specs.Store.{victims_of}
 use Rattle.sj_machine.specs.Plan.{IsSmallCell}
-use Rattle.sj_machine.specs.Planning.{lacking, named}
-use Rattle.sj_machine.proofs.ClaimPlanning.{lacking-small, lacking-sum, missing-is, planned-none, planned-some}
+use Rattle.sj_machine.specs.Operands.{CanWorkOn, worked_among}
+use Rattle.sj_machine.specs.Planning.{lacking}
+use Rattle.sj_machine.proofs.ClaimPlanning.{lacking-small, lacking-sum, missing-is, planned-none, planned-some, work-few, work-small}
 use Rattle.sj_machine.proofs.plan.Plan.on.Goals as goal
 
 pub bytes_of-requires : goal.bytes_of-requires
@@ -18,9 +20,10 @@ bytes_of-requires c =
     let t = c.args.t in
     let s = c.args.node.now in
     let accesses : c.accesses_of-accesses.result.now ≡ (task_of p t).accesses = c.accesses_of-accesses.ensures in
-    let names : c.in_ok-cells.cells.items ≡ named p t = search rules ∙ ap (λ (xs : List Access). map (λ a. a.cell) (filter (λ a. is_data a.mode) xs)) accesses in
+    let w = c.args.w in
+    let names : c.in_ok-cells.cells.items ≡ cells_of p t w = search rules ∙ ap (worked_among p w) accesses in
     let lacks : c.in_ok-missing.missing.items ≡ filter (λ d. not (has_entry s.entries d)) (distinct c.in_ok-cells.cells.items) = search rules in
-    subst (λ (cs : List Cell). All (IsSmallCell p) cs) (sym (c.deref-2.ensures.value ∙ missing-is p t s _ _ names lacks)) (lacking-small p t c.requires s)
+    subst (λ (cs : List Cell). All (IsSmallCell p) cs) (sym (c.deref-2.ensures.value ∙ missing-is s (cells_of p t w) _ _ names lacks)) (lacking-small p (cells_of p t w) (work-small p t w c.requires) (work-few p t w c.requires) s)
 
 pub total-requires : goal.total-requires
 total-requires c =
@@ -28,11 +31,12 @@ total-requires c =
     let t = c.args.t in
     let s = c.args.node.now in
     let accesses : c.accesses_of-accesses.result.now ≡ (task_of p t).accesses = c.accesses_of-accesses.ensures in
-    let names : c.in_ok-cells.cells.items ≡ named p t = search rules ∙ ap (λ (xs : List Access). map (λ a. a.cell) (filter (λ a. is_data a.mode) xs)) accesses in
+    let w = c.args.w in
+    let names : c.in_ok-cells.cells.items ≡ cells_of p t w = search rules ∙ ap (worked_among p w) accesses in
     let lacks : c.in_ok-missing.missing.items ≡ filter (λ d. not (has_entry s.entries d)) (distinct c.in_ok-cells.cells.items) = search rules in
     let weighs : c.in_ok-bytes.bytes.items ≡ map (tile_bytes p) c.in_ok-missing.missing.items = search rules in
-    let sum_is : sum c.deref-3.result.now ≡ sum (map (tile_bytes p) (lacking p s t)) = ap sum (c.deref-3.ensures.value ∙ weighs ∙ ap (map (tile_bytes p)) (missing-is p t s _ _ names lacks)) in
-    omega (arith, sum_is, lacking-sum p t c.requires s)
+    let sum_is : sum c.deref-3.result.now ≡ sum (map (tile_bytes p) (lacking s (cells_of p t w))) = ap sum (c.deref-3.ensures.value ∙ weighs ∙ ap (map (tile_bytes p)) (missing-is s (cells_of p t w) _ _ names lacks)) in
+    omega (arith, sum_is, lacking-sum p (cells_of p t w) (work-small p t w c.requires) (work-few p t w c.requires) s)
 
 pub overflow_add-need : goal.overflow_add-need
 overflow_add-need c =
@@ -40,11 +44,12 @@ overflow_add-need c =
     let t = c.args.t in
     let s = c.args.node.now in
     let accesses : c.accesses_of-accesses.result.now ≡ (task_of p t).accesses = c.accesses_of-accesses.ensures in
-    let names : c.in_ok-cells.cells.items ≡ named p t = search rules ∙ ap (λ (xs : List Access). map (λ a. a.cell) (filter (λ a. is_data a.mode) xs)) accesses in
+    let w = c.args.w in
+    let names : c.in_ok-cells.cells.items ≡ cells_of p t w = search rules ∙ ap (worked_among p w) accesses in
     let lacks : c.in_ok-missing.missing.items ≡ filter (λ d. not (has_entry s.entries d)) (distinct c.in_ok-cells.cells.items) = search rules in
     let weighs : c.in_ok-bytes.bytes.items ≡ map (tile_bytes p) c.in_ok-missing.missing.items = search rules in
-    let sum_is : sum c.deref-3.result.now ≡ sum (map (tile_bytes p) (lacking p s t)) = ap sum (c.deref-3.ensures.value ∙ weighs ∙ ap (map (tile_bytes p)) (missing-is p t s _ _ names lacks)) in
-    omega (arith, sum_is, lacking-sum p t c.requires s, c.total.ensures, c.scratch_bytes-scratch.ensures.small)
+    let sum_is : sum c.deref-3.result.now ≡ sum (map (tile_bytes p) (lacking s (cells_of p t w))) = ap sum (c.deref-3.ensures.value ∙ weighs ∙ ap (map (tile_bytes p)) (missing-is s (cells_of p t w) _ _ names lacks)) in
+    omega (arith, sum_is, lacking-sum p (cells_of p t w) (work-small p t w c.requires) (work-few p t w c.requires) s, c.total.ensures, c.scratch_bytes-scratch.ensures.small)
 
 pub returns-in_default : goal.returns-in_default
 returns-in_default c =
@@ -52,12 +57,13 @@ returns-in_default c =
     let t = c.args.t in
     let s = c.args.node.now in
     let accesses : c.accesses_of-accesses.result.now ≡ (task_of p t).accesses = c.accesses_of-accesses.ensures in
-    let names : c.in_ok-cells.cells.items ≡ named p t = search rules ∙ ap (λ (xs : List Access). map (λ a. a.cell) (filter (λ a. is_data a.mode) xs)) accesses in
+    let w = c.args.w in
+    let names : c.in_ok-cells.cells.items ≡ cells_of p t w = search rules ∙ ap (worked_among p w) accesses in
     let lacks : c.in_ok-missing.missing.items ≡ filter (λ d. not (has_entry s.entries d)) (distinct c.in_ok-cells.cells.items) = search rules in
     let weighs : c.in_ok-bytes.bytes.items ≡ map (tile_bytes p) c.in_ok-missing.missing.items = search rules in
     let holds : c.scratch_bytes-scratch.result ≡ scratch_bytes p (task_of p t) = c.scratch_bytes-scratch.ensures.bytes ∙ ap (λ (xs : List Access). sum_by (λ a. tile_bytes p a.cell) (filter (λ a. is_scratch a.mode) xs)) accesses in
     let none : None ≡ option_map reverse (victims_of c.in_ok-cells.cells.items s (sum c.in_ok-bytes.bytes.items + c.scratch_bytes-scratch.result)) = search rules in
-    planned-none p t s _ _ _ _ names lacks weighs holds none
+    planned-none p t w s _ _ _ _ names lacks weighs holds none
 
 pub returns : goal.returns
 returns c =
@@ -65,7 +71,8 @@ returns c =
     let t = c.args.t in
     let s = c.args.node.now in
     let accesses : c.accesses_of-accesses.result.now ≡ (task_of p t).accesses = c.accesses_of-accesses.ensures in
-    let names : c.in_ok-cells.cells.items ≡ named p t = search rules ∙ ap (λ (xs : List Access). map (λ a. a.cell) (filter (λ a. is_data a.mode) xs)) accesses in
+    let w = c.args.w in
+    let names : c.in_ok-cells.cells.items ≡ cells_of p t w = search rules ∙ ap (worked_among p w) accesses in
     let lacks : c.in_ok-missing.missing.items ≡ filter (λ d. not (has_entry s.entries d)) (distinct c.in_ok-cells.cells.items) = search rules in
     let weighs : c.in_ok-bytes.bytes.items ≡ map (tile_bytes p) c.in_ok-missing.missing.items = search rules in
     let holds : c.scratch_bytes-scratch.result ≡ scratch_bytes p (task_of p t) = c.scratch_bytes-scratch.ensures.bytes ∙ ap (λ (xs : List Access). sum_by (λ a. tile_bytes p a.cell) (filter (λ a. is_scratch a.mode) xs)) accesses in
@@ -74,4 +81,9 @@ returns c =
     ∙ ap (λ (cs : List Cell). option_map reverse (victims_of cs s (c.total.result + c.scratch_bytes-scratch.result))) c.deref-4.ensures.value
     ∙ ap (λ n. option_map reverse (victims_of c.in_ok-cells.cells.items s (n + c.scratch_bytes-scratch.result))) (c.total.ensures ∙ ap sum c.deref-3.ensures.value) in
     let some : Some c.in-Some.victims.items ≡ option_map reverse (victims_of c.in_ok-cells.cells.items s (sum c.in_ok-bytes.bytes.items + c.scratch_bytes-scratch.result)) = ap (option_map (λ v. v.items)) (sym c.in-Some.is) ∙ found in
-    planned-some p t s _ _ _ _ names lacks weighs holds c.in-Some.victims.items some
+    planned-some p t w s _ _ _ _ names lacks weighs holds c.in-Some.victims.items some
+
+pub worked_cells-requires : goal.worked_cells-requires
+worked_cells-requires c =
+    let accesses : c.accesses_of-accesses.result.now ≡ (task_of c.args.program.now c.args.t).accesses = c.accesses_of-accesses.ensures in
+    subst (λ (xs : List Access). All (CanWorkOn c.args.program.now c.args.w) xs) (sym accesses) c.requires.can

@@ -1,21 +1,45 @@
-use Rattle.std.proofs.Common.{◌≡◌, ◌∙◌, List, All, true, ap, option_map, refl, subst, sym}
+use Rattle.std.proofs.Common.{◌≡◌, ◌∙◌, List, All, Some, None, true, ap, option_map, refl, subst, sym}
+use Rattle.sj_base.specs.declared.program.Lowered.{Lowered}
 use Rattle.sj_base.specs.declared.program.Program.{Program}
 use Rattle.sj_core.specs.Machine.{WorkerState}
+use Rattle.sj_core.specs.Program.{task_of}
 use Rattle.sj_machine.specs.Copies.{Copies}
-use Rattle.sj_machine.specs.Planning.{IsWhy, MayClaim, NoneLeaves, chosen_on, is_leaving_at, planned}
+use Rattle.sj_machine.specs.Operands.{first_held}
+use Rattle.sj_machine.specs.Planning.{HasSmallWork, IsWhy, MayClaim, NoneLeaves, chosen_on, is_leaving_at, planned}
 use Rattle.sj_machine.specs.Standing.{Standing, state}
-use Rattle.sj_machine.specs.declared.plan.Why.TheVariants.{Leaving}
-use Rattle.sj_machine.proofs.ClaimChoice.{answer-told, choice-found, choice-leaving}
+use Rattle.sj_machine.specs.declared.plan.Why.TheVariants.{Commute, Leaving}
+use Rattle.sj_machine.proofs.ClaimChoice.{answer-told, choice-commuter, choice-found, choice-free, choice-leaving, choice-small}
 use Rattle.sj_machine.proofs.run_state.RunState.claim_plan.Goals as goal
 
 pub returns-in-Some-clause-why : goal.returns-in-Some-clause-why
 returns-in-Some-clause-why g c =
     let a = c.args in
+    let i = c.self.inside in
     let may = subst (λ (b : Standing _). MayClaim b.program b.machine (state b) a.t a.w) (sym c.self.view_is) c.requires in
-    let told : is_leaving_at c.deref.result.now c.node_of-n.result c.in-Some.cell ≡ true = c.in-Some.ensures.some in
-    let leaves : is_leaving_at c.self.inside.cells.items c.node_of-n.result c.in-Some.cell ≡ true = ap (λ (rows : List Copies). is_leaving_at rows c.node_of-n.result c.in-Some.cell) (sym c.deref.ensures.value) ∙ told in
-    subst (λ (b : Standing _). IsWhy b.program b.machine (state b) a.t a.w (Leaving c.in-Some.cell)) c.self.view_is
-    (choice-leaving _ _ _ _ _ _ _ _ c.self.invariant a.t a.w may c.node_of-n.result c.node_of-n.ensures c.in-Some.cell leaves)
+    let of_task : c.items-accesses.result.now ≡ (task_of i.program.value a.t).accesses = c.items-accesses.ensures ∙ ap (λ (l : Lowered). l.accesses) (c.task_at.ensures ∙ ap (λ (p : Program). task_of p a.t) c.deref.ensures) in
+    subst (λ (b : Standing _). IsWhy b.program b.machine (state b) a.t a.w (Commute c.in-Some.cell)) c.self.view_is
+    (choice-commuter _ _ _ _ _ _ _ _ c.self.invariant a.t a.w may _ refl c.deref-2.result.now c.items-accesses.result.now c.in-Some.cell c.deref-2.ensures.value of_task (sym c.in-Some.ensures))
+
+pub returns-in-Some-leaving_at-clause-why : goal.returns-in-Some-leaving_at-clause-why
+returns-in-Some-leaving_at-clause-why g c =
+    let a = c.args in
+    let i = c.self.inside in
+    let n = c.node_of-n.result in
+    let may = subst (λ (b : Standing _). MayClaim b.program b.machine (state b) a.t a.w) (sym c.self.view_is) c.requires in
+    let of_task : c.items-accesses.result.now ≡ (task_of i.program.value a.t).accesses = c.items-accesses.ensures ∙ ap (λ (l : Lowered). l.accesses) (c.task_at.ensures ∙ ap (λ (p : Program). task_of p a.t) c.deref.ensures) in
+    let free = choice-free _ _ _ _ _ _ _ _ c.self.invariant a.t a.w may n c.node_of-n.ensures c.deref-2.result.now c.items-accesses.result.now c.deref-2.ensures.value of_task (sym c.in_default.ensures) in
+    let told : is_leaving_at c.deref-3.result.now n c.in-Some-leaving_at.cell ≡ true = c.in-Some-leaving_at.ensures.some in
+    let leaves : is_leaving_at i.cells.items n c.in-Some-leaving_at.cell ≡ true = ap (λ (rows : List Copies). is_leaving_at rows n c.in-Some-leaving_at.cell) (sym c.deref-3.ensures.value) ∙ told in
+    subst (λ (b : Standing _). IsWhy b.program b.machine (state b) a.t a.w (Leaving c.in-Some-leaving_at.cell)) c.self.view_is
+    (choice-leaving _ _ _ _ _ _ _ _ c.self.invariant a.t a.w may n c.node_of-n.ensures free c.in-Some-leaving_at.cell leaves)
+
+pub on-requires : goal.on-requires
+on-requires g c =
+    let a = c.args in
+    let i = c.self.inside in
+    let n = c.node_of-n.result in
+    let may = subst (λ (b : Standing _). MayClaim b.program b.machine (state b) a.t a.w) (sym c.self.view_is) c.requires in
+    subst (λ (p : Program). HasSmallWork p a.t a.w) (sym c.deref-5.ensures) (choice-small _ _ _ _ _ _ _ _ c.self.invariant a.t a.w may n c.node_of-n.ensures)
 
 pub returns-clause-can : goal.returns-clause-can
 returns-clause-can g c =
@@ -23,10 +47,12 @@ returns-clause-can g c =
     let i = c.self.inside in
     let n = c.node_of-n.result in
     let may = subst (λ (b : Standing _). MayClaim b.program b.machine (state b) a.t a.w) (sym c.self.view_is) c.requires in
-    let told : All (λ row. NoneLeaves c.deref.result.now n row.victims) c.deref-2.result.now = c.in_default.ensures.none refl in
-    let none = subst (λ (ws : List WorkerState). All (λ row. NoneLeaves i.cells.items n row.victims) ws) c.deref-2.ensures.value (subst (λ (rows : List Copies). All (λ row. NoneLeaves rows n row.victims) c.deref-2.result.now) c.deref.ensures.value told) in
-    let found : c.in_ok-found.found ≡ option_map (planned i.program.value c.index.result.now a.t) (chosen_on i.program.value c.index.result.now a.t) = c.in_ok-found.ensures ∙ ap (λ (p : Program). option_map (planned p c.index.result.now a.t) (chosen_on p c.index.result.now a.t)) c.deref-3.ensures in
-    let answer = choice-found _ _ _ _ _ _ _ _ c.self.invariant a.t a.w may n c.node_of-n.ensures none c.index.result.now _ c.index.ensures c.in_ok-found.found found in
+    let of_task : c.items-accesses.result.now ≡ (task_of i.program.value a.t).accesses = c.items-accesses.ensures ∙ ap (λ (l : Lowered). l.accesses) (c.task_at.ensures ∙ ap (λ (p : Program). task_of p a.t) c.deref.ensures) in
+    let free = choice-free _ _ _ _ _ _ _ _ c.self.invariant a.t a.w may n c.node_of-n.ensures c.deref-2.result.now c.items-accesses.result.now c.deref-2.ensures.value of_task (sym c.in_default.ensures) in
+    let told : All (λ row. NoneLeaves c.deref-3.result.now n row.victims) c.deref-4.result.now = c.in_default-leaving_at.ensures.none refl in
+    let none = subst (λ (ws : List WorkerState). All (λ row. NoneLeaves i.cells.items n row.victims) ws) c.deref-4.ensures.value (subst (λ (rows : List Copies). All (λ row. NoneLeaves rows n row.victims) c.deref-4.result.now) c.deref-3.ensures.value told) in
+    let found : c.in_ok-found.found ≡ option_map (planned i.program.value c.index.result.now a.t a.w) (chosen_on i.program.value c.index.result.now a.t a.w) = c.in_ok-found.ensures ∙ ap (λ (p : Program). option_map (planned p c.index.result.now a.t a.w) (chosen_on p c.index.result.now a.t a.w)) c.deref-5.ensures in
+    let answer = choice-found _ _ _ _ _ _ _ _ c.self.invariant a.t a.w may n c.node_of-n.ensures free none c.index.result.now _ c.index.ensures c.in_ok-found.found found in
     (answer-told _ _ a.t a.w _ _ c.self.view_is c.ok_or.ensures.value answer).can
 
 pub returns-clause-plan : goal.returns-clause-plan
@@ -35,10 +61,12 @@ returns-clause-plan g c =
     let i = c.self.inside in
     let n = c.node_of-n.result in
     let may = subst (λ (b : Standing _). MayClaim b.program b.machine (state b) a.t a.w) (sym c.self.view_is) c.requires in
-    let told : All (λ row. NoneLeaves c.deref.result.now n row.victims) c.deref-2.result.now = c.in_default.ensures.none refl in
-    let none = subst (λ (ws : List WorkerState). All (λ row. NoneLeaves i.cells.items n row.victims) ws) c.deref-2.ensures.value (subst (λ (rows : List Copies). All (λ row. NoneLeaves rows n row.victims) c.deref-2.result.now) c.deref.ensures.value told) in
-    let found : c.in_ok-found.found ≡ option_map (planned i.program.value c.index.result.now a.t) (chosen_on i.program.value c.index.result.now a.t) = c.in_ok-found.ensures ∙ ap (λ (p : Program). option_map (planned p c.index.result.now a.t) (chosen_on p c.index.result.now a.t)) c.deref-3.ensures in
-    let answer = choice-found _ _ _ _ _ _ _ _ c.self.invariant a.t a.w may n c.node_of-n.ensures none c.index.result.now _ c.index.ensures c.in_ok-found.found found in
+    let of_task : c.items-accesses.result.now ≡ (task_of i.program.value a.t).accesses = c.items-accesses.ensures ∙ ap (λ (l : Lowered). l.accesses) (c.task_at.ensures ∙ ap (λ (p : Program). task_of p a.t) c.deref.ensures) in
+    let free = choice-free _ _ _ _ _ _ _ _ c.self.invariant a.t a.w may n c.node_of-n.ensures c.deref-2.result.now c.items-accesses.result.now c.deref-2.ensures.value of_task (sym c.in_default.ensures) in
+    let told : All (λ row. NoneLeaves c.deref-3.result.now n row.victims) c.deref-4.result.now = c.in_default-leaving_at.ensures.none refl in
+    let none = subst (λ (ws : List WorkerState). All (λ row. NoneLeaves i.cells.items n row.victims) ws) c.deref-4.ensures.value (subst (λ (rows : List Copies). All (λ row. NoneLeaves rows n row.victims) c.deref-4.result.now) c.deref-3.ensures.value told) in
+    let found : c.in_ok-found.found ≡ option_map (planned i.program.value c.index.result.now a.t a.w) (chosen_on i.program.value c.index.result.now a.t a.w) = c.in_ok-found.ensures ∙ ap (λ (p : Program). option_map (planned p c.index.result.now a.t a.w) (chosen_on p c.index.result.now a.t a.w)) c.deref-5.ensures in
+    let answer = choice-found _ _ _ _ _ _ _ _ c.self.invariant a.t a.w may n c.node_of-n.ensures free none c.index.result.now _ c.index.ensures c.in_ok-found.found found in
     (answer-told _ _ a.t a.w _ _ c.self.view_is c.ok_or.ensures.value answer).plan
 
 pub returns-clause-why : goal.returns-clause-why
@@ -47,8 +75,10 @@ returns-clause-why g c =
     let i = c.self.inside in
     let n = c.node_of-n.result in
     let may = subst (λ (b : Standing _). MayClaim b.program b.machine (state b) a.t a.w) (sym c.self.view_is) c.requires in
-    let told : All (λ row. NoneLeaves c.deref.result.now n row.victims) c.deref-2.result.now = c.in_default.ensures.none refl in
-    let none = subst (λ (ws : List WorkerState). All (λ row. NoneLeaves i.cells.items n row.victims) ws) c.deref-2.ensures.value (subst (λ (rows : List Copies). All (λ row. NoneLeaves rows n row.victims) c.deref-2.result.now) c.deref.ensures.value told) in
-    let found : c.in_ok-found.found ≡ option_map (planned i.program.value c.index.result.now a.t) (chosen_on i.program.value c.index.result.now a.t) = c.in_ok-found.ensures ∙ ap (λ (p : Program). option_map (planned p c.index.result.now a.t) (chosen_on p c.index.result.now a.t)) c.deref-3.ensures in
-    let answer = choice-found _ _ _ _ _ _ _ _ c.self.invariant a.t a.w may n c.node_of-n.ensures none c.index.result.now _ c.index.ensures c.in_ok-found.found found in
+    let of_task : c.items-accesses.result.now ≡ (task_of i.program.value a.t).accesses = c.items-accesses.ensures ∙ ap (λ (l : Lowered). l.accesses) (c.task_at.ensures ∙ ap (λ (p : Program). task_of p a.t) c.deref.ensures) in
+    let free = choice-free _ _ _ _ _ _ _ _ c.self.invariant a.t a.w may n c.node_of-n.ensures c.deref-2.result.now c.items-accesses.result.now c.deref-2.ensures.value of_task (sym c.in_default.ensures) in
+    let told : All (λ row. NoneLeaves c.deref-3.result.now n row.victims) c.deref-4.result.now = c.in_default-leaving_at.ensures.none refl in
+    let none = subst (λ (ws : List WorkerState). All (λ row. NoneLeaves i.cells.items n row.victims) ws) c.deref-4.ensures.value (subst (λ (rows : List Copies). All (λ row. NoneLeaves rows n row.victims) c.deref-4.result.now) c.deref-3.ensures.value told) in
+    let found : c.in_ok-found.found ≡ option_map (planned i.program.value c.index.result.now a.t a.w) (chosen_on i.program.value c.index.result.now a.t a.w) = c.in_ok-found.ensures ∙ ap (λ (p : Program). option_map (planned p c.index.result.now a.t a.w) (chosen_on p c.index.result.now a.t a.w)) c.deref-5.ensures in
+    let answer = choice-found _ _ _ _ _ _ _ _ c.self.invariant a.t a.w may n c.node_of-n.ensures free none c.index.result.now _ c.index.ensures c.in_ok-found.found found in
     (answer-told _ _ a.t a.w _ _ c.self.view_is c.ok_or.ensures.value answer).why

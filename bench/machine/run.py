@@ -1,0 +1,97 @@
+#!/usr/bin/env python3
+"""Times jobs whose data is eight times a node's size, and counts from the trace what they move.
+
+Build `starjob` first, by ./run examples/first.job. Three jobs at one worker, each on an ample node and on a small one: the product
+of two matrices of 2048 rows in tiles of 128, the shortest ways between 2048 places in tiles of 128, and 100,000 tasks
+(and 10,000) each of which evicts one cell of 8 bytes. Wall time of whole runs, best of five unless a number is given; peak
+memory is the process's own. Where the machine is small, its disk is memory too, so the peak holds what was moved out.
+"""
+import os, re, subprocess, sys, tempfile, time
+
+here = os.path.dirname(os.path.abspath(__file__))
+top = os.path.dirname(os.path.dirname(here))
+starjob = os.path.join(top, "crates", "starjob", "out", "starjob")
+RUNS = int(sys.argv[1]) if len(sys.argv) > 1 else 5
+MIB = 1024 * 1024
+AMPLE = ["--node", str(1024 * MIB)]
+
+
+def product(n, tile):
+    p = n // tile
+    yield from (f"matrix A {n} {n} by {p} {p} fill 1 1", f"matrix B {n} {n} by {p} {p} fill 5 -2", f"matrix C {n} {n} by {p} {p} fill 0 0")
+    for i in range(p):
+        for j in range(p):
+            for k in range(p):
+                yield f"task gemm A[{i},{k}]:R B[{k},{j}]:R C[{i},{j}]:RW"
+
+
+def ways(n, tile):
+    p = n // tile
+    yield f"matrix D {n} {n} by {p} {p} fill 0 7"
+    for k in range(p):
+        others = [i for i in range(p) if i != k]
+        yield f"task fwdiag D[{k},{k}]:RW"
+        yield from (f"task fwrow D[{k},{k}]:R D[{k},{j}]:RW" for j in others)
+        yield from (f"task fwcol D[{k},{k}]:R D[{i},{k}]:RW" for i in others)
+        yield from (f"task mingemm D[{i},{k}]:R D[{k},{j}]:R D[{i},{j}]:RW" for i in others for j in others)
+
+
+def evicting(n):
+    yield from (f"vector v{k} 1 fill {k} 0" for k in range(3))
+    yield from (f"task scale(3) v{k % 3}:RW" for k in range(n))
+
+
+def run(folder, lines, words):
+    """The least seconds and the greatest peak in MiB."""
+    path = os.path.join(folder, "job")
+    with open(path, "w") as f:
+        f.write("\n".join(["starjob 1", *lines]) + "\n")
+    times, peak = [], 0
+    for _ in range(RUNS):
+        with open(path) as source:
+            started = time.monotonic()
+            child = subprocess.Popen([starjob, *words], stdin=source, stdout=subprocess.DEVNULL)
+            _, status, usage = os.wait4(child.pid, 0)
+            times.append(time.monotonic() - started)
+        if status != 0:
+            sys.exit(f"starjob {' '.join(words)} ended with {status}")
+        peak = max(peak, usage.ru_maxrss / 1024)
+    return min(times), peak
+
+
+def moved(folder, words, tile_bytes):
+    """MiB that went out to a disk, and that came back."""
+    with open(os.path.join(folder, "job")) as source:
+        trace = subprocess.run([starjob, *words, "--trace"], stdin=source, capture_output=True, check=True).stdout
+    out = len(re.findall(rb"^moved c\d+ n\d+ d\d+$", trace, re.M))
+    back = len(re.findall(rb"^moved c\d+ d\d+ n\d+$", trace, re.M))
+    return out * tile_bytes / MIB, back * tile_bytes / MIB
+
+
+def tiled(folder, name, lines, node, goal):
+    lines = list(lines)
+    swap = ["--swap-size", str(256 * MIB)]
+    ample, _ = run(folder, lines, AMPLE + swap)
+    small = ["--node", str(node)] + swap
+    taken, peak = run(folder, lines, small)
+    out, back = moved(folder, small, 8 * 128 * 128)
+    print(f"{name}: {taken:.3f} s, on an ample node {ample:.3f} s, {taken / ample:.2f} times (goal: at most {goal}); "
+          f"{out:.0f} MiB out, {back:.0f} MiB in; peak {peak:.0f} MiB", flush=True)
+
+
+def main():
+    print(f"cores: {os.cpu_count()}, load: {os.getloadavg()[0]:.1f}")
+    with tempfile.TemporaryDirectory() as folder:
+        tiled(folder, "product n 2048 tile 128 at 1/8", product(2048, 128), 12 * MIB, "1.1, 128 MiB out and 608 in")
+        tiled(folder, "shortest ways n 2048 tile 128 at 1/8", ways(2048, 128), 4 * MIB, 1.5)
+        each = []
+        for n in (10_000, 100_000):
+            without, _ = run(folder, evicting(0), ["--node", "16"])
+            small, peak = run(folder, evicting(n), ["--node", "16"])
+            ample, _ = run(folder, evicting(n), AMPLE)
+            each.append((small - without) / n * 1e6)
+            print(f"{n} tasks that evict: {each[-1]:.2f} us a task, {(small - without) / (ample - without):.2f} times the ample node's (goal: at most 4), peak {peak:.0f} MiB")
+        print(f"ratio of a task's time at 100,000 to 10,000: {each[1] / each[0]:.2f}")
+
+
+main()

@@ -1,0 +1,93 @@
+#!/usr/bin/env python3
+"""Times jobs by several workers: small tasks, the product, shortest ways, a chain, and workers with nothing to do.
+
+Build `starjob` first, by ./run examples/first.job, on a machine of four processors that does nothing else. Wall time of whole
+runs, best of five unless a number is given, less that of reading the same job's arrays where tasks are small. C's plain loops
+for the shortest ways are those of bench/jobs (order.c).
+"""
+import os, subprocess, sys, tempfile, time
+
+here = os.path.dirname(os.path.abspath(__file__))
+top = os.path.dirname(os.path.dirname(here))
+starjob = os.path.join(top, "crates", "starjob", "out", "starjob")
+RUNS = int(sys.argv[1]) if len(sys.argv) > 1 else 5
+
+
+def run(folder, lines, workers, more=()):
+    """The least wall seconds, and the least processor seconds."""
+    path = os.path.join(folder, "job")
+    with open(path, "w") as f:
+        f.write("\n".join(["starjob 1", *lines]) + "\n")
+    walls, works = [], []
+    words = ["--workers", str(workers), "--swap-size", str(2**30), "--node", str(2**30), *more]
+    for _ in range(RUNS):
+        with open(path) as source:
+            started = time.monotonic()
+            child = subprocess.Popen([starjob, *words], stdin=source, stdout=subprocess.DEVNULL)
+            _, status, usage = os.wait4(child.pid, 0)
+            walls.append(time.monotonic() - started)
+        works.append(usage.ru_utime + usage.ru_stime)
+        if status != 0:
+            sys.exit(f"starjob {' '.join(words)} ended with {status}")
+    return min(walls), min(works)
+
+
+def product(n, tile):
+    p = n // tile
+    yield from (f"matrix A {n} {n} by {p} {p} fill 1 1", f"matrix B {n} {n} by {p} {p} fill 5 -2", f"matrix C {n} {n} by {p} {p} fill 0 0")
+    yield from (
+        f"task gemm A[{i},{k}]:R B[{k},{j}]:R C[{i},{j}]:RW" for i in range(p) for j in range(p) for k in range(p)
+    )
+
+
+def ways(n, tile):
+    p = n // tile
+    yield f"matrix D {n} {n} by {p} {p} fill 0 7"
+    for k in range(p):
+        others = [i for i in range(p) if i != k]
+        yield f"task fwdiag D[{k},{k}]:RW"
+        yield from (f"task fwrow D[{k},{k}]:R D[{k},{j}]:RW" for j in others)
+        yield from (f"task fwcol D[{k},{k}]:R D[{i},{k}]:RW" for i in others)
+        yield from (f"task mingemm D[{i},{k}]:R D[{k},{j}]:R D[{i},{j}]:RW" for i in others for j in others)
+
+
+def small(n):
+    yield from (f"vector v{k} 1 fill {k} 0" for k in range(100))
+    yield from (f"task scale(3) v{k % 100}:RW" for k in range(n))
+
+
+def chain(n):
+    yield "vector x 1 fill 1 0"
+    yield from ["task scale(3) x:RW"] * n
+
+
+def long_chain(n):
+    yield "matrix A 512 512 fill 1 1"
+    yield "matrix B 512 512 fill 1 1"
+    yield "matrix C 512 512 fill 0 0"
+    yield from ["task gemm A:R B:R C:RW"] * n
+
+
+def main():
+    print(f"cores: {os.cpu_count()}, load: {os.getloadavg()[0]:.1f}")
+    with tempfile.TemporaryDirectory() as folder:
+        for workers in (1, 2, 4):
+            base, _ = run(folder, small(0), workers)
+            taken, _ = run(folder, small(100_000), workers)
+            print(f"100,000 tasks by {workers}: {(taken - base) * 10:.2f} us a task, reading included", flush=True)
+        for tile, goal in ((256, 0.93), (128, 0.90)):
+            one, _ = run(folder, product(2048, tile), 1)
+            four, _ = run(folder, product(2048, tile), 4)
+            print(f"product n 2048 tile {tile}: {one:.3f} s by 1, {four:.3f} s by 4, {one / four / 4:.2f} of 4 (goal: at least {goal})", flush=True)
+        for workers in (1, 4):
+            taken, _ = run(folder, ways(480, 20), workers)
+            print(f"shortest ways n 480 tile 20 by {workers}: {taken:.3f} s", flush=True)
+        _, one = run(folder, chain(10_000), 1)
+        _, four = run(folder, chain(10_000), 4)
+        print(f"chain of 10,000: {one:.3f} s of processors by 1, {four:.3f} s by 4, {four / one:.2f} times (goal: at most 1.3)", flush=True)
+        wall, one = run(folder, long_chain(8), 1)
+        _, four = run(folder, long_chain(8), 4)
+        print(f"a chain of {wall:.1f} s: 3 idle workers take {(four - one) / wall:.3f} s of processors a second (goal: at most 0.05)")
+
+
+main()

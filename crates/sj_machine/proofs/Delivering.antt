@@ -1,0 +1,139 @@
+-- Deliver tasks: each reads one cell, and what it finds there is what it is to hand over.
+use Rattle.std.proofs.Common.{◌≡◌, ◌∙◌, ◌∷◌, ◌<◌, ◌||◌, ℕ, [], List, Option, None, Some, Bool, true, false, IsTrue, ap, arith, get_or, inl, inr, is_some, length, map, refl, subst, sym, filter}
+use Rattle.std.specs.Prelude.{Contains, IsSomeAnd, slice_index_or}
+use Rattle.std.proofs.lemmas.Bool.{cases_Bool, cases_lt, false≢true}
+use Rattle.std.proofs.lemmas.List.{get_or_past}
+use Rattle.std.proofs.lemmas.List.Elements.{All-get_or}
+use Rattle.sj_base.specs.declared.mode.Access.{Access}
+use Rattle.sj_base.specs.declared.mode.Mode.{Mode}
+use Rattle.sj_base.specs.declared.mode.Mode.TheVariants.{R}
+use Rattle.sj_base.specs.declared.mode.Reduction.{Reduction}
+use Rattle.sj_base.specs.declared.program.Lowered.{Lowered}
+use Rattle.sj_base.specs.declared.trace.Event.TheVariants.{Run}
+use Rattle.sj_base.specs.Mode.{is_data, reads_value}
+use Rattle.sj_codelet.specs.declared.kernel.Kernel.{Kernel}
+use Rattle.sj_codelet.specs.declared.kernel.Kernel.TheVariants.{Fill, Copy, Scale, Add, Axpy, Butterfly, Gemm, GemmThree, Transpose, Dot, Sum, Lowest, MinGemm, FwDiag, FwRow, FwCol, Load, LoadFill, Paste, Deliver, InitPlus, InitLeast}
+use Rattle.sj_codelet.specs.Kernel.{commutes_of, contributes_of, kernel_of}
+use Rattle.sj_core.proofs.Claimed.{claimed-staffed}
+use Rattle.sj_core.proofs.Folding.{read-among_cells}
+use Rattle.sj_core.proofs.Found.{found-not_fresh}
+use Rattle.sj_core.proofs.Given.{delivers-given}
+use Rattle.sj_core.proofs.Reading.{list_all-has}
+use Rattle.sj_core.proofs.Words.{Array, AtNode, Cell, Machine, Node, Program, State, Task, Worker, cells_of, dims_of, fresh_cells, has_cell, is_valid, no_task, node_of, progress, replica, task_of, worked_on}
+use Rattle.sj_core.specs.Fold.{given}
+use Rattle.sj_core.specs.Laws.{Brought, HasAtHand, IsSound, Works}
+use Rattle.sj_core.specs.Proper.{Commuting, Contributing, FirstPaste, Fits, MayHaveModes, Own, Proper, access, own_modes}
+use Rattle.sj_core.specs.Step.{array_at}
+use Rattle.sj_core.specs.declared.progress.Progress.TheVariants.{Claimed, Running}
+use Rattle.sj_machine.specs.Agrees.{Rows}
+use Rattle.sj_machine.specs.Delivered.{IsDeliveryOf, IsKeptFor, delivered_cell, is_deliver, is_deliver_task, is_delivery}
+use Rattle.sj_machine.specs.Releasing.{IsGift}
+use Rattle.sj_machine.specs.Sound.{IsSoundRun, Keeps}
+use Rattle.sj_machine.specs.Standing.{AllTell, CanHappen, IsTileOf, Standing, state}
+
+delivers : (k : Kernel) → is_deliver k ≡ true → k ≡ Deliver
+delivers Deliver e = refl
+delivers Fill e = absurd (false≢true e)
+delivers Copy e = absurd (false≢true e)
+delivers Scale e = absurd (false≢true e)
+delivers Add e = absurd (false≢true e)
+delivers Axpy e = absurd (false≢true e)
+delivers Butterfly e = absurd (false≢true e)
+delivers Gemm e = absurd (false≢true e)
+delivers GemmThree e = absurd (false≢true e)
+delivers Transpose e = absurd (false≢true e)
+delivers Dot e = absurd (false≢true e)
+delivers Sum e = absurd (false≢true e)
+delivers Lowest e = absurd (false≢true e)
+delivers MinGemm e = absurd (false≢true e)
+delivers FwDiag e = absurd (false≢true e)
+delivers FwRow e = absurd (false≢true e)
+delivers FwCol e = absurd (false≢true e)
+delivers Load e = absurd (false≢true e)
+delivers LoadFill e = absurd (false≢true e)
+delivers Paste e = absurd (false≢true e)
+delivers InitPlus e = absurd (false≢true e)
+delivers InitLeast e = absurd (false≢true e)
+
+-- it has its codelet's own mode: R alone
+deliver-modes : (modes : List Mode) → MayHaveModes Deliver modes → modes ≡ R ∷ []
+deliver-modes modes (Own e) = e
+deliver-modes modes (FirstPaste paste e) = absurd (cc)
+deliver-modes modes (Commuting commutes one e) = absurd (false≢true commutes)
+deliver-modes modes (Contributing by contributes one e) = absurd (false≢true contributes)
+
+one-read : (list : List Access) → map (λ (a : Access). a.mode) list ≡ R ∷ [] → (c : Cell) × (list ≡ access R c ∷ [])
+one-read [] e = absurd (let n : 0 ≡ 1 = ap length e in omega arith)
+one-read (a ∷ []) e = (a.cell, ap (λ (x : Mode). access x a.cell ∷ []) (ap (λ (ms : List Mode). get_or ms 0 R) e))
+one-read (a ∷ b ∷ list) e = absurd (let n : length (a.mode ∷ b.mode ∷ map (λ (x : Access). x.mode) list) ≡ 1 = ap length e in omega arith)
+
+module _ (p : Program) (proper : Proper p) (t : Task) (hands_over : is_deliver_task p t ≡ true) where
+  -- it is a task of the program
+  pub deliver-inside : t.0 < length p.tasks
+  deliver-inside = elim (cases_lt t.0 (length p.tasks)) [
+    | inl inside ↦ inside
+    | inr past ↦ absurd (false≢true (sym (ap (λ (l : Lowered). is_delivery l.codelet) (get_or_past p.tasks t.0 no_task past)) ∙ hands_over))
+  ]
+
+  fit : Fits p (task_of p t)
+  fit = All-get_or (Fits p) p.tasks t.0 no_task deliver-inside proper.codelets
+
+  kernel : fit.kernel ≡ Deliver
+  kernel = delivers fit.kernel (sym (ap (λ (o : Option Kernel). elim o as (λ _. Bool) [ None ↦ false | Some k ↦ is_deliver k ]) fit.codelet) ∙ hands_over)
+
+  alone : (c : Cell) × ((task_of p t).accesses ≡ access R c ∷ [])
+  alone = one-read (task_of p t).accesses (deliver-modes (map (λ a. a.mode) (task_of p t).accesses) (subst (λ (k : Kernel). MayHaveModes k (map (λ a. a.mode) (task_of p t).accesses)) kernel fit.modes))
+
+  its : delivered_cell p t ≡ alone.0
+  its = ap (λ (xs : List Access). slice_index_or (map (worked_on p (record { 0 = 0 })) (filter (λ a. is_data a.mode) xs)) 0 (record { 0 = 0 })) alone.1
+
+  -- it reads one cell, and does nothing else
+  pub deliver-reads : (task_of p t).accesses ≡ access R (delivered_cell p t) ∷ []
+  deliver-reads = alone.1 ∙ ap (λ (c : Cell). access R c ∷ []) (sym its)
+
+-- ---- what it is to hand over
+
+module _ {D : Type 0} (size faults mismatches : D → ℕ) (held : D → Option (List ℕ)) (b : Standing D) (sound : IsSoundRun size faults mismatches held b) (t : Task) (w : Worker) where
+  abbrev p : Program
+  p = b.program
+
+  abbrev n : Node
+  n = node_of b.machine w
+
+  -- what it has on its worker's node
+  at-hand : is_deliver_task p t ≡ true → HasAtHand b.machine (state b) t w (delivered_cell p t) → array_at p (state b) (AtNode n) (delivered_cell p t) ≡ given p t
+  at-hand hands has =
+      delivers-given p b.machine (state b) (record { proper = sound.run.proper; machine = sound.run.machine; coherent = sound.coherent }) sound.run.has sound.run.lawful t w (delivered_cell p t)
+      (deliver-reads p sound.run.proper t hands) has
+
+  -- as the task begins to run it has that cell there
+  pub run-has : CanHappen b (Run t w) → is_deliver_task p t ≡ true → HasAtHand b.machine (state b) t w (delivered_cell p t)
+  run-has can hands = Brought can.claimed (
+      sym (ap (λ x. x || is_valid (replica (state b) (delivered_cell p t) (AtNode n))) (found-not_fresh p sound.run.proper t w (claimed-staffed p b.machine (state b) h t w can.claimed) its among refl))
+      ∙ list_all-has (λ c. has_cell (fresh_cells p t w) c || is_valid (replica (state b) c (AtNode n))) (cells_of p t w) (delivered_cell p t) can.present (read-among_cells p t w its among refl)
+      )
+    where
+      h : IsSound p b.machine (state b)
+      h = record { proper = sound.run.proper; machine = sound.run.machine; coherent = sound.coherent }
+
+      its : Access
+      its = access R (delivered_cell p t)
+
+      among : Contains (task_of p t).accesses its
+      among = subst (λ (xs : List Access). Contains xs its) (sym (deliver-reads p sound.run.proper t hands)) (0, omega arith, refl)
+
+  -- so a gift that was taken where the cell is at hand is to be kept
+  pub gift-kept : (gift : Option Array) → (is_deliver_task p t ≡ true → HasAtHand b.machine (state b) t w (delivered_cell p t)) → IsGift held b t w gift → IsKeptFor p (AllTell held b) t gift
+  gift-kept gift has is = record { some = λ hands. by_gift gift (is.some hands) hands; none = is.none }
+    where
+      by_gift : (g : Option Array) → IsSomeAnd g (IsTileOf held b (delivered_cell p t) (AtNode n)) → is_deliver_task p t ≡ true → IsSomeAnd g (IsDeliveryOf p (AllTell held b) t)
+      by_gift None some hands = absurd some
+      by_gift (Some a) some hands = record { dims = some.dims; array = λ tells. some.array tells ∙ at-hand hands (has hands) }
+
+  -- and what is kept for a running task is what it hands over
+  pub kept-gift : (gift : Option Array) → progress (state b) t ≡ Running w → IsKeptFor p (AllTell held b) t gift → IsGift held b t w gift
+  kept-gift gift runs is = record { some = λ hands. by_gift gift (is.some hands) hands; none = is.none }
+    where
+      by_gift : (g : Option Array) → IsSomeAnd g (IsDeliveryOf p (AllTell held b) t) → is_deliver_task p t ≡ true → IsSomeAnd g (IsTileOf held b (delivered_cell p t) (AtNode n))
+      by_gift None some hands = absurd some
+      by_gift (Some a) some hands = record { dims = some.dims; array = λ tells. some.array tells ∙ sym (at-hand hands (Works runs)) }

@@ -1,0 +1,46 @@
+-- Each event of a board spares the copies that are used.
+use Rattle.std.proofs.Common.{◌≡◌, ℕ, List, Option, None, Some, refl, subst, sym}
+use Rattle.std.specs.Prelude.{Err, IfSome, Ok, OnOk, Result}
+use Rattle.sj_base.specs.declared.trace.Event.{Event}
+use Rattle.sj_base.specs.declared.trace.Event.TheVariants.{Moved}
+use Rattle.sj_core.proofs.States.{one-mover, state_of-more}
+use Rattle.sj_core.proofs.Words.{State, Valid, Worker, transfer, with_replica, with_transfer}
+use Rattle.sj_core.specs.Laws.{IsSound}
+use Rattle.sj_core.specs.Step.{EndsMove, after, array_at}
+use Rattle.sj_core.specs.declared.progress.Transfer.{Transfer}
+use Rattle.sj_machine.specs.Sound.{IsSoundRun}
+use Rattle.sj_machine.specs.Sparing.{Spares, SparesMoved, SparesUsed}
+use Rattle.sj_machine.specs.Standing.{CanHappen, HasMoved, Standing, state, with_event}
+use Rattle.sj_machine.proofs.Sparing.{Step-spares}
+
+module _ {D : Type 0} (size faults mismatches : D → ℕ) (held : D → Option (List ℕ)) (b : Standing D) (run : IsSoundRun size faults mismatches held b) where
+  sound : IsSound b.program b.machine (state b)
+  sound = record { proper = run.run.proper; machine = run.run.machine; coherent = run.coherent }
+
+  pub event-spares : (e : Event) → CanHappen b e → (b' : Standing D) → b' ≡ with_event b e → Spares b e b'
+  event-spares e can b' is =
+      subst (λ (x : Standing D). Spares b e x) (sym is)
+      (subst (λ (z : State). SparesUsed b.program b.machine (state b) e z) (sym (state_of-more b.program b.machine b.trace e)) (Step-spares b.program b.machine (state b) sound e (after b.program b.machine (state b) e) can))
+
+  -- of the same run under another name
+  pub told-spares : (e : Event) → CanHappen b e → (b' : Standing D) → b' ≡ with_event b e → (x : Standing D) → b ≡ x → Spares x e b'
+  told-spares e can b' is x same = subst (λ (z : Standing D). Spares z e b') same (event-spares e can b' is)
+
+  -- where the event comes if the call succeeds
+  pub tried-spares : {A E : Type 0} (result : Result A E) (e : Event) → CanHappen b e → (b' : Standing D) → OnOk result (b' ≡ with_event b e) → OnOk result (Spares b e b')
+  tried-spares (Ok a) e can b' is = event-spares e can b' is
+  tried-spares (Err x) e can b' is = is
+
+  -- the end of a worker's transfer
+  pub moved-spares : (w : Worker) (b' : Standing D) → HasMoved w b b' → SparesMoved w b b'
+  moved-spares w b' moved = by_transfer (transfer (state b) w) refl moved
+    where
+      can : (x : Transfer) → transfer (state b) w ≡ Some x → CanHappen b (Moved x.cell x.from x.to)
+      can x under_way =
+          let s = state b in
+          let placed : State = with_replica s x.cell x.to (Valid (array_at b.program s x.from x.cell)) in
+          subst (λ (v : Worker). EndsMove b.program s x.cell x.from x.to v (with_transfer placed v None)) (one-mover b.program b.machine s x.cell x.from x.to w run.coherent under_way) (record { under_way = under_way; leaves = refl })
+
+      by_transfer : (o : Option Transfer) → transfer (state b) w ≡ o → IfSome o (λ x. b' ≡ with_event b (Moved x.cell x.from x.to)) → IfSome o (λ x. Spares b (Moved x.cell x.from x.to) b')
+      by_transfer None e is = tt
+      by_transfer (Some x) e is = event-spares (Moved x.cell x.from x.to) (can x e) b' is

@@ -1,0 +1,98 @@
+-- What a worker does next for the task that it has claimed: its victims go, the least recently used first; then the cells
+-- come that its claim brings, in operand order; then its kernel begins.
+use Rattle.std.specs.Prelude.{◌≡◌, ◌≢◌, Bool, not, ◌&&◌, Option, ◌⊎◌, IsTrue, IsSomeAnd, IfSome, MatchBool, MatchOption, find, is_some, reverse, if◌then◌else◌}
+use Rattle.std.specs.List.{list_all}
+use Rattle.sj_base.specs.declared.ids.Cell.{Cell}
+use Rattle.sj_base.specs.declared.ids.Node.{Node}
+use Rattle.sj_base.specs.declared.ids.Task.{Task}
+use Rattle.sj_base.specs.declared.ids.Worker.{Worker}
+use Rattle.sj_base.specs.declared.ids.Place.TheVariants.{Node as AtNode, Disk as OnDisk}
+use Rattle.sj_base.specs.declared.program.Program.{Program}
+use Rattle.sj_base.specs.declared.program.Machine.{Machine}
+use Rattle.sj_base.specs.declared.trace.Event.TheVariants.{Drop, Move, Run}
+use Rattle.sj_core.specs.Machine.{State, is_coming_by, is_gone, progress, replica, transfer, victims_of, writes}
+use Rattle.sj_core.specs.Needs.{node_of}
+use Rattle.sj_core.specs.Operands.{cells_of, written_cells}
+use Rattle.sj_core.specs.Step.{disk_of, is_fresh, is_moving, is_present, is_read, is_valid_elsewhere, mover_of, source_of}
+use Rattle.sj_core.specs.declared.progress.Progress.TheVariants.{Claimed}
+use Rattle.sj_machine.specs.Board.{BoardState, hand_of}
+use Rattle.sj_machine.specs.Standing.{CanHappen, state}
+use Rattle.sj_machine.specs.declared.todo.Todo.{Todo}
+use Rattle.sj_machine.specs.declared.todo.Todo.TheVariants.{Discard, Nothing, Start, Transfer, Wait}
+
+-- ---- victims
+
+-- the victim that goes next: the least recently used of those that aren't gone
+abbrev pub next_victim : Machine → State → Worker → Option Cell
+next_victim m s w = find (λ c. not (is_gone m s w c)) (reverse (victims_of s w))
+
+-- the only valid copy is written to the cell's disk; another one is dropped, once no transfer reads it
+abbrev pub Evicts : Program → Machine → State → Cell → Node → Todo → Type 0
+Evicts p m s c n todo =
+    MatchBool (is_valid_elsewhere m s c (AtNode n))
+    (todo ≡ (if is_read m s c (AtNode n) then Wait else Discard c))
+    (IsSomeAnd (disk_of p m c) (λ d. todo ≡ Transfer c (AtNode n) (OnDisk d) (writes s c)))
+
+-- ---- cells
+
+-- the cell comes by the worker's claim, and its old value is read
+abbrev pub is_to_come : Program → Machine → State → Worker → Cell → Bool
+is_to_come p m s w c = is_coming_by w (replica s c (AtNode (node_of m w))) && not (is_fresh p s w c)
+
+-- the cell that is brought next: the first of them in operand order
+abbrev pub next_cell : Program → Machine → State → Task → Worker → Option Cell
+next_cell p m s t w = find (is_to_come p m s w) (cells_of p t w)
+
+-- the cell is brought from where the node fetches it
+abbrev pub Brings : Program → Machine → State → Cell → Node → Todo → Type 0
+Brings p m s c n todo = IsSomeAnd (source_of p m s c) (λ from. todo ≡ Transfer c from (AtNode n) (writes s c))
+
+-- ---- the run
+
+-- each cell whose old value the task reads is on the node, and no transfer moves a cell that it writes
+abbrev pub may_run : Program → Machine → State → Task → Worker → Bool
+may_run p m s t w = is_present p s t w (node_of m w) && list_all (λ c. not (is_moving m s c)) (written_cells p t w)
+
+-- ---- in this order
+
+-- the worker's next step for the task that it has claimed
+abbrev pub IsNext : Program → Machine → State → Task → Worker → Todo → Type 0
+IsNext p m s t w todo =
+    MatchOption (next_victim m s w)
+    (MatchOption (next_cell p m s t w)
+    (todo ≡ (if may_run p m s t w then Start else Wait))
+    (λ c. Brings p m s c (node_of m w) todo))
+    (λ c. Evicts p m s c (node_of m w) todo)
+
+-- the worker's next step: nothing where it has no task
+abbrev pub IsTodoOf : {D : Type 0} → BoardState D → Worker → Todo → Type 0
+IsTodoOf b w todo = MatchOption (hand_of b w).task (todo ≡ Nothing) (λ t. IsNext b.run.program b.run.machine (state b.run) t w todo)
+
+-- ---- what follows of it
+
+-- the event that the step begins with can happen
+abbrev pub CanBegin : {D : Type 0} → BoardState D → Worker → Todo → Type 0
+CanBegin b w Nothing = Unit {0}
+CanBegin b w (Transfer c from to n) = CanHappen b.run (Move c from to)
+CanBegin b w (Discard c) = CanHappen b.run (Drop c (node_of b.run.machine w))
+CanBegin b w Wait = Unit {0}
+CanBegin b w Start = IfSome (hand_of b w).task (λ t. CanHappen b.run (Run t w))
+
+-- where it is a move, it is the worker's
+abbrev pub IsMoverOf : {D : Type 0} → BoardState D → Worker → Todo → Type 0
+IsMoverOf b w (Transfer c from to n) = mover_of (state b.run) c from to ≡ w
+IsMoverOf b w _ = Unit {0}
+
+-- the worker has claimed a task, and doesn't wait
+pub record HasStep (p : Program) (m : Machine) (s : State) (w : Worker) : Type 0 where
+  pub task : Task
+  pub claimed : progress s task ≡ Claimed w
+  pub todo : Todo
+  pub next : IsNext p m s task w todo
+  pub goes_on : todo ≢ Wait
+
+-- another worker than this one has a transfer under way, or a task for which it doesn't wait
+pub record AnotherGoesOn (p : Program) (m : Machine) (s : State) (w : Worker) : Type 0 where
+  pub worker : Worker
+  pub other : worker ≢ w
+  pub goes_on : IsTrue (is_some (transfer s worker)) ⊎ HasStep p m s worker

@@ -1,0 +1,118 @@
+//! The operands of a task as its worker works on them.
+
+ghost use Rattle.std.specs.Prelude.{◌≡◌, ◌&&◌, All, IfOk};
+ghost use Rattle.sj_base.specs.Mode.{is_commute, is_written as is_written_mode, reads_value as reads_value_of};
+ghost use Rattle.sj_core.specs.Operands.{worked_on as cell_worked_on};
+ghost use Rattle.sj_machine.specs.Operands.{CanWorkOn, first_held, is_held, worked_among, written_among};
+
+use crate::hold::Hold;
+use sj_base::ids::{Cell, Worker};
+use sj_base::memory::OutOfMemory;
+use sj_base::mode::{Access, Mode};
+use sj_base::program::Program;
+use std::alloc::Global;
+
+/// Whether an operand of this mode gets a new value.
+pub fn is_written(mode: Mode) -> bool
+    ensures { result ≡ is_written_mode mode }
+{
+    match mode {
+        Mode::R | Mode::Scratch => false,
+        Mode::W | Mode::RW | Mode::Redux | Mode::Commute => true,
+    }
+}
+
+/// Whether the old value of an operand of this mode is read.
+pub fn reads_value(mode: Mode) -> bool
+    ensures { result ≡ reads_value_of mode }
+{
+    match mode {
+        Mode::W | Mode::Scratch => false,
+        Mode::R | Mode::RW | Mode::Redux | Mode::Commute => true,
+    }
+}
+
+/// The cell on which a worker works for an operand: its own partial copy of a cell to which it contributes, and the cell
+/// itself for any other operand. Constant time.
+pub fn worked_on(program: &Program, w: Worker, access: Access) -> Cell
+    requires { CanWorkOn program.now w access }
+    ensures { result ≡ cell_worked_on program.now w access }
+{
+    if access.mode != Mode::Redux {
+        return access.cell;
+    }
+    match program.cells.items()[access.cell.0 as usize].partials {
+        Some(first) => Cell(first.0 + w.0 as u32),
+        None => access.cell,
+    }
+}
+
+/// The cells on which a worker works for the operands that are accesses to data, in order. Linear in the operands.
+pub fn worked_cells(
+    alloc: Global,
+    program: &Program,
+    w: Worker,
+    accesses: &[Access],
+) -> Result<Vec<Cell>, OutOfMemory>
+    requires { All (CanWorkOn program.now w) accesses.now }
+    ensures { IfOk result (λ cells. cells.items ≡ worked_among program.now w accesses.now) }
+{
+    let mut cells = Vec::new(alloc);
+    for access in accesses {
+        if access.mode != Mode::Scratch {
+            cells.push(worked_on(program, w, *access))?;
+        }
+    }
+    Ok(cells)
+}
+
+/// The cells on which a worker works for the operands that are written, in order. Linear in the operands.
+pub fn written_cells(
+    alloc: Global,
+    program: &Program,
+    w: Worker,
+    accesses: &[Access],
+) -> Result<Vec<Cell>, OutOfMemory>
+    requires { All (CanWorkOn program.now w) accesses.now }
+    ensures { IfOk result (λ cells. cells.items ≡ written_among program.now w accesses.now) }
+{
+    let mut cells = Vec::new(alloc);
+    for access in accesses {
+        if is_written(access.mode) {
+            cells.push(worked_on(program, w, *access))?;
+        }
+    }
+    Ok(cells)
+}
+
+/// Whether a worker pins a cell. Linear in the workers and their pins, which are a task's few.
+fn is_held(workers: &[Hold], cell: Cell) -> bool
+    ensures { result ≡ is_held workers.now cell }
+{
+    for worker in workers {
+        if worker.pins().contains(&cell) {
+            return true;
+        }
+    }
+    false
+}
+
+/// Whether an operand commutes and a worker pins its cell. Linear in the workers and their pins.
+fn is_commuter_held(workers: &[Hold], access: Access) -> bool
+    ensures { result ≡ (is_commute access.mode && is_held workers.now access.cell) }
+{
+    access.mode == Mode::Commute && is_held(workers, access.cell)
+}
+
+/// The first cell of a commuting operand that a worker pins. Linear in the operands, and in the workers for each that
+/// commutes.
+pub fn commuter_held(workers: &[Hold], accesses: &[Access]) -> Option<Cell>
+    ensures { result ≡ first_held workers.now accesses.now }
+{
+    for access in accesses {
+        if is_commuter_held(workers, *access) {
+            return Some(access.cell);
+        }
+    }
+    None
+}

@@ -1,0 +1,61 @@
+-- What the words of a command line ask for.
+use Rattle.std.specs.Prelude.{◌≡◌, ◌≤◌, ℕ, ◌^◌, Bool, ◌&&◌, not, ◌==◌, nat_le, List, Option, Some, None, IfSome, is_some, true, ◌⊎◌, option_map, option_and_then, length, codes, if◌then◌else◌}
+use Rattle.std.specs.List.{list_all}
+use Rattle.std.specs.Char.{is_ascii_digit}
+use Rattle.std.specs.Str.{bytes_eq}
+use Rattle.std.specs.Str.Parse.{digits_value}
+use Rattle.sj_base.specs.declared.mode.Policy.{Policy}
+use Rattle.sj_base.specs.declared.mode.Policy.TheVariants.{Eager, Prio, Ws}
+use Rattle.sj_words.specs.Spelling.{Text, said, stands_once, given}
+use Rattle.sj_words.specs.declared.options.Options.{Options}
+
+-- 1 to 19 decimal digits
+abbrev pub is_number : Text → Bool
+is_number text = not (length text == 0) && (nat_le (length text) 19 && list_all is_ascii_digit text)
+
+-- the number that a text says, where it lies in the range
+abbrev pub number_in : ℕ → ℕ → Text → Option ℕ
+number_in least greatest text =
+    if is_number text && (nat_le least (digits_value 10 text) && nat_le (digits_value 10 text) greatest)
+    then Some (digits_value 10 text) else None
+
+abbrev pub policy_in : Text → Option Policy
+policy_in text = if bytes_eq text (codes "eager") then Some Eager
+    else (if bytes_eq text (codes "prio") then Some Prio else (if bytes_eq text (codes "ws") then Some Ws else None))
+
+-- the value of an option, if it is given, must be read; what isn't given asks for nothing
+abbrev pub reads : {A : Type 0} → (Text → Option A) → Option Text → Option (Option A)
+reads read None = Some None
+reads read (Some text) = option_map Some (read text)
+
+-- what the settings ask for, where each value is of its kind, and `--nodes` stands only with `--node`
+abbrev pub asked_for : List (Text × Text) → Option Options
+asked_for ps =
+    option_and_then (λ workers. option_and_then (λ policy. option_and_then (λ node. option_and_then (λ nodes. option_and_then (λ swap_size.
+    if is_some nodes && not (is_some node) then None
+    else Some (record {
+      workers = workers;
+      policy = policy;
+      node = node;
+      nodes = nodes;
+      swap = given (codes "swap") ps;
+      swap_size = swap_size;
+      trace = is_some (given (codes "trace") ps);
+    }))
+    (reads (number_in 0 (2 ^ 40)) (given (codes "swap-size") ps)))
+    (reads (number_in 1 16) (given (codes "nodes") ps)))
+    (reads (number_in 8 (2 ^ 40)) (given (codes "node") ps)))
+    (reads policy_in (given (codes "sched") ps)))
+    (reads (number_in 1 64) (given (codes "workers") ps))
+
+-- what the words ask for, or none where they aren't accepted
+abbrev pub options : List Text → Option Options
+options words = option_and_then (λ ps. if stands_once ps then asked_for ps else None) (said words)
+
+-- the ranges of the numbers
+pub record IsWithinLimits (o : Options) : Type 0 where
+  pub workers : IfSome o.workers (λ n. (1 ≤ n) × (n ≤ 64))
+  pub node : IfSome o.node (λ n. (8 ≤ n) × (n ≤ 2 ^ 40))
+  pub nodes : IfSome o.nodes (λ n. (1 ≤ n) × (n ≤ 16))
+  pub with_node : is_some o.node ≡ true ⊎ (o.nodes ≡ None)
+  pub swap_size : IfSome o.swap_size (λ n. n ≤ 2 ^ 40)

@@ -1,0 +1,226 @@
+//! What the words ask for.
+
+ghost use Rattle.std.specs.Prelude.{◌≡◌, ◌≤◌, ◌<◌, ℕ, List, Some, None, IfOk, IfErr, IfSome, MatchResult, option_map, ◌^◌, true};
+ghost use Rattle.std.specs.Option.{SomeIff};
+ghost use Rattle.std.specs.List.{list_all};
+ghost use Rattle.std.specs.Char.{is_ascii_digit};
+ghost use Rattle.std.specs.Str.Parse.{digits_value};
+ghost use Rattle.clap.specs.Words.{found_of};
+ghost use Rattle.sj_words.specs.Command.{HoldsGiven};
+ghost use Rattle.sj_words.specs.Options.{IsWithinLimits, asked_for, is_number, number_in, options, policy_in, reads};
+ghost use Rattle.sj_words.specs.Spelling.{texts};
+
+use crate::command::{NODE, NODES, SCHED, SWAP, SWAP_SIZE, TRACE, WORKERS, matches_of};
+use crate::path::SwapPath;
+use crate::spelling::{are_distinct, said_names};
+use clap::ArgMatches;
+use sj_base::memory::OutOfMemory;
+use sj_base::mode::Policy;
+use std::alloc::{AllocError, Global};
+
+/// What the words of the command line ask for. What isn't given is left to the job, or to the
+/// defaults.
+#[derive(Debug, Drop)]
+pub struct Options {
+    /// How many workers: 1 to 64.
+    pub workers: Option<u8>,
+    /// Which ready task a worker takes.
+    pub policy: Option<Policy>,
+    /// The bytes of each memory node: 8 to 2^40.
+    pub node: Option<u64>,
+    /// How many memory nodes: 1 to 16, and only with their bytes.
+    pub nodes: Option<u8>,
+    /// The path of the swap file.
+    pub swap: Option<SwapPath>,
+    /// The bytes of the swap disk: at most 2^40.
+    pub swap_size: Option<u64>,
+    /// Whether the trace is printed.
+    pub trace: bool,
+}
+
+/// Why words weren't read.
+#[derive(Clone, Copy, Debug, PartialEq, Eq)]
+pub enum WordsRefusal {
+    /// The words aren't accepted.
+    Unaccepted,
+    /// An allocation was refused.
+    OutOfMemory,
+}
+
+impl From<AllocError> for WordsRefusal {
+    ghost use Rattle.std.specs.Prelude.{◌≡◌};
+    ghost use Rattle.sj_words.specs.declared.options.WordsRefusal.{WordsRefusal};
+
+    ghost from_gives = { λ _ refusal. refusal ≡ WordsRefusal.OutOfMemory };
+
+    fn from(_: AllocError) -> Self {
+        WordsRefusal::OutOfMemory
+    }
+}
+
+impl From<OutOfMemory> for WordsRefusal {
+    ghost use Rattle.std.specs.Prelude.{◌≡◌};
+    ghost use Rattle.sj_words.specs.declared.options.WordsRefusal.{WordsRefusal};
+
+    ghost from_gives = { λ _ refusal. refusal ≡ WordsRefusal.OutOfMemory };
+
+    fn from(_: OutOfMemory) -> Self {
+        WordsRefusal::OutOfMemory
+    }
+}
+
+// A value isn't of its option's kind.
+#[derive(Drop)]
+struct Unread;
+
+impl From<Unread> for WordsRefusal {
+    ghost use Rattle.std.specs.Prelude.{◌≡◌};
+    ghost use Rattle.sj_words.specs.declared.options.WordsRefusal.{WordsRefusal};
+
+    ghost from_gives = { λ _ refusal. refusal ≡ WordsRefusal.Unaccepted };
+
+    fn from(_: Unread) -> Self {
+        WordsRefusal::Unaccepted
+    }
+}
+
+fn are_digits(bytes: &[u8]) -> bool
+    ensures { result ≡ list_all is_ascii_digit bytes.now }
+{
+    bytes.iter().all(|b| b.is_ascii_digit())
+}
+
+fn is_number(text: &str) -> bool
+    ensures { result ≡ is_number text.now }
+{
+    let bytes = text.as_bytes();
+    !bytes.is_empty() && bytes.len() <= 19 && are_digits(bytes)
+}
+
+// The number that digits write, where it is below 2^64.
+fn value_of(digits: &str) -> Option<u64>
+    requires { is_number digits.now ≡ true }
+    ensures { SomeIff result (digits_value 10 digits.now < 2 ^ 64) (digits_value 10 digits.now) }
+{
+    digits.parse::<u64>().ok()
+}
+
+// The number that a text says, where it lies in the range.
+fn number_in(text: &str, least: u64, greatest: u64) -> Option<u64>
+    ensures { result ≡ number_in least greatest text.now }
+{
+    if !is_number(text) {
+        return None;
+    }
+    match value_of(text) {
+        Some(number) if least <= number && number <= greatest => Some(number),
+        _ => None,
+    }
+}
+
+fn policy_in(text: &str) -> Option<Policy>
+    ensures { result ≡ policy_in text.now }
+{
+    match text {
+        "eager" => Some(Policy::Eager),
+        "prio" => Some(Policy::Prio),
+        "ws" => Some(Policy::Ws),
+        _ => None,
+    }
+}
+
+// The number of an option, where it is given.
+fn number(text: Option<&str>, least: u64, greatest: u64) -> Result<Option<u64>, Unread>
+    ensures value { MatchResult result
+        (λ n. reads (number_in least greatest) (option_map (λ t. t.now) text.entry) ≡ Some n)
+        (λ _. reads (number_in least greatest) (option_map (λ t. t.now) text.entry) ≡ None) }
+    ensures range { IfOk result (λ n. IfSome n (λ n. (least ≤ n) × (n ≤ greatest))) }
+{
+    match text {
+        Some(text) => match number_in(text, least, greatest) {
+            Some(number) => Ok(Some(number)),
+            None => Err(Unread),
+        },
+        None => Ok(None),
+    }
+}
+
+// The policy, where it is given.
+fn policy(text: Option<&str>) -> Result<Option<Policy>, Unread>
+    ensures { MatchResult result
+        (λ p. reads policy_in (option_map (λ t. t.now) text.entry) ≡ Some p)
+        (λ _. reads policy_in (option_map (λ t. t.now) text.entry) ≡ None) }
+{
+    match text {
+        Some(text) => match policy_in(text) {
+            Some(policy) => Ok(Some(policy)),
+            None => Err(Unread),
+        },
+        None => Ok(None),
+    }
+}
+
+// A small number in a byte.
+fn small(number: Option<u64>) -> Option<u8>
+    requires { IfSome number (λ n. n < 256) }
+    ensures { result ≡ number }
+{
+    match number {
+        Some(number) => Some(number as u8),
+        None => None,
+    }
+}
+
+// A copy of a text, where there is one.
+fn owned(alloc: Global, text: Option<&str>) -> Result<Option<SwapPath>, AllocError>
+    ensures { IfOk result (λ s. s ≡ option_map (λ t. t.now) text.entry) }
+{
+    match text {
+        Some(text) => Ok(Some(SwapPath::of(alloc, text)?)),
+        None => Ok(None),
+    }
+}
+
+// What the values that were found ask for.
+fn asked_for(alloc: Global, matches: &ArgMatches<'_>) -> Result<Options, WordsRefusal>
+    ensures ok { IfOk result (λ o. (ps : List (List ℕ × List ℕ)) → HoldsGiven (found_of matches.now) ps
+        → asked_for ps ≡ Some o) }
+    ensures unaccepted { IfErr result (λ e. e ≡ WordsRefusal.Unaccepted
+        → (ps : List (List ℕ × List ℕ)) → HoldsGiven (found_of matches.now) ps → asked_for ps ≡ None) }
+    ensures limits { IfOk result IsWithinLimits }
+{
+    let workers = number(matches.get_str(WORKERS), 1, 64)?;
+    let policy = policy(matches.get_str(SCHED))?;
+    let node = number(matches.get_str(NODE), 8, 1 << 40)?;
+    let nodes = number(matches.get_str(NODES), 1, 16)?;
+    let swap_size = number(matches.get_str(SWAP_SIZE), 0, 1 << 40)?;
+    if nodes.is_some() && node.is_none() {
+        return Err(WordsRefusal::Unaccepted);
+    }
+    Ok(Options {
+        workers: small(workers),
+        policy,
+        node,
+        nodes: small(nodes),
+        swap: owned(alloc, matches.get_str(SWAP))?,
+        swap_size,
+        trace: matches.get_flag(TRACE),
+    })
+}
+
+/// What the words after the program's name ask for. Linear in the words, and memory for a few lists
+/// of them. The errors are words that aren't accepted, and want of memory.
+pub fn read_words(alloc: Global, words: &[String]) -> Result<Options, WordsRefusal>
+    ensures ok { IfOk result (λ o. options (texts words.now) ≡ Some o) }
+    ensures unaccepted { IfErr result (λ e. e ≡ WordsRefusal.Unaccepted → options (texts words.now) ≡ None) }
+    ensures limits { IfOk result IsWithinLimits }
+{
+    let Some(names) = said_names(alloc, words)? else {
+        return Err(WordsRefusal::Unaccepted);
+    };
+    if !are_distinct(names.as_slice()) {
+        return Err(WordsRefusal::Unaccepted);
+    }
+    let matches = matches_of(alloc, words)?;
+    asked_for(alloc, &matches)
+}
