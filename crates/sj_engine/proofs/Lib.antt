@@ -1,4 +1,12 @@
-pub mod Progressing
-pub mod OneTask
-pub mod Delivering
-pub mod Starting
+mod Answering
+mod BoardTurns
+mod ClaimTurns
+mod KernelFacts
+mod OperandLists
+mod OtherRows
+mod OwnRows
+mod ResultLists
+mod Turning
+pub mod FirstFit
+pub mod Outcomes
+pub mod Seating

@@ -1,56 +1,93 @@
--- What a run needs, and what it hands over.
-use Rattle.std.specs.Prelude.{◌≡◌, ℕ, ◌<◌, ◌≤◌, Bool, IsTrue, List, All, map, filter, length}
-use Rattle.std.specs.List.{range_with_len}
+-- How a run begins and what it leaves: the board as it opens, the seats of its workers, and the outcome.
+use Rattle.std.specs.Prelude.{◌≡◌, ◌<◌, ℕ, Bool, true, Option, None, List, [], Result, All, IfErr, IfSome, IsOk, IsSomeAnd, length, map, replicate, slice_index_or}
+use Rattle.sj_base.specs.declared.ids.Cell.{Cell}
+use Rattle.sj_base.specs.declared.ids.DiskNo.{DiskNo}
 use Rattle.sj_base.specs.declared.ids.Task.{Task}
+use Rattle.sj_base.specs.declared.ids.Worker.{Worker}
 use Rattle.sj_base.specs.declared.program.Program.{Program}
+use Rattle.sj_base.specs.declared.program.Machine.{Machine}
+use Rattle.sj_base.specs.declared.trace.Event.{Event}
 use Rattle.sj_base.specs.Array.{Array}
 use Rattle.sj_codelet.specs.declared.kernel.Kernel.{Kernel}
-use Rattle.sj_core.specs.declared.progress.Progress.TheVariants.{Waiting, Done}
-use Rattle.sj_core.specs.Fold.{given}
-use Rattle.sj_core.specs.Laws.{HasPlainModes}
-use Rattle.sj_core.specs.Program.{tasks_of}
+use Rattle.sj_core.specs.Laws.{IsLawful}
 use Rattle.sj_core.specs.Proper.{Proper}
-use Rattle.sj_board.specs.Board.{Standing, progress_of, claimed, begun, ended, ended_tasks}
-use Rattle.sj_board.specs.Stands.{the_worker}
-use Rattle.sj_board.specs.Operands.{has_codelet, is_deliver_task}
+use Rattle.sj_core.specs.Legal.{IsFinished, IsLegal}
+use Rattle.sj_desk.specs.Seats.{DeskFacts, SeatFacts}
+use Rattle.sj_disk.specs.Calls.{Reserves}
+use Rattle.sj_disk.specs.Directory.{DiskState, extent_of}
+use Rattle.sj_disk.specs.Holding.{CountsStay}
+use Rattle.sj_disk.specs.declared.directory.Extent.{Extent}
+use Rattle.sj_edge.specs.GivenBack.{AreGivenBack}
+use Rattle.sj_machine.specs.Board.{BoardState}
+use Rattle.sj_machine.specs.BoardRow.{BoardRow}
+use Rattle.sj_machine.specs.Delivered.{DeliversEach}
+use Rattle.sj_machine.specs.Preparing.{first_hands}
+use Rattle.sj_machine.specs.Sound.{IsBlock, block_of}
+use Rattle.sj_machine.specs.declared.fault.RunFault.{RunFault}
+use Rattle.sj_machine.specs.declared.hand.Hand.{Hand}
+use Rattle.sj_engine.specs.Outcome.{AllTell, HoldBlocks, IsCausedBy}
+use Rattle.sj_engine.specs.Stage.{IsAt, IsDeskOf, IsFreeRow}
 
--- a set that has these codelets has each one of the program
-abbrev pub HasCodelets : (Kernel → Bool) → Program → Type 0
-HasCodelets has p = All (λ l. IsTrue (has_codelet has l.codelet)) p.tasks
+-- ---- blocks
 
--- a proper program for one worker, without REDUX and COMMUTE
-pub record IsRunnable (p : Program) : Type 0 where
+-- nothing is reserved on the disks of the set
+pub record IsEmptySet {D : Type 0} (set : DiskState D) : Type 0 where
+  pub nothing_taken : set.taken ≡ replicate (length set.disks) 0
+  pub no_extent : set.directory ≡ []
+
+-- the cell with this number got a block of so many elements
+abbrev pub ReservesSome : {D : Type 0} → (D → ℕ) → ℕ → ℕ → DiskState D → DiskState D → Type 0
+ReservesSome size c n old new = (d : DiskNo) × Reserves size c n d old new
+
+-- each cell that has a block on the machine's disks by first fit has that block
+abbrev pub ArePlaced : Program → Machine → List (Option Extent) → Type 0
+ArePlaced p m directory = (c : Cell) → IfSome (block_of p m c) (λ b. IsSomeAnd (extent_of directory c.0) (IsBlock p c b))
+
+-- ---- the board
+
+-- the board of the program on the machine and these disks, as it opens: every hand is empty, and there is no fault
+pub record IsOpened {D : Type 0} (p : Program) (m : Machine) (disks : List D) (b : BoardState D) : Type 0 where
+  pub program : b.run.program ≡ p
+  pub machine : b.run.machine ≡ m
+  pub opened : b.run.opened ≡ disks
+  pub disks_are : b.run.disks.disks ≡ disks
+  pub hands : b.hands ≡ first_hands p
+  pub no_fault : b.fault ≡ None
+
+-- no worker has a task
+abbrev pub NoneHasTask : List Hand → Type 0
+NoneHasTask hands = All (λ hand. hand.task ≡ None) hands
+
+-- all workers have stopped
+abbrev pub AllStopped : List Hand → Type 0
+AllStopped hands = All (λ hand. hand.has_stopped ≡ true) hands
+
+-- ---- seats
+
+abbrev pub worker_at : ℕ → Worker
+worker_at n = record { 0 = n }
+
+-- the seats are the desk's, each at the place of its number, and each left a row of which this is true
+pub record AreAt {D : Type 0} (desk : DeskFacts (BoardState D)) (P : BoardRow → Type 0) (seats : List (SeatFacts (BoardState D))) : Type 0 where
+  pub count : length seats ≡ desk.seats
+  pub each : (k : ℕ) (d : SeatFacts (BoardState D)) → k < desk.seats → IsAt desk (worker_at k) P (slice_index_or seats k d)
+
+-- the worker of the seat may begin to work on the program, with codelets of this set
+pub record MayWork {D : Type 0} (has : Kernel → Bool) (p : Program) (desk : DeskFacts (BoardState D)) (s : SeatFacts (BoardState D)) : Type 0 where
+  pub desk_of : IsDeskOf p (worker_at s.number) desk
   pub proper : Proper p
-  pub plain : HasPlainModes p
-  pub one_worker : p.workers ≡ 1
+  pub lawful : IsLawful has p
+  pub free : IsAt desk (worker_at s.number) IsFreeRow s
 
--- the deliver tasks of a program by number, each with the array that its cell has after all tasks before it
-abbrev pub deliveries_of : Program → List (Task × Array)
-deliveries_of p = map (λ t. (t, given p t)) (filter (is_deliver_task p) (tasks_of p))
+-- ---- the outcome
 
--- ---- how far a run is
-
--- the board after a task has been claimed and run and has ended
-abbrev pub with_task_run : Standing → Task → Standing
-with_task_run b t = ended (begun (claimed b t the_worker) t the_worker) t the_worker
-
--- a board of the same program and machine
-pub record IsOfSameRun (old new : Standing) : Type 0 where
-  pub program : new.program ≡ old.program
-  pub machine : new.machine ≡ old.machine
-
--- the first n tasks of a program by number
-abbrev pub tasks_below : ℕ → List Task
-tasks_below n = map (λ k. record { 0 = k }) (range_with_len 0 n)
-
--- the tasks below n are done, those from n on wait, and the tasks have ended in submission order
-pub record HasRunUpTo (b : Standing) (n : ℕ) : Type 0 where
-  pub done : (t : Task) → t.0 < n → progress_of b t ≡ Done the_worker
-  pub waiting : (t : Task) → n ≤ t.0 → progress_of b t ≡ Waiting
-  pub every : length b.tasks ≡ length b.program.tasks
-  pub in_order : ended_tasks b.trace ≡ tasks_below n
-
--- the run of a board has come to its n-th task
-pub record IsGoing (old new : Standing) (n : ℕ) : Type 0 where
-  pub same : IsOfSameRun old new
-  pub upto : HasRunUpTo new n
+-- what is true of a run of the program on the machine with these disks: its result, what it delivered, its events, and the
+-- disks as they come back
+pub record IsOutcome {D A : Type 0} (size faults mismatches : D → ℕ) (held : D → Option (List ℕ)) (p : Program) (m : Machine) (disks : List D) (result : Result A RunFault) (pairs : List (Task × Array)) (events : List Event) (back : List D) : Type 0 where
+  pub legal : IsLegal p m events
+  pub given_back : AreGivenBack size faults mismatches held disks back
+  pub finished : IsOk result → IsFinished p m events
+  pub delivers : IsOk result → DeliversEach p (AllTell held disks) pairs
+  pub no_fault_is_swallowed : IsOk result → CountsStay faults mismatches disks back
+  pub blocks : AllTell held disks → HoldBlocks held p m events back
+  pub cause : IfErr result (IsCausedBy faults mismatches held disks back)

@@ -1,4 +1,18 @@
-//! The run of a program: one worker, on one thread, takes task after task from the board and runs its kernel.
+//! The run of a program by workers: each a thread that takes turns at a desk, over one board.
 #![tactic(auto)]
 
-pub mod run;
+mod closing;
+mod ending;
+pub mod engine;
+mod kernel;
+mod moving;
+mod opening;
+mod operands;
+mod picking;
+mod placing;
+mod results;
+pub mod shared_board;
+mod stepping;
+mod threads;
+pub mod turns;
+pub mod work;

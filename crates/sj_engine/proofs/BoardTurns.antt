@@ -1,0 +1,148 @@
+-- The calls of the board as turns of a worker.
+use Rattle.std.proofs.Common.{◌≡◌, ◌≢◌, ℕ, ◌<◌, ◌+◌, Bool, true, false, List, [], map, length, refl, sym, ap, ◌∙◌, subst, Option, None, Some, arith}
+use Rattle.std.specs.Prelude.{All, IfSome, IsSomeAnd, IsTrue, is_some, option_map, slice_index_or, slice_set, unwrap_or, if◌then◌else◌}
+use Rattle.std.proofs.lemmas.Bool.{false≢true}
+use Rattle.std.proofs.lemmas.List.{get_or-set_other, get_or-set_same}
+use Rattle.sj_base.specs.declared.ids.Cell.{Cell}
+use Rattle.sj_base.specs.declared.ids.Place.{Place}
+use Rattle.sj_base.specs.declared.ids.Place.TheVariants.{Node as AtNode, Disk as OnDisk}
+use Rattle.sj_base.specs.declared.ids.Task.{Task}
+use Rattle.sj_base.specs.declared.ids.Worker.{Worker}
+use Rattle.sj_base.specs.declared.program.Program.{Program}
+use Rattle.sj_base.specs.declared.program.Machine.{Machine}
+use Rattle.sj_base.specs.declared.trace.Event.{Event}
+use Rattle.sj_base.specs.declared.trace.Event.TheVariants.{Claim, Move, Moved, Drop, Run, End}
+use Rattle.sj_base.specs.Array.{Array}
+use Rattle.sj_core.specs.declared.progress.Progress.{Progress}
+use Rattle.sj_core.specs.declared.progress.Progress.TheVariants.{Claimed, Running}
+use Rattle.sj_core.specs.declared.progress.Transfer.{Transfer}
+use Rattle.sj_core.specs.Laws.{IsSound}
+use Rattle.sj_core.specs.Machine.{State, Valid, WorkerState, progress, transfer, with_replica, with_transfer, worker_state}
+use Rattle.sj_core.specs.Needs.{node_of}
+use Rattle.sj_core.specs.Step.{EndsMove, Step, a_transfer, after, array_at, mover_of}
+use Rattle.sj_core.proofs.Reading.{progress-inside, progress-same, transfer-inside, worker-same}
+use Rattle.sj_core.proofs.States.{one-mover, state_of-more}
+use Rattle.sj_machine.specs.Board.{BoardState, EndsMoveOf, empty_hand, failed, first_fault, hand_of, has_claimed, has_event, stopped, transfer_of, with_hand}
+use Rattle.sj_machine.specs.BoardRow.{BoardKey, key_of}
+use Rattle.sj_machine.specs.BoardSound.{IsSoundBoard}
+use Rattle.sj_machine.specs.Sparing.{Spares, SparesMoved}
+use Rattle.sj_machine.specs.Standing.{CanHappen, IsMovingIn, IsMovingOut, IsTileMoved, IsTileOf, Standing, is_node, state, with_event}
+use Rattle.sj_machine.specs.declared.hand.Hand.{Hand}
+use Rattle.sj_machine.specs.declared.fault.RunFault.{RunFault}
+use Rattle.sj_engine.specs.Stage.{HasClaimedRow, IsCarried, IsFreeRow, IsStoppedRow, MovesRow, RunsRow, busy_hand, row_in}
+use Rattle.sj_engine.specs.Turn.{IsTurnOf}
+use Rattle.sj_engine.proofs.OtherRows.{IsBy}
+use Rattle.sj_engine.proofs.OwnRows.{claimed-row, moves-row, phase-of, row-transfer, runs-row, some-same, transfer-of}
+use Rattle.sj_engine.proofs.Turning.{turn-event, turn-hand}
+
+-- the state after one event more
+pub state-after : {D : Type 0} (b : BoardState D) (y : BoardState D) (e : Event) → y.run ≡ with_event b.run e → state y.run ≡ after b.run.program b.run.machine (state b.run) e
+state-after b y e run = ap state run ∙ state_of-more b.run.program b.run.machine b.run.trace e
+
+module _ {D : Type 0} (size faults mismatches : D → ℕ) (held : D → Option (List ℕ)) (w : Worker) where
+  -- ---- calls that change the worker's hand alone
+
+  pub failed-turn : (b x y : BoardState D) (fault : RunFault) → x ≡ b → y ≡ failed x w fault → IsTurnOf faults mismatches w b y
+  failed-turn b x y fault ex q =
+      let e : y ≡ failed b w fault = q ∙ ap (λ (k : BoardState D). failed k w fault) ex in
+      turn-hand faults mismatches w b (record (hand_of b w) { task = None }) y (ap (λ (k : BoardState D). k.run) e) (ap (λ (k : BoardState D). k.hands) e)
+      (λ none. absurd (first-kept b.fault fault (sym (ap (λ (k : BoardState D). k.fault) e) ∙ none)))
+    where
+      first-kept : (o : Option RunFault) (f : RunFault) → first_fault o f ≡ None → ⊥
+      first-kept None f e = (let k : ◌≡◌ {A = Option RunFault} (Some f) None = e in cc)
+      first-kept (Some g) f e = (let k : ◌≡◌ {A = Option RunFault} (Some g) None = e in cc)
+
+  pub stopped-turn : (b x y : BoardState D) → x ≡ b → y ≡ stopped x w → IsTurnOf faults mismatches w b y
+  stopped-turn b x y ex q =
+      let e : y ≡ stopped b w = q ∙ ap (λ (k : BoardState D). stopped k w) ex in
+      turn-hand faults mismatches w b (record (hand_of b w) { task = None; has_stopped = true }) y (ap (λ (k : BoardState D). k.run) e) (ap (λ (k : BoardState D). k.hands) e) (λ none. sym (ap (λ (k : BoardState D). k.fault) e) ∙ none)
+
+  -- the hand that was put
+  pub hand-put : (b y : BoardState D) (hand : Hand) → w.0 < length b.hands → y.hands ≡ slice_set b.hands w.0 hand → hand_of y w ≡ hand
+  hand-put b y hand inside hands = ap (λ (hs : List Hand). slice_index_or hs w.0 empty_hand) hands ∙ get_or-set_same b.hands w.0 hand empty_hand inside
+
+  -- ---- events
+
+  module _ (b z x y : BoardState D) (e : BoardState D → Event) (ez : z ≡ b) (ex : x ≡ b) (sound : IsSoundBoard size faults mismatches held z)
+      (by : IsBy b.run.machine (state b.run) w (e b)) (can : CanHappen b.run (e b)) where
+    its-sound : IsSoundBoard size faults mismatches held b
+    its-sound = subst (λ (k : BoardState D). IsSoundBoard size faults mismatches held k) ez sound
+
+    pub event-turn : y.run ≡ with_event x.run (e x) → ((v : Worker) → v ≢ w → hand_of y v ≡ hand_of x v) → (y.fault ≡ None → x.fault ≡ None) → Spares x.run (e x) y.run → IsTurnOf faults mismatches w b y
+    event-turn run hands fault spares =
+        turn-event faults mismatches w size held b its-sound (e b) y by can
+        (subst (λ (k : BoardState D). Spares k.run (e k) y.run) ex spares)
+        (subst (λ (k : BoardState D). y.run ≡ with_event k.run (e k)) ex run)
+        (subst (λ (k : BoardState D). (v : Worker) → v ≢ w → hand_of y v ≡ hand_of k v) ex hands)
+        (subst (λ (k : BoardState D). y.fault ≡ None → k.fault ≡ None) ex fault)
+
+    pub has_event-turn : y ≡ has_event x (e x) → Spares x.run (e x) y.run → IsTurnOf faults mismatches w b y
+    has_event-turn q spares = event-turn (ap (λ (k : BoardState D). k.run) q) (λ v d. ap (λ (k : BoardState D). hand_of k v) q) (λ f. sym (ap (λ (k : BoardState D). k.fault) q) ∙ f) spares
+
+  -- the worker's row after a drop
+  pub dropped-row : (b x y : BoardState D) (t : Task) (c : Cell) → x ≡ b → HasClaimedRow w t (row_in b w) → y ≡ has_event x (Drop c (node_of x.run.machine w)) → HasClaimedRow w t (row_in y w)
+  dropped-row b x y t c ex r q =
+      let e : y ≡ has_event b (Drop c (node_of b.run.machine w)) = q ∙ ap (λ (k : BoardState D). has_event k (Drop c (node_of k.run.machine w))) ex in
+      let s' = state-after b y (Drop c (node_of b.run.machine w)) (ap (λ (k : BoardState D). k.run) e) in
+      claimed-row y w t (ap (λ (k : BoardState D). hand_of k w) e ∙ r.hand) (ap (λ (z : State). progress z t) s' ∙ phase-of b w t (Claimed w) r.hand r.phase) (ap (λ (z : State). transfer z w) s' ∙ transfer-of b w t None r.hand r.rests)
+
+  -- ---- the ends of moves
+
+  module _ (b z x y : BoardState D) (t : Task) (tr : Transfer) (ez : z ≡ b) (ex : x ≡ b) (sound : IsSoundBoard size faults mismatches held z) (r : MovesRow w t tr (row_in b w)) where
+    abbrev s : State
+    s = state b.run
+
+    under-way : transfer s w ≡ Some tr
+    under-way = transfer-of b w t (Some tr) r.hand r.transfer
+
+    here : IsSoundBoard size faults mismatches held b
+    here = subst (λ (k : BoardState D). IsSoundBoard size faults mismatches held k) ez sound
+
+    pub moving-in : is_node tr.to ≡ true → IsMovingIn x.run w
+    moving-in node = subst (λ (k : BoardState D). IsMovingIn k.run w) (sym ex) (subst (λ (o : Option Transfer). IsSomeAnd o (λ k. is_node k.to ≡ true)) (sym under-way) node)
+
+    pub moving-out : is_node tr.to ≡ false → IsMovingOut x.run w
+    moving-out disk = subst (λ (k : BoardState D). IsMovingOut k.run w) (sym ex) (subst (λ (o : Option Transfer). IsSomeAnd o (λ k. is_node k.to ≡ false)) (sym under-way) disk)
+
+    carried-is : (a : Array) → (row_in b w).carries ≡ Some a → a ≡ array_at b.run.program s tr.from tr.cell
+    carried-is a e =
+        let there : transfer_of b w ≡ Some tr = sym (row-transfer b w) ∙ r.transfer in
+        some-same a (array_at b.run.program s tr.from tr.cell) (sym e ∙ ap (option_map (λ (k : Transfer). array_at b.run.program s k.from k.cell)) there)
+
+    pub tile-moved : (a : Array) → IsCarried held (key_of b) tr (row_in b w) a → IsTileMoved held x.run w a
+    tile-moved a c =
+        subst (λ (k : BoardState D). IsTileMoved held k.run w a) (sym ex)
+        (subst (λ (o : Option Transfer). IfSome o (λ k. IsTileOf held b.run k.cell k.from a)) (sym under-way)
+        (record { dims = c.dims; array = λ tell. carried-is a (c.told tell) }))
+
+    mover-is : mover_of s tr.cell tr.from tr.to ≡ w
+    mover-is = sym (one-mover b.run.program b.run.machine s tr.cell tr.from tr.to w here.run.coherent under-way)
+
+    pub can-end : CanHappen b.run (Moved tr.cell tr.from tr.to)
+    can-end = record { under_way = ap (transfer s) mover-is ∙ under-way; leaves = refl }
+
+    module _ (moved : EndsMoveOf w x y) (spares : SparesMoved w x.run y.run) where
+      moved-is : y ≡ has_event b (Moved tr.cell tr.from tr.to)
+      moved-is =
+          subst (λ (o : Option Transfer). IfSome o (λ k. y ≡ has_event b (Moved k.cell k.from k.to))) under-way
+          (subst (λ (k : BoardState D). EndsMoveOf w k y) ex moved)
+
+      spares-is : Spares b.run (Moved tr.cell tr.from tr.to) y.run
+      spares-is =
+          subst (λ (o : Option Transfer). IfSome o (λ k. Spares b.run (Moved k.cell k.from k.to) y.run)) under-way
+          (subst (λ (k : BoardState D). SparesMoved w k.run y.run) ex spares)
+
+      pub moved-turn : IsTurnOf faults mismatches w b y
+      moved-turn = has_event-turn b b b y (λ k. Moved tr.cell tr.from tr.to) refl refl here mover-is can-end moved-is spares-is
+
+      pub moved-row : HasClaimedRow w t (row_in y w)
+      moved-row =
+          let s' = state-after b y (Moved tr.cell tr.from tr.to) (ap (λ (k : BoardState D). k.run) moved-is) in
+          let inside = transfer-inside s w tr under-way in
+          claimed-row y w t (ap (λ (k : BoardState D). hand_of k w) moved-is ∙ r.hand) (ap (λ (z : State). progress z t) s' ∙ phase-of b w t (Claimed w) r.hand r.phase)
+          (ap (λ (z : State). transfer z w) s' ∙ gone inside)
+        where
+          gone : w.0 < length s.workers → transfer (after b.run.program b.run.machine s (Moved tr.cell tr.from tr.to)) w ≡ None
+          gone inside =
+              ap (λ (v : Worker). transfer (with_transfer (with_replica s tr.cell tr.to (Valid (array_at b.run.program s tr.from tr.cell))) v None) w) mover-is
+              ∙ ap (λ (k : WorkerState). k.transfer) (worker-same (with_replica s tr.cell tr.to (Valid (array_at b.run.program s tr.from tr.cell))) w _ inside)

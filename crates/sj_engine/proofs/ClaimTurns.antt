@@ -1,0 +1,137 @@
+-- Claims and ends as turns of a worker.
+use Rattle.std.proofs.Common.{◌≡◌, ◌≢◌, ℕ, ◌<◌, ◌+◌, Bool, true, false, List, [], ◌∷◌, map, length, refl, sym, ap, ◌∙◌, subst, Option, None, Some, arith, zero, suc}
+use Rattle.std.specs.Prelude.{All, IfSome, IsTrue, filter, is_some, option_map, slice_index_or, slice_set, unwrap_or, not, if◌then◌else◌}
+use Rattle.std.specs.List.{AllZip, Contains}
+use Rattle.std.proofs.lemmas.Bool.{cases_Bool, false≢true}
+use Rattle.std.proofs.lemmas.List.{get_or-set_other, get_or-set_same, length-set}
+use Rattle.sj_base.specs.declared.ids.Cell.{Cell}
+use Rattle.sj_base.specs.declared.ids.Place.TheVariants.{Node as AtNode}
+use Rattle.sj_base.specs.declared.ids.Task.{Task}
+use Rattle.sj_base.specs.declared.ids.Worker.{Worker}
+use Rattle.sj_base.specs.declared.mode.Access.{Access}
+use Rattle.sj_base.specs.declared.mode.Mode.{Mode}
+use Rattle.sj_base.specs.declared.mode.Mode.TheVariants.{R, W, RW, Scratch, Redux, Commute}
+use Rattle.sj_base.specs.declared.program.Program.{Program}
+use Rattle.sj_base.specs.declared.trace.Event.TheVariants.{Claim, End}
+use Rattle.sj_base.specs.Array.{Array, zeros}
+use Rattle.sj_base.specs.Mode.{is_data, reads_value, starts_as_zeros}
+use Rattle.sj_codelet.specs.Frame.{Slot, arrays}
+use Rattle.sj_codelet.specs.Kernel.{out}
+use Rattle.sj_core.specs.declared.progress.Progress.{Progress}
+use Rattle.sj_core.specs.declared.progress.Progress.TheVariants.{Claimed, Running, Waiting}
+use Rattle.sj_core.specs.Machine.{State, WorkerState, is_running_on, is_task_of, progress, transfer, worker_state}
+use Rattle.sj_core.specs.Needs.{node_of}
+use Rattle.sj_core.specs.Operands.{cells_of, found, results, worked_on}
+use Rattle.sj_core.specs.Program.{data_operands, dims_of, task_of, written_operands}
+use Rattle.sj_core.specs.Step.{array_at}
+use Rattle.sj_core.proofs.Reading.{progress-inside, progress-same, worker-same}
+use Rattle.sj_core.proofs.Readiness.{Contains-filter}
+use Rattle.sj_core.proofs.Replicas.{same_worker-refl}
+use Rattle.sj_machine.specs.Board.{BoardState, HasTask, empty_hand, given_back, given_next, hand_of, has_claimed, has_ended, has_event, transfer_of, with_hand}
+use Rattle.sj_machine.specs.BoardRow.{key_of}
+use Rattle.sj_machine.specs.BoardSound.{IsSoundBoard}
+use Rattle.sj_machine.specs.Releasing.{EndsTask}
+use Rattle.sj_machine.specs.Running.{AreResultsFor, IsResultIn}
+use Rattle.sj_machine.specs.Sparing.{Spares}
+use Rattle.sj_machine.specs.Standing.{AllTell, CanHappen, Standing, state, with_event}
+use Rattle.sj_machine.specs.declared.hand.Hand.{Hand}
+use Rattle.sj_engine.specs.Operands.{IsShare}
+use Rattle.sj_engine.specs.Stage.{AreDone, HasClaimedRow, HoldResults, IsFreeRow, RunsRow, busy_hand, row_in}
+use Rattle.sj_engine.specs.Turn.{IsTurnOf}
+use Rattle.sj_engine.proofs.BoardTurns.{event-turn, hand-put, state-after}
+use Rattle.sj_engine.proofs.OwnRows.{claimed-row, has-task, phase-of, some-same}
+use Rattle.sj_engine.proofs.Turning.{turn-hand, turn-then}
+
+-- ---- what a task finds is told by its cells
+
+map-at : {X Y : Type 0} (f g : X → Y) (xs : List X) → map f xs ≡ map g xs → (x : X) → Contains xs x → f x ≡ g x
+map-at f g [] e x (k, l, is) = absurd (omega arith)
+map-at f g (y ∷ xs) e x (zero, l, is) = sym (ap f is) ∙ cons-head (f y) (g y) (map f xs) (map g xs) e ∙ ap g is
+  where
+    cons-head : {Y : Type 0} (a b : Y) (us vs : List Y) → a ∷ us ≡ b ∷ vs → a ≡ b
+    cons-head a b us vs e = cc
+map-at f g (y ∷ xs) e x (suc k, l, is) = map-at f g xs (cons-tail (f y) (g y) (map f xs) (map g xs) e) x (k, omega arith, is)
+  where
+    cons-tail : {Y : Type 0} (a b : Y) (us vs : List Y) → a ∷ us ≡ b ∷ vs → us ≡ vs
+    cons-tail a b us vs e = cc
+
+map-agree : {X Y : Type 0} (f g : X → Y) (xs : List X) → ((x : X) → Contains xs x → f x ≡ g x) → map f xs ≡ map g xs
+map-agree f g [] h = refl
+map-agree f g (x ∷ xs) h = ap (λ y. y ∷ map f xs) (h x (0, omega arith, refl)) ∙ ap (λ l. g x ∷ l) (map-agree f g xs (λ z c. h z (suc c.0, omega (arith, c.1), c.2)))
+
+map-map : {X Y Z : Type 0} (f : Y → Z) (g : X → Y) (xs : List X) → map f (map g xs) ≡ map (λ x. f (g x)) xs
+map-map f g [] = refl
+map-map f g (x ∷ xs) = ap (λ l. f (g x) ∷ l) (map-map f g xs)
+
+reads-data : (x : Mode) → reads_value x ≡ true → is_data x ≡ true
+reads-data R h = refl
+reads-data W h = refl
+reads-data RW h = refl
+reads-data Scratch h = absurd (false≢true h)
+reads-data Redux h = refl
+reads-data Commute h = refl
+
+pub results-agree : (p : Program) (t : Task) (w : Worker) (f g : Cell → Array) → map f (cells_of p t w) ≡ map g (cells_of p t w) → results p t w f ≡ results p t w g
+results-agree p t w f g e = ap (λ (ins : List Array). out (task_of p t).codelet (task_of p t).args ins) (map-agree (found p w f) (found p w g) (task_of p t).accesses (λ a among. one a among (reads_value a.mode) refl))
+  where
+    over : map (λ (a : Access). f (worked_on p w a)) (data_operands (task_of p t)) ≡ map (λ (a : Access). g (worked_on p w a)) (data_operands (task_of p t))
+    over = sym (map-map f (worked_on p w) (data_operands (task_of p t))) ∙ e ∙ map-map g (worked_on p w) (data_operands (task_of p t))
+
+    one : (a : Access) → Contains (task_of p t).accesses a → (b : Bool) → reads_value a.mode ≡ b → found p w f a ≡ found p w g a
+    one a among true h =
+        let same : f (worked_on p w a) ≡ g (worked_on p w a) = map-at (λ (x : Access). f (worked_on p w x)) (λ (x : Access). g (worked_on p w x)) (data_operands (task_of p t)) over a (Contains-filter (λ (x : Access). is_data x.mode) (task_of p t).accesses a (reads-data a.mode h) among) in
+        ap (λ (x : Array). if starts_as_zeros a.mode then zeros (dims_of p a.cell) else x) same
+    one a among false h =
+        ap (λ (b : Bool). if not b then zeros (dims_of p a.cell) else f (worked_on p w a)) h ∙ sym (ap (λ (b : Bool). if not b then zeros (dims_of p a.cell) else g (worked_on p w a)) h)
+
+shares-results : (p : Program) (accesses : List Access) (slots : List Slot) → AllZip (IsShare p) accesses slots → AllZip (IsResultIn p) accesses slots
+shares-results p [] [] h = tt
+shares-results p [] (s ∷ slots) h = absurd h
+shares-results p (a ∷ accesses) [] h = absurd h
+shares-results p (a ∷ accesses) (s ∷ slots) h = (record { shared = h.0.shared; dims = h.0.dims }, shares-results p accesses slots h.1)
+
+module _ {D : Type 0} (size faults mismatches : D → ℕ) (held : D → Option (List ℕ)) (w : Worker) where
+  -- ---- the end of a task
+
+  module _ (b z x y : BoardState D) (t : Task) (slots : List Slot) (ez : z ≡ b) (ex : x ≡ b) (sound : IsSoundBoard size faults mismatches held z)
+      (known : w.0 < b.run.program.workers) (r : RunsRow w t (row_in b w)) (done : AreDone held (key_of b) w t (row_in b w) slots) where
+    runs : progress (state b.run) t ≡ Running w
+    runs = phase-of b w t (Running w) r.hand r.phase
+
+    pub end-task : HasTask x w t
+    end-task = subst (λ (k : BoardState D). HasTask k w t) (sym ex) (has-task b w known t r.hand)
+
+    can-end : CanHappen b.run (End t w)
+    can-end = record { running = runs; leaves = refl }
+
+    pub end-can : CanHappen x.run (End t w)
+    end-can = subst (λ (k : BoardState D). CanHappen k.run (End t w)) (sym ex) can-end
+
+    operands-are : (row_in b w).operands ≡ Some (map (array_at b.run.program (state b.run) (AtNode (node_of b.run.machine w))) (cells_of b.run.program t w))
+    operands-are =
+        let m = map (array_at b.run.program (state b.run) (AtNode (node_of b.run.machine w))) (cells_of b.run.program t w) in
+        ap (λ (h : Hand). option_map (λ u. if is_running_on w (progress (state b.run) u) then map (array_at b.run.program (state b.run) (AtNode (node_of b.run.machine w))) (cells_of b.run.program u w) else []) h.task) r.hand
+        ∙ ap (λ (g : Progress). Some (if is_running_on w g then m else [])) runs
+        ∙ ap (λ (c : Bool). Some (if c then m else [])) (same_worker-refl w)
+
+    told-results : HoldResults b.run.program w t (row_in b w) slots → arrays slots ≡ results b.run.program t w (array_at b.run.program (state b.run) (AtNode (node_of b.run.machine w)))
+    told-results k = k.results ∙ results-agree b.run.program t w k.holds (array_at b.run.program (state b.run) (AtNode (node_of b.run.machine w))) (some-same _ _ (sym k.cells ∙ operands-are))
+
+    pub end-written : AreResultsFor held x.run t w slots
+    end-written =
+        subst (λ (k : BoardState D). AreResultsFor held k.run t w slots) (sym ex)
+        (record { each = shares-results b.run.program (written_operands (task_of b.run.program t)) slots done.shares; told = λ tell. told-results (done.told tell) })
+
+    module _ (ends : EndsTask held x t w y) (spares : Spares x.run (End t w) y.run) where
+      pub ended-turn : IsTurnOf faults mismatches w b y
+      ended-turn =
+          event-turn size faults mismatches held w b z x y (λ k. End t w) ez ex sound refl can-end (ap (λ (k : BoardState D). k.run) ends.leaves)
+          (λ v d. ap (λ (k : BoardState D). hand_of k v) ends.leaves ∙ get_or-set_other x.hands w.0 v.0 (record (hand_of x w) { task = None }) empty_hand (λ e. d (ap (λ (n : ℕ). let u : Worker = record { 0 = n } in u) e)))
+          (λ f. sym (ap (λ (k : BoardState D). k.fault) ends.leaves) ∙ f) spares
+
+      pub ended-row : IsFreeRow (row_in y w)
+      ended-row =
+          let here : IsSoundBoard size faults mismatches held b = subst (λ (k : BoardState D). IsSoundBoard size faults mismatches held k) ez sound in
+          let inside : w.0 < length x.hands = subst (λ n. w.0 < n) (sym (ap (λ (k : BoardState D). length k.hands) ex ∙ here.inside.hands_agree.every_worker)) known in
+          hand-put size faults mismatches held w x y (record (hand_of x w) { task = None }) inside (ap (λ (k : BoardState D). k.hands) ends.leaves)
+          ∙ ap (λ (h : Hand). let g : Hand = record { given = h.given; task = None; has_stopped = h.has_stopped } in g) (ap (λ (k : BoardState D). hand_of k w) ex ∙ r.hand)

@@ -1,0 +1,231 @@
+-- What an event of a worker leaves as it is of another worker's row.
+use Rattle.std.proofs.Common.{◌≡◌, ◌≢◌, ◌⊎◌, ℕ, ◌<◌, Bool, set, true, false, cond, List, [], ◌∷◌, ◌++◌, map, length, refl, sym, ap, ◌∙◌, subst, Option, None, Some, arith, inl, inr, ◌||◌, ◌&&◌}
+use Rattle.std.specs.Prelude.{IsTrue, filter, is_some, nat_eq, not, option_map, slice_index_or, slice_set, unwrap_or, if◌then◌else◌}
+use Rattle.std.specs.List.{Contains}
+use Rattle.std.proofs.lemmas.Bool.{cases_lt, false≢true}
+use Rattle.std.proofs.lemmas.Bool.Decides.{Decides-eqb}
+use Rattle.std.proofs.lemmas.List.{get_or-set_other, get_or-set_same, get_or_past, length-set}
+use Rattle.sj_base.specs.declared.ids.Cell.{Cell}
+use Rattle.sj_base.specs.declared.ids.Node.{Node}
+use Rattle.sj_base.specs.declared.ids.Place.{Place}
+use Rattle.sj_base.specs.declared.ids.Place.TheVariants.{Node as AtNode, Disk as OnDisk}
+use Rattle.sj_base.specs.declared.ids.Task.{Task}
+use Rattle.sj_base.specs.declared.ids.Worker.{Worker}
+use Rattle.sj_base.specs.declared.program.Program.{Program}
+use Rattle.sj_base.specs.declared.program.Machine.{Machine}
+use Rattle.sj_base.specs.declared.trace.Event.{Event}
+use Rattle.sj_base.specs.declared.trace.Event.TheVariants.{Claim, Move, Moved, Drop, Run, End}
+use Rattle.sj_base.specs.Array.{Array, zeros}
+use Rattle.sj_core.specs.declared.progress.Progress.{Progress}
+use Rattle.sj_core.specs.declared.progress.Progress.TheVariants.{Waiting, Claimed, Running, Done}
+use Rattle.sj_core.specs.declared.progress.Transfer.{Transfer}
+use Rattle.sj_core.specs.Coherent.{Coherent}
+use Rattle.sj_core.specs.Laws.{IsSound}
+use Rattle.sj_core.specs.Machine.{CellState, State, WorkerState, array_of, cell_state, is_claimed_by, is_running_on, is_task_of, is_valid, Invalid, Replica, Valid, moves, pins, progress, replica, same_worker, transfer, with_replica, with_replica_in, worker_state, writes}
+use Rattle.sj_core.specs.Needs.{node_of, workers_of}
+use Rattle.sj_core.specs.Operands.{cells_of, written_cells}
+use Rattle.sj_core.specs.Program.{dims_of, has_cell, same_cell}
+use Rattle.sj_core.specs.Step.{Step, a_transfer, after, array_at, initial, is_read, mover_of, owned_at, reads, result_at, rewritten_at, same_place}
+use Rattle.sj_core.proofs.Claiming.{claim-writes, pinned-at}
+use Rattle.sj_core.proofs.Ending.{end-other_worker}
+use Rattle.sj_core.proofs.Placing.{cells_differ}
+use Rattle.sj_core.proofs.Reading.{cells-untouched, no_row, list_any-worker, moves-it, progress-other, transfer-inside, worker-other}
+use Rattle.sj_core.proofs.Dependencies.{Proper-dependencies}
+use Rattle.sj_core.proofs.Replicas.{same_worker-is, same_worker-refl}
+use Rattle.sj_core.proofs.Running.{run-spares, run-unmoved, run-worker}
+use Rattle.sj_core.proofs.Separation.{separated, worker-inside}
+use Rattle.sj_machine.specs.Sparing.{SparesUsed, is_used, writes_cell}
+
+-- ---- whose event it is
+
+-- the event is one of the worker
+abbrev pub IsBy : Machine → State → Worker → Event → Type 0
+IsBy m s w (Claim t v) = v ≡ w
+IsBy m s w (Move c from to) = mover_of s c from to ≡ w
+IsBy m s w (Moved c from to) = mover_of s c from to ≡ w
+IsBy m s w (Drop c n) = n ≡ node_of m w
+IsBy m s w (Run t v) = v ≡ w
+IsBy m s w (End t v) = v ≡ w
+
+-- ---- words on a worker's task
+
+claimed-is : (w v : Worker) → is_task_of v (Claimed w) ≡ true → w ≡ v
+claimed-is w v h = same_worker-is w v (or-false (same_worker w v) h)
+  where
+    or-false : (b : Bool) → (b || false) ≡ true → b ≡ true
+    or-false true h = refl
+    or-false false h = absurd (false≢true h)
+
+running-is : (w v : Worker) → is_task_of v (Running w) ≡ true → w ≡ v
+running-is w v h = same_worker-is w v h
+
+claimed-has : (w : Worker) → is_task_of w (Claimed w) ≡ true
+claimed-has w = ap (λ b. b || false) (same_worker-refl w)
+
+running-task : (v : Worker) (x : Progress) → is_running_on v x ≡ true → is_task_of v x ≡ true
+running-task v Waiting h = absurd (false≢true h)
+running-task v (Claimed w) h = absurd (false≢true h)
+running-task v (Running w) h = h
+running-task v (Done w) h = absurd (false≢true h)
+
+running-is_it : (v : Worker) (x : Progress) → is_running_on v x ≡ true → x ≡ Running v
+running-is_it v Waiting h = absurd (false≢true h)
+running-is_it v (Claimed w) h = absurd (false≢true h)
+running-is_it v (Running w) h = ap (λ (u : Worker). Running u) (same_worker-is w v h)
+running-is_it v (Done w) h = absurd (false≢true h)
+
+-- ---- what stays of another worker
+
+-- its tasks are as far as they were, it holds what it held, and its cells and what it carries are as they were
+pub record StaysFor (p : Program) (m : Machine) (s s' : State) (v : Worker) : Type 0 where
+  pub phase : (u : Task) → is_task_of v (progress s u) ≡ true → progress s' u ≡ progress s u
+  pub holds : worker_state s' v ≡ worker_state s v
+  pub cells : (u : Task) (c : Cell) → is_running_on v (progress s u) ≡ true → has_cell (cells_of p u v) c ≡ true → array_of (replica s' c (AtNode (node_of m v))) ≡ array_of (replica s c (AtNode (node_of m v)))
+  pub carried : (x : Transfer) → transfer s v ≡ Some x → array_of (replica s' x.cell x.from) ≡ array_of (replica s x.cell x.from)
+  pub writes : (x : Transfer) → transfer s v ≡ Some x → writes s' x.cell ≡ writes s x.cell
+
+valid-some : (o : Option Array) → is_some o ≡ true → (a : Array) × (o ≡ Some a)
+valid-some None h = absurd (false≢true h)
+valid-some (Some a) h = (a, refl)
+
+or-left : (a b : Bool) → a ≡ true → (a || b) ≡ true
+or-left a b h = ap (λ x. x || b) h
+
+or-right : (a b : Bool) → b ≡ true → (a || b) ≡ true
+or-right true b h = refl
+or-right false b h = h
+
+same_place-refl : (q : Place) → same_place q q ≡ true
+same_place-refl (AtNode n) = (Decides-eqb n.0 n.0).1 refl
+same_place-refl (OnDisk d) = (Decides-eqb d.0 d.0).1 refl
+
+not-so : (b : Bool) → (b ≡ true → ⊥) → b ≡ false
+not-so true f = absurd (f refl)
+not-so false f = refl
+
+-- each row is as before, or is the cell's with the replica written
+row-put : (s : State) (c : Cell) (q : Place) (r : Replica) (d : Cell) → (cell_state (with_replica s c q r) d ≡ cell_state s d) ⊎ ((d ≡ c) × (cell_state (with_replica s c q r) d ≡ with_replica_in (cell_state s c) q r))
+row-put s c q r d =
+    let row = with_replica_in (cell_state s c) q r in
+    elim (cells_differ d c) [
+      | inr n ↦ inl (get_or-set_other s.cells c.0 d.0 row no_row (λ e. n (ap (λ (i : ℕ). let j : Cell = record { 0 = i } in j) e)))
+      | inl e ↦ elim (cases_lt c.0 (length s.cells)) [
+        | inl inside ↦ inr (e, ap (cell_state (with_replica s c q r)) e ∙ get_or-set_same s.cells c.0 row no_row inside)
+        | inr past ↦ inl (ap (cell_state (with_replica s c q r)) e ∙ get_or_past (set s.cells c.0 row) c.0 no_row (omega (arith, length-set s.cells c.0 row)) ∙ sym (get_or_past s.cells c.0 no_row past) ∙ sym (ap (cell_state s) e))
+      ]
+    ]
+
+-- a replica put somewhere leaves all write counts
+writes-put : (s : State) (c : Cell) (q : Place) (r : Replica) (d : Cell) → writes (with_replica s c q r) d ≡ writes s d
+writes-put s c q r d = elim (row-put s c q r d) [
+  | inl same ↦ ap (λ (row : CellState). row.writes) same
+  | inr (e, at) ↦ ap (λ (row : CellState). row.writes) at ∙ by_place q ∙ ap (λ (k : Cell). writes s k) (sym e)
+]
+  where
+    by_place : (q : Place) → (with_replica_in (cell_state s c) q r).writes ≡ writes s c
+    by_place (AtNode n) = refl
+    by_place (OnDisk n) = refl
+
+module _ (p : Program) (m : Machine) (s : State) (h : IsSound p m s) (v : Worker) where
+  reads-used : (x : Transfer) → transfer s v ≡ Some x → is_used m s x.cell x.from ≡ true
+  reads-used x under_way = by_place x.from (list_any-worker (λ w. reads s w x.cell x.from) m v inside own)
+    where
+      inside : v.0 < m.workers
+      inside = subst (λ n. v.0 < n) h.coherent.state.rows.workers (transfer-inside s v x under_way)
+
+      own : reads s v x.cell x.from ≡ true
+      own = ap (λ (o : Option Transfer). elim o as (λ _. Bool) [ None ↦ false | Some move ↦ same_cell move.cell x.cell && same_place move.from x.from ]) under_way
+          ∙ ap (λ b. b && same_place x.from x.from) ((Decides-eqb x.cell.0 x.cell.0).1 refl) ∙ same_place-refl x.from
+
+      by_place : (q : Place) → is_read m s x.cell q ≡ true → is_used m s x.cell q ≡ true
+      by_place (AtNode n) f = or-right _ (is_read m s x.cell (AtNode n)) f
+      by_place (OnDisk d) f = f
+
+  pins-used : (u : Task) (c : Cell) → v.0 < m.workers → is_task_of v (progress s u) ≡ true → has_cell (cells_of p u v) c ≡ true → is_used m s c (AtNode (node_of m v)) ≡ true
+  pins-used u c inside has cell = or-left _ (is_read m s c (AtNode (node_of m v))) (pinned-at m s v (node_of m v) c inside refl (h.coherent.cells.pinned u v c has cell))
+
+  -- where the event spares what is used, and writes none of it
+  module _ (s' : State) (e : Event) (spares : SparesUsed p m s e s')
+      (unwritten-cells : (u : Task) (c : Cell) → is_running_on v (progress s u) ≡ true → has_cell (cells_of p u v) c ≡ true → writes_cell p e c ≡ false)
+      (unwritten-moved : (x : Transfer) → transfer s v ≡ Some x → writes_cell p e x.cell ≡ false) where
+    task-worker : (u : Task) → is_task_of v (progress s u) ≡ true → v.0 < m.workers
+    task-worker u has = subst (λ n. v.0 < n) (sym h.machine.workers) (worker-inside p m h.proper.cells (Proper-dependencies p h.proper) s h.coherent.state h.coherent.workers h.coherent.order u v has)
+
+    spared-cells : (u : Task) (c : Cell) → is_running_on v (progress s u) ≡ true → has_cell (cells_of p u v) c ≡ true → array_of (replica s' c (AtNode (node_of m v))) ≡ array_of (replica s c (AtNode (node_of m v)))
+    spared-cells u c runs cell =
+        let has = running-task v (progress s u) runs in
+        let at = valid-some (array_of (replica s c (AtNode (node_of m v)))) (h.coherent.cells.running u v c (running-is_it v (progress s u) runs) cell) in
+        spares c (AtNode (node_of m v)) at.0 (pins-used u c (task-worker u has) has cell) at.1 (unwritten-cells u c runs cell) ∙ sym at.1
+
+    spared-moved : (x : Transfer) → transfer s v ≡ Some x → array_of (replica s' x.cell x.from) ≡ array_of (replica s x.cell x.from)
+    spared-moved x under_way =
+        let at = valid-some (array_of (replica s x.cell x.from)) (h.coherent.transfers.source v x under_way) in
+        spares x.cell x.from at.0 (reads-used x under_way) at.1 (unwritten-moved x under_way) ∙ sym at.1
+
+  module _ (w : Worker) (other : v ≢ w) where
+    -- the task that the worker of the event claims, runs or ends isn't the other worker's
+    not-mine : (t u : Task) (x : Progress) → progress s t ≡ x → (is_task_of v x ≡ true → w ≡ v) → is_task_of v (progress s u) ≡ true → u ≢ t
+    not-mine t u x is mine has same = other (sym (mine (sym (ap (is_task_of v) is) ∙ ap (λ (k : Task). is_task_of v (progress s k)) (sym same) ∙ has)))
+
+    not-waiting : (t u : Task) → progress s t ≡ Waiting → is_task_of v (progress s u) ≡ true → u ≢ t
+    not-waiting t u is has same = false≢true (sym (ap (is_task_of v) is) ∙ ap (λ (k : Task). is_task_of v (progress s k)) (sym same) ∙ has)
+
+    pub Step-stays : (e : Event) (s' : State) → IsBy m s w e → Step p m s e s' → SparesUsed p m s e s' → StaysFor p m s s' v
+    Step-stays (Claim t x) s' by step spares = record {
+      phase = λ u has. ap (λ (z : State). progress z u) step.leaves ∙ progress-other s t u (Claimed x) (not-waiting t u step.waiting has);
+      holds = ap (λ (z : State). worker_state z v) step.leaves ∙ worker-other s x v _ (subst (λ (k : Worker). v ≢ k) (sym by) other);
+      cells = spared-cells s' (Claim t x) spares (λ u c runs cell. refl) (λ y under_way. refl);
+      carried = spared-moved s' (Claim t x) spares (λ u c runs cell. refl) (λ y under_way. refl);
+      writes = λ y under_way. claim-writes p m s t x s' step y.cell;
+    }
+    Step-stays (Move c from (AtNode n)) s' by step spares = record {
+      phase = λ u has. ap (λ (z : State). progress z u) step.leaves;
+      holds = ap (λ (z : State). worker_state z v) step.leaves ∙ worker-other s (mover_of s c from (AtNode n)) v _ (subst (λ (k : Worker). v ≢ k) (sym by) other);
+      cells = spared-cells s' (Move c from (AtNode n)) spares (λ u d runs cell. refl) (λ y under_way. refl);
+      carried = spared-moved s' (Move c from (AtNode n)) spares (λ u d runs cell. refl) (λ y under_way. refl);
+      writes = λ y under_way. ap (λ (z : State). writes z y.cell) step.leaves;
+    }
+    Step-stays (Move c from (OnDisk d)) s' by step spares = record {
+      phase = λ u has. ap (λ (z : State). progress z u) step.leaves;
+      holds = ap (λ (z : State). worker_state z v) step.leaves ∙ worker-other s (mover_of s c from (OnDisk d)) v _ (subst (λ (k : Worker). v ≢ k) (sym by) other);
+      cells = spared-cells s' (Move c from (OnDisk d)) spares (λ u k runs cell. refl) (λ y under_way. refl);
+      carried = spared-moved s' (Move c from (OnDisk d)) spares (λ u k runs cell. refl) (λ y under_way. refl);
+      writes = λ y under_way. ap (λ (z : State). writes z y.cell) step.leaves;
+    }
+    Step-stays (Moved c from to) s' by step spares = record {
+      phase = λ u has. ap (λ (z : State). progress z u) step.leaves;
+      holds = ap (λ (z : State). worker_state z v) step.leaves ∙ worker-other s (mover_of s c from to) v _ (subst (λ (k : Worker). v ≢ k) (sym by) other);
+      cells = spared-cells s' (Moved c from to) spares (λ u d runs cell. refl) (λ y under_way. refl);
+      carried = spared-moved s' (Moved c from to) spares (λ u d runs cell. refl) (λ y under_way. refl);
+      writes = λ y under_way. ap (λ (z : State). writes z y.cell) step.leaves ∙ writes-put s c to (Valid (array_at p s from c)) y.cell;
+    }
+    Step-stays (Drop c n) s' by step spares = record {
+      phase = λ u has. ap (λ (z : State). progress z u) step.leaves;
+      holds = ap (λ (z : State). worker_state z v) step.leaves;
+      cells = spared-cells s' (Drop c n) spares (λ u d runs cell. refl) (λ y under_way. refl);
+      carried = spared-moved s' (Drop c n) spares (λ u d runs cell. refl) (λ y under_way. refl);
+      writes = λ y under_way. ap (λ (z : State). writes z y.cell) step.leaves ∙ writes-put s c (AtNode n) Invalid y.cell;
+    }
+    Step-stays (Run t x) s' by step spares =
+        let apart : (u : Task) → is_task_of v (progress s u) ≡ true → u ≢ t = λ u has. not-mine t u (Claimed x) step.claimed (λ k. sym by ∙ claimed-is x v k) has in
+        record {
+          phase = λ u has. ap (λ (z : State). progress z u) step.leaves ∙ progress-other s t u (Running x) (apart u has);
+          holds = run-worker p m s t x s' step v;
+          cells = spared-cells s' (Run t x) spares (λ u c runs cell. run-spares p m s h t x s' step u v c (apart u (running-task v (progress s u) runs)) (running-task v (progress s u) runs) cell) (run-unmoved p m s h t x s' step v);
+          carried = spared-moved s' (Run t x) spares (λ u c runs cell. run-spares p m s h t x s' step u v c (apart u (running-task v (progress s u) runs)) (running-task v (progress s u) runs) cell) (run-unmoved p m s h t x s' step v);
+          writes = λ y under_way. ap (λ (z : State). writes z y.cell) step.leaves ∙ ap (λ (row : CellState). row.writes) (cells-untouched s (has_cell (written_cells p t x)) (λ c row. owned_at (node_of m x) (initial p s t x (node_of m x) c) row) y.cell (run-unmoved p m s h t x s' step v y under_way));
+        }
+    Step-stays (End t x) s' by step spares =
+        let apart : (u : Task) → is_task_of v (progress s u) ≡ true → u ≢ t = λ u has. not-mine t u (Running x) step.running (λ k. sym by ∙ running-is x v k) has in
+        let mine : is_task_of x (progress s t) ≡ true = ap (is_task_of x) step.running ∙ same_worker-refl x in
+        let unwritten : (u : Task) (c : Cell) → is_running_on v (progress s u) ≡ true → has_cell (cells_of p u v) c ≡ true → has_cell (written_cells p t x) c ≡ false = λ u c runs cell.
+            not-so (has_cell (written_cells p t x) c) (separated p m h.proper.cells (Proper-dependencies p h.proper) s h.coherent.state h.coherent.workers h.coherent.order u t v x c (apart u (running-task v (progress s u) runs)) (running-task v (progress s u) runs) mine cell) in
+        let unmoved : (y : Transfer) → transfer s v ≡ Some y → has_cell (written_cells p t x) y.cell ≡ false = λ y under_way.
+            not-so (has_cell (written_cells p t x) y.cell) (λ written. false≢true (sym ((h.coherent.writers.owned t x y.cell step.running written).unmoved v) ∙ moves-it s v y under_way)) in
+        record {
+          phase = λ u has. ap (λ (z : State). progress z u) step.leaves ∙ progress-other s t u (Done x) (apart u has);
+          holds = end-other_worker p m s t x s' step v (subst (λ (k : Worker). v ≢ k) (sym by) other);
+          cells = spared-cells s' (End t x) spares unwritten unmoved;
+          carried = spared-moved s' (End t x) spares unwritten unmoved;
+          writes = λ y under_way. ap (λ (z : State). writes z y.cell) step.leaves ∙ ap (λ (row : CellState). row.writes) (cells-untouched s (has_cell (written_cells p t x)) (λ c row. rewritten_at (node_of m x) (result_at p s t x (node_of m x) c) row) y.cell (unmoved y under_way));
+        }

@@ -1,0 +1,60 @@
+-- What a kernel has written, taken from the end of its frame.
+use Rattle.std.proofs.Common.{◌≡◌, ◌+◌, ◌<◌, true, false, List, [], ◌∷◌, ◌++◌, map, length, get_or, sym, ap, ◌∙◌, subst, refl, arith}
+use Rattle.std.specs.Prelude.{All}
+use Rattle.std.proofs.lemmas.Bool.{false≢true}
+use Rattle.std.proofs.lemmas.List.{append_assoc, get_or_append_left, length_push, map-append}
+use Rattle.sj_base.specs.Array.{Array}
+use Rattle.sj_codelet.specs.declared.formal.Formal.{Formal}
+use Rattle.sj_codelet.specs.declared.formal.Formal.TheVariants.{R, W, RW, Scratch}
+use Rattle.sj_codelet.specs.Frame.{Slot, shared, written}
+use Rattle.sj_engine.specs.Operands.{is_output}
+
+-- ---- the written operands of a frame, and one operand more
+
+pub written_output : (fs : List Formal) (slots : List Slot) (f : Formal) (s : Slot) → length fs ≡ length slots → is_output f ≡ true → written (fs ++ f ∷ []) (slots ++ s ∷ []) ≡ written fs slots ++ s.array ∷ []
+written_output [] [] R s h o = absurd (false≢true o)
+written_output [] [] Scratch s h o = absurd (false≢true o)
+written_output [] [] W s h o = refl
+written_output [] [] RW s h o = refl
+written_output [] (x ∷ slots) f s h o = absurd (omega arith)
+written_output (g ∷ fs) [] f s h o = absurd (omega arith)
+written_output (R ∷ fs) (x ∷ slots) f s h o = written_output fs slots f s (omega arith) o
+written_output (Scratch ∷ fs) (x ∷ slots) f s h o = written_output fs slots f s (omega arith) o
+written_output (W ∷ fs) (x ∷ slots) f s h o = ap (λ (l : List Array). x.array ∷ l) (written_output fs slots f s (omega arith) o)
+written_output (RW ∷ fs) (x ∷ slots) f s h o = ap (λ (l : List Array). x.array ∷ l) (written_output fs slots f s (omega arith) o)
+
+pub written_input : (fs : List Formal) (slots : List Slot) (f : Formal) (s : Slot) → length fs ≡ length slots → is_output f ≡ false → written (fs ++ f ∷ []) (slots ++ s ∷ []) ≡ written fs slots
+written_input [] [] R s h o = refl
+written_input [] [] Scratch s h o = refl
+written_input [] [] W s h o = absurd (false≢true (sym o))
+written_input [] [] RW s h o = absurd (false≢true (sym o))
+written_input [] (x ∷ slots) f s h o = absurd (omega arith)
+written_input (g ∷ fs) [] f s h o = absurd (omega arith)
+written_input (R ∷ fs) (x ∷ slots) f s h o = written_input fs slots f s (omega arith) o
+written_input (Scratch ∷ fs) (x ∷ slots) f s h o = written_input fs slots f s (omega arith) o
+written_input (W ∷ fs) (x ∷ slots) f s h o = ap (λ (l : List Array). x.array ∷ l) (written_input fs slots f s (omega arith) o)
+written_input (RW ∷ fs) (x ∷ slots) f s h o = ap (λ (l : List Array). x.array ∷ l) (written_input fs slots f s (omega arith) o)
+
+-- ---- one step of taking a frame apart
+
+pub All-front : {X : Type 0} (P : X → Type 0) (xs ys : List X) (x : X) → xs ≡ ys ++ x ∷ [] → All P xs → All P ys
+All-front P xs ys x e all =
+    λ k d h. let n : length xs ≡ length ys + 1 = ap length e ∙ length_push ys x in
+    subst P (ap (λ l. get_or l k d) e ∙ get_or_append_left ys (x ∷ []) d k h) (all k d (omega arith))
+
+pub share-skips : (formals before : List Formal) (f : Formal) (slots rest : List Slot) (s : Slot) (out new : List Slot) → formals ≡ before ++ f ∷ [] → slots ≡ rest ++ s ∷ [] → length formals ≡ length slots → is_output f ≡ false →
+    new ≡ out ++ map shared (written before rest) → new ≡ out ++ map shared (written formals slots)
+share-skips formals before f slots rest s out new e g n h k =
+    let m : length before ≡ length rest = omega (arith, ap length e, ap length g, length_push before f, length_push rest s) in
+    let w : written formals slots ≡ written before rest = ap (λ (fs : List Formal). written fs slots) e ∙ ap (written (before ++ f ∷ [])) g ∙ written_input before rest f s m h in
+    k ∙ ap (λ (xs : List Array). out ++ map shared xs) (sym w)
+
+pub share-adds : (formals before : List Formal) (f : Formal) (slots rest : List Slot) (s : Slot) (out new more : List Slot) (x : Array) → formals ≡ before ++ f ∷ [] → slots ≡ rest ++ s ∷ [] → length formals ≡ length slots → is_output f ≡ true →
+    new ≡ out ++ map shared (written before rest) → more ≡ new ++ shared x ∷ [] → x ≡ s.array → more ≡ out ++ map shared (written formals slots)
+share-adds formals before f slots rest s out new more x e g n h k j i =
+    let m : length before ≡ length rest = omega (arith, ap length e, ap length g, length_push before f, length_push rest s) in
+    let w : written formals slots ≡ written before rest ++ s.array ∷ [] = ap (λ (fs : List Formal). written fs slots) e ∙ ap (written (before ++ f ∷ [])) g ∙ written_output before rest f s m h in
+    j ∙ ap (λ (l : List Slot). l ++ shared x ∷ []) k ∙ append_assoc out (map shared (written before rest)) (shared x ∷ [])
+    ∙ ap (λ (a : Array). out ++ (map shared (written before rest) ++ shared a ∷ [])) i
+    ∙ ap (λ (l : List Slot). out ++ l) (sym (map-append shared (written before rest) (s.array ∷ [])))
+    ∙ ap (λ (xs : List Array). out ++ map shared xs) (sym w)

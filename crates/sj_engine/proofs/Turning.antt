@@ -1,0 +1,221 @@
+-- A worker's turn on the board leaves the rows of all others, in one step or in several.
+use Rattle.std.proofs.Common.{◌≡◌, ◌≢◌, ℕ, zero, suc, ◌<◌, Bool, true, false, cond, List, [], ◌∷◌, ◌++◌, map, length, refl, sym, ap, ◌∙◌, subst, Option, None, Some, arith, inl, inr}
+use Rattle.std.specs.Prelude.{IfSome, IsTrue, filter, is_some, nat_eq, option_map, slice_index_or, slice_set, unwrap_or, if◌then◌else◌}
+use Rattle.std.specs.List.{Contains}
+use Rattle.std.proofs.lemmas.Bool.{cases_Bool, cases_lt, false≢true}
+use Rattle.std.proofs.lemmas.Bool.Decides.{Decides-eqb}
+use Rattle.std.proofs.lemmas.List.{append-nil, append_assoc, get_or-set_other, get_or-set_same}
+use Rattle.std.proofs.lemmas.List.Elements.{filter-append}
+use Rattle.std.proofs.lemmas.List.Folds.{list_any_at}
+use Rattle.sj_base.specs.declared.ids.Cell.{Cell}
+use Rattle.sj_base.specs.declared.ids.Place.TheVariants.{Node as AtNode}
+use Rattle.sj_base.specs.declared.ids.Task.{Task}
+use Rattle.sj_base.specs.declared.ids.Worker.{Worker}
+use Rattle.sj_base.specs.declared.program.Program.{Program}
+use Rattle.sj_base.specs.declared.program.Machine.{Machine}
+use Rattle.sj_base.specs.declared.trace.Event.{Event}
+use Rattle.sj_base.specs.declared.trace.Event.TheVariants.{Claim, Move, Moved, Drop, Run, End}
+use Rattle.sj_base.specs.Array.{Array, zeros}
+use Rattle.sj_core.specs.declared.progress.Progress.{Progress}
+use Rattle.sj_core.specs.declared.progress.Transfer.{Transfer}
+use Rattle.sj_core.specs.Laws.{IsSound}
+use Rattle.sj_core.specs.Machine.{State, WorkerState, array_of, is_running_on, is_task_of, progress, replica, transfer, worker_state, writes}
+use Rattle.sj_core.specs.Needs.{node_of}
+use Rattle.sj_core.specs.Operands.{cells_of}
+use Rattle.sj_core.specs.Program.{dims_of, has_cell, same_cell}
+use Rattle.sj_core.specs.Step.{Step, after, array_at, mover_of}
+use Rattle.sj_core.proofs.States.{state_of-more}
+use Rattle.sj_disk.specs.Holding.{CountsStay}
+use Rattle.sj_machine.specs.Agrees.{idle}
+use Rattle.sj_machine.specs.Board.{BoardState, empty_hand, hand_in, hand_of, has_event, transfer_of, with_hand}
+use Rattle.sj_machine.specs.BoardRow.{BoardKey, BoardRow, arrays_for, is_event_of, key_of, row_for, row_of_number}
+use Rattle.sj_machine.specs.BoardSound.{IsSoundBoard}
+use Rattle.sj_machine.specs.Sparing.{SparesUsed, Spares}
+use Rattle.sj_machine.specs.Standing.{CanHappen, Standing, state, with_event}
+use Rattle.sj_machine.specs.declared.hand.Hand.{Hand}
+use Rattle.sj_engine.specs.Stage.{BeginsWith, KeepsEvents, row_in}
+use Rattle.sj_engine.specs.Turn.{IsSharedSound, IsTurnOf}
+use Rattle.sj_engine.proofs.OtherRows.{IsBy, StaysFor, Step-stays}
+
+abbrev a_worker : ℕ → Worker
+a_worker n = record { 0 = n }
+
+-- ---- rows
+
+abbrev row : Hand → Option Progress → Option (List Array) → WorkerState → Option Array → Option ℕ → List Event → BoardRow
+row hand phase operands holds carries writes events = record { hand = hand; phase = phase; operands = operands; holds = holds; carries = carries; writes = writes; events = events }
+
+row-same : (h h' : Hand) (p p' : Option Progress) (o o' : Option (List Array)) (l l' : WorkerState) (c c' : Option Array) (w w' : Option ℕ) (e e' : List Event) → h' ≡ h → p' ≡ p → o' ≡ o → l' ≡ l → c' ≡ c → w' ≡ w → e' ≡ e → row h' p' o' l' c' w' e' ≡ row h p o l c w e
+row-same h h' p p' o o' l l' c c' w w' e e' eh ep eo el ec ew ee =
+    ap (λ x. row x p' o' l' c' w' e') eh ∙ ap (λ x. row h x o' l' c' w' e') ep ∙ ap (λ x. row h p x l' c' w' e') eo ∙ ap (λ x. row h p o x c' w' e') el
+    ∙ ap (λ x. row h p o l x w' e') ec ∙ ap (λ x. row h p o l c x e') ew ∙ ap (λ x. row h p o l c w x) ee
+
+map-option : {X Y : Type 0} (f g : X → Y) (o : Option X) → ((x : X) → o ≡ Some x → f x ≡ g x) → option_map f o ≡ option_map g o
+map-option f g None h = refl
+map-option f g (Some x) h = ap (λ y. Some y) (h x refl)
+
+map-agree : {X Y : Type 0} (f g : X → Y) (xs : List X) → ((x : X) → Contains xs x → f x ≡ g x) → map f xs ≡ map g xs
+map-agree f g [] h = refl
+map-agree f g (x ∷ xs) h = ap (λ y. y ∷ map f xs) (h x (0, omega arith, refl)) ∙ ap (λ l. g x ∷ l) (map-agree f g xs (λ z c. h z (suc c.0, omega (arith, c.1), c.2)))
+
+contains-has : (cs : List Cell) (c : Cell) → Contains cs c → has_cell cs c ≡ true
+contains-has cs c h = list_any_at (λ d. same_cell d c) cs h.0 c h.1 (ap (λ (d : Cell). same_cell d c) h.2 ∙ (Decides-eqb c.0 c.0).1 refl)
+
+-- ---- another worker's row
+
+-- a worker's row of its parts
+abbrev row_of_parts : Program → Machine → State → Worker → Hand → List Event → BoardRow
+row_of_parts p m s v hand trace =
+    row hand (option_map (progress s) hand.task)
+    (option_map (λ t. if is_running_on v (progress s t) then map (array_at p s (AtNode (node_of m v))) (cells_of p t v) else []) hand.task)
+    (if is_some hand.task then worker_state s v else idle)
+    (option_map (λ x. array_at p s x.from x.cell) (if is_some hand.task then transfer s v else None))
+    (option_map (λ x. writes s x.cell) (if is_some hand.task then transfer s v else None))
+    (filter (is_event_of v.0) trace)
+
+module _ (p : Program) (m : Machine) (s s' : State) (v : Worker) (hand : Hand) (trace trace' : List Event) (stays : StaysFor p m s s' v)
+    (mine : (u : Task) → hand.task ≡ Some u → is_task_of v (progress s u) ≡ true) (events : filter (is_event_of v.0) trace' ≡ filter (is_event_of v.0) trace) where
+  same-transfer : transfer s' v ≡ transfer s v
+  same-transfer = ap (λ (x : WorkerState). x.transfer) stays.holds
+
+  same-cells : (u : Task) → is_task_of v (progress s u) ≡ true → (b : Bool) → is_running_on v (progress s u) ≡ b →
+      (if is_running_on v (progress s' u) then map (array_at p s' (AtNode (node_of m v))) (cells_of p u v) else []) ≡ (if is_running_on v (progress s u) then map (array_at p s (AtNode (node_of m v))) (cells_of p u v) else [])
+  same-cells u has true runs =
+      ap (λ (x : Progress). if is_running_on v x then map (array_at p s' (AtNode (node_of m v))) (cells_of p u v) else []) (stays.phase u has)
+      ∙ ap (λ (b : Bool). if b then map (array_at p s' (AtNode (node_of m v))) (cells_of p u v) else []) runs
+      ∙ map-agree (array_at p s' (AtNode (node_of m v))) (array_at p s (AtNode (node_of m v))) (cells_of p u v) (λ c among. ap (λ (o : Option Array). unwrap_or o (zeros (dims_of p c))) (stays.cells u c runs (contains-has (cells_of p u v) c among)))
+      ∙ sym (ap (λ (b : Bool). if b then map (array_at p s (AtNode (node_of m v))) (cells_of p u v) else []) runs)
+  same-cells u has false runs =
+      ap (λ (x : Progress). if is_running_on v x then map (array_at p s' (AtNode (node_of m v))) (cells_of p u v) else []) (stays.phase u has)
+      ∙ ap (λ (b : Bool). if b then map (array_at p s' (AtNode (node_of m v))) (cells_of p u v) else []) runs
+      ∙ sym (ap (λ (b : Bool). if b then map (array_at p s (AtNode (node_of m v))) (cells_of p u v) else []) runs)
+
+  same-carried : (held : Bool) → option_map (λ x. array_at p s' x.from x.cell) (if held then transfer s' v else None) ≡ option_map (λ x. array_at p s x.from x.cell) (if held then transfer s v else None)
+  same-carried true =
+      ap (option_map (λ x. array_at p s' x.from x.cell)) same-transfer
+      ∙ map-option (λ (x : Transfer). array_at p s' x.from x.cell) (λ (x : Transfer). array_at p s x.from x.cell) (transfer s v) (λ x e. ap (λ (o : Option Array). unwrap_or o (zeros (dims_of p x.cell))) (stays.carried x e))
+  same-carried false = refl
+
+  same-writes : (held : Bool) → option_map (λ x. writes s' x.cell) (if held then transfer s' v else None) ≡ option_map (λ x. writes s x.cell) (if held then transfer s v else None)
+  same-writes true =
+      ap (option_map (λ x. writes s' x.cell)) same-transfer ∙ map-option (λ (x : Transfer). writes s' x.cell) (λ (x : Transfer). writes s x.cell) (transfer s v) (λ x e. stays.writes x e)
+  same-writes false = refl
+
+  pub row-kept : row_of_parts p m s' v hand trace' ≡ row_of_parts p m s v hand trace
+  row-kept =
+      row-same hand hand (option_map (progress s) hand.task) (option_map (progress s') hand.task) _ _ _ _ _ _ _ _ (filter (is_event_of v.0) trace) (filter (is_event_of v.0) trace') refl
+      (map-option (progress s') (progress s) hand.task (λ u e. stays.phase u (mine u e)))
+      (map-option _ _ hand.task (λ u e. same-cells u (mine u e) (is_running_on v (progress s u)) refl))
+      (ap (λ (x : WorkerState). if is_some hand.task then x else idle) stays.holds)
+      (same-carried (is_some hand.task)) (same-writes (is_some hand.task)) events
+
+-- ---- events
+
+not-eq : (x v : Worker) → (x ≡ v → ⊥) → nat_eq x.0 v.0 ≡ false
+not-eq x v f = by_cases (nat_eq x.0 v.0) refl
+  where
+    by_cases : (b : Bool) → nat_eq x.0 v.0 ≡ b → b ≡ false
+    by_cases true e = absurd (f (ap (λ (n : ℕ). a_worker n) ((Decides-eqb x.0 v.0).0 e)))
+    by_cases false e = refl
+
+by-other : (m : Machine) (s : State) (w v : Worker) (e : Event) → v ≢ w → IsBy m s w e → is_event_of v.0 e ≡ false
+by-other m s w v (Claim t x) other by = not-eq x v (λ same. other (sym same ∙ by))
+by-other m s w v (Run t x) other by = not-eq x v (λ same. other (sym same ∙ by))
+by-other m s w v (End t x) other by = not-eq x v (λ same. other (sym same ∙ by))
+by-other m s w v (Move c from to) other by = refl
+by-other m s w v (Moved c from to) other by = refl
+by-other m s w v (Drop c n) other by = refl
+
+-- an event more of another worker
+events-other : (n : ℕ) (trace : List Event) (e : Event) → is_event_of n e ≡ false → filter (is_event_of n) (trace ++ e ∷ []) ≡ filter (is_event_of n) trace
+events-other n trace e none = filter-append (is_event_of n) trace (e ∷ []) ∙ ap (λ b. filter (is_event_of n) trace ++ cond b (e ∷ []) []) none ∙ append-nil (filter (is_event_of n) trace)
+
+-- an event more of any worker
+events-more : (n : ℕ) (trace : List Event) (e : Event) → BeginsWith (filter (is_event_of n) (trace ++ e ∷ [])) (filter (is_event_of n) trace)
+events-more n trace e = (filter (is_event_of n) (e ∷ []), filter-append (is_event_of n) trace (e ∷ []))
+
+-- ---- turns
+
+module _ {D : Type 0} (faults mismatches : D → ℕ) (w : Worker) where
+  pub turn-same : (b : BoardState D) → IsTurnOf faults mismatches w b b
+  turn-same b = record { key = refl; others = λ n other. refl; events = ([], sym (append-nil (row_in b w).events)); no_fault = λ e. e; counts = λ e. (refl, refl) }
+
+  pub turn-then : (a b c : BoardState D) → IsTurnOf faults mismatches w a b → IsTurnOf faults mismatches w b c → IsTurnOf faults mismatches w a c
+  turn-then a b c x y = record {
+    key = y.key ∙ x.key;
+    others = λ n other. y.others n other ∙ x.others n other;
+    events = (x.events.0 ++ y.events.0, y.events.1 ∙ ap (λ (l : List Event). l ++ y.events.0) x.events.1 ∙ append_assoc (row_in a w).events x.events.0 y.events.0);
+    no_fault = λ e. x.no_fault (y.no_fault e);
+    counts = λ e. (let one = x.counts (y.no_fault e) in let two = y.counts e in (two.0 ∙ one.0, two.1 ∙ one.1));
+  }
+
+  -- nothing but the worker's hand, the pool and the like has changed
+  pub turn-hand : (b : BoardState D) (hand : Hand) (b' : BoardState D) → b'.run ≡ b.run → b'.hands ≡ slice_set b.hands w.0 hand → (b'.fault ≡ None → b.fault ≡ None) → IsTurnOf faults mismatches w b b'
+  turn-hand b hand b' run hands fault = record {
+    key = ap (λ (r : Standing D). let k : BoardKey D = record { program = r.program; machine = r.machine; opened = r.opened } in k) run;
+    others = λ n other. others n other;
+    events = ([], ap (λ (r : Standing D). filter (is_event_of w.0) r.trace) run ∙ sym (append-nil (row_in b w).events));
+    no_fault = fault;
+    counts = λ e. (ap (λ (r : Standing D). map faults r.disks.disks) run, ap (λ (r : Standing D). map mismatches r.disks.disks) run);
+  }
+    where
+      others : (n : ℕ) → n ≢ w.0 → row_of_number b' n ≡ row_of_number b n
+      others n other =
+          ap (λ (r : Standing D). row_of_parts r.program r.machine (state r) (a_worker n) (hand_in b'.hands (a_worker n)) r.trace) run
+          ∙ ap (λ (h : Hand). row_of_parts b.run.program b.run.machine (state b.run) (a_worker n) h b.run.trace) (ap (λ (hs : List Hand). hand_in hs (a_worker n)) hands ∙ get_or-set_other b.hands w.0 n hand empty_hand other)
+
+  -- the disks alone have changed
+  pub turn-disks : (b b' : BoardState D) → b' ≡ record b { run = record b.run { disks = b'.run.disks } } → CountsStay faults mismatches b.run.disks.disks b'.run.disks.disks → IsTurnOf faults mismatches w b b'
+  turn-disks b b' same counts = record {
+    key = ap key_of same;
+    others = λ n other. ap (λ (x : BoardState D). row_of_number x n) same;
+    events = ([], ap (λ (x : BoardState D). (row_in x w).events) same ∙ sym (append-nil (row_in b w).events));
+    no_fault = λ e. sym (ap (λ (x : BoardState D). x.fault) same) ∙ e;
+    counts = λ e. counts;
+  }
+
+  module _ (size : D → ℕ) (held : D → Option (List ℕ)) (b : BoardState D) (sound : IsSoundBoard size faults mismatches held b) where
+    the-state : IsSound b.run.program b.run.machine (state b.run)
+    the-state = record { proper = sound.run.run.proper; machine = sound.run.run.machine; coherent = sound.run.coherent }
+
+    -- an event of the worker, with its hand or not
+    pub turn-event : (e : Event) (b' : BoardState D) → IsBy b.run.machine (state b.run) w e → CanHappen b.run e → Spares b.run e b'.run → b'.run ≡ with_event b.run e → ((v : Worker) → v ≢ w → hand_of b' v ≡ hand_of b v) → (b'.fault ≡ None → b.fault ≡ None) → IsTurnOf faults mismatches w b b'
+    turn-event e b' by can spares run hands fault = record {
+      key = ap (λ (r : Standing D). let k : BoardKey D = record { program = r.program; machine = r.machine; opened = r.opened } in k) run;
+      others = others;
+      events = subst (λ (r : Standing D). BeginsWith (filter (is_event_of w.0) r.trace) (row_in b w).events) (sym run) (events-more w.0 b.run.trace e);
+      no_fault = fault;
+      counts = λ f. (ap (λ (r : Standing D). map faults r.disks.disks) run, ap (λ (r : Standing D). map mismatches r.disks.disks) run);
+    }
+      where
+        p : Program
+        p = b.run.program
+
+        m : Machine
+        m = b.run.machine
+
+        s' : State
+        s' = state (with_event b.run e)
+
+        step : Step p m (state b.run) e s'
+        step = subst (λ (z : State). Step p m (state b.run) e z) (sym (state_of-more p m b.run.trace e)) can
+
+        spared : SparesUsed p m (state b.run) e s'
+        spared = subst (λ (r : Standing D). SparesUsed p m (state b.run) e (state r)) run spares
+
+        others : (n : ℕ) → n ≢ w.0 → row_of_number b' n ≡ row_of_number b n
+        others n other =
+            let v = a_worker n in
+            let differs : v ≢ w = λ same. other (ap (λ (x : Worker). x.0) same) in
+            ap (λ (r : Standing D). row_of_parts r.program r.machine (state r) v (hand_of b' v) r.trace) run
+            ∙ ap (λ (h : Hand). row_of_parts p m s' v h (b.run.trace ++ e ∷ [])) (hands v differs)
+            ∙ row-kept p m (state b.run) s' v (hand_of b v) b.run.trace (b.run.trace ++ e ∷ []) (Step-stays p m (state b.run) the-state v w differs e s' by step spared)
+            (λ u has. sound.inside.hands_agree.has v u has) (events-other n b.run.trace e (by-other m (state b.run) w v e differs by))
+
+-- the board is sound for the desk after a turn
+pub shared-sound : {D : Type 0} (size faults mismatches : D → ℕ) (held : D → Option (List ℕ)) (w : Worker) (old new : BoardState D) → IsSharedSound size faults mismatches held old → IsTurnOf faults mismatches w old new → IsSoundBoard size faults mismatches held new → IsSharedSound size faults mismatches held new
+shared-sound {D} size faults mismatches held w old new before turn sound = record {
+  board = sound;
+  counts = λ e. (let was = before.counts (turn.no_fault e) in let kept = turn.counts e in let opened = ap (λ (k : BoardKey D). k.opened) turn.key in
+      (kept.0 ∙ was.0 ∙ ap (map faults) (sym opened), kept.1 ∙ was.1 ∙ ap (map mismatches) (sym opened)));
+}

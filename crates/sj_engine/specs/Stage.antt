@@ -1,0 +1,118 @@
+-- How far a worker is, as its row tells: what it has between two of its turns.
+use Rattle.std.specs.Prelude.{◌≡◌, ◌≢◌, ◌<◌, ℕ, false, true, Option, Some, None, List, IfSome, IsSomeAnd, length, map, ◌++◌}
+use Rattle.std.specs.List.{AllZip}
+use Rattle.sj_base.specs.declared.ids.Cell.{Cell}
+use Rattle.sj_base.specs.declared.ids.Task.{Task}
+use Rattle.sj_base.specs.declared.ids.Worker.{Worker}
+use Rattle.sj_base.specs.declared.program.Program.{Program}
+use Rattle.sj_base.specs.declared.trace.Event.{Event}
+use Rattle.sj_base.specs.Array.{Array}
+use Rattle.sj_codelet.specs.Frame.{Slot, arrays}
+use Rattle.sj_core.specs.declared.progress.Progress.TheVariants.{Claimed, Running}
+use Rattle.sj_core.specs.declared.progress.Transfer.{Transfer}
+use Rattle.sj_core.specs.Operands.{cells_of, results}
+use Rattle.sj_core.specs.Program.{dims_of, task_of, written_operands}
+use Rattle.sj_desk.specs.Seats.{DeskFacts, IsWaiting, SeatFacts}
+use Rattle.sj_machine.specs.Board.{BoardState, empty_hand}
+use Rattle.sj_machine.specs.BoardRow.{BoardKey, BoardRow, key_of, row_of_number}
+use Rattle.sj_machine.specs.declared.hand.Hand.{Hand}
+use Rattle.sj_engine.specs.Operands.{AreSharesOf, IsShare, held_for, read_operands}
+use Rattle.sj_engine.specs.Outcome.{AllTell}
+
+-- ---- rows
+
+-- it has nothing in hand, and goes on
+abbrev pub IsFreeRow : BoardRow → Type 0
+IsFreeRow r = r.hand ≡ empty_hand
+
+-- it has stopped
+abbrev pub IsStoppedRow : BoardRow → Type 0
+IsStoppedRow r = r.hand.has_stopped ≡ true
+
+-- it has this task in hand
+abbrev pub busy_hand : Task → Hand
+busy_hand t = record { given = None; task = Some t; has_stopped = false }
+
+-- it has claimed the task, and no transfer of it is under way
+pub record HasClaimedRow (w : Worker) (t : Task) (r : BoardRow) : Type 0 where
+  pub hand : r.hand ≡ busy_hand t
+  pub phase : r.phase ≡ Some (Claimed w)
+  pub rests : r.holds.transfer ≡ None
+
+-- it has claimed the task, and this transfer is under way
+pub record MovesRow (w : Worker) (t : Task) (x : Transfer) (r : BoardRow) : Type 0 where
+  pub hand : r.hand ≡ busy_hand t
+  pub phase : r.phase ≡ Some (Claimed w)
+  pub transfer : r.holds.transfer ≡ Some x
+
+-- its task runs
+pub record RunsRow (w : Worker) (t : Task) (r : BoardRow) : Type 0 where
+  pub hand : r.hand ≡ busy_hand t
+  pub phase : r.phase ≡ Some (Running w)
+
+-- ---- arrays
+
+-- the array is the one that the worker's transfer carries, with its cell's dimensions; it is told where all disks tell
+pub record IsCarried {D : Type 0} (held : D → Option (List ℕ)) (k : BoardKey D) (x : Transfer) (r : BoardRow) (a : Array) : Type 0 where
+  pub dims : a.dims ≡ dims_of k.program x.cell
+  pub told : AllTell held k.opened → r.carries ≡ Some a
+
+-- the row has these arrays in the cells of the running task
+abbrev pub HoldsCells : Program → Worker → Task → BoardRow → (Cell → Array) → Type 0
+HoldsCells p w t r holds = r.operands ≡ Some (map holds (cells_of p t w))
+
+-- shares of the operands whose old value the running task reads; what they hold is told where all disks tell
+pub record HoldShares (p : Program) (w : Worker) (t : Task) (r : BoardRow) (slots : List Slot) : Type 0 where
+  pub holds : Cell → Array
+  pub cells : HoldsCells p w t r holds
+  pub shares : arrays slots ≡ held_for p w holds (read_operands p t)
+
+pub record AreLent {D : Type 0} (held : D → Option (List ℕ)) (k : BoardKey D) (w : Worker) (t : Task) (r : BoardRow) (slots : List Slot) : Type 0 where
+  pub inside : t.0 < length k.program.tasks
+  pub shares : AreSharesOf k.program t slots
+  pub told : AllTell held k.opened → HoldShares k.program w t r slots
+
+-- shares of the running task's results; what they hold is told where all disks tell
+pub record HoldResults (p : Program) (w : Worker) (t : Task) (r : BoardRow) (slots : List Slot) : Type 0 where
+  pub holds : Cell → Array
+  pub cells : HoldsCells p w t r holds
+  pub results : arrays slots ≡ results p t w holds
+
+pub record AreDone {D : Type 0} (held : D → Option (List ℕ)) (k : BoardKey D) (w : Worker) (t : Task) (r : BoardRow) (slots : List Slot) : Type 0 where
+  pub shares : AllZip (IsShare k.program) (written_operands (task_of k.program t)) slots
+  pub told : AllTell held k.opened → HoldResults k.program w t r slots
+
+-- ---- boards, in a turn
+
+-- the events begin with these
+abbrev pub BeginsWith : List Event → List Event → Type 0
+BeginsWith events first = (rest : List Event) × (events ≡ first ++ rest)
+
+-- the row of the worker
+abbrev pub row_in : {D : Type 0} → BoardState D → Worker → BoardRow
+row_in b w = row_of_number b w.0
+
+-- the claim, run and end events of the worker begin with all those that they began with
+abbrev pub KeepsEvents : {D : Type 0} → Worker → BoardState D → BoardState D → Type 0
+KeepsEvents w old new = BeginsWith (row_in new w).events (row_in old w).events
+
+-- ---- seats, between turns
+
+-- the worker is one of the program of the desk's board
+pub record IsDeskOf {D : Type 0} (p : Program) (w : Worker) (desk : DeskFacts (BoardState D)) : Type 0 where
+  pub program : desk.opening.run.program ≡ p
+  pub known : w.0 < p.workers
+
+-- the seat is the worker's at this desk, isn't in its turn, and left a row of which this is true
+pub record IsAt {D : Type 0} (desk : DeskFacts (BoardState D)) (w : Worker) (P : BoardRow → Type 0) (s : SeatFacts (BoardState D)) : Type 0 where
+  pub waiting : IsWaiting desk s
+  pub number : s.number ≡ w.0
+  pub row : IsSomeAnd s.left (λ b. P (row_in b w))
+
+-- the events in the row that the seat left begin with these
+abbrev pub HasBegun : {D : Type 0} → Worker → List Event → SeatFacts (BoardState D) → Type 0
+HasBegun w first s = IsSomeAnd s.left (λ b. BeginsWith (row_in b w).events first)
+
+-- whatever they began with, they still do
+abbrev pub GoesOn : {D : Type 0} → Worker → SeatFacts (BoardState D) → SeatFacts (BoardState D) → Type 0
+GoesOn w old new = (first : List Event) → HasBegun w first old → HasBegun w first new

@@ -1,0 +1,38 @@
+-- What a worker's row tells after a step for the task that it has claimed.
+use Rattle.std.specs.Prelude.{◌≡◌, ◌<◌, ℕ, true, Option, List, IsSomeAnd, length}
+use Rattle.sj_base.specs.declared.ids.Cell.{Cell}
+use Rattle.sj_base.specs.declared.ids.Place.{Place}
+use Rattle.sj_base.specs.declared.ids.Place.TheVariants.{Node as AtNode, Disk as OnDisk}
+use Rattle.sj_base.specs.declared.ids.Task.{Task}
+use Rattle.sj_base.specs.declared.ids.Worker.{Worker}
+use Rattle.sj_base.specs.declared.program.Program.{Program}
+use Rattle.sj_base.specs.Array.{Array}
+use Rattle.sj_core.specs.declared.progress.Transfer.{Transfer}
+use Rattle.sj_machine.specs.BoardRow.{BoardKey, BoardRow}
+use Rattle.sj_machine.specs.Standing.{is_node}
+use Rattle.sj_machine.specs.Tiles.{array_in}
+use Rattle.sj_engine.specs.declared.stepping.Step.{Step}
+use Rattle.sj_engine.specs.declared.stepping.Step.TheVariants.{Begun, Moves, Discarded, Waits, Stopped, Failed}
+use Rattle.sj_engine.specs.Stage.{AreLent, HasClaimedRow, IsCarried, IsFreeRow, IsStoppedRow, MovesRow, RunsRow}
+
+abbrev pub transfer_of : Cell → Place → Place → Transfer
+transfer_of cell from to = record { cell = cell; from = from; to = to }
+
+-- the transfer brings a cell of the program from a disk into a node
+pub record IsFetch (p : Program) (x : Transfer) : Type 0 where
+  pub cell : x.cell.0 < length p.cells
+  pub node : is_node x.to ≡ true
+
+-- a share of what the transfer carries, where it comes from a node
+abbrev pub IsShareCarried : {D : Type 0} → (D → Option (List ℕ)) → BoardKey D → Transfer → BoardRow → Place → Option Array → Type 0
+IsShareCarried held k x r (AtNode n) share = IsSomeAnd share (IsCarried held k x r)
+IsShareCarried held k x r (OnDisk d) share = IsFetch k.program x
+
+-- its kernel has begun, or a transfer, or another step is made, or it waits; or it has let its task go
+abbrev pub AfterStep : {D : Type 0} → (D → Option (List ℕ)) → BoardKey D → Worker → Task → BoardRow → Step → Type 0
+AfterStep held k w t r (Begun frame) = RunsRow w t r × AreLent held k w t r frame.slots
+AfterStep held k w t r (Moves cell from to share) = MovesRow w t (transfer_of cell from to) r × IsShareCarried held k (transfer_of cell from to) r from (array_in share)
+AfterStep held k w t r Discarded = HasClaimedRow w t r
+AfterStep held k w t r Waits = HasClaimedRow w t r
+AfterStep held k w t r Stopped = IsStoppedRow r
+AfterStep held k w t r Failed = IsFreeRow r

@@ -1,0 +1,26 @@
+-- What a turn of a worker leaves on the board.
+use Rattle.std.specs.Prelude.{◌≡◌, ◌≢◌, ◌<◌, ℕ, Option, None, List}
+use Rattle.sj_base.specs.declared.ids.Worker.{Worker}
+use Rattle.sj_disk.specs.Holding.{CountsStay}
+use Rattle.sj_machine.specs.Board.{BoardState}
+use Rattle.sj_machine.specs.BoardRow.{key_of, row_of_number}
+use Rattle.sj_machine.specs.BoardSound.{IsSoundBoard}
+use Rattle.sj_engine.specs.Stage.{KeepsEvents}
+
+-- between two turns: the board is sound, and no fault is swallowed: as long as none is kept, no count of a disk has changed
+pub record IsSharedSound {D : Type 0} (size faults mismatches : D → ℕ) (held : D → Option (List ℕ)) (b : BoardState D) : Type 0 where
+  pub board : IsSoundBoard size faults mismatches held b
+  pub counts : b.fault ≡ None → CountsStay faults mismatches b.run.opened b.run.disks.disks
+
+-- a turn of the worker: the key is as it was, and the rows of all others; the worker's own events go on; and where no fault is
+-- kept after it, none was before, and no count of a disk has changed
+pub record IsTurnOf {D : Type 0} (faults mismatches : D → ℕ) (w : Worker) (old new : BoardState D) : Type 0 where
+  pub key : key_of new ≡ key_of old
+  pub others : (n : ℕ) → n ≢ w.0 → row_of_number new n ≡ row_of_number old n
+  pub events : KeepsEvents w old new
+  pub no_fault : new.fault ≡ None → old.fault ≡ None
+  pub counts : new.fault ≡ None → CountsStay faults mismatches old.run.disks.disks new.run.disks.disks
+
+-- the worker is one of the program of the board
+abbrev pub IsWorkerOf : {D : Type 0} → BoardState D → Worker → Type 0
+IsWorkerOf b w = w.0 < b.run.program.workers

@@ -1,0 +1,104 @@
+//! The run of a program by its workers.
+
+ghost use Rattle.std.specs.Prelude.{◌≡◌, IfErr, IsOk, map};
+ghost use Rattle.sj_core.specs.Laws.{IsLawful};
+ghost use Rattle.sj_core.specs.Legal.{IsFinished, IsLegal};
+ghost use Rattle.sj_core.specs.Proper.{HasSwapFor, IsMachineFor, Proper};
+ghost use Rattle.sj_disk.specs.Holding.{CountsStay};
+ghost use Rattle.sj_edge.specs.GivenBack.{AreGivenBack};
+ghost use Rattle.sj_engine.specs.Outcome.{AllTell, HoldBlocks, IsCausedBy};
+ghost use Rattle.sj_engine.specs.Run.{IsOpened, IsOutcome};
+ghost use Rattle.sj_machine.specs.Delivered.{DeliversEach};
+
+use crate::closing::{abandoned, ended, unopened};
+use crate::opening::opened;
+use crate::shared_board::SharedBoard;
+use crate::threads::worked;
+use sj_base::program::{Machine, Program};
+use sj_base::trace::Trace;
+use sj_codelet::set::Codelets;
+use sj_desk::Desk;
+use sj_edge::disk::Disk;
+use sj_edge::gate::Gate;
+use sj_machine::board::Board;
+use sj_machine::delivered::Delivered;
+use sj_machine::fault::RunFault;
+use std::alloc::Global;
+use std::sync::{Arc, Wait};
+use std::thread::Threads;
+
+/// What a run leaves: its result, what was delivered, its events, and the disks.
+#[derive(Drop)]
+pub struct RunOutcome<D> {
+    pub result: Result<(), RunFault>,
+    pub delivered: Delivered,
+    pub trace: Trace,
+    pub disks: Vec<D>,
+}
+
+/// The run over a board that has just opened.
+fn run_over<C: Codelets, G: Gate, D: Disk + Send, R: Threads + Wait + Sync>(
+    rt: &R,
+    alloc: Global,
+    program: &Program,
+    board: Board<D>,
+    codelets: &C,
+    gate: &G,
+) -> RunOutcome<D>
+    requires opened { IsOpened program.now board.run.machine board.run.opened board }
+    requires proper { Proper program.now }
+    requires lawful { IsLawful C.has program.now }
+    ensures { IsOutcome D.size D.faults D.mismatches D.held program.now board.run.machine board.run.opened
+        result.result result.delivered.pairs result.trace.events result.disks.items }
+{
+    board.is_sound();
+    let board = match SharedBoard::new(alloc, board) {
+        Ok(board) => board,
+        Err(board) => return abandoned(board),
+    };
+    let (desk, seats) = match Desk::make(alloc, board, program.workers) {
+        Ok(made) => made,
+        Err(board) => return abandoned(board.into_board()),
+    };
+    ended(worked(rt, alloc, program, codelets, gate, desk, seats))
+}
+
+/// Runs a program on a machine: one thread for each worker, or fewer where one can't be started, all joined before it
+/// returns. Kernels run between the two calls of the gate, outside of every lock. Beside the kernels and transfers, the costs
+/// of the board's calls for each event.
+///
+/// A task that fits no node of a worker is never claimed, and such a run doesn't return: the caller tests it first.
+pub fn run<C: Codelets, G: Gate, D: Disk + Send, R: Threads + Wait + Sync>(
+    rt: &R,
+    alloc: Global,
+    program: Arc<Program>,
+    machine: Machine,
+    disks: Vec<D>,
+    codelets: &C,
+    gate: &G,
+) -> RunOutcome<D>
+    requires proper { Proper program.value }
+    requires lawful { IsLawful C.has program.value }
+    requires machine { IsMachineFor program.value machine }
+    requires swap { HasSwapFor program.value machine }
+    requires sizes { machine.disks ≡ map D.size disks.items }
+    // Whatever the result, each event is a legal step.
+    ensures legal { IsLegal program.value machine result.trace.events }
+    ensures given_back { AreGivenBack D.size D.faults D.mismatches D.held disks.items result.disks.items }
+    ensures finished { IsOk result.result → IsFinished program.value machine result.trace.events }
+    ensures delivers { IsOk result.result → DeliversEach program.value (AllTell D.held disks.items)
+        result.delivered.pairs }
+    ensures no_fault_is_swallowed { IsOk result.result →
+        CountsStay D.faults D.mismatches disks.items result.disks.items }
+    ensures blocks { AllTell D.held disks.items →
+        HoldBlocks D.held program.value machine result.trace.events result.disks.items }
+    ensures cause { IfErr result.result (IsCausedBy D.faults D.mismatches D.held disks.items result.disks.items) }
+{
+    let Ok(shared) = Arc::try_clone(&program) else {
+        return unopened(alloc, disks);
+    };
+    match opened(alloc, program, machine, disks) {
+        Ok(board) => run_over(rt, alloc, &shared, board, codelets, gate),
+        Err(disks) => unopened(alloc, disks),
+    }
+}

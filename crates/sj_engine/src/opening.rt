@@ -1,0 +1,38 @@
+//! How the board of a run is made.
+
+ghost use Rattle.std.specs.Prelude.{◌≡◌, IfErr, IfOk, map};
+ghost use Rattle.sj_core.specs.Laws.{IsLawful};
+ghost use Rattle.sj_core.specs.Proper.{HasSwapFor, IsMachineFor, Proper};
+ghost use Rattle.sj_engine.specs.Run.{IsOpened};
+ghost use Rattle.sj_machine.specs.Sound.{IsRunOf};
+
+use crate::placing::placed;
+use sj_base::program::{Machine, Program};
+use sj_edge::disk::Disk;
+use sj_machine::board::Board;
+use std::alloc::Global;
+use std::sync::Arc;
+
+/// The board of a program on a machine with these disks, on which nothing has happened. The disks come back where memory is
+/// wanting. Linear in the tasks and their accesses, and in cells times nodes and cells times disks; for each ready task
+/// logarithmic in all.
+pub(crate) fn opened<D: Disk>(
+    alloc: Global,
+    program: Arc<Program>,
+    machine: Machine,
+    disks: Vec<D>,
+) -> Result<Board<D>, Vec<D>>
+    requires run { IsRunOf program.value machine }
+    requires sizes { machine.disks ≡ map D.size disks.items }
+    ensures ok { IfOk result (IsOpened program.value machine disks.items) }
+    ensures err { IfErr result (λ back. back.items ≡ disks.items) }
+{
+    let set = match placed(alloc, &program, &machine, disks) {
+        Ok(set) => set,
+        Err(disks) => return Err(disks),
+    };
+    match Board::make(alloc, program, machine, set) {
+        Ok(board) => Ok(board),
+        Err(refusal) => Err(refusal.disks.close()),
+    }
+}

@@ -1,0 +1,106 @@
+//! The operands of a task, as its kernel works on them.
+
+ghost use Rattle.std.specs.Prelude.{◌≡◌, ◌++◌, ◌∷◌, [], ◌+◌, ◌≤◌, ◌<◌, All, IfOk, IsTrue, OnOk, false, filter, length};
+ghost use Rattle.sj_base.specs.Mode.{reads_value};
+ghost use Rattle.sj_codelet.specs.Frame.{arrays, shared};
+ghost use Rattle.sj_codelet.specs.Slot.{slot_of};
+ghost use Rattle.sj_engine.specs.Operands.{IsSmall, MakesOperand, operands_from};
+
+use sj_base::memory::OutOfMemory;
+use sj_base::mode::{Access, Mode};
+use sj_base::program::Program;
+use sj_base::tile::Tile;
+use sj_codelet::frame::{Frame, Operand};
+use std::alloc::Global;
+use std::sync::Arc;
+
+/// A tile to be written to. Constant time where nobody else has a share of it, and else linear in its elements, for the copy.
+fn owned(alloc: Global, tile: Arc<Tile>) -> Result<Tile, OutOfMemory>
+    ensures { IfOk result (λ t. t ≡ tile.value) }
+{
+    match Arc::try_unwrap(tile) {
+        Ok(tile) => Ok(tile),
+        Err(tile) => tile.copy(alloc),
+    }
+}
+
+/// Takes the last operand of a frame away, a shared one. Constant time.
+fn take_shared(frame: &mut Frame) -> Arc<Tile>
+    requires shared { All (λ s. s.owned ≡ false) frame.old.slots }
+    requires some { 0 < length frame.old.slots }
+    ensures { frame.old.slots ≡ frame.new.slots ++ shared result.value ∷ [] }
+{
+    match frame.take_last() {
+        Operand::Shared(tile) => tile,
+        Operand::Own(_) => unreachable!(),
+    }
+}
+
+/// One operand: the last of the shares where it is only read, zeros where its old value isn't read, and else the tile of the
+/// last share as one to write to.
+fn operand(
+    alloc: Global,
+    program: &Program,
+    access: Access,
+    shares: &mut Frame,
+) -> Result<Operand, OutOfMemory>
+    requires small { IsSmall program.now access }
+    requires shared { All (λ s. s.owned ≡ false) shares.old.slots }
+    requires there { IsTrue (reads_value access.mode) → 0 < length shares.old.slots }
+    ensures { IfOk result (λ o. MakesOperand program.now access shares.old.slots shares.new.slots (slot_of o)) }
+{
+    match access.mode {
+        Mode::R => Ok(Operand::Shared(take_shared(shares))),
+        Mode::W | Mode::Scratch => {
+            let dims = program.cells.items()[access.cell.0 as usize].dims;
+            Ok(Operand::Own(Tile::zeros(alloc, dims)?))
+        }
+        Mode::RW | Mode::Redux | Mode::Commute => {
+            Ok(Operand::Own(owned(alloc, take_shared(shares))?))
+        }
+    }
+}
+
+/// Appends the operands of these accesses to a frame, from shares of those whose old value is read. The sum of their costs.
+fn append_operands(
+    alloc: Global,
+    program: &Program,
+    accesses: &[Access],
+    shares: &mut Frame,
+    frame: &mut Frame,
+) -> Result<(), OutOfMemory>
+    requires small { All (IsSmall program.now) accesses.now }
+    requires shared { All (λ s. s.owned ≡ false) shares.old.slots }
+    requires count { length shares.old.slots ≡ length (filter (λ a. reads_value a.mode) accesses.now) }
+    requires room { length accesses.now ≤ frame.old.spare }
+    ensures slots { OnOk result (frame.new.slots
+        ≡ frame.old.slots ++ operands_from program.now accesses.now (arrays shares.old.slots)) }
+    ensures room { OnOk result (frame.old.spare ≡ frame.new.spare + length accesses.now) }
+{
+    let Some((last, before)) = accesses.split_last() else {
+        return Ok(());
+    };
+    let operand = operand(alloc, program, *last, shares)?;
+    append_operands(alloc, program, before, shares, frame)?;
+    frame.push(operand);
+    Ok(())
+}
+
+/// The operands of a task in order, from shares of those whose old value it reads. Linear in the elements of those that begin
+/// as zeros, and of those to be written to of which somebody else has a share.
+pub fn operands(
+    alloc: Global,
+    program: &Program,
+    accesses: &[Access],
+    mut shares: Frame,
+) -> Result<Frame, OutOfMemory>
+    requires few { length accesses.now < 256 }
+    requires small { All (IsSmall program.now) accesses.now }
+    requires shared { All (λ s. s.owned ≡ false) shares.slots }
+    requires count { length shares.slots ≡ length (filter (λ a. reads_value a.mode) accesses.now) }
+    ensures { IfOk result (λ f. f.slots ≡ operands_from program.now accesses.now (arrays shares.slots)) }
+{
+    let mut frame = Frame::with_room(alloc, accesses.len() as u8)?;
+    append_operands(alloc, program, accesses, &mut shares, &mut frame)?;
+    Ok(frame)
+}

@@ -1,0 +1,104 @@
+//! How a worker gets its next task.
+
+ghost use Rattle.std.specs.Prelude.{◌≡◌, None};
+ghost use Rattle.sj_machine.specs.Board.{IsOver};
+ghost use Rattle.sj_engine.specs.Picking.{AfterClaim, AfterPick};
+ghost use Rattle.sj_engine.specs.Stage.{IsFreeRow, IsStoppedRow, row_in};
+ghost use Rattle.sj_engine.specs.Turn.{IsTurnOf, IsWorkerOf};
+
+use crate::shared_board::SharedBoard;
+use sj_base::ids::{Task, Worker};
+use sj_edge::disk::Disk;
+use sj_machine::fault::RunFault;
+use sj_machine::refusal::ClaimRefusal;
+use std::alloc::Global;
+
+/// What a worker without a task finds.
+#[derive(Clone, Copy, Debug, PartialEq, Eq)]
+pub enum Picked {
+    /// It has claimed this task.
+    Task(Task),
+    /// There is nothing that it may claim now.
+    Nothing,
+    /// It has failed for want of memory.
+    Failed,
+    /// All tasks are done or a fault is kept, and it has stopped.
+    Over,
+}
+
+/// How often a worker tries to claim before it rests: claims that can't be made now aren't to keep it from the others for long,
+/// nor it from trying those behind them.
+const TRIES: u32 = 4;
+
+impl<D: Disk> SharedBoard<D> {
+    /// A worker is given a task and claims it; where the claim can't be made, the task goes back. The costs of `next` and `claim`.
+    fn claim_next(&mut self, alloc: Global, w: Worker) -> Picked
+        requires worker { IsWorkerOf self.old w }
+        requires free { IsFreeRow (row_in self.old w) }
+        requires no_fault { self.old.fault ≡ None }
+        ensures turn { IsTurnOf D.faults D.mismatches w self.old self.new }
+        ensures row { AfterClaim w (row_in self.new w) result }
+        ensures no_fault { result ≡ Picked.Nothing → self.new.fault ≡ None }
+    {
+        self.board.is_sound();
+        let Some(t) = self.board.next(w) else {
+            return Picked::Nothing;
+        };
+        match self.board.claim(alloc, t, w) {
+            Ok(()) => Picked::Task(t),
+            Err(ClaimRefusal::NotNow(_)) => {
+                self.board.give_back(t, w);
+                Picked::Nothing
+            }
+            Err(ClaimRefusal::OutOfMemory) => {
+                self.board.give_back(t, w);
+                self.board.fail(w, RunFault::OutOfMemory);
+                Picked::Failed
+            }
+        }
+    }
+
+    /// The tries of a worker to claim a task.
+    fn claim_some(&mut self, alloc: Global, w: Worker) -> Picked
+        requires worker { IsWorkerOf self.old w }
+        requires free { IsFreeRow (row_in self.old w) }
+        requires no_fault { self.old.fault ≡ None }
+        ensures turn { IsTurnOf D.faults D.mismatches w self.old self.new }
+        ensures row { AfterClaim w (row_in self.new w) result }
+    {
+        for _ in 0..TRIES {
+            match self.claim_next(alloc, w) {
+                Picked::Nothing => {}
+                picked => return picked,
+            }
+        }
+        Picked::Nothing
+    }
+
+    /// A worker without a task stops, since the run is over. Constant time.
+    fn stop(&mut self, w: Worker) -> Picked
+        requires worker { IsWorkerOf self.old w }
+        requires free { IsFreeRow (row_in self.old w) }
+        requires over { IsOver self.old }
+        ensures turn { IsTurnOf D.faults D.mismatches w self.old self.new }
+        ensures over { result ≡ Picked.Over }
+        ensures row { IsStoppedRow (row_in self.new w) }
+    {
+        self.board.stop(w);
+        Picked::Over
+    }
+
+    /// A worker without a task claims one of those that are ready, or stops where the run is over. A few times the costs of
+    /// `next` and `claim`.
+    pub fn pick(&mut self, alloc: Global, w: Worker) -> Picked
+        requires worker { IsWorkerOf self.old w }
+        requires free { IsFreeRow (row_in self.old w) }
+        ensures turn { IsTurnOf D.faults D.mismatches w self.old self.new }
+        ensures row { AfterPick w (row_in self.new w) result }
+    {
+        if self.board.failed() || self.board.all_done() {
+            return self.stop(w);
+        }
+        self.claim_some(alloc, w)
+    }
+}

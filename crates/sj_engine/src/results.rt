@@ -1,0 +1,76 @@
+//! What a task wrote, made ready to be kept.
+
+ghost use Rattle.std.specs.Prelude.{◌≡◌, ◌≤◌, ◌<◌, ◌+◌, ◌++◌, IfOk, OnOk, length, map};
+ghost use Rattle.sj_codelet.specs.Frame.{arrays, shared, written};
+ghost use Rattle.sj_codelet.specs.Kernel.{formals_of};
+ghost use Rattle.sj_codelet.specs.Runs.{formals_in};
+ghost use Rattle.sj_codelet.specs.Slot.{slot_of};
+ghost use Rattle.sj_engine.specs.Operands.{is_output};
+
+use sj_base::memory::OutOfMemory;
+use sj_base::program::Codelet;
+use sj_base::tile::Tile;
+use sj_codelet::formal::Formal;
+use sj_codelet::frame::{Frame, Operand};
+use sj_codelet::kernel::Kernel;
+use std::alloc::Global;
+use std::sync::Arc;
+
+/// An operand's tile to be shared with others. Constant time.
+fn share(alloc: Global, operand: Operand) -> Result<Arc<Tile>, OutOfMemory>
+    ensures { IfOk result (λ t. t.value ≡ (slot_of operand).array) }
+{
+    match operand {
+        Operand::Shared(tile) => Ok(tile),
+        Operand::Own(tile) => Ok(Arc::new(alloc, tile)?),
+    }
+}
+
+/// Whether an operand of this mode gets a new value.
+fn is_output(formal: Formal) -> bool
+    ensures { result ≡ is_output formal }
+{
+    match formal {
+        Formal::R | Formal::Scratch => false,
+        Formal::W | Formal::RW => true,
+    }
+}
+
+/// Appends the written operands of a frame as shared tiles.
+fn share_into(
+    alloc: Global,
+    formals: &[Formal],
+    frame: &mut Frame,
+    out: &mut Frame,
+) -> Result<(), OutOfMemory>
+    requires count { length formals.now ≡ length frame.old.slots }
+    requires room { length formals.now ≤ out.old.spare }
+    ensures slots { OnOk result (out.new.slots
+        ≡ out.old.slots ++ map shared (written formals.now frame.old.slots)) }
+    ensures room { OnOk result (out.old.spare ≤ out.new.spare + length formals.now) }
+{
+    let Some((last, before)) = formals.split_last() else {
+        return Ok(());
+    };
+    let operand = frame.take_last();
+    share_into(alloc, before, frame, out)?;
+    if !is_output(*last) {
+        return Ok(());
+    }
+    out.push_shared(share(alloc, operand)?);
+    Ok(())
+}
+
+/// Of a codelet's frame after a run, the operands that it wrote, in order and as shared tiles. Linear in the operands.
+pub fn shares(alloc: Global, codelet: Codelet, mut frame: Frame) -> Result<Frame, OutOfMemory>
+    requires { length (formals_in codelet) ≡ length frame.slots }
+    ensures { IfOk result (λ f. f.slots ≡ map shared (written (formals_in codelet) frame.slots)) }
+{
+    let Some(kernel) = Kernel::of(codelet) else {
+        return Ok(Frame::with_room(alloc, 0)?);
+    };
+    let formals = kernel.formals();
+    let mut out = Frame::with_room(alloc, formals.len() as u8)?;
+    share_into(alloc, formals, &mut frame, &mut out)?;
+    Ok(out)
+}
