@@ -109,6 +109,12 @@ pub record IsAt {D : Type 0} (desk : DeskFacts (BoardState D)) (w : Worker) (P :
   pub number : s.number ≡ w.0
   pub row : IsSomeAnd s.left (λ b. P (row_in b w))
 
+-- the worker's seat at this desk isn't in its turn, and left this board
+pub record HasLeft {D : Type 0} (desk : DeskFacts (BoardState D)) (w : Worker) (b : BoardState D) (s : SeatFacts (BoardState D)) : Type 0 where
+  pub waiting : IsWaiting desk s
+  pub number : s.number ≡ w.0
+  pub left : s.left ≡ Some b
+
 -- the events in the row that the seat left begin with these
 abbrev pub HasBegun : {D : Type 0} → Worker → List Event → SeatFacts (BoardState D) → Type 0
 HasBegun w first s = IsSomeAnd s.left (λ b. BeginsWith (row_in b w).events first)
