@@ -5,13 +5,22 @@ use Rattle.std.proofs.lemmas.List.{append_assoc}
 use Rattle.sj_base.specs.declared.ids.Worker.{Worker}
 use Rattle.sj_base.specs.declared.program.Program.{Program}
 use Rattle.sj_base.specs.declared.trace.Event.{Event}
-use Rattle.sj_desk.specs.Seats.{DeskFacts, HasRowLeft, IsWaiting, KeepsOtherRows, SeatFacts}
+use Rattle.sj_desk.specs.Seats.{DeskFacts, HasRowLeft, IsWaiting, KeepsOtherRows, SeatFacts, hearing, in_turn}
 use Rattle.sj_machine.specs.Board.{BoardState}
 use Rattle.sj_machine.specs.BoardRow.{BoardKey, BoardRow, key_of, row_of_number}
 use Rattle.sj_machine.specs.BoardSound.{IsSoundBoard}
 use Rattle.sj_engine.specs.Stage.{BeginsWith, GoesOn, HasBegun, HasLeft, IsAt, IsDeskOf, row_in}
 use Rattle.sj_engine.specs.Turn.{IsSharedSound, IsTurnOf, IsWorkerOf, MayLeave}
 use Rattle.sj_engine.proofs.Turning.{shared-sound}
+
+-- a seat that has heard the bell is as it was
+pub heard-number : {T : Type 0} (s t : SeatFacts T) (o : Option ℕ) → IsSomeAnd o (λ k. t ≡ hearing s (Some k)) → t.number ≡ s.number
+heard-number s t None h = absurd h
+heard-number s t (Some k) h = ap (λ x. x.number) h
+
+pub heard-found : {T : Type 0} (s t : SeatFacts T) (o : Option ℕ) → IsSomeAnd o (λ k. t ≡ hearing s (Some k)) → t.found ≡ s.found
+heard-found s t None h = absurd h
+heard-found s t (Some k) h = ap (λ x. x.found) h
 
 module _ {D : Type 0} (desk : DeskFacts (BoardState D)) (w : Worker) where
   -- ---- what is found
@@ -28,6 +37,20 @@ module _ {D : Type 0} (desk : DeskFacts (BoardState D)) (w : Worker) where
 
   pub program-found : (p : Program) (b : BoardState D) → IsDeskOf p w desk → key_of b ≡ key_of desk.opening → b.run.program ≡ p
   program-found p b d key = ap (λ (k : BoardKey D). k.program) key ∙ d.program
+
+  -- ---- the seat in its turn
+
+  module _ (s t : SeatFacts (BoardState D)) (v : BoardState D) (n : ℕ) (turn : t ≡ in_turn s v n) where
+    pub turn-desk : IsWaiting desk s → t.desk ≡ Some desk
+    turn-desk waiting = ap (λ (k : SeatFacts (BoardState D)). k.desk) turn ∙ waiting.0
+
+    pub turn-number : s.number ≡ w.0 → t.number ≡ w.0
+    turn-number number = ap (λ (k : SeatFacts (BoardState D)). k.number) turn ∙ number
+
+    pub may-leave : (size faults mismatches : D → ℕ) (held : D → Option (List ℕ)) (b : BoardState D) → IsTurnOf faults mismatches w v b → IsSharedSound size faults mismatches held v → key_of v ≡ key_of desk.opening → IsSomeAnd t.found (MayLeave size faults mismatches held desk w b)
+    may-leave size faults mismatches held b one sound key =
+        subst (λ (o : Option (BoardState D)). IsSomeAnd o (MayLeave size faults mismatches held desk w b)) (sym (ap (λ (k : SeatFacts (BoardState D)). k.found) turn))
+        (record { turn = one; sound = sound; key = key })
 
   -- ---- what is left
 

@@ -33,6 +33,10 @@ IsStoppedRow r = r.hand.has_stopped ≡ true
 abbrev pub busy_hand : Task → Hand
 busy_hand t = record { given = None; task = Some t; has_stopped = false }
 
+-- it was given this task
+abbrev pub given_hand : Task → Hand
+given_hand t = record { given = Some t; task = None; has_stopped = false }
+
 -- it has claimed the task, and no transfer of it is under way
 pub record HasClaimedRow (w : Worker) (t : Task) (r : BoardRow) : Type 0 where
   pub hand : r.hand ≡ busy_hand t
