@@ -1,6 +1,7 @@
 mod Answering
 mod BoardTurns
 mod ClaimTurns
+mod DeskTurns
 mod KernelFacts
 mod OperandLists
 mod OtherRows
