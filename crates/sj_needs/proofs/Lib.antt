@@ -1,0 +1,4 @@
+pub mod Footprints
+pub mod Operands
+pub mod Placing
+pub mod Tasks

@@ -1,0 +1,67 @@
+//! The bytes that a task needs on its node.
+
+ghost use Rattle.std.specs.Prelude.{◌≡◌, ◌≤◌, ◌<◌, ◌^◌, ◌*◌, length};
+ghost use Rattle.sj_core.specs.Needs.{footprint, tile_bytes as bytes_of_tile};
+ghost use Rattle.sj_core.specs.Program.{task_of};
+ghost use Rattle.sj_core.specs.Proper.{IsWithinLimits, Proper};
+ghost use Rattle.sj_needs.specs.Operands.{bytes_before, is_accessed};
+
+use sj_base::ids::{Cell, Task};
+use sj_base::mode::{Access, Mode};
+use sj_base::program::Program;
+
+/// The bytes of a cell's tile. Constant time.
+fn tile_bytes(program: &Program, cell: Cell) -> u64
+    requires limits { IsWithinLimits program.now }
+    requires cell { cell.0 < length program.now.cells }
+    ensures bytes { result ≡ bytes_of_tile program.now cell }
+    ensures small { result ≤ 2 ^ 27 }
+{
+    8 * program.cells.items()[cell.0 as usize].dims.area()
+}
+
+/// Whether one of these operands is an access to the cell, and not a scratch buffer. Linear in them.
+fn is_accessed(accesses: &[Access], cell: Cell) -> bool
+    ensures { result ≡ is_accessed accesses.now cell }
+{
+    accesses
+        .iter()
+        .any(|a| a.mode != Mode::Scratch && a.cell == cell)
+}
+
+/// The bytes of an operand before these. Linear in them.
+fn bytes_before(program: &Program, later: &[Access], access: Access) -> u64
+    requires limits { IsWithinLimits program.now }
+    requires cell { access.cell.0 < length program.now.cells }
+    ensures bytes { result ≡ bytes_before program.now later.now access }
+    ensures small { result ≤ 2 ^ 27 }
+{
+    if access.mode != Mode::Scratch && is_accessed(later, access.cell) {
+        return 0;
+    }
+    tile_bytes(program, access.cell)
+}
+
+/// The operands of a task. Constant time.
+fn accesses_of(program: &Program, t: Task) -> &[Access]
+    requires { t.0 < length program.now.tasks }
+    ensures { result.now ≡ (task_of program.now t).accesses }
+{
+    program.tasks.items()[t.0 as usize].accesses.items()
+}
+
+/// The bytes that a task needs on its node: those of each cell that it accesses, once, and of its scratch buffers. A partial
+/// copy is as large as its cell. Quadratic in the operands, which are five at most; no memory.
+pub fn footprint(program: &Program, t: Task) -> u64
+    requires program { Proper program.now }
+    requires task { t.0 < length program.now.tasks }
+    ensures bytes { result ≡ footprint program.now t }
+    ensures small { result ≤ 5 * 2 ^ 27 }
+{
+    let accesses = accesses_of(program, t);
+    let mut bytes = 0;
+    for i in 0..accesses.len() {
+        bytes += bytes_before(program, &accesses[i + 1..], accesses[i]);
+    }
+    bytes
+}
