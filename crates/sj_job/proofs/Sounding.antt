@@ -31,9 +31,9 @@ use Rattle.sj_job.specs.declared.reason.Reason.TheVariants.{Word, Number, NotBui
 use Rattle.sj_job.specs.Act.{Register as Registers, Plan, Task, Print, Invalidate, Unregister}
 use Rattle.sj_job.specs.Form.{form_of}
 use Rattle.sj_job.specs.Word.{integer}
-use Rattle.sj_job.specs.Sentence.{is_misplaced, is_numbered, is_built, is_built_mode, rows_of, cols_of, init_said, parts_said, index_said, registered_by, operand_said, operands_said, priority_said, task_said, said_of}
+use Rattle.sj_job.specs.Sentence.{is_numbered, is_built, is_built_mode, rows_of, cols_of, init_said, parts_said, index_said, registered_by, operand_said, operands_said, priority_said, task_said, said_of}
 use Rattle.sj_job.specs.State.{State, Root, root_of, is_valued, is_blank, is_child, child_rect, is_valued_child}
-use Rattle.sj_job.specs.Judge.{Scope, scope_of, is_begun, known_of, first_of, unless, judged_by, judged_call, judged_task, judged, kernel_named, register_reasons, line_reasons, print_reasons, name_reasons, plan_reasons, operand_reasons, is_shaped, modes_fit, dims_in, dims_known, is_child_said, is_crowded, is_cut, is_uncut, is_missing, is_lacking, child_lacks_value, is_side, is_outside, is_miscounted, is_unknown, is_ended, needs_value, lacks_value, is_priority}
+use Rattle.sj_job.specs.Judge.{Scope, scope_of, known_of, first_of, unless, judged_by, judged_call, judged_task, judged, kernel_named, register_reasons, line_reasons, print_reasons, name_reasons, plan_reasons, operand_reasons, is_shaped, modes_fit, dims_in, dims_known, is_child_said, is_crowded, is_cut, is_uncut, is_missing, is_lacking, child_lacks_value, is_side, is_outside, is_miscounted, is_unknown, is_ended, needs_value, lacks_value, is_priority}
 use Rattle.sj_job.specs.Well.{IsAllowed}
 use Rattle.sj_job.specs.Sound.{has_root, has_values, child_dims, has_child, has_child_values, is_plain, InitFits, IsSoundRegistration, IsSoundPlan, IsSoundAct}
 use Rattle.sj_job.proofs.Children.{said-child}
@@ -295,9 +295,6 @@ sound_task has n S t act b j =
 -- ---- acts
 
 pub sound_from_judged : (has : Kernel → Bool) (n : ℕ) (S : State) (f : Form) (act : Act) → is_built f ≡ true → judged has (scope_of n S) f ≡ Ok act → IsSoundAct has S act
-sound_from_judged has n S (form.Workers w) act b e = absurd (cc)
-sound_from_judged has n S (form.Node w) act b e = absurd (cc)
-sound_from_judged has n S (form.Policy p) act b e = absurd (cc)
 sound_from_judged has n S (form.Register a) act b e =
     let p = unless_parts (first_of (register_reasons (scope_of n S) a.name (registered_by a).dims (parts_said a.parts) (init_said a.init))) (Registers (registered_by a)) act e in
     subst (IsSoundAct has S) p.1 (sound_registration n S a p.0)
@@ -313,19 +310,18 @@ sound_from_judged has n S (form.Invalidate name) act b e =
 sound_from_judged has n S (form.Unregister name) act b e =
     let p = unless_parts (first_of (name_reasons (scope_of n S) name)) (Unregister name) act e in subst (IsSoundAct has S) p.1 (sound_name n S name p.0)
 
-by_order : (f g : Form) (m n b : Bool) → is_built f ≡ b → cond m (Err Word) (cond (not n) (Err Number) (cond (not b) (Err NotBuilt) (Ok f))) ≡ Ok g → (f ≡ g) × (is_built g ≡ true)
-by_order f g true n b h e = absurd (cc)
-by_order f g false false b h e = absurd (cc)
-by_order f g false true false h e = absurd (cc)
-by_order f g false true true h e = let same : f ≡ g = cc in (same, ap is_built (sym same) ∙ h)
+by_order : (f g : Form) (n b : Bool) → is_built f ≡ b → cond (not n) (Err Number) (cond (not b) (Err NotBuilt) (Ok f)) ≡ Ok g → (f ≡ g) × (is_built g ≡ true)
+by_order f g false b h e = absurd (cc)
+by_order f g true false h e = absurd (cc)
+by_order f g true true h e = let same : f ≡ g = cc in (same, ap is_built (sym same) ∙ h)
 
-pub said-built : (begun : Bool) (f g : Form) → said_of begun f ≡ Ok g → (f ≡ g) × (is_built g ≡ true)
-said-built begun f g e = by_order f g (is_misplaced begun f) (is_numbered f) (is_built f) refl e
+pub said-built : (f g : Form) → said_of f ≡ Ok g → (f ≡ g) × (is_built g ≡ true)
+said-built f g e = by_order f g (is_numbered f) (is_built f) refl e
 
-by_form : (begun : Bool) (o : Option Form) (g : Form) → (elim o as (λ _. Result Form Reason) [ None ↦ Err Word | Some f ↦ said_of begun f ]) ≡ Ok g → is_built g ≡ true
-by_form begun None g e = absurd (cc)
-by_form begun (Some f) g e = (said-built begun f g e).1
+by_form : (o : Option Form) (g : Form) → (elim o as (λ _. Result Form Reason) [ None ↦ Err Word | Some f ↦ said_of f ]) ≡ Ok g → is_built g ≡ true
+by_form None g e = absurd (cc)
+by_form (Some f) g e = (said-built f g e).1
 
 pub sound_from_allowed : (has : Kernel → Bool) (n : ℕ) (S : State) (act : Act) → IsAllowed has (scope_of n S) act → IsSoundAct has S act
 sound_from_allowed has n S act h =
-    sound_from_judged has n S h.form act (by_form (is_begun (scope_of n S)) (form_of h.words) h.form h.spelled) h.judged
+    sound_from_judged has n S h.form act (by_form (form_of h.words) h.form h.spelled) h.judged

@@ -57,10 +57,6 @@ scope_of n S = record {
   known = λ name. option_map known_of (root_of S name);
 }
 
--- a statement stands before the line
-abbrev pub is_begun : Scope → Bool
-is_begun s = nat_lt 0 s.statements
-
 -- the first reason whose condition holds
 abbrev pub first_of : List (Bool × Reason) → Option Reason
 first_of [] = None
@@ -266,9 +262,6 @@ judged_task has s t =
 
 -- what a form that is built does, or the first reason against it
 abbrev pub judged : (Kernel → Bool) → Scope → Form → Result Act Reason
-judged has s (form.Workers n) = Err NotBuilt
-judged has s (form.Node n) = Err NotBuilt
-judged has s (form.Policy p) = Err NotBuilt
 judged has s (form.Register a) =
     unless (first_of (register_reasons s a.name (registered_by a).dims (parts_said a.parts) (init_said a.init))) (Registers (registered_by a))
 judged has s (form.Plan name r c) =

@@ -57,9 +57,6 @@ is_numbered_task t =
     && is_numbered_priority t.priority
 
 abbrev pub is_numbered : Form → Bool
-is_numbered (form.Workers n) = is_count n
-is_numbered (form.Node n) = is_count n
-is_numbered (form.Policy p) = true
 is_numbered (form.Register a) = is_numbered_array a
 is_numbered (form.Plan name r c) = is_count r && is_count c
 is_numbered (form.Redux name by) = true
@@ -79,9 +76,6 @@ is_built_mode Redux = false
 is_built_mode Commute = false
 
 abbrev pub is_built : Form → Bool
-is_built (form.Workers n) = false
-is_built (form.Node n) = false
-is_built (form.Policy p) = false
 is_built (form.Register a) = true
 is_built (form.Plan name r c) = true
 is_built (form.Redux name by) = false
@@ -154,27 +148,16 @@ task_said k t = record {
 
 -- ---- a line
 
-abbrev pub is_setting : Form → Bool
-is_setting (form.Workers n) = true
-is_setting (form.Node n) = true
-is_setting (form.Policy p) = true
-is_setting f = false
-
--- settings stand before the statements, of which one has begun the job
-abbrev pub is_misplaced : Bool → Form → Bool
-is_misplaced begun f = is_setting f && begun
-
--- a form that stands in its place with numbers where it has numbers, and is read: the order of the reasons
-abbrev pub said_of : Bool → Form → Result Form Reason
-said_of begun f =
-    if is_misplaced begun f then Err Word
-    else if not (is_numbered f) then Err Number
+-- a form with numbers where it has numbers, and that is read: the order of the reasons
+abbrev pub said_of : Form → Result Form Reason
+said_of f =
+    if not (is_numbered f) then Err Number
     else if not (is_built f) then Err NotBuilt
     else Ok f
 
--- what a line of these words says, where a statement stands before it or none does
-abbrev pub said : Bool → List (List ℕ) → Result Form Reason
-said begun ws = elim (form_of ws) [ None ↦ Err Word | Some f ↦ said_of begun f ]
+-- what a statement line of these words says
+abbrev pub said : List (List ℕ) → Result Form Reason
+said ws = elim (form_of ws) [ None ↦ Err Word | Some f ↦ said_of f ]
 
 -- the first line that isn't skipped
 abbrev pub is_header : List (List ℕ) → Bool

@@ -1,9 +1,10 @@
-//! The statements of a job.
+//! The settings and statements of a job.
 
 ghost use Rattle.std.specs.Prelude.{◌≡◌};
 ghost use Rattle.sj_job.specs.Meaning.{is_written};
 
 use crate::roots::Roots;
+use crate::settings::Settings;
 use sj_base::ids::{Line, Root};
 use sj_base::mode::Mode;
 use sj_base::sequence::Sequence;
@@ -91,9 +92,10 @@ pub struct Statement {
     pub act: Act,
 }
 
-/// The statements of a job text, in order, and the roots that they register.
+/// What a job text says: its settings, its statements in order, and the roots that they register.
 #[derive(Drop)]
 pub struct Job {
+    pub settings: Settings,
     pub roots: Roots,
     pub statements: Sequence<Statement>,
 }

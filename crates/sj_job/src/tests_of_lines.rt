@@ -192,11 +192,6 @@ fn places_of_numbers_hold_numbers(rt: HostRuntime) -> Result<(), Fail> {
 #[test]
 fn forms_that_are_not_built_say_so(rt: HostRuntime) -> Result<(), Fail> {
     let lines = [
-        "workers 65",
-        "node 7",
-        "policy eager",
-        "policy prio",
-        "policy ws",
         "redux s plus",
         "redux s least",
         "task sum x:R s:REDUX",

@@ -143,7 +143,9 @@ pub fn lower(alloc: Global, job: Job, workers: u8) -> Result<LoweredJob, LowerRe
     ensures in_order { IfOk result (λ l. DeliversInOrder l.program) }
     ensures refused { IfErr result (λ e. IsLate e (late_limit (statements_of job))) }
 {
-    let Job { roots, statements } = job;
+    let Job {
+        roots, statements, ..
+    } = job;
     let mut progress = Progress::nothing(alloc);
     for statement in statements.into_items() {
         progress.add(alloc, &roots, statement)?;

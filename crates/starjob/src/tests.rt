@@ -288,19 +288,19 @@ const REFUSALS: [Refusal; 52] = [
         err: "starjob: line 3: number\n",
     },
     Refusal {
-        shows: "workers",
-        text: "starjob 1\nworkers 2\n",
-        err: "starjob: line 2: not built\n",
+        shows: "workers above their range",
+        text: "starjob 1\nworkers 65\n",
+        err: "starjob: line 2: limit Workers\n",
     },
     Refusal {
-        shows: "memory nodes",
-        text: "starjob 1\nnode 4096\n",
-        err: "starjob: line 2: not built\n",
+        shows: "a node that is too small",
+        text: "starjob 1\nnode 7\n",
+        err: "starjob: line 2: limit NodeBytes\n",
     },
     Refusal {
-        shows: "a policy",
-        text: "starjob 1\npolicy prio\n",
-        err: "starjob: line 2: not built\n",
+        shows: "an unknown policy",
+        text: "starjob 1\npolicy near\n",
+        err: "starjob: line 2: word\n",
     },
     Refusal {
         shows: "a reduction",

@@ -5,7 +5,7 @@ use Rattle.sj_job.specs.Names.{scope_in}
 use Rattle.sj_job.specs.Reason.{Objects}
 use Rattle.sj_job.specs.Submits.{done_in, Submits}
 use Rattle.sj_job.proofs.Submitting.{weaker_ok, weaker_err}
-use Rattle.sj_job.proofs.submit.submit_placed.Goals as goal
+use Rattle.sj_job.proofs.submit.submit.Goals as goal
 
 pub returns-in-Print-clause-ok : goal.returns-in-Print-clause-ok
 returns-in-Print-clause-ok g c =
