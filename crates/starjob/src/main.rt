@@ -3,19 +3,13 @@
 
 mod gathering;
 mod output;
+mod ready;
 mod report;
 mod running;
 mod sink_text;
 mod source_text;
 mod status;
-#[cfg(test)]
-mod tests;
-#[cfg(test)]
-mod tests_of_gathering;
-#[cfg(test)]
-mod tests_of_layers;
-#[cfg(test)]
-mod tests_of_plans;
+mod stop;
 mod top;
 
 use sj_edge::gate::OpenGate;
