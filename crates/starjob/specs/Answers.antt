@@ -22,7 +22,7 @@ use Rattle.starjob.specs.Device.{Device, HasFailed}
 use Rattle.starjob.specs.Disks.{RoseAt}
 use Rattle.starjob.specs.Streams.{TakesPrefix}
 use Rattle.starjob.specs.Top.{IsBeforeTheRun, JobIsDone, JobIsRefused, JobIsTooLarge, MemoryRanOut, PrintsNothing, RunBrokeOff, SinkHasFailed, SourceHasFailed, SwapIsTooSmall, text_of}
-use Rattle.starjob.specs.Traces.{Began, RanWhole}
+use Rattle.starjob.specs.Traces.{Began, BeganWork, RanWhole}
 use Rattle.starjob.specs.Work.{OfWork, Work, WorkOrRefusal, program_of}
 
 -- ---- made ready
@@ -68,8 +68,8 @@ abbrev pub StopsWith : WorkOrRefusal → Stop → List Event → Type 0
 StopsWith asked (Refused line reason) trace = IsStopped asked (Refused line reason) × (trace ≡ [])
 StopsWith asked (TooLarge line bytes) trace = IsStopped asked (TooLarge line bytes) × (trace ≡ [])
 StopsWith asked (SwapTooSmall needed have) trace = IsStopped asked (SwapTooSmall needed have) × (trace ≡ [])
-StopsWith asked (DiskFault disk) trace = Began trace asked
-StopsWith asked (Damaged disk want found) trace = Began trace asked
+StopsWith asked (DiskFault disk) trace = IsOkAnd asked (BeganWork trace)
+StopsWith asked (Damaged disk want found) trace = IsOkAnd asked (BeganWork trace)
 StopsWith asked OutOfMemory trace = Began trace asked
 
 -- the text is the work's, where all disks tell; whether they do or not the trace is whole, and where nothing is printed there is
@@ -118,9 +118,9 @@ AnsweredText asked Tells status.SinkFault out out' trace =
 AnsweredText asked Tells (status.Refused line reason) out out' trace = StopsWith asked (Refused line reason) trace
 AnsweredText asked Tells (status.TooLarge line bytes) out out' trace = StopsWith asked (TooLarge line bytes) trace
 AnsweredText asked Tells (status.SwapTooSmall needed have) out out' trace = StopsWith asked (SwapTooSmall needed have) trace
-AnsweredText asked Tells (status.DiskFault disk) out out' trace = Began trace asked
-AnsweredText asked Tells (status.Damaged disk want found) out out' trace = Began trace asked
-AnsweredText asked Tells status.OutOfMemory out out' trace = Began trace asked
+AnsweredText asked Tells (status.DiskFault disk) out out' trace = StopsWith asked (DiskFault disk) trace
+AnsweredText asked Tells (status.Damaged disk want found) out out' trace = StopsWith asked (Damaged disk want found) trace
+AnsweredText asked Tells status.OutOfMemory out out' trace = StopsWith asked OutOfMemory trace
 AnsweredText asked Tells status.Usage out out' trace = ⊥
 AnsweredText asked Tells status.SourceFault out out' trace = ⊥
 

@@ -16,7 +16,7 @@ use Rattle.starjob.specs.Device.{Device, HasFailed}
 use Rattle.starjob.specs.Disks.{RoseAt}
 use Rattle.starjob.specs.Output.{output}
 use Rattle.starjob.specs.Streams.{IsRead, TakesPrefix}
-use Rattle.starjob.specs.Traces.{BeganWork, RanWhole}
+use Rattle.starjob.specs.Traces.{Began, BeganWork, RanWhole}
 use Rattle.starjob.specs.Work.{OfWork, TellsWork, Work, WorkOrRefusal, program_of}
 
 -- the text of what the statements print when they are run one after another on plain arrays, and that of the trace where it is
@@ -83,7 +83,7 @@ pub record SinkHasFailed (asked : Option WorkOrRefusal) (Tells : Type 0) (source
 
 -- an allocation was refused, with the trace of a run as far as it came
 pub record MemoryRanOut (asked : Option WorkOrRefusal) (source source' : Device) (trace : List Event) : Type 0 where
-  pub ran : OfWork asked (BeganWork trace)
+  pub ran : IfSome asked (Began trace)
   pub source_never_failed : source'.faults ≡ source.faults
 
 -- ---- which statuses come
