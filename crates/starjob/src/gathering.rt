@@ -1,12 +1,13 @@
 //! The arrays of print statements, put together from what the deliver tasks handed over, in whatever order these ended.
 
-ghost use Rattle.std.specs.Prelude.{◌≡◌, ◌<◌, ◌≤◌, ◌++◌, All, Contains, length, map, nat_eq, IfOk, IfSome, OnOk};
+ghost use Rattle.std.specs.Prelude.{◌≡◌, ℕ, ◌<◌, ◌≤◌, ◌++◌, All, AllPairs, Contains, length, map, nat_eq, IfOk, IfSome, OnOk};
 ghost use Rattle.std.specs.List.{prefix_len};
 ghost use Rattle.sj_base.specs.Array.{zeros};
+ghost use Rattle.sj_lower.specs.Delivering.{deliveries_for};
 ghost use Rattle.sj_plan.specs.Rect.{Within};
 ghost use Rattle.sj_plan.specs.Window.{gathered};
-ghost use Rattle.starjob.specs.Gathering.{HandedOver, AreGrouped, IsIndex, IsShown, ShowsHanded, array_found, assembled, part_by, prints_of, rect_at, shown};
-ghost use Rattle.starjob.specs.Output.{printed_block};
+ghost use Rattle.starjob.specs.Gathering.{HandedOver, AreGrouped, IsIndex, IsShown, ShowsHanded, all_shown, array_found, assembled, part_by, prints_of, rect_at, shown};
+ghost use Rattle.starjob.specs.Output.{output, printed_block};
 
 use crate::output::write_array;
 use sj_base::memory::OutOfMemory;
@@ -57,6 +58,13 @@ impl<'a> ByTask<'a> {
             delivered,
             places,
         })
+    }
+
+    /// The program. Constant time.
+    fn program(&self) -> &Program
+        ensures { result.now ≡ self.now.program }
+    {
+        self.program
     }
 
     /// What a delivery's task handed over. Constant time.
@@ -175,6 +183,26 @@ fn prints_of(program: &Program) -> u64
     }
 }
 
+/// What is printed of all deliveries, one print statement after another. Linear in the elements and in the text; one array is made
+/// at a time.
+fn write_prints(alloc: Global, roots: &Roots, handed: &ByTask) -> Result<Vec<u8>, OutOfMemory>
+    requires shown { (k : ℕ) → k < prints_of handed.now.program →
+        IsShown roots.now (array_found handed.now) (deliveries_for handed.now.program k) }
+    requires ascending { AllPairs (λ d e. d.print ≤ e.print) handed.now.program.deliveries }
+    ensures { IfOk result (λ text. text.items
+        ≡ output (all_shown roots.now (array_found handed.now) handed.now.program)) }
+{
+    let program = handed.program();
+    let mut text = Vec::new(alloc);
+    let mut rest = program.deliveries.items();
+    for print in 0..prints_of(program) {
+        let (these, later) = rest.split_at(count_of(rest, print));
+        write_print(alloc, &mut text, roots, these, handed)?;
+        rest = later;
+    }
+    Ok(text)
+}
+
 /// What a job prints, from what its deliver tasks handed over in whatever order: of each print statement the array that its
 /// deliveries make. Linear in the program's tasks, in the elements and in the text; one array is made at a time.
 pub fn text_of(
@@ -189,12 +217,5 @@ pub fn text_of(
         ShowsHanded roots.now program.now delivered.now.pairs text.items) }
 {
     let handed = ByTask::of(alloc, program, delivered)?;
-    let mut text = Vec::new(alloc);
-    let mut rest = program.deliveries.items();
-    for print in 0..prints_of(program) {
-        let (these, later) = rest.split_at(count_of(rest, print));
-        write_print(alloc, &mut text, roots, these, &handed)?;
-        rest = later;
-    }
-    Ok(text)
+    write_prints(alloc, roots, &handed)
 }

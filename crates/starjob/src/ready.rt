@@ -82,6 +82,13 @@ fn arguments_fit(program: &Program)
     }
 }
 
+/// A program that can be shared. Constant time.
+fn shareable(alloc: Global, program: Program) -> Result<Arc<Program>, OutOfMemory>
+    ensures { IfOk result (λ p. p.value ≡ program) }
+{
+    Ok(Arc::new(alloc, program)?)
+}
+
 /// A job lowered for the workers of a machine. The cost of lowering.
 fn lowered_for(
     alloc: Global,
@@ -104,7 +111,7 @@ fn lowered_for(
         IsStopped (within_limits w) stop) }
 {
     let LoweredJob { program, roots } = lower(alloc, job, machine.workers)?;
-    let program = Arc::new(alloc, program)?;
+    let program = shareable(alloc, program)?;
     Ok(Ready {
         program,
         roots,
