@@ -4,14 +4,16 @@ use Rattle.std.proofs.Common.{◌≡◌, ◌≢◌, ℕ, ◌+◌, ◌<◌, List,
 use Rattle.std.specs.Prelude.{All, Contains}
 use Rattle.std.proofs.lemmas.Bool.{cases_eq}
 use Rattle.std.proofs.lemmas.Option.{slice_get_within, slice_get-get_or, slice_get-map}
-use Rattle.std.proofs.lemmas.List.{get_or-set_same, get_or-set_other, length-map, length-set, take_more, map_more}
+use Rattle.std.proofs.lemmas.List.{get_or_default, get_or-set_same, get_or-set_other, length-map, length-set, take_more, map_more}
 use Rattle.std.proofs.lemmas.List.Elements.{All-contains, All-map, All-push, All-weaker}
 use Rattle.sj_base.specs.declared.ids.Task.{Task}
 use Rattle.sj_base.specs.declared.program.Delivery.{Delivery}
 use Rattle.sj_base.specs.declared.program.Program.{Program}
 use Rattle.sj_base.specs.Array.{Array}
-use Rattle.sj_core.specs.Fold.{given}
-use Rattle.starjob.specs.Gathering.{Finds, HandedOver, IsIndex}
+use Rattle.starjob.specs.Gathering.{Finds, Handed, HandedOver, IsIndex, array_found, no_array}
+
+the : (X : Type 0) → X → X
+the X x = x
 
 abbrev tasks_in : List (Task × Array) → List Task
 tasks_in pairs = map (λ (pair : Task × Array). pair.0) pairs
@@ -35,15 +37,28 @@ place-inside pairs k t e = subst (λ (n : ℕ). k < n) (length-map pairs (λ (pa
 pub at-place : (places : List ℕ) (pairs : List (Task × Array)) (t : Task) (k : ℕ) → k ≡ get_or places t.0 0 → Finds places pairs t → slice_get (tasks_in pairs) k ≡ Some t
 at-place places pairs t k e found = ap (λ n. slice_get (tasks_in pairs) n) e ∙ found.1
 
--- what stands at a task's place is its array
-pub given-at : (p : Program) (pairs : List (Task × Array)) (k : ℕ) (t : Task) (a : Array) → HandedOver p pairs → slice_get (tasks_in pairs) k ≡ Some t → option_map (λ (pair : Task × Array). pair.1) (slice_get pairs k) ≡ Some a → a ≡ given p t
-given-at p pairs k t a handed et ea =
-    let inside = place-inside pairs k t et in
-    let pair = get_or pairs k (t, a) in
-    let at : slice_get pairs k ≡ Some pair = slice_get-get_or pairs k (t, a) inside in
-    let task : Some pair.0 ≡ Some t = sym (slice_get-map (λ (x : Task × Array). x.0) pairs k ∙ ap (option_map (λ (x : Task × Array). x.0)) at) ∙ et in
-    let array : Some pair.1 ≡ Some a = sym (ap (option_map (λ (x : Task × Array). x.1)) at) ∙ ea in
-    sym (ap (λ (o : Option Array). unwrap_or o a) array) ∙ handed.given k (t, a) inside ∙ ap (λ (o : Option Task). given p (unwrap_or o t)) task
+-- what stands at a task's place is the array that the table finds
+pub array-at : (h : Handed) (k : ℕ) (t : Task) (a : Array) → k ≡ get_or h.places t.0 0 → option_map (λ (pair : Task × Array). pair.1) (slice_get h.pairs k) ≡ Some a → a ≡ array_found h t
+array-at h k t a e at = by_pair (slice_get h.pairs k) refl at
+  where
+    by_pair : (o : Option (Task × Array)) → slice_get h.pairs k ≡ o → option_map (λ (pair : Task × Array). pair.1) o ≡ Some a → a ≡ array_found h t
+    by_pair None is found = absurd (let bad : None ≡ Some a = found in the ⊥ cc)
+    by_pair (Some pair) is found =
+        let there : slice_get h.pairs (get_or h.places t.0 0) ≡ Some pair = ap (λ (n : ℕ). slice_get h.pairs n) (sym e) ∙ is in
+        sym (ap (λ (o : Option (Task × Array)). elim o [ None ↦ no_array | Some q ↦ q.1 ]) there ∙ ap (λ (o : Option Array). unwrap_or o a) found)
+
+-- the array that the table finds for a delivery is one that its task handed over
+pub found-among : (h : Handed) (t : Task) → Finds h.places h.pairs t → Contains h.pairs (t, array_found h t)
+found-among h t finds =
+    let k = get_or h.places t.0 0 in
+    let inside = place-inside h.pairs k t finds.1 in
+    let pair = get_or h.pairs k (t, no_array) in
+    let at : slice_get h.pairs k ≡ Some pair = slice_get-get_or h.pairs k (t, no_array) inside in
+    let task : Some pair.0 ≡ Some t = sym (slice_get-map (λ (x : Task × Array). x.0) h.pairs k ∙ ap (option_map (λ (x : Task × Array). x.0)) at) ∙ finds.1 in
+    let array : array_found h t ≡ pair.1 = ap (λ (o : Option (Task × Array)). elim o [ None ↦ no_array | Some q ↦ q.1 ]) at in
+    let first : pair.0 ≡ t = ap (λ (o : Option Task). unwrap_or o t) task in
+    let same : pair ≡ (t, array_found h t) = λ i. (first i, sym array i) in
+    (k, inside, sym (get_or_default h.pairs k (t, no_array) (t, array_found h t) inside) ∙ same)
 
 -- one task's place more
 pub finds-more : (places : List ℕ) (pairs : List (Task × Array)) (i : ℕ) (u t : Task) → u.0 < length places → slice_get (tasks_in pairs) i ≡ Some u → (t.0 ≢ u.0 → Finds places pairs t) → Finds (set places u.0 i) pairs t

@@ -24,8 +24,7 @@ use Rattle.sj_job.specs.Meaning.{apply}
 use Rattle.sj_job.specs.Sound.{IsSoundAct}
 use Rattle.sj_job.specs.Well.{IsWell}
 use Rattle.sj_job.proofs.Sounding.{sound_from_allowed}
-use Rattle.sj_board.specs.Operands.{has_codelet}
-use Rattle.sj_engine.specs.Run.{HasCodelets}
+use Rattle.sj_core.specs.Laws.{is_known}
 use Rattle.sj_lower.specs.Cells.{Cells, cell_of}
 use Rattle.sj_lower.specs.Lowering.{Lowering, active_cell, cells_after, is_idle, load_rows, lower_from, lower_one, lowered, nothing, parts_in, plan_rows, rows_of}
 use Rattle.sj_lower.specs.Rows.{deliver_row, fill_row, load_row, paste_row}
@@ -35,13 +34,13 @@ first-true : (b c : Bool) → (b && c) ≡ true → b ≡ true
 first-true true c h = refl
 first-true false c h = h
 
-fits-known : (has : Kernel → Bool) (id : Codelet) (args : List ℤ) (ds : List Dims) (o : Option Kernel) → kernel_of id ≡ o → IsTrue (fits_in has id args ds) → IsTrue (has_codelet has id)
+fits-known : (has : Kernel → Bool) (id : Codelet) (args : List ℤ) (ds : List Dims) (o : Option Kernel) → kernel_of id ≡ o → IsTrue (fits_in has id args ds) → IsTrue (is_known has id)
 fits-known has id args ds None e h = absurd (false≢true (rw e at h))
 fits-known has id args ds (Some k) e h = rw e (first-true (has k) (fits k args ds) (rw e at h))
 
 module _ (has : Kernel → Bool) (own : HasOwnCodelets has) where
   abbrev IsKnown : Lowered → Type 0
-  IsKnown l = IsTrue (has_codelet has l.codelet)
+  IsKnown l = IsTrue (is_known has l.codelet)
 
   known-load : (init : Init) (d : Dims) (p : Parts) (cell : ℕ × ℕ → Cell) (line : Line) → All IsKnown (load_rows init d p cell line)
   known-load (Values xs) d p cell line = All-map IsKnown (λ place. load_row xs d (child d p place) (cell place) line) (places p) (λ i x l. own.load)
@@ -69,5 +68,5 @@ module _ (has : Kernel → Bool) (own : HasOwnCodelets has) where
   known-from n S (s ∷ ss) L well all =
       known-from (n + 1) (apply s.act S) ss (lower_one S s L) well.1 (All-append IsKnown L.tasks (rows_of S (cells_after s.act L.cells) s.line s.act) all (known-rows s.line s.act S (cells_after s.act L.cells) (sound_from_allowed has n S s.act well.0)))
 
-pub known-lowered : (has : Kernel → Bool) → HasOwnCodelets has → (ss : List Statement) (workers : ℕ) → IsWell has 0 start ss → HasCodelets has (lowered ss workers)
-known-lowered has own ss workers well = known-from has own 0 start ss nothing well (All-nil (λ (l : Lowered). IsTrue (has_codelet has l.codelet)))
+pub known-lowered : (has : Kernel → Bool) → HasOwnCodelets has → (ss : List Statement) (workers : ℕ) → IsWell has 0 start ss → All (λ l. IsTrue (is_known has l.codelet)) (lowered ss workers).tasks
+known-lowered has own ss workers well = known-from has own 0 start ss nothing well (All-nil (λ (l : Lowered). IsTrue (is_known has l.codelet)))

@@ -1,13 +1,17 @@
 -- The trace of a job that wasn't run.
-use Rattle.std.proofs.Common.{◌≡◌, ℕ, List, [], Result, Ok, Err}
+use Rattle.std.proofs.Common.{◌≡◌, List, [], Ok, Err, refl, subst, sym}
 use Rattle.sj_base.specs.declared.trace.Event.{Event}
-use Rattle.sj_engine.specs.Machine.{one_node}
-use Rattle.sj_engine.proofs.Starting.{nothing-legal}
-use Rattle.sj_job.specs.Job.{Job}
-use Rattle.sj_job.specs.Reading.{Refusal}
-use Rattle.sj_lower.specs.Lowering.{lowered}
+use Rattle.sj_base.specs.declared.program.Machine.{Machine}
+use Rattle.sj_base.specs.declared.program.Program.{Program}
+use Rattle.sj_core.specs.Legal.{IsLegal}
+use Rattle.sj_core.specs.Machine.{opening}
 use Rattle.starjob.specs.Traces.{Began}
+use Rattle.starjob.specs.Work.{WorkOrRefusal, program_of}
 
-pub began_empty : (job : Result Job Refusal) (trace : List Event) → trace ≡ [] → Began job trace
-began_empty (Ok job) trace e = nothing-legal (lowered job.statements 1) one_node trace e
+-- the trace without events is legal
+pub nothing-legal : (p : Program) (m : Machine) (trace : List Event) → trace ≡ [] → IsLegal p m trace
+nothing-legal p m trace e = subst (IsLegal p m) (sym e) ∣ record { left = opening p m; replays = refl } ∣₁
+
+pub began_empty : (asked : WorkOrRefusal) (trace : List Event) → trace ≡ [] → Began trace asked
+began_empty (Ok w) trace e = nothing-legal (program_of w) w.machine trace e
 began_empty (Err refusal) trace e = e

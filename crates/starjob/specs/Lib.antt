@@ -1,9 +1,12 @@
+pub mod Answers
 pub mod Device
+pub mod Disks
 pub mod Gathering
 pub mod Output
-pub mod Refused
 pub mod Report
 pub mod Status
+pub mod Stops
 pub mod Streams
 pub mod Top
 pub mod Traces
+pub mod Work

@@ -1,74 +1,73 @@
--- What the program's call promises, by how it ended.
-use Rattle.std.specs.Prelude.{◌≡◌, ℕ, Bool, Some, None, IfSome, IsSomeAnd, Result, Ok, Err, IsOk, IsOkAnd, List, [], Vec}
-use Rattle.std.specs.declared.alloc.Global.{Global}
+-- What the program's call promises, by how it ended. What was asked for is work or a refusal, where words and source tell it.
+use Rattle.std.specs.Prelude.{◌≡◌, ◌≢◌, ℕ, false, Option, IfSome, Err, List, [], ◌++◌, if◌then◌else◌}
 use Rattle.std.specs.Io.KnownBytes.{Appends, IsAtEnd}
-use Rattle.sj_base.specs.declared.trace.Event.{Event}
+use Rattle.sj_base.specs.declared.ids.DiskNo.{DiskNo}
 use Rattle.sj_base.specs.declared.ids.Line.{Line}
-use Rattle.sj_codelet.specs.declared.kernel.Kernel.{Kernel}
-use Rattle.sj_job.specs.Job.{Job}
+use Rattle.sj_base.specs.declared.trace.Event.{Event}
+use Rattle.sj_core.specs.Proper.{HasSwapFor}
+use Rattle.sj_disk.specs.declared.header.Header.{Header}
 use Rattle.sj_job.specs.declared.reason.Reason.{Reason}
-use Rattle.sj_job.specs.declared.reason.ReadRefusal.{ReadRefusal}
-use Rattle.sj_job.specs.declared.reason.ReadRefusal.TheVariants.{Refused as Bad, OutOfMemory as NoMemory}
 use Rattle.sj_job.specs.Meaning.{printed}
-use Rattle.sj_job.specs.Reading.{Refusal, job_of}
-use Rattle.sj_lower.specs.Limits.{late_limit}
+use Rattle.sj_needs.specs.Shortage.{FitRoom, IsSwapTooSmall, IsTooLarge}
+use Rattle.sj_trace.specs.Text.{text_of as text_of_trace}
 use Rattle.starjob.specs.declared.status.Status.{Status}
-use Rattle.starjob.specs.declared.status.Status.TheVariants.{Done, Usage, Refused, SourceFault, SinkFault, OutOfMemory}
+use Rattle.starjob.specs.declared.status.Status.TheVariants.{Done, Usage, Refused, TooLarge, SwapTooSmall, DiskFault, Damaged, SourceFault, SinkFault, OutOfMemory}
 use Rattle.starjob.specs.Device.{Device, HasFailed}
+use Rattle.starjob.specs.Disks.{RoseAt}
 use Rattle.starjob.specs.Output.{output}
 use Rattle.starjob.specs.Streams.{IsRead, TakesPrefix}
-use Rattle.starjob.specs.Traces.{Began, RanWhole}
+use Rattle.starjob.specs.Traces.{Began, BeganWork, RanWhole}
+use Rattle.starjob.specs.Work.{OfWork, TellsWork, Work, WorkOrRefusal, program_of}
 
--- what a job text says: a job, or its first bad line and the first reason against it
-abbrev pub JobOrRefusal : Type 0
-JobOrRefusal = Result Job Refusal
+-- the text of what the statements print when they are run one after another on plain arrays, and that of the trace where it is
+-- asked for
+abbrev pub text_of : List Event → Work → List ℕ
+text_of trace w = output (printed w.statements) ++ (if w.shows_trace then text_of_trace trace else [])
 
--- the same where a job whose statements exceed a limit of lowering is refused at the line that first does
-abbrev pub within_limits : JobOrRefusal → JobOrRefusal
-within_limits (Ok job) = elim (late_limit job.statements) [ None ↦ Ok job | Some e ↦ Err e ]
-within_limits (Err e) = Err e
+-- ---- a status and what it says
 
--- what a job text says to the call: a bad line stands before any limit of lowering
-abbrev pub sound_job_of : (Kernel → Bool) → List ℕ → JobOrRefusal
-sound_job_of has text = within_limits (job_of has text)
-
--- the text that a job's statements print, run one after another on plain arrays
-abbrev pub text_of : Job → List ℕ
-text_of job = output (printed job.statements)
-
--- the source, where it tells its bytes, holds a job of which this is true
-abbrev pub HoldsJob : (Kernel → Bool) → Device → (JobOrRefusal → Type 0) → Type 0
-HoldsJob has source P = IfSome source.bytes (λ text. P (sound_job_of has text))
-
--- the same of a job that isn't refused
-abbrev pub HoldsSoundJob : (Kernel → Bool) → Device → (Job → Type 0) → Type 0
-HoldsSoundJob has source P = HoldsJob has source (λ job. IsOkAnd job P)
-
--- the source tells a job against which no reason stands, and which is within all limits
-abbrev pub TellsSoundJob : (Kernel → Bool) → Device → Type 0
-TellsSoundJob has source = IsSomeAnd source.bytes (λ text. IsOk (sound_job_of has text))
-
--- the job isn't refused, and prints nothing
-abbrev pub PrintsNothing : JobOrRefusal → Type 0
-PrintsNothing job = IsOkAnd job (λ j. text_of j ≡ [])
-
--- the source tells such a job
-abbrev pub TellsSilentJob : (Kernel → Bool) → Device → Type 0
-TellsSilentJob has source = IsSomeAnd source.bytes (λ text. PrintsNothing (sound_job_of has text))
-
--- the printed arrays were written, each task ran once, and no device failed
-pub record JobIsDone (has : Kernel → Bool) (source source' out out' : Device) (trace : List Event) : Type 0 where
-  pub printed : HoldsSoundJob has source (λ j. Appends out.bytes out'.bytes (text_of j))
-  pub each_task_ran_once : HoldsSoundJob has source (λ j. RanWhole j trace)
+-- the text was written, each task ran once, and neither source nor sink failed
+pub record JobIsDone (asked : Option WorkOrRefusal) (Tells : Type 0) (source source' out out' : Device) (trace : List Event) : Type 0 where
+  pub printed : Tells → OfWork asked (λ w. Appends out.bytes out'.bytes (text_of trace w))
+  pub each_task_ran_once : OfWork asked (RanWhole trace)
   pub read : IsRead source source'
   pub read_to_the_end : IsAtEnd source'.bytes
   pub out_never_failed : out'.faults ≡ out.faults
 
 -- this is the job's first bad line and the first reason against it, or the limit that it exceeds and the line that first does
-pub record JobIsRefused (has : Kernel → Bool) (line : Line) (reason : Reason) (source source' : Device) (trace : List Event) : Type 0 where
-  pub cause : HoldsJob has source (λ job. job ≡ Err (record { line = line; reason = reason }))
+pub record JobIsRefused (asked : Option WorkOrRefusal) (line : Line) (reason : Reason) (source source' : Device) (trace : List Event) : Type 0 where
+  pub cause : IfSome asked (λ w. w ≡ Err (record { line = line; reason = reason }))
   pub read : IsRead source source'
   pub nothing_ran : trace ≡ []
+
+-- this is the line and the need of the first task that fits no node with a worker
+pub record JobIsTooLarge (asked : Option WorkOrRefusal) (line : Line) (bytes : ℕ) (source source' : Device) (trace : List Event) : Type 0 where
+  pub cause : OfWork asked (λ w. IsTooLarge (program_of w) w.machine line bytes)
+  pub read : IsRead source source'
+  pub nothing_ran : trace ≡ []
+
+-- the blocks have no places on the disks: this is what they need, and what the disks have
+pub record SwapIsTooSmall (asked : Option WorkOrRefusal) (needed have : ℕ) (source source' : Device) (trace : List Event) : Type 0 where
+  pub cause : OfWork asked (λ w. IsSwapTooSmall (program_of w) w.machine needed have)
+  pub read : IsRead source source'
+  pub nothing_ran : trace ≡ []
+
+-- the run broke off: its events begin a legal run
+pub record RunBrokeOff (asked : Option WorkOrRefusal) (source source' : Device) (trace : List Event) : Type 0 where
+  pub ran : OfWork asked (BeganWork trace)
+  pub read : IsRead source source'
+
+-- the disk's count of faults rose
+pub record DiskHasFailed (asked : Option WorkOrRefusal) (disk : DiskNo) (faults faults' : List ℕ) (source source' : Device) (trace : List Event) : Type 0 where
+  pub cause : RoseAt disk.0 faults faults'
+  pub run : RunBrokeOff asked source source' trace
+
+-- the disk's count of mismatches rose, where another header was found than the one wanted; never where all disks tell
+pub record DiskIsDamaged (asked : Option WorkOrRefusal) (disk : DiskNo) (want found : Header) (Tells : Type 0) (mismatches mismatches' : List ℕ) (source source' : Device) (trace : List Event) : Type 0 where
+  pub cause : RoseAt disk.0 mismatches mismatches'
+  pub other_header : want ≢ found
+  pub untold : ¬ Tells
+  pub run : RunBrokeOff asked source source' trace
 
 -- a call of the source failed, and no other was made behind it
 pub record SourceHasFailed (source source' : Device) (trace : List Event) : Type 0 where
@@ -76,47 +75,27 @@ pub record SourceHasFailed (source source' : Device) (trace : List Event) : Type
   pub nothing_ran : trace ≡ []
 
 -- a call of the sink failed, which took a front of the text; each task had run once
-pub record SinkHasFailed (has : Kernel → Bool) (source source' out out' : Device) (trace : List Event) : Type 0 where
+pub record SinkHasFailed (asked : Option WorkOrRefusal) (Tells : Type 0) (source source' out out' : Device) (trace : List Event) : Type 0 where
   pub cause : HasFailed out out'
-  pub front : HoldsSoundJob has source (λ j. TakesPrefix out.bytes out'.bytes (text_of j))
-  pub each_task_ran_once : HoldsSoundJob has source (λ j. RanWhole j trace)
+  pub front : Tells → OfWork asked (λ w. TakesPrefix out.bytes out'.bytes (text_of trace w))
+  pub each_task_ran_once : OfWork asked (RanWhole trace)
   pub read : IsRead source source'
 
 -- an allocation was refused, with the trace of a run as far as it came
-pub record MemoryRanOut (has : Kernel → Bool) (source source' : Device) (trace : List Event) : Type 0 where
-  pub ran : HoldsJob has source (λ job. Began job trace)
+pub record MemoryRanOut (asked : Option WorkOrRefusal) (source source' : Device) (trace : List Event) : Type 0 where
+  pub ran : IfSome asked (Began trace)
   pub source_never_failed : source'.faults ≡ source.faults
 
--- how a call without words ended: by its status, one of these
-abbrev pub Answered : (Kernel → Bool) → Status → Device → Device → Device → Device → List Event → Type 0
-Answered has Done source source' out out' trace = JobIsDone has source source' out out' trace
-Answered has Usage source source' out out' trace = ⊥
-Answered has (Refused line reason) source source' out out' trace = JobIsRefused has line reason source source' trace
-Answered has SourceFault source source' out out' trace = SourceHasFailed source source' trace
-Answered has SinkFault source source' out out' trace = SinkHasFailed has source source' out out' trace
-Answered has OutOfMemory source source' out out' trace = MemoryRanOut has source source' trace
+-- ---- which statuses come
 
--- the same of a text that was read: what the job, the sink and the trace have to do with the status
-abbrev pub AnsweredText : JobOrRefusal → Status → Device → Device → List Event → Type 0
-AnsweredText job Done out out' trace =
-    IsOkAnd job (λ j. Appends out.bytes out'.bytes (text_of j) × RanWhole j trace) × (out'.faults ≡ out.faults)
-AnsweredText job (Refused line reason) out out' trace = (job ≡ Err (record { line = line; reason = reason })) × (trace ≡ [])
-AnsweredText job SinkFault out out' trace =
-    IsOkAnd job (λ j. TakesPrefix out.bytes out'.bytes (text_of j) × RanWhole j trace) × HasFailed out out'
-AnsweredText job OutOfMemory out out' trace = Began job trace
-AnsweredText job _ out out' trace = ⊥
+-- the work isn't refused, each task fits a node with a worker, and the blocks have their places on the disks
+abbrev pub CanBeRun : Option WorkOrRefusal → Type 0
+CanBeRun asked = TellsWork asked (λ w. FitRoom (program_of w) w.machine × HasSwapFor (program_of w) w.machine)
 
--- what a run of the text gives: the text to write and a whole run, a refusal and no event, or what memory left
-abbrev pub RunsText : JobOrRefusal → Result (Vec ℕ Global) ReadRefusal → List Event → Type 0
-RunsText job (Ok out) trace = IsOkAnd job (λ j. (out.items ≡ text_of j) × RanWhole j trace)
-RunsText job (Err (Bad line reason)) trace = (job ≡ Err (record { line = line; reason = reason })) × (trace ≡ [])
-RunsText job (Err NoMemory) trace = Began job trace
-
--- the text was written whole, or a front of it where a call of the sink failed
-abbrev pub WritesText : List ℕ → Status → Device → Device → Type 0
-WritesText text Done out out' = Appends out.bytes out'.bytes text × (out'.faults ≡ out.faults)
-WritesText text SinkFault out out' = TakesPrefix out.bytes out'.bytes text × HasFailed out out'
-WritesText text _ out out' = ⊥
+-- the statements print nothing, and the trace isn't asked for
+pub record PrintsNothing (w : Work) : Type 0 where
+  pub no_array : printed w.statements ≡ []
+  pub no_trace : w.shows_trace ≡ false
 
 -- nothing was written yet, nor the sink called
 abbrev pub IsBeforeWriting : Status → Type 0
@@ -124,7 +103,21 @@ IsBeforeWriting Done = ⊥
 IsBeforeWriting SinkFault = ⊥
 IsBeforeWriting _ = Unit {0}
 
+-- the run hadn't begun, nor any call of a disk but that of its size
+abbrev pub IsBeforeTheRun : Status → Type 0
+IsBeforeTheRun Usage = Unit {0}
+IsBeforeTheRun (Refused line reason) = Unit {0}
+IsBeforeTheRun (TooLarge line bytes) = Unit {0}
+IsBeforeTheRun (SwapTooSmall needed have) = Unit {0}
+IsBeforeTheRun SourceFault = Unit {0}
+IsBeforeTheRun _ = ⊥
+
 abbrev pub IsDoneOrOutOfMemory : Status → Type 0
 IsDoneOrOutOfMemory Done = Unit {0}
 IsDoneOrOutOfMemory OutOfMemory = Unit {0}
 IsDoneOrOutOfMemory _ = ⊥
+
+abbrev pub IsUsageOrOutOfMemory : Status → Type 0
+IsUsageOrOutOfMemory Usage = Unit {0}
+IsUsageOrOutOfMemory OutOfMemory = Unit {0}
+IsUsageOrOutOfMemory _ = ⊥

@@ -1,14 +1,11 @@
--- What the trace of a job's run says, by how the run ended.
-use Rattle.std.specs.Prelude.{◌≡◌, Bool, IsTrue, Result, Ok, Err, List, []}
+-- What the trace of a run says, by how the run ended.
+use Rattle.std.specs.Prelude.{◌≡◌, Bool, IsTrue, Ok, Err, List, []}
 use Rattle.sj_base.specs.declared.trace.Event.{Event}
 use Rattle.sj_codelet.specs.declared.kernel.Kernel.{Kernel}
 use Rattle.sj_codelet.specs.declared.kernel.Kernel.TheVariants.{Load, LoadFill, Paste, Deliver}
 use Rattle.sj_core.specs.Legal.{IsFinished, IsLegal}
 use Rattle.sj_core.specs.Once.{EachRanOnce}
-use Rattle.sj_engine.specs.Machine.{one_node}
-use Rattle.sj_job.specs.Job.{Job}
-use Rattle.sj_job.specs.Reading.{Refusal}
-use Rattle.sj_lower.specs.Lowering.{lowered}
+use Rattle.starjob.specs.Work.{Work, WorkOrRefusal, program_of}
 
 -- the set has the codelets to which registrations, plan lines and print statements are lowered
 pub record HasOwnCodelets (has : Kernel → Bool) : Type 0 where
@@ -17,12 +14,16 @@ pub record HasOwnCodelets (has : Kernel → Bool) : Type 0 where
   pub paste : IsTrue (has Paste)
   pub deliver : IsTrue (has Deliver)
 
--- the events are a legal run of the job's program from its start to its end, in which each of its tasks ran once
-pub record RanWhole (job : Job) (trace : List Event) : Type 0 where
-  pub finished : IsFinished (lowered job.statements 1) one_node trace
-  pub each_once : EachRanOnce (lowered job.statements 1) trace
+-- the events are a legal run of the work's program on its machine, from its start to its end, in which each task ran once
+pub record RanWhole (trace : List Event) (w : Work) : Type 0 where
+  pub finished : IsFinished (program_of w) w.machine trace
+  pub each_once : EachRanOnce (program_of w) trace
 
--- the events, none maybe, begin a legal run of the job's program
-abbrev pub Began : Result Job Refusal → List Event → Type 0
-Began (Ok job) trace = IsLegal (lowered job.statements 1) one_node trace
-Began (Err e) trace = trace ≡ []
+-- the events, none maybe, begin a legal run of the work's program on its machine
+abbrev pub BeganWork : List Event → Work → Type 0
+BeganWork trace w = IsLegal (program_of w) w.machine trace
+
+-- the same of work that wasn't refused; of other work there is no event
+abbrev pub Began : List Event → WorkOrRefusal → Type 0
+Began trace (Ok w) = BeganWork trace w
+Began trace (Err e) = trace ≡ []

@@ -1,27 +1,26 @@
 //! The arrays of print statements, put together from what the deliver tasks handed over, in whatever order these ended.
 
-ghost use Rattle.std.specs.Prelude.{◌≡◌, ◌<◌, ◌≤◌, ◌++◌, All, Contains, length, map, nat_eq, IfOk, IfSome, OnOk};
+ghost use Rattle.std.specs.Prelude.{◌≡◌, ℕ, ◌<◌, ◌≤◌, ◌++◌, All, AllPairs, Contains, length, map, nat_eq, IfOk, IfSome, OnOk};
 ghost use Rattle.std.specs.List.{prefix_len};
 ghost use Rattle.sj_base.specs.Array.{zeros};
-ghost use Rattle.sj_core.specs.Fold.{given};
+ghost use Rattle.sj_lower.specs.Delivering.{deliveries_for};
 ghost use Rattle.sj_plan.specs.Rect.{Within};
 ghost use Rattle.sj_plan.specs.Window.{gathered};
-ghost use Rattle.sj_lower.specs.Delivering.{part_of};
-ghost use Rattle.starjob.specs.Gathering.{HandedOver, AreGrouped, IsIndex, IsShown, all_shown, assembled, prints_of, rect_at, shown};
+ghost use Rattle.starjob.specs.Gathering.{HandedOver, AreGrouped, IsIndex, IsShown, ShowsHanded, all_shown, array_found, assembled, part_by, prints_of, rect_at, shown};
 ghost use Rattle.starjob.specs.Output.{output, printed_block};
 
 use crate::output::write_array;
 use sj_base::memory::OutOfMemory;
 use sj_base::program::{Delivery, Program};
 use sj_base::tile::{Dims, Tile};
-use sj_board::delivered::Delivered;
+use sj_machine::delivered::Delivered;
 use sj_job::roots::Roots;
 use sj_plan::rect::Rect;
 use sj_plan::tiles::gather;
 use std::alloc::Global;
 use std::marker::Model;
 
-/// What the deliver tasks of a program handed over, each found by its task. Contracts see the program.
+/// What the deliver tasks of a program handed over, each found by its task. Contracts see both, and the table.
 #[derive(Drop)]
 struct ByTask<'a> {
     program: &'a Program,
@@ -31,12 +30,11 @@ struct ByTask<'a> {
 }
 
 impl<'a> Model for ByTask<'a> {
-    ghost use Rattle.sj_base.specs.declared.program.Program.{Program};
-    ghost use Rattle.starjob.specs.Gathering.{HandedOver, IsIndex};
+    ghost use Rattle.starjob.specs.Gathering.{Handed, HandedOver, IsIndex};
 
-    ghost Value = { Program };
+    ghost Value = { Handed };
 
-    ghost view = { λ b. b.program.now };
+    ghost view = { λ b. record { program = b.program.now; places = b.places.items; pairs = b.delivered.now.pairs } };
 
     ghost invariant = { λ b. HandedOver b.program.now b.delivered.now.pairs
         × IsIndex b.places.items b.delivered.now.pairs };
@@ -50,7 +48,9 @@ impl<'a> ByTask<'a> {
         delivered: &'a Delivered,
     ) -> Result<ByTask<'a>, OutOfMemory>
         requires { HandedOver program.now delivered.now.pairs }
-        ensures { IfOk result (λ b. b ≡ program.now) }
+        ensures program { IfOk result (λ b. b.program ≡ program.now) }
+        ensures pairs { IfOk result (λ b. b.pairs ≡ delivered.now.pairs) }
+        ensures index { IfOk result (λ b. IsIndex b.places b.pairs) }
     {
         let places = places_of(alloc, program.tasks.len(), delivered)?;
         Ok(ByTask {
@@ -60,10 +60,17 @@ impl<'a> ByTask<'a> {
         })
     }
 
+    /// The program. Constant time.
+    fn program(&self) -> &Program
+        ensures { result.now ≡ self.now.program }
+    {
+        self.program
+    }
+
     /// What a delivery's task handed over. Constant time.
     fn tile(&self, delivery: &Delivery) -> &Tile
-        requires { Contains self.now.deliveries delivery.now }
-        ensures { result.now ≡ given self.now delivery.now.task }
+        requires { Contains self.now.program.deliveries delivery.now }
+        ensures { result.now ≡ array_found self.now delivery.now.task }
     {
         self.delivered.tile(self.places[delivery.task.0 as usize])
     }
@@ -102,9 +109,10 @@ fn rect_of(delivery: &Delivery, dims: Dims) -> Rect
 
 /// Puts what deliveries handed over in their places of a tile. Linear in its elements; no memory.
 fn put_in_place(tile: &mut Tile, deliveries: &[Delivery], handed: &ByTask)
-    requires handed { All (Contains handed.now.deliveries) deliveries.now }
-    requires within { All (λ d. Within (part_of handed.now d).0 tile.old.dims) deliveries.now }
-    ensures { tile.new ≡ gathered tile.old (map (part_of handed.now) deliveries.now) }
+    requires handed { All (Contains handed.now.program.deliveries) deliveries.now }
+    requires within { All (λ d. Within (part_by (array_found handed.now) d).0 tile.old.dims)
+        deliveries.now }
+    ensures { tile.new ≡ gathered tile.old (map (part_by (array_found handed.now)) deliveries.now) }
 {
     for delivery in deliveries {
         let child = handed.tile(delivery);
@@ -114,9 +122,10 @@ fn put_in_place(tile: &mut Tile, deliveries: &[Delivery], handed: &ByTask)
 
 /// The tile that was handed over for a whole array, where there is one. Constant time.
 fn whole<'a>(dims: Dims, deliveries: &[Delivery], handed: &'a ByTask) -> Option<&'a Tile>
-    requires handed { All (Contains handed.now.deliveries) deliveries.now }
-    requires within { All (λ d. Within (part_of handed.now d).0 dims) deliveries.now }
-    ensures { IfSome result (λ tile. tile.now ≡ assembled handed.now dims deliveries.now) }
+    requires handed { All (Contains handed.now.program.deliveries) deliveries.now }
+    requires within { All (λ d. Within (part_by (array_found handed.now) d).0 dims) deliveries.now }
+    ensures { IfSome result (λ tile. tile.now
+        ≡ assembled (array_found handed.now) dims deliveries.now) }
 {
     let [one] = deliveries else {
         return None;
@@ -137,10 +146,10 @@ fn write_print(
     deliveries: &[Delivery],
     handed: &ByTask,
 ) -> Result<(), OutOfMemory>
-    requires handed { All (Contains handed.now.deliveries) deliveries.now }
-    requires shown { IsShown roots.now handed.now deliveries.now }
-    ensures { OnOk result (text.new.items
-        ≡ text.old.items ++ printed_block (shown roots.now handed.now deliveries.now)) }
+    requires handed { All (Contains handed.now.program.deliveries) deliveries.now }
+    requires shown { IsShown roots.now (array_found handed.now) deliveries.now }
+    ensures { OnOk result (text.new.items ≡ text.old.items
+        ++ printed_block (shown roots.now (array_found handed.now) deliveries.now)) }
 {
     let root = deliveries[0].root;
     let info = roots.info(root);
@@ -174,6 +183,26 @@ fn prints_of(program: &Program) -> u64
     }
 }
 
+/// What is printed of all deliveries, one print statement after another. Linear in the elements and in the text; one array is made
+/// at a time.
+fn write_prints(alloc: Global, roots: &Roots, handed: &ByTask) -> Result<Vec<u8>, OutOfMemory>
+    requires shown { (k : ℕ) → k < prints_of handed.now.program →
+        IsShown roots.now (array_found handed.now) (deliveries_for handed.now.program k) }
+    requires ascending { AllPairs (λ d e. d.print ≤ e.print) handed.now.program.deliveries }
+    ensures { IfOk result (λ text. text.items
+        ≡ output (all_shown roots.now (array_found handed.now) handed.now.program)) }
+{
+    let program = handed.program();
+    let mut text = Vec::new(alloc);
+    let mut rest = program.deliveries.items();
+    for print in 0..prints_of(program) {
+        let (these, later) = rest.split_at(count_of(rest, print));
+        write_print(alloc, &mut text, roots, these, handed)?;
+        rest = later;
+    }
+    Ok(text)
+}
+
 /// What a job prints, from what its deliver tasks handed over in whatever order: of each print statement the array that its
 /// deliveries make. Linear in the program's tasks, in the elements and in the text; one array is made at a time.
 pub fn text_of(
@@ -184,15 +213,9 @@ pub fn text_of(
 ) -> Result<Vec<u8>, OutOfMemory>
     requires handed { HandedOver program.now delivered.now.pairs }
     requires grouped { AreGrouped roots.now program.now }
-    ensures { IfOk result (λ text. text.items ≡ output (all_shown roots.now program.now)) }
+    ensures { IfOk result (λ text.
+        ShowsHanded roots.now program.now delivered.now.pairs text.items) }
 {
     let handed = ByTask::of(alloc, program, delivered)?;
-    let mut text = Vec::new(alloc);
-    let mut rest = program.deliveries.items();
-    for print in 0..prints_of(program) {
-        let (these, later) = rest.split_at(count_of(rest, print));
-        write_print(alloc, &mut text, roots, these, &handed)?;
-        rest = later;
-    }
-    Ok(text)
+    write_prints(alloc, roots, &handed)
 }

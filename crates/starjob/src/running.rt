@@ -1,101 +1,65 @@
-//! The run of a job: it is lowered, its tasks are run, and its text is written from what they hand over.
+//! The run of a job, and the text that it gives.
 
-ghost use Rattle.std.specs.Prelude.{◌≡◌, [], Ok, Err, IfOk, IfErr};
-ghost use Rattle.sj_engine.specs.Run.{IsRunnable};
-ghost use Rattle.sj_job.specs.Reading.{IsRefusal};
-ghost use Rattle.sj_job.specs.State.{start};
-ghost use Rattle.sj_job.specs.View.{job_seen, statements_of, IsNumbered};
-ghost use Rattle.sj_job.specs.Well.{IsWell};
-ghost use Rattle.sj_lower.specs.Delivering.{DeliversPrinted, NamesDeliverTasks};
-ghost use Rattle.sj_lower.specs.Job.{IsJob};
-ghost use Rattle.sj_lower.specs.Lowering.{lowered};
-ghost use Rattle.starjob.specs.Refused.{refusal_of};
+ghost use Rattle.std.specs.Prelude.{◌≡◌, ◌≤◌, ◌^◌, ◌++◌, [], Err, IfOk, Some, length, map, if◌then◌else◌};
+ghost use Rattle.sj_core.specs.Proper.{HasSwapFor};
+ghost use Rattle.sj_edge.specs.Sizes.{AreWithin};
+ghost use Rattle.sj_trace.specs.Text.{text_of as text_of_trace};
+ghost use Rattle.sj_words.specs.Options.{IsWithinLimits as AreLimited};
+ghost use Rattle.starjob.specs.Answers.{IsReady, LeavesDisks, RunsWork, status_of};
+ghost use Rattle.sj_engine.specs.Outcome.{AllTell};
+ghost use Rattle.starjob.specs.Gathering.{AreGrouped, HandedOver, ShowsRun};
 ghost use Rattle.starjob.specs.Traces.{HasOwnCodelets};
-ghost use Rattle.starjob.specs.Top.{within_limits, RunsText};
+ghost use Rattle.starjob.specs.Work.{WorkOrRefusal, work_of};
 
 use crate::gathering::text_of;
+use crate::ready::{Ready, prepare};
+use crate::stop::Stop;
 use sj_base::memory::OutOfMemory;
 use sj_base::program::Program;
 use sj_base::trace::Trace;
 use sj_codelet::set::Codelets;
 use sj_core::laws::finishes;
-use sj_engine::run::{RunOutcome, run};
-use sj_job::job::Job;
-use sj_job::reason::{LimitKind, ReadRefusal, Reason};
+use sj_edge::disk::Disk;
+use sj_edge::gate::Gate;
+use sj_engine::engine::{RunOutcome, run};
 use sj_job::roots::Roots;
-use sj_lower::lower::{LowerRefusal, LoweredJob, lower};
+use sj_machine::delivered::Delivered;
+use sj_trace::text::text as text_of_trace;
+use sj_words::Options;
 use std::alloc::Global;
-use std::sync::Arc;
+use std::sync::{Arc, Wait};
+use std::thread::Threads;
 
-/// The text that a job prints, or why there is none, and the events of its run.
+/// The text that a job prints, or why there is none; the events of its run; and the disks.
 #[derive(Drop)]
-pub struct Run {
-    pub text: Result<Vec<u8>, ReadRefusal>,
+pub struct Run<D> {
+    pub text: Result<Vec<u8>, Stop>,
     pub trace: Trace,
+    pub disks: Vec<D>,
 }
 
 /// A run that ended before its first event.
-pub fn nothing_run(alloc: Global, refusal: ReadRefusal) -> Run
-    ensures text { result.text ≡ Err refusal }
+fn nothing_run<D: Drop>(alloc: Global, stop: Stop, disks: Vec<D>) -> Run<D>
+    ensures text { result.text ≡ Err stop }
     ensures trace { result.trace.events ≡ [] }
+    ensures disks { result.disks ≡ disks }
 {
     Run {
-        text: Err(refusal),
+        text: Err(stop),
         trace: Trace::empty(alloc),
+        disks,
     }
 }
 
-/// A job's program for one worker, to be shared, and the job's roots.
-#[derive(Drop)]
-pub struct Ready {
-    pub program: Arc<Program>,
-    pub roots: Roots,
-}
-
-/// The line and the limit for which a job isn't lowered.
-fn refusal_of(refusal: LowerRefusal) -> ReadRefusal
-    ensures { result ≡ refusal_of refusal }
+/// The sizes of disks. Linear in them.
+fn sizes_of<D: Disk>(alloc: Global, disks: &[D]) -> Result<Vec<u64>, OutOfMemory>
+    ensures { IfOk result (λ sizes. sizes.items ≡ map D.size disks.now) }
 {
-    match refusal {
-        LowerRefusal::TooManyCells { line } => ReadRefusal::Refused {
-            line,
-            reason: Reason::Limit(LimitKind::Cells),
-        },
-        LowerRefusal::TooManyTasks { line } => ReadRefusal::Refused {
-            line,
-            reason: Reason::Limit(LimitKind::Tasks),
-        },
-        LowerRefusal::OutOfMemory => ReadRefusal::OutOfMemory,
+    let mut sizes = Vec::new(alloc);
+    for disk in disks {
+        sizes.push(disk.size())?;
     }
-}
-
-/// A lowered job whose program can be shared.
-fn made_ready(alloc: Global, job: LoweredJob) -> Result<Ready, OutOfMemory>
-    ensures program { IfOk result (λ r. r.program.value ≡ job.program) }
-    ensures roots { IfOk result (λ r. r.roots ≡ job.roots) }
-{
-    let LoweredJob { program, roots } = job;
-    let program = Arc::new(alloc, program)?;
-    Ok(Ready { program, roots })
-}
-
-/// The program of a job, for one worker, to be shared. The cost of lowering.
-pub fn program_of(alloc: Global, job: Job) -> Result<Ready, ReadRefusal>
-    requires job { IsJob (statements_of job) }
-    requires numbered { IsNumbered job.roots job.statements }
-    ensures is { IfOk result (λ r. r.program.value ≡ lowered (statements_of job) 1) }
-    ensures within { IfOk result (λ r.
-        within_limits (Ok (job_seen job)) ≡ Ok (job_seen job)) }
-    ensures runnable { IfOk result (λ r. IsRunnable r.program.value) }
-    ensures prints { IfOk result (λ r.
-        DeliversPrinted r.roots r.program.value (statements_of job)) }
-    ensures handed_over { IfOk result (λ r. NamesDeliverTasks r.program.value) }
-    ensures refused { IfErr result (λ e. IsRefusal e (within_limits (Ok (job_seen job)))) }
-{
-    match lower(alloc, job, 1) {
-        Ok(lowered) => Ok(made_ready(alloc, lowered)?),
-        Err(refusal) => Err(refusal_of(refusal)),
-    }
+    Ok(sizes)
 }
 
 /// A program to be run, and to be looked at afterwards.
@@ -105,41 +69,109 @@ fn shared(program: &Arc<Program>) -> Result<Arc<Program>, OutOfMemory>
     Ok(program.clone()?)
 }
 
-/// Runs a job by one worker, task after task in submission order. The cost of lowering, of the kernels, and of the text; linear
-/// in the elements that tasks touch.
-pub fn run_job<C: Codelets>(alloc: Global, job: Job, codelets: &C) -> Run
-    requires job { IsWell C.has 0 start (statements_of job) }
-    requires numbered { IsNumbered job.roots job.statements }
-    requires own { HasOwnCodelets C.has }
-    ensures { RunsText (within_limits (Ok (job_seen job))) result.text result.trace.events }
+/// The text of what a run handed over, and that of its trace where it is to follow. Linear in both.
+fn shown(
+    alloc: Global,
+    roots: &Roots,
+    program: &Program,
+    delivered: &Delivered,
+    trace: &Trace,
+    shows_trace: bool,
+) -> Result<Vec<u8>, OutOfMemory>
+    requires handed { HandedOver program.now delivered.now.pairs }
+    requires grouped { AreGrouped roots.now program.now }
+    ensures { IfOk result (λ text. ShowsRun roots.now program.now delivered.now.pairs
+        (if shows_trace then text_of_trace trace.now.events else []) text.items) }
+{
+    let mut text = text_of(alloc, roots, program, delivered)?;
+    if shows_trace {
+        let events = text_of_trace(alloc, trace)?;
+        text.extend_from_slice(&events)?;
+    }
+    Ok(text)
+}
+
+/// Runs what was made ready. The cost of the run, and of the text.
+fn run_ready<C: Codelets, G: Gate, D: Disk + Send, R: Threads + Wait + Sync>(
+    rt: &R,
+    alloc: Global,
+    ready: Ready,
+    disks: Vec<D>,
+    codelets: &C,
+    gate: &G,
+) -> Run<D>
+    requires ready { (asked : WorkOrRefusal) × IsReady C.has asked ready }
+    requires swap { HasSwapFor ready.program.value ready.machine }
+    requires disks { ready.machine.disks ≡ map D.size disks.items }
+    ensures runs { (asked : WorkOrRefusal) → IsReady C.has asked ready →
+        RunsWork asked (AllTell D.held disks.items) result.text result.trace.events }
+    ensures disks { (asked : WorkOrRefusal) → IsReady C.has asked ready →
+        LeavesDisks D.size D.faults D.mismatches D.held (Some asked) (status_of result.text)
+        result.trace.events disks.items result.disks.items }
 {
     finishes();
-    let ready = match program_of(alloc, job) {
-        Ok(ready) => ready,
-        Err(refusal) => return nothing_run(alloc, refusal),
-    };
-    let Ok(shared) = shared(&ready.program) else {
-        return nothing_run(alloc, ReadRefusal::OutOfMemory);
+    let Ready {
+        program,
+        roots,
+        machine,
+        shows_trace,
+    } = ready;
+    let Ok(shared) = shared(&program) else {
+        return nothing_run(alloc, Stop::OutOfMemory, disks);
     };
     let RunOutcome {
         result,
         delivered,
         trace,
-    } = run(alloc, shared, codelets);
-    match result {
-        Ok(()) => match text_of(alloc, &ready.roots, &ready.program, &delivered) {
-            Ok(text) => Run {
-                text: Ok(text),
-                trace,
-            },
-            Err(_) => Run {
-                text: Err(ReadRefusal::OutOfMemory),
-                trace,
-            },
+        disks,
+    } = run(rt, alloc, shared, machine, disks, codelets, gate);
+    if let Err(fault) = result {
+        return Run {
+            text: Err(Stop::from(fault)),
+            trace,
+            disks,
+        };
+    }
+    match shown(alloc, &roots, &program, &delivered, &trace, shows_trace) {
+        Ok(text) => Run {
+            text: Ok(text),
+            trace,
+            disks,
         },
         Err(_) => Run {
-            text: Err(ReadRefusal::OutOfMemory),
+            text: Err(Stop::OutOfMemory),
             trace,
+            disks,
         },
+    }
+}
+
+/// Runs a job text on the machine that words ask for, else its settings, with these disks. The cost of reading, lowering and
+/// running it, and of the text; the workers go on side by side.
+pub fn run_text<C: Codelets, G: Gate, D: Disk + Send, R: Threads + Wait + Sync>(
+    rt: &R,
+    alloc: Global,
+    text: &[u8],
+    options: &Options,
+    disks: Vec<D>,
+    codelets: &C,
+    gate: &G,
+) -> Run<D>
+    requires own { HasOwnCodelets C.has }
+    requires options { AreLimited options.now }
+    requires few { length disks.items ≤ 16 }
+    requires small { AreWithin D.size (2 ^ 40) disks.items }
+    ensures runs { RunsWork (work_of C.has options.now (map D.size disks.items) text.now)
+        (AllTell D.held disks.items) result.text result.trace.events }
+    ensures disks { LeavesDisks D.size D.faults D.mismatches D.held
+        (Some (work_of C.has options.now (map D.size disks.items) text.now))
+        (status_of result.text) result.trace.events disks.items result.disks.items }
+{
+    let Ok(sizes) = sizes_of(alloc, &disks) else {
+        return nothing_run(alloc, Stop::OutOfMemory, disks);
+    };
+    match prepare(alloc, text, options, sizes, codelets) {
+        Ok(ready) => run_ready(rt, alloc, ready, disks, codelets, gate),
+        Err(stop) => nothing_run(alloc, stop, disks),
     }
 }

@@ -5,19 +5,18 @@ use Rattle.sj_base.specs.declared.tile.Dims.{Dims}
 use Rattle.sj_base.specs.Array.{Array}
 use Rattle.sj_plan.specs.declared.rect.Rect.{Rect}
 use Rattle.sj_plan.specs.Window.{gathered, with_window}
-use Rattle.sj_lower.specs.Delivering.{part_of}
-use Rattle.starjob.specs.Gathering.{no_delivery, rect_at}
+use Rattle.starjob.specs.Gathering.{array_found, no_delivery, part_by, rect_at}
 use Rattle.starjob.proofs.gathering.put_in_place.Goals as goal
 
 pub loop-delivery-preserved : goal.loop-delivery-preserved
 loop-delivery-preserved c =
-    let p = c.args.handed.now in
+    let arrays = array_found c.args.handed.now in
     let ds = c.args.deliveries.now in
     let i = c.loop-delivery.delivery-index in
     let d = get_or ds i no_delivery in
     let tile = c.loop-delivery.tile in
     let child = c.tile-child.result.now in
-    let rest = λ (t : Array) (es : List Delivery). gathered t (map (part_of p) es) in
+    let rest = λ (t : Array) (es : List Delivery). gathered t (map (part_by arrays) es) in
     let put : c.gather.new.into ≡ with_window tile (rect_at d child.dims) child = c.gather.ensures.with_window ∙ ap (λ (r : Rect). with_window tile r child) (c.rect_of.ensures ∙ ap (rect_at d) c.dims.ensures.dims) in
     record {
       dims = ap (λ (a : Array). a.dims) put ∙ c.loop-delivery.invariant.dims;

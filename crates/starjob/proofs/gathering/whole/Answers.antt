@@ -4,7 +4,7 @@ use Rattle.std.proofs.lemmas.Bool.Decides.{Decides-eqb}
 use Rattle.sj_base.specs.declared.program.Delivery.{Delivery}
 use Rattle.sj_base.specs.declared.tile.Dims.{Dims}
 use Rattle.sj_base.specs.Array.{Array}
-use Rattle.starjob.specs.Gathering.{no_delivery}
+use Rattle.starjob.specs.Gathering.{array_found, no_delivery}
 use Rattle.starjob.proofs.Placing.{assembled-whole}
 use Rattle.starjob.proofs.gathering.whole.Goals as goal
 
@@ -14,4 +14,4 @@ returns-then-eq c =
     let rows : c.dims.result.rows ≡ c.args.dims.rows = (Decides-eqb c.dims.result.rows c.args.dims.rows).0 tests.0 in
     let cols : c.dims.result.cols ≡ c.args.dims.cols = (Decides-eqb c.dims.result.cols c.args.dims.cols).0 tests.1 in
     let same : c.dims.result ≡ c.args.dims = λ i. record { rows = rows i; cols = cols i } in
-    assembled-whole c.args.handed.now c.args.dims c.args.deliveries.now no_delivery c.tile-tile.result.now (omega (arith, c.in-len1.len_at_least, c.in-len1.len_below)) c.tile-tile.ensures (sym c.dims.ensures.dims ∙ same) c.dims.ensures.whole c.requires.within
+    assembled-whole (array_found c.args.handed.now) c.args.dims c.args.deliveries.now no_delivery c.tile-tile.result.now (omega (arith, c.in-len1.len_at_least, c.in-len1.len_below)) c.tile-tile.ensures (sym c.dims.ensures.dims ∙ same) c.dims.ensures.whole c.requires.within

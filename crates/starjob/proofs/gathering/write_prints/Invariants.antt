@@ -2,13 +2,13 @@ use Rattle.std.proofs.Common.{◌≡◌, map, nat_le}
 use Rattle.std.specs.Prelude.{filter}
 use Rattle.std.specs.List.{range_with_len}
 use Rattle.sj_lower.specs.Delivering.{deliveries_for}
-use Rattle.starjob.specs.Gathering.{shown}
+use Rattle.starjob.specs.Gathering.{array_found, shown}
 use Rattle.starjob.specs.Output.{output}
-use Rattle.starjob.proofs.gathering.text_of.Given as goal
+use Rattle.starjob.proofs.gathering.write_prints.Given as goal
 
 -- the print statements so far are written, and the deliveries of the others are left
 abbrev pub invariant-loop-print : goal.invariant-loop-print
 invariant-loop-print l = record {
-  text : l.text.items ≡ output (map (λ k. shown l.roots l.program (deliveries_for l.program k)) (range_with_len 0 l.print));
-  rest : l.rest ≡ filter (λ d. nat_le l.print d.print) l.program.deliveries;
+  text : l.text.items ≡ output (map (λ k. shown l.roots (array_found l.handed) (deliveries_for l.handed.program k)) (range_with_len 0 l.print));
+  rest : l.rest ≡ filter (λ d. nat_le l.print d.print) l.handed.program.deliveries;
 }

@@ -1,0 +1,92 @@
+-- From a run's outcome to the text of what was asked for.
+use Rattle.std.proofs.Common.{◌≡◌, ℕ, Bool, true, false, cond, List, [], ◌++◌, length, map, Option, Some, None, Ok, Err, IsOkAnd, refl, ap, sym, subst, ◌∙◌}
+use Rattle.std.specs.List.{range_with_len}
+use Rattle.std.proofs.lemmas.List.{append-nil}
+use Rattle.sj_base.specs.declared.ids.Task.{Task}
+use Rattle.sj_base.specs.declared.program.Machine.{Machine}
+use Rattle.sj_base.specs.declared.program.Program.{Program}
+use Rattle.sj_base.specs.declared.trace.Event.{Event}
+use Rattle.sj_base.specs.Array.{Array}
+use Rattle.sj_codelet.specs.declared.kernel.Kernel.{Kernel}
+use Rattle.sj_core.specs.Fold.{given}
+use Rattle.sj_core.specs.Legal.{IsFinished, IsLegal}
+use Rattle.sj_core.specs.Once.{EachRanOnce}
+use Rattle.sj_job.specs.Meaning.{printed}
+use Rattle.sj_lower.specs.Delivering.{deliveries_for}
+use Rattle.sj_machine.specs.Delivered.{DeliversEach}
+use Rattle.sj_machine.specs.declared.fault.RunFault.{RunFault}
+use Rattle.sj_machine.specs.declared.fault.RunFault.TheVariants as running
+use Rattle.sj_trace.specs.Text.{text_of as text_of_trace}
+use Rattle.starjob.specs.declared.ready.Ready.{Ready}
+use Rattle.starjob.specs.declared.stop.Stop.{Stop}
+use Rattle.starjob.specs.declared.stop.Stop.TheVariants.{Refused, TooLarge, SwapTooSmall, DiskFault, Damaged, OutOfMemory}
+use Rattle.starjob.specs.Answers.{IsReady, IsStopped, IsTextOf, StopsWith}
+use Rattle.starjob.specs.Gathering.{ShowsRun, all_shown, prints_of, shown}
+use Rattle.starjob.specs.Output.{output}
+use Rattle.starjob.specs.Stops.{after_running}
+use Rattle.starjob.specs.Top.{PrintsNothing, text_of}
+use Rattle.starjob.specs.Traces.{Began, BeganWork, RanWhole}
+use Rattle.starjob.specs.Work.{Work, WorkOrRefusal, program_of}
+use Rattle.starjob.proofs.Handing.{same-shown}
+use Rattle.starjob.proofs.Showing.{all-shown, count-prints}
+use Rattle.starjob.proofs.Tracing.{began_empty}
+
+-- what comes behind the arrays
+abbrev pub behind : Bool → List Event → List ℕ
+behind b trace = cond b (text_of_trace trace) []
+
+module _ (has : Kernel → Bool) (asked : WorkOrRefusal) (r : Ready) (ready : IsReady has asked r) where
+  abbrev p : Program
+  p = r.program.value
+
+  abbrev w : Work
+  w = ready.work
+
+  pub legal-work : (trace : List Event) → IsLegal p r.machine trace → IsOkAnd asked (BeganWork trace)
+  legal-work trace h =
+      subst (λ (a : WorkOrRefusal). IsOkAnd a (BeganWork trace)) (sym ready.asked_for)
+      (subst (λ (m : Machine). IsLegal (program_of w) m trace) ready.machine_is (subst (λ (q : Program). IsLegal q r.machine trace) ready.program_is h))
+
+  ran-work : (trace : List Event) → IsFinished p r.machine trace → EachRanOnce p trace → RanWhole trace w
+  ran-work trace finished once = record {
+    finished = subst (λ (m : Machine). IsFinished (program_of w) m trace) ready.machine_is (subst (λ (q : Program). IsFinished q r.machine trace) ready.program_is finished);
+    each_once = subst (λ (q : Program). EachRanOnce q trace) ready.program_is once;
+  }
+
+  module _ (Tells : Type 0) (pairs : List (Task × Array)) (trace : List Event) (text : List ℕ) (each : DeliversEach p Tells pairs) (shows : ShowsRun r.roots p pairs (behind r.shows_trace trace) text) where
+    told : Tells → text ≡ text_of trace w
+    told tells =
+        let same = same-shown r.roots p pairs shows.shows.arrays shows.shows.among (each.arrays tells) in
+        let arrays : shows.arrays_text ≡ output (printed w.statements) = shows.shows.text_is ∙ ap output (same ∙ all-shown r.roots p w.statements ready.prints) in
+        shows.behind ∙ ap (λ (xs : List ℕ). xs ++ behind r.shows_trace trace) arrays ∙ ap (λ (b : Bool). output (printed w.statements) ++ behind b trace) ready.trace_is
+
+    silent : PrintsNothing w → text ≡ []
+    silent nothing =
+        let none : prints_of p ≡ 0 = count-prints r.roots p w.statements ready.prints ∙ ap length nothing.no_array in
+        let arrays : shows.arrays_text ≡ [] = shows.shows.text_is ∙ ap (λ (n : ℕ). output (map (λ k. shown r.roots shows.shows.arrays (deliveries_for p k)) (range_with_len 0 n))) none in
+        shows.behind ∙ ap (λ (xs : List ℕ). xs ++ behind r.shows_trace trace) arrays ∙ ap (λ (b : Bool). behind b trace) (ready.trace_is ∙ nothing.no_trace)
+
+    pub shows-work : IsFinished p r.machine trace → EachRanOnce p trace → IsOkAnd asked (IsTextOf Tells trace text)
+    shows-work finished once =
+        subst (λ (a : WorkOrRefusal). IsOkAnd a (IsTextOf Tells trace text)) (sym ready.asked_for) (record { told = told; ran = ran-work trace finished once; silent = silent })
+
+-- a run that broke off
+pub stops-broken : (asked : WorkOrRefusal) (fault : RunFault) (trace : List Event) → IsOkAnd asked (BeganWork trace) → StopsWith asked (after_running fault) trace
+stops-broken asked (running.DiskFault disk) trace h = h
+stops-broken asked (running.Damaged disk want found) trace h = h
+stops-broken (Ok w) running.OutOfMemory trace h = h
+stops-broken (Err e) running.OutOfMemory trace h = absurd h
+
+-- memory ran out behind the run
+pub stops-untold : (asked : WorkOrRefusal) (trace : List Event) → IsOkAnd asked (BeganWork trace) → Began trace asked
+stops-untold (Ok w) trace h = h
+stops-untold (Err e) trace h = absurd h
+
+-- nothing was run
+pub stops-unrun : (asked : WorkOrRefusal) (stop : Stop) (trace : List Event) → IsStopped asked stop → trace ≡ [] → StopsWith asked stop trace
+stops-unrun asked (Refused line reason) trace h e = (h, e)
+stops-unrun asked (TooLarge line bytes) trace h e = (h, e)
+stops-unrun asked (SwapTooSmall needed have) trace h e = (h, e)
+stops-unrun asked (DiskFault disk) trace h e = absurd h
+stops-unrun asked (Damaged disk want found) trace h e = absurd h
+stops-unrun asked OutOfMemory trace h e = began_empty asked trace e

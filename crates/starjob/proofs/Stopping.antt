@@ -1,0 +1,44 @@
+-- Why nothing is run: from what refused it to what was asked for.
+use Rattle.std.proofs.Common.{◌≡◌, ℕ, List, Option, Some, None, Result, Ok, Err, IsOkAnd, ap, subst, sym, refl, ◌∙◌}
+use Rattle.sj_base.specs.declared.program.Machine.{Machine}
+use Rattle.sj_base.specs.declared.program.Program.{Program}
+use Rattle.sj_job.specs.Job.{Job}
+use Rattle.sj_job.specs.Reading.{IsRefusal, Refusal}
+use Rattle.sj_job.specs.declared.reason.ReadRefusal.{ReadRefusal}
+use Rattle.sj_job.specs.declared.reason.ReadRefusal.TheVariants as reading
+use Rattle.sj_lower.specs.Limits.{late_limit}
+use Rattle.sj_lower.specs.Progress.{IsLate}
+use Rattle.sj_lower.specs.declared.lower.LowerRefusal.{LowerRefusal}
+use Rattle.sj_lower.specs.declared.lower.LowerRefusal.TheVariants as lowering
+use Rattle.sj_needs.specs.Shortage.{IsShortage, IsSwapTooSmall, IsTooLarge}
+use Rattle.sj_needs.specs.declared.shortage.Shortage.{Shortage}
+use Rattle.sj_needs.specs.declared.shortage.Shortage.TheVariants as fitting
+use Rattle.sj_words.specs.declared.options.Options.{Options}
+use Rattle.starjob.specs.Answers.{IsStopped}
+use Rattle.starjob.specs.Stops.{after_fitting, after_lowering, after_reading}
+use Rattle.starjob.specs.Work.{Work, WorkOrRefusal, asked_by, program_of, within_limits}
+
+abbrev limited : Work → Option Refusal → WorkOrRefusal
+limited w late = elim late [ None ↦ Ok w | Some e ↦ Err e ]
+
+pub within : (w : Work) → late_limit w.statements ≡ None → within_limits w ≡ Ok w
+within w e = ap (limited w) e
+
+pub stopped-lowering : (w : Work) (e : LowerRefusal) → IsLate e (late_limit w.statements) → IsStopped (within_limits w) (after_lowering e)
+stopped-lowering w (lowering.TooManyCells line) h = ap (limited w) h
+stopped-lowering w (lowering.TooManyTasks line) h = ap (limited w) h
+stopped-lowering w lowering.OutOfMemory h = tt
+
+-- a line that is refused is refused before any limit of lowering
+pub stopped-reading : (o : Options) (disks : List ℕ) (job : Result Job Refusal) (e : ReadRefusal) → IsRefusal e job → IsStopped (asked_by o disks job) (after_reading e)
+stopped-reading o disks job (reading.Refused line reason) h = ap (asked_by o disks) h
+stopped-reading o disks job reading.OutOfMemory h = tt
+
+pub stopped-fitting : (asked : WorkOrRefusal) (w : Work) (p : Program) (m : Machine) (e : Shortage) → asked ≡ Ok w → p ≡ program_of w → m ≡ w.machine → IsShortage p m e → IsStopped asked (after_fitting e)
+stopped-fitting asked w p m (fitting.TooLarge line bytes) is same on h =
+    subst (λ (a : WorkOrRefusal). IsOkAnd a (λ v. IsTooLarge (program_of v) v.machine line bytes)) (sym is)
+    (subst (λ (q : Program). IsTooLarge q w.machine line bytes) same (subst (λ (n : Machine). IsTooLarge p n line bytes) on h))
+stopped-fitting asked w p m (fitting.SwapTooSmall needed have) is same on h =
+    subst (λ (a : WorkOrRefusal). IsOkAnd a (λ v. IsSwapTooSmall (program_of v) v.machine needed have)) (sym is)
+    (subst (λ (q : Program). IsSwapTooSmall q w.machine needed have) same (subst (λ (n : Machine). IsSwapTooSmall p n needed have) on h))
+stopped-fitting asked w p m fitting.OutOfMemory is same on h = tt
