@@ -1,10 +1,12 @@
 -- From the text that was read and what was written to what the call promises.
-use Rattle.std.proofs.Common.{◌≡◌, ◌<◌, ◌≤◌, Bool, true, false, cond, ℕ, suc, List, [], ◌∷◌, length, arith, refl, ap, sym, subst, Option, Some, None, Result, Ok, Err, IfSome, IsSomeAnd, IsOk, IsOkAnd}
+use Rattle.std.proofs.Common.{◌≡◌, ◌≢◌, ◌<◌, ◌≤◌, Bool, true, false, cond, ℕ, suc, List, [], ◌∷◌, length, arith, refl, ap, sym, subst, Option, Some, None, Result, Ok, Err, IfSome, IsSomeAnd, IsOk, IsOkAnd}
 use Rattle.std.specs.Prelude.{Contains, IsTrue, find, is_some, map, option_map}
 use Rattle.std.proofs.lemmas.Bool.Decides.{nat_tests}
 use Rattle.std.proofs.lemmas.List.Elements.{All-contains}
 use Rattle.std.proofs.lemmas.Option.{same_Some}
+use Rattle.sj_base.specs.declared.ids.DiskNo.{DiskNo}
 use Rattle.sj_base.specs.declared.ids.Line.{Line}
+use Rattle.sj_disk.specs.declared.header.Header.{Header}
 use Rattle.sj_base.specs.declared.program.Machine.{Machine}
 use Rattle.sj_base.specs.declared.program.Program.{Program}
 use Rattle.sj_core.specs.Needs.{footprint, place, room}
@@ -26,9 +28,9 @@ use Rattle.starjob.specs.declared.stop.Stop.TheVariants as stops
 use Rattle.starjob.specs.Device.{Device}
 use Rattle.starjob.specs.Disks.{NoneRose}
 use Rattle.starjob.specs.Streams.{IsRead, TakesPrefix}
-use Rattle.starjob.specs.Top.{CanBeRun, IsDoneOrOutOfMemory, MemoryRanOut, PrintsNothing, text_of}
+use Rattle.starjob.specs.Top.{CanBeRun, IsDoneOrOutOfMemory, MemoryRanOut, PrintsNothing, RunBrokeOff, text_of}
 use Rattle.starjob.specs.Traces.{Began, BeganWork, RanWhole}
-use Rattle.starjob.specs.Work.{OfWork, TellsWork, Work, WorkOrRefusal, asked_by, program_of, within_limits, work_of, work_with}
+use Rattle.starjob.specs.Work.{OfWork, TellsWork, Work, WorkOrRefusal, asked_by, program_of, work_of, work_told}
 use Rattle.starjob.proofs.ReadingWhole.{short}
 use Rattle.starjob.proofs.Tracing.{began_empty}
 
@@ -188,3 +190,23 @@ complete-by size faults mismatches held asked Tells (Damaged disk want found) so
 complete-by size faults mismatches held asked Tells SourceFault source source' out out' trace old new a d can s k f m = absurd (s a.cause.count_rose)
 complete-by size faults mismatches held asked Tells SinkFault source source' out out' trace old new a d can s k f m = absurd (k a.cause.count_rose)
 complete-by size faults mismatches held asked Tells OutOfMemory source source' out out' trace old new a d can s k f m = tt
+
+-- ---- from the answer to the words, to the clauses of the call
+
+pub not-usage : (asked : Option WorkOrRefusal) (Tells : Type 0) (status : Status) (source source' out out' : Device) (trace : List Event) → Answered asked Tells status source source' out out' trace → status ≡ Usage → ⊥
+not-usage asked Tells status source source' out out' trace a e = subst (λ (s : Status). Answered asked Tells s source source' out out' trace) e a
+
+pub broken-by : (asked : Option WorkOrRefusal) (Tells : Type 0) (status : Status) (source source' out out' : Device) (trace : List Event) (disk : DiskNo) → (status ≢ Usage → Answered asked Tells status source source' out out' trace) → status ≡ DiskFault disk → RunBrokeOff asked source source' trace
+broken-by asked Tells status source source' out out' trace disk a e = subst (λ (s : Status). Answered asked Tells s source source' out out' trace) e (a (λ u. the ⊥ cc))
+
+pub damaged-by : (asked : Option WorkOrRefusal) (Tells : Type 0) (status : Status) (source source' out out' : Device) (trace : List Event) (disk : DiskNo) (want found : Header) → (status ≢ Usage → Answered asked Tells status source source' out out' trace) → status ≡ Damaged disk want found → RunBrokeOff asked source source' trace
+damaged-by asked Tells status source source' out out' trace disk want found a e = subst (λ (s : Status). Answered asked Tells s source source' out out' trace) e (a (λ u. the ⊥ cc))
+
+-- where work can be run the words are accepted
+accepted : (has : Kernel → Bool) (o : Option Options) (sizes : List ℕ) (bytes : Option (List ℕ)) → CanBeRun (work_told has o sizes bytes) → o ≡ None → ⊥
+accepted has None sizes bytes can e = can
+accepted has (Some options) sizes bytes can e = cc
+
+pub complete-of : {D : Type 0} (size faults mismatches : D → ℕ) (held : D → Option (List ℕ)) (has : Kernel → Bool) (o : Option Options) (sizes : List ℕ) (bytes : Option (List ℕ)) (Tells : Type 0) (status : Status) (source source' out out' : Device) (trace : List Event) (old new : List D) → (status ≡ Usage → o ≡ None) → (status ≢ Usage → Answered (work_told has o sizes bytes) Tells status source source' out out' trace) → LeavesDisks size faults mismatches held (work_told has o sizes bytes) status trace old new → CanBeRun (work_told has o sizes bytes) → (Rose source.faults source'.faults → ⊥) → (Rose out.faults out'.faults → ⊥) → NoneRose (map faults old) (map faults new) → NoneRose (map mismatches old) (map mismatches new) → IsDoneOrOutOfMemory status
+complete-of size faults mismatches held has o sizes bytes Tells status source source' out out' trace old new usage a d can s k f m =
+    complete-by size faults mismatches held (work_told has o sizes bytes) Tells status source source' out out' trace old new (a (λ u. accepted has o sizes bytes can (usage u))) d can s k f m

@@ -26,7 +26,7 @@ returns-in_default-clause-disks g c =
     none.ensures.text (ap (λ (v : Vec g.row.D.Denot Global). v.items) none.ensures.disks) tt
 
 pub prepare-requires-clause-small : goal.prepare-requires-clause-small
-prepare-requires-clause-small g c =
+prepare-requires-clause-small g c κs within =
     let sizes = c.in-Ok.ensures ∙ ap (map g.D.Disk.size) c.deref.ensures.value in
     subst (λ (ns : List ℕ). All (λ n. n ≤ 2 ^ 40) ns) (sym sizes) (All-map (λ n. n ≤ 2 ^ 40) g.D.Disk.size c.args.disks.items c.requires.small)
 
