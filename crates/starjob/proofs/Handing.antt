@@ -85,6 +85,9 @@ tasks_in pairs = map (λ (pair : Task × Array). pair.0) pairs
 abbrev task_at : ℕ → Task
 task_at n = record { 0 = n }
 
+abbrev counted_as : Bool → ℕ
+counted_as b = cond b 1 0
+
 -- a task that is counted is there
 one-counted : (t : Task) (pairs : List (Task × Array)) → 0 < times_delivered pairs t → Contains (tasks_in pairs) t
 one-counted t [] some = absurd (omega arith)
@@ -93,8 +96,8 @@ one-counted t (pair ∷ pairs) some = by_first (nat_eq pair.0.0 t.0) refl (one-c
     by_first : (b : Bool) → nat_eq pair.0.0 t.0 ≡ b → (0 < times_delivered pairs t → Contains (tasks_in pairs) t) → Contains (pair.0 ∷ tasks_in pairs) t
     by_first true e later = (0, omega arith, ap task_at ((Decides-eqb pair.0.0 t.0).0 e))
     by_first false e later =
-        let n : times_delivered (pair ∷ pairs) t ≡ cond (nat_eq pair.0.0 t.0) 1 0 + times_delivered pairs t = sum_by-cons (λ (d : Task × Array). cond (nat_eq d.0.0 t.0) 1 0) pair pairs in
-        let none : cond (nat_eq pair.0.0 t.0) 1 0 ≡ 0 = ap (λ (b : Bool). cond b 1 0) e in
+        let n : times_delivered (pair ∷ pairs) t ≡ counted_as (nat_eq pair.0.0 t.0) + times_delivered pairs t = sum_by-cons (λ (d : Task × Array). cond (nat_eq d.0.0 t.0) 1 0) pair pairs in
+        let none : counted_as (nat_eq pair.0.0 t.0) ≡ counted_as false = ap counted_as e in
         let h = later (omega (arith, n, none, some)) in
         (suc h.0, omega (arith, h.1), h.2)
 

@@ -1,5 +1,5 @@
 -- How disks come back.
-use Rattle.std.proofs.Common.{◌≡◌, ℕ, ◌<◌, List, Option, Some, None, length, map, get_or, refl, sym, ap, ◌∙◌, subst, arith}
+use Rattle.std.proofs.Common.{◌≡◌, ℕ, ◌<◌, List, Option, Some, None, Result, Ok, Err, length, map, get_or, refl, sym, ap, ◌∙◌, subst, arith}
 use Rattle.std.specs.Prelude.{IsSomeAnd, option_map, slice_get}
 use Rattle.std.proofs.lemmas.List.{length-map}
 use Rattle.std.proofs.lemmas.Option.{slice_get_cases, slice_get-get_or, slice_get-map, slice_get_within}
@@ -18,7 +18,8 @@ use Rattle.starjob.specs.declared.status.Status.{Status}
 use Rattle.starjob.specs.declared.status.Status.TheVariants as status
 use Rattle.starjob.specs.declared.stop.Stop.{Stop}
 use Rattle.starjob.specs.declared.stop.Stop.TheVariants.{Refused, TooLarge, SwapTooSmall, DiskFault, Damaged, OutOfMemory}
-use Rattle.starjob.specs.Answers.{IsBehindTheRun, IsDamage, IsStopped, LeavesDisks, status_of_stop}
+use Rattle.starjob.specs.Answers.{IsBehindTheRun, IsDamage, IsStopped, LeavesDisks, WritesText, status_of, status_of_stop}
+use Rattle.starjob.specs.Device.{Device}
 use Rattle.starjob.specs.Disks.{RoseAt}
 use Rattle.starjob.specs.Stops.{after_running}
 use Rattle.starjob.specs.Work.{OfWork, WorkOrRefusal, program_of}
@@ -92,6 +93,11 @@ module _ {D : Type 0} (size faults mismatches : D → ℕ) (held : D → Option 
   pub leaves-stopped : (of : WorkOrRefusal) (asked : Option WorkOrRefusal) (stop : Stop) (trace : List Event) (disks : List D) → IsStopped of stop → LeavesDisks size faults mismatches held asked (status_of_stop stop) trace disks disks
   leaves-stopped of asked stop trace disks h = leaves-same asked (status_of_stop stop) trace disks (not-behind stop) (no-fault of stop h) (no-damage of stop h)
 
+  pub leaves-nothing : {A : Type 0} (of : WorkOrRefusal) (asked : Option WorkOrRefusal) (stop : Stop) (text : Result A Stop) (trace : List Event) (old new : List D) → text ≡ Err stop → new ≡ old → IsStopped of stop → LeavesDisks size faults mismatches held asked (status_of text) trace old new
+  leaves-nothing {A} of asked stop text trace old new e same h =
+      subst (λ (r : Result A Stop). LeavesDisks size faults mismatches held asked (status_of r) trace old new) (sym e)
+      (subst (λ (ds : List D). LeavesDisks size faults mismatches held asked (status_of_stop stop) trace old ds) (sym same) (leaves-stopped of asked stop trace old h))
+
   -- disks of a run that came to its end
   pub leaves-run : (asked : Option WorkOrRefusal) (trace : List Event) (old new : List D) → AreGivenBack size faults mismatches held old new → CountsStay faults mismatches old new → (AllTell held old → OfWork asked (λ w. HoldBlocks held (program_of w) w.machine trace new)) → LeavesDisks size faults mismatches held asked status.Done trace old new
   leaves-run asked trace old new back stay blocks = record {
@@ -152,3 +158,41 @@ module _ {D : Type 0} (size faults mismatches : D → ℕ) (held : D → Option 
       by_parts : (d : DiskNo) (w f : Header) (disk : DiskNo) (want found : Header) → status.Damaged d w f ≡ status.Damaged disk want found → IsDamage (AllTell held old) d w f (map mismatches old) (map mismatches new) → IsDamage (AllTell held old) disk want found (map mismatches old) (map mismatches new)
       by_parts d w f disk want found e is = subst (λ (s : Status). elim s as (λ _. Type 0) [ status.Damaged x y z ↦ IsDamage (AllTell held old) x y z (map mismatches old) (map mismatches new) | _ ↦ ⊥ ]) e is
   leaves-broken asked running.OutOfMemory trace old new back cause = leaves-untold asked trace old new back
+
+  -- the text was written, or not
+  pub leaves-written : (asked : Option WorkOrRefusal) (text : List ℕ) (ended : Status) (out out' : Device) (trace : List Event) (old new : List D) → WritesText text ended out out' → LeavesDisks size faults mismatches held asked status.Done trace old new → LeavesDisks size faults mismatches held asked ended trace old new
+  leaves-written asked text status.Done out out' trace old new written done = done
+  leaves-written asked text status.SinkFault out out' trace old new written done = leaves-unwritten asked trace old new done
+  leaves-written asked text status.Usage out out' trace old new written done = absurd written
+  leaves-written asked text (status.Refused line reason) out out' trace old new written done = absurd written
+  leaves-written asked text (status.TooLarge line bytes) out out' trace old new written done = absurd written
+  leaves-written asked text (status.SwapTooSmall needed have) out out' trace old new written done = absurd written
+  leaves-written asked text (status.DiskFault disk) out out' trace old new written done = absurd written
+  leaves-written asked text (status.Damaged disk want found) out out' trace old new written done = absurd written
+  leaves-written asked text status.SourceFault out out' trace old new written done = absurd written
+  leaves-written asked text status.OutOfMemory out out' trace old new written done = absurd written
+
+  -- the same of what was asked for in other words
+  pub leaves-as : (asked asked' : Option WorkOrRefusal) (ended : Status) (trace : List Event) (old new : List D) → (OfWork asked (λ w. HoldBlocks held (program_of w) w.machine trace new) → OfWork asked' (λ w. HoldBlocks held (program_of w) w.machine trace new)) → LeavesDisks size faults mismatches held asked ended trace old new → LeavesDisks size faults mismatches held asked' ended trace old new
+  leaves-as asked asked' ended trace old new to leaves = record {
+    given_back = leaves.given_back;
+    untouched = leaves.untouched;
+    counts_stay = leaves.counts_stay;
+    blocks = λ h tells. to (leaves.blocks h tells);
+    fault = leaves.fault;
+    damage = leaves.damage;
+  }
+
+  same-unread : (asked : Option WorkOrRefusal) (ended is : Status) (trace : List Event) (old new : List D) → ended ≡ is → new ≡ old → LeavesDisks size faults mismatches held asked is trace old old → LeavesDisks size faults mismatches held asked ended trace old new
+  same-unread asked ended is trace old new e same leaves =
+      subst (λ (s : Status). LeavesDisks size faults mismatches held asked s trace old new) (sym e) (subst (λ (ds : List D). LeavesDisks size faults mismatches held asked is trace old ds) (sym same) leaves)
+
+  -- nothing was read, or not all
+  pub leaves-usage : (asked : Option WorkOrRefusal) (ended : Status) (trace : List Event) (old new : List D) → ended ≡ status.Usage → new ≡ old → LeavesDisks size faults mismatches held asked ended trace old new
+  leaves-usage asked ended trace old new e same = same-unread asked ended status.Usage trace old new e same (leaves-same asked status.Usage trace old (λ h. h) (λ disk f. the ⊥ cc) (λ disk want found f. the ⊥ cc))
+
+  pub leaves-unsourced : (asked : Option WorkOrRefusal) (ended : Status) (trace : List Event) (old new : List D) → ended ≡ status.SourceFault → new ≡ old → LeavesDisks size faults mismatches held asked ended trace old new
+  leaves-unsourced asked ended trace old new e same = same-unread asked ended status.SourceFault trace old new e same (leaves-same asked status.SourceFault trace old (λ h. h) (λ disk f. the ⊥ cc) (λ disk want found f. the ⊥ cc))
+
+  pub leaves-no-memory : (asked : Option WorkOrRefusal) (ended : Status) (trace : List Event) (old new : List D) → ended ≡ status.OutOfMemory → new ≡ old → LeavesDisks size faults mismatches held asked ended trace old new
+  leaves-no-memory asked ended trace old new e same = same-unread asked ended status.OutOfMemory trace old new e same (leaves-same asked status.OutOfMemory trace old (λ h. h) (λ disk f. the ⊥ cc) (λ disk want found f. the ⊥ cc))

@@ -1,9 +1,10 @@
 -- Why nothing is run: from what refused it to what was asked for.
-use Rattle.std.proofs.Common.{◌≡◌, ℕ, List, Option, Some, None, Result, Ok, Err, IsOkAnd, ap, subst, sym, refl, ◌∙◌}
+use Rattle.std.proofs.Common.{◌≡◌, ℕ, Bool, List, Option, Some, None, Result, Ok, Err, IsOkAnd, ap, subst, sym, refl, ◌∙◌}
 use Rattle.sj_base.specs.declared.program.Machine.{Machine}
 use Rattle.sj_base.specs.declared.program.Program.{Program}
 use Rattle.sj_job.specs.Job.{Job}
-use Rattle.sj_job.specs.Reading.{IsRefusal, Refusal}
+use Rattle.sj_codelet.specs.declared.kernel.Kernel.{Kernel}
+use Rattle.sj_job.specs.Reading.{IsRefusal, Refusal, job_of}
 use Rattle.sj_job.specs.declared.reason.ReadRefusal.{ReadRefusal}
 use Rattle.sj_job.specs.declared.reason.ReadRefusal.TheVariants as reading
 use Rattle.sj_lower.specs.Limits.{late_limit}
@@ -16,7 +17,7 @@ use Rattle.sj_needs.specs.declared.shortage.Shortage.TheVariants as fitting
 use Rattle.sj_words.specs.declared.options.Options.{Options}
 use Rattle.starjob.specs.Answers.{IsStopped}
 use Rattle.starjob.specs.Stops.{after_fitting, after_lowering, after_reading}
-use Rattle.starjob.specs.Work.{Work, WorkOrRefusal, asked_by, program_of, within_limits}
+use Rattle.starjob.specs.Work.{Work, WorkOrRefusal, asked_by, machine_for, program_of, within_limits, work_of}
 
 abbrev limited : Work → Option Refusal → WorkOrRefusal
 limited w late = elim late [ None ↦ Ok w | Some e ↦ Err e ]
@@ -42,3 +43,8 @@ stopped-fitting asked w p m (fitting.SwapTooSmall needed have) is same on h =
     subst (λ (a : WorkOrRefusal). IsOkAnd a (λ v. IsSwapTooSmall (program_of v) v.machine needed have)) (sym is)
     (subst (λ (q : Program). IsSwapTooSmall q w.machine needed have) same (subst (λ (n : Machine). IsSwapTooSmall p n needed have) on h))
 stopped-fitting asked w p m fitting.OutOfMemory is same on h = tt
+
+-- the work of a job that was read, on the machine that is made for it, is what was asked for
+pub asked-is : (has : Kernel → Bool) (o : Options) (disks text : List ℕ) (job : Job) (m : Machine) → job_of has text ≡ Ok job → m ≡ machine_for o disks job.settings → within_limits (record { statements = job.statements; machine = m; shows_trace = o.trace }) ≡ work_of has o disks text
+asked-is has o disks text job m read made =
+    ap (λ (n : Machine). within_limits (record { statements = job.statements; machine = n; shows_trace = o.trace })) made ∙ sym (ap (asked_by o disks) read)

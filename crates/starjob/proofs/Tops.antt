@@ -1,6 +1,16 @@
 -- From the text that was read and what was written to what the call promises.
-use Rattle.std.proofs.Common.{◌≡◌, ◌≤◌, Bool, ℕ, List, length, refl, ap, sym, subst, Option, Some, None, Result, Ok, Err, IfSome, IsSomeAnd, IsOk, IsOkAnd}
-use Rattle.std.specs.Prelude.{option_map, map}
+use Rattle.std.proofs.Common.{◌≡◌, ◌≢◌, ◌<◌, ◌≤◌, Bool, true, false, cond, ℕ, suc, List, [], ◌∷◌, length, arith, refl, ap, sym, subst, Option, Some, None, Result, Ok, Err, IfSome, IsSomeAnd, IsOk, IsOkAnd}
+use Rattle.std.specs.Prelude.{Contains, IsTrue, find, is_some, map, option_map}
+use Rattle.std.proofs.lemmas.Bool.Decides.{nat_tests}
+use Rattle.std.proofs.lemmas.List.Elements.{All-contains}
+use Rattle.std.proofs.lemmas.Option.{same_Some}
+use Rattle.sj_base.specs.declared.ids.DiskNo.{DiskNo}
+use Rattle.sj_base.specs.declared.ids.Line.{Line}
+use Rattle.sj_disk.specs.declared.header.Header.{Header}
+use Rattle.sj_base.specs.declared.program.Machine.{Machine}
+use Rattle.sj_base.specs.declared.program.Program.{Program}
+use Rattle.sj_core.specs.Needs.{footprint, place, room}
+use Rattle.sj_core.specs.Program.{tasks_of}
 use Rattle.std.specs.Io.KnownBytes.{Appends, IsAtEnd}
 use Rattle.sj_base.specs.declared.trace.Event.{Event}
 use Rattle.sj_codelet.specs.declared.kernel.Kernel.{Kernel}
@@ -8,19 +18,24 @@ use Rattle.sj_core.specs.Proper.{HasSwapFor}
 use Rattle.sj_edge.specs.Faults.{Rose}
 use Rattle.sj_job.specs.Job.{Job}
 use Rattle.sj_job.specs.Reading.{Refusal, job_of, text_limit}
-use Rattle.sj_needs.specs.Shortage.{FitRoom, IsSwapTooSmall, IsTooLarge}
+use Rattle.sj_needs.specs.Shortage.{FitRoom, IsSwapTooSmall, IsTooLarge, is_too_large}
 use Rattle.sj_words.specs.declared.options.Options.{Options}
 use Rattle.starjob.specs.declared.status.Status.{Status}
 use Rattle.starjob.specs.declared.status.Status.TheVariants.{Done, Usage, Refused, TooLarge, SwapTooSmall, DiskFault, Damaged, SourceFault, SinkFault, OutOfMemory}
-use Rattle.starjob.specs.Answers.{Answered, AnsweredText, LeavesDisks}
+use Rattle.starjob.specs.Answers.{Answered, AnsweredText, IsTextOf, LeavesDisks, StopsWith, WritesText, status_of_stop}
+use Rattle.starjob.specs.declared.stop.Stop.{Stop}
+use Rattle.starjob.specs.declared.stop.Stop.TheVariants as stops
 use Rattle.starjob.specs.Device.{Device}
 use Rattle.starjob.specs.Disks.{NoneRose}
 use Rattle.starjob.specs.Streams.{IsRead, TakesPrefix}
-use Rattle.starjob.specs.Top.{CanBeRun, IsDoneOrOutOfMemory, MemoryRanOut, PrintsNothing, text_of}
+use Rattle.starjob.specs.Top.{CanBeRun, IsDoneOrOutOfMemory, MemoryRanOut, PrintsNothing, RunBrokeOff, text_of}
 use Rattle.starjob.specs.Traces.{Began, BeganWork, RanWhole}
-use Rattle.starjob.specs.Work.{OfWork, TellsWork, Work, WorkOrRefusal, asked_by, program_of, within_limits, work_of, work_with}
+use Rattle.starjob.specs.Work.{OfWork, TellsWork, Work, WorkOrRefusal, asked_by, program_of, work_of, work_told}
 use Rattle.starjob.proofs.ReadingWhole.{short}
 use Rattle.starjob.proofs.Tracing.{began_empty}
+
+the : (X : Type 0) → X → X
+the X x = x
 
 -- ---- what was asked for
 
@@ -113,3 +128,85 @@ refused-told : (P : Work → Type 0) (asked : Option WorkOrRefusal) (e : Refusal
 refused-told P None e p h = p
 refused-told P (Some (Ok w)) e p h = cc
 refused-told P (Some (Err f)) e p h = p
+
+-- ---- what was written
+
+pub text-answered : (asked : WorkOrRefusal) (Tells : Type 0) (text : List ℕ) (trace : List Event) (status : Status) (out out' : Device) → IsOkAnd asked (IsTextOf Tells trace text) → WritesText text status out out' → AnsweredText asked Tells status out out' trace
+text-answered (Ok w) Tells text trace Done out out' is written = ((λ tells. subst (Appends out.bytes out'.bytes) (is.told tells) written.0, is.ran), written.1)
+text-answered (Ok w) Tells text trace SinkFault out out' is written = ((λ tells. subst (TakesPrefix out.bytes out'.bytes) (is.told tells) written.0, is.ran), written.1)
+text-answered (Err e) Tells text trace status out out' is written = absurd is
+text-answered (Ok w) Tells text trace Usage out out' is written = absurd written
+text-answered (Ok w) Tells text trace (Refused line reason) out out' is written = absurd written
+text-answered (Ok w) Tells text trace (TooLarge line bytes) out out' is written = absurd written
+text-answered (Ok w) Tells text trace (SwapTooSmall needed have) out out' is written = absurd written
+text-answered (Ok w) Tells text trace (DiskFault disk) out out' is written = absurd written
+text-answered (Ok w) Tells text trace (Damaged disk want found) out out' is written = absurd written
+text-answered (Ok w) Tells text trace SourceFault out out' is written = absurd written
+text-answered (Ok w) Tells text trace OutOfMemory out out' is written = absurd written
+
+pub stop-answered : (asked : WorkOrRefusal) (Tells : Type 0) (stop : Stop) (trace : List Event) (out : Device) → StopsWith asked stop trace → AnsweredText asked Tells (status_of_stop stop) out out trace
+stop-answered asked Tells (stops.Refused line reason) trace out h = h
+stop-answered asked Tells (stops.TooLarge line bytes) trace out h = h
+stop-answered asked Tells (stops.SwapTooSmall needed have) trace out h = h
+stop-answered asked Tells (stops.DiskFault disk) trace out h = h
+stop-answered asked Tells (stops.Damaged disk want found) trace out h = h
+stop-answered asked Tells stops.OutOfMemory trace out h = h
+
+-- a text that isn't there isn't written
+pub silent-text : (asked : WorkOrRefusal) (Tells : Type 0) (trace : List Event) (text : List ℕ) → IsOkAnd asked (IsTextOf Tells trace text) → IsOkAnd asked PrintsNothing → text ≡ []
+silent-text (Ok w) Tells trace text is nothing = is.silent nothing
+silent-text (Err e) Tells trace text is nothing = absurd is
+
+-- ---- completeness
+
+found-passes : {X : Type 0} (test : X → Bool) (xs : List X) (x : X) → find test xs ≡ Some x → (test x ≡ true) × Contains xs x
+found-passes test [] x e = absurd (let bad : None ≡ Some x = e in the ⊥ cc)
+found-passes test (y ∷ ys) x e = by_test (test y) refl e (found-passes test ys x)
+  where
+    by_test : (b : Bool) → test y ≡ b → cond b (Some y) (find test ys) ≡ Some x → (find test ys ≡ Some x → (test x ≡ true) × Contains ys x) → (test x ≡ true) × Contains (y ∷ ys) x
+    by_test true t found later = let same : y ≡ x = same_Some y x found in (subst (λ z. test z ≡ true) same t, (0, omega arith, same))
+    by_test false t found later = let h = later found in (h.0, (suc h.1.0, omega (arith, h.1.1), h.1.2))
+
+too-large-fits : (p : Program) (m : Machine) (line : Line) (bytes : ℕ) → FitRoom p m → IsTooLarge p m line bytes → ⊥
+too-large-fits p m line bytes fits large =
+    let found = found-passes (is_too_large p m) (tasks_of p) large.task large.first in
+    let within = All-contains (λ t. footprint p t ≤ room m) (tasks_of p) large.task fits found.1 in
+    let above : room m < footprint p large.task = grind (arith, nat_tests, found.0) in
+    omega (arith, within, above)
+
+none-some-placed : {X : Type 0} (o : Option X) → o ≡ None → IsTrue (is_some o) → ⊥
+none-some-placed None e h = cc
+none-some-placed (Some x) e h = cc
+
+-- a job that can be run, on devices that don't fail, is done, unless memory runs out
+pub complete-by : {D : Type 0} (size faults mismatches : D → ℕ) (held : D → Option (List ℕ)) (asked : Option WorkOrRefusal) (Tells : Type 0) (status : Status) (source source' out out' : Device) (trace : List Event) (old new : List D) → Answered asked Tells status source source' out out' trace → LeavesDisks size faults mismatches held asked status trace old new → CanBeRun asked → (Rose source.faults source'.faults → ⊥) → (Rose out.faults out'.faults → ⊥) → NoneRose (map faults old) (map faults new) → NoneRose (map mismatches old) (map mismatches new) → IsDoneOrOutOfMemory status
+complete-by size faults mismatches held asked Tells Done source source' out out' trace old new a d can s k f m = tt
+complete-by size faults mismatches held asked Tells Usage source source' out out' trace old new a d can s k f m = absurd a
+complete-by size faults mismatches held asked Tells (Refused line reason) source source' out out' trace old new a d can s k f m = absurd (refused-told _ asked _ can a.cause)
+complete-by size faults mismatches held asked Tells (TooLarge line bytes) source source' out out' trace old new a d can s k f m = absurd (meets _ _ asked can a.cause (λ w fits large. too-large-fits (program_of w) w.machine line bytes fits.0 large))
+complete-by size faults mismatches held asked Tells (SwapTooSmall needed have) source source' out out' trace old new a d can s k f m = absurd (meets _ _ asked can a.cause (λ w fits small. none-some-placed (place (program_of w) w.machine.disks) small.has_no_places fits.1.blocks_fit))
+complete-by size faults mismatches held asked Tells (DiskFault disk) source source' out out' trace old new a d can s k f m = absurd (f disk.0 (d.fault disk refl))
+complete-by size faults mismatches held asked Tells (Damaged disk want found) source source' out out' trace old new a d can s k f m = absurd (m disk.0 (d.damage disk want found refl).count_rose)
+complete-by size faults mismatches held asked Tells SourceFault source source' out out' trace old new a d can s k f m = absurd (s a.cause.count_rose)
+complete-by size faults mismatches held asked Tells SinkFault source source' out out' trace old new a d can s k f m = absurd (k a.cause.count_rose)
+complete-by size faults mismatches held asked Tells OutOfMemory source source' out out' trace old new a d can s k f m = tt
+
+-- ---- from the answer to the words, to the clauses of the call
+
+pub not-usage : (asked : Option WorkOrRefusal) (Tells : Type 0) (status : Status) (source source' out out' : Device) (trace : List Event) → Answered asked Tells status source source' out out' trace → status ≡ Usage → ⊥
+not-usage asked Tells status source source' out out' trace a e = subst (λ (s : Status). Answered asked Tells s source source' out out' trace) e a
+
+pub broken-by : (asked : Option WorkOrRefusal) (Tells : Type 0) (status : Status) (source source' out out' : Device) (trace : List Event) (disk : DiskNo) → (status ≢ Usage → Answered asked Tells status source source' out out' trace) → status ≡ DiskFault disk → RunBrokeOff asked source source' trace
+broken-by asked Tells status source source' out out' trace disk a e = subst (λ (s : Status). Answered asked Tells s source source' out out' trace) e (a (λ u. the ⊥ cc))
+
+pub damaged-by : (asked : Option WorkOrRefusal) (Tells : Type 0) (status : Status) (source source' out out' : Device) (trace : List Event) (disk : DiskNo) (want found : Header) → (status ≢ Usage → Answered asked Tells status source source' out out' trace) → status ≡ Damaged disk want found → RunBrokeOff asked source source' trace
+damaged-by asked Tells status source source' out out' trace disk want found a e = subst (λ (s : Status). Answered asked Tells s source source' out out' trace) e (a (λ u. the ⊥ cc))
+
+-- where work can be run the words are accepted
+accepted : (has : Kernel → Bool) (o : Option Options) (sizes : List ℕ) (bytes : Option (List ℕ)) → CanBeRun (work_told has o sizes bytes) → o ≡ None → ⊥
+accepted has None sizes bytes can e = can
+accepted has (Some options) sizes bytes can e = cc
+
+pub complete-of : {D : Type 0} (size faults mismatches : D → ℕ) (held : D → Option (List ℕ)) (has : Kernel → Bool) (o : Option Options) (sizes : List ℕ) (bytes : Option (List ℕ)) (Tells : Type 0) (status : Status) (source source' out out' : Device) (trace : List Event) (old new : List D) → (status ≡ Usage → o ≡ None) → (status ≢ Usage → Answered (work_told has o sizes bytes) Tells status source source' out out' trace) → LeavesDisks size faults mismatches held (work_told has o sizes bytes) status trace old new → CanBeRun (work_told has o sizes bytes) → (Rose source.faults source'.faults → ⊥) → (Rose out.faults out'.faults → ⊥) → NoneRose (map faults old) (map faults new) → NoneRose (map mismatches old) (map mismatches new) → IsDoneOrOutOfMemory status
+complete-of size faults mismatches held has o sizes bytes Tells status source source' out out' trace old new usage a d can s k f m =
+    complete-by size faults mismatches held (work_told has o sizes bytes) Tells status source source' out out' trace old new (a (λ u. accepted has o sizes bytes can (usage u))) d can s k f m

@@ -10,6 +10,12 @@ mod sink_text;
 mod source_text;
 mod status;
 mod stop;
+#[cfg(test)]
+mod tests;
+#[cfg(test)]
+mod tests_of_machines;
+#[cfg(test)]
+mod tests_of_plans;
 mod top;
 
 ghost use Rattle.std.specs.Prelude.{◌≤◌, ◌^◌};

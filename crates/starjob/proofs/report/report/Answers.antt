@@ -21,3 +21,15 @@ returns-in-OutOfMemory g c = by_status _ _ _ _ c.in-OutOfMemory.is c.write_line-
 
 pub returns-in-Refused : goal.returns-in-Refused
 returns-in-Refused g c = by_status _ _ _ _ c.in-Refused.is c.report_refusal.ensures
+
+pub returns-in-TooLarge : goal.returns-in-TooLarge
+returns-in-TooLarge g c = by_status _ _ _ _ c.in-TooLarge.is c.report_too_large.ensures
+
+pub returns-in-SwapTooSmall : goal.returns-in-SwapTooSmall
+returns-in-SwapTooSmall g c = by_status _ _ _ _ c.in-SwapTooSmall.is c.report_swap.ensures
+
+pub returns-in-DiskFault : goal.returns-in-DiskFault
+returns-in-DiskFault g c = by_status _ _ _ _ c.in-DiskFault.is c.report_disk.ensures
+
+pub returns-in-Damaged : goal.returns-in-Damaged
+returns-in-Damaged g c = by_status _ _ _ _ c.in-Damaged.is c.report_damage.ensures

@@ -1,5 +1,5 @@
 use Rattle.starjob.specs.Device.{seen}
-use Rattle.starjob.proofs.Tops.{read-by}
+use Rattle.starjob.proofs.ReadingWhole.{read-by}
 use Rattle.starjob.proofs.source_text.read_source.Goals as goal
 
 pub returns-clause-read : goal.returns-clause-read

@@ -1,0 +1,88 @@
+use Rattle.std.proofs.Common.{◌≡◌, ◌<◌, ◌≤◌, List, ap, ◌∙◌, refl, subst, sym, arith, Result, Ok, Err, IfErr, length}
+use Rattle.std.specs.Prelude.{All, FitsSigned, IsErrAnd, IsTrue}
+use Rattle.std.specs.Int.{w64}
+use Rattle.sj_base.specs.declared.program.Lowered.{Lowered}
+use Rattle.sj_base.specs.declared.program.Machine.{Machine}
+use Rattle.sj_base.specs.declared.program.Program.{Program}
+use Rattle.sj_core.specs.Laws.{is_known}
+use Rattle.sj_core.specs.Proper.{IsMachineFor}
+use Rattle.sj_job.specs.View.{job_seen, statements_of}
+use Rattle.starjob.specs.declared.stop.Stop.{Stop}
+use Rattle.starjob.specs.Answers.{IsStopped}
+use Rattle.starjob.specs.Work.{Work, WorkOrRefusal, within_limits, work_of}
+use Rattle.starjob.specs.Stops.{after_fitting}
+use Rattle.starjob.proofs.Known.{known-lowered}
+use Rattle.starjob.proofs.Stopping.{asked-is, stopped-fitting, within}
+use Rattle.starjob.proofs.ready.prepare.Goals as goal
+
+as_handed : {A : Type 0} (r : Result A Stop) (e : Stop) (P : Stop → Type 0) → IsErrAnd r (λ x. x ≡ e) → P e → IfErr r P
+as_handed (Ok x) e P is h = tt
+as_handed (Err x) e P is h = subst P (sym is) h
+
+pub returns-in_err-ready-clause-stopped : goal.returns-in_err-ready-clause-stopped
+returns-in_err-ready-clause-stopped g c =
+    let has = g.C.Codelets.has in
+    let o = c.args.options.now in
+    let disks = c.args.disks.items in
+    let text = c.args.text.now in
+    let m = c.in_ok-machine.machine in
+    let job = job_seen c.in_ok-job.job in
+    let w : Work = record { statements = job.statements; machine = m; shows_trace = o.trace } in
+    let same = asked-is has o disks text job m c.in_ok-job.ensures.ok c.in_ok-machine.ensures.machine in
+    as_handed c.from_residual-in_err-ready.result c.in_err-ready.field-0.0 (IsStopped (work_of has o disks text)) c.from_residual-in_err-ready.ensures.1
+    (subst (λ (a : WorkOrRefusal). IsStopped a c.in_err-ready.field-0.0) same (c.in_err-ready.ensures.stopped w refl))
+
+pub returns-in_err-fits-clause-stopped : goal.returns-in_err-fits-clause-stopped
+returns-in_err-fits-clause-stopped g c =
+    let has = g.C.Codelets.has in
+    let o = c.args.options.now in
+    let disks = c.args.disks.items in
+    let text = c.args.text.now in
+    let m = c.in_ok-machine.machine in
+    let job = job_seen c.in_ok-job.job in
+    let w : Work = record { statements = job.statements; machine = m; shows_trace = o.trace } in
+    let r = c.in_ok-ready.ensures in
+    let asked : work_of has o disks text ≡ Ok w = sym (asked-is has o disks text job m c.in_ok-job.ensures.ok c.in_ok-machine.ensures.machine) ∙ within w r.within in
+    let e = c.in_err-fits.field-0.0 in
+    as_handed c.from_residual-in_err-fits.result (after_fitting e) (IsStopped (work_of has o disks text)) c.from_residual-in_err-fits.ensures.1
+    (stopped-fitting (work_of has o disks text) w c.deref-2.result.now c.in_ok-ready.ready.machine e asked (c.deref-2.ensures ∙ r.program) r.machine c.in_err-fits.ensures.shortage)
+
+pub returns-clause-ready : goal.returns-clause-ready
+returns-clause-ready g c =
+    let has = g.C.Codelets.has in
+    let o = c.args.options.now in
+    let disks = c.args.disks.items in
+    let text = c.args.text.now in
+    let m = c.in_ok-machine.machine in
+    let job = job_seen c.in_ok-job.job in
+    let w : Work = record { statements = job.statements; machine = m; shows_trace = o.trace } in
+    let r = c.in_ok-ready.ensures in
+    let p = c.in_ok-ready.ready.program.value in
+    let limits = c.in_ok-machine.ensures in
+    let few : length m.disks ≤ 16 = subst (λ (n : Machine). length n.disks ≤ 16) (sym limits.machine) c.requires.few in
+    let workers : p.workers ≡ m.workers = ap (λ (q : Program). q.workers) r.program in
+    record {
+      work = w;
+      asked_for = sym (asked-is has o disks text job m c.in_ok-job.ensures.ok limits.machine) ∙ within w r.within;
+      program_is = r.program;
+      machine_is = r.machine;
+      trace_is = r.trace;
+      proper = r.proper;
+      lawful = record {
+        known = subst (λ (q : Program). All (λ (l : Lowered). IsTrue (is_known has l.codelet)) q.tasks) (sym r.program) (known-lowered has c.requires.own job.statements m.workers c.in_ok-job.ensures.well);
+        arguments = subst (λ (q : Program). All (λ (l : Lowered). All (FitsSigned w64) l.args) q.tasks) c.deref.ensures c.arguments_fit.ensures;
+        commuting = g.met.C.Codelets.commuting;
+        contributing = g.met.C.Codelets.contributing;
+        reducing = g.met.C.Codelets.reducing;
+      };
+      machine_for = subst (λ (n : Machine). IsMachineFor p n) (sym r.machine) (record {
+        workers = sym workers;
+        some_worker = limits.workers.0;
+        few_workers = limits.workers.1;
+        some_node = limits.nodes.some;
+        few_nodes = limits.nodes.few;
+        few_disks = few;
+      });
+      prints = r.prints;
+      named = r.handed_over;
+    }

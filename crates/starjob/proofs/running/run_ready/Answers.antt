@@ -1,0 +1,71 @@
+use Rattle.std.proofs.Common.{◌≡◌, ℕ, ◌<◌, List, ap, ◌∙◌, refl, subst, sym, arith, Option, Some, Result, Ok, Err, IfErr, IsOk, Vec, Global}
+use Rattle.sj_base.specs.declared.program.Program.{Program}
+use Rattle.sj_core.specs.Legal.{IsFinished, IsLegal}
+use Rattle.sj_engine.specs.Outcome.{AllTell, IsCausedBy}
+use Rattle.sj_machine.specs.Delivered.{DeliversEach}
+use Rattle.sj_machine.specs.declared.fault.RunFault.{RunFault}
+use Rattle.starjob.specs.declared.stop.Stop.{Stop}
+use Rattle.starjob.specs.declared.stop.Stop.TheVariants.{OutOfMemory}
+use Rattle.starjob.specs.Answers.{LeavesDisks, RunsWork, status_of_stop}
+use Rattle.starjob.specs.Gathering.{AreGrouped, HandedOver, ShowsRun}
+use Rattle.starjob.proofs.Handing.{handed-over}
+use Rattle.starjob.proofs.Leaving.{leaves-broken, leaves-nothing}
+use Rattle.starjob.proofs.Showing.{grouped}
+use Rattle.starjob.proofs.Shown.{behind, shows-work}
+use Rattle.starjob.proofs.Tracing.{began_empty}
+use Rattle.starjob.proofs.running.run_ready.Goals as goal
+
+pub returns-in_default-clause-runs : goal.returns-in_default-clause-runs
+returns-in_default-clause-runs g c asked ready =
+    let none = c.nothing_run in
+    subst (λ (r : Result (Vec ℕ Global) Stop). RunsWork asked (AllTell g.D.Disk.held c.args.disks.items) r none.result.trace.events) (sym none.ensures.text)
+    (began_empty asked none.result.trace.events none.ensures.trace)
+
+pub returns-in_default-clause-disks : goal.returns-in_default-clause-disks
+returns-in_default-clause-disks g c asked ready =
+    let none = c.nothing_run in
+    leaves-nothing g.D.Disk.size g.D.Disk.faults g.D.Disk.mismatches g.D.Disk.held asked (Some asked) OutOfMemory none.result.text none.result.trace.events c.args.disks.items none.result.disks.items
+    none.ensures.text (ap (λ (v : Vec g.row.D.Denot Global). v.items) none.ensures.disks) tt
+
+pub returns-in-Err-clause-disks : goal.returns-in-Err-clause-disks
+returns-in-Err-clause-disks g c asked ready =
+    let size = g.D.Disk.size in
+    let faults = g.D.Disk.faults in
+    let mismatches = g.D.Disk.mismatches in
+    let held = g.D.Disk.held in
+    let run = c.run-result in
+    let old = c.args.disks.items in
+    let new = run.result.disks.items in
+    let cause : IsCausedBy faults mismatches held old new c.in-Err.fault =
+    subst (λ (r : Result (Unit {0}) RunFault). IfErr r (IsCausedBy faults mismatches held old new)) c.in-Err.is run.ensures.cause in
+    subst (λ (stop : Stop). LeavesDisks size faults mismatches held (Some asked) (status_of_stop stop) run.result.trace.events old new) (sym c.from.ensures)
+    (leaves-broken size faults mismatches held (Some asked) c.in-Err.fault run.result.trace.events old new run.ensures.given_back cause)
+
+pub shown-requires-clause-handed : goal.shown-requires-clause-handed
+shown-requires-clause-handed g c =
+    let ready = c.requires.ready.1 in
+    let p = c.args.ready.program.value in
+    let pairs = c.run-result.result.delivered.pairs in
+    let Tells = AllTell g.D.Disk.held c.args.disks.items in
+    let ok : IsOk c.run-result.result.result = subst IsOk (sym c.in_default-result.is) refl in
+    let each = subst (λ (q : Program). DeliversEach q Tells pairs) c.in-Ok.ensures (c.run-result.ensures.delivers ok) in
+    subst (λ (q : Program). HandedOver q pairs) (sym c.deref.ensures)
+    (handed-over p Tells pairs ready.proper ready.lawful.arguments (omega (arith, ready.machine_for.some_worker, ready.machine_for.workers)) ready.named each)
+
+pub shown-requires-clause-grouped : goal.shown-requires-clause-grouped
+shown-requires-clause-grouped g c =
+    let ready = c.requires.ready.1 in
+    subst (AreGrouped c.args.ready.roots) (sym c.deref.ensures) (grouped c.args.ready.roots c.args.ready.program.value ready.work.statements ready.prints)
+
+pub returns-in-Ok-shown-clause-runs : goal.returns-in-Ok-shown-clause-runs
+returns-in-Ok-shown-clause-runs g c asked ready =
+    let p = c.args.ready.program.value in
+    let m = c.args.ready.machine in
+    let pairs = c.run-result.result.delivered.pairs in
+    let trace = c.run-result.result.trace.events in
+    let Tells = AllTell g.D.Disk.held c.args.disks.items in
+    let ok : IsOk c.run-result.result.result = subst IsOk (sym c.in_default-result.is) refl in
+    let each = subst (λ (q : Program). DeliversEach q Tells pairs) c.in-Ok.ensures (c.run-result.ensures.delivers ok) in
+    let finished = subst (λ (q : Program). IsFinished q m trace) c.in-Ok.ensures (c.run-result.ensures.finished ok) in
+    let shows = subst (λ (q : Program). ShowsRun c.args.ready.roots q pairs (behind c.args.ready.shows_trace trace) c.in-Ok-shown.text.items) c.deref.ensures c.in-Ok-shown.ensures in
+    shows-work g.C.Codelets.has asked c.args.ready ready Tells pairs trace c.in-Ok-shown.text.items each shows finished (c.finishes.ensures p m trace finished)
