@@ -3,8 +3,10 @@ mod BoardTurns
 mod ClaimTurns
 mod DeskTurns
 mod KernelFacts
+mod MoveTurns
 mod OperandLists
 mod OtherRows
 mod OwnRows
 mod ResultLists
+mod StepTurns
 mod Turning

@@ -1,4 +1,4 @@
-use Rattle.std.proofs.Common.{◌×◌, sym, subst}
+use Rattle.std.proofs.Common.{sym, subst}
 use Rattle.std.specs.Prelude.{MatchBool}
 use Rattle.sj_machine.specs.BoardRow.{key_of}
 use Rattle.sj_engine.specs.Stage.{HasClaimedRow, IsCarried, IsFreeRow, MovesRow, row_in}
