@@ -1,12 +1,15 @@
 mod Answering
+mod BeginTurns
 mod BoardTurns
 mod ClaimTurns
 mod DeskTurns
+mod Closing
 mod KernelFacts
 mod MoveTurns
 mod OperandLists
 mod OtherRows
 mod OwnRows
 mod ResultLists
+mod SeatLists
 mod StepTurns
 mod Turning
