@@ -11,5 +11,6 @@ mod OtherRows
 mod OwnRows
 mod ResultLists
 mod SeatLists
+mod SeatSteps
 mod StepTurns
 mod Turning

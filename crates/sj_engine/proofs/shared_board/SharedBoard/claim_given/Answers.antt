@@ -16,4 +16,4 @@ pub returns-in-Ok-clause-row : goal.returns-in-Ok-clause-row
 returns-in-Ok-clause-row g c = claimed-now g.D.Disk.size g.D.Disk.faults g.D.Disk.mismatches g.D.Disk.held c.args.w c.args.self.now c.deref.result.now c.deref_mut.result.now c.claim.new.self (c.deref.ensures ∙ c.self.view_is) (c.deref_mut.ensures.value ∙ c.self.view_is) c.is_sound.ensures c.requires.worker c.args.t c.requires.given c.in-Ok.ensures.can c.in-Ok.ensures.ok c.requires.no_fault
 
 pub returns-in-Err-OutOfMemory-clause-turn : goal.returns-in-Err-OutOfMemory-clause-turn
-returns-in-Err-OutOfMemory-clause-turn g c = turn-then g.D.Disk.faults g.D.Disk.mismatches c.args.w _ _ _ c.put_back-2.ensures.turn c.fail_without_memory.ensures.turn
+returns-in-Err-OutOfMemory-clause-turn g c = turn-then g.D.Disk.faults g.D.Disk.mismatches c.args.w _ _ _ c.put_back-in-Err-OutOfMemory.ensures.turn c.fail_without_memory.ensures.turn

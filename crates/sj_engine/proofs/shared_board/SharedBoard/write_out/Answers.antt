@@ -26,10 +26,10 @@ pub end_move_out-requires-clause-under_way : goal.end_move_out-requires-clause-u
 end_move_out-requires-clause-under_way g c = moving-out g.D.Disk.size g.D.Disk.faults g.D.Disk.mismatches g.D.Disk.held c.args.w c.store.new.self c.deref-2.result.now c.deref_mut-2.result.now c.deref_mut-2.result.now c.args.t c.args.x c.deref-2.ensures c.deref_mut-2.ensures.value c.is_sound-2.ensures (kept-row g.D.Disk.faults g.D.Disk.mismatches c.args.w c.args.self.now c.deref_mut.result.now c.store.new.self (c.deref_mut.ensures.value ∙ c.self.view_is) c.store.ensures.no_event (MovesRow c.args.w c.args.t c.args.x) c.requires.moves) c.requires.disk
 
 pub end_move_out-requires-clause-written : goal.end_move_out-requires-clause-written
-end_move_out-requires-clause-written g c = subst (λ k. IsWrittenOut g.D.Disk.held k.run c.args.w) (sym c.deref_mut-2.ensures.value) c.in_default-store.ensures.written
+end_move_out-requires-clause-written g c = subst (λ k. IsWrittenOut g.D.Disk.held k.run c.args.w) (sym c.deref_mut-2.ensures.value) c.in_default.ensures.written
 
 pub returns-clause-turn : goal.returns-clause-turn
-returns-clause-turn g c = turn-then g.D.Disk.faults g.D.Disk.mismatches c.args.w c.args.self.now c.store.new.self c.end_move_out.new.self (disks-turn g.D.Disk.faults g.D.Disk.mismatches c.args.w c.args.self.now c.deref_mut.result.now c.store.new.self (c.deref_mut.ensures.value ∙ c.self.view_is) c.store.ensures.no_event tt c.store.result c.in_default-store.is c.store.ensures.counts) (moved-turn g.D.Disk.size g.D.Disk.faults g.D.Disk.mismatches g.D.Disk.held c.args.w c.store.new.self c.deref-2.result.now c.deref_mut-2.result.now c.end_move_out.new.self c.args.t c.args.x c.deref-2.ensures c.deref_mut-2.ensures.value c.is_sound-2.ensures (kept-row g.D.Disk.faults g.D.Disk.mismatches c.args.w c.args.self.now c.deref_mut.result.now c.store.new.self (c.deref_mut.ensures.value ∙ c.self.view_is) c.store.ensures.no_event (MovesRow c.args.w c.args.t c.args.x) c.requires.moves) c.end_move_out.ensures.moved c.end_move_out.ensures.spares)
+returns-clause-turn g c = turn-then g.D.Disk.faults g.D.Disk.mismatches c.args.w c.args.self.now c.store.new.self c.end_move_out.new.self (disks-turn g.D.Disk.faults g.D.Disk.mismatches c.args.w c.args.self.now c.deref_mut.result.now c.store.new.self (c.deref_mut.ensures.value ∙ c.self.view_is) c.store.ensures.no_event tt c.store.result c.in_default.is c.store.ensures.counts) (moved-turn g.D.Disk.size g.D.Disk.faults g.D.Disk.mismatches g.D.Disk.held c.args.w c.store.new.self c.deref-2.result.now c.deref_mut-2.result.now c.end_move_out.new.self c.args.t c.args.x c.deref-2.ensures c.deref_mut-2.ensures.value c.is_sound-2.ensures (kept-row g.D.Disk.faults g.D.Disk.mismatches c.args.w c.args.self.now c.deref_mut.result.now c.store.new.self (c.deref_mut.ensures.value ∙ c.self.view_is) c.store.ensures.no_event (MovesRow c.args.w c.args.t c.args.x) c.requires.moves) c.end_move_out.ensures.moved c.end_move_out.ensures.spares)
 
 pub returns-clause-row : goal.returns-clause-row
 returns-clause-row g c = moved-row g.D.Disk.size g.D.Disk.faults g.D.Disk.mismatches g.D.Disk.held c.args.w c.store.new.self c.deref-2.result.now c.deref_mut-2.result.now c.end_move_out.new.self c.args.t c.args.x c.deref-2.ensures c.deref_mut-2.ensures.value c.is_sound-2.ensures (kept-row g.D.Disk.faults g.D.Disk.mismatches c.args.w c.args.self.now c.deref_mut.result.now c.store.new.self (c.deref_mut.ensures.value ∙ c.self.view_is) c.store.ensures.no_event (MovesRow c.args.w c.args.t c.args.x) c.requires.moves) c.end_move_out.ensures.moved c.end_move_out.ensures.spares
