@@ -4,6 +4,7 @@ mod BoardTurns
 mod ClaimTurns
 mod DeskTurns
 mod Closing
+mod IdleHands
 mod KernelFacts
 mod MoveTurns
 mod OperandLists
@@ -12,5 +13,6 @@ mod OwnRows
 mod ResultLists
 mod SeatLists
 mod SeatSteps
+mod StepFacts
 mod StepTurns
 mod Turning
