@@ -1,4 +1,4 @@
-use Rattle.std.proofs.Common.{◌×◌, sym, subst}
+use Rattle.std.proofs.Common.{sym, subst}
 use Rattle.sj_machine.specs.BoardRow.{key_of}
 use Rattle.sj_engine.specs.Stage.{HasClaimedRow, IsCarried, MovesRow, row_in}
 use Rattle.sj_engine.proofs.DeskTurns.{goes-on, left-at, may-leave, row-found, turn-desk, turn-number, worker-found}

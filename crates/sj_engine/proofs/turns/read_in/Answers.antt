@@ -1,4 +1,4 @@
-use Rattle.std.proofs.Common.{◌×◌, sym, subst}
+use Rattle.std.proofs.Common.{sym, subst}
 use Rattle.std.proofs.Common.{◌∙◌, ap}
 use Rattle.std.specs.Prelude.{MatchBool}
 use Rattle.sj_core.specs.Program.{dims_of}
@@ -7,14 +7,14 @@ use Rattle.sj_engine.proofs.DeskTurns.{program-found}
 use Rattle.sj_engine.proofs.DeskTurns.{goes-on, left-at, may-leave, row-found, turn-desk, turn-number, worker-found}
 use Rattle.sj_engine.proofs.turns.read_in.Goals as goal
 
-pub read_in-requires-clause-worker : goal.read_in-requires-clause-worker
-read_in-requires-clause-worker g c = worker-found c.args.desk.now c.args.w c.args.program.now c.enter-shared.result c.requires.desk c.enter-shared.ensures.key
+pub read_in-read-requires-clause-worker : goal.read_in-read-requires-clause-worker
+read_in-read-requires-clause-worker g c = worker-found c.args.desk.now c.args.w c.args.program.now c.enter-shared.result c.requires.desk c.enter-shared.ensures.key
 
-pub read_in-requires-clause-moves : goal.read_in-requires-clause-moves
-read_in-requires-clause-moves g c = (row-found c.args.desk.now c.args.w (MovesRow c.args.w c.args.t c.args.x) c.args.seat.now c.enter-shared.result c.requires.moves c.enter-shared.ensures.own_row)
+pub read_in-read-requires-clause-moves : goal.read_in-read-requires-clause-moves
+read_in-read-requires-clause-moves g c = (row-found c.args.desk.now c.args.w (MovesRow c.args.w c.args.t c.args.x) c.args.seat.now c.enter-shared.result c.requires.moves c.enter-shared.ensures.own_row)
 
-pub read_in-requires-clause-dims : goal.read_in-requires-clause-dims
-read_in-requires-clause-dims g c = c.requires.dims ∙ ap (λ p. dims_of p c.args.x.cell) (sym (program-found c.args.desk.now c.args.w c.args.program.now c.enter-shared.result c.requires.desk c.enter-shared.ensures.key))
+pub read_in-read-requires-clause-dims : goal.read_in-read-requires-clause-dims
+read_in-read-requires-clause-dims g c = c.requires.dims ∙ ap (λ p. dims_of p c.args.x.cell) (sym (program-found c.args.desk.now c.args.w c.args.program.now c.enter-shared.result c.requires.desk c.enter-shared.ensures.key))
 
 pub end_turn-requires-clause-desk : goal.end_turn-requires-clause-desk
 end_turn-requires-clause-desk g c = turn-desk c.args.desk.now c.args.w c.args.seat.now c.enter-shared.new.seat c.enter-shared.result c.enter-shared.new.seat.refusals c.enter-shared.ensures.seat c.requires.moves.waiting

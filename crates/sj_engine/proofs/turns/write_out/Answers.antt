@@ -1,18 +1,18 @@
-use Rattle.std.proofs.Common.{◌×◌, sym, subst}
+use Rattle.std.proofs.Common.{sym, subst}
 use Rattle.std.specs.Prelude.{MatchBool}
 use Rattle.sj_machine.specs.BoardRow.{key_of}
 use Rattle.sj_engine.specs.Stage.{HasClaimedRow, IsCarried, IsFreeRow, MovesRow, row_in}
 use Rattle.sj_engine.proofs.DeskTurns.{goes-on, left-at, may-leave, row-found, turn-desk, turn-number, worker-found}
 use Rattle.sj_engine.proofs.turns.write_out.Goals as goal
 
-pub write_out-requires-clause-worker : goal.write_out-requires-clause-worker
-write_out-requires-clause-worker g c = worker-found c.args.desk.now c.args.w c.args.program.now c.enter-shared.result c.requires.desk c.enter-shared.ensures.key
+pub write_out-written-requires-clause-worker : goal.write_out-written-requires-clause-worker
+write_out-written-requires-clause-worker g c = worker-found c.args.desk.now c.args.w c.args.program.now c.enter-shared.result c.requires.desk c.enter-shared.ensures.key
 
-pub write_out-requires-clause-moves : goal.write_out-requires-clause-moves
-write_out-requires-clause-moves g c = (row-found c.args.desk.now c.args.w (λ r. MovesRow c.args.w c.args.t c.args.x r × IsCarried g.D.Disk.held (key_of c.args.desk.now.opening) c.args.x r c.args.tile.now) c.args.seat.now c.enter-shared.result c.requires.moves c.enter-shared.ensures.own_row).0
+pub write_out-written-requires-clause-moves : goal.write_out-written-requires-clause-moves
+write_out-written-requires-clause-moves g c = (row-found c.args.desk.now c.args.w (λ r. MovesRow c.args.w c.args.t c.args.x r × IsCarried g.D.Disk.held (key_of c.args.desk.now.opening) c.args.x r c.args.tile.now) c.args.seat.now c.enter-shared.result c.requires.moves c.enter-shared.ensures.own_row).0
 
-pub write_out-requires-clause-tile : goal.write_out-requires-clause-tile
-write_out-requires-clause-tile g c = subst (λ k. IsCarried g.D.Disk.held k c.args.x (row_in c.enter-shared.result c.args.w) c.args.tile.now) (sym c.enter-shared.ensures.key) (row-found c.args.desk.now c.args.w (λ r. MovesRow c.args.w c.args.t c.args.x r × IsCarried g.D.Disk.held (key_of c.args.desk.now.opening) c.args.x r c.args.tile.now) c.args.seat.now c.enter-shared.result c.requires.moves c.enter-shared.ensures.own_row).1
+pub write_out-written-requires-clause-tile : goal.write_out-written-requires-clause-tile
+write_out-written-requires-clause-tile g c = subst (λ k. IsCarried g.D.Disk.held k c.args.x (row_in c.enter-shared.result c.args.w) c.args.tile.now) (sym c.enter-shared.ensures.key) (row-found c.args.desk.now c.args.w (λ r. MovesRow c.args.w c.args.t c.args.x r × IsCarried g.D.Disk.held (key_of c.args.desk.now.opening) c.args.x r c.args.tile.now) c.args.seat.now c.enter-shared.result c.requires.moves c.enter-shared.ensures.own_row).1
 
 pub end_turn-requires-clause-desk : goal.end_turn-requires-clause-desk
 end_turn-requires-clause-desk g c = turn-desk c.args.desk.now c.args.w c.args.seat.now c.enter-shared.new.seat c.enter-shared.result c.enter-shared.new.seat.refusals c.enter-shared.ensures.seat c.requires.moves.waiting

@@ -7,8 +7,8 @@ use Rattle.sj_engine.proofs.ClaimTurns.{next-fault, next-hand, next-turn}
 use Rattle.sj_engine.proofs.OwnRows.{is-free}
 use Rattle.sj_engine.proofs.shared_board.SharedBoard.give_next.Goals as goal
 
-pub next-requires-clause-free : goal.next-requires-clause-free
-next-requires-clause-free g c = subst (λ k. IsFree k c.args.w) (sym (c.deref_mut.ensures.value ∙ c.self.view_is)) (is-free c.args.self.now c.args.w c.requires.worker c.requires.free)
+pub next-requires : goal.next-requires
+next-requires g c = record { free = subst (λ k. IsFree k c.args.w) (sym (c.deref_mut.ensures.value ∙ c.self.view_is)) (is-free c.args.self.now c.args.w c.requires.worker c.requires.free) }
 
 pub returns-clause-turn : goal.returns-clause-turn
 returns-clause-turn g c = next-turn g.D.Disk.size g.D.Disk.faults g.D.Disk.mismatches g.D.Disk.held c.args.w c.args.self.now c.deref.result.now c.deref_mut.result.now c.next.new.self (c.deref.ensures ∙ c.self.view_is) (c.deref_mut.ensures.value ∙ c.self.view_is) c.is_sound.ensures c.requires.worker c.next.ensures.rest
