@@ -6,6 +6,7 @@ if [ ! -x "$program" ]; then
   echo "examples/program.sh: build the program first, by ./run examples/first.job" >&2
   exit 1
 fi
+pictures=$(realpath "$(dirname "$0")/../docs/pictures")
 scratch=$(mktemp -d)
 trap 'rm -rf "$scratch"' EXIT
 cd "$scratch" || exit 2
@@ -39,6 +40,9 @@ run_into_full() {
 
 good=$'starjob 1\nvector x 2 values 1 2\nprint x\n'
 usage=$'starjob: usage: starjob *\n'
+# three vectors on a node that holds two
+evicts=$'starjob 1\nnode 64\nvector a 3 values 1 2 3\nvector b 3 values 4 5 6\nvector c 3 values 7 8 9\nprint a\n'
+evicted=$(cat "$pictures/evictions.trace")
 
 run "$good"
 expect 'a good job is done' 0 $'x: 1 2\n' ''
@@ -50,6 +54,38 @@ run "$good" $'\xff'
 expect "a word that isn't UTF-8" 2 '' "$usage"
 run "$good" ''
 expect 'an empty word' 2 '' "$usage"
+run "$good" --nodes 2
+expect 'a number of nodes without their size' 2 '' "$usage"
+run "$good" --trace=1
+expect 'a flag with a value' 2 '' "$usage"
+
+run "$evicts" --workers 2 --node 64
+expect 'two workers on a small node' 0 $'a: 1 2 3\n' ''
+run "$evicts" --workers=4 --sched ws --node=64 --nodes 2
+expect 'four workers on two small nodes' 0 $'a: 1 2 3\n' ''
+run "$good" --trace
+expect 'the trace behind the output' 0 $'x: 1 2\nclaim t0 w0\nrun t0 w0\nend t0 w0\nclaim t1 w0\nrun t1 w0\nend t1 w0\n' ''
+run "$evicts" --trace
+expect 'the trace of a run that evicts' 0 $'a: 1 2 3\n'"$evicted"$'\n' ''
+run "$evicts" --node 24
+expect 'the words win over the job, whose vectors then fit one by one' 0 $'a: 1 2 3\n' ''
+run "$good" --node 8
+expect 'a task that fits no node' 4 '' $'starjob: line 2: task needs 16 bytes on one node\n'
+run "$good" --swap-size 0
+expect 'a swap without room' 5 '' $'starjob: swap needs 40 bytes, has 0\n'
+run "$good" --swap-size 40
+expect 'a swap with just enough room' 0 $'x: 1 2\n' ''
+run "$evicts" --swap swap --swap-size 144
+expect 'a swap file' 0 $'a: 1 2 3\n' ''
+run "$evicts" --swap /dev/full
+expect 'a swap that takes nothing' 6 '' $'starjob: disk 0 failed\n'
+run "$evicts" --swap /dev/zero
+expect 'a swap that forgets' 7 '' $'starjob: disk 0 damaged: wanted cell 0 writes 1 length 3, found cell 0 writes 0 length 0\n'
+run "$evicts" --swap missing/swap
+expect "a swap that can't be made" 6 '' $'starjob: disk 0 failed\n'
+run "$good" --swap missing/swap
+expect "a swap that isn't needed" 0 $'x: 1 2\n' ''
+
 run ''
 expect 'an empty input' 3 '' $'starjob: line 1: header\n'
 run_into_full "$good"
