@@ -12,6 +12,8 @@ here = os.path.dirname(os.path.abspath(__file__))
 top = os.path.dirname(os.path.dirname(here))
 starjob = os.path.join(top, "crates", "starjob", "out", "starjob")
 RUNS = int(sys.argv[1]) if len(sys.argv) > 1 else 5
+MIB = 1024 * 1024
+MACHINE = ["--workers", "1", "--node", str(256 * MIB), "--swap-size", str(64 * MIB)]
 
 
 def matrices(name, count, tile, step):
@@ -53,7 +55,7 @@ def timed(folder, lines):
         f.write("\n".join(["starjob 1"] + lines) + "\n")
     out = os.path.join(folder, "out")
     with open(path) as source, open(out, "w") as sink:
-        child = subprocess.Popen([starjob], stdin=source, stdout=sink)
+        child = subprocess.Popen([starjob, *MACHINE], stdin=source, stdout=sink)
         _, status, usage = os.wait4(child.pid, 0)
     if status != 0:
         sys.exit(f"starjob ended with {status}")

@@ -10,6 +10,9 @@ here = os.path.dirname(os.path.abspath(__file__))
 top = os.path.dirname(os.path.dirname(here))
 starjob = os.path.join(top, "crates", "starjob", "out", "starjob")
 RUNS = int(sys.argv[1]) if len(sys.argv) > 1 else 5
+# two plans of one matrix take 256 MiB as cells, and their blocks a little more
+MIB = 1024 * 1024
+MACHINE = ["--node", str(512 * MIB), "--swap-size", str(320 * MIB)]
 
 
 def run(folder, lines, said=None):
@@ -20,7 +23,7 @@ def run(folder, lines, said=None):
     times, peak = [], 0
     for _ in range(RUNS):
         with open(path) as source, open(os.path.join(folder, "err"), "w") as err:
-            child = subprocess.Popen([starjob], stdin=source, stdout=subprocess.DEVNULL, stderr=err)
+            child = subprocess.Popen([starjob, *MACHINE], stdin=source, stdout=subprocess.DEVNULL, stderr=err)
             _, status, usage = os.wait4(child.pid, 0)
         with open(os.path.join(folder, "err")) as f:
             got = f.read()

@@ -12,6 +12,8 @@ here = os.path.dirname(os.path.abspath(__file__))
 top = os.path.dirname(os.path.dirname(here))
 starjob = os.path.join(top, "crates", "starjob", "out", "starjob")
 LIMIT = 67_108_864
+# the values take 128 MiB as cells, more than the swap disk has without words
+SWAP = ["--swap-size", str(160 * 1024 * 1024)]
 
 
 def values(path):
@@ -63,7 +65,7 @@ def main():
             path = os.path.join(folder, name)
             make(path)
             ours, theirs = os.path.join(folder, "ours"), os.path.join(folder, "theirs")
-            time_ours, busy_ours, peak = best([starjob], path, ours)
+            time_ours, busy_ours, peak = best([starjob, *SWAP], path, ours)
             time_theirs, busy_theirs, _ = best([plain], path, theirs)
             same = open(ours).read() == open(theirs).read()
             size = os.path.getsize(path)
