@@ -28,6 +28,7 @@ pub mod Lending
 pub mod Lists
 pub mod Making
 pub mod Marking
+pub mod OneWorker
 pub mod Opening
 pub mod Shares
 pub mod PoolFilling
