@@ -31,7 +31,7 @@ use Rattle.sj_machine.proofs.ClaimEntries.{entries, entries-has, entries-total, 
 -- ---- lists
 
 -- a fact of each cell of a list, of one that it has
-All-of : (P : Cell → Type 0) (xs : List Cell) (c : Cell) → All P xs → has_cell xs c ≡ true → P c
+pub All-of : (P : Cell → Type 0) (xs : List Cell) (c : Cell) → All P xs → has_cell xs c ≡ true → P c
 All-of P [] c all h = absurd (false≢true h)
 All-of P (x ∷ xs) c all h = by_cases (same_cell x c) refl h (All-of P xs c (All-tail P x xs all))
   where
