@@ -1,15 +1,13 @@
 -- What is found in planning a claim.
-use Rattle.std.proofs.Common.{◌≡◌, ℕ, ◌+◌, ◌*◌, ◌^◌, ◌≤◌, Bool, true, false, not, ◌||◌, List, [], ◌∷◌, Some, None, map, filter, length, reverse, option_map, refl, sym, ap, ◌∙◌, subst, arith, sum, sum_by}
-use Rattle.std.specs.Prelude.{All, if◌then◌else◌, count_by}
-use Rattle.std.proofs.lemmas.Bool.{false≢true}
+use Rattle.std.proofs.Common.{◌≡◌, ℕ, ◌+◌, ◌*◌, ◌^◌, ◌≤◌, Bool, true, false, not, List, [], ◌∷◌, Some, None, map, filter, length, reverse, option_map, sym, ap, ◌∙◌, arith, sum, sum_by}
+use Rattle.std.specs.Prelude.{All, if◌then◌else◌}
 use Rattle.std.proofs.lemmas.List.{length-map}
-use Rattle.std.proofs.lemmas.List.Elements.{All-filter, All-head, All-map, All-tail}
+use Rattle.std.proofs.lemmas.List.Elements.{All-filter, All-map}
 use Rattle.std.proofs.lemmas.List.Sums.{count_by-le-length, length-filter, sum-map, sum_by-le}
 use Rattle.sj_base.specs.Mode.{is_data}
 use Rattle.sj_base.specs.declared.mode.Access.{Access}
 use Rattle.sj_core.proofs.CellLists.{has_cell-distinct, has_cell-filter}
-use Rattle.sj_core.proofs.Reading.{same_cell-is}
-use Rattle.sj_core.proofs.Words.{Cell, Program, Task, Worker, cells_of, distinct, has_cell, same_cell, scratch_bytes, task_of, tile_bytes, worked_on}
+use Rattle.sj_core.proofs.Words.{Cell, Program, Task, Worker, cells_of, distinct, has_cell, scratch_bytes, task_of, tile_bytes, worked_on}
 use Rattle.sj_node.specs.Entry.{has_entry}
 use Rattle.sj_node.specs.Store.{Store, victims_of}
 use Rattle.sj_machine.specs.Plan.{ClaimPlan, IsSmallCell}

@@ -31,9 +31,8 @@ use Rattle.sj_core.proofs.TaskCells.{written-among_cells}
 use Rattle.sj_core.specs.Coherent.{IsOwnedBy, has_written, is_begun, is_being_written, written_content}
 use Rattle.sj_core.specs.Fold.{held_in}
 use Rattle.sj_core.specs.Laws.{IsSound}
-use Rattle.sj_core.specs.Operands.{results}
 use Rattle.sj_core.specs.Program.{written_operands}
-use Rattle.sj_core.specs.Step.{Ends, after_end, array_at, result_at, rewritten_at, same_place}
+use Rattle.sj_core.specs.Step.{Ends, after_end, result_at, rewritten_at, same_place}
 use Rattle.sj_node.specs.Store.{Store, store}
 use Rattle.sj_machine.specs.Mark.{mark_of}
 use Rattle.sj_machine.specs.declared.mark.Mark.TheVariants.{Invalid as NoMark, Valid as ValidMark}

@@ -1,7 +1,6 @@
 -- With one worker no claim is refused: nothing is in use, nothing leaves, and the node has room.
-use Rattle.std.proofs.Common.{◌≡◌, ◌≢◌, ◌∙◌, ◌∷◌, ◌<◌, ◌≤◌, ◌+◌, ◌-◌, ◌*◌, ◌&&◌, ◌||◌, ℕ, suc, [], List, Option, None, Some, Bool, true, false, not, IsTrue, ap, arith, cond, filter, find, get_or, length, map, nat_eq, refl, subst, sum_by, sym}
-use Rattle.std.specs.Prelude.{AllPairs, Contains, if◌then◌else◌, nat_le}
-use Rattle.std.specs.List.{list_any}
+use Rattle.std.proofs.Common.{◌≡◌, ◌∙◌, ◌∷◌, ◌<◌, ◌≤◌, ◌+◌, ◌*◌, ◌&&◌, ℕ, suc, [], List, Option, None, Some, Bool, true, false, not, IsTrue, ap, arith, cond, filter, find, get_or, map, refl, sum_by, sym}
+use Rattle.std.specs.Prelude.{AllPairs, Contains, if◌then◌else◌}
 use Rattle.std.proofs.lemmas.Bool.{and_parts, false_from_ne_true, false≢true, le-leb}
 use Rattle.std.proofs.lemmas.List.Elements.{filter_agree}
 use Rattle.std.proofs.lemmas.List.Folds.{list_any_at}
@@ -21,9 +20,9 @@ use Rattle.sj_core.proofs.Replicas.{leaving-by_some}
 use Rattle.sj_core.proofs.Separation.{worker-inside}
 use Rattle.sj_core.proofs.Sized.{worked_on-dims}
 use Rattle.sj_core.proofs.Sums.{sum-filter, sum-plus}
-use Rattle.sj_core.proofs.Words.{AtNode, Cell, Machine, Node, Program, State, Task, Worker, cells_of, data_operands, dims_of, distinct, footprint, free, has_cell, is_leaving, is_pinned, is_task_of, no_task, node_of, node_size, order, pins, progress, replica, same_cell, scratch, scratch_bytes, task_of, tasks_of, tile_bytes, worked_on, worker_of, workers_at}
+use Rattle.sj_core.proofs.Words.{AtNode, Cell, Machine, Node, Program, State, Task, Worker, cells_of, data_operands, dims_of, distinct, free, has_cell, is_leaving, is_pinned, is_task_of, no_task, node_of, node_size, order, pins, progress, replica, same_cell, scratch, scratch_bytes, task_of, tasks_of, tile_bytes, worked_on, worker_of, workers_at}
 use Rattle.sj_core.specs.Laws.{IsLawful, IsSound}
-use Rattle.sj_core.specs.Step.{is_in_use, missing, to_come, victims_for}
+use Rattle.sj_core.specs.Step.{is_in_use, to_come, victims_for}
 use Rattle.sj_core.specs.Victims.{covers}
 use Rattle.sj_codelet.specs.declared.kernel.Kernel.{Kernel}
 use Rattle.sj_base.specs.Array.{area}

@@ -16,7 +16,7 @@ use Rattle.sj_base.specs.Mode.{reads_value, starts_as_zeros}
 use Rattle.sj_codelet.specs.Frame.{Slot, shared}
 use Rattle.sj_core.specs.declared.progress.Progress.{Progress}
 use Rattle.sj_core.specs.declared.progress.Progress.TheVariants.{Running, Waiting}
-use Rattle.sj_core.proofs.Words.{Array, AtNode, Cell, CellState, Invalid, Machine, Node, OnDisk, Place, Program, Replica, State, Task, Valid, Worker, array_of, cell_state, cells_of, dims_of, fresh_cells, has_cell, is_entry, is_task_of, is_valid, node_of, node_size, no_task, order, pins, progress, replica, same_cell, scratch, task_of, worked_on, worker_of, workers_at, writes, written_cells, zeros}
+use Rattle.sj_core.proofs.Words.{Array, AtNode, Cell, CellState, Invalid, Machine, Node, OnDisk, Place, Program, Replica, State, Task, Valid, Worker, array_of, cell_state, cells_of, dims_of, fresh_cells, has_cell, is_entry, is_task_of, is_valid, node_of, node_size, order, pins, progress, replica, same_cell, scratch, task_of, worked_on, worker_of, workers_at, writes, written_cells, zeros}
 use Rattle.sj_core.proofs.Advancing.{same_task, task_of-worker}
 use Rattle.sj_core.proofs.CellLists.{times, times-none}
 use Rattle.sj_core.proofs.Claimed.{claimed-inside, claimed-not_written, claimed-staffed}
@@ -31,7 +31,7 @@ use Rattle.sj_core.proofs.TaskCells.{written-among_cells}
 use Rattle.sj_core.specs.Coherent.{IsHeld, is_being_written}
 use Rattle.sj_core.specs.Laws.{IsSound}
 use Rattle.sj_core.specs.Needs.{workers_of}
-use Rattle.sj_core.specs.Step.{Runs, after_run, initial, owned_at, same_place, without}
+use Rattle.sj_core.specs.Step.{Runs, after_run, initial, owned_at, same_place}
 use Rattle.sj_node.proofs.CallerLemmas.{filter-map}
 use Rattle.sj_node.specs.Entry.{Entry, is_among, without_all}
 use Rattle.sj_node.specs.Store.{Store, store, with_entries}
