@@ -1,12 +1,10 @@
 //! Words in every order, against a model that knows what each piece says and reads no words.
 
-ghost use Rattle.std.specs.Prelude.{◌<◌, IfOk};
-
 use crate::{Options, WordsRefusal, machine_of, read_words, swap_wish};
 use sj_base::mode::Policy;
+use sj_base::program::Machine;
 use sj_base::sequence::Sequence;
 use std::alloc::{AllocError, Global};
-use std::process::Abort;
 use std::test::Fail;
 
 // What a piece of a command line says, by the model.
@@ -299,5 +297,61 @@ fn bad_pieces_are_refused(rt: HostRuntime) -> Result<(), Fail> {
         line.add(alloc, bad(number))?;
         assert!(rt; line.is_read(alloc));
     }
+    Ok(())
+}
+
+// A line of these pieces.
+fn line_of(alloc: Global, pieces: &[Piece]) -> Result<Line, AllocError> {
+    let mut line = Line::new(alloc);
+    for piece in pieces {
+        line.add(alloc, *piece)?;
+    }
+    Ok(line)
+}
+
+// The machine that such words make of a job with one node of 8 bytes.
+fn machine_under(alloc: Global, words: &[String], policy: Policy) -> Result<Machine, WordsRefusal> {
+    let options = read_words(alloc, words)?;
+    let nodes = Sequence::of(vec![in alloc; 8; 1]?);
+    let disks = Sequence::of(Vec::new(alloc));
+    Ok(machine_of(alloc, &options, 2, nodes, policy, disks)?)
+}
+
+#[test]
+fn words_win_over_the_job(rt: HostRuntime) -> Result<(), Fail> {
+    let alloc = rt.alloc();
+    let pieces = [setting(0, false), setting(2, true), setting(3, false)];
+    let line = line_of(alloc, pieces.as_slice())?;
+    let Ok(machine) = machine_under(alloc, line.words.as_slice(), Policy::Ws) else {
+        panic!(rt; "no machine")
+    };
+    assert_eq!(rt; machine.workers, 7);
+    assert!(rt; machine.nodes.items() == [4096, 4096, 4096].as_slice());
+    assert!(rt; machine.policy == Policy::Ws);
+    let Ok(machine) = machine_under(alloc, &[], Policy::Prio) else {
+        panic!(rt; "no machine")
+    };
+    assert_eq!(rt; machine.workers, 2);
+    assert!(rt; machine.nodes.items() == [8].as_slice());
+    assert!(rt; machine.policy == Policy::Prio);
+    Ok(())
+}
+
+#[test]
+fn the_swap_is_as_wished(rt: HostRuntime) -> Result<(), Fail> {
+    let alloc = rt.alloc();
+    let pieces = [setting(4, false), setting(6, true), good(10)];
+    let line = line_of(alloc, pieces.as_slice())?;
+    let Ok(wish) = swap_wish(alloc, line.words.as_slice()) else {
+        panic!(rt; "no memory")
+    };
+    assert!(rt; wish.path.is_some_and(|path| path.as_str() == "a=b"));
+    assert_eq!(rt; wish.size, 1 << 40);
+    let line = line_of(alloc, [setting(4, false), bad(0)].as_slice())?;
+    let Ok(wish) = swap_wish(alloc, line.words.as_slice()) else {
+        panic!(rt; "no memory")
+    };
+    assert!(rt; wish.path.is_none());
+    assert_eq!(rt; wish.size, 67_108_864);
     Ok(())
 }
