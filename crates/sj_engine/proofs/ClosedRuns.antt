@@ -8,6 +8,7 @@ use Rattle.sj_base.specs.declared.trace.Event.{Event}
 use Rattle.sj_base.specs.Array.{Array}
 use Rattle.sj_core.specs.Legal.{IsComplete}
 use Rattle.sj_machine.specs.Board.{BoardState}
+use Rattle.sj_machine.specs.BoardRow.{BoardKey, key_of}
 use Rattle.sj_machine.specs.BoardSound.{IsSoundBoard}
 use Rattle.sj_machine.specs.Delivered.{DeliversEach}
 use Rattle.sj_machine.specs.Standing.{AllTell as BoardTells, state}
@@ -39,3 +40,9 @@ module _ {D A : Type 0} (size faults mismatches : D → ℕ) (held : D → Optio
   unmoved-leaves is sound =
       left-as size faults mismatches held b.run.program b.run.machine b.run.opened result pairs b.run.trace events b.run.disks.disks disks trace back
       (leaves-nothing size faults mismatches held b pairs result is sound)
+
+-- with the key of another board, what it leaves is left for that one
+pub leaves-by-key : {D A : Type 0} (size faults mismatches : D → ℕ) (held : D → Option (List ℕ)) (b c : BoardState D) (result : Result A RunFault) (pairs : List (Task × Array)) (events : List Event) (disks : List D) → key_of c ≡ key_of b →
+    LeavesRun size faults mismatches held c.run.program c.run.machine c.run.opened result pairs events disks →
+    LeavesRun size faults mismatches held b.run.program b.run.machine b.run.opened result pairs events disks
+leaves-by-key {D} size faults mismatches held b c result pairs events disks key h = subst (λ (k : BoardKey D). LeavesRun size faults mismatches held k.program k.machine k.opened result pairs events disks) key h
