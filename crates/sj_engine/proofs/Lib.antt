@@ -3,6 +3,7 @@ mod BeginTurns
 mod BoardTurns
 mod ClaimTurns
 mod DeskTurns
+mod ClosedRuns
 mod Closing
 mod IdleHands
 mod KernelFacts
