@@ -10,3 +10,4 @@ mod Turning
 pub mod FirstFit
 pub mod Outcomes
 pub mod Seating
+pub mod Crossings
