@@ -1,5 +1,5 @@
 -- The calls of the board as turns of a worker.
-use Rattle.std.proofs.Common.{◌≡◌, ◌≢◌, ℕ, ◌<◌, ◌+◌, Bool, true, false, List, [], map, length, refl, sym, ap, ◌∙◌, subst, Option, None, Some, arith}
+use Rattle.std.proofs.Common.{◌≡◌, ◌≢◌, ℕ, ◌<◌, ◌+◌, Bool, true, false, List, [], ◌++◌, map, length, refl, sym, ap, ◌∙◌, subst, Option, None, Some, arith}
 use Rattle.std.specs.Prelude.{All, IfSome, IsSomeAnd, IsTrue, is_some, option_map, slice_index_or, slice_set, unwrap_or, if◌then◌else◌}
 use Rattle.std.proofs.lemmas.Bool.{false≢true}
 use Rattle.std.proofs.lemmas.List.{get_or-set_other, get_or-set_same}
@@ -22,8 +22,8 @@ use Rattle.sj_core.specs.Needs.{node_of}
 use Rattle.sj_core.specs.Step.{EndsMove, Step, a_transfer, after, array_at, mover_of}
 use Rattle.sj_core.proofs.Reading.{progress-inside, progress-same, transfer-inside, worker-same}
 use Rattle.sj_core.proofs.States.{one-mover, state_of-more}
-use Rattle.sj_machine.specs.Board.{BoardState, EndsMoveOf, empty_hand, failed, first_fault, hand_of, has_claimed, has_event, stopped, transfer_of, with_hand}
-use Rattle.sj_machine.specs.BoardRow.{BoardKey, key_of}
+use Rattle.sj_machine.specs.Board.{BoardState, EndsMoveOf, OnlyDisksChangeOn, empty_hand, failed, first_fault, hand_of, has_claimed, has_event, stopped, transfer_of, with_hand}
+use Rattle.sj_machine.specs.BoardRow.{BoardKey, key_of, row_of_number}
 use Rattle.sj_machine.specs.BoardSound.{IsSoundBoard}
 use Rattle.sj_machine.specs.Sparing.{Spares, SparesMoved}
 use Rattle.sj_machine.specs.Standing.{CanHappen, IsMovingIn, IsMovingOut, IsTileMoved, IsTileOf, Standing, is_node, state, with_event}
@@ -52,6 +52,25 @@ module _ {D : Type 0} (size faults mismatches : D → ℕ) (held : D → Option 
       first-kept None f e = (let k : ◌≡◌ {A = Option RunFault} (Some f) None = e in cc)
       first-kept (Some g) f e = (let k : ◌≡◌ {A = Option RunFault} (Some g) None = e in cc)
 
+  -- what fails after the disks alone have changed
+  pub failed-after : (a b x y : BoardState D) (fault : RunFault) → x ≡ b → y ≡ failed x w fault → OnlyDisksChangeOn a b → IsTurnOf faults mismatches w a y
+  failed-after a b x y fault ex q only =
+      let t = failed-turn b x y fault ex q in
+      record {
+        key = t.key ∙ ap key_of only;
+        others = λ n other. t.others n other ∙ ap (λ (k : BoardState D). row_of_number k n) only;
+        events = (t.events.0, t.events.1 ∙ ap (λ (k : BoardState D). (row_in k w).events ++ t.events.0) only);
+        no_fault = λ none. sym (ap (λ (k : BoardState D). k.fault) only) ∙ t.no_fault none;
+        counts = λ none. absurd (never (ap (λ (k : BoardState D). k.fault) (q ∙ ap (λ (k : BoardState D). failed k w fault) ex)) none);
+      }
+    where
+      never : y.fault ≡ first_fault b.fault fault → y.fault ≡ None → ⊥
+      never e none = kept b.fault fault (sym e ∙ none)
+        where
+          kept : (o : Option RunFault) (f : RunFault) → first_fault o f ≡ None → ⊥
+          kept None f e = (let k : ◌≡◌ {A = Option RunFault} (Some f) None = e in cc)
+          kept (Some g) f e = (let k : ◌≡◌ {A = Option RunFault} (Some g) None = e in cc)
+
   pub stopped-turn : (b x y : BoardState D) → x ≡ b → y ≡ stopped x w → IsTurnOf faults mismatches w b y
   stopped-turn b x y ex q =
       let e : y ≡ stopped b w = q ∙ ap (λ (k : BoardState D). stopped k w) ex in
@@ -60,6 +79,20 @@ module _ {D : Type 0} (size faults mismatches : D → ℕ) (held : D → Option 
   -- the hand that was put
   pub hand-put : (b y : BoardState D) (hand : Hand) → w.0 < length b.hands → y.hands ≡ slice_set b.hands w.0 hand → hand_of y w ≡ hand
   hand-put b y hand inside hands = ap (λ (hs : List Hand). slice_index_or hs w.0 empty_hand) hands ∙ get_or-set_same b.hands w.0 hand empty_hand inside
+
+  -- its row then
+  module _ (b z x y : BoardState D) (ez : z ≡ b) (ex : x ≡ b) (sound : IsSoundBoard size faults mismatches held z) (known : w.0 < b.run.program.workers) where
+    inside-hands : w.0 < length b.hands
+    inside-hands = subst (λ n. w.0 < n) (sym ((subst (λ (k : BoardState D). IsSoundBoard size faults mismatches held k) ez sound).inside.hands_agree.every_worker)) known
+
+    pub failed-row : (fault : RunFault) → y ≡ failed x w fault → (row_in b w).hand.has_stopped ≡ false → (row_in b w).hand.given ≡ None → IsFreeRow (row_in y w)
+    failed-row fault q goes none =
+        hand-put b y (record (hand_of b w) { task = None }) inside-hands (ap (λ (k : BoardState D). k.hands) (q ∙ ap (λ (k : BoardState D). failed k w fault) ex))
+        ∙ ap (λ (g : Option Task). let h : Hand = record { given = g; task = None; has_stopped = (hand_of b w).has_stopped } in h) none
+        ∙ ap (λ (g : Bool). let h : Hand = record { given = None; task = None; has_stopped = g } in h) goes
+
+    pub stopped-row : y ≡ stopped x w → IsStoppedRow (row_in y w)
+    stopped-row q = ap (λ (h : Hand). h.has_stopped) (hand-put b y (record (hand_of b w) { task = None; has_stopped = true }) inside-hands (ap (λ (k : BoardState D). k.hands) (q ∙ ap (λ (k : BoardState D). stopped k w) ex)))
 
   -- ---- events
 

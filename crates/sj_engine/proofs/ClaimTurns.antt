@@ -1,5 +1,5 @@
 -- Claims and ends as turns of a worker.
-use Rattle.std.proofs.Common.{◌≡◌, ◌≢◌, ℕ, ◌<◌, ◌+◌, Bool, true, false, List, [], ◌∷◌, map, length, refl, sym, ap, ◌∙◌, subst, Option, None, Some, arith, zero, suc}
+use Rattle.std.proofs.Common.{◌≡◌, ◌≢◌, ℕ, ◌<◌, ◌+◌, Bool, true, false, List, [], ◌∷◌, map, length, refl, sym, ap, ◌∙◌, subst, Option, None, Some, arith, zero, suc, ◌||◌}
 use Rattle.std.specs.Prelude.{All, IfSome, IsTrue, filter, is_some, option_map, slice_index_or, slice_set, unwrap_or, not, if◌then◌else◌}
 use Rattle.std.specs.List.{AllZip, Contains}
 use Rattle.std.proofs.lemmas.Bool.{cases_Bool, false≢true}
@@ -19,7 +19,8 @@ use Rattle.sj_codelet.specs.Frame.{Slot, arrays}
 use Rattle.sj_codelet.specs.Kernel.{out}
 use Rattle.sj_core.specs.declared.progress.Progress.{Progress}
 use Rattle.sj_core.specs.declared.progress.Progress.TheVariants.{Claimed, Running, Waiting}
-use Rattle.sj_core.specs.Machine.{State, WorkerState, is_running_on, is_task_of, progress, transfer, worker_state}
+use Rattle.sj_core.specs.declared.progress.Transfer.{Transfer}
+use Rattle.sj_core.specs.Machine.{State, WorkerState, is_claimed_by, is_running_on, is_task_of, progress, transfer, worker_state}
 use Rattle.sj_core.specs.Needs.{node_of}
 use Rattle.sj_core.specs.Operands.{cells_of, found, results, worked_on}
 use Rattle.sj_core.specs.Program.{data_operands, dims_of, task_of, written_operands}
@@ -27,16 +28,17 @@ use Rattle.sj_core.specs.Step.{array_at}
 use Rattle.sj_core.proofs.Reading.{progress-inside, progress-same, worker-same}
 use Rattle.sj_core.proofs.Readiness.{Contains-filter}
 use Rattle.sj_core.proofs.Replicas.{same_worker-refl}
-use Rattle.sj_machine.specs.Board.{BoardState, HasTask, empty_hand, given_back, given_next, hand_of, has_claimed, has_ended, has_event, transfer_of, with_hand}
+use Rattle.sj_machine.specs.Board.{BoardState, HasTask, IsIdle, WasGiven, empty_hand, given_back, given_next, hand_of, has_claimed, has_ended, has_event, room_of, transfer_of, with_hand}
 use Rattle.sj_machine.specs.BoardRow.{key_of}
 use Rattle.sj_machine.specs.BoardSound.{IsSoundBoard}
+use Rattle.sj_pool.specs.Pool.{task_for}
 use Rattle.sj_machine.specs.Releasing.{EndsTask}
 use Rattle.sj_machine.specs.Running.{AreResultsFor, IsResultIn}
 use Rattle.sj_machine.specs.Sparing.{Spares}
 use Rattle.sj_machine.specs.Standing.{AllTell, CanHappen, Standing, state, with_event}
 use Rattle.sj_machine.specs.declared.hand.Hand.{Hand}
 use Rattle.sj_engine.specs.Operands.{IsShare}
-use Rattle.sj_engine.specs.Stage.{AreDone, HasClaimedRow, HoldResults, IsFreeRow, RunsRow, busy_hand, row_in}
+use Rattle.sj_engine.specs.Stage.{AreDone, HasClaimedRow, HoldResults, IsFreeRow, RunsRow, busy_hand, given_hand, row_in}
 use Rattle.sj_engine.specs.Turn.{IsTurnOf}
 use Rattle.sj_engine.proofs.BoardTurns.{event-turn, hand-put, state-after}
 use Rattle.sj_engine.proofs.OwnRows.{claimed-row, has-task, phase-of, some-same}
@@ -90,6 +92,9 @@ shares-results p [] (s ∷ slots) h = absurd h
 shares-results p (a ∷ accesses) [] h = absurd h
 shares-results p (a ∷ accesses) (s ∷ slots) h = (record { shared = h.0.shared; dims = h.0.dims }, shares-results p accesses slots h.1)
 
+or-left : (a c : Bool) → a ≡ true → (a || c) ≡ true
+or-left a c h = ap (λ k. k || c) h
+
 module _ {D : Type 0} (size faults mismatches : D → ℕ) (held : D → Option (List ℕ)) (w : Worker) where
   -- ---- the end of a task
 
@@ -135,3 +140,79 @@ module _ {D : Type 0} (size faults mismatches : D → ℕ) (held : D → Option 
           let inside : w.0 < length x.hands = subst (λ n. w.0 < n) (sym (ap (λ (k : BoardState D). length k.hands) ex ∙ here.inside.hands_agree.every_worker)) known in
           hand-put size faults mismatches held w x y (record (hand_of x w) { task = None }) inside (ap (λ (k : BoardState D). k.hands) ends.leaves)
           ∙ ap (λ (h : Hand). let g : Hand = record { given = h.given; task = None; has_stopped = h.has_stopped } in g) (ap (λ (k : BoardState D). hand_of k w) ex ∙ r.hand)
+
+  -- ---- the task that a worker is given
+
+  module _ (b z x y : BoardState D) (ez : z ≡ b) (ex : x ≡ b) (sound : IsSoundBoard size faults mismatches held z) (known : w.0 < b.run.program.workers) where
+    claim-sound : IsSoundBoard size faults mismatches held b
+    claim-sound = subst (λ (k : BoardState D). IsSoundBoard size faults mismatches held k) ez sound
+
+    inside-hands : w.0 < length b.hands
+    inside-hands = subst (λ n. w.0 < n) (sym claim-sound.inside.hands_agree.every_worker) known
+
+    pub next-turn : y ≡ given_next x w → IsTurnOf faults mismatches w b y
+    next-turn q =
+        let e : y ≡ given_next b w = q ∙ ap (λ (k : BoardState D). given_next k w) ex in
+        turn-hand faults mismatches w b (record (hand_of b w) { given = task_for b.pool w.0 (room_of b w) }) y (ap (λ (k : BoardState D). k.run) e) (ap (λ (k : BoardState D). k.hands) e) (λ none. sym (ap (λ (k : BoardState D). k.fault) e) ∙ none)
+
+    pub next-fault : y ≡ given_next x w → y.fault ≡ b.fault
+    next-fault q = ap (λ (k : BoardState D). k.fault) q ∙ ap (λ (k : BoardState D). k.fault) ex
+
+    pub next-hand : y ≡ given_next x w → IsFreeRow (row_in b w) → (o : Option Task) → o ≡ task_for x.pool w.0 (room_of x w) → hand_of y w ≡ record { given = o; task = None; has_stopped = false }
+    next-hand q free o is =
+        let e : y ≡ given_next b w = q ∙ ap (λ (k : BoardState D). given_next k w) ex in
+        hand-put size faults mismatches held w b y (record (hand_of b w) { given = task_for b.pool w.0 (room_of b w) }) inside-hands (ap (λ (k : BoardState D). k.hands) e)
+        ∙ ap (λ (h : Hand). let g : Hand = record { given = task_for b.pool w.0 (room_of b w); task = h.task; has_stopped = h.has_stopped } in g) free
+        ∙ ap (λ (u : Option Task). let g : Hand = record { given = u; task = None; has_stopped = false } in g) (sym (is ∙ ap (λ (k : BoardState D). task_for k.pool w.0 (room_of k w)) ex))
+
+    module _ (t : Task) (given : hand_of b w ≡ given_hand t) where
+      pub was-given : WasGiven x w t
+      was-given = subst (λ (k : BoardState D). WasGiven k w t) (sym ex) (record { works = record { known = known; goes_on = ap (λ (h : Hand). h.has_stopped) given }; given = ap (λ (h : Hand). h.given) given })
+
+      pub given-idle : IsIdle x w
+      given-idle = subst (λ (k : BoardState D). IsIdle k w) (sym ex) (record { works = record { known = known; goes_on = ap (λ (h : Hand). h.has_stopped) given }; no_task = ap (λ (h : Hand). h.task) given })
+
+      pub back-turn : y ≡ given_back x t w → IsTurnOf faults mismatches w b y
+      back-turn q =
+          let e : y ≡ given_back b t w = q ∙ ap (λ (k : BoardState D). given_back k t w) ex in
+          turn-hand faults mismatches w b (record (hand_of b w) { given = None }) y (ap (λ (k : BoardState D). k.run) e) (ap (λ (k : BoardState D). k.hands) e) (λ none. sym (ap (λ (k : BoardState D). k.fault) e) ∙ none)
+
+      pub back-row : y ≡ given_back x t w → IsFreeRow (row_in y w)
+      back-row q =
+          let e : y ≡ given_back b t w = q ∙ ap (λ (k : BoardState D). given_back k t w) ex in
+          hand-put size faults mismatches held w b y (record (hand_of b w) { given = None }) inside-hands (ap (λ (k : BoardState D). k.hands) e)
+          ∙ ap (λ (h : Hand). let g : Hand = record { given = None; task = h.task; has_stopped = h.has_stopped } in g) given
+
+      pub back-fault : y ≡ given_back x t w → y.fault ≡ b.fault
+      back-fault q = ap (λ (k : BoardState D). k.fault) q ∙ ap (λ (k : BoardState D). k.fault) ex
+
+      module _ (can : CanHappen x.run (Claim t w)) (q : y ≡ has_claimed x t w) where
+        can-claim : CanHappen b.run (Claim t w)
+        can-claim = subst (λ (k : BoardState D). CanHappen k.run (Claim t w)) ex can
+
+        pub claimed-turn : Spares x.run (Claim t w) y.run → IsTurnOf faults mismatches w b y
+        claimed-turn spares =
+            event-turn size faults mismatches held w b z x y (λ k. Claim t w) ez ex sound refl can-claim (ap (λ (k : BoardState D). k.run) q)
+            (λ v d. ap (λ (k : BoardState D). hand_of k v) q ∙ get_or-set_other x.hands w.0 v.0 (record (hand_of x w) { given = None; task = Some t }) empty_hand (λ e. d (ap (λ (n : ℕ). let u : Worker = record { 0 = n } in u) e)))
+            (λ f. sym (ap (λ (k : BoardState D). k.fault) q) ∙ f) spares
+
+        pub claimed-now : b.fault ≡ None → HasClaimedRow w t (row_in y w)
+        claimed-now no_fault =
+            let e : y ≡ has_claimed b t w = q ∙ ap (λ (k : BoardState D). has_claimed k t w) ex in
+            let s = state b.run in
+            let s' = state-after b y (Claim t w) (ap (λ (k : BoardState D). k.run) e) in
+            let inside : t.0 < length s.tasks = subst (λ n. t.0 < n) (sym claim-sound.run.coherent.state.rows.tasks) can-claim.ready.task in
+            let staff : w.0 < length s.workers = subst (λ n. w.0 < n) (sym (claim-sound.run.coherent.state.rows.workers ∙ claim-sound.run.run.machine.workers)) known in
+            claimed-row y w t
+            (hand-put size faults mismatches held w b y (record (hand_of b w) { given = None; task = Some t }) inside-hands (ap (λ (k : BoardState D). k.hands) e)
+            ∙ ap (λ (h : Hand). let g : Hand = record { given = None; task = Some t; has_stopped = h.has_stopped } in g) given)
+            (ap (λ (k : State). progress k t) s' ∙ progress-same s t (Claimed w) inside)
+            (ap (λ (k : State). transfer k w) s' ∙ ap (λ (k : WorkerState). k.transfer) (worker-same s w _ staff) ∙ none-moves (transfer s w) refl)
+          where
+            none-moves : (o : Option Transfer) → transfer (state b.run) w ≡ o → transfer (state b.run) w ≡ None
+            none-moves None e = e
+            none-moves (Some x) e =
+                let own = claim-sound.run.coherent.workers.moves_for_claim w x e in
+                let has : is_task_of w (progress (state b.run) own.0) ≡ true = or-left (is_claimed_by w (progress (state b.run) own.0)) (is_running_on w (progress (state b.run) own.0)) own.1 in
+                let two = sym (ap (λ (h : Hand). h.task) given) ∙ claim-sound.inside.hands_agree.tells no_fault w own.0 has in
+                absurd (let k : ◌≡◌ {A = Option Task} None (Some own.0) = two in cc)

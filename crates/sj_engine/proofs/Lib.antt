@@ -1,11 +1,17 @@
 mod Answering
+mod BeginTurns
 mod BoardTurns
 mod ClaimTurns
+mod DeskTurns
 mod KernelFacts
+mod MoveTurns
 mod OperandLists
 mod OtherRows
 mod OwnRows
 mod ResultLists
+mod SeatSteps
+mod StepFacts
+mod StepTurns
 mod Turning
 pub mod FirstFit
 pub mod Outcomes

@@ -33,6 +33,10 @@ IsStoppedRow r = r.hand.has_stopped ≡ true
 abbrev pub busy_hand : Task → Hand
 busy_hand t = record { given = None; task = Some t; has_stopped = false }
 
+-- it was given this task
+abbrev pub given_hand : Task → Hand
+given_hand t = record { given = Some t; task = None; has_stopped = false }
+
 -- it has claimed the task, and no transfer of it is under way
 pub record HasClaimedRow (w : Worker) (t : Task) (r : BoardRow) : Type 0 where
   pub hand : r.hand ≡ busy_hand t
@@ -108,6 +112,12 @@ pub record IsAt {D : Type 0} (desk : DeskFacts (BoardState D)) (w : Worker) (P :
   pub waiting : IsWaiting desk s
   pub number : s.number ≡ w.0
   pub row : IsSomeAnd s.left (λ b. P (row_in b w))
+
+-- the worker's seat at this desk isn't in its turn, and left this board
+pub record HasLeft {D : Type 0} (desk : DeskFacts (BoardState D)) (w : Worker) (b : BoardState D) (s : SeatFacts (BoardState D)) : Type 0 where
+  pub waiting : IsWaiting desk s
+  pub number : s.number ≡ w.0
+  pub left : s.left ≡ Some b
 
 -- the events in the row that the seat left begin with these
 abbrev pub HasBegun : {D : Type 0} → Worker → List Event → SeatFacts (BoardState D) → Type 0

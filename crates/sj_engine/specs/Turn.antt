@@ -1,6 +1,7 @@
 -- What a turn of a worker leaves on the board.
 use Rattle.std.specs.Prelude.{◌≡◌, ◌≢◌, ◌<◌, ℕ, Option, None, List}
 use Rattle.sj_base.specs.declared.ids.Worker.{Worker}
+use Rattle.sj_desk.specs.Seats.{DeskFacts}
 use Rattle.sj_disk.specs.Holding.{CountsStay}
 use Rattle.sj_machine.specs.Board.{BoardState}
 use Rattle.sj_machine.specs.BoardRow.{key_of, row_of_number}
@@ -24,3 +25,9 @@ pub record IsTurnOf {D : Type 0} (faults mismatches : D → ℕ) (w : Worker) (o
 -- the worker is one of the program of the board
 abbrev pub IsWorkerOf : {D : Type 0} → BoardState D → Worker → Type 0
 IsWorkerOf b w = w.0 < b.run.program.workers
+
+-- the worker's turn, in which it found this board, may end with that one
+pub record MayLeave {D : Type 0} (size faults mismatches : D → ℕ) (held : D → Option (List ℕ)) (desk : DeskFacts (BoardState D)) (w : Worker) (b found : BoardState D) : Type 0 where
+  pub turn : IsTurnOf faults mismatches w found b
+  pub sound : IsSharedSound size faults mismatches held found
+  pub key : key_of found ≡ key_of desk.opening

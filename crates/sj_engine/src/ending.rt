@@ -32,6 +32,7 @@ impl<D: Disk> SharedBoard<D> {
         ensures turn { IsTurnOf D.faults D.mismatches w self.old self.new }
         ensures row { IsFreeRow (row_in self.new w) }
     {
+        self.board.is_sound();
         self.board.fail(w, RunFault::OutOfMemory);
     }
 }

@@ -2,7 +2,7 @@
 
 ghost use Rattle.std.specs.Prelude.{◌≡◌, MatchBool, false, true};
 ghost use Rattle.sj_core.specs.Program.{dims_of};
-ghost use Rattle.sj_machine.specs.Board.{HasCause, failed};
+ghost use Rattle.sj_machine.specs.Board.{BoardState, HasCause, OnlyDisksChangeOn};
 ghost use Rattle.sj_machine.specs.BoardRow.{key_of};
 ghost use Rattle.sj_machine.specs.Standing.{is_node};
 ghost use Rattle.sj_engine.specs.Stage.{HasClaimedRow, IsCarried, IsFreeRow, MovesRow, row_in};
@@ -23,9 +23,10 @@ impl<D: Disk> SharedBoard<D> {
         requires worker { IsWorkerOf self.old w }
         requires moves { MovesRow w t x (row_in self.old w) }
         requires cause { HasCause D.faults D.mismatches D.held self.old.run fault }
-        ensures failed { self.new ≡ failed self.old w fault }
+        ensures turn { (b : BoardState D) → OnlyDisksChangeOn b self.old → IsTurnOf D.faults D.mismatches w b self.new }
         ensures row { IsFreeRow (row_in self.new w) }
     {
+        self.board.is_sound();
         self.board.fail(w, fault);
     }
 

@@ -1,15 +1,14 @@
 //! How a worker gets its next task.
 
-ghost use Rattle.std.specs.Prelude.{◌≡◌, None};
+ghost use Rattle.std.specs.Prelude.{◌≡◌, IfNone, IfSome, None};
 ghost use Rattle.sj_machine.specs.Board.{IsOver};
 ghost use Rattle.sj_engine.specs.Picking.{AfterClaim, AfterPick};
-ghost use Rattle.sj_engine.specs.Stage.{IsFreeRow, IsStoppedRow, row_in};
+ghost use Rattle.sj_engine.specs.Stage.{IsFreeRow, IsStoppedRow, given_hand, row_in};
 ghost use Rattle.sj_engine.specs.Turn.{IsTurnOf, IsWorkerOf};
 
 use crate::shared_board::SharedBoard;
 use sj_base::ids::{Task, Worker};
 use sj_edge::disk::Disk;
-use sj_machine::fault::RunFault;
 use sj_machine::refusal::ClaimRefusal;
 use std::alloc::Global;
 
@@ -31,6 +30,55 @@ pub enum Picked {
 const TRIES: u32 = 4;
 
 impl<D: Disk> SharedBoard<D> {
+    /// A worker claims the task that it was given; where the claim can't be made, the task goes back. The cost of `claim`.
+    fn claim_given(&mut self, alloc: Global, w: Worker, t: Task) -> Picked
+        requires worker { IsWorkerOf self.old w }
+        requires given { (row_in self.old w).hand ≡ given_hand t }
+        requires no_fault { self.old.fault ≡ None }
+        ensures turn { IsTurnOf D.faults D.mismatches w self.old self.new }
+        ensures row { AfterClaim w (row_in self.new w) result }
+        ensures no_fault { result ≡ Picked.Nothing → self.new.fault ≡ None }
+    {
+        self.board.is_sound();
+        match self.board.claim(alloc, t, w) {
+            Ok(()) => Picked::Task(t),
+            Err(ClaimRefusal::NotNow(_)) => {
+                self.put_back(w, t);
+                Picked::Nothing
+            }
+            Err(ClaimRefusal::OutOfMemory) => {
+                self.put_back(w, t);
+                self.fail_without_memory(w);
+                Picked::Failed
+            }
+        }
+    }
+
+    /// A worker puts the task that it was given back. The cost of `give_back`.
+    fn put_back(&mut self, w: Worker, t: Task)
+        requires worker { IsWorkerOf self.old w }
+        requires given { (row_in self.old w).hand ≡ given_hand t }
+        ensures turn { IsTurnOf D.faults D.mismatches w self.old self.new }
+        ensures row { IsFreeRow (row_in self.new w) }
+        ensures fault { self.new.fault ≡ self.old.fault }
+    {
+        self.board.is_sound();
+        self.board.give_back(t, w);
+    }
+
+    /// A worker is given a task, where there is one. The cost of `next`.
+    fn give_next(&mut self, w: Worker) -> Option<Task>
+        requires worker { IsWorkerOf self.old w }
+        requires free { IsFreeRow (row_in self.old w) }
+        ensures turn { IsTurnOf D.faults D.mismatches w self.old self.new }
+        ensures some { IfSome result (λ t. (row_in self.new w).hand ≡ given_hand t) }
+        ensures none { IfNone result (IsFreeRow (row_in self.new w)) }
+        ensures fault { self.new.fault ≡ self.old.fault }
+    {
+        self.board.is_sound();
+        self.board.next(w)
+    }
+
     /// A worker is given a task and claims it; where the claim can't be made, the task goes back. The costs of `next` and `claim`.
     fn claim_next(&mut self, alloc: Global, w: Worker) -> Picked
         requires worker { IsWorkerOf self.old w }
@@ -40,22 +88,10 @@ impl<D: Disk> SharedBoard<D> {
         ensures row { AfterClaim w (row_in self.new w) result }
         ensures no_fault { result ≡ Picked.Nothing → self.new.fault ≡ None }
     {
-        self.board.is_sound();
-        let Some(t) = self.board.next(w) else {
+        let Some(t) = self.give_next(w) else {
             return Picked::Nothing;
         };
-        match self.board.claim(alloc, t, w) {
-            Ok(()) => Picked::Task(t),
-            Err(ClaimRefusal::NotNow(_)) => {
-                self.board.give_back(t, w);
-                Picked::Nothing
-            }
-            Err(ClaimRefusal::OutOfMemory) => {
-                self.board.give_back(t, w);
-                self.board.fail(w, RunFault::OutOfMemory);
-                Picked::Failed
-            }
-        }
+        self.claim_given(alloc, w, t)
     }
 
     /// The tries of a worker to claim a task.
@@ -84,6 +120,7 @@ impl<D: Disk> SharedBoard<D> {
         ensures over { result ≡ Picked.Over }
         ensures row { IsStoppedRow (row_in self.new w) }
     {
+        self.board.is_sound();
         self.board.stop(w);
         Picked::Over
     }

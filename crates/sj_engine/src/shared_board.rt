@@ -39,6 +39,7 @@ impl<D: Disk> Keyed for SharedBoard<D> {
 
 impl<D: Disk> SharedBoard<D> {
     ghost use Rattle.std.specs.Prelude.{◌≡◌, IfErr, IfOk};
+    ghost use Rattle.sj_machine.specs.BoardSound.{IsSoundBoard};
 
     /// A board that goes into a box, with nobody at rest. It comes back where memory is wanting. Constant time.
     pub fn new(alloc: Global, board: Board<D>) -> Result<SharedBoard<D>, Board<D>>
@@ -63,17 +64,21 @@ impl<D: Disk> SharedBoard<D> {
 
     /// Notes that a worker rests. Constant time.
     pub fn rest(&mut self)
-        ensures { self.new ≡ self.old }
+        ensures same { self.new ≡ self.old }
+        ensures sound { IsSoundBoard D.size D.faults D.mismatches D.held self.new }
     {
         self.someone_rests = true;
+        self.board.is_sound();
     }
 
     /// Whether the bell is to be rung: a worker may rest, and no other turn has seen to it since. Constant time.
     pub fn wakes(&mut self) -> bool
-        ensures { self.new ≡ self.old }
+        ensures same { self.new ≡ self.old }
+        ensures sound { IsSoundBoard D.size D.faults D.mismatches D.held self.new }
     {
         let rings = self.someone_rests;
         self.someone_rests = false;
+        self.board.is_sound();
         rings
     }
 }

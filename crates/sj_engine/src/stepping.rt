@@ -112,6 +112,7 @@ impl<D: Disk> SharedBoard<D> {
         ensures turn { IsTurnOf D.faults D.mismatches w self.old self.new }
         ensures row { AfterStep D.held (key_of self.new) w t (row_in self.new w) result }
     {
+        self.board.is_sound();
         self.board.stop(w);
         Step::Stopped
     }

@@ -1,12 +1,13 @@
 //! The turns of a worker at the desk: each is one look at the board, or one event on it.
 
-ghost use Rattle.std.specs.Prelude.{◌≡◌, MatchBool, None, false, is_some, true};
+ghost use Rattle.std.specs.Prelude.{◌≡◌, IsSomeAnd, MatchBool, None, Some, false, is_some, true};
 ghost use Rattle.sj_core.specs.Program.{dims_of};
 ghost use Rattle.sj_machine.specs.BoardRow.{key_of};
 ghost use Rattle.sj_machine.specs.Standing.{is_node};
 ghost use Rattle.sj_engine.specs.Picking.{AfterPick};
-ghost use Rattle.sj_engine.specs.Stage.{AreDone, GoesOn, HasClaimedRow, IsAt, IsCarried, IsDeskOf, IsFreeRow, MovesRow, RunsRow};
+ghost use Rattle.sj_engine.specs.Stage.{AreDone, GoesOn, HasClaimedRow, HasLeft, IsAt, IsCarried, IsDeskOf, IsFreeRow, MovesRow, RunsRow};
 ghost use Rattle.sj_engine.specs.Stepping.{AfterStep};
+ghost use Rattle.sj_engine.specs.Turn.{MayLeave};
 
 use crate::picking::Picked;
 use crate::shared_board::SharedBoard;
@@ -27,6 +28,53 @@ pub type BoardDesk<D> = Desk<SharedBoard<D>>;
 
 pub type BoardSeat<D> = DeskSeat<SharedBoard<D>>;
 
+/// Rings the bell, or doesn't.
+fn ring_where<D: Disk>(desk: &BoardDesk<D>, seat: &mut BoardSeat<D>, rings: bool)
+    requires of_this_desk { seat.old.desk ≡ Some desk.now }
+    ensures { seat.new ≡ seat.old }
+{
+    if rings {
+        desk.ring(seat);
+    }
+}
+
+/// Ends a worker's turn, and wakes those that rest.
+fn end_turn<D: Disk>(
+    desk: &BoardDesk<D>,
+    seat: &mut BoardSeat<D>,
+    w: Worker,
+    mut shared: SharedBoard<D>,
+)
+    requires desk { seat.old.desk ≡ Some desk.now }
+    requires number { seat.old.number ≡ w.0 }
+    requires turn { IsSomeAnd seat.old.found (MayLeave D.size D.faults D.mismatches D.held desk.now w shared) }
+    ensures { HasLeft desk.now w shared seat.new }
+{
+    let _ = w;
+    let rings = shared.wakes();
+    desk.leave(seat, shared);
+    ring_where(desk, seat, rings);
+}
+
+/// Ends a worker's turn in which it found nothing to do. The seat has heard the bell.
+fn end_turn_to_rest<D: Disk>(
+    desk: &BoardDesk<D>,
+    seat: &mut BoardSeat<D>,
+    w: Worker,
+    mut shared: SharedBoard<D>,
+)
+    requires desk { seat.old.desk ≡ Some desk.now }
+    requires number { seat.old.number ≡ w.0 }
+    requires turn { IsSomeAnd seat.old.found (MayLeave D.size D.faults D.mismatches D.held desk.now w shared) }
+    ensures left { HasLeft desk.now w shared seat.new }
+    ensures heard { is_some seat.new.heard ≡ true }
+{
+    let _ = w;
+    shared.rest();
+    desk.listen(seat);
+    desk.leave(seat, shared);
+}
+
 /// Looks for a task and claims it. Where there is nothing to claim, the seat has heard the bell.
 pub fn pick<D: Disk, R: Wait>(
     rt: &R,
@@ -46,10 +94,10 @@ pub fn pick<D: Disk, R: Wait>(
     let mut shared = desk.enter(rt, seat);
     let picked = shared.pick(alloc, w);
     if picked == Picked::Nothing {
-        shared.rest();
-        desk.listen(seat);
+        end_turn_to_rest(desk, seat, w, shared);
+        return Picked::Nothing;
     }
-    desk.leave(seat, shared);
+    end_turn(desk, seat, w, shared);
     picked
 }
 
@@ -72,16 +120,11 @@ pub fn step<D: Disk, R: Wait>(
     let _ = program;
     let mut shared = desk.enter(rt, seat);
     let step = shared.step(alloc, w, t);
-    let waits = matches!(step, Step::Waits);
-    if waits {
-        shared.rest();
-        desk.listen(seat);
+    if let Step::Waits = step {
+        end_turn_to_rest(desk, seat, w, shared);
+        return Step::Waits;
     }
-    let rings = !waits && shared.wakes();
-    desk.leave(seat, shared);
-    if rings {
-        desk.ring(seat);
-    }
+    end_turn(desk, seat, w, shared);
     step
 }
 
@@ -105,11 +148,7 @@ pub fn arrive<D: Disk, R: Wait>(
     let _ = program;
     let mut shared = desk.enter(rt, seat);
     shared.arrive(w, t, x, tile);
-    let rings = shared.wakes();
-    desk.leave(seat, shared);
-    if rings {
-        desk.ring(seat);
-    }
+    end_turn(desk, seat, w, shared);
 }
 
 /// Writes a tile to its disk and ends its transfer. Whether it did: else the worker has failed.
@@ -132,11 +171,7 @@ pub fn write_out<D: Disk, R: Wait>(
     let _ = program;
     let mut shared = desk.enter(rt, seat);
     let written = shared.write_out(w, t, x, tile);
-    let rings = shared.wakes();
-    desk.leave(seat, shared);
-    if rings {
-        desk.ring(seat);
-    }
+    end_turn(desk, seat, w, shared);
     written
 }
 
@@ -163,11 +198,7 @@ pub fn read_in<D: Disk, R: Wait>(
     let _ = program;
     let mut shared = desk.enter(rt, seat);
     let read = shared.read_in(alloc, w, t, x, tile);
-    let rings = shared.wakes();
-    desk.leave(seat, shared);
-    if rings {
-        desk.ring(seat);
-    }
+    end_turn(desk, seat, w, shared);
     read
 }
 
@@ -189,11 +220,7 @@ pub fn finish<D: Disk, R: Wait>(
     let _ = program;
     let mut shared = desk.enter(rt, seat);
     shared.finish(w, t, results);
-    let rings = shared.wakes();
-    desk.leave(seat, shared);
-    if rings {
-        desk.ring(seat);
-    }
+    end_turn(desk, seat, w, shared);
 }
 
 /// Fails for want of memory, and lets the task go.
@@ -212,9 +239,5 @@ pub fn fail<D: Disk, R: Wait>(
     let _ = program;
     let mut shared = desk.enter(rt, seat);
     shared.fail_without_memory(w);
-    let rings = shared.wakes();
-    desk.leave(seat, shared);
-    if rings {
-        desk.ring(seat);
-    }
+    end_turn(desk, seat, w, shared);
 }

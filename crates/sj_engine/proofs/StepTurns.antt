@@ -1,0 +1,100 @@
+-- The beginning of a transfer and of a kernel as turns of a worker.
+use Rattle.std.proofs.Common.{◌≡◌, ℕ, ◌<◌, Bool, true, false, List, [], ◌∷◌, map, length, refl, sym, ap, ◌∙◌, subst, Option, None, Some, arith, zero, suc}
+use Rattle.std.specs.Prelude.{IfSome, IsSomeAnd, IsTrue, filter, is_some, option_map, unwrap_or, if◌then◌else◌}
+use Rattle.std.specs.List.{AllZip, Contains}
+use Rattle.std.proofs.lemmas.Bool.{false≢true}
+use Rattle.sj_base.specs.declared.ids.Cell.{Cell}
+use Rattle.sj_base.specs.declared.ids.DiskNo.{DiskNo}
+use Rattle.sj_base.specs.declared.ids.Node.{Node}
+use Rattle.sj_base.specs.declared.ids.Place.{Place}
+use Rattle.sj_base.specs.declared.ids.Place.TheVariants.{Node as AtNode, Disk as OnDisk}
+use Rattle.sj_base.specs.declared.ids.Task.{Task}
+use Rattle.sj_base.specs.declared.ids.Worker.{Worker}
+use Rattle.sj_base.specs.declared.trace.Event.TheVariants.{Move, Run}
+use Rattle.sj_base.specs.Array.{Array}
+use Rattle.sj_core.specs.declared.progress.Progress.{Progress}
+use Rattle.sj_core.specs.declared.progress.Progress.TheVariants.{Claimed}
+use Rattle.sj_core.specs.declared.progress.Transfer.{Transfer}
+use Rattle.sj_core.specs.Machine.{State, WorkerState, is_coming_by, is_entry, progress, replica, transfer, with_transfer, worker_state}
+use Rattle.sj_core.specs.Needs.{node_of}
+use Rattle.sj_core.specs.Program.{dims_of}
+use Rattle.sj_core.specs.Step.{Step, a_transfer, after, array_at, mover_of}
+use Rattle.sj_core.proofs.Reading.{entry-inside, worker-same}
+use Rattle.sj_core.proofs.Replicas.{coming_by-is, leaving_by-is}
+use Rattle.sj_machine.specs.Board.{BoardState, hand_of, has_event, transfer_of}
+use Rattle.sj_machine.specs.BoardRow.{key_of}
+use Rattle.sj_machine.specs.BoardSound.{IsSoundBoard}
+use Rattle.sj_machine.specs.Sparing.{Spares}
+use Rattle.sj_machine.specs.Standing.{AllTell, CanHappen, IsShareOf, IsTileOf, is_node, state}
+use Rattle.sj_engine.specs.Stage.{HasClaimedRow, IsCarried, MovesRow, row_in}
+use Rattle.sj_engine.specs.Stepping.{IsFetch, IsShareCarried}
+use Rattle.sj_engine.specs.Turn.{IsTurnOf}
+use Rattle.sj_engine.proofs.BoardTurns.{has_event-turn, state-after}
+use Rattle.sj_engine.proofs.OwnRows.{moves-row, phase-of, row-transfer}
+
+some-and : {X : Type 0} (P Q : X → Type 0) (o : Option X) → ((x : X) → P x → Q x) → IsSomeAnd o P → IsSomeAnd o Q
+some-and P Q None f h = absurd h
+some-and P Q (Some x) f h = f x h
+
+module _ {D : Type 0} (size faults mismatches : D → ℕ) (held : D → Option (List ℕ)) (w : Worker) (b z x y : BoardState D) (t : Task) (c : Cell) (from to : Place) (ez : z ≡ b) (ex : x ≡ b)
+    (sound : IsSoundBoard size faults mismatches held z) (known : w.0 < b.run.program.workers) (r : HasClaimedRow w t (row_in b w)) (can : CanHappen b.run (Move c from to)) (mover : mover_of (state b.run) c from to ≡ w)
+    (q : y ≡ has_event x (Move c from to)) where
+  here : IsSoundBoard size faults mismatches held b
+  here = subst (λ (k : BoardState D). IsSoundBoard size faults mismatches held k) ez sound
+
+  pub move-turn : Spares x.run (Move c from to) y.run → IsTurnOf faults mismatches w b y
+  move-turn spares = has_event-turn size faults mismatches held w b z x y (λ k. Move c from to) ez ex sound mover can q spares
+
+  abbrev its : Transfer
+  its = record { cell = c; from = from; to = to }
+
+  its-event : y ≡ has_event b (Move c from to)
+  its-event = q ∙ ap (λ (k : BoardState D). has_event k (Move c from to)) ex
+
+  its-state : state y.run ≡ after b.run.program b.run.machine (state b.run) (Move c from to)
+  its-state = state-after b y (Move c from to) (ap (λ (k : BoardState D). k.run) its-event)
+
+  staff : w.0 < length (state b.run).workers
+  staff = subst (λ n. w.0 < n) (sym (here.run.coherent.state.rows.workers ∙ here.run.run.machine.workers)) known
+
+  its-transfer : transfer (state y.run) w ≡ Some its
+  its-transfer =
+      ap (λ (k : State). transfer k w) its-state
+      ∙ ap (λ (v : Worker). transfer (after-move v) w) mover
+      ∙ ap (λ (k : WorkerState). k.transfer) (worker-same (state b.run) w _ staff)
+    where
+      after-move : Worker → State
+      after-move v = with_transfer (state b.run) v (Some (a_transfer c from to))
+
+  pub move-row : MovesRow w t its (row_in y w)
+  move-row =
+      moves-row y w t its (ap (λ (k : BoardState D). hand_of k w) its-event ∙ r.hand)
+      (ap (λ (k : State). progress k t) its-state ∙ phase-of b w t (Claimed w) r.hand r.phase) its-transfer
+
+  carried-now : (a : Array) → IsTileOf held b.run c from a → IsCarried held (key_of y) its (row_in y w) a
+  carried-now a tile = record {
+    dims = tile.dims ∙ ap (λ (k : BoardState D). dims_of k.run.program c) (sym its-event);
+    told = λ tell.
+        (let there : transfer_of y w ≡ Some its = sym (row-transfer y w) ∙ move-row.transfer in
+        ap (option_map (λ (k : Transfer). array_at y.run.program (state y.run) k.from k.cell)) there
+        ∙ ap (λ (k : BoardState D). Some (array_at k.run.program (state y.run) from c)) its-event
+        ∙ ap (λ (k : State). Some (array_at b.run.program k from c)) its-state
+        ∙ ap (λ (k : Array). Some k) (sym (tile.array (subst (λ (k : BoardState D). AllTell held k.run) its-event tell))));
+  }
+
+  fetch-here : (f g : Place) → Step b.run.program b.run.machine (state b.run) (Move c f g) (after b.run.program b.run.machine (state b.run) (Move c f g)) → is_node f ≡ false → (c.0 < length b.run.program.cells) × (is_node g ≡ true)
+  fetch-here (AtNode n) g step e = absurd (false≢true (sym e))
+  fetch-here (OnDisk d) (AtNode n) step e =
+      (subst (λ k. c.0 < k) here.run.coherent.state.rows.cells (entry-inside (state b.run) c n (ap is_entry (coming_by-is _ (replica (state b.run) c (AtNode n)) step.coming))).0, refl)
+  fetch-here (OnDisk d) (OnDisk k) step e =
+      let l = leaving_by-is _ (replica (state b.run) c (OnDisk d)) step.leaving in
+      absurd ((here.run.coherent.state.blocks.resting c d _ l.0).1 l.1)
+
+  pub move-share : (share : Option Array) → IsShareOf held x.run c from share → IsShareCarried held (key_of y) its (row_in y w) from share
+  move-share share h = by_place from refl (subst (λ (k : BoardState D). IsShareOf held k.run c from share) ex h)
+    where
+      by_place : (f : Place) → f ≡ from → IsShareOf held b.run c f share → IsShareCarried held (key_of y) its (row_in y w) f share
+      by_place (AtNode n) e h = some-and (IsTileOf held b.run c (AtNode n)) (IsCarried held (key_of y) its (row_in y w)) share (λ a tile. carried-now a (subst (λ (k : Place). IsTileOf held b.run c k a) e tile)) h
+      by_place (OnDisk d) e h =
+          let both = fetch-here from to can (ap is_node (sym e)) in
+          record { cell = subst (λ (k : BoardState D). c.0 < length k.run.program.cells) (sym its-event) both.0; node = both.1 }

@@ -1,0 +1,23 @@
+use Rattle.std.proofs.Common.{◌∙◌, ap, refl, sym, subst}
+use Rattle.sj_machine.specs.Board.{BoardState}
+use Rattle.sj_engine.specs.Turn.{IsTurnOf}
+use Rattle.sj_engine.proofs.ClaimTurns.{claimed-now, claimed-turn, given-idle, was-given}
+use Rattle.sj_engine.proofs.Turning.{turn-then}
+use Rattle.sj_engine.proofs.shared_board.SharedBoard.claim_given.Goals as goal
+
+pub claim-requires-clause-given : goal.claim-requires-clause-given
+claim-requires-clause-given g c = was-given g.D.Disk.size g.D.Disk.faults g.D.Disk.mismatches g.D.Disk.held c.args.w c.args.self.now c.deref.result.now c.deref_mut.result.now c.deref_mut.result.now (c.deref.ensures ∙ c.self.view_is) (c.deref_mut.ensures.value ∙ c.self.view_is) c.is_sound.ensures c.requires.worker c.args.t c.requires.given
+
+pub claim-requires-clause-idle : goal.claim-requires-clause-idle
+claim-requires-clause-idle g c = given-idle g.D.Disk.size g.D.Disk.faults g.D.Disk.mismatches g.D.Disk.held c.args.w c.args.self.now c.deref.result.now c.deref_mut.result.now c.deref_mut.result.now (c.deref.ensures ∙ c.self.view_is) (c.deref_mut.ensures.value ∙ c.self.view_is) c.is_sound.ensures c.requires.worker c.args.t c.requires.given
+
+pub returns-in-Ok-clause-turn : goal.returns-in-Ok-clause-turn
+returns-in-Ok-clause-turn g c = claimed-turn g.D.Disk.size g.D.Disk.faults g.D.Disk.mismatches g.D.Disk.held c.args.w c.args.self.now c.deref.result.now c.deref_mut.result.now c.claim.new.self (c.deref.ensures ∙ c.self.view_is) (c.deref_mut.ensures.value ∙ c.self.view_is) c.is_sound.ensures c.requires.worker c.args.t c.requires.given c.in-Ok.ensures.can c.in-Ok.ensures.ok c.in-Ok.ensures.spares
+
+pub returns-in-Ok-clause-row : goal.returns-in-Ok-clause-row
+returns-in-Ok-clause-row g c = claimed-now g.D.Disk.size g.D.Disk.faults g.D.Disk.mismatches g.D.Disk.held c.args.w c.args.self.now c.deref.result.now c.deref_mut.result.now c.claim.new.self (c.deref.ensures ∙ c.self.view_is) (c.deref_mut.ensures.value ∙ c.self.view_is) c.is_sound.ensures c.requires.worker c.args.t c.requires.given c.in-Ok.ensures.can c.in-Ok.ensures.ok c.requires.no_fault
+
+pub returns-in-Err-OutOfMemory-clause-turn : goal.returns-in-Err-OutOfMemory-clause-turn
+returns-in-Err-OutOfMemory-clause-turn g c = turn-then g.D.Disk.faults g.D.Disk.mismatches c.args.w c.args.self.now c.put_back-in-Err-OutOfMemory.new.self c.fail_without_memory.new.self
+    (subst (λ (k : BoardState g.row.D.Denot). IsTurnOf g.D.Disk.faults g.D.Disk.mismatches c.args.w k c.put_back-in-Err-OutOfMemory.new.self) (c.in-Err-OutOfMemory.ensures.err ∙ c.deref_mut.ensures.value ∙ c.self.view_is) c.put_back-in-Err-OutOfMemory.ensures.turn)
+    c.fail_without_memory.ensures.turn

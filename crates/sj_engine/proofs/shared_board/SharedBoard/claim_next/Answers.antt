@@ -1,0 +1,5 @@
+use Rattle.sj_engine.proofs.Turning.{turn-then}
+use Rattle.sj_engine.proofs.shared_board.SharedBoard.claim_next.Goals as goal
+
+pub returns-clause-turn : goal.returns-clause-turn
+returns-clause-turn g c = turn-then g.D.Disk.faults g.D.Disk.mismatches c.args.w c.args.self.now c.give_next.new.self c.claim_given.new.self c.give_next.ensures.turn c.claim_given.ensures.turn

@@ -1,0 +1,23 @@
+use Rattle.std.proofs.Common.{◌∙◌, ap, refl, sym, subst}
+use Rattle.std.proofs.Common.{Option, None, Some}
+use Rattle.std.specs.Prelude.{IfNone, IfSome}
+use Rattle.sj_machine.specs.Board.{IsFree}
+use Rattle.sj_engine.proofs.Answering.{if-none, if-some}
+use Rattle.sj_engine.proofs.ClaimTurns.{next-fault, next-hand, next-turn}
+use Rattle.sj_engine.proofs.OwnRows.{is-free}
+use Rattle.sj_engine.proofs.shared_board.SharedBoard.give_next.Goals as goal
+
+pub next-requires : goal.next-requires
+next-requires g c = record { free = subst (λ k. IsFree k c.args.w) (sym (c.deref_mut.ensures.value ∙ c.self.view_is)) (is-free c.args.self.now c.args.w c.requires.worker c.requires.free) }
+
+pub returns-clause-turn : goal.returns-clause-turn
+returns-clause-turn g c = next-turn g.D.Disk.size g.D.Disk.faults g.D.Disk.mismatches g.D.Disk.held c.args.w c.args.self.now c.deref.result.now c.deref_mut.result.now c.next.new.self (c.deref.ensures ∙ c.self.view_is) (c.deref_mut.ensures.value ∙ c.self.view_is) c.is_sound.ensures c.requires.worker c.next.ensures.rest
+
+pub returns-clause-some : goal.returns-clause-some
+returns-clause-some g c = if-some c.next.result _ (λ t is. next-hand g.D.Disk.size g.D.Disk.faults g.D.Disk.mismatches g.D.Disk.held c.args.w c.args.self.now c.deref.result.now c.deref_mut.result.now c.next.new.self (c.deref.ensures ∙ c.self.view_is) (c.deref_mut.ensures.value ∙ c.self.view_is) c.is_sound.ensures c.requires.worker c.next.ensures.rest c.requires.free (Some t) (sym is ∙ c.next.ensures.task))
+
+pub returns-clause-none : goal.returns-clause-none
+returns-clause-none g c = if-none c.next.result _ (λ is. next-hand g.D.Disk.size g.D.Disk.faults g.D.Disk.mismatches g.D.Disk.held c.args.w c.args.self.now c.deref.result.now c.deref_mut.result.now c.next.new.self (c.deref.ensures ∙ c.self.view_is) (c.deref_mut.ensures.value ∙ c.self.view_is) c.is_sound.ensures c.requires.worker c.next.ensures.rest c.requires.free None (sym is ∙ c.next.ensures.task))
+
+pub returns-clause-fault : goal.returns-clause-fault
+returns-clause-fault g c = next-fault g.D.Disk.size g.D.Disk.faults g.D.Disk.mismatches g.D.Disk.held c.args.w c.args.self.now c.deref.result.now c.deref_mut.result.now c.next.new.self (c.deref.ensures ∙ c.self.view_is) (c.deref_mut.ensures.value ∙ c.self.view_is) c.is_sound.ensures c.requires.worker c.next.ensures.rest
