@@ -120,9 +120,9 @@ unread-memory asked source source' trace e same = record { ran = by_asked asked;
 
 -- of work that is told, what is true of any
 meets : (P Q : Work → Type 0) (asked : Option WorkOrRefusal) → TellsWork asked P → OfWork asked Q → ((w : Work) → P w → Q w → ⊥) → ⊥
-meets P Q None p q no = p
-meets P Q (Some (Ok w)) p q no = no w p q
-meets P Q (Some (Err e)) p q no = p
+meets P Q None p q never = p
+meets P Q (Some (Ok w)) p q never = never w p q
+meets P Q (Some (Err e)) p q never = p
 
 refused-told : (P : Work → Type 0) (asked : Option WorkOrRefusal) (e : Refusal) → TellsWork asked P → IfSome asked (λ w. w ≡ Err e) → ⊥
 refused-told P None e p h = p
@@ -203,10 +203,6 @@ pub damaged-by : (asked : Option WorkOrRefusal) (Tells : Type 0) (status : Statu
 damaged-by asked Tells status source source' out out' trace disk want found a e = subst (λ (s : Status). Answered asked Tells s source source' out out' trace) e (a (λ u. the ⊥ cc))
 
 -- where work can be run the words are accepted
-accepted : (has : Kernel → Bool) (o : Option Options) (sizes : List ℕ) (bytes : Option (List ℕ)) → CanBeRun (work_told has o sizes bytes) → o ≡ None → ⊥
+pub accepted : (has : Kernel → Bool) (o : Option Options) (sizes : List ℕ) (bytes : Option (List ℕ)) → CanBeRun (work_told has o sizes bytes) → o ≡ None → ⊥
 accepted has None sizes bytes can e = can
 accepted has (Some options) sizes bytes can e = cc
-
-pub complete-of : {D : Type 0} (size faults mismatches : D → ℕ) (held : D → Option (List ℕ)) (has : Kernel → Bool) (o : Option Options) (sizes : List ℕ) (bytes : Option (List ℕ)) (Tells : Type 0) (status : Status) (source source' out out' : Device) (trace : List Event) (old new : List D) → (status ≡ Usage → o ≡ None) → (status ≢ Usage → Answered (work_told has o sizes bytes) Tells status source source' out out' trace) → LeavesDisks size faults mismatches held (work_told has o sizes bytes) status trace old new → CanBeRun (work_told has o sizes bytes) → (Rose source.faults source'.faults → ⊥) → (Rose out.faults out'.faults → ⊥) → NoneRose (map faults old) (map faults new) → NoneRose (map mismatches old) (map mismatches new) → IsDoneOrOutOfMemory status
-complete-of size faults mismatches held has o sizes bytes Tells status source source' out out' trace old new usage a d can s k f m =
-    complete-by size faults mismatches held (work_told has o sizes bytes) Tells status source source' out out' trace old new (a (λ u. accepted has o sizes bytes can (usage u))) d can s k f m

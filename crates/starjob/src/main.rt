@@ -18,7 +18,8 @@ mod tests_of_machines;
 mod tests_of_plans;
 mod top;
 
-ghost use Rattle.std.specs.Prelude.{◌≤◌, ◌^◌};
+ghost use Rattle.std.specs.Prelude.{◌≤◌, ◌^◌, length};
+ghost use Rattle.sj_edge.specs.Sizes.{AreWithin};
 
 use sj_edge::disk::{Disk, add_disk};
 use sj_edge::file_disk::FileDisk;
@@ -27,7 +28,7 @@ use sj_edge::memory_disk::MemDisk;
 use sj_edge::sink::Sink;
 use sj_edge::source::Source;
 use sj_edge::standard::{StdSink, StdSource};
-use sj_words::swap_wish;
+use sj_words::{SwapWish, swap_wish};
 use std::alloc::Global;
 use std::env;
 use std::io::ErrorKind;
@@ -55,25 +56,19 @@ fn words(rt: &HostRuntime) -> Option<Vec<String>> {
     Some(words)
 }
 
-/// Runs the job of a source with one disk.
-fn run_on<D: Disk + Send + 'static, R: Threads + Wait + Sync, S: Source, O: Sink, E: Sink>(
+/// Runs the job of a source with these disks.
+fn run_on<R: Threads + Wait + Sync, S: Source, O: Sink, E: Sink>(
     rt: &R,
     alloc: Global,
     words: &[String],
     source: &mut S,
     out: &mut O,
     err: &mut E,
-    disk: D,
+    disks: Vec<Box<dyn Disk + Send>>,
 ) -> ExitCode
-    requires { D.size disk ≤ 2 ^ 40 }
+    requires few_disks { length disks.items ≤ 16 }
+    requires small_disks { AreWithin ⟦<Box<dyn Disk + Send> as Disk>⟧.size (2 ^ 40) disks.items }
 {
-    let mut disks = Vec::new(alloc);
-    let Ok(disk) = Box::new(alloc, disk) else {
-        return ExitCode::from(OUT_OF_MEMORY);
-    };
-    if add_disk(&mut disks, disk).is_err() {
-        return ExitCode::from(OUT_OF_MEMORY);
-    }
     let outcome = starjob(rt, alloc, words, source, out, err, disks, &OpenGate);
     ExitCode::from(outcome.status.code())
 }
@@ -86,15 +81,29 @@ fn main(rt: HostRuntime) -> ExitCode {
     let Ok(wish) = swap_wish(alloc, &words) else {
         return ExitCode::from(OUT_OF_MEMORY);
     };
+    let SwapWish { path, size } = wish;
     let mut source = StdSource::over(rt.stdin());
     let mut out = StdSink::over(rt.stdout());
     let mut err = StdSink::over(rt.stderr());
-    if let Some(path) = wish.path {
-        let disk = FileDisk::at(&rt, path.as_str(), wish.size);
-        return run_on(&rt, alloc, &words, &mut source, &mut out, &mut err, disk);
+    let mut disks = Vec::new(alloc);
+    if let Some(path) = path {
+        let disk = FileDisk::at(&rt, path.as_str(), size);
+        let Ok(disk) = Box::new(alloc, disk) else {
+            return ExitCode::from(OUT_OF_MEMORY);
+        };
+        if add_disk(&mut disks, disk).is_err() {
+            return ExitCode::from(OUT_OF_MEMORY);
+        }
+        return run_on(&rt, alloc, &words, &mut source, &mut out, &mut err, disks);
     }
-    match MemDisk::new(alloc, wish.size, Vec::new(alloc)) {
-        Ok(disk) => run_on(&rt, alloc, &words, &mut source, &mut out, &mut err, disk),
-        Err(_) => ExitCode::from(OUT_OF_MEMORY),
+    let Ok(disk) = MemDisk::new(alloc, size, Vec::new(alloc)) else {
+        return ExitCode::from(OUT_OF_MEMORY);
+    };
+    let Ok(disk) = Box::new(alloc, disk) else {
+        return ExitCode::from(OUT_OF_MEMORY);
+    };
+    if add_disk(&mut disks, disk).is_err() {
+        return ExitCode::from(OUT_OF_MEMORY);
     }
+    run_on(&rt, alloc, &words, &mut source, &mut out, &mut err, disks)
 }

@@ -2,6 +2,7 @@
 
 ghost use Rattle.std.specs.Prelude.{◌≡◌, ◌≤◌, ◌^◌, All, FitsSigned, IfOk, IfErr, None, length};
 ghost use Rattle.std.specs.Int.{w64};
+ghost use Rattle.sj_codelet.specs.Laws.{CommutingCommute, ContributingContribute, ReductionsReduce};
 ghost use Rattle.sj_core.specs.Proper.{HasSwapFor, Proper};
 ghost use Rattle.sj_job.specs.View.{statements_of, IsNumbered};
 ghost use Rattle.sj_lower.specs.Delivering.{DeliversPrinted, NamesDeliverTasks};
@@ -82,6 +83,13 @@ fn arguments_fit(program: &Program)
     }
 }
 
+/// No code: its contract is what a set of codelets obeys.
+fn laws_of<C: Codelets>(_codelets: &C)
+    ensures commuting { CommutingCommute C.has }
+    ensures contributing { ContributingContribute C.has }
+    ensures reducing { ReductionsReduce C.has }
+{}
+
 /// A program that can be shared. Constant time.
 fn shareable(alloc: Global, program: Program) -> Result<Arc<Program>, OutOfMemory>
     ensures { IfOk result (λ p. p.value ≡ program) }
@@ -149,6 +157,7 @@ pub fn prepare<C: Codelets>(
     let machine = machine_for(alloc, options, &job.settings, disks)?;
     let ready = lowered_for(alloc, job, machine, options.trace)?;
     arguments_fit(&ready.program);
+    laws_of(codelets);
     fits(alloc, &ready.program, &ready.machine)?;
     Ok(ready)
 }

@@ -194,6 +194,14 @@ where
     ensures disks { LeavesDisks D.size D.faults D.mismatches D.held
         (work_told library_has (options_of (texts words.now)) (map D.size disks.items)
         (S.left source.old)) result.status result.trace.events disks.items result.disks.items }
+    ensures complete { CanBeRun
+        (work_told library_has (options_of (texts words.now)) (map D.size disks.items)
+        (S.left source.old)) →
+        ¬ (Rose (S.faults source.old) (S.faults source.new)) →
+        ¬ (Rose (O.faults out.old) (O.faults out.new)) →
+        NoneRose (map D.faults disks.items) (map D.faults result.disks.items) →
+        NoneRose (map D.mismatches disks.items) (map D.mismatches result.disks.items) →
+        IsDoneOrOutOfMemory result.status }
     ensures out_stays { IsBeforeWriting result.status → out.new ≡ out.old }
     ensures out_stays_in_silence { TellsWork
         (work_told library_has (options_of (texts words.now)) (map D.size disks.items)

@@ -71,9 +71,9 @@ returns-clause-ready g c =
       lawful = record {
         known = subst (λ (q : Program). All (λ (l : Lowered). IsTrue (is_known has l.codelet)) q.tasks) (sym r.program) (known-lowered has c.requires.own job.statements m.workers c.in_ok-job.ensures.well);
         arguments = subst (λ (q : Program). All (λ (l : Lowered). All (FitsSigned w64) l.args) q.tasks) c.deref.ensures c.arguments_fit.ensures;
-        commuting = g.met.C.Codelets.commuting;
-        contributing = g.met.C.Codelets.contributing;
-        reducing = g.met.C.Codelets.reducing;
+        commuting = c.laws_of.ensures.commuting;
+        contributing = c.laws_of.ensures.contributing;
+        reducing = c.laws_of.ensures.reducing;
       };
       machine_for = subst (λ (n : Machine). IsMachineFor p n) (sym r.machine) (record {
         workers = sym workers;

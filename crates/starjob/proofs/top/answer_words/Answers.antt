@@ -1,4 +1,5 @@
 use Rattle.std.proofs.Common.{◌≡◌, List, ℕ, map, ap, ◌∙◌, refl, subst, sym, Some, None, Option, Vec, Global}
+use Rattle.std.specs.Prelude.{option_map}
 use Rattle.std.proofs.lemmas.Option.{none-some}
 use Rattle.sj_engine.specs.Outcome.{AllTell}
 use Rattle.sj_minplus.specs.Has.{library_has}
@@ -8,10 +9,10 @@ use Rattle.sj_words.specs.declared.options.Options.{Options}
 use Rattle.starjob.specs.declared.status.Status.{Status}
 use Rattle.starjob.specs.Answers.{Answered, LeavesDisks}
 use Rattle.starjob.specs.Device.{seen}
-use Rattle.starjob.specs.Top.{PrintsNothing}
-use Rattle.starjob.specs.Work.{TellsWork, work_told}
+use Rattle.starjob.specs.Top.{CanBeRun, IsDoneOrOutOfMemory, PrintsNothing}
+use Rattle.starjob.specs.Work.{TellsWork, work_of, work_told}
 use Rattle.starjob.proofs.Leaving.{leaves-no-memory, leaves-usage}
-use Rattle.starjob.proofs.Tops.{not-usage, unread-memory}
+use Rattle.starjob.proofs.Tops.{accepted, complete-by, not-usage, unread-memory}
 use Rattle.starjob.proofs.top.answer_words.Goals as goal
 
 pub returns-in-Ok-clause-usage : goal.returns-in-Ok-clause-usage
@@ -64,3 +65,22 @@ pub returns-in-Err-OutOfMemory-clause-disks : goal.returns-in-Err-OutOfMemory-cl
 returns-in-Err-OutOfMemory-clause-disks g c =
     let u = c.unread-in-Err-OutOfMemory in
     leaves-no-memory g.D.Disk.size g.D.Disk.faults g.D.Disk.mismatches g.D.Disk.held _ u.result.status u.result.trace.events c.args.disks.items u.result.disks.items u.ensures.status (ap (λ (v : Vec g.row.D.Denot Global). v.items) u.ensures.disks)
+
+pub returns-in-Ok-clause-complete : goal.returns-in-Ok-clause-complete
+returns-in-Ok-clause-complete g c = λ can source out faults mismatches.
+    let sizes = map g.D.Disk.size c.args.disks.items in
+    let bytes = g.S.Source.left c.args.source.now in
+    let o = c.in-Ok.options in
+    let told = option_map (work_of library_has o sizes) bytes in
+    complete-by g.D.Disk.size g.D.Disk.faults g.D.Disk.mismatches g.D.Disk.held told (AllTell g.D.Disk.held c.args.disks.items) c.run_source.result.status
+    (seen g.S.Source.left g.S.Source.faults c.args.source.now) (seen g.S.Source.left g.S.Source.faults c.run_source.new.source)
+    (seen g.O.Sink.taken g.O.Sink.faults c.args.out.now) (seen g.O.Sink.taken g.O.Sink.faults c.run_source.new.out) c.run_source.result.trace.events c.args.disks.items c.run_source.result.disks.items
+    c.run_source.ensures.answered c.run_source.ensures.disks (subst (λ (x : Option Options). CanBeRun (work_told library_has x sizes bytes)) c.in-Ok.ensures.ok can) source out faults mismatches
+
+pub returns-in-Err-Unaccepted-clause-complete : goal.returns-in-Err-Unaccepted-clause-complete
+returns-in-Err-Unaccepted-clause-complete g c = λ can source out faults mismatches.
+    absurd (accepted library_has (options (texts c.args.words.now)) (map g.D.Disk.size c.args.disks.items) (g.S.Source.left c.args.source.now) can (c.in-Err-Unaccepted.ensures.unaccepted c.in-Err-Unaccepted.field-0-is))
+
+pub returns-in-Err-OutOfMemory-clause-complete : goal.returns-in-Err-OutOfMemory-clause-complete
+returns-in-Err-OutOfMemory-clause-complete g c = λ can source out faults mismatches.
+    subst IsDoneOrOutOfMemory (sym c.unread-in-Err-OutOfMemory.ensures.status) tt

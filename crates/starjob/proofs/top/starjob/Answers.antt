@@ -1,7 +1,7 @@
 use Rattle.std.proofs.Common.{◌≡◌, subst, sym}
 use Rattle.starjob.specs.declared.status.Status.{Status}
 use Rattle.starjob.specs.Answers.{IsBehindTheRun}
-use Rattle.starjob.proofs.Tops.{broken-by, complete-of, damaged-by}
+use Rattle.starjob.proofs.Tops.{broken-by, damaged-by}
 use Rattle.starjob.proofs.top.starjob.Goals as goal
 
 pub returns-clause-no_fault_is_swallowed : goal.returns-clause-no_fault_is_swallowed
@@ -28,6 +28,4 @@ pub returns-clause-disks_stay_before_the_run : goal.returns-clause-disks_stay_be
 returns-clause-disks_stay_before_the_run g c = c.answer_words-answer.ensures.disks.untouched
 
 pub returns-clause-complete : goal.returns-clause-complete
-returns-clause-complete g c = λ can source out faults mismatches.
-    let r = c.answer_words-answer in
-    complete-of _ _ _ _ _ _ _ _ _ r.result.status _ _ _ _ r.result.trace.events _ _ r.ensures.usage r.ensures.answered r.ensures.disks can source out faults mismatches
+returns-clause-complete g c = c.answer_words-answer.ensures.complete
