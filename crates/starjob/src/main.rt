@@ -10,6 +10,10 @@ mod sink_text;
 mod source_text;
 mod status;
 mod stop;
+#[cfg(test)]
+mod tests_of_machine;
+#[cfg(test)]
+mod tests_of_trouble;
 mod top;
 
 ghost use Rattle.std.specs.Prelude.{◌≤◌, ◌^◌};
