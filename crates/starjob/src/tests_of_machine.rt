@@ -1,6 +1,6 @@
 //! Whole jobs on machines: workers, policies, small nodes, and a disk for what doesn't fit.
 
-ghost use Rattle.std.specs.Prelude.{◌≤◌, ◌^◌, length};
+ghost use Rattle.std.specs.Prelude.{◌≡◌, ◌≤◌, ◌^◌, IfOk, length};
 ghost use Rattle.sj_edge.specs.Sizes.{AreWithin};
 
 use crate::status::Status;
@@ -13,10 +13,12 @@ use sj_edge::memory_disk::MemDisk;
 use sj_edge::memory_sink::MemSink;
 use sj_edge::memory_source::MemSource;
 use std::alloc::Global;
+use std::sync::Wait;
 use std::sync::atomic::{AtomicU64, Ordering};
 use std::test::Fail;
 use std::thread;
-use std::time::Duration;
+use std::thread::Threads;
+use std::time::{Clock, Duration};
 
 /// Three vectors of 24 bytes, each added to the next: a task needs two of them on its node.
 pub const ROUND: &str = "starjob 1\nvector x 3 values 1 2 3\nvector y 3 values 10 20 30\nvector z 3 values 100 200 300\ntask add x:R y:RW\ntask add y:R z:RW\ntask add z:R x:RW\nprint x\nprint y\nprint z\n";
@@ -43,8 +45,9 @@ fn words_of(alloc: Global, words: &[&str]) -> Result<Vec<String>, Fail> {
     Ok(texts)
 }
 
-fn run_on_disks<G: Gate>(
-    rt: &HostRuntime,
+fn run_on_disks<G: Gate, R: Threads + Wait + Sync>(
+    rt: &R,
+    alloc: Global,
     words: &[&str],
     text: &str,
     disks: Vec<Box<dyn Disk + Send>>,
@@ -53,7 +56,6 @@ fn run_on_disks<G: Gate>(
     requires few { length disks.items ≤ 16 }
     requires small { AreWithin ⟦<Box<dyn Disk + Send> as Disk>⟧.size (2 ^ 40) disks.items }
 {
-    let alloc = rt.alloc();
     let words = words_of(alloc, words)?;
     let mut source = MemSource::new(
         Vec::from_slice(alloc, text.as_bytes())?,
@@ -80,8 +82,9 @@ fn run_on_disks<G: Gate>(
 }
 
 /// Runs a job with these words on one disk.
-pub fn run_on<D: Disk + Send + 'static, G: Gate>(
-    rt: &HostRuntime,
+pub fn run_on<D: Disk + Send + 'static, G: Gate, R: Threads + Wait + Sync>(
+    rt: &R,
+    alloc: Global,
     words: &[&str],
     text: &str,
     disk: D,
@@ -89,19 +92,21 @@ pub fn run_on<D: Disk + Send + 'static, G: Gate>(
 ) -> Result<Answer, Fail>
     requires { D.size disk ≤ 2 ^ 40 }
 {
-    let mut disks = Vec::new(rt.alloc());
-    add_disk(&mut disks, Box::new(rt.alloc(), disk)?)?;
-    run_on_disks(rt, words, text, disks, gate)
+    let mut disks = Vec::new(alloc);
+    add_disk(&mut disks, Box::new(alloc, disk)?)?;
+    run_on_disks(rt, alloc, words, text, disks, gate)
 }
 
-/// Runs a job with these words without a disk.
-pub fn run_alone(rt: &HostRuntime, words: &[&str], text: &str) -> Result<Answer, Fail> {
-    run_on_disks(rt, words, text, Vec::new(rt.alloc()), &OpenGate)
+/// Runs a job without a disk.
+fn run_alone<R: Threads + Wait + Sync>(rt: &R, alloc: Global, text: &str) -> Result<Answer, Fail> {
+    run_on_disks(rt, alloc, &[], text, Vec::new(alloc), &OpenGate)
 }
 
 /// A disk of so many bytes that never fails.
-pub fn whole_disk(rt: &HostRuntime, size: u64) -> Result<MemDisk, Fail> {
-    Ok(MemDisk::new(rt.alloc(), size, Vec::new(rt.alloc()))?)
+pub fn whole_disk(alloc: Global, size: u64) -> Result<MemDisk, Fail>
+    ensures { IfOk result (λ d. length d.bytes ≡ size) }
+{
+    Ok(MemDisk::new(alloc, size, Vec::new(alloc))?)
 }
 
 #[test]
@@ -109,9 +114,9 @@ fn workers_whose_tasks_together_exceed_the_node_print_the_same(
     rt: HostRuntime,
 ) -> Result<(), Fail> {
     for workers in ["2", "4"] {
-        let disk = whole_disk(&rt, ROUND_SWAP)?;
+        let disk = whole_disk(rt.alloc(), ROUND_SWAP)?;
         let words = ["--workers", workers, "--node", "48"];
-        let answer = run_on(&rt, &words, ROUND, disk, &OpenGate)?;
+        let answer = run_on(&rt, rt.alloc(), &words, ROUND, disk, &OpenGate)?;
         assert_eq!(rt; answer.status, Status::Done, "at {workers}");
         assert_eq!(rt; answer.out.taken(), ROUND_OUT.as_bytes(), "at {workers}");
     }
@@ -122,11 +127,11 @@ fn workers_whose_tasks_together_exceed_the_node_print_the_same(
 fn workers_and_policies_print_the_same(rt: HostRuntime) -> Result<(), Fail> {
     for policy in ["eager", "prio", "ws"] {
         for workers in ["1", "2", "4", "64"] {
-            let disk = whole_disk(&rt, ROUND_SWAP)?;
+            let disk = whole_disk(rt.alloc(), ROUND_SWAP)?;
             let words = [
                 "--workers", workers, "--sched", policy, "--node", "48", "--nodes", "2",
             ];
-            let answer = run_on(&rt, &words, ROUND, disk, &OpenGate)?;
+            let answer = run_on(&rt, rt.alloc(), &words, ROUND, disk, &OpenGate)?;
             assert_eq!(rt; answer.status, Status::Done, "at {workers} {policy}");
             assert_eq!(rt; answer.out.taken(), ROUND_OUT.as_bytes(), "at {workers} {policy}");
         }
@@ -136,8 +141,8 @@ fn workers_and_policies_print_the_same(rt: HostRuntime) -> Result<(), Fail> {
 
 #[test]
 fn a_task_above_every_node_is_too_large(rt: HostRuntime) -> Result<(), Fail> {
-    let disk = whole_disk(&rt, ROUND_SWAP)?;
-    let answer = run_on(&rt, &["--node", "47"], ROUND, disk, &OpenGate)?;
+    let disk = whole_disk(rt.alloc(), ROUND_SWAP)?;
+    let answer = run_on(&rt, rt.alloc(), &["--node", "47"], ROUND, disk, &OpenGate)?;
     assert_eq!(rt; answer.status, Status::TooLarge { line: Line(5), bytes: 48 });
     assert!(rt; answer.out.taken().is_empty());
     assert!(rt; answer.trace.is_empty());
@@ -146,8 +151,8 @@ fn a_task_above_every_node_is_too_large(rt: HostRuntime) -> Result<(), Fail> {
 
 #[test]
 fn a_disk_one_byte_short_is_too_small(rt: HostRuntime) -> Result<(), Fail> {
-    let disk = whole_disk(&rt, ROUND_SWAP - 1)?;
-    let answer = run_on(&rt, &["--node", "48"], ROUND, disk, &OpenGate)?;
+    let disk = whole_disk(rt.alloc(), ROUND_SWAP - 1)?;
+    let answer = run_on(&rt, rt.alloc(), &["--node", "48"], ROUND, disk, &OpenGate)?;
     assert_eq!(rt; answer.status, Status::SwapTooSmall { needed: 144, have: 143 });
     assert!(rt; answer.out.taken().is_empty());
     assert!(rt; answer.trace.is_empty());
@@ -156,11 +161,11 @@ fn a_disk_one_byte_short_is_too_small(rt: HostRuntime) -> Result<(), Fail> {
 
 #[test]
 fn without_a_disk_no_job_with_cells_is_run(rt: HostRuntime) -> Result<(), Fail> {
-    let answer = run_alone(&rt, &[], ROUND)?;
+    let answer = run_alone(&rt, rt.alloc(), ROUND)?;
     assert_eq!(rt; answer.status, Status::SwapTooSmall { needed: 144, have: 0 });
     assert!(rt; answer.out.taken().is_empty());
     assert!(rt; answer.trace.is_empty());
-    let answer = run_alone(&rt, &[], "starjob 1\n")?;
+    let answer = run_alone(&rt, rt.alloc(), "starjob 1\n")?;
     assert_eq!(rt; answer.status, Status::Done);
     Ok(())
 }
@@ -202,8 +207,8 @@ const EVENTS: [Event; 20] = [
 
 #[test]
 fn the_one_used_longest_ago_is_evicted_and_fetched_again(rt: HostRuntime) -> Result<(), Fail> {
-    let disk = whole_disk(&rt, ROUND_SWAP)?;
-    let answer = run_on(&rt, &["--node", "48"], ROUND, disk, &OpenGate)?;
+    let disk = whole_disk(rt.alloc(), ROUND_SWAP)?;
+    let answer = run_on(&rt, rt.alloc(), &["--node", "48"], ROUND, disk, &OpenGate)?;
     assert_eq!(rt; answer.status, Status::Done);
     assert!(rt; answer.trace.len() >= EVENTS.len());
     for i in 0..EVENTS.len() {
@@ -213,13 +218,13 @@ fn the_one_used_longest_ago_is_evicted_and_fetched_again(rt: HostRuntime) -> Res
 }
 
 /// Lets the kernels of tasks 2 and 3 go on when both are inside, or after some seconds.
-struct Meeting<'a> {
-    rt: &'a HostRuntime,
+struct Meeting<'a, R> {
+    rt: &'a R,
     inside: AtomicU64,
     met: AtomicU64,
 }
 
-impl Gate for Meeting<'_> {
+impl<R: Clock + Sync> Gate for Meeting<'_, R> {
     fn entered(&self, task: Task) {
         if task != Task(2) && task != Task(3) {
             return;
@@ -246,8 +251,8 @@ fn two_kernels_are_inside_at_once(rt: HostRuntime) -> Result<(), Fail> {
         inside: AtomicU64::new(0),
         met: AtomicU64::new(0),
     };
-    let disk = whole_disk(&rt, 64)?;
-    let answer = run_on(&rt, &["--workers", "2"], APART, disk, &gate)?;
+    let disk = whole_disk(rt.alloc(), 64)?;
+    let answer = run_on(&rt, rt.alloc(), &["--workers", "2"], APART, disk, &gate)?;
     assert_eq!(rt; answer.status, Status::Done);
     assert_eq!(rt; answer.out.taken(), b"x: 2\ny: 3\n".as_slice());
     assert_eq!(rt; gate.met.load(Ordering::SeqCst), 2);

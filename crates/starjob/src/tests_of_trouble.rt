@@ -11,8 +11,14 @@ use sj_edge::file_disk::FileDisk;
 use sj_edge::gate::{Gate, OpenGate};
 use sj_edge::memory_disk::MemDisk;
 use sj_edge::source::Failed;
+use std::alloc::Global;
 use std::fs;
+use std::fs::File;
+use std::process::Abort;
+use std::rt::Files;
+use std::sync::Wait;
 use std::test::Fail;
+use std::thread::Threads;
 
 /// The words for so many workers on a node that holds two vectors of a `ROUND`.
 fn tight(workers: &'static str) -> [&'static str; 4] {
@@ -33,9 +39,14 @@ fn refuses(disk: &mut Box<dyn Disk + Send>, calls: u64) -> bool {
 }
 
 /// Runs a `ROUND` on a disk that refuses one call. Whether that came to it: then the disk is to blame and nothing is written.
-fn is_refused(rt: &HostRuntime, workers: &'static str, call: u64) -> Result<bool, Fail> {
-    let disk = MemDisk::new(rt.alloc(), ROUND_SWAP, [call].to_vec(rt.alloc())?)?;
-    let mut answer = run_on(rt, &tight(workers), ROUND, disk, &OpenGate)?;
+fn is_refused<R: Threads + Wait + Abort + Sync>(
+    rt: &R,
+    alloc: Global,
+    workers: &'static str,
+    call: u64,
+) -> Result<bool, Fail> {
+    let disk = MemDisk::new(alloc, ROUND_SWAP, [call].to_vec(alloc)?)?;
+    let mut answer = run_on(rt, alloc, &tight(workers), ROUND, disk, &OpenGate)?;
     assert_eq!(rt; answer.disks.len(), 1);
     if refuses(&mut answer.disks[0], call) {
         assert_eq!(rt; answer.status, Status::Done, "at {call} of {workers}");
@@ -52,7 +63,7 @@ fn is_refused(rt: &HostRuntime, workers: &'static str, call: u64) -> Result<bool
 fn each_call_that_a_disk_refuses_one_worker_ends_the_run(rt: HostRuntime) -> Result<(), Fail> {
     let mut refused = 0;
     for call in 1..=40 {
-        if is_refused(&rt, "1", call)? {
+        if is_refused(&rt, rt.alloc(), "1", call)? {
             assert_eq!(rt; refused + 1, call);
             refused = call;
         }
@@ -67,7 +78,7 @@ fn a_call_that_a_disk_refuses_four_workers_ends_the_run_or_never_comes(
     rt: HostRuntime,
 ) -> Result<(), Fail> {
     for call in 1..=16 {
-        let came = is_refused(&rt, "4", call)?;
+        let came = is_refused(&rt, rt.alloc(), "4", call)?;
         assert!(rt; came || call > 1);
     }
     Ok(())
@@ -109,9 +120,9 @@ impl Disk for LosingDisk {
 #[test]
 fn a_disk_that_loses_what_was_written_is_damaged(rt: HostRuntime) -> Result<(), Fail> {
     let disk = LosingDisk {
-        disk: whole_disk(&rt, ROUND_SWAP)?,
+        disk: whole_disk(rt.alloc(), ROUND_SWAP)?,
     };
-    let answer = run_on(&rt, &tight("1"), ROUND, disk, &OpenGate)?;
+    let answer = run_on(&rt, rt.alloc(), &tight("1"), ROUND, disk, &OpenGate)?;
     let damaged = Status::Damaged {
         disk: DiskNo(0),
         want: Header {
@@ -175,9 +186,9 @@ impl Disk for MixedDisk {
 #[test]
 fn a_disk_that_answers_with_another_block_is_damaged(rt: HostRuntime) -> Result<(), Fail> {
     let disk = MixedDisk {
-        disk: whole_disk(&rt, ROUND_SWAP)?,
+        disk: whole_disk(rt.alloc(), ROUND_SWAP)?,
     };
-    let answer = run_on(&rt, &tight("1"), ROUND, disk, &OpenGate)?;
+    let answer = run_on(&rt, rt.alloc(), &tight("1"), ROUND, disk, &OpenGate)?;
     let damaged = Status::Damaged {
         disk: DiskNo(0),
         want: Header {
@@ -199,7 +210,7 @@ fn a_disk_that_answers_with_another_block_is_damaged(rt: HostRuntime) -> Result<
 #[test]
 fn a_device_without_room_is_a_fault(rt: HostRuntime) -> Result<(), Fail> {
     let disk = FileDisk::at(&rt, "/dev/full", ROUND_SWAP);
-    let answer = run_on(&rt, &tight("1"), ROUND, disk, &OpenGate)?;
+    let answer = run_on(&rt, rt.alloc(), &tight("1"), ROUND, disk, &OpenGate)?;
     assert_eq!(rt; answer.status, Status::DiskFault { disk: DiskNo(0) });
     assert!(rt; answer.out.taken().is_empty());
     Ok(())
@@ -208,11 +219,11 @@ fn a_device_without_room_is_a_fault(rt: HostRuntime) -> Result<(), Fail> {
 const FILE: &str = "a_disk_that_is_cut_off";
 
 /// Cuts the file off before the block of z while the first sum is inside, when x and y fill the node.
-struct Cutting<'a> {
-    rt: &'a HostRuntime,
+struct Cutting<'a, R> {
+    rt: &'a R,
 }
 
-impl Gate for Cutting<'_> {
+impl<R: Files<File = File> + Sync> Gate for Cutting<'_, R> {
     fn entered(&self, task: Task) {
         if task != Task(3) {
             return;
@@ -229,7 +240,7 @@ impl Gate for Cutting<'_> {
 fn a_file_that_is_cut_off_is_a_fault(rt: HostRuntime) -> Result<(), Fail> {
     let _ = fs::remove_file(&rt, FILE);
     let disk = FileDisk::at(&rt, FILE, ROUND_SWAP);
-    let answer = run_on(&rt, &tight("1"), ROUND, disk, &Cutting { rt: &rt })?;
+    let answer = run_on(&rt, rt.alloc(), &tight("1"), ROUND, disk, &Cutting { rt: &rt })?;
     assert_eq!(rt; answer.status, Status::DiskFault { disk: DiskNo(0) });
     assert!(rt; answer.out.taken().is_empty());
     fs::remove_file(&rt, FILE)?;
