@@ -1,15 +1,18 @@
--- The set of the example, its laws, and what a run with it hands over. None of its codelets commutes or contributes, so the laws
+-- The set of the example, its laws, its machine and its programs. None of its codelets commutes or contributes, so the laws
 -- have nothing to say.
-use Rattle.std.specs.Prelude.{◌≡◌, Bool, true, false, ◌&&◌, Option, Some, None}
+use Rattle.std.specs.Prelude.{◌≡◌, ℕ, Bool, true, false, ◌&&◌, IsTrue, All, List, [], ◌∷◌}
 use Rattle.std.proofs.lemmas.Bool.{false≢true, and_parts}
-use Rattle.sj_base.specs.declared.program.Program.{Program}
+use Rattle.sj_base.specs.declared.mode.Policy.TheVariants.{Eager}
 use Rattle.sj_base.specs.declared.mode.Reduction.TheVariants.{Plus, Least}
-use Rattle.sj_board.specs.Delivered.{Deliveries}
+use Rattle.sj_base.specs.declared.program.Machine.{Machine}
+use Rattle.sj_base.specs.declared.program.Program.{Program}
 use Rattle.sj_codelet.specs.declared.kernel.Kernel.{Kernel}
 use Rattle.sj_codelet.specs.declared.kernel.Kernel.TheVariants.{Transpose, Load, LoadFill, Deliver}
 use Rattle.sj_codelet.specs.Kernel.{contributes_of}
 use Rattle.sj_codelet.specs.Laws.{CommutingCommute, ContributingContribute, ReductionsReduce}
-use Rattle.sj_engine.specs.Run.{HasCodelets, deliveries_of}
+use Rattle.sj_core.specs.Laws.{is_known}
+use Rattle.sj_lower.specs.Lowering.{lowered}
+use Rattle.sj_job.specs.Act.{Statement}
 
 -- `transpose`, and what registrations and print statements are lowered to
 abbrev pub turns_has : Kernel → Bool
@@ -19,10 +22,17 @@ turns_has LoadFill = true
 turns_has Deliver = true
 turns_has _ = false
 
--- the deliveries are those of the program; there are none where the set lacks one of its codelets
-abbrev pub Hands : Option Deliveries → Program → Type 0
-Hands (Some d) p = d.pairs ≡ deliveries_of p
-Hands None p = ¬ HasCodelets turns_has p
+-- the set has the codelet of each task
+abbrev pub HasCodelets : Program → Type 0
+HasCodelets p = All (λ l. IsTrue (is_known turns_has l.codelet)) p.tasks
+
+-- two workers on one node that holds two of the example's three matrices, with disks of these sizes
+abbrev pub small_machine : List ℕ → Machine
+small_machine disks = record { workers = 2; nodes = 96 ∷ []; disks = disks; policy = Eager }
+
+-- the program of statements for that machine's workers
+abbrev pub program_of : List Statement → Program
+program_of ss = lowered ss 2
 
 pub turns_commuting : CommutingCommute turns_has
 turns_commuting Transpose h = absurd (false≢true h)

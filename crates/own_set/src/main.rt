@@ -1,33 +1,52 @@
-//! A program of one's own over the engine: its set of codelets, a program that lowering makes of a text, the run of it, and
-//! the arrays that the run hands over.
+//! A program of one's own over the engine: its set of codelets, a program that lowering makes of a text, the run of it on a machine
+//! too small to hold all its matrices, and the arrays that the run hands over.
 #![tactic(auto)]
 
-ghost use Rattle.std.specs.Prelude.{◌≡◌, ◌↔◌, IsTrue, IfOk, IfErr, Ok};
-ghost use Rattle.sj_engine.specs.Run.{HasCodelets};
+ghost use Rattle.std.specs.Prelude.{◌≡◌, ◌↔◌, ◌≤◌, ◌^◌, ℕ, All, FitsSigned, IsOkAnd, IsTrue, IfOk, IfErr, Result, length, map};
+ghost use Rattle.std.specs.Int.{w64};
+ghost use Rattle.sj_edge.specs.Sizes.{AreWithin};
+ghost use Rattle.sj_engine.specs.Outcome.{AllTell};
 ghost use Rattle.sj_job.specs.Job.{Job};
-ghost use Rattle.sj_job.specs.Reading.{job_of};
-ghost use Rattle.sj_lower.specs.Lowering.{lowered};
-ghost use Rattle.own_set.specs.NotRun.{IsNotRun};
-ghost use Rattle.own_set.specs.Turns.{turns_has, Hands};
+ghost use Rattle.sj_job.specs.Reading.{Refusal, job_of};
+ghost use Rattle.sj_machine.specs.Delivered.{DeliversEach};
+ghost use Rattle.own_set.specs.NotRun.{IsNotReady, IsNotRun, IsReady};
+ghost use Rattle.own_set.specs.Turns.{HasCodelets, program_of, small_machine, turns_has};
 
 use sj_base::memory;
-use sj_base::program::{Codelet, Program};
-use sj_board::delivered::Delivered;
+use sj_base::mode::Policy;
+use sj_base::program::{Codelet, Machine, Program};
+use sj_base::sequence::Sequence;
 use sj_codelet::frame::Frame;
 use sj_codelet::kernel::Kernel;
 use sj_codelet::set::Codelets;
-use sj_engine::run::run;
+use sj_edge::disk::Disk;
+use sj_edge::gate::OpenGate;
+use sj_edge::memory_disk::MemDisk;
+use sj_engine::engine::{RunOutcome, run};
 use sj_job::read::read;
 use sj_job::reason::ReadRefusal;
 use sj_kernels::ring::Ring;
 use sj_lower::lower::{LowerRefusal, LoweredJob, lower};
+use sj_machine::delivered::Delivered;
+use sj_machine::fault::RunFault;
+use sj_needs::shortage::{Shortage, fits};
 use std::alloc::Global;
 use std::io;
-use std::sync::Arc;
+use std::sync::{Arc, Wait};
+use std::thread::Threads;
 
-/// What the example runs: a matrix is turned.
+/// What the example runs: a matrix is turned, and turned back.
 const JOB: &[u8] =
-    b"starjob 1\nmatrix A 2 3 fill 1 1\nmatrix B 3 2 none\ntask transpose A:R B:W\nprint B\n";
+    b"starjob 1\nmatrix A 2 3 fill 1 1\nmatrix B 3 2 none\nmatrix C 2 3 none\ntask transpose A:R B:W\ntask transpose B:R C:W\nprint B\n";
+
+/// The workers of the example's machine.
+const WORKERS: u8 = 2;
+
+/// The bytes of its one node: two of the three matrices, each of six elements of 8 bytes.
+const NODE: u64 = 96;
+
+/// The bytes of its disk: a block for each of the three matrices, with a header of 24 bytes.
+const SWAP: u64 = 216;
 
 /// A set of one's own: `transpose` alone, beside what registrations and print statements are lowered to. Its kernels are those
 /// of the ring; one's own would stand in `run`.
@@ -64,7 +83,7 @@ impl Codelets for Turns {
 
 /// Whether the set has the codelet of each task. Linear in the tasks.
 fn has_codelets(program: &Program) -> bool
-    ensures { IsTrue result ↔ HasCodelets turns_has program.now }
+    ensures { IsTrue result ↔ HasCodelets program.now }
 {
     program.tasks.items().iter().all(|task| match Kernel::of(task.codelet) {
         Some(kernel) => Turns.knows(kernel),
@@ -72,47 +91,101 @@ fn has_codelets(program: &Program) -> bool
     })
 }
 
-/// Why a text isn't run.
+/// The arguments of a task are in their type. Linear in them.
+fn args_fit(args: &[i64])
+    ensures { All (FitsSigned w64) args.now }
+{
+    for arg in args {
+        let _value = *arg;
+    }
+}
+
+/// The same of the arguments of all tasks.
+fn arguments_fit(program: &Program)
+    ensures { All (λ l. All (FitsSigned w64) l.args) program.now.tasks }
+{
+    for task in program.tasks.items() {
+        args_fit(task.args.items());
+    }
+}
+
+/// Why a text isn't made ready.
 #[derive(Debug, Drop)]
-enum NotRun {
+enum NotReady {
     /// One of its lines is bad.
     Text(ReadRefusal),
     /// It has too many cells or tasks.
     Limit(LowerRefusal),
+    /// The set hasn't one of its codelets.
+    Codelet,
+    /// The machine hasn't the room.
+    Lacking(Shortage),
     OutOfMemory,
 }
 
-impl From<ReadRefusal> for NotRun {
+impl From<ReadRefusal> for NotReady {
     ghost use Rattle.std.specs.Prelude.{◌≡◌};
-    ghost use Rattle.own_set.specs.declared.NotRun.TheVariants.{Text};
+    ghost use Rattle.own_set.specs.declared.NotReady.TheVariants.{Text};
 
     ghost from_gives = { λ refusal e. e ≡ Text refusal };
 
     fn from(refusal: ReadRefusal) -> Self {
-        NotRun::Text(refusal)
+        NotReady::Text(refusal)
     }
 }
 
-impl From<LowerRefusal> for NotRun {
+impl From<LowerRefusal> for NotReady {
     ghost use Rattle.std.specs.Prelude.{◌≡◌};
-    ghost use Rattle.own_set.specs.declared.NotRun.TheVariants.{Limit};
+    ghost use Rattle.own_set.specs.declared.NotReady.TheVariants.{Limit};
 
     ghost from_gives = { λ refusal e. e ≡ Limit refusal };
 
     fn from(refusal: LowerRefusal) -> Self {
-        NotRun::Limit(refusal)
+        NotReady::Limit(refusal)
     }
 }
 
-impl From<memory::OutOfMemory> for NotRun {
+impl From<Shortage> for NotReady {
     ghost use Rattle.std.specs.Prelude.{◌≡◌};
-    ghost use Rattle.own_set.specs.declared.NotRun.TheVariants.{OutOfMemory};
+    ghost use Rattle.own_set.specs.declared.NotReady.TheVariants.{Lacking};
+
+    ghost from_gives = { λ shortage e. e ≡ Lacking shortage };
+
+    fn from(shortage: Shortage) -> Self {
+        NotReady::Lacking(shortage)
+    }
+}
+
+impl From<memory::OutOfMemory> for NotReady {
+    ghost use Rattle.std.specs.Prelude.{◌≡◌};
+    ghost use Rattle.own_set.specs.declared.NotReady.TheVariants.{OutOfMemory};
 
     ghost from_gives = { λ _ e. e ≡ OutOfMemory };
 
     fn from(_: memory::OutOfMemory) -> Self {
-        NotRun::OutOfMemory
+        NotReady::OutOfMemory
     }
+}
+
+/// A program that the set runs, and the machine for it.
+#[derive(Drop)]
+struct Ready {
+    program: Arc<Program>,
+    machine: Machine,
+}
+
+/// The example's machine, with disks of these sizes.
+fn machine(alloc: Global, disks: Vec<u64>) -> Result<Machine, memory::OutOfMemory>
+    ensures { IfOk result (λ m. m ≡ small_machine disks.items) }
+{
+    let mut nodes = Vec::new(alloc);
+    nodes.push(NODE)?;
+    Ok(Machine {
+        workers: WORKERS,
+        nodes: Sequence::of(nodes),
+        disks: Sequence::of(disks),
+        policy: Policy::Eager,
+    })
 }
 
 /// A program to be run.
@@ -122,20 +195,116 @@ fn shared(alloc: Global, program: Program) -> Result<Arc<Program>, memory::OutOf
     Ok(Arc::new(alloc, program)?)
 }
 
-/// Runs the program of a text, and gives what its deliver tasks hand over; nothing where the set lacks one of its codelets.
-fn delivered(alloc: Global, text: &[u8]) -> Result<Option<Delivered>, NotRun>
-    ensures ok { IfOk result (λ d. (job : Job) × (job_of turns_has text.now ≡ Ok job)
-        × Hands d (lowered job.statements 1)) }
-    ensures err { IfErr result (λ e. IsNotRun e (job_of turns_has text.now)) }
+/// The program of a text, and the machine for it with disks of these sizes. The cost of reading and lowering.
+fn ready(alloc: Global, text: &[u8], disks: Vec<u64>) -> Result<Ready, NotReady>
+    requires few { length disks.items ≤ 16 }
+    requires small { All (λ n. n ≤ 2 ^ 40) disks.items }
+    ensures ok { IfOk result (IsReady (job_of turns_has text.now) disks.items) }
+    ensures err { IfErr result (λ e. IsNotReady e (job_of turns_has text.now) disks.items) }
 {
     let job = read(alloc, text, &Turns)?;
-    let LoweredJob { program, .. } = lower(alloc, job, 1)?;
+    let LoweredJob { program, .. } = lower(alloc, job, WORKERS)?;
     if !has_codelets(&program) {
-        return Ok(None);
+        return Err(NotReady::Codelet);
     }
-    let outcome = run(alloc, shared(alloc, program)?, &Turns);
-    outcome.result?;
-    Ok(Some(outcome.delivered))
+    arguments_fit(&program);
+    let machine = machine(alloc, disks)?;
+    fits(alloc, &program, &machine)?;
+    let program = shared(alloc, program)?;
+    Ok(Ready { program, machine })
+}
+
+/// The sizes of disks. Linear in them.
+fn sizes_of<D: Disk>(alloc: Global, disks: &[D]) -> Result<Vec<u64>, memory::OutOfMemory>
+    ensures { IfOk result (λ sizes. sizes.items ≡ map D.size disks.now) }
+{
+    let mut sizes = Vec::new(alloc);
+    for disk in disks {
+        sizes.push(disk.size())?;
+    }
+    Ok(sizes)
+}
+
+/// Why a text isn't run.
+#[derive(Debug, Drop)]
+enum NotRun {
+    Unready(NotReady),
+    /// Its run broke off.
+    Fault(RunFault),
+}
+
+/// What a run handed over, or why there was none, and the disks.
+#[derive(Drop)]
+struct Turned<D> {
+    handed: Result<Delivered, NotRun>,
+    disks: Vec<D>,
+}
+
+/// Runs what is ready. The cost of the run.
+fn run_ready<D: Disk + Send, R: Threads + Wait + Sync>(
+    rt: &R,
+    alloc: Global,
+    ready: Ready,
+    disks: Vec<D>,
+) -> Turned<D>
+    requires ready { (job : Result Job Refusal) × IsReady job (map D.size disks.items) ready }
+    ensures ok { (job : Result Job Refusal) → IsReady job (map D.size disks.items) ready →
+        IfOk result.handed (λ handed. IsOkAnd job
+        (λ j. DeliversEach (program_of j.statements) (AllTell D.held disks.items) handed.pairs)) }
+    ensures err { (job : Result Job Refusal) → IfErr result.handed (λ e. IsNotRun D.faults
+        D.mismatches D.held e job (map D.size disks.items) disks.items result.disks.items) }
+{
+    let Ready { program, machine } = ready;
+    let RunOutcome {
+        result,
+        delivered,
+        disks,
+        ..
+    } = run(rt, alloc, program, machine, disks, &Turns, &OpenGate);
+    let handed = match result {
+        Ok(()) => Ok(delivered),
+        Err(fault) => Err(NotRun::Fault(fault)),
+    };
+    Turned { handed, disks }
+}
+
+/// Runs the program of a text on the example's machine with these disks, and gives what its deliver tasks hand over.
+fn turned<D: Disk + Send, R: Threads + Wait + Sync>(
+    rt: &R,
+    alloc: Global,
+    text: &[u8],
+    disks: Vec<D>,
+) -> Turned<D>
+    requires few { length disks.items ≤ 16 }
+    requires small { AreWithin D.size (2 ^ 40) disks.items }
+    ensures ok { IfOk result.handed (λ handed. IsOkAnd (job_of turns_has text.now)
+        (λ job. DeliversEach (program_of job.statements) (AllTell D.held disks.items) handed.pairs)) }
+    ensures err { IfErr result.handed (λ e. IsNotRun D.faults D.mismatches D.held e
+        (job_of turns_has text.now) (map D.size disks.items) disks.items result.disks.items) }
+{
+    let Ok(sizes) = sizes_of(alloc, &disks) else {
+        return Turned {
+            handed: Err(NotRun::Unready(NotReady::OutOfMemory)),
+            disks,
+        };
+    };
+    match ready(alloc, text, sizes) {
+        Ok(ready) => run_ready(rt, alloc, ready, disks),
+        Err(refusal) => Turned {
+            handed: Err(NotRun::Unready(refusal)),
+            disks,
+        },
+    }
+}
+
+/// One disk of memory.
+fn one_disk(alloc: Global) -> Result<Vec<MemDisk>, memory::OutOfMemory>
+    ensures { IfOk result (λ disks. (length disks.items ≡ 1)
+        × AreWithin ⟦<MemDisk as Disk>⟧.size (2 ^ 40) disks.items) }
+{
+    let mut disks = Vec::new(alloc);
+    disks.push(MemDisk::new(alloc, SWAP, Vec::new(alloc))?)?;
+    Ok(disks)
 }
 
 /// Prints the elements of each array, one a line.
@@ -149,9 +318,11 @@ fn print(rt: &HostRuntime, handed: &Delivered) -> io::Result<()> {
 }
 
 fn main(rt: HostRuntime) -> io::Result<()> {
-    match delivered(rt.alloc(), JOB) {
-        Ok(Some(handed)) => print(&rt, &handed),
-        Ok(None) => println!(rt; "the set lacks a codelet"),
+    let Ok(disks) = one_disk(rt.alloc()) else {
+        return println!(rt; "out of memory");
+    };
+    match turned(&rt, rt.alloc(), JOB, disks).handed {
+        Ok(handed) => print(&rt, &handed),
         Err(refusal) => println!(rt; "{refusal:?}"),
     }
 }

@@ -16,6 +16,10 @@ mod tests;
 mod tests_of_machines;
 #[cfg(test)]
 mod tests_of_plans;
+#[cfg(test)]
+mod tests_of_machine;
+#[cfg(test)]
+mod tests_of_trouble;
 mod top;
 
 ghost use Rattle.std.specs.Prelude.{◌≤◌, ◌^◌, length};

@@ -98,12 +98,7 @@ fn shareable(alloc: Global, program: Program) -> Result<Arc<Program>, OutOfMemor
 }
 
 /// A job lowered for the workers of a machine. The cost of lowering.
-fn lowered_for(
-    alloc: Global,
-    job: Job,
-    machine: Machine,
-    shows_trace: bool,
-) -> Result<Ready, Stop>
+fn lowered_for(alloc: Global, job: Job, machine: Machine, shows_trace: bool) -> Result<Ready, Stop>
     requires job { IsJob (statements_of job) }
     requires numbered { IsNumbered job.roots job.statements }
     ensures within { IfOk result (λ _. late_limit (statements_of job) ≡ None) }

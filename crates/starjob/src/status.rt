@@ -15,13 +15,24 @@ pub enum Status {
     /// The words after the program's name aren't accepted.
     Usage,
     /// The job text is refused at this line for this reason.
-    Refused { line: Line, reason: Reason },
+    Refused {
+        line: Line,
+        reason: Reason,
+    },
     /// A task of this line needs so many bytes on one node, and no node that has a worker has as many.
-    TooLarge { line: Line, bytes: u64 },
+    TooLarge {
+        line: Line,
+        bytes: u64,
+    },
     /// The blocks of all cells, of so many bytes, have no places on the disks, which together have so many.
-    SwapTooSmall { needed: u64, have: u64 },
+    SwapTooSmall {
+        needed: u64,
+        have: u64,
+    },
     /// The disk failed.
-    DiskFault { disk: DiskNo },
+    DiskFault {
+        disk: DiskNo,
+    },
     /// The disk held another header than the one that was last written there.
     Damaged {
         disk: DiskNo,
