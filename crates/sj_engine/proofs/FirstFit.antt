@@ -131,9 +131,9 @@ module _ {D : Type 0} (size : D → ℕ) (p : Program) (m : Machine) (disks : Li
         later-done c l = elim (cases_lt c.0 i) [
           | inl before ↦ subst (λ (o : Option Extent). IfSome (slice_get is.blocks c.0) (λ b. IsSomeAnd o (IsBlock p c b))) (sym (gets.other_extents_stay c.0 (λ e. omega (arith, e, before)))) (is.done c before)
           | inr from ↦
-            let here : i ≡ c.0 = omega (arith, from, l) in
-            let same : cell ≡ c = ap (λ (k : ℕ). let q : Cell = record { 0 = k } in q) here in
-            subst (λ (q : Cell). IfSome (slice_get is.blocks q.0) (λ b. IsSomeAnd (extent_of new.directory q.0) (IsBlock p q b))) same (subst (λ (o : Option Block). IfSome o (λ b. IsSomeAnd (extent_of new.directory i) (IsBlock p cell b))) (sym its-block) has-block)
+              let here : i ≡ c.0 = omega (arith, from, l) in
+              let same : cell ≡ c = ap (λ (k : ℕ). let q : Cell = record { 0 = k } in q) here in
+              subst (λ (q : Cell). IfSome (slice_get is.blocks q.0) (λ b. IsSomeAnd (extent_of new.directory q.0) (IsBlock p q b))) same (subst (λ (o : Option Block). IfSome o (λ b. IsSomeAnd (extent_of new.directory i) (IsBlock p cell b))) (sym its-block) has-block)
         ]
 
         takes : place_after m.disks new.taken (drop (i + 1) p.cells) ≡ Some (drop (i + 1) is.blocks)

@@ -55,5 +55,5 @@ module _ {D : Type 0} (desk : DeskFacts (BoardState D)) where
       let below : i < desk.seats = subst (λ (n : ℕ). i < n) staffed inside in
       let its = at.each i (new_seat desk 0) below in
       let same : IsSomeAnd (slice_index_or seats i (new_seat desk 0)).left (λ left. row_of_number b i ≡ row_of_number left i) =
-        subst (λ (n : ℕ). IsSomeAnd (slice_index_or seats i (new_seat desk 0)).left (λ left. row_of_number b n ≡ row_of_number left n)) its.number (rows i (new_seat desk 0) (subst (λ (n : ℕ). i < n) (sym at.count) below)) in
+      subst (λ (n : ℕ). IsSomeAnd (slice_index_or seats i (new_seat desk 0)).left (λ left. row_of_number b n ≡ row_of_number left n)) its.number (rows i (new_seat desk 0) (subst (λ (n : ℕ). i < n) (sym at.count) below)) in
       row-stopped b i (slice_index_or seats i (new_seat desk 0)).left its.row same)
