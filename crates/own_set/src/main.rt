@@ -36,7 +36,8 @@ use std::sync::{Arc, Wait};
 use std::thread::Threads;
 
 /// What the example runs: a matrix is turned, and turned back.
-const JOB: &[u8] = b"starjob 1\nmatrix A 2 3 fill 1 1\nmatrix B 3 2 none\nmatrix C 2 3 none\ntask transpose A:R B:W\ntask transpose B:R C:W\nprint B\n";
+const JOB: &[u8] =
+    b"starjob 1\nmatrix A 2 3 fill 1 1\nmatrix B 3 2 none\nmatrix C 2 3 none\ntask transpose A:R B:W\ntask transpose B:R C:W\nprint B\n";
 
 /// The workers of the example's machine.
 const WORKERS: u8 = 2;

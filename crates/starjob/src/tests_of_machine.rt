@@ -30,6 +30,7 @@ pub const ROUND_OUT: &str = "x: 112 224 336\ny: 11 22 33\nz: 111 222 333\n";
 pub const ROUND_SWAP: u64 = 144;
 
 /// How a job ended, and what was written.
+#[derive(Drop)]
 pub struct Answer {
     pub status: Status,
     pub trace: Trace,
@@ -218,6 +219,7 @@ fn the_one_used_longest_ago_is_evicted_and_fetched_again(rt: HostRuntime) -> Res
 }
 
 /// Lets the kernels of tasks 2 and 3 go on when both are inside, or after some seconds.
+#[derive(Drop)]
 struct Meeting<'a, R> {
     rt: &'a R,
     inside: AtomicU64,

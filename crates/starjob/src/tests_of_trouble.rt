@@ -219,6 +219,7 @@ fn a_device_without_room_is_a_fault(rt: HostRuntime) -> Result<(), Fail> {
 const FILE: &str = "a_disk_that_is_cut_off";
 
 /// Cuts the file off before the block of z while the first sum is inside, when x and y fill the node.
+#[derive(Drop)]
 struct Cutting<'a, R> {
     rt: &'a R,
 }
