@@ -30,9 +30,10 @@ map-places f (x ∷ xs) (y ∷ ys) n h = ap (λ k. k ∷ map f ys) (h 0 x y refl
 
 -- where the call ended well, no count has changed
 pub counts-stay : {D A : Type 0} (faults mismatches : D → ℕ) (a : A) (result : Result A DiskRefusal) (old new : List D) → result ≡ Ok a → AreCounted faults mismatches result old new → CountsStay faults mismatches old new
-counts-stay faults mismatches a result old new is c =
-    (map-places faults old new c.as_many (λ k x y e g. (c.each k x y e g).of_faults ∙ ap (λ r. counted (faults x) (failed_at r k)) is),
-    map-places mismatches old new c.as_many (λ k x y e g. (c.each k x y e g).of_mismatches ∙ ap (λ r. counted (mismatches x) (differed_at r k)) is))
+counts-stay faults mismatches a result old new is c = (
+  map-places faults old new c.as_many (λ k x y e g. (c.each k x y e g).of_faults ∙ ap (λ r. counted (faults x) (failed_at r k)) is),
+  map-places mismatches old new c.as_many (λ k x y e g. (c.each k x y e g).of_mismatches ∙ ap (λ r. counted (mismatches x) (differed_at r k)) is),
+)
 
 module _ {D : Type 0} (faults mismatches : D → ℕ) (w : Worker) (b x y : BoardState D) (ex : x ≡ b) (only : OnlyDisksChangeOn x y) where
   pub only-disks : OnlyDisksChangeOn b y

@@ -219,9 +219,9 @@ module _ (p : Program) (m : Machine) (s : State) (h : IsSound p m s) (v : Worker
         let apart : (u : Task) → is_task_of v (progress s u) ≡ true → u ≢ t = λ u has. not-mine t u (Running x) step.running (λ k. sym by ∙ running-is x v k) has in
         let mine : is_task_of x (progress s t) ≡ true = ap (is_task_of x) step.running ∙ same_worker-refl x in
         let unwritten : (u : Task) (c : Cell) → is_running_on v (progress s u) ≡ true → has_cell (cells_of p u v) c ≡ true → has_cell (written_cells p t x) c ≡ false = λ u c runs cell.
-            not-so (has_cell (written_cells p t x) c) (separated p m h.proper.cells (Proper-dependencies p h.proper) s h.coherent.state h.coherent.workers h.coherent.order u t v x c (apart u (running-task v (progress s u) runs)) (running-task v (progress s u) runs) mine cell) in
+        not-so (has_cell (written_cells p t x) c) (separated p m h.proper.cells (Proper-dependencies p h.proper) s h.coherent.state h.coherent.workers h.coherent.order u t v x c (apart u (running-task v (progress s u) runs)) (running-task v (progress s u) runs) mine cell) in
         let unmoved : (y : Transfer) → transfer s v ≡ Some y → has_cell (written_cells p t x) y.cell ≡ false = λ y under_way.
-            not-so (has_cell (written_cells p t x) y.cell) (λ written. false≢true (sym ((h.coherent.writers.owned t x y.cell step.running written).unmoved v) ∙ moves-it s v y under_way)) in
+        not-so (has_cell (written_cells p t x) y.cell) (λ written. false≢true (sym ((h.coherent.writers.owned t x y.cell step.running written).unmoved v) ∙ moves-it s v y under_way)) in
         record {
           phase = λ u has. ap (λ (z : State). progress z u) step.leaves ∙ progress-other s t u (Done x) (apart u has);
           holds = end-other_worker p m s t x s' step v (subst (λ (k : Worker). v ≢ k) (sym by) other);

@@ -65,7 +65,14 @@ impl<D: Disk> SharedBoard<D> {
 
     /// A worker's transfer from a disk to a node: its block is read into the tile, and the transfer ends. Whether it did: else
     /// the worker has failed. Linear in the tile.
-    pub fn read_in(&mut self, alloc: Global, w: Worker, t: Task, x: Transfer, mut tile: Tile) -> bool
+    pub fn read_in(
+        &mut self,
+        alloc: Global,
+        w: Worker,
+        t: Task,
+        x: Transfer,
+        mut tile: Tile,
+    ) -> bool
         requires worker { IsWorkerOf self.old w }
         requires moves { MovesRow w t x (row_in self.old w) }
         requires node { is_node x.to ≡ true }

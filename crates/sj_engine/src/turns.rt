@@ -20,8 +20,7 @@ use sj_core::progress::Transfer;
 use sj_desk::{Desk, DeskSeat};
 use sj_edge::disk::Disk;
 use std::alloc::Global;
-use std::sync::Arc;
-use std::sync::Wait;
+use std::sync::{Arc, Wait};
 
 /// The desk of a run, and a worker's seat at it.
 pub type BoardDesk<D> = Desk<SharedBoard<D>>;

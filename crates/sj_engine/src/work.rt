@@ -65,9 +65,7 @@ fn transfer<D: Disk, R: Wait>(
         (Place::Node(_), Place::Disk(_), Some(tile)) => {
             write_out(rt, desk, seat, program, w, t, x, &tile)
         }
-        (Place::Disk(_), Place::Node(_), _) => {
-            fetch(rt, alloc, desk, seat, program, w, t, x)
-        }
+        (Place::Disk(_), Place::Node(_), _) => { fetch(rt, alloc, desk, seat, program, w, t, x) }
         _ => unreachable!(),
     }
 }

@@ -70,10 +70,10 @@ same-shown T p pairs arrays among are = map-same (λ k. shown T arrays (deliveri
     same-of k =
         let ds = deliveries_for p k in
         let parts = map-same (part_by arrays) (part_by (given p)) ds (λ d h.
-            let own : Contains p.deliveries d = Contains-from_filter (λ (e : Delivery). nat_eq e.print k) p.deliveries d h in
-            let has = All-contains (λ (e : Delivery). Contains pairs (e.task, arrays e.task)) p.deliveries d among own in
-            let is = All-contains (λ (pair : Task × Array). pair.1 ≡ given p pair.0) pairs (d.task, arrays d.task) are has in
-            ap (λ (a : Array). (rect_at d a.dims, a)) is) in
+        let own : Contains p.deliveries d = Contains-from_filter (λ (e : Delivery). nat_eq e.print k) p.deliveries d h in
+        let has = All-contains (λ (e : Delivery). Contains pairs (e.task, arrays e.task)) p.deliveries d among own in
+        let is = All-contains (λ (pair : Task × Array). pair.1 ≡ given p pair.0) pairs (d.task, arrays d.task) are has in
+        ap (λ (a : Array). (rect_at d a.dims, a)) is) in
         let info = info_of T (root_of ds) in
         λ i. record { name = name_of T (root_of ds); kind = info.kind; array = gathered (zeros info.dims) (parts i) }
 

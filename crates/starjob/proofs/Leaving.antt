@@ -44,6 +44,7 @@ risen-at {D} count old new d risen = by_old (slice_get old d) refl risen
       is_disk = omega (arith, slice_get_within old d x ex, length-map old count);
       count_rose = subst (λ (n : ℕ). Rose n (get_or (map count new) d 0)) (sym (at-place count old d x ex)) (subst (Rose (count x)) (sym (at-place count new d y e)) h);
     }
+
     by_old : (o : Option D) → slice_get old d ≡ o → IsSomeAnd o (λ x. IsSomeAnd (slice_get new d) (λ y. Rose (count x) (count y))) → RoseAt d (map count old) (map count new)
     by_old None e h = absurd h
     by_old (Some x) e h = by_new x e (slice_get new d) refl h

@@ -13,11 +13,11 @@ mod stop;
 #[cfg(test)]
 mod tests;
 #[cfg(test)]
+mod tests_of_machine;
+#[cfg(test)]
 mod tests_of_machines;
 #[cfg(test)]
 mod tests_of_plans;
-#[cfg(test)]
-mod tests_of_machine;
 #[cfg(test)]
 mod tests_of_trouble;
 mod top;

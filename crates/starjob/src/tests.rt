@@ -476,16 +476,7 @@ pub fn call<R: Threads + Wait + Sync, S: Source, O: Sink, E: Sink>(
     let mut disks = Vec::new(alloc);
     let disk = MemDisk::new(alloc, disk, Vec::new(alloc))?;
     add_disk(&mut disks, Box::new(alloc, disk)?)?;
-    Ok(starjob(
-        rt,
-        alloc,
-        &[],
-        source,
-        out,
-        err,
-        disks,
-        &OpenGate,
-    ))
+    Ok(starjob(rt, alloc, &[], source, out, err, disks, &OpenGate))
 }
 
 /// The bytes of a disk that takes all blocks of a small job.
@@ -623,7 +614,11 @@ fn a_text_is_read_up_to_its_limit_of_bytes(rt: HostRuntime) -> Result<(), Fail> 
 }
 
 /// The trace of a job text, and its exit code.
-fn traced<R: Threads + Wait + Sync>(rt: &R, alloc: Global, text: &str) -> Result<(u8, Trace), Fail> {
+fn traced<R: Threads + Wait + Sync>(
+    rt: &R,
+    alloc: Global,
+    text: &str,
+) -> Result<(u8, Trace), Fail> {
     let mut source = MemSource::new(bytes(alloc, text)?, Vec::new(alloc));
     let outcome = call(
         rt,

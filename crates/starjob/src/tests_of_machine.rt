@@ -21,7 +21,8 @@ use std::thread::Threads;
 use std::time::{Clock, Duration};
 
 /// Three vectors of 24 bytes, each added to the next: a task needs two of them on its node.
-pub const ROUND: &str = "starjob 1\nvector x 3 values 1 2 3\nvector y 3 values 10 20 30\nvector z 3 values 100 200 300\ntask add x:R y:RW\ntask add y:R z:RW\ntask add z:R x:RW\nprint x\nprint y\nprint z\n";
+pub const ROUND: &str =
+    "starjob 1\nvector x 3 values 1 2 3\nvector y 3 values 10 20 30\nvector z 3 values 100 200 300\ntask add x:R y:RW\ntask add y:R z:RW\ntask add z:R x:RW\nprint x\nprint y\nprint z\n";
 
 /// What that prints.
 pub const ROUND_OUT: &str = "x: 112 224 336\ny: 11 22 33\nz: 111 222 333\n";
@@ -58,10 +59,7 @@ fn run_on_disks<G: Gate, R: Threads + Wait + Sync>(
     requires small { AreWithin ⟦<Box<dyn Disk + Send> as Disk>⟧.size (2 ^ 40) disks.items }
 {
     let words = words_of(alloc, words)?;
-    let mut source = MemSource::new(
-        Vec::from_slice(alloc, text.as_bytes())?,
-        Vec::new(alloc),
-    );
+    let mut source = MemSource::new(Vec::from_slice(alloc, text.as_bytes())?, Vec::new(alloc));
     let mut out = MemSink::new(alloc, 1000, Vec::new(alloc))?;
     let mut err = MemSink::new(alloc, 1000, Vec::new(alloc))?;
     let outcome = starjob(
@@ -130,11 +128,22 @@ fn workers_and_policies_print_the_same(rt: HostRuntime) -> Result<(), Fail> {
         for workers in ["1", "2", "4", "64"] {
             let disk = whole_disk(rt.alloc(), ROUND_SWAP)?;
             let words = [
-                "--workers", workers, "--sched", policy, "--node", "48", "--nodes", "2",
+                "--workers",
+                workers,
+                "--sched",
+                policy,
+                "--node",
+                "48",
+                "--nodes",
+                "2",
             ];
             let answer = run_on(&rt, rt.alloc(), &words, ROUND, disk, &OpenGate)?;
             assert_eq!(rt; answer.status, Status::Done, "at {workers} {policy}");
-            assert_eq!(rt; answer.out.taken(), ROUND_OUT.as_bytes(), "at {workers} {policy}");
+            assert_eq!(rt;
+                answer.out.taken(),
+                ROUND_OUT.as_bytes(),
+                "at {workers} {policy}"
+            );
         }
     }
     Ok(())
@@ -144,7 +153,13 @@ fn workers_and_policies_print_the_same(rt: HostRuntime) -> Result<(), Fail> {
 fn a_task_above_every_node_is_too_large(rt: HostRuntime) -> Result<(), Fail> {
     let disk = whole_disk(rt.alloc(), ROUND_SWAP)?;
     let answer = run_on(&rt, rt.alloc(), &["--node", "47"], ROUND, disk, &OpenGate)?;
-    assert_eq!(rt; answer.status, Status::TooLarge { line: Line(5), bytes: 48 });
+    assert_eq!(rt;
+        answer.status,
+        Status::TooLarge {
+            line: Line(5),
+            bytes: 48
+        }
+    );
     assert!(rt; answer.out.taken().is_empty());
     assert!(rt; answer.trace.is_empty());
     Ok(())
@@ -154,7 +169,13 @@ fn a_task_above_every_node_is_too_large(rt: HostRuntime) -> Result<(), Fail> {
 fn a_disk_one_byte_short_is_too_small(rt: HostRuntime) -> Result<(), Fail> {
     let disk = whole_disk(rt.alloc(), ROUND_SWAP - 1)?;
     let answer = run_on(&rt, rt.alloc(), &["--node", "48"], ROUND, disk, &OpenGate)?;
-    assert_eq!(rt; answer.status, Status::SwapTooSmall { needed: 144, have: 143 });
+    assert_eq!(rt;
+        answer.status,
+        Status::SwapTooSmall {
+            needed: 144,
+            have: 143
+        }
+    );
     assert!(rt; answer.out.taken().is_empty());
     assert!(rt; answer.trace.is_empty());
     Ok(())
@@ -163,7 +184,13 @@ fn a_disk_one_byte_short_is_too_small(rt: HostRuntime) -> Result<(), Fail> {
 #[test]
 fn without_a_disk_no_job_with_cells_is_run(rt: HostRuntime) -> Result<(), Fail> {
     let answer = run_alone(&rt, rt.alloc(), ROUND)?;
-    assert_eq!(rt; answer.status, Status::SwapTooSmall { needed: 144, have: 0 });
+    assert_eq!(rt;
+        answer.status,
+        Status::SwapTooSmall {
+            needed: 144,
+            have: 0
+        }
+    );
     assert!(rt; answer.out.taken().is_empty());
     assert!(rt; answer.trace.is_empty());
     let answer = run_alone(&rt, rt.alloc(), "starjob 1\n")?;
@@ -244,7 +271,8 @@ impl<R: Clock + Sync> Gate for Meeting<'_, R> {
     fn left(&self, _task: Task) {}
 }
 
-const APART: &str = "starjob 1\nvector x 1 values 1\nvector y 1 values 1\ntask scale(2) x:RW\ntask scale(3) y:RW\nprint x\nprint y\n";
+const APART: &str =
+    "starjob 1\nvector x 1 values 1\nvector y 1 values 1\ntask scale(2) x:RW\ntask scale(3) y:RW\nprint x\nprint y\n";
 
 #[test]
 fn two_kernels_are_inside_at_once(rt: HostRuntime) -> Result<(), Fail> {

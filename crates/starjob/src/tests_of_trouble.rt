@@ -50,7 +50,11 @@ fn is_refused<R: Threads + Wait + Abort + Sync>(
     assert_eq!(rt; answer.disks.len(), 1);
     if refuses(&mut answer.disks[0], call) {
         assert_eq!(rt; answer.status, Status::Done, "at {call} of {workers}");
-        assert_eq!(rt; answer.out.taken(), ROUND_OUT.as_bytes(), "at {call} of {workers}");
+        assert_eq!(rt;
+            answer.out.taken(),
+            ROUND_OUT.as_bytes(),
+            "at {call} of {workers}"
+        );
         return Ok(false);
     }
     let fault = Status::DiskFault { disk: DiskNo(0) };
@@ -241,7 +245,14 @@ impl<R: Files<File = File> + Sync> Gate for Cutting<'_, R> {
 fn a_file_that_is_cut_off_is_a_fault(rt: HostRuntime) -> Result<(), Fail> {
     let _ = fs::remove_file(&rt, FILE);
     let disk = FileDisk::at(&rt, FILE, ROUND_SWAP);
-    let answer = run_on(&rt, rt.alloc(), &tight("1"), ROUND, disk, &Cutting { rt: &rt })?;
+    let answer = run_on(
+        &rt,
+        rt.alloc(),
+        &tight("1"),
+        ROUND,
+        disk,
+        &Cutting { rt: &rt },
+    )?;
     assert_eq!(rt; answer.status, Status::DiskFault { disk: DiskNo(0) });
     assert!(rt; answer.out.taken().is_empty());
     fs::remove_file(&rt, FILE)?;

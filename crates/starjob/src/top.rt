@@ -89,8 +89,7 @@ fn answer_text<O: Sink, C: Codelets, G: Gate, D: Disk + Send, R: Threads + Wait 
         (Some (work_of C.has options.now (map D.size disks.items) text.now))
         result.status result.trace.events disks.items result.disks.items }
     ensures out_stays { IsBeforeWriting result.status → out.new ≡ out.old }
-    ensures out_stays_in_silence {
-        IsOkAnd (work_of C.has options.now (map D.size disks.items) text.now) PrintsNothing →
+    ensures out_stays_in_silence { IsOkAnd (work_of C.has options.now (map D.size disks.items) text.now) PrintsNothing →
         out.new ≡ out.old }
 {
     let Run { text, trace, disks } = run_text(rt, alloc, text, options, disks, codelets, gate);

@@ -15,8 +15,8 @@ returns g c =
     let found_length = c.as_bytes-7.ensures.value ∙ c.format-7.ensures.text in
     subst (λ (l : List ℕ). TakesLine (seen g.E.Sink.taken g.E.Sink.faults c.args.err.now) (seen g.E.Sink.taken g.E.Sink.faults c.write_line_of.new.err) l)
     (λ i. in_a_row (
-      codes "starjob: disk " ∷ disk i
-      ∷ codes " damaged: wanted cell " ∷ cell i ∷ codes " writes " ∷ writes i ∷ codes " length " ∷ length i
-      ∷ codes ", found cell " ∷ found_cell i ∷ codes " writes " ∷ found_writes i ∷ codes " length " ∷ found_length i
-      ∷ codes "\n" ∷ []))
+    codes "starjob: disk " ∷ disk i
+    ∷ codes " damaged: wanted cell " ∷ cell i ∷ codes " writes " ∷ writes i ∷ codes " length " ∷ length i
+    ∷ codes ", found cell " ∷ found_cell i ∷ codes " writes " ∷ found_writes i ∷ codes " length " ∷ found_length i
+    ∷ codes "\n" ∷ []))
     c.write_line_of.ensures
