@@ -321,7 +321,8 @@ fn main(rt: HostRuntime) -> io::Result<()> {
     let Ok(disks) = one_disk(rt.alloc()) else {
         return println!(rt; "out of memory");
     };
-    match run_text(&rt, rt.alloc(), JOB, disks).handed {
+    let Turned { handed, .. } = run_text(&rt, rt.alloc(), JOB, disks);
+    match handed {
         Ok(handed) => print(&rt, &handed),
         Err(refusal) => println!(rt; "{refusal:?}"),
     }
