@@ -4,7 +4,6 @@
 
 ghost use Rattle.std.specs.Prelude.{◌≡◌, ◌↔◌, ◌≤◌, ◌^◌, ℕ, All, FitsSigned, IsOkAnd, IsTrue, IfOk, IfErr, Result, length, map};
 ghost use Rattle.std.specs.Int.{w64};
-ghost use Rattle.sj_core.specs.Laws.{is_known};
 ghost use Rattle.sj_edge.specs.Sizes.{AreWithin};
 ghost use Rattle.sj_engine.specs.Outcome.{AllTell};
 ghost use Rattle.sj_job.specs.Job.{Job};
@@ -15,7 +14,7 @@ ghost use Rattle.own_set.specs.Turns.{HasCodelets, program_of, small_machine, tu
 
 use sj_base::memory;
 use sj_base::mode::Policy;
-use sj_base::program::{Codelet, Lowered, Machine, Program};
+use sj_base::program::{Codelet, Machine, Program};
 use sj_base::sequence::Sequence;
 use sj_codelet::frame::Frame;
 use sj_codelet::kernel::Kernel;
@@ -82,21 +81,14 @@ impl Codelets for Turns {
     }
 }
 
-/// Whether the set has the codelet of a task. Constant time.
-fn has_codelet(task: &Lowered) -> bool
-    ensures { result ≡ is_known turns_has task.now.codelet }
-{
-    match Kernel::of(task.codelet) {
-        Some(kernel) => Turns.knows(kernel),
-        None => false,
-    }
-}
-
 /// Whether the set has the codelet of each task. Linear in the tasks.
 fn has_codelets(program: &Program) -> bool
     ensures { IsTrue result ↔ HasCodelets program.now }
 {
-    program.tasks.items().iter().all(|task| has_codelet(task))
+    program.tasks.items().iter().all(|task| match Kernel::of(task.codelet) {
+        Some(kernel) => Turns.knows(kernel),
+        None => false,
+    })
 }
 
 /// The arguments of a task are in their type. Linear in them.
