@@ -9,6 +9,6 @@ use Rattle.sj_job.specs.Reading.{Refusal}
 use Rattle.sj_machine.specs.Delivered.{DeliversEach}
 use Rattle.own_set.specs.Turns.{program_of}
 
-pub delivers-of : (job : Result Job Refusal) (p : Program) (Tells : Type 0) (pairs : List (Task × Array)) → IsOkAnd job (λ j. p ≡ program_of j.statements) → DeliversEach p Tells pairs → IsOkAnd job (λ j. DeliversEach (program_of j.statements) Tells pairs)
-delivers-of (Ok j) p Tells pairs is each = subst (λ (q : Program). DeliversEach q Tells pairs) is each
-delivers-of (Err e) p Tells pairs is each = is
+pub delivers_of : (job : Result Job Refusal) (p : Program) (Tells : Type 0) (pairs : List (Task × Array)) → IsOkAnd job (λ j. p ≡ program_of j.statements) → DeliversEach p Tells pairs → IsOkAnd job (λ j. DeliversEach (program_of j.statements) Tells pairs)
+delivers_of (Ok j) p Tells pairs is each = subst (λ (q : Program). DeliversEach q Tells pairs) is each
+delivers_of (Err e) p Tells pairs is each = is

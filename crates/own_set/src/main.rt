@@ -241,6 +241,7 @@ struct Turned<D> {
 }
 
 /// Runs what is ready. The cost of the run.
+#[tactic(auto, using(crate::proofs::Handing::delivers_of))]
 fn run_ready<D: Disk + Send, R: Threads + Wait + Sync>(
     rt: &R,
     alloc: Global,
