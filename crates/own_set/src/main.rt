@@ -196,7 +196,7 @@ fn shared(alloc: Global, program: Program) -> Result<Arc<Program>, memory::OutOf
 }
 
 /// The program of a text, and the machine for it with disks of these sizes. The cost of reading and lowering.
-fn ready(alloc: Global, text: &[u8], disks: Vec<u64>) -> Result<Ready, NotReady>
+fn make_ready(alloc: Global, text: &[u8], disks: Vec<u64>) -> Result<Ready, NotReady>
     requires few { length disks.items ≤ 16 }
     requires small { All (λ n. n ≤ 2 ^ 40) disks.items }
     ensures ok { IfOk result (IsReady (job_of turns_has text.now) disks.items) }
@@ -241,6 +241,7 @@ struct Turned<D> {
 }
 
 /// Runs what is ready. The cost of the run.
+#[tactic(auto, using(crate::proofs::Handing::delivers_of))]
 fn run_ready<D: Disk + Send, R: Threads + Wait + Sync>(
     rt: &R,
     alloc: Global,
@@ -261,15 +262,20 @@ fn run_ready<D: Disk + Send, R: Threads + Wait + Sync>(
         disks,
         ..
     } = run(rt, alloc, program, machine, disks, &Turns, &OpenGate);
-    let handed = match result {
-        Ok(()) => Ok(delivered),
-        Err(fault) => Err(NotRun::Fault(fault)),
-    };
-    Turned { handed, disks }
+    match result {
+        Ok(()) => Turned {
+            handed: Ok(delivered),
+            disks,
+        },
+        Err(fault) => Turned {
+            handed: Err(NotRun::Fault(fault)),
+            disks,
+        },
+    }
 }
 
 /// Runs the program of a text on the example's machine with these disks, and gives what its deliver tasks hand over.
-fn turned<D: Disk + Send, R: Threads + Wait + Sync>(
+fn run_text<D: Disk + Send, R: Threads + Wait + Sync>(
     rt: &R,
     alloc: Global,
     text: &[u8],
@@ -288,7 +294,7 @@ fn turned<D: Disk + Send, R: Threads + Wait + Sync>(
             disks,
         };
     };
-    match ready(alloc, text, sizes) {
+    match make_ready(alloc, text, sizes) {
         Ok(ready) => run_ready(rt, alloc, ready, disks),
         Err(refusal) => Turned {
             handed: Err(NotRun::Unready(refusal)),
@@ -321,7 +327,8 @@ fn main(rt: HostRuntime) -> io::Result<()> {
     let Ok(disks) = one_disk(rt.alloc()) else {
         return println!(rt; "out of memory");
     };
-    match turned(&rt, rt.alloc(), JOB, disks).handed {
+    let Turned { handed, .. } = run_text(&rt, rt.alloc(), JOB, disks);
+    match handed {
         Ok(handed) => print(&rt, &handed),
         Err(refusal) => println!(rt; "{refusal:?}"),
     }
