@@ -1,7 +1,7 @@
 -- What the ends of tasks leave on a board, as its events happen.
-use Rattle.std.proofs.Common.{◌≡◌, ◌∙◌, ◌++◌, ◌∷◌, ◌<◌, ◌≤◌, ◌+◌, ◌-◌, ◌*◌, ℕ, [], List, Option, None, Some, Bool, true, false, IsTrue, ◌&&◌, ap, arith, cond, get_or, inl, inr, is_some, length, map, not, refl, replicate, set, subst, sum_by, sym}
-use Rattle.std.specs.Prelude.{All, IfSome, IsSomeAnd, OnErr, OnOk, Ok, Err, Result, count_by, if◌then◌else◌}
-use Rattle.std.proofs.lemmas.Bool.{cases_lt, false≢true}
+use Rattle.std.proofs.Common.{◌≡◌, ◌∙◌, ◌++◌, ◌∷◌, ◌<◌, ◌+◌, ◌-◌, ◌*◌, ℕ, [], List, Option, None, Some, Bool, true, false, ◌&&◌, ap, arith, cond, inl, inr, is_some, length, map, not, refl, replicate, set, subst, sum_by, sym}
+use Rattle.std.specs.Prelude.{IfSome, IsSomeAnd, OnErr, OnOk, Ok, Err, Result, if◌then◌else◌}
+use Rattle.std.proofs.lemmas.Bool.{cases_lt}
 use Rattle.std.proofs.lemmas.List.{ext_get_or, get_or-replicate, get_or_past, get_or-map, length-map, length-replicate}
 use Rattle.std.proofs.lemmas.List.Folds.{sum_by-replicate}
 use Rattle.std.proofs.lemmas.List.FromFn.{get_or-map-range_with_len, length-map-range_with_len}
@@ -27,7 +27,7 @@ use Rattle.sj_core.specs.declared.progress.Transfer.{Transfer}
 use Rattle.sj_core.specs.Machine.{transfer}
 use Rattle.sj_machine.specs.BoardSound.{KeepsEnds, undone}
 use Rattle.sj_disk.specs.Directory.{DiskState}
-use Rattle.sj_machine.specs.Delivered.{Deliveries, DeliversEach, IsKeptFor, gift_in, handed, is_deliver_task, is_delivery, undelivered}
+use Rattle.sj_machine.specs.Delivered.{Deliveries, DeliversEach, gift_in, handed, is_deliver_task, is_delivery, undelivered}
 use Rattle.sj_machine.specs.Planning.{HoldsCommutersAlone}
 use Rattle.sj_machine.specs.Preparing.{IsReadyToDeliver, delivery_count}
 use Rattle.sj_machine.specs.Releasing.{IsGift}

@@ -1,19 +1,19 @@
 -- What a plan on a node says of the claim in the state: its cells, its victims, and why it can't be made.
-use Rattle.std.proofs.Common.{◌≡◌, ℕ, ◌+◌, ◌-◌, Bool, true, false, not, ◌&&◌, ◌||◌, cond, List, [], ◌∷◌, ◌++◌, Option, Some, None, map, filter, length, reverse, option_map, refl, sym, ap, ◌∙◌, subst, arith, inl, inr, sum_by, nat_eq}
-use Rattle.std.specs.List.{list_all, list_any}
+use Rattle.std.proofs.Common.{◌≡◌, ℕ, ◌+◌, ◌-◌, Bool, true, false, not, ◌&&◌, ◌||◌, List, [], ◌∷◌, ◌++◌, Option, Some, None, map, filter, length, reverse, option_map, refl, sym, ap, ◌∙◌, subst, arith, inl, inr, sum_by, nat_eq}
+use Rattle.std.specs.List.{list_any}
 use Rattle.std.specs.Bool.{then_some}
 use Rattle.std.specs.Option.{option_or}
-use Rattle.std.specs.Prelude.{All, if◌then◌else◌, unwrap_or}
+use Rattle.std.specs.Prelude.{All, unwrap_or}
 use Rattle.std.proofs.lemmas.Bool.{cases_lt, false_from_ne_true, false≢true, ne_eqb}
 use Rattle.std.proofs.lemmas.List.{get_or_default, get_or_past, map-append, reverse-append, reverse-reverse}
-use Rattle.std.proofs.lemmas.List.Elements.{All-filter, All-get_or, All-head, All-tail, All-weaker, filter_agree}
+use Rattle.std.proofs.lemmas.List.Elements.{All-get_or, All-head, All-tail, filter_agree}
 use Rattle.std.proofs.lemmas.List.Sums.{list_all-from_AllPass, sum_by-cons}
 use Rattle.sj_core.proofs.CellLists.{times, times-has, times-none}
 use Rattle.sj_core.proofs.Reading.{idle_row, no_row, same_cell-is}
 use Rattle.sj_core.proofs.Replicas.{leaving-by_some}
-use Rattle.sj_core.proofs.Words.{AtNode, Cell, CellState, Coming, Invalid, Leaving, Machine, Node, Program, Replica, State, Task, Valid, Worker, WorkerState, cells_of, copy_of, data_operands, distinct, free, has_cell, is_leaving, is_pinned, node_of, node_size, order, pins, replica, replica_in, same_cell, scratch, scratch_bytes, task_of, tile_bytes, victims_of, worked_on, workers_at}
+use Rattle.sj_core.proofs.Words.{AtNode, Cell, CellState, Coming, Invalid, Leaving, Machine, Node, Program, Replica, State, Task, Valid, Worker, WorkerState, cells_of, distinct, free, has_cell, is_leaving, is_pinned, node_of, node_size, order, pins, replica, replica_in, same_cell, scratch, scratch_bytes, task_of, tile_bytes, victims_of, workers_at}
 use Rattle.sj_core.specs.Coherent.{Coherent}
-use Rattle.sj_core.specs.Step.{Claims, after, after_claim, is_in_use, missing, none_leaving, to_come, victims_for}
+use Rattle.sj_core.specs.Step.{Claims, after, after_claim, missing, none_leaving, to_come, victims_for}
 use Rattle.sj_core.specs.Victims.{covers, shortest_suffix, victims}
 use Rattle.sj_base.specs.declared.trace.Event.TheVariants.{Claim}
 use Rattle.sj_node.proofs.CallerLemmas.{victims-map}
@@ -31,7 +31,7 @@ use Rattle.sj_machine.proofs.ClaimEntries.{entries, entries-has, entries-total, 
 -- ---- lists
 
 -- a fact of each cell of a list, of one that it has
-All-of : (P : Cell → Type 0) (xs : List Cell) (c : Cell) → All P xs → has_cell xs c ≡ true → P c
+pub All-of : (P : Cell → Type 0) (xs : List Cell) (c : Cell) → All P xs → has_cell xs c ≡ true → P c
 All-of P [] c all h = absurd (false≢true h)
 All-of P (x ∷ xs) c all h = by_cases (same_cell x c) refl h (All-of P xs c (All-tail P x xs all))
   where

@@ -1,19 +1,18 @@
 -- What is found in planning a claim.
-use Rattle.std.proofs.Common.{◌≡◌, ℕ, ◌+◌, ◌*◌, ◌^◌, ◌≤◌, Bool, true, false, not, ◌||◌, List, [], ◌∷◌, Some, None, map, filter, length, reverse, option_map, refl, sym, ap, ◌∙◌, subst, arith, sum, sum_by}
-use Rattle.std.specs.Prelude.{All, if◌then◌else◌, count_by}
-use Rattle.std.proofs.lemmas.Bool.{false≢true}
+use Rattle.std.proofs.Common.{◌≡◌, ℕ, ◌+◌, ◌*◌, ◌^◌, ◌≤◌, Bool, true, false, not, List, [], ◌∷◌, Some, None, map, filter, length, reverse, option_map, sym, ap, ◌∙◌, arith, sum, sum_by}
+use Rattle.std.specs.Prelude.{All, if◌then◌else◌}
 use Rattle.std.proofs.lemmas.List.{length-map}
-use Rattle.std.proofs.lemmas.List.Elements.{All-filter, All-head, All-map, All-tail}
+use Rattle.std.proofs.lemmas.List.Elements.{All-filter, All-map}
 use Rattle.std.proofs.lemmas.List.Sums.{count_by-le-length, length-filter, sum-map, sum_by-le}
 use Rattle.sj_base.specs.Mode.{is_data}
 use Rattle.sj_base.specs.declared.mode.Access.{Access}
 use Rattle.sj_core.proofs.CellLists.{has_cell-distinct, has_cell-filter}
-use Rattle.sj_core.proofs.Reading.{same_cell-is}
-use Rattle.sj_core.proofs.Words.{Cell, Program, Task, Worker, cells_of, distinct, has_cell, same_cell, scratch_bytes, task_of, tile_bytes, worked_on}
+use Rattle.sj_core.proofs.Words.{Cell, Program, Task, Worker, cells_of, distinct, has_cell, scratch_bytes, task_of, tile_bytes, worked_on}
 use Rattle.sj_node.specs.Entry.{has_entry}
 use Rattle.sj_node.specs.Store.{Store, victims_of}
 use Rattle.sj_machine.specs.Plan.{ClaimPlan, IsSmallCell}
 use Rattle.sj_machine.specs.Planning.{HasSmallTask, HasSmallWork, chosen_on, lacking, named, need_on, planned}
+use Rattle.sj_machine.proofs.ClaimFinding.{All-of}
 use Rattle.sj_machine.proofs.ClaimStores.{All-has}
 
 -- ---- small cells
@@ -39,15 +38,7 @@ module _ (p : Program) (cs : List Cell) (small : All (IsSmallCell p) cs) (few : 
   pub lacking-small : All (IsSmallCell p) (lacking s cs)
   lacking-small = All-has (IsSmallCell p) (lacking s cs) (λ c lacks.
       (let both = has_cell-filter (λ d. not (has_entry s.entries d)) (distinct cs) c lacks in
-      small-has cs c small (sym (has_cell-distinct cs c) ∙ both.1)))
-    where
-      small-has : (xs : List Cell) (c : Cell) → All (IsSmallCell p) xs → has_cell xs c ≡ true → IsSmallCell p c
-      small-has [] c all h = absurd (false≢true h)
-      small-has (x ∷ xs) c all h = by_cases (same_cell x c) refl h (small-has xs c (All-tail (IsSmallCell p) x xs all))
-        where
-          by_cases : (b : Bool) → same_cell x c ≡ b → (b || has_cell xs c) ≡ true → (has_cell xs c ≡ true → IsSmallCell p c) → IsSmallCell p c
-          by_cases true e h rest = subst (IsSmallCell p) (same_cell-is x c e) (All-head (IsSmallCell p) x xs all)
-          by_cases false e h rest = rest h
+      All-of (IsSmallCell p) cs c small (sym (has_cell-distinct cs c) ∙ both.1)))
 
   few-lacking : length (lacking s cs) ≤ 5
   few-lacking =

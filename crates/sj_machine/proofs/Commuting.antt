@@ -1,8 +1,7 @@
 -- The commuting cells of a task that a claimed or running task has: those that a worker pins.
-use Rattle.std.proofs.Common.{◌≡◌, ◌≢◌, ◌<◌, ◌+◌, ◌++◌, ◌∷◌, ◌&&◌, ◌||◌, [], ℕ, suc, Bool, true, false, not, List, Option, Some, None, ◌∙◌, ap, arith, cond, find, filter, get_or, inl, inr, length, map, refl, subst, sym, take, drop}
-use Rattle.std.specs.List.{list_all, list_any}
+use Rattle.std.proofs.Common.{◌≡◌, ◌≢◌, ◌<◌, ◌+◌, ◌++◌, ◌∷◌, ◌&&◌, [], ℕ, suc, Bool, true, false, not, List, Some, None, ◌∙◌, ap, arith, cond, find, filter, get_or, inl, inr, length, map, refl, sym, take, drop}
+use Rattle.std.specs.List.{list_all}
 use Rattle.std.specs.Option.{option_or}
-use Rattle.std.specs.Prelude.{Contains, IsTrue}
 use Rattle.std.proofs.Math.Seq.{drop-cons}
 use Rattle.std.proofs.lemmas.Bool.{and_parts, cases_lt, false_from_ne_true, false≢true}
 use Rattle.std.proofs.lemmas.List.{get_or_default, get_or_past, map-append, take-append-drop, take_more}
@@ -13,7 +12,7 @@ use Rattle.sj_base.specs.declared.mode.Access.{Access}
 use Rattle.sj_core.proofs.Advancing.{task_of-active, task_of-worker}
 use Rattle.sj_core.proofs.Reading.{idle_row, progress-inside}
 use Rattle.sj_core.proofs.Readiness.{list_any-some}
-use Rattle.sj_core.proofs.Separation.{in_use, worker-inside}
+use Rattle.sj_core.proofs.Separation.{in_use}
 use Rattle.sj_core.proofs.Sums.{same_test}
 use Rattle.sj_core.proofs.Words.{Cell, Machine, Program, State, Task, Worker, WorkerState, cells_of, has_cell, is_task_of, pins, progress, task_of, tasks_of, worker_of}
 use Rattle.sj_core.specs.Coherent.{Coherent, IsHeld, is_active}

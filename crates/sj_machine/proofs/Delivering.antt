@@ -1,34 +1,31 @@
 -- Deliver tasks: each reads one cell, and what it finds there is what it is to hand over.
-use Rattle.std.proofs.Common.{◌≡◌, ◌∙◌, ◌∷◌, ◌<◌, ◌||◌, ℕ, [], List, Option, None, Some, Bool, true, false, IsTrue, ap, arith, get_or, inl, inr, is_some, length, map, refl, subst, sym, filter}
+use Rattle.std.proofs.Common.{◌≡◌, ◌∙◌, ◌∷◌, ◌<◌, ◌||◌, ℕ, [], List, Option, None, Some, Bool, true, false, ap, arith, get_or, inl, inr, length, map, refl, subst, sym, filter}
 use Rattle.std.specs.Prelude.{Contains, IsSomeAnd, slice_index_or}
-use Rattle.std.proofs.lemmas.Bool.{cases_Bool, cases_lt, false≢true}
+use Rattle.std.proofs.lemmas.Bool.{cases_lt, false≢true}
 use Rattle.std.proofs.lemmas.List.{get_or_past}
 use Rattle.std.proofs.lemmas.List.Elements.{All-get_or}
 use Rattle.sj_base.specs.declared.mode.Access.{Access}
 use Rattle.sj_base.specs.declared.mode.Mode.{Mode}
 use Rattle.sj_base.specs.declared.mode.Mode.TheVariants.{R}
-use Rattle.sj_base.specs.declared.mode.Reduction.{Reduction}
 use Rattle.sj_base.specs.declared.program.Lowered.{Lowered}
 use Rattle.sj_base.specs.declared.trace.Event.TheVariants.{Run}
-use Rattle.sj_base.specs.Mode.{is_data, reads_value}
+use Rattle.sj_base.specs.Mode.{is_data}
 use Rattle.sj_codelet.specs.declared.kernel.Kernel.{Kernel}
 use Rattle.sj_codelet.specs.declared.kernel.Kernel.TheVariants.{Fill, Copy, Scale, Add, Axpy, Butterfly, Gemm, GemmThree, Transpose, Dot, Sum, Lowest, MinGemm, FwDiag, FwRow, FwCol, Load, LoadFill, Paste, Deliver, InitPlus, InitLeast}
-use Rattle.sj_codelet.specs.Kernel.{commutes_of, contributes_of, kernel_of}
 use Rattle.sj_core.proofs.Claimed.{claimed-staffed}
 use Rattle.sj_core.proofs.Folding.{read-among_cells}
 use Rattle.sj_core.proofs.Found.{found-not_fresh}
 use Rattle.sj_core.proofs.Given.{delivers-given}
 use Rattle.sj_core.proofs.Reading.{list_all-has}
-use Rattle.sj_core.proofs.Words.{Array, AtNode, Cell, Machine, Node, Program, State, Task, Worker, cells_of, dims_of, fresh_cells, has_cell, is_valid, no_task, node_of, progress, replica, task_of, worked_on}
+use Rattle.sj_core.proofs.Words.{Array, AtNode, Cell, Node, Program, Task, Worker, cells_of, fresh_cells, has_cell, is_valid, no_task, node_of, progress, replica, task_of, worked_on}
 use Rattle.sj_core.specs.Fold.{given}
 use Rattle.sj_core.specs.Laws.{Brought, HasAtHand, IsSound, Works}
-use Rattle.sj_core.specs.Proper.{Commuting, Contributing, FirstPaste, Fits, MayHaveModes, Own, Proper, access, own_modes}
+use Rattle.sj_core.specs.Proper.{Commuting, Contributing, FirstPaste, Fits, MayHaveModes, Own, Proper, access}
 use Rattle.sj_core.specs.Step.{array_at}
-use Rattle.sj_core.specs.declared.progress.Progress.TheVariants.{Claimed, Running}
-use Rattle.sj_machine.specs.Agrees.{Rows}
+use Rattle.sj_core.specs.declared.progress.Progress.TheVariants.{Running}
 use Rattle.sj_machine.specs.Delivered.{IsDeliveryOf, IsKeptFor, delivered_cell, is_deliver, is_deliver_task, is_delivery}
 use Rattle.sj_machine.specs.Releasing.{IsGift}
-use Rattle.sj_machine.specs.Sound.{IsSoundRun, Keeps}
+use Rattle.sj_machine.specs.Sound.{IsSoundRun}
 use Rattle.sj_machine.specs.Standing.{AllTell, CanHappen, IsTileOf, Standing, state}
 
 delivers : (k : Kernel) → is_deliver k ≡ true → k ≡ Deliver

@@ -1,14 +1,13 @@
 -- What the ends of tasks leave, as events happen: what was handed over, what is kept for that, and how many tasks aren't done.
-use Rattle.std.proofs.Common.{◌≡◌, ◌≢◌, ◌∙◌, ◌∷◌, ◌++◌, ◌<◌, ◌≤◌, ◌+◌, ◌-◌, ◌&&◌, ◌↔◌, ℕ, [], List, Option, None, Some, Bool, true, false, not, IsTrue, ap, arith, cond, get_or, inl, inr, is_some, length, map, nat_eq, refl, replicate, set, subst, sum_by, sym}
-use Rattle.std.specs.Prelude.{All, IsSomeAnd, count_by, if◌then◌else◌, nat_le, nat_lt}
+use Rattle.std.proofs.Common.{◌≡◌, ◌≢◌, ◌∙◌, ◌∷◌, ◌++◌, ◌<◌, ◌≤◌, ◌+◌, ◌-◌, ◌&&◌, ℕ, [], List, Option, None, Some, Bool, true, false, not, ap, arith, cond, get_or, inl, inr, is_some, length, nat_eq, refl, set, subst, sum_by, sym}
+use Rattle.std.specs.Prelude.{IsSomeAnd, if◌then◌else◌, nat_le, nat_lt}
 use Rattle.std.specs.List.{list_all}
-use Rattle.std.proofs.lemmas.Bool.{and_from, cases_Bool, cases_eq, eq-eqb, false≢true, le-leb, lt-ltb, ne_eqb}
+use Rattle.std.proofs.lemmas.Bool.{and_from, cases_Bool, eq-eqb, false≢true, le-leb, lt-ltb, ne_eqb}
 use Rattle.std.proofs.lemmas.List.{append-nil, get_or-set_other, get_or-set_same, length-set}
 use Rattle.std.proofs.lemmas.List.Elements.{All-push}
 use Rattle.std.proofs.lemmas.List.Sums.{sum_by-append, sum_by-cons, sum_by-set}
-use Rattle.sj_core.proofs.Advancing.{Advances, same_task, task_of-worker}
+use Rattle.sj_core.proofs.Advancing.{Advances, same_task}
 use Rattle.sj_core.proofs.Finding.{task-counted}
-use Rattle.sj_core.proofs.Reading.{workers_differ}
 use Rattle.sj_core.proofs.Sums.{count-numbered, sum-agree, sum-plus, tally}
 use Rattle.sj_core.proofs.Words.{Array, Program, State, Task, Worker, dims_of, done_in, is_done, is_task_of, progress, tasks_of}
 use Rattle.sj_core.specs.Fold.{given}
@@ -16,7 +15,7 @@ use Rattle.sj_core.specs.Legal.{IsComplete}
 use Rattle.sj_core.specs.declared.progress.Progress.{Progress}
 use Rattle.sj_core.specs.declared.progress.Progress.TheVariants.{Claimed, Done, Running, Waiting}
 use Rattle.sj_machine.specs.BoardSound.{KeepsEnds, undone}
-use Rattle.sj_machine.specs.Delivered.{DeliversDone, DeliversEach, IsDeliveryOf, IsKeptFor, KeepsGifts, delivered_cell, gift_in, handed, is_deliver_task, times_delivered, undelivered}
+use Rattle.sj_machine.specs.Delivered.{DeliversDone, DeliversEach, IsDeliveryOf, IsKeptFor, delivered_cell, gift_in, handed, is_deliver_task, times_delivered, undelivered}
 
 -- ---- counting tasks that aren't done
 

@@ -31,9 +31,8 @@ use Rattle.sj_core.proofs.TaskCells.{written-among_cells}
 use Rattle.sj_core.specs.Coherent.{IsOwnedBy, has_written, is_begun, is_being_written, written_content}
 use Rattle.sj_core.specs.Fold.{held_in}
 use Rattle.sj_core.specs.Laws.{IsSound}
-use Rattle.sj_core.specs.Operands.{results}
 use Rattle.sj_core.specs.Program.{written_operands}
-use Rattle.sj_core.specs.Step.{Ends, after_end, array_at, result_at, rewritten_at, same_place}
+use Rattle.sj_core.specs.Step.{Ends, after_end, result_at, rewritten_at, same_place}
 use Rattle.sj_node.specs.Store.{Store, store}
 use Rattle.sj_machine.specs.Mark.{mark_of}
 use Rattle.sj_machine.specs.declared.mark.Mark.TheVariants.{Invalid as NoMark, Valid as ValidMark}
@@ -129,22 +128,13 @@ module _ {D : Type 0} (size faults mismatches : D → ℕ) (held : D → Option 
   -- ---- the cells that the task wrote
 
   abbrev ws : List Cell
-  ws = written_among p w (task_of p t).accesses
-
-  same-written : ws ≡ written_cells p t w
-  same-written = refl
-
-  wrote : (c : Cell) → has_cell ws c ≡ true → has_cell (written_cells p t w) c ≡ true
-  wrote c has = sym (ap (λ (cs : List Cell). has_cell cs c) same-written) ∙ has
-
-  spared : (c : Cell) → has_cell ws c ≡ false → has_cell (written_cells p t w) c ≡ false
-  spared c left = sym (ap (λ (cs : List Cell). has_cell cs c) same-written) ∙ left
+  ws = written_cells p t w
 
   own : (c : Cell) → has_cell ws c ≡ true → IsOwnedBy m s c w (written_content p s t w c)
-  own c has = h.coherent.writers.owned t w c ended.running (wrote c has)
+  own c has = h.coherent.writers.owned t w c ended.running has
 
   being : (c : Cell) → has_cell ws c ≡ true → is_being_written p s c ≡ true
-  being c has = being_written-here p s c t w inside_task ended.running (wrote c has)
+  being c has = being_written-here p s c t w inside_task ended.running has
 
   row-inside : (c : Cell) → has_cell ws c ≡ true → c.0 < length rows.cells
   row-inside c has = (let in_program = entry-cell p m s h.coherent c n (ap is_entry (own c has).valid) in omega (arith, in_program, keeps.agrees.marks.every_cell))
@@ -255,19 +245,19 @@ module _ {D : Type 0} (size faults mismatches : D → ℕ) (held : D → Option 
   -- ---- the rows of cells
 
   writes-more : (c : Cell) → has_cell ws c ≡ true → writes s' c ≡ writes s c + 1
-  writes-more c has = (let inside = valid-row s c (AtNode n) (ap is_valid (own c has).valid) in ap (λ (row : CellState). row.writes) (cells-touched s (has_cell (written_cells p t w)) (λ d row. rewritten_at n (result_at p s t w n d) row) c inside (wrote c has)))
+  writes-more c has = (let inside = valid-row s c (AtNode n) (ap is_valid (own c has).valid) in ap (λ (row : CellState). row.writes) (cells-touched s (has_cell (written_cells p t w)) (λ d row. rewritten_at n (result_at p s t w n d) row) c inside has))
 
   writes-same_at : (c : Cell) → has_cell ws c ≡ false → writes s' c ≡ writes s c
-  writes-same_at c left = ap (λ (row : CellState). row.writes) (cells-untouched s (has_cell (written_cells p t w)) (λ d row. rewritten_at n (result_at p s t w n d) row) c (spared c left))
+  writes-same_at c left = ap (λ (row : CellState). row.writes) (cells-untouched s (has_cell (written_cells p t w)) (λ d row. rewritten_at n (result_at p s t w n d) row) c left)
 
   elsewhere : (c : Cell) (q : Place) → not (same_place q (AtNode n)) ≡ true → replica s' c q ≡ replica s c q
   elsewhere c q away = end-elsewhere p m s t w s' ended c q away
 
   other : (c : Cell) (q : Place) → has_cell ws c ≡ false → replica s' c q ≡ replica s c q
-  other c q left = end-other p m s t w s' ended c q (spared c left)
+  other c q left = end-other p m s t w s' ended c q left
 
   here : (c : Cell) → has_cell ws c ≡ true → replica s' c (AtNode n) ≡ Valid (result_at p s t w n c)
-  here c has = (end-written p m s h t w s' ended c (wrote c has)).0
+  here c has = (end-written p m s h t w s' ended c has).0
 
   module _ (slots : List Slot) (results' : AreResultsFor held b t w slots) where
     abbrev xs : List Array
@@ -329,7 +319,7 @@ module _ {D : Type 0} (size faults mismatches : D → ℕ) (held : D → Option 
 
     -- a cell that rests afterwards and that the task didn't write rested before
     rested : (c : Cell) → has_cell ws c ≡ false → is_being_written p s' c ≡ false → is_being_written p s c ≡ false
-    rested c left rests = not_written-before p m s s' t (Running w) (Done w) c h.coherent.state.rows (Ends-advances p m s t w s' ended) rests (λ v e. (let is : w ≡ v = cc in sym (ap (λ (x : Worker). has_cell (written_cells p t x) c) is) ∙ spared c left))
+    rested c left rests = not_written-before p m s s' t (Running w) (Done w) c h.coherent.state.rows (Ends-advances p m s t w s' ended) rests (λ v e. (let is : w ≡ v = cc in sym (ap (λ (x : Worker). has_cell (written_cells p t x) c) is) ∙ left))
 
     -- one that is being written afterwards is another task's, which wrote it before
     still-being : (c : Cell) → is_being_written p s' c ≡ true → (has_cell ws c ≡ false) × (is_being_written p s c ≡ true)
@@ -340,12 +330,12 @@ module _ {D : Type 0} (size faults mismatches : D → ℕ) (held : D → Option 
         let before : progress s by.0 ≡ Running (worker_of (progress s' by.0)) = sym (a.others by.0 differs) ∙ by.1 in
         let cell : has_cell (cells_of p by.0 (worker_of (progress s' by.0))) c ≡ true = written-among_cells p by.0 (worker_of (progress s' by.0)) c by.2 in
         let mine : is_task_of (worker_of (progress s' by.0)) (progress s by.0) ≡ true = ap (is_task_of (worker_of (progress s' by.0))) before ∙ same_worker-refl (worker_of (progress s' by.0)) in (
-          ap (λ (cs : List Cell). has_cell cs c) same-written ∙ end-spares p m s h t w s' ended by.0 (worker_of (progress s' by.0)) c differs mine cell,
+          end-spares p m s h t w s' ended by.0 (worker_of (progress s' by.0)) c differs mine cell,
           being_written-here p s c by.0 (worker_of (progress s' by.0)) (running-inside p m s by.0 (worker_of (progress s' by.0)) h.coherent.state.rows before) before by.2,
         )
 
     put-is : AllTell held b → (c : Cell) → put c ≡ result_at p s t w n c
-    put-is tells c = ap (λ (l : List Array). held_in p (zip ws l) c) (results'.told tells) ∙ ap (λ (cs : List Cell). held_in p (zip cs (results p t w (array_at p s (AtNode n)))) c) same-written
+    put-is tells c = ap (λ (l : List Array). held_in p (zip ws l) c) (results'.told tells)
 
     tiles-agree : HasTiles p s' (AllTell held b) new
     tiles-agree = record {

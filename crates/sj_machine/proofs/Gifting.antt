@@ -1,6 +1,6 @@
 -- The share that is taken of what a deliver task hands over, as the task begins to run.
-use Rattle.std.proofs.Common.{◌≡◌, ◌∙◌, ◌∷◌, ◌<◌, ℕ, [], List, Option, None, Some, true, false, IsTrue, ap, arith, get_or, is_some, length, not, refl, subst, sym}
-use Rattle.std.specs.Prelude.{All, Contains, IsSomeAnd, unwrap_or}
+use Rattle.std.proofs.Common.{◌≡◌, ◌∙◌, ◌∷◌, ◌<◌, ℕ, [], List, Option, Some, true, ap, arith, get_or, is_some, length, refl, subst, sym}
+use Rattle.std.specs.Prelude.{All, Contains, unwrap_or}
 use Rattle.std.proofs.lemmas.Bool.{false≢true}
 use Rattle.sj_base.specs.declared.ids.Place.TheVariants.{Node as AtNode}
 use Rattle.sj_base.specs.declared.mode.Access.{Access}
@@ -16,7 +16,7 @@ use Rattle.sj_machine.specs.Delivered.{delivered_cell, is_deliver_task, is_deliv
 use Rattle.sj_machine.specs.Releasing.{IsGift}
 use Rattle.sj_machine.specs.Running.{CanGive, kept_at}
 use Rattle.sj_machine.specs.Sound.{Keeps}
-use Rattle.sj_machine.specs.Standing.{AllTell, CanHappen, IsTileOf, Standing, state}
+use Rattle.sj_machine.specs.Standing.{CanHappen, IsTileOf, Standing}
 use Rattle.sj_machine.proofs.Delivering.{deliver-reads}
 use Rattle.sj_machine.proofs.Owning.{get-any, read-there, read-tile, run-can_give}
 use Rattle.sj_machine.proofs.Reading.{no_copies}

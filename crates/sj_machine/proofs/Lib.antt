@@ -32,6 +32,7 @@ pub mod Marking
 pub mod NextBoards
 pub mod NextRows
 pub mod NextSteps
+pub mod OneWorker
 pub mod Opening
 pub mod Shares
 pub mod PoolFilling

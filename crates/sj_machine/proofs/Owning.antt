@@ -16,7 +16,7 @@ use Rattle.sj_base.specs.Mode.{reads_value, starts_as_zeros}
 use Rattle.sj_codelet.specs.Frame.{Slot, shared}
 use Rattle.sj_core.specs.declared.progress.Progress.{Progress}
 use Rattle.sj_core.specs.declared.progress.Progress.TheVariants.{Running, Waiting}
-use Rattle.sj_core.proofs.Words.{Array, AtNode, Cell, CellState, Invalid, Machine, Node, OnDisk, Place, Program, Replica, State, Task, Valid, Worker, array_of, cell_state, cells_of, dims_of, fresh_cells, has_cell, is_entry, is_task_of, is_valid, node_of, node_size, no_task, order, pins, progress, replica, same_cell, scratch, task_of, worked_on, worker_of, workers_at, writes, written_cells, zeros}
+use Rattle.sj_core.proofs.Words.{Array, AtNode, Cell, CellState, Invalid, Machine, Node, OnDisk, Place, Program, Replica, State, Task, Valid, Worker, array_of, cell_state, cells_of, dims_of, fresh_cells, has_cell, is_entry, is_task_of, is_valid, node_of, node_size, order, pins, progress, replica, same_cell, scratch, task_of, worked_on, worker_of, workers_at, writes, written_cells, zeros}
 use Rattle.sj_core.proofs.Advancing.{same_task, task_of-worker}
 use Rattle.sj_core.proofs.CellLists.{times, times-none}
 use Rattle.sj_core.proofs.Claimed.{claimed-inside, claimed-not_written, claimed-staffed}
@@ -31,7 +31,7 @@ use Rattle.sj_core.proofs.TaskCells.{written-among_cells}
 use Rattle.sj_core.specs.Coherent.{IsHeld, is_being_written}
 use Rattle.sj_core.specs.Laws.{IsSound}
 use Rattle.sj_core.specs.Needs.{workers_of}
-use Rattle.sj_core.specs.Step.{Runs, after_run, initial, owned_at, same_place, without}
+use Rattle.sj_core.specs.Step.{Runs, after_run, initial, owned_at, same_place}
 use Rattle.sj_node.proofs.CallerLemmas.{filter-map}
 use Rattle.sj_node.specs.Entry.{Entry, is_among, without_all}
 use Rattle.sj_node.specs.Store.{Store, store, with_entries}
@@ -104,19 +104,13 @@ module _ {D : Type 0} (size faults mismatches : D → ℕ) (held : D → Option 
   -- ---- the cells that the task writes
 
   abbrev ws : List Cell
-  ws = written_among p w (task_of p t).accesses
-
-  same-written : ws ≡ written_cells p t w
-  same-written = refl
+  ws = written_cells p t w
 
   staffed : w.0 < p.workers
   staffed = claimed-staffed p m s h t w run.claimed
 
-  has-written : (c : Cell) → has_cell ws c ≡ has_cell (written_cells p t w) c
-  has-written c = ap (λ (cs : List Cell). has_cell cs c) same-written
-
   entry : (c : Cell) → has_cell ws c ≡ true → is_entry (replica s c (AtNode n)) ≡ true
-  entry c has = h.coherent.cells.claimed t w c run.claimed (written-among_cells p t w c (sym (has-written c) ∙ has))
+  entry c has = h.coherent.cells.claimed t w c run.claimed (written-among_cells p t w c has)
 
   row-inside : (c : Cell) → has_cell ws c ≡ true → c.0 < length rows.cells
   row-inside c has = (let in_program = entry-cell p m s h.coherent c n (entry c has) in omega (arith, in_program, keeps.agrees.marks.every_cell))
@@ -162,20 +156,14 @@ module _ {D : Type 0} (size faults mismatches : D → ℕ) (held : D → Option 
       either true = refl
       either false = refl
 
-  spared : (c : Cell) → has_cell ws c ≡ false → has_cell (written_cells p t w) c ≡ false
-  spared c spare = sym (has-written c) ∙ spare
-
-  written : (c : Cell) → has_cell ws c ≡ true → has_cell (written_cells p t w) c ≡ true
-  written c had = sym (has-written c) ∙ had
-
   own : (c : Cell) → has_cell ws c ≡ true → replica s' c (AtNode n) ≡ Valid (initial p s t w n c)
-  own c has = (let inside = entry-inside s c n (entry c has) in run-own p m s t w s' run c (written c has) inside.0 inside.1)
+  own c has = (let inside = entry-inside s c n (entry c has) in run-own p m s t w s' run c has inside.0 inside.1)
 
   elsewhere : (c : Cell) (q : Place) → has_cell ws c ≡ true → not (same_place q (AtNode n)) ≡ true → replica s' c q ≡ Invalid
-  elsewhere c q has away = run-only p m s t w s' run c q (written c has) away
+  elsewhere c q has away = run-only p m s t w s' run c q has away
 
   other : (c : Cell) (q : Place) → has_cell ws c ≡ false → replica s' c q ≡ replica s c q
-  other c q spare = run-other p m s t w s' run c q (spared c spare)
+  other c q spare = run-other p m s t w s' run c q spare
 
   -- ---- the rows of cells
 
@@ -203,7 +191,7 @@ module _ {D : Type 0} (size faults mismatches : D → ℕ) (held : D → Option 
   tiles-agree : HasTiles p s' (AllTell held b) new
   tiles-agree = record {
     there = λ c k rests. (
-        let spare : has_cell ws c ≡ false = has-written c ∙ run-spared p m s h t w s' run c rests in
+        let spare : has_cell ws c ≡ false = run-spared p m s h t w s' run c rests in
         ap (λ (r : Copies). is_some (tile_at r k)) (row-left c spare) ∙ keeps.agrees.tiles.there c k (run-rested p m s h t w s' run c rests) ∙ ap is_valid (sym (other c (AtNode k) spare))
         );
     out = λ c k being. elim (cases_Bool (has_cell ws c)) [
@@ -224,7 +212,7 @@ module _ {D : Type 0} (size faults mismatches : D → ℕ) (held : D → Option 
       was-being c spare being =
           elim (cases_Bool (is_being_written p s c)) [
             | inl had ↦ had
-            | inr rests ↦ absurd (false≢true (sym (run-rests p m s h t w s' run c (spared c spare) rests) ∙ being))
+            | inr rests ↦ absurd (false≢true (sym (run-rests p m s h t w s' run c spare rests) ∙ being))
           ]
 
   -- ---- the nodes
@@ -238,7 +226,7 @@ module _ {D : Type 0} (size faults mismatches : D → ℕ) (held : D → Option 
       pinned-by : (v : Worker) → node_of m v ≡ k → IsHeld p s v c → ⊥
       pinned-by v at holds =
           elim (same_task holds.task t) [
-            | inr d ↦ false≢true (sym (run-spares p m s h t w s' run holds.task v c d holds.has holds.cell) ∙ written c has)
+            | inr d ↦ false≢true (sym (run-spares p m s h t w s' run holds.task v c d holds.has holds.cell) ∙ has)
             | inl e ↦ (
                 let mine : is_task_of v (progress s t) ≡ true = ap (λ (u : Task). is_task_of v (progress s u)) (sym e) ∙ holds.has in
                 let same : v ≡ w = sym (task_of-worker v (progress s t) mine) ∙ ap worker_of run.claimed in
@@ -265,7 +253,7 @@ module _ {D : Type 0} (size faults mismatches : D → ℕ) (held : D → Option 
 
   store-there : (k : Node) → k ≢ n → store_of p m s' k ≡ with_entries (store_of p m s k) (without_all ws (store_of p m s k).entries)
   store-there k far =
-      ap (λ (cs : List Cell). store (node_size m k) (sum_by (scratch s) (workers_at m k)) (length p.cells) (map (entry_of p m s k) cs)) (run-order_elsewhere p m s t w s' run k far ∙ ap (λ (cs : List Cell). without cs (order s k)) (sym same-written))
+      ap (λ (cs : List Cell). store (node_size m k) (sum_by (scratch s) (workers_at m k)) (length p.cells) (map (entry_of p m s k) cs)) (run-order_elsewhere p m s t w s' run k far)
       ∙ ap (λ (es : List Entry). store (node_size m k) (sum_by (scratch s) (workers_at m k)) (length p.cells) es) (sym (filter-map (entry_of p m s k) (λ (e : Entry). not (is_among ws e)) (order s k)))
 
   stores-agree : (nodes' : List Store) → length nodes' ≡ length rows.nodes → ((k : ℕ) (d : Store) → k < length rows.nodes → get_or nodes' k d ≡ evicted_at n ws k (get_or rows.nodes k d)) → HasStores p m s' nodes'

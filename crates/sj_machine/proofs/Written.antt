@@ -1,8 +1,8 @@
 -- What a worker works on for the operands of a task: each written cell comes once, and all are cells of the program.
-use Rattle.std.proofs.Common.{◌≡◌, ◌<◌, ◌≤◌, ◌+◌, ◌^◌, ◌⊎◌, ℕ, suc, Bool, true, false, not, List, [], ◌∷◌, ◌∙◌, Option, None, Some, ap, arith, get_or, inl, inr, is_some, length, map, refl, sym, subst, ◌&&◌}
+use Rattle.std.proofs.Common.{◌≡◌, ◌<◌, ◌≤◌, ◌+◌, ◌^◌, ◌⊎◌, ℕ, suc, Bool, true, false, List, [], ◌∷◌, ◌∙◌, ap, arith, get_or, inl, inr, is_some, length, map, refl, sym, subst, ◌&&◌}
 use Rattle.std.specs.Prelude.{All, AllPairs, Contains, IsTrue, filter, if◌then◌else◌}
 use Rattle.std.proofs.lemmas.Bool.{false_from_ne_true, false≢true}
-use Rattle.std.proofs.lemmas.List.Elements.{All-from_get_or, All-get_or, Contains-get_or, filter_passes}
+use Rattle.std.proofs.lemmas.List.Elements.{All-get_or, Contains-get_or, filter_passes}
 use Rattle.std.proofs.lemmas.List.Kept.{AllPairs-filter}
 use Rattle.sj_base.specs.Array.{area}
 use Rattle.sj_base.specs.Mode.{is_data, is_redux, is_written}
@@ -21,11 +21,10 @@ use Rattle.sj_core.proofs.Sharing.{manner_of, redux-has_copies}
 use Rattle.sj_core.proofs.Sums.{tally}
 use Rattle.sj_core.proofs.TaskCells.{filter-filter}
 use Rattle.sj_core.proofs.Updating.{operand-used}
-use Rattle.sj_core.proofs.Words.{Cell, Program, Task, Worker, cell_info, copy_of, data_operands, dims_of, has_cell, no_task, same_cell, task_of, worked_on, written_cells}
+use Rattle.sj_core.proofs.Words.{Cell, Program, Task, Worker, cell_info, copy_of, data_operands, has_cell, no_task, same_cell, task_of, worked_on, written_cells}
 use Rattle.sj_core.specs.Program.{no_cell}
 use Rattle.sj_core.specs.Proper.{Proper}
 use Rattle.sj_deps.specs.Conflict.{Uses}
-use Rattle.sj_deps.specs.declared.manner.Manner.{Manner}
 use Rattle.sj_deps.specs.declared.manner.Manner.TheVariants.{Contribute}
 use Rattle.sj_machine.specs.Operands.{CanWorkOn}
 use Rattle.sj_machine.specs.Plan.{IsSmallCell}

@@ -1,5 +1,5 @@
 -- The operands of a task as its worker works on them.
-use Rattle.std.specs.Prelude.{◌<◌, ◌^◌, ℕ, Bool, Option, List, find, filter, map, length}
+use Rattle.std.specs.Prelude.{◌<◌, ◌^◌, Bool, Option, List, find, filter, map, length}
 use Rattle.std.specs.List.{list_any}
 use Rattle.sj_base.specs.declared.ids.Cell.{Cell}
 use Rattle.sj_base.specs.declared.ids.Worker.{Worker}

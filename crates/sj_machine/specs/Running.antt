@@ -1,5 +1,5 @@
 -- What a task takes from the rows as it begins to run, and what is left of them.
-use Rattle.std.specs.Prelude.{◌≡◌, ℕ, ◌+◌, ◌-◌, ◌<◌, ◌≤◌, ◌^◌, ◌∷◌, take, slice_index_or, slice_set, false, true, IsTrue, nat_eq, All, is_some, Option, List, [], fold, filter, map, length, unwrap_or, if◌then◌else◌}
+use Rattle.std.specs.Prelude.{◌≡◌, ℕ, ◌+◌, ◌-◌, ◌<◌, ◌≤◌, ◌^◌, ◌∷◌, take, slice_index_or, slice_set, false, true, IsTrue, nat_eq, All, is_some, Option, List, [], fold, map, length, unwrap_or, if◌then◌else◌}
 use Rattle.std.specs.List.{AllZip}
 use Rattle.sj_base.specs.declared.ids.Cell.{Cell}
 use Rattle.sj_base.specs.declared.ids.Node.{Node}

@@ -248,6 +248,7 @@ impl<D: Disk> Board<D> {
         ensures one_worker { OnOk result (HoldsCommutersAlone self.old.run.program (state self.new.run) t w) }
         ensures err { OnErr result (self.new ≡ self.old) }
         ensures why { IfErr result (IsRefusal self.old.run.program self.old.run.machine (state self.old.run) t w) }
+        ensures lone { self.old.run.program.workers ≡ 1 → IfErr result (λ r. r ≡ ClaimRefusal.OutOfMemory) }
     {
         self.run.is_sound();
         let Ok(found) = self.run.claim_plan(alloc, t, w) else {

@@ -1,4 +1,4 @@
-use Rattle.std.proofs.Common.{◌≡◌, ◌<◌, ◌∙◌, All, length, ◌++◌, ◌∷◌, [], List, ap, false, rules, sym, subst, true}
+use Rattle.std.proofs.Common.{◌≡◌, ◌<◌, ◌∙◌, length, ◌++◌, ◌∷◌, [], List, ap, false, rules, sym, subst, true}
 use Rattle.sj_base.specs.Mode.{is_written}
 use Rattle.sj_codelet.specs.Frame.{arrays}
 use Rattle.sj_machine.specs.Copies.{Copies, with_row, written_at}

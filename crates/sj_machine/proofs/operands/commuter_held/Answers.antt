@@ -1,4 +1,4 @@
-use Rattle.std.proofs.Common.{◌≡◌, ◌∙◌, ap, arith, sym, take_all}
+use Rattle.std.proofs.Common.{◌∙◌, sym}
 use Rattle.sj_base.specs.declared.mode.Access.{Access}
 use Rattle.sj_base.specs.declared.mode.Mode.TheVariants.{R}
 use Rattle.sj_machine.proofs.Commuting.{first-hit, first-past}

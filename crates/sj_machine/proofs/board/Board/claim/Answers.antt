@@ -1,4 +1,4 @@
-use Rattle.std.proofs.Common.{◌≡◌, None, ap, subst, sym}
+use Rattle.std.proofs.Common.{◌≡◌, ◌∙◌, None, ap, subst, sym}
 use Rattle.std.specs.Prelude.{IfErr, OnOk, Result}
 use Rattle.sj_base.specs.declared.trace.Event.TheVariants.{Claim}
 use Rattle.sj_machine.specs.Board.{BoardState, IsIdle, WasGiven}
@@ -7,6 +7,7 @@ use Rattle.sj_machine.specs.Planning.{IsWhy}
 use Rattle.sj_machine.specs.Standing.{CanHappen, Standing, state}
 use Rattle.sj_machine.specs.declared.plan.Why.{Why}
 use Rattle.sj_machine.proofs.BoardEnds.{claims-alone, stays-claimed}
+use Rattle.sj_machine.proofs.OneWorker.{lone-refusal}
 use Rattle.sj_machine.proofs.Taking.{keeps-claimed_left, may-claim}
 use Rattle.sj_machine.proofs.SparingBoards.{told-spares}
 use Rattle.sj_machine.proofs.board.Board.claim.Goals as goal
@@ -48,3 +49,12 @@ pub returns-clause-one_worker : goal.returns-clause-one_worker
 returns-clause-one_worker g c =
     let can = subst (λ (found : Result ClaimPlan Why). OnOk found (CanHappen c.self.inside.run (Claim c.args.t c.args.w))) c.in-Ok-found.is c.in-Ok.ensures.can in
     claims-alone _ _ _ _ c.self.inside.run c.is_sound.ensures c.args.t c.args.w can _ c.in-Ok-claim.ensures.ok _ (ap (λ (b : BoardState _). b.run.program) c.self.view_is)
+
+pub returns-in-Err-clause-lone : goal.returns-in-Err-clause-lone
+returns-in-Err-clause-lone g c =
+    let given = subst (λ (b : BoardState _). WasGiven b c.args.w c.args.t) (sym c.self.view_is) c.requires.given in
+    let idle = subst (λ (b : BoardState _). IsIdle b c.args.w) (sym c.self.view_is) c.requires.idle in
+    let none = subst (λ (b : BoardState _). b.fault ≡ None) (sym c.self.view_is) c.requires.no_fault in
+    let may = may-claim _ _ _ _ _ _ _ c.self.invariant.board c.is_sound.ensures c.args.w given.works c.args.t given.given idle.no_task none in
+    let why = subst (λ (found : Result ClaimPlan Why). IfErr found (IsWhy c.self.inside.run.program c.self.inside.run.machine (state c.self.inside.run) c.args.t c.args.w)) c.in-Err.is c.in-Ok.ensures.why in
+    λ one. lone-refusal _ _ _ _ c.self.inside.run c.is_sound.ensures (ap (λ (b : BoardState _). b.run.program.workers) c.self.view_is ∙ one) c.args.t c.args.w may c.in-Err.why why

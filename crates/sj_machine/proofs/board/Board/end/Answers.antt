@@ -1,4 +1,4 @@
-use Rattle.std.proofs.Common.{ap, subst, sym, ◌<◌, ◌∙◌}
+use Rattle.std.proofs.Common.{◌∙◌, ap, subst, sym}
 use Rattle.sj_base.specs.declared.trace.Event.TheVariants.{End}
 use Rattle.sj_machine.specs.Board.{BoardState, HasTask}
 use Rattle.sj_machine.specs.Delivered.{gift_in}

@@ -1,6 +1,6 @@
 use Rattle.std.proofs.Common.{◌∙◌, None, ap, List, Option, set}
 use Rattle.sj_base.specs.Array.{Array}
-use Rattle.sj_machine.specs.Tiles.{array_in, arrays_in}
+use Rattle.sj_machine.specs.Tiles.{arrays_in}
 use Rattle.sj_machine.proofs.Tiles.{arrays-set}
 use Rattle.sj_machine.proofs.gifts.Gifts.take.Goals as goal
 

@@ -1,10 +1,9 @@
-use Rattle.std.proofs.Common.{◌≡◌, ◌∙◌, List, All, Some, None, true, ap, option_map, refl, subst, sym}
+use Rattle.std.proofs.Common.{◌≡◌, ◌∙◌, List, All, true, ap, option_map, refl, subst, sym}
 use Rattle.sj_base.specs.declared.program.Lowered.{Lowered}
 use Rattle.sj_base.specs.declared.program.Program.{Program}
 use Rattle.sj_core.specs.Machine.{WorkerState}
 use Rattle.sj_core.specs.Program.{task_of}
 use Rattle.sj_machine.specs.Copies.{Copies}
-use Rattle.sj_machine.specs.Operands.{first_held}
 use Rattle.sj_machine.specs.Planning.{HasSmallWork, IsWhy, MayClaim, NoneLeaves, chosen_on, is_leaving_at, planned}
 use Rattle.sj_machine.specs.Standing.{Standing, state}
 use Rattle.sj_machine.specs.declared.plan.Why.TheVariants.{Commute, Leaving}
