@@ -11,9 +11,9 @@ mod source_text;
 mod status;
 mod stop;
 #[cfg(test)]
-mod tests;
+mod test_calls;
 #[cfg(test)]
-mod tests_of_machine;
+mod tests;
 #[cfg(test)]
 mod tests_of_machines;
 #[cfg(test)]
