@@ -10,6 +10,7 @@ mod sink_text;
 mod source_text;
 mod status;
 mod stop;
+mod swap;
 #[cfg(test)]
 mod tests;
 #[cfg(test)]
@@ -25,20 +26,19 @@ mod top;
 ghost use Rattle.std.specs.Prelude.{◌≤◌, ◌^◌, length};
 ghost use Rattle.sj_edge.specs.Sizes.{AreWithin};
 
-use sj_edge::disk::{Disk, add_disk};
-use sj_edge::file_disk::FileDisk;
+use sj_edge::disk::Disk;
 use sj_edge::gate::OpenGate;
-use sj_edge::memory_disk::MemDisk;
 use sj_edge::sink::Sink;
 use sj_edge::source::Source;
 use sj_edge::standard::{StdSink, StdSource};
-use sj_words::{SwapWish, swap_wish};
+use sj_words::swap_wish;
 use std::alloc::Global;
 use std::env;
 use std::io::ErrorKind;
 use std::process::ExitCode;
 use std::sync::Wait;
 use std::thread::Threads;
+use swap::swap_disks;
 use top::starjob;
 
 /// The exit code where memory runs out before the job is begun.
@@ -85,29 +85,11 @@ fn main(rt: HostRuntime) -> ExitCode {
     let Ok(wish) = swap_wish(alloc, &words) else {
         return ExitCode::from(OUT_OF_MEMORY);
     };
-    let SwapWish { path, size } = wish;
+    let Ok(disks) = swap_disks(&rt, alloc, wish) else {
+        return ExitCode::from(OUT_OF_MEMORY);
+    };
     let mut source = StdSource::over(rt.stdin());
     let mut out = StdSink::over(rt.stdout());
     let mut err = StdSink::over(rt.stderr());
-    let mut disks = Vec::new(alloc);
-    if let Some(path) = path {
-        let disk = FileDisk::at(&rt, path.as_str(), size);
-        let Ok(disk) = Box::new(alloc, disk) else {
-            return ExitCode::from(OUT_OF_MEMORY);
-        };
-        if add_disk(&mut disks, disk).is_err() {
-            return ExitCode::from(OUT_OF_MEMORY);
-        }
-        return run_on(&rt, alloc, &words, &mut source, &mut out, &mut err, disks);
-    }
-    let Ok(disk) = MemDisk::new(alloc, size, Vec::new(alloc)) else {
-        return ExitCode::from(OUT_OF_MEMORY);
-    };
-    let Ok(disk) = Box::new(alloc, disk) else {
-        return ExitCode::from(OUT_OF_MEMORY);
-    };
-    if add_disk(&mut disks, disk).is_err() {
-        return ExitCode::from(OUT_OF_MEMORY);
-    }
     run_on(&rt, alloc, &words, &mut source, &mut out, &mut err, disks)
 }
