@@ -4,6 +4,7 @@ ghost use Rattle.std.specs.Prelude.{◌≤◌, ◌≡◌, ◌^◌, length, IfOk}
 ghost use Rattle.sj_edge.specs.Files.{file_size};
 ghost use Rattle.sj_edge.specs.Sizes.{AreWithin};
 
+use crate::top::AnyDisk;
 use sj_base::memory::OutOfMemory;
 use sj_edge::disk::{Disk, add_disk};
 use sj_edge::file_disk::FileDisk;
@@ -12,22 +13,22 @@ use sj_words::SwapWish;
 use std::alloc::Global;
 
 /// A disk in memory as any disk. Constant time.
-fn any_of_memory(disk: Box<MemDisk>) -> Box<dyn Disk + Send>
-    ensures size_stays { ⟦<Box<dyn Disk + Send> as Disk>⟧.size result ≡ ⟦<MemDisk as Disk>⟧.size disk.value }
+fn any_of_memory(disk: Box<MemDisk>) -> AnyDisk
+    ensures size_stays { ⟦<AnyDisk as Disk>⟧.size result ≡ ⟦<MemDisk as Disk>⟧.size disk.value }
 {
     disk
 }
 
 /// A disk over a file as any disk. Constant time.
-fn any_of_file(disk: Box<FileDisk>) -> Box<dyn Disk + Send>
-    ensures size_stays { ⟦<Box<dyn Disk + Send> as Disk>⟧.size result ≡ file_size disk.value }
+fn any_of_file(disk: Box<FileDisk>) -> AnyDisk
+    ensures size_stays { ⟦<AnyDisk as Disk>⟧.size result ≡ file_size disk.value }
 {
     disk
 }
 
 /// A disk over the file of the wish's path, or in memory where it has none. Linear in the bytes that memory has to hold.
-fn swap_disk(rt: &HostRuntime, alloc: Global, wish: SwapWish) -> Result<Box<dyn Disk + Send>, OutOfMemory>
-    ensures has_the_size { IfOk result (λ d. ⟦<Box<dyn Disk + Send> as Disk>⟧.size d ≡ wish.size) }
+fn swap_disk(rt: &HostRuntime, alloc: Global, wish: SwapWish) -> Result<AnyDisk, OutOfMemory>
+    ensures has_the_size { IfOk result (λ d. ⟦<AnyDisk as Disk>⟧.size d ≡ wish.size) }
 {
     let SwapWish { path, size } = wish;
     if let Some(path) = path {
@@ -42,10 +43,10 @@ pub fn swap_disks(
     rt: &HostRuntime,
     alloc: Global,
     wish: SwapWish,
-) -> Result<Vec<Box<dyn Disk + Send>>, OutOfMemory>
+) -> Result<Vec<AnyDisk>, OutOfMemory>
     requires small_wish { wish.size ≤ 2 ^ 40 }
     ensures few_disks { IfOk result (λ d. length d.items ≤ 16) }
-    ensures small_disks { IfOk result (λ d. AreWithin ⟦<Box<dyn Disk + Send> as Disk>⟧.size (2 ^ 40) d.items) }
+    ensures small_disks { IfOk result (λ d. AreWithin ⟦<AnyDisk as Disk>⟧.size (2 ^ 40) d.items) }
 {
     let disk = swap_disk(rt, alloc, wish)?;
     let mut disks = Vec::new(alloc);
