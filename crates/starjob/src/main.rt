@@ -23,26 +23,11 @@ mod tests_of_plans;
 mod tests_of_trouble;
 mod top;
 
-ghost use Rattle.std.specs.Prelude.{◌≤◌, ◌^◌, length};
-ghost use Rattle.sj_edge.specs.Sizes.{AreWithin};
-
-use sj_edge::disk::Disk;
-use sj_edge::gate::OpenGate;
-use sj_edge::sink::Sink;
-use sj_edge::source::Source;
-use sj_edge::standard::{StdSink, StdSource};
 use sj_words::swap_wish;
-use std::alloc::Global;
 use std::env;
 use std::io::ErrorKind;
 use std::process::ExitCode;
-use std::sync::Wait;
-use std::thread::Threads;
-use swap::swap_disks;
-use top::{AnyDisk, starjob};
-
-/// The exit code where memory runs out before the job is begun.
-const OUT_OF_MEMORY: u8 = 10;
+use swap::{OUT_OF_MEMORY, run_with};
 
 /// The words after the program's name, or `None` where memory runs out. An argument that isn't text stands for a word that
 /// isn't accepted, as none is.
@@ -60,23 +45,6 @@ fn words(rt: &HostRuntime) -> Option<Vec<String>> {
     Some(words)
 }
 
-/// Runs the job of a source with these disks.
-fn run_on<R: Threads + Wait + Sync, S: Source, O: Sink, E: Sink>(
-    rt: &R,
-    alloc: Global,
-    words: &[String],
-    source: &mut S,
-    out: &mut O,
-    err: &mut E,
-    disks: Vec<AnyDisk>,
-) -> ExitCode
-    requires few_disks { length disks.items ≤ 16 }
-    requires small_disks { AreWithin ⟦<AnyDisk as Disk>⟧.size (2 ^ 40) disks.items }
-{
-    let outcome = starjob(rt, alloc, words, source, out, err, disks, &OpenGate);
-    ExitCode::from(outcome.status.code())
-}
-
 fn main(rt: HostRuntime) -> ExitCode {
     let alloc = rt.alloc();
     let Some(words) = words(&rt) else {
@@ -85,11 +53,5 @@ fn main(rt: HostRuntime) -> ExitCode {
     let Ok(wish) = swap_wish(alloc, &words) else {
         return ExitCode::from(OUT_OF_MEMORY);
     };
-    let Ok(disks) = swap_disks(&rt, alloc, wish) else {
-        return ExitCode::from(OUT_OF_MEMORY);
-    };
-    let mut source = StdSource::over(rt.stdin());
-    let mut out = StdSink::over(rt.stdout());
-    let mut err = StdSink::over(rt.stderr());
-    run_on(&rt, alloc, &words, &mut source, &mut out, &mut err, disks)
+    run_with(&rt, alloc, &words, wish)
 }

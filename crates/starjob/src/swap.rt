@@ -1,55 +1,81 @@
-//! The disk that the program runs a job with.
+//! The run of the program's job on the swap disk that its words ask for.
 
-ghost use Rattle.std.specs.Prelude.{◌≤◌, ◌≡◌, ◌^◌, length, IfOk};
+ghost use Rattle.std.specs.Prelude.{◌≤◌, ◌^◌, length};
 ghost use Rattle.sj_edge.specs.Files.{file_size};
 ghost use Rattle.sj_edge.specs.Sizes.{AreWithin};
 
-use crate::top::AnyDisk;
-use sj_base::memory::OutOfMemory;
+use crate::top::{AnyDisk, starjob};
 use sj_edge::disk::{Disk, add_disk};
 use sj_edge::file_disk::FileDisk;
+use sj_edge::gate::OpenGate;
 use sj_edge::memory_disk::MemDisk;
+use sj_edge::standard::{StdSink, StdSource};
 use sj_words::SwapWish;
 use std::alloc::Global;
+use std::process::ExitCode;
 
-/// A disk in memory as any disk. Constant time.
-fn any_of_memory(disk: Box<MemDisk>) -> AnyDisk
-    ensures size_stays { ⟦<AnyDisk as Disk>⟧.size result ≡ ⟦<MemDisk as Disk>⟧.size disk.value }
+/// The exit code where memory runs out before the job is begun.
+pub const OUT_OF_MEMORY: u8 = 10;
+
+/// Runs the job of the standard input with these disks.
+fn run_on(rt: &HostRuntime, alloc: Global, words: &[String], disks: Vec<AnyDisk>) -> ExitCode
+    requires few_disks { length disks.items ≤ 16 }
+    requires small_disks { AreWithin ⟦<AnyDisk as Disk>⟧.size (2 ^ 40) disks.items }
 {
-    disk
+    let mut source = StdSource::over(rt.stdin());
+    let mut out = StdSink::over(rt.stdout());
+    let mut err = StdSink::over(rt.stderr());
+    let outcome = starjob(
+        rt,
+        alloc,
+        words,
+        &mut source,
+        &mut out,
+        &mut err,
+        disks,
+        &OpenGate,
+    );
+    ExitCode::from(outcome.status.code())
 }
 
-/// A disk over a file as any disk. Constant time.
-fn any_of_file(disk: Box<FileDisk>) -> AnyDisk
-    ensures size_stays { ⟦<AnyDisk as Disk>⟧.size result ≡ file_size disk.value }
+/// Runs the job with this disk in memory.
+fn run_in_memory(rt: &HostRuntime, alloc: Global, words: &[String], disk: MemDisk) -> ExitCode
+    requires small_disk { ⟦<MemDisk as Disk>⟧.size disk ≤ 2 ^ 40 }
 {
-    disk
+    let mut disks = Vec::new(alloc);
+    let Ok(disk) = Box::new(alloc, disk) else {
+        return ExitCode::from(OUT_OF_MEMORY);
+    };
+    if add_disk(&mut disks, disk).is_err() {
+        return ExitCode::from(OUT_OF_MEMORY);
+    }
+    run_on(rt, alloc, words, disks)
 }
 
-/// A disk over the file of the wish's path, or in memory where it has none. Linear in the bytes that memory has to hold.
-fn swap_disk(rt: &HostRuntime, alloc: Global, wish: SwapWish) -> Result<AnyDisk, OutOfMemory>
-    ensures has_the_size { IfOk result (λ d. ⟦<AnyDisk as Disk>⟧.size d ≡ wish.size) }
+/// Runs the job with this disk over a file.
+fn run_over_file(rt: &HostRuntime, alloc: Global, words: &[String], disk: FileDisk) -> ExitCode
+    requires small_disk { file_size disk ≤ 2 ^ 40 }
+{
+    let mut disks = Vec::new(alloc);
+    let Ok(disk) = Box::new(alloc, disk) else {
+        return ExitCode::from(OUT_OF_MEMORY);
+    };
+    if add_disk(&mut disks, disk).is_err() {
+        return ExitCode::from(OUT_OF_MEMORY);
+    }
+    run_on(rt, alloc, words, disks)
+}
+
+/// Runs the job with the disk that is wished: over the file of its path, or in memory where it has none.
+pub fn run_with(rt: &HostRuntime, alloc: Global, words: &[String], wish: SwapWish) -> ExitCode
+    requires small_wish { wish.size ≤ 2 ^ 40 }
 {
     let SwapWish { path, size } = wish;
     if let Some(path) = path {
-        return Ok(any_of_file(Box::new(alloc, FileDisk::at(rt, path.as_str(), size))?));
+        return run_over_file(rt, alloc, words, FileDisk::at(rt, path.as_str(), size));
     }
-    let disk = MemDisk::new(alloc, size, Vec::new(alloc))?;
-    Ok(any_of_memory(Box::new(alloc, disk)?))
-}
-
-/// The list of the one disk that the words ask for.
-pub fn swap_disks(
-    rt: &HostRuntime,
-    alloc: Global,
-    wish: SwapWish,
-) -> Result<Vec<AnyDisk>, OutOfMemory>
-    requires small_wish { wish.size ≤ 2 ^ 40 }
-    ensures few_disks { IfOk result (λ d. length d.items ≤ 16) }
-    ensures small_disks { IfOk result (λ d. AreWithin ⟦<AnyDisk as Disk>⟧.size (2 ^ 40) d.items) }
-{
-    let disk = swap_disk(rt, alloc, wish)?;
-    let mut disks = Vec::new(alloc);
-    add_disk(&mut disks, disk)?;
-    Ok(disks)
+    let Ok(disk) = MemDisk::new(alloc, size, Vec::new(alloc)) else {
+        return ExitCode::from(OUT_OF_MEMORY);
+    };
+    run_in_memory(rt, alloc, words, disk)
 }
