@@ -12,9 +12,9 @@ mod status;
 mod stop;
 mod swap;
 #[cfg(test)]
-mod tests;
+mod test_calls;
 #[cfg(test)]
-mod tests_of_machine;
+mod tests;
 #[cfg(test)]
 mod tests_of_machines;
 #[cfg(test)]

@@ -1,31 +1,19 @@
 //! Whole jobs, from bytes to bytes.
 
-ghost use Rattle.std.specs.Prelude.{◌≤◌, ◌^◌};
-
 use crate::status::Status;
-use crate::top::{Outcome, starjob};
+use crate::test_calls::{
+    Printing, Refusal, SUM, all_are_refused, all_print, answer, answer_on, bytes, call, calls, one,
+    whole_disk,
+};
 use sj_base::ids::{Line, Task, Worker};
-use sj_base::trace::{Event, Trace};
+use sj_base::trace::Event;
 use sj_edge::disk::{Disk, add_disk};
 use sj_edge::gate::OpenGate;
-use sj_edge::memory_disk::MemDisk;
 use sj_edge::memory_sink::MemSink;
 use sj_edge::memory_source::MemSource;
-use sj_edge::sink::Sink;
-use sj_edge::source::Source;
 use sj_edge::sure::{SureSink, SureSource};
 use sj_job::reason::{LimitKind, Reason};
-use std::alloc::Global;
-use std::sync::Wait;
 use std::test::Fail;
-use std::thread::Threads;
-
-/// A job text, and what `out` takes.
-pub struct Printing {
-    pub shows: &'static str,
-    pub text: &'static str,
-    pub out: &'static str,
-}
 
 const PRINTINGS: [Printing; 30] = [
     Printing {
@@ -179,13 +167,6 @@ const PRINTINGS: [Printing; 30] = [
         out: "x: 21 -3\n",
     },
 ];
-
-/// A refused job text, and the line that `err` takes.
-pub struct Refusal {
-    pub shows: &'static str,
-    pub text: &'static str,
-    pub err: &'static str,
-}
 
 const REFUSALS: [Refusal; 52] = [
     Refusal {
@@ -450,97 +431,33 @@ const REFUSALS: [Refusal; 52] = [
     },
 ];
 
-fn bytes(alloc: Global, text: &str) -> Result<Vec<u8>, Fail> {
-    Ok(Vec::from_slice(alloc, text.as_bytes())?)
-}
-
-/// One vector is added to another.
-pub const SUM: &str =
-    "starjob 1\nvector x 3 values 1 2 3\nvector y 3 values 10 20 30\ntask add x:R y:RW\nprint y\n";
-
-fn calls(alloc: Global, numbers: &[u64]) -> Result<Vec<u64>, Fail> {
-    Ok(Vec::from_slice(alloc, numbers)?)
-}
-
-/// Calls for a job text with one disk of so many bytes in memory.
-pub fn call<R: Threads + Wait + Sync, S: Source, O: Sink, E: Sink>(
-    rt: &R,
-    alloc: Global,
-    source: &mut S,
-    out: &mut O,
-    err: &mut E,
-    disk: u64,
-) -> Result<Outcome, Fail>
-    requires { disk ≤ 2 ^ 40 }
-{
-    let mut disks = Vec::new(alloc);
-    let disk = MemDisk::new(alloc, disk, Vec::new(alloc))?;
-    add_disk(&mut disks, Box::new(alloc, disk)?)?;
-    Ok(starjob(rt, alloc, &[], source, out, err, disks, &OpenGate))
-}
-
-/// The bytes of a disk that takes all blocks of a small job.
-pub const DISK: u64 = 1 << 26;
-
-/// The exit code of a job text, and what `out`, which has so much room, and `err` take.
-pub fn answer<R: Threads + Wait + Sync>(
-    rt: &R,
-    alloc: Global,
-    text: &[u8],
-    room: u64,
-    disk: u64,
-) -> Result<(u8, MemSink, MemSink), Fail>
-    requires { disk ≤ 2 ^ 40 }
-{
-    let mut source = MemSource::new(Vec::from_slice(alloc, text)?, Vec::new(alloc));
-    let mut out = MemSink::new(alloc, room, Vec::new(alloc))?;
-    let mut err = MemSink::new(alloc, 1000, Vec::new(alloc))?;
-    let outcome = call(rt, alloc, &mut source, &mut out, &mut err, disk)?;
-    Ok((outcome.status.code(), out, err))
-}
-
 #[test]
 fn jobs_print_what_their_tasks_make(rt: HostRuntime) -> Result<(), Fail> {
-    for case in PRINTINGS.iter() {
-        let (code, out, err) = answer(&rt, rt.alloc(), case.text.as_bytes(), 1000, DISK)?;
-        assert_eq!(rt; code, 0, "{}", case.shows);
-        assert_eq!(rt; out.taken(), case.out.as_bytes(), "{}", case.shows);
-        assert!(rt; err.taken().is_empty(), "{}", case.shows);
-    }
-    Ok(())
+    all_print(&rt, rt.alloc(), &PRINTINGS)
 }
 
 #[test]
 fn a_refused_job_names_its_first_bad_line_and_its_first_reason(
     rt: HostRuntime,
 ) -> Result<(), Fail> {
-    for case in REFUSALS.iter() {
-        let (code, out, err) = answer(&rt, rt.alloc(), case.text.as_bytes(), 1000, DISK)?;
-        assert_eq!(rt; code, 3, "{}", case.shows);
-        assert!(rt; out.taken().is_empty(), "{}", case.shows);
-        assert_eq!(rt; err.taken(), case.err.as_bytes(), "{}", case.shows);
-    }
-    Ok(())
+    all_are_refused(&rt, rt.alloc(), &REFUSALS)
 }
 
 #[test]
 fn a_source_that_fails_gives_its_fault_and_nothing_is_written(rt: HostRuntime) -> Result<(), Fail> {
     let alloc = rt.alloc();
-    for call in 1..4u64 {
-        let mut source = MemSource::new(bytes(alloc, SUM)?, calls(alloc, &[call])?);
+    for number in 1..4u64 {
+        let mut source = MemSource::new(bytes(alloc, SUM)?, calls(alloc, &[number])?);
         let mut out = MemSink::new(alloc, 1000, Vec::new(alloc))?;
         let mut err = MemSink::new(alloc, 1000, Vec::new(alloc))?;
-        let outcome = call(&rt, alloc, &mut source, &mut out, &mut err, DISK)?;
+        let outcome = call(&rt, alloc, &mut source, &mut out, &mut err)?;
         if source.faults() == 0 {
-            assert_eq!(rt; outcome.status, Status::Done, "at {call}");
+            assert_eq!(rt; outcome.status, Status::Done, "at {number}");
         } else {
-            assert_eq!(rt; outcome.status, Status::SourceFault, "at {call}");
-            assert!(rt; out.taken().is_empty(), "at {call}");
-            assert_eq!(rt;
-                err.taken(),
-                b"starjob: reading failed\n".as_slice(),
-                "at {call}"
-            );
+            let line = b"starjob: reading failed\n".as_slice();
+            assert_eq!(rt; outcome.status, Status::SourceFault, "at {number}");
+            assert!(rt; out.taken().is_empty(), "at {number}");
+            assert_eq!(rt; err.taken(), line, "at {number}");
         }
     }
     Ok(())
@@ -554,7 +471,7 @@ fn an_out_that_fails_gives_its_fault_and_a_failing_err_is_ignored(
     let mut source = SureSource::new(bytes(alloc, SUM)?);
     let mut out = MemSink::new(alloc, 1000, calls(alloc, &[1])?)?;
     let mut err = MemSink::new(alloc, 10, Vec::new(alloc))?;
-    let outcome = call(&rt, alloc, &mut source, &mut out, &mut err, DISK)?;
+    let outcome = call(&rt, alloc, &mut source, &mut out, &mut err)?;
     assert_eq!(rt; outcome.status, Status::SinkFault);
     assert!(rt; out.taken().is_empty());
     assert_eq!(rt; err.taken(), b"starjob: w".as_slice());
@@ -564,31 +481,15 @@ fn an_out_that_fails_gives_its_fault_and_a_failing_err_is_ignored(
 #[test]
 fn words_are_not_accepted_and_disks_come_back_in_order(rt: HostRuntime) -> Result<(), Fail> {
     let alloc = rt.alloc();
-    let mut disks = Vec::new(alloc);
-    let first = MemDisk::new(alloc, 64, Vec::new(alloc))?;
-    let second = MemDisk::new(alloc, 32, Vec::new(alloc))?;
-    add_disk(&mut disks, Box::new(alloc, first)?)?;
-    add_disk(&mut disks, Box::new(alloc, second)?)?;
-    let mut words = Vec::new(alloc);
-    words.push(String::from_str(alloc, "--workers")?)?;
-    let mut source = SureSource::new(bytes(alloc, SUM)?);
-    let mut out = MemSink::new(alloc, 1000, Vec::new(alloc))?;
-    let mut err = SureSink::new();
-    let outcome = starjob(
-        &rt,
-        alloc,
-        &words,
-        &mut source,
-        &mut out,
-        &mut err,
-        disks,
-        &OpenGate,
-    );
-    assert_eq!(rt; outcome.status, Status::Usage);
-    assert!(rt; out.taken().is_empty());
-    assert_eq!(rt; outcome.disks.len(), 2);
-    assert_eq!(rt; outcome.disks[0].size(), 64);
-    assert_eq!(rt; outcome.disks[1].size(), 32);
+    let mut disks = one(alloc, whole_disk(alloc, 64)?)?;
+    add_disk(&mut disks, Box::new(alloc, whole_disk(alloc, 32)?)?)?;
+    let words = ["--workers"];
+    let answer = answer_on(&rt, alloc, &words, SUM.as_bytes(), disks, &OpenGate)?;
+    assert_eq!(rt; answer.outcome.status, Status::Usage);
+    assert!(rt; answer.out.taken().is_empty());
+    assert_eq!(rt; answer.outcome.disks.len(), 2);
+    assert_eq!(rt; answer.outcome.disks[0].size(), 64);
+    assert_eq!(rt; answer.outcome.disks[1].size(), 32);
     Ok(())
 }
 
@@ -602,42 +503,22 @@ fn a_text_is_read_up_to_its_limit_of_bytes(rt: HostRuntime) -> Result<(), Fail> 
         let mut source = SureSource::new(vec![in alloc; b'#'; length]?);
         let mut out = SureSink::new();
         let mut err = SureSink::new();
-        let outcome = call(&rt, alloc, &mut source, &mut out, &mut err, DISK)?;
+        let outcome = call(&rt, alloc, &mut source, &mut out, &mut err)?;
         let line = Line(line);
-        assert_eq!(rt;
-            outcome.status,
-            Status::Refused { line, reason },
-            "{length}"
-        );
+        let refused = Status::Refused { line, reason };
+        assert_eq!(rt; outcome.status, refused, "{length}");
     }
     Ok(())
-}
-
-/// The trace of a job text, and its exit code.
-fn traced<R: Threads + Wait + Sync>(
-    rt: &R,
-    alloc: Global,
-    text: &str,
-) -> Result<(u8, Trace), Fail> {
-    let mut source = MemSource::new(bytes(alloc, text)?, Vec::new(alloc));
-    let outcome = call(
-        rt,
-        alloc,
-        &mut source,
-        &mut SureSink::new(),
-        &mut SureSink::new(),
-        DISK,
-    )?;
-    Ok((outcome.status.code(), outcome.trace))
 }
 
 #[test]
 fn a_sum_is_traced_as_claim_run_and_end_of_four_tasks_in_order(
     rt: HostRuntime,
 ) -> Result<(), Fail> {
-    let (code, trace) = traced(&rt, rt.alloc(), SUM)?;
+    let answer = answer(&rt, rt.alloc(), SUM.as_bytes())?;
+    let trace = answer.outcome.trace;
     let worker = Worker(0);
-    assert_eq!(rt; code, 0);
+    assert_eq!(rt; answer.outcome.status, Status::Done);
     assert_eq!(rt; trace.len(), 12);
     for t in 0..4u32 {
         let first = 3 * t as usize;
@@ -650,24 +531,13 @@ fn a_sum_is_traced_as_claim_run_and_end_of_four_tasks_in_order(
 
 #[test]
 fn a_job_without_tasks_and_a_refused_job_have_an_empty_trace(rt: HostRuntime) -> Result<(), Fail> {
-    for (text, wanted) in [
+    for (text, code) in [
         ("starjob 1\n", 0u8),
         ("starjob 1\nvector x 2 values 1 2\nprint y\n", 3),
     ] {
-        let (code, trace) = traced(&rt, rt.alloc(), text)?;
-        assert_eq!(rt; code, wanted);
-        assert!(rt; trace.is_empty());
+        let answer = answer(&rt, rt.alloc(), text.as_bytes())?;
+        assert_eq!(rt; answer.outcome.status.code(), code);
+        assert!(rt; answer.outcome.trace.is_empty());
     }
-    Ok(())
-}
-
-#[test]
-fn a_trace_keeps_its_events_in_the_room_that_it_made(rt: HostRuntime) -> Result<(), Fail> {
-    let mut trace = Trace::empty(rt.alloc());
-    assert!(rt; trace.reserve(2).is_ok());
-    trace.add(Event::Claim(Task(0), Worker(0)));
-    trace.add(Event::End(Task(0), Worker(0)));
-    assert_eq!(rt; trace.len(), 2);
-    assert_eq!(rt; trace.get(1), Event::End(Task(0), Worker(0)));
     Ok(())
 }

@@ -1,8 +1,12 @@
 //! Whole jobs over partition plans, from bytes to bytes, and the limits that are counted in lowering.
 
-use crate::tests::{DISK, Printing, Refusal, answer};
+use crate::status::Status;
+use crate::test_calls::{Printing, Refusal, all_are_refused, all_print, answer};
 use std::alloc::Global;
+use std::process::Abort;
+use std::sync::Wait;
 use std::test::Fail;
+use std::thread::Threads;
 
 const PRINTINGS: [Printing; 12] = [
     Printing {
@@ -132,26 +136,14 @@ const REFUSALS: [Refusal; 12] = [
 
 #[test]
 fn jobs_over_plans_print_what_their_tasks_make(rt: HostRuntime) -> Result<(), Fail> {
-    for case in PRINTINGS.iter() {
-        let (code, out, err) = answer(&rt, rt.alloc(), case.text.as_bytes(), 1000, DISK)?;
-        assert_eq!(rt; code, 0, "{}", case.shows);
-        assert_eq!(rt; out.taken(), case.out.as_bytes(), "{}", case.shows);
-        assert!(rt; err.taken().is_empty(), "{}", case.shows);
-    }
-    Ok(())
+    all_print(&rt, rt.alloc(), &PRINTINGS)
 }
 
 #[test]
 fn a_refused_job_over_plans_names_its_first_bad_line_and_its_first_reason(
     rt: HostRuntime,
 ) -> Result<(), Fail> {
-    for case in REFUSALS.iter() {
-        let (code, out, err) = answer(&rt, rt.alloc(), case.text.as_bytes(), 1000, DISK)?;
-        assert_eq!(rt; code, 3, "{}", case.shows);
-        assert!(rt; out.taken().is_empty(), "{}", case.shows);
-        assert_eq!(rt; err.taken(), case.err.as_bytes(), "{}", case.shows);
-    }
-    Ok(())
+    all_are_refused(&rt, rt.alloc(), &REFUSALS)
 }
 
 /// Appends registrations of so many arrays of 4,096 children.
@@ -172,16 +164,29 @@ fn push_printed(text: &mut Vec<u8>, prints: u32) -> Result<(), Fail> {
     Ok(())
 }
 
+/// A job ends with this code; `out` takes so many bytes, and `err` this line.
+fn ends<R: Threads + Wait + Abort + Sync>(
+    rt: &R,
+    alloc: Global,
+    text: &[u8],
+    code: u8,
+    printed: usize,
+    line: &str,
+) -> Result<(), Fail> {
+    let answer = answer(rt, alloc, text)?;
+    assert_eq!(rt; answer.outcome.status.code(), code);
+    assert_eq!(rt; answer.out.taken().len(), printed);
+    assert_eq!(rt; answer.err.taken(), line.as_bytes());
+    Ok(())
+}
+
 #[test]
 fn as_many_cells_as_the_limit_are_taken_and_no_more(rt: HostRuntime) -> Result<(), Fail> {
     let alloc = rt.alloc();
     for (arrays, code, line) in [(64, 0, ""), (65, 3, "starjob: line 66: limit Cells\n")] {
         let mut text = Vec::from_slice(alloc, b"starjob 1\n")?;
         push_divided(alloc, &mut text, arrays)?;
-        let (ended, out, err) = answer(&rt, rt.alloc(), &text, 1000, DISK)?;
-        assert_eq!(rt; ended, code, "{arrays}");
-        assert!(rt; out.taken().is_empty(), "{arrays}");
-        assert_eq!(rt; err.taken(), line.as_bytes(), "{arrays}");
+        ends(&rt, alloc, &text, code, 0, line)?;
     }
     Ok(())
 }
@@ -189,16 +194,13 @@ fn as_many_cells_as_the_limit_are_taken_and_no_more(rt: HostRuntime) -> Result<(
 #[test]
 fn as_many_tasks_as_the_limit_are_run_and_no_more(rt: HostRuntime) -> Result<(), Fail> {
     let alloc = rt.alloc();
-    for (prints, code, line, length) in [
-        (63, 0, "", 63 * 8_195),
-        (64, 3, "starjob: line 66: limit Tasks\n", 0),
+    for (prints, code, printed, line) in [
+        (63, 0, 63 * 8_195, ""),
+        (64, 3, 0, "starjob: line 66: limit Tasks\n"),
     ] {
         let mut text = Vec::from_slice(alloc, b"starjob 1\n")?;
         push_printed(&mut text, prints)?;
-        let (ended, out, err) = answer(&rt, rt.alloc(), &text, 1_000_000, DISK)?;
-        assert_eq!(rt; ended, code, "{prints}");
-        assert_eq!(rt; out.taken().len(), length, "{prints}");
-        assert_eq!(rt; err.taken(), line.as_bytes(), "{prints}");
+        ends(&rt, alloc, &text, code, printed, line)?;
     }
     Ok(())
 }
@@ -211,11 +213,8 @@ fn too_many_cells_are_named_though_their_line_is_the_later_one(
     let mut text = Vec::from_slice(alloc, b"starjob 1\n")?;
     push_printed(&mut text, 64)?;
     push_divided(alloc, &mut text, 64)?;
-    let (ended, out, err) = answer(&rt, rt.alloc(), &text, 1000, DISK)?;
-    assert_eq!(rt; ended, 3);
-    assert!(rt; out.taken().is_empty());
-    assert_eq!(rt; err.taken(), b"starjob: line 130: limit Cells\n".as_slice());
-    Ok(())
+    let line = "starjob: line 130: limit Cells\n";
+    ends(&rt, alloc, &text, 3, 0, line)
 }
 
 /// A job of 4,096 names, over 8,000 cells, 24,000 tasks and 4,097 print statements, one array of which has 4,096 children, and
@@ -256,9 +255,9 @@ fn many_printed(alloc: Global) -> Result<Vec<u8>, Fail> {
 #[test]
 fn a_job_of_over_4_thousand_of_everything_is_done(rt: HostRuntime) -> Result<(), Fail> {
     let alloc = rt.alloc();
-    let (code, out, err) = answer(&rt, rt.alloc(), &many_of_all(alloc)?, 100_000, DISK)?;
-    assert_eq!(rt; code, 0);
-    assert!(rt; out.taken() == many_printed(alloc)?.as_slice());
-    assert!(rt; err.taken().is_empty());
+    let answer = answer(&rt, alloc, &many_of_all(alloc)?)?;
+    assert_eq!(rt; answer.outcome.status, Status::Done);
+    assert!(rt; answer.out.taken() == many_printed(alloc)?.as_slice());
+    assert!(rt; answer.err.taken().is_empty());
     Ok(())
 }

@@ -1,9 +1,10 @@
 //! Whole jobs on disks that fail, that lose what was written, and that answer with something else.
 
-ghost use Rattle.std.specs.Prelude.{None, length};
+ghost use Rattle.std.specs.Prelude.{◌+◌, ◌≤◌, ◌^◌, None, length};
 
 use crate::status::Status;
-use crate::tests_of_machine::{ROUND, ROUND_OUT, ROUND_SWAP, run_on, whole_disk};
+use crate::test_calls::{Answer, answer_on, one, refusing_disk, whole_disk};
+use crate::tests_of_machines::{ROUND, ROUND_OUT, ROUND_SWAP};
 use sj_base::ids::{DiskNo, Task};
 use sj_disk::header::Header;
 use sj_edge::disk::{CheckFault, Disk};
@@ -20,18 +21,32 @@ use std::sync::Wait;
 use std::test::Fail;
 use std::thread::Threads;
 
-/// The words for so many workers on a node that holds two vectors of a `ROUND`.
-fn tight(workers: &'static str) -> [&'static str; 4] {
-    ["--workers", workers, "--node", "48"]
+/// The answer to a `ROUND` by so many workers on a node that holds two of its vectors, with this disk.
+fn answer_tight<D: Disk + Send + 'static, G: Gate, R: Threads + Wait + Sync>(
+    rt: &R,
+    alloc: Global,
+    workers: &str,
+    disk: D,
+    gate: &G,
+) -> Result<Answer, Fail>
+    requires { D.size disk ≤ 2 ^ 40 }
+{
+    let words = ["--workers", workers, "--node", "48"];
+    let disks = one(alloc, disk)?;
+    answer_on(rt, alloc, &words, ROUND.as_bytes(), disks, gate)
+}
+
+/// The disk is to blame, and nothing is written.
+fn is_failed<R: Abort>(rt: &R, answer: &Answer) {
+    let fault = Status::DiskFault { disk: DiskNo(0) };
+    assert_eq!(rt; answer.outcome.status, fault);
+    assert!(rt; answer.out.taken().is_empty());
 }
 
 /// Whether a disk still refuses one of so many calls.
-fn refuses(disk: &mut Box<dyn Disk + Send>, calls: u64) -> bool {
-    if disk.size() == 0 {
-        return false;
-    }
+fn refuses<D: Disk>(disk: &mut D, calls: u64) -> bool {
     for _ in 0..calls {
-        if disk.read(0, &mut [0]).is_err() {
+        if disk.size() > 0 && disk.read(0, &mut [0]).is_err() {
             return true;
         }
     }
@@ -42,24 +57,19 @@ fn refuses(disk: &mut Box<dyn Disk + Send>, calls: u64) -> bool {
 fn is_refused<R: Threads + Wait + Abort + Sync>(
     rt: &R,
     alloc: Global,
-    workers: &'static str,
+    workers: &str,
     call: u64,
 ) -> Result<bool, Fail> {
-    let disk = MemDisk::new(alloc, ROUND_SWAP, [call].to_vec(alloc)?)?;
-    let mut answer = run_on(rt, alloc, &tight(workers), ROUND, disk, &OpenGate)?;
-    assert_eq!(rt; answer.disks.len(), 1);
-    if refuses(&mut answer.disks[0], call) {
-        assert_eq!(rt; answer.status, Status::Done, "at {call} of {workers}");
-        assert_eq!(rt;
-            answer.out.taken(),
-            ROUND_OUT.as_bytes(),
-            "at {call} of {workers}"
-        );
+    let disk = refusing_disk(alloc, ROUND_SWAP, &[call])?;
+    let mut answer = answer_tight(rt, alloc, workers, disk, &OpenGate)?;
+    assert_eq!(rt; answer.outcome.disks.len(), 1);
+    if refuses(&mut answer.outcome.disks[0], call) {
+        let out = answer.out.taken();
+        assert_eq!(rt; answer.outcome.status, Status::Done, "at {call}");
+        assert_eq!(rt; out, ROUND_OUT.as_bytes(), "at {call}");
         return Ok(false);
     }
-    let fault = Status::DiskFault { disk: DiskNo(0) };
-    assert_eq!(rt; answer.status, fault, "at {call} of {workers}");
-    assert!(rt; answer.out.taken().is_empty(), "at {call} of {workers}");
+    is_failed(rt, &answer);
     Ok(true)
 }
 
@@ -88,79 +98,41 @@ fn a_call_that_a_disk_refuses_four_workers_ends_the_run_or_never_comes(
     Ok(())
 }
 
-/// Takes what is written and keeps nothing.
+/// A disk that answers with something else than what was written.
 #[derive(Drop)]
-struct LosingDisk {
+struct FalseDisk {
     disk: MemDisk,
+    /// It keeps nothing; else it answers for the first of three blocks of 48 bytes with the last, and the other way round.
+    loses: bool,
 }
 
-impl Disk for LosingDisk {
-    ghost size = { λ d. length d.disk.bytes };
-
-    ghost held = { λ _. None };
-
-    ghost faults = { λ d. d.disk.called.faults };
-
-    ghost mismatches = { λ d. d.disk.mismatches };
-
-    fn size(&self) -> u64 {
-        self.disk.size()
-    }
-
-    fn read(&mut self, at: u64, buf: &mut [u8]) -> Result<(), Failed> {
-        self.disk.read(at, buf)
-    }
-
-    fn write(&mut self, _at: u64, _bytes: &[u8]) -> Result<(), Failed> {
-        Ok(())
-    }
-
-    fn check(&mut self, at: u64, want: &[u8; 24]) -> Result<(), CheckFault> {
-        self.disk.check(at, want)
-    }
-}
-
-// x is the first vector that is written and the first that is fetched again.
-#[test]
-fn a_disk_that_loses_what_was_written_is_damaged(rt: HostRuntime) -> Result<(), Fail> {
-    let disk = LosingDisk {
-        disk: whole_disk(rt.alloc(), ROUND_SWAP)?,
-    };
-    let answer = run_on(&rt, rt.alloc(), &tight("1"), ROUND, disk, &OpenGate)?;
-    let damaged = Status::Damaged {
-        disk: DiskNo(0),
-        want: Header {
-            cell: 0,
-            writes: 1,
-            length: 3,
-        },
-        found: Header {
-            cell: 0,
-            writes: 0,
-            length: 0,
-        },
-    };
-    assert_eq!(rt; answer.status, damaged);
-    assert!(rt; answer.out.taken().is_empty());
-    Ok(())
-}
-
-/// Answers for the first of three blocks of 48 bytes with the last, and the other way round.
-#[derive(Drop)]
-struct MixedDisk {
-    disk: MemDisk,
-}
-
-/// The place that stands for another one.
-fn mixed(at: u64) -> u64 {
-    match at {
+/// The place that is read in place of another one, for so many bytes of a disk of this size.
+fn read_from(at: u64, count: u64, size: u64) -> u64
+    requires { at + count ≤ size }
+    ensures { result + count ≤ size }
+{
+    let other = match at {
         0..48 => at + 96,
         96..144 => at - 96,
         _ => at,
+    };
+    if other <= size - count { other } else { at }
+}
+
+impl FalseDisk {
+    /// The place that it reads in place of this one, for so many bytes.
+    fn place(&self, at: u64, count: u64) -> u64
+        requires { at + count ≤ length self.now.disk.bytes }
+        ensures { result + count ≤ length self.now.disk.bytes }
+    {
+        if self.loses {
+            return at;
+        }
+        read_from(at, count, self.disk.size())
     }
 }
 
-impl Disk for MixedDisk {
+impl Disk for FalseDisk {
     ghost size = { λ d. length d.disk.bytes };
 
     ghost held = { λ _. None };
@@ -174,49 +146,71 @@ impl Disk for MixedDisk {
     }
 
     fn read(&mut self, at: u64, buf: &mut [u8]) -> Result<(), Failed> {
-        self.disk.read(mixed(at), buf)
+        self.disk.read(self.place(at, buf.len() as u64), buf)
     }
 
     fn write(&mut self, at: u64, bytes: &[u8]) -> Result<(), Failed> {
+        if self.loses {
+            return Ok(());
+        }
         self.disk.write(at, bytes)
     }
 
     fn check(&mut self, at: u64, want: &[u8; 24]) -> Result<(), CheckFault> {
-        self.disk.check(mixed(at), want)
+        self.disk.check(self.place(at, 24), want)
     }
+}
+
+/// The first vector is the first that is fetched again: the disk has answered with another header.
+fn is_damaged<R: Threads + Wait + Abort + Sync>(
+    rt: &R,
+    alloc: Global,
+    loses: bool,
+    found: Header,
+) -> Result<(), Fail> {
+    let disk = FalseDisk {
+        disk: whole_disk(alloc, ROUND_SWAP)?,
+        loses,
+    };
+    let answer = answer_tight(rt, alloc, "1", disk, &OpenGate)?;
+    let want = Header {
+        cell: 0,
+        writes: 1,
+        length: 3,
+    };
+    let disk = DiskNo(0);
+    let damaged = Status::Damaged { disk, want, found };
+    assert_eq!(rt; answer.outcome.status, damaged);
+    assert!(rt; answer.out.taken().is_empty());
+    Ok(())
+}
+
+#[test]
+fn a_disk_that_loses_what_was_written_is_damaged(rt: HostRuntime) -> Result<(), Fail> {
+    let found = Header {
+        cell: 0,
+        writes: 0,
+        length: 0,
+    };
+    is_damaged(&rt, rt.alloc(), true, found)
 }
 
 // z is written before x is fetched again.
 #[test]
 fn a_disk_that_answers_with_another_block_is_damaged(rt: HostRuntime) -> Result<(), Fail> {
-    let disk = MixedDisk {
-        disk: whole_disk(rt.alloc(), ROUND_SWAP)?,
+    let found = Header {
+        cell: 2,
+        writes: 1,
+        length: 3,
     };
-    let answer = run_on(&rt, rt.alloc(), &tight("1"), ROUND, disk, &OpenGate)?;
-    let damaged = Status::Damaged {
-        disk: DiskNo(0),
-        want: Header {
-            cell: 0,
-            writes: 1,
-            length: 3,
-        },
-        found: Header {
-            cell: 2,
-            writes: 1,
-            length: 3,
-        },
-    };
-    assert_eq!(rt; answer.status, damaged);
-    assert!(rt; answer.out.taken().is_empty());
-    Ok(())
+    is_damaged(&rt, rt.alloc(), false, found)
 }
 
 #[test]
 fn a_device_without_room_is_a_fault(rt: HostRuntime) -> Result<(), Fail> {
-    let disk = FileDisk::at(&rt, "/dev/full", ROUND_SWAP);
-    let answer = run_on(&rt, rt.alloc(), &tight("1"), ROUND, disk, &OpenGate)?;
-    assert_eq!(rt; answer.status, Status::DiskFault { disk: DiskNo(0) });
-    assert!(rt; answer.out.taken().is_empty());
+    let disk = FileDisk::at(&rt, "/dev/full", ROUND_SWAP as u64);
+    let answer = answer_tight(&rt, rt.alloc(), "1", disk, &OpenGate)?;
+    is_failed(&rt, &answer);
     Ok(())
 }
 
@@ -244,17 +238,9 @@ impl<R: Files<File = File> + Sync> Gate for Cutting<'_, R> {
 #[test]
 fn a_file_that_is_cut_off_is_a_fault(rt: HostRuntime) -> Result<(), Fail> {
     let _ = fs::remove_file(&rt, FILE);
-    let disk = FileDisk::at(&rt, FILE, ROUND_SWAP);
-    let answer = run_on(
-        &rt,
-        rt.alloc(),
-        &tight("1"),
-        ROUND,
-        disk,
-        &Cutting { rt: &rt },
-    )?;
-    assert_eq!(rt; answer.status, Status::DiskFault { disk: DiskNo(0) });
-    assert!(rt; answer.out.taken().is_empty());
+    let disk = FileDisk::at(&rt, FILE, ROUND_SWAP as u64);
+    let answer = answer_tight(&rt, rt.alloc(), "1", disk, &Cutting { rt: &rt })?;
+    is_failed(&rt, &answer);
     fs::remove_file(&rt, FILE)?;
     Ok(())
 }
