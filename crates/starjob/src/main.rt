@@ -23,11 +23,12 @@ mod tests_of_plans;
 mod tests_of_trouble;
 mod top;
 
+use sj_edge::standard::{StdSink, StdSource};
 use sj_words::swap_wish;
 use std::env;
 use std::io::ErrorKind;
 use std::process::ExitCode;
-use swap::{OUT_OF_MEMORY, run_with};
+use swap::{OUT_OF_MEMORY, Streams, run_with};
 
 /// The words after the program's name, or `None` where memory runs out. An argument that isn't text stands for a word that
 /// isn't accepted, as none is.
@@ -53,5 +54,10 @@ fn main(rt: HostRuntime) -> ExitCode {
     let Ok(wish) = swap_wish(alloc, &words) else {
         return ExitCode::from(OUT_OF_MEMORY);
     };
-    run_with(&rt, alloc, &words, wish)
+    let mut streams = Streams {
+        source: StdSource::over(rt.stdin()),
+        out: StdSink::over(rt.stdout()),
+        err: StdSink::over(rt.stderr()),
+    };
+    run_with(&rt, alloc, &words, &mut streams, wish)
 }

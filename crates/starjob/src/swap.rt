@@ -9,29 +9,45 @@ use sj_edge::disk::{Disk, add_disk};
 use sj_edge::file_disk::FileDisk;
 use sj_edge::gate::OpenGate;
 use sj_edge::memory_disk::MemDisk;
-use sj_edge::standard::{StdSink, StdSource};
+use sj_edge::sink::Sink;
+use sj_edge::source::Source;
 use sj_words::SwapWish;
 use std::alloc::Global;
+use std::fs::File;
 use std::process::ExitCode;
+use std::rt::Files;
+use std::sync::Wait;
+use std::thread::Threads;
 
 /// The exit code where memory runs out before the job is begun.
 pub const OUT_OF_MEMORY: u8 = 10;
 
-/// Runs the job of the standard input with these disks.
-fn run_on(rt: &HostRuntime, alloc: Global, words: &[String], disks: Vec<AnyDisk>) -> ExitCode
+/// The streams of a program.
+#[derive(Drop)]
+pub struct Streams<S, O, E> {
+    pub source: S,
+    pub out: O,
+    pub err: E,
+}
+
+/// Runs the job of these streams with these disks.
+fn run_on<R: Threads + Wait + Sync, S: Source, O: Sink, E: Sink>(
+    rt: &R,
+    alloc: Global,
+    words: &[String],
+    streams: &mut Streams<S, O, E>,
+    disks: Vec<AnyDisk>,
+) -> ExitCode
     requires few_disks { length disks.items ≤ 16 }
     requires small_disks { AreWithin ⟦<AnyDisk as Disk>⟧.size (2 ^ 40) disks.items }
 {
-    let mut source = StdSource::over(rt.stdin());
-    let mut out = StdSink::over(rt.stdout());
-    let mut err = StdSink::over(rt.stderr());
     let outcome = starjob(
         rt,
         alloc,
         words,
-        &mut source,
-        &mut out,
-        &mut err,
+        &mut streams.source,
+        &mut streams.out,
+        &mut streams.err,
         disks,
         &OpenGate,
     );
@@ -39,7 +55,13 @@ fn run_on(rt: &HostRuntime, alloc: Global, words: &[String], disks: Vec<AnyDisk>
 }
 
 /// Runs the job with this disk in memory.
-fn run_in_memory(rt: &HostRuntime, alloc: Global, words: &[String], disk: MemDisk) -> ExitCode
+fn run_in_memory<R: Threads + Wait + Sync, S: Source, O: Sink, E: Sink>(
+    rt: &R,
+    alloc: Global,
+    words: &[String],
+    streams: &mut Streams<S, O, E>,
+    disk: MemDisk,
+) -> ExitCode
     requires small_disk { ⟦<MemDisk as Disk>⟧.size disk ≤ 2 ^ 40 }
 {
     let mut disks = Vec::new(alloc);
@@ -49,11 +71,17 @@ fn run_in_memory(rt: &HostRuntime, alloc: Global, words: &[String], disk: MemDis
     if add_disk(&mut disks, disk).is_err() {
         return ExitCode::from(OUT_OF_MEMORY);
     }
-    run_on(rt, alloc, words, disks)
+    run_on(rt, alloc, words, streams, disks)
 }
 
 /// Runs the job with this disk over a file.
-fn run_over_file(rt: &HostRuntime, alloc: Global, words: &[String], disk: FileDisk) -> ExitCode
+fn run_over_file<R: Threads + Wait + Sync, S: Source, O: Sink, E: Sink>(
+    rt: &R,
+    alloc: Global,
+    words: &[String],
+    streams: &mut Streams<S, O, E>,
+    disk: FileDisk,
+) -> ExitCode
     requires small_disk { file_size disk ≤ 2 ^ 40 }
 {
     let mut disks = Vec::new(alloc);
@@ -63,19 +91,25 @@ fn run_over_file(rt: &HostRuntime, alloc: Global, words: &[String], disk: FileDi
     if add_disk(&mut disks, disk).is_err() {
         return ExitCode::from(OUT_OF_MEMORY);
     }
-    run_on(rt, alloc, words, disks)
+    run_on(rt, alloc, words, streams, disks)
 }
 
 /// Runs the job with the disk that is wished: over the file of its path, or in memory where it has none.
-pub fn run_with(rt: &HostRuntime, alloc: Global, words: &[String], wish: SwapWish) -> ExitCode
+pub fn run_with<R: Files<File = File> + Threads + Wait + Sync, S: Source, O: Sink, E: Sink>(
+    rt: &R,
+    alloc: Global,
+    words: &[String],
+    streams: &mut Streams<S, O, E>,
+    wish: SwapWish,
+) -> ExitCode
     requires small_wish { wish.size ≤ 2 ^ 40 }
 {
     let SwapWish { path, size } = wish;
     if let Some(path) = path {
-        return run_over_file(rt, alloc, words, FileDisk::at(rt, path.as_str(), size));
+        return run_over_file(rt, alloc, words, streams, FileDisk::at(rt, path.as_str(), size));
     }
     let Ok(disk) = MemDisk::new(alloc, size, Vec::new(alloc)) else {
         return ExitCode::from(OUT_OF_MEMORY);
     };
-    run_in_memory(rt, alloc, words, disk)
+    run_in_memory(rt, alloc, words, streams, disk)
 }
