@@ -4,6 +4,7 @@ ghost use Rattle.std.specs.Prelude.{◌≡◌, ◌≤◌, ◌^◌, IfOk, length}
 ghost use Rattle.sj_edge.specs.Sizes.{AreWithin};
 
 use crate::top::{Outcome, starjob};
+use sj_base::memory::OutOfMemory;
 use sj_edge::disk::{Disk, add_disk};
 use sj_edge::gate::{Gate, OpenGate};
 use sj_edge::memory_disk::MemDisk;
@@ -54,33 +55,36 @@ pub fn calls(alloc: Global, numbers: &[u64]) -> Result<Vec<u64>, Fail> {
     Ok(Vec::from_slice(alloc, numbers)?)
 }
 
-/// A disk of so many bytes that refuses the calls with these numbers.
-pub fn refusing_disk(alloc: Global, size: u32, numbers: &[u64]) -> Result<MemDisk, Fail>
-    ensures { IfOk result (λ d. length d.bytes ≤ 2 ^ 40) }
-{
-    Ok(MemDisk::new(alloc, size as u64, calls(alloc, numbers)?)?)
-}
-
-/// A disk of so many bytes that never fails.
-pub fn whole_disk(alloc: Global, size: u32) -> Result<MemDisk, Fail>
-    ensures { IfOk result (λ d. length d.bytes ≤ 2 ^ 40) }
-{
-    refusing_disk(alloc, size, &[])
-}
-
 /// The disks of a call that has one.
-pub fn one<D: Disk + Send + 'static>(
+pub fn one(
     alloc: Global,
-    disk: D,
-) -> Result<Vec<Box<dyn Disk + Send>>, Fail>
-    requires { D.size disk ≤ 2 ^ 40 }
+    disk: Box<dyn Disk + Send>,
+) -> Result<Vec<Box<dyn Disk + Send>>, OutOfMemory>
+    requires { ⟦<Box<dyn Disk + Send> as Disk>⟧.size disk ≤ 2 ^ 40 }
     ensures one { IfOk result (λ disks. length disks.items ≡ 1) }
     ensures small { IfOk result (λ disks.
         AreWithin ⟦<Box<dyn Disk + Send> as Disk>⟧.size (2 ^ 40) disks.items) }
 {
     let mut disks = Vec::new(alloc);
-    add_disk(&mut disks, Box::new(alloc, disk)?)?;
+    add_disk(&mut disks, disk)?;
     Ok(disks)
+}
+
+/// A disk of so many bytes in memory, which refuses the calls with these numbers.
+pub fn memory(alloc: Global, size: u32, refused: &[u64]) -> Result<MemDisk, Fail>
+    ensures { IfOk result (λ d. length d.bytes ≤ 2 ^ 40) }
+{
+    Ok(MemDisk::new(alloc, size as u64, calls(alloc, refused)?)?)
+}
+
+/// The disks of a call that has one of so many bytes, which never fails.
+pub fn whole(alloc: Global, size: u32) -> Result<Vec<Box<dyn Disk + Send>>, Fail>
+    ensures one { IfOk result (λ disks. length disks.items ≡ 1) }
+    ensures small { IfOk result (λ disks.
+        AreWithin ⟦<Box<dyn Disk + Send> as Disk>⟧.size (2 ^ 40) disks.items) }
+{
+    let disk = memory(alloc, size, &[])?;
+    Ok(one(alloc, Box::new(alloc, disk)?)?)
 }
 
 /// Calls without words, with one disk.
@@ -91,7 +95,7 @@ pub fn call<R: Threads + Wait + Sync, S: Source, O: Sink, E: Sink>(
     out: &mut O,
     err: &mut E,
 ) -> Result<Outcome, Fail> {
-    let disks = one(alloc, whole_disk(alloc, DISK)?)?;
+    let disks = whole(alloc, DISK)?;
     Ok(starjob(rt, alloc, &[], source, out, err, disks, &OpenGate))
 }
 
@@ -125,12 +129,12 @@ pub fn answer_on<G: Gate, R: Threads + Wait + Sync>(
 }
 
 /// The answer to a job text without words, on one disk.
-pub fn answer<R: Threads + Wait + Sync>(
+pub fn answer_to<R: Threads + Wait + Sync>(
     rt: &R,
     alloc: Global,
     text: &[u8],
 ) -> Result<Answer, Fail> {
-    let disks = one(alloc, whole_disk(alloc, DISK)?)?;
+    let disks = whole(alloc, DISK)?;
     answer_on(rt, alloc, &[], text, disks, &OpenGate)
 }
 
@@ -148,7 +152,7 @@ pub fn all_print<R: Threads + Wait + Abort + Sync>(
     cases: &[Printing],
 ) -> Result<(), Fail> {
     for case in cases {
-        let answer = answer(rt, alloc, case.text.as_bytes())?;
+        let answer = answer_to(rt, alloc, case.text.as_bytes())?;
         assert_eq!(rt; answer.outcome.status.code(), 0, "{}", case.shows);
         assert_eq!(rt; answer.out.taken(), case.out.as_bytes(), "{}", case.shows);
         assert!(rt; answer.err.taken().is_empty(), "{}", case.shows);
@@ -170,7 +174,7 @@ pub fn all_are_refused<R: Threads + Wait + Abort + Sync>(
     cases: &[Refusal],
 ) -> Result<(), Fail> {
     for case in cases {
-        let answer = answer(rt, alloc, case.text.as_bytes())?;
+        let answer = answer_to(rt, alloc, case.text.as_bytes())?;
         assert_eq!(rt; answer.outcome.status.code(), 3, "{}", case.shows);
         assert!(rt; answer.out.taken().is_empty(), "{}", case.shows);
         assert_eq!(rt; answer.err.taken(), case.err.as_bytes(), "{}", case.shows);

@@ -2,8 +2,8 @@
 
 use crate::status::Status;
 use crate::test_calls::{
-    Printing, Refusal, SUM, all_are_refused, all_print, answer, answer_on, bytes, call, calls, one,
-    whole_disk,
+    Printing, Refusal, SUM, all_are_refused, all_print, answer_on, answer_to, bytes, call, calls,
+    memory, whole,
 };
 use sj_base::ids::{Line, Task, Worker};
 use sj_base::trace::Event;
@@ -481,8 +481,8 @@ fn an_out_that_fails_gives_its_fault_and_a_failing_err_is_ignored(
 #[test]
 fn words_are_not_accepted_and_disks_come_back_in_order(rt: HostRuntime) -> Result<(), Fail> {
     let alloc = rt.alloc();
-    let mut disks = one(alloc, whole_disk(alloc, 64)?)?;
-    add_disk(&mut disks, Box::new(alloc, whole_disk(alloc, 32)?)?)?;
+    let mut disks = whole(alloc, 64)?;
+    add_disk(&mut disks, Box::new(alloc, memory(alloc, 32, &[])?)?)?;
     let words = ["--workers"];
     let answer = answer_on(&rt, alloc, &words, SUM.as_bytes(), disks, &OpenGate)?;
     assert_eq!(rt; answer.outcome.status, Status::Usage);
@@ -515,8 +515,8 @@ fn a_text_is_read_up_to_its_limit_of_bytes(rt: HostRuntime) -> Result<(), Fail> 
 fn a_sum_is_traced_as_claim_run_and_end_of_four_tasks_in_order(
     rt: HostRuntime,
 ) -> Result<(), Fail> {
-    let answer = answer(&rt, rt.alloc(), SUM.as_bytes())?;
-    let trace = answer.outcome.trace;
+    let answer = answer_to(&rt, rt.alloc(), SUM.as_bytes())?;
+    let trace = &answer.outcome.trace;
     let worker = Worker(0);
     assert_eq!(rt; answer.outcome.status, Status::Done);
     assert_eq!(rt; trace.len(), 12);
@@ -535,7 +535,7 @@ fn a_job_without_tasks_and_a_refused_job_have_an_empty_trace(rt: HostRuntime) ->
         ("starjob 1\n", 0u8),
         ("starjob 1\nvector x 2 values 1 2\nprint y\n", 3),
     ] {
-        let answer = answer(&rt, rt.alloc(), text.as_bytes())?;
+        let answer = answer_to(&rt, rt.alloc(), text.as_bytes())?;
         assert_eq!(rt; answer.outcome.status.code(), code);
         assert!(rt; answer.outcome.trace.is_empty());
     }

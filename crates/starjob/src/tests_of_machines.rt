@@ -1,7 +1,7 @@
 //! Whole jobs on machines: workers, policies, nodes that their tasks just fit, and disks for what doesn't fit them.
 
 use crate::status::Status;
-use crate::test_calls::{answer_on, one, whole_disk};
+use crate::test_calls::{answer_on, whole};
 use sj_base::ids::{Cell, DiskNo, Line, Node, Place, Task, Worker};
 use sj_base::trace::Event;
 use sj_edge::gate::{Gate, OpenGate};
@@ -31,7 +31,7 @@ fn prints_the_same<R: Threads + Wait + Abort + Sync>(
     words: &[&str],
     shows: &str,
 ) -> Result<(), Fail> {
-    let disks = one(alloc, whole_disk(alloc, ROUND_SWAP)?)?;
+    let disks = whole(alloc, ROUND_SWAP)?;
     let answer = answer_on(rt, alloc, words, ROUND.as_bytes(), disks, &OpenGate)?;
     assert_eq!(rt; answer.outcome.status, Status::Done, "{shows}");
     assert_eq!(rt; answer.out.taken(), ROUND_OUT.as_bytes(), "{shows}");
@@ -142,7 +142,7 @@ const FITTINGS: [Fitting; 6] = [
 #[test]
 fn jobs_run_where_they_fit_and_say_what_they_lack(rt: HostRuntime) -> Result<(), Fail> {
     for case in FITTINGS.iter() {
-        let disks = one(rt.alloc(), whole_disk(rt.alloc(), case.disk)?)?;
+        let disks = whole(rt.alloc(), case.disk)?;
         let text = case.text.as_bytes();
         let answer = answer_on(&rt, rt.alloc(), &[], text, disks, &OpenGate)?;
         let done = case.status == Status::Done;
@@ -208,10 +208,10 @@ const EVENTS: [Event; 20] = [
 
 #[test]
 fn the_one_used_longest_ago_is_evicted_and_fetched_again(rt: HostRuntime) -> Result<(), Fail> {
-    let disks = one(rt.alloc(), whole_disk(rt.alloc(), ROUND_SWAP)?)?;
+    let disks = whole(rt.alloc(), ROUND_SWAP)?;
     let words = ["--node", "48"];
     let answer = answer_on(&rt, rt.alloc(), &words, ROUND.as_bytes(), disks, &OpenGate)?;
-    let trace = answer.outcome.trace;
+    let trace = &answer.outcome.trace;
     assert_eq!(rt; answer.outcome.status, Status::Done);
     assert!(rt; trace.len() >= EVENTS.len());
     for i in 0..EVENTS.len() {
@@ -256,7 +256,7 @@ fn two_kernels_are_inside_at_once(rt: HostRuntime) -> Result<(), Fail> {
         inside: AtomicU64::new(0),
         met: AtomicU64::new(0),
     };
-    let disks = one(rt.alloc(), whole_disk(rt.alloc(), 64)?)?;
+    let disks = whole(rt.alloc(), 64)?;
     let words = ["--workers", "2"];
     let answer = answer_on(&rt, rt.alloc(), &words, APART.as_bytes(), disks, &gate)?;
     assert_eq!(rt; answer.outcome.status, Status::Done);

@@ -1,7 +1,7 @@
 //! Whole jobs over partition plans, from bytes to bytes, and the limits that are counted in lowering.
 
 use crate::status::Status;
-use crate::test_calls::{Printing, Refusal, all_are_refused, all_print, answer};
+use crate::test_calls::{Printing, Refusal, all_are_refused, all_print, answer_to};
 use std::alloc::Global;
 use std::process::Abort;
 use std::sync::Wait;
@@ -173,7 +173,7 @@ fn ends<R: Threads + Wait + Abort + Sync>(
     printed: usize,
     line: &str,
 ) -> Result<(), Fail> {
-    let answer = answer(rt, alloc, text)?;
+    let answer = answer_to(rt, alloc, text)?;
     assert_eq!(rt; answer.outcome.status.code(), code);
     assert_eq!(rt; answer.out.taken().len(), printed);
     assert_eq!(rt; answer.err.taken(), line.as_bytes());
@@ -255,7 +255,7 @@ fn many_printed(alloc: Global) -> Result<Vec<u8>, Fail> {
 #[test]
 fn a_job_of_over_4_thousand_of_everything_is_done(rt: HostRuntime) -> Result<(), Fail> {
     let alloc = rt.alloc();
-    let answer = answer(&rt, alloc, &many_of_all(alloc)?)?;
+    let answer = answer_to(&rt, alloc, &many_of_all(alloc)?)?;
     assert_eq!(rt; answer.outcome.status, Status::Done);
     assert!(rt; answer.out.taken() == many_printed(alloc)?.as_slice());
     assert!(rt; answer.err.taken().is_empty());

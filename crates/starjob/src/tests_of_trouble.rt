@@ -3,7 +3,7 @@
 ghost use Rattle.std.specs.Prelude.{◌+◌, ◌≤◌, ◌^◌, None, length};
 
 use crate::status::Status;
-use crate::test_calls::{Answer, answer_on, one, refusing_disk, whole_disk};
+use crate::test_calls::{Answer, answer_on, memory, one};
 use crate::tests_of_machines::{ROUND, ROUND_OUT, ROUND_SWAP};
 use sj_base::ids::{DiskNo, Task};
 use sj_disk::header::Header;
@@ -22,14 +22,14 @@ use std::test::Fail;
 use std::thread::Threads;
 
 /// The answer to a `ROUND` by so many workers on a node that holds two of its vectors, with this disk.
-fn answer_tight<D: Disk + Send + 'static, G: Gate, R: Threads + Wait + Sync>(
+fn answer_tight<G: Gate, R: Threads + Wait + Sync>(
     rt: &R,
     alloc: Global,
     workers: &str,
-    disk: D,
+    disk: Box<dyn Disk + Send>,
     gate: &G,
 ) -> Result<Answer, Fail>
-    requires { D.size disk ≤ 2 ^ 40 }
+    requires { ⟦<Box<dyn Disk + Send> as Disk>⟧.size disk ≤ 2 ^ 40 }
 {
     let words = ["--workers", workers, "--node", "48"];
     let disks = one(alloc, disk)?;
@@ -60,7 +60,7 @@ fn is_refused<R: Threads + Wait + Abort + Sync>(
     workers: &str,
     call: u64,
 ) -> Result<bool, Fail> {
-    let disk = refusing_disk(alloc, ROUND_SWAP, &[call])?;
+    let disk = Box::new(alloc, memory(alloc, ROUND_SWAP, &[call])?)?;
     let mut answer = answer_tight(rt, alloc, workers, disk, &OpenGate)?;
     assert_eq!(rt; answer.outcome.disks.len(), 1);
     if refuses(&mut answer.outcome.disks[0], call) {
@@ -76,10 +76,10 @@ fn is_refused<R: Threads + Wait + Abort + Sync>(
 #[test]
 fn each_call_that_a_disk_refuses_one_worker_ends_the_run(rt: HostRuntime) -> Result<(), Fail> {
     let mut refused = 0;
-    for call in 1..=40 {
-        if is_refused(&rt, rt.alloc(), "1", call)? {
-            assert_eq!(rt; refused + 1, call);
-            refused = call;
+    for before in 0..40 {
+        if is_refused(&rt, rt.alloc(), "1", before + 1)? {
+            assert_eq!(rt; refused, before);
+            refused = before + 1;
         }
     }
     assert!(rt; refused >= 6);
@@ -146,7 +146,8 @@ impl Disk for FalseDisk {
     }
 
     fn read(&mut self, at: u64, buf: &mut [u8]) -> Result<(), Failed> {
-        self.disk.read(self.place(at, buf.len() as u64), buf)
+        let place = self.place(at, buf.len() as u64);
+        self.disk.read(place, buf)
     }
 
     fn write(&mut self, at: u64, bytes: &[u8]) -> Result<(), Failed> {
@@ -157,7 +158,8 @@ impl Disk for FalseDisk {
     }
 
     fn check(&mut self, at: u64, want: &[u8; 24]) -> Result<(), CheckFault> {
-        self.disk.check(self.place(at, 24), want)
+        let place = self.place(at, 24);
+        self.disk.check(place, want)
     }
 }
 
@@ -169,10 +171,10 @@ fn is_damaged<R: Threads + Wait + Abort + Sync>(
     found: Header,
 ) -> Result<(), Fail> {
     let disk = FalseDisk {
-        disk: whole_disk(alloc, ROUND_SWAP)?,
+        disk: memory(alloc, ROUND_SWAP, &[])?,
         loses,
     };
-    let answer = answer_tight(rt, alloc, "1", disk, &OpenGate)?;
+    let answer = answer_tight(rt, alloc, "1", Box::new(alloc, disk)?, &OpenGate)?;
     let want = Header {
         cell: 0,
         writes: 1,
@@ -209,6 +211,7 @@ fn a_disk_that_answers_with_another_block_is_damaged(rt: HostRuntime) -> Result<
 #[test]
 fn a_device_without_room_is_a_fault(rt: HostRuntime) -> Result<(), Fail> {
     let disk = FileDisk::at(&rt, "/dev/full", ROUND_SWAP as u64);
+    let disk = Box::new(rt.alloc(), disk)?;
     let answer = answer_tight(&rt, rt.alloc(), "1", disk, &OpenGate)?;
     is_failed(&rt, &answer);
     Ok(())
@@ -239,6 +242,7 @@ impl<R: Files<File = File> + Sync> Gate for Cutting<'_, R> {
 fn a_file_that_is_cut_off_is_a_fault(rt: HostRuntime) -> Result<(), Fail> {
     let _ = fs::remove_file(&rt, FILE);
     let disk = FileDisk::at(&rt, FILE, ROUND_SWAP as u64);
+    let disk = Box::new(rt.alloc(), disk)?;
     let answer = answer_tight(&rt, rt.alloc(), "1", disk, &Cutting { rt: &rt })?;
     is_failed(&rt, &answer);
     fs::remove_file(&rt, FILE)?;
