@@ -10,7 +10,10 @@ use Rattle.sj_job.specs.Settings.{nodes_of, policy_set, workers_of}
 use Rattle.sj_job.specs.declared.settings.Settings.{Settings}
 use Rattle.sj_lower.specs.Limits.{late_limit}
 use Rattle.sj_lower.specs.Lowering.{lowered}
+use Rattle.sj_minplus.specs.Has.{library_has}
 use Rattle.sj_words.specs.Machine.{machine_by}
+use Rattle.sj_words.specs.Options.{options}
+use Rattle.sj_words.specs.Spelling.{Text}
 use Rattle.sj_words.specs.declared.options.Options.{Options}
 
 -- statements, the machine that is to run them, and whether the trace's text is to follow what they print
@@ -50,7 +53,11 @@ work_of has o disks text = asked_by o disks (job_of has text)
 
 -- what is asked for, where the words are accepted and the source tells its bytes
 abbrev pub work_told : (Kernel → Bool) → Option Options → List ℕ → Option (List ℕ) → Option WorkOrRefusal
-work_told has o disks source = option_and_then (λ options. option_map (work_of has options disks) source) o
+work_told has o disks source = option_and_then (λ said. option_map (work_of has said disks) source) o
+
+-- what is asked for by the words of a command line and a job text, of the codelets of the program and disks with these sizes
+abbrev pub asked_of : List Text → List ℕ → Option (List ℕ) → Option WorkOrRefusal
+asked_of words sizes source = work_told library_has (options words) sizes source
 
 -- of the work that is asked for, where that is told and isn't refused, this is true
 abbrev pub OfWork : Option WorkOrRefusal → (Work → Type 0) → Type 0

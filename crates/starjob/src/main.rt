@@ -39,7 +39,7 @@ use std::io::ErrorKind;
 use std::process::ExitCode;
 use std::sync::Wait;
 use std::thread::Threads;
-use top::starjob;
+use top::{AnyDisk, starjob};
 
 /// The exit code where memory runs out before the job is begun.
 const OUT_OF_MEMORY: u8 = 10;
@@ -68,10 +68,10 @@ fn run_on<R: Threads + Wait + Sync, S: Source, O: Sink, E: Sink>(
     source: &mut S,
     out: &mut O,
     err: &mut E,
-    disks: Vec<Box<dyn Disk + Send>>,
+    disks: Vec<AnyDisk>,
 ) -> ExitCode
     requires few_disks { length disks.items ≤ 16 }
-    requires small_disks { AreWithin ⟦<Box<dyn Disk + Send> as Disk>⟧.size (2 ^ 40) disks.items }
+    requires small_disks { AreWithin ⟦<AnyDisk as Disk>⟧.size (2 ^ 40) disks.items }
 {
     let outcome = starjob(rt, alloc, words, source, out, err, disks, &OpenGate);
     ExitCode::from(outcome.status.code())

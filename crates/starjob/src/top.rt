@@ -19,7 +19,7 @@ ghost use Rattle.starjob.specs.Disks.{NoneRose};
 ghost use Rattle.starjob.specs.Report.{line_of, TakesLine};
 ghost use Rattle.starjob.specs.Traces.{HasOwnCodelets};
 ghost use Rattle.starjob.specs.Top.{CanBeRun, DiskHasFailed, DiskIsDamaged, IsBeforeTheRun, IsBeforeWriting, IsDoneOrOutOfMemory, IsUsageOrOutOfMemory, JobIsDone, JobIsRefused, JobIsTooLarge, MemoryRanOut, PrintsNothing, SinkHasFailed, SourceHasFailed, SwapIsTooSmall};
-ghost use Rattle.starjob.specs.Work.{OfWork, TellsWork, program_of, work_of, work_told};
+ghost use Rattle.starjob.specs.Work.{OfWork, TellsWork, asked_of, program_of, work_of};
 
 use crate::report::report;
 use crate::running::{Run, run_text};
@@ -38,12 +38,15 @@ use std::alloc::Global;
 use std::sync::Wait;
 use std::thread::Threads;
 
+/// A disk of any kind.
+pub type AnyDisk = Box<dyn Disk + Send>;
+
 /// How a job ended, the trace of its run, and the disks that were handed in.
 #[derive(Drop)]
 pub struct Outcome {
     pub status: Status,
     pub trace: Trace,
-    pub disks: Vec<Box<dyn Disk + Send>>,
+    pub disks: Vec<AnyDisk>,
 }
 
 /// How a job ended, the events of its run, and the disks.
@@ -186,16 +189,15 @@ where
     ensures usage_stays { result.status ≡ Status.Usage → source.new ≡ source.old }
     ensures usage_trace { result.status ≡ Status.Usage → result.trace.events ≡ [] }
     ensures answered { result.status ≢ Status.Usage → Answered
-        (work_told library_has (options_of (texts words.now)) (map D.size disks.items)
-        (S.left source.old)) (AllTell D.held disks.items) result.status
+        (asked_of (texts words.now) (map D.size disks.items) (S.left source.old))
+        (AllTell D.held disks.items) result.status
         (seen S.left S.faults source.old) (seen S.left S.faults source.new)
         (seen O.taken O.faults out.old) (seen O.taken O.faults out.new) result.trace.events }
     ensures disks { LeavesDisks D.size D.faults D.mismatches D.held
-        (work_told library_has (options_of (texts words.now)) (map D.size disks.items)
-        (S.left source.old)) result.status result.trace.events disks.items result.disks.items }
+        (asked_of (texts words.now) (map D.size disks.items) (S.left source.old))
+        result.status result.trace.events disks.items result.disks.items }
     ensures complete { CanBeRun
-        (work_told library_has (options_of (texts words.now)) (map D.size disks.items)
-        (S.left source.old)) →
+        (asked_of (texts words.now) (map D.size disks.items) (S.left source.old)) →
         ¬ (Rose (S.faults source.old) (S.faults source.new)) →
         ¬ (Rose (O.faults out.old) (O.faults out.new)) →
         NoneRose (map D.faults disks.items) (map D.faults result.disks.items) →
@@ -203,8 +205,8 @@ where
         IsDoneOrOutOfMemory result.status }
     ensures out_stays { IsBeforeWriting result.status → out.new ≡ out.old }
     ensures out_stays_in_silence { TellsWork
-        (work_told library_has (options_of (texts words.now)) (map D.size disks.items)
-        (S.left source.old)) PrintsNothing → out.new ≡ out.old }
+        (asked_of (texts words.now) (map D.size disks.items) (S.left source.old))
+        PrintsNothing → out.new ≡ out.old }
 {
     match read_words(alloc, words) {
         Ok(options) => run_source(rt, alloc, &options, source, out, disks, &Library, gate),
@@ -227,11 +229,11 @@ pub fn starjob<R: Threads + Wait + Sync, S: Source, O: Sink, E: Sink, G: Gate>(
     source: &mut S,
     out: &mut O,
     err: &mut E,
-    disks: Vec<Box<dyn Disk + Send>>,
+    disks: Vec<AnyDisk>,
     gate: &G,
 ) -> Outcome
     requires few_disks { length disks.items ≤ 16 }
-    requires small_disks { AreWithin ⟦<Box<dyn Disk + Send> as Disk>⟧.size (2 ^ 40) disks.items }
+    requires small_disks { AreWithin ⟦<AnyDisk as Disk>⟧.size (2 ^ 40) disks.items }
 
     // Words that aren't accepted, and only these, are answered by Usage, unless memory runs out. Nothing is done then.
     ensures usage { result.status ≡ Status.Usage → options_of (texts words.now) ≡ None }
@@ -243,82 +245,71 @@ pub fn starjob<R: Threads + Wait + Sync, S: Source, O: Sink, E: Sink, G: Gate>(
     // Done means that `out` took the text of the arrays that the job prints, for the workers, nodes and policy asked for and however
     // the workers' turns fell; that the source was read to its end, that each task ran once, and that no device failed.
     ensures done { result.status ≡ Status.Done → JobIsDone
-        (work_told library_has (options_of (texts words.now))
-        (map ⟦<Box<dyn Disk + Send> as Disk>⟧.size disks.items) (S.left source.old))
-        (AllTell ⟦<Box<dyn Disk + Send> as Disk>⟧.held disks.items)
+        (asked_of (texts words.now) (map ⟦<AnyDisk as Disk>⟧.size disks.items) (S.left source.old))
+        (AllTell ⟦<AnyDisk as Disk>⟧.held disks.items)
         (seen S.left S.faults source.old) (seen S.left S.faults source.new)
         (seen O.taken O.faults out.old) (seen O.taken O.faults out.new) result.trace.events }
     ensures no_fault_is_swallowed { result.status ≡ Status.Done →
-        CountsStay ⟦<Box<dyn Disk + Send> as Disk>⟧.faults
-        ⟦<Box<dyn Disk + Send> as Disk>⟧.mismatches disks.items result.disks.items }
+        CountsStay ⟦<AnyDisk as Disk>⟧.faults
+        ⟦<AnyDisk as Disk>⟧.mismatches disks.items result.disks.items }
     ensures blocks { result.status ≡ Status.Done →
-        AllTell ⟦<Box<dyn Disk + Send> as Disk>⟧.held disks.items → OfWork
-        (work_told library_has (options_of (texts words.now))
-        (map ⟦<Box<dyn Disk + Send> as Disk>⟧.size disks.items) (S.left source.old))
-        (λ w. HoldBlocks ⟦<Box<dyn Disk + Send> as Disk>⟧.held (program_of w) w.machine
+        AllTell ⟦<AnyDisk as Disk>⟧.held disks.items → OfWork
+        (asked_of (texts words.now) (map ⟦<AnyDisk as Disk>⟧.size disks.items) (S.left source.old))
+        (λ w. HoldBlocks ⟦<AnyDisk as Disk>⟧.held (program_of w) w.machine
         result.trace.events result.disks.items) }
 
     // Each other status has its cause.
     ensures refused { (line : Line) → (reason : Reason) →
         result.status ≡ Status.Refused line reason → JobIsRefused
-        (work_told library_has (options_of (texts words.now))
-        (map ⟦<Box<dyn Disk + Send> as Disk>⟧.size disks.items) (S.left source.old)) line reason
+        (asked_of (texts words.now) (map ⟦<AnyDisk as Disk>⟧.size disks.items) (S.left source.old)) line reason
         (seen S.left S.faults source.old) (seen S.left S.faults source.new) result.trace.events }
     ensures too_large { (line : Line) → (bytes : ℕ) →
         result.status ≡ Status.TooLarge line bytes → JobIsTooLarge
-        (work_told library_has (options_of (texts words.now))
-        (map ⟦<Box<dyn Disk + Send> as Disk>⟧.size disks.items) (S.left source.old)) line bytes
+        (asked_of (texts words.now) (map ⟦<AnyDisk as Disk>⟧.size disks.items) (S.left source.old)) line bytes
         (seen S.left S.faults source.old) (seen S.left S.faults source.new) result.trace.events }
     ensures swap_too_small { (needed : ℕ) → (have : ℕ) →
         result.status ≡ Status.SwapTooSmall needed have → SwapIsTooSmall
-        (work_told library_has (options_of (texts words.now))
-        (map ⟦<Box<dyn Disk + Send> as Disk>⟧.size disks.items) (S.left source.old)) needed have
+        (asked_of (texts words.now) (map ⟦<AnyDisk as Disk>⟧.size disks.items) (S.left source.old)) needed have
         (seen S.left S.faults source.old) (seen S.left S.faults source.new) result.trace.events }
     ensures disk_fault { (disk : DiskNo) → result.status ≡ Status.DiskFault disk → DiskHasFailed
-        (work_told library_has (options_of (texts words.now))
-        (map ⟦<Box<dyn Disk + Send> as Disk>⟧.size disks.items) (S.left source.old)) disk
-        (map ⟦<Box<dyn Disk + Send> as Disk>⟧.faults disks.items)
-        (map ⟦<Box<dyn Disk + Send> as Disk>⟧.faults result.disks.items)
+        (asked_of (texts words.now) (map ⟦<AnyDisk as Disk>⟧.size disks.items) (S.left source.old)) disk
+        (map ⟦<AnyDisk as Disk>⟧.faults disks.items)
+        (map ⟦<AnyDisk as Disk>⟧.faults result.disks.items)
         (seen S.left S.faults source.old) (seen S.left S.faults source.new) result.trace.events }
     ensures damaged { (disk : DiskNo) → (want : Header) → (found : Header) →
         result.status ≡ Status.Damaged disk want found → DiskIsDamaged
-        (work_told library_has (options_of (texts words.now))
-        (map ⟦<Box<dyn Disk + Send> as Disk>⟧.size disks.items) (S.left source.old))
-        disk want found (AllTell ⟦<Box<dyn Disk + Send> as Disk>⟧.held disks.items)
-        (map ⟦<Box<dyn Disk + Send> as Disk>⟧.mismatches disks.items)
-        (map ⟦<Box<dyn Disk + Send> as Disk>⟧.mismatches result.disks.items)
+        (asked_of (texts words.now) (map ⟦<AnyDisk as Disk>⟧.size disks.items) (S.left source.old))
+        disk want found (AllTell ⟦<AnyDisk as Disk>⟧.held disks.items)
+        (map ⟦<AnyDisk as Disk>⟧.mismatches disks.items)
+        (map ⟦<AnyDisk as Disk>⟧.mismatches result.disks.items)
         (seen S.left S.faults source.old) (seen S.left S.faults source.new) result.trace.events }
     ensures source_fault { result.status ≡ Status.SourceFault → SourceHasFailed
         (seen S.left S.faults source.old) (seen S.left S.faults source.new) result.trace.events }
     ensures sink_fault { result.status ≡ Status.SinkFault → SinkHasFailed
-        (work_told library_has (options_of (texts words.now))
-        (map ⟦<Box<dyn Disk + Send> as Disk>⟧.size disks.items) (S.left source.old))
-        (AllTell ⟦<Box<dyn Disk + Send> as Disk>⟧.held disks.items)
+        (asked_of (texts words.now) (map ⟦<AnyDisk as Disk>⟧.size disks.items) (S.left source.old))
+        (AllTell ⟦<AnyDisk as Disk>⟧.held disks.items)
         (seen S.left S.faults source.old) (seen S.left S.faults source.new)
         (seen O.taken O.faults out.old) (seen O.taken O.faults out.new) result.trace.events }
     ensures out_of_memory { result.status ≡ Status.OutOfMemory → MemoryRanOut
-        (work_told library_has (options_of (texts words.now))
-        (map ⟦<Box<dyn Disk + Send> as Disk>⟧.size disks.items) (S.left source.old))
+        (asked_of (texts words.now) (map ⟦<AnyDisk as Disk>⟧.size disks.items) (S.left source.old))
         (seen S.left S.faults source.old) (seen S.left S.faults source.new) result.trace.events }
 
     // A job that isn't refused, whose tasks fit the nodes and whose blocks fit the disks, on devices that don't fail, is done, unless
     // memory runs out.
     ensures complete { CanBeRun
-        (work_told library_has (options_of (texts words.now))
-        (map ⟦<Box<dyn Disk + Send> as Disk>⟧.size disks.items) (S.left source.old)) →
+        (asked_of (texts words.now) (map ⟦<AnyDisk as Disk>⟧.size disks.items) (S.left source.old)) →
         ¬ (Rose (S.faults source.old) (S.faults source.new)) →
         ¬ (Rose (O.faults out.old) (O.faults out.new)) →
-        NoneRose (map ⟦<Box<dyn Disk + Send> as Disk>⟧.faults disks.items)
-        (map ⟦<Box<dyn Disk + Send> as Disk>⟧.faults result.disks.items) →
-        NoneRose (map ⟦<Box<dyn Disk + Send> as Disk>⟧.mismatches disks.items)
-        (map ⟦<Box<dyn Disk + Send> as Disk>⟧.mismatches result.disks.items) →
+        NoneRose (map ⟦<AnyDisk as Disk>⟧.faults disks.items)
+        (map ⟦<AnyDisk as Disk>⟧.faults result.disks.items) →
+        NoneRose (map ⟦<AnyDisk as Disk>⟧.mismatches disks.items)
+        (map ⟦<AnyDisk as Disk>⟧.mismatches result.disks.items) →
         IsDoneOrOutOfMemory result.status }
 
     // `out` isn't called before all was run, nor where nothing is printed.
     ensures out_stays_before_writing { IsBeforeWriting result.status → out.new ≡ out.old }
     ensures out_stays_in_silence { TellsWork
-        (work_told library_has (options_of (texts words.now))
-        (map ⟦<Box<dyn Disk + Send> as Disk>⟧.size disks.items) (S.left source.old))
+        (asked_of (texts words.now) (map ⟦<AnyDisk as Disk>⟧.size disks.items) (S.left source.old))
         PrintsNothing → out.new ≡ out.old }
 
     // One line goes to `err`, or none.
@@ -326,13 +317,13 @@ pub fn starjob<R: Threads + Wait + Sync, S: Source, O: Sink, E: Sink, G: Gate>(
         (seen E.taken E.faults err.old) (seen E.taken E.faults err.new) (line_of result.status) }
 
     // The disks come back, and before the run begins no call of them is made but that of their sizes.
-    ensures disks_come_back { AreGivenBack ⟦<Box<dyn Disk + Send> as Disk>⟧.size
-        ⟦<Box<dyn Disk + Send> as Disk>⟧.faults ⟦<Box<dyn Disk + Send> as Disk>⟧.mismatches
-        ⟦<Box<dyn Disk + Send> as Disk>⟧.held disks.items result.disks.items }
+    ensures disks_come_back { AreGivenBack ⟦<AnyDisk as Disk>⟧.size
+        ⟦<AnyDisk as Disk>⟧.faults ⟦<AnyDisk as Disk>⟧.mismatches
+        ⟦<AnyDisk as Disk>⟧.held disks.items result.disks.items }
     ensures disks_stay_before_the_run { IsBeforeTheRun result.status →
-        AreUntouched ⟦<Box<dyn Disk + Send> as Disk>⟧.size
-        ⟦<Box<dyn Disk + Send> as Disk>⟧.faults ⟦<Box<dyn Disk + Send> as Disk>⟧.mismatches
-        ⟦<Box<dyn Disk + Send> as Disk>⟧.held disks.items result.disks.items }
+        AreUntouched ⟦<AnyDisk as Disk>⟧.size
+        ⟦<AnyDisk as Disk>⟧.faults ⟦<AnyDisk as Disk>⟧.mismatches
+        ⟦<AnyDisk as Disk>⟧.held disks.items result.disks.items }
 {
     let answer = answer_words(rt, alloc, words, source, out, disks, gate);
     report(answer.status, err);
