@@ -3,7 +3,7 @@
 ghost use Rattle.std.specs.Prelude.{◌≡◌, ◌≤◌, ◌^◌, IfOk, length};
 ghost use Rattle.sj_edge.specs.Sizes.{AreWithin};
 
-use crate::top::{Outcome, starjob};
+use crate::top::{AnyDisk, Outcome, starjob};
 use sj_base::memory::OutOfMemory;
 use sj_edge::disk::{Disk, add_disk};
 use sj_edge::gate::{Gate, OpenGate};
@@ -22,11 +22,11 @@ use std::thread::Threads;
 pub const SUM: &str =
     "starjob 1\nvector x 3 values 1 2 3\nvector y 3 values 10 20 30\ntask add x:R y:RW\nprint y\n";
 
-/// The bytes of a disk that takes all blocks of a job.
-const DISK: u32 = 1 << 26;
+/// The bytes of a disk that takes all blocks of a small job.
+const DISK: u32 = 1 << 16;
 
-/// The bytes that `out` and `err` have room for.
-const ROOM: u64 = 1 << 20;
+/// The bytes that `out` has room for.
+const ROOM: u64 = 1 << 19;
 
 /// How a call ended, and what was written.
 #[derive(Drop)]
@@ -56,14 +56,11 @@ pub fn calls(alloc: Global, numbers: &[u64]) -> Result<Vec<u64>, Fail> {
 }
 
 /// The disks of a call that has one.
-pub fn one(
-    alloc: Global,
-    disk: Box<dyn Disk + Send>,
-) -> Result<Vec<Box<dyn Disk + Send>>, OutOfMemory>
-    requires { ⟦<Box<dyn Disk + Send> as Disk>⟧.size disk ≤ 2 ^ 40 }
+pub fn one(alloc: Global, disk: AnyDisk) -> Result<Vec<AnyDisk>, OutOfMemory>
+    requires { ⟦<AnyDisk as Disk>⟧.size disk ≤ 2 ^ 40 }
     ensures one { IfOk result (λ disks. length disks.items ≡ 1) }
     ensures small { IfOk result (λ disks.
-        AreWithin ⟦<Box<dyn Disk + Send> as Disk>⟧.size (2 ^ 40) disks.items) }
+        AreWithin ⟦<AnyDisk as Disk>⟧.size (2 ^ 40) disks.items) }
 {
     let mut disks = Vec::new(alloc);
     add_disk(&mut disks, disk)?;
@@ -78,16 +75,16 @@ pub fn memory(alloc: Global, size: u32, refused: &[u64]) -> Result<MemDisk, Fail
 }
 
 /// The disks of a call that has one of so many bytes, which never fails.
-pub fn whole(alloc: Global, size: u32) -> Result<Vec<Box<dyn Disk + Send>>, Fail>
+pub fn whole(alloc: Global, size: u32) -> Result<Vec<AnyDisk>, Fail>
     ensures one { IfOk result (λ disks. length disks.items ≡ 1) }
     ensures small { IfOk result (λ disks.
-        AreWithin ⟦<Box<dyn Disk + Send> as Disk>⟧.size (2 ^ 40) disks.items) }
+        AreWithin ⟦<AnyDisk as Disk>⟧.size (2 ^ 40) disks.items) }
 {
     let disk = memory(alloc, size, &[])?;
     Ok(one(alloc, Box::new(alloc, disk)?)?)
 }
 
-/// Calls without words, with one disk.
+/// Calls for a small job without words, with one disk.
 pub fn call<R: Threads + Wait + Sync, S: Source, O: Sink, E: Sink>(
     rt: &R,
     alloc: Global,
@@ -105,16 +102,16 @@ pub fn answer_on<G: Gate, R: Threads + Wait + Sync>(
     alloc: Global,
     words: &[&str],
     text: &[u8],
-    disks: Vec<Box<dyn Disk + Send>>,
+    disks: Vec<AnyDisk>,
     gate: &G,
 ) -> Result<Answer, Fail>
     requires few { length disks.items ≤ 16 }
-    requires small { AreWithin ⟦<Box<dyn Disk + Send> as Disk>⟧.size (2 ^ 40) disks.items }
+    requires small { AreWithin ⟦<AnyDisk as Disk>⟧.size (2 ^ 40) disks.items }
 {
     let words = words_of(alloc, words)?;
     let mut source = MemSource::new(Vec::from_slice(alloc, text)?, Vec::new(alloc));
     let mut out = MemSink::new(alloc, ROOM, Vec::new(alloc))?;
-    let mut err = MemSink::new(alloc, ROOM, Vec::new(alloc))?;
+    let mut err = MemSink::new(alloc, 1000, Vec::new(alloc))?;
     let outcome = starjob(
         rt,
         alloc,
@@ -128,7 +125,7 @@ pub fn answer_on<G: Gate, R: Threads + Wait + Sync>(
     Ok(Answer { outcome, out, err })
 }
 
-/// The answer to a job text without words, on one disk.
+/// The answer to a small job without words, on one disk.
 pub fn answer_to<R: Threads + Wait + Sync>(
     rt: &R,
     alloc: Global,

@@ -1,7 +1,8 @@
 //! Whole jobs over partition plans, from bytes to bytes, and the limits that are counted in lowering.
 
 use crate::status::Status;
-use crate::test_calls::{Printing, Refusal, all_are_refused, all_print, answer_to};
+use crate::test_calls::{Answer, Printing, Refusal, all_are_refused, all_print, answer_on, whole};
+use sj_edge::gate::OpenGate;
 use std::alloc::Global;
 use std::process::Abort;
 use std::sync::Wait;
@@ -164,6 +165,18 @@ fn push_printed(text: &mut Vec<u8>, prints: u32) -> Result<(), Fail> {
     Ok(())
 }
 
+/// The bytes of a disk that takes the blocks of as many cells as the limit, of one element each.
+const DISK: u32 = 1 << 23;
+
+/// The answer to a job of up to so many cells.
+fn answer_large<R: Threads + Wait + Sync>(
+    rt: &R,
+    alloc: Global,
+    text: &[u8],
+) -> Result<Answer, Fail> {
+    answer_on(rt, alloc, &[], text, whole(alloc, DISK)?, &OpenGate)
+}
+
 /// A job ends with this code; `out` takes so many bytes, and `err` this line.
 fn ends<R: Threads + Wait + Abort + Sync>(
     rt: &R,
@@ -173,7 +186,7 @@ fn ends<R: Threads + Wait + Abort + Sync>(
     printed: usize,
     line: &str,
 ) -> Result<(), Fail> {
-    let answer = answer_to(rt, alloc, text)?;
+    let answer = answer_large(rt, alloc, text)?;
     assert_eq!(rt; answer.outcome.status.code(), code);
     assert_eq!(rt; answer.out.taken().len(), printed);
     assert_eq!(rt; answer.err.taken(), line.as_bytes());
@@ -255,7 +268,7 @@ fn many_printed(alloc: Global) -> Result<Vec<u8>, Fail> {
 #[test]
 fn a_job_of_over_4_thousand_of_everything_is_done(rt: HostRuntime) -> Result<(), Fail> {
     let alloc = rt.alloc();
-    let answer = answer_to(&rt, alloc, &many_of_all(alloc)?)?;
+    let answer = answer_large(&rt, alloc, &many_of_all(alloc)?)?;
     assert_eq!(rt; answer.outcome.status, Status::Done);
     assert!(rt; answer.out.taken() == many_printed(alloc)?.as_slice());
     assert!(rt; answer.err.taken().is_empty());

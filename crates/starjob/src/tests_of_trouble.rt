@@ -5,6 +5,7 @@ ghost use Rattle.std.specs.Prelude.{◌+◌, ◌≤◌, ◌^◌, None, length};
 use crate::status::Status;
 use crate::test_calls::{Answer, answer_on, memory, one};
 use crate::tests_of_machines::{ROUND, ROUND_OUT, ROUND_SWAP};
+use crate::top::AnyDisk;
 use sj_base::ids::{DiskNo, Task};
 use sj_disk::header::Header;
 use sj_edge::disk::{CheckFault, Disk};
@@ -26,10 +27,10 @@ fn answer_tight<G: Gate, R: Threads + Wait + Sync>(
     rt: &R,
     alloc: Global,
     workers: &str,
-    disk: Box<dyn Disk + Send>,
+    disk: AnyDisk,
     gate: &G,
 ) -> Result<Answer, Fail>
-    requires { ⟦<Box<dyn Disk + Send> as Disk>⟧.size disk ≤ 2 ^ 40 }
+    requires { ⟦<AnyDisk as Disk>⟧.size disk ≤ 2 ^ 40 }
 {
     let words = ["--workers", workers, "--node", "48"];
     let disks = one(alloc, disk)?;
