@@ -1,5 +1,5 @@
 -- What a run hands over is what the deliver tasks have to hand over.
-use Rattle.std.proofs.Common.{◌≡◌, ℕ, suc, ◌+◌, ◌<◌, Bool, true, false, cond, List, [], ◌∷◌, length, map, get_or, refl, sym, ap, ◌∙◌, subst, arith, nat_eq, Option, Some, None, inl, inr, ◌⊎◌}
+use Rattle.std.proofs.Common.{◌≡◌, ℕ, suc, ◌+◌, ◌<◌, Bool, true, false, cond, List, [], ◌∷◌, length, map, get_or, refl, sym, ap, ◌∙◌, subst, arith, nat_eq, Some, inl, inr}
 use Rattle.std.specs.Prelude.{All, Contains, FitsSigned, IsTrue}
 use Rattle.std.specs.Int.{w64}
 use Rattle.std.specs.List.{range_with_len}

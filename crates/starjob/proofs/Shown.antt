@@ -1,14 +1,12 @@
 -- From a run's outcome to the text of what was asked for.
-use Rattle.std.proofs.Common.{◌≡◌, ℕ, Bool, true, false, cond, List, [], ◌++◌, length, map, Option, Some, None, Ok, Err, IsOkAnd, refl, ap, sym, subst, ◌∙◌}
+use Rattle.std.proofs.Common.{◌≡◌, ℕ, Bool, cond, List, [], ◌++◌, length, map, Ok, Err, IsOkAnd, ap, sym, subst, ◌∙◌}
 use Rattle.std.specs.List.{range_with_len}
-use Rattle.std.proofs.lemmas.List.{append-nil}
 use Rattle.sj_base.specs.declared.ids.Task.{Task}
 use Rattle.sj_base.specs.declared.program.Machine.{Machine}
 use Rattle.sj_base.specs.declared.program.Program.{Program}
 use Rattle.sj_base.specs.declared.trace.Event.{Event}
 use Rattle.sj_base.specs.Array.{Array}
 use Rattle.sj_codelet.specs.declared.kernel.Kernel.{Kernel}
-use Rattle.sj_core.specs.Fold.{given}
 use Rattle.sj_core.specs.Legal.{IsFinished, IsLegal}
 use Rattle.sj_core.specs.Once.{EachRanOnce}
 use Rattle.sj_job.specs.Meaning.{printed}
@@ -21,7 +19,7 @@ use Rattle.starjob.specs.declared.ready.Ready.{Ready}
 use Rattle.starjob.specs.declared.stop.Stop.{Stop}
 use Rattle.starjob.specs.declared.stop.Stop.TheVariants.{Refused, TooLarge, SwapTooSmall, DiskFault, Damaged, OutOfMemory}
 use Rattle.starjob.specs.Answers.{IsReady, IsStopped, IsTextOf, StopsWith}
-use Rattle.starjob.specs.Gathering.{ShowsRun, all_shown, prints_of, shown}
+use Rattle.starjob.specs.Gathering.{ShowsRun, prints_of, shown}
 use Rattle.starjob.specs.Output.{output}
 use Rattle.starjob.specs.Stops.{after_running}
 use Rattle.starjob.specs.Top.{PrintsNothing, text_of}

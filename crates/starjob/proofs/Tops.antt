@@ -1,5 +1,5 @@
 -- From the text that was read and what was written to what the call promises.
-use Rattle.std.proofs.Common.{◌≡◌, ◌≢◌, ◌<◌, ◌≤◌, Bool, true, false, cond, ℕ, suc, List, [], ◌∷◌, length, arith, refl, ap, sym, subst, Option, Some, None, Result, Ok, Err, IfSome, IsSomeAnd, IsOk, IsOkAnd}
+use Rattle.std.proofs.Common.{◌≡◌, ◌≢◌, ◌<◌, ◌≤◌, Bool, true, false, cond, ℕ, suc, List, [], ◌∷◌, length, arith, refl, ap, sym, subst, Option, Some, None, Result, Ok, Err, IfSome, IsOk, IsOkAnd}
 use Rattle.std.specs.Prelude.{Contains, IsTrue, find, is_some, map, option_map}
 use Rattle.std.proofs.lemmas.Bool.Decides.{nat_tests}
 use Rattle.std.proofs.lemmas.List.Elements.{All-contains}
@@ -14,7 +14,6 @@ use Rattle.sj_core.specs.Program.{tasks_of}
 use Rattle.std.specs.Io.KnownBytes.{Appends, IsAtEnd}
 use Rattle.sj_base.specs.declared.trace.Event.{Event}
 use Rattle.sj_codelet.specs.declared.kernel.Kernel.{Kernel}
-use Rattle.sj_core.specs.Proper.{HasSwapFor}
 use Rattle.sj_edge.specs.Faults.{Rose}
 use Rattle.sj_job.specs.Job.{Job}
 use Rattle.sj_job.specs.Reading.{Refusal, job_of, text_limit}

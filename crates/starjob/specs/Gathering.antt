@@ -1,5 +1,5 @@
 -- The arrays of the print statements, put together from what deliver tasks handed over in any order.
-use Rattle.std.specs.Prelude.{◌≡◌, ◌+◌, ◌-◌, ◌<◌, ◌≤◌, ℕ, Some, None, List, [], ◌++◌, map, length, slice_get, All, AllPairs, Contains}
+use Rattle.std.specs.Prelude.{◌≡◌, ◌+◌, ◌-◌, ◌<◌, ◌≤◌, ℕ, Some, None, List, ◌++◌, map, length, slice_get, All, AllPairs, Contains}
 use Rattle.std.specs.List.{range_with_len, slice_index_or}
 use Rattle.sj_base.specs.declared.ids.Root.{Root}
 use Rattle.sj_base.specs.declared.ids.Task.{Task}

@@ -11,7 +11,7 @@ use Rattle.sj_job.specs.Meaning.{printed}
 use Rattle.sj_needs.specs.Shortage.{FitRoom, IsSwapTooSmall, IsTooLarge}
 use Rattle.sj_trace.specs.Text.{text_of as text_of_trace}
 use Rattle.starjob.specs.declared.status.Status.{Status}
-use Rattle.starjob.specs.declared.status.Status.TheVariants.{Done, Usage, Refused, TooLarge, SwapTooSmall, DiskFault, Damaged, SourceFault, SinkFault, OutOfMemory}
+use Rattle.starjob.specs.declared.status.Status.TheVariants.{Done, Usage, Refused, TooLarge, SwapTooSmall, SourceFault, SinkFault, OutOfMemory}
 use Rattle.starjob.specs.Device.{Device, HasFailed}
 use Rattle.starjob.specs.Disks.{RoseAt}
 use Rattle.starjob.specs.Output.{output}

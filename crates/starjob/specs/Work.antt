@@ -1,5 +1,5 @@
 -- What the call is asked to do: words, a job text and the sizes of disks give statements to run and a machine to run them on.
-use Rattle.std.specs.Prelude.{ℕ, Bool, Option, Some, None, IfSome, IsSomeAnd, Result, Ok, Err, IsOkAnd, List, [], option_and_then, option_map}
+use Rattle.std.specs.Prelude.{ℕ, Bool, Option, Some, None, IfSome, IsSomeAnd, Result, Ok, Err, IsOkAnd, List, option_and_then, option_map}
 use Rattle.sj_base.specs.declared.program.Machine.{Machine}
 use Rattle.sj_base.specs.declared.program.Program.{Program}
 use Rattle.sj_codelet.specs.declared.kernel.Kernel.{Kernel}

@@ -1,4 +1,4 @@
-use Rattle.std.proofs.Common.{rules, ◌≡◌, ◌<◌, length, sym, ap, ◌∙◌, subst, arith, List, ℕ}
+use Rattle.std.proofs.Common.{◌<◌, sym, ◌∙◌, subst, ℕ}
 use Rattle.std.proofs.lemmas.List.{length-set}
 use Rattle.starjob.proofs.Finding.{finds-step, task-inside}
 use Rattle.starjob.proofs.gathering.places_of.Goals as goal

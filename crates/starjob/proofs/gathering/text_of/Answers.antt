@@ -1,7 +1,7 @@
-use Rattle.std.proofs.Common.{◌≡◌, ◌<◌, ◌≤◌, ℕ, ap, ◌∙◌, subst, sym, Result, Ok, Err, IfOk}
+use Rattle.std.proofs.Common.{◌<◌, ◌≤◌, ℕ, ap, ◌∙◌, subst, sym, Result, Ok, Err, IfOk}
 use Rattle.std.specs.Prelude.{AllPairs}
 use Rattle.sj_base.specs.declared.program.Program.{Program}
-use Rattle.starjob.specs.Gathering.{Handed, IsShown, all_shown, array_found, prints_of}
+use Rattle.starjob.specs.Gathering.{IsShown, all_shown, array_found, prints_of}
 use Rattle.starjob.specs.Output.{output}
 use Rattle.sj_lower.specs.Delivering.{deliveries_for}
 use Rattle.starjob.proofs.Handing.{dims-found, found-each, shown-by}

@@ -1,9 +1,6 @@
-use Rattle.std.proofs.Common.{rules, ◌≡◌, ◌<◌, length, sym, ap, ◌∙◌, subst, get_or, arith, List, [], ◌∷◌, ℕ, map, eqb, true}
+use Rattle.std.proofs.Common.{◌≡◌, sym, ◌∙◌, arith}
 use Rattle.std.proofs.lemmas.Bool.{and_parts}
 use Rattle.std.proofs.lemmas.Bool.Decides.{Decides-eqb}
-use Rattle.sj_base.specs.declared.program.Delivery.{Delivery}
-use Rattle.sj_base.specs.declared.tile.Dims.{Dims}
-use Rattle.sj_base.specs.Array.{Array}
 use Rattle.starjob.specs.Gathering.{array_found, no_delivery}
 use Rattle.starjob.proofs.Placing.{assembled-whole}
 use Rattle.starjob.proofs.gathering.whole.Goals as goal

@@ -1,4 +1,4 @@
-use Rattle.std.proofs.Common.{◌≡◌, ◌<◌, ◌≤◌, List, ap, ◌∙◌, refl, subst, sym, arith, Result, Ok, Err, IfErr, length}
+use Rattle.std.proofs.Common.{◌≡◌, ◌≤◌, ap, ◌∙◌, refl, subst, sym, Result, Ok, Err, IfErr, length}
 use Rattle.std.specs.Prelude.{All, FitsSigned, IsErrAnd, IsTrue}
 use Rattle.std.specs.Int.{w64}
 use Rattle.sj_base.specs.declared.program.Lowered.{Lowered}
@@ -6,10 +6,10 @@ use Rattle.sj_base.specs.declared.program.Machine.{Machine}
 use Rattle.sj_base.specs.declared.program.Program.{Program}
 use Rattle.sj_core.specs.Laws.{is_known}
 use Rattle.sj_core.specs.Proper.{IsMachineFor}
-use Rattle.sj_job.specs.View.{job_seen, statements_of}
+use Rattle.sj_job.specs.View.{job_seen}
 use Rattle.starjob.specs.declared.stop.Stop.{Stop}
 use Rattle.starjob.specs.Answers.{IsStopped}
-use Rattle.starjob.specs.Work.{Work, WorkOrRefusal, within_limits, work_of}
+use Rattle.starjob.specs.Work.{Work, WorkOrRefusal, work_of}
 use Rattle.starjob.specs.Stops.{after_fitting}
 use Rattle.starjob.proofs.Known.{known-lowered}
 use Rattle.starjob.proofs.Stopping.{asked-is, stopped-fitting, within}

@@ -1,5 +1,5 @@
 use Rattle.std.proofs.Common.{◌≡◌, subst, sym}
-use Rattle.starjob.specs.Device.{Device, seen}
+use Rattle.starjob.specs.Device.{Device}
 use Rattle.starjob.specs.Report.{line_of, TakesLine}
 use Rattle.starjob.specs.declared.status.Status.{Status}
 use Rattle.starjob.proofs.report.report.Goals as goal

@@ -1,4 +1,4 @@
-use Rattle.std.proofs.Common.{ap, subst, List, ℕ, [], ◌∷◌, ◌∙◌}
+use Rattle.std.proofs.Common.{subst, List, ℕ, [], ◌∷◌, ◌∙◌}
 use Rattle.std.specs.Prelude.{codes}
 use Rattle.starjob.specs.Device.{seen}
 use Rattle.starjob.specs.Report.{TakesLine, in_a_row}

@@ -1,6 +1,6 @@
-use Rattle.std.proofs.Common.{◌≡◌, ℕ, ◌<◌, List, ap, ◌∙◌, refl, subst, sym, arith, Option, Some, Result, Ok, Err, IfErr, IsOk, Vec, Global}
+use Rattle.std.proofs.Common.{ℕ, ap, refl, subst, sym, arith, Some, Result, IfErr, IsOk, Vec, Global}
 use Rattle.sj_base.specs.declared.program.Program.{Program}
-use Rattle.sj_core.specs.Legal.{IsFinished, IsLegal}
+use Rattle.sj_core.specs.Legal.{IsFinished}
 use Rattle.sj_engine.specs.Outcome.{AllTell, IsCausedBy}
 use Rattle.sj_machine.specs.Delivered.{DeliversEach}
 use Rattle.sj_machine.specs.declared.fault.RunFault.{RunFault}

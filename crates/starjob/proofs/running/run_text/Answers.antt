@@ -1,10 +1,10 @@
-use Rattle.std.proofs.Common.{◌≡◌, ℕ, ◌≤◌, ◌^◌, List, map, ap, ◌∙◌, refl, subst, sym, Some, Result, Err, Vec, Global}
+use Rattle.std.proofs.Common.{ℕ, ◌≤◌, ◌^◌, List, map, ap, ◌∙◌, subst, sym, Some, Result, Vec, Global}
 use Rattle.std.specs.Prelude.{All}
 use Rattle.std.proofs.lemmas.List.Elements.{All-map}
 use Rattle.sj_engine.specs.Outcome.{AllTell}
 use Rattle.starjob.specs.declared.stop.Stop.{Stop}
 use Rattle.starjob.specs.declared.stop.Stop.TheVariants.{OutOfMemory}
-use Rattle.starjob.specs.Answers.{IsReady, IsStopped, LeavesDisks, RunsWork, status_of}
+use Rattle.starjob.specs.Answers.{IsStopped, LeavesDisks, RunsWork, status_of}
 use Rattle.starjob.specs.Work.{work_of}
 use Rattle.starjob.proofs.Leaving.{leaves-nothing}
 use Rattle.starjob.proofs.Shown.{stops-unrun}

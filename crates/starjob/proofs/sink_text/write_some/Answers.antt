@@ -1,4 +1,4 @@
-use Rattle.std.proofs.Common.{arith, ◌∙◌}
+use Rattle.std.proofs.Common.{◌∙◌}
 use Rattle.starjob.proofs.Streams.{wrote, wrote-bound}
 use Rattle.starjob.proofs.sink_text.write_some.Goals as goal
 

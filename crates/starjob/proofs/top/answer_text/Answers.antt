@@ -1,9 +1,9 @@
-use Rattle.std.proofs.Common.{◌≡◌, ℕ, List, map, ap, ◌∙◌, subst, sym, Some, Result, Ok, Err, IsOkAnd, Vec, Global}
+use Rattle.std.proofs.Common.{ℕ, List, map, ◌∙◌, subst, sym, Some, Result, IsOkAnd, Vec, Global}
 use Rattle.sj_engine.specs.Outcome.{AllTell}
 use Rattle.starjob.specs.declared.status.Status.{Status}
 use Rattle.starjob.specs.declared.stop.Stop.{Stop}
 use Rattle.starjob.specs.Answers.{AnsweredText, IsTextOf, LeavesDisks, RunsWork, StopsWith, WritesText, status_of}
-use Rattle.starjob.specs.Device.{Device, seen}
+use Rattle.starjob.specs.Device.{seen}
 use Rattle.starjob.specs.Work.{WorkOrRefusal, work_of}
 use Rattle.starjob.proofs.Leaving.{leaves-written}
 use Rattle.starjob.proofs.Tops.{silent-text, stop-answered, text-answered}

@@ -1,4 +1,4 @@
-use Rattle.std.proofs.Common.{◌≡◌, List, ℕ, map, ap, ◌∙◌, refl, subst, sym, Some, None, Option, Vec, Global}
+use Rattle.std.proofs.Common.{map, ap, ◌∙◌, refl, subst, sym, Option, Vec, Global}
 use Rattle.std.specs.Prelude.{option_map}
 use Rattle.std.proofs.lemmas.Option.{none-some}
 use Rattle.sj_engine.specs.Outcome.{AllTell}

@@ -1,4 +1,4 @@
-use Rattle.std.proofs.Common.{◌≡◌, ◌≤◌, IfSome, List, ℕ, length, map, ap, subst, sym, Some, Option, Result, Err, Vec, Global}
+use Rattle.std.proofs.Common.{◌≡◌, ◌≤◌, IfSome, List, ℕ, length, map, ap, subst, sym, Some, Result, Err, Vec, Global}
 use Rattle.std.specs.Prelude.{IsOkAnd, option_map}
 use Rattle.std.specs.Io.KnownBytes.{IsAtEnd}
 use Rattle.sj_edge.specs.Faults.{counted}
@@ -9,7 +9,7 @@ use Rattle.starjob.specs.declared.status.Status.{Status}
 use Rattle.starjob.specs.Answers.{Answered}
 use Rattle.starjob.specs.Device.{seen}
 use Rattle.starjob.specs.Streams.{is_fault}
-use Rattle.starjob.specs.Work.{WorkOrRefusal, program_of, work_of}
+use Rattle.starjob.specs.Work.{program_of, work_of}
 use Rattle.starjob.proofs.Leaving.{leaves-as, leaves-no-memory, leaves-unsourced}
 use Rattle.starjob.proofs.Tops.{answered-by, silent-by, told-of, unread-memory}
 use Rattle.starjob.proofs.top.run_source.Goals as goal

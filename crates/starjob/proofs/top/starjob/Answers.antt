@@ -1,5 +1,4 @@
-use Rattle.std.proofs.Common.{◌≡◌, subst, sym}
-use Rattle.starjob.specs.declared.status.Status.{Status}
+use Rattle.std.proofs.Common.{subst, sym}
 use Rattle.starjob.specs.Answers.{IsBehindTheRun}
 use Rattle.starjob.proofs.Tops.{broken-by, damaged-by}
 use Rattle.starjob.proofs.top.starjob.Goals as goal

@@ -1,7 +1,6 @@
-use Rattle.std.proofs.Common.{rules, ◌≡◌, ◌<◌, length, sym, ap, ◌∙◌, subst, slice_index_or, arith, List, ℕ}
+use Rattle.std.proofs.Common.{rules, sym, ap, ◌∙◌, subst}
 use Rattle.std.specs.Prelude.{Contains}
 use Rattle.std.proofs.lemmas.List.{get_or_read}
-use Rattle.sj_base.specs.declared.program.Delivery.{Delivery}
 use Rattle.starjob.specs.Gathering.{Handed, array_found}
 use Rattle.starjob.proofs.Finding.{array-at, at-place, finds-delivery, place-inside}
 use Rattle.starjob.proofs.gathering.ByTask.tile.Goals as goal
