@@ -1,10 +1,15 @@
--- The cells of a job: a plan's children become cells, row by row, when the plan first becomes active for its root.
-use Rattle.std.specs.Prelude.{ℕ, ◌+◌, Bool, ◌&&◌, nat_eq, Option, Some, None, List, [], ◌++◌, map, length, is_some, unwrap_or, if◌then◌else◌}
+-- The cells of a job: a plan's children become cells, row by row, when the plan first becomes active for its root, and a
+-- cell gets partial copies, one for each worker, when it is first contributed to.
+use Rattle.std.specs.Prelude.{ℕ, ◌+◌, Bool, ◌&&◌, nat_eq, Option, Some, None, List, [], ◌++◌, map, length, is_some, unwrap_or, replicate, slice_set, if◌then◌else◌}
+use Rattle.std.specs.List.{slice_index_or}
 use Rattle.std.specs.Str.{bytes_eq}
 use Rattle.sj_base.specs.declared.ids.Cell.{Cell}
+use Rattle.sj_base.specs.declared.ids.Line.{Line}
 use Rattle.sj_base.specs.declared.ids.Root.{Root}
+use Rattle.sj_base.specs.declared.mode.Reduction.{Reduction}
 use Rattle.sj_base.specs.declared.tile.Dims.{Dims}
 use Rattle.sj_base.specs.declared.program.CellInfo.{CellInfo}
+use Rattle.sj_core.specs.Program.{same_cell, no_cell}
 use Rattle.sj_plan.specs.declared.parts.Parts.{Parts}
 use Rattle.sj_plan.specs.declared.rect.Rect.{Rect}
 use Rattle.sj_plan.specs.Parts.{places}
@@ -20,11 +25,19 @@ pub record Handle : Type 0 where
   pub dims : Dims
   pub first : Parts → Option ℕ
 
--- the cells that there are, the handle of each name, and how many roots there are
+-- a phase of contributions that is open: its reduction, the first of the partial copies, and the line of the last contribution
+-- so far
+pub record OpenPhase : Type 0 where
+  pub by : Reduction
+  pub copies : Cell
+  pub line : Line
+
+-- the cells that there are, the handle of each name, how many roots there are, and the open phase of each cell
 pub record Cells : Type 0 where
   pub rows : List CellInfo
   pub handles : List ℕ → Option Handle
   pub roots : ℕ
+  pub phase : Cell → Option OpenPhase
 
 -- ---- names
 
@@ -69,6 +82,7 @@ take_by name p h C =
       rows = C.rows ++ map (child_cell h.root h.dims p) (places p);
       handles = with_handle name (taking p (length C.rows) h) C.handles;
       roots = C.roots;
+      phase = C.phase;
     }
 
 -- a name takes a plan
@@ -83,8 +97,45 @@ next_handle d C = record { root = record { 0 = C.roots }; dims = d; first = λ p
 
 -- a root more
 abbrev pub with_root : List ℕ → Dims → Cells → Cells
-with_root name d C = record { rows = C.rows; handles = with_handle name (next_handle d C) C.handles; roots = C.roots + 1 }
+with_root name d C = record { rows = C.rows; handles = with_handle name (next_handle d C) C.handles; roots = C.roots + 1; phase = C.phase }
 
 -- no root
 abbrev pub no_cells : Cells
-no_cells = record { rows = []; handles = λ name. None; roots = 0 }
+no_cells = record { rows = []; handles = λ name. None; roots = 0; phase = λ c. None }
+
+-- ---- partial copies
+
+abbrev pub info_at : Cells → Cell → CellInfo
+info_at C c = slice_index_or C.rows c.0 no_cell
+
+-- the partial copy of a worker, by the first of them
+abbrev pub copy_at : Cell → ℕ → Cell
+copy_at first w = record { 0 = first.0 + w }
+
+-- the row of a partial copy: as large as its cell
+abbrev pub copy_info : CellInfo → CellInfo
+copy_info i = record { root = i.root; dims = i.dims; partials = None }
+
+abbrev pub with_partials : Cell → CellInfo → CellInfo
+with_partials first i = record { root = i.root; dims = i.dims; partials = Some first }
+
+-- the first partial copy of a cell; where there is none yet, the next cell is to be it
+abbrev pub first_copy : Cells → Cell → Cell
+first_copy C c = unwrap_or (info_at C c).partials (record { 0 = length C.rows })
+
+-- the cells with the partial copies of this one, so many, which arise if they aren't there
+abbrev pub with_copies : ℕ → Cell → Cells → Cells
+with_copies workers c C =
+    if is_some (info_at C c).partials then C
+    else record {
+      rows = slice_set C.rows c.0 (with_partials (first_copy C c) (info_at C c)) ++ replicate workers (copy_info (info_at C c));
+      handles = C.handles;
+      roots = C.roots;
+      phase = C.phase;
+    }
+
+-- ---- phases
+
+-- the cell has this open phase, or none, and each other cell has what it had
+abbrev pub with_phase : Cell → Option OpenPhase → Cells → Cells
+with_phase c f C = record { rows = C.rows; handles = C.handles; roots = C.roots; phase = λ d. if same_cell c d then f else C.phase d }
