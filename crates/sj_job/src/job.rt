@@ -57,6 +57,14 @@ impl Operand {
             Mode::W | Mode::RW | Mode::Redux | Mode::Commute => true,
         }
     }
+
+    /// Whether the operand is accessed otherwise than by a contribution; a scratch buffer is no access. Constant time.
+    pub fn is_other_access(&self) -> bool {
+        match self.mode {
+            Mode::Redux | Mode::Scratch => false,
+            Mode::R | Mode::W | Mode::RW | Mode::Commute => true,
+        }
+    }
 }
 
 /// `task CODELET OPERANDS`: submits a task.

@@ -4,9 +4,7 @@ use Rattle.std.specs.Prelude.{ℕ, ◌+◌, Bool, ◌&&◌, nat_eq, Option, Some
 use Rattle.std.specs.List.{slice_index_or}
 use Rattle.std.specs.Str.{bytes_eq}
 use Rattle.sj_base.specs.declared.ids.Cell.{Cell}
-use Rattle.sj_base.specs.declared.ids.Line.{Line}
 use Rattle.sj_base.specs.declared.ids.Root.{Root}
-use Rattle.sj_base.specs.declared.mode.Reduction.{Reduction}
 use Rattle.sj_base.specs.declared.tile.Dims.{Dims}
 use Rattle.sj_base.specs.declared.program.CellInfo.{CellInfo}
 use Rattle.sj_core.specs.Program.{same_cell, no_cell}
@@ -15,6 +13,7 @@ use Rattle.sj_plan.specs.declared.rect.Rect.{Rect}
 use Rattle.sj_plan.specs.Parts.{places}
 use Rattle.sj_plan.specs.Rect.{child, dims_of}
 use Rattle.sj_job.specs.Track.{number}
+use Rattle.sj_lower.specs.declared.phase.OpenPhase.{OpenPhase}
 
 abbrev pub same_parts : Parts → Parts → Bool
 same_parts p q = nat_eq p.r q.r && nat_eq p.c q.c
@@ -24,13 +23,6 @@ pub record Handle : Type 0 where
   pub root : Root
   pub dims : Dims
   pub first : Parts → Option ℕ
-
--- a phase of contributions that is open: its reduction, the first of the partial copies, and the line of the last contribution
--- so far
-pub record OpenPhase : Type 0 where
-  pub by : Reduction
-  pub copies : Cell
-  pub line : Line
 
 -- the cells that there are, the handle of each name, how many roots there are, and the open phase of each cell
 pub record Cells : Type 0 where

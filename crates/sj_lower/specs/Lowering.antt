@@ -28,7 +28,8 @@ use Rattle.sj_job.specs.Meaning.{apply}
 use Rattle.sj_job.specs.Sound.{reduction_of, has_child_values}
 use Rattle.sj_job.specs.Table.{undivided}
 use Rattle.sj_job.specs.Track.{number}
-use Rattle.sj_lower.specs.Cells.{Cells, OpenPhase, same_parts, cell_of, take, with_root, no_cells, first_copy, with_copies, with_phase}
+use Rattle.sj_lower.specs.declared.phase.OpenPhase.{OpenPhase}
+use Rattle.sj_lower.specs.Cells.{Cells, same_parts, cell_of, take, with_root, no_cells, first_copy, with_copies, with_phase}
 use Rattle.sj_lower.specs.Rows.{an_access, load_row, fill_row, paste_row, deliver_row, init_row, init_rows, combine_rows}
 
 -- ---- cells

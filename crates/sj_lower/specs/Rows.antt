@@ -19,7 +19,8 @@ use Rattle.sj_plan.specs.declared.paste.Paste.{Paste}
 use Rattle.sj_plan.specs.declared.rect.Rect.{Rect}
 use Rattle.sj_plan.specs.Paste.{is_first}
 use Rattle.sj_plan.specs.Window.{window}
-use Rattle.sj_lower.specs.Cells.{OpenPhase, copy_at}
+use Rattle.sj_lower.specs.declared.phase.OpenPhase.{OpenPhase}
+use Rattle.sj_lower.specs.Cells.{copy_at}
 
 abbrev pub an_access : Mode → Cell → Access
 an_access mode c = record { mode = mode; cell = c }
