@@ -7,13 +7,12 @@ use Rattle.sj_base.specs.declared.ids.Cell.{Cell}
 use Rattle.sj_base.specs.declared.ids.Root.{Root}
 use Rattle.sj_base.specs.declared.tile.Dims.{Dims}
 use Rattle.sj_base.specs.declared.program.CellInfo.{CellInfo}
-use Rattle.sj_core.specs.Program.{same_cell, no_cell}
+use Rattle.sj_core.specs.Program.{no_cell}
 use Rattle.sj_plan.specs.declared.parts.Parts.{Parts}
 use Rattle.sj_plan.specs.declared.rect.Rect.{Rect}
 use Rattle.sj_plan.specs.Parts.{places}
 use Rattle.sj_plan.specs.Rect.{child, dims_of}
 use Rattle.sj_job.specs.Track.{number}
-use Rattle.sj_lower.specs.declared.phase.OpenPhase.{OpenPhase}
 
 abbrev pub same_parts : Parts → Parts → Bool
 same_parts p q = nat_eq p.r q.r && nat_eq p.c q.c
@@ -24,12 +23,11 @@ pub record Handle : Type 0 where
   pub dims : Dims
   pub first : Parts → Option ℕ
 
--- the cells that there are, the handle of each name, how many roots there are, and the open phase of each cell
+-- the cells that there are, the handle of each name, and how many roots there are
 pub record Cells : Type 0 where
   pub rows : List CellInfo
   pub handles : List ℕ → Option Handle
   pub roots : ℕ
-  pub phase : Cell → Option OpenPhase
 
 -- ---- names
 
@@ -74,7 +72,6 @@ take_by name p h C =
       rows = C.rows ++ map (child_cell h.root h.dims p) (places p);
       handles = with_handle name (taking p (length C.rows) h) C.handles;
       roots = C.roots;
-      phase = C.phase;
     }
 
 -- a name takes a plan
@@ -89,11 +86,11 @@ next_handle d C = record { root = record { 0 = C.roots }; dims = d; first = λ p
 
 -- a root more
 abbrev pub with_root : List ℕ → Dims → Cells → Cells
-with_root name d C = record { rows = C.rows; handles = with_handle name (next_handle d C) C.handles; roots = C.roots + 1; phase = C.phase }
+with_root name d C = record { rows = C.rows; handles = with_handle name (next_handle d C) C.handles; roots = C.roots + 1 }
 
 -- no root
 abbrev pub no_cells : Cells
-no_cells = record { rows = []; handles = λ name. None; roots = 0; phase = λ c. None }
+no_cells = record { rows = []; handles = λ name. None; roots = 0 }
 
 -- ---- partial copies
 
@@ -123,11 +120,4 @@ with_copies workers c C =
       rows = slice_set C.rows c.0 (with_partials (first_copy C c) (info_at C c)) ++ replicate workers (copy_info (info_at C c));
       handles = C.handles;
       roots = C.roots;
-      phase = C.phase;
     }
-
--- ---- phases
-
--- the cell has this open phase, or none, and each other cell has what it had
-abbrev pub with_phase : Cell → Option OpenPhase → Cells → Cells
-with_phase c f C = record { rows = C.rows; handles = C.handles; roots = C.roots; phase = λ d. if same_cell c d then f else C.phase d }

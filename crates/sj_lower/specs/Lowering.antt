@@ -2,7 +2,7 @@
 -- the state that the statements before it leave. Contributions to a cell form a phase: they go to partial copies, which are
 -- combined into the cell before the next statement that accesses it in another way, or that prints, changes the plan of,
 -- invalidates or unregisters its root.
-use Rattle.std.specs.Prelude.{ℕ, ◌+◌, Bool, ◌||◌, ◌&&◌, not, Some, None, List, [], ◌∷◌, ◌++◌, map, filter, fold, length, if◌then◌else◌}
+use Rattle.std.specs.Prelude.{ℕ, ◌+◌, Bool, ◌||◌, ◌&&◌, not, Option, Some, None, List, [], ◌∷◌, ◌++◌, map, filter, fold, length, if◌then◌else◌}
 use Rattle.std.specs.List.{range_with_len}
 use Rattle.sj_base.specs.declared.ids.Cell.{Cell}
 use Rattle.sj_base.specs.declared.ids.Line.{Line}
@@ -14,6 +14,7 @@ use Rattle.sj_base.specs.declared.tile.Dims.{Dims}
 use Rattle.sj_base.specs.declared.program.Lowered.{Lowered}
 use Rattle.sj_base.specs.declared.program.Delivery.{Delivery}
 use Rattle.sj_base.specs.declared.program.Program.{Program}
+use Rattle.sj_core.specs.Program.{same_cell}
 use Rattle.sj_plan.specs.declared.parts.Parts.{Parts}
 use Rattle.sj_plan.specs.Parts.{places}
 use Rattle.sj_plan.specs.Paste.{pastes_of}
@@ -29,7 +30,7 @@ use Rattle.sj_job.specs.Sound.{reduction_of, has_child_values}
 use Rattle.sj_job.specs.Table.{undivided}
 use Rattle.sj_job.specs.Track.{number}
 use Rattle.sj_lower.specs.declared.phase.OpenPhase.{OpenPhase}
-use Rattle.sj_lower.specs.Cells.{Cells, same_parts, cell_of, take, with_root, no_cells, first_copy, with_copies, with_phase}
+use Rattle.sj_lower.specs.Cells.{Cells, same_parts, cell_of, take, with_root, no_cells, first_copy, with_copies}
 use Rattle.sj_lower.specs.Rows.{an_access, load_row, fill_row, paste_row, deliver_row, init_row, init_rows, combine_rows}
 
 -- ---- cells
@@ -123,22 +124,33 @@ prints_after (Prints name) n = n + 1
 prints_after (Invalidates name) n = n
 prints_after (Unregisters name) n = n
 
--- what the statements so far gave, and how many print statements there were
+-- what the statements so far gave, how many print statements there were, and the open phase of each cell that has one
 pub record Lowering : Type 0 where
   pub cells : Cells
   pub tasks : List Lowered
   pub deliveries : List Delivery
   pub prints : ℕ
+  pub phase : Cell → Option OpenPhase
 
 -- before the first statement
 abbrev pub nothing : Lowering
-nothing = record { cells = no_cells; tasks = []; deliveries = []; prints = 0 }
-
--- other cells, and tasks more
-abbrev pub with_tasks : Cells → List Lowered → Lowering → Lowering
-with_tasks C ls L = record { cells = C; tasks = L.tasks ++ ls; deliveries = L.deliveries; prints = L.prints }
+nothing = record { cells = no_cells; tasks = []; deliveries = []; prints = 0; phase = λ c. None }
 
 -- ---- phases of contributions
+
+-- the cell has this open phase, or none, and each other cell has what it had
+abbrev pub with_phase : Cell → Option OpenPhase → (Cell → Option OpenPhase) → Cell → Option OpenPhase
+with_phase c f phase d = if same_cell c d then f else phase d
+
+-- the cell has this open phase, or none, from now on; there are these cells, and tasks more
+abbrev pub turned : Cells → List Lowered → Cell → Option OpenPhase → Lowering → Lowering
+turned C ls c f L = record {
+  cells = C;
+  tasks = L.tasks ++ ls;
+  deliveries = L.deliveries;
+  prints = L.prints;
+  phase = with_phase c f L.phase;
+}
 
 -- the children of a name's active plan, row by row
 abbrev pub active_cells : State → Cells → List ℕ → List Cell
@@ -160,9 +172,9 @@ closed_by S C (Unregisters name) = active_cells S C name
 
 -- the phase of a cell is closed, if one is open: each partial copy is combined into it
 abbrev pub closed : ℕ → Lowering → Cell → Lowering
-closed workers L c = elim (L.cells.phase c) [
+closed workers L c = elim (L.phase c) [
   | None ↦ L
-  | Some f ↦ with_tasks (with_phase c None L.cells) (combine_rows f c workers) L
+  | Some f ↦ turned L.cells (combine_rows f c workers) c None L
 ]
 
 abbrev pub all_closed : ℕ → List Cell → Lowering → Lowering
@@ -180,13 +192,13 @@ begin_rows by first c valued workers line = init_rows by first workers line ++ (
 abbrev pub begun : ℕ → Reduction → Bool → Line → Cell → Lowering → Lowering
 begun workers by valued line c L =
     let first = first_copy L.cells c in
-    with_tasks (with_phase c (Some (record { by = by; copies = first; line = line })) (with_copies workers c L.cells)) (begin_rows by first c valued workers line) L
+    turned (with_copies workers c L.cells) (begin_rows by first c valued workers line) c (Some (record { by = by; copies = first; line = line })) L
 
 -- a contribution to a cell is to come: its phase goes on, or begins
 abbrev pub opened : ℕ → Reduction → Bool → Line → Cell → Lowering → Lowering
-opened workers by valued line c L = elim (L.cells.phase c) [
+opened workers by valued line c L = elim (L.phase c) [
   | None ↦ begun workers by valued line c L
-  | Some f ↦ with_tasks (with_phase c (Some (extended f line)) L.cells) [] L
+  | Some f ↦ turned L.cells [] c (Some (extended f line)) L
 ]
 
 -- so is an operand's, if it is one
@@ -222,6 +234,7 @@ add_own S s L =
       tasks = L.tasks ++ rows_of S C s.line s.act;
       deliveries = L.deliveries ++ deliveries_of S C (length L.tasks) L.prints s.act;
       prints = prints_after s.act L.prints;
+      phase = L.phase;
     }
 
 -- what one statement more gives
