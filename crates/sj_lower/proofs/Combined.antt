@@ -51,7 +51,7 @@ range-below a (suc n) m h = (omega (arith, h), range-below (a + 1) n m (omega (a
 abbrev pub SameCopies : Program → Contents → Contents → OpenPhase → Type 0
 SameCopies p k new f = (w : ℕ) → w < p.workers → held_in p new (copy_at f.copies w) ≡ held_in p k (copy_at f.copies w)
 
-with_all-same : (p : Program) (k new : Contents) (f : OpenPhase) (ws : List ℕ) (v : Array) → SameCopies p k new f → AllByRecursion (λ w. w < p.workers) ws → with_all p new f ws v ≡ with_all p k f ws v
+pub with_all-same : (p : Program) (k new : Contents) (f : OpenPhase) (ws : List ℕ) (v : Array) → SameCopies p k new f → AllByRecursion (λ w. w < p.workers) ws → with_all p new f ws v ≡ with_all p k f ws v
 with_all-same p k new f [] v same all = refl
 with_all-same p k new f (w ∷ ws) v same all =
     ap (λ (x : Array). with_all p new f ws (combined f.by x v)) (same w all.0) ∙ with_all-same p k new f ws (with_copy p k f v w) same all.1
