@@ -6,7 +6,7 @@ use Rattle.std.specs.Option.{is_some}
 use Rattle.std.specs.Str.{bytes_eq}
 use Rattle.std.proofs.lemmas.Bool.{cases_lt, false≢true}
 use Rattle.std.proofs.lemmas.Bool.Decides.{Decides-eqb}
-use Rattle.std.proofs.lemmas.List.{get_or_append_left, get_or-append_right, get_or_past, get_or-set_same, get_or-set_other, get_or-replicate, length-set, length-replicate}
+use Rattle.std.proofs.lemmas.List.{get_or_append_left, get_or-append_right, get_or_past, get_or-set_same, get_or-set_other, get_or-replicate, length-set, length-replicate, set_past}
 use Rattle.std.proofs.lemmas.List.Elements.{All-map, All-append, All-set, All-replicate, All-get_or}
 use Rattle.sj_base.specs.declared.ids.Cell.{Cell}
 use Rattle.sj_base.specs.declared.tile.Dims.{Dims}
@@ -267,3 +267,17 @@ module _ (workers : ℕ) (c : Cell) (C : Cells) (there : c.0 < length C.rows) wh
 
   pub copied-roots : (with_copies workers c C).roots ≡ C.roots
   copied-roots = by_copies workers c C (λ (D : Cells). D.roots ≡ C.roots) (λ f e. refl) (λ e. refl)
+
+-- cells are only added
+pub copies-more : (workers : ℕ) (c : Cell) (C : Cells) → Grows C.rows (with_copies workers c C).rows
+copies-more workers c C = elim (cases_lt c.0 (length C.rows)) [
+  | inl inside ↦ copies-grow workers c C inside
+  | inr past ↦ by_copies workers c C (λ (D : Cells). Grows C.rows D.rows) (λ f e. grows-refl C.rows) (λ e.
+      subst (λ (rows : List CellInfo). Grows C.rows (rows ++ replicate workers (copy_info (info_at C c)))) (sym (set_past C.rows c.0 (with_partials (first_copy C c) (info_at C c)) past)) (grows-append C.rows (replicate workers (copy_info (info_at C c))) (none (copy_info (info_at C c)) refl)))
+]
+  where
+    none : (i : CellInfo) → i.partials ≡ None → NoneHas (replicate workers i)
+    none i e n = elim (cases_lt n workers) [
+      | inl inside ↦ ap (λ (x : CellInfo). x.partials) (get_or-replicate workers n i no_cell inside) ∙ e
+      | inr past ↦ ap (λ (x : CellInfo). x.partials) (get_or_past (replicate workers i) n no_cell (omega (arith, past, length-replicate workers i)))
+    ]
