@@ -123,7 +123,7 @@ operand_cell S C o = active_cell S C o.name o.place
 
 -- ---- what a task reads
 
-seen_there : (S : State) (o : Operand) (r : Root) → root_of S o.name ≡ Some r → operand_array S o ≡ seen_by o.mode r o.place
+pub seen_there : (S : State) (o : Operand) (r : Root) → root_of S o.name ≡ Some r → operand_array S o ≡ seen_by o.mode r o.place
 seen_there S o r e = ap (λ (x : Option Root). elim x as (λ _. Array) [ None ↦ array (record { rows = 0; cols = 0 }) [] | Some r ↦ seen_by o.mode r o.place ]) e
 
 pub by_mode : (p : Program) (k : Contents) (m : Mode) (c : Cell) (r : Root) (place : ℕ × ℕ) → is_direct m ≡ true → dims_of p c ≡ rect_dims (child_rect r place) → (needs_value m ≡ true → held_in p k c ≡ child_array r place)
@@ -204,7 +204,7 @@ cells_written p S C (o ∷ os) h =
     by_cases false false e h rest = rest
 
 -- no child that is written stands in another operand
-other_written : (o : Operand) (os : List Operand) → writes o.mode ≡ true → list_any (clashes o) os ≡ false → IsOther o (written_operands os)
+pub other_written : (o : Operand) (os : List Operand) → writes o.mode ≡ true → list_any (clashes o) os ≡ false → IsOther o (written_operands os)
 other_written o [] w h = tt
 other_written o (p ∷ os) w h =
     let a = or_none (clashes o p) (list_any (clashes o) os) h in
@@ -256,7 +256,7 @@ all_written S C (o ∷ os) h =
 abbrev Placed : State → List Operand → Type 0
 Placed S os = AllByRecursion (λ o. has_child S o ≡ true) os
 
-all_placed : (S : State) (os : List Operand) → list_all (has_child S) os ≡ true → Placed S (written_operands os)
+pub all_placed : (S : State) (os : List Operand) → list_all (has_child S) os ≡ true → Placed S (written_operands os)
 all_placed S [] h = tt
 all_placed S (o ∷ os) h =
     let b = and_parts (has_child S o) (list_all (has_child S) os) h in
@@ -280,7 +280,7 @@ all_other (o ∷ os) h =
     by_cases true w h rest = (other_written o os w h, rest)
     by_cases false w h rest = rest
 
-head_of : (d e : Dims) (ds es : List Dims) → (d ∷ ds) ≡ (e ∷ es) → d ≡ e
+pub head_of : (d e : Dims) (ds es : List Dims) → (d ∷ ds) ≡ (e ∷ es) → d ≡ e
 head_of d e ds es h = cc
 
 tail_of : (d e : Dims) (ds es : List Dims) → (d ∷ ds) ≡ (e ∷ es) → ds ≡ es
