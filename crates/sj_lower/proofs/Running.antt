@@ -143,7 +143,7 @@ needed false b e h = absurd (false≢true h)
 abbrev pub IsClosed : Phases → State → Cells → Operand → Type 0
 IsClosed phases S C o = is_data o.mode ≡ true → phases (operand_cell S C o) ≡ None
 
-data_needs : (m : Mode) → needs_value m ≡ true → is_data m ≡ true
+pub data_needs : (m : Mode) → needs_value m ≡ true → is_data m ≡ true
 data_needs R e = refl
 data_needs W e = absurd (false≢true e)
 data_needs RW e = refl

@@ -1,0 +1,229 @@
+-- A task that contributes: its child denotes afterwards what the task line leaves there.
+use Rattle.std.proofs.Common.{◌≡◌, ℕ, suc, ◌+◌, ◌<◌, ◌≤◌, Bool, true, false, cond, not, ◌&&◌, ◌||◌, Option, Some, None, List, [], ◌∷◌, ◌++◌, length, map as each_of, refl, sym, ap, subst, ◌∙◌, inl, inr, arith, length-append}
+use Rattle.std.specs.Prelude.{Contains, unwrap_or}
+use Rattle.std.specs.List.{AllByRecursion, filter, list_all, list_any}
+use Rattle.std.specs.Str.{bytes_eq}
+use Rattle.std.proofs.lemmas.Bool.{false≢true, and_parts}
+use Rattle.std.proofs.lemmas.List.{map-append}
+use Rattle.sj_base.specs.declared.ids.Cell.{Cell}
+use Rattle.sj_base.specs.declared.ids.Line.{Line}
+use Rattle.sj_base.specs.declared.tile.Dims.{Dims}
+use Rattle.sj_base.specs.declared.mode.Mode.{Mode}
+use Rattle.sj_base.specs.declared.mode.Mode.TheVariants.{Redux}
+use Rattle.sj_base.specs.declared.mode.Access.{Access}
+use Rattle.sj_base.specs.declared.program.Lowered.{Lowered}
+use Rattle.sj_base.specs.declared.program.Program.{Program}
+use Rattle.sj_base.specs.Array.{Array, area}
+use Rattle.sj_base.specs.Mode.{is_data, is_redux}
+use Rattle.sj_codelet.specs.declared.kernel.Kernel.{Kernel}
+use Rattle.sj_codelet.specs.Kernel.{kernel_of, new_arrays, operand, out, contributes_of}
+use Rattle.sj_codelet.specs.Laws.{result_of, combined}
+use Rattle.sj_core.specs.Program.{same_cell, dims_of, task_of, cell_info}
+use Rattle.sj_core.specs.Proper.{HasValueBefore}
+use Rattle.sj_core.specs.Fold.{Contents, held_in, after_task}
+use Rattle.sj_core.specs.Operands.{found, worked_on}
+use Rattle.sj_core.proofs.Swapping.{first_ins}
+use Rattle.sj_plan.specs.declared.parts.Parts.{Parts}
+use Rattle.sj_plan.specs.Parts.{IsPlace}
+use Rattle.sj_plan.specs.Paste.{same_place}
+use Rattle.sj_plan.specs.Rect.{dims_of as rect_dims}
+use Rattle.sj_plan.specs.Window.{IsWhole}
+use Rattle.sj_job.specs.Statement.{Operand, TaskLine}
+use Rattle.sj_job.specs.Act.{Task as Tasks}
+use Rattle.sj_job.specs.State.{Root, State, root_of, child_rect, is_valued_child}
+use Rattle.sj_job.specs.Meaning.{child_array, contributed_to, seen_by, operand_array, written_of, with_child, put, put_all, run_task, integers_of}
+use Rattle.sj_job.specs.Judge.{needs_value, clashes, is_aliased, is_read_only}
+use Rattle.sj_job.specs.Sound.{IsSoundTask, has_child, has_child_values, child_dims}
+use Rattle.sj_lower.specs.declared.phase.OpenPhase.{OpenPhase}
+use Rattle.sj_lower.specs.Cells.{Cells, Handle, cell_of, cells_from, copy_at, info_at}
+use Rattle.sj_lower.specs.Lowering.{Lowering, active_cell, access_of, task_row, add_own}
+use Rattle.sj_lower.proofs.Adding.{IsSized, SizedCopies, sized, law, added, added-sized, denotes-more, result-more, others-kept, updates, works_on, all-sized}
+use Rattle.sj_lower.proofs.Agreeing.{puts-parts}
+use Rattle.sj_lower.proofs.Combined.{IsTrusted, Phases, with_all, all_workers, range-below, denoted-open, denoted-closed}
+use Rattle.sj_lower.proofs.Contents.{first_worker, task_at, contents_before, contents-next, same_cell-itself}
+use Rattle.sj_lower.proofs.Elements.{written-whole, written-array, written-other, written-valued}
+use Rattle.sj_lower.proofs.Folding.{Stand, later}
+use Rattle.sj_lower.proofs.Holding.{IsHeld, HasRoot, HaveRoots, HaveTheirs, HasCells, cell-dims, differs, not_copy, held-kept, root-kept, root-change}
+use Rattle.sj_lower.proofs.Laid.{AreLaid, IsTaken, none_isn't, some_is, same_name, bytes_eq-itself, cells-apart}
+use Rattle.sj_lower.proofs.Opening.{IsOpened, IsChildOf}
+use Rattle.sj_lower.proofs.Operands.{IsRead, Contributes, all-before, each-before, snoc-parts}
+use Rattle.sj_lower.proofs.Places.{place-is, place-itself}
+use Rattle.sj_lower.proofs.Running.{is_direct, IsClosed, HasKernel, kernel_there, child_there, child_dims-are, child_values-are, active_cell-is, operand_cell, needed, seen_there, by_mode, data_needs, new_dims, new_whole}
+use Rattle.sj_lower.proofs.Stating.{Begins, stands-own, IsActiveChild, Agrees}
+use Rattle.sj_lower.proofs.Writing.{all_dims, AreWhole}
+
+-- ---- what the task line leaves
+
+module _ (has : Kernel → Bool) (S : State) (t : TaskLine) (s : IsSoundTask has S t) (con : Contributes S t (kernel_there has S t s).call.kernel) where
+  abbrev pub o : Operand
+  o = con.last
+
+  abbrev pub kernel : Kernel
+  kernel = (kernel_there has S t s).call.kernel
+
+  abbrev pub outs : List Array
+  outs = out t.codelet t.args (each_of (operand_array S) t.operands)
+
+  -- the new array of the child
+  abbrev pub news : Array
+  news = operand outs 0
+
+  one_dims : all_dims outs ≡ child_dims S o ∷ []
+  one_dims = new_dims has S t s ∙ ap (each_of (child_dims S)) con.written
+
+  pub news-dims : news.dims ≡ child_dims S o
+  news-dims = first outs one_dims
+    where
+      first : (xs : List Array) → all_dims xs ≡ child_dims S o ∷ [] → (operand xs 0).dims ≡ child_dims S o
+      first [] e = absurd (let n : 0 ≡ 1 = ap length e in omega arith)
+      first (x ∷ xs) e = let f : x.dims ∷ all_dims xs ≡ child_dims S o ∷ [] = e in cc
+
+  pub news-whole : IsWhole news
+  news-whole = first outs (new_whole has S t s)
+    where
+      first : (xs : List Array) → AreWhole xs → IsWhole (operand xs 0)
+      first [] h = refl
+      first (x ∷ xs) h = h.0
+
+  pub runs : run_task t S ≡ put o news S
+  runs = ap (λ (os : List Operand). put_all os outs S) con.written ∙ first outs one_dims
+    where
+      first : (xs : List Array) → all_dims xs ≡ child_dims S o ∷ [] → put_all (o ∷ []) xs S ≡ put o (operand xs 0) S
+      first [] e = absurd (let n : 0 ≡ 1 = ap length e in omega arith)
+      first (x ∷ xs) e = refl
+
+  -- it is what the codelet makes of what is contributed to
+  pub news-is : news ≡ result_of kernel t.args (each_of (operand_array S) con.before) (operand_array S o)
+  news-is =
+      ap (λ (x : Option Kernel). operand (elim x as (λ _. List Array) [ None ↦ [] | Some k ↦ new_arrays k t.args (each_of (operand_array S) t.operands) ]) 0) (kernel_there has S t s).call.is
+      ∙ ap (λ (os : List Operand). operand (new_arrays kernel t.args (each_of (operand_array S) os)) 0) con.is
+      ∙ ap (λ (xs : List Array). operand (new_arrays kernel t.args xs) 0) (map-append (operand_array S) con.before (o ∷ []))
+
+-- ---- what the lowered task finds
+
+-- the child of an operand that isn't contributed to
+read_direct : (u : Operand) → IsRead u → is_direct u.mode ≡ true
+read_direct u h = ap not h.0
+
+-- ---- the task as a whole
+
+module _ (has : Kernel → Bool) (p : Program) (L M : Lowering) (S : State) (g : Agrees p L S) (t : TaskLine) (line : Line) (s : IsSoundTask has S t) (con : Contributes S t (kernel_there has S t s).call.kernel)
+    (c : Cell) (root : Root) (own : IsChildOf L.cells S con.last.name con.last.place c root) (op : IsOpened p L M c con.by (contributed_to root con.last.place)) (shut : AllByRecursion (IsClosed L.phase S L.cells) con.before)
+    (begins : Begins p (add_own S (record { line = line; act = Tasks t }) M)) where
+  abbrev u : Operand
+  u = con.last
+
+  abbrev l : Lowered
+  l = task_row S M.cells line t
+
+  abbrev n : ℕ
+  n = length M.tasks
+
+  abbrev now : ℕ
+  now = length (M.tasks ++ l ∷ [])
+
+  abbrev k : Contents
+  k = contents_before p (length L.tasks)
+
+  abbrev mid : Contents
+  mid = contents_before p n
+
+  abbrev new : Contents
+  new = contents_before p now
+
+  longer : now ≡ n + 1
+  longer = length-append M.tasks (l ∷ [])
+
+  stand : Stand p n (l ∷ [])
+  stand = stands-own p S (record { line = line; act = Tasks t }) M begins
+
+  next : new ≡ after_task p first_worker (task_at n) mid
+  next = contents-next p n now longer
+
+  b : HasRoot p L.cells L.phase (length L.tasks) k u.name root
+  b = g.roots u.name root own.is_root
+
+  -- cells of children, before and after
+  moved : (q : List ℕ) (x : Parts) (place : ℕ × ℕ) → cell_of L.cells q x place ≡ cell_of M.cells q x place
+  moved q x place = ap (λ (h : List ℕ → Option Handle). cells_from (elim (h q) [ None ↦ 0 | Some i ↦ unwrap_or (i.first x) 0 ]) x place) (sym op.handles)
+
+  taken : (q : List ℕ) (d : Dims) (x : Parts) (f : ℕ) → IsTaken L.cells q d x f → IsTaken M.cells q d x f
+  taken q d x f h = record { handle = h.handle; is = ap (λ i. i q) op.handles ∙ h.is; dims = h.dims; first = h.first }
+
+  abbrev a : Access
+  a = access_of S M.cells u
+
+  cell-a : a.cell ≡ c
+  cell-a = active_cell-is S M.cells u.name u.place root own.is_root ∙ sym (moved u.name root.parts u.place) ∙ sym own.cell
+
+  accesses : (task_of p (task_at n)).accesses ≡ each_of (access_of S M.cells) con.before ++ a ∷ []
+  accesses = ap (λ (x : Lowered). x.accesses) stand.0 ∙ ap (each_of (access_of S M.cells)) con.is ∙ map-append (access_of S M.cells) con.before (u ∷ [])
+
+  among : Contains (task_of p (task_at n)).accesses a
+  among = subst (λ (xs : List Access). Contains xs a) (sym accesses) (in-end (each_of (access_of S M.cells) con.before) a)
+    where
+      in-end : {X : Type 0} (xs : List X) (x : X) → Contains (xs ++ x ∷ []) x
+      in-end [] x = (0, omega arith, refl)
+      in-end (y ∷ xs) x = let r = in-end xs x in (suc r.0, omega (arith, r.1), r.2)
+
+  partials : (cell_info p a.cell).partials ≡ Some op.f.copies
+  partials = ap (λ (d : Cell). (cell_info p d).partials) cell-a ∙ begins.cells.kept c.0 op.f.copies (op.theirs.theirs c op.f op.is)
+
+  codelet : kernel_of (task_of p (task_at n)).codelet ≡ Some (kernel_there has S t s).call.kernel
+  codelet = ap (λ (x : Lowered). kernel_of x.codelet) stand.0 ∙ (kernel_there has S t s).call.is
+
+  contributes : contributes_of (kernel_there has S t s).call.kernel op.f.by ≡ true
+  contributes = ap (contributes_of (kernel_there has S t s).call.kernel) op.of ∙ con.contributes
+
+  -- a child other than that of the contribution
+  child_apart : (q : List ℕ) (r : Root) (place : ℕ × ℕ) → root_of S q ≡ Some r → IsPlace r.parts place → ((q ≡ u.name) → (place ≡ u.place) → ⊥) → same_cell c (cell_of M.cells q r.parts place) ≡ false
+  child_apart q r place e inside other =
+      let h = g.roots q r e in
+      differs c (cell_of M.cells q r.parts place) (λ same.
+      let one = cells-apart L.cells u.name q root.dims r.dims root.parts r.parts b.first h.first u.place place g.laid b.taken h.taken own.placed inside (sym own.cell ∙ same ∙ sym (moved q r.parts place)) in
+      other (sym one.0) (sym one.2))
+
+  -- a child's cell is none of the partial copies
+  child_beside : (q : List ℕ) (r : Root) (place : ℕ × ℕ) → root_of S q ≡ Some r → IsPlace r.parts place → (e : Cell) (f : OpenPhase) → M.phase e ≡ Some f → (w : ℕ) → w < p.workers → same_cell (cell_of M.cells q r.parts place) (copy_at f.copies w) ≡ false
+  child_beside q r place e inside d f is w below = not_copy p.workers M.cells M.phase q r.dims r.parts (g.roots q r e).first place d f w op.theirs (taken q r.dims r.parts (g.roots q r e).first (g.roots q r e).taken) inside is below
+
+  turned : (x y : Cell) → same_cell x y ≡ false → same_cell y x ≡ false
+  turned x y e = differs y x (λ same. false≢true (sym e ∙ ap (same_cell x) same ∙ same_cell-itself x))
+
+  child_kept : IsTrusted p → (q : List ℕ) (r : Root) (place : ℕ × ℕ) → root_of S q ≡ Some r → IsPlace r.parts place → ((q ≡ u.name) → (place ≡ u.place) → ⊥) → held_in p mid (cell_of M.cells q r.parts place) ≡ held_in p k (cell_of M.cells q r.parts place)
+  child_kept trust q r place e inside other =
+      op.kept (cell_of M.cells q r.parts place) (child_apart q r place e inside other) (λ w below. turned (cell_of M.cells q r.parts place) (copy_at op.f.copies w) (child_beside q r place e inside c op.f op.is w below))
+
+  -- an operand that is only read
+  one_read : IsTrusted p → (v : Operand) → IsRead v → IsClosed L.phase S L.cells v → has_child S v ≡ true → (not (needs_value v.mode) || has_child_values S v) ≡ true → clashes v u ≡ false → found p first_worker (held_in p mid) (access_of S M.cells v) ≡ operand_array S v
+  one_read trust v reads closed placed valued apart =
+      let h = child_there S v placed in
+      let r = g.roots v.name h.root h.is_root in
+      let cell = active_cell-is S M.cells v.name v.place h.root h.is_root in
+      let before = active_cell-is S L.cells v.name v.place h.root h.is_root in
+      ap (λ (d : Cell). let z : Access = record { mode = v.mode; cell = d } in found p first_worker (held_in p mid) z) cell
+      ∙ by_mode p mid v.mode (cell_of M.cells v.name h.root.parts v.place) h.root v.place (read_direct v reads)
+      (cell-dims p M.cells v.name h.root.dims h.root.parts r.first v.place begins.cells op.laid (taken v.name h.root.dims h.root.parts r.first r.taken) h.placed)
+      (λ needs.
+      child_kept trust v.name h.root v.place h.is_root h.placed (λ en ep. false≢true (sym apart ∙ clash v.mode u.mode (bytes_eq v.name u.name) (same_place v.place u.place) con.redux (ap (bytes_eq v.name) (sym en) ∙ bytes_eq-itself v.name) (ap (same_place v.place) (sym ep) ∙ place-itself v.place)))
+      ∙ ap (held_in p k) (sym (moved v.name h.root.parts v.place))
+      ∙ sym (denoted-closed p L.phase k (cell_of L.cells v.name h.root.parts v.place) (ap L.phase (sym before) ∙ closed (data_needs v.mode needs)))
+      ∙ (r.held v.place h.placed (sym (child_values-are S v h.root h.is_root) ∙ needed (needs_value v.mode) (has_child_values S v) valued needs)).value trust)
+      ∙ sym (seen_there S v h.root h.is_root)
+    where
+      clash : (m j : Mode) (x y : Bool) → j ≡ Redux → x ≡ true → y ≡ true → (x && y && not (is_read_only m && is_read_only j)) ≡ true
+      clash m j true true e ex ey = ap (λ z. not (is_read_only m && is_read_only z)) e ∙ ends (is_read_only m)
+        where
+          ends : (z : Bool) → not (z && false) ≡ true
+          ends true = refl
+          ends false = refl
+      clash m j true false e ex ey = absurd (false≢true ey)
+      clash m j false y e ex ey = absurd (false≢true ex)
+
+  all_read : IsTrusted p → (vs : List Operand) → AllByRecursion IsRead vs → AllByRecursion (IsClosed L.phase S L.cells) vs → list_all (has_child S) vs ≡ true → list_all (λ v. not (needs_value v.mode) || has_child_values S v) vs ≡ true → AllByRecursion (λ v. clashes v u ≡ false) vs → each_of (found p first_worker (held_in p mid)) (each_of (access_of S M.cells) vs) ≡ each_of (operand_array S) vs
+  all_read trust [] reads closed placed valued apart = refl
+  all_read trust (v ∷ vs) reads closed placed valued apart =
+      let x = and_parts (has_child S v) (list_all (has_child S) vs) placed in
+      let y = and_parts (not (needs_value v.mode) || has_child_values S v) (list_all (λ v. not (needs_value v.mode) || has_child_values S v) vs) valued in
+      ap (λ (z : Array). z ∷ each_of (found p first_worker (held_in p mid)) (each_of (access_of S M.cells) vs)) (one_read trust v reads.0 closed.0 x.0 y.0 apart.0)
+      ∙ ap (λ (zs : List Array). operand_array S v ∷ zs) (all_read trust vs reads.1 closed.1 x.1 y.1 apart.1)
