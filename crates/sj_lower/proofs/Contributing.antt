@@ -17,12 +17,15 @@ use Rattle.sj_base.specs.Array.{Array, area}
 use Rattle.sj_base.specs.Mode.{is_data, is_redux}
 use Rattle.sj_codelet.specs.declared.kernel.Kernel.{Kernel}
 use Rattle.sj_codelet.specs.Kernel.{kernel_of, new_arrays, operand, out, contributes_of}
-use Rattle.sj_codelet.specs.Laws.{result_of, combined}
+use Rattle.sj_codelet.specs.Laws.{result_of, combined, IsReduction}
 use Rattle.sj_core.specs.Program.{same_cell, dims_of, task_of, cell_info}
 use Rattle.sj_core.specs.Proper.{HasValueBefore}
 use Rattle.sj_core.specs.Fold.{Contents, held_in, after_task}
-use Rattle.sj_core.specs.Operands.{found, worked_on}
+use Rattle.sj_core.specs.Operands.{found, worked_on, copy_of}
+use Rattle.sj_core.proofs.Sized.{AreSized}
 use Rattle.sj_core.proofs.Swapping.{first_ins}
+use Rattle.sj_base.specs.declared.ids.Worker.{Worker}
+use Rattle.std.specs.Option.{is_some}
 use Rattle.sj_plan.specs.declared.parts.Parts.{Parts}
 use Rattle.sj_plan.specs.Parts.{IsPlace}
 use Rattle.sj_plan.specs.Paste.{same_place}
@@ -48,7 +51,7 @@ use Rattle.sj_lower.proofs.Laid.{AreLaid, IsTaken, none_isn't, some_is, same_nam
 use Rattle.sj_lower.proofs.Opening.{IsOpened, IsChildOf}
 use Rattle.sj_lower.proofs.Operands.{IsRead, Contributes, all-before, each-before, snoc-parts}
 use Rattle.sj_lower.proofs.Places.{place-is, place-itself}
-use Rattle.sj_lower.proofs.Running.{is_direct, IsClosed, HasKernel, kernel_there, child_there, child_dims-are, child_values-are, active_cell-is, operand_cell, needed, seen_there, by_mode, data_needs, new_dims, new_whole}
+use Rattle.sj_lower.proofs.Running.{is_direct, IsClosed, HasKernel, kernel_there, child_there, child_dims-are, child_values-are, active_cell-is, operand_cell, needed, seen_there, by_mode, data_needs, or_none, new_dims, new_whole}
 use Rattle.sj_lower.proofs.Stating.{Begins, stands-own, IsActiveChild, Agrees}
 use Rattle.sj_lower.proofs.Writing.{all_dims, AreWhole}
 
@@ -227,3 +230,112 @@ module _ (has : Kernel → Bool) (p : Program) (L M : Lowering) (S : State) (g :
       let y = and_parts (not (needs_value v.mode) || has_child_values S v) (list_all (λ v. not (needs_value v.mode) || has_child_values S v) vs) valued in
       ap (λ (z : Array). z ∷ each_of (found p first_worker (held_in p mid)) (each_of (access_of S M.cells) vs)) (one_read trust v reads.0 closed.0 x.0 y.0 apart.0)
       ∙ ap (λ (zs : List Array). operand_array S v ∷ zs) (all_read trust vs reads.1 closed.1 x.1 y.1 apart.1)
+
+  -- ---- what it leaves
+
+  no_alias : (vs : List Operand) → is_aliased (vs ++ u ∷ []) ≡ false → AllByRecursion (λ v. clashes v u ≡ false) vs
+  no_alias [] e = tt
+  no_alias (v ∷ vs) e =
+      let x = or_none (list_any (clashes v) (vs ++ u ∷ [])) (is_aliased (vs ++ u ∷ [])) e in
+      (last_of (clashes v) vs x.0, no_alias vs x.1)
+    where
+      last_of : (f : Operand → Bool) (vs : List Operand) → list_any f (vs ++ u ∷ []) ≡ false → f u ≡ false
+      last_of f [] h = (or_none (f u) false h).0
+      last_of f (w ∷ vs) h = last_of f vs (or_none (f w) (list_any f (vs ++ u ∷ [])) h).1
+
+  inside : n < length p.tasks
+  inside = stand.1
+
+  seen : operand_array S u ≡ contributed_to root u.place
+  seen = seen_there S u root own.is_root ∙ ap (λ (m : Mode). seen_by m root u.place) con.redux
+
+  module _ (trust : IsTrusted p) where
+    abbrev its_kernel : Kernel
+    its_kernel = (kernel_there has S t s).call.kernel
+
+    is_sized : AreSized p mid
+    is_sized = sized p trust n inside a among con.redux op.f partials its_kernel codelet contributes
+
+    its_law : IsReduction op.f.by
+    its_law = law p trust n inside a among con.redux op.f partials its_kernel codelet contributes
+
+    abbrev size : Dims
+    size = dims_of p a.cell
+
+    copies_sized : SizedCopies p mid op.f size
+    copies_sized w below =
+        let q = copy_at op.f.copies w in
+        let v : Worker = record { 0 = w } in
+        let is : q ≡ copy_of p a.cell v = sym (ap (λ (o : Option Cell). elim o as (λ _. Cell) [ None ↦ a.cell | Some g ↦ record { 0 = g.0 + w } ]) partials) in
+        let same = (trust.proper.cells.copies q a.cell v (record { has_copies = ap (λ (o : Option Cell). is_some o) partials; of_worker = below; is = is })).1 in
+        record { tile = (is_sized q).tile; dims = (is_sized q).dims ∙ same }
+
+    abbrev x : Array
+    x = contributed_to root u.place
+
+    own_sized : IsSized size (held_in p mid c)
+    own_sized = record { tile = (is_sized c).tile; dims = (is_sized c).dims ∙ ap (dims_of p) (sym cell-a) }
+
+    meant : with_all p mid op.f (all_workers p) (held_in p mid c) ≡ x
+    meant = op.value trust its_law is_sized
+
+    x-sized : IsSized size x
+    x-sized = subst (IsSized size) meant (all-sized p mid op.f size (all_workers p) (held_in p mid c) copies_sized (range-below 0 p.workers p.workers (from_none p.workers)) own_sized)
+      where
+        from_none : (m : ℕ) → 0 + m ≤ m
+        from_none m = omega arith
+
+    firsts : first_ins p (task_at n) first_worker (worked_on p first_worker a) (updates p trust n inside a among con.redux op.f partials its_kernel codelet contributes) (held_in p mid) ≡ each_of (operand_array S) con.before
+    firsts =
+        let up = updates p trust n inside a among con.redux op.f partials its_kernel codelet contributes in
+        ap (each_of (found p first_worker (held_in p mid))) (snoc-parts up.before (each_of (access_of S M.cells) con.before) up.last a (sym up.accesses ∙ accesses)).0
+        ∙ all_read trust con.before con.reads shut (all-before (has_child S) con.before u (ap (list_all (has_child S)) (sym con.is) ∙ s.placed)).0
+        (all-before (λ v. not (needs_value v.mode) || has_child_values S v) con.before u (ap (list_all (λ v. not (needs_value v.mode) || has_child_values S v)) (sym con.is) ∙ s.valued)).0
+        (no_alias con.before (ap is_aliased (sym con.is) ∙ s.apart))
+
+    same_kernel : (updates p trust n inside a among con.redux op.f partials its_kernel codelet contributes).kernel ≡ its_kernel
+    same_kernel =
+        let up = updates p trust n inside a among con.redux op.f partials its_kernel codelet contributes in
+        let e : Some up.kernel ≡ Some its_kernel = sym up.codelet ∙ codelet in
+        cc
+
+    -- a cell that is none of the copies holds what it held
+    rest_kept : (d : Cell) → (d ≡ copy_at op.f.copies 0 → ⊥) → held_in p new d ≡ held_in p mid d
+    rest_kept d other = ap (λ (z : Contents). held_in p z d) next ∙ others-kept p trust n inside a among con.redux op.f partials its_kernel codelet contributes d other
+
+    own_not_copy : (w : ℕ) → w < p.workers → same_cell c (copy_at op.f.copies w) ≡ false
+    own_not_copy w below = ap (λ (d : Cell). same_cell d (copy_at op.f.copies w)) (own.cell ∙ moved u.name root.parts u.place) ∙ child_beside u.name root u.place own.is_root own.placed c op.f op.is w below
+
+    unlike : (d e : Cell) → same_cell d e ≡ false → d ≡ e → ⊥
+    unlike d e h same = false≢true (sym h ∙ ap (same_cell d) (sym same) ∙ same_cell-itself d)
+
+    leaves : with_all p new op.f (all_workers p) (held_in p new c) ≡ news has S t s con
+    leaves =
+        let up = updates p trust n inside a among con.redux op.f partials its_kernel codelet contributes in
+        ap (with_all p new op.f (all_workers p)) (rest_kept c (unlike c (copy_at op.f.copies 0) (own_not_copy 0 trust.staffed)))
+        ∙ ap (λ (z : Contents). with_all p z op.f (all_workers p) (held_in p mid c)) next
+        ∙ denotes-more p trust n inside a among con.redux op.f partials its_kernel codelet contributes copies_sized (held_in p mid c) own_sized
+        ∙ ap (combined op.f.by (added p trust n inside a among con.redux op.f partials its_kernel codelet contributes)) meant
+        ∙ sym (result-more p trust n inside a among con.redux op.f partials its_kernel codelet contributes x x-sized)
+        ∙ ap (λ (j : Kernel). result_of j (task_of p (task_at n)).args (first_ins p (task_at n) first_worker (worked_on p first_worker a) up (held_in p mid)) x) same_kernel
+        ∙ ap (λ (z : Lowered). result_of its_kernel z.args (first_ins p (task_at n) first_worker (worked_on p first_worker a) up (held_in p mid)) x) stand.0
+        ∙ ap (λ (zs : List Array). result_of its_kernel t.args zs x) firsts
+        ∙ ap (result_of its_kernel t.args (each_of (operand_array S) con.before)) (sym seen)
+        ∙ sym (news-is has S t s con)
+
+    -- another child, and the partial copies of its phase
+    other_kept : (q : List ℕ) (r : Root) (place : ℕ × ℕ) → root_of S q ≡ Some r → IsPlace r.parts place → ((q ≡ u.name) → (place ≡ u.place) → ⊥) → held_in p new (cell_of M.cells q r.parts place) ≡ held_in p k (cell_of M.cells q r.parts place)
+    other_kept q r place e at other =
+        rest_kept (cell_of M.cells q r.parts place) (unlike (cell_of M.cells q r.parts place) (copy_at op.f.copies 0) (child_beside q r place e at c op.f op.is 0 trust.staffed))
+        ∙ child_kept trust q r place e at other
+
+    -- the copies of another cell's phase
+    copies_kept : (d : Cell) (f : OpenPhase) → same_cell c d ≡ false → L.phase d ≡ Some f → (w : ℕ) → w < p.workers → held_in p new (copy_at f.copies w) ≡ held_in p k (copy_at f.copies w)
+    copies_kept d f other is w below =
+        let m_is : M.phase d ≡ Some f = op.others d other ∙ is in
+        let of_d = op.theirs.theirs d f m_is in
+        let of_c = op.theirs.theirs c op.f op.is in
+        let apart : (v : ℕ) → v < p.workers → (copy_at f.copies w ≡ copy_at op.f.copies v) → ⊥ = λ v h same. unlike c d other (sym (op.theirs.copies.apart d c f.copies op.f.copies w v of_d of_c below h (ap (λ (z : Cell). z.0) same))) in
+        rest_kept (copy_at f.copies w) (apart 0 trust.staffed)
+        ∙ op.kept (copy_at f.copies w) (ap (λ (z : Cell). same_cell z (copy_at f.copies w)) (own.cell ∙ moved u.name root.parts u.place) ∙ child_beside u.name root u.place own.is_root own.placed d f m_is w below)
+        (λ v h. differs (copy_at op.f.copies v) (copy_at f.copies w) (λ same. apart v h (sym same)))
