@@ -1,5 +1,5 @@
 -- A task that contributes: its child denotes afterwards what the task line leaves there.
-use Rattle.std.proofs.Common.{◌≡◌, ℕ, suc, ◌+◌, ◌<◌, ◌≤◌, Bool, true, false, cond, not, ◌&&◌, ◌||◌, Option, Some, None, List, [], ◌∷◌, ◌++◌, length, map as each_of, refl, sym, ap, subst, ◌∙◌, inl, inr, arith, length-append}
+use Rattle.std.proofs.Common.{◌≡◌, ℕ, suc, ◌+◌, ◌<◌, ◌≤◌, Bool, true, false, cond, not, ◌&&◌, ◌||◌, Option, Some, None, List, [], ◌∷◌, ◌++◌, ℤ, length, map as each_of, refl, sym, ap, subst, ◌∙◌, inl, inr, arith, length-append}
 use Rattle.std.specs.Prelude.{Contains, unwrap_or}
 use Rattle.std.specs.List.{AllByRecursion, filter, list_all, list_any}
 use Rattle.std.specs.Str.{bytes_eq}
@@ -33,7 +33,7 @@ use Rattle.sj_plan.specs.Rect.{dims_of as rect_dims}
 use Rattle.sj_plan.specs.Window.{IsWhole}
 use Rattle.sj_job.specs.Statement.{Operand, TaskLine}
 use Rattle.sj_job.specs.Act.{Task as Tasks}
-use Rattle.sj_job.specs.State.{Root, State, root_of, child_rect, is_valued_child}
+use Rattle.sj_job.specs.State.{Root, State, root_of, child_rect, is_child, is_valued_child}
 use Rattle.sj_job.specs.Meaning.{child_array, contributed_to, seen_by, operand_array, written_of, with_child, put, put_all, run_task, integers_of}
 use Rattle.sj_job.specs.Judge.{needs_value, clashes, is_aliased, is_read_only}
 use Rattle.sj_job.specs.Sound.{IsSoundTask, has_child, has_child_values, child_dims}
@@ -41,7 +41,7 @@ use Rattle.sj_lower.specs.declared.phase.OpenPhase.{OpenPhase}
 use Rattle.sj_lower.specs.Cells.{Cells, Handle, cell_of, cells_from, copy_at, info_at}
 use Rattle.sj_lower.specs.Lowering.{Lowering, active_cell, access_of, task_row, add_own}
 use Rattle.sj_lower.proofs.Adding.{IsSized, SizedCopies, sized, law, added, added-sized, denotes-more, result-more, others-kept, updates, works_on, all-sized}
-use Rattle.sj_lower.proofs.Agreeing.{puts-parts}
+use Rattle.sj_lower.proofs.Agreeing.{puts-parts, reduction-is}
 use Rattle.sj_lower.proofs.Combined.{IsTrusted, Phases, with_all, all_workers, range-below, denoted-open, denoted-closed}
 use Rattle.sj_lower.proofs.Contents.{first_worker, task_at, contents_before, contents-next, same_cell-itself}
 use Rattle.sj_lower.proofs.Elements.{written-whole, written-array, written-other, written-valued}
@@ -52,7 +52,7 @@ use Rattle.sj_lower.proofs.Opening.{IsOpened, IsChildOf}
 use Rattle.sj_lower.proofs.Operands.{IsRead, Contributes, all-before, each-before, snoc-parts}
 use Rattle.sj_lower.proofs.Places.{place-is, place-itself}
 use Rattle.sj_lower.proofs.Running.{is_direct, IsClosed, HasKernel, kernel_there, child_there, child_dims-are, child_values-are, active_cell-is, operand_cell, needed, seen_there, by_mode, data_needs, or_none, new_dims, new_whole}
-use Rattle.sj_lower.proofs.Stating.{Begins, stands-own, IsActiveChild, Agrees}
+use Rattle.sj_lower.proofs.Stating.{Begins, stands-own, IsActiveChild, Agrees, by_cell}
 use Rattle.sj_lower.proofs.Writing.{all_dims, AreWhole}
 
 -- ---- what the task line leaves
@@ -339,3 +339,118 @@ module _ (has : Kernel → Bool) (p : Program) (L M : Lowering) (S : State) (g :
         rest_kept (copy_at f.copies w) (apart 0 trust.staffed)
         ∙ op.kept (copy_at f.copies w) (ap (λ (z : Cell). same_cell z (copy_at f.copies w)) (own.cell ∙ moved u.name root.parts u.place) ∙ child_beside u.name root u.place own.is_root own.placed d f m_is w below)
         (λ v h. differs (copy_at op.f.copies v) (copy_at f.copies w) (λ same. apart v h (sym same)))
+
+  -- ---- all roots
+
+  more : length L.tasks ≤ now
+  more = omega (arith, op.later, longer)
+
+  abbrev new_root : Root
+  new_root = with_child u.place (news has S t s con) root
+
+  sized_news : (news has S t s con).dims ≡ rect_dims (child_rect root u.place)
+  sized_news = news-dims has S t s con ∙ child_dims-are S u root own.is_root
+
+  own_held : IsHeld p M.phase now new c (news has S t s con)
+  own_held = record {
+    value = λ trust. denoted-open p M.phase new c op.f op.is ∙ leaves trust;
+    given = later p n now c (omega (arith, longer)) op.given;
+    copies = λ f e w below. subst (λ (h : OpenPhase). HasValueBefore p (task_at now) (copy_at h.copies w)) (some_is op.f f (sym op.is ∙ e)) (later p n now (copy_at op.f.copies w) (omega (arith, longer)) (op.copies_given w below));
+  }
+
+  c-is : c ≡ cell_of M.cells u.name root.parts u.place
+  c-is = own.cell ∙ moved u.name root.parts u.place
+
+  -- a child that isn't the contribution's
+  other_held : (q : List ℕ) (r : Root) (place : ℕ × ℕ) → root_of S q ≡ Some r → IsPlace r.parts place → ((q ≡ u.name) → (place ≡ u.place) → ⊥) → is_valued_child r place ≡ true → IsHeld p M.phase now new (cell_of M.cells q r.parts place) (child_array r place)
+  other_held q r place e at other v =
+      held-kept p L.phase M.phase (length L.tasks) now k new (cell_of M.cells q r.parts place) (child_array r place) more (op.others (cell_of M.cells q r.parts place) (child_apart q r place e at other))
+      (λ trust. other_kept trust q r place e at other) (λ trust f is w below. copies_kept trust (cell_of M.cells q r.parts place) f (child_apart q r place e at other) is w below)
+      (subst (λ (d : Cell). IsHeld p L.phase (length L.tasks) k d (child_array r place)) (moved q r.parts place) ((g.roots q r e).held place at v))
+
+  other_phase : (q : List ℕ) (r : Root) (place : ℕ × ℕ) → root_of S q ≡ Some r → IsPlace r.parts place → ((q ≡ u.name) → (place ≡ u.place) → ⊥) → M.phase (cell_of M.cells q r.parts place) ≡ L.phase (cell_of L.cells q r.parts place)
+  other_phase q r place e at other = op.others (cell_of M.cells q r.parts place) (child_apart q r place e at other) ∙ ap L.phase (sym (moved q r.parts place))
+
+  unlike_place : (x y : ℕ × ℕ) → same_place x y ≡ false → y ≡ x → ⊥
+  unlike_place x y e same = false≢true (sym e ∙ ap (same_place x) same ∙ place-itself x)
+
+  stays : (place : ℕ × ℕ) → IsPlace root.parts place → same_place u.place place ≡ false → is_valued_child new_root place ≡ is_valued_child root place
+  stays place at other = ap (λ es. is_child root.parts place && list_all (λ (e : Option ℤ). is_some e) es) (written-other root u.place place (news has S t s con) own.placed at (λ same. unlike_place u.place place other (sym same)))
+
+  own_root : HasRoot p M.cells M.phase now new u.name new_root
+  own_root = record {
+    fits = b.fits;
+    whole = written-whole root u.place (news has S t s con);
+    first = b.first;
+    taken = taken u.name root.dims root.parts b.first b.taken;
+    held = λ place at v. by_place place at v (same_place u.place place) refl;
+    blank = λ place at v. by_blank place at v (same_place u.place place) refl;
+    reduced = λ place f at e. by_reduced place f at e (same_place u.place place) refl;
+  }
+    where
+      by_place : (place : ℕ × ℕ) → IsPlace root.parts place → is_valued_child new_root place ≡ true → (x : Bool) → same_place u.place place ≡ x → IsHeld p M.phase now new (cell_of M.cells u.name root.parts place) (child_array new_root place)
+      by_place place at v true e =
+          subst (λ (y : ℕ × ℕ). IsHeld p M.phase now new (cell_of M.cells u.name root.parts y) (child_array new_root y)) (place-is u.place place e)
+          (subst (λ (d : Cell). IsHeld p M.phase now new d (child_array new_root u.place)) c-is
+          (subst (λ (z : Array). IsHeld p M.phase now new c z) (sym (written-array root u.place (news has S t s con) own.placed sized_news (news-whole has S t s con))) own_held))
+      by_place place at v false e =
+          subst (λ (z : Array). IsHeld p M.phase now new (cell_of M.cells u.name root.parts place) z)
+          (ap (λ es. record { dims = rect_dims (child_rect root place); elements = integers_of es }) (sym (written-other root u.place place (news has S t s con) own.placed at (λ same. unlike_place u.place place e (sym same)))))
+          (other_held u.name root place own.is_root at (λ en ep. unlike_place u.place place e ep) (sym (stays place at e) ∙ v))
+
+      by_blank : (place : ℕ × ℕ) → IsPlace root.parts place → is_valued_child new_root place ≡ false → (x : Bool) → same_place u.place place ≡ x → M.phase (cell_of M.cells u.name root.parts place) ≡ None
+      by_blank place at v true e = absurd (false≢true (sym v ∙ ap (is_valued_child new_root) (sym (place-is u.place place e)) ∙ written-valued root u.place (news has S t s con) own.placed))
+      by_blank place at v false e = other_phase u.name root place own.is_root at (λ en ep. unlike_place u.place place e ep) ∙ b.blank place at (sym (stays place at e) ∙ v)
+
+      by_reduced : (place : ℕ × ℕ) (f : OpenPhase) → IsPlace root.parts place → M.phase (cell_of M.cells u.name root.parts place) ≡ Some f → (x : Bool) → same_place u.place place ≡ x → root.reduction ≡ Some f.by
+      by_reduced place f at is true e =
+          let same : op.f ≡ f = some_is op.f f (sym op.is ∙ ap M.phase (c-is ∙ ap (cell_of M.cells u.name root.parts) (place-is u.place place e)) ∙ is) in
+          sym (reduction-is S u.name root own.is_root) ∙ con.reduction ∙ ap (λ y. Some y) (sym op.of) ∙ ap (λ (h : OpenPhase). Some h.by) same
+      by_reduced place f at is false e = b.reduced place f at (sym (other_phase u.name root place own.is_root at (λ en ep. unlike_place u.place place e ep)) ∙ is)
+
+  -- another name's root
+  other_root : (q : List ℕ) (r : Root) → root_of S q ≡ Some r → bytes_eq u.name q ≡ false → HasRoot p M.cells M.phase now new q r
+  other_root q r e other =
+      let h = g.roots q r e in
+      let no = λ (en : q ≡ u.name). false≢true (sym other ∙ ap (bytes_eq u.name) en ∙ bytes_eq-itself u.name) in
+      record {
+        fits = h.fits;
+        whole = h.whole;
+        first = h.first;
+        taken = taken q r.dims r.parts h.first h.taken;
+        held = λ place at v. other_held q r place e at (λ en ep. no en) v;
+        blank = λ place at v. other_phase q r place e at (λ en ep. no en) ∙ h.blank place at v;
+        reduced = λ place f at is. h.reduced place f at (sym (other_phase q r place e at (λ en ep. no en)) ∙ is);
+      }
+
+  after_root : (q : List ℕ) → root_of (run_task t S) q ≡ cond (bytes_eq u.name q) (Some new_root) (root_of S q)
+  after_root q = ap (λ (T : State). root_of T q) (runs has S t s con) ∙ root-change (with_child u.place (news has S t s con)) u.name S root q own.is_root
+
+  all_roots : HaveRoots p M.cells M.phase now new (run_task t S)
+  all_roots q r e = by_test (bytes_eq u.name q) refl (sym (after_root q) ∙ e)
+    where
+      by_test : (x : Bool) → bytes_eq u.name q ≡ x → cond x (Some new_root) (root_of S q) ≡ Some r → HasRoot p M.cells M.phase now new q r
+      by_test true eb e = subst (λ (y : Root). HasRoot p M.cells M.phase now new q y) (some_is new_root r e) (subst (λ (y : List ℕ). HasRoot p M.cells M.phase now new y new_root) (same_name u.name q eb) own_root)
+      by_test false eb e = other_root q r e eb
+
+  all_opened : (d : Cell) (f : OpenPhase) → M.phase d ≡ Some f → IsActiveChild M.cells (run_task t S) d
+  all_opened d f e = by_cell (λ d. M.phase d ≡ Some f → IsActiveChild M.cells (run_task t S) d) c d
+      (λ h. record { name = u.name; root = new_root; is_root = after_root u.name ∙ ap (λ x. cond x (Some new_root) (root_of S u.name)) (bytes_eq-itself u.name); place = u.place; placed = own.placed; cell = c-is })
+      (λ other h. elsewhere (op.others _ other) h) e
+    where
+      elsewhere : {d : Cell} → M.phase d ≡ L.phase d → M.phase d ≡ Some f → IsActiveChild M.cells (run_task t S) d
+      elsewhere {d} same h =
+          let child = g.opened d f (sym same ∙ h) in
+          let kept = puts-parts (written_of t.operands) (outs has S t s con) S child.name child.root child.is_root in
+          record {
+            name = child.name;
+            root = kept.0;
+            is_root = kept.1;
+            place = child.place;
+            placed = subst (λ (y : Parts). IsPlace y child.place) (sym kept.2) child.placed;
+            cell = child.cell ∙ moved child.name child.root.parts child.place ∙ ap (λ (y : Parts). cell_of M.cells child.name y child.place) (sym kept.2);
+          }
+
+  -- the task keeps the agreement
+  pub agrees_contributed : Agrees p (add_own S (record { line = line; act = Tasks t }) M) (run_task t S)
+  agrees_contributed = record { laid = op.laid; theirs = op.theirs; roots = all_roots; opened = all_opened }
