@@ -25,9 +25,12 @@ use Rattle.sj_core.proofs.Readiness.{filter-Contains, Contains-from_filter}
 use Rattle.sj_lower.specs.declared.phase.OpenPhase.{OpenPhase}
 use Rattle.sj_lower.specs.Cells.{Cells, info_at, copy_at}
 use Rattle.sj_lower.specs.Rows.{init_row, init_rows, combine_row, combine_rows}
+use Rattle.sj_lower.specs.Lowering.{with_phase}
 use Rattle.sj_lower.proofs.Combined.{Phases}
-use Rattle.sj_lower.proofs.Contents.{task_at, same_cell-is}
+use Rattle.sj_lower.proofs.Contents.{task_at, same_cell-is, same_cell-itself}
 use Rattle.sj_lower.proofs.Folding.{Stand}
+use Rattle.sj_lower.proofs.Owning.{copy-is, is-copy}
+use Rattle.sj_lower.proofs.Stating.{phase-own, phase-other}
 
 -- ---- tasks one after another
 
@@ -159,3 +162,217 @@ log-beside p n k phases ls e stand away log = record {
     | inr new ↦ absurd (false≢true (sym (All-contains (IsAway p phases) (task_number p m).accesses (access Redux c) (each-row p (AreAway p phases) n ls stand away m new (omega (arith, hi, e))) h).direct))
   ];
 }
+
+-- ---- lists of numbers
+
+in-range : (a n m : ℕ) → Contains (range_with_len a n) m → (a ≤ m) × (m < a + n)
+in-range a n m (k, l, e) =
+    let inside : k < n = omega (arith, l, length-range_with_len a n) in
+    let is = sym (get_or-range_with_len a n k m inside) ∙ e in
+    (omega (arith, is), omega (arith, is, inside))
+
+range-has : (a n m : ℕ) → a ≤ m → m < a + n → Contains (range_with_len a n) m
+range-has a n m lo hi = (m - a, omega (arith, lo, hi, length-range_with_len a n), get_or-range_with_len a n (m - a) m (omega (arith, lo, hi)) ∙ back)
+  where
+    back : a + (m - a) ≡ m
+    back = omega (arith, lo)
+
+all-range : (P : ℕ → Type 0) (a n : ℕ) → ((m : ℕ) → a ≤ m → m < a + n → P m) → All P (range_with_len a n)
+all-range P a n f k d h =
+    let inside : k < n = omega (arith, h, length-range_with_len a n) in
+    subst P (sym (get_or-range_with_len a n k d inside)) (f (a + k) (omega arith) (omega (arith, inside)))
+
+none_first : (x : ℕ) → 0 + x ≡ x
+none_first x = omega arith
+
+two-cases : {X : Type 0} (x y a : X) → Contains (x ∷ y ∷ []) a → (x ≡ a) ⊎ (y ≡ a)
+two-cases x y a (zero, l, e) = inl e
+two-cases x y a (suc zero, l, e) = inr e
+two-cases x y a (suc (suc k), l, e) = absurd (omega (arith, l))
+
+one-case : {X : Type 0} (x a : X) → Contains (x ∷ []) a → x ≡ a
+one-case x a (zero, l, e) = e
+one-case x a (suc k, l, e) = absurd (omega (arith, l))
+
+more-has : {X : Type 0} (x : X) (xs : List X) (y : X) → Contains xs y → Contains (x ∷ xs) y
+more-has x xs y (k, l, e) = (suc k, omega (arith, l), e)
+
+first-has : {X : Type 0} (x : X) (xs : List X) → Contains (x ∷ xs) x
+first-has x xs = (0, omega arith, refl)
+
+last-has : {X : Type 0} (xs : List X) (x : X) → Contains (xs ++ x ∷ []) x
+last-has xs x = Contains-append_right xs (x ∷ []) x (first-has x [])
+
+kernel-init : (by : Reduction) → kernel_of (codelet_of (init_of by)) ≡ Some (init_of by)
+kernel-init Plus = refl
+kernel-init Least = refl
+
+kernel-combine : (by : Reduction) → kernel_of (codelet_of (combine_of by)) ≡ Some (combine_of by)
+kernel-combine Plus = refl
+kernel-combine Least = refl
+
+-- ---- a phase is closed
+
+-- what is known of an open phase's cell
+pub record IsOwn (p : Program) (c : Cell) (f : OpenPhase) : Type 0 where
+  pub partials : (cell_info p c).partials ≡ Some f.copies
+  pub plain : IsPlain p c
+  pub copies : (w : ℕ) (d : Cell) (v : Worker) → w < p.workers → IsCopyOf p (copy_at f.copies w) d v → c ≡ d
+
+module _ (p : Program) (n k : ℕ) (phases : Phases) (c : Cell) (f : OpenPhase) (is : phases c ≡ Some f) (e : k ≡ n + p.workers) (stand : Stand p n (combine_rows f c p.workers)) (own : IsOwn p c f) (others : (d : Cell) (g : OpenPhase) → phases d ≡ Some g → IsPlain p d) (log : Logged p n phases) where
+  abbrev mine : IsLogged p n c f (log.start c) (log.contributions c)
+  mine = log.opened c f is
+
+  abbrev combines : List ℕ
+  combines = range_with_len n p.workers
+
+  abbrev inits : List ℕ
+  inits = range_with_len (log.start c) p.workers
+
+  abbrev done : Phase
+  done = record { cell = c; by = f.by; inits = inits; contributions = log.contributions c; combines = combines }
+
+  row : (m : ℕ) → n ≤ m → m < k → task_number p m ≡ combine_row f.by c f.line (copy_at f.copies (m - n))
+  row m lo hi =
+      let back : m ≡ n + (m - n) = omega (arith, lo) in
+      ap (task_number p) back ∙ row-range p (λ w. combine_row f.by c f.line (copy_at f.copies w)) 0 p.workers n stand (m - n) (omega (arith, lo, hi, e)) ∙ ap (λ w. combine_row f.by c f.line (copy_at f.copies w)) (none_first (m - n))
+
+  copy-of-is : (w : Worker) → copy_of p c w ≡ copy_at f.copies w.0
+  copy-of-is w = copy-is p c f.copies w own.partials
+
+  at : (a w d : ℕ) → w < p.workers → slice_index_or (range_with_len a p.workers) w d ≡ a + w
+  at a w d h = get_or-range_with_len a p.workers w d h
+
+  is_phase : IsPhase p done
+  is_phase = record {
+    inits_by_worker = length-range_with_len (log.start c) p.workers;
+    combines_by_worker = length-range_with_len n p.workers;
+    contributed = mine.contributed;
+    inits = λ w h. subst (λ (q : Cell). IsInit f.by q (task_number p (slice_index_or inits w.0 0))) (sym (copy-of-is w)) (subst (λ m. IsInit f.by (copy_at f.copies w.0) (task_number p m)) (sym (at (log.start c) w.0 0 h)) (mine.init w.0 h));
+    contributions = mine.contribution;
+    combines = λ w h. subst (λ m. IsCombine f.by (copy_of p c w) c (task_number p m)) (sym (at n w.0 0 h)) (combine w h);
+    inits_first = all-range (λ i. All (λ m. i < m) (log.contributions c)) (log.start c) p.workers (λ i lo hi. All-weaker (λ m. log.start c + p.workers ≤ m) (λ m. i < m) (λ m g. omega (arith, g, hi)) (log.contributions c) mine.after);
+    combines_last = All-weaker (λ m. m < n) (λ m. All (λ j. m < j) combines) (λ m g. all-range (λ j. m < j) n p.workers (λ j lo hi. omega (arith, g, lo))) (log.contributions c) mine.below;
+    in_worker_order = λ i j d before within. order i j d before (omega (arith, within, length-range_with_len n p.workers));
+    alone = λ m a is_open h touches. alone_at m a (begun_at m is_open) (ended_at m is_open) h touches;
+  }
+    where
+      combine : (w : Worker) → w.0 < p.workers → IsCombine f.by (copy_of p c w) c (task_number p (n + w.0))
+      combine w h =
+          let r = row-range p (λ w. combine_row f.by c f.line (copy_at f.copies w)) 0 p.workers n stand w.0 h ∙ ap (λ w. combine_row f.by c f.line (copy_at f.copies w)) (none_first w.0) in
+          record {
+            codelet = ap (λ (l : Lowered). kernel_of l.codelet) r ∙ kernel-combine f.by;
+            operands = ap (λ (l : Lowered). l.accesses) r ∙ ap (λ (q : Cell). access R q ∷ access RW c ∷ []) (sym (copy-of-is w));
+          }
+
+      order : (i j d : ℕ) → i < j → j < p.workers → get_or combines i d < get_or combines j d
+      order i j d before within = let x = at n i d (omega (arith, before, within)) in let y = at n j d within in omega (arith, x, y, before)
+
+      begun_at : (m : ℕ) → IsOpenAt done m → log.start c ≤ m
+      begun_at m is_open = omega (arith, (in-range (log.start c) p.workers is_open.begun.0 is_open.begun.1).0, is_open.begun.2)
+
+      ended_at : (m : ℕ) → IsOpenAt done m → m < n + p.workers
+      ended_at m is_open = omega (arith, (in-range n p.workers is_open.unfinished.0 is_open.unfinished.1).1, is_open.unfinished.2)
+
+      alone_at : (m : ℕ) (a : Access) → log.start c ≤ m → m < n + p.workers → Contains (data_operands (task_number p m)) a → Touches p c a → IsMember done m ⊎ IsFirstUnit p done m
+      alone_at m a lo hi h touches = elim (cases_lt m n) [
+        | inr late ↦ inl (inr (inr (range-has n p.workers m late hi)))
+        | inl early ↦ elim (mine.alone m a lo early h touches) [
+          | inl first ↦ inl (inl (range-has (log.start c) p.workers m lo first))
+          | inr rest ↦ elim rest [
+            | inl given ↦ inl (inr (inl given))
+            | inr unit ↦ inr (record { init = unit.0; before = unit.1 })
+          ]
+        ]
+      ]
+
+  -- which of two cells it is
+  by_which : (d : Cell) (P : Type 0) → (c ≡ d → P) → (same_cell c d ≡ false → P) → P
+  by_which d P own other = by_test (same_cell c d) refl
+    where
+      by_test : (b : Bool) → same_cell c d ≡ b → P
+      by_test true h = own (same_cell-is c d h)
+      by_test false h = other h
+
+  kept : (d : Cell) (g : OpenPhase) → same_cell c d ≡ false → with_phase c None phases d ≡ Some g → phases d ≡ Some g
+  kept d g other h = sym (phase-other c None phases d other) ∙ h
+
+  shut : (g : OpenPhase) → with_phase c None phases c ≡ Some g → ⊥
+  shut g h = let no : None ≡ Some g = sym (phase-own c None phases) ∙ h in absurd (cc)
+
+  operands : (m : ℕ) (a : Access) → n ≤ m → m < k → Contains (task_number p m).accesses a → (a ≡ access R (copy_at f.copies (m - n))) ⊎ (a ≡ access RW c)
+  operands m a lo hi h = elim (two-cases (access R (copy_at f.copies (m - n))) (access RW c) a (subst (λ (l : Lowered). Contains l.accesses a) (row m lo hi) h)) [
+    | inl x ↦ inl (sym x)
+    | inr x ↦ inr (sym x)
+  ]
+
+  -- a combine touches no other cell with an open phase
+  untouched : (m : ℕ) (a : Access) (d : Cell) (g : OpenPhase) → n ≤ m → m < k → Contains (task_number p m).accesses a → same_cell c d ≡ false → phases d ≡ Some g → Touches p d a → ⊥
+  untouched m a d g lo hi h other open' touches = elim (operands m a lo hi h) [
+    | inl x ↦ elim touches [
+      | inl same ↦ others d g open' c (record { 0 = m - n }) (subst (λ (q : Cell). IsCopyOf p q c (record { 0 = m - n })) (ap (λ (b : Access). b.cell) (sym x) ∙ same) (is-copy p c f.copies (record { 0 = m - n }) own.partials (omega (arith, lo, hi, e))))
+      | inr copy ↦ unlike d other (own.copies (m - n) d copy.0 (omega (arith, lo, hi, e)) (subst (λ (q : Cell). IsCopyOf p q d copy.0) (ap (λ (b : Access). b.cell) x) copy.1))
+    ]
+    | inr x ↦ elim touches [
+      | inl same ↦ unlike d other (ap (λ (b : Access). b.cell) (sym x) ∙ same)
+      | inr copy ↦ own.plain d copy.0 (subst (λ (q : Cell). IsCopyOf p q d copy.0) (ap (λ (b : Access). b.cell) x) copy.1)
+    ]
+  ]
+    where
+      unlike : (d : Cell) → same_cell c d ≡ false → c ≡ d → ⊥
+      unlike d h same = false≢true (sym h ∙ ap (same_cell c) (sym same) ∙ same_cell-itself c)
+
+  pub log-close : Logged p k (with_phase c None phases)
+  log-close = record {
+    closed = done ∷ log.closed;
+    each = All-cons (IsPhase p) done log.closed is_phase log.each;
+    start = log.start;
+    contributions = log.contributions;
+    opened = λ d g h. by_which d (IsLogged p k d g (log.start d) (log.contributions d)) (λ same. absurd (shut g (ap (with_phase c None phases) same ∙ h))) (λ other. longer d g other (kept d g other h));
+    named = λ m a d v hi h copy. elim (cases_lt m n) [
+      | inl old ↦ elim (log.named m a d v old h copy) [
+        | inl past ↦ inl (past.0, more-has done log.closed past.0 past.1, past.2, past.3)
+        | inr now ↦ by_which d (IsNamed p (done ∷ log.closed) (with_phase c None phases) log.start m d)
+            (λ same. inl (done, first-has done log.closed, same, inl (subst (λ (x : Cell). Contains inits m) same (range-has (log.start c) p.workers m (lower m d same now.1) (upper m d same now.2)))))
+            (λ other. inr ((now.0.0, phase-other c None phases d other ∙ now.0.1), now.1, now.2))
+      ]
+      | inr new ↦ elim (operands m a new hi h) [
+        | inl x ↦ inl (done, first-has done log.closed, own.copies (m - n) d v (omega (arith, new, hi, e)) (subst (λ (q : Cell). IsCopyOf p q d v) (ap (λ (b : Access). b.cell) x) copy), inr (range-has n p.workers m new (omega (arith, hi, e))))
+        | inr x ↦ absurd (own.plain d v (subst (λ (q : Cell). IsCopyOf p q d v) (ap (λ (b : Access). b.cell) x) copy))
+      ]
+    ];
+    added = λ m d hi h. elim (cases_lt m n) [
+      | inl old ↦ elim (log.added m d old h) [
+        | inl past ↦ inl (past.0, more-has done log.closed past.0 past.1, past.2, past.3)
+        | inr now ↦ by_which d (IsAdded (done ∷ log.closed) (with_phase c None phases) log.contributions m d)
+            (λ same. inl (done, first-has done log.closed, same, subst (λ (x : Cell). Contains (log.contributions x) m) (sym same) now.1))
+            (λ other. inr ((now.0.0, phase-other c None phases d other ∙ now.0.1), now.1))
+      ]
+      | inr new ↦ elim (operands m (access Redux d) new hi h) [
+        | inl x ↦ absurd (let y : Redux ≡ R = ap (λ (b : Access). b.mode) x in cc)
+        | inr x ↦ absurd (let y : Redux ≡ RW = ap (λ (b : Access). b.mode) x in cc)
+      ]
+    ];
+  }
+    where
+      lower : (m : ℕ) (d : Cell) → c ≡ d → log.start d ≤ m → log.start c ≤ m
+      lower m d same h = subst (λ (x : Cell). log.start x ≤ m) (sym same) h
+
+      upper : (m : ℕ) (d : Cell) → c ≡ d → m < log.start d + p.workers → m < log.start c + p.workers
+      upper m d same h = subst (λ (x : Cell). m < log.start x + p.workers) (sym same) h
+
+      longer : (d : Cell) (g : OpenPhase) → same_cell c d ≡ false → phases d ≡ Some g → IsLogged p k d g (log.start d) (log.contributions d)
+      longer d g other open' =
+          let h = log.opened d g open' in
+          record {
+            begun = omega (arith, e, h.begun);
+            init = h.init;
+            contribution = h.contribution;
+            after = h.after;
+            below = All-weaker (λ m. m < n) (λ m. m < k) (λ m l. omega (arith, e, l)) (log.contributions d) h.below;
+            contributed = h.contributed;
+            alone = λ m a lo hi among touches. elim (cases_lt m n) [
+              | inl old ↦ h.alone m a lo old among touches
+              | inr new ↦ absurd (untouched m a d g new hi (data-of p m a among).0 other open' touches)
+            ];
+          }
