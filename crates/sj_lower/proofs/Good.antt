@@ -86,12 +86,6 @@ no_more n = omega arith
 one_first : {X : Type 0} (n : ℕ) (l : X) (ls : List X) → (n + 1) + length ls ≡ n + length (l ∷ ls)
 one_first n l ls = omega arith
 
-pub stand-append : (p : Program) (n : ℕ) (xs ys : List Lowered) → Stand p n (xs ++ ys) → Stand p n xs × Stand p (n + length xs) ys
-stand-append p n [] ys s = (tt, subst (λ (m : ℕ). Stand p m ys) (no_more n) s)
-stand-append p n (x ∷ xs) ys s =
-    let rest = stand-append p (n + 1) xs ys s.2 in
-    ((s.0, s.1, rest.0), subst (λ (m : ℕ). Stand p m ys) (one_first n x xs) rest.1)
-
 good-append : (p : Program) (n : ℕ) (xs ys : List Lowered) → AreGood p n xs → AreGood p (n + length xs) ys → AreGood p n (xs ++ ys)
 good-append p n [] ys g h = subst (λ (m : ℕ). AreGood p m ys) (sym (no_more n)) h
 good-append p n (x ∷ xs) ys g h = (g.0, good-append p (n + 1) xs ys g.1 (subst (λ (m : ℕ). AreGood p m ys) (sym (one_first n x xs)) h))

@@ -64,16 +64,16 @@ pub record IsLogged (p : Program) (n : ℕ) (c : Cell) (f : OpenPhase) (start : 
   pub contributed : 0 < length contributions
   pub alone : (m : ℕ) (a : Access) → start ≤ m → m < n → Contains (data_operands (task_number p m)) a → Touches p c a → (m < start + p.workers) ⊎ (Contains contributions m ⊎ (IsInit f.by c (task_number p m) × All (λ k. m < k) contributions))
 
-abbrev IsOpen : Phases → Cell → Type 0
+abbrev pub IsOpen : Phases → Cell → Type 0
 IsOpen phases c = (f : OpenPhase) × (phases c ≡ Some f)
 
 -- the task is one that begins or closes a closed phase of the cell, or begins its open one
-abbrev IsNamed : Program → List Phase → Phases → (Cell → ℕ) → ℕ → Cell → Type 0
+abbrev pub IsNamed : Program → List Phase → Phases → (Cell → ℕ) → ℕ → Cell → Type 0
 IsNamed p closed phases start m c =
     ((f : Phase) × Contains closed f × (f.cell ≡ c) × (Contains f.inits m ⊎ Contains f.combines m)) ⊎ (IsOpen phases c × (start c ≤ m) × (m < start c + p.workers))
 
 -- the task is a contribution of a phase of the cell
-abbrev IsAdded : List Phase → Phases → (Cell → List ℕ) → ℕ → Cell → Type 0
+abbrev pub IsAdded : List Phase → Phases → (Cell → List ℕ) → ℕ → Cell → Type 0
 IsAdded closed phases contributions m c =
     ((f : Phase) × Contains closed f × (f.cell ≡ c) × Contains f.contributions m) ⊎ (IsOpen phases c × Contains (contributions c) m)
 
@@ -131,7 +131,7 @@ AreAway p phases l = All (IsAway p phases) l.accesses
 pub data-of : (p : Program) (m : ℕ) (a : Access) → Contains (data_operands (task_number p m)) a → Contains (task_number p m).accesses a × (is_data a.mode ≡ true)
 data-of p m a h = (Contains-from_filter (λ (b : Access). not (is_scratch b.mode)) (task_number p m).accesses a h, filter-Contains (λ (b : Access). not (is_scratch b.mode)) (task_number p m).accesses a h)
 
-away-touches : (p : Program) (phases : Phases) (c : Cell) (f : OpenPhase) (a : Access) → phases c ≡ Some f → IsAway p phases a → is_data a.mode ≡ true → Touches p c a → ⊥
+pub away-touches : (p : Program) (phases : Phases) (c : Cell) (f : OpenPhase) (a : Access) → phases c ≡ Some f → IsAway p phases a → is_data a.mode ≡ true → Touches p c a → ⊥
 away-touches p phases c f a is away isdata (inl same) = let g : None ≡ Some f = sym (away.closed isdata) ∙ ap phases same ∙ is in absurd (cc)
 away-touches p phases c f a is away isdata (inr (w, copy)) = away.plain c w copy
 
@@ -182,7 +182,7 @@ all-range P a n f k d h =
     let inside : k < n = omega (arith, h, length-range_with_len a n) in
     subst P (sym (get_or-range_with_len a n k d inside)) (f (a + k) (omega arith) (omega (arith, inside)))
 
-none_first : (x : ℕ) → 0 + x ≡ x
+pub none_first : (x : ℕ) → 0 + x ≡ x
 none_first x = omega arith
 
 two-cases : {X : Type 0} (x y a : X) → Contains (x ∷ y ∷ []) a → (x ≡ a) ⊎ (y ≡ a)
@@ -190,7 +190,7 @@ two-cases x y a (zero, l, e) = inl e
 two-cases x y a (suc zero, l, e) = inr e
 two-cases x y a (suc (suc k), l, e) = absurd (omega (arith, l))
 
-one-case : {X : Type 0} (x a : X) → Contains (x ∷ []) a → x ≡ a
+pub one-case : {X : Type 0} (x a : X) → Contains (x ∷ []) a → x ≡ a
 one-case x a (zero, l, e) = e
 one-case x a (suc k, l, e) = absurd (omega (arith, l))
 
@@ -200,10 +200,10 @@ more-has x xs y (k, l, e) = (suc k, omega (arith, l), e)
 first-has : {X : Type 0} (x : X) (xs : List X) → Contains (x ∷ xs) x
 first-has x xs = (0, omega arith, refl)
 
-last-has : {X : Type 0} (xs : List X) (x : X) → Contains (xs ++ x ∷ []) x
+pub last-has : {X : Type 0} (xs : List X) (x : X) → Contains (xs ++ x ∷ []) x
 last-has xs x = Contains-append_right xs (x ∷ []) x (first-has x [])
 
-kernel-init : (by : Reduction) → kernel_of (codelet_of (init_of by)) ≡ Some (init_of by)
+pub kernel-init : (by : Reduction) → kernel_of (codelet_of (init_of by)) ≡ Some (init_of by)
 kernel-init Plus = refl
 kernel-init Least = refl
 
