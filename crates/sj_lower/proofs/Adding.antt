@@ -33,7 +33,7 @@ use Rattle.sj_lower.proofs.Contents.{first_worker, task_at, contents_before}
 
 -- ---- arrays that are combined
 
-same-itself : (d e : Dims) → d ≡ e → same d e ≡ true
+pub same-itself : (d e : Dims) → d ≡ e → same d e ≡ true
 same-itself d e h = subst (λ (x : Dims). same d x ≡ true) h (both (nat_eq d.rows d.rows) (nat_eq d.cols d.cols) ((Decides-eqb d.rows d.rows).1 refl) ((Decides-eqb d.cols d.cols).1 refl))
   where
     both : (a b : Bool) → a ≡ true → b ≡ true → (a && b) ≡ true

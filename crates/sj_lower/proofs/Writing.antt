@@ -32,7 +32,7 @@ use Rattle.std.proofs.lemmas.Bool.{and_parts}
 -- ---- modes
 
 -- what an operand writes is what its formal gives
-writes_output : (f : Formal) (m : Mode) → mode_fits f m ≡ true → is_written m ≡ is_output f
+pub writes_output : (f : Formal) (m : Mode) → mode_fits f m ≡ true → is_written m ≡ is_output f
 writes_output FormalR R e = refl
 writes_output FormalR W e = absurd (cc)
 writes_output FormalR RW e = absurd (cc)
