@@ -55,7 +55,7 @@ nothing_more : {X : Type 0} (xs : List X) → xs ++ [] ≡ xs
 nothing_more [] = refl
 nothing_more (x ∷ xs) = ap (λ ys. x ∷ ys) (nothing_more xs)
 
-none_of : {X : Type 0} (o : Option X) → ((x : X) → o ≡ Some x → ⊥) → o ≡ None
+pub none_of : {X : Type 0} (o : Option X) → ((x : X) → o ≡ Some x → ⊥) → o ≡ None
 none_of None h = refl
 none_of (Some x) h = absurd (h x refl)
 
@@ -69,7 +69,7 @@ theirs_taken workers C phases name s laid h = record {
 theirs_rooted : (workers : ℕ) (C : Cells) (phases : Phases) (name : List ℕ) (d : Dims) → HaveTheirs workers C phases → HaveTheirs workers (with_root name d C) phases
 theirs_rooted workers C phases name d h = record { copies = copies-root workers C name d h.copies; theirs = h.theirs }
 
-same_child_cell : (C D : Cells) (q : List ℕ) (d e : Dims) (s : Parts) (f : ℕ) (place : ℕ × ℕ) → IsTaken C q d s f → IsTaken D q e s f → cell_of C q s place ≡ cell_of D q s place
+pub same_child_cell : (C D : Cells) (q : List ℕ) (d e : Dims) (s : Parts) (f : ℕ) (place : ℕ × ℕ) → IsTaken C q d s f → IsTaken D q e s f → cell_of C q s place ≡ cell_of D q s place
 same_child_cell C D q d e s f place t u = one_cell (cell_of C q s place) (cell_of D q s place) (cell-is C q d s f place t ∙ sym (cell-is D q e s f place u))
   where
     one_cell : (c d : Cell) → c.0 ≡ d.0 → c ≡ d
@@ -357,6 +357,22 @@ values_are S name r e = ap (λ (o : Option Root). (elim o as (λ _. Bool) [ None
 abbrev pub IsShut : Lowering → State → List ℕ → Type 0
 IsShut L S name = (r : Root) (place : ℕ × ℕ) → root_of S name ≡ Some r → IsPlace r.parts place → L.phase (cell_of L.cells name r.parts place) ≡ None
 
+-- no phase is open on a child of a plan that isn't active
+pub plan-fresh : (p : Program) (L : Lowering) (S : State) (name : List ℕ) (s : Parts) (r : Root) (f : ℕ) → Agrees p L S → root_of S name ≡ Some r → AreLaid (take name s L.cells) → IsTaken (take name s L.cells) name r.dims s f → same_parts r.parts s ≡ false → (place : ℕ × ℕ) → IsPlace s place → L.phase (cell_of (take name s L.cells) name s place) ≡ None
+plan-fresh p L S name s r f g is laid taken changed place inside = none_of (L.phase (cell_of D name s place)) (λ j e.
+    let o = g.opened (cell_of D name s place) j e in
+    let i = g.roots o.name o.root o.is_root in
+    let kept = take-keeps L.cells name s had.taken.handle had.taken.is o.name o.root.dims o.root.parts i.first i.taken in
+    let same = cells-apart D name o.name r.dims o.root.dims s o.root.parts f i.first place o.place laid taken kept inside o.placed (o.cell ∙ same_child_cell L.cells D o.name o.root.dims o.root.dims o.root.parts i.first o.place i.taken kept) in
+    let one : r ≡ o.root = some_is r o.root (sym is ∙ ap (root_of S) same.0 ∙ o.is_root) in
+    false≢true (sym changed ∙ ap (same_parts r.parts) (same.1 ∙ ap (λ (x : Root). x.parts) (sym one)) ∙ parts-itself r.parts))
+  where
+    D : Cells
+    D = take name s L.cells
+
+    had : HasRoot p L.cells L.phase (length L.tasks) (contents_before p (length L.tasks)) name r
+    had = g.roots name r is
+
 -- or the plan is active already
 abbrev pub IsShutBy : Lowering → State → List ℕ → Parts → Type 0
 IsShutBy L S name s = (r : Root) (place : ℕ × ℕ) → root_of S name ≡ Some r → IsPlace r.parts place → same_parts r.parts s ≡ false → L.phase (cell_of L.cells name r.parts place) ≡ None
@@ -425,12 +441,7 @@ agrees_planned p L S line name s b sound shut g = record { laid = laid; theirs =
     closed changed place inside = ap L.phase (sym (same_cells name r had place)) ∙ shut r place root.1 inside changed
 
     fresh : same_parts r.parts s ≡ false → (place : ℕ × ℕ) → IsPlace s place → L.phase (cell_of D name s place) ≡ None
-    fresh changed place inside = none_of (L.phase (cell_of D name s place)) (λ f e.
-        let o = g.opened (cell_of D name s place) f e in
-        let i = g.roots o.name o.root o.is_root in
-        let same = cells-apart D name o.name r.dims o.root.dims s o.root.parts taken.0 i.first place o.place laid taken.1 (kept o.name o.root i) inside o.placed (o.cell ∙ same_cells o.name o.root i o.place) in
-        let one : r ≡ o.root = some_is r o.root (sym root.1 ∙ ap (root_of S) same.0 ∙ o.is_root) in
-        false≢true (sym changed ∙ ap (same_parts r.parts) (same.1 ∙ ap (λ (x : Root). x.parts) (sym one)) ∙ parts-itself r.parts))
+    fresh changed place inside = plan-fresh p L S name s r taken.0 g root.1 laid taken.1 changed place inside
 
     by_same_opened : (c : Cell) (f : OpenPhase) → L.phase c ≡ Some f → (x : Bool) → same_parts r.parts s ≡ x → IsActiveChild D (plan name s S) c
     by_same_opened c f e x changed =
