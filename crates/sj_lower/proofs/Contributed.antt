@@ -49,9 +49,9 @@ use Rattle.sj_lower.proofs.Giving.{IsGiving, log-extend, log-begin}
 use Rattle.sj_lower.proofs.Good.{IsGood, AreGood, HasItsCopies, good-all, good-append, good_init, good_task, plans-of, contribution-modes, all_given, no_copies}
 use Rattle.sj_lower.proofs.Growing.{Grows, grows-refl}
 use Rattle.sj_lower.proofs.Holding.{HasRoot, HaveTheirs}
-use Rattle.sj_lower.proofs.Laid.{none_isn't, cell-inside}
+use Rattle.sj_lower.proofs.Laid.{some_is, cell-inside}
 use Rattle.sj_lower.proofs.Logging.{Logged, IsAway, IsOwn, last-has, one-case}
-use Rattle.sj_lower.proofs.Opening.{IsOpened, IsChildOf, is-opened, by_opened}
+use Rattle.sj_lower.proofs.Opening.{IsOpened, IsChildOf, goes_on, begins_now, by_opened}
 use Rattle.sj_lower.proofs.Operands.{IsRead, Contributes, all-before}
 use Rattle.sj_lower.proofs.Owning.{one-owner, plain-child, copy-is}
 use Rattle.sj_lower.proofs.Phasing.{each-of_all}
@@ -190,3 +190,66 @@ module _ (has : Kernel → Bool) (T : Table) (p : Program) (L : Lowering) (S : S
           (delivered_beside T p L (add_own S statement M) out (bs ++ l ∷ []) (ap (λ (ds : List Delivery). ds ++ []) deliveries ∙ append-nil L.deliveries) prints all-tasks stand (none_all bs none) fine.delivered);
       logged = log stand;
     }
+
+  -- ---- the phase goes on
+
+  fine_longer : (f : OpenPhase) → L.phase c ≡ Some f → Begins p (add_own S statement (turned L.cells [] c (Some (extended f line)) L)) → IsFine T p (add_own S statement (turned L.cells [] c (Some (extended f line)) L)) (run_task t S) (out ++ [])
+  fine_longer f is begins =
+      let M = turned L.cells [] c (Some (extended f line)) L in
+      let op = goes_on p L S g u.name u.place c root own con.by reduction line f is in
+      fine_given M op [] refl refl refl begins (λ stand. tt) tt (λ stand.
+      log-extend p (length L.tasks) (length (add_own S statement M).tasks) L.phase c f line l is (one_more M) stand.0 plain (subst (λ (by : Reduction). IsGiving p L.phase c by l) (some_is con.by f.by (sym reduction ∙ r.reduced u.place f own.placed is)) giving) fine.logged)
+    where
+      one_more : (M : Lowering) → length ((L.tasks ++ []) ++ task_row S L.cells line t ∷ []) ≡ length L.tasks + 1
+      one_more M = length-append (L.tasks ++ []) (task_row S L.cells line t ∷ []) ∙ ap (λ (ts : List Lowered). length ts + 1) (append-nil L.tasks)
+
+  -- ---- the phase begins
+
+  abbrev valued_now : Bool
+  valued_now = is_valued_child root u.place
+
+  abbrev News : Lowering
+  News = begun p.workers con.by valued_now line c L
+
+  abbrev first : Cell
+  first = first_copy L.cells c
+
+  abbrev begin : List Lowered
+  begin = begin_rows con.by first c valued_now p.workers line
+
+  each-append : {X : Type 0} (P : X → Type 0) (xs ys : List X) → AllByRecursion P xs → AllByRecursion P ys → AllByRecursion P (xs ++ ys)
+  each-append P [] ys h k = k
+  each-append P (x ∷ xs) ys h k = (h.0, each-append P xs ys h.1 k)
+
+  each-begin : (P : Lowered → Type 0) → ((w : ℕ) → w < p.workers → P (init_row con.by line (copy_at first w))) → P (init_row con.by line c) → AllByRecursion P begin
+  each-begin P inits unit =
+      each-append P (init_rows con.by first p.workers line) (cond valued_now [] (init_row con.by line c ∷ [])) (each-map P (λ w. init_row con.by line (copy_at first w)) (range_with_len 0 p.workers) (each-of_all (λ w. P (init_row con.by line (copy_at first w))) p.workers inits)) (by_valued valued_now)
+    where
+      by_valued : (v : Bool) → AllByRecursion P (cond v [] (init_row con.by line c ∷ []))
+      by_valued true = tt
+      by_valued false = (unit, tt)
+
+  there : c.0 < length L.cells.rows
+  there = cell-inside L.cells u.name root.dims root.parts r.first u.place g.laid r.taken own.placed
+
+  fine_new : L.phase c ≡ None → Begins p (add_own S statement News) → IsFine T p (add_own S statement News) (run_task t S) (out ++ [])
+  fine_new none begins =
+      let M = News in
+      let begun_ = begins-own p S statement M begins in
+      let op = begins_now p L S g u.name u.place c root own con.by reduction line begun_ none in
+      let partials = copied-first p.workers c L.cells there in
+      let fresh : OpenPhase = record { by = con.by; copies = first; line = line } in
+      fine_given M op begin refl refl refl begins
+      (λ stand. good-all p (length L.tasks) begin (each-begin (IsGood p (length L.tasks))
+      (λ w below. good_init p (length L.tasks) con.by line (copy_at first w) (omega (arith, op.theirs.copies.inside c first partials, below, begun_.cells.longer)))
+      (good_init p (length L.tasks) con.by line c (omega (arith, there, b.cells.longer)))))
+      (each-begin (λ x. kernel_of x.codelet ≡ Some Deliver → ⊥) (λ w below. none-init con.by line (copy_at first w)) (none-init con.by line c))
+      (λ stand. log-begin p (length L.tasks) (length (add_own S statement M).tasks) L.phase c con.by first valued_now line l none stand one_more
+      (record { partials = begun_.cells.kept c.0 first partials; plain = plain; copies = λ w d v below copy. one-owner p M.cells begun_.cells op.theirs.copies c first w d v partials below copy })
+      (λ d f e. open-plain p L S b g d f e) giving fine.logged)
+    where
+      one_more : length ((L.tasks ++ begin) ++ task_row S (with_copies p.workers c L.cells) line t ∷ []) ≡ (length L.tasks + length begin) + 1
+      one_more = length-append (L.tasks ++ begin) (task_row S (with_copies p.workers c L.cells) line t ∷ []) ∙ ap (λ k. k + 1) (length-append L.tasks begin)
+
+  pub fine_contributed : Begins p (add_own S statement (opened p.workers con.by valued_now line c L)) → IsFine T p (add_own S statement (opened p.workers con.by valued_now line c L)) (run_task t S) (out ++ [])
+  fine_contributed = by_opened p L S g u.name u.place c root own con.by reduction line (λ (M : Lowering). Begins p (add_own S statement M) → IsFine T p (add_own S statement M) (run_task t S) (out ++ [])) (λ f e begins. fine_longer f e begins) (λ e begins. fine_new e begins)

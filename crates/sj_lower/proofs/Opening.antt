@@ -76,13 +76,13 @@ module _ (p : Program) (L : Lowering) (S : State) (g : Agrees p L S) (name : Lis
 
   -- ---- the phase goes on
 
-  abbrev Longer : OpenPhase → Lowering
+  abbrev pub Longer : OpenPhase → Lowering
   Longer f = turned L.cells [] c (Some (extended f line)) L
 
   no_more : contents_before p (length (L.tasks ++ [])) ≡ contents_before p (length L.tasks)
   no_more = ap (λ (ts : List Lowered). contents_before p (length ts)) (append-nil L.tasks)
 
-  goes_on : (f : OpenPhase) → L.phase c ≡ Some f → IsOpened p L (Longer f) c by (contributed_to root place)
+  pub goes_on : (f : OpenPhase) → L.phase c ≡ Some f → IsOpened p L (Longer f) c by (contributed_to root place)
   goes_on f is =
       let valued = valued_by (is_valued_child root place) refl f is in
       let h : IsHeld p L.phase (length L.tasks) (contents_before p (length L.tasks)) c (child_array root place) = subst (λ (d : Cell). IsHeld p L.phase (length L.tasks) (contents_before p (length L.tasks)) d (child_array root place)) (sym own.cell) (b.held place own.placed valued) in
@@ -109,7 +109,7 @@ module _ (p : Program) (L : Lowering) (S : State) (g : Agrees p L S) (name : Lis
 
   -- ---- the phase begins
 
-  abbrev New : Lowering
+  abbrev pub New : Lowering
   New = begun p.workers by (is_valued_child root place) line c L
 
   abbrev first : Cell
@@ -124,7 +124,7 @@ module _ (p : Program) (L : Lowering) (S : State) (g : Agrees p L S) (name : Lis
   abbrev now : ℕ
   now = length (L.tasks ++ ls)
 
-  inside : c.0 < length L.cells.rows
+  pub inside : c.0 < length L.cells.rows
   inside = subst (λ (d : Cell). d.0 < length L.cells.rows) (sym own.cell) (cell-inside L.cells name root.dims root.parts b.first place g.laid b.taken own.placed)
 
   number-is : c.0 ≡ (cell_of L.cells name root.parts place).0
