@@ -444,7 +444,10 @@ pub fn setting_of<'a>(words: &Words<'a>) -> Option<SettingForm<'a>>
     } else if first == b"node".as_slice() {
         alone(&rest).map(SettingForm::Node)
     } else if first == b"policy".as_slice() {
-        policy_in(&rest).map(SettingForm::Policy)
+        match policy_in(&rest) {
+            Some(policy) => Some(SettingForm::Policy(policy)),
+            None => None,
+        }
     } else {
         None
     }
