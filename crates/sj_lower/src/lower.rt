@@ -144,8 +144,11 @@ pub fn lower(alloc: Global, job: Job, workers: u8) -> Result<LoweredJob, LowerRe
     ensures refused { IfErr result (λ e. IsLate e (late_limit (statements_of job))) }
 {
     let Job {
-        roots, statements, ..
+        settings,
+        roots,
+        statements,
     } = job;
+    drop(settings);
     let mut progress = Progress::nothing(alloc);
     for statement in statements.into_items() {
         progress.add(alloc, &roots, statement)?;
