@@ -479,11 +479,17 @@ fn written_count(targets: &[Target]) -> usize
     targets.iter().filter(|t| is_written(t.mode)).count()
 }
 
+fn any_unordered(targets: &[Target]) -> bool
+    ensures { result ≡ list_any (λ t. is_unordered t.mode) targets.now }
+{
+    targets.iter().any(|t| is_unordered(t.mode))
+}
+
 /// Whether one that may come in any order stands beside another written one.
 fn are_mixed(targets: &[Target]) -> bool
     ensures { result ≡ are_mixed targets.now }
 {
-    targets.iter().any(|t| is_unordered(t.mode)) && 1 < written_count(targets)
+    any_unordered(targets) && 1 < written_count(targets)
 }
 
 /// Whether the codelet has the law that an operand's mode asks for.
