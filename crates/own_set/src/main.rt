@@ -2,9 +2,9 @@
 //! the arrays that the run hands over.
 #![tactic(auto)]
 
-ghost use Rattle.std.specs.Prelude.{◌≡◌, ◌↔◌, IsTrue, IfOk, IfErr, Ok, List};
+ghost use Rattle.std.specs.Prelude.{◌≡◌, ◌↔◌, IsTrue, IfOk, IfErr, Ok};
 ghost use Rattle.sj_engine.specs.Run.{HasCodelets};
-ghost use Rattle.sj_job.specs.Act.{Statement};
+ghost use Rattle.sj_job.specs.Job.{Job};
 ghost use Rattle.sj_job.specs.Reading.{job_of};
 ghost use Rattle.sj_lower.specs.Lowering.{lowered};
 ghost use Rattle.own_set.specs.NotRun.{IsNotRun};
@@ -124,8 +124,8 @@ fn shared(alloc: Global, program: Program) -> Result<Arc<Program>, memory::OutOf
 
 /// Runs the program of a text, and gives what its deliver tasks hand over; nothing where the set lacks one of its codelets.
 fn delivered(alloc: Global, text: &[u8]) -> Result<Option<Delivered>, NotRun>
-    ensures ok { IfOk result (λ d. (ss : List Statement) × (job_of turns_has text.now ≡ Ok ss)
-        × Hands d (lowered ss 1)) }
+    ensures ok { IfOk result (λ d. (job : Job) × (job_of turns_has text.now ≡ Ok job)
+        × Hands d (lowered job.statements 1)) }
     ensures err { IfErr result (λ e. IsNotRun e (job_of turns_has text.now)) }
 {
     let job = read(alloc, text, &Turns)?;

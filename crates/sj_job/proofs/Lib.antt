@@ -11,6 +11,7 @@ pub mod Giving
 pub mod Spelling
 pub mod Saying
 pub mod Stating
+pub mod Setting
 pub mod Telling
 pub mod Sounding
 pub mod Welling

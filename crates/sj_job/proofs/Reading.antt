@@ -5,6 +5,8 @@ use Rattle.sj_job.specs.declared.job.Act.{Act as KeptAct}
 use Rattle.sj_job.specs.declared.job.Statement.{Statement as Kept}
 use Rattle.sj_job.specs.declared.names.Names.{Names}
 use Rattle.sj_job.specs.declared.reason.Reason.{Reason}
+use Rattle.sj_job.specs.declared.reason.Objection.{Objection}
+use Rattle.sj_job.specs.declared.reason.Objection.TheVariants.{Bad as Objected, OutOfMemory as NoMemory}
 use Rattle.sj_job.specs.Act.{Statement}
 use Rattle.sj_job.specs.Verdict.{Verdict, Skipped, Does, Bad}
 use Rattle.sj_job.specs.State.{State, start}
@@ -12,7 +14,7 @@ use Rattle.sj_job.specs.Meaning.{run_from}
 use Rattle.sj_job.specs.Judge.{Scope, scope_of}
 use Rattle.sj_job.specs.Names.{scope_in}
 use Rattle.sj_job.specs.Sees.{Sees}
-use Rattle.sj_job.specs.Reading.{statement, verdict_of, refusal}
+use Rattle.sj_job.specs.Reading.{statement, verdict_of, refusal, refused, IsBad, IsRefusal}
 use Rattle.sj_job.specs.Progress.{text_with}
 use Rattle.sj_job.specs.Submits.{act_noted, LineDoes, AreRead}
 use Rattle.sj_job.specs.View.{act_seen, seen_from, count_after, IsPlaced}
@@ -33,6 +35,11 @@ read-skipped has names ss n line rest h e = text_skipped has (seen names ss) n l
 
 pub read-bad : (has : Kernel → Bool) (names : Names) (ss : List Kept) (n : ℕ) (line : List ℕ) (rest : List (List ℕ)) (why : Reason) → AreRead names ss → verdict_of has (scope_in names) line ≡ Bad why → text_with has (seen names ss) n (line ∷ rest) ≡ Err (refusal n why)
 read-bad has names ss n line rest why h e = text_bad has (seen names ss) n line rest why (verdict has names ss line (Bad why) h e)
+
+-- a bad line, or want of memory
+pub read-refused : (has : Kernel → Bool) (names : Names) (ss : List Kept) (n : ℕ) (line : List ℕ) (rest : List (List ℕ)) (e : Objection) → AreRead names ss → IsBad e (verdict_of has (scope_in names) line) → IsRefusal (refused n e) (text_with has (seen names ss) n (line ∷ rest))
+read-refused has names ss n line rest NoMemory h bad = tt
+read-refused has names ss n line rest (Objected why) h bad = read-bad has names ss n line rest why h bad
 
 abbrev pub a_kept : ℕ → KeptAct → Kept
 a_kept n a = record { line = record { 0 = n }; act = a }

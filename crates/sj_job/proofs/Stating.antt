@@ -1,8 +1,6 @@
 -- A line and the grammar: each form is read from what is written of it, and from nothing else; and what it says.
 use Rattle.std.proofs.Common.{◌≡◌, ℕ, ◌&&◌, Bool, true, false, List, [], ◌∷◌, ◌++◌, map, refl, ap, ◌∙◌, sym, subst, Option, Some, None, option_map, cond, bytes_eq, codes}
-use Rattle.std.specs.Prelude.{option_and_then}
 use Rattle.std.specs.List.{list_all}
-use Rattle.sj_base.specs.declared.mode.Policy.{Policy}
 use Rattle.sj_base.specs.declared.mode.Reduction.{Reduction}
 use Rattle.sj_job.specs.declared.form.Keyword.{Keyword}
 use Rattle.sj_job.specs.declared.form.Keyword.TheVariants as keyword
@@ -14,12 +12,12 @@ use Rattle.sj_job.specs.declared.form.ArrayForm.{ArrayForm}
 use Rattle.sj_job.specs.declared.form.OperandForm.{OperandForm}
 use Rattle.sj_job.specs.declared.form.TaskForm.{TaskForm}
 use Rattle.sj_job.specs.declared.form.Form.{Form}
-use Rattle.sj_job.specs.declared.form.Form.TheVariants.{Workers, Node, Policy as PolicyLine, Register, Plan, Redux, Task, Print, Invalidate, Unregister}
+use Rattle.sj_job.specs.declared.form.Form.TheVariants.{Register, Plan, Redux, Task, Print, Invalidate, Unregister}
 use Rattle.sj_job.specs.Word.{is_name}
-use Rattle.sj_job.specs.Form.{keyword_word, keyword_of, keywords, policy_of, reduction_of, reduction_word, bracketed, each_some, operand_of, with_priority, task_of, values_of, fill_of, nothing_of, init_of, with_parts, parted, layout_of, array_of, vector_of, matrix_of, alone, name_in, plan_of, redux_of, form_behind, form_of}
+use Rattle.sj_job.specs.Form.{keyword_word, keyword_of, keywords, reduction_of, reduction_word, bracketed, each_some, operand_of, with_priority, task_of, values_of, fill_of, nothing_of, init_of, with_parts, parted, layout_of, array_of, vector_of, matrix_of, name_in, plan_of, redux_of, form_behind, form_of}
 use Rattle.sj_job.specs.Grammar.{operand_word, codelet_word, priority_words, parts_words, init_words, sized, written, is_piece, has_values, is_proper_operand, is_proper}
 use Rattle.sj_job.proofs.Spelling.{both_true, true_both, some_from, Reads, word-found, same_word, each-reads}
-use Rattle.sj_job.proofs.Saying.{policies, reductions, codelets, operands, priority-back, priority-joins}
+use Rattle.sj_job.proofs.Saying.{reductions, codelets, operands, priority-back, priority-joins}
 
 -- ---- the values of an array
 
@@ -171,17 +169,6 @@ task-back t h =
 
 -- ---- the other lines
 
-alone-read : (ws : List (List ℕ)) (w : List ℕ) → alone ws ≡ Some w → ws ≡ w ∷ []
-alone-read [] w e = absurd (cc)
-alone-read (v ∷ []) w e = let same : v ≡ w = cc in ap (λ w. w ∷ []) same
-alone-read (v ∷ u ∷ ws) w e = absurd (cc)
-
--- a word alone behind a first word
-alone_by : (make : List ℕ → Form) (first : List ℕ) → ((w : List ℕ) → IsSpelled (first ∷ w ∷ []) (make w)) → (ws : List (List ℕ)) (f : Form) → option_map make (alone ws) ≡ Some f → IsSpelled (first ∷ ws) f
-alone_by make first spelled ws f e =
-    let p = some_from make (alone ws) f e in
-    subst (λ ws. IsSpelled (first ∷ ws) f) (sym (alone-read ws p.0 p.1.0)) (subst (IsSpelled (first ∷ p.0 ∷ [])) p.1.1 (spelled p.0))
-
 name_by : (w n : List ℕ) (t : Bool) → is_name w ≡ t → cond t (Some w) None ≡ Some n → (w ≡ n) × (is_name n ≡ true)
 name_by w n true h e = let same : w ≡ n = cc in (same, sym (ap is_name same) ∙ h)
 name_by w n false h e = absurd (cc)
@@ -200,17 +187,6 @@ named_by make first spelled ws f e =
 
 name-back : (n : List ℕ) → is_name n ≡ true → name_in (n ∷ []) ≡ Some n
 name-back n h = ap (λ t. cond t (Some n) None) h
-
-policy_by : (w : List ℕ) (o : Option Policy) (f : Form) → policy_of w ≡ o → option_map PolicyLine o ≡ Some f → IsSpelled (codes "policy" ∷ w ∷ []) f
-policy_by w None f h e = absurd (cc)
-policy_by w (Some p) f h e =
-    let same : PolicyLine p ≡ f = cc in
-    subst (IsSpelled (codes "policy" ∷ w ∷ [])) same (ap (λ w. codes "policy" ∷ w ∷ []) (policies.read w p h).0, refl)
-
-policy-read : (ws : List (List ℕ)) (f : Form) → option_map PolicyLine (option_and_then policy_of (alone ws)) ≡ Some f → IsSpelled (codes "policy" ∷ ws) f
-policy-read [] f e = absurd (cc)
-policy-read (w ∷ []) f e = policy_by w (policy_of w) f refl e
-policy-read (w ∷ v ∷ ws) f e = absurd (cc)
 
 plan_by : (name r c : List ℕ) (f : Form) (t : Bool) → is_name name ≡ t → cond t (Some (Plan name r c)) None ≡ Some f → IsSpelled (codes "plan" ∷ name ∷ r ∷ c ∷ []) f
 plan_by name r c f true h e = let same : Plan name r c ≡ f = cc in subst (IsSpelled (codes "plan" ∷ name ∷ r ∷ c ∷ [])) same (refl, h)
@@ -244,9 +220,6 @@ redux-back name by h =
 -- ---- a line
 
 behind-read : (k : Keyword) (ws : List (List ℕ)) (f : Form) → form_behind k ws ≡ Some f → IsSpelled (keyword_word k ∷ ws) f
-behind-read keyword.Workers ws f e = alone_by Workers (codes "workers") (λ w. (refl, refl)) ws f e
-behind-read keyword.Node ws f e = alone_by Node (codes "node") (λ w. (refl, refl)) ws f e
-behind-read keyword.Policy ws f e = policy-read ws f e
 behind-read keyword.Vector ws f e = let p = some_from Register (vector_of ws) f e in subst (IsSpelled (codes "vector" ∷ ws)) p.1.1 (vector-read ws p.0 p.1.0)
 behind-read keyword.Matrix ws f e = let p = some_from Register (matrix_of ws) f e in subst (IsSpelled (codes "matrix" ∷ ws)) p.1.1 (matrix-read ws p.0 p.1.0)
 behind-read keyword.Plan ws f e = plan-read ws f e
@@ -265,9 +238,6 @@ form-read [] f e = absurd (cc)
 form-read (w ∷ ws) f e = line_by w ws f (keyword_of w) refl e
 
 pub form-back : (f : Form) → is_proper f ≡ true → form_of (written f) ≡ Some f
-form-back (Workers n) h = refl
-form-back (Node n) h = refl
-form-back (PolicyLine p) h = ap (option_map PolicyLine) (policies.back p refl)
 form-back (Register a) h = register-back a.name a.size a.parts a.init h
 form-back (Plan name r c) h = ap (λ t. cond t (Some (Plan name r c)) None) h
 form-back (Redux name by) h = redux-back name by h

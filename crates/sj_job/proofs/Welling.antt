@@ -13,17 +13,17 @@ use Rattle.sj_job.specs.State.{State}
 use Rattle.sj_job.specs.Meaning.{apply}
 use Rattle.sj_job.specs.Word.{words, is_allowed, is_skipped}
 use Rattle.sj_job.specs.Sentence.{said}
-use Rattle.sj_job.specs.Judge.{Scope, scope_of, is_begun, judged}
+use Rattle.sj_job.specs.Judge.{Scope, scope_of, judged}
 use Rattle.sj_job.specs.Reading.{Refusal, refusal, statement, before, act_in, statement_in, reading, verdict_of}
 use Rattle.sj_job.specs.Well.{IsAllowed, IsWell}
 
-by_form : (has : Kernel → Bool) (scope : Scope) (ws : List (List ℕ)) (act : Act) (r : Result Form Reason) → said (is_begun scope) ws ≡ r → (elim r as (λ _. Result Act Reason) [ Err why ↦ Err why | Ok f ↦ judged has scope f ]) ≡ Ok act → IsAllowed has scope act
+by_form : (has : Kernel → Bool) (scope : Scope) (ws : List (List ℕ)) (act : Act) (r : Result Form Reason) → said ws ≡ r → (elim r as (λ _. Result Act Reason) [ Err why ↦ Err why | Ok f ↦ judged has scope f ]) ≡ Ok act → IsAllowed has scope act
 by_form has scope ws act (Err why) p e = absurd (cc)
 by_form has scope ws act (Ok f) p e = record { words = ws; form = f; spelled = p; judged = e }
 
 by_allowed : (has : Kernel → Bool) (scope : Scope) (l : List ℕ) (act : Act) (b : Bool) → cond b (Err Word) (act_in has scope (words l)) ≡ Ok act → IsAllowed has scope act
 by_allowed has scope l act true e = absurd (cc)
-by_allowed has scope l act false e = by_form has scope (words l) act (said (is_begun scope) (words l)) refl e
+by_allowed has scope l act false e = by_form has scope (words l) act (said (words l)) refl e
 
 by_skipped : (has : Kernel → Bool) (scope : Scope) (l : List ℕ) (act : Act) (b : Bool) (r : Result Act Reason) → statement_in has scope l ≡ r → (cond b Skipped (elim r as (λ _. Verdict) [ Err why ↦ Bad why | Ok a ↦ Does a ])) ≡ Does act → IsAllowed has scope act
 by_skipped has scope l act true r p e = absurd (cc)

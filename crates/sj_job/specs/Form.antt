@@ -23,10 +23,8 @@ use Rattle.sj_job.specs.Word.{is_name}
 
 -- ---- the words of the language
 
+-- the first words of statement lines
 abbrev pub keyword_word : Keyword → List ℕ
-keyword_word keyword.Workers = codes "workers"
-keyword_word keyword.Node = codes "node"
-keyword_word keyword.Policy = codes "policy"
 keyword_word keyword.Vector = codes "vector"
 keyword_word keyword.Matrix = codes "matrix"
 keyword_word keyword.Plan = codes "plan"
@@ -38,8 +36,8 @@ keyword_word keyword.Unregister = codes "unregister"
 
 abbrev pub keywords : List Keyword
 keywords =
-    keyword.Workers ∷ keyword.Node ∷ keyword.Policy ∷ keyword.Vector ∷ keyword.Matrix ∷ keyword.Plan
-    ∷ keyword.Redux ∷ keyword.Task ∷ keyword.Print ∷ keyword.Invalidate ∷ keyword.Unregister ∷ []
+    keyword.Vector ∷ keyword.Matrix ∷ keyword.Plan ∷ keyword.Redux ∷ keyword.Task ∷ keyword.Print
+    ∷ keyword.Invalidate ∷ keyword.Unregister ∷ []
 
 abbrev pub policy_word : Policy → List ℕ
 policy_word Eager = codes "eager"
@@ -223,6 +221,10 @@ alone [] = None
 alone (w ∷ []) = Some w
 alone (w ∷ v ∷ ws) = None
 
+-- one word that is a policy's
+abbrev pub policy_in : List (List ℕ) → Option Policy
+policy_in ws = option_and_then policy_of (alone ws)
+
 abbrev pub name_in : List (List ℕ) → Option (List ℕ)
 name_in [] = None
 name_in (name ∷ []) = if is_name name then Some name else None
@@ -241,11 +243,8 @@ redux_of (name ∷ []) = None
 redux_of (name ∷ by ∷ []) = if is_name name then option_map (form.Redux name) (reduction_of by) else None
 redux_of (name ∷ by ∷ w ∷ ws) = None
 
--- the form of a line that begins with this word
+-- the form of a statement line that begins with this word
 abbrev pub form_behind : Keyword → List (List ℕ) → Option Form
-form_behind keyword.Workers ws = option_map form.Workers (alone ws)
-form_behind keyword.Node ws = option_map form.Node (alone ws)
-form_behind keyword.Policy ws = option_map form.Policy (option_and_then policy_of (alone ws))
 form_behind keyword.Vector ws = option_map form.Register (vector_of ws)
 form_behind keyword.Matrix ws = option_map form.Register (matrix_of ws)
 form_behind keyword.Plan ws = plan_of ws
@@ -255,7 +254,7 @@ form_behind keyword.Print ws = option_map form.Print (name_in ws)
 form_behind keyword.Invalidate ws = option_map form.Invalidate (name_in ws)
 form_behind keyword.Unregister ws = option_map form.Unregister (name_in ws)
 
--- the form that these words spell
+-- the statement that these words spell
 abbrev pub form_of : List (List ℕ) → Option Form
 form_of [] = None
 form_of (w ∷ ws) = elim (keyword_of w) [ None ↦ None | Some k ↦ form_behind k ws ]

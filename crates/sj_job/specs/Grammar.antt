@@ -8,12 +8,12 @@ use Rattle.sj_job.specs.declared.form.InitForm.TheVariants.{Values, Fill, Nothin
 use Rattle.sj_job.specs.declared.form.OperandForm.{OperandForm}
 use Rattle.sj_job.specs.declared.form.TaskForm.{TaskForm}
 use Rattle.sj_job.specs.declared.form.Form.{Form}
-use Rattle.sj_job.specs.declared.form.Form.TheVariants.{Workers, Node, Policy, Register, Plan, Redux, Task, Print, Invalidate, Unregister}
+use Rattle.sj_job.specs.declared.form.Form.TheVariants.{Register, Plan, Redux, Task, Print, Invalidate, Unregister}
 use Rattle.sj_job.specs.declared.reason.Reason.{Reason}
 use Rattle.sj_job.specs.declared.reason.Reason.TheVariants as reason
 use Rattle.sj_job.specs.Word.{is_name}
-use Rattle.sj_job.specs.Form.{policy_word, reduction_word, mode_word, is_bracket}
-use Rattle.sj_job.specs.Sentence.{is_numbered, is_built, is_misplaced}
+use Rattle.sj_job.specs.Form.{reduction_word, mode_word, is_bracket}
+use Rattle.sj_job.specs.Sentence.{is_numbered}
 
 -- ---- how a form is written
 
@@ -58,9 +58,6 @@ sized name (Matrix r c) ws = codes "matrix" ∷ name ∷ r ∷ c ∷ ws
 
 -- the words of a form
 abbrev pub written : Form → List (List ℕ)
-written (Workers n) = codes "workers" ∷ n ∷ []
-written (Node n) = codes "node" ∷ n ∷ []
-written (Policy p) = codes "policy" ∷ policy_word p ∷ []
 written (Register a) = sized a.name a.size (parts_words a.parts ++ init_words a.init)
 written (Plan name r c) = codes "plan" ∷ name ∷ r ∷ c ∷ []
 written (Redux name by) = codes "redux" ∷ name ∷ reduction_word by ∷ []
@@ -87,9 +84,6 @@ is_proper_operand o = is_name o.name && list_all is_piece (child_pieces o.child)
 
 -- names are names, and pieces between brackets are pieces
 abbrev pub is_proper : Form → Bool
-is_proper (Workers n) = true
-is_proper (Node n) = true
-is_proper (Policy p) = true
 is_proper (Register a) = is_name a.name && has_values a.init
 is_proper (Plan name r c) = is_name name
 is_proper (Redux name by) = is_name name
@@ -103,36 +97,22 @@ pub record Spells (ws : List (List ℕ)) (f : Form) : Type 0 where
   pub line : ws ≡ written f
   pub proper : IsTrue (is_proper f)
 
--- ---- what a line says
+-- ---- what a statement line says
 
--- a form that stands in its place
-pub record StandsAs (begun : Bool) (ws : List (List ℕ)) (f : Form) : Type 0 where
+-- the words say a form: they spell it, with numbers where it has numbers
+pub record SaysForm (ws : List (List ℕ)) (f : Form) : Type 0 where
   pub spelled : Spells ws f
-  pub placed : IsTrue (not (is_misplaced begun f))
-
--- the words say a form: they spell it in its place, with numbers where it has numbers, and it is read
-pub record SaysForm (begun : Bool) (ws : List (List ℕ)) (f : Form) : Type 0 where
-  pub stands : StandsAs begun ws f
   pub numbered : IsTrue (is_numbered f)
-  pub built : IsTrue (is_built f)
 
--- a form in its place, but a word or a piece in the place of a number says none
-pub record LacksNumber (begun : Bool) (ws : List (List ℕ)) : Type 0 where
+-- a form, but a word or a piece in the place of a number says none
+pub record LacksNumber (ws : List (List ℕ)) : Type 0 where
   pub form : Form
-  pub stands : StandsAs begun ws form
+  pub spelled : Spells ws form
   pub unnumbered : IsTrue (not (is_numbered form))
 
--- a form in its place with its numbers that this version doesn't read
-pub record LacksBuilding (begun : Bool) (ws : List (List ℕ)) : Type 0 where
-  pub form : Form
-  pub stands : StandsAs begun ws form
-  pub numbered : IsTrue (is_numbered form)
-  pub unbuilt : IsTrue (not (is_built form))
-
 -- what these words say: a form, or why they say none
-abbrev pub Says : Bool → List (List ℕ) → Result Form Reason → Type 0
-Says begun ws (Ok f) = SaysForm begun ws f
-Says begun ws (Err reason.Word) = (f : Form) → ¬ (StandsAs begun ws f)
-Says begun ws (Err reason.Number) = LacksNumber begun ws
-Says begun ws (Err reason.NotBuilt) = LacksBuilding begun ws
-Says begun ws (Err why) = ⊥
+abbrev pub Says : List (List ℕ) → Result Form Reason → Type 0
+Says ws (Ok f) = SaysForm ws f
+Says ws (Err reason.Word) = (f : Form) → ¬ (Spells ws f)
+Says ws (Err reason.Number) = LacksNumber ws
+Says ws (Err why) = ⊥

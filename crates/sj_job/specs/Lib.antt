@@ -2,6 +2,8 @@ pub mod Word
 pub mod Reason
 pub mod Statement
 pub mod Act
+pub mod Settings
+pub mod Job
 pub mod Verdict
 pub mod Table
 pub mod View

@@ -2,8 +2,6 @@
 use Rattle.std.specs.Prelude.{ℕ, Bool, true, false, ◌&&◌, not, map, Option, Some, None, unwrap_or, Result, Ok, Err, List, [], ◌∷◌, ℤ, pos, codes, if◌then◌else◌}
 use Rattle.std.specs.List.{list_all}
 use Rattle.std.specs.Str.{bytes_eq}
-use Rattle.sj_base.specs.declared.mode.Mode.{Mode}
-use Rattle.sj_base.specs.declared.mode.Mode.TheVariants.{R, W, RW, Scratch, Redux, Commute}
 use Rattle.sj_codelet.specs.declared.kernel.Kernel.{Kernel}
 use Rattle.sj_codelet.specs.Kernel.{codelet_of}
 use Rattle.sj_plan.specs.declared.parts.Parts.{Parts}
@@ -24,7 +22,7 @@ use Rattle.sj_job.specs.declared.form.Form.TheVariants as form
 use Rattle.sj_job.specs.Statement.{Register, TaskLine}
 use Rattle.sj_job.specs.Table.{undivided}
 use Rattle.sj_job.specs.declared.reason.Reason.{Reason}
-use Rattle.sj_job.specs.declared.reason.Reason.TheVariants.{Word, Number, NotBuilt}
+use Rattle.sj_job.specs.declared.reason.Reason.TheVariants.{Word, Number}
 use Rattle.sj_job.specs.Word.{is_count, is_integer, count, integer}
 use Rattle.sj_job.specs.Form.{form_of}
 
@@ -57,9 +55,6 @@ is_numbered_task t =
     && is_numbered_priority t.priority
 
 abbrev pub is_numbered : Form → Bool
-is_numbered (form.Workers n) = is_count n
-is_numbered (form.Node n) = is_count n
-is_numbered (form.Policy p) = true
 is_numbered (form.Register a) = is_numbered_array a
 is_numbered (form.Plan name r c) = is_count r && is_count c
 is_numbered (form.Redux name by) = true
@@ -67,28 +62,6 @@ is_numbered (form.Task t) = is_numbered_task t
 is_numbered (form.Print name) = true
 is_numbered (form.Invalidate name) = true
 is_numbered (form.Unregister name) = true
-
--- ---- which forms this version reads
-
-abbrev pub is_built_mode : Mode → Bool
-is_built_mode R = true
-is_built_mode W = true
-is_built_mode RW = true
-is_built_mode Scratch = true
-is_built_mode Redux = false
-is_built_mode Commute = false
-
-abbrev pub is_built : Form → Bool
-is_built (form.Workers n) = false
-is_built (form.Node n) = false
-is_built (form.Policy p) = false
-is_built (form.Register a) = true
-is_built (form.Plan name r c) = true
-is_built (form.Redux name by) = false
-is_built (form.Task t) = list_all (λ o. is_built_mode o.mode) t.operands
-is_built (form.Print name) = true
-is_built (form.Invalidate name) = true
-is_built (form.Unregister name) = true
 
 -- ---- what the parts of a form say
 
@@ -154,27 +127,13 @@ task_said k t = record {
 
 -- ---- a line
 
-abbrev pub is_setting : Form → Bool
-is_setting (form.Workers n) = true
-is_setting (form.Node n) = true
-is_setting (form.Policy p) = true
-is_setting f = false
+-- a form with numbers where it has numbers
+abbrev pub said_of : Form → Result Form Reason
+said_of f = if is_numbered f then Ok f else Err Number
 
--- settings stand before the statements, of which one has begun the job
-abbrev pub is_misplaced : Bool → Form → Bool
-is_misplaced begun f = is_setting f && begun
-
--- a form that stands in its place with numbers where it has numbers, and is read: the order of the reasons
-abbrev pub said_of : Bool → Form → Result Form Reason
-said_of begun f =
-    if is_misplaced begun f then Err Word
-    else if not (is_numbered f) then Err Number
-    else if not (is_built f) then Err NotBuilt
-    else Ok f
-
--- what a line of these words says, where a statement stands before it or none does
-abbrev pub said : Bool → List (List ℕ) → Result Form Reason
-said begun ws = elim (form_of ws) [ None ↦ Err Word | Some f ↦ said_of begun f ]
+-- what a statement line of these words says
+abbrev pub said : List (List ℕ) → Result Form Reason
+said ws = elim (form_of ws) [ None ↦ Err Word | Some f ↦ said_of f ]
 
 -- the first line that isn't skipped
 abbrev pub is_header : List (List ℕ) → Bool

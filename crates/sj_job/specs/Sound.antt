@@ -1,14 +1,12 @@
 -- What holds of an act that a line may say: its run needs no more.
-use Rattle.std.specs.Prelude.{◌≡◌, ◌≤◌, ℕ, Bool, true, false, Option, ◌||◌, not, ◌&&◌, is_some, is_none, IsTrue, None, Some, List, map, length}
+use Rattle.std.specs.Prelude.{◌≡◌, ◌≤◌, ℕ, Bool, true, false, Option, ◌||◌, not, is_some, is_none, IsTrue, None, Some, List, map, length}
 use Rattle.std.specs.List.{list_all, list_any}
 use Rattle.sj_base.specs.declared.tile.Dims.{Dims}
-use Rattle.sj_base.specs.declared.mode.Mode.{Mode}
 use Rattle.sj_base.specs.declared.mode.Reduction.{Reduction}
-use Rattle.sj_base.specs.Mode.{is_redux, is_commute}
 use Rattle.sj_base.specs.declared.program.Codelet.{Codelet}
 use Rattle.sj_base.specs.Array.{area}
 use Rattle.sj_codelet.specs.declared.kernel.Kernel.{Kernel}
-use Rattle.sj_codelet.specs.Kernel.{fits_in, commutes_in, contributes_in}
+use Rattle.sj_codelet.specs.Kernel.{fits_in}
 use Rattle.sj_codelet.specs.Runs.{formals_in}
 use Rattle.sj_plan.specs.declared.parts.Parts.{Parts}
 use Rattle.sj_plan.specs.Parts.{Fits}
@@ -21,7 +19,7 @@ use Rattle.sj_job.specs.Act.{Act}
 use Rattle.sj_job.specs.Act.{Register as Registers, Plan, Redux as Reduces, Task, Print, Invalidate, Unregister}
 use Rattle.sj_job.specs.Meaning.{written_of}
 use Rattle.sj_job.specs.State.{State, root_of, is_valued, is_blank, is_child, child_rect, is_valued_child}
-use Rattle.sj_job.specs.Judge.{is_side, is_priority, modes_fit, needs_value, is_aliased}
+use Rattle.sj_job.specs.Judge.{is_side, is_priority, modes_fit, needs_value, is_aliased, is_unordered, is_lawful_for}
 
 -- the dimensions of a name's root, or none by none
 abbrev pub dims_of : State → List ℕ → Dims
@@ -52,19 +50,13 @@ has_child S o = elim (root_of S o.name) [ None ↦ false | Some r ↦ is_child r
 abbrev pub has_child_values : State → Operand → Bool
 has_child_values S o = elim (root_of S o.name) [ None ↦ false | Some r ↦ is_valued_child r o.place ]
 
--- an operand's mode lets its task change places with others
-abbrev pub is_unordered : Mode → Bool
-is_unordered m = is_redux m || is_commute m
-
 -- the reduction of a name's root, if it has one
 abbrev pub reduction_of : State → List ℕ → Option Reduction
 reduction_of S name = elim (root_of S name) [ None ↦ None | Some r ↦ r.reduction ]
 
 -- a contribution's codelet adds to what the reduction of its root combines, and a commuting one's runs may change places
 abbrev pub is_lawful : (Kernel → Bool) → State → Codelet → Operand → Bool
-is_lawful has S id o =
-    (not (is_commute o.mode) || commutes_in has id)
-    && (not (is_redux o.mode) || elim (reduction_of S o.name) [ None ↦ false | Some by ↦ contributes_in has id by ])
+is_lawful has S id o = is_lawful_for has id (reduction_of S o.name) o.mode
 
 -- codelet, arguments, dimensions and modes of a task go together, and what it reads is there
 pub record IsSoundTask (has : Kernel → Bool) (S : State) (t : TaskLine) : Type 0 where

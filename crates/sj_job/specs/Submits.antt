@@ -1,20 +1,17 @@
 -- What a form does to the reader's names.
-use Rattle.std.specs.Prelude.{◌≡◌, ℕ, ◌+◌, Bool, Result, Ok, Err, List, length, if◌then◌else◌}
+use Rattle.std.specs.Prelude.{◌≡◌, ℕ, ◌+◌, Bool, Result, Ok, Err, List, length}
 use Rattle.sj_codelet.specs.declared.kernel.Kernel.{Kernel}
 use Rattle.sj_job.specs.declared.form.Form.{Form}
 use Rattle.sj_job.specs.declared.job.Act.{Act as KeptAct}
 use Rattle.sj_job.specs.declared.job.Statement.{Statement as Kept}
 use Rattle.sj_job.specs.declared.names.Names.{Names}
-use Rattle.sj_job.specs.declared.reason.Objection.{Objection}
-use Rattle.sj_job.specs.declared.reason.Objection.TheVariants.{Bad}
 use Rattle.sj_job.specs.declared.reason.Reason.{Reason}
-use Rattle.sj_job.specs.declared.reason.Reason.TheVariants.{Number, NotBuilt}
 use Rattle.sj_job.specs.Act.{Act}
 use Rattle.sj_job.specs.Verdict.{Does}
 use Rattle.sj_job.specs.Sentence.{said_of}
 use Rattle.sj_job.specs.State.{State, start}
 use Rattle.sj_job.specs.Meaning.{apply, run_from}
-use Rattle.sj_job.specs.Judge.{Scope, is_begun, judged}
+use Rattle.sj_job.specs.Judge.{Scope, judged}
 use Rattle.sj_job.specs.Names.{scope_in}
 use Rattle.sj_job.specs.Reading.{verdict_of}
 use Rattle.sj_job.specs.View.{act_seen, seen_from, count_after, IsPlaced, Extends, IsNumbered}
@@ -22,11 +19,7 @@ use Rattle.sj_job.specs.Sees.{Sees}
 
 -- what a form does, or the first reason against it
 abbrev pub done_in : (Kernel → Bool) → Scope → Form → Result Act Reason
-done_in has s f = elim (said_of (is_begun s) f) [ Err why ↦ Err why | Ok g ↦ judged has s g ]
-
--- why a form that isn't read is refused
-abbrev pub unbuilt : Bool → Objection
-unbuilt numbered = if numbered then Bad NotBuilt else Bad Number
+done_in has s f = elim (said_of f) [ Err why ↦ Err why | Ok g ↦ judged has s g ]
 
 -- the act as contracts see it, once the names have followed
 abbrev pub act_noted : Names → Names → KeptAct → Act

@@ -8,7 +8,8 @@ use Rattle.sj_job.specs.declared.job.TaskLine.{TaskLine as KeptTask}
 use Rattle.sj_job.specs.declared.job.Act.{Act as KeptAct}
 use Rattle.sj_job.specs.declared.job.Act.TheVariants as kept
 use Rattle.sj_job.specs.declared.job.Statement.{Statement as Kept}
-use Rattle.sj_job.specs.declared.job.Job.{Job}
+use Rattle.sj_job.specs.declared.job.Job.{Job as KeptJob}
+use Rattle.sj_job.specs.Job.{Job, job}
 use Rattle.sj_job.specs.Statement.{Register as Registration, Operand, TaskLine}
 use Rattle.sj_job.specs.Act.{Act, Register, Plan, Redux, Task, Print, Invalidate, Unregister, Statement}
 use Rattle.sj_job.specs.Table.{Table, table, a_root, name_of, info_of}
@@ -56,8 +57,12 @@ seen_from T k [] = []
 seen_from T k (s ∷ ss) = statement_seen T k s ∷ seen_from T (count_after k s.act) ss
 
 -- the statements of a job
-abbrev pub statements_of : Job → List Statement
-statements_of job = seen_from job.roots 0 job.statements
+abbrev pub statements_of : KeptJob → List Statement
+statements_of kept = seen_from kept.roots 0 kept.statements
+
+-- the job: its settings, and its statements with names
+abbrev pub job_seen : KeptJob → Job
+job_seen kept = job kept.settings (statements_of kept)
 
 -- an act speaks of roots that were registered before it
 abbrev pub IsPlaced : ℕ → KeptAct → Type 0

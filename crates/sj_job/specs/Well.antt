@@ -6,13 +6,13 @@ use Rattle.sj_job.specs.Act.{Act, Statement}
 use Rattle.sj_job.specs.Sentence.{said}
 use Rattle.sj_job.specs.State.{State}
 use Rattle.sj_job.specs.Meaning.{apply}
-use Rattle.sj_job.specs.Judge.{Scope, scope_of, is_begun, judged}
+use Rattle.sj_job.specs.Judge.{Scope, scope_of, judged}
 
 -- words say this act, and no reason stands against it
 pub record IsAllowed (has : Kernel → Bool) (scope : Scope) (act : Act) : Type 0 where
   pub words : List (List ℕ)
   pub form : Form
-  pub spelled : said (is_begun scope) words ≡ Ok form
+  pub spelled : said words ≡ Ok form
   pub judged : judged has scope form ≡ Ok act
 
 -- each statement is allowed in the state that those before it leave, of which k stand before the first

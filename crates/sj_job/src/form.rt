@@ -86,12 +86,9 @@ fn split_at_commas(alloc: Global, text: &[u8]) -> Result<Vec<&[u8]>, AllocError>
     text.split(|b| *b == b',').collect(alloc)
 }
 
-/// The first word of a line.
+/// The first word of a statement line.
 #[derive(Clone, Copy, Debug, PartialEq, Eq)]
 pub enum Keyword {
-    Workers,
-    Node,
-    Policy,
     Vector,
     Matrix,
     Plan,
@@ -144,12 +141,17 @@ pub struct TaskForm<'a> {
     pub priority: Option<Piece<'a>>,
 }
 
-/// A line.
+/// A settings line: `workers N`, `node BYTES` or `policy P`.
 #[derive(Debug, Drop)]
-pub enum Form<'a> {
+pub enum SettingForm<'a> {
     Workers(Piece<'a>),
     Node(Piece<'a>),
     Policy(Policy),
+}
+
+/// A statement line.
+#[derive(Debug, Drop)]
+pub enum Form<'a> {
     Register(ArrayForm<'a>),
     Plan(Piece<'a>, Piece<'a>, Piece<'a>),
     Redux(Piece<'a>, Reduction),

@@ -1,9 +1,10 @@
-//! The statements of a job.
+//! The settings and statements of a job.
 
 ghost use Rattle.std.specs.Prelude.{◌≡◌};
 ghost use Rattle.sj_job.specs.Meaning.{is_written};
 
 use crate::roots::Roots;
+use crate::settings::Settings;
 use sj_base::ids::{Line, Root};
 use sj_base::mode::{Mode, Reduction};
 use sj_base::sequence::Sequence;
@@ -57,14 +58,6 @@ impl Operand {
             Mode::W | Mode::RW | Mode::Redux | Mode::Commute => true,
         }
     }
-
-    /// Whether the operand is accessed otherwise than by a contribution; a scratch buffer is no access. Constant time.
-    pub fn is_other_access(&self) -> bool {
-        match self.mode {
-            Mode::Redux | Mode::Scratch => false,
-            Mode::R | Mode::W | Mode::RW | Mode::Commute => true,
-        }
-    }
 }
 
 /// `task CODELET OPERANDS`: submits a task.
@@ -84,7 +77,7 @@ pub enum Act {
     Register(Init),
     /// Makes a plan the active one.
     Plan(Root, Parts),
-    /// Gives a root its reduction, once.
+    /// Gives a root its reduction, for good.
     Redux(Root, Reduction),
     Task(TaskLine),
     Print(Root),
@@ -101,9 +94,10 @@ pub struct Statement {
     pub act: Act,
 }
 
-/// The statements of a job text, in order, and the roots that they register.
+/// What a job text says: its settings, its statements in order, and the roots that they register.
 #[derive(Drop)]
 pub struct Job {
+    pub settings: Settings,
     pub roots: Roots,
     pub statements: Sequence<Statement>,
 }

@@ -11,6 +11,7 @@ pub mod number;
 pub mod read;
 pub mod reason;
 pub mod roots;
+pub mod settings;
 pub mod spell;
 pub mod submit;
 #[cfg(test)]
@@ -19,5 +20,9 @@ mod tests;
 mod tests_of_lines;
 #[cfg(test)]
 mod tests_of_plans;
+#[cfg(test)]
+mod tests_of_reductions;
+#[cfg(test)]
+mod tests_of_settings;
 pub mod track;
 pub mod word;

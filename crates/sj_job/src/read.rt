@@ -1,22 +1,25 @@
 //! Reading a job text.
 
-ghost use Rattle.std.specs.Prelude.{◌≡◌, ◌+◌, ◌≤◌, ◌<◌, ◌^◌, ◌∷◌, ℕ, Bool, List, length, Ok, IfOk, IfErr, IfNone, IfSome, OnOk};
+ghost use Rattle.std.specs.Prelude.{◌≡◌, ◌+◌, ◌≤◌, ◌<◌, ◌^◌, ◌∷◌, ℕ, Bool, List, length, Ok, IfOk, IfErr, IfNone, IfSome, IsTrue, OnOk};
+ghost use Rattle.std.specs.Bool.{IsFalse};
 ghost use Rattle.sj_codelet.specs.declared.kernel.Kernel.{Kernel};
 ghost use Rattle.sj_job.specs.Word.{lines};
 ghost use Rattle.sj_job.specs.State.{start};
 ghost use Rattle.sj_job.specs.Names.{IsCounted, scope_in};
-ghost use Rattle.sj_job.specs.Verdict.{Skipped};
-ghost use Rattle.sj_job.specs.Reading.{reading, reading_header, job_of, verdict_of, IsBad, IsRefusal};
+ghost use Rattle.sj_job.specs.Verdict.{Skipped, Passes, Begins};
+ghost use Rattle.sj_job.specs.Reading.{front_of, reading, reading_header, reading_settings, refused, with_settings, job_of, verdict_of, IsBad, IsRefusal, IsStopped};
 ghost use Rattle.sj_job.specs.Progress.{text_with};
 ghost use Rattle.sj_job.specs.Submits.{LineDoes, AreRead};
-ghost use Rattle.sj_job.specs.View.{seen_from, statements_of, IsNumbered};
+ghost use Rattle.sj_job.specs.Settings.{unset, IsWithinLimits};
+ghost use Rattle.sj_job.specs.View.{seen_from, statements_of, job_seen, IsNumbered};
 ghost use Rattle.sj_job.specs.Well.{IsWell};
 
 use crate::job::{Act, Job, Statement};
 use crate::line::{Words, are_allowed, is_header, is_skipped, next_line, trimmed};
 use crate::names::Names;
 use crate::reason::{LimitKind, Objection, ReadRefusal, Reason};
-use crate::spell::form_of;
+use crate::settings::Settings;
+use crate::spell::{form_of, setting_of};
 use crate::submit::submit;
 use sj_base::ids::Line;
 use sj_base::sequence::Sequence;
@@ -80,22 +83,21 @@ fn read_line<C: Codelets>(
             })?;
             Ok(())
         }
-        Err(Objection::Bad(reason)) => Err(ReadRefusal::Refused {
-            line: Line(number),
-            reason,
-        }),
-        Err(Objection::OutOfMemory) => Err(ReadRefusal::OutOfMemory),
+        Err(why) => Err(refused(number, why)),
     }
 }
 
-/// The job of the lines from a number on. Linear in them, but that codelets are looked up in the table.
+/// The job of these settings and of the lines from a number on. Linear in the lines, but that codelets are looked up in the
+/// table.
 fn read_statements<C: Codelets>(
     alloc: Global,
+    settings: Settings,
     text: &[u8],
     first: u32,
     codelets: &C,
 ) -> Result<Job, ReadRefusal>
     requires { first + length text.now < 2 ^ 32 }
+    ensures settings { IfOk result (λ job. job.settings ≡ settings) }
     ensures ok { IfOk result (λ job.
         reading C.has 0 start first (lines text.now) ≡ Ok (statements_of job)) }
     ensures numbered { IfOk result (λ job. IsNumbered job.roots job.statements) }
@@ -111,9 +113,77 @@ fn read_statements<C: Codelets>(
         rest = tail;
     }
     Ok(Job {
+        settings,
         roots: names.roots,
         statements: Sequence::of(statements),
     })
+}
+
+/// What a line does before the first statement: whether the settings go on behind it. Linear in the line.
+fn set_by_line(settings: &mut Settings, line: &[u8]) -> Result<bool, Objection>
+    requires { IsWithinLimits settings.old }
+    ensures within { OnOk result (IsWithinLimits settings.new) }
+    ensures passes { IfOk result (λ passes. IsTrue passes →
+        front_of settings.old line.now ≡ Passes settings.new) }
+    ensures begins { IfOk result (λ passes. IsFalse passes →
+        (settings.new ≡ settings.old) × (front_of settings.old line.now ≡ Begins)) }
+    ensures err { IfErr result (λ e. IsStopped e (front_of settings.old line.now)) }
+{
+    let words = Words::of(line);
+    if is_skipped(&words) {
+        return Ok(true);
+    }
+    let Some(form) = setting_of(&words) else {
+        return Ok(false);
+    };
+    if !are_allowed(line) {
+        return Ok(false);
+    }
+    settings.set(&form)?;
+    Ok(true)
+}
+
+/// What the settings lines in front of a text set, what follows them, and the number of the next line. Linear in these lines.
+fn read_settings(
+    alloc: Global,
+    text: &[u8],
+    first: u32,
+) -> Result<(Settings, &[u8], u32), ReadRefusal>
+    requires { first + length text.now < 2 ^ 32 }
+    ensures bound { IfOk result (λ r. r.2 + length r.1.now ≤ first + length text.now) }
+    ensures within { IfOk result (λ r. IsWithinLimits r.0) }
+    ensures ok { IfOk result (λ r. (has : Kernel → Bool) → reading_settings has unset first (lines text.now)
+        ≡ with_settings r.0 (reading has 0 start r.2 (lines r.1.now))) }
+    ensures err { IfErr result (λ e. (has : Kernel → Bool) →
+        IsRefusal e (reading_settings has unset first (lines text.now))) }
+{
+    let mut settings = Settings::none(alloc);
+    let mut rest = text;
+    let mut number = first;
+    while let Some((line, tail)) = next_line(rest) {
+        match set_by_line(&mut settings, line) {
+            Ok(true) => {
+                number += 1;
+                rest = tail;
+            }
+            Ok(false) => return Ok((settings, rest, number)),
+            Err(why) => return Err(refused(number, why)),
+        }
+    }
+    Ok((settings, rest, number))
+}
+
+/// The refusal of a text at a line.
+fn refused(number: u32, why: Objection) -> ReadRefusal
+    ensures { result ≡ refused number why }
+{
+    match why {
+        Objection::Bad(reason) => ReadRefusal::Refused {
+            line: Line(number),
+            reason,
+        },
+        Objection::OutOfMemory => ReadRefusal::OutOfMemory,
+    }
 }
 
 /// What follows the header, and the number of the next line. Linear in what stands before it.
@@ -121,7 +191,7 @@ fn skip_header(text: &[u8]) -> Result<(&[u8], u32), ReadRefusal>
     requires { length text.now < 2 ^ 31 }
     ensures bound { IfOk result (λ r. r.1 + length r.0.now ≤ 1 + length text.now) }
     ensures ok { IfOk result (λ r. (has : Kernel → Bool) →
-        reading_header has 1 (lines text.now) ≡ reading has 0 start r.1 (lines r.0.now)) }
+        reading_header has 1 (lines text.now) ≡ reading_settings has unset r.1 (lines r.0.now)) }
     ensures err { IfErr result (λ e. (has : Kernel → Bool) →
         IsRefusal e (reading_header has 1 (lines text.now))) }
 {
@@ -149,8 +219,9 @@ fn skip_header(text: &[u8]) -> Result<(&[u8], u32), ReadRefusal>
 
 /// Reads a job text: one pass over it. Each name is looked up once, in time linear in it, and each codelet in the table.
 pub fn read<C: Codelets>(alloc: Global, text: &[u8], codelets: &C) -> Result<Job, ReadRefusal>
-    ensures ok { IfOk result (λ job. job_of C.has text.now ≡ Ok (statements_of job)) }
+    ensures ok { IfOk result (λ job. job_of C.has text.now ≡ Ok (job_seen job)) }
     ensures err { IfErr result (λ e. IsRefusal e (job_of C.has text.now)) }
+    ensures within { IfOk result (λ job. IsWithinLimits job.settings) }
     ensures well { IfOk result (λ job. IsWell C.has 0 start (statements_of job)) }
     ensures numbered { IfOk result (λ job. IsNumbered job.roots job.statements) }
 {
@@ -161,5 +232,6 @@ pub fn read<C: Codelets>(alloc: Global, text: &[u8], codelets: &C) -> Result<Job
         });
     }
     let (rest, number) = skip_header(text)?;
-    read_statements(alloc, rest, number, codelets)
+    let (settings, rest, number) = read_settings(alloc, rest, number)?;
+    read_statements(alloc, settings, rest, number, codelets)
 }

@@ -3,10 +3,12 @@
 ghost use Rattle.std.specs.Prelude.{◌≡◌, ◌==◌, ◌+◌, ◌<◌, not, map, drop, length, slice_index, true, IsTrue, IfOk, IfSome, MatchOption, option_map};
 ghost use Rattle.std.specs.List.{before_first, after_first, list_all};
 ghost use Rattle.sj_job.specs.Word.{is_name};
-ghost use Rattle.sj_job.specs.declared.form.Keyword.TheVariants as keyword;
-ghost use Rattle.sj_job.specs.Form.{keyword_of, policy_of, reduction_of, mode_of, is_bracket, pieces_of, bracketed, around_last, child_of, operand_of, each_some, priority_of, with_priority, task_of, values_of, fill_of, nothing_of, init_of, with_parts, parted, layout_of, array_of, vector_of, matrix_of, alone, name_in, plan_of, redux_of, form_behind, form_of};
+ghost use Rattle.sj_job.specs.Form.{keyword_of, policy_of, reduction_of, mode_of, is_bracket, pieces_of, bracketed, around_last, child_of, operand_of, each_some, priority_of, with_priority, task_of, values_of, fill_of, nothing_of, init_of, with_parts, parted, layout_of, array_of, vector_of, matrix_of, alone, policy_in, name_in, plan_of, redux_of, form_behind, form_of};
+ghost use Rattle.sj_job.specs.Settings.{setting_of};
 
-use crate::form::{ArrayForm, Form, InitForm, Keyword, OperandForm, Piece, Pieces, Size, TaskForm};
+use crate::form::{
+    ArrayForm, Form, InitForm, Keyword, OperandForm, Piece, Pieces, SettingForm, Size, TaskForm,
+};
 use crate::line::{Words, first_place};
 use crate::word::is_name;
 use memchr::memrchr;
@@ -21,13 +23,7 @@ type Layout<'a> = (Option<(Piece<'a>, Piece<'a>)>, InitForm<'a>);
 fn keyword_of(word: &[u8]) -> Option<Keyword>
     ensures { result ≡ keyword_of word.now }
 {
-    if word == b"workers".as_slice() {
-        Some(Keyword::Workers)
-    } else if word == b"node".as_slice() {
-        Some(Keyword::Node)
-    } else if word == b"policy".as_slice() {
-        Some(Keyword::Policy)
-    } else if word == b"vector".as_slice() {
+    if word == b"vector".as_slice() {
         Some(Keyword::Vector)
     } else if word == b"matrix".as_slice() {
         Some(Keyword::Matrix)
@@ -432,19 +428,32 @@ fn redux_of<'a>(words: &Words<'a>) -> Option<Form<'a>>
 }
 
 /// One word that is a policy's.
-fn policy_line<'a>(words: &Words<'a>) -> Option<Form<'a>>
-    ensures { result ≡ form_behind keyword.Policy words.now }
+fn policy_in(words: &Words<'_>) -> Option<Policy>
+    ensures { result ≡ policy_in words.now }
 {
-    match alone(words) {
-        Some(word) => match policy_of(word.bytes()) {
-            Some(policy) => Some(Form::Policy(policy)),
+    policy_of(alone(words)?.bytes())
+}
+
+/// The settings line that these words spell, or `None` where they spell none. Linear in the first three.
+pub fn setting_of<'a>(words: &Words<'a>) -> Option<SettingForm<'a>>
+    ensures { result ≡ setting_of words.now }
+{
+    let (first, rest) = words.split_first()?;
+    if first == b"workers".as_slice() {
+        alone(&rest).map(SettingForm::Workers)
+    } else if first == b"node".as_slice() {
+        alone(&rest).map(SettingForm::Node)
+    } else if first == b"policy".as_slice() {
+        match policy_in(&rest) {
+            Some(policy) => Some(SettingForm::Policy(policy)),
             None => None,
-        },
-        None => None,
+        }
+    } else {
+        None
     }
 }
 
-/// The form of a line that begins with this word. Linear in the words.
+/// The form of a statement line that begins with this word. Linear in the words.
 fn form_behind<'a>(
     alloc: Global,
     keyword: Keyword,
@@ -453,9 +462,6 @@ fn form_behind<'a>(
     ensures { IfOk result (λ form. form ≡ form_behind keyword words.now) }
 {
     match keyword {
-        Keyword::Workers => Ok(alone(words).map(Form::Workers)),
-        Keyword::Node => Ok(alone(words).map(Form::Node)),
-        Keyword::Policy => Ok(policy_line(words)),
         Keyword::Vector => Ok(vector_of(words).map(Form::Register)),
         Keyword::Matrix => Ok(matrix_of(words).map(Form::Register)),
         Keyword::Plan => Ok(plan_of(words)),
@@ -467,7 +473,7 @@ fn form_behind<'a>(
     }
 }
 
-/// The form that these words spell, or `None` where no line is spelled so. Linear in the words, but that the values of an array
+/// The statement that these words spell, or `None` where none is spelled so. Linear in the words, but that the values of an array
 /// aren't gone over.
 pub fn form_of<'a>(alloc: Global, words: &Words<'a>) -> Result<Option<Form<'a>>, OutOfMemory>
     ensures { IfOk result (λ form. form ≡ form_of words.now) }

@@ -18,7 +18,7 @@ pub fn gives(alloc: Global, text: &[u8]) -> Result<usize, ReadRefusal> {
 }
 
 /// Each reason by a text that gives no other.
-const ALONE: [Refused; 45] = [
+const ALONE: [Refused; 44] = [
     ("", 1, Reason::Header),
     ("#\n\n", 3, Reason::Header),
     ("starjob 3\n", 1, Reason::Header),
@@ -56,7 +56,6 @@ const ALONE: [Refused; 45] = [
         2,
         Reason::Number,
     ),
-    ("starjob 1\nworkers 2\n", 2, Reason::NotBuilt),
     (
         "starjob 1\nvector x 0 none\n",
         2,
@@ -191,7 +190,7 @@ const FIRST_OF_TWO: [Refused; 20] = [
     ("vecter x 2 none\n", 1, Reason::Header),
     ("starjob 1\nvector 1x b none\n", 2, Reason::Word),
     ("starjob 1\nworkers b\n", 2, Reason::Number),
-    ("starjob 1\ntask cube x:COMMUTE\n", 2, Reason::NotBuilt),
+    ("starjob 1\ntask cube x:COMMUTE\n", 2, Reason::UnknownName),
     (
         "starjob 1\ntask scale(2) x:RW prio=1001\n",
         2,

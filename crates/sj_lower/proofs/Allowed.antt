@@ -41,9 +41,6 @@ task_isn't has s t act j =
     subst DoesNotDeliver j.is (named_isn't t.codelet j.kernel (second (has j.kernel) (has_name t.codelet j.kernel) passes))
 
 nameable : (has : Kernel → Bool) (s : Scope) (f : Form) (act : Act) → judged has s f ≡ Ok act → DoesNotDeliver act
-nameable has s (form.Workers n) act e = absurd (cc)
-nameable has s (form.Node n) act e = absurd (cc)
-nameable has s (form.Policy p) act e = absurd (cc)
 nameable has s (form.Register a) act e = subst DoesNotDeliver (unless_parts (first_of (register_reasons s a.name (registered_by a).dims (parts_said a.parts) (init_said a.init))) (Register (registered_by a)) act e).1 tt
 nameable has s (form.Plan name r c) act e = subst DoesNotDeliver (unless_parts (first_of (plan_reasons s name (parts_said (Some (r, c))))) (Plan name (parts_said (Some (r, c)))) act e).1 tt
 nameable has s (form.Redux name by) act e = absurd (cc)

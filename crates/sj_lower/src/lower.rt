@@ -170,7 +170,12 @@ pub fn lower(alloc: Global, job: Job, workers: u8) -> Result<LoweredJob, LowerRe
     ensures in_order { IfOk result (λ l. DeliversInOrder l.program) }
     ensures refused { IfErr result (λ e. IsLate e (late_limit workers (statements_of job))) }
 {
-    let Job { roots, statements } = job;
+    let Job {
+        settings,
+        roots,
+        statements,
+    } = job;
+    drop(settings);
     let mut progress = Progress::nothing(alloc, workers);
     for statement in statements.into_items() {
         progress.add(alloc, &roots, statement)?;

@@ -11,6 +11,14 @@ use sj_base::mode::Mode;
 use sj_job::job::{Act, Operand};
 use std::alloc::Global;
 
+/// Whether an operand is accessed otherwise than by a contribution; a scratch buffer is no access. Constant time.
+fn is_other_access(operand: &Operand) -> bool {
+    match operand.mode {
+        Mode::Redux | Mode::Scratch => false,
+        Mode::R | Mode::W | Mode::RW | Mode::Commute => true,
+    }
+}
+
 impl Progress {
     /// Closes the phase of a cell, if one is open. Linear in the workers.
     fn close(&mut self, alloc: Global, cell: Cell, line: Line) -> Result<(), OutOfMemory> {
@@ -49,7 +57,7 @@ impl Progress {
         line: Line,
     ) -> Result<(), OutOfMemory> {
         for operand in operands {
-            if operand.is_other_access() {
+            if is_other_access(operand) {
                 let placed = self.lowerer.actives[operand.root.0 as usize].placed();
                 self.close(alloc, placed.cell(operand.place), line)?;
             }

@@ -12,7 +12,7 @@ use Rattle.sj_job.specs.declared.reason.LimitKind.TheVariants.{Text}
 use Rattle.sj_job.specs.declared.reason.ReadRefusal.{ReadRefusal}
 use Rattle.sj_job.specs.declared.reason.ReadRefusal.TheVariants.{Refused as Bad, OutOfMemory as NoMemory}
 use Rattle.sj_job.specs.Word.{lines}
-use Rattle.sj_job.specs.Act.{Statement}
+use Rattle.sj_job.specs.Job.{Job}
 use Rattle.starjob.specs.declared.status.Status.{Status}
 use Rattle.starjob.specs.declared.status.Status.TheVariants.{Done, Usage, Refused, SourceFault, SinkFault, OutOfMemory}
 use Rattle.starjob.specs.declared.source_text.Unread.{Unread}
@@ -48,11 +48,11 @@ refused_ok (Ok ss) e h o = cc
 refused_ok (Err f) e h o = cc
 
 -- a job isn't refused where its text is answered by Done or by a fault of the sink
-is_ok : (P : List Statement → Type 0) (job : JobOrRefusal) → IsOkAnd job P → IsOk job
+is_ok : (P : Job → Type 0) (job : JobOrRefusal) → IsOkAnd job P → IsOk job
 is_ok P (Ok ss) h = refl
 is_ok P (Err e) h = absurd h
 
-both_of : (P Q : List Statement → Type 0) (job : JobOrRefusal) → IsOkAnd job (λ ss. P ss × Q ss) → IsOkAnd job P × IsOkAnd job Q
+both_of : (P Q : Job → Type 0) (job : JobOrRefusal) → IsOkAnd job (λ j. P j × Q j) → IsOkAnd job P × IsOkAnd job Q
 both_of P Q (Ok ss) h = (h.0, h.1)
 both_of P Q (Err e) h = absurd h
 
@@ -83,10 +83,10 @@ module _ (has : Kernel → Bool) (source source' out out' : Device) (text : List
 
   pub answered-by : (status : Status) → AnsweredText (sound_job_of has text) status out out' trace → Answered has status source source' out out' trace
   answered-by Done a =
-      let p = both_of (λ ss. Appends out.bytes out'.bytes (text_of ss)) (λ ss. RanWhole ss trace) (sound_job_of has text) a.0 in
+      let p = both_of (λ j. Appends out.bytes out'.bytes (text_of j)) (λ j. RanWhole j trace) (sound_job_of has text) a.0 in
       record {
-        printed = holds (λ job. IsOkAnd job (λ ss. Appends out.bytes out'.bytes (text_of ss))) p.0;
-        each_task_ran_once = holds (λ job. IsOkAnd job (λ ss. RanWhole ss trace)) p.1;
+        printed = holds (λ job. IsOkAnd job (λ j. Appends out.bytes out'.bytes (text_of j))) p.0;
+        each_task_ran_once = holds (λ job. IsOkAnd job (λ j. RanWhole j trace)) p.1;
         read = read;
         read_to_the_end = end (short has text (sound-ok (job_of has text) (is_ok _ (sound_job_of has text) p.0)));
         out_never_failed = a.1;
@@ -95,8 +95,8 @@ module _ (has : Kernel → Bool) (source source' out out' : Device) (text : List
   answered-by (Refused line reason) a = record { cause = holds (λ job. job ≡ Err (record { line = line; reason = reason })) a.0; read = read; nothing_ran = a.1 }
   answered-by SourceFault a = absurd a
   answered-by SinkFault a =
-      let p = both_of (λ ss. TakesPrefix out.bytes out'.bytes (text_of ss)) (λ ss. RanWhole ss trace) (sound_job_of has text) a.0 in
-      record { cause = a.1; front = holds (λ job. IsOkAnd job (λ ss. TakesPrefix out.bytes out'.bytes (text_of ss))) p.0; each_task_ran_once = holds (λ job. IsOkAnd job (λ ss. RanWhole ss trace)) p.1; read = read }
+      let p = both_of (λ j. TakesPrefix out.bytes out'.bytes (text_of j)) (λ j. RanWhole j trace) (sound_job_of has text) a.0 in
+      record { cause = a.1; front = holds (λ job. IsOkAnd job (λ j. TakesPrefix out.bytes out'.bytes (text_of j))) p.0; each_task_ran_once = holds (λ job. IsOkAnd job (λ j. RanWhole j trace)) p.1; read = read }
   answered-by OutOfMemory a = record { ran = holds (λ job. Began job trace) a; source_never_failed = read.never_failed }
 
 -- memory ran out before the text was read

@@ -3,7 +3,7 @@ use Rattle.std.specs.Prelude.{ℕ, ◌≤◌, List, [], ◌++◌, codes, decimal
 use Rattle.std.specs.Io.KnownBytes.{Appends}
 use Rattle.sj_edge.specs.Faults.{Rose}
 use Rattle.sj_job.specs.declared.reason.Reason.{Reason}
-use Rattle.sj_job.specs.declared.reason.Reason.TheVariants.{Header, Word, Number, UnknownName, TakenName, UnknownCodelet, OperandCount, Shape, Part, Aliased, NoValue, NoReduction, NotLawful, MixedOutputs, Limit, EndedName, NotBuilt}
+use Rattle.sj_job.specs.declared.reason.Reason.TheVariants.{Header, Word, Number, UnknownName, TakenName, UnknownCodelet, OperandCount, Shape, Part, Aliased, NoValue, NoReduction, NotLawful, MixedOutputs, Limit, EndedName}
 use Rattle.sj_job.specs.declared.reason.LimitKind.{LimitKind}
 use Rattle.sj_job.specs.declared.reason.LimitKind.TheVariants.{Text, Statements, Workers, Nodes, NodeBytes, Names, Elements, Parts, Priority, Cells, Tasks}
 use Rattle.starjob.specs.declared.status.Status.{Status}
@@ -42,7 +42,6 @@ reason_word NotLawful = codes "not lawful"
 reason_word MixedOutputs = codes "mixed outputs"
 reason_word (Limit kind) = codes "limit "
 reason_word EndedName = codes "ended name"
-reason_word NotBuilt = codes "not built"
 
 abbrev pub limit_word : Reason → List ℕ
 limit_word (Limit kind) = limit_name kind

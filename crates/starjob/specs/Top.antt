@@ -5,7 +5,7 @@ use Rattle.std.specs.Io.KnownBytes.{Appends, IsAtEnd}
 use Rattle.sj_base.specs.declared.trace.Event.{Event}
 use Rattle.sj_base.specs.declared.ids.Line.{Line}
 use Rattle.sj_codelet.specs.declared.kernel.Kernel.{Kernel}
-use Rattle.sj_job.specs.Act.{Statement}
+use Rattle.sj_job.specs.Job.{Job}
 use Rattle.sj_job.specs.declared.reason.Reason.{Reason}
 use Rattle.sj_job.specs.declared.reason.ReadRefusal.{ReadRefusal}
 use Rattle.sj_job.specs.declared.reason.ReadRefusal.TheVariants.{Refused as Bad, OutOfMemory as NoMemory}
@@ -19,30 +19,30 @@ use Rattle.starjob.specs.Output.{output}
 use Rattle.starjob.specs.Streams.{IsRead, TakesPrefix}
 use Rattle.starjob.specs.Traces.{Began, RanWhole}
 
--- what a job text says: its statements, or its first bad line and the first reason against it
+-- what a job text says: a job, or its first bad line and the first reason against it
 abbrev pub JobOrRefusal : Type 0
-JobOrRefusal = Result (List Statement) Refusal
+JobOrRefusal = Result Job Refusal
 
--- the same where statements that exceed a limit of lowering are refused at the line that first does
+-- the same where a job whose statements exceed a limit of lowering is refused at the line that first does
 abbrev pub within_limits : JobOrRefusal → JobOrRefusal
-within_limits (Ok ss) = elim (late_limit ss) [ None ↦ Ok ss | Some e ↦ Err e ]
+within_limits (Ok job) = elim (late_limit job.statements) [ None ↦ Ok job | Some e ↦ Err e ]
 within_limits (Err e) = Err e
 
 -- what a job text says to the call: a bad line stands before any limit of lowering
 abbrev pub sound_job_of : (Kernel → Bool) → List ℕ → JobOrRefusal
 sound_job_of has text = within_limits (job_of has text)
 
--- the text that statements print, run one after another on plain arrays
-abbrev pub text_of : List Statement → List ℕ
-text_of ss = output (printed ss)
+-- the text that a job's statements print, run one after another on plain arrays
+abbrev pub text_of : Job → List ℕ
+text_of job = output (printed job.statements)
 
 -- the source, where it tells its bytes, holds a job of which this is true
 abbrev pub HoldsJob : (Kernel → Bool) → Device → (JobOrRefusal → Type 0) → Type 0
 HoldsJob has source P = IfSome source.bytes (λ text. P (sound_job_of has text))
 
--- the same of the statements of a job that isn't refused
-abbrev pub HoldsStatements : (Kernel → Bool) → Device → (List Statement → Type 0) → Type 0
-HoldsStatements has source P = HoldsJob has source (λ job. IsOkAnd job P)
+-- the same of a job that isn't refused
+abbrev pub HoldsSoundJob : (Kernel → Bool) → Device → (Job → Type 0) → Type 0
+HoldsSoundJob has source P = HoldsJob has source (λ job. IsOkAnd job P)
 
 -- the source tells a job against which no reason stands, and which is within all limits
 abbrev pub TellsSoundJob : (Kernel → Bool) → Device → Type 0
@@ -50,7 +50,7 @@ TellsSoundJob has source = IsSomeAnd source.bytes (λ text. IsOk (sound_job_of h
 
 -- the job isn't refused, and prints nothing
 abbrev pub PrintsNothing : JobOrRefusal → Type 0
-PrintsNothing job = IsOkAnd job (λ ss. text_of ss ≡ [])
+PrintsNothing job = IsOkAnd job (λ j. text_of j ≡ [])
 
 -- the source tells such a job
 abbrev pub TellsSilentJob : (Kernel → Bool) → Device → Type 0
@@ -58,8 +58,8 @@ TellsSilentJob has source = IsSomeAnd source.bytes (λ text. PrintsNothing (soun
 
 -- the printed arrays were written, each task ran once, and no device failed
 pub record JobIsDone (has : Kernel → Bool) (source source' out out' : Device) (trace : List Event) : Type 0 where
-  pub printed : HoldsStatements has source (λ ss. Appends out.bytes out'.bytes (text_of ss))
-  pub each_task_ran_once : HoldsStatements has source (λ ss. RanWhole ss trace)
+  pub printed : HoldsSoundJob has source (λ j. Appends out.bytes out'.bytes (text_of j))
+  pub each_task_ran_once : HoldsSoundJob has source (λ j. RanWhole j trace)
   pub read : IsRead source source'
   pub read_to_the_end : IsAtEnd source'.bytes
   pub out_never_failed : out'.faults ≡ out.faults
@@ -78,8 +78,8 @@ pub record SourceHasFailed (source source' : Device) (trace : List Event) : Type
 -- a call of the sink failed, which took a front of the text; each task had run once
 pub record SinkHasFailed (has : Kernel → Bool) (source source' out out' : Device) (trace : List Event) : Type 0 where
   pub cause : HasFailed out out'
-  pub front : HoldsStatements has source (λ ss. TakesPrefix out.bytes out'.bytes (text_of ss))
-  pub each_task_ran_once : HoldsStatements has source (λ ss. RanWhole ss trace)
+  pub front : HoldsSoundJob has source (λ j. TakesPrefix out.bytes out'.bytes (text_of j))
+  pub each_task_ran_once : HoldsSoundJob has source (λ j. RanWhole j trace)
   pub read : IsRead source source'
 
 -- an allocation was refused, with the trace of a run as far as it came
@@ -99,16 +99,16 @@ Answered has OutOfMemory source source' out out' trace = MemoryRanOut has source
 -- the same of a text that was read: what the job, the sink and the trace have to do with the status
 abbrev pub AnsweredText : JobOrRefusal → Status → Device → Device → List Event → Type 0
 AnsweredText job Done out out' trace =
-    IsOkAnd job (λ ss. Appends out.bytes out'.bytes (text_of ss) × RanWhole ss trace) × (out'.faults ≡ out.faults)
+    IsOkAnd job (λ j. Appends out.bytes out'.bytes (text_of j) × RanWhole j trace) × (out'.faults ≡ out.faults)
 AnsweredText job (Refused line reason) out out' trace = (job ≡ Err (record { line = line; reason = reason })) × (trace ≡ [])
 AnsweredText job SinkFault out out' trace =
-    IsOkAnd job (λ ss. TakesPrefix out.bytes out'.bytes (text_of ss) × RanWhole ss trace) × HasFailed out out'
+    IsOkAnd job (λ j. TakesPrefix out.bytes out'.bytes (text_of j) × RanWhole j trace) × HasFailed out out'
 AnsweredText job OutOfMemory out out' trace = Began job trace
 AnsweredText job _ out out' trace = ⊥
 
 -- what a run of the text gives: the text to write and a whole run, a refusal and no event, or what memory left
 abbrev pub RunsText : JobOrRefusal → Result (Vec ℕ Global) ReadRefusal → List Event → Type 0
-RunsText job (Ok out) trace = IsOkAnd job (λ ss. (out.items ≡ text_of ss) × RanWhole ss trace)
+RunsText job (Ok out) trace = IsOkAnd job (λ j. (out.items ≡ text_of j) × RanWhole j trace)
 RunsText job (Err (Bad line reason)) trace = (job ≡ Err (record { line = line; reason = reason })) × (trace ≡ [])
 RunsText job (Err NoMemory) trace = Began job trace
 

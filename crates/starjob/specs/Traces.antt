@@ -6,7 +6,7 @@ use Rattle.sj_codelet.specs.declared.kernel.Kernel.TheVariants.{Load, LoadFill, 
 use Rattle.sj_core.specs.Legal.{IsFinished, IsLegal}
 use Rattle.sj_core.specs.Once.{EachRanOnce}
 use Rattle.sj_engine.specs.Machine.{one_node}
-use Rattle.sj_job.specs.Act.{Statement}
+use Rattle.sj_job.specs.Job.{Job}
 use Rattle.sj_job.specs.Reading.{Refusal}
 use Rattle.sj_lower.specs.Lowering.{lowered}
 
@@ -18,11 +18,11 @@ pub record HasOwnCodelets (has : Kernel → Bool) : Type 0 where
   pub deliver : IsTrue (has Deliver)
 
 -- the events are a legal run of the job's program from its start to its end, in which each of its tasks ran once
-pub record RanWhole (ss : List Statement) (trace : List Event) : Type 0 where
-  pub finished : IsFinished (lowered ss 1) one_node trace
-  pub each_once : EachRanOnce (lowered ss 1) trace
+pub record RanWhole (job : Job) (trace : List Event) : Type 0 where
+  pub finished : IsFinished (lowered job.statements 1) one_node trace
+  pub each_once : EachRanOnce (lowered job.statements 1) trace
 
 -- the events, none maybe, begin a legal run of the job's program
-abbrev pub Began : Result (List Statement) Refusal → List Event → Type 0
-Began (Ok ss) trace = IsLegal (lowered ss 1) one_node trace
+abbrev pub Began : Result Job Refusal → List Event → Type 0
+Began (Ok job) trace = IsLegal (lowered job.statements 1) one_node trace
 Began (Err e) trace = trace ≡ []

@@ -4,7 +4,7 @@ ghost use Rattle.std.specs.Prelude.{◌≡◌, [], Ok, Err, IfOk, IfErr};
 ghost use Rattle.sj_engine.specs.Run.{IsRunnable};
 ghost use Rattle.sj_job.specs.Reading.{IsRefusal};
 ghost use Rattle.sj_job.specs.State.{start};
-ghost use Rattle.sj_job.specs.View.{statements_of, IsNumbered};
+ghost use Rattle.sj_job.specs.View.{job_seen, statements_of, IsNumbered};
 ghost use Rattle.sj_job.specs.Well.{IsWell};
 ghost use Rattle.sj_lower.specs.Delivering.{DeliversPrinted, NamesDeliverTasks};
 ghost use Rattle.sj_lower.specs.Job.{IsJob};
@@ -85,12 +85,12 @@ pub fn program_of(alloc: Global, job: Job) -> Result<Ready, ReadRefusal>
     requires numbered { IsNumbered job.roots job.statements }
     ensures is { IfOk result (λ r. r.program.value ≡ lowered (statements_of job) 1) }
     ensures within { IfOk result (λ r.
-        within_limits (Ok (statements_of job)) ≡ Ok (statements_of job)) }
+        within_limits (Ok (job_seen job)) ≡ Ok (job_seen job)) }
     ensures runnable { IfOk result (λ r. IsRunnable r.program.value) }
     ensures prints { IfOk result (λ r.
         DeliversPrinted r.roots r.program.value (statements_of job)) }
     ensures handed_over { IfOk result (λ r. NamesDeliverTasks r.program.value) }
-    ensures refused { IfErr result (λ e. IsRefusal e (within_limits (Ok (statements_of job)))) }
+    ensures refused { IfErr result (λ e. IsRefusal e (within_limits (Ok (job_seen job)))) }
 {
     match lower(alloc, job, 1) {
         Ok(lowered) => Ok(made_ready(alloc, lowered)?),
@@ -111,7 +111,7 @@ pub fn run_job<C: Codelets>(alloc: Global, job: Job, codelets: &C) -> Run
     requires job { IsWell C.has 0 start (statements_of job) }
     requires numbered { IsNumbered job.roots job.statements }
     requires own { HasOwnCodelets C.has }
-    ensures { RunsText (within_limits (Ok (statements_of job))) result.text result.trace.events }
+    ensures { RunsText (within_limits (Ok (job_seen job))) result.text result.trace.events }
 {
     finishes();
     let ready = match program_of(alloc, job) {

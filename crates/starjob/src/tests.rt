@@ -181,7 +181,7 @@ pub struct Refusal {
     pub err: &'static str,
 }
 
-const REFUSALS: [Refusal; 52] = [
+const REFUSALS: [Refusal; 53] = [
     Refusal {
         shows: "no line",
         text: "",
@@ -288,34 +288,39 @@ const REFUSALS: [Refusal; 52] = [
         err: "starjob: line 3: number\n",
     },
     Refusal {
-        shows: "workers",
-        text: "starjob 1\nworkers 2\n",
-        err: "starjob: line 2: not built\n",
+        shows: "workers above their range",
+        text: "starjob 1\nworkers 65\n",
+        err: "starjob: line 2: limit Workers\n",
     },
     Refusal {
-        shows: "memory nodes",
-        text: "starjob 1\nnode 4096\n",
-        err: "starjob: line 2: not built\n",
+        shows: "a node that is too small",
+        text: "starjob 1\nnode 7\n",
+        err: "starjob: line 2: limit NodeBytes\n",
     },
     Refusal {
-        shows: "a policy",
-        text: "starjob 1\npolicy prio\n",
-        err: "starjob: line 2: not built\n",
+        shows: "an unknown policy",
+        text: "starjob 1\npolicy near\n",
+        err: "starjob: line 2: word\n",
     },
     Refusal {
-        shows: "a reduction",
-        text: "starjob 1\nvector s 1 values 0\nredux s plus\n",
-        err: "starjob: line 3: not built\n",
+        shows: "a second reduction",
+        text: "starjob 1\nvector s 1 values 0\nredux s plus\nredux s plus\n",
+        err: "starjob: line 4: taken name\n",
     },
     Refusal {
-        shows: "contributions",
+        shows: "a contribution without a reduction",
         text: "starjob 1\nvector x 1 values 1\nvector s 1 values 1\ntask sum x:R s:REDUX\n",
-        err: "starjob: line 4: not built\n",
+        err: "starjob: line 4: no reduction\n",
     },
     Refusal {
-        shows: "commuting tasks",
-        text: "starjob 1\nvector x 1 values 1\nvector y 1 values 1\ntask axpy(1) x:R y:COMMUTE\n",
-        err: "starjob: line 4: not built\n",
+        shows: "a commuting operand beside another written one",
+        text: "starjob 1\nvector x 1 values 1\nvector y 1 values 1\ntask butterfly x:COMMUTE y:RW\n",
+        err: "starjob: line 4: mixed outputs\n",
+    },
+    Refusal {
+        shows: "a commuting task by a codelet without the law",
+        text: "starjob 1\nvector x 1 values 1\nvector y 1 values 1\ntask copy x:R y:COMMUTE\n",
+        err: "starjob: line 4: not lawful\n",
     },
     Refusal {
         shows: "a priority above its range",

@@ -1,8 +1,10 @@
+use Rattle.sj_job.proofs.Setting.{setting-read, setting-back}
 use Rattle.sj_job.proofs.Telling.{found-spells, spells-found, said-says, says-said}
 use Rattle.sj_job.proofs.grammar.grammar.Goals as goal
 
 pub returns : goal.returns
 returns c = record {
   spelled = λ words form. (found-spells words form, spells-found words form);
-  said = λ begun words says. (said-says begun words says, says-said begun words says);
+  said = λ words says. (said-says words says, says-said words says);
+  settings = λ words form. (setting-read words form, setting-back words form);
 }

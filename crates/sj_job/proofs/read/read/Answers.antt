@@ -7,4 +7,4 @@ use Rattle.sj_job.proofs.read.read.Goals as goal
 
 pub returns-clause-well : goal.returns-clause-well
 returns-clause-well g c =
-    weaker_ok c.read_statements.result (λ job e. well_from_reading g.C.Codelets.has 0 start c.in_ok-rest.number (lines c.in_ok-rest.rest.now) (statements_of job) e) c.read_statements.ensures.ok
+    weaker_ok c.read_statements.result (λ job e. well_from_reading g.C.Codelets.has 0 start c.in_ok-settings.number (lines c.in_ok-settings.rest.now) (statements_of job) e) c.read_statements.ensures.ok

@@ -1,10 +1,12 @@
-use Rattle.std.proofs.Common.{◌+◌, ◌∙◌, ap, sym, subst, List}
+use Rattle.std.proofs.Common.{◌+◌, ◌∷◌, ◌∙◌, ap, sym, subst, List}
 use Rattle.sj_job.specs.declared.job.Statement.{Statement as Kept}
 use Rattle.sj_job.specs.declared.names.Names.{Names}
+use Rattle.sj_job.specs.declared.reason.ReadRefusal.{ReadRefusal}
+use Rattle.sj_job.specs.Reading.{IsRefusal}
 use Rattle.sj_job.specs.Progress.{text_with}
 use Rattle.sj_job.specs.Submits.{AreRead}
 use Rattle.sj_job.specs.View.{seen_from}
-use Rattle.sj_job.proofs.Reading.{read-skipped, read-bad, read-more, read-does}
+use Rattle.sj_job.proofs.Reading.{read-skipped, read-refused, read-more, read-does}
 use Rattle.sj_job.proofs.read.read_line.Goals as goal
 
 pub returns-in-Ok-None-clause-ok : goal.returns-in-Ok-None-clause-ok
@@ -24,6 +26,7 @@ returns-in_ok-push-in-Ok-Some-clause-ok g c = λ rest.
     read-does g.C.Codelets.has c.args.names.now c.act_of_line.new.names c.args.statements.now.items c.args.number c.args.line.now rest c.in-Ok-Some.act c.requires (rw c.in-Ok-Some.field-0-is at c.in-Ok-Some.ensures.does)
     ∙ ap (λ (ss : List Kept). text_with g.C.Codelets.has (seen_from c.act_of_line.new.names.roots 0 ss) (c.args.number + 1) rest) (sym c.in_ok-push-in-Ok-Some.ensures.items)
 
-pub returns-in-Err-Bad-clause-err : goal.returns-in-Err-Bad-clause-err
-returns-in-Err-Bad-clause-err g c = λ rest.
-    read-bad g.C.Codelets.has c.args.names.now c.args.statements.now.items c.args.number c.args.line.now rest c.in-Err-Bad.reason c.requires (rw c.in-Err-Bad.field-0-is at c.in-Err-Bad.ensures.err)
+pub returns-in-Err-clause-err : goal.returns-in-Err-clause-err
+returns-in-Err-clause-err g c = λ rest.
+    subst (λ (r : ReadRefusal). IsRefusal r (text_with g.C.Codelets.has (seen_from c.args.names.now.roots 0 c.args.statements.now.items) c.args.number (c.args.line.now ∷ rest))) (sym c.refused.ensures)
+    (read-refused g.C.Codelets.has c.args.names.now c.args.statements.now.items c.args.number c.args.line.now rest c.in-Err.why c.requires c.in-Err.ensures.err)

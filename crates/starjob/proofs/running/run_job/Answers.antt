@@ -4,7 +4,7 @@ use Rattle.sj_core.specs.Legal.{IsFinished}
 use Rattle.sj_engine.specs.Machine.{one_node}
 use Rattle.sj_engine.specs.Run.{HasCodelets, deliveries_of}
 use Rattle.sj_job.specs.declared.reason.ReadRefusal.TheVariants.{OutOfMemory}
-use Rattle.sj_job.specs.View.{statements_of}
+use Rattle.sj_job.specs.View.{job_seen, statements_of}
 use Rattle.sj_lower.specs.Lowering.{lowered}
 use Rattle.starjob.specs.Gathering.{AreGrouped, HandedOver, all_shown}
 use Rattle.starjob.specs.Output.{output}
@@ -17,12 +17,12 @@ use Rattle.starjob.proofs.running.run_job.Goals as goal
 
 pub returns-in-Err : goal.returns-in-Err
 returns-in-Err g c =
-    not-run (within_limits (Ok (statements_of c.args.job))) c.in-Err.refusal c.nothing_run.result.text c.nothing_run.result.trace.events c.nothing_run.ensures.text c.in-Err.ensures.refused c.nothing_run.ensures.trace
+    not-run (within_limits (Ok (job_seen c.args.job))) c.in-Err.refusal c.nothing_run.result.text c.nothing_run.result.trace.events c.nothing_run.ensures.text c.in-Err.ensures.refused c.nothing_run.ensures.trace
 
 pub returns-in_default : goal.returns-in_default
 returns-in_default g c =
     let none = c.nothing_run-in_default in
-    not-run (within_limits (Ok (statements_of c.args.job))) OutOfMemory none.result.text none.result.trace.events none.ensures.text tt none.ensures.trace
+    not-run (within_limits (Ok (job_seen c.args.job))) OutOfMemory none.result.text none.result.trace.events none.ensures.text tt none.ensures.trace
 
 pub run-result-requires-clause-set : goal.run-result-requires-clause-set
 run-result-requires-clause-set g c κs within =
