@@ -45,9 +45,9 @@ use Rattle.sj_plan.specs.Rect.{child, dims_of as rect_dims}
 use Rattle.sj_plan.specs.Window.{window}
 use Rattle.sj_job.specs.Statement.{Operand, TaskLine}
 use Rattle.sj_job.specs.State.{Root, State, root_of}
-use Rattle.sj_job.specs.Judge.{mode_fits, modes_fit, needs_value, clashes, is_aliased, is_read_only}
+use Rattle.sj_job.specs.Judge.{is_unordered, mode_fits, modes_fit, needs_value, clashes, is_aliased, is_read_only}
 use Rattle.sj_job.specs.Meaning.{is_written as writes, written_of}
-use Rattle.sj_job.specs.Sound.{is_lawful, is_unordered, has_child, has_child_values, child_dims, IsSoundTask}
+use Rattle.sj_job.specs.Sound.{is_lawful, has_child, has_child_values, child_dims, IsSoundTask}
 use Rattle.sj_lower.specs.Cells.{Cells}
 use Rattle.sj_lower.specs.Rows.{an_access, own_task, load_row, fill_row, paste_arguments, paste_row, deliver_row, init_row, combine_row}
 use Rattle.sj_lower.specs.Lowering.{access_of, task_row}

@@ -9,6 +9,7 @@ use sj_base::tile::Dims;
 use sj_codelet::kernel::Kernel;
 use sj_job::job::{Act, Init, Job, Kind, Operand, RootInfo, Statement, TaskLine};
 use sj_job::roots::Roots;
+use sj_job::settings::Settings;
 use sj_plan::parts::Parts;
 use std::alloc::Global;
 
@@ -59,7 +60,12 @@ impl Script {
     fn lowered(self, alloc: Global, workers: u8) -> Result<Program, LowerRefusal> {
         let Script { roots, statements } = self;
         let statements = Sequence::of(statements);
-        let job = Job { roots, statements };
+        let settings = Settings::none(alloc);
+        let job = Job {
+            settings,
+            roots,
+            statements,
+        };
         Ok(lower(alloc, job, workers)?.program)
     }
 }
