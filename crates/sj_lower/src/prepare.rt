@@ -1,9 +1,21 @@
 //! What comes before a statement's own tasks: the phases of contributions that it closes are closed, and that of its own
 //! contribution is open.
 
-use crate::layout::Layout;
+ghost use Rattle.std.specs.Prelude.{◌≡◌, ◌<◌, ◌≤◌, ◌+◌, None, Some, All, IfErr, OnOk, map, filter, fold, length, vec_len, ◌++◌};
+ghost use Rattle.std.specs.List.{range_with_len};
+ghost use Rattle.sj_base.specs.Mode.{is_redux};
+ghost use Rattle.sj_job.specs.State.{State};
+ghost use Rattle.sj_job.specs.Table.{Table};
+ghost use Rattle.sj_job.specs.Track.{children_count, is_set};
+ghost use Rattle.sj_job.specs.View.{act_seen};
+ghost use Rattle.sj_plan.specs.Parts.{places};
+ghost use Rattle.sj_lower.specs.Cells.{cells_from};
+ghost use Rattle.sj_lower.specs.Limits.{most};
+ghost use Rattle.sj_lower.specs.Lowering.{Lowering, closed, all_closed, opened, opened_for, closed_by, contributions, finished};
+ghost use Rattle.sj_lower.specs.Progress.{IsAt, Prepares, PreparesIn, HasFewCopies, HasRoomLeft, KeepsRest, OpensAt, PreparesOperand, IsFullFor, IsFullAt, NamesActives, is_other};
+ghost use Rattle.sj_lower.specs.Seen.{AreIn, active_at, access_by};
+
 use crate::lower::{LowerRefusal, Progress};
-use crate::lowerer::Lowerer;
 use crate::phase::{OpenPhase, push_begin, push_close};
 use sj_base::ids::{Cell, Line, Root};
 use sj_base::memory::OutOfMemory;
@@ -21,7 +33,14 @@ fn is_other_access(operand: &Operand) -> bool {
 
 impl Progress {
     /// Closes the phase of a cell, if one is open. Linear in the workers.
-    fn close(&mut self, alloc: Global, cell: Cell, line: Line) -> Result<(), OutOfMemory> {
+    fn close(&mut self, alloc: Global, cell: Cell, line: Line) -> Result<(), OutOfMemory>
+        requires room { HasRoomLeft self.old }
+        requires copies { HasFewCopies self.old }
+        ensures closes { OnOk result (Prepares self.old self.new line (λ S L. closed self.old.workers L cell)) }
+        ensures rest { OnOk result (KeepsRest self.old self.new) }
+        ensures room { OnOk result (HasRoomLeft self.new) }
+        ensures copies { OnOk result (HasFewCopies self.new) }
+    {
         if self.over.is_some() {
             return Ok(());
         }
@@ -36,7 +55,20 @@ impl Progress {
     }
 
     /// Closes the open phases of a root, row by row. Linear in its children, but constant time where no phase is open.
-    fn close_root(&mut self, alloc: Global, root: Root, line: Line) -> Result<(), OutOfMemory> {
+    fn close_root(&mut self, alloc: Global, root: Root, line: Line) -> Result<(), OutOfMemory>
+        requires root { root.0 < vec_len self.old.lowerer.actives }
+        requires cells { (active_at self.old.lowerer.actives.items root.0).first
+            + children_count (active_at self.old.lowerer.actives.items root.0).tracked.parts ≤ most }
+        requires room { HasRoomLeft self.old }
+        requires copies { HasFewCopies self.old }
+        ensures closes { OnOk result (Prepares self.old self.new line (λ S L. all_closed self.old.workers
+            (map (cells_from (active_at self.old.lowerer.actives.items root.0).first
+            (active_at self.old.lowerer.actives.items root.0).tracked.parts)
+            (places (active_at self.old.lowerer.actives.items root.0).tracked.parts)) L)) }
+        ensures rest { OnOk result (KeepsRest self.old self.new) }
+        ensures room { OnOk result (HasRoomLeft self.new) }
+        ensures copies { OnOk result (HasFewCopies self.new) }
+    {
         if self.lowerer.phases.is_empty() {
             return Ok(());
         }
@@ -55,7 +87,16 @@ impl Progress {
         alloc: Global,
         operands: &[Operand],
         line: Line,
-    ) -> Result<(), OutOfMemory> {
+    ) -> Result<(), OutOfMemory>
+        requires operands { All (AreIn self.old.lowerer.actives.items) operands.now }
+        requires room { HasRoomLeft self.old }
+        requires copies { HasFewCopies self.old }
+        ensures closes { OnOk result (Prepares self.old self.new line (λ S L. all_closed self.old.workers
+            (map (λ o. (access_by self.old.lowerer.actives.items o).cell) (filter is_other operands.now)) L)) }
+        ensures rest { OnOk result (KeepsRest self.old self.new) }
+        ensures room { OnOk result (HasRoomLeft self.new) }
+        ensures copies { OnOk result (HasFewCopies self.new) }
+    {
         for operand in operands {
             if is_other_access(operand) {
                 let placed = self.lowerer.actives[operand.root.0 as usize].placed();
@@ -66,7 +107,16 @@ impl Progress {
     }
 
     /// Closes the phases that a statement closes.
-    pub fn close_by(&mut self, alloc: Global, act: &Act, line: Line) -> Result<(), OutOfMemory> {
+    pub fn close_by(&mut self, alloc: Global, act: &Act, line: Line) -> Result<(), OutOfMemory>
+        requires actives { NamesActives self.old act.now }
+        requires room { HasRoomLeft self.old }
+        requires copies { HasFewCopies self.old }
+        ensures closes { OnOk result ((T : Table) → PreparesIn T act.now self.old self.new line
+            (λ S L. all_closed self.old.workers (closed_by S L.cells (act_seen T L.cells.roots act.now)) L)) }
+        ensures rest { OnOk result (KeepsRest self.old self.new) }
+        ensures room { OnOk result (HasRoomLeft self.new) }
+        ensures copies { OnOk result (HasFewCopies self.new) }
+    {
         match act {
             Act::Register(_) | Act::Redux(_, _) => Ok(()),
             Act::Plan(root, parts) => {
@@ -83,7 +133,14 @@ impl Progress {
     }
 
     /// Closes all open phases, by cell. Their tasks count for the last statement. Linear in the cells.
-    pub fn close_last(&mut self, alloc: Global) -> Result<(), OutOfMemory> {
+    pub fn close_last(&mut self, alloc: Global) -> Result<(), OutOfMemory>
+        requires room { HasRoomLeft self.old }
+        requires copies { HasFewCopies self.old }
+        ensures none { OnOk result (self.old.last ≡ None → self.new ≡ self.old) }
+        ensures closes { OnOk result ((line : Line) → self.old.last ≡ Some line
+            → Prepares self.old self.new line (λ S L. finished self.old.workers L)) }
+        ensures rest { OnOk result (KeepsRest self.old self.new) }
+    {
         let Some(line) = self.last else {
             return Ok(());
         };
@@ -103,7 +160,15 @@ impl Progress {
         cell: Cell,
         phase: OpenPhase,
         valued: bool,
-    ) -> Result<(), OutOfMemory> {
+    ) -> Result<(), OutOfMemory>
+        requires cells { phase.copies.0 + self.old.workers ≤ most }
+        requires room { HasRoomLeft self.old }
+        requires copies { HasFewCopies self.old }
+        ensures opens { OnOk result (OpensAt self.old self.new cell phase valued) }
+        ensures rest { OnOk result (KeepsRest self.old self.new) }
+        ensures room { OnOk result (HasRoomLeft self.new) }
+        ensures copies { OnOk result (HasFewCopies self.new) }
+    {
         if self.over.is_some() {
             return Ok(());
         }
@@ -127,7 +192,15 @@ impl Progress {
         alloc: Global,
         operand: &Operand,
         line: Line,
-    ) -> Result<(), LowerRefusal> {
+    ) -> Result<(), LowerRefusal>
+        requires operand { AreIn self.old.lowerer.actives.items operand.now }
+        requires room { HasRoomLeft self.old }
+        requires copies { HasFewCopies self.old }
+        ensures opens { OnOk result ((T : Table) → PreparesOperand T operand.now self.old self.new line) }
+        ensures full { IfErr result (λ e. IsFullFor self.old operand.now line e) }
+        ensures room { OnOk result (HasRoomLeft self.new) }
+        ensures copies { OnOk result (HasFewCopies self.new) }
+    {
         let active = &self.lowerer.actives[operand.root.0 as usize];
         let Some(by) = active.reduction else {
             return Ok(());
@@ -143,7 +216,16 @@ impl Progress {
 
     /// The phases to which a statement contributes go on, or begin. Linear in its operands, and in the workers where a phase
     /// begins.
-    pub fn open_by(&mut self, alloc: Global, act: &Act, line: Line) -> Result<(), LowerRefusal> {
+    pub fn open_by(&mut self, alloc: Global, act: &Act, line: Line) -> Result<(), LowerRefusal>
+        requires actives { NamesActives self.old act.now }
+        requires room { HasRoomLeft self.old }
+        requires copies { HasFewCopies self.old }
+        ensures opens { OnOk result ((T : Table) → PreparesIn T act.now self.old self.new line
+            (λ S L. fold (opened_for self.old.workers S line) L (contributions (act_seen T L.cells.roots act.now)))) }
+        ensures full { IfErr result (λ e. (T : Table) → IsFullAt T act.now self.old line e) }
+        ensures room { OnOk result (HasRoomLeft self.new) }
+        ensures copies { OnOk result (HasFewCopies self.new) }
+    {
         let Act::Task(task) = act else {
             return Ok(());
         };
