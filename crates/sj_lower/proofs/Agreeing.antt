@@ -243,7 +243,7 @@ agrees_registered p L S line r b s g = record { laid = laid; theirs = theirs; op
         let o = g.opened (cell_of D r.name r.parts place) f e in
         let h = g.roots o.name o.root o.is_root in
         let same = cells-apart D r.name o.name r.dims o.root.dims r.parts o.root.parts taken.0 h.first place o.place laid taken.1 (kept o.name o.root o.is_root) inside o.placed
-            (o.cell ∙ same_child_cell L.cells D o.name o.root.dims o.root.dims o.root.parts h.first o.place h.taken (kept o.name o.root o.is_root)) in
+        (o.cell ∙ same_child_cell L.cells D o.name o.root.dims o.root.dims o.root.parts h.first o.place h.taken (kept o.name o.root o.is_root)) in
         other_name r.name o.name (other o.name o.root o.is_root) same.0)
 
     by_name : (q : List ℕ) (t : Root) (c : Bool) → bytes_eq r.name q ≡ c → cond c (Some (registered_root r)) (root_of S q) ≡ Some t → HasRoot p D L.phase now (contents_before p now) q t

@@ -162,14 +162,19 @@ module _ (p : Program) (n k : ℕ) (phases : Phases) (c : Cell) (f : OpenPhase) 
       ]
     ];
     added = λ m d hi h. elim (cases_lt m n) [
-      | inr late ↦ inr (subst (IsOpen after) (giving-own p phases c f.by l plain giving m (row-at m late hi) d h) (new, phase-own c (Some new) phases),
-          subst (λ (x : Cell). Contains (contributions x) m) (giving-own p phases c f.by l plain giving m (row-at m late hi) d h)
-          (subst (λ (ms : List ℕ). Contains ms m) (sym (value-own c given log.contributions)) (let same : n ≡ m = omega (arith, late, hi, e) in subst (Contains given) same (last-has (log.contributions c) n))))
+      | inr late ↦ inr (
+        subst (IsOpen after) (giving-own p phases c f.by l plain giving m (row-at m late hi) d h) (new, phase-own c (Some new) phases),
+        subst (λ (x : Cell). Contains (contributions x) m) (giving-own p phases c f.by l plain giving m (row-at m late hi) d h)
+            (subst (λ (ms : List ℕ). Contains ms m) (sym (value-own c given log.contributions)) (let same : n ≡ m = omega (arith, late, hi, e) in subst (Contains given) same (last-has (log.contributions c) n))),
+      )
       | inl early ↦ elim (log.added m d early h) [
         | inl past ↦ inl past
-        | inr now ↦ inr (still d now.0, by_which c d (Contains (contributions d) m)
-            (λ same. subst (λ (x : Cell). Contains (contributions x) m) same (subst (λ (ms : List ℕ). Contains ms m) (sym (value-own c given log.contributions)) (Contains-append_left (log.contributions c) (n ∷ []) m (subst (λ (x : Cell). Contains (log.contributions x) m) (sym same) now.1))))
-            (λ other. subst (λ (ms : List ℕ). Contains ms m) (sym (value-other c given log.contributions d other)) now.1))
+        | inr now ↦ inr (
+          still d now.0,
+          by_which c d (Contains (contributions d) m)
+              (λ same. subst (λ (x : Cell). Contains (contributions x) m) same (subst (λ (ms : List ℕ). Contains ms m) (sym (value-own c given log.contributions)) (Contains-append_left (log.contributions c) (n ∷ []) m (subst (λ (x : Cell). Contains (log.contributions x) m) (sym same) now.1))))
+              (λ other. subst (λ (ms : List ℕ). Contains ms m) (sym (value-other c given log.contributions d other)) now.1),
+        )
       ]
     ];
   }

@@ -148,7 +148,7 @@ good_load p n xs d r c line inside e =
     record {
       cells = one_alone (λ (a : Access). a.cell.0 < length p.cells) (an_access W c) inside;
       copies = one_alone (HasItsCopies p n) (an_access W c) (λ h. absurd (false≢true h));
-  plain = λ e. absurd (cc);
+      plain = λ e. absurd (cc);
       fits = record { kernel = Load; codelet = refl; operands = ap (λ b. (true && b) && true) ((Decides-eqb (length args) (area (dims_of p c))).1 many); modes = MayHaveModes.Own refl };
       unaliased = alone (λ (a b : Access). same_cell a.cell b.cell ≡ true → (a.mode ≡ R) × (b.mode ≡ R)) (an_access W c);
       values = one_alone (λ (a : Access). reads_value a.mode ≡ true → HasValueBefore p (task_at n) a.cell) (an_access W c) (λ h. absurd (false≢true h));

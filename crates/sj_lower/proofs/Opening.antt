@@ -215,9 +215,11 @@ module _ (p : Program) (L : Lowering) (S : State) (g : Agrees p L S) (name : Lis
       copies_given = λ w below. given_after (copy_at first w) (given-rows p (length L.tasks) ls (copy_at first w) stand (begin-gives by first c (is_valued_child root place) p.workers line w below));
       value = λ trust law sized.
           all-units p (contents_before p now) new (all_workers p) (held_in p (contents_before p now) c) law (sized c).tile
-          (each-of_all (λ w. (u : Array) × (u.dims ≡ (held_in p (contents_before p now) c).dims) × (held_in p (contents_before p now) (copy_at first w) ≡ unit_of by u)) p.workers (λ w below.
-          (zeros (dims_of p (copy_at first w)), copy-size w below ∙ sym (sized c).dims,
-          ap (λ (k : Contents). held_in p k (copy_at first w)) left ∙ begin-copies p (contents_before p (length L.tasks)) by first c (is_valued_child root place) line w beside_own below)))
+          (each-of_all (λ w. (u : Array) × (u.dims ≡ (held_in p (contents_before p now) c).dims) × (held_in p (contents_before p now) (copy_at first w) ≡ unit_of by u)) p.workers (λ w below. (
+            zeros (dims_of p (copy_at first w)),
+            copy-size w below ∙ sym (sized c).dims,
+            ap (λ (k : Contents). held_in p k (copy_at first w)) left ∙ begin-copies p (contents_before p (length L.tasks)) by first c (is_valued_child root place) line w beside_own below,
+          )))
           ∙ own_value trust (is_valued_child root place) refl;
     }
 

@@ -138,9 +138,11 @@ rows_good has p L S line (Plans name s) b can ready g after =
     let t = planned-taken p L S line name s root.0 root.1 after in
     plans_good p (cells_after (Plans name s) L.cells) L.phase S name root.0 s line (length L.tasks) t.0 root.1 b.cells after.laid (has-taken p L S name s root.0 g root.1) t.1 (stands-own p S (record { line = line; act = Plans name s }) L b)
 rows_good has p L S line (Reduces name by) b can ready g after = tt
-rows_good has p L S line (Tasks t) b can ready g after =
-    (good_task has p L.cells S (length L.tasks) t line b.cells g.laid (plans-of p L.cells L.phase (length L.tasks) (contents_before p (length L.tasks)) S g.roots) can.sound (direct-modes has S t can.sound ready.0)
-    (all_given p L.cells L.phase S (length L.tasks) (contents_before p (length L.tasks)) t.operands g.roots ready.0 can.sound.placed can.sound.valued) (no_copies p S L.cells (length L.tasks) t.operands ready.0) can.nameable, tt)
+rows_good has p L S line (Tasks t) b can ready g after = (
+  good_task has p L.cells S (length L.tasks) t line b.cells g.laid (plans-of p L.cells L.phase (length L.tasks) (contents_before p (length L.tasks)) S g.roots) can.sound (direct-modes has S t can.sound ready.0)
+      (all_given p L.cells L.phase S (length L.tasks) (contents_before p (length L.tasks)) t.operands g.roots ready.0 can.sound.placed can.sound.valued) (no_copies p S L.cells (length L.tasks) t.operands ready.0) can.nameable,
+  tt,
+)
 rows_good has p L S line (Prints name) b can ready g after =
     let v = valued_there (root_of S name) can.sound in
     prints_good p L.cells L.phase S name v.0 line (length L.tasks) v.1 v.2 b.cells g.laid g.theirs.copies (g.roots name v.0 v.1)

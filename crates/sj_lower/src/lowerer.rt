@@ -346,8 +346,7 @@ impl Lowerer {
         roots: &Roots,
         act: &Act,
         first: u32,
-    ) -> Result<(), OutOfMemory>
-    {
+    ) -> Result<(), OutOfMemory> {
         match act {
             Act::Register(init) => {
                 let parts = roots.info(Root(self.actives.len() as u32)).parts;

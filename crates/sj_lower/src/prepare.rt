@@ -181,18 +181,20 @@ impl Progress {
             self.over = Some(phase.line);
             return Ok(());
         }
-        push_begin(&mut self.lowerer.tasks, alloc, phase, cell, valued, self.workers)?;
+        push_begin(
+            &mut self.lowerer.tasks,
+            alloc,
+            phase,
+            cell,
+            valued,
+            self.workers,
+        )?;
         self.lowerer.phases.insert(cell.0, phase)?;
         Ok(())
     }
 
     /// The phase of an operand's child goes on, or begins, if the operand is a contribution.
-    fn open_for(
-        &mut self,
-        alloc: Global,
-        operand: &Operand,
-        line: Line,
-    ) -> Result<(), LowerRefusal>
+    fn open_for(&mut self, alloc: Global, operand: &Operand, line: Line) -> Result<(), LowerRefusal>
         requires operand { AreIn self.old.lowerer.actives.items operand.now }
         requires room { HasRoomLeft self.old }
         requires copies { HasFewCopies self.old }

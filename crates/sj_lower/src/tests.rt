@@ -30,11 +30,20 @@ impl Script {
 
     fn say(&mut self, act: Act) -> Result<(), LowerRefusal> {
         let line = Line(self.statements.len() as u32 + 2);
-        self.statements.push(Statement { line, act }).map_err(|_| LowerRefusal::OutOfMemory)
+        self.statements
+            .push(Statement { line, act })
+            .map_err(|_| LowerRefusal::OutOfMemory)
     }
 
     /// A vector of so many elements and parts.
-    fn vector(&mut self, alloc: Global, name: &[u8], cols: u32, parts: u32, init: Init) -> Result<Root, LowerRefusal> {
+    fn vector(
+        &mut self,
+        alloc: Global,
+        name: &[u8],
+        cols: u32,
+        parts: u32,
+        init: Init,
+    ) -> Result<Root, LowerRefusal> {
         let root = Root(self.roots.len() as u32);
         let info = RootInfo {
             kind: Kind::Vector,
@@ -46,7 +55,13 @@ impl Script {
         Ok(root)
     }
 
-    fn task(&mut self, alloc: Global, kernel: Kernel, operands: &[Operand], priority: i32) -> Result<(), LowerRefusal> {
+    fn task(
+        &mut self,
+        alloc: Global,
+        kernel: Kernel,
+        operands: &[Operand],
+        priority: i32,
+    ) -> Result<(), LowerRefusal> {
         let operands = Vec::from_slice(alloc, operands).map_err(|_| LowerRefusal::OutOfMemory)?;
         let task = TaskLine {
             kernel,
@@ -184,10 +199,12 @@ fn several_phases(alloc: Global) -> Result<bool, LowerRefusal> {
     let closing = &program.tasks.items()[13];
     let last: Row = (Kernel::Lowest, &[(Mode::R, 3), (Mode::RW, 2)], 9, 0);
     let copies = [None, Some(4), Some(3), None, None];
-    Ok(program.tasks.len() == 14
-        && is_row(closing, &last)
-        && copies_are(&program, &copies)
-        && first_rows_are(&program, &rows))
+    Ok(
+        program.tasks.len() == 14
+            && is_row(closing, &last)
+            && copies_are(&program, &copies)
+            && first_rows_are(&program, &rows),
+    )
 }
 
 fn first_rows_are(program: &Program, rows: &[Row]) -> bool {
