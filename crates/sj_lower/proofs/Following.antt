@@ -34,7 +34,7 @@ use Rattle.sj_job.specs.Table.{Table, AreDistinct, a_root, name_of, info_of}
 use Rattle.sj_job.specs.Track.{IsPlan, all_valued, none_valued, children_count, even}
 use Rattle.sj_lower.proofs.Places.{length-places}
 use Rattle.sj_job.specs.View.{operand_seen, task_seen, registration, act_seen}
-use Rattle.sj_job.proofs.Children.{tracks-registered, tracks-planned, tracks-invalidated, all_valued-same, none_valued-same}
+use Rattle.sj_job.proofs.Children.{tracks-registered, tracks-planned, tracks-reduced, tracks-invalidated, all_valued-same, none_valued-same}
 use Rattle.sj_lower.specs.declared.lowerer.Active.{Active}
 use Rattle.sj_lower.specs.declared.lowerer.Lowerer.{Lowerer}
 use Rattle.sj_lower.specs.Cells.{Cells, Handle, same_parts, first_cell, cells_from, take, with_root, next_handle}
@@ -98,7 +98,7 @@ pub can-pass : (T : Table) (l : Lowerer) (a : Kept) (S : State) (L : Lowering) �
 can-pass T l a S L next = record { has = next.has; actives = next.follows.actives; sound = next.sound; placed = next.placed; distinct = next.distinct; few = next.few; table = next.table }
 
 -- the phases are what they were
-same_phases : (T : Table) (old new : Lowerer) (a : Kept) (S : State) (L : Lowering) → IsNext T old a S L → new.phases ≡ old.phases → (c : Cell) → get nat_eq new.phases c.0 ≡ L.phase c
+pub same_phases : (T : Table) (old new : Lowerer) (a : Kept) (S : State) (L : Lowering) → IsNext T old a S L → new.phases ≡ old.phases → (c : Cell) → get nat_eq new.phases c.0 ≡ L.phase c
 same_phases T old new a S L next e c = ap (λ m. get nat_eq m c.0) e ∙ next.follows.phases c
 
 -- ---- registrations
@@ -289,7 +289,7 @@ does-plan T old new r p first line room et ed ep eh ea S L next place = record {
 
 -- ---- tasks
 
-accesses_same : (T : Table) (S : State) (C : Cells) (as' : List Active) (os : List KeptOperand) → AreActive T C as' S → All (λ o. o.root.0 < C.roots) os → AllByRecursion (λ o. has_child S (operand_seen T o) ≡ true) os
+pub accesses_same : (T : Table) (S : State) (C : Cells) (as' : List Active) (os : List KeptOperand) → AreActive T C as' S → All (λ o. o.root.0 < C.roots) os → AllByRecursion (λ o. has_child S (operand_seen T o) ≡ true) os
     → each_of (access_of S C) (each_of (operand_seen T) os) ≡ each_of (access_by as') os
 accesses_same T S C as' [] g placed there = refl
 accesses_same T S C as' (o ∷ os) g placed there =
@@ -307,16 +307,6 @@ seen-children T S (o ∷ os) h = let both = and_parts (has_child S (operand_seen
 -- a task with these accesses
 abbrev pub lowered_task : KeptTask → Line → List Access → Lowered
 lowered_task t line accesses = record { codelet = codelet_of t.kernel; args = t.args; accesses = accesses; line = line; priority = t.priority }
-
-pub does-task : (T : Table) (old new : Lowerer) (t : KeptTask) (line : Line) → new.tasks.items ≡ old.tasks.items ++ lowered_task t line (each_of (access_by old.actives.items) t.operands) ∷ [] → new.deliveries.items ≡ old.deliveries.items → new.prints ≡ old.prints → new.phases ≡ old.phases
-    → Passes T old new (kept.Task t) 0 → Does T old new (kept.Task t) 0 line
-does-task T old new t line et ed ep eh passes S L next place = record {
-  tasks = et ∙ (λ i. next.follows.tasks i ++ lowered_task t line (sym (accesses_same T S L.cells old.actives.items t.operands next.follows.actives next.placed (seen-children T S t.operands next.sound.placed)) i) ∷ []);
-  deliveries = ed ∙ next.follows.deliveries ∙ sym (append-nil L.deliveries);
-  prints = ep ∙ next.follows.prints;
-  phases = same_phases T old new (kept.Task t) S L next eh;
-  actives = passes S L (can-pass T old (kept.Task t) S L next) place;
-}
 
 -- ---- prints
 
