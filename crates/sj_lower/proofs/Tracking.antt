@@ -28,8 +28,8 @@ use Rattle.sj_lower.specs.declared.lowerer.Lowerer.{Lowerer}
 use Rattle.sj_lower.specs.Cells.{Cells}
 use Rattle.sj_lower.specs.Limits.{most}
 use Rattle.sj_lower.specs.Lowering.{Lowering}
-use Rattle.sj_lower.specs.Seen.{no_active, active_at, AreActive, CanPass, Passes, Does, AreIn, access_by, after_write, after_writes}
-use Rattle.sj_lower.proofs.Following.{can-pass, changed-actives, accesses_same, lowered_task, same_phases, seen-children}
+use Rattle.sj_lower.specs.Seen.{no_active, active_at, AreActive, CanPass, Does, AreIn, access_by, after_write, after_writes}
+use Rattle.sj_lower.proofs.Following.{PassesTo, can-pass, changed-actives, accesses_same, lowered_task, same_phases, seen-children}
 use Rattle.sj_lower.proofs.Holding.{root-change}
 use Rattle.sj_lower.proofs.Laid.{same_name}
 use Rattle.sj_lower.proofs.Running.{child_there}
@@ -110,8 +110,8 @@ writes-follow T C as' S (o ∷ os) xs g d few lts hs l =
     (λ ys bs U k hk m. writes-follow T C bs U os ys k d few (λ i e lt. lts (suc i) e (omega (arith, lt))) hk m)
 
 -- a task's children have a value from then on
-pub passes-task : (T : Table) (old new : Lowerer) (t : KeptTask) (first : ℕ) → new.actives.items ≡ after_writes t.operands old.actives.items → Passes T old new (kept.Task t) first
-passes-task T old new t first ea S L pass place =
+pub passes-task : (T : Table) (old : Lowerer) (as' : List Active) (t : KeptTask) (first : ℕ) → as' ≡ after_writes t.operands old.actives.items → PassesTo T old as' (kept.Task t) first
+passes-task T old as' t first ea S L pass place =
     let u = task_seen T t in
     let ins = map (operand_array S) u.operands in
     let many = gives_all pass.has S u ins pass.sound in
@@ -125,7 +125,7 @@ does-task T old new t line et ed ep eh ea S L next place = record {
   deliveries = ed ∙ next.follows.deliveries ∙ sym (append-nil L.deliveries);
   prints = ep ∙ next.follows.prints;
   phases = same_phases T old new (kept.Task t) S L next eh;
-  actives = passes-task T old new t 0 ea S L (can-pass T old (kept.Task t) S L next) place;
+  actives = passes-task T old new.actives.items t 0 ea S L (can-pass T old (kept.Task t) S L next) place;
 }
 
 -- ---- the code's loop over operands
