@@ -33,7 +33,7 @@ use Rattle.sj_job.specs.Sound.{has_child, has_values, has_none, dims_of as root_
 use Rattle.sj_job.specs.Table.{Table, AreDistinct, a_root, name_of, info_of}
 use Rattle.sj_job.specs.Track.{IsPlan, all_valued, none_valued, children_count, even}
 use Rattle.sj_lower.proofs.Places.{length-places}
-use Rattle.sj_job.specs.View.{operand_seen, task_seen, registration, act_seen}
+use Rattle.sj_job.specs.View.{operand_seen, registration, act_seen}
 use Rattle.sj_job.proofs.Children.{tracks-registered, tracks-planned, tracks-reduced, tracks-invalidated, all_valued-same, none_valued-same}
 use Rattle.sj_lower.specs.declared.lowerer.Active.{Active}
 use Rattle.sj_lower.specs.declared.lowerer.Lowerer.{Lowerer}
