@@ -131,6 +131,27 @@ pub record HasNext (T : Table) (l : Lowerer) (a : Kept) : Type 0 where
   pub lowering : Lowering
   pub next : IsNext T l a state lowering
 
+-- an act may come next by the active plans alone
+pub record CanPass (T : Table) (l : Lowerer) (a : Kept) (S : State) (L : Lowering) : Type 0 where
+  pub has : Kernel → Bool
+  pub actives : AreActive T L.cells l.actives.items S
+  pub sound : IsSoundAct has S (act_seen T L.cells.roots a)
+  pub placed : IsPlaced L.cells.roots a
+  pub distinct : AreDistinct T.names
+  pub few : count_after L.cells.roots a ≤ length T.names
+  pub table : length T.names ≤ 4096
+
+pub record HasPass (T : Table) (l : Lowerer) (a : Kept) : Type 0 where
+  pub state : State
+  pub lowering : Lowering
+  pub pass : CanPass T l a state lowering
+
+-- the active plans are those after a statement, if the plan that it makes active has this first cell
+abbrev pub Passes : Table → Lowerer → Lowerer → Kept → ℕ → Type 0
+Passes T old new a first =
+    (S : State) (L : Lowering) → CanPass T old a S L → let act = act_seen T L.cells.roots a in first_after act (cells_after act L.cells) ≡ first
+    → AreActive T (cells_after act L.cells) new.actives.items (apply act S)
+
 -- the code does with a statement's own tasks what the definition does, if the plan that it makes active has this first cell
 abbrev pub Does : Table → Lowerer → Lowerer → Kept → ℕ → Line → Type 0
 Does T old new a first line =

@@ -15,7 +15,7 @@ ghost use Rattle.sj_plan.specs.Parts.{Fits};
 ghost use Rattle.sj_lower.specs.Cells.{Cells, cells_from, same_parts};
 ghost use Rattle.sj_lower.specs.Limits.{most};
 ghost use Rattle.sj_lower.specs.Lowering.{Lowering, nothing, load_rows, rows_of};
-ghost use Rattle.sj_lower.specs.Seen.{Follows, HasNext, IsNext, Does, HasRoom, AreIn, access_by, after_writes, pasted_by};
+ghost use Rattle.sj_lower.specs.Seen.{Follows, HasNext, IsNext, HasPass, Passes, Does, HasRoom, AreIn, access_by, after_writes, pasted_by};
 
 use crate::phase::OpenPhase;
 use crate::rows::{Placed, push_deliveries, push_delivers, push_fills, push_loads, push_pastes};
@@ -346,7 +346,15 @@ impl Lowerer {
         roots: &Roots,
         act: &Act,
         first: u32,
-    ) -> Result<(), OutOfMemory> {
+    ) -> Result<(), OutOfMemory>
+        requires pass { HasPass roots.now self.old act.now }
+        requires room { HasRoom roots.now (vec_len self.old.actives) act.now first }
+        ensures passes { OnOk result (Passes roots.now self.old self.new act.now first) }
+        ensures tasks { OnOk result (self.new.tasks ≡ self.old.tasks) }
+        ensures deliveries { OnOk result (self.new.deliveries ≡ self.old.deliveries) }
+        ensures prints { OnOk result (self.new.prints ≡ self.old.prints) }
+        ensures phases { OnOk result (self.new.phases ≡ self.old.phases) }
+    {
         match act {
             Act::Register(init) => {
                 let parts = roots.info(Root(self.actives.len() as u32)).parts;
