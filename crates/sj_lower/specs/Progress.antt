@@ -195,4 +195,4 @@ preparing_by workers actives line a L = opening_all workers actives line (contri
 -- the cell's partial copies are there, from this one on
 pub record HasCopies (g : Progress) (c first : Cell) : Type 0 where
   pub there : first.0 + g.workers ≤ most
-  pub first : (T : Table) (S : State) (L : Lowering) → IsAt T g S L → (info_at L.cells c).partials ≡ Some first
+  pub theirs : (T : Table) (S : State) (L : Lowering) → IsAt T g S L → (info_at L.cells c).partials ≡ Some first
