@@ -1,7 +1,7 @@
 //! The cells of a job's roots: a plan's children get cells when their root first takes the plan, and a cell gets partial copies
 //! when it is first contributed to.
 
-ghost use Rattle.std.specs.Prelude.{◌≡◌, ◌+◌, ◌<◌, ◌≤◌, ◌++◌, length, map, vec_len, IfOk, IfSome, IfNone, OnOk};
+ghost use Rattle.std.specs.Prelude.{◌≡◌, ◌+◌, ◌<◌, ◌≤◌, ◌++◌, length, map, replicate, vec_len, IfOk, IfSome, IfNone, OnOk};
 ghost use Rattle.sj_job.specs.Table.{Table, AreDistinct, name_of, info_of};
 ghost use Rattle.sj_job.specs.View.{IsPlaced, act_seen, count_after};
 ghost use Rattle.sj_plan.specs.Parts.{Fits};
@@ -158,9 +158,7 @@ impl Layout {
         if first + workers as usize > MOST {
             return Ok(None);
         }
-        for _ in 0..workers {
-            self.infos.push(info)?;
-        }
+        push_copies(&mut self.infos, info, workers)?;
         let first = Cell(first as u32);
         self.infos[cell.0 as usize].partials = Some(first);
         Ok(Some(first))
@@ -180,6 +178,16 @@ fn push_cells(infos: &mut Vec<CellInfo>, root: Root, rects: &[Rect]) -> Result<(
             },
             partials: None,
         })?;
+    }
+    Ok(())
+}
+
+/// A cell like this one for each worker. Linear in the workers.
+fn push_copies(infos: &mut Vec<CellInfo>, info: CellInfo, workers: u8) -> Result<(), OutOfMemory>
+    ensures { OnOk result (infos.new.items ≡ infos.old.items ++ replicate workers info) }
+{
+    for _ in 0..workers {
+        infos.push(info)?;
     }
     Ok(())
 }
