@@ -145,14 +145,14 @@ copied-own workers S s L h =
 -- the tasks aren't made any more
 at-passed : (T : Table) (old new : Progress) (s : Kept) (first : ℕ) → (new.over ≡ None → ⊥) → IsLaid T old.layout new.layout s.act first → vec_len new.layout.infos ≤ most → Passes T old.lowerer new.lowerer s.act first → new.lowerer.prints ≡ old.lowerer.prints → new.lowerer.tasks ≡ old.lowerer.tasks → new.workers ≡ old.workers
     → (S : State) (L : Lowering) → IsComing T old s S L → IsAt T new (apply (act_seen T L.cells.roots s.act) S) (add_own S (statement_seen T L.cells.roots s) L)
-at-passed T old new s first no laid few passes prints tasks workers S L c =
+at-passed T old new s first past laid few passes prints tasks workers S L c =
     let here = laid_at T old.layout new.layout s.act first L.cells laid c.at.lays c.distinct in
     record {
       lays = here.0;
       few_cells = rows_few T new.layout (cells_after (act_seen T L.cells.roots s.act) L.cells) here.0 few;
       actives = passes S L (can-pass T old s S L c) here.1;
-      follows = λ none. absurd (no none);
-      few_tasks = λ none. absurd (no none);
+      follows = λ none. absurd (past none);
+      few_tasks = λ none. absurd (past none);
       prints = omega (arith, c.at.prints, prints, ap vec_len tasks);
       copied = subst (λ (n : ℕ). AreCopied n (add_own S (statement_seen T L.cells.roots s) L)) (sym workers) (copied-own old.workers S (statement_seen T L.cells.roots s) L c.at.copied);
     }
@@ -160,21 +160,21 @@ at-passed T old new s first no laid few passes prints tasks workers S L c =
 -- a statement behind the first with too many tasks
 pub goes-past : (T : Table) (old new : Progress) (s : Kept) (first : ℕ) → (old.over ≡ None → ⊥) → new.over ≡ old.over → IsLaid T old.layout new.layout s.act first → vec_len new.layout.infos ≤ most → Passes T old.lowerer new.lowerer s.act first → new.lowerer.prints ≡ old.lowerer.prints → new.lowerer.tasks ≡ old.lowerer.tasks → new.workers ≡ old.workers
     → GoesOwn T old new s
-goes-past T old new s first no same laid few passes prints tasks workers = record {
-  at = at-passed T old new s first (λ none. no (sym same ∙ none)) laid few passes prints tasks workers;
-  over = λ S L c. same ∙ over-stays old.over s.line (add_own S (statement_seen T L.cells.roots s) L) no;
+goes-past T old new s first past same laid few passes prints tasks workers = record {
+  at = at-passed T old new s first (λ none. past (sym same ∙ none)) laid few passes prints tasks workers;
+  over = λ S L c. same ∙ over-stays old.over s.line (add_own S (statement_seen T L.cells.roots s) L) past;
 }
 
 -- the first statement with too many tasks
 pub goes-late : (T : Table) (old new : Progress) (s : Kept) (first : ℕ) → old.over ≡ None → new.over ≡ Some s.line → IsLaid T old.layout new.layout s.act first → vec_len new.layout.infos ≤ most → Passes T old.lowerer new.lowerer s.act first → new.lowerer.prints ≡ old.lowerer.prints → new.lowerer.tasks ≡ old.lowerer.tasks → new.workers ≡ old.workers
     → ((S : State) (L : Lowering) → IsComing T old s S L → most < tasks_in (add_own S (statement_seen T L.cells.roots s) L)) → GoesOwn T old new s
 goes-late T old new s first e n laid few passes prints tasks workers late = record {
-  at = at-passed T old new s first no laid few passes prints tasks workers;
+  at = at-passed T old new s first past laid few passes prints tasks workers;
   over = λ S L c. n ∙ sym (ap (λ o. over_after o s.line (add_own S (statement_seen T L.cells.roots s) L)) e ∙ over-late s.line (add_own S (statement_seen T L.cells.roots s) L) (late S L c));
 }
   where
-    no : new.over ≡ None → ⊥
-    no none = absurd (cc (none, n))
+    past : new.over ≡ None → ⊥
+    past none = absurd (cc (none, n))
 
 -- a statement more
 pub goes-on : (T : Table) (old new : Progress) (s : Kept) (first : ℕ) → old.over ≡ None → new.over ≡ None → Does T old.lowerer new.lowerer s.act first s.line → new.lowerer.prints ≤ vec_len new.lowerer.tasks

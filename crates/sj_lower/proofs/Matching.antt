@@ -92,7 +92,7 @@ pub record IsKnownAs (T : Table) (C : Cells) (as' : List Active) (S : State) (r 
   pub is_root : root_of S (name_of T r) ≡ Some root
   pub active : IsActive T C r.0 (active_at as' r.0) root
 
-known-as : (T : Table) (C : Cells) (as' : List Active) (S : State) (r : RootNumber) → AreActive T C as' S → r.0 < C.roots → (root : Root) → root_of S (name_of T r) ≡ Some root → IsKnownAs T C as' S r
+abbrev known-as : (T : Table) (C : Cells) (as' : List Active) (S : State) (r : RootNumber) → AreActive T C as' S → r.0 < C.roots → (root : Root) → root_of S (name_of T r) ≡ Some root → IsKnownAs T C as' S r
 known-as T C as' S r g lt root e = record { root = root; is_root = e; active = g.each r.0 root lt e }
 
 first-is : (T : Table) (C : Cells) (n : ℕ) (a : Active) (r : Root) → IsActive T C n a r → first_cell C (name_of T (a_root n)) r.parts ≡ a.first
@@ -122,20 +122,17 @@ others-are : (T : Table) (C : Cells) (as' : List Active) (S : State) (os : List 
     → map (λ (o : Operand). active_cell S C o.name o.place) (filter is_other_access (map (operand_seen T) os)) ≡ map (cell_by as') (filter is_other os)
 others-are T C as' S [] g placed there = refl
 others-are T C as' S (o ∷ os) g placed there =
-    let rest = others-are T C as' S os g (All-tail (λ (o : KeptOperand). o.root.0 < C.roots) o os placed) there.1 in
-    by_test (is_other o)
+    by_test (is_other o) (others-are T C as' S os g (All-tail (λ (o : KeptOperand). o.root.0 < C.roots) o os placed) there.1)
   where
     here : active_cell S C (name_of T o.root) o.place ≡ cell_by as' o
     here =
         let t = child_there S (operand_seen T o) there.0 in
         cell-is T C as' S o.root o.place (known-as T C as' S o.root g (All-head (λ (o : KeptOperand). o.root.0 < C.roots) o os placed) t.root t.is_root)
 
-    tail : map (λ (o : Operand). active_cell S C o.name o.place) (filter is_other_access (map (operand_seen T) os)) ≡ map (cell_by as') (filter is_other os)
-    tail = others-are T C as' S os g (All-tail (λ (o : KeptOperand). o.root.0 < C.roots) o os placed) there.1
-
-    by_test : (b : Bool) → map (λ (o : Operand). active_cell S C o.name o.place) (cond b (operand_seen T o ∷ filter is_other_access (map (operand_seen T) os)) (filter is_other_access (map (operand_seen T) os))) ≡ map (cell_by as') (cond b (o ∷ filter is_other os) (filter is_other os))
-    by_test true = (λ i. here i ∷ tail i)
-    by_test false = tail
+    by_test : (b : Bool) → map (λ (o : Operand). active_cell S C o.name o.place) (filter is_other_access (map (operand_seen T) os)) ≡ map (cell_by as') (filter is_other os)
+        → map (λ (o : Operand). active_cell S C o.name o.place) (cond b (operand_seen T o ∷ filter is_other_access (map (operand_seen T) os)) (filter is_other_access (map (operand_seen T) os))) ≡ map (cell_by as') (cond b (o ∷ filter is_other os) (filter is_other os))
+    by_test true rest = (λ i. here i ∷ rest i)
+    by_test false rest = rest
 
 pub seen-there : (T : Table) (S : State) (os : List KeptOperand) → list_all (has_child S) (map (operand_seen T) os) ≡ true → AreThere S T os
 seen-there T S [] h = tt
@@ -206,16 +203,15 @@ opening_for-names workers as' line o L = by_reduction (active_at as' o.root.0).r
 opening-are : (T : Table) (as' : List Active) (S : State) (workers : ℕ) (line : Line) (os : List KeptOperand) (L : Lowering) → AreActive T L.cells as' S → All (λ o. o.root.0 < L.cells.roots) os → AreThere S T os
     → fold (opened_for workers S line) L (filter (λ o. is_redux o.mode) (map (operand_seen T) os)) ≡ opening_all workers as' line (filter is_contributed os) L
 opening-are T as' S workers line [] L g placed there = refl
-opening-are T as' S workers line (o ∷ os) L g placed there = by_test (is_contributed o)
+opening-are T as' S workers line (o ∷ os) L g placed there =
+    by_test (is_contributed o) (λ M same. opening-are T as' S workers line os M (same-actives T L.cells M.cells as' S same g) (subst (λ (n : ℕ). All (λ (o : KeptOperand). o.root.0 < n) os) (sym same.1) (All-tail (λ (o : KeptOperand). o.root.0 < L.cells.roots) o os placed)) there.1)
   where
-    left : (M : Lowering) → SameNames L.cells M.cells → fold (opened_for workers S line) M (filter (λ o. is_redux o.mode) (map (operand_seen T) os)) ≡ opening_all workers as' line (filter is_contributed os) M
-    left M same = opening-are T as' S workers line os M (same-actives T L.cells M.cells as' S same g) (subst (λ (n : ℕ). All (λ (o : KeptOperand). o.root.0 < n) os) (sym same.1) (All-tail (λ (o : KeptOperand). o.root.0 < L.cells.roots) o os placed)) there.1
-
-    by_test : (b : Bool) → fold (opened_for workers S line) L (cond b (operand_seen T o ∷ filter (λ o. is_redux o.mode) (map (operand_seen T) os)) (filter (λ o. is_redux o.mode) (map (operand_seen T) os))) ≡ opening_all workers as' line (cond b (o ∷ filter is_contributed os) (filter is_contributed os)) L
-    by_test true =
+    by_test : (b : Bool) → ((M : Lowering) → SameNames L.cells M.cells → fold (opened_for workers S line) M (filter (λ o. is_redux o.mode) (map (operand_seen T) os)) ≡ opening_all workers as' line (filter is_contributed os) M)
+        → fold (opened_for workers S line) L (cond b (operand_seen T o ∷ filter (λ o. is_redux o.mode) (map (operand_seen T) os)) (filter (λ o. is_redux o.mode) (map (operand_seen T) os))) ≡ opening_all workers as' line (cond b (o ∷ filter is_contributed os) (filter is_contributed os)) L
+    by_test true left =
         ap (λ (M : Lowering). fold (opened_for workers S line) M (filter (λ o. is_redux o.mode) (map (operand_seen T) os))) (opening-one T as' S workers line o L g (All-head (λ (o : KeptOperand). o.root.0 < L.cells.roots) o os placed) there.0)
         ∙ left (opening_for workers as' line o L) (opening_for-names workers as' line o L)
-    by_test false = left L (refl, refl)
+    by_test false left = left L (refl, refl)
 
 opening-acts : (has : Kernel → Bool) (T : Table) (n : ℕ) (as' : List Active) (S : State) (workers : ℕ) (line : Line) (a : Kept) (L : Lowering) → L.cells.roots ≡ n → AreActive T L.cells as' S → IsPlaced n a → IsSoundAct has S (act_seen T n a)
     → fold (opened_for workers S line) L (contributions (act_seen T n a)) ≡ opening_all workers as' line (contributed_by a) L

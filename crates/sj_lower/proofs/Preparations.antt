@@ -68,8 +68,8 @@ turns workers by v line c L first copied there = by_phase (L.phase c) refl
     by_phase None e = (begin_rows by first c v workers line, Some (begins by first line), turns-none workers by v line c L first there e)
     by_phase (Some f) e = ([], Some (extended f line), turns-some workers by v line c L f copied e)
 
--- how many tasks begin a phase
-pub begins-with : Bool → ℕ
+-- how many tasks give the cell itself the unit
+abbrev pub begins-with : Bool → ℕ
 begins-with v = cond (not v) 1 0
 
 begin-length : (by : Reduction) (first c : Cell) (v : Bool) (workers : ℕ) (line : Line) → length (begin_rows by first c v workers line) ≡ workers + begins-with v
@@ -77,7 +77,7 @@ begin-length by first c true workers line = length-append (init_rows by first wo
 begin-length by first c false workers line = length-append (init_rows by first workers line) (init_row by line c ∷ []) ∙ ap (λ n. n + 1) (length-map-range_with_len (λ w. init_row by line (copy_at first w)) 0 workers)
 
 pub opens-over : (g : Progress) (by : Reduction) (v : Bool) (line : Line) (c first : Cell) → (g.over ≡ None → ⊥) → HasCopies g c first → Prepares g g line (opened g.workers by v line c)
-opens-over g by v line c first no copies = prepares-over g line (opened g.workers by v line c) c no (λ T S L at. turns g.workers by v line c L first at.copied (copies.theirs T S L at))
+opens-over g by v line c first past copies = prepares-over g line (opened g.workers by v line c) c past (λ T S L at. turns g.workers by v line c L first at.copied (copies.theirs T S L at))
 
 pub opens-more : (old new : Progress) (by : Reduction) (v : Bool) (line : Line) (c : Cell) (f : OpenPhase) → HasAt old → old.over ≡ None → new.over ≡ None → IsBeside old new → new.lowerer.tasks ≡ old.lowerer.tasks → Sets old new c (Some (extended f line)) → get nat_eq old.lowerer.phases c.0 ≡ Some f → Prepares old new line (opened old.workers by v line c)
 opens-more old new by v line c f h none early same tasks sets there =

@@ -84,25 +84,25 @@ copied-turned workers L c ls o copies h = record {
 
 -- too many tasks before
 at-over : (T : Table) (g : Progress) (S : State) (L M : Lowering) (c : Cell) (ls : List Lowered) (o : Option OpenPhase) → (g.over ≡ None → ⊥) → Turns L M c ls o → IsAt T g S L → IsAt T g S M
-at-over T g S L M c ls o no t at = subst (λ (N : Lowering). IsAt T g S N) (sym t.is) (record {
+at-over T g S L M c ls o past t at = subst (λ (N : Lowering). IsAt T g S N) (sym t.is) (record {
   lays = at.lays;
   few_cells = at.few_cells;
   actives = at.actives;
-  follows = λ none. absurd (no none);
-  few_tasks = λ none. absurd (no none);
+  follows = λ none. absurd (past none);
+  few_tasks = λ none. absurd (past none);
   prints = at.prints;
   copied = copied-turned g.workers L c ls o t.copies at.copied;
 })
 
 pub over-stays : (o : Option Line) (line : Line) (L : Lowering) → (o ≡ None → ⊥) → o ≡ over_after o line L
-over-stays None line L no = absurd (no refl)
-over-stays (Some first) line L no = refl
+over-stays None line L past = absurd (past refl)
+over-stays (Some first) line L past = refl
 
 -- nothing is done any more once there are too many tasks
 pub prepares-over : (g : Progress) (line : Line) (change : Lowering → Lowering) (c : Cell) → (g.over ≡ None → ⊥) → ((T : Table) (S : State) (L : Lowering) → IsAt T g S L → (ls : List Lowered) × (o : Option OpenPhase) × Turns L (change L) c ls o) → Prepares g g line change
-prepares-over g line change c no turns = record {
-  at = λ T S L at. (let t = turns T S L at in at-over T g S L (change L) c t.0 t.1 no t.2 at);
-  over = λ T S L at. over-stays g.over line (change L) no;
+prepares-over g line change c past turns = record {
+  at = λ T S L at. (let t = turns T S L at in at-over T g S L (change L) c t.0 t.1 past t.2 at);
+  over = λ T S L at. over-stays g.over line (change L) past;
   actives = refl;
   workers = refl;
   last = refl;
@@ -119,8 +119,8 @@ prepares-late old new line change c none late same tasks turns = record {
         lays = subst (λ l. Lays T l L.cells) (sym same.layout) at.lays;
         few_cells = at.few_cells;
         actives = subst (λ as'. AreActive T L.cells as'.items S) (sym same.actives) at.actives;
-        follows = λ early. absurd (no early);
-        few_tasks = λ early. absurd (no early);
+        follows = λ early. absurd (past early);
+        few_tasks = λ early. absurd (past early);
         prints = fewer at.prints;
         copied = subst (λ (n : ℕ). AreCopied n (turned L.cells t.0 c t.1 L)) (sym same.workers) (copied-turned old.workers L c t.0 t.1 t.2.copies at.copied);
       });
@@ -133,8 +133,8 @@ prepares-late old new line change c none late same tasks turns = record {
   cells = omega (arith, ap (λ l. vec_len l.infos) same.layout);
 }
   where
-    no : new.over ≡ None → ⊥
-    no early = none_isn't line (sym early ∙ late)
+    past : new.over ≡ None → ⊥
+    past early = none_isn't line (sym early ∙ late)
 
     fewer : old.lowerer.prints ≤ vec_len old.lowerer.tasks → new.lowerer.prints ≤ vec_len new.lowerer.tasks
     fewer h = let a = same.prints in let b = ap vec_len tasks in omega (arith, h, a, b)
@@ -281,9 +281,9 @@ no_phase : (L : Lowering) (c : Cell) (f : OpenPhase) → None ≡ Some f → (in
 no_phase L c f e = absurd (none_isn't f e)
 
 pub closes-over : (g : Progress) (line : Line) (c : Cell) → (g.over ≡ None → ⊥) → Prepares g g line (λ L. closed g.workers L c)
-closes-over g line c no = record {
-  at = λ T S L at. by_phase g.workers L c (λ (M : Lowering). IsAt T g S M) (λ e. at) (λ f e. at-over T g S L (turned L.cells (combine_rows f c g.workers) c None L) c (combine_rows f c g.workers) None no (record { is = refl; copies = no_phase L c }) at);
-  over = λ T S L at. over-stays g.over line (closed g.workers L c) no;
+closes-over g line c past = record {
+  at = λ T S L at. by_phase g.workers L c (λ (M : Lowering). IsAt T g S M) (λ e. at) (λ f e. at-over T g S L (turned L.cells (combine_rows f c g.workers) c None L) c (combine_rows f c g.workers) None past (record { is = refl; copies = no_phase L c }) at);
+  over = λ T S L at. over-stays g.over line (closed g.workers L c) past;
   actives = refl;
   workers = refl;
   last = refl;
