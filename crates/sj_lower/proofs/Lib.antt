@@ -44,3 +44,4 @@ pub mod Known
 pub mod Preparing
 pub mod Preparations
 pub mod Matching
+pub mod Steps
