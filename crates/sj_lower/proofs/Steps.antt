@@ -15,11 +15,13 @@ use Rattle.sj_lower.specs.declared.lower.LowerRefusal.{LowerRefusal}
 use Rattle.sj_lower.specs.declared.lower.LowerRefusal.TheVariants.{TooManyCells, TooManyTasks, OutOfMemory}
 use Rattle.sj_lower.specs.declared.lower.Progress.{Progress}
 use Rattle.sj_lower.specs.declared.lowerer.Active.{Active}
+use Rattle.sj_lower.specs.Cells.{cells_from}
 use Rattle.sj_lower.specs.Limits.{most, cells_in, tasks_in}
 use Rattle.sj_lower.specs.Lowering.{Lowering, closed, all_closed, finished}
 use Rattle.sj_lower.specs.Seen.{active_at}
-use Rattle.sj_lower.specs.Progress.{IsAt, HasAt, Prepares, IsFullBy, HasActive, IsActiveOperand, is_other, is_contributed, cell_by, opening_for, opening_all}
+use Rattle.sj_lower.specs.Progress.{IsAt, HasAt, Prepares, IsFullBy, HasActive, IsActiveOperand, is_other, is_contributed, cells_by, cell_by, opening_for, opening_all}
 use Rattle.sj_lower.proofs.Children.{first_children, child-pushed, all-pushed}
+use Rattle.sj_lower.proofs.Following.{at-default}
 use Rattle.sj_lower.proofs.Matching.{filter-passed, filter-left, filter-parts, closed-snoc, opening-parts, opening_for-more, opening_all-more}
 use Rattle.sj_lower.proofs.Places.{place_at}
 use Rattle.sj_lower.proofs.Preparing.{IsBeside, closed-more, all_closed-more, closes-over, closes-none, prepares-none, prepares-then, prepares-as}
@@ -97,6 +99,15 @@ operand-now old now line f o p h = still-operand old now o p.actives p.cells h
 
 pub active-now : (old now : Progress) (line : Line) (f : Lowering → Lowering) (n : ℕ) → Prepares old now line f → HasActive old n → HasActive now n
 active-now old now line f n p h = still-active old now n p.actives p.cells h
+
+-- the active plan that the code reads
+pub active-is : (g : Progress) (n : ℕ) (a : Active) → HasActive g n → a ≡ get_or g.lowerer.actives.items n a → a ≡ active_at g.lowerer.actives.items n
+active-is g n a h e = e ∙ at-default g.lowerer.actives.items n a (omega (arith, h.root, g.lowerer.actives.ok.0))
+
+-- the cells of its children
+pub cells-are-by : (a b : Active) (first : ℕ) (p : Parts) (n : ℕ) → a ≡ b → p ≡ a.tracked.parts → first ≡ a.first → n ≡ children_count p → first_children (cells_from first p) p n ≡ cells_by b
+cells-are-by a b first p n e parts from all =
+    children-all (cells_from first p) p n all ∙ (λ i. map (cells_from (from i) (parts i)) (places (parts i))) ∙ ap cells_by e
 
 -- ---- closing operands
 
