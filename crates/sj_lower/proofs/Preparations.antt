@@ -1,6 +1,6 @@
 -- The phases of a statement's contributions go on or begin; and what comes before its own tasks, by the active plans, is what the
 -- definition says.
-use Rattle.std.proofs.Common.{◌≡◌, ℕ, ◌+◌, ◌<◌, ◌≤◌, Bool, true, false, cond, not, Option, Some, None, List, [], ◌∷◌, ◌++◌, length, vec_len, nat_eq, is_some, get_or, refl, sym, ap, subst, ◌∙◌, arith, length-append, fold, inl, inr}
+use Rattle.std.proofs.Common.{◌≡◌, ℕ, ◌+◌, ◌<◌, ◌≤◌, Bool, true, false, cond, Option, Some, None, List, [], ◌∷◌, ◌++◌, length, vec_len, nat_eq, is_some, get_or, refl, sym, ap, subst, ◌∙◌, arith, length-append, fold, inl, inr}
 use Rattle.std.proofs.lemmas.List.{append-nil}
 use Rattle.std.proofs.lemmas.List.FromFn.{length-map-range_with_len}
 use Rattle.indexmap.specs.IndexMap.{get}
@@ -68,13 +68,16 @@ turns workers by v line c L first copied there = by_phase (L.phase c) refl
     by_phase None e = (begin_rows by first c v workers line, Some (begins by first line), turns-none workers by v line c L first there e)
     by_phase (Some f) e = ([], Some (extended f line), turns-some workers by v line c L f copied e)
 
--- how many tasks give the cell itself the unit
-abbrev pub begins-with : Bool → ℕ
-begins-with v = cond (not v) 1 0
+-- how many tasks begin a phase
+pub begin-valued : (by : Reduction) (first c : Cell) (v : Bool) (workers : ℕ) (line : Line) → v ≡ true → length (begin_rows by first c v workers line) ≡ workers
+begin-valued by first c v workers line e =
+    length-append (init_rows by first workers line) (cond v [] (init_row by line c ∷ [])) ∙ ap (λ b. length (init_rows by first workers line) + length (cond b [] (init_row by line c ∷ []))) e
+    ∙ (let n = length-map-range_with_len (λ w. init_row by line (copy_at first w)) 0 workers in omega (arith, n))
 
-begin-length : (by : Reduction) (first c : Cell) (v : Bool) (workers : ℕ) (line : Line) → length (begin_rows by first c v workers line) ≡ workers + begins-with v
-begin-length by first c true workers line = length-append (init_rows by first workers line) [] ∙ ap (λ n. n + 0) (length-map-range_with_len (λ w. init_row by line (copy_at first w)) 0 workers)
-begin-length by first c false workers line = length-append (init_rows by first workers line) (init_row by line c ∷ []) ∙ ap (λ n. n + 1) (length-map-range_with_len (λ w. init_row by line (copy_at first w)) 0 workers)
+pub begin-unvalued : (by : Reduction) (first c : Cell) (v : Bool) (workers : ℕ) (line : Line) → v ≡ false → length (begin_rows by first c v workers line) ≡ workers + 1
+begin-unvalued by first c v workers line e =
+    length-append (init_rows by first workers line) (cond v [] (init_row by line c ∷ [])) ∙ ap (λ b. length (init_rows by first workers line) + length (cond b [] (init_row by line c ∷ []))) e
+    ∙ (let n = length-map-range_with_len (λ w. init_row by line (copy_at first w)) 0 workers in omega (arith, n))
 
 pub opens-over : (g : Progress) (by : Reduction) (v : Bool) (line : Line) (c first : Cell) → (g.over ≡ None → ⊥) → HasCopies g c first → Prepares g g line (opened g.workers by v line c)
 opens-over g by v line c first past copies = prepares-over g line (opened g.workers by v line c) c past (λ T S L at. turns g.workers by v line c L first at.copied (copies.theirs T S L at))
@@ -85,20 +88,20 @@ opens-more old new by v line c f h none early same tasks sets there =
     (let few = few-at old h none in omega (arith, few, ap vec_len tasks))
     (λ T S L at. turns-some old.workers by v line c L f at.copied (sym ((at.follows none).phases c) ∙ there))
 
-pub opens-late : (old new : Progress) (by : Reduction) (v : Bool) (line : Line) (c first : Cell) → HasCopies old c first → old.over ≡ None → new.over ≡ Some line → IsBeside old new → new.lowerer.tasks ≡ old.lowerer.tasks → get nat_eq old.lowerer.phases c.0 ≡ None → most < vec_len old.lowerer.tasks + (old.workers + begins-with v) → Prepares old new line (opened old.workers by v line c)
-opens-late old new by v line c first copies none late same tasks absent many =
+pub opens-late : (old new : Progress) (by : Reduction) (v : Bool) (line : Line) (c first : Cell) (k : ℕ) → k ≡ length (begin_rows by first c v old.workers line) → HasCopies old c first → old.over ≡ None → new.over ≡ Some line → IsBeside old new → new.lowerer.tasks ≡ old.lowerer.tasks → get nat_eq old.lowerer.phases c.0 ≡ None → most < vec_len old.lowerer.tasks + k → Prepares old new line (opened old.workers by v line c)
+opens-late old new by v line c first k count copies none late same tasks absent many =
     prepares-late old new line (opened old.workers by v line c) c none late same tasks
     (λ T S L at. (
       begin_rows by first c v old.workers line,
       Some (begins by first line),
       turns-none old.workers by v line c L first (copies.theirs T S L at) (sym ((at.follows none).phases c) ∙ absent),
-      omega (arith, many, begin-length by first c v old.workers line),
+      omega (arith, many, count),
     ))
 
-pub opens-on : (old new : Progress) (by : Reduction) (v : Bool) (line : Line) (c first : Cell) → HasCopies old c first → old.over ≡ None → new.over ≡ None → IsBeside old new → new.lowerer.tasks.items ≡ old.lowerer.tasks.items ++ begin_rows by first c v old.workers line → Sets old new c (Some (begins by first line)) → get nat_eq old.lowerer.phases c.0 ≡ None → vec_len old.lowerer.tasks + (old.workers + begins-with v) ≤ most → Prepares old new line (opened old.workers by v line c)
-opens-on old new by v line c first copies none early same tasks sets absent few =
+pub opens-on : (old new : Progress) (by : Reduction) (v : Bool) (line : Line) (c first : Cell) (k : ℕ) → k ≡ length (begin_rows by first c v old.workers line) → HasCopies old c first → old.over ≡ None → new.over ≡ None → IsBeside old new → new.lowerer.tasks.items ≡ old.lowerer.tasks.items ++ begin_rows by first c v old.workers line → Sets old new c (Some (begins by first line)) → get nat_eq old.lowerer.phases c.0 ≡ None → vec_len old.lowerer.tasks + k ≤ most → Prepares old new line (opened old.workers by v line c)
+opens-on old new by v line c first k count copies none early same tasks sets absent few =
     prepares-on old new line (opened old.workers by v line c) c (begin_rows by first c v old.workers line) (Some (begins by first line)) none early same tasks sets
-    (omega (arith, few, new.lowerer.tasks.ok, old.lowerer.tasks.ok, ap length tasks, length-append old.lowerer.tasks.items (begin_rows by first c v old.workers line), begin-length by first c v old.workers line))
+    (omega (arith, few, new.lowerer.tasks.ok, old.lowerer.tasks.ok, ap length tasks, length-append old.lowerer.tasks.items (begin_rows by first c v old.workers line), count))
     (λ T S L at. turns-none old.workers by v line c L first (copies.theirs T S L at) (sym ((at.follows none).phases c) ∙ absent))
 
 -- ---- partial copies

@@ -1,6 +1,8 @@
 -- Phases that are closed or opened one after another.
 use Rattle.std.proofs.Common.{◌≡◌, ◌∙◌, ℕ, ◌+◌, ◌<◌, ◌≤◌, Bool, true, false, Option, Some, None, List, [], ◌∷◌, ◌++◌, All, length, map, filter, take, drop, get_or, vec_len, nat_eq, refl, sym, ap, subst, arith}
 use Rattle.std.specs.List.{range_with_len}
+use Rattle.std.proofs.lemmas.List.{get_or_default}
+use Rattle.std.proofs.lemmas.List.Elements.{All-get_or}
 use Rattle.indexmap.specs.IndexMap.{IndexMap, get, with_entries}
 use Rattle.sj_base.specs.declared.ids.Cell.{Cell}
 use Rattle.sj_base.specs.declared.ids.Line.{Line}
@@ -124,6 +126,25 @@ other-passed as' os i o below is passes = ap (map (cell_by as')) (filter-passed 
 
 pub other-left : (as' : List Active) (os : List Operand) (i : ℕ) (o : Operand) → i < length os → o ≡ get_or os i o → is_other o ≡ false → others_so_far as' os (i + 1) ≡ others_so_far as' os i
 other-left as' os i o below is fails = ap (map (cell_by as')) (filter-left is_other os i o below is fails)
+
+-- the cell that the code finds for an operand
+cell-found : (old now : Progress) (line : Line) (f : Lowering → Lowering) (o : Operand) (a : Active) (first : ℕ) (parts : Parts) (c : Cell) → Prepares old now line f → IsActiveOperand old o → a ≡ get_or now.lowerer.actives.items o.root.0 a → parts ≡ a.tracked.parts → first ≡ a.first → c ≡ cells_from first parts o.place → c ≡ cell_by old.lowerer.actives.items o
+cell-found old now line f o a first parts c p h read its_parts its_first is =
+    is ∙ (λ i. cells_from (its_first i) (its_parts i) o.place)
+    ∙ ap (λ (b : Active). cells_from b.first b.tracked.parts o.place) (active-is now o.root.0 a (operand-now old now line f o p h).active read ∙ ap (λ as'. active_at as'.items o.root.0) p.actives)
+
+-- one operand more
+pub closes-operand : (old now next : Progress) (line : Line) (os : List Operand) (i : ℕ) (d : Operand) (a : Active) (first : ℕ) (parts : Parts) (c : Cell) → i < length os → All (IsActiveOperand old) os → is_other (get_or os i d) ≡ true → Prepares old now line (all_closed old.workers (others_so_far old.lowerer.actives.items os i))
+    → a ≡ get_or now.lowerer.actives.items (get_or os i d).root.0 a → parts ≡ a.tracked.parts → first ≡ a.first → c ≡ cells_from first parts (get_or os i d).place → Prepares now next line (λ L. closed now.workers L c) → Prepares old next line (all_closed old.workers (others_so_far old.lowerer.actives.items os (i + 1)))
+closes-operand old now next line os i d a first parts c below all passes p read its_parts its_first is q =
+    let as' = old.lowerer.actives.items in
+    let o = get_or os i d in
+    let cell = cell-found old now line (all_closed old.workers (others_so_far as' os i)) o a first parts c p (All-get_or (IsActiveOperand old) os i d below all) read its_parts its_first is in
+    closes-more old now next line (others_so_far as' os i) (others_so_far as' os (i + 1)) c (other-passed as' os i o below (get_or_default os i d o below) passes ∙ ap (λ x. others_so_far as' os i ++ x ∷ []) (sym cell)) p q
+
+pub leaves-operand : (old now : Progress) (line : Line) (os : List Operand) (i : ℕ) (d : Operand) → i < length os → is_other (get_or os i d) ≡ false → Prepares old now line (all_closed old.workers (others_so_far old.lowerer.actives.items os i)) → Prepares old now line (all_closed old.workers (others_so_far old.lowerer.actives.items os (i + 1)))
+leaves-operand old now line os i d below fails p =
+    subst (λ cs. Prepares old now line (all_closed old.workers cs)) (sym (other-left old.lowerer.actives.items os i (get_or os i d) below (get_or_default os i d (get_or os i d) below) fails)) p
 
 -- ---- opening operands
 

@@ -1,8 +1,11 @@
 //! What comes before a statement's own tasks: the phases of contributions that it closes are closed, and that of its own
 //! contribution is open.
 
-ghost use Rattle.std.specs.Prelude.{◌≡◌, None, Some, All, IfErr, OnOk, map, filter};
-ghost use Rattle.sj_lower.specs.Lowering.{closed, all_closed, opened, finished};
+ghost use Rattle.std.specs.Prelude.{◌≡◌, None, Some, All, IfErr, OnOk, map, filter, length};
+ghost use Rattle.sj_base.specs.declared.ids.Cell.{Cell};
+ghost use Rattle.sj_base.specs.declared.ids.Line.{Line};
+ghost use Rattle.sj_base.specs.declared.mode.Reduction.{Reduction};
+ghost use Rattle.sj_lower.specs.Lowering.{closed, all_closed, begin_rows, opened, finished};
 ghost use Rattle.sj_lower.specs.Progress.{HasAt, Prepares, IsFullBy, HasActive, IsActiveOperand, NamesActives, HasCopies, is_other, is_contributed, cells_by, cell_by, closing_by, opening_for, opening_all, preparing_by};
 ghost use Rattle.sj_lower.specs.Seen.{active_at};
 
@@ -29,6 +32,17 @@ fn is_contribution(operand: &Operand) -> bool
     ensures { result ≡ is_contributed operand.now }
 {
     operand.mode == Mode::Redux
+}
+
+/// How many tasks begin a phase. Constant time.
+fn begin_count(workers: u8, valued: bool) -> u64
+    ensures { (by : Reduction) (first cell : Cell) (line : Line)
+        → result ≡ length (begin_rows by first cell valued workers line) }
+{
+    if valued {
+        return workers as u64;
+    }
+    workers as u64 + 1
 }
 
 impl Progress {
@@ -166,7 +180,7 @@ impl Progress {
             self.lowerer.phases.insert(cell.0, extended)?;
             return Ok(());
         }
-        if !self.has_room(self.workers as u64 + !valued as u64) {
+        if !self.has_room(begin_count(self.workers, valued)) {
             self.over = Some(phase.line);
             return Ok(());
         }
