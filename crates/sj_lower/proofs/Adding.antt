@@ -1,10 +1,9 @@
 -- What a contribution adds to a partial copy, the cell denotes more.
-use Rattle.std.proofs.Common.{◌≡◌, ℕ, zero, suc, ◌+◌, ◌<◌, ◌≤◌, Bool, true, false, ◌&&◌, Option, Some, None, List, [], ◌∷◌, ◌++◌, ℤ, map, refl, sym, ap, subst, ◌∙◌, arith, length}
-use Rattle.std.specs.Prelude.{All, Contains, nat_eq}
+use Rattle.std.proofs.Common.{◌≡◌, ℕ, zero, suc, ◌+◌, ◌<◌, ◌≤◌, Bool, true, false, ◌&&◌, Option, Some, None, List, [], ◌∷◌, refl, sym, ap, subst, ◌∙◌, arith, length}
+use Rattle.std.specs.Prelude.{Contains, nat_eq}
 use Rattle.std.specs.List.{AllByRecursion, range_with_len}
-use Rattle.std.proofs.lemmas.Bool.{false≢true}
 use Rattle.std.proofs.lemmas.Bool.Decides.{Decides-eqb}
-use Rattle.std.proofs.lemmas.List.Elements.{All-nil, All-cons, All-from_recursion}
+use Rattle.std.proofs.lemmas.List.Elements.{All-nil, All-cons}
 use Rattle.sj_base.specs.declared.ids.Cell.{Cell}
 use Rattle.sj_base.specs.declared.mode.Access.{Access}
 use Rattle.sj_base.specs.declared.mode.Mode.TheVariants.{Redux}
@@ -16,19 +15,19 @@ use Rattle.sj_base.specs.Array.{Array, zeros}
 use Rattle.sj_codelet.specs.declared.kernel.Kernel.{Kernel}
 use Rattle.sj_codelet.specs.Kernel.{kernel_of, contributes_of, combine_of, same, fits}
 use Rattle.sj_codelet.specs.Laws.{IsTile, IsCall, IsReduction, combined, result_of}
-use Rattle.sj_core.specs.Program.{same_cell, dims_of, cell_info, task_of}
+use Rattle.sj_core.specs.Program.{dims_of, cell_info, task_of}
 use Rattle.sj_core.specs.Proper.{Phase}
 use Rattle.sj_core.specs.Fold.{Contents, held_in, after_task}
-use Rattle.sj_core.specs.Operands.{found, worked_on, copy_of}
+use Rattle.sj_core.specs.Operands.{worked_on, copy_of}
 use Rattle.sj_core.proofs.Adding.{adds, part, part-fills, update}
-use Rattle.sj_core.proofs.Combining.{call-with, combined-swap, combines, contribution, result-fills}
+use Rattle.sj_core.proofs.Combining.{call-with, combined-swap, combines, result-fills}
 use Rattle.sj_core.proofs.Phases.{contributes, reduces, kernel-contributes, does_contribute}
 use Rattle.sj_core.proofs.Sized.{AreSized, after_chosen-sized, worked_on-dims}
 use Rattle.sj_core.proofs.Swapping.{Updates, first_ins, update-call, update-spares}
 use Rattle.sj_core.proofs.Updating.{one_reduction}
 use Rattle.sj_lower.specs.declared.phase.OpenPhase.{OpenPhase}
 use Rattle.sj_lower.specs.Cells.{copy_at}
-use Rattle.sj_lower.proofs.Combined.{IsTrusted, with_copy, with_all, all_workers, range-below, SameCopies}
+use Rattle.sj_lower.proofs.Combined.{IsTrusted, with_copy, with_all, all_workers}
 use Rattle.sj_lower.proofs.Contents.{first_worker, task_at, contents_before}
 
 -- ---- arrays that are combined

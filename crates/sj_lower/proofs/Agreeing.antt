@@ -1,6 +1,6 @@
 -- Statement by statement, the cells of a program agree with the names of its job.
 use Rattle.std.specs.FinMap as map
-use Rattle.std.proofs.Common.{◌≡◌, ℕ, ◌+◌, ◌≤◌, Bool, true, false, cond, not, ◌||◌, Option, Some, None, List, [], ◌∷◌, ◌++◌, ℤ, pos, length, map as each_of, refl, sym, ap, subst, ◌∙◌, arith, append_assoc, length-append}
+use Rattle.std.proofs.Common.{◌≡◌, ℕ, ◌+◌, ◌≤◌, Bool, true, false, cond, not, ◌||◌, Option, Some, None, List, [], ◌∷◌, ◌++◌, ℤ, pos, length, map as each_of, refl, sym, ap, subst, ◌∙◌, arith, length-append}
 use Rattle.std.specs.List.{AllByRecursion, list_all}
 use Rattle.std.specs.Option.{is_none}
 use Rattle.std.specs.Str.{bytes_eq}
@@ -30,26 +30,26 @@ use Rattle.sj_job.specs.declared.job.Init.{Init}
 use Rattle.sj_job.specs.declared.job.Init.TheVariants.{Values, Fill, Nothing}
 use Rattle.sj_codelet.specs.Kernel.{out}
 use Rattle.sj_job.specs.Statement.{Register, Operand, TaskLine}
-use Rattle.sj_job.specs.Act.{Act, Statement}
+use Rattle.sj_job.specs.Act.{Act}
 use Rattle.sj_job.specs.Act.{Register as Registers, Plan as Plans, Redux as Reduces, Task as Tasks, Print as Prints, Invalidate as Invalidates, Unregister as Unregisters}
 use Rattle.sj_job.specs.State.{Root, State, root_of, is_valued, is_blank, is_valued_child, start}
 use Rattle.sj_job.specs.Meaning.{array_of, child_array, with_child, put, put_all, written_of, operand_array, integers_of, first_elements, registered_root, register, no_values, with_parts, with_elements, with_reduction, reduce, plan, invalidate, unregister, run_task, apply}
 use Rattle.sj_job.specs.Sound.{has_root, has_values, has_none, reduction_of, InitFits, IsSoundTask, IsSoundRegistration, IsSoundPlan, IsSoundAct}
-use Rattle.sj_lower.specs.Cells.{Cells, Handle, same_parts, cell_of, take, with_root, next_handle, info_at, copy_at}
+use Rattle.sj_lower.specs.Cells.{Cells, Handle, same_parts, cell_of, take, with_root, next_handle, copy_at}
 use Rattle.sj_lower.specs.Rows.{load_row, fill_row, fill_arguments, paste_row}
-use Rattle.sj_lower.specs.Lowering.{Lowering, nothing, cells_after, load_rows, parts_in, active_cell, is_idle, plan_rows, task_row, deliver_rows, rows_of, add_own}
+use Rattle.sj_lower.specs.Lowering.{Lowering, nothing, load_rows, parts_in, active_cell, is_idle, plan_rows, task_row, deliver_rows, add_own}
 use Rattle.sj_lower.proofs.Combined.{IsTrusted, Phases, denoted-closed}
 use Rattle.sj_lower.proofs.Contents.{task_at, contents_before, contents-next}
-use Rattle.sj_lower.proofs.Copies.{HaveCopies, copies-none, copies-root, copies-take, take-more}
+use Rattle.sj_lower.proofs.Copies.{copies-none, copies-root, copies-take, take-more}
 use Rattle.sj_lower.proofs.Elements.{child-within, child-window, valued-child, blank-child, no_values-blank, unwrapped, filled-window}
 use Rattle.sj_lower.proofs.Filling.{AreFilled, HaveOwn, rows-filled, rows-give, blocks-give, after_load, after_fill, after_delivers, gives_own}
-use Rattle.sj_lower.proofs.Folding.{Stand, stand-there, after_rows, contents-rows, one_gives, given-rows, later}
+use Rattle.sj_lower.proofs.Folding.{Stand, after_rows, contents-rows, one_gives, given-rows}
 use Rattle.sj_lower.proofs.Holding.{IsHeld, HasRoot, HaveRoots, HaveTheirs, HasCells, differs, not_copy, root-kept, held-kept, cell-dims, get-put, get-gone, root-change}
 use Rattle.sj_lower.proofs.Laid.{same_name, bytes_eq-itself, some_is, none_isn't, IsTaken, AreLaid, cell-is, cells-apart, laid-none, laid-root, laid-take, root-keeps, root-there, take-keeps, take-takes}
 use Rattle.sj_lower.proofs.Pasting.{rows_to, rows-by_child, pastes-filled, pastes-give}
 use Rattle.sj_lower.proofs.Places.{parts-are, parts-itself}
 use Rattle.sj_lower.proofs.Running.{is_direct, IsClosed, root_there, holds-task}
-use Rattle.sj_lower.proofs.Stating.{Begins, begins-own, stands-own, IsActiveChild, Agrees}
+use Rattle.sj_lower.proofs.Stating.{Begins, stands-own, IsActiveChild, Agrees}
 
 nothing_more : {X : Type 0} (xs : List X) → xs ++ [] ≡ xs
 nothing_more [] = refl

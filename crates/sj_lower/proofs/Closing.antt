@@ -1,28 +1,24 @@
 -- The phases that a statement closes: the cells hold afterwards what they denoted.
-use Rattle.std.proofs.Common.{◌≡◌, ℕ, ◌+◌, ◌<◌, ◌≤◌, Bool, true, false, cond, Option, Some, None, List, [], ◌∷◌, ◌++◌, length, refl, sym, ap, subst, ◌∙◌, arith, length-append, fold}
+use Rattle.std.proofs.Common.{◌≡◌, ℕ, ◌+◌, ◌<◌, false, Option, Some, None, List, [], ◌∷◌, ◌++◌, length, refl, sym, ap, ◌∙◌, arith, length-append}
 use Rattle.std.specs.List.{AllByRecursion}
-use Rattle.std.proofs.lemmas.Bool.{false≢true}
 use Rattle.sj_base.specs.declared.ids.Cell.{Cell}
-use Rattle.sj_base.specs.declared.program.Delivery.{Delivery}
 use Rattle.sj_base.specs.declared.program.Lowered.{Lowered}
 use Rattle.sj_base.specs.declared.program.Program.{Program}
 use Rattle.sj_base.specs.Array.{Array}
 use Rattle.sj_core.specs.Program.{same_cell}
-use Rattle.sj_core.specs.Proper.{HasValueBefore}
 use Rattle.sj_core.specs.Fold.{Contents, held_in}
-use Rattle.sj_plan.specs.Parts.{IsPlace}
-use Rattle.sj_job.specs.State.{Root, State, root_of, is_valued_child}
+use Rattle.sj_job.specs.State.{State}
 use Rattle.sj_job.specs.Meaning.{child_array}
 use Rattle.sj_lower.specs.declared.phase.OpenPhase.{OpenPhase}
-use Rattle.sj_lower.specs.Cells.{Cells, cell_of, copy_at}
+use Rattle.sj_lower.specs.Cells.{cell_of, copy_at}
 use Rattle.sj_lower.specs.Rows.{combine_rows}
 use Rattle.sj_lower.specs.Lowering.{Lowering, with_phase, turned, closed, all_closed}
-use Rattle.sj_lower.proofs.Combined.{Phases, IsTrusted, denoted-closed, denoted-open}
-use Rattle.sj_lower.proofs.Contents.{task_at, contents_before}
-use Rattle.sj_lower.proofs.Folding.{Stand, after_rows, contents-rows, later}
-use Rattle.sj_lower.proofs.Growing.{Grows, grows-refl}
-use Rattle.sj_lower.proofs.Holding.{IsHeld, HasRoot, HaveRoots, HaveTheirs, not_copy, held-kept}
-use Rattle.sj_lower.proofs.Laid.{AreLaid, IsTaken, none_isn't}
+use Rattle.sj_lower.proofs.Combined.{Phases, denoted-closed, denoted-open}
+use Rattle.sj_lower.proofs.Contents.{contents_before}
+use Rattle.sj_lower.proofs.Folding.{after_rows, contents-rows, later}
+use Rattle.sj_lower.proofs.Growing.{grows-refl}
+use Rattle.sj_lower.proofs.Holding.{IsHeld, not_copy, held-kept}
+use Rattle.sj_lower.proofs.Laid.{none_isn't}
 use Rattle.sj_lower.proofs.Phasing.{IsBare, closed-value, closed-others}
 use Rattle.sj_lower.proofs.Stating.{Begins, begins-less, stands-more, IsActiveChild, Agrees, phase-own, phase-other, by_cell}
 

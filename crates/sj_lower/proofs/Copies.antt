@@ -1,9 +1,8 @@
 -- The partial copies of a cell: cells of their own, as large as it.
-use Rattle.std.proofs.Common.{◌≡◌, ℕ, ◌+◌, ◌-◌, ◌<◌, ◌≤◌, ◌^◌, Bool, true, false, cond, Option, Some, None, List, [], ◌++◌, length, get_or, map as each_of, refl, sym, ap, subst, ◌∙◌, inl, inr, arith, length-append}
+use Rattle.std.proofs.Common.{◌≡◌, ℕ, ◌+◌, ◌-◌, ◌<◌, ◌≤◌, ◌^◌, Bool, true, false, cond, Option, Some, None, List, [], ◌++◌, length, map as each_of, refl, sym, ap, subst, ◌∙◌, inl, inr, arith, length-append}
 use Rattle.std.specs.Prelude.{◌⊎◌, nat_eq, set, replicate, unwrap_or}
 use Rattle.std.specs.List.{All}
 use Rattle.std.specs.Option.{is_some}
-use Rattle.std.specs.Str.{bytes_eq}
 use Rattle.std.proofs.lemmas.Bool.{cases_lt, false≢true}
 use Rattle.std.proofs.lemmas.Bool.Decides.{Decides-eqb}
 use Rattle.std.proofs.lemmas.List.{get_or_append_left, get_or-append_right, get_or_past, get_or-set_same, get_or-set_other, get_or-replicate, length-set, length-replicate, set_past}
@@ -14,11 +13,11 @@ use Rattle.sj_base.specs.declared.program.CellInfo.{CellInfo}
 use Rattle.sj_base.specs.Array.{area}
 use Rattle.sj_core.specs.Program.{no_cell}
 use Rattle.sj_plan.specs.declared.parts.Parts.{Parts}
-use Rattle.sj_plan.specs.Parts.{Fits, IsPlace, places}
+use Rattle.sj_plan.specs.Parts.{IsPlace, places}
 use Rattle.sj_job.specs.Track.{number}
-use Rattle.sj_lower.specs.Cells.{Cells, Handle, child_cell, take_by, take, with_root, no_cells, info_at, copy_at, copy_info, with_partials, first_copy, with_copies}
-use Rattle.sj_lower.proofs.Growing.{Grows, row_at, grows-refl, grows-append, grows-trans, has-row, NoneHas, append-partials}
-use Rattle.sj_lower.proofs.Laid.{IsTaken, AreLaid, IsOldOrNew, Old, New, News, old_or_new, none_isn't, some_is, take-by, taken-root}
+use Rattle.sj_lower.specs.Cells.{Cells, Handle, child_cell, take_by, take, with_root, no_cells, info_at, copy_info, with_partials, first_copy, with_copies}
+use Rattle.sj_lower.proofs.Growing.{Grows, row_at, grows-refl, grows-append, has-row, NoneHas, append-partials}
+use Rattle.sj_lower.proofs.Laid.{IsTaken, AreLaid, Old, New, News, old_or_new, none_isn't, some_is, taken-root}
 use Rattle.sj_lower.proofs.Places.{number-below}
 
 -- each cell that has partial copies has so many, which are cells of their own

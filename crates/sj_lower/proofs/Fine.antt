@@ -1,13 +1,11 @@
 -- What holds of the program after the statements so far, and that closing a phase keeps it.
-use Rattle.std.proofs.Common.{◌≡◌, ℕ, ◌+◌, ◌<◌, ◌≤◌, Bool, true, false, Option, Some, None, List, [], ◌∷◌, ◌++◌, length, map as each_of, refl, sym, ap, subst, ◌∙◌, inl, inr, arith, length-append}
-use Rattle.std.specs.Prelude.{All, Contains}
+use Rattle.std.proofs.Common.{◌≡◌, ℕ, ◌+◌, ◌<◌, Bool, true, false, Some, List, [], ◌∷◌, ◌++◌, length, refl, sym, ap, subst, ◌∙◌, inl, inr, arith, length-append}
 use Rattle.std.specs.List.{AllByRecursion, range_with_len}
-use Rattle.std.proofs.lemmas.Bool.{false≢true, cases_lt}
+use Rattle.std.proofs.lemmas.Bool.{cases_lt}
 use Rattle.std.proofs.lemmas.List.{length-map}
 use Rattle.std.proofs.lemmas.List.FromFn.{length-range_with_len}
 use Rattle.sj_base.specs.declared.ids.Cell.{Cell}
 use Rattle.sj_base.specs.declared.ids.Line.{Line}
-use Rattle.sj_base.specs.declared.mode.Access.{Access}
 use Rattle.sj_base.specs.declared.mode.Reduction.{Reduction}
 use Rattle.sj_base.specs.declared.mode.Reduction.TheVariants.{Plus, Least}
 use Rattle.sj_base.specs.declared.program.CellInfo.{CellInfo}
@@ -16,22 +14,22 @@ use Rattle.sj_base.specs.declared.program.Program.{Program}
 use Rattle.sj_codelet.specs.declared.kernel.Kernel.TheVariants.{Deliver}
 use Rattle.sj_codelet.specs.Kernel.{kernel_of}
 use Rattle.sj_core.specs.Program.{task_of, dims_of, same_cell}
-use Rattle.sj_core.specs.Proper.{IsPlain, HasValueBefore}
+use Rattle.sj_core.specs.Proper.{IsPlain}
 use Rattle.sj_plan.proofs.Lists.{each-map}
-use Rattle.sj_job.specs.State.{State, Root, root_of, is_valued_child}
+use Rattle.sj_job.specs.State.{State, is_valued_child}
 use Rattle.sj_job.specs.Meaning.{Printed, child_array}
 use Rattle.sj_job.specs.Table.{Table}
 use Rattle.sj_lower.specs.declared.phase.OpenPhase.{OpenPhase}
-use Rattle.sj_lower.specs.Cells.{Cells, cell_of, info_at, copy_at}
+use Rattle.sj_lower.specs.Cells.{copy_at}
 use Rattle.sj_lower.specs.Rows.{combine_row, combine_rows}
-use Rattle.sj_lower.specs.Lowering.{Lowering, turned, closed, all_closed}
-use Rattle.sj_lower.proofs.Closing.{Closed, by_phase, agrees_turned, begins-closed, begins-all_closed}
+use Rattle.sj_lower.specs.Lowering.{Lowering, closed, all_closed}
+use Rattle.sj_lower.proofs.Closing.{Closed, by_phase, agrees_turned, begins-all_closed}
 use Rattle.sj_lower.proofs.Contents.{task_at, contents_before}
-use Rattle.sj_lower.proofs.Delivered.{AreDelivered, NoneDelivers, delivered_beside}
+use Rattle.sj_lower.proofs.Delivered.{AreDelivered, delivered_beside}
 use Rattle.sj_lower.proofs.Folding.{Stand}
 use Rattle.sj_lower.proofs.Good.{IsGood, AreGood, good-all, good-at, good_combine}
 use Rattle.sj_lower.proofs.Growing.{grows-refl}
-use Rattle.sj_lower.proofs.Holding.{IsHeld, HasCells, HaveTheirs, differs, not_copy}
+use Rattle.sj_lower.proofs.Holding.{IsHeld, differs}
 use Rattle.sj_lower.proofs.Laid.{none_isn't, cell-is, cell-inside}
 use Rattle.sj_lower.proofs.Logging.{Logged, IsOwn, log-close}
 use Rattle.sj_lower.proofs.Owning.{one-owner, plain-child}

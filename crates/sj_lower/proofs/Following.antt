@@ -27,21 +27,21 @@ use Rattle.sj_job.specs.declared.job.Operand.{Operand as KeptOperand}
 use Rattle.sj_job.specs.declared.job.TaskLine.{TaskLine as KeptTask}
 use Rattle.sj_job.specs.Statement.{Register}
 use Rattle.sj_job.specs.State.{Root, State, root_of, is_valued, is_blank}
-use Rattle.sj_job.specs.Meaning.{registered_root, with_parts, with_elements, with_reduction, no_values, plan, reduce, invalidate}
+use Rattle.sj_job.specs.Meaning.{apply, registered_root, with_parts, with_elements, with_reduction, no_values, plan, reduce, invalidate}
 use Rattle.sj_job.specs.Names.{gives_values}
 use Rattle.sj_job.specs.Sound.{has_child, has_values, has_none, dims_of as root_dims}
 use Rattle.sj_job.specs.Table.{Table, AreDistinct, a_root, name_of, info_of}
 use Rattle.sj_job.specs.Track.{IsPlan, all_valued, none_valued, children_count, even}
 use Rattle.sj_lower.proofs.Places.{length-places}
-use Rattle.sj_job.specs.View.{operand_seen, task_seen, registration, act_seen}
-use Rattle.sj_job.proofs.Children.{tracks-registered, tracks-planned, tracks-invalidated, all_valued-same, none_valued-same}
+use Rattle.sj_job.specs.View.{operand_seen, registration, act_seen}
+use Rattle.sj_job.proofs.Children.{tracks-registered, tracks-planned, tracks-reduced, tracks-invalidated, all_valued-same, none_valued-same}
 use Rattle.sj_lower.specs.declared.lowerer.Active.{Active}
 use Rattle.sj_lower.specs.declared.lowerer.Lowerer.{Lowerer}
 use Rattle.sj_lower.specs.Cells.{Cells, Handle, same_parts, first_cell, cells_from, take, with_root, next_handle}
 use Rattle.sj_lower.specs.Limits.{most}
 use Rattle.sj_lower.specs.Rows.{an_access, paste_row, deliver_row}
-use Rattle.sj_lower.specs.Lowering.{Lowering, load_rows, access_of, plan_rows, deliver_rows, a_delivery, print_deliveries}
-use Rattle.sj_lower.specs.Seen.{no_active, active_at, pasted_by, IsActive, AreActive, IsNext, CanPass, Passes, Does, HasRoom, access_by, children_after}
+use Rattle.sj_lower.specs.Lowering.{Lowering, cells_after, load_rows, access_of, plan_rows, deliver_rows, a_delivery, print_deliveries}
+use Rattle.sj_lower.specs.Seen.{no_active, active_at, pasted_by, IsActive, AreActive, IsNext, CanPass, Does, HasRoom, access_by, first_after, children_after}
 use Rattle.sj_lower.proofs.Agreeing.{plan_rows-are}
 use Rattle.sj_lower.proofs.Holding.{get-put, get-gone, root-change}
 use Rattle.sj_lower.proofs.Laid.{same_name, bytes_eq-itself, some_is, none_isn't, IsTaken, take-keeps, take-takes, take-roots, root-keeps, root-there}
@@ -93,12 +93,17 @@ changed-actives T C D as' S i f r new g below d few roots keeps there is M chang
         (subst (λ (a : Active). IsActive T D i a t) (sym (get_or-set_same as' i new no_active (omega (arith, below, g.counted))))
         (subst (λ (x : Root). IsActive T D i new x) is_root is))
 
+-- these active plans are those after a statement, if the plan that it makes active has this first cell
+abbrev pub PassesTo : Table → Lowerer → List Active → Kept → ℕ → Type 0
+PassesTo T old as' a first =
+    (S : State) (L : Lowering) → CanPass T old a S L → let act = act_seen T L.cells.roots a in first_after act (cells_after act L.cells) ≡ first → AreActive T (cells_after act L.cells) as' (apply act S)
+
 -- what is known of the active plans where tasks are made
 pub can-pass : (T : Table) (l : Lowerer) (a : Kept) (S : State) (L : Lowering) → IsNext T l a S L → CanPass T l a S L
 can-pass T l a S L next = record { has = next.has; actives = next.follows.actives; sound = next.sound; placed = next.placed; distinct = next.distinct; few = next.few; table = next.table }
 
 -- the phases are what they were
-same_phases : (T : Table) (old new : Lowerer) (a : Kept) (S : State) (L : Lowering) → IsNext T old a S L → new.phases ≡ old.phases → (c : Cell) → get nat_eq new.phases c.0 ≡ L.phase c
+pub same_phases : (T : Table) (old new : Lowerer) (a : Kept) (S : State) (L : Lowering) → IsNext T old a S L → new.phases ≡ old.phases → (c : Cell) → get nat_eq new.phases c.0 ≡ L.phase c
 same_phases T old new a S L next e c = ap (λ m. get nat_eq m c.0) e ∙ next.follows.phases c
 
 -- ---- registrations
@@ -107,9 +112,9 @@ same_phases T old new a S L next e c = ap (λ m. get nat_eq m c.0) e ∙ next.fo
 abbrev pub registered_active : Table → Init → ℕ → ℕ → Active
 registered_active T init first n = record { tracked = even (info_of T (a_root n)).parts (gives_values init); first = first; reduction = None }
 
-pub passes-register : (T : Table) (old new : Lowerer) (init : Init) (first : ℕ) → HasRoom T (length old.actives.items) (kept.Register init) first
-    → new.actives.items ≡ old.actives.items ++ registered_active T init first (length old.actives.items) ∷ [] → Passes T old new (kept.Register init) first
-passes-register T old new init first room ea S L pass place = record {
+pub passes-register : (T : Table) (old : Lowerer) (as' : List Active) (init : Init) (first : ℕ) → HasRoom T (length old.actives.items) (kept.Register init) first
+    → as' ≡ old.actives.items ++ registered_active T init first (length old.actives.items) ∷ [] → PassesTo T old as' (kept.Register init) first
+passes-register T old as' init first room ea S L pass place = record {
   counted = ap length ea ∙ length-append old.actives.items (active ∷ []) ∙ ap (λ m. m + 1) count ∙ sym roots;
   each = λ m t lt e. subst (λ (as' : List Active). IsActive T D m (active_at as' m) t) (sym ea) (by_number m t (omega (arith, lt, roots)) (cases_lt m n) (sym (get-put S.roots r.name (registered_root r) (name_of T (a_root m))) ∙ e));
 }
@@ -177,7 +182,7 @@ does-register T old new init first line room et ed ep eh ea S L next place = rec
   deliveries = ed ∙ next.follows.deliveries ∙ sym (append-nil L.deliveries);
   prints = ep ∙ next.follows.prints;
   phases = same_phases T old new (kept.Register init) S L next eh;
-  actives = passes-register T old new init first room ea S L (can-pass T old (kept.Register init) S L next) place;
+  actives = passes-register T old new.actives.items init first room ea S L (can-pass T old (kept.Register init) S L next) place;
 }
   where
     count : length old.actives.items ≡ L.cells.roots
@@ -229,9 +234,9 @@ planned_active a p first = record { tracked = even p (all_valued a.tracked); fir
 plan_keeps : (T : Table) (l : Lowerer) (S : State) (L : Lowering) (r : RootNumber) (p : Parts) → IsKnown T l S L r → (q : List ℕ) (d : Dims) (s : Parts) (g : ℕ) → IsTaken L.cells q d s g → IsTaken (take (name_of T r) p L.cells) q d s g
 plan_keeps T l S L r p k q d s g t = take-keeps L.cells (name_of T r) p k.active.handle k.active.named q d s g t
 
-pub passes-plan : (T : Table) (old new : Lowerer) (r : RootNumber) (p : Parts) (first : ℕ) → HasRoom T (length old.actives.items) (kept.Plan r p) first
-    → new.actives.items ≡ set old.actives.items r.0 (planned_active (active_at old.actives.items r.0) p first) → Passes T old new (kept.Plan r p) first
-passes-plan T old new r p first room ea S L pass place =
+pub passes-plan : (T : Table) (old : Lowerer) (as' : List Active) (r : RootNumber) (p : Parts) (first : ℕ) → HasRoom T (length old.actives.items) (kept.Plan r p) first
+    → as' ≡ set old.actives.items r.0 (planned_active (active_at old.actives.items r.0) p first) → PassesTo T old as' (kept.Plan r p) first
+passes-plan T old as' r p first room ea S L pass place =
     subst (λ (as' : List Active). AreActive T D as' (plan name p S)) (sym ea)
     (changed-actives T L.cells D old.actives.items S r.0 (with_parts p) k.root new_active pass.actives pass.placed pass.distinct pass.few (take-roots L.cells name p) (plan_keeps T old S L r p k) k.is_root here (plan name p S) (λ q. root-change (with_parts p) name S k.root q k.is_root))
   where
@@ -272,7 +277,7 @@ does-plan T old new r p first line room et ed ep eh ea S L next place = record {
   deliveries = ed ∙ next.follows.deliveries ∙ sym (append-nil L.deliveries);
   prints = ep ∙ next.follows.prints;
   phases = same_phases T old new (kept.Plan r p) S L next eh;
-  actives = passes-plan T old new r p first room ea S L pass place;
+  actives = passes-plan T old new.actives.items r p first room ea S L pass place;
 }
   where
     pass : CanPass T old (kept.Plan r p) S L
@@ -289,7 +294,7 @@ does-plan T old new r p first line room et ed ep eh ea S L next place = record {
 
 -- ---- tasks
 
-accesses_same : (T : Table) (S : State) (C : Cells) (as' : List Active) (os : List KeptOperand) → AreActive T C as' S → All (λ o. o.root.0 < C.roots) os → AllByRecursion (λ o. has_child S (operand_seen T o) ≡ true) os
+pub accesses_same : (T : Table) (S : State) (C : Cells) (as' : List Active) (os : List KeptOperand) → AreActive T C as' S → All (λ o. o.root.0 < C.roots) os → AllByRecursion (λ o. has_child S (operand_seen T o) ≡ true) os
     → each_of (access_of S C) (each_of (operand_seen T) os) ≡ each_of (access_by as') os
 accesses_same T S C as' [] g placed there = refl
 accesses_same T S C as' (o ∷ os) g placed there =
@@ -308,16 +313,6 @@ seen-children T S (o ∷ os) h = let both = and_parts (has_child S (operand_seen
 abbrev pub lowered_task : KeptTask → Line → List Access → Lowered
 lowered_task t line accesses = record { codelet = codelet_of t.kernel; args = t.args; accesses = accesses; line = line; priority = t.priority }
 
-pub does-task : (T : Table) (old new : Lowerer) (t : KeptTask) (line : Line) → new.tasks.items ≡ old.tasks.items ++ lowered_task t line (each_of (access_by old.actives.items) t.operands) ∷ [] → new.deliveries.items ≡ old.deliveries.items → new.prints ≡ old.prints → new.phases ≡ old.phases
-    → Passes T old new (kept.Task t) 0 → Does T old new (kept.Task t) 0 line
-does-task T old new t line et ed ep eh passes S L next place = record {
-  tasks = et ∙ (λ i. next.follows.tasks i ++ lowered_task t line (sym (accesses_same T S L.cells old.actives.items t.operands next.follows.actives next.placed (seen-children T S t.operands next.sound.placed)) i) ∷ []);
-  deliveries = ed ∙ next.follows.deliveries ∙ sym (append-nil L.deliveries);
-  prints = ep ∙ next.follows.prints;
-  phases = same_phases T old new (kept.Task t) S L next eh;
-  actives = passes S L (can-pass T old (kept.Task t) S L next) place;
-}
-
 -- ---- prints
 
 pub print-known : (T : Table) (l : Lowerer) (S : State) (L : Lowering) (r : RootNumber) → IsNext T l (kept.Print r) S L → IsKnown T l S L r
@@ -334,8 +329,8 @@ deliver_rows-by T C S r line a root there is =
     deliver_rows-are S C (name_of T r) line root there
     ∙ (λ i. each_of (λ place. deliver_row (cells_from (active-first T C r.0 a root is i) (sym is.tracks.parts i) place) line) (places (sym is.tracks.parts i)))
 
-pub passes-print : (T : Table) (old new : Lowerer) (r : RootNumber) (first : ℕ) → new.actives.items ≡ old.actives.items → Passes T old new (kept.Print r) first
-passes-print T old new r first ea S L pass place = subst (λ (as' : List Active). AreActive T L.cells as' S) (sym ea) pass.actives
+pub passes-print : (T : Table) (old : Lowerer) (as' : List Active) (r : RootNumber) (first : ℕ) → as' ≡ old.actives.items → PassesTo T old as' (kept.Print r) first
+passes-print T old as' r first ea S L pass place = subst (λ (as' : List Active). AreActive T L.cells as' S) (sym ea) pass.actives
 
 pub does-print : (T : Table) (old new : Lowerer) (r : RootNumber) (line : Line) → let a = active_at old.actives.items r.0 in new.tasks.items ≡ old.tasks.items ++ delivered_by a line
     → new.deliveries.items ≡ old.deliveries.items ++ each_of (a_delivery (length old.tasks.items) r (info_of T r).dims a.tracked.parts old.prints) (places a.tracked.parts) → new.prints ≡ old.prints + 1 → new.phases ≡ old.phases
@@ -353,7 +348,7 @@ does-print T old new r line et ed ep eh ea S L next place =
       deliveries = ed ∙ (λ i. next.follows.deliveries i ++ each_of (a_delivery (length (next.follows.tasks i)) r (info_of T r).dims a.tracked.parts (next.follows.prints i)) (places a.tracked.parts)) ∙ ap (λ ds. L.deliveries ++ ds) (sym given);
       prints = ep ∙ ap (λ n. n + 1) next.follows.prints;
       phases = same_phases T old new (kept.Print r) S L next eh;
-      actives = passes-print T old new r 0 ea S L (can-pass T old (kept.Print r) S L next) place;
+      actives = passes-print T old new.actives.items r 0 ea S L (can-pass T old (kept.Print r) S L next) place;
     }
 
 -- ---- the other statements
@@ -362,8 +357,8 @@ does-print T old new r line et ed ep eh ea S L next place =
 abbrev pub reduced_active : Active → Reduction → Active
 reduced_active a by = record { tracked = a.tracked; first = a.first; reduction = Some by }
 
-pub passes-redux : (T : Table) (old new : Lowerer) (r : RootNumber) (by : Reduction) (first : ℕ) → new.actives.items ≡ set old.actives.items r.0 (reduced_active (active_at old.actives.items r.0) by) → Passes T old new (kept.Redux r by) first
-passes-redux T old new r by first ea S L pass place =
+pub passes-redux : (T : Table) (old : Lowerer) (as' : List Active) (r : RootNumber) (by : Reduction) (first : ℕ) → as' ≡ set old.actives.items r.0 (reduced_active (active_at old.actives.items r.0) by) → PassesTo T old as' (kept.Redux r by) first
+passes-redux T old as' r by first ea S L pass place =
     let there = root_there (root_of S (name_of T r)) pass.sound.1 in
     let k = known T old (kept.Redux r by) S L r pass pass.placed there.0 there.1 in
     let a = active_at old.actives.items r.0 in
@@ -379,15 +374,15 @@ does-redux T old new r by line et ed ep eh ea S L next place = record {
   deliveries = ed ∙ next.follows.deliveries ∙ sym (append-nil L.deliveries);
   prints = ep ∙ next.follows.prints;
   phases = same_phases T old new (kept.Redux r by) S L next eh;
-  actives = passes-redux T old new r by 0 ea S L (can-pass T old (kept.Redux r by) S L next) place;
+  actives = passes-redux T old new.actives.items r by 0 ea S L (can-pass T old (kept.Redux r by) S L next) place;
 }
 
 -- a root without values
 abbrev pub blank_active : Active → Active
 blank_active a = record { tracked = even a.tracked.parts false; first = a.first; reduction = a.reduction }
 
-pub passes-invalidate : (T : Table) (old new : Lowerer) (r : RootNumber) (first : ℕ) → new.actives.items ≡ set old.actives.items r.0 (blank_active (active_at old.actives.items r.0)) → Passes T old new (kept.Invalidate r) first
-passes-invalidate T old new r first ea S L pass place =
+pub passes-invalidate : (T : Table) (old : Lowerer) (as' : List Active) (r : RootNumber) (first : ℕ) → as' ≡ set old.actives.items r.0 (blank_active (active_at old.actives.items r.0)) → PassesTo T old as' (kept.Invalidate r) first
+passes-invalidate T old as' r first ea S L pass place =
     let there = root_there (root_of S (name_of T r)) pass.sound in
     let k = known T old (kept.Invalidate r) S L r pass pass.placed there.0 there.1 in
     let a = active_at old.actives.items r.0 in
@@ -404,11 +399,11 @@ does-invalidate T old new r line et ed ep eh ea S L next place = record {
   deliveries = ed ∙ next.follows.deliveries ∙ sym (append-nil L.deliveries);
   prints = ep ∙ next.follows.prints;
   phases = same_phases T old new (kept.Invalidate r) S L next eh;
-  actives = passes-invalidate T old new r 0 ea S L (can-pass T old (kept.Invalidate r) S L next) place;
+  actives = passes-invalidate T old new.actives.items r 0 ea S L (can-pass T old (kept.Invalidate r) S L next) place;
 }
 
-pub passes-unregister : (T : Table) (old new : Lowerer) (r : RootNumber) (first : ℕ) → new.actives.items ≡ old.actives.items → Passes T old new (kept.Unregister r) first
-passes-unregister T old new r first ea S L pass place = record {
+pub passes-unregister : (T : Table) (old : Lowerer) (as' : List Active) (r : RootNumber) (first : ℕ) → as' ≡ old.actives.items → PassesTo T old as' (kept.Unregister r) first
+passes-unregister T old as' r first ea S L pass place = record {
   counted = ap length ea ∙ pass.actives.counted;
   each = λ n t lt e. subst (λ (as' : List Active). IsActive T L.cells n (active_at as' n) t) (sym ea) (by_test n t lt (bytes_eq (name_of T r) (name_of T (a_root n))) (sym (get-gone S.roots (name_of T r) (name_of T (a_root n))) ∙ e));
 }
@@ -423,7 +418,7 @@ does-unregister T l r line S L next place = record {
   deliveries = next.follows.deliveries ∙ sym (append-nil L.deliveries);
   prints = next.follows.prints;
   phases = next.follows.phases;
-  actives = passes-unregister T l l r 0 refl S L (can-pass T l (kept.Unregister r) S L next) place;
+  actives = passes-unregister T l l.actives.items r 0 refl S L (can-pass T l (kept.Unregister r) S L next) place;
 }
 
 -- an item that is there, whatever stands for one that isn't

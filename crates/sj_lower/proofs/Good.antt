@@ -1,5 +1,5 @@
 -- Each lowered task is as a proper program has it.
-use Rattle.std.proofs.Common.{◌≡◌, ℕ, ◌+◌, ◌<◌, ◌≤◌, Bool, true, false, cond, not, ◌&&◌, List, [], ◌∷◌, ◌++◌, ℤ, pos, length, map as each_of, refl, sym, ap, subst, ◌∙◌, inl, inr, arith, length-append, Option, Some, None, ◌⊎◌}
+use Rattle.std.proofs.Common.{◌≡◌, ℕ, ◌+◌, ◌<◌, ◌≤◌, Bool, true, false, cond, not, ◌&&◌, List, [], ◌∷◌, ◌++◌, ℤ, pos, length, map as each_of, refl, sym, ap, subst, ◌∙◌, inl, inr, arith, Option, Some, None}
 use Rattle.std.specs.Prelude.{◌||◌, count_by}
 use Rattle.std.proofs.lemmas.List.Sums.{sum_by-cons}
 use Rattle.sj_codelet.specs.Formal.{is_output}
@@ -25,7 +25,7 @@ use Rattle.sj_codelet.specs.declared.kernel.Kernel.{Kernel}
 use Rattle.sj_codelet.specs.declared.formal.Formal.{Formal}
 use Rattle.sj_codelet.specs.declared.formal.Formal.TheVariants.{R as FormalR, W as FormalW, RW as FormalRW, Scratch as FormalScratch}
 use Rattle.sj_codelet.specs.declared.kernel.Kernel.TheVariants.{Load, LoadFill, Paste as PasteKernel, Deliver}
-use Rattle.sj_codelet.specs.Kernel.{kernel_of, formals_of, fits, codelet_of, commutes_of, contributes_of, commutes_in, init_of, combine_of}
+use Rattle.sj_codelet.specs.Kernel.{kernel_of, formals_of, fits, commutes_of, commutes_in, init_of, combine_of}
 use Rattle.sj_core.specs.Program.{same_cell, dims_of, cell_info, task_of}
 use Rattle.sj_core.specs.Operands.{copy_of}
 use Rattle.sj_base.specs.declared.ids.Worker.{Worker}
@@ -33,7 +33,7 @@ use Rattle.sj_base.specs.declared.mode.Reduction.{Reduction}
 use Rattle.sj_base.specs.declared.mode.Reduction.TheVariants.{Plus, Least}
 use Rattle.std.specs.Option.{is_some}
 use Rattle.sj_base.specs.Mode.{is_scratch, is_redux, is_commute, is_written, reads_value}
-use Rattle.sj_core.specs.Proper.{HasValueBefore, Fits, MayHaveModes, IsPlain, IsUnaliased, gives_value, mode_of, own_modes, modes_writing_by, writes_one}
+use Rattle.sj_core.specs.Proper.{HasValueBefore, Fits, MayHaveModes, IsPlain, IsUnaliased, gives_value, mode_of}
 use Rattle.sj_core.specs.Fold.{Contents}
 use Rattle.sj_plan.specs.declared.parts.Parts.{Parts}
 use Rattle.sj_plan.specs.declared.paste.Paste.{Paste}
@@ -60,7 +60,7 @@ use Rattle.sj_lower.proofs.Operands.{IsRead, Contributes}
 use Rattle.sj_lower.proofs.Laid.{AreLaid, IsTaken, bytes_eq-itself, cell-inside, cells-apart}
 use Rattle.sj_lower.proofs.Pasting.{GoesTo, pastes-begin, pastes-go, pastes-between, paste-gives}
 use Rattle.sj_lower.proofs.Places.{place-itself}
-use Rattle.sj_lower.proofs.Running.{is_direct, HasKernel, child_there, child_dims-are, child_values-are, active_cell-is, operand_cell, needed, or_none, kernel_there, same_writes}
+use Rattle.sj_lower.proofs.Running.{is_direct, child_there, child_dims-are, child_values-are, active_cell-is, operand_cell, needed, or_none, kernel_there, same_writes}
 
 -- where the access is a contribution, its cell has partial copies, and each has a value
 abbrev pub HasItsCopies : Program → ℕ → Access → Type 0

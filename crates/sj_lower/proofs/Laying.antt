@@ -193,14 +193,16 @@ lays_copied T l C c first workers s there =
 pub lays_copies : (T : Table) (old new : Layout) (C : Cells) (c first : Cell) (workers : ℕ) → let i = get_or old.infos.items c.0 no_cell in Lays T old C → c.0 < length old.infos.items → i.partials ≡ None
     → new.infos.items ≡ set (old.infos.items ++ replicate workers i) c.0 (with_partials first i) → new.firsts ≡ old.firsts → new.roots ≡ old.roots → first.0 ≡ length old.infos.items
     → Lays T new (with_copies workers c C) × (first_copy C c ≡ first)
-lays_copies T old new C c first workers s there none rows firsts roots number =
-    (by_copies workers c C (Lays T new) (λ f e. absurd (none_isn't f (sym none_here ∙ e))) (λ e. record {
-      rows = rows ∙ set-append_left old.infos.items (replicate workers i) c.0 (with_partials first i) there ∙ (λ k. set (s.rows k) c.0 (with_partials (first_is k) (is k)) ++ replicate workers (plain k));
-      roots = roots ∙ s.roots;
-      handles = λ n lt. s.handles n lt ∙ (λ k. Some (record { root = a_root n; dims = (info_of T (a_root n)).dims; first = λ p. get same_taken (sym firsts k) (taken n p) }));
-      room = λ n p f h. omega (arith, s.room n p f (ap (λ m. get same_taken m (taken n p)) (sym firsts) ∙ h), copied-length workers c C e inside);
-      fresh = λ n p past. ap (λ m. get same_taken m (taken n p)) firsts ∙ s.fresh n p past;
-    }), sym first_is)
+lays_copies T old new C c first workers s there none rows firsts roots number = (
+  by_copies workers c C (Lays T new) (λ f e. absurd (none_isn't f (sym none_here ∙ e))) (λ e. record {
+    rows = rows ∙ set-append_left old.infos.items (replicate workers i) c.0 (with_partials first i) there ∙ (λ k. set (s.rows k) c.0 (with_partials (first_is k) (is k)) ++ replicate workers (plain k));
+    roots = roots ∙ s.roots;
+    handles = λ n lt. s.handles n lt ∙ (λ k. Some (record { root = a_root n; dims = (info_of T (a_root n)).dims; first = λ p. get same_taken (sym firsts k) (taken n p) }));
+    room = λ n p f h. omega (arith, s.room n p f (ap (λ m. get same_taken m (taken n p)) (sym firsts) ∙ h), copied-length workers c C e inside);
+    fresh = λ n p past. ap (λ m. get same_taken m (taken n p)) firsts ∙ s.fresh n p past;
+  }),
+  sym first_is,
+)
   where
     i : CellInfo
     i = get_or old.infos.items c.0 no_cell

@@ -1,16 +1,13 @@
 -- The phases of a program, as they are begun, go on and are closed task by task.
-use Rattle.std.proofs.Common.{◌≡◌, ℕ, zero, suc, ◌+◌, ◌-◌, ◌<◌, ◌≤◌, Bool, true, false, cond, not, Option, Some, None, List, [], ◌∷◌, ◌++◌, length, get_or, map, refl, sym, ap, subst, ◌∙◌, inl, inr, arith, length-append}
-use Rattle.std.specs.Prelude.{◌⊎◌, All, AllPairs, Contains, slice_index_or}
-use Rattle.std.specs.List.{AllByRecursion, range_with_len, filter}
-use Rattle.std.specs.Option.{is_some}
+use Rattle.std.proofs.Common.{◌≡◌, ℕ, zero, suc, ◌+◌, ◌-◌, ◌<◌, ◌≤◌, Bool, true, false, not, Some, None, List, [], ◌∷◌, ◌++◌, length, get_or, map, refl, sym, ap, subst, ◌∙◌, inl, inr, arith}
+use Rattle.std.specs.Prelude.{◌⊎◌, All, Contains, slice_index_or}
+use Rattle.std.specs.List.{AllByRecursion, range_with_len}
 use Rattle.std.proofs.lemmas.Bool.{false≢true, cases_lt}
 use Rattle.std.proofs.lemmas.List.FromFn.{get_or-range_with_len, length-range_with_len}
-use Rattle.std.proofs.lemmas.List.Elements.{All-nil, All-cons, All-append, All-contains, All-weaker, All-from_recursion, All-from_get_or, Contains-append_left, Contains-append_right, Contains-append_cases, Contains-get_or}
+use Rattle.std.proofs.lemmas.List.Elements.{All-nil, All-cons, All-contains, All-weaker, Contains-append_right}
 use Rattle.sj_base.specs.declared.ids.Cell.{Cell}
-use Rattle.sj_base.specs.declared.ids.Line.{Line}
 use Rattle.sj_base.specs.declared.ids.Worker.{Worker}
-use Rattle.sj_base.specs.declared.mode.Mode.{Mode}
-use Rattle.sj_base.specs.declared.mode.Mode.TheVariants.{R, W, RW, Redux}
+use Rattle.sj_base.specs.declared.mode.Mode.TheVariants.{R, RW, Redux}
 use Rattle.sj_base.specs.declared.mode.Access.{Access}
 use Rattle.sj_base.specs.declared.mode.Reduction.{Reduction}
 use Rattle.sj_base.specs.declared.mode.Reduction.TheVariants.{Plus, Least}
@@ -18,16 +15,16 @@ use Rattle.sj_base.specs.declared.program.Lowered.{Lowered}
 use Rattle.sj_base.specs.declared.program.Program.{Program}
 use Rattle.sj_base.specs.Mode.{is_data, is_redux, is_scratch}
 use Rattle.sj_codelet.specs.Kernel.{kernel_of, codelet_of, init_of, combine_of}
-use Rattle.sj_core.specs.Program.{task_of, data_operands, cell_info, same_cell}
+use Rattle.sj_core.specs.Program.{data_operands, cell_info, same_cell}
 use Rattle.sj_core.specs.Operands.{copy_of}
 use Rattle.sj_core.specs.Proper.{IsCopyOf, IsPlain, Phase, IsPhase, HasPhases, IsInit, IsCombine, IsContribution, IsMember, IsFirstUnit, IsOpenAt, Touches, names_as, task_number, access}
 use Rattle.sj_core.proofs.Readiness.{filter-Contains, Contains-from_filter}
 use Rattle.sj_lower.specs.declared.phase.OpenPhase.{OpenPhase}
-use Rattle.sj_lower.specs.Cells.{Cells, info_at, copy_at}
-use Rattle.sj_lower.specs.Rows.{init_row, init_rows, combine_row, combine_rows}
+use Rattle.sj_lower.specs.Cells.{copy_at}
+use Rattle.sj_lower.specs.Rows.{combine_row, combine_rows}
 use Rattle.sj_lower.specs.Lowering.{with_phase}
 use Rattle.sj_lower.proofs.Combined.{Phases}
-use Rattle.sj_lower.proofs.Contents.{task_at, same_cell-is, same_cell-itself}
+use Rattle.sj_lower.proofs.Contents.{same_cell-is, same_cell-itself}
 use Rattle.sj_lower.proofs.Folding.{Stand}
 use Rattle.sj_lower.proofs.Owning.{copy-is, is-copy}
 use Rattle.sj_lower.proofs.Stating.{phase-own, phase-other}

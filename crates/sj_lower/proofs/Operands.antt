@@ -1,6 +1,5 @@
 -- The operands of a task that contributes: the last one gets the contribution, and those before it are only read, scratch aside.
-use Rattle.std.proofs.Common.{◌≡◌, ℕ, zero, suc, ◌+◌, Bool, true, false, cond, not, ◌&&◌, ◌||◌, Option, Some, None, List, [], ◌∷◌, ◌++◌, length, map, refl, sym, ap, subst, ◌∙◌, inl, inr, arith, length-append}
-use Rattle.std.specs.Prelude.{◌⊎◌}
+use Rattle.std.proofs.Common.{◌≡◌, ◌+◌, Bool, true, false, cond, not, ◌&&◌, ◌||◌, Option, Some, None, List, [], ◌∷◌, ◌++◌, length, refl, sym, ap, ◌∙◌, arith, length-append}
 use Rattle.std.specs.List.{filter, list_all, list_any, AllByRecursion}
 use Rattle.std.proofs.lemmas.Bool.{false≢true, and_parts}
 use Rattle.sj_base.specs.declared.mode.Mode.{Mode}
@@ -11,14 +10,14 @@ use Rattle.sj_codelet.specs.declared.formal.Formal.{Formal}
 use Rattle.sj_codelet.specs.declared.formal.Formal.TheVariants.{R as FormalR, W as FormalW, RW as FormalRW, Scratch as FormalScratch}
 use Rattle.sj_codelet.specs.declared.kernel.Kernel.{Kernel}
 use Rattle.sj_codelet.specs.Formal.{is_output}
-use Rattle.sj_codelet.specs.Kernel.{kernel_of, formals_of, commutes_of, contributes_of, commutes_in, contributes_in, has_reduction}
-use Rattle.sj_core.proofs.Updating.{UpdatesLast, updates-last, contributing-commutes}
+use Rattle.sj_codelet.specs.Kernel.{kernel_of, contributes_of, commutes_in, contributes_in, has_reduction}
+use Rattle.sj_core.proofs.Updating.{updates-last, contributing-commutes}
 use Rattle.sj_job.specs.Statement.{Operand, TaskLine}
 use Rattle.sj_job.specs.State.{State}
 use Rattle.sj_job.specs.Meaning.{is_written as writes, written_of}
 use Rattle.sj_job.specs.Judge.{mode_fits, modes_fit}
 use Rattle.sj_job.specs.Sound.{IsSoundTask, is_lawful, reduction_of}
-use Rattle.sj_lower.proofs.Running.{is_direct, HasKernel, kernel_there, same_writes}
+use Rattle.sj_lower.proofs.Running.{kernel_there, same_writes}
 
 -- the operand is only read, or scratch
 abbrev pub IsRead : Operand → Type 0

@@ -1,5 +1,5 @@
 -- Whose partial copy a cell of the program is.
-use Rattle.std.proofs.Common.{◌≡◌, ℕ, ◌+◌, ◌<◌, ◌≤◌, Option, Some, None, List, length, refl, sym, ap, subst, ◌∙◌, inl, inr, arith}
+use Rattle.std.proofs.Common.{◌≡◌, ℕ, ◌+◌, ◌<◌, Option, Some, None, List, refl, sym, ap, ◌∙◌, inl, inr, arith}
 use Rattle.std.specs.Option.{is_some}
 use Rattle.std.proofs.lemmas.Bool.{false≢true}
 use Rattle.sj_base.specs.declared.ids.Cell.{Cell}
@@ -14,7 +14,7 @@ use Rattle.sj_plan.specs.Parts.{IsPlace}
 use Rattle.sj_lower.specs.Cells.{Cells, cell_of, info_at, copy_at}
 use Rattle.sj_lower.proofs.Copies.{HaveCopies}
 use Rattle.sj_lower.proofs.Holding.{HasCells}
-use Rattle.sj_lower.proofs.Laid.{AreLaid, IsTaken, cell-is, cell-inside, none_isn't, some_is}
+use Rattle.sj_lower.proofs.Laid.{AreLaid, IsTaken, cell-is, cell-inside}
 
 -- the first partial copy of a cell that has copies
 pub first-of : (p : Program) (q c : Cell) (w : Worker) → IsCopyOf p q c w → (f : Cell) × ((cell_info p c).partials ≡ Some f) × (q.0 ≡ f.0 + w.0)

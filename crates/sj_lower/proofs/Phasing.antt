@@ -1,5 +1,5 @@
 -- What the tasks that begin and close a phase leave in the cells.
-use Rattle.std.proofs.Common.{◌≡◌, ℕ, zero, suc, ◌+◌, ◌<◌, ◌≤◌, Bool, true, false, cond, ◌||◌, List, [], ◌∷◌, ◌++◌, map, length, refl, sym, ap, subst, ◌∙◌, inl, inr, arith}
+use Rattle.std.proofs.Common.{◌≡◌, ℕ, zero, suc, ◌+◌, ◌<◌, ◌≤◌, Bool, true, false, cond, ◌||◌, List, [], ◌∷◌, ◌++◌, map, refl, sym, ap, subst, ◌∙◌, inl, inr, arith}
 use Rattle.std.specs.List.{AllByRecursion, range_with_len, list_any}
 use Rattle.std.proofs.lemmas.Bool.{false≢true, cases_lt}
 use Rattle.sj_base.specs.declared.ids.Cell.{Cell}
@@ -17,7 +17,7 @@ use Rattle.sj_lower.specs.declared.phase.OpenPhase.{OpenPhase}
 use Rattle.sj_lower.specs.Cells.{copy_at}
 use Rattle.sj_lower.specs.Rows.{init_row, init_rows, combine_row, combine_rows}
 use Rattle.sj_lower.specs.Lowering.{begin_rows}
-use Rattle.sj_lower.proofs.Combined.{with_copy, with_all, all_workers, range-below, SameCopies, with_all-same}
+use Rattle.sj_lower.proofs.Combined.{with_all, all_workers, range-below, with_all-same}
 use Rattle.sj_lower.proofs.Contents.{held-same, held-other, held-cons, same_cell-is, same_cell-itself}
 use Rattle.sj_lower.proofs.Folding.{after_row, after_rows, after_rows-append, one_gives}
 

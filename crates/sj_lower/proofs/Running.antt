@@ -1,5 +1,5 @@
 -- A lowered task does to its cells what the task line does to its children.
-use Rattle.std.proofs.Common.{◌≡◌, ℕ, ◌+◌, Bool, true, false, not, ◌&&◌, ◌||◌, cond, Option, Some, None, List, [], ◌∷◌, ◌++◌, length, map as each_of, refl, sym, ap, subst, ◌∙◌, arith}
+use Rattle.std.proofs.Common.{◌≡◌, ℕ, ◌+◌, Bool, true, false, not, ◌&&◌, ◌||◌, cond, Option, Some, None, List, [], ◌∷◌, ◌++◌, length, map as each_of, refl, sym, ap, ◌∙◌, arith}
 use Rattle.std.specs.Prelude.{nat_lt}
 use Rattle.std.specs.List.{AllByRecursion, zip, filter, list_all, list_any}
 use Rattle.std.specs.Option.{is_some}
@@ -33,7 +33,7 @@ use Rattle.sj_plan.specs.Rect.{dims_of as rect_dims}
 use Rattle.sj_plan.specs.Window.{IsWhole}
 use Rattle.sj_job.specs.Statement.{Operand, TaskLine}
 use Rattle.sj_job.specs.State.{Root, State, root_of, is_valued, is_child, child_rect, is_valued_child}
-use Rattle.sj_job.specs.Meaning.{child_array, child_unit, contributed_to, seen_by, operand_array, is_written as writes, written_of as written_operands, run_task}
+use Rattle.sj_job.specs.Meaning.{child_array, child_unit, seen_by, operand_array, is_written as writes, written_of as written_operands, run_task}
 use Rattle.sj_job.specs.Judge.{modes_fit, needs_value, clashes, is_aliased, is_read_only}
 use Rattle.sj_job.specs.Sound.{has_child, has_child_values, child_dims, IsSoundTask}
 use Rattle.sj_job.specs.Table.{undivided}

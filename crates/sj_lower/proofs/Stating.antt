@@ -1,8 +1,6 @@
 -- What agrees between the lowering so far and the state of the job, and how far the program has the lowering.
-use Rattle.std.proofs.Common.{◌≡◌, ℕ, ◌+◌, ◌<◌, ◌≤◌, Bool, true, false, cond, Option, Some, None, List, [], ◌∷◌, ◌++◌, length, refl, sym, ap, subst, ◌∙◌, inl, inr, arith, append_assoc, length-append}
-use Rattle.std.proofs.lemmas.Bool.{false≢true, cases_lt}
+use Rattle.std.proofs.Common.{◌≡◌, ℕ, Bool, true, false, cond, Option, Some, List, ◌++◌, length, refl, ap, subst, ◌∙◌, append_assoc}
 use Rattle.sj_base.specs.declared.ids.Cell.{Cell}
-use Rattle.sj_base.specs.declared.program.CellInfo.{CellInfo}
 use Rattle.sj_base.specs.declared.program.Lowered.{Lowered}
 use Rattle.sj_base.specs.declared.program.Program.{Program}
 use Rattle.sj_core.specs.Program.{same_cell}
@@ -12,13 +10,13 @@ use Rattle.sj_job.specs.Act.{Register as Registers, Plan as Plans, Redux as Redu
 use Rattle.sj_job.specs.State.{Root, State, root_of}
 use Rattle.sj_lower.specs.declared.phase.OpenPhase.{OpenPhase}
 use Rattle.sj_lower.specs.Cells.{Cells, cell_of, with_root}
-use Rattle.sj_lower.specs.Lowering.{Lowering, cells_after, rows_of, add_own, with_phase, turned}
+use Rattle.sj_lower.specs.Lowering.{Lowering, cells_after, rows_of, add_own, with_phase}
 use Rattle.sj_lower.proofs.Combined.{Phases}
 use Rattle.sj_lower.proofs.Contents.{contents_before, same_cell-is, same_cell-itself}
 use Rattle.sj_lower.proofs.Copies.{take-more}
 use Rattle.sj_lower.proofs.Folding.{Stand, stand-there}
 use Rattle.sj_lower.proofs.Growing.{Grows, grows-refl, grows-trans}
-use Rattle.sj_lower.proofs.Holding.{HasCells, HasRoot, HaveRoots, HaveTheirs}
+use Rattle.sj_lower.proofs.Holding.{HasCells, HaveRoots, HaveTheirs}
 use Rattle.sj_lower.proofs.Laid.{AreLaid}
 
 -- ---- the program begins with what is lowered so far

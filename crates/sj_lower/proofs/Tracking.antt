@@ -1,11 +1,12 @@
 -- A task's operands and the active plans that it leaves.
-use Rattle.std.proofs.Common.{◌≡◌, ℕ, suc, ◌+◌, ◌<◌, ◌≤◌, Bool, true, false, cond, Option, Some, None, List, [], ◌∷◌, length, get_or, map, refl, ap, sym, subst, ◌∙◌, arith, All, get_or-set_same, get_or-set_other, inl, inr}
+use Rattle.std.proofs.Common.{◌≡◌, ℕ, suc, ◌+◌, ◌<◌, ◌≤◌, Bool, true, false, cond, Option, Some, None, List, [], ◌∷◌, ◌++◌, length, get_or, map, refl, ap, sym, subst, ◌∙◌, arith, All, get_or-set_same, get_or-set_other, inl, inr}
 use Rattle.std.proofs.Math.ListN.{set}
 use Rattle.std.specs.List.{AllByRecursion}
 use Rattle.std.specs.Str.{bytes_eq}
 use Rattle.std.proofs.lemmas.Bool.{cases_eq}
-use Rattle.std.proofs.lemmas.List.{length-map, length-set, get_or-map}
+use Rattle.std.proofs.lemmas.List.{append-nil, length-map, length-set, get_or-map}
 use Rattle.std.proofs.lemmas.List.Sums.{AllPass-from_list_all}
+use Rattle.sj_base.specs.declared.ids.Line.{Line}
 use Rattle.sj_base.specs.Array.{Array}
 use Rattle.sj_codelet.specs.Kernel.{out}
 use Rattle.sj_plan.specs.declared.parts.Parts.{Parts}
@@ -27,8 +28,8 @@ use Rattle.sj_lower.specs.declared.lowerer.Lowerer.{Lowerer}
 use Rattle.sj_lower.specs.Cells.{Cells}
 use Rattle.sj_lower.specs.Limits.{most}
 use Rattle.sj_lower.specs.Lowering.{Lowering}
-use Rattle.sj_lower.specs.Seen.{no_active, active_at, AreActive, CanPass, Passes, AreIn, after_write, after_writes}
-use Rattle.sj_lower.proofs.Following.{changed-actives, seen-children}
+use Rattle.sj_lower.specs.Seen.{no_active, active_at, AreActive, CanPass, Does, AreIn, access_by, after_write, after_writes}
+use Rattle.sj_lower.proofs.Following.{PassesTo, can-pass, changed-actives, accesses_same, lowered_task, same_phases, seen-children}
 use Rattle.sj_lower.proofs.Holding.{root-change}
 use Rattle.sj_lower.proofs.Laid.{same_name}
 use Rattle.sj_lower.proofs.Running.{child_there}
@@ -109,13 +110,23 @@ writes-follow T C as' S (o ∷ os) xs g d few lts hs l =
     (λ ys bs U k hk m. writes-follow T C bs U os ys k d few (λ i e lt. lts (suc i) e (omega (arith, lt))) hk m)
 
 -- a task's children have a value from then on
-pub passes-task : (T : Table) (old new : Lowerer) (t : KeptTask) (first : ℕ) → new.actives.items ≡ after_writes t.operands old.actives.items → Passes T old new (kept.Task t) first
-passes-task T old new t first ea S L pass place =
+pub passes-task : (T : Table) (old : Lowerer) (as' : List Active) (t : KeptTask) (first : ℕ) → as' ≡ after_writes t.operands old.actives.items → PassesTo T old as' (kept.Task t) first
+passes-task T old as' t first ea S L pass place =
     let u = task_seen T t in
     let ins = map (operand_array S) u.operands in
     let many = gives_all pass.has S u ins pass.sound in
     subst (λ (as' : List Active). AreActive T L.cells as' (run_task u S)) (sym ea)
     (writes-follow T L.cells old.actives.items S t.operands (out u.codelet u.args ins) pass.actives pass.distinct pass.few pass.placed (seen-children T S t.operands pass.sound.placed) (omega (arith, many)))
+
+pub does-task : (T : Table) (old new : Lowerer) (t : KeptTask) (line : Line) → new.tasks.items ≡ old.tasks.items ++ lowered_task t line (map (access_by old.actives.items) t.operands) ∷ [] → new.deliveries.items ≡ old.deliveries.items → new.prints ≡ old.prints → new.phases ≡ old.phases
+    → new.actives.items ≡ after_writes t.operands old.actives.items → Does T old new (kept.Task t) 0 line
+does-task T old new t line et ed ep eh ea S L next place = record {
+  tasks = et ∙ (λ i. next.follows.tasks i ++ lowered_task t line (sym (accesses_same T S L.cells old.actives.items t.operands next.follows.actives next.placed (seen-children T S t.operands next.sound.placed)) i) ∷ []);
+  deliveries = ed ∙ next.follows.deliveries ∙ sym (append-nil L.deliveries);
+  prints = ep ∙ next.follows.prints;
+  phases = same_phases T old new (kept.Task t) S L next eh;
+  actives = passes-task T old new.actives.items t 0 ea S L (can-pass T old (kept.Task t) S L next) place;
+}
 
 -- ---- the code's loop over operands
 

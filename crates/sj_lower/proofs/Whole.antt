@@ -1,5 +1,5 @@
 -- All statements: the tasks of the lowered program are good, and its deliveries are those of the job's prints.
-use Rattle.std.proofs.Common.{◌≡◌, ℕ, ◌+◌, ◌<◌, ◌≤◌, ◌^◌, Bool, true, false, cond, not, ◌||◌, Option, Some, None, List, [], ◌∷◌, ◌++◌, length, map as each_of, refl, sym, ap, subst, ◌∙◌, inl, inr, arith, append_assoc, length-append}
+use Rattle.std.proofs.Common.{◌≡◌, ℕ, ◌+◌, ◌<◌, ◌≤◌, Bool, true, false, cond, not, ◌||◌, Option, Some, None, List, [], ◌∷◌, ◌++◌, length, map as each_of, refl, sym, ap, subst, ◌∙◌, arith, length-append}
 use Rattle.std.specs.List.{All, AllByRecursion, flat_map, list_all}
 use Rattle.std.proofs.lemmas.List.Elements.{All-nil, All-cons}
 use Rattle.sj_base.specs.Mode.{is_data, is_redux}
@@ -15,12 +15,9 @@ use Rattle.sj_base.specs.declared.tile.Dims.{Dims}
 use Rattle.sj_base.specs.declared.program.Delivery.{Delivery}
 use Rattle.sj_base.specs.declared.program.Lowered.{Lowered}
 use Rattle.sj_base.specs.declared.program.Program.{Program}
-use Rattle.sj_base.specs.Array.{area}
 use Rattle.sj_codelet.specs.declared.kernel.Kernel.{Kernel}
 use Rattle.sj_codelet.specs.declared.kernel.Kernel.TheVariants.{Deliver}
 use Rattle.sj_codelet.specs.Kernel.{kernel_of}
-use Rattle.sj_core.specs.Program.{task_of}
-use Rattle.sj_core.specs.Fold.{Contents}
 use Rattle.sj_plan.specs.declared.parts.Parts.{Parts}
 use Rattle.sj_plan.specs.declared.paste.Paste.{Paste}
 use Rattle.sj_plan.specs.Parts.{IsPlace, places}
@@ -33,31 +30,31 @@ use Rattle.sj_job.specs.Statement.{Operand, Register}
 use Rattle.sj_job.specs.Sound.{has_child}
 use Rattle.sj_job.specs.Act.{Act, Statement}
 use Rattle.sj_job.specs.Act.{Register as Registers, Plan as Plans, Redux as Reduces, Task as Tasks, Print as Prints, Invalidate as Invalidates, Unregister as Unregisters}
-use Rattle.sj_job.specs.State.{Root, State, root_of, is_valued, start}
-use Rattle.sj_job.specs.Meaning.{Printed, array_of, registered_root, with_parts, apply, found_by, prints, printed_from, printed, run_from}
+use Rattle.sj_job.specs.State.{Root, State, root_of, is_valued}
+use Rattle.sj_job.specs.Meaning.{Printed, array_of, registered_root, with_parts, apply, found_by, prints}
 use Rattle.sj_job.specs.Table.{Table, info_of, undivided}
-use Rattle.sj_lower.specs.Cells.{Cells, Handle, same_parts, cell_of, take, copy_at}
+use Rattle.sj_lower.specs.Cells.{Cells, Handle, same_parts, cell_of, take}
 use Rattle.sj_lower.specs.Rows.{an_access, load_row, fill_row, paste_mode, paste_row, deliver_row}
-use Rattle.sj_lower.specs.Lowering.{Lowering, nothing, cells_after, load_rows, parts_in, active_cell, access_of, task_row, is_idle, plan_rows, deliver_rows, a_delivery, print_deliveries, rows_of, active_cells, is_other_access, closed_by, all_closed, opened, opened_for, contributions, prepared, add_own, lower_one, lower_from, finished, lowered}
+use Rattle.sj_lower.specs.Lowering.{Lowering, cells_after, load_rows, parts_in, access_of, is_idle, plan_rows, deliver_rows, a_delivery, print_deliveries, rows_of, add_own, lower_one}
 use Rattle.sj_lower.specs.Delivering.{printed_as}
-use Rattle.sj_lower.proofs.Contents.{task_at, contents_before}
+use Rattle.sj_lower.proofs.Contents.{contents_before}
 use Rattle.sj_lower.proofs.Elements.{valued-child}
 use Rattle.sj_lower.proofs.Folding.{Stand}
-use Rattle.sj_lower.proofs.Holding.{HasRoot, HaveRoots, HasCells, differs, cell-dims, get-put, root-change}
+use Rattle.sj_lower.proofs.Holding.{HasRoot, HasCells, differs, cell-dims, get-put, root-change}
 use Rattle.sj_lower.proofs.Laid.{AreLaid, IsTaken, taken-once, take-keeps, bytes_eq-itself, cell-inside, cells-apart}
 use Rattle.sj_lower.proofs.Pasting.{rows_to, rows-by_child, pastes-between}
 use Rattle.sj_lower.proofs.Places.{parts-itself, length-places}
 use Rattle.sj_lower.proofs.Running.{is_direct, IsClosed, child_there, active_cell-is, root_there, valued_there}
-use Rattle.sj_lower.proofs.Able.{CanBe, AllCanBe}
-use Rattle.sj_lower.proofs.Agreeing.{none_of, plan_rows-are, plan-fresh, has-taken, IsShut, IsShutBy, IsPrepared, same_child_cell, agrees_start, agrees_act}
+use Rattle.sj_lower.proofs.Able.{CanBe}
+use Rattle.sj_lower.proofs.Agreeing.{none_of, plan_rows-are, plan-fresh, has-taken, IsShut, IsShutBy, IsPrepared, same_child_cell, agrees_act}
 use Rattle.sj_lower.proofs.Combined.{Phases}
-use Rattle.sj_lower.proofs.Copies.{HaveCopies, copies-take, take-more}
-use Rattle.sj_lower.proofs.Fine.{IsFine, good-more, open-plain, open-own, fine_all_closed}
-use Rattle.sj_lower.proofs.Logging.{Logged, logged-none, AreAway, IsAway, log-beside}
+use Rattle.sj_lower.proofs.Copies.{HaveCopies}
+use Rattle.sj_lower.proofs.Fine.{IsFine, good-more}
+use Rattle.sj_lower.proofs.Logging.{AreAway, IsAway, log-beside}
 use Rattle.sj_lower.proofs.Owning.{plain-child}
 use Rattle.sj_lower.proofs.Stating.{Begins, begins-own, stands-own, Agrees}
 use Rattle.sj_lower.proofs.Good.{IsGood, AreGood, CanPaste, good-all, good-blocks, good_load, good_fill, good_deliver, good_pastes_to, good_task, plans-of, direct-modes, all_given, no_copies}
-use Rattle.sj_lower.proofs.Delivered.{AreDelivered, NoneDelivers, deliveries_by, delivered_none, delivered_beside, delivered_print}
+use Rattle.sj_lower.proofs.Delivered.{AreDelivered, NoneDelivers, deliveries_by, delivered_beside, delivered_print}
 
 -- ---- the tasks of each statement are good
 

@@ -78,6 +78,7 @@ impl Active {
         requires even { IsTrue (all_valued self.old.tracked || none_valued self.old.tracked) }
         ensures tracked { self.new.tracked ≡ even placed.parts (all_valued self.old.tracked) }
         ensures first { self.new.first ≡ placed.first }
+        ensures reduction { self.new.reduction ≡ self.old.reduction }
     {
         self.tracked.plan(placed.parts);
         self.first = placed.first;
@@ -372,8 +373,9 @@ impl Lowerer {
             }
             Act::Redux(root, by) => self.actives[root.0 as usize].reduction = Some(*by),
             Act::Task(task) => write_all(&mut self.actives, alloc, task.operands.items())?,
-            Act::Print(_) | Act::Unregister(_) => {}
+            Act::Print(_) => {}
             Act::Invalidate(root) => self.actives[root.0 as usize].tracked.invalidate(),
+            Act::Unregister(_) => {}
         }
         Ok(())
     }

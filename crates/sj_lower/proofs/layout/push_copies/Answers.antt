@@ -1,4 +1,4 @@
-use Rattle.std.proofs.Common.{◌∙◌, ◌++◌, ◌∷◌, [], List, ℕ, ap, sym, replicate, append_assoc, arith}
+use Rattle.std.proofs.Common.{◌∙◌, ◌++◌, ◌∷◌, [], List, ℕ, ap, replicate, append_assoc, arith}
 use Rattle.std.proofs.lemmas.List.{replicate-append-replicate}
 use Rattle.sj_base.specs.declared.program.CellInfo.{CellInfo}
 use Rattle.sj_lower.proofs.layout.push_copies.Goals as goal

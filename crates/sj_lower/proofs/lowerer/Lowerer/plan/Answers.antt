@@ -22,7 +22,7 @@ returns-clause-does c =
     let also : c.index_mut.result.now ≡ active_at l.actives.items i = c.index_mut.ensures.value ∙ at-default l.actives.items i c.index_mut.result.now (omega (arith, next.placed, next.follows.actives.counted)) in
     does-plan T l _ c.args.root c.args.placed.parts c.args.placed.first c.args.line c.requires.room
     (c.in_ok-push_plan.ensures ∙ (λ k. l.tasks.items ++ pasted_by (c.info.ensures k).dims (is k) c.args.placed.parts c.args.placed.first c.args.line)) refl refl refl
-    ((λ k. set l.actives.items i (record { tracked = c.plan.ensures.tracked k; first = c.plan.ensures.first k; reduction = c.index_mut.result.now.reduction }))
+    ((λ k. set l.actives.items i (record { tracked = c.plan.ensures.tracked k; first = c.plan.ensures.first k; reduction = c.plan.ensures.reduction k }))
     ∙ (λ k. set l.actives.items i (record { tracked = even c.args.placed.parts (all_valued (also k).tracked); first = c.args.placed.first; reduction = (also k).reduction })))
 
 pub push_plan-requires-clause-old_plan : goal.push_plan-requires-clause-old_plan

@@ -7,8 +7,8 @@ use Rattle.sj_job.specs.declared.job.Act.TheVariants as kept
 use Rattle.sj_job.specs.declared.job.Operand.{Operand}
 use Rattle.sj_lower.specs.declared.lowerer.Active.{Active}
 use Rattle.sj_lower.specs.Seen.{AreIn, access_by, after_writes}
-use Rattle.sj_lower.proofs.Following.{can-pass, does-task}
-use Rattle.sj_lower.proofs.Tracking.{are-in, passes-task}
+use Rattle.sj_lower.proofs.Following.{can-pass}
+use Rattle.sj_lower.proofs.Tracking.{are-in, does-task}
 use Rattle.sj_lower.proofs.lowerer.Lowerer.task.Goals as goal
 
 pub accesses-requires : goal.accesses-requires
@@ -35,4 +35,4 @@ returns-clause-does c =
     does-task T old _ task c.args.line
     (c.in_ok-push.ensures.items ∙ ap (λ (l : Lowered). old.tasks.items ++ l ∷ []) (λ i. mk (c.id.ensures.id i) (accesses i) (to_z-of_z w32 task.priority fits i)))
     refl refl refl
-    (passes-task T old _ task 0 (c.in_ok-write_all.ensures ∙ ap (λ (os : List Operand). after_writes os old.actives.items) c.items-operands.ensures))
+    (c.in_ok-write_all.ensures ∙ ap (λ (os : List Operand). after_writes os old.actives.items) c.items-operands.ensures)
