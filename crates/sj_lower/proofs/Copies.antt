@@ -48,7 +48,7 @@ copies-root workers C name n h = record {
 
 -- ---- a plan more
 
-child_none : (h : Handle) (p : Parts) → NoneHas (each_of (child_cell h.root h.dims p) (places p))
+pub child_none : (h : Handle) (p : Parts) → NoneHas (each_of (child_cell h.root h.dims p) (places p))
 child_none h p n = by_length (each_of (child_cell h.root h.dims p) (places p)) (none (places p)) n
   where
     none : (ps : List (ℕ × ℕ)) → All (λ (i : CellInfo). i.partials ≡ None) (each_of (child_cell h.root h.dims p) ps)
@@ -82,7 +82,7 @@ copies_new workers C name p h there a k = record {
     old : (c f : Cell) → (row_at (C.rows ++ zs) c.0).partials ≡ Some f → (info_at C c).partials ≡ Some f
     old c f e = append-partials C.rows zs (child_none h p) c.0 f e
 
-by_taken : (C : Cells) (name : List ℕ) (p : Parts) (P : Cells → Type 0) → P C → ((h : Handle) → C.handles name ≡ Some h → P (News name p h C)) → P (take name p C)
+pub by_taken : (C : Cells) (name : List ℕ) (p : Parts) (P : Cells → Type 0) → P C → ((h : Handle) → C.handles name ≡ Some h → P (News name p h C)) → P (take name p C)
 by_taken C name p P old new = by_handle (C.handles name) refl
   where
     by_first : (h : Handle) → C.handles name ≡ Some h → (b : Bool) → P (cond b C (News name p h C))

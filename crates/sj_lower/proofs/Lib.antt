@@ -41,3 +41,7 @@ pub mod Fine
 pub mod Contributed
 pub mod Lowered
 pub mod Known
+pub mod Preparing
+pub mod Preparations
+pub mod Matching
+pub mod Steps

@@ -206,7 +206,7 @@ names_act T n C S (kept.Invalidate r) d few placed t = tt
 names_act T n C S (kept.Unregister r) d few placed t = tt
 
 -- preparing a statement leaves the handles of names, and how many roots there are
-abbrev SameNames : Cells → Cells → Type 0
+abbrev pub SameNames : Cells → Cells → Type 0
 SameNames C D = (D.handles ≡ C.handles) × (D.roots ≡ C.roots)
 
 numbered-same : (T : Table) (n : ℕ) (C D : Cells) (S : State) → SameNames C D → AreNumbered T n C S → AreNumbered T n D S
@@ -216,7 +216,7 @@ numbered-same T n C D S same t = record {
   knows = t.knows;
 }
 
-opened-names : (workers : ℕ) (by : Reduction) (v : Bool) (line : Line) (c : Cell) (L : Lowering) → SameNames L.cells (opened workers by v line c L).cells
+pub opened-names : (workers : ℕ) (by : Reduction) (v : Bool) (line : Line) (c : Cell) (L : Lowering) → SameNames L.cells (opened workers by v line c L).cells
 opened-names workers by v line c L = by_option (L.phase c)
   where
     by_option : (o : Option OpenPhase) → SameNames L.cells (elim o as (λ _. Lowering) [ None ↦ begun workers by v line c L | Some f ↦ turned L.cells [] c (Some (extended f line)) L ]).cells
@@ -234,7 +234,7 @@ opened_for-names workers S line (o ∷ os) L =
     by_option None = (refl, refl)
     by_option (Some by) = opened-names workers by (has_child_values S o) line (active_cell S L.cells o.name o.place) L
 
-prepared-names : (workers : ℕ) (S : State) (s : Statement) (L : Lowering) → SameNames L.cells (prepared workers S s L).cells
+pub prepared-names : (workers : ℕ) (S : State) (s : Statement) (L : Lowering) → SameNames L.cells (prepared workers S s L).cells
 prepared-names workers S s L =
     let M = all_closed workers (closed_by S L.cells s.act) L in
     let same = all_closed-cells workers (closed_by S L.cells s.act) L in

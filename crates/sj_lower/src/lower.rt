@@ -1,16 +1,17 @@
 //! Lowering a job.
 
-ghost use Rattle.std.specs.Prelude.{◌≡◌, None, Some, IfOk, IfErr, OnOk};
-ghost use Rattle.sj_core.specs.Laws.{HasPlainModes};
+ghost use Rattle.std.specs.Prelude.{◌≡◌, ◌+◌, ◌<◌, ◌≤◌, Bool, IsTrue, None, Some, All, IfOk, IfErr, OnOk, nat_le, vec_len};
+ghost use Rattle.sj_codelet.specs.declared.kernel.Kernel.{Kernel};
+ghost use Rattle.sj_core.specs.Laws.{IsLawful, is_known};
 ghost use Rattle.sj_core.specs.Proper.{Proper};
 ghost use Rattle.sj_job.specs.State.{State, start};
 ghost use Rattle.sj_job.specs.Table.{Table};
 ghost use Rattle.sj_job.specs.View.{statements_of, IsNumbered};
 ghost use Rattle.sj_lower.specs.Delivering.{DeliversPrinted, NamesDeliverTasks, DeliversInOrder};
-ghost use Rattle.sj_lower.specs.Job.{IsJob};
-ghost use Rattle.sj_lower.specs.Limits.{late_limit};
+ghost use Rattle.sj_lower.specs.Job.{IsJob, IsJobIn};
+ghost use Rattle.sj_lower.specs.Limits.{most, late_limit};
 ghost use Rattle.sj_lower.specs.Lowering.{Lowering, lowered, nothing, program_of};
-ghost use Rattle.sj_lower.specs.Progress.{IsAt, HasComing, Goes, IsFull, IsOver, IsLate};
+ghost use Rattle.sj_lower.specs.Progress.{IsAt, HasComing, Goes, IsFull, GoesOwn, IsFullOwn, IsOver, IsLate};
 
 use crate::layout::{Layout, MOST};
 use crate::lowerer::Lowerer;
@@ -92,10 +93,25 @@ impl Progress {
         ensures goes { OnOk result (Goes roots.now self.old self.new statement) }
         ensures full { IfErr result (IsFull roots.now self.old statement) }
     {
+        self.last = Some(statement.line);
+        self.prepare(alloc, &statement.act, statement.line)?;
+        self.add_own(alloc, roots, statement)
+    }
+
+    /// What the statement's own tasks give.
+    fn add_own(
+        &mut self,
+        alloc: Global,
+        roots: &Roots,
+        statement: Statement,
+    ) -> Result<(), LowerRefusal>
+        requires { HasComing roots.now self.old statement }
+        ensures workers { OnOk result (self.new.workers ≡ self.old.workers) }
+        ensures last { OnOk result (self.new.last ≡ self.old.last) }
+        ensures goes { OnOk result (GoesOwn roots.now self.old self.new statement) }
+        ensures full { IfErr result (IsFullOwn roots.now self.old statement) }
+    {
         let Statement { line, act } = statement;
-        self.last = Some(line);
-        self.close_by(alloc, &act, line)?;
-        self.open_by(alloc, &act, line)?;
         let Some(first) = self.layout.lay(alloc, roots, &act)? else {
             return Err(LowerRefusal::TooManyCells { line });
         };

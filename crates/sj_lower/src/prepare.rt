@@ -1,19 +1,13 @@
 //! What comes before a statement's own tasks: the phases of contributions that it closes are closed, and that of its own
 //! contribution is open.
 
-ghost use Rattle.std.specs.Prelude.{◌≡◌, ◌<◌, ◌≤◌, ◌+◌, None, Some, All, IfErr, OnOk, map, filter, fold, length, vec_len, ◌++◌};
-ghost use Rattle.std.specs.List.{range_with_len};
-ghost use Rattle.sj_base.specs.Mode.{is_redux};
-ghost use Rattle.sj_job.specs.State.{State};
-ghost use Rattle.sj_job.specs.Table.{Table};
-ghost use Rattle.sj_job.specs.Track.{children_count, is_set};
-ghost use Rattle.sj_job.specs.View.{act_seen};
-ghost use Rattle.sj_plan.specs.Parts.{places};
-ghost use Rattle.sj_lower.specs.Cells.{cells_from};
-ghost use Rattle.sj_lower.specs.Limits.{most};
-ghost use Rattle.sj_lower.specs.Lowering.{Lowering, closed, all_closed, opened, opened_for, closed_by, contributions, finished};
-ghost use Rattle.sj_lower.specs.Progress.{IsAt, Prepares, PreparesIn, HasFewCopies, HasRoomLeft, KeepsRest, OpensAt, PreparesOperand, IsFullFor, IsFullAt, NamesActives, is_other};
-ghost use Rattle.sj_lower.specs.Seen.{AreIn, active_at, access_by};
+ghost use Rattle.std.specs.Prelude.{◌≡◌, None, Some, All, IfErr, OnOk, map, filter, length};
+ghost use Rattle.sj_base.specs.declared.ids.Cell.{Cell};
+ghost use Rattle.sj_base.specs.declared.ids.Line.{Line};
+ghost use Rattle.sj_base.specs.declared.mode.Reduction.{Reduction};
+ghost use Rattle.sj_lower.specs.Lowering.{closed, all_closed, begin_rows, opened, finished};
+ghost use Rattle.sj_lower.specs.Progress.{HasAt, Prepares, IsFullBy, HasActive, IsActiveOperand, NamesActives, HasCopies, is_other, is_contributed, cells_by, cell_by, closing_by, opening_for, opening_all, preparing_by};
+ghost use Rattle.sj_lower.specs.Seen.{active_at};
 
 use crate::lower::{LowerRefusal, Progress};
 use crate::phase::{OpenPhase, push_begin, push_close};
@@ -24,22 +18,38 @@ use sj_job::job::{Act, Operand};
 use std::alloc::Global;
 
 /// Whether an operand is accessed otherwise than by a contribution; a scratch buffer is no access. Constant time.
-fn is_other_access(operand: &Operand) -> bool {
+fn is_other_access(operand: &Operand) -> bool
+    ensures { result ≡ is_other operand.now }
+{
     match operand.mode {
         Mode::Redux | Mode::Scratch => false,
         Mode::R | Mode::W | Mode::RW | Mode::Commute => true,
     }
 }
 
+/// Whether an operand is a contribution. Constant time.
+fn is_contribution(operand: &Operand) -> bool
+    ensures { result ≡ is_contributed operand.now }
+{
+    operand.mode == Mode::Redux
+}
+
+/// How many tasks begin a phase. Constant time.
+fn begin_count(workers: u8, valued: bool) -> u64
+    ensures { (by : Reduction) (first cell : Cell) (line : Line)
+        → result ≡ length (begin_rows by first cell valued workers line) }
+{
+    if valued {
+        return workers as u64;
+    }
+    workers as u64 + 1
+}
+
 impl Progress {
     /// Closes the phase of a cell, if one is open. Linear in the workers.
     fn close(&mut self, alloc: Global, cell: Cell, line: Line) -> Result<(), OutOfMemory>
-        requires room { HasRoomLeft self.old }
-        requires copies { HasFewCopies self.old }
-        ensures closes { OnOk result (Prepares self.old self.new line (λ S L. closed self.old.workers L cell)) }
-        ensures rest { OnOk result (KeepsRest self.old self.new) }
-        ensures room { OnOk result (HasRoomLeft self.new) }
-        ensures copies { OnOk result (HasFewCopies self.new) }
+        requires at { HasAt self.old }
+        ensures { OnOk result (Prepares self.old self.new line (λ L. closed self.old.workers L cell)) }
     {
         if self.over.is_some() {
             return Ok(());
@@ -56,19 +66,14 @@ impl Progress {
 
     /// Closes the open phases of a root, row by row. Linear in its children, but constant time where no phase is open.
     fn close_root(&mut self, alloc: Global, root: Root, line: Line) -> Result<(), OutOfMemory>
-        requires root { root.0 < vec_len self.old.lowerer.actives }
-        requires cells { (active_at self.old.lowerer.actives.items root.0).first
-            + children_count (active_at self.old.lowerer.actives.items root.0).tracked.parts ≤ most }
-        requires room { HasRoomLeft self.old }
-        requires copies { HasFewCopies self.old }
-        ensures closes { OnOk result (Prepares self.old self.new line (λ S L. all_closed self.old.workers
-            (map (cells_from (active_at self.old.lowerer.actives.items root.0).first
-            (active_at self.old.lowerer.actives.items root.0).tracked.parts)
-            (places (active_at self.old.lowerer.actives.items root.0).tracked.parts)) L)) }
-        ensures rest { OnOk result (KeepsRest self.old self.new) }
-        ensures room { OnOk result (HasRoomLeft self.new) }
-        ensures copies { OnOk result (HasFewCopies self.new) }
+        requires at { HasAt self.old }
+        requires root { HasActive self.old root.0 }
+        ensures { OnOk result (Prepares self.old self.new line
+            (all_closed self.old.workers (cells_by (active_at self.old.lowerer.actives.items root.0)))) }
     {
+        if self.over.is_some() {
+            return Ok(());
+        }
         if self.lowerer.phases.is_empty() {
             return Ok(());
         }
@@ -88,14 +93,10 @@ impl Progress {
         operands: &[Operand],
         line: Line,
     ) -> Result<(), OutOfMemory>
-        requires operands { All (AreIn self.old.lowerer.actives.items) operands.now }
-        requires room { HasRoomLeft self.old }
-        requires copies { HasFewCopies self.old }
-        ensures closes { OnOk result (Prepares self.old self.new line (λ S L. all_closed self.old.workers
-            (map (λ o. (access_by self.old.lowerer.actives.items o).cell) (filter is_other operands.now)) L)) }
-        ensures rest { OnOk result (KeepsRest self.old self.new) }
-        ensures room { OnOk result (HasRoomLeft self.new) }
-        ensures copies { OnOk result (HasFewCopies self.new) }
+        requires at { HasAt self.old }
+        requires operands { All (IsActiveOperand self.old) operands.now }
+        ensures { OnOk result (Prepares self.old self.new line
+            (all_closed self.old.workers (map (cell_by self.old.lowerer.actives.items) (filter is_other operands.now)))) }
     {
         for operand in operands {
             if is_other_access(operand) {
@@ -107,20 +108,16 @@ impl Progress {
     }
 
     /// Closes the phases that a statement closes.
-    pub fn close_by(&mut self, alloc: Global, act: &Act, line: Line) -> Result<(), OutOfMemory>
+    fn close_by(&mut self, alloc: Global, act: &Act, line: Line) -> Result<(), OutOfMemory>
+        requires at { HasAt self.old }
         requires actives { NamesActives self.old act.now }
-        requires room { HasRoomLeft self.old }
-        requires copies { HasFewCopies self.old }
-        ensures closes { OnOk result ((T : Table) → PreparesIn T act.now self.old self.new line
-            (λ S L. all_closed self.old.workers (closed_by S L.cells (act_seen T L.cells.roots act.now)) L)) }
-        ensures rest { OnOk result (KeepsRest self.old self.new) }
-        ensures room { OnOk result (HasRoomLeft self.new) }
-        ensures copies { OnOk result (HasFewCopies self.new) }
+        ensures { OnOk result (Prepares self.old self.new line
+            (all_closed self.old.workers (closing_by self.old.lowerer.actives.items act.now))) }
     {
         match act {
             Act::Register(_) | Act::Redux(_, _) => Ok(()),
             Act::Plan(root, parts) => {
-                if self.lowerer.actives[root.0 as usize].tracked.parts() == *parts {
+                if self.lowerer.actives[root.0 as usize].placed().parts == *parts {
                     return Ok(());
                 }
                 self.close_root(alloc, *root, line)
@@ -132,25 +129,30 @@ impl Progress {
         }
     }
 
-    /// Closes all open phases, by cell. Their tasks count for the last statement. Linear in the cells.
-    pub fn close_last(&mut self, alloc: Global) -> Result<(), OutOfMemory>
-        requires room { HasRoomLeft self.old }
-        requires copies { HasFewCopies self.old }
-        ensures none { OnOk result (self.old.last ≡ None → self.new ≡ self.old) }
-        ensures closes { OnOk result ((line : Line) → self.old.last ≡ Some line
-            → Prepares self.old self.new line (λ S L. finished self.old.workers L)) }
-        ensures rest { OnOk result (KeepsRest self.old self.new) }
+    /// Closes all open phases, by cell, for the last statement. Linear in the cells.
+    fn close_all(&mut self, alloc: Global, line: Line) -> Result<(), OutOfMemory>
+        requires at { HasAt self.old }
+        ensures { OnOk result (Prepares self.old self.new line (finished self.old.workers)) }
     {
-        let Some(line) = self.last else {
-            return Ok(());
-        };
-        if self.lowerer.phases.is_empty() {
-            return Ok(());
-        }
-        for cell in 0..self.layout.infos.len() {
-            self.close(alloc, Cell(cell as u32), line)?;
+        let count = self.layout.infos.len() as u32;
+        for cell in 0..count {
+            self.close(alloc, Cell(cell), line)?;
         }
         Ok(())
+    }
+
+    /// Closes all open phases at the end. Their tasks count for the last statement; where there is none, no phase is open. Linear
+    /// in the cells.
+    pub fn close_last(&mut self, alloc: Global) -> Result<(), OutOfMemory>
+        requires at { HasAt self.old }
+        ensures none { OnOk result (self.old.last ≡ None → self.new ≡ self.old) }
+        ensures closes { OnOk result ((line : Line) → self.old.last ≡ Some line
+            → Prepares self.old self.new line (finished self.old.workers)) }
+    {
+        match self.last {
+            Some(line) => self.close_all(alloc, line),
+            None => Ok(()),
+        }
     }
 
     /// The phase of a cell that is contributed to goes on, or begins. Linear in the workers where it begins.
@@ -161,26 +163,28 @@ impl Progress {
         phase: OpenPhase,
         valued: bool,
     ) -> Result<(), OutOfMemory>
-        requires cells { phase.copies.0 + self.old.workers ≤ most }
-        requires room { HasRoomLeft self.old }
-        requires copies { HasFewCopies self.old }
-        ensures opens { OnOk result (OpensAt self.old self.new cell phase valued) }
-        ensures rest { OnOk result (KeepsRest self.old self.new) }
-        ensures room { OnOk result (HasRoomLeft self.new) }
-        ensures copies { OnOk result (HasFewCopies self.new) }
+        requires at { HasAt self.old }
+        requires copies { HasCopies self.old cell phase.copies }
+        ensures { OnOk result (Prepares self.old self.new phase.line
+            (opened self.old.workers phase.by valued phase.line cell)) }
     {
         if self.over.is_some() {
             return Ok(());
         }
-        if let Some(open) = self.lowerer.phases.get_mut(&cell.0) {
-            open.line = phase.line;
+        if let Some(open) = self.lowerer.phases.get(&cell.0) {
+            let extended = OpenPhase {
+                by: open.by,
+                copies: open.copies,
+                line: phase.line,
+            };
+            self.lowerer.phases.insert(cell.0, extended)?;
             return Ok(());
         }
-        let count = self.workers as u64 + !valued as u64;
-        if !self.has_room(count) {
+        if !self.has_room(begin_count(self.workers, valued)) {
             self.over = Some(phase.line);
             return Ok(());
         }
+        self.lowerer.phases.insert(cell.0, phase)?;
         push_begin(
             &mut self.lowerer.tasks,
             alloc,
@@ -188,20 +192,17 @@ impl Progress {
             cell,
             valued,
             self.workers,
-        )?;
-        self.lowerer.phases.insert(cell.0, phase)?;
-        Ok(())
+        )
     }
 
-    /// The phase of an operand's child goes on, or begins, if the operand is a contribution.
+    /// The phase of an operand's child goes on, or begins, if its root has a reduction. Linear in the workers where it begins.
     fn open_for(&mut self, alloc: Global, operand: &Operand, line: Line) -> Result<(), LowerRefusal>
-        requires operand { AreIn self.old.lowerer.actives.items operand.now }
-        requires room { HasRoomLeft self.old }
-        requires copies { HasFewCopies self.old }
-        ensures opens { OnOk result ((T : Table) → PreparesOperand T operand.now self.old self.new line) }
-        ensures full { IfErr result (λ e. IsFullFor self.old operand.now line e) }
-        ensures room { OnOk result (HasRoomLeft self.new) }
-        ensures copies { OnOk result (HasFewCopies self.new) }
+        requires at { HasAt self.old }
+        requires operand { IsActiveOperand self.old operand.now }
+        ensures opens { OnOk result (Prepares self.old self.new line
+            (opening_for self.old.workers self.old.lowerer.actives.items line operand.now)) }
+        ensures full { IfErr result (IsFullBy self.old line
+            (opening_for self.old.workers self.old.lowerer.actives.items line operand.now)) }
     {
         let active = &self.lowerer.actives[operand.root.0 as usize];
         let Some(by) = active.reduction else {
@@ -216,26 +217,48 @@ impl Progress {
         Ok(())
     }
 
-    /// The phases to which a statement contributes go on, or begin. Linear in its operands, and in the workers where a phase
-    /// begins.
-    pub fn open_by(&mut self, alloc: Global, act: &Act, line: Line) -> Result<(), LowerRefusal>
-        requires actives { NamesActives self.old act.now }
-        requires room { HasRoomLeft self.old }
-        requires copies { HasFewCopies self.old }
-        ensures opens { OnOk result ((T : Table) → PreparesIn T act.now self.old self.new line
-            (λ S L. fold (opened_for self.old.workers S line) L (contributions (act_seen T L.cells.roots act.now)))) }
-        ensures full { IfErr result (λ e. (T : Table) → IsFullAt T act.now self.old line e) }
-        ensures room { OnOk result (HasRoomLeft self.new) }
-        ensures copies { OnOk result (HasFewCopies self.new) }
+    /// The phases of the operands that are contributed to go on, or begin. Linear in the operands, and in the workers where a
+    /// phase begins.
+    fn open_operands(
+        &mut self,
+        alloc: Global,
+        operands: &[Operand],
+        line: Line,
+    ) -> Result<(), LowerRefusal>
+        requires at { HasAt self.old }
+        requires operands { All (IsActiveOperand self.old) operands.now }
+        ensures opens { OnOk result (Prepares self.old self.new line
+            (opening_all self.old.workers self.old.lowerer.actives.items line (filter is_contributed operands.now))) }
+        ensures full { IfErr result (IsFullBy self.old line
+            (opening_all self.old.workers self.old.lowerer.actives.items line (filter is_contributed operands.now))) }
     {
-        let Act::Task(task) = act else {
-            return Ok(());
-        };
-        for operand in task.operands.items() {
-            if operand.mode == Mode::Redux {
+        for operand in operands {
+            if is_contribution(operand) {
                 self.open_for(alloc, operand, line)?;
             }
         }
         Ok(())
+    }
+
+    /// Closes the phases that a statement closes, and goes on with those to which it contributes, or begins them. Linear in its
+    /// operands, in the workers where a phase begins or is closed, and in the children of a root whose phases it closes.
+    pub fn prepare(&mut self, alloc: Global, act: &Act, line: Line) -> Result<(), LowerRefusal>
+        requires at { HasAt self.old }
+        requires actives { NamesActives self.old act.now }
+        ensures prepares { OnOk result (Prepares self.old self.new line
+            (preparing_by self.old.workers self.old.lowerer.actives.items line act.now)) }
+        ensures full { IfErr result (IsFullBy self.old line
+            (preparing_by self.old.workers self.old.lowerer.actives.items line act.now)) }
+    {
+        self.close_by(alloc, act, line)?;
+        match act {
+            Act::Task(task) => self.open_operands(alloc, task.operands.items(), line),
+            Act::Register(_)
+            | Act::Plan(_, _)
+            | Act::Redux(_, _)
+            | Act::Print(_)
+            | Act::Invalidate(_)
+            | Act::Unregister(_) => Ok(()),
+        }
     }
 }
