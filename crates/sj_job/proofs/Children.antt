@@ -14,6 +14,7 @@ use Rattle.sj_base.specs.Array.{Array, area, element}
 use Rattle.sj_base.specs.Window.{item}
 use Rattle.sj_base.proofs.Tables.{length-table, item-table, at-table}
 use Rattle.sj_codelet.specs.Ring.{wrap}
+use Rattle.sj_base.specs.declared.mode.Reduction.{Reduction}
 use Rattle.sj_plan.specs.declared.parts.Parts.{Parts}
 use Rattle.sj_plan.specs.Parts.{Fits, IsPlace}
 use Rattle.sj_plan.specs.Rect.{Holds, holds, child, dims_of}
@@ -23,7 +24,7 @@ use Rattle.sj_job.specs.declared.job.Init.{Init}
 use Rattle.sj_job.specs.declared.job.Init.TheVariants.{Values, Fill, Nothing}
 use Rattle.sj_job.specs.Statement.{Register}
 use Rattle.sj_job.specs.State.{Root, is_valued, is_blank, is_child, child_rect, child_elements, is_valued_child}
-use Rattle.sj_job.specs.Meaning.{first_elements, no_values, registered_root, with_parts, with_elements, with_child}
+use Rattle.sj_job.specs.Meaning.{first_elements, no_values, registered_root, with_parts, with_elements, with_child, with_reduction}
 use Rattle.sj_job.specs.Track.{Track, Tracks, all_valued, none_valued, children_count, number, is_set, even, written}
 use Rattle.sj_job.specs.Judge.{known_of, is_child_said}
 use Rattle.sj_job.specs.Names.{gives_values, known_with}
@@ -200,11 +201,15 @@ child_known t r place h =
     ap (λ (p : Parts). is_child p place && is_set t place) h.parts ∙ known_by_test t r place (is_child r.parts place) h refl
 
 -- the reasons see in a track what they see in its root
-pub tracks-known : (d : Dims) (t : Track) (r : Root) → r.dims ≡ d → Tracks t r → known_with d t ≡ known_of r
-tracks-known d t r e h = λ i.
-    record { dims = sym e i; parts = h.parts i; all = all_valued-same t r h i; none = none_valued-same t r h i; child = λ place. child_known t r place h i }
+pub tracks-known : (d : Dims) (t : Track) (by : Option Reduction) (r : Root) → r.dims ≡ d → r.reduction ≡ by → Tracks t r → known_with d t by ≡ known_of r
+tracks-known d t by r e f h = λ i.
+    record { dims = sym e i; parts = h.parts i; reduction = sym f i; all = all_valued-same t r h i; none = none_valued-same t r h i; child = λ place. child_known t r place h i }
 
 -- ---- changes
+
+-- a reduction changes no plan and no element
+pub tracks-reduced : (by : Reduction) (t : Track) (r : Root) → Tracks t r → Tracks t (with_reduction by r)
+tracks-reduced by t r h = record { parts = h.parts; fits = h.fits; whole = h.whole; counted = h.counted; valued = h.valued }
 
 -- all elements have a value, or none has
 pub tracks-even : (p : Parts) (v : Bool) (r : Root) → r.parts ≡ p → Fits p r.dims → length r.elements ≡ area r.dims → ((row col : ℕ) → row < r.dims.rows → col < r.dims.cols → has_value r row col ≡ v) → Tracks (even p v) r

@@ -9,6 +9,7 @@ use Rattle.std.specs.Ordering.{nat_cmp}
 use Rattle.std.specs.Cmp.Lexicographic.{slice_cmp, nat_list_cmp_total, texts_ties, same_text}
 use Rattle.sj_base.specs.Array.{Array}
 use Rattle.sj_base.specs.declared.ids.Root.{Root as RootNumber}
+use Rattle.sj_base.specs.declared.mode.Reduction.{Reduction}
 use Rattle.sj_base.specs.declared.tile.Dims.{Dims}
 use Rattle.sj_plan.specs.declared.parts.Parts.{Parts}
 use Rattle.sj_plan.specs.Parts.{Fits, IsPlace}
@@ -20,15 +21,15 @@ use Rattle.sj_job.specs.declared.names.Standing.TheVariants.{Live, Ended}
 use Rattle.sj_job.specs.declared.names.Names.{Names}
 use Rattle.sj_job.specs.Statement.{Operand}
 use Rattle.sj_job.specs.State.{Root, State, root_of, start, is_valued, is_blank}
-use Rattle.sj_job.specs.Meaning.{no_values, registered_root, register, is_written, written_of, with_parts, with_elements, with_child, change, plan, put, put_all, invalidate, unregister}
+use Rattle.sj_job.specs.Meaning.{no_values, registered_root, register, is_written, written_of, with_parts, with_elements, with_reduction, with_child, change, plan, reduce, put, put_all, invalidate, unregister}
 use Rattle.sj_job.specs.Judge.{known_of, scope_of}
-use Rattle.sj_job.specs.Names.{Found, IsCounted, IsPlaceIn, after_write, after_writes, child_written, ended_from, first_standing, found_in, invalidated, is_over, known_by, known_from, plan_in, planned, scope_in, standing_of}
+use Rattle.sj_job.specs.Names.{Found, IsCounted, IsPlaceIn, after_write, after_writes, child_written, ended_from, first_standing, found_in, invalidated, is_over, known_by, known_from, plan_in, planned, reduced, scope_in, standing_of}
 use Rattle.sj_job.specs.Sound.{IsSoundPlan, IsSoundRegistration}
 use Rattle.sj_job.specs.Table.{Table, table, a_root, name_of, info_of, root_in, IsRoot, with_root}
 use Rattle.sj_job.specs.Track.{all_valued, none_valued, even}
 use Rattle.sj_job.specs.View.{operand_seen, registration}
 use Rattle.sj_job.specs.Sees.{StandsFor, IsFound, Sees, Shows}
-use Rattle.sj_job.proofs.Children.{all_valued-same, none_valued-same, tracks-known, tracks-registered, tracks-planned, tracks-invalidated, tracks-written}
+use Rattle.sj_job.proofs.Children.{all_valued-same, none_valued-same, tracks-known, tracks-registered, tracks-planned, tracks-reduced, tracks-invalidated, tracks-written}
 use Rattle.sj_job.proofs.Places.{a_found, entry, found_with, found-set, found-pushed, is-at}
 
 -- what is found of each name is so of its root
@@ -38,7 +39,7 @@ AllFound T sts S = (q : List ℕ) → IsFound (found_with T sts q) (root_of S q)
 -- ---- what the reasons see
 
 known_standing : (d : Dims) (st : Standing) (o : Option Root) → StandsFor d st o → known_by d st ≡ option_map known_of o
-known_standing d (Live t) o h = ap Some (tracks-known d t h.root h.dims h.tracks) ∙ sym (ap (option_map known_of) h.there)
+known_standing d (Live t by) o h = ap Some (tracks-known d t by h.root h.dims h.reduction h.tracks) ∙ sym (ap (option_map known_of) h.there)
 known_standing d Ended o h = sym (ap (option_map known_of) h)
 
 known_found : (f : Option Found) (o : Option Root) → IsFound f o → known_from f ≡ option_map known_of o
@@ -110,7 +111,7 @@ unplanned None = true
 unplanned (Some p) = false
 
 over_plan : (st : Standing) → is_over st ≡ unplanned (plan_in st)
-over_plan (Live t) = refl
+over_plan (Live t by) = refl
 over_plan Ended = refl
 
 ended_by : (T : Table) (sts new : List Standing) (o : Option RootNumber) → ((n : ℕ) → is_over (get_or new n Ended) ≡ is_over (get_or sts n Ended)) → ended_from (option_map (entry T new) o) ≡ ended_from (option_map (entry T sts) o)
@@ -151,14 +152,14 @@ shows_changed old new S r st f h k counted over step =
 -- ---- another plan
 
 over_planned : (p : Parts) (st : Standing) → is_over (planned p st) ≡ is_over st
-over_planned p (Live t) = refl
+over_planned p (Live t by) = refl
 over_planned p Ended = refl
 
 planned_step : (p : Parts) (d : Dims) (st : Standing) (o : Option Root) → ((r : Root) → o ≡ Some r → Fits p r.dims × (((is_valued r) || (is_blank r)) ≡ true)) → StandsFor d st o → StandsFor d (planned p st) (option_map (with_parts p) o)
-planned_step p d (Live t) o sound h =
+planned_step p d (Live t by) o sound h =
     let s = sound h.root h.there in
     let either : (all_valued t || none_valued t) ≡ true = (λ i. all_valued-same t h.root h.tracks i || none_valued-same t h.root h.tracks i) ∙ s.1 in
-    record { root = with_parts p h.root; there = ap (option_map (with_parts p)) h.there; dims = h.dims; tracks = tracks-planned p t h.root h.tracks s.0 either }
+    record { root = with_parts p h.root; there = ap (option_map (with_parts p)) h.there; dims = h.dims; reduction = h.reduction; tracks = tracks-planned p t h.root h.tracks s.0 either }
 planned_step p d Ended o sound h = ap (option_map (with_parts p)) h
 
 -- what a plan line needs, of the root
@@ -171,15 +172,30 @@ shows_planned old new S r p h k counted sound =
     shows_changed old new S r (planned p (standing_of old r)) (with_parts p) h k counted (over_planned p (standing_of old r))
     (planned_step p (info_of old.roots r).dims (standing_of old r) (root_of S (name_of old.roots r)) (λ x e. sound_there p (root_of S (name_of old.roots r)) x sound.parts sound.even e))
 
+-- ---- a reduction
+
+over_reduced : (by : Reduction) (st : Standing) → is_over (reduced by st) ≡ is_over st
+over_reduced by (Live t old) = refl
+over_reduced by Ended = refl
+
+reduced_step : (by : Reduction) (d : Dims) (st : Standing) (o : Option Root) → StandsFor d st o → StandsFor d (reduced by st) (option_map (with_reduction by) o)
+reduced_step by d (Live t old) o h = record { root = with_reduction by h.root; there = ap (option_map (with_reduction by)) h.there; dims = h.dims; reduction = refl; tracks = tracks-reduced by t h.root h.tracks }
+reduced_step by d Ended o h = ap (option_map (with_reduction by)) h
+
+pub shows_reduced : (old new : Names) (S : State) (r : RootNumber) (by : Reduction) → Shows old S → IsSet old new r (reduced by (standing_of old r)) → IsCounted new → Shows new (reduce (name_of old.roots r) by S)
+shows_reduced old new S r by h k counted =
+    shows_changed old new S r (reduced by (standing_of old r)) (with_reduction by) h k counted (over_reduced by (standing_of old r))
+    (reduced_step by (info_of old.roots r).dims (standing_of old r) (root_of S (name_of old.roots r)))
+
 -- ---- no values
 
 over_invalidated : (st : Standing) → is_over (invalidated st) ≡ is_over st
-over_invalidated (Live t) = refl
+over_invalidated (Live t by) = refl
 over_invalidated Ended = refl
 
 invalidated_step : (d : Dims) (st : Standing) (o : Option Root) → StandsFor d st o → StandsFor d (invalidated st) (option_map (λ (r : Root). with_elements (no_values r.dims) r) o)
-invalidated_step d (Live t) o h =
-    record { root = with_elements (no_values h.root.dims) h.root; there = ap (option_map (λ (r : Root). with_elements (no_values r.dims) r)) h.there; dims = h.dims; tracks = tracks-invalidated t h.root h.tracks }
+invalidated_step d (Live t by) o h =
+    record { root = with_elements (no_values h.root.dims) h.root; there = ap (option_map (λ (r : Root). with_elements (no_values r.dims) r)) h.there; dims = h.dims; reduction = h.reduction; tracks = tracks-invalidated t h.root h.tracks }
 invalidated_step d Ended o h = ap (option_map (λ (r : Root). with_elements (no_values r.dims) r)) h
 
 pub shows_invalidated : (old new : Names) (S : State) (r : RootNumber) → Shows old S → IsSet old new r (invalidated (standing_of old r)) → IsCounted new → Shows new (invalidate (name_of old.roots r) S)
@@ -247,13 +263,13 @@ shows_registered old new S name info init sound h none k e s counted =
       found = λ q. subst (λ o. IsFound o (root_of (register r S) q)) (sym (found q))
           (subst (IsFound (cond (bytes_eq q name) (Some here) (found_in old q))) (sym (more q))
           (found_by (bytes_eq q name) here (found_in old q) (Some (registered_root r)) (root_of S q)
-          (λ t. record { root = registered_root r; there = refl; dims = refl; tracks = tracks-registered r sound.parts sound.values }) (h.found q)));
+          (λ t. record { root = registered_root r; there = refl; dims = refl; reduction = refl; tracks = tracks-registered r sound.parts sound.values }) (h.found q)));
     }
 
 -- ---- what a task writes
 
 plan_written : (place : ℕ × ℕ) (st : Standing) → plan_in (child_written place st) ≡ plan_in st
-plan_written place (Live t) = refl
+plan_written place (Live t by) = refl
 plan_written place Ended = refl
 
 plan_set : (place : ℕ × ℕ) (sts : List Standing) (k n : ℕ) → k < length sts → plan_in (get_or (set sts k (child_written place (get_or sts k Ended))) n Ended) ≡ plan_in (get_or sts n Ended)
@@ -300,8 +316,8 @@ plans_kept T [] sts n h = refl
 plans_kept T (o ∷ os) sts n h = plans_kept T os (after_write o sts) n (all_fit_written T o os sts h.0.below h.1) ∙ plan-written o sts n h.0.below
 
 written_step : (a : Array) (place : ℕ × ℕ) (d : Dims) (st : Standing) (o : Option Root) → IsPlaceIn (plan_in st) place → StandsFor d st o → StandsFor d (child_written place st) (option_map (with_child place a) o)
-written_step a place d (Live t) o at h =
-    record { root = with_child place a h.root; there = ap (option_map (with_child place a)) h.there; dims = h.dims; tracks = tracks-written place a t h.root h.tracks (subst (λ (p : Parts). IsPlace p place) h.tracks.parts at) }
+written_step a place d (Live t by) o at h =
+    record { root = with_child place a h.root; there = ap (option_map (with_child place a)) h.there; dims = h.dims; reduction = h.reduction; tracks = tracks-written place a t h.root h.tracks (subst (λ (p : Parts). IsPlace p place) h.tracks.parts at) }
 written_step a place d Ended o at h = ap (option_map (with_child place a)) h
 
 found_put : (T : Table) (sts : List Standing) (S : State) (o : Access) (a : Array) → FitsIn T sts o → AllFound T sts S → AllFound T (set sts o.root.0 (child_written o.place (get_or sts o.root.0 Ended))) (put (operand_seen T o) a S)

@@ -1,6 +1,6 @@
 -- An act that is allowed is sound.
-use Rattle.std.proofs.Common.{◌≡◌, ℕ, ◌≤◌, ◌<◌, ◌*◌, ◌&&◌, ◌||◌, not, nat_le, nat_lt, Bool, true, false, List, [], ◌∷◌, map, refl, ap, ◌∙◌, sym, subst, Option, Some, None, option_map, is_some, Result, Ok, Err, cond, arith, ℤ, unwrap_or}
-use Rattle.std.specs.Prelude.{find}
+use Rattle.std.proofs.Common.{◌≡◌, ℕ, ◌≤◌, ◌<◌, ◌*◌, ◌&&◌, ◌||◌, not, nat_le, nat_lt, Bool, true, false, List, [], ◌∷◌, length, map, refl, ap, ◌∙◌, sym, subst, Option, Some, None, option_map, is_some, Result, Ok, Err, cond, arith, ℤ, unwrap_or}
+use Rattle.std.specs.Prelude.{find, is_none}
 use Rattle.std.specs.List.{list_all, list_any}
 use Rattle.std.proofs.lemmas.Bool.Decides.{nat_tests}
 use Rattle.std.proofs.lemmas.Nat.{mul-le}
@@ -26,16 +26,18 @@ use Rattle.sj_job.specs.declared.form.TaskForm.{TaskForm}
 use Rattle.sj_job.specs.declared.form.Form.{Form}
 use Rattle.sj_job.specs.declared.form.Form.TheVariants as form
 use Rattle.sj_base.specs.declared.mode.Mode.{Mode}
+use Rattle.sj_base.specs.declared.mode.Reduction.{Reduction}
 use Rattle.sj_base.specs.declared.mode.Mode.TheVariants.{R, W, RW, Scratch, Redux, Commute}
-use Rattle.sj_job.specs.declared.reason.Reason.TheVariants.{Word, Number, NotBuilt}
-use Rattle.sj_job.specs.Act.{Register as Registers, Plan, Task, Print, Invalidate, Unregister}
+use Rattle.sj_job.specs.declared.reason.Reason.TheVariants.{Word, Number}
+use Rattle.sj_job.specs.Act.{Register as Registers, Plan, Redux as Reduces, Task, Print, Invalidate, Unregister}
 use Rattle.sj_job.specs.Form.{form_of}
 use Rattle.sj_job.specs.Word.{integer}
-use Rattle.sj_job.specs.Sentence.{is_numbered, is_built, is_built_mode, rows_of, cols_of, init_said, parts_said, index_said, registered_by, operand_said, operands_said, priority_said, task_said, said_of}
+use Rattle.sj_job.specs.Sentence.{rows_of, cols_of, init_said, parts_said, index_said, registered_by, operand_said, operands_said, priority_said, task_said, said_of}
 use Rattle.sj_job.specs.State.{State, Root, root_of, is_valued, is_blank, is_child, child_rect, is_valued_child}
-use Rattle.sj_job.specs.Judge.{Scope, scope_of, known_of, first_of, unless, judged_by, judged_call, judged_task, judged, kernel_named, register_reasons, line_reasons, print_reasons, name_reasons, plan_reasons, operand_reasons, is_shaped, modes_fit, dims_in, dims_known, is_child_said, is_crowded, is_cut, is_uncut, is_missing, is_lacking, child_lacks_value, is_side, is_outside, is_miscounted, is_unknown, is_ended, needs_value, lacks_value, is_priority}
+use Rattle.sj_job.specs.Judge.{Scope, scope_of, known_of, first_of, unless, judged_by, judged_call, judged_task, judged, kernel_named, register_reasons, line_reasons, print_reasons, name_reasons, plan_reasons, redux_reasons, operand_reasons, has_mixed_outputs, is_lawful_for, is_unlawful, is_unordered, reduction_known, is_shaped, modes_fit, dims_in, dims_known, is_child_said, is_crowded, is_cut, is_uncut, is_missing, is_lacking, child_lacks_value, is_side, is_outside, is_miscounted, is_unknown, is_ended, needs_value, lacks_value, is_priority}
+use Rattle.sj_job.specs.Meaning.{is_written, written_of}
 use Rattle.sj_job.specs.Well.{IsAllowed}
-use Rattle.sj_job.specs.Sound.{has_root, has_values, child_dims, has_child, has_child_values, is_plain, InitFits, IsSoundRegistration, IsSoundPlan, IsSoundAct}
+use Rattle.sj_job.specs.Sound.{has_root, has_values, child_dims, has_child, has_child_values, is_lawful, reduction_of, InitFits, IsSoundRegistration, IsSoundPlan, IsSoundAct}
 use Rattle.sj_job.proofs.Children.{said-child}
 
 -- ---- tests
@@ -165,6 +167,10 @@ sound_name n S name e = let h = none_hold (name_reasons (scope_of n S) name) e i
 sound_print : (n : ℕ) (S : State) (name : List ℕ) → first_of (print_reasons (scope_of n S) name) ≡ None → has_values S name ≡ true
 sound_print n S name e = let h = none_hold (print_reasons (scope_of n S) name) e in valued n S name h.1.1.1.0 (there n S name h.1.0 h.1.1.0)
 
+no_reduction : (o : Option Reduction) → is_some o ≡ false → is_none o ≡ true
+no_reduction None e = refl
+no_reduction (Some by) e = absurd (cc)
+
 -- ---- plans
 
 dims_by : (o : Option Root) → (elim (option_map known_of o) as (λ _. Dims) [ None ↦ record { rows = 0; cols = 0 } | Some k ↦ k.dims ]) ≡ (elim o as (λ _. Dims) [ None ↦ record { rows = 0; cols = 0 } | Some r ↦ r.dims ])
@@ -239,19 +245,51 @@ fits_known has id args ds k e h f = ap (λ (o : Option Kernel). elim o as (λ _.
 formals_known : (id : Codelet) (os : List Operand) (k : Kernel) → kernel_of id ≡ Some k → modes_fit (formals_of k) os ≡ true → modes_fit (formals_in id) os ≡ true
 formals_known id os k e m = ap (λ (o : Option Kernel). modes_fit (elim o [ None ↦ [] | Some j ↦ formals_of j ]) os) e ∙ m
 
-plain_mode : (m : Mode) → is_built_mode m ≡ true → is_plain m ≡ true
-plain_mode R e = refl
-plain_mode W e = refl
-plain_mode RW e = refl
-plain_mode Scratch e = refl
-plain_mode Redux e = absurd (cc)
-plain_mode Commute e = absurd (cc)
+-- ---- laws
 
-plain_operands : (os : List OperandForm) → list_all (λ o. is_built_mode o.mode) os ≡ true → list_all (λ p. is_plain p.mode) (map operand_said os) ≡ true
-plain_operands [] e = refl
-plain_operands (o ∷ os) e =
-    let p = and_parts (is_built_mode o.mode) (list_all (λ o. is_built_mode o.mode) os) e in
-    both (is_plain o.mode) (list_all (λ p. is_plain p.mode) (map operand_said os)) (plain_mode o.mode p.0) (plain_operands os p.1)
+reduction_by : (o : Option Root) → (elim (option_map known_of o) as (λ _. Option Reduction) [ None ↦ None | Some k ↦ k.reduction ]) ≡ (elim o as (λ _. Option Reduction) [ None ↦ None | Some r ↦ r.reduction ])
+reduction_by None = refl
+reduction_by (Some r) = refl
+
+reduction_seen : (n : ℕ) (S : State) (name : List ℕ) → reduction_known (scope_of n S) name ≡ reduction_of S name
+reduction_seen n S name = reduction_by (root_of S name)
+
+all_lawful : (has : Kernel → Bool) (n : ℕ) (S : State) (k : Kernel) (os : List Operand) → list_any (is_unlawful has (scope_of n S) k) os ≡ false → list_all (is_lawful has S (codelet_of k)) os ≡ true
+all_lawful has n S k [] e = refl
+all_lawful has n S k (o ∷ os) e =
+    let p = or_parts (is_unlawful has (scope_of n S) k o) (list_any (is_unlawful has (scope_of n S) k) os) e in
+    both (is_lawful has S (codelet_of k) o) (list_all (is_lawful has S (codelet_of k)) os)
+    (ap (λ by. is_lawful_for has (codelet_of k) by o.mode) (sym (reduction_seen n S o.name)) ∙ not_false _ p.0) (all_lawful has n S k os p.1)
+
+unordered_written : (m : Mode) → is_unordered m ≡ true → is_written m ≡ true
+unordered_written R e = absurd (cc)
+unordered_written W e = refl
+unordered_written RW e = refl
+unordered_written Scratch e = absurd (cc)
+unordered_written Redux e = refl
+unordered_written Commute e = refl
+
+more_by : (b : Bool) (o : Operand) (os : List Operand) → 1 ≤ length os → 1 ≤ length (cond b (o ∷ os) os)
+more_by true o os e = omega (arith)
+more_by false o os e = e
+
+one_by : (o : Operand) (os : List Operand) (b : Bool) → is_unordered o.mode ≡ b → (b || list_any (λ o. is_unordered o.mode) os) ≡ true → (list_any (λ o. is_unordered o.mode) os ≡ true → 1 ≤ length (written_of os)) → 1 ≤ length (written_of (o ∷ os))
+one_by o os true h e rest =
+    let some : 1 ≤ length (o ∷ written_of os) = omega (arith) in
+    subst (λ (b : Bool). 1 ≤ length (cond b (o ∷ written_of os) (written_of os))) (sym (unordered_written o.mode h)) some
+one_by o os false h e rest = more_by (is_written o.mode) o (written_of os) (rest e)
+
+-- an operand that may come in any order is written
+some_written : (os : List Operand) → list_any (λ o. is_unordered o.mode) os ≡ true → 1 ≤ length (written_of os)
+some_written [] e = absurd (cc)
+some_written (o ∷ os) e = one_by o os (is_unordered o.mode) refl e (some_written os)
+
+only_one : (b : Bool) (n : ℕ) → (b && nat_lt 1 n) ≡ false → b ≡ true → 1 ≤ n → n ≡ 1
+only_one true n e h le = grind (arith, nat_tests)
+only_one false n e h le = absurd (cc)
+
+stands_alone : (os : List Operand) → has_mixed_outputs os ≡ false → list_any (λ o. is_unordered o.mode) os ≡ true → length (written_of os) ≡ 1
+stands_alone os e h = only_one (list_any (λ o. is_unordered o.mode) os) (length (written_of os)) e h (some_written os h)
 
 -- a task against which there is no reason
 pub record IsJudged (has : Kernel → Bool) (s : Scope) (t : TaskForm) (act : Act) : Type 0 where
@@ -259,69 +297,63 @@ pub record IsJudged (has : Kernel → Bool) (s : Scope) (t : TaskForm) (act : Ac
   pub named : kernel_named has t.codelet ≡ Some kernel
   pub is : Task (task_said kernel t) ≡ act
   pub line : first_of (line_reasons s (priority_said t.priority) (operands_said t)) ≡ None
-  pub operands : first_of (operand_reasons s kernel (map integer t.args) t.operands (operands_said t)) ≡ None
+  pub operands : first_of (operand_reasons has s kernel (map integer t.args) t.operands (operands_said t)) ≡ None
 
-by_kernel : (has : Kernel → Bool) (s : Scope) (t : TaskForm) (act : Act) (o : Option Kernel) → kernel_named has t.codelet ≡ o → first_of (line_reasons s (priority_said t.priority) (operands_said t)) ≡ None → judged_call s o t ≡ Ok act → IsJudged has s t act
+by_kernel : (has : Kernel → Bool) (s : Scope) (t : TaskForm) (act : Act) (o : Option Kernel) → kernel_named has t.codelet ≡ o → first_of (line_reasons s (priority_said t.priority) (operands_said t)) ≡ None → judged_call has s o t ≡ Ok act → IsJudged has s t act
 by_kernel has s t act None n l e = absurd (cc)
 by_kernel has s t act (Some k) n l e =
-    let p = unless_parts (first_of (operand_reasons s k (map integer t.args) t.operands (operands_said t))) (Task (task_said k t)) act e in
+    let p = unless_parts (first_of (operand_reasons has s k (map integer t.args) t.operands (operands_said t))) (Task (task_said k t)) act e in
     record { kernel = k; named = n; is = p.1; line = l; operands = p.0 }
 
 pub judged-task : (has : Kernel → Bool) (s : Scope) (t : TaskForm) (act : Act) → judged_task has s t ≡ Ok act → IsJudged has s t act
 judged-task has s t act e =
-    let p = by_parts (first_of (line_reasons s (priority_said t.priority) (operands_said t))) (judged_call s (kernel_named has t.codelet) t) act e in
+    let p = by_parts (first_of (line_reasons s (priority_said t.priority) (operands_said t))) (judged_call has s (kernel_named has t.codelet) t) act e in
     by_kernel has s t act (kernel_named has t.codelet) refl p.0 p.1
 
-sound_task : (has : Kernel → Bool) (n : ℕ) (S : State) (t : TaskForm) (act : Act) → is_built (form.Task t) ≡ true → IsJudged has (scope_of n S) t act → IsSoundAct has S act
-sound_task has n S t act b j =
+sound_task : (has : Kernel → Bool) (n : ℕ) (S : State) (t : TaskForm) (act : Act) → IsJudged has (scope_of n S) t act → IsSoundAct has S act
+sound_task has n S t act j =
     let k = j.kernel in
     let os = operands_said t in
     let args = map integer t.args in
     let l = none_hold (line_reasons (scope_of n S) (priority_said t.priority) os) j.line in
-    let h = none_hold (operand_reasons (scope_of n S) k args t.operands os) j.operands in
+    let h = none_hold (operand_reasons has (scope_of n S) k args t.operands os) j.operands in
     let has_k = (and_parts (has k) (has_name t.codelet k) (found_passes (λ k. has k && has_name t.codelet k) kernels k j.named)).0 in
     let shaped = and_parts (modes_fit (formals_of k) os) (fits k args (map (dims_in (scope_of n S)) os)) (not_false (is_shaped (scope_of n S) k args os) h.1.1.0) in
     let placed = all_placed n S t.operands l.1.1.0 l.1.1.1.0 h.1.0 in
     subst (IsSoundAct has S) j.is (record {
       fits = fits_known has (codelet_of k) args (map (child_dims S) os) k (kernel_of-codelet_of k) has_k (ap (fits k args) (sym (all_dims_seen n S os)) ∙ shaped.1);
       modes = formals_known (codelet_of k) os k (kernel_of-codelet_of k) shaped.0;
-      plain = plain_operands t.operands b;
+      alone = stands_alone os h.1.1.1.1.1.1.0;
+      lawful = all_lawful has n S k os h.1.1.1.1.1.1.1.0;
       apart = h.1.1.1.0;
       placed = placed;
       valued = all_valued n S os h.1.1.1.1.0 placed;
       priority = not_false (is_priority (priority_said t.priority)) l.1.0;
     })
 
+sound_reduction : (n : ℕ) (S : State) (name : List ℕ) → first_of (redux_reasons (scope_of n S) name) ≡ None → (is_none (reduction_of S name) ≡ true) × (has_root S name ≡ true)
+sound_reduction n S name e =
+    let h = none_hold (redux_reasons (scope_of n S) name) e in
+    (no_reduction (reduction_of S name) (ap is_some (sym (reduction_seen n S name)) ∙ h.1.1.1.0), there n S name h.1.0 h.1.1.0)
+
 -- ---- acts
 
-pub sound_from_judged : (has : Kernel → Bool) (n : ℕ) (S : State) (f : Form) (act : Act) → is_built f ≡ true → judged has (scope_of n S) f ≡ Ok act → IsSoundAct has S act
-sound_from_judged has n S (form.Register a) act b e =
+pub sound_from_judged : (has : Kernel → Bool) (n : ℕ) (S : State) (f : Form) (act : Act) → judged has (scope_of n S) f ≡ Ok act → IsSoundAct has S act
+sound_from_judged has n S (form.Register a) act e =
     let p = unless_parts (first_of (register_reasons (scope_of n S) a.name (registered_by a).dims (parts_said a.parts) (init_said a.init))) (Registers (registered_by a)) act e in
     subst (IsSoundAct has S) p.1 (sound_registration n S a p.0)
-sound_from_judged has n S (form.Plan name r c) act b e =
+sound_from_judged has n S (form.Plan name r c) act e =
     let parts = parts_said (Some (r, c)) in
     let p = unless_parts (first_of (plan_reasons (scope_of n S) name parts)) (Plan name parts) act e in subst (IsSoundAct has S) p.1 (sound_plan n S name parts p.0)
-sound_from_judged has n S (form.Redux name by) act b e = absurd (cc)
-sound_from_judged has n S (form.Task t) act b e = sound_task has n S t act b (judged-task has (scope_of n S) t act e)
-sound_from_judged has n S (form.Print name) act b e =
+sound_from_judged has n S (form.Redux name by) act e =
+    let p = unless_parts (first_of (redux_reasons (scope_of n S) name)) (Reduces name by) act e in subst (IsSoundAct has S) p.1 (sound_reduction n S name p.0)
+sound_from_judged has n S (form.Task t) act e = sound_task has n S t act (judged-task has (scope_of n S) t act e)
+sound_from_judged has n S (form.Print name) act e =
     let p = unless_parts (first_of (print_reasons (scope_of n S) name)) (Print name) act e in subst (IsSoundAct has S) p.1 (sound_print n S name p.0)
-sound_from_judged has n S (form.Invalidate name) act b e =
+sound_from_judged has n S (form.Invalidate name) act e =
     let p = unless_parts (first_of (name_reasons (scope_of n S) name)) (Invalidate name) act e in subst (IsSoundAct has S) p.1 (sound_name n S name p.0)
-sound_from_judged has n S (form.Unregister name) act b e =
+sound_from_judged has n S (form.Unregister name) act e =
     let p = unless_parts (first_of (name_reasons (scope_of n S) name)) (Unregister name) act e in subst (IsSoundAct has S) p.1 (sound_name n S name p.0)
 
-by_order : (f g : Form) (n b : Bool) → is_built f ≡ b → cond (not n) (Err Number) (cond (not b) (Err NotBuilt) (Ok f)) ≡ Ok g → (f ≡ g) × (is_built g ≡ true)
-by_order f g false b h e = absurd (cc)
-by_order f g true false h e = absurd (cc)
-by_order f g true true h e = let same : f ≡ g = cc in (same, ap is_built (sym same) ∙ h)
-
-pub said-built : (f g : Form) → said_of f ≡ Ok g → (f ≡ g) × (is_built g ≡ true)
-said-built f g e = by_order f g (is_numbered f) (is_built f) refl e
-
-by_form : (o : Option Form) (g : Form) → (elim o as (λ _. Result Form Reason) [ None ↦ Err Word | Some f ↦ said_of f ]) ≡ Ok g → is_built g ≡ true
-by_form None g e = absurd (cc)
-by_form (Some f) g e = (said-built f g e).1
-
 pub sound_from_allowed : (has : Kernel → Bool) (n : ℕ) (S : State) (act : Act) → IsAllowed has (scope_of n S) act → IsSoundAct has S act
-sound_from_allowed has n S act h =
-    sound_from_judged has n S h.form act (by_form (form_of h.words) h.form h.spelled) h.judged
+sound_from_allowed has n S act h = sound_from_judged has n S h.form act h.judged

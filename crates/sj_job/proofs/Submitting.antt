@@ -3,6 +3,7 @@ use Rattle.std.proofs.Common.{◌≡◌, ℕ, ◌+◌, not, ◌&&◌, Bool, true
 use Rattle.std.specs.Prelude.{IfOk, IfErr}
 use Rattle.std.proofs.Math.Seq.{get_or-append_seam}
 use Rattle.sj_base.specs.declared.ids.Root.{Root as RootNumber}
+use Rattle.sj_base.specs.declared.mode.Reduction.{Reduction}
 use Rattle.sj_codelet.specs.declared.kernel.Kernel.{Kernel}
 use Rattle.sj_plan.specs.declared.parts.Parts.{Parts}
 use Rattle.sj_job.specs.declared.form.ArrayForm.{ArrayForm}
@@ -16,15 +17,15 @@ use Rattle.sj_job.specs.declared.job.Act.{Act as KeptAct}
 use Rattle.sj_job.specs.declared.job.Act.TheVariants as kept
 use Rattle.sj_job.specs.declared.names.Names.{Names}
 use Rattle.sj_job.specs.declared.reason.Reason.{Reason}
-use Rattle.sj_job.specs.declared.reason.Reason.TheVariants.{Number, NotBuilt}
+use Rattle.sj_job.specs.declared.reason.Reason.TheVariants.{Number}
 use Rattle.sj_job.specs.Statement.{Register as Registration}
-use Rattle.sj_job.specs.Act.{Act, Register, Plan, Task, Print, Invalidate, Unregister}
-use Rattle.sj_job.specs.Sentence.{is_numbered, is_built, is_numbered_array, is_numbered_task, kind_of, rows_of, cols_of, init_said, parts_said, registered_by, said_of}
+use Rattle.sj_job.specs.Act.{Act, Register, Plan, Redux, Task, Print, Invalidate, Unregister}
+use Rattle.sj_job.specs.Sentence.{is_numbered, is_numbered_array, is_numbered_task, kind_of, rows_of, cols_of, init_said, parts_said, registered_by, said_of}
 use Rattle.sj_job.specs.Word.{is_count, count}
 use Rattle.sj_job.specs.State.{State, plan_with}
-use Rattle.sj_job.specs.Meaning.{apply, register, run_task, plan, invalidate, unregister}
+use Rattle.sj_job.specs.Meaning.{apply, register, run_task, plan, reduce, invalidate, unregister}
 use Rattle.sj_job.specs.Sound.{IsSoundAct, IsSoundTask, IsSoundRegistration, IsSoundPlan}
-use Rattle.sj_job.specs.Judge.{Scope, scope_of, first_of, unless, judged, judged_task, register_reasons, plan_reasons, print_reasons, name_reasons}
+use Rattle.sj_job.specs.Judge.{Scope, scope_of, first_of, unless, judged, judged_task, register_reasons, plan_reasons, print_reasons, redux_reasons, name_reasons}
 use Rattle.sj_job.specs.Table.{Table, table, no_info, name_of, root_in, IsRoot, with_root}
 use Rattle.sj_job.specs.View.{registration, task_seen, act_seen, count_after, IsPlaced, Extends}
 use Rattle.sj_job.specs.Names.{scope_in}
@@ -32,7 +33,7 @@ use Rattle.sj_job.specs.Sees.{Sees}
 use Rattle.sj_job.specs.Submits.{done_in, act_noted, Notes, Submits}
 use Rattle.sj_job.proofs.Places.{is-at}
 use Rattle.sj_job.proofs.Seen.{same_scope}
-use Rattle.sj_job.proofs.Sounding.{sound_from_judged, said-built}
+use Rattle.sj_job.proofs.Sounding.{sound_from_judged}
 
 pub weaker_ok : {A E : Type 0} {P Q : A → Type 0} (r : Result A E) → ((a : A) → P a → Q a) → IfOk r P → IfOk r Q
 weaker_ok (Ok a) f h = f a h
@@ -47,16 +48,16 @@ weaker_err (Err e) f h = f e h
 done_from : (Kernel → Bool) → Scope → Result Form Reason → Result Act Reason
 done_from has s r = elim r [ Err why ↦ Err why | Ok g ↦ judged has s g ]
 
-said_whole : (f : Form) → is_numbered f ≡ true → is_built f ≡ true → said_of f ≡ Ok f
-said_whole f n b = λ i. cond (not (n i)) (Err Number) (cond (not (b i)) (Err NotBuilt) (Ok f))
+said_whole : (f : Form) → is_numbered f ≡ true → said_of f ≡ Ok f
+said_whole f n = ap (λ b. cond b (Ok f) (Err Number)) n
 
-pub done_whole : (has : Kernel → Bool) (s : Scope) (f : Form) → is_numbered f ≡ true → is_built f ≡ true → done_in has s f ≡ judged has s f
+pub done_whole : (has : Kernel → Bool) (s : Scope) (f : Form) → is_numbered f ≡ true → done_in has s f ≡ judged has s f
 unfolding done_from
-done_whole has s f n b = ap (done_from has s) (said_whole f n b)
+done_whole has s f n = ap (done_from has s) (said_whole f n)
 
 sound_by : (has : Kernel → Bool) (n : ℕ) (S : State) (f : Form) (act : Act) (r : Result Form Reason) → said_of f ≡ r → (elim r as (λ _. Result Act Reason) [ Err why ↦ Err why | Ok g ↦ judged has (scope_of n S) g ]) ≡ Ok act → IsSoundAct has S act
 sound_by has n S f act (Err why) p e = absurd (cc)
-sound_by has n S f act (Ok g) p e = sound_from_judged has n S g act (said-built f g p).1 e
+sound_by has n S f act (Ok g) p e = sound_from_judged has n S g act e
 
 -- what is done is sound
 pub sound_done : (has : Kernel → Bool) (old : Names) (n : ℕ) (S : State) (f : Form) (act : Act) → Sees old n S → done_in has (scope_in old) f ≡ Ok act → IsSoundAct has S act
@@ -93,7 +94,7 @@ registers has old new a name info init h =
     let said : registered_by a ≡ registration name info init = λ i. registration (sym h.name_is i) (sym h.info_is i) (sym h.init_is i) in
     let seen : act_noted old new (kept.Register init) ≡ Register (registration name info init) = ap (λ (T : Table). act_seen T (length old.roots.names) (kept.Register init)) h.roots ∙ last_seen old.roots name info init h.whole in
     let done : done_in has (scope_in old) (form.Register a) ≡ Ok (Register (registered_by a)) =
-    done_whole has (scope_in old) (form.Register a) h.numbered refl ∙ ap (λ o. unless o (Register (registered_by a))) h.unopposed in
+    done_whole has (scope_in old) (form.Register a) h.numbered ∙ ap (λ o. unless o (Register (registered_by a))) h.unopposed in
     record {
       act = done ∙ ap (λ r. Ok (Register r)) said ∙ ap Ok (sym seen);
       notes = record {
@@ -122,7 +123,6 @@ same_whole old new e h = ap (λ (T : Table). length T.infos) e ∙ h ∙ ap (λ 
 -- what a task needs to have been done
 pub record Runs (has : Kernel → Bool) (old new : Names) (t : TaskForm) (line : KeptTask) : Type 0 where
   pub numbered : is_numbered_task t ≡ true
-  pub built : is_built (form.Task t) ≡ true
   pub judged : judged_task has (scope_in old) t ≡ Ok (Task (task_seen old.roots line))
   pub operands : All (λ o. IsRoot old.roots o.root) line.operands
   pub roots : new.roots ≡ old.roots
@@ -131,7 +131,7 @@ pub record Runs (has : Kernel → Bool) (old new : Names) (t : TaskForm) (line :
 pub runs : (has : Kernel → Bool) (old new : Names) (t : TaskForm) (line : KeptTask) → Runs has old new t line → Submits has old (form.Task t) new (kept.Task line)
 runs has old new t line h =
     let seen : act_noted old new (kept.Task line) ≡ Task (task_seen old.roots line) = ap (λ (T : Table). act_seen T (length old.roots.names) (kept.Task line)) h.roots in
-    let done : done_in has (scope_in old) (form.Task t) ≡ Ok (Task (task_seen old.roots line)) = done_whole has (scope_in old) (form.Task t) h.numbered h.built ∙ h.judged in
+    let done : done_in has (scope_in old) (form.Task t) ≡ Ok (Task (task_seen old.roots line)) = done_whole has (scope_in old) (form.Task t) h.numbered ∙ h.judged in
     record {
       act = done ∙ ap Ok (sym seen);
       notes = record {
@@ -180,6 +180,14 @@ ended has old new q r e none roots sees =
       notes = noted old new (kept.Unregister r) (is-at old.roots q r e).below refl roots (λ n S h. subst (λ (m : List ℕ). Sees new (n + 1) (unregister m S)) (sym named) (sees n S h));
     }
 
+pub reduced : (has : Kernel → Bool) (old new : Names) (q : List ℕ) (by : Reduction) (r : RootNumber) → root_in old.roots q ≡ Some r → first_of (redux_reasons (scope_in old) q) ≡ None → new.roots ≡ old.roots → ((n : ℕ) (S : State) → Sees old n S → Sees new (n + 1) (reduce (name_of old.roots r) by S)) → Submits has old (form.Redux q by) new (kept.Redux r by)
+reduced has old new q by r e none roots sees =
+    let named : name_of new.roots r ≡ name_of old.roots r = ap (λ (T : Table). name_of T r) roots in
+    record {
+      act = ap (λ o. unless o (Redux q by)) none ∙ ap (λ (n : List ℕ). Ok (Redux n by)) (sym (named ∙ named_as old q r e));
+      notes = noted old new (kept.Redux r by) (is-at old.roots q r e).below refl roots (λ n S h. subst (λ (m : List ℕ). Sees new (n + 1) (reduce m by S)) (sym named) (sees n S h));
+    }
+
 -- what a plan line needs to have been done
 pub record Plans (old new : Names) (q r c : List ℕ) (root : RootNumber) (p : Parts) : Type 0 where
   pub there : root_in old.roots q ≡ Some root
@@ -194,7 +202,7 @@ plans has old new q r c root p h =
     let here = named_as old q root h.there in
     let named : name_of new.roots root ≡ name_of old.roots root = ap (λ (T : Table). name_of T root) h.roots in
     let done : done_in has (scope_in old) (form.Plan q r c) ≡ Ok (Plan q p) =
-    done_whole has (scope_in old) (form.Plan q r c) h.numbered refl
+    done_whole has (scope_in old) (form.Plan q r c) h.numbered
     ∙ (λ i. unless (first_of (plan_reasons (scope_in old) q (sym h.parts i))) (Plan q (sym h.parts i)))
     ∙ ap (λ o. unless o (Plan q p)) h.unopposed in
     record {

@@ -1,10 +1,12 @@
 -- A task line's operands with their roots: the reasons are the same.
-use Rattle.std.proofs.Common.{◌≡◌, ℕ, zero, suc, ◌<◌, ◌&&◌, ◌||◌, not, nat_eq, Bool, true, false, List, [], ◌∷◌, length, map, get_or, Option, Some, None, option_map, is_some, cond, refl, ap, sym, subst, ◌∙◌, arith, ℤ, Result, Ok, Err, bytes_eq, unwrap_or}
+use Rattle.std.proofs.Common.{◌≡◌, ℕ, zero, suc, ◌<◌, ◌&&◌, ◌||◌, not, nat_eq, Bool, true, false, List, [], ◌∷◌, length, map, filter, get_or, nat_lt, Option, Some, None, option_map, is_some, cond, refl, ap, sym, subst, ◌∙◌, arith, ℤ, Result, Ok, Err, bytes_eq, unwrap_or}
 use Rattle.std.specs.List.{list_any}
 use Rattle.std.proofs.lemmas.Bool.Decides.{Decides-eqb}
 use Rattle.sj_base.specs.declared.ids.Root.{Root}
 use Rattle.sj_base.specs.declared.tile.Dims.{Dims}
 use Rattle.sj_base.specs.declared.mode.Mode.{Mode}
+use Rattle.sj_base.specs.declared.mode.Reduction.{Reduction}
+use Rattle.sj_base.specs.Mode.{is_redux}
 use Rattle.sj_codelet.specs.declared.kernel.Kernel.{Kernel}
 use Rattle.sj_codelet.specs.declared.formal.Formal.{Formal}
 use Rattle.sj_codelet.specs.Kernel.{codelet_of, formals_of, arguments_of, fits}
@@ -20,7 +22,7 @@ use Rattle.sj_job.specs.declared.names.Standing.{Standing}
 use Rattle.sj_job.specs.declared.names.Standing.TheVariants.{Live, Ended}
 use Rattle.sj_job.specs.declared.names.Names.{Names}
 use Rattle.sj_job.specs.declared.reason.Reason.{Reason}
-use Rattle.sj_job.specs.declared.reason.Reason.TheVariants.{UnknownName, UnknownCodelet, OperandCount, Part, Shape, Aliased, NoValue, Limit, EndedName}
+use Rattle.sj_job.specs.declared.reason.Reason.TheVariants.{UnknownName, UnknownCodelet, OperandCount, Part, Shape, Aliased, NoValue, NoReduction, MixedOutputs, NotLawful, Limit, EndedName}
 use Rattle.sj_job.specs.declared.reason.LimitKind.TheVariants.{Statements, Priority}
 use Rattle.sj_job.specs.Statement.{Operand, TaskLine}
 use Rattle.sj_job.specs.Act.{Act, Task}
@@ -31,8 +33,9 @@ use Rattle.sj_job.specs.State.{is_child}
 use Rattle.sj_job.specs.Table.{name_of, root_in, IsRoot}
 use Rattle.sj_job.specs.Track.{Track, is_set}
 use Rattle.sj_job.specs.View.{operand_seen, task_seen}
-use Rattle.sj_job.specs.Judge.{Known, first_of, is_full, is_priority, is_unknown, is_ended, is_child_said, is_missing, dims_in, modes_fit, mode_fits, is_read_only, clashes, is_aliased, needs_value, is_lacking, is_counted, is_shaped, operand_reasons, kernel_named, judged_by, judged_call, judged_task, unless}
-use Rattle.sj_job.specs.Names.{Found, IsPlaceIn, a_target, any_collide, any_missing, any_over, collide, ended_from, found_at, found_in, is_counted_for, is_over, is_shaped_for, is_wanting, known_by, known_from, known_with, no_child, operand_by, plan_in, scope_in, standing_of, target_by, target_dims, target_in, target_reasons, targets_fit}
+use Rattle.sj_job.specs.Meaning.{is_written, written_of}
+use Rattle.sj_job.specs.Judge.{Known, first_of, is_full, is_priority, is_unknown, is_ended, is_child_said, is_missing, dims_in, modes_fit, mode_fits, is_read_only, clashes, is_aliased, needs_value, is_lacking, is_counted, is_shaped, has_mixed_outputs, is_lawful_for, is_unlawful, is_unordered, lacks_reduction, operand_reasons, reduction_known, kernel_named, judged_by, judged_call, judged_task, unless}
+use Rattle.sj_job.specs.Names.{Found, IsPlaceIn, a_target, any_collide, any_missing, any_over, are_mixed, collide, ended_from, found_at, found_in, is_counted_for, is_over, is_shaped_for, is_unlawful_for, is_unreduced, is_wanting, known_by, known_from, known_with, law_reasons, no_child, operand_by, plan_in, scope_in, standing_of, target_by, target_dims, target_in, target_reasons, targets_fit}
 use Rattle.sj_job.proofs.Children.{place-from_test, said-child}
 use Rattle.sj_job.proofs.Places.{is-at, is-root, same-text, text-itself}
 
@@ -72,7 +75,7 @@ targets names (o ∷ os) ts e = targets_cons names o os ts (found_in names o.nam
 -- ---- unknown names
 
 unknown_by : (d : Dims) (st : Standing) → (not (is_some (known_by d st)) && not (is_over st)) ≡ false
-unknown_by d (Live t) = refl
+unknown_by d (Live t by) = refl
 unknown_by d Ended = refl
 
 pub known_found : (names : Names) (q : List ℕ) (f : Found) → found_in names q ≡ Some f → is_unknown (scope_in names) q ≡ false
@@ -112,8 +115,8 @@ over_by true x y e f = e
 over_by false x y e f = f
 
 over_target : (r : Root) (d : Dims) (m : Mode) (index : Option (ℕ × ℕ)) (st : Standing) → is_over st ≡ (target_by r d m index st).over
-over_target r d m index (Live t) =
-    sym (over_by (is_child_said t.parts index) (a_target r m false false (unwrap_or index (0, 0)) (dims_of (child d t.parts (unwrap_or index (0, 0)))) (is_set t (unwrap_or index (0, 0)))) (no_child r m false) refl refl)
+over_target r d m index (Live t by) =
+    sym (over_by (is_child_said t.parts index) (a_target r m false false (unwrap_or index (0, 0)) (dims_of (child d t.parts (unwrap_or index (0, 0)))) (is_set t (unwrap_or index (0, 0))) by) (no_child r m false) refl refl)
 over_target r d m index Ended = refl
 
 missing_by : (b : Bool) (x y : Target) → x.missing ≡ false → y.missing ≡ true → not b ≡ (cond b x y).missing
@@ -124,24 +127,25 @@ abbrev lost : Option (ℕ × ℕ) → Option Known → Bool
 lost index o = elim o as (λ _. Bool) [ None ↦ false | Some k ↦ not (is_child_said k.parts index) ]
 
 missing_target : (r : Root) (d : Dims) (m : Mode) (index : Option (ℕ × ℕ)) (st : Standing) → lost index (known_by d st) ≡ (target_by r d m index st).missing
-missing_target r d m index (Live t) =
-    missing_by (is_child_said t.parts index) (a_target r m false false (unwrap_or index (0, 0)) (dims_of (child d t.parts (unwrap_or index (0, 0)))) (is_set t (unwrap_or index (0, 0)))) (no_child r m false) refl refl
+missing_target r d m index (Live t by) =
+    missing_by (is_child_said t.parts index) (a_target r m false false (unwrap_or index (0, 0)) (dims_of (child d t.parts (unwrap_or index (0, 0)))) (is_set t (unwrap_or index (0, 0))) by) (no_child r m false) refl refl
 missing_target r d m index Ended = refl
 
 -- a child of an active plan
 record IsChildOf (r : Root) (d : Dims) (m : Mode) (index : Option (ℕ × ℕ)) (st : Standing) (t : Target) : Type 0 where
   track : Track
-  live : st ≡ Live track
+  by : Option Reduction
+  live : st ≡ Live track by
   said : is_child_said track.parts index ≡ true
-  is : t ≡ a_target r m false false (unwrap_or index (0, 0)) (dims_of (child d track.parts (unwrap_or index (0, 0)))) (is_set track (unwrap_or index (0, 0)))
+  is : t ≡ a_target r m false false (unwrap_or index (0, 0)) (dims_of (child d track.parts (unwrap_or index (0, 0)))) (is_set track (unwrap_or index (0, 0))) by
 
-child_by : (r : Root) (d : Dims) (m : Mode) (index : Option (ℕ × ℕ)) (track : Track) (b : Bool) → is_child_said track.parts index ≡ b
-    → let t = cond b (a_target r m false false (unwrap_or index (0, 0)) (dims_of (child d track.parts (unwrap_or index (0, 0)))) (is_set track (unwrap_or index (0, 0)))) (no_child r m false) in t.missing ≡ false → IsChildOf r d m index (Live track) t
-child_by r d m index track true e h = record { track = track; live = refl; said = e; is = refl }
-child_by r d m index track false e h = absurd (cc)
+child_by : (r : Root) (d : Dims) (m : Mode) (index : Option (ℕ × ℕ)) (track : Track) (by : Option Reduction) (b : Bool) → is_child_said track.parts index ≡ b
+    → let t = cond b (a_target r m false false (unwrap_or index (0, 0)) (dims_of (child d track.parts (unwrap_or index (0, 0)))) (is_set track (unwrap_or index (0, 0))) by) (no_child r m false) in t.missing ≡ false → IsChildOf r d m index (Live track by) t
+child_by r d m index track by true e h = record { track = track; by = by; live = refl; said = e; is = refl }
+child_by r d m index track by false e h = absurd (cc)
 
 child_target : (r : Root) (d : Dims) (m : Mode) (index : Option (ℕ × ℕ)) (st : Standing) → (target_by r d m index st).over ≡ false → (target_by r d m index st).missing ≡ false → IsChildOf r d m index st (target_by r d m index st)
-child_target r d m index (Live t) e h = child_by r d m index t (is_child_said t.parts index) refl h
+child_target r d m index (Live t by) e h = child_by r d m index t by (is_child_said t.parts index) refl h
 child_target r d m index Ended e h = absurd (cc)
 
 -- an operand that is a child, with its target
@@ -212,7 +216,7 @@ fit_same names (f ∷ fs) (o ∷ os) [] h = absurd h
 fit_same names (f ∷ fs) (o ∷ os) (t ∷ ts) h = λ i. mode_fits f (mode_same names o t h.0 i) && fit_same names fs os ts h.1 i
 
 -- what is known of a child's root
-known_live : (names : Names) (o : OperandForm) (t : Target) (h : IsLive names o t) → known_from (found_in names o.name) ≡ Some (known_with h.of.dims h.child.track)
+known_live : (names : Names) (o : OperandForm) (t : Target) (h : IsLive names o t) → known_from (found_in names o.name) ≡ Some (known_with h.of.dims h.child.track h.child.by)
 known_live names o t h = ap known_from h.found ∙ ap (known_by h.of.dims) h.child.live
 
 dims_same : (names : Names) (os : List OperandForm) (ts : List Target) → AreLive names os ts → map (dims_in (scope_in names)) (map operand_said os) ≡ target_dims ts
@@ -240,6 +244,46 @@ wanting_same names (o ∷ os) (t ∷ ts) h =
     ∙ valued_when (is_child c.track.parts (place_said o)) (is_set c.track (place_said o)) (said-child c.track.parts (index_said o.child) c.said)
     ∙ sym (ap (λ (u : Target). not u.valued) c.is) in
     λ i. (needs_value (mode_same names o t h.0 i) && lacks i) || wanting_same names os ts h.1 i
+
+-- ---- reductions and laws
+
+reduction_same : (names : Names) (o : OperandForm) (t : Target) → IsLive names o t → reduction_known (scope_in names) o.name ≡ t.reduction
+reduction_same names o t h =
+    ap (λ (k : Option Known). elim k as (λ _. Option Reduction) [ None ↦ None | Some k ↦ k.reduction ]) (known_live names o t h)
+    ∙ sym (ap (λ (u : Target). u.reduction) h.child.is)
+
+unreduced_same : (names : Names) (os : List OperandForm) (ts : List Target) → AreLive names os ts → list_any (lacks_reduction (scope_in names)) (map operand_said os) ≡ list_any is_unreduced ts
+unreduced_same names [] [] h = refl
+unreduced_same names [] (t ∷ ts) h = absurd h
+unreduced_same names (o ∷ os) [] h = absurd h
+unreduced_same names (o ∷ os) (t ∷ ts) h = λ i. (is_redux (mode_same names o t h.0 i) && not (is_some (reduction_same names o t h.0 i))) || unreduced_same names os ts h.1 i
+
+unordered_same : (names : Names) (os : List OperandForm) (ts : List Target) → AreLive names os ts → list_any (λ o. is_unordered o.mode) (map operand_said os) ≡ list_any (λ t. is_unordered t.mode) ts
+unordered_same names [] [] h = refl
+unordered_same names [] (t ∷ ts) h = absurd h
+unordered_same names (o ∷ os) [] h = absurd h
+unordered_same names (o ∷ os) (t ∷ ts) h = λ i. is_unordered (mode_same names o t h.0 i) || unordered_same names os ts h.1 i
+
+count_by : (b : Bool) (o : Operand) (os : List Operand) (t : Target) (ts : List Target) → length os ≡ length ts → length (cond b (o ∷ os) os) ≡ length (cond b (t ∷ ts) ts)
+count_by true o os t ts e = ap suc e
+count_by false o os t ts e = e
+
+written_same : (names : Names) (os : List OperandForm) (ts : List Target) → AreLive names os ts → length (written_of (map operand_said os)) ≡ length (filter (λ t. is_written t.mode) ts)
+written_same names [] [] h = refl
+written_same names [] (t ∷ ts) h = absurd h
+written_same names (o ∷ os) [] h = absurd h
+written_same names (o ∷ os) (t ∷ ts) h =
+    ap (λ m. length (cond (is_written m) (operand_said o ∷ written_of (map operand_said os)) (written_of (map operand_said os)))) (mode_same names o t h.0)
+    ∙ count_by (is_written t.mode) (operand_said o) (written_of (map operand_said os)) t (filter (λ t. is_written t.mode) ts) (written_same names os ts h.1)
+
+mixed_same : (names : Names) (os : List OperandForm) (ts : List Target) → AreLive names os ts → has_mixed_outputs (map operand_said os) ≡ are_mixed ts
+mixed_same names os ts h = λ i. unordered_same names os ts h i && nat_lt 1 (written_same names os ts h i)
+
+unlawful_same : (has : Kernel → Bool) (k : Kernel) (names : Names) (os : List OperandForm) (ts : List Target) → AreLive names os ts → list_any (is_unlawful has (scope_in names) k) (map operand_said os) ≡ list_any (is_unlawful_for has k) ts
+unlawful_same has k names [] [] h = refl
+unlawful_same has k names [] (t ∷ ts) h = absurd h
+unlawful_same has k names (o ∷ os) [] h = absurd h
+unlawful_same has k names (o ∷ os) (t ∷ ts) h = λ i. not (is_lawful_for has (codelet_of k) (reduction_same names o t h.0 i) (mode_same names o t h.0 i)) || unlawful_same has k names os ts h.1 i
 
 -- ---- names and roots
 
@@ -321,42 +365,46 @@ kept_at names (o ∷ os) [] k d h lt = absurd h
 kept_at names (o ∷ os) (t ∷ ts) zero d h lt = kept_by names o t h.0
 kept_at names (o ∷ os) (t ∷ ts) (suc k) d h lt = kept_at names os ts k d h.1 (omega arith)
 
-no_part : (k : Kernel) (args : List ℤ) (ts : List Target) (a b : Bool) (rest : Option Reason) → cond a (Some OperandCount) (cond b (Some Part) rest) ≡ None → b ≡ false
-no_part k args ts true b rest e = absurd (cc)
-no_part k args ts false true rest e = absurd (cc)
-no_part k args ts false false rest e = refl
+no_part : (a b : Bool) (rest : Option Reason) → cond a (Some OperandCount) (cond b (Some Part) rest) ≡ None → b ≡ false
+no_part true b rest e = absurd (cc)
+no_part false true rest e = absurd (cc)
+no_part false false rest e = refl
 
-unmissed : (k : Kernel) (args : List ℤ) (ts : List Target) → first_of (target_reasons k args ts) ≡ None → any_missing ts ≡ false
-unmissed k args ts e =
-    no_part k args ts (not (is_counted_for k args ts)) (any_missing ts) (first_of ((not (is_shaped_for k args ts), Shape) ∷ (any_collide ts, Aliased) ∷ (list_any is_wanting ts, NoValue) ∷ [])) e
+unmissed : (has : Kernel → Bool) (k : Kernel) (args : List ℤ) (ts : List Target) → first_of (target_reasons has k args ts) ≡ None → any_missing ts ≡ false
+unmissed has k args ts e =
+    no_part (not (is_counted_for k args ts)) (any_missing ts) (first_of ((not (is_shaped_for k args ts), Shape) ∷ (any_collide ts, Aliased) ∷ law_reasons has k ts)) e
 
-pub all-kept : (names : Names) (os : List OperandForm) (ts : List Target) (kernel : Kernel) (args : List ℤ) (k : ℕ) (d : Access) → each_some (target_in names) os ≡ Some ts → any_over ts ≡ false → first_of (target_reasons kernel args ts) ≡ None → k < length (map operand_by ts) → IsKept names (get_or (map operand_by ts) k d)
-all-kept names os ts kernel args k d e over none lt = kept_at names os ts k d (lives names os ts (targets names os ts e) over (unmissed kernel args ts none)) lt
+pub all-kept : (has : Kernel → Bool) (names : Names) (os : List OperandForm) (ts : List Target) (kernel : Kernel) (args : List ℤ) (k : ℕ) (d : Access) → each_some (target_in names) os ≡ Some ts → any_over ts ≡ false → first_of (target_reasons has kernel args ts) ≡ None → k < length (map operand_by ts) → IsKept names (get_or (map operand_by ts) k d)
+all-kept has names os ts kernel args k d e over none lt = kept_at names os ts k d (lives names os ts (targets names os ts e) over (unmissed has kernel args ts none)) lt
 
 -- ---- a task line
 
-abbrev rest_of : Bool → Bool → Bool → Option Reason
-rest_of shaped aliased wanting = first_of ((not shaped, Shape) ∷ (aliased, Aliased) ∷ (wanting, NoValue) ∷ [])
+abbrev rest_of : Bool → Bool → Bool → Bool → Bool → Bool → Option Reason
+rest_of shaped aliased wanting unreduced mixed unlawful =
+    first_of ((not shaped, Shape) ∷ (aliased, Aliased) ∷ (wanting, NoValue) ∷ (unreduced, NoReduction) ∷ (mixed, MixedOutputs) ∷ (unlawful, NotLawful) ∷ [])
 
 behind_part : (b : Bool) (x y : Option Reason) → (b ≡ false → x ≡ y) → cond b (Some Part) x ≡ cond b (Some Part) y
 behind_part true x y h = refl
 behind_part false x y h = h refl
 
-reasons_same : (names : Names) (k : Kernel) (args : List ℤ) (os : List OperandForm) (ts : List Target) → AreTargets names os ts → any_over ts ≡ false → first_of (operand_reasons (scope_in names) k args os (map operand_said os)) ≡ first_of (target_reasons k args ts)
-reasons_same names k args os ts h e =
+reasons_same : (has : Kernel → Bool) (names : Names) (k : Kernel) (args : List ℤ) (os : List OperandForm) (ts : List Target) → AreTargets names os ts → any_over ts ≡ false → first_of (operand_reasons has (scope_in names) k args os (map operand_said os)) ≡ first_of (target_reasons has k args ts)
+reasons_same has names k args os ts h e =
     let said = map operand_said os in
+    let s = scope_in names in
     let counted : is_counted k args said ≡ is_counted_for k args ts = ap (λ n. nat_eq (length args) (arguments_of k) && nat_eq n (length (formals_of k))) (length_same names os ts h) in
-    let rest : any_missing ts ≡ false → rest_of (is_shaped (scope_in names) k args said) (is_aliased said) (list_any (is_lacking (scope_in names)) said) ≡ rest_of (is_shaped_for k args ts) (any_collide ts) (list_any is_wanting ts) =
+    let behind = rest_of (is_shaped s k args said) (is_aliased said) (list_any (is_lacking s) said) (list_any (lacks_reduction s) said) (has_mixed_outputs said) (list_any (is_unlawful has s k) said) in
+    let rest : any_missing ts ≡ false → behind ≡ rest_of (is_shaped_for k args ts) (any_collide ts) (list_any is_wanting ts) (list_any is_unreduced ts) (are_mixed ts) (list_any (is_unlawful_for has k) ts) =
     λ f. let l = lives names os ts h e f in
-    λ i. rest_of (fit_same names (formals_of k) os ts l i && fits k args (dims_same names os ts l i)) (aliased_same names os ts l i) (wanting_same names os ts l i) in
-    (λ i. cond (not (counted i)) (Some OperandCount) (cond (missing_same names os ts h i) (Some Part) (rest_of (is_shaped (scope_in names) k args said) (is_aliased said) (list_any (is_lacking (scope_in names)) said))))
+    λ i. rest_of (fit_same names (formals_of k) os ts l i && fits k args (dims_same names os ts l i)) (aliased_same names os ts l i) (wanting_same names os ts l i)
+    (unreduced_same names os ts l i) (mixed_same names os ts l i) (unlawful_same has k names os ts l i) in
+    (λ i. cond (not (counted i)) (Some OperandCount) (cond (missing_same names os ts h i) (Some Part) behind))
     ∙ ap (cond (not (is_counted_for k args ts)) (Some OperandCount)) (behind_part (any_missing ts) _ _ rest)
 
 abbrev line_first : Bool → Bool → Bool → Bool → Option Reason
 line_first full early unknown ended = first_of ((full, Limit Statements) ∷ (early, Limit Priority) ∷ (unknown, UnknownName) ∷ (ended, EndedName) ∷ [])
 
 abbrev by_line : (Kernel → Bool) → Names → TaskForm → Option Reason → Result Act Reason
-by_line has names form o = judged_by o (judged_call (scope_in names) (kernel_named has form.codelet) form)
+by_line has names form o = judged_by o (judged_call has (scope_in names) (kernel_named has form.codelet) form)
 
 pub task-full : (has : Kernel → Bool) (names : Names) (form : TaskForm) → is_full (scope_in names) ≡ true → judged_task has (scope_in names) form ≡ Err (Limit Statements)
 task-full has names form full = ap (λ b. by_line has names form (line_first b (not (is_priority (priority_said form.priority))) (list_any (λ o. is_unknown (scope_in names) o.name) (operands_said form)) (list_any (λ o. is_ended (scope_in names) o.name) (operands_said form)))) full
@@ -379,31 +427,31 @@ task-ended has names form ts h over =
     let ended = ended_same names form.operands ts a ∙ over in
     λ i. by_line has names form (line_first (h.full i) (not (h.early i)) (all_known names form.operands ts a i) (ended i))
 
-in_line : (has : Kernel → Bool) (names : Names) (form : TaskForm) (ts : List Target) (o : Option Kernel) → IsInLine names form ts → any_over ts ≡ false → kernel_named has form.codelet ≡ o → judged_task has (scope_in names) form ≡ judged_call (scope_in names) o form
+in_line : (has : Kernel → Bool) (names : Names) (form : TaskForm) (ts : List Target) (o : Option Kernel) → IsInLine names form ts → any_over ts ≡ false → kernel_named has form.codelet ≡ o → judged_task has (scope_in names) form ≡ judged_call has (scope_in names) o form
 in_line has names form ts o h over named =
     let a = targets names form.operands ts h.found in
     let ended = ended_same names form.operands ts a ∙ over in
-    λ i. judged_by (line_first (h.full i) (not (h.early i)) (all_known names form.operands ts a i) (ended i)) (judged_call (scope_in names) (named i) form)
+    λ i. judged_by (line_first (h.full i) (not (h.early i)) (all_known names form.operands ts a i) (ended i)) (judged_call has (scope_in names) (named i) form)
 
 pub task-codelet : (has : Kernel → Bool) (names : Names) (form : TaskForm) (ts : List Target) → IsInLine names form ts → any_over ts ≡ false → kernel_named has form.codelet ≡ None → judged_task has (scope_in names) form ≡ Err UnknownCodelet
 task-codelet has names form ts h over named = in_line has names form ts None h over named
 
-called : (has : Kernel → Bool) (names : Names) (form : TaskForm) (ts : List Target) (k : Kernel) (why : Option Reason) → IsInLine names form ts → any_over ts ≡ false → kernel_named has form.codelet ≡ Some k → first_of (target_reasons k (map integer form.args) ts) ≡ why → judged_task has (scope_in names) form ≡ unless why (Task (task_said k form))
+called : (has : Kernel → Bool) (names : Names) (form : TaskForm) (ts : List Target) (k : Kernel) (why : Option Reason) → IsInLine names form ts → any_over ts ≡ false → kernel_named has form.codelet ≡ Some k → first_of (target_reasons has k (map integer form.args) ts) ≡ why → judged_task has (scope_in names) form ≡ unless why (Task (task_said k form))
 called has names form ts k why h over named e =
     let a = targets names form.operands ts h.found in
     in_line has names form ts (Some k) h over named
-    ∙ ap (λ o. unless o (Task (task_said k form))) (reasons_same names k (map integer form.args) form.operands ts a over)
+    ∙ ap (λ o. unless o (Task (task_said k form))) (reasons_same has names k (map integer form.args) form.operands ts a over)
     ∙ ap (λ o. unless o (Task (task_said k form))) e
 
-pub task-why : (has : Kernel → Bool) (names : Names) (form : TaskForm) (ts : List Target) (k : Kernel) (why : Reason) → IsInLine names form ts → any_over ts ≡ false → kernel_named has form.codelet ≡ Some k → first_of (target_reasons k (map integer form.args) ts) ≡ Some why → judged_task has (scope_in names) form ≡ Err why
+pub task-why : (has : Kernel → Bool) (names : Names) (form : TaskForm) (ts : List Target) (k : Kernel) (why : Reason) → IsInLine names form ts → any_over ts ≡ false → kernel_named has form.codelet ≡ Some k → first_of (target_reasons has k (map integer form.args) ts) ≡ Some why → judged_task has (scope_in names) form ≡ Err why
 task-why has names form ts k why h over named e = called has names form ts k (Some why) h over named e
 
-pub task-ok : (has : Kernel → Bool) (names : Names) (form : TaskForm) (ts : List Target) (k : Kernel) (args : List ℤ) (os : List Access) (p : ℤ) → IsInLine names form ts → any_over ts ≡ false → kernel_named has form.codelet ≡ Some k → first_of (target_reasons k (map integer form.args) ts) ≡ None
+pub task-ok : (has : Kernel → Bool) (names : Names) (form : TaskForm) (ts : List Target) (k : Kernel) (args : List ℤ) (os : List Access) (p : ℤ) → IsInLine names form ts → any_over ts ≡ false → kernel_named has form.codelet ≡ Some k → first_of (target_reasons has k (map integer form.args) ts) ≡ None
     → args ≡ map integer form.args → os ≡ map operand_by ts → p ≡ priority_said form.priority
     → let t : KeptTask = record { kernel = k; args = args; operands = os; priority = p } in judged_task has (scope_in names) form ≡ Ok (Task (task_seen names.roots t))
 task-ok has names form ts k args os p h over named e ea eo ep =
     let a = targets names form.operands ts h.found in
-    let same : map (operand_seen names.roots) os ≡ operands_said form = ap (map (operand_seen names.roots)) eo ∙ seen_same names form.operands ts (lives names form.operands ts a over (unmissed k (map integer form.args) ts e)) in
+    let same : map (operand_seen names.roots) os ≡ operands_said form = ap (map (operand_seen names.roots)) eo ∙ seen_same names form.operands ts (lives names form.operands ts a over (unmissed has k (map integer form.args) ts e)) in
     let line : List ℤ → List Operand → ℤ → TaskLine = λ args os p. record { codelet = codelet_of k; args = args; operands = os; priority = p } in
     called has names form ts k None h over named e
     ∙ (λ i. Ok (Task (line (sym ea i) (sym same i) (sym ep i))))

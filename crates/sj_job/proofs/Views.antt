@@ -8,7 +8,7 @@ use Rattle.sj_job.specs.declared.job.Act.{Act as KeptAct}
 use Rattle.sj_job.specs.declared.job.Act.TheVariants as kept
 use Rattle.sj_job.specs.declared.job.Statement.{Statement as Kept}
 use Rattle.sj_job.specs.Statement.{Operand, TaskLine}
-use Rattle.sj_job.specs.Act.{Act, Register, Plan, Task, Print, Invalidate, Unregister, Statement}
+use Rattle.sj_job.specs.Act.{Act, Register, Plan, Redux, Task, Print, Invalidate, Unregister, Statement}
 use Rattle.sj_job.specs.Table.{Table, table, a_root, no_info, name_of}
 use Rattle.sj_job.specs.View.{operand_seen, registration, act_seen, statement_seen, seen_from, count_after, count_from, IsPlaced, ArePlaced, Extends}
 use Rattle.sj_codelet.specs.Kernel.{codelet_of}
@@ -18,6 +18,7 @@ use Rattle.sj_codelet.specs.Kernel.{codelet_of}
 pub count-grows : (k : ℕ) (a : KeptAct) → k ≤ count_after k a
 count-grows k (kept.Register init) = omega arith
 count-grows k (kept.Plan r p) = omega arith
+count-grows k (kept.Redux r by) = omega arith
 count-grows k (kept.Task t) = omega arith
 count-grows k (kept.Print r) = omega arith
 count-grows k (kept.Invalidate r) = omega arith
@@ -63,6 +64,7 @@ act-kept T names infos k (kept.Register init) e le h =
     let in_infos : k < length T.infos = omega arith in
     λ i. Register (registration (name-kept T names infos (a_root k) in_names i) (get_or_append_left T.infos infos no_info k in_infos i) init)
 act-kept T names infos k (kept.Plan r p) e le h = ap (λ n. Plan n p) (name-kept T names infos r (omega arith))
+act-kept T names infos k (kept.Redux r by) e le h = ap (λ n. Redux n by) (name-kept T names infos r (omega arith))
 act-kept T names infos k (kept.Task t) e le h =
     let line : List Operand → TaskLine = λ os. record { codelet = codelet_of t.kernel; args = t.args; operands = os; priority = t.priority } in
     ap (λ os. Task (line os)) (operands-kept T names infos t.operands (all_within t.operands k (length T.names) le h))

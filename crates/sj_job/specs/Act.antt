@@ -1,6 +1,7 @@
 -- The statements of a job as contracts see them.
 use Rattle.std.specs.Prelude.{ℕ, List}
 use Rattle.sj_base.specs.declared.ids.Line.{Line}
+use Rattle.sj_base.specs.declared.mode.Reduction.{Reduction}
 use Rattle.sj_plan.specs.declared.parts.Parts.{Parts}
 use Rattle.sj_job.specs.Statement.{Register as Registration, TaskLine}
 
@@ -8,6 +9,7 @@ use Rattle.sj_job.specs.Statement.{Register as Registration, TaskLine}
 pub data Act : Type 0 where
   Register : Registration → Act
   Plan : List ℕ → Parts → Act
+  Redux : List ℕ → Reduction → Act
   Task : TaskLine → Act
   Print : List ℕ → Act
   Invalidate : List ℕ → Act

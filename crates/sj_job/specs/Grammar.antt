@@ -13,7 +13,7 @@ use Rattle.sj_job.specs.declared.reason.Reason.{Reason}
 use Rattle.sj_job.specs.declared.reason.Reason.TheVariants as reason
 use Rattle.sj_job.specs.Word.{is_name}
 use Rattle.sj_job.specs.Form.{reduction_word, mode_word, is_bracket}
-use Rattle.sj_job.specs.Sentence.{is_numbered, is_built}
+use Rattle.sj_job.specs.Sentence.{is_numbered}
 
 -- ---- how a form is written
 
@@ -99,11 +99,10 @@ pub record Spells (ws : List (List ℕ)) (f : Form) : Type 0 where
 
 -- ---- what a statement line says
 
--- the words say a form: they spell it, with numbers where it has numbers, and it is read
+-- the words say a form: they spell it, with numbers where it has numbers
 pub record SaysForm (ws : List (List ℕ)) (f : Form) : Type 0 where
   pub spelled : Spells ws f
   pub numbered : IsTrue (is_numbered f)
-  pub built : IsTrue (is_built f)
 
 -- a form, but a word or a piece in the place of a number says none
 pub record LacksNumber (ws : List (List ℕ)) : Type 0 where
@@ -111,17 +110,9 @@ pub record LacksNumber (ws : List (List ℕ)) : Type 0 where
   pub spelled : Spells ws form
   pub unnumbered : IsTrue (not (is_numbered form))
 
--- a form with its numbers that this version doesn't read
-pub record LacksBuilding (ws : List (List ℕ)) : Type 0 where
-  pub form : Form
-  pub spelled : Spells ws form
-  pub numbered : IsTrue (is_numbered form)
-  pub unbuilt : IsTrue (not (is_built form))
-
 -- what these words say: a form, or why they say none
 abbrev pub Says : List (List ℕ) → Result Form Reason → Type 0
 Says ws (Ok f) = SaysForm ws f
 Says ws (Err reason.Word) = (f : Form) → ¬ (Spells ws f)
 Says ws (Err reason.Number) = LacksNumber ws
-Says ws (Err reason.NotBuilt) = LacksBuilding ws
 Says ws (Err why) = ⊥

@@ -6,10 +6,13 @@ use Rattle.std.specs.Str.{bytes_eq}
 use Rattle.sj_base.specs.declared.tile.Dims.{Dims}
 use Rattle.sj_base.specs.declared.mode.Mode.{Mode}
 use Rattle.sj_base.specs.declared.mode.Mode.TheVariants.{R, W, RW, Scratch, Redux, Commute}
+use Rattle.sj_base.specs.declared.mode.Reduction.{Reduction}
+use Rattle.sj_base.specs.declared.program.Codelet.{Codelet}
+use Rattle.sj_base.specs.Mode.{is_redux, is_commute}
 use Rattle.sj_codelet.specs.declared.kernel.Kernel.{Kernel}
 use Rattle.sj_codelet.specs.declared.formal.Formal.{Formal}
 use Rattle.sj_codelet.specs.declared.formal.Formal.TheVariants.{R as FormalR, W as FormalW, RW as FormalRW, Scratch as FormalScratch}
-use Rattle.sj_codelet.specs.Kernel.{kernels, has_name, arguments_of, formals_of, fits}
+use Rattle.sj_codelet.specs.Kernel.{kernels, has_name, codelet_of, arguments_of, formals_of, fits, commutes_in, contributes_in}
 use Rattle.sj_plan.specs.declared.parts.Parts.{Parts}
 use Rattle.sj_plan.specs.Paste.{same_place}
 use Rattle.sj_plan.specs.Rect.{child, dims_of}
@@ -17,28 +20,30 @@ use Rattle.sj_job.specs.declared.job.Init.{Init}
 use Rattle.sj_job.specs.declared.job.Init.TheVariants.{Values, Fill, Nothing}
 use Rattle.sj_job.specs.Statement.{Operand}
 use Rattle.sj_job.specs.Act.{Act}
-use Rattle.sj_job.specs.Act.{Register as Registers, Plan as Plans, Task as Tasks, Print as Prints, Invalidate as Invalidates, Unregister as Unregisters}
+use Rattle.sj_job.specs.Act.{Register as Registers, Plan as Plans, Redux as Reduces, Task as Tasks, Print as Prints, Invalidate as Invalidates, Unregister as Unregisters}
 use Rattle.sj_job.specs.declared.form.OperandForm.{OperandForm}
 use Rattle.sj_job.specs.declared.form.TaskForm.{TaskForm}
 use Rattle.sj_job.specs.declared.form.Form.{Form}
 use Rattle.sj_job.specs.declared.form.Form.TheVariants as form
 use Rattle.sj_job.specs.declared.reason.Reason.{Reason}
-use Rattle.sj_job.specs.declared.reason.Reason.TheVariants.{UnknownName, TakenName, UnknownCodelet, OperandCount, Part, Shape, Aliased, NoValue, Limit, EndedName, NotBuilt}
+use Rattle.sj_job.specs.declared.reason.Reason.TheVariants.{UnknownName, TakenName, UnknownCodelet, OperandCount, Part, Shape, Aliased, NoValue, NoReduction, MixedOutputs, NotLawful, Limit, EndedName}
 use Rattle.sj_job.specs.declared.reason.LimitKind.TheVariants.{Statements, Names, Elements, Parts as PartsLimit, Priority}
 use Rattle.sj_job.specs.Sentence.{init_said, parts_said, index_said, registered_by, operands_said, priority_said, task_said}
+use Rattle.sj_job.specs.Meaning.{written_of}
 use Rattle.sj_job.specs.State.{Root, State, root_of, is_valued, is_blank, is_child, is_valued_child}
 
--- what the reasons look at in a root: whether all its elements have a value, whether none has, and which children of the
--- active plan have one at each element
+-- what the reasons look at in a root: its reduction, whether all its elements have a value, whether none has, and which
+-- children of the active plan have one at each element
 pub record Known : Type 0 where
   pub dims : Dims
   pub parts : Parts
+  pub reduction : Option Reduction
   pub all : Bool
   pub none : Bool
   pub child : ℕ × ℕ → Bool
 
 abbrev pub known_of : Root → Known
-known_of r = record { dims = r.dims; parts = r.parts; all = is_valued r; none = is_blank r; child = is_valued_child r }
+known_of r = record { dims = r.dims; parts = r.parts; reduction = r.reduction; all = is_valued r; none = is_blank r; child = is_valued_child r }
 
 -- how many statements stand before a line, how many names were registered, whether a name was ended,
 -- what is known of the others
@@ -131,6 +136,19 @@ plan_reasons s name p =
     ∷ (is_mixed s name, NoValue)
     ∷ []
 
+-- the reduction of a name
+abbrev pub reduction_known : Scope → List ℕ → Option Reduction
+reduction_known s name = elim (s.known name) [ None ↦ None | Some k ↦ k.reduction ]
+
+-- a name has one reduction, for good
+abbrev pub redux_reasons : Scope → List ℕ → List (Bool × Reason)
+redux_reasons s name =
+    (is_full s, Limit Statements)
+    ∷ (is_unknown s name, UnknownName)
+    ∷ (is_ended s name, EndedName)
+    ∷ (is_some (reduction_known s name), TakenName)
+    ∷ []
+
 -- arguments and operands are as many as the codelet has
 abbrev pub is_counted : Kernel → List ℤ → List Operand → Bool
 is_counted k args os = nat_eq (length args) (arguments_of k) && nat_eq (length os) (length (formals_of k))
@@ -196,14 +214,38 @@ child_lacks_value s o = elim (s.known o.name) [ None ↦ false | Some k ↦ not 
 abbrev pub is_lacking : Scope → Operand → Bool
 is_lacking s o = needs_value o.mode && child_lacks_value s o
 
+-- a contribution to a name without a reduction
+abbrev pub lacks_reduction : Scope → Operand → Bool
+lacks_reduction s o = is_redux o.mode && not (is_some (reduction_known s o.name))
+
+-- contributions and commuting accesses, which may come in any order
+abbrev pub is_unordered : Mode → Bool
+is_unordered m = is_redux m || is_commute m
+
+-- one of them stands beside another written operand
+abbrev pub has_mixed_outputs : List Operand → Bool
+has_mixed_outputs os = list_any (λ o. is_unordered o.mode) os && nat_lt 1 (length (written_of os))
+
+-- runs of a commuting access's codelet may change places, and a contribution's adds to what the reduction combines
+abbrev pub is_lawful_for : (Kernel → Bool) → Codelet → Option Reduction → Mode → Bool
+is_lawful_for has id by m =
+    (not (is_commute m) || commutes_in has id)
+    && (not (is_redux m) || elim by [ None ↦ false | Some by ↦ contributes_in has id by ])
+
+abbrev pub is_unlawful : (Kernel → Bool) → Scope → Kernel → Operand → Bool
+is_unlawful has s k o = not (is_lawful_for has (codelet_of k) (reduction_known s o.name) o.mode)
+
 -- the operands' own conditions, for a codelet of the table
-abbrev pub operand_reasons : Scope → Kernel → List ℤ → List OperandForm → List Operand → List (Bool × Reason)
-operand_reasons s k args forms os =
+abbrev pub operand_reasons : (Kernel → Bool) → Scope → Kernel → List ℤ → List OperandForm → List Operand → List (Bool × Reason)
+operand_reasons has s k args forms os =
     (not (is_counted k args os), OperandCount)
     ∷ (list_any (is_missing s) forms, Part)
     ∷ (not (is_shaped s k args os), Shape)
     ∷ (is_aliased os, Aliased)
     ∷ (list_any (is_lacking s) os, NoValue)
+    ∷ (list_any (lacks_reduction s) os, NoReduction)
+    ∷ (has_mixed_outputs os, MixedOutputs)
+    ∷ (list_any (is_unlawful has s k) os, NotLawful)
     ∷ []
 
 -- a priority from -1000 to 1000
@@ -245,10 +287,10 @@ abbrev pub kernel_named : (Kernel → Bool) → List ℕ → Option Kernel
 kernel_named has name = find (λ k. has k && has_name name k) kernels
 
 -- what the codelet's conditions leave of a task
-abbrev pub judged_call : Scope → Option Kernel → TaskForm → Result Act Reason
-judged_call s None t = Err UnknownCodelet
-judged_call s (Some k) t =
-    unless (first_of (operand_reasons s k (task_said k t).args t.operands (operands_said t))) (Tasks (task_said k t))
+abbrev pub judged_call : (Kernel → Bool) → Scope → Option Kernel → TaskForm → Result Act Reason
+judged_call has s None t = Err UnknownCodelet
+judged_call has s (Some k) t =
+    unless (first_of (operand_reasons has s k (task_said k t).args t.operands (operands_said t))) (Tasks (task_said k t))
 
 -- what the reasons before the codelet's leave
 abbrev pub judged_by : Option Reason → Result Act Reason → Result Act Reason
@@ -258,15 +300,15 @@ judged_by (Some why) r = Err why
 abbrev pub judged_task : (Kernel → Bool) → Scope → TaskForm → Result Act Reason
 judged_task has s t =
     judged_by (first_of (line_reasons s (priority_said t.priority) (operands_said t)))
-    (judged_call s (kernel_named has t.codelet) t)
+    (judged_call has s (kernel_named has t.codelet) t)
 
--- what a form that is built does, or the first reason against it
+-- what a form does, or the first reason against it
 abbrev pub judged : (Kernel → Bool) → Scope → Form → Result Act Reason
 judged has s (form.Register a) =
     unless (first_of (register_reasons s a.name (registered_by a).dims (parts_said a.parts) (init_said a.init))) (Registers (registered_by a))
 judged has s (form.Plan name r c) =
     let p = parts_said (Some (r, c)) in unless (first_of (plan_reasons s name p)) (Plans name p)
-judged has s (form.Redux name by) = Err NotBuilt
+judged has s (form.Redux name by) = unless (first_of (redux_reasons s name)) (Reduces name by)
 judged has s (form.Task t) = judged_task has s t
 judged has s (form.Print name) = unless (first_of (print_reasons s name)) (Prints name)
 judged has s (form.Invalidate name) = unless (first_of (name_reasons s name)) (Invalidates name)

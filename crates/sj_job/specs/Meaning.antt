@@ -1,9 +1,10 @@
 -- What a job means: its statements run one after another on plain arrays.
 use Rattle.std.specs.FinMap as map
-use Rattle.std.specs.Prelude.{ℕ, ◌+◌, Bool, true, false, Option, Some, None, List, [], ◌∷◌, ◌++◌, ℤ, pos, ◌+ℤ◌, ◌*ℤ◌, map as each_of, filter, unwrap_or, replicate}
+use Rattle.std.specs.Prelude.{ℕ, ◌+◌, Bool, true, false, Option, Some, None, List, [], ◌∷◌, ◌++◌, ℤ, pos, ◌+ℤ◌, ◌*ℤ◌, map as each_of, filter, unwrap_or, replicate, if◌then◌else◌}
 use Rattle.std.specs.List.{range_with_len}
 use Rattle.sj_base.specs.declared.tile.Dims.{Dims}
 use Rattle.sj_base.specs.declared.mode.Mode.{Mode}
+use Rattle.sj_base.specs.declared.mode.Reduction.{Reduction}
 use Rattle.sj_base.specs.declared.mode.Mode.TheVariants.{R, W, RW, Scratch, Redux, Commute}
 use Rattle.sj_base.specs.Array.{Array, array, area, element, zeros}
 use Rattle.sj_base.specs.Window.{write_rect}
@@ -11,6 +12,7 @@ use Rattle.sj_plan.specs.declared.parts.Parts.{Parts}
 use Rattle.sj_plan.specs.Rect.{place_of, dims_of}
 use Rattle.sj_codelet.specs.Ring.{wrap}
 use Rattle.sj_codelet.specs.Kernel.{out}
+use Rattle.sj_codelet.specs.Laws.{unit_of}
 use Rattle.sj_job.specs.declared.job.Kind.{Kind}
 use Rattle.sj_job.specs.declared.job.Init.{Init}
 use Rattle.sj_job.specs.declared.job.Init.TheVariants.{Values, Fill, Nothing}
@@ -18,9 +20,9 @@ use Rattle.sj_job.specs.Statement.{Register}
 use Rattle.sj_job.specs.Statement.{Operand}
 use Rattle.sj_job.specs.Statement.{TaskLine}
 use Rattle.sj_job.specs.Act.{Act}
-use Rattle.sj_job.specs.Act.{Register as Registers, Plan, Task, Print, Invalidate, Unregister}
+use Rattle.sj_job.specs.Act.{Register as Registers, Plan, Redux as Reduces, Task, Print, Invalidate, Unregister}
 use Rattle.sj_job.specs.Act.{Statement}
-use Rattle.sj_job.specs.State.{Root, State, start, root_of, child_rect, child_elements}
+use Rattle.sj_job.specs.State.{Root, State, start, root_of, child_rect, child_elements, is_valued_child}
 
 -- no value at each element
 abbrev pub no_values : Dims → List (Option ℤ)
@@ -33,7 +35,7 @@ first_elements (Fill a b) d = each_of (λ p. Some (wrap (a +ℤ (b *ℤ pos p)))
 first_elements Nothing d = no_values d
 
 abbrev pub registered_root : Register → Root
-registered_root r = record { kind = r.kind; dims = r.dims; parts = r.parts; elements = first_elements r.init r.dims }
+registered_root r = record { kind = r.kind; dims = r.dims; parts = r.parts; reduction = None; elements = first_elements r.init r.dims }
 
 abbrev pub register : Register → State → State
 register r S = record S {
@@ -43,11 +45,15 @@ register r S = record S {
 
 -- another plan; every element stays
 abbrev pub with_parts : Parts → Root → Root
-with_parts p r = record { kind = r.kind; dims = r.dims; parts = p; elements = r.elements }
+with_parts p r = record { kind = r.kind; dims = r.dims; parts = p; reduction = r.reduction; elements = r.elements }
 
 -- other elements
 abbrev pub with_elements : List (Option ℤ) → Root → Root
-with_elements es r = record { kind = r.kind; dims = r.dims; parts = r.parts; elements = es }
+with_elements es r = record { kind = r.kind; dims = r.dims; parts = r.parts; reduction = r.reduction; elements = es }
+
+-- a reduction, once and for all
+abbrev pub with_reduction : Reduction → Root → Root
+with_reduction by r = record { kind = r.kind; dims = r.dims; parts = r.parts; reduction = Some by; elements = r.elements }
 
 -- what a root's name has after a change of it
 abbrev pub change : (Root → Root) → List ℕ → State → State
@@ -71,13 +77,21 @@ array_of r = array r.dims (integers_of r.elements)
 abbrev pub child_array : Root → ℕ × ℕ → Array
 child_array r place = array (dims_of (child_rect r place)) (integers_of (child_elements r place))
 
+-- the unit of a root's reduction, as large as a child; zeros where the root has none
+abbrev pub child_unit : Root → ℕ × ℕ → Array
+child_unit r place = elim r.reduction [ None ↦ zeros (dims_of (child_rect r place)) | Some by ↦ unit_of by (child_array r place) ]
+
+-- what a contribution adds to: the elements of the child, or the unit where it has no value
+abbrev pub contributed_to : Root → ℕ × ℕ → Array
+contributed_to r place = if is_valued_child r place then child_array r place else child_unit r place
+
 -- what a task reads of a child: its elements, or zeros where the old value isn't read
 abbrev pub seen_by : Mode → Root → ℕ × ℕ → Array
 seen_by W r place = zeros (dims_of (child_rect r place))
 seen_by Scratch r place = zeros (dims_of (child_rect r place))
 seen_by R r place = child_array r place
 seen_by RW r place = child_array r place
-seen_by Redux r place = child_array r place
+seen_by Redux r place = contributed_to r place
 seen_by Commute r place = child_array r place
 
 -- the array that a task sees of an operand
@@ -114,6 +128,10 @@ put_all [] arrays S = S
 put_all (o ∷ os) [] S = S
 put_all (o ∷ os) (a ∷ arrays) S = put_all os arrays (put o a S)
 
+-- a name gets its reduction
+abbrev pub reduce : List ℕ → Reduction → State → State
+reduce name by S = change (with_reduction by) name S
+
 -- a task: the written operands get the codelet's new arrays
 abbrev pub run_task : TaskLine → State → State
 run_task t S =
@@ -132,6 +150,7 @@ unregister name S = record S { ended = name ∷ S.ended; roots = map.remove S.ro
 abbrev pub apply : Act → State → State
 apply (Registers r) S = register r S
 apply (Plan name p) S = plan name p S
+apply (Reduces name by) S = reduce name by S
 apply (Task t) S = run_task t S
 apply (Print name) S = S
 apply (Invalidate name) S = invalidate name S
@@ -162,6 +181,7 @@ found_by S name = elim (root_of S name) [
 abbrev pub prints : Act → State → List Printed
 prints (Registers r) S = []
 prints (Plan name p) S = []
+prints (Reduces name by) S = []
 prints (Task t) S = []
 prints (Print name) S = found_by S name
 prints (Invalidate name) S = []

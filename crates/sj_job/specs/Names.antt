@@ -1,12 +1,14 @@
 -- The reader's names as the reasons see them.
-use Rattle.std.specs.Prelude.{◌≡◌, ℕ, Bool, true, false, ◌&&◌, ◌||◌, not, nat_eq, List, [], ◌∷◌, Option, Some, None, option_map, unwrap_or, length, map, zip, if◌then◌else◌, vec_len, ℤ, IsTrue, slice_set}
+use Rattle.std.specs.Prelude.{◌≡◌, ℕ, Bool, true, false, ◌&&◌, ◌||◌, not, nat_eq, List, [], ◌∷◌, Option, Some, None, option_map, unwrap_or, length, map, zip, filter, is_some, nat_lt, if◌then◌else◌, vec_len, ℤ, IsTrue, slice_set}
 use Rattle.std.specs.List.{slice_index_or, list_all, list_any}
 use Rattle.sj_base.specs.declared.ids.Root.{Root}
 use Rattle.sj_base.specs.declared.tile.Dims.{Dims}
 use Rattle.sj_base.specs.declared.mode.Mode.{Mode}
+use Rattle.sj_base.specs.declared.mode.Reduction.{Reduction}
+use Rattle.sj_base.specs.Mode.{is_redux}
 use Rattle.sj_codelet.specs.declared.kernel.Kernel.{Kernel}
 use Rattle.sj_codelet.specs.declared.formal.Formal.{Formal}
-use Rattle.sj_codelet.specs.Kernel.{arguments_of, formals_of, fits}
+use Rattle.sj_codelet.specs.Kernel.{codelet_of, arguments_of, formals_of, fits}
 use Rattle.sj_plan.specs.declared.parts.Parts.{Parts}
 use Rattle.sj_plan.specs.Parts.{IsPlace}
 use Rattle.sj_plan.specs.Paste.{same_place}
@@ -20,13 +22,13 @@ use Rattle.sj_job.specs.declared.names.Standing.TheVariants.{Live, Ended}
 use Rattle.sj_job.specs.declared.names.Names.{Names}
 use Rattle.sj_job.specs.declared.judge.Target.{Target}
 use Rattle.sj_job.specs.declared.reason.Reason.{Reason}
-use Rattle.sj_job.specs.declared.reason.Reason.TheVariants.{OperandCount, Part, Shape, Aliased, NoValue}
+use Rattle.sj_job.specs.declared.reason.Reason.TheVariants.{OperandCount, Part, Shape, Aliased, NoValue, NoReduction, MixedOutputs, NotLawful}
 use Rattle.sj_job.specs.Sentence.{index_said}
 use Rattle.sj_job.specs.State.{is_child}
 use Rattle.sj_job.specs.Table.{root_in, info_of}
 use Rattle.sj_job.specs.Track.{Track, all_valued, none_valued, even, is_set, written}
 use Rattle.sj_job.specs.Meaning.{is_written}
-use Rattle.sj_job.specs.Judge.{Known, Scope, is_child_said, is_read_only, mode_fits, needs_value}
+use Rattle.sj_job.specs.Judge.{Known, Scope, is_child_said, is_read_only, is_lawful_for, is_unordered, mode_fits, needs_value}
 
 -- each root has a standing
 abbrev pub IsCounted : Names → Type 0
@@ -51,34 +53,40 @@ found_in names q = option_map (found_at names) (root_in names.roots q)
 -- ---- how it stands with a root
 
 abbrev pub is_over : Standing → Bool
-is_over (Live t) = false
+is_over (Live t by) = false
 is_over Ended = true
 
 abbrev pub is_all : Standing → Bool
-is_all (Live t) = all_valued t
+is_all (Live t by) = all_valued t
 is_all Ended = false
 
 abbrev pub is_none : Standing → Bool
-is_none (Live t) = none_valued t
+is_none (Live t by) = none_valued t
 is_none Ended = false
 
 -- the active plan
 abbrev pub plan_in : Standing → Option Parts
-plan_in (Live t) = Some t.parts
+plan_in (Live t by) = Some t.parts
 plan_in Ended = None
 
--- what the reasons look at in a root with this track
-abbrev pub known_with : Dims → Track → Known
-known_with d t = record {
+-- the reduction, where there is one
+abbrev pub reduction_in : Standing → Option Reduction
+reduction_in (Live t by) = by
+reduction_in Ended = None
+
+-- what the reasons look at in a root with this track and this reduction
+abbrev pub known_with : Dims → Track → Option Reduction → Known
+known_with d t by = record {
   dims = d;
   parts = t.parts;
+  reduction = by;
   all = all_valued t;
   none = none_valued t;
   child = λ place. is_child t.parts place && is_set t place;
 }
 
 abbrev pub known_by : Dims → Standing → Option Known
-known_by d (Live t) = Some (known_with d t)
+known_by d (Live t by) = Some (known_with d t by)
 known_by d Ended = None
 
 abbrev pub known_from : Option Found → Option Known
@@ -112,23 +120,28 @@ gives_values (Fill a b) = true
 gives_values Nothing = false
 
 abbrev pub first_standing : Parts → Init → Standing
-first_standing p init = Live (even p (gives_values init))
+first_standing p init = Live (even p (gives_values init)) None
 
 abbrev pub planned : Parts → Standing → Standing
-planned p (Live t) = Live (even p (all_valued t))
+planned p (Live t by) = Live (even p (all_valued t)) by
 planned p Ended = Ended
 
+-- a root gets its reduction
+abbrev pub reduced : Reduction → Standing → Standing
+reduced by (Live t old) = Live t (Some by)
+reduced by Ended = Ended
+
 abbrev pub invalidated : Standing → Standing
-invalidated (Live t) = Live (even t.parts false)
+invalidated (Live t by) = Live (even t.parts false) by
 invalidated Ended = Ended
 
 abbrev pub child_written : ℕ × ℕ → Standing → Standing
-child_written place (Live t) = Live (written t place)
+child_written place (Live t by) = Live (written t place) by
 child_written place Ended = Ended
 
 -- all its children have a value, or none has
 abbrev pub IsEven : Standing → Type 0
-IsEven (Live t) = IsTrue (all_valued t || none_valued t)
+IsEven (Live t by) = IsTrue (all_valued t || none_valued t)
 IsEven Ended = Unit {0}
 
 -- the place is one of the plan, where there is one
@@ -147,23 +160,23 @@ after_writes (o ∷ os) sts = after_writes os (after_write o sts)
 
 -- ---- operands with their roots
 
-abbrev pub a_target : Root → Mode → Bool → Bool → ℕ × ℕ → Dims → Bool → Target
-a_target r m over missing place d valued =
-    record { root = r; mode = m; over = over; missing = missing; place = place; dims = d; valued = valued }
+abbrev pub a_target : Root → Mode → Bool → Bool → ℕ × ℕ → Dims → Bool → Option Reduction → Target
+a_target r m over missing place d valued by =
+    record { root = r; mode = m; over = over; missing = missing; place = place; dims = d; valued = valued; reduction = by }
 
 -- the target of no child
 abbrev pub no_child : Root → Mode → Bool → Target
-no_child r m over = a_target r m over (not over) (0, 0) (record { rows = 0; cols = 0 }) false
+no_child r m over = a_target r m over (not over) (0, 0) (record { rows = 0; cols = 0 }) false None
 
 -- what an index or a name alone means under a plan
-abbrev pub target_under : Root → Dims → Mode → Option (ℕ × ℕ) → Track → Target
-target_under r d m index t =
+abbrev pub target_under : Root → Dims → Mode → Option (ℕ × ℕ) → Track → Option Reduction → Target
+target_under r d m index t by =
     if is_child_said t.parts index
-    then a_target r m false false (unwrap_or index (0, 0)) (dims_of (child d t.parts (unwrap_or index (0, 0)))) (is_set t (unwrap_or index (0, 0)))
+    then a_target r m false false (unwrap_or index (0, 0)) (dims_of (child d t.parts (unwrap_or index (0, 0)))) (is_set t (unwrap_or index (0, 0))) by
     else no_child r m false
 
 abbrev pub target_by : Root → Dims → Mode → Option (ℕ × ℕ) → Standing → Target
-target_by r d m index (Live t) = target_under r d m index t
+target_by r d m index (Live t by) = target_under r d m index t by
 target_by r d m index Ended = no_child r m true
 
 -- an operand with its root, where its name has one
@@ -204,11 +217,30 @@ any_collide (t ∷ ts) = list_any (collide t) ts || any_collide ts
 abbrev pub is_wanting : Target → Bool
 is_wanting t = needs_value t.mode && not t.valued
 
-abbrev pub target_reasons : Kernel → List ℤ → List Target → List (Bool × Reason)
-target_reasons k args ts =
+-- a contribution to a root without a reduction
+abbrev pub is_unreduced : Target → Bool
+is_unreduced t = is_redux t.mode && not (is_some t.reduction)
+
+-- one that may come in any order stands beside another written one
+abbrev pub are_mixed : List Target → Bool
+are_mixed ts = list_any (λ t. is_unordered t.mode) ts && nat_lt 1 (length (filter (λ t. is_written t.mode) ts))
+
+abbrev pub is_unlawful_for : (Kernel → Bool) → Kernel → Target → Bool
+is_unlawful_for has k t = not (is_lawful_for has (codelet_of k) t.reduction t.mode)
+
+-- the reasons against the operands' values and their laws
+abbrev pub law_reasons : (Kernel → Bool) → Kernel → List Target → List (Bool × Reason)
+law_reasons has k ts =
+    (list_any is_wanting ts, NoValue)
+    ∷ (list_any is_unreduced ts, NoReduction)
+    ∷ (are_mixed ts, MixedOutputs)
+    ∷ (list_any (is_unlawful_for has k) ts, NotLawful)
+    ∷ []
+
+abbrev pub target_reasons : (Kernel → Bool) → Kernel → List ℤ → List Target → List (Bool × Reason)
+target_reasons has k args ts =
     (not (is_counted_for k args ts), OperandCount)
     ∷ (any_missing ts, Part)
     ∷ (not (is_shaped_for k args ts), Shape)
     ∷ (any_collide ts, Aliased)
-    ∷ (list_any is_wanting ts, NoValue)
-    ∷ []
+    ∷ law_reasons has k ts

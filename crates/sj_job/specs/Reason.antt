@@ -3,7 +3,7 @@ use Rattle.std.specs.Prelude.{◌≡◌, ℕ, Result, Err}
 use Rattle.sj_job.specs.declared.reason.Reason.{Reason}
 use Rattle.sj_job.specs.declared.reason.Objection.{Objection}
 use Rattle.sj_job.specs.declared.reason.Objection.TheVariants.{Bad, OutOfMemory}
-use Rattle.sj_job.specs.declared.reason.Reason.TheVariants.{Header, Word, Number, UnknownName, TakenName, UnknownCodelet, OperandCount, Shape, Part, Aliased, NoValue, NoReduction, NotLawful, MixedOutputs, Limit, EndedName, NotBuilt}
+use Rattle.sj_job.specs.declared.reason.Reason.TheVariants.{Header, Word, Number, UnknownName, TakenName, UnknownCodelet, OperandCount, Shape, Part, Aliased, NoValue, NoReduction, NotLawful, MixedOutputs, Limit, EndedName}
 
 abbrev pub code_of : Reason → ℕ
 code_of Header = 1
@@ -22,7 +22,6 @@ code_of NotLawful = 13
 code_of MixedOutputs = 14
 code_of (Limit kind) = 15
 code_of EndedName = 16
-code_of NotBuilt = 17
 
 -- a line that gives this is bad for this reason, or memory ran out
 abbrev pub Objects : {A : Type 0} → Objection → Result A Reason → Type 0

@@ -3,6 +3,7 @@ use Rattle.std.specs.Prelude.{◌≡◌, ℕ, Option, Some, None, List, length}
 use Rattle.std.specs.List.{list_any}
 use Rattle.std.specs.Str.{bytes_eq}
 use Rattle.sj_base.specs.declared.tile.Dims.{Dims}
+use Rattle.sj_base.specs.declared.mode.Reduction.{Reduction}
 use Rattle.sj_job.specs.declared.names.Names.{Names}
 use Rattle.sj_job.specs.declared.names.Standing.{Standing}
 use Rattle.sj_job.specs.declared.names.Standing.TheVariants.{Live, Ended}
@@ -10,16 +11,17 @@ use Rattle.sj_job.specs.State.{Root, State, root_of}
 use Rattle.sj_job.specs.Track.{Track, Tracks}
 use Rattle.sj_job.specs.Names.{Found, IsCounted, ended_in, found_in}
 
--- a root of these dimensions with this track
-pub record IsTracked (d : Dims) (t : Track) (o : Option Root) : Type 0 where
+-- a root of these dimensions with this track and this reduction
+pub record IsTracked (d : Dims) (t : Track) (by : Option Reduction) (o : Option Root) : Type 0 where
   pub root : Root
   pub there : o ≡ Some root
   pub dims : root.dims ≡ d
+  pub reduction : root.reduction ≡ by
   pub tracks : Tracks t root
 
 -- how it stands with a name is so of its root
 abbrev pub StandsFor : Dims → Standing → Option Root → Type 0
-StandsFor d (Live t) o = IsTracked d t o
+StandsFor d (Live t by) o = IsTracked d t by o
 StandsFor d Ended o = o ≡ None
 
 abbrev pub IsFound : Option Found → Option Root → Type 0

@@ -2,8 +2,6 @@
 use Rattle.std.specs.Prelude.{ℕ, Bool, true, false, ◌&&◌, not, map, Option, Some, None, unwrap_or, Result, Ok, Err, List, [], ◌∷◌, ℤ, pos, codes, if◌then◌else◌}
 use Rattle.std.specs.List.{list_all}
 use Rattle.std.specs.Str.{bytes_eq}
-use Rattle.sj_base.specs.declared.mode.Mode.{Mode}
-use Rattle.sj_base.specs.declared.mode.Mode.TheVariants.{R, W, RW, Scratch, Redux, Commute}
 use Rattle.sj_codelet.specs.declared.kernel.Kernel.{Kernel}
 use Rattle.sj_codelet.specs.Kernel.{codelet_of}
 use Rattle.sj_plan.specs.declared.parts.Parts.{Parts}
@@ -24,7 +22,7 @@ use Rattle.sj_job.specs.declared.form.Form.TheVariants as form
 use Rattle.sj_job.specs.Statement.{Register, TaskLine}
 use Rattle.sj_job.specs.Table.{undivided}
 use Rattle.sj_job.specs.declared.reason.Reason.{Reason}
-use Rattle.sj_job.specs.declared.reason.Reason.TheVariants.{Word, Number, NotBuilt}
+use Rattle.sj_job.specs.declared.reason.Reason.TheVariants.{Word, Number}
 use Rattle.sj_job.specs.Word.{is_count, is_integer, count, integer}
 use Rattle.sj_job.specs.Form.{form_of}
 
@@ -64,25 +62,6 @@ is_numbered (form.Task t) = is_numbered_task t
 is_numbered (form.Print name) = true
 is_numbered (form.Invalidate name) = true
 is_numbered (form.Unregister name) = true
-
--- ---- which forms this version reads
-
-abbrev pub is_built_mode : Mode → Bool
-is_built_mode R = true
-is_built_mode W = true
-is_built_mode RW = true
-is_built_mode Scratch = true
-is_built_mode Redux = false
-is_built_mode Commute = false
-
-abbrev pub is_built : Form → Bool
-is_built (form.Register a) = true
-is_built (form.Plan name r c) = true
-is_built (form.Redux name by) = false
-is_built (form.Task t) = list_all (λ o. is_built_mode o.mode) t.operands
-is_built (form.Print name) = true
-is_built (form.Invalidate name) = true
-is_built (form.Unregister name) = true
 
 -- ---- what the parts of a form say
 
@@ -148,12 +127,9 @@ task_said k t = record {
 
 -- ---- a line
 
--- a form with numbers where it has numbers, and that is read: the order of the reasons
+-- a form with numbers where it has numbers
 abbrev pub said_of : Form → Result Form Reason
-said_of f =
-    if not (is_numbered f) then Err Number
-    else if not (is_built f) then Err NotBuilt
-    else Ok f
+said_of f = if is_numbered f then Ok f else Err Number
 
 -- what a statement line of these words says
 abbrev pub said : List (List ℕ) → Result Form Reason

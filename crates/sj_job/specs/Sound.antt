@@ -1,9 +1,9 @@
 -- What holds of an act that a line may say: its run needs no more.
-use Rattle.std.specs.Prelude.{◌≡◌, ◌≤◌, ℕ, Bool, true, false, ◌||◌, not, is_some, IsTrue, None, Some, List, map, length}
-use Rattle.std.specs.List.{list_all}
+use Rattle.std.specs.Prelude.{◌≡◌, ◌≤◌, ℕ, Bool, true, false, Option, ◌||◌, not, is_some, is_none, IsTrue, None, Some, List, map, length}
+use Rattle.std.specs.List.{list_all, list_any}
 use Rattle.sj_base.specs.declared.tile.Dims.{Dims}
-use Rattle.sj_base.specs.declared.mode.Mode.{Mode}
-use Rattle.sj_base.specs.declared.mode.Mode.TheVariants.{R, W, RW, Scratch, Redux, Commute}
+use Rattle.sj_base.specs.declared.mode.Reduction.{Reduction}
+use Rattle.sj_base.specs.declared.program.Codelet.{Codelet}
 use Rattle.sj_base.specs.Array.{area}
 use Rattle.sj_codelet.specs.declared.kernel.Kernel.{Kernel}
 use Rattle.sj_codelet.specs.Kernel.{fits_in}
@@ -16,9 +16,10 @@ use Rattle.sj_job.specs.declared.job.Init.TheVariants.{Values, Fill, Nothing}
 use Rattle.sj_job.specs.Statement.{Register}
 use Rattle.sj_job.specs.Statement.{Operand, TaskLine}
 use Rattle.sj_job.specs.Act.{Act}
-use Rattle.sj_job.specs.Act.{Register as Registers, Plan, Task, Print, Invalidate, Unregister}
+use Rattle.sj_job.specs.Act.{Register as Registers, Plan, Redux as Reduces, Task, Print, Invalidate, Unregister}
+use Rattle.sj_job.specs.Meaning.{written_of}
 use Rattle.sj_job.specs.State.{State, root_of, is_valued, is_blank, is_child, child_rect, is_valued_child}
-use Rattle.sj_job.specs.Judge.{is_side, is_priority, modes_fit, needs_value, is_aliased}
+use Rattle.sj_job.specs.Judge.{is_side, is_priority, modes_fit, needs_value, is_aliased, is_unordered, is_lawful_for}
 
 -- the dimensions of a name's root, or none by none
 abbrev pub dims_of : State → List ℕ → Dims
@@ -49,19 +50,21 @@ has_child S o = elim (root_of S o.name) [ None ↦ false | Some r ↦ is_child r
 abbrev pub has_child_values : State → Operand → Bool
 has_child_values S o = elim (root_of S o.name) [ None ↦ false | Some r ↦ is_valued_child r o.place ]
 
-abbrev pub is_plain : Mode → Bool
-is_plain R = true
-is_plain W = true
-is_plain RW = true
-is_plain Scratch = true
-is_plain Redux = false
-is_plain Commute = false
+-- the reduction of a name's root, if it has one
+abbrev pub reduction_of : State → List ℕ → Option Reduction
+reduction_of S name = elim (root_of S name) [ None ↦ None | Some r ↦ r.reduction ]
+
+-- a contribution's codelet adds to what the reduction of its root combines, and a commuting one's runs may change places
+abbrev pub is_lawful : (Kernel → Bool) → State → Codelet → Operand → Bool
+is_lawful has S id o = is_lawful_for has id (reduction_of S o.name) o.mode
 
 -- codelet, arguments, dimensions and modes of a task go together, and what it reads is there
 pub record IsSoundTask (has : Kernel → Bool) (S : State) (t : TaskLine) : Type 0 where
   pub fits : IsTrue (fits_in has t.codelet t.args (map (child_dims S) t.operands))
   pub modes : IsTrue (modes_fit (formals_in t.codelet) t.operands)
-  pub plain : IsTrue (list_all (λ o. is_plain o.mode) t.operands)
+  -- an operand that is contributed to or commutes is the only written one
+  pub alone : IsTrue (list_any (λ o. is_unordered o.mode) t.operands) → length (written_of t.operands) ≡ 1
+  pub lawful : IsTrue (list_all (is_lawful has S t.codelet) t.operands)
   pub apart : is_aliased t.operands ≡ false
   pub placed : IsTrue (list_all (has_child S) t.operands)
   pub valued : IsTrue (list_all (λ o. not (needs_value o.mode) || has_child_values S o) t.operands)
@@ -92,6 +95,7 @@ pub record IsSoundPlan (S : State) (name : List ℕ) (p : Parts) : Type 0 where
 abbrev pub IsSoundAct : (Kernel → Bool) → State → Act → Type 0
 IsSoundAct has S (Registers r) = IsSoundRegistration S r
 IsSoundAct has S (Plan name p) = IsSoundPlan S name p
+IsSoundAct has S (Reduces name by) = IsTrue (is_none (reduction_of S name)) × IsTrue (has_root S name)
 IsSoundAct has S (Task t) = IsSoundTask has S t
 IsSoundAct has S (Print name) = IsTrue (has_values S name)
 IsSoundAct has S (Invalidate name) = IsTrue (has_root S name)

@@ -5,6 +5,7 @@ use Rattle.std.specs.Prelude.{ℕ, Bool, ◌&&◌, nat_lt, Option, None, List, [
 use Rattle.std.specs.List.{list_all}
 use Rattle.std.specs.Ordering.{nat_cmp}
 use Rattle.std.specs.Cmp.Lexicographic.{slice_cmp}
+use Rattle.sj_base.specs.declared.mode.Reduction.{Reduction}
 use Rattle.sj_base.specs.declared.tile.Dims.{Dims}
 use Rattle.sj_base.specs.Window.{read_rect}
 use Rattle.sj_plan.specs.declared.parts.Parts.{Parts}
@@ -12,11 +13,12 @@ use Rattle.sj_plan.specs.declared.rect.Rect.{Rect}
 use Rattle.sj_plan.specs.Rect.{child, place_of, dims_of}
 use Rattle.sj_job.specs.declared.job.Kind.{Kind}
 
--- a root handle with its active plan: an element is an i64 or no value
+-- a root handle with its active plan and its reduction, if it has one: an element is an i64 or no value
 pub record Root : Type 0 where
   pub kind : Kind
   pub dims : Dims
   pub parts : Parts
+  pub reduction : Option Reduction
   pub elements : List (Option ℤ)
 
 -- a finite map from names to roots

@@ -11,7 +11,7 @@ use Rattle.sj_job.specs.declared.job.Statement.{Statement as Kept}
 use Rattle.sj_job.specs.declared.job.Job.{Job as KeptJob}
 use Rattle.sj_job.specs.Job.{Job, job}
 use Rattle.sj_job.specs.Statement.{Register as Registration, Operand, TaskLine}
-use Rattle.sj_job.specs.Act.{Act, Register, Plan, Task, Print, Invalidate, Unregister, Statement}
+use Rattle.sj_job.specs.Act.{Act, Register, Plan, Redux, Task, Print, Invalidate, Unregister, Statement}
 use Rattle.sj_job.specs.Table.{Table, table, a_root, name_of, info_of}
 
 -- an operand with the name of its root
@@ -28,6 +28,7 @@ registration name info init = record { name = name; kind = info.kind; dims = inf
 abbrev pub act_seen : Table → ℕ → KeptAct → Act
 act_seen T k (kept.Register init) = Register (registration (name_of T (a_root k)) (info_of T (a_root k)) init)
 act_seen T k (kept.Plan r p) = Plan (name_of T r) p
+act_seen T k (kept.Redux r by) = Redux (name_of T r) by
 act_seen T k (kept.Task t) = Task (task_seen T t)
 act_seen T k (kept.Print r) = Print (name_of T r)
 act_seen T k (kept.Invalidate r) = Invalidate (name_of T r)
@@ -40,6 +41,7 @@ statement_seen T k s = record { line = s.line; act = act_seen T k s.act }
 abbrev pub count_after : ℕ → KeptAct → ℕ
 count_after k (kept.Register init) = k + 1
 count_after k (kept.Plan r p) = k
+count_after k (kept.Redux r by) = k
 count_after k (kept.Task t) = k
 count_after k (kept.Print r) = k
 count_after k (kept.Invalidate r) = k
@@ -66,6 +68,7 @@ job_seen kept = job kept.settings (statements_of kept)
 abbrev pub IsPlaced : ℕ → KeptAct → Type 0
 IsPlaced k (kept.Register init) = Unit {0}
 IsPlaced k (kept.Plan r p) = r.0 < k
+IsPlaced k (kept.Redux r by) = r.0 < k
 IsPlaced k (kept.Task t) = All (λ o. o.root.0 < k) t.operands
 IsPlaced k (kept.Print r) = r.0 < k
 IsPlaced k (kept.Invalidate r) = r.0 < k

@@ -6,7 +6,7 @@ ghost use Rattle.sj_job.specs.Meaning.{is_written};
 use crate::roots::Roots;
 use crate::settings::Settings;
 use sj_base::ids::{Line, Root};
-use sj_base::mode::Mode;
+use sj_base::mode::{Mode, Reduction};
 use sj_base::sequence::Sequence;
 use sj_base::tile::Dims;
 use sj_codelet::kernel::Kernel;
@@ -77,6 +77,8 @@ pub enum Act {
     Register(Init),
     /// Makes a plan the active one.
     Plan(Root, Parts),
+    /// Gives a root its reduction, for good.
+    Redux(Root, Reduction),
     Task(TaskLine),
     Print(Root),
     /// The elements have no value any more.

@@ -1,20 +1,21 @@
-//! Why a form that is built is refused.
+//! Why a form is refused.
 
-ghost use Rattle.std.specs.Prelude.{◌≡◌, ◌*◌, ◌^◌, Ok, ◌<◌, ◌≤◌, None, Some, true, false, map, length, unwrap_or, All, IfOk, IfErr, IfNone, IsTrue, MatchOption};
+ghost use Rattle.std.specs.Prelude.{◌≡◌, ◌*◌, ◌^◌, Ok, ◌<◌, ◌≤◌, None, Some, true, false, filter, map, length, unwrap_or, All, IfOk, IfErr, IfNone, IsTrue, MatchOption};
 ghost use Rattle.std.specs.List.{list_all, list_any};
 ghost use Rattle.sj_plan.specs.Parts.{IsPlace};
 ghost use Rattle.sj_job.specs.declared.names.Names.{Names};
 ghost use Rattle.sj_job.specs.Form.{each_some};
 ghost use Rattle.sj_job.specs.Sentence.{are_counts, priority_said};
 ghost use Rattle.sj_job.specs.Word.{integer};
-ghost use Rattle.sj_job.specs.Names.{IsCounted, IsEven, IsPlaceIn, any_collide, any_missing, any_over, collide, is_counted_for, is_shaped_for, is_wanting, no_child, operand_by, plan_in, scope_in, standing_of, target_by, target_dims, target_in, target_reasons, target_under, targets_fit};
+ghost use Rattle.sj_job.specs.Names.{IsCounted, IsEven, IsPlaceIn, any_collide, any_missing, any_over, collide, is_counted_for, is_shaped_for, is_wanting, is_unreduced, is_unlawful_for, are_mixed, law_reasons, no_child, operand_by, plan_in, scope_in, standing_of, target_by, target_dims, target_in, target_reasons, target_under, targets_fit};
 ghost use Rattle.sj_job.specs.State.{dims_with, plan_with};
 ghost use Rattle.sj_job.specs.Table.{root_in, IsRoot};
 ghost use Rattle.sj_job.specs.Track.{IsPlan};
 ghost use Rattle.sj_job.specs.View.{task_seen};
 ghost use Rattle.sj_job.specs.Reason.{Objects};
 ghost use Rattle.sj_job.specs.Act.{Task};
-ghost use Rattle.sj_job.specs.Judge.{first_of, is_child_said, is_crowded, is_cut, is_miscounted, is_outside, is_priority, is_side, is_uncut, judged_task, mode_fits, name_reasons, needs_value, plan_reasons, print_reasons, register_reasons};
+ghost use Rattle.sj_job.specs.Judge.{first_of, is_child_said, is_crowded, is_cut, is_miscounted, is_outside, is_priority, is_side, is_uncut, judged_task, mode_fits, name_reasons, needs_value, plan_reasons, print_reasons, redux_reasons, register_reasons, is_lawful_for, is_unordered};
+ghost use Rattle.sj_job.specs.Meaning.{is_written};
 
 use crate::form::{OperandForm, TaskForm};
 use crate::job::{Init, Operand, TaskLine};
@@ -24,7 +25,8 @@ use crate::reason::{LimitKind, Objection, Reason};
 use crate::track::Tracked;
 use sj_base::ids::Root;
 use sj_base::memory::OutOfMemory;
-use sj_base::mode::Mode;
+use sj_base::mode::{Mode, Reduction};
+use sj_base::program::Codelet;
 use sj_base::sequence::Sequence;
 use sj_base::tile::Dims;
 use sj_codelet::formal::Formal;
@@ -202,6 +204,21 @@ pub fn planned_root(names: &Names, name: &[u8], r: u64, c: u64) -> Result<Root, 
     Ok(root)
 }
 
+/// The root of a name, or the first reason against giving it a reduction. Linear in the name.
+pub fn reduced_root(names: &Names, name: &[u8]) -> Result<Root, Reason>
+    requires { IsCounted names.now }
+    ensures root { IfOk result (λ r. root_in names.now.roots name.now ≡ Some r) }
+    ensures none { IfOk result (λ r. first_of (redux_reasons (scope_in names.now) name.now) ≡ None) }
+    ensures why { IfErr result
+        (λ why. first_of (redux_reasons (scope_in names.now) name.now) ≡ Some why) }
+{
+    let root = named_root(names, name)?;
+    if names.standing(root).reduction().is_some() {
+        return Err(Reason::TakenName);
+    }
+    Ok(root)
+}
+
 /// An operand of a task line whose root was found.
 #[derive(Clone, Copy, Debug, PartialEq, Eq)]
 pub struct Target {
@@ -211,10 +228,12 @@ pub struct Target {
     pub over: bool,
     /// The name isn't ended, and the operand is no child of its active plan.
     pub missing: bool,
-    /// The child, where there is one, as the next two.
+    /// The child, where there is one, as the next three.
     pub place: (u32, u32),
     pub dims: Dims,
     pub valued: bool,
+    /// That of the root, where it has one.
+    pub reduction: Option<Reduction>,
 }
 
 /// The target of no child.
@@ -229,6 +248,7 @@ fn no_child(root: Root, mode: Mode, over: bool) -> Target
         place: (0, 0),
         dims: Dims { rows: 0, cols: 0 },
         valued: false,
+        reduction: None,
     }
 }
 
@@ -251,8 +271,9 @@ fn target_under(
     mode: Mode,
     index: Option<(u64, u64)>,
     track: &Tracked,
+    reduction: Option<Reduction>,
 ) -> Target
-    ensures { result ≡ target_under root dims mode index track.now }
+    ensures { result ≡ target_under root dims mode index track.now reduction }
 {
     let parts = track.parts();
     match child_said(parts, index) {
@@ -267,6 +288,7 @@ fn target_under(
                 cols: part(dims.cols, parts.c, j).len,
             },
             valued: track.is_valued(i, j),
+            reduction,
         },
         None => no_child(root, mode, false),
     }
@@ -282,7 +304,9 @@ fn target_by(
     ensures { result ≡ target_by root dims mode index standing.now }
 {
     match standing {
-        Standing::Live(track) => target_under(root, dims, mode, index, track),
+        Standing::Live { track, reduction } => {
+            target_under(root, dims, mode, index, track, *reduction)
+        }
         Standing::Ended => no_child(root, mode, true),
     }
 }
@@ -425,15 +449,104 @@ fn any_wanting(targets: &[Target]) -> bool
     targets.iter().any(|t| needs_value(t.mode) && !t.valued)
 }
 
+/// Whether one contributes to a root without a reduction.
+fn any_unreduced(targets: &[Target]) -> bool
+    ensures { result ≡ list_any is_unreduced targets.now }
+{
+    targets
+        .iter()
+        .any(|t| t.mode == Mode::Redux && t.reduction.is_none())
+}
+
+fn is_unordered(mode: Mode) -> bool
+    ensures { result ≡ is_unordered mode }
+{
+    mode == Mode::Redux || mode == Mode::Commute
+}
+
+fn is_written(mode: Mode) -> bool
+    ensures { result ≡ is_written mode }
+{
+    match mode {
+        Mode::R | Mode::Scratch => false,
+        Mode::W | Mode::RW | Mode::Redux | Mode::Commute => true,
+    }
+}
+
+fn written_count(targets: &[Target]) -> usize
+    ensures { result ≡ length (filter (λ t. is_written t.mode) targets.now) }
+{
+    targets.iter().filter(|t| is_written(t.mode)).count()
+}
+
+fn any_unordered(targets: &[Target]) -> bool
+    ensures { result ≡ list_any (λ t. is_unordered t.mode) targets.now }
+{
+    targets.iter().any(|t| is_unordered(t.mode))
+}
+
+/// Whether one that may come in any order stands beside another written one.
+fn are_mixed(targets: &[Target]) -> bool
+    ensures { result ≡ are_mixed targets.now }
+{
+    any_unordered(targets) && 1 < written_count(targets)
+}
+
+/// Whether the codelet has the law that an operand's mode asks for.
+fn is_lawful<C: Codelets>(
+    codelets: &C,
+    id: Codelet,
+    reduction: Option<Reduction>,
+    mode: Mode,
+) -> bool
+    ensures { result ≡ is_lawful_for C.has id reduction mode }
+{
+    match mode {
+        Mode::Commute => codelets.commutes(id),
+        Mode::Redux => match reduction {
+            Some(by) => codelets.contributes(id, by),
+            None => false,
+        },
+        Mode::R | Mode::W | Mode::RW | Mode::Scratch => true,
+    }
+}
+
+fn any_unlawful<C: Codelets>(codelets: &C, kernel: Kernel, targets: &[Target]) -> bool
+    ensures { result ≡ list_any (is_unlawful_for C.has kernel) targets.now }
+{
+    let id = kernel.id();
+    targets
+        .iter()
+        .any(|t| !is_lawful(codelets, id, t.reduction, t.mode))
+}
+
+/// The first reason against the operands' values and their laws. Linear in them.
+fn law_complaint<C: Codelets>(codelets: &C, kernel: Kernel, targets: &[Target]) -> Option<Reason>
+    ensures { result ≡ first_of (law_reasons C.has kernel targets.now) }
+{
+    if any_wanting(targets) {
+        Some(Reason::NoValue)
+    } else if any_unreduced(targets) {
+        Some(Reason::NoReduction)
+    } else if are_mixed(targets) {
+        Some(Reason::MixedOutputs)
+    } else if any_unlawful(codelets, kernel, targets) {
+        Some(Reason::NotLawful)
+    } else {
+        None
+    }
+}
+
 /// The first reason against the operands of a codelet. Linear in them.
-fn target_complaint(
+fn target_complaint<C: Codelets>(
     alloc: Global,
+    codelets: &C,
     kernel: Kernel,
     args: &[i64],
     targets: &[Target],
 ) -> Result<Option<Reason>, OutOfMemory>
     ensures { IfOk result
-        (λ why. why ≡ first_of (target_reasons kernel args.now targets.now)) }
+        (λ why. why ≡ first_of (target_reasons C.has kernel args.now targets.now)) }
 {
     if !is_counted(kernel, args, targets) {
         Ok(Some(Reason::OperandCount))
@@ -443,10 +556,8 @@ fn target_complaint(
         Ok(Some(Reason::Shape))
     } else if any_collide(targets) {
         Ok(Some(Reason::Aliased))
-    } else if any_wanting(targets) {
-        Ok(Some(Reason::NoValue))
     } else {
-        Ok(None)
+        Ok(law_complaint(codelets, kernel, targets))
     }
 }
 
@@ -515,7 +626,7 @@ pub fn judge_task<C: Codelets>(
     let Some(kernel) = codelets.kernel_named(form.codelet.bytes()) else {
         return Err(Objection::Bad(Reason::UnknownCodelet));
     };
-    if let Some(why) = target_complaint(alloc, kernel, args.items(), &targets)? {
+    if let Some(why) = target_complaint(alloc, codelets, kernel, args.items(), &targets)? {
         return Err(Objection::Bad(why));
     }
     let operands = operands_of(alloc, &targets)?;

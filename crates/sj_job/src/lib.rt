@@ -21,6 +21,8 @@ mod tests_of_lines;
 #[cfg(test)]
 mod tests_of_plans;
 #[cfg(test)]
+mod tests_of_reductions;
+#[cfg(test)]
 mod tests_of_settings;
 pub mod track;
 pub mod word;

@@ -2,9 +2,9 @@
 
 ghost use Rattle.std.specs.Prelude.{◌≡◌, ◌+◌, ◌<◌, ◌^◌, ℕ, Bool, None, All, length, OnOk, slice_set};
 ghost use Rattle.sj_codelet.specs.declared.kernel.Kernel.{Kernel};
-ghost use Rattle.sj_job.specs.Names.{IsCounted, IsEven, IsPlaceIn, after_write, after_writes, child_written, first_standing, invalidated, is_all, is_none, is_over, plan_in, planned, scope_in, standing_of};
+ghost use Rattle.sj_job.specs.Names.{IsCounted, IsEven, IsPlaceIn, after_write, after_writes, child_written, first_standing, invalidated, is_all, is_none, is_over, plan_in, planned, reduced, reduction_in, scope_in, standing_of};
 ghost use Rattle.sj_job.specs.State.{State, start};
-ghost use Rattle.sj_job.specs.Meaning.{register, run_task, invalidate, plan, unregister};
+ghost use Rattle.sj_job.specs.Meaning.{register, run_task, invalidate, plan, reduce, unregister};
 ghost use Rattle.sj_job.specs.Table.{name_of, root_in, with_root, IsRoot};
 ghost use Rattle.sj_job.specs.Track.{IsPlan};
 ghost use Rattle.sj_job.specs.View.{task_seen, registration};
@@ -17,13 +17,17 @@ use crate::roots::Roots;
 use crate::track::Tracked;
 use sj_base::ids::Root;
 use sj_base::memory::OutOfMemory;
+use sj_base::mode::Reduction;
 use sj_plan::parts::Parts;
 use std::alloc::Global;
 
-/// How it stands with a root: which children of its active plan have a value, or that its name is ended.
+/// How it stands with a root: which children of its active plan have a value, and its reduction; or that its name is ended.
 #[derive(Drop)]
 pub enum Standing {
-    Live(Tracked),
+    Live {
+        track: Tracked,
+        reduction: Option<Reduction>,
+    },
     Ended,
 }
 
@@ -33,7 +37,7 @@ impl Standing {
         ensures { result ≡ is_over self.now }
     {
         match self {
-            Standing::Live(_) => false,
+            Standing::Live { .. } => false,
             Standing::Ended => true,
         }
     }
@@ -43,7 +47,7 @@ impl Standing {
         ensures { result ≡ is_all self.now }
     {
         match self {
-            Standing::Live(track) => track.is_all(),
+            Standing::Live { track, .. } => track.is_all(),
             Standing::Ended => false,
         }
     }
@@ -53,8 +57,28 @@ impl Standing {
         ensures { result ≡ is_none self.now }
     {
         match self {
-            Standing::Live(track) => track.is_none(),
+            Standing::Live { track, .. } => track.is_none(),
             Standing::Ended => false,
+        }
+    }
+
+    /// The reduction of the root, where it isn't ended and has one.
+    pub fn reduction(&self) -> Option<Reduction>
+        ensures { result ≡ reduction_in self.now }
+    {
+        match self {
+            Standing::Live { reduction, .. } => *reduction,
+            Standing::Ended => None,
+        }
+    }
+
+    /// The root has this reduction from now on.
+    fn reduce(&mut self, by: Reduction)
+        ensures { self.new ≡ reduced by self.old }
+    {
+        match self {
+            Standing::Live { reduction, .. } => *reduction = Some(by),
+            Standing::Ended => {}
         }
     }
 
@@ -65,7 +89,7 @@ impl Standing {
         ensures { self.new ≡ planned parts self.old }
     {
         match self {
-            Standing::Live(track) => track.plan(parts),
+            Standing::Live { track, .. } => track.plan(parts),
             Standing::Ended => {}
         }
     }
@@ -75,7 +99,7 @@ impl Standing {
         ensures { self.new ≡ invalidated self.old }
     {
         match self {
-            Standing::Live(track) => track.invalidate(),
+            Standing::Live { track, .. } => track.invalidate(),
             Standing::Ended => {}
         }
     }
@@ -86,7 +110,7 @@ impl Standing {
         ensures { OnOk result (self.new ≡ child_written place self.old) }
     {
         match self {
-            Standing::Live(track) => track.write(alloc, place.0, place.1),
+            Standing::Live { track, .. } => track.write(alloc, place.0, place.1),
             Standing::Ended => Ok(()),
         }
     }
@@ -101,7 +125,10 @@ fn first_standing(parts: Parts, init: &Init) -> Standing
         Init::Values(_) | Init::Fill(_, _) => true,
         Init::Nothing => false,
     };
-    Standing::Live(Tracked::even(parts, valued))
+    Standing::Live {
+        track: Tracked::even(parts, valued),
+        reduction: None,
+    }
 }
 
 /// How many statements were read, the roots that they registered, and how it stands with each.
@@ -187,7 +214,7 @@ impl Names {
         Ok(())
     }
 
-    /// Notes a print statement, which changes no root. Constant time, as are the next three.
+    /// Notes a print statement, which changes no root. Constant time, as are the next four.
     pub fn print(&mut self)
         requires { self.old.statements + 1 < 2 ^ 64 }
         ensures roots { self.new.roots ≡ self.old.roots }
@@ -212,6 +239,22 @@ impl Names {
         let count = self.standings.len();
         prove!(place < count);
         self.standings[place].plan(parts);
+        self.statements += 1;
+    }
+
+    /// Notes that a root has this reduction from now on.
+    pub fn reduce(&mut self, root: Root, by: Reduction)
+        requires room { self.old.statements + 1 < 2 ^ 64 }
+        requires counted { IsCounted self.old }
+        requires root { IsRoot self.old.roots root }
+        ensures roots { self.new.roots ≡ self.old.roots }
+        ensures names { (n : ℕ) (S : State) → Sees self.old n S
+            → Sees self.new (n + 1) (reduce (name_of self.old.roots root) by S) }
+    {
+        let place = root.0 as usize;
+        let count = self.standings.len();
+        prove!(place < count);
+        self.standings[place].reduce(by);
         self.statements += 1;
     }
 

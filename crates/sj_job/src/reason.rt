@@ -34,7 +34,7 @@ pub enum Reason {
     Number,
     /// A name that was never registered.
     UnknownName,
-    /// A name that is registered already.
+    /// A name that is registered already, or that has its reduction.
     TakenName,
     UnknownCodelet,
     /// The number of arguments or of operands isn't the codelet's.
@@ -49,7 +49,7 @@ pub enum Reason {
     NoValue,
     /// REDUX on a name without a reduction.
     NoReduction,
-    /// COMMUTE or REDUX with a codelet that has no such law.
+    /// COMMUTE with a codelet whose runs may not change places, or REDUX with one that doesn't contribute to the reduction.
     NotLawful,
     /// A COMMUTE or REDUX operand beside another written operand.
     MixedOutputs,
@@ -57,8 +57,6 @@ pub enum Reason {
     Limit(LimitKind),
     /// A name that was ended by `unregister`.
     EndedName,
-    /// A form that this version doesn't read.
-    NotBuilt,
 }
 
 impl Reason {
@@ -83,7 +81,6 @@ impl Reason {
             Reason::MixedOutputs => 14,
             Reason::Limit(_) => 15,
             Reason::EndedName => 16,
-            Reason::NotBuilt => 17,
         }
     }
 }

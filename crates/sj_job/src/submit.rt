@@ -5,36 +5,23 @@ ghost use Rattle.sj_codelet.specs.declared.kernel.Kernel.{Kernel};
 ghost use Rattle.std.specs.List.{list_all};
 ghost use Rattle.sj_job.specs.Names.{IsCounted, scope_in};
 ghost use Rattle.sj_job.specs.Reason.{Objects};
-ghost use Rattle.sj_job.specs.Sentence.{is_built_mode, kind_of, are_counts};
+ghost use Rattle.sj_job.specs.Sentence.{kind_of, are_counts};
 ghost use Rattle.sj_job.specs.State.{plan_with};
 ghost use Rattle.sj_job.specs.Submits.{done_in, Submits};
 
 use crate::form::{ArrayForm, Form, OperandForm, Piece, Size, TaskForm};
 use crate::job::{Act, Kind, RootInfo};
-use crate::judge::{judge_task, named_root, planned_root, printed_root, register_complaint};
+use crate::judge::{
+    judge_task, named_root, planned_root, printed_root, reduced_root, register_complaint,
+};
 use crate::names::Names;
 use crate::number::{are_counts, init_of, integers, pair_of, parts_of, priority_of, size_of};
 use crate::reason::{Objection, Reason};
-use sj_base::mode::Mode;
+use sj_base::mode::Reduction;
 use sj_base::tile::Dims;
 use sj_codelet::set::Codelets;
 use sj_plan::parts::Parts;
 use std::alloc::Global;
-
-fn is_built_mode(mode: Mode) -> bool
-    ensures { result ≡ is_built_mode mode }
-{
-    match mode {
-        Mode::R | Mode::W | Mode::RW | Mode::Scratch => true,
-        Mode::Redux | Mode::Commute => false,
-    }
-}
-
-fn are_built(operands: &[OperandForm<'_>]) -> bool
-    ensures { result ≡ list_all (λ o. is_built_mode o.mode) operands.now }
-{
-    operands.iter().all(|o| is_built_mode(o.mode))
-}
 
 fn have_counted_children(operands: &[OperandForm<'_>]) -> bool
     ensures { result ≡ list_all (λ o. are_counts o.child) operands.now }
@@ -122,6 +109,24 @@ fn submit_plan(
     }
 }
 
+/// Gives a root its reduction. Linear in the name.
+fn submit_reduction(names: &mut Names, name: &Piece<'_>, by: Reduction) -> Result<Act, Objection>
+    requires counted { IsCounted names.old }
+    requires room { names.old.statements + 1 < 2 ^ 64 }
+    ensures ok { IfOk result (λ a. (has : Kernel → Bool) →
+        Submits has names.old (Form.Redux name.now by) names.new a) }
+    ensures err { IfErr result (λ e. (has : Kernel → Bool) →
+        Objects e (done_in has (scope_in names.old) (Form.Redux name.now by))) }
+{
+    match reduced_root(names, name.bytes()) {
+        Ok(root) => {
+            names.reduce(root, by);
+            Ok(Act::Redux(root, by))
+        }
+        Err(why) => Err(Objection::Bad(why)),
+    }
+}
+
 /// Submits a task. Linear in the words.
 fn submit_task<C: Codelets>(
     alloc: Global,
@@ -143,9 +148,6 @@ fn submit_task<C: Codelets>(
     let Some(priority) = priority_of(&task.priority) else {
         return Err(Objection::Bad(Reason::Number));
     };
-    if !are_built(task.operands.items()) {
-        return Err(Objection::Bad(Reason::NotBuilt));
-    }
     let task = judge_task(alloc, names, task, args, priority, codelets)?;
     names.run(alloc, &task)?;
     Ok(Act::Task(task))
@@ -214,7 +216,7 @@ pub fn submit<C: Codelets>(
 {
     match form {
         Form::Plan(name, r, c) => submit_plan(names, name, r, c),
-        Form::Redux(_, _) => Err(Objection::Bad(Reason::NotBuilt)),
+        Form::Redux(name, by) => submit_reduction(names, name, *by),
         Form::Register(array) => submit_array(alloc, names, array),
         Form::Task(task) => submit_task(alloc, names, task, codelets),
         Form::Print(name) => submit_print(names, name),

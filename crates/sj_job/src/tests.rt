@@ -190,7 +190,7 @@ const FIRST_OF_TWO: [Refused; 20] = [
     ("vecter x 2 none\n", 1, Reason::Header),
     ("starjob 1\nvector 1x b none\n", 2, Reason::Word),
     ("starjob 1\nworkers b\n", 2, Reason::Number),
-    ("starjob 1\ntask cube x:COMMUTE\n", 2, Reason::NotBuilt),
+    ("starjob 1\ntask cube x:COMMUTE\n", 2, Reason::UnknownName),
     (
         "starjob 1\ntask scale(2) x:RW prio=1001\n",
         2,

@@ -26,7 +26,7 @@ fn reason_of(alloc: Global, line: &str, begun: bool) -> Result<Option<Reason>, O
         Err(ReadRefusal::OutOfMemory) => Err(OutOfMemory),
         Err(
             ReadRefusal::Refused {
-                reason: reason @ (Reason::Word | Reason::Number | Reason::NotBuilt),
+                reason: reason @ (Reason::Word | Reason::Number),
                 ..
             },
         ) => Ok(Some(reason)),
@@ -56,6 +56,10 @@ fn lines_without_fault_say_sentences(rt: HostRuntime) -> Result<(), Fail> {
         "vector by 4 by 1 2 fill 0 -1",
         "matrix A 1 1 by 2 2 none",
         "plan x 0 1",
+        "redux s plus",
+        "redux s least",
+        "task sum x:R s:REDUX",
+        "task copy x:R y:COMMUTE",
         "plan plan 007 9223372036854775807",
         "task scale(2) x[0,2]:RW",
         "task copy x[00,9223372036854775807]:R y:W",
@@ -190,24 +194,11 @@ fn places_of_numbers_hold_numbers(rt: HostRuntime) -> Result<(), Fail> {
 }
 
 #[test]
-fn forms_that_are_not_built_say_so(rt: HostRuntime) -> Result<(), Fail> {
-    let lines = [
-        "redux s plus",
-        "redux s least",
-        "task sum x:R s:REDUX",
-        "task copy x:R y:COMMUTE",
-    ];
-    all_are(&rt, &lines, Some(Reason::NotBuilt))
-}
-
-#[test]
 fn settings_behind_a_statement_are_words(rt: HostRuntime) -> Result<(), Fail> {
     for line in ["workers 2", "workers two", "node 8", "node -8", "policy ws"] {
         let reason = reason_of(rt.alloc(), line, true)?;
         assert_eq!(rt; reason, Some(Reason::Word), "{line}");
     }
-    let reason = reason_of(rt.alloc(), "redux x plus", true)?;
-    assert_eq!(rt; reason, Some(Reason::NotBuilt));
     Ok(())
 }
 

@@ -1,29 +1,21 @@
 -- What a statement that lines may say has.
-use Rattle.std.proofs.Common.{◌≡◌, ℕ, ◌&&◌, Bool, true, false, List, Some, Ok, ap, subst, sym, ◌∙◌}
+use Rattle.std.proofs.Common.{◌≡◌, ℕ, ◌&&◌, ◌+◌, Bool, true, false, List, [], ◌∷◌, Some, Ok, ap, subst, sym, ◌∙◌}
 use Rattle.std.proofs.lemmas.Bool.{false≢true}
 use Rattle.sj_codelet.specs.declared.kernel.Kernel.{Kernel}
 use Rattle.sj_codelet.specs.declared.kernel.Kernel.TheVariants.{Deliver}
 use Rattle.sj_codelet.specs.Kernel.{kernels, kernel_of, codelet_of, has_name}
 use Rattle.sj_codelet.proofs.Table.{kernel_of-codelet_of}
-use Rattle.sj_job.specs.Act.{Act, Register, Plan, Task, Print, Invalidate, Unregister}
+use Rattle.sj_job.specs.Act.{Act, Statement, Register, Plan, Redux, Task, Print, Invalidate, Unregister}
+use Rattle.sj_job.specs.Meaning.{apply}
 use Rattle.sj_job.specs.declared.form.TaskForm.{TaskForm}
 use Rattle.sj_job.specs.declared.form.Form.{Form}
 use Rattle.sj_job.specs.declared.form.Form.TheVariants as form
 use Rattle.sj_job.specs.Sentence.{init_said, parts_said, registered_by}
 use Rattle.sj_job.specs.State.{State}
-use Rattle.sj_job.specs.Judge.{Scope, scope_of, first_of, judged, register_reasons, plan_reasons, print_reasons, name_reasons}
-use Rattle.sj_job.specs.Sound.{IsSoundAct}
-use Rattle.sj_job.specs.Well.{IsAllowed}
+use Rattle.sj_job.specs.Judge.{Scope, scope_of, first_of, judged, register_reasons, plan_reasons, print_reasons, name_reasons, redux_reasons}
+use Rattle.sj_job.specs.Well.{IsAllowed, IsWell}
+use Rattle.sj_lower.proofs.Able.{DoesNotDeliver, CanBe, AllCanBe}
 use Rattle.sj_job.proofs.Sounding.{IsJudged, unless_parts, judged-task, found_passes, sound_from_allowed}
-
--- a job can't name the codelet that delivers
-abbrev pub DoesNotDeliver : Act → Type 0
-DoesNotDeliver (Register r) = Unit {0}
-DoesNotDeliver (Plan name p) = Unit {0}
-DoesNotDeliver (Task t) = kernel_of t.codelet ≡ Some Deliver → ⊥
-DoesNotDeliver (Print name) = Unit {0}
-DoesNotDeliver (Invalidate name) = Unit {0}
-DoesNotDeliver (Unregister name) = Unit {0}
 
 second : (b c : Bool) → (b && c) ≡ true → c ≡ true
 second true c e = e
@@ -43,16 +35,16 @@ task_isn't has s t act j =
 nameable : (has : Kernel → Bool) (s : Scope) (f : Form) (act : Act) → judged has s f ≡ Ok act → DoesNotDeliver act
 nameable has s (form.Register a) act e = subst DoesNotDeliver (unless_parts (first_of (register_reasons s a.name (registered_by a).dims (parts_said a.parts) (init_said a.init))) (Register (registered_by a)) act e).1 tt
 nameable has s (form.Plan name r c) act e = subst DoesNotDeliver (unless_parts (first_of (plan_reasons s name (parts_said (Some (r, c))))) (Plan name (parts_said (Some (r, c)))) act e).1 tt
-nameable has s (form.Redux name by) act e = absurd (cc)
+nameable has s (form.Redux name by) act e = subst DoesNotDeliver (unless_parts (first_of (redux_reasons s name)) (Redux name by) act e).1 tt
 nameable has s (form.Task t) act e = task_isn't has s t act (judged-task has s t act e)
 nameable has s (form.Print name) act e = subst DoesNotDeliver (unless_parts (first_of (print_reasons s name)) (Print name) act e).1 tt
 nameable has s (form.Invalidate name) act e = subst DoesNotDeliver (unless_parts (first_of (name_reasons s name)) (Invalidate name) act e).1 tt
 nameable has s (form.Unregister name) act e = subst DoesNotDeliver (unless_parts (first_of (name_reasons s name)) (Unregister name) act e).1 tt
 
--- what lowering needs of an act
-pub record CanBe (has : Kernel → Bool) (S : State) (a : Act) : Type 0 where
-  pub sound : IsSoundAct has S a
-  pub nameable : DoesNotDeliver a
-
 pub can_be : (has : Kernel → Bool) (k : ℕ) (S : State) (a : Act) → IsAllowed has (scope_of k S) a → CanBe has S a
 can_be has k S a h = record { sound = sound_from_allowed has k S a h; nameable = nameable has (scope_of k S) h.form a h.judged }
+
+-- and so have all that are allowed one after another
+pub all_can_be : (has : Kernel → Bool) (k : ℕ) (S : State) (ss : List Statement) → IsWell has k S ss → AllCanBe has S ss
+all_can_be has k S [] w = tt
+all_can_be has k S (s ∷ ss) w = (can_be has k S s.act w.0, all_can_be has (k + 1) (apply s.act S) ss w.1)

@@ -1,5 +1,5 @@
 -- Deliveries follow the print statements.
-use Rattle.std.proofs.Common.{◌≡◌, ℕ, zero, suc, ◌+◌, ◌-◌, ◌*◌, ◌<◌, ◌≤◌, Bool, true, false, cond, Some, List, [], ◌∷◌, ◌++◌, length, get_or, map as each_of, refl, sym, ap, subst, ◌∙◌, inl, inr, arith, length-append, pos}
+use Rattle.std.proofs.Common.{◌≡◌, ℕ, zero, suc, ◌+◌, ◌-◌, ◌*◌, ◌<◌, ◌≤◌, Bool, true, false, cond, Some, None, List, [], ◌∷◌, ◌++◌, length, get_or, map as each_of, refl, sym, ap, subst, ◌∙◌, inl, inr, arith, length-append, pos}
 use Rattle.std.specs.Prelude.{◌⊎◌, nat_eq, count_by, slice_get, IsPermutation}
 use Rattle.std.specs.List.{All, AllPairs, AllByRecursion, filter}
 use Rattle.std.proofs.lemmas.Bool.{false≢true, cases_lt}
@@ -39,6 +39,7 @@ use Rattle.sj_lower.specs.Cells.{Cells, cell_of}
 use Rattle.sj_lower.specs.Rows.{deliver_row}
 use Rattle.sj_lower.specs.Lowering.{Lowering, nothing, a_delivery}
 use Rattle.sj_lower.specs.Delivering.{part_of, printed_as, Assemble}
+use Rattle.sj_lower.proofs.Combined.{IsTrusted, Phases, denoted-closed}
 use Rattle.sj_lower.proofs.Contents.{first_worker, task_at, contents_before, contents-next}
 use Rattle.sj_lower.proofs.Elements.{child-within, child-window, valued-child}
 use Rattle.sj_lower.proofs.Filling.{after_deliver}
@@ -90,8 +91,8 @@ pub record AreHanded (T : Table) (p : Program) (ds : List Delivery) (x : Printed
   pub some : 0 < length ds
   pub named : All (λ (d : Delivery). printed_as T d.root ≡ (x.name, x.kind)) ds
   pub dims : All (λ (d : Delivery). (info_of T d.root).dims ≡ x.array.dims) ds
-  pub within : All (λ (d : Delivery). Within (part_of p d).0 x.array.dims) ds
-  pub array : Assemble p ds x.array
+  pub within : IsTrusted p → All (λ (d : Delivery). Within (part_of p d).0 x.array.dims) ds
+  pub array : IsTrusted p → Assemble p ds x.array
 
 -- the deliveries of print statement k
 abbrev pub of_print : ℕ → List Delivery → List Delivery
@@ -209,23 +210,24 @@ many : (s : Parts) → length (places s) ≡ s.r * s.c
 many s = sym (length-map (places s) (λ q. q)) ∙ length-places (λ q. q) s
 
 -- what holds where the tasks of a print statement stand
-pub record Stands (p : Program) (C : Cells) (S : State) (name : List ℕ) (r : Root) (n : ℕ) (line : Line) : Type 0 where
+pub record Stands (p : Program) (C : Cells) (phases : Phases) (S : State) (name : List ℕ) (r : Root) (n : ℕ) (line : Line) : Type 0 where
   pub valued : is_valued r ≡ true
   pub is_root : root_of S name ≡ Some r
-  pub has : HasRoot p C n (contents_before p n) name r
+  pub has : HasRoot p C phases n (contents_before p n) name r
+  pub shut : (place : ℕ × ℕ) → IsPlace r.parts place → phases (cell_of C name r.parts place) ≡ None
   pub stand : Stand p n (each_of (λ place. deliver_row (cell_of C name r.parts place) line) (places r.parts))
 
-child_task : (p : Program) (C : Cells) (S : State) (name : List ℕ) (r : Root) (n : ℕ) (line : Line) (place : ℕ × ℕ) → Stands p C S name r n line → IsPlace r.parts place → task_of p (task_at (n + number r.parts place)) ≡ deliver_row (cell_of C name r.parts place) line
-child_task p C S name r n line place t h =
+child_task : (p : Program) (C : Cells) (phases : Phases) (S : State) (name : List ℕ) (r : Root) (n : ℕ) (line : Line) (place : ℕ × ℕ) → Stands p C phases S name r n line → IsPlace r.parts place → task_of p (task_at (n + number r.parts place)) ≡ deliver_row (cell_of C name r.parts place) line
+child_task p C phases S name r n line place t h =
     delivers_there p n (number r.parts place) (cell_of C name r.parts) line (places r.parts) t.stand (omega (arith, number-below r.parts place h, many r.parts))
     ∙ ap (λ q. deliver_row (cell_of C name r.parts q) line) (at_child r.parts place h)
 
 -- a child's task hands over its window
-child_given : (p : Program) (C : Cells) (S : State) (name : List ℕ) (r : Root) (n : ℕ) (line : Line) (place : ℕ × ℕ) → Stands p C S name r n line → IsPlace r.parts place → given p (task_at (n + number r.parts place)) ≡ window (array_of r) (child r.dims r.parts place)
-child_given p C S name r n line place t h =
-    given_there p (n + number r.parts place) (cell_of C name r.parts place) line (child_task p C S name r n line place t h)
+child_given : (p : Program) (C : Cells) (phases : Phases) (S : State) (name : List ℕ) (r : Root) (n : ℕ) (line : Line) (place : ℕ × ℕ) → IsTrusted p → Stands p C phases S name r n line → IsPlace r.parts place → given p (task_at (n + number r.parts place)) ≡ window (array_of r) (child r.dims r.parts place)
+child_given p C phases S name r n line place trust t h =
+    given_there p (n + number r.parts place) (cell_of C name r.parts place) line (child_task p C phases S name r n line place t h)
     ∙ ap (λ (k : Contents). held_in p k (cell_of C name r.parts place)) (delivers_keep p n (number r.parts place) (cell_of C name r.parts) line (places r.parts) t.stand (omega (arith, number-below r.parts place h, many r.parts)))
-    ∙ (t.has.held place h (valued-child r place t.has.whole t.valued h)).value ∙ child-window r place
+    ∙ sym (denoted-closed p phases (contents_before p n) (cell_of C name r.parts place) (t.shut place h)) ∙ (t.has.held place h (valued-child r place t.has.whole t.valued h)).value trust ∙ child-window r place
 
 abbrev piece_of : Root → ℕ × ℕ → Rect × Array
 piece_of r place = (child r.dims r.parts place, window (array_of r) (child r.dims r.parts place))
@@ -233,11 +235,11 @@ piece_of r place = (child r.dims r.parts place, window (array_of r) (child r.dim
 abbrev IsPiece : Root → Rect × Array → Type 0
 IsPiece r part = part.1 ≡ window (array_of r) part.0
 
-child_part : (p : Program) (C : Cells) (S : State) (name : List ℕ) (r : Root) (n : ℕ) (line : Line) (root : RootNumber) (print : ℕ) (place : ℕ × ℕ) → Stands p C S name r n line → IsPlace r.parts place → part_of p (a_delivery n root r.dims r.parts print place) ≡ piece_of r place
-child_part p C S name r n line root print place t h =
+child_part : (p : Program) (C : Cells) (phases : Phases) (S : State) (name : List ℕ) (r : Root) (n : ℕ) (line : Line) (root : RootNumber) (print : ℕ) (place : ℕ × ℕ) → IsTrusted p → Stands p C phases S name r n line → IsPlace r.parts place → part_of p (a_delivery n root r.dims r.parts print place) ≡ piece_of r place
+child_part p C phases S name r n line root print place trust t h =
     let c = child r.dims r.parts place in
     let part : Array → Rect × Array = λ a. (record { row = c.row; col = c.col; rows = a.dims.rows; cols = a.dims.cols }, a) in
-    ap part (child_given p C S name r n line place t h)
+    ap part (child_given p C phases S name r n line place trust t h)
 
 abbrev pub deliveries_by : Root → ℕ → RootNumber → ℕ → List Delivery
 deliveries_by r n root print = each_of (a_delivery n root r.dims r.parts print) (places r.parts)
@@ -245,31 +247,31 @@ deliveries_by r n root print = each_of (a_delivery n root r.dims r.parts print) 
 all_places : (P : Delivery → Type 0) (r : Root) (n : ℕ) (root : RootNumber) (print : ℕ) → ((place : ℕ × ℕ) → IsPlace r.parts place → P (a_delivery n root r.dims r.parts print place)) → AllByRecursion P (deliveries_by r n root print)
 all_places P r n root print h = each-map P (a_delivery n root r.dims r.parts print) (places r.parts) (each-places (λ place. P (a_delivery n root r.dims r.parts print place)) r.parts h)
 
-whole_array : (p : Program) (C : Cells) (n : ℕ) (k : Contents) (name : List ℕ) (r : Root) → HasRoot p C n k name r → IsWhole (array_of r)
-whole_array p C n k name r h = length-map r.elements _ ∙ h.whole
+whole_array : (p : Program) (C : Cells) (phases : Phases) (n : ℕ) (k : Contents) (name : List ℕ) (r : Root) → HasRoot p C phases n k name r → IsWhole (array_of r)
+whole_array p C phases n k name r h = length-map r.elements _ ∙ h.whole
 
 positive : (a b : ℕ) → 0 < a → 0 < b → 0 < a * b
 positive a b h k = grind arith
 
 -- the deliveries hand over what the print statement finds
-pub handed : (T : Table) (p : Program) (C : Cells) (S : State) (name : List ℕ) (r : Root) (n : ℕ) (line : Line) (root : RootNumber) (print : ℕ) → Stands p C S name r n line → printed_as T root ≡ (name, r.kind) → (info_of T root).dims ≡ r.dims
+pub handed : (T : Table) (p : Program) (C : Cells) (phases : Phases) (S : State) (name : List ℕ) (r : Root) (n : ℕ) (line : Line) (root : RootNumber) (print : ℕ) → Stands p C phases S name r n line → printed_as T root ≡ (name, r.kind) → (info_of T root).dims ≡ r.dims
     → AreHanded T p (deliveries_by r n root print) (record { name = name; kind = r.kind; array = array_of r })
-handed T p C S name r n line root print t named dims = record {
+handed T p C phases S name r n line root print t named dims = record {
   some = let e = length-places (a_delivery n root r.dims r.parts print) r.parts in omega (arith, e, positive r.parts.r r.parts.c t.has.fits.some_rows t.has.fits.some_cols);
   named = All-from_recursion (λ (d : Delivery). printed_as T d.root ≡ (name, r.kind)) (deliveries_by r n root print) (all_places (λ (d : Delivery). printed_as T d.root ≡ (name, r.kind)) r n root print (λ place h. named));
   dims = All-from_recursion (λ (d : Delivery). (info_of T d.root).dims ≡ r.dims) (deliveries_by r n root print) (all_places (λ (d : Delivery). (info_of T d.root).dims ≡ r.dims) r n root print (λ place h. dims));
-  within = All-from_recursion (λ (d : Delivery). Within (part_of p d).0 r.dims) (deliveries_by r n root print) (all_places (λ (d : Delivery). Within (part_of p d).0 r.dims) r n root print (λ place h.
-      subst (λ (x : Rect × Array). Within x.0 r.dims) (sym (child_part p C S name r n line root print place t h)) (child-within r.dims r.parts place h)));
-  array = λ parts order. assembled parts (subst (λ (xs : List (Rect × Array)). IsPermutation xs parts) pieces order);
+  within = λ trust. All-from_recursion (λ (d : Delivery). Within (part_of p d).0 r.dims) (deliveries_by r n root print) (all_places (λ (d : Delivery). Within (part_of p d).0 r.dims) r n root print (λ place h.
+      subst (λ (x : Rect × Array). Within x.0 r.dims) (sym (child_part p C phases S name r n line root print place trust t h)) (child-within r.dims r.parts place h)));
+  array = λ trust parts order. assembled parts (subst (λ (xs : List (Rect × Array)). IsPermutation xs parts) (pieces trust) order);
 }
   where
-    pieces : each_of (part_of p) (deliveries_by r n root print) ≡ each_of (piece_of r) (places r.parts)
-    pieces = map-map (part_of p) (a_delivery n root r.dims r.parts print) (places r.parts)
-        ∙ map-same (λ place. part_of p (a_delivery n root r.dims r.parts print place)) (piece_of r) (places r.parts) (each-places (λ place. part_of p (a_delivery n root r.dims r.parts print place) ≡ piece_of r place) r.parts (λ place h. child_part p C S name r n line root print place t h))
+    pieces : IsTrusted p → each_of (part_of p) (deliveries_by r n root print) ≡ each_of (piece_of r) (places r.parts)
+    pieces trust = map-map (part_of p) (a_delivery n root r.dims r.parts print) (places r.parts)
+        ∙ map-same (λ place. part_of p (a_delivery n root r.dims r.parts print place)) (piece_of r) (places r.parts) (each-places (λ place. part_of p (a_delivery n root r.dims r.parts print place) ≡ piece_of r place) r.parts (λ place h. child_part p C phases S name r n line root print place trust t h))
 
     assembled : (parts : List (Rect × Array)) → IsPermutation (each_of (piece_of r) (places r.parts)) parts → gathered (zeros r.dims) parts ≡ array_of r
     assembled parts order =
-        tiling-reassembles r.dims (children_of r.dims r.parts) (children_of-tiling r.dims r.parts t.has.fits) (array_of r) (zeros r.dims) parts refl (whole_array p C n (contents_before p n) name r t.has) refl (length-replicate (area r.dims) (pos 0))
+        tiling-reassembles r.dims (children_of r.dims r.parts) (children_of-tiling r.dims r.parts t.has.fits) (array_of r) (zeros r.dims) parts refl (whole_array p C phases n (contents_before p n) name r t.has) refl (length-replicate (area r.dims) (pos 0))
         (subst (λ (xs : List Rect). IsPermutation xs (each_of (λ (part : Rect × Array). part.0) parts)) (map-map (λ (part : Rect × Array). part.0) (piece_of r) (places r.parts)) (IsPermutation-map (λ (part : Rect × Array). part.0) (each_of (piece_of r) (places r.parts)) parts order))
         (All-permutation (IsPiece r) (each_of (piece_of r) (places r.parts)) parts order (All-from_recursion (IsPiece r) (each_of (piece_of r) (places r.parts)) (each-map (IsPiece r) (piece_of r) (places r.parts) (each-of (λ place. IsPiece r (piece_of r place)) (λ place. refl) (places r.parts)))))
 
@@ -294,7 +296,7 @@ one_task s n m lo hi =
         false≢true (sym e ∙ ap (same_place (place_at s (m - n))) is ∙ place-itself (place_at s (m - n))))
 
 pub delivered_print : (T : Table) (p : Program) (L M : Lowering) (S : State) (out : List Printed) (line : Line) (name : List ℕ) (r : Root) (root : RootNumber)
-    → Stands p L.cells S name r (length L.tasks) line → printed_as T root ≡ (name, r.kind) → (info_of T root).dims ≡ r.dims → root.0 < length T.names
+    → Stands p L.cells L.phase S name r (length L.tasks) line → printed_as T root ≡ (name, r.kind) → (info_of T root).dims ≡ r.dims → root.0 < length T.names
     → M.deliveries ≡ L.deliveries ++ deliveries_by r (length L.tasks) root L.prints → M.prints ≡ L.prints + 1 → length M.tasks ≡ length L.tasks + r.parts.r * r.parts.c
     → AreDelivered T p L out → AreDelivered T p M (out ++ record { name = name; kind = r.kind; array = array_of r } ∷ [])
 delivered_print T p L M S out line name r root t named dims there ed ep et g = record {
@@ -315,7 +317,7 @@ delivered_print T p L M S out line name r root t named dims there ed ep et g = r
       (pairs-append (λ (d e : Delivery). d.task.0 < e.task.0) L.deliveries news g.ascending rising
       (each-all (λ (d : Delivery). d.task.0 < n) (λ (d : Delivery). AllByRecursion (λ (e : Delivery). d.task.0 < e.task.0) news) (λ d h. all_places (λ (e : Delivery). d.task.0 < e.task.0) r n root L.prints (λ place at. omega (arith, h))) L.deliveries (recursion_from_All (λ (d : Delivery). d.task.0 < n) L.deliveries g.below)));
   delivers = subst (λ (ds : List Delivery). All (λ (d : Delivery). Delivers p d.task.0) ds) (sym ed)
-      (All-append (λ (d : Delivery). Delivers p d.task.0) L.deliveries news g.delivers (from_places (λ (d : Delivery). Delivers p d.task.0) (λ place h. ap (λ (l : Lowered). kernel_of l.codelet) (child_task p L.cells S name r n line place t h))));
+      (All-append (λ (d : Delivery). Delivers p d.task.0) L.deliveries news g.delivers (from_places (λ (d : Delivery). Delivers p d.task.0) (λ place h. ap (λ (l : Lowered). kernel_of l.codelet) (child_task p L.cells L.phase S name r n line place t h))));
   once = λ m h e. ap (count_by (λ (d : Delivery). nat_eq d.task.0 m)) ed ∙ sum_by-append (λ (d : Delivery). cond (nat_eq d.task.0 m) 1 0) L.deliveries news ∙ both m h e (cases_lt m n);
 }
   where
@@ -356,7 +358,7 @@ delivered_print T p L M S out line name r root t named dims there ed ep et g = r
         let gone : of_print k L.deliveries ≡ [] = filter_gone (λ (d : Delivery). nat_eq d.print k) L.deliveries (each-all (λ (d : Delivery). d.print < length out) (λ (d : Delivery). nat_eq d.print k ≡ false) (λ d h. unequal d.print k (λ same. omega (arith, same, h, e.0))) L.deliveries (recursion_from_All (λ (d : Delivery). d.print < length out) L.deliveries g.printed)) in
         let all : of_print k news ≡ news = filter_all (λ (d : Delivery). nat_eq d.print k) news (all_places (λ (d : Delivery). nat_eq d.print k ≡ true) r n root L.prints (λ place at. equal L.prints k (omega (arith, g.counted, e.0)))) in
         subst (λ (ds : List Delivery). AreHanded T p ds y) (sym (filter-append (λ (d : Delivery). nat_eq d.print k) L.deliveries news ∙ ap (λ ds. ds ++ of_print k news) gone ∙ all))
-        (subst (λ (y : Printed). AreHanded T p news y) e.1 (handed T p L.cells S name r n line root L.prints t named dims))
+        (subst (λ (y : Printed). AreHanded T p news y) e.1 (handed T p L.cells L.phase S name r n line root L.prints t named dims))
 
     count_news : (m : ℕ) → count_by (λ (d : Delivery). nat_eq d.task.0 m) news ≡ count_by (λ (place : ℕ × ℕ). nat_eq (n + number r.parts place) m) (places r.parts)
     count_news m = count_by-map (λ (d : Delivery). nat_eq d.task.0 m) (a_delivery n root r.dims r.parts L.prints) (places r.parts)

@@ -202,3 +202,9 @@ filled-window a b d r inside =
     ap (λ z. wrap (a +ℤ (b *ℤ z))) (exact r.row i d.cols r.col j)
     ∙ sym (ap (λ xs. get_or xs ((r.row + i) * d.cols + (r.col + j)) (pos 0)) (filled a b (range_with_len 0 (area d)))
     ∙ get_or-map-range_with_len (λ p. wrap (a +ℤ (b *ℤ pos p))) 0 (area d) ((r.row + i) * d.cols + (r.col + j)) ((r.row + i) * d.cols + (r.col + j)) (pos 0) (item_inside d (r.row + i) (r.col + j) (omega (arith, inside.0)) (omega (arith, inside.1))) (omega arith))))
+
+-- a child has a value after an array was put into it
+pub written-valued : (r : Root) (place : ℕ × ℕ) (a : Array) → IsPlace r.parts place → is_valued_child (with_child place a r) place ≡ true
+written-valued r place a hp =
+    both_true (is_child r.parts place) (list_all (λ (e : Option ℤ). is_some e) (child_elements (with_child place a r) place)) (is_child-from r.parts place hp)
+    (ap (list_all (λ (e : Option ℤ). is_some e)) (written-same r place a hp) ∙ all-table (λ (e : Option ℤ). is_some e) (dims_of (child_rect r place)) (λ i j. Some (element a i j)) (λ i j hi hj. refl))

@@ -39,6 +39,18 @@ stand-there p xs (l ∷ ls) more e =
       subst (λ (n : ℕ). Stand p n ls) longer (stand-there p (xs ++ l ∷ []) ls more split),
     )
 
+no_tasks : (n : ℕ) → n ≡ n + 0
+no_tasks n = omega arith
+
+one_task : {X : Type 0} (n : ℕ) (l : X) (ls : List X) → (n + 1) + length ls ≡ n + length (l ∷ ls)
+one_task n l ls = omega arith
+
+pub stand-append : (p : Program) (n : ℕ) (xs ys : List Lowered) → Stand p n (xs ++ ys) → Stand p n xs × Stand p (n + length xs) ys
+stand-append p n [] ys s = (tt, subst (λ (m : ℕ). Stand p m ys) (no_tasks n) s)
+stand-append p n (x ∷ xs) ys s =
+    let rest = stand-append p (n + 1) xs ys s.2 in
+    ((s.0, s.1, rest.0), subst (λ (m : ℕ). Stand p m ys) (one_task n x xs) rest.1)
+
 -- the contents after a task of that row
 abbrev pub after_row : Program → Contents → Lowered → Contents
 after_row p contents l =

@@ -1,6 +1,9 @@
 -- Each lowered task is as a proper program has it.
-use Rattle.std.proofs.Common.{◌≡◌, ℕ, ◌+◌, ◌<◌, ◌≤◌, Bool, true, false, cond, not, ◌&&◌, List, [], ◌∷◌, ◌++◌, ℤ, pos, length, map as each_of, refl, sym, ap, subst, ◌∙◌, inl, inr, arith, length-append}
-use Rattle.std.specs.Prelude.{◌||◌}
+use Rattle.std.proofs.Common.{◌≡◌, ℕ, ◌+◌, ◌<◌, ◌≤◌, Bool, true, false, cond, not, ◌&&◌, List, [], ◌∷◌, ◌++◌, ℤ, pos, length, map as each_of, refl, sym, ap, subst, ◌∙◌, inl, inr, arith, Option, Some, None}
+use Rattle.std.specs.Prelude.{◌||◌, count_by}
+use Rattle.std.proofs.lemmas.List.Sums.{sum_by-cons}
+use Rattle.sj_codelet.specs.Formal.{is_output}
+use Rattle.sj_lower.proofs.Writing.{writes_output}
 use Rattle.std.specs.List.{All, AllPairs, AllByRecursion, flat_map, list_all, list_any}
 use Rattle.std.specs.Int.RustNames.{int_le}
 use Rattle.std.specs.Str.{bytes_eq}
@@ -19,42 +22,58 @@ use Rattle.sj_base.specs.declared.program.Program.{Program}
 use Rattle.sj_base.specs.Array.{array, area, element}
 use Rattle.sj_base.proofs.Tables.{length-table}
 use Rattle.sj_codelet.specs.declared.kernel.Kernel.{Kernel}
+use Rattle.sj_codelet.specs.declared.formal.Formal.{Formal}
+use Rattle.sj_codelet.specs.declared.formal.Formal.TheVariants.{R as FormalR, W as FormalW, RW as FormalRW, Scratch as FormalScratch}
 use Rattle.sj_codelet.specs.declared.kernel.Kernel.TheVariants.{Load, LoadFill, Paste as PasteKernel, Deliver}
-use Rattle.sj_codelet.specs.Kernel.{fits}
-use Rattle.sj_core.specs.Program.{same_cell, dims_of, task_of}
-use Rattle.sj_base.specs.Mode.{is_scratch, reads_value, is_in_order}
-use Rattle.sj_core.specs.Proper.{HasValueBefore, Fits, MayHaveModes, IsUnaliased, gives_value}
+use Rattle.sj_codelet.specs.Kernel.{kernel_of, formals_of, fits, commutes_of, commutes_in, init_of, combine_of}
+use Rattle.sj_core.specs.Program.{same_cell, dims_of, cell_info, task_of}
+use Rattle.sj_core.specs.Operands.{copy_of}
+use Rattle.sj_base.specs.declared.ids.Worker.{Worker}
+use Rattle.sj_base.specs.declared.mode.Reduction.{Reduction}
+use Rattle.sj_base.specs.declared.mode.Reduction.TheVariants.{Plus, Least}
+use Rattle.std.specs.Option.{is_some}
+use Rattle.sj_base.specs.Mode.{is_scratch, is_redux, is_commute, is_written, reads_value}
+use Rattle.sj_core.specs.Proper.{HasValueBefore, Fits, MayHaveModes, IsPlain, IsUnaliased, gives_value, mode_of}
 use Rattle.sj_core.specs.Fold.{Contents}
 use Rattle.sj_plan.specs.declared.parts.Parts.{Parts}
 use Rattle.sj_plan.specs.declared.paste.Paste.{Paste}
 use Rattle.sj_plan.specs.declared.rect.Rect.{Rect}
 use Rattle.sj_plan.specs.Parts.{IsPlace, Fits as PlanFits}
-use Rattle.sj_plan.specs.Paste.{same_place, copy_of, is_first, pastes_to, IsBetween}
+use Rattle.sj_plan.specs.Paste.{same_place, copy_of as paste_copy, is_first, pastes_to, IsBetween}
 use Rattle.sj_plan.specs.Pieces.{BeginOnce}
 use Rattle.sj_plan.specs.Rect.{child, dims_of as rect_dims}
 use Rattle.sj_plan.specs.Window.{window}
 use Rattle.sj_job.specs.Statement.{Operand, TaskLine}
-use Rattle.sj_job.specs.State.{State}
-use Rattle.sj_job.specs.Judge.{needs_value, clashes, is_aliased, is_read_only}
-use Rattle.sj_job.specs.Sound.{is_plain, has_child, has_child_values, child_dims, IsSoundTask}
+use Rattle.sj_job.specs.State.{Root, State, root_of}
+use Rattle.sj_job.specs.Judge.{is_unordered, mode_fits, modes_fit, needs_value, clashes, is_aliased, is_read_only}
+use Rattle.sj_job.specs.Meaning.{is_written as writes, written_of}
+use Rattle.sj_job.specs.Sound.{is_lawful, has_child, has_child_values, child_dims, IsSoundTask}
 use Rattle.sj_lower.specs.Cells.{Cells}
-use Rattle.sj_lower.specs.Rows.{an_access, own_task, load_row, fill_row, paste_arguments, paste_row, deliver_row}
+use Rattle.sj_lower.specs.Rows.{an_access, own_task, load_row, fill_row, paste_arguments, paste_row, deliver_row, init_row, combine_row}
 use Rattle.sj_lower.specs.Lowering.{access_of, task_row}
 use Rattle.sj_lower.proofs.Contents.{task_at, same_cell-is}
-use Rattle.sj_lower.proofs.Folding.{Stand, later}
+use Rattle.sj_lower.proofs.Folding.{Stand, stand-append, later}
 use Rattle.sj_lower.proofs.Holding.{HasCells, HaveRoots, cell-dims}
-use Rattle.sj_lower.proofs.Laid.{AreLaid, bytes_eq-itself, cell-inside, cells-apart}
+use Rattle.sj_lower.proofs.Combined.{Phases}
+use Rattle.sj_lower.proofs.Adding.{same-itself}
+use Rattle.sj_lower.proofs.Operands.{IsRead, Contributes}
+use Rattle.sj_lower.proofs.Laid.{AreLaid, IsTaken, bytes_eq-itself, cell-inside, cells-apart}
 use Rattle.sj_lower.proofs.Pasting.{GoesTo, pastes-begin, pastes-go, pastes-between, paste-gives}
 use Rattle.sj_lower.proofs.Places.{place-itself}
-use Rattle.sj_lower.proofs.Running.{child_there, child_dims-are, child_values-are, active_cell-is, operand_cell, needed, or_none, kernel_there}
+use Rattle.sj_lower.proofs.Running.{is_direct, child_there, child_dims-are, child_values-are, active_cell-is, operand_cell, needed, or_none, kernel_there, same_writes}
+
+-- where the access is a contribution, its cell has partial copies, and each has a value
+abbrev pub HasItsCopies : Program → ℕ → Access → Type 0
+HasItsCopies p n a = is_redux a.mode ≡ true → (is_some (cell_info p a.cell).partials ≡ true) × ((w : Worker) → w.0 < p.workers → HasValueBefore p (task_at n) (copy_of p a.cell w))
 
 -- a task of the program is one that it may have at that number
 pub record IsGood (p : Program) (n : ℕ) (l : Lowered) : Type 0 where
   pub cells : All (λ a. a.cell.0 < length p.cells) l.accesses
-  pub plain : All (λ a. is_in_order a.mode ≡ true) l.accesses
   pub fits : Fits p l
   pub unaliased : IsUnaliased l
   pub values : All (λ a. reads_value a.mode ≡ true → HasValueBefore p (task_at n) a.cell) l.accesses
+  pub copies : All (HasItsCopies p n) l.accesses
+  pub plain : kernel_of l.codelet ≡ Some Deliver → All (λ a. IsPlain p a.cell) l.accesses
 
 -- ---- tasks one after another
 
@@ -66,10 +85,11 @@ AreGood p n (l ∷ ls) = IsGood p n l × AreGood p (n + 1) ls
 pub good-later : (p : Program) (m n : ℕ) (l : Lowered) → m ≤ n → IsGood p m l → IsGood p n l
 good-later p m n l h g = record {
   cells = g.cells;
-  plain = g.plain;
   fits = g.fits;
   unaliased = g.unaliased;
   values = λ k d inside e. later p m n _ h (g.values k d inside e);
+  copies = λ k d inside e. (let c = g.copies k d inside e in (c.0, λ w below. later p m n _ h (c.1 w below)));
+  plain = g.plain;
 }
 
 -- tasks that all may stand at the first number
@@ -86,13 +106,7 @@ no_more n = omega arith
 one_first : {X : Type 0} (n : ℕ) (l : X) (ls : List X) → (n + 1) + length ls ≡ n + length (l ∷ ls)
 one_first n l ls = omega arith
 
-pub stand-append : (p : Program) (n : ℕ) (xs ys : List Lowered) → Stand p n (xs ++ ys) → Stand p n xs × Stand p (n + length xs) ys
-stand-append p n [] ys s = (tt, subst (λ (m : ℕ). Stand p m ys) (no_more n) s)
-stand-append p n (x ∷ xs) ys s =
-    let rest = stand-append p (n + 1) xs ys s.2 in
-    ((s.0, s.1, rest.0), subst (λ (m : ℕ). Stand p m ys) (one_first n x xs) rest.1)
-
-good-append : (p : Program) (n : ℕ) (xs ys : List Lowered) → AreGood p n xs → AreGood p (n + length xs) ys → AreGood p n (xs ++ ys)
+pub good-append : (p : Program) (n : ℕ) (xs ys : List Lowered) → AreGood p n xs → AreGood p (n + length xs) ys → AreGood p n (xs ++ ys)
 good-append p n [] ys g h = subst (λ (m : ℕ). AreGood p m ys) (sym (no_more n)) h
 good-append p n (x ∷ xs) ys g h = (g.0, good-append p (n + 1) xs ys g.1 (subst (λ (m : ℕ). AreGood p m ys) (sym (one_first n x xs)) h))
 
@@ -133,7 +147,8 @@ good_load p n xs d r c line inside e =
     let many : length args ≡ area (dims_of p c) = length-table (rect_dims r) (λ i j. element a (r.row + i) (r.col + j)) ∙ ap area (sym e) in
     record {
       cells = one_alone (λ (a : Access). a.cell.0 < length p.cells) (an_access W c) inside;
-      plain = one_alone (λ (a : Access). is_in_order a.mode ≡ true) (an_access W c) refl;
+      copies = one_alone (HasItsCopies p n) (an_access W c) (λ h. absurd (false≢true h));
+      plain = λ e. absurd (cc);
       fits = record { kernel = Load; codelet = refl; operands = ap (λ b. (true && b) && true) ((Decides-eqb (length args) (area (dims_of p c))).1 many); modes = MayHaveModes.Own refl };
       unaliased = alone (λ (a b : Access). same_cell a.cell b.cell ≡ true → (a.mode ≡ R) × (b.mode ≡ R)) (an_access W c);
       values = one_alone (λ (a : Access). reads_value a.mode ≡ true → HasValueBefore p (task_at n) a.cell) (an_access W c) (λ h. absurd (false≢true h));
@@ -142,16 +157,18 @@ good_load p n xs d r c line inside e =
 pub good_fill : (p : Program) (n : ℕ) (a b : ℤ) (d : Dims) (r : Rect) (x : Cell) (line : Line) → x.0 < length p.cells → IsGood p n (fill_row a b d r x line)
 good_fill p n a b d r x line inside = record {
   cells = one_alone (λ (a : Access). a.cell.0 < length p.cells) (an_access W x) inside;
-  plain = one_alone (λ (a : Access). is_in_order a.mode ≡ true) (an_access W x) refl;
+  copies = one_alone (HasItsCopies p n) (an_access W x) (λ h. absurd (false≢true h));
+  plain = λ e. absurd (cc);
   fits = record { kernel = LoadFill; codelet = refl; operands = refl; modes = MayHaveModes.Own refl };
   unaliased = alone (λ (a b : Access). same_cell a.cell b.cell ≡ true → (a.mode ≡ R) × (b.mode ≡ R)) (an_access W x);
   values = one_alone (λ (a : Access). reads_value a.mode ≡ true → HasValueBefore p (task_at n) a.cell) (an_access W x) (λ h. absurd (false≢true h));
 }
 
-pub good_deliver : (p : Program) (n : ℕ) (c : Cell) (line : Line) → c.0 < length p.cells → HasValueBefore p (task_at n) c → IsGood p n (deliver_row c line)
-good_deliver p n c line inside given = record {
+pub good_deliver : (p : Program) (n : ℕ) (c : Cell) (line : Line) → c.0 < length p.cells → IsPlain p c → HasValueBefore p (task_at n) c → IsGood p n (deliver_row c line)
+good_deliver p n c line inside bare given = record {
   cells = one_alone (λ (a : Access). a.cell.0 < length p.cells) (an_access R c) inside;
-  plain = one_alone (λ (a : Access). is_in_order a.mode ≡ true) (an_access R c) refl;
+  copies = one_alone (HasItsCopies p n) (an_access R c) (λ h. absurd (false≢true h));
+  plain = λ e. one_alone (λ (a : Access). IsPlain p a.cell) (an_access R c) bare;
   fits = record { kernel = Deliver; codelet = refl; operands = refl; modes = MayHaveModes.Own refl };
   unaliased = alone (λ (a b : Access). same_cell a.cell b.cell ≡ true → (a.mode ≡ R) × (b.mode ≡ R)) (an_access R c);
   values = one_alone (λ (a : Access). reads_value a.mode ≡ true → HasValueBefore p (task_at n) a.cell) (an_access R c) (λ h. given);
@@ -173,14 +190,16 @@ good_by : (p : Program) (n : ℕ) (x : Paste) (c e : Cell) (line : Line) (b : Bo
     → HasValueBefore p (task_at n) c → (b ≡ false → HasValueBefore p (task_at n) e) → IsGood p n (own_task PasteKernel (paste_arguments x) (an_access R c ∷ an_access (cond b W RW) e ∷ []) line)
 good_by p n x c e line true ic ie apart fit given had = record {
   cells = both_alone (λ (a : Access). a.cell.0 < length p.cells) (an_access R c) (an_access W e) ic ie;
-  plain = both_alone (λ (a : Access). is_in_order a.mode ≡ true) (an_access R c) (an_access W e) refl refl;
+  copies = both_alone (HasItsCopies p n) (an_access R c) (an_access W e) (λ h. absurd (false≢true h)) (λ h. absurd (false≢true h));
+  plain = λ e. absurd (cc);
   fits = record { kernel = PasteKernel; codelet = refl; operands = fit; modes = MayHaveModes.FirstPaste refl refl };
   unaliased = pair_alone (λ (a b : Access). same_cell a.cell b.cell ≡ true → (a.mode ≡ R) × (b.mode ≡ R)) (an_access R c) (an_access W e) (λ same. absurd (false≢true (sym apart ∙ same)));
   values = both_alone (λ (a : Access). reads_value a.mode ≡ true → HasValueBefore p (task_at n) a.cell) (an_access R c) (an_access W e) (λ h. given) (λ h. absurd (false≢true h));
 }
 good_by p n x c e line false ic ie apart fit given had = record {
   cells = both_alone (λ (a : Access). a.cell.0 < length p.cells) (an_access R c) (an_access RW e) ic ie;
-  plain = both_alone (λ (a : Access). is_in_order a.mode ≡ true) (an_access R c) (an_access RW e) refl refl;
+  copies = both_alone (HasItsCopies p n) (an_access R c) (an_access RW e) (λ h. absurd (false≢true h)) (λ h. absurd (false≢true h));
+  plain = λ e. absurd (cc);
   fits = record { kernel = PasteKernel; codelet = refl; operands = fit; modes = MayHaveModes.Own refl };
   unaliased = pair_alone (λ (a b : Access). same_cell a.cell b.cell ≡ true → (a.mode ≡ R) × (b.mode ≡ R)) (an_access R c) (an_access RW e) (λ same. absurd (false≢true (sym apart ∙ same)));
   values = both_alone (λ (a : Access). reads_value a.mode ≡ true → HasValueBefore p (task_at n) a.cell) (an_access R c) (an_access RW e) (λ h. given) (λ h. had refl);
@@ -207,7 +226,7 @@ good_further p n m d s t old new line to (x ∷ xs) can h bs gs had =
     (good_paste p n m d s t old new line x can h bs.0 (λ e. subst (λ (q : ℕ × ℕ). HasValueBefore p (task_at m) (new q)) (sym gs.0.1) had), good_further p n m d s t old new line to xs can h bs.1 gs.1 had)
 
 -- all pastes to a child, of which the first gives it a value
-good_first : (p : Program) (n m : ℕ) (d : Dims) (s t : Parts) (old new : ℕ × ℕ → Cell) (line : Line) (to : ℕ × ℕ) (xs : List Paste) → CanPaste p n d s t old new → n ≤ m → AllByRecursion (IsBetween d s t) xs → AllByRecursion (GoesTo s to) xs → BeginOnce (each_of copy_of xs)
+good_first : (p : Program) (n m : ℕ) (d : Dims) (s t : Parts) (old new : ℕ × ℕ → Cell) (line : Line) (to : ℕ × ℕ) (xs : List Paste) → CanPaste p n d s t old new → n ≤ m → AllByRecursion (IsBetween d s t) xs → AllByRecursion (GoesTo s to) xs → BeginOnce (each_of paste_copy xs)
     → Stand p m (each_of (paste_row old new line) xs) → AreGood p m (each_of (paste_row old new line) xs)
 good_first p n m d s t old new line to [] can h bs gs once stand = tt
 good_first p n m d s t old new line to (x ∷ xs) can h bs gs once stand =
@@ -221,15 +240,7 @@ good_pastes_to p n m d s t old new line to can fs ft at h stand =
 
 -- ---- tasks of task lines
 
-plain_modes : (m : Mode) → is_plain m ≡ true → is_in_order m ≡ true
-plain_modes R h = refl
-plain_modes W h = refl
-plain_modes RW h = refl
-plain_modes Scratch h = refl
-plain_modes Redux h = h
-plain_modes Commute h = h
-
-reading_needs : (m : Mode) → is_plain m ≡ true → reads_value m ≡ true → needs_value m ≡ true
+reading_needs : (m : Mode) → is_direct m ≡ true → reads_value m ≡ true → needs_value m ≡ true
 reading_needs R h e = refl
 reading_needs W h e = e
 reading_needs RW h e = refl
@@ -237,27 +248,27 @@ reading_needs Scratch h e = e
 reading_needs Redux h e = absurd (false≢true h)
 reading_needs Commute h e = refl
 
+-- each root has taken its active plan
+abbrev pub HavePlans : Cells → State → Type 0
+HavePlans C S = (q : List ℕ) (r : Root) → root_of S q ≡ Some r → (f : ℕ) × IsTaken C q r.dims r.parts f
+
+pub plans-of : (p : Program) (C : Cells) (phases : Phases) (n : ℕ) (k : Contents) (S : State) → HaveRoots p C phases n k S → HavePlans C S
+plans-of p C phases n k S has q r e = let b = has q r e in (b.first, b.taken)
+
 -- the operands' cells are there
-all_inside : (p : Program) (C : Cells) (S : State) (n : ℕ) (k : Contents) (os : List Operand) → HasCells p C → AreLaid C → HaveRoots p C n k S → list_all (has_child S) os ≡ true → All (λ (a : Access). a.cell.0 < length p.cells) (each_of (access_of S C) os)
-all_inside p C S n k [] cells laid has placed = All-nil (λ (a : Access). a.cell.0 < length p.cells)
-all_inside p C S n k (o ∷ os) cells laid has placed =
+all_inside : (p : Program) (C : Cells) (S : State) (os : List Operand) → HasCells p C → AreLaid C → HavePlans C S → list_all (has_child S) os ≡ true → All (λ (a : Access). a.cell.0 < length p.cells) (each_of (access_of S C) os)
+all_inside p C S [] cells laid has placed = All-nil (λ (a : Access). a.cell.0 < length p.cells)
+all_inside p C S (o ∷ os) cells laid has placed =
     let b = and_parts (has_child S o) (list_all (has_child S) os) placed in
     let t = child_there S o b.0 in
     let r = has o.name t.root t.is_root in
-    let whole = ap length cells.1 in
     let cell = ap (λ (c : Cell). c.0) (active_cell-is S C o.name o.place t.root t.is_root) in
-    All-cons (λ (a : Access). a.cell.0 < length p.cells) (access_of S C o) (each_of (access_of S C) os) (omega (arith, cell, cell-inside C o.name t.root.dims t.root.parts r.first o.place laid r.taken t.placed, whole, length-append C.rows cells.0)) (all_inside p C S n k os cells laid has b.1)
+    All-cons (λ (a : Access). a.cell.0 < length p.cells) (access_of S C o) (each_of (access_of S C) os) (omega (arith, cell, cell-inside C o.name t.root.dims t.root.parts r.0 o.place laid r.1 t.placed, cells.longer)) (all_inside p C S os cells laid has b.1)
 
-all_plain : (S : State) (C : Cells) (os : List Operand) → list_all (λ o. is_plain o.mode) os ≡ true → All (λ (a : Access). is_in_order a.mode ≡ true) (each_of (access_of S C) os)
-all_plain S C [] h = All-nil (λ (a : Access). is_in_order a.mode ≡ true)
-all_plain S C (o ∷ os) h =
-    let a = and_parts (is_plain o.mode) (list_all (λ o. is_plain o.mode) os) h in
-    All-cons (λ (a : Access). is_in_order a.mode ≡ true) (access_of S C o) (each_of (access_of S C) os) (plain_modes o.mode a.0) (all_plain S C os a.1)
-
-all_given : (p : Program) (C : Cells) (S : State) (n : ℕ) (k : Contents) (os : List Operand) → HaveRoots p C n k S → list_all (λ o. is_plain o.mode) os ≡ true → list_all (has_child S) os ≡ true → list_all (λ o. not (needs_value o.mode) || has_child_values S o) os ≡ true → All (λ (a : Access). reads_value a.mode ≡ true → HasValueBefore p (task_at n) a.cell) (each_of (access_of S C) os)
-all_given p C S n k [] has h placed valued = All-nil (λ (a : Access). reads_value a.mode ≡ true → HasValueBefore p (task_at n) a.cell)
-all_given p C S n k (o ∷ os) has h placed valued =
-    let a = and_parts (is_plain o.mode) (list_all (λ o. is_plain o.mode) os) h in
+pub all_given : (p : Program) (C : Cells) (phases : Phases) (S : State) (n : ℕ) (k : Contents) (os : List Operand) → HaveRoots p C phases n k S → list_all (λ o. is_direct o.mode) os ≡ true → list_all (has_child S) os ≡ true → list_all (λ o. not (needs_value o.mode) || has_child_values S o) os ≡ true → All (λ (a : Access). reads_value a.mode ≡ true → HasValueBefore p (task_at n) a.cell) (each_of (access_of S C) os)
+all_given p C phases S n k [] has h placed valued = All-nil (λ (a : Access). reads_value a.mode ≡ true → HasValueBefore p (task_at n) a.cell)
+all_given p C phases S n k (o ∷ os) has h placed valued =
+    let a = and_parts (is_direct o.mode) (list_all (λ o. is_direct o.mode) os) h in
     let b = and_parts (has_child S o) (list_all (has_child S) os) placed in
     let c = and_parts (not (needs_value o.mode) || has_child_values S o) (list_all (λ o. not (needs_value o.mode) || has_child_values S o) os) valued in
     let t = child_there S o b.0 in
@@ -265,7 +276,14 @@ all_given p C S n k (o ∷ os) has h placed valued =
     All-cons (λ (a : Access). reads_value a.mode ≡ true → HasValueBefore p (task_at n) a.cell) (access_of S C o) (each_of (access_of S C) os)
     (λ e. subst (λ (c : Cell). HasValueBefore p (task_at n) c) (sym (active_cell-is S C o.name o.place t.root t.is_root))
     (r.held o.place t.placed (sym (child_values-are S o t.root t.is_root) ∙ needed (needs_value o.mode) (has_child_values S o) c.0 (reading_needs o.mode a.0 e))).given)
-    (all_given p C S n k os has a.1 b.1 c.1)
+    (all_given p C phases S n k os has a.1 b.1 c.1)
+
+-- operands of which none is a contribution
+pub no_copies : (p : Program) (S : State) (C : Cells) (n : ℕ) (os : List Operand) → list_all (λ o. is_direct o.mode) os ≡ true → All (HasItsCopies p n) (each_of (access_of S C) os)
+no_copies p S C n [] h = All-nil (HasItsCopies p n)
+no_copies p S C n (o ∷ os) h =
+    let a = and_parts (is_direct o.mode) (list_all (λ o. is_direct o.mode) os) h in
+    All-cons (HasItsCopies p n) (access_of S C o) (each_of (access_of S C) os) (λ e. absurd (false≢true (sym (ap not e) ∙ a.0))) (no_copies p S C n os a.1)
 
 -- two operands on one cell only read it
 abbrev ReadOnly : Access → Access → Type 0
@@ -286,56 +304,302 @@ no_clash true true false d e h k = absurd (false≢true (sym e))
 no_clash true false c d e h k = absurd (false≢true k)
 no_clash false b c d e h k = absurd (false≢true h)
 
-pair_reads : (p : Program) (C : Cells) (S : State) (n : ℕ) (k : Contents) (o q : Operand) → AreLaid C → HaveRoots p C n k S → has_child S o ≡ true → has_child S q ≡ true → clashes o q ≡ false → ReadOnly (access_of S C o) (access_of S C q)
-pair_reads p C S n k o q laid has ho hq e same =
+pair_reads : (C : Cells) (S : State) (o q : Operand) → AreLaid C → HavePlans C S → has_child S o ≡ true → has_child S q ≡ true → clashes o q ≡ false → ReadOnly (access_of S C o) (access_of S C q)
+pair_reads C S o q laid has ho hq e same =
     let t = child_there S o ho in
     let u = child_there S q hq in
     let r = has o.name t.root t.is_root in
     let s = has q.name u.root u.is_root in
     let cells = sym (active_cell-is S C o.name o.place t.root t.is_root) ∙ same_cell-is (operand_cell S C o) (operand_cell S C q) same ∙ active_cell-is S C q.name q.place u.root u.is_root in
-    let one = cells-apart C o.name q.name t.root.dims u.root.dims t.root.parts u.root.parts r.first s.first o.place q.place laid r.taken s.taken t.placed u.placed cells in
+    let one = cells-apart C o.name q.name t.root.dims u.root.dims t.root.parts u.root.parts r.0 s.0 o.place q.place laid r.1 s.1 t.placed u.placed cells in
     let reads = no_clash (bytes_eq o.name q.name) (same_place o.place q.place) (is_read_only o.mode) (is_read_only q.mode) e (ap (bytes_eq o.name) (sym one.0) ∙ bytes_eq-itself o.name) (ap (same_place o.place) (sym one.2) ∙ place-itself o.place) in
     (is_read o.mode reads.0, is_read q.mode reads.1)
 
-none_clash : (p : Program) (C : Cells) (S : State) (n : ℕ) (k : Contents) (o : Operand) (os : List Operand) → AreLaid C → HaveRoots p C n k S → has_child S o ≡ true → list_all (has_child S) os ≡ true → list_any (clashes o) os ≡ false → All (ReadOnly (access_of S C o)) (each_of (access_of S C) os)
-none_clash p C S n k o [] laid has ho placed e = All-nil (ReadOnly (access_of S C o))
-none_clash p C S n k o (q ∷ os) laid has ho placed e =
+none_clash : (C : Cells) (S : State) (o : Operand) (os : List Operand) → AreLaid C → HavePlans C S → has_child S o ≡ true → list_all (has_child S) os ≡ true → list_any (clashes o) os ≡ false → All (ReadOnly (access_of S C o)) (each_of (access_of S C) os)
+none_clash C S o [] laid has ho placed e = All-nil (ReadOnly (access_of S C o))
+none_clash C S o (q ∷ os) laid has ho placed e =
     let b = and_parts (has_child S q) (list_all (has_child S) os) placed in
     let c = or_none (clashes o q) (list_any (clashes o) os) e in
-    All-cons (ReadOnly (access_of S C o)) (access_of S C q) (each_of (access_of S C) os) (pair_reads p C S n k o q laid has ho b.0 c.0) (none_clash p C S n k o os laid has ho b.1 c.1)
+    All-cons (ReadOnly (access_of S C o)) (access_of S C q) (each_of (access_of S C) os) (pair_reads C S o q laid has ho b.0 c.0) (none_clash C S o os laid has ho b.1 c.1)
 
-all_apart : (p : Program) (C : Cells) (S : State) (n : ℕ) (k : Contents) (os : List Operand) → AreLaid C → HaveRoots p C n k S → list_all (has_child S) os ≡ true → is_aliased os ≡ false → AllPairs ReadOnly (each_of (access_of S C) os)
-all_apart p C S n k [] laid has placed e = λ i j d h k. absurd (omega arith)
-all_apart p C S n k (o ∷ os) laid has placed e =
+all_apart : (C : Cells) (S : State) (os : List Operand) → AreLaid C → HavePlans C S → list_all (has_child S) os ≡ true → is_aliased os ≡ false → AllPairs ReadOnly (each_of (access_of S C) os)
+all_apart C S [] laid has placed e = λ i j d h k. absurd (omega arith)
+all_apart C S (o ∷ os) laid has placed e =
     let b = and_parts (has_child S o) (list_all (has_child S) os) placed in
     let c = or_none (list_any (clashes o) os) (is_aliased os) e in
-    AllPairs-cons ReadOnly (access_of S C o) (each_of (access_of S C) os) (none_clash p C S n k o os laid has b.0 b.1 c.0) (all_apart p C S n k os laid has b.1 c.1)
+    AllPairs-cons ReadOnly (access_of S C o) (each_of (access_of S C) os) (none_clash C S o os laid has b.0 b.1 c.0) (all_apart C S os laid has b.1 c.1)
 
-all_dims_are : (p : Program) (C : Cells) (S : State) (n : ℕ) (k : Contents) (os : List Operand) → HasCells p C → AreLaid C → HaveRoots p C n k S → list_all (has_child S) os ≡ true → each_of (λ (a : Access). dims_of p a.cell) (each_of (access_of S C) os) ≡ each_of (child_dims S) os
-all_dims_are p C S n k [] cells laid has placed = refl
-all_dims_are p C S n k (o ∷ os) cells laid has placed =
+all_dims_are : (p : Program) (C : Cells) (S : State) (os : List Operand) → HasCells p C → AreLaid C → HavePlans C S → list_all (has_child S) os ≡ true → each_of (λ (a : Access). dims_of p a.cell) (each_of (access_of S C) os) ≡ each_of (child_dims S) os
+all_dims_are p C S [] cells laid has placed = refl
+all_dims_are p C S (o ∷ os) cells laid has placed =
     let b = and_parts (has_child S o) (list_all (has_child S) os) placed in
     let t = child_there S o b.0 in
     let r = has o.name t.root t.is_root in
-    ap (λ (d : Dims). d ∷ each_of (λ (a : Access). dims_of p a.cell) (each_of (access_of S C) os)) (ap (dims_of p) (active_cell-is S C o.name o.place t.root t.is_root) ∙ cell-dims p C o.name t.root.dims t.root.parts r.first o.place cells laid r.taken t.placed ∙ sym (child_dims-are S o t.root t.is_root))
-    ∙ ap (λ (ds : List Dims). child_dims S o ∷ ds) (all_dims_are p C S n k os cells laid has b.1)
+    ap (λ (d : Dims). d ∷ each_of (λ (a : Access). dims_of p a.cell) (each_of (access_of S C) os)) (ap (dims_of p) (active_cell-is S C o.name o.place t.root t.is_root) ∙ cell-dims p C o.name t.root.dims t.root.parts r.0 o.place cells laid r.1 t.placed ∙ sym (child_dims-are S o t.root t.is_root))
+    ∙ ap (λ (ds : List Dims). child_dims S o ∷ ds) (all_dims_are p C S os cells laid has b.1)
 
 modes_of_accesses : (S : State) (C : Cells) (os : List Operand) → each_of (λ (a : Access). a.mode) (each_of (access_of S C) os) ≡ each_of (λ (o : Operand). o.mode) os
 modes_of_accesses S C [] = refl
 modes_of_accesses S C (o ∷ os) = ap (λ (ms : List Mode). o.mode ∷ ms) (modes_of_accesses S C os)
 
-pub good_task : (has : Kernel → Bool) (p : Program) (C : Cells) (S : State) (n : ℕ) (k : Contents) (t : TaskLine) (line : Line) → HasCells p C → AreLaid C → HaveRoots p C n k S → IsSoundTask has S t → IsGood p n (task_row S C line t)
-good_task has p C S n k t line cells laid roots s =
+-- ---- modes of task lines
+
+-- what is written has this mode
+abbrev pub WritesAs : Mode → Operand → Type 0
+WritesAs x o = is_written o.mode ≡ true → o.mode ≡ x
+
+-- a mode is the codelet's own, with another for what is written
+mode-with : (x : Mode) (f : Formal) (m : Mode) → mode_fits f m ≡ true → (is_written m ≡ true → m ≡ x) → m ≡ cond (is_written (mode_of f)) x (mode_of f)
+mode-with x FormalR R e h = refl
+mode-with x FormalR W e h = absurd (cc)
+mode-with x FormalR RW e h = absurd (cc)
+mode-with x FormalR Scratch e h = absurd (cc)
+mode-with x FormalR Redux e h = absurd (cc)
+mode-with x FormalR Commute e h = absurd (cc)
+mode-with x FormalW R e h = absurd (cc)
+mode-with x FormalW W e h = h refl
+mode-with x FormalW RW e h = absurd (cc)
+mode-with x FormalW Scratch e h = absurd (cc)
+mode-with x FormalW Redux e h = h refl
+mode-with x FormalW Commute e h = h refl
+mode-with x FormalRW R e h = absurd (cc)
+mode-with x FormalRW W e h = absurd (cc)
+mode-with x FormalRW RW e h = h refl
+mode-with x FormalRW Scratch e h = absurd (cc)
+mode-with x FormalRW Redux e h = h refl
+mode-with x FormalRW Commute e h = h refl
+mode-with x FormalScratch R e h = absurd (cc)
+mode-with x FormalScratch W e h = absurd (cc)
+mode-with x FormalScratch RW e h = absurd (cc)
+mode-with x FormalScratch Scratch e h = refl
+mode-with x FormalScratch Redux e h = absurd (cc)
+mode-with x FormalScratch Commute e h = absurd (cc)
+
+modes-with : (x : Mode) (fs : List Formal) (os : List Operand) → modes_fit fs os ≡ true → length os ≡ length fs → AllByRecursion (WritesAs x) os → each_of (λ (o : Operand). o.mode) os ≡ each_of (λ m. cond (is_written m) x m) (each_of mode_of fs)
+modes-with x [] [] e l h = refl
+modes-with x [] (o ∷ os) e l h = absurd (omega arith)
+modes-with x (f ∷ fs) [] e l h = absurd (omega arith)
+modes-with x (f ∷ fs) (o ∷ os) e l h =
+    let m = and_parts (mode_fits f o.mode) (modes_fit fs os) e in
+    ap (λ (y : Mode). y ∷ each_of (λ (o : Operand). o.mode) os) (mode-with x f o.mode m.0 h.0) ∙ ap (λ (ys : List Mode). cond (is_written (mode_of f)) x (mode_of f) ∷ ys) (modes-with x fs os m.1 (omega (arith, l)) h.1)
+
+-- a mode of an operand that neither contributes nor commutes is the codelet's own
+mode-own : (f : Formal) (m : Mode) → mode_fits f m ≡ true → is_redux m ≡ false → is_commute m ≡ false → m ≡ mode_of f
+mode-own FormalR R e h c = refl
+mode-own FormalR W e h c = absurd (cc)
+mode-own FormalR RW e h c = absurd (cc)
+mode-own FormalR Scratch e h c = absurd (cc)
+mode-own FormalR Redux e h c = absurd (cc)
+mode-own FormalR Commute e h c = absurd (cc)
+mode-own FormalW R e h c = absurd (cc)
+mode-own FormalW W e h c = refl
+mode-own FormalW RW e h c = absurd (cc)
+mode-own FormalW Scratch e h c = absurd (cc)
+mode-own FormalW Redux e h c = absurd (cc)
+mode-own FormalW Commute e h c = absurd (cc)
+mode-own FormalRW R e h c = absurd (cc)
+mode-own FormalRW W e h c = absurd (cc)
+mode-own FormalRW RW e h c = refl
+mode-own FormalRW Scratch e h c = absurd (cc)
+mode-own FormalRW Redux e h c = absurd (cc)
+mode-own FormalRW Commute e h c = absurd (cc)
+mode-own FormalScratch R e h c = absurd (cc)
+mode-own FormalScratch W e h c = absurd (cc)
+mode-own FormalScratch RW e h c = absurd (cc)
+mode-own FormalScratch Scratch e h c = refl
+mode-own FormalScratch Redux e h c = absurd (cc)
+mode-own FormalScratch Commute e h c = absurd (cc)
+
+modes-own : (fs : List Formal) (os : List Operand) → modes_fit fs os ≡ true → length os ≡ length fs → list_all (λ o. is_direct o.mode) os ≡ true → list_any (λ o. is_commute o.mode) os ≡ false → each_of (λ (o : Operand). o.mode) os ≡ each_of mode_of fs
+modes-own [] [] e l d c = refl
+modes-own [] (o ∷ os) e l d c = absurd (omega arith)
+modes-own (f ∷ fs) [] e l d c = absurd (omega arith)
+modes-own (f ∷ fs) (o ∷ os) e l d c =
+    let m = and_parts (mode_fits f o.mode) (modes_fit fs os) e in
+    let n = and_parts (is_direct o.mode) (list_all (λ o. is_direct o.mode) os) d in
+    let k = or_none (is_commute o.mode) (list_any (λ o. is_commute o.mode) os) c in
+    ap (λ (x : Mode). x ∷ each_of (λ (o : Operand). o.mode) os) (mode-own f o.mode m.0 (unnot (is_redux o.mode) n.0) k.0) ∙ ap (λ (xs : List Mode). mode_of f ∷ xs) (modes-own fs os m.1 (omega (arith, l)) n.1 k.1)
+  where
+    unnot : (b : Bool) → not b ≡ true → b ≡ false
+    unnot true e = absurd (false≢true e)
+    unnot false e = refl
+
+-- as many formals are outputs as operands are written
+outputs-count : (fs : List Formal) (os : List Operand) → modes_fit fs os ≡ true → length os ≡ length fs → count_by is_written (each_of mode_of fs) ≡ length (written_of os)
+outputs-count [] [] e l = refl
+outputs-count [] (o ∷ os) e l = absurd (omega arith)
+outputs-count (f ∷ fs) [] e l = absurd (omega arith)
+outputs-count (f ∷ fs) (o ∷ os) e l =
+    let m = and_parts (mode_fits f o.mode) (modes_fit fs os) e in
+    sum_by-cons (λ y. cond (is_written y) 1 0) (mode_of f) (each_of mode_of fs)
+    ∙ by_test (is_written (mode_of f)) (writes o.mode) (same f o.mode m.0) (outputs-count fs os m.1 (omega (arith, l)))
+  where
+    same : (f : Formal) (m : Mode) → mode_fits f m ≡ true → is_written (mode_of f) ≡ writes m
+    same f m e = same_formal f ∙ sym (writes_output f m e) ∙ sym (same_writes m)
+      where
+        same_formal : (f : Formal) → is_written (mode_of f) ≡ is_output f
+        same_formal FormalR = refl
+        same_formal FormalW = refl
+        same_formal FormalRW = refl
+        same_formal FormalScratch = refl
+
+    by_test : (b c : Bool) → b ≡ c → count_by is_written (each_of mode_of fs) ≡ length (written_of os) → cond b 1 0 + count_by is_written (each_of mode_of fs) ≡ length (cond c (o ∷ written_of os) (written_of os))
+    by_test true true e rest = omega (arith, rest)
+    by_test false false e rest = omega (arith, rest)
+    by_test true false e rest = absurd (false≢true (sym e))
+    by_test false true e rest = absurd (false≢true e)
+
+commute_writes : (m : Mode) → is_commute m ≡ true → writes m ≡ true
+commute_writes R e = absurd (false≢true e)
+commute_writes W e = absurd (false≢true e)
+commute_writes RW e = absurd (false≢true e)
+commute_writes Scratch e = absurd (false≢true e)
+commute_writes Redux e = absurd (false≢true e)
+commute_writes Commute e = refl
+
+is-commute : (m : Mode) → is_commute m ≡ true → m ≡ Commute
+is-commute R e = absurd (false≢true e)
+is-commute W e = absurd (false≢true e)
+is-commute RW e = absurd (false≢true e)
+is-commute Scratch e = absurd (false≢true e)
+is-commute Redux e = absurd (false≢true e)
+is-commute Commute e = refl
+
+none-writes : (x : Mode) (os : List Operand) → length (written_of os) ≡ 0 → AllByRecursion (WritesAs x) os × (list_any (λ o. is_commute o.mode) os ≡ false)
+none-writes x [] e = (tt, refl)
+none-writes x (o ∷ os) e = by_test (writes o.mode) refl e (none-writes x os)
+  where
+    by_test : (b : Bool) → writes o.mode ≡ b → length (cond b (o ∷ written_of os) (written_of os)) ≡ 0 → (length (written_of os) ≡ 0 → AllByRecursion (WritesAs x) os × (list_any (λ o. is_commute o.mode) os ≡ false)) → AllByRecursion (WritesAs x) (o ∷ os) × (list_any (λ o. is_commute o.mode) (o ∷ os) ≡ false)
+    by_test true w e next = absurd (omega (arith, e))
+    by_test false w e next =
+        let rest = next e in
+        ((λ h. absurd (false≢true (sym w ∙ same_writes o.mode ∙ h)), rest.0), by_commute (is_commute o.mode) refl rest.1)
+      where
+        by_commute : (c : Bool) → is_commute o.mode ≡ c → list_any (λ o. is_commute o.mode) os ≡ false → (c || list_any (λ o. is_commute o.mode) os) ≡ false
+        by_commute true h rest = absurd (false≢true (sym w ∙ commute_writes o.mode h))
+        by_commute false h rest = rest
+
+-- the one operand that is written commutes
+commuting-writes : (os : List Operand) → length (written_of os) ≡ 1 → list_any (λ o. is_commute o.mode) os ≡ true → AllByRecursion (WritesAs Commute) os
+commuting-writes [] e any = absurd (false≢true any)
+commuting-writes (o ∷ os) e any = by_test (writes o.mode) refl e any (commuting-writes os)
+  where
+    by_test : (b : Bool) → writes o.mode ≡ b → length (cond b (o ∷ written_of os) (written_of os)) ≡ 1 → (is_commute o.mode || list_any (λ o. is_commute o.mode) os) ≡ true
+        → (length (written_of os) ≡ 1 → list_any (λ o. is_commute o.mode) os ≡ true → AllByRecursion (WritesAs Commute) os) → AllByRecursion (WritesAs Commute) (o ∷ os)
+    by_test true w e any rest =
+        let none = none-writes Commute os (omega (arith, e)) in
+        (λ h. is-commute o.mode (first (is_commute o.mode) (list_any (λ o. is_commute o.mode) os) any none.1), none.0)
+      where
+        first : (a b : Bool) → (a || b) ≡ true → b ≡ false → a ≡ true
+        first true b e f = refl
+        first false b e f = absurd (false≢true (sym f ∙ e))
+    by_test false w e any rest = (λ h. absurd (false≢true (sym w ∙ same_writes o.mode ∙ h)), rest e (second (is_commute o.mode) refl any))
+      where
+        second : (c : Bool) → is_commute o.mode ≡ c → (c || list_any (λ o. is_commute o.mode) os) ≡ true → list_any (λ o. is_commute o.mode) os ≡ true
+        second true h e = absurd (false≢true (sym w ∙ commute_writes o.mode h))
+        second false h e = e
+
+-- the codelet of a commuting operand commutes
+commuting-codelet : (has : Kernel → Bool) (S : State) (t : TaskLine) (k : Kernel) → kernel_of t.codelet ≡ Some k → (os : List Operand) → list_all (is_lawful has S t.codelet) os ≡ true → list_any (λ o. is_commute o.mode) os ≡ true → commutes_of k ≡ true
+commuting-codelet has S t k e [] law any = absurd (false≢true any)
+commuting-codelet has S t k e (o ∷ os) law any =
+    let a = and_parts (is_lawful has S t.codelet o) (list_all (is_lawful has S t.codelet) os) law in
+    by_test (is_commute o.mode) any (and_parts (not (is_commute o.mode) || commutes_in has t.codelet) _ a.0).0 (commuting-codelet has S t k e os a.1)
+  where
+    by_codelet : commutes_in has t.codelet ≡ true → commutes_of k ≡ true
+    by_codelet h = (and_parts (has k) (commutes_of k) (sym (ap (λ (o : Option Kernel). elim o as (λ _. Bool) [ None ↦ false | Some k ↦ has k && commutes_of k ]) e) ∙ h)).1
+
+    by_test : (b : Bool) → (b || list_any (λ o. is_commute o.mode) os) ≡ true → (not b || commutes_in has t.codelet) ≡ true → (list_any (λ o. is_commute o.mode) os ≡ true → commutes_of k ≡ true) → commutes_of k ≡ true
+    by_test true any h rest = by_codelet h
+    by_test false any h rest = rest any
+
+any-unordered : (os : List Operand) → list_any (λ o. is_commute o.mode) os ≡ true → list_any (λ o. is_unordered o.mode) os ≡ true
+any-unordered [] e = e
+any-unordered (o ∷ os) e = by_test (is_redux o.mode) (is_commute o.mode) e (any-unordered os)
+  where
+    by_test : (a b : Bool) → (b || list_any (λ o. is_commute o.mode) os) ≡ true → (list_any (λ o. is_commute o.mode) os ≡ true → list_any (λ o. is_unordered o.mode) os ≡ true) → ((a || b) || list_any (λ o. is_unordered o.mode) os) ≡ true
+    by_test true b e rest = refl
+    by_test false true e rest = refl
+    by_test false false e rest = rest e
+
+-- the modes of a task without contributions
+pub direct-modes : (has : Kernel → Bool) (S : State) (t : TaskLine) (s : IsSoundTask has S t) → list_all (λ o. is_direct o.mode) t.operands ≡ true → MayHaveModes (kernel_there has S t s).call.kernel (each_of (λ (o : Operand). o.mode) t.operands)
+direct-modes has S t s direct = by_test (list_any (λ o. is_commute o.mode) t.operands) refl
+  where
+    by_test : (b : Bool) → list_any (λ o. is_commute o.mode) t.operands ≡ b → MayHaveModes (kernel_there has S t s).call.kernel (each_of (λ (o : Operand). o.mode) t.operands)
+    by_test false none = let k = kernel_there has S t s in MayHaveModes.Own (modes-own (formals_of k.call.kernel) t.operands k.modes k.count direct none)
+    by_test true any =
+        let k = kernel_there has S t s in
+        let one = s.alone (any-unordered t.operands any) in
+        MayHaveModes.Commuting (commuting-codelet has S t k.call.kernel k.call.is t.operands s.lawful any) (outputs-count (formals_of k.call.kernel) t.operands k.modes k.count ∙ one)
+        (modes-with Commute (formals_of k.call.kernel) t.operands k.modes k.count (commuting-writes t.operands one any))
+
+-- the modes of one with a contribution
+pub contribution-modes : (has : Kernel → Bool) (S : State) (t : TaskLine) (s : IsSoundTask has S t) → Contributes S t (kernel_there has S t s).call.kernel → MayHaveModes (kernel_there has S t s).call.kernel (each_of (λ (o : Operand). o.mode) t.operands)
+contribution-modes has S t s con =
+    let k = kernel_there has S t s in
+    MayHaveModes.Contributing con.by con.contributes (outputs-count (formals_of k.call.kernel) t.operands k.modes k.count ∙ ap length con.written)
+    (modes-with Redux (formals_of k.call.kernel) t.operands k.modes k.count (subst (λ (os : List Operand). AllByRecursion (WritesAs Redux) os) (sym con.is) (in-order con.before con.last con.reads con.redux)))
+  where
+    in-order : (vs : List Operand) (u : Operand) → AllByRecursion IsRead vs → u.mode ≡ Redux → AllByRecursion (WritesAs Redux) (vs ++ u ∷ [])
+    in-order [] u h e = (λ w. e, tt)
+    in-order (v ∷ vs) u h e = (λ w. absurd (false≢true (sym h.0.1 ∙ w)), in-order vs u h.1 e)
+
+-- ---- tasks of task lines
+
+pub good_task : (has : Kernel → Bool) (p : Program) (C : Cells) (S : State) (n : ℕ) (t : TaskLine) (line : Line) → HasCells p C → AreLaid C → HavePlans C S → (s : IsSoundTask has S t) → MayHaveModes (kernel_there has S t s).call.kernel (each_of (λ (o : Operand). o.mode) t.operands)
+    → All (λ (a : Access). reads_value a.mode ≡ true → HasValueBefore p (task_at n) a.cell) (each_of (access_of S C) t.operands) → All (HasItsCopies p n) (each_of (access_of S C) t.operands) → (kernel_of t.codelet ≡ Some Deliver → ⊥) → IsGood p n (task_row S C line t)
+good_task has p C S n t line cells laid plans s modes given copies nameable =
     let kernel = kernel_there has S t s in
     record {
-      cells = all_inside p C S n k t.operands cells laid roots s.placed;
-      plain = all_plain S C t.operands s.plain;
+      cells = all_inside p C S t.operands cells laid plans s.placed;
       fits = record {
         kernel = kernel.call.kernel;
         codelet = kernel.call.is;
-        operands = ap (fits kernel.call.kernel t.args) (all_dims_are p C S n k t.operands cells laid roots s.placed) ∙ kernel.call.fits;
-        modes = MayHaveModes.Own (modes_of_accesses S C t.operands ∙ kernel.modes);
+        operands = ap (fits kernel.call.kernel t.args) (all_dims_are p C S t.operands cells laid plans s.placed) ∙ kernel.call.fits;
+        modes = subst (MayHaveModes kernel.call.kernel) (sym (modes_of_accesses S C t.operands)) modes;
       };
-      unaliased = AllPairs-filter ReadOnly (λ (a : Access). not (is_scratch a.mode)) (each_of (access_of S C) t.operands) (all_apart p C S n k t.operands laid roots s.placed s.apart);
-      values = all_given p C S n k t.operands roots s.plain s.placed s.valued;
+      unaliased = AllPairs-filter ReadOnly (λ (a : Access). not (is_scratch a.mode)) (each_of (access_of S C) t.operands) (all_apart C S t.operands laid plans s.placed s.apart);
+      values = given;
+      copies = copies;
+      plain = λ e. absurd (nameable e);
     }
+
+-- ---- tasks of phases
+
+pub good_init : (p : Program) (n : ℕ) (by : Reduction) (line : Line) (c : Cell) → c.0 < length p.cells → IsGood p n (init_row by line c)
+good_init p n Plus line c inside = record {
+  cells = one_alone (λ (a : Access). a.cell.0 < length p.cells) (an_access W c) inside;
+  copies = one_alone (HasItsCopies p n) (an_access W c) (λ h. absurd (false≢true h));
+  plain = λ e. absurd (cc);
+  fits = record { kernel = init_of Plus; codelet = refl; operands = refl; modes = MayHaveModes.Own refl };
+  unaliased = alone (λ (a b : Access). same_cell a.cell b.cell ≡ true → (a.mode ≡ R) × (b.mode ≡ R)) (an_access W c);
+  values = one_alone (λ (a : Access). reads_value a.mode ≡ true → HasValueBefore p (task_at n) a.cell) (an_access W c) (λ h. absurd (false≢true h));
+}
+good_init p n Least line c inside = record {
+  cells = one_alone (λ (a : Access). a.cell.0 < length p.cells) (an_access W c) inside;
+  copies = one_alone (HasItsCopies p n) (an_access W c) (λ h. absurd (false≢true h));
+  plain = λ e. absurd (cc);
+  fits = record { kernel = init_of Least; codelet = refl; operands = refl; modes = MayHaveModes.Own refl };
+  unaliased = alone (λ (a b : Access). same_cell a.cell b.cell ≡ true → (a.mode ≡ R) × (b.mode ≡ R)) (an_access W c);
+  values = one_alone (λ (a : Access). reads_value a.mode ≡ true → HasValueBefore p (task_at n) a.cell) (an_access W c) (λ h. absurd (false≢true h));
+}
+
+pub good_combine : (p : Program) (n : ℕ) (by : Reduction) (c : Cell) (line : Line) (q : Cell) → q.0 < length p.cells → c.0 < length p.cells → dims_of p q ≡ dims_of p c → same_cell q c ≡ false → HasValueBefore p (task_at n) q → HasValueBefore p (task_at n) c → IsGood p n (combine_row by c line q)
+good_combine p n by c line q iq ic dims apart gq gc = by_reduction by
+  where
+    cells_in : All (λ (a : Access). a.cell.0 < length p.cells) (an_access R q ∷ an_access RW c ∷ [])
+    cells_in = both_alone (λ (a : Access). a.cell.0 < length p.cells) (an_access R q) (an_access RW c) iq ic
+
+    copies_in : All (HasItsCopies p n) (an_access R q ∷ an_access RW c ∷ [])
+    copies_in = both_alone (HasItsCopies p n) (an_access R q) (an_access RW c) (λ h. absurd (false≢true h)) (λ h. absurd (false≢true h))
+
+    pair : AllPairs (λ (a b : Access). same_cell a.cell b.cell ≡ true → (a.mode ≡ R) × (b.mode ≡ R)) (an_access R q ∷ an_access RW c ∷ [])
+    pair = pair_alone (λ (a b : Access). same_cell a.cell b.cell ≡ true → (a.mode ≡ R) × (b.mode ≡ R)) (an_access R q) (an_access RW c) (λ same. absurd (false≢true (sym apart ∙ same)))
+
+    values_in : All (λ (a : Access). reads_value a.mode ≡ true → HasValueBefore p (task_at n) a.cell) (an_access R q ∷ an_access RW c ∷ [])
+    values_in = both_alone (λ (a : Access). reads_value a.mode ≡ true → HasValueBefore p (task_at n) a.cell) (an_access R q) (an_access RW c) (λ h. gq) (λ h. gc)
+
+    by_reduction : (by : Reduction) → IsGood p n (combine_row by c line q)
+    by_reduction Plus = record { cells = cells_in; copies = copies_in; plain = λ e. absurd (cc); fits = record { kernel = combine_of Plus; codelet = refl; operands = same-itself (dims_of p q) (dims_of p c) dims; modes = MayHaveModes.Own refl }; unaliased = pair; values = values_in }
+    by_reduction Least = record { cells = cells_in; copies = copies_in; plain = λ e. absurd (cc); fits = record { kernel = combine_of Least; codelet = refl; operands = same-itself (dims_of p q) (dims_of p c) dims; modes = MayHaveModes.Own refl }; unaliased = pair; values = values_in }

@@ -7,7 +7,6 @@ use Rattle.std.proofs.lemmas.List.{get_or_append_left, get_or-append_right, appe
 use Rattle.std.proofs.lemmas.List.Elements.{All-append, All-from_recursion}
 use Rattle.std.proofs.lemmas.Slice.Eq.{bytes_eq-Decides}
 use Rattle.sj_base.specs.declared.ids.Cell.{Cell}
-use Rattle.sj_base.specs.declared.ids.Root.{Root}
 use Rattle.sj_base.specs.declared.tile.Dims.{Dims}
 use Rattle.sj_base.specs.declared.program.CellInfo.{CellInfo}
 use Rattle.sj_base.specs.Array.{area}
@@ -45,10 +44,10 @@ pub record IsTaken (C : Cells) (q : List ℕ) (d : Dims) (s : Parts) (f : ℕ) :
 pub record AreLaid (C : Cells) : Type 0 where
   pub fits : (q : List ℕ) (d : Dims) (s : Parts) (f : ℕ) → IsTaken C q d s f → Fits s d
   pub inside : (q : List ℕ) (d : Dims) (s : Parts) (f : ℕ) → IsTaken C q d s f → f + s.r * s.c ≤ length C.rows
-  pub row : (q : List ℕ) (d : Dims) (s : Parts) (f : ℕ) (place : ℕ × ℕ) (k : IsTaken C q d s f) → IsPlace s place → get_or C.rows (f + number s place) no_cell ≡ child_cell k.handle.root d s place
+  pub row : (q : List ℕ) (d : Dims) (s : Parts) (f : ℕ) (place : ℕ × ℕ) → IsTaken C q d s f → IsPlace s place → (get_or C.rows (f + number s place) no_cell).dims ≡ dims_of (child d s place)
   pub apart : (q u : List ℕ) (d e : Dims) (s t : Parts) (f g : ℕ) (place other : ℕ × ℕ) → IsTaken C q d s f → IsTaken C u e t g → IsPlace s place → IsPlace t other → f + number s place ≡ g + number t other → (q ≡ u) × (s ≡ t) × (place ≡ other)
   pub sized : (q : List ℕ) (h : Handle) → C.handles q ≡ Some h → area h.dims ≤ 16777216
-  pub small : All (λ (i : CellInfo). (i.partials ≡ None) × (area i.dims ≤ 2 ^ 24)) C.rows
+  pub small : All (λ (i : CellInfo). area i.dims ≤ 2 ^ 24) C.rows
 
 -- the same of the cell of a child
 pub cell-is : (C : Cells) (q : List ℕ) (d : Dims) (s : Parts) (f : ℕ) (place : ℕ × ℕ) → IsTaken C q d s f → (cell_of C q s place).0 ≡ f + number s place
@@ -59,7 +58,7 @@ pub cell-inside : (C : Cells) (q : List ℕ) (d : Dims) (s : Parts) (f : ℕ) (p
 cell-inside C q d s f place a k h = omega (arith, cell-is C q d s f place k, a.inside q d s f k, number-below s place h)
 
 pub cell-row : (C : Cells) (q : List ℕ) (d : Dims) (s : Parts) (f : ℕ) (place : ℕ × ℕ) → AreLaid C → IsTaken C q d s f → IsPlace s place → (get_or C.rows (cell_of C q s place).0 no_cell).dims ≡ dims_of (child d s place)
-cell-row C q d s f place a k h = ap (λ n. (get_or C.rows n no_cell).dims) (cell-is C q d s f place k) ∙ ap (λ (i : CellInfo). i.dims) (a.row q d s f place k h)
+cell-row C q d s f place a k h = ap (λ n. (get_or C.rows n no_cell).dims) (cell-is C q d s f place k) ∙ a.row q d s f place k h
 
 pub cells-apart : (C : Cells) (q u : List ℕ) (d e : Dims) (s t : Parts) (f g : ℕ) (place other : ℕ × ℕ) → AreLaid C → IsTaken C q d s f → IsTaken C u e t g → IsPlace s place → IsPlace t other → cell_of C q s place ≡ cell_of C u t other → (q ≡ u) × (s ≡ t) × (place ≡ other)
 cells-apart C q u d e s t f g place other a k l hp ho same =
@@ -80,7 +79,7 @@ laid-none = record {
   row = λ q d s f place k h. absurd (none_isn't k.handle k.is);
   apart = λ q u d e s t f g place other k l hp ho same. absurd (none_isn't k.handle k.is);
   sized = λ q h e. absurd (none_isn't h e);
-  small = All-from_recursion (λ (i : CellInfo). (i.partials ≡ None) × (area i.dims ≤ 2 ^ 24)) [] tt;
+  small = All-from_recursion (λ (i : CellInfo). area i.dims ≤ 2 ^ 24) [] tt;
 }
 
 -- ---- a root more
@@ -99,20 +98,11 @@ root-keeps C name n q d s f other k = record { handle = k.handle; is = ap (λ b.
 pub root-there : (C : Cells) (name : List ℕ) (n : Dims) → (with_root name n C).handles name ≡ Some (next_handle n C)
 root-there C name n = ap (λ b. cond b (Some (next_handle n C)) (C.handles name)) (bytes_eq-itself name)
 
-root_of_taken : (C : Cells) (name : List ℕ) (n : Dims) (q : List ℕ) (d : Dims) (s : Parts) (f : ℕ) (k : IsTaken (with_root name n C) q d s f) → (taken-root C name n q d s f k).handle.root ≡ k.handle.root
-root_of_taken C name n q d s f k =
-    let old = taken-root C name n q d s f k in
-    by_test (bytes_eq name q) refl k.is
-  where
-    by_test : (b : Bool) → bytes_eq name q ≡ b → cond b (Some (next_handle n C)) (C.handles q) ≡ Some k.handle → (taken-root C name n q d s f k).handle.root ≡ k.handle.root
-    by_test true t e = absurd (none_isn't f (ap (λ (h : Handle). h.first s) (some_is (next_handle n C) k.handle e) ∙ k.first))
-    by_test false t e = ap (λ (h : Handle). h.root) (some_is (taken-root C name n q d s f k).handle k.handle (sym (taken-root C name n q d s f k).is ∙ e))
-
 pub laid-root : (C : Cells) (name : List ℕ) (n : Dims) → AreLaid C → area n ≤ 16777216 → AreLaid (with_root name n C)
 laid-root C name n a few = record {
   fits = λ q d s f k. a.fits q d s f (taken-root C name n q d s f k);
   inside = λ q d s f k. a.inside q d s f (taken-root C name n q d s f k);
-  row = λ q d s f place k h. a.row q d s f place (taken-root C name n q d s f k) h ∙ ap (λ (r : Root). child_cell r d s place) (root_of_taken C name n q d s f k);
+  row = λ q d s f place k h. a.row q d s f place (taken-root C name n q d s f k) h;
   apart = λ q u d e s t f g place other k l hp ho same. a.apart q u d e s t f g place other (taken-root C name n q d s f k) (taken-root C name n u e t g l) hp ho same;
   sized = λ q h e. by_test q h (bytes_eq name q) e;
   small = a.small;
@@ -128,7 +118,7 @@ pub take-by : (C : Cells) (name : List ℕ) (p : Parts) (h : Handle) → C.handl
 take-by C name p h e = ap (λ (o : Option Handle). elim o as (λ _. Cells) [ None ↦ C | Some h ↦ take_by name p h C ]) e
 
 -- the children of a plan that is new to its root
-abbrev News : List ℕ → Parts → Handle → Cells → Cells
+abbrev pub News : List ℕ → Parts → Handle → Cells → Cells
 News name p h C = record {
   rows = C.rows ++ each_of (child_cell h.root h.dims p) (places p);
   handles = with_handle name (taking p (length C.rows) h) C.handles;
@@ -136,22 +126,22 @@ News name p h C = record {
 }
 
 -- a plan that is taken now is the new one, or was taken before
-data IsOldOrNew (C : Cells) (name : List ℕ) (p : Parts) (h : Handle) (q : List ℕ) (d : Dims) (s : Parts) (f : ℕ) (root : Root) : Type 0 where
-  Old : (k : IsTaken C q d s f) → k.handle.root ≡ root → IsOldOrNew C name p h q d s f root
-  New : name ≡ q → p ≡ s → h.dims ≡ d → f ≡ length C.rows → h.root ≡ root → IsOldOrNew C name p h q d s f root
+pub data IsOldOrNew (C : Cells) (name : List ℕ) (p : Parts) (h : Handle) (q : List ℕ) (d : Dims) (s : Parts) (f : ℕ) : Type 0 where
+  Old : IsTaken C q d s f → IsOldOrNew C name p h q d s f
+  New : name ≡ q → p ≡ s → h.dims ≡ d → f ≡ length C.rows → IsOldOrNew C name p h q d s f
 
-old_or_new : (C : Cells) (name : List ℕ) (p : Parts) (h : Handle) → C.handles name ≡ Some h → (q : List ℕ) (d : Dims) (s : Parts) (f : ℕ) (k : IsTaken (News name p h C) q d s f) → IsOldOrNew C name p h q d s f k.handle.root
+pub old_or_new : (C : Cells) (name : List ℕ) (p : Parts) (h : Handle) → C.handles name ≡ Some h → (q : List ℕ) (d : Dims) (s : Parts) (f : ℕ) (k : IsTaken (News name p h C) q d s f) → IsOldOrNew C name p h q d s f
 old_or_new C name p h there q d s f k = by_name (bytes_eq name q) refl k.is
   where
-    by_plan : (b : Bool) → same_parts p s ≡ b → name ≡ q → taking p (length C.rows) h ≡ k.handle → cond b (Some (length C.rows)) (h.first s) ≡ Some f → IsOldOrNew C name p h q d s f k.handle.root
-    by_plan true t named is e = New named (parts-are p s t) (ap (λ (h : Handle). h.dims) is ∙ k.dims) (sym (some_is (length C.rows) f e)) (ap (λ (h : Handle). h.root) is)
-    by_plan false t named is e = Old (record { handle = h; is = ap C.handles (sym named) ∙ there; dims = ap (λ (h : Handle). h.dims) is ∙ k.dims; first = e }) (ap (λ (h : Handle). h.root) is)
+    by_plan : (b : Bool) → same_parts p s ≡ b → name ≡ q → taking p (length C.rows) h ≡ k.handle → cond b (Some (length C.rows)) (h.first s) ≡ Some f → IsOldOrNew C name p h q d s f
+    by_plan true t named is e = New named (parts-are p s t) (ap (λ (h : Handle). h.dims) is ∙ k.dims) (sym (some_is (length C.rows) f e))
+    by_plan false t named is e = Old (record { handle = h; is = ap C.handles (sym named) ∙ there; dims = ap (λ (h : Handle). h.dims) is ∙ k.dims; first = e })
 
-    by_name : (b : Bool) → bytes_eq name q ≡ b → cond b (Some (taking p (length C.rows) h)) (C.handles q) ≡ Some k.handle → IsOldOrNew C name p h q d s f k.handle.root
+    by_name : (b : Bool) → bytes_eq name q ≡ b → cond b (Some (taking p (length C.rows) h)) (C.handles q) ≡ Some k.handle → IsOldOrNew C name p h q d s f
     by_name true t e =
         let is = some_is (taking p (length C.rows) h) k.handle e in
         by_plan (same_parts p s) refl (same_name name q t) is (ap (λ (h : Handle). h.first s) is ∙ k.first)
-    by_name false t e = Old (record { handle = k.handle; is = e; dims = k.dims; first = k.first }) refl
+    by_name false t e = Old (record { handle = k.handle; is = e; dims = k.dims; first = k.first })
 
 longer : (C : Cells) (p : Parts) (h : Handle) → length (C.rows ++ each_of (child_cell h.root h.dims p) (places p)) ≡ length C.rows + p.r * p.c
 longer C p h = length-append C.rows (each_of (child_cell h.root h.dims p) (places p)) ∙ ap (λ n. length C.rows + n) (length-places (child_cell h.root h.dims p) p)
@@ -165,38 +155,38 @@ child_area d p place h = product (dims_of (child d p place)).rows d.rows (dims_o
 laid_new : (C : Cells) (name : List ℕ) (p : Parts) (h : Handle) → C.handles name ≡ Some h → h.first p ≡ None → Fits p h.dims → AreLaid C → AreLaid (News name p h C)
 laid_new C name p h there none fit a = record {
   fits = λ q d s f k. elim (old_or_new C name p h there q d s f k) as (λ _. Fits s d) [
-    | Old o e ↦ a.fits q d s f o
-    | New eq ep ed ef er ↦ subst (λ (x : Dims). Fits s x) ed (subst (λ (x : Parts). Fits x h.dims) ep fit)
+    | Old o ↦ a.fits q d s f o
+    | New eq ep ed ef ↦ subst (λ (x : Dims). Fits s x) ed (subst (λ (x : Parts). Fits x h.dims) ep fit)
   ];
   inside = λ q d s f k. elim (old_or_new C name p h there q d s f k) as (λ _. f + s.r * s.c ≤ length (News name p h C).rows) [
-    | Old o e ↦ omega (arith, a.inside q d s f o, longer C p h)
-    | New eq ep ed ef er ↦ subst (λ (x : Parts). f + x.r * x.c ≤ length (News name p h C).rows) ep (omega (arith, ef, longer C p h))
+    | Old o ↦ omega (arith, a.inside q d s f o, longer C p h)
+    | New eq ep ed ef ↦ subst (λ (x : Parts). f + x.r * x.c ≤ length (News name p h C).rows) ep (omega (arith, ef, longer C p h))
   ];
-  row = λ q d s f place k hp. elim (old_or_new C name p h there q d s f k) as (λ _. get_or (News name p h C).rows (f + number s place) no_cell ≡ child_cell k.handle.root d s place) [
-    | Old o e ↦ get_or_append_left C.rows (each_of (child_cell h.root h.dims p) (places p)) no_cell (f + number s place) (omega (arith, a.inside q d s f o, number-below s place hp))
-        ∙ a.row q d s f place o hp ∙ ap (λ (r : Root). child_cell r d s place) e
-    | New eq ep ed ef er ↦ get_or-append_right C.rows (each_of (child_cell h.root h.dims p) (places p)) (length C.rows) (f + number s place) no_cell refl (omega (arith, ef))
+  row = λ q d s f place k hp. elim (old_or_new C name p h there q d s f k) as (λ _. (get_or (News name p h C).rows (f + number s place) no_cell).dims ≡ dims_of (child d s place)) [
+    | Old o ↦ ap (λ (i : CellInfo). i.dims) (get_or_append_left C.rows (each_of (child_cell h.root h.dims p) (places p)) no_cell (f + number s place) (omega (arith, a.inside q d s f o, number-below s place hp)))
+        ∙ a.row q d s f place o hp
+    | New eq ep ed ef ↦ ap (λ (i : CellInfo). i.dims) (get_or-append_right C.rows (each_of (child_cell h.root h.dims p) (places p)) (length C.rows) (f + number s place) no_cell refl (omega (arith, ef))
         ∙ ap (λ n. get_or (each_of (child_cell h.root h.dims p) (places p)) n no_cell) (past f (length C.rows) (number s place) ef)
         ∙ ap (λ (x : Parts). get_or (each_of (child_cell h.root h.dims p) (places p)) (number x place) no_cell) (sym ep)
-        ∙ places-at (child_cell h.root h.dims p) p place no_cell (subst (λ (x : Parts). IsPlace x place) (sym ep) hp)
-        ∙ (λ i. child_cell (er i) (ed i) (ep i) place)
+        ∙ places-at (child_cell h.root h.dims p) p place no_cell (subst (λ (x : Parts). IsPlace x place) (sym ep) hp))
+        ∙ (λ i. dims_of (child (ed i) (ep i) place))
   ];
   apart = λ q u d e s t f g place other k l hp ho same. elim (old_or_new C name p h there q d s f k) as (λ _. (q ≡ u) × (s ≡ t) × (place ≡ other)) [
-    | Old o er ↦ elim (old_or_new C name p h there u e t g l) as (λ _. (q ≡ u) × (s ≡ t) × (place ≡ other)) [
-      | Old n es ↦ a.apart q u d e s t f g place other o n hp ho same
-      | New eq ep ed ef er ↦ absurd (omega (arith, ef, same, a.inside q d s f o, number-below s place hp))
+    | Old o ↦ elim (old_or_new C name p h there u e t g l) as (λ _. (q ≡ u) × (s ≡ t) × (place ≡ other)) [
+      | Old n ↦ a.apart q u d e s t f g place other o n hp ho same
+      | New eq ep ed ef ↦ absurd (omega (arith, ef, same, a.inside q d s f o, number-below s place hp))
     ]
-    | New eq ep ed ef er ↦ elim (old_or_new C name p h there u e t g l) as (λ _. (q ≡ u) × (s ≡ t) × (place ≡ other)) [
-      | Old n es ↦ absurd (omega (arith, ef, same, a.inside u e t g n, number-below t other ho))
-      | New eq2 ep2 ed2 ef2 er2 ↦ (let st : s ≡ t = sym ep ∙ ep2 in
+    | New eq ep ed ef ↦ elim (old_or_new C name p h there u e t g l) as (λ _. (q ≡ u) × (s ≡ t) × (place ≡ other)) [
+      | Old n ↦ absurd (omega (arith, ef, same, a.inside u e t g n, number-below t other ho))
+      | New eq2 ep2 ed2 ef2 ↦ (let st : s ≡ t = sym ep ∙ ep2 in
           (sym eq ∙ eq2, st, number-apart s place other hp (subst (λ (x : Parts). IsPlace x other) (sym st) ho) (equal f g (length C.rows) (number s place) (number t other) ef ef2 same ∙ ap (λ (x : Parts). number x other) (sym st))))
     ]
   ];
   sized = λ q i e. by_test q i (bytes_eq name q) e;
-  small = All-append (λ (i : CellInfo). (i.partials ≡ None) × (area i.dims ≤ 2 ^ 24)) C.rows (each_of (child_cell h.root h.dims p) (places p)) a.small
-      (All-from_recursion (λ (i : CellInfo). (i.partials ≡ None) × (area i.dims ≤ 2 ^ 24)) (each_of (child_cell h.root h.dims p) (places p))
-      (each-map (λ (i : CellInfo). (i.partials ≡ None) × (area i.dims ≤ 2 ^ 24)) (child_cell h.root h.dims p) (places p)
-      (each-places (λ place. (None ≡ None) × (area (dims_of (child h.dims p place)) ≤ 2 ^ 24)) p (λ place hp. (refl, omega (arith, child_area h.dims p place hp, a.sized name h there))))));
+  small = All-append (λ (i : CellInfo). area i.dims ≤ 2 ^ 24) C.rows (each_of (child_cell h.root h.dims p) (places p)) a.small
+      (All-from_recursion (λ (i : CellInfo). area i.dims ≤ 2 ^ 24) (each_of (child_cell h.root h.dims p) (places p))
+      (each-map (λ (i : CellInfo). area i.dims ≤ 2 ^ 24) (child_cell h.root h.dims p) (places p)
+      (each-places (λ place. area (dims_of (child h.dims p place)) ≤ 2 ^ 24) p (λ place hp. omega (arith, child_area h.dims p place hp, a.sized name h there)))));
 }
   where
     past : (f n m : ℕ) → f ≡ n → (f + m) - n ≡ m

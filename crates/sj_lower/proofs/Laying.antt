@@ -1,21 +1,25 @@
--- The code's layout is that of the definition, after a root takes a plan.
-use Rattle.std.proofs.Common.{◌≡◌, ℕ, ◌+◌, ◌*◌, ◌<◌, ◌≤◌, Bool, true, false, cond, ◌&&◌, Option, Some, None, List, ◌++◌, length, map as each_of, unwrap_or, refl, sym, ap, subst, ◌∙◌, arith, length-append}
-use Rattle.std.specs.Prelude.{nat_eq}
+-- The code's layout is that of the definition, after a root takes a plan or a cell gets its partial copies.
+use Rattle.std.proofs.Common.{◌≡◌, ℕ, ◌+◌, ◌*◌, ◌<◌, ◌≤◌, Bool, true, false, cond, ◌&&◌, Option, Some, None, List, ◌++◌, length, map as each_of, get_or, unwrap_or, refl, sym, ap, subst, ◌∙◌, arith, length-append}
+use Rattle.std.specs.Prelude.{nat_eq, replicate, set}
 use Rattle.std.specs.Option.{is_some}
 use Rattle.std.specs.Str.{bytes_eq}
 use Rattle.std.proofs.lemmas.Bool.{false≢true, and_parts}
 use Rattle.std.proofs.lemmas.Bool.Decides.{Decides-eqb}
+use Rattle.std.proofs.lemmas.List.{set-append_left}
 use Rattle.std.proofs.lemmas.Simd.{map-map}
 use Rattle.indexmap.specs.IndexMap.{get}
+use Rattle.sj_base.specs.declared.ids.Cell.{Cell}
 use Rattle.sj_base.specs.declared.ids.Root.{Root}
+use Rattle.sj_base.specs.declared.program.CellInfo.{CellInfo}
 use Rattle.sj_base.specs.declared.tile.Dims.{Dims}
+use Rattle.sj_core.specs.Program.{no_cell}
 use Rattle.sj_plan.specs.declared.parts.Parts.{Parts}
 use Rattle.sj_plan.specs.Parts.{places}
 use Rattle.sj_plan.specs.Rect.{child, children_of}
 use Rattle.sj_job.specs.Table.{Table, AreDistinct, a_root, name_of, info_of}
 use Rattle.sj_lower.specs.declared.layout.Taken.{Taken}
 use Rattle.sj_lower.specs.declared.layout.Layout.{Layout}
-use Rattle.sj_lower.specs.Cells.{Cells, Handle, same_parts, with_handle, with_first, first_cell, taking, rect_cell, child_cell, take, next_handle, with_root}
+use Rattle.sj_lower.specs.Cells.{Cells, Handle, same_parts, with_handle, with_first, first_cell, taking, rect_cell, child_cell, take, next_handle, with_root, info_at, copy_info, with_partials, first_copy, with_copies}
 use Rattle.sj_lower.specs.Limits.{most}
 use Rattle.sj_job.specs.declared.job.Init.{Init}
 use Rattle.sj_job.specs.declared.job.RootInfo.{RootInfo}
@@ -24,7 +28,8 @@ use Rattle.sj_job.specs.View.{act_seen}
 use Rattle.sj_job.specs.Track.{children_count}
 use Rattle.sj_lower.specs.Lowering.{cells_after}
 use Rattle.sj_lower.specs.Seen.{taken, same_taken, handle_in, Lays, first_after, children_after}
-use Rattle.sj_lower.proofs.Laid.{same_name, bytes_eq-itself, some_is, take-by}
+use Rattle.sj_lower.proofs.Laid.{same_name, bytes_eq-itself, some_is, none_isn't, take-by}
+use Rattle.sj_lower.proofs.Copies.{by_copies, copied-length, first-new, first-old}
 use Rattle.sj_lower.proofs.Places.{length-places, parts-are}
 
 first_there : (C : Cells) (name : List ℕ) (p : Parts) (h : Handle) (f : ℕ) → C.handles name ≡ Some h → h.first p ≡ Some f → first_cell C name p ≡ f
@@ -175,3 +180,51 @@ pub full_register : (T : Table) (old : Layout) (C : Cells) (info : RootInfo) (in
 full_register T old C info init s distinct few is full =
     let D = with_root (name_of T (a_root old.roots)) (info_of T (a_root old.roots)).dims C in
     subst (λ (x : RootInfo). most < length (take (name_of T (a_root old.roots)) x.parts D).rows) is (full D (root_at T old C s distinct few) (omega (arith, s.roots)) (ap (λ (x : RootInfo). x.dims) (sym is)))
+
+-- ---- partial copies
+
+-- a cell that has its copies
+pub lays_copied : (T : Table) (l : Layout) (C : Cells) (c first : Cell) (workers : ℕ) → Lays T l C → (get_or l.infos.items c.0 no_cell).partials ≡ Some first → Lays T l (with_copies workers c C) × (first_copy C c ≡ first)
+lays_copied T l C c first workers s there =
+    let is : (info_at C c).partials ≡ Some first = ap (λ (is : List CellInfo). (get_or is c.0 no_cell).partials) (sym s.rows) ∙ there in
+    (by_copies workers c C (Lays T l) (λ f e. s) (λ e. absurd (none_isn't first (sym e ∙ is))), first-old C c first is)
+
+-- a cell that gets them
+pub lays_copies : (T : Table) (old new : Layout) (C : Cells) (c first : Cell) (workers : ℕ) → let i = get_or old.infos.items c.0 no_cell in Lays T old C → c.0 < length old.infos.items → i.partials ≡ None
+    → new.infos.items ≡ set (old.infos.items ++ replicate workers i) c.0 (with_partials first i) → new.firsts ≡ old.firsts → new.roots ≡ old.roots → first.0 ≡ length old.infos.items
+    → Lays T new (with_copies workers c C) × (first_copy C c ≡ first)
+lays_copies T old new C c first workers s there none rows firsts roots number = (
+  by_copies workers c C (Lays T new) (λ f e. absurd (none_isn't f (sym none_here ∙ e))) (λ e. record {
+    rows = rows ∙ set-append_left old.infos.items (replicate workers i) c.0 (with_partials first i) there ∙ (λ k. set (s.rows k) c.0 (with_partials (first_is k) (is k)) ++ replicate workers (plain k));
+    roots = roots ∙ s.roots;
+    handles = λ n lt. s.handles n lt ∙ (λ k. Some (record { root = a_root n; dims = (info_of T (a_root n)).dims; first = λ p. get same_taken (sym firsts k) (taken n p) }));
+    room = λ n p f h. omega (arith, s.room n p f (ap (λ m. get same_taken m (taken n p)) (sym firsts) ∙ h), copied-length workers c C e inside);
+    fresh = λ n p past. ap (λ m. get same_taken m (taken n p)) firsts ∙ s.fresh n p past;
+  }),
+  sym first_is,
+)
+  where
+    i : CellInfo
+    i = get_or old.infos.items c.0 no_cell
+
+    is : i ≡ info_at C c
+    is = ap (λ (is : List CellInfo). get_or is c.0 no_cell) s.rows
+
+    none_here : (info_at C c).partials ≡ None
+    none_here = ap (λ (i : CellInfo). i.partials) (sym is) ∙ none
+
+    inside : c.0 < length C.rows
+    inside = omega (arith, there, ap length s.rows)
+
+    first_is : first ≡ first_copy C c
+    first_is = (λ k. let d : Cell = record { 0 = (number ∙ ap length s.rows) k } in d) ∙ sym (first-new C c none_here)
+
+    plain : i ≡ copy_info (info_at C c)
+    plain = (λ k. let j : CellInfo = record { root = i.root; dims = i.dims; partials = none k } in j) ∙ ap copy_info is
+
+-- too many cells with them
+pub copies_full : (T : Table) (l : Layout) (C : Cells) (c : Cell) (workers : ℕ) → Lays T l C → c.0 < length l.infos.items → (get_or l.infos.items c.0 no_cell).partials ≡ None → most < length l.infos.items + workers → most < length (with_copies workers c C).rows
+copies_full T l C c workers s there none above =
+    let none_here : (info_at C c).partials ≡ None = ap (λ (is : List CellInfo). (get_or is c.0 no_cell).partials) (sym s.rows) ∙ none in
+    by_copies workers c C (λ (D : Cells). most < length D.rows) (λ f e. absurd (none_isn't f (sym none_here ∙ e)))
+    (λ e. omega (arith, copied-length workers c C e (omega (arith, there, ap length s.rows)), ap length s.rows, above))

@@ -1,6 +1,6 @@
 -- The number of a root is its name's, as the job's table has it.
 use Rattle.std.specs.FinMap as map
-use Rattle.std.proofs.Common.{◌≡◌, ℕ, ◌+◌, ◌<◌, ◌≤◌, Bool, true, false, cond, List, [], ◌∷◌, ◌++◌, map as each_of, length, refl, ap, sym, subst, ◌∙◌, Option, Some, None, option_map, arith, bytes_eq, inl, inr}
+use Rattle.std.proofs.Common.{◌≡◌, ℕ, ◌+◌, ◌<◌, ◌≤◌, Bool, true, false, cond, List, [], ◌∷◌, ◌++◌, map as each_of, length, fold, refl, ap, sym, subst, ◌∙◌, Option, Some, None, option_map, arith, bytes_eq, inl, inr}
 use Rattle.std.proofs.lemmas.Bool.{cases_lt}
 use Rattle.std.specs.Ordering.{nat_cmp}
 use Rattle.std.specs.Cmp.Lexicographic.{slice_cmp}
@@ -19,13 +19,20 @@ use Rattle.sj_job.specs.Statement.{Register as Registration, Operand, TaskLine}
 use Rattle.sj_job.specs.Table.{Table, a_root, name_of, info_of, AreDistinct}
 use Rattle.sj_job.specs.View.{registration, task_seen, act_seen, statement_seen, seen_from, count_after, count_from, IsPlaced, ArePlaced}
 use Rattle.sj_job.specs.State.{Root, State, root_of, start}
-use Rattle.sj_job.specs.Meaning.{registered_root, register, change, with_parts, with_elements, with_child, no_values, plan, invalidate, unregister, put, put_all, written_of, run_task, apply}
+use Rattle.sj_job.specs.Meaning.{registered_root, register, change, with_parts, with_elements, with_reduction, with_child, no_values, reduce, plan, invalidate, unregister, put, put_all, written_of, run_task, apply}
 use Rattle.sj_job.proofs.Views.{count-grows, counts-grow}
 use Rattle.sj_lower.specs.Cells.{Cells, Handle, with_handle, taking, child_cell, take_by, take, next_handle, with_root}
-use Rattle.sj_lower.specs.Lowering.{Lowering, nothing, cells_after, lower_one}
+use Rattle.sj_lower.specs.Lowering.{Lowering, nothing, cells_after, active_cell, closed_by, all_closed, contributions, extended, turned, begun, opened, opened_for, prepared, lower_one}
 use Rattle.sj_lower.specs.Delivering.{printed_as}
 use Rattle.sj_lower.specs.Seen.{IsCut}
-use Rattle.sj_job.specs.Sound.{IsSoundAct}
+use Rattle.sj_base.specs.declared.ids.Cell.{Cell}
+use Rattle.sj_base.specs.declared.ids.Line.{Line}
+use Rattle.sj_base.specs.declared.mode.Reduction.{Reduction}
+use Rattle.sj_job.specs.Act.{Statement}
+use Rattle.sj_job.specs.Sound.{IsSoundAct, has_child_values, reduction_of}
+use Rattle.sj_lower.specs.declared.phase.OpenPhase.{OpenPhase}
+use Rattle.sj_lower.proofs.Closing.{all_closed-cells}
+use Rattle.sj_lower.proofs.Copies.{by_copies}
 use Rattle.sj_lower.proofs.Holding.{get-put, get-gone, root-change}
 use Rattle.sj_lower.proofs.Laid.{same_name, bytes_eq-itself, some_is, take-roots}
 use Rattle.sj_lower.proofs.Whole.{NamesAct, NamesAll}
@@ -173,6 +180,7 @@ numbered-act T n C S (kept.Plan r p) d few t = record {
   roots = take-roots C (name_of T r) p ∙ t.roots;
   knows = knows_kept T n S (plan (name_of T r) p S) (λ q. changed_kinds (with_parts p) (name_of T r) S q (λ r. refl)) t.knows;
 }
+numbered-act T n C S (kept.Redux r by) d few t = record { handles = t.handles; roots = t.roots; knows = knows_kept T n S (reduce (name_of T r) by S) (λ q. changed_kinds (with_reduction by) (name_of T r) S q (λ r. refl)) t.knows }
 numbered-act T n C S (kept.Task task) d few t = record { handles = t.handles; roots = t.roots; knows = knows_kept T n S (run_task (task_seen T task) S) (task_kinds (task_seen T task) S) t.knows }
 numbered-act T n C S (kept.Print r) d few t = t
 numbered-act T n C S (kept.Invalidate r) d few t = record { handles = t.handles; roots = t.roots; knows = knows_kept T n S (invalidate (name_of T r) S) (λ q. changed_kinds (λ r. with_elements (no_values r.dims) r) (name_of T r) S q (λ r. refl)) t.knows }
@@ -181,6 +189,7 @@ numbered-act T n C S (kept.Unregister r) d few t = record { handles = t.handles;
 names_act : (T : Table) (n : ℕ) (C : Cells) (S : State) (a : KeptAct) → AreDistinct T.names → n ≤ length T.names → IsPlaced n a → AreNumbered T n C S → NamesAct T S C (act_seen T n a)
 names_act T n C S (kept.Register init) d few placed t = tt
 names_act T n C S (kept.Plan r p) d few placed t = tt
+names_act T n C S (kept.Redux r by) d few placed t = tt
 names_act T n C S (kept.Task task) d few placed t = tt
 names_act T n C S (kept.Print r) d few placed t = λ h root there is.
     let own = t.handles r.0 placed in
@@ -196,14 +205,55 @@ names_act T n C S (kept.Print r) d few placed t = λ h root there is.
 names_act T n C S (kept.Invalidate r) d few placed t = tt
 names_act T n C S (kept.Unregister r) d few placed t = tt
 
-pub names-all : (T : Table) (n : ℕ) (L : Lowering) (S : State) (ss : List Kept) → AreDistinct T.names → count_from n ss ≤ length T.names → ArePlaced n ss → AreNumbered T n L.cells S → NamesAll T S L (seen_from T n ss)
-names-all T n L S [] d few placed t = tt
-names-all T n L S (s ∷ ss) d few placed t =
+-- preparing a statement leaves the handles of names, and how many roots there are
+abbrev pub SameNames : Cells → Cells → Type 0
+SameNames C D = (D.handles ≡ C.handles) × (D.roots ≡ C.roots)
+
+numbered-same : (T : Table) (n : ℕ) (C D : Cells) (S : State) → SameNames C D → AreNumbered T n C S → AreNumbered T n D S
+numbered-same T n C D S same t = record {
+  handles = λ i inside. (let h = t.handles i inside in (h.0, ap (λ f. f (name_of T (a_root i))) same.0 ∙ h.1, h.2));
+  roots = same.1 ∙ t.roots;
+  knows = t.knows;
+}
+
+pub opened-names : (workers : ℕ) (by : Reduction) (v : Bool) (line : Line) (c : Cell) (L : Lowering) → SameNames L.cells (opened workers by v line c L).cells
+opened-names workers by v line c L = by_option (L.phase c)
+  where
+    by_option : (o : Option OpenPhase) → SameNames L.cells (elim o as (λ _. Lowering) [ None ↦ begun workers by v line c L | Some f ↦ turned L.cells [] c (Some (extended f line)) L ]).cells
+    by_option None = (by_copies workers c L.cells (λ (D : Cells). D.handles ≡ L.cells.handles) (λ f e. refl) (λ e. refl), by_copies workers c L.cells (λ (D : Cells). D.roots ≡ L.cells.roots) (λ f e. refl) (λ e. refl))
+    by_option (Some f) = (refl, refl)
+
+opened_for-names : (workers : ℕ) (S : State) (line : Line) (os : List Operand) (L : Lowering) → SameNames L.cells (fold (opened_for workers S line) L os).cells
+opened_for-names workers S line [] L = (refl, refl)
+opened_for-names workers S line (o ∷ os) L =
+    let here = by_option (reduction_of S o.name) in
+    let rest = opened_for-names workers S line os (opened_for workers S line L o) in
+    (rest.0 ∙ here.0, rest.1 ∙ here.1)
+  where
+    by_option : (x : Option Reduction) → SameNames L.cells (elim x as (λ _. Lowering) [ None ↦ L | Some by ↦ opened workers by (has_child_values S o) line (active_cell S L.cells o.name o.place) L ]).cells
+    by_option None = (refl, refl)
+    by_option (Some by) = opened-names workers by (has_child_values S o) line (active_cell S L.cells o.name o.place) L
+
+pub prepared-names : (workers : ℕ) (S : State) (s : Statement) (L : Lowering) → SameNames L.cells (prepared workers S s L).cells
+prepared-names workers S s L =
+    let M = all_closed workers (closed_by S L.cells s.act) L in
+    let same = all_closed-cells workers (closed_by S L.cells s.act) L in
+    let more = opened_for-names workers S s.line (contributions s.act) M in
+    (more.0 ∙ ap (λ (C : Cells). C.handles) same, more.1 ∙ ap (λ (C : Cells). C.roots) same)
+
+pub numbered-one : (workers : ℕ) (T : Table) (n : ℕ) (L : Lowering) (S : State) (s : Kept) → AreDistinct T.names → count_after n s.act ≤ length T.names → AreNumbered T n L.cells S → AreNumbered T (count_after n s.act) (lower_one workers S (statement_seen T n s) L).cells (apply (act_seen T n s.act) S)
+numbered-one workers T n L S s d few t =
+    let M = prepared workers S (statement_seen T n s) L in
+    numbered-act T n M.cells S s.act d few (numbered-same T n L.cells M.cells S (prepared-names workers S (statement_seen T n s) L) t)
+
+pub names-all : (workers : ℕ) (T : Table) (n : ℕ) (L : Lowering) (S : State) (ss : List Kept) → AreDistinct T.names → count_from n ss ≤ length T.names → ArePlaced n ss → AreNumbered T n L.cells S → NamesAll workers T S L (seen_from T n ss)
+names-all workers T n L S [] d few placed t = tt
+names-all workers T n L S (s ∷ ss) d few placed t =
     let m = count_after n s.act in
     let here = counts-grow m ss in
     let before = count-grows n s.act in (
       names_act T n L.cells S s.act d (omega (arith, few, here, before)) placed.0 t,
-      names-all T m (lower_one S (statement_seen T n s) L) (apply (act_seen T n s.act) S) ss d few placed.1 (numbered-act T n L.cells S s.act d (omega (arith, few, here)) t),
+      names-all workers T m (lower_one workers S (statement_seen T n s) L) (apply (act_seen T n s.act) S) ss d few placed.1 (numbered-one workers T n L S s d (omega (arith, few, here)) t),
     )
 
 pub numbered-none : (T : Table) → AreNumbered T 0 nothing.cells start
@@ -226,6 +276,7 @@ numbered-cut has T n C S (kept.Plan r p) d few placed t sound = by_root (root_of
         let one : k.number ≡ r.0 = d k.number r.0 (omega (arith, k.below, few)) (omega (arith, placed, few)) k.named in
         let same : x.dims ≡ (info_of T r).dims = sym k.dims ∙ ap (λ m. (info_of T (a_root m)).dims) one in
         subst (Fits p) same fits
+numbered-cut has T n C S (kept.Redux r by) d few placed t sound = tt
 numbered-cut has T n C S (kept.Task task) d few placed t sound = tt
 numbered-cut has T n C S (kept.Print r) d few placed t sound = tt
 numbered-cut has T n C S (kept.Invalidate r) d few placed t sound = tt

@@ -1,58 +1,68 @@
 -- The program of a job is proper.
-use Rattle.std.proofs.Common.{◌≡◌, ℕ, ◌<◌, ◌≤◌, ◌^◌, true, Option, Some, None, List, [], length, get_or, refl, sym, ap, subst, ◌∙◌, inl, inr, arith}
+use Rattle.std.proofs.Common.{◌≡◌, ℕ, ◌+◌, ◌<◌, ◌≤◌, ◌^◌, true, Option, Some, None, List, [], length, get_or, refl, sym, ap, subst, ◌∙◌, inl, inr, arith}
 use Rattle.std.specs.Option.{is_some}
-use Rattle.std.specs.Prelude.{nat_eq, count_by}
+use Rattle.std.specs.Prelude.{◌⊎◌, nat_eq, count_by, Contains}
 use Rattle.std.specs.List.{All, AllPairs}
-use Rattle.std.proofs.lemmas.Bool.{false≢true, cases_lt}
+use Rattle.std.proofs.lemmas.Bool.{cases_lt}
 use Rattle.std.proofs.lemmas.List.{get_or_past}
-use Rattle.std.proofs.lemmas.List.Elements.{All-nil, All-from_get_or, All-get_or, All-weaker, All-contains}
+use Rattle.std.proofs.lemmas.List.Elements.{All-nil, All-from_get_or}
 use Rattle.sj_base.specs.declared.ids.Cell.{Cell}
 use Rattle.sj_base.specs.declared.ids.Worker.{Worker}
-use Rattle.sj_base.specs.declared.mode.Mode.{Mode}
-use Rattle.sj_base.specs.declared.mode.Mode.TheVariants.{R, W, RW, Scratch, Redux, Commute}
 use Rattle.sj_base.specs.declared.mode.Access.{Access}
 use Rattle.sj_base.specs.declared.program.CellInfo.{CellInfo}
 use Rattle.sj_base.specs.declared.program.Delivery.{Delivery}
 use Rattle.sj_base.specs.declared.program.Lowered.{Lowered}
 use Rattle.sj_base.specs.declared.program.Program.{Program}
 use Rattle.sj_base.specs.Array.{area}
+use Rattle.sj_base.specs.Mode.{is_redux, reads_value}
+use Rattle.sj_codelet.specs.declared.kernel.Kernel.{Kernel}
 use Rattle.sj_codelet.specs.declared.kernel.Kernel.TheVariants.{Deliver}
 use Rattle.sj_codelet.specs.Kernel.{kernel_of}
+use Rattle.sj_core.specs.Laws.{IsLawful}
 use Rattle.sj_core.specs.Operands.{copy_of}
-use Rattle.sj_core.specs.Program.{no_cell, no_task, cell_info, task_of}
-use Rattle.sj_base.specs.Mode.{is_redux, reads_value, is_in_order}
-use Rattle.sj_core.specs.Proper.{Proper, NamesCells, IsCopyOf, IsPlain, Fits, IsUnaliased, HasValueBefore, ReadsValues, HasPhases, HasDeliveries, IsWithinLimits, IsPhase, task_number, access}
+use Rattle.sj_core.specs.Program.{no_cell, no_task, cell_info, dims_of, task_of}
+use Rattle.sj_core.specs.Proper.{Proper, NamesCells, IsCopyOf, IsPlain, Fits, IsUnaliased, HasValueBefore, ReadsValues, HasPhases, HasDeliveries, IsWithinLimits, task_number}
 use Rattle.sj_job.specs.Act.{Statement}
-use Rattle.sj_core.specs.Laws.{HasPlainModes}
 use Rattle.sj_job.specs.Meaning.{printed}
 use Rattle.sj_job.specs.Table.{Table}
+use Rattle.sj_lower.specs.Cells.{Cells, info_at, copy_info}
+use Rattle.sj_lower.specs.Lowering.{Lowering}
 use Rattle.sj_lower.specs.Delivering.{DeliversPrinted, NamesDeliverTasks, DeliversInOrder}
+use Rattle.sj_lower.proofs.Combined.{IsTrusted}
 use Rattle.sj_lower.proofs.Contents.{task_at}
-use Rattle.sj_lower.proofs.Good.{IsGood}
-use Rattle.sj_lower.proofs.Delivered.{AreHanded, of_print}
-use Rattle.sj_lower.proofs.Whole.{IsWhole}
+use Rattle.sj_lower.proofs.Copies.{HaveCopies}
+use Rattle.sj_lower.proofs.Delivered.{AreDelivered, AreHanded, of_print}
+use Rattle.sj_lower.proofs.Good.{IsGood, HasItsCopies}
+use Rattle.sj_lower.proofs.Logging.{Logged, has-phases}
+use Rattle.sj_lower.proofs.Lowered.{IsWhole}
+use Rattle.sj_lower.proofs.Owning.{first-of}
 
 module _ (T : Table) (p : Program) (ss : List Statement) (w : IsWhole T p ss) where
+  abbrev C : Cells
+  C = w.lowering.cells
+
+  abbrev copies : HaveCopies p.workers C
+  copies = w.fine.agrees.theirs.copies
+
+  abbrev delivered : AreDelivered T p w.lowering (printed ss)
+  delivered = w.fine.delivered
+
+  good : (n : ℕ) → n < length p.tasks → IsGood p n (task_of p (task_at n))
+  good n h = w.fine.good n (subst (λ (ts : List Lowered). n < length ts) w.tasks h)
+
   each_task : (P : Lowered → Type 0) → ((n : ℕ) → IsGood p n (task_of p (task_at n)) → P (task_of p (task_at n))) → All P p.tasks
-  each_task P f = All-from_get_or P p.tasks no_task (λ n h. f n (w.good n h))
+  each_task P f = All-from_get_or P p.tasks no_task (λ n h. f n (good n h))
 
-  no_partials : (c : Cell) → (cell_info p c).partials ≡ None
-  no_partials c =
-      elim (cases_lt c.0 (length p.cells)) [
-        | inl inside ↦ (All-get_or (λ (i : CellInfo). (i.partials ≡ None) × (area i.dims ≤ 2 ^ 24)) p.cells c.0 no_cell inside w.cells).0
-        | inr past ↦ ap (λ (i : CellInfo). i.partials) (get_or_past p.cells c.0 no_cell past)
-      ]
+  -- the rows of the program's cells are those of the lowering
+  same-info : (c : Cell) → cell_info p c ≡ info_at C c
+  same-info c = ap (λ (is : List CellInfo). get_or is c.0 no_cell) w.cells
 
-  no_copy : (q c : Cell) (v : Worker) → IsCopyOf p q c v → ⊥
-  no_copy q c v h = false≢true (sym (ap (λ (o : Option Cell). is_some o) (no_partials c)) ∙ h.has_copies)
+  its_first : (q c : Cell) (v : Worker) → IsCopyOf p q c v → (f : Cell) × ((info_at C c).partials ≡ Some f) × (q.0 ≡ f.0 + v.0)
+  its_first q c v h = let o = first-of p q c v h in (o.0, sym (ap (λ (i : CellInfo). i.partials) (same-info c)) ∙ o.1, o.2)
 
-  plain_isn't : (m : Mode) → is_in_order m ≡ true → is_redux m ≡ true → ⊥
-  plain_isn't R h e = false≢true e
-  plain_isn't W h e = false≢true e
-  plain_isn't RW h e = false≢true e
-  plain_isn't Scratch h e = false≢true e
-  plain_isn't Redux h e = false≢true h
-  plain_isn't Commute h e = false≢true e
+  -- the row of a partial copy
+  its_row : (q c : Cell) (v : Worker) (h : IsCopyOf p q c v) → cell_info p q ≡ copy_info (info_at C c)
+  its_row q c v h = let o = its_first q c v h in same-info q ∙ ap (λ n. get_or C.rows n no_cell) o.2 ∙ copies.copy c o.0 v.0 o.1 h.of_worker
 
   -- what holds of each operand of each task of the program holds of each operand of any number's task
   every_task : (P : ℕ → Access → Type 0) → ((n : ℕ) → n < length p.tasks → All (P n) (task_of p (task_at n)).accesses) → (n : ℕ) → All (P n) (task_of p (task_at n)).accesses
@@ -62,47 +72,45 @@ module _ (T : Table) (p : Program) (ss : List Statement) (w : IsWhole T p ss) wh
         | inr past ↦ subst (λ (l : Lowered). All (P n) l.accesses) (sym (get_or_past p.tasks n no_task past)) (All-nil (P n))
       ]
 
-  all_plain : (n : ℕ) → All (λ (a : Access). is_in_order a.mode ≡ true) (task_of p (task_at n)).accesses
-  all_plain = every_task (λ n a. is_in_order a.mode ≡ true) (λ n h. (w.good n h).plain)
-
   names_cells : NamesCells p
   names_cells = record {
     named = each_task (λ (l : Lowered). All (λ (a : Access). a.cell.0 < length p.cells) l.accesses) (λ n g. g.cells);
-    copies = λ q c v h. absurd (no_copy q c v h);
-    apart = λ q c d v u h k. absurd (no_copy q c v h);
-    plain = λ q c v h. absurd (no_copy q c v h);
-    reduced = each_task (λ (l : Lowered). All (λ (a : Access). is_redux a.mode ≡ true → is_some (cell_info p a.cell).partials ≡ true) l.accesses) (λ n g.
-        All-weaker (λ (a : Access). is_in_order a.mode ≡ true) (λ (a : Access). is_redux a.mode ≡ true → is_some (cell_info p a.cell).partials ≡ true) (λ a h e. absurd (plain_isn't a.mode h e)) (task_of p (task_at n)).accesses g.plain);
+    copies = λ q c v h. (let o = its_first q c v h in (omega (arith, o.2, copies.inside c o.0 o.1, h.of_worker, ap length w.cells), ap (λ (i : CellInfo). i.dims) (its_row q c v h) ∙ sym (ap (λ (i : CellInfo). i.dims) (same-info c))));
+    apart = λ q c d v u h k. (let o = its_first q c v h in let i = its_first q d u k in copies.apart c d o.0 i.0 v.0 u.0 o.1 i.1 h.of_worker k.of_worker (sym o.2 ∙ i.2));
+    plain = λ q c v h. ap (λ (i : CellInfo). i.partials) (its_row q c v h);
+    reduced = each_task (λ (l : Lowered). All (λ (a : Access). is_redux a.mode ≡ true → is_some (cell_info p a.cell).partials ≡ true) l.accesses) (λ n g k d h e. (g.copies k d h e).0);
   }
 
   reads_values : ReadsValues p
   reads_values = record {
-    cells = λ t. every_task (λ n a. reads_value a.mode ≡ true → HasValueBefore p (task_at n) a.cell) (λ n h. (w.good n h).values) t.0;
-    copies = λ t. All-weaker (λ (a : Access). is_in_order a.mode ≡ true) (λ (a : Access). is_redux a.mode ≡ true → (v : Worker) → v.0 < p.workers → HasValueBefore p t (copy_of p a.cell v)) (λ a h e. absurd (plain_isn't a.mode h e)) (task_of p t).accesses (all_plain t.0);
+    cells = λ t. every_task (λ n a. reads_value a.mode ≡ true → HasValueBefore p (task_at n) a.cell) (λ n h. (good n h).values) t.0;
+    copies = λ t. every_task (λ n a. is_redux a.mode ≡ true → (v : Worker) → v.0 < p.workers → HasValueBefore p (task_at n) (copy_of p a.cell v)) (λ n h k d l e. ((good n h).copies k d l e).1) t.0;
   }
 
-  has_phases : HasPhases p
-  has_phases = record {
-    phases = [];
-    each = All-nil (IsPhase p);
-    copies = λ n a c v h k. absurd (no_copy a.cell c v k);
-    contributions = λ n c h. absurd (plain_isn't Redux (All-contains (λ (a : Access). is_in_order a.mode ≡ true) (task_number p n).accesses (access Redux c) (all_plain n) h) refl);
-  }
+  its_phases : HasPhases p
+  its_phases = has-phases p w.lowering.phase w.shut (subst (λ (ts : List Lowered). Logged p (length ts) w.lowering.phase) (sym w.tasks) w.fine.logged) inside
+    where
+      inside : (m : ℕ) (a : Access) → Contains (task_number p m).accesses a → m < length p.tasks
+      inside m a h = elim (cases_lt m (length p.tasks)) [
+        | inl here ↦ here
+        | inr past ↦ absurd (let k = subst (λ (l : Lowered). Contains l.accesses a) (get_or_past p.tasks m no_task past) h in omega (arith, k.1))
+      ]
 
   has_deliveries : HasDeliveries p
   has_deliveries = record {
-    once = λ t e h. ap (count_by (λ (d : Delivery). nat_eq d.task.0 t.0)) w.deliveries ∙ w.delivered.once t.0 (subst (λ (ts : List Lowered). t.0 < length ts) w.tasks h) e;
-    plain = λ t e. all_are_plain (task_of p t).accesses;
+    once = λ t e h. ap (count_by (λ (d : Delivery). nat_eq d.task.0 t.0)) w.deliveries ∙ delivered.once t.0 (subst (λ (ts : List Lowered). t.0 < length ts) w.tasks h) e;
+    plain = λ t e. by_task t.0 e (cases_lt t.0 (length p.tasks));
   }
     where
-      all_are_plain : (as' : List Access) → All (λ (a : Access). IsPlain p a.cell) as'
-      all_are_plain as' k d h = λ c v copy. no_copy (get_or as' k d).cell c v copy
+      by_task : (n : ℕ) → kernel_of (task_of p (task_at n)).codelet ≡ Some Deliver → (n < length p.tasks) ⊎ (length p.tasks ≤ n) → All (λ (a : Access). IsPlain p a.cell) (task_of p (task_at n)).accesses
+      by_task n e (inl inside) = (good n inside).plain e
+      by_task n e (inr past) = subst (λ (l : Lowered). All (λ (a : Access). IsPlain p a.cell) l.accesses) (sym (get_or_past p.tasks n no_task past)) (All-nil (λ (a : Access). IsPlain p a.cell))
 
   within_limits : length p.tasks ≤ 262144 → length p.cells ≤ 262144 → IsWithinLimits p
   within_limits few_tasks few_cells = record {
     tasks = omega (arith, few_tasks);
     cells = omega (arith, few_cells);
-    elements = All-weaker (λ (i : CellInfo). (i.partials ≡ None) × (area i.dims ≤ 2 ^ 24)) (λ (i : CellInfo). area i.dims ≤ 2 ^ 24) (λ i h. h.1) p.cells w.cells;
+    elements = subst (All (λ (i : CellInfo). area i.dims ≤ 2 ^ 24)) (sym w.cells) w.fine.agrees.laid.small;
   }
 
   pub proper : length p.tasks ≤ 262144 → length p.cells ≤ 262144 → Proper p
@@ -111,22 +119,20 @@ module _ (T : Table) (p : Program) (ss : List Statement) (w : IsWhole T p ss) wh
     codelets = each_task (Fits p) (λ n g. g.fits);
     unaliased = each_task IsUnaliased (λ n g. g.unaliased);
     values = reads_values;
-    phases = has_phases;
+    phases = its_phases;
     deliveries = has_deliveries;
     limits = within_limits few_tasks few_cells;
   }
 
-  pub plain : HasPlainModes p
-  plain = record { modes = λ t. every_task (λ n a. is_in_order a.mode ≡ true) (λ n inside. (w.good n inside).plain) t.0 }
-
-  pub delivers_printed : DeliversPrinted T p ss
-  delivers_printed = record {
+  -- by the laws of the program's set its deliveries hand over what the print statements find
+  pub delivers_printed : IsTrusted p → DeliversPrinted T p ss
+  delivers_printed trust = record {
     each = λ k x e.
-        let h = subst (λ (ds : List Delivery). AreHanded T p (of_print k ds) x) (sym w.deliveries) (w.delivered.each k x e) in
-        record { some = h.some; named = h.named; dims = h.dims; within = h.within; array = h.array };
-    below = subst (λ (ds : List Delivery). All (λ (d : Delivery). d.print < length (printed ss)) ds) (sym w.deliveries) w.delivered.printed;
-    ascending = subst (λ (ds : List Delivery). AllPairs (λ (d e : Delivery). d.print ≤ e.print) ds) (sym w.deliveries) w.delivered.in_order;
-    rooted = subst (λ (ds : List Delivery). All (λ (d : Delivery). d.root.0 < length T.names) ds) (sym w.deliveries) w.delivered.rooted;
+        let h = subst (λ (ds : List Delivery). AreHanded T p (of_print k ds) x) (sym w.deliveries) (delivered.each k x e) in
+        record { some = h.some; named = h.named; dims = h.dims; within = h.within trust; array = h.array trust };
+    below = subst (λ (ds : List Delivery). All (λ (d : Delivery). d.print < length (printed ss)) ds) (sym w.deliveries) delivered.printed;
+    ascending = subst (λ (ds : List Delivery). AllPairs (λ (d e : Delivery). d.print ≤ e.print) ds) (sym w.deliveries) delivered.in_order;
+    rooted = subst (λ (ds : List Delivery). All (λ (d : Delivery). d.root.0 < length T.names) ds) (sym w.deliveries) delivered.rooted;
   }
 
   pub names_deliver_tasks : NamesDeliverTasks p
@@ -134,7 +140,7 @@ module _ (T : Table) (p : Program) (ss : List Statement) (w : IsWhole T p ss) wh
       let ds = w.lowering.deliveries in
       let inside : k < length ds = subst (λ (xs : List Delivery). k < length xs) w.deliveries h in
       subst (λ (xs : List Delivery). (get_or xs k d).task.0 < length p.tasks × (kernel_of (task_of p (get_or xs k d).task).codelet ≡ Some Deliver)) (sym w.deliveries)
-      (subst (λ (ts : List Lowered). (get_or ds k d).task.0 < length ts) (sym w.tasks) (w.delivered.below k d inside), w.delivered.delivers k d inside)
+      (subst (λ (ts : List Lowered). (get_or ds k d).task.0 < length ts) (sym w.tasks) (delivered.below k d inside), delivered.delivers k d inside)
 
   pub delivers_in_order : DeliversInOrder p
-  delivers_in_order = subst (λ (xs : List Delivery). AllPairs (λ (d e : Delivery). d.task.0 < e.task.0) xs) (sym w.deliveries) w.delivered.ascending
+  delivers_in_order = subst (λ (xs : List Delivery). AllPairs (λ (d e : Delivery). d.task.0 < e.task.0) xs) (sym w.deliveries) delivered.ascending

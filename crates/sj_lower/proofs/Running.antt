@@ -1,5 +1,5 @@
 -- A lowered task does to its cells what the task line does to its children.
-use Rattle.std.proofs.Common.{◌≡◌, ℕ, ◌+◌, Bool, true, false, not, ◌&&◌, ◌||◌, cond, Option, Some, None, List, [], ◌∷◌, ◌++◌, map as each_of, refl, sym, ap, subst, ◌∙◌, arith}
+use Rattle.std.proofs.Common.{◌≡◌, ℕ, ◌+◌, Bool, true, false, not, ◌&&◌, ◌||◌, cond, Option, Some, None, List, [], ◌∷◌, ◌++◌, length, map as each_of, refl, sym, ap, ◌∙◌, arith}
 use Rattle.std.specs.Prelude.{nat_lt}
 use Rattle.std.specs.List.{AllByRecursion, zip, filter, list_all, list_any}
 use Rattle.std.specs.Option.{is_some}
@@ -10,6 +10,7 @@ use Rattle.std.proofs.lemmas.List.{length-map, length-replicate}
 use Rattle.sj_base.specs.declared.ids.Cell.{Cell}
 use Rattle.sj_base.specs.declared.tile.Dims.{Dims}
 use Rattle.sj_base.specs.declared.mode.Mode.{Mode}
+use Rattle.sj_base.specs.declared.mode.Reduction.{Reduction}
 use Rattle.sj_base.specs.declared.mode.Mode.TheVariants.{R, W, RW, Scratch, Redux, Commute}
 use Rattle.sj_base.specs.declared.mode.Access.{Access}
 use Rattle.sj_base.specs.declared.program.Lowered.{Lowered}
@@ -19,8 +20,10 @@ use Rattle.sj_codelet.specs.declared.kernel.Kernel.{Kernel}
 use Rattle.sj_codelet.specs.declared.formal.Formal.{Formal}
 use Rattle.sj_codelet.specs.Kernel.{formals_of, out, fits}
 use Rattle.sj_core.specs.Program.{same_cell, dims_of, task_of}
-use Rattle.sj_base.specs.Mode.{is_written, is_redux}
-use Rattle.sj_core.specs.Proper.{own_modes}
+use Rattle.sj_base.specs.Mode.{is_written, is_redux, is_data}
+use Rattle.sj_codelet.specs.Formal.{outputs_among}
+use Rattle.sj_codelet.specs.Laws.{unit_of}
+use Rattle.sj_core.proofs.Combining.{unit-dims, unit-tile}
 use Rattle.sj_core.specs.Fold.{Contents, held_in, after_task}
 use Rattle.sj_core.specs.Operands.{worked_on, written_cells, found, results}
 use Rattle.sj_plan.specs.declared.parts.Parts.{Parts}
@@ -30,17 +33,18 @@ use Rattle.sj_plan.specs.Rect.{dims_of as rect_dims}
 use Rattle.sj_plan.specs.Window.{IsWhole}
 use Rattle.sj_job.specs.Statement.{Operand, TaskLine}
 use Rattle.sj_job.specs.State.{Root, State, root_of, is_valued, is_child, child_rect, is_valued_child}
-use Rattle.sj_job.specs.Meaning.{child_array, seen_by, operand_array, is_written as writes, written_of as written_operands, run_task}
+use Rattle.sj_job.specs.Meaning.{child_array, child_unit, seen_by, operand_array, is_written as writes, written_of as written_operands, run_task}
 use Rattle.sj_job.specs.Judge.{modes_fit, needs_value, clashes, is_aliased, is_read_only}
-use Rattle.sj_job.specs.Sound.{is_plain, has_child, has_child_values, child_dims, IsSoundTask}
+use Rattle.sj_job.specs.Sound.{has_child, has_child_values, child_dims, IsSoundTask}
 use Rattle.sj_job.specs.Table.{undivided}
 use Rattle.sj_lower.specs.Cells.{Cells, cell_of}
 use Rattle.sj_lower.specs.Lowering.{active_cell, access_of}
 use Rattle.sj_lower.proofs.Contents.{first_worker, task_at, same_cell-itself}
 use Rattle.sj_lower.proofs.Elements.{child-whole}
-use Rattle.sj_lower.proofs.Holding.{HasCells, HaveRoots, GivesAll, IsOther, same_child, cell-dims, holds-put_all, holds-later}
+use Rattle.sj_lower.proofs.Holding.{HasCells, HaveRoots, HaveTheirs, GivesAll, IsOther, same_child, cell-dims, holds-put_all, holds-later, holds-same}
+use Rattle.sj_lower.proofs.Combined.{IsTrusted, Phases, denoted-closed}
 use Rattle.sj_lower.proofs.Laid.{AreLaid}
-use Rattle.sj_lower.proofs.Writing.{written_of, written_of-map, modes_are, all_dims, AreWhole, out_dims, out_whole, IsCall, call_of, fit_from_fits}
+use Rattle.sj_lower.proofs.Writing.{outputs-written, all_dims, AreWhole, out_dims, out_whole, IsCall, call_of, fit_from_fits}
 
 -- ---- words
 
@@ -64,13 +68,17 @@ same_writes Scratch = refl
 same_writes Redux = refl
 same_writes Commute = refl
 
-plain_isn't_redux : (m : Mode) → is_plain m ≡ true → is_redux m ≡ false
-plain_isn't_redux R e = refl
-plain_isn't_redux W e = refl
-plain_isn't_redux RW e = refl
-plain_isn't_redux Scratch e = refl
-plain_isn't_redux Redux e = absurd (false≢true e)
-plain_isn't_redux Commute e = absurd (false≢true e)
+-- the operand is no contribution
+abbrev pub is_direct : Mode → Bool
+is_direct m = not (is_redux m)
+
+direct_isn't_redux : (m : Mode) → is_direct m ≡ true → is_redux m ≡ false
+direct_isn't_redux R e = refl
+direct_isn't_redux W e = refl
+direct_isn't_redux RW e = refl
+direct_isn't_redux Scratch e = refl
+direct_isn't_redux Redux e = absurd (false≢true e)
+direct_isn't_redux Commute e = refl
 
 pub root_there : (o : Option Root) → is_some o ≡ true → (r : Root) × (o ≡ Some r)
 root_there None e = absurd (false≢true e)
@@ -115,45 +123,65 @@ operand_cell S C o = active_cell S C o.name o.place
 
 -- ---- what a task reads
 
-seen_there : (S : State) (o : Operand) (r : Root) → root_of S o.name ≡ Some r → operand_array S o ≡ seen_by o.mode r o.place
+pub seen_there : (S : State) (o : Operand) (r : Root) → root_of S o.name ≡ Some r → operand_array S o ≡ seen_by o.mode r o.place
 seen_there S o r e = ap (λ (x : Option Root). elim x as (λ _. Array) [ None ↦ array (record { rows = 0; cols = 0 }) [] | Some r ↦ seen_by o.mode r o.place ]) e
 
-by_mode : (p : Program) (k : Contents) (m : Mode) (c : Cell) (r : Root) (place : ℕ × ℕ) → is_plain m ≡ true → dims_of p c ≡ rect_dims (child_rect r place) → (needs_value m ≡ true → held_in p k c ≡ child_array r place)
+pub by_mode : (p : Program) (k : Contents) (m : Mode) (c : Cell) (r : Root) (place : ℕ × ℕ) → is_direct m ≡ true → dims_of p c ≡ rect_dims (child_rect r place) → (needs_value m ≡ true → held_in p k c ≡ child_array r place)
     → let a : Access = record { mode = m; cell = c } in found p first_worker (held_in p k) a ≡ seen_by m r place
 by_mode p k R c r place h d v = v refl
 by_mode p k W c r place h d v = ap zeros d
 by_mode p k RW c r place h d v = v refl
 by_mode p k Scratch c r place h d v = ap zeros d
 by_mode p k Redux c r place h d v = absurd (false≢true h)
-by_mode p k Commute c r place h d v = absurd (false≢true h)
+by_mode p k Commute c r place h d v = v refl
 
 pub needed : (a b : Bool) → (not a || b) ≡ true → a ≡ true → b ≡ true
 needed true b e h = e
 needed false b e h = absurd (false≢true h)
 
+-- no phase is open on the child of an operand that is accessed
+abbrev pub IsClosed : Phases → State → Cells → Operand → Type 0
+IsClosed phases S C o = is_data o.mode ≡ true → phases (operand_cell S C o) ≡ None
+
+pub data_needs : (m : Mode) → needs_value m ≡ true → is_data m ≡ true
+data_needs R e = refl
+data_needs W e = absurd (false≢true e)
+data_needs RW e = refl
+data_needs Scratch e = absurd (false≢true e)
+data_needs Redux e = absurd (false≢true e)
+data_needs Commute e = refl
+
+pub data_written : (m : Mode) → is_written m ≡ true → is_data m ≡ true
+data_written R e = absurd (false≢true e)
+data_written W e = refl
+data_written RW e = refl
+data_written Scratch e = absurd (false≢true e)
+data_written Redux e = refl
+data_written Commute e = refl
+
 -- an operand that is a child, with values where they are read
-one_found : (p : Program) (C : Cells) (n : ℕ) (k : Contents) (S : State) (o : Operand) → HasCells p C → AreLaid C → HaveRoots p C n k S → is_plain o.mode ≡ true → has_child S o ≡ true → (not (needs_value o.mode) || has_child_values S o) ≡ true → found p first_worker (held_in p k) (access_of S C o) ≡ operand_array S o
-one_found p C n k S o cells laid has h placed valued =
+pub one_found : (p : Program) (C : Cells) (phases : Phases) (n : ℕ) (k : Contents) (S : State) (o : Operand) → IsTrusted p → HasCells p C → AreLaid C → HaveRoots p C phases n k S → IsClosed phases S C o → is_direct o.mode ≡ true → has_child S o ≡ true → (not (needs_value o.mode) || has_child_values S o) ≡ true → found p first_worker (held_in p k) (access_of S C o) ≡ operand_array S o
+one_found p C phases n k S o trust cells laid has closed h placed valued =
     let t = child_there S o placed in
     let b = has o.name t.root t.is_root in
     let cell = active_cell-is S C o.name o.place t.root t.is_root in
     ap (λ (c : Cell). let a : Access = record { mode = o.mode; cell = c } in found p first_worker (held_in p k) a) cell
     ∙ by_mode p k o.mode (cell_of C o.name t.root.parts o.place) t.root o.place h (cell-dims p C o.name t.root.dims t.root.parts b.first o.place cells laid b.taken t.placed)
-    (λ needs. (b.held o.place t.placed (sym (child_values-are S o t.root t.is_root) ∙ needed (needs_value o.mode) (has_child_values S o) valued needs)).value)
+    (λ needs. sym (denoted-closed p phases k (cell_of C o.name t.root.parts o.place) (ap phases (sym cell) ∙ closed (data_needs o.mode needs))) ∙ (b.held o.place t.placed (sym (child_values-are S o t.root t.is_root) ∙ needed (needs_value o.mode) (has_child_values S o) valued needs)).value trust)
     ∙ sym (seen_there S o t.root t.is_root)
 
-all_found : (p : Program) (C : Cells) (n : ℕ) (k : Contents) (S : State) (os : List Operand) → HasCells p C → AreLaid C → HaveRoots p C n k S → list_all (λ o. is_plain o.mode) os ≡ true → list_all (has_child S) os ≡ true → list_all (λ o. not (needs_value o.mode) || has_child_values S o) os ≡ true → each_of (found p first_worker (held_in p k)) (each_of (access_of S C) os) ≡ each_of (operand_array S) os
-all_found p C n k S [] cells laid has h placed valued = refl
-all_found p C n k S (o ∷ os) cells laid has h placed valued =
-    let a = and_parts (is_plain o.mode) (list_all (λ o. is_plain o.mode) os) h in
+pub all_found : (p : Program) (C : Cells) (phases : Phases) (n : ℕ) (k : Contents) (S : State) (os : List Operand) → IsTrusted p → HasCells p C → AreLaid C → HaveRoots p C phases n k S → AllByRecursion (IsClosed phases S C) os → list_all (λ o. is_direct o.mode) os ≡ true → list_all (has_child S) os ≡ true → list_all (λ o. not (needs_value o.mode) || has_child_values S o) os ≡ true → each_of (found p first_worker (held_in p k)) (each_of (access_of S C) os) ≡ each_of (operand_array S) os
+all_found p C phases n k S [] trust cells laid has closed h placed valued = refl
+all_found p C phases n k S (o ∷ os) trust cells laid has closed h placed valued =
+    let a = and_parts (is_direct o.mode) (list_all (λ o. is_direct o.mode) os) h in
     let b = and_parts (has_child S o) (list_all (has_child S) os) placed in
     let c = and_parts (not (needs_value o.mode) || has_child_values S o) (list_all (λ o. not (needs_value o.mode) || has_child_values S o) os) valued in
-    ap (λ (x : Array). x ∷ each_of (found p first_worker (held_in p k)) (each_of (access_of S C) os)) (one_found p C n k S o cells laid has a.0 b.0 c.0)
-    ∙ ap (λ (xs : List Array). operand_array S o ∷ xs) (all_found p C n k S os cells laid has a.1 b.1 c.1)
+    ap (λ (x : Array). x ∷ each_of (found p first_worker (held_in p k)) (each_of (access_of S C) os)) (one_found p C phases n k S o trust cells laid has closed.0 a.0 b.0 c.0)
+    ∙ ap (λ (xs : List Array). operand_array S o ∷ xs) (all_found p C phases n k S os trust cells laid has closed.1 a.1 b.1 c.1)
 
 -- ---- what a task writes
 
-worked_plain : (p : Program) (m : Mode) (c : Cell) → is_plain m ≡ true → let a : Access = record { mode = m; cell = c } in worked_on p first_worker a ≡ c
+worked_plain : (p : Program) (m : Mode) (c : Cell) → is_direct m ≡ true → let a : Access = record { mode = m; cell = c } in worked_on p first_worker a ≡ c
 worked_plain p R c h = refl
 worked_plain p W c h = refl
 worked_plain p RW c h = refl
@@ -161,13 +189,13 @@ worked_plain p Scratch c h = refl
 worked_plain p Redux c h = absurd (false≢true h)
 worked_plain p Commute c h = refl
 
-cells_written : (p : Program) (S : State) (C : Cells) (os : List Operand) → list_all (λ o. is_plain o.mode) os ≡ true → each_of (worked_on p first_worker) (filter (λ a. is_written a.mode) (each_of (access_of S C) os)) ≡ each_of (operand_cell S C) (written_operands os)
+cells_written : (p : Program) (S : State) (C : Cells) (os : List Operand) → list_all (λ o. is_direct o.mode) os ≡ true → each_of (worked_on p first_worker) (filter (λ a. is_written a.mode) (each_of (access_of S C) os)) ≡ each_of (operand_cell S C) (written_operands os)
 cells_written p S C [] h = refl
 cells_written p S C (o ∷ os) h =
-    let a = and_parts (is_plain o.mode) (list_all (λ o. is_plain o.mode) os) h in
+    let a = and_parts (is_direct o.mode) (list_all (λ o. is_direct o.mode) os) h in
     by_cases (is_written o.mode) (writes o.mode) (sym (same_writes o.mode)) a.0 (cells_written p S C os a.1)
   where
-    by_cases : (b c : Bool) → b ≡ c → is_plain o.mode ≡ true → each_of (worked_on p first_worker) (filter (λ a. is_written a.mode) (each_of (access_of S C) os)) ≡ each_of (operand_cell S C) (written_operands os)
+    by_cases : (b c : Bool) → b ≡ c → is_direct o.mode ≡ true → each_of (worked_on p first_worker) (filter (λ a. is_written a.mode) (each_of (access_of S C) os)) ≡ each_of (operand_cell S C) (written_operands os)
         → each_of (worked_on p first_worker) (cond b (access_of S C o ∷ filter (λ a. is_written a.mode) (each_of (access_of S C) os)) (filter (λ a. is_written a.mode) (each_of (access_of S C) os)))
         ≡ each_of (operand_cell S C) (cond c (o ∷ written_operands os) (written_operands os))
     by_cases true true e h rest = ap (λ (c : Cell). c ∷ each_of (worked_on p first_worker) (filter (λ a. is_written a.mode) (each_of (access_of S C) os))) (worked_plain p o.mode (operand_cell S C o) h) ∙ ap (λ (cs : List Cell). operand_cell S C o ∷ cs) rest
@@ -176,7 +204,7 @@ cells_written p S C (o ∷ os) h =
     by_cases false false e h rest = rest
 
 -- no child that is written stands in another operand
-other_written : (o : Operand) (os : List Operand) → writes o.mode ≡ true → list_any (clashes o) os ≡ false → IsOther o (written_operands os)
+pub other_written : (o : Operand) (os : List Operand) → writes o.mode ≡ true → list_any (clashes o) os ≡ false → IsOther o (written_operands os)
 other_written o [] w h = tt
 other_written o (p ∷ os) w h =
     let a = or_none (clashes o p) (list_any (clashes o) os) h in
@@ -211,16 +239,16 @@ all_true true false c x y z = z
 all_true true true c x y z = absurd (false≢true (sym y))
 all_true false b c x y z = absurd (false≢true x)
 
-all_written : (S : State) (C : Cells) (os : List Operand) → list_all (λ o. is_plain o.mode) os ≡ true → Written S C (each_of (access_of S C) os) (written_operands os)
+all_written : (S : State) (C : Cells) (os : List Operand) → list_all (λ o. is_direct o.mode) os ≡ true → Written S C (each_of (access_of S C) os) (written_operands os)
 all_written S C [] h = tt
 all_written S C (o ∷ os) h =
-    let a = and_parts (is_plain o.mode) (list_all (λ o. is_plain o.mode) os) h in
+    let a = and_parts (is_direct o.mode) (list_all (λ o. is_direct o.mode) os) h in
     by_cases (writes o.mode) refl a.0 (written-more S C (access_of S C o) (each_of (access_of S C) os) (written_operands os) (all_written S C os a.1))
   where
-    by_cases : (b : Bool) → writes o.mode ≡ b → is_plain o.mode ≡ true → Written S C (each_of (access_of S C) (o ∷ os)) (written_operands os) → Written S C (each_of (access_of S C) (o ∷ os)) (cond b (o ∷ written_operands os) (written_operands os))
+    by_cases : (b : Bool) → writes o.mode ≡ b → is_direct o.mode ≡ true → Written S C (each_of (access_of S C) (o ∷ os)) (written_operands os) → Written S C (each_of (access_of S C) (o ∷ os)) (cond b (o ∷ written_operands os) (written_operands os))
     by_cases true w h rest = (
       or_left (is_written o.mode && not (is_redux o.mode) && same_cell (operand_cell S C o) (operand_cell S C o)) (list_any (λ (a : Access). is_written a.mode && not (is_redux a.mode) && same_cell a.cell (operand_cell S C o)) (each_of (access_of S C) os))
-          (all_true (is_written o.mode) (is_redux o.mode) (same_cell (operand_cell S C o) (operand_cell S C o)) (sym (same_writes o.mode) ∙ w) (plain_isn't_redux o.mode h) (same_cell-itself (operand_cell S C o))),
+          (all_true (is_written o.mode) (is_redux o.mode) (same_cell (operand_cell S C o) (operand_cell S C o)) (sym (same_writes o.mode) ∙ w) (direct_isn't_redux o.mode h) (same_cell-itself (operand_cell S C o))),
       rest,
     )
     by_cases false w h rest = rest
@@ -228,7 +256,7 @@ all_written S C (o ∷ os) h =
 abbrev Placed : State → List Operand → Type 0
 Placed S os = AllByRecursion (λ o. has_child S o ≡ true) os
 
-all_placed : (S : State) (os : List Operand) → list_all (has_child S) os ≡ true → Placed S (written_operands os)
+pub all_placed : (S : State) (os : List Operand) → list_all (has_child S) os ≡ true → Placed S (written_operands os)
 all_placed S [] h = tt
 all_placed S (o ∷ os) h =
     let b = and_parts (has_child S o) (list_all (has_child S) os) h in
@@ -252,16 +280,28 @@ all_other (o ∷ os) h =
     by_cases true w h rest = (other_written o os w h, rest)
     by_cases false w h rest = rest
 
-head_of : (d e : Dims) (ds es : List Dims) → (d ∷ ds) ≡ (e ∷ es) → d ≡ e
+pub head_of : (d e : Dims) (ds es : List Dims) → (d ∷ ds) ≡ (e ∷ es) → d ≡ e
 head_of d e ds es h = cc
 
 tail_of : (d e : Dims) (ds es : List Dims) → (d ∷ ds) ≡ (e ∷ es) → ds ≡ es
 tail_of d e ds es h = cc
 
-gives_all : (p : Program) (C : Cells) (n : ℕ) (S : State) (accesses : List Access) (os : List Operand) (xs : List Array) → (task_of p (task_at n)).accesses ≡ accesses → Written S C accesses os → Placed S os → AllOther os → all_dims xs ≡ each_of (child_dims S) os → AreWhole xs → GivesAll p C (n + 1) S (operand_cell S C) os xs
-gives_all p C n S accesses [] xs t w r o d whole = tt
-gives_all p C n S accesses (u ∷ us) [] t w r o d whole = absurd (cc)
-gives_all p C n S accesses (u ∷ us) (a ∷ xs) t w r o d whole =
+-- the phases of what is written are closed
+abbrev AllClosed : Phases → State → Cells → List Operand → Type 0
+AllClosed phases S C os = AllByRecursion (λ o. phases (operand_cell S C o) ≡ None) os
+
+all_closed : (phases : Phases) (S : State) (C : Cells) (os : List Operand) → AllByRecursion (IsClosed phases S C) os → AllClosed phases S C (written_operands os)
+all_closed phases S C [] h = tt
+all_closed phases S C (o ∷ os) h = by_cases (writes o.mode) refl h.0 (all_closed phases S C os h.1)
+  where
+    by_cases : (b : Bool) → writes o.mode ≡ b → IsClosed phases S C o → AllClosed phases S C (written_operands os) → AllClosed phases S C (cond b (o ∷ written_operands os) (written_operands os))
+    by_cases true w h rest = (h (data_written o.mode (sym (same_writes o.mode) ∙ w)), rest)
+    by_cases false w h rest = rest
+
+gives_all : (p : Program) (C : Cells) (phases : Phases) (n : ℕ) (S : State) (accesses : List Access) (os : List Operand) (xs : List Array) → (task_of p (task_at n)).accesses ≡ accesses → Written S C accesses os → Placed S os → AllOther os → AllClosed phases S C os → all_dims xs ≡ each_of (child_dims S) os → AreWhole xs → GivesAll p C phases (n + 1) S (operand_cell S C) os xs
+gives_all p C phases n S accesses [] xs t w r o z d whole = tt
+gives_all p C phases n S accesses (u ∷ us) [] t w r o z d whole = absurd (cc)
+gives_all p C phases n S accesses (u ∷ us) (a ∷ xs) t w r o z d whole =
     let there = child_there S u r.0 in (
       record {
         root = there.root;
@@ -271,9 +311,10 @@ gives_all p C n S accesses (u ∷ us) (a ∷ xs) t w r o d whole =
         whole = whole.0;
         cell_is = active_cell-is S C u.name u.place there.root there.is_root;
         given = (task_at n, omega arith, ap (λ (as' : List Access). list_any (λ (a : Access). is_written a.mode && not (is_redux a.mode) && same_cell a.cell (operand_cell S C u)) as') t ∙ w.0);
+        closed = z.0;
       },
       o.0,
-      gives_all p C n S accesses us xs t w.1 r.1 o.1 (tail_of a.dims (child_dims S u) (all_dims xs) (each_of (child_dims S) us) d) whole.1,
+      gives_all p C phases n S accesses us xs t w.1 r.1 o.1 z.1 (tail_of a.dims (child_dims S u) (all_dims xs) (each_of (child_dims S) us) d) whole.1,
     )
 
 -- ---- the task as a whole
@@ -282,12 +323,20 @@ seen_dims : (S : State) (o : Operand) (x : Option Root) → root_of S o.name ≡
 seen_dims S o None e = refl
 seen_dims S o (Some r) e = by o.mode
   where
+    unit : (x : Option Reduction) → (elim x as (λ _. Array) [ None ↦ zeros (rect_dims (child_rect r o.place)) | Some by ↦ unit_of by (child_array r o.place) ]).dims ≡ rect_dims (child_rect r o.place)
+    unit None = refl
+    unit (Some by) = unit-dims by (child_array r o.place)
+
+    contributed : (b : Bool) → (cond b (child_array r o.place) (child_unit r o.place)).dims ≡ rect_dims (child_rect r o.place)
+    contributed true = refl
+    contributed false = unit r.reduction
+
     by : (m : Mode) → (seen_by m r o.place).dims ≡ rect_dims (child_rect r o.place)
     by R = refl
     by W = refl
     by RW = refl
     by Scratch = refl
-    by Redux = refl
+    by Redux = contributed (is_valued_child r o.place)
     by Commute = refl
 
 all_seen_dims : (S : State) (os : List Operand) → all_dims (each_of (operand_array S) os) ≡ each_of (child_dims S) os
@@ -301,12 +350,20 @@ seen_whole S o (Some r) = by o.mode
     none : IsWhole (zeros (rect_dims (child_rect r o.place)))
     none = length-replicate (area (rect_dims (child_rect r o.place))) _
 
+    unit : (x : Option Reduction) → IsWhole (elim x as (λ _. Array) [ None ↦ zeros (rect_dims (child_rect r o.place)) | Some by ↦ unit_of by (child_array r o.place) ])
+    unit None = none
+    unit (Some by) = (unit-tile by (child_array r o.place)).whole
+
+    contributed : (b : Bool) → IsWhole (cond b (child_array r o.place) (child_unit r o.place))
+    contributed true = child-whole r o.place
+    contributed false = unit r.reduction
+
     by : (m : Mode) → IsWhole (seen_by m r o.place)
     by R = child-whole r o.place
     by W = none
     by RW = child-whole r o.place
     by Scratch = none
-    by Redux = child-whole r o.place
+    by Redux = contributed (is_valued_child r o.place)
     by Commute = child-whole r o.place
 
 all_seen_whole : (S : State) (os : List Operand) → AreWhole (each_of (operand_array S) os)
@@ -325,49 +382,47 @@ dims_of_written S (o ∷ os) = by_cases (is_written o.mode) (writes o.mode) (sym
     by_cases false true e rest = absurd (false≢true e)
     by_cases false false e rest = rest
 
--- the codelet, and that the operands have its modes
+-- the codelet of a task, with its operands in its modes
 pub record HasKernel (t : TaskLine) (S : State) : Type 0 where
   pub call : IsCall t.codelet t.args (each_of (child_dims S) t.operands)
-  pub modes : each_of (λ (o : Operand). o.mode) t.operands ≡ own_modes call.kernel
+  pub modes : modes_fit (formals_of call.kernel) t.operands ≡ true
+  pub count : length t.operands ≡ length (formals_of call.kernel)
 
 pub kernel_there : (has : Kernel → Bool) (S : State) (t : TaskLine) → IsSoundTask has S t → HasKernel t S
 kernel_there has S t s =
     let c = call_of has t.codelet t.args (each_of (child_dims S) t.operands) s.fits in
     let f = fit_from_fits c.kernel t.args (each_of (child_dims S) t.operands) c.fits in
-    record {
-      call = c;
-      modes = modes_are (formals_of c.kernel) t.operands (ap (λ (fs : List Formal). modes_fit fs t.operands) (sym c.formals) ∙ s.modes) s.plain (sym (length-map t.operands (child_dims S)) ∙ f.count);
-    }
+    record { call = c; modes = ap (λ (fs : List Formal). modes_fit fs t.operands) (sym c.formals) ∙ s.modes; count = sym (length-map t.operands (child_dims S)) ∙ f.count }
 
-new_dims : (has : Kernel → Bool) (S : State) (t : TaskLine) → IsSoundTask has S t → all_dims (out t.codelet t.args (each_of (operand_array S) t.operands)) ≡ each_of (child_dims S) (written_operands t.operands)
+pub new_dims : (has : Kernel → Bool) (S : State) (t : TaskLine) → IsSoundTask has S t → all_dims (out t.codelet t.args (each_of (operand_array S) t.operands)) ≡ each_of (child_dims S) (written_operands t.operands)
 new_dims has S t s =
     let k = kernel_there has S t s in
     let ins = each_of (operand_array S) t.operands in
     let dims = all_seen_dims S t.operands in
     out_dims k.call.kernel t.codelet t.args ins k.call.is (ap (fits k.call.kernel t.args) dims ∙ k.call.fits)
-    ∙ ap (λ (ds : List Dims). written_of (own_modes k.call.kernel) ds) dims
-    ∙ ap (λ (ms : List Mode). written_of ms (each_of (child_dims S) t.operands)) (sym k.modes)
-    ∙ written_of-map (child_dims S) t.operands
+    ∙ ap (λ (ds : List Dims). outputs_among (formals_of k.call.kernel) ds) dims
+    ∙ outputs-written (child_dims S) (formals_of k.call.kernel) t.operands k.modes k.count
     ∙ dims_of_written S t.operands
 
-new_whole : (has : Kernel → Bool) (S : State) (t : TaskLine) → IsSoundTask has S t → AreWhole (out t.codelet t.args (each_of (operand_array S) t.operands))
+pub new_whole : (has : Kernel → Bool) (S : State) (t : TaskLine) → IsSoundTask has S t → AreWhole (out t.codelet t.args (each_of (operand_array S) t.operands))
 new_whole has S t s =
     let k = kernel_there has S t s in
     out_whole k.call.kernel t.codelet t.args (each_of (operand_array S) t.operands) k.call.is (ap (fits k.call.kernel t.args) (all_seen_dims S t.operands) ∙ k.call.fits) (all_seen_whole S t.operands)
 
--- a lowered task leaves in its cells what the task line leaves in its children
-pub holds-task : (has : Kernel → Bool) (p : Program) (C : Cells) (n : ℕ) (k : Contents) (S : State) (t : TaskLine) (l : Lowered)
-    → HasCells p C → AreLaid C → HaveRoots p C n k S → IsSoundTask has S t → task_of p (task_at n) ≡ l → l.codelet ≡ t.codelet → l.args ≡ t.args → l.accesses ≡ each_of (access_of S C) t.operands
-    → HaveRoots p C (n + 1) (after_task p first_worker (task_at n) k) (run_task t S)
-holds-task has p C n k S t l cells laid roots s is ec ea eo =
+-- a lowered task without contributions leaves in its cells what the task line leaves in its children
+pub holds-task : (has : Kernel → Bool) (p : Program) (C : Cells) (phases : Phases) (n : ℕ) (k : Contents) (S : State) (t : TaskLine) (l : Lowered)
+    → HasCells p C → AreLaid C → HaveTheirs p.workers C phases → HaveRoots p C phases n k S → IsSoundTask has S t → list_all (λ o. is_direct o.mode) t.operands ≡ true → AllByRecursion (IsClosed phases S C) t.operands
+    → task_of p (task_at n) ≡ l → l.codelet ≡ t.codelet → l.args ≡ t.args → l.accesses ≡ each_of (access_of S C) t.operands
+    → HaveRoots p C phases (n + 1) (after_task p first_worker (task_at n) k) (run_task t S)
+holds-task has p C phases n k S t l cells laid theirs roots s direct closed is ec ea eo =
     let accesses : (task_of p (task_at n)).accesses ≡ each_of (access_of S C) t.operands = ap (λ (k : Lowered). k.accesses) is ∙ eo in
     let outs = out t.codelet t.args (each_of (operand_array S) t.operands) in
-    let g = gives_all p C n S (each_of (access_of S C) t.operands) (written_operands t.operands) outs accesses (all_written S C t.operands s.plain) (all_placed S t.operands s.placed) (all_other t.operands s.apart) (new_dims has S t s) (new_whole has S t s) in
-    let meant = holds-put_all p C (n + 1) (operand_cell S C) (written_operands t.operands) outs k S laid (holds-later p C n (n + 1) k S (omega arith) roots) g in
-    let written : written_cells p (task_at n) first_worker ≡ each_of (operand_cell S C) (written_operands t.operands) = ap (λ (as' : List Access). each_of (worked_on p first_worker) (filter (λ a. is_written a.mode) as')) accesses ∙ cells_written p S C t.operands s.plain in
-    let made : results p (task_at n) first_worker (held_in p k) ≡ outs =
+    let g = gives_all p C phases n S (each_of (access_of S C) t.operands) (written_operands t.operands) outs accesses (all_written S C t.operands direct) (all_placed S t.operands s.placed) (all_other t.operands s.apart) (all_closed phases S C t.operands closed) (new_dims has S t s) (new_whole has S t s) in
+    let meant = holds-put_all p C phases (n + 1) (operand_cell S C) (written_operands t.operands) outs k S laid theirs (holds-later p C phases n (n + 1) k S (omega arith) roots) g in
+    let written : written_cells p (task_at n) first_worker ≡ each_of (operand_cell S C) (written_operands t.operands) = ap (λ (as' : List Access). each_of (worked_on p first_worker) (filter (λ a. is_written a.mode) as')) accesses ∙ cells_written p S C t.operands direct in
+    let made : IsTrusted p → results p (task_at n) first_worker (held_in p k) ≡ outs = λ trust.
     ap (λ (l : Lowered). out l.codelet l.args (each_of (found p first_worker (held_in p k)) l.accesses)) is
     ∙ (λ i. out (ec i) (ea i) (each_of (found p first_worker (held_in p k)) (eo i)))
-    ∙ ap (out t.codelet t.args) (all_found p C n k S t.operands cells laid roots s.plain s.placed s.valued) in
-    let same : after_task p first_worker (task_at n) k ≡ zip (each_of (operand_cell S C) (written_operands t.operands)) outs ++ k = λ i. zip (written i) (made i) ++ k in
-    subst (λ (c : Contents). HaveRoots p C (n + 1) c (run_task t S)) (sym same) meant
+    ∙ ap (out t.codelet t.args) (all_found p C phases n k S t.operands trust cells laid roots closed direct s.placed s.valued) in
+    holds-same p C phases (n + 1) (zip (each_of (operand_cell S C) (written_operands t.operands)) outs ++ k) (after_task p first_worker (task_at n) k) (run_task t S)
+    (λ trust c. ap (λ (new : Contents). held_in p new c) (λ i. zip (written i) (made trust i) ++ k)) meant

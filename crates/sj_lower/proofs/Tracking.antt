@@ -1,12 +1,14 @@
 -- A task's operands and the active plans that it leaves.
-use Rattle.std.proofs.Common.{◌≡◌, ℕ, suc, ◌+◌, ◌<◌, ◌≤◌, Bool, true, false, cond, Option, Some, None, List, [], ◌∷◌, length, get_or, map, refl, ap, sym, subst, ◌∙◌, arith, All, get_or-set_same, get_or-set_other, inl, inr}
+use Rattle.std.proofs.Common.{◌≡◌, ℕ, suc, ◌+◌, ◌<◌, ◌≤◌, Bool, true, false, cond, Option, Some, None, List, [], ◌∷◌, ◌++◌, length, get_or, map, refl, ap, sym, subst, ◌∙◌, arith, All, get_or-set_same, get_or-set_other, inl, inr}
 use Rattle.std.proofs.Math.ListN.{set}
 use Rattle.std.specs.List.{AllByRecursion}
 use Rattle.std.specs.Str.{bytes_eq}
 use Rattle.std.proofs.lemmas.Bool.{cases_eq}
-use Rattle.std.proofs.lemmas.List.{length-map, length-set, get_or-map}
+use Rattle.std.proofs.lemmas.List.{append-nil, length-map, length-set, get_or-map}
 use Rattle.std.proofs.lemmas.List.Sums.{AllPass-from_list_all}
+use Rattle.sj_base.specs.declared.ids.Line.{Line}
 use Rattle.sj_base.specs.Array.{Array}
+use Rattle.sj_codelet.specs.Kernel.{out}
 use Rattle.sj_plan.specs.declared.parts.Parts.{Parts}
 use Rattle.sj_plan.specs.Parts.{IsPlace}
 use Rattle.sj_job.specs.declared.job.Act.TheVariants as kept
@@ -14,19 +16,20 @@ use Rattle.sj_job.specs.declared.job.Operand.{Operand as KeptOperand}
 use Rattle.sj_job.specs.declared.job.TaskLine.{TaskLine as KeptTask}
 use Rattle.sj_job.specs.Statement.{Operand}
 use Rattle.sj_job.specs.State.{Root, State, root_of, is_child}
-use Rattle.sj_job.specs.Meaning.{is_written, written_of, with_child, put, put_all}
+use Rattle.sj_job.specs.Meaning.{is_written, operand_array, run_task, written_of, with_child, put, put_all}
 use Rattle.sj_job.specs.Sound.{has_child}
 use Rattle.sj_job.specs.Table.{Table, AreDistinct, name_of}
 use Rattle.sj_job.specs.Track.{children_count, written}
-use Rattle.sj_job.specs.View.{operand_seen}
+use Rattle.sj_job.specs.View.{operand_seen, task_seen}
 use Rattle.sj_job.proofs.Children.{tracks-written}
+use Rattle.sj_job.proofs.Giving.{gives_all}
 use Rattle.sj_lower.specs.declared.lowerer.Active.{Active}
 use Rattle.sj_lower.specs.declared.lowerer.Lowerer.{Lowerer}
 use Rattle.sj_lower.specs.Cells.{Cells}
 use Rattle.sj_lower.specs.Limits.{most}
 use Rattle.sj_lower.specs.Lowering.{Lowering}
-use Rattle.sj_lower.specs.Seen.{no_active, active_at, AreActive, IsNext, AreIn, after_write, after_writes}
-use Rattle.sj_lower.proofs.Following.{changed-actives}
+use Rattle.sj_lower.specs.Seen.{no_active, active_at, AreActive, CanPass, Does, AreIn, access_by, after_write, after_writes}
+use Rattle.sj_lower.proofs.Following.{PassesTo, can-pass, changed-actives, accesses_same, lowered_task, same_phases, seen-children}
 use Rattle.sj_lower.proofs.Holding.{root-change}
 use Rattle.sj_lower.proofs.Laid.{same_name}
 use Rattle.sj_lower.proofs.Running.{child_there}
@@ -44,14 +47,14 @@ child-in T C as' S o g lt h =
       room = subst (λ (p : Parts). (active_at as' o.root.0).first + children_count p ≤ most) (sym a.tracks.parts) a.room;
     }
 
-pub are-in : (T : Table) (l : Lowerer) (t : KeptTask) (S : State) (L : Lowering) → IsNext T l (kept.Task t) S L → All (AreIn l.actives.items) t.operands
-are-in T l t S L next = λ k d lt.
+pub are-in : (T : Table) (l : Lowerer) (t : KeptTask) (S : State) (L : Lowering) → CanPass T l (kept.Task t) S L → All (AreIn l.actives.items) t.operands
+are-in T l t S L pass = λ k d lt.
     let os = t.operands in
     let seen = operand_seen T in
     let o = get_or os k d in
     let there : k < length (map seen os) = omega (arith, lt, length-map os seen) in
-    let h : has_child S (seen o) ≡ true = ap (has_child S) (sym (get_or-map seen os k d (seen d) lt)) ∙ AllPass-from_list_all (has_child S) (map seen os) next.sound.placed k (seen d) there in
-    child-in T L.cells l.actives.items S o next.follows.actives (next.placed k d lt) h
+    let h : has_child S (seen o) ≡ true = ap (has_child S) (sym (get_or-map seen os k d (seen d) lt)) ∙ AllPass-from_list_all (has_child S) (map seen os) pass.sound.placed k (seen d) there in
+    child-in T L.cells l.actives.items S o pass.actives (pass.placed k d lt) h
 
 -- ---- what a task writes
 
@@ -72,7 +75,7 @@ all-kept T S o x r (p ∷ os) e h = (has-kept S o (operand_seen T p) x r e h.0, 
 
 -- the active plan of a root, one of whose children is written
 abbrev wrote : List Active → KeptOperand → Active
-wrote as' o = record { tracked = written (active_at as' o.root.0).tracked o.place; first = (active_at as' o.root.0).first }
+wrote as' o = record { tracked = written (active_at as' o.root.0).tracked o.place; first = (active_at as' o.root.0).first; reduction = (active_at as' o.root.0).reduction }
 
 write-follows : (T : Table) (C : Cells) (as' : List Active) (S : State) (o : KeptOperand) (x : Array) → AreActive T C as' S → AreDistinct T.names → C.roots ≤ length T.names → o.root.0 < C.roots → has_child S (operand_seen T o) ≡ true → AreActive T C (set as' o.root.0 (wrote as' o)) (put (operand_seen T o) x S)
 write-follows T C as' S o x g d few lt h =
@@ -80,7 +83,7 @@ write-follows T C as' S o x g d few lt h =
     let a = g.each o.root.0 t.root lt t.is_root in
     let f = with_child o.place x in
     changed-actives T C C as' S o.root.0 f t.root (wrote as' o) g lt d few refl (λ q d s g k. k) t.is_root
-    (record { dims = a.dims; tracks = tracks-written o.place x (active_at as' o.root.0).tracked t.root a.tracks t.placed; handle = a.handle; named = a.named; taken = a.taken; room = a.room })
+    (record { dims = a.dims; tracks = tracks-written o.place x (active_at as' o.root.0).tracked t.root a.tracks t.placed; reduction = a.reduction; handle = a.handle; named = a.named; taken = a.taken; room = a.room })
     (put (operand_seen T o) x S) (λ q. root-change f (name_of T o.root) S t.root q t.is_root)
 
 abbrev seen_of : Table → List KeptOperand → List Operand
@@ -105,6 +108,25 @@ writes-follow T C as' S [] xs g d few lts hs l = g
 writes-follow T C as' S (o ∷ os) xs g d few lts hs l =
     write_by T C as' S o os xs (is_written o.mode) g d few (lts 0 o (omega arith)) hs.0 hs.1 l
     (λ ys bs U k hk m. writes-follow T C bs U os ys k d few (λ i e lt. lts (suc i) e (omega (arith, lt))) hk m)
+
+-- a task's children have a value from then on
+pub passes-task : (T : Table) (old : Lowerer) (as' : List Active) (t : KeptTask) (first : ℕ) → as' ≡ after_writes t.operands old.actives.items → PassesTo T old as' (kept.Task t) first
+passes-task T old as' t first ea S L pass place =
+    let u = task_seen T t in
+    let ins = map (operand_array S) u.operands in
+    let many = gives_all pass.has S u ins pass.sound in
+    subst (λ (as' : List Active). AreActive T L.cells as' (run_task u S)) (sym ea)
+    (writes-follow T L.cells old.actives.items S t.operands (out u.codelet u.args ins) pass.actives pass.distinct pass.few pass.placed (seen-children T S t.operands pass.sound.placed) (omega (arith, many)))
+
+pub does-task : (T : Table) (old new : Lowerer) (t : KeptTask) (line : Line) → new.tasks.items ≡ old.tasks.items ++ lowered_task t line (map (access_by old.actives.items) t.operands) ∷ [] → new.deliveries.items ≡ old.deliveries.items → new.prints ≡ old.prints → new.phases ≡ old.phases
+    → new.actives.items ≡ after_writes t.operands old.actives.items → Does T old new (kept.Task t) 0 line
+does-task T old new t line et ed ep eh ea S L next place = record {
+  tasks = et ∙ (λ i. next.follows.tasks i ++ lowered_task t line (sym (accesses_same T S L.cells old.actives.items t.operands next.follows.actives next.placed (seen-children T S t.operands next.sound.placed)) i) ∷ []);
+  deliveries = ed ∙ next.follows.deliveries ∙ sym (append-nil L.deliveries);
+  prints = ep ∙ next.follows.prints;
+  phases = same_phases T old new (kept.Task t) S L next eh;
+  actives = passes-task T old new.actives.items t 0 ea S L (can-pass T old (kept.Task t) S L next) place;
+}
 
 -- ---- the code's loop over operands
 

@@ -1,57 +1,65 @@
 -- All statements: the tasks of the lowered program are good, and its deliveries are those of the job's prints.
-use Rattle.std.proofs.Common.{◌≡◌, ℕ, ◌+◌, ◌<◌, ◌≤◌, ◌^◌, Bool, true, false, cond, not, ◌||◌, Option, Some, None, List, [], ◌∷◌, ◌++◌, length, map as each_of, refl, sym, ap, subst, ◌∙◌, inl, inr, arith, append_assoc, length-append}
-use Rattle.std.specs.List.{All}
+use Rattle.std.proofs.Common.{◌≡◌, ℕ, ◌+◌, ◌<◌, ◌≤◌, Bool, true, false, cond, not, ◌||◌, Option, Some, None, List, [], ◌∷◌, ◌++◌, length, map as each_of, refl, sym, ap, subst, ◌∙◌, arith, length-append}
+use Rattle.std.specs.List.{All, AllByRecursion, flat_map, list_all}
+use Rattle.std.proofs.lemmas.List.Elements.{All-nil, All-cons}
+use Rattle.sj_base.specs.Mode.{is_data, is_redux}
+use Rattle.sj_base.specs.declared.ids.Cell.{Cell}
+use Rattle.sj_base.specs.declared.mode.Access.{Access}
+use Rattle.sj_base.specs.declared.mode.Mode.{Mode}
+use Rattle.sj_base.specs.declared.mode.Mode.TheVariants.{R, W, RW}
 use Rattle.std.specs.Str.{bytes_eq}
-use Rattle.std.proofs.lemmas.Bool.{false≢true, cases_lt}
+use Rattle.std.proofs.lemmas.Bool.{false≢true, and_parts}
 use Rattle.std.proofs.lemmas.List.{append-nil}
 use Rattle.sj_base.specs.declared.ids.Line.{Line}
 use Rattle.sj_base.specs.declared.tile.Dims.{Dims}
-use Rattle.sj_base.specs.declared.program.CellInfo.{CellInfo}
 use Rattle.sj_base.specs.declared.program.Delivery.{Delivery}
 use Rattle.sj_base.specs.declared.program.Lowered.{Lowered}
 use Rattle.sj_base.specs.declared.program.Program.{Program}
-use Rattle.sj_base.specs.Array.{area}
 use Rattle.sj_codelet.specs.declared.kernel.Kernel.{Kernel}
 use Rattle.sj_codelet.specs.declared.kernel.Kernel.TheVariants.{Deliver}
 use Rattle.sj_codelet.specs.Kernel.{kernel_of}
-use Rattle.sj_core.specs.Program.{task_of}
-use Rattle.sj_core.specs.Fold.{Contents}
 use Rattle.sj_plan.specs.declared.parts.Parts.{Parts}
 use Rattle.sj_plan.specs.declared.paste.Paste.{Paste}
 use Rattle.sj_plan.specs.Parts.{IsPlace, places}
-use Rattle.sj_plan.specs.Paste.{pastes_of}
+use Rattle.sj_plan.specs.Paste.{pastes_of, pastes_to, is_first, IsBetween}
 use Rattle.sj_plan.specs.Rect.{child}
 use Rattle.sj_plan.proofs.Lists.{each-map, each-of, each-places}
 use Rattle.sj_job.specs.declared.job.Init.{Init}
 use Rattle.sj_job.specs.declared.job.Init.TheVariants.{Values, Fill, Nothing}
-use Rattle.sj_job.specs.Statement.{Register}
+use Rattle.sj_job.specs.Statement.{Operand, Register}
+use Rattle.sj_job.specs.Sound.{has_child}
 use Rattle.sj_job.specs.Act.{Act, Statement}
-use Rattle.sj_job.specs.Act.{Register as Registers, Plan as Plans, Task as Tasks, Print as Prints, Invalidate as Invalidates, Unregister as Unregisters}
-use Rattle.sj_job.specs.State.{Root, State, root_of, is_valued, start}
-use Rattle.sj_job.specs.Meaning.{Printed, array_of, registered_root, with_parts, apply, found_by, prints, printed_from, printed, run_from}
+use Rattle.sj_job.specs.Act.{Register as Registers, Plan as Plans, Redux as Reduces, Task as Tasks, Print as Prints, Invalidate as Invalidates, Unregister as Unregisters}
+use Rattle.sj_job.specs.State.{Root, State, root_of, is_valued}
+use Rattle.sj_job.specs.Meaning.{Printed, array_of, registered_root, with_parts, apply, found_by, prints}
 use Rattle.sj_job.specs.Table.{Table, info_of, undivided}
-use Rattle.sj_job.specs.Well.{IsWell}
-use Rattle.sj_lower.specs.Cells.{Cells, Handle, same_parts, cell_of}
-use Rattle.sj_lower.specs.Rows.{load_row, fill_row, paste_row, deliver_row}
-use Rattle.sj_lower.specs.Lowering.{Lowering, nothing, cells_after, load_rows, parts_in, is_idle, plan_rows, deliver_rows, a_delivery, print_deliveries, rows_of, lower_one, lower_from, lowered}
+use Rattle.sj_lower.specs.Cells.{Cells, Handle, same_parts, cell_of, take}
+use Rattle.sj_lower.specs.Rows.{an_access, load_row, fill_row, paste_mode, paste_row, deliver_row}
+use Rattle.sj_lower.specs.Lowering.{Lowering, cells_after, load_rows, parts_in, access_of, is_idle, plan_rows, deliver_rows, a_delivery, print_deliveries, rows_of, add_own, lower_one}
 use Rattle.sj_lower.specs.Delivering.{printed_as}
-use Rattle.sj_lower.proofs.Contents.{task_at, contents_before}
+use Rattle.sj_lower.proofs.Contents.{contents_before}
 use Rattle.sj_lower.proofs.Elements.{valued-child}
 use Rattle.sj_lower.proofs.Folding.{Stand}
-use Rattle.sj_lower.proofs.Holding.{HasRoot, HaveRoots, HasCells, cell-dims, get-put, root-change}
-use Rattle.sj_lower.proofs.Laid.{AreLaid, IsTaken, bytes_eq-itself, cell-inside, cells-apart}
-use Rattle.sj_lower.proofs.Pasting.{rows_to, rows-by_child}
+use Rattle.sj_lower.proofs.Holding.{HasRoot, HasCells, differs, cell-dims, get-put, root-change}
+use Rattle.sj_lower.proofs.Laid.{AreLaid, IsTaken, taken-once, take-keeps, bytes_eq-itself, cell-inside, cells-apart}
+use Rattle.sj_lower.proofs.Pasting.{rows_to, rows-by_child, pastes-between}
 use Rattle.sj_lower.proofs.Places.{parts-itself, length-places}
-use Rattle.sj_lower.proofs.Running.{root_there, valued_there}
-use Rattle.sj_lower.proofs.Allowed.{CanBe, can_be}
-use Rattle.sj_lower.proofs.Agreeing.{Agrees, Begins, begins-before, stands, differs, plan_rows-are, has-taken, agrees_start, agrees_act}
-use Rattle.sj_lower.proofs.Good.{IsGood, AreGood, CanPaste, good-all, good-at, good-blocks, good_load, good_fill, good_deliver, good_pastes_to, good_task}
-use Rattle.sj_lower.proofs.Delivered.{AreDelivered, NoneDelivers, deliveries_by, delivered_none, delivered_beside, delivered_print}
+use Rattle.sj_lower.proofs.Running.{is_direct, IsClosed, child_there, active_cell-is, root_there, valued_there}
+use Rattle.sj_lower.proofs.Able.{CanBe}
+use Rattle.sj_lower.proofs.Agreeing.{none_of, plan_rows-are, plan-fresh, has-taken, IsShut, IsShutBy, IsPrepared, same_child_cell, agrees_act}
+use Rattle.sj_lower.proofs.Combined.{Phases}
+use Rattle.sj_lower.proofs.Copies.{HaveCopies}
+use Rattle.sj_lower.proofs.Fine.{IsFine, good-more}
+use Rattle.sj_lower.proofs.Logging.{AreAway, IsAway, log-beside}
+use Rattle.sj_lower.proofs.Owning.{plain-child}
+use Rattle.sj_lower.proofs.Stating.{Begins, begins-own, stands-own, Agrees}
+use Rattle.sj_lower.proofs.Good.{IsGood, AreGood, CanPaste, good-all, good-blocks, good_load, good_fill, good_deliver, good_pastes_to, good_task, plans-of, direct-modes, all_given, no_copies}
+use Rattle.sj_lower.proofs.Delivered.{AreDelivered, NoneDelivers, deliveries_by, delivered_beside, delivered_print}
 
 -- ---- the tasks of each statement are good
 
 cell_below : (p : Program) (C : Cells) (q : List ℕ) (d : Dims) (s : Parts) (f : ℕ) (place : ℕ × ℕ) → HasCells p C → AreLaid C → IsTaken C q d s f → IsPlace s place → (cell_of C q s place).0 < length p.cells
-cell_below p C q d s f place cells laid t h = let whole = ap length cells.1 in omega (arith, cell-inside C q d s f place laid t h, whole, length-append C.rows cells.0)
+cell_below p C q d s f place cells laid t h = omega (arith, cell-inside C q d s f place laid t h, cells.longer)
 
 loads_good : (p : Program) (C : Cells) (r : Register) (line : Line) (n f : ℕ) (i : Init) → HasCells p C → AreLaid C → IsTaken C r.name r.dims r.parts f → AreGood p n (load_rows i r.dims r.parts (cell_of C r.name r.parts) line)
 loads_good p C r line n f (Values xs) cells laid t =
@@ -64,9 +72,9 @@ loads_good p C r line n f (Fill a b) cells laid t =
     good_fill p n a b r.dims (child r.dims r.parts place) (cell_of C r.name r.parts place) line (cell_below p C r.name r.dims r.parts f place cells laid t h))))
 loads_good p C r line n f Nothing cells laid t = tt
 
-pastes_good : (p : Program) (C : Cells) (name : List ℕ) (r : Root) (s : Parts) (line : Line) (n f : ℕ) → HasCells p C → AreLaid C → HasRoot p C n (contents_before p n) name r → IsTaken C name r.dims s f → same_parts r.parts s ≡ false → is_valued r ≡ true
+pastes_good : (p : Program) (C : Cells) (phases : Phases) (name : List ℕ) (r : Root) (s : Parts) (line : Line) (n f : ℕ) → HasCells p C → AreLaid C → HasRoot p C phases n (contents_before p n) name r → IsTaken C name r.dims s f → same_parts r.parts s ≡ false → is_valued r ≡ true
     → Stand p n (each_of (paste_row (cell_of C name r.parts) (cell_of C name s) line) (pastes_of r.dims r.parts s)) → AreGood p n (each_of (paste_row (cell_of C name r.parts) (cell_of C name s) line) (pastes_of r.dims r.parts s))
-pastes_good p C name r s line n f cells laid b t changed valued stand =
+pastes_good p C phases name r s line n f cells laid b t changed valued stand =
     let d = r.dims in
     let old = cell_of C name r.parts in
     let new = cell_of C name s in
@@ -85,8 +93,8 @@ pastes_good p C name r s line n f cells laid b t changed valued stand =
     (each-places (λ to. (m : ℕ) → n ≤ m → Stand p m (rows_to d r.parts s old new line to) → AreGood p m (rows_to d r.parts s old new line to)) s (λ to h m lo stand. good_pastes_to p n m d r.parts s old new line to can b.fits fit h lo stand))
     (subst (Stand p n) rows stand))
 
-plans_good : (p : Program) (C : Cells) (S : State) (name : List ℕ) (r : Root) (s : Parts) (line : Line) (n f : ℕ) → root_of S name ≡ Some r → HasCells p C → AreLaid C → HasRoot p C n (contents_before p n) name r → IsTaken C name r.dims s f → Stand p n (plan_rows S C name s line) → AreGood p n (plan_rows S C name s line)
-plans_good p C S name r s line n f e cells laid b t stand =
+plans_good : (p : Program) (C : Cells) (phases : Phases) (S : State) (name : List ℕ) (r : Root) (s : Parts) (line : Line) (n f : ℕ) → root_of S name ≡ Some r → HasCells p C → AreLaid C → HasRoot p C phases n (contents_before p n) name r → IsTaken C name r.dims s f → Stand p n (plan_rows S C name s line) → AreGood p n (plan_rows S C name s line)
+plans_good p C phases S name r s line n f e cells laid b t stand =
     let rows = plan_rows-are S C name s line r e in
     subst (AreGood p n) (sym rows) (by_cases (same_parts r.parts s) (is_valued r) refl refl (subst (Stand p n) rows stand))
   where
@@ -94,45 +102,49 @@ plans_good p C S name r s line n f e cells laid b t stand =
         → AreGood p n (cond (c || not v) [] (each_of (paste_row (cell_of C name r.parts) (cell_of C name s) line) (pastes_of r.dims r.parts s)))
     by_cases true v ec ev stand = tt
     by_cases false false ec ev stand = tt
-    by_cases false true ec ev stand = pastes_good p C name r s line n f cells laid b t ec ev stand
+    by_cases false true ec ev stand = pastes_good p C phases name r s line n f cells laid b t ec ev stand
 
 -- the tasks of a print statement, by its root
 pub deliver_rows-are : (S : State) (C : Cells) (name : List ℕ) (line : Line) (r : Root) → root_of S name ≡ Some r → deliver_rows S C name line ≡ each_of (λ place. deliver_row (cell_of C name r.parts place) line) (places r.parts)
 deliver_rows-are S C name line r e = ap (λ (o : Option Root). let s = (elim o as (λ _. Parts) [ None ↦ undivided | Some r ↦ r.parts ]) in each_of (λ place. deliver_row (cell_of C name s place) line) (places s)) e
 
-prints_good : (p : Program) (C : Cells) (S : State) (name : List ℕ) (r : Root) (line : Line) (n : ℕ) → root_of S name ≡ Some r → is_valued r ≡ true → HasCells p C → AreLaid C → HasRoot p C n (contents_before p n) name r → AreGood p n (deliver_rows S C name line)
-prints_good p C S name r line n e valued cells laid b =
+prints_good : (p : Program) (C : Cells) (phases : Phases) (S : State) (name : List ℕ) (r : Root) (line : Line) (n : ℕ) → root_of S name ≡ Some r → is_valued r ≡ true → HasCells p C → AreLaid C → HaveCopies p.workers C → HasRoot p C phases n (contents_before p n) name r → AreGood p n (deliver_rows S C name line)
+prints_good p C phases S name r line n e valued cells laid copies b =
     let row = λ (place : ℕ × ℕ). deliver_row (cell_of C name r.parts place) line in
     subst (AreGood p n) (sym (deliver_rows-are S C name line r e))
     (good-all p n (each_of row (places r.parts)) (each-map (IsGood p n) row (places r.parts) (each-places (λ place. IsGood p n (row place)) r.parts (λ place h.
-    good_deliver p n (cell_of C name r.parts place) line (cell_below p C name r.dims r.parts b.first place cells laid b.taken h) (b.held place h (valued-child r place b.whole valued h)).given))))
-
--- a plan that the name has taken, with the dimensions of its root
-taken_after : (p : Program) (C : Cells) (n : ℕ) (k : Contents) (S : State) (q : List ℕ) (r : Root) → HaveRoots p C n k S → root_of S q ≡ Some r → (f : ℕ) × IsTaken C q r.dims r.parts f
-taken_after p C n k S q r has e = let b = has q r e in (b.first, b.taken)
+    good_deliver p n (cell_of C name r.parts place) line (cell_below p C name r.dims r.parts b.first place cells laid b.taken h) (plain-child p C cells copies name r.dims r.parts b.first place laid b.taken h) (b.held place h (valued-child r place b.whole valued h)).given))))
 
 there_itself : (S : State) (q : List ℕ) (new : Root) (o : Option Root) → o ≡ cond (bytes_eq q q) (Some new) (root_of S q) → o ≡ Some new
 there_itself S q new o e = e ∙ ap (λ b. cond b (Some new) (root_of S q)) (bytes_eq-itself q)
 
-rows_good : (has : Kernel → Bool) (p : Program) (L : Lowering) (S : State) (line : Line) (a : Act) → Begins p (lower_one S (record { line = line; act = a }) L) → CanBe has S a → Agrees p L S → Agrees p (lower_one S (record { line = line; act = a }) L) (apply a S)
+-- the new root of a registration has taken its plan
+registered-taken : (p : Program) (L : Lowering) (S : State) (line : Line) (r : Register) (after : Agrees p (add_own S (record { line = line; act = Registers r }) L) (apply (Registers r) S)) → HasRoot p (cells_after (Registers r) L.cells) L.phase (length (add_own S (record { line = line; act = Registers r }) L).tasks) (contents_before p (length (add_own S (record { line = line; act = Registers r }) L).tasks)) r.name (registered_root r)
+registered-taken p L S line r after = after.roots r.name (registered_root r) (there_itself S r.name (registered_root r) _ (get-put S.roots r.name (registered_root r) r.name))
+
+planned-taken : (p : Program) (L : Lowering) (S : State) (line : Line) (name : List ℕ) (s : Parts) (r : Root) (e : root_of S name ≡ Some r) (after : Agrees p (add_own S (record { line = line; act = Plans name s }) L) (apply (Plans name s) S)) → (f : ℕ) × IsTaken (take name s L.cells) name r.dims s f
+planned-taken p L S line name s r e after = let h = after.roots name (with_parts s r) (there_itself S name (with_parts s r) _ (root-change (with_parts s) name S r name e)) in (h.first, h.taken)
+
+rows_good : (has : Kernel → Bool) (p : Program) (L : Lowering) (S : State) (line : Line) (a : Act) → Begins p (add_own S (record { line = line; act = a }) L) → CanBe has S a → IsPrepared L S a → Agrees p L S → Agrees p (add_own S (record { line = line; act = a }) L) (apply a S)
     → AreGood p (length L.tasks) (rows_of S (cells_after a L.cells) line a)
-rows_good has p L S line (Registers r) b can g after =
-    let D = cells_after (Registers r) L.cells in
-    let M = lower_one S (record { line = line; act = Registers r }) L in
-    let t = taken_after p D (length M.tasks) (contents_before p (length M.tasks)) (apply (Registers r) S) r.name (registered_root r) after.roots (there_itself S r.name (registered_root r) _ (get-put S.roots r.name (registered_root r) r.name)) in
-    loads_good p D r line (length L.tasks) t.0 r.init b.cells after.laid t.1
-rows_good has p L S line (Plans name s) b can g after =
+rows_good has p L S line (Registers r) b can ready g after =
+    let h = registered-taken p L S line r after in
+    loads_good p (cells_after (Registers r) L.cells) r line (length L.tasks) h.first r.init b.cells after.laid h.taken
+rows_good has p L S line (Plans name s) b can ready g after =
     let root = root_there (root_of S name) can.sound.rooted in
-    let D = cells_after (Plans name s) L.cells in
-    let M = lower_one S (record { line = line; act = Plans name s }) L in
-    let t = taken_after p D (length M.tasks) (contents_before p (length M.tasks)) (apply (Plans name s) S) name (with_parts s root.0) after.roots (there_itself S name (with_parts s root.0) _ (root-change (with_parts s) name S root.0 name root.1)) in
-    plans_good p D S name root.0 s line (length L.tasks) t.0 root.1 b.cells after.laid (has-taken p L S name s root.0 g root.1) t.1 (stands p S (record { line = line; act = Plans name s }) L b)
-rows_good has p L S line (Tasks t) b can g after = (good_task has p L.cells S (length L.tasks) (contents_before p (length L.tasks)) t line b.cells g.laid g.roots can.sound, tt)
-rows_good has p L S line (Prints name) b can g after =
+    let t = planned-taken p L S line name s root.0 root.1 after in
+    plans_good p (cells_after (Plans name s) L.cells) L.phase S name root.0 s line (length L.tasks) t.0 root.1 b.cells after.laid (has-taken p L S name s root.0 g root.1) t.1 (stands-own p S (record { line = line; act = Plans name s }) L b)
+rows_good has p L S line (Reduces name by) b can ready g after = tt
+rows_good has p L S line (Tasks t) b can ready g after = (
+  good_task has p L.cells S (length L.tasks) t line b.cells g.laid (plans-of p L.cells L.phase (length L.tasks) (contents_before p (length L.tasks)) S g.roots) can.sound (direct-modes has S t can.sound ready.0)
+      (all_given p L.cells L.phase S (length L.tasks) (contents_before p (length L.tasks)) t.operands g.roots ready.0 can.sound.placed can.sound.valued) (no_copies p S L.cells (length L.tasks) t.operands ready.0) can.nameable,
+  tt,
+)
+rows_good has p L S line (Prints name) b can ready g after =
     let v = valued_there (root_of S name) can.sound in
-    prints_good p L.cells S name v.0 line (length L.tasks) v.1 v.2 b.cells g.laid (g.roots name v.0 v.1)
-rows_good has p L S line (Invalidates name) b can g after = tt
-rows_good has p L S line (Unregisters name) b can g after = tt
+    prints_good p L.cells L.phase S name v.0 line (length L.tasks) v.1 v.2 b.cells g.laid g.theirs.copies (g.roots name v.0 v.1)
+rows_good has p L S line (Invalidates name) b can ready g after = tt
+rows_good has p L S line (Unregisters name) b can ready g after = tt
 
 -- ---- tasks that don't deliver
 
@@ -168,14 +180,15 @@ plans_beside S C name s line = by_root (root_of S name)
 abbrev pub NamesAct : Table → State → Cells → Act → Type 0
 NamesAct T S C (Registers r) = Unit {0}
 NamesAct T S C (Plans name s) = Unit {0}
+NamesAct T S C (Reduces name by) = Unit {0}
 NamesAct T S C (Tasks t) = Unit {0}
 NamesAct T S C (Prints name) = (h : Handle) (r : Root) → C.handles name ≡ Some h → root_of S name ≡ Some r → (printed_as T h.root ≡ (name, r.kind)) × ((info_of T h.root).dims ≡ h.dims) × (h.root.0 < length T.names)
 NamesAct T S C (Invalidates name) = Unit {0}
 NamesAct T S C (Unregisters name) = Unit {0}
 
-abbrev pub NamesAll : Table → State → Lowering → List Statement → Type 0
-NamesAll T S L [] = Unit {0}
-NamesAll T S L (s ∷ ss) = NamesAct T S L.cells s.act × NamesAll T (apply s.act S) (lower_one S s L) ss
+abbrev pub NamesAll : ℕ → Table → State → Lowering → List Statement → Type 0
+NamesAll workers T S L [] = Unit {0}
+NamesAll workers T S L (s ∷ ss) = NamesAct T S L.cells s.act × NamesAll workers T (apply s.act S) (lower_one workers S s L) ss
 
 found_there : (S : State) (name : List ℕ) (r : Root) → root_of S name ≡ Some r → found_by S name ≡ record { name = name; kind = r.kind; array = array_of r } ∷ []
 found_there S name r e = ap (λ (o : Option Root). elim o as (λ _. List Printed) [ None ↦ [] | Some r ↦ record { name = name; kind = r.kind; array = array_of r } ∷ [] ]) e
@@ -189,21 +202,44 @@ print_deliveries-are S C name n print h r eh er ed =
 none_more : {X : Type 0} (xs ys : List X) → ys ≡ [] → xs ++ ys ≡ xs
 none_more xs ys e = ap (λ zs. xs ++ zs) e ∙ append-nil xs
 
-delivered_act : (has : Kernel → Bool) (T : Table) (p : Program) (L : Lowering) (S : State) (line : Line) (a : Act) (out : List Printed) → Begins p (lower_one S (record { line = line; act = a }) L) → CanBe has S a → NamesAct T S L.cells a → Agrees p L S → AreDelivered T p L out
-    → AreDelivered T p (lower_one S (record { line = line; act = a }) L) (out ++ prints a S)
-delivered_act has T p L S line (Registers r) out b can named g d =
+-- what a statement finds: the phases that it closes are closed
+abbrev pub IsReady : Lowering → State → Act → Type 0
+IsReady L S (Registers r) = Unit {0}
+IsReady L S (Plans name s) = IsShutBy L S name s
+IsReady L S (Reduces name by) = Unit {0}
+IsReady L S (Tasks t) = IsPrepared L S (Tasks t)
+IsReady L S (Prints name) = IsShut L S name
+IsReady L S (Invalidates name) = IsShut L S name
+IsReady L S (Unregisters name) = IsShut L S name
+
+prepared-of : (L : Lowering) (S : State) (a : Act) → IsReady L S a → IsPrepared L S a
+prepared-of L S (Registers r) h = tt
+prepared-of L S (Plans name s) h = h
+prepared-of L S (Reduces name by) h = tt
+prepared-of L S (Tasks t) h = h
+prepared-of L S (Prints name) h = tt
+prepared-of L S (Invalidates name) h = h
+prepared-of L S (Unregisters name) h = h
+
+delivered_act : (has : Kernel → Bool) (T : Table) (p : Program) (L : Lowering) (S : State) (line : Line) (a : Act) (out : List Printed) → Begins p (add_own S (record { line = line; act = a }) L) → CanBe has S a → NamesAct T S L.cells a → IsReady L S a → Agrees p L S → AreDelivered T p L out
+    → AreDelivered T p (add_own S (record { line = line; act = a }) L) (out ++ prints a S)
+delivered_act has T p L S line (Registers r) out b can named ready g d =
     let s : Statement = record { line = line; act = Registers r } in
-    subst (λ (xs : List Printed). AreDelivered T p (lower_one S s L) xs) (sym (append-nil out))
-    (delivered_beside T p L (lower_one S s L) out (rows_of S (cells_after (Registers r) L.cells) line (Registers r)) (append-nil L.deliveries) refl refl (stands p S s L b) (loads_beside r (cells_after (Registers r) L.cells) line r.init) d)
-delivered_act has T p L S line (Plans name parts) out b can named g d =
+    subst (λ (xs : List Printed). AreDelivered T p (add_own S s L) xs) (sym (append-nil out))
+    (delivered_beside T p L (add_own S s L) out (rows_of S (cells_after (Registers r) L.cells) line (Registers r)) (append-nil L.deliveries) refl refl (stands-own p S s L b) (loads_beside r (cells_after (Registers r) L.cells) line r.init) d)
+delivered_act has T p L S line (Plans name parts) out b can named ready g d =
     let s : Statement = record { line = line; act = Plans name parts } in
-    subst (λ (xs : List Printed). AreDelivered T p (lower_one S s L) xs) (sym (append-nil out))
-    (delivered_beside T p L (lower_one S s L) out (rows_of S (cells_after (Plans name parts) L.cells) line (Plans name parts)) (append-nil L.deliveries) refl refl (stands p S s L b) (plans_beside S (cells_after (Plans name parts) L.cells) name parts line) d)
-delivered_act has T p L S line (Tasks t) out b can named g d =
+    subst (λ (xs : List Printed). AreDelivered T p (add_own S s L) xs) (sym (append-nil out))
+    (delivered_beside T p L (add_own S s L) out (rows_of S (cells_after (Plans name parts) L.cells) line (Plans name parts)) (append-nil L.deliveries) refl refl (stands-own p S s L b) (plans_beside S (cells_after (Plans name parts) L.cells) name parts line) d)
+delivered_act has T p L S line (Reduces name by) out b can named ready g d =
+    let s : Statement = record { line = line; act = Reduces name by } in
+    subst (λ (xs : List Printed). AreDelivered T p (add_own S s L) xs) (sym (append-nil out))
+    (delivered_beside T p L (add_own S s L) out [] (append-nil L.deliveries) refl refl tt tt d)
+delivered_act has T p L S line (Tasks t) out b can named ready g d =
     let s : Statement = record { line = line; act = Tasks t } in
-    subst (λ (xs : List Printed). AreDelivered T p (lower_one S s L) xs) (sym (append-nil out))
-    (delivered_beside T p L (lower_one S s L) out (rows_of S L.cells line (Tasks t)) (append-nil L.deliveries) refl refl (stands p S s L b) (can.nameable, tt) d)
-delivered_act has T p L S line (Prints name) out b can named g d =
+    subst (λ (xs : List Printed). AreDelivered T p (add_own S s L) xs) (sym (append-nil out))
+    (delivered_beside T p L (add_own S s L) out (rows_of S L.cells line (Tasks t)) (append-nil L.deliveries) refl refl (stands-own p S s L b) (can.nameable, tt) d)
+delivered_act has T p L S line (Prints name) out b can named ready g d =
     let s : Statement = record { line = line; act = Prints name } in
     let v = valued_there (root_of S name) can.sound in
     let r = v.0 in
@@ -212,74 +248,147 @@ delivered_act has T p L S line (Prints name) out b can named g d =
     let t = named handle r h.taken.is v.1 in
     let rows = deliver_rows-are S L.cells name line r v.1 in
     let many = ap length rows ∙ length-places (λ place. deliver_row (cell_of L.cells name r.parts place) line) r.parts in
-    subst (λ (xs : List Printed). AreDelivered T p (lower_one S s L) (out ++ xs)) (sym (found_there S name r v.1))
-    (delivered_print T p L (lower_one S s L) S out line name r handle.root
-    (record { valued = v.2; is_root = v.1; has = h; stand = subst (Stand p (length L.tasks)) rows (stands p S s L b) })
+    subst (λ (xs : List Printed). AreDelivered T p (add_own S s L) (out ++ xs)) (sym (found_there S name r v.1))
+    (delivered_print T p L (add_own S s L) S out line name r handle.root
+    (record { valued = v.2; is_root = v.1; has = h; shut = λ place at. ready r place v.1 at; stand = subst (Stand p (length L.tasks)) rows (stands-own p S s L b) })
     t.0 (t.1 ∙ h.taken.dims) t.2
     (ap (λ ds. L.deliveries ++ ds) (print_deliveries-are S L.cells name (length L.tasks) L.prints handle r h.taken.is v.1 h.taken.dims)) refl
     (length-append L.tasks (deliver_rows S L.cells name line) ∙ ap (λ n. length L.tasks + n) many) d)
-delivered_act has T p L S line (Invalidates name) out b can named g d =
+delivered_act has T p L S line (Invalidates name) out b can named ready g d =
     let s : Statement = record { line = line; act = Invalidates name } in
-    subst (λ (xs : List Printed). AreDelivered T p (lower_one S s L) xs) (sym (append-nil out))
-    (delivered_beside T p L (lower_one S s L) out [] (append-nil L.deliveries) refl refl tt tt d)
-delivered_act has T p L S line (Unregisters name) out b can named g d =
+    subst (λ (xs : List Printed). AreDelivered T p (add_own S s L) xs) (sym (append-nil out))
+    (delivered_beside T p L (add_own S s L) out [] (append-nil L.deliveries) refl refl tt tt d)
+delivered_act has T p L S line (Unregisters name) out b can named ready g d =
     let s : Statement = record { line = line; act = Unregisters name } in
-    subst (λ (xs : List Printed). AreDelivered T p (lower_one S s L) xs) (sym (append-nil out))
-    (delivered_beside T p L (lower_one S s L) out [] (append-nil L.deliveries) refl refl tt tt d)
+    subst (λ (xs : List Printed). AreDelivered T p (add_own S s L) xs) (sym (append-nil out))
+    (delivered_beside T p L (add_own S s L) out [] (append-nil L.deliveries) refl refl tt tt d)
 
--- what holds after the statements so far
-record IsFine (T : Table) (p : Program) (L : Lowering) (S : State) (out : List Printed) : Type 0 where
-  agrees : Agrees p L S
-  good : (n : ℕ) → n < length L.tasks → IsGood p n (task_of p (task_at n))
-  delivered : AreDelivered T p L out
+-- ---- tasks beside all open phases
 
-fine_act : (has : Kernel → Bool) (T : Table) (p : Program) (L : Lowering) (S : State) (line : Line) (a : Act) (out : List Printed) → Begins p (lower_one S (record { line = line; act = a }) L) → CanBe has S a → NamesAct T S L.cells a → IsFine T p L S out
-    → IsFine T p (lower_one S (record { line = line; act = a }) L) (apply a S) (out ++ prints a S)
-fine_act has T p L S line a out b can named f = record {
+away-map : {X : Type 0} (p : Program) (phases : Phases) (row : X → Lowered) (xs : List X) → AllByRecursion (λ x. AreAway p phases (row x)) xs → AllByRecursion (AreAway p phases) (each_of row xs)
+away-map p phases row xs h = each-map (AreAway p phases) row xs h
+
+away-one : (p : Program) (phases : Phases) (a : Access) → IsAway p phases a → All (IsAway p phases) (a ∷ [])
+away-one p phases a h = All-cons (IsAway p phases) a [] h (All-nil (IsAway p phases))
+
+away-two : (p : Program) (phases : Phases) (a b : Access) → IsAway p phases a → IsAway p phases b → All (IsAway p phases) (a ∷ b ∷ [])
+away-two p phases a b h k = All-cons (IsAway p phases) a (b ∷ []) h (away-one p phases b k)
+
+-- a child's cell on which no phase is open
+child-away : (p : Program) (C : Cells) (phases : Phases) (m : Mode) (q : List ℕ) (d : Dims) (s : Parts) (f : ℕ) (place : ℕ × ℕ) → HasCells p C → AreLaid C → HaveCopies p.workers C → IsTaken C q d s f → IsPlace s place → is_redux m ≡ false → (is_data m ≡ true → phases (cell_of C q s place) ≡ None) → IsAway p phases (an_access m (cell_of C q s place))
+child-away p C phases m q d s f place cells laid copies t at direct shut = record { plain = plain-child p C cells copies q d s f place laid t at; direct = direct; closed = shut }
+
+loads_away : (p : Program) (C : Cells) (phases : Phases) (r : Register) (line : Line) (f : ℕ) (i : Init) → HasCells p C → AreLaid C → HaveCopies p.workers C → IsTaken C r.name r.dims r.parts f → ((place : ℕ × ℕ) → IsPlace r.parts place → phases (cell_of C r.name r.parts place) ≡ None)
+    → AllByRecursion (AreAway p phases) (load_rows i r.dims r.parts (cell_of C r.name r.parts) line)
+loads_away p C phases r line f (Values xs) cells laid copies t shut =
+    let row = λ (place : ℕ × ℕ). load_row xs r.dims (child r.dims r.parts place) (cell_of C r.name r.parts place) line in
+    away-map p phases row (places r.parts) (each-places (λ place. AreAway p phases (row place)) r.parts (λ place h. away-one p phases (an_access W (cell_of C r.name r.parts place)) (child-away p C phases W r.name r.dims r.parts f place cells laid copies t h refl (λ e. shut place h))))
+loads_away p C phases r line f (Fill a b) cells laid copies t shut =
+    let row = λ (place : ℕ × ℕ). fill_row a b r.dims (child r.dims r.parts place) (cell_of C r.name r.parts place) line in
+    away-map p phases row (places r.parts) (each-places (λ place. AreAway p phases (row place)) r.parts (λ place h. away-one p phases (an_access W (cell_of C r.name r.parts place)) (child-away p C phases W r.name r.dims r.parts f place cells laid copies t h refl (λ e. shut place h))))
+loads_away p C phases r line f Nothing cells laid copies t shut = tt
+
+-- pastes between children of two plans
+paste_away : (p : Program) (C : Cells) (phases : Phases) (name : List ℕ) (r : Root) (s : Parts) (line : Line) (g f : ℕ) (x : Paste) → HasCells p C → AreLaid C → HaveCopies p.workers C → IsTaken C name r.dims r.parts g → IsTaken C name r.dims s f
+    → ((place : ℕ × ℕ) → IsPlace r.parts place → phases (cell_of C name r.parts place) ≡ None) → ((place : ℕ × ℕ) → IsPlace s place → phases (cell_of C name s place) ≡ None) → IsBetween r.dims r.parts s x → AreAway p phases (paste_row (cell_of C name r.parts) (cell_of C name s) line x)
+paste_away p C phases name r s line g f x cells laid copies t u shut fresh h =
+    away-two p phases (an_access R (cell_of C name r.parts x.from)) (an_access (paste_mode x) (cell_of C name s x.to))
+    (child-away p C phases R name r.dims r.parts g x.from cells laid copies t h.from refl (λ e. shut x.from h.from))
+    (child-away p C phases (paste_mode x) name r.dims s f x.to cells laid copies u h.to (by_first (is_first x)) (λ e. fresh x.to h.to))
+  where
+    by_first : (b : Bool) → is_redux (cond b W RW) ≡ false
+    by_first true = refl
+    by_first false = refl
+
+each-flat : {X : Type 0} (P : X → Type 0) (f : ℕ × ℕ → List X) (qs : List (ℕ × ℕ)) → AllByRecursion (λ q. AllByRecursion P (f q)) qs → AllByRecursion P (flat_map f qs)
+each-flat P f [] h = tt
+each-flat {X} P f (q ∷ qs) h = join (f q) (flat_map f qs) h.0 (each-flat P f qs h.1)
+  where
+    join : (xs ys : List X) → AllByRecursion P xs → AllByRecursion P ys → AllByRecursion P (xs ++ ys)
+    join [] ys a b = b
+    join (x ∷ xs) ys a b = (a.0, join xs ys a.1 b)
+
+plans_away : (p : Program) (C : Cells) (phases : Phases) (S : State) (name : List ℕ) (r : Root) (s : Parts) (line : Line) (g f : ℕ) → root_of S name ≡ Some r → HasCells p C → AreLaid C → HaveCopies p.workers C → IsTaken C name r.dims r.parts g → IsTaken C name r.dims s f
+    → (same_parts r.parts s ≡ false → (place : ℕ × ℕ) → IsPlace r.parts place → phases (cell_of C name r.parts place) ≡ None) → (same_parts r.parts s ≡ false → (place : ℕ × ℕ) → IsPlace s place → phases (cell_of C name s place) ≡ None) → AllByRecursion (AreAway p phases) (plan_rows S C name s line)
+plans_away p C phases S name r s line g f e cells laid copies t u shut fresh = subst (AllByRecursion (AreAway p phases)) (sym (plan_rows-are S C name s line r e)) (by_cases (same_parts r.parts s) (is_valued r) refl)
+  where
+    by_cases : (c v : Bool) → same_parts r.parts s ≡ c → AllByRecursion (AreAway p phases) (cond (c || not v) [] (each_of (paste_row (cell_of C name r.parts) (cell_of C name s) line) (pastes_of r.dims r.parts s)))
+    by_cases true v ec = tt
+    by_cases false false ec = tt
+    by_cases false true ec =
+        subst (AllByRecursion (AreAway p phases)) (sym (rows-by_child r.dims r.parts s (cell_of C name r.parts) (cell_of C name s) line))
+        (each-flat (AreAway p phases) (rows_to r.dims r.parts s (cell_of C name r.parts) (cell_of C name s) line) (places s) (each-places (λ to. AllByRecursion (AreAway p phases) (rows_to r.dims r.parts s (cell_of C name r.parts) (cell_of C name s) line to)) s (λ to h.
+        away-map p phases (paste_row (cell_of C name r.parts) (cell_of C name s) line) (pastes_to r.dims r.parts s to)
+        (each-one (IsBetween r.dims r.parts s) (λ x. AreAway p phases (paste_row (cell_of C name r.parts) (cell_of C name s) line x)) (pastes_to r.dims r.parts s to) (λ x b. paste_away p C phases name r s line g f x cells laid copies t u (shut ec) (fresh ec) b) (pastes-between r.dims r.parts s to h)))))
+      where
+        each-one : (P Q : Paste → Type 0) (xs : List Paste) → ((x : Paste) → P x → Q x) → AllByRecursion P xs → AllByRecursion Q xs
+        each-one P Q [] f h = tt
+        each-one P Q (x ∷ xs) f h = (f x h.0, each-one P Q xs f h.1)
+
+prints_away : (p : Program) (L : Lowering) (S : State) (name : List ℕ) (r : Root) (line : Line) → root_of S name ≡ Some r → Begins p L → Agrees p L S → IsShut L S name → AllByRecursion (AreAway p L.phase) (deliver_rows S L.cells name line)
+prints_away p L S name r line e b g shut =
+    let h = g.roots name r e in
+    let row = λ (place : ℕ × ℕ). deliver_row (cell_of L.cells name r.parts place) line in
+    subst (AllByRecursion (AreAway p L.phase)) (sym (deliver_rows-are S L.cells name line r e))
+    (away-map p L.phase row (places r.parts) (each-places (λ place. AreAway p L.phase (row place)) r.parts (λ place at. away-one p L.phase (an_access R (cell_of L.cells name r.parts place)) (child-away p L.cells L.phase R name r.dims r.parts h.first place b.cells g.laid g.theirs.copies h.taken at refl (λ z. shut r place e at)))))
+
+pub operand-away : (p : Program) (L : Lowering) (S : State) (o : Operand) → Begins p L → Agrees p L S → has_child S o ≡ true → is_redux o.mode ≡ false → IsClosed L.phase S L.cells o → IsAway p L.phase (access_of S L.cells o)
+operand-away p L S o b g placed direct closed =
+    let t = child_there S o placed in
+    let h = g.roots o.name t.root t.is_root in
+    let cell = active_cell-is S L.cells o.name o.place t.root t.is_root in
+    subst (λ (c : Cell). IsAway p L.phase (an_access o.mode c)) (sym cell)
+    (child-away p L.cells L.phase o.mode o.name t.root.dims t.root.parts h.first o.place b.cells g.laid g.theirs.copies h.taken t.placed direct (λ e. ap L.phase (sym cell) ∙ closed e))
+
+tasks_away : (p : Program) (L : Lowering) (S : State) (os : List Operand) → Begins p L → Agrees p L S → list_all (has_child S) os ≡ true → list_all (λ o. is_direct o.mode) os ≡ true → AllByRecursion (IsClosed L.phase S L.cells) os → All (IsAway p L.phase) (each_of (access_of S L.cells) os)
+tasks_away p L S [] b g placed direct closed = All-nil (IsAway p L.phase)
+tasks_away p L S (o ∷ os) b g placed direct closed =
+    let x = and_parts (has_child S o) (list_all (has_child S) os) placed in
+    let y = and_parts (is_direct o.mode) (list_all (λ o. is_direct o.mode) os) direct in
+    All-cons (IsAway p L.phase) (access_of S L.cells o) (each_of (access_of S L.cells) os) (operand-away p L S o b g x.0 (unnot (is_redux o.mode) y.0) closed.0) (tasks_away p L S os b g x.1 y.1 closed.1)
+  where
+    unnot : (z : Bool) → not z ≡ true → z ≡ false
+    unnot true e = absurd (false≢true e)
+    unnot false e = refl
+
+rows_away : (has : Kernel → Bool) (p : Program) (L : Lowering) (S : State) (line : Line) (a : Act) → Begins p (add_own S (record { line = line; act = a }) L) → CanBe has S a → IsReady L S a → Agrees p L S → Agrees p (add_own S (record { line = line; act = a }) L) (apply a S)
+    → AllByRecursion (AreAway p L.phase) (rows_of S (cells_after a L.cells) line a)
+rows_away has p L S line (Registers r) b can ready g after =
+    let h = registered-taken p L S line r after in
+    loads_away p (cells_after (Registers r) L.cells) L.phase r line h.first r.init b.cells after.laid after.theirs.copies h.taken
+    (λ place at. none_of (L.phase (cell_of (cells_after (Registers r) L.cells) r.name r.parts place)) (λ f e. let no : None ≡ Some f.by = h.reduced place f at e in absurd (cc)))
+rows_away has p L S line (Plans name s) b can ready g after =
+    let root = root_there (root_of S name) can.sound.rooted in
+    let r = root.0 in
+    let D = take name s L.cells in
+    let had = g.roots name r root.1 in
+    let new = planned-taken p L S line name s r root.1 after in
+    let old = has-taken p L S name s r g root.1 in
+    plans_away p D L.phase S name r s line old.first new.0 root.1 b.cells after.laid after.theirs.copies old.taken new.1
+    (λ changed place at. ap L.phase (sym (same_child_cell L.cells D name r.dims r.dims r.parts had.first place had.taken (subst (λ f. IsTaken D name r.dims r.parts f) (same_first had old) old.taken))) ∙ ready r place root.1 at changed)
+    (λ changed place at. plan-fresh p L S name s r new.0 g root.1 after.laid new.1 changed place at)
+  where
+    same_first : {r : Root} (had : HasRoot p L.cells L.phase (length L.tasks) (contents_before p (length L.tasks)) name r) (old : HasRoot p (take name s L.cells) L.phase (length L.tasks) (contents_before p (length L.tasks)) name r) → old.first ≡ had.first
+    same_first {r} had old = (taken-once (take name s L.cells) name r.dims r.dims r.parts old.first had.first old.taken (take-keeps L.cells name s had.taken.handle had.taken.is name r.dims r.parts had.first had.taken)).1
+rows_away has p L S line (Reduces name by) b can ready g after = tt
+rows_away has p L S line (Tasks t) b can ready g after = (tasks_away p L S t.operands (begins-own p S (record { line = line; act = Tasks t }) L b) g can.sound.placed ready.0 ready.1, tt)
+rows_away has p L S line (Prints name) b can ready g after = let v = valued_there (root_of S name) can.sound in prints_away p L S name v.0 line v.1 (begins-own p S (record { line = line; act = Prints name }) L b) g ready
+rows_away has p L S line (Invalidates name) b can ready g after = tt
+rows_away has p L S line (Unregisters name) b can ready g after = tt
+
+-- ---- one statement that contributes to nothing
+
+pub fine_own : (has : Kernel → Bool) (T : Table) (p : Program) (L : Lowering) (S : State) (line : Line) (a : Act) (out : List Printed) → Begins p (add_own S (record { line = line; act = a }) L) → CanBe has S a → NamesAct T S L.cells a → IsReady L S a → IsFine T p L S out
+    → IsFine T p (add_own S (record { line = line; act = a }) L) (apply a S) (out ++ prints a S)
+fine_own has T p L S line a out b can named ready f = record {
   agrees = after;
-  good = λ n h. elim (cases_lt n (length L.tasks)) [
-    | inl inside ↦ f.good n inside
-    | inr past ↦ good-at p (length L.tasks) ls n (rows_good has p L S line a b can f.agrees after) (stands p S (record { line = line; act = a }) L b) past (omega (arith, h, length-append L.tasks ls))
-  ];
-  delivered = delivered_act has T p L S line a out b can named f.agrees f.delivered;
+  good = good-more p L (add_own S (record { line = line; act = a }) L) ls refl (stands-own p S (record { line = line; act = a }) L b) (rows_good has p L S line a b can (prepared-of L S a ready) f.agrees after) f.good;
+  delivered = delivered_act has T p L S line a out b can named ready f.agrees f.delivered;
+  logged = log-beside p (length L.tasks) (length (L.tasks ++ ls)) L.phase ls (length-append L.tasks ls) (stands-own p S (record { line = line; act = a }) L b) (rows_away has p L S line a b can ready f.agrees after) f.logged;
 }
   where
     ls : List Lowered
     ls = rows_of S (cells_after a L.cells) line a
 
-    after : Agrees p (lower_one S (record { line = line; act = a }) L) (apply a S)
-    after = agrees_act has p L S line a b can.sound f.agrees
-
--- ---- all statements
-
-begins-from : (p : Program) (S : State) (L : Lowering) (ss : List Statement) → Begins p (lower_from S L ss) → Begins p L
-begins-from p S L [] b = b
-begins-from p S L (s ∷ ss) b = begins-before p S s L (begins-from p (apply s.act S) (lower_one S s L) ss b)
-
-fine_from : (has : Kernel → Bool) (T : Table) (p : Program) (L : Lowering) (k : ℕ) (S : State) (out : List Printed) (ss : List Statement) → Begins p (lower_from S L ss) → IsWell has k S ss → NamesAll T S L ss → IsFine T p L S out
-    → IsFine T p (lower_from S L ss) (run_from S ss) (out ++ printed_from S ss)
-fine_from has T p L k S out [] b w named f = subst (λ (xs : List Printed). IsFine T p L S xs) (sym (append-nil out)) f
-fine_from has T p L k S out (s ∷ ss) b w named f =
-    let next = fine_act has T p L S s.line s.act out (begins-from p (apply s.act S) (lower_one S s L) ss b) (can_be has k S s.act w.0) named.0 f in
-    subst (λ (xs : List Printed). IsFine T p (lower_from S L (s ∷ ss)) (run_from S (s ∷ ss)) xs) (append_assoc out (prints s.act S) (printed_from (apply s.act S) ss))
-    (fine_from has T p (lower_one S s L) (k + 1) (apply s.act S) (out ++ prints s.act S) ss b w.1 named.1 next)
-
--- the program of a job
-pub record IsWhole (T : Table) (p : Program) (ss : List Statement) : Type 0 where
-  pub good : (n : ℕ) → n < length p.tasks → IsGood p n (task_of p (task_at n))
-  pub cells : All (λ (i : CellInfo). (i.partials ≡ None) × (area i.dims ≤ 2 ^ 24)) p.cells
-  pub lowering : Lowering
-  pub tasks : p.tasks ≡ lowering.tasks
-  pub deliveries : p.deliveries ≡ lowering.deliveries
-  pub delivered : AreDelivered T p lowering (printed ss)
-
-pub whole : (has : Kernel → Bool) (T : Table) (ss : List Statement) (workers : ℕ) → IsWell has 0 start ss → NamesAll T start nothing ss → IsWhole T (lowered ss workers) ss
-whole has T ss workers w named =
-    let L = lower_from start nothing ss in
-    let p = lowered ss workers in
-    let f = fine_from has T p nothing 0 start [] ss (record { cells = ([], sym (append-nil L.cells.rows)); tasks = []; all_tasks = sym (append-nil L.tasks) }) w named (record {
-      agrees = agrees_start p;
-      good = λ n h. absurd (omega arith);
-      delivered = delivered_none T p;
-    }) in
-    record { good = f.good; cells = f.agrees.laid.small; lowering = L; tasks = refl; deliveries = refl; delivered = f.delivered }
+    after : Agrees p (add_own S (record { line = line; act = a }) L) (apply a S)
+    after = agrees_act has p L S line a b can.sound (prepared-of L S a ready) f.agrees

@@ -1,7 +1,7 @@
 -- What a task writes: which operands get new arrays, and with which dimensions.
 use Rattle.std.proofs.Common.{◌≡◌, ℕ, zero, suc, ◌+◌, ◌-◌, Bool, true, false, ◌&&◌, cond, ℤ, pos, Option, Some, None, List, [], ◌∷◌, map, length, refl, sym, ap, subst, ◌∙◌, arith}
 use Rattle.std.specs.Prelude.{nat_eq}
-use Rattle.std.specs.List.{AllByRecursion, filter, list_all}
+use Rattle.std.specs.List.{AllByRecursion, filter}
 use Rattle.std.proofs.lemmas.List.FromFn.{length-map-range_with_len}
 use Rattle.std.proofs.lemmas.Bool.Decides.{Decides-eqb}
 use Rattle.std.proofs.lemmas.List.{length-map, length-replicate}
@@ -16,7 +16,7 @@ use Rattle.sj_codelet.specs.declared.kernel.Kernel.TheVariants.{Fill, Copy, Scal
 use Rattle.sj_codelet.specs.declared.formal.Formal.{Formal}
 use Rattle.sj_codelet.specs.declared.formal.Formal.TheVariants.{R as FormalR, W as FormalW, RW as FormalRW, Scratch as FormalScratch}
 use Rattle.sj_codelet.specs.Kernel.{kernel_of, formals_of, arguments_fit, dims_fit, dims_at, fits, fits_in, operand, new_arrays, out}
-use Rattle.sj_codelet.specs.Formal.{outputs_among}
+use Rattle.sj_codelet.specs.Formal.{is_output, outputs_among}
 use Rattle.sj_codelet.proofs.Table.{new_arrays-dims}
 use Rattle.sj_codelet.specs.Equations.{after_turns, paste}
 use Rattle.sj_codelet.specs.Window.{window_of}
@@ -25,77 +25,59 @@ use Rattle.sj_base.specs.Window.{item, in_rect}
 use Rattle.sj_codelet.specs.Runs.{formals_in}
 use Rattle.sj_base.specs.Mode.{is_written}
 use Rattle.sj_plan.specs.Window.{IsWhole}
-use Rattle.sj_core.specs.Proper.{mode_of, own_modes}
 use Rattle.sj_job.specs.Statement.{Operand}
 use Rattle.sj_job.specs.Judge.{mode_fits, modes_fit}
-use Rattle.sj_job.specs.Sound.{is_plain}
 use Rattle.std.proofs.lemmas.Bool.{and_parts}
 
 -- ---- modes
 
-mode_is : (f : Formal) (m : Mode) → mode_fits f m ≡ true → is_plain m ≡ true → m ≡ mode_of f
-mode_is FormalR R e p = refl
-mode_is FormalR W e p = absurd (cc)
-mode_is FormalR RW e p = absurd (cc)
-mode_is FormalR Scratch e p = absurd (cc)
-mode_is FormalR Redux e p = absurd (cc)
-mode_is FormalR Commute e p = absurd (cc)
-mode_is FormalW R e p = absurd (cc)
-mode_is FormalW W e p = refl
-mode_is FormalW RW e p = absurd (cc)
-mode_is FormalW Scratch e p = absurd (cc)
-mode_is FormalW Redux e p = absurd (cc)
-mode_is FormalW Commute e p = absurd (cc)
-mode_is FormalRW R e p = absurd (cc)
-mode_is FormalRW W e p = absurd (cc)
-mode_is FormalRW RW e p = refl
-mode_is FormalRW Scratch e p = absurd (cc)
-mode_is FormalRW Redux e p = absurd (cc)
-mode_is FormalRW Commute e p = absurd (cc)
-mode_is FormalScratch R e p = absurd (cc)
-mode_is FormalScratch W e p = absurd (cc)
-mode_is FormalScratch RW e p = absurd (cc)
-mode_is FormalScratch Scratch e p = refl
-mode_is FormalScratch Redux e p = absurd (cc)
-mode_is FormalScratch Commute e p = absurd (cc)
-
--- the operands of a task without contributions have the codelet's own modes
-pub modes_are : (fs : List Formal) (os : List Operand) → modes_fit fs os ≡ true → list_all (λ o. is_plain o.mode) os ≡ true → length os ≡ length fs → map (λ (o : Operand). o.mode) os ≡ map mode_of fs
-modes_are [] [] e p l = refl
-modes_are [] (o ∷ os) e p l = absurd (omega arith)
-modes_are (f ∷ fs) [] e p l = absurd (omega arith)
-modes_are (f ∷ fs) (o ∷ os) e p l =
-    let m = and_parts (mode_fits f o.mode) (modes_fit fs os) e in
-    let n = and_parts (is_plain o.mode) (list_all (λ o. is_plain o.mode) os) p in
-    ap (λ (x : Mode). x ∷ map (λ (o : Operand). o.mode) os) (mode_is f o.mode m.0 n.0) ∙ ap (λ (xs : List Mode). mode_of f ∷ xs) (modes_are fs os m.1 n.1 (omega arith))
+-- what an operand writes is what its formal gives
+pub writes_output : (f : Formal) (m : Mode) → mode_fits f m ≡ true → is_written m ≡ is_output f
+writes_output FormalR R e = refl
+writes_output FormalR W e = absurd (cc)
+writes_output FormalR RW e = absurd (cc)
+writes_output FormalR Scratch e = absurd (cc)
+writes_output FormalR Redux e = absurd (cc)
+writes_output FormalR Commute e = absurd (cc)
+writes_output FormalW R e = absurd (cc)
+writes_output FormalW W e = refl
+writes_output FormalW RW e = absurd (cc)
+writes_output FormalW Scratch e = absurd (cc)
+writes_output FormalW Redux e = refl
+writes_output FormalW Commute e = refl
+writes_output FormalRW R e = absurd (cc)
+writes_output FormalRW W e = absurd (cc)
+writes_output FormalRW RW e = refl
+writes_output FormalRW Scratch e = absurd (cc)
+writes_output FormalRW Redux e = refl
+writes_output FormalRW Commute e = refl
+writes_output FormalScratch R e = absurd (cc)
+writes_output FormalScratch W e = absurd (cc)
+writes_output FormalScratch RW e = absurd (cc)
+writes_output FormalScratch Scratch e = refl
+writes_output FormalScratch Redux e = absurd (cc)
+writes_output FormalScratch Commute e = absurd (cc)
 
 -- ---- new arrays
 
--- those of a list whose modes write
-abbrev pub written_of : {X : Type 0} → List Mode → List X → List X
-written_of [] xs = []
-written_of (m ∷ ms) [] = []
-written_of (m ∷ ms) (x ∷ xs) = cond (is_written m) (x ∷ written_of ms xs) (written_of ms xs)
-
-pub written_of-map : {X : Type 0} (f : Operand → X) (os : List Operand) → written_of (map (λ (o : Operand). o.mode) os) (map f os) ≡ map f (filter (λ (o : Operand). is_written o.mode) os)
-written_of-map f [] = refl
-written_of-map f (o ∷ os) = by_cases (is_written o.mode) (written_of-map f os)
+-- the outputs of a codelet stand where a task's operands are written
+pub outputs-written : {X : Type 0} (f : Operand → X) (fs : List Formal) (os : List Operand) → modes_fit fs os ≡ true → length os ≡ length fs → outputs_among fs (map f os) ≡ map f (filter (λ (o : Operand). is_written o.mode) os)
+outputs-written f [] [] e l = refl
+outputs-written f [] (o ∷ os) e l = absurd (omega arith)
+outputs-written f (g ∷ fs) [] e l = absurd (omega arith)
+outputs-written f (g ∷ fs) (o ∷ os) e l =
+    let m = and_parts (mode_fits g o.mode) (modes_fit fs os) e in
+    by_cases (is_output g) (is_written o.mode) (sym (writes_output g o.mode m.0)) (outputs-written f fs os m.1 (omega (arith, l)))
   where
-    by_cases : (b : Bool) → written_of (map (λ (o : Operand). o.mode) os) (map f os) ≡ map f (filter (λ (o : Operand). is_written o.mode) os) → cond b (f o ∷ written_of (map (λ (o : Operand). o.mode) os) (map f os)) (written_of (map (λ (o : Operand). o.mode) os) (map f os)) ≡ map f (cond b (o ∷ filter (λ (o : Operand). is_written o.mode) os) (filter (λ (o : Operand). is_written o.mode) os))
-    by_cases true e = ap (λ xs. f o ∷ xs) e
-    by_cases false e = e
+    by_cases : (b c : Bool) → b ≡ c → outputs_among fs (map f os) ≡ map f (filter (λ (o : Operand). is_written o.mode) os) → cond b (f o ∷ outputs_among fs (map f os)) (outputs_among fs (map f os)) ≡ map f (cond c (o ∷ filter (λ (o : Operand). is_written o.mode) os) (filter (λ (o : Operand). is_written o.mode) os))
+    by_cases true true e r = ap (λ xs. f o ∷ xs) r
+    by_cases false false e r = r
+    by_cases true false e r = absurd (cc)
+    by_cases false true e r = absurd (cc)
 
 -- the dimensions of arrays
 abbrev pub all_dims : List Array → List Dims
 all_dims xs = map (λ (a : Array). a.dims) xs
-
-outputs-written : {X : Type 0} (fs : List Formal) (xs : List X) → outputs_among fs xs ≡ written_of (map mode_of fs) xs
-outputs-written [] xs = refl
-outputs-written (f ∷ fs) [] = refl
-outputs-written (FormalR ∷ fs) (x ∷ xs) = outputs-written fs xs
-outputs-written (FormalW ∷ fs) (x ∷ xs) = ap (λ ys. x ∷ ys) (outputs-written fs xs)
-outputs-written (FormalRW ∷ fs) (x ∷ xs) = ap (λ ys. x ∷ ys) (outputs-written fs xs)
-outputs-written (FormalScratch ∷ fs) (x ∷ xs) = outputs-written fs xs
 
 -- ---- whole arrays
 
@@ -159,12 +141,11 @@ fit_from_fits k args ds h =
     record { count = (Decides-eqb (length ds) (length (formals_of k))).0 q.0; arguments = q.1; dims = p.1 }
 
 -- the new arrays have the dimensions of the operands that are written
-pub out_dims : (k : Kernel) (id : Codelet) (args : List ℤ) (ins : List Array) → kernel_of id ≡ Some k → fits k args (all_dims ins) ≡ true → all_dims (out id args ins) ≡ written_of (own_modes k) (all_dims ins)
+pub out_dims : (k : Kernel) (id : Codelet) (args : List ℤ) (ins : List Array) → kernel_of id ≡ Some k → fits k args (all_dims ins) ≡ true → all_dims (out id args ins) ≡ outputs_among (formals_of k) (all_dims ins)
 out_dims k id args ins e h =
     let f = fit_from_fits k args (all_dims ins) h in
     ap (λ (o : Option Kernel). all_dims (elim o as (λ _. List Array) [ None ↦ [] | Some j ↦ new_arrays j args ins ])) e
     ∙ new_arrays-dims k args ins (sym (length-map ins (λ (a : Array). a.dims)) ∙ f.count) f.dims
-    ∙ outputs-written (formals_of k) (all_dims ins)
 
 -- and are whole where the operands are
 pub out_whole : (k : Kernel) (id : Codelet) (args : List ℤ) (ins : List Array) → kernel_of id ≡ Some k → fits k args (all_dims ins) ≡ true → AreWhole ins → AreWhole (out id args ins)

@@ -1,10 +1,13 @@
--- The cells of a job: a plan's children become cells, row by row, when the plan first becomes active for its root.
-use Rattle.std.specs.Prelude.{ℕ, ◌+◌, Bool, ◌&&◌, nat_eq, Option, Some, None, List, [], ◌++◌, map, length, is_some, unwrap_or, if◌then◌else◌}
+-- The cells of a job: a plan's children become cells, row by row, when the plan first becomes active for its root, and a
+-- cell gets partial copies, one for each worker, when it is first contributed to.
+use Rattle.std.specs.Prelude.{ℕ, ◌+◌, Bool, ◌&&◌, nat_eq, Option, Some, None, List, [], ◌++◌, map, length, is_some, unwrap_or, replicate, slice_set, if◌then◌else◌}
+use Rattle.std.specs.List.{slice_index_or}
 use Rattle.std.specs.Str.{bytes_eq}
 use Rattle.sj_base.specs.declared.ids.Cell.{Cell}
 use Rattle.sj_base.specs.declared.ids.Root.{Root}
 use Rattle.sj_base.specs.declared.tile.Dims.{Dims}
 use Rattle.sj_base.specs.declared.program.CellInfo.{CellInfo}
+use Rattle.sj_core.specs.Program.{no_cell}
 use Rattle.sj_plan.specs.declared.parts.Parts.{Parts}
 use Rattle.sj_plan.specs.declared.rect.Rect.{Rect}
 use Rattle.sj_plan.specs.Parts.{places}
@@ -88,3 +91,33 @@ with_root name d C = record { rows = C.rows; handles = with_handle name (next_ha
 -- no root
 abbrev pub no_cells : Cells
 no_cells = record { rows = []; handles = λ name. None; roots = 0 }
+
+-- ---- partial copies
+
+abbrev pub info_at : Cells → Cell → CellInfo
+info_at C c = slice_index_or C.rows c.0 no_cell
+
+-- the partial copy of a worker, by the first of them
+abbrev pub copy_at : Cell → ℕ → Cell
+copy_at first w = record { 0 = first.0 + w }
+
+-- the row of a partial copy: as large as its cell
+abbrev pub copy_info : CellInfo → CellInfo
+copy_info i = record { root = i.root; dims = i.dims; partials = None }
+
+abbrev pub with_partials : Cell → CellInfo → CellInfo
+with_partials first i = record { root = i.root; dims = i.dims; partials = Some first }
+
+-- the first partial copy of a cell; where there is none yet, the next cell is to be it
+abbrev pub first_copy : Cells → Cell → Cell
+first_copy C c = unwrap_or (info_at C c).partials (record { 0 = length C.rows })
+
+-- the cells with the partial copies of this one, so many, which arise if they aren't there
+abbrev pub with_copies : ℕ → Cell → Cells → Cells
+with_copies workers c C =
+    if is_some (info_at C c).partials then C
+    else record {
+      rows = slice_set C.rows c.0 (with_partials (first_copy C c) (info_at C c)) ++ replicate workers (copy_info (info_at C c));
+      handles = C.handles;
+      roots = C.roots;
+    }

@@ -1,14 +1,20 @@
 -- What a job is lowered to: its statements give cells, tasks over cells and deliveries, one statement after another, each in
--- the state that the statements before it leave.
-use Rattle.std.specs.Prelude.{ℕ, ◌+◌, Bool, ◌||◌, not, Some, None, List, [], ◌∷◌, ◌++◌, map, length, if◌then◌else◌}
+-- the state that the statements before it leave. Contributions to a cell form a phase: they go to partial copies, which are
+-- combined into the cell before the next statement that accesses it in another way, or that prints, changes the plan of,
+-- invalidates or unregisters its root.
+use Rattle.std.specs.Prelude.{ℕ, ◌+◌, Bool, ◌||◌, ◌&&◌, not, Option, Some, None, List, [], ◌∷◌, ◌++◌, map, filter, fold, length, if◌then◌else◌}
+use Rattle.std.specs.List.{range_with_len}
 use Rattle.sj_base.specs.declared.ids.Cell.{Cell}
 use Rattle.sj_base.specs.declared.ids.Line.{Line}
 use Rattle.sj_base.specs.declared.ids.Root.{Root as RootNumber}
 use Rattle.sj_base.specs.declared.mode.Access.{Access}
+use Rattle.sj_base.specs.declared.mode.Reduction.{Reduction}
+use Rattle.sj_base.specs.Mode.{is_data, is_redux}
 use Rattle.sj_base.specs.declared.tile.Dims.{Dims}
 use Rattle.sj_base.specs.declared.program.Lowered.{Lowered}
 use Rattle.sj_base.specs.declared.program.Delivery.{Delivery}
 use Rattle.sj_base.specs.declared.program.Program.{Program}
+use Rattle.sj_core.specs.Program.{same_cell}
 use Rattle.sj_plan.specs.declared.parts.Parts.{Parts}
 use Rattle.sj_plan.specs.Parts.{places}
 use Rattle.sj_plan.specs.Paste.{pastes_of}
@@ -17,13 +23,15 @@ use Rattle.sj_job.specs.declared.job.Init.{Init}
 use Rattle.sj_job.specs.declared.job.Init.TheVariants.{Values, Fill, Nothing}
 use Rattle.sj_job.specs.Statement.{Operand, TaskLine}
 use Rattle.sj_job.specs.Act.{Act, Statement}
-use Rattle.sj_job.specs.Act.{Register as Registers, Plan as Plans, Task as Tasks, Print as Prints, Invalidate as Invalidates, Unregister as Unregisters}
+use Rattle.sj_job.specs.Act.{Register as Registers, Plan as Plans, Redux as Reduces, Task as Tasks, Print as Prints, Invalidate as Invalidates, Unregister as Unregisters}
 use Rattle.sj_job.specs.State.{Root, State, start, root_of, is_valued}
 use Rattle.sj_job.specs.Meaning.{apply}
+use Rattle.sj_job.specs.Sound.{reduction_of, has_child_values}
 use Rattle.sj_job.specs.Table.{undivided}
 use Rattle.sj_job.specs.Track.{number}
-use Rattle.sj_lower.specs.Cells.{Cells, same_parts, cell_of, take, with_root, no_cells}
-use Rattle.sj_lower.specs.Rows.{an_access, load_row, fill_row, paste_row, deliver_row}
+use Rattle.sj_lower.specs.declared.phase.OpenPhase.{OpenPhase}
+use Rattle.sj_lower.specs.Cells.{Cells, same_parts, cell_of, take, with_root, no_cells, first_copy, with_copies}
+use Rattle.sj_lower.specs.Rows.{an_access, load_row, fill_row, paste_row, deliver_row, init_row, init_rows, combine_rows}
 
 -- ---- cells
 
@@ -31,6 +39,7 @@ use Rattle.sj_lower.specs.Rows.{an_access, load_row, fill_row, paste_row, delive
 abbrev pub cells_after : Act → Cells → Cells
 cells_after (Registers r) C = take r.name r.parts (with_root r.name r.dims C)
 cells_after (Plans name p) C = take name p C
+cells_after (Reduces name by) C = C
 cells_after (Tasks t) C = C
 cells_after (Prints name) C = C
 cells_after (Invalidates name) C = C
@@ -77,6 +86,7 @@ deliver_rows S C name line = map (λ place. deliver_row (active_cell S C name pl
 abbrev pub rows_of : State → Cells → Line → Act → List Lowered
 rows_of S C line (Registers r) = load_rows r.init r.dims r.parts (cell_of C r.name r.parts) line
 rows_of S C line (Plans name p) = plan_rows S C name p line
+rows_of S C line (Reduces name by) = []
 rows_of S C line (Tasks t) = task_row S C line t ∷ []
 rows_of S C line (Prints name) = deliver_rows S C name line
 rows_of S C line (Invalidates name) = []
@@ -98,6 +108,7 @@ print_deliveries S C name task print = elim (C.handles name) [
 abbrev pub deliveries_of : State → Cells → ℕ → ℕ → Act → List Delivery
 deliveries_of S C task print (Registers r) = []
 deliveries_of S C task print (Plans name p) = []
+deliveries_of S C task print (Reduces name by) = []
 deliveries_of S C task print (Tasks t) = []
 deliveries_of S C task print (Prints name) = print_deliveries S C name task print
 deliveries_of S C task print (Invalidates name) = []
@@ -107,39 +118,137 @@ deliveries_of S C task print (Unregisters name) = []
 abbrev pub prints_after : Act → ℕ → ℕ
 prints_after (Registers r) n = n
 prints_after (Plans name p) n = n
+prints_after (Reduces name by) n = n
 prints_after (Tasks t) n = n
 prints_after (Prints name) n = n + 1
 prints_after (Invalidates name) n = n
 prints_after (Unregisters name) n = n
 
--- ---- statements
-
--- what the statements so far gave, and how many print statements there were
+-- what the statements so far gave, how many print statements there were, and the open phase of each cell that has one
 pub record Lowering : Type 0 where
   pub cells : Cells
   pub tasks : List Lowered
   pub deliveries : List Delivery
   pub prints : ℕ
+  pub phase : Cell → Option OpenPhase
 
 -- before the first statement
 abbrev pub nothing : Lowering
-nothing = record { cells = no_cells; tasks = []; deliveries = []; prints = 0 }
+nothing = record { cells = no_cells; tasks = []; deliveries = []; prints = 0; phase = λ c. None }
 
--- what one statement more gives
-abbrev pub lower_one : State → Statement → Lowering → Lowering
-lower_one S s L =
+-- ---- phases of contributions
+
+-- the cell has this open phase, or none, and each other cell has what it had
+abbrev pub with_phase : Cell → Option OpenPhase → (Cell → Option OpenPhase) → Cell → Option OpenPhase
+with_phase c f phase d = if same_cell c d then f else phase d
+
+-- the cell has this open phase, or none, from now on; there are these cells, and tasks more
+abbrev pub turned : Cells → List Lowered → Cell → Option OpenPhase → Lowering → Lowering
+turned C ls c f L = record {
+  cells = C;
+  tasks = L.tasks ++ ls;
+  deliveries = L.deliveries;
+  prints = L.prints;
+  phase = with_phase c f L.phase;
+}
+
+-- the children of a name's active plan, row by row
+abbrev pub active_cells : State → Cells → List ℕ → List Cell
+active_cells S C name = map (active_cell S C name) (places (parts_in S name))
+
+-- the operand is an access to its child other than a contribution; a scratch buffer is none
+abbrev pub is_other_access : Operand → Bool
+is_other_access o = is_data o.mode && not (is_redux o.mode)
+
+-- the cells whose phases a statement closes, in order
+abbrev pub closed_by : State → Cells → Act → List Cell
+closed_by S C (Registers r) = []
+closed_by S C (Plans name p) = if same_parts (parts_in S name) p then [] else active_cells S C name
+closed_by S C (Reduces name by) = []
+closed_by S C (Tasks t) = map (λ o. active_cell S C o.name o.place) (filter is_other_access t.operands)
+closed_by S C (Prints name) = active_cells S C name
+closed_by S C (Invalidates name) = active_cells S C name
+closed_by S C (Unregisters name) = active_cells S C name
+
+-- the phase of a cell is closed, if one is open: each partial copy is combined into it
+abbrev pub closed : ℕ → Lowering → Cell → Lowering
+closed workers L c = elim (L.phase c) [
+  | None ↦ L
+  | Some f ↦ turned L.cells (combine_rows f c workers) c None L
+]
+
+abbrev pub all_closed : ℕ → List Cell → Lowering → Lowering
+all_closed workers cs L = fold (closed workers) L cs
+
+-- the phase of a cell goes on, with a contribution at this line
+abbrev pub extended : OpenPhase → Line → OpenPhase
+extended f line = record { by = f.by; copies = f.copies; line = line }
+
+-- what begins a phase: each partial copy gets the unit, and so does the cell itself where it has no value
+abbrev pub begin_rows : Reduction → Cell → Cell → Bool → ℕ → Line → List Lowered
+begin_rows by first c valued workers line = init_rows by first workers line ++ (if valued then [] else init_row by line c ∷ [])
+
+-- a phase of a cell begins
+abbrev pub begun : ℕ → Reduction → Bool → Line → Cell → Lowering → Lowering
+begun workers by valued line c L =
+    let first = first_copy L.cells c in
+    turned (with_copies workers c L.cells) (begin_rows by first c valued workers line) c (Some (record { by = by; copies = first; line = line })) L
+
+-- a contribution to a cell is to come: its phase goes on, or begins
+abbrev pub opened : ℕ → Reduction → Bool → Line → Cell → Lowering → Lowering
+opened workers by valued line c L = elim (L.phase c) [
+  | None ↦ begun workers by valued line c L
+  | Some f ↦ turned L.cells [] c (Some (extended f line)) L
+]
+
+-- so is an operand's, if it is one
+abbrev pub opened_for : ℕ → State → Line → Lowering → Operand → Lowering
+opened_for workers S line L o = elim (reduction_of S o.name) [
+  | None ↦ L
+  | Some by ↦ opened workers by (has_child_values S o) line (active_cell S L.cells o.name o.place) L
+]
+
+-- the operands to which a statement contributes
+abbrev pub contributions : Act → List Operand
+contributions (Registers r) = []
+contributions (Plans name p) = []
+contributions (Reduces name by) = []
+contributions (Tasks t) = filter (λ o. is_redux o.mode) t.operands
+contributions (Prints name) = []
+contributions (Invalidates name) = []
+contributions (Unregisters name) = []
+
+-- what there is before a statement's own tasks: the phases that it closes are closed, and that of its contribution is open
+abbrev pub prepared : ℕ → State → Statement → Lowering → Lowering
+prepared workers S s L =
+    fold (opened_for workers S s.line) (all_closed workers (closed_by S L.cells s.act) L) (contributions s.act)
+
+-- ---- statements
+
+-- what a statement's own tasks give
+abbrev pub add_own : State → Statement → Lowering → Lowering
+add_own S s L =
     let C = cells_after s.act L.cells in
     record {
       cells = C;
       tasks = L.tasks ++ rows_of S C s.line s.act;
       deliveries = L.deliveries ++ deliveries_of S C (length L.tasks) L.prints s.act;
       prints = prints_after s.act L.prints;
+      phase = L.phase;
     }
 
+-- what one statement more gives
+abbrev pub lower_one : ℕ → State → Statement → Lowering → Lowering
+lower_one workers S s L = add_own S s (prepared workers S s L)
+
 -- what statements give after others
-abbrev pub lower_from : State → Lowering → List Statement → Lowering
-lower_from S L [] = L
-lower_from S L (s ∷ ss) = lower_from (apply s.act S) (lower_one S s L) ss
+abbrev pub lower_from : ℕ → State → Lowering → List Statement → Lowering
+lower_from workers S L [] = L
+lower_from workers S L (s ∷ ss) = lower_from workers (apply s.act S) (lower_one workers S s L) ss
+
+-- at the end the open phases are closed, by cell
+abbrev pub finished : ℕ → Lowering → Lowering
+finished workers L = all_closed workers (map (λ n. record { 0 = n }) (range_with_len 0 (length L.cells.rows))) L
 
 -- ---- programs
 
@@ -148,4 +257,4 @@ program_of workers L = record { cells = L.cells.rows; tasks = L.tasks; deliverie
 
 -- what a job is lowered to
 abbrev pub lowered : List Statement → ℕ → Program
-lowered ss workers = program_of workers (lower_from start nothing ss)
+lowered ss workers = program_of workers (finished workers (lower_from workers start nothing ss))

@@ -1,9 +1,11 @@
--- The tasks that no task line names: those that load a root's children, paste children into those of another plan, and
--- deliver them.
-use Rattle.std.specs.Prelude.{ℕ, List, [], ◌∷◌, ℤ, pos, if◌then◌else◌}
+-- The tasks that no task line names: those that load a root's children, paste children into those of another plan, deliver
+-- them, and begin and close their phases of contributions.
+use Rattle.std.specs.Prelude.{ℕ, List, [], ◌∷◌, ℤ, pos, map, if◌then◌else◌}
+use Rattle.std.specs.List.{range_with_len}
 use Rattle.sj_base.specs.declared.ids.Cell.{Cell}
 use Rattle.sj_base.specs.declared.ids.Line.{Line}
 use Rattle.sj_base.specs.declared.mode.Mode.{Mode}
+use Rattle.sj_base.specs.declared.mode.Reduction.{Reduction}
 use Rattle.sj_base.specs.declared.mode.Mode.TheVariants.{R, W, RW}
 use Rattle.sj_base.specs.declared.mode.Access.{Access}
 use Rattle.sj_base.specs.declared.tile.Dims.{Dims}
@@ -12,11 +14,13 @@ use Rattle.sj_base.specs.declared.program.Lowered.{Lowered}
 use Rattle.sj_base.specs.Array.{array}
 use Rattle.sj_codelet.specs.declared.kernel.Kernel.{Kernel}
 use Rattle.sj_codelet.specs.declared.kernel.Kernel.TheVariants.{Load, LoadFill, Paste as PasteKernel, Deliver}
-use Rattle.sj_codelet.specs.Kernel.{codelet_of}
+use Rattle.sj_codelet.specs.Kernel.{codelet_of, init_of, combine_of}
 use Rattle.sj_plan.specs.declared.paste.Paste.{Paste}
 use Rattle.sj_plan.specs.declared.rect.Rect.{Rect}
 use Rattle.sj_plan.specs.Paste.{is_first}
 use Rattle.sj_plan.specs.Window.{window}
+use Rattle.sj_lower.specs.declared.phase.OpenPhase.{OpenPhase}
+use Rattle.sj_lower.specs.Cells.{copy_at}
 
 abbrev pub an_access : Mode → Cell → Access
 an_access mode c = record { mode = mode; cell = c }
@@ -56,3 +60,19 @@ paste_row old new line x =
 -- a cell's array is handed over
 abbrev pub deliver_row : Cell → Line → Lowered
 deliver_row c line = own_task Deliver [] (an_access R c ∷ []) line
+
+-- a cell gets the reduction's unit
+abbrev pub init_row : Reduction → Line → Cell → Lowered
+init_row by line c = own_task (init_of by) [] (an_access W c ∷ []) line
+
+-- so do the partial copies of so many workers, by worker
+abbrev pub init_rows : Reduction → Cell → ℕ → Line → List Lowered
+init_rows by first workers line = map (λ w. init_row by line (copy_at first w)) (range_with_len 0 workers)
+
+-- a partial copy is combined into its cell
+abbrev pub combine_row : Reduction → Cell → Line → Cell → Lowered
+combine_row by c line q = own_task (combine_of by) [] (an_access R q ∷ an_access RW c ∷ []) line
+
+-- the partial copies of so many workers are combined into their cell, by worker, with the line of the last contribution
+abbrev pub combine_rows : OpenPhase → Cell → ℕ → List Lowered
+combine_rows f c workers = map (λ w. combine_row f.by c f.line (copy_at f.copies w)) (range_with_len 0 workers)

@@ -2,6 +2,7 @@
 use Rattle.std.specs.Prelude.{◌≡◌, ◌<◌, ◌≤◌, ◌+◌, ◌&&◌, nat_eq, Bool, ℕ, Some, None, List, [], length, ◌||◌, not, map, slice_index_or, slice_set, if◌then◌else◌}
 use Rattle.std.specs.List.{fold}
 use Rattle.indexmap.specs.IndexMap.{get}
+use Rattle.sj_base.specs.declared.ids.Cell.{Cell}
 use Rattle.sj_base.specs.declared.ids.Line.{Line}
 use Rattle.sj_base.specs.declared.mode.Access.{Access}
 use Rattle.sj_codelet.specs.declared.kernel.Kernel.{Kernel}
@@ -14,7 +15,7 @@ use Rattle.sj_job.specs.declared.job.Act.{Act as Kept}
 use Rattle.sj_job.specs.declared.job.Act.TheVariants as kept
 use Rattle.sj_job.specs.declared.job.Operand.{Operand}
 use Rattle.sj_job.specs.Act.{Act}
-use Rattle.sj_job.specs.Act.{Register as Registers, Plan as Plans, Task as Tasks, Print as Prints, Invalidate as Invalidates, Unregister as Unregisters}
+use Rattle.sj_job.specs.Act.{Register as Registers, Plan as Plans, Redux as Reduces, Task as Tasks, Print as Prints, Invalidate as Invalidates, Unregister as Unregisters}
 use Rattle.sj_job.specs.State.{Root, State, root_of}
 use Rattle.sj_job.specs.Meaning.{is_written, apply}
 use Rattle.sj_job.specs.Sound.{IsSoundAct}
@@ -28,7 +29,7 @@ use Rattle.sj_lower.specs.declared.lowerer.Lowerer.{Lowerer}
 use Rattle.sj_lower.specs.Cells.{Cells, Handle, same_parts, first_cell, cells_from}
 use Rattle.sj_lower.specs.Rows.{an_access, paste_row}
 use Rattle.sj_lower.specs.Limits.{most}
-use Rattle.sj_lower.specs.Lowering.{Lowering, cells_after, lower_one}
+use Rattle.sj_lower.specs.Lowering.{Lowering, cells_after, add_own}
 
 -- ---- cells
 
@@ -56,6 +57,7 @@ pub record Lays (T : Table) (l : Layout) (C : Cells) : Type 0 where
 abbrev pub IsCut : Table → ℕ → Kept → Type 0
 IsCut T n (kept.Register init) = Fits (info_of T (a_root n)).parts (info_of T (a_root n)).dims
 IsCut T n (kept.Plan r p) = Fits p (info_of T r).dims
+IsCut T n (kept.Redux r by) = Unit {0}
 IsCut T n (kept.Task t) = Unit {0}
 IsCut T n (kept.Print r) = Unit {0}
 IsCut T n (kept.Invalidate r) = Unit {0}
@@ -65,6 +67,7 @@ IsCut T n (kept.Unregister r) = Unit {0}
 abbrev pub children_after : Act → ℕ
 children_after (Registers r) = children_count r.parts
 children_after (Plans name p) = children_count p
+children_after (Reduces name by) = 0
 children_after (Tasks t) = 0
 children_after (Prints name) = 0
 children_after (Invalidates name) = 0
@@ -74,6 +77,7 @@ children_after (Unregisters name) = 0
 abbrev pub first_after : Act → Cells → ℕ
 first_after (Registers r) C = first_cell C r.name r.parts
 first_after (Plans name p) C = first_cell C name p
+first_after (Reduces name by) C = 0
 first_after (Tasks t) C = 0
 first_after (Prints name) C = 0
 first_after (Invalidates name) C = 0
@@ -83,15 +87,16 @@ first_after (Unregisters name) C = 0
 
 -- what stands for the active plan of a root that isn't there
 abbrev pub no_active : Active
-no_active = record { tracked = record { parts = undivided; valued = [] }; first = 0 }
+no_active = record { tracked = record { parts = undivided; valued = [] }; first = 0; reduction = None }
 
 abbrev pub active_at : List Active → ℕ → Active
 active_at actives n = slice_index_or actives n no_active
 
--- the active plan of a root: which children have a value, and the first cell, as in the handle of its name
+-- the active plan of a root: which children have a value, the first cell, as in the handle of its name, and the reduction
 pub record IsActive (T : Table) (C : Cells) (n : ℕ) (a : Active) (r : Root) : Type 0 where
   pub dims : r.dims ≡ (info_of T (a_root n)).dims
   pub tracks : Tracks a.tracked r
+  pub reduction : a.reduction ≡ r.reduction
   pub handle : Handle
   pub named : C.handles (name_of T (a_root n)) ≡ Some handle
   pub taken : handle.first r.parts ≡ Some a.first
@@ -102,11 +107,12 @@ pub record AreActive (T : Table) (C : Cells) (actives : List Active) (S : State)
   pub counted : length actives ≡ C.roots
   pub each : (n : ℕ) (r : Root) → n < C.roots → root_of S (name_of T (a_root n)) ≡ Some r → IsActive T C n (active_at actives n) r
 
--- the code has the tasks and deliveries of the definition, and the active plans of the state
+-- the code has the tasks, the deliveries and the open phases of the definition, and the active plans of the state
 pub record Follows (T : Table) (l : Lowerer) (S : State) (L : Lowering) : Type 0 where
   pub tasks : l.tasks.items ≡ L.tasks
   pub deliveries : l.deliveries.items ≡ L.deliveries
   pub prints : l.prints ≡ L.prints
+  pub phases : (c : Cell) → get nat_eq l.phases c.0 ≡ L.phase c
   pub actives : AreActive T L.cells l.actives.items S
 
 -- an act may come next
@@ -125,11 +131,32 @@ pub record HasNext (T : Table) (l : Lowerer) (a : Kept) : Type 0 where
   pub lowering : Lowering
   pub next : IsNext T l a state lowering
 
--- the code does with a statement what the definition does, if the plan that it makes active has this first cell
+-- an act may come next by the active plans alone
+pub record CanPass (T : Table) (l : Lowerer) (a : Kept) (S : State) (L : Lowering) : Type 0 where
+  pub has : Kernel → Bool
+  pub actives : AreActive T L.cells l.actives.items S
+  pub sound : IsSoundAct has S (act_seen T L.cells.roots a)
+  pub placed : IsPlaced L.cells.roots a
+  pub distinct : AreDistinct T.names
+  pub few : count_after L.cells.roots a ≤ length T.names
+  pub table : length T.names ≤ 4096
+
+pub record HasPass (T : Table) (l : Lowerer) (a : Kept) : Type 0 where
+  pub state : State
+  pub lowering : Lowering
+  pub pass : CanPass T l a state lowering
+
+-- the active plans are those after a statement, if the plan that it makes active has this first cell
+abbrev pub Passes : Table → Lowerer → Lowerer → Kept → ℕ → Type 0
+Passes T old new a first =
+    (S : State) (L : Lowering) → CanPass T old a S L → let act = act_seen T L.cells.roots a in first_after act (cells_after act L.cells) ≡ first
+    → AreActive T (cells_after act L.cells) new.actives.items (apply act S)
+
+-- the code does with a statement's own tasks what the definition does, if the plan that it makes active has this first cell
 abbrev pub Does : Table → Lowerer → Lowerer → Kept → ℕ → Line → Type 0
 Does T old new a first line =
     (S : State) (L : Lowering) → IsNext T old a S L → let act = act_seen T L.cells.roots a in first_after act (cells_after act L.cells) ≡ first
-    → Follows T new (apply act S) (lower_one S (record { line = line; act = act }) L)
+    → Follows T new (apply act S) (add_own S (record { line = line; act = act }) L)
 
 -- the cells of the plan that an act makes active are within the limit, from this one on
 abbrev pub HasRoom : Table → ℕ → Kept → ℕ → Type 0
@@ -151,7 +178,7 @@ access_by actives o =
 abbrev pub after_write : List Active → Operand → List Active
 after_write actives o =
     let a = active_at actives o.root.0 in
-    if is_written o.mode then slice_set actives o.root.0 (record { tracked = written a.tracked o.place; first = a.first }) else actives
+    if is_written o.mode then slice_set actives o.root.0 (record { tracked = written a.tracked o.place; first = a.first; reduction = a.reduction }) else actives
 
 abbrev pub after_writes : List Operand → List Active → List Active
 after_writes os actives = fold after_write actives os

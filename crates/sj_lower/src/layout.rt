@@ -1,17 +1,18 @@
-//! The cells of a job's roots: a plan's children get cells when their root first takes the plan.
+//! The cells of a job's roots: a plan's children get cells when their root first takes the plan, and a cell gets partial copies
+//! when it is first contributed to.
 
-ghost use Rattle.std.specs.Prelude.{◌≡◌, ◌+◌, ◌<◌, ◌≤◌, ◌++◌, length, map, vec_len, IfOk, IfSome, IfNone, OnOk};
+ghost use Rattle.std.specs.Prelude.{◌≡◌, ◌+◌, ◌<◌, ◌≤◌, ◌++◌, length, map, replicate, vec_len, IfOk, IfSome, IfNone, OnOk};
 ghost use Rattle.sj_job.specs.Table.{Table, AreDistinct, name_of, info_of};
 ghost use Rattle.sj_job.specs.View.{IsPlaced, act_seen, count_after};
 ghost use Rattle.sj_plan.specs.Parts.{Fits};
-ghost use Rattle.sj_lower.specs.Cells.{Cells, rect_cell, first_cell, take, no_cells};
+ghost use Rattle.sj_lower.specs.Cells.{Cells, rect_cell, first_cell, first_copy, take, no_cells, with_copies};
 ghost use Rattle.sj_lower.specs.Limits.{most};
 ghost use Rattle.sj_lower.specs.Lowering.{cells_after};
 ghost use Rattle.sj_lower.specs.Seen.{Lays, IsCut, first_after, children_after};
 ghost use Rattle.sj_job.specs.Track.{children_count};
 
 use indexmap::IndexMap;
-use sj_base::ids::Root;
+use sj_base::ids::{Cell, Root};
 use sj_base::memory::OutOfMemory;
 use sj_base::program::CellInfo;
 use sj_base::tile::Dims;
@@ -129,8 +130,38 @@ impl Layout {
                 Ok(first)
             }
             Act::Plan(root, parts) => self.take(alloc, *root, roots.info(*root).dims, *parts),
-            Act::Task(_) | Act::Print(_) | Act::Invalidate(_) | Act::Unregister(_) => Ok(Some(0)),
+            Act::Redux(_, _)
+            | Act::Task(_)
+            | Act::Print(_)
+            | Act::Invalidate(_)
+            | Act::Unregister(_) => Ok(Some(0)),
         }
+    }
+
+    /// The first partial copy of a cell, which gets so many, one for each worker, if it has none yet. None where there would be
+    /// too many cells. Constant time, but linear in the workers where copies arise.
+    pub fn copies(&mut self, cell: Cell, workers: u8) -> Result<Option<Cell>, OutOfMemory>
+        requires few { vec_len self.old.infos ≤ most }
+        requires cell { cell.0 < vec_len self.old.infos }
+        ensures roots { OnOk result (self.new.roots ≡ self.old.roots) }
+        ensures few { OnOk result (vec_len self.new.infos ≤ most) }
+        ensures copied { IfOk result (λ o. IfSome o (λ first. (T : Table) (C : Cells) → Lays T self.old C
+            → Lays T self.new (with_copies workers cell C) × (first_copy C cell ≡ first))) }
+        ensures full { IfOk result (λ o. IfNone o ((T : Table) (C : Cells) → Lays T self.old C
+            → most < length (with_copies workers cell C).rows)) }
+    {
+        let info = self.infos[cell.0 as usize];
+        if let Some(first) = info.partials {
+            return Ok(Some(first));
+        }
+        let first = self.infos.len();
+        if first + workers as usize > MOST {
+            return Ok(None);
+        }
+        push_copies(&mut self.infos, info, workers)?;
+        let first = Cell(first as u32);
+        self.infos[cell.0 as usize].partials = Some(first);
+        Ok(Some(first))
     }
 }
 
@@ -147,6 +178,16 @@ fn push_cells(infos: &mut Vec<CellInfo>, root: Root, rects: &[Rect]) -> Result<(
             },
             partials: None,
         })?;
+    }
+    Ok(())
+}
+
+/// A cell like this one for each worker. Linear in the workers.
+fn push_copies(infos: &mut Vec<CellInfo>, info: CellInfo, workers: u8) -> Result<(), OutOfMemory>
+    ensures { OnOk result (infos.new.items ≡ infos.old.items ++ replicate workers info) }
+{
+    for _ in 0..workers {
+        infos.push(info)?;
     }
     Ok(())
 }

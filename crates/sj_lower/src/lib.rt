@@ -4,4 +4,8 @@
 mod layout;
 pub mod lower;
 mod lowerer;
+mod phase;
+mod prepare;
 mod rows;
+#[cfg(test)]
+mod tests;

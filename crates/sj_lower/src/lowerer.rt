@@ -15,12 +15,14 @@ ghost use Rattle.sj_plan.specs.Parts.{Fits};
 ghost use Rattle.sj_lower.specs.Cells.{Cells, cells_from, same_parts};
 ghost use Rattle.sj_lower.specs.Limits.{most};
 ghost use Rattle.sj_lower.specs.Lowering.{Lowering, nothing, load_rows, rows_of};
-ghost use Rattle.sj_lower.specs.Seen.{Follows, HasNext, IsNext, Does, HasRoom, AreIn, access_by, after_writes, pasted_by};
+ghost use Rattle.sj_lower.specs.Seen.{Follows, HasNext, IsNext, HasPass, Passes, Does, HasRoom, AreIn, access_by, after_writes, pasted_by};
 
+use crate::phase::OpenPhase;
 use crate::rows::{Placed, push_deliveries, push_delivers, push_fills, push_loads, push_pastes};
+use indexmap::IndexMap;
 use sj_base::ids::{Line, Root};
 use sj_base::memory::OutOfMemory;
-use sj_base::mode::Access;
+use sj_base::mode::{Access, Reduction};
 use sj_base::program::{Delivery, Lowered};
 use sj_base::sequence::Sequence;
 use sj_base::tile::Dims;
@@ -31,25 +33,28 @@ use sj_plan::count::count_pastes;
 use sj_plan::parts::Parts;
 use std::alloc::Global;
 
-/// A root's active plan with the children that have a value, and the cell of its first child.
+/// A root's active plan with the children that have a value, the cell of its first child, and its reduction, if it has one.
 #[derive(Drop)]
 pub struct Active {
     pub tracked: Tracked,
     pub first: u32,
+    pub reduction: Option<Reduction>,
 }
 
-/// The active plan of each root, the tasks and deliveries so far, and how many print statements there were.
+/// The active plan of each root, the tasks and deliveries so far, how many print statements there were, and the phases of
+/// contributions that are open, by the number of their cell.
 #[derive(Drop)]
 pub struct Lowerer {
     pub actives: Vec<Active>,
     pub tasks: Vec<Lowered>,
     pub deliveries: Vec<Delivery>,
     pub prints: u32,
+    pub phases: IndexMap<u32, OpenPhase>,
 }
 
 impl Active {
     /// The active plan and its cells. Constant time.
-    fn placed(&self) -> Placed
+    pub fn placed(&self) -> Placed
         ensures parts { result.parts ≡ self.now.tracked.parts }
         ensures first { result.first ≡ self.now.first }
     {
@@ -73,6 +78,7 @@ impl Active {
         requires even { IsTrue (all_valued self.old.tracked || none_valued self.old.tracked) }
         ensures tracked { self.new.tracked ≡ even placed.parts (all_valued self.old.tracked) }
         ensures first { self.new.first ≡ placed.first }
+        ensures reduction { self.new.reduction ≡ self.old.reduction }
     {
         self.tracked.plan(placed.parts);
         self.first = placed.first;
@@ -165,6 +171,7 @@ impl Lowerer {
             tasks: Vec::new(alloc),
             deliveries: Vec::new(alloc),
             prints: 0,
+            phases: IndexMap::new(alloc),
         }
     }
 
@@ -180,6 +187,7 @@ impl Lowerer {
                 count_first(init, info.parts)
             }
             Act::Plan(root, parts) => self.count_plan(roots, *root, *parts),
+            Act::Redux(_, _) => 0,
             Act::Task(_) => 1,
             Act::Print(root) => {
                 let parts = self.actives[root.0 as usize].tracked.parts();
@@ -226,6 +234,7 @@ impl Lowerer {
         self.actives.push(Active {
             tracked: Tracked::even(info.parts, valued),
             first,
+            reduction: None,
         })?;
         Ok(())
     }
@@ -311,6 +320,16 @@ impl Lowerer {
         Ok(())
     }
 
+    /// A root with its reduction.
+    fn reduce(&mut self, roots: &Roots, root: Root, by: Reduction, line: Line)
+        requires next { HasNext roots.now self.old (kept.Redux root by) }
+        ensures does { Does roots.now self.old self.new (kept.Redux root by) 0 line }
+        ensures prints { self.new.prints ≡ self.old.prints }
+        ensures tasks { self.new.tasks ≡ self.old.tasks }
+    {
+        self.actives[root.0 as usize].reduction = Some(by);
+    }
+
     /// A root without values.
     fn invalidate(&mut self, roots: &Roots, root: Root, line: Line)
         requires next { HasNext roots.now self.old (kept.Invalidate root) }
@@ -319,6 +338,46 @@ impl Lowerer {
         ensures tasks { self.new.tasks ≡ self.old.tasks }
     {
         self.actives[root.0 as usize].tracked.invalidate();
+    }
+
+    /// The active plans after a statement, whose tasks aren't made. Linear in its operands.
+    pub fn pass(
+        &mut self,
+        alloc: Global,
+        roots: &Roots,
+        act: &Act,
+        first: u32,
+    ) -> Result<(), OutOfMemory>
+        requires pass { HasPass roots.now self.old act.now }
+        requires room { HasRoom roots.now (vec_len self.old.actives) act.now first }
+        ensures passes { OnOk result (Passes roots.now self.old self.new act.now first) }
+        ensures tasks { OnOk result (self.new.tasks ≡ self.old.tasks) }
+        ensures deliveries { OnOk result (self.new.deliveries ≡ self.old.deliveries) }
+        ensures prints { OnOk result (self.new.prints ≡ self.old.prints) }
+        ensures phases { OnOk result (self.new.phases ≡ self.old.phases) }
+    {
+        match act {
+            Act::Register(init) => {
+                let parts = roots.info(Root(self.actives.len() as u32)).parts;
+                self.actives.push(Active {
+                    tracked: Tracked::even(parts, gives_values(init)),
+                    first,
+                    reduction: None,
+                })?;
+            }
+            Act::Plan(root, parts) => {
+                self.actives[root.0 as usize].plan(Placed {
+                    parts: *parts,
+                    first,
+                });
+            }
+            Act::Redux(root, by) => self.actives[root.0 as usize].reduction = Some(*by),
+            Act::Task(task) => write_all(&mut self.actives, alloc, task.operands.items())?,
+            Act::Print(_) => {}
+            Act::Invalidate(root) => self.actives[root.0 as usize].tracked.invalidate(),
+            Act::Unregister(_) => {}
+        }
+        Ok(())
     }
 
     /// Lowers one statement more, where the plan that it makes active has its cells from `first` on. Linear in its operands, and
@@ -342,12 +401,23 @@ impl Lowerer {
         match act {
             Act::Register(init) => self.register(alloc, roots, init, first, line)?,
             Act::Plan(root, parts) => self.plan(alloc, roots, root, Placed { parts, first }, line)?,
+            Act::Redux(root, by) => self.reduce(roots, root, by, line),
             Act::Task(task) => self.task(alloc, roots, task, line)?,
             Act::Print(root) => self.print(alloc, roots, root, line)?,
             Act::Invalidate(root) => self.invalidate(roots, root, line),
             Act::Unregister(_) => {}
         }
         Ok(())
+    }
+}
+
+/// Whether the first elements are values. Constant time.
+fn gives_values(init: &Init) -> bool
+    ensures { result ≡ gives_values init.now }
+{
+    match init {
+        Init::Values(_) | Init::Fill(_, _) => true,
+        Init::Nothing => false,
     }
 }
 

@@ -46,7 +46,7 @@ impl Placed {
 }
 
 /// A task of the runtime's own codelets.
-fn own_task(codelet: Codelet, args: Vec<i64>, accesses: Vec<Access>, line: Line) -> Lowered
+pub fn own_task(codelet: Codelet, args: Vec<i64>, accesses: Vec<Access>, line: Line) -> Lowered
     ensures { result ≡ task_by codelet args.items accesses.items line }
 {
     Lowered {

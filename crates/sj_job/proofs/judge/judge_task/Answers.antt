@@ -43,8 +43,8 @@ returns-in-Some-2-clause-err g c =
     let over : any_over c.in-Some.targets.items ≡ false = ap any_over (sym c.deref.ensures.value) ∙ sym c.any_over.ensures ∙ c.if-any_over.false in
     let k = c.in-Some-kernel_named.kernel in
     let named : kernel_named g.C.Codelets.has c.args.form.now.codelet ≡ Some k = ap (kernel_named g.C.Codelets.has) (sym c.bytes.ensures) ∙ sym c.kernel_named.ensures ∙ c.in-Some-kernel_named.is in
-    let why : first_of (target_reasons k (map integer c.args.form.now.args) c.in-Some.targets.items) ≡ Some c.in-Some-2.why =
-    (λ i. first_of (target_reasons k ((sym c.requires.args ∙ sym c.items-2.ensures) i) (sym c.deref-2.ensures.value i))) ∙ sym c.in_ok-why.ensures ∙ c.in-Some-2.is in
+    let why : first_of (target_reasons g.C.Codelets.has k (map integer c.args.form.now.args) c.in-Some.targets.items) ≡ Some c.in-Some-2.why =
+    (λ i. first_of (target_reasons g.C.Codelets.has k ((sym c.requires.args ∙ sym c.items-2.ensures) i) (sym c.deref-2.ensures.value i))) ∙ sym c.in_ok-why.ensures ∙ c.in-Some-2.is in
     task-why g.C.Codelets.has c.args.names.now c.args.form.now c.in-Some.targets.items k c.in-Some-2.why (record { full = full; early = early; found = found }) over named why
 
 pub returns-clause-ok : goal.returns-clause-ok
@@ -55,8 +55,8 @@ returns-clause-ok g c =
     let over : any_over c.in-Some.targets.items ≡ false = ap any_over (sym c.deref.ensures.value) ∙ sym c.any_over.ensures ∙ c.if-any_over.false in
     let k = c.in-Some-kernel_named.kernel in
     let named : kernel_named g.C.Codelets.has c.args.form.now.codelet ≡ Some k = ap (kernel_named g.C.Codelets.has) (sym c.bytes.ensures) ∙ sym c.kernel_named.ensures ∙ c.in-Some-kernel_named.is in
-    let none : first_of (target_reasons k (map integer c.args.form.now.args) c.in-Some.targets.items) ≡ None =
-    (λ i. first_of (target_reasons k ((sym c.requires.args ∙ sym c.items-2.ensures) i) (sym c.deref-2.ensures.value i))) ∙ sym c.in_ok-why.ensures ∙ c.in_default-2.is in
+    let none : first_of (target_reasons g.C.Codelets.has k (map integer c.args.form.now.args) c.in-Some.targets.items) ≡ None =
+    (λ i. first_of (target_reasons g.C.Codelets.has k ((sym c.requires.args ∙ sym c.items-2.ensures) i) (sym c.deref-2.ensures.value i))) ∙ sym c.in_ok-why.ensures ∙ c.in_default-2.is in
     let small : FitsSigned w32 c.narrowed.result = search rules in
     let wide : FitsSigned w64 c.args.priority = search rules in
     task-ok g.C.Codelets.has c.args.names.now c.args.form.now c.in-Some.targets.items k c.args.args c.of.result (to_z w32 (of_z w32 c.narrowed.result)) (record { full = full; early = early; found = found }) over named none
@@ -68,20 +68,20 @@ returns-clause-roots g c = λ k d lt.
     let found : each_some (target_in c.args.names.now) c.args.form.now.operands ≡ Some c.in-Some.targets.items = ap (each_some (target_in c.args.names.now)) (sym c.items.ensures) ∙ (rw c.in-Some.is at c.in_ok-targets.ensures) in
     let over : any_over c.in-Some.targets.items ≡ false = ap any_over (sym c.deref.ensures.value) ∙ sym c.any_over.ensures ∙ c.if-any_over.false in
     let kernel = c.in-Some-kernel_named.kernel in
-    let none : first_of (target_reasons kernel (map integer c.args.form.now.args) c.in-Some.targets.items) ≡ None =
-    (λ i. first_of (target_reasons kernel ((sym c.requires.args ∙ sym c.items-2.ensures) i) (sym c.deref-2.ensures.value i))) ∙ sym c.in_ok-why.ensures ∙ c.in_default-2.is in
+    let none : first_of (target_reasons g.C.Codelets.has kernel (map integer c.args.form.now.args) c.in-Some.targets.items) ≡ None =
+    (λ i. first_of (target_reasons g.C.Codelets.has kernel ((sym c.requires.args ∙ sym c.items-2.ensures) i) (sym c.deref-2.ensures.value i))) ∙ sym c.in_ok-why.ensures ∙ c.in_default-2.is in
     let os = c.of.ensures ∙ c.in_ok-operands.ensures ∙ ap (map operand_by) c.deref-3.ensures.value in
-    subst (λ xs. IsRoot c.args.names.now.roots (get_or xs k d).root) (sym os) (all-kept c.args.names.now c.args.form.now.operands c.in-Some.targets.items kernel (map integer c.args.form.now.args) k d found over none (subst (λ xs. k < length xs) os lt)).root
+    subst (λ xs. IsRoot c.args.names.now.roots (get_or xs k d).root) (sym os) (all-kept g.C.Codelets.has c.args.names.now c.args.form.now.operands c.in-Some.targets.items kernel (map integer c.args.form.now.args) k d found over none (subst (λ xs. k < length xs) os lt)).root
 
 pub returns-clause-places : goal.returns-clause-places
 returns-clause-places g c = λ k d lt.
     let found : each_some (target_in c.args.names.now) c.args.form.now.operands ≡ Some c.in-Some.targets.items = ap (each_some (target_in c.args.names.now)) (sym c.items.ensures) ∙ (rw c.in-Some.is at c.in_ok-targets.ensures) in
     let over : any_over c.in-Some.targets.items ≡ false = ap any_over (sym c.deref.ensures.value) ∙ sym c.any_over.ensures ∙ c.if-any_over.false in
     let kernel = c.in-Some-kernel_named.kernel in
-    let none : first_of (target_reasons kernel (map integer c.args.form.now.args) c.in-Some.targets.items) ≡ None =
-    (λ i. first_of (target_reasons kernel ((sym c.requires.args ∙ sym c.items-2.ensures) i) (sym c.deref-2.ensures.value i))) ∙ sym c.in_ok-why.ensures ∙ c.in_default-2.is in
+    let none : first_of (target_reasons g.C.Codelets.has kernel (map integer c.args.form.now.args) c.in-Some.targets.items) ≡ None =
+    (λ i. first_of (target_reasons g.C.Codelets.has kernel ((sym c.requires.args ∙ sym c.items-2.ensures) i) (sym c.deref-2.ensures.value i))) ∙ sym c.in_ok-why.ensures ∙ c.in_default-2.is in
     let os = c.of.ensures ∙ c.in_ok-operands.ensures ∙ ap (map operand_by) c.deref-3.ensures.value in
-    subst (λ xs. IsPlaceIn (plan_in (standing_of c.args.names.now (get_or xs k d).root)) (get_or xs k d).place) (sym os) (all-kept c.args.names.now c.args.form.now.operands c.in-Some.targets.items kernel (map integer c.args.form.now.args) k d found over none (subst (λ xs. k < length xs) os lt)).place
+    subst (λ xs. IsPlaceIn (plan_in (standing_of c.args.names.now (get_or xs k d).root)) (get_or xs k d).place) (sym os) (all-kept g.C.Codelets.has c.args.names.now c.args.form.now.operands c.in-Some.targets.items kernel (map integer c.args.form.now.args) k d found over none (subst (λ xs. k < length xs) os lt)).place
 
 pub targets_of-requires-clause-numbered : goal.targets_of-requires-clause-numbered
 targets_of-requires-clause-numbered g c = ap (list_all (λ o. are_counts o.child)) c.items.ensures ∙ c.requires.children

@@ -46,3 +46,13 @@ pub returns-in-Plan-clause-err : goal.returns-in-Plan-clause-err
 returns-in-Plan-clause-err g c =
     subst (λ (f : Form). IfErr c.submit_plan.result (λ e. Objects e (done_in g.C.Codelets.has (scope_in c.args.names.now) f))) (sym c.in-Plan.is)
     (weaker_err c.submit_plan.result (λ e h. h g.C.Codelets.has) c.submit_plan.ensures.err)
+
+pub returns-in-Redux-clause-ok : goal.returns-in-Redux-clause-ok
+returns-in-Redux-clause-ok g c =
+    subst (λ (f : Form). IfOk c.submit_reduction.result (λ a. Submits g.C.Codelets.has c.args.names.now f c.submit_reduction.new.names a)) (sym c.in-Redux.is)
+    (weaker_ok c.submit_reduction.result (λ a h. h g.C.Codelets.has) c.submit_reduction.ensures.ok)
+
+pub returns-in-Redux-clause-err : goal.returns-in-Redux-clause-err
+returns-in-Redux-clause-err g c =
+    subst (λ (f : Form). IfErr c.submit_reduction.result (λ e. Objects e (done_in g.C.Codelets.has (scope_in c.args.names.now) f))) (sym c.in-Redux.is)
+    (weaker_err c.submit_reduction.result (λ e h. h g.C.Codelets.has) c.submit_reduction.ensures.err)

@@ -1,7 +1,7 @@
 use Rattle.std.proofs.Common.{◌∙◌, ap, sym}
 use Rattle.std.specs.List.{list_all}
 use Rattle.sj_job.specs.Word.{is_integer}
-use Rattle.sj_job.specs.Sentence.{is_numbered_priority, are_counts, is_built_mode}
+use Rattle.sj_job.specs.Sentence.{is_numbered_priority, are_counts}
 use Rattle.sj_job.proofs.Submitting.{runs, all_numbered}
 use Rattle.sj_job.proofs.submit.submit_task.Goals as goal
 
@@ -10,11 +10,9 @@ returns-clause-ok g c =
     let t = c.args.task.now in
     let args = rw c.in-Some.is at c.in_ok-args.ensures in
     let counted = ap (list_all (λ o. are_counts o.child)) (sym c.items-2.ensures) ∙ sym c.have_counted_children.ensures ∙ c.if-not-have_counted_children.false in
-    let built = ap (list_all (λ o. is_built_mode o.mode)) (sym c.items-3.ensures) ∙ sym c.are_built.ensures ∙ c.if-not-are_built.false in
     runs g.C.Codelets.has c.args.names.now _ t c.in_ok-task.task (record {
       numbered = all_numbered (list_all is_integer t.args) (list_all (λ o. are_counts o.child) t.operands) (is_numbered_priority t.priority)
           (ap (list_all is_integer) (sym c.items.ensures) ∙ args.0) counted c.in-Some-priority_of.ensures.0;
-      built = built;
       judged = c.in_ok-task.ensures.ok;
       operands = c.in_ok-task.ensures.roots;
       roots = c.in_ok-run.ensures.roots;

@@ -21,6 +21,10 @@ pub returns-in_ok-plan-in-Plan-clause-does : goal.returns-in_ok-plan-in-Plan-cla
 returns-in_ok-plan-in-Plan-clause-does c =
     subst (λ (a : Kept). Does c.args.roots.now c.args.self.now c.plan.new.self a c.args.first c.args.line) (sym c.in-Plan.is) c.in_ok-plan-in-Plan.ensures.does
 
+pub returns-in-Redux-clause-does : goal.returns-in-Redux-clause-does
+returns-in-Redux-clause-does c =
+    subst (λ (a : Kept). Does c.args.roots.now c.args.self.now c.reduce.new.self a c.args.first c.args.line) (sym c.in-Redux.is) (λ S L next place. c.reduce.ensures.does S L next refl)
+
 pub returns-in_ok-task-in-Task-clause-does : goal.returns-in_ok-task-in-Task-clause-does
 returns-in_ok-task-in-Task-clause-does c =
     subst (λ (a : Kept). Does c.args.roots.now c.args.self.now c.task.new.self a c.args.first c.args.line) (sym c.in-Task.is) (λ S L next place. c.in_ok-task-in-Task.ensures.does S L next refl)

@@ -65,7 +65,7 @@ returns-clause-does c =
     let number : c.len-task.result ≡ length l.tasks.items = omega (arith, c.len-task.ensures, l.tasks.ok) in
     does-print c.args.roots.now l _ c.args.root c.args.line
     (c.in_ok-push_delivers.ensures ∙ (λ k. l.tasks.items ++ map (λ place. deliver_row (cells_from (first k) (parts k) place) c.args.line) (places (parts k))))
-    (c.in_ok-push_deliveries.ensures ∙ (λ k. l.deliveries.items ++ map (a_delivery (number k) c.args.root (c.info.ensures k).dims (parts k) l.prints) (places (parts k)))) refl refl
+    (c.in_ok-push_deliveries.ensures ∙ (λ k. l.deliveries.items ++ map (a_delivery (number k) c.args.root (c.info.ensures k).dims (parts k) l.prints) (places (parts k)))) refl refl refl
 
 pub returns-clause-prints : goal.returns-clause-prints
 returns-clause-prints c =

@@ -1,0 +1,236 @@
+-- The phase of a contribution is open: the partial copies and the cell denote together what the contribution adds to.
+use Rattle.std.proofs.Common.{◌≡◌, ℕ, ◌+◌, ◌<◌, ◌≤◌, Bool, true, false, cond, Option, Some, None, List, [], ◌∷◌, ◌++◌, length, refl, sym, ap, subst, ◌∙◌, arith, length-append}
+use Rattle.std.specs.List.{AllByRecursion}
+use Rattle.std.proofs.lemmas.Bool.{false≢true}
+use Rattle.std.proofs.lemmas.List.{append-nil}
+use Rattle.sj_base.specs.declared.ids.Cell.{Cell}
+use Rattle.sj_base.specs.declared.ids.Line.{Line}
+use Rattle.sj_base.specs.declared.mode.Reduction.{Reduction}
+use Rattle.sj_base.specs.declared.program.CellInfo.{CellInfo}
+use Rattle.sj_base.specs.declared.program.Lowered.{Lowered}
+use Rattle.sj_base.specs.declared.program.Program.{Program}
+use Rattle.sj_base.specs.declared.tile.Dims.{Dims}
+use Rattle.sj_base.specs.Array.{Array, zeros}
+use Rattle.sj_codelet.specs.Laws.{IsReduction, IsTile, combined, unit_of}
+use Rattle.sj_core.specs.Program.{same_cell, dims_of}
+use Rattle.sj_core.specs.Proper.{HasValueBefore}
+use Rattle.sj_core.specs.Fold.{Contents, held_in}
+use Rattle.sj_core.proofs.Combining.{unit-same}
+use Rattle.sj_core.proofs.Sized.{AreSized, after_chosen-sized}
+use Rattle.sj_plan.specs.Parts.{IsPlace}
+use Rattle.sj_plan.specs.Rect.{child, dims_of as rect_dims}
+use Rattle.sj_job.specs.State.{Root, State, root_of, child_rect, is_valued_child}
+use Rattle.sj_job.specs.Meaning.{child_array, child_unit, contributed_to}
+use Rattle.sj_lower.specs.declared.phase.OpenPhase.{OpenPhase}
+use Rattle.sj_lower.specs.Cells.{Cells, cell_of, info_at, copy_at, copy_info, first_copy, with_copies}
+use Rattle.sj_lower.specs.Lowering.{Lowering, with_phase, turned, begin_rows, begun, opened, extended}
+use Rattle.sj_lower.proofs.Combined.{Phases, IsTrusted, with_all, all_workers, range-below, denoted-closed, denoted-open}
+use Rattle.sj_lower.proofs.Contents.{first_worker, task_at, contents_before, same_cell-is}
+use Rattle.sj_lower.proofs.Copies.{HaveCopies, IsNoCopy, copies-grow, copies-copied, laid-copied, copied-first, copied-handles}
+use Rattle.sj_lower.proofs.Folding.{Stand, after_rows, contents-rows, one_gives, given-rows, later}
+use Rattle.sj_lower.proofs.Growing.{Grows}
+use Rattle.sj_lower.proofs.Holding.{IsHeld, HasRoot, HaveRoots, HaveTheirs, HasCells, not_copy, differs, cell-dims}
+use Rattle.sj_lower.proofs.Laid.{AreLaid, IsTaken, none_isn't, some_is, cell-is, cell-inside}
+use Rattle.sj_lower.proofs.Phasing.{unit_at, IsBeside, begin-copies, begin-own, begin-valued, begin-others, begin-gives, begin-gives_own, each-of_all}
+use Rattle.sj_lower.proofs.Stating.{Begins, begins-less, stands-more, Agrees, phase-own, phase-other, by_cell}
+
+-- after M the phase of the cell is open, and the cell denotes x; nothing else is changed since L
+pub record IsOpened (p : Program) (L M : Lowering) (c : Cell) (by : Reduction) (x : Array) : Type 0 where
+  pub f : OpenPhase
+  pub is : M.phase c ≡ Some f
+  pub of : f.by ≡ by
+  pub others : (d : Cell) → same_cell c d ≡ false → M.phase d ≡ L.phase d
+  pub handles : M.cells.handles ≡ L.cells.handles
+  pub laid : AreLaid M.cells
+  pub theirs : HaveTheirs p.workers M.cells M.phase
+  pub later : length L.tasks ≤ length M.tasks
+  pub kept : (d : Cell) → same_cell c d ≡ false → IsBeside p f.copies d → held_in p (contents_before p (length M.tasks)) d ≡ held_in p (contents_before p (length L.tasks)) d
+  pub given : HasValueBefore p (task_at (length M.tasks)) c
+  pub copies_given : (w : ℕ) → w < p.workers → HasValueBefore p (task_at (length M.tasks)) (copy_at f.copies w)
+  pub value : IsTrusted p → IsReduction f.by → AreSized p (contents_before p (length M.tasks)) → with_all p (contents_before p (length M.tasks)) f (all_workers p) (held_in p (contents_before p (length M.tasks)) c) ≡ x
+
+-- what is combined from units alone
+all-units : (p : Program) (k : Contents) (f : OpenPhase) (ws : List ℕ) (v : Array) → IsReduction f.by → IsTile v → AllByRecursion (λ w. (u : Array) × (u.dims ≡ v.dims) × (held_in p k (copy_at f.copies w) ≡ unit_of f.by u)) ws → with_all p k f ws v ≡ v
+all-units p k f [] v law tile all = refl
+all-units p k f (w ∷ ws) v law tile all =
+    let u = all.0 in
+    let here : combined f.by (held_in p k (copy_at f.copies w)) v ≡ v = ap (λ (y : Array). combined f.by y v) (u.2 ∙ unit-same f.by u.0 v u.1) ∙ law.unit v tile in
+    ap (with_all p k f ws) here ∙ all-units p k f ws v law tile all.1
+
+-- a child of a name's active plan
+pub record IsChildOf (C : Cells) (S : State) (name : List ℕ) (place : ℕ × ℕ) (c : Cell) (root : Root) : Type 0 where
+  pub is_root : root_of S name ≡ Some root
+  pub placed : IsPlace root.parts place
+  pub cell : c ≡ cell_of C name root.parts place
+
+module _ (p : Program) (L : Lowering) (S : State) (g : Agrees p L S) (name : List ℕ) (place : ℕ × ℕ) (c : Cell) (root : Root) (own : IsChildOf L.cells S name place c root) (by : Reduction) (reduction : root.reduction ≡ Some by) (line : Line) where
+  abbrev b : HasRoot p L.cells L.phase (length L.tasks) (contents_before p (length L.tasks)) name root
+  b = g.roots name root own.is_root
+
+  valued_by : (v : Bool) → is_valued_child root place ≡ v → (f : OpenPhase) → L.phase c ≡ Some f → is_valued_child root place ≡ true
+  valued_by true e f is = e
+  valued_by false e f is = absurd (none_isn't f (sym (b.blank place own.placed e) ∙ ap L.phase (sym own.cell) ∙ is))
+
+  contributed-is : (v : Bool) → is_valued_child root place ≡ v → contributed_to root place ≡ cond v (child_array root place) (child_unit root place)
+  contributed-is v e = ap (λ z. cond z (child_array root place) (child_unit root place)) e
+
+  -- ---- the phase goes on
+
+  abbrev pub Longer : OpenPhase → Lowering
+  Longer f = turned L.cells [] c (Some (extended f line)) L
+
+  no_more : contents_before p (length (L.tasks ++ [])) ≡ contents_before p (length L.tasks)
+  no_more = ap (λ (ts : List Lowered). contents_before p (length ts)) (append-nil L.tasks)
+
+  pub goes_on : (f : OpenPhase) → L.phase c ≡ Some f → IsOpened p L (Longer f) c by (contributed_to root place)
+  goes_on f is =
+      let valued = valued_by (is_valued_child root place) refl f is in
+      let h : IsHeld p L.phase (length L.tasks) (contents_before p (length L.tasks)) c (child_array root place) = subst (λ (d : Cell). IsHeld p L.phase (length L.tasks) (contents_before p (length L.tasks)) d (child_array root place)) (sym own.cell) (b.held place own.placed valued) in
+      record {
+        f = extended f line;
+        is = phase-own c (Some (extended f line)) L.phase;
+        of = some_is f.by by (sym (b.reduced place f own.placed (ap L.phase (sym own.cell) ∙ is)) ∙ reduction);
+        others = λ d e. phase-other c (Some (extended f line)) L.phase d e;
+        handles = refl;
+        laid = g.laid;
+        theirs = record {
+          copies = g.theirs.copies;
+          theirs = λ d j e. by_cell (λ d. with_phase c (Some (extended f line)) L.phase d ≡ Some j → (info_at L.cells d).partials ≡ Some j.copies) c d
+              (λ k. g.theirs.theirs c f is ∙ ap (λ (x : OpenPhase). Some x.copies) (some_is (extended f line) j (sym (phase-own c (Some (extended f line)) L.phase) ∙ k)))
+              (λ other k. g.theirs.theirs _ j (sym (phase-other c (Some (extended f line)) L.phase _ other) ∙ k)) e;
+        };
+        later = omega (arith, length-append L.tasks []);
+        kept = λ d e beside. ap (λ (k : Contents). held_in p k d) no_more;
+        given = later p (length L.tasks) (length (L.tasks ++ [])) c (omega (arith, length-append L.tasks [])) h.given;
+        copies_given = λ w below. later p (length L.tasks) (length (L.tasks ++ [])) (copy_at f.copies w) (omega (arith, length-append L.tasks [])) (h.copies f is w below);
+        value = λ trust law sized. ap (λ (k : Contents). with_all p k (extended f line) (all_workers p) (held_in p k c)) no_more
+            ∙ sym (denoted-open p L.phase (contents_before p (length L.tasks)) c f is) ∙ h.value trust ∙ sym (contributed-is true valued);
+      }
+
+  -- ---- the phase begins
+
+  abbrev pub New : Lowering
+  New = begun p.workers by (is_valued_child root place) line c L
+
+  abbrev first : Cell
+  first = first_copy L.cells c
+
+  abbrev new : OpenPhase
+  new = record { by = by; copies = first; line = line }
+
+  abbrev ls : List Lowered
+  ls = begin_rows by first c (is_valued_child root place) p.workers line
+
+  abbrev now : ℕ
+  now = length (L.tasks ++ ls)
+
+  pub inside : c.0 < length L.cells.rows
+  inside = subst (λ (d : Cell). d.0 < length L.cells.rows) (sym own.cell) (cell-inside L.cells name root.dims root.parts b.first place g.laid b.taken own.placed)
+
+  number-is : c.0 ≡ (cell_of L.cells name root.parts place).0
+  number-is = ap (λ (d : Cell). d.0) own.cell
+
+  alone : IsNoCopy p.workers L.cells c
+  alone d f w partials below same = g.theirs.copies.beside d f w name root.dims root.parts b.first place partials below b.taken own.placed (same ∙ number-is ∙ cell-is L.cells name root.dims root.parts b.first place b.taken)
+
+  copies_after : HaveCopies p.workers (with_copies p.workers c L.cells)
+  copies_after = copies-copied p.workers c L.cells inside alone g.laid g.theirs.copies
+
+  longer : now ≡ length L.tasks + length ls
+  longer = length-append L.tasks ls
+
+  taken_after : IsTaken (with_copies p.workers c L.cells) name root.dims root.parts b.first
+  taken_after = record { handle = b.taken.handle; is = ap (λ h. h name) (copied-handles p.workers c L.cells inside) ∙ b.taken.is; dims = b.taken.dims; first = b.taken.first }
+
+  -- the cell isn't one of its partial copies
+  beside_own : IsBeside p first c
+  beside_own w below = differs (copy_at first w) c (λ e. copies_after.beside c first w name root.dims root.parts b.first place (copied-first p.workers c L.cells inside) below taken_after own.placed
+      (ap (λ (d : Cell). d.0) e ∙ number-is ∙ cell-is L.cells name root.dims root.parts b.first place b.taken))
+
+  module _ (begins : Begins p New) (none : L.phase c ≡ None) where
+    left : contents_before p now ≡ after_rows p (contents_before p (length L.tasks)) ls
+    left = ap (contents_before p) longer ∙ contents-rows p (length L.tasks) ls (stands-more p L New ls refl begins)
+
+    stand : Stand p (length L.tasks) ls
+    stand = stands-more p L New ls refl begins
+
+    given_after : (d : Cell) → HasValueBefore p (task_at (length L.tasks + length ls)) d → HasValueBefore p (task_at now) d
+    given_after d h = subst (λ (m : ℕ). HasValueBefore p (task_at m) d) (sym longer) h
+
+    given_own : (v : Bool) → is_valued_child root place ≡ v → HasValueBefore p (task_at now) c
+    given_own true e = later p (length L.tasks) now c (omega (arith, longer)) (subst (λ (d : Cell). HasValueBefore p (task_at (length L.tasks)) d) (sym own.cell) (b.held place own.placed e).given)
+    given_own false e = given_after c (given-rows p (length L.tasks) ls c stand (subst (λ v. one_gives (begin_rows by first c v p.workers line) c ≡ true) (sym e) (begin-gives_own by first c p.workers line)))
+
+    size : dims_of p c ≡ rect_dims (child root.dims root.parts place)
+    size = ap (dims_of p) own.cell ∙ ap (dims_of p) same ∙ cell-dims p (with_copies p.workers c L.cells) name root.dims root.parts b.first place begins.cells (laid-copied p.workers c L.cells inside g.laid) taken_after own.placed
+      where
+        same : cell_of L.cells name root.parts place ≡ cell_of (with_copies p.workers c L.cells) name root.parts place
+        same = one_cell (cell_of L.cells name root.parts place) (cell_of (with_copies p.workers c L.cells) name root.parts place) (cell-is L.cells name root.dims root.parts b.first place b.taken ∙ sym (cell-is (with_copies p.workers c L.cells) name root.dims root.parts b.first place taken_after))
+          where
+            one_cell : (c d : Cell) → c.0 ≡ d.0 → c ≡ d
+            one_cell c d e = λ i. record { 0 = e i }
+
+    -- a partial copy is as large as the cell
+    copy-size : (w : ℕ) → w < p.workers → dims_of p (copy_at first w) ≡ dims_of p c
+    copy-size w below =
+        let partials = copied-first p.workers c L.cells inside in
+        let g2 = copies-grow p.workers c L.cells inside in
+        begins.cells.dims (first.0 + w) (omega (arith, copies_after.inside c first partials, below))
+        ∙ ap (λ (i : CellInfo). i.dims) (copies_after.copy c first w partials below)
+        ∙ sym (begins.cells.dims c.0 (omega (arith, inside, g2.longer)))
+
+    own_value : IsTrusted p → (v : Bool) → is_valued_child root place ≡ v → held_in p (contents_before p now) c ≡ contributed_to root place
+    own_value trust true e =
+        ap (λ (k : Contents). held_in p k c) left
+        ∙ ap (λ v. held_in p (after_rows p (contents_before p (length L.tasks)) (begin_rows by first c v p.workers line)) c) e
+        ∙ begin-valued p (contents_before p (length L.tasks)) by first c line beside_own
+        ∙ sym (denoted-closed p L.phase (contents_before p (length L.tasks)) c none)
+        ∙ (subst (λ (d : Cell). IsHeld p L.phase (length L.tasks) (contents_before p (length L.tasks)) d (child_array root place)) (sym own.cell) (b.held place own.placed e)).value trust
+        ∙ sym (contributed-is true e)
+    own_value trust false e =
+        ap (λ (k : Contents). held_in p k c) left
+        ∙ ap (λ v. held_in p (after_rows p (contents_before p (length L.tasks)) (begin_rows by first c v p.workers line)) c) e
+        ∙ begin-own p (contents_before p (length L.tasks)) by first c line
+        ∙ unit-same by (zeros (dims_of p c)) (child_array root place) size
+        ∙ sym (ap (λ (o : Option Reduction). elim o as (λ _. Array) [ None ↦ zeros (rect_dims (child_rect root place)) | Some by ↦ unit_of by (child_array root place) ]) reduction)
+        ∙ sym (contributed-is false e)
+
+    pub begins_now : IsOpened p L New c by (contributed_to root place)
+    begins_now = record {
+      f = new;
+      is = phase-own c (Some new) L.phase;
+      of = refl;
+      others = λ d e. phase-other c (Some new) L.phase d e;
+      handles = copied-handles p.workers c L.cells inside;
+      laid = laid-copied p.workers c L.cells inside g.laid;
+      theirs = record {
+        copies = copies_after;
+        theirs = λ d j e. by_cell (λ d. with_phase c (Some new) L.phase d ≡ Some j → (info_at (with_copies p.workers c L.cells) d).partials ≡ Some j.copies) c d
+            (λ k. copied-first p.workers c L.cells inside ∙ ap (λ (x : OpenPhase). Some x.copies) (some_is new j (sym (phase-own c (Some new) L.phase) ∙ k)))
+            (λ other k. (copies-grow p.workers c L.cells inside).kept _ j.copies (g.theirs.theirs _ j (sym (phase-other c (Some new) L.phase _ other) ∙ k))) e;
+      };
+      later = omega (arith, longer);
+      kept = λ d e beside. ap (λ (k : Contents). held_in p k d) left ∙ begin-others p (contents_before p (length L.tasks)) by first c (is_valued_child root place) line d beside e;
+      given = given_own (is_valued_child root place) refl;
+      copies_given = λ w below. given_after (copy_at first w) (given-rows p (length L.tasks) ls (copy_at first w) stand (begin-gives by first c (is_valued_child root place) p.workers line w below));
+      value = λ trust law sized.
+          all-units p (contents_before p now) new (all_workers p) (held_in p (contents_before p now) c) law (sized c).tile
+          (each-of_all (λ w. (u : Array) × (u.dims ≡ (held_in p (contents_before p now) c).dims) × (held_in p (contents_before p now) (copy_at first w) ≡ unit_of by u)) p.workers (λ w below. (
+            zeros (dims_of p (copy_at first w)),
+            copy-size w below ∙ sym (sized c).dims,
+            ap (λ (k : Contents). held_in p k (copy_at first w)) left ∙ begin-copies p (contents_before p (length L.tasks)) by first c (is_valued_child root place) line w beside_own below,
+          )))
+          ∙ own_value trust (is_valued_child root place) refl;
+    }
+
+  -- ---- either way
+
+  pub by_opened : (P : Lowering → Type 0) → ((f : OpenPhase) → L.phase c ≡ Some f → P (Longer f)) → (L.phase c ≡ None → P New) → P (opened p.workers by (is_valued_child root place) line c L)
+  by_opened P some none = by_option (L.phase c) refl
+    where
+      by_option : (o : Option OpenPhase) → L.phase c ≡ o → P (elim o as (λ _. Lowering) [ None ↦ begun p.workers by (is_valued_child root place) line c L | Some f ↦ turned L.cells [] c (Some (extended f line)) L ])
+      by_option None e = none e
+      by_option (Some f) e = some f e
+
+  pub is-opened : Begins p (opened p.workers by (is_valued_child root place) line c L) → IsOpened p L (opened p.workers by (is_valued_child root place) line c L) c by (contributed_to root place)
+  is-opened = by_opened (λ (M : Lowering). Begins p M → IsOpened p L M c by (contributed_to root place)) (λ f e b. goes_on f e) (λ e b. begins_now b e)

@@ -1,0 +1,186 @@
+-- Phases that are closed or opened one after another.
+use Rattle.std.proofs.Common.{◌≡◌, ◌∙◌, ℕ, ◌+◌, ◌<◌, ◌≤◌, Bool, true, false, Option, Some, None, List, [], ◌∷◌, ◌++◌, All, length, map, filter, take, drop, get_or, vec_len, nat_eq, refl, sym, ap, subst, arith}
+use Rattle.std.specs.List.{range_with_len}
+use Rattle.std.proofs.lemmas.List.{get_or_default}
+use Rattle.std.proofs.lemmas.List.Elements.{All-get_or}
+use Rattle.indexmap.specs.IndexMap.{IndexMap, get, with_entries}
+use Rattle.sj_base.specs.declared.ids.Cell.{Cell}
+use Rattle.sj_base.specs.declared.ids.Line.{Line}
+use Rattle.sj_plan.specs.declared.parts.Parts.{Parts}
+use Rattle.sj_plan.specs.Parts.{IsPlace, places}
+use Rattle.sj_plan.proofs.Lists.{pushed_more}
+use Rattle.sj_job.specs.declared.job.Operand.{Operand}
+use Rattle.sj_job.specs.State.{State}
+use Rattle.sj_job.specs.Table.{Table}
+use Rattle.sj_job.specs.Track.{children_count}
+use Rattle.sj_lower.specs.declared.lower.LowerRefusal.{LowerRefusal}
+use Rattle.sj_lower.specs.declared.lower.LowerRefusal.TheVariants.{TooManyCells, TooManyTasks, OutOfMemory}
+use Rattle.sj_lower.specs.declared.lower.Progress.{Progress}
+use Rattle.sj_lower.specs.declared.lowerer.Active.{Active}
+use Rattle.sj_lower.specs.Cells.{cells_from}
+use Rattle.sj_lower.specs.Limits.{most, cells_in, tasks_in}
+use Rattle.sj_lower.specs.Lowering.{Lowering, closed, all_closed, finished}
+use Rattle.sj_lower.specs.Seen.{active_at}
+use Rattle.sj_lower.specs.Progress.{IsAt, HasAt, Prepares, IsFullBy, HasActive, IsActiveOperand, is_other, is_contributed, cells_by, cell_by, opening_for, opening_all}
+use Rattle.sj_lower.proofs.Children.{first_children, child-pushed, all-pushed}
+use Rattle.sj_lower.proofs.Following.{at-default}
+use Rattle.sj_lower.proofs.Matching.{filter-passed, filter-left, filter-parts, closed-snoc, opening-parts, opening_for-more, opening_all-more}
+use Rattle.sj_lower.proofs.Places.{place_at}
+use Rattle.sj_lower.proofs.Preparing.{IsBeside, closed-more, all_closed-more, closes-over, closes-none, prepares-none, prepares-then, prepares-as}
+
+pub beside-itself : (g : Progress) → IsBeside g g
+beside-itself g = record { layout = refl; workers = refl; last = refl; actives = refl; deliveries = refl; prints = refl }
+
+pub prepares-nothing : (g : Progress) (line : Line) → Prepares g g line (λ L. L)
+prepares-nothing g line = prepares-none g g line (λ L. L) refl (beside-itself g) refl (λ d. refl) (λ T S L at. refl)
+
+-- ---- closing
+
+-- one cell more is closed
+pub closes-more : (old now next : Progress) (line : Line) (cs ds : List Cell) (c : Cell) → ds ≡ cs ++ c ∷ [] → Prepares old now line (all_closed old.workers cs) → Prepares now next line (λ L. closed now.workers L c) → Prepares old next line (all_closed old.workers ds)
+closes-more old now next line cs ds c e p q =
+    prepares-as old next line (λ L. closed old.workers (all_closed old.workers cs L) c) (all_closed old.workers ds) (λ T S L at. sym (ap (λ xs. all_closed old.workers xs L) e ∙ closed-snoc old.workers cs c L))
+    (prepares-then old now next line (all_closed old.workers cs) (λ L. closed old.workers L c) (closed-more old.workers c) p (subst (λ (n : ℕ). Prepares now next line (λ L. closed n L c)) p.workers q))
+
+-- where each cell may be left alone, so may all
+closes-all : (g : Progress) (line : Line) (cs : List Cell) → ((c : Cell) → Prepares g g line (λ L. closed g.workers L c)) → Prepares g g line (all_closed g.workers cs)
+closes-all g line [] h = prepares-nothing g line
+closes-all g line (c ∷ cs) h = prepares-then g g g line (λ L. closed g.workers L c) (all_closed g.workers cs) (all_closed-more g.workers cs) (h c) (closes-all g line cs h)
+
+pub over-closes : (g : Progress) (line : Line) (cs : List Cell) → (g.over ≡ None → ⊥) → Prepares g g line (all_closed g.workers cs)
+over-closes g line cs past = closes-all g line cs (λ c. closes-over g line c past)
+
+nothing_in : {X : Type 0} (xs : List X) → length xs ≡ 0 → xs ≡ []
+nothing_in [] h = refl
+nothing_in (x ∷ xs) h = absurd (omega (arith, h))
+
+empty-get : {X S : Type 0} (m : IndexMap ℕ X S) (k : ℕ) → length m.entries ≡ 0 → get nat_eq m k ≡ None
+empty-get m k h = ap (λ es. get nat_eq (with_entries m es) k) (nothing_in m.entries h)
+
+pub empty-closes : (g : Progress) (line : Line) (cs : List Cell) → g.over ≡ None → length g.lowerer.phases.entries ≡ 0 → Prepares g g line (all_closed g.workers cs)
+empty-closes g line cs none empty = closes-all g line cs (λ c. closes-none g g line c none refl (beside-itself g) refl (λ d. refl) (empty-get g.lowerer.phases c.0 empty))
+
+pub child-more : (f : ℕ × ℕ → Cell) (p : Parts) (k : ℕ) (c : Cell) → c ≡ f (place_at p k) → first_children f p (k + 1) ≡ first_children f p k ++ c ∷ []
+child-more f p k c e = sym (child-pushed f p [] (first_children f p k) (first_children f p k ++ c ∷ []) c k refl refl e)
+
+pub children-all : (f : ℕ × ℕ → Cell) (p : Parts) (n : ℕ) → n ≡ children_count p → first_children f p n ≡ map f (places p)
+children-all f p n e = all-pushed f p [] (first_children f p n) n e refl
+
+-- the cells of the first numbers
+abbrev pub first_cells : ℕ → List Cell
+first_cells n = map (λ k. let c : Cell = record { 0 = k } in c) (range_with_len 0 n)
+
+pub cell-more : (k : ℕ) (c : Cell) → c.0 ≡ k → first_cells (k + 1) ≡ first_cells k ++ c ∷ []
+cell-more k c e = sym (pushed_more (λ k. let c : Cell = record { 0 = k } in c) [] (first_cells k) (first_cells k ++ c ∷ []) c k refl refl (λ i. record { 0 = e i }))
+
+pub finishes : (old new : Progress) (line : Line) (n : ℕ) → n ≡ vec_len old.layout.infos → Prepares old new line (all_closed old.workers (first_cells n)) → Prepares old new line (finished old.workers)
+finishes old new line n e p = prepares-as old new line (all_closed old.workers (first_cells n)) (finished old.workers) (λ T S L at. ap (λ m. all_closed old.workers (first_cells m) L) (count T S L at)) p
+  where
+    count : (T : Table) (S : State) (L : Lowering) → IsAt T old S L → n ≡ length L.cells.rows
+    count T S L at = let rows = ap length at.lays.rows in omega (arith, e, old.layout.infos.ok, rows)
+
+-- ---- operands
+
+-- active plans and cells as they were
+still-active : (old new : Progress) (n : ℕ) → new.lowerer.actives ≡ old.lowerer.actives → vec_len old.layout.infos ≤ vec_len new.layout.infos → HasActive old n → HasActive new n
+still-active old new n same more h = record {
+  root = subst (λ as'. n < vec_len as') (sym same) h.root;
+  cells =
+      let here = subst (λ as'. (active_at as'.items n).first + children_count (active_at as'.items n).tracked.parts ≤ vec_len old.layout.infos) (sym same) h.cells in
+      omega (arith, here, more);
+}
+
+still-operand : (old new : Progress) (o : Operand) → new.lowerer.actives ≡ old.lowerer.actives → vec_len old.layout.infos ≤ vec_len new.layout.infos → IsActiveOperand old o → IsActiveOperand new o
+still-operand old new o same more h = record {
+  active = still-active old new o.root.0 same more h.active;
+  place = subst (λ as'. IsPlace (active_at as'.items o.root.0).tracked.parts o.place) (sym same) h.place;
+}
+
+pub operand-now : (old now : Progress) (line : Line) (f : Lowering → Lowering) (o : Operand) → Prepares old now line f → IsActiveOperand old o → IsActiveOperand now o
+operand-now old now line f o p h = still-operand old now o p.actives p.cells h
+
+pub active-now : (old now : Progress) (line : Line) (f : Lowering → Lowering) (n : ℕ) → Prepares old now line f → HasActive old n → HasActive now n
+active-now old now line f n p h = still-active old now n p.actives p.cells h
+
+-- the active plan that the code reads
+pub active-is : (g : Progress) (n : ℕ) (a : Active) → HasActive g n → a ≡ get_or g.lowerer.actives.items n a → a ≡ active_at g.lowerer.actives.items n
+active-is g n a h e = e ∙ at-default g.lowerer.actives.items n a (omega (arith, h.root, g.lowerer.actives.ok.0))
+
+-- the cells of its children
+pub cells-are-by : (a b : Active) (first : ℕ) (p : Parts) (n : ℕ) → a ≡ b → p ≡ a.tracked.parts → first ≡ a.first → n ≡ children_count p → first_children (cells_from first p) p n ≡ cells_by b
+cells-are-by a b first p n e parts from all =
+    children-all (cells_from first p) p n all ∙ (λ i. map (cells_from (from i) (parts i)) (places (parts i))) ∙ ap cells_by e
+
+-- ---- closing operands
+
+-- the cells of those operands so far that are accessed otherwise than by a contribution
+abbrev pub others_so_far : List Active → List Operand → ℕ → List Cell
+others_so_far as' os i = map (cell_by as') (filter is_other (take i os))
+
+pub other-passed : (as' : List Active) (os : List Operand) (i : ℕ) (o : Operand) → i < length os → o ≡ get_or os i o → is_other o ≡ true → others_so_far as' os (i + 1) ≡ others_so_far as' os i ++ cell_by as' o ∷ []
+other-passed as' os i o below is passes = ap (map (cell_by as')) (filter-passed is_other os i o below is passes) ∙ append (filter is_other (take i os))
+  where
+    append : (xs : List Operand) → map (cell_by as') (xs ++ o ∷ []) ≡ map (cell_by as') xs ++ cell_by as' o ∷ []
+    append [] = refl
+    append (x ∷ xs) = ap (λ ys. cell_by as' x ∷ ys) (append xs)
+
+pub other-left : (as' : List Active) (os : List Operand) (i : ℕ) (o : Operand) → i < length os → o ≡ get_or os i o → is_other o ≡ false → others_so_far as' os (i + 1) ≡ others_so_far as' os i
+other-left as' os i o below is fails = ap (map (cell_by as')) (filter-left is_other os i o below is fails)
+
+-- the cell that the code finds for an operand
+cell-found : (old now : Progress) (line : Line) (f : Lowering → Lowering) (o : Operand) (a : Active) (first : ℕ) (parts : Parts) (c : Cell) → Prepares old now line f → IsActiveOperand old o → a ≡ get_or now.lowerer.actives.items o.root.0 a → parts ≡ a.tracked.parts → first ≡ a.first → c ≡ cells_from first parts o.place → c ≡ cell_by old.lowerer.actives.items o
+cell-found old now line f o a first parts c p h read its_parts its_first is =
+    is ∙ (λ i. cells_from (its_first i) (its_parts i) o.place)
+    ∙ ap (λ (b : Active). cells_from b.first b.tracked.parts o.place) (active-is now o.root.0 a (operand-now old now line f o p h).active read ∙ ap (λ as'. active_at as'.items o.root.0) p.actives)
+
+-- one operand more
+pub closes-operand : (old now next : Progress) (line : Line) (os : List Operand) (i : ℕ) (d : Operand) (a : Active) (first : ℕ) (parts : Parts) (c : Cell) → i < length os → All (IsActiveOperand old) os → is_other (get_or os i d) ≡ true → Prepares old now line (all_closed old.workers (others_so_far old.lowerer.actives.items os i))
+    → a ≡ get_or now.lowerer.actives.items (get_or os i d).root.0 a → parts ≡ a.tracked.parts → first ≡ a.first → c ≡ cells_from first parts (get_or os i d).place → Prepares now next line (λ L. closed now.workers L c) → Prepares old next line (all_closed old.workers (others_so_far old.lowerer.actives.items os (i + 1)))
+closes-operand old now next line os i d a first parts c below all passes p read its_parts its_first is q =
+    let as' = old.lowerer.actives.items in
+    let o = get_or os i d in
+    let cell = cell-found old now line (all_closed old.workers (others_so_far as' os i)) o a first parts c p (All-get_or (IsActiveOperand old) os i d below all) read its_parts its_first is in
+    closes-more old now next line (others_so_far as' os i) (others_so_far as' os (i + 1)) c (other-passed as' os i o below (get_or_default os i d o below) passes ∙ ap (λ x. others_so_far as' os i ++ x ∷ []) (sym cell)) p q
+
+pub leaves-operand : (old now : Progress) (line : Line) (os : List Operand) (i : ℕ) (d : Operand) → i < length os → is_other (get_or os i d) ≡ false → Prepares old now line (all_closed old.workers (others_so_far old.lowerer.actives.items os i)) → Prepares old now line (all_closed old.workers (others_so_far old.lowerer.actives.items os (i + 1)))
+leaves-operand old now line os i d below fails p =
+    subst (λ cs. Prepares old now line (all_closed old.workers cs)) (sym (other-left old.lowerer.actives.items os i (get_or os i d) below (get_or_default os i d (get_or os i d) below) fails)) p
+
+-- ---- opening operands
+
+-- the phases of those operands so far that are contributed to
+abbrev pub opened_so_far : Progress → Line → List Operand → ℕ → Lowering → Lowering
+opened_so_far g line os i = opening_all g.workers g.lowerer.actives.items line (filter is_contributed (take i os))
+
+-- one operand more is opened
+pub opens-next : (old now next : Progress) (line : Line) (os : List Operand) (i : ℕ) (o : Operand) → i < length os → o ≡ get_or os i o → is_contributed o ≡ true → Prepares old now line (opened_so_far old line os i) → Prepares now next line (opening_for now.workers now.lowerer.actives.items line o) → Prepares old next line (opened_so_far old line os (i + 1))
+opens-next old now next line os i o below is passes p q =
+    let w = old.workers in
+    let as' = old.lowerer.actives.items in
+    let so_far = filter is_contributed (take i os) in
+    prepares-as old next line (λ L. opening_for w as' line o (opening_all w as' line so_far L)) (opened_so_far old line os (i + 1))
+    (λ T S L at. sym (ap (λ us. opening_all w as' line us L) (filter-passed is_contributed os i o below is passes) ∙ opening-parts w as' line so_far (o ∷ []) L))
+    (prepares-then old now next line (opening_all w as' line so_far) (opening_for w as' line o) (λ L. (opening_for-more w as' line o L).0) p
+    (subst (λ (n : ℕ). Prepares now next line (opening_for n as' line o)) p.workers (subst (λ a. Prepares now next line (opening_for now.workers a.items line o)) p.actives q)))
+
+pub opens-left : (old now : Progress) (line : Line) (os : List Operand) (i : ℕ) (o : Operand) → i < length os → o ≡ get_or os i o → is_contributed o ≡ false → Prepares old now line (opened_so_far old line os i) → Prepares old now line (opened_so_far old line os (i + 1))
+opens-left old now line os i o below is fails p = subst (λ us. Prepares old now line (opening_all old.workers old.lowerer.actives.items line us)) (sym (filter-left is_contributed os i o below is fails)) p
+
+-- there are too many cells with an operand's, so there are with all
+pub opens-full : (old now : Progress) (line : Line) (os : List Operand) (i : ℕ) (o : Operand) (e : LowerRefusal) → i < length os → o ≡ get_or os i o → is_contributed o ≡ true → Prepares old now line (opened_so_far old line os i) → IsFullBy now line (opening_for now.workers now.lowerer.actives.items line o) e → IsFullBy old line (opening_all old.workers old.lowerer.actives.items line (filter is_contributed os)) e
+opens-full old now line os i o OutOfMemory below is passes p full = tt
+opens-full old now line os i o (TooManyTasks at) below is passes p full = full
+opens-full old now line os i o (TooManyCells at) below is passes p full = (
+  full.0,
+  λ T S L at.
+      let w = old.workers in
+      let as' = old.lowerer.actives.items in
+      let so_far = filter is_contributed (take i os) in
+      let M = opening_all w as' line so_far L in
+      let here : most < cells_in (opening_for w as' line o M) = subst (λ (n : ℕ). most < cells_in (opening_for n as' line o M)) p.workers (subst (λ a. most < cells_in (opening_for now.workers a.items line o M)) p.actives (full.1 T S M (p.at T S L at))) in
+      let rest = filter is_contributed (drop (i + 1) os) in
+      let parts : filter is_contributed os ≡ (so_far ++ o ∷ []) ++ rest = filter-parts is_contributed os (i + 1) ∙ ap (λ us. us ++ rest) (filter-passed is_contributed os i o below is passes) in
+      let whole : opening_all w as' line (filter is_contributed os) L ≡ opening_all w as' line rest (opening_for w as' line o M) =
+      ap (λ us. opening_all w as' line us L) parts ∙ opening-parts w as' line (so_far ++ o ∷ []) rest L ∙ ap (opening_all w as' line rest) (opening-parts w as' line so_far (o ∷ []) L) in
+      omega (arith, here, (opening_all-more w as' line rest (opening_for w as' line o M)).1, ap cells_in whole),
+)

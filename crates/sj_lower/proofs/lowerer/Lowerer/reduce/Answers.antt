@@ -1,0 +1,14 @@
+use Rattle.std.proofs.Common.{◌≡◌, ◌∙◌, refl, arith}
+use Rattle.std.proofs.Math.ListN.{set}
+use Rattle.sj_lower.specs.Seen.{active_at}
+use Rattle.sj_lower.proofs.Following.{does-redux, reduced_active, at-default}
+use Rattle.sj_lower.proofs.lowerer.Lowerer.reduce.Goals as goal
+
+pub returns-clause-does : goal.returns-clause-does
+returns-clause-does c =
+    let l = c.args.self.now in
+    let i = c.args.root.0 in
+    let next = c.requires.next.next in
+    let is : c.index_mut.result.now ≡ active_at l.actives.items i = c.index_mut.ensures.value ∙ at-default l.actives.items i c.index_mut.result.now (omega (arith, next.placed, next.follows.actives.counted)) in
+    does-redux c.args.roots.now l _ c.args.root c.args.by c.args.line refl refl refl refl
+    (λ k. set l.actives.items i (reduced_active (is k) c.args.by))

@@ -1,0 +1,7 @@
+use Rattle.std.proofs.Common.{◌≡◌, ◌++◌}
+use Rattle.sj_lower.specs.Rows.{combine_rows}
+use Rattle.sj_lower.proofs.phase.push_close.Given as goal
+
+-- the copies of the workers so far are combined
+abbrev pub invariant-loop-w : goal.invariant-loop-w
+invariant-loop-w l = l.tasks.items ≡ l.initial.tasks.items ++ combine_rows l.phase l.cell l.w
