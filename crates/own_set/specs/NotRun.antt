@@ -28,7 +28,7 @@ pub record IsReady (job : Result Job Refusal) (disks : List ℕ) (r : Ready) : T
 -- room for it, or memory ran out
 abbrev pub IsNotReady : NotReady → Result Job Refusal → List ℕ → Type 0
 IsNotReady (Text e) job disks = IsRefusal e job
-IsNotReady (Limit e) job disks = IsOkAnd job (λ j. IsLate e (late_limit j.statements))
+IsNotReady (Limit e) job disks = IsOkAnd job (λ j. IsLate e (late_limit (small_machine disks).workers j.statements))
 IsNotReady Codelet job disks = IsOkAnd job (λ j. ¬ HasCodelets (program_of j.statements))
 IsNotReady (Lacking s) job disks = IsOkAnd job (λ j. IsShortage (program_of j.statements) (small_machine disks) s)
 IsNotReady OutOfMemory job disks = Unit {0}

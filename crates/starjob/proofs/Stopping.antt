@@ -22,10 +22,10 @@ use Rattle.starjob.specs.Work.{Work, WorkOrRefusal, asked_by, machine_for, progr
 abbrev limited : Work → Option Refusal → WorkOrRefusal
 limited w late = elim late [ None ↦ Ok w | Some e ↦ Err e ]
 
-pub within : (w : Work) → late_limit w.statements ≡ None → within_limits w ≡ Ok w
+pub within : (w : Work) → late_limit w.machine.workers w.statements ≡ None → within_limits w ≡ Ok w
 within w e = ap (limited w) e
 
-pub stopped-lowering : (w : Work) (e : LowerRefusal) → IsLate e (late_limit w.statements) → IsStopped (within_limits w) (after_lowering e)
+pub stopped-lowering : (w : Work) (e : LowerRefusal) → IsLate e (late_limit w.machine.workers w.statements) → IsStopped (within_limits w) (after_lowering e)
 stopped-lowering w (lowering.TooManyCells line) h = ap (limited w) h
 stopped-lowering w (lowering.TooManyTasks line) h = ap (limited w) h
 stopped-lowering w lowering.OutOfMemory h = tt

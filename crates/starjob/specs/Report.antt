@@ -6,7 +6,7 @@ use Rattle.sj_base.specs.declared.ids.Line.{Line}
 use Rattle.sj_disk.specs.declared.header.Header.{Header}
 use Rattle.sj_edge.specs.Faults.{Rose}
 use Rattle.sj_job.specs.declared.reason.Reason.{Reason}
-use Rattle.sj_job.specs.declared.reason.Reason.TheVariants.{Header as NoHeader, Word, Number, UnknownName, TakenName, UnknownCodelet, OperandCount, Shape, Part, Aliased, NoValue, NoReduction, NotLawful, MixedOutputs, Limit, EndedName, NotBuilt}
+use Rattle.sj_job.specs.declared.reason.Reason.TheVariants.{Header as NoHeader, Word, Number, UnknownName, TakenName, UnknownCodelet, OperandCount, Shape, Part, Aliased, NoValue, NoReduction, NotLawful, MixedOutputs, Limit, EndedName}
 use Rattle.sj_job.specs.declared.reason.LimitKind.{LimitKind}
 use Rattle.sj_job.specs.declared.reason.LimitKind.TheVariants.{Text, Statements, Workers, Nodes, NodeBytes, Names, Elements, Parts, Priority, Cells, Tasks}
 use Rattle.starjob.specs.declared.status.Status.{Status}
@@ -45,7 +45,6 @@ reason_word NotLawful = codes "not lawful"
 reason_word MixedOutputs = codes "mixed outputs"
 reason_word (Limit kind) = codes "limit "
 reason_word EndedName = codes "ended name"
-reason_word NotBuilt = codes "not built"
 
 abbrev pub limit_word : Reason → List ℕ
 limit_word (Limit kind) = limit_name kind

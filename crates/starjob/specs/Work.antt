@@ -34,9 +34,9 @@ machine_for o disks g = machine_by o (workers_of g) (nodes_of g) (policy_set g) 
 abbrev pub WorkOrRefusal : Type 0
 WorkOrRefusal = Result Work Refusal
 
--- work whose statements exceed a limit of lowering is refused at the line that first does
+-- work whose statements exceed a limit of lowering, for as many workers as the machine has, is refused at the line that first does
 abbrev pub within_limits : Work → WorkOrRefusal
-within_limits w = elim (late_limit w.statements) [ None ↦ Ok w | Some e ↦ Err e ]
+within_limits w = elim (late_limit w.machine.workers w.statements) [ None ↦ Ok w | Some e ↦ Err e ]
 
 -- the work that options make of a job, with disks of these sizes
 abbrev pub work_with : Options → List ℕ → Job → Work

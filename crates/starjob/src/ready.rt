@@ -1,12 +1,14 @@
 //! A job made ready: its program, and the machine that is to run it.
 
-ghost use Rattle.std.specs.Prelude.{◌≡◌, ◌≤◌, ◌^◌, All, FitsSigned, IfOk, IfErr, None, length};
+ghost use Rattle.std.specs.Prelude.{◌≡◌, ◌<◌, ◌≤◌, ◌^◌, Bool, IsTrue, All, FitsSigned, IfOk, IfErr, None, length};
 ghost use Rattle.std.specs.Int.{w64};
 ghost use Rattle.sj_codelet.specs.Laws.{CommutingCommute, ContributingContribute, ReductionsReduce};
+ghost use Rattle.sj_codelet.specs.declared.kernel.Kernel.{Kernel};
+ghost use Rattle.sj_core.specs.Laws.{IsLawful, is_known};
 ghost use Rattle.sj_core.specs.Proper.{HasSwapFor, Proper};
 ghost use Rattle.sj_job.specs.View.{statements_of, IsNumbered};
 ghost use Rattle.sj_lower.specs.Delivering.{DeliversPrinted, NamesDeliverTasks};
-ghost use Rattle.sj_lower.specs.Job.{IsJob};
+ghost use Rattle.sj_lower.specs.Job.{IsJob, IsJobIn};
 ghost use Rattle.sj_lower.specs.Limits.{late_limit};
 ghost use Rattle.sj_lower.specs.Lowering.{lowered};
 ghost use Rattle.sj_job.specs.Settings.{IsWithinLimits};
@@ -101,17 +103,19 @@ fn shareable(alloc: Global, program: Program) -> Result<Arc<Program>, OutOfMemor
 fn lowered_for(alloc: Global, job: Job, machine: Machine, shows_trace: bool) -> Result<Ready, Stop>
     requires job { IsJob (statements_of job) }
     requires numbered { IsNumbered job.roots job.statements }
-    ensures within { IfOk result (λ _. late_limit (statements_of job) ≡ None) }
+    ensures within { IfOk result (λ _. late_limit machine.workers (statements_of job) ≡ None) }
     ensures program { IfOk result (λ r.
         r.program.value ≡ lowered (statements_of job) machine.workers) }
     ensures machine { IfOk result (λ r. r.machine ≡ machine) }
     ensures trace { IfOk result (λ r. r.shows_trace ≡ shows_trace) }
     ensures proper { IfOk result (λ r. Proper r.program.value) }
-    ensures prints { IfOk result (λ r.
-        DeliversPrinted r.roots r.program.value (statements_of job)) }
+    ensures known { IfOk result (λ r. (has : Kernel → Bool) → IsJobIn has (statements_of job)
+        → All (λ l. IsTrue (is_known has l.codelet)) r.program.value.tasks) }
+    ensures prints { IfOk result (λ r. (has : Kernel → Bool) → IsLawful has r.program.value
+        → 0 < machine.workers → DeliversPrinted r.roots r.program.value (statements_of job)) }
     ensures handed_over { IfOk result (λ r. NamesDeliverTasks r.program.value) }
     ensures stopped { IfErr result (λ stop. (w : Work) → w.statements ≡ statements_of job →
-        IsStopped (within_limits w) stop) }
+        w.machine ≡ machine → IsStopped (within_limits w) stop) }
 {
     let LoweredJob { program, roots } = lower(alloc, job, machine.workers)?;
     let program = shareable(alloc, program)?;

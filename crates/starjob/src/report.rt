@@ -58,7 +58,6 @@ fn reason_word(reason: Reason) -> &'static [u8]
         Reason::MixedOutputs => b"mixed outputs",
         Reason::Limit(_) => b"limit ",
         Reason::EndedName => b"ended name",
-        Reason::NotBuilt => b"not built",
     }
 }
 

@@ -1,17 +1,17 @@
 use Rattle.std.proofs.Common.{◌≡◌, ◌≤◌, ap, ◌∙◌, refl, subst, sym, Result, Ok, Err, IfErr, length}
-use Rattle.std.specs.Prelude.{All, FitsSigned, IsErrAnd, IsTrue}
+use Rattle.std.specs.Prelude.{All, FitsSigned, IsErrAnd}
 use Rattle.std.specs.Int.{w64}
 use Rattle.sj_base.specs.declared.program.Lowered.{Lowered}
 use Rattle.sj_base.specs.declared.program.Machine.{Machine}
 use Rattle.sj_base.specs.declared.program.Program.{Program}
-use Rattle.sj_core.specs.Laws.{is_known}
+use Rattle.sj_core.specs.Laws.{IsLawful}
 use Rattle.sj_core.specs.Proper.{IsMachineFor}
 use Rattle.sj_job.specs.View.{job_seen}
 use Rattle.starjob.specs.declared.stop.Stop.{Stop}
 use Rattle.starjob.specs.Answers.{IsStopped}
 use Rattle.starjob.specs.Work.{Work, WorkOrRefusal, work_of}
 use Rattle.starjob.specs.Stops.{after_fitting}
-use Rattle.starjob.proofs.Known.{known-lowered}
+use Rattle.starjob.proofs.Known.{job-in}
 use Rattle.starjob.proofs.Stopping.{asked-is, stopped-fitting, within}
 use Rattle.starjob.proofs.ready.prepare.Goals as goal
 
@@ -30,7 +30,7 @@ returns-in_err-ready-clause-stopped g c =
     let w : Work = record { statements = job.statements; machine = m; shows_trace = o.trace } in
     let same = asked-is has o disks text job m c.in_ok-job.ensures.ok c.in_ok-machine.ensures.machine in
     as_handed c.from_residual-in_err-ready.result c.in_err-ready.field-0.0 (IsStopped (work_of has o disks text)) c.from_residual-in_err-ready.ensures.1
-    (subst (λ (a : WorkOrRefusal). IsStopped a c.in_err-ready.field-0.0) same (c.in_err-ready.ensures.stopped w refl))
+    (subst (λ (a : WorkOrRefusal). IsStopped a c.in_err-ready.field-0.0) same (c.in_err-ready.ensures.stopped w refl refl))
 
 pub returns-in_err-fits-clause-stopped : goal.returns-in_err-fits-clause-stopped
 returns-in_err-fits-clause-stopped g c =
@@ -61,6 +61,13 @@ returns-clause-ready g c =
     let limits = c.in_ok-machine.ensures in
     let few : length m.disks ≤ 16 = subst (λ (n : Machine). length n.disks ≤ 16) (sym limits.machine) c.requires.few in
     let workers : p.workers ≡ m.workers = ap (λ (q : Program). q.workers) r.program in
+    let lawful : IsLawful has p = record {
+      known = r.known has (job-in has c.requires.own job.statements c.in_ok-job.ensures.well);
+      arguments = subst (λ (q : Program). All (λ (l : Lowered). All (FitsSigned w64) l.args) q.tasks) c.deref.ensures c.arguments_fit.ensures;
+      commuting = c.laws_of.ensures.commuting;
+      contributing = c.laws_of.ensures.contributing;
+      reducing = c.laws_of.ensures.reducing;
+    } in
     record {
       work = w;
       asked_for = sym (asked-is has o disks text job m c.in_ok-job.ensures.ok limits.machine) ∙ within w r.within;
@@ -68,13 +75,7 @@ returns-clause-ready g c =
       machine_is = r.machine;
       trace_is = r.trace;
       proper = r.proper;
-      lawful = record {
-        known = subst (λ (q : Program). All (λ (l : Lowered). IsTrue (is_known has l.codelet)) q.tasks) (sym r.program) (known-lowered has c.requires.own job.statements m.workers c.in_ok-job.ensures.well);
-        arguments = subst (λ (q : Program). All (λ (l : Lowered). All (FitsSigned w64) l.args) q.tasks) c.deref.ensures c.arguments_fit.ensures;
-        commuting = c.laws_of.ensures.commuting;
-        contributing = c.laws_of.ensures.contributing;
-        reducing = c.laws_of.ensures.reducing;
-      };
+      lawful = lawful;
       machine_for = subst (λ (n : Machine). IsMachineFor p n) (sym r.machine) (record {
         workers = sym workers;
         some_worker = limits.workers.0;
@@ -83,6 +84,6 @@ returns-clause-ready g c =
         few_nodes = limits.nodes.few;
         few_disks = few;
       });
-      prints = r.prints;
+      prints = r.prints has lawful limits.workers.0;
       named = r.handed_over;
     }
