@@ -168,7 +168,7 @@ const PRINTINGS: [Printing; 30] = [
     },
 ];
 
-const REFUSALS: [Refusal; 52] = [
+const REFUSALS: [Refusal; 54] = [
     Refusal {
         shows: "no line",
         text: "",
@@ -290,19 +290,29 @@ const REFUSALS: [Refusal; 52] = [
         err: "starjob: line 2: word\n",
     },
     Refusal {
-        shows: "a reduction",
-        text: "starjob 1\nvector s 1 values 0\nredux s plus\n",
-        err: "starjob: line 3: not built\n",
+        shows: "a second reduction",
+        text: "starjob 1\nvector s 1 values 0\nredux s plus\nredux s least\n",
+        err: "starjob: line 4: taken name\n",
     },
     Refusal {
-        shows: "contributions",
+        shows: "a contribution to an array without a reduction",
         text: "starjob 1\nvector x 1 values 1\nvector s 1 values 1\ntask sum x:R s:REDUX\n",
-        err: "starjob: line 4: not built\n",
+        err: "starjob: line 4: no reduction\n",
     },
     Refusal {
-        shows: "commuting tasks",
-        text: "starjob 1\nvector x 1 values 1\nvector y 1 values 1\ntask axpy(1) x:R y:COMMUTE\n",
-        err: "starjob: line 4: not built\n",
+        shows: "tasks whose runs may not change places",
+        text: "starjob 1\nvector x 1 values 1\nvector y 1 values 1\ntask copy x:R y:COMMUTE\n",
+        err: "starjob: line 4: not lawful\n",
+    },
+    Refusal {
+        shows: "a contribution to a reduction by others",
+        text: "starjob 1\nvector x 1 values 1\nvector s 1 none\nredux s least\ntask sum x:R s:REDUX\n",
+        err: "starjob: line 5: not lawful\n",
+    },
+    Refusal {
+        shows: "a commuting operand beside another output",
+        text: "starjob 1\nvector x 1 values 1\nvector y 1 values 1\ntask butterfly x:COMMUTE y:RW\n",
+        err: "starjob: line 4: mixed outputs\n",
     },
     Refusal {
         shows: "a priority above its range",
