@@ -10,7 +10,10 @@ use Rattle.sj_base.specs.declared.mode.Reduction.{Reduction}
 use Rattle.sj_plan.specs.declared.parts.Parts.{Parts}
 use Rattle.sj_plan.specs.Parts.{IsPlace, places}
 use Rattle.sj_plan.proofs.Lists.{pushed_more}
+use Rattle.sj_job.specs.declared.job.Act.{Act}
+use Rattle.sj_job.specs.declared.job.Act.TheVariants as kept
 use Rattle.sj_job.specs.declared.job.Operand.{Operand}
+use Rattle.sj_job.specs.declared.job.TaskLine.{TaskLine}
 use Rattle.sj_job.specs.State.{State}
 use Rattle.sj_job.specs.Table.{Table}
 use Rattle.sj_job.specs.Track.{children_count, is_set}
@@ -22,7 +25,7 @@ use Rattle.sj_lower.specs.Cells.{Cells, cells_from, with_copies}
 use Rattle.sj_lower.specs.Limits.{most, cells_in, tasks_in}
 use Rattle.sj_lower.specs.Lowering.{Lowering, closed, all_closed, opened, finished}
 use Rattle.sj_lower.specs.Seen.{Lays, active_at}
-use Rattle.sj_lower.specs.Progress.{IsAt, HasAt, Prepares, IsFullBy, HasActive, IsActiveOperand, is_other, is_contributed, cells_by, cell_by, opening_for, opening_all}
+use Rattle.sj_lower.specs.Progress.{IsAt, HasAt, Prepares, IsFullBy, HasActive, IsActiveOperand, is_other, is_contributed, cells_by, cell_by, closing_by, contributed_by, opening_for, opening_all, preparing_by}
 use Rattle.sj_lower.proofs.Children.{first_children, child-pushed, all-pushed}
 use Rattle.sj_lower.proofs.Following.{at-default}
 use Rattle.sj_lower.proofs.Matching.{filter-passed, filter-left, filter-parts, closed-snoc, opening-parts, opening_for-more, opening_all-more}
@@ -243,7 +246,58 @@ module _ (g : Progress) (line : Line) (o : Operand) (c : Cell) (by : Reduction) 
       (λ T S L at. opened-copied g.workers by v line c L (let rows = ap length at.lays.rows in omega (arith, found-there, g.layout.infos.ok, rows)) at.copied ∙ opening-is L)
       (prepares-then g mid new line (copied_by g.workers c) (opened g.workers by v line c) (λ L. (opened-more g.workers by v line c L).0) (copies-prepare g mid line c first found-there copies few workers h over lowerer last) q)
 
+-- ---- a statement
+
+-- only a task contributes
+none-contributed : (a : Act) → ((t : TaskLine) → a ≡ kept.Task t → ⊥) → contributed_by a ≡ []
+none-contributed (kept.Register init) other = refl
+none-contributed (kept.Plan r p) other = refl
+none-contributed (kept.Redux r by) other = refl
+none-contributed (kept.Task t) other = absurd (other t refl)
+none-contributed (kept.Print r) other = refl
+none-contributed (kept.Invalidate r) other = refl
+none-contributed (kept.Unregister r) other = refl
+
+-- what is closed is all, where a statement contributes to nothing
+pub prepares-other : (old new : Progress) (line : Line) (a : Act) → ((t : TaskLine) → a ≡ kept.Task t → ⊥) → Prepares old new line (all_closed old.workers (closing_by old.lowerer.actives.items a)) → Prepares old new line (preparing_by old.workers old.lowerer.actives.items line a)
+prepares-other old new line a other p =
+    let as' = old.lowerer.actives.items in
+    subst (λ us. Prepares old new line (λ L. opening_all old.workers as' line us (all_closed old.workers (closing_by as' a) L))) (sym (none-contributed a other)) p
+
+-- the operands to which a task contributes
+task-contributes : (a : Act) (t : TaskLine) (os : List Operand) → a ≡ kept.Task t → os ≡ t.operands → filter is_contributed os ≡ contributed_by a
+task-contributes a t os is same = ap (filter is_contributed) same ∙ ap contributed_by (sym is)
+
+pub prepares-task : (old mid new : Progress) (line : Line) (a : Act) (t : TaskLine) (os : List Operand) → a ≡ kept.Task t → os ≡ t.operands → Prepares old mid line (all_closed old.workers (closing_by old.lowerer.actives.items a)) → Prepares mid new line (opening_all mid.workers mid.lowerer.actives.items line (filter is_contributed os)) → Prepares old new line (preparing_by old.workers old.lowerer.actives.items line a)
+prepares-task old mid new line a t os is same p q =
+    let w = old.workers in
+    let as' = old.lowerer.actives.items in
+    let us = filter is_contributed os in
+    let f = all_closed w (closing_by as' a) in
+    let r = subst (λ (n : ℕ). Prepares mid new line (opening_all n as' line us)) p.workers (subst (λ b. Prepares mid new line (opening_all mid.workers b.items line us)) p.actives q) in
+    subst (λ vs. Prepares old new line (λ L. opening_all w as' line vs (f L))) (task-contributes a t os is same)
+    (prepares-then old mid new line f (opening_all w as' line us) (λ L. (opening_all-more w as' line us L).0) p r)
+
+-- there are too many cells with the partial copies of a task's contributions
+pub full-task : (old mid : Progress) (line : Line) (a : Act) (t : TaskLine) (os : List Operand) (e : LowerRefusal) → a ≡ kept.Task t → os ≡ t.operands → Prepares old mid line (all_closed old.workers (closing_by old.lowerer.actives.items a)) → IsFullBy mid line (opening_all mid.workers mid.lowerer.actives.items line (filter is_contributed os)) e → IsFullBy old line (preparing_by old.workers old.lowerer.actives.items line a) e
+full-task old mid line a t os OutOfMemory is same p full = tt
+full-task old mid line a t os (TooManyTasks at) is same p full = full
+full-task old mid line a t os (TooManyCells at) is same p full = (
+  full.0,
+  λ T S L at.
+      let w = old.workers in
+      let as' = old.lowerer.actives.items in
+      let us = filter is_contributed os in
+      let M = all_closed w (closing_by as' a) L in
+      let many : most < cells_in (opening_all w as' line us M) = subst (λ (n : ℕ). most < cells_in (opening_all n as' line us M)) p.workers (subst (λ b. most < cells_in (opening_all mid.workers b.items line us M)) p.actives (full.1 T S M (p.at T S L at))) in
+      subst (λ vs. most < cells_in (opening_all w as' line vs M)) (task-contributes a t os is same) many,
+)
+
 -- ---- errors
+
+pub if-err : {A E : Type 0} {P Q : E → Type 0} (r : Result A E) → ((e : E) → P e → Q e) → IfErr r P → IfErr r Q
+if-err (Ok x) f h = tt
+if-err (Err e) f h = f e h
 
 -- an error that is handed on
 pub handed-on : {A : Type 0} (r : Result A LowerRefusal) (e : LowerRefusal) (P : LowerRefusal → Type 0) → IsErrAnd r (λ x. x ≡ e) → P e → IfErr r P
