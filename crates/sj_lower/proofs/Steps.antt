@@ -1,31 +1,36 @@
 -- Phases that are closed or opened one after another.
-use Rattle.std.proofs.Common.{◌≡◌, ◌∙◌, ℕ, ◌+◌, ◌<◌, ◌≤◌, Bool, true, false, Option, Some, None, List, [], ◌∷◌, ◌++◌, All, length, map, filter, take, drop, get_or, vec_len, nat_eq, refl, sym, ap, subst, arith}
+use Rattle.std.proofs.Common.{◌≡◌, ◌∙◌, ℕ, ◌+◌, ◌<◌, ◌≤◌, Bool, true, false, Option, Some, None, List, [], ◌∷◌, ◌++◌, All, length, map, filter, take, drop, get_or, vec_len, nat_eq, refl, sym, ap, subst, arith, Result, Ok, Err, IfErr, IsErrAnd}
 use Rattle.std.specs.List.{range_with_len}
 use Rattle.std.proofs.lemmas.List.{get_or_default}
 use Rattle.std.proofs.lemmas.List.Elements.{All-get_or}
 use Rattle.indexmap.specs.IndexMap.{IndexMap, get, with_entries}
 use Rattle.sj_base.specs.declared.ids.Cell.{Cell}
 use Rattle.sj_base.specs.declared.ids.Line.{Line}
+use Rattle.sj_base.specs.declared.mode.Reduction.{Reduction}
 use Rattle.sj_plan.specs.declared.parts.Parts.{Parts}
 use Rattle.sj_plan.specs.Parts.{IsPlace, places}
 use Rattle.sj_plan.proofs.Lists.{pushed_more}
+use Rattle.sj_job.specs.declared.job.Act.{Act}
+use Rattle.sj_job.specs.declared.job.Act.TheVariants as kept
 use Rattle.sj_job.specs.declared.job.Operand.{Operand}
+use Rattle.sj_job.specs.declared.job.TaskLine.{TaskLine}
 use Rattle.sj_job.specs.State.{State}
 use Rattle.sj_job.specs.Table.{Table}
-use Rattle.sj_job.specs.Track.{children_count}
+use Rattle.sj_job.specs.Track.{children_count, is_set}
 use Rattle.sj_lower.specs.declared.lower.LowerRefusal.{LowerRefusal}
 use Rattle.sj_lower.specs.declared.lower.LowerRefusal.TheVariants.{TooManyCells, TooManyTasks, OutOfMemory}
 use Rattle.sj_lower.specs.declared.lower.Progress.{Progress}
 use Rattle.sj_lower.specs.declared.lowerer.Active.{Active}
-use Rattle.sj_lower.specs.Cells.{cells_from}
+use Rattle.sj_lower.specs.Cells.{Cells, cells_from, with_copies}
 use Rattle.sj_lower.specs.Limits.{most, cells_in, tasks_in}
-use Rattle.sj_lower.specs.Lowering.{Lowering, closed, all_closed, finished}
-use Rattle.sj_lower.specs.Seen.{active_at}
-use Rattle.sj_lower.specs.Progress.{IsAt, HasAt, Prepares, IsFullBy, HasActive, IsActiveOperand, is_other, is_contributed, cells_by, cell_by, opening_for, opening_all}
+use Rattle.sj_lower.specs.Lowering.{Lowering, closed, all_closed, opened, finished}
+use Rattle.sj_lower.specs.Seen.{Lays, active_at}
+use Rattle.sj_lower.specs.Progress.{IsAt, HasAt, Prepares, IsFullBy, HasActive, IsActiveOperand, is_other, is_contributed, cells_by, cell_by, closing_by, contributed_by, opening_for, opening_all, preparing_by}
 use Rattle.sj_lower.proofs.Children.{first_children, child-pushed, all-pushed}
 use Rattle.sj_lower.proofs.Following.{at-default}
 use Rattle.sj_lower.proofs.Matching.{filter-passed, filter-left, filter-parts, closed-snoc, opening-parts, opening_for-more, opening_all-more}
-use Rattle.sj_lower.proofs.Places.{place_at}
+use Rattle.sj_lower.proofs.Places.{place_at, number-below}
+use Rattle.sj_lower.proofs.Preparations.{IsCopying, copied_by, copies-prepare, opened-copied, opened-full, opened-more}
 use Rattle.sj_lower.proofs.Preparing.{IsBeside, closed-more, all_closed-more, closes-over, closes-none, prepares-none, prepares-then, prepares-as}
 
 pub beside-itself : (g : Progress) → IsBeside g g
@@ -153,8 +158,10 @@ abbrev pub opened_so_far : Progress → Line → List Operand → ℕ → Loweri
 opened_so_far g line os i = opening_all g.workers g.lowerer.actives.items line (filter is_contributed (take i os))
 
 -- one operand more is opened
-pub opens-next : (old now next : Progress) (line : Line) (os : List Operand) (i : ℕ) (o : Operand) → i < length os → o ≡ get_or os i o → is_contributed o ≡ true → Prepares old now line (opened_so_far old line os i) → Prepares now next line (opening_for now.workers now.lowerer.actives.items line o) → Prepares old next line (opened_so_far old line os (i + 1))
-opens-next old now next line os i o below is passes p q =
+pub opens-next : (old now next : Progress) (line : Line) (os : List Operand) (i : ℕ) (d : Operand) → i < length os → is_contributed (get_or os i d) ≡ true → Prepares old now line (opened_so_far old line os i) → Prepares now next line (opening_for now.workers now.lowerer.actives.items line (get_or os i d)) → Prepares old next line (opened_so_far old line os (i + 1))
+opens-next old now next line os i d below passes p q =
+    let o = get_or os i d in
+    let is = get_or_default os i d o below in
     let w = old.workers in
     let as' = old.lowerer.actives.items in
     let so_far = filter is_contributed (take i os) in
@@ -163,16 +170,20 @@ opens-next old now next line os i o below is passes p q =
     (prepares-then old now next line (opening_all w as' line so_far) (opening_for w as' line o) (λ L. (opening_for-more w as' line o L).0) p
     (subst (λ (n : ℕ). Prepares now next line (opening_for n as' line o)) p.workers (subst (λ a. Prepares now next line (opening_for now.workers a.items line o)) p.actives q)))
 
-pub opens-left : (old now : Progress) (line : Line) (os : List Operand) (i : ℕ) (o : Operand) → i < length os → o ≡ get_or os i o → is_contributed o ≡ false → Prepares old now line (opened_so_far old line os i) → Prepares old now line (opened_so_far old line os (i + 1))
-opens-left old now line os i o below is fails p = subst (λ us. Prepares old now line (opening_all old.workers old.lowerer.actives.items line us)) (sym (filter-left is_contributed os i o below is fails)) p
+pub opens-left : (old now : Progress) (line : Line) (os : List Operand) (i : ℕ) (d : Operand) → i < length os → is_contributed (get_or os i d) ≡ false → Prepares old now line (opened_so_far old line os i) → Prepares old now line (opened_so_far old line os (i + 1))
+opens-left old now line os i d below fails p =
+    let o = get_or os i d in
+    subst (λ us. Prepares old now line (opening_all old.workers old.lowerer.actives.items line us)) (sym (filter-left is_contributed os i o below (get_or_default os i d o below) fails)) p
 
 -- there are too many cells with an operand's, so there are with all
-pub opens-full : (old now : Progress) (line : Line) (os : List Operand) (i : ℕ) (o : Operand) (e : LowerRefusal) → i < length os → o ≡ get_or os i o → is_contributed o ≡ true → Prepares old now line (opened_so_far old line os i) → IsFullBy now line (opening_for now.workers now.lowerer.actives.items line o) e → IsFullBy old line (opening_all old.workers old.lowerer.actives.items line (filter is_contributed os)) e
-opens-full old now line os i o OutOfMemory below is passes p full = tt
-opens-full old now line os i o (TooManyTasks at) below is passes p full = full
-opens-full old now line os i o (TooManyCells at) below is passes p full = (
+pub opens-full : (old now : Progress) (line : Line) (os : List Operand) (i : ℕ) (d : Operand) (e : LowerRefusal) → i < length os → is_contributed (get_or os i d) ≡ true → Prepares old now line (opened_so_far old line os i) → IsFullBy now line (opening_for now.workers now.lowerer.actives.items line (get_or os i d)) e → IsFullBy old line (opening_all old.workers old.lowerer.actives.items line (filter is_contributed os)) e
+opens-full old now line os i d OutOfMemory below passes p full = tt
+opens-full old now line os i d (TooManyTasks at) below passes p full = full
+opens-full old now line os i d (TooManyCells at) below passes p full = (
   full.0,
   λ T S L at.
+      let o = get_or os i d in
+      let is = get_or_default os i d o below in
       let w = old.workers in
       let as' = old.lowerer.actives.items in
       let so_far = filter is_contributed (take i os) in
@@ -184,3 +195,111 @@ opens-full old now line os i o (TooManyCells at) below is passes p full = (
       ap (λ us. opening_all w as' line us L) parts ∙ opening-parts w as' line (so_far ++ o ∷ []) rest L ∙ ap (opening_all w as' line rest) (opening-parts w as' line so_far (o ∷ []) L) in
       omega (arith, here, (opening_all-more w as' line rest (opening_for w as' line o M)).1, ap cells_in whole),
 )
+
+-- ---- opening one operand
+
+-- the cell that the code finds for an operand
+cell-read : (g : Progress) (line : Line) (o : Operand) (a : Active) (first : ℕ) (parts : Parts) (c : Cell) → IsActiveOperand g o → a ≡ get_or g.lowerer.actives.items o.root.0 a → parts ≡ a.tracked.parts → first ≡ a.first → c ≡ cells_from first parts o.place → c ≡ cell_by g.lowerer.actives.items o
+cell-read g line o a first parts c h read its_parts its_first is = cell-found g g line (λ L. L) o a first parts c (prepares-nothing g line) h read its_parts its_first is
+
+-- it is there
+cell-there : (g : Progress) (o : Operand) → IsActiveOperand g o → (cell_by g.lowerer.actives.items o).0 < vec_len g.layout.infos
+cell-there g o h = let below = number-below (active_at g.lowerer.actives.items o.root.0).tracked.parts o.place h.place in omega (arith, below, h.active.cells)
+
+-- an operand as the code reads it: its active plan, its reduction and its cell, and whether it has a value
+pub record Reads (g : Progress) (o : Operand) (c : Cell) (by : Reduction) (v : Bool) : Type 0 where
+  pub active : IsActiveOperand g o
+  pub plan : Active
+  pub first : ℕ
+  pub parts : Parts
+  pub read : plan ≡ get_or g.lowerer.actives.items o.root.0 plan
+  pub its_parts : parts ≡ plan.tracked.parts
+  pub its_first : first ≡ plan.first
+  pub cell : c ≡ cells_from first parts o.place
+  pub reduction : plan.reduction ≡ Some by
+  pub valued : v ≡ is_set plan.tracked o.place
+
+module _ (g : Progress) (line : Line) (o : Operand) (c : Cell) (by : Reduction) (v : Bool) (r : Reads g o c by v) where
+  found : c ≡ cell_by g.lowerer.actives.items o
+  found = cell-read g line o r.plan r.first r.parts c r.active r.read r.its_parts r.its_first r.cell
+
+  pub found-there : c.0 < vec_len g.layout.infos
+  found-there = subst (λ (d : Cell). d.0 < vec_len g.layout.infos) (sym found) (cell-there g o r.active)
+
+  pub opening-is : (L : Lowering) → opened g.workers by v line c L ≡ opening_for g.workers g.lowerer.actives.items line o L
+  opening-is L =
+      let w = g.workers in
+      let is = active-is g o.root.0 r.plan r.active.active r.read in
+      let b = active_at g.lowerer.actives.items o.root.0 in
+      let reduction : b.reduction ≡ Some by = ap (λ (a : Active). a.reduction) (sym is) ∙ r.reduction in
+      (λ i. opened w by ((r.valued ∙ ap (λ (a : Active). is_set a.tracked o.place) is) i) line (found i) L)
+      ∙ sym (ap (λ (x : Option Reduction). elim x as (λ _. Lowering) [ None ↦ L | Some z ↦ opened w z (is_set b.tracked o.place) line (cell_by g.lowerer.actives.items o) L ]) reduction)
+
+  -- there would be too many cells with the partial copies
+  pub opens-crowded : ((T : Table) (C : Cells) → Lays T g.layout C → most < length (with_copies g.workers c C).rows) → (T : Table) (S : State) (L : Lowering) → IsAt T g S L → most < cells_in (opening_for g.workers g.lowerer.actives.items line o L)
+  opens-crowded full T S L at = subst (λ (M : Lowering). most < cells_in M) (opening-is L) (opened-full g.workers by v line c L at.copied (full T L.cells at.lays))
+
+  -- its phase goes on or begins
+  pub opens-operand : (mid new : Progress) (first : Cell) → IsCopying g.layout mid.layout g.workers c first → vec_len mid.layout.infos ≤ most → mid.workers ≡ g.workers → HasAt g → mid.over ≡ g.over → mid.lowerer ≡ g.lowerer → mid.last ≡ g.last → Prepares mid new line (opened g.workers by v line c) → Prepares g new line (opening_for g.workers g.lowerer.actives.items line o)
+  opens-operand mid new first copies few workers h over lowerer last q =
+      prepares-as g new line (λ L. opened g.workers by v line c (copied_by g.workers c L)) (opening_for g.workers g.lowerer.actives.items line o)
+      (λ T S L at. opened-copied g.workers by v line c L (let rows = ap length at.lays.rows in omega (arith, found-there, g.layout.infos.ok, rows)) at.copied ∙ opening-is L)
+      (prepares-then g mid new line (copied_by g.workers c) (opened g.workers by v line c) (λ L. (opened-more g.workers by v line c L).0) (copies-prepare g mid line c first found-there copies few workers h over lowerer last) q)
+
+-- ---- a statement
+
+-- only a task contributes
+none-contributed : (a : Act) → ((t : TaskLine) → a ≡ kept.Task t → ⊥) → contributed_by a ≡ []
+none-contributed (kept.Register init) other = refl
+none-contributed (kept.Plan r p) other = refl
+none-contributed (kept.Redux r by) other = refl
+none-contributed (kept.Task t) other = absurd (other t refl)
+none-contributed (kept.Print r) other = refl
+none-contributed (kept.Invalidate r) other = refl
+none-contributed (kept.Unregister r) other = refl
+
+-- what is closed is all, where a statement contributes to nothing
+pub prepares-other : (old new : Progress) (line : Line) (a : Act) → ((t : TaskLine) → a ≡ kept.Task t → ⊥) → Prepares old new line (all_closed old.workers (closing_by old.lowerer.actives.items a)) → Prepares old new line (preparing_by old.workers old.lowerer.actives.items line a)
+prepares-other old new line a other p =
+    let as' = old.lowerer.actives.items in
+    subst (λ us. Prepares old new line (λ L. opening_all old.workers as' line us (all_closed old.workers (closing_by as' a) L))) (sym (none-contributed a other)) p
+
+-- the operands to which a task contributes
+task-contributes : (a : Act) (t : TaskLine) (os : List Operand) → a ≡ kept.Task t → os ≡ t.operands → filter is_contributed os ≡ contributed_by a
+task-contributes a t os is same = ap (filter is_contributed) same ∙ ap contributed_by (sym is)
+
+pub prepares-task : (old mid new : Progress) (line : Line) (a : Act) (t : TaskLine) (os : List Operand) → a ≡ kept.Task t → os ≡ t.operands → Prepares old mid line (all_closed old.workers (closing_by old.lowerer.actives.items a)) → Prepares mid new line (opening_all mid.workers mid.lowerer.actives.items line (filter is_contributed os)) → Prepares old new line (preparing_by old.workers old.lowerer.actives.items line a)
+prepares-task old mid new line a t os is same p q =
+    let w = old.workers in
+    let as' = old.lowerer.actives.items in
+    let us = filter is_contributed os in
+    let f = all_closed w (closing_by as' a) in
+    let r = subst (λ (n : ℕ). Prepares mid new line (opening_all n as' line us)) p.workers (subst (λ b. Prepares mid new line (opening_all mid.workers b.items line us)) p.actives q) in
+    subst (λ vs. Prepares old new line (λ L. opening_all w as' line vs (f L))) (task-contributes a t os is same)
+    (prepares-then old mid new line f (opening_all w as' line us) (λ L. (opening_all-more w as' line us L).0) p r)
+
+-- there are too many cells with the partial copies of a task's contributions
+pub full-task : (old mid : Progress) (line : Line) (a : Act) (t : TaskLine) (os : List Operand) (e : LowerRefusal) → a ≡ kept.Task t → os ≡ t.operands → Prepares old mid line (all_closed old.workers (closing_by old.lowerer.actives.items a)) → IsFullBy mid line (opening_all mid.workers mid.lowerer.actives.items line (filter is_contributed os)) e → IsFullBy old line (preparing_by old.workers old.lowerer.actives.items line a) e
+full-task old mid line a t os OutOfMemory is same p full = tt
+full-task old mid line a t os (TooManyTasks at) is same p full = full
+full-task old mid line a t os (TooManyCells at) is same p full = (
+  full.0,
+  λ T S L at.
+      let w = old.workers in
+      let as' = old.lowerer.actives.items in
+      let us = filter is_contributed os in
+      let M = all_closed w (closing_by as' a) L in
+      let many : most < cells_in (opening_all w as' line us M) = subst (λ (n : ℕ). most < cells_in (opening_all n as' line us M)) p.workers (subst (λ b. most < cells_in (opening_all mid.workers b.items line us M)) p.actives (full.1 T S M (p.at T S L at))) in
+      subst (λ vs. most < cells_in (opening_all w as' line vs M)) (task-contributes a t os is same) many,
+)
+
+-- ---- errors
+
+pub if-err : {A E : Type 0} {P Q : E → Type 0} (r : Result A E) → ((e : E) → P e → Q e) → IfErr r P → IfErr r Q
+if-err (Ok x) f h = tt
+if-err (Err e) f h = f e h
+
+-- an error that is handed on
+pub handed-on : {A : Type 0} (r : Result A LowerRefusal) (e : LowerRefusal) (P : LowerRefusal → Type 0) → IsErrAnd r (λ x. x ≡ e) → P e → IfErr r P
+handed-on (Ok x) e P is h = tt
+handed-on (Err x) e P is h = subst P (sym is) h

@@ -251,14 +251,9 @@ impl Progress {
             (preparing_by self.old.workers self.old.lowerer.actives.items line act.now)) }
     {
         self.close_by(alloc, act, line)?;
-        match act {
-            Act::Task(task) => self.open_operands(alloc, task.operands.items(), line),
-            Act::Register(_)
-            | Act::Plan(_, _)
-            | Act::Redux(_, _)
-            | Act::Print(_)
-            | Act::Invalidate(_)
-            | Act::Unregister(_) => Ok(()),
-        }
+        let Act::Task(task) = act else {
+            return Ok(());
+        };
+        self.open_operands(alloc, task.operands.items(), line)
     }
 }
