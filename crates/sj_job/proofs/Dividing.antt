@@ -145,31 +145,6 @@ next-word line start end h at =
     let some : 0 < length rest = subst (λ l. 0 < length l) (sym from_first) (omega (arith, length-drop (blanks line) line, first.1)) in
     cut-rest line rest end from_first some (at ∙ or-len _ _ _ (prefix_len-le-length (λ b. not (is_blank b)) rest) refl)
 
--- ---- the bytes of the words
-
-both-both : (s t u : Bool) → ((s && t) && u) ≡ (s && (t && u))
-both-both true t u = refl
-both-both false t u = refl
-
-allowed-part : (b : ℕ) (t : Bool) (parts : List (List ℕ)) → is_blank b ≡ t → list_all (list_all is_allowed) (cond t ([] ∷ parts) (onto_first b parts)) ≡ (is_allowed b && list_all (list_all is_allowed) parts)
-allowed-part b true parts e = ap (λ t. (t || (nat_lt 32 b && nat_lt b 127)) && list_all (list_all is_allowed) parts) (sym e)
-allowed-part b false [] e = both-both (is_allowed b) true true
-allowed-part b false (w ∷ parts) e = both-both (is_allowed b) (list_all is_allowed w) (list_all (list_all is_allowed) parts)
-
-allowed-parts : (line : List ℕ) → list_all (list_all is_allowed) (parts_of line) ≡ list_all is_allowed line
-allowed-parts [] = refl
-allowed-parts (b ∷ bs) = allowed-part b (is_blank b) (parts_of bs) refl ∙ ap (λ t. is_allowed b && t) (allowed-parts bs)
-
-allowed-full : (parts : List (List ℕ)) → list_all (list_all is_allowed) (full parts) ≡ list_all (list_all is_allowed) parts
-allowed-full [] = refl
-allowed-full ([] ∷ parts) = allowed-full parts
-allowed-full ((b ∷ w) ∷ parts) =
-    ap (list_all (list_all is_allowed)) (full-cons (b ∷ w) parts (omega arith)) ∙ ap (λ t. list_all is_allowed (b ∷ w) && t) (allowed-full parts)
-
--- a line's bytes are allowed where those of its words are, since blanks are
-pub allowed-words : (line : List ℕ) → list_all (list_all is_allowed) (words line) ≡ list_all is_allowed line
-allowed-words line = allowed-full (parts_of line) ∙ allowed-parts line
-
 -- ---- blanks at the end
 
 onto-append : (b : ℕ) (ps w : List (List ℕ)) (v : List ℕ) (behind : List (List ℕ)) → ps ≡ v ∷ behind → onto_first b (ps ++ w) ≡ onto_first b ps ++ w

@@ -1,5 +1,5 @@
 -- A settings line and the grammar: each form is read from what is written of it, and from nothing else.
-use Rattle.std.proofs.Common.{◌≡◌, ℕ, Bool, true, false, List, [], ◌∷◌, refl, ap, ◌∙◌, sym, subst, Option, Some, None, option_map, cond, bytes_eq, codes}
+use Rattle.std.proofs.Common.{◌≡◌, ℕ, Bool, true, false, List, [], ◌∷◌, refl, ap, ◌∙◌, Option, Some, None, option_map, cond, bytes_eq, codes}
 use Rattle.sj_base.specs.declared.mode.Policy.{Policy}
 use Rattle.sj_job.specs.declared.form.SettingForm.{SettingForm}
 use Rattle.sj_job.specs.declared.form.SettingForm.TheVariants as form

@@ -1,5 +1,5 @@
 -- An act that is allowed is sound.
-use Rattle.std.proofs.Common.{◌≡◌, ℕ, ◌≤◌, ◌<◌, ◌*◌, ◌&&◌, ◌||◌, not, nat_le, nat_lt, Bool, true, false, List, [], ◌∷◌, length, map, refl, ap, ◌∙◌, sym, subst, Option, Some, None, option_map, is_some, Result, Ok, Err, cond, arith, ℤ, unwrap_or}
+use Rattle.std.proofs.Common.{◌≡◌, ℕ, ◌≤◌, ◌<◌, ◌*◌, ◌&&◌, ◌||◌, not, nat_le, nat_lt, Bool, true, false, List, [], ◌∷◌, length, map, refl, ap, ◌∙◌, sym, subst, Option, Some, None, option_map, is_some, Result, Ok, cond, arith, ℤ, unwrap_or}
 use Rattle.std.specs.Prelude.{find, is_none}
 use Rattle.std.specs.List.{list_all, list_any}
 use Rattle.std.proofs.lemmas.Bool.Decides.{nat_tests}
@@ -28,11 +28,9 @@ use Rattle.sj_job.specs.declared.form.Form.TheVariants as form
 use Rattle.sj_base.specs.declared.mode.Mode.{Mode}
 use Rattle.sj_base.specs.declared.mode.Reduction.{Reduction}
 use Rattle.sj_base.specs.declared.mode.Mode.TheVariants.{R, W, RW, Scratch, Redux, Commute}
-use Rattle.sj_job.specs.declared.reason.Reason.TheVariants.{Word, Number}
 use Rattle.sj_job.specs.Act.{Register as Registers, Plan, Redux as Reduces, Task, Print, Invalidate, Unregister}
-use Rattle.sj_job.specs.Form.{form_of}
 use Rattle.sj_job.specs.Word.{integer}
-use Rattle.sj_job.specs.Sentence.{rows_of, cols_of, init_said, parts_said, index_said, registered_by, operand_said, operands_said, priority_said, task_said, said_of}
+use Rattle.sj_job.specs.Sentence.{rows_of, cols_of, init_said, parts_said, index_said, registered_by, operand_said, operands_said, priority_said, task_said}
 use Rattle.sj_job.specs.State.{State, Root, root_of, is_valued, is_blank, is_child, child_rect, is_valued_child}
 use Rattle.sj_job.specs.Judge.{Scope, scope_of, known_of, first_of, unless, judged_by, judged_call, judged_task, judged, kernel_named, register_reasons, line_reasons, print_reasons, name_reasons, plan_reasons, redux_reasons, operand_reasons, has_mixed_outputs, is_lawful_for, is_unlawful, is_unordered, reduction_known, is_shaped, modes_fit, dims_in, dims_known, is_child_said, is_crowded, is_cut, is_uncut, is_missing, is_lacking, child_lacks_value, is_side, is_outside, is_miscounted, is_unknown, is_ended, needs_value, lacks_value, is_priority}
 use Rattle.sj_job.specs.Meaning.{is_written, written_of}

@@ -1,5 +1,5 @@
 -- What forms do, and that the names follow.
-use Rattle.std.proofs.Common.{◌≡◌, ℕ, ◌+◌, not, ◌&&◌, Bool, true, false, List, [], ◌∷◌, ◌++◌, length, get_or, Some, None, cond, refl, ap, sym, subst, ◌∙◌, arith, Result, Ok, Err, All, length-append}
+use Rattle.std.proofs.Common.{◌≡◌, ℕ, ◌+◌, ◌&&◌, Bool, true, List, [], ◌∷◌, ◌++◌, length, get_or, Some, None, cond, refl, ap, sym, subst, ◌∙◌, arith, Result, Ok, Err, All, length-append}
 use Rattle.std.specs.Prelude.{IfOk, IfErr}
 use Rattle.std.proofs.Math.Seq.{get_or-append_seam}
 use Rattle.sj_base.specs.declared.ids.Root.{Root as RootNumber}

@@ -1,5 +1,5 @@
 -- The settings of a job: the lines in front of its statements, how they are spelled, what they set and why they are refused.
-use Rattle.std.specs.Prelude.{ℕ, ◌≤◌, ◌^◌, Bool, true, ◌&&◌, not, nat_le, Option, Some, None, is_some, unwrap_or, option_map, Result, Ok, Err, IfSome, List, [], ◌∷◌, ◌++◌, length, codes, All, if◌then◌else◌}
+use Rattle.std.specs.Prelude.{ℕ, ◌≤◌, ◌^◌, Bool, ◌&&◌, not, nat_le, Option, Some, None, is_some, unwrap_or, option_map, Result, Ok, Err, IfSome, List, [], ◌∷◌, ◌++◌, length, codes, All, if◌then◌else◌}
 use Rattle.std.specs.Str.{bytes_eq}
 use Rattle.sj_base.specs.declared.mode.Policy.{Policy}
 use Rattle.sj_base.specs.declared.mode.Policy.TheVariants.{Eager}
@@ -10,7 +10,7 @@ use Rattle.sj_job.specs.declared.reason.Reason.{Reason}
 use Rattle.sj_job.specs.declared.reason.Reason.TheVariants.{Word, Number, Limit}
 use Rattle.sj_job.specs.declared.reason.LimitKind.TheVariants.{Workers, Nodes, NodeBytes}
 use Rattle.sj_job.specs.Word.{is_count, count}
-use Rattle.sj_job.specs.Form.{alone, policy_of, policy_word, policy_in}
+use Rattle.sj_job.specs.Form.{alone, policy_word, policy_in}
 use Rattle.sj_job.specs.Judge.{first_of}
 
 -- nothing is set

@@ -1,5 +1,5 @@
 -- What holds of an act that a line may say: its run needs no more.
-use Rattle.std.specs.Prelude.{◌≡◌, ◌≤◌, ℕ, Bool, true, false, Option, ◌||◌, not, is_some, is_none, IsTrue, None, Some, List, map, length}
+use Rattle.std.specs.Prelude.{◌≡◌, ◌≤◌, ℕ, Bool, false, Option, ◌||◌, not, is_some, is_none, IsTrue, None, Some, List, map, length}
 use Rattle.std.specs.List.{list_all, list_any}
 use Rattle.sj_base.specs.declared.tile.Dims.{Dims}
 use Rattle.sj_base.specs.declared.mode.Reduction.{Reduction}

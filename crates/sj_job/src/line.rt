@@ -58,27 +58,14 @@ pub fn trimmed(line: &[u8]) -> &[u8]
 pub fn are_allowed(line: &[u8]) -> bool
     ensures { result ≡ list_all is_allowed line.now }
 {
-    have_allowed_bytes(line)
+    line.iter().all(|b| is_allowed(*b))
 }
 
-/// Whether every byte of its words is: blanks always are.
-fn have_allowed_bytes(line: &[u8]) -> bool
-    ensures { result ≡ list_all (list_all is_allowed) (words line.now) }
+/// A blank or a visible ASCII character; most are of the first test.
+fn is_allowed(byte: u8) -> bool
+    ensures { result ≡ is_allowed byte }
 {
-    let mut rest = line;
-    while let Some((word, tail)) = next_word(rest) {
-        if !has_allowed_bytes(word) {
-            return false;
-        }
-        rest = tail;
-    }
-    true
-}
-
-fn has_allowed_bytes(word: &[u8]) -> bool
-    ensures { result ≡ list_all is_allowed word.now }
-{
-    word.iter().all(|b| is_blank(*b) || (b' ' < *b && *b < 127))
+    (b' ' <= byte && byte < 127) || byte == b'\t' || byte == b'\r'
 }
 
 /// The place of the first byte that is no blank. Linear up to it.
@@ -144,6 +131,11 @@ impl<'a> Words<'a> {
             Some((word, line)) => Some((word, Words { line })),
             None => None,
         }
+    }
+
+    /// Room for all of them in a list: two bytes of the line, a blank and another, give at most one. Constant time.
+    pub fn room(&self) -> usize {
+        self.line.len() / 2 + 1
     }
 
     /// All of them as a list. Linear in them.

@@ -78,12 +78,18 @@ pub fn integers(alloc: Global, words: &[&[u8]]) -> Result<Option<Sequence<i64>>,
     Ok(Some(Sequence::of(values)))
 }
 
-/// The integers that the words of a line say, or `None` where one says none. Linear in the words.
-fn values_of(alloc: Global, words: &Words<'_>) -> Result<Option<Sequence<i64>>, OutOfMemory>
+/// The integers that the words of a line say, or `None` where one says none; with room for so many from the start, unless the
+/// line is shorter. Linear in the words.
+fn values_of(
+    alloc: Global,
+    words: &Words<'_>,
+    count: u64,
+) -> Result<Option<Sequence<i64>>, OutOfMemory>
     ensures { IfOk result (λ r. MatchOption r (list_all is_integer words.now ≡ false)
         (λ zs. (list_all is_integer words.now ≡ true) × (zs ≡ map integer words.now))) }
 {
-    let mut values = Vec::new(alloc);
+    let room = count.min(words.room() as u64) as usize;
+    let mut values = Vec::with_capacity(alloc, room)?;
     let mut rest = words.again();
     while let Some((word, behind)) = rest.split_first() {
         match integer_of(word) {
@@ -107,13 +113,13 @@ pub fn size_of(size: &Size<'_>) -> Option<(u64, u64)>
     }
 }
 
-/// The first elements, or `None` where a word says no integer. Linear in the words.
-pub fn init_of(alloc: Global, init: &InitForm<'_>) -> Result<Option<Init>, OutOfMemory>
+/// The first elements, which should be so many, or `None` where a word says no integer. Linear in the words.
+pub fn init_of(alloc: Global, init: &InitForm<'_>, count: u64) -> Result<Option<Init>, OutOfMemory>
     ensures { IfOk result (λ r. MatchOption r (is_numbered_init init.now ≡ false)
         (λ said. (is_numbered_init init.now ≡ true) × (said ≡ init_said init.now))) }
 {
     match init {
-        InitForm::Values(values) => Ok(values_of(alloc, values)?.map(Init::Values)),
+        InitForm::Values(values) => Ok(values_of(alloc, values, count)?.map(Init::Values)),
         InitForm::Fill(a, b) => Ok(fill_of(a, b)),
         InitForm::Nothing => Ok(Some(Init::Nothing)),
     }

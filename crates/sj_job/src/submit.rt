@@ -53,7 +53,7 @@ fn submit_array(alloc: Global, names: &mut Names, array: &ArrayForm<'_>) -> Resu
     let Some(parts) = parts_of(&array.parts) else {
         return Err(Objection::Bad(Reason::Number));
     };
-    let Some(init) = init_of(alloc, &array.init)? else {
+    let Some(init) = init_of(alloc, &array.init, rows.saturating_mul(cols))? else {
         return Err(Objection::Bad(Reason::Number));
     };
     let name = array.name.bytes();

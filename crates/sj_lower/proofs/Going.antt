@@ -1,9 +1,11 @@
 -- A job lowered one statement after another.
-use Rattle.std.proofs.Common.{◌≡◌, ℕ, ◌+◌, ◌<◌, ◌≤◌, Bool, true, false, List, [], ◌∷◌, length, refl, ap, sym, subst, ◌∙◌, arith, Option, Some, None, if◌then◌else◌, nat_lt}
+use Rattle.std.proofs.Common.{◌≡◌, ℕ, ◌+◌, ◌<◌, ◌≤◌, Bool, true, false, List, [], ◌∷◌, length, map, refl, ap, sym, subst, ◌∙◌, arith, Option, Some, None, if◌then◌else◌, nat_lt}
+use Rattle.std.specs.List.{last_or}
 use Rattle.std.proofs.lemmas.Bool.Decides.{nat_tests}
 use Rattle.sj_base.specs.declared.ids.Line.{Line}
 use Rattle.sj_codelet.specs.declared.kernel.Kernel.{Kernel}
 use Rattle.sj_job.specs.declared.job.Statement.{Statement as Kept}
+use Rattle.sj_job.specs.Act.{Statement}
 use Rattle.sj_job.specs.State.{State, start}
 use Rattle.sj_job.specs.Meaning.{apply}
 use Rattle.sj_job.specs.Table.{Table, IsTable}
@@ -13,50 +15,57 @@ use Rattle.sj_job.proofs.Views.{counts-grow, count-grows}
 use Rattle.sj_lower.specs.declared.lower.LowerRefusal.{LowerRefusal}
 use Rattle.sj_lower.specs.declared.lower.LowerRefusal.TheVariants.{TooManyCells, TooManyTasks, OutOfMemory}
 use Rattle.sj_lower.specs.declared.lower.Progress.{Progress}
-use Rattle.sj_lower.specs.Limits.{most, cells_in, tasks_in, first_above, late_tasks, late_cells, late_limit}
-use Rattle.sj_lower.specs.Lowering.{Lowering, nothing, lower_from, lower_one}
-use Rattle.sj_lower.specs.Progress.{IsAt, IsComing, HasComing, Goes, IsFull, IsOver, IsLate, over_after}
+use Rattle.sj_lower.specs.Limits.{most, cells_in, tasks_in, first_above, above_at_end, line_or, late_tasks, late_cells, late_limit}
+use Rattle.sj_lower.specs.Lowering.{Lowering, nothing, lower_from, lower_one, finished}
+use Rattle.sj_lower.specs.Progress.{IsAt, IsComing, HasComing, HasAt, Goes, IsFull, IsOver, IsLate, Prepares, over_after}
 use Rattle.sj_lower.proofs.Allowed.{can_be}
-use Rattle.sj_lower.proofs.Naming.{AreNumbered, numbered-act, numbered-cut, numbered-none}
+use Rattle.sj_lower.proofs.Naming.{AreNumbered, numbered-one, numbered-cut, numbered-none}
 
 -- the first of two lines
 abbrev pub or_else : Option Line → Option Line → Option Line
 or_else None o = o
 or_else (Some line) o = Some line
 
--- what is lowered so far, and how the rest goes on from it
-pub record GoesOn (T : Table) (g : Progress) (whole rest : List Kept) : Type 0 where
+abbrev pub lines_of : List Statement → List Line
+lines_of ss = map (λ s. s.line) ss
+
+-- what is lowered so far for so many workers, and how the rest goes on from it
+pub record GoesOn (T : Table) (workers : ℕ) (g : Progress) (whole rest : List Kept) : Type 0 where
   pub has : Kernel → Bool
   pub before : ℕ
   pub state : State
   pub so_far : Lowering
   pub at : IsAt T g state so_far
+  pub workers_are : g.workers ≡ workers
   pub well : IsWell has before state (seen_from T so_far.cells.roots rest)
   pub placed : ArePlaced so_far.cells.roots rest
   pub counted : count_from so_far.cells.roots rest ≡ length T.names
   pub numbered : AreNumbered T so_far.cells.roots so_far.cells state
-  pub onward : lower_from state so_far (seen_from T so_far.cells.roots rest) ≡ lower_from start nothing (seen_from T 0 whole)
-  pub late_cells : first_above cells_in start nothing (seen_from T 0 whole) ≡ first_above cells_in state so_far (seen_from T so_far.cells.roots rest)
-  pub late_tasks : first_above tasks_in start nothing (seen_from T 0 whole) ≡ or_else g.over (first_above tasks_in state so_far (seen_from T so_far.cells.roots rest))
+  pub onward : lower_from workers state so_far (seen_from T so_far.cells.roots rest) ≡ lower_from workers start nothing (seen_from T 0 whole)
+  pub last : last_or g.last (lines_of (seen_from T so_far.cells.roots rest)) ≡ last_or None (lines_of (seen_from T 0 whole))
+  pub late_cells : first_above workers cells_in start nothing (seen_from T 0 whole) ≡ first_above workers cells_in state so_far (seen_from T so_far.cells.roots rest)
+  pub late_tasks : first_above workers tasks_in start nothing (seen_from T 0 whole) ≡ or_else g.over (first_above workers tasks_in state so_far (seen_from T so_far.cells.roots rest))
 
-pub going-start : (has : Kernel → Bool) (T : Table) (g : Progress) (ss : List Kept) → IsAt T g start nothing → g.over ≡ None → IsWell has 0 start (seen_from T 0 ss) → ArePlaced 0 ss → count_from 0 ss ≡ length T.names → GoesOn T g ss ss
-going-start has T g ss at none well placed counted = record {
+pub going-start : (has : Kernel → Bool) (T : Table) (workers : ℕ) (g : Progress) (ss : List Kept) → IsAt T g start nothing → g.over ≡ None → g.last ≡ None → g.workers ≡ workers → IsWell has 0 start (seen_from T 0 ss) → ArePlaced 0 ss → count_from 0 ss ≡ length T.names → GoesOn T workers g ss ss
+going-start has T workers g ss at none first workers_are well placed counted = record {
   has = has;
   before = 0;
   state = start;
   so_far = nothing;
   at = at;
+  workers_are = workers_are;
   well = well;
   placed = placed;
   counted = counted;
   numbered = numbered-none T;
   onward = refl;
+  last = ap (λ o. last_or o (lines_of (seen_from T 0 ss))) first;
   late_cells = refl;
-  late_tasks = sym (ap (λ o. or_else o (first_above tasks_in start nothing (seen_from T 0 ss))) none);
+  late_tasks = sym (ap (λ o. or_else o (first_above workers tasks_in start nothing (seen_from T 0 ss))) none);
 }
 
-pub going-coming : (T : Table) (g : Progress) (whole rest : List Kept) (s : Kept) → IsTable T → (w : GoesOn T g whole (s ∷ rest)) → IsComing T g s w.state w.so_far
-going-coming T g whole rest s table w =
+pub going-coming : (T : Table) (workers : ℕ) (g : Progress) (whole rest : List Kept) (s : Kept) → IsTable T → (w : GoesOn T workers g whole (s ∷ rest)) → IsComing T g s w.state w.so_far
+going-coming T workers g whole rest s table w =
     let n = w.so_far.cells.roots in
     let sound = (can_be w.has w.before w.state (act_seen T n s.act) w.well.0).sound in
     let here = counts-grow (count_after n s.act) rest in
@@ -73,8 +82,8 @@ going-coming T g whole rest s table w =
       table = table.1;
     }
 
-pub going-has : (T : Table) (g : Progress) (whole rest : List Kept) (s : Kept) → IsTable T → GoesOn T g whole (s ∷ rest) → HasComing T g s
-going-has T g whole rest s table w = record { state = w.state; lowering = w.so_far; coming = going-coming T g whole rest s table w }
+pub going-has : (T : Table) (workers : ℕ) (g : Progress) (whole rest : List Kept) (s : Kept) → IsTable T → GoesOn T workers g whole (s ∷ rest) → HasComing T g s
+going-has T workers g whole rest s table w = record { state = w.state; lowering = w.so_far; coming = going-coming T workers g whole rest s table w }
 
 no_more : (n : ℕ) (a b : Option Line) → n ≤ most → (if nat_lt most n then a else b) ≡ b
 no_more n a b few = ap (λ t. if t then a else b) (decide n few)
@@ -97,68 +106,155 @@ kept_over None line L rest = by_test (nat_lt most (tasks_in L))
     by_test true = refl
     by_test false = refl
 
-pub going-more : (T : Table) (old new : Progress) (whole rest : List Kept) (s : Kept) → IsTable T → GoesOn T old whole (s ∷ rest) → Goes T old new s → GoesOn T new whole rest
-going-more T old new whole rest s table w goes =
+pub going-more : (T : Table) (workers : ℕ) (old new : Progress) (whole rest : List Kept) (s : Kept) → IsTable T → GoesOn T workers old whole (s ∷ rest) → new.workers ≡ old.workers → new.last ≡ Some s.line → Goes T old new s → GoesOn T workers new whole rest
+going-more T workers old new whole rest s table w same line goes =
     let n = w.so_far.cells.roots in
+    let m = count_after n s.act in
     let S = apply (act_seen T n s.act) w.state in
-    let L = lower_one w.state (statement_seen T n s) w.so_far in
-    let coming = going-coming T old whole rest s table w in
-    let numbered = numbered-act T n w.so_far.cells w.state s.act table.2 coming.few w.numbered in
-    let roots : L.cells.roots ≡ count_after n s.act = numbered.roots in
-    let at = goes.at w.state w.so_far coming in
+    let L = lower_one workers w.state (statement_seen T n s) w.so_far in
+    let coming = going-coming T workers old whole rest s table w in
+    let numbered = numbered-one workers T n w.so_far w.state s table.2 coming.few w.numbered in
+    let roots : L.cells.roots ≡ m = numbered.roots in
+    let at : IsAt T new S L = subst (λ (k : ℕ). IsAt T new S (lower_one k w.state (statement_seen T n s) w.so_far)) w.workers_are (goes.at w.state w.so_far coming) in
+    let over : new.over ≡ over_after old.over s.line L =
+    goes.over w.state w.so_far coming ∙ ap (λ k. over_after old.over s.line (lower_one k w.state (statement_seen T n s) w.so_far)) w.workers_are in
     record {
       has = w.has;
       before = w.before + 1;
       state = S;
       so_far = L;
       at = at;
+      workers_are = same ∙ w.workers_are;
       well = subst (λ (m : ℕ). IsWell w.has (w.before + 1) S (seen_from T m rest)) (sym roots) w.well.1;
       placed = subst (λ (m : ℕ). ArePlaced m rest) (sym roots) w.placed.1;
       counted = ap (λ m. count_from m rest) roots ∙ w.counted;
       numbered = subst (λ (m : ℕ). AreNumbered T m L.cells S) (sym roots) numbered;
-      onward = ap (λ m. lower_from S L (seen_from T m rest)) roots ∙ w.onward;
-      late_cells = w.late_cells ∙ no_more (cells_in L) (Some s.line) (first_above cells_in S L (seen_from T (count_after n s.act) rest)) at.few_cells
-          ∙ ap (λ m. first_above cells_in S L (seen_from T m rest)) (sym roots);
-      late_tasks = w.late_tasks ∙ kept_over old.over s.line L (first_above tasks_in S L (seen_from T (count_after n s.act) rest))
-          ∙ ap (λ o. or_else o (first_above tasks_in S L (seen_from T (count_after n s.act) rest))) (sym (goes.over w.state w.so_far coming))
-          ∙ ap (λ m. or_else new.over (first_above tasks_in S L (seen_from T m rest))) (sym roots);
+      onward = ap (λ m. lower_from workers S L (seen_from T m rest)) roots ∙ w.onward;
+      last = (λ i. last_or (line i) (lines_of (seen_from T (roots i) rest))) ∙ w.last;
+      late_cells = w.late_cells ∙ no_more (cells_in L) (Some s.line) (first_above workers cells_in S L (seen_from T m rest)) at.few_cells
+          ∙ ap (λ m. first_above workers cells_in S L (seen_from T m rest)) (sym roots);
+      late_tasks = w.late_tasks ∙ kept_over old.over s.line L (first_above workers tasks_in S L (seen_from T m rest))
+          ∙ ap (λ o. or_else o (first_above workers tasks_in S L (seen_from T m rest))) (sym over)
+          ∙ ap (λ m. or_else new.over (first_above workers tasks_in S L (seen_from T m rest))) (sym roots);
     }
 
 -- there is not enough room for the statement
-pub going-full : (T : Table) (g : Progress) (whole rest : List Kept) (s : Kept) (e : LowerRefusal) → IsTable T → GoesOn T g whole (s ∷ rest) → IsFull T g s e → IsLate e (late_limit (seen_from T 0 whole))
-going-full T g whole rest s OutOfMemory table w full = tt
-going-full T g whole rest s (TooManyTasks line) table w full = absurd full
-going-full T g whole rest s (TooManyCells line) table w full =
+pub going-full : (T : Table) (workers : ℕ) (g : Progress) (whole rest : List Kept) (s : Kept) (e : LowerRefusal) → IsTable T → GoesOn T workers g whole (s ∷ rest) → IsFull T g s e → IsLate e (late_limit workers (seen_from T 0 whole))
+going-full T workers g whole rest s OutOfMemory table w full = tt
+going-full T workers g whole rest s (TooManyTasks line) table w full = absurd full
+going-full T workers g whole rest s (TooManyCells line) table w full =
     let n = w.so_far.cells.roots in
     let S = apply (act_seen T n s.act) w.state in
-    let L = lower_one w.state (statement_seen T n s) w.so_far in
-    let first : first_above cells_in start nothing (seen_from T 0 whole) ≡ Some line =
-    w.late_cells ∙ too_many (cells_in L) (Some s.line) (first_above cells_in S L (seen_from T (count_after n s.act) rest)) (full.1 w.state w.so_far (going-coming T g whole rest s table w))
+    let L = lower_one workers w.state (statement_seen T n s) w.so_far in
+    let many : most < cells_in L = subst (λ (k : ℕ). most < cells_in (lower_one k w.state (statement_seen T n s) w.so_far)) w.workers_are (full.1 w.state w.so_far (going-coming T workers g whole rest s table w)) in
+    let first : first_above workers cells_in start nothing (seen_from T 0 whole) ≡ Some line =
+    w.late_cells ∙ too_many (cells_in L) (Some s.line) (first_above workers cells_in S L (seen_from T (count_after n s.act) rest)) many
     ∙ ap Some (sym full.0) in
-    ap (λ o. late_cells o (late_tasks (first_above tasks_in start nothing (seen_from T 0 whole)))) first
+    ap (λ o. late_cells o (late_tasks (line_or (first_above workers tasks_in start nothing (seen_from T 0 whole)) (above_at_end workers (seen_from T 0 whole))))) first
 
 -- nothing is left
-pub record IsDone (T : Table) (g : Progress) (whole : List Kept) : Type 0 where
+pub record IsDone (T : Table) (workers : ℕ) (g : Progress) (ss : List Statement) : Type 0 where
   pub state : State
   pub lowering : Lowering
   pub at : IsAt T g state lowering
-  pub is : lowering ≡ lower_from start nothing (seen_from T 0 whole)
-  pub late : late_limit (seen_from T 0 whole) ≡ late_tasks g.over
+  pub workers_are : g.workers ≡ workers
+  pub is : lowering ≡ lower_from workers start nothing ss
+  pub last : g.last ≡ last_or None (lines_of ss)
+  pub late : late_limit workers ss ≡ late_tasks (line_or g.over (above_at_end workers ss))
 
-pub going-end : (T : Table) (g : Progress) (whole : List Kept) → GoesOn T g whole [] → IsDone T g whole
-going-end T g whole w = record {
+pub going-end : (T : Table) (workers : ℕ) (g : Progress) (whole : List Kept) → GoesOn T workers g whole [] → IsDone T workers g (seen_from T 0 whole)
+going-end T workers g whole w = record {
   state = w.state;
   lowering = w.so_far;
   at = w.at;
+  workers_are = w.workers_are;
   is = w.onward;
-  late = (λ i. late_cells (w.late_cells i) (late_tasks (w.late_tasks i))) ∙ ap late_tasks (last g.over);
+  last = w.last;
+  late = (λ i. late_cells (w.late_cells i) (late_tasks (line_or (w.late_tasks i) (above_at_end workers (seen_from T 0 whole)))))
+      ∙ ap (λ o. late_tasks (line_or o (above_at_end workers (seen_from T 0 whole)))) (left g.over);
 }
   where
-    last : (o : Option Line) → or_else o None ≡ o
-    last None = refl
-    last (Some line) = refl
+    left : (o : Option Line) → or_else o None ≡ o
+    left None = refl
+    left (Some line) = refl
 
-pub done-over : (T : Table) (g : Progress) (whole : List Kept) (e : LowerRefusal) → IsDone T g whole → IsOver e g.over → IsLate e (late_limit (seen_from T 0 whole))
-done-over T g whole OutOfMemory d h = tt
-done-over T g whole (TooManyCells line) d h = absurd h
-done-over T g whole (TooManyTasks line) d h = d.late ∙ ap late_tasks h
+pub done-has : (T : Table) (workers : ℕ) (g : Progress) (ss : List Statement) → IsDone T workers g ss → HasAt g
+done-has T workers g ss d = record { table = T; state = d.state; lowering = d.lowering; at = d.at }
+
+-- ---- the phases that are open at the end
+
+-- they are closed
+pub record IsShut (T : Table) (workers : ℕ) (g : Progress) (ss : List Statement) : Type 0 where
+  pub state : State
+  pub lowering : Lowering
+  pub at : IsAt T g state lowering
+  pub workers_are : g.workers ≡ workers
+  pub is : lowering ≡ finished workers (lower_from workers start nothing ss)
+  pub late : late_limit workers ss ≡ late_tasks g.over
+
+-- a list of lines has a last one
+some_last : (line : Line) (lines : List Line) → last_or (Some line) lines ≡ None → ⊥
+some_last line [] e = absurd (cc)
+some_last line (next ∷ lines) e = some_last next lines e
+
+no_statement : (ss : List Statement) → last_or None (lines_of ss) ≡ None → ss ≡ []
+no_statement [] e = refl
+no_statement (s ∷ ss) e = absurd (some_last s.line (lines_of ss) e)
+
+-- there was no statement
+pub shut-none : (T : Table) (workers : ℕ) (g new : Progress) (ss : List Statement) → IsDone T workers g ss → g.last ≡ None → new ≡ g → IsShut T workers new ss
+shut-none T workers g new ss d none same = subst (λ (h : Progress). IsShut T workers h ss) (sym same) (record {
+  state = d.state;
+  lowering = d.lowering;
+  at = d.at;
+  workers_are = d.workers_are;
+  is = d.is ∙ (λ i. lower_from workers start nothing (empty i)) ∙ (λ i. finished workers (lower_from workers start nothing (sym empty i)));
+  late = d.late ∙ ap (λ o. late_tasks (line_or g.over o)) at_end ∙ ap late_tasks (left g.over);
+})
+  where
+    empty : ss ≡ []
+    empty = no_statement ss (sym d.last ∙ none)
+
+    either : (b : Bool) → (if b then None else None) ≡ {Option Line} None
+    either true = refl
+    either false = refl
+
+    at_end : above_at_end workers ss ≡ None
+    at_end = ap (λ o. if nat_lt most (tasks_in (finished workers (lower_from workers start nothing ss))) then o else None) (sym d.last ∙ none) ∙ either (nat_lt most (tasks_in (finished workers (lower_from workers start nothing ss))))
+
+    left : (o : Option Line) → line_or o None ≡ o
+    left None = refl
+    left (Some line) = refl
+
+-- their tasks count for the last statement
+pub shut-last : (T : Table) (workers : ℕ) (g new : Progress) (ss : List Statement) (line : Line) → IsDone T workers g ss → g.last ≡ Some line → Prepares g new line (finished g.workers) → IsShut T workers new ss
+shut-last T workers g new ss line d is closes = record {
+  state = d.state;
+  lowering = finished workers d.lowering;
+  at = subst (λ (k : ℕ). IsAt T new d.state (finished k d.lowering)) d.workers_are (closes.at T d.state d.lowering d.at);
+  workers_are = closes.workers ∙ d.workers_are;
+  is = ap (finished workers) d.is;
+  late = d.late ∙ ap (λ o. late_tasks (line_or g.over o)) at_end ∙ ap late_tasks (kept g.over (finished workers d.lowering) ∙ sym over);
+}
+  where
+    over : new.over ≡ over_after g.over line (finished workers d.lowering)
+    over = closes.over T d.state d.lowering d.at ∙ ap (λ k. over_after g.over line (finished k d.lowering)) d.workers_are
+
+    at_end : above_at_end workers ss ≡ (if nat_lt most (tasks_in (finished workers d.lowering)) then Some line else None)
+    at_end = λ i. if nat_lt most (tasks_in (finished workers (sym d.is i))) then (sym d.last ∙ is) i else None
+
+    kept : (o : Option Line) (L : Lowering) → line_or o (if nat_lt most (tasks_in L) then Some line else None) ≡ over_after o line L
+    kept None L = refl
+    kept (Some first) L = refl
+
+pub shut : (T : Table) (workers : ℕ) (g new : Progress) (ss : List Statement) → IsDone T workers g ss → (g.last ≡ None → new ≡ g) → ((line : Line) → g.last ≡ Some line → Prepares g new line (finished g.workers)) → IsShut T workers new ss
+shut T workers g new ss d none closes = by_last g.last refl
+  where
+    by_last : (o : Option Line) → g.last ≡ o → IsShut T workers new ss
+    by_last None e = shut-none T workers g new ss d e (none e)
+    by_last (Some line) e = shut-last T workers g new ss line d e (closes line e)
+
+pub shut-over : (T : Table) (workers : ℕ) (g : Progress) (ss : List Statement) (e : LowerRefusal) → IsShut T workers g ss → IsOver e g.over → IsLate e (late_limit workers ss)
+shut-over T workers g ss OutOfMemory d h = tt
+shut-over T workers g ss (TooManyCells line) d h = absurd h
+shut-over T workers g ss (TooManyTasks line) d h = d.late ∙ ap late_tasks h

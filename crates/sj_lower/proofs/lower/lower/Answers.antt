@@ -1,21 +1,27 @@
-use Rattle.std.proofs.Common.{◌≡◌, ◌∙◌, ℕ, ◌≤◌, List, [], ◌∷◌, None, refl, ap, subst, sym, length, arith, Result, Ok, Err, IfErr, IsErrAnd}
+use Rattle.std.proofs.Common.{◌≡◌, ◌∙◌, ℕ, ◌≤◌, ◌<◌, Bool, List, [], ◌∷◌, None, All, refl, ap, subst, sym, length, arith, Result, Ok, Err, IfErr, IsErrAnd}
 use Rattle.std.specs.Vec.Iter.{into_iter_items}
 use Rattle.sj_base.specs.declared.program.Program.{Program}
+use Rattle.sj_codelet.specs.declared.kernel.Kernel.{Kernel}
+use Rattle.sj_core.specs.Laws.{IsLawful}
 use Rattle.sj_job.specs.declared.job.Statement.{Statement as Kept}
+use Rattle.sj_job.specs.Act.{Statement}
 use Rattle.sj_job.specs.State.{State, start}
 use Rattle.sj_job.specs.Table.{Table, IsTable}
 use Rattle.sj_job.specs.View.{ArePlaced, IsNumbered, count_from, seen_from, statements_of}
 use Rattle.sj_job.specs.Well.{IsWell}
 use Rattle.sj_lower.specs.declared.lower.LowerRefusal.{LowerRefusal}
 use Rattle.sj_lower.specs.declared.lower.Progress.{Progress}
-use Rattle.sj_lower.specs.Job.{IsJob}
-use Rattle.sj_lower.specs.Limits.{late_limit}
-use Rattle.sj_lower.specs.Lowering.{Lowering, nothing, lower_from, lowered, program_of}
+use Rattle.sj_lower.specs.Job.{IsJob, IsJobIn}
+use Rattle.sj_lower.specs.Limits.{late_limit, late_tasks}
+use Rattle.sj_lower.specs.Lowering.{Lowering, nothing, lowered, program_of}
 use Rattle.sj_lower.specs.Progress.{IsAt, IsFull, IsLate}
-use Rattle.sj_lower.proofs.Going.{GoesOn, IsDone, going-start, going-has, going-more, going-full, going-end}
+use Rattle.sj_lower.proofs.Allowed.{all_can_be}
+use Rattle.sj_lower.proofs.Combined.{IsTrusted}
+use Rattle.sj_lower.proofs.Going.{GoesOn, IsDone, IsShut, going-start, going-has, going-more, going-full, going-end, done-has, shut, shut-over}
+use Rattle.sj_lower.proofs.Known.{IsKnown, known, own-of}
+use Rattle.sj_lower.proofs.Lowered.{IsWhole, whole}
 use Rattle.sj_lower.proofs.Naming.{names-all, numbered-none}
-use Rattle.sj_lower.proofs.Whole.{IsWhole, whole}
-use Rattle.sj_lower.proofs.Properness.{proper, plain, delivers_printed, names_deliver_tasks, delivers_in_order}
+use Rattle.sj_lower.proofs.Properness.{proper, delivers_printed, names_deliver_tasks, delivers_in_order}
 use Rattle.sj_lower.proofs.lower.lower.Goals as goal
 
 pub loop-statement-init : goal.loop-statement-init
@@ -26,7 +32,7 @@ loop-statement-init c =
     let ss = into_iter_items c.into_iter-statement-iterator.result in
     let same : ss ≡ c.args.job.statements = gives.0 ∙ c.into_items-statement-items.ensures in
     record {
-      going = going-start c.requires.job.has T c.nothing-progress.result ss (c.nothing-progress.ensures.at T) c.nothing-progress.ensures.over
+      going = going-start c.requires.job.has T c.args.workers c.nothing-progress.result ss (c.nothing-progress.ensures.at T) c.nothing-progress.ensures.over c.nothing-progress.ensures.last c.nothing-progress.ensures.workers
           (subst (λ (xs : List Kept). IsWell c.requires.job.has 0 start (seen_from T 0 xs)) (sym same) c.requires.job.well)
           (subst (λ (xs : List Kept). ArePlaced 0 xs) (sym same) c.requires.numbered.placed)
           (ap (count_from 0) same ∙ c.requires.numbered.counted);
@@ -39,8 +45,8 @@ add-requires c =
     let at = c.loop-statement in
     let all = into_iter_items c.into_iter-statement-iterator.result in
     let table : IsTable T = subst (λ (U : Table). IsTable U) c.roots.view_is c.roots.invariant in
-    going-has T at.progress all (into_iter_items c.next.new.self) c.in-Some.statement table
-    (subst (λ (xs : List Kept). GoesOn T at.progress all xs) c.in-Some.ensures.steps.0 at.invariant.going)
+    going-has T c.args.workers at.progress all (into_iter_items c.next.new.self) c.in-Some.statement table
+    (subst (λ (xs : List Kept). GoesOn T c.args.workers at.progress all xs) c.in-Some.ensures.steps.0 at.invariant.going)
 
 pub loop-statement-preserved : goal.loop-statement-preserved
 loop-statement-preserved c =
@@ -49,8 +55,8 @@ loop-statement-preserved c =
     let all = into_iter_items c.into_iter-statement-iterator.result in
     let table : IsTable T = subst (λ (U : Table). IsTable U) c.roots.view_is c.roots.invariant in
     record {
-      going = going-more T at.progress c.add.new.self all (into_iter_items c.next.new.self) c.in-Some.statement table
-          (subst (λ (xs : List Kept). GoesOn T at.progress all xs) c.in-Some.ensures.steps.0 at.invariant.going) c.in_ok-add.ensures.goes;
+      going = going-more T c.args.workers at.progress c.add.new.self all (into_iter_items c.next.new.self) c.in-Some.statement table
+          (subst (λ (xs : List Kept). GoesOn T c.args.workers at.progress all xs) c.in-Some.ensures.steps.0 at.invariant.going) c.in_ok-add.ensures.workers c.in_ok-add.ensures.last c.in_ok-add.ensures.goes;
       left = omega (arith, at.invariant.left, c.in-Some.ensures.steps.1, ap length c.in-Some.ensures.steps.0);
     }
 
@@ -65,46 +71,64 @@ returns-in_err-add-clause-refused c =
     let all = into_iter_items c.into_iter-statement-iterator.result in
     let table : IsTable T = subst (λ (U : Table). IsTable U) c.roots.view_is c.roots.invariant in
     let same : all ≡ c.args.job.statements = c.into_iter-statement-iterator.ensures.into_iter_gives.0 ∙ c.into_items-statement-items.ensures in
-    let going = subst (λ (xs : List Kept). GoesOn T at.progress all xs) c.in-Some.ensures.steps.0 at.invariant.going in
-    let full : (e : LowerRefusal) → IsFull T at.progress c.in-Some.statement e → IsLate e (late_limit (statements_of c.args.job)) =
-    λ e h. subst (λ (xs : List Kept). IsLate e (late_limit (seen_from T 0 xs))) same (going-full T at.progress all (into_iter_items c.next.new.self) c.in-Some.statement e table going h) in
-    as_handed c.from_residual.result c.in_err-add.field-0.0 (λ e. IsLate e (late_limit (statements_of c.args.job))) c.from_residual.ensures.1 (full c.in_err-add.field-0.0 c.in_err-add.ensures.full)
+    let going = subst (λ (xs : List Kept). GoesOn T c.args.workers at.progress all xs) c.in-Some.ensures.steps.0 at.invariant.going in
+    let full : (e : LowerRefusal) → IsFull T at.progress c.in-Some.statement e → IsLate e (late_limit c.args.workers (statements_of c.args.job)) =
+    λ e h. subst (λ (xs : List Kept). IsLate e (late_limit c.args.workers (seen_from T 0 xs))) same (going-full T c.args.workers at.progress all (into_iter_items c.next.new.self) c.in-Some.statement e table going h) in
+    as_handed c.from_residual.result c.in_err-add.field-0.0 (λ e. IsLate e (late_limit c.args.workers (statements_of c.args.job))) c.from_residual.ensures.1 (full c.in_err-add.field-0.0 c.in_err-add.ensures.full)
 
 nothing_left : (l : List Kept) → length l ≡ 0 → l ≡ []
 nothing_left [] h = refl
 nothing_left (x ∷ xs) h = absurd (omega arith)
 
--- the program is that of the job, and within the limits
-record IsMade (T : Table) (p : Program) (statements : List Kept) (workers : ℕ) : Type 0 where
-  is : p ≡ lowered (seen_from T 0 statements) workers
-  few_tasks : length p.tasks ≤ 262144
-  few_cells : length p.cells ≤ 262144
+-- all statements are lowered
+ended : (T : Table) (workers : ℕ) (g : Progress) (all left statements : List Kept) → GoesOn T workers g all left → length left ≡ 0 → all ≡ statements → IsDone T workers g (seen_from T 0 statements)
+ended T workers g all left statements going none same =
+    subst (λ (xs : List Kept). IsDone T workers g (seen_from T 0 xs)) same (going-end T workers g all (subst (λ (xs : List Kept). GoesOn T workers g all xs) (nothing_left left none) going))
 
-made : (T : Table) (g : Progress) (all statements : List Kept) (p : Program) (workers : ℕ) → IsDone T g all → all ≡ statements → g.over ≡ None
-    → ((T : Table) (S : State) (L : Lowering) → IsAt T g S L → p ≡ program_of workers L) → IsMade T p statements workers
-made T g all statements p workers d same none finish =
-    let is : p ≡ program_of workers d.lowering = finish T d.state d.lowering d.at in
-    record {
-      is = is ∙ ap (program_of workers) (d.is ∙ ap (λ (xs : List Kept). lower_from start nothing (seen_from T 0 xs)) same);
-      few_tasks = omega (arith, d.at.few_tasks none, ap (λ (p : Program). length p.tasks) is);
-      few_cells = omega (arith, d.at.few_cells, ap (λ (p : Program). length p.cells) is);
-    }
-
-whole_job : (T : Table) (p : Program) (statements : List Kept) (workers : ℕ) → IsTable T → IsNumbered T statements → (j : IsJob (seen_from T 0 statements)) → IsMade T p statements workers → IsWhole T p (seen_from T 0 statements)
-whole_job T p statements workers table numbered j m =
-    let ss = seen_from T 0 statements in
-    let named = names-all T 0 nothing start statements table.2 (omega (arith, numbered.counted)) numbered.placed (numbered-none T) in
-    subst (λ (q : Program). IsWhole T q ss) (sym m.is) (whole j.has T ss workers j.well named)
-
-lowered_to : (c : goal.In_ok-program) → IsMade c.args.job.roots c.in_ok-program.program c.args.job.statements c.args.workers
-lowered_to c =
+pub close_last-requires : goal.close_last-requires
+close_last-requires c =
     let T = c.args.job.roots in
     let at = c.loop-statement in
     let all = into_iter_items c.into_iter-statement-iterator.result in
     let same : all ≡ c.args.job.statements = c.into_iter-statement-iterator.ensures.into_iter_gives.0 ∙ c.into_items-statement-items.ensures in
-    let empty = nothing_left (into_iter_items at.statement-iterator) (sym at.invariant.left ∙ c.in-None.ensures.steps.0) in
-    let going = subst (λ (xs : List Kept). GoesOn T at.progress all xs) empty at.invariant.going in
-    made T at.progress all c.args.job.statements c.in_ok-program.program c.args.workers (going-end T at.progress all going) same c.in_ok-program.ensures.ok.0 c.in_ok-program.ensures.ok.1
+    done-has T c.args.workers at.progress (statements_of c.args.job)
+    (ended T c.args.workers at.progress all (into_iter_items at.statement-iterator) c.args.job.statements at.invariant.going (sym at.invariant.left ∙ c.in-None.ensures.steps.0) same)
+
+-- the open phases are closed
+shut_at : (c : goal.In_ok-close_last) → IsShut c.args.job.roots c.args.workers c.close_last.new.self (statements_of c.args.job)
+shut_at c =
+    let T = c.args.job.roots in
+    let at = c.loop-statement in
+    let all = into_iter_items c.into_iter-statement-iterator.result in
+    let same : all ≡ c.args.job.statements = c.into_iter-statement-iterator.ensures.into_iter_gives.0 ∙ c.into_items-statement-items.ensures in
+    shut T c.args.workers at.progress c.close_last.new.self (statements_of c.args.job)
+    (ended T c.args.workers at.progress all (into_iter_items at.statement-iterator) c.args.job.statements at.invariant.going (sym at.invariant.left ∙ c.in-None.ensures.steps.0) same)
+    c.in_ok-close_last.ensures.none c.in_ok-close_last.ensures.closes
+
+-- the program is that of the job, and within the limits
+record IsMade (T : Table) (p : Program) (ss : List Statement) (workers : ℕ) : Type 0 where
+  is : p ≡ lowered ss workers
+  few_tasks : length p.tasks ≤ 262144
+  few_cells : length p.cells ≤ 262144
+
+made : (T : Table) (g : Progress) (ss : List Statement) (p : Program) (workers : ℕ) → IsShut T workers g ss → g.over ≡ None → ((T : Table) (S : State) (L : Lowering) → IsAt T g S L → p ≡ program_of g.workers L) → IsMade T p ss workers
+made T g ss p workers d none finish =
+    let is : p ≡ program_of g.workers d.lowering = finish T d.state d.lowering d.at in
+    record {
+      is = is ∙ (λ i. program_of (d.workers_are i) (d.is i));
+      few_tasks = omega (arith, d.at.few_tasks none, ap (λ (p : Program). length p.tasks) is);
+      few_cells = omega (arith, d.at.few_cells, ap (λ (p : Program). length p.cells) is);
+    }
+
+whole_job : (T : Table) (p : Program) (statements : List Kept) (workers : ℕ) → IsTable T → IsNumbered T statements → (j : IsJob (seen_from T 0 statements)) → IsMade T p (seen_from T 0 statements) workers → IsWhole T p (seen_from T 0 statements)
+whole_job T p statements workers table numbered j m =
+    let ss = seen_from T 0 statements in
+    let named = names-all workers T 0 nothing start statements table.2 (omega (arith, numbered.counted)) numbered.placed (numbered-none T) in
+    subst (λ (q : Program). IsWhole T q ss) (sym m.is) (whole j.has T ss workers (all_can_be j.has 0 start ss j.well) named)
+
+lowered_to : (c : goal.In_ok-program) → IsMade c.args.job.roots c.in_ok-program.program (statements_of c.args.job) c.args.workers
+lowered_to c =
+    made c.args.job.roots c.close_last.new.self (statements_of c.args.job) c.in_ok-program.program c.args.workers (shut_at c.in_ok-close_last) c.in_ok-program.ensures.ok.0 c.in_ok-program.ensures.ok.1
 
 whole_at : (c : goal.In_ok-program) → IsWhole c.args.job.roots c.in_ok-program.program (statements_of c.args.job)
 whole_at c =
@@ -118,11 +142,22 @@ returns-clause-is c = (lowered_to c).is
 pub returns-clause-proper : goal.returns-clause-proper
 returns-clause-proper c = let m = lowered_to c in proper c.args.job.roots c.in_ok-program.program (statements_of c.args.job) (whole_at c) m.few_tasks m.few_cells
 
-pub returns-clause-plain : goal.returns-clause-plain
-returns-clause-plain c = plain c.args.job.roots c.in_ok-program.program (statements_of c.args.job) (whole_at c)
+-- the set has the codelets of the program
+all_known : (p : Program) (ss : List Statement) (workers : ℕ) (has : Kernel → Bool) → p ≡ lowered ss workers → IsJobIn has ss → All (IsKnown has) p.tasks
+all_known p ss workers has is j = subst (λ (q : Program). All (IsKnown has) q.tasks) (sym is) (known has workers ss (own-of has j.own) (all_can_be has 0 start ss j.well))
+
+pub returns-clause-known : goal.returns-clause-known
+returns-clause-known c = λ has j. all_known c.in_ok-program.program (statements_of c.args.job) c.args.workers has (lowered_to c).is j
 
 pub returns-clause-prints : goal.returns-clause-prints
-returns-clause-prints c = delivers_printed c.args.job.roots c.in_ok-program.program (statements_of c.args.job) (whole_at c)
+returns-clause-prints c = λ has lawful some.
+    let m = lowered_to c in
+    let p = c.in_ok-program.program in
+    let T = c.args.job.roots in
+    let w = whole_at c in
+    let staffed : 0 < p.workers = subst (λ (q : Program). 0 < q.workers) (sym m.is) some in
+    let trust : IsTrusted p = record { has = has; lawful = lawful; proper = proper T p (statements_of c.args.job) w m.few_tasks m.few_cells; staffed = staffed } in
+    delivers_printed T p (statements_of c.args.job) w trust
 
 pub returns-clause-handed_over : goal.returns-clause-handed_over
 returns-clause-handed_over c = names_deliver_tasks c.args.job.roots c.in_ok-program.program (statements_of c.args.job) (whole_at c)
