@@ -1,4 +1,4 @@
-use Rattle.std.proofs.Common.{◌≡◌, ◌∙◌, ◌+◌, refl, sym, ap, subst, arith}
+use Rattle.std.proofs.Common.{◌∙◌, ◌+◌, sym, subst}
 use Rattle.sj_lower.specs.declared.lower.Progress.{Progress}
 use Rattle.sj_lower.specs.Lowering.{all_closed}
 use Rattle.sj_lower.specs.Progress.{Prepares}

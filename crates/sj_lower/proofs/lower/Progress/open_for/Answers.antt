@@ -1,5 +1,4 @@
-use Rattle.std.proofs.Common.{◌≡◌, ◌<◌, ℕ, Bool, Option, None, Some, IfSome, IfNone, length, refl, subst}
-use Rattle.sj_base.specs.declared.ids.Cell.{Cell}
+use Rattle.std.proofs.Common.{◌≡◌, ◌<◌, Option, None, Some, IfSome, IfNone, length, refl, subst}
 use Rattle.sj_job.specs.Table.{Table}
 use Rattle.sj_lower.specs.declared.lower.Progress.{Progress}
 use Rattle.sj_lower.specs.Cells.{Cells, with_copies}
