@@ -1,4 +1,4 @@
-use Rattle.std.proofs.Common.{◌≡◌, refl, Result, ◌∙◌, subst, sym}
+use Rattle.std.proofs.Common.{refl, Result, ◌∙◌, subst, sym}
 use Rattle.std.specs.Prelude.{IsOkAnd}
 use Rattle.std.proofs.lemmas.Bool.{false≢true}
 use Rattle.sj_job.specs.Job.{Job}
