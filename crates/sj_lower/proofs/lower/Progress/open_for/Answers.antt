@@ -1,4 +1,4 @@
-use Rattle.std.proofs.Common.{◌≡◌, ◌<◌, ℕ, Bool, Option, None, Some, IfSome, IfNone, length, get_or, refl, subst}
+use Rattle.std.proofs.Common.{◌≡◌, ◌<◌, Bool, Option, None, Some, IfSome, IfNone, length, get_or, refl, subst}
 use Rattle.sj_base.specs.declared.ids.Cell.{Cell}
 use Rattle.sj_base.specs.declared.mode.Reduction.{Reduction}
 use Rattle.sj_job.specs.declared.job.Operand.{Operand}
