@@ -5,7 +5,7 @@ use Rattle.sj_codelet.specs.declared.kernel.Kernel.{Kernel}
 use Rattle.sj_codelet.specs.declared.kernel.Kernel.TheVariants.{Deliver}
 use Rattle.sj_codelet.specs.Kernel.{kernels, kernel_of, codelet_of, has_name}
 use Rattle.sj_codelet.proofs.Table.{kernel_of-codelet_of}
-use Rattle.sj_job.specs.Act.{Act, Statement, Register, Plan, Redux, Task, Print, Invalidate, Unregister}
+use Rattle.sj_job.specs.Act.{Act, Statement, Register, Plan, Redux, Print, Invalidate, Unregister}
 use Rattle.sj_job.specs.Meaning.{apply}
 use Rattle.sj_job.specs.declared.form.TaskForm.{TaskForm}
 use Rattle.sj_job.specs.declared.form.Form.{Form}

@@ -1,12 +1,10 @@
 -- One statement more: what its lowering needs, and what it leaves.
-use Rattle.std.proofs.Common.{◌≡◌, ℕ, ◌+◌, ◌-◌, ◌<◌, ◌≤◌, Bool, Option, Some, None, List, [], ◌∷◌, All, map, length, vec_len, refl, ap, sym, subst, ◌∙◌, inl, inr, arith, length-append}
-use Rattle.std.specs.Prelude.{◌⊎◌}
+use Rattle.std.proofs.Common.{◌≡◌, ℕ, ◌+◌, ◌<◌, ◌≤◌, Bool, Some, None, List, [], ◌∷◌, All, map, length, vec_len, ap, sym, subst, ◌∙◌, arith, length-append}
 use Rattle.std.specs.List.{AllByRecursion}
 use Rattle.std.proofs.lemmas.List.Elements.{All-head, All-tail, All-from_recursion}
 use Rattle.indexmap.specs.IndexMap.{get}
 use Rattle.sj_base.specs.declared.ids.Cell.{Cell}
 use Rattle.sj_base.specs.declared.ids.Line.{Line}
-use Rattle.sj_base.specs.declared.ids.Root.{Root as RootNumber}
 use Rattle.sj_codelet.specs.declared.kernel.Kernel.{Kernel}
 use Rattle.sj_plan.specs.declared.parts.Parts.{Parts}
 use Rattle.sj_plan.specs.Parts.{IsPlace, places}
@@ -18,25 +16,23 @@ use Rattle.sj_job.specs.Act.{Act, Statement}
 use Rattle.sj_job.specs.Act.{Register as Registers, Plan as Plans, Redux as Reduces, Task as Tasks, Print as Prints, Invalidate as Invalidates, Unregister as Unregisters}
 use Rattle.sj_job.specs.Meaning.{apply}
 use Rattle.sj_job.specs.State.{Root, State, root_of}
-use Rattle.sj_job.specs.Sound.{IsSoundAct, has_child}
+use Rattle.sj_job.specs.Sound.{IsSoundAct}
 use Rattle.sj_job.specs.Table.{Table, AreDistinct, a_root, name_of}
 use Rattle.sj_job.specs.Track.{children_count}
 use Rattle.sj_job.specs.View.{act_seen, operand_seen, statement_seen, count_after, IsPlaced}
 use Rattle.sj_lower.specs.declared.layout.Layout.{Layout}
-use Rattle.sj_lower.specs.declared.lowerer.Active.{Active}
-use Rattle.sj_lower.specs.declared.lowerer.Lowerer.{Lowerer}
 use Rattle.sj_lower.specs.declared.lower.LowerRefusal.{LowerRefusal}
 use Rattle.sj_lower.specs.declared.lower.LowerRefusal.TheVariants.{TooManyCells, TooManyTasks, OutOfMemory}
 use Rattle.sj_lower.specs.declared.lower.Progress.{Progress}
-use Rattle.sj_lower.specs.Cells.{Cells, Handle, child_cell, info_at, take, with_root}
+use Rattle.sj_lower.specs.Cells.{Cells, Handle, child_cell, take, with_root}
 use Rattle.sj_lower.specs.Limits.{most, cells_in, tasks_in}
 use Rattle.sj_lower.specs.Lowering.{Lowering, cells_after, rows_of, prepared, add_own, lower_one}
-use Rattle.sj_lower.specs.Seen.{Lays, IsActive, IsCut, IsNext, HasNext, CanPass, HasPass, Passes, HasRoom, Does, active_at, handle_in, same_taken, taken, first_after, children_after}
+use Rattle.sj_lower.specs.Seen.{Lays, IsCut, IsNext, HasNext, CanPass, HasPass, Passes, HasRoom, Does, active_at, handle_in, same_taken, taken, first_after, children_after}
 use Rattle.sj_lower.specs.Progress.{AreCopied, IsAt, HasAt, IsComing, HasComing, Goes, GoesOwn, IsFull, IsFullBy, IsFullOwn, Prepares, HasActive, IsActiveOperand, NamesActives, preparing_by, over_after}
 use Rattle.sj_lower.proofs.Copies.{by_taken, child_none}
 use Rattle.sj_lower.proofs.Growing.{row_at, append-partials}
 use Rattle.sj_lower.proofs.Laid.{some_is}
-use Rattle.sj_lower.proofs.Matching.{AreThere, seen-there, preparing-is, preparing-more}
+use Rattle.sj_lower.proofs.Matching.{AreThere, seen-there, preparing-is}
 use Rattle.sj_lower.proofs.Naming.{prepared-names}
 use Rattle.sj_lower.proofs.Preparing.{over-late, over-early, over-again, over-stays}
 use Rattle.sj_lower.proofs.Running.{child_there, root_there, valued_there}

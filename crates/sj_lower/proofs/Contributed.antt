@@ -1,28 +1,25 @@
 -- A task that contributes keeps all that is known of the program.
 use Rattle.std.proofs.Common.{◌≡◌, ℕ, ◌+◌, ◌<◌, ◌≤◌, Bool, true, false, cond, not, ◌&&◌, ◌||◌, Option, Some, None, List, [], ◌∷◌, ◌++◌, length, map as each_of, refl, sym, ap, subst, ◌∙◌, inl, inr, arith, append_assoc, length-append}
-use Rattle.std.specs.Prelude.{◌⊎◌, All, Contains, unwrap_or}
-use Rattle.std.specs.List.{AllByRecursion, range_with_len, list_all, list_any, filter}
+use Rattle.std.specs.Prelude.{All, Contains, unwrap_or}
+use Rattle.std.specs.List.{AllByRecursion, range_with_len, list_all}
 use Rattle.std.specs.Option.{is_some}
-use Rattle.std.proofs.lemmas.Bool.{false≢true, and_parts}
+use Rattle.std.proofs.lemmas.Bool.{and_parts}
 use Rattle.std.proofs.lemmas.List.{append-nil, map-append}
 use Rattle.std.proofs.lemmas.List.Elements.{All-nil, All-cons, All-append, All-weaker, All-contains, Contains-append_cases}
 use Rattle.sj_base.specs.declared.ids.Cell.{Cell}
 use Rattle.sj_base.specs.declared.ids.Line.{Line}
-use Rattle.sj_base.specs.declared.ids.Worker.{Worker}
-use Rattle.sj_base.specs.declared.mode.Mode.{Mode}
-use Rattle.sj_base.specs.declared.mode.Mode.TheVariants.{W, Redux}
+use Rattle.sj_base.specs.declared.mode.Mode.TheVariants.{Redux}
 use Rattle.sj_base.specs.declared.mode.Access.{Access}
 use Rattle.sj_base.specs.declared.mode.Reduction.{Reduction}
 use Rattle.sj_base.specs.declared.mode.Reduction.TheVariants.{Plus, Least}
 use Rattle.sj_base.specs.declared.program.Delivery.{Delivery}
 use Rattle.sj_base.specs.declared.program.Lowered.{Lowered}
 use Rattle.sj_base.specs.declared.program.Program.{Program}
-use Rattle.sj_base.specs.Mode.{is_redux, reads_value}
+use Rattle.sj_base.specs.Mode.{reads_value}
 use Rattle.sj_codelet.specs.declared.kernel.Kernel.{Kernel}
 use Rattle.sj_codelet.specs.declared.kernel.Kernel.TheVariants.{Deliver}
 use Rattle.sj_codelet.specs.Kernel.{kernel_of}
-use Rattle.sj_core.specs.Program.{task_of, cell_info}
-use Rattle.sj_core.specs.Operands.{copy_of}
+use Rattle.sj_core.specs.Program.{cell_info}
 use Rattle.sj_core.specs.Proper.{IsPlain, HasValueBefore, access}
 use Rattle.sj_plan.proofs.Lists.{each-map}
 use Rattle.sj_job.specs.Statement.{Operand, TaskLine}
@@ -31,32 +28,31 @@ use Rattle.sj_job.specs.Act.{Task as Tasks}
 use Rattle.sj_job.specs.State.{State, Root, root_of, is_valued_child}
 use Rattle.sj_job.specs.Meaning.{Printed, contributed_to, run_task}
 use Rattle.sj_job.specs.Judge.{needs_value}
-use Rattle.sj_job.specs.Sound.{IsSoundTask, has_child, has_child_values, reduction_of}
+use Rattle.sj_job.specs.Sound.{IsSoundTask, has_child, has_child_values}
 use Rattle.sj_job.specs.Table.{Table}
 use Rattle.sj_lower.specs.declared.phase.OpenPhase.{OpenPhase}
-use Rattle.sj_lower.specs.Cells.{Cells, Handle, cell_of, cells_from, info_at, copy_at, first_copy, with_copies}
+use Rattle.sj_lower.specs.Cells.{Handle, cell_of, cells_from, copy_at, first_copy, with_copies}
 use Rattle.sj_lower.specs.Rows.{an_access, init_row, init_rows}
-use Rattle.sj_lower.specs.Lowering.{Lowering, parts_in, active_cell, access_of, task_row, add_own, turned, begun, opened, extended, begin_rows, with_phase}
+use Rattle.sj_lower.specs.Lowering.{Lowering, parts_in, access_of, task_row, add_own, turned, begun, opened, extended, begin_rows}
 use Rattle.sj_lower.proofs.Able.{CanBe}
 use Rattle.sj_lower.proofs.Agreeing.{reduction-is}
 use Rattle.sj_lower.proofs.Contents.{task_at, contents_before}
 use Rattle.sj_lower.proofs.Contributing.{agrees_contributed}
-use Rattle.sj_lower.proofs.Copies.{copies-more, copied-first}
+use Rattle.sj_lower.proofs.Copies.{copied-first}
 use Rattle.sj_lower.proofs.Delivered.{AreDelivered, NoneDelivers, delivered_beside}
-use Rattle.sj_lower.proofs.Fine.{IsFine, good-more, open-plain, open-own}
+use Rattle.sj_lower.proofs.Fine.{IsFine, good-more, open-plain}
 use Rattle.sj_lower.proofs.Folding.{Stand, stand-append, later}
 use Rattle.sj_lower.proofs.Giving.{IsGiving, log-extend, log-begin}
 use Rattle.sj_lower.proofs.Good.{IsGood, AreGood, HasItsCopies, good-all, good-append, good_init, good_task, plans-of, contribution-modes, all_given, no_copies}
-use Rattle.sj_lower.proofs.Growing.{Grows, grows-refl}
-use Rattle.sj_lower.proofs.Holding.{HasRoot, HaveTheirs}
+use Rattle.sj_lower.proofs.Holding.{HasRoot}
 use Rattle.sj_lower.proofs.Laid.{some_is, cell-inside}
-use Rattle.sj_lower.proofs.Logging.{Logged, IsAway, IsOwn, last-has, one-case}
+use Rattle.sj_lower.proofs.Logging.{Logged, IsAway, last-has, one-case}
 use Rattle.sj_lower.proofs.Opening.{IsOpened, IsChildOf, goes_on, begins_now, by_opened}
 use Rattle.sj_lower.proofs.Operands.{IsRead, Contributes, all-before}
 use Rattle.sj_lower.proofs.Owning.{one-owner, plain-child, copy-is}
 use Rattle.sj_lower.proofs.Phasing.{each-of_all}
 use Rattle.sj_lower.proofs.Running.{is_direct, IsClosed, active_cell-is, kernel_there}
-use Rattle.sj_lower.proofs.Stating.{Begins, begins-own, begins-less, stands-own, stands-more, Agrees}
+use Rattle.sj_lower.proofs.Stating.{Begins, begins-own, stands-more, Agrees}
 use Rattle.sj_lower.proofs.Whole.{operand-away}
 
 reads-direct : (vs : List Operand) → AllByRecursion IsRead vs → list_all (λ o. is_direct o.mode) vs ≡ true

@@ -1,7 +1,7 @@
 -- A task that contributes: its child denotes afterwards what the task line leaves there.
-use Rattle.std.proofs.Common.{◌≡◌, ℕ, suc, ◌+◌, ◌<◌, ◌≤◌, Bool, true, false, cond, not, ◌&&◌, ◌||◌, Option, Some, None, List, [], ◌∷◌, ◌++◌, ℤ, length, map as each_of, refl, sym, ap, subst, ◌∙◌, inl, inr, arith, length-append}
+use Rattle.std.proofs.Common.{◌≡◌, ℕ, suc, ◌+◌, ◌<◌, ◌≤◌, Bool, true, false, cond, not, ◌&&◌, ◌||◌, Option, Some, None, List, [], ◌∷◌, ◌++◌, ℤ, length, map as each_of, refl, sym, ap, subst, ◌∙◌, arith, length-append}
 use Rattle.std.specs.Prelude.{Contains, unwrap_or}
-use Rattle.std.specs.List.{AllByRecursion, filter, list_all, list_any}
+use Rattle.std.specs.List.{AllByRecursion, list_all, list_any}
 use Rattle.std.specs.Str.{bytes_eq}
 use Rattle.std.proofs.lemmas.Bool.{false≢true, and_parts}
 use Rattle.std.proofs.lemmas.List.{map-append}
@@ -13,8 +13,7 @@ use Rattle.sj_base.specs.declared.mode.Mode.TheVariants.{Redux}
 use Rattle.sj_base.specs.declared.mode.Access.{Access}
 use Rattle.sj_base.specs.declared.program.Lowered.{Lowered}
 use Rattle.sj_base.specs.declared.program.Program.{Program}
-use Rattle.sj_base.specs.Array.{Array, area}
-use Rattle.sj_base.specs.Mode.{is_data, is_redux}
+use Rattle.sj_base.specs.Array.{Array}
 use Rattle.sj_codelet.specs.declared.kernel.Kernel.{Kernel}
 use Rattle.sj_codelet.specs.Kernel.{kernel_of, new_arrays, operand, out, contributes_of}
 use Rattle.sj_codelet.specs.Laws.{result_of, combined, IsReduction}
@@ -38,20 +37,20 @@ use Rattle.sj_job.specs.Meaning.{child_array, contributed_to, seen_by, operand_a
 use Rattle.sj_job.specs.Judge.{needs_value, clashes, is_aliased, is_read_only}
 use Rattle.sj_job.specs.Sound.{IsSoundTask, has_child, has_child_values, child_dims}
 use Rattle.sj_lower.specs.declared.phase.OpenPhase.{OpenPhase}
-use Rattle.sj_lower.specs.Cells.{Cells, Handle, cell_of, cells_from, copy_at, info_at}
-use Rattle.sj_lower.specs.Lowering.{Lowering, active_cell, access_of, task_row, add_own}
-use Rattle.sj_lower.proofs.Adding.{IsSized, SizedCopies, sized, law, added, added-sized, denotes-more, result-more, others-kept, updates, works_on, all-sized}
+use Rattle.sj_lower.specs.Cells.{Handle, cell_of, cells_from, copy_at}
+use Rattle.sj_lower.specs.Lowering.{Lowering, access_of, task_row, add_own}
+use Rattle.sj_lower.proofs.Adding.{IsSized, SizedCopies, sized, law, added, denotes-more, result-more, others-kept, updates, all-sized}
 use Rattle.sj_lower.proofs.Agreeing.{puts-parts, reduction-is}
-use Rattle.sj_lower.proofs.Combined.{IsTrusted, Phases, with_all, all_workers, range-below, denoted-open, denoted-closed}
+use Rattle.sj_lower.proofs.Combined.{IsTrusted, with_all, all_workers, range-below, denoted-open, denoted-closed}
 use Rattle.sj_lower.proofs.Contents.{first_worker, task_at, contents_before, contents-next, same_cell-itself}
 use Rattle.sj_lower.proofs.Elements.{written-whole, written-array, written-other, written-valued}
 use Rattle.sj_lower.proofs.Folding.{Stand, later}
-use Rattle.sj_lower.proofs.Holding.{IsHeld, HasRoot, HaveRoots, HaveTheirs, HasCells, cell-dims, differs, not_copy, held-kept, root-kept, root-change}
-use Rattle.sj_lower.proofs.Laid.{AreLaid, IsTaken, none_isn't, some_is, same_name, bytes_eq-itself, cells-apart}
+use Rattle.sj_lower.proofs.Holding.{IsHeld, HasRoot, HaveRoots, cell-dims, differs, not_copy, held-kept, root-change}
+use Rattle.sj_lower.proofs.Laid.{IsTaken, some_is, same_name, bytes_eq-itself, cells-apart}
 use Rattle.sj_lower.proofs.Opening.{IsOpened, IsChildOf}
-use Rattle.sj_lower.proofs.Operands.{IsRead, Contributes, all-before, each-before, snoc-parts}
+use Rattle.sj_lower.proofs.Operands.{IsRead, Contributes, all-before, snoc-parts}
 use Rattle.sj_lower.proofs.Places.{place-is, place-itself}
-use Rattle.sj_lower.proofs.Running.{is_direct, IsClosed, HasKernel, kernel_there, child_there, child_dims-are, child_values-are, active_cell-is, operand_cell, needed, seen_there, by_mode, data_needs, or_none, new_dims, new_whole}
+use Rattle.sj_lower.proofs.Running.{is_direct, IsClosed, kernel_there, child_there, child_dims-are, child_values-are, active_cell-is, needed, seen_there, by_mode, data_needs, or_none, new_dims, new_whole}
 use Rattle.sj_lower.proofs.Stating.{Begins, stands-own, IsActiveChild, Agrees, by_cell}
 use Rattle.sj_lower.proofs.Writing.{all_dims, AreWhole}
 

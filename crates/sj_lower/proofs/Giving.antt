@@ -1,11 +1,11 @@
 -- The log of phases when a task contributes: its phase goes on, or begins.
-use Rattle.std.proofs.Common.{◌≡◌, ℕ, zero, suc, ◌+◌, ◌-◌, ◌<◌, ◌≤◌, Bool, true, false, cond, not, Option, Some, None, List, [], ◌∷◌, ◌++◌, length, get_or, map, refl, sym, ap, subst, ◌∙◌, inl, inr, arith, length-append}
+use Rattle.std.proofs.Common.{◌≡◌, ℕ, ◌+◌, ◌-◌, ◌<◌, ◌≤◌, Bool, true, false, cond, Some, None, List, [], ◌∷◌, ◌++◌, length, refl, sym, ap, subst, ◌∙◌, inl, inr, arith, length-append}
 use Rattle.std.specs.Prelude.{◌⊎◌, All, Contains}
-use Rattle.std.specs.List.{AllByRecursion, range_with_len}
+use Rattle.std.specs.List.{range_with_len}
 use Rattle.std.proofs.lemmas.Bool.{false≢true, cases_lt}
 use Rattle.std.proofs.lemmas.List.{length-map}
 use Rattle.std.proofs.lemmas.List.FromFn.{length-range_with_len}
-use Rattle.std.proofs.lemmas.List.Elements.{All-nil, All-cons, All-append, All-contains, All-weaker, Contains-append_left, Contains-append_right}
+use Rattle.std.proofs.lemmas.List.Elements.{All-nil, All-cons, All-append, All-weaker, Contains-append_left}
 use Rattle.sj_base.specs.declared.ids.Cell.{Cell}
 use Rattle.sj_base.specs.declared.ids.Line.{Line}
 use Rattle.sj_base.specs.declared.ids.Worker.{Worker}
@@ -14,16 +14,15 @@ use Rattle.sj_base.specs.declared.mode.Access.{Access}
 use Rattle.sj_base.specs.declared.mode.Reduction.{Reduction}
 use Rattle.sj_base.specs.declared.program.Lowered.{Lowered}
 use Rattle.sj_base.specs.declared.program.Program.{Program}
-use Rattle.sj_base.specs.Mode.{is_data, is_redux}
 use Rattle.sj_codelet.specs.Kernel.{kernel_of}
 use Rattle.sj_core.specs.Program.{data_operands, same_cell}
-use Rattle.sj_core.specs.Proper.{IsCopyOf, IsPlain, Phase, IsInit, IsContribution, Touches, names_as, task_number, access}
+use Rattle.sj_core.specs.Proper.{IsCopyOf, IsPlain, IsInit, IsContribution, Touches, names_as, task_number, access}
 use Rattle.sj_lower.specs.declared.phase.OpenPhase.{OpenPhase}
 use Rattle.sj_lower.specs.Cells.{copy_at}
 use Rattle.sj_lower.specs.Rows.{init_row, init_rows}
 use Rattle.sj_lower.specs.Lowering.{with_phase, begin_rows, extended}
 use Rattle.sj_lower.proofs.Combined.{Phases}
-use Rattle.sj_lower.proofs.Contents.{task_at, same_cell-is, same_cell-itself}
+use Rattle.sj_lower.proofs.Contents.{same_cell-is, same_cell-itself}
 use Rattle.sj_lower.proofs.Folding.{Stand, stand-append}
 use Rattle.sj_lower.proofs.Logging.{IsLogged, IsOpen, IsNamed, IsAdded, Logged, IsAway, away-touches, data-of, row-range, IsOwn, kernel-init, one-case, last-has, none_first}
 use Rattle.sj_lower.proofs.Owning.{is-copy}

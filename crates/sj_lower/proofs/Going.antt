@@ -215,12 +215,12 @@ shut-none T workers g new ss d none same = subst (λ (h : Progress). IsShut T wo
     empty : ss ≡ []
     empty = no_statement ss (sym d.last ∙ none)
 
-    either : (b : Bool) → (if b then None else None) ≡ {Option Line} None
-    either true = refl
-    either false = refl
+    either : (b : Bool) (o : Option Line) → (if b then o else o) ≡ o
+    either true o = refl
+    either false o = refl
 
     at_end : above_at_end workers ss ≡ None
-    at_end = ap (λ o. if nat_lt most (tasks_in (finished workers (lower_from workers start nothing ss))) then o else None) (sym d.last ∙ none) ∙ either (nat_lt most (tasks_in (finished workers (lower_from workers start nothing ss))))
+    at_end = ap (λ o. if nat_lt most (tasks_in (finished workers (lower_from workers start nothing ss))) then o else None) (sym d.last ∙ none) ∙ either (nat_lt most (tasks_in (finished workers (lower_from workers start nothing ss)))) None
 
     left : (o : Option Line) → line_or o None ≡ o
     left None = refl

@@ -1,7 +1,7 @@
 -- The codelets of a lowered program are those of the set by which its job was read.
-use Rattle.std.proofs.Common.{◌≡◌, ℕ, Bool, true, false, cond, not, ◌&&◌, ◌||◌, Option, Some, None, List, [], ◌∷◌, ◌++◌, length, map as each_of, refl, sym, ap, subst, ◌∙◌, fold}
+use Rattle.std.proofs.Common.{◌≡◌, ℕ, Bool, true, false, cond, not, ◌&&◌, ◌||◌, Option, Some, None, List, [], ◌∷◌, length, map as each_of, refl, sym, ap, ◌∙◌, fold}
 use Rattle.std.specs.Prelude.{All}
-use Rattle.std.specs.List.{AllByRecursion, range_with_len, filter, list_all}
+use Rattle.std.specs.List.{range_with_len, filter, list_all}
 use Rattle.std.proofs.lemmas.Bool.{false≢true, and_parts}
 use Rattle.std.proofs.lemmas.List.Elements.{All-nil, All-cons, All-append, All-from_recursion}
 use Rattle.sj_base.specs.declared.ids.Cell.{Cell}
@@ -13,11 +13,9 @@ use Rattle.sj_base.specs.declared.program.Lowered.{Lowered}
 use Rattle.sj_base.specs.Mode.{is_redux, is_commute}
 use Rattle.sj_codelet.specs.declared.kernel.Kernel.{Kernel}
 use Rattle.sj_codelet.specs.declared.kernel.Kernel.TheVariants.{Load, LoadFill, Paste, Deliver}
-use Rattle.sj_codelet.specs.Kernel.{kernel_of, codelet_of, fits, init_of, combine_of, has_reduction, contributes_of, contributes_in, commutes_in}
-use Rattle.sj_core.specs.Program.{same_cell}
+use Rattle.sj_codelet.specs.Kernel.{kernel_of, fits, init_of, combine_of, has_reduction, contributes_of, contributes_in, commutes_in}
 use Rattle.sj_core.specs.Laws.{is_known}
 use Rattle.sj_plan.specs.declared.parts.Parts.{Parts}
-use Rattle.sj_plan.specs.declared.paste.Paste.{Paste as PasteOf}
 use Rattle.sj_plan.specs.Parts.{places}
 use Rattle.sj_plan.specs.Paste.{pastes_of}
 use Rattle.sj_plan.specs.Rect.{child}
@@ -27,16 +25,15 @@ use Rattle.sj_job.specs.declared.job.Init.TheVariants.{Values, Fill, Nothing}
 use Rattle.sj_job.specs.Statement.{Operand, Register, TaskLine}
 use Rattle.sj_job.specs.Act.{Act, Statement}
 use Rattle.sj_job.specs.Act.{Register as Registers, Plan as Plans, Redux as Reduces, Task as Tasks, Print as Prints, Invalidate as Invalidates, Unregister as Unregisters}
-use Rattle.sj_job.specs.State.{Root, State, root_of, is_valued, start}
+use Rattle.sj_job.specs.State.{Root, State, root_of, start}
 use Rattle.sj_job.specs.Meaning.{apply}
 use Rattle.sj_job.specs.Sound.{IsSoundTask, is_lawful, reduction_of, has_child_values, child_dims}
 use Rattle.sj_lower.specs.declared.phase.OpenPhase.{OpenPhase}
-use Rattle.sj_lower.specs.Cells.{Cells, same_parts, cell_of, copy_at, first_copy}
+use Rattle.sj_lower.specs.Cells.{Cells, cell_of, copy_at, first_copy}
 use Rattle.sj_lower.specs.Rows.{load_row, fill_row, paste_row, deliver_row, init_row, combine_row, init_rows, combine_rows}
-use Rattle.sj_lower.specs.Lowering.{Lowering, nothing, cells_after, load_rows, is_idle, plan_rows, deliver_rows, parts_in, active_cell, rows_of, closed_by, closed, all_closed, begin_rows, begun, opened, opened_for, contributions, extended, turned, with_phase, prepared, add_own, lower_one, lower_from, finished}
+use Rattle.sj_lower.specs.Lowering.{Lowering, nothing, cells_after, load_rows, is_idle, plan_rows, parts_in, active_cell, rows_of, closed_by, closed, all_closed, begin_rows, begun, opened, opened_for, contributions, extended, turned, with_phase, prepared, lower_one, lower_from, finished}
 use Rattle.sj_lower.proofs.Able.{CanBe, AllCanBe}
 use Rattle.sj_lower.proofs.Closing.{by_phase}
-use Rattle.sj_lower.proofs.Contents.{same_cell-is}
 use Rattle.sj_lower.proofs.Stating.{phase-own, phase-other, by_cell}
 
 -- the set has the task's codelet

@@ -1,23 +1,16 @@
 -- All statements: the tasks of the lowered program are good, its phases are logged, and its deliveries are those of the job's
 -- prints.
-use Rattle.std.proofs.Common.{◌≡◌, ℕ, ◌+◌, ◌<◌, ◌≤◌, ◌^◌, Bool, true, false, cond, not, ◌&&◌, Option, Some, None, List, [], ◌∷◌, ◌++◌, length, map as each_of, refl, sym, ap, subst, ◌∙◌, inl, inr, arith, append_assoc, fold}
-use Rattle.std.specs.Prelude.{All}
+use Rattle.std.proofs.Common.{◌≡◌, ℕ, ◌<◌, Bool, true, false, cond, not, ◌&&◌, Option, Some, None, List, [], ◌∷◌, ◌++◌, length, map as each_of, refl, sym, ap, subst, ◌∙◌, arith, append_assoc, fold}
 use Rattle.std.specs.List.{AllByRecursion, range_with_len, list_all, list_any, filter}
 use Rattle.std.proofs.lemmas.Bool.{false≢true, and_parts}
-use Rattle.std.proofs.lemmas.List.{append-nil, get_or_past, length-map}
+use Rattle.std.proofs.lemmas.List.{append-nil}
 use Rattle.std.proofs.lemmas.List.Elements.{All-from_recursion, All-get_or}
 use Rattle.sj_base.specs.declared.ids.Cell.{Cell}
 use Rattle.sj_base.specs.declared.ids.Line.{Line}
-use Rattle.sj_base.specs.declared.mode.Mode.{Mode}
 use Rattle.sj_base.specs.declared.mode.Reduction.{Reduction}
-use Rattle.sj_base.specs.declared.program.CellInfo.{CellInfo}
-use Rattle.sj_base.specs.declared.program.Delivery.{Delivery}
-use Rattle.sj_base.specs.declared.program.Lowered.{Lowered}
 use Rattle.sj_base.specs.declared.program.Program.{Program}
-use Rattle.sj_base.specs.Array.{area}
-use Rattle.sj_base.specs.Mode.{is_data, is_redux}
+use Rattle.sj_base.specs.Mode.{is_redux}
 use Rattle.sj_codelet.specs.declared.kernel.Kernel.{Kernel}
-use Rattle.sj_core.specs.Program.{task_of, same_cell}
 use Rattle.sj_plan.specs.declared.parts.Parts.{Parts}
 use Rattle.sj_plan.specs.Parts.{IsPlace, places}
 use Rattle.sj_job.specs.Statement.{Operand, TaskLine}
@@ -29,21 +22,17 @@ use Rattle.sj_job.specs.Sound.{has_child, has_child_values, reduction_of}
 use Rattle.sj_job.specs.Table.{Table, undivided}
 use Rattle.sj_job.specs.Track.{number}
 use Rattle.sj_lower.specs.declared.phase.OpenPhase.{OpenPhase}
-use Rattle.sj_lower.specs.Cells.{Cells, same_parts, cell_of, with_copies}
-use Rattle.sj_lower.specs.Lowering.{Lowering, nothing, parts_in, active_cell, active_cells, is_other_access, closed_by, all_closed, opened, opened_for, contributions, prepared, add_own, lower_one, lower_from, finished, lowered, turned, begun, begin_rows, extended}
+use Rattle.sj_lower.specs.Cells.{Cells, same_parts, cell_of}
+use Rattle.sj_lower.specs.Lowering.{Lowering, nothing, parts_in, active_cell, active_cells, is_other_access, closed_by, all_closed, opened, opened_for, contributions, prepared, add_own, lower_one, lower_from, finished, lowered, turned, begun, extended}
 use Rattle.sj_lower.proofs.Able.{CanBe, AllCanBe}
-use Rattle.sj_lower.proofs.Agreeing.{none_of, IsShut, IsShutBy, agrees_start}
+use Rattle.sj_lower.proofs.Agreeing.{IsShutBy, agrees_start}
 use Rattle.sj_lower.proofs.Closing.{begins-all_closed, all_closed-cells, all_closed-none, all_closed-own}
-use Rattle.sj_lower.proofs.Contents.{task_at}
 use Rattle.sj_lower.proofs.Contributed.{fine_contributed}
 use Rattle.sj_lower.proofs.Copies.{copies-more}
-use Rattle.sj_lower.proofs.Delivered.{AreDelivered, delivered_none}
+use Rattle.sj_lower.proofs.Delivered.{delivered_none}
 use Rattle.sj_lower.proofs.Fine.{IsFine, open-inside, fine_all_closed}
-use Rattle.sj_lower.proofs.Good.{IsGood}
-use Rattle.sj_lower.proofs.Growing.{Grows, grows-refl}
-use Rattle.sj_lower.proofs.Holding.{HasCells, HaveTheirs}
-use Rattle.sj_lower.proofs.Laid.{AreLaid, none_isn't}
-use Rattle.sj_lower.proofs.Logging.{Logged, logged-none}
+use Rattle.sj_lower.proofs.Growing.{grows-refl}
+use Rattle.sj_lower.proofs.Logging.{logged-none}
 use Rattle.sj_lower.proofs.Operands.{IsRead, Contributes, contributes-there, all-before, each-before}
 use Rattle.sj_lower.proofs.Phasing.{each-worker}
 use Rattle.sj_lower.proofs.Places.{number-below, places-at, length-places}

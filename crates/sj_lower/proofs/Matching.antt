@@ -1,11 +1,10 @@
 -- What comes before a statement's own tasks, by the code's active plans, is what the definition says.
-use Rattle.std.proofs.Common.{◌≡◌, ℕ, ◌+◌, ◌<◌, ◌≤◌, Bool, true, false, cond, ◌&&◌, not, Option, Some, None, List, [], ◌∷◌, ◌++◌, map, filter, length, take, drop, get_or, unwrap_or, refl, sym, ap, subst, ◌∙◌, arith, fold, All}
+use Rattle.std.proofs.Common.{◌≡◌, ℕ, ◌+◌, ◌<◌, ◌≤◌, Bool, true, false, cond, ◌&&◌, Option, Some, None, List, [], ◌∷◌, ◌++◌, map, filter, length, take, drop, get_or, unwrap_or, refl, sym, ap, subst, ◌∙◌, arith, fold, All}
 use Rattle.std.specs.List.{AllByRecursion, list_all}
 use Rattle.std.specs.Option.{is_some}
 use Rattle.std.proofs.lemmas.Bool.{and_parts}
 use Rattle.std.proofs.lemmas.List.{take_more, take_all, take-append-drop}
 use Rattle.std.proofs.lemmas.List.Elements.{All-head, All-tail, filter-append}
-use Rattle.std.proofs.lemmas.List.Sums.{fold-append}
 use Rattle.sj_base.specs.declared.ids.Cell.{Cell}
 use Rattle.sj_base.specs.declared.ids.Line.{Line}
 use Rattle.sj_base.specs.declared.ids.Root.{Root as RootNumber}
@@ -25,9 +24,8 @@ use Rattle.sj_job.specs.Track.{is_set}
 use Rattle.sj_job.specs.View.{operand_seen, act_seen, IsPlaced}
 use Rattle.sj_job.proofs.Children.{child-valued}
 use Rattle.sj_lower.specs.declared.lowerer.Active.{Active}
-use Rattle.sj_lower.specs.declared.lower.Progress.{Progress}
-use Rattle.sj_lower.specs.Cells.{Cells, Handle, same_parts, first_cell, cells_from, cell_of}
-use Rattle.sj_lower.specs.Limits.{most, cells_in, tasks_in}
+use Rattle.sj_lower.specs.Cells.{Cells, Handle, same_parts, first_cell, cells_from}
+use Rattle.sj_lower.specs.Limits.{cells_in, tasks_in}
 use Rattle.sj_lower.specs.Lowering.{Lowering, active_cell, active_cells, parts_in, closed_by, all_closed, is_other_access, contributions, opened, opened_for, prepared}
 use Rattle.sj_lower.specs.Seen.{AreActive, IsActive, active_at}
 use Rattle.sj_lower.specs.Progress.{is_other, is_contributed, cells_by, cell_by, closing_by, opening_for, opening_all, contributed_by, preparing_by}

@@ -1,7 +1,6 @@
 -- The phase of a contribution is open: the partial copies and the cell denote together what the contribution adds to.
 use Rattle.std.proofs.Common.{◌≡◌, ℕ, ◌+◌, ◌<◌, ◌≤◌, Bool, true, false, cond, Option, Some, None, List, [], ◌∷◌, ◌++◌, length, refl, sym, ap, subst, ◌∙◌, arith, length-append}
 use Rattle.std.specs.List.{AllByRecursion}
-use Rattle.std.proofs.lemmas.Bool.{false≢true}
 use Rattle.std.proofs.lemmas.List.{append-nil}
 use Rattle.sj_base.specs.declared.ids.Cell.{Cell}
 use Rattle.sj_base.specs.declared.ids.Line.{Line}
@@ -9,30 +8,28 @@ use Rattle.sj_base.specs.declared.mode.Reduction.{Reduction}
 use Rattle.sj_base.specs.declared.program.CellInfo.{CellInfo}
 use Rattle.sj_base.specs.declared.program.Lowered.{Lowered}
 use Rattle.sj_base.specs.declared.program.Program.{Program}
-use Rattle.sj_base.specs.declared.tile.Dims.{Dims}
 use Rattle.sj_base.specs.Array.{Array, zeros}
 use Rattle.sj_codelet.specs.Laws.{IsReduction, IsTile, combined, unit_of}
 use Rattle.sj_core.specs.Program.{same_cell, dims_of}
 use Rattle.sj_core.specs.Proper.{HasValueBefore}
 use Rattle.sj_core.specs.Fold.{Contents, held_in}
 use Rattle.sj_core.proofs.Combining.{unit-same}
-use Rattle.sj_core.proofs.Sized.{AreSized, after_chosen-sized}
+use Rattle.sj_core.proofs.Sized.{AreSized}
 use Rattle.sj_plan.specs.Parts.{IsPlace}
 use Rattle.sj_plan.specs.Rect.{child, dims_of as rect_dims}
 use Rattle.sj_job.specs.State.{Root, State, root_of, child_rect, is_valued_child}
 use Rattle.sj_job.specs.Meaning.{child_array, child_unit, contributed_to}
 use Rattle.sj_lower.specs.declared.phase.OpenPhase.{OpenPhase}
-use Rattle.sj_lower.specs.Cells.{Cells, cell_of, info_at, copy_at, copy_info, first_copy, with_copies}
+use Rattle.sj_lower.specs.Cells.{Cells, cell_of, info_at, copy_at, first_copy, with_copies}
 use Rattle.sj_lower.specs.Lowering.{Lowering, with_phase, turned, begin_rows, begun, opened, extended}
-use Rattle.sj_lower.proofs.Combined.{Phases, IsTrusted, with_all, all_workers, range-below, denoted-closed, denoted-open}
-use Rattle.sj_lower.proofs.Contents.{first_worker, task_at, contents_before, same_cell-is}
+use Rattle.sj_lower.proofs.Combined.{IsTrusted, with_all, all_workers, denoted-closed, denoted-open}
+use Rattle.sj_lower.proofs.Contents.{task_at, contents_before}
 use Rattle.sj_lower.proofs.Copies.{HaveCopies, IsNoCopy, copies-grow, copies-copied, laid-copied, copied-first, copied-handles}
 use Rattle.sj_lower.proofs.Folding.{Stand, after_rows, contents-rows, one_gives, given-rows, later}
-use Rattle.sj_lower.proofs.Growing.{Grows}
-use Rattle.sj_lower.proofs.Holding.{IsHeld, HasRoot, HaveRoots, HaveTheirs, HasCells, not_copy, differs, cell-dims}
+use Rattle.sj_lower.proofs.Holding.{IsHeld, HasRoot, HaveTheirs, differs, cell-dims}
 use Rattle.sj_lower.proofs.Laid.{AreLaid, IsTaken, none_isn't, some_is, cell-is, cell-inside}
-use Rattle.sj_lower.proofs.Phasing.{unit_at, IsBeside, begin-copies, begin-own, begin-valued, begin-others, begin-gives, begin-gives_own, each-of_all}
-use Rattle.sj_lower.proofs.Stating.{Begins, begins-less, stands-more, Agrees, phase-own, phase-other, by_cell}
+use Rattle.sj_lower.proofs.Phasing.{IsBeside, begin-copies, begin-own, begin-valued, begin-others, begin-gives, begin-gives_own, each-of_all}
+use Rattle.sj_lower.proofs.Stating.{Begins, stands-more, Agrees, phase-own, phase-other, by_cell}
 
 -- after M the phase of the cell is open, and the cell denotes x; nothing else is changed since L
 pub record IsOpened (p : Program) (L M : Lowering) (c : Cell) (by : Reduction) (x : Array) : Type 0 where

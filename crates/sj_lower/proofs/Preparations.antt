@@ -1,6 +1,6 @@
 -- The phases of a statement's contributions go on or begin; and what comes before its own tasks, by the active plans, is what the
 -- definition says.
-use Rattle.std.proofs.Common.{◌≡◌, ℕ, ◌+◌, ◌<◌, ◌≤◌, Bool, true, false, cond, Option, Some, None, List, [], ◌∷◌, ◌++◌, length, vec_len, nat_eq, is_some, get_or, refl, sym, ap, subst, ◌∙◌, arith, length-append, fold, inl, inr}
+use Rattle.std.proofs.Common.{◌≡◌, ℕ, ◌+◌, ◌<◌, ◌≤◌, Bool, true, false, cond, Option, Some, None, List, [], ◌∷◌, ◌++◌, length, vec_len, nat_eq, is_some, refl, sym, ap, subst, ◌∙◌, arith, length-append, inl, inr}
 use Rattle.std.proofs.lemmas.List.{append-nil}
 use Rattle.std.proofs.lemmas.List.FromFn.{length-map-range_with_len}
 use Rattle.indexmap.specs.IndexMap.{get}
@@ -9,7 +9,6 @@ use Rattle.sj_base.specs.declared.ids.Line.{Line}
 use Rattle.sj_base.specs.declared.mode.Reduction.{Reduction}
 use Rattle.sj_base.specs.declared.program.CellInfo.{CellInfo}
 use Rattle.sj_base.specs.declared.program.Lowered.{Lowered}
-use Rattle.sj_core.specs.Program.{no_cell}
 use Rattle.sj_job.specs.State.{State}
 use Rattle.sj_job.specs.Table.{Table, a_root, name_of}
 use Rattle.sj_lower.specs.declared.layout.Layout.{Layout}
@@ -20,11 +19,11 @@ use Rattle.sj_lower.specs.Cells.{Cells, Handle, info_at, first_copy, with_copies
 use Rattle.sj_lower.specs.Limits.{most, cells_in, tasks_in}
 use Rattle.sj_lower.specs.Rows.{init_row, init_rows}
 use Rattle.sj_lower.specs.Cells.{copy_at}
-use Rattle.sj_lower.specs.Lowering.{Lowering, turned, extended, begin_rows, begun, opened}
-use Rattle.sj_lower.specs.Seen.{AreActive, IsActive, Lays}
-use Rattle.sj_lower.specs.Progress.{AreCopied, IsAt, HasAt, HasCopies, Prepares, over_after}
-use Rattle.sj_lower.proofs.Copies.{Copied, first-old, next_cell, by_copies, copied-length, copied-partials, copied-first, copied-handles, copied-roots, copies-more}
-use Rattle.sj_lower.proofs.Growing.{row_at}
+use Rattle.sj_lower.specs.Lowering.{Lowering, nothing, turned, extended, begin_rows, begun, opened}
+use Rattle.sj_lower.specs.Seen.{AreActive, Lays}
+use Rattle.sj_lower.specs.Progress.{AreCopied, IsAt, HasAt, HasCopies, Prepares}
+use Rattle.sj_lower.proofs.Copies.{Copied, first-old, by_copies, copied-length, copied-partials, copied-first, copied-handles, copied-roots, copies-more}
+use Rattle.sj_lower.proofs.Growing.{row_at, has-row}
 use Rattle.sj_lower.proofs.Laid.{none_isn't}
 use Rattle.sj_lower.proofs.Preparing.{IsBeside, Turns, Sets, over-kept, prepares-over, prepares-late, prepares-on, few-at}
 
@@ -139,6 +138,13 @@ actives-copied T workers c C as' S there a =
         room = x.room;
       });
     }
+
+-- nothing has partial copies before the first statement
+pub copied-none : (workers : ℕ) → AreCopied workers nothing
+copied-none workers = record {
+  inside = λ c f e. (let row = has-row [] c.0 f e in absurd (omega (arith, row)));
+  theirs = λ c f e. absurd (none_isn't f e);
+}
 
 -- what the layout does
 abbrev pub IsCopying : Layout → Layout → ℕ → Cell → Cell → Type 0

@@ -1,6 +1,5 @@
 -- Phases that are closed, go on or begin before a statement's own tasks: the code does what the definition does.
-use Rattle.std.proofs.Common.{◌≡◌, ℕ, ◌+◌, ◌<◌, ◌≤◌, Bool, true, false, cond, Option, Some, None, List, [], ◌∷◌, ◌++◌, length, vec_len, nat_eq, nat_lt, is_some, refl, sym, ap, subst, ◌∙◌, arith, length-append, fold, if◌then◌else◌, inl, inr}
-use Rattle.std.specs.Prelude.{◌⊎◌, map, filter}
+use Rattle.std.proofs.Common.{◌≡◌, ℕ, ◌+◌, ◌<◌, ◌≤◌, Bool, true, false, cond, Option, Some, None, List, [], ◌∷◌, ◌++◌, length, vec_len, nat_eq, nat_lt, is_some, refl, sym, ap, subst, ◌∙◌, arith, length-append, if◌then◌else◌}
 use Rattle.std.proofs.lemmas.List.FromFn.{length-map-range_with_len}
 use Rattle.std.proofs.lemmas.Bool.{ltb-true}
 use Rattle.std.proofs.lemmas.Bool.Decides.{nat_tests}
@@ -8,16 +7,15 @@ use Rattle.indexmap.specs.IndexMap.{get}
 use Rattle.sj_base.specs.declared.ids.Cell.{Cell}
 use Rattle.sj_base.specs.declared.ids.Line.{Line}
 use Rattle.sj_base.specs.declared.program.Lowered.{Lowered}
-use Rattle.sj_core.specs.Program.{same_cell}
 use Rattle.sj_job.specs.State.{State}
 use Rattle.sj_job.specs.Table.{Table}
 use Rattle.sj_lower.specs.declared.lower.Progress.{Progress}
 use Rattle.sj_lower.specs.declared.phase.OpenPhase.{OpenPhase}
 use Rattle.sj_lower.specs.Cells.{info_at, copy_at}
-use Rattle.sj_lower.specs.Limits.{most, cells_in, tasks_in}
+use Rattle.sj_lower.specs.Limits.{most, tasks_in}
 use Rattle.sj_lower.specs.Rows.{combine_row, combine_rows}
 use Rattle.sj_lower.specs.Lowering.{Lowering, with_phase, turned, closed, all_closed}
-use Rattle.sj_lower.specs.Seen.{AreActive, Follows, Lays}
+use Rattle.sj_lower.specs.Seen.{AreActive, Lays}
 use Rattle.sj_lower.specs.Progress.{AreCopied, IsAt, HasAt, Prepares, over_after}
 use Rattle.sj_lower.proofs.Closing.{by_phase}
 use Rattle.sj_lower.proofs.Laid.{none_isn't}

@@ -1,5 +1,5 @@
 -- The program of a job is proper.
-use Rattle.std.proofs.Common.{◌≡◌, ℕ, ◌+◌, ◌<◌, ◌≤◌, ◌^◌, true, Option, Some, None, List, [], length, get_or, refl, sym, ap, subst, ◌∙◌, inl, inr, arith}
+use Rattle.std.proofs.Common.{◌≡◌, ℕ, ◌+◌, ◌<◌, ◌≤◌, ◌^◌, true, Some, List, length, get_or, sym, ap, subst, ◌∙◌, inl, inr, arith}
 use Rattle.std.specs.Option.{is_some}
 use Rattle.std.specs.Prelude.{◌⊎◌, nat_eq, count_by, Contains}
 use Rattle.std.specs.List.{All, AllPairs}
@@ -15,24 +15,21 @@ use Rattle.sj_base.specs.declared.program.Lowered.{Lowered}
 use Rattle.sj_base.specs.declared.program.Program.{Program}
 use Rattle.sj_base.specs.Array.{area}
 use Rattle.sj_base.specs.Mode.{is_redux, reads_value}
-use Rattle.sj_codelet.specs.declared.kernel.Kernel.{Kernel}
 use Rattle.sj_codelet.specs.declared.kernel.Kernel.TheVariants.{Deliver}
 use Rattle.sj_codelet.specs.Kernel.{kernel_of}
-use Rattle.sj_core.specs.Laws.{IsLawful}
 use Rattle.sj_core.specs.Operands.{copy_of}
-use Rattle.sj_core.specs.Program.{no_cell, no_task, cell_info, dims_of, task_of}
+use Rattle.sj_core.specs.Program.{no_cell, no_task, cell_info, task_of}
 use Rattle.sj_core.specs.Proper.{Proper, NamesCells, IsCopyOf, IsPlain, Fits, IsUnaliased, HasValueBefore, ReadsValues, HasPhases, HasDeliveries, IsWithinLimits, task_number}
 use Rattle.sj_job.specs.Act.{Statement}
 use Rattle.sj_job.specs.Meaning.{printed}
 use Rattle.sj_job.specs.Table.{Table}
 use Rattle.sj_lower.specs.Cells.{Cells, info_at, copy_info}
-use Rattle.sj_lower.specs.Lowering.{Lowering}
 use Rattle.sj_lower.specs.Delivering.{DeliversPrinted, NamesDeliverTasks, DeliversInOrder}
 use Rattle.sj_lower.proofs.Combined.{IsTrusted}
 use Rattle.sj_lower.proofs.Contents.{task_at}
 use Rattle.sj_lower.proofs.Copies.{HaveCopies}
 use Rattle.sj_lower.proofs.Delivered.{AreDelivered, AreHanded, of_print}
-use Rattle.sj_lower.proofs.Good.{IsGood, HasItsCopies}
+use Rattle.sj_lower.proofs.Good.{IsGood}
 use Rattle.sj_lower.proofs.Logging.{Logged, has-phases}
 use Rattle.sj_lower.proofs.Lowered.{IsWhole}
 use Rattle.sj_lower.proofs.Owning.{first-of}

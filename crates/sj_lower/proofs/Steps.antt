@@ -22,7 +22,7 @@ use Rattle.sj_lower.specs.declared.lower.LowerRefusal.TheVariants.{TooManyCells,
 use Rattle.sj_lower.specs.declared.lower.Progress.{Progress}
 use Rattle.sj_lower.specs.declared.lowerer.Active.{Active}
 use Rattle.sj_lower.specs.Cells.{Cells, cells_from, with_copies}
-use Rattle.sj_lower.specs.Limits.{most, cells_in, tasks_in}
+use Rattle.sj_lower.specs.Limits.{most, cells_in}
 use Rattle.sj_lower.specs.Lowering.{Lowering, closed, all_closed, opened, finished}
 use Rattle.sj_lower.specs.Seen.{Lays, active_at}
 use Rattle.sj_lower.specs.Progress.{IsAt, HasAt, Prepares, IsFullBy, HasActive, IsActiveOperand, is_other, is_contributed, cells_by, cell_by, closing_by, contributed_by, opening_for, opening_all, preparing_by}

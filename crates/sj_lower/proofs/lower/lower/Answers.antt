@@ -1,8 +1,8 @@
-use Rattle.std.proofs.Common.{◌≡◌, ◌∙◌, ℕ, ◌≤◌, ◌<◌, Bool, List, [], ◌∷◌, None, All, refl, ap, subst, sym, length, arith, Result, Ok, Err, IfErr, IsErrAnd}
+use Rattle.std.proofs.Common.{◌≡◌, ◌∙◌, ℕ, ◌≤◌, ◌<◌, Bool, List, [], ◌∷◌, None, Some, All, refl, ap, subst, sym, length, arith, Result, Ok, Err, IfErr, IsErrAnd}
 use Rattle.std.specs.Vec.Iter.{into_iter_items}
+use Rattle.sj_base.specs.declared.ids.Line.{Line}
 use Rattle.sj_base.specs.declared.program.Program.{Program}
 use Rattle.sj_codelet.specs.declared.kernel.Kernel.{Kernel}
-use Rattle.sj_core.specs.Laws.{IsLawful}
 use Rattle.sj_job.specs.declared.job.Statement.{Statement as Kept}
 use Rattle.sj_job.specs.Act.{Statement}
 use Rattle.sj_job.specs.State.{State, start}
@@ -13,8 +13,8 @@ use Rattle.sj_lower.specs.declared.lower.LowerRefusal.{LowerRefusal}
 use Rattle.sj_lower.specs.declared.lower.Progress.{Progress}
 use Rattle.sj_lower.specs.Job.{IsJob, IsJobIn}
 use Rattle.sj_lower.specs.Limits.{late_limit, late_tasks}
-use Rattle.sj_lower.specs.Lowering.{Lowering, nothing, lowered, program_of}
-use Rattle.sj_lower.specs.Progress.{IsAt, IsFull, IsLate}
+use Rattle.sj_lower.specs.Lowering.{Lowering, nothing, lowered, finished, program_of}
+use Rattle.sj_lower.specs.Progress.{IsAt, IsFull, IsLate, Prepares}
 use Rattle.sj_lower.proofs.Allowed.{all_can_be}
 use Rattle.sj_lower.proofs.Combined.{IsTrusted}
 use Rattle.sj_lower.proofs.Going.{GoesOn, IsDone, IsShut, going-start, going-has, going-more, going-full, going-end, done-has, shut, shut-over}
@@ -91,19 +91,35 @@ close_last-requires c =
     let at = c.loop-statement in
     let all = into_iter_items c.into_iter-statement-iterator.result in
     let same : all ≡ c.args.job.statements = c.into_iter-statement-iterator.ensures.into_iter_gives.0 ∙ c.into_items-statement-items.ensures in
-    done-has T c.args.workers at.progress (statements_of c.args.job)
-    (ended T c.args.workers at.progress all (into_iter_items at.statement-iterator) c.args.job.statements at.invariant.going (sym at.invariant.left ∙ c.in-None.ensures.steps.0) same)
+    record {
+      at = done-has T c.args.workers at.progress (statements_of c.args.job)
+          (ended T c.args.workers at.progress all (into_iter_items at.statement-iterator) c.args.job.statements at.invariant.going (sym at.invariant.left ∙ c.in-None.ensures.steps.0) same);
+    }
 
 -- the open phases are closed
-shut_at : (c : goal.In_ok-close_last) → IsShut c.args.job.roots c.args.workers c.close_last.new.self (statements_of c.args.job)
+closed_all : (T : Table) (workers : ℕ) (g new : Progress) (all left statements : List Kept) → GoesOn T workers g all left → length left ≡ 0 → all ≡ statements
+    → (g.last ≡ None → new ≡ g) → ((line : Line) → g.last ≡ Some line → Prepares g new line (finished g.workers)) → IsShut T workers new (seen_from T 0 statements)
+closed_all T workers g new all left statements going none same untouched closes =
+    shut T workers g new (seen_from T 0 statements) (ended T workers g all left statements going none same) untouched closes
+
+shut_at : (c : goal.In_ok-program) → IsShut c.args.job.roots c.args.workers c.close_last.new.self (statements_of c.args.job)
 shut_at c =
-    let T = c.args.job.roots in
     let at = c.loop-statement in
     let all = into_iter_items c.into_iter-statement-iterator.result in
-    let same : all ≡ c.args.job.statements = c.into_iter-statement-iterator.ensures.into_iter_gives.0 ∙ c.into_items-statement-items.ensures in
-    shut T c.args.workers at.progress c.close_last.new.self (statements_of c.args.job)
-    (ended T c.args.workers at.progress all (into_iter_items at.statement-iterator) c.args.job.statements at.invariant.going (sym at.invariant.left ∙ c.in-None.ensures.steps.0) same)
-    c.in_ok-close_last.ensures.none c.in_ok-close_last.ensures.closes
+    closed_all c.args.job.roots c.args.workers at.progress c.close_last.new.self all (into_iter_items at.statement-iterator) c.args.job.statements at.invariant.going (sym at.invariant.left ∙ c.in-None.ensures.steps.0)
+    (c.into_iter-statement-iterator.ensures.into_iter_gives.0 ∙ c.into_items-statement-items.ensures) c.in_ok-close_last.ensures.none c.in_ok-close_last.ensures.closes
+
+pub returns-in_err-program-clause-refused : goal.returns-in_err-program-clause-refused
+returns-in_err-program-clause-refused c =
+    let T = c.args.job.roots in
+    let workers = c.args.workers in
+    let at = c.loop-statement in
+    let all = into_iter_items c.into_iter-statement-iterator.result in
+    let e = c.in_err-program.field-0.0 in
+    let done = closed_all T workers at.progress c.close_last.new.self all (into_iter_items at.statement-iterator) c.args.job.statements at.invariant.going (sym at.invariant.left ∙ c.in-None.ensures.steps.0)
+    (c.into_iter-statement-iterator.ensures.into_iter_gives.0 ∙ c.into_items-statement-items.ensures) c.in_ok-close_last.ensures.none c.in_ok-close_last.ensures.closes in
+    as_handed c.from_residual-in_err-program.result e (λ e. IsLate e (late_limit workers (statements_of c.args.job))) c.from_residual-in_err-program.ensures.1
+    (shut-over T workers c.close_last.new.self (statements_of c.args.job) e done c.in_err-program.ensures.err)
 
 -- the program is that of the job, and within the limits
 record IsMade (T : Table) (p : Program) (ss : List Statement) (workers : ℕ) : Type 0 where
@@ -128,13 +144,16 @@ whole_job T p statements workers table numbered j m =
 
 lowered_to : (c : goal.In_ok-program) → IsMade c.args.job.roots c.in_ok-program.program (statements_of c.args.job) c.args.workers
 lowered_to c =
-    made c.args.job.roots c.close_last.new.self (statements_of c.args.job) c.in_ok-program.program c.args.workers (shut_at c.in_ok-close_last) c.in_ok-program.ensures.ok.0 c.in_ok-program.ensures.ok.1
+    made c.args.job.roots c.close_last.new.self (statements_of c.args.job) c.in_ok-program.program c.args.workers (shut_at c) c.in_ok-program.ensures.ok.0 c.in_ok-program.ensures.ok.1
 
 whole_at : (c : goal.In_ok-program) → IsWhole c.args.job.roots c.in_ok-program.program (statements_of c.args.job)
 whole_at c =
     let T = c.args.job.roots in
     let table : IsTable T = subst (λ (U : Table). IsTable U) c.roots.view_is c.roots.invariant in
     whole_job T c.in_ok-program.program c.args.job.statements c.args.workers table c.requires.numbered c.requires.job (lowered_to c)
+
+pub returns-clause-fits : goal.returns-clause-fits
+returns-clause-fits c = (shut_at c).late ∙ ap late_tasks c.in_ok-program.ensures.ok.0
 
 pub returns-clause-is : goal.returns-clause-is
 returns-clause-is c = (lowered_to c).is

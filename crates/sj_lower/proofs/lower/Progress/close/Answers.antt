@@ -1,7 +1,6 @@
-use Rattle.std.proofs.Common.{◌≡◌, ◌∙◌, Some, refl, sym, ap, arith}
-use Rattle.std.proofs.lemmas.Bool.Decides.{nat_tests}
+use Rattle.std.proofs.Common.{◌∙◌, refl, sym}
 use Rattle.std.proofs.lemmas.Bool.{leb-true, leb-false}
-use Rattle.sj_lower.proofs.Preparing.{IsBeside, is-over, none-over, few-at, copies-at, closes-over, closes-none, closes-late, closes-on}
+use Rattle.sj_lower.proofs.Preparing.{is-over, none-over, copies-at, closes-over, closes-late, closes-on}
 use Rattle.std.proofs.lemmas.Result.{on_ok_weaker}
 use Rattle.sj_lower.proofs.lower.Progress.close.Goals as goal
 

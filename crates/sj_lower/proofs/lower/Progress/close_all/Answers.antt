@@ -1,6 +1,6 @@
-use Rattle.std.proofs.Common.{◌≡◌, ◌∙◌, ◌+◌, refl, arith}
+use Rattle.std.proofs.Common.{◌+◌, refl, arith}
 use Rattle.sj_lower.specs.Lowering.{all_closed}
-use Rattle.sj_lower.proofs.Preparing.{has-at, few-cells-at}
+use Rattle.sj_lower.proofs.Preparing.{has-at}
 use Rattle.sj_lower.proofs.Steps.{closes-more, first_cells, cell-more, finishes}
 use Rattle.sj_lower.proofs.lower.Progress.close_all.Goals as goal
 

@@ -1,4 +1,4 @@
-use Rattle.std.proofs.Common.{◌≡◌, sym, subst, inl, inr}
+use Rattle.std.proofs.Common.{sym, subst, inl, inr}
 use Rattle.std.proofs.lemmas.Result.{on_ok_weaker}
 use Rattle.sj_job.specs.declared.job.Act.{Act}
 use Rattle.sj_lower.specs.Lowering.{all_closed}

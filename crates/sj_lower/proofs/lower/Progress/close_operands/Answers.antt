@@ -1,4 +1,4 @@
-use Rattle.std.proofs.Common.{◌≡◌, ◌∙◌, ◌+◌, refl, sym, ap, subst, arith}
+use Rattle.std.proofs.Common.{◌∙◌, ◌+◌, sym, subst}
 use Rattle.sj_lower.specs.declared.lower.Progress.{Progress}
 use Rattle.sj_lower.specs.Lowering.{all_closed}
 use Rattle.sj_lower.specs.Progress.{Prepares}
@@ -18,7 +18,7 @@ loop-operand-preserved c =
     elim c.if-is_other_access.branch [
       | then-is_other_access+in_ok-close w ↦ (
           let next = closes-operand old c.loop-operand.self w.close.new.self c.args.line os i _ w.index.result.now w.placed-placed.result.first w.placed-placed.result.parts w.cell.result c.loop-operand-test.true c.requires.operands
-              (sym c.is_other_access.ensures ∙ w.if-is_other_access.true) c.loop-operand.invariant w.index.ensures w.placed-placed.ensures.parts w.placed-placed.ensures.first w.cell.ensures w.in_ok-close.ensures in
+          (sym c.is_other_access.ensures ∙ w.if-is_other_access.true) c.loop-operand.invariant w.index.ensures w.placed-placed.ensures.parts w.placed-placed.ensures.first w.cell.ensures w.in_ok-close.ensures in
           subst (λ (g : Progress). Prepares old g c.args.line (all_closed old.workers (others_so_far old.lowerer.actives.items os (i + 1)))) (sym w.self-is) next)
       | else-is_other_access w ↦ (
           let next = leaves-operand old c.loop-operand.self c.args.line os i _ c.loop-operand-test.true (sym c.is_other_access.ensures ∙ w.if-is_other_access.false) c.loop-operand.invariant in

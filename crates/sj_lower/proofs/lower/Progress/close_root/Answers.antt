@@ -1,4 +1,4 @@
-use Rattle.std.proofs.Common.{◌≡◌, ◌∙◌, ◌+◌, List, refl, sym, ap, subst, arith}
+use Rattle.std.proofs.Common.{◌+◌, List, subst, arith}
 use Rattle.sj_base.specs.declared.ids.Cell.{Cell}
 use Rattle.sj_lower.specs.Cells.{cells_from}
 use Rattle.sj_lower.specs.Lowering.{all_closed}

@@ -1,7 +1,6 @@
-use Rattle.std.proofs.Common.{◌≡◌, ◌∙◌, ◌+◌, sym, subst, Result, Ok, Err, IfErr, IsErrAnd}
-use Rattle.sj_lower.specs.declared.lower.LowerRefusal.{LowerRefusal}
+use Rattle.std.proofs.Common.{◌∙◌, ◌+◌, sym, subst}
 use Rattle.sj_lower.specs.declared.lower.Progress.{Progress}
-use Rattle.sj_lower.specs.Progress.{Prepares, IsFullBy, is_contributed, opening_all}
+use Rattle.sj_lower.specs.Progress.{Prepares}
 use Rattle.sj_lower.proofs.Preparing.{has-at}
 use Rattle.sj_lower.proofs.Steps.{opened_so_far, opens-next, opens-left, opens-full, handed-on}
 use Rattle.sj_lower.proofs.lower.Progress.open_operands.Goals as goal
