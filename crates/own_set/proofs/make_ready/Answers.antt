@@ -19,5 +19,5 @@ pub returns-then-not-has_codelets-clause-err : goal.returns-then-not-has_codelet
 returns-then-not-has_codelets-clause-err c =
     let is = c.in_ok-program.ensures.is in
     let lacks : ¬ HasCodelets (program_of (job_seen c.in_ok-job.job).statements) =
-        λ has. false≢true (sym c.if-not-has_codelets.true ∙ c.has_codelets.ensures.1 (subst HasCodelets (sym is) has)) in
+    λ has. false≢true (sym c.if-not-has_codelets.true ∙ c.has_codelets.ensures.1 (subst HasCodelets (sym is) has)) in
     subst (λ (o : Result Job Refusal). IsOkAnd o (λ j. ¬ HasCodelets (program_of j.statements))) (sym c.in_ok-job.ensures.ok) lacks
