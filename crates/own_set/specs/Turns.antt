@@ -1,6 +1,6 @@
 -- The set of the example, its laws, its machine and its programs. None of its codelets commutes or contributes, so the laws
 -- have nothing to say.
-use Rattle.std.specs.Prelude.{◌≡◌, ℕ, Bool, true, false, ◌&&◌, IsTrue, All, List, [], ◌∷◌}
+use Rattle.std.specs.Prelude.{ℕ, Bool, true, false, ◌&&◌, IsTrue, All, List, [], ◌∷◌}
 use Rattle.std.proofs.lemmas.Bool.{false≢true, and_parts}
 use Rattle.sj_base.specs.declared.mode.Policy.TheVariants.{Eager}
 use Rattle.sj_base.specs.declared.mode.Reduction.TheVariants.{Plus, Least}

@@ -1,5 +1,5 @@
 -- The lines of a job that a set with the program's own codelets accepts.
-use Rattle.std.proofs.Common.{ℕ, Bool, List, refl}
+use Rattle.std.proofs.Common.{Bool, List, refl}
 use Rattle.sj_codelet.specs.declared.kernel.Kernel.{Kernel}
 use Rattle.sj_job.specs.Act.{Statement}
 use Rattle.sj_job.specs.State.{start}
