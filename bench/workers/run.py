@@ -13,13 +13,13 @@ starjob = os.path.join(top, "crates", "starjob", "out", "starjob")
 RUNS = int(sys.argv[1]) if len(sys.argv) > 1 else 5
 
 
-def run(folder, lines, workers, more=()):
+def run(folder, lines, workers, swap=2**20):
     """The least wall seconds, and the least processor seconds."""
     path = os.path.join(folder, "job")
     with open(path, "w") as f:
         f.write("\n".join(["starjob 1", *lines]) + "\n")
     walls, works = [], []
-    words = ["--workers", str(workers), "--swap-size", str(2**30), "--node", str(2**30), *more]
+    words = ["--workers", str(workers), "--swap-size", str(swap), "--node", str(2**30)]
     for _ in range(RUNS):
         with open(path) as source:
             started = time.monotonic()
@@ -30,6 +30,21 @@ def run(folder, lines, workers, more=()):
         if status != 0:
             sys.exit(f"starjob {' '.join(words)} ended with {status}")
     return min(walls), min(works)
+
+
+def starpu(folder):
+    """StarPU's program, or None where it isn't installed."""
+    flags = subprocess.run(["pkg-config", "--cflags", "--libs", "starpu-1.3"], capture_output=True, text=True)
+    if flags.returncode != 0:
+        return None
+    program = os.path.join(folder, "starpu")
+    subprocess.run(["cc", "-O2", os.path.join(here, "starpu.c"), "-o", program, *flags.stdout.split()], check=True)
+    return program
+
+
+def starpu_time(program, workers):
+    environment = {**os.environ, "STARPU_SILENT": "1"}
+    return min(float(subprocess.check_output([program, str(workers)], env=environment)) for _ in range(RUNS))
 
 
 def product(n, tile):
@@ -71,22 +86,25 @@ def long_chain(n):
 def main():
     print(f"cores: {os.cpu_count()}, load: {os.getloadavg()[0]:.1f}")
     with tempfile.TemporaryDirectory() as folder:
+        program = starpu(folder)
         for workers in (1, 2, 4):
             base, _ = run(folder, small(0), workers)
             taken, _ = run(folder, small(100_000), workers)
             print(f"100,000 tasks by {workers}: {(taken - base) * 10:.2f} us a task, reading included", flush=True)
+            if program:
+                print(f"    StarPU: {starpu_time(program, workers):.2f} us a task", flush=True)
         for tile, goal in ((256, 0.93), (128, 0.90)):
-            one, _ = run(folder, product(2048, tile), 1)
-            four, _ = run(folder, product(2048, tile), 4)
+            one, _ = run(folder, product(2048, tile), 1, 2**27)
+            four, _ = run(folder, product(2048, tile), 4, 2**27)
             print(f"product n 2048 tile {tile}: {one:.3f} s by 1, {four:.3f} s by 4, {one / four / 4:.2f} of 4 (goal: at least {goal})", flush=True)
         for workers in (1, 4):
-            taken, _ = run(folder, ways(480, 20), workers)
+            taken, _ = run(folder, ways(480, 20), workers, 2**22)
             print(f"shortest ways n 480 tile 20 by {workers}: {taken:.3f} s", flush=True)
         _, one = run(folder, chain(10_000), 1)
         _, four = run(folder, chain(10_000), 4)
         print(f"chain of 10,000: {one:.3f} s of processors by 1, {four:.3f} s by 4, {four / one:.2f} times (goal: at most 1.3)", flush=True)
-        wall, one = run(folder, long_chain(8), 1)
-        _, four = run(folder, long_chain(8), 4)
+        wall, one = run(folder, long_chain(8), 1, 2**24)
+        _, four = run(folder, long_chain(8), 4, 2**24)
         print(f"a chain of {wall:.1f} s: 3 idle workers take {(four - one) / wall:.3f} s of processors a second (goal: at most 0.05)")
 
 

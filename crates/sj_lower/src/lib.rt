@@ -7,5 +7,3 @@ mod lowerer;
 mod phase;
 mod prepare;
 mod rows;
-#[cfg(test)]
-mod tests;

@@ -168,8 +168,9 @@ impl Progress {
 
 /// The program that a job gives, for so many workers, with the job's own values and arguments; and its roots. Refused where there
 /// are too many cells, else where there are too many tasks, at the first line with which there are; or for want of memory. One
-/// pass over the statements: linear in them, in their operands, and in the cells and tasks that they give. A contribution is one
-/// task; each phase takes a task for each worker when it begins, and one when it is closed. A job with too many tasks takes no
+/// pass over the statements: linear in them, in their operands, and in the cells and tasks that they give; while a phase of
+/// contributions is open, a statement that may close phases of a root takes time for each of its children. A contribution is one
+/// task; a phase takes a task for each worker when it begins, and again when it is closed. A job with too many tasks takes no
 /// memory for those of the statements from that line on.
 pub fn lower(alloc: Global, job: Job, workers: u8) -> Result<LoweredJob, LowerRefusal>
     requires job { IsJob (statements_of job) }
