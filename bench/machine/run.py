@@ -7,6 +7,7 @@ of two matrices of 2048 rows in tiles of 128, the shortest ways between 2048 pla
 memory is the process's own. Where the machine is small, its disk is memory too, so the peak holds what was moved out.
 """
 import os, re, subprocess, sys, tempfile, time
+from collections import OrderedDict
 
 here = os.path.dirname(os.path.abspath(__file__))
 top = os.path.dirname(os.path.dirname(here))
@@ -17,12 +18,37 @@ AMPLE = ["--node", str(1024 * MIB)]
 
 
 def product(n, tile):
+    """Its priorities let one worker take the tasks in the order in which they stand, behind all that load tiles."""
     p = n // tile
+    yield "policy prio"
     yield from (f"matrix A {n} {n} by {p} {p} fill 1 1", f"matrix B {n} {n} by {p} {p} fill 5 -2", f"matrix C {n} {n} by {p} {p} fill 0 0")
     for i in range(p):
         for j in range(p):
             for k in range(p):
-                yield f"task gemm A[{i},{k}]:R B[{k},{j}]:R C[{i},{j}]:RW"
+                yield f"task gemm A[{i},{k}]:R B[{k},{j}]:R C[{i},{j}]:RW prio={-1 - p * i - j}"
+
+
+def product_by_recency(p, room):
+    """What the product's tasks move in that order, tile by tile, on a node with room for so many tiles."""
+    loads = [((name, i, j),) for name in "ABC" for i in range(p) for j in range(p)]
+    products = [(("A", i, k), ("B", k, j), ("C", i, j)) for i in range(p) for j in range(p) for k in range(p)]
+    node, stored, known = OrderedDict(), set(), set()
+    out = back = 0
+    for tiles in loads + products:
+        lacking = [tile for tile in tiles if tile not in node]
+        for victim in [tile for tile in node if tile not in tiles]:
+            if len(node) + len(lacking) <= room:
+                break
+            del node[victim]
+            out += victim not in stored
+            stored.add(victim)
+        back += sum(tile in known for tile in lacking)
+        for tile in tiles:
+            node.pop(tile, None)
+            node[tile] = True
+            known.add(tile)
+        stored.discard(tiles[-1])
+    return out, back
 
 
 def ways(n, tile):
@@ -68,21 +94,24 @@ def moved(folder, words, tile_bytes):
     return out * tile_bytes / MIB, back * tile_bytes / MIB
 
 
-def tiled(folder, name, lines, node, goal):
+def tiled(folder, name, lines, node, goal, by_recency=None):
     lines = list(lines)
     swap = ["--swap-size", str(256 * MIB)]
     ample, _ = run(folder, lines, AMPLE + swap)
     small = ["--node", str(node)] + swap
     taken, peak = run(folder, lines, small)
     out, back = moved(folder, small, 8 * 128 * 128)
+    if by_recency:
+        wanted = tuple(tiles / 8 for tiles in by_recency)
+        print(f"    by strict recency: {wanted[0]:.1f} MiB out, {wanted[1]:.1f} MiB in; {'the same' if wanted == (out, back) else 'NOT the same'}")
     print(f"{name}: {taken:.3f} s, on an ample node {ample:.3f} s, {taken / ample:.2f} times (goal: at most {goal}); "
-          f"{out:.0f} MiB out, {back:.0f} MiB in; peak {peak:.0f} MiB", flush=True)
+          f"{out:.1f} MiB out, {back:.1f} MiB in; peak {peak:.0f} MiB", flush=True)
 
 
 def main():
     print(f"cores: {os.cpu_count()}, load: {os.getloadavg()[0]:.1f}")
     with tempfile.TemporaryDirectory() as folder:
-        tiled(folder, "product n 2048 tile 128 at 1/8", product(2048, 128), 12 * MIB, "1.1, 128 MiB out and 608 in")
+        tiled(folder, "product n 2048 tile 128 at 1/8", product(2048, 128), 12 * MIB, 1.1, product_by_recency(16, 96))
         tiled(folder, "shortest ways n 2048 tile 128 at 1/8", ways(2048, 128), 4 * MIB, 1.5)
         each = []
         for n in (10_000, 100_000):
