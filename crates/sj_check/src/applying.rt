@@ -45,6 +45,7 @@ pub fn end_move<D: Disk>(
     match to {
         Place::Node(_) => run.end_move_in(w, tile),
         Place::Disk(_) => {
+            // a hollow disk refuses no store
             let Ok(()) = run.store(w, &tile) else {
                 return Err(OutOfMemory);
             };

@@ -39,9 +39,9 @@ impl From<memory::OutOfMemory> for CheckRefusal {
     }
 }
 
-/// Whether each event of a trace is a legal step, and all tasks are done after the last. Linear in the events, the operands
-/// of their tasks and the victims, each by the nodes and the workers, and in the elements of the cells that are moved to
-/// disks; takes memory for one array of each shape that a cell has.
+/// Whether each event of a trace is a legal step, and all tasks are done after the last. Linear in the tasks, in cells times
+/// nodes and cells times disks, in the events, the operands of their tasks and the victims, each by the nodes and the workers,
+/// and in the elements of the cells that are moved to disks; takes memory for one array of each shape that a cell has.
 pub fn check(
     alloc: Global,
     program: Arc<Program>,
