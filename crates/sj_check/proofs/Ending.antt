@@ -11,14 +11,14 @@ use Rattle.sj_check.proofs.Traces.{first-bad, take-next}
 module _ (p : Program) (m : Machine) (trace : List Event) (i : ℕ) (old : Replay) (so_far : old ≡ replay p m (take i trace)) where
   module _ (e : Event) (inside : i < length trace) (got : slice_get trace i ≡ Some e) (new : Replay) (legal : Bool) (judges : Judges old e legal new) where
     pub loop-bad : legal ≡ false → IsSoundReplay old → IsFirstBad p m trace i
-    loop-bad no sound =
-        let refused = subst (λ (b : Bool). MatchBool b (Happens old e new) (IsRefused old e new)) no judges in
+    loop-bad fails sound =
+        let refused = subst (λ (b : Bool). MatchBool b (Happens old e new) (IsRefused old e new)) fails judges in
         let here = subst IsSoundReplay so_far sound in
         first-bad p m trace i e inside got here.legal (subst (λ (r : Replay). ¬ IsNext r e) so_far refused.illegal)
 
     pub loop-good : legal ≡ true → new ≡ replay p m (take (i + 1) trace)
-    loop-good yes =
-        let happens = subst (λ (b : Bool). MatchBool b (Happens old e new) (IsRefused old e new)) yes judges in
+    loop-good passes =
+        let happens = subst (λ (b : Bool). MatchBool b (Happens old e new) (IsRefused old e new)) passes judges in
         happens.happens ∙ ap (λ (r : Replay). with_event r e) so_far ∙ ap (λ (es : List Event). replay p m es) (sym (take-next trace i e got))
 
   -- at its end

@@ -64,7 +64,7 @@ claimant-is (Leaving v a) = refl
 
 -- what the tests of code tell
 pub fits-tells : (a b : ℕ) → leb a b ≡ true → a ≤ b
-fits-tells a b e = elim (leb_tells a b) as (λ _. a ≤ b) [ inl is ↦ is.1 | inr no ↦ absurd (false≢true (sym no.0 ∙ e)) ]
+fits-tells a b e = elim (leb_tells a b) as (λ _. a ≤ b) [ inl is ↦ is.1 | inr past ↦ absurd (false≢true (sym past.0 ∙ e)) ]
 
 pub none-is : (o : Option Task) → is_some o ≡ false → o ≡ None
 none-is None e = refl
@@ -93,11 +93,11 @@ and_from false b e f = absurd (false≢true e)
 
 found-fails : (test : Cell → Bool) (xs : List Cell) (c : Cell) → find test xs ≡ Some c → list_all (λ d. not (test d)) xs ≡ false
 found-fails test [] c e = absurd (none-some c e)
-found-fails test (x ∷ xs) c e = by_test (test x) refl
+found-fails test (x ∷ xs) c e = by_test (test x) refl (found-fails test xs c)
   where
-    by_test : (b : Bool) → test x ≡ b → list_all (λ d. not (test d)) (x ∷ xs) ≡ false
-    by_test true f = ap (λ a. not a && list_all (λ d. not (test d)) xs) f
-    by_test false f = ap (λ a. not a && list_all (λ d. not (test d)) xs) f ∙ found-fails test xs c (sym (ap (λ a. cond a (Some x) (find test xs)) f) ∙ e)
+    by_test : (b : Bool) → test x ≡ b → (find test xs ≡ Some c → list_all (λ d. not (test d)) xs ≡ false) → list_all (λ d. not (test d)) (x ∷ xs) ≡ false
+    by_test true f rest = ap (λ a. not a && list_all (λ d. not (test d)) xs) f
+    by_test false f rest = ap (λ a. not a && list_all (λ d. not (test d)) xs) f ∙ rest (sym (ap (λ a. cond a (Some x) (find test xs)) f) ∙ e)
 
 module _ (p : Program) (m : Machine) (s : State) (coherent : Coherent p m s) where
   -- ---- a drop
@@ -230,7 +230,7 @@ module _ (p : Program) (m : Machine) (s : State) (coherent : Coherent p m s) whe
 
       fails : none_leaving s (node_of m w) ≡ false
       fails = list_all_at (λ (row : CellState). not (is_leaving (replica_in row (AtNode (node_of m w))))) s.cells c.0 no_row inside (ap not is.1)
-  why-not t w s' NoRoom is claim = none-some claim.evicted (sym is.1.1 ∙ claim.chosen)
+  why-not t w s' NoRoom is claim = none-some claim.evicted (sym is.2 ∙ claim.chosen)
 
   -- ---- an end
 

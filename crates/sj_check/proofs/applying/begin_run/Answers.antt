@@ -8,6 +8,6 @@ use Rattle.sj_check.proofs.applying.begin_run.Goals as goal
 
 pub run-requires-clause-room : goal.run-requires-clause-room
 run-requires-clause-room g c =
-    let those : c.accesses_of.result.now ≡ (task_of c.args.run.now.program c.args.t).accesses = c.accesses_of.ensures ∙ ap (λ (p : Program). (task_of p c.args.t).accesses) c.program.ensures in
-    let few = subst (λ (xs : List Access). length (read_among xs) ≤ length c.accesses_of.result.now) those (few-reads c.accesses_of.result.now) in
+    let those : c.accesses_of-operands.result.now ≡ (task_of c.args.run.now.program c.args.t).accesses = c.accesses_of-operands.ensures ∙ ap (λ (p : Program). (task_of p c.args.t).accesses) c.program.ensures in
+    let few = subst (λ (xs : List Access). length (read_among xs) ≤ length c.accesses_of-operands.result.now) those (few-reads c.accesses_of-operands.result.now) in
     omega (arith, few, c.len-operands.ensures, c.in_ok-frame.ensures)

@@ -7,10 +7,10 @@ use Rattle.sj_check.proofs.Traces.{finished-now, fronts-coherent, unfinished-now
 use Rattle.sj_check.proofs.check.check.Goals as goal
 
 pub loop-i-preserved : goal.loop-i-preserved
-loop-i-preserved c = loop-good c.args.program.value c.args.machine c.args.trace.now.events c.loop-i.i c.loop-i.checker c.loop-i.invariant c.get-event.result (omega (arith, c.loop-i-test.true, c.len-i-end.ensures)) c.get-event.ensures c.step.new.checker c.in_ok-is_legal.is_legal c.in_ok-is_legal.ensures c.if-not-is_legal.false
+loop-i-preserved c = loop-good c.args.program.value c.args.machine c.args.trace.now.events c.loop-i.i c.loop-i.checker c.loop-i.invariant c.get-event.result (omega (arith, c.loop-i-test.true, c.len-i-end.ensures)) c.get-event.ensures c.step.new.self c.in_ok-is_legal.is_legal c.in_ok-is_legal.ensures c.if-not-is_legal.false
 
 pub returns-then-not-is_legal-clause-refused : goal.returns-then-not-is_legal-clause-refused
-returns-then-not-is_legal-clause-refused c = loop-bad c.args.program.value c.args.machine c.args.trace.now.events c.loop-i.i c.loop-i.checker c.loop-i.invariant c.get-event.result (omega (arith, c.loop-i-test.true, c.len-i-end.ensures)) c.get-event.ensures c.step.new.checker c.in_ok-is_legal.is_legal c.in_ok-is_legal.ensures c.if-not-is_legal.true c.is_sound.ensures
+returns-then-not-is_legal-clause-refused c = loop-bad c.args.program.value c.args.machine c.args.trace.now.events c.loop-i.i c.loop-i.checker c.loop-i.invariant c.get-event.result (omega (arith, c.loop-i-test.true, c.len-i-end.ensures)) c.get-event.ensures c.step.new.self c.in_ok-is_legal.is_legal c.in_ok-is_legal.ensures c.if-not-is_legal.true c.is_sound.ensures
 
 pub returns-then-is_complete-clause-finished : goal.returns-then-is_complete-clause-finished
 returns-then-is_complete-clause-finished c =
@@ -28,7 +28,7 @@ returns-then-is_complete-clause-each_state_is_coherent c =
     let events = c.args.trace.now.events in
     let whole = loop-ends p m events c.loop-i.i c.loop-i.checker c.loop-i.invariant (omega (arith, c.loop-i-test.false, c.len-i-end.ensures)) in
     let sound = subst IsSoundReplay whole c.is_sound-2.ensures in
-    λ ok n. fronts-coherent p m c.requires events sound.legal n
+    λ ok n. fronts-coherent p m c.requires.run events sound.legal n
 
 pub returns-then-is_complete-clause-holds_what_all_tasks_leave : goal.returns-then-is_complete-clause-holds_what_all_tasks_leave
 returns-then-is_complete-clause-holds_what_all_tasks_leave c =
@@ -37,7 +37,7 @@ returns-then-is_complete-clause-holds_what_all_tasks_leave c =
     let events = c.args.trace.now.events in
     let whole = loop-ends p m events c.loop-i.i c.loop-i.checker c.loop-i.invariant (omega (arith, c.loop-i-test.false, c.len-i-end.ensures)) in
     let sound = subst IsSoundReplay whole c.is_sound-2.ensures in
-    λ ok. whole-final p m c.requires events sound.legal (subst (λ (r : Replay). IsComplete (state r)) whole (c.is_complete.ensures.0 c.if-is_complete.true))
+    λ ok. whole-final p m c.requires.run events sound.legal (subst (λ (r : Replay). IsComplete (state r)) whole (c.is_complete.ensures.0 c.if-is_complete.true))
 
 pub returns-else-is_complete-clause-refused : goal.returns-else-is_complete-clause-refused
 returns-else-is_complete-clause-refused c =
