@@ -39,8 +39,8 @@ returns-then-is_complete-clause-holds_what_all_tasks_leave c =
     let sound = subst IsSoundReplay whole c.is_sound-2.ensures in
     λ ok. whole-final p m c.requires.run events sound.legal (subst (λ (r : Replay). IsComplete (state r)) whole (c.is_complete.ensures.0 c.if-is_complete.true))
 
-pub returns-else-is_complete-clause-refused : goal.returns-else-is_complete-clause-refused
-returns-else-is_complete-clause-refused c =
+pub returns-clause-refused : goal.returns-clause-refused
+returns-clause-refused c =
     let p = c.args.program.value in
     let m = c.args.machine in
     let events = c.args.trace.now.events in
