@@ -15,6 +15,8 @@ mod test_calls;
 #[cfg(test)]
 mod tests;
 #[cfg(test)]
+mod tests_of_boards;
+#[cfg(test)]
 mod tests_of_machines;
 #[cfg(test)]
 mod tests_of_plans;
