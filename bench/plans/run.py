@@ -12,10 +12,10 @@ starjob = os.path.join(top, "crates", "starjob", "out", "starjob")
 RUNS = int(sys.argv[1]) if len(sys.argv) > 1 else 5
 # two plans of one matrix take 256 MiB as cells, and their blocks a little more
 MIB = 1024 * 1024
-MACHINE = ["--node", str(512 * MIB), "--swap-size", str(320 * MIB)]
+MACHINE = ["--node", str(512 * MIB)]
 
 
-def run(folder, lines, said=None):
+def run(folder, lines, said=None, swap=16 * MIB):
     """The least processor seconds, and the greatest peak in MiB; the line on standard error has to be `said`."""
     path = os.path.join(folder, "job")
     with open(path, "w") as f:
@@ -23,7 +23,7 @@ def run(folder, lines, said=None):
     times, peak = [], 0
     for _ in range(RUNS):
         with open(path) as source, open(os.path.join(folder, "err"), "w") as err:
-            child = subprocess.Popen([starjob, *MACHINE], stdin=source, stdout=subprocess.DEVNULL, stderr=err)
+            child = subprocess.Popen([starjob, *MACHINE, "--swap-size", str(swap)], stdin=source, stdout=subprocess.DEVNULL, stderr=err)
             _, status, usage = os.wait4(child.pid, 0)
         with open(os.path.join(folder, "err")) as f:
             got = f.read()
@@ -41,8 +41,8 @@ def main():
         subprocess.check_call(["gcc", "-O3", "-o", rows, os.path.join(here, "rows.c")])
         c = int(subprocess.check_output([rows], text=True).split()[0]) / 1e9
         array = ["matrix M 4096 4096 by 64 64 fill 1 1"]
-        without, _ = run(folder, array)
-        with_plans, peak = run(folder, array + ["plan M 1 1", "plan M 64 64"])
+        without, _ = run(folder, array, swap=320 * MIB)
+        with_plans, peak = run(folder, array + ["plan M 1 1", "plan M 64 64"], swap=320 * MIB)
         ours = with_plans - without
         print(f"64 by 64 parts to 1 by 1 and back: {ours:.3f} s, C {c:.3f} s, {ours / c:.2f} times C's (goal: at most 2.5), peak {peak:.0f} MiB")
         cells = [f"matrix A{k} 64 64 by 64 64 none" for k in range(64)]
