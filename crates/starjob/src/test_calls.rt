@@ -67,6 +67,17 @@ pub fn one(alloc: Global, disk: AnyDisk) -> Result<Vec<AnyDisk>, OutOfMemory>
     Ok(disks)
 }
 
+/// The disks of a run that has one, of any kind.
+pub fn only<D: Disk>(alloc: Global, disk: D) -> Result<Vec<D>, OutOfMemory>
+    requires { D.size disk ≤ 2 ^ 40 }
+    ensures one { IfOk result (λ disks. length disks.items ≡ 1) }
+    ensures small { IfOk result (λ disks. AreWithin D.size (2 ^ 40) disks.items) }
+{
+    let mut disks = Vec::new(alloc);
+    disks.push(disk)?;
+    Ok(disks)
+}
+
 /// A disk of so many bytes in memory, which refuses the calls with these numbers.
 pub fn memory(alloc: Global, size: u32, refused: &[u64]) -> Result<MemDisk, Fail>
     ensures { IfOk result (λ d. length d.bytes ≤ 2 ^ 40) }
