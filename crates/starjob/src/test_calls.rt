@@ -23,7 +23,7 @@ pub const SUM: &str =
     "starjob 1\nvector x 3 values 1 2 3\nvector y 3 values 10 20 30\ntask add x:R y:RW\nprint y\n";
 
 /// The bytes of a disk that takes all blocks of a small job.
-const DISK: u32 = 1 << 16;
+pub const DISK: u32 = 1 << 16;
 
 /// The bytes that `out` has room for.
 const ROOM: u64 = 1 << 19;

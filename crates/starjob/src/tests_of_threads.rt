@@ -4,7 +4,7 @@ ghost use Rattle.std.specs.Prelude.{◌≡◌, Some, length};
 
 use crate::running::{Run, run_text};
 use crate::status::Status;
-use crate::test_calls::{answer_on, memory, only, whole};
+use crate::test_calls::{DISK, answer_on, memory, only, whole};
 use crate::tests_of_machines::ROUND_SWAP;
 use sj_base::ids::{Place, Task};
 use sj_base::trace::{Event, Trace};
@@ -23,9 +23,6 @@ use std::test::Fail;
 /// Seven inner products of two elements each, on top of a value, by five workers.
 const DOTS: &str =
     "starjob 1\nworkers 5\nvector x 14 by 1 7 fill 1 1\nvector y 14 by 1 7 fill 1 0\nvector s 1 values 100\nredux s plus\ntask dot x[0,0]:R y[0,0]:R s:REDUX\ntask dot x[0,1]:R y[0,1]:R s:REDUX\ntask dot x[0,2]:R y[0,2]:R s:REDUX\ntask dot x[0,3]:R y[0,3]:R s:REDUX\ntask dot x[0,4]:R y[0,4]:R s:REDUX\ntask dot x[0,5]:R y[0,5]:R s:REDUX\ntask dot x[0,6]:R y[0,6]:R s:REDUX\nprint s\n";
-
-/// The bytes of a disk that takes all blocks of that job.
-const DISK: u32 = 4096;
 
 /// Numbers its calls from 1 on, and keeps at each task the numbers of the two calls that name it.
 #[derive(Drop)]
@@ -48,14 +45,16 @@ fn zeros(alloc: Global) -> Result<Vec<AtomicU64>, Fail> {
 
 /// The number that is kept at a task: 0 where no call named it.
 fn number_at(numbers: &[AtomicU64], task: Task) -> u64 {
-    numbers.get(task.0 as usize).map_or(0, |number| number.load(Ordering::SeqCst))
+    let number = numbers.get(task.0 as usize);
+    number.map_or(0, |number| number.load(Ordering::SeqCst))
 }
 
 impl Watch {
     /// Keeps the number of this call at the task.
     fn note(&self, numbers: &[AtomicU64], task: Task) {
         let number = self.calls.fetch_add(1, Ordering::SeqCst).wrapping_add(1);
-        let before = numbers.get(task.0 as usize).map(|kept| kept.swap(number, Ordering::SeqCst));
+        let kept = numbers.get(task.0 as usize);
+        let before = kept.map(|kept| kept.swap(number, Ordering::SeqCst));
         if before != Some(0) {
             self.strays.fetch_add(1, Ordering::SeqCst);
         }
@@ -104,7 +103,8 @@ fn what_a_gate_sees_agrees_with_the_trace(rt: HostRuntime) -> Result<(), Fail> {
         left: zeros(alloc)?,
         strays: AtomicU64::new(0),
     };
-    let answer = answer_on(&rt, alloc, &[], DOTS.as_bytes(), whole(alloc, DISK)?, &watch)?;
+    let disks = whole(alloc, DISK)?;
+    let answer = answer_on(&rt, alloc, &[], DOTS.as_bytes(), disks, &watch)?;
     assert_eq!(rt; answer.outcome.status, Status::Done);
     assert_eq!(rt; answer.out.taken(), b"s: 205\n".as_slice());
     has_seen(&rt, &watch, &answer.outcome.trace);
@@ -190,7 +190,8 @@ fn what_a_disk_sees_agrees_with_the_trace(rt: HostRuntime) -> Result<(), Fail> {
     };
     let options = read_words(alloc, &[])?;
     let disks = only(alloc, disk)?;
-    let run = run_text(&rt, alloc, THREE.as_bytes(), &options, disks, &Library, &OpenGate);
+    let text = THREE.as_bytes();
+    let run = run_text(&rt, alloc, text, &options, disks, &Library, &OpenGate);
     let Run { text, trace, disks } = run;
     assert_eq!(rt; text?.as_slice(), b"a: 1 2 3\n".as_slice());
     let mut moves = Vec::new(alloc);
@@ -219,10 +220,8 @@ const BLOCK_OF_A: [u8; 48] = [
 /// The bytes of the first block of a disk, where it has so many and gives them.
 fn first_block<D: Disk>(disk: &mut D) -> Option<[u8; 48]> {
     let mut block = [0; 48];
-    if disk.size() < BLOCK || disk.read(0, &mut block).is_err() {
-        return None;
-    }
-    Some(block)
+    let is_read = disk.size() >= BLOCK && disk.read(0, &mut block).is_ok();
+    if is_read { Some(block) } else { None }
 }
 
 #[test]
@@ -234,8 +233,7 @@ fn a_text_of_the_trace_of_three_arrays(rt: HostRuntime) -> Result<(), Fail> {
     assert_eq!(rt; answer.outcome.status, Status::Done);
     assert_eq!(rt; answer.out.taken(), THREE_TRACED.as_bytes());
     assert_eq!(rt; answer.outcome.disks.len(), 1);
-    let block = first_block(&mut answer.outcome.disks[0]);
-    assert_eq!(rt; block, Some(BLOCK_OF_A));
+    assert_eq!(rt; first_block(&mut answer.outcome.disks[0]), Some(BLOCK_OF_A));
     Ok(())
 }
 
@@ -244,7 +242,8 @@ fn a_set_of_ring_codelets_alone_runs_contributions(rt: HostRuntime) -> Result<()
     let alloc = rt.alloc();
     let options = read_words(alloc, &[])?;
     let disks = only(alloc, memory(alloc, DISK, &[])?)?;
-    let run = run_text(&rt, alloc, DOTS.as_bytes(), &options, disks, &Ring, &OpenGate);
+    let text = DOTS.as_bytes();
+    let run = run_text(&rt, alloc, text, &options, disks, &Ring, &OpenGate);
     assert_eq!(rt; run.text?.as_slice(), b"s: 205\n".as_slice());
     Ok(())
 }
