@@ -23,7 +23,7 @@ pub const SUM: &str =
     "starjob 1\nvector x 3 values 1 2 3\nvector y 3 values 10 20 30\ntask add x:R y:RW\nprint y\n";
 
 /// The bytes of a disk that takes all blocks of a small job.
-const DISK: u32 = 1 << 16;
+pub const DISK: u32 = 1 << 16;
 
 /// The bytes that `out` has room for.
 const ROOM: u64 = 1 << 19;
@@ -64,6 +64,17 @@ pub fn one(alloc: Global, disk: AnyDisk) -> Result<Vec<AnyDisk>, OutOfMemory>
 {
     let mut disks = Vec::new(alloc);
     add_disk(&mut disks, disk)?;
+    Ok(disks)
+}
+
+/// The disks of a run that has one, of any kind.
+pub fn only<D: Disk>(alloc: Global, disk: D) -> Result<Vec<D>, OutOfMemory>
+    requires { D.size disk ≤ 2 ^ 40 }
+    ensures one { IfOk result (λ disks. length disks.items ≡ 1) }
+    ensures small { IfOk result (λ disks. AreWithin D.size (2 ^ 40) disks.items) }
+{
+    let mut disks = Vec::new(alloc);
+    disks.push(disk)?;
     Ok(disks)
 }
 
