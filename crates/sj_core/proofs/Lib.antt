@@ -2,6 +2,7 @@ pub mod Adding
 pub mod Advancing
 pub mod Arriving
 pub mod Blocks
+pub mod Bound
 pub mod Bytes
 pub mod CellLists
 pub mod Changing
@@ -31,6 +32,7 @@ pub mod MovingIn
 pub mod MovingOut
 pub mod Once
 pub mod Opening
+pub mod Payments
 pub mod Phases
 pub mod Placing
 pub mod PlainModes
@@ -47,14 +49,16 @@ pub mod Shifting
 pub mod Sized
 pub mod States
 pub mod Sums
-pub mod Tables
 pub mod Swapping
+pub mod Tables
+pub mod Tallies
 pub mod TaskCells
 pub mod Testing
 pub mod Tiles
 pub mod Updating
 pub mod Values
+pub mod Weights
 pub mod Words
-pub mod Workers
 pub mod Worked
 pub mod WorkedRuns
+pub mod Workers

@@ -1,16 +1,12 @@
--- How many events a trace has for each task of its program.
-use Rattle.std.specs.Prelude.{◌*◌, ◌≤◌, Bool, true, false, List, length}
+-- How many events a trace has at most: three for each task of its program, and five for each operand.
+use Rattle.std.specs.Prelude.{ℕ, ◌+◌, ◌*◌, ◌≤◌, List, length, sum_by}
 use Rattle.sj_base.specs.declared.trace.Event.{Event}
-use Rattle.sj_base.specs.declared.trace.Event.TheVariants.{Claim, Run, End}
 use Rattle.sj_base.specs.declared.program.Program.{Program}
 
--- the event is a claim, a run or an end
-abbrev pub is_of_task : Event → Bool
-is_of_task (Claim t w) = true
-is_of_task (Run t w) = true
-is_of_task (End t w) = true
-is_of_task _ = false
+-- how many operands the tasks of a program have together
+abbrev pub operands : Program → ℕ
+operands p = sum_by (λ l. length l.accesses) p.tasks
 
--- the trace has at most three events for each task of the program
-abbrev pub HasAtMostThreePerTask : Program → List Event → Type 0
-HasAtMostThreePerTask p trace = length trace ≤ 3 * length p.tasks
+-- a task is claimed, runs and ends; for an operand a copy comes by a move, which begins and ends, and later leaves by another and a drop
+abbrev pub HasAtMostThreePerTaskAndFivePerOperand : Program → List Event → Type 0
+HasAtMostThreePerTaskAndFivePerOperand p trace = length trace ≤ 3 * length p.tasks + 5 * operands p

@@ -1,5 +1,5 @@
+use Rattle.sj_core.proofs.Bound.{legal-within_bound}
 use Rattle.sj_core.proofs.laws.bounds.Goals as goal
-use Rattle.sj_core.proofs.Once.{legal-bounded}
 
 pub returns : goal.returns
-returns c = legal-bounded
+returns c = legal-within_bound
