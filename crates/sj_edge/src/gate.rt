@@ -2,7 +2,8 @@
 
 use sj_base::ids::Task;
 
-/// What workers are to call before and after each task's kernel, outside of any lock. With one worker nothing calls it yet.
+/// What each worker calls before and after the kernel of each task that it runs, outside of any
+/// lock, also where it is the only worker.
 ///
 /// It may wait, and it changes nothing that a contract sees.
 pub trait Gate: Sync {

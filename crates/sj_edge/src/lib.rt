@@ -6,6 +6,7 @@ mod calls;
 pub mod disk;
 pub mod file_disk;
 pub mod gate;
+mod medium;
 pub mod memory_disk;
 pub mod memory_sink;
 pub mod memory_source;

@@ -1,4 +1,4 @@
-//! A disk over memory that it takes when it is made.
+//! A disk over memory, whose room it takes when it is made.
 
 ghost use Rattle.std.specs.Prelude.{◌≡◌, ◌↔◌, ◌+◌, ◌≤◌, ℕ, Some, IsTrue, IsErr, OnErr, OnOk, IfOk, is_err, length, replicate, option_map};
 ghost use Rattle.sj_edge.specs.Faults.{Counts, counted};
@@ -9,7 +9,7 @@ ghost use Rattle.sj_edge.specs.Checks.{has_failed, has_differed, CarriesOther, C
 
 use crate::calls::Calls;
 use crate::disk::{CheckFault, Disk};
-use crate::pieces::{copy_in, copy_out, header_at};
+use crate::medium::Medium;
 use crate::source::Failed;
 use sj_base::memory::OutOfMemory;
 use std::alloc::Global;
@@ -18,7 +18,7 @@ use std::marker::Model;
 /// Keeps bytes in memory, and refuses the calls whose numbers it was told.
 #[derive(Debug, Drop)]
 pub struct MemDisk {
-    bytes: Vec<u8>,
+    bytes: Medium,
     mismatches: u64,
     calls: Calls,
 }
@@ -28,28 +28,29 @@ impl Model for MemDisk {
 
     ghost Value = { Keeping };
 
-    ghost view = { λ d. keeping d.bytes.items d.mismatches d.calls };
+    ghost view = { λ d. keeping d.bytes d.mismatches d.calls };
 }
 
 impl MemDisk {
     /// So many zeros. Refuses each call whose number, from 1, stands in `fail`: reads, writes and
-    /// checks are counted together. Takes all its memory here. Linear in the size.
+    /// checks are counted together. Takes room for all its bytes here, so that no write can want
+    /// memory, but touches none: one that no write has reached costs no page. Constant time, apart
+    /// from the allocator's.
     pub fn new(alloc: Global, size: u64, fail: Vec<u64>) -> Result<MemDisk, OutOfMemory>
         ensures { IfOk result (λ d. d ≡ keeping (replicate size 0) 0 (uncalled fail.items)) }
     {
-        let bytes = vec![in alloc; 0u8; size as usize]?;
         Ok(MemDisk {
-            bytes,
+            bytes: Medium::new(alloc, size as usize)?,
             mismatches: 0,
             calls: Calls::new(fail),
         })
     }
 
-    /// The bytes that it holds. Constant time.
-    pub fn bytes(&self) -> &[u8]
-        ensures { result.now ≡ self.now.bytes }
+    /// The bytes that it held. Linear in those that no write has reached.
+    pub fn into_bytes(self) -> Vec<u8>
+        ensures { result.items ≡ self.bytes }
     {
-        &self.bytes
+        self.bytes.into_bytes()
     }
 
     /// How many faults there were. Constant time.
@@ -94,7 +95,7 @@ impl Disk for MemDisk {
             self.calls.add_fault();
             return Err(Failed);
         }
-        copy_out(&self.bytes, at as usize, buf);
+        self.bytes.read(at as usize, buf);
         Ok(())
     }
 
@@ -116,7 +117,7 @@ impl Disk for MemDisk {
             self.calls.add_fault();
             return Err(Failed);
         }
-        copy_in(&mut self.bytes, at as usize, bytes);
+        self.bytes.write(at as usize, bytes);
         Ok(())
     }
 
@@ -139,7 +140,7 @@ impl Disk for MemDisk {
             self.calls.add_fault();
             return Err(CheckFault::Failed);
         }
-        let found = header_at(&self.bytes, at as usize);
+        let found = self.bytes.header(at as usize);
         if found == *want {
             return Ok(());
         }

@@ -68,9 +68,10 @@ fn a_memory_disk_keeps_bytes_and_fails_where_told(rt: HostRuntime) -> Result<(),
     let mut buf = [7; 3];
     assert_eq!(rt; disk.read(2, &mut buf), Ok(()));
     assert_eq!(rt; buf, [0, 9, 0]);
-    assert_eq!(rt; disk.bytes().len(), 32);
-    assert_eq!(rt; disk.bytes()[3], 9);
     assert_eq!(rt; disk.faults(), 3);
+    let bytes = disk.into_bytes();
+    assert_eq!(rt; bytes.len(), 32);
+    assert_eq!(rt; bytes[3], 9);
     Ok(())
 }
 

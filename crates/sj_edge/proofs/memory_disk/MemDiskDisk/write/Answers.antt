@@ -7,7 +7,7 @@ use Rattle.sj_edge.proofs.memory_disk.MemDiskDisk.write.Goals as goal
 pub returns-then-next_is_refused-clause-changes_no_byte_outside :
     goal.returns-then-next_is_refused-clause-changes_no_byte_outside
 returns-then-next_is_refused-clause-changes_no_byte_outside c =
-    let xs : List ℕ = c.self.inside.bytes.items in
+    let xs : List ℕ = c.self.inside.bytes in
     let at : ℕ = c.args.at in
     let n : ℕ = length c.args.bytes.now in
     let same_length : length xs ≡ length c.args.self.now.bytes = ap (λ (d : Keeping). length d.bytes) c.self.view_is in
