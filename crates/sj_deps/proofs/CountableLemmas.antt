@@ -4,7 +4,7 @@ use Rattle.sj_base.specs.declared.program.Program.{Program}
 use Rattle.sj_deps.specs.declared.manner.Usage.{Usage}
 use Rattle.sj_deps.specs.Conflict.{HasDependencies, usage, usages}
 use Rattle.sj_deps.specs.Countable.{Agrees, IsCountable}
-use Rattle.sj_deps.proofs.Pushing.{Uses-task}
+use Rattle.sj_deps.proofs.Starting.{Uses-task}
 
 pub HasDependencies-from : (P : Program) → length P.tasks ≤ 4194304 → ((t : ℕ) → t < length P.tasks → IsCountable P t) → HasDependencies P
 HasDependencies-from P few each = record {

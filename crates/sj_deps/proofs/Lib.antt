@@ -1,8 +1,17 @@
+pub mod Accessing
+pub mod Appending
+pub mod Completing
 pub mod CountableLemmas
 pub mod Counting
+pub mod Entering
+pub mod Freeing
 pub mod Keeping
+pub mod Leaving
+pub mod Listing
+pub mod Places
 pub mod Pushing
 pub mod Readiness
 pub mod Runs
 pub mod Settling
+pub mod Starting
 pub mod Waits

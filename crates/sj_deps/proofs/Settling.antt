@@ -4,7 +4,6 @@ use Rattle.std.specs.List.{count_by}
 use Rattle.std.proofs.lemmas.List.{get_or-set_same, get_or-set_other, get_or-drop, get_or_default, length-set, length-drop}
 use Rattle.std.proofs.lemmas.List.Sums.{sum_by-take-drop, sum_by-drop_more}
 use Rattle.std.proofs.lemmas.Bool.{cases_lt, cases_eq, both_ways, eq-eqb, ne_eqb}
-use Rattle.sj_base.specs.declared.ids.Task.{Task}
 use Rattle.sj_deps.specs.declared.chain.Chain.{Chain}
 use Rattle.sj_deps.specs.declared.chain.Member.{Member}
 use Rattle.sj_deps.specs.Chains.{no_member, no_chain, chain_at, members_at, is_done, left_from, Tracks, IsRun, Finishes, Releases}
@@ -13,21 +12,21 @@ use Rattle.sj_deps.proofs.Waits.{wanted-set}
 use Rattle.sj_deps.proofs.Counting.{all_before, none_dropped, count_taken-le}
 
 -- no more are done than are released
-pub done-le-released : (flags : List Bool) (ch : Chain) (n : ℕ) → Tracks flags ch n → ch.finished + n ≤ ch.released
-done-le-released flags ch n tracks =
-    let none = none_dropped (is_done flags) ch.members no_member ch.released tracks.later in
-    let some = count_taken-le (is_done flags) ch.members no_member ch.released tracks.within in
-    let whole = sum_by-take-drop (λ m. cond {A = ℕ} (is_done flags m) 1 0) ch.members ch.released in
+pub done-le-released : (left : List ℕ) (ch : Chain) (n : ℕ) → Tracks left ch n → ch.finished + n ≤ ch.released
+done-le-released left ch n tracks =
+    let none = none_dropped (is_done left) ch.members no_member ch.released tracks.later in
+    let some = count_taken-le (is_done left) ch.members no_member ch.released tracks.within in
+    let whole = sum_by-take-drop (λ m. cond {A = ℕ} (is_done left m) 1 0) ch.members ch.released in
     let counted = tracks.counted in
     omega arith
 
 abbrev moved : List Member → ℕ → ℕ → Chain
 moved ms r f = record { members = ms; released = r; finished = f }
 
-tracks_moved : (flags : List Bool) (ms : List Member) (r f r' n : ℕ) → Tracks flags (moved ms r f) (n + 1) → (f + 1 < r → r' ≡ r) → (f + 1 ≡ r → IsRun ms r r') → Tracks flags (moved ms r' (f + 1)) n
-tracks_moved flags ms r f r' n tracks stays moves =
-    let most : f + (n + 1) ≤ r = done-le-released flags (moved ms r f) (n + 1) tracks in
-    let counted : f + (n + 1) ≡ count_by (is_done flags) ms = tracks.counted in
+tracks_moved : (left : List ℕ) (ms : List Member) (r f r' n : ℕ) → Tracks left (moved ms r f) (n + 1) → (f + 1 < r → r' ≡ r) → (f + 1 ≡ r → IsRun ms r r') → Tracks left (moved ms r' (f + 1)) n
+tracks_moved left ms r f r' n tracks stays moves =
+    let most : f + (n + 1) ≤ r = done-le-released left (moved ms r f) (n + 1) tracks in
+    let counted : f + (n + 1) ≡ count_by (is_done left) ms = tracks.counted in
     ⊎_elim (λ less.
     let same : r' ≡ r = stays less in
     record {
@@ -40,8 +39,8 @@ tracks_moved flags ms r f r' n tracks stays moves =
     }) (λ last.
     let all : f + 1 ≡ r = omega arith in
     let run : IsRun ms r r' = moves all in
-    let whole : count_by (is_done flags) ms ≡ r = omega arith in
-    let full = all_before (is_done flags) ms no_member r tracks.within tracks.later whole in
+    let whole : count_by (is_done left) ms ≡ r = omega arith in
+    let full = all_before (is_done left) ms no_member r tracks.within tracks.later whole in
     let grows = run.grows in
     record {
       within = run.within;
@@ -52,11 +51,11 @@ tracks_moved flags ms r f r' n tracks stays moves =
       waiting = λ within. let some : r < r' = run.some (omega arith) in omega arith;
     }) (cases_lt (f + 1) r)
 
-pub Tracks-finish : (flags : List Bool) (old new : Chain) (n : ℕ) → Tracks flags old (n + 1) → Finishes old new → Tracks flags new n
-Tracks-finish flags old new n tracks fin =
-    let next = tracks_moved flags old.members old.released old.finished new.released n tracks fin.stays fin.moves in
+pub Tracks-finish : (left : List ℕ) (old new : Chain) (n : ℕ) → Tracks left old (n + 1) → Finishes old new → Tracks left new n
+Tracks-finish left old new n tracks fin =
+    let next = tracks_moved left old.members old.released old.finished new.released n tracks fin.stays fin.moves in
     let same : moved old.members new.released (old.finished + 1) ≡ new = rw (← fin.members, ← fin.finished) refl in
-    subst (λ (ch : Chain). Tracks flags ch n) same next
+    subst (λ (ch : Chain). Tracks left ch n) same next
 
 abbrev cell_at : List ℕ → ℕ → ℕ
 cell_at cells i = slice_index_or cells i 0
@@ -115,7 +114,7 @@ module _ (chains : List Chain) (w : List ℕ) (cells : List ℕ) (i : ℕ) (with
         let old_within : old.released ≤ length old.members = subst (λ (ch : Chain). ch.released ≤ length ch.members) (sym old_is) (can.within (cell_at cells i)) in
         ⊎_elim (λ less. let e = fin.stays less in (omega arith, omega arith)) (λ last. let run = fin.moves (omega arith) in (run.grows, run.within)) (cases_lt (old.finished + 1) old.released)
 
-    pub CanSettle-more : (w' : List ℕ) (r r' : List Task) → Releases w w' r r' old.members old.released new.released → CanSettle after w' (drop (i + 1) cells)
+    pub CanSettle-more : (w' : List ℕ) (r r' : List ℕ) → Releases w w' r r' old.members old.released new.released → CanSettle after w' (drop (i + 1) cells)
     CanSettle-more w' r r' rel =
         let same_len : length after ≡ length chains = length-set chains (cell_at cells i) new in
         record {
@@ -135,7 +134,7 @@ module _ (chains : List Chain) (w : List ℕ) (cells : List ℕ) (i : ℕ) (with
               let none = left-other cells i c within other in
               let all = can.unfinished c in
               omega arith);
-          tasks = λ c. rw (kept_members c, rel.len) (can.tasks c);
+          parties = λ c. rw (kept_members c, rel.len) (can.parties c);
           waits = λ t.
               let set = wanted-set chains (cell_at cells i) new t inside in
               let law = rel.waits t in
@@ -147,14 +146,16 @@ module _ (chains : List Chain) (w : List ℕ) (cells : List ℕ) (i : ℕ) (with
 
     pub Settles-more : (start : List Chain) → Settles start chains cells (drop i cells) → Settles start after cells (drop (i + 1) cells)
     Settles-more start so = record {
-      len = length-set chains (cell_at cells i) new ∙ so.len;
-      members = λ c. kept_members c ∙ so.members c;
-      tracks = λ flags before. each (λ c ch. Tracks flags ch (count_by (is_cell c) (drop (i + 1) cells))) (Tracks-finish flags old new _ (subst (λ (ch : Chain). Tracks flags ch (count_by (is_cell (cell_at cells i)) (drop (i + 1) cells) + 1)) (sym old_is) (subst (Tracks flags (chain_at chains (cell_at cells i))) (left-same cells i (cell_at cells i) within refl) (so.tracks flags before (cell_at cells i)))) fin) (λ c other. subst (Tracks flags (chain_at chains c)) (left-other cells i c within other) (so.tracks flags before c));
+      same = record {
+        len = length-set chains (cell_at cells i) new ∙ so.same.len;
+        members = λ c. kept_members c ∙ so.same.members c;
+      };
+      tracks = λ left before. each (λ c ch. Tracks left ch (count_by (is_cell c) (drop (i + 1) cells))) (Tracks-finish left old new _ (subst (λ (ch : Chain). Tracks left ch (count_by (is_cell (cell_at cells i)) (drop (i + 1) cells) + 1)) (sym old_is) (subst (Tracks left (chain_at chains (cell_at cells i))) (left-same cells i (cell_at cells i) within refl) (so.tracks left before (cell_at cells i)))) fin) (λ c other. subst (Tracks left (chain_at chains c)) (left-other cells i c within other) (so.tracks left before c));
     }
 
-pub Answers-more : (w₀ w w' : List ℕ) (r₀ r r' : List Task) (ms : List Member) (first last : ℕ) → Releases w w' r r' ms first last → Answers w₀ w r₀ r → Answers w₀ w' r₀ r'
+pub Answers-more : (w₀ w w' : List ℕ) (r₀ r r' : List ℕ) (ms : List Member) (first last : ℕ) → Releases w w' r r' ms first last → Answers w₀ w r₀ r → Answers w₀ w' r₀ r'
 Answers-more w₀ w w' r₀ r r' ms first last rel so = record {
   len = rel.len ∙ so.len;
-  ready = λ t. rel.ready t ∙ so.ready t;
+  opened = λ t. rel.opened t ∙ so.opened t;
   total = rel.total ∙ so.total;
 }

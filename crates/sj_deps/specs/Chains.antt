@@ -1,7 +1,6 @@
 -- The accesses to one cell in order, and the runs among them that don't conflict.
 use Rattle.std.specs.Prelude.{◌≡◌, ℕ, ◌+◌, ◌-◌, ◌<◌, ◌≤◌, ◌==◌, Bool, true, false, ◌&&◌, List, [], ◌∷◌, ◌++◌, length, drop, count_by, nat_eq, nat_lt, min, if◌then◌else◌}
 use Rattle.std.specs.List.{slice_index_or, sum_by}
-use Rattle.sj_base.specs.declared.ids.Task.{Task}
 use Rattle.sj_deps.specs.declared.manner.Manner.{Manner}
 use Rattle.sj_deps.specs.declared.manner.Manner.TheVariants.{Read, Write, Commute, Contribute}
 use Rattle.sj_deps.specs.declared.chain.Chain.{Chain}
@@ -24,7 +23,7 @@ joins Contribute (Commute k) = false
 joins Contribute Contribute = true
 
 abbrev pub member : ℕ → Manner → Member
-member t m = record { task = record { 0 = t }; manner = m }
+member n m = record { party = n; manner = m }
 
 abbrev pub no_member : Member
 no_member = member 0 Read
@@ -35,8 +34,8 @@ no_chain = record { members = []; released = 0; finished = 0 }
 abbrev pub member_at : List Member → ℕ → Member
 member_at ms p = slice_index_or ms p no_member
 
-abbrev pub task_at : List Member → ℕ → ℕ
-task_at ms p = (member_at ms p).task.0
+abbrev pub party_at : List Member → ℕ → ℕ
+party_at ms p = (member_at ms p).party
 
 abbrev pub manner_at : List Member → ℕ → Manner
 manner_at ms p = (member_at ms p).manner
@@ -52,25 +51,29 @@ abbrev pub joined : List Member → ℕ → Bool
 joined ms p = joins (manner_at ms p) (manner_at ms (p + 1))
 
 abbrev pub is_of : ℕ → Member → Bool
-is_of t m = nat_eq m.task.0 t
+is_of n m = nat_eq m.party n
 
--- how many accesses of task t from place p on there are
+-- how many accesses of party n from place p on there are
 abbrev pub left_from : List Member → ℕ → ℕ → ℕ
-left_from ms p t = count_by (is_of t) (drop p ms)
+left_from ms p n = count_by (is_of n) (drop p ms)
 
 -- how many of its accesses may not begin yet
 abbrev pub wanted : List Chain → ℕ → ℕ
-wanted chains t = sum_by (λ ch. left_from ch.members ch.released t) chains
+wanted chains n = sum_by (λ ch. left_from ch.members ch.released n) chains
 
-abbrev pub is_done : List Bool → Member → Bool
-is_done flags m = slice_index_or flags m.task.0 false
+-- how many tasks of a party aren't done
+abbrev pub left_of : List ℕ → ℕ → ℕ
+left_of left n = slice_index_or left n 1
 
--- the counts of one chain fit the tasks that are done, but for so many of the open accesses, which are done and not yet counted
-pub record Tracks (flags : List Bool) (ch : Chain) (uncounted : ℕ) : Type 0 where
+abbrev pub is_done : List ℕ → Member → Bool
+is_done left m = nat_eq (left_of left m.party) 0
+
+-- the counts of one chain fit the parties that are done, but for so many of the open accesses, which are done and not yet counted
+pub record Tracks (left : List ℕ) (ch : Chain) (uncounted : ℕ) : Type 0 where
   pub within : ch.released ≤ length ch.members
-  pub counted : ch.finished + uncounted ≡ count_by (is_done flags) ch.members
-  pub later : (p : ℕ) → ch.released ≤ p → p < length ch.members → is_done flags (member_at ch.members p) ≡ false
-  pub earlier : (p q : ℕ) → p + 1 < ch.released → joined ch.members p ≡ false → q ≤ p → is_done flags (member_at ch.members q) ≡ true
+  pub counted : ch.finished + uncounted ≡ count_by (is_done left) ch.members
+  pub later : (p : ℕ) → ch.released ≤ p → p < length ch.members → is_done left (member_at ch.members p) ≡ false
+  pub earlier : (p q : ℕ) → p + 1 < ch.released → joined ch.members p ≡ false → q ≤ p → is_done left (member_at ch.members q) ≡ true
   pub boundary : (p : ℕ) → p + 1 ≡ ch.released → ch.released < length ch.members → joined ch.members p ≡ false
   pub waiting : ch.released < length ch.members → ch.finished < ch.released
 
@@ -101,14 +104,14 @@ pub record Finishes (old new : Chain) : Type 0 where
   pub moves : old.finished + 1 ≡ old.released → IsRun old.members old.released new.released
 
 abbrev pub waits_of : List ℕ → ℕ → ℕ
-waits_of waits t = slice_index_or waits t 0
+waits_of waits n = slice_index_or waits n 0
 
-abbrev pub is_task : ℕ → Task → Bool
-is_task t x = nat_eq x.0 t
+abbrev pub is_party : ℕ → ℕ → Bool
+is_party n x = nat_eq x n
 
--- the accesses at places first to last - 1 take one wait each of their tasks; those that wait no more are appended
-pub record Releases (w w' : List ℕ) (r r' : List Task) (ms : List Member) (first last : ℕ) : Type 0 where
-  pub waits : (t : ℕ) → waits_of w' t + left_from ms first t ≡ waits_of w t + left_from ms last t
+-- the accesses at places first to last - 1 take one wait each of their parties; those that wait no more are appended
+pub record Releases (w w' : List ℕ) (r r' : List ℕ) (ms : List Member) (first last : ℕ) : Type 0 where
+  pub waits : (n : ℕ) → waits_of w' n + left_from ms first n ≡ waits_of w n + left_from ms last n
   pub len : length w' ≡ length w
-  pub ready : (t : ℕ) → count_by (is_task t) r' + min 1 (waits_of w' t) ≡ count_by (is_task t) r + min 1 (waits_of w t)
+  pub opened : (n : ℕ) → count_by (is_party n) r' + min 1 (waits_of w' n) ≡ count_by (is_party n) r + min 1 (waits_of w n)
   pub total : length r' + count_by (nat_lt 0) w' ≡ length r + count_by (nat_lt 0) w

@@ -1,22 +1,22 @@
 //! Chains: the accesses to one cell in the order of tasks, and which of them may begin.
 
 ghost use Rattle.std.specs.Prelude.{◌≡◌, ◌+◌, ◌<◌, ◌≤◌, ◌&&◌, ◌==◌, ℕ, All, IfOk, OnErr, length, vec_capacity, count_by, nat_lt, slice_set, ◌-◌, min};
-ghost use Rattle.sj_deps.specs.Chains.{joins, no_chain, joins_last, waits_of, is_task, left_from, Pushes, IsRun, Releases, Finishes};
+ghost use Rattle.sj_deps.specs.Chains.{joins, no_chain, joins_last, waits_of, is_party, left_from, Pushes, IsRun, Releases, Finishes};
 
 use crate::manner::Manner;
-use sj_base::ids::Task;
 use sj_base::memory::OutOfMemory;
 use sj_base::sequence::Sequence;
 use std::alloc::Global;
 
-/// A task that accesses the cell, and how.
+/// A party that accesses the cell, by its number, and how. A party is a task by itself, or the contributions
+/// of one reduction phase.
 #[derive(Clone, Copy, Debug, PartialEq, Eq)]
 pub struct Member {
-    pub task: Task,
+    pub party: usize,
     pub manner: Manner,
 }
 
-/// The accesses to one cell, each task once, in the order of tasks. A run is a longest part of it whose
+/// The accesses to one cell, each party once, in the order of tasks. A run is a longest part of it whose
 /// accesses don't conflict: readers, one commuting group, one reduction phase, or one writer.
 #[derive(Drop)]
 pub struct Chain {
@@ -63,23 +63,22 @@ fn run_end(members: &[Member], first: usize) -> usize
     last
 }
 
-/// Takes one wait of a task, and appends the task where it was the last one.
-fn count_down(waits: &mut Vec<usize>, ready: &mut Vec<Task>, task: Task)
-    requires task { task.0 < length waits.old.items }
-    requires waiting { 0 < waits_of waits.old.items task.0 }
-    requires room { length ready.old.items + count_by (nat_lt 0) waits.old.items ≤ vec_capacity ready.old }
-    ensures waits { waits.new.items ≡ slice_set waits.old.items task.0 (waits_of waits.old.items task.0 - 1) }
-    ensures ready { (t : ℕ) → count_by (is_task t) ready.new.items + min 1 (waits_of waits.new.items t)
-        ≡ count_by (is_task t) ready.old.items + min 1 (waits_of waits.old.items t) }
-    ensures total { length ready.new.items + count_by (nat_lt 0) waits.new.items
-        ≡ length ready.old.items + count_by (nat_lt 0) waits.old.items }
-    ensures capacity { vec_capacity ready.old ≤ vec_capacity ready.new }
+/// Takes one wait of a party, and appends the party where it was the last one.
+fn count_down(waits: &mut Vec<usize>, opened: &mut Vec<usize>, party: usize)
+    requires party { party < length waits.old.items }
+    requires waiting { 0 < waits_of waits.old.items party }
+    requires room { length opened.old.items + count_by (nat_lt 0) waits.old.items ≤ vec_capacity opened.old }
+    ensures waits { waits.new.items ≡ slice_set waits.old.items party (waits_of waits.old.items party - 1) }
+    ensures opened { (n : ℕ) → count_by (is_party n) opened.new.items + min 1 (waits_of waits.new.items n)
+        ≡ count_by (is_party n) opened.old.items + min 1 (waits_of waits.old.items n) }
+    ensures total { length opened.new.items + count_by (nat_lt 0) waits.new.items
+        ≡ length opened.old.items + count_by (nat_lt 0) waits.old.items }
+    ensures capacity { vec_capacity opened.old ≤ vec_capacity opened.new }
 {
-    let i = task.0 as usize;
-    let left = waits[i] - 1;
-    waits[i] = left;
+    let left = waits[party] - 1;
+    waits[party] = left;
     if left == 0 {
-        let _ = ready.push(task);
+        let _ = opened.push(party);
     }
 }
 
@@ -89,18 +88,18 @@ fn release(
     first: usize,
     last: usize,
     waits: &mut Vec<usize>,
-    ready: &mut Vec<Task>,
+    opened: &mut Vec<usize>,
 )
     requires order { first ≤ last }
     requires within { last ≤ length members.now }
-    requires tasks { All (λ m. m.task.0 < length waits.old.items) members.now }
-    requires waiting { (t : ℕ) → left_from members.now first t ≤ waits_of waits.old.items t }
-    requires room { length ready.old.items + count_by (nat_lt 0) waits.old.items ≤ vec_capacity ready.old }
-    ensures released { Releases waits.old.items waits.new.items ready.old.items ready.new.items members.now first last }
-    ensures capacity { vec_capacity ready.old ≤ vec_capacity ready.new }
+    requires parties { All (λ m. m.party < length waits.old.items) members.now }
+    requires waiting { (n : ℕ) → left_from members.now first n ≤ waits_of waits.old.items n }
+    requires room { length opened.old.items + count_by (nat_lt 0) waits.old.items ≤ vec_capacity opened.old }
+    ensures released { Releases waits.old.items waits.new.items opened.old.items opened.new.items members.now first last }
+    ensures capacity { vec_capacity opened.old ≤ vec_capacity opened.new }
 {
     for p in first..last {
-        count_down(waits, ready, members[p].task);
+        count_down(waits, opened, members[p].party);
     }
 }
 
@@ -131,22 +130,22 @@ impl Chain {
     }
 
     /// Counts one access as finished, and releases the next run where it was the last of the released ones.
-    pub fn finish(&mut self, waits: &mut Vec<usize>, ready: &mut Vec<Task>)
+    pub fn finish(&mut self, waits: &mut Vec<usize>, opened: &mut Vec<usize>)
         requires within { self.old.released ≤ length self.old.members }
         requires unfinished { self.old.finished < self.old.released }
-        requires tasks { All (λ m. m.task.0 < length waits.old.items) self.old.members }
-        requires waiting { (t : ℕ) → left_from self.old.members self.old.released t ≤ waits_of waits.old.items t }
-        requires room { length ready.old.items + count_by (nat_lt 0) waits.old.items ≤ vec_capacity ready.old }
+        requires parties { All (λ m. m.party < length waits.old.items) self.old.members }
+        requires waiting { (n : ℕ) → left_from self.old.members self.old.released n ≤ waits_of waits.old.items n }
+        requires room { length opened.old.items + count_by (nat_lt 0) waits.old.items ≤ vec_capacity opened.old }
         ensures finished { Finishes self.old self.new }
-        ensures released { Releases waits.old.items waits.new.items ready.old.items ready.new.items self.old.members
+        ensures released { Releases waits.old.items waits.new.items opened.old.items opened.new.items self.old.members
             self.old.released self.new.released }
-        ensures capacity { vec_capacity ready.old ≤ vec_capacity ready.new }
+        ensures capacity { vec_capacity opened.old ≤ vec_capacity opened.new }
     {
         self.finished += 1;
         if self.finished == self.released {
             let members = self.members.items();
             let last = run_end(members, self.released);
-            release(members, self.released, last, waits, ready);
+            release(members, self.released, last, waits, opened);
             self.released = last;
         }
     }

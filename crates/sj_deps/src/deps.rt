@@ -18,7 +18,8 @@ use std::snapshot::Snapshot;
 ///
 /// The accesses to each cell form a sequence of runs: readers, one commuting group, one reduction phase, or
 /// one writer. Each cell counts how many accesses of its released runs are finished, and each task how many
-/// of its accesses wait for an earlier run. No pairs of tasks are looked at.
+/// of its accesses wait for an earlier run. No pairs of tasks are looked at. The contributions of a phase
+/// stand in the sequences of its copies as one, and each of them waits for the phase once.
 #[derive(Drop)]
 pub struct Deps {
     program: Snapshot<Program>,
@@ -40,7 +41,7 @@ impl Deps {
     ghost use Rattle.sj_deps.specs.Lending.{EndsAfter};
 
     /// The dependencies of a program, with no task done, and room for the answers of `done`. Linear in the
-    /// accesses, where `Redux` is one to each partial copy of its cell.
+    /// accesses, and in the workers for each reduction phase.
     pub fn of(alloc: Global, program: &Program) -> Result<Deps, OutOfMemory>
         requires { HasDependencies program.now }
         ensures program { IfOk result (λ d. d.program ≡ program.now) }
@@ -59,17 +60,17 @@ impl Deps {
         ensures { IsTrue result ↔ Ready self.now.program self.now.done t.0 }
     {
         let i = t.0 as usize;
-        if i >= self.counters.waits.len() {
+        if i >= self.counters.held.len() {
             return false;
         }
         if self.counters.is_done[i] {
             return false;
         }
-        self.counters.waits[i] == 0
+        self.counters.held[i] == 0
     }
 
-    /// Takes a ready task as done, and answers the tasks that become ready, by number. Linear in the accesses
-    /// that are released, which is linear in all accesses over all calls, and then a sort of the answers. No
+    /// Takes a ready task as done, and answers the tasks that become ready, by number. Over all calls linear in
+    /// the accesses, and in the workers for each reduction phase, besides a sort of the answers of each. No
     /// memory.
     pub fn done(&mut self, t: Task) -> &[Task]
         requires { Ready self.old.program self.old.done t.0 }

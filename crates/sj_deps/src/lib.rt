@@ -10,4 +10,5 @@ pub mod manner;
 mod settle;
 #[cfg(test)]
 mod tests;
+#[cfg(test)]
 mod usages;

@@ -85,14 +85,28 @@ fn lowered(alloc: Global, codelet: u16, accesses: &[(Mode, u32)]) -> Result<Lowe
     })
 }
 
-/// A program of two workers over five cells, of which the last two are the partial copies of cell 0.
-fn program(alloc: Global, tasks: &[(u16, &[(Mode, u32)])]) -> Result<Program, OutOfMemory> {
+/// The first partial copy of a cell: those of cells 0 and 2 overlap where there are two workers.
+fn partials(cell: u32) -> Option<Cell> {
+    match cell {
+        0 => Some(Cell(3)),
+        1 => Some(Cell(6)),
+        2 => Some(Cell(4)),
+        _ => None,
+    }
+}
+
+/// A program over nine cells, with the partial copies of the first three.
+fn program(
+    alloc: Global,
+    workers: u8,
+    tasks: &[(u16, &[(Mode, u32)])],
+) -> Result<Program, OutOfMemory> {
     let mut cells = Vec::new(alloc);
-    for c in 0..5u32 {
+    for c in 0..9u32 {
         cells.push(CellInfo {
             root: Root(c),
             dims: Dims { rows: 1, cols: 1 },
-            partials: if c == 0 { Some(Cell(3)) } else { None },
+            partials: partials(c),
         })?;
     }
     let mut list = Vec::new(alloc);
@@ -103,7 +117,7 @@ fn program(alloc: Global, tasks: &[(u16, &[(Mode, u32)])]) -> Result<Program, Ou
         cells: Sequence::of(cells),
         tasks: Sequence::of(list),
         deliveries: Sequence::of(Vec::new(alloc)),
-        workers: 2,
+        workers,
     })
 }
 
@@ -111,15 +125,16 @@ fn program(alloc: Global, tasks: &[(u16, &[(Mode, u32)])]) -> Result<Program, Ou
 fn goes<R: Abort>(
     rt: &R,
     alloc: Global,
+    workers: u8,
     tasks: &[(u16, &[(Mode, u32)])],
     first: &[u32],
     steps: &[(u32, &[Task])],
 ) -> Result<(), OutOfMemory> {
-    let program = program(alloc, tasks)?;
+    let program = program(alloc, workers, tasks)?;
     let countable = is_countable(alloc, &program)?;
     assert!(rt; countable);
     let mut deps = Deps::of(alloc, &program)?;
-    for t in 0..8u32 {
+    for t in 0..10u32 {
         assert_eq!(rt; deps.is_ready(Task(t)), first.contains(&t));
     }
     for (t, wanted) in steps {
@@ -149,6 +164,7 @@ fn loads_are_ready_and_a_delivery_waits_for_its_load(rt: HostRuntime) -> Result<
     goes(
         &rt,
         rt.alloc(),
+        2,
         tasks,
         &[0, 1, 2],
         &[(1, &[]), (0, &[Task(3)]), (3, &[]), (2, &[])],
@@ -174,7 +190,7 @@ fn readers_go_together_and_a_writer_waits_for_all_of_them(rt: HostRuntime) -> Re
         (2, &[Task(4)]),
         (4, &[Task(5)]),
     ];
-    goes(&rt, rt.alloc(), tasks, &[0, 6], steps)?;
+    goes(&rt, rt.alloc(), 2, tasks, &[0, 6], steps)?;
     Ok(())
 }
 
@@ -199,7 +215,7 @@ fn commuting_tasks_go_in_any_order_and_a_reader_closes_their_group(
         (4, &[Task(5)]),
         (5, &[Task(6)]),
     ];
-    goes(&rt, rt.alloc(), tasks, &[0, 1], steps)?;
+    goes(&rt, rt.alloc(), 2, tasks, &[0, 1], steps)?;
     Ok(())
 }
 
@@ -226,7 +242,7 @@ fn contributions_wait_for_the_inits_and_combines_for_the_contributions(
         (5, &[Task(6)]),
         (6, &[Task(7)]),
     ];
-    goes(&rt, rt.alloc(), tasks, &[0, 1, 2], steps)?;
+    goes(&rt, rt.alloc(), 2, tasks, &[0, 1, 2], steps)?;
     Ok(())
 }
 
@@ -241,9 +257,133 @@ fn answers_from_several_cells_come_by_number(rt: HostRuntime) -> Result<(), Fail
     goes(
         &rt,
         rt.alloc(),
+        2,
         tasks,
         &[0],
         &[(0, &[Task(1), Task(2), Task(3)])],
     )?;
+    Ok(())
+}
+
+#[test]
+fn a_copy_read_between_contributions_parts_two_phases(rt: HostRuntime) -> Result<(), Fail> {
+    let tasks: &[(u16, &[(Mode, u32)])] = &[
+        (20, &[(Mode::W, 3)]),
+        (20, &[(Mode::W, 4)]),
+        (10, &[(Mode::Redux, 0)]),
+        (10, &[(Mode::Redux, 0)]),
+        (DELIVER, &[(Mode::R, 4)]),
+        (10, &[(Mode::Redux, 0)]),
+        (10, &[(Mode::Redux, 0)]),
+        (DELIVER, &[(Mode::R, 3)]),
+    ];
+    let steps: &[(u32, &[Task])] = &[
+        (1, &[]),
+        (0, &[Task(2), Task(3)]),
+        (3, &[]),
+        (2, &[Task(4)]),
+        (4, &[Task(5), Task(6)]),
+        (5, &[]),
+        (6, &[Task(7)]),
+    ];
+    goes(&rt, rt.alloc(), 2, tasks, &[0, 1], steps)?;
+    Ok(())
+}
+
+#[test]
+fn a_phase_of_three_workers_waits_for_all_copies(rt: HostRuntime) -> Result<(), Fail> {
+    let tasks: &[(u16, &[(Mode, u32)])] = &[
+        (20, &[(Mode::W, 3)]),
+        (20, &[(Mode::W, 4)]),
+        (20, &[(Mode::W, 5)]),
+        (10, &[(Mode::Redux, 0)]),
+        (10, &[(Mode::Redux, 0)]),
+        (ADD, &[(Mode::R, 3), (Mode::RW, 0)]),
+        (ADD, &[(Mode::R, 5), (Mode::RW, 0)]),
+        (DELIVER, &[(Mode::R, 4)]),
+    ];
+    let steps: &[(u32, &[Task])] = &[
+        (0, &[]),
+        (2, &[]),
+        (1, &[Task(3), Task(4)]),
+        (4, &[]),
+        (3, &[Task(5), Task(7)]),
+        (5, &[Task(6)]),
+    ];
+    goes(&rt, rt.alloc(), 3, tasks, &[0, 1, 2], steps)?;
+    Ok(())
+}
+
+#[test]
+fn a_task_that_contributes_to_two_cells_waits_for_both_phases(
+    rt: HostRuntime,
+) -> Result<(), Fail> {
+    let tasks: &[(u16, &[(Mode, u32)])] = &[
+        (20, &[(Mode::W, 3)]),
+        (20, &[(Mode::W, 4)]),
+        (20, &[(Mode::W, 6)]),
+        (20, &[(Mode::W, 7)]),
+        (10, &[(Mode::Redux, 0), (Mode::Redux, 1), (Mode::Redux, 0)]),
+        (10, &[(Mode::Redux, 0)]),
+        (10, &[(Mode::Redux, 1)]),
+        (DELIVER, &[(Mode::R, 3)]),
+        (DELIVER, &[(Mode::R, 7)]),
+    ];
+    let steps: &[(u32, &[Task])] = &[
+        (0, &[]),
+        (1, &[Task(5)]),
+        (2, &[]),
+        (3, &[Task(4), Task(6)]),
+        (5, &[]),
+        (6, &[]),
+        (4, &[Task(7), Task(8)]),
+    ];
+    goes(&rt, rt.alloc(), 2, tasks, &[0, 1, 2, 3], steps)?;
+    Ok(())
+}
+
+#[test]
+fn contributions_of_one_worker_go_together(rt: HostRuntime) -> Result<(), Fail> {
+    let tasks: &[(u16, &[(Mode, u32)])] = &[
+        (20, &[(Mode::W, 3)]),
+        (10, &[(Mode::Redux, 0)]),
+        (10, &[(Mode::Redux, 0)]),
+        (DELIVER, &[(Mode::R, 3)]),
+        (10, &[(Mode::Redux, 0)]),
+        (10, &[(Mode::Redux, 4)]),
+    ];
+    let steps: &[(u32, &[Task])] = &[
+        (0, &[Task(1), Task(2)]),
+        (1, &[]),
+        (2, &[Task(3)]),
+        (3, &[Task(4)]),
+        (5, &[]),
+    ];
+    goes(&rt, rt.alloc(), 1, tasks, &[0, 5], steps)?;
+    Ok(())
+}
+
+#[test]
+fn contributions_to_cells_that_share_a_copy_go_together(rt: HostRuntime) -> Result<(), Fail> {
+    let tasks: &[(u16, &[(Mode, u32)])] = &[
+        (20, &[(Mode::W, 3)]),
+        (20, &[(Mode::W, 4)]),
+        (20, &[(Mode::W, 5)]),
+        (10, &[(Mode::Redux, 0)]),
+        (10, &[(Mode::Redux, 2), (Mode::Redux, 0)]),
+        (10, &[(Mode::Redux, 0)]),
+        (10, &[(Mode::Redux, 2)]),
+        (DELIVER, &[(Mode::R, 4)]),
+    ];
+    let steps: &[(u32, &[Task])] = &[
+        (1, &[]),
+        (2, &[Task(6)]),
+        (6, &[]),
+        (0, &[Task(3), Task(4), Task(5)]),
+        (4, &[]),
+        (3, &[]),
+        (5, &[Task(7)]),
+    ];
+    goes(&rt, rt.alloc(), 2, tasks, &[0, 1, 2], steps)?;
     Ok(())
 }

@@ -2,8 +2,9 @@
 
 ghost use Rattle.std.specs.Prelude.{◌≡◌, ◌+◌, ◌^◌, ◌<◌, ◌++◌, ◌∷◌, [], map, IfOk, OnOk};
 ghost use Rattle.std.specs.List.{flat_map, range_with_len};
-ghost use Rattle.sj_deps.specs.Conflict.{copies_of, first_copy, usage, usages_of};
+ghost use Rattle.sj_deps.specs.Conflict.{copies_of, usage, usages_of};
 
+use crate::entry::first_copy;
 use crate::manner::{Manner, Usage};
 use sj_base::ids::Cell;
 use sj_base::memory::OutOfMemory;
@@ -52,13 +53,6 @@ fn add_usage(usages: &mut Vec<Usage>, cell: usize, manner: Manner) -> Result<(),
 {
     usages.push(Usage { cell, manner })?;
     Ok(())
-}
-
-/// The first partial copy of a cell.
-fn first_copy(program: &Program, cell: Cell) -> Option<Cell>
-    ensures { result ≡ first_copy program.now cell.0 }
-{
-    program.cells.items().get(cell.0 as usize)?.partials
 }
 
 fn add_copies(usages: &mut Vec<Usage>, program: &Program, cell: Cell) -> Result<(), OutOfMemory>

@@ -5,4 +5,4 @@ use Rattle.sj_deps.proofs.chain.release.Given as goal
 -- the accesses at places first to p - 1 have taken their waits
 abbrev pub invariant-loop-p : goal.invariant-loop-p
 invariant-loop-p l =
-    Releases l.initial.waits.items l.waits.items l.initial.ready.items l.ready.items l.members l.first l.p × (vec_capacity l.initial.ready ≤ vec_capacity l.ready)
+    Releases l.initial.waits.items l.waits.items l.initial.opened.items l.opened.items l.members l.first l.p × (vec_capacity l.initial.opened ≤ vec_capacity l.opened)

@@ -1,26 +1,35 @@
-use Rattle.std.proofs.Common.{◌≡◌, sym, ap, subst, arith, length, slice_index_or, List}
-use Rattle.sj_deps.specs.Conflict.{usages, usage}
-use Rattle.sj_deps.specs.declared.manner.Manner.TheVariants.{Read}
+use Rattle.std.proofs.Common.{◌≡◌, ◌<◌, ◌∙◌, ◌++◌, List, ap, sym, subst, arith, rules, refl, length, slice_index_or}
+use Rattle.std.specs.Prelude.{Contains}
+use Rattle.std.specs.List.{flat_map}
+use Rattle.std.proofs.lemmas.Grind.{common_steps}
+use Rattle.std.proofs.lemmas.List.{take_all}
+use Rattle.std.proofs.lemmas.Option.{slice_get_read}
+use Rattle.sj_base.specs.declared.mode.Access.{Access}
 use Rattle.sj_deps.specs.declared.manner.Usage.{Usage}
-use Rattle.sj_deps.specs.Counts.{usage_at, Entering}
-use Rattle.sj_deps.proofs.Pushing.{cell_inside, Entering-next}
+use Rattle.sj_deps.specs.Conflict.{usage, usages, usages_of}
+use Rattle.sj_deps.specs.Counts.{Entering}
+use Rattle.sj_deps.proofs.Accessing.{flat_has, flat_more, usages_at}
+use Rattle.sj_deps.proofs.Starting.{Entering-next}
 use Rattle.sj_deps.proofs.entry.enter_task.Goals as goal
 
-pub enter-requires-clause-cell : goal.enter-requires-clause-cell
-enter-requires-clause-cell c =
-    let same = c.loop-usage.invariant.1 in
-    let long : length c.deref-usage-items.result.now ≡ length (usages c.args.program.now c.args.t) = ap length same in
-    let is : usage_at c.args.program.now c.args.t c.loop-usage.usage-index ≡ slice_index_or c.deref-usage-items.result.now c.loop-usage.usage-index (usage Read 0) = ap (λ (us : List Usage). slice_index_or us c.loop-usage.usage-index (usage Read 0)) (sym same) in
-    cell_inside c.args.program.now c.requires.program c.args.t c.loop-usage.usage-index _ _ _ c.loop-usage.invariant.0 _ _ is (omega arith)
+pub enter_access-requires-clause-uses : goal.enter_access-requires-clause-uses
+enter_access-requires-clause-uses c =
+    let P = c.args.program.now in
+    let is : c.index-items-t.result ≡ slice_index_or P.tasks c.args.t c.index-items-t.result = first_of (search rules, grind (arith, common_steps)) in
+    let items : c.items-access-items.result.now ≡ c.index-items-t.result.accesses = c.items-access-items.ensures in
+    let us_are : usages P c.args.t ≡ flat_map (usages_of P c.index-items-t.result.codelet) c.items-access-items.result.now = usages_at P c.args.t c.index-items-t.result (slice_get_read P.tasks (length P.tasks) c.args.t c.index-items-t.result refl c.requires.task is) ∙ ap (flat_map (usages_of P c.index-items-t.result.codelet)) (sym items) in
+    λ d m h. subst (λ (us : List Usage). Contains us (usage m d)) (sym us_are) (flat_has (usages_of P c.index-items-t.result.codelet) c.items-access-items.result.now c.loop-access.access-index _ (usage m d) (omega arith) h)
 
-pub loop-usage-preserved : goal.loop-usage-preserved
-loop-usage-preserved c =
-    let same = c.loop-usage.invariant.1 in
-    let long : length c.deref-usage-items.result.now ≡ length (usages c.args.program.now c.args.t) = ap length same in
-    (c.in_ok-enter.ensures.entered c.args.program.now c.loop-usage.usage-index c.requires.program (ap (λ (us : List Usage). slice_index_or us c.loop-usage.usage-index (usage Read 0)) (sym same)) (omega arith) c.loop-usage.invariant.0, c.loop-usage.invariant.1)
+pub loop-access-preserved : goal.loop-access-preserved
+loop-access-preserved c =
+    let P = c.args.program.now in
+    (c.in_ok-enter_access.ensures.begun, subst (λ (us : List Usage). Entering P c.args.t us c.enter_access.new.entered) (sym (flat_more (usages_of P c.index-items-t.result.codelet) c.items-access-items.result.now c.loop-access.access-index _ (omega arith))) (c.in_ok-enter_access.ensures.entered _ c.loop-access.invariant.1))
 
-pub returns : goal.returns
-returns c =
-    let long : length c.deref-usage-items.result.now ≡ length (usages c.args.program.now c.args.t) = ap length c.loop-usage.invariant.1 in
-    let last : c.loop-usage.usage-index ≡ length (usages c.args.program.now c.args.t) = omega arith in
-    Entering-next c.args.program.now c.args.t _ _ _ (subst (λ n. Entering c.args.program.now c.args.t n c.loop-usage.entered.chains.items c.loop-usage.entered.cells.items c.loop-usage.entered.waits.items) last c.loop-usage.invariant.0)
+pub returns-clause-entered : goal.returns-clause-entered
+returns-clause-entered c =
+    let P = c.args.program.now in
+    let is : c.index-items-t.result ≡ slice_index_or P.tasks c.args.t c.index-items-t.result = first_of (search rules, grind (arith, common_steps)) in
+    let items : c.items-access-items.result.now ≡ c.index-items-t.result.accesses = c.items-access-items.ensures in
+    let us_are : usages P c.args.t ≡ flat_map (usages_of P c.index-items-t.result.codelet) c.items-access-items.result.now = usages_at P c.args.t c.index-items-t.result (slice_get_read P.tasks (length P.tasks) c.args.t c.index-items-t.result refl c.requires.task is) ∙ ap (flat_map (usages_of P c.index-items-t.result.codelet)) (sym items) in
+    let whole = take_all c.loop-access.access-index c.items-access-items.result.now (omega arith) in
+    Entering-next P c.args.t c.loop-access.entered (subst (λ (us : List Usage). Entering P c.args.t us c.loop-access.entered) (ap (flat_map (usages_of P c.index-items-t.result.codelet)) whole ∙ sym us_are) c.loop-access.invariant.1)

@@ -1,7 +1,8 @@
-use Rattle.std.proofs.Common.{◌≡◌}
-use Rattle.sj_deps.specs.Conflict.{usages}
-use Rattle.sj_deps.specs.Counts.{Entering}
+use Rattle.std.proofs.Common.{take}
+use Rattle.std.specs.List.{flat_map}
+use Rattle.sj_deps.specs.Conflict.{usages_of}
+use Rattle.sj_deps.specs.Counts.{Begun, Entering}
 use Rattle.sj_deps.proofs.entry.enter_task.Given as goal
 
-abbrev pub invariant-loop-usage : goal.invariant-loop-usage
-invariant-loop-usage l = Entering l.program l.t l.usage-index l.entered.chains.items l.entered.cells.items l.entered.waits.items × (l.usage-items ≡ usages l.program l.t)
+abbrev pub invariant-loop-access : goal.invariant-loop-access
+invariant-loop-access l = Begun l.entered × Entering l.program l.t (flat_map (usages_of l.program l.task.codelet) (take l.access-index l.access-items)) l.entered

@@ -3,12 +3,23 @@ use Rattle.std.specs.List.Sorted.{IsStrictlyIncreasing}
 use Rattle.sj_base.specs.declared.ids.Task.{Task}
 use Rattle.sj_deps.specs.Conflict.{Ready}
 use Rattle.sj_deps.specs.Progress.{Progress, progress, after, BecomesReady}
-use Rattle.sj_deps.proofs.Keeping.{can_settle, room_for_done, keeps_after, answer_ready, ready_answer, answers_rise}
+use Rattle.sj_deps.proofs.Keeping.{known_task, enough_left, all_free, room_for_done, keeps_after, answer_ready, ready_answer, answers_rise}
 use Rattle.sj_deps.proofs.deps.Deps.done.Goals as goal
 
-pub complete-requires-clause-counts : goal.complete-requires-clause-counts
-complete-requires-clause-counts c =
-    can_settle c.self.inside.program.value c.self.inside.counters c.self.invariant c.args.t.0 (subst (λ (v : Progress). Ready v.program v.done c.args.t.0) (sym c.self.view_is) c.requires)
+pub complete-requires-clause-ledger : goal.complete-requires-clause-ledger
+complete-requires-clause-ledger c = c.self.invariant.ledger
+
+pub complete-requires-clause-task : goal.complete-requires-clause-task
+complete-requires-clause-task c =
+    known_task c.self.inside.program.value c.self.inside.counters c.self.invariant c.args.t.0 (subst (λ (v : Progress). Ready v.program v.done c.args.t.0) (sym c.self.view_is) c.requires)
+
+pub complete-requires-clause-enough : goal.complete-requires-clause-enough
+complete-requires-clause-enough c =
+    enough_left c.self.inside.program.value c.self.inside.counters c.self.invariant c.args.t.0 (subst (λ (v : Progress). Ready v.program v.done c.args.t.0) (sym c.self.view_is) c.requires)
+
+pub complete-requires-clause-free : goal.complete-requires-clause-free
+complete-requires-clause-free c =
+    all_free c.self.inside.program.value c.self.inside.counters c.self.invariant c.args.t.0 (subst (λ (v : Progress). Ready v.program v.done c.args.t.0) (sym c.self.view_is) c.requires)
 
 pub complete-requires-clause-room_done : goal.complete-requires-clause-room_done
 complete-requires-clause-room_done c =
