@@ -10,9 +10,9 @@ static void say(const char *name, size_t n, int calls, int64_t taken, const int6
     printf("%s %zu %d %lld %lld\n", name, n, calls, (long long)taken, (long long)(int64_t)sum);
 }
 
-// The cubic kernels on the largest tiles take long, and have one sample a turn.
+// The cubic kernels on the largest tiles take long, and have one sample a turn; none where only the linear ones are asked.
 #define TIMED(NAME, CALLS, BEFORE, CALL, WRITTEN, COUNT) \
-    for (int sample = 0; sample < (n == 1024 && CALLS == cubic ? 1 : SAMPLES); sample++) { \
+    for (int sample = 0; sample < (CALLS == cubic ? cubic_samples : SAMPLES); sample++) { \
         int calls = CALLS; \
         int64_t start = now(); \
         for (int call = 0; call < calls; call++) { BEFORE; CALL; } \
@@ -29,7 +29,8 @@ static void say(const char *name, size_t n, int calls, int64_t taken, const int6
 
 #define LEAST(NAME, CALLS, CALL) TIMED(NAME, CALLS, memcpy(z, r, bytes), CALL, z, area)
 
-static void side(size_t n, int cubic, int flat) {
+static void side(size_t n, int cubic, int flat, int linear) {
+    int cubic_samples = linear ? 0 : n == 1024 ? 1 : SAMPLES;
     size_t area = n * n, bytes = area * sizeof(int64_t);
     int64_t *x = numbers(area, 1), *y = numbers(area, 2), s[1];
     RING("gemm", cubic, gemm(x, y, z, n, n, n))
@@ -55,13 +56,15 @@ static void side(size_t n, int cubic, int flat) {
     free(x), free(y), free(p), free(q), free(r), free(z);
 }
 
-// The numbers of calls are those of the program in run.sh.
-int main(void) {
-    side(8, 4000, 40000);
-    side(20, 400, 8000);
-    side(64, 16, 800);
-    side(128, 2, 160);
-    side(256, 1, 32);
-    side(1024, 1, 2);
+// The numbers of calls are those of the program in run.sh. With an argument the linear kernels alone.
+int main(int argc, char **argv) {
+    int linear = argc > 1;
+    (void)argv;
+    side(8, 4000, 40000, linear);
+    side(20, 400, 8000, linear);
+    side(64, 16, 800, linear);
+    side(128, 2, 160, linear);
+    side(256, 1, 32, linear);
+    side(1024, 1, 2, linear);
     return 0;
 }

@@ -2,7 +2,9 @@
 # Times each kernel on square tiles of 8 to 1024 rows against plain C loops (loops.h), which gcc -O3 builds without machine
 # flags, and again with -march=x86-64-v2, for which Rattle's program is built. The program that calls the kernels is
 # written here and built in a scratch folder, so that the gate doesn't run it. The three take turns on one core, three
-# times five samples each (one of a cubic kernel on the largest tiles), and the best counts. Prints a table of C's time
+# times five samples each (one of a cubic kernel on the largest tiles), and the best counts. The kernels that aren't cubic
+# have twelve more turns: from 256 rows on they are as fast as the memory that they happen to get, which differs from one
+# run of a program to the next. Prints a table of C's time
 # as a multiple of ours, so that 1 is as fast and more is faster: first against C without machine flags, then for
 # x86-64-v2, where C takes the sum of min-plus in a form in which nothing branches within a row. With the argument `large`
 # in place of these tiles one row and one column of 1,048,576 elements, and 4096 by 4096, in one turn; each cell then begins
@@ -289,10 +291,12 @@ fn time(rt: &HostRuntime, kernel: Kernel, sides: Sides) -> Result<(), OutOfMemor
     }
 }
 
-fn time_squares(rt: &HostRuntime) -> Result<(), OutOfMemory> {
+fn time_squares(rt: &HostRuntime, cubic: bool) -> Result<(), OutOfMemory> {
     for kernel in KERNELS.iter().copied() {
         for n in [8u32, 20, 64, 128, 256, 1024] {
-            time(rt, kernel, Sides { m: n, k: n, n })?;
+            if cubic || !is_cubic(kernel) {
+                time(rt, kernel, Sides { m: n, k: n, n })?;
+            }
         }
     }
     Ok(())
@@ -307,35 +311,52 @@ fn time_large(rt: &HostRuntime) -> Result<(), OutOfMemory> {
     Ok(())
 }
 
-fn is_large(rt: &HostRuntime) -> bool {
+// What the first argument tells: `large` has the large tiles, `linear` the squares without the cubic kernels.
+#[derive(Clone, Copy)]
+enum Tiles {
+    Squares,
+    Linear,
+    Large,
+}
+
+fn tiles(rt: &HostRuntime) -> Tiles {
     match env::args(rt) {
-        Ok(args) => args.count() > 1,
-        Err(_) => false,
+        Ok(mut args) => match args.nth(1) {
+            Some(word) if word.as_str() == "large" => Tiles::Large,
+            Some(_) => Tiles::Linear,
+            None => Tiles::Squares,
+        },
+        Err(_) => Tiles::Squares,
     }
 }
 
 fn main(rt: HostRuntime) -> io::Result<()> {
-    let _ = if is_large(&rt) { time_large(&rt) } else { time_squares(&rt) };
+    let _ = match tiles(&rt) {
+        Tiles::Squares => time_squares(&rt, true),
+        Tiles::Linear => time_squares(&rt, false),
+        Tiles::Large => time_large(&rt),
+    };
     Ok(())
 }
 RT
 built kernel_speed first.txt
 program=loops
-turns="1 2 3"
+turns="whole whole whole linear linear linear linear linear linear linear linear linear linear linear linear"
 if [ "${1-}" = large ]; then
     program=large
-    turns=1
+    turns=large
 fi
 gcc -O3 -o loops "$here/$program.c"
 gcc -O3 -march=x86-64-v2 -o loops_v2 "$here/$program.c"
 core=$(($(nproc) - 1))
-for _ in $turns; do
-    taskset -c $core ./loops >> c.txt
-    taskset -c $core ./loops_v2 >> c_v2.txt
+for turn in $turns; do
+    if [ $turn = whole ]; then set --; else set -- $turn; fi
+    taskset -c $core ./loops "$@" >> c.txt
+    taskset -c $core ./loops_v2 "$@" >> c_v2.txt
     taskset -c $core crates/kernel_speed/out/kernel_speed "$@" >> rattle.txt
 done
 echo "cores: $(nproc), of which one is used, load: $(cut -d ' ' -f 1 /proc/loadavg)"
-python3 - rattle.txt c.txt c_v2.txt "$@" <<'PY'
+python3 - rattle.txt c.txt c_v2.txt $program <<'PY'
 import sys
 def read(path):
     least, sums = {}, {}
@@ -348,7 +369,7 @@ def read(path):
         sums.setdefault(key, []).append(sum_)
     return least, sums
 (ours, sums), (c, c_sums), (v2, v2_sums) = map(read, sys.argv[1:4])
-large = len(sys.argv) > 4
+large = sys.argv[4] == "large"
 CUBIC = ("gemm", "mingemm", "fwdiag", "fwrow", "fwcol")
 every = list(dict.fromkeys(sides for _, sides in ours))
 print("| Kernel | " + " | ".join(f"{m} by {n}" if large else f"{n}" for m, n in every) + " |")

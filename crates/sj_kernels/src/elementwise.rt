@@ -20,7 +20,8 @@ pub fn fill(a: i64, b: i64, x: &mut [i64])
 }
 
 /// `x(i) = a x(i)`, wrapping. Linear in `x`. Eight elements at a time: of a loop over single ones the compiler makes
-/// vectors, whose 64-bit product is slower than single products.
+/// vectors, whose 64-bit product is slower than single products. It is not inlined, so that `a` stays in a register.
+#[inline(never)]
 pub fn scale(a: i64, x: &mut [i64])
     ensures { x.new ≡ (scale a (vector x.old)).elements }
 {

@@ -1,6 +1,6 @@
 //! Worked examples, by hand.
 
-ghost use Rattle.std.specs.Prelude.{◌≡◌, [], ◌∷◌, IsTrue, IfOk};
+ghost use Rattle.std.specs.Prelude.{◌≡◌, ◌≤◌, [], ◌∷◌, IsTrue, IfOk};
 ghost use Rattle.sj_base.specs.Array.{zeros};
 ghost use Rattle.sj_codelet.specs.Kernel.{fits_in};
 ghost use Rattle.sj_codelet.specs.Frame.{all_dims, own, shared};
@@ -25,6 +25,7 @@ use sj_codelet::kernel::{
 };
 use sj_codelet::set::Codelets;
 use std::alloc::Global;
+use std::process::Abort;
 use std::simd::prelude::*;
 use std::sync::Arc;
 
@@ -134,9 +135,13 @@ fn blocks_with_negative_ways_back_are_as_from_copies(rt: HostRuntime) {
     }
 }
 
-/// Kinds of numbers that meet in a kernel, over and over, from one of them on.
-fn extremes(from: usize) -> [i64; 17] {
-    let kinds = [INF, TOP, 0, -1, LEAST];
+/// Kinds of numbers that meet in a kernel, over and over, from one of them on; or of short ones.
+fn extremes(from: usize, short: bool) -> [i64; 17] {
+    let kinds = if short {
+        [INF, TOP >> 1, 0, 1, (TOP >> 1) - 1]
+    } else {
+        [INF, TOP, 0, -1, LEAST]
+    };
     let mut made = [0; 17];
     for i in 0..17 {
         made[i] = kinds[(from % 5 + i) % 5];
@@ -153,36 +158,37 @@ fn plain_sum(a: i64, b: i64) -> i64 {
     }
 }
 
+/// Compares the kernels on the first `n` elements, with a block of one element before them, with single elements.
+fn rows_of(rt: &impl Abort, x: &[i64; 17], y: &[i64; 17], n: usize)
+    requires { n ≤ 17 }
+{
+    let mut low = *y;
+    lowest(&x[..n], &mut low[..n]);
+    let mut least = *y;
+    mingemm(&x[..1], &x[..n], &mut least[..n], 1, 1, n as u32);
+    let mut row = *y;
+    fwrow(&x[..1], &mut row[..n], 1, n as u32);
+    let mut col = *y;
+    fwcol(&x[..1], &mut col[..n], 1, n as u32);
+    for i in 0..17 {
+        let old = y[i];
+        let beside = if i < n { x[i] } else { INF };
+        let via = if i < n { x[0] } else { INF };
+        assert_eq!(rt; low[i], old.min(beside));
+        assert_eq!(rt; least[i], old.min(plain_sum(via, beside)));
+        assert_eq!(rt; row[i], old.min(plain_sum(via, old)));
+        assert_eq!(rt; col[i], old.min(plain_sum(via, old)));
+    }
+}
+
 #[test]
 fn rows_of_any_length_are_as_element_by_element(rt: HostRuntime) {
     for from in 0..5 {
-        let x = extremes(from);
-        let y = extremes(from + 2);
-        for n in [0usize, 1, 7, 8, 9, 17] {
-            let mut low = y;
-            lowest(&x[..n], &mut low[..n]);
-            let mut least = y;
-            mingemm(&x[..1], &x[..n], &mut least[..n], 1, 1, n as u32);
-            let mut row = y;
-            fwrow(&x[..1], &mut row[..n], 1, n as u32);
-            let mut col = y;
-            fwcol(&x[..1], &mut col[..n], 1, n as u32);
-            for i in 0..17 {
-                let old = y[i];
-                assert_eq!(rt; low[i], if i < n { old.min(x[i]) } else { old });
-                let way = if i < n {
-                    old.min(plain_sum(x[0], x[i]))
-                } else {
-                    old
-                };
-                assert_eq!(rt; least[i], way);
-                let way = if i < n {
-                    old.min(plain_sum(x[0], old))
-                } else {
-                    old
-                };
-                assert_eq!(rt; row[i], way);
-                assert_eq!(rt; col[i], way);
+        for short in [true, false] {
+            let x = extremes(from, short);
+            let y = extremes(from + 2, short);
+            for n in [0usize, 1, 7, 8, 9, 17] {
+                rows_of(&rt, &x, &y, n);
             }
         }
     }
@@ -192,8 +198,8 @@ fn rows_of_any_length_are_as_element_by_element(rt: HostRuntime) {
 fn lanes_are_as_single_sums(rt: HostRuntime) {
     for from in 0..5 {
         for other in 0..5 {
-            let a = extremes(from);
-            let b = extremes(other);
+            let a = extremes(from, false);
+            let b = extremes(other, false);
             let x = eight(&a);
             let y = eight(&b);
             let sums = plus8(x, y).to_array();
@@ -253,6 +259,37 @@ fn products_of_short_and_of_any_numbers_are_as_one_sum_after_another(rt: HostRun
             let mut made = c;
             mingemm(&a, &b, &mut made, 3, 5, 9);
             assert_eq!(rt; made, plain_product(&a, &b, c));
+        }
+    }
+}
+
+/// Compares the product of a row of three elements and three rows of `n` with one sum after another.
+fn product_of(rt: &impl Abort, a: &[i64; 3], b: &[i64; 51], c: &[i64; 17], n: usize)
+    requires { n ≤ 17 }
+{
+    let mut made = *c;
+    mingemm(a, &b[..3 * n], &mut made[..n], 1, 3, n as u32);
+    for j in 0..17 {
+        let mut least = c[j];
+        for l in 0..3 {
+            if j < n {
+                least = least.min(plain_sum(a[l], b[l * n + j]));
+            }
+        }
+        assert_eq!(rt; made[j], least);
+    }
+}
+
+#[test]
+fn products_of_any_width_are_as_one_sum_after_another(rt: HostRuntime) {
+    for seed in 0i64..20 {
+        for short in [true, false] {
+            let a = numbers(seed, short);
+            let b = numbers(seed + 100, short);
+            let c = numbers(seed + 200, short);
+            for n in [0usize, 1, 7, 8, 9, 17] {
+                product_of(&rt, &a, &b, &c, n);
+            }
         }
     }
 }
