@@ -84,8 +84,8 @@ pub fn gemm3(
     gemm(t, d, c, m, l, n);
 }
 
-/// Adds the product of some columns of A and as many rows of B, the panel. Where the panel is wide, its columns are
-/// brought together first: rows that lie a power of two apart would push each other out of the cache.
+/// Adds the product of some columns of A and as many rows of B, the panel. Where the panel is wide and not a single row,
+/// its columns are brought together first: rows that lie a power of two apart would push each other out of the cache.
 #[inline(never)]
 fn add_panel(a: &[i64], panel: &[i64], c: &mut [i64], sides: Sides, rows: Span)
     requires left { length a.now ≡ sides.m * sides.k }
@@ -96,7 +96,7 @@ fn add_panel(a: &[i64], panel: &[i64], c: &mut [i64], sides: Sides, rows: Span)
     ensures { c.new ≡ listing (length c.old) (with_terms sides rows a.now panel.now c.old) }
 {
     let n = sides.n;
-    if n <= TILE {
+    if n <= TILE || rows.len == 1 {
         let all = Span { first: 0, len: n };
         add_tile(a, panel, c, sides, rows, all);
         return;

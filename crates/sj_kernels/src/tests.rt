@@ -1,6 +1,6 @@
 //! Answers by hand and by plain loops: each kernel once, and each codelet once through the set.
 
-ghost use Rattle.std.specs.Prelude.{◌≡◌, ◌*◌, length, IfOk};
+ghost use Rattle.std.specs.Prelude.{◌≡◌, ◌≤◌, ◌*◌, length, IfOk};
 ghost use Rattle.sj_base.specs.Array.{zeros};
 
 use crate::elementwise::{add, axpy, butterfly, copy, fill, scale};
@@ -162,6 +162,35 @@ fn products_of_several_panels_are_those_of_a_plain_loop(rt: HostRuntime) {
     gemm(&a, &b, &mut c, 3, 33, 65);
     plain_gemm(&a, &b, &mut d, 3, 33, 65);
     assert!(rt; c.as_slice() == d.as_slice());
+}
+
+/// Compares the product of 3 by 3 and 3 by `n` elements with a plain loop.
+fn product_of(rt: &impl Abort, a: &[i64; 9], b: &[i64; 51], c: &[i64; 51], n: usize)
+    requires { n ≤ 17 }
+{
+    let mut made = *c;
+    let mut plain = *c;
+    gemm(a, &b[..3 * n], &mut made[..3 * n], 3, 3, n as u32);
+    plain_gemm(a, &b[..3 * n], &mut plain[..3 * n], 3, 3, n);
+    assert!(rt; made.as_slice() == plain.as_slice());
+}
+
+#[test]
+fn products_of_any_width_are_those_of_a_plain_loop(rt: HostRuntime) {
+    let mut odd = [0i64; 9];
+    let mut few = [0i64; 9];
+    let mut wide = [0i64; 51];
+    let mut many = [0i64; 51];
+    extremes(&mut odd);
+    random(&mut few, 3);
+    extremes(&mut wide);
+    random(&mut many, 4);
+    for n in [0usize, 1, 7, 8, 9, 17] {
+        product_of(&rt, &odd, &wide, &many, n);
+        product_of(&rt, &few, &wide, &wide, n);
+        product_of(&rt, &odd, &many, &wide, n);
+        product_of(&rt, &few, &many, &many, n);
+    }
 }
 
 /// Compares the kernels over single elements with plain loops, on the first `n` elements.
