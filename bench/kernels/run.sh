@@ -3,12 +3,12 @@
 # flags, and again with -march=x86-64-v2, for which Rattle's program is built. The program that calls the kernels is
 # written here and built in a scratch folder, so that the gate doesn't run it. The three take turns on one core, three
 # times five samples each (one of a cubic kernel on the largest tiles), and the best counts. The kernels that aren't cubic
-# have twelve more turns: from 256 rows on they are as fast as the memory that they happen to get, which differs from one
-# run of a program to the next. Prints a table of C's time
-# as a multiple of ours, so that 1 is as fast and more is faster: first against C without machine flags, then for
-# x86-64-v2, where C takes the sum of min-plus in a form in which nothing branches within a row. With the argument `large`
-# in place of these tiles one row and one column of 1,048,576 elements, and 4096 by 4096, in one turn; each cell then begins
-# with our nanoseconds a step, and C leaves out the cubic kernels of min-plus at 4096, which would take it an hour.
+# have twelve more turns, since from 256 rows on they are as fast as the memory that a run of a program happens to get.
+# Prints a table of C's time as a multiple of ours, so that 1 is as fast and more is faster: first against C without
+# machine flags, then for x86-64-v2, where C takes the sum of min-plus in a form in which nothing branches within a row.
+# With the argument `large` in place of these tiles one row and one column of 1,048,576 elements, and 4096 by 4096, in one
+# turn; each cell then begins with our nanoseconds a step, and C leaves out the cubic kernels of min-plus at 4096, which
+# would take it an hour.
 set -eu
 here=$(cd "$(dirname "$0")" && pwd)
 . "$here/../scratch.sh"
@@ -319,7 +319,7 @@ enum Tiles {
     Large,
 }
 
-fn tiles(rt: &HostRuntime) -> Tiles {
+fn asked(rt: &HostRuntime) -> Tiles {
     match env::args(rt) {
         Ok(mut args) => match args.nth(1) {
             Some(word) if word.as_str() == "large" => Tiles::Large,
@@ -331,7 +331,7 @@ fn tiles(rt: &HostRuntime) -> Tiles {
 }
 
 fn main(rt: HostRuntime) -> io::Result<()> {
-    let _ = match tiles(&rt) {
+    let _ = match asked(&rt) {
         Tiles::Squares => time_squares(&rt, true),
         Tiles::Linear => time_squares(&rt, false),
         Tiles::Large => time_large(&rt),
