@@ -77,8 +77,7 @@ fn relax_by_pairs(a: &[i64], b: &[i64], c: &mut [i64])
 
 /// `c[i,j]` becomes the least of itself and all `a[i,l] + b[l,j]`, for `a` of m rows and k columns, `b` of k and n,
 /// `c` of m and n. It goes along rows: m k n sums. A row takes about half
-/// the time where all of it, of `b` and of `a`'s row is short: `INF` or from 0, and in `a` and `b` below 2^62. Where k is
-/// at most 2, finding that out would take longer than it spares.
+/// the time where all of it, of `b` and of `a`'s row is short: `INF` or from 0, and in `a` and `b` below 2^62.
 pub fn mingemm(a: &[i64], b: &[i64], c: &mut [i64], m: u32, k: u32, n: u32)
     requires a { length a.now ≡ m * k }
     requires b { length b.now ≡ k * n }
@@ -87,7 +86,7 @@ pub fn mingemm(a: &[i64], b: &[i64], c: &mut [i64], m: u32, k: u32, n: u32)
 {
     let k = k as usize;
     let n = n as usize;
-    let short = k > 2 && are_short(b);
+    let short = are_short(b);
     for i in 0..m as usize {
         relax_by_all(&a[i * k..i * k + k], b, &mut c[i * n..i * n + n], short);
     }
