@@ -13,7 +13,6 @@ mod SeatSteps
 mod StepFacts
 mod StepTurns
 mod Turning
-pub mod FirstFit
 pub mod Outcomes
 pub mod Seating
 pub mod Crossings

@@ -1,7 +1,6 @@
 -- How a run begins and what it leaves: the board as it opens, the seats of its workers, and the outcome.
-use Rattle.std.specs.Prelude.{◌≡◌, ◌<◌, ℕ, Bool, true, Option, None, List, [], Result, All, IfErr, IfSome, IsOk, IsSomeAnd, length, map, replicate, slice_index_or}
+use Rattle.std.specs.Prelude.{◌≡◌, ◌<◌, ℕ, Bool, true, Option, None, List, Result, All, IfErr, IsOk, length, slice_index_or}
 use Rattle.sj_base.specs.declared.ids.Cell.{Cell}
-use Rattle.sj_base.specs.declared.ids.DiskNo.{DiskNo}
 use Rattle.sj_base.specs.declared.ids.Task.{Task}
 use Rattle.sj_base.specs.declared.ids.Worker.{Worker}
 use Rattle.sj_base.specs.declared.program.Program.{Program}
@@ -13,35 +12,16 @@ use Rattle.sj_core.specs.Laws.{IsLawful}
 use Rattle.sj_core.specs.Proper.{Proper}
 use Rattle.sj_core.specs.Legal.{IsFinished, IsLegal}
 use Rattle.sj_desk.specs.Seats.{DeskFacts, SeatFacts}
-use Rattle.sj_disk.specs.Calls.{Reserves}
-use Rattle.sj_disk.specs.Directory.{DiskState, extent_of}
 use Rattle.sj_disk.specs.Holding.{CountsStay}
-use Rattle.sj_disk.specs.declared.directory.Extent.{Extent}
 use Rattle.sj_edge.specs.GivenBack.{AreGivenBack}
 use Rattle.sj_machine.specs.Board.{BoardState}
 use Rattle.sj_machine.specs.BoardRow.{BoardRow}
 use Rattle.sj_machine.specs.Delivered.{DeliversEach}
 use Rattle.sj_machine.specs.Preparing.{first_hands}
-use Rattle.sj_machine.specs.Sound.{IsBlock, block_of}
 use Rattle.sj_machine.specs.declared.fault.RunFault.{RunFault}
 use Rattle.sj_machine.specs.declared.hand.Hand.{Hand}
 use Rattle.sj_engine.specs.Outcome.{AllTell, HoldBlocks, IsCausedBy}
 use Rattle.sj_engine.specs.Stage.{IsAt, IsDeskOf, IsFreeRow}
-
--- ---- blocks
-
--- nothing is reserved on the disks of the set
-pub record IsEmptySet {D : Type 0} (set : DiskState D) : Type 0 where
-  pub nothing_taken : set.taken ≡ replicate (length set.disks) 0
-  pub no_extent : set.directory ≡ []
-
--- the cell with this number got a block of so many elements
-abbrev pub ReservesSome : {D : Type 0} → (D → ℕ) → ℕ → ℕ → DiskState D → DiskState D → Type 0
-ReservesSome size c n old new = (d : DiskNo) × Reserves size c n d old new
-
--- each cell that has a block on the machine's disks by first fit has that block
-abbrev pub ArePlaced : Program → Machine → List (Option Extent) → Type 0
-ArePlaced p m directory = (c : Cell) → IfSome (block_of p m c) (λ b. IsSomeAnd (extent_of directory c.0) (IsBlock p c b))
 
 -- ---- the board
 

@@ -9,7 +9,6 @@ mod moving;
 mod opening;
 mod operands;
 mod picking;
-mod placing;
 mod results;
 pub mod shared_board;
 mod stepping;

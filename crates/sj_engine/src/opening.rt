@@ -6,10 +6,10 @@ ghost use Rattle.sj_core.specs.Proper.{HasSwapFor, IsMachineFor, Proper};
 ghost use Rattle.sj_engine.specs.Run.{IsOpened};
 ghost use Rattle.sj_machine.specs.Sound.{IsRunOf};
 
-use crate::placing::placed;
 use sj_base::program::{Machine, Program};
 use sj_edge::disk::Disk;
 use sj_machine::board::Board;
+use sj_machine::placing::placed;
 use std::alloc::Global;
 use std::sync::Arc;
 

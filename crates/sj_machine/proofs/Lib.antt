@@ -1,3 +1,4 @@
+pub mod Asking
 pub mod Arriving
 pub mod Beginning
 pub mod BoardEnds
@@ -24,6 +25,7 @@ pub mod Hands
 pub mod FillLoop
 pub mod Faulting
 pub mod Finishing
+pub mod FirstFit
 pub mod Keeping
 pub mod Lending
 pub mod Lists

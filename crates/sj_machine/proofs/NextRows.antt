@@ -50,7 +50,7 @@ list_any-agree : {X : Type 0} (f g : X → Bool) → ((x : X) → f x ≡ g x) �
 list_any-agree f g same [] = refl
 list_any-agree f g same (x ∷ xs) = ap (λ b. b || list_any f xs) (same x) ∙ ap (λ b. g x || b) (list_any-agree f g same xs)
 
-list_all-agree : {X : Type 0} (f g : X → Bool) → ((x : X) → f x ≡ g x) → (xs : List X) → list_all f xs ≡ list_all g xs
+pub list_all-agree : {X : Type 0} (f g : X → Bool) → ((x : X) → f x ≡ g x) → (xs : List X) → list_all f xs ≡ list_all g xs
 list_all-agree f g same [] = refl
 list_all-agree f g same (x ∷ xs) = ap (λ b. b && list_all f xs) (same x) ∙ ap (λ b. g x && b) (list_all-agree f g same xs)
 
@@ -59,7 +59,7 @@ find-agree f g same [] = refl
 find-agree f g same (x ∷ xs) = ap (λ b. cond b (Some x) (find f xs)) (same x) ∙ ap (λ (o : Option Cell). cond (g x) (Some x) o) (find-agree f g same xs)
 
 -- a test of each element is one of each place
-list_any-places : {X : Type 0} (test : X → Bool) (xs : List X) (d : X) (n : ℕ) → length xs ≡ n → list_any test xs ≡ list_any (λ k. test (slice_index_or xs k d)) (range_with_len 0 n)
+pub list_any-places : {X : Type 0} (test : X → Bool) (xs : List X) (d : X) (n : ℕ) → length xs ≡ n → list_any test xs ≡ list_any (λ k. test (slice_index_or xs k d)) (range_with_len 0 n)
 list_any-places test xs d n many = ap (list_any test) (fill_by_all (λ k. get_or xs k d) xs n d many (λ k inside. refl)) ∙ list_any-map test (λ k. get_or xs k d) (range_with_len 0 n)
 
 -- one of the first n numbers passes
@@ -120,7 +120,7 @@ module _ {D : Type 0} (size faults mismatches : D → ℕ) (held : D → Option 
   there : (c : Cell) (n : Node) → is_there_in rows.cells n c ≡ is_valid (replica s c (AtNode n))
   there c n = ap is_there (keeps.agrees.marks.marks c n) ∙ there-is (replica s c (AtNode n))
 
-  leaves : (w : Worker) (c : Cell) (n : Node) → leaves_in rows.cells n w c ≡ is_leaving_by w (replica s c (AtNode n))
+  pub leaves : (w : Worker) (c : Cell) (n : Node) → leaves_in rows.cells n w c ≡ is_leaving_by w (replica s c (AtNode n))
   leaves w c n = ap (is_leaving_mark w) (keeps.agrees.marks.marks c n) ∙ leaving-is w (replica s c (AtNode n))
 
   comes : (w : Worker) (c : Cell) (n : Node) → comes_in rows.cells n w c ≡ is_coming_by w (replica s c (AtNode n))
@@ -175,7 +175,7 @@ module _ {D : Type 0} (size faults mismatches : D → ℕ) (held : D → Option 
             let same : k ≡ disk.0 = (let both : Some k ≡ Some disk.0 = sym (sound.coherent.state.blocks.home c k found.2) ∙ disk.1 in cc) in
             false≢true (sym e ∙ ap (λ (j : DiskNo). is_valid (replica s c (OnDisk j))) (sym same) ∙ found.2))))
 
-    elsewhere-is : (n : Node) → is_elsewhere row n ≡ is_valid_elsewhere m s c (AtNode n)
+    pub elsewhere-is : (n : Node) → is_elsewhere row n ≡ is_valid_elsewhere m s c (AtNode n)
     elsewhere-is n =
         let test : Place → Bool = λ q. not (same_place q (AtNode n)) && is_valid (replica s c q) in
         let node : ℕ → Place = λ k. AtNode (record { 0 = k }) in

@@ -9,6 +9,7 @@ pub mod Delivered
 pub mod Filling
 pub mod Mark
 pub mod Operands
+pub mod Placing
 pub mod Plan
 pub mod Planning
 pub mod Preparing

@@ -1,7 +1,7 @@
 //! What the rows say of a worker's next step.
 
-ghost use Rattle.std.specs.Prelude.{◌≡◌, ◌<◌, ◌&&◌, All, find, length, reverse};
-ghost use Rattle.std.specs.List.{list_any};
+ghost use Rattle.std.specs.Prelude.{◌≡◌, ◌<◌, ◌&&◌, All, find, length, not, reverse};
+ghost use Rattle.std.specs.List.{list_all, list_any};
 ghost use Rattle.sj_base.specs.declared.ids.Place.TheVariants.{Node as AtNode};
 ghost use Rattle.sj_core.specs.Operands.{worked_on};
 ghost use Rattle.sj_core.specs.Program.{has_cell};
@@ -18,7 +18,7 @@ use sj_base::mode::{Access, Mode};
 use sj_base::program::Program;
 
 /// What a cell is at a node. Constant time.
-fn mark_at(cells: &[Copies], n: Node, cell: Cell) -> Mark
+pub fn mark_at(cells: &[Copies], n: Node, cell: Cell) -> Mark
     requires { All (λ row. n.0 < length row.marks) cells.now }
     ensures { result ≡ mark_at (row_of cells.now cell) n }
 {
@@ -38,6 +38,16 @@ pub fn last_leaving(cells: &[Copies], n: Node, w: Worker, victims: &[Cell]) -> O
         .rev()
         .copied()
         .find(|c| mark_at(cells, n, *c).is_leaving_by(w))
+}
+
+/// Whether none of these victims has a copy at a node that still leaves by the claim of a worker. Linear in them.
+pub fn are_gone(cells: &[Copies], n: Node, w: Worker, victims: &[Cell]) -> bool
+    requires { All (λ row. n.0 < length row.marks) cells.now }
+    ensures { result ≡ list_all (λ c. not (leaves_in cells.now n w c)) victims.now }
+{
+    victims
+        .iter()
+        .all(|c| !mark_at(cells, n, *c).is_leaving_by(w))
 }
 
 /// Whether a worker's transfer reads a cell at a node. Constant time.
@@ -90,7 +100,7 @@ fn cell_for(program: &Program, w: Worker, access: Access) -> Cell
 }
 
 /// Whether a cell is one of these operands whose old value isn't read. Linear in them.
-fn is_fresh(program: &Program, w: Worker, accesses: &[Access], cell: Cell) -> bool
+pub fn is_fresh(program: &Program, w: Worker, accesses: &[Access], cell: Cell) -> bool
     requires { HasNumbers program.now w }
     ensures { result ≡ has_cell (fresh_among program.now w accesses.now) cell }
 {

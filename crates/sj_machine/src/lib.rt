@@ -17,6 +17,7 @@ pub mod leaving;
 pub mod mark;
 pub mod needs;
 pub mod operands;
+pub mod placing;
 pub mod plan;
 mod preparing;
 pub mod refusal;

@@ -22,6 +22,7 @@ ghost use Rattle.sj_machine.specs.Sparing.{EventsSpareUsed};
 ghost use Rattle.sj_machine.specs.Standing.{CanHappen, HasDimsMoved, HasMoved, IsFetching, IsMovingIn, IsMovingOut, IsShareOf, IsTileMoved, is_node, starting, state, with_event};
 ghost use Rattle.sj_machine.specs.Tiles.{array_in};
 
+mod asking;
 mod looking;
 mod planning;
 

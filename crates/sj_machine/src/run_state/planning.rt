@@ -19,7 +19,7 @@ impl<D: Disk> RunState<D> {
 
     /// Where a node fetches a cell from: the node with the least number that has a copy, else the disk of its block. Linear in
     /// the nodes.
-    fn source_of(&self, cell: Cell) -> Place
+    pub fn source_of(&self, cell: Cell) -> Place
         requires { cell.0 < length self.now.program.cells }
         ensures { source_of self.now.program self.now.machine (state self.now) cell ≡ Some result }
     {

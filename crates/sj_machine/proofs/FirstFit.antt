@@ -20,7 +20,7 @@ use Rattle.sj_disk.specs.Calls.{Reserves}
 use Rattle.sj_disk.specs.Directory.{DiskState, extent_at, extent_of, first_fit as first_that_fits}
 use Rattle.sj_disk.specs.declared.directory.Extent.{Extent}
 use Rattle.sj_machine.specs.Sound.{IsBlock, block_of}
-use Rattle.sj_engine.specs.Run.{ArePlaced, IsEmptySet, ReservesSome}
+use Rattle.sj_machine.specs.Placing.{ArePlaced, IsEmptySet, ReservesSome}
 
 -- the cells before the i-th have their blocks on these disks, those from it on have none, and the blocks of these are as if
 -- they were placed now

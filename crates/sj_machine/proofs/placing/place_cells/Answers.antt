@@ -5,9 +5,9 @@ use Rattle.sj_base.specs.Array.{area}
 use Rattle.sj_core.specs.Program.{no_cell}
 use Rattle.sj_disk.specs.Block.{block_bytes}
 use Rattle.sj_disk.specs.Directory.{first_fit}
-use Rattle.sj_engine.specs.Run.{ReservesSome}
-use Rattle.sj_engine.proofs.FirstFit.{one-fits, placing-begins, placing-ends, placing-goes-on}
-use Rattle.sj_engine.proofs.placing.place_cells.Goals as goal
+use Rattle.sj_machine.specs.Placing.{ReservesSome}
+use Rattle.sj_machine.proofs.FirstFit.{one-fits, placing-begins, placing-ends, placing-goes-on}
+use Rattle.sj_machine.proofs.placing.place_cells.Goals as goal
 
 pub loop-i-init : goal.loop-i-init
 loop-i-init g c = placing-begins g.D.Disk.size c.args.program.now c.args.machine.now c.args.set.now.disks c.requires.sizes c.args.set.now refl c.requires.swap c.requires.empty

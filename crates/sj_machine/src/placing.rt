@@ -5,7 +5,7 @@ ghost use Rattle.sj_base.specs.Array.{area};
 ghost use Rattle.sj_core.specs.Proper.{HasSwapFor, IsMachineFor, IsWithinLimits};
 ghost use Rattle.sj_disk.specs.Block.{block_bytes};
 ghost use Rattle.sj_disk.specs.Directory.{extent_of, first_fit};
-ghost use Rattle.sj_engine.specs.Run.{ArePlaced, IsEmptySet, ReservesSome};
+ghost use Rattle.sj_machine.specs.Placing.{ArePlaced, IsEmptySet, ReservesSome};
 
 use sj_base::ids::Cell;
 use sj_base::memory::OutOfMemory;
@@ -54,7 +54,7 @@ fn place_cells<D: Disk>(
 
 /// A set of these disks, on which each cell of a program has its block by first fit. The disks come back where memory is
 /// wanting. Linear in the cells times the disks.
-pub(crate) fn placed<D: Disk>(
+pub fn placed<D: Disk>(
     alloc: Global,
     program: &Program,
     machine: &Machine,
