@@ -1,6 +1,7 @@
 //! The board: the state of a run, what each worker has in hand, the pool of ready tasks, and what was delivered.
 
 ghost use Rattle.std.specs.Prelude.{◌≡◌, ◌↔◌, ◌+◌, ◌<◌, ◌≤◌, ◌++◌, [], All, IfErr, IfOk, IsNone, IsTrue, None, Some, false, OnErr, OnOk, is_some, length, slice_set, true, ◌≢◌};
+ghost use Rattle.std.specs.List.{list_any};
 ghost use Rattle.sj_base.specs.declared.trace.Event.TheVariants.{Claim, Drop, End, Move, Run};
 ghost use Rattle.sj_core.specs.Needs.{node_of};
 ghost use Rattle.sj_core.specs.Step.{mover_of};
@@ -210,6 +211,13 @@ impl<D: Disk> Board<D> {
         ensures { IsTrue result ↔ IsComplete (state self.now.run) }
     {
         self.left == 0
+    }
+
+    /// Whether a ready task is in the pool that needs at most so many bytes. Constant time, and under `ws` linear in the workers.
+    pub fn has_ready(&self, room: u64) -> bool
+        ensures { result ≡ list_any (has_fitting room) self.now.pool.queues }
+    {
+        self.pool.has_fitting(room)
     }
 
     /// Gives a worker a ready task from the pool, by the policy among those that fit its node; `None` exactly where there is

@@ -1,7 +1,7 @@
 //! The pool of ready tasks of a scheduling policy.
 
 ghost use Rattle.std.specs.Prelude.{◌≡◌, ◌↔◌, ◌<◌, ◌≤◌, ◌-◌, [], All, IsTrue, IsNone, IfOk, IfSome, is_some, false, true, replicate, length};
-ghost use Rattle.std.specs.List.{range_with_len};
+ghost use Rattle.std.specs.List.{list_any, range_with_len};
 ghost use Rattle.sj_base.specs.declared.mode.Policy.TheVariants.{Prio};
 ghost use Rattle.sj_pool.specs.Entry.{entry};
 ghost use Rattle.sj_pool.specs.Queue.{has_fitting, first_fitting, is_by_urgency};
@@ -222,6 +222,14 @@ impl Pool {
             None => None,
             Some(i) => Some(self.take_at(i, room)),
         }
+    }
+
+    /// Whether there is a task of at most so many bytes. Constant time, and under `ws` linear in the
+    /// workers.
+    pub fn has_fitting(&self, room: u64) -> bool
+        ensures { result ≡ list_any (has_fitting room) self.now.queues }
+    {
+        self.queues.iter().any(|queue| queue.fits(room))
     }
 
     /// Under `prio`, what a worker takes is the most urgent of all that fit. No code: its contract is

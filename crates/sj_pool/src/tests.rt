@@ -42,6 +42,8 @@ fn under_ws_a_worker_takes_its_own_and_then_the_next_ones(
     pool.put(Task(1), 0, 10, Worker(1));
     pool.put(Task(2), 0, 90, Worker(2));
     pool.put(Task(3), 0, 10, Worker(1));
+    assert!(rt; pool.has_fitting(10));
+    assert!(rt; !pool.has_fitting(9));
     assert!(rt; pool.take(Worker(1), 50) == Some(Task(1)));
     pool.put(Task(1), 0, 10, Worker(1));
     assert!(rt; pool.take(Worker(2), 50) == Some(Task(0)));
