@@ -161,8 +161,9 @@ impl<T: Keyed> Desk<T> {
         turn.compare_exchange::<Mark>(&mut seat.ticket, TURN, TAKEN, AWAITED) != FREE
     }
 
-    // The first tries of `enter`.
-    fn try_for_a_while(&self, seat: &mut DeskSeat<T>) -> Option<T>
+    // Some tries for the turn, which leave the mark in the turn word.
+    fn try_for_a_while(&self, seat: &mut DeskSeat<T>, mark: u64) -> Option<T>
+        requires mark { 0 < mark }
         requires of_this_desk { seat.old.desk ≡ Some self.now }
         requires not_in_its_turn { seat.old.found ≡ None }
         ensures key { IfSome result (λ v. T.key v ≡ T.key self.now.opening) }
@@ -173,7 +174,7 @@ impl<T: Keyed> Desk<T> {
         ensures tries { seat.old.refusals ≤ seat.new.refusals }
     {
         for failed in 0..TRIES {
-            if let Some(value) = self.attempt(seat, TAKEN) {
+            if let Some(value) = self.attempt(seat, mark) {
                 return Some(value);
             }
             pause(1 << failed);
@@ -181,7 +182,8 @@ impl<T: Keyed> Desk<T> {
         None
     }
 
-    // Sleeps until the turn is given back, tries again, and so on.
+    // Sleeps until the turn is given back, tries for a while again, and so on. It leaves the mark that others may sleep, since
+    // only one is woken at a time.
     fn wait_for<R: Wait>(&self, rt: &R, seat: &mut DeskSeat<T>) -> T
         requires of_this_desk { seat.old.desk ≡ Some self.now }
         requires not_in_its_turn { seat.old.found ≡ None }
@@ -192,18 +194,19 @@ impl<T: Keyed> Desk<T> {
         ensures tries { seat.old.refusals ≤ seat.new.refusals }
     {
         for _ in rt.forever() {
-            if let Some(value) = self.attempt(seat, AWAITED) {
-                return value;
-            }
             if self.mark(seat) {
                 self.table.shared.park(rt, TURN, AWAITED as u32);
+            }
+            if let Some(value) = self.try_for_a_while(seat, AWAITED) {
+                return value;
             }
         }
         unreachable!()
     }
 
     /// Waits for the turn, takes it, and gives the value. Twelve tries at most, with a pause after each
-    /// that is twice as long as the one before, and then it sleeps until the turn is given back.
+    /// that is twice as long as the one before, and then it sleeps until the turn is given back, tries
+    /// so again, and so on.
     /// Where the turn is free it takes one step. No memory.
     pub fn enter<R: Wait>(&self, rt: &R, seat: &mut DeskSeat<T>) -> T
         requires of_this_desk { seat.old.desk ≡ Some self.now }
@@ -214,7 +217,7 @@ impl<T: Keyed> Desk<T> {
         ensures seat { seat.new ≡ in_turn seat.old result seat.new.refusals }
         ensures tries { seat.old.refusals ≤ seat.new.refusals }
     {
-        match self.try_for_a_while(seat) {
+        match self.try_for_a_while(seat, TAKEN) {
             Some(value) => value,
             None => self.wait_for(rt, seat),
         }
