@@ -33,9 +33,13 @@ const AWAITED: u64 = 2;
 // A sleep on a word compares its low 32 bits.
 const LOW: u64 = 1 << 32;
 
-// How often `enter` tries before it sleeps. It pauses after each try, twice as long as after the one before: while the turn goes from
-// hand to hand it is worth some 200 µs to stay awake, and the one that has it goes on with what its caches hold.
-const TRIES: u32 = 12;
+// How often `enter` tries before it sleeps, and after each sleep. It pauses after each try, twice as long as after the one before:
+// while the turn goes from hand to hand it is worth some 300 µs to stay awake, and the one that has it goes on with what its caches
+// hold.
+const TRIES: u32 = 14;
+
+// For how many turns it pauses after the first try.
+const FIRST_PAUSE: u32 = 4;
 
 // Lets the processor rest for so many turns.
 fn pause(turns: u32) {
@@ -177,7 +181,7 @@ impl<T: Keyed> Desk<T> {
             if let Some(value) = self.attempt(seat, mark) {
                 return Some(value);
             }
-            pause(1 << failed);
+            pause(FIRST_PAUSE << failed);
         }
         None
     }
@@ -204,7 +208,7 @@ impl<T: Keyed> Desk<T> {
         unreachable!()
     }
 
-    /// Waits for the turn, takes it, and gives the value. Twelve tries at most, with a pause after each
+    /// Waits for the turn, takes it, and gives the value. Fourteen tries at most, with a pause after each
     /// that is twice as long as the one before, and then it sleeps until the turn is given back, tries
     /// so again, and so on.
     /// Where the turn is free it takes one step. No memory.
