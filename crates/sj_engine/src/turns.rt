@@ -10,7 +10,7 @@ ghost use Rattle.sj_engine.specs.Stepping.{AfterStep};
 ghost use Rattle.sj_engine.specs.Turn.{MayLeave};
 
 use crate::picking::Picked;
-use crate::shared_board::SharedBoard;
+use crate::shared_board::{Change, SharedBoard};
 use crate::stepping::Step;
 use sj_base::ids::{Task, Worker};
 use sj_base::program::Program;
@@ -37,12 +37,13 @@ fn ring_where<D: Disk>(desk: &BoardDesk<D>, seat: &mut BoardSeat<D>, rings: bool
     }
 }
 
-/// Ends a worker's turn, and wakes those that rest.
+/// Ends a worker's turn that did this, and wakes those that rest where they may go on by it.
 fn end_turn<D: Disk>(
     desk: &BoardDesk<D>,
     seat: &mut BoardSeat<D>,
     w: Worker,
     mut shared: SharedBoard<D>,
+    change: Change,
 )
     requires desk { seat.old.desk ≡ Some desk.now }
     requires number { seat.old.number ≡ w.0 }
@@ -50,17 +51,19 @@ fn end_turn<D: Disk>(
     ensures { HasLeft desk.now w shared seat.new }
 {
     let _ = w;
-    let rings = shared.wakes();
+    let rings = shared.wakes(change);
     desk.leave(seat, shared);
     ring_where(desk, seat, rings);
 }
 
-/// Ends a worker's turn in which it found nothing to do. The seat has heard the bell.
+/// Ends a worker's turn in which it found nothing to do, with a claimed task or without one. The seat has heard the bell. Where
+/// the bell is rung for others, the worker's own rest ends by that too, and it looks once more.
 fn end_turn_to_rest<D: Disk>(
     desk: &BoardDesk<D>,
     seat: &mut BoardSeat<D>,
     w: Worker,
     mut shared: SharedBoard<D>,
+    is_claimed: bool,
 )
     requires desk { seat.old.desk ≡ Some desk.now }
     requires number { seat.old.number ≡ w.0 }
@@ -69,9 +72,10 @@ fn end_turn_to_rest<D: Disk>(
     ensures heard { is_some seat.new.heard ≡ true }
 {
     let _ = w;
-    shared.rest();
+    let rings = shared.rest(is_claimed);
     desk.listen(seat);
     desk.leave(seat, shared);
+    ring_where(desk, seat, rings);
 }
 
 /// Looks for a task and claims it. Where there is nothing to claim, the seat has heard the bell.
@@ -93,11 +97,19 @@ pub fn pick<D: Disk, R: Wait>(
     let mut shared = desk.enter(rt, seat);
     let picked = shared.pick(alloc, w);
     if picked == Picked::Nothing {
-        end_turn_to_rest(desk, seat, w, shared);
+        end_turn_to_rest(desk, seat, w, shared, false);
         return Picked::Nothing;
     }
-    end_turn(desk, seat, w, shared);
+    end_turn(desk, seat, w, shared, Change::Claimed);
     picked
+}
+
+/// What a step did for those that rest.
+fn change_of(step: &Step) -> Change {
+    match step {
+        Step::Moves { .. } => Change::Begun,
+        _ => Change::Freed,
+    }
 }
 
 /// Makes the next step for the claimed task. Where the worker must wait, the seat has heard the bell.
@@ -120,10 +132,11 @@ pub fn step<D: Disk, R: Wait>(
     let mut shared = desk.enter(rt, seat);
     let step = shared.step(alloc, w, t);
     if let Step::Waits = step {
-        end_turn_to_rest(desk, seat, w, shared);
+        end_turn_to_rest(desk, seat, w, shared, true);
         return Step::Waits;
     }
-    end_turn(desk, seat, w, shared);
+    let change = change_of(&step);
+    end_turn(desk, seat, w, shared, change);
     step
 }
 
@@ -147,7 +160,7 @@ pub fn arrive<D: Disk, R: Wait>(
     let _ = program;
     let mut shared = desk.enter(rt, seat);
     shared.arrive(w, t, x, tile);
-    end_turn(desk, seat, w, shared);
+    end_turn(desk, seat, w, shared, Change::Freed);
 }
 
 /// Writes a tile to its disk and ends its transfer. Whether it did: else the worker has failed.
@@ -170,7 +183,7 @@ pub fn write_out<D: Disk, R: Wait>(
     let _ = program;
     let mut shared = desk.enter(rt, seat);
     let written = shared.write_out(w, t, x, tile);
-    end_turn(desk, seat, w, shared);
+    end_turn(desk, seat, w, shared, Change::Freed);
     written
 }
 
@@ -197,7 +210,7 @@ pub fn read_in<D: Disk, R: Wait>(
     let _ = program;
     let mut shared = desk.enter(rt, seat);
     let read = shared.read_in(alloc, w, t, x, tile);
-    end_turn(desk, seat, w, shared);
+    end_turn(desk, seat, w, shared, Change::Freed);
     read
 }
 
@@ -219,7 +232,7 @@ pub fn finish<D: Disk, R: Wait>(
     let _ = program;
     let mut shared = desk.enter(rt, seat);
     shared.finish(w, t, results);
-    end_turn(desk, seat, w, shared);
+    end_turn(desk, seat, w, shared, Change::Ended);
 }
 
 /// Fails for want of memory, and lets the task go.
@@ -238,5 +251,5 @@ pub fn fail<D: Disk, R: Wait>(
     let _ = program;
     let mut shared = desk.enter(rt, seat);
     shared.fail_without_memory(w);
-    end_turn(desk, seat, w, shared);
+    end_turn(desk, seat, w, shared, Change::Ended);
 }

@@ -220,17 +220,29 @@ fn the_one_used_longest_ago_is_evicted_and_fetched_again(rt: HostRuntime) -> Res
     Ok(())
 }
 
-/// Lets the kernels of tasks 2 and 3 go on when both are inside, or after some seconds.
+/// Lets the kernels of a task and the next one go on when both are inside, or after some seconds. The tasks before them, from
+/// another one on, take their time, the earlier the longer.
 #[derive(Drop)]
 struct Meeting<'a, R> {
     rt: &'a R,
+    slow: u32,
+    first: u32,
     inside: AtomicU64,
     met: AtomicU64,
 }
 
 impl<R: Clock + Sync> Gate for Meeting<'_, R> {
     fn entered(&self, task: Task) {
-        if task != Task(2) && task != Task(3) {
+        if task.0 < self.first {
+            let turns = if task.0 < self.slow {
+                0
+            } else {
+                self.first - task.0
+            };
+            thread::sleep(self.rt, Duration::from_millis(50 * turns as u64));
+            return;
+        }
+        if task.0 - self.first > 1 {
             return;
         }
         self.inside.fetch_add(1, Ordering::SeqCst);
@@ -246,21 +258,60 @@ impl<R: Clock + Sync> Gate for Meeting<'_, R> {
     fn left(&self, _task: Task) {}
 }
 
+/// Whether two workers are inside the kernels of these two tasks at once, and what is printed.
+fn meet<R: Threads + Wait + Abort + Clock + Sync>(
+    rt: &R,
+    alloc: Global,
+    words: &[&str],
+    text: &str,
+    (slow, first): (u32, u32),
+    printed: &str,
+) -> Result<(), Fail> {
+    let gate = Meeting {
+        rt,
+        slow,
+        first,
+        inside: AtomicU64::new(0),
+        met: AtomicU64::new(0),
+    };
+    let disks = whole(alloc, 1 << 12)?;
+    let answer = answer_on(rt, alloc, words, text.as_bytes(), disks, &gate)?;
+    assert_eq!(rt; answer.outcome.status, Status::Done);
+    assert_eq!(rt; answer.out.taken(), printed.as_bytes());
+    assert_eq!(rt; gate.met.load(Ordering::SeqCst), 2);
+    Ok(())
+}
+
 const APART: &str =
     "starjob 1\nvector x 1 values 1\nvector y 1 values 1\ntask scale(2) x:RW\ntask scale(3) y:RW\nprint x\nprint y\n";
 
 #[test]
 fn two_kernels_are_inside_at_once(rt: HostRuntime) -> Result<(), Fail> {
-    let gate = Meeting {
-        rt: &rt,
-        inside: AtomicU64::new(0),
-        met: AtomicU64::new(0),
-    };
-    let disks = whole(rt.alloc(), 64)?;
     let words = ["--workers", "2"];
-    let answer = answer_on(&rt, rt.alloc(), &words, APART.as_bytes(), disks, &gate)?;
-    assert_eq!(rt; answer.outcome.status, Status::Done);
-    assert_eq!(rt; answer.out.taken(), b"x: 2\ny: 3\n".as_slice());
-    assert_eq!(rt; gate.met.load(Ordering::SeqCst), 2);
+    meet(&rt, rt.alloc(), &words, APART, (2, 2), "x: 2\ny: 3\n")
+}
+
+/// A chain of two tasks, and then two tasks that it makes ready.
+const FORK: &str =
+    "starjob 1\nvector x 1 values 1\nvector y 1 values 1\nvector z 1 values 1\ntask scale(2) x:RW\ntask scale(2) x:RW\ntask add x:R y:RW\ntask add x:R z:RW\nprint y\nprint z\n";
+
+#[test]
+fn a_worker_that_rests_comes_back_for_what_another_leaves(rt: HostRuntime) -> Result<(), Fail> {
+    for workers in ["2", "4"] {
+        let words = ["--workers", workers];
+        meet(&rt, rt.alloc(), &words, FORK, (3, 5), "y: 5\nz: 5\n")?;
+    }
     Ok(())
+}
+
+/// Of 32 bytes one task uses 24 for a long while. Another uses the other 8, and makes two tasks ready that need 16 each.
+const FULL: &str =
+    "starjob 1\nvector p 3 values 1 1 1\nvector m 1 values 1\nvector q 1 values 1\nvector r 1 values 1\ntask scale(2) p:RW\ntask scale(2) m:RW\ntask add m:R q:RW\ntask add m:R r:RW\nprint q\nprint r\n";
+
+#[test]
+fn a_worker_that_waits_for_room_is_woken_by_the_end_of_anothers_task(
+    rt: HostRuntime,
+) -> Result<(), Fail> {
+    let words = ["--workers", "2", "--node", "32"];
+    meet(&rt, rt.alloc(), &words, FULL, (4, 6), "q: 3\nr: 3\n")
 }

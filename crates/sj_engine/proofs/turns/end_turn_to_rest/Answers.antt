@@ -9,4 +9,4 @@ pub leave-requires-clause-other_rows : goal.leave-requires-clause-other_rows
 leave-requires-clause-other_rows g c =
     other-rows c.args.desk.now c.args.w g.D.Disk.size g.D.Disk.faults g.D.Disk.mismatches g.D.Disk.held c.args.shared c.listen.new.seat (heard-number c.args.seat.now c.listen.new.seat c.listen.new.seat.heard c.listen.ensures.seat ∙ c.requires.number)
     (subst (λ o. IsSomeAnd o (MayLeave g.D.Disk.size g.D.Disk.faults g.D.Disk.mismatches g.D.Disk.held c.args.desk.now c.args.w c.args.shared)) (sym (heard-found c.args.seat.now c.listen.new.seat c.listen.new.seat.heard c.listen.ensures.seat)) c.requires.turn)
-    c.rest.new.self c.rest.ensures.same
+    c.rest-rings.new.self c.rest-rings.ensures.same
