@@ -20,6 +20,7 @@ pub mod Ends
 pub mod Entries
 pub mod Failing
 pub mod Gifting
+pub mod GoneVictims
 pub mod Giving
 pub mod Hands
 pub mod FillLoop

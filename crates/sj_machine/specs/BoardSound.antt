@@ -18,6 +18,7 @@ use Rattle.sj_pool.specs.declared.entry.Entry.{Entry}
 use Rattle.sj_machine.specs.Board.{BoardState, HasCause, hand_in}
 use Rattle.sj_machine.specs.Delivered.{DeliversDone, KeepsGifts, undelivered}
 use Rattle.sj_machine.specs.Filling.{entry_of}
+use Rattle.sj_machine.specs.Gone.{KnowsGone}
 use Rattle.sj_machine.specs.Sound.{IsSoundRun}
 use Rattle.sj_machine.specs.Standing.{AllTell, state}
 use Rattle.sj_machine.specs.declared.fault.RunFault.{RunFault}
@@ -124,6 +125,7 @@ pub record KeepsEnds (p : Program) (s : State) (Tells : Type 0) (pairs : List (T
   pub counted : undone s ≡ left
 
 -- all of it
-pub record IsKept {D : Type 0} (faults mismatches : D → ℕ) (held : D → Option (List ℕ)) (b : BoardState D) (deps : Dependencies) (footprints : List ℕ) (gifts : List (Option Array)) (spare left : ℕ) : Type 0 where
+pub record IsKept {D : Type 0} (faults mismatches : D → ℕ) (held : D → Option (List ℕ)) (b : BoardState D) (deps : Dependencies) (footprints : List ℕ) (gifts : List (Option Array)) (spare left : ℕ) (gone : List ℕ) : Type 0 where
   pub board : KeepsBoard faults mismatches held b deps footprints
   pub ends : KeepsEnds b.run.program (state b.run) (AllTell held b.run) b.delivered gifts spare left
+  pub victims : KnowsGone b.run.program.workers b.run.machine (state b.run) gone

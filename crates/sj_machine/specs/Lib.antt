@@ -7,6 +7,7 @@ pub mod Copies
 pub mod Counts
 pub mod Delivered
 pub mod Filling
+pub mod Gone
 pub mod Mark
 pub mod Operands
 pub mod Placing

@@ -28,6 +28,7 @@ use crate::delivered::Delivered;
 use crate::fault::RunFault;
 use crate::filling::put_ready;
 use crate::gifts::Gifts;
+use crate::gone::{none_gone, note_gone};
 use crate::hand::Hand;
 use crate::preparing::prepare;
 use crate::refusal::ClaimRefusal;
@@ -66,6 +67,8 @@ pub struct Board<D: Disk> {
     delivered: Delivered,
     /// How many tasks aren't done.
     left: u64,
+    /// How many of each worker's victims, of those that go first, are known to be gone.
+    gone: Vec<usize>,
 }
 
 impl<D: Disk> Model for Board<D> {
@@ -78,7 +81,7 @@ impl<D: Disk> Model for Board<D> {
 
     ghost invariant = { λ b. IsKept D.faults D.mismatches D.held
         (board_state b.run b.hands.items b.pool b.fault b.delivered.pairs) b.deps b.footprints.items
-        b.gifts b.delivered.spare b.left };
+        b.gifts b.delivered.spare b.left b.gone.items };
 }
 
 impl<D: Disk> Keyed for Board<D> {
@@ -174,6 +177,9 @@ impl<D: Disk> Board<D> {
         let Ok(parts) = prepare(alloc, &program, machine.policy) else {
             return Err(RunRefusal { program, disks });
         };
+        let Ok(gone) = none_gone(alloc, program.workers) else {
+            return Err(RunRefusal { program, disks });
+        };
         let left = program.tasks.len() as u64;
         let run = match RunState::make(alloc, program, machine, disks) {
             Ok(run) => run,
@@ -189,6 +195,7 @@ impl<D: Disk> Board<D> {
             gifts: parts.gifts,
             delivered: parts.delivered,
             left,
+            gone,
         })
     }
 
@@ -270,6 +277,7 @@ impl<D: Disk> Board<D> {
             return Err(ClaimRefusal::OutOfMemory);
         };
         take(&mut self.hands, w, t);
+        note_gone(&mut self.gone, w, 0);
         Ok(())
     }
 
@@ -326,8 +334,8 @@ impl<D: Disk> Board<D> {
 
     /// What a worker does next, by the state alone: of its victims that aren't gone the least recently used is written to its disk
     /// where it is the only valid copy, and else dropped; then the cells come that its claim brings, in operand order; then its
-    /// kernel begins. It waits only while another worker goes on. Linear in the victims of its claim, gone ones included, in the
-    /// nodes and in the workers; quadratic in the operands, which are a task's few. No memory.
+    /// kernel begins. It waits only while another worker goes on. Linear in the victims that have gone since it last dropped one,
+    /// in the nodes and in the workers; quadratic in the operands, which are a task's few. No memory.
     pub fn plan_of(&self, w: Worker) -> Todo
         requires works { IsWorking self.now w }
         requires runs_none { RunsNone self.now w }
@@ -342,13 +350,13 @@ impl<D: Disk> Board<D> {
     {
         self.run.is_sound();
         match self.hands[w.0 as usize].task {
-            Some(t) => self.run.next_step(t, w),
+            Some(t) => self.run.next_step(t, w, self.gone[w.0 as usize]),
             None => Todo::Nothing,
         }
     }
 
-    /// A leaving copy goes from the worker's node, since another is valid and no transfer reads it. Constant time, and no
-    /// memory.
+    /// A leaving copy goes from the worker's node, since another is valid and no transfer reads it. Linear in the victims of the
+    /// worker that are found gone, each once for a claim; no memory.
     pub fn drop_copy(&mut self, w: Worker, cell: Cell)
         requires busy { IsBusy self.old w }
         requires can { CanHappen self.old.run (Drop cell (node_of self.old.run.machine w)) }
@@ -358,6 +366,8 @@ impl<D: Disk> Board<D> {
         self.run.is_sound();
         let n = self.run.node_of(w);
         self.run.drop_copy(cell, n);
+        let gone = self.run.gone(w, self.gone[w.0 as usize]);
+        note_gone(&mut self.gone, w, gone);
     }
 
     /// A worker begins a move of a cell: one that its claim brings, or a victim of its claim. Hands out a share of the tile

@@ -1,6 +1,6 @@
 //! What the rows say of a worker's next step.
 
-ghost use Rattle.std.specs.Prelude.{◌≡◌, ◌<◌, ◌&&◌, All, find, length, not, reverse};
+ghost use Rattle.std.specs.Prelude.{◌≡◌, ◌<◌, ◌-◌, ◌&&◌, All, find, length, not, reverse, take};
 ghost use Rattle.std.specs.List.{list_all, list_any};
 ghost use Rattle.sj_base.specs.declared.ids.Place.TheVariants.{Node as AtNode};
 ghost use Rattle.sj_core.specs.Operands.{worked_on};
@@ -28,12 +28,19 @@ pub fn mark_at(cells: &[Copies], n: Node, cell: Cell) -> Mark
     }
 }
 
-/// The last of these victims of which the copy at a node still leaves by the claim of a worker. Linear in those after it.
-pub fn last_leaving(cells: &[Copies], n: Node, w: Worker, victims: &[Cell]) -> Option<Cell>
+/// The last of these victims of which the copy at a node still leaves by the claim of a worker, without so many at the end.
+/// Linear in those between it and these.
+pub fn last_leaving(
+    cells: &[Copies],
+    n: Node,
+    w: Worker,
+    victims: &[Cell],
+    gone: usize,
+) -> Option<Cell>
     requires { All (λ row. n.0 < length row.marks) cells.now }
-    ensures { result ≡ find (leaves_in cells.now n w) (reverse victims.now) }
+    ensures { result ≡ find (leaves_in cells.now n w) (reverse (take (length victims.now - gone) victims.now)) }
 {
-    victims
+    victims[..victims.len().saturating_sub(gone)]
         .iter()
         .rev()
         .copied()

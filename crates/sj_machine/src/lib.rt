@@ -11,6 +11,7 @@ mod ending;
 pub mod fault;
 mod filling;
 pub mod gifts;
+mod gone;
 pub mod hand;
 pub mod hold;
 pub mod leaving;

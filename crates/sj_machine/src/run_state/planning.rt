@@ -3,6 +3,7 @@
 use super::RunState;
 use crate::choosing::{first_brought, is_read, last_leaving, may_run};
 use crate::claiming::node_of;
+use crate::gone::gone_among;
 use crate::running::task_at;
 use crate::todo::Todo;
 use sj_base::ids::{Cell, Node, Place, Task, Worker};
@@ -14,6 +15,7 @@ impl<D: Disk> RunState<D> {
     ghost use Rattle.sj_core.specs.Machine.{is_leaving, progress, replica};
     ghost use Rattle.sj_core.specs.Step.{source_of};
     ghost use Rattle.sj_core.specs.declared.progress.Progress.TheVariants.{Claimed};
+    ghost use Rattle.sj_machine.specs.Gone.{AreGone};
     ghost use Rattle.sj_machine.specs.Standing.{state};
     ghost use Rattle.sj_machine.specs.Todo.{Brings, Evicts, IsNext, may_run};
 
@@ -78,15 +80,29 @@ impl<D: Disk> RunState<D> {
         }
     }
 
-    /// What a worker does next for the task that it has claimed. Linear in the victims, the nodes and the workers; quadratic in
-    /// the operands, which are a task's few; no memory.
-    pub fn next_step(&self, t: Task, w: Worker) -> Todo
-        requires { progress (state self.now) t ≡ Claimed w }
+    /// How many of a worker's victims are gone, of those that go first, where so many are known to be. Linear in those that are
+    /// found; no memory.
+    pub fn gone(&self, w: Worker, known: usize) -> usize
+        requires worker { w.0 < self.now.program.workers }
+        requires known { AreGone self.now.machine (state self.now) w known }
+        ensures { AreGone self.now.machine (state self.now) w result }
+    {
+        let n = node_of(&self.machine, w);
+        let victims = self.workers[w.0 as usize].victims();
+        gone_among(&self.cells, n, w, victims, known)
+    }
+
+    /// What a worker does next for the task that it has claimed, where so many of its victims, those that go first, are known to
+    /// be gone. Linear in the others that are gone, in the nodes and in the workers; quadratic in the operands, which are a task's
+    /// few; no memory.
+    pub fn next_step(&self, t: Task, w: Worker, gone: usize) -> Todo
+        requires claimed { progress (state self.now) t ≡ Claimed w }
+        requires gone { AreGone self.now.machine (state self.now) w gone }
         ensures { IsNext self.now.program self.now.machine (state self.now) t w result }
     {
         let n = node_of(&self.machine, w);
         let victims = self.workers[w.0 as usize].victims();
-        if let Some(cell) = last_leaving(&self.cells, n, w, victims) {
+        if let Some(cell) = last_leaving(&self.cells, n, w, victims, gone) {
             return self.eviction_of(cell, n);
         }
         let accesses = task_at(&self.program, t).accesses.items();

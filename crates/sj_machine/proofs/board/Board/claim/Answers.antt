@@ -10,6 +10,7 @@ use Rattle.sj_machine.proofs.BoardEnds.{claims-alone, stays-claimed}
 use Rattle.sj_machine.proofs.OneWorker.{lone-refusal}
 use Rattle.sj_machine.proofs.Taking.{keeps-claimed_left, may-claim}
 use Rattle.sj_machine.proofs.SparingBoards.{told-spares}
+use Rattle.sj_machine.proofs.GoneVictims.{knows-claimed}
 use Rattle.sj_machine.proofs.board.Board.claim.Goals as goal
 
 pub claim_plan-requires : goal.claim_plan-requires
@@ -33,6 +34,7 @@ invariant_of-self-2 g c =
     record {
       board = keeps-claimed_left _ _ _ _ _ _ _ c.self.invariant.board c.is_sound.ensures c.args.w given.works c.args.t given.given idle.no_task none can _ _ c.in-Ok-claim.ensures.ok c.take.ensures;
       ends = stays-claimed g.D.Disk.held c.self.inside.run _ _ _ _ c.self.invariant.ends _ _ _ c.is_sound.ensures c.args.t c.args.w can _ c.in-Ok-claim.ensures.ok;
+      victims = knows-claimed _ _ _ _ c.self.inside.run c.is_sound.ensures _ c.self.invariant.victims c.args.t c.args.w can _ c.in-Ok-claim.ensures.ok _ c.note_gone.ensures;
     }
 
 pub returns-clause-can : goal.returns-clause-can

@@ -5,6 +5,7 @@ use Rattle.sj_machine.proofs.BoardEnds.{stays-moved}
 use Rattle.sj_machine.proofs.Boarding.{keeps-moved}
 use Rattle.sj_machine.specs.Sparing.{SparesMoved}
 use Rattle.sj_machine.proofs.SparingBoards.{moved-spares}
+use Rattle.sj_machine.proofs.GoneVictims.{knows-moved}
 use Rattle.sj_machine.proofs.board.Board.end_move_out.Goals as goal
 
 pub invariant_of-self : goal.invariant_of-self
@@ -13,6 +14,7 @@ invariant_of-self g c =
     record {
       board = keeps-moved _ _ _ _ _ _ c.args.w _ (λ x. is_node x.to ≡ false) under_way c.end_move_out.ensures c.self.invariant.board;
       ends = stays-moved g.D.Disk.held c.self.inside.run _ _ _ _ c.self.invariant.ends c.args.w _ (λ x. is_node x.to ≡ false) under_way c.end_move_out.ensures;
+      victims = knows-moved _ _ _ _ c.self.inside.run c.is_sound.ensures _ c.self.invariant.victims c.args.w _ (λ x. is_node x.to ≡ false) under_way c.end_move_out.ensures;
     }
 
 pub returns-clause-spares : goal.returns-clause-spares

@@ -22,4 +22,4 @@ put_ready-requires-clause-known_task g c =
 pub invariant_of-self : goal.invariant_of-self
 invariant_of-self g c =
     let r = subst (λ (b : BoardState _). WasGiven b c.args.w c.args.t) (sym c.self.view_is) c.requires.given in
-    record { board = keeps-back_left _ _ _ _ _ _ c.self.invariant.board c.args.w r.works.known c.args.t r.given _ _ _ c.program.ensures c.give.ensures c.put_ready.ensures; ends = c.self.invariant.ends }
+    record { board = keeps-back_left _ _ _ _ _ _ c.self.invariant.board c.args.w r.works.known c.args.t r.given _ _ _ c.program.ensures c.give.ensures c.put_ready.ensures; ends = c.self.invariant.ends; victims = c.self.invariant.victims }

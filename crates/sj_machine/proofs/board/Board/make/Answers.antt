@@ -4,6 +4,7 @@ use Rattle.sj_machine.specs.Delivered.{Deliveries}
 use Rattle.sj_machine.specs.Preparing.{IsPrepared, IsReadyToDeliver}
 use Rattle.sj_machine.proofs.BoardEnds.{opens-run}
 use Rattle.sj_machine.proofs.Opening.{opens-with}
+use Rattle.sj_machine.proofs.GoneVictims.{knows-none}
 use Rattle.sj_machine.proofs.board.Board.make.Goals as goal
 
 pub invariant_of-result : goal.invariant_of-result
@@ -14,4 +15,5 @@ invariant_of-result g c =
     record {
       board = opens-with _ _ _ c.args.program.value c.args.machine c.args.disks some _ _ _ _ _ c.in-Ok.parts.delivered.pairs (ap (λ (x : Deliveries). x.pairs) delivers.none) c.in-Ok-make.ensures.ok parts;
       ends = opens-run g.D.Disk.held c.args.program.value c.args.machine c.args.disks _ c.in-Ok-make.ensures.ok _ _ delivers _ (search rules);
+      victims = search rules;
     }

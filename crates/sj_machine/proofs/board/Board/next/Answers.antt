@@ -6,4 +6,4 @@ use Rattle.sj_machine.proofs.board.Board.next.Goals as goal
 pub invariant_of-self : goal.invariant_of-self
 invariant_of-self g c =
     let r = subst (λ (b : BoardState _). IsFree b c.args.w) (sym c.self.view_is) c.requires.free in
-    record { board = keeps-next_left _ _ _ _ _ _ c.self.invariant.board c.args.w r.idle.works.known _ _ _ _ c.node_size-room.ensures c.take-task.ensures.task c.give.ensures c.take-task.ensures.rest r.none_given; ends = c.self.invariant.ends }
+    record { board = keeps-next_left _ _ _ _ _ _ c.self.invariant.board c.args.w r.idle.works.known _ _ _ _ c.node_size-room.ensures c.take-task.ensures.task c.give.ensures c.take-task.ensures.rest r.none_given; ends = c.self.invariant.ends; victims = c.self.invariant.victims }

@@ -7,12 +7,13 @@ use Rattle.sj_machine.specs.Tiles.{array_in}
 use Rattle.sj_machine.proofs.BoardEnds.{begins}
 use Rattle.sj_machine.proofs.SparingBoards.{told-spares}
 use Rattle.sj_machine.proofs.Starting.{keeps-begun_left}
+use Rattle.sj_machine.proofs.GoneVictims.{knows-tried}
 use Rattle.sj_machine.proofs.board.Board.run.Goals as goal
 
 pub invariant_of-self : goal.invariant_of-self
 invariant_of-self g c =
     let i = c.self.inside in
-    subst (λ (r : Standing _). IsKept g.D.Disk.faults g.D.Disk.mismatches g.D.Disk.held (board_state r i.hands.items i.pool i.fault i.delivered.pairs) i.deps i.footprints.items i.gifts i.delivered.spare i.left) (sym c.in_err-frame.ensures.err) c.self.invariant
+    subst (λ (r : Standing _). IsKept g.D.Disk.faults g.D.Disk.mismatches g.D.Disk.held (board_state r i.hands.items i.pool i.fault i.delivered.pairs) i.deps i.footprints.items i.gifts i.delivered.spare i.left i.gone.items) (sym c.in_err-frame.ensures.err) c.self.invariant
 
 pub invariant_of-self-2 : goal.invariant_of-self-2
 invariant_of-self-2 g c =
@@ -20,6 +21,7 @@ invariant_of-self-2 g c =
     record {
       board = keeps-begun_left _ _ _ _ _ _ c.self.invariant.board c.args.t c.args.w can c.run.result _ c.run.ensures.ok c.run.ensures.err;
       ends = begins g.D.Disk.held c.self.inside.run _ _ _ _ c.self.invariant.ends _ _ _ c.is_sound.ensures c.args.t c.args.w can (array_in c.in_ok-gift.gift) c.in_ok-gift.ensures _ c.in_ok-frame.ensures.ok _ c.keep.ensures;
+      victims = knows-tried _ _ _ _ c.self.inside.run c.is_sound.ensures _ c.self.invariant.victims c.run.result (Run c.args.t c.args.w) can (λ v. tt) _ c.run.ensures.ok c.run.ensures.err;
     }
 
 pub returns-clause-spares : goal.returns-clause-spares
