@@ -1,5 +1,5 @@
 -- Accesses to one cell after another are appended.
-use Rattle.std.proofs.Common.{◌≡◌, ℕ, ◌+◌, ◌<◌, ◌≤◌, List, [], ◌∷◌, ◌++◌, length, map, sym, ap, refl, ◌∙◌, subst, arith, ⊎_elim, inl, inr, slice_set}
+use Rattle.std.proofs.Common.{◌≡◌, ℕ, ◌+◌, ◌<◌, List, [], ◌∷◌, ◌++◌, length, sym, ap, refl, ◌∙◌, arith, ⊎_elim, inl, inr, slice_set}
 use Rattle.std.specs.Prelude.{Result, Ok, Err, OnOk}
 use Rattle.std.specs.List.{range_with_len}
 use Rattle.std.proofs.lemmas.List.{append_assoc, get_or-set_same, set-set, map-id}
@@ -7,7 +7,6 @@ use Rattle.std.proofs.lemmas.List.FromFn.{map-range_with_len_more}
 use Rattle.std.proofs.lemmas.Bool.{cases_lt}
 use Rattle.sj_deps.specs.declared.chain.Member.{Member}
 use Rattle.sj_deps.specs.declared.entry.Entered.{Entered}
-use Rattle.sj_deps.specs.Chains.{members_at}
 use Rattle.sj_deps.specs.Counts.{Appends, cells_at}
 
 range_more : (a n : ℕ) → range_with_len a (n + 1) ≡ range_with_len a n ++ range_with_len (a + n) 1

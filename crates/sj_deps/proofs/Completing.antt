@@ -1,12 +1,12 @@
 -- A task is counted as done: the parties that open, and the tasks that they free.
-use Rattle.std.proofs.Common.{◌≡◌, ℕ, ◌+◌, ◌<◌, ◌≤◌, cond, List, [], length, sym, ap, refl, ◌∙◌, subst, arith, ⊎_elim, slice_index_or, nat_eq, nat_lt, min}
+use Rattle.std.proofs.Common.{◌≡◌, ℕ, ◌+◌, ◌<◌, ◌≤◌, List, [], length, sym, ap, ◌∙◌, subst, arith, ⊎_elim, slice_index_or, nat_lt, min}
 use Rattle.std.specs.Prelude.{All}
 use Rattle.std.specs.List.{count_by}
 use Rattle.std.proofs.lemmas.List.{get_or_default, get_or_past}
 use Rattle.std.proofs.lemmas.List.Sums.{count_by-le-length}
 use Rattle.std.proofs.lemmas.Bool.{cases_lt}
 use Rattle.sj_deps.specs.declared.counters.Counters.{Counters}
-use Rattle.sj_deps.specs.Chains.{is_party, left_of, waits_of}
+use Rattle.sj_deps.specs.Chains.{is_party, waits_of}
 use Rattle.sj_deps.specs.Counts.{Answers, blocked, owed, parties_at}
 use Rattle.sj_deps.specs.Progress.{Ledger}
 use Rattle.sj_deps.proofs.Freeing.{owed_law}

@@ -1,8 +1,8 @@
 -- The accesses of a task are entered: by itself, and in a phase.
-use Rattle.std.proofs.Common.{◌≡◌, ℕ, zero, suc, ◌+◌, ◌-◌, ◌<◌, ◌≤◌, ◌==◌, Bool, true, false, cond, List, [], ◌∷◌, ◌++◌, length, map, sym, ap, refl, ◌∙◌, subst, arith, ⊎_elim, inl, inr, slice_index_or, slice_set, nat_eq}
+use Rattle.std.proofs.Common.{◌≡◌, ℕ, zero, suc, ◌+◌, ◌-◌, ◌<◌, ◌≤◌, ◌==◌, true, false, cond, List, [], ◌∷◌, ◌++◌, length, map, sym, ap, refl, ◌∙◌, subst, arith, ⊎_elim, inl, inr, slice_index_or, nat_eq}
 use Rattle.std.specs.Prelude.{Contains, ◌⊎◌}
 use Rattle.std.specs.List.{count_by, range_with_len}
-use Rattle.std.proofs.lemmas.List.{get_or_default, get_or_past, get_or_push, get_or_append_left, get_or-set_same, get_or-set_other, length-set, length_push}
+use Rattle.std.proofs.lemmas.List.{get_or_past, get_or_push, get_or_append_left, get_or-set_same, get_or-set_other, length-set, length_push}
 use Rattle.std.proofs.lemmas.List.FromFn.{get_or-range_with_len, length-range_with_len, length-map-range_with_len, get_or-map-range_with_len}
 use Rattle.std.proofs.lemmas.List.Sums.{sum_by_push, sum_by-append, sum_by-cons, get_or-le-sum_by}
 use Rattle.std.proofs.lemmas.List.Elements.{Contains-append_left, Contains-push, Contains-push_cases, Contains-append_cases}
@@ -10,15 +10,15 @@ use Rattle.std.proofs.lemmas.Bool.{cases_lt, cases_eq, cases_Bool, both_ways, eq
 use Rattle.sj_base.specs.declared.ids.Task.{Task}
 use Rattle.sj_base.specs.declared.program.Program.{Program}
 use Rattle.sj_deps.specs.declared.manner.Manner.{Manner}
-use Rattle.sj_deps.specs.declared.manner.Manner.TheVariants.{Contribute, Read}
+use Rattle.sj_deps.specs.declared.manner.Manner.TheVariants.{Contribute}
 use Rattle.sj_deps.specs.declared.manner.Usage.{Usage}
 use Rattle.sj_deps.specs.Conflict.{Uses, HasDependencies, usage}
 use Rattle.sj_deps.specs.declared.chain.Chain.{Chain}
 use Rattle.sj_deps.specs.declared.chain.Member.{Member}
 use Rattle.sj_deps.specs.declared.entry.Entered.{Entered}
-use Rattle.sj_deps.specs.Chains.{member, no_member, member_at, party_at, manner_at, chain_at, members_at, is_of}
+use Rattle.sj_deps.specs.Chains.{member, no_member, member_at, party_at, manner_at, members_at, is_of}
 use Rattle.sj_deps.specs.Counts.{Begun, Holds, Present, Entering, Appends, Opens, Joins, In, IsPhase, IsOpen, task, tasks_at, cells_at, ends_with}
-use Rattle.sj_deps.proofs.Counting.{some_counted, below_cases}
+use Rattle.sj_deps.proofs.Counting.{some_counted}
 use Rattle.sj_deps.proofs.Pushing.{each_pushed, at_old, at_new, closed_at}
 
 -- the only task of a list of one

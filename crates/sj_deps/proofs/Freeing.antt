@@ -1,12 +1,12 @@
 -- Parties open: their tasks wait for one party fewer.
-use Rattle.std.proofs.Common.{◌≡◌, ℕ, ◌+◌, ◌-◌, ◌<◌, ◌≤◌, Bool, true, false, cond, List, [], ◌∷◌, length, take, sym, ap, refl, ◌∙◌, subst, arith, ⊎_elim, slice_index_or, slice_set, nat_eq, nat_lt, min}
+use Rattle.std.proofs.Common.{◌≡◌, ℕ, ◌+◌, ◌-◌, ◌<◌, ◌≤◌, cond, List, [], ◌∷◌, length, take, sym, ap, refl, ◌∙◌, arith, ⊎_elim, slice_index_or, slice_set, nat_eq, nat_lt, min}
 use Rattle.std.specs.List.{count_by, sum_by}
 use Rattle.std.proofs.lemmas.List.{get_or-set_same, get_or-set_other, length-set}
 use Rattle.std.proofs.lemmas.List.Sums.{sum_by-cons, sum_by_more, sum_by-take-le}
 use Rattle.std.proofs.lemmas.Bool.{cases_lt, cases_eq, eq-eqb, ne_eqb, cond-true, cond-false, lt-ltb, false_from_ne_true, ltb-true}
 use Rattle.sj_base.specs.declared.ids.Task.{Task}
 use Rattle.sj_deps.specs.Chains.{is_party, waits_of}
-use Rattle.sj_deps.specs.Counts.{Answers, Frees, Mutual, blocked, is_task, owed, parties_at, task, tasks_at}
+use Rattle.sj_deps.specs.Counts.{Frees, Mutual, blocked, is_task, owed, parties_at, task, tasks_at}
 
 module _ (ts : List Task) (i : ℕ) (h : i < length ts) (h₀ w : List ℕ) (r₀ r : List Task) (so : Frees h₀ w r₀ r (λ t. count_by (is_task t) (take i ts))) where
   abbrev nth : ℕ

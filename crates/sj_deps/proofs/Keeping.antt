@@ -1,25 +1,25 @@
 -- The counters are those of the tasks that are done.
-use Rattle.std.proofs.Common.{◌≡◌, ◌↔◌, ℕ, ◌+◌, ◌<◌, ◌≤◌, Bool, true, false, not, cond, List, [], ◌∷◌, ◌++◌, length, sym, ap, refl, ◌∙◌, subst, arith, ⊎_elim, slice_index_or, slice_set, nat_eq, nat_lt, min, replicate, IsTrue, map}
+use Rattle.std.proofs.Common.{◌≡◌, ◌↔◌, ℕ, ◌+◌, ◌<◌, ◌≤◌, Bool, true, false, not, cond, List, [], ◌∷◌, ◌++◌, length, sym, ap, refl, ◌∙◌, subst, arith, ⊎_elim, slice_index_or, slice_set, nat_eq, nat_lt, IsTrue, map}
 use Rattle.std.specs.Prelude.{Contains, vec_capacity, All, ◌⊎◌}
 use Rattle.std.specs.List.{count_by}
 use Rattle.std.specs.List.Sorted.{IsStrictlyIncreasing}
-use Rattle.std.proofs.lemmas.List.{get_or-set_same, get_or-set_other, get_or-replicate, get_or_default, get_or_past, get_or-map, length-set, length-map, length_push, length-replicate}
-use Rattle.std.proofs.lemmas.List.Sums.{sum_by-cons, sum_by-set, get_or-le-sum_by, count_by-le-length}
+use Rattle.std.proofs.lemmas.List.{get_or-set_same, get_or-set_other, get_or_default, get_or_past, get_or-map, length-map, length_push}
+use Rattle.std.proofs.lemmas.List.Sums.{sum_by-cons, sum_by-set, get_or-le-sum_by}
 use Rattle.std.proofs.lemmas.List.Elements.{Contains-append_left, Contains-push, Contains-push_cases, All-from_get_or}
-use Rattle.std.proofs.lemmas.Bool.{cases_lt, cases_eq, both_ways, eq-eqb, eqb-true, ne_eqb, cond-true, cond-false, false_from_ne_true, lt-ltb, ltb-true}
+use Rattle.std.proofs.lemmas.Bool.{cases_lt, cases_eq, eq-eqb, eqb-true, ne_eqb, cond-true, cond-false, false_from_ne_true, lt-ltb, ltb-true}
 use Rattle.sj_base.specs.declared.ids.Task.{Task}
 use Rattle.sj_base.specs.declared.program.Program.{Program}
 use Rattle.sj_deps.specs.declared.manner.Manner.{Manner}
 use Rattle.sj_deps.specs.declared.manner.Manner.TheVariants.{Contribute}
-use Rattle.sj_deps.specs.Conflict.{Uses, HasDependencies, Ready}
+use Rattle.sj_deps.specs.Conflict.{Uses, Ready}
 use Rattle.sj_deps.specs.declared.chain.Chain.{Chain}
 use Rattle.sj_deps.specs.declared.chain.Member.{Member}
 use Rattle.sj_deps.specs.declared.counters.Counters.{Counters}
-use Rattle.sj_deps.specs.Chains.{no_chain, party_at, manner_at, chain_at, members_at, is_of, is_party, left_of, waits_of}
-use Rattle.sj_deps.specs.Counts.{Holds, HoldsAll, Present, Flags, Fits, In, IsPhase, Mutual, SameMembers, task, is_task, tasks_at, parties_at, undone, blocked}
+use Rattle.sj_deps.specs.Chains.{party_at, manner_at, is_of, is_party, left_of, waits_of}
+use Rattle.sj_deps.specs.Counts.{Holds, Present, Flags, In, IsPhase, SameMembers, task, is_task, tasks_at, parties_at, undone, blocked}
 use Rattle.sj_deps.specs.Progress.{Keeps, Completes}
 use Rattle.sj_deps.proofs.Counting.{none_dropped, some_counted, two_counted}
-use Rattle.sj_deps.proofs.Readiness.{flag_at, ready-waits, waits-ready, undone_none}
+use Rattle.sj_deps.proofs.Readiness.{flag_at, ready-waits, waits-ready}
 
 -- a task that is one of a party's is in its list, and the party is in the task's
 pub listed_task : (tasks : List (List Task)) (n t : ℕ) → 0 < count_by (is_task t) (tasks_at tasks n) → In tasks n t

@@ -1,12 +1,12 @@
 -- A task of a party is done: the counts still fit.
-use Rattle.std.proofs.Common.{◌≡◌, ℕ, ◌+◌, ◌-◌, ◌<◌, ◌≤◌, Bool, true, false, cond, List, [], ◌∷◌, length, take, sym, ap, refl, ◌∙◌, subst, arith, ⊎_elim, slice_index_or, slice_set, nat_eq, nat_lt, min, All}
+use Rattle.std.proofs.Common.{◌≡◌, ℕ, ◌+◌, ◌-◌, ◌<◌, ◌≤◌, true, cond, List, [], ◌∷◌, length, take, sym, ap, refl, ◌∙◌, subst, arith, ⊎_elim, slice_index_or, slice_set, nat_eq}
 use Rattle.std.specs.List.{count_by}
-use Rattle.std.proofs.lemmas.List.{get_or-set_same, get_or-set_other, get_or_default, get_or_past, length-set}
+use Rattle.std.proofs.lemmas.List.{get_or-set_same, get_or-set_other, get_or_past}
 use Rattle.std.proofs.lemmas.List.Sums.{sum_by-cons, sum_by_more, sum_by-take-le, get_or-le-sum_by}
-use Rattle.std.proofs.lemmas.Bool.{cases_lt, cases_eq, both_ways, eq-eqb, eqb-true, ne_eqb, cond-true, cond-false, false_from_ne_true}
+use Rattle.std.proofs.lemmas.Bool.{cases_lt, cases_eq, eq-eqb, ne_eqb, cond-true, cond-false}
 use Rattle.sj_deps.specs.declared.chain.Chain.{Chain}
 use Rattle.sj_deps.specs.declared.chain.Member.{Member}
-use Rattle.sj_deps.specs.Chains.{no_member, no_chain, member_at, party_at, chain_at, members_at, is_of, is_party, is_done, left_of, waits_of, Tracks}
+use Rattle.sj_deps.specs.Chains.{no_chain, member_at, party_at, chain_at, members_at, is_of, is_party, is_done, left_of, waits_of, Tracks}
 use Rattle.sj_deps.specs.Counts.{CanSettle, Settles, SameMembers, Answers, Fits, cells_at}
 use Rattle.sj_deps.proofs.Settling.{done-le-released}
 use Rattle.sj_deps.proofs.Places.{wanted_some, inside_of}

@@ -1,19 +1,17 @@
 -- A task is ready exactly where it isn't done and none of its parties waits.
-use Rattle.std.proofs.Common.{◌≡◌, ℕ, ◌+◌, ◌-◌, ◌<◌, ◌≤◌, Bool, true, false, not, cond, List, length, drop, sym, ap, refl, ◌∙◌, subst, arith, ⊎_elim, slice_index_or, nat_eq, inr}
-use Rattle.std.specs.Prelude.{Contains, ◌⊎◌}
-use Rattle.std.specs.List.{count_by}
-use Rattle.std.proofs.lemmas.List.{get_or_default, get_or_past}
+use Rattle.std.proofs.Common.{◌≡◌, ℕ, ◌+◌, ◌-◌, ◌<◌, ◌≤◌, Bool, true, false, not, cond, List, length, sym, ap, refl, ◌∙◌, subst, arith, ⊎_elim, slice_index_or, inr}
+use Rattle.std.specs.Prelude.{◌⊎◌}
+use Rattle.std.proofs.lemmas.List.{get_or_default}
 use Rattle.std.proofs.lemmas.List.Sums.{get_or-le-sum_by}
-use Rattle.std.proofs.lemmas.Bool.{cases_lt, cases_eq, cases_order, cases_Bool, eq-eqb, eqb-true, ne_eqb, both_ways, true_from_ne_false, cond-true}
+use Rattle.std.proofs.lemmas.Bool.{cases_lt, cases_Bool, eq-eqb, eqb-true, both_ways, true_from_ne_false}
 use Rattle.sj_base.specs.declared.ids.Task.{Task}
 use Rattle.sj_base.specs.declared.program.Program.{Program}
-use Rattle.sj_deps.specs.declared.manner.Manner.{Manner}
 use Rattle.sj_deps.specs.declared.manner.Manner.TheVariants.{Read, Contribute}
 use Rattle.sj_deps.specs.Conflict.{Uses, IsShared, Conflict, Ready, HasDependencies}
 use Rattle.sj_deps.specs.declared.chain.Chain.{Chain}
 use Rattle.sj_deps.specs.declared.chain.Member.{Member}
-use Rattle.sj_deps.specs.Chains.{joins, joined, no_member, no_chain, member_at, party_at, manner_at, chain_at, members_at, is_of, is_done, left_of, waits_of, wanted, Tracks}
-use Rattle.sj_deps.specs.Counts.{Holds, HoldsAll, Present, Flags, Fits, In, task, tasks_at, undone}
+use Rattle.sj_deps.specs.Chains.{joins, joined, no_member, member_at, party_at, manner_at, chain_at, members_at, is_done, left_of, waits_of, Tracks}
+use Rattle.sj_deps.specs.Counts.{Holds, HoldsAll, Flags, Fits, In, task, tasks_at, undone}
 use Rattle.sj_deps.proofs.Counting.{some_fails, some_counted}
 use Rattle.sj_deps.proofs.Places.{inside_of, wanted_some, wanted_none}
 use Rattle.sj_deps.proofs.Runs.{joins_cases, joins_shared, all_joined, same_manner, run_before}

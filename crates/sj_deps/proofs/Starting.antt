@@ -1,24 +1,23 @@
 -- Before anything is entered, when all is, and the counters that start there.
-use Rattle.std.proofs.Common.{◌≡◌, ℕ, ◌+◌, ◌<◌, ◌≤◌, Bool, true, false, not, cond, List, [], ◌∷◌, ◌++◌, length, map, replicate, sym, ap, refl, ◌∙◌, subst, arith, ⊎_elim, slice_index_or, nat_eq, nat_lt}
+use Rattle.std.proofs.Common.{◌≡◌, ℕ, ◌+◌, ◌<◌, ◌≤◌, Bool, false, not, cond, List, [], ◌∷◌, length, map, replicate, sym, ap, refl, ◌∙◌, subst, arith, ⊎_elim, slice_index_or, nat_eq}
 use Rattle.std.specs.Prelude.{Contains, All, None, slice_get, vec_capacity}
 use Rattle.std.specs.List.{count_by, range_with_len}
 use Rattle.std.proofs.lemmas.List.{get_or_default, get_or_past, get_or-map, get_or-replicate, length-map, length-replicate}
 use Rattle.std.proofs.lemmas.List.FromFn.{length-map-range_with_len, get_or-map-range_with_len}
-use Rattle.std.proofs.lemmas.List.Sums.{sum_by-cons, get_or-le-sum_by, count_by-le-length}
+use Rattle.std.proofs.lemmas.List.Sums.{sum_by-cons, count_by-le-length}
 use Rattle.std.proofs.lemmas.List.Elements.{Contains-push, All-from_get_or}
 use Rattle.std.proofs.lemmas.Option.{slice_get_past}
-use Rattle.std.proofs.lemmas.Bool.{cases_lt, both_ways, eq-eqb, ne_eqb, cond-true}
+use Rattle.std.proofs.lemmas.Bool.{cases_lt, both_ways, ne_eqb}
 use Rattle.sj_base.specs.declared.ids.Task.{Task}
 use Rattle.sj_base.specs.declared.program.Program.{Program}
 use Rattle.sj_deps.specs.declared.manner.Manner.{Manner}
-use Rattle.sj_deps.specs.declared.manner.Usage.{Usage}
-use Rattle.sj_deps.specs.Conflict.{Uses, HasDependencies, usage, usages}
+use Rattle.sj_deps.specs.Conflict.{Uses, HasDependencies, usages}
 use Rattle.sj_deps.specs.declared.chain.Chain.{Chain}
 use Rattle.sj_deps.specs.declared.chain.Member.{Member}
 use Rattle.sj_deps.specs.declared.counters.Counters.{Counters}
 use Rattle.sj_deps.specs.declared.entry.Entered.{Entered}
-use Rattle.sj_deps.specs.Chains.{no_chain, no_member, chain_at, members_at, party_at, is_of, is_party, is_done, left_of, waits_of, wanted, Tracks}
-use Rattle.sj_deps.specs.Counts.{Begun, Built, Entering, Holds, HoldsAll, Fits, In, Mutual, Present, blocked, cells_at, is_task, parties_at, task, tasks_at, undone}
+use Rattle.sj_deps.specs.Chains.{no_chain, no_member, chain_at, members_at, is_of, left_of, waits_of, wanted, Tracks}
+use Rattle.sj_deps.specs.Counts.{Begun, Built, Entering, Holds, HoldsAll, In, Mutual, Present, blocked, cells_at, is_task, parties_at, task, tasks_at, undone}
 use Rattle.sj_deps.specs.Progress.{Keeps}
 use Rattle.sj_deps.proofs.Counting.{below_cases}
 use Rattle.sj_deps.proofs.Entering.{single_is}

@@ -1,5 +1,5 @@
 -- What the counters are of: the program's accesses, the parties that make them, and the tasks that are done.
-use Rattle.std.specs.Prelude.{◌≡◌, ◌⊎◌, ◌==◌, ◌++◌, ◌∷◌, if◌then◌else◌, slice_set, ℕ, ◌+◌, ◌<◌, ◌≤◌, ◌-◌, Bool, true, false, not, List, [], length, map, count_by, nat_eq, Contains, All, min, nat_lt}
+use Rattle.std.specs.Prelude.{◌≡◌, ◌⊎◌, ◌==◌, ◌++◌, ◌∷◌, if◌then◌else◌, slice_set, ℕ, ◌+◌, ◌<◌, ◌≤◌, ◌-◌, Bool, true, false, not, List, [], length, count_by, nat_eq, Contains, All, min, nat_lt}
 use Rattle.std.specs.List.{slice_index_or, sum_by, range_with_len}
 use Rattle.sj_base.specs.declared.program.Program.{Program}
 use Rattle.sj_base.specs.declared.ids.Task.{Task}
@@ -10,7 +10,7 @@ use Rattle.sj_deps.specs.Conflict.{Uses, usage}
 use Rattle.sj_deps.specs.declared.entry.Entered.{Entered}
 use Rattle.sj_deps.specs.declared.chain.Member.{Member}
 use Rattle.sj_deps.specs.declared.chain.Chain.{Chain}
-use Rattle.sj_deps.specs.Chains.{member, member_at, party_at, manner_at, members_at, is_of, is_party, chain_at, waits_of, left_of, wanted, Tracks}
+use Rattle.sj_deps.specs.Chains.{member, member_at, party_at, manner_at, members_at, is_of, is_party, chain_at, waits_of, wanted, Tracks}
 
 abbrev pub task : ℕ → Task
 task t = record { 0 = t }

@@ -8,7 +8,7 @@ use Rattle.sj_base.specs.declared.program.Program.{Program}
 use Rattle.sj_deps.specs.Conflict.{HasDependencies, Ready}
 use Rattle.sj_deps.specs.declared.counters.Counters.{Counters}
 use Rattle.sj_deps.specs.Chains.{is_party, left_of, waits_of}
-use Rattle.sj_deps.specs.Counts.{Holds, HoldsAll, Flags, Fits, SameMembers, Frees, Mutual, blocked, undone, parties_at, tasks_at, is_task}
+use Rattle.sj_deps.specs.Counts.{Holds, HoldsAll, Flags, Fits, SameMembers, Mutual, blocked, undone, parties_at, tasks_at, is_task}
 
 -- a program, and the tasks that are done, in the order in which they were
 pub record Progress : Type 0 where

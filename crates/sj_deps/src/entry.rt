@@ -157,12 +157,7 @@ fn enter_access(
 }
 
 /// Enters an access of a task by itself, unless the task stands at the end of the cell's chain already.
-fn enter(
-    entered: &mut Entered,
-    t: usize,
-    manner: Manner,
-    cell: usize,
-) -> Result<(), OutOfMemory>
+fn enter(entered: &mut Entered, t: usize, manner: Manner, cell: usize) -> Result<(), OutOfMemory>
     requires cell { cell < length entered.old.chains.items }
     requires task { t < length entered.old.tasks.items }
     requires listed { t < length entered.old.cells.items }
@@ -257,7 +252,11 @@ fn open_phase(entered: &Entered, first: usize) -> Option<usize>
     let party = last_phase(&entered.chains[first])?;
     let is_open = !entered.is_closed[party];
     let is_first = begins_with(entered.cells[party].items(), first);
-    if is_open && is_first { Some(party) } else { None }
+    if is_open && is_first {
+        Some(party)
+    } else {
+        None
+    }
 }
 
 /// The phase at the end of a chain.
@@ -364,7 +363,9 @@ fn push(entered: &mut Entered, member: Member, cell: usize) -> Result<(), OutOfM
     let at_once = entered.chains[cell].push(member)?;
     entered.cells[member.party].push(cell)?;
     if !at_once {
-        let more = entered.waits[member.party].checked_add(1).ok_or(OutOfMemory)?;
+        let more = entered.waits[member.party]
+            .checked_add(1)
+            .ok_or(OutOfMemory)?;
         entered.waits[member.party] = more;
     }
     Ok(())

@@ -10,12 +10,7 @@ use sj_base::sequence::Sequence;
 
 /// Counts a party as finished in the chains of its cells, and appends the parties that wait no more. Linear
 /// in the cells and in the accesses that are released.
-fn settle(
-    chains: &mut Vec<Chain>,
-    waits: &mut Vec<usize>,
-    opened: &mut Vec<usize>,
-    cells: &[usize],
-)
+fn settle(chains: &mut Vec<Chain>, waits: &mut Vec<usize>, opened: &mut Vec<usize>, cells: &[usize])
     requires counts { CanSettle chains.old.items waits.old.items cells.now }
     requires room { length opened.old.items + count_by (nat_lt 0) waits.old.items ≤ vec_capacity opened.old }
     ensures settled { CanSettle chains.new.items waits.new.items [] }

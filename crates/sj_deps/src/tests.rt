@@ -315,9 +315,7 @@ fn a_phase_of_three_workers_waits_for_all_copies(rt: HostRuntime) -> Result<(), 
 }
 
 #[test]
-fn a_task_that_contributes_to_two_cells_waits_for_both_phases(
-    rt: HostRuntime,
-) -> Result<(), Fail> {
+fn a_task_that_contributes_to_two_cells_waits_for_both_phases(rt: HostRuntime) -> Result<(), Fail> {
     let tasks: &[(u16, &[(Mode, u32)])] = &[
         (20, &[(Mode::W, 3)]),
         (20, &[(Mode::W, 4)]),

@@ -1,4 +1,4 @@
-use Rattle.std.proofs.Common.{◌≡◌, ◌∙◌, ap, map, arith, length}
+use Rattle.std.proofs.Common.{◌∙◌, ap, map, arith, length}
 use Rattle.std.proofs.lemmas.List.{take_all}
 use Rattle.sj_deps.proofs.counters.count_tasks.Goals as goal
 

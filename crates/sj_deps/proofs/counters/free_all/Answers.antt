@@ -1,10 +1,10 @@
-use Rattle.std.proofs.Common.{◌≡◌, ◌<◌, ◌≤◌, ℕ, List, length, arith, rules, sym, ap, subst, slice_index_or, count_by}
+use Rattle.std.proofs.Common.{◌≡◌, ◌<◌, ◌≤◌, ℕ, List, length, arith, rules, sym, subst, slice_index_or, count_by}
 use Rattle.std.specs.Prelude.{All}
 use Rattle.std.proofs.lemmas.Grind.{common_steps}
 use Rattle.sj_base.specs.declared.ids.Task.{Task}
 use Rattle.sj_deps.specs.Chains.{waits_of}
 use Rattle.sj_deps.specs.Counts.{tasks_at, is_task}
-use Rattle.sj_deps.proofs.Freeing.{party_enough, Frees-next}
+use Rattle.sj_deps.proofs.Freeing.{party_enough}
 use Rattle.sj_deps.proofs.counters.free_all.Goals as goal
 
 pub free_party-requires-clause-known : goal.free_party-requires-clause-known

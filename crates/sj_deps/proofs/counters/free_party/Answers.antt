@@ -1,5 +1,4 @@
-use Rattle.std.proofs.Common.{◌≡◌, ◌<◌, ℕ, length, arith}
-use Rattle.sj_deps.specs.Chains.{waits_of}
+use Rattle.std.proofs.Common.{◌≡◌, ◌<◌, length, arith}
 use Rattle.sj_deps.specs.Counts.{task}
 use Rattle.sj_deps.proofs.Freeing.{free_waiting, Frees-more}
 use Rattle.sj_deps.proofs.counters.free_party.Goals as goal

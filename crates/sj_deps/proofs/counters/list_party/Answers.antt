@@ -1,10 +1,8 @@
-use Rattle.std.proofs.Common.{◌≡◌, ◌+◌, ◌<◌, ◌∙◌, ℕ, List, length, take, ap, sym, subst, arith, rules, cond, count_by, nat_eq, slice_set, slice_index_or, ◌++◌, ◌∷◌, []}
-use Rattle.std.proofs.lemmas.Grind.{common_steps}
-use Rattle.std.proofs.lemmas.List.{take_all, length-set}
+use Rattle.std.proofs.Common.{◌≡◌, ◌+◌, List, subst, arith, cond, count_by, nat_eq}
+use Rattle.std.proofs.lemmas.List.{take_all}
 use Rattle.sj_base.specs.declared.ids.Task.{Task}
 use Rattle.sj_deps.specs.Chains.{is_party}
-use Rattle.sj_deps.specs.Counts.{is_task, parties_at, task}
-use Rattle.sj_deps.proofs.Listing.{listed_more}
+use Rattle.sj_deps.specs.Counts.{is_task, parties_at}
 use Rattle.sj_deps.proofs.counters.list_party.Goals as goal
 
 pub returns-clause-listed : goal.returns-clause-listed

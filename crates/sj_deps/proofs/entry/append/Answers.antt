@@ -1,4 +1,3 @@
-use Rattle.std.proofs.Common.{◌≡◌, ◌<◌}
 use Rattle.sj_deps.proofs.Appending.{Appends-more}
 use Rattle.sj_deps.proofs.entry.append.Goals as goal
 

@@ -1,4 +1,3 @@
-use Rattle.std.proofs.Common.{◌≡◌}
 use Rattle.sj_deps.specs.Counts.{Begun, Appends}
 use Rattle.sj_deps.proofs.entry.append.Given as goal
 

@@ -1,4 +1,3 @@
-use Rattle.std.proofs.Common.{◌≡◌}
 use Rattle.sj_deps.proofs.Appending.{on_ok}
 use Rattle.sj_deps.proofs.Entering.{Entering-opened, Entering-joined}
 use Rattle.sj_deps.proofs.entry.contribute.Goals as goal

@@ -1,9 +1,8 @@
-use Rattle.std.proofs.Common.{◌≡◌, ◌+◌, ◌-◌, ◌<◌, ◌≤◌, ◌++◌, ◌∙◌, ℕ, List, refl, sym, subst, map, length, arith, rules}
+use Rattle.std.proofs.Common.{◌≡◌, ◌+◌, ◌-◌, ◌<◌, ◌++◌, ℕ, List, refl, sym, subst, map, arith, rules}
 use Rattle.std.specs.Prelude.{Contains, Some}
-use Rattle.std.specs.List.{range_with_len}
 use Rattle.std.proofs.lemmas.Grind.{common_steps}
 use Rattle.sj_deps.specs.declared.manner.Manner.TheVariants.{Contribute}
-use Rattle.sj_deps.specs.Conflict.{Uses, usage, first_copy, copies_of}
+use Rattle.sj_deps.specs.Conflict.{Uses, usage, first_copy}
 use Rattle.sj_deps.specs.Counts.{Entering}
 use Rattle.sj_deps.proofs.Accessing.{copies_some, range_has}
 use Rattle.sj_deps.proofs.Appending.{on_ok}

@@ -1,10 +1,9 @@
-use Rattle.std.proofs.Common.{◌≡◌, ◌<◌, ◌∙◌, ◌++◌, List, ap, sym, subst, arith, rules, refl, length, slice_index_or}
+use Rattle.std.proofs.Common.{◌≡◌, ◌∙◌, List, ap, sym, subst, arith, rules, refl, length, slice_index_or}
 use Rattle.std.specs.Prelude.{Contains}
 use Rattle.std.specs.List.{flat_map}
 use Rattle.std.proofs.lemmas.Grind.{common_steps}
 use Rattle.std.proofs.lemmas.List.{take_all}
 use Rattle.std.proofs.lemmas.Option.{slice_get_read}
-use Rattle.sj_base.specs.declared.mode.Access.{Access}
 use Rattle.sj_deps.specs.declared.manner.Usage.{Usage}
 use Rattle.sj_deps.specs.Conflict.{usage, usages, usages_of}
 use Rattle.sj_deps.specs.Counts.{Entering}

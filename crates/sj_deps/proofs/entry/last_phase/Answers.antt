@@ -1,4 +1,4 @@
-use Rattle.std.proofs.Common.{◌≡◌, ◌+◌, ◌-◌, ◌<◌, ◌∙◌, ℕ, sym, ap, length, arith, rules}
+use Rattle.std.proofs.Common.{◌≡◌, ◌-◌, ◌<◌, ◌∙◌, ap, length, arith, rules}
 use Rattle.std.proofs.lemmas.Grind.{common_steps}
 use Rattle.sj_deps.specs.declared.chain.Member.{Member}
 use Rattle.sj_deps.specs.Chains.{member_at}

@@ -1,10 +1,9 @@
-use Rattle.std.proofs.Common.{◌≡◌, ◌+◌, ◌∙◌, ℕ, List, Bool, true, false, not, sym, ap, refl, subst, arith, rules, length, slice_index_or, slice_set}
+use Rattle.std.proofs.Common.{◌≡◌, ◌+◌, ◌∙◌, ℕ, true, false, sym, ap, refl, subst, arith, rules, length, slice_set}
 use Rattle.std.proofs.lemmas.Grind.{common_steps}
 use Rattle.std.proofs.lemmas.List.{get_or_default}
-use Rattle.std.proofs.lemmas.Bool.{cond-true, cond-false, not-true, not-false}
+use Rattle.std.proofs.lemmas.Bool.{cond-true, cond-false}
 use Rattle.sj_deps.specs.declared.chain.Chain.{Chain}
-use Rattle.sj_deps.specs.declared.chain.Member.{Member}
-use Rattle.sj_deps.specs.Chains.{no_chain, chain_at, members_at, party_at, waits_of, Pushes}
+use Rattle.sj_deps.specs.Chains.{no_chain, chain_at, party_at, waits_of, Pushes}
 use Rattle.sj_deps.proofs.Pushing.{Begun-pushed, closed_at}
 use Rattle.sj_deps.proofs.entry.push.Goals as goal
 

@@ -1,8 +1,5 @@
-use Rattle.std.proofs.Common.{◌≡◌, ◌-◌, ◌<◌, ◌∙◌, [], ℕ, List, sym, subst, arith, rules, length, slice_set}
+use Rattle.std.proofs.Common.{◌≡◌, ◌-◌, ◌<◌, [], ℕ, List, sym, subst, arith, rules, slice_set}
 use Rattle.std.proofs.lemmas.Grind.{common_steps}
-use Rattle.std.proofs.lemmas.List.{get_or_default}
-use Rattle.std.proofs.lemmas.Bool.{eqb-true}
-use Rattle.sj_deps.specs.Chains.{left_of}
 use Rattle.sj_deps.specs.Counts.{CanSettle, Settles, Fits, cells_at}
 use Rattle.sj_deps.proofs.Leaving.{can_settle, Fits-settled, Fits-still}
 use Rattle.sj_deps.proofs.settle.leave.Goals as goal

@@ -1,6 +1,6 @@
-use Rattle.std.proofs.Common.{◌≡◌, ◌+◌, ◌-◌, ◌<◌, ◌≤◌, ℕ, List, length, take, sym, subst, arith, count_by, slice_index_or, slice_set, ap, ◌∙◌}
+use Rattle.std.proofs.Common.{◌≡◌, ◌+◌, ◌-◌, ◌<◌, ℕ, List, length, take, sym, subst, arith, count_by, slice_index_or, ap, ◌∙◌}
 use Rattle.std.proofs.lemmas.List.{length-set}
-use Rattle.sj_deps.specs.Chains.{is_party, left_of, waits_of}
+use Rattle.sj_deps.specs.Chains.{is_party, left_of}
 use Rattle.sj_deps.proofs.Leaving.{leave_some, leave_left, still_free, SameMembers-more, Answers-next}
 use Rattle.sj_deps.proofs.settle.leave_all.Goals as goal
 

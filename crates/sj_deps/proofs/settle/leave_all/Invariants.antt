@@ -1,5 +1,5 @@
-use Rattle.std.proofs.Common.{◌≡◌, ◌≤◌, ◌+◌, ℕ, length, take, vec_capacity, count_by, All}
-use Rattle.sj_deps.specs.Chains.{is_party, left_of, waits_of}
+use Rattle.std.proofs.Common.{◌≡◌, ◌≤◌, ◌+◌, ℕ, length, take, vec_capacity, count_by}
+use Rattle.sj_deps.specs.Chains.{is_party, left_of}
 use Rattle.sj_deps.specs.Counts.{Fits, SameMembers, Answers}
 use Rattle.sj_deps.proofs.settle.leave_all.Given as goal
 

@@ -1,12 +1,12 @@
-use Rattle.std.proofs.Common.{◌≡◌, ◌+◌, ◌<◌, ◌≤◌, [], ap, refl, sym, subst, arith, rules, length, ◌∙◌, count_by, nat_lt, cond, ℕ, List, Bool, true, slice_set, min}
+use Rattle.std.proofs.Common.{◌≡◌, ◌+◌, ◌<◌, ◌≤◌, ap, refl, sym, subst, arith, rules, length, ◌∙◌, count_by, cond, ℕ, List, Bool, true}
 use Rattle.std.specs.Prelude.{All}
 use Rattle.std.proofs.lemmas.Grind.{common_steps}
-use Rattle.std.proofs.lemmas.List.{get_or_default, length-set}
-use Rattle.std.proofs.lemmas.List.Sorted.{sum_by-IsPermutation, length_permutation}
+use Rattle.std.proofs.lemmas.List.{length-set}
+use Rattle.std.proofs.lemmas.List.Sorted.{sum_by-IsPermutation}
 use Rattle.sj_base.specs.declared.ids.Task.{Task}
 use Rattle.sj_deps.specs.Chains.{is_party, left_of, waits_of}
-use Rattle.sj_deps.specs.Counts.{Fits, Frees, blocked, is_task, owed, parties_at, tasks_at}
-use Rattle.sj_deps.proofs.Completing.{room_to_open, room_to_free, parties_known, opened_known, owed_is, owed_enough}
+use Rattle.sj_deps.specs.Counts.{Fits, Frees, is_task, owed, parties_at, tasks_at}
+use Rattle.sj_deps.proofs.Completing.{opened_known, owed_is, owed_enough}
 use Rattle.sj_deps.proofs.counters.Counters.complete.Goals as goal
 
 pub free_all-requires-clause-parties : goal.free_all-requires-clause-parties

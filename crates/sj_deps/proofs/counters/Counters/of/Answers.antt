@@ -1,4 +1,4 @@
-use Rattle.std.proofs.Common.{◌≡◌, ◌<◌, ◌≤◌, ◌∙◌, ℕ, List, arith, rules, sym, ap, subst, length, map, replicate, false}
+use Rattle.std.proofs.Common.{◌≡◌, ◌<◌, ℕ, List, arith, rules, sym, subst, length, map, replicate, false}
 use Rattle.std.specs.Prelude.{All}
 use Rattle.std.proofs.lemmas.Grind.{common_steps}
 use Rattle.sj_base.specs.declared.ids.Task.{Task}
