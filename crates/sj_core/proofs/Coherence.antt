@@ -1,10 +1,10 @@
 -- A claim, a run and an end leave a coherent state.
 use Rattle.sj_core.specs.Coherent.{Coherent}
-use Rattle.sj_core.specs.Laws.{HasPlainModes, IsKeptByClaims, IsKeptByLawfulEnds, IsKeptByRuns, IsSound}
+use Rattle.sj_core.specs.Laws.{IsKeptByClaims, IsKeptByLawfulEnds, IsKeptByRuns, IsSound}
 use Rattle.sj_core.specs.Step.{Ends}
 use Rattle.sj_core.proofs.Words.{Machine, Program, State, Task, Worker}
 use Rattle.sj_core.proofs.ClaimKeeps.{Claims-coherent}
-use Rattle.sj_core.proofs.Contents.{lawful-puts_last, plain-puts_last}
+use Rattle.sj_core.proofs.Contents.{lawful-puts_last}
 use Rattle.sj_core.proofs.Dependencies.{Proper-dependencies}
 use Rattle.sj_core.proofs.Ending.{Ends-coherent}
 use Rattle.sj_core.proofs.Running.{Runs-coherent}
@@ -14,10 +14,6 @@ Claims-keeps_coherence p m s s' t w h claim = Claims-coherent p m s h t w s' cla
 
 pub Runs-keeps_coherence : IsKeptByRuns Coherent
 Runs-keeps_coherence p m s s' t w h run = Runs-coherent p m s h t w s' run
-
--- an end of a program without REDUX and COMMUTE, from no law of a set
-pub Ends-keeps_coherence : (p : Program) (m : Machine) (s s' : State) (t : Task) (w : Worker) → IsSound p m s → HasPlainModes p → Ends p m s t w s' → Coherent p m s'
-Ends-keeps_coherence p m s s' t w h plain ended = Ends-coherent p m s h t w s' ended (plain-puts_last p (Proper-dependencies p h.proper) plain)
 
 pub Lawful_ends-keep_coherence : IsKeptByLawfulEnds Coherent
 Lawful_ends-keep_coherence has p m s s' t w h lawful ended = Ends-coherent p m s h t w s' ended (lawful-puts_last has p h.proper lawful)

@@ -8,7 +8,7 @@ use Rattle.sj_core.proofs.Words.{Array, AtNode, Cell, Claimed, Done, Machine, Pr
 use Rattle.sj_deps.specs.Conflict.{Conflict, HasDependencies}
 use Rattle.sj_core.specs.Coherent.{Coherent, HasWorkers, OrderIsKept, content, is_begun}
 use Rattle.sj_core.specs.Fold.{Contents, after_chosen, after_task, held_in}
-use Rattle.sj_core.specs.Laws.{HasPlainModes, IsLawful}
+use Rattle.sj_core.specs.Laws.{IsLawful}
 use Rattle.sj_core.specs.Proper.{Proper}
 use Rattle.sj_core.specs.Step.{Ends, array_at, result_at}
 use Rattle.sj_core.proofs.Advancing.{Advances, Ends-advances, done-begun, same_task}
@@ -17,7 +17,6 @@ use Rattle.sj_core.proofs.Exchanging.{may-swap}
 use Rattle.sj_core.proofs.Folding.{AddsTask, after_chosen-same, after_task-other, held-append, held_over, held_over-own, read-among_cells, results-same}
 use Rattle.sj_core.proofs.Found.{found-content}
 use Rattle.sj_core.proofs.Phases.{contributions-exchange}
-use Rattle.sj_core.proofs.PlainModes.{inserted}
 use Rattle.sj_core.proofs.Reading.{progress-inside}
 use Rattle.sj_core.proofs.Replicas.{same_worker-refl}
 use Rattle.sj_core.proofs.Swapping.{put-last}
@@ -52,11 +51,7 @@ abbrev pub PutsLast : Program → Type 0
 PutsLast p = (chosen chosen' : Task → Bool) (by by' : Task → Worker) (t : Task) (w : Worker) → t.0 < length p.tasks → w.0 < p.workers → ((u : Task) → (by u).0 < p.workers) → AddsTask chosen chosen' by by' t w → ((u : Task) → t.0 < u.0 → chosen u ≡ true → ¬ Conflict p t.0 u.0) →
     (c : Cell) → held_in p (after_chosen p chosen' by' (length p.tasks)) c ≡ held_in p (after_task p w t (after_chosen p chosen by (length p.tasks))) c
 
--- it is so without REDUX and COMMUTE
-pub plain-puts_last : (p : Program) → HasDependencies p → HasPlainModes p → PutsLast p
-plain-puts_last p deps plain chosen chosen' by by' t w inside w_in staffed adds free = inserted p plain deps chosen chosen' by by' t w (length p.tasks) inside adds free
-
--- and from the laws of a set
+-- it is so from the laws of a set
 pub lawful-puts_last : (has : Kernel → Bool) (p : Program) → Proper p → IsLawful has p → PutsLast p
 lawful-puts_last has p proper lawful chosen chosen' by by' t w inside w_in staffed adds free =
     put-last p proper lawful.arguments chosen chosen' by by' t w staffed w_in adds (length p.tasks) inside (omega arith) (λ u later within done.

@@ -15,13 +15,12 @@ use Rattle.sj_base.specs.declared.mode.Mode.{Mode}
 use Rattle.sj_base.specs.declared.mode.Mode.TheVariants.{R}
 use Rattle.sj_deps.specs.Conflict.{HasDependencies}
 use Rattle.sj_core.specs.Coherent.{Coherent, has_written, is_being_written, HasRows}
-use Rattle.sj_core.specs.Laws.{HasPlainModes}
 use Rattle.sj_core.specs.Proper.{HasValueBefore, Proper, gives_value}
 use Rattle.sj_core.specs.Step.{EarlierAreDone}
 use Rattle.sj_core.proofs.Advancing.{running_on-is, same_task, task_of-worker, Advances}
 use Rattle.sj_core.proofs.Folding.{read-among_cells}
 use Rattle.sj_core.proofs.Modes.{reads_isn't_scratch}
-use Rattle.sj_core.proofs.PlainModes.{conflicts, operand-inside, worked_on-plain}
+use Rattle.sj_core.proofs.PlainModes.{operand-inside}
 use Rattle.sj_core.proofs.Readiness.{AllPairs-two, Contains-filter, Contains-from_filter}
 use Rattle.sj_core.proofs.Replicas.{same_worker-refl}
 use Rattle.sj_core.proofs.Separation.{separated}
@@ -94,50 +93,6 @@ gives-writes p u v c h =
     three true true false h = absurd (false≢true h)
     three true false z h = absurd (false≢true h)
     three false y z h = absurd (false≢true h)
-
-module _ (p : Program) (m : Machine) (proper : Proper p) (deps : HasDependencies p) (plain : HasPlainModes p) where
-  -- an operand whose old value is read gives the task its cell
-  pub read-cell : (t : Task) (w : Worker) (a : Access) → Contains (task_of p t).accesses a → starts_as_zeros a.mode ≡ false → has_cell (cells_of p t w) a.cell ≡ true
-  read-cell t w a h reads = sym (ap (has_cell (cells_of p t w)) (worked_on-plain p plain t w a h)) ∙ read-among_cells p t w a h reads
-
-  -- such a cell is none whose old value another operand doesn't read
-  pub read-not_fresh : (t : Task) (w : Worker) (a : Access) → Contains (task_of p t).accesses a → starts_as_zeros a.mode ≡ false → has_cell (fresh_cells p t w) a.cell ≡ false
-  read-not_fresh t w a h reads = false_from_ne_true (has_cell (fresh_cells p t w) a.cell) (λ fresh.
-      (let l = task_of p t in
-      let b = operand_for (worked_on p w) (λ x. starts_as_zeros x.mode) (data_operands l) a.cell fresh in
-      let a_in : Contains (data_operands l) a = Contains-filter (λ x. not (is_scratch x.mode)) l.accesses a (reads_isn't_scratch a.mode reads) h in
-      let b_accessed : Contains l.accesses b.0 = Contains-from_data b.0 b.1 in
-      let b_cell : b.0.cell ≡ a.cell = sym (worked_on-plain p plain t w b.0 b_accessed) ∙ b.3 in
-      let unaliased = proper.unaliased t.0 no_task (operand-inside p t a h) in
-      by_places b.0 b.2 b_cell (AllPairs-two (λ x y. IsTrue (same_cell x.cell y.cell) → (x.mode ≡ R) × (y.mode ≡ R)) (data_operands l) a b.0 unaliased a_in b.1)))
-    where
-      Contains-from_data : (b : Access) → Contains (data_operands (task_of p t)) b → Contains (task_of p t).accesses b
-      Contains-from_data b k = Contains-from_filter (λ x. not (is_scratch x.mode)) (task_of p t).accesses b k
-
-      same : (x y : Cell) → x ≡ y → same_cell x y ≡ true
-      same x y e = (Decides-eqb x.0 y.0).1 (ap (λ (q : Cell). q.0) e)
-
-      read_isn't_fresh : (x : Mode) → starts_as_zeros x ≡ true → x ≡ R → ⊥
-      read_isn't_fresh x e f = false≢true (sym (ap starts_as_zeros f) ∙ e)
-
-      by_places : (b : Access) → starts_as_zeros b.mode ≡ true → b.cell ≡ a.cell →
-          ((a ≡ b) ⊎ ((IsTrue (same_cell a.cell b.cell) → (a.mode ≡ R) × (b.mode ≡ R)) ⊎ (IsTrue (same_cell b.cell a.cell) → (b.mode ≡ R) × (a.mode ≡ R)))) → ⊥
-      by_places b fresh e (inl one) = false≢true (sym reads ∙ ap (λ (x : Access). starts_as_zeros x.mode) one ∙ fresh)
-      by_places b fresh e (inr (inl pair)) = read_isn't_fresh b.mode fresh (pair (same a.cell b.cell (sym e))).1
-      by_places b fresh e (inr (inr pair)) = read_isn't_fresh b.mode fresh (pair (same b.cell a.cell e)).0
-
-  module _ (s : State) (sound : Coherent p m s) where
-    -- a cell whose old value a begun task reads has been written
-    pub read-written : (t : Task) (a : Access) → EarlierAreDone p s t → Contains (task_of p t).accesses a → starts_as_zeros a.mode ≡ false → 0 < writes s a.cell
-    read-written t a earlier h reads =
-        let value = All-contains (λ (b : Access). IsTrue (reads_value b.mode) → HasValueBefore p t b.cell) (task_of p t).accesses a (proper.values.cells t) h (not-false (reads_value a.mode) reads) in
-        let u = value.0 in
-        let v = done_by s u in
-        let writes_it = gives-writes p u v a.cell value.2 in
-        let done = earlier u value.1 (conflicts p plain deps t u v v a.cell (read-cell t v a h reads) writes_it).1 in
-        let inside : u.0 < length p.tasks = omega (arith, operand-inside p t a h, value.1) in
-        let counted = task-counted p (has_written p s a.cell) u inside (ap (λ b. b && has_cell (written_cells p u v) a.cell) done ∙ writes_it) in
-        omega (arith, sound.counts.counted a.cell)
 
 -- ---- cells at rest
 

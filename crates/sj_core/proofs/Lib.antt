@@ -15,7 +15,6 @@ pub mod Completeness
 pub mod Contents
 pub mod Copies
 pub mod Counting
-pub mod Delivering
 pub mod Dependencies
 pub mod Depending
 pub mod Dropping

@@ -82,12 +82,6 @@ pub record IsLawful (has : Kernel → Bool) (p : Program) : Type 0 where
 abbrev pub IsKeptByLawfulEnds : (Program → Machine → State → Type 0) → Type 0
 IsKeptByLawfulEnds Fact = (has : Kernel → Bool) (p : Program) (m : Machine) (s s' : State) (t : Task) (w : Worker) → IsSound p m s → IsLawful has p → Ends p m s t w s' → Fact p m s'
 
--- ---- programs whose accesses are all in order
-
--- no task has a REDUX or a COMMUTE access
-pub record HasPlainModes (p : Program) : Type 0 where
-  pub modes : (t : Task) → All (λ a. IsTrue (is_in_order a.mode)) (task_of p t).accesses
-
 -- ---- what a task finds
 
 -- the task runs on the worker, or is claimed by it and the cell is valid on the worker's node
