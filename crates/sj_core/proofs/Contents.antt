@@ -5,7 +5,7 @@ use Rattle.std.specs.List.{zip}
 use Rattle.std.specs.Prelude.{IsTrue}
 use Rattle.sj_codelet.specs.declared.kernel.Kernel.{Kernel}
 use Rattle.sj_core.proofs.Words.{Array, AtNode, Cell, Claimed, Done, Machine, Program, Progress, Running, State, Task, Waiting, Worker, dims_of, done_by, done_in, has_cell, is_done, is_task_of, no_task, node_of, progress, results, worked_on, worker_of, writes, written_cells, zeros}
-use Rattle.sj_deps.specs.Conflict.{Conflict, HasDependencies}
+use Rattle.sj_deps.specs.Conflict.{Conflict}
 use Rattle.sj_core.specs.Coherent.{Coherent, HasWorkers, OrderIsKept, content, is_begun}
 use Rattle.sj_core.specs.Fold.{Contents, after_chosen, after_task, held_in}
 use Rattle.sj_core.specs.Laws.{IsLawful}

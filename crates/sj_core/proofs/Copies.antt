@@ -15,7 +15,7 @@ use Rattle.sj_core.specs.Proper.{IsCombine, IsContribution, IsCopyOf, IsFirstUni
 use Rattle.sj_core.proofs.Dependencies.{not_both, one_is, own-of_phase}
 use Rattle.sj_core.proofs.Folding.{number}
 use Rattle.sj_core.proofs.Phases.{combine-after, combine-among, combine-reads, combine_at, contributes, copy-of, init-among, init-before, init_at}
-use Rattle.sj_core.proofs.PlainModes.{operand-inside}
+use Rattle.sj_core.proofs.OperandCells.{operand-inside}
 use Rattle.sj_core.proofs.Readiness.{AllPairs-two, Contains-filter}
 
 -- a mode is REDUX or not

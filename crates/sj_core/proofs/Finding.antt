@@ -1,30 +1,22 @@
 -- What a claimed or running task finds in the cells whose old value it reads; and which cells no running task writes, before and after a step.
-use Rattle.std.proofs.Common.{Bool, None, Option, Some, ap, arith, cond, false, get_or, inl, inr, length, not, refl, sym, true, ℕ, ◌&&◌, ◌<◌, ◌∙◌, ◌≡◌, ◌⊎◌, subst}
-use Rattle.std.proofs.lemmas.Bool.{and_parts, false_from_ne_true, false≢true, not-false, not-true}
-use Rattle.std.proofs.lemmas.Bool.Decides.{Decides-eqb}
-use Rattle.std.proofs.lemmas.List.Elements.{All-contains}
+use Rattle.std.proofs.Common.{Bool, None, Option, Some, ap, arith, cond, false, get_or, inl, inr, length, not, refl, sym, true, ℕ, ◌&&◌, ◌<◌, ◌∙◌, ◌≡◌, subst}
+use Rattle.std.proofs.lemmas.Bool.{and_parts, false_from_ne_true, false≢true, not-true}
 use Rattle.std.proofs.lemmas.List.Folds.{Any-from_list_any, list_any_at}
 use Rattle.std.proofs.lemmas.List.FromFn.{get_or-map-range_with_len, length-map-range_with_len}
 use Rattle.std.proofs.lemmas.List.Sums.{get_or-le-sum_by}
 use Rattle.std.specs.List.{Contains}
-use Rattle.std.specs.Prelude.{IfSome, IsTrue, count_by, is_some, unwrap_or}
-use Rattle.sj_core.proofs.Words.{Array, Cell, Machine, Program, Progress, Running, State, Task, Worker, cells_of, copy_of, data_operands, done_by, fresh_cells, has_cell, is_running_on, is_task_of, no_task, progress, same_cell, task_of, tasks_of, worked_on, worker_of, writes, written_cells, Waiting}
-use Rattle.sj_base.specs.Mode.{is_redux, is_scratch, is_written, reads_value, starts_as_zeros}
+use Rattle.std.specs.Prelude.{IfSome, count_by, is_some, unwrap_or}
+use Rattle.sj_core.proofs.Words.{Array, Cell, Machine, Program, Progress, Running, State, Task, Worker, cells_of, copy_of, done_by, has_cell, is_running_on, is_task_of, progress, same_cell, task_of, tasks_of, worked_on, worker_of, writes, written_cells, Waiting}
+use Rattle.sj_base.specs.Mode.{is_redux, is_written}
 use Rattle.sj_base.specs.declared.mode.Access.{Access}
-use Rattle.sj_base.specs.declared.mode.Mode.{Mode}
 use Rattle.sj_base.specs.declared.mode.Mode.TheVariants.{R}
 use Rattle.sj_deps.specs.Conflict.{HasDependencies}
-use Rattle.sj_core.specs.Coherent.{Coherent, has_written, is_being_written, HasRows}
-use Rattle.sj_core.specs.Proper.{HasValueBefore, Proper, gives_value}
-use Rattle.sj_core.specs.Step.{EarlierAreDone}
+use Rattle.sj_core.specs.Coherent.{Coherent, is_being_written, HasRows}
+use Rattle.sj_core.specs.Proper.{Proper, gives_value}
 use Rattle.sj_core.proofs.Advancing.{running_on-is, same_task, task_of-worker, Advances}
-use Rattle.sj_core.proofs.Folding.{read-among_cells}
-use Rattle.sj_core.proofs.Modes.{reads_isn't_scratch}
-use Rattle.sj_core.proofs.PlainModes.{operand-inside}
-use Rattle.sj_core.proofs.Readiness.{AllPairs-two, Contains-filter, Contains-from_filter}
 use Rattle.sj_core.proofs.Replicas.{same_worker-refl}
 use Rattle.sj_core.proofs.Separation.{separated}
-use Rattle.sj_core.proofs.Sharing.{one, operand-has_cell, operand_for}
+use Rattle.sj_core.proofs.Sharing.{one, operand-has_cell}
 use Rattle.sj_core.proofs.Reading.{progress-inside}
 
 -- ---- lists

@@ -28,7 +28,7 @@ use Rattle.sj_core.proofs.Finding.{being_written-by, gives-writes, task-counted}
 use Rattle.sj_core.proofs.Folding.{after_chosen-same, held-until, read-among_cells}
 use Rattle.sj_core.proofs.Found.{found-content}
 use Rattle.sj_core.proofs.Modes.{plain_isn't_redux, reads_isn't_scratch}
-use Rattle.sj_core.proofs.PlainModes.{operand-inside}
+use Rattle.sj_core.proofs.OperandCells.{operand-inside}
 use Rattle.sj_core.proofs.Readiness.{Contains-filter}
 use Rattle.sj_core.proofs.Reading.{progress-inside}
 use Rattle.sj_core.proofs.Replicas.{same_worker-refl}

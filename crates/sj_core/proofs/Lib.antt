@@ -31,10 +31,10 @@ pub mod MovingIn
 pub mod MovingOut
 pub mod Once
 pub mod Opening
+pub mod OperandCells
 pub mod Payments
 pub mod Phases
 pub mod Placing
-pub mod PlainModes
 pub mod Readiness
 pub mod Reading
 pub mod Reduction

@@ -19,7 +19,7 @@ use Rattle.sj_core.specs.Proper.{IsContribution, IsCopyOf, IsFirstUnit, IsMember
 use Rattle.sj_core.proofs.Combining.{contributing-exchange}
 use Rattle.sj_core.proofs.Dependencies.{Proper-dependencies, own-of_phase}
 use Rattle.sj_core.proofs.Exchanging.{ContributionsExchange}
-use Rattle.sj_core.proofs.PlainModes.{operand-inside}
+use Rattle.sj_core.proofs.OperandCells.{operand-inside}
 use Rattle.sj_core.proofs.Readiness.{Contains-filter}
 use Rattle.sj_core.proofs.Sharing.{manner_of, redux-has_copies}
 use Rattle.sj_core.proofs.Updating.{operand-used}

@@ -22,7 +22,7 @@ use Rattle.sj_core.proofs.Depending.{step-same}
 use Rattle.sj_core.proofs.Folding.{after_chosen-same, after_task-other, number, read-among_cells}
 use Rattle.sj_core.proofs.Modes.{reads_isn't_scratch}
 use Rattle.sj_core.proofs.Phases.{Contributes, combine-after, combine-among, combine-reads, combine_at, contributes, copy-of, init-among, init-before, init_at, reduces}
-use Rattle.sj_core.proofs.PlainModes.{operand-inside}
+use Rattle.sj_core.proofs.OperandCells.{operand-inside}
 use Rattle.sj_core.proofs.Reading.{same_cell-is}
 use Rattle.sj_core.proofs.Sharing.{operand_for}
 use Rattle.sj_core.proofs.Sized.{AreSized, after_chosen-sized}
