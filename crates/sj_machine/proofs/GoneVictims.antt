@@ -21,12 +21,13 @@ use Rattle.sj_core.proofs.Words.{AtNode, Cell, Invalid, Machine, Node, OnDisk, P
 use Rattle.sj_core.specs.Laws.{IsSound}
 use Rattle.sj_core.specs.Step.{EndsMove, Step, after, array_at, mover_of}
 use Rattle.sj_core.specs.declared.progress.Transfer.{Transfer}
+use Rattle.sj_disk.specs.Directory.{DiskState}
 use Rattle.sj_machine.specs.Agrees.{Rows}
 use Rattle.sj_machine.specs.Choosing.{leaves_in}
 use Rattle.sj_machine.specs.Copies.{Copies}
 use Rattle.sj_machine.specs.Gone.{AreGone, AreGoneIn, KnowsGone}
 use Rattle.sj_machine.specs.Sound.{IsSoundRun, Keeps}
-use Rattle.sj_machine.specs.Standing.{CanHappen, HasMoved, Standing, state, with_event}
+use Rattle.sj_machine.specs.Standing.{CanHappen, HasMoved, Standing, starting, state, with_event}
 use Rattle.sj_machine.proofs.NextRows.{leaves, list_all-agree}
 
 -- ---- lists
@@ -201,9 +202,9 @@ module _ (p : Program) (m : Machine) (s : State) (h : IsSound p m s) (v : Worker
 abbrev pub Knows : {D : Type 0} → Standing D → List ℕ → Type 0
 Knows run gone = KnowsGone run.program.workers run.machine (state run) gone
 
-pub knows-none : {D : Type 0} (run : Standing D) (n : ℕ) → n ≡ run.program.workers → (gone : List ℕ) → gone ≡ replicate n 0 → Knows run gone
-knows-none run n many gone is = subst (λ (ks : List ℕ). Knows run ks) (sym is) (record {
-  every_worker = length-replicate {A = ℕ} n 0 ∙ many;
+pub knows-none : {D : Type 0} (p : Program) (m : Machine) (disks : DiskState D) (run : Standing D) → run ≡ starting p m disks → (n : ℕ) → n ≡ p.workers → (gone : List ℕ) → gone ≡ replicate n 0 → Knows run gone
+knows-none p m disks run starts n many gone is = subst (λ (ks : List ℕ). Knows run ks) (sym is) (record {
+  every_worker = length-replicate {A = ℕ} n 0 ∙ many ∙ ap (λ (r : Standing _). r.program.workers) (sym starts);
   gone = λ w. ap (λ (k : ℕ). list_all (is_gone run.machine (state run) w) (take k (reverse (victims_of (state run) w)))) (elim (cases_lt w.0 n) [ inl inside ↦ get_or-replicate n w.0 0 0 inside | inr past ↦ get_or_past (replicate n 0) w.0 0 (omega (arith, past, length-replicate {A = ℕ} n 0)) ]);
 })
 

@@ -14,10 +14,10 @@ pub invariant_of-self : goal.invariant_of-self
 invariant_of-self g c =
     let can = subst (λ (b : BoardState _). CanHappen b.run (Move c.args.cell c.args.from c.args.to)) (sym c.self.view_is) c.requires.can in
     record {
-  board = keeps-tried _ _ _ _ _ _ c.begin_move.result (Move c.args.cell c.args.from c.args.to) _ c.begin_move.ensures.ok c.begin_move.ensures.err refl c.self.invariant.board;
-  ends = stays-tried g.D.Disk.held c.self.inside.run _ _ _ _ c.self.invariant.ends c.begin_move.result (Move c.args.cell c.args.from c.args.to) _ c.begin_move.ensures.ok c.begin_move.ensures.err refl;
-  victims = knows-tried _ _ _ _ c.self.inside.run c.is_sound.ensures _ c.self.invariant.victims c.begin_move.result (Move c.args.cell c.args.from c.args.to) can (λ v. tt) _ c.begin_move.ensures.ok c.begin_move.ensures.err;
-}
+      board = keeps-tried _ _ _ _ _ _ c.begin_move.result (Move c.args.cell c.args.from c.args.to) _ c.begin_move.ensures.ok c.begin_move.ensures.err refl c.self.invariant.board;
+      ends = stays-tried g.D.Disk.held c.self.inside.run _ _ _ _ c.self.invariant.ends c.begin_move.result (Move c.args.cell c.args.from c.args.to) _ c.begin_move.ensures.ok c.begin_move.ensures.err refl;
+      victims = knows-tried _ _ _ _ c.self.inside.run c.is_sound.ensures _ c.self.invariant.victims c.begin_move.result (Move c.args.cell c.args.from c.args.to) can (λ v. tt) _ c.begin_move.ensures.ok c.begin_move.ensures.err;
+    }
 
 pub returns-clause-spares : goal.returns-clause-spares
 returns-clause-spares g c =

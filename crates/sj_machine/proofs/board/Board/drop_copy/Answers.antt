@@ -19,7 +19,7 @@ gone-gone-requires-clause-known g c =
     let can = subst (λ (b : BoardState _). CanHappen b.run (Drop c.args.cell (node_of b.run.machine c.args.w))) (sym c.self.view_is) c.requires.can in
     let known = knows-event _ _ _ _ c.self.inside.run c.is_sound.ensures _ c.self.invariant.victims (Drop c.args.cell (node_of c.self.inside.run.machine c.args.w)) can (λ v. tt) _ (c.drop_copy.ensures ∙ ap (λ (e : Event). with_event c.self.inside.run e) at) in
     let inside : c.args.w.0 < length c.self.inside.gone.items = omega (arith, busy.works.known, c.self.invariant.victims.every_worker) in
-    knows-read _ _ known c.args.w inside c.index.result.now _ c.index.ensures
+    knows-read c.drop_copy.new.self c.self.inside.gone.items known c.args.w inside c.index.result.now _ c.index.ensures
 
 pub invariant_of-self : goal.invariant_of-self
 invariant_of-self g c =
@@ -27,10 +27,10 @@ invariant_of-self g c =
     let can = subst (λ (b : BoardState _). CanHappen b.run (Drop c.args.cell (node_of b.run.machine c.args.w))) (sym c.self.view_is) c.requires.can in
     let known = knows-event _ _ _ _ c.self.inside.run c.is_sound.ensures _ c.self.invariant.victims (Drop c.args.cell (node_of c.self.inside.run.machine c.args.w)) can (λ v. tt) _ (c.drop_copy.ensures ∙ ap (λ (e : Event). with_event c.self.inside.run e) at) in
     record {
-  board = keeps-run _ _ _ _ _ _ _ _ c.drop_copy.ensures refl c.self.invariant.board;
-  ends = stays g.D.Disk.held c.self.inside.run _ _ _ _ c.self.invariant.ends _ _ c.drop_copy.ensures refl;
-  victims = knows-found _ _ known c.args.w c.gone-gone.result c.gone-gone.ensures _ c.note_gone.ensures;
-}
+      board = keeps-run _ _ _ _ _ _ _ _ c.drop_copy.ensures refl c.self.invariant.board;
+      ends = stays g.D.Disk.held c.self.inside.run _ _ _ _ c.self.invariant.ends _ _ c.drop_copy.ensures refl;
+      victims = knows-found c.drop_copy.new.self c.self.inside.gone.items known c.args.w c.gone-gone.result c.gone-gone.ensures _ c.note_gone.ensures;
+    }
 
 pub returns-clause-spares : goal.returns-clause-spares
 returns-clause-spares g c =

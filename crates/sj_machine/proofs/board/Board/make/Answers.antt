@@ -15,5 +15,5 @@ invariant_of-result g c =
     record {
       board = opens-with _ _ _ c.args.program.value c.args.machine c.args.disks some _ _ _ _ _ c.in-Ok.parts.delivered.pairs (ap (λ (x : Deliveries). x.pairs) delivers.none) c.in-Ok-make.ensures.ok parts;
       ends = opens-run g.D.Disk.held c.args.program.value c.args.machine c.args.disks _ c.in-Ok-make.ensures.ok _ _ delivers _ (search rules);
-      victims = search rules;
+      victims = knows-none c.args.program.value c.args.machine c.args.disks _ c.in-Ok-make.ensures.ok c.deref-2.result.now.workers (ap (λ (p : Program). p.workers) c.deref-2.ensures) c.in-Ok-none_gone.gone.items c.in-Ok-none_gone.ensures;
     }
