@@ -1,12 +1,15 @@
 //! A job made ready: its program, and the machine that is to run it.
 
-ghost use Rattle.std.specs.Prelude.{◌≡◌, ◌<◌, ◌≤◌, ◌^◌, Bool, IsTrue, All, FitsSigned, IfOk, IfErr, None, length};
+ghost use Rattle.std.specs.Prelude.{◌≡◌, ◌<◌, ◌≤◌, ◌^◌, Bool, IsTrue, All, FitsSigned, IfOk, IfErr, None, Ok, length};
 ghost use Rattle.std.specs.Int.{w64};
 ghost use Rattle.sj_codelet.specs.Laws.{CommutingCommute, ContributingContribute, ReductionsReduce};
 ghost use Rattle.sj_codelet.specs.declared.kernel.Kernel.{Kernel};
 ghost use Rattle.sj_core.specs.Laws.{IsLawful, is_known};
 ghost use Rattle.sj_core.specs.Proper.{HasSwapFor, Proper};
-ghost use Rattle.sj_job.specs.View.{statements_of, IsNumbered};
+ghost use Rattle.sj_job.specs.Reading.{job_of, IsRefusal};
+ghost use Rattle.sj_job.specs.State.{start};
+ghost use Rattle.sj_job.specs.View.{statements_of, job_seen, IsNumbered};
+ghost use Rattle.sj_job.specs.Well.{IsWell};
 ghost use Rattle.sj_lower.specs.Delivering.{DeliversPrinted, NamesDeliverTasks};
 ghost use Rattle.sj_lower.specs.Job.{IsJob, IsJobIn};
 ghost use Rattle.sj_lower.specs.Limits.{late_limit};
@@ -25,6 +28,7 @@ use sj_base::sequence::Sequence;
 use sj_codelet::set::Codelets;
 use sj_job::job::Job;
 use sj_job::read::read;
+use sj_job::reason::ReadRefusal;
 use sj_job::roots::Roots;
 use sj_job::settings::Settings;
 use sj_lower::lower::{LoweredJob, lower};
@@ -127,8 +131,20 @@ fn lowered_for(alloc: Global, job: Job, machine: Machine, shows_trace: bool) -> 
     })
 }
 
+/// The job of a text, whose memory is given back. Linear in the text, but that codelets are looked up in the table.
+fn read_whole<C: Codelets>(alloc: Global, text: Vec<u8>, codelets: &C) -> Result<Job, ReadRefusal>
+    ensures ok { IfOk result (λ job. job_of C.has text.items ≡ Ok (job_seen job)) }
+    ensures err { IfErr result (λ e. IsRefusal e (job_of C.has text.items)) }
+    ensures within { IfOk result (λ job. IsWithinLimits job.settings) }
+    ensures well { IfOk result (λ job. IsWell C.has 0 start (statements_of job)) }
+    ensures numbered { IfOk result (λ job. IsNumbered job.roots job.statements) }
+{
+    read(alloc, &text, codelets)
+}
+
 /// A job text made ready to be run on the machine that words ask for, else its settings, with disks of these sizes. The cost of
-/// reading, of lowering, and of what the program needs: linear in the text, the tasks, their accesses and the cells.
+/// reading, of lowering, and of what the program needs: linear in the text, the tasks, their accesses and the cells. The text is
+/// dropped as soon as it is read.
 ///
 /// # Errors
 ///
@@ -136,7 +152,7 @@ fn lowered_for(alloc: Global, job: Job, machine: Machine, shows_trace: bool) -> 
 /// blocks have no places on the disks; that an allocation was refused. In this order.
 pub fn prepare<C: Codelets>(
     alloc: Global,
-    text: &[u8],
+    text: Vec<u8>,
     options: &Options,
     disks: Vec<u64>,
     codelets: &C,
@@ -146,13 +162,13 @@ pub fn prepare<C: Codelets>(
     requires few { length disks.items ≤ 16 }
     requires small { All (λ n. n ≤ 2 ^ 40) disks.items }
     ensures ready { IfOk result (IsReady C.has
-        (work_of C.has options.now disks.items text.now)) }
+        (work_of C.has options.now disks.items text.items)) }
     ensures swap { IfOk result (λ r. HasSwapFor r.program.value r.machine) }
     ensures disks { IfOk result (λ r. r.machine.disks ≡ disks.items) }
     ensures stopped { IfErr result (IsStopped
-        (work_of C.has options.now disks.items text.now)) }
+        (work_of C.has options.now disks.items text.items)) }
 {
-    let job = read(alloc, text, codelets)?;
+    let job = read_whole(alloc, text, codelets)?;
     let machine = machine_for(alloc, options, &job.settings, disks)?;
     let ready = lowered_for(alloc, job, machine, options.trace)?;
     arguments_fit(&ready.program);

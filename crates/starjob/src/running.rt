@@ -151,7 +151,7 @@ fn run_ready<C: Codelets, G: Gate, D: Disk + Send, R: Threads + Wait + Sync>(
 pub fn run_text<C: Codelets, G: Gate, D: Disk + Send, R: Threads + Wait + Sync>(
     rt: &R,
     alloc: Global,
-    text: &[u8],
+    text: Vec<u8>,
     options: &Options,
     disks: Vec<D>,
     codelets: &C,
@@ -161,10 +161,10 @@ pub fn run_text<C: Codelets, G: Gate, D: Disk + Send, R: Threads + Wait + Sync>(
     requires options { AreLimited options.now }
     requires few { length disks.items ≤ 16 }
     requires small { AreWithin D.size (2 ^ 40) disks.items }
-    ensures runs { RunsWork (work_of C.has options.now (map D.size disks.items) text.now)
+    ensures runs { RunsWork (work_of C.has options.now (map D.size disks.items) text.items)
         (AllTell D.held disks.items) result.text result.trace.events }
     ensures disks { LeavesDisks D.size D.faults D.mismatches D.held
-        (Some (work_of C.has options.now (map D.size disks.items) text.now))
+        (Some (work_of C.has options.now (map D.size disks.items) text.items))
         (status_of result.text) result.trace.events disks.items result.disks.items }
 {
     let Ok(sizes) = sizes_of(alloc, &disks) else {

@@ -190,7 +190,7 @@ fn what_a_disk_sees_agrees_with_the_trace(rt: HostRuntime) -> Result<(), Fail> {
     };
     let options = read_words(alloc, &[])?;
     let disks = only(alloc, disk)?;
-    let text = THREE.as_bytes();
+    let text = THREE.as_bytes().to_vec(alloc)?;
     let run = run_text(&rt, alloc, text, &options, disks, &Library, &OpenGate);
     let Run { text, trace, disks } = run;
     assert_eq!(rt; text?.as_slice(), b"a: 1 2 3\n".as_slice());
@@ -228,7 +228,7 @@ fn first_block<D: Disk>(disk: &mut D) -> Option<[u8; 48]> {
 fn a_text_of_the_trace_of_three_arrays(rt: HostRuntime) -> Result<(), Fail> {
     let alloc = rt.alloc();
     let disks = whole(alloc, ROUND_SWAP)?;
-    let text = THREE.as_bytes();
+    let text = THREE.as_bytes().to_vec(alloc)?;
     let mut answer = answer_on(&rt, alloc, &["--trace"], text, disks, &OpenGate)?;
     assert_eq!(rt; answer.outcome.status, Status::Done);
     assert_eq!(rt; answer.out.taken(), THREE_TRACED.as_bytes());
@@ -242,7 +242,7 @@ fn a_set_of_ring_codelets_alone_runs_contributions(rt: HostRuntime) -> Result<()
     let alloc = rt.alloc();
     let options = read_words(alloc, &[])?;
     let disks = only(alloc, memory(alloc, DISK, &[])?)?;
-    let text = DOTS.as_bytes();
+    let text = DOTS.as_bytes().to_vec(alloc)?;
     let run = run_text(&rt, alloc, text, &options, disks, &Ring, &OpenGate);
     assert_eq!(rt; run.text?.as_slice(), b"s: 205\n".as_slice());
     Ok(())

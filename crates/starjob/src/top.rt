@@ -73,7 +73,7 @@ fn write_printed<O: Sink>(out: &mut O, text: &[u8]) -> Status
 fn answer_text<O: Sink, C: Codelets, G: Gate, D: Disk + Send, R: Threads + Wait + Sync>(
     rt: &R,
     alloc: Global,
-    text: &[u8],
+    text: Vec<u8>,
     options: &Options,
     out: &mut O,
     disks: Vec<D>,
@@ -85,14 +85,14 @@ fn answer_text<O: Sink, C: Codelets, G: Gate, D: Disk + Send, R: Threads + Wait 
     requires few { length disks.items ≤ 16 }
     requires small { AreWithin D.size (2 ^ 40) disks.items }
     ensures answered { AnsweredText
-        (work_of C.has options.now (map D.size disks.items) text.now)
+        (work_of C.has options.now (map D.size disks.items) text.items)
         (AllTell D.held disks.items) result.status
         (seen O.taken O.faults out.old) (seen O.taken O.faults out.new) result.trace.events }
     ensures disks { LeavesDisks D.size D.faults D.mismatches D.held
-        (Some (work_of C.has options.now (map D.size disks.items) text.now))
+        (Some (work_of C.has options.now (map D.size disks.items) text.items))
         result.status result.trace.events disks.items result.disks.items }
     ensures out_stays { IsBeforeWriting result.status → out.new ≡ out.old }
-    ensures out_stays_in_silence { IsOkAnd (work_of C.has options.now (map D.size disks.items) text.now) PrintsNothing →
+    ensures out_stays_in_silence { IsOkAnd (work_of C.has options.now (map D.size disks.items) text.items) PrintsNothing →
         out.new ≡ out.old }
 {
     let Run { text, trace, disks } = run_text(rt, alloc, text, options, disks, codelets, gate);
@@ -159,7 +159,7 @@ where
         PrintsNothing → out.new ≡ out.old }
 {
     match read_source(alloc, source) {
-        Ok(text) => answer_text(rt, alloc, &text, options, out, disks, codelets, gate),
+        Ok(text) => answer_text(rt, alloc, text, options, out, disks, codelets, gate),
         Err(Unread::Fault) => unread(alloc, Status::SourceFault, disks),
         Err(Unread::OutOfMemory) => unread(alloc, Status::OutOfMemory, disks),
     }

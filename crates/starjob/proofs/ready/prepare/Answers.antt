@@ -24,7 +24,7 @@ returns-in_err-ready-clause-stopped g c =
     let has = g.C.Codelets.has in
     let o = c.args.options.now in
     let disks = c.args.disks.items in
-    let text = c.args.text.now in
+    let text = c.args.text.items in
     let m = c.in_ok-machine.machine in
     let job = job_seen c.in_ok-job.job in
     let w : Work = record { statements = job.statements; machine = m; shows_trace = o.trace } in
@@ -37,7 +37,7 @@ returns-in_err-fits-clause-stopped g c =
     let has = g.C.Codelets.has in
     let o = c.args.options.now in
     let disks = c.args.disks.items in
-    let text = c.args.text.now in
+    let text = c.args.text.items in
     let m = c.in_ok-machine.machine in
     let job = job_seen c.in_ok-job.job in
     let w : Work = record { statements = job.statements; machine = m; shows_trace = o.trace } in
@@ -52,7 +52,7 @@ returns-clause-ready g c =
     let has = g.C.Codelets.has in
     let o = c.args.options.now in
     let disks = c.args.disks.items in
-    let text = c.args.text.now in
+    let text = c.args.text.items in
     let m = c.in_ok-machine.machine in
     let job = job_seen c.in_ok-job.job in
     let w : Work = record { statements = job.statements; machine = m; shows_trace = o.trace } in

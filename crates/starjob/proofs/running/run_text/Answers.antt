@@ -14,14 +14,14 @@ use Rattle.starjob.proofs.running.run_text.Goals as goal
 pub returns-in_default-clause-runs : goal.returns-in_default-clause-runs
 returns-in_default-clause-runs g c =
     let none = c.nothing_run in
-    let asked = work_of g.C.Codelets.has c.args.options.now (map g.D.Disk.size c.args.disks.items) c.args.text.now in
+    let asked = work_of g.C.Codelets.has c.args.options.now (map g.D.Disk.size c.args.disks.items) c.args.text.items in
     subst (λ (r : Result (Vec ℕ Global) Stop). RunsWork asked (AllTell g.D.Disk.held c.args.disks.items) r none.result.trace.events) (sym none.ensures.text)
     (began_empty asked none.result.trace.events none.ensures.trace)
 
 pub returns-in_default-clause-disks : goal.returns-in_default-clause-disks
 returns-in_default-clause-disks g c =
     let none = c.nothing_run in
-    let asked = work_of g.C.Codelets.has c.args.options.now (map g.D.Disk.size c.args.disks.items) c.args.text.now in
+    let asked = work_of g.C.Codelets.has c.args.options.now (map g.D.Disk.size c.args.disks.items) c.args.text.items in
     leaves-nothing g.D.Disk.size g.D.Disk.faults g.D.Disk.mismatches g.D.Disk.held asked (Some asked) OutOfMemory none.result.text none.result.trace.events c.args.disks.items none.result.disks.items
     none.ensures.text (ap (λ (v : Vec g.row.D.Denot Global). v.items) none.ensures.disks) tt
 
@@ -33,15 +33,15 @@ prepare-requires-clause-small g c κs within =
 pub returns-in-Ok-prepare-clause-disks : goal.returns-in-Ok-prepare-clause-disks
 returns-in-Ok-prepare-clause-disks g c =
     let sizes = c.in-Ok.ensures ∙ ap (map g.D.Disk.size) c.deref.ensures.value in
-    let P : List ℕ → Type 0 = λ ns. LeavesDisks g.D.Disk.size g.D.Disk.faults g.D.Disk.mismatches g.D.Disk.held (Some (work_of g.C.Codelets.has c.args.options.now ns c.args.text.now)) (status_of c.run_ready.result.text) c.run_ready.result.trace.events c.args.disks.items c.run_ready.result.disks.items in
-    subst P sizes (c.run_ready.ensures.disks (work_of g.C.Codelets.has c.args.options.now c.in-Ok.sizes.items c.args.text.now) c.in-Ok-prepare.ensures.ready)
+    let P : List ℕ → Type 0 = λ ns. LeavesDisks g.D.Disk.size g.D.Disk.faults g.D.Disk.mismatches g.D.Disk.held (Some (work_of g.C.Codelets.has c.args.options.now ns c.args.text.items)) (status_of c.run_ready.result.text) c.run_ready.result.trace.events c.args.disks.items c.run_ready.result.disks.items in
+    subst P sizes (c.run_ready.ensures.disks (work_of g.C.Codelets.has c.args.options.now c.in-Ok.sizes.items c.args.text.items) c.in-Ok-prepare.ensures.ready)
 
 pub returns-in-Err-clause-runs : goal.returns-in-Err-clause-runs
 returns-in-Err-clause-runs g c =
     let none = c.nothing_run-in-Err in
     let sizes = c.in-Ok.ensures ∙ ap (map g.D.Disk.size) c.deref.ensures.value in
-    let asked = work_of g.C.Codelets.has c.args.options.now (map g.D.Disk.size c.args.disks.items) c.args.text.now in
-    let stopped : IsStopped asked c.in-Err.stop = subst (λ (ns : List ℕ). IsStopped (work_of g.C.Codelets.has c.args.options.now ns c.args.text.now) c.in-Err.stop) sizes c.in-Err.ensures.stopped in
+    let asked = work_of g.C.Codelets.has c.args.options.now (map g.D.Disk.size c.args.disks.items) c.args.text.items in
+    let stopped : IsStopped asked c.in-Err.stop = subst (λ (ns : List ℕ). IsStopped (work_of g.C.Codelets.has c.args.options.now ns c.args.text.items) c.in-Err.stop) sizes c.in-Err.ensures.stopped in
     subst (λ (r : Result (Vec ℕ Global) Stop). RunsWork asked (AllTell g.D.Disk.held c.args.disks.items) r none.result.trace.events) (sym none.ensures.text)
     (stops-unrun asked c.in-Err.stop none.result.trace.events stopped none.ensures.trace)
 
@@ -49,7 +49,7 @@ pub returns-in-Err-clause-disks : goal.returns-in-Err-clause-disks
 returns-in-Err-clause-disks g c =
     let none = c.nothing_run-in-Err in
     let sizes = c.in-Ok.ensures ∙ ap (map g.D.Disk.size) c.deref.ensures.value in
-    let asked = work_of g.C.Codelets.has c.args.options.now (map g.D.Disk.size c.args.disks.items) c.args.text.now in
-    let stopped : IsStopped asked c.in-Err.stop = subst (λ (ns : List ℕ). IsStopped (work_of g.C.Codelets.has c.args.options.now ns c.args.text.now) c.in-Err.stop) sizes c.in-Err.ensures.stopped in
+    let asked = work_of g.C.Codelets.has c.args.options.now (map g.D.Disk.size c.args.disks.items) c.args.text.items in
+    let stopped : IsStopped asked c.in-Err.stop = subst (λ (ns : List ℕ). IsStopped (work_of g.C.Codelets.has c.args.options.now ns c.args.text.items) c.in-Err.stop) sizes c.in-Err.ensures.stopped in
     leaves-nothing g.D.Disk.size g.D.Disk.faults g.D.Disk.mismatches g.D.Disk.held asked (Some asked) c.in-Err.stop none.result.text none.result.trace.events c.args.disks.items none.result.disks.items
     none.ensures.text (ap (λ (v : Vec g.row.D.Denot Global). v.items) none.ensures.disks) stopped

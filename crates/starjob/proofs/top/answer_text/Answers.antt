@@ -11,7 +11,7 @@ use Rattle.starjob.proofs.top.answer_text.Goals as goal
 
 pub returns-in-Ok-clause-answered : goal.returns-in-Ok-clause-answered
 returns-in-Ok-clause-answered g c =
-    let asked : WorkOrRefusal = work_of g.C.Codelets.has c.args.options.now (map g.D.Disk.size c.args.disks.items) c.args.text.now in
+    let asked : WorkOrRefusal = work_of g.C.Codelets.has c.args.options.now (map g.D.Disk.size c.args.disks.items) c.args.text.items in
     let Tells = AllTell g.D.Disk.held c.args.disks.items in
     let trace = c.run_text-text.result.trace.events in
     let text = c.in-Ok.printed.items in
@@ -23,7 +23,7 @@ returns-in-Ok-clause-answered g c =
 
 pub returns-in-Ok-clause-disks : goal.returns-in-Ok-clause-disks
 returns-in-Ok-clause-disks g c =
-    let asked : WorkOrRefusal = work_of g.C.Codelets.has c.args.options.now (map g.D.Disk.size c.args.disks.items) c.args.text.now in
+    let asked : WorkOrRefusal = work_of g.C.Codelets.has c.args.options.now (map g.D.Disk.size c.args.disks.items) c.args.text.items in
     let trace = c.run_text-text.result.trace.events in
     let old = c.args.disks.items in
     let new = c.run_text-text.result.disks.items in
@@ -34,7 +34,7 @@ returns-in-Ok-clause-disks g c =
 
 pub returns-in-Ok-clause-out_stays_in_silence : goal.returns-in-Ok-clause-out_stays_in_silence
 returns-in-Ok-clause-out_stays_in_silence g c = λ nothing.
-    let asked : WorkOrRefusal = work_of g.C.Codelets.has c.args.options.now (map g.D.Disk.size c.args.disks.items) c.args.text.now in
+    let asked : WorkOrRefusal = work_of g.C.Codelets.has c.args.options.now (map g.D.Disk.size c.args.disks.items) c.args.text.items in
     let Tells = AllTell g.D.Disk.held c.args.disks.items in
     let trace = c.run_text-text.result.trace.events in
     let is : IsOkAnd asked (IsTextOf Tells trace c.in-Ok.printed.items) = subst (λ (r : Result (Vec ℕ Global) Stop). RunsWork asked Tells r trace) c.in-Ok.is c.run_text-text.ensures.runs in
@@ -42,7 +42,7 @@ returns-in-Ok-clause-out_stays_in_silence g c = λ nothing.
 
 pub returns-in-Err-clause-answered : goal.returns-in-Err-clause-answered
 returns-in-Err-clause-answered g c =
-    let asked : WorkOrRefusal = work_of g.C.Codelets.has c.args.options.now (map g.D.Disk.size c.args.disks.items) c.args.text.now in
+    let asked : WorkOrRefusal = work_of g.C.Codelets.has c.args.options.now (map g.D.Disk.size c.args.disks.items) c.args.text.items in
     let Tells = AllTell g.D.Disk.held c.args.disks.items in
     let trace = c.run_text-text.result.trace.events in
     let out = seen g.O.Sink.taken g.O.Sink.faults c.args.out.now in
@@ -51,7 +51,7 @@ returns-in-Err-clause-answered g c =
 
 pub returns-in-Err-clause-disks : goal.returns-in-Err-clause-disks
 returns-in-Err-clause-disks g c =
-    let asked : WorkOrRefusal = work_of g.C.Codelets.has c.args.options.now (map g.D.Disk.size c.args.disks.items) c.args.text.now in
+    let asked : WorkOrRefusal = work_of g.C.Codelets.has c.args.options.now (map g.D.Disk.size c.args.disks.items) c.args.text.items in
     let trace = c.run_text-text.result.trace.events in
     let old = c.args.disks.items in
     let new = c.run_text-text.result.disks.items in

@@ -1,9 +1,7 @@
-use Rattle.std.proofs.Common.{◌≡◌, ◌≤◌, IfSome, List, ℕ, length, map, ap, subst, sym, Some, Result, Err, Vec, Global}
+use Rattle.std.proofs.Common.{◌≡◌, ℕ, map, ap, subst, sym, Some, Result, Err, Vec, Global}
 use Rattle.std.specs.Prelude.{IsOkAnd, option_map}
-use Rattle.std.specs.Io.KnownBytes.{IsAtEnd}
 use Rattle.sj_edge.specs.Faults.{counted}
 use Rattle.sj_engine.specs.Outcome.{AllTell, HoldBlocks}
-use Rattle.sj_job.specs.Reading.{job_of, text_limit}
 use Rattle.starjob.specs.declared.source_text.Unread.{Unread}
 use Rattle.starjob.specs.declared.status.Status.{Status}
 use Rattle.starjob.specs.Answers.{Answered}
@@ -18,12 +16,10 @@ pub returns-in-Ok-clause-answered : goal.returns-in-Ok-clause-answered
 returns-in-Ok-clause-answered g c =
     let r = c.in-Ok.ensures in
     let has = g.C.Codelets.has in
-    let e = sym c.deref.ensures.value in
     answered-by has c.args.options.now (map g.D.Disk.size c.args.disks.items) (AllTell g.D.Disk.held c.args.disks.items)
     (seen g.S.Source.left g.S.Source.faults c.args.source.now) (seen g.S.Source.left g.S.Source.faults c.read_source.new.source)
-    (seen g.O.Sink.taken g.O.Sink.faults c.args.out.now) (seen g.O.Sink.taken g.O.Sink.faults c.answer_text.new.out) c.deref.result.now c.answer_text.result.trace.events
-    (subst (λ (t : List ℕ). IfSome (g.S.Source.left c.args.source.now) (λ whole. job_of has whole ≡ job_of has t)) e (r.job has)) r.read
-    (subst (λ (t : List ℕ). length t ≤ text_limit → IsAtEnd (g.S.Source.left c.read_source.new.source)) e r.end)
+    (seen g.O.Sink.taken g.O.Sink.faults c.args.out.now) (seen g.O.Sink.taken g.O.Sink.faults c.answer_text.new.out) c.in-Ok.text.items c.answer_text.result.trace.events
+    (r.job has) r.read r.end
     c.answer_text.result.status c.answer_text.ensures.answered
 
 pub returns-in-Ok-clause-disks : goal.returns-in-Ok-clause-disks
@@ -34,15 +30,15 @@ returns-in-Ok-clause-disks g c =
     let bytes = g.S.Source.left c.args.source.now in
     let trace = c.answer_text.result.trace.events in
     let new = c.answer_text.result.disks.items in
-    let same = subst (λ (t : List ℕ). IfSome bytes (λ whole. job_of has whole ≡ job_of has t)) (sym c.deref.ensures.value) (c.in-Ok.ensures.job has) in
-    leaves-as g.D.Disk.size g.D.Disk.faults g.D.Disk.mismatches g.D.Disk.held (Some (work_of has o sizes c.deref.result.now)) (option_map (work_of has o sizes) bytes) c.answer_text.result.status trace c.args.disks.items new
-    (told-of has o sizes bytes c.deref.result.now same (λ w. IsOkAnd w (λ v. HoldBlocks g.D.Disk.held (program_of v) v.machine trace new))) c.answer_text.ensures.disks
+    let same = c.in-Ok.ensures.job has in
+    leaves-as g.D.Disk.size g.D.Disk.faults g.D.Disk.mismatches g.D.Disk.held (Some (work_of has o sizes c.in-Ok.text.items)) (option_map (work_of has o sizes) bytes) c.answer_text.result.status trace c.args.disks.items new
+    (told-of has o sizes bytes c.in-Ok.text.items same (λ w. IsOkAnd w (λ v. HoldBlocks g.D.Disk.held (program_of v) v.machine trace new))) c.answer_text.ensures.disks
 
 pub returns-in-Ok-clause-out_stays_in_silence : goal.returns-in-Ok-clause-out_stays_in_silence
 returns-in-Ok-clause-out_stays_in_silence g c = λ silent.
     let has = g.C.Codelets.has in
-    c.answer_text.ensures.out_stays_in_silence (silent-by has c.args.options.now (map g.D.Disk.size c.args.disks.items) (g.S.Source.left c.args.source.now) c.deref.result.now
-    (subst (λ (t : List ℕ). IfSome (g.S.Source.left c.args.source.now) (λ whole. job_of has whole ≡ job_of has t)) (sym c.deref.ensures.value) (c.in-Ok.ensures.job has)) silent)
+    c.answer_text.ensures.out_stays_in_silence (silent-by has c.args.options.now (map g.D.Disk.size c.args.disks.items) (g.S.Source.left c.args.source.now) c.in-Ok.text.items
+    (c.in-Ok.ensures.job has) silent)
 
 pub returns-in-Err-Fault-clause-disks : goal.returns-in-Err-Fault-clause-disks
 returns-in-Err-Fault-clause-disks g c =
