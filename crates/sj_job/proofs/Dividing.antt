@@ -1,9 +1,11 @@
 -- A line is divided into its words one after another, and has as its bytes those of its words and blanks.
-use Rattle.std.proofs.Common.{◌≡◌, ℕ, suc, ◌+◌, ◌<◌, ◌≤◌, ◌&&◌, ◌||◌, not, Bool, true, false, List, [], ◌∷◌, ◌++◌, length, take, drop, filter, refl, ap, ◌∙◌, sym, cond, arith, nat_lt, length-take, length-drop, Some, None, unwrap_or, position, ◌-◌, subst}
+use Rattle.std.proofs.Common.{◌≡◌, ℕ, zero, suc, ◌+◌, ◌<◌, ◌≤◌, ◌&&◌, ◌||◌, not, Bool, true, false, List, [], ◌∷◌, ◌++◌, length, take, drop, filter, refl, ap, ◌∙◌, sym, cond, arith, nat_lt, length-take, length-drop, Some, None, unwrap_or, position, ◌-◌, subst, replicate, append_assoc, get_or}
 use Rattle.std.specs.List.{slice_split, onto_first, list_all, position_or_len}
 use Rattle.std.proofs.lemmas.Bool.Decides.{nat_tests}
 use Rattle.std.proofs.lemmas.List.Sums.{prefix_len-le-length}
-use Rattle.std.proofs.lemmas.List.{take_all, drop_all, append-nil}
+use Rattle.std.specs.Int.{from_le_bytes, to_le_bytes, w64}
+use Rattle.std.proofs.lemmas.Nat.{le_bytes_8}
+use Rattle.std.proofs.lemmas.List.{take_all, drop_all, append-nil, replicate_more, get_or-drop}
 use Rattle.std.proofs.lemmas.List.Elements.{filter-append}
 use Rattle.std.proofs.lemmas.List.Folds.{list_all-append}
 use Rattle.std.proofs.lemmas.List.Splits.{slice_split-cons_yes, slice_split-cons_no}
@@ -177,3 +179,27 @@ blank-allowed c t e f = ap (λ b. b || (nat_lt 32 c && nat_lt c 127)) (e ∙ f)
 pub allowed-before_blank : (line front : List ℕ) (c : ℕ) → line ≡ front ++ c ∷ [] → is_blank c ≡ true → list_all is_allowed front ≡ list_all is_allowed line
 allowed-before_blank line front c at e =
     sym (ap (list_all is_allowed) at ∙ list_all-append is_allowed front (c ∷ []) ∙ ap (λ b. list_all is_allowed front && (b && true)) (blank-allowed c (is_blank c) refl e) ∙ and_true (list_all is_allowed front))
+
+one-more : (front : List ℕ) (c n : ℕ) → front ++ replicate (suc n) c ≡ (front ++ replicate n c) ++ c ∷ []
+one-more front c n =
+    let e : suc n ≡ n + 1 = omega arith in
+    ap (λ k. front ++ replicate k c) e ∙ ap (λ ys. front ++ ys) (sym (replicate_more n c)) ∙ sym (append_assoc front (replicate n c) (c ∷ []))
+
+-- blanks at the end don't matter, however many
+pub words-before_blanks : (front : List ℕ) (c n : ℕ) → is_blank c ≡ true → words front ≡ words (front ++ replicate n c)
+words-before_blanks front c zero e = ap words (sym (append-nil front))
+words-before_blanks front c (suc n) e =
+    words-before_blanks front c n e ∙ words-before_blank (front ++ replicate (suc n) c) (front ++ replicate n c) c (one-more front c n) e
+
+pub allowed-before_blanks : (front : List ℕ) (c n : ℕ) → is_blank c ≡ true → list_all is_allowed front ≡ list_all is_allowed (front ++ replicate n c)
+allowed-before_blanks front c zero e = ap (list_all is_allowed) (sym (append-nil front))
+allowed-before_blanks front c (suc n) e =
+    allowed-before_blanks front c n e ∙ allowed-before_blank (front ++ replicate (suc n) c) (front ++ replicate n c) c (one-more front c n) e
+
+-- the last eight bytes of a line are spaces where they make the number of eight spaces
+pub eight-spaces : (line last : List ℕ) (k n : ℕ) → last ≡ drop k line → k + 8 ≡ length line → ((i : ℕ) → get_or line i 0 < 256) → n ≡ from_le_bytes w64 last → n ≡ 2314885530818453536 → last ≡ replicate 8 32
+eight-spaces line last k n e long fits reads value =
+    let eight : length last ≡ 8 = ap length e ∙ (length-drop k line ∙ omega arith) in
+    let small : (i : ℕ) → get_or last i 0 < 256 =
+    λ i. subst (λ xs. get_or xs i 0 < 256) (sym e) (subst (λ b. b < 256) (sym (get_or-drop k line i 0)) (fits (k + i))) in
+    sym (le_bytes_8 last n eight small reads) ∙ ap (to_le_bytes w64) value

@@ -2,6 +2,7 @@
 
 ghost use Rattle.std.specs.Prelude.{◌≡◌, ◌*◌, ◌^◌, Ok, ◌<◌, ◌≤◌, None, Some, true, false, filter, map, length, unwrap_or, All, IfOk, IfErr, IfNone, IsTrue, MatchOption};
 ghost use Rattle.std.specs.List.{list_all, list_any};
+ghost use Rattle.sj_codelet.specs.Kernel.{fits};
 ghost use Rattle.sj_plan.specs.Parts.{IsPlace};
 ghost use Rattle.sj_job.specs.declared.names.Names.{Names};
 ghost use Rattle.sj_job.specs.Form.{each_some};
@@ -429,8 +430,27 @@ fn is_shaped(
     if !targets_fit(kernel.formals(), targets) {
         return Ok(false);
     }
-    let dims = dims_of(alloc, targets)?;
-    Ok(kernel.fits(args, &dims))
+    dims_fit(alloc, kernel, args, targets)
+}
+
+/// Whether dimensions are as the codelet takes them. No memory for up to three operands.
+fn dims_fit(
+    alloc: Global,
+    kernel: Kernel,
+    args: &[i64],
+    targets: &[Target],
+) -> Result<bool, OutOfMemory>
+    ensures { IfOk result (λ b. b ≡ fits kernel args.now (target_dims targets.now)) }
+{
+    match targets {
+        [a] => Ok(kernel.fits(args, &[a.dims])),
+        [a, b] => Ok(kernel.fits(args, &[a.dims, b.dims])),
+        [a, b, c] => Ok(kernel.fits(args, &[a.dims, b.dims, c.dims])),
+        _ => {
+            let dims = dims_of(alloc, targets)?;
+            Ok(kernel.fits(args, &dims))
+        }
+    }
 }
 
 fn needs_value(mode: Mode) -> bool

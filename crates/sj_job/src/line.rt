@@ -1,6 +1,6 @@
 //! The lines of a text and the words of a line.
 
-ghost use Rattle.std.specs.Prelude.{◌≡◌, ◌==◌, ◌≤◌, ◌∷◌, [], length, map, not, position, MatchOption, IfOk};
+ghost use Rattle.std.specs.Prelude.{◌≡◌, ◌==◌, ◌≤◌, ◌∷◌, ◌++◌, [], length, replicate, map, not, position, MatchOption, IfOk, IfSome};
 ghost use Rattle.sj_job.specs.Word.{lines, words, is_blank, is_allowed, is_empty, is_skipped, begins_with, CutsOff};
 ghost use Rattle.std.specs.List.{list_all, position_or_len};
 ghost use Rattle.sj_job.specs.Sentence.{is_header};
@@ -39,16 +39,43 @@ pub fn is_blank(byte: u8) -> bool
     byte == b' ' || byte == b'\t' || byte == b'\r'
 }
 
+/// Eight spaces as a number.
+const SPACES: u64 = 0x2020_2020_2020_2020;
+
 /// A line without the blanks at its end. Linear in them.
 pub fn trimmed(line: &[u8]) -> &[u8]
     ensures words { words result.now ≡ words line.now }
     ensures allowed { list_all is_allowed result.now ≡ list_all is_allowed line.now }
 {
-    let mut rest = line;
+    let mut rest = without_eights(line);
     while let Some((last, front)) = rest.split_last() {
         if !is_blank(*last) {
             return rest;
         }
+        rest = front;
+    }
+    rest
+}
+
+/// What stands before the last eight bytes of a line, where these are spaces. Constant time.
+fn before_eight(line: &[u8]) -> Option<&[u8]>
+    ensures { IfSome result (λ front. line.now ≡ front.now ++ replicate 8 32) }
+{
+    let (front, last) = line.split_last_chunk::<8>()?;
+    if u64::from_le_bytes(*last) == SPACES {
+        Some(front)
+    } else {
+        None
+    }
+}
+
+/// A line without the spaces at its end that stand in eights. Linear in them.
+fn without_eights(line: &[u8]) -> &[u8]
+    ensures words { words result.now ≡ words line.now }
+    ensures allowed { list_all is_allowed result.now ≡ list_all is_allowed line.now }
+{
+    let mut rest = line;
+    while let Some(front) = before_eight(rest) {
         rest = front;
     }
     rest

@@ -240,18 +240,18 @@ fn with_priority<'a, 'b>(words: &'b [&'a [u8]]) -> (&'b [&'a [u8]], Option<Piece
     }
 }
 
-/// `CODELET OPERANDS`. Linear in the words.
-fn task_of<'a>(alloc: Global, words: &Words<'a>) -> Result<Option<TaskForm<'a>>, OutOfMemory>
-    ensures { IfOk result (λ task. task ≡ task_of words.now) }
+/// A codelet, its arguments, and the words behind them. Linear in these words.
+fn task_with<'a>(
+    alloc: Global,
+    codelet: Piece<'a>,
+    args: Pieces<'a>,
+    words: &[&'a [u8]],
+) -> Result<Option<TaskForm<'a>>, OutOfMemory>
+    ensures { IfOk result (λ task. task ≡ option_map
+        (λ os. record { codelet = codelet.entry; args = args.entry; operands = os; priority = (with_priority (map (λ w. w.now) words.now)).1 })
+        (each_some operand_of (with_priority (map (λ w. w.now) words.now)).0)) }
 {
-    let Some((first, rest)) = words.split_first() else {
-        return Ok(None);
-    };
-    let Some((codelet, args)) = bracketed(alloc, first, b'(', b')')? else {
-        return Ok(None);
-    };
-    let rest = rest.collect(alloc)?;
-    let (words, priority) = with_priority(&rest);
+    let (words, priority) = with_priority(words);
     match operands_of(alloc, words)? {
         Some(operands) => Ok(Some(TaskForm {
             codelet,
@@ -259,6 +259,46 @@ fn task_of<'a>(alloc: Global, words: &Words<'a>) -> Result<Option<TaskForm<'a>>,
             operands,
             priority,
         })),
+        None => Ok(None),
+    }
+}
+
+/// The same. No list of up to three words.
+fn task_behind<'a>(
+    alloc: Global,
+    codelet: Piece<'a>,
+    args: Pieces<'a>,
+    words: &Words<'a>,
+) -> Result<Option<TaskForm<'a>>, OutOfMemory>
+    ensures { IfOk result (λ task. task ≡ option_map
+        (λ os. record { codelet = codelet.entry; args = args.entry; operands = os; priority = (with_priority words.now).1 })
+        (each_some operand_of (with_priority words.now).0)) }
+{
+    let Some((a, rest)) = words.split_first() else {
+        return task_with(alloc, codelet, args, &[]);
+    };
+    let Some((b, rest)) = rest.split_first() else {
+        return task_with(alloc, codelet, args, &[a]);
+    };
+    let Some((c, rest)) = rest.split_first() else {
+        return task_with(alloc, codelet, args, &[a, b]);
+    };
+    let Some(_) = rest.split_first() else {
+        return task_with(alloc, codelet, args, &[a, b, c]);
+    };
+    let words = words.collect(alloc)?;
+    task_with(alloc, codelet, args, &words)
+}
+
+/// `CODELET OPERANDS`. Linear in the words.
+fn task_of<'a>(alloc: Global, words: &Words<'a>) -> Result<Option<TaskForm<'a>>, OutOfMemory>
+    ensures { IfOk result (λ task. task ≡ task_of words.now) }
+{
+    let Some((first, rest)) = words.split_first() else {
+        return Ok(None);
+    };
+    match bracketed(alloc, first, b'(', b')')? {
+        Some((codelet, args)) => task_behind(alloc, codelet, args, &rest),
         None => Ok(None),
     }
 }
