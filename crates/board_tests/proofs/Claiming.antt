@@ -1,0 +1,73 @@
+-- A free worker that is given a task and claims it has claimed it.
+use Rattle.std.proofs.Common.{◌≡◌, ℕ, ◌<◌, ◌∙◌, ◌||◌, Bool, List, Option, None, Some, false, true, ap, length, refl, subst, sym}
+use Rattle.std.proofs.lemmas.Bool.{false≢true}
+use Rattle.std.proofs.lemmas.List.{get_or-set_same}
+use Rattle.sj_base.specs.declared.ids.Task.{Task}
+use Rattle.sj_base.specs.declared.ids.Worker.{Worker}
+use Rattle.sj_base.specs.declared.trace.Event.TheVariants.{Claim}
+use Rattle.sj_core.specs.declared.progress.Progress.TheVariants.{Claimed}
+use Rattle.sj_core.specs.declared.progress.Transfer.{Transfer}
+use Rattle.sj_core.specs.Machine.{State, WorkerState, is_claimed_by, is_running_on, is_task_of, progress, transfer}
+use Rattle.sj_core.specs.Step.{after}
+use Rattle.sj_core.proofs.Reading.{progress-same, worker-same}
+use Rattle.sj_core.proofs.States.{state_of-more}
+use Rattle.sj_machine.specs.Board.{BoardState, IsFree, empty_hand, given_next, hand_of, has_claimed}
+use Rattle.sj_machine.specs.BoardSound.{IsSoundBoard}
+use Rattle.sj_machine.specs.Standing.{CanHappen, state}
+use Rattle.sj_machine.specs.declared.hand.Hand.{Hand}
+use Rattle.board_tests.specs.Steps.{HasClaimed}
+
+-- where it was given the task on the second board, and the third is that of its claim
+module _ {D : Type 0} (size faults mismatches : D → ℕ) (held : D → Option (List ℕ)) (b y z : BoardState D) (w : Worker) (t : Task) (sound : IsSoundBoard size faults mismatches held y) (free : IsFree b w) (no_fault : b.fault ≡ None) (gives : y ≡ given_next b w) (can : CanHappen y.run (Claim t w)) (claims : z ≡ has_claimed y t w) where
+  known : w.0 < y.run.program.workers
+  known = subst (λ (k : BoardState D). w.0 < k.run.program.workers) (sym gives) free.idle.works.known
+
+  kept : y.fault ≡ None
+  kept = ap (λ (k : BoardState D). k.fault) gives ∙ no_fault
+
+  goes-on : w.0 < length b.hands → (hand_of y w).has_stopped ≡ false
+  goes-on l = ap (λ (k : BoardState D). (hand_of k w).has_stopped) gives ∙ ap (λ (h : Hand). h.has_stopped) (get_or-set_same b.hands w.0 _ empty_hand l) ∙ free.idle.works.goes_on
+
+  no-task : w.0 < length b.hands → (hand_of y w).task ≡ None
+  no-task l = ap (λ (k : BoardState D). (hand_of k w).task) gives ∙ ap (λ (h : Hand). h.task) (get_or-set_same b.hands w.0 _ empty_hand l) ∙ free.idle.no_task
+
+  staffed : w.0 < length y.hands
+  staffed = subst (λ n. w.0 < n) (sym sound.inside.hands_agree.every_worker) known
+
+  hand : hand_of z w ≡ record (hand_of y w) { given = None; task = Some t }
+  hand = ap (λ (k : BoardState D). hand_of k w) claims ∙ get_or-set_same y.hands w.0 (record (hand_of y w) { given = None; task = Some t }) empty_hand staffed
+
+  now : state z.run ≡ after y.run.program y.run.machine (state y.run) (Claim t w)
+  now = ap (λ (k : BoardState D). state k.run) claims ∙ state_of-more y.run.program y.run.machine y.run.trace (Claim t w)
+
+  or-left : (a c : Bool) → a ≡ true → (a || c) ≡ true
+  or-left true c h = refl
+  or-left false c h = absurd (false≢true h)
+
+  -- a worker without a task has no transfer under way
+  none-moves : (hand_of y w).task ≡ None → (o : Option Transfer) → transfer (state y.run) w ≡ o → transfer (state y.run) w ≡ None
+  none-moves no_task None e = e
+  none-moves no_task (Some x) e =
+      let own = sound.run.coherent.workers.moves_for_claim w x e in
+      let has : is_task_of w (progress (state y.run) own.0) ≡ true = or-left (is_claimed_by w (progress (state y.run) own.0)) (is_running_on w (progress (state y.run) own.0)) own.1 in
+      let two = sym no_task ∙ sound.inside.hands_agree.tells kept w own.0 has in
+      absurd (let k : ◌≡◌ {A = Option Task} None (Some own.0) = two in cc)
+
+  rests : (hand_of y w).task ≡ None → transfer (state z.run) w ≡ None
+  rests no_task =
+      let staff : w.0 < length (state y.run).workers = subst (λ n. w.0 < n) (sym (sound.run.coherent.state.rows.workers ∙ sound.run.run.machine.workers)) known in
+      ap (λ (k : State). transfer k w) now ∙ ap (λ (k : WorkerState). k.transfer) (worker-same (state y.run) w _ staff) ∙ none-moves no_task (transfer (state y.run) w) refl
+
+  pub claims-it : w.0 < length b.hands → HasClaimed z w t
+  claims-it l = record {
+    task = record {
+      works = record {
+        known = subst (λ (k : BoardState D). w.0 < k.run.program.workers) (sym claims) known;
+        goes_on = ap (λ (h : Hand). h.has_stopped) hand ∙ goes-on l;
+      };
+      task = ap (λ (h : Hand). h.task) hand;
+    };
+    none_given = ap (λ (h : Hand). h.given) hand;
+    claimed = ap (λ (k : State). progress k t) now ∙ progress-same (state y.run) t (Claimed w) (subst (λ n. t.0 < n) (sym sound.run.coherent.state.rows.tasks) can.ready.task);
+    rests = rests (no-task l);
+  }

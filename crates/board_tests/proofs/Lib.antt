@@ -1,0 +1,3 @@
+mod Boards
+mod Claiming
+mod Ending

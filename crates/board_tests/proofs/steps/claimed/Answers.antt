@@ -1,0 +1,9 @@
+use Rattle.std.proofs.Common.{◌<◌, subst, sym}
+use Rattle.board_tests.proofs.Claiming.{claims-it}
+use Rattle.board_tests.proofs.steps.claimed.Goals as goal
+
+pub returns-in-Ok-clause-claims : goal.returns-in-Ok-clause-claims
+returns-in-Ok-clause-claims g c =
+    let free = c.requires.free in
+    claims-it g.D.Disk.size g.D.Disk.faults g.D.Disk.mismatches g.D.Disk.held c.args.board.now c.next.new.self c.claim.new.self c.args.w c.in-Some.t c.is_sound-2.ensures free c.requires.no_fault c.next.ensures.rest c.in-Ok.ensures.can c.in-Ok.ensures.ok
+    (subst (λ n. c.args.w.0 < n) (sym c.is_sound.ensures.inside.hands_agree.every_worker) free.idle.works.known)

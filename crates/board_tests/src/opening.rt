@@ -1,0 +1,157 @@
+//! Boards of job texts, on which nothing has happened.
+
+ghost use Rattle.std.specs.Prelude.{◌≡◌, ◌<◌, ◌≤◌, ◌^◌, ◌∷◌, [], All, FitsSigned, IfOk, None, OnOk, length, map};
+ghost use Rattle.std.specs.Int.{w64};
+ghost use Rattle.sj_base.specs.declared.ids.Worker.{Worker};
+ghost use Rattle.sj_base.specs.Array.{area};
+ghost use Rattle.sj_core.specs.Proper.{HasSwapFor, IsWithinLimits};
+ghost use Rattle.sj_disk.specs.Directory.{extent_of};
+ghost use Rattle.sj_engine.specs.Run.{ArePlaced, IsEmptySet, ReservesSome};
+ghost use Rattle.sj_machine.specs.Board.{IsFree};
+ghost use Rattle.sj_machine.specs.Sound.{IsRunOf};
+ghost use Rattle.sj_machine.specs.Standing.{AllTell};
+
+use sj_base::ids::Cell;
+use sj_base::program::{Machine, Program};
+use sj_base::sequence::Sequence;
+use sj_base::tile::Dims;
+use sj_disk::disk_set::DiskSet;
+use sj_edge::disk::Disk;
+use sj_job::read::read;
+use sj_job::settings::Settings;
+use sj_kernels::ring::Ring;
+use sj_lower::lower::{LoweredJob, lower};
+use sj_machine::board::Board;
+use sj_needs::shortage::fits;
+use std::alloc::Global;
+use std::sync::Arc;
+use std::test::Fail;
+
+/// A program, and the machine that is to run it.
+#[derive(Drop)]
+struct Parts {
+    program: Arc<Program>,
+    machine: Machine,
+}
+
+/// The machine that a job's settings ask for, with one disk of so many bytes.
+fn machine_of(alloc: Global, settings: &Settings, disk: u64) -> Result<Machine, Fail>
+    ensures workers { IfOk result (λ m. (1 ≤ m.workers) × (m.workers ≤ 64)) }
+    ensures nodes { IfOk result (λ m. (1 ≤ length m.nodes) × (length m.nodes ≤ 16)) }
+    ensures disks { IfOk result (λ m. m.disks ≡ disk ∷ []) }
+{
+    let workers = settings.worker_count();
+    let nodes = settings.node_sizes(alloc)?;
+    if workers == 0 || workers > 64 || nodes.is_empty() || nodes.len() > 16 {
+        return Err(Fail::new("no such machine"));
+    }
+    let mut disks = Vec::new(alloc);
+    disks.push(disk)?;
+    Ok(Machine {
+        workers,
+        nodes: Sequence::of(nodes),
+        disks: Sequence::of(disks),
+        policy: settings.chosen_policy(),
+    })
+}
+
+/// The arguments of a task are in their type.
+fn args_fit(args: &[i64])
+    ensures { All (FitsSigned w64) args.now }
+{
+    for arg in args {
+        let _value = *arg;
+    }
+}
+
+/// The same of the arguments of all tasks.
+fn arguments_fit(program: &Program)
+    ensures { All (λ l. All (FitsSigned w64) l.args) program.now.tasks }
+{
+    for task in program.tasks.items() {
+        args_fit(task.args.items());
+    }
+}
+
+/// The program of a job text, and the machine that its settings ask for, with one disk of so many bytes.
+fn parts_of(alloc: Global, text: &str, disk: u64) -> Result<Parts, Fail>
+    requires small { disk ≤ 2 ^ 40 }
+    ensures run { IfOk result (λ r. IsRunOf r.program.value r.machine) }
+    ensures disks { IfOk result (λ r. r.machine.disks ≡ disk ∷ []) }
+{
+    let job = read(alloc, text.as_bytes(), &Ring)?;
+    let machine = machine_of(alloc, &job.settings, disk)?;
+    let LoweredJob { program, .. } = lower(alloc, job, machine.workers)?;
+    arguments_fit(&program);
+    fits(alloc, &program, &machine)?;
+    Ok(Parts {
+        program: Arc::new(alloc, program)?,
+        machine,
+    })
+}
+
+/// Gives a cell of these dimensions its block, on the first disk that has room for it.
+fn place_cell<D: Disk>(set: &mut DiskSet<D>, cell: Cell, dims: Dims) -> Result<(), Fail>
+    requires has_none { extent_of set.old.directory cell.0 ≡ None }
+    requires small { area dims ≤ 2 ^ 24 }
+    ensures reserves { OnOk result (ReservesSome D.size cell.0 (area dims) set.old set.new) }
+{
+    set.reserve(cell, dims.area())?;
+    Ok(())
+}
+
+/// Gives each cell of a program its block, in cell order.
+fn place_cells<D: Disk>(
+    set: &mut DiskSet<D>,
+    program: &Program,
+    machine: &Machine,
+) -> Result<(), Fail>
+    requires limits { IsWithinLimits program.now }
+    requires swap { HasSwapFor program.now machine.now }
+    requires sizes { machine.now.disks ≡ map D.size set.old.disks }
+    requires empty { IsEmptySet set.old }
+    ensures disks { OnOk result (set.new.disks ≡ set.old.disks) }
+    ensures placed { OnOk result (ArePlaced program.now machine.now set.new.directory) }
+{
+    let _machine = machine;
+    for i in 0..program.cells.len() {
+        let dims = program.cells.items()[i].dims;
+        place_cell(set, Cell(i as u32), dims)?;
+    }
+    Ok(())
+}
+
+/// The board of these parts, on which nothing has happened.
+fn board_of<D: Disk>(alloc: Global, parts: Parts, disks: Vec<D>) -> Result<Board<D>, Fail>
+    requires run { IsRunOf parts.program.value parts.machine }
+    requires sizes { parts.machine.disks ≡ map D.size disks.items }
+    ensures free { IfOk result (λ b. (w : Worker) → w.0 < b.run.program.workers → IsFree b w) }
+    ensures no_fault { IfOk result (λ b. b.fault ≡ None) }
+    ensures opened { IfOk result (λ b. b.run.opened ≡ disks.items) }
+{
+    let Parts { program, machine } = parts;
+    let Ok(mut set) = DiskSet::make(alloc, disks) else {
+        return Err(Fail::new("out of memory"));
+    };
+    place_cells(&mut set, &program, &machine)?;
+    match Board::make(alloc, program, machine, set) {
+        Ok(board) => Ok(board),
+        Err(_) => Err(Fail::new("out of memory")),
+    }
+}
+
+/// The board of a job text, on which nothing has happened, with one disk that tells nothing.
+pub fn opened<D: Disk>(alloc: Global, text: &str, disk: D) -> Result<Board<D>, Fail>
+    requires small { D.size disk ≤ 2 ^ 40 }
+    requires silent { D.held disk ≡ None }
+    ensures free { IfOk result (λ b. (w : Worker) → w.0 < b.run.program.workers → IsFree b w) }
+    ensures no_fault { IfOk result (λ b. b.fault ≡ None) }
+    ensures silent { IfOk result (λ b. ¬ AllTell D.held b.run) }
+{
+    let parts = parts_of(alloc, text, disk.size())?;
+    let mut disks = Vec::new(alloc);
+    if disks.push(disk).is_err() {
+        return Err(Fail::new("out of memory"));
+    }
+    board_of(alloc, parts, disks)
+}

@@ -1,0 +1,103 @@
+//! What a worker does on a board, step by step.
+
+ghost use Rattle.std.specs.Prelude.{◌≡◌, ◌≤◌, ◌^◌, ◌∷◌, [], IfOk, IfSome, None, OnOk, map};
+ghost use Rattle.sj_base.specs.Array.{area};
+ghost use Rattle.sj_core.specs.Program.{dims_of, task_of, written_operands};
+ghost use Rattle.sj_machine.specs.Board.{IsFree};
+ghost use Rattle.sj_machine.specs.Operands.{read_among};
+ghost use Rattle.sj_machine.specs.Standing.{AllTell};
+ghost use Rattle.board_tests.specs.Steps.{HasClaimed, IsStepOf};
+
+use sj_base::ids::{Task, Worker};
+use sj_base::mode::Mode;
+use sj_base::program::Program;
+use sj_base::tile::{Dims, Tile};
+use sj_codelet::frame::Frame;
+use sj_edge::disk::Disk;
+use sj_machine::board::Board;
+use sj_machine::refusal::ClaimRefusal;
+use sj_machine::todo::Todo;
+use std::alloc::Global;
+use std::sync::Arc;
+use std::test::Fail;
+
+/// A worker is given a task by the pool and claims it, or is refused that.
+pub fn claimed<D: Disk>(
+    alloc: Global,
+    board: &mut Board<D>,
+    w: Worker,
+) -> Result<Result<Task, ClaimRefusal>, Fail>
+    requires free { IsFree board.old w }
+    requires no_fault { board.old.fault ≡ None }
+    ensures alone { IsStepOf w board.old board.new }
+    ensures claims { IfOk result (λ claim. IfOk claim (λ t. HasClaimed board.new w t)) }
+{
+    board.is_sound();
+    let Some(t) = board.next(w) else {
+        return Err(Fail::new("no task is ready"));
+    };
+    board.is_sound();
+    match board.claim(alloc, t, w) {
+        Ok(()) => Ok(Ok(t)),
+        Err(refusal) => Ok(Err(refusal)),
+    }
+}
+
+/// The dimensions of the cell that a task fills, where that is its only operand.
+fn filled(program: &Program, t: Task) -> Option<Dims>
+    ensures reads_none { IfSome result (λ _. read_among (task_of program.now t).accesses ≡ []) }
+    ensures writes_one { IfSome result (λ dims.
+        map (λ a. dims_of program.now a.cell) (written_operands (task_of program.now t)) ≡ dims ∷ []) }
+    ensures small { IfSome result (λ dims. area dims ≤ 2 ^ 24) }
+{
+    let accesses = program.tasks.items().get(t.0 as usize)?.accesses.items();
+    if accesses.len() != 1 || accesses[0].mode != Mode::W {
+        return None;
+    }
+    let dims = program.cells.items().get(accesses[0].cell.0 as usize)?.dims;
+    if dims.area() > 1 << 24 {
+        return None;
+    }
+    Some(dims)
+}
+
+/// A worker runs the task that it has claimed, one that fills a cell, and ends it with zeros. Where the disks don't tell what they
+/// hold, the board is promised no more than the dimensions.
+fn ended<D: Disk>(alloc: Global, board: &mut Board<D>, w: Worker, t: Task) -> Result<(), Fail>
+    requires claimed { HasClaimed board.old w t }
+    requires silent { ¬ AllTell D.held board.old.run }
+    ensures alone { IsStepOf w board.old board.new }
+    ensures free { OnOk result (IsFree board.new w) }
+{
+    board.is_sound();
+    let Some(dims) = filled(board.program(), t) else {
+        return Err(Fail::new("the task doesn't fill a cell"));
+    };
+    let Todo::Start = board.plan_of(w) else {
+        return Err(Fail::new("the kernel can't begin"));
+    };
+    let tile = Arc::new(alloc, Tile::zeros(alloc, dims)?)?;
+    let mut results = Frame::with_room(alloc, 1)?;
+    results.push_shared(tile);
+    let shares = Frame::with_room(alloc, 0)?;
+    let _shares = board.run(alloc, t, w, shares)?;
+    board.end(t, w, results);
+    Ok(())
+}
+
+/// A worker claims a task, one that fills a cell, and brings it to its end.
+pub fn carried_out<D: Disk>(alloc: Global, board: &mut Board<D>, w: Worker) -> Result<Task, Fail>
+    requires free { IsFree board.old w }
+    requires no_fault { board.old.fault ≡ None }
+    requires silent { ¬ AllTell D.held board.old.run }
+    ensures alone { IsStepOf w board.old board.new }
+    ensures free { OnOk result (IsFree board.new w) }
+{
+    match claimed(alloc, board, w)? {
+        Ok(t) => {
+            ended(alloc, board, w, t)?;
+            Ok(t)
+        }
+        Err(_) => Err(Fail::new("the claim is refused")),
+    }
+}
