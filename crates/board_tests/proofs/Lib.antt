@@ -1,3 +1,4 @@
 mod Boards
 mod Claiming
 mod Ending
+mod Others

@@ -5,6 +5,8 @@
 #[cfg(test)]
 mod opening;
 #[cfg(test)]
+mod scenes;
+#[cfg(test)]
 mod steps;
 #[cfg(test)]
 mod tests;

@@ -21,16 +21,15 @@ use std::alloc::Global;
 use std::sync::Arc;
 use std::test::Fail;
 
+/// A task that the pool gave a worker, and whether it was claimed.
+pub type Claim = (Task, Result<(), ClaimRefusal>);
+
 /// A worker is given a task by the pool and claims it, or is refused that.
-pub fn claimed<D: Disk>(
-    alloc: Global,
-    board: &mut Board<D>,
-    w: Worker,
-) -> Result<Result<Task, ClaimRefusal>, Fail>
+pub fn claimed<D: Disk>(alloc: Global, board: &mut Board<D>, w: Worker) -> Result<Claim, Fail>
     requires free { IsFree board.old w }
     requires no_fault { board.old.fault ≡ None }
     ensures alone { IsStepOf w board.old board.new }
-    ensures claims { IfOk result (λ claim. IfOk claim (λ t. HasClaimed board.new w t)) }
+    ensures claims { IfOk result (λ claim. OnOk claim.1 (HasClaimed board.new w claim.0)) }
 {
     board.is_sound();
     let Some(t) = board.next(w) else {
@@ -38,8 +37,8 @@ pub fn claimed<D: Disk>(
     };
     board.is_sound();
     match board.claim(alloc, t, w) {
-        Ok(()) => Ok(Ok(t)),
-        Err(refusal) => Ok(Err(refusal)),
+        Ok(()) => Ok((t, Ok(()))),
+        Err(refusal) => Ok((t, Err(refusal))),
     }
 }
 
@@ -94,10 +93,10 @@ pub fn carried_out<D: Disk>(alloc: Global, board: &mut Board<D>, w: Worker) -> R
     ensures free { OnOk result (IsFree board.new w) }
 {
     match claimed(alloc, board, w)? {
-        Ok(t) => {
+        (t, Ok(())) => {
             ended(alloc, board, w, t)?;
             Ok(t)
         }
-        Err(_) => Err(Fail::new("the claim is refused")),
+        (_, Err(_)) => Err(Fail::new("the claim is refused")),
     }
 }

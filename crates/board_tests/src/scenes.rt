@@ -1,0 +1,74 @@
+//! Claims on whole boards, up to the one that is refused.
+
+ghost use Rattle.std.specs.Prelude.{◌≡◌, ◌<◌, ◌≤◌, ◌^◌, None};
+ghost use Rattle.sj_base.specs.declared.ids.Worker.{Worker};
+ghost use Rattle.sj_machine.specs.Board.{IsFree};
+ghost use Rattle.sj_machine.specs.Standing.{AllTell};
+
+use crate::opening::opened;
+use crate::steps::{Claim, carried_out, claimed};
+use sj_base::ids::{Task, Worker};
+use sj_edge::disk::Disk;
+use sj_machine::board::Board;
+use std::alloc::Global;
+use std::test::Fail;
+
+/// Each of three workers claims a task.
+fn three_claims<D: Disk>(alloc: Global, board: &mut Board<D>) -> Result<(Claim, Claim, Claim), Fail>
+    requires free { (w : Worker) → w.0 < 3 → IsFree board.old w }
+    requires no_fault { board.old.fault ≡ None }
+{
+    let first = claimed(alloc, board, Worker(0))?;
+    let second = claimed(alloc, board, Worker(1))?;
+    let third = claimed(alloc, board, Worker(2))?;
+    Ok((first, second, third))
+}
+
+/// Each of three workers claims a task of a job.
+pub fn claims_of_three<D: Disk>(
+    alloc: Global,
+    text: &str,
+    disk: D,
+) -> Result<(Claim, Claim, Claim), Fail>
+    requires small { D.size disk ≤ 2 ^ 40 }
+    requires silent { D.held disk ≡ None }
+{
+    let mut board = opened(alloc, text, disk)?;
+    if board.program().workers < 3 {
+        return Err(Fail::new("there are fewer workers"));
+    }
+    three_claims(alloc, &mut board)
+}
+
+/// A worker carries out two tasks, which fill cells, and claims a third one; then another claims a fourth one.
+fn fourth_claim<D: Disk>(
+    alloc: Global,
+    board: &mut Board<D>,
+) -> Result<(Task, Task, Claim, Claim), Fail>
+    requires free { (w : Worker) → w.0 < 2 → IsFree board.old w }
+    requires no_fault { board.old.fault ≡ None }
+    requires silent { ¬ AllTell D.held board.old.run }
+{
+    let first = carried_out(alloc, board, Worker(0))?;
+    let second = carried_out(alloc, board, Worker(0))?;
+    let third = claimed(alloc, board, Worker(0))?;
+    let fourth = claimed(alloc, board, Worker(1))?;
+    Ok((first, second, third, fourth))
+}
+
+/// On the board of a job, a worker carries out two tasks, which fill cells, and claims a third one; then another claims a fourth
+/// one.
+pub fn claims_after_two<D: Disk>(
+    alloc: Global,
+    text: &str,
+    disk: D,
+) -> Result<(Task, Task, Claim, Claim), Fail>
+    requires small { D.size disk ≤ 2 ^ 40 }
+    requires silent { D.held disk ≡ None }
+{
+    let mut board = opened(alloc, text, disk)?;
+    if board.program().workers < 2 {
+        return Err(Fail::new("there are fewer workers"));
+    }
+    fourth_claim(alloc, &mut board)
+}
