@@ -1,12 +1,12 @@
 -- What was read, lowered and found to fit can be run.
-use Rattle.std.proofs.Common.{◌≡◌, ◌∙◌, ◌≤◌, ◌∷◌, [], ℕ, List, Bool, ap, arith, length, refl, subst, sym}
+use Rattle.std.proofs.Common.{◌≡◌, ◌≤◌, ◌∷◌, [], ℕ, List, Bool, ap, arith, length, refl, sym}
 use Rattle.std.specs.Prelude.{All, FitsSigned, IsTrue}
 use Rattle.std.specs.Int.{w64}
 use Rattle.sj_base.specs.declared.program.Machine.{Machine}
 use Rattle.sj_base.specs.declared.program.Program.{Program}
 use Rattle.sj_codelet.specs.declared.kernel.Kernel.{Kernel}
-use Rattle.sj_core.specs.Laws.{IsLawful, is_known}
-use Rattle.sj_core.specs.Proper.{HasSwapFor, IsMachineFor, Proper}
+use Rattle.sj_core.specs.Laws.{is_known}
+use Rattle.sj_core.specs.Proper.{HasSwapFor, Proper}
 use Rattle.sj_job.specs.Act.{Statement}
 use Rattle.sj_job.specs.State.{start}
 use Rattle.sj_job.specs.Well.{IsWell}

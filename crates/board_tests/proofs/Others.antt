@@ -1,5 +1,5 @@
 -- What a worker's step leaves of what was so before it.
-use Rattle.std.proofs.Common.{◌≡◌, ◌≢◌, ℕ, List, Option, ap, subst}
+use Rattle.std.proofs.Common.{◌≢◌, ℕ, List, Option, ap, subst}
 use Rattle.sj_base.specs.declared.ids.Worker.{Worker}
 use Rattle.sj_machine.specs.Board.{BoardState, IsFree}
 use Rattle.sj_machine.specs.Standing.{AllTell}

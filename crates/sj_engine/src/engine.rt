@@ -1,6 +1,7 @@
 //! The run of a program by its workers.
 
 ghost use Rattle.std.specs.Prelude.{◌≡◌, IfErr, IsOk, map};
+ghost use Rattle.sj_core.specs.Bound.{HasAtMostThreePerTaskAndFivePerOperand};
 ghost use Rattle.sj_core.specs.Laws.{IsLawful};
 ghost use Rattle.sj_core.specs.Legal.{IsFinished, IsLegal};
 ghost use Rattle.sj_core.specs.Proper.{HasSwapFor, IsMachineFor, Proper};
@@ -84,6 +85,7 @@ pub fn run<C: Codelets, G: Gate, D: Disk + Send, R: Threads + Wait + Sync>(
     requires sizes { machine.disks ≡ map D.size disks.items }
     // Whatever the result, each event is a legal step.
     ensures legal { IsLegal program.value machine result.trace.events }
+    ensures bounded { HasAtMostThreePerTaskAndFivePerOperand program.value result.trace.events }
     ensures given_back { AreGivenBack D.size D.faults D.mismatches D.held disks.items result.disks.items }
     ensures finished { IsOk result.result → IsFinished program.value machine result.trace.events }
     ensures delivers { IsOk result.result → DeliversEach program.value (AllTell D.held disks.items)
