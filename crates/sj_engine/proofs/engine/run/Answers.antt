@@ -42,7 +42,7 @@ returns-in-Ok-opened-clause-bounded g c =
     let machine : c.in-Ok-opened.board.run.machine ≡ c.args.machine = c.in-Ok-opened.ensures.ok.machine in
     let events = c.run_over.result.trace.events in
     let legal = subst (λ (m : Machine). IsLegal c.args.program.value m events) machine
-                (subst (λ (p : Program). IsLegal p c.in-Ok-opened.board.run.machine events) program c.run_over.ensures.legal) in
+    (subst (λ (p : Program). IsLegal p c.in-Ok-opened.board.run.machine events) program c.run_over.ensures.legal) in
     legal-within_bound g.C.Codelets.has c.args.program.value c.args.machine events c.requires.proper c.requires.machine c.requires.lawful legal
 
 pub returns-clause-bounded : goal.returns-clause-bounded
