@@ -1,0 +1,245 @@
+-- When each kind of event is legal in a coherent state, by what is asked of the state.
+use Rattle.std.proofs.Common.{◌≡◌, ◌≢◌, ℕ, ◌<◌, ◌≤◌, ◌&&◌, ◌∙◌, Bool, true, false, not, List, [], ◌∷◌, Option, None, Some, ap, arith, cond, get_or, inl, inr, is_some, length, refl, subst, sym}
+use Rattle.std.specs.Prelude.{IsTrue}
+use Rattle.std.specs.List.{Contains, find, list_all, slice_index_or}
+use Rattle.std.proofs.lemmas.Bool.{false_from_ne_true, false≢true}
+use lib.Dec.{leb}
+use Rattle.std.proofs.lemmas.Bool.Decides.{leb_tells}
+use Rattle.std.proofs.lemmas.List.Elements.{All-from_get_or}
+use Rattle.std.proofs.lemmas.List.Folds.{list_all_at}
+use Rattle.std.proofs.lemmas.List.Sums.{list_all-from_AllPass}
+use Rattle.std.proofs.lemmas.Option.{none-some}
+use Rattle.sj_base.specs.declared.trace.Event.TheVariants.{Claim, Drop, End, Move, Moved, Run}
+use Rattle.sj_core.proofs.Advancing.{idle-has_none}
+use Rattle.sj_core.proofs.Placing.{valid-row}
+use Rattle.sj_core.proofs.Readiness.{done_tasks-done, done_tasks-has}
+use Rattle.sj_core.proofs.Reading.{no_row, progress-inside}
+use Rattle.sj_core.proofs.Replicas.{coming_by-is, leaving_by-is, same_worker-refl}
+use Rattle.sj_core.proofs.Words.{Array, AtNode, Cell, CellState, Coming, DiskNo, Invalid, Leaving, Machine, Node, OnDisk, Place, Program, Replica, State, Task, Valid, Worker, dims_of, footprint, has_room, is_coming_by, is_done, is_leaving, is_leaving_by, is_task_of, node_of, node_size, progress, replica, transfer, worker_of, zeros}
+use Rattle.sj_core.specs.Coherent.{Coherent, is_begun}
+use Rattle.sj_core.specs.declared.progress.Progress.{Progress}
+use Rattle.sj_core.specs.declared.progress.Progress.TheVariants.{Claimed, Done, Running, Waiting}
+use Rattle.sj_core.specs.Machine.{is_waiting, replica_in, with_transfer}
+use Rattle.sj_core.specs.Operands.{commuting_cells, written_cells}
+use Rattle.sj_core.specs.Step.{BeginsMoveIn, BeginsMoveOut, Claims, Runs, Step, a_transfer, after, claimant_of, disk_of, done_tasks, is_fresh, is_in_use, is_moving, is_present, is_read, is_valid_elsewhere, mover_of, none_leaving, source_of}
+use Rattle.sj_deps.specs.Conflict.{Ready}
+use Rattle.sj_deps.specs.Progress.{Progress as Dependencies}
+use Rattle.sj_machine.specs.BoardSound.{CountsDone}
+use Rattle.sj_machine.specs.Mark.{is_leaving as is_leaving_mark, mark_of}
+use Rattle.sj_machine.specs.declared.mark.Mark.{Mark}
+use Rattle.sj_machine.specs.declared.mark.Mark.TheVariants.{Coming as ComingMark, Leaving as LeavingMark}
+use Rattle.sj_machine.specs.declared.plan.Why.{Why}
+use Rattle.sj_machine.specs.declared.plan.Why.TheVariants.{Commute, Leaving as LeavingCopy, NoRoom}
+use Rattle.sj_machine.specs.Planning.{IsWhy, MayClaim}
+use Rattle.sj_machine.specs.Todo.{may_run}
+use Rattle.sj_machine.proofs.Resting.{leaving-valid}
+use Rattle.sj_machine.proofs.Stepping.{ready-same}
+use Rattle.sj_check.specs.Watching.{HasTasks, claimant_in, task_in}
+
+-- ---- marks
+
+pub mark-leaving : (r : Replica) → is_leaving_mark (mark_of r) ≡ is_leaving r
+mark-leaving Invalid = refl
+mark-leaving (Coming v) = refl
+mark-leaving (Valid a) = refl
+mark-leaving (Leaving v a) = refl
+
+pub mark-coming_by : (w : Worker) (r : Replica) → ComingMark w ≡ mark_of r → r ≡ Coming w
+mark-coming_by w Invalid e = absurd (cc)
+mark-coming_by w (Coming v) e = let same : w ≡ v = cc in ap Coming (sym same)
+mark-coming_by w (Valid a) e = absurd (cc)
+mark-coming_by w (Leaving v a) e = absurd (cc)
+
+pub mark-leaving_by : (w : Worker) (r : Replica) → LeavingMark w ≡ mark_of r → is_leaving_by w r ≡ true
+mark-leaving_by w Invalid e = absurd (cc)
+mark-leaving_by w (Coming v) e = absurd (cc)
+mark-leaving_by w (Valid a) e = absurd (cc)
+mark-leaving_by w (Leaving v a) e = let same : w ≡ v = cc in subst (λ (u : Worker). is_leaving_by w (Leaving u a) ≡ true) same (same_worker-refl w)
+
+pub claimant-is : (r : Replica) → claimant_in (mark_of r) ≡ claimant_of r
+claimant-is Invalid = refl
+claimant-is (Coming v) = refl
+claimant-is (Valid a) = refl
+claimant-is (Leaving v a) = refl
+
+-- what the tests of code tell
+pub fits-tells : (a b : ℕ) → leb a b ≡ true → a ≤ b
+fits-tells a b e = elim (leb_tells a b) as (λ _. a ≤ b) [ inl is ↦ is.1 | inr past ↦ absurd (false≢true (sym past.0 ∙ e)) ]
+
+pub none-is : (o : Option Task) → is_some o ≡ false → o ≡ None
+none-is None e = refl
+none-is (Some t) e = absurd (false≢true (sym e))
+
+-- a task that waits
+pub waiting-is : (x : Progress) → is_waiting x ≡ true → x ≡ Waiting
+waiting-is Waiting e = refl
+waiting-is (Claimed w) e = absurd (false≢true e)
+waiting-is (Running w) e = absurd (false≢true e)
+waiting-is (Done w) e = absurd (false≢true e)
+
+-- the worker by whose claim a copy leaves
+claimant-leaving : (w : Worker) (r : Replica) → is_leaving_by w r ≡ true → claimant_of r ≡ w
+claimant-leaving w r leaving = ap claimant_of (leaving_by-is w r leaving).1
+
+-- ---- tests
+
+and_parts : (a b : Bool) → (a && b) ≡ true → (a ≡ true) × (b ≡ true)
+and_parts true b e = (refl, e)
+and_parts false b e = absurd (false≢true e)
+
+and_from : (a b : Bool) → a ≡ true → b ≡ true → (a && b) ≡ true
+and_from true b e f = f
+and_from false b e f = absurd (false≢true e)
+
+found-fails : (test : Cell → Bool) (xs : List Cell) (c : Cell) → find test xs ≡ Some c → list_all (λ d. not (test d)) xs ≡ false
+found-fails test [] c e = absurd (none-some c e)
+found-fails test (x ∷ xs) c e = by_test (test x) refl (found-fails test xs c)
+  where
+    by_test : (b : Bool) → test x ≡ b → (find test xs ≡ Some c → list_all (λ d. not (test d)) xs ≡ false) → list_all (λ d. not (test d)) (x ∷ xs) ≡ false
+    by_test true f rest = ap (λ a. not a && list_all (λ d. not (test d)) xs) f
+    by_test false f rest = ap (λ a. not a && list_all (λ d. not (test d)) xs) f ∙ rest (sym (ap (λ a. cond a (Some x) (find test xs)) f) ∙ e)
+
+module _ (p : Program) (m : Machine) (s : State) (coherent : Coherent p m s) where
+  -- ---- a drop
+
+  pub drop-can : (c : Cell) (n : Node) → is_leaving (replica s c (AtNode n)) ≡ true → is_read m s c (AtNode n) ≡ false → is_valid_elsewhere m s c (AtNode n) ≡ true → Step p m s (Drop c n) (after p m s (Drop c n))
+  drop-can c n leaving unread shared = record { leaving = leaving; unread = ap not unread; shared = shared; leaves = refl }
+
+  -- ---- a run
+
+  pub run-can : (t : Task) (w : Worker) → progress s t ≡ Claimed w → has_room m s w ≡ true → may_run p m s t w ≡ true → Step p m s (Run t w) (after p m s (Run t w))
+  run-can t w claimed room may =
+      let parts = and_parts (is_present p s t w (node_of m w)) (list_all (λ c. not (is_moving m s c)) (written_cells p t w)) may in
+      record {
+        claimed = claimed;
+        earlier = coherent.order.earlier t (ap is_begun claimed);
+        room = room;
+        present = parts.0;
+        unmoved = parts.1;
+        leaves = refl;
+      }
+
+  pub run-may : (t : Task) (w : Worker) → Step p m s (Run t w) (after p m s (Run t w)) → may_run p m s t w ≡ true
+  run-may t w run = let r : Runs p m s t w (after p m s (Run t w)) = run in and_from (is_present p s t w (node_of m w)) (list_all (λ c. not (is_moving m s c)) (written_cells p t w)) r.present r.unmoved
+
+  -- ---- the beginning of a move into a node
+
+  module _ (c : Cell) (from : Place) (n : Node) (w : Worker) (coming : replica s c (AtNode n) ≡ Coming w) where
+    in-mover : mover_of s c from (AtNode n) ≡ w
+    in-mover = ap claimant_of coming
+
+    comes : is_coming_by w (replica s c (AtNode n)) ≡ true
+    comes = ap (is_coming_by w) coming ∙ same_worker-refl w
+
+    pub in-can : transfer s w ≡ None → is_fresh p s w c ≡ false → has_room m s w ≡ true → source_of p m s c ≡ Some from → Step p m s (Move c from (AtNode n)) (after p m s (Move c from (AtNode n)))
+    in-can free fresh room source = subst (λ (v : Worker). BeginsMoveIn p m s c from n v (with_transfer s v (Some (a_transfer c from (AtNode n))))) (sym in-mover) (record {
+      own_node = coherent.pins.coming_here w c n comes;
+      free = free;
+      coming = comes;
+      old_value_needed = ap not fresh;
+      room = room;
+      source = source;
+      leaves = refl;
+    })
+
+    pub in-begins : Step p m s (Move c from (AtNode n)) (after p m s (Move c from (AtNode n))) → BeginsMoveIn p m s c from n w (with_transfer s w (Some (a_transfer c from (AtNode n))))
+    in-begins step = subst (λ (v : Worker). BeginsMoveIn p m s c from n v (with_transfer s v (Some (a_transfer c from (AtNode n))))) in-mover step
+
+    -- its worker has claimed a task
+    pub in-task : (tasks : List (Option Task)) → HasTasks p s tasks → (t : Task) × ((task_in tasks w ≡ Some t) × (progress s t ≡ Claimed w))
+    in-task tasks has =
+        let own = coherent.pins.coming_claimed w c n comes in
+        (own.task, ((has.each w own.task).1 (ap (is_task_of w) own.claimed ∙ mine), own.claimed))
+      where
+        mine : is_task_of w (Claimed w) ≡ true
+        mine = grind arith
+
+  -- where no copy comes there is none
+  pub in-none : (c : Cell) (from : Place) (n : Node) → Step p m s (Move c from (AtNode n)) (after p m s (Move c from (AtNode n))) → (w : Worker) × (replica s c (AtNode n) ≡ Coming w)
+  in-none c from n step = let begins : BeginsMoveIn p m s c from n (mover_of s c from (AtNode n)) (after p m s (Move c from (AtNode n))) = step in (mover_of s c from (AtNode n), coming_by-is (mover_of s c from (AtNode n)) (replica s c (AtNode n)) begins.coming)
+
+  -- ---- the beginning of a move to a disk
+
+  module _ (c : Cell) (n : Node) (d : DiskNo) (w : Worker) (leaving : is_leaving_by w (replica s c (AtNode n)) ≡ true) where
+    out-mover : mover_of s c (AtNode n) (OnDisk d) ≡ w
+    out-mover = claimant-leaving w (replica s c (AtNode n)) leaving
+
+    pub out-can : transfer s w ≡ None → is_valid_elsewhere m s c (AtNode n) ≡ false → disk_of p m c ≡ Some d → Step p m s (Move c (AtNode n) (OnDisk d)) (after p m s (Move c (AtNode n) (OnDisk d)))
+    out-can free only target = subst (λ (v : Worker). BeginsMoveOut p m s c (AtNode n) d v (with_transfer s v (Some (a_transfer c (AtNode n) (OnDisk d))))) (sym out-mover) (record {
+      free = free;
+      leaving = leaving;
+      only = ap not only;
+      target = target;
+      leaves = refl;
+    })
+
+    pub out-begins : Step p m s (Move c (AtNode n) (OnDisk d)) (after p m s (Move c (AtNode n) (OnDisk d))) → BeginsMoveOut p m s c (AtNode n) d w (with_transfer s w (Some (a_transfer c (AtNode n) (OnDisk d))))
+    out-begins step = subst (λ (v : Worker). BeginsMoveOut p m s c (AtNode n) d v (with_transfer s v (Some (a_transfer c (AtNode n) (OnDisk d))))) out-mover step
+
+  -- nothing leaves a disk
+  pub out-of_disk : (c : Cell) (k d : DiskNo) → ¬ Step p m s (Move c (OnDisk k) (OnDisk d)) (after p m s (Move c (OnDisk k) (OnDisk d)))
+  out-of_disk c k d step =
+      let begins : BeginsMoveOut p m s c (OnDisk k) d (mover_of s c (OnDisk k) (OnDisk d)) (after p m s (Move c (OnDisk k) (OnDisk d))) = step in
+      let is = leaving_by-is (mover_of s c (OnDisk k) (OnDisk d)) (replica s c (OnDisk k)) begins.leaving in
+      (coherent.state.blocks.resting c k (mover_of s c (OnDisk k) (OnDisk d)) is.0).1 is.1
+
+  -- and so a move from a disk to a disk has worker 0
+  pub disk-mover : (c : Cell) (k d : DiskNo) → (let w : Worker = record { 0 = 0 } in w) ≡ mover_of s c (OnDisk k) (OnDisk d)
+  disk-mover c k d = by_replica (replica s c (OnDisk k)) refl
+    where
+      by_replica : (r : Replica) → replica s c (OnDisk k) ≡ r → (let w : Worker = record { 0 = 0 } in w) ≡ claimant_of r
+      by_replica Invalid e = refl
+      by_replica (Coming v) e = absurd ((coherent.state.blocks.resting c k v (zeros (dims_of p c))).0 e)
+      by_replica (Valid a) e = refl
+      by_replica (Leaving v a) e = absurd ((coherent.state.blocks.resting c k v a).1 e)
+
+  -- ---- a claim
+
+  pub claim-may : (tasks : List (Option Task)) (deps : Dependencies) → HasTasks p s tasks → CountsDone p s deps → (t : Task) (w : Worker) → w.0 < p.workers → progress s t ≡ Waiting → Ready deps.program deps.done t.0 → task_in tasks w ≡ None → footprint p t ≤ node_size m (node_of m w) → MayClaim p m s t w
+  claim-may tasks deps has counts t w staffed waiting ready idle fits = record {
+    worker = staffed;
+    waiting = waiting;
+    ready = ready-same p deps.done (done_tasks s) t.0 counts.done (subst (λ (q : Program). Ready q deps.done t.0) counts.program ready);
+    idle = list_all-from_AllPass (λ x. not (is_task_of w x)) s.tasks (All-from_get_or (λ x. not (is_task_of w x) ≡ true) s.tasks Waiting (λ k within. ap not (has-none (record { 0 = k }))));
+    fits = fits;
+  }
+    where
+      has-none : (u : Task) → is_task_of w (progress s u) ≡ false
+      has-none u = false_from_ne_true (is_task_of w (progress s u)) (λ h. none-some u (sym idle ∙ (has.each w u).1 h))
+
+  pub may-ready : (deps : Dependencies) → CountsDone p s deps → (t : Task) (w : Worker) → MayClaim p m s t w → Ready deps.program deps.done t.0
+  may-ready deps counts t w may = subst (λ (q : Program). Ready q deps.done t.0) (sym counts.program) (ready-same p (done_tasks s) deps.done t.0 (λ n. ((counts.done n).1, (counts.done n).0)) may.ready)
+
+  pub may-idle : (tasks : List (Option Task)) → HasTasks p s tasks → (t : Task) (w : Worker) → MayClaim p m s t w → task_in tasks w ≡ None
+  may-idle tasks has t w may = by_task (task_in tasks w) refl
+    where
+      by_task : (o : Option Task) → task_in tasks w ≡ o → o ≡ None
+      by_task None e = refl
+      by_task (Some u) e = absurd (false≢true (sym (idle-has_none s w u may.idle) ∙ (has.each w u).0 e))
+
+  pub claims-may : (t : Task) (w : Worker) (s' : State) → Claims p m s t w s' → MayClaim p m s t w
+  claims-may t w s' claim = record { worker = claim.worker; waiting = claim.waiting; ready = claim.ready; idle = claim.idle; fits = claim.fits }
+
+  -- where there is a reason why it can't be made, it isn't legal
+  pub why-not : (t : Task) (w : Worker) (s' : State) (why : Why) → IsWhy p m s t w why → ¬ Claims p m s t w s'
+  why-not t w s' (Commute c) is claim = false≢true (sym (found-fails (is_in_use p s) (commuting_cells p t) c is) ∙ claim.alone)
+  why-not t w s' (LeavingCopy c) is claim = false≢true (sym fails ∙ claim.settled)
+    where
+      inside : c.0 < length s.cells
+      inside = valid-row s c (AtNode (node_of m w)) (leaving-valid p m s coherent c (AtNode (node_of m w)) is.1)
+
+      fails : none_leaving s (node_of m w) ≡ false
+      fails = list_all_at (λ (row : CellState). not (is_leaving (replica_in row (AtNode (node_of m w))))) s.cells c.0 no_row inside (ap not is.1)
+  why-not t w s' NoRoom is claim = none-some claim.evicted (sym is.2 ∙ claim.chosen)
+
+  -- ---- an end
+
+  pub running-ready : (deps : Dependencies) → CountsDone p s deps → (t : Task) (w : Worker) → progress s t ≡ Running w → Ready deps.program deps.done t.0
+  running-ready deps counts t w running = subst (λ (q : Program). Ready q deps.done t.0) (sym counts.program) (ready-same p (done_tasks s) deps.done t.0 (λ n. ((counts.done n).1, (counts.done n).0)) (record {
+    task = subst (λ (n : ℕ). t.0 < n) coherent.state.rows.tasks (progress-inside s t (λ e. absurd (let no : Running w ≡ Waiting = sym running ∙ e in cc)));
+    waiting = λ c. false≢true (sym (ap is_done running) ∙ done_tasks-done s t c);
+    earlier = λ u before conflict. done_tasks-has s (record { 0 = u }) (coherent.order.earlier t (ap is_begun running) (record { 0 = u }) before conflict);
+  }))
+
+  pub running-staffed : (t : Task) (w : Worker) → progress s t ≡ Running w → w.0 < p.workers
+  running-staffed t w running = subst (λ (x : Progress). (worker_of x).0 < p.workers) running (coherent.state.staff.staffed t (ap is_begun running))

@@ -1,0 +1,49 @@
+use Rattle.std.proofs.Common.{◌≡◌, ◌≤◌, ◌∙◌, arith, length, subst, sym}
+use Rattle.std.proofs.lemmas.Bool.{false≢true}
+use Rattle.sj_core.specs.Legal.{IsComplete}
+use Rattle.sj_check.specs.Replay.{IsSoundReplay, Replay, state}
+use Rattle.sj_check.proofs.Ending.{loop-bad, loop-ends, loop-good}
+use Rattle.sj_check.proofs.Traces.{finished-now, fronts-coherent, unfinished-now, whole-final}
+use Rattle.sj_check.proofs.check.check.Goals as goal
+
+pub loop-i-preserved : goal.loop-i-preserved
+loop-i-preserved c = loop-good c.args.program.value c.args.machine c.args.trace.now.events c.loop-i.i c.loop-i.checker c.loop-i.invariant c.get-event.result (omega (arith, c.loop-i-test.true, c.len-i-end.ensures)) c.get-event.ensures c.step.new.self c.in_ok-is_legal.is_legal c.in_ok-is_legal.ensures c.if-not-is_legal.false
+
+pub returns-then-not-is_legal-clause-refused : goal.returns-then-not-is_legal-clause-refused
+returns-then-not-is_legal-clause-refused c = loop-bad c.args.program.value c.args.machine c.args.trace.now.events c.loop-i.i c.loop-i.checker c.loop-i.invariant c.get-event.result (omega (arith, c.loop-i-test.true, c.len-i-end.ensures)) c.get-event.ensures c.step.new.self c.in_ok-is_legal.is_legal c.in_ok-is_legal.ensures c.if-not-is_legal.true c.is_sound.ensures
+
+pub returns-then-is_complete-clause-finished : goal.returns-then-is_complete-clause-finished
+returns-then-is_complete-clause-finished c =
+    let p = c.args.program.value in
+    let m = c.args.machine in
+    let events = c.args.trace.now.events in
+    let whole = loop-ends p m events c.loop-i.i c.loop-i.checker c.loop-i.invariant (omega (arith, c.loop-i-test.false, c.len-i-end.ensures)) in
+    let sound = subst IsSoundReplay whole c.is_sound-2.ensures in
+    λ ok. finished-now p m events sound.legal (subst (λ (r : Replay). IsComplete (state r)) whole (c.is_complete.ensures.0 c.if-is_complete.true))
+
+pub returns-then-is_complete-clause-each_state_is_coherent : goal.returns-then-is_complete-clause-each_state_is_coherent
+returns-then-is_complete-clause-each_state_is_coherent c =
+    let p = c.args.program.value in
+    let m = c.args.machine in
+    let events = c.args.trace.now.events in
+    let whole = loop-ends p m events c.loop-i.i c.loop-i.checker c.loop-i.invariant (omega (arith, c.loop-i-test.false, c.len-i-end.ensures)) in
+    let sound = subst IsSoundReplay whole c.is_sound-2.ensures in
+    λ ok n. fronts-coherent p m c.requires.run events sound.legal n
+
+pub returns-then-is_complete-clause-holds_what_all_tasks_leave : goal.returns-then-is_complete-clause-holds_what_all_tasks_leave
+returns-then-is_complete-clause-holds_what_all_tasks_leave c =
+    let p = c.args.program.value in
+    let m = c.args.machine in
+    let events = c.args.trace.now.events in
+    let whole = loop-ends p m events c.loop-i.i c.loop-i.checker c.loop-i.invariant (omega (arith, c.loop-i-test.false, c.len-i-end.ensures)) in
+    let sound = subst IsSoundReplay whole c.is_sound-2.ensures in
+    λ ok. whole-final p m c.requires.run events sound.legal (subst (λ (r : Replay). IsComplete (state r)) whole (c.is_complete.ensures.0 c.if-is_complete.true))
+
+pub returns-clause-refused : goal.returns-clause-refused
+returns-clause-refused c =
+    let p = c.args.program.value in
+    let m = c.args.machine in
+    let events = c.args.trace.now.events in
+    let whole = loop-ends p m events c.loop-i.i c.loop-i.checker c.loop-i.invariant (omega (arith, c.loop-i-test.false, c.len-i-end.ensures)) in
+    let sound = subst IsSoundReplay whole c.is_sound-2.ensures in
+    unfinished-now p m events sound.legal (λ done. false≢true (sym c.if-is_complete.false ∙ c.is_complete.ensures.1 (subst (λ (r : Replay). IsComplete (state r)) (sym whole) done)))

@@ -1,0 +1,4 @@
+pub mod Refusal
+pub mod Replay
+pub mod Results
+pub mod Watching

@@ -1,0 +1,50 @@
+-- A trace that is checked event by event: the program, its machine, and the events so far.
+use Rattle.std.specs.Prelude.{◌≡◌, Bool, List, [], ◌∷◌, ◌++◌, MatchBool}
+use Rattle.sj_base.specs.declared.program.Program.{Program}
+use Rattle.sj_base.specs.declared.program.Machine.{Machine}
+use Rattle.sj_base.specs.declared.trace.Event.{Event}
+use Rattle.sj_core.specs.Coherent.{Coherent}
+use Rattle.sj_core.specs.Legal.{Replays, state_of}
+use Rattle.sj_core.specs.Machine.{State}
+use Rattle.sj_core.specs.Step.{Step, after}
+use Rattle.sj_machine.specs.Sound.{IsRunOf}
+
+pub record Replay : Type 0 where
+  pub program : Program
+  pub machine : Machine
+  pub events : List Event
+
+abbrev pub replay : Program → Machine → List Event → Replay
+replay p m events = record { program = p; machine = m; events = events }
+
+-- the state that the events leave
+abbrev pub state : Replay → State
+state r = state_of r.program r.machine r.events
+
+-- the event is a legal step now
+abbrev pub IsNext : Replay → Event → Type 0
+IsNext r e = Step r.program r.machine (state r) e (after r.program r.machine (state r) e)
+
+-- one event more
+abbrev pub with_event : Replay → Event → Replay
+with_event r e = record r { events = r.events ++ e ∷ [] }
+
+-- the event has happened
+pub record Happens (old : Replay) (e : Event) (new : Replay) : Type 0 where
+  pub legal : IsNext old e
+  pub happens : new ≡ with_event old e
+
+-- the event isn't legal, and nothing has happened
+pub record IsRefused (old : Replay) (e : Event) (new : Replay) : Type 0 where
+  pub illegal : ¬ IsNext old e
+  pub nothing : new ≡ old
+
+-- the event has happened where it is legal, and else nothing has
+abbrev pub Judges : Replay → Event → Bool → Replay → Type 0
+Judges old e legal new = MatchBool legal (Happens old e new) (IsRefused old e new)
+
+-- the events are legal, of a program that can be run on the machine, and leave a coherent state
+pub record IsSoundReplay (r : Replay) : Type 0 where
+  pub run : IsRunOf r.program r.machine
+  pub legal : Replays r.program r.machine r.events (state r)
+  pub coherent : Coherent r.program r.machine (state r)
