@@ -1,0 +1,126 @@
+//! `trace_check`: reads a job from standard input and the trace of a run of it from a file, and says whether each event of
+//! the trace is legal and all tasks are done after the last.
+//!
+//! The words before the file's name are those of `starjob`, which ask for the machine of the run.
+#![tactic(auto)]
+
+ghost use Rattle.std.specs.Prelude.{◌≤◌, ◌^◌};
+ghost use Rattle.sj_words.specs.Options.{IsWithinLimits};
+
+mod judging;
+mod ready;
+#[cfg(test)]
+mod tests;
+
+use judging::judged;
+use ready::Unready;
+use sj_check::check::CheckRefusal;
+use sj_words::{Options, WordsRefusal, read_words, swap_wish};
+use std::io::Read;
+use std::process::ExitCode;
+use std::{env, fs};
+
+/// The exit codes: the trace isn't legal or not complete; words, job or trace aren't read; memory ran out.
+const BAD: u8 = 1;
+
+const REFUSED: u8 = 2;
+
+const OUT_OF_MEMORY: u8 = 10;
+
+/// Says why nothing was checked.
+fn refused(rt: &HostRuntime, why: &str) -> u8 {
+    let _ = eprintln!(rt; "{why}");
+    REFUSED
+}
+
+/// The words after the program's name.
+fn words(rt: &HostRuntime) -> Option<Vec<String>> {
+    let mut words = Vec::new(rt.alloc());
+    for word in env::args(rt).ok()?.skip(1) {
+        words.push(word).ok()?;
+    }
+    Some(words)
+}
+
+/// All of standard input.
+fn input(rt: &HostRuntime) -> Option<Vec<u8>> {
+    let mut text = Vec::new(rt.alloc());
+    rt.stdin().read_to_end(&mut text).ok()?;
+    Some(text)
+}
+
+/// The line of a text with a number, from 0; nothing where there are fewer.
+fn line(text: &[u8], number: u64) -> &[u8] {
+    let mut lines = text.split(|byte| *byte == b'\n');
+    lines.nth(number as usize).unwrap_or(b"")
+}
+
+/// Says what the check of a trace with this text came to.
+fn told(rt: &HostRuntime, text: &[u8], outcome: Result<(), CheckRefusal>) -> u8 {
+    match outcome {
+        Ok(()) => {
+            let _ = println!(rt; "legal and complete");
+            0
+        }
+        Err(CheckRefusal::BadEvent { index }) => {
+            let event = std::str::from_utf8(line(text, index)).unwrap_or("");
+            let _ = println!(rt;
+                "line {}: {event}: this is no legal step after the events before it",
+                index.saturating_add(1)
+            );
+            BAD
+        }
+        Err(CheckRefusal::Unfinished) => {
+            let _ = println!(rt; "legal, but not all tasks are done");
+            BAD
+        }
+        Err(CheckRefusal::OutOfMemory) => OUT_OF_MEMORY,
+    }
+}
+
+fn main(rt: HostRuntime) -> ExitCode {
+    ExitCode::from(answer(&rt))
+}
+
+/// Reads words, job and trace, and checks.
+fn answer(rt: &HostRuntime) -> u8 {
+    let alloc = rt.alloc();
+    let Some(mut words) = words(rt) else {
+        return OUT_OF_MEMORY;
+    };
+    let Some(path) = words.pop() else {
+        return refused(rt, "usage: trace_check [words of starjob] TRACE < JOB");
+    };
+    let options = match read_words(alloc, &words) {
+        Ok(options) => options,
+        Err(WordsRefusal::Unaccepted) => {
+            return refused(rt, "usage: trace_check [words of starjob] TRACE < JOB");
+        }
+        Err(WordsRefusal::OutOfMemory) => return OUT_OF_MEMORY,
+    };
+    let Ok(wish) = swap_wish(alloc, &words) else {
+        return OUT_OF_MEMORY;
+    };
+    let Some(job) = input(rt) else {
+        return refused(rt, "the job can't be read");
+    };
+    let Ok(text) = fs::read(rt, path.as_str()) else {
+        return refused(rt, "the trace can't be read");
+    };
+    check_texts(rt, &options, wish.size, &job, &text)
+}
+
+/// Checks the text of a trace against the text of a job.
+fn check_texts(rt: &HostRuntime, options: &Options, swap: u64, job: &[u8], trace: &[u8]) -> u8
+    requires options { IsWithinLimits options.now }
+    requires swap { swap ≤ 2 ^ 40 }
+{
+    match judged(rt.alloc(), options, swap, job, trace) {
+        Ok(outcome) => told(rt, trace, outcome),
+        Err(Unready::OutOfMemory) => OUT_OF_MEMORY,
+        Err(why) => {
+            let _ = eprintln!(rt; "{why}");
+            REFUSED
+        }
+    }
+}
