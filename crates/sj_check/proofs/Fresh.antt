@@ -1,7 +1,6 @@
 -- What a checker keeps beside a run on which nothing has happened.
-use Rattle.std.proofs.Common.{◌≡◌, ℕ, ◌<◌, ◌≤◌, ◌↔◌, ◌∙◌, List, [], ◌∷◌, Option, None, Some, ap, arith, get_or, inl, inr, length, refl, replicate, subst, sym}
+use Rattle.std.proofs.Common.{◌≡◌, ℕ, ◌≤◌, ◌∙◌, List, [], ◌∷◌, Option, None, ap, arith, get_or, inl, inr, length, refl, replicate, subst, sym}
 use Rattle.std.specs.Prelude.{All, IsSome}
-use Rattle.std.specs.List.{Contains}
 use Rattle.std.proofs.lemmas.Bool.{cases_lt, false≢true}
 use Rattle.std.proofs.lemmas.List.{get_or-replicate, get_or_past, length-replicate}
 use Rattle.std.proofs.lemmas.List.Elements.{All-get_or}
@@ -11,10 +10,9 @@ use Rattle.sj_core.proofs.Readiness.{done_tasks-done}
 use Rattle.sj_core.proofs.Words.{Machine, Program, State, Task, is_done, is_task_of, opening, progress}
 use Rattle.sj_core.specs.declared.progress.Progress.TheVariants.{Waiting}
 use Rattle.sj_core.specs.Legal.{state_of}
-use Rattle.sj_core.specs.Step.{done_tasks}
 use Rattle.sj_deps.specs.Progress.{Progress as Dependencies, progress as dependencies}
 use Rattle.sj_machine.specs.BoardSound.{CountsDone}
-use Rattle.sj_machine.specs.Standing.{AllTell, Standing, state}
+use Rattle.sj_machine.specs.Standing.{Standing, state}
 use Rattle.sj_check.specs.Replay.{replay}
 use Rattle.sj_check.specs.Watching.{HasTasks, IsOpened, Watches, replay_of}
 

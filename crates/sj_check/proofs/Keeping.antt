@@ -1,6 +1,6 @@
 -- What a checker keeps beside its run as an event happens.
-use Rattle.std.proofs.Common.{◌≡◌, ℕ, ◌<◌, ◌++◌, ◌∷◌, ◌∙◌, [], List, None, Option, Some, ap, arith, length, refl, set, subst, sym}
-use Rattle.std.specs.Prelude.{All, IsSome, IsTrue, MatchBool}
+use Rattle.std.proofs.Common.{◌≡◌, ℕ, ◌<◌, ◌∙◌, List, None, Option, Some, ap, arith, length, refl, set, subst, sym}
+use Rattle.std.specs.Prelude.{All, IsSome}
 use Rattle.std.proofs.lemmas.Bool.{false≢true}
 use Rattle.sj_base.specs.declared.trace.Event.{Event}
 use Rattle.sj_base.specs.declared.trace.Event.TheVariants.{Claim, End, Move, Moved, Run}
@@ -16,7 +16,7 @@ use Rattle.sj_machine.specs.BoardSound.{CountsDone}
 use Rattle.sj_machine.specs.Sound.{OnlyDisksChange}
 use Rattle.sj_machine.specs.Standing.{AllTell, CanHappen, Standing, state, with_event}
 use Rattle.sj_machine.proofs.Stepping.{counts-still}
-use Rattle.sj_check.specs.Replay.{Happens, IsRefused, Judges, Replay, replay}
+use Rattle.sj_check.specs.Replay.{Happens, IsRefused, replay}
 use Rattle.sj_check.specs.Watching.{HasEvent, HasTasks, Watches, replay_of, task_in}
 use Rattle.sj_check.proofs.Legality.{running-ready, running-staffed}
 use Rattle.sj_check.proofs.Tasks.{counts-ended, counts-same, tasks-begun, tasks-claimed, tasks-ended, tasks-still}

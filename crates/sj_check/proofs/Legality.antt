@@ -1,7 +1,6 @@
 -- When each kind of event is legal in a coherent state, by what is asked of the state.
-use Rattle.std.proofs.Common.{◌≡◌, ◌≢◌, ℕ, ◌<◌, ◌≤◌, ◌&&◌, ◌∙◌, Bool, true, false, not, List, [], ◌∷◌, Option, None, Some, ap, arith, cond, get_or, inl, inr, is_some, length, refl, subst, sym}
-use Rattle.std.specs.Prelude.{IsTrue}
-use Rattle.std.specs.List.{Contains, find, list_all, slice_index_or}
+use Rattle.std.proofs.Common.{◌≡◌, ℕ, ◌<◌, ◌≤◌, ◌&&◌, ◌∙◌, Bool, true, false, not, List, [], ◌∷◌, Option, None, Some, ap, arith, cond, inl, inr, is_some, length, refl, subst, sym}
+use Rattle.std.specs.List.{find, list_all}
 use Rattle.std.proofs.lemmas.Bool.{false_from_ne_true, false≢true}
 use lib.Dec.{leb}
 use Rattle.std.proofs.lemmas.Bool.Decides.{leb_tells}
@@ -9,13 +8,13 @@ use Rattle.std.proofs.lemmas.List.Elements.{All-from_get_or}
 use Rattle.std.proofs.lemmas.List.Folds.{list_all_at}
 use Rattle.std.proofs.lemmas.List.Sums.{list_all-from_AllPass}
 use Rattle.std.proofs.lemmas.Option.{none-some}
-use Rattle.sj_base.specs.declared.trace.Event.TheVariants.{Claim, Drop, End, Move, Moved, Run}
+use Rattle.sj_base.specs.declared.trace.Event.TheVariants.{Drop, Move, Run}
 use Rattle.sj_core.proofs.Advancing.{idle-has_none}
 use Rattle.sj_core.proofs.Placing.{valid-row}
 use Rattle.sj_core.proofs.Readiness.{done_tasks-done, done_tasks-has}
 use Rattle.sj_core.proofs.Reading.{no_row, progress-inside}
 use Rattle.sj_core.proofs.Replicas.{coming_by-is, leaving_by-is, same_worker-refl}
-use Rattle.sj_core.proofs.Words.{Array, AtNode, Cell, CellState, Coming, DiskNo, Invalid, Leaving, Machine, Node, OnDisk, Place, Program, Replica, State, Task, Valid, Worker, dims_of, footprint, has_room, is_coming_by, is_done, is_leaving, is_leaving_by, is_task_of, node_of, node_size, progress, replica, transfer, worker_of, zeros}
+use Rattle.sj_core.proofs.Words.{AtNode, Cell, CellState, Coming, DiskNo, Invalid, Leaving, Machine, Node, OnDisk, Place, Program, Replica, State, Task, Valid, Worker, dims_of, footprint, has_room, is_coming_by, is_done, is_leaving, is_leaving_by, is_task_of, node_of, node_size, progress, replica, transfer, worker_of, zeros}
 use Rattle.sj_core.specs.Coherent.{Coherent, is_begun}
 use Rattle.sj_core.specs.declared.progress.Progress.{Progress}
 use Rattle.sj_core.specs.declared.progress.Progress.TheVariants.{Claimed, Done, Running, Waiting}
@@ -26,7 +25,6 @@ use Rattle.sj_deps.specs.Conflict.{Ready}
 use Rattle.sj_deps.specs.Progress.{Progress as Dependencies}
 use Rattle.sj_machine.specs.BoardSound.{CountsDone}
 use Rattle.sj_machine.specs.Mark.{is_leaving as is_leaving_mark, mark_of}
-use Rattle.sj_machine.specs.declared.mark.Mark.{Mark}
 use Rattle.sj_machine.specs.declared.mark.Mark.TheVariants.{Coming as ComingMark, Leaving as LeavingMark}
 use Rattle.sj_machine.specs.declared.plan.Why.{Why}
 use Rattle.sj_machine.specs.declared.plan.Why.TheVariants.{Commute, Leaving as LeavingCopy, NoRoom}

@@ -5,13 +5,12 @@ use Rattle.std.specs.List.{AllZip}
 use Rattle.std.proofs.lemmas.List.{append-nil, take_all, take_more}
 use Rattle.std.proofs.lemmas.List.Elements.{All-get_or, filter-append}
 use Rattle.std.proofs.lemmas.List.Sums.{count_by-le-length, length-filter}
-use Rattle.sj_base.specs.Array.{Array}
 use Rattle.sj_base.specs.Mode.{is_written, reads_value}
 use Rattle.sj_base.specs.declared.mode.Access.{Access}
 use Rattle.sj_base.specs.declared.program.CellInfo.{CellInfo}
 use Rattle.sj_base.specs.declared.program.Lowered.{Lowered}
-use Rattle.sj_codelet.specs.Frame.{Frame, Slot, frame, shared}
-use Rattle.sj_core.proofs.Words.{Block, Cell, Machine, Program, Task, dims_of, place, task_of}
+use Rattle.sj_codelet.specs.Frame.{Frame, Slot, shared}
+use Rattle.sj_core.proofs.Words.{Block, Cell, Machine, Program, Task, place, task_of}
 use Rattle.sj_core.specs.Needs.{place_after}
 use Rattle.sj_core.specs.Program.{no_task}
 use Rattle.sj_core.specs.Proper.{Proper}
@@ -20,7 +19,7 @@ use Rattle.sj_disk.specs.declared.directory.Extent.{Extent}
 use Rattle.sj_machine.specs.Operands.{read_among}
 use Rattle.sj_machine.specs.Placing.{ArePlaced}
 use Rattle.sj_machine.specs.Running.{IsResultIn}
-use Rattle.sj_machine.specs.Sound.{IsBlock, block_of}
+use Rattle.sj_machine.specs.Sound.{IsBlock}
 use Rattle.sj_check.specs.Results.{AddsResult, AddsShare}
 
 abbrev written_of : List Access → List Access

@@ -1,5 +1,5 @@
 -- What is kept of workers' tasks and of the tasks that are done, where one task goes on.
-use Rattle.std.proofs.Common.{◌≡◌, ◌≢◌, ℕ, ◌<◌, ◌↔◌, ◌⊎◌, ◌++◌, ◌∷◌, ◌∙◌, true, false, List, [], Option, None, Some, ap, arith, get_or, inl, inr, length, length-set, refl, set, subst, sym}
+use Rattle.std.proofs.Common.{◌≡◌, ◌≢◌, ℕ, ◌<◌, ◌↔◌, ◌⊎◌, ◌++◌, ◌∷◌, ◌∙◌, true, List, [], Option, None, Some, ap, arith, get_or, inl, inr, length, length-set, set, subst, sym}
 use Rattle.std.specs.Prelude.{IsTrue, filter}
 use Rattle.std.specs.List.{Contains, range_with_len, slice_index_or}
 use Rattle.std.proofs.lemmas.Bool.{cases_eq, false≢true}

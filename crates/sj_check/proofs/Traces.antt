@@ -1,15 +1,15 @@
 -- Traces in two parts: fronts of legal traces are legal, and a trace with an event that isn't legal is not.
-use Rattle.std.proofs.Common.{◌≡◌, ℕ, zero, suc, ◌+◌, ◌<◌, ◌∙◌, List, [], ◌∷◌, ◌++◌, take, length, get_or, refl, ap, arith, subst, sym}
+use Rattle.std.proofs.Common.{◌≡◌, ℕ, zero, suc, ◌+◌, ◌<◌, ◌∙◌, List, [], ◌∷◌, ◌++◌, take, length, refl, ap, arith, subst}
 use Rattle.std.proofs.Math.Logic.{∥∥₁_elim}
 use Rattle.std.proofs.Props.{props}
-use Rattle.std.specs.Prelude.{None, Option, Some, slice_get}
+use Rattle.std.specs.Prelude.{None, Some, slice_get}
 use Rattle.sj_base.specs.declared.trace.Event.{Event}
 use Rattle.sj_core.proofs.Words.{Machine, Program, State, opening}
 use Rattle.sj_core.proofs.Replaying.{Replays-coherent, Replays-final}
 use Rattle.sj_core.proofs.States.{Replays-state, Step-after}
 use Rattle.sj_core.specs.Coherent.{Coherent}
 use Rattle.sj_core.specs.Laws.{HoldsFinal}
-use Rattle.sj_core.specs.Legal.{Finishes, IsComplete, IsFinished, IsLegal, Leads, Legal, Replays, state_of}
+use Rattle.sj_core.specs.Legal.{IsComplete, IsFinished, IsLegal, Leads, Legal, Replays, state_of}
 use Rattle.sj_core.specs.Step.{Step, after}
 use Rattle.sj_machine.specs.Sound.{IsRunOf}
 use Rattle.sj_check.specs.Refusal.{IsFirstBad, IsUnfinished}

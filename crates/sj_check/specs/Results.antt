@@ -1,5 +1,5 @@
 -- What a task's operand adds to a frame of results.
-use Rattle.std.specs.Prelude.{◌≡◌, ◌+◌, List, [], ◌∷◌, ◌++◌, MatchBool}
+use Rattle.std.specs.Prelude.{◌≡◌, ◌+◌, [], ◌∷◌, ◌++◌, MatchBool}
 use Rattle.sj_base.specs.Array.{Array}
 use Rattle.sj_base.specs.Mode.{is_written}
 use Rattle.sj_base.specs.declared.mode.Access.{Access}

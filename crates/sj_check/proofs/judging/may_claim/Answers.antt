@@ -1,11 +1,8 @@
-use Rattle.std.proofs.Common.{◌≡◌, ◌≤◌, ◌∙◌, None, Option, ap, arith, is_some, subst, sym}
+use Rattle.std.proofs.Common.{◌≡◌, ◌≤◌, ◌∙◌, ap, arith, is_some, sym}
 use Rattle.std.proofs.lemmas.Bool.{false≢true}
 use Rattle.sj_base.specs.declared.program.Program.{Program}
-use Rattle.sj_base.specs.declared.ids.Task.{Task}
 use Rattle.sj_core.specs.Machine.{is_waiting}
 use Rattle.sj_core.specs.Needs.{footprint}
-use Rattle.sj_machine.specs.Standing.{state}
-use Rattle.sj_check.specs.Watching.{task_in}
 use Rattle.sj_check.proofs.Legality.{claim-may, fits-tells, may-idle, may-ready, none-is, waiting-is}
 use Rattle.sj_check.proofs.judging.may_claim.Goals as goal
 

@@ -1,4 +1,4 @@
-use Rattle.std.proofs.Common.{◌∙◌, false, true, refl, subst, sym}
+use Rattle.std.proofs.Common.{◌∙◌, false, true, subst, sym}
 use Rattle.std.proofs.lemmas.Bool.{false≢true}
 use Rattle.sj_base.specs.declared.trace.Event.TheVariants.{Run}
 use Rattle.sj_check.specs.Replay.{Judges, Replay}

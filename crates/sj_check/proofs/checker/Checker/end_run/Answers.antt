@@ -1,4 +1,4 @@
-use Rattle.std.proofs.Common.{◌∙◌, None, false, true, refl, set, subst, sym}
+use Rattle.std.proofs.Common.{◌∙◌, None, false, true, set, subst, sym}
 use Rattle.std.proofs.lemmas.Bool.{false≢true}
 use Rattle.sj_base.specs.declared.trace.Event.TheVariants.{End}
 use Rattle.sj_deps.specs.Progress.{after}
