@@ -1,4 +1,4 @@
-use Rattle.std.proofs.Common.{ℕ, ◌≡◌, ◌≤◌, ◌^◌, ◌∙◌, [], ◌∷◌, List, ap, arith, length, refl, subst, sym}
+use Rattle.std.proofs.Common.{ℕ, ◌≤◌, ◌^◌, ◌∙◌, [], ap, arith, length, subst, sym}
 use Rattle.std.specs.Prelude.{All}
 use Rattle.std.proofs.lemmas.List.Elements.{All-cons, All-nil}
 use Rattle.sj_base.specs.declared.program.Machine.{Machine}
