@@ -5,8 +5,10 @@ use Rattle.std.proofs.Props.{props}
 use Rattle.std.specs.Prelude.{None, Some, slice_get}
 use Rattle.sj_base.specs.declared.trace.Event.{Event}
 use Rattle.sj_core.proofs.Words.{Machine, Program, State, opening}
+use Rattle.sj_core.proofs.Bound.{legal-within_bound}
 use Rattle.sj_core.proofs.Replaying.{Replays-coherent, Replays-final}
 use Rattle.sj_core.proofs.States.{Replays-state, Step-after}
+use Rattle.sj_core.specs.Bound.{HasAtMostThreePerTaskAndFivePerOperand}
 use Rattle.sj_core.specs.Coherent.{Coherent}
 use Rattle.sj_core.specs.Laws.{HoldsFinal}
 use Rattle.sj_core.specs.Legal.{IsComplete, IsFinished, IsLegal, Leads, Legal, Replays, state_of}
@@ -67,6 +69,10 @@ module _ (p : Program) (m : Machine) (run : IsRunOf p m) (trace : List Event) (r
   -- and a complete one what all tasks leave
   pub whole-final : IsComplete (state_of p m trace) → HoldsFinal p (state_of p m trace)
   whole-final complete = Replays-final p m run.proper run.machine run.has run.lawful trace (state_of p m trace) replays complete
+
+  -- and its length is within the bound of its program
+  pub whole-within_bound : HasAtMostThreePerTaskAndFivePerOperand p trace
+  whole-within_bound = legal-within_bound run.has p m trace run.proper run.machine run.lawful ∣ record { left = state_of p m trace; replays = replays } ∣₁
 
 -- ---- what a check answers
 

@@ -3,7 +3,7 @@ use Rattle.std.proofs.lemmas.Bool.{false≢true}
 use Rattle.sj_core.specs.Legal.{IsComplete}
 use Rattle.sj_check.specs.Replay.{IsSoundReplay, Replay, state}
 use Rattle.sj_check.proofs.Ending.{loop-bad, loop-ends, loop-good}
-use Rattle.sj_check.proofs.Traces.{finished-now, fronts-coherent, unfinished-now, whole-final}
+use Rattle.sj_check.proofs.Traces.{finished-now, fronts-coherent, unfinished-now, whole-final, whole-within_bound}
 use Rattle.sj_check.proofs.check.check.Goals as goal
 
 pub loop-i-preserved : goal.loop-i-preserved
@@ -38,6 +38,15 @@ returns-then-is_complete-clause-holds_what_all_tasks_leave c =
     let whole = loop-ends p m events c.loop-i.i c.loop-i.checker c.loop-i.invariant (omega (arith, c.loop-i-test.false, c.len-i-end.ensures)) in
     let sound = subst IsSoundReplay whole c.is_sound-2.ensures in
     λ ok. whole-final p m c.requires.run events sound.legal (subst (λ (r : Replay). IsComplete (state r)) whole (c.is_complete.ensures.0 c.if-is_complete.true))
+
+pub returns-then-is_complete-clause-has_at_most_three_events_a_task_and_five_an_operand : goal.returns-then-is_complete-clause-has_at_most_three_events_a_task_and_five_an_operand
+returns-then-is_complete-clause-has_at_most_three_events_a_task_and_five_an_operand c =
+    let p = c.args.program.value in
+    let m = c.args.machine in
+    let events = c.args.trace.now.events in
+    let whole = loop-ends p m events c.loop-i.i c.loop-i.checker c.loop-i.invariant (omega (arith, c.loop-i-test.false, c.len-i-end.ensures)) in
+    let sound = subst IsSoundReplay whole c.is_sound-2.ensures in
+    λ ok. whole-within_bound p m c.requires.run events sound.legal
 
 pub returns-clause-refused : goal.returns-clause-refused
 returns-clause-refused c =
