@@ -82,9 +82,13 @@ fn the_first_event_that_is_not_legal_is_named(rt: HostRuntime) -> Result<(), Out
     let alloc = rt.alloc();
     for i in 0..19u64 {
         let without = with_line(alloc, i as usize, 0)?;
-        assert!(rt; said_of(alloc, JOB, &without) == Some(Err(CheckRefusal::BadEvent { index: i })));
+        assert!(rt;
+            said_of(alloc, JOB, &without) == Some(Err(CheckRefusal::BadEvent { index: i }))
+        );
         let doubled = with_line(alloc, i as usize, 2)?;
-        assert!(rt; said_of(alloc, JOB, &doubled) == Some(Err(CheckRefusal::BadEvent { index: i + 1 })));
+        assert!(rt;
+            said_of(alloc, JOB, &doubled) == Some(Err(CheckRefusal::BadEvent { index: i + 1 }))
+        );
     }
     Ok(())
 }
@@ -129,7 +133,10 @@ fn an_event_with_a_number_of_nothing_is_named(rt: HostRuntime) -> Result<(), Out
     ] {
         let text = replaced(alloc, TRACE, index, other.as_bytes())?;
         let said = said_of(alloc, JOB, &text);
-        assert!(rt; said == Some(Err(CheckRefusal::BadEvent { index })), "{other}");
+        assert!(rt;
+            said == Some(Err(CheckRefusal::BadEvent { index })),
+            "{other}"
+        );
     }
     Ok(())
 }
@@ -139,6 +146,10 @@ fn a_claim_without_room_is_named(rt: HostRuntime) {
     let alloc = rt.alloc();
     let two = said_of(alloc, JOB_OF_THREE, b"claim t0 w0\nclaim t1 w1\n");
     assert!(rt; two == Some(Err(CheckRefusal::Unfinished)));
-    let three = said_of(alloc, JOB_OF_THREE, b"claim t0 w0\nclaim t1 w1\nclaim t2 w2\n");
+    let three = said_of(
+        alloc,
+        JOB_OF_THREE,
+        b"claim t0 w0\nclaim t1 w1\nclaim t2 w2\n",
+    );
     assert!(rt; three == Some(Err(CheckRefusal::BadEvent { index: 2 })));
 }
