@@ -228,7 +228,7 @@ fn first_block<D: Disk>(disk: &mut D) -> Option<[u8; 48]> {
 fn a_text_of_the_trace_of_three_arrays(rt: HostRuntime) -> Result<(), Fail> {
     let alloc = rt.alloc();
     let disks = whole(alloc, ROUND_SWAP)?;
-    let text = THREE.as_bytes().to_vec(alloc)?;
+    let text = THREE.as_bytes();
     let mut answer = answer_on(&rt, alloc, &["--trace"], text, disks, &OpenGate)?;
     assert_eq!(rt; answer.outcome.status, Status::Done);
     assert_eq!(rt; answer.out.taken(), THREE_TRACED.as_bytes());
