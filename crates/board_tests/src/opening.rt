@@ -6,7 +6,7 @@ ghost use Rattle.sj_base.specs.declared.ids.Worker.{Worker};
 ghost use Rattle.sj_base.specs.Array.{area};
 ghost use Rattle.sj_core.specs.Proper.{HasSwapFor, IsWithinLimits};
 ghost use Rattle.sj_disk.specs.Directory.{extent_of};
-ghost use Rattle.sj_engine.specs.Run.{ArePlaced, IsEmptySet, ReservesSome};
+ghost use Rattle.sj_machine.specs.Placing.{ArePlaced, IsEmptySet, ReservesSome};
 ghost use Rattle.sj_machine.specs.Board.{IsFree};
 ghost use Rattle.sj_machine.specs.Sound.{IsRunOf};
 ghost use Rattle.sj_machine.specs.Standing.{AllTell};
