@@ -1,0 +1,71 @@
+#!/usr/bin/env python3
+"""Times traces: their text, reading it, and checking them.
+
+Build `starjob` first by ./run examples/first.job, and `trace_check` by `rt run` in its folder (any answer will do). The job has
+100,000 tasks each of which evicts one cell of 8 bytes. Its trace is written and read by a C program, too (`plain.c`), which checks
+nothing. Reading is what `trace_check` takes longer where the last line is no event than where the first isn't; writing is what
+`starjob` takes longer with `--trace`. Least processor time of seven runs each. Run it by hand, on a machine that does nothing else.
+"""
+import os, subprocess, sys, tempfile
+
+here = os.path.dirname(os.path.abspath(__file__))
+top = os.path.dirname(os.path.dirname(here))
+starjob = os.environ.get("STARJOB") or os.path.join(top, "crates", "starjob", "out", "starjob")
+checker = os.environ.get("TRACE_CHECK") or os.path.join(top, "crates", "trace_check", "out", "trace_check")
+EVENTS = ("claim ", "run ", "end ", "move ", "moved ", "drop ")
+
+
+def evicting(n):
+    yield from (f"vector v{k} 1 fill {k} 0" for k in range(3))
+    yield from (f"task scale(3) v{k % 3}:RW" for k in range(n))
+
+
+def long_tasks(n):
+    yield "vector x 1000000 fill 1 0"
+    yield from ("task scale(3) x:RW" for _ in range(n))
+
+
+def least(words, job, output=None):
+    """The least processor time of the runs, in milliseconds."""
+    times = []
+    for _ in range(7):
+        with open(job) as given, open(output or os.devnull, "w") as out:
+            process = subprocess.Popen(words, stdin=given, stdout=out, stderr=subprocess.DEVNULL)
+            _, status, used = os.wait4(process.pid, 0)
+            process.returncode = status
+        times.append(1e3 * (used.ru_utime + used.ru_stime))
+    return min(times)
+
+
+def main():
+    with tempfile.TemporaryDirectory() as folder:
+        path = lambda name: os.path.join(folder, name)
+
+        def write(name, lines):
+            with open(path(name), "w") as it:
+                it.writelines(line + "\n" for line in lines)
+            return path(name)
+
+        subprocess.run(["gcc", "-O3", "-o", path("plain"), os.path.join(here, "plain.c")], check=True)
+        job, node = write("job", ["starjob 1", *evicting(100_000)]), ["--node", "16"]
+        plain = least([starjob, *node], job)
+        traced = least([starjob, *node, "--trace"], job, path("out"))
+        with open(path("out")) as it:
+            events = [line.rstrip("\n") for line in it if line.startswith(EVENTS)]
+        whole = write("whole", events)
+        first = write("first", ["no event", *events[1:]])
+        last = write("last", [*events[:-1], "no event"])
+        checked = least([checker, *node, whole], job)
+        read = least([checker, *node, last], job) - least([checker, *node, first], job)
+        rows = [subprocess.run([path("plain"), whole, path("copy")], capture_output=True, text=True).stdout.split() for _ in range(7)]
+        c_read, c_write = min(float(row[1]) for row in rows), min(float(row[2]) for row in rows)
+        print(f"{len(events)} events")
+        print(f"text: {traced - plain:.1f} ms, C {c_write:.1f} ms, {(traced - plain) / c_write:.2f} times (goal: at most 2)")
+        print(f"read_trace: {read:.1f} ms, C {c_read:.1f} ms, {read / c_read:.2f} times (goal: at most 2)")
+        print(f"trace_check: {checked:.0f} ms, starjob {plain:.0f} ms, {checked / plain:.2f} times (goal: at most 2)")
+        job = write("long", ["starjob 1", *long_tasks(300)])
+        without, trace = least([starjob], job), least([starjob, "--trace"], job)
+        print(f"--trace on 300 tasks of {without / 300:.2f} ms: {trace / without:.3f} times (goal: at most 1.1)")
+
+
+main()
