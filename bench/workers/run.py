@@ -2,8 +2,9 @@
 """Times jobs by several workers: small tasks, the product, shortest ways, a chain, and workers with nothing to do.
 
 Build `starjob` first, by ./run examples/first.job, on a machine of four processors that does nothing else. Wall time of whole
-runs, best of five unless a number is given, less that of reading the same job's arrays where tasks are small. C's plain loops
-for the shortest ways are those of bench/jobs (order.c).
+runs, best of five unless a number is given, less that of the job without its tasks where these are small. How long these take to
+read is known from the same text with a last line that is refused. C's plain loops for the shortest ways are those of bench/jobs
+(order.c).
 """
 import os, subprocess, sys, tempfile, time
 
@@ -13,8 +14,8 @@ starjob = os.path.join(top, "crates", "starjob", "out", "starjob")
 RUNS = int(sys.argv[1]) if len(sys.argv) > 1 else 5
 
 
-def run(folder, lines, workers, swap=2**20):
-    """The least wall seconds, and the least processor seconds."""
+def run(folder, lines, workers, swap=2**20, wanted=0):
+    """The least wall seconds, and the least processor seconds, of runs that end with the wanted status."""
     path = os.path.join(folder, "job")
     with open(path, "w") as f:
         f.write("\n".join(["starjob 1", *lines]) + "\n")
@@ -27,7 +28,7 @@ def run(folder, lines, workers, swap=2**20):
             _, status, usage = os.wait4(child.pid, 0)
             walls.append(time.monotonic() - started)
         works.append(usage.ru_utime + usage.ru_stime)
-        if status != 0:
+        if os.waitstatus_to_exitcode(status) != wanted:
             sys.exit(f"starjob {' '.join(words)} ended with {status}")
     return min(walls), min(works)
 
@@ -83,14 +84,22 @@ def long_chain(n):
     yield from ["task gemm A:R B:R C:RW"] * n
 
 
+def small_task(folder, workers):
+    """Microseconds that a small task takes, and how many of them are reading."""
+    whole, read = (
+        [run(folder, [*small(n), *refused], workers, wanted=status)[0] for n in (0, 100_000)]
+        for refused, status in (([], 0), (["task"], 3))
+    )
+    return (whole[1] - whole[0]) * 10, (read[1] - read[0]) * 10
+
+
 def main():
     print(f"cores: {os.cpu_count()}, load: {os.getloadavg()[0]:.1f}")
     with tempfile.TemporaryDirectory() as folder:
         program = starpu(folder)
         for workers in (1, 2, 4):
-            base, _ = run(folder, small(0), workers)
-            taken, _ = run(folder, small(100_000), workers)
-            print(f"100,000 tasks by {workers}: {(taken - base) * 10:.2f} us a task, reading included", flush=True)
+            taken, read = small_task(folder, workers)
+            print(f"100,000 tasks by {workers}: {taken:.2f} us a task, {taken - read:.2f} without reading", flush=True)
             if program:
                 print(f"    StarPU: {starpu_time(program, workers):.2f} us a task", flush=True)
         for tile, goal in ((256, 0.93), (128, 0.90)):

@@ -28,7 +28,8 @@ use Rattle.sj_core.specs.Program.{task_of}
 use Rattle.sj_core.specs.Needs.{node_of}
 use Rattle.sj_core.specs.Operands.{worked_on}
 use Rattle.sj_core.specs.Fold.{after_chosen, held_in, held_before, given}
-use Rattle.sj_core.specs.Legal.{Replays, IsComplete, state_of}
+use Rattle.sj_core.specs.Bound.{HasAtMostThreePerTaskAndFivePerOperand}
+use Rattle.sj_core.specs.Legal.{IsLegal, Replays, IsComplete, state_of}
 
 -- a coherent state of a proper program on a machine for it
 pub record IsSound (p : Program) (m : Machine) (s : State) : Type 0 where
@@ -127,6 +128,10 @@ MovesHaveOneWorker = (p : Program) (m : Machine) (s : State) (c : Cell) (from to
 -- where the blocks fit, each cell of the program has its disk
 abbrev pub EachCellHasDisk : Type 0
 EachCellHasDisk = (p : Program) (m : Machine) (c : Cell) → HasSwapFor p m → c.0 < length p.cells → (d : DiskNo) × (disk_of p m c ≡ Some d)
+
+-- a legal trace has at most three events for each task and five for each operand
+abbrev pub LegalTracesAreBounded : Type 0
+LegalTracesAreBounded = (has : Kernel → Bool) (p : Program) (m : Machine) (trace : List Event) → Proper p → IsMachineFor p m → IsLawful has p → IsLegal p m trace → HasAtMostThreePerTaskAndFivePerOperand p trace
 
 -- a cell's disk is one of the machine's
 abbrev pub DisksAreOfMachine : Type 0

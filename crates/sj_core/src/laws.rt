@@ -1,18 +1,16 @@
 //! What the steps of a run keep of a coherent state, and what legal traces come to, whatever the program, the
 //! machine and the order of events.
 
-ghost use Rattle.std.specs.Prelude.{Bool, List};
+ghost use Rattle.std.specs.Prelude.{List};
 ghost use Rattle.sj_base.specs.declared.trace.Event.{Event};
 ghost use Rattle.sj_base.specs.declared.program.Program.{Program};
 ghost use Rattle.sj_base.specs.declared.program.Machine.{Machine};
-ghost use Rattle.sj_codelet.specs.declared.kernel.Kernel.{Kernel};
-ghost use Rattle.sj_core.specs.Bound.{HasAtMostThreePerTaskAndFivePerOperand};
 ghost use Rattle.sj_core.specs.Coherent.{Coherent, IsStateOf, NodesSuffice, OrderIsKept, PinsHold, TasksHaveCells, TransfersAreSound, WorkersAreSound, WritesAreCounted};
-ghost use Rattle.sj_core.specs.Laws.{CompleteHoldsFinal, CompleteTracesHoldFinal, DeliversGiven, DisksAreOfMachine, EachCellHasDisk, FindsContent, FindsEarlierTasks, IsKeptByClaims, IsKeptByDrops, IsKeptByEndedMoves, IsKeptByEnds, IsKeptByLawfulEnds, IsKeptByMovesIn, IsKeptByMovesOut, IsKeptByRuns, IsLawful, MovesHaveOneWorker, StepsLeaveOneState, TakesAnyWorker, TracesKeepCoherence, TracesLeaveOneState};
-ghost use Rattle.sj_core.specs.Legal.{IsFinished, IsLegal};
+ghost use Rattle.sj_core.specs.Laws.{CompleteHoldsFinal, CompleteTracesHoldFinal, DeliversGiven, DisksAreOfMachine, EachCellHasDisk, FindsContent, FindsEarlierTasks, IsKeptByClaims, IsKeptByDrops, IsKeptByEndedMoves, IsKeptByEnds, IsKeptByLawfulEnds, IsKeptByMovesIn, IsKeptByMovesOut, IsKeptByRuns, LegalTracesAreBounded, MovesHaveOneWorker, StepsLeaveOneState, TakesAnyWorker, TracesKeepCoherence, TracesLeaveOneState};
+ghost use Rattle.sj_core.specs.Legal.{IsFinished};
 ghost use Rattle.sj_core.specs.Machine.{opening};
 ghost use Rattle.sj_core.specs.Once.{EachRanOnce};
-ghost use Rattle.sj_core.specs.Proper.{IsMachineFor, Proper};
+ghost use Rattle.sj_core.specs.Proper.{Proper};
 ghost use Rattle.sj_deps.specs.Conflict.{HasDependencies};
 
 /// A proper program's dependencies can be counted: each access names a cell, and a task accesses a cell in one manner.
@@ -109,6 +107,5 @@ pub fn finishes()
 
 /// A legal trace has at most three events for each task of its program and five for each operand.
 pub fn bounds()
-    ensures { (has : Kernel → Bool) (p : Program) (m : Machine) (trace : List Event) → Proper p → IsMachineFor p m →
-        IsLawful has p → IsLegal p m trace → HasAtMostThreePerTaskAndFivePerOperand p trace }
+    ensures { LegalTracesAreBounded }
 {}
