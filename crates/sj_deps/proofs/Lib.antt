@@ -8,6 +8,7 @@ pub mod Freeing
 pub mod Keeping
 pub mod Leaving
 pub mod Listing
+pub mod Operands
 pub mod Places
 pub mod Pushing
 pub mod Readiness

@@ -1,5 +1,6 @@
 pub mod Conflict
 pub mod Chains
+pub mod Crews
 pub mod Counts
 pub mod Progress
 pub mod Lending

@@ -3,9 +3,9 @@
 ghost use Rattle.std.specs.Prelude.{◌≡◌, ◌+◌, ◌<◌, ◌≤◌, ◌&&◌, ◌==◌, ℕ, All, IfOk, OnErr, length, vec_capacity, count_by, nat_lt, slice_set, ◌-◌, min};
 ghost use Rattle.sj_deps.specs.Chains.{joins, no_chain, joins_last, waits_of, is_party, left_from, Pushes, IsRun, Releases, Finishes};
 
+use crate::few::Few;
 use crate::manner::Manner;
 use sj_base::memory::OutOfMemory;
-use sj_base::sequence::Sequence;
 use std::alloc::Global;
 
 /// A party that accesses the cell, by its number, and how. A party is a task by itself, or the contributions
@@ -16,11 +16,21 @@ pub struct Member {
     pub manner: Manner,
 }
 
+impl Default for Member {
+    /// What fills the places of a short list that no access takes.
+    fn default() -> Member {
+        Member {
+            party: 0,
+            manner: Manner::Read,
+        }
+    }
+}
+
 /// The accesses to one cell, each party once, in the order of tasks. A run is a longest part of it whose
 /// accesses don't conflict: readers, one commuting group, one reduction phase, or one writer.
 #[derive(Drop)]
 pub struct Chain {
-    pub members: Sequence<Member>,
+    pub members: Few<Member>,
     /// How many accesses may begin or have begun: whole runs, and all of them but the last are finished.
     pub released: usize,
     /// How many of these are finished.
@@ -67,9 +77,12 @@ fn run_end(members: &[Member], first: usize) -> usize
 fn count_down(waits: &mut Vec<usize>, opened: &mut Vec<usize>, party: usize)
     requires party { party < length waits.old.items }
     requires waiting { 0 < waits_of waits.old.items party }
-    requires room { length opened.old.items + count_by (nat_lt 0) waits.old.items ≤ vec_capacity opened.old }
-    ensures waits { waits.new.items ≡ slice_set waits.old.items party (waits_of waits.old.items party - 1) }
-    ensures opened { (n : ℕ) → count_by (is_party n) opened.new.items + min 1 (waits_of waits.new.items n)
+    requires room { length opened.old.items + count_by (nat_lt 0) waits.old.items
+        ≤ vec_capacity opened.old }
+    ensures waits { waits.new.items
+        ≡ slice_set waits.old.items party (waits_of waits.old.items party - 1) }
+    ensures opened { (n : ℕ) → count_by (is_party n) opened.new.items
+        + min 1 (waits_of waits.new.items n)
         ≡ count_by (is_party n) opened.old.items + min 1 (waits_of waits.old.items n) }
     ensures total { length opened.new.items + count_by (nat_lt 0) waits.new.items
         ≡ length opened.old.items + count_by (nat_lt 0) waits.old.items }
@@ -94,8 +107,10 @@ fn release(
     requires within { last ≤ length members.now }
     requires parties { All (λ m. m.party < length waits.old.items) members.now }
     requires waiting { (n : ℕ) → left_from members.now first n ≤ waits_of waits.old.items n }
-    requires room { length opened.old.items + count_by (nat_lt 0) waits.old.items ≤ vec_capacity opened.old }
-    ensures released { Releases waits.old.items waits.new.items opened.old.items opened.new.items members.now first last }
+    requires room { length opened.old.items + count_by (nat_lt 0) waits.old.items
+        ≤ vec_capacity opened.old }
+    ensures released { Releases waits.old.items waits.new.items opened.old.items opened.new.items
+        members.now first last }
     ensures capacity { vec_capacity opened.old ≤ vec_capacity opened.new }
 {
     for p in first..last {
@@ -109,7 +124,7 @@ impl Chain {
         ensures { result ≡ no_chain }
     {
         Chain {
-            members: Sequence::empty(alloc),
+            members: Few::empty(alloc),
             released: 0,
             finished: 0,
         }
@@ -134,10 +149,13 @@ impl Chain {
         requires within { self.old.released ≤ length self.old.members }
         requires unfinished { self.old.finished < self.old.released }
         requires parties { All (λ m. m.party < length waits.old.items) self.old.members }
-        requires waiting { (n : ℕ) → left_from self.old.members self.old.released n ≤ waits_of waits.old.items n }
-        requires room { length opened.old.items + count_by (nat_lt 0) waits.old.items ≤ vec_capacity opened.old }
+        requires waiting { (n : ℕ) → left_from self.old.members self.old.released n
+            ≤ waits_of waits.old.items n }
+        requires room { length opened.old.items + count_by (nat_lt 0) waits.old.items
+            ≤ vec_capacity opened.old }
         ensures finished { Finishes self.old self.new }
-        ensures released { Releases waits.old.items waits.new.items opened.old.items opened.new.items self.old.members
+        ensures released { Releases waits.old.items waits.new.items opened.old.items
+            opened.new.items self.old.members
             self.old.released self.new.released }
         ensures capacity { vec_capacity opened.old ≤ vec_capacity opened.new }
     {

@@ -8,12 +8,13 @@ ghost use Rattle.sj_deps.specs.Chains.{is_party, left_of, waits_of};
 ghost use Rattle.sj_deps.specs.Counts.{Frees, Mutual, blocked, is_task, owed, parties_at, tasks_at};
 
 use crate::chain::Chain;
+use crate::crew::Crew;
 use crate::entry::{empty_lists, enter_tasks};
+use crate::few::Few;
 use crate::settle::leave_all;
 use sj_base::ids::Task;
 use sj_base::memory::OutOfMemory;
 use sj_base::program::Program;
-use sj_base::sequence::Sequence;
 use std::alloc::Global;
 
 /// What is counted of a program's tasks. A party is a task by itself, or the contributions of one phase.
@@ -22,11 +23,11 @@ pub struct Counters {
     /// The accesses to each cell.
     pub chains: Vec<Chain>,
     /// The cells of each party.
-    pub cells: Vec<Sequence<usize>>,
+    pub cells: Vec<Few<usize>>,
     /// The tasks of each party.
-    pub tasks: Vec<Sequence<Task>>,
+    pub tasks: Vec<Crew>,
     /// The parties of each task.
-    pub parties: Vec<Sequence<usize>>,
+    pub parties: Vec<Few<usize>>,
     /// How many accesses of each party wait for earlier ones.
     pub waits: Vec<usize>,
     /// How many tasks of each party aren't done.
@@ -78,8 +79,10 @@ impl Counters {
     pub fn complete(&mut self, t: Task)
         requires ledger { Ledger self.old }
         requires task { t.0 < length self.old.held.items }
-        requires enough { (n : ℕ) → count_by (is_party n) (parties_at self.old.parties.items t.0) ≤ left_of self.old.left.items n }
-        requires free { All (λ n. waits_of self.old.waits.items n ≡ 0) (parties_at self.old.parties.items t.0) }
+        requires enough { (n : ℕ) → count_by (is_party n) (parties_at self.old.parties.items t.0)
+            ≤ left_of self.old.left.items n }
+        requires free { All (λ n. waits_of self.old.waits.items n ≡ 0)
+            (parties_at self.old.parties.items t.0) }
         requires room_done { length self.old.order.items < vec_capacity self.old.order }
         ensures { Completes self.old self.new t.0 }
     {
@@ -104,30 +107,27 @@ impl Counters {
 /// The parties of each task. Linear in the tasks of all parties.
 fn parties_of_tasks(
     alloc: Global,
-    tasks: &[Sequence<Task>],
+    tasks: &[Crew],
     count: usize,
-) -> Result<Vec<Sequence<usize>>, OutOfMemory>
+) -> Result<Vec<Few<usize>>, OutOfMemory>
     requires { (n : ℕ) → All (λ x. x.0 < count) (tasks_at tasks.now n) }
     ensures len { IfOk result (λ v. length v.items ≡ count) }
     ensures matching { IfOk result (λ v. Mutual v.items tasks.now) }
 {
     let mut parties = empty_lists(alloc, count)?;
     for n in 0..tasks.len() {
-        list_party(&mut parties, tasks[n].items(), n)?;
+        list_party(&mut parties, tasks[n].tasks(), n)?;
     }
     Ok(parties)
 }
 
 /// Lists a party with each of its tasks.
-fn list_party(
-    parties: &mut Vec<Sequence<usize>>,
-    tasks: &[Task],
-    n: usize,
-) -> Result<(), OutOfMemory>
+fn list_party(parties: &mut Vec<Few<usize>>, tasks: &[Task], n: usize) -> Result<(), OutOfMemory>
     requires { All (λ x. x.0 < length parties.old.items) tasks.now }
     ensures len { OnOk result (length parties.new.items ≡ length parties.old.items) }
     ensures listed { OnOk result ((t k : ℕ) → count_by (is_party k) (parties_at parties.new.items t)
-        ≡ count_by (is_party k) (parties_at parties.old.items t) + (if nat_eq n k then count_by (is_task t) tasks.now else 0)) }
+        ≡ count_by (is_party k) (parties_at parties.old.items t)
+        + (if nat_eq n k then count_by (is_task t) tasks.now else 0)) }
 {
     for task in tasks {
         parties[task.0 as usize].push(n)?;
@@ -145,7 +145,7 @@ fn blocked(parties: &[usize], waits: &[usize]) -> usize
 
 fn count_blocked(
     alloc: Global,
-    parties: &[Sequence<usize>],
+    parties: &[Few<usize>],
     waits: &[usize],
 ) -> Result<Vec<usize>, OutOfMemory>
     requires { All (All (λ n. n < length waits.now)) parties.now }
@@ -158,12 +158,12 @@ fn count_blocked(
     Ok(held)
 }
 
-fn count_tasks(alloc: Global, tasks: &[Sequence<Task>]) -> Result<Vec<usize>, OutOfMemory>
+fn count_tasks(alloc: Global, tasks: &[Crew]) -> Result<Vec<usize>, OutOfMemory>
     ensures { IfOk result (λ v. v.items ≡ map (λ ts. length ts) tasks.now) }
 {
     let mut left = Vec::with_capacity(alloc, tasks.len())?;
     for list in tasks {
-        left.push(list.len())?;
+        left.push(list.tasks().len())?;
     }
     Ok(left)
 }
@@ -172,9 +172,12 @@ fn count_tasks(alloc: Global, tasks: &[Sequence<Task>]) -> Result<Vec<usize>, Ou
 fn free(held: &mut Vec<usize>, ready: &mut Vec<Task>, task: Task)
     requires task { task.0 < length held.old.items }
     requires waiting { 0 < waits_of held.old.items task.0 }
-    requires room { length ready.old.items + count_by (nat_lt 0) held.old.items ≤ vec_capacity ready.old }
-    ensures held { held.new.items ≡ slice_set held.old.items task.0 (waits_of held.old.items task.0 - 1) }
-    ensures ready { (t : ℕ) → count_by (is_task t) ready.new.items + min 1 (waits_of held.new.items t)
+    requires room { length ready.old.items + count_by (nat_lt 0) held.old.items
+        ≤ vec_capacity ready.old }
+    ensures held { held.new.items
+        ≡ slice_set held.old.items task.0 (waits_of held.old.items task.0 - 1) }
+    ensures ready { (t : ℕ) → count_by (is_task t) ready.new.items
+        + min 1 (waits_of held.new.items t)
         ≡ count_by (is_task t) ready.old.items + min 1 (waits_of held.old.items t) }
     ensures total { length ready.new.items + count_by (nat_lt 0) held.new.items
         ≡ length ready.old.items + count_by (nat_lt 0) held.old.items }
@@ -192,8 +195,10 @@ fn free(held: &mut Vec<usize>, ready: &mut Vec<Task>, task: Task)
 fn free_party(tasks: &[Task], held: &mut Vec<usize>, ready: &mut Vec<Task>)
     requires known { All (λ x. x.0 < length held.old.items) tasks.now }
     requires enough { (t : ℕ) → count_by (is_task t) tasks.now ≤ waits_of held.old.items t }
-    requires room { length ready.old.items + count_by (nat_lt 0) held.old.items ≤ vec_capacity ready.old }
-    ensures frees { Frees held.old.items held.new.items ready.old.items ready.new.items (λ t. count_by (is_task t) tasks.now) }
+    requires room { length ready.old.items + count_by (nat_lt 0) held.old.items
+        ≤ vec_capacity ready.old }
+    ensures frees { Frees held.old.items held.new.items ready.old.items ready.new.items
+        (λ t. count_by (is_task t) tasks.now) }
     ensures capacity { vec_capacity ready.old ≤ vec_capacity ready.new }
 {
     for task in tasks {
@@ -202,21 +207,18 @@ fn free_party(tasks: &[Task], held: &mut Vec<usize>, ready: &mut Vec<Task>)
 }
 
 /// Frees the tasks of these parties. Linear in them.
-fn free_all(
-    tasks: &[Sequence<Task>],
-    opened: &[usize],
-    held: &mut Vec<usize>,
-    ready: &mut Vec<Task>,
-)
+fn free_all(tasks: &[Crew], opened: &[usize], held: &mut Vec<usize>, ready: &mut Vec<Task>)
     requires parties { All (λ n. n < length tasks.now) opened.now }
     requires known { (n : ℕ) → All (λ x. x.0 < length held.old.items) (tasks_at tasks.now n) }
     requires enough { (t : ℕ) → owed tasks.now opened.now t ≤ waits_of held.old.items t }
-    requires room { length ready.old.items + count_by (nat_lt 0) held.old.items ≤ vec_capacity ready.old }
-    ensures frees { Frees held.old.items held.new.items ready.old.items ready.new.items (owed tasks.now opened.now) }
+    requires room { length ready.old.items + count_by (nat_lt 0) held.old.items
+        ≤ vec_capacity ready.old }
+    ensures frees { Frees held.old.items held.new.items ready.old.items ready.new.items
+        (owed tasks.now opened.now) }
     ensures capacity { vec_capacity ready.old ≤ vec_capacity ready.new }
 {
     for party in opened {
-        free_party(tasks[*party].items(), held, ready);
+        free_party(tasks[*party].tasks(), held, ready);
     }
 }
 

@@ -9,12 +9,13 @@ ghost use Rattle.sj_deps.specs.Chains.{no_chain, party_at};
 ghost use Rattle.sj_deps.specs.Counts.{Entering, Begun, Built, Holds, Adds, Appends, Joins, Opens, EndsInPhase, IsOpen, ends_with, task};
 
 use crate::chain::{Chain, Member};
+use crate::crew::Crew;
+use crate::few::Few;
 use crate::manner::Manner;
 use sj_base::ids::{Cell, Task};
 use sj_base::memory::OutOfMemory;
 use sj_base::mode::{Access, Mode};
 use sj_base::program::{Codelet, Program};
-use sj_base::sequence::Sequence;
 use std::alloc::Global;
 
 /// The accesses of a program, none of them finished. Party `t` is task `t` by itself; the later parties are
@@ -24,9 +25,9 @@ pub struct Entered {
     /// The accesses to each cell.
     pub chains: Vec<Chain>,
     /// The cells of each party.
-    pub cells: Vec<Sequence<usize>>,
+    pub cells: Vec<Few<usize>>,
     /// The tasks of each party.
-    pub tasks: Vec<Sequence<Task>>,
+    pub tasks: Vec<Crew>,
     /// How many accesses of each party wait for earlier ones.
     pub waits: Vec<usize>,
     /// Which parties aren't the last in each of their chains, so that no task joins them any more.
@@ -51,7 +52,8 @@ fn nothing_entered(alloc: Global, cells: usize, count: usize) -> Result<Entered,
     requires { count ≤ 4194304 }
     ensures chains { IfOk result (λ e. e.chains.items ≡ replicate cells no_chain) }
     ensures cells { IfOk result (λ e. e.cells.items ≡ replicate count []) }
-    ensures tasks { IfOk result (λ e. e.tasks.items ≡ map (λ t. task t ∷ []) (range_with_len 0 count)) }
+    ensures tasks { IfOk result (λ e. e.tasks.items
+        ≡ map (λ t. task t ∷ []) (range_with_len 0 count)) }
     ensures waits { IfOk result (λ e. e.waits.items ≡ replicate count 0) }
     ensures flags { IfOk result (λ e. length e.is_closed.items ≡ count) }
 {
@@ -75,33 +77,31 @@ fn empty_chains(alloc: Global, count: usize) -> Result<Vec<Chain>, OutOfMemory>
 }
 
 /// So many empty lists. Linear in the count.
-pub fn empty_lists(alloc: Global, count: usize) -> Result<Vec<Sequence<usize>>, OutOfMemory>
+pub fn empty_lists(alloc: Global, count: usize) -> Result<Vec<Few<usize>>, OutOfMemory>
     ensures { IfOk result (λ v. v.items ≡ replicate count []) }
 {
     let mut lists = Vec::with_capacity(alloc, count)?;
     for _ in 0..count {
-        lists.push(Sequence::empty(alloc))?;
+        lists.push(Few::empty(alloc))?;
     }
     Ok(lists)
 }
 
-/// A list of one task.
-fn single(alloc: Global, t: usize) -> Result<Sequence<Task>, OutOfMemory>
+/// A task by itself.
+fn single(t: usize) -> Crew
     requires { t ≤ 4194304 }
-    ensures { IfOk result (λ s. s ≡ task t ∷ []) }
+    ensures { result ≡ task t ∷ [] }
 {
-    let mut list = Vec::with_capacity(alloc, 1)?;
-    list.push(Task(t as u32))?;
-    Ok(Sequence::of(list))
+    Crew::of(Task(t as u32))
 }
 
-fn single_tasks(alloc: Global, count: usize) -> Result<Vec<Sequence<Task>>, OutOfMemory>
+fn single_tasks(alloc: Global, count: usize) -> Result<Vec<Crew>, OutOfMemory>
     requires { count ≤ 4194304 }
     ensures { IfOk result (λ v. v.items ≡ map (λ t. task t ∷ []) (range_with_len 0 count)) }
 {
     let mut lists = Vec::with_capacity(alloc, count)?;
     for t in 0..count {
-        lists.push(single(alloc, t)?)?;
+        lists.push(single(t))?;
     }
     Ok(lists)
 }
@@ -138,8 +138,11 @@ fn enter_access(
 ) -> Result<(), OutOfMemory>
     requires program { HasDependencies program.now }
     requires task { t < length program.now.tasks }
-    requires uses { (c : ℕ) (m : Manner) → Contains (usages_of program.now codelet access) (usage m c) → Uses program.now t c m }
-    requires holds { Holds program.now entered.old.chains.items entered.old.cells.items entered.old.tasks.items }
+    requires uses { (c : ℕ) (m : Manner) →
+        Contains (usages_of program.now codelet access) (usage m c) →
+        Uses program.now t c m }
+    requires holds { Holds program.now entered.old.chains.items entered.old.cells.items
+        entered.old.tasks.items }
     requires begun { Begun entered.old }
     ensures begun { OnOk result (Begun entered.new) }
     ensures entered { OnOk result ((us : List Usage) → Entering program.now t us entered.old →
@@ -163,9 +166,9 @@ fn enter(entered: &mut Entered, t: usize, manner: Manner, cell: usize) -> Result
     requires listed { t < length entered.old.cells.items }
     requires begun { Begun entered.old }
     ensures begun { OnOk result (Begun entered.new) }
-    ensures entered { OnOk result ((P : Lowered) (us : List Usage) → HasDependencies P → t < length P.tasks →
-        Uses P t cell manner → ¬ (manner ≡ Manner.Contribute) → Entering P t us entered.old →
-        Entering P t (us ++ usage manner cell ∷ []) entered.new) }
+    ensures entered { OnOk result ((P : Lowered) (us : List Usage) → HasDependencies P →
+        t < length P.tasks → Uses P t cell manner → ¬ (manner ≡ Manner.Contribute) →
+        Entering P t us entered.old → Entering P t (us ++ usage manner cell ∷ []) entered.new) }
 {
     if ends_with(&entered.chains[cell], t) {
         return Ok(());
@@ -200,14 +203,16 @@ fn enter_contribution(
 ) -> Result<(), OutOfMemory>
     requires program { HasDependencies program.now }
     requires task { t < length program.now.tasks }
-    requires uses { (c : ℕ) (m : Manner) → Contains (map (usage Manner.Contribute) (copies_of program.now cell.0)) (usage m c) →
+    requires uses { (c : ℕ) (m : Manner) →
+        Contains (map (usage Manner.Contribute) (copies_of program.now cell.0)) (usage m c) →
         Uses program.now t c m }
     requires cells { length entered.old.chains.items ≡ length program.now.cells }
     requires begun { Begun entered.old }
     requires listed { length entered.old.cells.items ≡ length entered.old.tasks.items }
     ensures begun { OnOk result (Begun entered.new) }
     ensures entered { OnOk result ((us : List Usage) → Entering program.now t us entered.old →
-        Entering program.now t (us ++ map (usage Manner.Contribute) (copies_of program.now cell.0)) entered.new) }
+        Entering program.now t (us ++ map (usage Manner.Contribute) (copies_of program.now cell.0))
+        entered.new) }
 {
     let count = program.workers as usize;
     match first_copy(program, cell) {
@@ -231,13 +236,15 @@ fn contribute(
     requires begun { Begun entered.old }
     requires listed { length entered.old.cells.items ≡ length entered.old.tasks.items }
     ensures begun { OnOk result (Begun entered.new) }
-    ensures entered { OnOk result ((P : Lowered) (us : List Usage) → HasDependencies P → t < length P.tasks →
-        P.workers ≡ count → ((c : ℕ) → first ≤ c → c < first + count → Uses P t c Manner.Contribute) →
+    ensures entered { OnOk result ((P : Lowered) (us : List Usage) → HasDependencies P →
+        t < length P.tasks → P.workers ≡ count →
+        ((c : ℕ) → first ≤ c → c < first + count → Uses P t c Manner.Contribute) →
         Entering P t us entered.old →
-        Entering P t (us ++ map (usage Manner.Contribute) (range_with_len first count)) entered.new) }
+        Entering P t (us ++ map (usage Manner.Contribute) (range_with_len first count))
+        entered.new) }
 {
     match open_phase(entered, first) {
-        Some(party) => join(entered, party, t),
+        Some(party) => join(alloc, entered, party, t),
         None => open(alloc, entered, t, first, count),
     }
 }
@@ -281,14 +288,14 @@ fn begins_with(cells: &[usize], first: usize) -> bool
 }
 
 /// One task more in a phase. Constant time, amortised.
-fn join(entered: &mut Entered, party: usize, t: usize) -> Result<(), OutOfMemory>
+fn join(alloc: Global, entered: &mut Entered, party: usize, t: usize) -> Result<(), OutOfMemory>
     requires small { t ≤ 4194304 }
     requires party { party < length entered.old.tasks.items }
     requires begun { Begun entered.old }
     ensures begun { OnOk result (Begun entered.new) }
     ensures joins { OnOk result (Joins entered.old entered.new party t) }
 {
-    entered.tasks[party].push(Task(t as u32))?;
+    entered.tasks[party].push(alloc, Task(t as u32))?;
     Ok(())
 }
 
@@ -323,8 +330,8 @@ fn add_party(alloc: Global, entered: &mut Entered, t: usize) -> Result<(), OutOf
     ensures begun { OnOk result (Begun entered.new) }
     ensures adds { OnOk result (Adds entered.old entered.new t) }
 {
-    entered.cells.push(Sequence::empty(alloc))?;
-    entered.tasks.push(single(alloc, t)?)?;
+    entered.cells.push(Few::empty(alloc))?;
+    entered.tasks.push(single(t))?;
     entered.waits.push(0)?;
     entered.is_closed.push(false)?;
     Ok(())
@@ -375,7 +382,8 @@ fn push(entered: &mut Entered, member: Member, cell: usize) -> Result<(), OutOfM
 fn close_last(chain: &Chain, is_closed: &mut Vec<bool>)
     requires { All (λ m. m.party < length is_closed.old.items) chain.now.members }
     ensures len { length is_closed.new.items ≡ length is_closed.old.items }
-    ensures kept { (n : ℕ) → slice_index_or is_closed.old.items n true ≡ true → slice_index_or is_closed.new.items n true ≡ true }
+    ensures kept { (n : ℕ) → slice_index_or is_closed.old.items n true ≡ true →
+        slice_index_or is_closed.new.items n true ≡ true }
     ensures last { (p : ℕ) → p + 1 ≡ length chain.now.members →
         slice_index_or is_closed.new.items (party_at chain.now.members p) true ≡ true }
 {

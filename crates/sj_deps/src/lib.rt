@@ -4,8 +4,10 @@
 
 mod chain;
 mod counters;
+mod crew;
 pub mod deps;
 mod entry;
+mod few;
 pub mod manner;
 mod settle;
 #[cfg(test)]

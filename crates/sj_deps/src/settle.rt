@@ -6,13 +6,14 @@ ghost use Rattle.sj_deps.specs.Chains.{is_party, left_of, waits_of};
 ghost use Rattle.sj_deps.specs.Counts.{CanSettle, Settles, SameMembers, Answers, Fits};
 
 use crate::chain::Chain;
-use sj_base::sequence::Sequence;
+use crate::few::Few;
 
 /// Counts a party as finished in the chains of its cells, and appends the parties that wait no more. Linear
 /// in the cells and in the accesses that are released.
 fn settle(chains: &mut Vec<Chain>, waits: &mut Vec<usize>, opened: &mut Vec<usize>, cells: &[usize])
     requires counts { CanSettle chains.old.items waits.old.items cells.now }
-    requires room { length opened.old.items + count_by (nat_lt 0) waits.old.items ≤ vec_capacity opened.old }
+    requires room { length opened.old.items + count_by (nat_lt 0) waits.old.items
+        ≤ vec_capacity opened.old }
     ensures settled { CanSettle chains.new.items waits.new.items [] }
     ensures chains { Settles chains.old.items chains.new.items cells.now [] }
     ensures answers { Answers waits.old.items waits.new.items opened.old.items opened.new.items }
@@ -29,7 +30,7 @@ fn leave(
     waits: &mut Vec<usize>,
     opened: &mut Vec<usize>,
     left: &mut Vec<usize>,
-    cells: &[Sequence<usize>],
+    cells: &[Few<usize>],
     party: usize,
 )
     requires fits { Fits left.old.items chains.old.items cells.now waits.old.items }
@@ -37,9 +38,11 @@ fn leave(
     requires listed { party < length cells.now }
     requires some { 0 < left_of left.old.items party }
     requires free { waits_of waits.old.items party ≡ 0 }
-    requires room { length opened.old.items + count_by (nat_lt 0) waits.old.items ≤ vec_capacity opened.old }
+    requires room { length opened.old.items + count_by (nat_lt 0) waits.old.items
+        ≤ vec_capacity opened.old }
     ensures fits { Fits left.new.items chains.new.items cells.now waits.new.items }
-    ensures left { left.new.items ≡ slice_set left.old.items party (left_of left.old.items party - 1) }
+    ensures left { left.new.items
+        ≡ slice_set left.old.items party (left_of left.old.items party - 1) }
     ensures chains { SameMembers chains.old.items chains.new.items }
     ensures answers { Answers waits.old.items waits.new.items opened.old.items opened.new.items }
     ensures capacity { vec_capacity opened.old ≤ vec_capacity opened.new }
@@ -58,7 +61,7 @@ pub fn leave_all(
     waits: &mut Vec<usize>,
     opened: &mut Vec<usize>,
     left: &mut Vec<usize>,
-    cells: &[Sequence<usize>],
+    cells: &[Few<usize>],
     parties: &[usize],
 )
     requires fits { Fits left.old.items chains.old.items cells.now waits.old.items }
@@ -67,9 +70,11 @@ pub fn leave_all(
     requires enough { (n : ℕ) → count_by (is_party n) parties.now ≤ left_of left.old.items n }
     requires free { All (λ n. waits_of waits.old.items n ≡ 0) parties.now }
     requires fresh { opened.old.items ≡ [] }
-    requires room { length opened.old.items + count_by (nat_lt 0) waits.old.items ≤ vec_capacity opened.old }
+    requires room { length opened.old.items + count_by (nat_lt 0) waits.old.items
+        ≤ vec_capacity opened.old }
     ensures fits { Fits left.new.items chains.new.items cells.now waits.new.items }
-    ensures left { (n : ℕ) → left_of left.new.items n + count_by (is_party n) parties.now ≡ left_of left.old.items n }
+    ensures left { (n : ℕ) → left_of left.new.items n + count_by (is_party n) parties.now
+        ≡ left_of left.old.items n }
     ensures len { length left.new.items ≡ length left.old.items }
     ensures chains { SameMembers chains.old.items chains.new.items }
     ensures answers { Answers waits.old.items waits.new.items opened.old.items opened.new.items }

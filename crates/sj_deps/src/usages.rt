@@ -35,7 +35,8 @@ fn add_usages(
     codelet: Codelet,
     access: Access,
 ) -> Result<(), OutOfMemory>
-    ensures { OnOk result (usages.new.items ≡ usages.old.items ++ usages_of program.now codelet access) }
+    ensures { OnOk result (usages.new.items
+        ≡ usages.old.items ++ usages_of program.now codelet access) }
 {
     let cell = access.cell.0 as usize;
     match access.mode {

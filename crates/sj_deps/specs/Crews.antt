@@ -1,0 +1,10 @@
+-- What a `Crew` is seen as.
+use Rattle.std.specs.Prelude.{List, [], ◌∷◌}
+use Rattle.sj_base.specs.declared.ids.Task.{Task}
+use Rattle.sj_deps.specs.declared.crew.Tasks.{Tasks}
+use Rattle.sj_deps.specs.declared.crew.Tasks.TheVariants.{Single, Several}
+
+-- the tasks of a party, in order
+abbrev pub tasks_of : Tasks → List Task
+tasks_of (Single t) = t ∷ []
+tasks_of (Several ts) = ts
