@@ -79,7 +79,7 @@ fn ended<D: Disk>(alloc: Global, board: &mut Board<D>, w: Worker, t: Task) -> Re
     let mut results = Frame::with_room(alloc, 1)?;
     results.push_shared(tile);
     let shares = Frame::with_room(alloc, 0)?;
-    let _shares = board.run(alloc, t, w, shares)?;
+    let _shares = board.run(t, w, shares)?;
     board.end(t, w, results);
     Ok(())
 }

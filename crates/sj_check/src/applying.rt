@@ -71,7 +71,7 @@ pub fn begin_run<D: Disk>(
     run.is_sound();
     let operands = accesses_of(run.program(), t).len();
     let frame = Frame::with_room(alloc, operands as u8)?;
-    run.run(alloc, t, w, frame)?;
+    run.run(t, w, frame)?;
     Ok(())
 }
 

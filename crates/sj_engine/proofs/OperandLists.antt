@@ -1,7 +1,7 @@
 -- The operands of a task made of shares, the last first.
 use Rattle.std.proofs.Common.{◌≡◌, ℕ, ◌+◌, ◌<◌, Bool, true, false, cond, List, [], ◌∷◌, ◌++◌, map, length, refl, sym, ap, ◌∙◌, subst, arith}
 use Rattle.std.specs.Prelude.{All, MatchBool, filter}
-use Rattle.std.proofs.lemmas.List.{append-nil, append_assoc, length_push, map-append, length-map}
+use Rattle.std.proofs.lemmas.List.{append-nil, length_push, map-append, length-map}
 use Rattle.std.proofs.lemmas.List.Elements.{filter-append}
 use Rattle.sj_base.specs.declared.mode.Access.{Access}
 use Rattle.sj_base.specs.declared.program.Program.{Program}
@@ -68,28 +68,28 @@ module _ (p : Program) (accesses before : List Access) (last : Access) (e : acce
       by_cases true h = All-front (λ (s : Slot). s.owned ≡ false) slots rest (shared (takes h).share) (takes h).taken all
       by_cases false h = subst (λ (l : List Slot). All (λ s. s.owned ≡ false) l) (sym (fresh h).stays) all
 
-  pub operands-are : (out new more : List Slot) → new ≡ out ++ operands_from p before (arrays rest) → more ≡ new ++ slot ∷ [] → more ≡ out ++ operands_from p accesses (arrays slots)
-  operands-are out new more f g = by_cases (reads_value last.mode) refl
+  pub operands-are : (new more : List Slot) → new ≡ operands_from p before (arrays rest) → more ≡ new ++ slot ∷ [] → more ≡ operands_from p accesses (arrays slots)
+  operands-are new more f g = by_cases (reads_value last.mode) refl
     where
       n : length (arrays rest) ≡ length (reads_of before)
       n = length-map rest (λ (s : Slot). s.array) ∙ count-before
 
-      joined : (tail : List Slot) → tail ≡ slot ∷ [] → more ≡ out ++ (operands_from p before (arrays rest) ++ tail)
-      joined tail k = g ∙ ap (λ (l : List Slot). l ++ slot ∷ []) f ∙ append_assoc out (operands_from p before (arrays rest)) (slot ∷ []) ∙ ap (λ (l : List Slot). out ++ (operands_from p before (arrays rest) ++ l)) (sym k)
+      joined : (tail : List Slot) → tail ≡ slot ∷ [] → more ≡ operands_from p before (arrays rest) ++ tail
+      joined tail k = g ∙ ap (λ (l : List Slot). l ++ slot ∷ []) f ∙ ap (λ (l : List Slot). operands_from p before (arrays rest) ++ l) (sym k)
 
-      by_cases : (b : Bool) → reads_value last.mode ≡ b → more ≡ out ++ operands_from p accesses (arrays slots)
+      by_cases : (b : Bool) → reads_value last.mode ≡ b → more ≡ operands_from p accesses (arrays slots)
       by_cases true h =
           let x = (takes h).share in
           let one : operands_from p (last ∷ []) (x ∷ []) ≡ slot ∷ [] = ap (λ b. cond b (operand_from last x ∷ []) (own (zeros (dims_of p last.cell)) ∷ [])) h ∙ ap (λ (s : Slot). s ∷ []) (sym (takes h).made) in
           let a : arrays slots ≡ arrays rest ++ x ∷ [] = ap arrays (takes h).taken ∙ map-append (λ (s : Slot). s.array) rest (shared x ∷ []) in
           joined (operands_from p (last ∷ []) (x ∷ [])) one
-          ∙ ap (λ (l : List Slot). out ++ l) (sym (operands_from-append p before (last ∷ []) (arrays rest) (x ∷ []) n))
-          ∙ ap (λ (l : List Array). out ++ operands_from p (before ++ last ∷ []) l) (sym a)
-          ∙ ap (λ (l : List Access). out ++ operands_from p l (arrays slots)) (sym e)
+          ∙ sym (operands_from-append p before (last ∷ []) (arrays rest) (x ∷ []) n)
+          ∙ ap (λ (l : List Array). operands_from p (before ++ last ∷ []) l) (sym a)
+          ∙ ap (λ (l : List Access). operands_from p l (arrays slots)) (sym e)
       by_cases false h =
           let one : operands_from p (last ∷ []) [] ≡ slot ∷ [] = ap (λ b. cond b (operand_from last (first_share p last []) ∷ []) (own (zeros (dims_of p last.cell)) ∷ [])) h ∙ ap (λ (s : Slot). s ∷ []) (sym (fresh h).made) in
           let a : arrays slots ≡ arrays rest ++ [] = ap arrays (sym (fresh h).stays) ∙ sym (append-nil (arrays rest)) in
           joined (operands_from p (last ∷ []) []) one
-          ∙ ap (λ (l : List Slot). out ++ l) (sym (operands_from-append p before (last ∷ []) (arrays rest) [] n))
-          ∙ ap (λ (l : List Array). out ++ operands_from p (before ++ last ∷ []) l) (sym a)
-          ∙ ap (λ (l : List Access). out ++ operands_from p l (arrays slots)) (sym e)
+          ∙ sym (operands_from-append p before (last ∷ []) (arrays rest) [] n)
+          ∙ ap (λ (l : List Array). operands_from p (before ++ last ∷ []) l) (sym a)
+          ∙ ap (λ (l : List Access). operands_from p l (arrays slots)) (sym e)

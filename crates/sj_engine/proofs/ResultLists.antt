@@ -2,7 +2,7 @@
 use Rattle.std.proofs.Common.{◌≡◌, ◌+◌, ◌<◌, true, false, List, [], ◌∷◌, ◌++◌, map, length, get_or, sym, ap, ◌∙◌, subst, refl, arith}
 use Rattle.std.specs.Prelude.{All}
 use Rattle.std.proofs.lemmas.Bool.{false≢true}
-use Rattle.std.proofs.lemmas.List.{append_assoc, get_or_append_left, length_push, map-append}
+use Rattle.std.proofs.lemmas.List.{get_or_append_left, length_push, map-append}
 use Rattle.sj_base.specs.Array.{Array}
 use Rattle.sj_codelet.specs.declared.formal.Formal.{Formal}
 use Rattle.sj_codelet.specs.declared.formal.Formal.TheVariants.{R, W, RW, Scratch}
@@ -42,19 +42,19 @@ All-front P xs ys x e all =
     λ k d h. let n : length xs ≡ length ys + 1 = ap length e ∙ length_push ys x in
     subst P (ap (λ l. get_or l k d) e ∙ get_or_append_left ys (x ∷ []) d k h) (all k d (omega arith))
 
-pub share-skips : (formals before : List Formal) (f : Formal) (slots rest : List Slot) (s : Slot) (out new : List Slot) → formals ≡ before ++ f ∷ [] → slots ≡ rest ++ s ∷ [] → length formals ≡ length slots → is_output f ≡ false →
-    new ≡ out ++ map shared (written before rest) → new ≡ out ++ map shared (written formals slots)
-share-skips formals before f slots rest s out new e g n h k =
+pub share-skips : (formals before : List Formal) (f : Formal) (slots rest : List Slot) (s : Slot) (new : List Slot) → formals ≡ before ++ f ∷ [] → slots ≡ rest ++ s ∷ [] → length formals ≡ length slots → is_output f ≡ false →
+    new ≡ map shared (written before rest) → new ≡ map shared (written formals slots)
+share-skips formals before f slots rest s new e g n h k =
     let m : length before ≡ length rest = omega (arith, ap length e, ap length g, length_push before f, length_push rest s) in
     let w : written formals slots ≡ written before rest = ap (λ (fs : List Formal). written fs slots) e ∙ ap (written (before ++ f ∷ [])) g ∙ written_input before rest f s m h in
-    k ∙ ap (λ (xs : List Array). out ++ map shared xs) (sym w)
+    k ∙ ap (λ (xs : List Array). map shared xs) (sym w)
 
-pub share-adds : (formals before : List Formal) (f : Formal) (slots rest : List Slot) (s : Slot) (out new more : List Slot) (x : Array) → formals ≡ before ++ f ∷ [] → slots ≡ rest ++ s ∷ [] → length formals ≡ length slots → is_output f ≡ true →
-    new ≡ out ++ map shared (written before rest) → more ≡ new ++ shared x ∷ [] → x ≡ s.array → more ≡ out ++ map shared (written formals slots)
-share-adds formals before f slots rest s out new more x e g n h k j i =
+pub share-adds : (formals before : List Formal) (f : Formal) (slots rest : List Slot) (s : Slot) (new more : List Slot) (x : Array) → formals ≡ before ++ f ∷ [] → slots ≡ rest ++ s ∷ [] → length formals ≡ length slots → is_output f ≡ true →
+    new ≡ map shared (written before rest) → more ≡ new ++ shared x ∷ [] → x ≡ s.array → more ≡ map shared (written formals slots)
+share-adds formals before f slots rest s new more x e g n h k j i =
     let m : length before ≡ length rest = omega (arith, ap length e, ap length g, length_push before f, length_push rest s) in
     let w : written formals slots ≡ written before rest ++ s.array ∷ [] = ap (λ (fs : List Formal). written fs slots) e ∙ ap (written (before ++ f ∷ [])) g ∙ written_output before rest f s m h in
-    j ∙ ap (λ (l : List Slot). l ++ shared x ∷ []) k ∙ append_assoc out (map shared (written before rest)) (shared x ∷ [])
-    ∙ ap (λ (a : Array). out ++ (map shared (written before rest) ++ shared a ∷ [])) i
-    ∙ ap (λ (l : List Slot). out ++ l) (sym (map-append shared (written before rest) (s.array ∷ [])))
-    ∙ ap (λ (xs : List Array). out ++ map shared xs) (sym w)
+    j ∙ ap (λ (l : List Slot). l ++ shared x ∷ []) k
+    ∙ ap (λ (a : Array). map shared (written before rest) ++ shared a ∷ []) i
+    ∙ sym (map-append shared (written before rest) (s.array ∷ []))
+    ∙ ap (λ (xs : List Array). map shared xs) (sym w)

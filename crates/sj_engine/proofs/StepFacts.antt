@@ -1,5 +1,5 @@
 -- What a step for a claimed task needs of the board.
-use Rattle.std.proofs.Common.{◌≡◌, ℕ, ◌<◌, ◌≤◌, List, [], length, refl, sym, ap, ◌∙◌, subst, Option, Some, arith}
+use Rattle.std.proofs.Common.{◌≡◌, ℕ, ◌+◌, ◌<◌, ◌≤◌, List, [], length, refl, sym, ap, ◌∙◌, subst, Option, Some, arith}
 use Rattle.std.specs.Prelude.{IfSome, filter}
 use Rattle.std.proofs.lemmas.List.Sums.{count_by-le-length, length-filter}
 use Rattle.sj_base.specs.declared.ids.Task.{Task}
@@ -14,6 +14,7 @@ use Rattle.sj_core.specs.Program.{task_of}
 use Rattle.sj_machine.specs.Board.{BoardState, RunsNone, hand_of, transfer_of}
 use Rattle.sj_machine.specs.Standing.{CanHappen}
 use Rattle.sj_machine.specs.declared.hand.Hand.{Hand}
+use Rattle.sj_engine.specs.Operands.{HasRoomForOperands}
 use Rattle.sj_engine.specs.Stage.{HasClaimedRow, row_in}
 
 -- a frame with room for all operands has room for those that are read
@@ -23,6 +24,12 @@ room-for p q t l f n same is long made =
     let its : List Access = (task_of p t).accesses in
     let count : f.spare ≡ length its = ap (λ (k : Frame). k.spare) made ∙ long ∙ ap (λ (k : Lowered). length k.accesses) is ∙ ap (λ (k : Program). length (task_of k t).accesses) same in
     omega (arith, count, length-filter test its, count_by-le-length test its)
+
+-- and when the shares of these are in it, room for the others
+pub room-left : (p q : Program) (t : Task) (l : Lowered) (f g : Frame) (n : ℕ) → q ≡ p → l ≡ task_of q t → n ≡ length l.accesses → f ≡ frame [] n → g.spare + length g.slots ≡ f.spare → HasRoomForOperands p t g
+room-left p q t l f g n same is long made kept =
+    let count : f.spare ≡ length (task_of p t).accesses = ap (λ (k : Frame). k.spare) made ∙ long ∙ ap (λ (k : Lowered). length k.accesses) is ∙ ap (λ (k : Program). length (task_of k t).accesses) same in
+    omega (arith, count, kept)
 
 module _ {D : Type 0} (w : Worker) (t : Task) (b x : BoardState D) (ex : x ≡ b) (r : HasClaimedRow w t (row_in b w)) where
   -- where the worker's task can begin to run, it is this one

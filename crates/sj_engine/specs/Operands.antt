@@ -1,5 +1,5 @@
 -- The operands of a task, from shares of the tiles whose old value it reads, and what its codelet makes of them.
-use Rattle.std.specs.Prelude.{◌≡◌, ◌++◌, ◌≤◌, ◌<◌, ◌^◌, Bool, true, false, List, [], ◌∷◌, length, map, filter, MatchBool, if◌then◌else◌}
+use Rattle.std.specs.Prelude.{◌≡◌, ◌+◌, ◌++◌, ◌≤◌, ◌<◌, ◌^◌, Bool, true, false, List, [], ◌∷◌, length, map, filter, MatchBool, if◌then◌else◌}
 use Rattle.std.specs.List.{AllZip}
 use Rattle.sj_base.specs.declared.ids.Cell.{Cell}
 use Rattle.sj_base.specs.declared.ids.Task.{Task}
@@ -10,7 +10,7 @@ use Rattle.sj_base.specs.Array.{Array, area, zeros}
 use Rattle.sj_base.specs.Mode.{is_written, reads_value}
 use Rattle.sj_codelet.specs.declared.formal.Formal.{Formal}
 use Rattle.sj_codelet.specs.declared.formal.Formal.TheVariants.{W as WriteFormal, RW as UpdateFormal}
-use Rattle.sj_codelet.specs.Frame.{Slot, own, shared}
+use Rattle.sj_codelet.specs.Frame.{Frame, Slot, own, shared}
 use Rattle.sj_core.specs.Operands.{worked_on}
 use Rattle.sj_core.specs.Program.{dims_of, task_of}
 
@@ -65,6 +65,10 @@ pub record IsFresh (p : Program) (a : Access) (old new : List Slot) (slot : Slot
 
 abbrev pub MakesOperand : Program → Access → List Slot → List Slot → Slot → Type 0
 MakesOperand p a old new slot = MatchBool (reads_value a.mode) (TakesLast a old new slot) (IsFresh p a old new slot)
+
+-- a frame with room for all operands of a task, those that it has among them
+abbrev pub HasRoomForOperands : Program → Task → Frame → Type 0
+HasRoomForOperands p t f = length (task_of p t).accesses ≤ f.spare + length f.slots
 
 -- the access names a cell of the program, whose array isn't too large
 pub record IsSmall (p : Program) (a : Access) : Type 0 where

@@ -7,7 +7,7 @@ use Rattle.sj_base.specs.declared.ids.Worker.{Worker}
 use Rattle.sj_base.specs.declared.program.Program.{Program}
 use Rattle.sj_base.specs.declared.trace.Event.{Event}
 use Rattle.sj_base.specs.Array.{Array}
-use Rattle.sj_codelet.specs.Frame.{Slot, arrays}
+use Rattle.sj_codelet.specs.Frame.{Frame, Slot, arrays}
 use Rattle.sj_core.specs.declared.progress.Progress.TheVariants.{Claimed, Running}
 use Rattle.sj_core.specs.declared.progress.Transfer.{Transfer}
 use Rattle.sj_core.specs.Operands.{cells_of, results}
@@ -16,7 +16,7 @@ use Rattle.sj_desk.specs.Seats.{DeskFacts, IsWaiting, SeatFacts}
 use Rattle.sj_machine.specs.Board.{BoardState, empty_hand}
 use Rattle.sj_machine.specs.BoardRow.{BoardKey, BoardRow, key_of, row_of_number}
 use Rattle.sj_machine.specs.declared.hand.Hand.{Hand}
-use Rattle.sj_engine.specs.Operands.{AreSharesOf, IsShare, held_for, read_operands}
+use Rattle.sj_engine.specs.Operands.{AreSharesOf, HasRoomForOperands, IsShare, held_for, read_operands}
 use Rattle.sj_engine.specs.Outcome.{AllTell}
 
 -- ---- rows
@@ -75,6 +75,10 @@ pub record AreLent {D : Type 0} (held : D → Option (List ℕ)) (k : BoardKey D
   pub inside : t.0 < length k.program.tasks
   pub shares : AreSharesOf k.program t slots
   pub told : AllTell held k.opened → HoldShares k.program w t r slots
+
+-- the task runs, and the frame has shares of the operands that it reads, and room for the others
+abbrev pub HasOperands : {D : Type 0} → (D → Option (List ℕ)) → BoardKey D → Worker → Task → BoardRow → Frame → Type 0
+HasOperands held k w t r f = RunsRow w t r × AreLent held k w t r f.slots × HasRoomForOperands k.program t f
 
 -- shares of the running task's results; what they hold is told where all disks tell
 pub record HoldResults (p : Program) (w : Worker) (t : Task) (r : BoardRow) (slots : List Slot) : Type 0 where

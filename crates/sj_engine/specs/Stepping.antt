@@ -13,7 +13,7 @@ use Rattle.sj_machine.specs.Standing.{is_node}
 use Rattle.sj_machine.specs.Tiles.{array_in}
 use Rattle.sj_engine.specs.declared.stepping.Step.{Step}
 use Rattle.sj_engine.specs.declared.stepping.Step.TheVariants.{Begun, Moves, Discarded, Waits, Stopped, Failed}
-use Rattle.sj_engine.specs.Stage.{AreLent, HasClaimedRow, IsCarried, IsFreeRow, IsStoppedRow, MovesRow, RunsRow}
+use Rattle.sj_engine.specs.Stage.{HasClaimedRow, HasOperands, IsCarried, IsFreeRow, IsStoppedRow, MovesRow}
 
 abbrev pub transfer_of : Cell → Place → Place → Transfer
 transfer_of cell from to = record { cell = cell; from = from; to = to }
@@ -30,7 +30,7 @@ IsShareCarried held k x r (OnDisk d) share = IsFetch k.program x
 
 -- its kernel has begun, or a transfer, or another step is made, or it waits; or it has let its task go
 abbrev pub AfterStep : {D : Type 0} → (D → Option (List ℕ)) → BoardKey D → Worker → Task → BoardRow → Step → Type 0
-AfterStep held k w t r (Begun frame) = RunsRow w t r × AreLent held k w t r frame.slots
+AfterStep held k w t r (Begun frame) = HasOperands held k w t r frame
 AfterStep held k w t r (Moves cell from to share) = MovesRow w t (transfer_of cell from to) r × IsShareCarried held k (transfer_of cell from to) r from (array_in share)
 AfterStep held k w t r Discarded = HasClaimedRow w t r
 AfterStep held k w t r Waits = HasClaimedRow w t r

@@ -12,7 +12,7 @@ ghost use Rattle.sj_core.specs.Laws.{IsLawful};
 ghost use Rattle.sj_core.specs.Operands.{results};
 ghost use Rattle.sj_core.specs.Program.{task_of, written_operands};
 ghost use Rattle.sj_core.specs.Proper.{Proper};
-ghost use Rattle.sj_engine.specs.Operands.{AreSharesOf, IsShare, held_for, read_operands};
+ghost use Rattle.sj_engine.specs.Operands.{AreSharesOf, HasRoomForOperands, IsShare, held_for, read_operands};
 
 use crate::operands::operands;
 use crate::results::shares;
@@ -52,7 +52,7 @@ fn run_kernel<C: Codelets, G: Gate>(
 }
 
 /// Runs a task's kernel: makes its operands from shares of the tiles whose old value it reads, in operand order, and gives
-/// shares of its results, in the order of its written operands. The cost of the kernel, and linear in the elements of the
+/// shares of its results, in the order of its written operands, all in the frame that it takes. The cost of the kernel, and linear in the elements of the
 /// operands that begin as zeros, and of those to be written to of which somebody else has a share.
 ///
 /// Whatever the cells hold: where the shares are of what the operands hold for a worker, the results are the task's.
@@ -68,6 +68,7 @@ pub fn compute<C: Codelets, G: Gate>(
     requires proper { Proper program.now }
     requires lawful { IsLawful C.has program.now }
     requires shares { AreSharesOf program.now t taken.slots }
+    requires room { HasRoomForOperands program.now t taken }
     ensures dims { IfOk result (λ f. AllZip (IsShare program.now)
         (written_operands (task_of program.now t)) f.slots) }
     ensures results { IfOk result (λ f. (w : Worker) (held : Cell → Array) →

@@ -28,7 +28,8 @@ fn owned(alloc: Global, tile: Arc<Tile>) -> Result<Tile, OutOfMemory>
 fn take_shared(frame: &mut Frame) -> Arc<Tile>
     requires shared { All (λ s. s.owned ≡ false) frame.old.slots }
     requires some { 0 < length frame.old.slots }
-    ensures { frame.old.slots ≡ frame.new.slots ++ shared result.value ∷ [] }
+    ensures slots { frame.old.slots ≡ frame.new.slots ++ shared result.value ∷ [] }
+    ensures room { frame.new.spare ≡ frame.old.spare + 1 }
 {
     match frame.take_last() {
         Operand::Shared(tile) => tile,
@@ -47,7 +48,8 @@ fn operand(
     requires small { IsSmall program.now access }
     requires shared { All (λ s. s.owned ≡ false) shares.old.slots }
     requires there { IsTrue (reads_value access.mode) → 0 < length shares.old.slots }
-    ensures { IfOk result (λ o. MakesOperand program.now access shares.old.slots shares.new.slots (slot_of o)) }
+    ensures operand { IfOk result (λ o. MakesOperand program.now access shares.old.slots shares.new.slots (slot_of o)) }
+    ensures room { OnOk result (shares.new.spare + length shares.new.slots ≡ shares.old.spare + length shares.old.slots) }
 {
     match access.mode {
         Mode::R => Ok(Operand::Shared(take_shared(shares))),
@@ -61,46 +63,44 @@ fn operand(
     }
 }
 
-/// Appends the operands of these accesses to a frame, from shares of those whose old value is read. The sum of their costs.
-fn append_operands(
+/// Makes the operands of these accesses of the shares of those whose old value is read, in the place of these. The sum of
+/// their costs.
+fn make_operands(
     alloc: Global,
     program: &Program,
     accesses: &[Access],
-    shares: &mut Frame,
     frame: &mut Frame,
 ) -> Result<(), OutOfMemory>
     requires small { All (IsSmall program.now) accesses.now }
-    requires shared { All (λ s. s.owned ≡ false) shares.old.slots }
-    requires count { length shares.old.slots ≡ length (filter (λ a. reads_value a.mode) accesses.now) }
-    requires room { length accesses.now ≤ frame.old.spare }
-    ensures slots { OnOk result (frame.new.slots
-        ≡ frame.old.slots ++ operands_from program.now accesses.now (arrays shares.old.slots)) }
-    ensures room { OnOk result (frame.old.spare ≡ frame.new.spare + length accesses.now) }
+    requires shared { All (λ s. s.owned ≡ false) frame.old.slots }
+    requires count { length frame.old.slots ≡ length (filter (λ a. reads_value a.mode) accesses.now) }
+    requires room { length accesses.now ≤ frame.old.spare + length frame.old.slots }
+    ensures slots { OnOk result (frame.new.slots ≡ operands_from program.now accesses.now (arrays frame.old.slots)) }
+    ensures room { OnOk result (frame.new.spare + length accesses.now ≡ frame.old.spare + length frame.old.slots) }
 {
     let Some((last, before)) = accesses.split_last() else {
         return Ok(());
     };
-    let operand = operand(alloc, program, *last, shares)?;
-    append_operands(alloc, program, before, shares, frame)?;
+    let operand = operand(alloc, program, *last, frame)?;
+    make_operands(alloc, program, before, frame)?;
     frame.push(operand);
     Ok(())
 }
 
-/// The operands of a task in order, from shares of those whose old value it reads. Linear in the elements of those that begin
-/// as zeros, and of those to be written to of which somebody else has a share.
+/// The operands of a task in order, from shares of those whose old value it reads, in the same frame. Linear in the elements
+/// of those that begin as zeros, and of those to be written to of which somebody else has a share.
 pub fn operands(
     alloc: Global,
     program: &Program,
     accesses: &[Access],
     mut shares: Frame,
 ) -> Result<Frame, OutOfMemory>
-    requires few { length accesses.now < 256 }
     requires small { All (IsSmall program.now) accesses.now }
     requires shared { All (λ s. s.owned ≡ false) shares.slots }
     requires count { length shares.slots ≡ length (filter (λ a. reads_value a.mode) accesses.now) }
+    requires room { length accesses.now ≤ shares.spare + length shares.slots }
     ensures { IfOk result (λ f. f.slots ≡ operands_from program.now accesses.now (arrays shares.slots)) }
 {
-    let mut frame = Frame::with_room(alloc, accesses.len() as u8)?;
-    append_operands(alloc, program, accesses, &mut shares, &mut frame)?;
-    Ok(frame)
+    make_operands(alloc, program, accesses, &mut shares)?;
+    Ok(shares)
 }

@@ -36,41 +36,33 @@ fn is_output(formal: Formal) -> bool
     }
 }
 
-/// Appends the written operands of a frame as shared tiles.
-fn share_into(
-    alloc: Global,
-    formals: &[Formal],
-    frame: &mut Frame,
-    out: &mut Frame,
-) -> Result<(), OutOfMemory>
-    requires count { length formals.now ≡ length frame.old.slots }
-    requires room { length formals.now ≤ out.old.spare }
-    ensures slots { OnOk result (out.new.slots
-        ≡ out.old.slots ++ map shared (written formals.now frame.old.slots)) }
-    ensures room { OnOk result (out.old.spare ≤ out.new.spare + length formals.now) }
+/// Leaves of a frame the written operands, as shared tiles.
+fn share_written(alloc: Global, formals: &[Formal], frame: &mut Frame) -> Result<(), OutOfMemory>
+    requires { length formals.now ≡ length frame.old.slots }
+    ensures slots { OnOk result (frame.new.slots ≡ map shared (written formals.now frame.old.slots)) }
+    ensures room { OnOk result (frame.old.spare ≤ frame.new.spare) }
 {
     let Some((last, before)) = formals.split_last() else {
         return Ok(());
     };
     let operand = frame.take_last();
-    share_into(alloc, before, frame, out)?;
+    share_written(alloc, before, frame)?;
     if !is_output(*last) {
         return Ok(());
     }
-    out.push_shared(share(alloc, operand)?);
+    frame.push_shared(share(alloc, operand)?);
     Ok(())
 }
 
-/// Of a codelet's frame after a run, the operands that it wrote, in order and as shared tiles. Linear in the operands.
+/// Of a codelet's frame after a run, the operands that it wrote, in order and as shared tiles, in the same frame. Linear in
+/// the operands.
 pub fn shares(alloc: Global, codelet: Codelet, mut frame: Frame) -> Result<Frame, OutOfMemory>
     requires { length (formals_in codelet) ≡ length frame.slots }
     ensures { IfOk result (λ f. f.slots ≡ map shared (written (formals_in codelet) frame.slots)) }
 {
     let Some(kernel) = Kernel::of(codelet) else {
-        return Ok(Frame::with_room(alloc, 0)?);
+        return Ok(frame);
     };
-    let formals = kernel.formals();
-    let mut out = Frame::with_room(alloc, formals.len() as u8)?;
-    share_into(alloc, formals, &mut frame, &mut out)?;
-    Ok(out)
+    share_written(alloc, kernel.formals(), &mut frame)?;
+    Ok(frame)
 }

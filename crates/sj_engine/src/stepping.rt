@@ -58,7 +58,7 @@ impl<D: Disk> SharedBoard<D> {
             self.fail_without_memory(w);
             return Step::Failed;
         };
-        match self.board.run(alloc, t, w, frame) {
+        match self.board.run(t, w, frame) {
             Ok(frame) => Step::Begun(frame),
             Err(OutOfMemory) => {
                 self.fail_without_memory(w);

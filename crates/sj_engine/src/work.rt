@@ -6,7 +6,7 @@ ghost use Rattle.sj_core.specs.Proper.{Proper};
 ghost use Rattle.sj_machine.specs.BoardRow.{key_of};
 ghost use Rattle.sj_machine.specs.Standing.{is_node};
 ghost use Rattle.sj_machine.specs.Tiles.{array_in};
-ghost use Rattle.sj_engine.specs.Stage.{AreLent, GoesOn, HasClaimedRow, IsAt, IsDeskOf, IsFreeRow, IsStoppedRow, MovesRow, RunsRow};
+ghost use Rattle.sj_engine.specs.Stage.{GoesOn, HasClaimedRow, HasOperands, IsAt, IsDeskOf, IsFreeRow, IsStoppedRow, MovesRow};
 ghost use Rattle.sj_engine.specs.Stepping.{IsShareCarried};
 ghost use Rattle.sj_engine.specs.Working.{AfterPrepare};
 
@@ -182,7 +182,7 @@ fn run_kernel<C: Codelets, G: Gate, D: Disk, R: Wait>(
     requires proper { Proper program.now }
     requires lawful { IsLawful C.has program.now }
     requires task { t.0 < length program.now.tasks }
-    requires runs { IsAt desk.now w (λ r. RunsRow w t r × AreLent D.held (key_of desk.now.opening) w t r taken.slots) seat.old }
+    requires runs { IsAt desk.now w (λ r. HasOperands D.held (key_of desk.now.opening) w t r taken) seat.old }
     ensures row { IsAt desk.now w IsFreeRow seat.new }
     ensures events { GoesOn w seat.old seat.new }
 {

@@ -65,7 +65,7 @@ module _ {D : Type 0} (size faults mismatches : D → ℕ) (held : D → Option 
 
   pub choice-small : HasSmallWork p t w
   choice-small = record {
-    task = (proper-small p sound.proper).each t may.ready.task;
+    task = proper-small p sound.proper t may.ready.task;
     can = can-work p sound.proper t may.ready.task w may.worker;
     small = works-small p sound.proper t may.ready.task w may.worker;
   }

@@ -11,7 +11,7 @@ use Rattle.sj_core.proofs.Words.{Cell, Program, Task, Worker, cells_of, distinct
 use Rattle.sj_node.specs.Entry.{has_entry}
 use Rattle.sj_node.specs.Store.{Store, victims_of}
 use Rattle.sj_machine.specs.Plan.{ClaimPlan, IsSmallCell}
-use Rattle.sj_machine.specs.Planning.{HasSmallTask, HasSmallWork, chosen_on, lacking, named, need_on, planned}
+use Rattle.sj_machine.specs.Planning.{HasSmallTask, HasSmallWork, chosen_on, lacking, need_on, planned}
 use Rattle.sj_machine.proofs.ClaimFinding.{All-of}
 use Rattle.sj_machine.proofs.ClaimStores.{All-has}
 
@@ -53,12 +53,6 @@ module _ (p : Program) (cs : List Cell) (small : All (IsSmallCell p) cs) (few : 
       omega arith
 
 -- the cells that a task names, and those on which a worker works for it
-pub named-small : (p : Program) (t : Task) → HasSmallTask p t → All (IsSmallCell p) (named p t)
-named-small p t small = small-data p (λ a. a.cell) (task_of p t).accesses small.cells
-
-pub named-few : (p : Program) (t : Task) → HasSmallTask p t → length (named p t) ≤ 5
-named-few p t small = few-data (λ a. a.cell) (task_of p t).accesses small.few
-
 pub work-small : (p : Program) (t : Task) (w : Worker) → HasSmallWork p t w → All (IsSmallCell p) (cells_of p t w)
 work-small p t w small = small-data p (worked_on p w) (task_of p t).accesses small.small
 

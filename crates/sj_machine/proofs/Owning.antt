@@ -42,6 +42,7 @@ use Rattle.sj_machine.specs.Operands.{CanWorkOn, read_among, written_among}
 use Rattle.sj_machine.specs.Running.{AreSharesFor, AreUnpinned, CanGive, IsShareIn, evicted_at, kept_at, lend_each, shares_at}
 use Rattle.sj_machine.specs.Sound.{HoldsBlocks, Keeps}
 use Rattle.sj_machine.specs.Standing.{AllTell, CanHappen, IsTileOf, Standing, state}
+use Rattle.sj_machine.proofs.ClaimPins.{few-operands}
 use Rattle.sj_machine.proofs.Keeping.{HoldsBlocks-kept, keeps-event, keeps-told, sound_state}
 use Rattle.sj_machine.proofs.Lending.{LendsKeep, lend-keeps, lend-row, lent-mark_here, lent-mark_there, lent-tile}
 use Rattle.sj_machine.proofs.Reading.{no_copies}
@@ -357,6 +358,9 @@ module _ {D : Type 0} (size faults mismatches : D → ℕ) (held : D → Option 
   found-can_work =
       subst (λ (x : Program). All (CanWorkOn x w) accesses) (sym program)
       (subst (λ (l : List Access). All (CanWorkOn b.program w) l) (sym of_task) (run-can_work size faults mismatches held b rows owed spare keeps t w now-can))
+
+  pub found-few : length accesses ≤ 5
+  found-few = subst (λ (l : List Access). length l ≤ 5) (sym of_task) (few-operands b.program keeps.sound.run.proper t)
 
   pub found-can_give : (cells : List Copies) → cells ≡ rows.cells → All (CanGive q w cells at) accesses
   found-can_give cells is =

@@ -1,41 +1,24 @@
 -- What a board has beside its run when nothing has happened.
-use Rattle.std.proofs.Common.{◌≡◌, ℕ, ◌+◌, ◌<◌, ◌≤◌, ◌^◌, ◌↔◌, not, List, [], ◌∷◌, ◌++◌, All, inl, inr, refl, sym, subst, ap, ◌∙◌, arith, length, filter, map, get_or}
-use Rattle.std.specs.Prelude.{AllPairs, sum}
+use Rattle.std.proofs.Common.{◌≡◌, ℕ, ◌+◌, ◌<◌, ◌≤◌, ◌^◌, ◌↔◌, List, [], ◌∷◌, ◌++◌, All, inl, inr, refl, sym, subst, ap, ◌∙◌, arith, length, map, get_or}
+use Rattle.std.specs.Prelude.{AllPairs}
 use Rattle.std.specs.List.{Contains}
 use Rattle.std.proofs.lemmas.Bool.{cases_eq}
 use Rattle.std.proofs.lemmas.List.Elements.{All-contains_itself, All-get_or, All-weaker, Contains-append_left, Contains-push, Contains-push_cases}
 use Rattle.std.proofs.lemmas.List.{get_or-map, length-map, map-append}
 use Rattle.std.proofs.lemmas.List.Kept.{AllPairs-from_increasing}
 use Rattle.std.proofs.lemmas.List.Quantifiers.{all_pairs_push}
-use Rattle.std.proofs.lemmas.List.Sums.{sum-map}
-use Rattle.sj_base.specs.declared.ids.Cell.{Cell}
 use Rattle.sj_base.specs.declared.ids.Task.{Task}
 use Rattle.sj_base.specs.declared.program.CellInfo.{CellInfo}
 use Rattle.sj_base.specs.declared.program.Lowered.{Lowered}
 use Rattle.sj_base.specs.declared.program.Program.{Program}
 use Rattle.sj_base.specs.Array.{area}
-use Rattle.sj_core.specs.Needs.{footprint, scratch_bytes, tile_bytes}
-use Rattle.sj_core.specs.Program.{distinct, no_cell, no_task, task_of}
+use Rattle.sj_core.specs.Program.{no_cell, no_task, task_of}
 use Rattle.sj_core.specs.Proper.{Proper}
 use Rattle.sj_deps.specs.Conflict.{Ready}
-use Rattle.sj_node.specs.Entry.{Entry, has_entry}
-use Rattle.sj_node.specs.Store.{Store}
 use Rattle.sj_machine.specs.Plan.{IsSmallCell}
-use Rattle.sj_machine.specs.Planning.{lacking, named}
+use Rattle.sj_machine.specs.Planning.{HasSmallTask}
 use Rattle.sj_machine.proofs.ClaimPins.{few-operands}
-use Rattle.sj_machine.specs.Preparing.{AreReadyBelow, HasSmallTasks}
-
--- a node without entries lacks each cell
-pub lacks-all : (cs : List Cell) → filter (λ c. not (has_entry [] c)) cs ≡ cs
-lacks-all [] = refl
-lacks-all (c ∷ cs) = ap (λ (ds : List Cell). c ∷ ds) (lacks-all cs)
-
-pub lacking-all : (p : Program) (s : Store) (t : Task) → s.entries ≡ [] → lacking s (named p t) ≡ distinct (named p t)
-lacking-all p s t none = ap (λ (es : List Entry). filter (λ c. not (has_entry es c)) (distinct (named p t))) none ∙ lacks-all (distinct (named p t))
-
--- what a task brings to it is all that it needs
-pub brings-all : (p : Program) (s : Store) (t : Task) → s.entries ≡ [] → sum (map (tile_bytes p) (lacking s (named p t))) + scratch_bytes p (task_of p t) ≡ footprint p t
-brings-all p s t none = ap (λ (cs : List Cell). sum (map (tile_bytes p) cs) + scratch_bytes p (task_of p t)) (lacking-all p s t none) ∙ ap (λ (n : ℕ). n + scratch_bytes p (task_of p t)) (sum-map (tile_bytes p) (distinct (named p t)))
+use Rattle.sj_machine.specs.Preparing.{AreReadyBelow}
 
 -- ---- the tasks that are ready
 
@@ -99,13 +82,10 @@ ready-all p done n ts all looked u = (λ c. ((looked.each u).0 c).1, λ r. (look
 
 -- ---- small tasks
 
-pub proper-small : (p : Program) → Proper p → HasSmallTasks p
-proper-small p proper = record {
-  few = proper.limits.tasks;
-  each = λ t known. record {
-    task = known;
-    cells = All-weaker (λ a. a.cell.0 < length p.cells) (λ a. IsSmallCell p a.cell) (λ a inside. record { cell = inside; small = All-get_or (λ (c : CellInfo). area c.dims ≤ 2 ^ 24) p.cells a.cell.0 no_cell inside proper.limits.elements }) (task_of p t).accesses
-        (All-get_or (λ (l : Lowered). All (λ a. a.cell.0 < length p.cells) l.accesses) p.tasks t.0 no_task known proper.cells.named);
-    few = few-operands p proper t;
-  };
+pub proper-small : (p : Program) → Proper p → (t : Task) → t.0 < length p.tasks → HasSmallTask p t
+proper-small p proper t known = record {
+  task = known;
+  cells = All-weaker (λ a. a.cell.0 < length p.cells) (λ a. IsSmallCell p a.cell) (λ a inside. record { cell = inside; small = All-get_or (λ (c : CellInfo). area c.dims ≤ 2 ^ 24) p.cells a.cell.0 no_cell inside proper.limits.elements }) (task_of p t).accesses
+      (All-get_or (λ (l : Lowered). All (λ a. a.cell.0 < length p.cells) l.accesses) p.tasks t.0 no_task known proper.cells.named);
+  few = few-operands p proper t;
 }

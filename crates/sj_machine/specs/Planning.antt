@@ -10,7 +10,7 @@ use Rattle.sj_base.specs.declared.program.Machine.{Machine}
 use Rattle.sj_core.specs.Machine.{State, is_idle, is_leaving, pins, progress, replica}
 use Rattle.sj_core.specs.Needs.{footprint, node_of, node_size, scratch_bytes, tile_bytes}
 use Rattle.sj_core.specs.Operands.{cells_of, commuting_cells, worked_on}
-use Rattle.sj_core.specs.Program.{data_operands, distinct, has_cell, task_of}
+use Rattle.sj_core.specs.Program.{distinct, has_cell, task_of}
 use Rattle.sj_core.specs.Step.{done_tasks, is_in_use, none_leaving, victims_for}
 use Rattle.sj_core.specs.declared.progress.Progress.TheVariants.{Waiting}
 use Rattle.sj_deps.specs.Conflict.{Ready}
@@ -38,10 +38,6 @@ pub record HasSmallWork (p : Program) (t : Task) (w : Worker) : Type 0 where
   pub task : HasSmallTask p t
   pub can : All (CanWorkOn p w) (task_of p t).accesses
   pub small : All (λ a. IsSmallCell p (worked_on p w a)) (task_of p t).accesses
-
--- the cells of a task's accesses to data, in operand order
-abbrev pub named : Program → Task → List Cell
-named p t = map (λ a. a.cell) (data_operands (task_of p t))
 
 -- those of these cells without an entry on a node, each once
 abbrev pub lacking : Store → List Cell → List Cell

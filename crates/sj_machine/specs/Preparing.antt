@@ -1,5 +1,5 @@
 -- What a program needs so that a board can be made for it.
-use Rattle.std.specs.Prelude.{◌≡◌, ◌≤◌, ◌<◌, ◌^◌, ◌↔◌, ℕ, None, Option, List, [], count_by, length, map, replicate}
+use Rattle.std.specs.Prelude.{◌≡◌, ◌<◌, ◌↔◌, ℕ, None, Option, List, [], count_by, length, map, replicate}
 use Rattle.std.specs.List.{Contains}
 use Rattle.std.specs.List.Sorted.{IsStrictlyIncreasing}
 use Rattle.sj_base.specs.declared.ids.Task.{Task}
@@ -17,12 +17,6 @@ use Rattle.sj_machine.specs.Filling.{with_each}
 use Rattle.sj_machine.specs.Standing.{starting}
 use Rattle.sj_machine.specs.declared.hand.Hand.{Hand}
 use Rattle.sj_deps.specs.Conflict.{Ready}
-use Rattle.sj_machine.specs.Planning.{HasSmallTask}
-
--- its tasks are not too many, and each has few operands, of cells that aren't too large
-pub record HasSmallTasks (p : Program) : Type 0 where
-  pub few : length p.tasks ≤ 2 ^ 22
-  pub each : (t : Task) → t.0 < length p.tasks → HasSmallTask p t
 
 -- these tasks are ready, each among the first so many, and no other of those
 pub record AreReadyBelow (p : Program) (done : List ℕ) (n : ℕ) (ts : List Task) : Type 0 where

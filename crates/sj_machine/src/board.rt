@@ -284,13 +284,7 @@ impl<D: Disk> Board<D> {
     /// The kernel of the task begins that a worker has claimed. Appends to the frame shares of the operands whose old value
     /// is read, in order; of the cells that it writes, the board keeps no tile, and of what a deliver task hands over it keeps
     /// a further share. After an `Err` the board is as before. Linear in the operands, and in the nodes for each written one.
-    pub fn run(
-        &mut self,
-        alloc: Global,
-        t: Task,
-        w: Worker,
-        frame: Frame,
-    ) -> Result<Frame, OutOfMemory>
+    pub fn run(&mut self, t: Task, w: Worker, frame: Frame) -> Result<Frame, OutOfMemory>
         requires task { HasTask self.old w t }
         requires can { CanHappen self.old.run (Run t w) }
         requires empty { frame.slots ≡ [] }
@@ -298,11 +292,12 @@ impl<D: Disk> Board<D> {
         ensures ok { OnOk result (self.new ≡ has_event self.old (Run t w)) }
         ensures spares { OnOk result (Spares self.old.run (Run t w) self.new.run) }
         ensures shares { IfOk result (λ f. AreSharesFor D.held self.old.run t w f.slots) }
+        ensures room { IfOk result (λ f. f.spare + length f.slots ≡ frame.spare) }
         ensures err { OnErr result (self.new ≡ self.old) }
     {
         self.run.is_sound();
         let gift = self.run.gift(t, w)?;
-        let frame = self.run.run(alloc, t, w, frame)?;
+        let frame = self.run.run(t, w, frame)?;
         self.gifts.keep(w, gift);
         Ok(frame)
     }

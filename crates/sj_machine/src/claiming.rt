@@ -63,7 +63,7 @@ pub fn hold_all(nodes: &mut Vec<NodeStore>, n: Node, plan: &Plan) -> Result<(), 
     Ok(())
 }
 
-/// A worker has a plan in hand. Linear in the pins and the victims that it had.
+/// A worker has a plan in hand. Linear in the victims that it had.
 pub fn take_plan(workers: &mut Vec<Hold>, w: Worker, plan: Plan)
     requires { w.0 < length workers.old.items }
     ensures { workers.new.items ≡ slice_set workers.old.items w.0 (row_with (row_at workers.old.items w) plan) }

@@ -93,7 +93,7 @@ pub fn release_at(nodes: &mut Vec<NodeStore>, n: Node, workers: &[Hold], w: Work
     node.release(hold.scratch());
 }
 
-/// A worker lets its pins and its scratch go. Linear in the pins.
+/// A worker lets its pins and its scratch go. Constant time.
 pub fn let_go(workers: &mut Vec<Hold>, w: Worker)
     requires { w.0 < length workers.old.items }
     ensures { workers.new.items ≡ let_go workers.old.items w }

@@ -4,6 +4,7 @@ ghost use Rattle.std.specs.Prelude.{◌≡◌, None, []};
 ghost use Rattle.sj_core.specs.Machine.{WorkerState};
 ghost use Rattle.sj_machine.specs.Plan.{row_with};
 
+use crate::few_cells::FewCells;
 use crate::plan::Plan;
 use sj_base::ids::Cell;
 use sj_core::progress::Transfer;
@@ -14,7 +15,7 @@ use std::marker::Model;
 /// chosen, and its transfer.
 #[derive(Drop)]
 pub struct Hold {
-    pins: Vec<Cell>,
+    pins: FewCells,
     scratch: u64,
     victims: Vec<Cell>,
     transfer: Option<Transfer>,
@@ -25,7 +26,7 @@ impl Model for Hold {
 
     ghost Value = { WorkerState };
 
-    ghost view = { λ h. record { pins = h.pins.items; scratch = h.scratch; victims = h.victims.items; transfer = h.transfer } };
+    ghost view = { λ h. record { pins = h.pins; scratch = h.scratch; victims = h.victims.items; transfer = h.transfer } };
 }
 
 impl Hold {
@@ -34,7 +35,7 @@ impl Hold {
         ensures { result ≡ record { pins = []; scratch = 0; victims = []; transfer = None } }
     {
         Hold {
-            pins: Vec::new(alloc),
+            pins: FewCells::none(),
             scratch: 0,
             victims: Vec::new(alloc),
             transfer: None,
@@ -45,7 +46,7 @@ impl Hold {
     pub fn pins(&self) -> &[Cell]
         ensures { result.now ≡ self.now.pins }
     {
-        &self.pins
+        self.pins.items()
     }
 
     /// The scratch bytes that it holds. Constant time.
@@ -76,7 +77,7 @@ impl Hold {
         self.transfer = transfer;
     }
 
-    /// Has a claim's plan in hand. Linear in the pins and the victims that it had.
+    /// Has a claim's plan in hand. Linear in the victims that it had.
     pub fn take(&mut self, plan: Plan)
         ensures { self.new ≡ row_with self.old plan }
     {
@@ -86,11 +87,11 @@ impl Hold {
         self.victims = victims;
     }
 
-    /// Lets its pins and its scratch go. Linear in the pins.
+    /// Lets its pins and its scratch go. Constant time.
     pub fn release(&mut self)
         ensures { self.new ≡ record self.old { pins = []; scratch = 0 } }
     {
-        self.pins.clear();
+        self.pins = FewCells::none();
         self.scratch = 0;
     }
 }

@@ -9,6 +9,7 @@ pub mod copies;
 pub mod delivered;
 mod ending;
 pub mod fault;
+pub mod few_cells;
 mod filling;
 pub mod gifts;
 mod gone;

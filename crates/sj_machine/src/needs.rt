@@ -69,19 +69,6 @@ pub fn scratch_bytes(program: &Program, accesses: &[Access]) -> u64
     bytes
 }
 
-/// The cells of the operands that are accesses to data, in order. Linear in the operands.
-pub fn data_cells(alloc: Global, accesses: &[Access]) -> Result<Vec<Cell>, OutOfMemory>
-    ensures { IfOk result (λ cells. cells.items ≡ map (λ a. a.cell) (filter (λ a. is_data a.mode) accesses.now)) }
-{
-    let mut cells = Vec::new(alloc);
-    for access in accesses {
-        if access.mode != Mode::Scratch {
-            cells.push(access.cell)?;
-        }
-    }
-    Ok(cells)
-}
-
 /// Whether a cell has no entry on a node, and isn't among those that come after it. Linear in these.
 fn is_lacking(node: &NodeStore, cell: Cell, later: &[Cell]) -> bool
     ensures { result ≡ (not (has_cell later.now cell) && not (has_entry node.now.entries cell)) }

@@ -1,16 +1,15 @@
 //! The operands of a task as its worker works on them.
 
-ghost use Rattle.std.specs.Prelude.{◌≡◌, ◌&&◌, All, IfOk};
+ghost use Rattle.std.specs.Prelude.{◌≡◌, ◌≤◌, ◌&&◌, All, length};
 ghost use Rattle.sj_base.specs.Mode.{is_commute, is_written as is_written_mode, reads_value as reads_value_of};
 ghost use Rattle.sj_core.specs.Operands.{worked_on as cell_worked_on};
 ghost use Rattle.sj_machine.specs.Operands.{CanWorkOn, first_held, is_held, worked_among, written_among};
 
+use crate::few_cells::FewCells;
 use crate::hold::Hold;
 use sj_base::ids::{Cell, Worker};
-use sj_base::memory::OutOfMemory;
 use sj_base::mode::{Access, Mode};
 use sj_base::program::Program;
-use std::alloc::Global;
 
 /// Whether an operand of this mode gets a new value.
 pub fn is_written(mode: Mode) -> bool
@@ -48,41 +47,33 @@ pub fn worked_on(program: &Program, w: Worker, access: Access) -> Cell
 }
 
 /// The cells on which a worker works for the operands that are accesses to data, in order. Linear in the operands.
-pub fn worked_cells(
-    alloc: Global,
-    program: &Program,
-    w: Worker,
-    accesses: &[Access],
-) -> Result<Vec<Cell>, OutOfMemory>
-    requires { All (CanWorkOn program.now w) accesses.now }
-    ensures { IfOk result (λ cells. cells.items ≡ worked_among program.now w accesses.now) }
+pub fn worked_cells(program: &Program, w: Worker, accesses: &[Access]) -> FewCells
+    requires can { All (CanWorkOn program.now w) accesses.now }
+    requires few { length accesses.now ≤ 5 }
+    ensures { result ≡ worked_among program.now w accesses.now }
 {
-    let mut cells = Vec::new(alloc);
+    let mut cells = FewCells::none();
     for access in accesses {
         if access.mode != Mode::Scratch {
-            cells.push(worked_on(program, w, *access))?;
+            cells.push(worked_on(program, w, *access));
         }
     }
-    Ok(cells)
+    cells
 }
 
 /// The cells on which a worker works for the operands that are written, in order. Linear in the operands.
-pub fn written_cells(
-    alloc: Global,
-    program: &Program,
-    w: Worker,
-    accesses: &[Access],
-) -> Result<Vec<Cell>, OutOfMemory>
-    requires { All (CanWorkOn program.now w) accesses.now }
-    ensures { IfOk result (λ cells. cells.items ≡ written_among program.now w accesses.now) }
+pub fn written_cells(program: &Program, w: Worker, accesses: &[Access]) -> FewCells
+    requires can { All (CanWorkOn program.now w) accesses.now }
+    requires few { length accesses.now ≤ 5 }
+    ensures { result ≡ written_among program.now w accesses.now }
 {
-    let mut cells = Vec::new(alloc);
+    let mut cells = FewCells::none();
     for access in accesses {
         if is_written(access.mode) {
-            cells.push(worked_on(program, w, *access))?;
+            cells.push(worked_on(program, w, *access));
         }
     }
-    Ok(cells)
+    cells
 }
 
 /// Whether a worker pins a cell. Linear in the workers and their pins, which are a task's few.

@@ -4,6 +4,7 @@ ghost use Rattle.std.specs.Prelude.{◌≡◌, IfOk, option_map, reverse};
 ghost use Rattle.sj_node.specs.Store.{victims_of};
 ghost use Rattle.sj_machine.specs.Planning.{HasSmallWork, chosen_on, planned};
 
+use crate::few_cells::FewCells;
 use crate::needs::{accesses_of, bytes_of, lacking_cells, scratch_bytes, total};
 use crate::operands::worked_cells;
 use sj_base::ids::{Cell, Task, Worker};
@@ -28,7 +29,7 @@ pub enum Why {
 /// their bytes, the bytes of the task's scratch, and the victims, the most recently used first.
 #[derive(Drop)]
 pub struct Plan {
-    cells: Vec<Cell>,
+    cells: FewCells,
     missing: Vec<Cell>,
     bytes: Vec<u64>,
     scratch: u64,
@@ -40,7 +41,7 @@ impl Model for Plan {
 
     ghost Value = { ClaimPlan };
 
-    ghost view = { λ c. record { cells = c.cells.items; missing = c.missing.items; bytes = c.bytes.items; scratch = c.scratch; victims = c.victims.items } };
+    ghost view = { λ c. record { cells = c.cells; missing = c.missing.items; bytes = c.bytes.items; scratch = c.scratch; victims = c.victims.items } };
 }
 
 /// The victims of a need, the most recently used first, those held spared; none where there is no room. Linear in the
@@ -65,7 +66,7 @@ impl Plan {
     pub fn cells(&self) -> &[Cell]
         ensures { result.now ≡ self.now.cells }
     {
-        &self.cells
+        self.cells.items()
     }
 
     /// Those that it brings. Constant time.
@@ -97,8 +98,8 @@ impl Plan {
     }
 
     /// The cells of the task, and the victims. Constant time.
-    pub fn into_lists(self) -> (Vec<Cell>, Vec<Cell>)
-        ensures cells { result.0.items ≡ self.cells }
+    pub fn into_lists(self) -> (FewCells, Vec<Cell>)
+        ensures cells { result.0 ≡ self.cells }
         ensures victims { result.1.items ≡ self.victims }
     {
         (self.cells, self.victims)
@@ -117,12 +118,12 @@ impl Plan {
         ensures { IfOk result (λ plan. plan ≡ option_map (planned program.now node.now t w) (chosen_on program.now node.now t w)) }
     {
         let accesses = accesses_of(program, t);
-        let cells = worked_cells(alloc, program, w, accesses)?;
-        let missing = lacking_cells(alloc, node, &cells)?;
+        let cells = worked_cells(program, w, accesses);
+        let missing = lacking_cells(alloc, node, cells.items())?;
         let bytes = bytes_of(alloc, program, &missing)?;
         let scratch = scratch_bytes(program, accesses);
         let need = total(&bytes) + scratch;
-        let Some(victims) = recent_victims(alloc, node, &cells, need)? else {
+        let Some(victims) = recent_victims(alloc, node, cells.items(), need)? else {
             return Ok(None);
         };
         Ok(Some(Plan {

@@ -3,54 +3,33 @@
 ghost use Rattle.std.specs.Prelude.{◌≡◌, ◌↔◌, ◌+◌, ◌<◌, [], Contains, IfOk, OnOk, length, map};
 ghost use Rattle.std.specs.List.Sorted.{IsStrictlyIncreasing};
 ghost use Rattle.sj_base.specs.declared.ids.Task.{Task};
-ghost use Rattle.sj_core.specs.Needs.{footprint};
 ghost use Rattle.sj_deps.specs.Conflict.{Ready};
 ghost use Rattle.sj_machine.specs.BoardSound.{AreFootprints};
-ghost use Rattle.sj_machine.specs.Planning.{HasSmallTask};
 ghost use Rattle.sj_core.specs.Proper.{Proper};
-ghost use Rattle.sj_machine.specs.Preparing.{AreReadyBelow, HasSmallTasks, IsPrepared, IsReadyToDeliver};
+ghost use Rattle.sj_machine.specs.Preparing.{AreReadyBelow, IsPrepared, IsReadyToDeliver};
 
 use crate::delivered::Delivered;
 use crate::filling::put_each;
 use crate::gifts::{Gifts, count_deliveries};
 use crate::hand::{EMPTY, Hand};
-use crate::needs::{accesses_of, bytes_of, data_cells, lacking_cells, scratch_bytes, total};
 use sj_base::ids::Task;
 use sj_base::memory::OutOfMemory;
 use sj_base::mode::Policy;
 use sj_base::program::Program;
 use sj_deps::deps::Deps;
-use sj_node::store::NodeStore;
+use sj_needs::footprint::footprint;
 use sj_pool::pool::Pool;
 use std::alloc::Global;
 
-/// The bytes that a task needs on its node: what it brings to one without entries. Quadratic in the operands, which are few.
-fn footprint_of(
-    alloc: Global,
-    program: &Program,
-    nothing: &NodeStore,
-    t: Task,
-) -> Result<u64, OutOfMemory>
-    requires small { HasSmallTask program.now t }
-    requires nothing { nothing.now.entries ≡ [] }
-    ensures { IfOk result (λ n. n ≡ footprint program.now t) }
-{
-    let accesses = accesses_of(program, t);
-    let cells = data_cells(alloc, accesses)?;
-    let missing = lacking_cells(alloc, nothing, &cells)?;
-    let bytes = bytes_of(alloc, program, &missing)?;
-    Ok(total(&bytes) + scratch_bytes(program, accesses))
-}
-
 /// The bytes that each task needs on its node. Linear in the tasks.
 pub fn footprints_of(alloc: Global, program: &Program) -> Result<Vec<u64>, OutOfMemory>
-    requires { HasSmallTasks program.now }
+    requires { Proper program.now }
     ensures { IfOk result (λ v. AreFootprints program.now v.items) }
 {
-    let nothing = NodeStore::make(alloc, 0, 0)?;
-    let mut bytes = Vec::new(alloc);
-    for i in 0..program.tasks.len() {
-        bytes.push(footprint_of(alloc, program, &nothing, Task(i as u32))?)?;
+    let count = program.tasks.len();
+    let mut bytes = Vec::with_capacity(alloc, count)?;
+    for i in 0..count {
+        bytes.push(footprint(program, Task(i as u32)))?;
     }
     Ok(bytes)
 }

@@ -1,6 +1,6 @@
 //! The state of a run, and the events that change it.
 
-ghost use Rattle.std.specs.Prelude.{◌≡◌, ◌<◌, ◌≤◌, [], All, FitsSigned, IfErr, IfOk, IsSome, OnErr, OnOk, None, Some, false, length, map, replicate, true};
+ghost use Rattle.std.specs.Prelude.{◌≡◌, ◌+◌, ◌<◌, ◌≤◌, [], All, FitsSigned, IfErr, IfOk, IsSome, OnErr, OnOk, None, Some, false, length, map, replicate, true};
 ghost use Rattle.std.specs.Int.{w64};
 ghost use Rattle.sj_base.specs.Array.{area};
 ghost use Rattle.sj_base.specs.declared.ids.Place.TheVariants.{Disk as OnDisk, Node as AtNode};
@@ -457,30 +457,30 @@ impl<D: Disk> RunState<D> {
     /// The kernel of a task begins that its worker has claimed. Appends to the frame shares of the operands whose old value
     /// is read, in order; of the cells that it writes, the run keeps no tile. After an `Err` the run is as before. Linear in
     /// the operands, and in the nodes for each written one.
-    pub fn run(
-        &mut self,
-        alloc: Global,
-        t: Task,
-        w: Worker,
-        mut frame: Frame,
-    ) -> Result<Frame, OutOfMemory>
+    pub fn run(&mut self, t: Task, w: Worker, mut frame: Frame) -> Result<Frame, OutOfMemory>
         requires can { CanHappen self.old (Event.Run t w) }
         requires empty { frame.slots ≡ [] }
         requires room { length (read_among (task_of self.old.program t).accesses) ≤ frame.spare }
         ensures ok { OnOk result (self.new ≡ with_event self.old (Event.Run t w)) }
         ensures shares { IfOk result (λ f. AreSharesFor D.held self.old t w f.slots) }
+        ensures room { IfOk result (λ f. f.spare + length f.slots ≡ frame.spare) }
         ensures err { OnErr result (self.new ≡ self.old) }
     {
         let n = node_of(&self.machine, w);
         let accesses = task_at(&self.program, t).accesses.items();
         share_into(&self.program, w, &self.cells, n, accesses, &mut frame)?;
-        let written = written_cells(alloc, &self.program, w, accesses)?;
+        let written = written_cells(&self.program, w, accesses);
         let Some(room) = self.owed.checked_add(1) else {
             return Err(OutOfMemory);
         };
         self.trace.reserve(room)?;
-        lend_each(&mut self.cells, &written, n, self.machine.nodes.len());
-        evict_elsewhere(&mut self.nodes, &written, n);
+        lend_each(
+            &mut self.cells,
+            written.items(),
+            n,
+            self.machine.nodes.len(),
+        );
+        evict_elsewhere(&mut self.nodes, written.items(), n);
         self.tasks[t.0 as usize] = Progress::Running(w);
         self.trace.add(Event::Run(t, w));
         Ok(frame)

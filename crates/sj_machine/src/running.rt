@@ -38,7 +38,8 @@ pub fn share_into(
 ) -> Result<(), OutOfMemory>
     requires room { length (read_among accesses.now) ≤ frame.old.spare }
     requires can { All (CanGive program.now w cells.now n) accesses.now }
-    ensures { OnOk result (frame.new.slots ≡ frame.old.slots ++ shares_at program.now w cells.now n accesses.now) }
+    ensures slots { OnOk result (frame.new.slots ≡ frame.old.slots ++ shares_at program.now w cells.now n accesses.now) }
+    ensures room { OnOk result (frame.new.spare + length (read_among accesses.now) ≡ frame.old.spare) }
 {
     for access in accesses {
         share_one(program, w, cells, n, *access, frame)?;

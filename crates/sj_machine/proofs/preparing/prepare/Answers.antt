@@ -3,14 +3,10 @@ use Rattle.sj_core.proofs.Dependencies.{Proper-dependencies}
 use Rattle.sj_machine.specs.Delivered.{deliveries}
 use Rattle.sj_machine.specs.Preparing.{first_hands}
 use Rattle.sj_machine.proofs.Opening.{first-can, prepared}
-use Rattle.sj_machine.proofs.Prepared.{proper-small}
 use Rattle.sj_machine.proofs.preparing.prepare.Goals as goal
 
 pub of-requires : goal.of-requires
 of-requires c = Proper-dependencies c.args.program.now c.requires.proper
-
-pub footprints_of-requires : goal.footprints_of-requires
-footprints_of-requires c = proper-small c.args.program.now c.requires.proper
 
 pub put_each-requires-clause-can : goal.put_each-requires-clause-can
 put_each-requires-clause-can c = first-can c.args.program.now c.args.policy c.requires.workers c.in_ok-deps.deps c.in_ok-deps.ensures.program c.in_ok-deps.ensures.none_done c.deref-2.result.now c.in_ok-ready.ready.items c.deref-2.ensures.value c.in_ok-ready.ensures.each c.in_ok-ready.ensures.by_number c.in_ok-pool.pool _ c.len-count.ensures c.in_ok-pool.ensures

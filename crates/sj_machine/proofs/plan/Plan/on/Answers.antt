@@ -1,4 +1,4 @@
-use Rattle.std.proofs.Common.{rules, ◌≡◌, ◌+◌, ◌∙◌, List, Some, None, ap, arith, subst, sym, reverse, sum, sum_by, filter, map, not, option_map}
+use Rattle.std.proofs.Common.{rules, ◌≡◌, ◌≤◌, ◌+◌, ◌∙◌, List, Some, None, ap, arith, length, subst, sym, reverse, sum, sum_by, filter, map, not, option_map}
 use Rattle.std.specs.Prelude.{All}
 use Rattle.sj_base.specs.declared.ids.Cell.{Cell}
 use Rattle.sj_base.specs.declared.mode.Access.{Access}
@@ -21,9 +21,9 @@ bytes_of-requires c =
     let s = c.args.node.now in
     let accesses : c.accesses_of-accesses.result.now ≡ (task_of p t).accesses = c.accesses_of-accesses.ensures in
     let w = c.args.w in
-    let names : c.in_ok-cells.cells.items ≡ cells_of p t w = search rules ∙ ap (worked_among p w) accesses in
-    let lacks : c.in_ok-missing.missing.items ≡ filter (λ d. not (has_entry s.entries d)) (distinct c.in_ok-cells.cells.items) = search rules in
-    subst (λ (cs : List Cell). All (IsSmallCell p) cs) (sym (c.deref-2.ensures.value ∙ missing-is s (cells_of p t w) _ _ names lacks)) (lacking-small p (cells_of p t w) (work-small p t w c.requires) (work-few p t w c.requires) s)
+    let names : c.worked_cells-cells.result ≡ cells_of p t w = search rules ∙ ap (worked_among p w) accesses in
+    let lacks : c.in_ok-missing.missing.items ≡ filter (λ d. not (has_entry s.entries d)) (distinct c.worked_cells-cells.result) = search rules in
+    subst (λ (cs : List Cell). All (IsSmallCell p) cs) (sym (c.deref.ensures.value ∙ missing-is s (cells_of p t w) _ _ names lacks)) (lacking-small p (cells_of p t w) (work-small p t w c.requires) (work-few p t w c.requires) s)
 
 pub total-requires : goal.total-requires
 total-requires c =
@@ -32,10 +32,10 @@ total-requires c =
     let s = c.args.node.now in
     let accesses : c.accesses_of-accesses.result.now ≡ (task_of p t).accesses = c.accesses_of-accesses.ensures in
     let w = c.args.w in
-    let names : c.in_ok-cells.cells.items ≡ cells_of p t w = search rules ∙ ap (worked_among p w) accesses in
-    let lacks : c.in_ok-missing.missing.items ≡ filter (λ d. not (has_entry s.entries d)) (distinct c.in_ok-cells.cells.items) = search rules in
+    let names : c.worked_cells-cells.result ≡ cells_of p t w = search rules ∙ ap (worked_among p w) accesses in
+    let lacks : c.in_ok-missing.missing.items ≡ filter (λ d. not (has_entry s.entries d)) (distinct c.worked_cells-cells.result) = search rules in
     let weighs : c.in_ok-bytes.bytes.items ≡ map (tile_bytes p) c.in_ok-missing.missing.items = search rules in
-    let sum_is : sum c.deref-3.result.now ≡ sum (map (tile_bytes p) (lacking s (cells_of p t w))) = ap sum (c.deref-3.ensures.value ∙ weighs ∙ ap (map (tile_bytes p)) (missing-is s (cells_of p t w) _ _ names lacks)) in
+    let sum_is : sum c.deref-2.result.now ≡ sum (map (tile_bytes p) (lacking s (cells_of p t w))) = ap sum (c.deref-2.ensures.value ∙ weighs ∙ ap (map (tile_bytes p)) (missing-is s (cells_of p t w) _ _ names lacks)) in
     omega (arith, sum_is, lacking-sum p (cells_of p t w) (work-small p t w c.requires) (work-few p t w c.requires) s)
 
 pub overflow_add-need : goal.overflow_add-need
@@ -45,10 +45,10 @@ overflow_add-need c =
     let s = c.args.node.now in
     let accesses : c.accesses_of-accesses.result.now ≡ (task_of p t).accesses = c.accesses_of-accesses.ensures in
     let w = c.args.w in
-    let names : c.in_ok-cells.cells.items ≡ cells_of p t w = search rules ∙ ap (worked_among p w) accesses in
-    let lacks : c.in_ok-missing.missing.items ≡ filter (λ d. not (has_entry s.entries d)) (distinct c.in_ok-cells.cells.items) = search rules in
+    let names : c.worked_cells-cells.result ≡ cells_of p t w = search rules ∙ ap (worked_among p w) accesses in
+    let lacks : c.in_ok-missing.missing.items ≡ filter (λ d. not (has_entry s.entries d)) (distinct c.worked_cells-cells.result) = search rules in
     let weighs : c.in_ok-bytes.bytes.items ≡ map (tile_bytes p) c.in_ok-missing.missing.items = search rules in
-    let sum_is : sum c.deref-3.result.now ≡ sum (map (tile_bytes p) (lacking s (cells_of p t w))) = ap sum (c.deref-3.ensures.value ∙ weighs ∙ ap (map (tile_bytes p)) (missing-is s (cells_of p t w) _ _ names lacks)) in
+    let sum_is : sum c.deref-2.result.now ≡ sum (map (tile_bytes p) (lacking s (cells_of p t w))) = ap sum (c.deref-2.ensures.value ∙ weighs ∙ ap (map (tile_bytes p)) (missing-is s (cells_of p t w) _ _ names lacks)) in
     omega (arith, sum_is, lacking-sum p (cells_of p t w) (work-small p t w c.requires) (work-few p t w c.requires) s, c.total.ensures, c.scratch_bytes-scratch.ensures.small)
 
 pub returns-in_default : goal.returns-in_default
@@ -58,11 +58,11 @@ returns-in_default c =
     let s = c.args.node.now in
     let accesses : c.accesses_of-accesses.result.now ≡ (task_of p t).accesses = c.accesses_of-accesses.ensures in
     let w = c.args.w in
-    let names : c.in_ok-cells.cells.items ≡ cells_of p t w = search rules ∙ ap (worked_among p w) accesses in
-    let lacks : c.in_ok-missing.missing.items ≡ filter (λ d. not (has_entry s.entries d)) (distinct c.in_ok-cells.cells.items) = search rules in
+    let names : c.worked_cells-cells.result ≡ cells_of p t w = search rules ∙ ap (worked_among p w) accesses in
+    let lacks : c.in_ok-missing.missing.items ≡ filter (λ d. not (has_entry s.entries d)) (distinct c.worked_cells-cells.result) = search rules in
     let weighs : c.in_ok-bytes.bytes.items ≡ map (tile_bytes p) c.in_ok-missing.missing.items = search rules in
     let holds : c.scratch_bytes-scratch.result ≡ scratch_bytes p (task_of p t) = c.scratch_bytes-scratch.ensures.bytes ∙ ap (λ (xs : List Access). sum_by (λ a. tile_bytes p a.cell) (filter (λ a. is_scratch a.mode) xs)) accesses in
-    let none : None ≡ option_map reverse (victims_of c.in_ok-cells.cells.items s (sum c.in_ok-bytes.bytes.items + c.scratch_bytes-scratch.result)) = search rules in
+    let none : None ≡ option_map reverse (victims_of c.worked_cells-cells.result s (sum c.in_ok-bytes.bytes.items + c.scratch_bytes-scratch.result)) = search rules in
     planned-none p t w s _ _ _ _ names lacks weighs holds none
 
 pub returns : goal.returns
@@ -72,18 +72,23 @@ returns c =
     let s = c.args.node.now in
     let accesses : c.accesses_of-accesses.result.now ≡ (task_of p t).accesses = c.accesses_of-accesses.ensures in
     let w = c.args.w in
-    let names : c.in_ok-cells.cells.items ≡ cells_of p t w = search rules ∙ ap (worked_among p w) accesses in
-    let lacks : c.in_ok-missing.missing.items ≡ filter (λ d. not (has_entry s.entries d)) (distinct c.in_ok-cells.cells.items) = search rules in
+    let names : c.worked_cells-cells.result ≡ cells_of p t w = search rules ∙ ap (worked_among p w) accesses in
+    let lacks : c.in_ok-missing.missing.items ≡ filter (λ d. not (has_entry s.entries d)) (distinct c.worked_cells-cells.result) = search rules in
     let weighs : c.in_ok-bytes.bytes.items ≡ map (tile_bytes p) c.in_ok-missing.missing.items = search rules in
     let holds : c.scratch_bytes-scratch.result ≡ scratch_bytes p (task_of p t) = c.scratch_bytes-scratch.ensures.bytes ∙ ap (λ (xs : List Access). sum_by (λ a. tile_bytes p a.cell) (filter (λ a. is_scratch a.mode) xs)) accesses in
-    let found : option_map (λ v. v.items) c.in_ok-victims.field-0 ≡ option_map reverse (victims_of c.in_ok-cells.cells.items s (sum c.in_ok-bytes.bytes.items + c.scratch_bytes-scratch.result)) =
+    let found : option_map (λ v. v.items) c.in_ok-victims.field-0 ≡ option_map reverse (victims_of c.worked_cells-cells.result s (sum c.in_ok-bytes.bytes.items + c.scratch_bytes-scratch.result)) =
     c.in_ok-victims.ensures
-    ∙ ap (λ (cs : List Cell). option_map reverse (victims_of cs s (c.total.result + c.scratch_bytes-scratch.result))) c.deref-4.ensures.value
-    ∙ ap (λ n. option_map reverse (victims_of c.in_ok-cells.cells.items s (n + c.scratch_bytes-scratch.result))) (c.total.ensures ∙ ap sum c.deref-3.ensures.value) in
-    let some : Some c.in-Some.victims.items ≡ option_map reverse (victims_of c.in_ok-cells.cells.items s (sum c.in_ok-bytes.bytes.items + c.scratch_bytes-scratch.result)) = ap (option_map (λ v. v.items)) (sym c.in-Some.is) ∙ found in
+    ∙ ap (λ (cs : List Cell). option_map reverse (victims_of cs s (c.total.result + c.scratch_bytes-scratch.result))) c.items-2.ensures
+    ∙ ap (λ n. option_map reverse (victims_of c.worked_cells-cells.result s (n + c.scratch_bytes-scratch.result))) (c.total.ensures ∙ ap sum c.deref-2.ensures.value) in
+    let some : Some c.in-Some.victims.items ≡ option_map reverse (victims_of c.worked_cells-cells.result s (sum c.in_ok-bytes.bytes.items + c.scratch_bytes-scratch.result)) = ap (option_map (λ v. v.items)) (sym c.in-Some.is) ∙ found in
     planned-some p t w s _ _ _ _ names lacks weighs holds c.in-Some.victims.items some
 
-pub worked_cells-requires : goal.worked_cells-requires
-worked_cells-requires c =
+pub worked_cells-cells-requires-clause-can : goal.worked_cells-cells-requires-clause-can
+worked_cells-cells-requires-clause-can c =
     let accesses : c.accesses_of-accesses.result.now ≡ (task_of c.args.program.now c.args.t).accesses = c.accesses_of-accesses.ensures in
     subst (λ (xs : List Access). All (CanWorkOn c.args.program.now c.args.w) xs) (sym accesses) c.requires.can
+
+pub worked_cells-cells-requires-clause-few : goal.worked_cells-cells-requires-clause-few
+worked_cells-cells-requires-clause-few c =
+    let accesses : c.accesses_of-accesses.result.now ≡ (task_of c.args.program.now c.args.t).accesses = c.accesses_of-accesses.ensures in
+    subst (λ (xs : List Access). length xs ≤ 5) (sym accesses) c.requires.task.few

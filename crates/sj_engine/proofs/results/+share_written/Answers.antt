@@ -2,7 +2,7 @@ use Rattle.std.proofs.Common.{◌≡◌, ◌++◌, ◌∷◌, [], false, true, r
 use Rattle.sj_codelet.specs.Slot.{slot_of}
 use Rattle.sj_engine.specs.Operands.{is_output}
 use Rattle.sj_engine.proofs.ResultLists.{share-skips, share-adds}
-use Rattle.sj_engine.proofs.results.+share_into.Goals as goal
+use Rattle.sj_engine.proofs.results.+share_written.Goals as goal
 
 pub returns-then-not-is_output-clause-slots : goal.returns-then-not-is_output-clause-slots
 returns-then-not-is_output-clause-slots t c =
@@ -10,7 +10,7 @@ returns-then-not-is_output-clause-slots t c =
     let last = c.in-Some.last.now in
     let e : c.args.formals.now ≡ before ++ last ∷ [] = search rules in
     let h : is_output last ≡ false = search rules in
-    share-skips c.args.formals.now before last c.args.frame.now.slots c.take_last-operand.new.self.slots (slot_of c.take_last-operand.result) c.args.out.now.slots c.share_into.new.out.slots e c.take_last-operand.ensures.slots c.requires.count h c.in_ok-share_into.ensures.slots
+    share-skips c.args.formals.now before last c.args.frame.now.slots c.take_last-operand.new.self.slots (slot_of c.take_last-operand.result) c.share_written.new.frame.slots e c.take_last-operand.ensures.slots c.requires h c.in_ok-share_written.ensures.slots
 
 pub returns-clause-slots : goal.returns-clause-slots
 returns-clause-slots t c =
@@ -18,4 +18,4 @@ returns-clause-slots t c =
     let last = c.in-Some.last.now in
     let e : c.args.formals.now ≡ before ++ last ∷ [] = search rules in
     let h : is_output last ≡ true = search rules in
-    share-adds c.args.formals.now before last c.args.frame.now.slots c.take_last-operand.new.self.slots (slot_of c.take_last-operand.result) c.args.out.now.slots c.share_into.new.out.slots c.push_shared.new.self.slots c.in_ok-share.field-0.value e c.take_last-operand.ensures.slots c.requires.count h c.in_ok-share_into.ensures.slots c.push_shared.ensures.slots c.in_ok-share.ensures
+    share-adds c.args.formals.now before last c.args.frame.now.slots c.take_last-operand.new.self.slots (slot_of c.take_last-operand.result) c.share_written.new.frame.slots c.push_shared.new.self.slots c.in_ok-share.field-0.value e c.take_last-operand.ensures.slots c.requires h c.in_ok-share_written.ensures.slots c.push_shared.ensures.slots c.in_ok-share.ensures
