@@ -14,15 +14,5 @@ pub mod roots;
 pub mod settings;
 pub mod spell;
 pub mod submit;
-#[cfg(test)]
-mod tests;
-#[cfg(test)]
-mod tests_of_lines;
-#[cfg(test)]
-mod tests_of_plans;
-#[cfg(test)]
-mod tests_of_reductions;
-#[cfg(test)]
-mod tests_of_settings;
 pub mod track;
 pub mod word;

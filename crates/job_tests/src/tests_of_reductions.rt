@@ -1,11 +1,11 @@
 //! What lines on reductions, contributions and commuting accesses give.
 
-use crate::job::Act;
-use crate::read::read;
-use crate::reason::Reason;
 use crate::tests::{Refused, are_refused, gives};
 use sj_base::ids::Root;
 use sj_base::mode::{Mode, Reduction};
+use sj_job::job::Act;
+use sj_job::read::read;
+use sj_job::reason::Reason;
 use sj_kernels::ring::Ring;
 use std::test::Fail;
 

@@ -1,10 +1,10 @@
 //! What settings lines give: the settings of a job, or the first bad line and the first reason against it.
 
-use crate::read::read;
-use crate::reason::{LimitKind, ReadRefusal, Reason};
-use crate::settings::Settings;
 use crate::tests::{Refused, are_refused};
 use sj_base::mode::Policy;
+use sj_job::read::read;
+use sj_job::reason::{LimitKind, ReadRefusal, Reason};
+use sj_job::settings::Settings;
 use sj_kernels::ring::Ring;
 use std::alloc::Global;
 use std::test::Fail;

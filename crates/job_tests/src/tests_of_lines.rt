@@ -1,13 +1,13 @@
 //! What single lines say, line by line.
 
-use crate::job::{Act, Init, Job, Kind, RootInfo};
-use crate::read::read;
-use crate::reason::{ReadRefusal, Reason};
-use crate::roots::Roots;
 use sj_base::ids::Root;
 use sj_base::memory::OutOfMemory;
 use sj_base::mode::Mode;
 use sj_codelet::kernel::Kernel;
+use sj_job::job::{Act, Init, Job, Kind, RootInfo};
+use sj_job::read::read;
+use sj_job::reason::{ReadRefusal, Reason};
+use sj_job::roots::Roots;
 use sj_kernels::ring::Ring;
 use std::alloc::{AllocGlobal, Global};
 use std::process::Abort;

@@ -1,8 +1,8 @@
 //! What texts give: a job, or the first bad line and the first reason against it.
 
-use crate::read::read;
-use crate::reason::{LimitKind, ReadRefusal, Reason};
 use sj_base::ids::Line;
+use sj_job::read::read;
+use sj_job::reason::{LimitKind, ReadRefusal, Reason};
 use sj_kernels::ring::Ring;
 use std::alloc::Global;
 use std::process::Abort;

@@ -1,10 +1,10 @@
 //! What texts with plans give.
 
-use crate::job::{Act, Job};
-use crate::read::read;
-use crate::reason::{LimitKind, Reason};
 use crate::tests::{Refused, are_refused, gives};
 use sj_base::ids::Root;
+use sj_job::job::{Act, Job};
+use sj_job::read::read;
+use sj_job::reason::{LimitKind, Reason};
 use sj_kernels::ring::Ring;
 use std::alloc::Global;
 use std::test::Fail;
