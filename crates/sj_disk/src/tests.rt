@@ -14,7 +14,13 @@ use sj_edge::memory_disk::MemDisk;
 use sj_edge::source::Failed;
 use sj_edge::sure::SureDisk;
 use std::alloc::Global;
+use std::fmt::Debug;
 use std::process::Abort;
+
+/// Two values are equal.
+fn same<R: Abort, T: PartialEq + Debug + Drop>(rt: &R, found: T, wanted: T) {
+    assert_eq!(rt; found, wanted);
+}
 
 /// A row of elements.
 fn row(rt: &impl Abort, alloc: Global, elements: &[i64]) -> Result<Tile, OutOfMemory> {
@@ -94,18 +100,18 @@ fn close_one<D: Disk>(rt: &impl Abort, set: DiskSet<D>) -> D {
 fn a_block_is_a_header_and_the_elements(rt: HostRuntime) -> Result<(), OutOfMemory> {
     let disk = SureDisk::new(rt.alloc(), 64)?;
     let mut set = set_of(&rt, rt.alloc(), Vec::from_array(rt.alloc(), [disk])?);
-    assert_eq!(rt; reserve(&rt, &mut set, 0, 3), Ok(DiskNo(0)));
+    same(&rt, reserve(&rt, &mut set, 0, 3), Ok(DiskNo(0)));
     let stored = row(&rt, rt.alloc(), &[1, 2, 3])?;
-    assert_eq!(rt; store(&rt, &mut set, 0, 1, &stored), Ok(()));
+    same(&rt, store(&rt, &mut set, 0, 1, &stored), Ok(()));
     let mut fetched = row(&rt, rt.alloc(), &[0, 0, 0])?;
-    assert_eq!(rt; fetch(&rt, &mut set, 0, 1, &mut fetched), Ok(()));
-    assert_eq!(rt; fetched.elements(), [1i64, 2, 3].as_slice());
+    same(&rt, fetch(&rt, &mut set, 0, 1, &mut fetched), Ok(()));
+    same(&rt, fetched.elements(), [1i64, 2, 3].as_slice());
     let disk = close_one(&rt, set);
     let block: [u8; 48] = [
         0, 0, 0, 0, 0, 0, 0, 0, 1, 0, 0, 0, 0, 0, 0, 0, 3, 0, 0, 0, 0, 0, 0, 0, // the header
         1, 0, 0, 0, 0, 0, 0, 0, 2, 0, 0, 0, 0, 0, 0, 0, 3, 0, 0, 0, 0, 0, 0, 0,
     ];
-    assert_eq!(rt; disk.bytes().get(..48), Some(block.as_slice()));
+    same(&rt, disk.bytes().get(..48), Some(block.as_slice()));
     Ok(())
 }
 
@@ -118,12 +124,16 @@ fn cells_go_to_the_first_disk_with_room(rt: HostRuntime) -> Result<(), OutOfMemo
         rt.alloc(),
         Vec::from_array(rt.alloc(), [small, large])?,
     );
-    assert_eq!(rt; reserve(&rt, &mut set, 3, 5), Ok(DiskNo(1)));
-    assert_eq!(rt; reserve(&rt, &mut set, 0, 2), Ok(DiskNo(0)));
-    assert_eq!(rt; reserve(&rt, &mut set, 1, 1), Ok(DiskNo(1)));
-    assert_eq!(rt; reserve(&rt, &mut set, 2, 1), Err(ReserveRefusal::NoRoom));
+    same(&rt, reserve(&rt, &mut set, 3, 5), Ok(DiskNo(1)));
+    same(&rt, reserve(&rt, &mut set, 0, 2), Ok(DiskNo(0)));
+    same(&rt, reserve(&rt, &mut set, 1, 1), Ok(DiskNo(1)));
+    same(
+        &rt,
+        reserve(&rt, &mut set, 2, 1),
+        Err(ReserveRefusal::NoRoom),
+    );
     let positions = [0, 1, 3].map(|c| set.extent(Cell(c)).map(|e| e.position));
-    assert_eq!(rt; positions, [Some(0), Some(64), Some(0)]);
+    same(&rt, positions, [Some(0), Some(64), Some(0)]);
     Ok(())
 }
 
@@ -133,22 +143,20 @@ fn a_failing_disk_is_named_and_the_directory_says_so(rt: HostRuntime) -> Result<
     let disk = MemDisk::new(rt.alloc(), 64, fail)?;
     let mut set = set_of(&rt, rt.alloc(), Vec::from_array(rt.alloc(), [disk])?);
     let fault = Err(DiskRefusal::DiskFault { disk: DiskNo(0) });
-    assert_eq!(rt; reserve(&rt, &mut set, 0, 2), Ok(DiskNo(0)));
+    same(&rt, reserve(&rt, &mut set, 0, 2), Ok(DiskNo(0)));
     let mut tile = row(&rt, rt.alloc(), &[-1, i64::MAX])?;
-    assert_eq!(rt; store(&rt, &mut set, 0, 7, &tile), fault);
+    same(&rt, store(&rt, &mut set, 0, 7, &tile), fault);
     let failed = LastStore {
         writes: 7,
         ended_ok: false,
     };
-    assert_eq!(rt;
-        set.extent(Cell(0)).and_then(|e| e.last_store),
-        Some(failed)
-    );
-    assert_eq!(rt; store(&rt, &mut set, 0, 8, &tile), Ok(()));
-    assert_eq!(rt; fetch(&rt, &mut set, 0, 8, &mut tile), fault);
-    assert_eq!(rt; fetch(&rt, &mut set, 0, 8, &mut tile), Ok(()));
-    assert_eq!(rt; tile.elements(), [-1i64, i64::MAX].as_slice());
-    assert_eq!(rt; close_one(&rt, set).faults(), 2);
+    let last = set.extent(Cell(0)).and_then(|e| e.last_store);
+    same(&rt, last, Some(failed));
+    same(&rt, store(&rt, &mut set, 0, 8, &tile), Ok(()));
+    same(&rt, fetch(&rt, &mut set, 0, 8, &mut tile), fault);
+    same(&rt, fetch(&rt, &mut set, 0, 8, &mut tile), Ok(()));
+    same(&rt, tile.elements(), [-1i64, i64::MAX].as_slice());
+    same(&rt, close_one(&rt, set).faults(), 2);
     Ok(())
 }
 
@@ -196,10 +204,10 @@ fn a_lost_write_is_damage_with_both_headers(rt: HostRuntime) -> Result<(), OutOf
         writes: 0,
     };
     let mut set = set_of(&rt, rt.alloc(), Vec::from_array(rt.alloc(), [disk])?);
-    assert_eq!(rt; reserve(&rt, &mut set, 4, 2), Ok(DiskNo(0)));
+    same(&rt, reserve(&rt, &mut set, 4, 2), Ok(DiskNo(0)));
     let mut tile = row(&rt, rt.alloc(), &[5, 6])?;
-    assert_eq!(rt; store(&rt, &mut set, 4, 1, &tile), Ok(()));
-    assert_eq!(rt; store(&rt, &mut set, 4, 2, &tile), Ok(()));
+    same(&rt, store(&rt, &mut set, 4, 1, &tile), Ok(()));
+    same(&rt, store(&rt, &mut set, 4, 2, &tile), Ok(()));
     let header = |writes| Header {
         cell: 4,
         writes,
@@ -210,7 +218,7 @@ fn a_lost_write_is_damage_with_both_headers(rt: HostRuntime) -> Result<(), OutOf
         want: header(2),
         found: header(1),
     };
-    assert_eq!(rt; fetch(&rt, &mut set, 4, 2, &mut tile), Err(damaged));
-    assert_eq!(rt; close_one(&rt, set).inner.mismatches(), 1);
+    same(&rt, fetch(&rt, &mut set, 4, 2, &mut tile), Err(damaged));
+    same(&rt, close_one(&rt, set).inner.mismatches(), 1);
     Ok(())
 }
