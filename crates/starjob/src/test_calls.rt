@@ -3,6 +3,7 @@
 ghost use Rattle.std.specs.Prelude.{◌≡◌, ◌≤◌, ◌^◌, IfOk, length};
 ghost use Rattle.sj_edge.specs.Sizes.{AreWithin};
 
+use crate::status::Status;
 use crate::top::{AnyDisk, Outcome, starjob};
 use sj_base::memory::OutOfMemory;
 use sj_edge::disk::{Disk, add_disk};
@@ -13,6 +14,7 @@ use sj_edge::memory_source::MemSource;
 use sj_edge::sink::Sink;
 use sj_edge::source::Source;
 use std::alloc::Global;
+use std::fmt::Debug;
 use std::process::Abort;
 use std::sync::Wait;
 use std::test::Fail;
@@ -144,6 +146,17 @@ pub fn answer_to<R: Threads + Wait + Sync>(
 ) -> Result<Answer, Fail> {
     let disks = whole(alloc, DISK)?;
     answer_on(rt, alloc, &[], text, disks, &OpenGate)
+}
+
+/// Two values are equal.
+pub fn same<R: Abort, T: PartialEq + Debug + Drop>(rt: &R, found: T, wanted: T) {
+    assert_eq!(rt; found, wanted);
+}
+
+/// A call has ended so, and `out` took this.
+pub fn is_answered<R: Abort>(rt: &R, answer: &Answer, status: Status, out: &str, shows: &str) {
+    assert_eq!(rt; answer.outcome.status, status, "{shows}");
+    assert_eq!(rt; answer.out.taken(), out.as_bytes(), "{shows}");
 }
 
 /// A job text, and what `out` takes.

@@ -3,7 +3,7 @@
 use crate::status::Status;
 use crate::test_calls::{
     Printing, Refusal, SUM, all_are_refused, all_print, answer_on, answer_to, bytes, call, calls,
-    memory, whole,
+    is_answered, memory, same, whole,
 };
 use sj_base::ids::{Line, Task, Worker};
 use sj_base::trace::Event;
@@ -462,12 +462,11 @@ fn a_source_that_fails_gives_its_fault_and_nothing_is_written(rt: HostRuntime) -
         let mut err = MemSink::new(alloc, 1000, Vec::new(alloc))?;
         let outcome = call(&rt, alloc, &mut source, &mut out, &mut err)?;
         if source.faults() == 0 {
-            assert_eq!(rt; outcome.status, Status::Done, "at {number}");
+            same(&rt, (number, outcome.status), (number, Status::Done));
         } else {
             let line = b"starjob: reading failed\n".as_slice();
-            assert_eq!(rt; outcome.status, Status::SourceFault, "at {number}");
-            assert!(rt; out.taken().is_empty(), "at {number}");
-            assert_eq!(rt; err.taken(), line, "at {number}");
+            same(&rt, (number, outcome.status), (number, Status::SourceFault));
+            same(&rt, (out.taken().len(), err.taken()), (0, line));
         }
     }
     Ok(())
@@ -482,9 +481,8 @@ fn an_out_that_fails_gives_its_fault_and_a_failing_err_is_ignored(
     let mut out = MemSink::new(alloc, 1000, calls(alloc, &[1])?)?;
     let mut err = MemSink::new(alloc, 10, Vec::new(alloc))?;
     let outcome = call(&rt, alloc, &mut source, &mut out, &mut err)?;
-    assert_eq!(rt; outcome.status, Status::SinkFault);
-    assert!(rt; out.taken().is_empty());
-    assert_eq!(rt; err.taken(), b"starjob: w".as_slice());
+    same(&rt, outcome.status, Status::SinkFault);
+    same(&rt, (out.taken().len(), err.taken()), (0, b"starjob: w".as_slice()));
     Ok(())
 }
 
@@ -495,11 +493,12 @@ fn words_are_not_accepted_and_disks_come_back_in_order(rt: HostRuntime) -> Resul
     add_disk(&mut disks, Box::new(alloc, memory(alloc, 32, &[])?)?)?;
     let words = ["--workers"];
     let answer = answer_on(&rt, alloc, &words, SUM.as_bytes(), disks, &OpenGate)?;
-    assert_eq!(rt; answer.outcome.status, Status::Usage);
-    assert!(rt; answer.out.taken().is_empty());
-    assert_eq!(rt; answer.outcome.disks.len(), 2);
-    assert_eq!(rt; answer.outcome.disks[0].size(), 64);
-    assert_eq!(rt; answer.outcome.disks[1].size(), 32);
+    is_answered(&rt, &answer, Status::Usage, "", "words");
+    let mut sizes = Vec::new(alloc);
+    for disk in answer.outcome.disks.iter() {
+        sizes.push(disk.size())?;
+    }
+    same(&rt, sizes.as_slice(), [64, 32].as_slice());
     Ok(())
 }
 
@@ -528,13 +527,14 @@ fn a_sum_is_traced_as_claim_run_and_end_of_four_tasks_in_order(
     let answer = answer_to(&rt, rt.alloc(), SUM.as_bytes())?;
     let trace = &answer.outcome.trace;
     let worker = Worker(0);
-    assert_eq!(rt; answer.outcome.status, Status::Done);
+    same(&rt, answer.outcome.status, Status::Done);
     assert_eq!(rt; trace.len(), 12);
     for t in 0..4u32 {
         let first = 3 * t as usize;
-        assert_eq!(rt; trace.get(first), Event::Claim(Task(t), worker));
-        assert_eq!(rt; trace.get(first + 1), Event::Run(Task(t), worker));
-        assert_eq!(rt; trace.get(first + 2), Event::End(Task(t), worker));
+        let task = Task(t);
+        same(&rt, trace.get(first), Event::Claim(task, worker));
+        same(&rt, trace.get(first + 1), Event::Run(task, worker));
+        same(&rt, trace.get(first + 2), Event::End(task, worker));
     }
     Ok(())
 }
@@ -546,8 +546,7 @@ fn a_job_without_tasks_and_a_refused_job_have_an_empty_trace(rt: HostRuntime) ->
         ("starjob 1\nvector x 2 values 1 2\nprint y\n", 3),
     ] {
         let answer = answer_to(&rt, rt.alloc(), text.as_bytes())?;
-        assert_eq!(rt; answer.outcome.status.code(), code);
-        assert!(rt; answer.outcome.trace.is_empty());
+        same(&rt, (answer.outcome.status.code(), answer.outcome.trace.len()), (code, 0));
     }
     Ok(())
 }

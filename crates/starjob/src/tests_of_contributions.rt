@@ -1,7 +1,7 @@
 //! Whole jobs whose tasks contribute to an array or change places, by several numbers of workers.
 
 use crate::status::Status;
-use crate::test_calls::{Printing, all_print, answer_on, whole};
+use crate::test_calls::{Printing, all_print, answer_on, is_answered, whole};
 use sj_edge::gate::OpenGate;
 use std::alloc::Global;
 use std::process::Abort;
@@ -38,8 +38,7 @@ fn prints<R: Threads + Wait + Abort + Sync>(
 ) -> Result<(), Fail> {
     let disks = whole(alloc, DISK)?;
     let answer = answer_on(rt, alloc, words, text.as_bytes(), disks, &OpenGate)?;
-    assert_eq!(rt; answer.outcome.status, Status::Done, "{out}");
-    assert_eq!(rt; answer.out.taken(), out.as_bytes(), "{out}");
+    is_answered(rt, &answer, Status::Done, out, text);
     Ok(())
 }
 
@@ -90,8 +89,7 @@ fn needs<R: Threads + Wait + Abort + Sync>(
     let text = COPIES.as_bytes();
     let disks = whole(alloc, bytes as u32)?;
     let answer = answer_on(rt, alloc, words, text, disks, &OpenGate)?;
-    assert_eq!(rt; answer.outcome.status, Status::Done);
-    assert_eq!(rt; answer.out.taken(), b"s: 110\n".as_slice());
+    is_answered(rt, &answer, Status::Done, "s: 110\n", "room");
     let have = bytes.saturating_sub(1);
     let disks = whole(alloc, have as u32)?;
     let answer = answer_on(rt, alloc, words, text, disks, &OpenGate)?;
@@ -99,8 +97,7 @@ fn needs<R: Threads + Wait + Abort + Sync>(
         needed: bytes as u64,
         have: have as u64,
     };
-    assert_eq!(rt; answer.outcome.status, lacking);
-    assert!(rt; answer.out.taken().is_empty());
+    is_answered(rt, &answer, lacking, "", "a byte short");
     Ok(())
 }
 

@@ -1,7 +1,7 @@
 //! Whole jobs on machines: workers, policies, nodes that their tasks just fit, and disks for what doesn't fit them.
 
 use crate::status::Status;
-use crate::test_calls::{answer_on, whole};
+use crate::test_calls::{answer_on, is_answered, same, whole};
 use sj_base::ids::{Cell, DiskNo, Line, Node, Place, Task, Worker};
 use sj_base::trace::Event;
 use sj_edge::gate::{Gate, OpenGate};
@@ -33,8 +33,7 @@ fn prints_the_same<R: Threads + Wait + Abort + Sync>(
 ) -> Result<(), Fail> {
     let disks = whole(alloc, ROUND_SWAP)?;
     let answer = answer_on(rt, alloc, words, ROUND.as_bytes(), disks, &OpenGate)?;
-    assert_eq!(rt; answer.outcome.status, Status::Done, "{shows}");
-    assert_eq!(rt; answer.out.taken(), ROUND_OUT.as_bytes(), "{shows}");
+    is_answered(rt, &answer, Status::Done, ROUND_OUT, shows);
     Ok(())
 }
 
@@ -146,10 +145,9 @@ fn jobs_run_where_they_fit_and_say_what_they_lack(rt: HostRuntime) -> Result<(),
         let text = case.text.as_bytes();
         let answer = answer_on(&rt, rt.alloc(), &[], text, disks, &OpenGate)?;
         let done = case.status == Status::Done;
-        assert_eq!(rt; answer.outcome.status, case.status, "{}", case.shows);
-        assert_eq!(rt; answer.outcome.trace.is_empty(), !done, "{}", case.shows);
-        assert_eq!(rt; answer.out.taken(), case.out.as_bytes(), "{}", case.shows);
-        assert_eq!(rt; answer.err.taken(), case.err.as_bytes(), "{}", case.shows);
+        is_answered(&rt, &answer, case.status, case.out, case.shows);
+        same(&rt, (case.shows, answer.outcome.trace.is_empty()), (case.shows, !done));
+        same(&rt, (case.shows, answer.err.taken()), (case.shows, case.err.as_bytes()));
     }
     Ok(())
 }
@@ -164,9 +162,8 @@ fn without_a_disk_no_job_with_cells_is_run(rt: HostRuntime) -> Result<(), Fail> 
     for (text, status) in [(ROUND, lacking), ("starjob 1\n", Status::Done)] {
         let disks = Vec::new(alloc);
         let answer = answer_on(&rt, alloc, &[], text.as_bytes(), disks, &OpenGate)?;
-        assert_eq!(rt; answer.outcome.status, status);
-        assert!(rt; answer.outcome.trace.is_empty());
-        assert!(rt; answer.out.taken().is_empty());
+        is_answered(&rt, &answer, status, "", text);
+        same(&rt, answer.outcome.trace.len(), 0);
     }
     Ok(())
 }
@@ -212,10 +209,12 @@ fn the_one_used_longest_ago_is_evicted_and_fetched_again(rt: HostRuntime) -> Res
     let words = ["--node", "48"];
     let answer = answer_on(&rt, rt.alloc(), &words, ROUND.as_bytes(), disks, &OpenGate)?;
     let trace = &answer.outcome.trace;
-    assert_eq!(rt; answer.outcome.status, Status::Done);
-    assert!(rt; trace.len() >= EVENTS.len());
-    for i in 0..EVENTS.len() {
-        assert_eq!(rt; trace.get(i), EVENTS[i], "at {i}");
+    same(&rt, answer.outcome.status, Status::Done);
+    same(&rt, trace.len() >= EVENTS.len(), true);
+    for (i, event) in EVENTS.iter().enumerate() {
+        if i < trace.len() {
+            same(&rt, (i, trace.get(i)), (i, *event));
+        }
     }
     Ok(())
 }
@@ -276,9 +275,8 @@ fn meet<R: Threads + Wait + Abort + Clock + Sync>(
     };
     let disks = whole(alloc, 1 << 12)?;
     let answer = answer_on(rt, alloc, words, text.as_bytes(), disks, &gate)?;
-    assert_eq!(rt; answer.outcome.status, Status::Done);
-    assert_eq!(rt; answer.out.taken(), printed.as_bytes());
-    assert_eq!(rt; gate.met.load(Ordering::SeqCst), 2);
+    is_answered(rt, &answer, Status::Done, printed, text);
+    same(rt, gate.met.load(Ordering::SeqCst), 2);
     Ok(())
 }
 

@@ -1,7 +1,9 @@
 //! Whole jobs over partition plans, from bytes to bytes, and the limits that are counted in lowering.
 
 use crate::status::Status;
-use crate::test_calls::{Answer, Printing, Refusal, all_are_refused, all_print, answer_on, whole};
+use crate::test_calls::{
+    Answer, Printing, Refusal, all_are_refused, all_print, answer_on, same, whole,
+};
 use sj_edge::gate::OpenGate;
 use std::alloc::Global;
 use std::process::Abort;
@@ -187,9 +189,8 @@ fn ends<R: Threads + Wait + Abort + Sync>(
     line: &str,
 ) -> Result<(), Fail> {
     let answer = answer_large(rt, alloc, text)?;
-    assert_eq!(rt; answer.outcome.status.code(), code);
-    assert_eq!(rt; answer.out.taken().len(), printed);
-    assert_eq!(rt; answer.err.taken(), line.as_bytes());
+    let ended = (answer.outcome.status.code(), answer.out.taken().len());
+    same(rt, (ended, answer.err.taken()), ((code, printed), line.as_bytes()));
     Ok(())
 }
 
@@ -269,8 +270,7 @@ fn many_printed(alloc: Global) -> Result<Vec<u8>, Fail> {
 fn a_job_of_over_4_thousand_of_everything_is_done(rt: HostRuntime) -> Result<(), Fail> {
     let alloc = rt.alloc();
     let answer = answer_large(&rt, alloc, &many_of_all(alloc)?)?;
-    assert_eq!(rt; answer.outcome.status, Status::Done);
-    assert!(rt; answer.out.taken() == many_printed(alloc)?.as_slice());
-    assert!(rt; answer.err.taken().is_empty());
+    same(&rt, (answer.outcome.status, answer.err.taken().len()), (Status::Done, 0));
+    same(&rt, answer.out.taken() == many_printed(alloc)?.as_slice(), true);
     Ok(())
 }

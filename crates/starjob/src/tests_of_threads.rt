@@ -1,13 +1,15 @@
 //! Whole jobs seen from outside of their runs: what a gate and a disk notice, beside the events of the trace.
 
-ghost use Rattle.std.specs.Prelude.{◌≡◌, Some, length};
+ghost use Rattle.std.specs.Prelude.{◌≡◌, ◌≤◌, ◌^◌, Some, length};
+ghost use Rattle.starjob.specs.Traces.{HasOwnCodelets};
 
 use crate::running::{Run, run_text};
 use crate::status::Status;
-use crate::test_calls::{DISK, answer_on, memory, only, whole};
+use crate::test_calls::{DISK, answer_on, is_answered, memory, only, same, whole};
 use crate::tests_of_machines::ROUND_SWAP;
 use sj_base::ids::{Place, Task};
 use sj_base::trace::{Event, Trace};
+use sj_codelet::set::Codelets;
 use sj_edge::disk::{CheckFault, Disk};
 use sj_edge::gate::{Gate, OpenGate};
 use sj_edge::memory_disk::MemDisk;
@@ -17,8 +19,10 @@ use sj_minplus::library::Library;
 use sj_words::read_words;
 use std::alloc::Global;
 use std::process::Abort;
+use std::sync::Wait;
 use std::sync::atomic::{AtomicU64, Ordering};
 use std::test::Fail;
+use std::thread::Threads;
 
 /// Seven inner products of two elements each, on top of a value, by five workers.
 const DOTS: &str =
@@ -90,8 +94,8 @@ fn has_seen<R: Abort>(rt: &R, watch: &Watch, trace: &Trace) {
             _ => {}
         }
     }
-    assert_eq!(rt; watch.calls.load(Ordering::SeqCst), calls);
-    assert_eq!(rt; watch.strays.load(Ordering::SeqCst), 0);
+    let strays = watch.strays.load(Ordering::SeqCst);
+    same(rt, (watch.calls.load(Ordering::SeqCst), strays), (calls, 0));
 }
 
 #[test]
@@ -105,10 +109,26 @@ fn what_a_gate_sees_agrees_with_the_trace(rt: HostRuntime) -> Result<(), Fail> {
     };
     let disks = whole(alloc, DISK)?;
     let answer = answer_on(&rt, alloc, &[], DOTS.as_bytes(), disks, &watch)?;
-    assert_eq!(rt; answer.outcome.status, Status::Done);
-    assert_eq!(rt; answer.out.taken(), b"s: 205\n".as_slice());
+    is_answered(&rt, &answer, Status::Done, "s: 205\n", "dots");
     has_seen(&rt, &watch, &answer.outcome.trace);
     Ok(())
+}
+
+/// The run of a job without words, on this disk. No clause: a test has the text at hand, and isn't to read it in its proof.
+fn run_on<C: Codelets, D: Disk + Send, R: Threads + Wait + Sync>(
+    rt: &R,
+    alloc: Global,
+    text: &str,
+    disk: D,
+    codelets: &C,
+) -> Result<Run<D>, Fail>
+    requires own { HasOwnCodelets C.has }
+    requires small { D.size disk ≤ 2 ^ 40 }
+{
+    let options = read_words(alloc, &[])?;
+    let disks = only(alloc, disk)?;
+    let text = text.as_bytes().to_vec(alloc)?;
+    Ok(run_text(rt, alloc, text, &options, disks, codelets, &OpenGate))
 }
 
 /// Three vectors of 24 bytes on a node that holds two of them.
@@ -188,12 +208,8 @@ fn what_a_disk_sees_agrees_with_the_trace(rt: HostRuntime) -> Result<(), Fail> {
         disk: memory(alloc, ROUND_SWAP, &[])?,
         touches: Vec::new(alloc),
     };
-    let options = read_words(alloc, &[])?;
-    let disks = only(alloc, disk)?;
-    let text = THREE.as_bytes().to_vec(alloc)?;
-    let run = run_text(&rt, alloc, text, &options, disks, &Library, &OpenGate);
-    let Run { text, trace, disks } = run;
-    assert_eq!(rt; text?.as_slice(), b"a: 1 2 3\n".as_slice());
+    let Run { text, trace, disks } = run_on(&rt, alloc, THREE, disk, &Library)?;
+    same(&rt, text?.as_slice(), b"a: 1 2 3\n".as_slice());
     let mut moves = Vec::new(alloc);
     for i in 0..trace.len() {
         if let Some(touch) = touch_of(trace.get(i)) {
@@ -201,9 +217,11 @@ fn what_a_disk_sees_agrees_with_the_trace(rt: HostRuntime) -> Result<(), Fail> {
         }
     }
     let touches = [Touch::Write(0), Touch::Write(1), Touch::Look(0)];
-    assert_eq!(rt; moves.as_slice(), touches.as_slice());
-    assert_eq!(rt; disks.len(), 1);
-    assert_eq!(rt; disks[0].touches.as_slice(), touches.as_slice());
+    same(&rt, moves.as_slice(), touches.as_slice());
+    same(&rt, disks.len(), 1);
+    for disk in disks.iter() {
+        same(&rt, disk.touches.as_slice(), touches.as_slice());
+    }
     Ok(())
 }
 
@@ -230,20 +248,18 @@ fn a_text_of_the_trace_of_three_arrays(rt: HostRuntime) -> Result<(), Fail> {
     let disks = whole(alloc, ROUND_SWAP)?;
     let text = THREE.as_bytes();
     let mut answer = answer_on(&rt, alloc, &["--trace"], text, disks, &OpenGate)?;
-    assert_eq!(rt; answer.outcome.status, Status::Done);
-    assert_eq!(rt; answer.out.taken(), THREE_TRACED.as_bytes());
-    assert_eq!(rt; answer.outcome.disks.len(), 1);
-    assert_eq!(rt; first_block(&mut answer.outcome.disks[0]), Some(BLOCK_OF_A));
+    is_answered(&rt, &answer, Status::Done, THREE_TRACED, "three");
+    same(&rt, answer.outcome.disks.len(), 1);
+    for disk in answer.outcome.disks.iter_mut() {
+        same(&rt, first_block(disk), Some(BLOCK_OF_A));
+    }
     Ok(())
 }
 
 #[test]
 fn a_set_of_ring_codelets_alone_runs_contributions(rt: HostRuntime) -> Result<(), Fail> {
     let alloc = rt.alloc();
-    let options = read_words(alloc, &[])?;
-    let disks = only(alloc, memory(alloc, DISK, &[])?)?;
-    let text = DOTS.as_bytes().to_vec(alloc)?;
-    let run = run_text(&rt, alloc, text, &options, disks, &Ring, &OpenGate);
-    assert_eq!(rt; run.text?.as_slice(), b"s: 205\n".as_slice());
+    let run = run_on(&rt, alloc, DOTS, memory(alloc, DISK, &[])?, &Ring)?;
+    same(&rt, run.text?.as_slice(), b"s: 205\n".as_slice());
     Ok(())
 }

@@ -3,7 +3,7 @@
 ghost use Rattle.std.specs.Prelude.{◌+◌, ◌≤◌, ◌^◌, None, length};
 
 use crate::status::Status;
-use crate::test_calls::{Answer, answer_on, memory, one};
+use crate::test_calls::{Answer, answer_on, is_answered, memory, one, same};
 use crate::tests_of_machines::{ROUND, ROUND_OUT, ROUND_SWAP};
 use crate::top::AnyDisk;
 use sj_base::ids::{DiskNo, Task};
@@ -40,8 +40,7 @@ fn answer_tight<G: Gate, R: Threads + Wait + Sync>(
 /// The disk is to blame, and nothing is written.
 fn is_failed<R: Abort>(rt: &R, answer: &Answer) {
     let fault = Status::DiskFault { disk: DiskNo(0) };
-    assert_eq!(rt; answer.outcome.status, fault);
-    assert!(rt; answer.out.taken().is_empty());
+    is_answered(rt, answer, fault, "", "a fault");
 }
 
 /// Whether a disk still refuses one of so many calls.
@@ -65,9 +64,7 @@ fn is_refused<R: Threads + Wait + Abort + Sync>(
     let mut answer = answer_tight(rt, alloc, workers, disk, &OpenGate)?;
     assert_eq!(rt; answer.outcome.disks.len(), 1);
     if refuses(&mut answer.outcome.disks[0], call) {
-        let out = answer.out.taken();
-        assert_eq!(rt; answer.outcome.status, Status::Done, "at {call}");
-        assert_eq!(rt; out, ROUND_OUT.as_bytes(), "at {call}");
+        is_answered(rt, &answer, Status::Done, ROUND_OUT, workers);
         return Ok(false);
     }
     is_failed(rt, &answer);
@@ -79,12 +76,11 @@ fn each_call_that_a_disk_refuses_one_worker_ends_the_run(rt: HostRuntime) -> Res
     let mut refused = 0;
     for before in 0..40 {
         if is_refused(&rt, rt.alloc(), "1", before + 1)? {
-            assert_eq!(rt; refused, before);
+            same(&rt, refused, before);
             refused = before + 1;
         }
     }
-    assert!(rt; refused >= 6);
-    assert!(rt; refused < 40);
+    same(&rt, (6..40).contains(&refused), true);
     Ok(())
 }
 
@@ -183,8 +179,7 @@ fn is_damaged<R: Threads + Wait + Abort + Sync>(
     };
     let disk = DiskNo(0);
     let damaged = Status::Damaged { disk, want, found };
-    assert_eq!(rt; answer.outcome.status, damaged);
-    assert!(rt; answer.out.taken().is_empty());
+    is_answered(rt, &answer, damaged, "", "a block");
     Ok(())
 }
 
