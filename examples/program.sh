@@ -1,9 +1,16 @@
 #!/usr/bin/env bash
-# Runs the built program as a process, and compares its exit code and both its streams with what docs/JOBS.md promises: what
-# main and the standard streams do with a status stands in no clause. Another program is given as examples/program.sh PROGRAM.
-program=$(realpath "${1:-$(dirname "$0")/../crates/starjob/out/starjob}")
-if [ ! -x "$program" ]; then
-  echo "examples/program.sh: build the program first, by ./run examples/first.job" >&2
+# Runs the built programs as processes, and compares their exit codes and both their streams with what docs/JOBS.md promises: what
+# main and the standard streams do with a status stands in no clause. Others are given as examples/program.sh STARJOB TRACE_CHECK.
+crates=$(dirname "$0")/../crates
+starjob=$(realpath "${1:-$crates/starjob/out/starjob}")
+trace_check=$(realpath "${2:-$crates/trace_check/out/trace_check}")
+program=$starjob
+if [ ! -x "$starjob" ]; then
+  echo "examples/program.sh: build starjob first, by ./run examples/first.job" >&2
+  exit 1
+fi
+if [ ! -x "$trace_check" ]; then
+  echo "examples/program.sh: build trace_check first, by rt run in crates/trace_check" >&2
   exit 1
 fi
 pictures=$(realpath "$(dirname "$0")/../docs/pictures")
@@ -95,4 +102,45 @@ expect 'an output that takes nothing, with nothing to write' 0 '' ''
 "$program" < / > out 2> err
 code=$?
 expect "an input that can't be read" 8 '' $'starjob: reading failed\n'
+
+# check TRACE WORDS..: runs trace_check on a trace of the job that evicts, in a file
+program=$trace_check
+check() {
+  printf %s "$1" > trace
+  run "$evicts" "${@:2}" trace
+}
+usage=$'usage: trace_check [words of starjob] TRACE < JOB\n'
+early=${evicted/claim t2 w0/run t2 w0}
+no_event=${evicted/drop c0 n0/drop c00 n0}
+
+check "$evicted"$'\n'
+expect 'a whole trace' 0 $'legal and complete\n' ''
+check "${evicted%run t3*}"
+expect 'a trace that ends early' 1 $'legal, but not all tasks are done\n' ''
+check "$early"$'\n'
+expect 'a bad event' 1 $'line 7: run t2 w0: this is no legal step after the events before it\n' ''
+check "$evicted"$'\n' --node 72
+expect 'the trace of another machine' 1 $'line 8: move c0 n0 d0: this is no legal step after the events before it\n' ''
+
+check "$no_event"$'\n'
+expect 'a line that is no event' 2 '' $'line 10 of the trace is no event\n'
+check "$evicted"
+expect 'a last line with no LF' 2 '' $'line 20 of the trace is no event\n'
+run $'starjob 1\nprint x\n' trace.good
+expect 'a trace that is not there' 2 '' $'the trace can\'t be read\n'
+check $'claim t0 w0\n' --node 8
+expect 'a job that fits no node' 2 '' $'a task of line 3 of the job fits no node\n'
+check $'claim t0 w0\n' --swap-size 0
+expect 'a job with too small a swap' 2 '' $'the swap disk is too small for the job\n'
+run $'starjob 1\nprint x\n' trace
+expect 'a bad job' 2 '' $'line 2 of the job is refused\n'
+"$program" trace < / > out 2> err
+code=$?
+expect "a job that can't be read" 2 '' $'the job can\'t be read\n'
+run "$evicts"
+expect 'no word' 2 '' "$usage"
+check '' --unknown
+expect "a word of the run that isn't known" 2 '' "$usage"
+check '' --nodes 2
+expect 'a number of nodes for the run without their size' 2 '' "$usage"
 exit $failed

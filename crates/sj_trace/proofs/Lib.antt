@@ -1,6 +1,7 @@
 mod Numbers
-mod Dividing
+mod Taking
 mod Telling
 mod Joining
 mod Progress
 mod Differing
+mod Writing

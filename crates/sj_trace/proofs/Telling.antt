@@ -1,39 +1,42 @@
--- Which events no words tell.
-use Rattle.std.proofs.Common.{◌≡◌, ℕ, ◌<◌, List, [], ◌∷◌, codes, length, drop, ap, ◌∙◌, arith, true, is_some, Option, Some, None, MatchOption, Bor, nat_eq}
-use Rattle.std.proofs.lemmas.List.Splits.{length-slice_split}
-use Rattle.sj_base.specs.declared.trace.Event.{Event}
+-- Which events no text begins with, by the verb that stands first.
+use Rattle.std.proofs.Common.{◌≡◌, ◌≢◌, ℕ, List, ◌++◌, codes, ap, sym, ◌∙◌, arith, drop, get_or}
 use Rattle.sj_base.specs.declared.trace.Event.TheVariants.{Claim, Move, Moved, Drop, Run, End}
-use Rattle.sj_trace.specs.Text.{words_of, task_words, transfer_words, drop_words}
-use Rattle.sj_trace.specs.Reading.{between_spaces, EventFits, TaskFits, TransferFits, DropFits}
+use Rattle.sj_trace.specs.Text.{line_of}
+use Rattle.sj_trace.specs.Reading.{EventFits, TaskFits, DropFits, TransferFits, task_line, transfer_line, drop_line}
+use Rattle.sj_trace.proofs.Taking.{NoneFirst}
 
--- no words of this kind say these words
-abbrev pub AreNone : {A : Type 0} → (A → Type 0) → (A → List (List ℕ)) → List (List ℕ) → Type 0
-AreNone {A} Fits write ws = (a : A) → Fits a → write a ≡ ws → ⊥
+pub no-claim : (words text : List ℕ) → codes "claim " ++ words ≡ text → NoneFirst TaskFits task_line words → NoneFirst EventFits line_of text
+no-claim words text is none (Claim t w) s fits h = none (t, w) s fits (ap (drop 6) (h ∙ sym is))
+no-claim words text is none e s fits h = absurd (omega (arith, ap (λ l. get_or l 0 0) (h ∙ sym is)))
 
-pub no-drop : (verb first second : List ℕ) → verb ≡ codes "drop" → AreNone DropFits drop_words (first ∷ second ∷ []) → AreNone EventFits words_of (verb ∷ first ∷ second ∷ [])
-no-drop verb first second e none (Drop c n) fits h = none (c, n) fits (ap (drop 1) h)
-no-drop verb first second e none a fits h = absurd (cc)
+pub no-run : (words text : List ℕ) → codes "run " ++ words ≡ text → NoneFirst TaskFits task_line words → NoneFirst EventFits line_of text
+no-run words text is none (Run t w) s fits h = none (t, w) s fits (ap (drop 4) (h ∙ sym is))
+no-run words text is none e s fits h = absurd (omega (arith, ap (λ l. get_or l 0 0) (h ∙ sym is)))
 
-pub no-task : (verb first second : List ℕ) → (verb ≡ codes "drop" → ⊥) → AreNone TaskFits task_words (first ∷ second ∷ []) → AreNone EventFits words_of (verb ∷ first ∷ second ∷ [])
-no-task verb first second other none (Drop c n) fits h = other (cc)
-no-task verb first second other none (Claim t w) fits h = none (t, w) fits (ap (drop 1) h)
-no-task verb first second other none (Run t w) fits h = none (t, w) fits (ap (drop 1) h)
-no-task verb first second other none (End t w) fits h = none (t, w) fits (ap (drop 1) h)
-no-task verb first second other none a fits h = absurd (cc)
+pub no-end : (words text : List ℕ) → codes "end " ++ words ≡ text → NoneFirst TaskFits task_line words → NoneFirst EventFits line_of text
+no-end words text is none (End t w) s fits h = none (t, w) s fits (ap (drop 4) (h ∙ sym is))
+no-end words text is none e s fits h = absurd (omega (arith, ap (λ l. get_or l 0 0) (h ∙ sym is)))
 
-pub no-transfer : (verb first second third : List ℕ) → AreNone TransferFits transfer_words (first ∷ second ∷ third ∷ []) → AreNone EventFits words_of (verb ∷ first ∷ second ∷ third ∷ [])
-no-transfer verb first second third none (Move c from to) fits h = none (c, from, to) fits (ap (drop 1) h)
-no-transfer verb first second third none (Moved c from to) fits h = none (c, from, to) fits (ap (drop 1) h)
-no-transfer verb first second third none a fits h = absurd (cc)
+pub no-move : (words text : List ℕ) → codes "move " ++ words ≡ text → NoneFirst TransferFits transfer_line words → NoneFirst EventFits line_of text
+no-move words text is none (Move c from to) s fits h = none (c, from, to) s fits (ap (drop 5) (h ∙ sym is))
+no-move words text is none e s fits h = absurd (omega (arith, ap (λ l. get_or l 0 0) (h ∙ sym is), ap (λ l. get_or l 4 0) (h ∙ sym is)))
 
-too_long : (a : Event) (verb first second third : List ℕ) (rest : List (List ℕ)) → 0 < length rest → words_of a ≡ verb ∷ first ∷ second ∷ third ∷ rest → ⊥
-too_long (Move c from to) verb first second third rest some h = let e : 0 ≡ length rest = ap (λ ws. length (drop 4 ws)) h in absurd (omega arith)
-too_long (Moved c from to) verb first second third rest some h = let e : 0 ≡ length rest = ap (λ ws. length (drop 4 ws)) h in absurd (omega arith)
-too_long a verb first second third rest some h = absurd (cc)
+pub no-moved : (words text : List ℕ) → codes "moved " ++ words ≡ text → NoneFirst TransferFits transfer_line words → NoneFirst EventFits line_of text
+no-moved words text is none (Moved c from to) s fits h = none (c, from, to) s fits (ap (drop 6) (h ∙ sym is))
+no-moved words text is none e s fits h = absurd (omega (arith, ap (λ l. get_or l 0 0) (h ∙ sym is), ap (λ l. get_or l 4 0) (h ∙ sym is)))
 
--- no event has a fifth word
-pub too_many : (a : Event) (verb first second third : List ℕ) (ws : List (List ℕ)) (r : Option (Bor (List ℕ))) → MatchOption r (ws ≡ third ∷ []) (λ rest. ws ≡ third ∷ between_spaces rest.now) → is_some r ≡ true → words_of a ≡ verb ∷ first ∷ second ∷ ws → ⊥
-too_many a verb first second third ws None cut some h = absurd (cc)
-too_many a verb first second third ws (Some rest) cut some h =
-    let long : 0 < length (between_spaces rest.now) = omega (arith, length-slice_split (λ b. nat_eq b 32) rest.now) in
-    too_long a verb first second third (between_spaces rest.now) long (h ∙ ap (λ l. verb ∷ first ∷ second ∷ l) cut)
+pub no-drop : (words text : List ℕ) → codes "drop " ++ words ≡ text → NoneFirst DropFits drop_line words → NoneFirst EventFits line_of text
+no-drop words text is none (Drop c n) s fits h = none (c, n) s fits (ap (drop 5) (h ∙ sym is))
+no-drop words text is none e s fits h = absurd (omega (arith, ap (λ l. get_or l 0 0) (h ∙ sym is)))
+
+-- a text does not begin with this
+abbrev pub NotFirst : List ℕ → List ℕ → Type 0
+NotFirst front text = (rest : List ℕ) → front ++ rest ≢ text
+
+pub no-verb : (text : List ℕ) → NotFirst (codes "claim ") text → NotFirst (codes "run ") text → NotFirst (codes "end ") text → NotFirst (codes "move ") text → NotFirst (codes "moved ") text → NotFirst (codes "drop ") text → NoneFirst EventFits line_of text
+no-verb text claim run end move moved drop (Claim t w) s fits h = claim (task_line (t, w) ++ s) h
+no-verb text claim run end move moved drop (Run t w) s fits h = run (task_line (t, w) ++ s) h
+no-verb text claim run end move moved drop (End t w) s fits h = end (task_line (t, w) ++ s) h
+no-verb text claim run end move moved drop (Move c from to) s fits h = move (transfer_line (c, from, to) ++ s) h
+no-verb text claim run end move moved drop (Moved c from to) s fits h = moved (transfer_line (c, from, to) ++ s) h
+no-verb text claim run end move moved drop (Drop c n) s fits h = drop (drop_line (c, n) ++ s) h

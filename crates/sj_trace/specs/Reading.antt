@@ -1,6 +1,7 @@
--- Reading the text of a trace: the words of a line, and the event whose line it is.
-use Rattle.std.specs.Prelude.{◌≡◌, ◌≢◌, ◌+◌, ◌<◌, ◌^◌, ℕ, List, ◌∷◌, ◌++◌, ◌==◌, Option, Some, None, map, length}
-use Rattle.std.specs.List.{All, slice_split}
+-- Reading the text of a trace: what it begins with, and the events whose lines it has.
+use Rattle.std.specs.Prelude.{◌≡◌, ◌≢◌, ◌+◌, ◌<◌, ◌^◌, ℕ, List, [], ◌∷◌, ◌++◌, Option, Some, None, codes, map, length}
+use Rattle.std.specs.List.{All, join_with_byte}
+use Rattle.std.specs.Borrow.{Bor}
 use Rattle.sj_base.specs.declared.ids.Cell.{Cell}
 use Rattle.sj_base.specs.declared.ids.Node.{Node}
 use Rattle.sj_base.specs.declared.ids.Task.{Task}
@@ -11,16 +12,32 @@ use Rattle.sj_base.specs.declared.trace.Event.{Event}
 use Rattle.sj_base.specs.declared.trace.Event.TheVariants.{Claim, Move, Moved, Drop, Run, End}
 use Rattle.sj_trace.specs.declared.read.TraceRefusal.{TraceRefusal}
 use Rattle.sj_trace.specs.declared.read.TraceRefusal.TheVariants.{BadLine, OutOfMemory}
-use Rattle.sj_trace.specs.Text.{whole_lines, line_of, text_of}
+use Rattle.sj_trace.specs.Text.{word, place_word, task_words, transfer_words, drop_words, whole_lines, line_of, text_of}
 
--- what stands between the spaces
-abbrev pub between_spaces : List ℕ → List (List ℕ)
-between_spaces = slice_split (λ b. b == 32)
+-- a value whose numbers fit and with whose text another begins, and what stands behind that; none where no such value's begins it
+abbrev pub IsTaken : {A : Type 0} → (A → Type 0) → (A → List ℕ) → List ℕ → Option (A × Bor (List ℕ)) → Type 0
+IsTaken {A} Fits write text None = (a : A) (rest : List ℕ) → Fits a → write a ++ rest ≢ text
+IsTaken Fits write text (Some (a, rest)) = Fits a × (write a ++ rest.now ≡ text)
 
--- a value whose numbers fit and that is written so; none where there is no such value
-abbrev pub IsReadFrom : {A B : Type 0} → (A → Type 0) → (A → B) → B → Option A → Type 0
-IsReadFrom {A} Fits write text None = (a : A) → Fits a → write a ≢ text
-IsReadFrom Fits write text (Some a) = Fits a × (write a ≡ text)
+-- a word and the byte that ends it
+abbrev pub ended_word : List ℕ → ℕ → ℕ → List ℕ
+ended_word letter end n = word letter n ++ end ∷ []
+
+-- a place's word and the byte that ends it
+abbrev pub ended_place : ℕ → Place → List ℕ
+ended_place end p = place_word p ++ end ∷ []
+
+-- what stands behind the verb of a task's line
+abbrev pub task_line : Task × Worker → List ℕ
+task_line p = join_with_byte 32 (task_words p) ++ codes "\n"
+
+-- what stands behind the verb of a transfer's line
+abbrev pub transfer_line : Cell × Place × Place → List ℕ
+transfer_line m = join_with_byte 32 (transfer_words m) ++ codes "\n"
+
+-- what stands behind the verb of a drop's line
+abbrev pub drop_line : Cell × Node → List ℕ
+drop_line d = join_with_byte 32 (drop_words d) ++ codes "\n"
 
 -- a place's number is in its type
 abbrev pub PlaceFits : Place → Type 0

@@ -6,7 +6,7 @@ ghost use Rattle.sj_trace.specs.declared.read.TraceRefusal.TheVariants.{OutOfMem
 ghost use Rattle.sj_trace.specs.Text.{whole_lines};
 ghost use Rattle.sj_trace.specs.Reading.{IsTextOf, IsRefusal};
 
-use crate::line::{event_of_line, first_line};
+use crate::line::first_event;
 use sj_base::ids::Line;
 use sj_base::memory;
 use sj_base::trace::Trace;
@@ -48,8 +48,7 @@ pub fn read_trace(alloc: Global, text: &[u8]) -> Result<Trace, TraceRefusal>
     let mut trace = Trace::empty(alloc);
     let mut rest = text;
     while !rest.is_empty() {
-        let (line, behind) = first_line(rest);
-        let Some(event) = event_of_line(line) else {
+        let Some((event, behind)) = first_event(rest) else {
             let number = trace.len() as u32 + 1;
             return Err(TraceRefusal::BadLine { line: Line(number) });
         };

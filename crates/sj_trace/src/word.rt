@@ -1,119 +1,128 @@
 //! The words of an event's line, read.
 
-ghost use Rattle.std.specs.Prelude.{◌≡◌, ◌∷◌, ◌<◌, ◌^◌, ◌==◌, [], MatchOption, ℕ, codes, decimal, position};
-ghost use Rattle.sj_trace.specs.Text.{word, place_word};
-ghost use Rattle.sj_trace.specs.Reading.{between_spaces, IsReadFrom, PlaceFits};
+ghost use Rattle.std.specs.Prelude.{◌≡◌, ◌+◌, ◌*◌, ◌∷◌, ◌++◌, ◌<◌, ◌≤◌, ◌^◌, ◌⊎◌, [], MatchOption, codes, decimal};
+ghost use Rattle.std.specs.Option.{SomeIff};
+ghost use Rattle.sj_trace.specs.Reading.{IsTaken, PlaceFits, ended_word, ended_place};
 
-use itoa::Buffer;
 use sj_base::ids::{Cell, DiskNo, Node, Place, Task, Worker};
-use std::str;
 
-/// The place of the first such byte. Linear up to it.
-pub fn first_place(text: &[u8], byte: u8) -> Option<usize>
-    ensures { result ≡ position (λ b. b == byte) text.now }
+/// The digit that a byte is.
+fn digit(byte: u8) -> Option<u32>
+    ensures { MatchOption result ((byte < 48) ⊎ (58 ≤ byte)) (λ d. (d < 10) × (byte ≡ 48 + d)) }
 {
-    text.iter().position(|b| *b == byte)
-}
-
-/// What stands before the first space, and what behind it where there is one. Linear up to it.
-pub fn first_word(line: &[u8]) -> (&[u8], Option<&[u8]>)
-    ensures { MatchOption result.1 (between_spaces line.now ≡ result.0.now ∷ [])
-        (λ rest. between_spaces line.now ≡ result.0.now ∷ between_spaces rest.now) }
-{
-    match first_place(line, b' ') {
-        Some(end) => (&line[..end], Some(&line[end + 1..])),
-        None => (line, None),
-    }
-}
-
-/// The number that digits are read as, some of which it isn't written with. Linear in them.
-fn parsed(digits: &[u8]) -> Option<u32>
-    ensures { (n : ℕ) → n < 2 ^ 32 → decimal n ≡ digits.now → result ≡ Some n }
-{
-    match str::from_utf8(digits) {
-        Ok(text) => text.parse::<u32>().ok(),
-        Err(_) => None,
-    }
-}
-
-/// The number that is written with these digits. Linear in them.
-fn number(digits: &[u8]) -> Option<u32>
-    ensures { IsReadFrom (λ n. n < 2 ^ 32) decimal digits.now result }
-{
-    let number = parsed(digits)?;
-    let mut buffer = Buffer::new();
-    if buffer.format(number).as_bytes() == digits {
-        Some(number)
+    if byte.is_ascii_digit() {
+        Some((byte - b'0') as u32)
     } else {
         None
     }
 }
 
-/// The number behind a letter.
-fn number_behind(bytes: &[u8], letter: u8) -> Option<u32>
-    ensures { IsReadFrom (λ n. n < 2 ^ 32) (word (letter ∷ [])) bytes.now result }
+/// The number with a digit more; `None` where none of 32 bits is written so.
+fn longer(number: u32, digit: u32) -> Option<u32>
+    requires { digit < 10 }
+    ensures { SomeIff result ((0 < number) × (number * 10 + digit < 2 ^ 32)) (number * 10 + digit) }
 {
-    let (first, digits) = bytes.split_first()?;
+    if number == 0 {
+        return None;
+    }
+    number.checked_mul(10)?.checked_add(digit)
+}
+
+/// The number that a text begins with, where this byte ends it, and what stands behind that. Linear in its digits.
+fn number(text: &[u8], end: u8) -> Option<(u32, &[u8])>
+    requires { end < 48 }
+    ensures { IsTaken (λ n. n < 2 ^ 32) (λ n. decimal n ++ end ∷ []) text.now result }
+{
+    let (first, mut rest) = text.split_first()?;
+    let mut number = digit(*first)?;
+    loop {
+        let (byte, behind) = rest.split_first()?;
+        if *byte == end {
+            return Some((number, behind));
+        }
+        number = longer(number, digit(*byte)?)?;
+        rest = behind;
+    }
+}
+
+/// The same behind a letter.
+fn number_behind(text: &[u8], letter: u8, end: u8) -> Option<(u32, &[u8])>
+    requires { end < 48 }
+    ensures { IsTaken (λ n. n < 2 ^ 32) (ended_word (letter ∷ []) end) text.now result }
+{
+    let (first, rest) = text.split_first()?;
     if *first == letter {
-        number(digits)
+        number(rest, end)
     } else {
         None
     }
 }
 
-/// The number of a byte behind a letter.
-fn byte_behind(bytes: &[u8], letter: u8) -> Option<u8>
-    ensures { IsReadFrom (λ n. n < 2 ^ 8) (word (letter ∷ [])) bytes.now result }
+/// The same of a byte.
+fn byte_behind(text: &[u8], letter: u8, end: u8) -> Option<(u8, &[u8])>
+    requires { end < 48 }
+    ensures { IsTaken (λ n. n < 2 ^ 8) (ended_word (letter ∷ []) end) text.now result }
 {
-    let number = number_behind(bytes, letter)?;
+    let (number, rest) = number_behind(text, letter, end)?;
     if number < 256 {
-        Some(number as u8)
+        Some((number as u8, rest))
     } else {
         None
     }
 }
 
-/// The task that a word names. Linear in it.
-pub fn task(bytes: &[u8]) -> Option<Task>
-    ensures { IsReadFrom (λ t. t.0 < 2 ^ 32) (λ t. word (codes "t") t.0) bytes.now result }
+/// The task that the first word names, and what stands behind the space after it. Linear in the word.
+pub fn task(text: &[u8]) -> Option<(Task, &[u8])>
+    ensures { IsTaken (λ t. t.0 < 2 ^ 32) (λ t. ended_word (codes "t") 32 t.0) text.now result }
 {
-    Some(Task(number_behind(bytes, b't')?))
+    let (number, rest) = number_behind(text, b't', b' ')?;
+    Some((Task(number), rest))
 }
 
-/// The worker that a word names. Linear in it.
-pub fn worker(bytes: &[u8]) -> Option<Worker>
-    ensures { IsReadFrom (λ w. w.0 < 2 ^ 8) (λ w. word (codes "w") w.0) bytes.now result }
+/// The worker that the last word names, and what stands behind the line. Linear in the word.
+pub fn worker(text: &[u8]) -> Option<(Worker, &[u8])>
+    ensures { IsTaken (λ w. w.0 < 2 ^ 8) (λ w. ended_word (codes "w") 10 w.0) text.now result }
 {
-    Some(Worker(byte_behind(bytes, b'w')?))
+    let (number, rest) = byte_behind(text, b'w', b'\n')?;
+    Some((Worker(number), rest))
 }
 
-/// The cell that a word names. Linear in it.
-pub fn cell(bytes: &[u8]) -> Option<Cell>
-    ensures { IsReadFrom (λ c. c.0 < 2 ^ 32) (λ c. word (codes "c") c.0) bytes.now result }
+/// The cell that the first word names, and what stands behind the space after it. Linear in the word.
+pub fn cell(text: &[u8]) -> Option<(Cell, &[u8])>
+    ensures { IsTaken (λ c. c.0 < 2 ^ 32) (λ c. ended_word (codes "c") 32 c.0) text.now result }
 {
-    Some(Cell(number_behind(bytes, b'c')?))
+    let (number, rest) = number_behind(text, b'c', b' ')?;
+    Some((Cell(number), rest))
 }
 
-/// The memory node that a word names. Linear in it.
-pub fn node(bytes: &[u8]) -> Option<Node>
-    ensures { IsReadFrom (λ n. n.0 < 2 ^ 8) (λ n. word (codes "n") n.0) bytes.now result }
+/// The memory node that a word names, which this byte ends, and what stands behind that. Linear in the word.
+pub fn node(text: &[u8], end: u8) -> Option<(Node, &[u8])>
+    requires { end < 48 }
+    ensures { IsTaken (λ n. n.0 < 2 ^ 8) (λ n. ended_word (codes "n") end n.0) text.now result }
 {
-    Some(Node(byte_behind(bytes, b'n')?))
+    let (number, rest) = byte_behind(text, b'n', end)?;
+    Some((Node(number), rest))
 }
 
-/// The disk that a word names. Linear in it.
-fn disk(bytes: &[u8]) -> Option<DiskNo>
-    ensures { IsReadFrom (λ d. d.0 < 2 ^ 8) (λ d. word (codes "d") d.0) bytes.now result }
+/// The same of a disk.
+fn disk(text: &[u8], end: u8) -> Option<(DiskNo, &[u8])>
+    requires { end < 48 }
+    ensures { IsTaken (λ d. d.0 < 2 ^ 8) (λ d. ended_word (codes "d") end d.0) text.now result }
 {
-    Some(DiskNo(byte_behind(bytes, b'd')?))
+    let (number, rest) = byte_behind(text, b'd', end)?;
+    Some((DiskNo(number), rest))
 }
 
-/// The place that a word names. Linear in it.
-pub fn place(bytes: &[u8]) -> Option<Place>
-    ensures { IsReadFrom PlaceFits place_word bytes.now result }
+/// The place that a word names, which this byte ends, and what stands behind that. Linear in the word.
+pub fn place(text: &[u8], end: u8) -> Option<(Place, &[u8])>
+    requires { end < 48 }
+    ensures { IsTaken PlaceFits (ended_place end) text.now result }
 {
-    match node(bytes) {
-        Some(node) => Some(Place::Node(node)),
-        None => Some(Place::Disk(disk(bytes)?)),
+    match node(text, end) {
+        Some((node, rest)) => Some((Place::Node(node), rest)),
+        None => {
+            let (disk, rest) = disk(text, end)?;
+            Some((Place::Disk(disk), rest))
+        }
     }
 }
