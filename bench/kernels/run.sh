@@ -6,6 +6,7 @@
 # have twelve more turns, since from 256 rows on they are as fast as the memory that a run of a program happens to get.
 # Prints a table of C's time as a multiple of ours, so that 1 is as fast and more is faster: first against C without
 # machine flags, then for x86-64-v2, where C takes the sum of min-plus in a form in which nothing branches within a row.
+# After it stands which goals are missed.
 # With the argument `large` in place of these tiles one row and one column of 1,048,576 elements, and 4096 by 4096, in one
 # turn; each cell then begins with our nanoseconds a step, and C leaves out the cubic kernels of min-plus at 4096, which
 # would take it an hour.
@@ -137,9 +138,10 @@ fn next(seed: i64) -> i64 {
 }
 
 fn numbers(alloc: Global, sides: Sides, seed: i64) -> Result<Vec<i64>, OutOfMemory> {
-    let mut made = Vec::new(alloc);
+    let count = sides.m as usize * sides.n as usize;
+    let mut made = Vec::with_capacity(alloc, count)?;
     let mut seed = seed;
-    for _ in 0..sides.m as usize * sides.n as usize {
+    for _ in 0..count {
         seed = next(seed);
         made.push(seed)?;
     }
@@ -148,9 +150,10 @@ fn numbers(alloc: Global, sides: Sides, seed: i64) -> Result<Vec<i64>, OutOfMemo
 
 // Lengths from 0 to 4094, and every sixteenth or so is INF.
 fn lengths(alloc: Global, sides: Sides, seed: i64) -> Result<Vec<i64>, OutOfMemory> {
-    let mut made = Vec::new(alloc);
+    let count = sides.m as usize * sides.n as usize;
+    let mut made = Vec::with_capacity(alloc, count)?;
     let mut seed = seed;
-    for _ in 0..sides.m as usize * sides.n as usize {
+    for _ in 0..count {
         seed = next(seed);
         let high = (seed >> 52) & 4095;
         made.push(if high % 16 == 15 { i64::MAX } else { high })?;
@@ -349,6 +352,9 @@ fi
 gcc -O3 -o loops "$here/$program.c"
 gcc -O3 -march=x86-64-v2 -o loops_v2 "$here/$program.c"
 core=$(($(nproc) - 1))
+# The arrays of all three lie alike to each other: those of 128 KiB and more begin a page each. Else it is chance whether a
+# load comes from where, but for a multiple of 4096 bytes, a store has just gone, for which this processor waits.
+export MALLOC_MMAP_THRESHOLD_=131072
 for turn in $turns; do
     if [ $turn = whole ]; then set --; else set -- $turn; fi
     taskset -c $core ./loops "$@" >> c.txt
@@ -386,9 +392,32 @@ def cell(name, form, second, sides):
     same = sums[key] == c_sums[form, sides] == v2_sums[second, sides]
     wrong = "" if same else " ANOTHER RESULT"
     return f"{shown}{c[form, sides] / ours[key]:.2f} / {v2[second, sides] / ours[key]:.2f}{wrong}"
+# What is wanted at least, of the squares: in words, and the two speeds from one side to another, of which the first that fits counts.
+LINEAR = "1.0 / 0.95", [(8, 1024, 1.0, 0.95)]
+WAYS = "from 20 on 1.5 / 1.2", [(20, 1024, 1.5, 1.2)]
+GOALS = {
+    "gemm": ("1.7 / 1.4; at 8 and 1024 1.4 / 1.3", [(20, 256, 1.7, 1.4), (8, 1024, 1.4, 1.3)]),
+    "transpose": ("from 256 on 1.5 / 1.5", [(256, 1024, 1.5, 1.5)]),
+    "mingemm": ("from 20 on 2 / 1.6", [(20, 1024, 2, 1.6)]),
+    "transpose_by_b": ("none", []),
+} | dict.fromkeys(("fwdiag", "fwrow", "fwcol"), WAYS)
+def goal(form):
+    return GOALS.get(form, LINEAR)
+def misses(name, form, second):
+    for (m, n) in every:
+        wanted = next((speeds for first, last, *speeds in goal(form)[1] if first <= n <= last), ())
+        for which, speed in zip((c.get((form, (m, n))), v2.get((second, (m, n)))), wanted):
+            if round(which / ours[name, (m, n)], 2) < speed:
+                yield f"{name} at {n}: {which / ours[name, (m, n)]:.2f} of {speed}"
+missed = []
 for name in dict.fromkeys(name for name, _ in ours):
     for form in [name] + [form for form in (name + "_by_b",) if any(key[0] == form for key in c)]:
         second = name + "_chosen" if any(key[0] == name + "_chosen" for key in v2) else form
         what = name if form == name else f"{name}, C in the order of B"
+        if not large:
+            what += f" ({goal(form)[0]})"
+            missed += misses(name, form, second)
         print(f"| {what} | " + " | ".join(cell(name, form, second, sides) for sides in every) + " |")
+if not large:
+    print("Missed: " + ("; ".join(missed) or "none"))
 PY

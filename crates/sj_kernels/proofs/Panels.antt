@@ -1,5 +1,5 @@
 -- Products panel by panel.
-use Rattle.std.proofs.Common.{◌≡◌, ℕ, ◌+◌, ◌-◌, ◌*◌, ◌/◌, ◌%◌, ◌<◌, ◌≤◌, zero, suc, Bool, true, false, cond, nat_lt, ℤ, pos, ◌+ℤ◌, ◌*ℤ◌, List, [], ◌∷◌, ◌++◌, length, get_or, take, drop, min, w64, to_z, of_z, FitsSigned, sym, ap, ◌∙◌, ⊎_elim, arith}
+use Rattle.std.proofs.Common.{◌≡◌, ℕ, ◌+◌, ◌-◌, ◌*◌, ◌/◌, ◌%◌, ◌<◌, ◌≤◌, zero, suc, Bool, true, false, cond, nat_lt, ℤ, pos, ◌+ℤ◌, ◌-ℤ◌, ◌*ℤ◌, List, [], ◌∷◌, ◌++◌, length, get_or, take, drop, min, w64, to_z, of_z, FitsSigned, sym, ap, ◌∙◌, ⊎_elim, arith}
 use Rattle.std.specs.List.{between}
 use Rattle.std.proofs.lemmas.Int.{ints, int_wrap_fits, int_wrap-add_left, to_z-of_z}
 use Rattle.std.proofs.lemmas.List.{length-take, length-drop, length-append, get_or-take, get_or-drop, get_or_append_left, get_or-append_right, take_at, drop_at, drop_all, drop-drop, append-nil}
@@ -17,7 +17,7 @@ use Rattle.sj_codelet.proofs.Sums.{same_sum, sum_below_more}
 use Rattle.sj_codelet.proofs.Filling.{begun, listing_from_elements, at-listing, length-listing, same_listing}
 use Rattle.sj_kernels.proofs.Places.{passed_start}
 use Rattle.sj_kernels.specs.declared.product.Span.{Span}
-use Rattle.sj_kernels.specs.Panels.{column_sum, part, terms, with_terms, with_terms_within, row_within}
+use Rattle.sj_kernels.specs.Panels.{column_sum, column_rest, part, terms, with_terms, with_terms_within, row_within}
 use Rattle.sj_kernels.specs.Rows.{row_product}
 use Rattle.sj_kernels.specs.declared.product.Sides.{Sides}
 use Rattle.sj_codelet.proofs.Rows.{grid_at, listing-add}
@@ -37,6 +37,35 @@ column_more n j l p a b start t v h e place fa fb =
     ∙ ap (λ (z : ℤ). wrap (t +ℤ z)) term ∙ ap (λ (z : ℤ). wrap (z +ℤ f l)) e ∙ int_wrap-add_left w64 (start +ℤ sum_below l f) (f l)
     ∙ ap (λ (z : ℤ). wrap z) (omega (arith, ints, sum_below_more l f))
 
+-- with no term left, begun at an element that was read
+pub rest_none : (n j l : ℕ) (a b : List ℤ) (start : ℤ) → FitsSigned w64 start → l ≡ length a → to_z w64 (of_z w64 start) ≡ column_rest n a b j l start
+rest_none n j l a b start fits whole =
+    let f = λ (q : ℕ). at a q *ℤ at b (q * n + j) in
+    let none : start +ℤ (sum_below (length a) f -ℤ sum_below l f) ≡ start =
+    ap (λ (k : ℕ). start +ℤ (sum_below (length a) f -ℤ sum_below k f)) whole ∙ omega (arith, ints) in
+    to_z-of_z w64 start fits ∙ sym (ap (λ (z : ℤ). wrap z) none ∙ int_wrap_fits w64 start fits)
+
+-- the term before the others
+pub rest_more : (n j l i p : ℕ) (a b : List ℤ) (start t v : ℤ) → v ≡ wrap (t +ℤ (to_z w64 (of_z w64 (at a i)) *ℤ to_z w64 (of_z w64 (at b p)))) → t ≡ column_rest n a b j l start → l ≡ i + 1 → p ≡ i * n + j → FitsSigned w64 (at a i) → FitsSigned w64 (at b p) → to_z w64 (of_z w64 v) ≡ column_rest n a b j i start
+rest_more n j l i p a b start t v h e next place fa fb =
+    let f = λ (q : ℕ). at a q *ℤ at b (q * n + j) in
+    let all = sum_below (length a) f in
+    let x = to_z w64 (of_z w64 (at a i)) in
+    let y = to_z w64 (of_z w64 (at b p)) in
+    let term : x *ℤ y ≡ f i = ap (λ (z : ℤ). z *ℤ y) (to_z-of_z w64 (at a i) fa) ∙ ap (λ (z : ℤ). at a i *ℤ z) (to_z-of_z w64 (at b p) fb ∙ ap (λ (q : ℕ). at b q) place) in
+    passed_start v (t +ℤ (x *ℤ y)) h
+    ∙ ap (λ (z : ℤ). wrap (t +ℤ z)) term ∙ ap (λ (z : ℤ). wrap (z +ℤ f i)) (e ∙ ap (λ (k : ℕ). wrap (start +ℤ (all -ℤ sum_below k f))) next)
+    ∙ int_wrap-add_left w64 (start +ℤ (all -ℤ sum_below (i + 1) f)) (f i)
+    ∙ ap (λ (z : ℤ). wrap z) (omega (arith, ints, sum_below_more i f))
+
+-- from the first term on
+pub rest_all : (n j l : ℕ) (a b : List ℤ) (start t : ℤ) → t ≡ column_rest n a b j l start → l ≡ 0 → t ≡ column_sum n a b j (length a) start
+rest_all n j l a b start t e h =
+    let f = λ (q : ℕ). at a q *ℤ at b (q * n + j) in
+    let all = sum_below (length a) f in
+    let first : start +ℤ (all -ℤ sum_below 0 f) ≡ start +ℤ all = omega (arith, ints) in
+    e ∙ ap (λ (k : ℕ). wrap (start +ℤ (all -ℤ sum_below k f))) h ∙ ap (λ (z : ℤ). wrap z) first
+
 -- the sum over all terms
 pub column_all : (n j l k : ℕ) (a b : List ℤ) (start t : ℤ) → t ≡ column_sum n a b j l start → l ≡ k → t ≡ column_sum n a b j k start
 column_all n j l k a b start t e h = e ∙ ap (λ (q : ℕ). column_sum n a b j q start) h
@@ -45,16 +74,15 @@ three : (f : ℕ → ℤ) (v w x : ℤ) → v ≡ f 0 → w ≡ f 1 → x ≡ f 
 unfolding listing
 three f v w x ev ew ex = cc
 
--- three columns side by side
-pub block_is : (n j l : ℕ) (a b c : List ℤ) (v w x : ℤ) → l ≡ length a
-    → v ≡ column_sum n a b j l (at c 0) → w ≡ column_sum n a b (j + 1) l (at c 1) → x ≡ column_sum n a b (j + 2) l (at c 2)
+-- three columns side by side, from the first term on
+pub block_is : (n j l : ℕ) (a b c : List ℤ) (v w x : ℤ) → l ≡ 0
+    → v ≡ column_rest n a b j l (at c 0) → w ≡ column_rest n a b (j + 1) l (at c 1) → x ≡ column_rest n a b (j + 2) l (at c 2)
     → v ∷ w ∷ x ∷ [] ≡ listing 3 (λ q. column_sum n a b (j + q) (length a) (at c q))
 block_is n j l a b c v w x h ev ew ex =
-    let whole = λ (q : ℕ) (p : ℕ). ap (λ (k : ℕ). column_sum n a b p k (at c q)) h in
     let first : j ≡ j + 0 = omega arith in
     three (λ q. column_sum n a b (j + q) (length a) (at c q)) v w x
-    (ev ∙ whole 0 j ∙ ap (λ (p : ℕ). column_sum n a b p (length a) (at c 0)) first)
-    (ew ∙ whole 1 (j + 1)) (ex ∙ whole 2 (j + 2))
+    (rest_all n j l a b (at c 0) v ev h ∙ ap (λ (p : ℕ). column_sum n a b p (length a) (at c 0)) first)
+    (rest_all n (j + 1) l a b (at c 1) w ew h) (rest_all n (j + 2) l a b (at c 2) x ex h)
 
 two : (f : ℕ → ℤ) (v w : ℤ) → v ≡ f 0 → w ≡ f 1 → v ∷ w ∷ [] ≡ listing 2 f
 unfolding listing

@@ -66,13 +66,20 @@ pub fn add(x: &[i64], y: &mut [i64])
     requires { length x.now ≡ length y.old }
     ensures { y.new ≡ (add (vector x.now) (vector y.old)).elements }
 {
-    for i in 0..y.len() {
-        y[i] = y[i].wrapping_add(x[i]);
-    }
+    add_product(1, x, y);
 }
 
-/// `y(i) = y(i) + a x(i)`, wrapping. Linear in `y`. Eight elements at a time, as in `scale`.
+/// `y(i) = y(i) + a x(i)`, wrapping. Linear in `y`.
 pub fn axpy(a: i64, x: &[i64], y: &mut [i64])
+    requires { length x.now ≡ length y.old }
+    ensures { y.new ≡ (axpy a (vector x.now) (vector y.old)).elements }
+{
+    add_product(a, x, y);
+}
+
+/// What `axpy` does, eight elements at a time, as in `scale`. It is inlined, so that for 1 no product is left.
+#[inline(always)]
+fn add_product(a: i64, x: &[i64], y: &mut [i64])
     requires { length x.now ≡ length y.old }
     ensures { y.new ≡ (axpy a (vector x.now) (vector y.old)).elements }
 {

@@ -174,7 +174,9 @@ fn add_to_rows(a: &[i64], e: &[i64], tile: &[i64], c: &mut [i64], n: usize, colu
     two_rows(a, e, tile, &mut top[from..to], &mut bottom[from..to]);
 }
 
-/// `c = c + a B` and `d = d + e B`, wrapping, for rows `a`, `e`, `c` and `d`, in blocks of three columns.
+/// `c = c + a B` and `d = d + e B`, wrapping, for rows `a`, `e`, `c` and `d`, in blocks of three columns. It is not inlined,
+/// so that the blocks have all registers.
+#[inline(never)]
 fn two_rows(a: &[i64], e: &[i64], b: &[i64], c: &mut [i64], d: &mut [i64])
     requires as_long { length e.now ≡ length a.now }
     requires as_wide { length d.old ≡ length c.old }
@@ -234,7 +236,8 @@ fn two_columns(a: &[i64], e: &[i64], b: &[i64], n: usize, j: usize, c: &mut [i64
 }
 
 /// The same in three columns from `j` on. All that a step needs stays in registers, with six sums and no more. They begin
-/// at the old elements: begun at 0, the compiler makes vectors of them, which are slower.
+/// at the old elements: begun at 0, the compiler makes vectors of them, which are slower. The terms are taken from the last
+/// to the first, which saves the register that would hold how many there are.
 fn block(a: &[i64], e: &[i64], b: &[i64], n: usize, j: usize, c: &mut [i64], d: &mut [i64])
     requires as_long { length e.now ≡ length a.now }
     requires right { length b.now ≡ length a.now * n }
@@ -246,7 +249,7 @@ fn block(a: &[i64], e: &[i64], b: &[i64], n: usize, j: usize, c: &mut [i64], d: 
 {
     let (mut c0, mut c1, mut c2) = (c[0], c[1], c[2]);
     let (mut d0, mut d1, mut d2) = (d[0], d[1], d[2]);
-    for l in 0..a.len() {
+    for l in (0..a.len()).rev() {
         let place = l * n + j;
         let (x, y) = (a[l], e[l]);
         c0 = with_product(c0, x, b[place]);

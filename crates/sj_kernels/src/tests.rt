@@ -153,14 +153,14 @@ fn plain_gemm(a: &[i64], b: &[i64], c: &mut [i64], m: usize, k: usize, n: usize)
 #[test]
 fn products_of_several_panels_are_those_of_a_plain_loop(rt: HostRuntime) {
     let mut a = [0i64; 99];
-    let mut b = [0i64; 2145];
-    let mut c = [0i64; 195];
+    let mut b = [0i64; 2211];
+    let mut c = [0i64; 201];
     random(&mut a, 1);
     random(&mut b, 2);
     extremes(&mut c);
     let mut d = c;
-    gemm(&a, &b, &mut c, 3, 33, 65);
-    plain_gemm(&a, &b, &mut d, 3, 33, 65);
+    gemm(&a, &b, &mut c, 3, 33, 67);
+    plain_gemm(&a, &b, &mut d, 3, 33, 67);
     assert!(rt; c.as_slice() == d.as_slice());
 }
 

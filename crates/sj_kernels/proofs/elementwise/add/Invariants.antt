@@ -1,8 +1,0 @@
-use Rattle.std.proofs.Common.{◌≡◌, ◌+ℤ◌}
-use Rattle.sj_base.specs.Array.{at}
-use Rattle.sj_codelet.specs.Ring.{wrap}
-use Rattle.sj_codelet.proofs.Filling.{begun}
-use Rattle.sj_kernels.proofs.elementwise.add.Given as goal
-
-abbrev pub invariant-loop-i : goal.invariant-loop-i
-invariant-loop-i l = l.y ≡ begun l.i (λ p. wrap (at l.initial.y p +ℤ at l.x p)) l.initial.y
