@@ -224,10 +224,10 @@ fn boxes_of_disks_come_back_in_order(rt: HostRuntime) -> Result<(), Fail> {
         Box::new(rt.alloc(), SureDisk::new(rt.alloc(), 16)?)?,
     )?;
     let mut back = hand_back(disks);
-    same(&rt, back.len(), 2);
-    same(&rt, back[0].size(), 8);
+    assert_eq!(rt; back.len(), 2);
+    assert_eq!(rt; back[0].size(), 8);
     same(&rt, back[0].write(0, &[3]), Err(Failed));
-    same(&rt, back[1].size(), 16);
+    assert_eq!(rt; back[1].size(), 16);
     same(&rt, back[1].write(0, &[3]), Ok(()));
     Ok(())
 }

@@ -482,7 +482,11 @@ fn an_out_that_fails_gives_its_fault_and_a_failing_err_is_ignored(
     let mut err = MemSink::new(alloc, 10, Vec::new(alloc))?;
     let outcome = call(&rt, alloc, &mut source, &mut out, &mut err)?;
     same(&rt, outcome.status, Status::SinkFault);
-    same(&rt, (out.taken().len(), err.taken()), (0, b"starjob: w".as_slice()));
+    same(
+        &rt,
+        (out.taken().len(), err.taken()),
+        (0, b"starjob: w".as_slice()),
+    );
     Ok(())
 }
 
@@ -546,7 +550,11 @@ fn a_job_without_tasks_and_a_refused_job_have_an_empty_trace(rt: HostRuntime) ->
         ("starjob 1\nvector x 2 values 1 2\nprint y\n", 3),
     ] {
         let answer = answer_to(&rt, rt.alloc(), text.as_bytes())?;
-        same(&rt, (answer.outcome.status.code(), answer.outcome.trace.len()), (code, 0));
+        same(
+            &rt,
+            (answer.outcome.status.code(), answer.outcome.trace.len()),
+            (code, 0),
+        );
     }
     Ok(())
 }

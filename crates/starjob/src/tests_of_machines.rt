@@ -146,8 +146,16 @@ fn jobs_run_where_they_fit_and_say_what_they_lack(rt: HostRuntime) -> Result<(),
         let answer = answer_on(&rt, rt.alloc(), &[], text, disks, &OpenGate)?;
         let done = case.status == Status::Done;
         is_answered(&rt, &answer, case.status, case.out, case.shows);
-        same(&rt, (case.shows, answer.outcome.trace.is_empty()), (case.shows, !done));
-        same(&rt, (case.shows, answer.err.taken()), (case.shows, case.err.as_bytes()));
+        same(
+            &rt,
+            (case.shows, answer.outcome.trace.is_empty()),
+            (case.shows, !done),
+        );
+        same(
+            &rt,
+            (case.shows, answer.err.taken()),
+            (case.shows, case.err.as_bytes()),
+        );
     }
     Ok(())
 }

@@ -190,7 +190,11 @@ fn ends<R: Threads + Wait + Abort + Sync>(
 ) -> Result<(), Fail> {
     let answer = answer_large(rt, alloc, text)?;
     let ended = (answer.outcome.status.code(), answer.out.taken().len());
-    same(rt, (ended, answer.err.taken()), ((code, printed), line.as_bytes()));
+    same(
+        rt,
+        (ended, answer.err.taken()),
+        ((code, printed), line.as_bytes()),
+    );
     Ok(())
 }
 
@@ -270,7 +274,15 @@ fn many_printed(alloc: Global) -> Result<Vec<u8>, Fail> {
 fn a_job_of_over_4_thousand_of_everything_is_done(rt: HostRuntime) -> Result<(), Fail> {
     let alloc = rt.alloc();
     let answer = answer_large(&rt, alloc, &many_of_all(alloc)?)?;
-    same(&rt, (answer.outcome.status, answer.err.taken().len()), (Status::Done, 0));
-    same(&rt, answer.out.taken() == many_printed(alloc)?.as_slice(), true);
+    same(
+        &rt,
+        (answer.outcome.status, answer.err.taken().len()),
+        (Status::Done, 0),
+    );
+    same(
+        &rt,
+        answer.out.taken() == many_printed(alloc)?.as_slice(),
+        true,
+    );
     Ok(())
 }
