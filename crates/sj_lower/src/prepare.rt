@@ -86,7 +86,7 @@ impl Progress {
     }
 
     /// Closes the open phases of the operands that are accessed otherwise than by a contribution, in their order. Linear in the
-    /// operands.
+    /// operands, but constant time where no phase is open.
     fn close_operands(
         &mut self,
         alloc: Global,
@@ -98,6 +98,12 @@ impl Progress {
         ensures { OnOk result (Prepares self.old self.new line
             (all_closed self.old.workers (map (cell_by self.old.lowerer.actives.items) (filter is_other operands.now)))) }
     {
+        if self.over.is_some() {
+            return Ok(());
+        }
+        if self.lowerer.phases.is_empty() {
+            return Ok(());
+        }
         for operand in operands {
             if is_other_access(operand) {
                 let placed = self.lowerer.actives[operand.root.0 as usize].placed();
