@@ -6,7 +6,6 @@ use Rattle.sj_base.proofs.program.Program.TheSendSync as Program
 use Rattle.sj_base.proofs.program.Machine.TheSendSync as Machine
 use Rattle.sj_base.proofs.trace.Trace.TheSendSync as Trace
 use Rattle.sj_core.proofs.progress.Progress.TheSendSync as Progress
-use Rattle.sj_deps.proofs.counters.Counters.TheSendSync as Counters
 use Rattle.sj_deps.specs.contracts.deps.Deps as Deps
 use Rattle.sj_node.proofs.store.NodeStore.TheSendSync as NodeStore
 use Rattle.sj_pool.proofs.tree.Tree.TheLaws.TheKnot as Trees
@@ -23,7 +22,7 @@ use Rattle.sj_machine.specs.contracts.run_state.RunState as RunState
 use Rattle.sj_engine.specs.contracts.shared_board.SharedBoard as SharedBoard
 
 deps-send : IsSend Deps.the_row
-deps-send = search (sendable, crosses, Counters.the_send) depth 60
+deps-send = search (sendable, crosses) depth 60 fits 20000
 
 pool-send : IsSend Pool.the_row
 pool-send = search (crosses, Trees.crosses, sendable) depth 60
