@@ -1,8 +1,8 @@
 -- The beginning of a kernel as a turn of its worker, and the shares that it takes.
-use Rattle.std.proofs.Common.{◌≡◌, ℕ, ◌<◌, Bool, true, false, cond, List, [], ◌∷◌, map, length, refl, sym, ap, ◌∙◌, subst, Option, None, Some, arith, zero, suc, inl, inr}
-use Rattle.std.specs.Prelude.{IsTrue, filter, not, option_map, unwrap_or, if◌then◌else◌}
+use Rattle.std.proofs.Common.{◌≡◌, ℕ, ◌<◌, Bool, true, cond, List, [], ◌∷◌, map, length, refl, sym, ap, ◌∙◌, subst, Option, Some, arith, suc, inl, inr}
+use Rattle.std.specs.Prelude.{not, option_map, unwrap_or, if◌then◌else◌}
 use Rattle.std.specs.List.{AllZip, Contains}
-use Rattle.std.proofs.lemmas.Bool.{cases_Bool, false≢true}
+use Rattle.std.proofs.lemmas.Bool.{cases_Bool}
 use Rattle.sj_base.specs.declared.ids.Cell.{Cell}
 use Rattle.sj_base.specs.declared.ids.Place.TheVariants.{Node as AtNode}
 use Rattle.sj_base.specs.declared.ids.Task.{Task}
@@ -17,9 +17,9 @@ use Rattle.sj_codelet.specs.Frame.{Slot, arrays}
 use Rattle.sj_core.specs.declared.progress.Progress.{Progress}
 use Rattle.sj_core.specs.declared.progress.Progress.TheVariants.{Claimed, Running, Waiting}
 use Rattle.sj_core.specs.Laws.{IsSound}
-use Rattle.sj_core.specs.Machine.{Replica, State, array_of, is_running_on, progress, replica}
+use Rattle.sj_core.specs.Machine.{Replica, State, array_of, is_running_on, progress}
 use Rattle.sj_core.specs.Needs.{node_of}
-use Rattle.sj_core.specs.Operands.{cells_of, fresh_cells, worked_on, written_cells}
+use Rattle.sj_core.specs.Operands.{cells_of, worked_on, written_cells}
 use Rattle.sj_core.specs.Program.{dims_of, has_cell, task_of}
 use Rattle.sj_core.specs.Step.{Runs, after, array_at}
 use Rattle.sj_core.proofs.Found.{found-not_fresh}
@@ -36,10 +36,10 @@ use Rattle.sj_machine.specs.Sparing.{Spares}
 use Rattle.sj_machine.specs.Standing.{AllTell, CanHappen, state}
 use Rattle.sj_machine.specs.declared.hand.Hand.{Hand}
 use Rattle.sj_engine.specs.Operands.{IsShare, held_for, read_operands}
-use Rattle.sj_engine.specs.Stage.{AreLent, HasClaimedRow, HoldShares, RunsRow, row_in}
+use Rattle.sj_engine.specs.Stage.{AreLent, HasClaimedRow, RunsRow, row_in}
 use Rattle.sj_engine.specs.Turn.{IsTurnOf}
 use Rattle.sj_engine.proofs.BoardTurns.{has_event-turn, state-after}
-use Rattle.sj_engine.proofs.OwnRows.{has-task, phase-of, runs-row}
+use Rattle.sj_engine.proofs.OwnRows.{has-task, runs-row}
 
 module _ (p : Program) (m : Machine) (s : State) (h : IsSound p m s) (t : Task) (w : Worker) (known : w.0 < p.workers) (s' : State) (run : Runs p m s t w s') where
   -- what the task reads is there as it was

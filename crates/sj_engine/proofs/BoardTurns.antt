@@ -1,38 +1,31 @@
 -- The calls of the board as turns of a worker.
-use Rattle.std.proofs.Common.{◌≡◌, ◌≢◌, ℕ, ◌<◌, ◌+◌, Bool, true, false, List, [], ◌++◌, map, length, refl, sym, ap, ◌∙◌, subst, Option, None, Some, arith}
-use Rattle.std.specs.Prelude.{All, IfSome, IsSomeAnd, IsTrue, is_some, option_map, slice_index_or, slice_set, unwrap_or, if◌then◌else◌}
-use Rattle.std.proofs.lemmas.Bool.{false≢true}
-use Rattle.std.proofs.lemmas.List.{get_or-set_other, get_or-set_same}
+use Rattle.std.proofs.Common.{◌≡◌, ◌≢◌, ℕ, ◌<◌, Bool, true, false, List, ◌++◌, length, refl, sym, ap, ◌∙◌, subst, Option, None, Some}
+use Rattle.std.specs.Prelude.{IfSome, IsSomeAnd, option_map, slice_index_or, slice_set}
+use Rattle.std.proofs.lemmas.List.{get_or-set_same}
 use Rattle.sj_base.specs.declared.ids.Cell.{Cell}
-use Rattle.sj_base.specs.declared.ids.Place.{Place}
-use Rattle.sj_base.specs.declared.ids.Place.TheVariants.{Node as AtNode, Disk as OnDisk}
 use Rattle.sj_base.specs.declared.ids.Task.{Task}
 use Rattle.sj_base.specs.declared.ids.Worker.{Worker}
-use Rattle.sj_base.specs.declared.program.Program.{Program}
-use Rattle.sj_base.specs.declared.program.Machine.{Machine}
 use Rattle.sj_base.specs.declared.trace.Event.{Event}
-use Rattle.sj_base.specs.declared.trace.Event.TheVariants.{Claim, Move, Moved, Drop, Run, End}
+use Rattle.sj_base.specs.declared.trace.Event.TheVariants.{Moved, Drop}
 use Rattle.sj_base.specs.Array.{Array}
-use Rattle.sj_core.specs.declared.progress.Progress.{Progress}
-use Rattle.sj_core.specs.declared.progress.Progress.TheVariants.{Claimed, Running}
+use Rattle.sj_core.specs.declared.progress.Progress.TheVariants.{Claimed}
 use Rattle.sj_core.specs.declared.progress.Transfer.{Transfer}
-use Rattle.sj_core.specs.Laws.{IsSound}
-use Rattle.sj_core.specs.Machine.{State, Valid, WorkerState, progress, transfer, with_replica, with_transfer, worker_state}
+use Rattle.sj_core.specs.Machine.{State, Valid, WorkerState, progress, transfer, with_replica, with_transfer}
 use Rattle.sj_core.specs.Needs.{node_of}
-use Rattle.sj_core.specs.Step.{EndsMove, Step, a_transfer, after, array_at, mover_of}
-use Rattle.sj_core.proofs.Reading.{progress-inside, progress-same, transfer-inside, worker-same}
+use Rattle.sj_core.specs.Step.{after, array_at, mover_of}
+use Rattle.sj_core.proofs.Reading.{transfer-inside, worker-same}
 use Rattle.sj_core.proofs.States.{one-mover, state_of-more}
-use Rattle.sj_machine.specs.Board.{BoardState, EndsMoveOf, OnlyDisksChangeOn, empty_hand, failed, first_fault, hand_of, has_claimed, has_event, stopped, transfer_of, with_hand}
-use Rattle.sj_machine.specs.BoardRow.{BoardKey, key_of, row_of_number}
+use Rattle.sj_machine.specs.Board.{BoardState, EndsMoveOf, OnlyDisksChangeOn, empty_hand, failed, first_fault, hand_of, has_event, stopped, transfer_of}
+use Rattle.sj_machine.specs.BoardRow.{key_of, row_of_number}
 use Rattle.sj_machine.specs.BoardSound.{IsSoundBoard}
 use Rattle.sj_machine.specs.Sparing.{Spares, SparesMoved}
-use Rattle.sj_machine.specs.Standing.{CanHappen, IsMovingIn, IsMovingOut, IsTileMoved, IsTileOf, Standing, is_node, state, with_event}
+use Rattle.sj_machine.specs.Standing.{CanHappen, IsMovingIn, IsMovingOut, IsTileMoved, IsTileOf, is_node, state, with_event}
 use Rattle.sj_machine.specs.declared.hand.Hand.{Hand}
 use Rattle.sj_machine.specs.declared.fault.RunFault.{RunFault}
-use Rattle.sj_engine.specs.Stage.{HasClaimedRow, IsCarried, IsFreeRow, IsStoppedRow, MovesRow, RunsRow, busy_hand, row_in}
+use Rattle.sj_engine.specs.Stage.{HasClaimedRow, IsCarried, IsFreeRow, IsStoppedRow, MovesRow, row_in}
 use Rattle.sj_engine.specs.Turn.{IsTurnOf}
 use Rattle.sj_engine.proofs.OtherRows.{IsBy}
-use Rattle.sj_engine.proofs.OwnRows.{claimed-row, moves-row, phase-of, row-transfer, runs-row, some-same, transfer-of}
+use Rattle.sj_engine.proofs.OwnRows.{claimed-row, phase-of, row-transfer, some-same, transfer-of}
 use Rattle.sj_engine.proofs.Turning.{turn-event, turn-hand}
 
 -- the state after one event more

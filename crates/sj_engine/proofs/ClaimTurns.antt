@@ -1,9 +1,9 @@
 -- Claims and ends as turns of a worker.
-use Rattle.std.proofs.Common.{◌≡◌, ◌≢◌, ℕ, ◌<◌, ◌+◌, Bool, true, false, List, [], ◌∷◌, map, length, refl, sym, ap, ◌∙◌, subst, Option, None, Some, arith, zero, suc, ◌||◌}
-use Rattle.std.specs.Prelude.{All, IfSome, IsTrue, filter, is_some, option_map, slice_index_or, slice_set, unwrap_or, not, if◌then◌else◌}
+use Rattle.std.proofs.Common.{◌≡◌, ℕ, ◌<◌, Bool, true, false, List, [], ◌∷◌, map, length, refl, sym, ap, ◌∙◌, subst, Option, None, Some, arith, zero, suc, ◌||◌}
+use Rattle.std.specs.Prelude.{option_map, not, if◌then◌else◌}
 use Rattle.std.specs.List.{AllZip, Contains}
-use Rattle.std.proofs.lemmas.Bool.{cases_Bool, false≢true}
-use Rattle.std.proofs.lemmas.List.{get_or-set_other, get_or-set_same, length-set}
+use Rattle.std.proofs.lemmas.Bool.{false≢true}
+use Rattle.std.proofs.lemmas.List.{get_or-set_other}
 use Rattle.sj_base.specs.declared.ids.Cell.{Cell}
 use Rattle.sj_base.specs.declared.ids.Place.TheVariants.{Node as AtNode}
 use Rattle.sj_base.specs.declared.ids.Task.{Task}
@@ -18,31 +18,31 @@ use Rattle.sj_base.specs.Mode.{is_data, reads_value, starts_as_zeros}
 use Rattle.sj_codelet.specs.Frame.{Slot, arrays}
 use Rattle.sj_codelet.specs.Kernel.{out}
 use Rattle.sj_core.specs.declared.progress.Progress.{Progress}
-use Rattle.sj_core.specs.declared.progress.Progress.TheVariants.{Claimed, Running, Waiting}
+use Rattle.sj_core.specs.declared.progress.Progress.TheVariants.{Claimed, Running}
 use Rattle.sj_core.specs.declared.progress.Transfer.{Transfer}
-use Rattle.sj_core.specs.Machine.{State, WorkerState, is_claimed_by, is_running_on, is_task_of, progress, transfer, worker_state}
+use Rattle.sj_core.specs.Machine.{State, WorkerState, is_claimed_by, is_running_on, is_task_of, progress, transfer}
 use Rattle.sj_core.specs.Needs.{node_of}
 use Rattle.sj_core.specs.Operands.{cells_of, found, results, worked_on}
 use Rattle.sj_core.specs.Program.{data_operands, dims_of, task_of, written_operands}
 use Rattle.sj_core.specs.Step.{array_at}
-use Rattle.sj_core.proofs.Reading.{progress-inside, progress-same, worker-same}
+use Rattle.sj_core.proofs.Reading.{progress-same, worker-same}
 use Rattle.sj_core.proofs.Readiness.{Contains-filter}
 use Rattle.sj_core.proofs.Replicas.{same_worker-refl}
-use Rattle.sj_machine.specs.Board.{BoardState, HasTask, IsIdle, WasGiven, empty_hand, given_back, given_next, hand_of, has_claimed, has_ended, has_event, room_of, transfer_of, with_hand}
+use Rattle.sj_machine.specs.Board.{BoardState, HasTask, IsIdle, WasGiven, empty_hand, given_back, given_next, hand_of, has_claimed, room_of}
 use Rattle.sj_machine.specs.BoardRow.{key_of}
 use Rattle.sj_machine.specs.BoardSound.{IsSoundBoard}
 use Rattle.sj_pool.specs.Pool.{task_for}
 use Rattle.sj_machine.specs.Releasing.{EndsTask}
 use Rattle.sj_machine.specs.Running.{AreResultsFor, IsResultIn}
 use Rattle.sj_machine.specs.Sparing.{Spares}
-use Rattle.sj_machine.specs.Standing.{AllTell, CanHappen, Standing, state, with_event}
+use Rattle.sj_machine.specs.Standing.{CanHappen, state}
 use Rattle.sj_machine.specs.declared.hand.Hand.{Hand}
 use Rattle.sj_engine.specs.Operands.{IsShare}
-use Rattle.sj_engine.specs.Stage.{AreDone, HasClaimedRow, HoldResults, IsFreeRow, RunsRow, busy_hand, given_hand, row_in}
+use Rattle.sj_engine.specs.Stage.{AreDone, HasClaimedRow, HoldResults, IsFreeRow, RunsRow, given_hand, row_in}
 use Rattle.sj_engine.specs.Turn.{IsTurnOf}
 use Rattle.sj_engine.proofs.BoardTurns.{event-turn, hand-put, state-after}
 use Rattle.sj_engine.proofs.OwnRows.{claimed-row, has-task, phase-of, some-same}
-use Rattle.sj_engine.proofs.Turning.{turn-hand, turn-then}
+use Rattle.sj_engine.proofs.Turning.{turn-hand}
 
 -- ---- what a task finds is told by its cells
 

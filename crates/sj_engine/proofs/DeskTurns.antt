@@ -1,5 +1,5 @@
 -- A worker's turn at the desk: what it finds, and what it leaves.
-use Rattle.std.proofs.Common.{◌≡◌, ◌≢◌, ℕ, ◌<◌, ◌++◌, List, refl, sym, ap, ◌∙◌, subst, Option, None, Some}
+use Rattle.std.proofs.Common.{◌≡◌, ◌≢◌, ℕ, ◌<◌, ◌++◌, List, sym, ap, ◌∙◌, subst, Option, None, Some}
 use Rattle.std.specs.Prelude.{IsSomeAnd}
 use Rattle.std.proofs.lemmas.List.{append_assoc}
 use Rattle.sj_base.specs.declared.ids.Worker.{Worker}
@@ -9,7 +9,7 @@ use Rattle.sj_desk.specs.Seats.{DeskFacts, HasRowLeft, IsWaiting, KeepsOtherRows
 use Rattle.sj_machine.specs.Board.{BoardState}
 use Rattle.sj_machine.specs.BoardRow.{BoardKey, BoardRow, key_of, row_of_number}
 use Rattle.sj_machine.specs.BoardSound.{IsSoundBoard}
-use Rattle.sj_engine.specs.Stage.{BeginsWith, GoesOn, HasBegun, HasLeft, IsAt, IsDeskOf, row_in}
+use Rattle.sj_engine.specs.Stage.{BeginsWith, GoesOn, HasLeft, IsAt, IsDeskOf, row_in}
 use Rattle.sj_engine.specs.Turn.{IsSharedSound, IsTurnOf, IsWorkerOf, MayLeave}
 use Rattle.sj_engine.proofs.Turning.{shared-sound}
 

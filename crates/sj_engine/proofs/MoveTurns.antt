@@ -1,21 +1,18 @@
 -- Stores and fetches within a worker's turn.
-use Rattle.std.proofs.Common.{◌≡◌, ℕ, ◌<◌, zero, suc, Bool, true, false, List, [], ◌∷◌, map, length, refl, sym, ap, ◌∙◌, subst, Option, None, Some, arith}
+use Rattle.std.proofs.Common.{◌≡◌, ℕ, suc, false, List, [], ◌∷◌, map, length, refl, sym, ap, ◌∙◌, subst, Option, Some, arith}
 use Rattle.std.specs.Prelude.{IfSome, IsSomeAnd, Result, Ok, slice_get}
 use Rattle.sj_base.specs.declared.ids.Task.{Task}
 use Rattle.sj_base.specs.declared.ids.Worker.{Worker}
 use Rattle.sj_base.specs.declared.tile.Dims.{Dims}
-use Rattle.sj_base.specs.Array.{Array}
 use Rattle.sj_core.specs.declared.progress.Transfer.{Transfer}
-use Rattle.sj_core.specs.Machine.{transfer}
 use Rattle.sj_core.specs.Program.{dims_of}
 use Rattle.sj_disk.specs.Holding.{CountsStay}
 use Rattle.sj_disk.specs.declared.refusal.DiskRefusal.{DiskRefusal}
 use Rattle.sj_edge.specs.Faults.{counted}
 use Rattle.sj_machine.specs.Board.{BoardState, OnlyDisksChangeOn}
 use Rattle.sj_machine.specs.BoardRow.{BoardRow}
-use Rattle.sj_machine.specs.BoardSound.{IsSoundBoard}
 use Rattle.sj_machine.specs.Counts.{AreCounted, differed_at, failed_at}
-use Rattle.sj_machine.specs.Standing.{HasDimsMoved, IsFetching, is_node, state}
+use Rattle.sj_machine.specs.Standing.{HasDimsMoved, IsFetching, is_node}
 use Rattle.sj_engine.specs.Stage.{MovesRow, row_in}
 use Rattle.sj_engine.specs.Turn.{IsTurnOf, IsWorkerOf}
 use Rattle.sj_engine.proofs.OwnRows.{transfer-of}

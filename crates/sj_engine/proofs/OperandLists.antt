@@ -1,5 +1,5 @@
 -- The operands of a task made of shares, the last first.
-use Rattle.std.proofs.Common.{◌≡◌, ℕ, ◌+◌, ◌<◌, Bool, true, false, cond, List, [], ◌∷◌, ◌++◌, map, length, refl, sym, ap, ◌∙◌, subst, arith}
+use Rattle.std.proofs.Common.{◌≡◌, ◌+◌, Bool, true, false, cond, List, [], ◌∷◌, ◌++◌, length, refl, sym, ap, ◌∙◌, subst, arith}
 use Rattle.std.specs.Prelude.{All, MatchBool, filter}
 use Rattle.std.proofs.lemmas.List.{append-nil, length_push, map-append, length-map}
 use Rattle.std.proofs.lemmas.List.Elements.{filter-append}

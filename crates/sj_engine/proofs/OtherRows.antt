@@ -1,12 +1,10 @@
 -- What an event of a worker leaves as it is of another worker's row.
-use Rattle.std.proofs.Common.{◌≡◌, ◌≢◌, ◌⊎◌, ℕ, ◌<◌, Bool, set, true, false, cond, List, [], ◌∷◌, ◌++◌, map, length, refl, sym, ap, ◌∙◌, subst, Option, None, Some, arith, inl, inr, ◌||◌, ◌&&◌}
-use Rattle.std.specs.Prelude.{IsTrue, filter, is_some, nat_eq, not, option_map, slice_index_or, slice_set, unwrap_or, if◌then◌else◌}
-use Rattle.std.specs.List.{Contains}
+use Rattle.std.proofs.Common.{◌≡◌, ◌≢◌, ◌⊎◌, ℕ, ◌<◌, Bool, set, true, false, length, refl, sym, ap, ◌∙◌, subst, Option, None, Some, arith, inl, inr, ◌||◌, ◌&&◌}
+use Rattle.std.specs.Prelude.{is_some}
 use Rattle.std.proofs.lemmas.Bool.{cases_lt, false≢true}
 use Rattle.std.proofs.lemmas.Bool.Decides.{Decides-eqb}
 use Rattle.std.proofs.lemmas.List.{get_or-set_other, get_or-set_same, get_or_past, length-set}
 use Rattle.sj_base.specs.declared.ids.Cell.{Cell}
-use Rattle.sj_base.specs.declared.ids.Node.{Node}
 use Rattle.sj_base.specs.declared.ids.Place.{Place}
 use Rattle.sj_base.specs.declared.ids.Place.TheVariants.{Node as AtNode, Disk as OnDisk}
 use Rattle.sj_base.specs.declared.ids.Task.{Task}
@@ -15,17 +13,16 @@ use Rattle.sj_base.specs.declared.program.Program.{Program}
 use Rattle.sj_base.specs.declared.program.Machine.{Machine}
 use Rattle.sj_base.specs.declared.trace.Event.{Event}
 use Rattle.sj_base.specs.declared.trace.Event.TheVariants.{Claim, Move, Moved, Drop, Run, End}
-use Rattle.sj_base.specs.Array.{Array, zeros}
+use Rattle.sj_base.specs.Array.{Array}
 use Rattle.sj_core.specs.declared.progress.Progress.{Progress}
 use Rattle.sj_core.specs.declared.progress.Progress.TheVariants.{Waiting, Claimed, Running, Done}
 use Rattle.sj_core.specs.declared.progress.Transfer.{Transfer}
-use Rattle.sj_core.specs.Coherent.{Coherent}
 use Rattle.sj_core.specs.Laws.{IsSound}
-use Rattle.sj_core.specs.Machine.{CellState, State, WorkerState, array_of, cell_state, is_claimed_by, is_running_on, is_task_of, is_valid, Invalid, Replica, Valid, moves, pins, progress, replica, same_worker, transfer, with_replica, with_replica_in, worker_state, writes}
-use Rattle.sj_core.specs.Needs.{node_of, workers_of}
+use Rattle.sj_core.specs.Machine.{CellState, State, array_of, cell_state, is_running_on, is_task_of, Invalid, Replica, Valid, progress, replica, same_worker, transfer, with_replica, with_replica_in, worker_state, writes}
+use Rattle.sj_core.specs.Needs.{node_of}
 use Rattle.sj_core.specs.Operands.{cells_of, written_cells}
-use Rattle.sj_core.specs.Program.{dims_of, has_cell, same_cell}
-use Rattle.sj_core.specs.Step.{Step, a_transfer, after, array_at, initial, is_read, mover_of, owned_at, reads, result_at, rewritten_at, same_place}
+use Rattle.sj_core.specs.Program.{has_cell, same_cell}
+use Rattle.sj_core.specs.Step.{Step, array_at, initial, is_read, mover_of, owned_at, reads, result_at, rewritten_at, same_place}
 use Rattle.sj_core.proofs.Claiming.{claim-writes, pinned-at}
 use Rattle.sj_core.proofs.Ending.{end-other_worker}
 use Rattle.sj_core.proofs.Placing.{cells_differ}

@@ -1,31 +1,30 @@
 -- What a board leaves, by what is true of it: the outcome of a run that is over, and of one that no worker has come to.
-use Rattle.std.proofs.Common.{◌≡◌, ◌≢◌, ℕ, ◌<◌, ◌∙◌, ◌⊎◌, Bool, true, false, Option, Some, None, List, [], IsTrue, ap, arith, get_or, inl, inr, length, refl, replicate, subst, sym}
-use Rattle.std.specs.Prelude.{All, Err, IfErr, IfSome, IsOk, IsSomeAnd, MatchOption, Ok, Result, is_some, option_and_then, option_map, slice_get}
+use Rattle.std.proofs.Common.{◌≡◌, ℕ, ◌<◌, ◌∙◌, ◌⊎◌, true, false, Option, Some, None, List, [], IsTrue, ap, arith, get_or, inl, inr, length, refl, replicate, subst, sym}
+use Rattle.std.specs.Prelude.{Err, IfSome, IsOk, IsSomeAnd, MatchOption, Ok, Result, is_some, option_map, slice_get}
 use Rattle.std.proofs.lemmas.Bool.{cases_lt, false≢true}
 use Rattle.std.proofs.lemmas.List.{get_or-replicate, get_or_past, length-replicate}
 use Rattle.std.proofs.lemmas.List.Elements.{All-from_get_or, All-get_or}
-use Rattle.std.proofs.lemmas.Option.{none-some, same_Some}
+use Rattle.std.proofs.lemmas.Option.{none-some}
 use Rattle.sj_base.specs.declared.ids.Cell.{Cell}
 use Rattle.sj_base.specs.declared.ids.DiskNo.{DiskNo}
 use Rattle.sj_base.specs.declared.ids.Place.TheVariants.{Disk as OnDisk}
 use Rattle.sj_base.specs.declared.ids.Task.{Task}
-use Rattle.sj_base.specs.declared.ids.Worker.{Worker}
 use Rattle.sj_base.specs.declared.program.Machine.{Machine}
 use Rattle.sj_base.specs.declared.program.Program.{Program}
 use Rattle.sj_base.specs.declared.trace.Event.{Event}
 use Rattle.sj_base.specs.Array.{Array}
-use Rattle.sj_core.specs.Legal.{IsComplete, IsFinished, IsLegal, state_of}
-use Rattle.sj_core.specs.Machine.{CellState, Invalid, Replica, State, cell_state, is_valid, no_replica, opening, replica, replica_in, writes}
+use Rattle.sj_core.specs.Legal.{IsComplete, IsLegal}
+use Rattle.sj_core.specs.Machine.{CellState, Invalid, State, cell_state, is_valid, no_replica, opening, replica, replica_in, writes}
 use Rattle.sj_core.proofs.Reading.{no_row}
 use Rattle.sj_core.specs.Needs.{Block}
-use Rattle.sj_core.specs.Step.{array_at, disk_of}
+use Rattle.sj_core.specs.Step.{array_at}
 use Rattle.sj_disk.specs.Directory.{extent_of}
 use Rattle.sj_disk.specs.Block.{block}
 use Rattle.sj_disk.specs.Holding.{CountsStay}
 use Rattle.sj_edge.specs.Held.{GivesHeld}
 use Rattle.sj_disk.specs.declared.directory.Extent.{Extent}
 use Rattle.sj_edge.proofs.GivenBackLemmas.{all_given_back-untouched, all_untouched-same}
-use Rattle.sj_machine.specs.Board.{BoardState, HasCause, hand_in}
+use Rattle.sj_machine.specs.Board.{BoardState, HasCause}
 use Rattle.sj_machine.specs.BoardSound.{IsSoundBoard}
 use Rattle.sj_machine.specs.Delivered.{DeliversEach}
 use Rattle.sj_machine.specs.Sound.{HoldsArray, IsBlock, block_of}
@@ -35,7 +34,6 @@ use Rattle.sj_machine.specs.declared.fault.RunFault.TheVariants.{Damaged, DiskFa
 use Rattle.sj_machine.specs.declared.hand.Hand.{Hand}
 use Rattle.sj_engine.specs.Outcome.{AllTell, HoldBlocks, HoldsBlockAt, IsCausedBy}
 use Rattle.sj_engine.specs.Run.{AllStopped, IsOutcome, NoneHasTask}
-use Rattle.sj_engine.specs.Turn.{IsSharedSound}
 
 -- the result where memory is wanting
 abbrev pub wanting : {A : Type 0} → Result A RunFault

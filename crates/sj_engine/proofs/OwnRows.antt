@@ -1,18 +1,17 @@
 -- What a worker's row tells of the board, and what a board makes of the row.
-use Rattle.std.proofs.Common.{◌≡◌, ℕ, ◌<◌, Bool, true, false, List, refl, sym, ap, ◌∙◌, subst, Option, None, Some}
-use Rattle.std.specs.Prelude.{IfSome, IsSomeAnd, IsTrue, is_some, option_map, if◌then◌else◌}
-use Rattle.std.proofs.lemmas.Bool.{false≢true}
+use Rattle.std.proofs.Common.{◌≡◌, ◌<◌, Bool, true, false, refl, sym, ap, ◌∙◌, subst, Option, None, Some}
+use Rattle.std.specs.Prelude.{IfSome, is_some, option_map, if◌then◌else◌}
 use Rattle.sj_base.specs.declared.ids.Task.{Task}
 use Rattle.sj_base.specs.declared.ids.Worker.{Worker}
 use Rattle.sj_core.specs.declared.progress.Progress.{Progress}
 use Rattle.sj_core.specs.declared.progress.Progress.TheVariants.{Claimed, Running}
 use Rattle.sj_core.specs.declared.progress.Transfer.{Transfer}
-use Rattle.sj_core.specs.Machine.{WorkerState, is_running_on, progress, transfer, worker_state}
+use Rattle.sj_core.specs.Machine.{is_running_on, progress, transfer, worker_state}
 use Rattle.sj_machine.specs.Agrees.{idle}
-use Rattle.sj_machine.specs.Board.{BoardState, HasTask, IsBusy, IsFree, IsIdle, IsWorking, RunsNone, empty_hand, hand_of, transfer_of}
+use Rattle.sj_machine.specs.Board.{BoardState, HasTask, IsBusy, IsFree, IsWorking, RunsNone, empty_hand, hand_of, transfer_of}
 use Rattle.sj_machine.specs.Standing.{state}
 use Rattle.sj_machine.specs.declared.hand.Hand.{Hand}
-use Rattle.sj_engine.specs.Stage.{HasClaimedRow, IsFreeRow, MovesRow, RunsRow, busy_hand, row_in}
+use Rattle.sj_engine.specs.Stage.{HasClaimedRow, MovesRow, RunsRow, busy_hand, row_in}
 
 pub some-same : {X : Type 0} (x y : X) → ◌≡◌ {A = Option X} (Some x) (Some y) → x ≡ y
 some-same x y e = cc

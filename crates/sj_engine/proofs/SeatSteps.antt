@@ -1,12 +1,11 @@
 -- A worker's seat from one of its turns to the next.
-use Rattle.std.proofs.Common.{◌≡◌, List, sym, ap, ◌∙◌, subst, Option, None, Some}
+use Rattle.std.proofs.Common.{◌≡◌, sym, subst, Option, None, Some}
 use Rattle.std.specs.Prelude.{IsSomeAnd}
 use Rattle.sj_base.specs.declared.ids.Worker.{Worker}
-use Rattle.sj_base.specs.declared.trace.Event.{Event}
 use Rattle.sj_desk.specs.Seats.{DeskFacts, SeatFacts, rested}
 use Rattle.sj_machine.specs.Board.{BoardState}
 use Rattle.sj_machine.specs.BoardRow.{BoardRow}
-use Rattle.sj_engine.specs.Stage.{BeginsWith, GoesOn, HasBegun, IsAt, row_in}
+use Rattle.sj_engine.specs.Stage.{GoesOn, HasBegun, IsAt, row_in}
 
 module _ {D : Type 0} (w : Worker) where
   pub goes-same : (s t : SeatFacts (BoardState D)) → t ≡ s → GoesOn w s t

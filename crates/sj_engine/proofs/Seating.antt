@@ -1,7 +1,7 @@
 -- The seats of a run: as they are dealt, and what a board tells when all of them have stopped.
-use Rattle.std.proofs.Common.{◌≡◌, ℕ, ◌+◌, ◌<◌, ◌∙◌, Option, Some, None, List, true, ap, arith, get_or, inl, inr, length, map, refl, replicate, subst, sym}
-use Rattle.std.specs.Prelude.{All, Contains, IsSomeAnd}
-use Rattle.std.specs.List.{range_with_len, slice_index_or}
+use Rattle.std.proofs.Common.{◌≡◌, ℕ, ◌+◌, ◌<◌, ◌∙◌, Option, Some, None, List, true, ap, arith, inl, inr, length, refl, subst, sym}
+use Rattle.std.specs.Prelude.{All, IsSomeAnd}
+use Rattle.std.specs.List.{slice_index_or}
 use Rattle.std.proofs.lemmas.Bool.{cases_lt}
 use Rattle.std.proofs.lemmas.List.{get_or-replicate, get_or_past, length-replicate}
 use Rattle.std.proofs.lemmas.List.Elements.{All-from_get_or, Contains-get_or}

@@ -1,5 +1,5 @@
 -- What a step for a claimed task needs of the board.
-use Rattle.std.proofs.Common.{◌≡◌, ℕ, ◌+◌, ◌<◌, ◌≤◌, List, [], length, refl, sym, ap, ◌∙◌, subst, Option, Some, arith}
+use Rattle.std.proofs.Common.{◌≡◌, ℕ, ◌+◌, ◌≤◌, List, [], length, ap, ◌∙◌, subst, Option, arith}
 use Rattle.std.specs.Prelude.{IfSome, filter}
 use Rattle.std.proofs.lemmas.List.Sums.{count_by-le-length, length-filter}
 use Rattle.sj_base.specs.declared.ids.Task.{Task}
@@ -11,7 +11,7 @@ use Rattle.sj_base.specs.declared.trace.Event.TheVariants.{Run}
 use Rattle.sj_base.specs.Mode.{reads_value}
 use Rattle.sj_codelet.specs.Frame.{Frame, frame}
 use Rattle.sj_core.specs.Program.{task_of}
-use Rattle.sj_machine.specs.Board.{BoardState, RunsNone, hand_of, transfer_of}
+use Rattle.sj_machine.specs.Board.{BoardState, hand_of}
 use Rattle.sj_machine.specs.Standing.{CanHappen}
 use Rattle.sj_machine.specs.declared.hand.Hand.{Hand}
 use Rattle.sj_engine.specs.Operands.{HasRoomForOperands}

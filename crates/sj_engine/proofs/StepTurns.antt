@@ -1,22 +1,17 @@
 -- The beginning of a transfer and of a kernel as turns of a worker.
-use Rattle.std.proofs.Common.{◌≡◌, ℕ, ◌<◌, Bool, true, false, List, [], ◌∷◌, map, length, refl, sym, ap, ◌∙◌, subst, Option, None, Some, arith, zero, suc}
-use Rattle.std.specs.Prelude.{IfSome, IsSomeAnd, IsTrue, filter, is_some, option_map, unwrap_or, if◌then◌else◌}
-use Rattle.std.specs.List.{AllZip, Contains}
+use Rattle.std.proofs.Common.{◌≡◌, ℕ, ◌<◌, true, false, List, length, refl, sym, ap, ◌∙◌, subst, Option, None, Some}
+use Rattle.std.specs.Prelude.{IsSomeAnd, option_map}
 use Rattle.std.proofs.lemmas.Bool.{false≢true}
 use Rattle.sj_base.specs.declared.ids.Cell.{Cell}
-use Rattle.sj_base.specs.declared.ids.DiskNo.{DiskNo}
-use Rattle.sj_base.specs.declared.ids.Node.{Node}
 use Rattle.sj_base.specs.declared.ids.Place.{Place}
 use Rattle.sj_base.specs.declared.ids.Place.TheVariants.{Node as AtNode, Disk as OnDisk}
 use Rattle.sj_base.specs.declared.ids.Task.{Task}
 use Rattle.sj_base.specs.declared.ids.Worker.{Worker}
-use Rattle.sj_base.specs.declared.trace.Event.TheVariants.{Move, Run}
+use Rattle.sj_base.specs.declared.trace.Event.TheVariants.{Move}
 use Rattle.sj_base.specs.Array.{Array}
-use Rattle.sj_core.specs.declared.progress.Progress.{Progress}
 use Rattle.sj_core.specs.declared.progress.Progress.TheVariants.{Claimed}
 use Rattle.sj_core.specs.declared.progress.Transfer.{Transfer}
-use Rattle.sj_core.specs.Machine.{State, WorkerState, is_coming_by, is_entry, progress, replica, transfer, with_transfer, worker_state}
-use Rattle.sj_core.specs.Needs.{node_of}
+use Rattle.sj_core.specs.Machine.{State, WorkerState, is_entry, progress, replica, transfer, with_transfer}
 use Rattle.sj_core.specs.Program.{dims_of}
 use Rattle.sj_core.specs.Step.{Step, a_transfer, after, array_at, mover_of}
 use Rattle.sj_core.proofs.Reading.{entry-inside, worker-same}
@@ -27,7 +22,7 @@ use Rattle.sj_machine.specs.BoardSound.{IsSoundBoard}
 use Rattle.sj_machine.specs.Sparing.{Spares}
 use Rattle.sj_machine.specs.Standing.{AllTell, CanHappen, IsShareOf, IsTileOf, is_node, state}
 use Rattle.sj_engine.specs.Stage.{HasClaimedRow, IsCarried, MovesRow, row_in}
-use Rattle.sj_engine.specs.Stepping.{IsFetch, IsShareCarried}
+use Rattle.sj_engine.specs.Stepping.{IsShareCarried}
 use Rattle.sj_engine.specs.Turn.{IsTurnOf}
 use Rattle.sj_engine.proofs.BoardTurns.{has_event-turn, state-after}
 use Rattle.sj_engine.proofs.OwnRows.{moves-row, phase-of, row-transfer}

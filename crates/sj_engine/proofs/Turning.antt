@@ -1,10 +1,9 @@
 -- A worker's turn on the board leaves the rows of all others, in one step or in several.
-use Rattle.std.proofs.Common.{◌≡◌, ◌≢◌, ℕ, zero, suc, ◌<◌, Bool, true, false, cond, List, [], ◌∷◌, ◌++◌, map, length, refl, sym, ap, ◌∙◌, subst, Option, None, Some, arith, inl, inr}
-use Rattle.std.specs.Prelude.{IfSome, IsTrue, filter, is_some, nat_eq, option_map, slice_index_or, slice_set, unwrap_or, if◌then◌else◌}
+use Rattle.std.proofs.Common.{◌≡◌, ◌≢◌, ℕ, suc, Bool, true, false, cond, List, [], ◌∷◌, ◌++◌, map, refl, sym, ap, ◌∙◌, subst, Option, None, Some, arith}
+use Rattle.std.specs.Prelude.{filter, is_some, nat_eq, option_map, slice_set, unwrap_or, if◌then◌else◌}
 use Rattle.std.specs.List.{Contains}
-use Rattle.std.proofs.lemmas.Bool.{cases_Bool, cases_lt, false≢true}
 use Rattle.std.proofs.lemmas.Bool.Decides.{Decides-eqb}
-use Rattle.std.proofs.lemmas.List.{append-nil, append_assoc, get_or-set_other, get_or-set_same}
+use Rattle.std.proofs.lemmas.List.{append-nil, append_assoc, get_or-set_other}
 use Rattle.std.proofs.lemmas.List.Elements.{filter-append}
 use Rattle.std.proofs.lemmas.List.Folds.{list_any_at}
 use Rattle.sj_base.specs.declared.ids.Cell.{Cell}
@@ -19,21 +18,21 @@ use Rattle.sj_base.specs.Array.{Array, zeros}
 use Rattle.sj_core.specs.declared.progress.Progress.{Progress}
 use Rattle.sj_core.specs.declared.progress.Transfer.{Transfer}
 use Rattle.sj_core.specs.Laws.{IsSound}
-use Rattle.sj_core.specs.Machine.{State, WorkerState, array_of, is_running_on, is_task_of, progress, replica, transfer, worker_state, writes}
+use Rattle.sj_core.specs.Machine.{State, WorkerState, is_running_on, is_task_of, progress, transfer, worker_state, writes}
 use Rattle.sj_core.specs.Needs.{node_of}
 use Rattle.sj_core.specs.Operands.{cells_of}
 use Rattle.sj_core.specs.Program.{dims_of, has_cell, same_cell}
-use Rattle.sj_core.specs.Step.{Step, after, array_at, mover_of}
+use Rattle.sj_core.specs.Step.{Step, array_at}
 use Rattle.sj_core.proofs.States.{state_of-more}
 use Rattle.sj_disk.specs.Holding.{CountsStay}
 use Rattle.sj_machine.specs.Agrees.{idle}
-use Rattle.sj_machine.specs.Board.{BoardState, empty_hand, hand_in, hand_of, has_event, transfer_of, with_hand}
-use Rattle.sj_machine.specs.BoardRow.{BoardKey, BoardRow, arrays_for, is_event_of, key_of, row_for, row_of_number}
+use Rattle.sj_machine.specs.Board.{BoardState, empty_hand, hand_in, hand_of}
+use Rattle.sj_machine.specs.BoardRow.{BoardKey, BoardRow, is_event_of, key_of, row_of_number}
 use Rattle.sj_machine.specs.BoardSound.{IsSoundBoard}
 use Rattle.sj_machine.specs.Sparing.{SparesUsed, Spares}
 use Rattle.sj_machine.specs.Standing.{CanHappen, Standing, state, with_event}
 use Rattle.sj_machine.specs.declared.hand.Hand.{Hand}
-use Rattle.sj_engine.specs.Stage.{BeginsWith, KeepsEvents, row_in}
+use Rattle.sj_engine.specs.Stage.{BeginsWith, row_in}
 use Rattle.sj_engine.specs.Turn.{IsSharedSound, IsTurnOf}
 use Rattle.sj_engine.proofs.OtherRows.{IsBy, StaysFor, Step-stays}
 

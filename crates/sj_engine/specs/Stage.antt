@@ -1,5 +1,5 @@
 -- How far a worker is, as its row tells: what it has between two of its turns.
-use Rattle.std.specs.Prelude.{◌≡◌, ◌≢◌, ◌<◌, ℕ, false, true, Option, Some, None, List, IfSome, IsSomeAnd, length, map, ◌++◌}
+use Rattle.std.specs.Prelude.{◌≡◌, ◌<◌, ℕ, false, true, Option, Some, None, List, IsSomeAnd, length, map, ◌++◌}
 use Rattle.std.specs.List.{AllZip}
 use Rattle.sj_base.specs.declared.ids.Cell.{Cell}
 use Rattle.sj_base.specs.declared.ids.Task.{Task}
@@ -14,7 +14,7 @@ use Rattle.sj_core.specs.Operands.{cells_of, results}
 use Rattle.sj_core.specs.Program.{dims_of, task_of, written_operands}
 use Rattle.sj_desk.specs.Seats.{DeskFacts, IsWaiting, SeatFacts}
 use Rattle.sj_machine.specs.Board.{BoardState, empty_hand}
-use Rattle.sj_machine.specs.BoardRow.{BoardKey, BoardRow, key_of, row_of_number}
+use Rattle.sj_machine.specs.BoardRow.{BoardKey, BoardRow, row_of_number}
 use Rattle.sj_machine.specs.declared.hand.Hand.{Hand}
 use Rattle.sj_engine.specs.Operands.{AreSharesOf, HasRoomForOperands, IsShare, held_for, read_operands}
 use Rattle.sj_engine.specs.Outcome.{AllTell}

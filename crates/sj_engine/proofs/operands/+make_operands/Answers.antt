@@ -1,4 +1,4 @@
-use Rattle.std.proofs.Common.{◌≡◌, ◌<◌, ◌++◌, ◌∷◌, [], ◌+◌, ap, ◌∙◌, length, arith, rules}
+use Rattle.std.proofs.Common.{◌≡◌, ◌++◌, ◌∷◌, [], ◌+◌, ap, ◌∙◌, length, arith, rules}
 use Rattle.std.proofs.lemmas.List.{length_push}
 use Rattle.sj_codelet.specs.Slot.{slot_of}
 use Rattle.sj_engine.specs.Operands.{IsSmall}

@@ -1,6 +1,5 @@
-use Rattle.std.proofs.Common.{◌∙◌, sym, subst, Option}
+use Rattle.std.proofs.Common.{◌∙◌, sym, subst}
 use Rattle.std.specs.Prelude.{IsSomeAnd}
-use Rattle.sj_machine.specs.Board.{BoardState}
 use Rattle.sj_engine.specs.Turn.{MayLeave}
 use Rattle.sj_engine.proofs.DeskTurns.{heard-found, heard-number, other-rows}
 use Rattle.sj_engine.proofs.turns.end_turn_to_rest.Goals as goal

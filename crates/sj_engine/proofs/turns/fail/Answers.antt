@@ -1,4 +1,3 @@
-use Rattle.std.proofs.Common.{sym, subst}
 use Rattle.std.proofs.Common.{◌≡◌, false, None}
 use Rattle.sj_engine.specs.Stage.{IsFreeRow}
 use Rattle.sj_engine.proofs.DeskTurns.{goes-on, left-at, may-leave, row-found, turn-desk, turn-number, worker-found}

@@ -1,4 +1,4 @@
-use Rattle.std.proofs.Common.{◌≡◌, ◌∙◌, ap, refl, sym, subst}
+use Rattle.std.proofs.Common.{◌≡◌, ◌∙◌, ap, sym, subst}
 use Rattle.std.proofs.Common.{◌<◌, length}
 use Rattle.sj_base.specs.declared.program.Program.{Program}
 use Rattle.sj_machine.specs.Board.{BoardState}

@@ -1,4 +1,4 @@
-use Rattle.std.proofs.Common.{◌∙◌, ap, refl, sym, subst}
+use Rattle.std.proofs.Common.{◌∙◌}
 use Rattle.sj_machine.specs.Tiles.{array_in}
 use Rattle.sj_engine.proofs.StepTurns.{move-row, move-share, move-turn}
 use Rattle.sj_engine.proofs.shared_board.SharedBoard.begin_move.Goals as goal

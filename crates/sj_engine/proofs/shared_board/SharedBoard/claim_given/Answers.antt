@@ -1,4 +1,4 @@
-use Rattle.std.proofs.Common.{◌∙◌, ap, refl, sym, subst}
+use Rattle.std.proofs.Common.{◌∙◌, subst}
 use Rattle.sj_machine.specs.Board.{BoardState}
 use Rattle.sj_engine.specs.Turn.{IsTurnOf}
 use Rattle.sj_engine.proofs.ClaimTurns.{claimed-now, claimed-turn, given-idle, was-given}

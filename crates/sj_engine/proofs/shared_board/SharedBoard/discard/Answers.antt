@@ -1,7 +1,6 @@
 use Rattle.std.proofs.Common.{◌∙◌, refl}
 use Rattle.sj_base.specs.declared.trace.Event.TheVariants.{Drop}
 use Rattle.sj_core.specs.Needs.{node_of}
-use Rattle.sj_machine.specs.Board.{BoardState}
 use Rattle.sj_engine.proofs.BoardTurns.{dropped-row, has_event-turn}
 use Rattle.sj_engine.proofs.shared_board.SharedBoard.discard.Goals as goal
 

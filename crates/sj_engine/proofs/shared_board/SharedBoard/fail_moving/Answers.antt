@@ -1,4 +1,4 @@
-use Rattle.std.proofs.Common.{◌∙◌, ap, refl, sym, subst}
+use Rattle.std.proofs.Common.{◌∙◌, ap}
 use Rattle.sj_machine.specs.declared.hand.Hand.{Hand}
 use Rattle.sj_engine.proofs.BoardTurns.{failed-after, failed-row}
 use Rattle.sj_engine.proofs.shared_board.SharedBoard.fail_moving.Goals as goal

@@ -1,4 +1,4 @@
-use Rattle.std.proofs.Common.{◌∙◌, ap, refl, sym, subst}
+use Rattle.std.proofs.Common.{◌∙◌}
 use Rattle.sj_machine.specs.declared.fault.RunFault.TheVariants.{OutOfMemory}
 use Rattle.sj_engine.proofs.BoardTurns.{failed-row, failed-turn}
 use Rattle.sj_engine.proofs.shared_board.SharedBoard.fail_without_memory.Goals as goal

@@ -1,6 +1,5 @@
-use Rattle.std.proofs.Common.{◌∙◌, ap, refl, sym, subst}
-use Rattle.std.proofs.Common.{Option, None, Some}
-use Rattle.std.specs.Prelude.{IfNone, IfSome}
+use Rattle.std.proofs.Common.{◌∙◌, sym, subst}
+use Rattle.std.proofs.Common.{None, Some}
 use Rattle.sj_machine.specs.Board.{IsFree}
 use Rattle.sj_engine.proofs.Answering.{if-none, if-some}
 use Rattle.sj_engine.proofs.ClaimTurns.{next-fault, next-hand, next-turn}

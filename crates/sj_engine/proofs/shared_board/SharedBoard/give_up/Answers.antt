@@ -1,5 +1,5 @@
-use Rattle.std.proofs.Common.{◌∙◌, ap, refl, sym, subst}
-use Rattle.sj_machine.specs.Board.{BoardState, RunsNone}
+use Rattle.std.proofs.Common.{◌∙◌, sym, subst}
+use Rattle.sj_machine.specs.Board.{RunsNone}
 use Rattle.sj_engine.proofs.BoardTurns.{stopped-row, stopped-turn}
 use Rattle.sj_engine.proofs.OwnRows.{runs-none}
 use Rattle.sj_engine.proofs.shared_board.SharedBoard.give_up.Goals as goal

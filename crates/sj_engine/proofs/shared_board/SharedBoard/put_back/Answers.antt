@@ -1,4 +1,4 @@
-use Rattle.std.proofs.Common.{◌∙◌, ap, refl, sym, subst}
+use Rattle.std.proofs.Common.{◌∙◌}
 use Rattle.sj_engine.proofs.ClaimTurns.{back-fault, back-row, back-turn, was-given}
 use Rattle.sj_engine.proofs.shared_board.SharedBoard.put_back.Goals as goal
 

@@ -1,8 +1,7 @@
-use Rattle.std.proofs.Common.{◌∙◌, sym, subst}
-use Rattle.sj_machine.specs.Board.{BoardState, OnlyDisksChangeOn}
-use Rattle.sj_engine.specs.Stage.{MovesRow, row_in}
+use Rattle.std.proofs.Common.{◌∙◌}
+use Rattle.sj_engine.specs.Stage.{MovesRow}
 use Rattle.sj_engine.proofs.BoardTurns.{moved-row, moved-turn, moving-in}
-use Rattle.sj_engine.proofs.MoveTurns.{disks-turn, kept-row, kept-worker, only-disks}
+use Rattle.sj_engine.proofs.MoveTurns.{disks-turn, kept-row, only-disks}
 use Rattle.sj_engine.proofs.Turning.{turn-then}
 use Rattle.sj_engine.proofs.shared_board.SharedBoard.read_in.Goals as goal
 

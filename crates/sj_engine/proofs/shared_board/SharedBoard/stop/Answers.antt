@@ -1,4 +1,4 @@
-use Rattle.std.proofs.Common.{◌∙◌, ap, refl, sym, subst}
+use Rattle.std.proofs.Common.{◌∙◌}
 use Rattle.sj_engine.proofs.BoardTurns.{stopped-row, stopped-turn}
 use Rattle.sj_engine.proofs.shared_board.SharedBoard.stop.Goals as goal
 

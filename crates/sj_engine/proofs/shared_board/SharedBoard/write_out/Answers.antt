@@ -1,5 +1,4 @@
-use Rattle.std.proofs.Common.{◌∙◌, ap, refl, sym, subst}
-use Rattle.sj_machine.specs.Board.{BoardState}
+use Rattle.std.proofs.Common.{◌∙◌, sym, subst}
 use Rattle.sj_machine.specs.Sound.{IsWrittenOut}
 use Rattle.sj_engine.specs.Stage.{MovesRow}
 use Rattle.sj_engine.proofs.BoardTurns.{moved-row, moved-turn, moving-out, tile-moved}
