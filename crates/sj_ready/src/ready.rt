@@ -104,7 +104,12 @@ fn shareable(alloc: Global, program: Program) -> Result<Arc<Program>, OutOfMemor
 }
 
 /// A job lowered for the workers of a machine. The cost of lowering.
-fn lowered_for(alloc: Global, job: Job, machine: Machine, shows_trace: bool) -> Result<Ready, Unready>
+fn lowered_for(
+    alloc: Global,
+    job: Job,
+    machine: Machine,
+    shows_trace: bool,
+) -> Result<Ready, Unready>
     requires job { IsJob (statements_of job) }
     requires numbered { IsNumbered job.roots job.statements }
     ensures within { IfOk result (λ _. late_limit machine.workers (statements_of job) ≡ None) }

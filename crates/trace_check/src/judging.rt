@@ -60,8 +60,8 @@ fn judged_on(
         TraceIsWhole (work_of library_has options.now disks.items job.items) trace.now }
     ensures cause { IfErr result
         (HasCause (work_of library_has options.now disks.items job.items) trace.now) }
-    ensures complete {
-        TraceIsWhole (work_of library_has options.now disks.items job.items) trace.now →
+    ensures complete { TraceIsWhole
+        (work_of library_has options.now disks.items job.items) trace.now →
         IsOkUnless result JudgeRefusal.OutOfMemory }
 {
     let ready = prepare(alloc, job, options, disks, &Library)?;
