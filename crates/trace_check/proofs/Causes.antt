@@ -1,5 +1,5 @@
 -- From what refuses a job or a trace to its cause.
-use Rattle.std.proofs.Common.{◌<◌, ◌^◌, ℕ, Bool, List, length, subst}
+use Rattle.std.proofs.Common.{◌≡◌, ◌<◌, ◌^◌, ℕ, Bool, List, [], ◌∷◌, Result, Err, IfErr, length, subst}
 use Rattle.sj_base.specs.declared.program.Machine.{Machine}
 use Rattle.sj_base.specs.declared.program.Program.{Program}
 use Rattle.sj_base.specs.declared.trace.Event.{Event}
@@ -9,16 +9,19 @@ use Rattle.sj_check.specs.declared.check.CheckRefusal.TheVariants as checking
 use Rattle.sj_codelet.specs.declared.kernel.Kernel.{Kernel}
 use Rattle.sj_core.specs.Proper.{HasSwapFor}
 use Rattle.sj_machine.specs.Sound.{IsRunOf}
+use Rattle.sj_minplus.specs.Has.{library_has}
 use Rattle.sj_needs.specs.Shortage.{FitRoom}
 use Rattle.sj_ready.specs.Ready.{IsReady, IsUnready}
-use Rattle.sj_ready.specs.Work.{WorkOrRefusal, Work, program_of}
+use Rattle.sj_ready.specs.Work.{WorkOrRefusal, Work, program_of, work_of}
 use Rattle.sj_ready.specs.declared.ready.Ready.{Ready}
 use Rattle.sj_ready.specs.declared.unready.Unready.{Unready}
 use Rattle.sj_ready.specs.declared.unready.Unready.TheVariants as preparing
 use Rattle.sj_trace.specs.Reading.{IsRefusal as IsUnread}
 use Rattle.sj_trace.specs.declared.read.TraceRefusal.{TraceRefusal}
 use Rattle.sj_trace.specs.declared.read.TraceRefusal.TheVariants as reading
-use Rattle.trace_check.specs.Judged.{AreEventsFor, CanBeRun, HasCause}
+use Rattle.sj_words.specs.declared.options.Options.{Options}
+use Rattle.trace_check.specs.Judged.{AreEventsFor, CanBeRun, HasCause, asked_of}
+use Rattle.trace_check.specs.declared.refusal.JudgeRefusal.{JudgeRefusal}
 use Rattle.trace_check.specs.Refusal.{after_checking, after_preparing, after_reading}
 
 module _ (has : Kernel → Bool) (asked : WorkOrRefusal) (r : Ready) (ready : IsReady has asked r) where
@@ -47,3 +50,9 @@ module _ (asked : WorkOrRefusal) (text : List ℕ) where
   checking-cause w events (checking.BadEvent index) read h = record { work = w; events = events; read = read; first = h }
   checking-cause w events checking.Unfinished read h = record { work = w; events = events; read = read; unfinished = h }
   checking-cause w events checking.OutOfMemory read h = tt
+
+-- the reason that is answered has its cause, also where the disk is written as itself
+pub cause-of : (o : Options) (swap : ℕ) (disks job text : List ℕ) (r : Result (Unit {0}) JudgeRefusal) (why : JudgeRefusal) → disks ≡ swap ∷ [] → IfErr r (HasCause (work_of library_has o disks job) text) → r ≡ Err why → HasCause (asked_of o swap job) text why
+cause-of o swap disks job text r why same h e =
+    subst (λ (ds : List ℕ). HasCause (work_of library_has o ds job) text why) same
+    (subst (λ (x : Result (Unit {0}) JudgeRefusal). IfErr x (HasCause (work_of library_has o disks job) text)) e h)
