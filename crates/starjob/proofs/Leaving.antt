@@ -22,7 +22,8 @@ use Rattle.starjob.specs.Answers.{IsBehindTheRun, IsDamage, IsStopped, LeavesDis
 use Rattle.starjob.specs.Device.{Device}
 use Rattle.starjob.specs.Disks.{RoseAt}
 use Rattle.starjob.specs.Stops.{after_running}
-use Rattle.starjob.specs.Work.{OfWork, WorkOrRefusal, program_of}
+use Rattle.sj_ready.specs.Work.{WorkOrRefusal, program_of}
+use Rattle.starjob.specs.Work.{OfWork}
 
 the : (X : Type 0) → X → X
 the X x = x

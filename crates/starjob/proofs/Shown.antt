@@ -15,16 +15,19 @@ use Rattle.sj_machine.specs.Delivered.{DeliversEach}
 use Rattle.sj_machine.specs.declared.fault.RunFault.{RunFault}
 use Rattle.sj_machine.specs.declared.fault.RunFault.TheVariants as running
 use Rattle.sj_trace.specs.Text.{text_of as text_of_trace}
-use Rattle.starjob.specs.declared.ready.Ready.{Ready}
+use Rattle.sj_ready.specs.declared.ready.Ready.{Ready}
 use Rattle.starjob.specs.declared.stop.Stop.{Stop}
 use Rattle.starjob.specs.declared.stop.Stop.TheVariants.{Refused, TooLarge, SwapTooSmall, DiskFault, Damaged, OutOfMemory}
-use Rattle.starjob.specs.Answers.{IsReady, IsStopped, IsTextOf, StopsWith}
+use Rattle.sj_ready.specs.Ready.{IsReady, IsUnready}
+use Rattle.sj_ready.specs.declared.unready.Unready.{Unready}
+use Rattle.sj_ready.specs.declared.unready.Unready.TheVariants as preparing
+use Rattle.starjob.specs.Answers.{IsStopped, IsTextOf, StopsWith}
 use Rattle.starjob.specs.Gathering.{ShowsRun, prints_of, shown}
 use Rattle.starjob.specs.Output.{output}
-use Rattle.starjob.specs.Stops.{after_running}
+use Rattle.starjob.specs.Stops.{after_preparing, after_running}
 use Rattle.starjob.specs.Top.{PrintsNothing, text_of}
 use Rattle.starjob.specs.Traces.{Began, BeganWork, RanWhole}
-use Rattle.starjob.specs.Work.{Work, WorkOrRefusal, program_of}
+use Rattle.sj_ready.specs.Work.{Work, WorkOrRefusal, program_of}
 use Rattle.starjob.proofs.Handing.{same-shown}
 use Rattle.starjob.proofs.Showing.{all-shown, count-prints}
 use Rattle.starjob.proofs.Tracing.{began_empty}
@@ -88,3 +91,10 @@ stops-unrun asked (SwapTooSmall needed have) trace h e = (h, e)
 stops-unrun asked (DiskFault disk) trace h e = absurd h
 stops-unrun asked (Damaged disk want found) trace h e = absurd h
 stops-unrun asked OutOfMemory trace h e = began_empty asked trace e
+
+-- nothing was made ready
+pub stops-unready : (asked : WorkOrRefusal) (unready : Unready) → IsUnready asked unready → IsStopped asked (after_preparing unready)
+stops-unready asked (preparing.Refused line reason) h = h
+stops-unready asked (preparing.TooLarge line bytes) h = h
+stops-unready asked (preparing.SwapTooSmall needed have) h = h
+stops-unready asked preparing.OutOfMemory h = h

@@ -29,7 +29,9 @@ use Rattle.starjob.specs.Disks.{NoneRose}
 use Rattle.starjob.specs.Streams.{IsRead, TakesPrefix}
 use Rattle.starjob.specs.Top.{CanBeRun, IsDoneOrOutOfMemory, MemoryRanOut, PrintsNothing, RunBrokeOff, text_of}
 use Rattle.starjob.specs.Traces.{Began, BeganWork, RanWhole}
-use Rattle.starjob.specs.Work.{OfWork, TellsWork, Work, WorkOrRefusal, asked_by, program_of, work_of, work_told}
+use Rattle.sj_ready.proofs.Fitting.{none-some-placed, too-large-fits}
+use Rattle.sj_ready.specs.Work.{Work, WorkOrRefusal, asked_by, program_of, work_of}
+use Rattle.starjob.specs.Work.{OfWork, TellsWork, work_told}
 use Rattle.starjob.proofs.ReadingWhole.{short}
 use Rattle.starjob.proofs.Tracing.{began_empty}
 
@@ -157,25 +159,6 @@ silent-text (Ok w) Tells trace text is nothing = is.silent nothing
 silent-text (Err e) Tells trace text is nothing = absurd is
 
 -- ---- completeness
-
-found-passes : {X : Type 0} (test : X → Bool) (xs : List X) (x : X) → find test xs ≡ Some x → (test x ≡ true) × Contains xs x
-found-passes test [] x e = absurd (let bad : None ≡ Some x = e in the ⊥ cc)
-found-passes test (y ∷ ys) x e = by_test (test y) refl e (found-passes test ys x)
-  where
-    by_test : (b : Bool) → test y ≡ b → cond b (Some y) (find test ys) ≡ Some x → (find test ys ≡ Some x → (test x ≡ true) × Contains ys x) → (test x ≡ true) × Contains (y ∷ ys) x
-    by_test true t found later = let same : y ≡ x = same_Some y x found in (subst (λ z. test z ≡ true) same t, (0, omega arith, same))
-    by_test false t found later = let h = later found in (h.0, (suc h.1.0, omega (arith, h.1.1), h.1.2))
-
-too-large-fits : (p : Program) (m : Machine) (line : Line) (bytes : ℕ) → FitRoom p m → IsTooLarge p m line bytes → ⊥
-too-large-fits p m line bytes fits large =
-    let found = found-passes (is_too_large p m) (tasks_of p) large.task large.first in
-    let within = All-contains (λ t. footprint p t ≤ room m) (tasks_of p) large.task fits found.1 in
-    let above : room m < footprint p large.task = grind (arith, nat_tests, found.0) in
-    omega (arith, within, above)
-
-none-some-placed : {X : Type 0} (o : Option X) → o ≡ None → IsTrue (is_some o) → ⊥
-none-some-placed None e h = cc
-none-some-placed (Some x) e h = cc
 
 -- a job that can be run, on devices that don't fail, is done, unless memory runs out
 pub complete-by : {D : Type 0} (size faults mismatches : D → ℕ) (held : D → Option (List ℕ)) (asked : Option WorkOrRefusal) (Tells : Type 0) (status : Status) (source source' out out' : Device) (trace : List Event) (old new : List D) → Answered asked Tells status source source' out out' trace → LeavesDisks size faults mismatches held asked status trace old new → CanBeRun asked → (Rose source.faults source'.faults → ⊥) → (Rose out.faults out'.faults → ⊥) → NoneRose (map faults old) (map faults new) → NoneRose (map mismatches old) (map mismatches new) → IsDoneOrOutOfMemory status

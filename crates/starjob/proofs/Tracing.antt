@@ -6,7 +6,7 @@ use Rattle.sj_base.specs.declared.program.Program.{Program}
 use Rattle.sj_core.specs.Legal.{IsLegal}
 use Rattle.sj_core.specs.Machine.{opening}
 use Rattle.starjob.specs.Traces.{Began}
-use Rattle.starjob.specs.Work.{WorkOrRefusal, program_of}
+use Rattle.sj_ready.specs.Work.{WorkOrRefusal, program_of}
 
 -- the trace without events is legal
 pub nothing-legal : (p : Program) (m : Machine) (trace : List Event) → trace ≡ [] → IsLegal p m trace

@@ -1,19 +1,14 @@
--- What the parts of the call say to one another: of a job that is made ready, of its run, and of the answer to it.
+-- What the parts of the call say to one another: of a job that isn't run, of its run, and of the answer to it.
 use Rattle.std.specs.Prelude.{◌≡◌, ◌≢◌, ℕ, Bool, Option, Result, Ok, Err, IsOkAnd, List, [], Vec, map}
 use Rattle.std.specs.declared.alloc.Global.{Global}
 use Rattle.std.specs.Io.KnownBytes.{Appends}
 use Rattle.sj_base.specs.declared.ids.DiskNo.{DiskNo}
 use Rattle.sj_base.specs.declared.trace.Event.{Event}
-use Rattle.sj_codelet.specs.declared.kernel.Kernel.{Kernel}
-use Rattle.sj_core.specs.Laws.{IsLawful}
-use Rattle.sj_core.specs.Proper.{IsMachineFor, Proper}
 use Rattle.sj_disk.specs.declared.header.Header.{Header}
 use Rattle.sj_disk.specs.Holding.{CountsStay}
 use Rattle.sj_edge.specs.GivenBack.{AreGivenBack, AreUntouched}
 use Rattle.sj_engine.specs.Outcome.{AllTell, HoldBlocks}
-use Rattle.sj_lower.specs.Delivering.{DeliversPrinted, NamesDeliverTasks}
 use Rattle.sj_needs.specs.Shortage.{IsSwapTooSmall, IsTooLarge}
-use Rattle.starjob.specs.declared.ready.Ready.{Ready}
 use Rattle.starjob.specs.declared.status.Status.{Status}
 use Rattle.starjob.specs.declared.status.Status.TheVariants as status
 use Rattle.starjob.specs.declared.stop.Stop.{Stop}
@@ -23,22 +18,10 @@ use Rattle.starjob.specs.Disks.{RoseAt}
 use Rattle.starjob.specs.Streams.{TakesPrefix}
 use Rattle.starjob.specs.Top.{IsBeforeTheRun, JobIsDone, JobIsRefused, JobIsTooLarge, MemoryRanOut, PrintsNothing, RunBrokeOff, SinkHasFailed, SourceHasFailed, SwapIsTooSmall, text_of}
 use Rattle.starjob.specs.Traces.{Began, BeganWork, RanWhole}
-use Rattle.starjob.specs.Work.{OfWork, Work, WorkOrRefusal, program_of}
+use Rattle.sj_ready.specs.Work.{Work, WorkOrRefusal, program_of}
+use Rattle.starjob.specs.Work.{OfWork}
 
--- ---- made ready
-
--- the program is that of the work that is asked for, and can be run on its machine by the codelets of a set
-pub record IsReady (has : Kernel → Bool) (asked : WorkOrRefusal) (r : Ready) : Type 0 where
-  pub work : Work
-  pub asked_for : asked ≡ Ok work
-  pub program_is : r.program.value ≡ program_of work
-  pub machine_is : r.machine ≡ work.machine
-  pub trace_is : r.shows_trace ≡ work.shows_trace
-  pub proper : Proper r.program.value
-  pub lawful : IsLawful has r.program.value
-  pub machine_for : IsMachineFor r.program.value r.machine
-  pub prints : DeliversPrinted r.roots r.program.value work.statements
-  pub named : NamesDeliverTasks r.program.value
+-- ---- not run
 
 -- the reason for which nothing is run is that of the work that is asked for, or want of memory
 abbrev pub IsStopped : WorkOrRefusal → Stop → Type 0

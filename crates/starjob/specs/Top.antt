@@ -17,7 +17,8 @@ use Rattle.starjob.specs.Disks.{RoseAt}
 use Rattle.starjob.specs.Output.{output}
 use Rattle.starjob.specs.Streams.{IsRead, TakesPrefix}
 use Rattle.starjob.specs.Traces.{Began, BeganWork, RanWhole}
-use Rattle.starjob.specs.Work.{OfWork, TellsWork, Work, WorkOrRefusal, program_of}
+use Rattle.sj_ready.specs.Work.{Work, WorkOrRefusal, program_of}
+use Rattle.starjob.specs.Work.{OfWork, TellsWork}
 
 -- the text of what the statements print when they are run one after another on plain arrays, and that of the trace where it is
 -- asked for

@@ -1,18 +1,9 @@
 -- What the trace of a run says, by how the run ended.
-use Rattle.std.specs.Prelude.{◌≡◌, Bool, IsTrue, Ok, Err, List, []}
+use Rattle.std.specs.Prelude.{◌≡◌, Ok, Err, List, []}
 use Rattle.sj_base.specs.declared.trace.Event.{Event}
-use Rattle.sj_codelet.specs.declared.kernel.Kernel.{Kernel}
-use Rattle.sj_codelet.specs.declared.kernel.Kernel.TheVariants.{Load, LoadFill, Paste, Deliver}
 use Rattle.sj_core.specs.Legal.{IsFinished, IsLegal}
 use Rattle.sj_core.specs.Once.{EachRanOnce}
-use Rattle.starjob.specs.Work.{Work, WorkOrRefusal, program_of}
-
--- the set has the codelets to which registrations, plan lines and print statements are lowered
-pub record HasOwnCodelets (has : Kernel → Bool) : Type 0 where
-  pub load : IsTrue (has Load)
-  pub loadfill : IsTrue (has LoadFill)
-  pub paste : IsTrue (has Paste)
-  pub deliver : IsTrue (has Deliver)
+use Rattle.sj_ready.specs.Work.{Work, WorkOrRefusal, program_of}
 
 -- the events are a legal run of the work's program on its machine, from its start to its end, in which each task ran once
 pub record RanWhole (trace : List Event) (w : Work) : Type 0 where

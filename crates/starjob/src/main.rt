@@ -3,7 +3,6 @@
 
 mod gathering;
 mod output;
-mod ready;
 mod report;
 mod running;
 mod sink_text;

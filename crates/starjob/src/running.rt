@@ -5,14 +5,13 @@ ghost use Rattle.sj_core.specs.Proper.{HasSwapFor};
 ghost use Rattle.sj_edge.specs.Sizes.{AreWithin};
 ghost use Rattle.sj_trace.specs.Text.{text_of as text_of_trace};
 ghost use Rattle.sj_words.specs.Options.{IsWithinLimits as AreLimited};
-ghost use Rattle.starjob.specs.Answers.{IsReady, LeavesDisks, RunsWork, status_of};
+ghost use Rattle.starjob.specs.Answers.{LeavesDisks, RunsWork, status_of};
 ghost use Rattle.sj_engine.specs.Outcome.{AllTell};
 ghost use Rattle.starjob.specs.Gathering.{AreGrouped, HandedOver, ShowsRun};
-ghost use Rattle.starjob.specs.Traces.{HasOwnCodelets};
-ghost use Rattle.starjob.specs.Work.{WorkOrRefusal, work_of};
+ghost use Rattle.sj_ready.specs.Ready.{HasOwnCodelets, IsReady};
+ghost use Rattle.sj_ready.specs.Work.{WorkOrRefusal, work_of};
 
 use crate::gathering::text_of;
-use crate::ready::{Ready, prepare};
 use crate::stop::Stop;
 use sj_base::memory::OutOfMemory;
 use sj_base::program::Program;
@@ -24,6 +23,7 @@ use sj_edge::gate::Gate;
 use sj_engine::engine::{RunOutcome, run};
 use sj_job::roots::Roots;
 use sj_machine::delivered::Delivered;
+use sj_ready::ready::{Ready, prepare};
 use sj_trace::text::text as text_of_trace;
 use sj_words::Options;
 use std::alloc::Global;
@@ -172,6 +172,6 @@ pub fn run_text<C: Codelets, G: Gate, D: Disk + Send, R: Threads + Wait + Sync>(
     };
     match prepare(alloc, text, options, sizes, codelets) {
         Ok(ready) => run_ready(rt, alloc, ready, disks, codelets, gate),
-        Err(stop) => nothing_run(alloc, stop, disks),
+        Err(unready) => nothing_run(alloc, Stop::from(unready), disks),
     }
 }

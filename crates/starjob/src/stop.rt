@@ -5,12 +5,10 @@ ghost use Rattle.starjob.specs.Answers.{status_of_stop};
 
 use crate::status::Status;
 use sj_base::ids::{DiskNo, Line};
-use sj_base::memory::OutOfMemory;
 use sj_disk::header::Header;
-use sj_job::reason::{LimitKind, ReadRefusal, Reason};
-use sj_lower::lower::LowerRefusal;
+use sj_job::reason::Reason;
 use sj_machine::fault::RunFault;
-use sj_needs::shortage::Shortage;
+use sj_ready::unready::Unready;
 
 /// Why a job has no text to write: it can't be run, or its run broke off.
 #[derive(Clone, Copy, Debug, PartialEq, Eq)]
@@ -54,63 +52,18 @@ impl Stop {
     }
 }
 
-impl From<OutOfMemory> for Stop {
+impl From<Unready> for Stop {
     ghost use Rattle.std.specs.Prelude.{◌≡◌};
-    ghost use Rattle.starjob.specs.declared.stop.Stop.TheVariants.{OutOfMemory};
+    ghost use Rattle.starjob.specs.Stops.{after_preparing};
 
-    ghost from_gives = { λ _ stop. stop ≡ OutOfMemory };
+    ghost from_gives = { λ unready stop. stop ≡ after_preparing unready };
 
-    fn from(_: OutOfMemory) -> Self {
-        Stop::OutOfMemory
-    }
-}
-
-impl From<ReadRefusal> for Stop {
-    ghost use Rattle.std.specs.Prelude.{◌≡◌};
-    ghost use Rattle.starjob.specs.Stops.{after_reading};
-
-    ghost from_gives = { λ refusal stop. stop ≡ after_reading refusal };
-
-    fn from(refusal: ReadRefusal) -> Self {
-        match refusal {
-            ReadRefusal::Refused { line, reason } => Stop::Refused { line, reason },
-            ReadRefusal::OutOfMemory => Stop::OutOfMemory,
-        }
-    }
-}
-
-impl From<LowerRefusal> for Stop {
-    ghost use Rattle.std.specs.Prelude.{◌≡◌};
-    ghost use Rattle.starjob.specs.Stops.{after_lowering};
-
-    ghost from_gives = { λ refusal stop. stop ≡ after_lowering refusal };
-
-    fn from(refusal: LowerRefusal) -> Self {
-        match refusal {
-            LowerRefusal::TooManyCells { line } => Stop::Refused {
-                line,
-                reason: Reason::Limit(LimitKind::Cells),
-            },
-            LowerRefusal::TooManyTasks { line } => Stop::Refused {
-                line,
-                reason: Reason::Limit(LimitKind::Tasks),
-            },
-            LowerRefusal::OutOfMemory => Stop::OutOfMemory,
-        }
-    }
-}
-
-impl From<Shortage> for Stop {
-    ghost use Rattle.std.specs.Prelude.{◌≡◌};
-    ghost use Rattle.starjob.specs.Stops.{after_fitting};
-
-    ghost from_gives = { λ shortage stop. stop ≡ after_fitting shortage };
-
-    fn from(shortage: Shortage) -> Self {
-        match shortage {
-            Shortage::TooLarge { line, bytes } => Stop::TooLarge { line, bytes },
-            Shortage::SwapTooSmall { needed, have } => Stop::SwapTooSmall { needed, have },
-            Shortage::OutOfMemory => Stop::OutOfMemory,
+    fn from(unready: Unready) -> Self {
+        match unready {
+            Unready::Refused { line, reason } => Stop::Refused { line, reason },
+            Unready::TooLarge { line, bytes } => Stop::TooLarge { line, bytes },
+            Unready::SwapTooSmall { needed, have } => Stop::SwapTooSmall { needed, have },
+            Unready::OutOfMemory => Stop::OutOfMemory,
         }
     }
 }

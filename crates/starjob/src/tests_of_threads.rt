@@ -1,7 +1,7 @@
 //! Whole jobs seen from outside of their runs: what a gate and a disk notice, beside the events of the trace.
 
 ghost use Rattle.std.specs.Prelude.{◌≡◌, ◌≤◌, ◌^◌, Some, length};
-ghost use Rattle.starjob.specs.Traces.{HasOwnCodelets};
+ghost use Rattle.sj_ready.specs.Ready.{HasOwnCodelets};
 
 use crate::running::{Run, run_text};
 use crate::status::Status;

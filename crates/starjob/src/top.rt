@@ -17,9 +17,10 @@ ghost use Rattle.starjob.specs.Answers.{Answered, AnsweredText, LeavesDisks, Wri
 ghost use Rattle.starjob.specs.Device.{seen};
 ghost use Rattle.starjob.specs.Disks.{NoneRose};
 ghost use Rattle.starjob.specs.Report.{line_of, TakesLine};
-ghost use Rattle.starjob.specs.Traces.{HasOwnCodelets};
+ghost use Rattle.sj_ready.specs.Ready.{HasOwnCodelets};
 ghost use Rattle.starjob.specs.Top.{CanBeRun, DiskHasFailed, DiskIsDamaged, IsBeforeTheRun, IsBeforeWriting, IsDoneOrOutOfMemory, IsUsageOrOutOfMemory, JobIsDone, JobIsRefused, JobIsTooLarge, MemoryRanOut, PrintsNothing, SinkHasFailed, SourceHasFailed, SwapIsTooSmall};
-ghost use Rattle.starjob.specs.Work.{OfWork, TellsWork, asked_of, program_of, work_of};
+ghost use Rattle.sj_ready.specs.Work.{program_of, work_of};
+ghost use Rattle.starjob.specs.Work.{OfWork, TellsWork, asked_of};
 
 use crate::report::report;
 use crate::running::{Run, run_text};

@@ -5,9 +5,10 @@ use Rattle.sj_engine.specs.Outcome.{AllTell}
 use Rattle.starjob.specs.declared.stop.Stop.{Stop}
 use Rattle.starjob.specs.declared.stop.Stop.TheVariants.{OutOfMemory}
 use Rattle.starjob.specs.Answers.{IsStopped, LeavesDisks, RunsWork, status_of}
-use Rattle.starjob.specs.Work.{work_of}
+use Rattle.sj_ready.specs.Ready.{IsUnready}
+use Rattle.sj_ready.specs.Work.{work_of}
 use Rattle.starjob.proofs.Leaving.{leaves-nothing}
-use Rattle.starjob.proofs.Shown.{stops-unrun}
+use Rattle.starjob.proofs.Shown.{stops-unready, stops-unrun}
 use Rattle.starjob.proofs.Tracing.{began_empty}
 use Rattle.starjob.proofs.running.run_text.Goals as goal
 
@@ -41,15 +42,17 @@ returns-in-Err-clause-runs g c =
     let none = c.nothing_run-in-Err in
     let sizes = c.in-Ok.ensures ∙ ap (map g.D.Disk.size) c.deref.ensures.value in
     let asked = work_of g.C.Codelets.has c.args.options.now (map g.D.Disk.size c.args.disks.items) c.args.text.items in
-    let stopped : IsStopped asked c.in-Err.stop = subst (λ (ns : List ℕ). IsStopped (work_of g.C.Codelets.has c.args.options.now ns c.args.text.items) c.in-Err.stop) sizes c.in-Err.ensures.stopped in
+    let unready : IsUnready asked c.in-Err.unready = subst (λ (ns : List ℕ). IsUnready (work_of g.C.Codelets.has c.args.options.now ns c.args.text.items) c.in-Err.unready) sizes c.in-Err.ensures.unready in
+    let stopped : IsStopped asked c.from.result = subst (IsStopped asked) (sym c.from.ensures) (stops-unready asked c.in-Err.unready unready) in
     subst (λ (r : Result (Vec ℕ Global) Stop). RunsWork asked (AllTell g.D.Disk.held c.args.disks.items) r none.result.trace.events) (sym none.ensures.text)
-    (stops-unrun asked c.in-Err.stop none.result.trace.events stopped none.ensures.trace)
+    (stops-unrun asked c.from.result none.result.trace.events stopped none.ensures.trace)
 
 pub returns-in-Err-clause-disks : goal.returns-in-Err-clause-disks
 returns-in-Err-clause-disks g c =
     let none = c.nothing_run-in-Err in
     let sizes = c.in-Ok.ensures ∙ ap (map g.D.Disk.size) c.deref.ensures.value in
     let asked = work_of g.C.Codelets.has c.args.options.now (map g.D.Disk.size c.args.disks.items) c.args.text.items in
-    let stopped : IsStopped asked c.in-Err.stop = subst (λ (ns : List ℕ). IsStopped (work_of g.C.Codelets.has c.args.options.now ns c.args.text.items) c.in-Err.stop) sizes c.in-Err.ensures.stopped in
-    leaves-nothing g.D.Disk.size g.D.Disk.faults g.D.Disk.mismatches g.D.Disk.held asked (Some asked) c.in-Err.stop none.result.text none.result.trace.events c.args.disks.items none.result.disks.items
+    let unready : IsUnready asked c.in-Err.unready = subst (λ (ns : List ℕ). IsUnready (work_of g.C.Codelets.has c.args.options.now ns c.args.text.items) c.in-Err.unready) sizes c.in-Err.ensures.unready in
+    let stopped : IsStopped asked c.from.result = subst (IsStopped asked) (sym c.from.ensures) (stops-unready asked c.in-Err.unready unready) in
+    leaves-nothing g.D.Disk.size g.D.Disk.faults g.D.Disk.mismatches g.D.Disk.held asked (Some asked) c.from.result none.result.text none.result.trace.events c.args.disks.items none.result.disks.items
     none.ensures.text (ap (λ (v : Vec g.row.D.Denot Global). v.items) none.ensures.disks) stopped

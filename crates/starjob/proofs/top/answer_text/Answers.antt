@@ -4,7 +4,7 @@ use Rattle.starjob.specs.declared.status.Status.{Status}
 use Rattle.starjob.specs.declared.stop.Stop.{Stop}
 use Rattle.starjob.specs.Answers.{AnsweredText, IsTextOf, LeavesDisks, RunsWork, StopsWith, WritesText, status_of}
 use Rattle.starjob.specs.Device.{seen}
-use Rattle.starjob.specs.Work.{WorkOrRefusal, work_of}
+use Rattle.sj_ready.specs.Work.{WorkOrRefusal, work_of}
 use Rattle.starjob.proofs.Leaving.{leaves-written}
 use Rattle.starjob.proofs.Tops.{silent-text, stop-answered, text-answered}
 use Rattle.starjob.proofs.top.answer_text.Goals as goal

@@ -10,7 +10,8 @@ use Rattle.starjob.specs.declared.status.Status.{Status}
 use Rattle.starjob.specs.Answers.{Answered, LeavesDisks}
 use Rattle.starjob.specs.Device.{seen}
 use Rattle.starjob.specs.Top.{CanBeRun, IsDoneOrOutOfMemory, PrintsNothing}
-use Rattle.starjob.specs.Work.{TellsWork, work_of, work_told}
+use Rattle.sj_ready.specs.Work.{work_of}
+use Rattle.starjob.specs.Work.{TellsWork, work_told}
 use Rattle.starjob.proofs.Leaving.{leaves-no-memory, leaves-usage}
 use Rattle.starjob.proofs.Tops.{accepted, complete-by, not-usage, unread-memory}
 use Rattle.starjob.proofs.top.answer_words.Goals as goal

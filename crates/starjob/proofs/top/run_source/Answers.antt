@@ -7,7 +7,7 @@ use Rattle.starjob.specs.declared.status.Status.{Status}
 use Rattle.starjob.specs.Answers.{Answered}
 use Rattle.starjob.specs.Device.{seen}
 use Rattle.starjob.specs.Streams.{is_fault}
-use Rattle.starjob.specs.Work.{program_of, work_of}
+use Rattle.sj_ready.specs.Work.{program_of, work_of}
 use Rattle.starjob.proofs.Leaving.{leaves-as, leaves-no-memory, leaves-unsourced}
 use Rattle.starjob.proofs.Tops.{answered-by, silent-by, told-of, unread-memory}
 use Rattle.starjob.proofs.top.run_source.Goals as goal
