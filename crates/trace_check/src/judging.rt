@@ -1,44 +1,118 @@
 //! Whether a text is the trace of a run that another text asks for.
 
-ghost use Rattle.std.specs.Prelude.{◌≤◌, ◌^◌, IfOk};
+ghost use Rattle.std.specs.Prelude.{◌≡◌, ◌<◌, ◌≤◌, ◌^◌, ◌∷◌, ℕ, [], All, Err, IfErr, IfOk, IsOk, IsOkUnless, length};
+ghost use Rattle.sj_base.specs.declared.ids.Line.{Line};
+ghost use Rattle.sj_base.specs.declared.trace.Event.{Event};
+ghost use Rattle.sj_job.specs.declared.reason.Reason.{Reason};
 ghost use Rattle.sj_minplus.specs.Has.{library_has};
+ghost use Rattle.sj_ready.specs.Work.{Work, WorkOrRefusal, work_of};
 ghost use Rattle.sj_trace.specs.Reading.{IsTextOf};
 ghost use Rattle.sj_words.specs.Options.{IsWithinLimits};
-ghost use Rattle.trace_check.specs.Asked.{IsJudged};
+ghost use Rattle.trace_check.specs.Judged.{CanBeRun, DiskIsTooSmall, EventIsBad, HasCause, JobIsRefused, LineIsNoEvent, TaskIsTooLarge, TextIsTooLong, TraceIsCutShort, TraceIsWhole, asked_of};
 
-use crate::ready::{Unready, prepare};
+use crate::refusal::JudgeRefusal;
+use sj_base::memory::OutOfMemory;
 use sj_base::trace::Trace;
-use sj_check::check::{CheckRefusal, check};
+use sj_check::check::check;
 use sj_minplus::library::Library;
+use sj_ready::ready::prepare;
 use sj_trace::read::read_trace;
 use sj_words::Options;
 use std::alloc::Global;
 
+/// The sizes of one disk alone.
+fn one_disk(alloc: Global, swap: u64) -> Result<Vec<u64>, OutOfMemory>
+    ensures { IfOk result (λ disks. disks.items ≡ swap ∷ []) }
+{
+    Ok(vec![in alloc; swap]?)
+}
+
 /// The events whose lines a text has. Linear in it.
-fn events_of(alloc: Global, text: &[u8]) -> Result<Trace, Unready>
-    ensures { IfOk result (λ trace. IsTextOf text.now trace.events) }
+fn events_of(alloc: Global, text: &[u8]) -> Result<Trace, JudgeRefusal>
+    ensures short { IsOk result → length text.now < 2 ^ 32 }
+    ensures written { IfOk result (λ trace. IsTextOf text.now trace.events) }
+    ensures cause { IfErr result (λ why. (asked : WorkOrRefusal) → (w : Work) →
+        CanBeRun asked w → HasCause asked text.now why) }
+    ensures reads_back { (events : List Event) → IsTextOf text.now events →
+        IfOk result (λ trace. trace.events ≡ events) }
+    ensures refuses_no_trace { (events : List Event) → IsTextOf text.now events →
+        length text.now < 2 ^ 32 → IsOkUnless result JudgeRefusal.OutOfMemory }
 {
     if text.len() > u32::MAX as usize {
-        return Err(Unready::TooLong);
+        return Err(JudgeRefusal::TooLong);
     }
     let trace = read_trace(alloc, text)?;
     Ok(trace)
 }
 
+/// The same of disks of these sizes. The cost of reading both texts, of lowering, and of the check.
+fn judged_on(
+    alloc: Global,
+    options: &Options,
+    disks: Vec<u64>,
+    job: Vec<u8>,
+    trace: &[u8],
+) -> Result<(), JudgeRefusal>
+    requires options { IsWithinLimits options.now }
+    requires few { length disks.items ≤ 16 }
+    requires small { All (λ n. n ≤ 2 ^ 40) disks.items }
+    ensures whole { IsOk result →
+        TraceIsWhole (work_of library_has options.now disks.items job.items) trace.now }
+    ensures cause { IfErr result
+        (HasCause (work_of library_has options.now disks.items job.items) trace.now) }
+    ensures complete { TraceIsWhole
+        (work_of library_has options.now disks.items job.items) trace.now →
+        IsOkUnless result JudgeRefusal.OutOfMemory }
+{
+    let ready = prepare(alloc, job, options, disks, &Library)?;
+    let events = events_of(alloc, trace)?;
+    check(alloc, ready.program, ready.machine, &events)?;
+    Ok(())
+}
+
 /// Whether a trace is legal and complete for the program of a job, on the machine that words ask for, else the job, with one disk
-/// of this size. The cost of reading both, of lowering, and of the check.
+/// of this size. The cost of reading both, of lowering, and of the check. The job's text is dropped as soon as it is read.
+///
+/// # Errors
+///
+/// Why the job can't be run; why the trace isn't read; what is wrong with it. In this order, and of each the first reason.
 pub fn judged(
     alloc: Global,
     options: &Options,
     swap: u64,
-    job: &[u8],
+    job: Vec<u8>,
     trace: &[u8],
-) -> Result<Result<(), CheckRefusal>, Unready>
+) -> Result<(), JudgeRefusal>
     requires options { IsWithinLimits options.now }
     requires swap { swap ≤ 2 ^ 40 }
-    ensures { IfOk result (IsJudged library_has options.now swap job.now trace.now) }
+
+    // Ok means that the trace is one of the job, and that nothing is missing.
+    ensures legal_and_complete { IsOk result →
+        TraceIsWhole (asked_of options.now swap job.items) trace.now }
+
+    // Each other answer has its cause, but want of memory.
+    ensures refused { (line : Line) → (reason : Reason) →
+        result ≡ Err (JudgeRefusal.Refused line reason) →
+        JobIsRefused (asked_of options.now swap job.items) line reason }
+    ensures too_large { (line : Line) → (bytes : ℕ) →
+        result ≡ Err (JudgeRefusal.TooLarge line bytes) →
+        TaskIsTooLarge (asked_of options.now swap job.items) line bytes }
+    ensures swap_too_small { (needed : ℕ) → (have : ℕ) →
+        result ≡ Err (JudgeRefusal.SwapTooSmall needed have) →
+        DiskIsTooSmall (asked_of options.now swap job.items) needed have }
+    ensures too_long { result ≡ Err JudgeRefusal.TooLong →
+        TextIsTooLong (asked_of options.now swap job.items) trace.now }
+    ensures bad_line { (line : Line) → result ≡ Err (JudgeRefusal.BadLine line) →
+        LineIsNoEvent (asked_of options.now swap job.items) trace.now line }
+    ensures bad_event { (index : ℕ) → result ≡ Err (JudgeRefusal.BadEvent index) →
+        EventIsBad (asked_of options.now swap job.items) trace.now index }
+    ensures unfinished { result ≡ Err JudgeRefusal.Unfinished →
+        TraceIsCutShort (asked_of options.now swap job.items) trace.now }
+
+    // A trace that is whole is found to be so, unless memory runs out.
+    ensures complete { TraceIsWhole (asked_of options.now swap job.items) trace.now →
+        IsOkUnless result JudgeRefusal.OutOfMemory }
 {
-    let events = events_of(alloc, trace)?;
-    let ready = prepare(alloc, job, options, swap, &Library)?;
-    Ok(check(alloc, ready.program, ready.machine, &events))
+    let disks = one_disk(alloc, swap)?;
+    judged_on(alloc, options, disks, job, trace)
 }

@@ -4,18 +4,14 @@
 //! The words before the file's name are those of `starjob`, which ask for the machine of the run.
 #![tactic(auto)]
 
-ghost use Rattle.std.specs.Prelude.{◌≤◌, ◌^◌};
-ghost use Rattle.sj_words.specs.Options.{IsWithinLimits};
-
 mod judging;
-mod ready;
+mod refusal;
 #[cfg(test)]
 mod tests;
 
 use judging::judged;
-use ready::Unready;
-use sj_check::check::CheckRefusal;
-use sj_words::{Options, WordsRefusal, read_words, swap_wish};
+use refusal::JudgeRefusal;
+use sj_words::{WordsRefusal, read_words, swap_wish};
 use std::io::Read;
 use std::process::ExitCode;
 use std::{env, fs};
@@ -56,13 +52,13 @@ fn line(text: &[u8], number: u64) -> &[u8] {
 }
 
 /// Says what the check of a trace with this text came to.
-fn told(rt: &HostRuntime, text: &[u8], outcome: Result<(), CheckRefusal>) -> u8 {
+fn told(rt: &HostRuntime, text: &[u8], outcome: Result<(), JudgeRefusal>) -> u8 {
     match outcome {
         Ok(()) => {
             let _ = println!(rt; "legal and complete");
             0
         }
-        Err(CheckRefusal::BadEvent { index }) => {
+        Err(JudgeRefusal::BadEvent { index }) => {
             let event = std::str::from_utf8(line(text, index)).unwrap_or("");
             let _ = println!(rt;
                 "line {}: {event}: this is no legal step after the events before it",
@@ -70,11 +66,15 @@ fn told(rt: &HostRuntime, text: &[u8], outcome: Result<(), CheckRefusal>) -> u8 
             );
             BAD
         }
-        Err(CheckRefusal::Unfinished) => {
+        Err(JudgeRefusal::Unfinished) => {
             let _ = println!(rt; "legal, but not all tasks are done");
             BAD
         }
-        Err(CheckRefusal::OutOfMemory) => OUT_OF_MEMORY,
+        Err(JudgeRefusal::OutOfMemory) => OUT_OF_MEMORY,
+        Err(why) => {
+            let _ = eprintln!(rt; "{why}");
+            REFUSED
+        }
     }
 }
 
@@ -107,20 +107,6 @@ fn answer(rt: &HostRuntime) -> u8 {
     let Ok(text) = fs::read(rt, path.as_str()) else {
         return refused(rt, "the trace can't be read");
     };
-    check_texts(rt, &options, wish.size, &job, &text)
-}
-
-/// Checks the text of a trace against the text of a job.
-fn check_texts(rt: &HostRuntime, options: &Options, swap: u64, job: &[u8], trace: &[u8]) -> u8
-    requires options { IsWithinLimits options.now }
-    requires swap { swap ≤ 2 ^ 40 }
-{
-    match judged(rt.alloc(), options, swap, job, trace) {
-        Ok(outcome) => told(rt, trace, outcome),
-        Err(Unready::OutOfMemory) => OUT_OF_MEMORY,
-        Err(why) => {
-            let _ = eprintln!(rt; "{why}");
-            REFUSED
-        }
-    }
+    let outcome = judged(alloc, &options, wish.size, job, &text);
+    told(rt, &text, outcome)
 }

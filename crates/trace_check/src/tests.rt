@@ -2,8 +2,10 @@
 
 use crate::judging::judged;
 use crate::line;
+use crate::refusal::JudgeRefusal;
+use sj_base::ids::Line;
 use sj_base::memory::OutOfMemory;
-use sj_check::check::CheckRefusal;
+use sj_job::reason::Reason;
 use sj_words::read_words;
 use std::alloc::Global;
 
@@ -57,12 +59,11 @@ fn replaced(alloc: Global, trace: &[u8], at: u64, other: &[u8]) -> Result<Vec<u8
     Ok(text)
 }
 
-/// What a trace of a job comes to; nothing where one of them isn't read.
-fn said_of(alloc: Global, job: &[u8], trace: &[u8]) -> Option<Result<(), CheckRefusal>> {
-    let Ok(options) = read_words(alloc, &[]) else {
-        return None;
-    };
-    judged(alloc, &options, 1_000, job, trace).ok()
+/// What a trace of a job comes to on a disk of 1,000 bytes, with no words.
+fn said_of(alloc: Global, job: &[u8], trace: &[u8]) -> Option<Result<(), JudgeRefusal>> {
+    let options = read_words(alloc, &[]).ok()?;
+    let text = job.to_vec(alloc).ok()?;
+    Some(judged(alloc, &options, 1_000, text, trace))
 }
 
 #[test]
@@ -73,7 +74,7 @@ fn a_whole_run_is_legal_and_complete(rt: HostRuntime) {
 #[test]
 fn a_front_of_it_is_not_complete(rt: HostRuntime) -> Result<(), OutOfMemory> {
     let front = with_line(rt.alloc(), 19, 0)?;
-    assert!(rt; said_of(rt.alloc(), JOB, &front) == Some(Err(CheckRefusal::Unfinished)));
+    assert!(rt; said_of(rt.alloc(), JOB, &front) == Some(Err(JudgeRefusal::Unfinished)));
     Ok(())
 }
 
@@ -83,11 +84,11 @@ fn the_first_event_that_is_not_legal_is_named(rt: HostRuntime) -> Result<(), Out
     for i in 0..19u64 {
         let without = with_line(alloc, i as usize, 0)?;
         assert!(rt;
-            said_of(alloc, JOB, &without) == Some(Err(CheckRefusal::BadEvent { index: i }))
+            said_of(alloc, JOB, &without) == Some(Err(JudgeRefusal::BadEvent { index: i }))
         );
         let doubled = with_line(alloc, i as usize, 2)?;
         assert!(rt;
-            said_of(alloc, JOB, &doubled) == Some(Err(CheckRefusal::BadEvent { index: i + 1 }))
+            said_of(alloc, JOB, &doubled) == Some(Err(JudgeRefusal::BadEvent { index: i + 1 }))
         );
     }
     Ok(())
@@ -95,7 +96,36 @@ fn the_first_event_that_is_not_legal_is_named(rt: HostRuntime) -> Result<(), Out
 
 #[test]
 fn a_line_that_is_no_event_is_not_read(rt: HostRuntime) {
-    assert!(rt; said_of(rt.alloc(), JOB, b"claim t0\n").is_none());
+    let said = said_of(rt.alloc(), JOB, b"claim t0 w0\nclaim t0\n");
+    assert!(rt; said == Some(Err(JudgeRefusal::BadLine { line: Line(2) })));
+}
+
+#[test]
+fn a_job_that_can_not_be_run_is_named(rt: HostRuntime) {
+    let alloc = rt.alloc();
+    let refused = said_of(alloc, b"starjob 2\n", TRACE);
+    assert!(rt;
+        refused
+            == Some(Err(JudgeRefusal::Refused {
+                line: Line(1),
+                reason: Reason::Header
+            }))
+    );
+    let large = said_of(alloc, b"starjob 1\nnode 16\nvector a 3 fill 7 0\n", TRACE);
+    assert!(rt;
+        large
+            == Some(Err(JudgeRefusal::TooLarge {
+                line: Line(3),
+                bytes: 24
+            }))
+    );
+    let swapped = said_of(alloc, b"starjob 1\nvector a 200 fill 7 0\n", TRACE);
+    assert!(rt;
+        matches!(
+            swapped,
+            Some(Err(JudgeRefusal::SwapTooSmall { have: 1_000, .. }))
+        )
+    );
 }
 
 #[test]
@@ -105,7 +135,7 @@ fn of_two_neighbours_exchanged_the_first_is_named(rt: HostRuntime) -> Result<(),
         let later_twice = replaced(alloc, TRACE, i, line(TRACE, i + 1))?;
         let exchanged = replaced(alloc, &later_twice, i + 1, line(TRACE, i))?;
         let said = said_of(alloc, JOB, &exchanged);
-        assert!(rt; said == Some(Err(CheckRefusal::BadEvent { index: i })));
+        assert!(rt; said == Some(Err(JudgeRefusal::BadEvent { index: i })));
     }
     Ok(())
 }
@@ -134,7 +164,7 @@ fn an_event_with_a_number_of_nothing_is_named(rt: HostRuntime) -> Result<(), Out
         let text = replaced(alloc, TRACE, index, other.as_bytes())?;
         let said = said_of(alloc, JOB, &text);
         assert!(rt;
-            said == Some(Err(CheckRefusal::BadEvent { index })),
+            said == Some(Err(JudgeRefusal::BadEvent { index })),
             "{other}"
         );
     }
@@ -145,11 +175,11 @@ fn an_event_with_a_number_of_nothing_is_named(rt: HostRuntime) -> Result<(), Out
 fn a_claim_without_room_is_named(rt: HostRuntime) {
     let alloc = rt.alloc();
     let two = said_of(alloc, JOB_OF_THREE, b"claim t0 w0\nclaim t1 w1\n");
-    assert!(rt; two == Some(Err(CheckRefusal::Unfinished)));
+    assert!(rt; two == Some(Err(JudgeRefusal::Unfinished)));
     let three = said_of(
         alloc,
         JOB_OF_THREE,
         b"claim t0 w0\nclaim t1 w1\nclaim t2 w2\n",
     );
-    assert!(rt; three == Some(Err(CheckRefusal::BadEvent { index: 2 })));
+    assert!(rt; three == Some(Err(JudgeRefusal::BadEvent { index: 2 })));
 }

@@ -1,0 +1,37 @@
+-- What a machine has isn't lacking.
+use Rattle.std.proofs.Common.{◌≡◌, ◌<◌, ◌≤◌, Bool, true, false, cond, ℕ, suc, List, [], ◌∷◌, arith, refl, subst, Option, Some, None}
+use Rattle.std.specs.Prelude.{Contains, IsTrue, find, is_some}
+use Rattle.std.proofs.lemmas.Bool.Decides.{nat_tests}
+use Rattle.std.proofs.lemmas.List.Elements.{All-contains}
+use Rattle.std.proofs.lemmas.Option.{same_Some}
+use Rattle.sj_base.specs.declared.ids.Line.{Line}
+use Rattle.sj_base.specs.declared.program.Machine.{Machine}
+use Rattle.sj_base.specs.declared.program.Program.{Program}
+use Rattle.sj_core.specs.Needs.{footprint, room}
+use Rattle.sj_core.specs.Program.{tasks_of}
+use Rattle.sj_needs.specs.Shortage.{FitRoom, IsTooLarge, is_too_large}
+
+the : (X : Type 0) → X → X
+the X x = x
+
+-- what is found passes
+found-passes : {X : Type 0} (test : X → Bool) (xs : List X) (x : X) → find test xs ≡ Some x → (test x ≡ true) × Contains xs x
+found-passes test [] x e = absurd (let bad : None ≡ Some x = e in the ⊥ cc)
+found-passes test (y ∷ ys) x e = by_test (test y) refl e (found-passes test ys x)
+  where
+    by_test : (b : Bool) → test y ≡ b → cond b (Some y) (find test ys) ≡ Some x → (find test ys ≡ Some x → (test x ≡ true) × Contains ys x) → (test x ≡ true) × Contains (y ∷ ys) x
+    by_test true t found later = let same : y ≡ x = same_Some y x found in (subst (λ z. test z ≡ true) same t, (0, omega arith, same))
+    by_test false t found later = let h = later found in (h.0, (suc h.1.0, omega (arith, h.1.1), h.1.2))
+
+-- where each task fits none is too large
+pub too-large-fits : (p : Program) (m : Machine) (line : Line) (bytes : ℕ) → FitRoom p m → IsTooLarge p m line bytes → ⊥
+too-large-fits p m line bytes fits large =
+    let found = found-passes (is_too_large p m) (tasks_of p) large.task large.first in
+    let within = All-contains (λ t. footprint p t ≤ room m) (tasks_of p) large.task fits found.1 in
+    let above : room m < footprint p large.task = grind (arith, nat_tests, found.0) in
+    omega (arith, within, above)
+
+-- a place isn't missing
+pub none-some-placed : {X : Type 0} (o : Option X) → o ≡ None → IsTrue (is_some o) → ⊥
+none-some-placed None e h = cc
+none-some-placed (Some x) e h = cc

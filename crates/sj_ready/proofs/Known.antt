@@ -1,0 +1,11 @@
+-- The lines of a job that a set with the program's own codelets accepts.
+use Rattle.std.proofs.Common.{Bool, List, refl}
+use Rattle.sj_codelet.specs.declared.kernel.Kernel.{Kernel}
+use Rattle.sj_job.specs.Act.{Statement}
+use Rattle.sj_job.specs.State.{start}
+use Rattle.sj_job.specs.Well.{IsWell}
+use Rattle.sj_lower.specs.Job.{IsJobIn}
+use Rattle.sj_ready.specs.Ready.{HasOwnCodelets}
+
+pub job-in : (has : Kernel → Bool) → HasOwnCodelets has → (ss : List Statement) → IsWell has 0 start ss → IsJobIn has ss
+job-in has own ss well = record { well = well; own = rw (own.load, own.loadfill, own.paste, own.deliver) refl }

@@ -1,0 +1,39 @@
+-- A job that is made ready, and why one isn't.
+use Rattle.std.specs.Prelude.{◌≡◌, ℕ, Bool, IsTrue, Ok, Err, IsOkAnd}
+use Rattle.sj_codelet.specs.declared.kernel.Kernel.{Kernel}
+use Rattle.sj_codelet.specs.declared.kernel.Kernel.TheVariants.{Load, LoadFill, Paste, Deliver}
+use Rattle.sj_core.specs.Laws.{IsLawful}
+use Rattle.sj_core.specs.Proper.{IsMachineFor, Proper}
+use Rattle.sj_lower.specs.Delivering.{DeliversPrinted, NamesDeliverTasks}
+use Rattle.sj_needs.specs.Shortage.{IsSwapTooSmall, IsTooLarge}
+use Rattle.sj_ready.specs.declared.ready.Ready.{Ready}
+use Rattle.sj_ready.specs.declared.unready.Unready.{Unready}
+use Rattle.sj_ready.specs.declared.unready.Unready.TheVariants.{Refused, TooLarge, SwapTooSmall, OutOfMemory}
+use Rattle.sj_ready.specs.Work.{Work, WorkOrRefusal, program_of}
+
+-- the set has the codelets to which registrations, plan lines and print statements are lowered
+pub record HasOwnCodelets (has : Kernel → Bool) : Type 0 where
+  pub load : IsTrue (has Load)
+  pub loadfill : IsTrue (has LoadFill)
+  pub paste : IsTrue (has Paste)
+  pub deliver : IsTrue (has Deliver)
+
+-- the program is that of the work that is asked for, and can be run on its machine by the codelets of a set
+pub record IsReady (has : Kernel → Bool) (asked : WorkOrRefusal) (r : Ready) : Type 0 where
+  pub work : Work
+  pub asked_for : asked ≡ Ok work
+  pub program_is : r.program.value ≡ program_of work
+  pub machine_is : r.machine ≡ work.machine
+  pub trace_is : r.shows_trace ≡ work.shows_trace
+  pub proper : Proper r.program.value
+  pub lawful : IsLawful has r.program.value
+  pub machine_for : IsMachineFor r.program.value r.machine
+  pub prints : DeliversPrinted r.roots r.program.value work.statements
+  pub named : NamesDeliverTasks r.program.value
+
+-- the reason is that of the work that is asked for, or want of memory
+abbrev pub IsUnready : WorkOrRefusal → Unready → Type 0
+IsUnready asked (Refused line reason) = asked ≡ Err (record { line = line; reason = reason })
+IsUnready asked (TooLarge line bytes) = IsOkAnd asked (λ w. IsTooLarge (program_of w) w.machine line bytes)
+IsUnready asked (SwapTooSmall needed have) = IsOkAnd asked (λ w. IsSwapTooSmall (program_of w) w.machine needed have)
+IsUnready asked OutOfMemory = Unit {0}

@@ -1,0 +1,26 @@
+-- Why a job isn't made ready, by what refused it.
+use Rattle.sj_job.specs.declared.reason.LimitKind.TheVariants.{Cells, Tasks}
+use Rattle.sj_job.specs.declared.reason.ReadRefusal.{ReadRefusal}
+use Rattle.sj_job.specs.declared.reason.ReadRefusal.TheVariants as reading
+use Rattle.sj_job.specs.declared.reason.Reason.TheVariants.{Limit}
+use Rattle.sj_lower.specs.declared.lower.LowerRefusal.{LowerRefusal}
+use Rattle.sj_lower.specs.declared.lower.LowerRefusal.TheVariants as lowering
+use Rattle.sj_needs.specs.declared.shortage.Shortage.{Shortage}
+use Rattle.sj_needs.specs.declared.shortage.Shortage.TheVariants as fitting
+use Rattle.sj_ready.specs.declared.unready.Unready.{Unready}
+use Rattle.sj_ready.specs.declared.unready.Unready.TheVariants.{Refused, TooLarge, SwapTooSmall, OutOfMemory}
+
+abbrev pub after_reading : ReadRefusal → Unready
+after_reading (reading.Refused line reason) = Refused line reason
+after_reading reading.OutOfMemory = OutOfMemory
+
+-- the limit and the line that first exceeds it
+abbrev pub after_lowering : LowerRefusal → Unready
+after_lowering (lowering.TooManyCells line) = Refused line (Limit Cells)
+after_lowering (lowering.TooManyTasks line) = Refused line (Limit Tasks)
+after_lowering lowering.OutOfMemory = OutOfMemory
+
+abbrev pub after_fitting : Shortage → Unready
+after_fitting (fitting.TooLarge line bytes) = TooLarge line bytes
+after_fitting (fitting.SwapTooSmall needed have) = SwapTooSmall needed have
+after_fitting fitting.OutOfMemory = OutOfMemory

@@ -1,0 +1,49 @@
+-- What options, a job text and the sizes of disks ask for: statements to run and a machine to run them on.
+use Rattle.std.specs.Prelude.{ℕ, Bool, Some, None, Result, Ok, Err, List}
+use Rattle.sj_base.specs.declared.program.Machine.{Machine}
+use Rattle.sj_base.specs.declared.program.Program.{Program}
+use Rattle.sj_codelet.specs.declared.kernel.Kernel.{Kernel}
+use Rattle.sj_job.specs.Act.{Statement}
+use Rattle.sj_job.specs.Job.{Job}
+use Rattle.sj_job.specs.Reading.{Refusal, job_of}
+use Rattle.sj_job.specs.Settings.{nodes_of, policy_set, workers_of}
+use Rattle.sj_job.specs.declared.settings.Settings.{Settings}
+use Rattle.sj_lower.specs.Limits.{late_limit}
+use Rattle.sj_lower.specs.Lowering.{lowered}
+use Rattle.sj_words.specs.Machine.{machine_by}
+use Rattle.sj_words.specs.declared.options.Options.{Options}
+
+-- statements, the machine that is to run them, and whether the trace's text is to follow what they print
+pub record Work : Type 0 where
+  pub statements : List Statement
+  pub machine : Machine
+  pub shows_trace : Bool
+
+-- the program that is to be run: that of the statements, for as many workers as the machine has
+abbrev pub program_of : Work → Program
+program_of w = lowered w.statements w.machine.workers
+
+-- the number of workers, the nodes and the policy that words ask for, else a job's settings; and disks of these sizes
+abbrev pub machine_for : Options → List ℕ → Settings → Machine
+machine_for o disks g = machine_by o (workers_of g) (nodes_of g) (policy_set g) disks
+
+-- work, or the first bad line of the job text and the first reason against it
+abbrev pub WorkOrRefusal : Type 0
+WorkOrRefusal = Result Work Refusal
+
+-- work whose statements exceed a limit of lowering, for as many workers as the machine has, is refused at the line that first does
+abbrev pub within_limits : Work → WorkOrRefusal
+within_limits w = elim (late_limit w.machine.workers w.statements) [ None ↦ Ok w | Some e ↦ Err e ]
+
+-- the work that options make of a job, with disks of these sizes
+abbrev pub work_with : Options → List ℕ → Job → Work
+work_with o disks job = record { statements = job.statements; machine = machine_for o disks job.settings; shows_trace = o.trace }
+
+-- a bad line stands before any limit of lowering
+abbrev pub asked_by : Options → List ℕ → Result Job Refusal → WorkOrRefusal
+asked_by o disks (Ok job) = within_limits (work_with o disks job)
+asked_by o disks (Err e) = Err e
+
+-- what a job text asks for
+abbrev pub work_of : (Kernel → Bool) → Options → List ℕ → List ℕ → WorkOrRefusal
+work_of has o disks text = asked_by o disks (job_of has text)

@@ -1,0 +1,184 @@
+//! A job made ready: its program, and the machine that is to run it.
+
+ghost use Rattle.std.specs.Prelude.{◌≡◌, ◌<◌, ◌≤◌, ◌^◌, Bool, IsTrue, All, FitsSigned, IfOk, IfErr, None, Ok, length};
+ghost use Rattle.std.specs.Int.{w64};
+ghost use Rattle.sj_codelet.specs.Laws.{CommutingCommute, ContributingContribute, ReductionsReduce};
+ghost use Rattle.sj_codelet.specs.declared.kernel.Kernel.{Kernel};
+ghost use Rattle.sj_core.specs.Laws.{IsLawful, is_known};
+ghost use Rattle.sj_core.specs.Proper.{HasSwapFor, Proper};
+ghost use Rattle.sj_job.specs.Reading.{job_of, IsRefusal};
+ghost use Rattle.sj_job.specs.State.{start};
+ghost use Rattle.sj_job.specs.View.{statements_of, job_seen, IsNumbered};
+ghost use Rattle.sj_job.specs.Well.{IsWell};
+ghost use Rattle.sj_lower.specs.Delivering.{DeliversPrinted, NamesDeliverTasks};
+ghost use Rattle.sj_lower.specs.Job.{IsJob, IsJobIn};
+ghost use Rattle.sj_lower.specs.Limits.{late_limit};
+ghost use Rattle.sj_lower.specs.Lowering.{lowered};
+ghost use Rattle.sj_job.specs.Settings.{IsWithinLimits};
+ghost use Rattle.sj_needs.specs.Shortage.{FitRoom};
+ghost use Rattle.sj_words.specs.Machine.{HasNodes, HasWorkers};
+ghost use Rattle.sj_words.specs.Options.{IsWithinLimits as AreLimited};
+ghost use Rattle.sj_ready.specs.Ready.{HasOwnCodelets, IsReady, IsUnready};
+ghost use Rattle.sj_ready.specs.Work.{Work, machine_for, within_limits, work_of};
+
+use crate::unready::Unready;
+use sj_base::memory::OutOfMemory;
+use sj_base::program::{Machine, Program};
+use sj_base::sequence::Sequence;
+use sj_codelet::set::Codelets;
+use sj_job::job::Job;
+use sj_job::read::read;
+use sj_job::reason::ReadRefusal;
+use sj_job::roots::Roots;
+use sj_job::settings::Settings;
+use sj_lower::lower::{LoweredJob, lower};
+use sj_needs::shortage::fits;
+use sj_words::{Options, machine_of};
+use std::alloc::Global;
+use std::sync::Arc;
+
+/// A job's program, to be shared, its roots, and the machine that is to run it.
+#[derive(Drop)]
+pub struct Ready {
+    pub program: Arc<Program>,
+    pub roots: Roots,
+    pub machine: Machine,
+    /// The trace's text is to follow what the job prints.
+    pub shows_trace: bool,
+}
+
+/// The machine that words ask for, else a job's settings, with disks of these sizes. Linear in its nodes.
+fn machine_for(
+    alloc: Global,
+    options: &Options,
+    settings: &Settings,
+    disks: Vec<u64>,
+) -> Result<Machine, OutOfMemory>
+    requires options { AreLimited options.now }
+    requires settings { IsWithinLimits settings.now }
+    ensures machine { IfOk result (λ m. m ≡ machine_for options.now disks.items settings.now) }
+    ensures workers { IfOk result (λ m. HasWorkers m.workers) }
+    ensures nodes { IfOk result (λ m. HasNodes m.nodes) }
+{
+    let nodes = settings.node_sizes(alloc)?;
+    machine_of(
+        alloc,
+        options,
+        settings.worker_count(),
+        Sequence::of(nodes),
+        settings.chosen_policy(),
+        Sequence::of(disks),
+    )
+}
+
+/// The arguments of a task are in their type. Linear in them.
+fn args_fit(args: &[i64])
+    ensures { All (FitsSigned w64) args.now }
+{
+    for arg in args {
+        let _value = *arg;
+    }
+}
+
+/// The same of the arguments of all tasks.
+fn arguments_fit(program: &Program)
+    ensures { All (λ l. All (FitsSigned w64) l.args) program.now.tasks }
+{
+    for task in program.tasks.items() {
+        args_fit(task.args.items());
+    }
+}
+
+/// No code: its contract is what a set of codelets obeys.
+fn laws_of<C: Codelets>(_codelets: &C)
+    ensures commuting { CommutingCommute C.has }
+    ensures contributing { ContributingContribute C.has }
+    ensures reducing { ReductionsReduce C.has }
+{}
+
+/// A program that can be shared. Constant time.
+fn shareable(alloc: Global, program: Program) -> Result<Arc<Program>, OutOfMemory>
+    ensures { IfOk result (λ p. p.value ≡ program) }
+{
+    Ok(Arc::new(alloc, program)?)
+}
+
+/// A job lowered for the workers of a machine. The cost of lowering.
+fn lowered_for(
+    alloc: Global,
+    job: Job,
+    machine: Machine,
+    shows_trace: bool,
+) -> Result<Ready, Unready>
+    requires job { IsJob (statements_of job) }
+    requires numbered { IsNumbered job.roots job.statements }
+    ensures within { IfOk result (λ _. late_limit machine.workers (statements_of job) ≡ None) }
+    ensures program { IfOk result (λ r.
+        r.program.value ≡ lowered (statements_of job) machine.workers) }
+    ensures machine { IfOk result (λ r. r.machine ≡ machine) }
+    ensures trace { IfOk result (λ r. r.shows_trace ≡ shows_trace) }
+    ensures proper { IfOk result (λ r. Proper r.program.value) }
+    ensures known { IfOk result (λ r. (has : Kernel → Bool) → IsJobIn has (statements_of job)
+        → All (λ l. IsTrue (is_known has l.codelet)) r.program.value.tasks) }
+    ensures prints { IfOk result (λ r. (has : Kernel → Bool) → IsLawful has r.program.value
+        → 0 < machine.workers → DeliversPrinted r.roots r.program.value (statements_of job)) }
+    ensures handed_over { IfOk result (λ r. NamesDeliverTasks r.program.value) }
+    ensures unready { IfErr result (λ why. (w : Work) → w.statements ≡ statements_of job →
+        w.machine ≡ machine → IsUnready (within_limits w) why) }
+{
+    let LoweredJob { program, roots } = lower(alloc, job, machine.workers)?;
+    let program = shareable(alloc, program)?;
+    Ok(Ready {
+        program,
+        roots,
+        machine,
+        shows_trace,
+    })
+}
+
+/// The job of a text, whose memory is given back. Linear in the text, but that codelets are looked up in the table.
+fn read_whole<C: Codelets>(alloc: Global, text: Vec<u8>, codelets: &C) -> Result<Job, ReadRefusal>
+    ensures ok { IfOk result (λ job. job_of C.has text.items ≡ Ok (job_seen job)) }
+    ensures err { IfErr result (λ e. IsRefusal e (job_of C.has text.items)) }
+    ensures within { IfOk result (λ job. IsWithinLimits job.settings) }
+    ensures well { IfOk result (λ job. IsWell C.has 0 start (statements_of job)) }
+    ensures numbered { IfOk result (λ job. IsNumbered job.roots job.statements) }
+{
+    read(alloc, &text, codelets)
+}
+
+/// A job text made ready to be run on the machine that words ask for, else its settings, with disks of these sizes. The cost of
+/// reading, of lowering, and of what the program needs: linear in the text, the tasks, their accesses and the cells. The text is
+/// dropped as soon as it is read.
+///
+/// # Errors
+///
+/// The first bad line with the first reason against it, or the limit that is exceeded; the first task that fits no node; that the
+/// blocks have no places on the disks; that an allocation was refused. In this order.
+pub fn prepare<C: Codelets>(
+    alloc: Global,
+    text: Vec<u8>,
+    options: &Options,
+    disks: Vec<u64>,
+    codelets: &C,
+) -> Result<Ready, Unready>
+    requires own { HasOwnCodelets C.has }
+    requires options { AreLimited options.now }
+    requires few { length disks.items ≤ 16 }
+    requires small { All (λ n. n ≤ 2 ^ 40) disks.items }
+    ensures ready { IfOk result (IsReady C.has
+        (work_of C.has options.now disks.items text.items)) }
+    ensures room { IfOk result (λ r. FitRoom r.program.value r.machine) }
+    ensures swap { IfOk result (λ r. HasSwapFor r.program.value r.machine) }
+    ensures disks { IfOk result (λ r. r.machine.disks ≡ disks.items) }
+    ensures unready { IfErr result (IsUnready
+        (work_of C.has options.now disks.items text.items)) }
+{
+    let job = read_whole(alloc, text, codelets)?;
+    let machine = machine_for(alloc, options, &job.settings, disks)?;
+    let ready = lowered_for(alloc, job, machine, options.trace)?;
+    arguments_fit(&ready.program);
+    laws_of(codelets);
+    fits(alloc, &ready.program, &ready.machine)?;
+    Ok(ready)
+}

@@ -1,0 +1,64 @@
+-- Nothing but want of memory stands against a trace that is whole.
+use Rattle.std.proofs.Common.{◌≡◌, ◌∙◌, ℕ, zero, suc, ◌+◌, List, [], ◌∷◌, Ok, Err, IsOkAnd, refl, subst, sym, take}
+use Rattle.std.proofs.Math.Logic.{∥∥₁_elim}
+use Rattle.std.proofs.Props.{props}
+use Rattle.std.specs.List.{FoldsTo}
+use Rattle.sj_base.specs.declared.program.Machine.{Machine}
+use Rattle.sj_base.specs.declared.program.Program.{Program}
+use Rattle.sj_base.specs.declared.trace.Event.{Event}
+use Rattle.sj_check.specs.Refusal.{IsRefusal}
+use Rattle.sj_check.specs.declared.check.CheckRefusal.{CheckRefusal}
+use Rattle.sj_check.specs.declared.check.CheckRefusal.TheVariants as checking
+use Rattle.sj_core.specs.Legal.{IsFinished, IsLegal}
+use Rattle.sj_core.specs.Machine.{opening}
+use Rattle.sj_core.specs.Needs.{place}
+use Rattle.sj_core.specs.Step.{Step}
+use Rattle.sj_needs.specs.Shortage.{IsSwapTooSmall, IsTooLarge}
+use Rattle.sj_ready.proofs.Fitting.{none-some-placed, too-large-fits}
+use Rattle.sj_ready.specs.Ready.{IsUnready}
+use Rattle.sj_ready.specs.Work.{Work, WorkOrRefusal, program_of}
+use Rattle.sj_ready.specs.declared.unready.Unready.{Unready}
+use Rattle.sj_ready.specs.declared.unready.Unready.TheVariants as preparing
+use Rattle.trace_check.specs.Judged.{TraceIsWhole}
+use Rattle.trace_check.specs.Refusal.{after_checking, after_preparing}
+use Rattle.trace_check.specs.declared.refusal.JudgeRefusal.TheVariants.{OutOfMemory}
+
+-- a front of steps is made of steps
+front-leads : {S E : Type 0} (R : S → E → S → Type 0) (n : ℕ) (xs : List E) (s s' : S) → FoldsTo R s xs s' → (z : S) × FoldsTo R s (take n xs) z
+front-leads R zero xs s s' leads = (s, refl)
+front-leads R (suc n) [] s s' leads = (s, refl)
+front-leads R (suc n) (x ∷ xs) s s' (next, step, rest) = let more = front-leads R n xs next s' rest in (more.0, (next, step, more.1))
+
+front-legal : (p : Program) (m : Machine) (n : ℕ) (trace : List Event) → IsFinished p m trace → IsLegal p m (take n trace)
+front-legal p m n trace finished =
+    ∥∥₁_elim finished (hlevel props) (λ f. let front = front-leads (Step p m) n trace (opening p m) f.left f.replays in ∣ record { left = front.0; replays = front.1 } ∣₁)
+
+pub checked-whole : (p : Program) (m : Machine) (events : List Event) (refusal : CheckRefusal) → IsFinished p m events → IsRefusal p m events refusal → after_checking refusal ≡ OutOfMemory
+checked-whole p m events (checking.BadEvent index) finished h = absurd (h.bad (front-legal p m (index + 1) events finished))
+checked-whole p m events checking.Unfinished finished h = absurd (h.undone finished)
+checked-whole p m events checking.OutOfMemory finished h = refl
+
+work-same : (asked : WorkOrRefusal) (w v : Work) → asked ≡ Ok w → asked ≡ Ok v → w ≡ v
+work-same asked w v is other = cc
+
+module _ (asked : WorkOrRefusal) (text : List ℕ) (whole : TraceIsWhole asked text) where
+  abbrev w : Work
+  w = whole.work
+
+  -- what is said of the work that is asked for is said of the trace's
+  of-asked : (P : Work → Type 0) → IsOkAnd asked P → P w
+  of-asked P h = subst (λ (a : WorkOrRefusal). IsOkAnd a P) whole.read.can_be_run.asked_for h
+
+  pub finished-by : (v : Work) (events : List Event) → asked ≡ Ok v → events ≡ whole.events → IsFinished (program_of v) v.machine events
+  finished-by v events is same =
+      subst (λ (u : Work). IsFinished (program_of u) u.machine events) (work-same asked w v whole.read.can_be_run.asked_for is)
+      (subst (λ (es : List Event). IsFinished (program_of w) w.machine es) (sym same) whole.finished)
+
+  pub prepared-whole : (unready : Unready) → IsUnready asked unready → after_preparing unready ≡ OutOfMemory
+  prepared-whole (preparing.Refused line reason) h = let is = whole.read.can_be_run.asked_for in absurd (let no : ⊥ = cc in no)
+  prepared-whole (preparing.TooLarge line bytes) h =
+      absurd (too-large-fits (program_of w) w.machine line bytes whole.read.can_be_run.tasks_fit (of-asked (λ v. IsTooLarge (program_of v) v.machine line bytes) h))
+  prepared-whole (preparing.SwapTooSmall needed have) h =
+      let small = of-asked (λ v. IsSwapTooSmall (program_of v) v.machine needed have) h in
+      absurd (none-some-placed (place (program_of w) w.machine.disks) small.has_no_places whole.read.can_be_run.blocks_have_places.blocks_fit)
+  prepared-whole preparing.OutOfMemory h = refl
