@@ -139,6 +139,8 @@ code=$?
 expect "a job that can't be read" 2 '' $'the job can\'t be read\n'
 run "$evicts"
 expect 'no word' 2 '' "$usage"
+check '' $'\xff'
+expect "a word of the run that isn't UTF-8" 2 '' "$usage"
 check '' --unknown
 expect "a word of the run that isn't known" 2 '' "$usage"
 check '' --nodes 2

@@ -1,6 +1,6 @@
 //! Whether a text is the trace of a run that another text asks for.
 
-ghost use Rattle.std.specs.Prelude.{◌≡◌, ◌<◌, ◌≤◌, ◌^◌, ◌∷◌, ℕ, [], All, Err, IfErr, IfOk, IsOk, IsOkUnless, length};
+ghost use Rattle.std.specs.Prelude.{◌≡◌, ◌<◌, ◌≤◌, ◌^◌, ◌∷◌, ℕ, [], All, Err, IfErr, IfOk, IsOk, IsOkUnless, List, length};
 ghost use Rattle.sj_base.specs.declared.ids.Line.{Line};
 ghost use Rattle.sj_base.specs.declared.trace.Event.{Event};
 ghost use Rattle.sj_job.specs.declared.reason.Reason.{Reason};

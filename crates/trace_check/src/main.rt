@@ -12,9 +12,12 @@ mod tests;
 use judging::judged;
 use refusal::JudgeRefusal;
 use sj_words::{WordsRefusal, read_words, swap_wish};
-use std::io::Read;
+use std::alloc::AllocError;
+use std::io::{self, ErrorKind, Read};
 use std::process::ExitCode;
 use std::{env, fs};
+
+const USAGE: &str = "usage: trace_check [words of starjob] TRACE < JOB";
 
 /// The exit codes: the trace isn't legal or not complete; words, job or trace aren't read; memory ran out.
 const BAD: u8 = 1;
@@ -29,20 +32,28 @@ fn refused(rt: &HostRuntime, why: &str) -> u8 {
     REFUSED
 }
 
-/// The words after the program's name.
-fn words(rt: &HostRuntime) -> Option<Vec<String>> {
-    let mut words = Vec::new(rt.alloc());
-    for word in env::args(rt).ok()?.skip(1) {
-        words.push(word).ok()?;
+/// The same where something isn't read, unless memory ran out.
+fn unread(rt: &HostRuntime, error: &io::Error, why: &str) -> u8 {
+    if error.kind() == ErrorKind::OutOfMemory {
+        return OUT_OF_MEMORY;
     }
-    Some(words)
+    refused(rt, why)
+}
+
+/// The words after the program's name, which are all text.
+fn words(rt: &HostRuntime) -> io::Result<Vec<String>> {
+    let mut words = Vec::new(rt.alloc());
+    for word in env::args(rt)?.skip(1) {
+        words.push(word).map_err(AllocError::from)?;
+    }
+    Ok(words)
 }
 
 /// All of standard input.
-fn input(rt: &HostRuntime) -> Option<Vec<u8>> {
+fn input(rt: &HostRuntime) -> io::Result<Vec<u8>> {
     let mut text = Vec::new(rt.alloc());
-    rt.stdin().read_to_end(&mut text).ok()?;
-    Some(text)
+    rt.stdin().read_to_end(&mut text)?;
+    Ok(text)
 }
 
 /// The line of a text with a number, from 0; nothing where there are fewer.
@@ -85,27 +96,28 @@ fn main(rt: HostRuntime) -> ExitCode {
 /// Reads words, job and trace, and checks.
 fn answer(rt: &HostRuntime) -> u8 {
     let alloc = rt.alloc();
-    let Some(mut words) = words(rt) else {
-        return OUT_OF_MEMORY;
+    let mut words = match words(rt) {
+        Ok(words) => words,
+        Err(error) => return unread(rt, &error, USAGE),
     };
     let Some(path) = words.pop() else {
-        return refused(rt, "usage: trace_check [words of starjob] TRACE < JOB");
+        return refused(rt, USAGE);
     };
     let options = match read_words(alloc, &words) {
         Ok(options) => options,
-        Err(WordsRefusal::Unaccepted) => {
-            return refused(rt, "usage: trace_check [words of starjob] TRACE < JOB");
-        }
+        Err(WordsRefusal::Unaccepted) => return refused(rt, USAGE),
         Err(WordsRefusal::OutOfMemory) => return OUT_OF_MEMORY,
     };
     let Ok(wish) = swap_wish(alloc, &words) else {
         return OUT_OF_MEMORY;
     };
-    let Some(job) = input(rt) else {
-        return refused(rt, "the job can't be read");
+    let job = match input(rt) {
+        Ok(job) => job,
+        Err(error) => return unread(rt, &error, "the job can't be read"),
     };
-    let Ok(text) = fs::read(rt, path.as_str()) else {
-        return refused(rt, "the trace can't be read");
+    let text = match fs::read(rt, path.as_str()) {
+        Ok(text) => text,
+        Err(error) => return unread(rt, &error, "the trace can't be read"),
     };
     let outcome = judged(alloc, &options, wish.size, job, &text);
     told(rt, &text, outcome)

@@ -11,8 +11,8 @@ use Rattle.trace_check.proofs.judging.events_of.Goals as goal
 pub read_trace-requires : goal.read_trace-requires
 read_trace-requires c = omega (arith, few-lines c.args.text.now, c.if-text.false)
 
-pub returns-then-clause-cause : goal.returns-then-clause-cause
-returns-then-clause-cause c = λ asked w can. record { work = w; can_be_run = can; too_long = omega (arith, c.if-text.true) }
+pub returns-then-text-clause-cause : goal.returns-then-text-clause-cause
+returns-then-text-clause-cause c = λ asked w can. record { work = w; can_be_run = can; too_long = omega (arith, c.if-text.true) }
 
 pub returns-in_err-trace-clause-cause : goal.returns-in_err-trace-clause-cause
 returns-in_err-trace-clause-cause c =

@@ -14,7 +14,7 @@ use Rattle.trace_check.proofs.judging.judged_on.Goals as goal
 pub check-requires : goal.check-requires
 check-requires c =
     let r = c.in_ok-ready.ensures in
-    is-run library_has (work_of library_has c.args.options.now c.args.disks.items c.args.job.items) c.in_ok-ready.ready r.ready r.swap
+    record { run = is-run library_has (work_of library_has c.args.options.now c.args.disks.items c.args.job.items) c.in_ok-ready.ready r.ready r.swap }
 
 pub returns-in_err-ready-clause-cause : goal.returns-in_err-ready-clause-cause
 returns-in_err-ready-clause-cause c =
