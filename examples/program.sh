@@ -109,7 +109,7 @@ check() {
   printf %s "$1" > trace
   run "$evicts" "${@:2}" trace
 }
-usage=$'usage: trace_check [words of starjob] TRACE < JOB\n'
+usage=$'usage: trace_check \\[words of starjob\\] TRACE < JOB\n'
 early=${evicted/claim t2 w0/run t2 w0}
 no_event=${evicted/drop c0 n0/drop c00 n0}
 
