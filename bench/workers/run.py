@@ -24,7 +24,8 @@ def run(folder, lines, workers, swap=2**20, wanted=0):
     for _ in range(RUNS):
         with open(path) as source:
             started = time.monotonic()
-            child = subprocess.Popen([starjob, *words], stdin=source, stdout=subprocess.DEVNULL)
+            said = subprocess.DEVNULL if wanted else None
+            child = subprocess.Popen([starjob, *words], stdin=source, stdout=subprocess.DEVNULL, stderr=said)
             _, status, usage = os.wait4(child.pid, 0)
             walls.append(time.monotonic() - started)
         works.append(usage.ru_utime + usage.ru_stime)
