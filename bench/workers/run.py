@@ -3,8 +3,9 @@
 
 Build `starjob` first, by ./run examples/first.job, on a machine of four processors that does nothing else. Wall time of whole
 runs, best of five unless a number is given, less that of the job without its tasks where these are small. How long these take to
-read is known from the same text with a last line that is refused. C's plain loops for the shortest ways are those of bench/jobs
-(order.c).
+read is known from the same text with a last line that is refused. The runs of small tasks, and StarPU's, take turns, since a
+machine that others share goes at different speeds from one minute to the next. C's plain loops for the shortest ways are those of
+bench/jobs (order.c).
 """
 import os, subprocess, sys, tempfile, time
 
@@ -14,23 +15,27 @@ starjob = os.path.join(top, "crates", "starjob", "out", "starjob")
 RUNS = int(sys.argv[1]) if len(sys.argv) > 1 else 5
 
 
-def run(folder, lines, workers, swap=2**20, wanted=0):
-    """The least wall seconds, and the least processor seconds, of runs that end with the wanted status."""
+def run_once(folder, lines, workers, swap=2**20, wanted=0):
+    """The wall seconds and the processor seconds of a run that ends with the wanted status."""
     path = os.path.join(folder, "job")
     with open(path, "w") as f:
         f.write("\n".join(["starjob 1", *lines]) + "\n")
-    walls, works = [], []
     words = ["--workers", str(workers), "--swap-size", str(swap), "--node", str(2**30)]
-    for _ in range(RUNS):
-        with open(path) as source:
-            started = time.monotonic()
-            said = subprocess.DEVNULL if wanted else None
-            child = subprocess.Popen([starjob, *words], stdin=source, stdout=subprocess.DEVNULL, stderr=said)
-            _, status, usage = os.wait4(child.pid, 0)
-            walls.append(time.monotonic() - started)
-        works.append(usage.ru_utime + usage.ru_stime)
-        if os.waitstatus_to_exitcode(status) != wanted:
-            sys.exit(f"starjob {' '.join(words)} ended with {status}")
+    with open(path) as source:
+        started = time.monotonic()
+        said = subprocess.DEVNULL if wanted else None
+        child = subprocess.Popen([starjob, *words], stdin=source, stdout=subprocess.DEVNULL, stderr=said)
+        _, status, usage = os.wait4(child.pid, 0)
+        wall = time.monotonic() - started
+    if os.waitstatus_to_exitcode(status) != wanted:
+        sys.exit(f"starjob {' '.join(words)} ended with {status}")
+    return wall, usage.ru_utime + usage.ru_stime
+
+
+def run(folder, lines, workers, swap=2**20):
+    """The least wall seconds, and the least processor seconds, of some runs."""
+    lines = list(lines)
+    walls, works = zip(*(run_once(folder, lines, workers, swap) for _ in range(RUNS)))
     return min(walls), min(works)
 
 
@@ -46,7 +51,7 @@ def starpu(folder):
 
 def starpu_time(program, workers):
     environment = {**os.environ, "STARPU_SILENT": "1"}
-    return min(float(subprocess.check_output([program, str(workers)], env=environment)) for _ in range(RUNS))
+    return float(subprocess.check_output([program, str(workers)], env=environment))
 
 
 def product(n, tile):
@@ -85,24 +90,36 @@ def long_chain(n):
     yield from ["task gemm A:R B:R C:RW"] * n
 
 
-def small_task(folder, workers):
-    """Microseconds that a small task takes, and how many of them are reading."""
-    whole, read = (
-        [run(folder, [*small(n), *refused], workers, wanted=status)[0] for n in (0, 100_000)]
-        for refused, status in (([], 0), (["task"], 3))
-    )
-    return (whole[1] - whole[0]) * 10, (read[1] - read[0]) * 10
+def small_tasks(folder, program):
+    """For each number of workers the microseconds that a small task takes, how many of them are reading, and StarPU's."""
+    texts = [([*small(n), *refused], wanted) for refused, wanted in (([], 0), (["task"], 3)) for n in (0, 100_000)]
+    counts = 1, 2, 4
+    walls = {workers: [[] for _ in texts] for workers in counts}
+    theirs = {workers: [] for workers in counts}
+    for _ in range(RUNS):
+        for workers in counts:
+            for wall, (lines, wanted) in zip(walls[workers], texts):
+                wall.append(run_once(folder, lines, workers, wanted=wanted)[0])
+            if program:
+                theirs[workers].append(starpu_time(program, workers))
+    for workers in counts:
+        nothing, whole, no_lines, read = map(min, walls[workers])
+        yield workers, (whole - nothing) * 10, (read - no_lines) * 10, min(theirs[workers], default=None)
 
 
 def main():
     print(f"cores: {os.cpu_count()}, load: {os.getloadavg()[0]:.1f}")
     with tempfile.TemporaryDirectory() as folder:
         program = starpu(folder)
-        for workers in (1, 2, 4):
-            taken, read = small_task(folder, workers)
-            print(f"100,000 tasks by {workers}: {taken:.2f} us a task, {taken - read:.2f} without reading", flush=True)
-            if program:
-                print(f"    StarPU: {starpu_time(program, workers):.2f} us a task", flush=True)
+        first = None
+        for workers, taken, read, theirs in small_tasks(folder, program):
+            first = first or taken
+            other = f"; StarPU: {theirs:.2f}, a third: {theirs / 3:.2f}" if theirs else ""
+            print(
+                f"100,000 tasks by {workers}: {taken:.2f} us a task, {taken / first:.2f} times one worker's, "
+                f"{taken - read:.2f} without reading{other}",
+                flush=True,
+            )
         for tile, goal in ((256, 0.93), (128, 0.90)):
             one, _ = run(folder, product(2048, tile), 1, 2**27)
             four, _ = run(folder, product(2048, tile), 4, 2**27)
