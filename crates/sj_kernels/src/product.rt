@@ -243,9 +243,9 @@ fn two_columns(a: &[i64], e: &[i64], b: &[i64], n: usize, j: usize, c: &mut [i64
     d.copy_from_slice(&[d0, d1]);
 }
 
-/// The same in three columns from `j` on. All that a step needs stays in registers, with six sums and no more. They begin
-/// at the old elements: begun at 0, the compiler makes vectors of them, which are slower. Each turn takes two terms, so
-/// that there are half as many jumps, and it matters less where in memory the loop's last one happens to lie.
+/// The same in three columns from `j` on. There are six sums and no more, so that all stay in registers. They begin at the
+/// old elements: begun at 0, the compiler makes vectors of them, which are slower. A turn takes two terms: with half as
+/// many jumps it matters less where in memory the loop's own one happens to lie.
 fn block(a: &[i64], e: &[i64], b: &[i64], n: usize, j: usize, c: &mut [i64], d: &mut [i64])
     requires as_long { length e.now ≡ length a.now }
     requires right { length b.now ≡ length a.now * n }

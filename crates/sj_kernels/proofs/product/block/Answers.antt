@@ -53,9 +53,9 @@ loop-h-preserved c =
     let lower = sums_more a.n a.j l place a.e.now a.b.now a.d.now c.loop-h.lower c.with_term-lower.result _ c.with_term-lower.ensures (to_z-of_z w64 (at a.e.now l) (search rules)) refl c.loop-h.invariant.lower in
     record {
       upper = sums_of a.n a.j (l + 1 + 1) _ a.a.now a.b.now a.c.now _ _ refl two
-        (sums_more a.n a.j (l + 1) (place + a.n) a.a.now a.b.now a.c.now c.with_term-upper.result c.with_term-upper-in-loop-h.result _ c.with_term-upper-in-loop-h.ensures (to_z-of_z w64 (at a.a.now (l + 1)) (search rules)) next upper);
+          (sums_more a.n a.j (l + 1) (place + a.n) a.a.now a.b.now a.c.now c.with_term-upper.result c.with_term-upper-in-loop-h.result _ c.with_term-upper-in-loop-h.ensures (to_z-of_z w64 (at a.a.now (l + 1)) (search rules)) next upper);
       lower = sums_of a.n a.j (l + 1 + 1) _ a.e.now a.b.now a.d.now _ _ refl two
-        (sums_more a.n a.j (l + 1) (place + a.n) a.e.now a.b.now a.d.now c.with_term-lower.result c.with_term-lower-in-loop-h.result _ c.with_term-lower-in-loop-h.ensures (to_z-of_z w64 (at a.e.now (l + 1)) (search rules)) next lower);
+          (sums_more a.n a.j (l + 1) (place + a.n) a.e.now a.b.now a.d.now c.with_term-lower.result c.with_term-lower-in-loop-h.result _ c.with_term-lower-in-loop-h.ensures (to_z-of_z w64 (at a.e.now (l + 1)) (search rules)) next lower);
     }
 
 pub returns-clause-first : goal.returns-clause-first
@@ -69,7 +69,7 @@ returns-clause-first c =
           let after : l + 1 ≡ k = omega arith in
           let old = sums_of a.n a.j (c.loop-h.h * 2) l a.a.now a.b.now a.c.now c.loop-h.upper c.loop-h.upper refl before c.loop-h.invariant.upper in
           sums_of a.n a.j (l + 1) k a.a.now a.b.now a.c.now _ _ w.upper-is after
-            (sums_more a.n a.j l (l * a.n + a.j) a.a.now a.b.now a.c.now c.loop-h.upper w.with_term-upper-then-a-eq1.result _ w.with_term-upper-then-a-eq1.ensures (to_z-of_z w64 (at a.a.now l) (search rules)) refl old))
+          (sums_more a.n a.j l (l * a.n + a.j) a.a.now a.b.now a.c.now c.loop-h.upper w.with_term-upper-then-a-eq1.result _ w.with_term-upper-then-a-eq1.ensures (to_z-of_z w64 (at a.a.now l) (search rules)) refl old))
       | else-a-eq1 w ↦ sums_of a.n a.j (c.loop-h.h * 2) k a.a.now a.b.now a.c.now _ _ w.upper-is (omega arith) c.loop-h.invariant.upper
     ])
 
@@ -84,6 +84,6 @@ returns-clause-second c =
           let after : l + 1 ≡ k = omega arith in
           let old = sums_of a.n a.j (c.loop-h.h * 2) l a.e.now a.b.now a.d.now c.loop-h.lower c.loop-h.lower refl before c.loop-h.invariant.lower in
           sums_of a.n a.j (l + 1) k a.e.now a.b.now a.d.now _ _ w.lower-is after
-            (sums_more a.n a.j l (l * a.n + a.j) a.e.now a.b.now a.d.now c.loop-h.lower w.with_term-lower-then-a-eq1.result _ w.with_term-lower-then-a-eq1.ensures (to_z-of_z w64 (at a.e.now l) (search rules)) refl old))
+          (sums_more a.n a.j l (l * a.n + a.j) a.e.now a.b.now a.d.now c.loop-h.lower w.with_term-lower-then-a-eq1.result _ w.with_term-lower-then-a-eq1.ensures (to_z-of_z w64 (at a.e.now l) (search rules)) refl old))
       | else-a-eq1 w ↦ sums_of a.n a.j (c.loop-h.h * 2) k a.e.now a.b.now a.d.now _ _ w.lower-is (omega arith) c.loop-h.invariant.lower
     ])
