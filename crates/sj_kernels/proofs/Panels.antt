@@ -1,5 +1,5 @@
 -- Products panel by panel.
-use Rattle.std.proofs.Common.{◌≡◌, ℕ, ◌+◌, ◌-◌, ◌*◌, ◌/◌, ◌%◌, ◌<◌, ◌≤◌, zero, suc, Bool, true, false, cond, nat_lt, ℤ, pos, ◌+ℤ◌, ◌-ℤ◌, ◌*ℤ◌, List, [], ◌∷◌, ◌++◌, length, get_or, take, drop, min, w64, to_z, of_z, FitsSigned, sym, ap, ◌∙◌, ⊎_elim, arith}
+use Rattle.std.proofs.Common.{◌≡◌, ℕ, ◌+◌, ◌-◌, ◌*◌, ◌/◌, ◌%◌, ◌<◌, ◌≤◌, zero, suc, Bool, true, false, cond, nat_lt, ℤ, pos, ◌+ℤ◌, ◌*ℤ◌, List, [], ◌∷◌, ◌++◌, length, get_or, take, drop, min, w64, to_z, of_z, FitsSigned, sym, ap, subst, ◌∙◌, ⊎_elim, arith}
 use Rattle.std.specs.List.{between}
 use Rattle.std.proofs.lemmas.Int.{ints, int_wrap_fits, int_wrap-add_left, to_z-of_z}
 use Rattle.std.proofs.lemmas.List.{length-take, length-drop, length-append, get_or-take, get_or-drop, get_or_append_left, get_or-append_right, take_at, drop_at, drop_all, drop-drop, append-nil}
@@ -17,7 +17,8 @@ use Rattle.sj_codelet.proofs.Sums.{same_sum, sum_below_more}
 use Rattle.sj_codelet.proofs.Filling.{begun, listing_from_elements, at-listing, length-listing, same_listing}
 use Rattle.sj_kernels.proofs.Places.{passed_start}
 use Rattle.sj_kernels.specs.declared.product.Span.{Span}
-use Rattle.sj_kernels.specs.Panels.{column_sum, column_rest, part, terms, with_terms, with_terms_within, row_within}
+use Rattle.sj_kernels.specs.declared.product.Sums.{Sums}
+use Rattle.sj_kernels.specs.Panels.{column_sum, part, terms, with_terms, with_terms_within, row_within}
 use Rattle.sj_kernels.specs.Rows.{row_product}
 use Rattle.sj_kernels.specs.declared.product.Sides.{Sides}
 use Rattle.sj_codelet.proofs.Rows.{grid_at, listing-add}
@@ -27,44 +28,49 @@ pub column_none : (n j : ℕ) (a b : List ℤ) (start : ℤ) → FitsSigned w64 
 column_none n j a b start fits = to_z-of_z w64 start fits ∙ sym (ap (λ (z : ℤ). wrap z) (int_add-zero start) ∙ int_wrap_fits w64 start fits)
 
 -- one term more
+added : (n j l : ℕ) (a b : List ℤ) (start t z : ℤ) → z ≡ at a l *ℤ at b (l * n + j) → t ≡ column_sum n a b j l start → wrap (t +ℤ z) ≡ column_sum n a b j (l + 1) start
+added n j l a b start t z term e =
+    let f = λ (q : ℕ). at a q *ℤ at b (q * n + j) in
+    ap (λ (y : ℤ). wrap (t +ℤ y)) term ∙ ap (λ (y : ℤ). wrap (y +ℤ f l)) e ∙ int_wrap-add_left w64 (start +ℤ sum_below l f) (f l)
+    ∙ ap (λ (y : ℤ). wrap y) (omega (arith, ints, sum_below_more l f))
+
+-- one term more, from elements that were read
 pub column_more : (n j l p : ℕ) (a b : List ℤ) (start t v : ℤ) → v ≡ wrap (t +ℤ (to_z w64 (of_z w64 (at a l)) *ℤ to_z w64 (of_z w64 (at b p)))) → t ≡ column_sum n a b j l start → p ≡ l * n + j → FitsSigned w64 (at a l) → FitsSigned w64 (at b p) → to_z w64 (of_z w64 v) ≡ column_sum n a b j (l + 1) start
 column_more n j l p a b start t v h e place fa fb =
-    let f = λ (q : ℕ). at a q *ℤ at b (q * n + j) in
     let x = to_z w64 (of_z w64 (at a l)) in
     let y = to_z w64 (of_z w64 (at b p)) in
-    let term : x *ℤ y ≡ f l = ap (λ (z : ℤ). z *ℤ y) (to_z-of_z w64 (at a l) fa) ∙ ap (λ (z : ℤ). at a l *ℤ z) (to_z-of_z w64 (at b p) fb ∙ ap (λ (q : ℕ). at b q) place) in
-    passed_start v (t +ℤ (x *ℤ y)) h
-    ∙ ap (λ (z : ℤ). wrap (t +ℤ z)) term ∙ ap (λ (z : ℤ). wrap (z +ℤ f l)) e ∙ int_wrap-add_left w64 (start +ℤ sum_below l f) (f l)
-    ∙ ap (λ (z : ℤ). wrap z) (omega (arith, ints, sum_below_more l f))
+    let term : x *ℤ y ≡ at a l *ℤ at b (l * n + j) = ap (λ (z : ℤ). z *ℤ y) (to_z-of_z w64 (at a l) fa) ∙ ap (λ (z : ℤ). at a l *ℤ z) (to_z-of_z w64 (at b p) fb ∙ ap (λ (q : ℕ). at b q) place) in
+    passed_start v (t +ℤ (x *ℤ y)) h ∙ added n j l a b start t (x *ℤ y) term e
 
--- with no term left, begun at an element that was read
-pub rest_none : (n j l : ℕ) (a b : List ℤ) (start : ℤ) → FitsSigned w64 start → l ≡ length a → to_z w64 (of_z w64 start) ≡ column_rest n a b j l start
-rest_none n j l a b start fits whole =
-    let f = λ (q : ℕ). at a q *ℤ at b (q * n + j) in
-    let none : start +ℤ (sum_below (length a) f -ℤ sum_below l f) ≡ start =
-    ap (λ (k : ℕ). start +ℤ (sum_below (length a) f -ℤ sum_below k f)) whole ∙ omega (arith, ints) in
-    to_z-of_z w64 start fits ∙ sym (ap (λ (z : ℤ). wrap z) none ∙ int_wrap_fits w64 start fits)
+-- the first l terms of a row in three columns from j on, begun at the elements of c
+abbrev pub are_sums : ℕ → List ℤ → List ℤ → ℕ → ℕ → List ℤ → Sums → Type 0
+are_sums n a b j l c s = record {
+  left : s.left ≡ column_sum n a b j l (at c 0);
+  middle : s.middle ≡ column_sum n a b (j + 1) l (at c 1);
+  right : s.right ≡ column_sum n a b (j + 2) l (at c 2);
+}
 
--- the term before the others
-pub rest_more : (n j l i p : ℕ) (a b : List ℤ) (start t v : ℤ) → v ≡ wrap (t +ℤ (to_z w64 (of_z w64 (at a i)) *ℤ to_z w64 (of_z w64 (at b p)))) → t ≡ column_rest n a b j l start → l ≡ i + 1 → p ≡ i * n + j → FitsSigned w64 (at a i) → FitsSigned w64 (at b p) → to_z w64 (of_z w64 v) ≡ column_rest n a b j i start
-rest_more n j l i p a b start t v h e next place fa fb =
-    let f = λ (q : ℕ). at a q *ℤ at b (q * n + j) in
-    let all = sum_below (length a) f in
-    let x = to_z w64 (of_z w64 (at a i)) in
-    let y = to_z w64 (of_z w64 (at b p)) in
-    let term : x *ℤ y ≡ f i = ap (λ (z : ℤ). z *ℤ y) (to_z-of_z w64 (at a i) fa) ∙ ap (λ (z : ℤ). at a i *ℤ z) (to_z-of_z w64 (at b p) fb ∙ ap (λ (q : ℕ). at b q) place) in
-    passed_start v (t +ℤ (x *ℤ y)) h
-    ∙ ap (λ (z : ℤ). wrap (t +ℤ z)) term ∙ ap (λ (z : ℤ). wrap (z +ℤ f i)) (e ∙ ap (λ (k : ℕ). wrap (start +ℤ (all -ℤ sum_below k f))) next)
-    ∙ int_wrap-add_left w64 (start +ℤ (all -ℤ sum_below (i + 1) f)) (f i)
-    ∙ ap (λ (z : ℤ). wrap z) (omega (arith, ints, sum_below_more i f))
+-- what one term more makes of three sums
+abbrev pub have_term : Sums → ℤ → List ℤ → ℕ → Sums → Type 0
+have_term s x b p t = record {
+  left : t.left ≡ wrap (s.left +ℤ (x *ℤ at b p));
+  middle : t.middle ≡ wrap (s.middle +ℤ (x *ℤ at b (p + 1)));
+  right : t.right ≡ wrap (s.right +ℤ (x *ℤ at b (p + 2)));
+}
 
--- from the first term on
-pub rest_all : (n j l : ℕ) (a b : List ℤ) (start t : ℤ) → t ≡ column_rest n a b j l start → l ≡ 0 → t ≡ column_sum n a b j (length a) start
-rest_all n j l a b start t e h =
-    let f = λ (q : ℕ). at a q *ℤ at b (q * n + j) in
-    let all = sum_below (length a) f in
-    let first : start +ℤ (all -ℤ sum_below 0 f) ≡ start +ℤ all = omega (arith, ints) in
-    e ∙ ap (λ (k : ℕ). wrap (start +ℤ (all -ℤ sum_below k f))) h ∙ ap (λ (z : ℤ). wrap z) first
+-- one term more in each of three columns
+pub sums_more : (n j l p : ℕ) (a b c : List ℤ) (s t : Sums) (x : ℤ) → have_term s x b p t → x ≡ at a l → p ≡ l * n + j → are_sums n a b j l c s → are_sums n a b j (l + 1) c t
+sums_more n j l p a b c s t x new read place old =
+    let term = λ (q r : ℕ) (e : q ≡ r). ap (λ (z : ℤ). z *ℤ at b q) read ∙ ap (λ (k : ℕ). at a l *ℤ at b k) e in
+    record {
+      left = new.left ∙ added n j l a b (at c 0) s.left (x *ℤ at b p) (term p (l * n + j) place) old.left;
+      middle = new.middle ∙ added n (j + 1) l a b (at c 1) s.middle (x *ℤ at b (p + 1)) (term (p + 1) (l * n + (j + 1)) (omega (arith, place))) old.middle;
+      right = new.right ∙ added n (j + 2) l a b (at c 2) s.right (x *ℤ at b (p + 2)) (term (p + 2) (l * n + (j + 2)) (omega (arith, place))) old.right;
+    }
+
+-- the same of as many terms
+pub sums_of : (n j l k : ℕ) (a b c : List ℤ) (s t : Sums) → t ≡ s → l ≡ k → are_sums n a b j l c s → are_sums n a b j k c t
+sums_of n j l k a b c s t same e old = subst (λ (u : Sums). are_sums n a b j k c u) (sym same) (subst (λ (q : ℕ). are_sums n a b j q c s) e old)
 
 -- the sum over all terms
 pub column_all : (n j l k : ℕ) (a b : List ℤ) (start t : ℤ) → t ≡ column_sum n a b j l start → l ≡ k → t ≡ column_sum n a b j k start
@@ -74,15 +80,15 @@ three : (f : ℕ → ℤ) (v w x : ℤ) → v ≡ f 0 → w ≡ f 1 → x ≡ f 
 unfolding listing
 three f v w x ev ew ex = cc
 
--- three columns side by side, from the first term on
-pub block_is : (n j l : ℕ) (a b c : List ℤ) (v w x : ℤ) → l ≡ 0
-    → v ≡ column_rest n a b j l (at c 0) → w ≡ column_rest n a b (j + 1) l (at c 1) → x ≡ column_rest n a b (j + 2) l (at c 2)
-    → v ∷ w ∷ x ∷ [] ≡ listing 3 (λ q. column_sum n a b (j + q) (length a) (at c q))
-block_is n j l a b c v w x h ev ew ex =
+-- three columns side by side, as they are written
+pub block_is : (n j : ℕ) (a b c : List ℤ) (s : Sums) → are_sums n a b j (length a) c s
+    → to_z w64 (of_z w64 s.left) ∷ to_z w64 (of_z w64 s.middle) ∷ to_z w64 (of_z w64 s.right) ∷ [] ≡ listing 3 (λ q. column_sum n a b (j + q) (length a) (at c q))
+block_is n j a b c s e =
+    let written = λ (p q : ℕ) (v : ℤ) (h : v ≡ column_sum n a b p (length a) (at c q)). passed_start v (at c q +ℤ sum_below (length a) (λ k. at a k *ℤ at b (k * n + p))) h in
     let first : j ≡ j + 0 = omega arith in
-    three (λ q. column_sum n a b (j + q) (length a) (at c q)) v w x
-    (rest_all n j l a b (at c 0) v ev h ∙ ap (λ (p : ℕ). column_sum n a b p (length a) (at c 0)) first)
-    (rest_all n (j + 1) l a b (at c 1) w ew h) (rest_all n (j + 2) l a b (at c 2) x ex h)
+    three (λ q. column_sum n a b (j + q) (length a) (at c q)) (to_z w64 (of_z w64 s.left)) (to_z w64 (of_z w64 s.middle)) (to_z w64 (of_z w64 s.right))
+    (written j 0 s.left e.left ∙ ap (λ (p : ℕ). column_sum n a b p (length a) (at c 0)) first)
+    (written (j + 1) 1 s.middle e.middle) (written (j + 2) 2 s.right e.right)
 
 two : (f : ℕ → ℤ) (v w : ℤ) → v ≡ f 0 → w ≡ f 1 → v ∷ w ∷ [] ≡ listing 2 f
 unfolding listing

@@ -1,5 +1,5 @@
 -- A product's terms, panel by panel.
-use Rattle.std.specs.Prelude.{ℕ, ◌+◌, ◌-◌, ◌*◌, ◌/◌, ◌%◌, ℤ, ◌+ℤ◌, ◌-ℤ◌, ◌*ℤ◌, List, length, if◌then◌else◌}
+use Rattle.std.specs.Prelude.{ℕ, ◌+◌, ◌-◌, ◌*◌, ◌/◌, ◌%◌, ℤ, ◌+ℤ◌, ◌*ℤ◌, List, length, if◌then◌else◌}
 use Rattle.sj_base.specs.Array.{at}
 use Rattle.sj_codelet.specs.Ring.{wrap, sum_below}
 use Rattle.sj_base.specs.Window.{is_within}
@@ -9,12 +9,6 @@ use Rattle.sj_kernels.specs.declared.product.Span.{Span}
 -- start and the first l terms of column j of a b, where a is a row and b has n columns
 abbrev pub column_sum : ℕ → List ℤ → List ℤ → ℕ → ℕ → ℤ → ℤ
 column_sum n a b j l start = wrap (start +ℤ sum_below l (λ q. at a q *ℤ at b (q * n + j)))
-
--- start and the terms of that column from the term l on
-abbrev pub column_rest : ℕ → List ℤ → List ℤ → ℕ → ℕ → ℤ → ℤ
-column_rest n a b j l start =
-    let term = λ (q : ℕ). at a q *ℤ at b (q * n + j) in
-    wrap (start +ℤ (sum_below (length a) term -ℤ sum_below l term))
 
 -- the element in row i of a and column j of b, from the terms of these columns of a; b has n columns
 abbrev pub terms : Sides → Span → ℕ → List ℤ → List ℤ → ℕ → ℕ → ℤ

@@ -37,6 +37,14 @@ struct Span {
     len: usize,
 }
 
+/// The sums of a row in three neighbouring columns.
+#[derive(Clone, Copy)]
+struct Sums {
+    left: i64,
+    middle: i64,
+    right: i64,
+}
+
 /// `C = C + A B`, wrapping, for an m×k, a k×n and an m×n matrix. About `m k n` steps.
 pub fn gemm(a: &[i64], b: &[i64], c: &mut [i64], m: u32, k: u32, n: u32)
     requires left { length a.now ≡ m * k }
@@ -235,9 +243,9 @@ fn two_columns(a: &[i64], e: &[i64], b: &[i64], n: usize, j: usize, c: &mut [i64
     d.copy_from_slice(&[d0, d1]);
 }
 
-/// The same in three columns from `j` on. All that a step needs stays in registers, with six sums and no more. They begin
-/// at the old elements: begun at 0, the compiler makes vectors of them, which are slower. The terms are taken from the last
-/// to the first, which saves the register that would hold how many there are.
+/// The same in three columns from `j` on. There are six sums and no more, so that all stay in registers. They begin at the
+/// old elements: begun at 0, the compiler makes vectors of them, which are slower. A turn takes two terms: with half as
+/// many jumps it matters less where in memory the loop's own one happens to lie.
 fn block(a: &[i64], e: &[i64], b: &[i64], n: usize, j: usize, c: &mut [i64], d: &mut [i64])
     requires as_long { length e.now ≡ length a.now }
     requires right { length b.now ≡ length a.now * n }
@@ -247,20 +255,46 @@ fn block(a: &[i64], e: &[i64], b: &[i64], n: usize, j: usize, c: &mut [i64], d: 
     ensures first { c.new ≡ listing 3 (λ q. column_sum n a.now b.now (j + q) (length a.now) (at c.old q)) }
     ensures second { d.new ≡ listing 3 (λ q. column_sum n e.now b.now (j + q) (length e.now) (at d.old q)) }
 {
-    let (mut c0, mut c1, mut c2) = (c[0], c[1], c[2]);
-    let (mut d0, mut d1, mut d2) = (d[0], d[1], d[2]);
-    for l in (0..a.len()).rev() {
+    let mut upper = Sums {
+        left: c[0],
+        middle: c[1],
+        right: c[2],
+    };
+    let mut lower = Sums {
+        left: d[0],
+        middle: d[1],
+        right: d[2],
+    };
+    for h in 0..a.len() / 2 {
+        let l = h * 2;
         let place = l * n + j;
-        let (x, y) = (a[l], e[l]);
-        c0 = with_product(c0, x, b[place]);
-        c1 = with_product(c1, x, b[place + 1]);
-        c2 = with_product(c2, x, b[place + 2]);
-        d0 = with_product(d0, y, b[place]);
-        d1 = with_product(d1, y, b[place + 1]);
-        d2 = with_product(d2, y, b[place + 2]);
+        upper = with_term(upper, a[l], b, place);
+        lower = with_term(lower, e[l], b, place);
+        upper = with_term(upper, a[l + 1], b, place + n);
+        lower = with_term(lower, e[l + 1], b, place + n);
     }
-    c.copy_from_slice(&[c0, c1, c2]);
-    d.copy_from_slice(&[d0, d1, d2]);
+    if a.len() % 2 == 1 {
+        let l = a.len() - 1;
+        upper = with_term(upper, a[l], b, l * n + j);
+        lower = with_term(lower, e[l], b, l * n + j);
+    }
+    c.copy_from_slice(&[upper.left, upper.middle, upper.right]);
+    d.copy_from_slice(&[lower.left, lower.middle, lower.right]);
+}
+
+/// The sums with a term more: `x` times the element at `place` and its two neighbours.
+#[inline(always)]
+fn with_term(sums: Sums, x: i64, b: &[i64], place: usize) -> Sums
+    requires within { place + 2 < length b.now }
+    ensures left { result.left ≡ wrap (sums.left +ℤ (x *ℤ at b.now place)) }
+    ensures middle { result.middle ≡ wrap (sums.middle +ℤ (x *ℤ at b.now (place + 1))) }
+    ensures right { result.right ≡ wrap (sums.right +ℤ (x *ℤ at b.now (place + 2))) }
+{
+    Sums {
+        left: with_product(sums.left, x, b[place]),
+        middle: with_product(sums.middle, x, b[place + 1]),
+        right: with_product(sums.right, x, b[place + 2]),
+    }
 }
 
 /// The element in column `j` of `a B`, and `start`, wrapping.
