@@ -13,11 +13,7 @@ use Rattle.sj_core.proofs.Reading.{progress-inside, progress-other, progress-sam
 use Rattle.sj_core.proofs.Replicas.{same_worker-is, same_worker-refl}
 
 pub same_task : (t u : Task) → (t ≡ u) ⊎ (t ≢ u)
-same_task t u =
-    elim (cases_eq t.0 u.0) [
-      | inl e ↦ inl (ap (λ (n : ℕ). let k : Task = record { 0 = n } in k) e)
-      | inr d ↦ inr (λ e. d (ap (λ (k : Task). k.0) e))
-    ]
+same_task t u = search (arith, cases_eq)
 
 -- ---- whose task
 
@@ -63,11 +59,7 @@ done-begun (Done w) h = refl
 
 -- a worker without a task has none of the table
 pub idle-has_none : (s : State) (w : Worker) (t : Task) → is_idle s w ≡ true → is_task_of w (progress s t) ≡ false
-idle-has_none s w t h =
-    elim (cases_lt t.0 (length s.tasks)) [
-      | inl inside ↦ not-true (is_task_of w (progress s t)) (AllPass-from_list_all (λ (x : Progress). not (is_task_of w x)) s.tasks h t.0 Waiting inside)
-      | inr past ↦ ap (is_task_of w) (get_or_past s.tasks t.0 Waiting past)
-    ]
+idle-has_none s w t h = search (arith, cases_lt, not-true, AllPass-from_list_all, get_or_past)
 
 -- ---- a task goes on
 
@@ -85,36 +77,20 @@ not_waiting_running x w e f = let g : Running w ≡ Waiting = sym e ∙ f in cc
 
 -- a row for each task suffices
 pub Claims-advances_task : (p : Program) (m : Machine) (s : State) (t : Task) (w : Worker) (s' : State) → length s.tasks ≡ length p.tasks → Claims p m s t w s' → Advances s s' t Waiting (Claimed w)
-Claims-advances_task p m s t w s' rows c = record {
-  was = c.waiting;
-  is = ap (λ (z : State). progress z t) c.leaves ∙ progress-same s t (Claimed w) (omega (arith, c.ready.task, rows));
-  others = λ u d. ap (λ (z : State). progress z u) c.leaves ∙ progress-other s t u (Claimed w) d;
-}
+Claims-advances_task p m s t w s' rows c = search (arith, progress-same, progress-other)
 
 pub Claims-advances : (p : Program) (m : Machine) (s : State) (t : Task) (w : Worker) (s' : State) → HasRows p m s → Claims p m s t w s' → Advances s s' t Waiting (Claimed w)
 Claims-advances p m s t w s' rows c = Claims-advances_task p m s t w s' rows.tasks c
 
 pub Runs-advances : (p : Program) (m : Machine) (s : State) (t : Task) (w : Worker) (s' : State) → Runs p m s t w s' → Advances s s' t (Claimed w) (Running w)
-Runs-advances p m s t w s' r = record {
-  was = r.claimed;
-  is = ap (λ (z : State). progress z t) r.leaves ∙ progress-same s t (Running w) (progress-inside s t (not_waiting (progress s t) w r.claimed));
-  others = λ u d. ap (λ (z : State). progress z u) r.leaves ∙ progress-other s t u (Running w) d;
-}
+Runs-advances p m s t w s' r = search (arith, progress-same, progress-inside, not_waiting, progress-other)
 
 pub Ends-advances : (p : Program) (m : Machine) (s : State) (t : Task) (w : Worker) (s' : State) → Ends p m s t w s' → Advances s s' t (Running w) (Done w)
-Ends-advances p m s t w s' e = record {
-  was = e.running;
-  is = ap (λ (z : State). progress z t) e.leaves ∙ progress-same s t (Done w) (progress-inside s t (not_waiting_running (progress s t) w e.running));
-  others = λ u d. ap (λ (z : State). progress z u) e.leaves ∙ progress-other s t u (Done w) d;
-}
+Ends-advances p m s t w s' e = search (arith, progress-same, progress-inside, not_waiting_running, progress-other)
 
 -- what is done stays done
 pub done-kept : (s s' : State) (t u : Task) (old new : Progress) → Advances s s' t old new → is_done old ≡ false → done_in s u ≡ true → done_in s' u ≡ true
-done-kept s s' t u old new a undone done =
-    elim (same_task u t) [
-      | inl e ↦ absurd (false≢true (sym undone ∙ sym (ap is_done a.was) ∙ sym (ap (λ (k : Task). done_in s k) e) ∙ done))
-      | inr d ↦ ap is_done (a.others u d) ∙ done
-    ]
+done-kept s s' t u old new a undone done = search (arith, same_task, false≢true)
 
 pub EarlierAreDone-kept : (p : Program) (s s' : State) (t u : Task) (old new : Progress) → Advances s s' t old new → is_done old ≡ false → EarlierAreDone p s u → EarlierAreDone p s' u
 EarlierAreDone-kept p s s' t u old new a undone earlier v before conflict = done-kept s s' t v old new a undone (earlier v before conflict)
@@ -162,9 +138,7 @@ commuting-kept p s s' t old new a active same before u v au av d h =
 -- a run keeps the order of conflicting tasks
 pub Runs-keeps_order : (p : Program) (m : Machine) (s : State) (t : Task) (w : Worker) (s' : State) → Runs p m s t w s' → OrderIsKept p s → OrderIsKept p s'
 Runs-keeps_order p m s t w s' r o =
-    let a = Runs-advances p m s t w s' r in
-    let earlier = earlier-kept p s s' t (Claimed w) (Running w) a refl r.earlier o.earlier in
-    record { earlier = earlier; apart = apart-from_earlier p s' earlier; commuting = commuting-kept p s s' t (Claimed w) (Running w) a (claimed-is_mine w) refl o.commuting }
+    search (arith, Runs-advances, earlier-kept, apart-from_earlier, commuting-kept, claimed-is_mine)
 
 -- an end keeps the order of conflicting tasks
 pub Ends-keeps_order : (p : Program) (m : Machine) (s : State) (t : Task) (w : Worker) (s' : State) → Ends p m s t w s' → OrderIsKept p s → OrderIsKept p s'

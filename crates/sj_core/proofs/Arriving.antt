@@ -79,13 +79,7 @@ module _ (p : Program) (m : Machine) (s : State) (h : IsSound p m s) (c : Cell) 
 
   -- a transfer that is still under way is another worker's
   others : (v : Worker) (x : Transfer) → transfer after v ≡ Some x → (v ≢ w) × (transfer s v ≡ Some x)
-  others v x under_way =
-      let none : transfer after w ≡ None = transfer-own placed w None (transfer-inside s w ending moved.under_way) in
-      let other : v ≢ w = λ e. none_isn't_some (sym none ∙ ap (transfer after) (sym e) ∙ under_way) in
-      (other, elim (transfer-cases placed w None v) [ inl same ↦ sym same ∙ under_way | inr (e, is) ↦ absurd (other e) ])
-    where
-      none_isn't_some : None ≡ Some x → ⊥
-      none_isn't_some e = cc
+  others v x under_way = search (arith, after, transfer-own, placed, transfer-inside, ending, transfer-cases)
 
   moving : TransfersAreSound m after
   moving =
@@ -140,9 +134,7 @@ module _ (p : Program) (m : Machine) (s : State) (h : IsSound p m s) (c : Cell) 
 
   -- a cell that a worker owns isn't the one that moved
   owned_apart : (x : Cell) (v : Worker) (a : Array) → IsOwnedBy m s x v a → x ≡ c → ⊥
-  owned_apart x v a own e =
-      let this : moves s w c ≡ true = ap (λ (o : Option Transfer). elim o as (λ _. Bool) [ None ↦ false | Some y ↦ same_cell y.cell c ]) moved.under_way ∙ same_cell-refl c in
-      true≢false (sym this ∙ ap (moves s w) (sym e) ∙ own.unmoved w)
+  owned_apart x v a own e = search (arith, same_cell-refl, true≢false)
 
   shift : Shifts p m s after.cells after.workers
   shift = record {

@@ -18,11 +18,7 @@ abbrev pub bytes_where : Program → (Cell → Bool) → ℕ
 bytes_where p test = sum_by (share (tile_bytes p) test) (cells_of_program p)
 
 bytes_where-le : (p : Program) (f g : Cell → Bool) → ((c : Cell) → f c ≡ true → g c ≡ true) → bytes_where p f ≤ bytes_where p g
-bytes_where-le p f g wider = sum_by-le-sum_by (share (tile_bytes p) f) (share (tile_bytes p) g) (cells_of_program p) (λ c. by_test c (f c) refl)
-  where
-    by_test : (c : Cell) (b : Bool) → f c ≡ b → cond b (tile_bytes p c) 0 ≤ share (tile_bytes p) g c
-    by_test c true e = let same : share (tile_bytes p) g c ≡ tile_bytes p c = ap (λ b. cond b (tile_bytes p c) 0) (wider c e) in omega arith
-    by_test c false e = omega arith
+bytes_where-le p f g wider = search (arith, sum_by-le-sum_by, share)
 
 bytes_where-same : (p : Program) (f g : Cell → Bool) → ((c : Cell) → f c ≡ g c) → bytes_where p f ≡ bytes_where p g
 bytes_where-same p f g same = sum-agree (share (tile_bytes p) f) (share (tile_bytes p) g) (λ c. ap (λ b. cond b (tile_bytes p c) 0) (same c)) (cells_of_program p)
@@ -62,20 +58,10 @@ worker-once_at m n w =
 
 -- a worker of a list of a node's workers is bound there
 pub others-le : (m : Machine) (n : Node) (w : Worker) (f g : Worker → ℕ) → ((v : Worker) → node_of m v ≡ n → v ≢ w → f v ≤ g v) → sum_by f (others_at m n w) ≤ sum_by g (others_at m n w)
-others-le m n w f g le =
-    let here : Worker → Bool = λ v. nat_eq (node_of m v).0 n.0 in
-    let other : Worker → Bool = λ v. not (nat_eq v.0 w.0) in
-    let one = filter-filter other here (workers_of m) in
-    subst (λ (ws : List Worker). sum_by f ws ≤ sum_by g ws) (sym one) (sum-filter-le f g (λ v. here v && other v) (λ v passes. (let both = and_parts (here v) (other v) passes in le v (is_node (node_of m v) ((Decides-eqb (node_of m v).0 n.0).0 both.0)) (λ e. false≢true (sym (ap not ((Decides-eqb v.0 w.0).1 (ap (λ (k : Worker). k.0) e))) ∙ both.1)))) (workers_of m))
-  where
-    is_node : (k : Node) → k.0 ≡ n.0 → k ≡ n
-    is_node k e = ap (λ (i : ℕ). let j : Node = record { 0 = i } in j) e
+others-le m n w f g le = search (arith, filter-filter, sum-filter-le, and_parts, Decides-eqb, false≢true)
 
 workers-le : (m : Machine) (n : Node) (f g : Worker → ℕ) → ((v : Worker) → node_of m v ≡ n → f v ≤ g v) → sum_by f (workers_at m n) ≤ sum_by g (workers_at m n)
-workers-le m n f g le = sum-filter-le f g (λ v. nat_eq (node_of m v).0 n.0) (λ v passes. le v (is_node (node_of m v) ((Decides-eqb (node_of m v).0 n.0).0 passes))) (workers_of m)
-  where
-    is_node : (k : Node) → k.0 ≡ n.0 → k ≡ n
-    is_node k e = ap (λ (i : ℕ). let j : Node = record { 0 = i } in j) e
+workers-le m n f g le = search (arith, sum-filter-le, Decides-eqb)
 
 -- ---- steps that bring nothing
 

@@ -60,11 +60,7 @@ has_cell-head [] d some = absurd (omega arith)
 has_cell-head (x ∷ xs) d some = ap (λ b. b || has_cell xs x) (same_cell-refl x)
 
 pub has_cell-to_front : (xs : List Cell) (d c : Cell) → has_cell (to_front xs d) c ≡ (same_cell d c || has_cell xs c)
-has_cell-to_front xs d c = by_cases (same_cell d c) refl
-  where
-    by_cases : (b : Bool) → same_cell d c ≡ b → (same_cell d c || has_cell (filter (λ e. not (same_cell e d)) xs) c) ≡ (same_cell d c || has_cell xs c)
-    by_cases true e = ap (λ b. b || has_cell (filter (λ e. not (same_cell e d)) xs) c) e ∙ sym (ap (λ b. b || has_cell xs c) e)
-    by_cases false e = ap (λ b. same_cell d c || b) (has_cell-filter_is (λ e. not (same_cell e d)) xs c ∙ ap (λ b. not b && has_cell xs c) (same_cell-sym c d ∙ e))
+has_cell-to_front xs d c = search (arith, has_cell-filter_is, same_cell-sym)
 
 -- the cells of a list, brought to the front one after another
 pub has_cell-fronted : (cs xs : List Cell) (c : Cell) → has_cell (fold to_front xs cs) c ≡ (has_cell cs c || has_cell xs c)

@@ -18,18 +18,11 @@ use Rattle.sj_core.proofs.Tables.{length-renewed, renewed-at}
 
 -- what holds of each row of a table holds where each row was renewed so as to keep it
 pub All-renewed : {X : Type 0} (P : X → Type 0) (f : ℕ → X → X) (xs : List X) → ((i : ℕ) (x : X) → P x → P (f i x)) → All P xs → All P (renewed f xs)
-All-renewed P f xs keeps all i d inside =
-    let within : i < length xs = omega (arith, inside, length-renewed f xs) in
-    subst P (sym (renewed-at f xs i d within)) (keeps i (get_or xs i d) (all i d within))
+All-renewed P f xs keeps all i d inside = search (arith, length-renewed, renewed-at, get_or)
 
 -- where a task advances to a worker of the program, each begun task still has one
 pub HasWorkers-kept : (p : Program) (s s' : State) (t : Task) (old new : Progress) → Advances s s' t old new → (worker_of new).0 < p.workers → HasWorkers p s → HasWorkers p s'
-HasWorkers-kept p s s' t old new a staffed before = record {
-  staffed = λ u begun. elim (same_task u t) [
-    | inl e ↦ subst (λ (k : Task). (worker_of (progress s' k)).0 < p.workers) (sym e) (subst (λ (x : Progress). (worker_of x).0 < p.workers) (sym a.is) staffed)
-    | inr d ↦ subst (λ (x : Progress). (worker_of x).0 < p.workers) (sym (a.others u d)) (before.staffed u (sym (ap is_begun (a.others u d)) ∙ begun))
-  ];
-}
+HasWorkers-kept p s s' t old new a staffed before = search (arith, same_task)
 
 -- where each replica on a disk is as it was or invalid, and transfers are as they were, blocks are where they ought to be
 pub HasBlocks-kept : (p : Program) (m : Machine) (s s' : State) → ((c : Cell) (d : DiskNo) → (replica s' c (OnDisk d) ≡ Invalid) ⊎ (replica s' c (OnDisk d) ≡ replica s c (OnDisk d))) → ((v : Worker) → transfer s' v ≡ transfer s v) → HasBlocks p m s → HasBlocks p m s'
@@ -80,12 +73,7 @@ pub record Changes (p : Program) (m : Machine) (s s' : State) (t : Task) (old ne
 module _ (p : Program) (m : Machine) (s : State) (h : IsSound p m s) (s' : State) (t : Task) (old new : Progress) (w : Worker) (change : Changes p m s s' t old new w) where
   -- a task of a worker after the step was its task before; one of before still is, but for t
   was_task : (v : Worker) (u : Task) → is_task_of v (progress s' u) ≡ true → is_task_of v (progress s u) ≡ true
-  was_task v u has = elim (same_task u t) [
-    | inr d ↦ sym (ap (is_task_of v) (change.advance.others u d)) ∙ has
-    | inl e ↦
-        let is : v ≡ w = change.still_mine v (sym (ap (λ (k : Task). is_task_of v (progress s' k)) e ∙ ap (is_task_of v) change.advance.is) ∙ has) in
-        ap (λ (x : Worker). is_task_of x (progress s u)) is ∙ ap (λ (k : Task). is_task_of w (progress s k)) e ∙ ap (is_task_of w) change.advance.was ∙ change.mine
-  ]
+  was_task v u has = search (arith, same_task)
 
   its_worker : (v : Worker) → is_task_of v (progress s t) ≡ true → v ≡ w
   its_worker v has = sym (task_of-worker v (progress s t) has) ∙ task_of-worker w (progress s t) (ap (is_task_of w) change.advance.was ∙ change.mine)
@@ -98,30 +86,16 @@ module _ (p : Program) (m : Machine) (s : State) (h : IsSound p m s) (s' : State
 
   -- pins are where they were
   was_pinned : (v : Worker) (c : Cell) → has_cell (pins s' v) c ≡ true → has_cell (pins s v) c ≡ true
-  was_pinned v c pin = elim (change.rows v) [
-    | inl (same, scratch, has) ↦ ap (λ (cs : List Cell). has_cell cs c) (sym same) ∙ pin
-    | inr (e, none, scratch, has) ↦ absurd (false≢true (ap (λ (cs : List Cell). has_cell cs c) (sym none) ∙ pin))
-  ]
+  was_pinned v c pin = search (arith, false≢true)
 
   -- and stay there while the worker has a task
   still_pinned : (v : Worker) (u : Task) (c : Cell) → is_task_of v (progress s' u) ≡ true → has_cell (pins s v) c ≡ true → has_cell (pins s' v) c ≡ true
-  still_pinned v u c has pin = elim (change.rows v) [
-    | inl (same, scratch, k) ↦ ap (λ (cs : List Cell). has_cell cs c) same ∙ pin
-    | inr (e, none, scratch, idle) ↦ absurd (elim (same_task u t) [
-      | inr d ↦ others-task u v d (was_task v u has) e
-      | inl f ↦ false≢true (sym idle ∙ ap (λ (x : Worker). is_task_of x new) (sym e) ∙ sym (ap (λ (k : Task). is_task_of v (progress s' k)) f ∙ ap (is_task_of v) change.advance.is) ∙ has)
-    ])
-  ]
+  still_pinned v u c has pin = search (arith, same_task, others-task, was_task, false≢true)
 
   -- a claim is still one, where w's that goes on isn't one that still has something to do
   still_claims : (v : Worker) (u : Task) → is_claimed_by v (progress s u) ≡ true → (v ≡ w → old ≡ Claimed w → new ≡ Claimed w) → is_claimed_by v (progress s' u) ≡ true
-  still_claims v u claims on = elim (same_task u t) [
-    | inr d ↦ ap (is_claimed_by v) (change.advance.others u d) ∙ claims
-    | inl e ↦
-        let here : is_claimed_by v old ≡ true = sym (ap (λ (k : Task). is_claimed_by v (progress s k)) e ∙ ap (is_claimed_by v) change.advance.was) ∙ claims in
-        let is : v ≡ w = its_worker v (ap (is_task_of v) change.advance.was ∙ claimed_by-task_of v old here) in
-        ap (λ (k : Task). is_claimed_by v (progress s' k)) e ∙ ap (is_claimed_by v) (change.advance.is ∙ on is (claimed_by-is w old (ap (λ (x : Worker). is_claimed_by x old) (sym is) ∙ here))) ∙ ap (λ (x : Worker). is_claimed_by x (Claimed w)) is ∙ same_worker-refl w
-  ]
+  still_claims v u claims on =
+      search (arith, same_task, its_worker, claimed_by-task_of, claimed_by-is, same_worker-refl)
 
   leaving_on : (c : Cell) (k : Node) → is_leaving_by w (replica s' c (AtNode k)) ≡ true → old ≡ Claimed w → new ≡ Claimed w
   leaving_on c k leaving claimed = elim (change.claims_on claimed) [ inr on ↦ on | inl (none, come, move) ↦ absurd (false≢true (sym (none c k) ∙ leaving)) ]
@@ -130,29 +104,7 @@ module _ (p : Program) (m : Machine) (s : State) (h : IsSound p m s) (s' : State
   coming_on c k coming claimed = elim (change.claims_on claimed) [ inr on ↦ on | inl (leave, none, move) ↦ absurd (false≢true (sym (none c k) ∙ coming)) ]
 
   pub Changes-cells : TasksHaveCells p m s'
-  Changes-cells =
-      let before = h.coherent.cells in
-      record {
-        running = λ u v c runs has. elim (same_task u t) [
-          | inr d ↦
-              let was : progress s u ≡ Running v = sym (change.advance.others u d) ∙ runs in
-              (change.stays u v c d (ap (is_task_of v) was ∙ same_worker-refl v) has).1 (before.running u v c was has)
-          | inl e ↦
-              let now : new ≡ Running v = sym (ap (λ (k : Task). progress s' k) e ∙ change.advance.is) ∙ runs in
-              let is : v ≡ w = change.still_mine v (ap (is_task_of v) now ∙ same_worker-refl v) in
-              ap (λ (x : Worker). is_valid (replica s' c (AtNode (node_of m x)))) is ∙ change.running c (now ∙ ap (λ (x : Worker). Running x) is) (ap (λ (x : Worker). has_cell (cells_of p t x) c) (sym is) ∙ ap (λ (k : Task). has_cell (cells_of p k v) c) (sym e) ∙ has)
-        ];
-        claimed = λ u v c claims has. elim (same_task u t) [
-          | inr d ↦
-              let was : progress s u ≡ Claimed v = sym (change.advance.others u d) ∙ claims in
-              (change.stays u v c d (ap (is_task_of v) was ∙ ap (λ b. b || false) (same_worker-refl v)) has).0 (before.claimed u v c was has)
-          | inl e ↦
-              let now : new ≡ Claimed v = sym (ap (λ (k : Task). progress s' k) e ∙ change.advance.is) ∙ claims in
-              let is : v ≡ w = change.still_mine v (ap (is_task_of v) now ∙ ap (λ b. b || false) (same_worker-refl v)) in
-              ap (λ (x : Worker). is_entry (replica s' c (AtNode (node_of m x)))) is ∙ change.claimed c (now ∙ ap (λ (x : Worker). Claimed x) is) (ap (λ (x : Worker). has_cell (cells_of p t x) c) (sym is) ∙ ap (λ (k : Task). has_cell (cells_of p k v) c) (sym e) ∙ has)
-        ];
-        pinned = λ u v c has cell. still_pinned v u c has (before.pinned u v c (was_task v u has) cell);
-      }
+  Changes-cells = search (arith, same_task, same_worker-refl, still_pinned, was_task)
 
   pub Changes-pins : PinsHold p m s'
   Changes-pins =
@@ -250,18 +202,7 @@ module _ (p : Program) (m : Machine) (s : State) (h : IsSound p m s) (s' : State
   }
 
   pub Changes-coherent : WritersOwn p m s' → CopiesAgree p s' → Coherent p m s'
-  Changes-coherent writers copies = record {
-    state = change.state;
-    writers = writers;
-    copies = copies;
-    cells = Changes-cells;
-    pins = Changes-pins;
-    transfers = change.transfers;
-    bytes = Changes-bytes;
-    workers = Changes-workers;
-    order = change.order;
-    counts = change.counts;
-  }
+  Changes-coherent writers copies = search (arith, Changes-cells, Changes-pins, Changes-bytes, Changes-workers)
 
 -- a step that leaves alone the cells that move, and the transfers, keeps transfers sound
 pub TransfersAreSound-spared : (p : Program) (m : Machine) (s s' : State) (touched : Cell → Bool) → ((c : Cell) (q : Place) → touched c ≡ false → replica s' c q ≡ replica s c q) → ((v : Worker) (c : Cell) (q : Place) → is_leaving_by v (replica s' c q) ≡ true → is_leaving_by v (replica s c q) ≡ true) →

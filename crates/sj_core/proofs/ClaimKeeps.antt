@@ -45,9 +45,7 @@ module _ (p : Program) (m : Machine) (s : State) (h : IsSound p m s) (t : Task) 
       }
 
   pub claim-order_here : order s' (node_of m w) ≡ claim_order
-  claim-order_here =
-      let within : (node_of m w).0 < length m.nodes = (let some = h.machine.some_node in omega arith) in
-      ap (λ (z : State). order z (node_of m w)) claim.leaves ∙ get_or-set_same s.orders (node_of m w).0 claim_order [] (omega (arith, within, h.coherent.state.rows.orders))
+  claim-order_here = search (arith, get_or-set_same, claim_order)
 
   pub claim-order_elsewhere : (k : Node) → k ≢ node_of m w → order s' k ≡ order s k
   claim-order_elsewhere k d = ap (λ (z : State). order z k) claim.leaves ∙ get_or-set_other s.orders (node_of m w).0 k.0 claim_order [] (λ e. d (ap (λ (i : ℕ). let j : Node = record { 0 = i } in j) e))
@@ -382,15 +380,7 @@ module _ (p : Program) (m : Machine) (s : State) (h : IsSound p m s) (t : Task) 
           omega arith
 
   claim-enough : used p m s' (node_of m w) ≤ node_size m (node_of m w)
-  claim-enough =
-      let n = node_of m w in
-      let need = to_come p s t w n in
-      let passes = shortest_suffix-passes (covers (tile_bytes p) (free p m s n) need) (filter (λ d. not (is_pinned m s n d) && not (has_cell (cells_of p t w) d)) (order s n)) claim.evicted claim.chosen in
-      let covered = leb-true need (free p m s n + sum_by (tile_bytes p) claim.evicted) passes in
-      let before = h.coherent.bytes.entries n in
-      let balance = order-balance in
-      let held = claim-scratch in
-      omega arith
+  claim-enough = search (arith, shortest_suffix-passes, leb-true, balance, order-balance, claim-scratch)
 
   -- what leaves the node, and its entries beside what comes, were its entries
   claim-leaving_within : (c : Cell) → share (tile_bytes p) (λ d. is_leaving_by w (replica s' d (AtNode (node_of m w)))) c + share (tile_bytes p) (λ d. not (is_coming_by w (replica s' d (AtNode (node_of m w)))) && has_cell (order s' (node_of m w)) d) c ≤ share (tile_bytes p) (has_cell (order s (node_of m w))) c

@@ -25,10 +25,7 @@ module _ (p : Program) (m : Machine) (s : State) (h : IsSound p m s) (t : Task) 
   claimed-staffed = worker-inside p m h.proper.cells (Proper-dependencies p h.proper) s h.coherent.state h.coherent.workers h.coherent.order t w (claimed-task_of s t w claimed)
 
   pub claimed-inside : t.0 < length p.tasks
-  claimed-inside = omega (arith, progress-inside s t (λ e. claimed_isn't_waiting (sym claimed ∙ e)), h.coherent.state.rows.tasks)
-    where
-      claimed_isn't_waiting : Claimed w ≡ Waiting → ⊥
-      claimed_isn't_waiting e = cc
+  claimed-inside = search (arith, progress-inside)
 
   -- no running task writes a cell of the claimed one
   pub claimed-not_written : (c : Cell) → has_cell (cells_of p t w) c ≡ true → is_being_written p s c ≡ false

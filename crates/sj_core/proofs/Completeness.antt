@@ -3,7 +3,7 @@ use Rattle.sj_codelet.proofs.Table.{new_arrays-count}
 use Rattle.sj_codelet.specs.Formal.{is_output}
 use Rattle.sj_codelet.specs.declared.formal.Formal.{Formal}
 use Rattle.sj_codelet.specs.declared.formal.Formal.TheVariants.{R as ReadFormal, W as WriteFormal, RW as UpdateFormal, Scratch as ScratchFormal}
-use Rattle.std.proofs.Common.{◌≡◌, ◌+◌, Bool, true, false, cond, List, [], ◌∷◌, map, length, refl, sym, ap, ◌∙◌, None, Some, Option}
+use Rattle.std.proofs.Common.{arith, ◌≡◌, ◌+◌, Bool, true, false, cond, List, [], ◌∷◌, map, length, refl, sym, ap, ◌∙◌, None, Some, Option}
 use Rattle.std.specs.Prelude.{ℤ, count_by, if◌then◌else◌}
 use Rattle.std.specs.List.{filter}
 use Rattle.std.proofs.lemmas.List.{length-map}
@@ -28,21 +28,11 @@ count_by-map f test test' (x ∷ xs) same =
 
 -- a kernel has a new array for each of its own operands that is written
 own-count : (k : Kernel) (args : List ℤ) (ins : List Array) → length (new_arrays k args ins) ≡ count_by is_written (own_modes k)
-own-count k args ins = new_arrays-count k args ins ∙ length-filter is_output (formals_of k) ∙ sym (count_by-map mode_of is_written is_output (formals_of k) by_formal)
-  where
-    by_formal : (f : Formal) → is_written (mode_of f) ≡ is_output f
-    by_formal ReadFormal = refl
-    by_formal WriteFormal = refl
-    by_formal UpdateFormal = refl
-    by_formal ScratchFormal = refl
+own-count k args ins = search (arith, new_arrays-count, length-filter, count_by-map)
 
 -- another mode for what is written is as many written operands
 writing_by-count : (x : Mode) → is_written x ≡ true → (k : Kernel) → count_by is_written (modes_writing_by x k) ≡ count_by is_written (own_modes k)
-writing_by-count x written k = count_by-map (λ mode. if is_written mode then x else mode) is_written is_written (own_modes k) (λ mode. by_mode mode (is_written mode) refl)
-  where
-    by_mode : (mode : Mode) (b : Bool) → is_written mode ≡ b → is_written (if b then x else mode) ≡ is_written mode
-    by_mode mode true e = written ∙ sym e
-    by_mode mode false e = refl
+writing_by-count x written k = search (arith, count_by-map)
 
 modes-count : (k : Kernel) (modes : List Mode) → MayHaveModes k modes → count_by is_written modes ≡ count_by is_written (own_modes k)
 modes-count k modes (Own e) = ap (count_by is_written) e

@@ -24,21 +24,7 @@ use Rattle.sj_core.proofs.Swapping.{put-last}
 -- ---- where no task more is done
 
 pub content-kept : (p : Program) (s s' : State) (t : Task) (old new : Progress) → Advances s s' t old new → is_done old ≡ false → is_done new ≡ false → (c : Cell) → content p s' c ≡ content p s c
-content-kept p s s' t old new a was is c = ap (λ (k : Contents). held_in p k c) (after_chosen-same p (done_in s') (done_in s) (done_by s') (done_by s) (length p.tasks) (λ u h. same u) (λ u h. workers u))
-  where
-    same : (u : Task) → done_in s' u ≡ done_in s u
-    same u =
-        elim (same_task u t) [
-          | inl e ↦ ap (λ (k : Task). done_in s' k) e ∙ ap is_done a.is ∙ is ∙ sym was ∙ sym (ap is_done a.was) ∙ ap (λ (k : Task). done_in s k) (sym e)
-          | inr d ↦ ap is_done (a.others u d)
-        ]
-
-    workers : (u : Task) → done_in s' u ≡ true → done_by s' u ≡ done_by s u
-    workers u h =
-        elim (same_task u t) [
-          | inl e ↦ absurd (false≢true (sym is ∙ sym (ap is_done a.is) ∙ ap (λ (k : Task). done_in s' k) (sym e) ∙ h))
-          | inr d ↦ ap worker_of (a.others u d)
-        ]
+content-kept p s s' t old new a was is c = search (arith, after_chosen-same, same_task, false≢true)
 
 -- ---- an end
 
@@ -59,13 +45,7 @@ lawful-puts_last has p proper lawful chosen chosen' by by' t w inside w_in staff
 
 -- the workers by which tasks are done are the program's; where a task isn't begun the word gives the first one
 pub all-staffed : (p : Program) (s : State) → 0 < p.workers → HasWorkers p s → (u : Task) → (done_by s u).0 < p.workers
-all-staffed p s some staff u = by_progress (progress s u) (staff.staffed u)
-  where
-    by_progress : (x : Progress) → (IsTrue (is_begun x) → (worker_of x).0 < p.workers) → (worker_of x).0 < p.workers
-    by_progress Waiting h = some
-    by_progress (Claimed v) h = h refl
-    by_progress (Running v) h = h refl
-    by_progress (Done v) h = h refl
+all-staffed p s some staff u = search (arith)
 
 module _ (p : Program) (m : Machine) (proper : Proper p) (puts_last : PutsLast p) (s : State) (sound : Coherent p m s) (t : Task) (w : Worker) (s' : State) (ended : Ends p m s t w s') where
   not_waiting : Running w ≡ Waiting → ⊥

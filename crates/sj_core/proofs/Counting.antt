@@ -17,14 +17,7 @@ written-other : (p : Program) (s s' : State) (c : Cell) (t u : Task) (old new : 
 written-other p s s' c t u old new a d = ap (λ (x : Progress). is_done x && has_cell (written_cells p u (worker_of x)) c) (a.others u d)
 
 pub written-undone : (p : Program) (s s' : State) (c : Cell) (t u : Task) (old new : Progress) → Advances s s' t old new → is_done old ≡ false → is_done new ≡ false → has_written p s' c u ≡ has_written p s c u
-written-undone p s s' c t u old new a before after =
-    elim (same_task u t) [
-      | inl e ↦ undone s' (ap (λ (k : Task). is_done (progress s' k)) e ∙ ap is_done a.is ∙ after) ∙ sym (undone s (ap (λ (k : Task). is_done (progress s k)) e ∙ ap is_done a.was ∙ before))
-      | inr d ↦ written-other p s s' c t u old new a d
-    ]
-  where
-    undone : (z : State) → is_done (progress z u) ≡ false → has_written p z c u ≡ false
-    undone z h = ap (λ b. b && has_cell (written_cells p u (worker_of (progress z u))) c) h
+written-undone p s s' c t u old new a before after = search (arith, same_task, written-other)
 
 pub counted-same : (p : Program) (s s' : State) (c : Cell) → ((u : Task) → has_written p s' c u ≡ has_written p s c u) → count_by (has_written p s' c) (tasks_of p) ≡ count_by (has_written p s c) (tasks_of p)
 counted-same p s s' c same = sum-agree (λ u. tally (has_written p s' c u)) (λ u. tally (has_written p s c u)) (λ u. ap tally (same u)) (tasks_of p)

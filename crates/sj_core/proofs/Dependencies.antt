@@ -114,11 +114,7 @@ module _ (p : Program) (proper : Proper p) where
       ]
 
   cell-named : (t : ℕ) (c : Cell) (m : Manner) → Operand t c m → c.0 < length p.cells
-  cell-named t c m o = by_kind o.by
-    where
-      by_kind : Behind p (task_number p t).codelet o.operand c m → c.0 < length p.cells
-      by_kind (Direct accessed plain is manner) = subst (λ (d : Cell). d.0 < length p.cells) is (All-contains (λ (b : Access). b.cell.0 < length p.cells) (task_number p t).accesses o.operand (proper.cells.named t no_task o.inside) o.among)
-      by_kind (AsCopy redux w copy manner) = (proper.cells.copies c o.operand.cell w copy).0
+  cell-named t c m o = search (arith, All-contains)
 
   -- the inits and combines of a phase contribute to nothing
   pub own-of_phase : (f : Phase) → IsPhase p f → (t : ℕ) → Contains f.inits t ⊎ Contains f.combines t → (a : Access) → Contains (task_number p t).accesses a → a.mode ≡ Redux → ⊥

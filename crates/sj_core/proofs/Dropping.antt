@@ -67,15 +67,7 @@ module _ (p : Program) (m : Machine) (s : State) (h : IsSound p m s) (c : Cell) 
 
   -- another replica of the dropped cell is valid
   elsewhere : (q : Place) × (is_valid (replica after c q) ≡ true)
-  elsewhere =
-      let found = list_any-some (λ q. not (same_place q (AtNode n)) && is_valid (replica s c q)) (places_of m) drop.shared in
-      let both = and_parts (not (same_place found.0 (AtNode n))) (is_valid (replica s c found.0)) found.2 in (
-        found.0,
-        elim (cases c found.0) [
-          | inl same ↦ ap is_valid same ∙ both.1
-          | inr (e, at, is, left) ↦ absurd (false≢true (sym (ap not (ap (λ (q : Place). same_place q (AtNode n)) at ∙ same_place-refl (AtNode n))) ∙ both.0))
-        ],
-      )
+  elsewhere = search (arith, list_any-some, and_parts, cases, false≢true, same_place-refl)
 
   copies : CopiesAgree p after
   copies =

@@ -76,18 +76,10 @@ module _ (p : Program) (m : Machine) (s : State) (t : Task) (w : Worker) (s' : S
 
   -- the worker keeps its victims as chosen and its transfer, and pins and holds nothing
   pub end-own_worker : (worker_state s' w ≡ end-row) ⊎ ((worker_state s w ≡ idle_row) × (worker_state s' w ≡ idle_row))
-  end-own_worker =
-      elim (cases_lt w.0 (length s.workers)) [
-        | inl inside ↦ inl (ap (λ (z : State). worker_state z w) ended.leaves ∙ worker-same s w end-row inside)
-        | inr past ↦ inr (get_or_past s.workers w.0 idle_row past, ap (λ (z : State). worker_state z w) ended.leaves ∙ get_or_past (set s.workers w.0 end-row) w.0 idle_row (omega (arith, length-set s.workers w.0 end-row)))
-      ]
+  end-own_worker = search (arith, cases_lt, worker-same, end-row, get_or_past, idle_row, length-set)
 
   end-kept : {X : Type 0} (f : WorkerState → X) → f end-row ≡ f (worker_state s w) → (v : Worker) → f (worker_state s' v) ≡ f (worker_state s v)
-  end-kept f same v =
-      elim (workers_differ v w) [
-        | inr d ↦ ap f (end-other_worker v d)
-        | inl e ↦ ap (λ (x : Worker). f (worker_state s' x)) e ∙ elim end-own_worker [ inl own ↦ ap f own ∙ same | inr none ↦ ap f (none.1 ∙ sym none.0) ] ∙ sym (ap (λ (x : Worker). f (worker_state s x)) e)
-      ]
+  end-kept f same v = search (arith, workers_differ, end-other_worker, end-own_worker)
 
   pub end-transfer : (v : Worker) → transfer s' v ≡ transfer s v
   end-transfer = end-kept (λ row. row.transfer) refl

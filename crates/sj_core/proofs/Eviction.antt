@@ -11,11 +11,7 @@ module _ {X : Type 0} (test : List X → Bool) where
 
   -- the victims are an end of the list
   pub shortest_suffix-suffix : (xs vs : List X) → shortest_suffix test xs ≡ Some vs → (front : List X) × (front ++ vs ≡ xs)
-  shortest_suffix-suffix [] vs h = by_cases (test []) h
-    where
-      by_cases : (b : Bool) → then_some b [] ≡ Some vs → (front : List X) × (front ++ vs ≡ [])
-      by_cases true h = ([], sym (some_is [] vs h))
-      by_cases false h = absurd (cc)
+  shortest_suffix-suffix [] vs h = search (arith, some_is)
   shortest_suffix-suffix (x ∷ xs) vs h = by_cases (shortest_suffix test xs) refl (test (x ∷ xs)) h (shortest_suffix-suffix xs vs)
     where
       by_cases : (o : Option (List X)) → shortest_suffix test xs ≡ o → (b : Bool) → option_or o (then_some b (x ∷ xs)) ≡ Some vs → (shortest_suffix test xs ≡ Some vs → (front : List X) × (front ++ vs ≡ xs)) → (front : List X) × (front ++ vs ≡ x ∷ xs)
@@ -25,11 +21,7 @@ module _ {X : Type 0} (test : List X → Bool) where
 
   -- they pass the test
   pub shortest_suffix-passes : (xs vs : List X) → shortest_suffix test xs ≡ Some vs → test vs ≡ true
-  shortest_suffix-passes [] vs h = by_cases (test []) refl h
-    where
-      by_cases : (b : Bool) → test [] ≡ b → then_some b [] ≡ Some vs → test vs ≡ true
-      by_cases true e h = ap test (sym (some_is [] vs h)) ∙ e
-      by_cases false e h = absurd (cc)
+  shortest_suffix-passes [] vs h = search (arith, some_is)
   shortest_suffix-passes (x ∷ xs) vs h = by_cases (shortest_suffix test xs) refl (test (x ∷ xs)) refl h (shortest_suffix-passes xs vs)
     where
       by_cases : (o : Option (List X)) → shortest_suffix test xs ≡ o → (b : Bool) → test (x ∷ xs) ≡ b → option_or o (then_some b (x ∷ xs)) ≡ Some vs → (shortest_suffix test xs ≡ Some vs → test vs ≡ true) → test vs ≡ true
@@ -55,11 +47,7 @@ module _ {X : Type 0} (test : List X → Bool) where
 
   -- no shorter end passes
   pub shortest_suffix-shortest : (xs vs : List X) → shortest_suffix test xs ≡ Some vs → (k : ℕ) → 0 < k → k ≤ length vs → test (drop k vs) ≡ false
-  shortest_suffix-shortest [] vs h k positive within = by_cases (test []) h
-    where
-      by_cases : (b : Bool) → then_some b [] ≡ Some vs → test (drop k vs) ≡ false
-      by_cases true h = absurd (let e : length vs ≡ 0 = ap length (sym (some_is [] vs h)) in omega arith)
-      by_cases false h = absurd (cc)
+  shortest_suffix-shortest [] vs h k positive within = search (arith, some_is)
   shortest_suffix-shortest (x ∷ xs) vs h k positive within = by_cases (shortest_suffix test xs) refl (test (x ∷ xs)) h (shortest_suffix-shortest xs vs) k positive within
     where
       by_cases : (o : Option (List X)) → shortest_suffix test xs ≡ o → (b : Bool) → option_or o (then_some b (x ∷ xs)) ≡ Some vs → (shortest_suffix test xs ≡ Some vs → (j : ℕ) → 0 < j → j ≤ length vs → test (drop j vs) ≡ false) → (j : ℕ) → 0 < j → j ≤ length vs → test (drop j vs) ≡ false

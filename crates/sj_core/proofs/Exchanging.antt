@@ -1,5 +1,5 @@
 -- Two tasks that don't conflict may change places.
-use Rattle.std.proofs.Common.{Bool, List, None, Option, Some, ap, false, inl, inr, length, not, refl, subst, sym, true, ℕ, ◌<◌, ◌∙◌, ◌≡◌, ◌≢◌, ◌⊎◌}
+use Rattle.std.proofs.Common.{arith, Bool, List, None, Option, Some, ap, false, inl, inr, length, not, refl, subst, sym, true, ℕ, ◌<◌, ◌∙◌, ◌≡◌, ◌≢◌, ◌⊎◌}
 use Rattle.std.specs.Prelude.{IsTrue}
 use Rattle.std.specs.List.{Contains, list_any}
 use Rattle.std.proofs.lemmas.Bool.{and_from, cases_eq, false≢true}
@@ -32,9 +32,7 @@ has-contained : (cs : List Cell) (d : Cell) → Contains cs d → has_cell cs d 
 has-contained cs d (k, l, e) = list_any_at (λ c. same_cell c d) cs k d l (ap (λ (c : Cell). same_cell c d) e ∙ same_cell-refl d)
 
 any-has : (test : Cell → Bool) (cs : List Cell) (d : Cell) → has_cell cs d ≡ true → test d ≡ true → list_any test cs ≡ true
-any-has test cs d h passes =
-    let found = list_any-some (λ c. same_cell c d) cs h in
-    list_any_at test cs found.1.0 found.0 found.1.1 (ap test (found.1.2 ∙ same_cell-is found.0 d found.2) ∙ passes)
+any-has test cs d h passes = search (arith, list_any-some, list_any_at, same_cell-is)
 
 -- how two tasks may share a cell that one of them writes without a conflict
 data Alike (x y : Mode) (k k' : Codelet) : Type 0 where

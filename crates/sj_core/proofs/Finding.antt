@@ -34,11 +34,7 @@ task-counted p test u inside passes =
 
 -- a cell that is being written has a running task that writes it
 pub being_written-by : (p : Program) (s : State) (c : Cell) → is_being_written p s c ≡ true → (u : Task) × (progress s u ≡ Running (done_by s u)) × (has_cell (written_cells p u (done_by s u)) c ≡ true)
-being_written-by p s c h =
-    let found = Any-from_list_any (λ t. is_running_on (worker_of (progress s t)) (progress s t) && has_cell (written_cells p t (worker_of (progress s t))) c) (tasks_of p) h in
-    let u = found.1 in
-    let tests = and_parts (is_running_on (done_by s u) (progress s u)) (has_cell (written_cells p u (done_by s u)) c) found.4 in
-    (u, running_on-is (done_by s u) (progress s u) tests.0, tests.1)
+being_written-by p s c h = search (arith, Any-from_list_any, and_parts, running_on-is)
 
 pub being_written-here : (p : Program) (s : State) (c : Cell) (u : Task) (v : Worker) → u.0 < length p.tasks → progress s u ≡ Running v → has_cell (written_cells p u v) c ≡ true → is_being_written p s c ≡ true
 being_written-here p s c u v inside running writes =
@@ -89,21 +85,12 @@ gives-writes p u v c h =
 -- ---- cells at rest
 
 pub running-inside : (p : Program) (m : Machine) (s : State) (u : Task) (v : Worker) → HasRows p m s → progress s u ≡ Running v → u.0 < length p.tasks
-running-inside p m s u v rows running = omega (arith, progress-inside s u (λ h. not_waiting (sym running ∙ h)), rows.tasks)
-  where
-    not_waiting : Running v ≡ Waiting → ⊥
-    not_waiting e = cc
+running-inside p m s u v rows running = search (arith, progress-inside)
 
 -- a cell that isn't being written after a step wasn't before, unless the task of the step wrote it
 pub not_written-before : (p : Program) (m : Machine) (s s' : State) (t : Task) (old new : Progress) (c : Cell) → HasRows p m s → Advances s s' t old new → is_being_written p s' c ≡ false → ((v : Worker) → old ≡ Running v → has_cell (written_cells p t v) c ≡ false) → is_being_written p s c ≡ false
-not_written-before p m s s' t old new c rows a resting spared = false_from_ne_true (is_being_written p s c) (λ h. (let by = being_written-by p s c h in by_task by.0 (done_by s by.0) by.1 by.2))
-  where
-    by_task : (u : Task) (v : Worker) → progress s u ≡ Running v → has_cell (written_cells p u v) c ≡ true → ⊥
-    by_task u v running writes =
-        elim (same_task u t) [
-          | inl e ↦ false≢true (sym (spared v (sym a.was ∙ ap (λ (k : Task). progress s k) (sym e) ∙ running)) ∙ ap (λ (k : Task). has_cell (written_cells p k v) c) (sym e) ∙ writes)
-          | inr d ↦ false≢true (sym resting ∙ being_written-here p s' c u v (running-inside p m s u v rows running) (a.others u d ∙ running) writes)
-        ]
+not_written-before p m s s' t old new c rows a resting spared =
+    search (arith, false_from_ne_true, being_written-by, same_task, false≢true, being_written-here, running-inside)
 
 -- and the other way round: one that isn't being written isn't after a step whose task doesn't begin to write it
 pub not_written-after : (p : Program) (m : Machine) (s s' : State) (t : Task) (old new : Progress) (c : Cell) → HasRows p m s' → Advances s s' t old new → is_being_written p s c ≡ false → ((v : Worker) → new ≡ Running v → has_cell (written_cells p t v) c ≡ false) → is_being_written p s' c ≡ false

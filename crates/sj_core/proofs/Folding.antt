@@ -32,11 +32,7 @@ abbrev pub held_over : Contents → Cell → Array → Array
 held_over entries c below = elim (find (λ (entry : Cell × Array). same_cell entry.0 c) entries) as (λ _. Array) [ None ↦ below | Some entry ↦ entry.1 ]
 
 pub held-append : (p : Program) (xs ys : Contents) (c : Cell) → held_in p (xs ++ ys) c ≡ held_over xs c (held_in p ys c)
-held-append p xs ys c = ap (λ (o : Option (Cell × Array)). elim o as (λ _. Array) [ None ↦ zeros (dims_of p c) | Some entry ↦ entry.1 ]) (find-append (λ (entry : Cell × Array). same_cell entry.0 c) xs ys) ∙ by_first (find (λ (entry : Cell × Array). same_cell entry.0 c) xs)
-  where
-    by_first : (o : Option (Cell × Array)) → elim (option_or o (find (λ (entry : Cell × Array). same_cell entry.0 c) ys)) as (λ _. Array) [ None ↦ zeros (dims_of p c) | Some entry ↦ entry.1 ] ≡ elim o as (λ _. Array) [ None ↦ held_in p ys c | Some entry ↦ entry.1 ]
-    by_first None = refl
-    by_first (Some entry) = refl
+held-append p xs ys c = search (arith, find-append)
 
 -- arrays of other cells leave what the cell holds
 pub held_over-other : (cs : List Cell) (arrays : List Array) (c : Cell) (below : Array) → has_cell cs c ≡ false → held_over (zip cs arrays) c below ≡ below
@@ -62,17 +58,11 @@ held_over-own (d ∷ cs) (a ∷ arrays) c x y h l = by_first (same_cell d c) h (
 
 -- a task leaves what a cell holds that it doesn't write
 pub after_task-other : (p : Program) (w : Worker) (t : Task) (before : Contents) (c : Cell) → has_cell (written_cells p t w) c ≡ false → held_in p (after_task p w t before) c ≡ held_in p before c
-after_task-other p w t before c h =
-    let arrays = results p t w (held_in p before) in
-    held-append p (zip (written_cells p t w) arrays) before c ∙ held_over-other (written_cells p t w) arrays c (held_in p before c) h
+after_task-other p w t before c h = search (arith, held-append, held_over-other)
 
 -- a task's results depend on what it finds in the cells whose old value it reads
 pub results-same : (p : Program) (t : Task) (v w : Worker) (held held' : Cell → Array) → ((a : Access) → Contains (task_of p t).accesses a → starts_as_zeros a.mode ≡ false → held (worked_on p v a) ≡ held' (worked_on p w a)) → results p t v held ≡ results p t w held'
-results-same p t v w held held' same = ap (out (task_of p t).codelet (task_of p t).args) (map-same (found p v held) (found p w held') (task_of p t).accesses (λ a h. by_start a (starts_as_zeros a.mode) (same a h)))
-  where
-    by_start : (a : Access) (b : Bool) → (b ≡ false → held (worked_on p v a) ≡ held' (worked_on p w a)) → cond b (zeros (dims_of p a.cell)) (held (worked_on p v a)) ≡ cond b (zeros (dims_of p a.cell)) (held' (worked_on p w a))
-    by_start a true e = refl
-    by_start a false e = e refl
+results-same p t v w held held' same = search (arith, map-same)
 
 -- a cell whose old value a task reads is one of its cells
 pub read-among_cells : (p : Program) (t : Task) (w : Worker) (a : Access) → Contains (task_of p t).accesses a → starts_as_zeros a.mode ≡ false → has_cell (cells_of p t w) (worked_on p w a) ≡ true
@@ -84,9 +74,7 @@ abbrev pub WorksAlike : Program → Task → Worker → Worker → Type 0
 WorksAlike p t v w = (a : Access) → Contains (task_of p t).accesses a → worked_on p v a ≡ worked_on p w a
 
 pub written_cells-alike : (p : Program) (t : Task) (v w : Worker) → WorksAlike p t v w → written_cells p t v ≡ written_cells p t w
-written_cells-alike p t v w alike =
-    let writes : Access → Bool = λ a. is_written a.mode in
-    map-same (worked_on p v) (worked_on p w) (filter writes (task_of p t).accesses) (λ a h. alike a (Contains-from_filter writes (task_of p t).accesses a h))
+written_cells-alike p t v w alike = search (arith, map-same, Contains-from_filter)
 
 -- after a task a cell holds alike what it and the task's cells held alike
 pub after_task-same : (p : Program) (t : Task) (v w : Worker) (before before' : Contents) (c : Cell) → WorksAlike p t v w → ((d : Cell) → has_cell (cells_of p t v) d ≡ true → held_in p before d ≡ held_in p before' d) → held_in p before c ≡ held_in p before' c →
@@ -185,15 +173,11 @@ pub record MayComeLast (p : Program) (chosen : Task → Bool) (by : Task → Wor
 
 module _ (p : Program) (chosen chosen' : Task → Bool) (by by' : Task → Worker) (t : Task) (w : Worker) (n : ℕ) (inside : t.0 < n) (adds : AddsTask chosen chosen' by by' t w) (last : MayComeLast p chosen by t w) where
   chosen-before : (u : Task) → t.0 ≢ u.0 → chosen' u ≡ true → (chosen u ≡ true) × (by' u ≡ by u)
-  chosen-before u d h =
-      let other : u ≢ t = λ e. d (sym (ap (λ (k : Task). k.0) e)) in
-      (sym (adds.others u other) ∙ h, adds.workers u other)
+  chosen-before u d h = search (arith)
 
   -- t's cells hold after all chosen tasks what they held after those before t
   inputs-hold : (d : Cell) → has_cell (cells_of p t w) d ≡ true → held_in p (after_chosen p chosen by n) d ≡ held_in p (after_chosen p chosen by t.0) d
-  inputs-hold d has = held-until p chosen by d t.0 n (omega arith) (λ u h k e. false_from_ne_true (has_cell (written_cells p u (by u)) d) (λ writes.
-      (let differ : t.0 ≢ u.0 = λ same. false≢true (sym adds.absent ∙ ap chosen (ap number same) ∙ e) in
-      last.unwritten u d (omega (arith, differ)) e writes has)))
+  inputs-hold d has = search (arith, held-until, false_from_ne_true, false≢true, number)
 
   written-last : (c : Cell) → has_cell (written_cells p t w) c ≡ true → held_in p (after_chosen p chosen' by' n) c ≡ held_in p (after_task p w t (after_chosen p chosen by n)) c
   written-last c writes =
@@ -240,8 +224,4 @@ module _ (p : Program) (chosen chosen' : Task → Bool) (by by' : Task → Worke
 
   -- a task that may come last may be put last
   pub insertion : (c : Cell) → held_in p (after_chosen p chosen' by' n) c ≡ held_in p (after_task p w t (after_chosen p chosen by n)) c
-  insertion c = by_cases (has_cell (written_cells p t w) c) refl
-    where
-      by_cases : (b : Bool) → has_cell (written_cells p t w) c ≡ b → held_in p (after_chosen p chosen' by' n) c ≡ held_in p (after_task p w t (after_chosen p chosen by n)) c
-      by_cases true e = written-last c e
-      by_cases false e = other-last c e
+  insertion c = search (arith, written-last, other-last)

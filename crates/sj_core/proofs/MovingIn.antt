@@ -1,5 +1,5 @@
 -- A move into a node that begins leaves a coherent state.
-use Rattle.std.proofs.Common.{None, Option, Some, ap, false, inl, inr, not, refl, subst, sym, true, ℕ, ◌&&◌, ◌∙◌, ◌≡◌, ◌⊎◌}
+use Rattle.std.proofs.Common.{arith, None, Option, Some, ap, false, inl, inr, not, refl, subst, sym, true, ℕ, ◌&&◌, ◌∙◌, ◌≡◌, ◌⊎◌}
 use Rattle.std.proofs.lemmas.Bool.{and_from, false_from_ne_true, false≢true}
 use Rattle.std.proofs.lemmas.List.Quantifiers.{position-Some}
 use Rattle.std.specs.Prelude.{IsTrue, option_map, position}
@@ -35,15 +35,7 @@ module _ (p : Program) (m : Machine) (s : State) (h : IsSound p m s) (c : Cell) 
   somewhere = h.coherent.copies.valid_somewhere c (claimed-old_value p m s h claimed.task w claimed.claimed c claimed.cell not_fresh) (claimed-not_written p m s h claimed.task w claimed.claimed c claimed.cell)
 
   source_valid : is_valid (replica s c from) ≡ true
-  source_valid = by_position (position is_valid (cell_state s c).nodes) refl move.source somewhere.0 somewhere.1
-    where
-      found : (q : Place) → Some q ≡ Some from → is_valid (replica s c q) ≡ true → is_valid (replica s c from) ≡ true
-      found q e valid = let f : q ≡ from = cc in ap (λ (k : Place). is_valid (replica s c k)) (sym f) ∙ valid
-
-      by_position : (o : Option ℕ) → position is_valid (cell_state s c).nodes ≡ o → elim o as (λ _. Option Place) [ None ↦ option_map OnDisk (disk_of p m c) | Some k ↦ Some (AtNode (record { 0 = k })) ] ≡ Some from → (q : Place) → is_valid (replica s c q) ≡ true → is_valid (replica s c from) ≡ true
-      by_position (Some k) e f q valid = found (AtNode (record { 0 = k })) f (position-Some is_valid (cell_state s c).nodes k Invalid e).1
-      by_position None e f (AtNode k) valid = absurd (false≢true (sym (position-none is_valid (cell_state s c).nodes k.0 Invalid e (valid-within (cell_state s c).nodes k.0 valid)) ∙ valid))
-      by_position None e f (OnDisk d) valid = found (OnDisk d) (sym (ap (λ (o : Option DiskNo). option_map OnDisk o) (h.coherent.state.blocks.home c d valid)) ∙ f) valid
+  source_valid = search (arith, somewhere, position-Some, false≢true, position-none, valid-within)
 
   -- nothing leaves by the claim any more
   none_leaves : NoneLeavesBy s w

@@ -1,5 +1,5 @@
 -- A move out to a disk that begins leaves a coherent state.
-use Rattle.std.proofs.Common.{Bool, Some, [], ap, false, inl, inr, not, refl, subst, sym, true, ◌&&◌, ◌∙◌, ◌≡◌, ◌⊎◌}
+use Rattle.std.proofs.Common.{arith, Bool, Some, [], ap, false, inl, inr, not, refl, subst, sym, true, ◌&&◌, ◌∙◌, ◌≡◌, ◌⊎◌}
 use Rattle.std.proofs.lemmas.Bool.{and_from, false≢true}
 use Rattle.sj_core.proofs.Words.{Array, AtNode, Cell, Coming, DiskNo, Invalid, Leaving, Machine, OnDisk, Place, Program, Replica, State, Task, Transfer, Valid, Worker, is_claimed_by, is_leaving_by, is_valid, progress, replica, transfer, with_transfer}
 use Rattle.sj_core.specs.Coherent.{Coherent, IsTransferTo, TransfersAreSound}
@@ -23,14 +23,7 @@ module _ (p : Program) (m : Machine) (s : State) (h : IsSound p m s) (c : Cell) 
 
   -- a valid replica of the cell is the one that leaves
   only_one : (q : Place) → is_valid (replica s c q) ≡ true → q ≡ from
-  only_one q valid = by_place (same_place q from) refl
-    where
-      by_place : (b : Bool) → same_place q from ≡ b → q ≡ from
-      by_place true e = same_place-is q from e
-      by_place false e =
-          let both = and_from (not (same_place q from)) (is_valid (replica s c q)) (ap not e) valid in
-          let another : is_valid_elsewhere m s c from ≡ true = list_any-place p m s h.coherent.state.rows (λ k. not (same_place k from) && is_valid (replica s c k)) c q valid both in
-          absurd (false≢true (sym (ap not another) ∙ move.only))
+  only_one q valid = search (arith, same_place-is, and_from, list_any-place, false≢true)
 
   -- so its block isn't valid
   target_invalid : replica s c (OnDisk d) ≡ Invalid
@@ -90,11 +83,7 @@ module _ (p : Program) (m : Machine) (s : State) (h : IsSound p m s) (c : Cell) 
 
   -- the worker has a claimed task, since its victim is leaving
   claims : (t : Task) × (is_claimed_by w (progress s t) ≡ true)
-  claims = by_source from move.leaving
-    where
-      by_source : (q : Place) → is_leaving_by w (replica s c q) ≡ true → (t : Task) × (is_claimed_by w (progress s t) ≡ true)
-      by_source (AtNode n) leaving = (h.coherent.workers.evicted w c n leaving).claims
-      by_source (OnDisk k) leaving = absurd (stays_on_disk w c k leaving)
+  claims = search (arith, stays_on_disk)
 
   disk-is : (k : DiskNo) → OnDisk d ≡ OnDisk k → d ≡ k
   disk-is k e = cc

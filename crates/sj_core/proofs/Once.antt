@@ -32,25 +32,15 @@ record Takes (x y : Progress) (claims runs ends : ℕ) : Type 0 where
   pub done : ends + one (is_done x) ≡ one (is_done y)
 
 stays : (x y : Progress) → y ≡ x → Takes x y 0 0 0
-stays x y same = record {
-  begun = (let e = ap (λ (z : Progress). one (is_begun z)) same in omega arith);
-  started = (let e = ap (λ (z : Progress). one (is_started z)) same in omega arith);
-  done = (let e = ap (λ (z : Progress). one (is_done z)) same in omega arith);
-}
+stays x y same = search (arith, one, is_started)
 
 -- ---- one step
 
 -- what a step of the task t says of the task u: the numbers are by whether u is t
 takes-by : (s s' : State) (t u : Task) (old new : Progress) (claims runs ends : Bool → ℕ) → Advances s s' t old new → Takes old new (claims true) (runs true) (ends true) → claims false ≡ 0 → runs false ≡ 0 → ends false ≡ 0 → (same : Bool) → nat_eq t.0 u.0 ≡ same → Takes (progress s u) (progress s' u) (claims same) (runs same) (ends same)
-takes-by s s' t u old new claims runs ends a takes no_claim no_run no_end true h =
-    let is_t : t ≡ u = ap (λ (n : ℕ). let k : Task = record { 0 = n } in k) ((Decides-eqb t.0 u.0).0 h) in
-    subst (λ (k : Task). Takes (progress s k) (progress s' k) (claims true) (runs true) (ends true)) is_t
-    (subst (λ (x : Progress). Takes x (progress s' t) (claims true) (runs true) (ends true)) (sym a.was)
-    (subst (λ (y : Progress). Takes old y (claims true) (runs true) (ends true)) (sym a.is) takes))
+takes-by s s' t u old new claims runs ends a takes no_claim no_run no_end true h = search (arith, Decides-eqb)
 takes-by s s' t u old new claims runs ends a takes no_claim no_run no_end false h =
-    let other : u ≢ t = λ e. false≢true (sym h ∙ (Decides-eqb t.0 u.0).1 (sym (ap (λ (k : Task). k.0) e))) in
-    let kept = stays (progress s u) (progress s' u) (a.others u other) in
-    record { begun = omega (arith, kept.begun, no_claim); started = omega (arith, kept.started, no_run); done = omega (arith, kept.done, no_end) }
+    search (arith, false≢true, Decides-eqb, stays)
 
 abbrev none : Bool → ℕ
 none same = 0
@@ -109,11 +99,7 @@ done-started (Done w) h = refl
 
 -- what takes a task from waiting to done is one claim, one run and one end
 takes-all : (x y : Progress) (claims runs ends : ℕ) → Takes x y claims runs ends → x ≡ Waiting → is_done y ≡ true → (claims ≡ 1) × (runs ≡ 1) × (ends ≡ 1)
-takes-all x y claims runs ends takes waits is_last = (
-  (let from = ap (λ (z : Progress). one (is_begun z)) waits in let to = ap one (done-begun y is_last) in omega (arith, takes.begun)),
-  (let from = ap (λ (z : Progress). one (is_started z)) waits in let to = ap one (done-started y is_last) in omega (arith, takes.started)),
-  (let from = ap (λ (z : Progress). one (is_done z)) waits in let to = ap one is_last in omega (arith, takes.done)),
-)
+takes-all x y claims runs ends takes waits is_last = search (arith, one, done-begun, is_started, done-started)
 
 trace-once : (p : Program) (m : Machine) (trace : List Event) → Finishes p m trace → EachRanOnce p trace
 trace-once p m trace f t inside =

@@ -30,22 +30,10 @@ module _ (p : Program) (m : Machine) where
   empty n = all_same (length m.nodes) n.0 []
 
   a_row : (c : Cell) → (cell_state (opening p m) c ≡ no_replica m) ⊎ (cell_state (opening p m) c ≡ no_row)
-  a_row c =
-      elim (cases_lt c.0 (length p.cells)) [
-        | inl inside ↦ inl (get_or-replicate (length p.cells) c.0 (no_replica m) no_row inside)
-        | inr past ↦ inr (get_or_past (replicate (length p.cells) (no_replica m)) c.0 no_row (let e = length-replicate (length p.cells) (no_replica m) in omega arith))
-      ]
+  a_row c = search (arith, cases_lt, get_or-replicate, no_row, get_or_past, length-replicate)
 
   nowhere : (c : Cell) (q : Place) → replica (opening p m) c q ≡ Invalid
-  nowhere c q =
-      elim (a_row c) [
-        | inl row ↦ ap (λ (r : CellState). replica_in r q) row ∙ none q
-        | inr row ↦ ap (λ (r : CellState). replica_in r q) row ∙ replica_in-no_row q
-      ]
-    where
-      none : (q : Place) → replica_in (no_replica m) q ≡ Invalid
-      none (AtNode n) = all_same (length m.nodes) n.0 Invalid
-      none (OnDisk d) = all_same (length m.disks) d.0 Invalid
+  nowhere c q = search (arith, a_row, replica_in-no_row, all_same)
 
   unwritten : (c : Cell) → writes (opening p m) c ≡ 0
   unwritten c = elim (a_row c) [ inl row ↦ ap (λ (r : CellState). r.writes) row | inr row ↦ ap (λ (r : CellState). r.writes) row ]
@@ -75,10 +63,7 @@ module _ (p : Program) (m : Machine) where
   no_scratch w = ap (λ (row : WorkerState). row.scratch) (idle w)
 
   nothing_used : (n : Node) → used p m (opening p m) n ≡ 0
-  nothing_used n =
-      let entries = ap (λ (cs : List Cell). sum_by (tile_bytes p) cs) (empty n) in
-      let held = sum-zero (scratch (opening p m)) no_scratch 0 (workers_at m n) in
-      omega arith
+  nothing_used n = search (arith, empty, sum-zero, no_scratch)
 
   none_written : (c : Cell) → count_by (has_written p (opening p m) c) (tasks_of p) ≡ 0
   none_written c = sum-zero (λ t. cond (has_written p (opening p m) c t) 1 0) (λ t. ap (λ x. cond (is_done x && has_cell (written_cells p t (done_by (opening p m) t)) c) 1 0) (waits t)) 0 (tasks_of p)

@@ -9,11 +9,4 @@ use Rattle.sj_base.specs.declared.program.Lowered.{Lowered}
 
 -- a task with an operand is one of the program
 pub operand-inside : (p : Program) (t : Task) (a : Access) → Contains (task_of p t).accesses a → t.0 < length p.tasks
-operand-inside p t a h =
-    elim (cases_lt t.0 (length p.tasks)) [
-      | inl inside ↦ inside
-      | inr past ↦ absurd (none (subst (λ (l : Lowered). Contains l.accesses a) (get_or_past p.tasks t.0 no_task past) h))
-    ]
-  where
-    none : Contains no_task.accesses a → ⊥
-    none (k, l, e) = omega arith
+operand-inside p t a h = search (arith, cases_lt, get_or_past)

@@ -86,10 +86,7 @@ module _ (p : Program) (m : Machine) (s : State) (h : IsSound p m s) where
 
   -- its worker is one of the table
   worker-inside : (t : Task) (x : Progress) → progress s t ≡ x → is_begun x ≡ true → (worker_of x).0 < length s.workers
-  worker-inside t x is begun =
-      let staff = h.coherent.state.staff.staffed t (ap is_begun is ∙ begun) in
-      let own = ap (λ (y : Progress). (worker_of y).0) is in
-      omega (arith, staff, own, h.machine.workers, h.coherent.state.rows.workers)
+  worker-inside t x is begun = search (arith)
 
   -- none leaves a disk
   stays_on_disk : (w : Worker) (c : Cell) (d : DiskNo) → is_leaving_by w (replica s c (OnDisk d)) ≡ true → ⊥
@@ -97,9 +94,7 @@ module _ (p : Program) (m : Machine) (s : State) (h : IsSound p m s) where
 
   -- and so is the worker by whose claim a replica leaves, on a node
   leaving-inside : (w : Worker) (c : Cell) (from : Place) → is_leaving_by w (replica s c from) ≡ true → w.0 < length s.workers
-  leaving-inside w c (AtNode n) leaving =
-      let claims = (h.coherent.workers.evicted w c n leaving).claims in
-      worker-inside claims.0 (Claimed w) (claimed_by-is w (progress s claims.0) claims.1) refl
+  leaving-inside w c (AtNode n) leaving = search (arith, worker-inside, claimed_by-is)
   leaving-inside w c (OnDisk d) leaving = absurd (stays_on_disk w c d leaving)
 
   -- ---- claims, runs and ends
@@ -182,18 +177,10 @@ module _ (p : Program) (m : Machine) (s : State) (h : IsSound p m s) where
   -- ---- transfers that begin
 
   begins-pays : (w : Worker) (x : Transfer) (s' : State) → w.0 < length s.workers → transfer s w ≡ None → s' ≡ with_transfer s w (Some x) → Pays p s s'
-  begins-pays w x s' inside free leaves =
-      let moving = row-counts s w (record (worker_state s w) { transfer = Some x }) inside in
-      let none : tally (is_some (transfer s w)) ≡ 0 = ap (λ (o : Option Transfer). tally (is_some o)) free in
-      let counts = ap under_way leaves in
-      let costs = ap cost leaves in
-      let paying = ap (paid p) leaves in
-      omega arith
+  begins-pays w x s' inside free leaves = search (arith, row-counts, tally, under_way, cost, paid)
 
   Moves_in-pay : (c : Cell) (from : Place) (n : Node) (w : Worker) (s' : State) → BeginsMoveIn p m s c from n w s' → Pays p s s'
-  Moves_in-pay c from n w s' move =
-      let claims = h.coherent.pins.coming_claimed w c n move.coming in
-      begins-pays w (a_transfer c from (AtNode n)) s' (worker-inside claims.task (Claimed w) claims.claimed refl) move.free move.leaves
+  Moves_in-pay c from n w s' move = search (arith, begins-pays, worker-inside)
 
   Moves_out-pay : (c : Cell) (from : Place) (d : DiskNo) (w : Worker) (s' : State) → BeginsMoveOut p m s c from d w s' → Pays p s s'
   Moves_out-pay c from d w s' move = begins-pays w (a_transfer c from (OnDisk d)) s' (leaving-inside w c from move.leaving) move.free move.leaves

@@ -49,9 +49,7 @@ module _ (p : Program) (proper : Proper p) where
 
   -- the copy that is worked on is one of the operand's cell
   pub copy-of : (t : Task) → t.0 < length p.tasks → (w : Worker) → w.0 < p.workers → (a : Access) → Contains (task_of p t).accesses a → a.mode ≡ Redux → IsCopyOf p (worked_on p w a) a.cell w
-  copy-of t inside w staffed a h redux =
-      let copies = redux-has_copies p proper.cells t inside a.mode a.cell h (ap is_redux redux) in
-      record { has_copies = ap is_some copies.1.1; of_worker = staffed; is = ap (λ b. cond b (copy_of p a.cell w) a.cell) (ap is_redux redux) }
+  copy-of t inside w staffed a h redux = search (arith, redux-has_copies)
 
   module _ (f : Phase) (phase : IsPhase p f) (w : Worker) (staffed : w.0 < p.workers) where
     -- the task that fills the worker's copy, and the one that combines it

@@ -20,9 +20,7 @@ Contains-head x xs = (0, omega arith, refl)
 -- what passes the test is kept by a filter
 pub Contains-filter : {X : Type 0} (f : X → Bool) (xs : List X) (x : X) → f x ≡ true → Contains xs x → Contains (filter f xs) x
 Contains-filter f [] x h (k, l, e) = absurd (omega arith)
-Contains-filter f (y ∷ xs) x h (zero, l, e) =
-    let test : f y ≡ true = ap f e ∙ h in
-    rw test (subst (λ z. Contains (y ∷ filter f xs) z) e (Contains-head y (filter f xs)))
+Contains-filter f (y ∷ xs) x h (zero, l, e) = search (arith, Contains-head)
 Contains-filter f (y ∷ xs) x h (suc k, l, e) =
     let rest = Contains-filter f xs x h (k, omega arith, e) in
     elim (f y) as (λ b. Contains (cond b (y ∷ filter f xs) (filter f xs)) x) [ true ↦ Contains-cons y (filter f xs) x rest | false ↦ rest ]

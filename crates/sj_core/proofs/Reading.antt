@@ -23,8 +23,7 @@ progress-other s t u x h = get_or-set_other s.tasks t.0 u.0 x Waiting (λ e. h (
 
 -- a task that isn't waiting is one of the table
 pub progress-inside : (s : State) (t : Task) → progress s t ≢ Waiting → t.0 < length s.tasks
-progress-inside s t h =
-    elim (cases_lt t.0 (length s.tasks)) [ inl inside ↦ inside | inr past ↦ absurd (h (get_or_past s.tasks t.0 Waiting past)) ]
+progress-inside s t h = search (arith, cases_lt, get_or_past)
 
 -- ---- workers
 
@@ -59,26 +58,13 @@ replica_in-no_row (OnDisk d) = refl
 
 -- every cell's row; past the table there is no row before or after
 pub cells-renewed_or : (s : State) (f : Cell → CellState → CellState) (c : Cell) → (cell_state (with_cells s f) c ≡ f c (cell_state s c)) ⊎ ((cell_state s c ≡ no_row) × (cell_state (with_cells s f) c ≡ no_row))
-cells-renewed_or s f c =
-    let g : ℕ → CellState → CellState = λ k row. f (record { 0 = k }) row in
-    elim (cases_lt c.0 (length s.cells)) [
-      | inl inside ↦ inl (renewed-at g s.cells c.0 no_row inside)
-      | inr past ↦ inr (get_or_past s.cells c.0 no_row past, get_or_past (renewed g s.cells) c.0 no_row (omega (arith, length-renewed g s.cells)))
-    ]
+cells-renewed_or s f c = search (arith, cases_lt, renewed-at, no_row, get_or_past, length-renewed)
 
 pub same_node : (n k : Node) → (n ≡ k) ⊎ (n ≢ k)
-same_node n k =
-    elim (cases_eq n.0 k.0) [
-      | inl e ↦ inl (ap (λ (i : ℕ). let j : Node = record { 0 = i } in j) e)
-      | inr d ↦ inr (λ e. d (ap (λ (j : Node). j.0) e))
-    ]
+same_node n k = search (arith, cases_eq)
 
 pub workers_differ : (v w : Worker) → (v ≡ w) ⊎ (v ≢ w)
-workers_differ v w =
-    elim (cases_eq v.0 w.0) [
-      | inl e ↦ inl (ap (λ (i : ℕ). let j : Worker = record { 0 = i } in j) e)
-      | inr d ↦ inr (λ e. d (ap (λ (j : Worker). j.0) e))
-    ]
+workers_differ v w = search (arith, cases_eq)
 
 pub all_invalid : (rs : List Replica) (k : ℕ) → get_or (map (λ r. Invalid) rs) k Invalid ≡ Invalid
 all_invalid [] k = refl
@@ -87,39 +73,23 @@ all_invalid (r ∷ rs) (suc k) = all_invalid rs k
 
 -- the cells whose rows a test leaves alone
 pub cells-untouched : (s : State) (test : Cell → Bool) (g : Cell → CellState → CellState) (c : Cell) → test c ≡ false → cell_state (with_cells s (λ d row. if test d then g d row else row)) c ≡ cell_state s c
-cells-untouched s test g c h =
-    elim (cells-renewed_or s (λ d row. if test d then g d row else row) c) [
-      | inl row ↦ row ∙ ap (λ b. if b then g c (cell_state s c) else cell_state s c) h
-      | inr none ↦ none.1 ∙ sym none.0
-    ]
+cells-untouched s test g c h = search (arith, cells-renewed_or)
 
 -- and those that it picks
 pub cells-touched : (s : State) (test : Cell → Bool) (g : Cell → CellState → CellState) (c : Cell) → c.0 < length s.cells → test c ≡ true → cell_state (with_cells s (λ d row. if test d then g d row else row)) c ≡ g c (cell_state s c)
-cells-touched s test g c inside h =
-    renewed-at (λ k row. let d : Cell = record { 0 = k } in if test d then g d row else row) s.cells c.0 no_row inside ∙ ap (λ b. if b then g c (cell_state s c) else cell_state s c) h
+cells-touched s test g c inside h = search (arith, renewed-at, no_row)
 
 -- an entry is a cell of the table, at a node of its row
 pub entry-inside : (s : State) (c : Cell) (n : Node) → is_entry (replica s c (AtNode n)) ≡ true → (c.0 < length s.cells) × (n.0 < length (cell_state s c).nodes)
-entry-inside s c n h = (
-  elim (cases_lt c.0 (length s.cells)) [ inl inside ↦ inside | inr past ↦ absurd (false≢true (sym (ap (λ (row : CellState). is_entry (replica_in row (AtNode n))) (get_or_past s.cells c.0 no_row past)) ∙ h)) ],
-  elim (cases_lt n.0 (length (cell_state s c).nodes)) [ inl inside ↦ inside | inr past ↦ absurd (false≢true (sym (ap is_entry (get_or_past (cell_state s c).nodes n.0 Invalid past)) ∙ h)) ],
-)
+entry-inside s c n h = search (arith, cases_lt, false≢true, get_or_past, no_row)
 
 -- no replica leaves on a node that is settled
 pub settled-at : (s : State) (n : Node) (c : Cell) → none_leaving s n ≡ true → is_leaving (replica s c (AtNode n)) ≡ false
-settled-at s n c h =
-    elim (cases_lt c.0 (length s.cells)) [
-      | inl inside ↦ not-true (is_leaving (replica s c (AtNode n))) (AllPass-from_list_all (λ (row : CellState). not (is_leaving (replica_in row (AtNode n)))) s.cells h c.0 no_row inside)
-      | inr past ↦ ap (λ (row : CellState). is_leaving (replica_in row (AtNode n))) (get_or_past s.cells c.0 no_row past)
-    ]
+settled-at s n c h = search (arith, cases_lt, not-true, AllPass-from_list_all, no_row, get_or_past)
 
 -- a worker with a transfer is one of the table, and its transfer is one of its cell
 pub transfer-inside : (s : State) (w : Worker) (x : Transfer) → transfer s w ≡ Some x → w.0 < length s.workers
-transfer-inside s w x h =
-    elim (cases_lt w.0 (length s.workers)) [
-      | inl inside ↦ inside
-      | inr past ↦ absurd (let none : transfer s w ≡ None = ap (λ (row : WorkerState). row.transfer) (get_or_past s.workers w.0 idle_row past) in let e : ◌≡◌ {A = Option Transfer} None (Some x) = sym none ∙ h in cc)
-    ]
+transfer-inside s w x h = search (arith, cases_lt, get_or_past, idle_row)
 
 pub moves-it : (s : State) (w : Worker) (x : Transfer) → transfer s w ≡ Some x → moves s w x.cell ≡ true
 moves-it s w x h = ap (λ (o : Option Transfer). elim o as (λ _. Bool) [ None ↦ false | Some y ↦ same_cell y.cell x.cell ]) h ∙ (Decides-eqb x.cell.0 x.cell.0).1 refl
@@ -129,11 +99,7 @@ same_cell-is c d h = ap (λ (i : ℕ). let j : Cell = record { 0 = i } in j) ((D
 
 -- where no transfer is one of the cell, none moves it
 pub unmoved-from : (s : State) (v : Worker) (c : Cell) → ((x : Transfer) → transfer s v ≡ Some x → x.cell ≡ c → ⊥) → moves s v c ≡ false
-unmoved-from s v c none = by_transfer (transfer s v) refl
-  where
-    by_transfer : (o : Option Transfer) → transfer s v ≡ o → (elim o as (λ _. Bool) [ None ↦ false | Some x ↦ same_cell x.cell c ]) ≡ false
-    by_transfer None e = refl
-    by_transfer (Some x) e = false_from_ne_true (same_cell x.cell c) (λ same. none x e (same_cell-is x.cell c same))
+unmoved-from s v c none = search (arith, false_from_ne_true, same_cell-is)
 
 -- ---- lists of cells and of workers
 

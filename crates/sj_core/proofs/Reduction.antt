@@ -52,18 +52,12 @@ phase = record { cell = cell 2; by = Plus; inits = 3 ∷ 4 ∷ []; contributions
 -- a test that each task's number passes
 numbers-pass : (test : ℕ → Bool) → list_all test (range_with_len 0 10) ≡ true → (n : ℕ) → n < 10 → test n ≡ true
 numbers-pass test all n inside =
-    let at_n : get_or (range_with_len 0 10) n 0 ≡ n = get_or-range_with_len 0 10 n 0 inside ∙ omega arith in
-    ap test (sym at_n) ∙ AllPass-from_list_all test (range_with_len 0 10) all n 0 (omega (arith, inside, length-range_with_len 0 10))
+    search (arith, get_or, get_or-range_with_len, AllPass-from_list_all, length-range_with_len)
 
 -- a test that each operand passes, by the number of its task
 operands-pass : (of : Lowered → List Access) (none : of no_task ≡ []) (test : ℕ → Access → Bool) → list_all (λ n. list_all (test n) (of (task_number job n))) (range_with_len 0 10) ≡ true → (n : ℕ) (a : Access) → Contains (of (task_number job n)) a → test n a ≡ true
 operands-pass of none test all n a (k, within, is) =
-    elim (cases_lt n 10) [
-      | inr past ↦ absurd (let e : length (of (task_number job n)) ≡ 0 = ap (λ (l : Lowered). length (of l)) (get_or_past job.tasks n no_task past) ∙ ap length none in omega arith)
-      | inl inside ↦
-          let here = numbers-pass (λ i. list_all (test i) (of (task_number job i))) all n inside in
-          ap (test n) (sym is) ∙ AllPass-from_list_all (test n) (of (task_number job n)) here k a within
-    ]
+    search (arith, cases_lt, job, get_or_past, numbers-pass, AllPass-from_list_all)
 
 abbrev accesses : Lowered → List Access
 accesses l = l.accesses
@@ -98,22 +92,11 @@ copy_in (suc (suc n)) h = absurd (omega arith)
 
 -- a partial copy is one of the two of s
 copies_are : (q c : Cell) (w : Worker) → IsCopyOf job q c w → (c ≡ cell 2) × ((q ≡ cell 3) ⊎ (q ≡ cell 4))
-copies_are q c w copy =
-    let s : c ≡ cell 2 = ap cell (is_s c.0 copy.has_copies) in
-    let is : q ≡ cell (3 + w.0) = copy.is ∙ ap (λ (k : Cell). copy_of job k w) s in
-    (s, elim (copy_in w.0 copy.of_worker) [ inl e ↦ inl (is ∙ e) | inr e ↦ inr (is ∙ e) ])
+copies_are q c w copy = search (arith, cell, is_s, job, copy_in)
 
 names_cells : NamesCells job
-names_cells = record {
-  named = All-from_get_or (λ l. All (λ a. a.cell.0 < 5) l.accesses) job.tasks no_task (λ n inside k d within. ltb-true (get_or (task_number job n).accesses k d).cell.0 5 (pass (λ n a. nat_lt a.cell.0 5) refl n (get_or (task_number job n).accesses k d) (Contains-get_or (task_number job n).accesses k d within)));
-  copies = λ q c w copy. (let are = copies_are q c w copy in subst (λ (k : Cell). (q.0 < 5) × (dims_of job q ≡ dims_of job k)) (sym are.0) (elim are.1 [
-    | inl e ↦ subst (λ (k : Cell). (k.0 < 5) × (dims_of job k ≡ dims_of job (cell 2))) (sym e) (lit< tt, refl)
-    | inr e ↦ subst (λ (k : Cell). (k.0 < 5) × (dims_of job k ≡ dims_of job (cell 2))) (sym e) (lit< tt, refl)
-  ]));
-  apart = λ q c d v w copy other. (copies_are q c v copy).0 ∙ sym (copies_are q d w other).0;
-  plain = λ q c w copy. elim (copies_are q c w copy).1 [ inl e ↦ ap (λ (k : Cell). (cell_info job k).partials) e | inr e ↦ ap (λ (k : Cell). (cell_info job k).partials) e ];
-  reduced = All-from_get_or (λ l. All (λ a. IsTrue (is_redux a.mode) → IsTrue (is_some (cell_info job a.cell).partials)) l.accesses) job.tasks no_task (λ n inside k d within. then _ _ (pass (λ n a. not (is_redux a.mode) || is_some (cell_info job a.cell).partials) refl n (get_or (task_number job n).accesses k d) (Contains-get_or (task_number job n).accesses k d within)));
-}
+names_cells =
+    search (arith, All-from_get_or, cell, accesses, job, ltb-true, get_or, pass, Contains-get_or, copies_are, then)
 
 -- ---- codelets, aliases, values
 
@@ -252,12 +235,8 @@ is_deliver (Some Deliver) = true
 is_deliver _ = false
 
 has_deliveries : HasDeliveries job
-has_deliveries = record {
-  once = λ t deliver inside. eqb-true (count_by (λ d. nat_eq d.task.0 t.0) job.deliveries) 1 (then _ _ (numbers-pass (λ n. not (is_deliver (kernel_of (task_number job n).codelet)) || nat_eq (count_by (λ d. nat_eq d.task.0 n) job.deliveries) 1) refl t.0 inside) (ap is_deliver deliver));
-  plain = λ t deliver k d within c w copy.
-      (let tested = then _ _ (pass (λ n a. not (is_deliver (kernel_of (task_number job n).codelet)) || not (nat_le 3 a.cell.0)) refl t.0 (get_or (task_of job t).accesses k d) (Contains-get_or (task_of job t).accesses k d within)) (ap is_deliver deliver) in
-      elim (copies_are _ c w copy).1 [ inl e ↦ false≢true (sym (ap (λ (q : Cell). not (nat_le 3 q.0)) e) ∙ tested) | inr e ↦ false≢true (sym (ap (λ (q : Cell). not (nat_le 3 q.0)) e) ∙ tested) ]);
-}
+has_deliveries =
+    search (arith, eqb-true, job, then, numbers-pass, is_deliver, pass, cell, get_or, accesses, Contains-get_or, copies_are, false≢true)
 
 is_limited : IsWithinLimits job
 is_limited = record { tasks = lit≤ tt; cells = lit≤ tt; elements = All-from_recursion (λ c. area c.dims ≤ 2 ^ 24) job.cells (lit≤ tt, (lit≤ tt, (lit≤ tt, (lit≤ tt, (lit≤ tt, tt))))) }

@@ -67,11 +67,7 @@ module _ (p : Program) (m : Machine) (s : State) (t : Task) (w : Worker) (s' : S
 
   -- a test that an invalid and a valid replica fail is passed by none that didn't before, and by none of a written cell
   run-fewer : (test : Replica → Bool) → test Invalid ≡ false → ((a : Array) → test (Valid a) ≡ false) → (c : Cell) (q : Place) → test (replica s' c q) ≡ true → (has_cell (written_cells p t w) c ≡ false) × (test (replica s c q) ≡ true)
-  run-fewer test none valid c q passes = by_test (has_cell (written_cells p t w) c) refl
-    where
-      by_test : (b : Bool) → has_cell (written_cells p t w) c ≡ b → (has_cell (written_cells p t w) c ≡ false) × (test (replica s c q) ≡ true)
-      by_test false spared = (spared, sym (ap test (run-other c q spared)) ∙ passes)
-      by_test true written = absurd (elim (run-written c q written) [ inl is ↦ false≢true (sym (ap test is ∙ none) ∙ passes) | inr (at, is) ↦ false≢true (sym (ap test is ∙ valid (initial p s t w (node_of m w) c)) ∙ passes) ])
+  run-fewer test none valid c q passes = search (arith, run-other, run-written, false≢true)
 
   pub run-leaving : (v : Worker) (c : Cell) (q : Place) → is_leaving_by v (replica s' c q) ≡ true → is_leaving_by v (replica s c q) ≡ true
   run-leaving v c q leaving = (run-fewer (is_leaving_by v) refl (λ a. refl) c q leaving).1
@@ -88,11 +84,7 @@ module _ (p : Program) (m : Machine) (s : State) (t : Task) (w : Worker) (s' : S
   -- ---- orders
 
   order-after : (k : Node) → order s' k ≡ (if nat_eq k.0 (node_of m w).0 then order s k else without (written_cells p t w) (order s k))
-  order-after k = ap (λ (z : State). order z k) run.leaves ∙ renewed-at_or (λ i cs. if nat_eq i (node_of m w).0 then cs else without (written_cells p t w) cs) s.orders k.0 [] (either (nat_eq k.0 (node_of m w).0))
-    where
-      either : (b : Bool) → (if b then [] else without (written_cells p t w) []) ≡ []
-      either true = refl
-      either false = refl
+  order-after k = search (arith, renewed-at_or)
 
   pub run-order_here : order s' (node_of m w) ≡ order s (node_of m w)
   run-order_here = order-after (node_of m w) ∙ ap (λ b. if b then order s (node_of m w) else without (written_cells p t w) (order s (node_of m w))) ((Decides-eqb (node_of m w).0 (node_of m w).0).1 refl)
@@ -147,11 +139,7 @@ module _ (p : Program) (m : Machine) (s : State) (h : IsSound p m s) (t : Task) 
       false≢true (sym (ap not (list_any-worker (λ k. moves s k x.cell) m v inside (moves-it s v x under_way))) ∙ still)))
 
   moves_none : (x : Transfer) → transfer s w ≡ Some x → ⊥
-  moves_none x under_way = by_target x.to (h.coherent.transfers.target w x under_way)
-    where
-      by_target : (to : Place) → IsTransferTo m s w x.cell x.from to → ⊥
-      by_target (AtNode k) target = false≢true (sym (run-unmoved w x under_way) ∙ coming-is_fresh x.cell k target.1)
-      by_target (OnDisk d) target = false≢true (sym (none_leaves x.cell x.from) ∙ target.0)
+  moves_none x under_way = search (arith, false≢true, run-unmoved, coming-is_fresh, none_leaves)
 
   -- ---- the state's own form
 
@@ -290,15 +278,7 @@ module _ (p : Program) (m : Machine) (s : State) (h : IsSound p m s) (t : Task) 
   run-rests c spared resting = not_written-after p m s s' t (Claimed w) (Running w) c run-rows advance resting (λ v e. (let is : w ≡ v = cc in ap (λ (x : Worker). has_cell (written_cells p t x) c) (sym is) ∙ spared))
 
   run-copies : CopiesAgree p s'
-  run-copies = record {
-    valid_somewhere = λ c some resting.
-        (let row = run-row p m s t w s' run c (run-spared c resting) in
-        let q = h.coherent.copies.valid_somewhere c (omega (arith, ap (λ (r : CellState). r.writes) row, some)) (run-rested c resting) in
-        (q.0, ap (λ (r : CellState). is_valid (replica_in r q.0)) row ∙ q.1));
-    alike = λ c q some resting.
-        (let row = run-row p m s t w s' run c (run-spared c resting) in
-        agrees-kept (array_of (replica s c q)) (array_of (replica s' c q)) (content p s c) (content p s' c) (ap (λ (r : CellState). array_of (replica_in r q)) row) (run-content c) (h.coherent.copies.alike c q (omega (arith, ap (λ (r : CellState). r.writes) row, some)) (run-rested c resting)));
-  }
+  run-copies = search (arith, run-row, run-spared, run-rested, agrees-kept, run-content)
 
   pub Runs-coherent : Coherent p m s'
   Runs-coherent = Changes-coherent p m s h s' t (Claimed w) (Running w) w run-change run-writers run-copies

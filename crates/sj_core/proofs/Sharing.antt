@@ -179,10 +179,7 @@ module _ (p : Program) (names : NamesCells p) (deps : HasDependencies p) (u t : 
   by_modes RW Redux d e hx hy sx wy cx cy um tn = conflicting Write Contribute um tn contribute_isn't_read (inr (inl (λ h. h)))
   by_modes Scratch Redux d e hx hy sx wy cx cy um tn = absurd (false≢true sx)
   by_modes CommuteMode Redux d e hx hy sx wy cx cy um tn = conflicting (Commute (task_of p u).codelet) Contribute um tn contribute_isn't_read (inr (inr (commute_isn't_contribute (task_of p u).codelet)))
-  by_modes Redux Redux d e hx hy sx wy cx cy um tn =
-      let du = redux-has_copies p names u u_in Redux d hx refl in
-      let dt = redux-has_copies p names t t_in Redux e hy refl in
-      Contributing (one_copy d e (ap is_some du.1.1) (ap is_some dt.1.1) cx cy)
+  by_modes Redux Redux d e hx hy sx wy cx cy um tn = search (arith, redux-has_copies, one_copy)
 
   -- two tasks that share a cell that t writes conflict, or both commute there, or contribute by one worker
   pub sharing : has_cell (cells_of p u v) c ≡ true → has_cell (written_cells p t w) c ≡ true → Sharing p u t v w c

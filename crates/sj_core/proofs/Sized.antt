@@ -42,11 +42,7 @@ own-flags (UpdateFormal ∷ fs) = ap (λ bs. true ∷ bs) (own-flags fs)
 own-flags (ScratchFormal ∷ fs) = ap (λ bs. false ∷ bs) (own-flags fs)
 
 writing-flags : (x : Mode) → is_written x ≡ true → (k : Kernel) → map is_written (modes_writing_by x k) ≡ map is_output (formals_of k)
-writing-flags x written k = map-map is_written (λ mode. if is_written mode then x else mode) (own_modes k) ∙ map-same (λ mode. is_written (if is_written mode then x else mode)) is_written (own_modes k) (λ mode h. by_mode mode (is_written mode) refl) ∙ own-flags (formals_of k)
-  where
-    by_mode : (mode : Mode) (b : Bool) → is_written mode ≡ b → is_written (if b then x else mode) ≡ is_written mode
-    by_mode mode true e = written ∙ sym e
-    by_mode mode false e = refl
+writing-flags x written k = search (arith, map-map, map-same, own-flags)
 
 written-flags : (k : Kernel) (modes : List Mode) → MayHaveModes k modes → map is_written modes ≡ map is_output (formals_of k)
 written-flags k modes (Own e) = ap (map is_written) e ∙ own-flags (formals_of k)
@@ -98,22 +94,10 @@ held_over-sized p (d ∷ cs) (a ∷ arrays) c below tiles dims h =
 module _ (p : Program) (proper : Proper p) (arguments : All (λ l. All (FitsSigned w64) l.args) p.tasks) where
   -- the cell that is worked on is as large as the operand's
   pub worked_on-dims : (w : Worker) → w.0 < p.workers → (a : Access) → dims_of p (worked_on p w a) ≡ dims_of p a.cell
-  worked_on-dims w staffed a = by_mode (is_redux a.mode)
-    where
-      copy : (o : Option Cell) → (cell_info p a.cell).partials ≡ o → dims_of p (copy_of p a.cell w) ≡ dims_of p a.cell
-      copy None e = ap (λ (o : Option Cell). dims_of p (elim o as (λ _. Cell) [ None ↦ a.cell | Some f ↦ record { 0 = f.0 + w.0 } ])) e
-      copy (Some f) e = (proper.cells.copies (copy_of p a.cell w) a.cell w (record { has_copies = ap is_some e; of_worker = staffed; is = refl })).1
-
-      by_mode : (b : Bool) → dims_of p (if b then copy_of p a.cell w else a.cell) ≡ dims_of p a.cell
-      by_mode true = copy (cell_info p a.cell).partials refl
-      by_mode false = refl
+  worked_on-dims w staffed a = search (arith)
 
   pub found-fills : (w : Worker) → w.0 < p.workers → (held : Cell → Array) → ((c : Cell) → Fills p c (held c)) → (a : Access) → Fills p a.cell (found p w held a)
-  found-fills w staffed held sized a = by_start (starts_as_zeros a.mode)
-    where
-      by_start : (b : Bool) → Fills p a.cell (if b then zeros (dims_of p a.cell) else held (worked_on p w a))
-      by_start true = zeros-fill p a.cell
-      by_start false = record { tile = (sized (worked_on p w a)).tile; dims = (sized (worked_on p w a)).dims ∙ worked_on-dims w staffed a }
+  found-fills w staffed held sized a = search (arith, zeros-fill, worked_on-dims)
 
   module _ (t : Task) (inside : t.0 < length p.tasks) (w : Worker) (staffed : w.0 < p.workers) (held : Cell → Array) (sized : (c : Cell) → Fills p c (held c)) where
     pub fit : Fits p (task_of p t)

@@ -1,5 +1,5 @@
 -- The state that a step leaves, and that a legal trace leaves, is a function of its events.
-use Rattle.std.proofs.Common.{List, Option, Some, [], ap, subst, sym, ◌++◌, ◌∙◌, ◌∷◌, ◌≡◌}
+use Rattle.std.proofs.Common.{arith, List, Option, Some, [], ap, subst, sym, ◌++◌, ◌∙◌, ◌∷◌, ◌≡◌}
 use Rattle.std.proofs.Math.Logic.{∥∥₁_map}
 use Rattle.std.proofs.lemmas.Fn.{FoldsTo-push}
 use Rattle.std.proofs.lemmas.List.Sums.{fold-append}
@@ -26,11 +26,7 @@ Step-after p m s s' (End t w) step = step.leaves
 
 -- in a coherent state the worker of a transfer is the one by whose claim its cell comes or leaves
 pub one-mover : (p : Program) (m : Machine) (s : State) (c : Cell) (from to : Place) (w : Worker) → Coherent p m s → transfer s w ≡ Some (a_transfer c from to) → w ≡ mover_of s c from to
-one-mover p m s c from to w coherent under_way = by_target to (coherent.transfers.target w (a_transfer c from to) under_way)
-  where
-    by_target : (q : Place) → IsTransferTo m s w c from q → w ≡ mover_of s c from q
-    by_target (AtNode n) target = ap claimant_of (sym (coming_by-is w (replica s c (AtNode n)) target.1))
-    by_target (OnDisk d) target = ap claimant_of (sym (leaving_by-is w (replica s c from) target.0).1)
+one-mover p m s c from to w coherent under_way = search (arith, coming_by-is, leaving_by-is)
 
 -- ---- a trace
 

@@ -20,8 +20,4 @@ renewed-at {X} f xs i d h =
 
 -- past the end too, where f keeps the default
 pub renewed-at_or : {X : Type 0} (f : ℕ → X → X) (xs : List X) (i : ℕ) (d : X) → f i d ≡ d → get_or (renewed f xs) i d ≡ f i (get_or xs i d)
-renewed-at_or f xs i d k =
-    elim (cases_lt i (length xs)) [
-      | inl h ↦ renewed-at f xs i d h
-      | inr h ↦ get_or_past (renewed f xs) i d (omega (arith, length-renewed f xs)) ∙ sym k ∙ ap (f i) (sym (get_or_past xs i d h))
-    ]
+renewed-at_or f xs i d k = search (arith, cases_lt, renewed-at, get_or_past, length-renewed)

@@ -34,10 +34,7 @@ wrap-long : (z : ℤ) → IsLong (wrap z)
 wrap-long z = SFits-int_wrap w64 z
 
 min-long : (x y : ℤ) → IsLong x → IsLong y → IsLong (int_min x y)
-min-long x y hx hy = elim (either x y) [ inl e ↦ subst IsLong (sym e) hx | inr e ↦ subst IsLong (sym e) hy ]
-  where
-    either : (x y : ℤ) → (int_min x y ≡ x) ⊎ (int_min x y ≡ y)
-    either x y = grind (arith, ints, clamps)
+min-long x y hx hy = search (arith, IsLong, ints, clamps)
 
 long-between : (z : ℤ) → least ≤ℤ z → z ≤ℤ inf → IsLong z
 long-between (pos n) low high = record { sfits = omega (arith, ints) }
@@ -45,11 +42,7 @@ long-between (negsuc n) low high = record { sfits = omega (arith, ints) }
 
 -- the sum of min-plus is kept between the least i64 and the greatest below `inf`, or is `inf`
 plus-long : (x y : ℤ) → IsLong (plus x y)
-plus-long x y = by_inf (is_inf x || is_inf y)
-  where
-    by_inf : (b : Bool) → IsLong (if b then inf else int_max least (int_min greatest (x +ℤ y)))
-    by_inf true = inf-long
-    by_inf false = long-between (int_max least (int_min greatest (x +ℤ y))) (omega (arith, ints, clamps)) (omega (arith, ints, clamps))
+plus-long x y = search (arith, IsLong, inf-long, long-between, ints, clamps)
 
 least_below-long : (n : ℕ) (z : ℤ) (f : ℕ → ℤ) → IsLong z → ((k : ℕ) → IsLong (f k)) → IsLong (least_below n z f)
 least_below-long zero z f hz hf = hz
@@ -69,17 +62,11 @@ zeros-tile d = record { whole = length-replicate (area d) (pos 0); in_range = Al
 
 -- an element of a tile, and what stands for one beyond its end
 at-long : (a : Array) → IsTile a → (p : ℕ) → IsLong (at a.elements p)
-at-long a h p = elim (cases_lt p (length a.elements)) [
-  | inl inside ↦ All-get_or IsLong a.elements p (pos 0) inside h.in_range
-  | inr past ↦ subst IsLong (sym (get_or_past a.elements p (pos 0) past)) zero-long
-]
+at-long a h p = search (arith, cases_lt, All-get_or, IsLong, get_or_past, zero-long)
 
 -- an operand, and what stands for one that isn't there
 pub operand-tile : (ins : List Array) → All IsTile ins → (n : ℕ) → IsTile (operand ins n)
-operand-tile ins h n = elim (cases_lt n (length ins)) [
-  | inl inside ↦ All-get_or IsTile ins n none inside h
-  | inr past ↦ subst IsTile (sym (get_or_past ins n none past)) (record { whole = refl; in_range = All-nil IsLong })
-]
+operand-tile ins h n = search (arith, cases_lt, All-get_or, none, get_or_past, All-nil, IsLong)
 
 element-long : (a : Array) → IsTile a → (i j : ℕ) → IsLong (element a i j)
 element-long a h i j = at-long a h (i * a.dims.cols + j)
@@ -97,13 +84,7 @@ lesser-tile m h g hg = tile m.dims (λ p. int_min (element m (p / m.dims.cols) (
 
 -- as many elements as `load` has arguments
 loaded : (args : List ℤ) (ins : List Array) → All IsLong args → IsTrue (fits Load args (map (λ a. a.dims) ins)) → IsTile (array (operand ins 0).dims args)
-loaded args ins h k =
-    let ds : List Dims = map (λ (a : Array). a.dims) ins in
-    let counts = many (length ds) (length args) (area (dims_at ds 0)) k in
-    record { whole = counts.1 ∙ ap (λ (d : Dims). area d) (get_or-map (λ (a : Array). a.dims) ins 0 none (record { rows = 0; cols = 0 }) (omega (arith, counts.0, length-map ins (λ (a : Array). a.dims)))); in_range = h }
-  where
-    many : (n m a : ℕ) → IsTrue (nat_eq n 1 && nat_eq m a && true) → (n ≡ 1) × (m ≡ a)
-    many n m a h = (grind (arith, nat_tests), grind (arith, nat_tests))
+loaded args ins h k = search (arith, get_or-map, none, length-map, nat_tests)
 
 -- the new arrays of a codelet are tiles where its operands are
 pub new_arrays-tiles : (k : Kernel) (args : List ℤ) (ins : List Array) → All IsLong args → IsTrue (fits k args (map (λ a. a.dims) ins)) → All IsTile ins → All IsTile (new_arrays k args ins)
@@ -112,10 +93,7 @@ new_arrays-tiles Copy args ins ha f h = one _ (operand-tile ins h 0)
 new_arrays-tiles Scale args ins ha f h = one _ (tile (operand ins 0).dims _ (λ p. wrap-long _))
 new_arrays-tiles Add args ins ha f h = one _ (tile (operand ins 1).dims _ (λ p. wrap-long _))
 new_arrays-tiles Axpy args ins ha f h = one _ (tile (operand ins 1).dims _ (λ p. wrap-long _))
-new_arrays-tiles Butterfly args ins ha f h =
-    let x = operand ins 0 in
-    let y = operand ins 1 in
-    All-cons IsTile (add y x) (subtract y x ∷ []) (tile x.dims _ (λ p. wrap-long _)) (one (subtract y x) (tile x.dims _ (λ p. wrap-long _)))
+new_arrays-tiles Butterfly args ins ha f h = search (arith, All-cons, tile, wrap-long, one)
 new_arrays-tiles Gemm args ins ha f h = one _ (tile (operand ins 2).dims _ (λ p. wrap-long _))
 new_arrays-tiles GemmThree args ins ha f h = one _ (tile (operand ins 4).dims _ (λ p. wrap-long _))
 new_arrays-tiles Transpose args ins ha f h = one _ (tile (operand ins 1).dims _ (λ p. element-long (operand ins 0) (operand-tile ins h 0) _ _))
@@ -123,10 +101,7 @@ new_arrays-tiles Dot args ins ha f h = one _ (tile (operand ins 2).dims _ (λ p.
 new_arrays-tiles Sum args ins ha f h = one _ (tile (operand ins 1).dims _ (λ p. wrap-long _))
 new_arrays-tiles Lowest args ins ha f h = one _ (tile (operand ins 1).dims _ (λ p. min-long _ _ (at-long (operand ins 1) (operand-tile ins h 1) p) (at-long (operand ins 0) (operand-tile ins h 0) p)))
 new_arrays-tiles MinGemm args ins ha f h =
-    let a = operand ins 0 in
-    let b = operand ins 1 in
-    let c = operand ins 2 in
-    one (mingemm a b c) (tile c.dims _ (λ p. least_below-long a.dims.cols (element c (p / c.dims.cols) (p % c.dims.cols)) (λ l. plus (element a (p / c.dims.cols) l) (element b l (p % c.dims.cols))) (element-long c (operand-tile ins h 2) _ _) (λ l. plus-long (element a (p / c.dims.cols) l) (element b l (p % c.dims.cols)))))
+    search (arith, one, tile, least_below-long, element-long, operand-tile, plus-long)
 new_arrays-tiles FwDiag args ins ha f h = one _ (turns-tile (operand ins 0).dims.rows _ (operand ins 0) (operand-tile ins h 0) (λ k m hm. lesser-tile m hm (λ i j. plus (element m i k) (element m k j)) (λ i j. plus-long (element m i k) (element m k j))))
 new_arrays-tiles FwRow args ins ha f h = one _ (turns-tile (operand ins 0).dims.rows _ (operand ins 1) (operand-tile ins h 1) (λ k m hm. lesser-tile m hm (λ i j. plus (element (operand ins 0) i k) (element m k j)) (λ i j. plus-long (element (operand ins 0) i k) (element m k j))))
 new_arrays-tiles FwCol args ins ha f h = one _ (turns-tile (operand ins 0).dims.rows _ (operand ins 1) (operand-tile ins h 1) (λ k m hm. lesser-tile m hm (λ i j. plus (element m i k) (element (operand ins 0) k j)) (λ i j. plus-long (element m i k) (element (operand ins 0) k j))))

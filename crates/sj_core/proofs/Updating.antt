@@ -88,14 +88,9 @@ pub record IsShared (k : Kernel) (ms : List Mode) (x : Mode) : Type 0 where
 shared-modes : (k : Kernel) (modes : List Mode) (x : Mode) → MayHaveModes k modes → is_in_order x ≡ false → Contains modes x → IsShared k modes x
 shared-modes k modes x (Own e) out h = let formal = map-from mode_of (formals_of k) x (subst (λ (ms : List Mode). Contains ms x) e h) in absurd (false≢true (sym out ∙ ap is_in_order (sym formal.2) ∙ own-in_order formal.0))
 shared-modes k modes x (FirstPaste is e) out h = elim (writing-is W x k (subst (λ (ms : List Mode). Contains ms x) e h)) [ inl f ↦ absurd (false≢true (sym out ∙ ap is_in_order f)) | inr f ↦ absurd (false≢true (sym out ∙ f)) ]
-shared-modes k modes x (Commuting may one e) out h = elim (writing-is CommuteMode x k (subst (λ (ms : List Mode). Contains ms x) e h)) [
-  | inl f ↦ record { commutes = may; modes = subst (λ (y : Mode). modes ≡ modes_writing_by y k) (sym f) e; contributes = λ g. absurd (let is : CommuteMode ≡ Redux = sym f ∙ g in cc) }
-  | inr f ↦ absurd (false≢true (sym out ∙ f))
-]
-shared-modes k modes x (Contributing by may one e) out h = elim (writing-is Redux x k (subst (λ (ms : List Mode). Contains ms x) e h)) [
-  | inl f ↦ record { commutes = contributing-commutes k by may; modes = subst (λ (y : Mode). modes ≡ modes_writing_by y k) (sym f) e; contributes = λ g. (by, may) }
-  | inr f ↦ absurd (false≢true (sym out ∙ f))
-]
+shared-modes k modes x (Commuting may one e) out h = search (arith, writing-is, false≢true)
+shared-modes k modes x (Contributing by may one e) out h =
+    search (arith, writing-is, contributing-commutes, false≢true)
 
 -- ---- lists
 

@@ -55,12 +55,7 @@ leave-weighs w b (Leaving v a) = omega arith
 
 -- a claim adds the weight of a cell that comes
 claimed-weighs : (w : Worker) (evicted missing : List Cell) (c : Cell) (brought : Bool) → (has_cell missing c ≡ true → brought ≡ true) → (b : Bool) (r : Replica) → weight b (claimed_replica w evicted missing c r) ≤ weight b r + cond brought 5 0
-claimed-weighs w evicted missing c brought comes b r = by_tests (has_cell evicted c) (has_cell missing c) refl
-  where
-    by_tests : (e n : Bool) → has_cell missing c ≡ n → weight b (if e then leave w r else if n then Coming w else r) ≤ weight b r + cond brought 5 0
-    by_tests true n h = let here = leave-weighs w b r in omega arith
-    by_tests false true h = let more : cond {A = ℕ} brought 5 0 ≡ 5 = ap (λ x. cond {A = ℕ} x 5 0) (comes h) in omega arith
-    by_tests false false h = omega arith
+claimed-weighs w evicted missing c brought comes b r = search (arith, weight, leave-weighs)
 
 -- ---- the row of a cell
 
@@ -70,18 +65,11 @@ replaced row n r inside = sum_by-set (weight (is_on_disk row)) row.nodes n.0 r I
 
 -- after a claim that brings the cell, or not
 pub claimed-costs : (row : CellState) (n : Node) (w : Worker) (evicted missing : List Cell) (c : Cell) (brought : Bool) → (has_cell missing c ≡ true → brought ≡ true) → n.0 < length row.nodes → cost_of (with_replica_in row (AtNode n) (claimed_replica w evicted missing c (replica_in row (AtNode n)))) ≤ cost_of row + cond brought 5 0
-claimed-costs row n w evicted missing c brought comes inside =
-    let r = replica_in row (AtNode n) in
-    let new = replaced row n (claimed_replica w evicted missing c r) inside in
-    let here = claimed-weighs w evicted missing c brought comes (is_on_disk row) r in
-    omega arith
+claimed-costs row n w evicted missing c brought comes inside = search (arith, replaced, claimed-weighs, is_on_disk)
 
 -- a cell with an entry on a node
 pub entry-costs : (row : CellState) (n : Node) → n.0 < length row.nodes → is_entry (replica_in row (AtNode n)) ≡ true → 3 ≤ cost_of row
-entry-costs row n inside entry =
-    let part = get_or-le-sum_by (weight (is_on_disk row)) row.nodes n.0 Invalid inside in
-    let here = entry-weighs (is_on_disk row) (replica_in row (AtNode n)) entry in
-    omega arith
+entry-costs row n inside entry = search (arith, get_or-le-sum_by, weight, is_on_disk, entry-weighs)
 
 invalid-costs : (b : Bool) (rs : List Replica) → sum_by (weight b) (map (λ r. Invalid) rs) ≡ 0
 invalid-costs b [] = refl
@@ -99,10 +87,7 @@ owned-costs row n a inside = alone (is_on_disk (owned_at n a row))
 
 -- a valid replica gets another array
 pub rewritten-costs : (row : CellState) (n : Node) (a old : Array) → n.0 < length row.nodes → replica_in row (AtNode n) ≡ Valid old → cost_of (rewritten_at n a row) ≤ cost_of row
-rewritten-costs row n a old inside valid =
-    let new = sum_by-set (weight (is_on_disk row)) row.nodes n.0 (Valid a) Invalid inside in
-    let was : weight (is_on_disk row) (replica_in row (AtNode n)) ≡ 3 = ap (weight (is_on_disk row)) valid in
-    omega arith
+rewritten-costs row n a old inside valid = search (arith, sum_by-set, weight, is_on_disk)
 
 -- a disk gets the cell, which leaves a node
 pub written-costs : (row : CellState) (d : DiskNo) (a : Array) (n : Node) → d.0 < length row.disks → is_on_disk row ≡ false → n.0 < length row.nodes → is_leaving (replica_in row (AtNode n)) ≡ true → cost_of (with_replica_in row (OnDisk d) (Valid a)) + 2 ≤ cost_of row
