@@ -18,16 +18,10 @@ same_task t u = search (arith, cases_eq)
 -- ---- whose task
 
 pub claimed_by-is : (w : Worker) (x : Progress) → is_claimed_by w x ≡ true → x ≡ Claimed w
-claimed_by-is w Waiting h = absurd (false≢true h)
-claimed_by-is w (Claimed v) h = ap Claimed (same_worker-is v w h)
-claimed_by-is w (Running v) h = absurd (false≢true h)
-claimed_by-is w (Done v) h = absurd (false≢true h)
+claimed_by-is w x h = search (arith, false≢true, same_worker-is)
 
 pub running_on-is : (w : Worker) (x : Progress) → is_running_on w x ≡ true → x ≡ Running w
-running_on-is w Waiting h = absurd (false≢true h)
-running_on-is w (Claimed v) h = absurd (false≢true h)
-running_on-is w (Running v) h = ap Running (same_worker-is v w h)
-running_on-is w (Done v) h = absurd (false≢true h)
+running_on-is w x h = search (arith, false≢true, same_worker-is)
 
 pub claimed-is_mine : (w : Worker) → is_task_of w (Claimed w) ≡ true
 claimed-is_mine w = ap (λ b. b || false) (same_worker-refl w)
@@ -46,10 +40,7 @@ pub task_of-active : (v : Worker) (x : Progress) → is_task_of v x ≡ true →
 task_of-active v x h = ap (λ (w : Worker). is_task_of w x) (task_of-worker v x h) ∙ h
 
 pub active-begun : (x : Progress) → is_active x ≡ true → is_begun x ≡ true
-active-begun Waiting h = h
-active-begun (Claimed v) h = refl
-active-begun (Running v) h = refl
-active-begun (Done v) h = refl
+active-begun x h = search (arith)
 
 pub done-begun : (x : Progress) → is_done x ≡ true → is_begun x ≡ true
 done-begun Waiting h = h
@@ -96,10 +87,7 @@ pub EarlierAreDone-kept : (p : Program) (s s' : State) (t u : Task) (old new : P
 EarlierAreDone-kept p s s' t u old new a undone earlier v before conflict = done-kept s s' t v old new a undone (earlier v before conflict)
 
 pub active_isn't_done : (x : Progress) → is_active x ≡ true → is_done x ≡ false
-active_isn't_done Waiting h = refl
-active_isn't_done (Claimed w) h = refl
-active_isn't_done (Running w) h = refl
-active_isn't_done (Done w) h = sym h
+active_isn't_done x h = search (arith)
 
 -- where the earlier conflicting tasks of each begun task are done, no two active tasks conflict
 pub apart-from_earlier : (p : Program) (s : State) → ((t : Task) → IsTrue (is_begun (progress s t)) → EarlierAreDone p s t) → (t u : Task) → IsTrue (is_active (progress s t)) → IsTrue (is_active (progress s u)) → u.0 < t.0 → ¬ Conflict p u.0 t.0
@@ -123,17 +111,11 @@ commuting-kept p s s' t old new a active same before u v au av d h =
   where
     was_active : (k : Task) → is_active (progress s' k) ≡ true → is_active (progress s k) ≡ true
     was_active k h =
-        elim (same_task k t) [
-          | inl e ↦ ap (λ (j : Task). is_active (progress s j)) e ∙ ap is_active a.was ∙ active
-          | inr d ↦ sym (ap is_active (a.others k d)) ∙ h
-        ]
+        (search (arith, same_task))
 
     same_worker : (k : Task) → worker_of (progress s' k) ≡ worker_of (progress s k)
     same_worker k =
-        elim (same_task k t) [
-          | inl e ↦ ap (λ (j : Task). worker_of (progress s' j)) e ∙ ap worker_of a.is ∙ same ∙ sym (ap worker_of a.was) ∙ sym (ap (λ (j : Task). worker_of (progress s j)) e)
-          | inr d ↦ ap worker_of (a.others k d)
-        ]
+        (search (arith, same_task))
 
 -- a run keeps the order of conflicting tasks
 pub Runs-keeps_order : (p : Program) (m : Machine) (s : State) (t : Task) (w : Worker) (s' : State) → Runs p m s t w s' → OrderIsKept p s → OrderIsKept p s'

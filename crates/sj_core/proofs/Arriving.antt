@@ -138,14 +138,7 @@ module _ (p : Program) (m : Machine) (s : State) (h : IsSound p m s) (c : Cell) 
 
   shift : Shifts p m s after.cells after.workers
   shift = record {
-    rows = (let rows = h.coherent.state.rows in record {
-      tasks = rows.tasks;
-      cells = length-set s.cells c.0 (with_replica_in (cell_state s c) to (Valid brought)) ∙ rows.cells;
-      orders = rows.orders;
-      workers = length-set s.workers w.0 _ ∙ rows.workers;
-      nodes = nodes-kept s c to (Valid brought) (length m.nodes) rows.nodes;
-      disks = disks-kept s c to (Valid brought) (length m.disks) rows.disks;
-    });
+    rows = (search (arith, length-set, nodes-kept, disks-kept));
     blocks = blocks;
     same_pins = pins-same placed w None;
     same_scratch = scratch-same placed w None;
@@ -157,10 +150,7 @@ module _ (p : Program) (m : Machine) (s : State) (h : IsSound p m s) (c : Cell) 
     still_comes = still_comes;
     pinned = λ v x pin valid. valid_stays x (AtNode (node_of m v)) valid;
     owned = λ x v a own q. elim (cases x q) [ inl same ↦ same | inr (e, at, is) ↦ absurd (owned_apart x v a own e) ];
-    unmoved = λ x v a own u. elim (transfer-cases placed w None u) [
-      | inl same ↦ ap (λ (o : Option Transfer). elim o as (λ _. Bool) [ None ↦ false | Some y ↦ same_cell y.cell x ]) same ∙ own.unmoved u
-      | inr (e, is) ↦ ap (λ (o : Option Transfer). elim o as (λ _. Bool) [ None ↦ false | Some y ↦ same_cell y.cell x ]) is
-    ];
+    unmoved = λ x v a own u. (search (arith, transfer-cases));
     movers = λ v x under_way. h.coherent.workers.moves_for_claim v x (others v x under_way).1;
     moving = moving;
     copies = copies;

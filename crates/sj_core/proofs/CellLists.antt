@@ -1,5 +1,5 @@
 -- Lists of cells: which cells an edited list has, how often, and the sum over a list that has each at most once.
-use Rattle.std.proofs.Common.{Bool, List, [], ap, arith, cond, false, get_or, length, not, refl, set, subst, sym, true, ℕ, ◌&&◌, ◌++◌, ◌+◌, ◌<◌, ◌||◌, ◌∙◌, ◌∷◌, ◌≡◌, ◌≤◌}
+use Rattle.std.proofs.Common.{Bool, List, [], ap, arith, cond, false, get_or, length, not, refl, set, subst, sym, true, ℕ, ◌&&◌, ◌*◌, ◌++◌, ◌+◌, ◌<◌, ◌||◌, ◌∙◌, ◌∷◌, ◌≡◌, ◌≤◌}
 use Rattle.std.proofs.lemmas.Bool.{and_from, and_parts, false_from_ne_true, false≢true, or_right, le-leb, lt-ltb}
 use Rattle.std.proofs.lemmas.Bool.Decides.{Decides-eqb}
 use Rattle.std.proofs.lemmas.List.{ext_get_or, get_or-set_other, get_or-set_same, length-set}
@@ -10,7 +10,7 @@ use Rattle.sj_core.proofs.Words.{Cell, Program, cells_of_program, distinct, has_
 use Rattle.sj_core.specs.Step.{to_front, without}
 use Rattle.sj_core.specs.Table.{renewed}
 use Rattle.sj_core.proofs.Reading.{same_cell-is}
-use Rattle.sj_core.proofs.Sums.{tally, filter-sum-le, count-numbered, sum-plus, same_test}
+use Rattle.sj_core.proofs.Sums.{tally, filter-sum-le, sum-agree, sum-each, count-numbered, sum-plus, same_test}
 use Rattle.sj_core.proofs.Tables.{length-renewed, renewed-at}
 use Rattle.std.proofs.lemmas.Map.Views.{any-filter_same}
 use Rattle.std.proofs.lemmas.List.Folds.{list_any-append}
@@ -54,11 +54,6 @@ has_cell-distinct (x ∷ xs) c = by_cases (has_cell xs x) refl (has_cell-distinc
     by_cases true again rest = rest ∙ repeated (same_cell x c) refl again
     by_cases false once rest = ap (λ b. same_cell x c || b) rest
 
--- the first of a list that has one, read with any default
-pub has_cell-head : (xs : List Cell) (d : Cell) → 0 < length xs → has_cell xs (get_or xs 0 d) ≡ true
-has_cell-head [] d some = absurd (omega arith)
-has_cell-head (x ∷ xs) d some = ap (λ b. b || has_cell xs x) (same_cell-refl x)
-
 pub has_cell-to_front : (xs : List Cell) (d c : Cell) → has_cell (to_front xs d) c ≡ (same_cell d c || has_cell xs c)
 has_cell-to_front xs d c = search (arith, has_cell-filter_is, same_cell-sym)
 
@@ -68,10 +63,7 @@ has_cell-fronted [] xs c = refl
 has_cell-fronted (d ∷ cs) xs c = has_cell-fronted cs (to_front xs d) c ∙ ap (λ b. has_cell cs c || b) (has_cell-to_front xs d c) ∙ or_swap (has_cell cs c) (same_cell d c) (has_cell xs c)
   where
     or_swap : (x y z : Bool) → (x || (y || z)) ≡ ((y || x) || z)
-    or_swap true true z = refl
-    or_swap true false z = refl
-    or_swap false true z = refl
-    or_swap false false z = refl
+    or_swap x y z = search (arith)
 
 pub has_cell-without : (gone xs : List Cell) (c : Cell) → has_cell (without gone xs) c ≡ (not (has_cell gone c) && has_cell xs c)
 has_cell-without gone xs c = has_cell-filter_is (λ d. not (has_cell gone d)) xs c
@@ -112,16 +104,16 @@ times-to_front xs d c once = by_cases (same_cell d c) refl
     by_cases : (b : Bool) → same_cell d c ≡ b → times (to_front xs d) c ≤ 1
     by_cases true e =
         let rest : List Cell = filter (λ k. not (same_cell k d)) xs in
-        let none = times-none rest c (has_cell-filter_is (λ k. not (same_cell k d)) xs c ∙ ap (λ b. not b && has_cell xs c) (same_cell-sym c d ∙ e)) in
-        let a = times-cons d rest c in
         let one : tally (same_cell d c) ≡ 1 = ap tally e in
-        omega arith
+        omega (
+          arith,
+          times-none rest c (has_cell-filter_is (λ k. not (same_cell k d)) xs c ∙ ap (λ b. not b && has_cell xs c) (same_cell-sym c d ∙ e)),
+          times-cons d rest c,
+        )
     by_cases false e =
         let rest : List Cell = filter (λ k. not (same_cell k d)) xs in
-        let a = times-cons d rest c in
-        let fewer = times-filter (λ k. not (same_cell k d)) xs c in
         let zero_here : tally (same_cell d c) ≡ 0 = ap tally e in
-        omega arith
+        omega (arith, times-cons d rest c, times-filter (λ k. not (same_cell k d)) xs c)
 
 pub times-fronted : (cs xs : List Cell) (c : Cell) → times xs c ≤ 1 → times (fold to_front xs cs) c ≤ 1
 times-fronted [] xs c once = once
@@ -133,14 +125,15 @@ times-distinct (x ∷ xs) c = by_cases (has_cell xs x) refl (times-distinct xs c
   where
     first : (b : Bool) → same_cell x c ≡ b → has_cell xs x ≡ false → times (distinct xs) c ≤ 1 → times (x ∷ distinct xs) c ≤ 1
     first true e new rest =
-        let none = times-none (distinct xs) c (has_cell-distinct xs c ∙ ap (has_cell xs) (sym (same_cell-is x c e)) ∙ new) in
-        let a = times-cons x (distinct xs) c in
         let one : tally (same_cell x c) ≡ 1 = ap tally e in
-        omega arith
+        omega (
+          arith,
+          times-none (distinct xs) c (has_cell-distinct xs c ∙ ap (has_cell xs) (sym (same_cell-is x c e)) ∙ new),
+          times-cons x (distinct xs) c,
+        )
     first false e new rest =
-        let a = times-cons x (distinct xs) c in
         let zero_here : tally (same_cell x c) ≡ 0 = ap tally e in
-        omega arith
+        omega (arith, times-cons x (distinct xs) c)
 
     by_cases : (b : Bool) → has_cell xs x ≡ b → times (distinct xs) c ≤ 1 → times (if b then distinct xs else x ∷ distinct xs) c ≤ 1
     by_cases true again rest = rest
@@ -171,19 +164,8 @@ cells-written {X} f d (c ∷ cs) rows once =
 
     at_row : (i : ℕ) (b : Bool) → same_cell c (record { 0 = i }) ≡ b → i < length rows →
         (let e : Cell = record { 0 = i } in written_if f (has_cell cs e) e (get_or (set rows c.0 (f c (get_or rows c.0 d))) i d)) ≡ (let e : Cell = record { 0 = i } in written_if f (same_cell c e || has_cell cs e) e (get_or rows i d))
-    at_row i true e inside =
-        let n : Cell = record { 0 = i } in
-        let is : c ≡ n = same_cell-is c n e in
-        let here : c.0 < length rows = subst (λ (k : Cell). k.0 < length rows) (sym is) inside in
-        let row : X = f c (get_or rows c.0 d) in
-        ap (λ b. written_if f b n (get_or (set rows c.0 row) i d)) (ap (has_cell cs) (sym is) ∙ new)
-        ∙ ap (λ (k : Cell). get_or (set rows c.0 row) k.0 d) (sym is) ∙ get_or-set_same rows c.0 row d here
-        ∙ ap (λ (k : Cell). f k (get_or rows k.0 d)) is
-        ∙ sym (ap (λ b. written_if f (b || has_cell cs n) n (get_or rows i d)) e)
-    at_row i false e inside =
-        let n : Cell = record { 0 = i } in
-        ap (written_if f (has_cell cs n) n) (get_or-set_other rows c.0 i (f c (get_or rows c.0 d)) d (λ k. false≢true (sym e ∙ same_cell-from c n (ap (λ (j : ℕ). let m : Cell = record { 0 = j } in m) (sym k)))))
-        ∙ sym (ap (λ b. written_if f (b || has_cell cs n) n (get_or rows i d)) e)
+    at_row i b e inside =
+        search (arith, same_cell-is, get_or, written_if, new, get_or-set_same, get_or-set_other, false≢true, same_cell-from)
 
 -- ---- a program has each of its cells once
 
@@ -195,39 +177,17 @@ times-program p c h = count-numbered (λ n. record { 0 = n }) (λ d. same_cell d
 abbrev pub share : (Cell → ℕ) → (Cell → Bool) → Cell → ℕ
 share f test c = cond (test c) (f c) 0
 
-share-nowhere : (f : Cell → ℕ) (all : List Cell) (x : Cell) → times all x ≡ 0 → sum_by (share f (same_cell x)) all ≡ 0
-share-nowhere f [] x h = refl
-share-nowhere f (y ∷ all) x h = by_cases (same_cell y x) refl (share-nowhere f all x)
-  where
-    by_cases : (b : Bool) → same_cell y x ≡ b → (times all x ≡ 0 → sum_by (share f (same_cell x)) all ≡ 0) → sum_by (share f (same_cell x)) (y ∷ all) ≡ 0
-    by_cases true e rest = absurd (let a = times-cons y all x in let one : tally (same_cell y x) ≡ 1 = ap tally e in omega arith)
-    by_cases false e rest =
-        let a = times-cons y all x in
-        let zero_here : tally (same_cell y x) ≡ 0 = ap tally e in
-        let b = sum_by-cons (share f (same_cell x)) y all in
-        let c : share f (same_cell x) y ≡ 0 = ap (λ b. cond b (f y) 0) (same_cell-sym x y ∙ e) in
-        let later = rest (omega arith) in
-        omega arith
-
 share-of_one : (f : Cell → ℕ) (all : List Cell) (x : Cell) → times all x ≡ 1 → sum_by (share f (same_cell x)) all ≡ f x
-share-of_one f [] x h = absurd (omega arith)
-share-of_one f (y ∷ all) x h = by_cases (same_cell y x) refl (share-nowhere f all x) (share-of_one f all x)
+share-of_one f all x h =
+    let agree = sum-agree (share f (same_cell x)) (λ y. cond (same_cell y x) (f x) 0) same all in
+    omega (arith, agree, sum-each (λ y. same_cell y x) (f x) all, ap (λ n. f x * n) h)
   where
-    by_cases : (b : Bool) → same_cell y x ≡ b → (times all x ≡ 0 → sum_by (share f (same_cell x)) all ≡ 0) → (times all x ≡ 1 → sum_by (share f (same_cell x)) all ≡ f x) → sum_by (share f (same_cell x)) (y ∷ all) ≡ f x
-    by_cases true e none one_later =
-        let a = times-cons y all x in
-        let one : tally (same_cell y x) ≡ 1 = ap tally e in
-        let b = sum_by-cons (share f (same_cell x)) y all in
-        let c : share f (same_cell x) y ≡ f x = ap (λ b. cond b (f y) 0) (same_cell-sym x y ∙ e) ∙ ap f (same_cell-is y x e) in
-        let rest = none (omega arith) in
-        omega arith
-    by_cases false e none one_later =
-        let a = times-cons y all x in
-        let zero_here : tally (same_cell y x) ≡ 0 = ap tally e in
-        let b = sum_by-cons (share f (same_cell x)) y all in
-        let c : share f (same_cell x) y ≡ 0 = ap (λ b. cond b (f y) 0) (same_cell-sym x y ∙ e) in
-        let rest = one_later (omega arith) in
-        omega arith
+    same : (y : Cell) → share f (same_cell x) y ≡ cond (same_cell y x) (f x) 0
+    same y = ap (λ b. cond b (f y) 0) (same_cell-sym x y) ∙ by_cases (same_cell y x) refl
+      where
+        by_cases : (b : Bool) → same_cell y x ≡ b → cond b (f y) 0 ≡ cond b (f x) 0
+        by_cases true e = ap f (same_cell-is y x e)
+        by_cases false e = refl
 
 -- the sum over a list that has each cell at most once, as a sum over a list that has each of its cells exactly once
 pub sum-once : (f : Cell → ℕ) (all xs : List Cell) → ((c : Cell) → has_cell xs c ≡ true → times all c ≡ 1) → ((c : Cell) → times xs c ≤ 1) → sum_by f xs ≡ sum_by (share f (has_cell xs)) all
@@ -237,11 +197,13 @@ sum-once f all [] inside once = sym (nothing all)
     nothing [] = refl
     nothing (y ∷ ys) = let a = sum_by-cons (share f (has_cell [])) y ys in let rest = nothing ys in omega arith
 sum-once f all (x ∷ xs) inside once =
-    let first = sum_by-cons f x xs in
-    let rest = sum-once f all xs (λ c h. inside c (or_right (same_cell x c) (has_cell xs c) h)) (λ c. (let o = once c in let t = times-cons x xs c in omega arith)) in
-    let here = share-of_one f all x (inside x (ap (λ b. b || has_cell xs x) (same_cell-refl x))) in
-    let split = sum-plus (share f (has_cell (x ∷ xs))) (share f (same_cell x)) (share f (has_cell xs)) apart all in
-    omega arith
+    omega (
+      arith,
+      sum_by-cons f x xs,
+      sum-once f all xs (λ c h. inside c (or_right (same_cell x c) (has_cell xs c) h)) (λ c. (let o = once c in let t = times-cons x xs c in omega arith)),
+      share-of_one f all x (inside x (ap (λ b. b || has_cell xs x) (same_cell-refl x))),
+      sum-plus (share f (has_cell (x ∷ xs))) (share f (same_cell x)) (share f (has_cell xs)) apart all,
+    )
   where
     new : has_cell xs x ≡ false
     new = false_from_ne_true (has_cell xs x) (λ h. (let o = once x in let t = times-cons x xs x in let one : tally (same_cell x x) ≡ 1 = ap tally (same_cell-refl x) in let more = times-has xs x h in omega arith))

@@ -31,18 +31,12 @@ HasBlocks-kept p m s s' disks moves before = record {
     | inl none ↦ (λ e. (let f : Invalid ≡ Coming v = sym none ∙ e in cc), λ e. (let f : Invalid ≡ Leaving v a = sym none ∙ e in cc))
     | inr same ↦ (λ e. (before.resting c d v a).0 (sym same ∙ e), λ e. (before.resting c d v a).1 (sym same ∙ e))
   ];
-  home = λ c d valid. elim (disks c d) [
-    | inl none ↦ absurd (false≢true (sym (ap is_valid none) ∙ valid))
-    | inr same ↦ before.home c d (sym (ap is_valid same) ∙ valid)
-  ];
+  home = λ c d valid. (search (arith, false≢true));
   aimed = λ v x d under_way e. before.aimed v x d (sym (moves v) ∙ under_way) e;
 }
 
 pub place_differs : (k n : Node) → k ≢ n → not (same_place (AtNode k) (AtNode n)) ≡ true
 place_differs k n d = ap not (false_from_ne_true (nat_eq k.0 n.0) (λ e. d (ap (λ (i : ℕ). let j : Node = record { 0 = i } in j) ((Decides-eqb k.0 n.0).0 e))))
-
-pub places_differ : (k n : Node) → not (same_place (AtNode k) (AtNode n)) ≡ true → k ≢ n
-places_differ k n h e = false≢true (sym (ap not ((Decides-eqb k.0 n.0).1 (ap (λ (j : Node). j.0) e))) ∙ h)
 
 -- ---- the step
 
@@ -160,10 +154,7 @@ module _ (p : Program) (m : Machine) (s : State) (h : IsSound p m s) (s' : State
         scratch = λ v. record {
           own = λ u has. elim (change.rows v) [
             | inl (pins, same, k) ↦ same ∙ (before.scratch v).own u (was_task v u has)
-            | inr (e, pins, none, idle) ↦ absurd (elim (same_task u t) [
-              | inr d ↦ others-task u v d (was_task v u has) e
-              | inl f ↦ false≢true (sym idle ∙ ap (λ (x : Worker). is_task_of x new) (sym e) ∙ sym (ap (λ (k : Task). is_task_of v (progress s' k)) f ∙ ap (is_task_of v) change.advance.is) ∙ has)
-            ])
+            | inr (e, pins, none, idle) ↦ (search (arith, same_task, others-task, was_task, false≢true))
           ];
           none = λ idle. elim (change.rows v) [
             | inr (e, pins, none, k) ↦ none

@@ -13,8 +13,7 @@ use Rattle.sj_core.proofs.Advancing.{Advances, claimed_by-task_of, same_task, ta
 use Rattle.sj_core.proofs.Bytes.{fewer-entries, fewer-leaving, bytes_where, once-bytes, entry-cell, order-bytes, leaving-bytes, beside-bytes, others-le, worker-once_at}
 use Rattle.sj_core.proofs.CellLists.{has_cell-fronted, has_cell-without, share, times, times-append, times-distinct, times-filter, times-fronted}
 use Rattle.sj_core.proofs.Claiming.{ClaimCase, Claims-other_worker, Claims-worker, Comes, Leaves, Stays, absent-missing, claim-advance, claim-array, claim-cases, claim-coming, claim-elsewhere, claim-here, claim-leaving, claim-on_disk, claim-other_pins, claim-own_cells, claim-own_pins, claim-still_leaves, claim-transfer, claim-writes, claimer-other, entry-stays, evicted-free, missing-absent, own-spared, pin-spared, task-cell, victim-valid}
-use Rattle.sj_core.proofs.Contents.{content-kept}
-use Rattle.sj_core.proofs.Counting.{counted-same, written-undone}
+use Rattle.sj_core.proofs.Ending.{content-kept, counted-same, written-undone}
 use Rattle.sj_core.proofs.Dependencies.{Proper-dependencies}
 use Rattle.sj_core.proofs.Eviction.{shortest_suffix-passes, shortest_suffix-suffix}
 use Rattle.sj_core.proofs.Changing.{HasBlocks-kept, All-renewed, HasWorkers-kept}
@@ -324,11 +323,13 @@ module _ (p : Program) (m : Machine) (s : State) (h : IsSound p m s) (t : Task) 
       once : (c : Cell) → times claim.evicted c ≤ 1
       once c =
           let unpinned : Cell → Bool = λ d. not (is_pinned m s (node_of m w) d) && not (has_cell (cells_of p t w) d) in
-          let all = times-append suffix.0 claim.evicted c in
           let same : times (suffix.0 ++ claim.evicted) c ≡ times (filter unpinned (order s (node_of m w))) c = ap (λ (cs : List Cell). times cs c) suffix.1 in
-          let fewer = times-filter unpinned (order s (node_of m w)) c in
-          let before = h.coherent.state.entries.once (node_of m w) c in
-          omega arith
+          omega (
+            arith,
+            times-append suffix.0 claim.evicted c,
+            times-filter unpinned (order s (node_of m w)) c,
+            h.coherent.state.entries.once (node_of m w) c,
+          )
 
   missing-bytes : sum_by (tile_bytes p) (missing p s t w (node_of m w)) ≡ bytes_where p (has_cell (missing p s t w (node_of m w)))
   missing-bytes =
@@ -359,12 +360,14 @@ module _ (p : Program) (m : Machine) (s : State) (h : IsSound p m s) (t : Task) 
   order-balance =
       let f = tile_bytes p in
       let n = node_of m w in
-      let all = sum-balanced (share f (has_cell (order s' n))) (share f (has_cell claim.evicted)) (share f (has_cell (order s n))) (share f (has_cell (missing p s t w n))) balance (cells_of_program p) in
-      let a = order-bytes p m s' claim-state n in
-      let b = evicted-bytes in
-      let c = order-bytes p m s h.coherent.state n in
-      let d = missing-bytes in
-      omega arith
+      omega (
+        arith,
+        sum-balanced (share f (has_cell (order s' n))) (share f (has_cell claim.evicted)) (share f (has_cell (order s n))) (share f (has_cell (missing p s t w n))) balance (cells_of_program p),
+        order-bytes p m s' claim-state n,
+        evicted-bytes,
+        order-bytes p m s h.coherent.state n,
+        missing-bytes,
+      )
 
   claim-scratch_others : (v : Worker) → v ≢ w → scratch s' v ≡ scratch s v
   claim-scratch_others v d = ap (λ (row : WorkerState). row.scratch) (Claims-other_worker p m s t w v s' claim d)
@@ -427,9 +430,11 @@ module _ (p : Program) (m : Machine) (s : State) (h : IsSound p m s) (t : Task) 
       | inl (at, own, evicted) ↦ subst (λ (j : Node). used_while_leaving p m s' v j ≤ node_size m j) (let e : node_of m w ≡ k = cc in e) (subst (λ (x : Worker). used_while_leaving p m s' x (node_of m w) ≤ node_size m (node_of m w)) (sym own) here)
       | inr (away, was) ↦
           let d : k ≢ node_of m w = λ e. away (ap (λ (j : Node). AtNode j) e) in
-          let fewer = fewer-leaving p m s s' h.coherent.state claim-state k (same_entries k d) (same_scratch k d) v (λ x by. sym (ap (is_leaving_by v) (elsewhere x k d)) ∙ by) (λ x by. ap (is_coming_by v) (elsewhere x k d) ∙ by) in
-          let enough = h.coherent.bytes.leaving k v c was in
-          omega arith
+          omega (
+            arith,
+            fewer-leaving p m s s' h.coherent.state claim-state k (same_entries k d) (same_scratch k d) v (λ x by. sym (ap (is_leaving_by v) (elsewhere x k d)) ∙ by) (λ x by. ap (is_coming_by v) (elsewhere x k d) ∙ by),
+            h.coherent.bytes.leaving k v c was,
+          )
     ];
   }
     where
@@ -443,14 +448,16 @@ module _ (p : Program) (m : Machine) (s : State) (h : IsSound p m s) (t : Task) 
       here =
           let f = tile_bytes p in
           let n = node_of m w in
-          let within = sum-within (share f (λ d. is_leaving_by w (replica s' d (AtNode n)))) (share f (λ d. not (is_coming_by w (replica s' d (AtNode n))) && has_cell (order s' n) d)) (share f (has_cell (order s n))) claim-leaving_within (cells_of_program p) in
-          let a = leaving-bytes p m s' claim-state n w in
-          let b = beside-bytes p m s' claim-state n w in
-          let c = order-bytes p m s h.coherent.state n in
-          let others = others-le m n w (scratch s') (scratch s) (λ v here d. (let same = claim-scratch_others v d in omega arith)) in
-          let some = filter-sum-le (scratch s) (λ v. not (nat_eq v.0 w.0)) (workers_at m n) in
-          let before = h.coherent.bytes.entries n in
-          omega arith
+          omega (
+            arith,
+            sum-within (share f (λ d. is_leaving_by w (replica s' d (AtNode n)))) (share f (λ d. not (is_coming_by w (replica s' d (AtNode n))) && has_cell (order s' n) d)) (share f (has_cell (order s n))) claim-leaving_within (cells_of_program p),
+            leaving-bytes p m s' claim-state n w,
+            beside-bytes p m s' claim-state n w,
+            order-bytes p m s h.coherent.state n,
+            others-le m n w (scratch s') (scratch s) (λ v here d. (let same = claim-scratch_others v d in omega arith)),
+            filter-sum-le (scratch s) (λ v. not (nat_eq v.0 w.0)) (workers_at m n),
+            h.coherent.bytes.entries n,
+          )
 
   pub Claims-coherent : Coherent p m s'
   Claims-coherent = record { state = claim-state; writers = claim-writers; copies = claim-copies; cells = claim-cells; pins = claim-pins; transfers = claim-transfers; bytes = claim-bytes; workers = claim-workers; order = claim-order; counts = claim-counts }

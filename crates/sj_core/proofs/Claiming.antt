@@ -6,8 +6,7 @@ use Rattle.std.proofs.lemmas.List.{get_or_past}
 use Rattle.std.proofs.lemmas.List.Elements.{All-contains}
 use Rattle.std.specs.List.{filter, list_any}
 use Rattle.std.specs.Prelude.{if◌then◌else◌, is_some, nat_eq}
-use Rattle.sj_core.proofs.Words.{Array, AtNode, Cell, CellState, Claimed, Coming, DiskNo, Invalid, Leaving, Machine, Node, OnDisk, Place, Program, Replica, State, Task, Valid, Waiting, Worker, WorkerState, array_of, cell_info, cell_state, cells_of, copy_of, distinct, has_cell, is_coming_by, is_entry, is_leaving_by, is_pinned, is_task_of, no_task, node_of, order, pins, progress, replica, replica_in, scratch_bytes, task_of, tile_bytes, transfer, with_replica_in, worked_on, worker_state, workers_of, writes, free}
-use Rattle.sj_base.specs.declared.mode.Access.{Access}
+use Rattle.sj_core.proofs.Words.{Access, Array, AtNode, Cell, CellState, Claimed, Coming, DiskNo, Invalid, Leaving, Machine, Node, OnDisk, Place, Program, Replica, State, Task, Valid, Waiting, Worker, WorkerState, array_of, cell_info, cell_state, cells_of, copy_of, distinct, free, has_cell, is_coming_by, is_entry, is_leaving_by, is_pinned, is_task_of, no_task, node_of, order, pins, progress, replica, replica_in, scratch_bytes, task_of, tile_bytes, transfer, with_replica_in, worked_on, worker_state, workers_of, writes}
 use Rattle.sj_core.specs.Coherent.{HasRows}
 use Rattle.sj_core.specs.Laws.{IsSound}
 use Rattle.sj_base.specs.Mode.{is_redux, is_scratch}

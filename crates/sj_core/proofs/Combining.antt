@@ -7,20 +7,14 @@ use Rattle.std.proofs.lemmas.Bool.{and_parts, not-true}
 use Rattle.std.proofs.lemmas.Bool.Decides.{nat_tests}
 use Rattle.std.proofs.lemmas.List.{length-append, length-map, map-append}
 use Rattle.std.proofs.lemmas.List.Elements.{All-append, All-cons, All-head, All-nil, All-tail}
-use Rattle.sj_base.specs.Array.{Array, zeros}
-use Rattle.sj_base.specs.declared.mode.Reduction.{Reduction}
-use Rattle.sj_base.specs.declared.mode.Reduction.TheVariants.{Least, Plus}
-use Rattle.sj_base.specs.declared.tile.Dims.{Dims}
+use Rattle.sj_core.proofs.Words.{Array, Dims, Formal, Kernel, Least, Plus, Reduction, UpdateFormal, zeros}
 use Rattle.sj_codelet.proofs.Table.{each_dims, new_arrays-dims}
 use Rattle.sj_codelet.specs.Equations.{all_inf}
 use Rattle.sj_codelet.specs.Formal.{is_output, outputs_among}
 use Rattle.sj_codelet.specs.Kernel.{arguments_fit, commutes_of, contributes_of, dims_fit, fits, formals_of, new_arrays, operand}
 use Rattle.sj_codelet.specs.Laws.{DoesContribute, IsCall, IsReduction, IsTile, combined, result_of, unit_of}
-use Rattle.sj_codelet.specs.declared.formal.Formal.{Formal}
-use Rattle.sj_codelet.specs.declared.formal.Formal.TheVariants.{RW as UpdateFormal}
-use Rattle.sj_codelet.specs.declared.kernel.Kernel.{Kernel}
 use Rattle.sj_core.proofs.Swapping.{Exchange}
-use Rattle.sj_core.proofs.Tiles.{inf-long, new_arrays-tiles, operand-tile, tile, zeros-tile}
+use Rattle.sj_core.proofs.Sized.{inf-long, new_arrays-tiles, operand-tile, tile, zeros-tile}
 use Rattle.sj_core.proofs.Updating.{contributing-commutes, updates-last}
 
 -- ---- what a commuting codelet makes

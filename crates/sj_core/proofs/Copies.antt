@@ -7,15 +7,12 @@ use Rattle.std.proofs.lemmas.Bool.Decides.{Decides-eqb}
 use Rattle.std.proofs.lemmas.List.{get_or_default}
 use Rattle.std.proofs.lemmas.List.Elements.{All-contains, Contains-get_or}
 use Rattle.sj_base.specs.Mode.{is_redux, is_scratch, starts_as_zeros}
-use Rattle.sj_base.specs.declared.mode.Access.{Access}
-use Rattle.sj_base.specs.declared.mode.Mode.{Mode}
-use Rattle.sj_base.specs.declared.mode.Mode.TheVariants.{Commute as CommuteMode, R, RW, Redux, Scratch, W}
-use Rattle.sj_core.proofs.Words.{Cell, Program, Worker, cell_info, copy_of, data_operands, no_task, same_cell, worked_on}
+use Rattle.sj_core.proofs.Words.{Access, Cell, CommuteMode, Mode, Program, R, RW, Redux, Scratch, W, Worker, cell_info, copy_of, data_operands, no_task, same_cell, worked_on}
 use Rattle.sj_core.specs.Proper.{IsCombine, IsContribution, IsCopyOf, IsFirstUnit, IsInit, IsMember, IsOpenAt, IsPhase, Phase, Proper, Touches, access, task_number}
 use Rattle.sj_core.proofs.Dependencies.{not_both, one_is, own-of_phase}
 use Rattle.sj_core.proofs.Folding.{number}
 use Rattle.sj_core.proofs.Phases.{combine-after, combine-among, combine-reads, combine_at, contributes, copy-of, init-among, init-before, init_at}
-use Rattle.sj_core.proofs.OperandCells.{operand-inside}
+use Rattle.sj_core.proofs.TaskCells.{operand-inside}
 use Rattle.sj_core.proofs.Readiness.{AllPairs-two, Contains-filter}
 
 -- a mode is REDUX or not

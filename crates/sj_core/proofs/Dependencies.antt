@@ -9,17 +9,8 @@ use Rattle.std.proofs.lemmas.Option.{slice_get-get_or, slice_get_past}
 use Rattle.std.specs.List.{Contains, flat_map, range_with_len}
 use Rattle.std.specs.Prelude.{AllPairs, IsTrue, is_some, option_and_then, slice_get}
 use Rattle.sj_base.specs.Mode.{is_redux, is_scratch}
-use Rattle.sj_core.proofs.Words.{Cell, Program, Worker, cell_info, copy_of, data_operands, no_cell, no_task, same_cell}
-use Rattle.sj_base.specs.declared.mode.Access.{Access}
-use Rattle.sj_base.specs.declared.mode.Mode.{Mode}
-use Rattle.sj_base.specs.declared.mode.Mode.TheVariants.{Commute as CommuteMode, R, RW, Redux, Scratch, W}
-use Rattle.sj_base.specs.declared.program.CellInfo.{CellInfo}
-use Rattle.sj_base.specs.declared.program.Codelet.{Codelet}
-use Rattle.sj_base.specs.declared.program.Lowered.{Lowered}
+use Rattle.sj_core.proofs.Words.{Access, Cell, CellInfo, Codelet, Commute, CommuteMode, Contribute, Lowered, Manner, Mode, Program, R, RW, Read, Redux, Scratch, Usage, W, Worker, Write, cell_info, copy_of, data_operands, no_cell, no_task, same_cell}
 use Rattle.sj_deps.specs.Conflict.{HasDependencies, Uses, copies_of, usage, usages_of}
-use Rattle.sj_deps.specs.declared.manner.Manner.{Manner}
-use Rattle.sj_deps.specs.declared.manner.Manner.TheVariants.{Commute, Contribute, Read, Write}
-use Rattle.sj_deps.specs.declared.manner.Usage.{Usage}
 use Rattle.sj_core.specs.Proper.{IsCombine, IsCopyOf, IsInit, IsPhase, Phase, Proper, access, task_number}
 use Rattle.sj_core.proofs.Readiness.{AllPairs-two, Contains-filter}
 use Rattle.sj_core.proofs.Sharing.{manner_of}

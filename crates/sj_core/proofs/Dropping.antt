@@ -78,22 +78,12 @@ module _ (p : Program) (m : Machine) (s : State) (h : IsSound p m s) (c : Cell) 
           | inl same ↦ (old.0, ap is_valid same ∙ old.1)
           | inr (e, at, is, left) ↦ (elsewhere.0, ap (λ (x : Cell). is_valid (replica after x elsewhere.0)) e ∙ elsewhere.1)
         ]);
-        alike = λ d q some unwritten. elim (cases d q) [
-          | inl same ↦ subst (λ (r : Replica). IfSome (array_of r) (λ a. a ≡ content p s d)) (sym same) (before.alike d q (positive d some) unwritten)
-          | inr (e, at, is, left) ↦ subst (λ (r : Replica). IfSome (array_of r) (λ a. a ≡ content p s d)) (sym is) tt
-        ];
+        alike = λ d q some unwritten. (search (arith, cases));
       }
 
   shift : Shifts p m s after.cells after.workers
   shift = record {
-    rows = (let rows = h.coherent.state.rows in record {
-      tasks = rows.tasks;
-      cells = length-set s.cells c.0 (with_replica_in (cell_state s c) (AtNode n) Invalid) ∙ rows.cells;
-      orders = rows.orders;
-      workers = rows.workers;
-      nodes = nodes-kept s c (AtNode n) Invalid (length m.nodes) rows.nodes;
-      disks = disks-kept s c (AtNode n) Invalid (length m.disks) rows.disks;
-    });
+    rows = (search (arith, length-set, nodes-kept, disks-kept));
     blocks = HasBlocks-kept p m s after (λ d k. elim (cases d (OnDisk k)) [ inl same ↦ inr same | inr (e, at, is, left) ↦ inl is ]) (λ v. refl) h.coherent.state.blocks;
     same_pins = λ v. refl;
     same_scratch = λ v. refl;
@@ -107,10 +97,7 @@ module _ (p : Program) (m : Machine) (s : State) (h : IsSound p m s) (c : Cell) 
       | inl same ↦ ap is_valid same ∙ valid
       | inr (e, at, is, left) ↦ absurd (false≢true (sym (h.coherent.pins.stays v d pin) ∙ left))
     ];
-    owned = λ d v a own q. elim (cases d q) [
-      | inl same ↦ same
-      | inr (e, at, is, left) ↦ absurd (false≢true (sym (owned-fails m s d v a own is_leaving refl refl q) ∙ left))
-    ];
+    owned = λ d v a own q. (search (arith, cases, false≢true, owned-fails));
     unmoved = λ d v a own x. own.unmoved x;
     movers = h.coherent.workers.moves_for_claim;
     moving = moving;

@@ -1,26 +1,158 @@
 -- The end of a kernel's run leaves a coherent state.
-use Rattle.std.proofs.Common.{Bool, List, None, Option, Some, [], ap, arith, false, inl, inr, length, not, refl, set, subst, sym, true, ℕ, ◌+◌, ◌<◌, ◌∙◌, ◌≡◌, ◌≢◌, ◌≤◌, ◌⊎◌}
-use Rattle.std.proofs.lemmas.Bool.{cases_Bool, cases_lt, false_from_ne_true, false≢true, cond_both}
+use Rattle.std.proofs.Common.{Bool, List, ap, arith, false, inl, inr, length, refl, subst, sym, true, ◌<◌, ◌∙◌, ◌≡◌, ◌&&◌, ◌+◌, ◌≢◌, None, Option, Some, [], not, set, ℕ, ◌≤◌, ◌⊎◌}
+use Rattle.std.proofs.lemmas.Bool.{false≢true, eq-eqb, ne_eqb, and_from, le-leb, lt-ltb, cases_Bool, cases_lt, false_from_ne_true, cond_both}
+use Rattle.std.specs.List.{zip}
+use Rattle.std.specs.Prelude.{IsTrue, count_by, nat_eq, nat_le, nat_lt, All, IfSome, if◌then◌else◌}
 use Rattle.std.proofs.lemmas.List.{get_or-set_same, get_or_past, length-set}
 use Rattle.std.proofs.lemmas.Option.{MatchOption-from_none}
-use Rattle.std.specs.Prelude.{All, IfSome, if◌then◌else◌}
-use Rattle.sj_core.proofs.Words.{Array, AtNode, Cell, CellState, Claimed, Done, Invalid, Machine, Node, OnDisk, Place, Program, Progress, Replica, Running, State, Task, Transfer, Valid, Worker, WorkerState, array_of, cell_state, cells_of, has_cell, is_coming_by, is_entry, is_leaving_by, is_task_of, is_valid, moves, node_of, order, pins, progress, replica, replica_in, same_cell, scratch, transfer, victims_of, worker_of, worker_state, writes, written_cells}
-use Rattle.sj_core.specs.Coherent.{Coherent, CopiesAgree, HasRows, IsOwnedBy, IsStateOf, WritersOwn, content, is_begun, is_being_written, written_content}
-use Rattle.sj_core.specs.Laws.{IsSound}
-use Rattle.sj_core.specs.Step.{Ends, result_at, rewritten_at, same_place}
-use Rattle.sj_core.proofs.Advancing.{Advances, Ends-advances, Ends-keeps_order}
+use Rattle.sj_deps.specs.Conflict.{Conflict}
+use Rattle.sj_core.specs.Coherent.{Coherent, HasWorkers, OrderIsKept, content, is_begun, IsStateOf, TasksHaveCells, WritesAreCounted, has_written, CopiesAgree, HasRows, IsOwnedBy, WritersOwn, is_being_written, written_content}
+use Rattle.sj_core.specs.Fold.{Contents, after_chosen, after_task, held_in}
+use Rattle.sj_core.specs.Laws.{IsLawful, IsSound}
+use Rattle.sj_core.specs.Proper.{Proper}
+use Rattle.sj_core.specs.Step.{Ends, array_at, result_at, after, rewritten_at, same_place}
+use Rattle.sj_core.proofs.Words.{Array, AtNode, Cell, CellState, Claimed, Done, Kernel, Machine, Program, Progress, Running, State, Task, Waiting, Worker, dims_of, done_by, done_in, has_cell, is_done, is_task_of, no_task, node_of, progress, results, tasks_of, worked_on, worker_of, writes, written_cells, zeros, Invalid, Node, OnDisk, Place, Replica, Transfer, Valid, WorkerState, array_of, cell_state, cells_of, is_coming_by, is_entry, is_leaving_by, is_valid, moves, order, pins, replica, replica_in, same_cell, scratch, transfer, victims_of, worker_state}
+use Rattle.sj_core.proofs.Advancing.{Advances, Ends-advances, done-begun, same_task, Ends-keeps_order}
+use Rattle.sj_core.proofs.Values.{results-complete}
+use Rattle.sj_core.proofs.Updating.{may-swap}
+use Rattle.sj_core.proofs.Folding.{AddsTask, after_chosen-same, after_task-other, held-append, held_over, held_over-own, read-among_cells, results-same}
+use Rattle.sj_core.proofs.Found.{found-content}
+use Rattle.sj_core.proofs.Phases.{contributions-exchange}
+use Rattle.sj_core.proofs.Reading.{progress-inside, cells-touched, cells-untouched, cells-renewed_or, entry-inside, idle_row, moves-it, worker-other, worker-same, workers_differ}
+use Rattle.sj_core.proofs.Replicas.{same_worker-refl}
+use Rattle.sj_core.proofs.Swapping.{put-last}
+use Rattle.sj_core.proofs.Placing.{valid-row, replica_in-cases, same_place-is, same_place-refl}
+use Rattle.sj_core.proofs.TaskCells.{written-among_cells}
+use Rattle.sj_core.proofs.Sums.{tally, sum-agree, sum-plus, count-numbered}
 use Rattle.sj_core.proofs.CellLists.{times}
 use Rattle.sj_core.proofs.Changing.{Changes, Changes-coherent, Changes-writers, TransfersAreSound-spared, HasBlocks-kept, All-renewed, HasWorkers-kept}
-use Rattle.sj_core.proofs.Contents.{PutsLast, end-content-other, end-content-own}
-use Rattle.sj_core.proofs.Counting.{Ends-keeps_counts}
 use Rattle.sj_core.proofs.Dependencies.{Proper-dependencies}
-use Rattle.sj_core.proofs.Placing.{replica_in-cases, same_place-is, same_place-refl}
-use Rattle.sj_core.proofs.Reading.{cells-renewed_or, cells-touched, cells-untouched, entry-inside, idle_row, moves-it, worker-other, worker-same, workers_differ}
-use Rattle.sj_core.proofs.Replicas.{same_worker-refl}
 use Rattle.sj_core.proofs.Finding.{not_written-before, agrees-kept}
 use Rattle.sj_core.proofs.Separation.{separated}
 use Rattle.sj_core.proofs.Tables.{length-renewed}
-use Rattle.sj_core.proofs.TaskCells.{written-among_cells}
+
+-- ---- what cells ought to hold after a step: their contents before, and the results of the task that ends
+
+-- ---- what cells ought to hold after a step: their contents before, and the results of the task that ends
+
+-- ---- where no task more is done
+
+pub content-kept : (p : Program) (s s' : State) (t : Task) (old new : Progress) → Advances s s' t old new → is_done old ≡ false → is_done new ≡ false → (c : Cell) → content p s' c ≡ content p s c
+content-kept p s s' t old new a was is c = search (arith, after_chosen-same, same_task, false≢true)
+
+-- ---- an end
+
+-- no task that is done and later conflicts with one that isn't done
+pub later-free : (p : Program) (s : State) (t : Task) → OrderIsKept p s → done_in s t ≡ false → (u : Task) → t.0 < u.0 → done_in s u ≡ true → ¬ Conflict p t.0 u.0
+later-free p s t kept undone u later done conflict = false≢true (sym undone ∙ kept.earlier u (done-begun (progress s u) done) t later conflict)
+
+-- in the fold of a program a task with which no later chosen one conflicts may be put last
+abbrev pub PutsLast : Program → Type 0
+PutsLast p = (chosen chosen' : Task → Bool) (by by' : Task → Worker) (t : Task) (w : Worker) → t.0 < length p.tasks → w.0 < p.workers → ((u : Task) → (by u).0 < p.workers) → AddsTask chosen chosen' by by' t w → ((u : Task) → t.0 < u.0 → chosen u ≡ true → ¬ Conflict p t.0 u.0) →
+    (c : Cell) → held_in p (after_chosen p chosen' by' (length p.tasks)) c ≡ held_in p (after_task p w t (after_chosen p chosen by (length p.tasks))) c
+
+-- it is so from the laws of a set
+pub lawful-puts_last : (has : Kernel → Bool) (p : Program) → Proper p → IsLawful has p → PutsLast p
+lawful-puts_last has p proper lawful chosen chosen' by by' t w inside w_in staffed adds free =
+    put-last p proper lawful.arguments chosen chosen' by by' t w staffed w_in adds (length p.tasks) inside (omega arith) (λ u later within done.
+    may-swap has p proper lawful t u inside within w (by u) w_in (staffed u) (free u later done) (contributions-exchange p proper has lawful t u inside within w (by u) w_in (staffed u) (free u later done) later))
+
+-- the workers by which tasks are done are the program's; where a task isn't begun the word gives the first one
+pub all-staffed : (p : Program) (s : State) → 0 < p.workers → HasWorkers p s → (u : Task) → (done_by s u).0 < p.workers
+all-staffed p s some staff u = search (arith)
+
+module _ (p : Program) (m : Machine) (proper : Proper p) (puts_last : PutsLast p) (s : State) (sound : Coherent p m s) (t : Task) (w : Worker) (s' : State) (ended : Ends p m s t w s') where
+  not_waiting : Running w ≡ Waiting → ⊥
+  not_waiting e = cc
+
+  pub end-inside : t.0 < length p.tasks
+  end-inside = omega (arith, progress-inside s t (λ h. not_waiting (sym ended.running ∙ h)), sound.state.rows.tasks)
+
+  staffed : w.0 < p.workers
+  staffed = subst (λ (x : Progress). (worker_of x).0 < p.workers) ended.running (sound.state.staff.staffed t (ap is_begun ended.running))
+
+  -- the ended task's results come over the contents before, as if no done task came after it
+  end-content : (c : Cell) → content p s' c ≡ held_in p (after_task p w t (after_chosen p (done_in s) (done_by s) (length p.tasks))) c
+  end-content c =
+      let a = Ends-advances p m s t w s' ended in
+      let adds : AddsTask (done_in s) (done_in s') (done_by s) (done_by s') t w = record { absent = ap is_done a.was; present = ap is_done a.is; worker = ap worker_of a.is; others = λ u d. ap is_done (a.others u d); workers = λ u d. ap worker_of (a.others u d) } in
+      puts_last (done_in s) (done_in s') (done_by s) (done_by s') t w end-inside staffed (all-staffed p s (omega (arith, staffed)) sound.state.staff) adds (later-free p s t sound.order (ap is_done a.was)) c
+
+  -- what the task doesn't write keeps its content
+  pub end-content-other : (c : Cell) → has_cell (written_cells p t w) c ≡ false → content p s' c ≡ content p s c
+  end-content-other c spared = end-content c ∙ after_task-other p w t (after_chosen p (done_in s) (done_by s) (length p.tasks)) c spared
+
+  -- the task works on the arrays of its worker's node as on the contents of its cells
+  end-results : results p t w (content p s) ≡ results p t w (array_at p s (AtNode (node_of m w)))
+  end-results = results-same p t w w (content p s) (array_at p s (AtNode (node_of m w))) (λ a h reads.
+      (let mine : is_task_of w (progress s t) ≡ true = ap (is_task_of w) ended.running ∙ same_worker-refl w in
+      let there = sound.cells.running t w (worked_on p w a) ended.running (read-among_cells p t w a h reads) in
+      sym (found-content p proper m s sound t w mine a h reads there)))
+
+  -- what it writes has its result as content
+  pub end-content-own : (c : Cell) → has_cell (written_cells p t w) c ≡ true → content p s' c ≡ result_at p s t w (node_of m w) c
+  end-content-own c writes =
+      let cs = written_cells p t w in
+      let arrays = results p t w (array_at p s (AtNode (node_of m w))) in
+      let complete = results-complete p t w (array_at p s (AtNode (node_of m w))) (proper.codelets t.0 no_task end-inside) in
+      end-content c
+      ∙ held-append p (zip cs (results p t w (content p s))) (after_chosen p (done_in s) (done_by s) (length p.tasks)) c
+      ∙ ap (λ (xs : List Array). held_over (zip cs xs) c (content p s c)) end-results
+      ∙ held_over-own cs arrays c (content p s c) (zeros (dims_of p c)) writes (omega (arith, complete))
+
+-- ---- a claim, a run and an end keep that a cell's write count is the number of done tasks that wrote it
+
+-- ---- which tasks have written a cell
+
+written-other : (p : Program) (s s' : State) (c : Cell) (t u : Task) (old new : Progress) → Advances s s' t old new → u ≢ t → has_written p s' c u ≡ has_written p s c u
+written-other p s s' c t u old new a d = ap (λ (x : Progress). is_done x && has_cell (written_cells p u (worker_of x)) c) (a.others u d)
+
+pub written-undone : (p : Program) (s s' : State) (c : Cell) (t u : Task) (old new : Progress) → Advances s s' t old new → is_done old ≡ false → is_done new ≡ false → has_written p s' c u ≡ has_written p s c u
+written-undone p s s' c t u old new a before after = search (arith, same_task, written-other)
+
+pub counted-same : (p : Program) (s s' : State) (c : Cell) → ((u : Task) → has_written p s' c u ≡ has_written p s c u) → count_by (has_written p s' c) (tasks_of p) ≡ count_by (has_written p s c) (tasks_of p)
+counted-same p s s' c same = sum-agree (λ u. tally (has_written p s' c u)) (λ u. tally (has_written p s c u)) (λ u. ap tally (same u)) (tasks_of p)
+
+-- ---- the laws
+
+pub Ends-keeps_counts : (p : Program) (m : Machine) (s : State) (t : Task) (w : Worker) (s' : State) → IsStateOf p m s → TasksHaveCells p m s → Ends p m s t w s' → WritesAreCounted p s → WritesAreCounted p s'
+Ends-keeps_counts p m s t w s' state cells ended counts = record { counted = λ c. by_cases c (has_cell (written_cells p t w) c) refl }
+  where
+    inside : t.0 < length p.tasks
+    inside = omega (arith, progress-inside s t (λ h. running_isn't_waiting (sym ended.running ∙ h)), state.rows.tasks)
+      where
+        running_isn't_waiting : Running w ≡ Waiting → ⊥
+        running_isn't_waiting e = cc
+
+    undone : (c : Cell) → has_written p s c t ≡ false
+    undone c = ap (λ (x : Progress). is_done x && has_cell (written_cells p t (worker_of x)) c) ended.running
+
+    now : (c : Cell) → has_written p s' c t ≡ has_cell (written_cells p t w) c
+    now c = ap (λ (x : Progress). is_done x && has_cell (written_cells p t (worker_of x)) c) (Ends-advances p m s t w s' ended).is
+
+    by_cases : (c : Cell) (b : Bool) → has_cell (written_cells p t w) c ≡ b → writes s' c ≡ count_by (has_written p s' c) (tasks_of p)
+    by_cases c false e =
+        let same : writes s' c ≡ writes s c = ap (λ (z : State). writes z c) ended.leaves ∙ ap (λ (r : CellState). r.writes) (cells-untouched s (has_cell (written_cells p t w)) (λ d row. rewritten_at (node_of m w) (result_at p s t w (node_of m w) d) row) c e) in
+        same ∙ counts.counted c ∙ sym (counted-same p s s' c (λ u. elim (same_task u t) [
+          | inl f ↦ subst (λ (k : Task). has_written p s' c k ≡ has_written p s c k) (sym f) (now c ∙ e ∙ sym (undone c))
+          | inr d ↦ written-other p s s' c t u (Running w) (Done w) (Ends-advances p m s t w s' ended) d
+        ]))
+    by_cases c true e =
+        let there = cells.running t w c ended.running (written-among_cells p t w c e) in
+        let more : writes s' c ≡ writes s c + 1 = ap (λ (z : State). writes z c) ended.leaves ∙ ap (λ (r : CellState). r.writes) (cells-touched s (has_cell (written_cells p t w)) (λ d row. rewritten_at (node_of m w) (result_at p s t w (node_of m w) d) row) c (valid-row s c (AtNode (node_of m w)) there) e) in
+        let is_t : Task → Bool = λ u. nat_eq u.0 t.0 in
+        let each : (u : Task) → tally (has_written p s' c u) ≡ tally (has_written p s c u) + tally (is_t u) = λ u. elim (same_task u t) [
+          | inl f ↦ ap (λ (k : Task). tally (has_written p s' c k)) f ∙ ap tally (now c ∙ e) ∙ sym (ap (λ b. tally b + 1) (undone c)) ∙ ap (λ (k : Task). tally (has_written p s c k) + 1) (sym f) ∙ ap (λ b. tally (has_written p s c u) + tally b) (sym (eq-eqb u.0 t.0 (ap (λ (k : Task). k.0) f)))
+          | inr d ↦ ap tally (written-other p s s' c t u (Running w) (Done w) (Ends-advances p m s t w s' ended) d) ∙ (let none : tally (is_t u) ≡ 0 = ap tally (ne_eqb u.0 t.0 (λ g. d (ap (λ n. let k : Task = record { 0 = n } in k) g))) in omega arith)
+        ] in
+        omega (
+          arith,
+          sum-plus (λ u. tally (has_written p s' c u)) (λ u. tally (has_written p s c u)) (λ u. tally (is_t u)) each (tasks_of p),
+          count-numbered (λ n. record { 0 = n }) is_t t.0 (λ n. refl) 0 (length p.tasks) ∙ ap tally (and_from (nat_le 0 t.0) (nat_lt t.0 (0 + length p.tasks)) (le-leb 0 t.0 (omega arith)) (lt-ltb t.0 (0 + length p.tasks) (omega (arith, inside)))),
+          counts.counted c,
+        )
+
+-- ---- the end of a kernel's run leaves a coherent state
 
 module _ (p : Program) (m : Machine) (s : State) (t : Task) (w : Worker) (s' : State) (ended : Ends p m s t w s') where
   abbrev renews : Cell → CellState → CellState

@@ -6,10 +6,8 @@ use Rattle.std.proofs.lemmas.List.FromFn.{get_or-map-range_with_len, length-map-
 use Rattle.std.proofs.lemmas.List.Sums.{get_or-le-sum_by}
 use Rattle.std.specs.List.{Contains}
 use Rattle.std.specs.Prelude.{IfSome, count_by, is_some, unwrap_or}
-use Rattle.sj_core.proofs.Words.{Array, Cell, Machine, Program, Progress, Running, State, Task, Worker, cells_of, copy_of, done_by, has_cell, is_running_on, is_task_of, progress, same_cell, task_of, tasks_of, worked_on, worker_of, writes, written_cells, Waiting}
+use Rattle.sj_core.proofs.Words.{Access, Array, Cell, Machine, Program, Progress, R, Running, State, Task, Waiting, Worker, cells_of, copy_of, done_by, has_cell, is_running_on, is_task_of, progress, same_cell, task_of, tasks_of, worked_on, worker_of, writes, written_cells}
 use Rattle.sj_base.specs.Mode.{is_redux, is_written}
-use Rattle.sj_base.specs.declared.mode.Access.{Access}
-use Rattle.sj_base.specs.declared.mode.Mode.TheVariants.{R}
 use Rattle.sj_deps.specs.Conflict.{HasDependencies}
 use Rattle.sj_core.specs.Coherent.{Coherent, is_being_written, HasRows}
 use Rattle.sj_core.specs.Proper.{Proper, gives_value}
@@ -26,9 +24,8 @@ pub task-counted : (p : Program) (test : Task → Bool) (u : Task) → u.0 < len
 task-counted p test u inside passes =
     let number : ℕ → Task = λ n. record { 0 = n } in
     let at_u : get_or (tasks_of p) u.0 u ≡ u = get_or-map-range_with_len number 0 (length p.tasks) u.0 u.0 u inside (omega arith) in
-    let part = get_or-le-sum_by (λ (k : Task). cond {A = ℕ} (test k) 1 0) (tasks_of p) u.0 u (omega (arith, length-map-range_with_len number 0 (length p.tasks))) in
     let counts : cond {A = ℕ} (test (get_or (tasks_of p) u.0 u)) 1 0 ≡ 1 = ap (λ b. cond {A = ℕ} b 1 0) (ap test at_u ∙ passes) in
-    omega arith
+    omega (arith, get_or-le-sum_by (λ (k : Task). cond {A = ℕ} (test k) 1 0) (tasks_of p) u.0 u (omega (arith, length-map-range_with_len number 0 (length p.tasks))))
 
 -- ---- running tasks
 
@@ -77,10 +74,7 @@ gives-writes p u v c h =
     operand-has_cell (worked_on p v) (λ a. is_written a.mode) (task_of p u).accesses b c among tests.0 (ap (λ (q : Cell). same_cell q c) direct ∙ tests.2)
   where
     three : (x y z : Bool) → (x && y && z) ≡ true → (x ≡ true) × (y ≡ true) × (z ≡ true)
-    three true true true h = (refl, refl, refl)
-    three true true false h = absurd (false≢true h)
-    three true false z h = absurd (false≢true h)
-    three false y z h = absurd (false≢true h)
+    three x y z h = search (arith, false≢true)
 
 -- ---- cells at rest
 

@@ -5,9 +5,8 @@ use Rattle.std.proofs.lemmas.Bool.Decides.{Decides-eqb}
 use Rattle.std.proofs.lemmas.List.Folds.{find-append}
 use Rattle.std.specs.List.{Contains, filter, find, zip}
 use Rattle.std.specs.Option.{option_or}
-use Rattle.sj_core.proofs.Words.{Array, Cell, Program, Task, Worker, cells_of, dims_of, has_cell, results, same_cell, task_of, worked_on, writes, written_cells, zeros, found}
+use Rattle.sj_core.proofs.Words.{Access, Array, Cell, Program, Task, Worker, cells_of, dims_of, found, has_cell, results, same_cell, task_of, worked_on, writes, written_cells, zeros}
 use Rattle.sj_base.specs.Mode.{is_scratch, is_written, starts_as_zeros}
-use Rattle.sj_base.specs.declared.mode.Access.{Access}
 use Rattle.sj_codelet.specs.Kernel.{out}
 use Rattle.sj_core.specs.Fold.{Contents, after_chosen, after_task, held_in}
 use Rattle.sj_core.proofs.Advancing.{same_task}
@@ -165,63 +164,3 @@ pub record AddsTask (chosen chosen' : Task → Bool) (by by' : Task → Worker) 
   pub worker : by' t ≡ w
   pub others : (u : Task) → u ≢ t → chosen' u ≡ chosen u
   pub workers : (u : Task) → u ≢ t → by' u ≡ by u
-
--- no chosen task after t works on what t writes, or writes what t works on
-pub record MayComeLast (p : Program) (chosen : Task → Bool) (by : Task → Worker) (t : Task) (w : Worker) : Type 0 where
-  pub unread : (u : Task) (d : Cell) → t.0 < u.0 → chosen u ≡ true → has_cell (written_cells p t w) d ≡ true → has_cell (cells_of p u (by u)) d ≡ true → ⊥
-  pub unwritten : (u : Task) (d : Cell) → t.0 < u.0 → chosen u ≡ true → has_cell (written_cells p u (by u)) d ≡ true → has_cell (cells_of p t w) d ≡ true → ⊥
-
-module _ (p : Program) (chosen chosen' : Task → Bool) (by by' : Task → Worker) (t : Task) (w : Worker) (n : ℕ) (inside : t.0 < n) (adds : AddsTask chosen chosen' by by' t w) (last : MayComeLast p chosen by t w) where
-  chosen-before : (u : Task) → t.0 ≢ u.0 → chosen' u ≡ true → (chosen u ≡ true) × (by' u ≡ by u)
-  chosen-before u d h = search (arith)
-
-  -- t's cells hold after all chosen tasks what they held after those before t
-  inputs-hold : (d : Cell) → has_cell (cells_of p t w) d ≡ true → held_in p (after_chosen p chosen by n) d ≡ held_in p (after_chosen p chosen by t.0) d
-  inputs-hold d has = search (arith, held-until, false_from_ne_true, false≢true, number)
-
-  written-last : (c : Cell) → has_cell (written_cells p t w) c ≡ true → held_in p (after_chosen p chosen' by' n) c ≡ held_in p (after_task p w t (after_chosen p chosen by n)) c
-  written-last c writes =
-      let has = written-among_cells p t w c writes in
-      let old = after_chosen p chosen by t.0 in
-      let later = held-until p chosen' by' c (suc t.0) n inside (λ u h k e. false_from_ne_true (has_cell (written_cells p u (by' u)) c) (λ over.
-      (let was = chosen-before u (omega arith) e in
-      last.unwritten u c (omega arith) was.0 (sym (ap (λ (v : Worker). has_cell (written_cells p u v) c) was.1) ∙ over) has))) in
-      let same : after_chosen p chosen' by' t.0 ≡ old = after_chosen-same p chosen' chosen by' by t.0 (λ u h. adds.others u (λ e. less_isn't_same u h (ap (λ (k : Task). k.0) e))) (λ u h e. adds.workers u (λ f. less_isn't_same u h (ap (λ (k : Task). k.0) f))) in
-      later
-      ∙ ap (λ b. held_in p (cond b (after_task p (by' t) t (after_chosen p chosen' by' t.0)) (after_chosen p chosen' by' t.0)) c) adds.present
-      ∙ ap (λ (v : Worker). held_in p (after_task p v t (after_chosen p chosen' by' t.0)) c) adds.worker
-      ∙ ap (λ (k : Contents). held_in p (after_task p w t k) c) same
-      ∙ sym (after_task-same p t w w (after_chosen p chosen by n) old c (λ a h. refl) inputs-hold (inputs-hold c has))
-    where
-      less_isn't_same : (u : Task) → u.0 < t.0 → u.0 ≡ t.0 → ⊥
-      less_isn't_same u h e = omega arith
-
-  other-last : (c : Cell) → has_cell (written_cells p t w) c ≡ false → held_in p (after_chosen p chosen' by' n) c ≡ held_in p (after_task p w t (after_chosen p chosen by n)) c
-  other-last c spared = sym (cone-holds p chosen chosen' by by' n cone c writers) ∙ sym (after_task-other p w t (after_chosen p chosen by n) c spared)
-    where
-      kept : (u : Task) → chosen u ≡ true → u ≢ t
-      kept u h e = false≢true (sym adds.absent ∙ ap chosen (sym e) ∙ h)
-
-      alike : (u : Task) → u.0 < n → chosen u ≡ true → WorksAlike p u (by u) (by' u)
-      alike u h e a among = ap (λ (v : Worker). worked_on p v a) (sym (adds.workers u (kept u e)))
-
-      closed : (u v : Task) (d : Cell) → u.0 < v.0 → v.0 < n → chosen v ≡ true → chosen' u ≡ true → has_cell (written_cells p u (by' u)) d ≡ true → has_cell (cells_of p v (by v)) d ≡ true → chosen u ≡ true
-      closed u v d before h e f writes has =
-          elim (same_task u t) [
-            | inl same ↦ absurd (last.unread v d (omega (arith, ap (λ (k : Task). k.0) same)) e (sym (ap (λ (k : Worker). has_cell (written_cells p t k) d) adds.worker) ∙ ap (λ (k : Task). has_cell (written_cells p k (by' k)) d) (sym same) ∙ writes) has)
-            | inr d ↦ sym (adds.others u d) ∙ f
-          ]
-
-      cone : IsCone p chosen chosen' by by' n
-      cone = record { within = λ u h e. adds.others u (kept u e) ∙ e; alike = alike; closed = closed }
-
-      writers : HasWriters p chosen chosen' by' n c
-      writers u h e writes =
-          elim (same_task u t) [
-            | inl same ↦ absurd (true≢false (sym writes ∙ ap (λ (k : Task). has_cell (written_cells p k (by' k)) c) same ∙ ap (λ (k : Worker). has_cell (written_cells p t k) c) adds.worker ∙ spared))
-            | inr d ↦ sym (adds.others u d) ∙ e
-          ]
-
-  -- a task that may come last may be put last
-  pub insertion : (c : Cell) → held_in p (after_chosen p chosen' by' n) c ≡ held_in p (after_task p w t (after_chosen p chosen by n)) c
-  insertion c = search (arith, written-last, other-last)

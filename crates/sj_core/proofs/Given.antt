@@ -8,11 +8,8 @@ use Rattle.std.proofs.lemmas.List.Sums.{AllPass-from_list_all}
 use Rattle.std.specs.List.{Contains, filter, slice_index_or}
 use Rattle.std.specs.Prelude.{IfSome, IsTrue, is_some}
 use Rattle.sj_base.specs.Mode.{is_in_order, is_redux, is_scratch, is_written, reads_value}
-use Rattle.sj_base.specs.declared.mode.Access.{Access}
-use Rattle.sj_base.specs.declared.mode.Mode.TheVariants.{R, RW, Redux, W}
-use Rattle.sj_codelet.specs.declared.kernel.Kernel.{Kernel}
 use Rattle.sj_deps.specs.Conflict.{Conflict}
-use Rattle.sj_core.proofs.Words.{Array, AtNode, Cell, Machine, Program, Progress, Running, State, Task, Waiting, Worker, array_of, cell_info, cells_of, copy_of, done_by, done_in, has_cell, is_done, is_task_of, node_of, progress, replica, same_cell, task_of, worked_on, worker_of, writes, written_cells}
+use Rattle.sj_core.proofs.Words.{Access, Array, AtNode, Cell, Kernel, Machine, Program, Progress, R, RW, Redux, Running, State, Task, W, Waiting, Worker, array_of, cell_info, cells_of, copy_of, done_by, done_in, has_cell, is_done, is_task_of, node_of, progress, replica, same_cell, task_of, worked_on, worker_of, writes, written_cells}
 use Rattle.sj_core.specs.Coherent.{content, has_written, is_begun, is_being_written}
 use Rattle.sj_core.specs.Fold.{given, held_before, held_in}
 use Rattle.sj_core.specs.Laws.{Brought, HasAtHand, HoldsFinal, IsLawful, IsSettled, IsSound, Works, final}
@@ -20,20 +17,19 @@ use Rattle.sj_core.specs.Legal.{IsComplete}
 use Rattle.sj_core.specs.Proper.{IsContribution, IsFirstUnit, IsMember, IsOpenAt, IsPhase, IsPlain, Phase, Proper, access, gives_value, task_number}
 use Rattle.sj_core.specs.Step.{EarlierAreDone, array_at}
 use Rattle.sj_core.proofs.Advancing.{done-begun}
-use Rattle.sj_core.proofs.Contents.{all-staffed, later-free}
+use Rattle.sj_core.proofs.Ending.{all-staffed, later-free}
 use Rattle.sj_core.proofs.Copies.{combine-of, direct-cell, init-of}
-use Rattle.sj_core.proofs.Depending.{cone-shared, in_order-conflicts}
+use Rattle.sj_core.proofs.Workers.{cone-shared, in_order-conflicts, workers-alike}
 use Rattle.sj_core.proofs.Dependencies.{one_is}
 use Rattle.sj_core.proofs.Finding.{being_written-by, gives-writes, task-counted}
 use Rattle.sj_core.proofs.Folding.{after_chosen-same, held-until, read-among_cells}
 use Rattle.sj_core.proofs.Found.{found-content}
 use Rattle.sj_core.proofs.Modes.{plain_isn't_redux, reads_isn't_scratch}
-use Rattle.sj_core.proofs.OperandCells.{operand-inside}
+use Rattle.sj_core.proofs.TaskCells.{operand-inside}
 use Rattle.sj_core.proofs.Readiness.{Contains-filter}
 use Rattle.sj_core.proofs.Reading.{progress-inside}
 use Rattle.sj_core.proofs.Replicas.{same_worker-refl}
 use Rattle.sj_core.proofs.Sharing.{Conflict-sym, one, redux-has_copies}
-use Rattle.sj_core.proofs.Workers.{workers-alike}
 
 -- ---- phases
 

@@ -5,24 +5,18 @@ use Rattle.std.specs.List.{Contains}
 use Rattle.std.proofs.lemmas.Bool.{and_from, cases_lt}
 use Rattle.std.proofs.lemmas.List.Elements.{All-contains, All-get_or, Contains-get_or}
 use Rattle.sj_base.specs.Mode.{is_redux, is_scratch}
-use Rattle.sj_base.specs.declared.mode.Access.{Access}
-use Rattle.sj_base.specs.declared.mode.Mode.{Mode}
-use Rattle.sj_base.specs.declared.mode.Mode.TheVariants.{R, Redux, W}
 use Rattle.sj_codelet.specs.Kernel.{combine_of, contributes_of, has_reduction, init_of, kernel_of}
 use Rattle.sj_codelet.specs.Laws.{DoesContribute, IsReduction}
-use Rattle.sj_codelet.specs.declared.kernel.Kernel.{Kernel}
 use Rattle.sj_deps.specs.Conflict.{Conflict, Uses}
-use Rattle.sj_deps.specs.declared.manner.Manner.TheVariants.{Contribute, Read}
-use Rattle.sj_core.proofs.Words.{Cell, Program, Task, Worker, copy_of, no_task, task_of, worked_on}
+use Rattle.sj_core.proofs.Words.{Access, Cell, Contribute, Kernel, Mode, Program, R, Read, Redux, Task, W, Worker, copy_of, no_task, task_of, worked_on}
 use Rattle.sj_core.specs.Laws.{IsLawful, is_known}
 use Rattle.sj_core.specs.Proper.{IsContribution, IsCopyOf, IsFirstUnit, IsMember, IsOpenAt, IsPhase, Phase, Proper, access, task_number}
 use Rattle.sj_core.proofs.Combining.{contributing-exchange}
 use Rattle.sj_core.proofs.Dependencies.{Proper-dependencies, own-of_phase}
-use Rattle.sj_core.proofs.Exchanging.{ContributionsExchange}
-use Rattle.sj_core.proofs.OperandCells.{operand-inside}
+use Rattle.sj_core.proofs.Updating.{ContributionsExchange, operand-used}
+use Rattle.sj_core.proofs.TaskCells.{operand-inside}
 use Rattle.sj_core.proofs.Readiness.{Contains-filter}
 use Rattle.sj_core.proofs.Sharing.{manner_of, redux-has_copies}
-use Rattle.sj_core.proofs.Updating.{operand-used}
 
 abbrev pub numbered : ℕ → Task
 numbered n = record { 0 = n }

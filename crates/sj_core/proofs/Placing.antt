@@ -33,12 +33,8 @@ replica-on_disk s c d r inside within = ap (λ (row : CellState). replica_in row
 
 -- of a row in which one replica was written each is as before, or is that one
 pub replica_in-cases : (row : CellState) (q k : Place) (r : Replica) → (replica_in (with_replica_in row q r) k ≡ replica_in row k) ⊎ ((k ≡ q) × (replica_in (with_replica_in row q r) k ≡ r))
-replica_in-cases row (AtNode n) (OnDisk d) r = inl refl
-replica_in-cases row (OnDisk d) (AtNode n) r = inl refl
-replica_in-cases row (AtNode n) (AtNode k) r =
-    search (arith, same_node, get_or-set_other, cases_lt, get_or-set_same, get_or_past, length-set)
-replica_in-cases row (OnDisk n) (OnDisk k) r =
-    search (arith, disks_differ, get_or-set_other, cases_lt, get_or-set_same, get_or_past, length-set)
+replica_in-cases row q k r =
+    search (arith, same_node, get_or-set_other, cases_lt, get_or-set_same, get_or_past, length-set, disks_differ)
 
 module _ (s : State) (c : Cell) (q : Place) (r : Replica) where
   -- each row is as before, or is the cell's with the replica written
@@ -109,10 +105,7 @@ transfer-is s w begun v x now = search (arith, transfer-cases)
 -- ---- places
 
 pub same_place-is : (q k : Place) → same_place q k ≡ true → q ≡ k
-same_place-is (AtNode a) (AtNode b) h = ap (λ (i : ℕ). AtNode (record { 0 = i })) ((Decides-eqb a.0 b.0).0 h)
-same_place-is (OnDisk a) (OnDisk b) h = ap (λ (i : ℕ). OnDisk (record { 0 = i })) ((Decides-eqb a.0 b.0).0 h)
-same_place-is (AtNode a) (OnDisk b) h = absurd (false≢true h)
-same_place-is (OnDisk a) (AtNode b) h = absurd (false≢true h)
+same_place-is q k h = search (arith, Decides-eqb, false≢true)
 
 pub same_place-refl : (q : Place) → same_place q q ≡ true
 same_place-refl (AtNode a) = (Decides-eqb a.0 a.0).1 refl
@@ -165,7 +158,11 @@ position-none {X} test xs k d none inside = search (arith, get_or, fails_before_
 
 -- ---- victims
 
+-- no replica leaves a disk
+pub stays-on_disk : (p : Program) (m : Machine) (s : State) → IsSound p m s → (w : Worker) (c : Cell) (d : DiskNo) → is_leaving_by w (replica s c (OnDisk d)) ≡ true → ⊥
+stays-on_disk p m s h w c d leaving = let is = leaving_by-is w (replica s c (OnDisk d)) leaving in (h.coherent.state.blocks.resting c d w is.0).1 is.1
+
 -- no victim of the worker leaves by its claim once it has room
 pub room-leaves_none : (p : Program) (m : Machine) (s : State) → IsSound p m s → (w : Worker) → has_room m s w ≡ true → (c : Cell) (q : Place) → is_leaving_by w (replica s c q) ≡ false
 room-leaves_none p m s h w room c (AtNode n) = search (arith, false_from_ne_true, list_all-has, false≢true, not-true)
-room-leaves_none p m s h w room c (OnDisk d) = false_from_ne_true (is_leaving_by w (replica s c (OnDisk d))) (λ leaving. (let is = leaving_by-is w (replica s c (OnDisk d)) leaving in (h.coherent.state.blocks.resting c d w is.0).1 is.1))
+room-leaves_none p m s h w room c (OnDisk d) = false_from_ne_true (is_leaving_by w (replica s c (OnDisk d))) (stays-on_disk p m s h w c d)

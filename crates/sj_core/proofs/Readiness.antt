@@ -62,10 +62,7 @@ pub AllPairs-two : {X : Type 0} (P : X → X → Type 0) (xs : List X) (x y : X)
 AllPairs-two {X} P xs x y pairs (i, l, e) (j, k, f) =
     elim (cases_lt i j) [
       | inl before ↦ inr (inl (ordered i j x y before k e f))
-      | inr after ↦ elim (cases_eq i j) [
-        | inl same ↦ inl (sym e ∙ get_or_default xs i x y l ∙ ap (λ n. get_or xs n y) same ∙ f)
-        | inr differ ↦ inr (inr (ordered j i y x (omega (arith, differ)) l f e))
-      ]
+      | inr after ↦ (search (arith, cases_eq, get_or_default, get_or, ordered))
     ]
   where
     ordered : (a b : ℕ) (u v : X) → a < b → b < length xs → get_or xs a u ≡ u → get_or xs b v ≡ v → P u v

@@ -41,16 +41,9 @@ worker-other s w v row h = get_or-set_other s.workers w.0 v.0 row idle_row (λ e
 abbrev pub no_row : CellState
 no_row = record { nodes = []; disks = []; writes = 0 }
 
--- every cell's row, where f keeps the row of a cell that isn't there
-pub cells-renewed : (s : State) (f : Cell → CellState → CellState) (c : Cell) → f c no_row ≡ no_row → cell_state (with_cells s f) c ≡ f c (cell_state s c)
-cells-renewed s f c h = renewed-at_or (λ k row. f (record { 0 = k }) row) s.cells c.0 no_row h
-
 -- a replica that was written where the cell has the place
 pub replica_in-same : (row : CellState) (n : Node) (r : Replica) → n.0 < length row.nodes → replica_in (with_replica_in row (AtNode n) r) (AtNode n) ≡ r
 replica_in-same row n r h = get_or-set_same row.nodes n.0 r Invalid h
-
-pub replica_in-other_node : (row : CellState) (n k : Node) (r : Replica) → k ≢ n → replica_in (with_replica_in row (AtNode n) r) (AtNode k) ≡ replica_in row (AtNode k)
-replica_in-other_node row n k r h = get_or-set_other row.nodes n.0 k.0 r Invalid (λ e. h (ap (λ (i : ℕ). let j : Node = record { 0 = i } in j) e))
 
 pub replica_in-no_row : (q : Place) → replica_in no_row q ≡ Invalid
 replica_in-no_row (AtNode n) = refl

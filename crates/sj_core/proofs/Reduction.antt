@@ -9,18 +9,13 @@ use Rattle.std.proofs.lemmas.List.Kept.{AllPairs-cons}
 use Rattle.std.proofs.lemmas.List.Sums.{AllPass-from_list_all}
 use Rattle.std.specs.List.{list_all, list_any, range_with_len}
 use Rattle.std.specs.Prelude.{All, AllPairs, Contains, IsTrue, count_by, is_some, nat_eq, nat_le, nat_lt, pos, ◌^◌}
-use Rattle.sj_core.proofs.Words.{Cell, Program, Task, Worker, area, cell_info, copy_of, data_operands, dims_of, no_task, same_cell, task_of}
+use Rattle.sj_core.proofs.Words.{Access, Cell, Kernel, Lowered, Mode, Plus, Program, R, RW, Redux, Scratch, Task, W, Worker, area, cell_info, copy_of, data_operands, dims_of, no_task, same_cell, task_of}
 use Rattle.sj_base.specs.Mode.{is_redux, reads_value}
-use Rattle.sj_base.specs.declared.mode.Access.{Access}
-use Rattle.sj_base.specs.declared.mode.Mode.{Mode}
-use Rattle.sj_base.specs.declared.mode.Mode.TheVariants.{Commute, R, RW, Redux, Scratch, W}
-use Rattle.sj_base.specs.declared.mode.Reduction.TheVariants.{Plus}
-use Rattle.sj_base.specs.declared.program.Lowered.{Lowered}
+use Rattle.sj_base.specs.declared.mode.Mode.TheVariants.{Commute}
 use Rattle.sj_codelet.specs.Kernel.{fits, kernel_of}
-use Rattle.sj_codelet.specs.declared.kernel.Kernel.{Kernel}
 use Rattle.sj_codelet.specs.declared.kernel.Kernel.TheVariants.{Add, Deliver, GemmThree, InitPlus, Load, Sum}
 use Rattle.sj_core.specs.Proper.{Contributing, Fits, HasDeliveries, HasPhases, HasValueBefore, IsCombine, IsContribution, IsCopyOf, IsInit, IsMember, IsPhase, IsUnaliased, IsWithinLimits, NamesCells, Own, Phase, Proper, ReadsValues, Touches, gives_value, own_modes, task_number}
-use Rattle.sj_core.proofs.Jobs.{a_task, access, cell, columns, worker}
+use Rattle.sj_core.proofs.Worked.{a_task, access, cell, columns, worker}
 use Rattle.sj_core.proofs.Modes.{then}
 use Rattle.sj_core.proofs.Readiness.{list_any-some}
 
@@ -78,12 +73,7 @@ among xs n h = let found = list_any-some (λ k. nat_eq k n) xs h in subst (Conta
 -- ---- cells and copies
 
 is_s : (n : ℕ) → is_some (cell_info job (cell n)).partials ≡ true → n ≡ 2
-is_s zero h = absurd (false≢true h)
-is_s (suc zero) h = absurd (false≢true h)
-is_s (suc (suc zero)) h = refl
-is_s (suc (suc (suc zero))) h = absurd (false≢true h)
-is_s (suc (suc (suc (suc zero)))) h = absurd (false≢true h)
-is_s (suc (suc (suc (suc (suc n))))) h = absurd (false≢true h)
+is_s n h = search (arith, false≢true)
 
 copy_in : (n : ℕ) → n < 2 → (cell (3 + n) ≡ cell 3) ⊎ (cell (3 + n) ≡ cell 4)
 copy_in zero h = inl refl
@@ -129,12 +119,7 @@ is_read R = true
 is_read _ = false
 
 read-is : (x : Mode) → is_read x ≡ true → x ≡ R
-read-is R h = refl
-read-is W h = absurd (false≢true h)
-read-is RW h = absurd (false≢true h)
-read-is Scratch h = absurd (false≢true h)
-read-is Redux h = absurd (false≢true h)
-read-is Commute h = absurd (false≢true h)
+read-is x h = search (arith, false≢true)
 
 abbrev apart : List Access → Bool
 apart [] = true

@@ -12,8 +12,7 @@ use Rattle.sj_core.proofs.Advancing.{Advances, Runs-advances, Runs-keeps_order, 
 use Rattle.sj_core.proofs.CellLists.{has_cell-without, times, times-filter}
 use Rattle.sj_core.proofs.Changing.{Changes, Changes-coherent, Changes-writers, TransfersAreSound-spared, HasBlocks-kept, place_differs, All-renewed, HasWorkers-kept}
 use Rattle.sj_core.proofs.Claimed.{claimed-not_written, claimed-old_value}
-use Rattle.sj_core.proofs.Contents.{content-kept}
-use Rattle.sj_core.proofs.Counting.{counted-same, written-undone}
+use Rattle.sj_core.proofs.Ending.{content-kept, counted-same, written-undone}
 use Rattle.sj_core.proofs.Dependencies.{Proper-dependencies}
 use Rattle.sj_core.proofs.Finding.{array-told, being_written-here, not_written-after, not_written-before, running-inside, agrees-kept}
 use Rattle.sj_core.proofs.Placing.{replica_in-cases, room-leaves_none, same_place-refl}

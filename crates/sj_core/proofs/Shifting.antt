@@ -1,7 +1,7 @@
 -- A step that changes replicas and transfers alone, and what it owes so as to leave a coherent state.
-use Rattle.std.proofs.Common.{List, Some, false, inl, inr, refl, sym, true, ◌∙◌, ◌≡◌, ap, subst}
+use Rattle.std.proofs.Common.{arith, List, Some, false, inl, inr, refl, sym, true, ◌∙◌, ◌≡◌, ap, subst}
 use Rattle.sj_core.proofs.Words.{Array, AtNode, Cell, CellState, Claimed, Machine, Node, Place, Program, Running, State, Task, Transfer, Worker, WorkerState, has_cell, is_claimed_by, is_coming_by, is_entry, is_leaving_by, is_valid, moves, node_of, pins, progress, replica, scratch, transfer, victims_of, writes, DiskNo, OnDisk, with_transfer}
-use Rattle.sj_core.specs.Coherent.{Coherent, CopiesAgree, HasBlocks, HasRows, IsOwnedBy, TransfersAreSound}
+use Rattle.sj_core.specs.Coherent.{Coherent, CopiesAgree, HasBlocks, HasRows, IsOwnedBy, IsTransferTo, TransfersAreSound}
 use Rattle.sj_core.specs.Laws.{IsSound}
 use Rattle.sj_core.proofs.Advancing.{claimed-is_mine, task_of-worker}
 use Rattle.sj_core.proofs.Changing.{Changes, Changes-coherent, Changes-writers}
@@ -45,12 +45,7 @@ module _ (p : Program) (m : Machine) (s : State) (h : IsSound p m s) (t : Task) 
     advance = record { was = claimed; is = claimed; others = λ u d. refl };
     mine = claimed-is_mine w;
     still_mine = λ v has. sym (task_of-worker v (Claimed w) has);
-    state = (let before = h.coherent.state in record {
-      rows = shift.rows;
-      entries = record { entries = λ n c. before.entries.entries n c ∙ sym (shift.same_entries c n); once = before.entries.once };
-      blocks = shift.blocks;
-      staff = record { staffed = before.staff.staffed };
-    });
+    state = (search (arith));
     rows = λ v. inl (shift.same_pins v, shift.same_scratch v, λ e. claimed-is_mine w);
     victims = shift.same_victims;
     entries = λ c k now. sym (shift.same_entries c k) ∙ now;
@@ -75,11 +70,42 @@ module _ (p : Program) (m : Machine) (s : State) (h : IsSound p m s) (t : Task) 
       (λ c e. absurd (let f : Claimed w ≡ Running w = e in cc)))
       shift.copies
 
--- a move that begins, of a cell that no running task owns: the blocks where it goes, transfers are sound with it, and the worker has a claimed task
-module _ (p : Program) (m : Machine) (s : State) (h : IsSound p m s) (w : Worker) (begun : Transfer) (aimed : (d : DiskNo) → begun.to ≡ OnDisk d → disk_of p m begun.cell ≡ Some d) (moving : TransfersAreSound m (with_transfer s w (Some begun)))
+-- a move that begins, of a cell that no running task owns: the blocks where it goes, the cell is valid where it begins and awaited where it
+-- goes, no other worker moves it to a disk, and the worker has a claimed task
+module _ (p : Program) (m : Machine) (s : State) (h : IsSound p m s) (w : Worker) (begun : Transfer) (aimed : (d : DiskNo) → begun.to ≡ OnDisk d → disk_of p m begun.cell ≡ Some d)
+    (source : is_valid (replica s begun.cell begun.from) ≡ true) (target : IsTransferTo m s w begun.cell begun.from begun.to)
+    (alone : (v : Worker) (x : Transfer) (d e : DiskNo) → transfer s v ≡ Some x → x.to ≡ OnDisk d → begun.to ≡ OnDisk e → x.cell ≡ begun.cell → v ≡ w)
     (free : (v : Worker) (a : Array) → IsOwnedBy m s begun.cell v a → ⊥) (t : Task) (claimed : progress s t ≡ Claimed w) where
   abbrev now : State
   now = with_transfer s w (Some begun)
+
+  moving : TransfersAreSound m now
+  moving =
+      let before = h.coherent.transfers in
+      record {
+        source = λ v x under_way. elim (transfer-is s w begun v x under_way) [
+          | inl same ↦ before.source v x same
+          | inr (e, is) ↦ subst (λ (y : Transfer). is_valid (replica s y.cell y.from) ≡ true) is source
+        ];
+        target = λ v x under_way. to_place v x.cell x.from x.to (elim (transfer-is s w begun v x under_way) [
+          | inl same ↦ before.target v x same
+          | inr (e, is) ↦ subst (λ (y : Transfer). IsTransferTo m s v y.cell y.from y.to) is (subst (λ (u : Worker). IsTransferTo m s u begun.cell begun.from begun.to) (sym e) target)
+        ]);
+        apart = λ u v x y d e hu hv to_d to_e cell. elim (transfer-is s w begun u x hu) [
+          | inr (eu, is_u) ↦ elim (transfer-is s w begun v y hv) [
+            | inr (ev, is_v) ↦ eu ∙ sym ev
+            | inl same ↦ eu ∙ sym (alone v y e d same to_e (ap (λ (z : Transfer). z.to) is_u ∙ to_d) (sym cell ∙ ap (λ (z : Transfer). z.cell) (sym is_u)))
+          ]
+          | inl same_u ↦ elim (transfer-is s w begun v y hv) [
+            | inr (ev, is_v) ↦ alone u x d e same_u to_d (ap (λ (z : Transfer). z.to) is_v ∙ to_e) (cell ∙ ap (λ (z : Transfer). z.cell) (sym is_v)) ∙ sym ev
+            | inl same_v ↦ before.apart u v x y d e same_u same_v to_d to_e cell
+          ]
+        ];
+      }
+    where
+      to_place : (v : Worker) (d : Cell) (from to : Place) → IsTransferTo m s v d from to → IsTransferTo m now v d from to
+      to_place v d from (AtNode k) target = target
+      to_place v d from (OnDisk k) target = target
 
   begins : Shifts p m s now.cells now.workers
   begins = record {

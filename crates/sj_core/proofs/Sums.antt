@@ -20,24 +20,21 @@ same_test false false f g = refl
 pub sum-balanced : {X : Type 0} (f g h k : X → ℕ) → ((x : X) → f x + g x ≡ h x + k x) → (xs : List X) → sum_by f xs + sum_by g xs ≡ sum_by h xs + sum_by k xs
 sum-balanced f g h k same [] = refl
 sum-balanced f g h k same (x ∷ xs) =
-    let rest = sum-balanced f g h k same xs in
-    let here = same x in
-    let a = sum_by-cons f x xs in
-    let b = sum_by-cons g x xs in
-    let c = sum_by-cons h x xs in
-    let d = sum_by-cons k x xs in
-    omega arith
+    omega (
+      arith,
+      sum-balanced f g h k same xs,
+      same x,
+      sum_by-cons f x xs,
+      sum_by-cons g x xs,
+      sum_by-cons h x xs,
+      sum_by-cons k x xs,
+    )
 
 -- two sums within a third
 pub sum-within : {X : Type 0} (f g h : X → ℕ) → ((x : X) → f x + g x ≤ h x) → (xs : List X) → sum_by f xs + sum_by g xs ≤ sum_by h xs
 sum-within f g h within [] = omega arith
 sum-within f g h within (x ∷ xs) =
-    let rest = sum-within f g h within xs in
-    let here = within x in
-    let a = sum_by-cons f x xs in
-    let b = sum_by-cons g x xs in
-    let c = sum_by-cons h x xs in
-    omega arith
+    omega (arith, sum-within f g h within xs, within x, sum_by-cons f x xs, sum_by-cons g x xs, sum_by-cons h x xs)
 
 pub sum-agree : {X : Type 0} (f g : X → ℕ) → ((x : X) → f x ≡ g x) → (xs : List X) → sum_by f xs ≡ sum_by g xs
 sum-agree f g same [] = refl
@@ -76,33 +73,25 @@ sum-plus h f g same xs = let all = sum-balanced h (λ x. 0) f g (λ x. (let here
     nothing (y ∷ ys) = let a = sum_by-cons (λ x. 0) y ys in let rest = nothing ys in omega arith
 
 -- so much for each element that passes
-sum-each : {X : Type 0} (test : X → Bool) (more : ℕ) (xs : List X) → sum_by (λ x. cond (test x) more 0) xs ≡ more * count_by test xs
+pub sum-each : {X : Type 0} (test : X → Bool) (more : ℕ) (xs : List X) → sum_by (λ x. cond (test x) more 0) xs ≡ more * count_by test xs
 sum-each test more [] = omega arith
-sum-each test more (x ∷ xs) = by_test (test x) refl (sum-each test more xs)
+sum-each test more (x ∷ xs) =
+    sum_by-cons (λ y. cond (test y) more 0) x xs ∙ ap (λ n. cond (test x) more 0 + n) (sum-each test more xs)
+    ∙ first (test x) (count_by test xs) ∙ ap (λ n. more * n) (sym (sum_by-cons (λ y. tally (test y)) x xs))
   where
-    by_test : (b : Bool) → test x ≡ b → sum_by (λ y. cond (test y) more 0) xs ≡ more * count_by test xs → sum_by (λ y. cond (test y) more 0) (x ∷ xs) ≡ more * count_by test (x ∷ xs)
-    by_test true e rest =
-        let a = sum_by-cons (λ y. cond (test y) more 0) x xs in
-        let c = sum_by-cons (λ y. tally (test y)) x xs in
-        let here : cond (test x) more 0 ≡ more = ap (λ b. cond b more 0) e in
-        let one : tally (test x) ≡ 1 = ap tally e in
-        let count : count_by test (x ∷ xs) ≡ 1 + count_by test xs = omega arith in
-        a ∙ ap (λ n. n + sum_by (λ y. cond (test y) more 0) xs) here ∙ ap (λ n. more + n) rest ∙ (omega arith) ∙ ap (λ n. more * n) (sym count)
-    by_test false e rest =
-        let a = sum_by-cons (λ y. cond (test y) more 0) x xs in
-        let c = sum_by-cons (λ y. tally (test y)) x xs in
-        let here : cond (test x) more 0 ≡ 0 = ap (λ b. cond b more 0) e in
-        let none : tally (test x) ≡ 0 = ap tally e in
-        let count : count_by test (x ∷ xs) ≡ count_by test xs = omega arith in
-        a ∙ ap (λ n. n + sum_by (λ y. cond (test y) more 0) xs) here ∙ (omega arith) ∙ ap (λ n. more * n) (sym count)
+    first : (b : Bool) (n : ℕ) → cond b more 0 + more * n ≡ more * (tally b + n)
+    first true n = omega arith
+    first false n = omega arith
 
 -- where at most one element passes the test, whose term grows by so much, and no other's does
 pub sum-one_more : {X : Type 0} (f g : X → ℕ) (test : X → Bool) (more : ℕ) → ((x : X) → f x ≤ g x + cond (test x) more 0) → (xs : List X) → count_by test xs ≤ 1 → sum_by f xs ≤ sum_by g xs + more
 sum-one_more f g test more le xs once =
-    let all = sum_by-le-sum_by f (λ x. g x + cond (test x) more 0) xs le in
-    let both = sum-plus (λ x. g x + cond (test x) more 0) g (λ x. cond (test x) more 0) (λ x. refl) xs in
-    let most = at_most (count_by test xs) once (sum-each test more xs) in
-    omega arith
+    omega (
+      arith,
+      sum_by-le-sum_by f (λ x. g x + cond (test x) more 0) xs le,
+      sum-plus (λ x. g x + cond (test x) more 0) g (λ x. cond (test x) more 0) (λ x. refl) xs,
+      at_most (count_by test xs) once (sum-each test more xs),
+    )
   where
     at_most : (n : ℕ) → n ≤ 1 → sum_by (λ x. cond (test x) more 0) xs ≡ more * n → sum_by (λ x. cond (test x) more 0) xs ≤ more
     at_most zero h e = omega arith
@@ -117,10 +106,7 @@ count-numbered number test k is a (suc n) =
     let later = count-numbered number test k is (a + 1) n in
     elim (cases_eq a k) [
       | inl e ↦
-          let here : tally (test (number a)) ≡ 1 = ap tally (is a ∙ eq-eqb a k e) in
-          let beyond : tally (nat_le (a + 1) k && nat_lt k (a + 1 + n)) ≡ 0 = ap tally (and_left (nat_le (a + 1) k) (nat_lt k (a + 1 + n)) (lt-leb (a + 1) k (omega arith))) in
-          let now : tally (nat_le a k && nat_lt k (a + suc n)) ≡ 1 = ap tally (and_from (nat_le a k) (nat_lt k (a + suc n)) (le-leb a k (omega arith)) (lt-ltb k (a + suc n) (omega arith))) in
-          omega arith
+          (search (arith, eq-eqb, and_left, lt-leb, and_from, le-leb, lt-ltb))
       | inr d ↦
           let other : tally (test (number a)) ≡ 0 = ap tally (is a ∙ ne_eqb a k d) in
           let same : tally (nat_le (a + 1) k && nat_lt k (a + 1 + n)) ≡ tally (nat_le a k && nat_lt k (a + suc n)) = ap tally (same_test (nat_le (a + 1) k && nat_lt k (a + 1 + n)) (nat_le a k && nat_lt k (a + suc n)) (further (a + 1) (a + 1 + n) a (a + suc n) (λ l h. (omega arith)) (λ l h. (omega arith))) (further a (a + suc n) (a + 1) (a + 1 + n) (λ l h. (omega arith)) (λ l h. (omega arith)))) in

@@ -8,16 +8,14 @@ use Rattle.std.proofs.lemmas.Bool.{cases_Bool, cases_lt, false_from_ne_true}
 use Rattle.std.proofs.lemmas.List.{map-append}
 use Rattle.std.proofs.lemmas.List.Elements.{All-get_or}
 use Rattle.sj_base.specs.Mode.{is_redux, starts_as_zeros}
-use Rattle.sj_base.specs.declared.mode.Access.{Access}
 use Rattle.sj_codelet.proofs.Table.{each_dims}
 use Rattle.sj_codelet.specs.Kernel.{fits, kernel_of, new_arrays, operand}
 use Rattle.sj_codelet.specs.Laws.{DoCommute, IsCall, IsTile, result_of}
-use Rattle.sj_codelet.specs.declared.kernel.Kernel.{Kernel}
-use Rattle.sj_core.proofs.Words.{Array, Cell, Program, Task, Worker, cells_of, dims_of, found, has_cell, no_task, results, same_cell, task_of, worked_on, written_cells, zeros}
+use Rattle.sj_core.proofs.Words.{Access, Array, Cell, Kernel, Program, Task, Worker, cells_of, dims_of, found, has_cell, no_task, results, same_cell, task_of, worked_on, written_cells, zeros}
 use Rattle.sj_core.specs.Fold.{Contents, after_chosen, after_task, held_in}
 use Rattle.sj_core.specs.Proper.{Fits, Proper}
 use Rattle.sj_core.proofs.CellLists.{same_cell-refl}
-use Rattle.sj_core.proofs.Completeness.{results-complete}
+use Rattle.sj_core.proofs.Values.{results-complete}
 use Rattle.sj_core.proofs.Folding.{AddsTask, after_chosen-same, after_task-other, after_task-same, held-append, held_over, map-same}
 use Rattle.sj_core.proofs.Reading.{same_cell-is}
 use Rattle.sj_core.proofs.Sized.{AreSized, after_chosen-sized, fit, ins-fit, ins-tiles}

@@ -3,14 +3,12 @@ use Rattle.std.proofs.Common.{arith, Bool, List, None, Option, Some, [], ap, fal
 use Rattle.std.proofs.lemmas.Bool.{and_parts, eqb-true, false≢true, leb-true, ltb-true}
 use Rattle.std.specs.List.{list_all, range_with_len}
 use Rattle.std.specs.Prelude.{fold, is_none, is_some, nat_eq, nat_le, nat_lt, unwrap_or}
-use Rattle.sj_core.proofs.Words.{AtNode, Cell, Claimed, DiskNo, Done, Machine, Node, OnDisk, Place, Program, Progress, Running, State, Task, Transfer, Waiting, commuting_cells, done_in, footprint, has_room, is_claimed_by, is_coming_by, is_idle, is_leaving, is_leaving_by, is_running_on, is_waiting, node_of, node_size, opening, progress, replica, same_cell, transfer, written_cells}
-use Rattle.sj_base.specs.declared.trace.Event.{Event}
-use Rattle.sj_base.specs.declared.trace.Event.TheVariants.{Claim, Drop, End, Move, Moved, Run}
+use Rattle.sj_core.proofs.Words.{AtNode, Cell, Claim, Claimed, DiskNo, Done, Drop, End, Event, Machine, Move, Moved, Node, OnDisk, Place, Program, Progress, Run, Running, State, Task, Transfer, Waiting, commuting_cells, done_in, footprint, has_room, is_claimed_by, is_coming_by, is_idle, is_leaving, is_leaving_by, is_running_on, is_waiting, node_of, node_size, opening, progress, replica, same_cell, transfer, written_cells}
 use Rattle.sj_codelet.specs.Kernel.{fits}
 use Rattle.sj_core.specs.Legal.{Leads, Legal}
 use Rattle.sj_core.specs.Step.{Step, a_transfer, after, disk_of, is_fresh, is_in_use, is_moving, is_present, is_read, is_valid_elsewhere, mover_of, none_leaving, same_place, source_of, victims_for}
 use Rattle.sj_core.proofs.Advancing.{claimed_by-is, running_on-is}
-use Rattle.sj_core.proofs.Jobs.{worker}
+use Rattle.sj_core.proofs.Worked.{worker}
 use Rattle.sj_core.proofs.Placing.{same_place-is}
 use Rattle.sj_core.proofs.Readiness.{EarlierAreDone-all, Ready-from}
 use Rattle.sj_core.proofs.Reading.{same_cell-is}
@@ -49,10 +47,7 @@ is_step p m s (End t w) = is_running_on w (progress s t)
 -- ---- the test is right
 
 waiting-is : (x : Progress) → is_waiting x ≡ true → x ≡ Waiting
-waiting-is Waiting h = refl
-waiting-is (Claimed v) h = absurd (false≢true h)
-waiting-is (Running v) h = absurd (false≢true h)
-waiting-is (Done v) h = absurd (false≢true h)
+waiting-is x h = search (arith, false≢true)
 
 none-is : {X : Type 0} (o : Option X) → is_none o ≡ true → o ≡ None
 none-is None h = refl

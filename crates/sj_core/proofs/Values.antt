@@ -1,27 +1,64 @@
 -- A cell whose old value a task reads has been written by the time that the task may run.
-use Rattle.std.proofs.Common.{ap, arith, cond, false, get_or, inl, inr, length, not, refl, subst, suc, sym, true, zero, ℕ, ◌&&◌, ◌<◌, ◌∙◌, ◌≡◌, ◌⊎◌}
+use Rattle.std.proofs.Common.{arith, ◌≡◌, ◌+◌, Bool, true, false, cond, List, [], ◌∷◌, map, length, refl, sym, ap, ◌∙◌, None, Some, Option, get_or, inl, inr, not, subst, suc, zero, ℕ, ◌&&◌, ◌<◌, ◌⊎◌}
+use Rattle.std.specs.Prelude.{ℤ, count_by, if◌then◌else◌, IsTrue}
+use Rattle.std.specs.List.{filter, Contains}
+use Rattle.std.proofs.lemmas.List.{length-map}
+use Rattle.std.proofs.lemmas.List.Sums.{length-filter, sum_by-cons, get_or-le-sum_by}
 use Rattle.std.proofs.lemmas.Bool.{false≢true}
 use Rattle.std.proofs.lemmas.Bool.Decides.{Decides-eqb}
 use Rattle.std.proofs.lemmas.List.Elements.{All-contains}
 use Rattle.std.proofs.lemmas.List.FromFn.{get_or-map-range_with_len, length-map-range_with_len}
-use Rattle.std.proofs.lemmas.List.Sums.{get_or-le-sum_by}
-use Rattle.std.specs.List.{Contains}
-use Rattle.std.specs.Prelude.{IsTrue}
-use Rattle.sj_base.specs.Mode.{is_redux, is_scratch, is_written, reads_value, starts_as_zeros}
-use Rattle.sj_core.proofs.Words.{Cell, Program, State, Task, Worker, cells_of, copy_of, data_operands, done_by, fresh_cells, has_cell, same_cell, task_of, tasks_of, worked_on, writes, written_cells}
-use Rattle.sj_base.specs.declared.mode.Access.{Access}
-use Rattle.sj_base.specs.declared.mode.Mode.{Mode}
-use Rattle.sj_base.specs.declared.mode.Mode.TheVariants.{Commute as CommuteMode, R, RW, Redux, Scratch, W}
+use Rattle.sj_codelet.proofs.Table.{new_arrays-count}
+use Rattle.sj_codelet.specs.Formal.{is_output}
+use Rattle.sj_base.specs.declared.mode.Mode.TheVariants.{Commute}
+use Rattle.sj_codelet.specs.Kernel.{new_arrays, formals_of}
+use Rattle.sj_base.specs.Mode.{is_written, is_redux, is_scratch, reads_value, starts_as_zeros}
+use Rattle.sj_core.specs.Proper.{Fits, MayHaveModes, Own, FirstPaste, Commuting, Contributing, own_modes, modes_writing_by, mode_of, HasValueBefore, Proper, access, gives_value}
 use Rattle.sj_deps.specs.Conflict.{Conflict, IsShared, Uses}
-use Rattle.sj_deps.specs.declared.manner.Manner.{Manner}
-use Rattle.sj_deps.specs.declared.manner.Manner.TheVariants.{Write}
 use Rattle.sj_core.specs.Coherent.{WritesAreCounted, has_written}
-use Rattle.sj_core.specs.Proper.{HasValueBefore, Proper, access, gives_value}
 use Rattle.sj_core.specs.Step.{EarlierAreDone}
+use Rattle.sj_core.proofs.Words.{Access, Array, Cell, CommuteMode, Formal, Kernel, Manner, Mode, Program, R, RW, ReadFormal, Redux, Scratch, ScratchFormal, State, Task, UpdateFormal, W, Worker, Write, WriteFormal, cells_of, copy_of, data_operands, done_by, found, fresh_cells, has_cell, results, same_cell, task_of, tasks_of, worked_on, writes, written_cells}
 use Rattle.sj_core.proofs.Dependencies.{Proper-dependencies}
 use Rattle.sj_core.proofs.Readiness.{Contains-filter, list_any-some}
 use Rattle.sj_core.proofs.Reading.{same_cell-is}
 use Rattle.sj_core.proofs.Sharing.{manner_of, operand-has_cell, operand-uses, operand_for, redux-has_copies, write_isn't_read}
+
+-- ---- a task's codelet has a new array for each operand that the task writes
+
+-- a test counts as many after a map under which it answers the same
+count_by-map : {X Y : Type 0} (f : X → Y) (test : Y → Bool) (test' : X → Bool) (xs : List X) → ((x : X) → test (f x) ≡ test' x) → count_by test (map f xs) ≡ count_by test' xs
+count_by-map f test test' [] same = refl
+count_by-map f test test' (x ∷ xs) same =
+    sum_by-cons (λ y. cond (test y) 1 0) (f x) (map f xs)
+    ∙ ap (λ b. cond b 1 0 + count_by test (map f xs)) (same x)
+    ∙ ap (λ n. cond (test' x) 1 0 + n) (count_by-map f test test' xs same)
+    ∙ sym (sum_by-cons (λ y. cond (test' y) 1 0) x xs)
+
+-- a kernel has a new array for each of its own operands that is written
+own-count : (k : Kernel) (args : List ℤ) (ins : List Array) → length (new_arrays k args ins) ≡ count_by is_written (own_modes k)
+own-count k args ins = search (arith, new_arrays-count, length-filter, count_by-map)
+
+-- another mode for what is written is as many written operands
+writing_by-count : (x : Mode) → is_written x ≡ true → (k : Kernel) → count_by is_written (modes_writing_by x k) ≡ count_by is_written (own_modes k)
+writing_by-count x written k = search (arith, count_by-map)
+
+modes-count : (k : Kernel) (modes : List Mode) → MayHaveModes k modes → count_by is_written modes ≡ count_by is_written (own_modes k)
+modes-count k modes x = search (arith, writing_by-count)
+
+-- a task that fits its codelet has as many results as written cells
+pub results-complete : (p : Program) (t : Task) (w : Worker) (held : Cell → Array) → Fits p (task_of p t) → length (results p t w held) ≡ length (written_cells p t w)
+results-complete p t w held fit =
+    let l = task_of p t in
+    let ins : List Array = map (found p w held) l.accesses in
+    let writes : Access → Bool = λ a. is_written a.mode in
+    ap (λ (o : Option Kernel). length (elim o as (λ _. List Array) [ None ↦ [] | Some k ↦ new_arrays k l.args ins ])) fit.codelet
+    ∙ own-count fit.kernel l.args ins
+    ∙ sym (modes-count fit.kernel (map (λ (a : Access). a.mode) l.accesses) fit.modes)
+    ∙ count_by-map (λ (a : Access). a.mode) is_written writes l.accesses (λ a. refl)
+    ∙ sym (length-filter writes l.accesses)
+    ∙ sym (length-map (filter writes l.accesses) (worked_on p w))
+
+-- ---- a cell whose old value a task reads has been written by the time that the task may run
 
 module _ (p : Program) (proper : Proper p) (s : State) (t : Task) (w : Worker) (inside : t.0 < length p.tasks) (staffed : w.0 < p.workers) (earlier : EarlierAreDone p s t) (c : Cell) where
   -- a task conflicts with each later one that uses what it writes by itself
@@ -102,7 +139,9 @@ module _ (p : Program) (proper : Proper p) (s : State) (t : Task) (w : Worker) (
       let number : ℕ → Task = λ n. record { 0 = n } in
       let one : Task → ℕ = λ u. cond (has_written p s c u) 1 0 in
       let at_found : get_or (tasks_of p) found.0.0 found.0 ≡ found.0 = get_or-map-range_with_len number 0 (length p.tasks) found.0.0 found.0.0 found.0 (omega (arith, found.1, inside)) (omega arith) in
-      let among = get_or-le-sum_by one (tasks_of p) found.0.0 found.0 (omega (arith, found.1, inside, length-map-range_with_len number 0 (length p.tasks))) in
       let is_one : one (get_or (tasks_of p) found.0.0 found.0) ≡ 1 = ap one at_found ∙ ap (λ b. cond b 1 0) found.2 in
-      let counted = counts.counted c in
-      omega arith
+      omega (
+        arith,
+        get_or-le-sum_by one (tasks_of p) found.0.0 found.0 (omega (arith, found.1, inside, length-map-range_with_len number 0 (length p.tasks))),
+        counts.counted c,
+      )
