@@ -6,7 +6,7 @@ use Rattle.std.proofs.lemmas.List.{map-id, get_or-set_same, length-map, length-s
 use Rattle.std.proofs.lemmas.List.FromFn.{fill_by_all, get_or-map-range_with_len, length-map-range_with_len}
 use Rattle.std.proofs.lemmas.List.Sums.{get_or-le-sum_by, sum_by-cons, sum_by-set, count_by-le-length, length-filter, sum_by-le-sum_by}
 use Rattle.std.proofs.lemmas.Bool.{false≢true, eq-eqb, false_from_ne_true, ne_eqb}
-use Rattle.std.proofs.lemmas.List.Folds.{list_any_at, Any-from_list_any}
+use Rattle.std.proofs.lemmas.List.Folds.{list_any_at, Any-from_list_any, sum_by-replicate}
 use Rattle.std.proofs.Math.Logic.{∥∥₁_elim}
 use Rattle.std.proofs.Props.{props}
 use Rattle.sj_core.specs.Table.{renewed}
@@ -19,7 +19,7 @@ use Rattle.sj_core.specs.Proper.{IsMachineFor, Proper}
 use Rattle.sj_core.specs.Bound.{HasAtMostThreePerTaskAndFivePerOperand, operands}
 use Rattle.sj_core.proofs.Words.{Access, Array, AtNode, Cell, CellState, Claim, Claimed, Coming, DiskNo, Done, Drop, End, Event, Invalid, Kernel, Leaving, Lowered, Machine, Move, Moved, Node, OnDisk, Place, Program, Progress, Replica, Run, Running, State, Task, Transfer, Valid, Waiting, Worker, WorkerState, cell_state, cells_of, data_operands, has_cell, is_entry, is_leaving, is_leaving_by, is_valid, no_replica, no_task, node_of, opening, progress, replica, replica_in, same_cell, scratch_bytes, task_of, tasks_of, transfer, victims_of, with_replica, with_replica_in, with_transfer, worked_on, worker_of, worker_state, written_cells}
 use Rattle.sj_core.proofs.CellLists.{same_cell-sym}
-use Rattle.sj_core.proofs.Sums.{count-numbered, sum-one_more, sum-within, tally}
+use Rattle.sj_core.proofs.Sums.{count-numbered, sum-one_more, sum-within, tally, sum-nothing, sum_by-map, counted-some}
 use Rattle.sj_core.proofs.Advancing.{Advances, Ends-advances, Runs-advances, claimed_by-is, same_task}
 use Rattle.sj_core.proofs.Blocks.{disk-within}
 use Rattle.sj_core.proofs.Claiming.{claim-advance, missing-absent, node-inside}
@@ -27,7 +27,7 @@ use Rattle.sj_core.proofs.Placing.{stays-on_disk, valid-row, valid-within}
 use Rattle.sj_core.proofs.Reading.{entry-inside, idle_row, no_row, progress-inside, transfer-inside}
 use Rattle.sj_core.proofs.Replicas.{coming_by-is, leaving-by_some, leaving_by-is, leaving_by-leaves, leaving_by-valid}
 use Rattle.sj_core.proofs.TaskCells.{written-among_cells}
-use Rattle.sj_core.proofs.Arriving.{Ended_moves-keep_coherence}
+use Rattle.sj_core.proofs.Moving.{Ended_moves-keep_coherence}
 use Rattle.sj_core.proofs.Replaying.{Replays-coherent}
 use Rattle.sj_core.proofs.States.{Replays-more}
 
@@ -37,48 +37,17 @@ use Rattle.sj_core.proofs.States.{Replays-more}
 pub sum-rises : {X : Type 0} (f g : X → ℕ) (test : X → Bool) (more : ℕ) → ((x : X) → f x + cond (test x) more 0 ≤ g x) → (xs : List X) (i : ℕ) (d : X) → i < length xs → test (get_or xs i d) ≡ true → sum_by f xs + more ≤ sum_by g xs
 sum-rises f g test more rises xs i d inside passes =
     let here : cond (test (get_or xs i d)) more 0 ≡ more = ap (λ b. cond b more 0) passes in
-    omega (
-      arith,
-      sum-within f (λ x. cond (test x) more 0) g rises xs,
-      get_or-le-sum_by (λ x. cond (test x) more 0) xs i d inside,
-    )
-
--- a sum over one element again and again, which counts nothing
-pub sum-nothing : {X : Type 0} (f : X → ℕ) (x : X) → f x ≡ 0 → (n : ℕ) → sum_by f (replicate n x) ≡ 0
-sum-nothing f x none zero = refl
-sum-nothing f x none (suc n) = let first = sum_by-cons f x (replicate n x) in let rest = sum-nothing f x none n in omega arith
-
-sum-zeros : {X : Type 0} (xs : List X) → sum_by (λ x. 0) xs ≡ 0
-sum-zeros [] = refl
-sum-zeros (x ∷ xs) = let first = sum_by-cons (λ y. 0) x xs in let rest = sum-zeros xs in omega arith
-
--- a sum over what a function gives
-pub sum_by-map : {X Y : Type 0} (f : Y → ℕ) (g : X → Y) (xs : List X) → sum_by f (map g xs) ≡ sum_by (λ x. f (g x)) xs
-sum_by-map f g [] = refl
-sum_by-map f g (x ∷ xs) = let first = sum_by-cons f (g x) (map g xs) in let later = sum_by-cons (λ y. f (g y)) x xs in let rest = sum_by-map f g xs in omega arith
-
--- what passes a test and is counted is there
-pub counted-some : {X : Type 0} (test : X → Bool) (xs : List X) → 0 < count_by test xs → list_any test xs ≡ true
-counted-some test [] some = absurd (omega (arith, some))
-counted-some test (x ∷ xs) some = by_test (test x) refl (counted-some test xs)
-  where
-    by_test : (b : Bool) → test x ≡ b → (0 < count_by test xs → list_any test xs ≡ true) → (b || list_any test xs) ≡ true
-    by_test true e rest = refl
-    by_test false e rest = rest (let all = sum_by-cons (λ y. tally (test y)) x xs in let none : tally (test x) ≡ 0 = ap tally e in omega (arith, some))
+    omega (arith, sum-within f (λ x. cond (test x) more 0) g rises xs, get_or-le-sum_by (λ x. cond (test x) more 0) xs i d inside)
 
 -- ---- tables
 
 renewed-from : {X : Type 0} (f : X → ℕ) (g : ℕ → X → X) (more : ℕ → ℕ) (d : X) (xs : List X) (a : ℕ) → ((k i : ℕ) → k < length xs → i ≡ a + k → f (g i (get_or xs k d)) ≤ f (get_or xs k d) + more i) → sum_by f (map (λ row. g row.0 row.1) (enumerate_from a xs)) ≤ sum_by f xs + sum_by more (range_with_len a (length xs))
 renewed-from f g more d [] a each = omega arith
 renewed-from f g more d (x ∷ xs) a each =
-    omega (
-      arith,
-      each 0 a (omega arith) (omega arith),
-      renewed-from f g more d xs (a + 1) (λ k i inside e. each (suc k) i (omega (arith, inside)) (omega (arith, e))),
-      sum_by-cons f (g a x) (map (λ row. g row.0 row.1) (enumerate_from (a + 1) xs)),
-      sum_by-cons f x xs,
-      sum_by-cons more a (range_with_len (a + 1) (length xs)),
-    )
+    let all = renewed-from f g more d xs (a + 1) (λ k i inside e. each (suc k) i (omega (arith, inside)) (omega (arith, e))) in
+    let one = sum_by-cons f (g a x) (map (λ row. g row.0 row.1) (enumerate_from (a + 1) xs)) in
+    let both = sum_by-cons more a (range_with_len (a + 1) (length xs)) in
+    omega (arith, each 0 a (omega arith) (omega arith), sum_by-cons f x xs)
 
 -- where each row of a table rises by no more than its number allows
 pub sum-renewed : {X : Type 0} (f : X → ℕ) (g : ℕ → X → X) (more : ℕ → ℕ) (d : X) (xs : List X) → ((i : ℕ) → i < length xs → f (g i (get_or xs i d)) ≤ f (get_or xs i d) + more i) → sum_by f (renewed g xs) ≤ sum_by f xs + sum_by more (range_with_len 0 (length xs))
@@ -87,11 +56,8 @@ sum-renewed f g more d xs each = renewed-from f g more d xs 0 (λ k i inside e. 
 -- and where none rises
 pub sum-renewed_within : {X : Type 0} (f : X → ℕ) (g : ℕ → X → X) (d : X) (xs : List X) → ((i : ℕ) → i < length xs → f (g i (get_or xs i d)) ≤ f (get_or xs i d)) → sum_by f (renewed g xs) ≤ sum_by f xs
 sum-renewed_within f g d xs each =
-    omega (
-      arith,
-      sum-renewed f g (λ i. 0) d xs (λ i inside. (let here = each i inside in omega arith)),
-      sum-zeros (range_with_len 0 (length xs)),
-    )
+    let all = sum-renewed f g (λ i. 0) d xs (λ i inside. (let here = each i inside in omega arith)) in
+    omega (arith, sum-nothing (λ k. 0) (λ k. refl) (range_with_len 0 (length xs)))
 
 -- the sum over the elements of a list by number
 pub sum-numbered : {X : Type 0} (f : X → ℕ) (d : X) (xs : List X) → sum_by (λ i. f (get_or xs i d)) (range_with_len 0 (length xs)) ≡ sum_by f xs
@@ -104,13 +70,10 @@ cell_at k = record { 0 = k }
 
 -- a table has no more rows of cells that a list has than the list is long
 pub rows-within : (n : ℕ) (cs : List Cell) → sum_by (λ k. cond (has_cell cs (cell_at k)) 5 0) (range_with_len 0 n) ≤ 5 * length cs
-rows-within n [] = let none = sum-zeros (range_with_len 0 n) in omega arith
+rows-within n [] = let none = sum-nothing (λ k. 0) (λ k. refl) (range_with_len 0 n) in omega arith
 rows-within n (c ∷ cs) =
-    omega (
-      arith,
-      rows-within n cs,
-      sum-one_more (λ k. cond (has_cell (c ∷ cs) (cell_at k)) 5 0) (λ k. cond (has_cell cs (cell_at k)) 5 0) (λ k. nat_eq k c.0) 5 (λ k. by_first (cell_at k) (same_cell c (cell_at k)) refl) (range_with_len 0 n) once,
-    )
+    let all = sum-one_more (λ k. cond (has_cell (c ∷ cs) (cell_at k)) 5 0) (λ k. cond (has_cell cs (cell_at k)) 5 0) (λ k. nat_eq k c.0) 5 (λ k. by_first (cell_at k) (same_cell c (cell_at k)) refl) (range_with_len 0 n) once in
+    omega (arith, rows-within n cs)
   where
     by_first : (d : Cell) (b : Bool) → same_cell c d ≡ b → cond (b || has_cell cs d) 5 0 ≤ cond (has_cell cs d) 5 0 + cond (same_cell d c) 5 0
     by_first d true e = let here : cond {A = ℕ} (same_cell d c) 5 0 ≡ 5 = ap (λ b. cond {A = ℕ} b 5 0) (same_cell-sym d c ∙ e) in omega arith
@@ -122,12 +85,9 @@ rows-within n (c ∷ cs) =
 
     once : count_by (λ k. nat_eq k c.0) (range_with_len 0 n) ≤ 1
     once =
-        omega (
-          arith,
-          count-numbered (λ k. k) (λ k. nat_eq k c.0) c.0 (λ i. refl) 0 n,
-          ap (count_by (λ k. nat_eq k c.0)) (map-id (range_with_len 0 n)),
-          at_most_one (nat_le 0 c.0 && nat_lt c.0 (0 + n)),
-        )
+        let all = count-numbered (λ k. k) (λ k. nat_eq k c.0) c.0 (λ i. refl) 0 n in
+        let more = ap (count_by (λ k. nat_eq k c.0)) (map-id (range_with_len 0 n)) in
+        omega (arith, at_most_one (nat_le 0 c.0 && nat_lt c.0 (0 + n)))
 
 -- ---- what the replicas of a cell on nodes may still cost: the events that bring one and take it away again
 
@@ -154,25 +114,14 @@ cost s = sum_by cost_of s.cells
 -- ---- one replica
 
 pub entry-weighs : (b : Bool) (r : Replica) → is_entry r ≡ true → 3 ≤ weight b r
-entry-weighs b Invalid h = absurd (false≢true h)
-entry-weighs b (Coming w) h = omega arith
-entry-weighs b (Valid a) h = omega arith
-entry-weighs b (Leaving w a) h = absurd (false≢true h)
+entry-weighs b r h = search (arith, false≢true)
 
 pub leaving-weighs : (b : Bool) (r : Replica) → is_leaving r ≡ true → 1 ≤ weight b r
-leaving-weighs b Invalid h = absurd (false≢true h)
-leaving-weighs b (Coming w) h = absurd (false≢true h)
-leaving-weighs b (Valid a) h = absurd (false≢true h)
-leaving-weighs true (Leaving w a) h = omega arith
-leaving-weighs false (Leaving w a) h = omega arith
+leaving-weighs b r h = search (arith, false≢true)
 
 -- a victim weighs no more than it did
 leave-weighs : (w : Worker) (b : Bool) (r : Replica) → weight b (leave w r) ≤ weight b r
-leave-weighs w b Invalid = omega arith
-leave-weighs w b (Coming v) = omega arith
-leave-weighs w true (Valid a) = omega arith
-leave-weighs w false (Valid a) = omega arith
-leave-weighs w b (Leaving v a) = omega arith
+leave-weighs w b r = search (arith)
 
 -- a claim adds the weight of a cell that comes
 claimed-weighs : (w : Worker) (evicted missing : List Cell) (c : Cell) (brought : Bool) → (has_cell missing c ≡ true → brought ≡ true) → (b : Bool) (r : Replica) → weight b (claimed_replica w evicted missing c r) ≤ weight b r + cond brought 5 0
@@ -202,11 +151,8 @@ owned-costs row n a inside = alone (is_on_disk (owned_at n a row))
   where
     alone : (b : Bool) → sum_by (weight b) (slice_set (map (λ r. Invalid) row.nodes) n.0 (Valid a)) ≤ 3
     alone b =
-        omega (
-          arith,
-          sum_by-set (weight b) (map (λ r. Invalid) row.nodes) n.0 (Valid a) Invalid (omega (arith, inside, length-map row.nodes (λ (r : Replica). Invalid))),
-          invalid-costs b row.nodes,
-        )
+        let all = sum_by-set (weight b) (map (λ r. Invalid) row.nodes) n.0 (Valid a) Invalid (omega (arith, inside, length-map row.nodes (λ (r : Replica). Invalid))) in
+        omega (arith, invalid-costs b row.nodes)
 
 -- a valid replica gets another array
 pub rewritten-costs : (row : CellState) (n : Node) (a old : Array) → n.0 < length row.nodes → replica_in row (AtNode n) ≡ Valid old → cost_of (rewritten_at n a row) ≤ cost_of row
@@ -216,23 +162,21 @@ rewritten-costs row n a old inside valid = search (arith, sum_by-set, weight, is
 pub written-costs : (row : CellState) (d : DiskNo) (a : Array) (n : Node) → d.0 < length row.disks → is_on_disk row ≡ false → n.0 < length row.nodes → is_leaving (replica_in row (AtNode n)) ≡ true → cost_of (with_replica_in row (OnDisk d) (Valid a)) + 2 ≤ cost_of row
 written-costs row d a n within none inside leaving =
     let there : list_any is_valid (slice_set row.disks d.0 (Valid a)) ≡ true = list_any_at is_valid (slice_set row.disks d.0 (Valid a)) d.0 Invalid (omega (arith, within, length-set row.disks d.0 (Valid a))) (ap is_valid (get_or-set_same row.disks d.0 (Valid a) Invalid within)) in
-    omega (
-      arith,
-      ap (λ b. sum_by (weight b) row.nodes) there,
-      ap (λ b. sum_by (weight b) row.nodes) none,
-      sum-rises (weight true) (weight false) is_leaving 2 lighter row.nodes n.0 Invalid inside leaving,
-    )
+    let all = sum-rises (weight true) (weight false) is_leaving 2 lighter row.nodes n.0 Invalid inside leaving in
+    omega (arith, ap (λ b. sum_by (weight b) row.nodes) there, ap (λ b. sum_by (weight b) row.nodes) none)
   where
     lighter : (r : Replica) → weight true r + cond (is_leaving r) 2 0 ≤ weight false r
-    lighter Invalid = omega arith
-    lighter (Coming w) = omega arith
-    lighter (Valid b) = omega arith
-    lighter (Leaving w b) = omega arith
+    lighter r = search (arith)
 
 -- ---- the opening state
 
 pub opening-costs : (p : Program) (m : Machine) → cost (opening p m) ≡ 0
-opening-costs p m = sum-nothing cost_of (no_replica m) (sum-nothing (weight (is_on_disk (no_replica m))) Invalid refl (length m.nodes)) (length p.cells)
+opening-costs p m =
+    let one : cost_of (no_replica m) ≡ 0 = sum-nothing-of (weight (is_on_disk (no_replica m))) (length m.nodes) Invalid refl in
+    sum-nothing-of cost_of (length p.cells) (no_replica m) one
+  where
+    sum-nothing-of : {X : Type 0} (f : X → ℕ) (n : ℕ) (x : X) → f x ≡ 0 → sum_by f (replicate n x) ≡ 0
+    sum-nothing-of f n x none = sum_by-replicate f n x ∙ ap (λ k. n * k) none ∙ (omega arith)
 
 -- ---- each legal step is one event, and is paid for: a task pays one for each of its own events, and with its claim five for each operand,
 -- which is what a replica that the claim brings may cost. A replica that comes, is valid or leaves still costs as much as it weighs; a move
@@ -271,18 +215,7 @@ paid-advances p s s' t old new a inside more rises =
     sum-rises (λ u. due (operands_of p u) (progress s u)) (λ u. due (operands_of p u) (progress s' u)) (λ u. nat_eq u.0 t.0) more each (tasks_of p) t.0 t (omega (arith, inside, length-map-range_with_len number 0 (length p.tasks))) (ap (λ (u : Task). nat_eq u.0 t.0) at_t ∙ eq-eqb t.0 t.0 refl)
   where
     each : (u : Task) → due (operands_of p u) (progress s u) + cond (nat_eq u.0 t.0) more 0 ≤ due (operands_of p u) (progress s' u)
-    each u = elim (same_task u t) [
-      | inl e ↦
-          let here : cond (nat_eq u.0 t.0) more 0 ≡ more = ap (λ b. cond b more 0) (eq-eqb u.0 t.0 (ap (λ (k : Task). k.0) e)) in
-          omega (
-            arith,
-            ap (λ (k : Task). due (operands_of p k) (progress s k)) e ∙ ap (due (operands_of p t)) a.was,
-            ap (λ (k : Task). due (operands_of p k) (progress s' k)) e ∙ ap (due (operands_of p t)) a.is,
-          )
-      | inr d ↦
-          let here : cond (nat_eq u.0 t.0) more 0 ≡ 0 = ap (λ b. cond b more 0) (ne_eqb u.0 t.0 (λ g. d (ap (λ n. let k : Task = record { 0 = n } in k) g))) in
-          omega (arith, ap (due (operands_of p u)) (a.others u d))
-    ]
+    each u = (search (arith, same_task, eq-eqb, ne_eqb))
 
 -- the transfers under way where one worker's row is written
 row-counts : (s : State) (w : Worker) (row : WorkerState) → w.0 < length s.workers → under_way (record s { workers = set s.workers w.0 row }) + tally (is_some (transfer s w)) ≡ under_way s + tally (is_some row.transfer)
@@ -319,13 +252,9 @@ module _ (p : Program) (m : Machine) (s : State) (h : IsSound p m s) where
     Claims-pays : Pays p s s'
     Claims-pays =
         let named : length (cells_of p t w) ≡ operands_of p t = length-map (data_operands (task_of p t)) (worked_on p w) in
-        omega (
-          arith,
-          claim-cost,
-          row-counts s w (record { pins = cells_of p t w; scratch = scratch_bytes p (task_of p t); victims = claim.evicted; transfer = transfer s w }) (omega (arith, claim.worker, h.machine.workers, h.coherent.state.rows.workers)),
-          ap under_way claim.leaves,
-          paid-advances p s s' t Waiting (Claimed w) (claim-advance p m s h t w s' claim) claim.ready.task (1 + 5 * operands_of p t) (omega arith),
-        )
+        let all = row-counts s w (record { pins = cells_of p t w; scratch = scratch_bytes p (task_of p t); victims = claim.evicted; transfer = transfer s w }) (omega (arith, claim.worker, h.machine.workers, h.coherent.state.rows.workers)) in
+        let more = paid-advances p s s' t Waiting (Claimed w) (claim-advance p m s h t w s' claim) claim.ready.task (1 + 5 * operands_of p t) (omega arith) in
+        omega (arith, claim-cost, ap under_way claim.leaves)
 
   module _ (t : Task) (w : Worker) (s' : State) (run : Runs p m s t w s') where
     -- a written cell has one replica then, and had one on that node before
@@ -333,11 +262,8 @@ module _ (p : Program) (m : Machine) (s : State) (h : IsSound p m s) where
     run-cost =
         let n = node_of m w in
         let writes : Cell → Bool = has_cell (written_cells p t w) in
-        omega (
-          arith,
-          sum-renewed_within cost_of (λ k row. if writes (cell_at k) then owned_at n (initial p s t w n (cell_at k)) row else row) no_row s.cells (λ k inside. by_test (cell_at k) (writes (cell_at k)) refl),
-          ap cost run.leaves,
-        )
+        let all = sum-renewed_within cost_of (λ k row. if writes (cell_at k) then owned_at n (initial p s t w n (cell_at k)) row else row) no_row s.cells (λ k inside. by_test (cell_at k) (writes (cell_at k)) refl) in
+        omega (arith, ap cost run.leaves)
       where
         by_test : (c : Cell) (b : Bool) → has_cell (written_cells p t w) c ≡ b → cost_of (if b then owned_at (node_of m w) (initial p s t w (node_of m w) c) (cell_state s c) else cell_state s c) ≤ cost_of (cell_state s c)
         by_test c false e = omega arith
@@ -345,21 +271,13 @@ module _ (p : Program) (m : Machine) (s : State) (h : IsSound p m s) where
             let n = node_of m w in
             let entry = h.coherent.cells.claimed t w c run.claimed (written-among_cells p t w c e) in
             let within = (entry-inside s c n entry).1 in
-            omega (
-              arith,
-              entry-costs (cell_state s c) n within entry,
-              owned-costs (cell_state s c) n (initial p s t w n c) within,
-            )
+            omega (arith, entry-costs (cell_state s c) n within entry, owned-costs (cell_state s c) n (initial p s t w n c) within)
 
     Runs-pays : Pays p s s'
     Runs-pays =
         let begun : Claimed w ≢ Waiting = λ e. cc in
-        omega (
-          arith,
-          run-cost,
-          ap under_way run.leaves,
-          paid-advances p s s' t (Claimed w) (Running w) (Runs-advances p m s t w s' run) (begun-inside t (Claimed w) run.claimed begun) 1 (omega arith),
-        )
+        let all = paid-advances p s s' t (Claimed w) (Running w) (Runs-advances p m s t w s' run) (begun-inside t (Claimed w) run.claimed begun) 1 (omega arith) in
+        omega (arith, run-cost, ap under_way run.leaves)
 
   module _ (t : Task) (w : Worker) (s' : State) (ended : Ends p m s t w s') where
     -- a written cell has its new array in place of the old one
@@ -367,11 +285,8 @@ module _ (p : Program) (m : Machine) (s : State) (h : IsSound p m s) where
     end-cost =
         let n = node_of m w in
         let writes : Cell → Bool = has_cell (written_cells p t w) in
-        omega (
-          arith,
-          sum-renewed_within cost_of (λ k row. if writes (cell_at k) then rewritten_at n (result_at p s t w n (cell_at k)) row else row) no_row s.cells (λ k inside. by_test (cell_at k) (writes (cell_at k)) refl),
-          ap cost ended.leaves,
-        )
+        let all = sum-renewed_within cost_of (λ k row. if writes (cell_at k) then rewritten_at n (result_at p s t w n (cell_at k)) row else row) no_row s.cells (λ k inside. by_test (cell_at k) (writes (cell_at k)) refl) in
+        omega (arith, ap cost ended.leaves)
       where
         by_test : (c : Cell) (b : Bool) → has_cell (written_cells p t w) c ≡ b → cost_of (if b then rewritten_at (node_of m w) (result_at p s t w (node_of m w) c) (cell_state s c) else cell_state s c) ≤ cost_of (cell_state s c)
         by_test c false e = omega arith
@@ -383,13 +298,9 @@ module _ (p : Program) (m : Machine) (s : State) (h : IsSound p m s) where
     Ends-pays : Pays p s s'
     Ends-pays =
         let begun : Running w ≢ Waiting = λ e. cc in
-        omega (
-          arith,
-          end-cost,
-          row-counts s w (record { pins = []; scratch = 0; victims = victims_of s w; transfer = transfer s w }) (worker-inside t (Running w) ended.running refl),
-          ap under_way ended.leaves,
-          paid-advances p s s' t (Running w) (Done w) (Ends-advances p m s t w s' ended) (begun-inside t (Running w) ended.running begun) 1 (omega arith),
-        )
+        let all = row-counts s w (record { pins = []; scratch = 0; victims = victims_of s w; transfer = transfer s w }) (worker-inside t (Running w) ended.running refl) in
+        let more = paid-advances p s s' t (Running w) (Done w) (Ends-advances p m s t w s' ended) (begun-inside t (Running w) ended.running begun) 1 (omega arith) in
+        omega (arith, end-cost, ap under_way ended.leaves)
 
   -- ---- transfers that begin
 
@@ -414,13 +325,8 @@ module _ (p : Program) (m : Machine) (s : State) (h : IsSound p m s) where
       let valid = leaving_by-valid by.0 (replica s c (AtNode n)) by.1 in
       let gone = replaced (cell_state s c) n Invalid (valid-within (cell_state s c).nodes n.0 valid) in
       let weighed = leaving-weighs (is_on_disk (cell_state s c)) (replica s c (AtNode n)) drop.leaving in
-      omega (
-        arith,
-        rewrites c (with_replica_in (cell_state s c) (AtNode n) Invalid) (valid-row s c (AtNode n) valid) 1 (omega (arith, gone, weighed)),
-        ap cost drop.leaves,
-        ap under_way drop.leaves,
-        ap (paid p) drop.leaves,
-      )
+      let all = rewrites c (with_replica_in (cell_state s c) (AtNode n) Invalid) (valid-row s c (AtNode n) valid) 1 (omega (arith, gone, weighed)) in
+      omega (arith, ap cost drop.leaves, ap under_way drop.leaves, ap (paid p) drop.leaves)
 
   module _ (c : Cell) (from to : Place) (w : Worker) (s' : State) (moved : EndsMove p s c from to w s') where
     abbrev brought : Array
@@ -475,11 +381,8 @@ module _ (p : Program) (m : Machine) (s : State) (h : IsSound p m s) where
     pub moved-transfers : under_way s ≡ 1 + under_way s'
     moved-transfers =
         let one : tally (is_some (transfer s w)) ≡ 1 = ap (λ (o : Option Transfer). tally (is_some o)) moved.under_way in
-        omega (
-          arith,
-          row-counts s w (record (worker_state s w) { transfer = None }) (transfer-inside s w (a_transfer c from to) moved.under_way),
-          ap under_way moved.leaves,
-        )
+        let all = row-counts s w (record (worker_state s w) { transfer = None }) (transfer-inside s w (a_transfer c from to) moved.under_way) in
+        omega (arith, ap under_way moved.leaves)
 
     Ended_moves-pay : Pays p s s'
     Ended_moves-pay = omega (arith, moved-cost, moved-transfers, ap (paid p) moved.leaves)
@@ -487,23 +390,15 @@ module _ (p : Program) (m : Machine) (s : State) (h : IsSound p m s) where
   -- ---- a step
 
   pub Step-pays : (e : Event) (s' : State) → Step p m s e s' → Pays p s s'
-  Step-pays (Claim t w) s' step = Claims-pays t w s' step
-  Step-pays (Move c from (AtNode n)) s' step = Moves_in-pay c from n (mover_of s c from (AtNode n)) s' step
-  Step-pays (Move c from (OnDisk d)) s' step = Moves_out-pay c from d (mover_of s c from (OnDisk d)) s' step
-  Step-pays (Moved c from to) s' step = Ended_moves-pay c from to (mover_of s c from to) s' step
-  Step-pays (Drop c n) s' step = Drops-pays c n s' step
-  Step-pays (Run t w) s' step = Runs-pays t w s' step
-  Step-pays (End t w) s' step = Ends-pays t w s' step
+  Step-pays e s' step =
+      search (arith, Claims-pays, Moves_in-pay, Moves_out-pay, Ended_moves-pay, Drops-pays, Runs-pays, Ends-pays)
 
 -- ---- a legal trace has at most three events for each task of its program and five for each operand
 
 -- ---- what all tasks pay
 
 due-at_most : (n : ℕ) (x : Progress) → due n x ≤ 3 + 5 * n
-due-at_most n Waiting = omega arith
-due-at_most n (Claimed w) = omega arith
-due-at_most n (Running w) = omega arith
-due-at_most n (Done w) = omega arith
+due-at_most n x = search (arith)
 
 -- three for each task and five for each operand, scratch buffers aside
 abbrev price : Lowered → ℕ
@@ -513,25 +408,16 @@ prices-at_most : (ls : List Lowered) → sum_by price ls ≤ 3 * length ls + 5 *
 prices-at_most [] = omega arith
 prices-at_most (l ∷ ls) =
     let on_data : Access → Bool = λ a. is_data a.mode in
-    omega (
-      arith,
-      sum_by-cons price l ls,
-      sum_by-cons (λ (k : Lowered). length k.accesses) l ls,
-      prices-at_most ls,
-      length-filter on_data l.accesses,
-      count_by-le-length on_data l.accesses,
-    )
+    let all = sum_by-cons (λ (k : Lowered). length k.accesses) l ls in
+    let more = count_by-le-length on_data l.accesses in
+    omega (arith, sum_by-cons price l ls, prices-at_most ls, length-filter on_data l.accesses)
 
 paid-at_most : (p : Program) (s : State) → paid p s ≤ 3 * length p.tasks + 5 * operands p
 paid-at_most p s =
     let number : ℕ → Task = λ n. record { 0 = n } in
-    omega (
-      arith,
-      sum_by-le-sum_by (λ t. due (operands_of p t) (progress s t)) (λ t. price (task_of p t)) (tasks_of p) (λ t. due-at_most (operands_of p t) (progress s t)),
-      sum_by-map (λ t. price (task_of p t)) number (range_with_len 0 (length p.tasks)),
-      sum-numbered price no_task p.tasks,
-      prices-at_most p.tasks,
-    )
+    let all = sum_by-le-sum_by (λ t. due (operands_of p t) (progress s t)) (λ t. price (task_of p t)) (tasks_of p) (λ t. due-at_most (operands_of p t) (progress s t)) in
+    let more = sum_by-map (λ t. price (task_of p t)) number (range_with_len 0 (length p.tasks)) in
+    omega (arith, sum-numbered price no_task p.tasks, prices-at_most p.tasks)
 
 -- ---- what is under way
 
@@ -562,11 +448,8 @@ module _ (p : Program) (m : Machine) (proper : Proper p) (machine : IsMachineFor
       let after : State = with_transfer (with_replica s x.cell x.to (Valid (array_at p s x.from x.cell))) w None in
       let moved : EndsMove p s x.cell x.from x.to w after = record { under_way = one.2; leaves = refl } in
       let fewer = moved-transfers p m s (sound s c) x.cell x.from x.to w after moved in
-      omega (
-        arith,
-        moved-cost p m s (sound s c) x.cell x.from x.to w after moved,
-        transfers-within k after (Ended_moves-keep_coherence p m s (sound s c) x.cell x.from x.to w after moved) (omega (arith, e, fewer)),
-      )
+      let all = transfers-within k after (Ended_moves-keep_coherence p m s (sound s c) x.cell x.from x.to w after moved) (omega (arith, e, fewer)) in
+      omega (arith, moved-cost p m s (sound s c) x.cell x.from x.to w after moved)
 
   -- ---- whole traces
 
@@ -578,22 +461,14 @@ module _ (p : Program) (m : Machine) (proper : Proper p) (machine : IsMachineFor
     trace-pays : (before trace : List Event) (s s' : State) → Replays p m before s → Leads p m s trace s' → length trace + cost s' + under_way s + paid p s ≤ cost s + under_way s' + paid p s'
     trace-pays before [] s s' replays e = omega (arith, ap cost e, ap under_way e, ap (paid p) e)
     trace-pays before (e ∷ trace) s s' replays (next, step, rest) =
-        omega (
-          arith,
-          Step-pays p m s (sound s (coherent before s replays)) e next step,
-          trace-pays (before ++ e ∷ []) trace next s' (Replays-more p m before s next e replays step) rest,
-        )
+        let all = trace-pays (before ++ e ∷ []) trace next s' (Replays-more p m before s next e replays step) rest in
+        omega (arith, Step-pays p m s (sound s (coherent before s replays)) e next step)
 
     -- what they may still cost at the end is no less than the transfers under way
     pub replays-within_bound : (trace : List Event) (s : State) → Replays p m trace s → HasAtMostThreePerTaskAndFivePerOperand p trace
     replays-within_bound trace s replays =
-        omega (
-          arith,
-          trace-pays [] trace (opening p m) s refl replays,
-          opening-costs p m,
-          transfers-within (under_way s) s (coherent trace s replays) refl,
-          paid-at_most p s,
-        )
+        let all = transfers-within (under_way s) s (coherent trace s replays) refl in
+        omega (arith, trace-pays [] trace (opening p m) s refl replays, opening-costs p m, paid-at_most p s)
 
 pub legal-within_bound : (has : Kernel → Bool) (p : Program) (m : Machine) (trace : List Event) → Proper p → IsMachineFor p m → IsLawful has p → IsLegal p m trace → HasAtMostThreePerTaskAndFivePerOperand p trace
 legal-within_bound has p m trace proper machine lawful legal = ∥∥₁_elim legal (hlevel props) (λ l. replays-within_bound p m proper machine has lawful trace l.left l.replays)

@@ -47,12 +47,9 @@ module _ (p : Program) (m : Machine) (s : State) (state : IsStateOf p m s) (n : 
 
 pub worker-once_at : (m : Machine) (n : Node) (w : Worker) → count_by (λ v. same_worker v w) (workers_at m n) ≤ 1
 worker-once_at m n w =
-    omega (
-      arith,
-      filter-sum-le (λ (v : Worker). tally (same_worker v w)) (λ v. nat_eq (node_of m v).0 n.0) (workers_of m),
-      count-numbered (λ i. record { 0 = i }) (λ v. same_worker v w) w.0 (λ i. refl) 0 m.workers,
-      tally_le (nat_le 0 w.0 && nat_lt w.0 (0 + m.workers)),
-    )
+    let all = filter-sum-le (λ (v : Worker). tally (same_worker v w)) (λ v. nat_eq (node_of m v).0 n.0) (workers_of m) in
+    let more = count-numbered (λ i. record { 0 = i }) (λ v. same_worker v w) w.0 (λ i. refl) 0 m.workers in
+    omega (arith, tally_le (nat_le 0 w.0 && nat_lt w.0 (0 + m.workers)))
   where
     tally_le : (b : Bool) → tally b ≤ 1
     tally_le true = omega arith
@@ -73,27 +70,18 @@ module _ (p : Program) (m : Machine) (s s' : State) (before : IsStateOf p m s) (
     (scratches : (v : Worker) → node_of m v ≡ k → scratch s' v ≤ scratch s v) where
   pub fewer-entries : used p m s' k ≤ used p m s k
   fewer-entries =
-      omega (
-        arith,
-        order-bytes p m s' after k,
-        order-bytes p m s before k,
-        bytes_where-le p (has_cell (order s' k)) (has_cell (order s k)) entries,
-        workers-le m k (scratch s') (scratch s) scratches,
-      )
+      let all = bytes_where-le p (has_cell (order s' k)) (has_cell (order s k)) entries in
+      let one = workers-le m k (scratch s') (scratch s) scratches in
+      omega (arith, order-bytes p m s' after k, order-bytes p m s before k)
 
   -- and none leaves that didn't, and what came still comes
   pub fewer-leaving : (v : Worker) → ((c : Cell) → is_leaving_by v (replica s' c (AtNode k)) ≡ true → is_leaving_by v (replica s c (AtNode k)) ≡ true) → ((c : Cell) → is_coming_by v (replica s c (AtNode k)) ≡ true → is_coming_by v (replica s' c (AtNode k)) ≡ true) → used_while_leaving p m s' v k ≤ used_while_leaving p m s v k
   fewer-leaving v leaves comes =
-      omega (
-        arith,
-        leaving-bytes p m s' after k v,
-        leaving-bytes p m s before k v,
-        bytes_where-le p (λ c. is_leaving_by v (replica s' c (AtNode k))) (λ c. is_leaving_by v (replica s c (AtNode k))) leaves,
-        beside-bytes p m s' after k v,
-        beside-bytes p m s before k v,
-        bytes_where-le p (λ c. not (is_coming_by v (replica s' c (AtNode k))) && has_cell (order s' k) c) (λ c. not (is_coming_by v (replica s c (AtNode k))) && has_cell (order s k) c) still,
-        others-le m k v (scratch s') (scratch s) (λ x here other. scratches x here),
-      )
+      let all = bytes_where-le p (λ c. not (is_coming_by v (replica s' c (AtNode k))) && has_cell (order s' k) c) (λ c. not (is_coming_by v (replica s c (AtNode k))) && has_cell (order s k) c) still in
+      let more = bytes_where-le p (λ c. is_leaving_by v (replica s' c (AtNode k))) (λ c. is_leaving_by v (replica s c (AtNode k))) leaves in
+      let one = others-le m k v (scratch s') (scratch s) (λ x here other. scratches x here) in
+      let rest = leaving-bytes p m s' after k v in
+      omega (arith, leaving-bytes p m s before k v, beside-bytes p m s' after k v, beside-bytes p m s before k v)
     where
       not_coming : (x y : Bool) → (x ≡ true → y ≡ true) → not y ≡ true → not x ≡ true
       not_coming true y f g = sym (ap not (f refl)) ∙ g

@@ -1,6 +1,6 @@
 -- Lists of cells: which cells an edited list has, how often, and the sum over a list that has each at most once.
-use Rattle.std.proofs.Common.{Bool, List, [], ap, arith, cond, false, get_or, length, not, refl, set, subst, sym, true, ℕ, ◌&&◌, ◌*◌, ◌++◌, ◌+◌, ◌<◌, ◌||◌, ◌∙◌, ◌∷◌, ◌≡◌, ◌≤◌}
-use Rattle.std.proofs.lemmas.Bool.{and_from, and_parts, false_from_ne_true, false≢true, or_right, le-leb, lt-ltb}
+use Rattle.std.proofs.Common.{Bool, List, [], ap, arith, cond, false, get_or, length, not, refl, set, subst, sym, true, ℕ, ◌&&◌, ◌*◌, ◌++◌, ◌+◌, ◌<◌, ◌||◌, ◌∙◌, ◌∷◌, ◌≡◌, ◌≤◌, inl, inr}
+use Rattle.std.proofs.lemmas.Bool.{and_from, and_parts, false_from_ne_true, false≢true, or_right, le-leb, lt-ltb, cases_lt}
 use Rattle.std.proofs.lemmas.Bool.Decides.{Decides-eqb}
 use Rattle.std.proofs.lemmas.List.{ext_get_or, get_or-set_other, get_or-set_same, length-set}
 use Rattle.std.proofs.lemmas.List.Sums.{sum_by-append, sum_by-cons}
@@ -10,7 +10,7 @@ use Rattle.sj_core.proofs.Words.{Cell, Program, cells_of_program, distinct, has_
 use Rattle.sj_core.specs.Step.{to_front, without}
 use Rattle.sj_core.specs.Table.{renewed}
 use Rattle.sj_core.proofs.Reading.{same_cell-is}
-use Rattle.sj_core.proofs.Sums.{tally, filter-sum-le, sum-agree, sum-each, count-numbered, sum-plus, same_test}
+use Rattle.sj_core.proofs.Sums.{tally, filter-sum-le, sum-agree, sum-each, count-numbered, sum-plus, same_test, sum-nothing, counted-some, counted-has}
 use Rattle.sj_core.proofs.Tables.{length-renewed, renewed-at}
 use Rattle.std.proofs.lemmas.Map.Views.{any-filter_same}
 use Rattle.std.proofs.lemmas.List.Folds.{list_any-append}
@@ -83,20 +83,10 @@ pub times-filter : (f : Cell → Bool) (xs : List Cell) (c : Cell) → times (fi
 times-filter f xs c = filter-sum-le (λ d. tally (same_cell d c)) f xs
 
 pub times-none : (xs : List Cell) (c : Cell) → has_cell xs c ≡ false → times xs c ≡ 0
-times-none [] c h = refl
-times-none (x ∷ xs) c h = by_cases (same_cell x c) refl h (times-none xs c)
-  where
-    by_cases : (b : Bool) → same_cell x c ≡ b → (b || has_cell xs c) ≡ false → (has_cell xs c ≡ false → times xs c ≡ 0) → times (x ∷ xs) c ≡ 0
-    by_cases true e h rest = absurd (false≢true (sym h))
-    by_cases false e h rest = let a = times-cons x xs c in let zero_here : tally (same_cell x c) ≡ 0 = ap tally e in let none = rest h in omega arith
+times-none xs c h = elim (cases_lt 0 (times xs c)) [ inl some ↦ absurd (false≢true (sym h ∙ counted-some (λ d. same_cell d c) xs some)) | inr none ↦ omega arith ]
 
 pub times-has : (xs : List Cell) (c : Cell) → has_cell xs c ≡ true → 1 ≤ times xs c
-times-has [] c h = absurd (false≢true h)
-times-has (x ∷ xs) c h = by_cases (same_cell x c) refl h (times-has xs c)
-  where
-    by_cases : (b : Bool) → same_cell x c ≡ b → (b || has_cell xs c) ≡ true → (has_cell xs c ≡ true → 1 ≤ times xs c) → 1 ≤ times (x ∷ xs) c
-    by_cases true e h rest = let a = times-cons x xs c in let one : tally (same_cell x c) ≡ 1 = ap tally e in omega arith
-    by_cases false e h rest = let a = times-cons x xs c in let more = rest h in omega arith
+times-has xs c h = counted-has (λ d. same_cell d c) xs h
 
 pub times-to_front : (xs : List Cell) (d c : Cell) → times xs c ≤ 1 → times (to_front xs d) c ≤ 1
 times-to_front xs d c once = by_cases (same_cell d c) refl
@@ -105,11 +95,8 @@ times-to_front xs d c once = by_cases (same_cell d c) refl
     by_cases true e =
         let rest : List Cell = filter (λ k. not (same_cell k d)) xs in
         let one : tally (same_cell d c) ≡ 1 = ap tally e in
-        omega (
-          arith,
-          times-none rest c (has_cell-filter_is (λ k. not (same_cell k d)) xs c ∙ ap (λ b. not b && has_cell xs c) (same_cell-sym c d ∙ e)),
-          times-cons d rest c,
-        )
+        let all = times-none rest c (has_cell-filter_is (λ k. not (same_cell k d)) xs c ∙ ap (λ b. not b && has_cell xs c) (same_cell-sym c d ∙ e)) in
+        omega (arith, times-cons d rest c)
     by_cases false e =
         let rest : List Cell = filter (λ k. not (same_cell k d)) xs in
         let zero_here : tally (same_cell d c) ≡ 0 = ap tally e in
@@ -126,11 +113,8 @@ times-distinct (x ∷ xs) c = by_cases (has_cell xs x) refl (times-distinct xs c
     first : (b : Bool) → same_cell x c ≡ b → has_cell xs x ≡ false → times (distinct xs) c ≤ 1 → times (x ∷ distinct xs) c ≤ 1
     first true e new rest =
         let one : tally (same_cell x c) ≡ 1 = ap tally e in
-        omega (
-          arith,
-          times-none (distinct xs) c (has_cell-distinct xs c ∙ ap (has_cell xs) (sym (same_cell-is x c e)) ∙ new),
-          times-cons x (distinct xs) c,
-        )
+        let all = times-none (distinct xs) c (has_cell-distinct xs c ∙ ap (has_cell xs) (sym (same_cell-is x c e)) ∙ new) in
+        omega (arith, times-cons x (distinct xs) c)
     first false e new rest =
         let zero_here : tally (same_cell x c) ≡ 0 = ap tally e in
         omega (arith, times-cons x (distinct xs) c)
@@ -191,19 +175,12 @@ share-of_one f all x h =
 
 -- the sum over a list that has each cell at most once, as a sum over a list that has each of its cells exactly once
 pub sum-once : (f : Cell → ℕ) (all xs : List Cell) → ((c : Cell) → has_cell xs c ≡ true → times all c ≡ 1) → ((c : Cell) → times xs c ≤ 1) → sum_by f xs ≡ sum_by (share f (has_cell xs)) all
-sum-once f all [] inside once = sym (nothing all)
-  where
-    nothing : (ys : List Cell) → sum_by (share f (has_cell [])) ys ≡ 0
-    nothing [] = refl
-    nothing (y ∷ ys) = let a = sum_by-cons (share f (has_cell [])) y ys in let rest = nothing ys in omega arith
+sum-once f all [] inside once = sym (sum-nothing (share f (has_cell [])) (λ c. refl) all)
 sum-once f all (x ∷ xs) inside once =
-    omega (
-      arith,
-      sum_by-cons f x xs,
-      sum-once f all xs (λ c h. inside c (or_right (same_cell x c) (has_cell xs c) h)) (λ c. (let o = once c in let t = times-cons x xs c in omega arith)),
-      share-of_one f all x (inside x (ap (λ b. b || has_cell xs x) (same_cell-refl x))),
-      sum-plus (share f (has_cell (x ∷ xs))) (share f (same_cell x)) (share f (has_cell xs)) apart all,
-    )
+    let both = sum-once f all xs (λ c h. inside c (or_right (same_cell x c) (has_cell xs c) h)) (λ c. (let o = once c in let t = times-cons x xs c in omega arith)) in
+    let count = sum-plus (share f (has_cell (x ∷ xs))) (share f (same_cell x)) (share f (has_cell xs)) apart all in
+    let bound = share-of_one f all x (inside x (ap (λ b. b || has_cell xs x) (same_cell-refl x))) in
+    omega (arith, sum_by-cons f x xs)
   where
     new : has_cell xs x ≡ false
     new = false_from_ne_true (has_cell xs x) (λ h. (let o = once x in let t = times-cons x xs x in let one : tally (same_cell x x) ≡ 1 = ap tally (same_cell-refl x) in let more = times-has xs x h in omega arith))

@@ -125,9 +125,7 @@ module _ (p : Program) (m : Machine) (s : State) (h : IsSound p m s) (s' : State
             (let claimed = before.coming_claimed v c k (change.comes v c k coming) in
             record { task = claimed.task; cell = claimed.cell; claimed = claimed_by-is v (progress s' claimed.task) (still_claims v claimed.task (ap (is_claimed_by v) claimed.claimed ∙ same_worker-refl v) (λ is. coming_on c k (ap (λ (x : Worker). is_coming_by x (replica s' c (AtNode k))) (sym is) ∙ coming))) });
         coming_pinned = λ v c k coming.
-            (let claimed = before.coming_claimed v c k (change.comes v c k coming) in
-            let claims = still_claims v claimed.task (ap (is_claimed_by v) claimed.claimed ∙ same_worker-refl v) (λ is. coming_on c k (ap (λ (x : Worker). is_coming_by x (replica s' c (AtNode k))) (sym is) ∙ coming)) in
-            still_pinned v claimed.task c (claimed_by-task_of v (progress s' claimed.task) claims) (before.coming_pinned v c k (change.comes v c k coming)));
+            (search (arith, still_claims, same_worker-refl, coming_on, still_pinned, claimed_by-task_of));
       }
 
   pub Changes-bytes : NodesSuffice p m s'

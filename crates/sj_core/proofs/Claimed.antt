@@ -9,16 +9,13 @@ use Rattle.sj_core.specs.Laws.{IsSound}
 use Rattle.sj_core.proofs.Advancing.{claimed-task_of}
 use Rattle.sj_core.proofs.Dependencies.{Proper-dependencies}
 use Rattle.sj_core.proofs.Finding.{not_being_written}
-use Rattle.sj_core.proofs.Reading.{progress-inside}
+use Rattle.sj_core.proofs.Reading.{progress-inside, list_any-numbered}
 use Rattle.sj_core.proofs.Separation.{worker-inside}
 use Rattle.sj_core.proofs.Values.{old_value-written}
 
 -- some task of the program passes a test that this one passes
 pub list_any-task : (p : Program) (test : Task → Bool) (t : Task) → t.0 < length p.tasks → test t ≡ true → list_any test (tasks_of p) ≡ true
-list_any-task p test t inside passes =
-    let number : ℕ → Task = λ n. record { 0 = n } in
-    let at_t : get_or (tasks_of p) t.0 t ≡ t = get_or-map-range_with_len number 0 (length p.tasks) t.0 t.0 t inside (omega arith) in
-    list_any_at test (tasks_of p) t.0 t (omega (arith, inside, length-map-range_with_len number 0 (length p.tasks))) (ap test at_t ∙ passes)
+list_any-task p test t inside passes = list_any-numbered (λ n. record { 0 = n }) test t.0 (length p.tasks) inside passes
 
 module _ (p : Program) (m : Machine) (s : State) (h : IsSound p m s) (t : Task) (w : Worker) (claimed : progress s t ≡ Claimed w) where
   pub claimed-staffed : w.0 < p.workers

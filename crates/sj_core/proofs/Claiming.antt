@@ -51,13 +51,7 @@ module _ (p : Program) (m : Machine) (s : State) (t : Task) (w : Worker) (s' : S
 
   claim-at : (c : Cell) (q : Place) → (replica s' c q ≡ replica s c q) ⊎ ((q ≡ AtNode (node_of m w)) × (replica s' c q ≡ new_replica c))
   claim-at c q =
-      elim (claim-row c) [
-        | inr none ↦ inl (ap (λ (row : CellState). replica_in row q) (none.1 ∙ sym none.0))
-        | inl row ↦ elim (replica_in-cases (cell_state s c) (AtNode (node_of m w)) q (new_replica c)) [
-          | inl same ↦ inl (ap (λ (x : CellState). replica_in x q) row ∙ same)
-          | inr (at, is) ↦ inr (at, ap (λ (x : CellState). replica_in x q) row ∙ is)
-        ]
-      ]
+      grind (arith, claim-row c, replica_in-cases (cell_state s c) (AtNode (node_of m w)) q (new_replica c), replica_in-cases)
 
   pub claim-writes : (c : Cell) → writes s' c ≡ writes s c
   claim-writes c = elim (claim-row c) [ inl row ↦ ap (λ (r : CellState). r.writes) row | inr none ↦ ap (λ (r : CellState). r.writes) (none.1 ∙ sym none.0) ]
@@ -194,9 +188,7 @@ module _ (p : Program) (m : Machine) (s : State) (h : IsSound p m s) (t : Task) 
       same_node_of e = cc
 
       by_case : ClaimCase m s s' w claim.evicted (missing p s t w (node_of m w)) c (AtNode k) → replica s' c (AtNode k) ≡ replica s c (AtNode k)
-      by_case (Stays same) = same
-      by_case (Leaves at evicted a was is) = absurd (false≢true (sym (spared (same_node_of at)) ∙ evicted))
-      by_case (Comes at lacks was is) = absurd (false≢true (sym (ap is_entry was) ∙ entry))
+      by_case x = search (arith, false≢true, same_node_of)
 
   -- what leaves after a claim is a victim of it, or left before; what leaves still leaves
   pub claim-leaving : (v : Worker) (c : Cell) (q : Place) → is_leaving_by v (replica s' c q) ≡ true → ((q ≡ AtNode (node_of m w)) × (v ≡ w) × (has_cell claim.evicted c ≡ true)) ⊎ ((q ≢ AtNode (node_of m w)) × (is_leaving_by v (replica s c q) ≡ true))

@@ -17,12 +17,7 @@ use Rattle.sj_core.proofs.Readiness.{AllPairs-two, Contains-filter}
 
 -- a mode is REDUX or not
 pub redux_or : (x : Mode) → (x ≡ Redux) ⊎ (is_redux x ≡ false)
-redux_or R = inr refl
-redux_or W = inr refl
-redux_or RW = inr refl
-redux_or Scratch = inr refl
-redux_or Redux = inl refl
-redux_or CommuteMode = inr refl
+redux_or x = search (arith)
 
 -- an operand that is no contribution works on its own cell
 pub direct-cell : (p : Program) (w : Worker) (a : Access) → is_redux a.mode ≡ false → worked_on p w a ≡ a.cell
@@ -68,9 +63,7 @@ module _ (p : Program) (proper : Proper p) where
         by_place y y_in at_k (subst (λ (xs : List Access). Contains xs (access R (copy_of p f.cell x))) combine.operands reads)
       where
         by_place : (y : Worker) → y.0 < p.workers → get_or f.combines y.0 0 ≡ n → Contains (access R (copy_of p f.cell y) ∷ access RW f.cell ∷ []) (access R (copy_of p f.cell x)) → n ≡ combine_at p proper f phase x staffed
-        by_place y y_in at_y (zero, l, e) = sym at_y ∙ ap (λ (v : Worker). get_or f.combines v.0 0) (copy-own f.cell has_copies y x (ap (λ (b : Access). b.cell) e))
-        by_place y y_in at_y (suc zero, l, e) = absurd (let g : RW ≡ R = ap (λ (b : Access). b.mode) e in cc)
-        by_place y y_in at_y (suc (suc k), l, e) = absurd (omega arith)
+        by_place y y_in at_y x = search (arith, get_or, copy-own)
 
     -- how an operand of one of the phase's tasks works on the cell or a copy of it, once contributions have begun
     pub data AtWork (n : ℕ) (v : Worker) (a : Access) : Type 0 where
@@ -96,9 +89,7 @@ module _ (p : Program) (proper : Proper p) where
         member there = by_kind (phase.alone n a is_open in_data there)
           where
             by_kind : IsMember f n ⊎ IsFirstUnit p f n → Contains f.contributions n ⊎ Contains f.combines n
-            by_kind (inl (inl init)) = absurd (let l : n < m = All-contains (λ i. n < i) f.contributions m (All-contains (λ i. All (λ j. i < j) f.contributions) f.inits n phase.inits_first init) contribution in omega arith)
-            by_kind (inl (inr own)) = own
-            by_kind (inr first) = absurd (let l : n < m = All-contains (λ i. n < i) f.contributions m first.before contribution in omega arith)
+            by_kind x = search (arith, All-contains)
 
         -- an operand of a combine
         of_combine : is_redux a.mode ≡ false → Contains f.combines n → AtWork n v a
@@ -153,9 +144,7 @@ module _ (p : Program) (proper : Proper p) where
                 other = (Decides-eqb f.cell.0 a.cell.0).1 (ap (λ (q : Cell). q.0) (sym same))
 
                 by_places : ((a ≡ access Redux f.cell) ⊎ ((IsTrue (same_cell a.cell f.cell) → (a.mode ≡ R) × (Redux ≡ R)) ⊎ (IsTrue (same_cell f.cell a.cell) → (Redux ≡ R) × (a.mode ≡ R)))) → ⊥
-                by_places (inl e) = true≢false (sym (ap (λ (x : Access). is_redux x.mode) e) ∙ direct)
-                by_places (inr (inl pair)) = redux_isn't_read (pair one).1
-                by_places (inr (inr pair)) = redux_isn't_read (pair other).0
+                by_places x = search (arith, true≢false, redux_isn't_read, one, other)
 
     -- ---- after a copy has been combined
 
@@ -245,6 +234,4 @@ module _ (p : Program) (proper : Proper p) where
             ]
           where
             read_copy : (g : Phase) → g.cell ≡ f.cell → a.cell ≡ copy_of p f.cell x → (y : Worker) → Contains (access R (copy_of p g.cell y) ∷ access RW g.cell ∷ []) a → Contains (task_number p n).accesses (access R (copy_of p g.cell x))
-            read_copy g same cell y (zero, l, e) = subst (λ (b : Access). Contains (task_number p n).accesses b) (sym e ∙ ap (λ (d : Cell). access R d) (ap (λ (b : Access). b.cell) e ∙ cell ∙ ap (λ (c : Cell). copy_of p c x) (sym same))) h
-            read_copy g same cell y (suc zero, l, e) = absurd (copy-bare f.cell has_copies x x_in f.cell has_copies (sym cell ∙ sym (ap (λ (b : Access). b.cell) e) ∙ same))
-            read_copy g same cell y (suc (suc i), l, e) = absurd (omega arith)
+            read_copy g same cell y x = search (arith, copy-bare)

@@ -69,14 +69,13 @@ copies-are p c q inside h =
 
 behind : (p : Program) (k : Codelet) (mode : Mode) (d c : Cell) (m : Manner) → d.0 < length p.cells → Contains (usages_of p k (access mode d)) (usage m c.0) → Behind p k (access mode d) c m
 behind p k R d c m inside h = let e = one_is (usage Read d.0) (usage m c.0) h in Direct refl refl (usage-cell Read m d c e) (usage-manner Read m d.0 c.0 e)
-behind p k W d c m inside h = let e = one_is (usage Write d.0) (usage m c.0) h in Direct refl refl (usage-cell Write m d c e) (usage-manner Write m d.0 c.0 e)
-behind p k RW d c m inside h = let e = one_is (usage Write d.0) (usage m c.0) h in Direct refl refl (usage-cell Write m d c e) (usage-manner Write m d.0 c.0 e)
 behind p k Scratch d c m inside h = absurd (none_is (usage m c.0) h)
 behind p k CommuteMode d c m inside h = let e = one_is (usage (Commute k) d.0) (usage m c.0) h in Direct refl refl (usage-cell (Commute k) m d c e) (usage-manner (Commute k) m d.0 c.0 e)
 behind p k Redux d c m inside h =
     let (n, has, e) = map-from (usage Contribute) (copies_of p d.0) (usage m c.0) h in
     let copy = copies-are p d c inside (subst (Contains (copies_of p d.0)) (ap (λ (u : Usage). u.cell) e) has) in
     AsCopy refl copy.0 copy.1 (usage-manner Contribute m n c.0 e)
+behind p k mode d c m inside h = let e = one_is (usage Write d.0) (usage m c.0) h in Direct refl refl (usage-cell Write m d c e) (usage-manner Write m d.0 c.0 e)
 
 -- ---- the laws
 
@@ -121,9 +120,7 @@ module _ (p : Program) (proper : Proper p) where
       by_place (subst (λ (xs : List Access). Contains xs a) combine.operands has)
     where
       by_place : Contains (access R (copy_of p f.cell (record { 0 = k })) ∷ access RW f.cell ∷ []) a → ⊥
-      by_place (zero, m, is) = let same : R ≡ Redux = ap (λ (b : Access). b.mode) is ∙ redux in cc
-      by_place (suc zero, m, is) = let same : RW ≡ Redux = ap (λ (b : Access). b.mode) is ∙ redux in cc
-      by_place (suc (suc j), m, is) = omega arith
+      by_place x = search (arith)
 
   -- a task doesn't access a partial copy and contribute to its cell
   pub not_both : (t : ℕ) (c d : Cell) (w : Worker) → IsCopyOf p c d w → (a b : Access) → Contains (task_number p t).accesses a → a.cell ≡ c → Contains (task_number p t).accesses b → b.mode ≡ Redux → ⊥
@@ -136,9 +133,7 @@ module _ (p : Program) (proper : Proper p) where
   one-manner t c m n x y = by_kinds x.by y.by
     where
       aliased : (x.operand ≡ y.operand) ⊎ ((IsTrue (same_cell x.operand.cell y.operand.cell) → (x.operand.mode ≡ R) × (y.operand.mode ≡ R)) ⊎ (IsTrue (same_cell y.operand.cell x.operand.cell) → (y.operand.mode ≡ R) × (x.operand.mode ≡ R))) → x.operand.cell ≡ c → y.operand.cell ≡ c → x.operand.mode ≡ y.operand.mode
-      aliased (inl e) cx cy = ap (λ (a : Access). a.mode) e
-      aliased (inr (inl reads)) cx cy = let both = reads ((Decides-eqb x.operand.cell.0 y.operand.cell.0).1 (ap (λ (k : Cell). k.0) (cx ∙ sym cy))) in both.0 ∙ sym both.1
-      aliased (inr (inr reads)) cx cy = let both = reads ((Decides-eqb y.operand.cell.0 x.operand.cell.0).1 (ap (λ (k : Cell). k.0) (cy ∙ sym cx))) in both.1 ∙ sym both.0
+      aliased x cx cy = search (arith, Decides-eqb)
 
       by_kinds : Behind p (task_number p t).codelet x.operand c m → Behind p (task_number p t).codelet y.operand c n → m ≡ n
       by_kinds (AsCopy redux w copy manner) (AsCopy redux' w' copy' manner') = sym manner ∙ manner'

@@ -145,12 +145,9 @@ Ends-keeps_counts p m s t w s' state cells ended counts = record { counted = λ 
           | inl f ↦ ap (λ (k : Task). tally (has_written p s' c k)) f ∙ ap tally (now c ∙ e) ∙ sym (ap (λ b. tally b + 1) (undone c)) ∙ ap (λ (k : Task). tally (has_written p s c k) + 1) (sym f) ∙ ap (λ b. tally (has_written p s c u) + tally b) (sym (eq-eqb u.0 t.0 (ap (λ (k : Task). k.0) f)))
           | inr d ↦ ap tally (written-other p s s' c t u (Running w) (Done w) (Ends-advances p m s t w s' ended) d) ∙ (let none : tally (is_t u) ≡ 0 = ap tally (ne_eqb u.0 t.0 (λ g. d (ap (λ n. let k : Task = record { 0 = n } in k) g))) in omega arith)
         ] in
-        omega (
-          arith,
-          sum-plus (λ u. tally (has_written p s' c u)) (λ u. tally (has_written p s c u)) (λ u. tally (is_t u)) each (tasks_of p),
-          count-numbered (λ n. record { 0 = n }) is_t t.0 (λ n. refl) 0 (length p.tasks) ∙ ap tally (and_from (nat_le 0 t.0) (nat_lt t.0 (0 + length p.tasks)) (le-leb 0 t.0 (omega arith)) (lt-ltb t.0 (0 + length p.tasks) (omega (arith, inside)))),
-          counts.counted c,
-        )
+        let all = count-numbered (λ n. record { 0 = n }) is_t t.0 (λ n. refl) 0 (length p.tasks) ∙ ap tally (and_from (nat_le 0 t.0) (nat_lt t.0 (0 + length p.tasks)) (le-leb 0 t.0 (omega arith)) (lt-ltb t.0 (0 + length p.tasks) (omega (arith, inside)))) in
+        let one = sum-plus (λ u. tally (has_written p s' c u)) (λ u. tally (has_written p s c u)) (λ u. tally (is_t u)) each (tasks_of p) in
+        omega (arith, counts.counted c)
 
 -- ---- the end of a kernel's run leaves a coherent state
 
@@ -244,10 +241,7 @@ module _ (p : Program) (m : Machine) (s : State) (h : IsSound p m s) (t : Task) 
 
   -- a test that tells no array from another is passed as before
   end-same : {X : Type 0} (test : Replica → X) → ((a b : Array) → test (Valid a) ≡ test (Valid b)) → (c : Cell) (q : Place) → test (replica s' c q) ≡ test (replica s c q)
-  end-same test alike c q = elim (end-cases p m s t w s' ended c q) [
-    | inl same ↦ ap test same
-    | inr (written, at, is) ↦ ap test is ∙ alike (result_at p s t w (node_of m w) c) (written_content p s t w c) ∙ sym (ap test (ap (replica s c) at ∙ (owned c written).valid))
-  ]
+  end-same test alike c q = grind (arith, end-cases p m s t w s' ended c q, owned)
 
   end-entry : (c : Cell) (k : Node) → is_entry (replica s' c (AtNode k)) ≡ is_entry (replica s c (AtNode k))
   end-entry c k = end-same is_entry (λ a b. refl) c (AtNode k)
@@ -350,10 +344,7 @@ module _ (p : Program) (m : Machine) (s : State) (h : IsSound p m s) (t : Task) 
             (q.0, ap (λ (r : CellState). is_valid (replica_in r q.0)) row ∙ q.1)
       ];
       alike = λ c q some resting. elim (cases_Bool (has_cell (written_cells p t w) c)) [
-        | inl written ↦ elim (end-alone c q written) [
-          | inl valid ↦ subst (λ (o : Option Array). IfSome o (λ a. a ≡ content p s' c)) (sym (ap array_of valid)) refl
-          | inr none ↦ MatchOption-from_none (array_of (replica s' c q)) (λ a. a ≡ content p s' c) (ap array_of none)
-        ]
+        | inl written ↦ (search (arith, end-alone, MatchOption-from_none))
         | inr spared ↦
             let row = end-spared_row p m s t w s' ended c spared in
             agrees-kept (array_of (replica s c q)) (array_of (replica s' c q)) (content p s c) (content p s' c) (ap (λ (r : CellState). array_of (replica_in r q)) row) (spared-content c spared) (h.coherent.copies.alike c q (omega (arith, ap (λ (r : CellState). r.writes) row, some)) (end-rested c spared resting))

@@ -25,18 +25,14 @@ module _ {X : Type 0} (test : List X → Bool) where
   shortest_suffix-passes (x ∷ xs) vs h = by_cases (shortest_suffix test xs) refl (test (x ∷ xs)) refl h (shortest_suffix-passes xs vs)
     where
       by_cases : (o : Option (List X)) → shortest_suffix test xs ≡ o → (b : Bool) → test (x ∷ xs) ≡ b → option_or o (then_some b (x ∷ xs)) ≡ Some vs → (shortest_suffix test xs ≡ Some vs → test vs ≡ true) → test vs ≡ true
-      by_cases (Some ws) e b f h rest = rest (e ∙ h)
-      by_cases None e true f h rest = ap test (sym (some_is (x ∷ xs) vs h)) ∙ f
-      by_cases None e false f h rest = absurd (cc)
+      by_cases o e b f h rest = search (arith, some_is)
 
   -- where there are none, no end passes
   pub shortest_suffix-none : (xs : List X) → shortest_suffix test xs ≡ None → (k : ℕ) → test (drop k xs) ≡ false
   shortest_suffix-none [] h k = by_cases (test []) refl h k
     where
       by_cases : (b : Bool) → test [] ≡ b → then_some {T = List X} b [] ≡ None → (k : ℕ) → test (drop k []) ≡ false
-      by_cases true e h k = absurd (cc)
-      by_cases false e h zero = e
-      by_cases false e h (suc k) = e
+      by_cases b e h k = search (arith)
   shortest_suffix-none (x ∷ xs) h k = by_cases (shortest_suffix test xs) refl (test (x ∷ xs)) refl h (shortest_suffix-none xs) k
     where
       by_cases : (o : Option (List X)) → shortest_suffix test xs ≡ o → (b : Bool) → test (x ∷ xs) ≡ b → option_or o (then_some b (x ∷ xs)) ≡ None → (shortest_suffix test xs ≡ None → (j : ℕ) → test (drop j xs) ≡ false) → (j : ℕ) → test (drop j (x ∷ xs)) ≡ false

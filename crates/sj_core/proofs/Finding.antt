@@ -15,17 +15,14 @@ use Rattle.sj_core.proofs.Advancing.{running_on-is, same_task, task_of-worker, A
 use Rattle.sj_core.proofs.Replicas.{same_worker-refl}
 use Rattle.sj_core.proofs.Separation.{separated}
 use Rattle.sj_core.proofs.Sharing.{one, operand-has_cell}
-use Rattle.sj_core.proofs.Reading.{progress-inside}
+use Rattle.sj_core.proofs.Reading.{progress-inside, list_any-numbered}
+use Rattle.sj_core.proofs.Sums.{counted-has}
 
 -- ---- lists
 
 -- a task of the program that passes is counted
 pub task-counted : (p : Program) (test : Task → Bool) (u : Task) → u.0 < length p.tasks → test u ≡ true → 0 < count_by test (tasks_of p)
-task-counted p test u inside passes =
-    let number : ℕ → Task = λ n. record { 0 = n } in
-    let at_u : get_or (tasks_of p) u.0 u ≡ u = get_or-map-range_with_len number 0 (length p.tasks) u.0 u.0 u inside (omega arith) in
-    let counts : cond {A = ℕ} (test (get_or (tasks_of p) u.0 u)) 1 0 ≡ 1 = ap (λ b. cond {A = ℕ} b 1 0) (ap test at_u ∙ passes) in
-    omega (arith, get_or-le-sum_by (λ (k : Task). cond {A = ℕ} (test k) 1 0) (tasks_of p) u.0 u (omega (arith, length-map-range_with_len number 0 (length p.tasks))))
+task-counted p test u inside passes = counted-has test (tasks_of p) (list_any-numbered (λ n. record { 0 = n }) test u.0 (length p.tasks) inside passes)
 
 -- ---- running tasks
 

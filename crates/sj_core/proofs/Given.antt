@@ -73,14 +73,7 @@ module _ (p : Program) (proper : Proper p) where
           cc
 
       by_kind : (f : Phase) → IsPhase p f → IsMember f t.0 ⊎ IsFirstUnit p f t.0 → ⊥
-      by_kind f phase (inl (inl init)) = of_phase f phase (inl init)
-      by_kind f phase (inl (inr (inr combine))) = of_phase f phase (inr combine)
-      by_kind f phase (inl (inr (inl own))) =
-          let named = (All-contains (λ i. IsContribution f.by f.cell (task_number p i)) f.contributions t.0 phase.contributions own).operand in
-          let e = one_is (access R c) (access Redux f.cell) (subst (λ (xs : List Access). Contains xs (access Redux f.cell)) alone named) in
-          let g : R ≡ Redux = ap (λ (b : Access). b.mode) e in
-          cc
-      by_kind f phase (inr first) = fills_not f.cell first.init.operands
+      by_kind f phase x = search (arith, of_phase, All-contains, one_is, fills_not)
 
 -- ---- what a task finds
 

@@ -1,6 +1,5 @@
 pub mod Adding
 pub mod Advancing
-pub mod Arriving
 pub mod Blocks
 pub mod Bound
 pub mod Bytes
@@ -13,7 +12,6 @@ pub mod Coherence
 pub mod Combining
 pub mod Copies
 pub mod Dependencies
-pub mod Dropping
 pub mod Ending
 pub mod Eviction
 pub mod Finding
@@ -33,7 +31,6 @@ pub mod Replicas
 pub mod Running
 pub mod Separation
 pub mod Sharing
-pub mod Shifting
 pub mod Sized
 pub mod States
 pub mod Sums

@@ -9,15 +9,12 @@ use Rattle.sj_core.specs.Coherent.{Coherent, has_written, is_active, is_begun}
 use Rattle.sj_core.proofs.Reading.{idle_row, no_row, replica_in-no_row}
 use Rattle.sj_core.proofs.Advancing.{claimed-is_mine}
 use Rattle.sj_core.proofs.Replicas.{same_worker-refl}
+use Rattle.sj_core.proofs.Sums.{sum-nothing}
 
 all_same : {X : Type 0} (n i : ℕ) (a : X) → get_or (replicate n a) i a ≡ a
 all_same zero i a = refl
 all_same (suc n) zero a = refl
 all_same (suc n) (suc i) a = all_same n i a
-
-sum-zero : {X : Type 0} (f : X → ℕ) → ((x : X) → f x ≡ 0) → (a : ℕ) (xs : List X) → fold (λ b x. b + f x) a xs ≡ a
-sum-zero f none a [] = refl
-sum-zero f none a (x ∷ xs) = ap (λ b. fold (λ c y. c + f y) b xs) (let e = none x in omega arith) ∙ sum-zero f none a xs
 
 module _ (p : Program) (m : Machine) where
   waits : (t : Task) → progress (opening p m) t ≡ Waiting
@@ -63,10 +60,10 @@ module _ (p : Program) (m : Machine) where
   no_scratch w = ap (λ (row : WorkerState). row.scratch) (idle w)
 
   nothing_used : (n : Node) → used p m (opening p m) n ≡ 0
-  nothing_used n = search (arith, empty, sum-zero, no_scratch)
+  nothing_used n = search (arith, empty, sum-nothing, no_scratch)
 
   none_written : (c : Cell) → count_by (has_written p (opening p m) c) (tasks_of p) ≡ 0
-  none_written c = sum-zero (λ t. cond (has_written p (opening p m) c t) 1 0) (λ t. ap (λ x. cond (is_done x && has_cell (written_cells p t (done_by (opening p m) t)) c) 1 0) (waits t)) 0 (tasks_of p)
+  none_written c = sum-nothing (λ t. cond (has_written p (opening p m) c t) 1 0) (λ t. ap (λ x. cond (is_done x && has_cell (written_cells p t (done_by (opening p m) t)) c) 1 0) (waits t)) (tasks_of p)
 
   not_positive : (c : Cell) → 0 < writes (opening p m) c → ⊥
   not_positive c h = let e = unwritten c in omega arith

@@ -1,6 +1,6 @@
 -- What the accessors of a state give after one replica, or one worker's transfer, was written.
 use Rattle.std.proofs.Common.{Bool, List, None, Option, Some, ap, arith, cond, false, get_or, inl, inr, length, ltb, map, not, refl, set, subst, sym, true, ℕ, ◌<◌, ◌||◌, ◌∙◌, ◌≡◌, ◌≢◌, ◌⊎◌}
-use Rattle.std.proofs.lemmas.Bool.{cases_eq, cases_lt, false_from_ne_true, false≢true, ltb-false, not-true}
+use Rattle.std.proofs.lemmas.Bool.{cases_eq, cases_lt, false_from_ne_true, false≢true, ltb-false, not-true, or_right}
 use Rattle.std.proofs.lemmas.Bool.Decides.{Decides-eqb}
 use Rattle.std.proofs.lemmas.List.{get_or-set_other, get_or-set_same, get_or_past, length-set}
 use Rattle.std.proofs.lemmas.List.Elements.{All-set}
@@ -13,7 +13,7 @@ use Rattle.sj_core.proofs.Words.{Array, AtNode, Cell, CellState, DiskNo, Invalid
 use Rattle.sj_core.specs.Coherent.{HasRows, IsOwnedBy}
 use Rattle.sj_core.specs.Laws.{IsSound}
 use Rattle.sj_core.specs.Step.{places_of, same_place}
-use Rattle.sj_core.proofs.Reading.{idle_row, list_all-has, no_row, replica_in-no_row, same_node, workers_differ}
+use Rattle.sj_core.proofs.Reading.{idle_row, list_all-has, no_row, replica_in-no_row, same_node, workers_differ, list_any-numbered}
 use Rattle.sj_core.proofs.Replicas.{leaving_by-is}
 
 pub cells_differ : (c d : Cell) → (c ≡ d) ⊎ (c ≢ d)
@@ -128,11 +128,6 @@ valid-row s c q valid = search (arith, cases_lt, false≢true, get_or_past, no_r
 pub valid-within : (rs : List Replica) (k : ℕ) → is_valid (get_or rs k Invalid) ≡ true → k < length rs
 valid-within rs k valid = search (arith, cases_lt, false≢true, get_or_past)
 
-list_any-numbered : {X : Type 0} (f : ℕ → X) (test : X → Bool) (k n : ℕ) → k < n → test (f k) ≡ true → list_any test (map f (range_with_len 0 n)) ≡ true
-list_any-numbered f test k n inside passes =
-    let at_k = get_or-map-range_with_len f 0 n k k (f k) inside (omega arith) in
-    list_any_at test (map f (range_with_len 0 n)) k (f k) (omega (arith, inside, length-map-range_with_len f 0 n)) (ap test at_k ∙ passes)
-
 -- a test that the place of a valid replica passes is passed by some place of the machine
 pub list_any-place : (p : Program) (m : Machine) (s : State) → HasRows p m s → (test : Place → Bool) (c : Cell) (q : Place) → is_valid (replica s c q) ≡ true → test q ≡ true → list_any test (places_of m) ≡ true
 list_any-place p m s rows test c (AtNode n) valid passes =
@@ -144,11 +139,7 @@ list_any-place p m s rows test c (OnDisk d) valid passes =
     let node : ℕ → Place = λ k. AtNode (record { 0 = k }) in
     let disk : ℕ → Place = λ k. OnDisk (record { 0 = k }) in
     let within : d.0 < length m.disks = omega (arith, valid-within (cell_state s c).disks d.0 valid, rows.disks c.0 no_row (valid-row s c (OnDisk d) valid)) in
-    list_any-append test (map node (range_with_len 0 (length m.nodes))) (map disk (range_with_len 0 (length m.disks))) ∙ ap (λ b. list_any test (map node (range_with_len 0 (length m.nodes))) || b) (list_any-numbered disk test d.0 (length m.disks) within passes) ∙ or_true (list_any test (map node (range_with_len 0 (length m.nodes))))
-  where
-    or_true : (a : Bool) → (a || true) ≡ true
-    or_true true = refl
-    or_true false = refl
+    list_any-append test (map node (range_with_len 0 (length m.nodes))) (map disk (range_with_len 0 (length m.disks))) ∙ or_right (list_any test (map node (range_with_len 0 (length m.nodes)))) (list_any test (map disk (range_with_len 0 (length m.disks)))) (list_any-numbered disk test d.0 (length m.disks) within passes)
 
 -- ---- the first place that passes
 

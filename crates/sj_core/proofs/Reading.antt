@@ -6,7 +6,7 @@ use Rattle.std.proofs.lemmas.List.{get_or-set_other, get_or-set_same, get_or_pas
 use Rattle.std.proofs.lemmas.List.Folds.{list_any_at}
 use Rattle.std.proofs.lemmas.List.FromFn.{get_or-map-range_with_len, length-map-range_with_len}
 use Rattle.std.proofs.lemmas.List.Sums.{AllPass-from_list_all}
-use Rattle.std.specs.List.{list_all, list_any}
+use Rattle.std.specs.List.{list_all, list_any, range_with_len}
 use Rattle.std.specs.Prelude.{if◌then◌else◌}
 use Rattle.sj_core.proofs.Words.{AtNode, Cell, CellState, Invalid, Machine, Node, OnDisk, Place, Progress, Replica, State, Task, Transfer, Waiting, Worker, WorkerState, cell_state, has_cell, is_entry, is_leaving, moves, progress, replica, replica_in, same_cell, transfer, with_cells, with_progress, with_replica_in, with_worker, worker_state, workers_of}
 use Rattle.sj_core.specs.Step.{none_leaving}
@@ -102,13 +102,14 @@ list_all-has test [] c all h = absurd (false≢true h)
 list_all-has test (d ∷ cs) c all h = by_cases (test d) (same_cell d c) refl refl all h (list_all-has test cs c)
   where
     by_cases : (a b : Bool) → test d ≡ a → same_cell d c ≡ b → (a && list_all test cs) ≡ true → (b || has_cell cs c) ≡ true → (list_all test cs ≡ true → has_cell cs c ≡ true → test c ≡ true) → test c ≡ true
-    by_cases false b passes same all h rest = absurd (false≢true all)
-    by_cases true true passes same all h rest = ap test (sym (same_cell-is d c same)) ∙ passes
-    by_cases true false passes same all h rest = rest all h
+    by_cases a b passes same all h rest = search (arith, false≢true, same_cell-is)
+
+-- a test that one of numbered elements passes is passed by some
+pub list_any-numbered : {X : Type 0} (f : ℕ → X) (test : X → Bool) (k n : ℕ) → k < n → test (f k) ≡ true → list_any test (map f (range_with_len 0 n)) ≡ true
+list_any-numbered f test k n inside passes =
+    let at_k = get_or-map-range_with_len f 0 n k k (f k) inside (omega arith) in
+    list_any_at test (map f (range_with_len 0 n)) k (f k) (omega (arith, inside, length-map-range_with_len f 0 n)) (ap test at_k ∙ passes)
 
 -- some worker of the machine passes a test that this one passes
 pub list_any-worker : (test : Worker → Bool) (m : Machine) (w : Worker) → w.0 < m.workers → test w ≡ true → list_any test (workers_of m) ≡ true
-list_any-worker test m w h passes =
-    let number : ℕ → Worker = λ n. record { 0 = n } in
-    let at_w : get_or (workers_of m) w.0 w ≡ w = get_or-map-range_with_len number 0 m.workers w.0 w.0 w h (omega arith) in
-    list_any_at test (workers_of m) w.0 w (omega (arith, length-map-range_with_len number 0 m.workers)) (ap test at_w ∙ passes)
+list_any-worker test m w h passes = list_any-numbered (λ n. record { 0 = n }) test w.0 m.workers h passes

@@ -6,9 +6,7 @@ use Rattle.sj_core.specs.Legal.{Leads, Replays, IsComplete}
 use Rattle.sj_core.specs.Proper.{Proper, IsMachineFor}
 use Rattle.sj_core.specs.Coherent.{Coherent}
 use Rattle.sj_core.specs.Laws.{IsLawful, IsSound, HoldsFinal}
-use Rattle.sj_core.proofs.Dropping.{Drops-keeps_coherence}
-use Rattle.sj_core.proofs.Moving.{Moves_in-keep_coherence, Moves_out-keep_coherence}
-use Rattle.sj_core.proofs.Arriving.{Ended_moves-keep_coherence}
+use Rattle.sj_core.proofs.Moving.{Drops-keeps_coherence, Moves_in-keep_coherence, Moves_out-keep_coherence, Ended_moves-keep_coherence}
 use Rattle.sj_core.proofs.Coherence.{Claims-keeps_coherence, Runs-keeps_coherence, Lawful_ends-keep_coherence}
 use Rattle.sj_core.proofs.Given.{complete-final}
 use Rattle.sj_core.proofs.Opening.{opening-coherent}

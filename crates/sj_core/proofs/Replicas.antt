@@ -15,16 +15,12 @@ pub coming_by-is : (w : Worker) (r : Replica) → is_coming_by w r ≡ true → 
 coming_by-is w r h = search (arith, false≢true, same_worker-is)
 
 pub leaving_by-is : (w : Worker) (r : Replica) → is_leaving_by w r ≡ true → (a : Array) × (r ≡ Leaving w a)
-leaving_by-is w Invalid h = absurd (false≢true h)
-leaving_by-is w (Coming v) h = absurd (false≢true h)
-leaving_by-is w (Valid a) h = absurd (false≢true h)
 leaving_by-is w (Leaving v a) h = (a, ap (λ (u : Worker). Leaving u a) (same_worker-is v w h))
+leaving_by-is w r h = absurd (false≢true h)
 
 pub leaving-by_some : (r : Replica) → is_leaving r ≡ true → (w : Worker) × (is_leaving_by w r ≡ true)
-leaving-by_some Invalid h = absurd (false≢true h)
-leaving-by_some (Coming v) h = absurd (false≢true h)
-leaving-by_some (Valid a) h = absurd (false≢true h)
 leaving-by_some (Leaving v a) h = (v, same_worker-refl v)
+leaving-by_some r h = absurd (false≢true h)
 
 -- an entry comes or is valid, and doesn't leave
 pub entry-cases : (r : Replica) → is_entry r ≡ true → ((w : Worker) × (r ≡ Coming w)) ⊎ ((a : Array) × (r ≡ Valid a))

@@ -233,10 +233,7 @@ module _ (p : Program) (m : Machine) (s : State) (h : IsSound p m s) (t : Task) 
   }
     where
       run-writes : (c : Cell) → writes s' c ≡ writes s c
-      run-writes c = ap (λ (z : State). writes z c) run.leaves ∙ elim (cells-renewed_or s (λ d row. if has_cell (written_cells p t w) d then owned_at (node_of m w) (initial p s t w (node_of m w) d) row else row) c) [
-        | inl row ↦ ap (λ (r : CellState). r.writes) row ∙ cond_both (has_cell (written_cells p t w) c) (owned_at (node_of m w) (initial p s t w (node_of m w) c) (cell_state s c)) (cell_state s c) (λ (r : CellState). r.writes ≡ writes s c) (λ b. refl) (λ b. refl)
-        | inr none ↦ ap (λ (r : CellState). r.writes) (none.1 ∙ sym none.0)
-      ]
+      run-writes c = (search (arith, cells-renewed_or, cond_both))
 
   -- ---- contents
 

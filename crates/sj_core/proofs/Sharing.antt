@@ -14,7 +14,7 @@ use Rattle.sj_core.proofs.Words.{Access, Cell, CellInfo, Codelet, Commute, Commu
 use Rattle.sj_deps.specs.Conflict.{Conflict, HasDependencies, IsShared, SameGroup, Uses, copies_of, usage, usages, usages_of}
 use Rattle.sj_core.specs.Proper.{NamesCells, access}
 use Rattle.sj_core.proofs.Modes.{written_isn't_scratch}
-use Rattle.sj_core.proofs.Readiness.{Contains-filter, Contains-from_filter, filter-Contains, list_any-some, list_any-map}
+use Rattle.sj_core.proofs.Readiness.{Contains-filter, Contains-from_filter, filter-Contains, list_any-some, list_any-map, Contains-map}
 use Rattle.sj_core.proofs.Reading.{same_cell-is}
 
 -- ---- an operand behind a cell
@@ -76,9 +76,6 @@ operand-uses p t v CommuteMode d inside h accessed copies = used_by_operand p t 
 operand-uses p t v Redux d inside h accessed copies =
     let c = copies refl in
     used_by_operand p t (access Redux d) (usage Contribute (copy_of p d v).0) inside h (Contains-map (usage Contribute) (copies_of p d.0) (copy_of p d v).0 (copy-among p d c.2.0 v c.1 c.2.1 c.0))
-  where
-    Contains-map : {X Y : Type 0} (f : X → Y) (xs : List X) (x : X) → Contains xs x → Contains (map f xs) (f x)
-    Contains-map f xs x (k, l, e) = (k, omega (arith, length-map xs f), get_or-map f xs k x (f x) l ∙ ap f e)
 
 -- ---- two tasks and one cell
 

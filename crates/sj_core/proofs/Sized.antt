@@ -97,9 +97,7 @@ loaded args ins h k = search (arith, get_or-map, none, length-map, nat_tests)
 
 -- the new arrays of a codelet are tiles where its operands are
 pub new_arrays-tiles : (k : Kernel) (args : List ℤ) (ins : List Array) → All IsLong args → IsTrue (fits k args (map (λ a. a.dims) ins)) → All IsTile ins → All IsTile (new_arrays k args ins)
-new_arrays-tiles Fill args ins ha f h = one _ (tile (operand ins 0).dims _ (λ p. wrap-long _))
 new_arrays-tiles Copy args ins ha f h = one _ (operand-tile ins h 0)
-new_arrays-tiles Scale args ins ha f h = one _ (tile (operand ins 0).dims _ (λ p. wrap-long _))
 new_arrays-tiles Add args ins ha f h = one _ (tile (operand ins 1).dims _ (λ p. wrap-long _))
 new_arrays-tiles Axpy args ins ha f h = one _ (tile (operand ins 1).dims _ (λ p. wrap-long _))
 new_arrays-tiles Butterfly args ins ha f h = search (arith, All-cons, tile, wrap-long, one)
@@ -115,7 +113,6 @@ new_arrays-tiles FwDiag args ins ha f h = one _ (turns-tile (operand ins 0).dims
 new_arrays-tiles FwRow args ins ha f h = one _ (turns-tile (operand ins 0).dims.rows _ (operand ins 1) (operand-tile ins h 1) (λ k m hm. lesser-tile m hm (λ i j. plus (element (operand ins 0) i k) (element m k j)) (λ i j. plus-long (element (operand ins 0) i k) (element m k j))))
 new_arrays-tiles FwCol args ins ha f h = one _ (turns-tile (operand ins 0).dims.rows _ (operand ins 1) (operand-tile ins h 1) (λ k m hm. lesser-tile m hm (λ i j. plus (element m i k) (element (operand ins 0) k j)) (λ i j. plus-long (element m i k) (element (operand ins 0) k j))))
 new_arrays-tiles Load args ins ha f h = one _ (loaded args ins ha f)
-new_arrays-tiles LoadFill args ins ha f h = one _ (tile (operand ins 0).dims _ (λ p. wrap-long _))
 new_arrays-tiles Paste args ins ha f h = one _ (tile (operand ins 1).dims _ (λ p. by_place _ _ _ (element-long (operand ins 0) (operand-tile ins h 0) _ _) (at-long (operand ins 1) (operand-tile ins h 1) _)))
   where
     by_place : (b : Bool) (x y : ℤ) → IsLong x → IsLong y → IsLong (if b then x else y)
@@ -124,6 +121,7 @@ new_arrays-tiles Paste args ins ha f h = one _ (tile (operand ins 1).dims _ (λ 
 new_arrays-tiles Deliver args ins ha f h = All-nil IsTile
 new_arrays-tiles InitPlus args ins ha f h = one _ (zeros-tile (operand ins 0).dims)
 new_arrays-tiles InitLeast args ins ha f h = one _ (tile (operand ins 0).dims _ (λ p. inf-long))
+new_arrays-tiles k args ins ha f h = one _ (tile (operand ins 0).dims _ (λ p. wrap-long _))
 
 -- ---- after any tasks of a proper program each cell holds a tile of its own dimensions
 

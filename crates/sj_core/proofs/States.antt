@@ -40,9 +40,8 @@ stays x y same = search (arith, one, is_started)
 
 -- what a step of the task t says of the task u: the numbers are by whether u is t
 takes-by : (s s' : State) (t u : Task) (old new : Progress) (claims runs ends : Bool → ℕ) → Advances s s' t old new → Takes old new (claims true) (runs true) (ends true) → claims false ≡ 0 → runs false ≡ 0 → ends false ≡ 0 → (same : Bool) → nat_eq t.0 u.0 ≡ same → Takes (progress s u) (progress s' u) (claims same) (runs same) (ends same)
-takes-by s s' t u old new claims runs ends a takes no_claim no_run no_end true h = search (arith, Decides-eqb)
-takes-by s s' t u old new claims runs ends a takes no_claim no_run no_end false h =
-    search (arith, false≢true, Decides-eqb, stays)
+takes-by s s' t u old new claims runs ends a takes no_claim no_run no_end x h =
+    search (arith, Decides-eqb, false≢true, stays)
 
 abbrev none : Bool → ℕ
 none same = 0
@@ -57,8 +56,7 @@ step-takes p m s s' (End t w) u rows step =
     takes-by s s' t u (Running w) (Done w) none none one (Ends-advances p m s t w s' step) (record { begun = refl; started = refl; done = refl }) refl refl refl (nat_eq t.0 u.0) refl
 step-takes p m s s' (Move c from (AtNode n)) u rows step = stays (progress s u) (progress s' u) (ap (λ (z : State). progress z u) step.leaves)
 step-takes p m s s' (Move c from (OnDisk d)) u rows step = stays (progress s u) (progress s' u) (ap (λ (z : State). progress z u) step.leaves)
-step-takes p m s s' (Moved c from to) u rows step = stays (progress s u) (progress s' u) (ap (λ (z : State). progress z u) step.leaves)
-step-takes p m s s' (Drop c n) u rows step = stays (progress s u) (progress s' u) (ap (λ (z : State). progress z u) step.leaves)
+step-takes p m s s' e u rows step = stays (progress s u) (progress s' u) (ap (λ (z : State). progress z u) step.leaves)
 
 -- each step keeps a row for each task
 pub step-rows : (p : Program) (m : Machine) (s s' : State) (e : Event) → Step p m s e s' → length s'.tasks ≡ length s.tasks
@@ -118,10 +116,7 @@ pub Step-after : (p : Program) (m : Machine) (s s' : State) (e : Event) → Step
 Step-after p m s s' (Claim t w) step = step.leaves ∙ ap (λ (o : Option (List Cell)). after_claim p m s t w (unwrap_or o [])) (sym step.chosen)
 Step-after p m s s' (Move c from (AtNode n)) step = step.leaves
 Step-after p m s s' (Move c from (OnDisk d)) step = step.leaves
-Step-after p m s s' (Moved c from to) step = step.leaves
-Step-after p m s s' (Drop c n) step = step.leaves
-Step-after p m s s' (Run t w) step = step.leaves
-Step-after p m s s' (End t w) step = step.leaves
+Step-after p m s s' e step = step.leaves
 
 -- in a coherent state the worker of a transfer is the one by whose claim its cell comes or leaves
 pub one-mover : (p : Program) (m : Machine) (s : State) (c : Cell) (from to : Place) (w : Worker) → Coherent p m s → transfer s w ≡ Some (a_transfer c from to) → w ≡ mover_of s c from to

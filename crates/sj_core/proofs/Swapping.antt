@@ -131,13 +131,8 @@ module _ (p : Program) (proper : Proper p) (arguments : All (λ l. All (FitsSign
 
     -- tasks that may change places leave the same in either order
     pub swapped : AreSized p before → MaySwap t u w v → (c : Cell) → held_in p (after_task p v u (after_task p w t before)) c ≡ held_in p (after_task p w t (after_task p v u before)) c
-    swapped sized (Apart free free') c = elim (cases_Bool (has_cell (written_cells p t w) c)) [
-      | inl e ↦ apart-half t u w v free free' c e
-      | inr e ↦ elim (cases_Bool (has_cell (written_cells p u v) c)) [
-        | inl f ↦ sym (apart-half u t v w free' free c f)
-        | inr f ↦ apart-neither c e f
-      ]
-    ]
+    swapped sized (Apart free free') c =
+        grind (arith, cases_Bool (has_cell (written_cells p t w) c), cases_Bool (has_cell (written_cells p u v) c), apart-half, apart-neither)
     swapped sized (Together d x y exchange) c = elim (cases_Bool (same_cell d c)) [
       | inl e ↦ subst (λ (k : Cell). held_in p (after_task p v u (after_task p w t before)) k ≡ held_in p (after_task p w t (after_task p v u before)) k) (same_cell-is d c e) (together sized d x y exchange)
       | inr e ↦ apart-neither c (ap (λ (cs : List Cell). has_cell cs c) x.written ∙ ap (λ b. b || false) e) (ap (λ (cs : List Cell). has_cell cs c) y.written ∙ ap (λ b. b || false) e)
@@ -162,13 +157,7 @@ module _ (p : Program) (proper : Proper p) (arguments : All (λ l. All (FitsSign
 
         own : n ≡ t.0 → held_in p (after_chosen p chosen' by' (suc n)) c ≡ held_in p (after_task p w t (after_chosen p chosen by (suc n))) c
         own e =
-            let is : number n ≡ t = ap number e in
-            let same : after_chosen p chosen' by' n ≡ after_chosen p chosen by n = after_chosen-same p chosen' chosen by' by n (λ u h. adds.others u (differ u (λ f. (omega (arith, f, e))))) (λ u h k. adds.workers u (differ u (λ f. (omega (arith, f, e))))) in
-            ap (λ b. held_in p (cond b (after_task p (by' (number n)) (number n) (after_chosen p chosen' by' n)) (after_chosen p chosen' by' n)) c) (ap chosen' is ∙ adds.present)
-            ∙ ap (λ (k : Task). held_in p (after_task p (by' k) k (after_chosen p chosen' by' n)) c) is
-            ∙ ap (λ (x : Worker). held_in p (after_task p x t (after_chosen p chosen' by' n)) c) adds.worker
-            ∙ ap (λ (x : Contents). held_in p (after_task p w t x) c) same
-            ∙ ap (λ b. held_in p (after_task p w t (cond b (after_task p (by (number n)) (number n) (after_chosen p chosen by n)) (after_chosen p chosen by n))) c) (sym (ap chosen is ∙ adds.absent))
+            (search (arith, number, after_chosen-same, differ))
 
         later : t.0 < n → ((d : Cell) → held_in p (after_chosen p chosen' by' n) d ≡ held_in p (after_task p w t (after_chosen p chosen by n)) d) → held_in p (after_chosen p chosen' by' (suc n)) c ≡ held_in p (after_task p w t (after_chosen p chosen by (suc n))) c
         later before rest =

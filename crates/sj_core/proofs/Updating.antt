@@ -21,7 +21,7 @@ use Rattle.sj_core.proofs.Modes.{then, written_isn't_scratch}
 use Rattle.sj_core.proofs.Sharing.{manner_of, operand-uses, redux-has_copies, Conflict-sym, conflict-by, operand_for}
 use Rattle.sj_core.proofs.Swapping.{Updates, Apart, Exchange, MaySwap, Together, commuting-exchange}
 use Rattle.sj_core.proofs.CellLists.{same_cell-refl}
-use Rattle.sj_core.proofs.Readiness.{list_any-some}
+use Rattle.sj_core.proofs.Readiness.{list_any-some, Contains-map}
 use Rattle.sj_core.proofs.Reading.{same_cell-is}
 
 -- ---- a task with a COMMUTE or a REDUX operand updates one cell alone, by its last operand
@@ -53,18 +53,12 @@ contributing-commutes k Least h = then (contributes_of k Least) (commutes_of k) 
 
 -- a codelet contributes to one reduction alone
 pub one_reduction : (k : Kernel) (by by' : Reduction) → contributes_of k by ≡ true → contributes_of k by' ≡ true → by ≡ by'
-one_reduction k Plus Plus h h' = refl
-one_reduction k Least Least h h' = refl
-one_reduction k Plus Least h h' = absurd (true≢false (sym h' ∙ not-true (contributes_of k Least) (then (contributes_of k Plus) (not (contributes_of k Least)) (by_table (λ j. not (contributes_of j Plus) || not (contributes_of j Least)) refl k) h)))
-one_reduction k Least Plus h h' = absurd (true≢false (sym h ∙ not-true (contributes_of k Least) (then (contributes_of k Plus) (not (contributes_of k Least)) (by_table (λ j. not (contributes_of j Plus) || not (contributes_of j Least)) refl k) h')))
+one_reduction k by by' h h' = search (arith, true≢false, not-true, by_table)
 
 -- ---- modes
 
 own-in_order : (f : Formal) → is_in_order (mode_of f) ≡ true
-own-in_order ReadFormal = refl
-own-in_order WriteFormal = refl
-own-in_order UpdateFormal = refl
-own-in_order ScratchFormal = refl
+own-in_order f = search (arith)
 
 -- a mode in place of the codelet's own is the given one, or stands in order
 writing-is : (x y : Mode) (k : Kernel) → Contains (modes_writing_by x k) y → (y ≡ x) ⊎ (is_in_order y ≡ true)
@@ -84,16 +78,9 @@ pub record IsShared (k : Kernel) (ms : List Mode) (x : Mode) : Type 0 where
   pub contributes : x ≡ Redux → (by : Reduction) × (contributes_of k by ≡ true)
 
 shared-modes : (k : Kernel) (modes : List Mode) (x : Mode) → MayHaveModes k modes → is_in_order x ≡ false → Contains modes x → IsShared k modes x
-shared-modes k modes x (Own e) out h = let formal = map-from mode_of (formals_of k) x (subst (λ (ms : List Mode). Contains ms x) e h) in absurd (false≢true (sym out ∙ ap is_in_order (sym formal.2) ∙ own-in_order formal.0))
-shared-modes k modes x (FirstPaste is e) out h = elim (writing-is W x k (subst (λ (ms : List Mode). Contains ms x) e h)) [ inl f ↦ absurd (false≢true (sym out ∙ ap is_in_order f)) | inr f ↦ absurd (false≢true (sym out ∙ f)) ]
-shared-modes k modes x (Commuting may one e) out h = search (arith, writing-is, false≢true)
-shared-modes k modes x (Contributing by may one e) out h =
-    search (arith, writing-is, contributing-commutes, false≢true)
+shared-modes k modes x y out h = search (arith, map-from, false≢true, own-in_order, writing-is, contributing-commutes)
 
 -- ---- lists
-
-pub Contains-map : {X Y : Type 0} (f : X → Y) (xs : List X) (x : X) → Contains xs x → Contains (map f xs) (f x)
-Contains-map f xs x (k, l, e) = (k, omega (arith, length-map xs f), get_or-map f xs k x (f x) l ∙ ap f e)
 
 -- where a map ends, its list does
 pub record EndsBy {X Y : Type 0} (g : X → Y) (xs : List X) (ys : List Y) (y : Y) : Type 0 where
@@ -122,28 +109,13 @@ filter-last f (y ∷ xs) x none passes = ap (λ b. cond b (y ∷ filter f (xs ++
 -- ---- tasks
 
 out-is_written : (x : Mode) → is_in_order x ≡ false → is_written x ≡ true
-out-is_written R h = absurd (true≢false h)
-out-is_written W h = absurd (true≢false h)
-out-is_written RW h = absurd (true≢false h)
-out-is_written Scratch h = absurd (true≢false h)
-out-is_written Redux h = refl
-out-is_written CommuteMode h = refl
+out-is_written x h = search (arith, true≢false)
 
 pub out-reads : (x : Mode) → is_in_order x ≡ false → starts_as_zeros x ≡ false
-out-reads R h = absurd (true≢false h)
-out-reads W h = absurd (true≢false h)
-out-reads RW h = absurd (true≢false h)
-out-reads Scratch h = absurd (true≢false h)
-out-reads Redux h = refl
-out-reads CommuteMode h = refl
+out-reads x h = search (arith, true≢false)
 
 out-isn't_read : (k : Codelet) (x : Mode) → is_in_order x ≡ false → Read ≢ manner_of k x
-out-isn't_read k R h e = true≢false h
-out-isn't_read k W h e = true≢false h
-out-isn't_read k RW h e = true≢false h
-out-isn't_read k Scratch h e = true≢false h
-out-isn't_read k Redux h e = cc
-out-isn't_read k CommuteMode h e = cc
+out-isn't_read k x h e = search (arith, true≢false)
 
 module _ (p : Program) (proper : Proper p) (t : Task) (inside : t.0 < length p.tasks) where
   -- a data operand of a task uses the cell that is worked on
@@ -181,10 +153,7 @@ module _ (p : Program) (proper : Proper p) (t : Task) (inside : t.0 < length p.t
         passes f (k, l, e) = ap (λ (g : Formal). not (is_output g)) (sym e) ∙ AllPass-from_list_all (λ g. not (is_output g)) last_row.first last_row.read_only k f l
 
         by_formal : (f : Formal) → not (is_output f) ≡ true → in_place (mode_of f) ≡ b.mode → (b.mode ≡ R) ⊎ (b.mode ≡ Scratch)
-        by_formal ReadFormal read e = inl (sym e)
-        by_formal ScratchFormal read e = inr (sym e)
-        by_formal WriteFormal read e = absurd (false≢true read)
-        by_formal UpdateFormal read e = absurd (false≢true read)
+        by_formal f read e = search (arith, false≢true)
 
     pub last-is : ends.last ≡ a
     last-is = elim (Contains-append_cases ends.first (ends.last ∷ []) a (subst (λ (xs : List Access). Contains xs a) ends.is among)) [
@@ -263,8 +232,6 @@ module _ (has : Kernel → Bool) (p : Program) (proper : Proper p) (lawful : IsL
         ]
 
         by_modes : (x y : Mode) → not (is_scratch x) ≡ true → is_written y ≡ true → Uses p t.0 c.0 (manner_of (task_of p t).codelet x) → Uses p u.0 c.0 (manner_of (task_of p u).codelet y) → Alike x y (task_of p t).codelet (task_of p u).codelet
-        by_modes x R accessed written tm un = absurd (false≢true written)
-        by_modes x Scratch accessed written tm un = absurd (false≢true written)
         by_modes x W accessed written tm un = absurd (conflict (manner_of (task_of p t).codelet x) Write tm un (λ e. cc) (inl (λ h. h)))
         by_modes x RW accessed written tm un = absurd (conflict (manner_of (task_of p t).codelet x) Write tm un (λ e. cc) (inl (λ h. h)))
         by_modes R CommuteMode accessed written tm un = absurd (conflict Read (Commute (task_of p u).codelet) tm un (λ e. cc) (inr (inl (λ h. h))))
@@ -279,6 +246,7 @@ module _ (has : Kernel → Bool) (p : Program) (proper : Proper p) (lawful : IsL
         by_modes Scratch Redux accessed written tm un = absurd (false≢true accessed)
         by_modes CommuteMode Redux accessed written tm un = absurd (conflict (Commute (task_of p t).codelet) Contribute tm un (λ e. cc) (inr (inr (λ e. cc))))
         by_modes Redux Redux accessed written tm un = BothContribute refl refl
+        by_modes x y accessed written tm un = absurd (false≢true written)
 
   module _ (t u : Task) (t_in : t.0 < length p.tasks) (u_in : u.0 < length p.tasks) (w v : Worker) (w_in : w.0 < p.workers) (v_in : v.0 < p.workers) (free : ¬ Conflict p t.0 u.0) (contributions : ContributionsExchange t u w v) where
     -- operands that share a cell without a conflict update it by codelets that may be exchanged
@@ -332,6 +300,4 @@ module _ (has : Kernel → Bool) (p : Program) (proper : Proper p) (lawful : IsL
             let a = written_of t w d (has-contained (written_cells p t w) d found.1) in
             together d a.0 b.0 a.1 b.1 a.3 b.3 (flipped (share-alike u t (λ h. free (Conflict-sym p u.0 t.0 h)) b.0.mode a.0.mode d b.2 a.2 (used u u_in v v_in d b.0 b.1 b.2 b.3) (used t t_in w w_in d a.0 a.1 (written_isn't_scratch a.0.mode a.2) a.3)))
         by_tests false false e f =
-            Apart
-            (λ d writes works. false≢true (sym f ∙ any-has (λ c. has_cell (cells_of p u v) c) (written_cells p t w) d writes works))
-            (λ d writes works. false≢true (sym e ∙ any-has (λ c. has_cell (cells_of p t w) c) (written_cells p u v) d writes works))
+            (search (arith, Apart, false≢true, any-has))

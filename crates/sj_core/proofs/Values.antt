@@ -22,17 +22,14 @@ use Rattle.sj_core.proofs.Dependencies.{Proper-dependencies}
 use Rattle.sj_core.proofs.Readiness.{Contains-filter, list_any-some}
 use Rattle.sj_core.proofs.Reading.{same_cell-is}
 use Rattle.sj_core.proofs.Sharing.{manner_of, operand-has_cell, operand-uses, operand_for, redux-has_copies, write_isn't_read}
+use Rattle.sj_core.proofs.Sums.{sum_by-map, sum-agree}
 
 -- ---- a task's codelet has a new array for each operand that the task writes
 
 -- a test counts as many after a map under which it answers the same
 count_by-map : {X Y : Type 0} (f : X → Y) (test : Y → Bool) (test' : X → Bool) (xs : List X) → ((x : X) → test (f x) ≡ test' x) → count_by test (map f xs) ≡ count_by test' xs
-count_by-map f test test' [] same = refl
-count_by-map f test test' (x ∷ xs) same =
-    sum_by-cons (λ y. cond (test y) 1 0) (f x) (map f xs)
-    ∙ ap (λ b. cond b 1 0 + count_by test (map f xs)) (same x)
-    ∙ ap (λ n. cond (test' x) 1 0 + n) (count_by-map f test test' xs same)
-    ∙ sym (sum_by-cons (λ y. cond (test' y) 1 0) x xs)
+count_by-map f test test' xs same =
+    sum_by-map (λ y. cond (test y) 1 0) f xs ∙ sum-agree (λ x. cond (test (f x)) 1 0) (λ x. cond (test' x) 1 0) (λ x. ap (λ b. cond b 1 0) (same x)) xs
 
 -- a kernel has a new array for each of its own operands that is written
 own-count : (k : Kernel) (args : List ℤ) (ins : List Array) → length (new_arrays k args ins) ≡ count_by is_written (own_modes k)
@@ -76,9 +73,6 @@ module _ (p : Program) (proper : Proper p) (s : State) (t : Task) (w : Worker) (
   -- a task that gives the cell a value commutes there, or writes it by itself, whatever its worker
   giver : (u : Task) → u.0 < length p.tasks → (x : Mode) (d : Cell) → Contains (task_of p u).accesses (access x d) → (is_written x && not (is_redux x) && same_cell d c) ≡ true →
       ((x ≡ CommuteMode) × (d ≡ c)) ⊎ (Uses p u.0 c.0 Write × ((v : Worker) → has_cell (written_cells p u v) c ≡ true))
-  giver u u_in R d has passes = absurd (false≢true passes)
-  giver u u_in Scratch d has passes = absurd (false≢true passes)
-  giver u u_in Redux d has passes = absurd (false≢true passes)
   giver u u_in CommuteMode d has passes = inl (refl, same_cell-is d c passes)
   giver u u_in W d has passes =
       let same = same_cell-is d c passes in
@@ -92,6 +86,7 @@ module _ (p : Program) (proper : Proper p) (s : State) (t : Task) (w : Worker) (
         subst (λ (q : Cell). Uses p u.0 q.0 Write) same (operand-uses p u w RW d u_in has refl (λ e. absurd (false≢true e))),
         λ v. operand-has_cell (worked_on p v) (λ a. is_written a.mode) (task_of p u).accesses (access RW d) c has refl passes,
       )
+  giver u u_in d' d has passes = absurd (false≢true passes)
 
   -- some done task wrote a cell that had a value before a task that uses it
   wrote : (n : Manner) → Uses p t.0 c.0 n → (bound : ℕ) (u : Task) → u.0 < bound → u.0 < t.0 → gives_value (task_of p u) c ≡ true → (v : Task) × (v.0 < t.0) × (has_written p s c v ≡ true)
@@ -106,9 +101,7 @@ module _ (p : Program) (proper : Proper p) (s : State) (t : Task) (w : Worker) (
           let done = earlier u before (conflicts u n by_itself uses) in
           (u, before, ap (λ b. b && has_cell (written_cells p u (done_by s u)) c) done ∙ written (done_by s u))
       by_giver a has (inl (commutes, same)) later =
-          let reads : reads_value a.mode ≡ true = ap reads_value commutes in
-          let value = All-contains (λ (b : Access). IsTrue (reads_value b.mode) → HasValueBefore p u b.cell) (task_of p u).accesses a (proper.values.cells u) has reads in
-          later value.0 (omega (arith, value.1, below)) (omega (arith, value.1, before)) (subst (λ (q : Cell). gives_value (task_of p value.0) q ≡ true) same value.2)
+          (search (arith, All-contains))
 
   -- a cell of the task that it doesn't find as zeros had a value before it, and is used by it
   old_value : has_cell (cells_of p t w) c ≡ true → has_cell (fresh_cells p t w) c ≡ false → HasValueBefore p t c × ((n : Manner) × Uses p t.0 c.0 n)
@@ -140,8 +133,5 @@ module _ (p : Program) (proper : Proper p) (s : State) (t : Task) (w : Worker) (
       let one : Task → ℕ = λ u. cond (has_written p s c u) 1 0 in
       let at_found : get_or (tasks_of p) found.0.0 found.0 ≡ found.0 = get_or-map-range_with_len number 0 (length p.tasks) found.0.0 found.0.0 found.0 (omega (arith, found.1, inside)) (omega arith) in
       let is_one : one (get_or (tasks_of p) found.0.0 found.0) ≡ 1 = ap one at_found ∙ ap (λ b. cond b 1 0) found.2 in
-      omega (
-        arith,
-        get_or-le-sum_by one (tasks_of p) found.0.0 found.0 (omega (arith, found.1, inside, length-map-range_with_len number 0 (length p.tasks))),
-        counts.counted c,
-      )
+      let all = get_or-le-sum_by one (tasks_of p) found.0.0 found.0 (omega (arith, found.1, inside, length-map-range_with_len number 0 (length p.tasks))) in
+      omega (arith, counts.counted c)

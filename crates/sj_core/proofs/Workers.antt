@@ -57,20 +57,10 @@ step-same p proper t inside w before before' c reads other = elim (cases_Bool (h
 -- ---- conflicts
 
 written-isn't_read : (k : Codelet) (x : Mode) → is_written x ≡ true → Read ≢ manner_of k x
-written-isn't_read k R h e = false≢true h
-written-isn't_read k W h e = cc
-written-isn't_read k RW h e = cc
-written-isn't_read k Scratch h e = false≢true h
-written-isn't_read k Redux h e = cc
-written-isn't_read k CommuteMode h e = cc
+written-isn't_read k x h e = search (arith, false≢true)
 
 in_order-unshared : (k : Codelet) (x : Mode) → is_in_order x ≡ true → IsShared (manner_of k x) → ⊥
-in_order-unshared k R h s = s
-in_order-unshared k W h s = s
-in_order-unshared k RW h s = s
-in_order-unshared k Scratch h s = s
-in_order-unshared k Redux h s = false≢true h
-in_order-unshared k CommuteMode h s = false≢true h
+in_order-unshared k x h s = search (arith, false≢true)
 
 module _ (p : Program) (proper : Proper p) where
   -- a task with an access in order conflicts with each that writes its cell
@@ -202,18 +192,14 @@ module _ (has : Kernel → Bool) (p : Program) (proper : Proper p) (lawful : IsL
         by_kind b.0 b.1 b.3 (operand-at b.0 b.1 b.2 (inl b.3))
       where
         by_kind : (b : Access) → Contains (task_of p (number n)).accesses b → worked_on p v b ≡ c → AtWork p proper f phase has_copies n v b → (x : Worker) × (x.0 < p.workers) × (n ≡ get_or f.combines x.0 0)
-        by_kind b h is (Contribution own redux same) = absurd (copy-bare p proper c has_copies v v_in c has_copies (sym (works-on (number n) (operand-inside p (number n) b h) v v_in b h redux same) ∙ is))
-        by_kind b h is (OfCopy x x_in at e) = absurd (copy-bare p proper c has_copies x x_in c has_copies (sym (ap (worked_on p v) e) ∙ is))
-        by_kind b h is (OfCell x x_in at e) = (x, x_in, at)
+        by_kind b h is x = search (arith, copy-bare, c, has_copies, works-on, number, operand-inside)
 
     -- a contribution reads no copy by another operand
     reads-none : Contains f.contributions n → (b : Access) → Contains (task_of p (number n)).accesses b → starts_as_zeros b.mode ≡ false → is_redux b.mode ≡ false → (y : Worker) → y.0 < p.workers → b.cell ≢ copy_of p c y
     reads-none own b h reads direct y y_in e = by_kind (operand-at b h (reads_isn't_scratch b.mode reads) (inr (y, y_in, direct-cell p v b direct ∙ e)))
       where
         by_kind : AtWork p proper f phase has_copies n v b → ⊥
-        by_kind (Contribution contributes redux same) = true≢false (sym (ap is_redux redux) ∙ direct)
-        by_kind (OfCopy x x_in at f) = omega (arith, combine-after p proper (contributes p proper t a among redux).phase phase x x_in n own, at)
-        by_kind (OfCell x x_in at f) = omega (arith, combine-after p proper (contributes p proper t a among redux).phase phase x x_in n own, at)
+        by_kind x = search (arith, true≢false, combine-after, contributes, phase)
 
     -- what a contribution writes is its copy alone
     writes-only : (b : Access) (h : Contains (task_of p (number n)).accesses b) (redux' : b.mode ≡ Redux) (same : b.cell ≡ c) (own : Contains f.contributions n) (d : Cell) → has_cell (written_cells p (number n) v) d ≡ true → copy_of p c v ≡ d
@@ -393,10 +379,8 @@ module _ (has : Kernel → Bool) (p : Program) (proper : Proper p) (lawful : IsL
     merge-spares before d differ = update-spares p proper lawful.arguments (number n) n-inside v v_in c (merge has p proper lawful f phase has_copies y y_in (number n) n-inside is-combine v v_in) before d differ
 
     merge-writes : (d : Cell) → has_cell (written_cells p (number n) v) d ≡ true → d ≡ c
-    merge-writes d writes = elim (cases_Bool (same_cell c d)) [
-      | inl e ↦ sym (same_cell-is c d e)
-      | inr e ↦ absurd (false≢true (sym (ap (λ (cs : List Cell). has_cell cs d) (merge has p proper lawful f phase has_copies y y_in (number n) n-inside is-combine v v_in).written ∙ ap (λ b. b || false) e) ∙ writes))
-    ]
+    merge-writes d writes =
+        grind (arith, cases_Bool (same_cell c d), same_cell-is, false≢true, merge, has_copies, number, n-inside, is-combine)
 
   copy-not_cell : (y : Worker) → y.0 < p.workers → copy_of p c y ≢ c
   copy-not_cell y y_in = copy-bare p proper c has_copies y y_in c has_copies
@@ -464,10 +448,7 @@ module _ (has : Kernel → Bool) (p : Program) (proper : Proper p) (lawful : IsL
           | inl writes ↦ (let by_combine = on-cell n after_t within v v_in (written-among_cells p (number n) v c writes) in merged-more n later before inside h by_combine.0 by_combine.1 by_combine.2 v v_in)
         ]
             ∙ ap (λ (z : Contents). combined f.by x (held_in p z c)) (sym moved);
-        less = ap (λ (z : Contents). held_in p z q') moved
-            ∙ after_task-other p v (number n) (other n) q' (resting n later within v v_in second)
-            ∙ h.less
-            ∙ ap (combined f.by x) (sym (after_task-other p v (number n) (one n) q' (resting n later within v v_in second)));
+        less = (search (arith, after_task-other, number, resting));
       }
     where
       resting : (n : ℕ) → k < n → n ≤ k' → (v : Worker) → v.0 < p.workers → n ≢ k' → has_cell (written_cells p (number n) v) q' ≡ false
@@ -494,16 +475,12 @@ module _ (has : Kernel → Bool) (p : Program) (proper : Proper p) (lawful : IsL
   no-refill i later before y y_in fills = by_kind (operand-at i later before y y_in (access W (copy_of p c y)) (subst (λ (xs : List Access). Contains xs (access W (copy_of p c y))) (sym fills) (0, omega arith, refl)) refl (inr (y, y_in, refl)))
     where
       by_kind : AtWork p proper f phase has_copies i y (access W (copy_of p c y)) → ⊥
-      by_kind (Contribution own redux' same) = cc
-      by_kind (OfCopy z z_in at e) = let g : W ≡ R = ap (λ (b : Access). b.mode) e in cc
-      by_kind (OfCell z z_in at e) = let g : W ≡ RW = ap (λ (b : Access). b.mode) e in cc
+      by_kind x = search (arith)
 
   ends : k' < length p.tasks → Halfway k' → Over (suc k')
   ends inside h = record {
     alike = λ d fresh fresh'.
-        (let dq : d ≢ q = λ e. (let r = fresh e in no-refill r.at (omega (arith, t-first, r.after)) (omega (arith, r.before)) (by t) (staffed t) r.fills) in
-        let dq' : d ≢ q' = λ e. (let r = fresh' e in omega (arith, r.after, r.before)) in
-        by_cell d dq dq' (cases_Bool (same_cell d c)) ∙ ap (λ (z : Contents). held_in p z d) (sym moved));
+        (search (arith, no-refill, t-first, by_cell, cases_Bool, moved));
   }
     where
       v : Worker
@@ -551,14 +528,7 @@ module _ (has : Kernel → Bool) (p : Program) (proper : Proper p) (lawful : IsL
     where
       -- what the task doesn't write was filled before it
       earlier : (y : Worker) (m : ℕ) (d : Cell) → d ≡ copy_of p c y → has_cell (written_cells p (number n) (by (number n))) d ≡ false → IsRefilled p proper f phase has_copies y m (suc n) → IsRefilled p proper f phase has_copies y m n
-      earlier y m d is spared r = elim (cases_lt r.at n) [
-        | inl before ↦ record { at = r.at; after = r.after; before = before; fills = r.fills }
-        | inr here ↦
-            let at : r.at ≡ n = omega (arith, here, r.before) in
-            let fills : (task_number p n).accesses ≡ access W (copy_of p c y) ∷ [] = subst (λ i. (task_number p i).accesses ≡ access W (copy_of p c y) ∷ []) at r.fills in
-            let writes : written_cells p (number n) (by (number n)) ≡ copy_of p c y ∷ [] = ap (λ (xs : List Access). map (worked_on p (by (number n))) (filter (λ b. is_written b.mode) xs)) fills in
-            absurd (false≢true (sym spared ∙ ap (λ (cs : List Cell). has_cell cs d) writes ∙ ap (λ b. b || false) (ap (same_cell (copy_of p c y)) is ∙ same_cell-refl (copy_of p c y))))
-      ]
+      earlier y m d is spared r = (search (arith, cases_lt, number, false≢true, same_cell-refl))
 
   -- ---- all along
 
@@ -571,10 +541,7 @@ module _ (has : Kernel → Bool) (p : Program) (proper : Proper p) (lawful : IsL
         | inl less ↦ Before (omega (arith, less)) (begin-same (suc n) (omega (arith, less)))
         | inr here ↦ (let e : t.0 ≡ n = omega (arith, before, here) in subst (λ i. Differ (suc i)) e (First (omega arith) (omega (arith, t-first)) entered))
       ]
-      by_stage (First later before h) = elim (cases_lt n k) [
-        | inl less ↦ First (omega (arith, later)) (omega (arith, less)) (continues n later less (omega (arith, l)) h)
-        | inr here ↦ (let e : k ≡ n = omega (arith, before, here) in subst (λ i. Differ (suc i)) e (Second (omega arith) (omega (arith, k-before)) (halves (omega (arith, l, e)) (subst Begun (sym e) h))))
-      ]
+      by_stage (First later before h) = (search (arith, cases_lt, continues, k-before, halves))
       by_stage (Second later before h) = elim (cases_lt n k') [
         | inl less ↦ Second (omega (arith, later)) (omega (arith, less)) (goes_on n later less (omega (arith, l)) h)
         | inr here ↦ (let e : k' ≡ n = omega (arith, before, here) in subst (λ i. Differ (suc i)) e (Last (omega arith) (ends (omega (arith, l, e)) (subst Halfway (sym e) h))))
@@ -620,13 +587,7 @@ module _ (has : Kernel → Bool) (p : Program) (proper : Proper p) (lawful : IsL
       same_worker u e = elim (same_task u t) [ inl is ↦ ap by is ∙ e ∙ sym (ap by' is) | inr other ↦ sym (others u other) ]
 
       works_alike : (u : Task) → list_any (λ (a : Access). is_redux a.mode) (task_of p t).accesses ≡ false → WorksAlike p u (by u) (by' u)
-      works_alike u none a h = elim (same_task u t) [
-        | inr other ↦ ap (λ (v : Worker). worked_on p v a) (sym (others u other))
-        | inl is ↦
-            let among : Contains (task_of p t).accesses a = subst (λ (k : Task). Contains (task_of p k).accesses a) is h in
-            let direct : is_redux a.mode ≡ false = false_from_ne_true (is_redux a.mode) (λ e. true≢false (sym (list_any_at (λ (b : Access). is_redux b.mode) (task_of p t).accesses among.0 a among.1 (ap (λ (b : Access). is_redux b.mode) among.2 ∙ e)) ∙ none)) in
-            direct-cell p (by u) a direct ∙ sym (direct-cell p (by' u) a direct)
-      ]
+      works_alike u none a h = (search (arith, same_task, false_from_ne_true, true≢false, list_any_at, direct-cell))
 
   module _ (by by' : Task → Worker) (staffed : (u : Task) → (by u).0 < p.workers) (staffed' : (u : Task) → (by' u).0 < p.workers) where
     -- the tasks below m by the second workers, the others by the first
