@@ -1,8 +1,6 @@
 -- What the tasks of a phase leave: a contribution adds to its worker's copy, and a combine adds the copy to the cell.
-use Rattle.std.proofs.Common.{Bool, List, [], ap, false, length, map, refl, sym, true, ◌++◌, ◌<◌, ◌∙◌, ◌∷◌, ◌≡◌, ℤ}
-use Rattle.std.specs.Prelude.{All, FitsSigned, is_some, if◌then◌else◌}
+use Rattle.std.proofs.Common.{Bool, List, [], ap, false, length, map, refl, sym, true, ◌++◌, ◌<◌, ◌∙◌, ◌∷◌, ◌≡◌, ℤ, All, FitsSigned, is_some, if◌then◌else◌, Contains, filter}
 use Rattle.std.specs.Int.{w64}
-use Rattle.std.specs.List.{Contains, filter}
 use Rattle.std.proofs.lemmas.List.Elements.{All-contains, All-get_or}
 use Rattle.sj_base.specs.Mode.{is_in_order, is_redux, is_written, starts_as_zeros}
 use Rattle.sj_codelet.specs.Kernel.{combine_of, contributes_of}

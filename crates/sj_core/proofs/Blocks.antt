@@ -1,7 +1,5 @@
 -- Where blocks lie: each cell's on one of the machine's disks, if all fit there.
-use Rattle.std.proofs.Common.{◌≡◌, ℕ, ◌+◌, ◌<◌, true, Option, None, Some, List, [], ◌∷◌, length, set, refl, ap, subst, arith}
-use Rattle.std.specs.Prelude.{All, is_some, option_and_then, option_map, slice_get}
-use Rattle.std.specs.List.{slice_index_or, zip}
+use Rattle.std.proofs.Common.{◌≡◌, ℕ, ◌+◌, ◌<◌, true, Option, None, Some, List, [], ◌∷◌, length, set, refl, ap, subst, arith, All, is_some, option_and_then, option_map, slice_get, slice_index_or, zip}
 use Rattle.std.proofs.lemmas.Bool.{false≢true}
 use Rattle.std.proofs.lemmas.List.Elements.{All-nil, All-cons}
 use Rattle.std.proofs.lemmas.List.Quantifiers.{position-Some}

@@ -1,7 +1,6 @@
 -- A legal trace has at most three events for each task of its program and five for each operand.
-use Rattle.std.proofs.Common.{Bool, List, [], ap, arith, cond, false, get_or, length, map, refl, subst, suc, sym, true, zero, ℕ, ◌*◌, ◌+◌, ◌<◌, ◌||◌, ◌∙◌, ◌∷◌, ◌≡◌, ◌≤◌, None, Option, Some, inl, inr, set, ◌≢◌, ◌++◌}
-use Rattle.std.specs.List.{enumerate_from, list_any, range_with_len, slice_set}
-use Rattle.std.specs.Prelude.{count_by, nat_eq, nat_le, nat_lt, replicate, sum_by, ◌&&◌, if◌then◌else◌, is_some}
+use Rattle.std.proofs.Common.{Bool, List, [], ap, arith, cond, false, get_or, length, map, refl, subst, suc, sym, true, zero, ℕ, ◌*◌, ◌+◌, ◌<◌, ◌||◌, ◌∙◌, ◌∷◌, ◌≡◌, ◌≤◌, None, Option, Some, inl, inr, set, ◌≢◌, ◌++◌, slice_set, count_by, nat_eq, nat_le, nat_lt, replicate, sum_by, ◌&&◌, if◌then◌else◌, is_some}
+use Rattle.std.specs.List.{enumerate_from, list_any, range_with_len}
 use Rattle.std.proofs.lemmas.List.{map-id, get_or-set_same, length-map, length-set, get_or_default}
 use Rattle.std.proofs.lemmas.List.FromFn.{fill_by_all, get_or-map-range_with_len, length-map-range_with_len}
 use Rattle.std.proofs.lemmas.List.Sums.{get_or-le-sum_by, sum_by-cons, sum_by-set, count_by-le-length, length-filter, sum_by-le-sum_by}

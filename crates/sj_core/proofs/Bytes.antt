@@ -1,10 +1,8 @@
 -- The bytes on a node: sums over its entries, its leaving replicas and its workers; a step that brings nothing keeps that they suffice.
-use Rattle.std.proofs.Common.{Bool, List, ap, arith, cond, false, length, not, refl, subst, sym, true, ℕ, ◌&&◌, ◌+◌, ◌<◌, ◌∙◌, ◌≡◌, ◌≢◌, ◌≤◌}
+use Rattle.std.proofs.Common.{Bool, List, ap, arith, cond, false, length, not, refl, subst, sym, true, ℕ, ◌&&◌, ◌+◌, ◌<◌, ◌∙◌, ◌≡◌, ◌≢◌, ◌≤◌, filter, count_by, nat_eq, nat_le, nat_lt, sum_by}
 use Rattle.std.proofs.lemmas.Bool.{and_from, and_parts, false≢true}
 use Rattle.std.proofs.lemmas.Bool.Decides.{Decides-eqb}
 use Rattle.std.proofs.lemmas.List.Sums.{sum_by-le-sum_by}
-use Rattle.std.specs.List.{filter}
-use Rattle.std.specs.Prelude.{count_by, nat_eq, nat_le, nat_lt, sum_by}
 use Rattle.sj_core.proofs.Words.{AtNode, Cell, Machine, Node, Program, State, Worker, cells_of_program, has_cell, is_coming_by, is_leaving_by, node_of, order, replica, same_worker, scratch, tile_bytes, workers_at, workers_of, used}
 use Rattle.sj_core.specs.Coherent.{IsStateOf, entries_beside, leaving_by, others_at, used_while_leaving}
 use Rattle.sj_core.proofs.CellLists.{has_cell-filter_is, share, sum-once, times, times-filter, times-program}

@@ -1,11 +1,9 @@
 -- Lists of cells: which cells an edited list has, how often, and the sum over a list that has each at most once.
-use Rattle.std.proofs.Common.{Bool, List, [], ap, arith, cond, false, get_or, length, not, refl, set, subst, sym, true, ℕ, ◌&&◌, ◌*◌, ◌++◌, ◌+◌, ◌<◌, ◌||◌, ◌∙◌, ◌∷◌, ◌≡◌, ◌≤◌, inl, inr}
+use Rattle.std.proofs.Common.{Bool, List, [], ap, arith, cond, false, get_or, length, not, refl, set, subst, sym, true, ℕ, ◌&&◌, ◌*◌, ◌++◌, ◌+◌, ◌<◌, ◌||◌, ◌∙◌, ◌∷◌, ◌≡◌, ◌≤◌, inl, inr, filter, count_by, fold, if◌then◌else◌, sum_by, nat_le, nat_lt}
 use Rattle.std.proofs.lemmas.Bool.{and_from, and_parts, false_from_ne_true, false≢true, or_right, le-leb, lt-ltb, cases_lt}
 use Rattle.std.proofs.lemmas.Bool.Decides.{Decides-eqb}
 use Rattle.std.proofs.lemmas.List.{ext_get_or, get_or-set_other, get_or-set_same, length-set}
 use Rattle.std.proofs.lemmas.List.Sums.{sum_by-append, sum_by-cons}
-use Rattle.std.specs.List.{filter}
-use Rattle.std.specs.Prelude.{count_by, fold, if◌then◌else◌, sum_by, nat_le, nat_lt}
 use Rattle.sj_core.proofs.Words.{Cell, Program, cells_of_program, distinct, has_cell, same_cell}
 use Rattle.sj_core.specs.Step.{to_front, without}
 use Rattle.sj_core.specs.Table.{renewed}

@@ -1,11 +1,10 @@
 -- What a claim changes: a victim leaves, a missing cell comes, and the rest stays as it is.
-use Rattle.std.proofs.Common.{Bool, List, None, Option, Some, [], arith, cond, false, inl, length, not, refl, subst, sym, true, ◌&&◌, ◌+◌, ◌<◌, ◌||◌, ◌∙◌, ◌∷◌, ◌≡◌, ◌≢◌, ◌⊎◌, ap, inr}
+use Rattle.std.proofs.Common.{Bool, List, None, Option, Some, [], arith, cond, false, inl, length, not, refl, subst, sym, true, ◌&&◌, ◌+◌, ◌<◌, ◌||◌, ◌∙◌, ◌∷◌, ◌≡◌, ◌≢◌, ◌⊎◌, ap, inr, filter, if◌then◌else◌, is_some, nat_eq}
 use Rattle.std.proofs.lemmas.Bool.{and_from, and_parts, cases_lt, false_from_ne_true, false≢true, not-true}
 use Rattle.std.proofs.lemmas.Bool.Decides.{Decides-eqb}
 use Rattle.std.proofs.lemmas.List.{get_or_past}
 use Rattle.std.proofs.lemmas.List.Elements.{All-contains}
-use Rattle.std.specs.List.{filter, list_any}
-use Rattle.std.specs.Prelude.{if◌then◌else◌, is_some, nat_eq}
+use Rattle.std.specs.List.{list_any}
 use Rattle.sj_core.proofs.Words.{Access, Array, AtNode, Cell, CellState, Claimed, Coming, DiskNo, Invalid, Leaving, Machine, Node, OnDisk, Place, Program, Replica, State, Task, Valid, Waiting, Worker, WorkerState, array_of, cell_info, cell_state, cells_of, copy_of, distinct, free, has_cell, is_coming_by, is_entry, is_leaving_by, is_pinned, is_task_of, no_task, node_of, order, pins, progress, replica, replica_in, scratch_bytes, task_of, tile_bytes, transfer, with_replica_in, worked_on, worker_state, workers_of, writes}
 use Rattle.sj_core.specs.Coherent.{HasRows}
 use Rattle.sj_core.specs.Laws.{IsSound}

@@ -1,6 +1,5 @@
 -- Contributions by codelets of one reduction may be exchanged: each combines an array that doesn't depend on the old one.
-use Rattle.std.proofs.Common.{Bool, List, [], ap, arith, cond, false, length, not, refl, sym, true, ℕ, ℤ, ◌++◌, ◌&&◌, ◌∙◌, ◌∷◌, ◌≡◌}
-use Rattle.std.specs.Prelude.{All, FitsSigned, nat_eq}
+use Rattle.std.proofs.Common.{Bool, List, [], ap, arith, cond, false, length, not, refl, sym, true, ℕ, ℤ, ◌++◌, ◌&&◌, ◌∙◌, ◌∷◌, ◌≡◌, All, FitsSigned, nat_eq}
 use Rattle.std.specs.Int.{w64}
 use Rattle.std.specs.List.{list_all}
 use Rattle.std.proofs.lemmas.Bool.{and_parts, not-true}

@@ -1,13 +1,12 @@
 -- The dependencies of a proper program can be counted: each access names a cell, and a task accesses a cell in one manner.
-use Rattle.std.proofs.Common.{List, None, Option, Some, [], ap, arith, false, get_or, inl, inr, length, map, not, refl, subst, suc, sym, true, zero, ℕ, ◌+◌, ◌<◌, ◌∙◌, ◌∷◌, ◌≡◌, ◌⊎◌}
+use Rattle.std.proofs.Common.{List, None, Option, Some, [], ap, arith, false, get_or, inl, inr, length, map, not, refl, subst, suc, sym, true, zero, ℕ, ◌+◌, ◌<◌, ◌∙◌, ◌∷◌, ◌≡◌, ◌⊎◌, Contains, flat_map, AllPairs, IsTrue, is_some, option_and_then, slice_get}
 use Rattle.std.proofs.lemmas.Bool.{cases_lt}
 use Rattle.std.proofs.lemmas.Bool.Decides.{Decides-eqb}
 use Rattle.std.proofs.lemmas.List.{get_or_default}
 use Rattle.std.proofs.lemmas.List.Elements.{All-contains, Contains-append_cases}
 use Rattle.std.proofs.lemmas.List.FromFn.{get_or-range_with_len, length-range_with_len}
 use Rattle.std.proofs.lemmas.Option.{slice_get-get_or, slice_get_past}
-use Rattle.std.specs.List.{Contains, flat_map, range_with_len}
-use Rattle.std.specs.Prelude.{AllPairs, IsTrue, is_some, option_and_then, slice_get}
+use Rattle.std.specs.List.{range_with_len}
 use Rattle.sj_base.specs.Mode.{is_redux, is_scratch}
 use Rattle.sj_core.proofs.Words.{Access, Cell, CellInfo, Codelet, Commute, CommuteMode, Contribute, Lowered, Manner, Mode, Program, R, RW, Read, Redux, Scratch, Usage, W, Worker, Write, cell_info, copy_of, data_operands, no_cell, no_task, same_cell}
 use Rattle.sj_deps.specs.Conflict.{HasDependencies, Uses, copies_of, usage, usages_of}

@@ -1,8 +1,6 @@
 -- The end of a kernel's run leaves a coherent state.
-use Rattle.std.proofs.Common.{Bool, List, ap, arith, false, inl, inr, length, refl, subst, sym, true, ◌<◌, ◌∙◌, ◌≡◌, ◌&&◌, ◌+◌, ◌≢◌, None, Option, Some, [], not, set, ℕ, ◌≤◌, ◌⊎◌}
+use Rattle.std.proofs.Common.{Bool, List, ap, arith, false, inl, inr, length, refl, subst, sym, true, ◌<◌, ◌∙◌, ◌≡◌, ◌&&◌, ◌+◌, ◌≢◌, None, Option, Some, [], not, set, ℕ, ◌≤◌, ◌⊎◌, zip, IsTrue, count_by, nat_eq, nat_le, nat_lt, All, IfSome, if◌then◌else◌}
 use Rattle.std.proofs.lemmas.Bool.{false≢true, eq-eqb, ne_eqb, and_from, le-leb, lt-ltb, cases_Bool, cases_lt, false_from_ne_true, cond_both}
-use Rattle.std.specs.List.{zip}
-use Rattle.std.specs.Prelude.{IsTrue, count_by, nat_eq, nat_le, nat_lt, All, IfSome, if◌then◌else◌}
 use Rattle.std.proofs.lemmas.List.{get_or-set_same, get_or_past, length-set}
 use Rattle.std.proofs.lemmas.Option.{MatchOption-from_none}
 use Rattle.sj_deps.specs.Conflict.{Conflict}

@@ -1,7 +1,6 @@
 -- What a claimed or running task finds where it works, whatever the modes: the content of each cell whose old value it reads.
-use Rattle.std.proofs.Common.{arith, Bool, ap, cond, false, inl, inr, not, refl, subst, sym, true, ◌<◌, ◌∙◌, ◌≡◌, ◌⊎◌}
-use Rattle.std.specs.List.{Contains}
-use Rattle.std.specs.Prelude.{IsTrue, unwrap_or}
+use Rattle.std.proofs.Common.{arith, Bool, ap, cond, false, inl, inr, not, refl, subst, sym, true, ◌<◌, ◌∙◌, ◌≡◌, ◌⊎◌, Contains, IsTrue}
+use Rattle.std.specs.Prelude.{unwrap_or}
 use Rattle.std.proofs.lemmas.Bool.{false_from_ne_true, false≢true}
 use Rattle.std.proofs.lemmas.Bool.Decides.{Decides-eqb}
 use Rattle.sj_base.specs.Mode.{is_redux, is_scratch, starts_as_zeros}

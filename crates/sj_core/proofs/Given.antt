@@ -1,12 +1,10 @@
 -- What a task finds where it works: the contents of its cells; and in a settled cell of an access in order what all tasks before it leave, in
 -- submission order. Where all tasks are done, cells hold what all tasks leave.
-use Rattle.std.proofs.Common.{Bool, List, [], ap, arith, false, get_or, inl, inr, length, map, not, refl, subst, sym, true, ℕ, ◌<◌, ◌||◌, ◌∙◌, ◌∷◌, ◌≡◌, ◌≢◌, ◌&&◌, ◌⊎◌}
+use Rattle.std.proofs.Common.{Bool, List, [], ap, arith, false, get_or, inl, inr, length, map, not, refl, subst, sym, true, ℕ, ◌<◌, ◌||◌, ◌∙◌, ◌∷◌, ◌≡◌, ◌≢◌, ◌&&◌, ◌⊎◌, Contains, filter, slice_index_or, IfSome, IsTrue, is_some}
 use Rattle.std.proofs.lemmas.Bool.{false_from_ne_true, false≢true}
 use Rattle.std.proofs.lemmas.List.Elements.{All-contains, Contains-get_or}
 use Rattle.std.proofs.lemmas.List.Folds.{Any-from_list_any}
 use Rattle.std.proofs.lemmas.List.Sums.{AllPass-from_list_all}
-use Rattle.std.specs.List.{Contains, filter, slice_index_or}
-use Rattle.std.specs.Prelude.{IfSome, IsTrue, is_some}
 use Rattle.sj_base.specs.Mode.{is_in_order, is_redux, is_scratch, is_written, reads_value}
 use Rattle.sj_deps.specs.Conflict.{Conflict}
 use Rattle.sj_core.proofs.Words.{Access, Array, AtNode, Cell, Kernel, Machine, Program, Progress, R, RW, Redux, Running, State, Task, W, Waiting, Worker, array_of, cell_info, cells_of, copy_of, done_by, done_in, has_cell, is_done, is_task_of, node_of, progress, replica, same_cell, task_of, worked_on, worker_of, writes, written_cells}

@@ -1,9 +1,8 @@
 -- A move that begins, one that ends, and a drop leave a coherent state.
-use Rattle.std.proofs.Common.{arith, List, Some, false, inl, inr, refl, sym, true, ◌∙◌, ◌≡◌, ap, subst, None, Option, not, ℕ, ◌&&◌, ◌⊎◌, Bool, [], length, ◌<◌, ◌≢◌}
+use Rattle.std.proofs.Common.{arith, List, Some, false, inl, inr, refl, sym, true, ◌∙◌, ◌≡◌, ap, subst, None, Option, not, ℕ, ◌&&◌, ◌⊎◌, Bool, [], length, ◌<◌, ◌≢◌, IsTrue, option_map, position, IfSome}
 use Rattle.std.proofs.lemmas.List.{length-set}
 use Rattle.std.proofs.lemmas.Bool.{true≢false, and_from, false_from_ne_true, false≢true, and_parts}
 use Rattle.std.proofs.lemmas.List.Quantifiers.{position-Some}
-use Rattle.std.specs.Prelude.{IsTrue, option_map, position, IfSome}
 use Rattle.sj_core.specs.Coherent.{Coherent, CopiesAgree, HasBlocks, HasRows, IsOwnedBy, IsTransferTo, TransfersAreSound, IsClaimed, NoneLeavesBy, content}
 use Rattle.sj_core.specs.Laws.{IsSound}
 use Rattle.sj_core.specs.Step.{disk_of, BeginsMoveIn, a_transfer, is_fresh, BeginsMoveOut, is_valid_elsewhere, same_place, EndsMove, array_at, Drops, is_read, places_of, reads}

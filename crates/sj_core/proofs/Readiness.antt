@@ -1,5 +1,5 @@
 -- The tasks that are done in a state, as a list and as a test; when a waiting task is ready.
-use Rattle.std.proofs.Common.{◌||◌, Bool, List, [], ap, arith, cond, false, get_or, inl, inr, length, refl, subst, suc, sym, true, zero, ℕ, ◌<◌, ◌∙◌, ◌∷◌, ◌≡◌, ◌⊎◌, map, ◌++◌, not}
+use Rattle.std.proofs.Common.{◌||◌, Bool, List, [], ap, arith, cond, false, get_or, inl, inr, length, refl, subst, suc, sym, true, zero, ℕ, ◌<◌, ◌∙◌, ◌∷◌, ◌≡◌, ◌⊎◌, map, ◌++◌, not, Contains, filter, AllPairs}
 use Rattle.std.proofs.lemmas.List.Sorted.{Contains-permutation, IsPermutation-filter_both}
 use Rattle.std.proofs.lemmas.List.Elements.{All-contains, All-contains_itself, All-filter, Contains-append_cases, filter_passes}
 use Rattle.std.proofs.lemmas.Bool.{cases_eq, cases_lt, false≢true}
@@ -7,8 +7,7 @@ use Rattle.std.proofs.lemmas.List.{get_or_default, get_or_past, get_or-map, leng
 use Rattle.std.proofs.lemmas.List.Folds.{Any-from_list_any}
 use Rattle.std.proofs.lemmas.List.FromFn.{get_or-range_with_len, length-range_with_len}
 use Rattle.std.proofs.lemmas.List.Sums.{AllPass-from_list_all}
-use Rattle.std.specs.List.{Contains, filter, list_all, list_any, range_with_len}
-use Rattle.std.specs.Prelude.{AllPairs}
+use Rattle.std.specs.List.{list_all, list_any, range_with_len}
 use Rattle.sj_core.proofs.Words.{Program, State, Task, Waiting, done_in, is_done, progress}
 use Rattle.sj_deps.specs.Conflict.{Ready}
 use Rattle.sj_core.specs.Step.{EarlierAreDone, after, done_tasks}

@@ -1,8 +1,7 @@
 -- After any tasks of a proper program each cell holds a tile of its own dimensions.
-use Rattle.std.proofs.Common.{Bool, List, [], ap, arith, length, lit<, map, refl, subst, suc, sym, true, zero, ℕ, false, ℤ, pos, negsuc, get_or, inl, inr, ◌+◌, ◌/◌, ◌*◌, ◌%◌, ◌∙◌, ◌∷◌, ◌≡◌, ◌&&◌, ◌+ℤ◌, ◌⊎◌, ◌||◌, ◌≤ℤ◌, None, Option, Some, cond, ◌≤◌, ◌<◌}
-use Rattle.std.specs.Prelude.{All, FitsSigned, IsTrue, nat_eq, if◌then◌else◌, is_some}
+use Rattle.std.proofs.Common.{Bool, List, [], ap, arith, length, lit<, map, refl, subst, suc, sym, true, zero, ℕ, false, ℤ, pos, negsuc, get_or, inl, inr, ◌+◌, ◌/◌, ◌*◌, ◌%◌, ◌∙◌, ◌∷◌, ◌≡◌, ◌&&◌, ◌+ℤ◌, ◌⊎◌, ◌||◌, ◌≤ℤ◌, None, Option, Some, cond, ◌≤◌, ◌<◌, All, FitsSigned, IsTrue, nat_eq, if◌then◌else◌, is_some, filter, find, zip}
 use Rattle.std.specs.Int.{int_max, int_min, w64}
-use Rattle.std.specs.List.{range_with_len, filter, find, zip}
+use Rattle.std.specs.List.{range_with_len}
 use Rattle.std.proofs.lemmas.Bool.{cases_lt, false≢true}
 use Rattle.std.proofs.lemmas.Bool.Decides.{nat_tests}
 use Rattle.std.proofs.lemmas.Int.{SFits-int_wrap, clamps, ints}

@@ -1,8 +1,7 @@
 -- Sums over lists whose terms balance, or bound one another, element by element.
-use Rattle.std.proofs.Common.{◌≡◌, ℕ, ◌+◌, ◌≤◌, Bool, true, false, not, cond, List, [], ◌∷◌, refl, sym, ap, ◌∙◌, arith, map, inl, inr, ◌&&◌, ◌<◌, zero, suc, ◌*◌, ◌||◌}
+use Rattle.std.proofs.Common.{◌≡◌, ℕ, ◌+◌, ◌≤◌, Bool, true, false, not, cond, List, [], ◌∷◌, refl, sym, ap, ◌∙◌, arith, map, inl, inr, ◌&&◌, ◌<◌, zero, suc, ◌*◌, ◌||◌, sum_by, count_by, nat_le, nat_lt, nat_eq, filter}
 use Rattle.std.proofs.lemmas.List.Folds.{Any-from_list_any}
-use Rattle.std.specs.Prelude.{sum_by, count_by, nat_le, nat_lt, nat_eq}
-use Rattle.std.specs.List.{filter, range_with_len, list_any}
+use Rattle.std.specs.List.{range_with_len, list_any}
 use Rattle.std.proofs.lemmas.List.Sums.{sum_by-cons, sum_by-le-sum_by, get_or-le-sum_by}
 use Rattle.std.proofs.lemmas.List.Filters.{sum_by-filter_both}
 use Rattle.std.proofs.lemmas.Bool.{false_from_ne_true, and_parts, and_from, and_left, leb-true, ltb-true, le-leb, lt-leb, lt-ltb, eq-eqb, ne_eqb, cases_eq}

@@ -1,7 +1,5 @@
 -- A cell whose old value a task reads has been written by the time that the task may run.
-use Rattle.std.proofs.Common.{arith, ◌≡◌, ◌+◌, Bool, true, false, cond, List, [], ◌∷◌, map, length, refl, sym, ap, ◌∙◌, None, Some, Option, get_or, inl, inr, not, subst, suc, zero, ℕ, ◌&&◌, ◌<◌, ◌⊎◌}
-use Rattle.std.specs.Prelude.{ℤ, count_by, if◌then◌else◌, IsTrue}
-use Rattle.std.specs.List.{filter, Contains}
+use Rattle.std.proofs.Common.{arith, ◌≡◌, ◌+◌, Bool, true, false, cond, List, [], ◌∷◌, map, length, refl, sym, ap, ◌∙◌, None, Some, Option, get_or, inl, inr, not, subst, suc, zero, ℕ, ◌&&◌, ◌<◌, ◌⊎◌, ℤ, count_by, if◌then◌else◌, IsTrue, filter, Contains}
 use Rattle.std.proofs.lemmas.List.{length-map}
 use Rattle.std.proofs.lemmas.List.Sums.{length-filter, sum_by-cons, get_or-le-sum_by}
 use Rattle.std.proofs.lemmas.Bool.{false≢true}

@@ -1,6 +1,5 @@
 -- Needs, first fit and victims on small programs, with the numbers worked out by hand.
-use Rattle.std.proofs.Common.{ℕ, Option, List, ◌∷◌, ◌≡◌, not, [], map, refl, Some, None}
-use Rattle.std.specs.Prelude.{ℤ, pos, option_map, nat_eq}
+use Rattle.std.proofs.Common.{ℕ, Option, List, ◌∷◌, ◌≡◌, not, [], map, refl, Some, None, ℤ, pos, option_map, nat_eq}
 use Rattle.sj_base.specs.declared.mode.Policy.TheVariants.{Eager}
 use Rattle.sj_codelet.specs.Kernel.{codelet_of}
 use Rattle.sj_core.specs.Victims.{victims}

@@ -1,6 +1,5 @@
 -- Worked jobs whose runs are legal and complete: a sum, vectors that don't fit their node together, a reduction.
-use Rattle.std.proofs.Common.{◌≡◌, ℕ, zero, suc, List, [], ◌∷◌, refl, ap, None, arith, lit<, lit≤}
-use Rattle.std.specs.Prelude.{pos}
+use Rattle.std.proofs.Common.{◌≡◌, ℕ, zero, suc, List, [], ◌∷◌, refl, ap, None, arith, lit<, lit≤, pos}
 use Rattle.std.specs.Int.{int_wrap}
 use Rattle.std.proofs.lemmas.Bool.{false≢true}
 use Rattle.sj_core.proofs.Words.{Claim, Commute, Contribute, Drop, End, Event, Machine, Manner, Move, Moved, Program, R, RW, Read, Run, State, Usage, Valid, W, Write, order, replica, victims_of, writes}

@@ -1,9 +1,8 @@
 -- What cells hold after all tasks up to one doesn't depend on the workers of the contributions, but in partial copies and under open phases.
-use Rattle.std.proofs.Common.{Bool, List, ap, arith, cond, false, inl, inr, length, not, refl, subst, suc, sym, true, zero, ℕ, ◌<◌, ◌≤◌, ◌∙◌, ◌≡◌, ◌≢◌, [], get_or, map, ◌||◌, ◌∷◌, ◌⊎◌}
-use Rattle.std.specs.List.{Contains, zip, filter, list_any}
+use Rattle.std.proofs.Common.{Bool, List, ap, arith, cond, false, inl, inr, length, not, refl, subst, suc, sym, true, zero, ℕ, ◌<◌, ◌≤◌, ◌∙◌, ◌≡◌, ◌≢◌, [], get_or, map, ◌||◌, ◌∷◌, ◌⊎◌, Contains, zip, filter, is_some, nat_lt}
+use Rattle.std.specs.List.{list_any}
 use Rattle.std.proofs.lemmas.Bool.{cases_Bool, false_from_ne_true, false≢true, cases_lt, true≢false, cases_eq}
 use Rattle.std.proofs.lemmas.List.Elements.{All-get_or, Contains-append_left}
-use Rattle.std.specs.Prelude.{is_some, nat_lt}
 use Rattle.std.proofs.lemmas.Bool.Decides.{nat_tests}
 use Rattle.std.proofs.lemmas.List.Folds.{list_any_at}
 use Rattle.sj_base.specs.Mode.{is_in_order, is_scratch, is_written, starts_as_zeros, is_redux}
