@@ -29,6 +29,8 @@ use Rattle.sj_core.proofs.TaskCells.{written-among_cells}
 use Rattle.sj_core.proofs.Moving.{Ended_moves-keep_coherence}
 use Rattle.sj_core.proofs.Replaying.{Replays-coherent}
 use Rattle.sj_core.proofs.States.{Replays-more}
+use Rattle.sj_core.proofs.Claimed.{claimed-inside}
+use Rattle.sj_core.proofs.Finding.{running-inside}
 
 -- ---- sums that rise at one element, sums over a table whose rows were renewed, and sums over numbered elements
 
@@ -223,10 +225,6 @@ row-counts s w row inside = sum_by-set (λ (r : WorkerState). tally (is_some r.t
 module _ (p : Program) (m : Machine) (s : State) (h : IsSound p m s) where
   -- ---- whose rows there are
 
-  -- a task that isn't waiting is one of the program
-  begun-inside : (t : Task) (x : Progress) → progress s t ≡ x → x ≢ Waiting → t.0 < length p.tasks
-  begun-inside t x is begun = omega (arith, progress-inside s t (λ e. begun (sym is ∙ e)), h.coherent.state.rows.tasks)
-
   -- its worker is one of the table
   worker-inside : (t : Task) (x : Progress) → progress s t ≡ x → is_begun x ≡ true → (worker_of x).0 < length s.workers
   worker-inside t x is begun = search (arith)
@@ -274,8 +272,7 @@ module _ (p : Program) (m : Machine) (s : State) (h : IsSound p m s) where
 
     Runs-pays : Pays p s s'
     Runs-pays =
-        let begun : Claimed w ≢ Waiting = λ e. cc in
-        let all = paid-advances p s s' t (Claimed w) (Running w) (Runs-advances p m s t w s' run) (begun-inside t (Claimed w) run.claimed begun) 1 (omega arith) in
+        let all = paid-advances p s s' t (Claimed w) (Running w) (Runs-advances p m s t w s' run) (claimed-inside p m s h t w run.claimed) 1 (omega arith) in
         omega (arith, run-cost, ap under_way run.leaves)
 
   module _ (t : Task) (w : Worker) (s' : State) (ended : Ends p m s t w s') where
@@ -296,9 +293,8 @@ module _ (p : Program) (m : Machine) (s : State) (h : IsSound p m s) where
 
     Ends-pays : Pays p s s'
     Ends-pays =
-        let begun : Running w ≢ Waiting = λ e. cc in
         let all = row-counts s w (record { pins = []; scratch = 0; victims = victims_of s w; transfer = transfer s w }) (worker-inside t (Running w) ended.running refl) in
-        let more = paid-advances p s s' t (Running w) (Done w) (Ends-advances p m s t w s' ended) (begun-inside t (Running w) ended.running begun) 1 (omega arith) in
+        let more = paid-advances p s s' t (Running w) (Done w) (Ends-advances p m s t w s' ended) (running-inside p m s t w h.coherent.state.rows ended.running) 1 (omega arith) in
         omega (arith, end-cost, ap under_way ended.leaves)
 
   -- ---- transfers that begin
@@ -345,11 +341,9 @@ module _ (p : Program) (m : Machine) (s : State) (h : IsSound p m s) where
         let valid : is_valid (replica s c (OnDisk k)) ≡ true = ap is_valid (get_or_default row.disks found.0 Invalid found.1 found.2 ∙ found.3) ∙ found.4 in
         let home = h.coherent.state.blocks.home c k valid in
         let aimed = h.coherent.state.blocks.aimed w (a_transfer c from to) d moved.under_way (sym at) in
-        let same : k ≡ d = same_disk k d (sym home ∙ aimed) in
+        let both : Some k ≡ Some d = sym home ∙ aimed in
+        let same : k ≡ d = cc in
         false≢true (sym (ap is_valid there.1) ∙ ap (λ (e : DiskNo). is_valid (replica s c (OnDisk e))) (sym same) ∙ valid)))
-      where
-        same_disk : (k e : DiskNo) → Some k ≡ Some e → k ≡ e
-        same_disk k e g = cc
 
     -- the cell's row costs two less
     row-falls : (q : Place) → q ≡ to → IsTransferTo m s w c from q → (c.0 < length s.cells) × (cost_of (with_replica_in row q (Valid brought)) + 2 ≤ cost_of row)

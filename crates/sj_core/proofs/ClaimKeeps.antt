@@ -168,12 +168,12 @@ module _ (p : Program) (m : Machine) (s : State) (h : IsSound p m s) (t : Task) 
       let before = h.coherent.cells in
       record {
         running = λ u v c runs has. elim (same_task u t) [
-          | inl e ↦ absurd (two_kinds v (sym advance.is ∙ sym (ap (λ (k : Task). progress s' k) e) ∙ runs))
+          | inl e ↦ absurd (let f : Claimed w ≡ Running v = sym advance.is ∙ sym (ap (λ (k : Task). progress s' k) e) ∙ runs in cc)
           | inr d ↦ claim-valid c (AtNode (node_of m v)) ∙ before.running u v c (sym (advance.others u d) ∙ runs) has
         ];
         claimed = λ u v c claims has. elim (same_task u t) [
           | inl e ↦
-              let same : v ≡ w = same_claim v (sym advance.is ∙ sym (ap (λ (k : Task). progress s' k) e) ∙ claims) in
+              let same : v ≡ w = (let f : Claimed w ≡ Claimed v = sym advance.is ∙ sym (ap (λ (k : Task). progress s' k) e) ∙ claims in cc) in
               ap (λ (x : Worker). is_entry (replica s' c (AtNode (node_of m x)))) same ∙ (claim-own_cells p m s h t w s' claim c (ap (λ (x : Worker). has_cell (cells_of p t x) c) (sym same) ∙ ap (λ (k : Task). has_cell (cells_of p k v) c) (sym e) ∙ has)).0
           | inr d ↦
               let was : progress s u ≡ Claimed v = sym (advance.others u d) ∙ claims in
@@ -182,12 +182,6 @@ module _ (p : Program) (m : Machine) (s : State) (h : IsSound p m s) (t : Task) 
         ];
         pinned = λ u v c has cell. (search (arith, now_task, claim-own_pins, still_pinned));
       }
-    where
-      two_kinds : (x : Worker) → Claimed w ≡ Running x → ⊥
-      two_kinds x e = cc
-
-      same_claim : (x : Worker) → Claimed w ≡ Claimed x → x ≡ w
-      same_claim x e = cc
 
   still_claimed : (v : Worker) (c : Cell) → IsClaimed p s v c → IsClaimed p s' v c
   still_claimed v c old = record { task = old.task; claimed = still_task old.task v (ap (is_task_of v) old.claimed ∙ ap (λ b. b || false) (same_worker-refl v)) ∙ old.claimed; cell = old.cell }

@@ -179,13 +179,13 @@ module _ (p : Program) (m : Machine) (s : State) (h : IsSound p m s) (t : Task) 
   pub claim-array : (c : Cell) (q : Place) → array_of (replica s' c q) ≡ array_of (replica s c q)
   claim-array c q = search (arith, claim-cases)
 
+  same_node_of : (k : Node) → AtNode k ≡ AtNode (node_of m w) → k ≡ node_of m w
+  same_node_of k e = cc
+
   -- an entry that isn't evicted stays
   pub entry-stays : (c : Cell) (k : Node) → is_entry (replica s c (AtNode k)) ≡ true → (k ≡ node_of m w → has_cell claim.evicted c ≡ false) → replica s' c (AtNode k) ≡ replica s c (AtNode k)
   entry-stays c k entry spared = by_case (claim-cases c (AtNode k))
     where
-      same_node_of : AtNode k ≡ AtNode (node_of m w) → k ≡ node_of m w
-      same_node_of e = cc
-
       by_case : ClaimCase m s s' w claim.evicted (missing p s t w (node_of m w)) c (AtNode k) → replica s' c (AtNode k) ≡ replica s c (AtNode k)
       by_case x = search (arith, false≢true, same_node_of)
 
@@ -200,13 +200,10 @@ module _ (p : Program) (m : Machine) (s : State) (h : IsSound p m s) (t : Task) 
   pub claim-coming : (v : Worker) (c : Cell) (k : Node) → is_coming_by v (replica s' c (AtNode k)) ≡ true → ((k ≡ node_of m w) × (v ≡ w) × (has_cell (cells_of p t w) c ≡ true)) ⊎ (is_coming_by v (replica s c (AtNode k)) ≡ true)
   claim-coming v c k coming = by_case (claim-cases c (AtNode k))
     where
-      same_node_of : AtNode k ≡ AtNode (node_of m w) → k ≡ node_of m w
-      same_node_of e = cc
-
       by_case : ClaimCase m s s' w claim.evicted (missing p s t w (node_of m w)) c (AtNode k) → ((k ≡ node_of m w) × (v ≡ w) × (has_cell (cells_of p t w) c ≡ true)) ⊎ (is_coming_by v (replica s c (AtNode k)) ≡ true)
       by_case (Stays same) = inr (sym (ap (is_coming_by v) same) ∙ coming)
       by_case (Leaves at evicted a was is) = absurd (false≢true (sym (ap (is_coming_by v) is) ∙ coming))
-      by_case (Comes at lacks was is) = inl (same_node_of at, sym (same_worker-is w v (sym (ap (is_coming_by v) is) ∙ coming)), (missing-absent p m s t w s' claim c lacks).1)
+      by_case (Comes at lacks was is) = inl (same_node_of k at, sym (same_worker-is w v (sym (ap (is_coming_by v) is) ∙ coming)), (missing-absent p m s t w s' claim c lacks).1)
 
   -- the task's own cells are entries after the claim: those that were, and those that come
   pub claim-own_cells : (c : Cell) → has_cell (cells_of p t w) c ≡ true → (is_entry (replica s' c (AtNode (node_of m w))) ≡ true) × (has_cell (order s (node_of m w)) c ≡ false → is_coming_by w (replica s' c (AtNode (node_of m w))) ≡ true)

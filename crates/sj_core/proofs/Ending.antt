@@ -25,7 +25,7 @@ use Rattle.sj_core.proofs.Sums.{tally, sum-agree, sum-plus, count-numbered}
 use Rattle.sj_core.proofs.CellLists.{times}
 use Rattle.sj_core.proofs.Changing.{Changes, Changes-coherent, Changes-writers, TransfersAreSound-spared, HasBlocks-kept, All-renewed, HasWorkers-kept}
 use Rattle.sj_core.proofs.Dependencies.{Proper-dependencies}
-use Rattle.sj_core.proofs.Finding.{not_written-before, agrees-kept}
+use Rattle.sj_core.proofs.Finding.{not_written-before, agrees-kept, running-inside}
 use Rattle.sj_core.proofs.Separation.{separated}
 use Rattle.sj_core.proofs.Tables.{length-renewed}
 
@@ -60,11 +60,8 @@ pub all-staffed : (p : Program) (s : State) → 0 < p.workers → HasWorkers p s
 all-staffed p s some staff u = search (arith)
 
 module _ (p : Program) (m : Machine) (proper : Proper p) (puts_last : PutsLast p) (s : State) (sound : Coherent p m s) (t : Task) (w : Worker) (s' : State) (ended : Ends p m s t w s') where
-  not_waiting : Running w ≡ Waiting → ⊥
-  not_waiting e = cc
-
   pub end-inside : t.0 < length p.tasks
-  end-inside = omega (arith, progress-inside s t (λ h. not_waiting (sym ended.running ∙ h)), sound.state.rows.tasks)
+  end-inside = running-inside p m s t w sound.state.rows ended.running
 
   staffed : w.0 < p.workers
   staffed = subst (λ (x : Progress). (worker_of x).0 < p.workers) ended.running (sound.state.staff.staffed t (ap is_begun ended.running))
@@ -117,10 +114,7 @@ pub Ends-keeps_counts : (p : Program) (m : Machine) (s : State) (t : Task) (w : 
 Ends-keeps_counts p m s t w s' state cells ended counts = record { counted = λ c. by_cases c (has_cell (written_cells p t w) c) refl }
   where
     inside : t.0 < length p.tasks
-    inside = omega (arith, progress-inside s t (λ h. running_isn't_waiting (sym ended.running ∙ h)), state.rows.tasks)
-      where
-        running_isn't_waiting : Running w ≡ Waiting → ⊥
-        running_isn't_waiting e = cc
+    inside = running-inside p m s t w state.rows ended.running
 
     undone : (c : Cell) → has_written p s c t ≡ false
     undone c = ap (λ (x : Progress). is_done x && has_cell (written_cells p t (worker_of x)) c) ended.running

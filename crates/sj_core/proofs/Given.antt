@@ -19,7 +19,7 @@ use Rattle.sj_core.proofs.Ending.{all-staffed, later-free}
 use Rattle.sj_core.proofs.Copies.{combine-of, direct-cell, init-of}
 use Rattle.sj_core.proofs.Workers.{cone-shared, in_order-conflicts, workers-alike}
 use Rattle.sj_core.proofs.Dependencies.{one_is}
-use Rattle.sj_core.proofs.Finding.{being_written-by, gives-writes, task-counted}
+use Rattle.sj_core.proofs.Finding.{being_written-by, gives-writes, task-counted, running-inside}
 use Rattle.sj_core.proofs.Folding.{after_chosen-same, held-until, read-among_cells}
 use Rattle.sj_core.proofs.Found.{found-content}
 use Rattle.sj_core.proofs.Modes.{plain_isn't_redux, reads_isn't_scratch}
@@ -140,12 +140,9 @@ module _ (p : Program) (m : Machine) (s : State) (h : IsSound p m s) where
     none-written : (c : Cell) → is_being_written p s c ≡ false
     none-written c = false_from_ne_true (is_being_written p s c) (λ writing. (let by = being_written-by p s c writing in by_task by.0 by.1))
       where
-        not_waiting : (v : Worker) → Running v ≡ Waiting → ⊥
-        not_waiting v e = cc
-
         by_task : (u : Task) → progress s u ≡ Running (done_by s u) → ⊥
         by_task u running =
-            let inside : u.0 < length p.tasks = omega (arith, progress-inside s u (λ e. not_waiting (done_by s u) (sym running ∙ e)), h.coherent.state.rows.tasks) in
+            let inside : u.0 < length p.tasks = running-inside p m s u (done_by s u) h.coherent.state.rows running in
             false≢true (sym (ap is_done running) ∙ all-done u inside)
 
     -- a cell to which a task gives a value has been written

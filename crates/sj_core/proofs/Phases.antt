@@ -14,7 +14,7 @@ use Rattle.sj_core.proofs.Dependencies.{Proper-dependencies, own-of_phase}
 use Rattle.sj_core.proofs.Updating.{ContributionsExchange, operand-used}
 use Rattle.sj_core.proofs.TaskCells.{operand-inside}
 use Rattle.sj_core.proofs.Readiness.{Contains-filter}
-use Rattle.sj_core.proofs.Sharing.{manner_of, redux-has_copies}
+use Rattle.sj_core.proofs.Sharing.{manner_of, redux-has_copies, contribute_isn't_read}
 
 abbrev pub numbered : ℕ → Task
 numbered n = record { 0 = n }
@@ -139,6 +139,3 @@ module _ (p : Program) (proper : Proper p) where
               written = λ both. (let e = both.0 in contribute_isn't_read e);
               apart = λ m g. contribute_isn't_read (deps.manners t.0 q.0 Contribute m first g.first ∙ sym (g.alike k Read (inl (combine-after f phase w w_in t.0 among, omega (arith, past, differ))) combines));
             }
-          where
-            contribute_isn't_read : Contribute ≡ Read → ⊥
-            contribute_isn't_read e = cc

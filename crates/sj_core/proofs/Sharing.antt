@@ -101,7 +101,7 @@ write_isn't_read e = cc
 commute_isn't_read : (k : Codelet) → Commute k ≡ Read → ⊥
 commute_isn't_read k e = cc
 
-contribute_isn't_read : Contribute ≡ Read → ⊥
+pub contribute_isn't_read : Contribute ≡ Read → ⊥
 contribute_isn't_read e = cc
 
 commute_isn't_contribute : (k : Codelet) → Commute k ≡ Contribute → ⊥

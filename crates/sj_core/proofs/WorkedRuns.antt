@@ -14,6 +14,7 @@ use Rattle.sj_core.proofs.Worked.{a_machine, a_task, access, cell, columns, disk
 use Rattle.sj_core.proofs.Readiness.{Ready-earlier}
 use Rattle.sj_core.proofs.Reduction
 use Rattle.sj_core.proofs.Testing.{legal-from}
+use Rattle.sj_core.proofs.Sharing.{write_isn't_read}
 
 -- ---- a sum
 
@@ -52,9 +53,6 @@ sum-leaves = (refl, refl)
 load_conflicts : Conflict sum 1 2
 load_conflicts = record { cell = 1; manner_of_t = Write; manner_of_u = Write; first = (0, lit< tt, refl); second = (1, lit< tt, refl); written = λ both. (let e = both.0 in write_isn't_read e); apart = λ m g. unshared m g.shared g.first }
   where
-    write_isn't_read : Write ≡ Read → ⊥
-    write_isn't_read e = cc
-
     unshared : (m : Manner) → IsShared m → Uses sum 1 1 m → ⊥
     unshared m h u = search (arith)
 
