@@ -1,5 +1,5 @@
 -- One step of a task: from waiting to claimed, to running, to done; and that each keeps the order of conflicting tasks.
-use Rattle.std.proofs.Common.{ap, arith, false, inl, inr, length, not, refl, subst, sym, true, ℕ, ◌<◌, ◌||◌, ◌∙◌, ◌≡◌, ◌≢◌, ◌⊎◌, IsTrue}
+use Rattle.std.proofs.Common.{ap, arith, false, inl, inr, length, refl, subst, sym, true, ◌<◌, ◌||◌, ◌∙◌, ◌≡◌, ◌≢◌, ◌⊎◌, IsTrue}
 use Rattle.std.proofs.lemmas.Bool.{cases_eq, cases_lt, false≢true, true≢false, or_cases, not-true}
 use Rattle.std.proofs.lemmas.List.{get_or_past}
 use Rattle.std.proofs.lemmas.List.Sums.{AllPass-from_list_all}

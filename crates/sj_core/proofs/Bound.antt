@@ -1,5 +1,5 @@
 -- A legal trace has at most three events for each task of its program and five for each operand.
-use Rattle.std.proofs.Common.{Bool, List, [], ap, arith, cond, false, get_or, length, map, refl, subst, suc, sym, true, zero, ℕ, ◌*◌, ◌+◌, ◌<◌, ◌||◌, ◌∙◌, ◌∷◌, ◌≡◌, ◌≤◌, None, Option, Some, inl, inr, set, ◌≢◌, ◌++◌, slice_set, count_by, nat_eq, nat_le, nat_lt, replicate, sum_by, ◌&&◌, if◌then◌else◌, is_some}
+use Rattle.std.proofs.Common.{Bool, List, [], ap, arith, cond, false, get_or, length, map, refl, subst, suc, sym, true, zero, ℕ, ◌*◌, ◌+◌, ◌<◌, ◌||◌, ◌∙◌, ◌∷◌, ◌≡◌, ◌≤◌, None, Option, Some, set, ◌++◌, slice_set, count_by, nat_eq, nat_le, nat_lt, replicate, sum_by, ◌&&◌, if◌then◌else◌, is_some}
 use Rattle.std.specs.List.{enumerate_from, list_any, range_with_len}
 use Rattle.std.proofs.lemmas.List.{map-id, get_or-set_same, length-map, length-set, get_or_default}
 use Rattle.std.proofs.lemmas.List.FromFn.{fill_by_all, get_or-map-range_with_len, length-map-range_with_len}
@@ -9,22 +9,22 @@ use Rattle.std.proofs.lemmas.List.Folds.{list_any_at, Any-from_list_any, sum_by-
 use Rattle.std.proofs.Math.Logic.{∥∥₁_elim}
 use Rattle.std.proofs.Props.{props}
 use Rattle.sj_core.specs.Table.{renewed}
-use Rattle.sj_core.specs.Step.{claimed_replica, leave, owned_at, rewritten_at, BeginsMoveIn, BeginsMoveOut, Claims, Drops, Ends, EndsMove, Runs, Step, a_transfer, array_at, initial, missing, mover_of, result_at}
+use Rattle.sj_core.specs.Step.{claimed_replica, leave, owned_at, rewritten_at, BeginsMoveIn, BeginsMoveOut, Claims, Drops, Ends, EndsMove, Runs, Step, a_transfer, array_at, initial, missing, result_at}
 use Rattle.sj_core.specs.Coherent.{IsTransferTo, is_begun, Coherent}
 use Rattle.sj_core.specs.Laws.{IsSound, IsLawful}
 use Rattle.sj_base.specs.Mode.{is_data}
 use Rattle.sj_core.specs.Legal.{IsLegal, Leads, Replays}
 use Rattle.sj_core.specs.Proper.{IsMachineFor, Proper}
 use Rattle.sj_core.specs.Bound.{HasAtMostThreePerTaskAndFivePerOperand, operands}
-use Rattle.sj_core.proofs.Words.{Access, Array, AtNode, Cell, CellState, Claim, Claimed, Coming, DiskNo, Done, Drop, End, Event, Invalid, Kernel, Leaving, Lowered, Machine, Move, Moved, Node, OnDisk, Place, Program, Progress, Replica, Run, Running, State, Task, Transfer, Valid, Waiting, Worker, WorkerState, cell_state, cells_of, data_operands, has_cell, is_entry, is_leaving, is_leaving_by, is_valid, no_replica, no_task, node_of, opening, progress, replica, replica_in, same_cell, scratch_bytes, task_of, tasks_of, transfer, victims_of, with_replica, with_replica_in, with_transfer, worked_on, worker_of, worker_state, written_cells}
+use Rattle.sj_core.proofs.Words.{Access, Array, AtNode, Cell, CellState, Claimed, Coming, DiskNo, Done, Event, Invalid, Kernel, Leaving, Lowered, Machine, Node, OnDisk, Place, Program, Progress, Replica, Running, State, Task, Transfer, Valid, Waiting, Worker, WorkerState, cell_state, cells_of, data_operands, has_cell, is_entry, is_leaving, is_leaving_by, is_valid, no_replica, no_task, node_of, opening, progress, replica, replica_in, same_cell, scratch_bytes, task_of, tasks_of, transfer, victims_of, with_replica, with_replica_in, with_transfer, worked_on, worker_of, worker_state, written_cells}
 use Rattle.sj_core.proofs.CellLists.{same_cell-sym}
 use Rattle.sj_core.proofs.Sums.{count-numbered, sum-one_more, sum-within, tally, sum-nothing, sum_by-map, counted-some}
 use Rattle.sj_core.proofs.Advancing.{Advances, Ends-advances, Runs-advances, claimed_by-is, same_task}
 use Rattle.sj_core.proofs.Blocks.{disk-within}
 use Rattle.sj_core.proofs.Claiming.{claim-advance, missing-absent, node-inside}
 use Rattle.sj_core.proofs.Placing.{stays-on_disk, valid-row, valid-within}
-use Rattle.sj_core.proofs.Reading.{entry-inside, idle_row, no_row, progress-inside, transfer-inside}
-use Rattle.sj_core.proofs.Replicas.{coming_by-is, leaving-by_some, leaving_by-is, leaving_by-leaves, leaving_by-valid}
+use Rattle.sj_core.proofs.Reading.{entry-inside, idle_row, no_row, transfer-inside}
+use Rattle.sj_core.proofs.Replicas.{coming_by-is, leaving-by_some, leaving_by-leaves, leaving_by-valid}
 use Rattle.sj_core.proofs.TaskCells.{written-among_cells}
 use Rattle.sj_core.proofs.Moving.{Ended_moves-keep_coherence}
 use Rattle.sj_core.proofs.Replaying.{Replays-coherent}

@@ -1,5 +1,5 @@
 -- The bytes on a node: sums over its entries, its leaving replicas and its workers; a step that brings nothing keeps that they suffice.
-use Rattle.std.proofs.Common.{Bool, List, ap, arith, cond, false, length, not, refl, subst, sym, true, ℕ, ◌&&◌, ◌+◌, ◌<◌, ◌∙◌, ◌≡◌, ◌≢◌, ◌≤◌, filter, count_by, nat_eq, nat_le, nat_lt, sum_by}
+use Rattle.std.proofs.Common.{Bool, List, ap, arith, cond, false, length, not, refl, sym, true, ℕ, ◌&&◌, ◌+◌, ◌<◌, ◌∙◌, ◌≡◌, ◌≢◌, ◌≤◌, filter, count_by, nat_eq, nat_le, nat_lt, sum_by}
 use Rattle.std.proofs.lemmas.Bool.{and_from, and_parts, false≢true}
 use Rattle.std.proofs.lemmas.Bool.Decides.{Decides-eqb}
 use Rattle.std.proofs.lemmas.List.Sums.{sum_by-le-sum_by}

@@ -1,9 +1,9 @@
 -- A step in which a claimed or running task goes on, or a replica moves: nothing more leaves or comes. What it owes, and that it
 -- keeps what tasks, pins, bytes and workers ask of a coherent state.
-use Rattle.std.proofs.Common.{Bool, List, Some, [], arith, false, inl, inr, sym, true, ◌||◌, ◌∙◌, ◌≡◌, ◌≢◌, ◌≤◌, ◌⊎◌, ap, subst, get_or, length, not, ℕ, ◌<◌, if◌then◌else◌, All, nat_eq}
+use Rattle.std.proofs.Common.{Bool, List, Some, [], arith, false, inl, inr, sym, true, ◌∙◌, ◌≡◌, ◌≢◌, ◌≤◌, ◌⊎◌, ap, subst, get_or, not, ℕ, ◌<◌, if◌then◌else◌, All, nat_eq}
 use Rattle.std.proofs.lemmas.Bool.{false_from_ne_true, false≢true}
 use Rattle.sj_core.proofs.Words.{Array, AtNode, Cell, Claimed, Machine, Node, OnDisk, Place, Program, Progress, Running, State, Task, Transfer, Valid, Worker, cells_of, dims_of, fresh_cells, has_cell, is_claimed_by, is_coming_by, is_entry, is_leaving, is_leaving_by, is_task_of, is_valid, moves, node_of, order, pins, progress, replica, scratch, transfer, victims_of, written_cells, zeros, Coming, DiskNo, Invalid, Leaving, worker_of}
-use Rattle.sj_core.specs.Coherent.{Coherent, CopiesAgree, IsOwnedBy, IsStateOf, IsTransferTo, NodesSuffice, OrderIsKept, PinsHold, TasksHaveCells, TransfersAreSound, WorkersAreSound, WritersOwn, WritesAreCounted, content, written_content, HasBlocks, HasWorkers, is_begun}
+use Rattle.sj_core.specs.Coherent.{Coherent, CopiesAgree, IsOwnedBy, IsStateOf, IsTransferTo, NodesSuffice, OrderIsKept, PinsHold, TasksHaveCells, TransfersAreSound, WorkersAreSound, WritersOwn, WritesAreCounted, content, written_content, HasBlocks, HasWorkers}
 use Rattle.sj_core.specs.Laws.{IsSound}
 use Rattle.sj_core.specs.Step.{leave, same_place}
 use Rattle.sj_core.proofs.Advancing.{Advances, claimed_by-is, claimed_by-task_of, same_task, task_of-worker}

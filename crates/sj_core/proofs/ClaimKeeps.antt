@@ -1,5 +1,5 @@
 -- A claim leaves a coherent state.
-use Rattle.std.proofs.Common.{Bool, List, None, Option, Some, [], arith, cond, false, inl, inr, length, not, refl, sym, true, ℕ, ◌&&◌, ◌++◌, ◌+◌, ◌<◌, ◌||◌, ◌∙◌, ◌≡◌, ◌≢◌, ◌≤◌, ◌⊎◌, ap, subst, filter, All, fold, if◌then◌else◌, is_some, nat_eq, sum_by}
+use Rattle.std.proofs.Common.{Bool, List, None, Option, Some, [], arith, cond, false, inl, inr, length, not, refl, sym, true, ℕ, ◌&&◌, ◌++◌, ◌+◌, ◌||◌, ◌∙◌, ◌≡◌, ◌≢◌, ◌≤◌, ◌⊎◌, ap, subst, filter, All, fold, if◌then◌else◌, is_some, nat_eq, sum_by}
 use Rattle.std.proofs.lemmas.Bool.{and_parts, false_from_ne_true, false≢true, leb-true, cases_Bool}
 use Rattle.std.proofs.lemmas.List.{get_or-set_other, get_or-set_same, length-set}
 use Rattle.sj_core.proofs.Words.{Array, AtNode, Cell, CellState, Claimed, Coming, Invalid, Leaving, Machine, Node, OnDisk, Place, Program, Running, State, Task, Transfer, Valid, Waiting, Worker, WorkerState, array_of, cells_of, cells_of_program, dims_of, distinct, fresh_cells, has_cell, is_claimed_by, is_coming_by, is_entry, is_leaving, is_leaving_by, is_pinned, is_task_of, is_valid, node_of, node_size, order, pins, progress, replica, replica_in, same_cell, same_worker, scratch, scratch_bytes, task_of, tile_bytes, transfer, victims_of, with_replica_in, workers_at, written_cells, zeros, free, used}

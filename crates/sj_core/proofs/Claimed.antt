@@ -1,9 +1,7 @@
 -- A claimed task of a coherent state: its worker, and what it finds in the cells whose old values it reads.
-use Rattle.std.proofs.Common.{Bool, ap, arith, false, get_or, length, sym, true, ℕ, ◌<◌, ◌∙◌, ◌≡◌}
-use Rattle.std.proofs.lemmas.List.Folds.{list_any_at}
-use Rattle.std.proofs.lemmas.List.FromFn.{get_or-map-range_with_len, length-map-range_with_len}
+use Rattle.std.proofs.Common.{Bool, ap, arith, false, length, sym, true, ◌<◌, ◌∙◌, ◌≡◌}
 use Rattle.std.specs.List.{list_any}
-use Rattle.sj_core.proofs.Words.{Cell, Claimed, Machine, Program, Running, State, Task, Waiting, Worker, cells_of, fresh_cells, has_cell, progress, tasks_of, writes}
+use Rattle.sj_core.proofs.Words.{Cell, Claimed, Machine, Program, Running, State, Task, Worker, cells_of, fresh_cells, has_cell, progress, tasks_of, writes}
 use Rattle.sj_core.specs.Coherent.{is_begun, is_being_written}
 use Rattle.sj_core.specs.Laws.{IsSound}
 use Rattle.sj_core.proofs.Advancing.{claimed-task_of}

@@ -1,14 +1,13 @@
 -- What a claim changes: a victim leaves, a missing cell comes, and the rest stays as it is.
-use Rattle.std.proofs.Common.{Bool, List, None, Option, Some, [], arith, cond, false, inl, length, not, refl, subst, sym, true, ◌&&◌, ◌+◌, ◌<◌, ◌||◌, ◌∙◌, ◌∷◌, ◌≡◌, ◌≢◌, ◌⊎◌, ap, inr, filter, if◌then◌else◌, is_some, nat_eq}
+use Rattle.std.proofs.Common.{Bool, List, [], arith, cond, false, inl, length, not, refl, sym, true, ◌&&◌, ◌<◌, ◌||◌, ◌∙◌, ◌∷◌, ◌≡◌, ◌≢◌, ◌⊎◌, ap, inr, filter, nat_eq}
 use Rattle.std.proofs.lemmas.Bool.{and_from, and_parts, cases_lt, false_from_ne_true, false≢true, not-true}
 use Rattle.std.proofs.lemmas.Bool.Decides.{Decides-eqb}
 use Rattle.std.proofs.lemmas.List.{get_or_past}
 use Rattle.std.proofs.lemmas.List.Elements.{All-contains}
 use Rattle.std.specs.List.{list_any}
-use Rattle.sj_core.proofs.Words.{Access, Array, AtNode, Cell, CellState, Claimed, Coming, DiskNo, Invalid, Leaving, Machine, Node, OnDisk, Place, Program, Replica, State, Task, Valid, Waiting, Worker, WorkerState, array_of, cell_info, cell_state, cells_of, copy_of, distinct, free, has_cell, is_coming_by, is_entry, is_leaving_by, is_pinned, is_task_of, no_task, node_of, order, pins, progress, replica, replica_in, scratch_bytes, task_of, tile_bytes, transfer, with_replica_in, worked_on, worker_state, workers_of, writes}
+use Rattle.sj_core.proofs.Words.{Array, AtNode, Cell, CellState, Claimed, Coming, DiskNo, Invalid, Leaving, Machine, Node, OnDisk, Place, Program, Replica, State, Task, Valid, Waiting, Worker, WorkerState, array_of, cell_state, cells_of, free, has_cell, is_coming_by, is_entry, is_leaving_by, is_pinned, is_task_of, node_of, order, pins, progress, replica, replica_in, scratch_bytes, task_of, tile_bytes, transfer, with_replica_in, worker_state, workers_of, writes}
 use Rattle.sj_core.specs.Coherent.{HasRows}
 use Rattle.sj_core.specs.Laws.{IsSound}
-use Rattle.sj_base.specs.Mode.{is_redux, is_scratch}
 use Rattle.sj_core.specs.Proper.{IsMachineFor}
 use Rattle.sj_core.specs.Step.{Claims, claimed_replica, leave, missing, to_come}
 use Rattle.sj_core.specs.Victims.{covers}

@@ -1,11 +1,11 @@
 -- The partial copies of a cell under reduction: which tasks work on them while a phase is open, and what these leave there.
-use Rattle.std.proofs.Common.{List, None, Option, Some, [], ap, arith, cond, false, get_or, inl, inr, not, refl, subst, suc, sym, true, zero, ℕ, ◌+◌, ◌<◌, ◌∙◌, ◌∷◌, ◌≡◌, ◌≢◌, ◌≤◌, ◌⊎◌, All, IsTrue, is_some, Contains}
+use Rattle.std.proofs.Common.{List, None, Option, Some, [], ap, arith, cond, false, get_or, inl, inr, not, refl, subst, suc, sym, true, zero, ℕ, ◌+◌, ◌<◌, ◌∙◌, ◌∷◌, ◌≡◌, ◌≢◌, ◌≤◌, ◌⊎◌, IsTrue, is_some, Contains}
 use Rattle.std.proofs.lemmas.Bool.{cases_lt, false≢true, true≢false}
 use Rattle.std.proofs.lemmas.Bool.Decides.{Decides-eqb}
 use Rattle.std.proofs.lemmas.List.{get_or_default}
 use Rattle.std.proofs.lemmas.List.Elements.{All-contains, Contains-get_or}
 use Rattle.sj_base.specs.Mode.{is_redux, is_scratch, starts_as_zeros}
-use Rattle.sj_core.proofs.Words.{Access, Cell, CommuteMode, Mode, Program, R, RW, Redux, Scratch, W, Worker, cell_info, copy_of, data_operands, no_task, same_cell, worked_on}
+use Rattle.sj_core.proofs.Words.{Access, Cell, Mode, Program, R, RW, Redux, W, Worker, cell_info, copy_of, data_operands, no_task, same_cell, worked_on}
 use Rattle.sj_core.specs.Proper.{IsCombine, IsContribution, IsCopyOf, IsFirstUnit, IsInit, IsMember, IsOpenAt, IsPhase, Phase, Proper, Touches, access, task_number}
 use Rattle.sj_core.proofs.Dependencies.{not_both, one_is, own-of_phase}
 use Rattle.sj_core.proofs.Folding.{number}

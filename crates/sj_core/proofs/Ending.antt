@@ -1,22 +1,22 @@
 -- The end of a kernel's run leaves a coherent state.
-use Rattle.std.proofs.Common.{Bool, List, ap, arith, false, inl, inr, length, refl, subst, sym, true, ◌<◌, ◌∙◌, ◌≡◌, ◌&&◌, ◌+◌, ◌≢◌, None, Option, Some, [], not, set, ℕ, ◌≤◌, ◌⊎◌, zip, IsTrue, count_by, nat_eq, nat_le, nat_lt, All, IfSome, if◌then◌else◌}
+use Rattle.std.proofs.Common.{Bool, List, ap, arith, false, inl, inr, length, refl, subst, sym, true, ◌<◌, ◌∙◌, ◌≡◌, ◌&&◌, ◌+◌, ◌≢◌, None, Option, Some, [], not, ℕ, ◌≤◌, ◌⊎◌, zip, count_by, nat_eq, nat_le, nat_lt, All, if◌then◌else◌}
 use Rattle.std.proofs.lemmas.Bool.{false≢true, eq-eqb, ne_eqb, and_from, le-leb, lt-ltb, cases_Bool, cases_lt, false_from_ne_true, cond_both}
 use Rattle.std.proofs.lemmas.List.{get_or-set_same, get_or_past, length-set}
 use Rattle.std.proofs.lemmas.Option.{MatchOption-from_none}
 use Rattle.sj_deps.specs.Conflict.{Conflict}
 use Rattle.sj_core.specs.Coherent.{Coherent, HasWorkers, OrderIsKept, content, is_begun, IsStateOf, TasksHaveCells, WritesAreCounted, has_written, CopiesAgree, HasRows, IsOwnedBy, WritersOwn, is_being_written, written_content}
-use Rattle.sj_core.specs.Fold.{Contents, after_chosen, after_task, held_in}
+use Rattle.sj_core.specs.Fold.{after_chosen, after_task, held_in}
 use Rattle.sj_core.specs.Laws.{IsLawful, IsSound}
 use Rattle.sj_core.specs.Proper.{Proper}
 use Rattle.sj_core.specs.Step.{Ends, array_at, result_at, after, rewritten_at, same_place}
-use Rattle.sj_core.proofs.Words.{Array, AtNode, Cell, CellState, Claimed, Done, Kernel, Machine, Program, Progress, Running, State, Task, Waiting, Worker, dims_of, done_by, done_in, has_cell, is_done, is_task_of, no_task, node_of, progress, results, tasks_of, worked_on, worker_of, writes, written_cells, zeros, Invalid, Node, OnDisk, Place, Replica, Transfer, Valid, WorkerState, array_of, cell_state, cells_of, is_coming_by, is_entry, is_leaving_by, is_valid, moves, order, pins, replica, replica_in, same_cell, scratch, transfer, victims_of, worker_state}
+use Rattle.sj_core.proofs.Words.{Array, AtNode, Cell, CellState, Claimed, Done, Kernel, Machine, Program, Progress, Running, State, Task, Worker, dims_of, done_by, done_in, has_cell, is_done, is_task_of, no_task, node_of, progress, results, tasks_of, worked_on, worker_of, writes, written_cells, zeros, Invalid, Node, OnDisk, Place, Replica, Transfer, Valid, WorkerState, array_of, cell_state, cells_of, is_coming_by, is_entry, is_leaving_by, is_valid, moves, order, pins, replica, replica_in, same_cell, scratch, transfer, victims_of, worker_state}
 use Rattle.sj_core.proofs.Advancing.{Advances, Ends-advances, done-begun, same_task, Ends-keeps_order}
 use Rattle.sj_core.proofs.Values.{results-complete}
 use Rattle.sj_core.proofs.Updating.{may-swap}
 use Rattle.sj_core.proofs.Folding.{AddsTask, after_chosen-same, after_task-other, held-append, held_over, held_over-own, read-among_cells, results-same}
 use Rattle.sj_core.proofs.Found.{found-content}
 use Rattle.sj_core.proofs.Phases.{contributions-exchange}
-use Rattle.sj_core.proofs.Reading.{progress-inside, cells-touched, cells-untouched, cells-renewed_or, entry-inside, idle_row, moves-it, worker-other, worker-same, workers_differ}
+use Rattle.sj_core.proofs.Reading.{cells-touched, cells-untouched, cells-renewed_or, entry-inside, idle_row, moves-it, worker-other, worker-same, workers_differ}
 use Rattle.sj_core.proofs.Replicas.{same_worker-refl}
 use Rattle.sj_core.proofs.Swapping.{put-last}
 use Rattle.sj_core.proofs.Placing.{valid-row, replica_in-cases, same_place-is, same_place-refl}

@@ -1,11 +1,10 @@
 -- What a claimed or running task finds in the cells whose old value it reads; and which cells no running task writes, before and after a step.
-use Rattle.std.proofs.Common.{Bool, None, Option, Some, ap, arith, cond, false, get_or, inl, inr, length, not, refl, sym, true, ℕ, ◌&&◌, ◌<◌, ◌∙◌, ◌≡◌, subst, Contains, IfSome, count_by, is_some}
+use Rattle.std.proofs.Common.{Bool, None, Option, Some, ap, arith, cond, false, get_or, inl, inr, length, not, sym, true, ℕ, ◌&&◌, ◌<◌, ◌∙◌, ◌≡◌, subst, Contains, IfSome, count_by, is_some}
 use Rattle.std.proofs.lemmas.Bool.{and_parts, false_from_ne_true, false≢true, not-true}
 use Rattle.std.proofs.lemmas.List.Folds.{Any-from_list_any, list_any_at}
 use Rattle.std.proofs.lemmas.List.FromFn.{get_or-map-range_with_len, length-map-range_with_len}
-use Rattle.std.proofs.lemmas.List.Sums.{get_or-le-sum_by}
 use Rattle.std.specs.Prelude.{unwrap_or}
-use Rattle.sj_core.proofs.Words.{Access, Array, Cell, Machine, Program, Progress, R, Running, State, Task, Waiting, Worker, cells_of, copy_of, done_by, has_cell, is_running_on, is_task_of, progress, same_cell, task_of, tasks_of, worked_on, worker_of, writes, written_cells}
+use Rattle.sj_core.proofs.Words.{Access, Array, Cell, Machine, Program, Progress, Running, State, Task, Worker, cells_of, copy_of, done_by, has_cell, is_running_on, is_task_of, progress, same_cell, task_of, tasks_of, worked_on, worker_of, writes, written_cells}
 use Rattle.sj_base.specs.Mode.{is_redux, is_written}
 use Rattle.sj_deps.specs.Conflict.{HasDependencies}
 use Rattle.sj_core.specs.Coherent.{Coherent, is_being_written, HasRows}
@@ -13,7 +12,7 @@ use Rattle.sj_core.specs.Proper.{Proper, gives_value}
 use Rattle.sj_core.proofs.Advancing.{running_on-is, same_task, task_of-worker, Advances}
 use Rattle.sj_core.proofs.Replicas.{same_worker-refl}
 use Rattle.sj_core.proofs.Separation.{separated}
-use Rattle.sj_core.proofs.Sharing.{one, operand-has_cell}
+use Rattle.sj_core.proofs.Sharing.{operand-has_cell}
 use Rattle.sj_core.proofs.Reading.{progress-inside, list_any-numbered}
 use Rattle.sj_core.proofs.Sums.{counted-has}
 

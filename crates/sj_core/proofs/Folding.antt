@@ -1,18 +1,14 @@
 -- What cells hold after tasks in submission order: on which tasks it depends, and that a task may come last.
-use Rattle.std.proofs.Common.{Bool, List, None, Option, Some, [], ap, arith, cond, false, inl, inr, length, map, not, refl, suc, sym, true, zero, ℕ, ◌++◌, ◌<◌, ◌||◌, ◌∙◌, ◌∷◌, ◌≡◌, ◌≢◌, ◌≤◌, Contains, filter, find, zip}
+use Rattle.std.proofs.Common.{Bool, List, None, Some, [], ap, arith, cond, false, inl, inr, length, map, not, refl, suc, sym, true, zero, ℕ, ◌++◌, ◌<◌, ◌||◌, ◌∙◌, ◌∷◌, ◌≡◌, ◌≢◌, ◌≤◌, Contains, find, zip}
 use Rattle.std.proofs.lemmas.Bool.{cases_lt, false_from_ne_true, false≢true, true≢false}
 use Rattle.std.proofs.lemmas.Bool.Decides.{Decides-eqb}
 use Rattle.std.proofs.lemmas.List.Folds.{find-append}
-use Rattle.std.specs.Option.{option_or}
-use Rattle.sj_core.proofs.Words.{Access, Array, Cell, Program, Task, Worker, cells_of, dims_of, found, has_cell, results, same_cell, task_of, worked_on, writes, written_cells, zeros}
-use Rattle.sj_base.specs.Mode.{is_scratch, is_written, starts_as_zeros}
-use Rattle.sj_codelet.specs.Kernel.{out}
+use Rattle.sj_core.proofs.Words.{Access, Array, Cell, Program, Task, Worker, cells_of, has_cell, results, same_cell, task_of, worked_on, written_cells}
+use Rattle.sj_base.specs.Mode.{is_scratch, starts_as_zeros}
 use Rattle.sj_core.specs.Fold.{Contents, after_chosen, after_task, held_in}
-use Rattle.sj_core.proofs.Advancing.{same_task}
 use Rattle.sj_core.proofs.Modes.{reads_isn't_scratch}
 use Rattle.sj_core.proofs.Readiness.{Contains-from_filter}
 use Rattle.sj_core.proofs.Sharing.{operand-has_cell}
-use Rattle.sj_core.proofs.TaskCells.{written-among_cells}
 
 abbrev pub number : ℕ → Task
 number n = record { 0 = n }

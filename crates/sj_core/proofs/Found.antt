@@ -1,11 +1,10 @@
 -- What a claimed or running task finds where it works, whatever the modes: the content of each cell whose old value it reads.
-use Rattle.std.proofs.Common.{arith, Bool, ap, cond, false, inl, inr, not, refl, subst, sym, true, ◌<◌, ◌∙◌, ◌≡◌, ◌⊎◌, Contains, IsTrue}
-use Rattle.std.specs.Prelude.{unwrap_or}
+use Rattle.std.proofs.Common.{arith, Bool, ap, cond, false, not, refl, subst, sym, true, ◌<◌, ◌∙◌, ◌≡◌, ◌⊎◌, Contains, IsTrue}
 use Rattle.std.proofs.lemmas.Bool.{false_from_ne_true, false≢true}
 use Rattle.std.proofs.lemmas.Bool.Decides.{Decides-eqb}
 use Rattle.sj_base.specs.Mode.{is_redux, is_scratch, starts_as_zeros}
 use Rattle.sj_deps.specs.Conflict.{Uses}
-use Rattle.sj_core.proofs.Words.{Access, AtNode, Cell, Codelet, CommuteMode, Machine, Mode, Program, R, RW, Redux, Replica, Running, Scratch, State, Task, W, Worker, Write, array_of, cells_of, copy_of, data_operands, dims_of, fresh_cells, has_cell, is_running_on, is_task_of, is_valid, no_task, node_of, progress, replica, same_cell, task_of, worked_on, written_cells, zeros}
+use Rattle.sj_core.proofs.Words.{Access, AtNode, Cell, Codelet, Machine, Mode, Program, R, Running, State, Task, W, Worker, Write, array_of, cells_of, copy_of, data_operands, dims_of, fresh_cells, has_cell, is_running_on, is_task_of, is_valid, no_task, node_of, progress, replica, same_cell, task_of, worked_on, written_cells, zeros}
 use Rattle.sj_core.specs.Coherent.{Coherent, content}
 use Rattle.sj_core.specs.Proper.{Proper}
 use Rattle.sj_core.specs.Step.{array_at}

@@ -25,7 +25,6 @@ use Rattle.sj_core.proofs.Found.{found-content}
 use Rattle.sj_core.proofs.Modes.{plain_isn't_redux, reads_isn't_scratch}
 use Rattle.sj_core.proofs.TaskCells.{operand-inside}
 use Rattle.sj_core.proofs.Readiness.{Contains-filter}
-use Rattle.sj_core.proofs.Reading.{progress-inside}
 use Rattle.sj_core.proofs.Replicas.{same_worker-refl}
 use Rattle.sj_core.proofs.Sharing.{Conflict-sym, one, redux-has_copies}
 

@@ -1,5 +1,5 @@
 -- What a mode says of its operand, by a look at each mode.
-use Rattle.std.proofs.Common.{arith, Bool, [], false, lit<, not, refl, true, ◌||◌, ◌∷◌, ◌≡◌, List}
+use Rattle.std.proofs.Common.{arith, Bool, [], false, not, refl, true, ◌||◌, ◌∷◌, ◌≡◌, List}
 use Rattle.std.proofs.lemmas.Bool.{and_parts, false≢true, not-true, not-false}
 use Rattle.std.proofs.lemmas.List.Sums.{AllPass-from_list_all}
 use Rattle.std.specs.List.{list_all}

@@ -1,17 +1,17 @@
 -- A move that begins, one that ends, and a drop leave a coherent state.
-use Rattle.std.proofs.Common.{arith, List, Some, false, inl, inr, refl, sym, true, ◌∙◌, ◌≡◌, ap, subst, None, Option, not, ℕ, ◌&&◌, ◌⊎◌, Bool, [], length, ◌<◌, ◌≢◌, IsTrue, option_map, position, IfSome}
+use Rattle.std.proofs.Common.{arith, List, Some, false, inl, inr, refl, sym, true, ◌∙◌, ◌≡◌, ap, subst, None, Option, not, ◌&&◌, ◌⊎◌, Bool, [], ◌<◌, ◌≢◌, IsTrue, IfSome}
 use Rattle.std.proofs.lemmas.List.{length-set}
 use Rattle.std.proofs.lemmas.Bool.{true≢false, and_from, false_from_ne_true, false≢true, and_parts}
 use Rattle.std.proofs.lemmas.List.Quantifiers.{position-Some}
 use Rattle.sj_core.specs.Coherent.{Coherent, CopiesAgree, HasBlocks, HasRows, IsOwnedBy, IsTransferTo, TransfersAreSound, IsClaimed, NoneLeavesBy, content}
 use Rattle.sj_core.specs.Laws.{IsSound}
-use Rattle.sj_core.specs.Step.{disk_of, BeginsMoveIn, a_transfer, is_fresh, BeginsMoveOut, is_valid_elsewhere, same_place, EndsMove, array_at, Drops, is_read, places_of, reads}
-use Rattle.sj_core.proofs.Words.{Array, AtNode, Cell, CellState, Claimed, Machine, Node, Place, Program, Running, State, Task, Transfer, Worker, WorkerState, has_cell, is_claimed_by, is_coming_by, is_entry, is_leaving_by, is_valid, moves, node_of, pins, progress, replica, scratch, transfer, victims_of, writes, DiskNo, OnDisk, with_transfer, Invalid, cell_state, fresh_cells, Coming, Leaving, Replica, Valid, array_of, dims_of, same_cell, with_replica, with_replica_in, zeros, is_leaving}
+use Rattle.sj_core.specs.Step.{disk_of, BeginsMoveIn, a_transfer, is_fresh, BeginsMoveOut, same_place, EndsMove, array_at, Drops, is_read, reads}
+use Rattle.sj_core.proofs.Words.{Array, AtNode, Cell, CellState, Claimed, Machine, Node, Place, Program, Running, State, Task, Transfer, Worker, WorkerState, has_cell, is_claimed_by, is_coming_by, is_entry, is_leaving_by, is_valid, moves, node_of, pins, progress, replica, scratch, transfer, victims_of, writes, DiskNo, OnDisk, with_transfer, Invalid, fresh_cells, Coming, Leaving, Replica, Valid, array_of, dims_of, same_cell, with_replica, zeros, is_leaving}
 use Rattle.sj_core.proofs.Advancing.{claimed-is_mine, task_of-worker, claimed_by-is}
 use Rattle.sj_core.proofs.Changing.{Changes, Changes-coherent, Changes-writers, HasBlocks-kept}
 use Rattle.sj_core.proofs.Placing.{transfer-is, pins-same, scratch-same, victims-same, owned-fails, position-none, room-leaves_none, valid-within, stays-on_disk, list_any-place, same_place-is, disks-kept, nodes-kept, replica-cases, transfer-cases, transfer-own, writes-same, same_place-refl}
 use Rattle.sj_core.proofs.Reading.{unmoved-from, moves-it, transfer-inside, list_any-worker}
-use Rattle.sj_core.proofs.Replicas.{same_worker-refl, leaving_by-is, leaving_by-one, leaving_by-valid, coming_by-is, coming_by-one, leaving-by_some, leaving-is_none}
+use Rattle.sj_core.proofs.Replicas.{same_worker-refl, leaving_by-one, leaving_by-valid, coming_by-is, coming_by-one, leaving-by_some, leaving-is_none}
 use Rattle.sj_core.proofs.Claimed.{claimed-inside, claimed-not_written, claimed-old_value, list_any-task}
 use Rattle.sj_core.proofs.CellLists.{same_cell-refl, same_cell-from}
 use Rattle.sj_core.proofs.Finding.{array-told}

@@ -1,9 +1,9 @@
 -- The opening state is coherent.
-use Rattle.std.proofs.Common.{Option, None, Some, List, [], ap, arith, cond, get_or, inl, inr, length, refl, replicate, suc, sym, true, zero, ℕ, ◌&&◌, ◌+◌, ◌<◌, ◌∙◌, ◌∷◌, ◌≡◌, ◌⊎◌, count_by, fold, sum_by}
+use Rattle.std.proofs.Common.{Option, None, Some, List, [], ap, arith, cond, get_or, inl, inr, length, refl, replicate, suc, sym, true, zero, ℕ, ◌&&◌, ◌<◌, ◌∙◌, ◌≡◌, ◌⊎◌, count_by}
 use Rattle.std.proofs.lemmas.Bool.{cases_lt, false≢true}
 use Rattle.std.proofs.lemmas.List.{get_or-replicate, get_or_past, length-replicate}
 use Rattle.std.proofs.lemmas.List.Elements.{All-replicate}
-use Rattle.sj_core.proofs.Words.{AtNode, Cell, CellState, Coming, Invalid, Leaving, Machine, Node, OnDisk, Place, Program, Task, Transfer, Waiting, Worker, WorkerState, cell_state, done_by, has_cell, is_coming_by, is_done, is_entry, is_leaving_by, is_task_of, is_valid, no_replica, opening, order, pins, progress, replica, replica_in, same_cell, scratch, tasks_of, tile_bytes, transfer, worker_state, workers_at, writes, written_cells, used}
+use Rattle.sj_core.proofs.Words.{AtNode, Cell, CellState, Coming, Invalid, Leaving, Machine, Node, OnDisk, Place, Program, Task, Transfer, Waiting, Worker, WorkerState, cell_state, done_by, has_cell, is_coming_by, is_done, is_entry, is_leaving_by, is_task_of, is_valid, no_replica, opening, order, pins, progress, replica, same_cell, scratch, tasks_of, transfer, worker_state, writes, written_cells, used}
 use Rattle.sj_core.specs.Coherent.{Coherent, has_written, is_active, is_begun}
 use Rattle.sj_core.proofs.Reading.{idle_row, no_row, replica_in-no_row}
 use Rattle.sj_core.proofs.Advancing.{claimed-is_mine}

@@ -1,8 +1,8 @@
 -- The phases of a program: which tasks contribute to a cell, and what stands between them.
-use Rattle.std.proofs.Common.{Bool, List, None, Option, Some, ap, arith, cond, get_or, inl, inr, length, not, refl, subst, sym, true, ℕ, ◌<◌, ◌&&◌, ◌∙◌, ◌≡◌, ◌≢◌, ◌≤◌, ◌⊎◌, All, IsTrue, is_some, Contains}
+use Rattle.std.proofs.Common.{Bool, List, None, Option, Some, ap, arith, get_or, inl, inr, length, not, refl, subst, sym, true, ℕ, ◌<◌, ◌&&◌, ◌∙◌, ◌≡◌, ◌≢◌, ◌≤◌, ◌⊎◌, All, IsTrue, Contains}
 use Rattle.std.proofs.lemmas.Bool.{and_from, cases_lt}
 use Rattle.std.proofs.lemmas.List.Elements.{All-contains, All-get_or, Contains-get_or}
-use Rattle.sj_base.specs.Mode.{is_redux, is_scratch}
+use Rattle.sj_base.specs.Mode.{is_scratch}
 use Rattle.sj_codelet.specs.Kernel.{combine_of, contributes_of, has_reduction, init_of, kernel_of}
 use Rattle.sj_codelet.specs.Laws.{DoesContribute, IsReduction}
 use Rattle.sj_deps.specs.Conflict.{Conflict, Uses}

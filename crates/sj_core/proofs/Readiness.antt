@@ -1,5 +1,5 @@
 -- The tasks that are done in a state, as a list and as a test; when a waiting task is ready.
-use Rattle.std.proofs.Common.{◌||◌, Bool, List, [], ap, arith, cond, false, get_or, inl, inr, length, refl, subst, suc, sym, true, zero, ℕ, ◌<◌, ◌∙◌, ◌∷◌, ◌≡◌, ◌⊎◌, map, ◌++◌, not, Contains, filter, AllPairs}
+use Rattle.std.proofs.Common.{◌||◌, Bool, List, [], ap, arith, false, get_or, inl, inr, length, refl, subst, sym, true, ℕ, ◌<◌, ◌∙◌, ◌∷◌, ◌≡◌, ◌⊎◌, map, ◌++◌, not, Contains, filter, AllPairs}
 use Rattle.std.proofs.lemmas.List.Sorted.{Contains-permutation, IsPermutation-filter_both}
 use Rattle.std.proofs.lemmas.List.Elements.{All-contains, All-contains_itself, All-filter, Contains-append_cases, filter_passes}
 use Rattle.std.proofs.lemmas.Bool.{cases_eq, cases_lt, false≢true}

@@ -1,5 +1,5 @@
 -- What the accessors of a state give after a claim, a run and an end.
-use Rattle.std.proofs.Common.{Bool, List, None, Option, Some, [], ap, arith, false, get_or, inl, inr, length, map, not, refl, suc, sym, true, zero, ℕ, ◌&&◌, ◌<◌, ◌||◌, ◌∙◌, ◌∷◌, ◌≡◌, ◌≢◌, ◌⊎◌, if◌then◌else◌}
+use Rattle.std.proofs.Common.{Bool, List, None, Option, Some, [], ap, arith, false, get_or, length, map, refl, suc, true, zero, ℕ, ◌&&◌, ◌<◌, ◌||◌, ◌∙◌, ◌∷◌, ◌≡◌, ◌≢◌, ◌⊎◌, if◌then◌else◌}
 use Rattle.std.proofs.lemmas.Bool.{cases_eq, cases_lt, false_from_ne_true, false≢true, not-true}
 use Rattle.std.proofs.lemmas.Bool.Decides.{Decides-eqb}
 use Rattle.std.proofs.lemmas.List.{get_or-set_other, get_or-set_same, get_or_past}
@@ -9,8 +9,7 @@ use Rattle.std.proofs.lemmas.List.Sums.{AllPass-from_list_all}
 use Rattle.std.specs.List.{list_all, list_any, range_with_len}
 use Rattle.sj_core.proofs.Words.{AtNode, Cell, CellState, Invalid, Machine, Node, OnDisk, Place, Progress, Replica, State, Task, Transfer, Waiting, Worker, WorkerState, cell_state, has_cell, is_entry, is_leaving, moves, progress, replica, replica_in, same_cell, transfer, with_cells, with_progress, with_replica_in, with_worker, worker_state, workers_of}
 use Rattle.sj_core.specs.Step.{none_leaving}
-use Rattle.sj_core.specs.Table.{renewed}
-use Rattle.sj_core.proofs.Tables.{length-renewed, renewed-at, renewed-at_or}
+use Rattle.sj_core.proofs.Tables.{length-renewed, renewed-at}
 
 -- ---- tasks
 

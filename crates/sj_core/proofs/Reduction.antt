@@ -1,6 +1,6 @@
 -- A job with a reduction on two workers: a sum to a scalar of which each has a partial copy. While the phase is open, another
 -- task has the scalar as a scratch buffer, which is no access. The program is proper.
-use Rattle.std.proofs.Common.{Bool, List, None, Option, Some, [], ap, arith, false, get_or, inl, inr, length, lit<, lit≤, map, not, refl, subst, suc, sym, true, zero, ℕ, ◌&&◌, ◌+◌, ◌<◌, ◌||◌, ◌∙◌, ◌∷◌, ◌≡◌, ◌≤◌, ◌⊎◌, All, AllPairs, Contains, IsTrue, count_by, is_some, nat_eq, nat_le, nat_lt, pos, ◌^◌}
+use Rattle.std.proofs.Common.{Bool, List, None, Option, Some, [], ap, arith, false, get_or, inl, inr, lit<, lit≤, map, not, refl, subst, suc, sym, true, zero, ℕ, ◌&&◌, ◌+◌, ◌<◌, ◌||◌, ◌∷◌, ◌≡◌, ◌≤◌, ◌⊎◌, All, AllPairs, Contains, IsTrue, is_some, nat_eq, nat_le, nat_lt, pos, ◌^◌}
 use Rattle.std.proofs.lemmas.Bool.{and_from, and_parts, cases_lt, eqb-true, false≢true, le-leb, ltb-true}
 use Rattle.std.proofs.lemmas.List.{get_or_past}
 use Rattle.std.proofs.lemmas.List.Elements.{All-contains, All-from_get_or, All-from_recursion, All-nil, Contains-append_cases, Contains-get_or}
@@ -10,7 +10,6 @@ use Rattle.std.proofs.lemmas.List.Sums.{AllPass-from_list_all}
 use Rattle.std.specs.List.{list_all, list_any, range_with_len}
 use Rattle.sj_core.proofs.Words.{Access, Cell, Kernel, Lowered, Mode, Plus, Program, R, RW, Redux, Scratch, Task, W, Worker, area, cell_info, copy_of, data_operands, dims_of, no_task, same_cell, task_of}
 use Rattle.sj_base.specs.Mode.{is_redux, reads_value}
-use Rattle.sj_base.specs.declared.mode.Mode.TheVariants.{Commute}
 use Rattle.sj_codelet.specs.Kernel.{fits, kernel_of}
 use Rattle.sj_codelet.specs.declared.kernel.Kernel.TheVariants.{Add, Deliver, GemmThree, InitPlus, Load, Sum}
 use Rattle.sj_core.specs.Proper.{Contributing, Fits, HasDeliveries, HasPhases, HasValueBefore, IsCombine, IsContribution, IsCopyOf, IsInit, IsMember, IsPhase, IsUnaliased, IsWithinLimits, NamesCells, Own, Phase, Proper, ReadsValues, Touches, gives_value, own_modes, task_number}

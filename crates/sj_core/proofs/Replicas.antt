@@ -1,5 +1,5 @@
 -- What a test of one replica says of it.
-use Rattle.std.proofs.Common.{arith, ap, false, inl, inr, refl, sym, true, ◌∙◌, ◌≡◌, ◌⊎◌}
+use Rattle.std.proofs.Common.{arith, ap, false, refl, sym, true, ◌∙◌, ◌≡◌, ◌⊎◌}
 use Rattle.std.proofs.lemmas.Bool.{false≢true}
 use Rattle.std.proofs.lemmas.Bool.Decides.{Decides-eqb}
 use Rattle.sj_core.proofs.Words.{Array, Coming, Invalid, Leaving, Replica, Valid, Worker, is_coming_by, is_entry, is_leaving, is_leaving_by, is_valid, same_worker}

@@ -1,6 +1,6 @@
 -- After any tasks of a proper program each cell holds a tile of its own dimensions.
-use Rattle.std.proofs.Common.{Bool, List, [], ap, arith, length, lit<, map, refl, subst, suc, sym, true, zero, ℕ, false, ℤ, pos, negsuc, get_or, inl, inr, ◌+◌, ◌/◌, ◌*◌, ◌%◌, ◌∙◌, ◌∷◌, ◌≡◌, ◌&&◌, ◌+ℤ◌, ◌⊎◌, ◌||◌, ◌≤ℤ◌, None, Option, Some, cond, ◌≤◌, ◌<◌, All, FitsSigned, IsTrue, nat_eq, if◌then◌else◌, is_some, filter, find, zip}
-use Rattle.std.specs.Int.{int_max, int_min, w64}
+use Rattle.std.proofs.Common.{Bool, List, [], ap, arith, length, lit<, map, refl, subst, suc, sym, true, zero, ℕ, false, ℤ, pos, negsuc, get_or, ◌+◌, ◌/◌, ◌*◌, ◌%◌, ◌∙◌, ◌∷◌, ◌≡◌, ◌&&◌, ◌≤ℤ◌, None, Option, Some, cond, ◌≤◌, ◌<◌, All, FitsSigned, IsTrue, nat_eq, if◌then◌else◌, filter, find, zip}
+use Rattle.std.specs.Int.{int_min, w64}
 use Rattle.std.specs.List.{range_with_len}
 use Rattle.std.proofs.lemmas.Bool.{cases_lt, false≢true}
 use Rattle.std.proofs.lemmas.Bool.Decides.{nat_tests}
@@ -9,19 +9,18 @@ use Rattle.std.proofs.lemmas.List.{get_or-map, get_or_past, length-map, length-r
 use Rattle.std.proofs.lemmas.List.Elements.{All-cons, All-get_or, All-map, All-nil, All-replicate, All-head, All-tail}
 use Rattle.std.proofs.lemmas.List.FromFn.{length-map-range_with_len}
 use Rattle.sj_base.specs.Array.{array, at, each, element, grid}
-use Rattle.sj_codelet.specs.declared.kernel.Kernel.TheVariants.{Fill, Copy, Scale, Add, Axpy, Butterfly, Gemm, GemmThree, Transpose, Dot, Sum, Lowest, MinGemm, FwDiag, FwRow, FwCol, Load, LoadFill, Paste, Deliver, InitPlus, InitLeast}
-use Rattle.sj_codelet.specs.Equations.{add, after_turns, mingemm, subtract}
-use Rattle.sj_codelet.specs.Kernel.{dims_at, fits, new_arrays, operand, arguments_fit, dims_fit, formals_of}
+use Rattle.sj_codelet.specs.declared.kernel.Kernel.TheVariants.{Copy, Add, Axpy, Butterfly, Gemm, GemmThree, Transpose, Dot, Sum, Lowest, MinGemm, FwDiag, FwRow, FwCol, Load, Paste, Deliver, InitPlus, InitLeast}
+use Rattle.sj_codelet.specs.Equations.{after_turns}
+use Rattle.sj_codelet.specs.Kernel.{fits, new_arrays, operand, arguments_fit, dims_fit, formals_of}
 use Rattle.sj_codelet.specs.Laws.{IsTile}
-use Rattle.sj_codelet.specs.MinPlus.{greatest, inf, is_inf, least, least_below, plus}
+use Rattle.sj_codelet.specs.MinPlus.{inf, least, least_below, plus}
 use Rattle.sj_codelet.specs.Ring.{wrap}
-use Rattle.sj_base.specs.Mode.{is_redux, is_written, starts_as_zeros}
-use Rattle.sj_base.specs.declared.mode.Mode.TheVariants.{Commute}
+use Rattle.sj_base.specs.Mode.{is_written}
 use Rattle.sj_codelet.proofs.Table.{each_dims, new_arrays-dims}
 use Rattle.sj_codelet.specs.Formal.{is_output, outputs_among}
 use Rattle.sj_core.specs.Fold.{Contents, after_chosen, after_task, held_in}
-use Rattle.sj_core.specs.Proper.{Commuting, Contributing, FirstPaste, Fits, MayHaveModes, Own, Proper, mode_of, modes_writing_by, own_modes}
-use Rattle.sj_core.proofs.Words.{Array, Dims, Kernel, area, zeros, Access, Cell, Formal, Mode, Program, ReadFormal, Redux, ScratchFormal, Task, UpdateFormal, W, Worker, WriteFormal, cell_info, copy_of, dims_of, found, no_task, results, same_cell, task_of, worked_on, written_cells}
+use Rattle.sj_core.specs.Proper.{Fits, MayHaveModes, Proper, mode_of, modes_writing_by}
+use Rattle.sj_core.proofs.Words.{Array, Dims, Kernel, area, zeros, Access, Cell, Formal, Mode, Program, ReadFormal, ScratchFormal, Task, UpdateFormal, Worker, WriteFormal, dims_of, found, no_task, results, same_cell, task_of, worked_on, written_cells}
 use Rattle.sj_core.proofs.Folding.{held-append, held_over, map-same}
 use Rattle.sj_core.proofs.Reading.{same_cell-is}
 

@@ -1,6 +1,6 @@
 -- The state that a step leaves, and that a legal trace leaves, is a function of its events.
-use Rattle.std.proofs.Common.{◌≡◌, ◌≢◌, ℕ, ◌+◌, Bool, true, false, cond, List, [], ◌∷◌, length, refl, sym, ap, ◌∙◌, subst, arith, get_or, Option, Some, ◌++◌, count_by, nat_eq, All, sum_by, fold}
-use Rattle.std.proofs.Math.Logic.{∥∥₁_elim, ∥∥₁_map}
+use Rattle.std.proofs.Common.{◌≡◌, ℕ, ◌+◌, Bool, true, false, cond, List, [], ◌∷◌, length, refl, sym, ap, ◌∙◌, arith, Option, Some, ◌++◌, count_by, nat_eq, fold}
+use Rattle.std.proofs.Math.Logic.{∥∥₁_elim}
 use Rattle.std.proofs.Math.Nat.{ℕ_set}
 use Rattle.std.specs.Prelude.{unwrap_or}
 use Rattle.std.proofs.lemmas.Bool.{false≢true}
@@ -8,11 +8,11 @@ use Rattle.std.proofs.lemmas.Bool.Decides.{Decides-eqb}
 use Rattle.std.proofs.lemmas.List.{length-set, length-replicate, get_or-replicate}
 use Rattle.std.proofs.lemmas.List.Sums.{AllPass-from_list_all, sum_by-cons, fold-append}
 use Rattle.std.proofs.lemmas.Fn.{FoldsTo-push}
-use Rattle.sj_core.specs.Step.{Step, a_transfer, after, after_claim, claimant_of, mover_of}
-use Rattle.sj_core.specs.Coherent.{is_begun, Coherent, IsTransferTo}
-use Rattle.sj_core.specs.Legal.{Leads, Finishes, IsFinished, Legal, IsLegal, Replays, state_of}
+use Rattle.sj_core.specs.Step.{Step, a_transfer, after, after_claim, mover_of}
+use Rattle.sj_core.specs.Coherent.{is_begun, Coherent}
+use Rattle.sj_core.specs.Legal.{Leads, Finishes, IsFinished, Replays, state_of}
 use Rattle.sj_core.specs.Once.{EachRanOnce, is_claim_of, is_run_of, is_end_of}
-use Rattle.sj_core.proofs.Words.{AtNode, Claim, Claimed, Done, Drop, End, Event, Machine, Move, Moved, OnDisk, Program, Progress, Run, Running, State, Task, Waiting, is_done, opening, progress, Cell, Place, Worker, replica, transfer}
+use Rattle.sj_core.proofs.Words.{AtNode, Claim, Claimed, Done, End, Event, Machine, Move, OnDisk, Program, Progress, Run, Running, State, Task, Waiting, is_done, opening, progress, Cell, Place, Worker, transfer}
 use Rattle.sj_core.proofs.Advancing.{Advances, Claims-advances_task, Runs-advances, Ends-advances}
 use Rattle.sj_core.proofs.Replicas.{coming_by-is, leaving_by-is}
 

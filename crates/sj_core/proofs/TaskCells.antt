@@ -1,9 +1,9 @@
 -- Which cells a task works on: those it writes, those it finds as zeros, those to which it contributes in any order.
-use Rattle.std.proofs.Common.{arith, inl, inr, length, subst, ◌<◌, Bool, List, [], ap, cond, false, not, refl, true, ◌&&◌, ◌∷◌, ◌≡◌, Contains, filter}
+use Rattle.std.proofs.Common.{arith, length, ◌<◌, Bool, List, [], ap, cond, false, not, refl, true, ◌&&◌, ◌∷◌, ◌≡◌, Contains, filter}
 use Rattle.std.proofs.lemmas.Bool.{cases_lt}
 use Rattle.std.proofs.lemmas.List.{get_or_past}
 use Rattle.sj_base.specs.Mode.{is_scratch, is_written, starts_as_zeros}
-use Rattle.sj_core.proofs.Words.{Access, Cell, Lowered, Program, Task, Worker, cells_of, fresh_cells, has_cell, no_task, task_of, worked_on, written_cells}
+use Rattle.sj_core.proofs.Words.{Access, Cell, Program, Task, Worker, cells_of, fresh_cells, has_cell, task_of, worked_on, written_cells}
 use Rattle.sj_core.proofs.CellLists.{same_cell-from}
 use Rattle.sj_core.proofs.Modes.{fresh_is_written, written_isn't_scratch}
 use Rattle.sj_core.proofs.Readiness.{Contains-from_filter, filter-Contains}

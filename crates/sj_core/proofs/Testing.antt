@@ -1,9 +1,9 @@
 -- A computed test of legal traces, for worked runs: in it a task begins only once all earlier tasks are done.
-use Rattle.std.proofs.Common.{arith, Bool, List, None, Option, Some, [], ap, false, length, not, refl, true, ◌&&◌, ◌∙◌, ◌∷◌, ◌≡◌, fold, is_none, is_some, nat_eq, nat_le, nat_lt}
+use Rattle.std.proofs.Common.{arith, Bool, List, None, Option, Some, [], ap, false, length, not, refl, true, ◌&&◌, ◌∷◌, ◌≡◌, fold, is_none, is_some, nat_eq, nat_le, nat_lt}
 use Rattle.std.proofs.lemmas.Bool.{and_parts, eqb-true, false≢true, leb-true, ltb-true}
 use Rattle.std.specs.List.{list_all, range_with_len}
 use Rattle.std.specs.Prelude.{unwrap_or}
-use Rattle.sj_core.proofs.Words.{AtNode, Cell, Claim, Claimed, DiskNo, Done, Drop, End, Event, Machine, Move, Moved, Node, OnDisk, Place, Program, Progress, Run, Running, State, Task, Transfer, Waiting, commuting_cells, done_in, footprint, has_room, is_claimed_by, is_coming_by, is_idle, is_leaving, is_leaving_by, is_running_on, is_waiting, node_of, node_size, opening, progress, replica, same_cell, transfer, written_cells}
+use Rattle.sj_core.proofs.Words.{AtNode, Cell, Claim, DiskNo, Drop, End, Event, Machine, Move, Moved, OnDisk, Place, Program, Progress, Run, State, Task, Transfer, Waiting, commuting_cells, done_in, footprint, has_room, is_claimed_by, is_coming_by, is_idle, is_leaving, is_leaving_by, is_running_on, is_waiting, node_of, node_size, opening, progress, replica, same_cell, transfer, written_cells}
 use Rattle.sj_codelet.specs.Kernel.{fits}
 use Rattle.sj_core.specs.Legal.{Leads, Legal}
 use Rattle.sj_core.specs.Step.{Step, a_transfer, after, disk_of, is_fresh, is_in_use, is_moving, is_present, is_read, is_valid_elsewhere, mover_of, none_leaving, same_place, source_of, victims_for}

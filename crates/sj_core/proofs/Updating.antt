@@ -2,7 +2,7 @@
 use Rattle.std.proofs.Common.{Bool, List, [], ap, arith, cond, false, inl, inr, length, map, not, refl, subst, suc, sym, true, ◌++◌, ◌<◌, ◌||◌, ◌∙◌, ◌∷◌, ◌≡◌, ◌≢◌, ◌⊎◌, None, Option, Some, ℕ, Contains, filter, IsTrue}
 use Rattle.std.specs.List.{list_all, list_any}
 use Rattle.std.proofs.lemmas.Bool.{false≢true, true≢false, not-true, and_from, cases_eq}
-use Rattle.std.proofs.lemmas.List.{get_or-map, length-map, map-append}
+use Rattle.std.proofs.lemmas.List.{map-append}
 use Rattle.std.proofs.lemmas.List.Elements.{All-get_or, Contains-append_cases, Contains-append_left}
 use Rattle.std.proofs.lemmas.List.Sums.{AllPass-from_list_all}
 use Rattle.std.proofs.lemmas.List.Folds.{list_any_at}
@@ -12,9 +12,9 @@ use Rattle.sj_codelet.specs.Formal.{is_output}
 use Rattle.sj_codelet.specs.Kernel.{commutes_of, contributes_of, formals_of, kernel_of}
 use Rattle.sj_codelet.specs.declared.kernel.Kernel.TheVariants.{Add, Axpy, Dot, Gemm, GemmThree, Lowest, MinGemm, Scale, Sum}
 use Rattle.sj_deps.specs.Conflict.{Uses, Conflict, IsShared as IsSharedManner}
-use Rattle.sj_core.specs.Proper.{Commuting, Contributing, FirstPaste, Fits, MayHaveModes, Own, Proper, mode_of, modes_writing_by, own_modes}
+use Rattle.sj_core.specs.Proper.{Fits, MayHaveModes, Proper, mode_of, modes_writing_by, own_modes}
 use Rattle.sj_core.specs.Laws.{IsLawful, is_known}
-use Rattle.sj_core.proofs.Words.{Access, Cell, Codelet, CommuteMode, Formal, Kernel, Least, Mode, Plus, Program, R, RW, Read, ReadFormal, Reduction, Redux, Scratch, ScratchFormal, Task, UpdateFormal, W, Worker, WriteFormal, no_task, task_of, worked_on, written_cells, Commute, Contribute, Manner, Write, cells_of, has_cell, same_cell}
+use Rattle.sj_core.proofs.Words.{Access, Cell, Codelet, CommuteMode, Formal, Kernel, Least, Mode, Plus, Program, R, RW, Read, ReadFormal, Reduction, Redux, Scratch, ScratchFormal, Task, UpdateFormal, W, Worker, no_task, task_of, worked_on, written_cells, Commute, Contribute, Manner, Write, cells_of, has_cell, same_cell}
 use Rattle.sj_core.proofs.Dependencies.{Proper-dependencies, map-from, one_is}
 use Rattle.sj_core.proofs.Modes.{then, written_isn't_scratch}
 use Rattle.sj_core.proofs.Sharing.{manner_of, operand-uses, redux-has_copies, Conflict-sym, conflict-by, operand_for}

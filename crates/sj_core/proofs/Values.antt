@@ -1,21 +1,19 @@
 -- A cell whose old value a task reads has been written by the time that the task may run.
-use Rattle.std.proofs.Common.{arith, ◌≡◌, ◌+◌, Bool, true, false, cond, List, [], ◌∷◌, map, length, refl, sym, ap, ◌∙◌, None, Some, Option, get_or, inl, inr, not, subst, suc, zero, ℕ, ◌&&◌, ◌<◌, ◌⊎◌, ℤ, count_by, if◌then◌else◌, IsTrue, filter, Contains}
+use Rattle.std.proofs.Common.{arith, ◌≡◌, Bool, true, false, cond, List, [], map, length, refl, sym, ap, ◌∙◌, None, Some, Option, get_or, inl, inr, not, subst, suc, zero, ℕ, ◌&&◌, ◌<◌, ◌⊎◌, ℤ, count_by, IsTrue, filter, Contains}
 use Rattle.std.proofs.lemmas.List.{length-map}
-use Rattle.std.proofs.lemmas.List.Sums.{length-filter, sum_by-cons, get_or-le-sum_by}
+use Rattle.std.proofs.lemmas.List.Sums.{length-filter, get_or-le-sum_by}
 use Rattle.std.proofs.lemmas.Bool.{false≢true}
 use Rattle.std.proofs.lemmas.Bool.Decides.{Decides-eqb}
 use Rattle.std.proofs.lemmas.List.Elements.{All-contains}
 use Rattle.std.proofs.lemmas.List.FromFn.{get_or-map-range_with_len, length-map-range_with_len}
 use Rattle.sj_codelet.proofs.Table.{new_arrays-count}
-use Rattle.sj_codelet.specs.Formal.{is_output}
-use Rattle.sj_base.specs.declared.mode.Mode.TheVariants.{Commute}
-use Rattle.sj_codelet.specs.Kernel.{new_arrays, formals_of}
+use Rattle.sj_codelet.specs.Kernel.{new_arrays}
 use Rattle.sj_base.specs.Mode.{is_written, is_redux, is_scratch, reads_value, starts_as_zeros}
-use Rattle.sj_core.specs.Proper.{Fits, MayHaveModes, Own, FirstPaste, Commuting, Contributing, own_modes, modes_writing_by, mode_of, HasValueBefore, Proper, access, gives_value}
+use Rattle.sj_core.specs.Proper.{Fits, MayHaveModes, own_modes, modes_writing_by, HasValueBefore, Proper, access, gives_value}
 use Rattle.sj_deps.specs.Conflict.{Conflict, IsShared, Uses}
 use Rattle.sj_core.specs.Coherent.{WritesAreCounted, has_written}
 use Rattle.sj_core.specs.Step.{EarlierAreDone}
-use Rattle.sj_core.proofs.Words.{Access, Array, Cell, CommuteMode, Formal, Kernel, Manner, Mode, Program, R, RW, ReadFormal, Redux, Scratch, ScratchFormal, State, Task, UpdateFormal, W, Worker, Write, WriteFormal, cells_of, copy_of, data_operands, done_by, found, fresh_cells, has_cell, results, same_cell, task_of, tasks_of, worked_on, writes, written_cells}
+use Rattle.sj_core.proofs.Words.{Access, Array, Cell, CommuteMode, Kernel, Manner, Mode, Program, R, RW, Redux, Scratch, State, Task, W, Worker, Write, cells_of, copy_of, data_operands, done_by, found, fresh_cells, has_cell, results, same_cell, task_of, tasks_of, worked_on, writes, written_cells}
 use Rattle.sj_core.proofs.Dependencies.{Proper-dependencies}
 use Rattle.sj_core.proofs.Readiness.{Contains-filter, list_any-some}
 use Rattle.sj_core.proofs.Reading.{same_cell-is}

@@ -1,8 +1,8 @@
 -- Worked jobs whose runs are legal and complete: a sum, vectors that don't fit their node together, a reduction.
-use Rattle.std.proofs.Common.{◌≡◌, ℕ, zero, suc, List, [], ◌∷◌, refl, ap, None, arith, lit<, lit≤, pos}
+use Rattle.std.proofs.Common.{◌≡◌, ℕ, List, [], ◌∷◌, refl, None, arith, lit<, lit≤, pos}
 use Rattle.std.specs.Int.{int_wrap}
 use Rattle.std.proofs.lemmas.Bool.{false≢true}
-use Rattle.sj_core.proofs.Words.{Claim, Commute, Contribute, Drop, End, Event, Machine, Manner, Move, Moved, Program, R, RW, Read, Run, State, Usage, Valid, W, Write, order, replica, victims_of, writes}
+use Rattle.sj_core.proofs.Words.{Claim, Drop, End, Event, Machine, Manner, Move, Moved, Program, R, RW, Run, State, Valid, W, Write, order, replica, victims_of, writes}
 use Rattle.sj_codelet.specs.declared.kernel.Kernel.TheVariants.{Load, Add, Deliver}
 use Rattle.sj_codelet.specs.Equations.{vector}
 use Rattle.sj_deps.specs.Conflict.{Conflict, Uses, IsShared}

@@ -1,5 +1,5 @@
 -- What cells hold after all tasks up to one doesn't depend on the workers of the contributions, but in partial copies and under open phases.
-use Rattle.std.proofs.Common.{Bool, List, ap, arith, cond, false, inl, inr, length, not, refl, subst, suc, sym, true, zero, ℕ, ◌<◌, ◌≤◌, ◌∙◌, ◌≡◌, ◌≢◌, [], get_or, map, ◌||◌, ◌∷◌, ◌⊎◌, Contains, zip, filter, is_some, nat_lt}
+use Rattle.std.proofs.Common.{Bool, List, ap, arith, cond, false, inl, inr, length, not, refl, subst, suc, sym, true, zero, ℕ, ◌<◌, ◌≤◌, ◌∙◌, ◌≡◌, ◌≢◌, [], get_or, ◌||◌, ◌∷◌, ◌⊎◌, Contains, zip, is_some, nat_lt}
 use Rattle.std.specs.List.{list_any}
 use Rattle.std.proofs.lemmas.Bool.{cases_Bool, false_from_ne_true, false≢true, cases_lt, true≢false, cases_eq}
 use Rattle.std.proofs.lemmas.List.Elements.{All-get_or, Contains-append_left}
@@ -11,7 +11,7 @@ use Rattle.sj_core.specs.Fold.{Contents, after_chosen, after_task, held_in}
 use Rattle.sj_core.specs.Laws.{IsLawful}
 use Rattle.sj_core.specs.Proper.{Fits, Proper, IsCombine, IsOpenAt, IsPhase, IsPlain, Phase, access, task_number}
 use Rattle.sj_codelet.specs.Laws.{IsReduction, IsTile, combined}
-use Rattle.sj_core.proofs.Words.{Access, Array, Cell, Codelet, CommuteMode, Kernel, Mode, Program, R, RW, Read, Redux, Scratch, Task, W, Worker, cells_of, has_cell, no_task, results, task_of, worked_on, written_cells, cell_info, copy_of, dims_of, same_cell}
+use Rattle.sj_core.proofs.Words.{Access, Array, Cell, Codelet, Kernel, Mode, Program, R, Read, Redux, Task, W, Worker, cells_of, has_cell, no_task, results, task_of, worked_on, written_cells, cell_info, copy_of, dims_of, same_cell}
 use Rattle.sj_core.proofs.Values.{results-complete}
 use Rattle.sj_core.proofs.Dependencies.{Proper-dependencies}
 use Rattle.sj_core.proofs.Updating.{may-swap, operand-used}
