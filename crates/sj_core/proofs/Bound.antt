@@ -348,11 +348,7 @@ module _ (p : Program) (m : Machine) (s : State) (h : IsSound p m s) where
     -- the cell's row costs two less
     row-falls : (q : Place) → q ≡ to → IsTransferTo m s w c from q → (c.0 < length s.cells) × (cost_of (with_replica_in row q (Valid brought)) + 2 ≤ cost_of row)
     row-falls (AtNode n) at there =
-        let is = coming_by-is w (replica s c (AtNode n)) there.1 in
-        let inside = entry-inside s c n (ap is_entry is) in
-        let new = replaced row n (Valid brought) inside.1 in
-        let was : weight (is_on_disk row) (replica s c (AtNode n)) ≡ 5 = ap (weight (is_on_disk row)) is in
-        (inside.0, omega arith)
+        search (arith, coming_by-is, entry-inside, replaced, row, brought, weight, is_on_disk, AtNode)
     row-falls (OnDisk d) at there = by_source from refl there.0
       where
         by_source : (q : Place) → q ≡ from → is_leaving_by w (replica s c q) ≡ true → (c.0 < length s.cells) × (cost_of (with_replica_in row (OnDisk d) (Valid brought)) + 2 ≤ cost_of row)
@@ -399,11 +395,7 @@ price l = 3 + 5 * length (data_operands l)
 
 prices-at_most : (ls : List Lowered) → sum_by price ls ≤ 3 * length ls + 5 * sum_by (λ l. length l.accesses) ls
 prices-at_most [] = omega arith
-prices-at_most (l ∷ ls) =
-    let on_data : Access → Bool = λ a. is_data a.mode in
-    let all = sum_by-cons (λ (k : Lowered). length k.accesses) l ls in
-    let more = count_by-le-length on_data l.accesses in
-    omega (arith, sum_by-cons price l ls, prices-at_most ls, length-filter on_data l.accesses)
+prices-at_most (l ∷ ls) = search (arith, sum_by-cons, count_by-le-length, price, length-filter, prices-at_most ls)
 
 paid-at_most : (p : Program) (s : State) → paid p s ≤ 3 * length p.tasks + 5 * operands p
 paid-at_most p s =

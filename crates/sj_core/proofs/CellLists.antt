@@ -42,15 +42,7 @@ filter-has_cell f xs c passes h = has_cell-filter_is f xs c ∙ and_from (f c) (
 -- a list without its repetitions has the same cells
 pub has_cell-distinct : (xs : List Cell) (c : Cell) → has_cell (distinct xs) c ≡ has_cell xs c
 has_cell-distinct [] c = refl
-has_cell-distinct (x ∷ xs) c = by_cases (has_cell xs x) refl (has_cell-distinct xs c)
-  where
-    repeated : (b : Bool) → same_cell x c ≡ b → has_cell xs x ≡ true → has_cell xs c ≡ (b || has_cell xs c)
-    repeated true same again = ap (has_cell xs) (sym (same_cell-is x c same)) ∙ again
-    repeated false same again = refl
-
-    by_cases : (b : Bool) → has_cell xs x ≡ b → has_cell (distinct xs) c ≡ has_cell xs c → has_cell (if b then distinct xs else x ∷ distinct xs) c ≡ (same_cell x c || has_cell xs c)
-    by_cases true again rest = rest ∙ repeated (same_cell x c) refl again
-    by_cases false once rest = ap (λ b. same_cell x c || b) rest
+has_cell-distinct (x ∷ xs) c = search (arith, same_cell-is, has_cell-distinct xs c)
 
 pub has_cell-to_front : (xs : List Cell) (d c : Cell) → has_cell (to_front xs d) c ≡ (same_cell d c || has_cell xs c)
 has_cell-to_front xs d c = search (arith, has_cell-filter_is, same_cell-sym)

@@ -30,11 +30,7 @@ module _ (p : Program) (proper : Proper p) where
 
     -- each worker has a copy of its own
     pub copy-own : (x y : Worker) → copy_of p c x ≡ copy_of p c y → x ≡ y
-    copy-own x y same = by_first (cell_info p c).partials has_copies (ap (λ (q : Cell). q.0) same)
-      where
-        by_first : (o : Option Cell) → is_some o ≡ true → (elim o as (λ _. Cell) [ None ↦ c | Some f ↦ record { 0 = f.0 + x.0 } ]).0 ≡ (elim o as (λ _. Cell) [ None ↦ c | Some f ↦ record { 0 = f.0 + y.0 } ]).0 → x ≡ y
-        by_first None h e = absurd (false≢true h)
-        by_first (Some f) h e = let n : x.0 ≡ y.0 = omega arith in ap (λ (i : ℕ). let v : Worker = record { 0 = i } in v) n
+    copy-own x y same = search (arith, is_some, false≢true, cell_info)
 
     -- no copy is the cell, or a cell with copies
     pub copy-bare : (x : Worker) → x.0 < p.workers → (d : Cell) → is_some (cell_info p d).partials ≡ true → copy_of p c x ≢ d

@@ -137,12 +137,8 @@ module _ (p : Program) (m : Machine) (s : State) (h : IsSound p m s) where
     all-done u inside = AllPass-from_list_all is_done s.tasks complete u.0 Waiting (omega (arith, inside, h.coherent.state.rows.tasks))
 
     none-written : (c : Cell) → is_being_written p s c ≡ false
-    none-written c = false_from_ne_true (is_being_written p s c) (λ writing. (let by = being_written-by p s c writing in by_task by.0 by.1))
-      where
-        by_task : (u : Task) → progress s u ≡ Running (done_by s u) → ⊥
-        by_task u running =
-            let inside : u.0 < length p.tasks = running-inside p m s u (done_by s u) h.coherent.state.rows running in
-            false≢true (sym (ap is_done running) ∙ all-done u inside)
+    none-written c =
+        search (arith, false_from_ne_true, being_written-by, running-inside, false≢true, all-done, h.coherent.state.rows)
 
     -- a cell to which a task gives a value has been written
     all-written : (t : Task) (c : Cell) → gives_value (task_of p t) c ≡ true → 0 < writes s c

@@ -45,11 +45,7 @@ sum-filter f test (x ∷ xs) = by_cases (test x) refl (sum-filter f test xs)
 -- where the terms that a filter keeps are no larger, its sum isn't
 pub sum-filter-le : {X : Type 0} (f g : X → ℕ) (test : X → Bool) → ((x : X) → test x ≡ true → f x ≤ g x) → (xs : List X) → sum_by f (filter test xs) ≤ sum_by g (filter test xs)
 sum-filter-le f g test le [] = omega arith
-sum-filter-le f g test le (x ∷ xs) = by_cases (test x) refl (sum-filter-le f g test le xs)
-  where
-    by_cases : (b : Bool) → test x ≡ b → sum_by f (filter test xs) ≤ sum_by g (filter test xs) → sum_by f (cond b (x ∷ filter test xs) (filter test xs)) ≤ sum_by g (cond b (x ∷ filter test xs) (filter test xs))
-    by_cases true e rest = let here = le x e in let a = sum_by-cons f x (filter test xs) in let b = sum_by-cons g x (filter test xs) in omega arith
-    by_cases false e rest = rest
+sum-filter-le f g test le (x ∷ xs) = search (arith, sum_by, sum_by-cons, sum-filter-le f g test le xs, test, le)
 
 pub filter-sum-le : {X : Type 0} (f : X → ℕ) (test : X → Bool) (xs : List X) → sum_by f (filter test xs) ≤ sum_by f xs
 filter-sum-le f test xs = let both = sum_by-filter_both test (λ x. not (test x)) (λ x. refl) f xs in omega arith
@@ -67,11 +63,7 @@ sum_by-map f g (x ∷ xs) = let first = sum_by-cons f (g x) (map g xs) in let la
 -- what passes a test and is counted is there
 pub counted-some : {X : Type 0} (test : X → Bool) (xs : List X) → 0 < count_by test xs → list_any test xs ≡ true
 counted-some test [] some = absurd (omega (arith, some))
-counted-some test (x ∷ xs) some = by_test (test x) refl (counted-some test xs)
-  where
-    by_test : (b : Bool) → test x ≡ b → (0 < count_by test xs → list_any test xs ≡ true) → (b || list_any test xs) ≡ true
-    by_test true e rest = refl
-    by_test false e rest = rest (let all = sum_by-cons (λ y. tally (test y)) x xs in let none : tally (test x) ≡ 0 = ap tally e in omega (arith, some))
+counted-some test (x ∷ xs) some = search (arith, count_by, sum_by-cons, tally, counted-some test xs, test)
 
 -- and what is there is counted
 pub counted-has : {X : Type 0} (test : X → Bool) (xs : List X) → list_any test xs ≡ true → 0 < count_by test xs

@@ -20,11 +20,7 @@ operand-inside p t a h = search (arith, cases_lt, get_or_past)
 -- two filters one after another
 pub filter-filter : {X : Type 0} (f g : X → Bool) (xs : List X) → filter f (filter g xs) ≡ filter (λ x. g x && f x) xs
 filter-filter f g [] = refl
-filter-filter f g (x ∷ xs) = by_cases (g x) (f x) refl refl (filter-filter f g xs)
-  where
-    by_cases : (a b : Bool) → g x ≡ a → f x ≡ b → filter f (filter g xs) ≡ filter (λ y. g y && f y) xs → filter f (cond a (x ∷ filter g xs) (filter g xs)) ≡ cond (a && f x) (x ∷ filter (λ y. g y && f y) xs) (filter (λ y. g y && f y) xs)
-    by_cases true b p q rest = ap (λ ys. cond (f x) (x ∷ ys) ys) rest
-    by_cases false b p q rest = rest
+filter-filter f g (x ∷ xs) = search (arith, filter-filter f g xs, g, f)
 
 -- what a task writes it works on
 pub written-among_cells : (p : Program) (t : Task) (w : Worker) (c : Cell) → has_cell (written_cells p t w) c ≡ true → has_cell (cells_of p t w) c ≡ true
