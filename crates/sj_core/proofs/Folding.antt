@@ -91,7 +91,7 @@ after_task-same p t v w before before' c alike same here =
 pub after_chosen-same : (p : Program) (chosen chosen' : Task → Bool) (by by' : Task → Worker) (n : ℕ) → ((u : Task) → u.0 < n → chosen u ≡ chosen' u) → ((u : Task) → u.0 < n → chosen u ≡ true → by u ≡ by' u) → after_chosen p chosen by n ≡ after_chosen p chosen' by' n
 after_chosen-same p chosen chosen' by by' zero same workers = refl
 after_chosen-same p chosen chosen' by by' (suc n) same workers =
-    search (arith, number, after_chosen-same p chosen chosen' by by' n (λ u h. same u (omega arith)) (λ u h. workers u (omega arith)), chosen, by', same, by, workers)
+    search (arith, number, after_chosen-same p chosen chosen' by by' n (λ u h. same u (omega arith)) (λ u h. workers u (omega arith)))
 
 -- where no chosen task from a on writes a cell, it holds what it held after the tasks below a
 pub held-until : (p : Program) (chosen : Task → Bool) (by : Task → Worker) (c : Cell) (a n : ℕ) → a ≤ n → ((u : Task) → a ≤ u.0 → u.0 < n → chosen u ≡ true → has_cell (written_cells p u (by u)) c ≡ false) →

@@ -45,7 +45,7 @@ sum-filter f test (x ∷ xs) = by_cases (test x) refl (sum-filter f test xs)
 -- where the terms that a filter keeps are no larger, its sum isn't
 pub sum-filter-le : {X : Type 0} (f g : X → ℕ) (test : X → Bool) → ((x : X) → test x ≡ true → f x ≤ g x) → (xs : List X) → sum_by f (filter test xs) ≤ sum_by g (filter test xs)
 sum-filter-le f g test le [] = omega arith
-sum-filter-le f g test le (x ∷ xs) = search (arith, sum_by, sum_by-cons, sum-filter-le f g test le xs, test, le)
+sum-filter-le f g test le (x ∷ xs) = search (arith, sum_by-cons, sum-filter-le f g test le xs)
 
 pub filter-sum-le : {X : Type 0} (f : X → ℕ) (test : X → Bool) (xs : List X) → sum_by f (filter test xs) ≤ sum_by f xs
 filter-sum-le f test xs = let both = sum_by-filter_both test (λ x. not (test x)) (λ x. refl) f xs in omega arith
@@ -63,7 +63,7 @@ sum_by-map f g (x ∷ xs) = let first = sum_by-cons f (g x) (map g xs) in let la
 -- what passes a test and is counted is there
 pub counted-some : {X : Type 0} (test : X → Bool) (xs : List X) → 0 < count_by test xs → list_any test xs ≡ true
 counted-some test [] some = absurd (omega (arith, some))
-counted-some test (x ∷ xs) some = search (arith, count_by, sum_by-cons, tally, counted-some test xs, test)
+counted-some test (x ∷ xs) some = search (arith, sum_by-cons, counted-some test xs)
 
 -- and what is there is counted
 pub counted-has : {X : Type 0} (test : X → Bool) (xs : List X) → list_any test xs ≡ true → 0 < count_by test xs

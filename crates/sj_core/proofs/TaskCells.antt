@@ -20,7 +20,7 @@ operand-inside p t a h = search (arith, cases_lt, get_or_past)
 -- two filters one after another
 pub filter-filter : {X : Type 0} (f g : X → Bool) (xs : List X) → filter f (filter g xs) ≡ filter (λ x. g x && f x) xs
 filter-filter f g [] = refl
-filter-filter f g (x ∷ xs) = search (arith, filter-filter f g xs, g, f)
+filter-filter f g (x ∷ xs) = search (arith, filter-filter f g xs)
 
 -- what a task writes it works on
 pub written-among_cells : (p : Program) (t : Task) (w : Worker) (c : Cell) → has_cell (written_cells p t w) c ≡ true → has_cell (cells_of p t w) c ≡ true
