@@ -39,7 +39,7 @@ pub task_of-active : (v : Worker) (x : Progress) → is_task_of v x ≡ true →
 task_of-active v x h = ap (λ (w : Worker). is_task_of w x) (task_of-worker v x h) ∙ h
 
 pub active-begun : (x : Progress) → is_active x ≡ true → is_begun x ≡ true
-active-begun x h = search (arith)
+active-begun x h = search arith
 
 pub done-begun : (x : Progress) → is_done x ≡ true → is_begun x ≡ true
 done-begun Waiting h = h
@@ -86,7 +86,7 @@ pub EarlierAreDone-kept : (p : Program) (s s' : State) (t u : Task) (old new : P
 EarlierAreDone-kept p s s' t u old new a undone earlier v before conflict = done-kept s s' t v old new a undone (earlier v before conflict)
 
 pub active_isn't_done : (x : Progress) → is_active x ≡ true → is_done x ≡ false
-active_isn't_done x h = search (arith)
+active_isn't_done x h = search arith
 
 -- where the earlier conflicting tasks of each begun task are done, no two active tasks conflict
 pub apart-from_earlier : (p : Program) (s : State) → ((t : Task) → IsTrue (is_begun (progress s t)) → EarlierAreDone p s t) → (t u : Task) → IsTrue (is_active (progress s t)) → IsTrue (is_active (progress s u)) → u.0 < t.0 → ¬ Conflict p u.0 t.0

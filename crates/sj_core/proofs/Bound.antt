@@ -122,7 +122,7 @@ leaving-weighs b r h = search (arith, false≢true)
 
 -- a victim weighs no more than it did
 leave-weighs : (w : Worker) (b : Bool) (r : Replica) → weight b (leave w r) ≤ weight b r
-leave-weighs w b r = search (arith)
+leave-weighs w b r = search arith
 
 -- a claim adds the weight of a cell that comes
 claimed-weighs : (w : Worker) (evicted missing : List Cell) (c : Cell) (brought : Bool) → (has_cell missing c ≡ true → brought ≡ true) → (b : Bool) (r : Replica) → weight b (claimed_replica w evicted missing c r) ≤ weight b r + cond brought 5 0
@@ -167,7 +167,7 @@ written-costs row d a n within none inside leaving =
     omega (arith, ap (λ b. sum_by (weight b) row.nodes) there, ap (λ b. sum_by (weight b) row.nodes) none)
   where
     lighter : (r : Replica) → weight true r + cond (is_leaving r) 2 0 ≤ weight false r
-    lighter r = search (arith)
+    lighter r = search arith
 
 -- ---- the opening state
 
@@ -227,7 +227,7 @@ module _ (p : Program) (m : Machine) (s : State) (h : IsSound p m s) where
 
   -- its worker is one of the table
   worker-inside : (t : Task) (x : Progress) → progress s t ≡ x → is_begun x ≡ true → (worker_of x).0 < length s.workers
-  worker-inside t x is begun = search (arith)
+  worker-inside t x is begun = search arith
 
   -- and so is the worker by whose claim a replica leaves, on a node
   leaving-inside : (w : Worker) (c : Cell) (from : Place) → is_leaving_by w (replica s c from) ≡ true → w.0 < length s.workers
@@ -387,7 +387,7 @@ module _ (p : Program) (m : Machine) (s : State) (h : IsSound p m s) where
 -- ---- what all tasks pay
 
 due-at_most : (n : ℕ) (x : Progress) → due n x ≤ 3 + 5 * n
-due-at_most n x = search (arith)
+due-at_most n x = search arith
 
 -- three for each task and five for each operand, scratch buffers aside
 abbrev price : Lowered → ℕ

@@ -53,7 +53,7 @@ has_cell-fronted [] xs c = refl
 has_cell-fronted (d ∷ cs) xs c = has_cell-fronted cs (to_front xs d) c ∙ ap (λ b. has_cell cs c || b) (has_cell-to_front xs d c) ∙ or_swap (has_cell cs c) (same_cell d c) (has_cell xs c)
   where
     or_swap : (x y z : Bool) → (x || (y || z)) ≡ ((y || x) || z)
-    or_swap x y z = search (arith)
+    or_swap x y z = search arith
 
 pub has_cell-without : (gone xs : List Cell) (c : Cell) → has_cell (without gone xs) c ≡ (not (has_cell gone c) && has_cell xs c)
 has_cell-without gone xs c = has_cell-filter_is (λ d. not (has_cell gone d)) xs c

@@ -88,7 +88,7 @@ contribution by k args before v = result_of k args before (unit_of by v)
 module _ (by : Reduction) (law : IsReduction by) where
   -- two arrays may be combined in either order
   pub combined-swap : (x y v : Array) → IsTile x → IsTile y → IsTile v → x.dims ≡ v.dims → y.dims ≡ v.dims → combined by y (combined by x v) ≡ combined by x (combined by y v)
-  combined-swap x y v tx ty tv dx dy = search (arith)
+  combined-swap x y v tx ty tv dx dy = search arith
 
   module _ (k : Kernel) (contributes : contributes_of k by ≡ true) (through : DoesContribute k by) where
     pub contribution-fills : (args : List ℤ) (before : List Array) (v : Array) → All (FitsSigned w64) args → IsCall k args (before ++ v ∷ []) → IsTile (contribution by k args before v) × ((contribution by k args before v).dims ≡ v.dims)

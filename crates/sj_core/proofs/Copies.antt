@@ -15,7 +15,7 @@ use Rattle.sj_core.proofs.Readiness.{AllPairs-two, Contains-filter}
 
 -- a mode is REDUX or not
 pub redux_or : (x : Mode) → (x ≡ Redux) ⊎ (is_redux x ≡ false)
-redux_or x = search (arith)
+redux_or x = search arith
 
 -- an operand that is no contribution works on its own cell
 pub direct-cell : (p : Program) (w : Worker) (a : Access) → is_redux a.mode ≡ false → worked_on p w a ≡ a.cell

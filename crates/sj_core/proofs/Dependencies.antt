@@ -119,7 +119,7 @@ module _ (p : Program) (proper : Proper p) where
       by_place (subst (λ (xs : List Access). Contains xs a) combine.operands has)
     where
       by_place : Contains (access R (copy_of p f.cell (record { 0 = k })) ∷ access RW f.cell ∷ []) a → ⊥
-      by_place x = search (arith)
+      by_place x = search arith
 
   -- a task doesn't access a partial copy and contribute to its cell
   pub not_both : (t : ℕ) (c d : Cell) (w : Worker) → IsCopyOf p c d w → (a b : Access) → Contains (task_number p t).accesses a → a.cell ≡ c → Contains (task_number p t).accesses b → b.mode ≡ Redux → ⊥

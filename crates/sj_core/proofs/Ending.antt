@@ -57,7 +57,7 @@ lawful-puts_last has p proper lawful chosen chosen' by by' t w inside w_in staff
 
 -- the workers by which tasks are done are the program's; where a task isn't begun the word gives the first one
 pub all-staffed : (p : Program) (s : State) → 0 < p.workers → HasWorkers p s → (u : Task) → (done_by s u).0 < p.workers
-all-staffed p s some staff u = search (arith)
+all-staffed p s some staff u = search arith
 
 module _ (p : Program) (m : Machine) (proper : Proper p) (puts_last : PutsLast p) (s : State) (sound : Coherent p m s) (t : Task) (w : Worker) (s' : State) (ended : Ends p m s t w s') where
   pub end-inside : t.0 < length p.tasks

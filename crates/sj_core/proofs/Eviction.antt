@@ -32,8 +32,8 @@ module _ {X : Type 0} (test : List X → Bool) where
   shortest_suffix-none [] h k = by_cases (test []) refl h k
     where
       by_cases : (b : Bool) → test [] ≡ b → then_some {T = List X} b [] ≡ None → (k : ℕ) → test (drop k []) ≡ false
-      by_cases b e h k = search (arith)
+      by_cases b e h k = search arith
   shortest_suffix-none (x ∷ xs) h k = by_cases (shortest_suffix test xs) refl (test (x ∷ xs)) refl h (shortest_suffix-none xs) k
     where
       by_cases : (o : Option (List X)) → shortest_suffix test xs ≡ o → (b : Bool) → test (x ∷ xs) ≡ b → option_or o (then_some b (x ∷ xs)) ≡ None → (shortest_suffix test xs ≡ None → (j : ℕ) → test (drop j xs) ≡ false) → (j : ℕ) → test (drop j (x ∷ xs)) ≡ false
-      by_cases o e b f h rest j = search (arith)
+      by_cases o e b f h rest j = search arith

@@ -47,7 +47,7 @@ module _ (p : Program) (proper : Proper p) where
       fresh-write k x e f = search (arith, false≢true)
 
       reads-update : (k : Codelet) (x : Mode) → starts_as_zeros x ≡ false → manner_of k x ≡ Write → is_redux x ≡ false
-      reads-update k x e f = search (arith)
+      reads-update k x e f = search arith
 
       same : (x y : Cell) → x ≡ y → same_cell x y ≡ true
       same x y e = (Decides-eqb x.0 y.0).1 (ap (λ (q : Cell). q.0) e)

@@ -52,7 +52,7 @@ module _ (p : Program) (m : Machine) (s : State) (h : IsSound p m s) (t : Task) 
     advance = record { was = claimed; is = claimed; others = λ u d. refl };
     mine = claimed-is_mine w;
     still_mine = λ v has. sym (task_of-worker v (Claimed w) has);
-    state = (search (arith));
+    state = (search arith);
     rows = λ v. inl (shift.same_pins v, shift.same_scratch v, λ e. claimed-is_mine w);
     victims = shift.same_victims;
     entries = λ c k now. sym (shift.same_entries c k) ∙ now;

@@ -74,7 +74,7 @@ is_s : (n : ℕ) → is_some (cell_info job (cell n)).partials ≡ true → n �
 is_s n h = search (arith, false≢true)
 
 copy_in : (n : ℕ) → n < 2 → (cell (3 + n) ≡ cell 3) ⊎ (cell (3 + n) ≡ cell 4)
-copy_in n h = search (arith)
+copy_in n h = search arith
 
 -- a partial copy is one of the two of s
 copies_are : (q c : Cell) (w : Worker) → IsCopyOf job q c w → (c ≡ cell 2) × ((q ≡ cell 3) ⊎ (q ≡ cell 4))
@@ -177,10 +177,10 @@ is_phase = record {
 }
   where
     init : (w : ℕ) → w < 2 → IsInit Plus (copy_of job (cell 2) (worker w)) (task_number job (get_or phase.inits w 0))
-    init w h = search (arith)
+    init w h = search arith
 
     combine : (w : ℕ) → w < 2 → IsCombine Plus (copy_of job (cell 2) (worker w)) (cell 2) (task_number job (get_or phase.combines w 0))
-    combine w h = search (arith)
+    combine w h = search arith
 
     touched : (a : Access) → Touches job (cell 2) a → touches_s a.cell.0 ≡ true
     touched a (inl e) = ap (λ (c : Cell). touches_s c.0) e

@@ -186,7 +186,7 @@ held_over-sized p (d ∷ cs) (a ∷ arrays) c below tiles dims h =
 module _ (p : Program) (proper : Proper p) (arguments : All (λ l. All (FitsSigned w64) l.args) p.tasks) where
   -- the cell that is worked on is as large as the operand's
   pub worked_on-dims : (w : Worker) → w.0 < p.workers → (a : Access) → dims_of p (worked_on p w a) ≡ dims_of p a.cell
-  worked_on-dims w staffed a = search (arith)
+  worked_on-dims w staffed a = search arith
 
   pub found-fills : (w : Worker) → w.0 < p.workers → (held : Cell → Array) → ((c : Cell) → Fills p c (held c)) → (a : Access) → Fills p a.cell (found p w held a)
   found-fills w staffed held sized a = search (arith, zeros-fill, worked_on-dims)

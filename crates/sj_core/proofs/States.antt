@@ -86,7 +86,7 @@ done-begun (Running w) h = refl
 done-begun (Done w) h = refl
 
 done-started : (x : Progress) → is_done x ≡ true → is_started x ≡ true
-done-started x h = search (arith)
+done-started x h = search arith
 
 -- what takes a task from waiting to done is one claim, one run and one end
 takes-all : (x y : Progress) (claims runs ends : ℕ) → Takes x y claims runs ends → x ≡ Waiting → is_done y ≡ true → (claims ≡ 1) × (runs ≡ 1) × (ends ≡ 1)

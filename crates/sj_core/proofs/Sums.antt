@@ -12,7 +12,7 @@ tally b = cond b 1 0
 
 -- two tests that imply each other are one
 pub same_test : (a b : Bool) → (a ≡ true → b ≡ true) → (b ≡ true → a ≡ true) → a ≡ b
-same_test a b f g = search (arith)
+same_test a b f g = search arith
 
 -- two sums that balance two others
 pub sum-balanced : {X : Type 0} (f g h k : X → ℕ) → ((x : X) → f x + g x ≡ h x + k x) → (xs : List X) → sum_by f xs + sum_by g xs ≡ sum_by h xs + sum_by k xs
@@ -97,7 +97,7 @@ sum-one_more f g test more le xs once =
     omega (arith, at_most (count_by test xs) once (sum-each test more xs))
   where
     at_most : (n : ℕ) → n ≤ 1 → sum_by (λ x. cond (test x) more 0) xs ≡ more * n → sum_by (λ x. cond (test x) more 0) xs ≤ more
-    at_most n h e = search (arith)
+    at_most n h e = search arith
 
 -- of numbered elements the test passes that of one number
 pub count-numbered : {X : Type 0} (number : ℕ → X) (test : X → Bool) (k : ℕ) → ((i : ℕ) → test (number i) ≡ nat_eq i k) → (a n : ℕ) → count_by test (map number (range_with_len a n)) ≡ tally (nat_le a k && nat_lt k (a + n))

@@ -57,7 +57,7 @@ one_reduction k by by' h h' = search (arith, true≢false, not-true, by_table)
 -- ---- modes
 
 own-in_order : (f : Formal) → is_in_order (mode_of f) ≡ true
-own-in_order f = search (arith)
+own-in_order f = search arith
 
 -- a mode in place of the codelet's own is the given one, or stands in order
 writing-is : (x y : Mode) (k : Kernel) → Contains (modes_writing_by x k) y → (y ≡ x) ⊎ (is_in_order y ≡ true)

@@ -54,7 +54,7 @@ load_conflicts : Conflict sum 1 2
 load_conflicts = record { cell = 1; manner_of_t = Write; manner_of_u = Write; first = (0, lit< tt, refl); second = (1, lit< tt, refl); written = λ both. (let e = both.0 in write_isn't_read e); apart = λ m g. unshared m g.shared g.first }
   where
     unshared : (m : Manner) → IsShared m → Uses sum 1 1 m → ⊥
-    unshared m h u = search (arith)
+    unshared m h u = search arith
 
 -- the sum may not be claimed while the second load isn't done: no state follows
 pub sum-waits : (s' : State) → ¬ Claims sum machine (state_of sum machine (turn 0 0 [])) (task 2) (worker 0) s'

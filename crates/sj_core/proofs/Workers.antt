@@ -474,7 +474,7 @@ module _ (has : Kernel → Bool) (p : Program) (proper : Proper p) (lawful : IsL
   no-refill i later before y y_in fills = by_kind (operand-at i later before y y_in (access W (copy_of p c y)) (subst (λ (xs : List Access). Contains xs (access W (copy_of p c y))) (sym fills) (0, omega arith, refl)) refl (inr (y, y_in, refl)))
     where
       by_kind : AtWork p proper f phase has_copies i y (access W (copy_of p c y)) → ⊥
-      by_kind x = search (arith)
+      by_kind x = search arith
 
   ends : k' < length p.tasks → Halfway k' → Over (suc k')
   ends inside h = record {
