@@ -1,9 +1,8 @@
 -- One step of a task: from waiting to claimed, to running, to done; and that each keeps the order of conflicting tasks.
-use Rattle.std.proofs.Common.{ap, arith, false, inl, inr, length, not, refl, subst, sym, true, ℕ, ◌<◌, ◌||◌, ◌∙◌, ◌≡◌, ◌≢◌, ◌⊎◌}
+use Rattle.std.proofs.Common.{ap, arith, false, inl, inr, length, refl, subst, sym, true, ◌<◌, ◌||◌, ◌∙◌, ◌≡◌, ◌≢◌, ◌⊎◌, IsTrue}
 use Rattle.std.proofs.lemmas.Bool.{cases_eq, cases_lt, false≢true, true≢false, or_cases, not-true}
 use Rattle.std.proofs.lemmas.List.{get_or_past}
 use Rattle.std.proofs.lemmas.List.Sums.{AllPass-from_list_all}
-use Rattle.std.specs.Prelude.{IsTrue}
 use Rattle.sj_core.proofs.Words.{Claimed, Done, Machine, Program, Progress, Running, State, Task, Waiting, Worker, cells_of, done_in, has_cell, is_claimed_by, is_done, is_idle, is_running_on, is_task_of, progress, worker_of}
 use Rattle.sj_deps.specs.Conflict.{Conflict}
 use Rattle.sj_core.specs.Coherent.{HasRows, OrderIsKept, SharesCommuting, is_active, is_begun}
@@ -13,25 +12,15 @@ use Rattle.sj_core.proofs.Reading.{progress-inside, progress-other, progress-sam
 use Rattle.sj_core.proofs.Replicas.{same_worker-is, same_worker-refl}
 
 pub same_task : (t u : Task) → (t ≡ u) ⊎ (t ≢ u)
-same_task t u =
-    elim (cases_eq t.0 u.0) [
-      | inl e ↦ inl (ap (λ (n : ℕ). let k : Task = record { 0 = n } in k) e)
-      | inr d ↦ inr (λ e. d (ap (λ (k : Task). k.0) e))
-    ]
+same_task t u = search (arith, cases_eq)
 
 -- ---- whose task
 
 pub claimed_by-is : (w : Worker) (x : Progress) → is_claimed_by w x ≡ true → x ≡ Claimed w
-claimed_by-is w Waiting h = absurd (false≢true h)
-claimed_by-is w (Claimed v) h = ap Claimed (same_worker-is v w h)
-claimed_by-is w (Running v) h = absurd (false≢true h)
-claimed_by-is w (Done v) h = absurd (false≢true h)
+claimed_by-is w x h = search (arith, false≢true, same_worker-is)
 
 pub running_on-is : (w : Worker) (x : Progress) → is_running_on w x ≡ true → x ≡ Running w
-running_on-is w Waiting h = absurd (false≢true h)
-running_on-is w (Claimed v) h = absurd (false≢true h)
-running_on-is w (Running v) h = ap Running (same_worker-is v w h)
-running_on-is w (Done v) h = absurd (false≢true h)
+running_on-is w x h = search (arith, false≢true, same_worker-is)
 
 pub claimed-is_mine : (w : Worker) → is_task_of w (Claimed w) ≡ true
 claimed-is_mine w = ap (λ b. b || false) (same_worker-refl w)
@@ -50,10 +39,7 @@ pub task_of-active : (v : Worker) (x : Progress) → is_task_of v x ≡ true →
 task_of-active v x h = ap (λ (w : Worker). is_task_of w x) (task_of-worker v x h) ∙ h
 
 pub active-begun : (x : Progress) → is_active x ≡ true → is_begun x ≡ true
-active-begun Waiting h = h
-active-begun (Claimed v) h = refl
-active-begun (Running v) h = refl
-active-begun (Done v) h = refl
+active-begun x h = search arith
 
 pub done-begun : (x : Progress) → is_done x ≡ true → is_begun x ≡ true
 done-begun Waiting h = h
@@ -63,11 +49,7 @@ done-begun (Done w) h = refl
 
 -- a worker without a task has none of the table
 pub idle-has_none : (s : State) (w : Worker) (t : Task) → is_idle s w ≡ true → is_task_of w (progress s t) ≡ false
-idle-has_none s w t h =
-    elim (cases_lt t.0 (length s.tasks)) [
-      | inl inside ↦ not-true (is_task_of w (progress s t)) (AllPass-from_list_all (λ (x : Progress). not (is_task_of w x)) s.tasks h t.0 Waiting inside)
-      | inr past ↦ ap (is_task_of w) (get_or_past s.tasks t.0 Waiting past)
-    ]
+idle-has_none s w t h = search (arith, cases_lt, not-true, AllPass-from_list_all, get_or_past)
 
 -- ---- a task goes on
 
@@ -85,45 +67,26 @@ not_waiting_running x w e f = let g : Running w ≡ Waiting = sym e ∙ f in cc
 
 -- a row for each task suffices
 pub Claims-advances_task : (p : Program) (m : Machine) (s : State) (t : Task) (w : Worker) (s' : State) → length s.tasks ≡ length p.tasks → Claims p m s t w s' → Advances s s' t Waiting (Claimed w)
-Claims-advances_task p m s t w s' rows c = record {
-  was = c.waiting;
-  is = ap (λ (z : State). progress z t) c.leaves ∙ progress-same s t (Claimed w) (omega (arith, c.ready.task, rows));
-  others = λ u d. ap (λ (z : State). progress z u) c.leaves ∙ progress-other s t u (Claimed w) d;
-}
+Claims-advances_task p m s t w s' rows c = search (arith, progress-same, progress-other)
 
 pub Claims-advances : (p : Program) (m : Machine) (s : State) (t : Task) (w : Worker) (s' : State) → HasRows p m s → Claims p m s t w s' → Advances s s' t Waiting (Claimed w)
 Claims-advances p m s t w s' rows c = Claims-advances_task p m s t w s' rows.tasks c
 
 pub Runs-advances : (p : Program) (m : Machine) (s : State) (t : Task) (w : Worker) (s' : State) → Runs p m s t w s' → Advances s s' t (Claimed w) (Running w)
-Runs-advances p m s t w s' r = record {
-  was = r.claimed;
-  is = ap (λ (z : State). progress z t) r.leaves ∙ progress-same s t (Running w) (progress-inside s t (not_waiting (progress s t) w r.claimed));
-  others = λ u d. ap (λ (z : State). progress z u) r.leaves ∙ progress-other s t u (Running w) d;
-}
+Runs-advances p m s t w s' r = search (arith, progress-same, progress-inside, not_waiting, progress-other)
 
 pub Ends-advances : (p : Program) (m : Machine) (s : State) (t : Task) (w : Worker) (s' : State) → Ends p m s t w s' → Advances s s' t (Running w) (Done w)
-Ends-advances p m s t w s' e = record {
-  was = e.running;
-  is = ap (λ (z : State). progress z t) e.leaves ∙ progress-same s t (Done w) (progress-inside s t (not_waiting_running (progress s t) w e.running));
-  others = λ u d. ap (λ (z : State). progress z u) e.leaves ∙ progress-other s t u (Done w) d;
-}
+Ends-advances p m s t w s' e = search (arith, progress-same, progress-inside, not_waiting_running, progress-other)
 
 -- what is done stays done
 pub done-kept : (s s' : State) (t u : Task) (old new : Progress) → Advances s s' t old new → is_done old ≡ false → done_in s u ≡ true → done_in s' u ≡ true
-done-kept s s' t u old new a undone done =
-    elim (same_task u t) [
-      | inl e ↦ absurd (false≢true (sym undone ∙ sym (ap is_done a.was) ∙ sym (ap (λ (k : Task). done_in s k) e) ∙ done))
-      | inr d ↦ ap is_done (a.others u d) ∙ done
-    ]
+done-kept s s' t u old new a undone done = search (arith, same_task, false≢true)
 
 pub EarlierAreDone-kept : (p : Program) (s s' : State) (t u : Task) (old new : Progress) → Advances s s' t old new → is_done old ≡ false → EarlierAreDone p s u → EarlierAreDone p s' u
 EarlierAreDone-kept p s s' t u old new a undone earlier v before conflict = done-kept s s' t v old new a undone (earlier v before conflict)
 
 pub active_isn't_done : (x : Progress) → is_active x ≡ true → is_done x ≡ false
-active_isn't_done Waiting h = refl
-active_isn't_done (Claimed w) h = refl
-active_isn't_done (Running w) h = refl
-active_isn't_done (Done w) h = sym h
+active_isn't_done x h = search arith
 
 -- where the earlier conflicting tasks of each begun task are done, no two active tasks conflict
 pub apart-from_earlier : (p : Program) (s : State) → ((t : Task) → IsTrue (is_begun (progress s t)) → EarlierAreDone p s t) → (t u : Task) → IsTrue (is_active (progress s t)) → IsTrue (is_active (progress s u)) → u.0 < t.0 → ¬ Conflict p u.0 t.0
@@ -147,24 +110,16 @@ commuting-kept p s s' t old new a active same before u v au av d h =
   where
     was_active : (k : Task) → is_active (progress s' k) ≡ true → is_active (progress s k) ≡ true
     was_active k h =
-        elim (same_task k t) [
-          | inl e ↦ ap (λ (j : Task). is_active (progress s j)) e ∙ ap is_active a.was ∙ active
-          | inr d ↦ sym (ap is_active (a.others k d)) ∙ h
-        ]
+        (search (arith, same_task))
 
     same_worker : (k : Task) → worker_of (progress s' k) ≡ worker_of (progress s k)
     same_worker k =
-        elim (same_task k t) [
-          | inl e ↦ ap (λ (j : Task). worker_of (progress s' j)) e ∙ ap worker_of a.is ∙ same ∙ sym (ap worker_of a.was) ∙ sym (ap (λ (j : Task). worker_of (progress s j)) e)
-          | inr d ↦ ap worker_of (a.others k d)
-        ]
+        (search (arith, same_task))
 
 -- a run keeps the order of conflicting tasks
 pub Runs-keeps_order : (p : Program) (m : Machine) (s : State) (t : Task) (w : Worker) (s' : State) → Runs p m s t w s' → OrderIsKept p s → OrderIsKept p s'
 Runs-keeps_order p m s t w s' r o =
-    let a = Runs-advances p m s t w s' r in
-    let earlier = earlier-kept p s s' t (Claimed w) (Running w) a refl r.earlier o.earlier in
-    record { earlier = earlier; apart = apart-from_earlier p s' earlier; commuting = commuting-kept p s s' t (Claimed w) (Running w) a (claimed-is_mine w) refl o.commuting }
+    search (arith, Runs-advances, earlier-kept, apart-from_earlier, commuting-kept, claimed-is_mine)
 
 -- an end keeps the order of conflicting tasks
 pub Ends-keeps_order : (p : Program) (m : Machine) (s : State) (t : Task) (w : Worker) (s' : State) → Ends p m s t w s' → OrderIsKept p s → OrderIsKept p s'

@@ -1,14 +1,11 @@
 -- Where blocks lie: each cell's on one of the machine's disks, if all fit there.
-use Rattle.std.proofs.Common.{◌≡◌, ℕ, ◌+◌, ◌<◌, true, Option, None, Some, List, [], ◌∷◌, length, set, refl, ap, subst, arith}
-use Rattle.std.specs.Prelude.{All, is_some, option_and_then, option_map, slice_get}
-use Rattle.std.specs.List.{slice_index_or, zip}
+use Rattle.std.proofs.Common.{◌≡◌, ℕ, ◌+◌, ◌<◌, true, Option, None, Some, List, [], ◌∷◌, length, set, refl, ap, subst, arith, All, is_some, option_and_then, option_map, slice_get, slice_index_or, zip}
 use Rattle.std.proofs.lemmas.Bool.{false≢true}
 use Rattle.std.proofs.lemmas.List.Elements.{All-nil, All-cons}
 use Rattle.std.proofs.lemmas.List.Quantifiers.{position-Some}
 use Rattle.std.proofs.lemmas.Option.{slice_get-get_or, slice_get_within, get_or_from_slice_get}
 use Rattle.std.proofs.lemmas.Slice.Zip.{length-zip}
-use Rattle.sj_core.proofs.Words.{Block, Cell, DiskNo, Machine, Program, block_bytes, first_fit, place_after, place}
-use Rattle.sj_base.specs.declared.program.CellInfo.{CellInfo}
+use Rattle.sj_core.proofs.Words.{Block, Cell, CellInfo, DiskNo, Machine, Program, block_bytes, first_fit, place, place_after}
 use Rattle.sj_core.specs.Proper.{HasSwapFor}
 use Rattle.sj_core.specs.Step.{disk_of}
 
@@ -21,12 +18,7 @@ placed sizes taken [] blocks e = subst (ArePlaced sizes []) (let f : [] ≡ bloc
 placed sizes taken (c ∷ cells) blocks e = by_disk (first_fit sizes taken (block_bytes c)) refl e (λ taken' bs later. placed sizes taken' cells bs later)
   where
     all : (d : ℕ) → d < length sizes → (rest : Option (List Block)) → ((bs : List Block) → rest ≡ Some bs → ArePlaced sizes cells bs) → option_map (λ bs. (record { disk = record { 0 = d }; position = slice_index_or taken d 0 }) ∷ bs) rest ≡ Some blocks → ArePlaced sizes (c ∷ cells) blocks
-    all d fits None rest e = absurd (let f : ◌≡◌ {A = Option (List Block)} None (Some blocks) = e in cc)
-    all d fits (Some bs) rest e =
-        let block : Block = record { disk = record { 0 = d }; position = slice_index_or taken d 0 } in
-        let is : block ∷ bs ≡ blocks = cc in
-        let later = rest bs refl in
-        subst (ArePlaced sizes (c ∷ cells)) is (omega (arith, later.0), All-cons (λ b. b.disk.0 < length sizes) block bs fits later.1)
+    all d fits x rest e = search (arith, ArePlaced, All-cons)
 
     by_disk : (o : Option ℕ) → first_fit sizes taken (block_bytes c) ≡ o → elim o as (λ _. Option (List Block)) [
       | None ↦ None

@@ -1,43 +1,393 @@
 -- A legal trace has at most three events for each task of its program and five for each operand.
-use Rattle.std.proofs.Common.{Bool, List, None, Option, Some, [], ap, arith, length, refl, suc, true, zero, ℕ, ◌*◌, ◌+◌, ◌++◌, ◌<◌, ◌∙◌, ◌∷◌, ◌≡◌, ◌≤◌}
+use Rattle.std.proofs.Common.{Bool, List, [], ap, arith, cond, false, get_or, length, map, refl, subst, suc, sym, true, zero, ℕ, ◌*◌, ◌+◌, ◌<◌, ◌||◌, ◌∙◌, ◌∷◌, ◌≡◌, ◌≤◌, None, Option, Some, set, ◌++◌, slice_set, count_by, nat_eq, nat_le, nat_lt, replicate, sum_by, ◌&&◌, if◌then◌else◌, is_some}
+use Rattle.std.specs.List.{enumerate_from, list_any, range_with_len}
+use Rattle.std.proofs.lemmas.List.{map-id, get_or-set_same, length-map, length-set, get_or_default}
+use Rattle.std.proofs.lemmas.List.FromFn.{fill_by_all, get_or-map-range_with_len, length-map-range_with_len}
+use Rattle.std.proofs.lemmas.List.Sums.{get_or-le-sum_by, sum_by-cons, sum_by-set, count_by-le-length, length-filter, sum_by-le-sum_by}
+use Rattle.std.proofs.lemmas.Bool.{false≢true, eq-eqb, false_from_ne_true, ne_eqb}
+use Rattle.std.proofs.lemmas.List.Folds.{list_any_at, Any-from_list_any, sum_by-replicate}
 use Rattle.std.proofs.Math.Logic.{∥∥₁_elim}
 use Rattle.std.proofs.Props.{props}
-use Rattle.std.proofs.lemmas.Bool.{false≢true}
-use Rattle.std.proofs.lemmas.List.{get_or_default}
-use Rattle.std.proofs.lemmas.List.Folds.{Any-from_list_any}
-use Rattle.std.proofs.lemmas.List.Sums.{count_by-le-length, length-filter, sum_by-cons, sum_by-le-sum_by}
-use Rattle.std.specs.List.{range_with_len}
-use Rattle.std.specs.Prelude.{is_some, sum_by}
+use Rattle.sj_core.specs.Table.{renewed}
+use Rattle.sj_core.specs.Step.{claimed_replica, leave, owned_at, rewritten_at, BeginsMoveIn, BeginsMoveOut, Claims, Drops, Ends, EndsMove, Runs, Step, a_transfer, array_at, initial, missing, result_at}
+use Rattle.sj_core.specs.Coherent.{IsTransferTo, is_begun, Coherent}
+use Rattle.sj_core.specs.Laws.{IsSound, IsLawful}
 use Rattle.sj_base.specs.Mode.{is_data}
-use Rattle.sj_base.specs.declared.mode.Access.{Access}
-use Rattle.sj_base.specs.declared.program.Lowered.{Lowered}
-use Rattle.sj_base.specs.declared.trace.Event.{Event}
-use Rattle.sj_codelet.specs.declared.kernel.Kernel.{Kernel}
-use Rattle.sj_core.specs.declared.progress.Progress.{Progress}
-use Rattle.sj_core.specs.declared.progress.Progress.TheVariants.{Claimed, Done, Running, Waiting}
-use Rattle.sj_core.specs.declared.progress.Transfer.{Transfer}
-use Rattle.sj_core.specs.Coherent.{Coherent}
-use Rattle.sj_core.specs.Laws.{IsLawful, IsSound}
 use Rattle.sj_core.specs.Legal.{IsLegal, Leads, Replays}
 use Rattle.sj_core.specs.Proper.{IsMachineFor, Proper}
-use Rattle.sj_core.specs.Step.{EndsMove, array_at}
-use Rattle.sj_core.proofs.Words.{Machine, Program, State, Task, Valid, Worker, WorkerState, data_operands, no_task, opening, progress, task_of, tasks_of, transfer, with_replica, with_transfer}
-use Rattle.sj_core.proofs.Arriving.{Ended_moves-keep_coherence}
-use Rattle.sj_core.proofs.Reading.{idle_row}
+use Rattle.sj_core.specs.Bound.{HasAtMostThreePerTaskAndFivePerOperand, operands}
+use Rattle.sj_core.proofs.Words.{Access, Array, AtNode, Cell, CellState, Claimed, Coming, DiskNo, Done, Event, Invalid, Kernel, Leaving, Lowered, Machine, Node, OnDisk, Place, Program, Progress, Replica, Running, State, Task, Transfer, Valid, Waiting, Worker, WorkerState, cell_state, cells_of, data_operands, has_cell, is_entry, is_leaving, is_leaving_by, is_valid, no_replica, no_task, node_of, opening, progress, replica, replica_in, same_cell, scratch_bytes, task_of, tasks_of, transfer, victims_of, with_replica, with_replica_in, with_transfer, worked_on, worker_of, worker_state, written_cells}
+use Rattle.sj_core.proofs.CellLists.{same_cell-sym}
+use Rattle.sj_core.proofs.Sums.{count-numbered, sum-one_more, sum-within, tally, sum-nothing, sum_by-map, counted-some}
+use Rattle.sj_core.proofs.Advancing.{Advances, Ends-advances, Runs-advances, claimed_by-is, same_task}
+use Rattle.sj_core.proofs.Blocks.{disk-within}
+use Rattle.sj_core.proofs.Claiming.{claim-advance, missing-absent, node-inside}
+use Rattle.sj_core.proofs.Placing.{stays-on_disk, valid-row, valid-within}
+use Rattle.sj_core.proofs.Reading.{entry-inside, idle_row, no_row, transfer-inside}
+use Rattle.sj_core.proofs.Replicas.{coming_by-is, leaving-by_some, leaving_by-leaves, leaving_by-valid}
+use Rattle.sj_core.proofs.TaskCells.{written-among_cells}
+use Rattle.sj_core.proofs.Moving.{Ended_moves-keep_coherence}
 use Rattle.sj_core.proofs.Replaying.{Replays-coherent}
 use Rattle.sj_core.proofs.States.{Replays-more}
-use Rattle.sj_core.specs.Bound.{HasAtMostThreePerTaskAndFivePerOperand, operands}
-use Rattle.sj_core.proofs.Payments.{Step-pays, due, moved-cost, moved-transfers, operands_of, paid, under_way}
-use Rattle.sj_core.proofs.Tallies.{counted-some, sum_by-map, sum-numbered}
-use Rattle.sj_core.proofs.Weights.{cost, opening-costs}
+use Rattle.sj_core.proofs.Claimed.{claimed-inside}
+use Rattle.sj_core.proofs.Finding.{running-inside}
+
+-- ---- sums that rise at one element, sums over a table whose rows were renewed, and sums over numbered elements
+
+-- where no term falls, and those that pass a test rise by so much, a sum with such a term rises by so much
+pub sum-rises : {X : Type 0} (f g : X → ℕ) (test : X → Bool) (more : ℕ) → ((x : X) → f x + cond (test x) more 0 ≤ g x) → (xs : List X) (i : ℕ) (d : X) → i < length xs → test (get_or xs i d) ≡ true → sum_by f xs + more ≤ sum_by g xs
+sum-rises f g test more rises xs i d inside passes =
+    let here : cond (test (get_or xs i d)) more 0 ≡ more = ap (λ b. cond b more 0) passes in
+    omega (arith, sum-within f (λ x. cond (test x) more 0) g rises xs, get_or-le-sum_by (λ x. cond (test x) more 0) xs i d inside)
+
+-- ---- tables
+
+renewed-from : {X : Type 0} (f : X → ℕ) (g : ℕ → X → X) (more : ℕ → ℕ) (d : X) (xs : List X) (a : ℕ) → ((k i : ℕ) → k < length xs → i ≡ a + k → f (g i (get_or xs k d)) ≤ f (get_or xs k d) + more i) → sum_by f (map (λ row. g row.0 row.1) (enumerate_from a xs)) ≤ sum_by f xs + sum_by more (range_with_len a (length xs))
+renewed-from f g more d [] a each = omega arith
+renewed-from f g more d (x ∷ xs) a each =
+    let all = renewed-from f g more d xs (a + 1) (λ k i inside e. each (suc k) i (omega (arith, inside)) (omega (arith, e))) in
+    let one = sum_by-cons f (g a x) (map (λ row. g row.0 row.1) (enumerate_from (a + 1) xs)) in
+    let both = sum_by-cons more a (range_with_len (a + 1) (length xs)) in
+    omega (arith, each 0 a (omega arith) (omega arith), sum_by-cons f x xs)
+
+-- where each row of a table rises by no more than its number allows
+pub sum-renewed : {X : Type 0} (f : X → ℕ) (g : ℕ → X → X) (more : ℕ → ℕ) (d : X) (xs : List X) → ((i : ℕ) → i < length xs → f (g i (get_or xs i d)) ≤ f (get_or xs i d) + more i) → sum_by f (renewed g xs) ≤ sum_by f xs + sum_by more (range_with_len 0 (length xs))
+sum-renewed f g more d xs each = renewed-from f g more d xs 0 (λ k i inside e. subst (λ j. f (g j (get_or xs k d)) ≤ f (get_or xs k d) + more j) (let same : k ≡ i = omega (arith, e) in same) (each k inside))
+
+-- and where none rises
+pub sum-renewed_within : {X : Type 0} (f : X → ℕ) (g : ℕ → X → X) (d : X) (xs : List X) → ((i : ℕ) → i < length xs → f (g i (get_or xs i d)) ≤ f (get_or xs i d)) → sum_by f (renewed g xs) ≤ sum_by f xs
+sum-renewed_within f g d xs each =
+    let all = sum-renewed f g (λ i. 0) d xs (λ i inside. (let here = each i inside in omega arith)) in
+    omega (arith, sum-nothing (λ k. 0) (λ k. refl) (range_with_len 0 (length xs)))
+
+-- the sum over the elements of a list by number
+pub sum-numbered : {X : Type 0} (f : X → ℕ) (d : X) (xs : List X) → sum_by (λ i. f (get_or xs i d)) (range_with_len 0 (length xs)) ≡ sum_by f xs
+sum-numbered f d xs = sym (ap (sum_by f) (fill_by_all (λ i. get_or xs i d) xs (length xs) d refl (λ k inside. refl)) ∙ sum_by-map f (λ i. get_or xs i d) (range_with_len 0 (length xs)))
+
+-- ---- cells by number
+
+abbrev pub cell_at : ℕ → Cell
+cell_at k = record { 0 = k }
+
+-- a table has no more rows of cells that a list has than the list is long
+pub rows-within : (n : ℕ) (cs : List Cell) → sum_by (λ k. cond (has_cell cs (cell_at k)) 5 0) (range_with_len 0 n) ≤ 5 * length cs
+rows-within n [] = let none = sum-nothing (λ k. 0) (λ k. refl) (range_with_len 0 n) in omega arith
+rows-within n (c ∷ cs) =
+    let all = sum-one_more (λ k. cond (has_cell (c ∷ cs) (cell_at k)) 5 0) (λ k. cond (has_cell cs (cell_at k)) 5 0) (λ k. nat_eq k c.0) 5 (λ k. by_first (cell_at k) (same_cell c (cell_at k)) refl) (range_with_len 0 n) once in
+    omega (arith, rows-within n cs)
+  where
+    by_first : (d : Cell) (b : Bool) → same_cell c d ≡ b → cond (b || has_cell cs d) 5 0 ≤ cond (has_cell cs d) 5 0 + cond (same_cell d c) 5 0
+    by_first d true e = let here : cond {A = ℕ} (same_cell d c) 5 0 ≡ 5 = ap (λ b. cond {A = ℕ} b 5 0) (same_cell-sym d c ∙ e) in omega arith
+    by_first d false e = omega arith
+
+    at_most_one : (b : Bool) → tally b ≤ 1
+    at_most_one true = omega arith
+    at_most_one false = omega arith
+
+    once : count_by (λ k. nat_eq k c.0) (range_with_len 0 n) ≤ 1
+    once =
+        let all = count-numbered (λ k. k) (λ k. nat_eq k c.0) c.0 (λ i. refl) 0 n in
+        let more = ap (count_by (λ k. nat_eq k c.0)) (map-id (range_with_len 0 n)) in
+        omega (arith, at_most_one (nat_le 0 c.0 && nat_lt c.0 (0 + n)))
+
+-- ---- what the replicas of a cell on nodes may still cost: the events that bring one and take it away again
+
+-- one that comes is still moved in, which begins and ends, and is valid then; one that is valid is still moved out, which begins and
+-- ends, and dropped; one that leaves is only dropped where a disk has the cell
+abbrev pub weight : Bool → Replica → ℕ
+weight on_disk Invalid = 0
+weight on_disk (Coming w) = 5
+weight on_disk (Valid a) = 3
+weight on_disk (Leaving w a) = cond on_disk 1 3
+
+-- a disk has the cell
+abbrev pub is_on_disk : CellState → Bool
+is_on_disk row = list_any is_valid row.disks
+
+-- what those of one cell may still cost
+abbrev pub cost_of : CellState → ℕ
+cost_of row = sum_by (weight (is_on_disk row)) row.nodes
+
+-- what all replicas may still cost
+abbrev pub cost : State → ℕ
+cost s = sum_by cost_of s.cells
+
+-- ---- one replica
+
+pub entry-weighs : (b : Bool) (r : Replica) → is_entry r ≡ true → 3 ≤ weight b r
+entry-weighs b r h = search (arith, false≢true)
+
+pub leaving-weighs : (b : Bool) (r : Replica) → is_leaving r ≡ true → 1 ≤ weight b r
+leaving-weighs b r h = search (arith, false≢true)
+
+-- a victim weighs no more than it did
+leave-weighs : (w : Worker) (b : Bool) (r : Replica) → weight b (leave w r) ≤ weight b r
+leave-weighs w b r = search arith
+
+-- a claim adds the weight of a cell that comes
+claimed-weighs : (w : Worker) (evicted missing : List Cell) (c : Cell) (brought : Bool) → (has_cell missing c ≡ true → brought ≡ true) → (b : Bool) (r : Replica) → weight b (claimed_replica w evicted missing c r) ≤ weight b r + cond brought 5 0
+claimed-weighs w evicted missing c brought comes b r = search (arith, weight, leave-weighs)
+
+-- ---- the row of a cell
+
+-- one replica on a node in place of another
+pub replaced : (row : CellState) (n : Node) (r : Replica) → n.0 < length row.nodes → cost_of (with_replica_in row (AtNode n) r) + weight (is_on_disk row) (replica_in row (AtNode n)) ≡ cost_of row + weight (is_on_disk row) r
+replaced row n r inside = sum_by-set (weight (is_on_disk row)) row.nodes n.0 r Invalid inside
+
+-- after a claim that brings the cell, or not
+pub claimed-costs : (row : CellState) (n : Node) (w : Worker) (evicted missing : List Cell) (c : Cell) (brought : Bool) → (has_cell missing c ≡ true → brought ≡ true) → n.0 < length row.nodes → cost_of (with_replica_in row (AtNode n) (claimed_replica w evicted missing c (replica_in row (AtNode n)))) ≤ cost_of row + cond brought 5 0
+claimed-costs row n w evicted missing c brought comes inside = search (arith, replaced, claimed-weighs, is_on_disk)
+
+-- a cell with an entry on a node
+pub entry-costs : (row : CellState) (n : Node) → n.0 < length row.nodes → is_entry (replica_in row (AtNode n)) ≡ true → 3 ≤ cost_of row
+entry-costs row n inside entry = search (arith, get_or-le-sum_by, weight, is_on_disk, entry-weighs)
+
+invalid-costs : (b : Bool) (rs : List Replica) → sum_by (weight b) (map (λ r. Invalid) rs) ≡ 0
+invalid-costs b [] = refl
+invalid-costs b (r ∷ rs) = let first = sum_by-cons (weight b) Invalid (map (λ q. Invalid) rs) in let rest = invalid-costs b rs in omega arith
+
+-- a cell with one valid replica
+pub owned-costs : (row : CellState) (n : Node) (a : Array) → n.0 < length row.nodes → cost_of (owned_at n a row) ≤ 3
+owned-costs row n a inside = alone (is_on_disk (owned_at n a row))
+  where
+    alone : (b : Bool) → sum_by (weight b) (slice_set (map (λ r. Invalid) row.nodes) n.0 (Valid a)) ≤ 3
+    alone b =
+        let all = sum_by-set (weight b) (map (λ r. Invalid) row.nodes) n.0 (Valid a) Invalid (omega (arith, inside, length-map row.nodes (λ (r : Replica). Invalid))) in
+        omega (arith, invalid-costs b row.nodes)
+
+-- a valid replica gets another array
+pub rewritten-costs : (row : CellState) (n : Node) (a old : Array) → n.0 < length row.nodes → replica_in row (AtNode n) ≡ Valid old → cost_of (rewritten_at n a row) ≤ cost_of row
+rewritten-costs row n a old inside valid = search (arith, sum_by-set, weight, is_on_disk)
+
+-- a disk gets the cell, which leaves a node
+pub written-costs : (row : CellState) (d : DiskNo) (a : Array) (n : Node) → d.0 < length row.disks → is_on_disk row ≡ false → n.0 < length row.nodes → is_leaving (replica_in row (AtNode n)) ≡ true → cost_of (with_replica_in row (OnDisk d) (Valid a)) + 2 ≤ cost_of row
+written-costs row d a n within none inside leaving =
+    let there : list_any is_valid (slice_set row.disks d.0 (Valid a)) ≡ true = list_any_at is_valid (slice_set row.disks d.0 (Valid a)) d.0 Invalid (omega (arith, within, length-set row.disks d.0 (Valid a))) (ap is_valid (get_or-set_same row.disks d.0 (Valid a) Invalid within)) in
+    let all = sum-rises (weight true) (weight false) is_leaving 2 lighter row.nodes n.0 Invalid inside leaving in
+    omega (arith, ap (λ b. sum_by (weight b) row.nodes) there, ap (λ b. sum_by (weight b) row.nodes) none)
+  where
+    lighter : (r : Replica) → weight true r + cond (is_leaving r) 2 0 ≤ weight false r
+    lighter r = search arith
+
+-- ---- the opening state
+
+pub opening-costs : (p : Program) (m : Machine) → cost (opening p m) ≡ 0
+opening-costs p m =
+    let one : cost_of (no_replica m) ≡ 0 = sum-nothing-of (weight (is_on_disk (no_replica m))) (length m.nodes) Invalid refl in
+    sum-nothing-of cost_of (length p.cells) (no_replica m) one
+  where
+    sum-nothing-of : {X : Type 0} (f : X → ℕ) (n : ℕ) (x : X) → f x ≡ 0 → sum_by f (replicate n x) ≡ 0
+    sum-nothing-of f n x none = sum_by-replicate f n x ∙ ap (λ k. n * k) none ∙ (omega arith)
+
+-- ---- each legal step is one event, and is paid for: a task pays one for each of its own events, and with its claim five for each operand,
+-- which is what a replica that the claim brings may cost. A replica that comes, is valid or leaves still costs as much as it weighs; a move
+-- that begins is paid for by being under way, and as it ends its replica weighs two less.
+
+-- ---- what pays
+
+-- the transfers that are under way
+abbrev pub under_way : State → ℕ
+under_way s = sum_by (λ row. tally (is_some row.transfer)) s.workers
+
+-- the operands of a task but its scratch buffers
+abbrev pub operands_of : Program → Task → ℕ
+operands_of p t = length (data_operands (task_of p t))
+
+-- what a task of so many operands has paid: one for each of its own events, and with its claim five for each operand
+abbrev pub due : ℕ → Progress → ℕ
+due n Waiting = 0
+due n (Claimed w) = 1 + 5 * n
+due n (Running w) = 2 + 5 * n
+due n (Done w) = 3 + 5 * n
+
+-- what all tasks have paid
+abbrev pub paid : Program → State → ℕ
+paid p s = sum_by (λ t. due (operands_of p t) (progress s t)) (tasks_of p)
+
+-- one event is paid for between two states
+abbrev pub Pays : Program → State → State → Type 0
+Pays p s s' = 1 + cost s' + under_way s + paid p s ≤ cost s + under_way s' + paid p s'
+
+-- what a task pays as it goes on
+paid-advances : (p : Program) (s s' : State) (t : Task) (old new : Progress) → Advances s s' t old new → t.0 < length p.tasks → (more : ℕ) → due (operands_of p t) old + more ≡ due (operands_of p t) new → paid p s + more ≤ paid p s'
+paid-advances p s s' t old new a inside more rises =
+    let number : ℕ → Task = λ n. record { 0 = n } in
+    let at_t : get_or (tasks_of p) t.0 t ≡ t = get_or-map-range_with_len number 0 (length p.tasks) t.0 t.0 t inside (omega arith) in
+    sum-rises (λ u. due (operands_of p u) (progress s u)) (λ u. due (operands_of p u) (progress s' u)) (λ u. nat_eq u.0 t.0) more each (tasks_of p) t.0 t (omega (arith, inside, length-map-range_with_len number 0 (length p.tasks))) (ap (λ (u : Task). nat_eq u.0 t.0) at_t ∙ eq-eqb t.0 t.0 refl)
+  where
+    each : (u : Task) → due (operands_of p u) (progress s u) + cond (nat_eq u.0 t.0) more 0 ≤ due (operands_of p u) (progress s' u)
+    each u = (search (arith, same_task, eq-eqb, ne_eqb))
+
+-- the transfers under way where one worker's row is written
+row-counts : (s : State) (w : Worker) (row : WorkerState) → w.0 < length s.workers → under_way (record s { workers = set s.workers w.0 row }) + tally (is_some (transfer s w)) ≡ under_way s + tally (is_some row.transfer)
+row-counts s w row inside = sum_by-set (λ (r : WorkerState). tally (is_some r.transfer)) s.workers w.0 row idle_row inside
+
+module _ (p : Program) (m : Machine) (s : State) (h : IsSound p m s) where
+  -- ---- whose rows there are
+
+  -- its worker is one of the table
+  worker-inside : (t : Task) (x : Progress) → progress s t ≡ x → is_begun x ≡ true → (worker_of x).0 < length s.workers
+  worker-inside t x is begun = search arith
+
+  -- and so is the worker by whose claim a replica leaves, on a node
+  leaving-inside : (w : Worker) (c : Cell) (from : Place) → is_leaving_by w (replica s c from) ≡ true → w.0 < length s.workers
+  leaving-inside w c (AtNode n) leaving = search (arith, worker-inside, claimed_by-is)
+  leaving-inside w c (OnDisk d) leaving = absurd (stays-on_disk p m s h w c d leaving)
+
+  -- ---- claims, runs and ends
+
+  module _ (t : Task) (w : Worker) (s' : State) (claim : Claims p m s t w s') where
+    -- what comes by a claim costs five for each of its cells, and what is evicted costs no more than before
+    claim-cost : cost s' ≤ cost s + 5 * length (cells_of p t w)
+    claim-cost =
+        let n = node_of m w in
+        let brought : ℕ → Bool = λ k. has_cell (cells_of p t w) (cell_at k) in
+        let all = sum-renewed cost_of (λ k row. with_replica_in row (AtNode n) (claimed_replica w claim.evicted (missing p s t w n) (cell_at k) (replica_in row (AtNode n)))) (λ k. cond (brought k) 5 0) no_row s.cells
+        (λ k inside. claimed-costs (get_or s.cells k no_row) n w claim.evicted (missing p s t w n) (cell_at k) (brought k) (λ lacks. (missing-absent p m s t w s' claim (cell_at k) lacks).1) (node-inside p m s h t w s' claim (cell_at k) inside)) in
+        omega (arith, rows-within (length s.cells) (cells_of p t w), ap cost claim.leaves)
+
+    Claims-pays : Pays p s s'
+    Claims-pays =
+        let named : length (cells_of p t w) ≡ operands_of p t = length-map (data_operands (task_of p t)) (worked_on p w) in
+        let all = row-counts s w (record { pins = cells_of p t w; scratch = scratch_bytes p (task_of p t); victims = claim.evicted; transfer = transfer s w }) (omega (arith, claim.worker, h.machine.workers, h.coherent.state.rows.workers)) in
+        let more = paid-advances p s s' t Waiting (Claimed w) (claim-advance p m s h t w s' claim) claim.ready.task (1 + 5 * operands_of p t) (omega arith) in
+        omega (arith, claim-cost, ap under_way claim.leaves)
+
+  module _ (t : Task) (w : Worker) (s' : State) (run : Runs p m s t w s') where
+    -- a written cell has one replica then, and had one on that node before
+    run-cost : cost s' ≤ cost s
+    run-cost =
+        let n = node_of m w in
+        let writes : Cell → Bool = has_cell (written_cells p t w) in
+        let all = sum-renewed_within cost_of (λ k row. if writes (cell_at k) then owned_at n (initial p s t w n (cell_at k)) row else row) no_row s.cells (λ k inside. by_test (cell_at k) (writes (cell_at k)) refl) in
+        omega (arith, ap cost run.leaves)
+      where
+        by_test : (c : Cell) (b : Bool) → has_cell (written_cells p t w) c ≡ b → cost_of (if b then owned_at (node_of m w) (initial p s t w (node_of m w) c) (cell_state s c) else cell_state s c) ≤ cost_of (cell_state s c)
+        by_test c false e = omega arith
+        by_test c true e =
+            let n = node_of m w in
+            let entry = h.coherent.cells.claimed t w c run.claimed (written-among_cells p t w c e) in
+            let within = (entry-inside s c n entry).1 in
+            omega (arith, entry-costs (cell_state s c) n within entry, owned-costs (cell_state s c) n (initial p s t w n c) within)
+
+    Runs-pays : Pays p s s'
+    Runs-pays =
+        let all = paid-advances p s s' t (Claimed w) (Running w) (Runs-advances p m s t w s' run) (claimed-inside p m s h t w run.claimed) 1 (omega arith) in
+        omega (arith, run-cost, ap under_way run.leaves)
+
+  module _ (t : Task) (w : Worker) (s' : State) (ended : Ends p m s t w s') where
+    -- a written cell has its new array in place of the old one
+    end-cost : cost s' ≤ cost s
+    end-cost =
+        let n = node_of m w in
+        let writes : Cell → Bool = has_cell (written_cells p t w) in
+        let all = sum-renewed_within cost_of (λ k row. if writes (cell_at k) then rewritten_at n (result_at p s t w n (cell_at k)) row else row) no_row s.cells (λ k inside. by_test (cell_at k) (writes (cell_at k)) refl) in
+        omega (arith, ap cost ended.leaves)
+      where
+        by_test : (c : Cell) (b : Bool) → has_cell (written_cells p t w) c ≡ b → cost_of (if b then rewritten_at (node_of m w) (result_at p s t w (node_of m w) c) (cell_state s c) else cell_state s c) ≤ cost_of (cell_state s c)
+        by_test c false e = omega arith
+        by_test c true e =
+            let n = node_of m w in
+            let own = h.coherent.writers.owned t w c ended.running e in
+            rewritten-costs (cell_state s c) n (result_at p s t w n c) _ (valid-within (cell_state s c).nodes n.0 (ap is_valid own.valid)) own.valid
+
+    Ends-pays : Pays p s s'
+    Ends-pays =
+        let all = row-counts s w (record { pins = []; scratch = 0; victims = victims_of s w; transfer = transfer s w }) (worker-inside t (Running w) ended.running refl) in
+        let more = paid-advances p s s' t (Running w) (Done w) (Ends-advances p m s t w s' ended) (running-inside p m s t w h.coherent.state.rows ended.running) 1 (omega arith) in
+        omega (arith, end-cost, ap under_way ended.leaves)
+
+  -- ---- transfers that begin
+
+  begins-pays : (w : Worker) (x : Transfer) (s' : State) → w.0 < length s.workers → transfer s w ≡ None → s' ≡ with_transfer s w (Some x) → Pays p s s'
+  begins-pays w x s' inside free leaves = search (arith, row-counts, tally, under_way, cost, paid)
+
+  Moves_in-pay : (c : Cell) (from : Place) (n : Node) (w : Worker) (s' : State) → BeginsMoveIn p m s c from n w s' → Pays p s s'
+  Moves_in-pay c from n w s' move = search (arith, begins-pays, worker-inside)
+
+  Moves_out-pay : (c : Cell) (from : Place) (d : DiskNo) (w : Worker) (s' : State) → BeginsMoveOut p m s c from d w s' → Pays p s s'
+  Moves_out-pay c from d w s' move = begins-pays w (a_transfer c from (OnDisk d)) s' (leaving-inside w c from move.leaving) move.free move.leaves
+
+  -- ---- replicas that come and go
+
+  -- one row of the table is written
+  rewrites : (c : Cell) (row : CellState) → c.0 < length s.cells → (fewer : ℕ) → cost_of row + fewer ≤ cost_of (cell_state s c) → cost (record s { cells = set s.cells c.0 row }) + fewer ≤ cost s
+  rewrites c row inside fewer falls = let all = sum_by-set cost_of s.cells c.0 row no_row inside in omega arith
+
+  Drops-pays : (c : Cell) (n : Node) (s' : State) → Drops m s c n s' → Pays p s s'
+  Drops-pays c n s' drop =
+      let by = leaving-by_some (replica s c (AtNode n)) drop.leaving in
+      let valid = leaving_by-valid by.0 (replica s c (AtNode n)) by.1 in
+      let gone = replaced (cell_state s c) n Invalid (valid-within (cell_state s c).nodes n.0 valid) in
+      let weighed = leaving-weighs (is_on_disk (cell_state s c)) (replica s c (AtNode n)) drop.leaving in
+      let all = rewrites c (with_replica_in (cell_state s c) (AtNode n) Invalid) (valid-row s c (AtNode n) valid) 1 (omega (arith, gone, weighed)) in
+      omega (arith, ap cost drop.leaves, ap under_way drop.leaves, ap (paid p) drop.leaves)
+
+  module _ (c : Cell) (from to : Place) (w : Worker) (s' : State) (moved : EndsMove p s c from to w s') where
+    abbrev brought : Array
+    brought = array_at p s from c
+
+    abbrev row : CellState
+    row = cell_state s c
+
+    target : IsTransferTo m s w c from to
+    target = h.coherent.transfers.target w (a_transfer c from to) moved.under_way
+
+    -- before a disk gets the cell no disk has it
+    not_on_disk : (d : DiskNo) → OnDisk d ≡ to → IsTransferTo m s w c from (OnDisk d) → is_on_disk row ≡ false
+    not_on_disk d at there = false_from_ne_true (is_on_disk row) (λ some.
+        (let found = Any-from_list_any is_valid row.disks some in
+        let k : DiskNo = record { 0 = found.0 } in
+        let valid : is_valid (replica s c (OnDisk k)) ≡ true = ap is_valid (get_or_default row.disks found.0 Invalid found.1 found.2 ∙ found.3) ∙ found.4 in
+        let home = h.coherent.state.blocks.home c k valid in
+        let aimed = h.coherent.state.blocks.aimed w (a_transfer c from to) d moved.under_way (sym at) in
+        let both : Some k ≡ Some d = sym home ∙ aimed in
+        let same : k ≡ d = cc in
+        false≢true (sym (ap is_valid there.1) ∙ ap (λ (e : DiskNo). is_valid (replica s c (OnDisk e))) (sym same) ∙ valid)))
+
+    -- the cell's row costs two less
+    row-falls : (q : Place) → q ≡ to → IsTransferTo m s w c from q → (c.0 < length s.cells) × (cost_of (with_replica_in row q (Valid brought)) + 2 ≤ cost_of row)
+    row-falls (AtNode n) at there =
+        search (arith, coming_by-is, entry-inside, replaced, row, brought, weight, is_on_disk, AtNode)
+    row-falls (OnDisk d) at there = by_source from refl there.0
+      where
+        by_source : (q : Place) → q ≡ from → is_leaving_by w (replica s c q) ≡ true → (c.0 < length s.cells) × (cost_of (with_replica_in row (OnDisk d) (Valid brought)) + 2 ≤ cost_of row)
+        by_source (OnDisk k) e leaving = absurd (stays-on_disk p m s h w c k leaving)
+        by_source (AtNode n) e leaving =
+            let valid = leaving_by-valid w (replica s c (AtNode n)) leaving in
+            let inside = valid-row s c (AtNode n) valid in
+            let aimed = h.coherent.state.blocks.aimed w (a_transfer c from to) d moved.under_way (sym at) in
+            let within : d.0 < length row.disks = omega (arith, disk-within p m c d aimed, h.coherent.state.rows.disks c.0 no_row inside) in
+            (inside, written-costs row d brought n within (not_on_disk d at there) (valid-within row.nodes n.0 valid) (leaving_by-leaves w (replica s c (AtNode n)) leaving))
+
+    -- and so do all replicas
+    pub moved-cost : cost s' + 2 ≤ cost s
+    moved-cost =
+        let falls = row-falls to refl target in
+        omega (arith, rewrites c (with_replica_in row to (Valid brought)) falls.0 2 falls.1, ap cost moved.leaves)
+
+    -- and one transfer less is under way
+    pub moved-transfers : under_way s ≡ 1 + under_way s'
+    moved-transfers =
+        let one : tally (is_some (transfer s w)) ≡ 1 = ap (λ (o : Option Transfer). tally (is_some o)) moved.under_way in
+        let all = row-counts s w (record (worker_state s w) { transfer = None }) (transfer-inside s w (a_transfer c from to) moved.under_way) in
+        omega (arith, ap under_way moved.leaves)
+
+    Ended_moves-pay : Pays p s s'
+    Ended_moves-pay = omega (arith, moved-cost, moved-transfers, ap (paid p) moved.leaves)
+
+  -- ---- a step
+
+  pub Step-pays : (e : Event) (s' : State) → Step p m s e s' → Pays p s s'
+  Step-pays e s' step =
+      search (arith, Claims-pays, Moves_in-pay, Moves_out-pay, Ended_moves-pay, Drops-pays, Runs-pays, Ends-pays)
+
+-- ---- a legal trace has at most three events for each task of its program and five for each operand
 
 -- ---- what all tasks pay
 
 due-at_most : (n : ℕ) (x : Progress) → due n x ≤ 3 + 5 * n
-due-at_most n Waiting = omega arith
-due-at_most n (Claimed w) = omega arith
-due-at_most n (Running w) = omega arith
-due-at_most n (Done w) = omega arith
+due-at_most n x = search arith
 
 -- three for each task and five for each operand, scratch buffers aside
 abbrev price : Lowered → ℕ
@@ -45,23 +395,14 @@ price l = 3 + 5 * length (data_operands l)
 
 prices-at_most : (ls : List Lowered) → sum_by price ls ≤ 3 * length ls + 5 * sum_by (λ l. length l.accesses) ls
 prices-at_most [] = omega arith
-prices-at_most (l ∷ ls) =
-    let first = sum_by-cons price l ls in
-    let all = sum_by-cons (λ (k : Lowered). length k.accesses) l ls in
-    let rest = prices-at_most ls in
-    let on_data : Access → Bool = λ a. is_data a.mode in
-    let kept = length-filter on_data l.accesses in
-    let fewer = count_by-le-length on_data l.accesses in
-    omega arith
+prices-at_most (l ∷ ls) = search (arith, sum_by-cons, count_by-le-length, price, length-filter, prices-at_most ls)
 
 paid-at_most : (p : Program) (s : State) → paid p s ≤ 3 * length p.tasks + 5 * operands p
 paid-at_most p s =
-    let most = sum_by-le-sum_by (λ t. due (operands_of p t) (progress s t)) (λ t. price (task_of p t)) (tasks_of p) (λ t. due-at_most (operands_of p t) (progress s t)) in
     let number : ℕ → Task = λ n. record { 0 = n } in
-    let by_number = sum_by-map (λ t. price (task_of p t)) number (range_with_len 0 (length p.tasks)) in
-    let by_row = sum-numbered price no_task p.tasks in
-    let prices = prices-at_most p.tasks in
-    omega arith
+    let all = sum_by-le-sum_by (λ t. due (operands_of p t) (progress s t)) (λ t. price (task_of p t)) (tasks_of p) (λ t. due-at_most (operands_of p t) (progress s t)) in
+    let more = sum_by-map (λ t. price (task_of p t)) number (range_with_len 0 (length p.tasks)) in
+    omega (arith, sum-numbered price no_task p.tasks, prices-at_most p.tasks)
 
 -- ---- what is under way
 
@@ -92,9 +433,8 @@ module _ (p : Program) (m : Machine) (proper : Proper p) (machine : IsMachineFor
       let after : State = with_transfer (with_replica s x.cell x.to (Valid (array_at p s x.from x.cell))) w None in
       let moved : EndsMove p s x.cell x.from x.to w after = record { under_way = one.2; leaves = refl } in
       let fewer = moved-transfers p m s (sound s c) x.cell x.from x.to w after moved in
-      let falls = moved-cost p m s (sound s c) x.cell x.from x.to w after moved in
-      let rest = transfers-within k after (Ended_moves-keep_coherence p m s (sound s c) x.cell x.from x.to w after moved) (omega (arith, e, fewer)) in
-      omega arith
+      let all = transfers-within k after (Ended_moves-keep_coherence p m s (sound s c) x.cell x.from x.to w after moved) (omega (arith, e, fewer)) in
+      omega (arith, moved-cost p m s (sound s c) x.cell x.from x.to w after moved)
 
   -- ---- whole traces
 
@@ -104,24 +444,16 @@ module _ (p : Program) (m : Machine) (proper : Proper p) (machine : IsMachineFor
 
     -- each event of a legal trace is paid for
     trace-pays : (before trace : List Event) (s s' : State) → Replays p m before s → Leads p m s trace s' → length trace + cost s' + under_way s + paid p s ≤ cost s + under_way s' + paid p s'
-    trace-pays before [] s s' replays e =
-        let costs = ap cost e in
-        let moving = ap under_way e in
-        let paying = ap (paid p) e in
-        omega arith
+    trace-pays before [] s s' replays e = omega (arith, ap cost e, ap under_way e, ap (paid p) e)
     trace-pays before (e ∷ trace) s s' replays (next, step, rest) =
-        let first = Step-pays p m s (sound s (coherent before s replays)) e next step in
-        let later = trace-pays (before ++ e ∷ []) trace next s' (Replays-more p m before s next e replays step) rest in
-        omega arith
+        let all = trace-pays (before ++ e ∷ []) trace next s' (Replays-more p m before s next e replays step) rest in
+        omega (arith, Step-pays p m s (sound s (coherent before s replays)) e next step)
 
     -- what they may still cost at the end is no less than the transfers under way
     pub replays-within_bound : (trace : List Event) (s : State) → Replays p m trace s → HasAtMostThreePerTaskAndFivePerOperand p trace
     replays-within_bound trace s replays =
-        let all = trace-pays [] trace (opening p m) s refl replays in
-        let none = opening-costs p m in
-        let moving = transfers-within (under_way s) s (coherent trace s replays) refl in
-        let most = paid-at_most p s in
-        omega arith
+        let all = transfers-within (under_way s) s (coherent trace s replays) refl in
+        omega (arith, trace-pays [] trace (opening p m) s refl replays, opening-costs p m, paid-at_most p s)
 
 pub legal-within_bound : (has : Kernel → Bool) (p : Program) (m : Machine) (trace : List Event) → Proper p → IsMachineFor p m → IsLawful has p → IsLegal p m trace → HasAtMostThreePerTaskAndFivePerOperand p trace
 legal-within_bound has p m trace proper machine lawful legal = ∥∥₁_elim legal (hlevel props) (λ l. replays-within_bound p m proper machine has lawful trace l.left l.replays)

@@ -1,10 +1,8 @@
 -- The bytes on a node: sums over its entries, its leaving replicas and its workers; a step that brings nothing keeps that they suffice.
-use Rattle.std.proofs.Common.{Bool, List, ap, arith, cond, false, length, not, refl, subst, sym, true, ℕ, ◌&&◌, ◌+◌, ◌<◌, ◌∙◌, ◌≡◌, ◌≢◌, ◌≤◌}
+use Rattle.std.proofs.Common.{Bool, List, ap, arith, cond, false, length, not, refl, sym, true, ℕ, ◌&&◌, ◌+◌, ◌<◌, ◌∙◌, ◌≡◌, ◌≢◌, ◌≤◌, filter, count_by, nat_eq, nat_le, nat_lt, sum_by}
 use Rattle.std.proofs.lemmas.Bool.{and_from, and_parts, false≢true}
 use Rattle.std.proofs.lemmas.Bool.Decides.{Decides-eqb}
 use Rattle.std.proofs.lemmas.List.Sums.{sum_by-le-sum_by}
-use Rattle.std.specs.List.{filter}
-use Rattle.std.specs.Prelude.{count_by, nat_eq, nat_le, nat_lt, sum_by}
 use Rattle.sj_core.proofs.Words.{AtNode, Cell, Machine, Node, Program, State, Worker, cells_of_program, has_cell, is_coming_by, is_leaving_by, node_of, order, replica, same_worker, scratch, tile_bytes, workers_at, workers_of, used}
 use Rattle.sj_core.specs.Coherent.{IsStateOf, entries_beside, leaving_by, others_at, used_while_leaving}
 use Rattle.sj_core.proofs.CellLists.{has_cell-filter_is, share, sum-once, times, times-filter, times-program}
@@ -18,11 +16,7 @@ abbrev pub bytes_where : Program → (Cell → Bool) → ℕ
 bytes_where p test = sum_by (share (tile_bytes p) test) (cells_of_program p)
 
 bytes_where-le : (p : Program) (f g : Cell → Bool) → ((c : Cell) → f c ≡ true → g c ≡ true) → bytes_where p f ≤ bytes_where p g
-bytes_where-le p f g wider = sum_by-le-sum_by (share (tile_bytes p) f) (share (tile_bytes p) g) (cells_of_program p) (λ c. by_test c (f c) refl)
-  where
-    by_test : (c : Cell) (b : Bool) → f c ≡ b → cond b (tile_bytes p c) 0 ≤ share (tile_bytes p) g c
-    by_test c true e = let same : share (tile_bytes p) g c ≡ tile_bytes p c = ap (λ b. cond b (tile_bytes p c) 0) (wider c e) in omega arith
-    by_test c false e = omega arith
+bytes_where-le p f g wider = search (arith, sum_by-le-sum_by, share)
 
 bytes_where-same : (p : Program) (f g : Cell → Bool) → ((c : Cell) → f c ≡ g c) → bytes_where p f ≡ bytes_where p g
 bytes_where-same p f g same = sum-agree (share (tile_bytes p) f) (share (tile_bytes p) g) (λ c. ap (λ b. cond b (tile_bytes p c) 0) (same c)) (cells_of_program p)
@@ -51,10 +45,9 @@ module _ (p : Program) (m : Machine) (s : State) (state : IsStateOf p m s) (n : 
 
 pub worker-once_at : (m : Machine) (n : Node) (w : Worker) → count_by (λ v. same_worker v w) (workers_at m n) ≤ 1
 worker-once_at m n w =
-    let fewer = filter-sum-le (λ (v : Worker). tally (same_worker v w)) (λ v. nat_eq (node_of m v).0 n.0) (workers_of m) in
-    let once = count-numbered (λ i. record { 0 = i }) (λ v. same_worker v w) w.0 (λ i. refl) 0 m.workers in
-    let most = tally_le (nat_le 0 w.0 && nat_lt w.0 (0 + m.workers)) in
-    omega arith
+    let all = filter-sum-le (λ (v : Worker). tally (same_worker v w)) (λ v. nat_eq (node_of m v).0 n.0) (workers_of m) in
+    let more = count-numbered (λ i. record { 0 = i }) (λ v. same_worker v w) w.0 (λ i. refl) 0 m.workers in
+    omega (arith, tally_le (nat_le 0 w.0 && nat_lt w.0 (0 + m.workers)))
   where
     tally_le : (b : Bool) → tally b ≤ 1
     tally_le true = omega arith
@@ -62,20 +55,10 @@ worker-once_at m n w =
 
 -- a worker of a list of a node's workers is bound there
 pub others-le : (m : Machine) (n : Node) (w : Worker) (f g : Worker → ℕ) → ((v : Worker) → node_of m v ≡ n → v ≢ w → f v ≤ g v) → sum_by f (others_at m n w) ≤ sum_by g (others_at m n w)
-others-le m n w f g le =
-    let here : Worker → Bool = λ v. nat_eq (node_of m v).0 n.0 in
-    let other : Worker → Bool = λ v. not (nat_eq v.0 w.0) in
-    let one = filter-filter other here (workers_of m) in
-    subst (λ (ws : List Worker). sum_by f ws ≤ sum_by g ws) (sym one) (sum-filter-le f g (λ v. here v && other v) (λ v passes. (let both = and_parts (here v) (other v) passes in le v (is_node (node_of m v) ((Decides-eqb (node_of m v).0 n.0).0 both.0)) (λ e. false≢true (sym (ap not ((Decides-eqb v.0 w.0).1 (ap (λ (k : Worker). k.0) e))) ∙ both.1)))) (workers_of m))
-  where
-    is_node : (k : Node) → k.0 ≡ n.0 → k ≡ n
-    is_node k e = ap (λ (i : ℕ). let j : Node = record { 0 = i } in j) e
+others-le m n w f g le = search (arith, filter-filter, sum-filter-le, and_parts, Decides-eqb, false≢true)
 
 workers-le : (m : Machine) (n : Node) (f g : Worker → ℕ) → ((v : Worker) → node_of m v ≡ n → f v ≤ g v) → sum_by f (workers_at m n) ≤ sum_by g (workers_at m n)
-workers-le m n f g le = sum-filter-le f g (λ v. nat_eq (node_of m v).0 n.0) (λ v passes. le v (is_node (node_of m v) ((Decides-eqb (node_of m v).0 n.0).0 passes))) (workers_of m)
-  where
-    is_node : (k : Node) → k.0 ≡ n.0 → k ≡ n
-    is_node k e = ap (λ (i : ℕ). let j : Node = record { 0 = i } in j) e
+workers-le m n f g le = search (arith, sum-filter-le, Decides-eqb)
 
 -- ---- steps that bring nothing
 
@@ -85,23 +68,18 @@ module _ (p : Program) (m : Machine) (s s' : State) (before : IsStateOf p m s) (
     (scratches : (v : Worker) → node_of m v ≡ k → scratch s' v ≤ scratch s v) where
   pub fewer-entries : used p m s' k ≤ used p m s k
   fewer-entries =
-      let a = order-bytes p m s' after k in
-      let b = order-bytes p m s before k in
-      let less = bytes_where-le p (has_cell (order s' k)) (has_cell (order s k)) entries in
-      let held = workers-le m k (scratch s') (scratch s) scratches in
-      omega arith
+      let all = bytes_where-le p (has_cell (order s' k)) (has_cell (order s k)) entries in
+      let one = workers-le m k (scratch s') (scratch s) scratches in
+      omega (arith, order-bytes p m s' after k, order-bytes p m s before k)
 
   -- and none leaves that didn't, and what came still comes
   pub fewer-leaving : (v : Worker) → ((c : Cell) → is_leaving_by v (replica s' c (AtNode k)) ≡ true → is_leaving_by v (replica s c (AtNode k)) ≡ true) → ((c : Cell) → is_coming_by v (replica s c (AtNode k)) ≡ true → is_coming_by v (replica s' c (AtNode k)) ≡ true) → used_while_leaving p m s' v k ≤ used_while_leaving p m s v k
   fewer-leaving v leaves comes =
-      let a = leaving-bytes p m s' after k v in
-      let b = leaving-bytes p m s before k v in
-      let less = bytes_where-le p (λ c. is_leaving_by v (replica s' c (AtNode k))) (λ c. is_leaving_by v (replica s c (AtNode k))) leaves in
-      let e = beside-bytes p m s' after k v in
-      let f = beside-bytes p m s before k v in
-      let beside = bytes_where-le p (λ c. not (is_coming_by v (replica s' c (AtNode k))) && has_cell (order s' k) c) (λ c. not (is_coming_by v (replica s c (AtNode k))) && has_cell (order s k) c) still in
-      let held = others-le m k v (scratch s') (scratch s) (λ x here other. scratches x here) in
-      omega arith
+      let all = bytes_where-le p (λ c. not (is_coming_by v (replica s' c (AtNode k))) && has_cell (order s' k) c) (λ c. not (is_coming_by v (replica s c (AtNode k))) && has_cell (order s k) c) still in
+      let more = bytes_where-le p (λ c. is_leaving_by v (replica s' c (AtNode k))) (λ c. is_leaving_by v (replica s c (AtNode k))) leaves in
+      let one = others-le m k v (scratch s') (scratch s) (λ x here other. scratches x here) in
+      let rest = leaving-bytes p m s' after k v in
+      omega (arith, leaving-bytes p m s before k v, beside-bytes p m s' after k v, beside-bytes p m s before k v)
     where
       not_coming : (x y : Bool) → (x ≡ true → y ≡ true) → not y ≡ true → not x ≡ true
       not_coming true y f g = sym (ap not (f refl)) ∙ g

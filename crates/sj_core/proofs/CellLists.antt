@@ -1,16 +1,14 @@
 -- Lists of cells: which cells an edited list has, how often, and the sum over a list that has each at most once.
-use Rattle.std.proofs.Common.{Bool, List, [], ap, arith, cond, false, get_or, length, not, refl, set, subst, sym, true, ℕ, ◌&&◌, ◌++◌, ◌+◌, ◌<◌, ◌||◌, ◌∙◌, ◌∷◌, ◌≡◌, ◌≤◌}
-use Rattle.std.proofs.lemmas.Bool.{and_from, and_parts, false_from_ne_true, false≢true, or_right, le-leb, lt-ltb}
+use Rattle.std.proofs.Common.{Bool, List, [], ap, arith, cond, false, get_or, length, not, refl, set, sym, true, ℕ, ◌&&◌, ◌*◌, ◌++◌, ◌+◌, ◌<◌, ◌||◌, ◌∙◌, ◌∷◌, ◌≡◌, ◌≤◌, inl, inr, filter, count_by, fold, if◌then◌else◌, sum_by, nat_le, nat_lt}
+use Rattle.std.proofs.lemmas.Bool.{and_from, and_parts, false_from_ne_true, false≢true, or_right, le-leb, lt-ltb, cases_lt}
 use Rattle.std.proofs.lemmas.Bool.Decides.{Decides-eqb}
 use Rattle.std.proofs.lemmas.List.{ext_get_or, get_or-set_other, get_or-set_same, length-set}
 use Rattle.std.proofs.lemmas.List.Sums.{sum_by-append, sum_by-cons}
-use Rattle.std.specs.List.{filter}
-use Rattle.std.specs.Prelude.{count_by, fold, if◌then◌else◌, sum_by, nat_le, nat_lt}
 use Rattle.sj_core.proofs.Words.{Cell, Program, cells_of_program, distinct, has_cell, same_cell}
 use Rattle.sj_core.specs.Step.{to_front, without}
 use Rattle.sj_core.specs.Table.{renewed}
 use Rattle.sj_core.proofs.Reading.{same_cell-is}
-use Rattle.sj_core.proofs.Sums.{tally, filter-sum-le, count-numbered, sum-plus, same_test}
+use Rattle.sj_core.proofs.Sums.{tally, filter-sum-le, sum-agree, sum-each, count-numbered, sum-plus, same_test, sum-nothing, counted-some, counted-has}
 use Rattle.sj_core.proofs.Tables.{length-renewed, renewed-at}
 use Rattle.std.proofs.lemmas.Map.Views.{any-filter_same}
 use Rattle.std.proofs.lemmas.List.Folds.{list_any-append}
@@ -44,27 +42,10 @@ filter-has_cell f xs c passes h = has_cell-filter_is f xs c ∙ and_from (f c) (
 -- a list without its repetitions has the same cells
 pub has_cell-distinct : (xs : List Cell) (c : Cell) → has_cell (distinct xs) c ≡ has_cell xs c
 has_cell-distinct [] c = refl
-has_cell-distinct (x ∷ xs) c = by_cases (has_cell xs x) refl (has_cell-distinct xs c)
-  where
-    repeated : (b : Bool) → same_cell x c ≡ b → has_cell xs x ≡ true → has_cell xs c ≡ (b || has_cell xs c)
-    repeated true same again = ap (has_cell xs) (sym (same_cell-is x c same)) ∙ again
-    repeated false same again = refl
-
-    by_cases : (b : Bool) → has_cell xs x ≡ b → has_cell (distinct xs) c ≡ has_cell xs c → has_cell (if b then distinct xs else x ∷ distinct xs) c ≡ (same_cell x c || has_cell xs c)
-    by_cases true again rest = rest ∙ repeated (same_cell x c) refl again
-    by_cases false once rest = ap (λ b. same_cell x c || b) rest
-
--- the first of a list that has one, read with any default
-pub has_cell-head : (xs : List Cell) (d : Cell) → 0 < length xs → has_cell xs (get_or xs 0 d) ≡ true
-has_cell-head [] d some = absurd (omega arith)
-has_cell-head (x ∷ xs) d some = ap (λ b. b || has_cell xs x) (same_cell-refl x)
+has_cell-distinct (x ∷ xs) c = search (arith, same_cell-is, has_cell-distinct xs c)
 
 pub has_cell-to_front : (xs : List Cell) (d c : Cell) → has_cell (to_front xs d) c ≡ (same_cell d c || has_cell xs c)
-has_cell-to_front xs d c = by_cases (same_cell d c) refl
-  where
-    by_cases : (b : Bool) → same_cell d c ≡ b → (same_cell d c || has_cell (filter (λ e. not (same_cell e d)) xs) c) ≡ (same_cell d c || has_cell xs c)
-    by_cases true e = ap (λ b. b || has_cell (filter (λ e. not (same_cell e d)) xs) c) e ∙ sym (ap (λ b. b || has_cell xs c) e)
-    by_cases false e = ap (λ b. same_cell d c || b) (has_cell-filter_is (λ e. not (same_cell e d)) xs c ∙ ap (λ b. not b && has_cell xs c) (same_cell-sym c d ∙ e))
+has_cell-to_front xs d c = search (arith, has_cell-filter_is, same_cell-sym)
 
 -- the cells of a list, brought to the front one after another
 pub has_cell-fronted : (cs xs : List Cell) (c : Cell) → has_cell (fold to_front xs cs) c ≡ (has_cell cs c || has_cell xs c)
@@ -72,10 +53,7 @@ has_cell-fronted [] xs c = refl
 has_cell-fronted (d ∷ cs) xs c = has_cell-fronted cs (to_front xs d) c ∙ ap (λ b. has_cell cs c || b) (has_cell-to_front xs d c) ∙ or_swap (has_cell cs c) (same_cell d c) (has_cell xs c)
   where
     or_swap : (x y z : Bool) → (x || (y || z)) ≡ ((y || x) || z)
-    or_swap true true z = refl
-    or_swap true false z = refl
-    or_swap false true z = refl
-    or_swap false false z = refl
+    or_swap x y z = search arith
 
 pub has_cell-without : (gone xs : List Cell) (c : Cell) → has_cell (without gone xs) c ≡ (not (has_cell gone c) && has_cell xs c)
 has_cell-without gone xs c = has_cell-filter_is (λ d. not (has_cell gone d)) xs c
@@ -95,20 +73,10 @@ pub times-filter : (f : Cell → Bool) (xs : List Cell) (c : Cell) → times (fi
 times-filter f xs c = filter-sum-le (λ d. tally (same_cell d c)) f xs
 
 pub times-none : (xs : List Cell) (c : Cell) → has_cell xs c ≡ false → times xs c ≡ 0
-times-none [] c h = refl
-times-none (x ∷ xs) c h = by_cases (same_cell x c) refl h (times-none xs c)
-  where
-    by_cases : (b : Bool) → same_cell x c ≡ b → (b || has_cell xs c) ≡ false → (has_cell xs c ≡ false → times xs c ≡ 0) → times (x ∷ xs) c ≡ 0
-    by_cases true e h rest = absurd (false≢true (sym h))
-    by_cases false e h rest = let a = times-cons x xs c in let zero_here : tally (same_cell x c) ≡ 0 = ap tally e in let none = rest h in omega arith
+times-none xs c h = elim (cases_lt 0 (times xs c)) [ inl some ↦ absurd (false≢true (sym h ∙ counted-some (λ d. same_cell d c) xs some)) | inr none ↦ omega arith ]
 
 pub times-has : (xs : List Cell) (c : Cell) → has_cell xs c ≡ true → 1 ≤ times xs c
-times-has [] c h = absurd (false≢true h)
-times-has (x ∷ xs) c h = by_cases (same_cell x c) refl h (times-has xs c)
-  where
-    by_cases : (b : Bool) → same_cell x c ≡ b → (b || has_cell xs c) ≡ true → (has_cell xs c ≡ true → 1 ≤ times xs c) → 1 ≤ times (x ∷ xs) c
-    by_cases true e h rest = let a = times-cons x xs c in let one : tally (same_cell x c) ≡ 1 = ap tally e in omega arith
-    by_cases false e h rest = let a = times-cons x xs c in let more = rest h in omega arith
+times-has xs c h = counted-has (λ d. same_cell d c) xs h
 
 pub times-to_front : (xs : List Cell) (d c : Cell) → times xs c ≤ 1 → times (to_front xs d) c ≤ 1
 times-to_front xs d c once = by_cases (same_cell d c) refl
@@ -116,16 +84,13 @@ times-to_front xs d c once = by_cases (same_cell d c) refl
     by_cases : (b : Bool) → same_cell d c ≡ b → times (to_front xs d) c ≤ 1
     by_cases true e =
         let rest : List Cell = filter (λ k. not (same_cell k d)) xs in
-        let none = times-none rest c (has_cell-filter_is (λ k. not (same_cell k d)) xs c ∙ ap (λ b. not b && has_cell xs c) (same_cell-sym c d ∙ e)) in
-        let a = times-cons d rest c in
         let one : tally (same_cell d c) ≡ 1 = ap tally e in
-        omega arith
+        let all = times-none rest c (has_cell-filter_is (λ k. not (same_cell k d)) xs c ∙ ap (λ b. not b && has_cell xs c) (same_cell-sym c d ∙ e)) in
+        omega (arith, times-cons d rest c)
     by_cases false e =
         let rest : List Cell = filter (λ k. not (same_cell k d)) xs in
-        let a = times-cons d rest c in
-        let fewer = times-filter (λ k. not (same_cell k d)) xs c in
         let zero_here : tally (same_cell d c) ≡ 0 = ap tally e in
-        omega arith
+        omega (arith, times-cons d rest c, times-filter (λ k. not (same_cell k d)) xs c)
 
 pub times-fronted : (cs xs : List Cell) (c : Cell) → times xs c ≤ 1 → times (fold to_front xs cs) c ≤ 1
 times-fronted [] xs c once = once
@@ -137,14 +102,12 @@ times-distinct (x ∷ xs) c = by_cases (has_cell xs x) refl (times-distinct xs c
   where
     first : (b : Bool) → same_cell x c ≡ b → has_cell xs x ≡ false → times (distinct xs) c ≤ 1 → times (x ∷ distinct xs) c ≤ 1
     first true e new rest =
-        let none = times-none (distinct xs) c (has_cell-distinct xs c ∙ ap (has_cell xs) (sym (same_cell-is x c e)) ∙ new) in
-        let a = times-cons x (distinct xs) c in
         let one : tally (same_cell x c) ≡ 1 = ap tally e in
-        omega arith
+        let all = times-none (distinct xs) c (has_cell-distinct xs c ∙ ap (has_cell xs) (sym (same_cell-is x c e)) ∙ new) in
+        omega (arith, times-cons x (distinct xs) c)
     first false e new rest =
-        let a = times-cons x (distinct xs) c in
         let zero_here : tally (same_cell x c) ≡ 0 = ap tally e in
-        omega arith
+        omega (arith, times-cons x (distinct xs) c)
 
     by_cases : (b : Bool) → has_cell xs x ≡ b → times (distinct xs) c ≤ 1 → times (if b then distinct xs else x ∷ distinct xs) c ≤ 1
     by_cases true again rest = rest
@@ -175,19 +138,8 @@ cells-written {X} f d (c ∷ cs) rows once =
 
     at_row : (i : ℕ) (b : Bool) → same_cell c (record { 0 = i }) ≡ b → i < length rows →
         (let e : Cell = record { 0 = i } in written_if f (has_cell cs e) e (get_or (set rows c.0 (f c (get_or rows c.0 d))) i d)) ≡ (let e : Cell = record { 0 = i } in written_if f (same_cell c e || has_cell cs e) e (get_or rows i d))
-    at_row i true e inside =
-        let n : Cell = record { 0 = i } in
-        let is : c ≡ n = same_cell-is c n e in
-        let here : c.0 < length rows = subst (λ (k : Cell). k.0 < length rows) (sym is) inside in
-        let row : X = f c (get_or rows c.0 d) in
-        ap (λ b. written_if f b n (get_or (set rows c.0 row) i d)) (ap (has_cell cs) (sym is) ∙ new)
-        ∙ ap (λ (k : Cell). get_or (set rows c.0 row) k.0 d) (sym is) ∙ get_or-set_same rows c.0 row d here
-        ∙ ap (λ (k : Cell). f k (get_or rows k.0 d)) is
-        ∙ sym (ap (λ b. written_if f (b || has_cell cs n) n (get_or rows i d)) e)
-    at_row i false e inside =
-        let n : Cell = record { 0 = i } in
-        ap (written_if f (has_cell cs n) n) (get_or-set_other rows c.0 i (f c (get_or rows c.0 d)) d (λ k. false≢true (sym e ∙ same_cell-from c n (ap (λ (j : ℕ). let m : Cell = record { 0 = j } in m) (sym k)))))
-        ∙ sym (ap (λ b. written_if f (b || has_cell cs n) n (get_or rows i d)) e)
+    at_row i b e inside =
+        search (arith, same_cell-is, get_or, written_if, new, get_or-set_same, get_or-set_other, false≢true, same_cell-from)
 
 -- ---- a program has each of its cells once
 
@@ -199,53 +151,26 @@ times-program p c h = count-numbered (λ n. record { 0 = n }) (λ d. same_cell d
 abbrev pub share : (Cell → ℕ) → (Cell → Bool) → Cell → ℕ
 share f test c = cond (test c) (f c) 0
 
-share-nowhere : (f : Cell → ℕ) (all : List Cell) (x : Cell) → times all x ≡ 0 → sum_by (share f (same_cell x)) all ≡ 0
-share-nowhere f [] x h = refl
-share-nowhere f (y ∷ all) x h = by_cases (same_cell y x) refl (share-nowhere f all x)
-  where
-    by_cases : (b : Bool) → same_cell y x ≡ b → (times all x ≡ 0 → sum_by (share f (same_cell x)) all ≡ 0) → sum_by (share f (same_cell x)) (y ∷ all) ≡ 0
-    by_cases true e rest = absurd (let a = times-cons y all x in let one : tally (same_cell y x) ≡ 1 = ap tally e in omega arith)
-    by_cases false e rest =
-        let a = times-cons y all x in
-        let zero_here : tally (same_cell y x) ≡ 0 = ap tally e in
-        let b = sum_by-cons (share f (same_cell x)) y all in
-        let c : share f (same_cell x) y ≡ 0 = ap (λ b. cond b (f y) 0) (same_cell-sym x y ∙ e) in
-        let later = rest (omega arith) in
-        omega arith
-
 share-of_one : (f : Cell → ℕ) (all : List Cell) (x : Cell) → times all x ≡ 1 → sum_by (share f (same_cell x)) all ≡ f x
-share-of_one f [] x h = absurd (omega arith)
-share-of_one f (y ∷ all) x h = by_cases (same_cell y x) refl (share-nowhere f all x) (share-of_one f all x)
+share-of_one f all x h =
+    let agree = sum-agree (share f (same_cell x)) (λ y. cond (same_cell y x) (f x) 0) same all in
+    omega (arith, agree, sum-each (λ y. same_cell y x) (f x) all, ap (λ n. f x * n) h)
   where
-    by_cases : (b : Bool) → same_cell y x ≡ b → (times all x ≡ 0 → sum_by (share f (same_cell x)) all ≡ 0) → (times all x ≡ 1 → sum_by (share f (same_cell x)) all ≡ f x) → sum_by (share f (same_cell x)) (y ∷ all) ≡ f x
-    by_cases true e none one_later =
-        let a = times-cons y all x in
-        let one : tally (same_cell y x) ≡ 1 = ap tally e in
-        let b = sum_by-cons (share f (same_cell x)) y all in
-        let c : share f (same_cell x) y ≡ f x = ap (λ b. cond b (f y) 0) (same_cell-sym x y ∙ e) ∙ ap f (same_cell-is y x e) in
-        let rest = none (omega arith) in
-        omega arith
-    by_cases false e none one_later =
-        let a = times-cons y all x in
-        let zero_here : tally (same_cell y x) ≡ 0 = ap tally e in
-        let b = sum_by-cons (share f (same_cell x)) y all in
-        let c : share f (same_cell x) y ≡ 0 = ap (λ b. cond b (f y) 0) (same_cell-sym x y ∙ e) in
-        let rest = one_later (omega arith) in
-        omega arith
+    same : (y : Cell) → share f (same_cell x) y ≡ cond (same_cell y x) (f x) 0
+    same y = ap (λ b. cond b (f y) 0) (same_cell-sym x y) ∙ by_cases (same_cell y x) refl
+      where
+        by_cases : (b : Bool) → same_cell y x ≡ b → cond b (f y) 0 ≡ cond b (f x) 0
+        by_cases true e = ap f (same_cell-is y x e)
+        by_cases false e = refl
 
 -- the sum over a list that has each cell at most once, as a sum over a list that has each of its cells exactly once
 pub sum-once : (f : Cell → ℕ) (all xs : List Cell) → ((c : Cell) → has_cell xs c ≡ true → times all c ≡ 1) → ((c : Cell) → times xs c ≤ 1) → sum_by f xs ≡ sum_by (share f (has_cell xs)) all
-sum-once f all [] inside once = sym (nothing all)
-  where
-    nothing : (ys : List Cell) → sum_by (share f (has_cell [])) ys ≡ 0
-    nothing [] = refl
-    nothing (y ∷ ys) = let a = sum_by-cons (share f (has_cell [])) y ys in let rest = nothing ys in omega arith
+sum-once f all [] inside once = sym (sum-nothing (share f (has_cell [])) (λ c. refl) all)
 sum-once f all (x ∷ xs) inside once =
-    let first = sum_by-cons f x xs in
-    let rest = sum-once f all xs (λ c h. inside c (or_right (same_cell x c) (has_cell xs c) h)) (λ c. (let o = once c in let t = times-cons x xs c in omega arith)) in
-    let here = share-of_one f all x (inside x (ap (λ b. b || has_cell xs x) (same_cell-refl x))) in
-    let split = sum-plus (share f (has_cell (x ∷ xs))) (share f (same_cell x)) (share f (has_cell xs)) apart all in
-    omega arith
+    let both = sum-once f all xs (λ c h. inside c (or_right (same_cell x c) (has_cell xs c) h)) (λ c. (let o = once c in let t = times-cons x xs c in omega arith)) in
+    let count = sum-plus (share f (has_cell (x ∷ xs))) (share f (same_cell x)) (share f (has_cell xs)) apart all in
+    let bound = share-of_one f all x (inside x (ap (λ b. b || has_cell xs x) (same_cell-refl x))) in
+    omega (arith, sum_by-cons f x xs)
   where
     new : has_cell xs x ≡ false
     new = false_from_ne_true (has_cell xs x) (λ h. (let o = once x in let t = times-cons x xs x in let one : tally (same_cell x x) ≡ 1 = ap tally (same_cell-refl x) in let more = times-has xs x h in omega arith))

@@ -1,10 +1,9 @@
 -- A step in which a claimed or running task goes on, or a replica moves: nothing more leaves or comes. What it owes, and that it
 -- keeps what tasks, pins, bytes and workers ask of a coherent state.
-use Rattle.std.proofs.Common.{Bool, List, Some, [], arith, false, inl, inr, sym, true, ◌||◌, ◌∙◌, ◌≡◌, ◌≢◌, ◌≤◌, ◌⊎◌, ap, subst, get_or, length, not, ℕ, ◌<◌}
+use Rattle.std.proofs.Common.{Bool, List, Some, [], arith, false, inl, inr, sym, true, ◌∙◌, ◌≡◌, ◌≢◌, ◌≤◌, ◌⊎◌, ap, subst, get_or, not, ℕ, ◌<◌, if◌then◌else◌, All, nat_eq}
 use Rattle.std.proofs.lemmas.Bool.{false_from_ne_true, false≢true}
-use Rattle.std.specs.Prelude.{if◌then◌else◌, All, nat_eq}
 use Rattle.sj_core.proofs.Words.{Array, AtNode, Cell, Claimed, Machine, Node, OnDisk, Place, Program, Progress, Running, State, Task, Transfer, Valid, Worker, cells_of, dims_of, fresh_cells, has_cell, is_claimed_by, is_coming_by, is_entry, is_leaving, is_leaving_by, is_task_of, is_valid, moves, node_of, order, pins, progress, replica, scratch, transfer, victims_of, written_cells, zeros, Coming, DiskNo, Invalid, Leaving, worker_of}
-use Rattle.sj_core.specs.Coherent.{Coherent, CopiesAgree, IsOwnedBy, IsStateOf, IsTransferTo, NodesSuffice, OrderIsKept, PinsHold, TasksHaveCells, TransfersAreSound, WorkersAreSound, WritersOwn, WritesAreCounted, content, written_content, HasBlocks, HasWorkers, is_begun}
+use Rattle.sj_core.specs.Coherent.{Coherent, CopiesAgree, IsOwnedBy, IsStateOf, IsTransferTo, NodesSuffice, OrderIsKept, PinsHold, TasksHaveCells, TransfersAreSound, WorkersAreSound, WritersOwn, WritesAreCounted, content, written_content, HasBlocks, HasWorkers}
 use Rattle.sj_core.specs.Laws.{IsSound}
 use Rattle.sj_core.specs.Step.{leave, same_place}
 use Rattle.sj_core.proofs.Advancing.{Advances, claimed_by-is, claimed_by-task_of, same_task, task_of-worker}
@@ -18,18 +17,11 @@ use Rattle.sj_core.proofs.Tables.{length-renewed, renewed-at}
 
 -- what holds of each row of a table holds where each row was renewed so as to keep it
 pub All-renewed : {X : Type 0} (P : X → Type 0) (f : ℕ → X → X) (xs : List X) → ((i : ℕ) (x : X) → P x → P (f i x)) → All P xs → All P (renewed f xs)
-All-renewed P f xs keeps all i d inside =
-    let within : i < length xs = omega (arith, inside, length-renewed f xs) in
-    subst P (sym (renewed-at f xs i d within)) (keeps i (get_or xs i d) (all i d within))
+All-renewed P f xs keeps all i d inside = search (arith, length-renewed, renewed-at, get_or)
 
 -- where a task advances to a worker of the program, each begun task still has one
 pub HasWorkers-kept : (p : Program) (s s' : State) (t : Task) (old new : Progress) → Advances s s' t old new → (worker_of new).0 < p.workers → HasWorkers p s → HasWorkers p s'
-HasWorkers-kept p s s' t old new a staffed before = record {
-  staffed = λ u begun. elim (same_task u t) [
-    | inl e ↦ subst (λ (k : Task). (worker_of (progress s' k)).0 < p.workers) (sym e) (subst (λ (x : Progress). (worker_of x).0 < p.workers) (sym a.is) staffed)
-    | inr d ↦ subst (λ (x : Progress). (worker_of x).0 < p.workers) (sym (a.others u d)) (before.staffed u (sym (ap is_begun (a.others u d)) ∙ begun))
-  ];
-}
+HasWorkers-kept p s s' t old new a staffed before = search (arith, same_task)
 
 -- where each replica on a disk is as it was or invalid, and transfers are as they were, blocks are where they ought to be
 pub HasBlocks-kept : (p : Program) (m : Machine) (s s' : State) → ((c : Cell) (d : DiskNo) → (replica s' c (OnDisk d) ≡ Invalid) ⊎ (replica s' c (OnDisk d) ≡ replica s c (OnDisk d))) → ((v : Worker) → transfer s' v ≡ transfer s v) → HasBlocks p m s → HasBlocks p m s'
@@ -38,18 +30,12 @@ HasBlocks-kept p m s s' disks moves before = record {
     | inl none ↦ (λ e. (let f : Invalid ≡ Coming v = sym none ∙ e in cc), λ e. (let f : Invalid ≡ Leaving v a = sym none ∙ e in cc))
     | inr same ↦ (λ e. (before.resting c d v a).0 (sym same ∙ e), λ e. (before.resting c d v a).1 (sym same ∙ e))
   ];
-  home = λ c d valid. elim (disks c d) [
-    | inl none ↦ absurd (false≢true (sym (ap is_valid none) ∙ valid))
-    | inr same ↦ before.home c d (sym (ap is_valid same) ∙ valid)
-  ];
+  home = λ c d valid. (search (arith, false≢true));
   aimed = λ v x d under_way e. before.aimed v x d (sym (moves v) ∙ under_way) e;
 }
 
 pub place_differs : (k n : Node) → k ≢ n → not (same_place (AtNode k) (AtNode n)) ≡ true
 place_differs k n d = ap not (false_from_ne_true (nat_eq k.0 n.0) (λ e. d (ap (λ (i : ℕ). let j : Node = record { 0 = i } in j) ((Decides-eqb k.0 n.0).0 e))))
-
-pub places_differ : (k n : Node) → not (same_place (AtNode k) (AtNode n)) ≡ true → k ≢ n
-places_differ k n h e = false≢true (sym (ap not ((Decides-eqb k.0 n.0).1 (ap (λ (j : Node). j.0) e))) ∙ h)
 
 -- ---- the step
 
@@ -80,12 +66,7 @@ pub record Changes (p : Program) (m : Machine) (s s' : State) (t : Task) (old ne
 module _ (p : Program) (m : Machine) (s : State) (h : IsSound p m s) (s' : State) (t : Task) (old new : Progress) (w : Worker) (change : Changes p m s s' t old new w) where
   -- a task of a worker after the step was its task before; one of before still is, but for t
   was_task : (v : Worker) (u : Task) → is_task_of v (progress s' u) ≡ true → is_task_of v (progress s u) ≡ true
-  was_task v u has = elim (same_task u t) [
-    | inr d ↦ sym (ap (is_task_of v) (change.advance.others u d)) ∙ has
-    | inl e ↦
-        let is : v ≡ w = change.still_mine v (sym (ap (λ (k : Task). is_task_of v (progress s' k)) e ∙ ap (is_task_of v) change.advance.is) ∙ has) in
-        ap (λ (x : Worker). is_task_of x (progress s u)) is ∙ ap (λ (k : Task). is_task_of w (progress s k)) e ∙ ap (is_task_of w) change.advance.was ∙ change.mine
-  ]
+  was_task v u has = search (arith, same_task)
 
   its_worker : (v : Worker) → is_task_of v (progress s t) ≡ true → v ≡ w
   its_worker v has = sym (task_of-worker v (progress s t) has) ∙ task_of-worker w (progress s t) (ap (is_task_of w) change.advance.was ∙ change.mine)
@@ -98,30 +79,16 @@ module _ (p : Program) (m : Machine) (s : State) (h : IsSound p m s) (s' : State
 
   -- pins are where they were
   was_pinned : (v : Worker) (c : Cell) → has_cell (pins s' v) c ≡ true → has_cell (pins s v) c ≡ true
-  was_pinned v c pin = elim (change.rows v) [
-    | inl (same, scratch, has) ↦ ap (λ (cs : List Cell). has_cell cs c) (sym same) ∙ pin
-    | inr (e, none, scratch, has) ↦ absurd (false≢true (ap (λ (cs : List Cell). has_cell cs c) (sym none) ∙ pin))
-  ]
+  was_pinned v c pin = search (arith, false≢true)
 
   -- and stay there while the worker has a task
   still_pinned : (v : Worker) (u : Task) (c : Cell) → is_task_of v (progress s' u) ≡ true → has_cell (pins s v) c ≡ true → has_cell (pins s' v) c ≡ true
-  still_pinned v u c has pin = elim (change.rows v) [
-    | inl (same, scratch, k) ↦ ap (λ (cs : List Cell). has_cell cs c) same ∙ pin
-    | inr (e, none, scratch, idle) ↦ absurd (elim (same_task u t) [
-      | inr d ↦ others-task u v d (was_task v u has) e
-      | inl f ↦ false≢true (sym idle ∙ ap (λ (x : Worker). is_task_of x new) (sym e) ∙ sym (ap (λ (k : Task). is_task_of v (progress s' k)) f ∙ ap (is_task_of v) change.advance.is) ∙ has)
-    ])
-  ]
+  still_pinned v u c has pin = search (arith, same_task, others-task, was_task, false≢true)
 
   -- a claim is still one, where w's that goes on isn't one that still has something to do
   still_claims : (v : Worker) (u : Task) → is_claimed_by v (progress s u) ≡ true → (v ≡ w → old ≡ Claimed w → new ≡ Claimed w) → is_claimed_by v (progress s' u) ≡ true
-  still_claims v u claims on = elim (same_task u t) [
-    | inr d ↦ ap (is_claimed_by v) (change.advance.others u d) ∙ claims
-    | inl e ↦
-        let here : is_claimed_by v old ≡ true = sym (ap (λ (k : Task). is_claimed_by v (progress s k)) e ∙ ap (is_claimed_by v) change.advance.was) ∙ claims in
-        let is : v ≡ w = its_worker v (ap (is_task_of v) change.advance.was ∙ claimed_by-task_of v old here) in
-        ap (λ (k : Task). is_claimed_by v (progress s' k)) e ∙ ap (is_claimed_by v) (change.advance.is ∙ on is (claimed_by-is w old (ap (λ (x : Worker). is_claimed_by x old) (sym is) ∙ here))) ∙ ap (λ (x : Worker). is_claimed_by x (Claimed w)) is ∙ same_worker-refl w
-  ]
+  still_claims v u claims on =
+      search (arith, same_task, its_worker, claimed_by-task_of, claimed_by-is, same_worker-refl)
 
   leaving_on : (c : Cell) (k : Node) → is_leaving_by w (replica s' c (AtNode k)) ≡ true → old ≡ Claimed w → new ≡ Claimed w
   leaving_on c k leaving claimed = elim (change.claims_on claimed) [ inr on ↦ on | inl (none, come, move) ↦ absurd (false≢true (sym (none c k) ∙ leaving)) ]
@@ -130,29 +97,7 @@ module _ (p : Program) (m : Machine) (s : State) (h : IsSound p m s) (s' : State
   coming_on c k coming claimed = elim (change.claims_on claimed) [ inr on ↦ on | inl (leave, none, move) ↦ absurd (false≢true (sym (none c k) ∙ coming)) ]
 
   pub Changes-cells : TasksHaveCells p m s'
-  Changes-cells =
-      let before = h.coherent.cells in
-      record {
-        running = λ u v c runs has. elim (same_task u t) [
-          | inr d ↦
-              let was : progress s u ≡ Running v = sym (change.advance.others u d) ∙ runs in
-              (change.stays u v c d (ap (is_task_of v) was ∙ same_worker-refl v) has).1 (before.running u v c was has)
-          | inl e ↦
-              let now : new ≡ Running v = sym (ap (λ (k : Task). progress s' k) e ∙ change.advance.is) ∙ runs in
-              let is : v ≡ w = change.still_mine v (ap (is_task_of v) now ∙ same_worker-refl v) in
-              ap (λ (x : Worker). is_valid (replica s' c (AtNode (node_of m x)))) is ∙ change.running c (now ∙ ap (λ (x : Worker). Running x) is) (ap (λ (x : Worker). has_cell (cells_of p t x) c) (sym is) ∙ ap (λ (k : Task). has_cell (cells_of p k v) c) (sym e) ∙ has)
-        ];
-        claimed = λ u v c claims has. elim (same_task u t) [
-          | inr d ↦
-              let was : progress s u ≡ Claimed v = sym (change.advance.others u d) ∙ claims in
-              (change.stays u v c d (ap (is_task_of v) was ∙ ap (λ b. b || false) (same_worker-refl v)) has).0 (before.claimed u v c was has)
-          | inl e ↦
-              let now : new ≡ Claimed v = sym (ap (λ (k : Task). progress s' k) e ∙ change.advance.is) ∙ claims in
-              let is : v ≡ w = change.still_mine v (ap (is_task_of v) now ∙ ap (λ b. b || false) (same_worker-refl v)) in
-              ap (λ (x : Worker). is_entry (replica s' c (AtNode (node_of m x)))) is ∙ change.claimed c (now ∙ ap (λ (x : Worker). Claimed x) is) (ap (λ (x : Worker). has_cell (cells_of p t x) c) (sym is) ∙ ap (λ (k : Task). has_cell (cells_of p k v) c) (sym e) ∙ has)
-        ];
-        pinned = λ u v c has cell. still_pinned v u c has (before.pinned u v c (was_task v u has) cell);
-      }
+  Changes-cells = search (arith, same_task, same_worker-refl, still_pinned, was_task)
 
   pub Changes-pins : PinsHold p m s'
   Changes-pins =
@@ -179,9 +124,7 @@ module _ (p : Program) (m : Machine) (s : State) (h : IsSound p m s) (s' : State
             (let claimed = before.coming_claimed v c k (change.comes v c k coming) in
             record { task = claimed.task; cell = claimed.cell; claimed = claimed_by-is v (progress s' claimed.task) (still_claims v claimed.task (ap (is_claimed_by v) claimed.claimed ∙ same_worker-refl v) (λ is. coming_on c k (ap (λ (x : Worker). is_coming_by x (replica s' c (AtNode k))) (sym is) ∙ coming))) });
         coming_pinned = λ v c k coming.
-            (let claimed = before.coming_claimed v c k (change.comes v c k coming) in
-            let claims = still_claims v claimed.task (ap (is_claimed_by v) claimed.claimed ∙ same_worker-refl v) (λ is. coming_on c k (ap (λ (x : Worker). is_coming_by x (replica s' c (AtNode k))) (sym is) ∙ coming)) in
-            still_pinned v claimed.task c (claimed_by-task_of v (progress s' claimed.task) claims) (before.coming_pinned v c k (change.comes v c k coming)));
+            (search (arith, still_claims, same_worker-refl, coming_on, still_pinned, claimed_by-task_of));
       }
 
   pub Changes-bytes : NodesSuffice p m s'
@@ -208,10 +151,7 @@ module _ (p : Program) (m : Machine) (s : State) (h : IsSound p m s) (s' : State
         scratch = λ v. record {
           own = λ u has. elim (change.rows v) [
             | inl (pins, same, k) ↦ same ∙ (before.scratch v).own u (was_task v u has)
-            | inr (e, pins, none, idle) ↦ absurd (elim (same_task u t) [
-              | inr d ↦ others-task u v d (was_task v u has) e
-              | inl f ↦ false≢true (sym idle ∙ ap (λ (x : Worker). is_task_of x new) (sym e) ∙ sym (ap (λ (k : Task). is_task_of v (progress s' k)) f ∙ ap (is_task_of v) change.advance.is) ∙ has)
-            ])
+            | inr (e, pins, none, idle) ↦ (search (arith, same_task, others-task, was_task, false≢true))
           ];
           none = λ idle. elim (change.rows v) [
             | inr (e, pins, none, k) ↦ none
@@ -250,18 +190,7 @@ module _ (p : Program) (m : Machine) (s : State) (h : IsSound p m s) (s' : State
   }
 
   pub Changes-coherent : WritersOwn p m s' → CopiesAgree p s' → Coherent p m s'
-  Changes-coherent writers copies = record {
-    state = change.state;
-    writers = writers;
-    copies = copies;
-    cells = Changes-cells;
-    pins = Changes-pins;
-    transfers = change.transfers;
-    bytes = Changes-bytes;
-    workers = Changes-workers;
-    order = change.order;
-    counts = change.counts;
-  }
+  Changes-coherent writers copies = search (arith, Changes-cells, Changes-pins, Changes-bytes, Changes-workers)
 
 -- a step that leaves alone the cells that move, and the transfers, keeps transfers sound
 pub TransfersAreSound-spared : (p : Program) (m : Machine) (s s' : State) (touched : Cell → Bool) → ((c : Cell) (q : Place) → touched c ≡ false → replica s' c q ≡ replica s c q) → ((v : Worker) (c : Cell) (q : Place) → is_leaving_by v (replica s' c q) ≡ true → is_leaving_by v (replica s c q) ≡ true) →

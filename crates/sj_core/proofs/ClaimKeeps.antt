@@ -1,9 +1,7 @@
 -- A claim leaves a coherent state.
-use Rattle.std.proofs.Common.{Bool, List, None, Option, Some, [], arith, cond, false, inl, inr, length, not, refl, sym, true, ℕ, ◌&&◌, ◌++◌, ◌+◌, ◌<◌, ◌||◌, ◌∙◌, ◌≡◌, ◌≢◌, ◌≤◌, ◌⊎◌, ap, subst}
+use Rattle.std.proofs.Common.{Bool, List, None, Option, Some, [], arith, cond, false, inl, inr, length, not, refl, sym, true, ℕ, ◌&&◌, ◌++◌, ◌+◌, ◌||◌, ◌∙◌, ◌≡◌, ◌≢◌, ◌≤◌, ◌⊎◌, ap, subst, filter, All, fold, if◌then◌else◌, is_some, nat_eq, sum_by}
 use Rattle.std.proofs.lemmas.Bool.{and_parts, false_from_ne_true, false≢true, leb-true, cases_Bool}
 use Rattle.std.proofs.lemmas.List.{get_or-set_other, get_or-set_same, length-set}
-use Rattle.std.specs.List.{filter}
-use Rattle.std.specs.Prelude.{All, fold, if◌then◌else◌, is_some, nat_eq, sum_by}
 use Rattle.sj_core.proofs.Words.{Array, AtNode, Cell, CellState, Claimed, Coming, Invalid, Leaving, Machine, Node, OnDisk, Place, Program, Running, State, Task, Transfer, Valid, Waiting, Worker, WorkerState, array_of, cells_of, cells_of_program, dims_of, distinct, fresh_cells, has_cell, is_claimed_by, is_coming_by, is_entry, is_leaving, is_leaving_by, is_pinned, is_task_of, is_valid, node_of, node_size, order, pins, progress, replica, replica_in, same_cell, same_worker, scratch, scratch_bytes, task_of, tile_bytes, transfer, victims_of, with_replica_in, workers_at, written_cells, zeros, free, used}
 use Rattle.sj_core.specs.Coherent.{Coherent, CopiesAgree, HasEntries, HasRows, IsClaimed, IsOwnedBy, IsStateOf, IsTransferTo, NodesSuffice, OrderIsKept, PinsHold, TasksHaveCells, TransfersAreSound, WorkersAreSound, WritersOwn, WritesAreCounted, content, is_being_written, used_while_leaving, written_content}
 use Rattle.sj_core.specs.Laws.{IsSound}
@@ -13,8 +11,7 @@ use Rattle.sj_core.proofs.Advancing.{Advances, claimed_by-task_of, same_task, ta
 use Rattle.sj_core.proofs.Bytes.{fewer-entries, fewer-leaving, bytes_where, once-bytes, entry-cell, order-bytes, leaving-bytes, beside-bytes, others-le, worker-once_at}
 use Rattle.sj_core.proofs.CellLists.{has_cell-fronted, has_cell-without, share, times, times-append, times-distinct, times-filter, times-fronted}
 use Rattle.sj_core.proofs.Claiming.{ClaimCase, Claims-other_worker, Claims-worker, Comes, Leaves, Stays, absent-missing, claim-advance, claim-array, claim-cases, claim-coming, claim-elsewhere, claim-here, claim-leaving, claim-on_disk, claim-other_pins, claim-own_cells, claim-own_pins, claim-still_leaves, claim-transfer, claim-writes, claimer-other, entry-stays, evicted-free, missing-absent, own-spared, pin-spared, task-cell, victim-valid}
-use Rattle.sj_core.proofs.Contents.{content-kept}
-use Rattle.sj_core.proofs.Counting.{counted-same, written-undone}
+use Rattle.sj_core.proofs.Ending.{content-kept, counted-same, written-undone}
 use Rattle.sj_core.proofs.Dependencies.{Proper-dependencies}
 use Rattle.sj_core.proofs.Eviction.{shortest_suffix-passes, shortest_suffix-suffix}
 use Rattle.sj_core.proofs.Changing.{HasBlocks-kept, All-renewed, HasWorkers-kept}
@@ -45,9 +42,7 @@ module _ (p : Program) (m : Machine) (s : State) (h : IsSound p m s) (t : Task) 
       }
 
   pub claim-order_here : order s' (node_of m w) ≡ claim_order
-  claim-order_here =
-      let within : (node_of m w).0 < length m.nodes = (let some = h.machine.some_node in omega arith) in
-      ap (λ (z : State). order z (node_of m w)) claim.leaves ∙ get_or-set_same s.orders (node_of m w).0 claim_order [] (omega (arith, within, h.coherent.state.rows.orders))
+  claim-order_here = search (arith, get_or-set_same, claim_order)
 
   pub claim-order_elsewhere : (k : Node) → k ≢ node_of m w → order s' k ≡ order s k
   claim-order_elsewhere k d = ap (λ (z : State). order z k) claim.leaves ∙ get_or-set_other s.orders (node_of m w).0 k.0 claim_order [] (λ e. d (ap (λ (i : ℕ). let j : Node = record { 0 = i } in j) e))
@@ -81,10 +76,7 @@ module _ (p : Program) (m : Machine) (s : State) (h : IsSound p m s) (t : Task) 
 
   claim-entries : HasEntries s'
   claim-entries = record {
-    entries = λ k c. elim (same_node k (node_of m w)) [
-      | inl e ↦ subst (λ (j : Node). has_cell (order s' j) c ≡ is_entry (replica s' c (AtNode j))) (sym e) (entries-here c)
-      | inr d ↦ ap (λ (cs : List Cell). has_cell cs c) (claim-order_elsewhere k d) ∙ h.coherent.state.entries.entries k c ∙ sym (ap is_entry (elsewhere c k d))
-    ];
+    entries = λ k c. (search (arith, same_node, entries-here, claim-order_elsewhere, elsewhere));
     once = λ k c. elim (same_node k (node_of m w)) [
       | inl e ↦
           let rest : List Cell = without claim.evicted (order s (node_of m w)) in
@@ -176,29 +168,20 @@ module _ (p : Program) (m : Machine) (s : State) (h : IsSound p m s) (t : Task) 
       let before = h.coherent.cells in
       record {
         running = λ u v c runs has. elim (same_task u t) [
-          | inl e ↦ absurd (two_kinds v (sym advance.is ∙ sym (ap (λ (k : Task). progress s' k) e) ∙ runs))
+          | inl e ↦ absurd (let f : Claimed w ≡ Running v = sym advance.is ∙ sym (ap (λ (k : Task). progress s' k) e) ∙ runs in cc)
           | inr d ↦ claim-valid c (AtNode (node_of m v)) ∙ before.running u v c (sym (advance.others u d) ∙ runs) has
         ];
         claimed = λ u v c claims has. elim (same_task u t) [
           | inl e ↦
-              let same : v ≡ w = same_claim v (sym advance.is ∙ sym (ap (λ (k : Task). progress s' k) e) ∙ claims) in
+              let same : v ≡ w = (let f : Claimed w ≡ Claimed v = sym advance.is ∙ sym (ap (λ (k : Task). progress s' k) e) ∙ claims in cc) in
               ap (λ (x : Worker). is_entry (replica s' c (AtNode (node_of m x)))) same ∙ (claim-own_cells p m s h t w s' claim c (ap (λ (x : Worker). has_cell (cells_of p t x) c) (sym same) ∙ ap (λ (k : Task). has_cell (cells_of p k v) c) (sym e) ∙ has)).0
           | inr d ↦
               let was : progress s u ≡ Claimed v = sym (advance.others u d) ∙ claims in
               let entry = before.claimed u v c was has in
               ap is_entry (pinned-entry v c (before.pinned u v c (ap (is_task_of v) was ∙ ap (λ b. b || false) (same_worker-refl v)) has) entry) ∙ entry
         ];
-        pinned = λ u v c has cell. elim (now_task u v has) [
-          | inl (e, own) ↦ ap (λ (x : Worker). has_cell (pins s' x) c) own ∙ claim-own_pins p m s h t w s' claim c ∙ ap (λ (x : Worker). has_cell (cells_of p t x) c) (sym own) ∙ ap (λ (k : Task). has_cell (cells_of p k v) c) (sym e) ∙ cell
-          | inr (other, was) ↦ still_pinned v u c was ∙ before.pinned u v c was cell
-        ];
+        pinned = λ u v c has cell. (search (arith, now_task, claim-own_pins, still_pinned));
       }
-    where
-      two_kinds : (x : Worker) → Claimed w ≡ Running x → ⊥
-      two_kinds x e = cc
-
-      same_claim : (x : Worker) → Claimed w ≡ Claimed x → x ≡ w
-      same_claim x e = cc
 
   still_claimed : (v : Worker) (c : Cell) → IsClaimed p s v c → IsClaimed p s' v c
   still_claimed v c old = record { task = old.task; claimed = still_task old.task v (ap (is_task_of v) old.claimed ∙ ap (λ b. b || false) (same_worker-refl v)) ∙ old.claimed; cell = old.cell }
@@ -271,10 +254,7 @@ module _ (p : Program) (m : Machine) (s : State) (h : IsSound p m s) (t : Task) 
 
   claim-writers : WritersOwn p m s'
   claim-writers = record {
-    owned = λ u v c runs written. elim (same_task u t) [
-      | inl e ↦ absurd (two_kinds v (sym advance.is ∙ sym (ap (λ (k : Task). progress s' k) e) ∙ runs))
-      | inr d ↦ owned u v c (sym (advance.others u d) ∙ runs) written
-    ];
+    owned = λ u v c runs written. (search (arith, same_task, two_kinds, advance, owned));
   }
     where
       two_kinds : (x : Worker) → Claimed w ≡ Running x → ⊥
@@ -326,11 +306,9 @@ module _ (p : Program) (m : Machine) (s : State) (h : IsSound p m s) (t : Task) 
       once : (c : Cell) → times claim.evicted c ≤ 1
       once c =
           let unpinned : Cell → Bool = λ d. not (is_pinned m s (node_of m w) d) && not (has_cell (cells_of p t w) d) in
-          let all = times-append suffix.0 claim.evicted c in
           let same : times (suffix.0 ++ claim.evicted) c ≡ times (filter unpinned (order s (node_of m w))) c = ap (λ (cs : List Cell). times cs c) suffix.1 in
-          let fewer = times-filter unpinned (order s (node_of m w)) c in
-          let before = h.coherent.state.entries.once (node_of m w) c in
-          omega arith
+          let all = times-filter unpinned (order s (node_of m w)) c in
+          omega (arith, times-append suffix.0 claim.evicted c, h.coherent.state.entries.once (node_of m w) c)
 
   missing-bytes : sum_by (tile_bytes p) (missing p s t w (node_of m w)) ≡ bytes_where p (has_cell (missing p s t w (node_of m w)))
   missing-bytes =
@@ -346,27 +324,15 @@ module _ (p : Program) (m : Machine) (s : State) (h : IsSound p m s) (t : Task) 
     where
       by_tests : (f : ℕ) (a e o b : Bool) → (e ≡ true → a ≡ false) → (e ≡ true → o ≡ true) → (b ≡ true → (o ≡ false) × (a ≡ true)) → (o ≡ false → a ≡ true → b ≡ true) →
           cond (a || (not e && o)) f 0 + cond e f 0 ≡ cond o f 0 + cond b f 0
-      by_tests f true true o b ours there new absent = absurd (false≢true (sym (ours refl)))
-      by_tests f false true false b ours there new absent = absurd (false≢true (there refl))
-      by_tests f false true true true ours there new absent = absurd (false≢true (sym (new refl).0))
-      by_tests f false true true false ours there new absent = omega arith
-      by_tests f true false true true ours there new absent = absurd (false≢true (sym (new refl).0))
-      by_tests f true false true false ours there new absent = omega arith
-      by_tests f true false false true ours there new absent = omega arith
-      by_tests f true false false false ours there new absent = absurd (false≢true (absent refl refl))
-      by_tests f false false o true ours there new absent = absurd (false≢true (new refl).1)
-      by_tests f false false o false ours there new absent = omega arith
+      by_tests f a e o b ours there new absent = search (arith, false≢true)
 
   order-balance : sum_by (tile_bytes p) (order s' (node_of m w)) + sum_by (tile_bytes p) claim.evicted ≡ sum_by (tile_bytes p) (order s (node_of m w)) + sum_by (tile_bytes p) (missing p s t w (node_of m w))
   order-balance =
       let f = tile_bytes p in
       let n = node_of m w in
       let all = sum-balanced (share f (has_cell (order s' n))) (share f (has_cell claim.evicted)) (share f (has_cell (order s n))) (share f (has_cell (missing p s t w n))) balance (cells_of_program p) in
-      let a = order-bytes p m s' claim-state n in
-      let b = evicted-bytes in
-      let c = order-bytes p m s h.coherent.state n in
-      let d = missing-bytes in
-      omega arith
+      let more = order-bytes p m s h.coherent.state n in
+      omega (arith, order-bytes p m s' claim-state n, evicted-bytes, missing-bytes)
 
   claim-scratch_others : (v : Worker) → v ≢ w → scratch s' v ≡ scratch s v
   claim-scratch_others v d = ap (λ (row : WorkerState). row.scratch) (Claims-other_worker p m s t w v s' claim d)
@@ -382,28 +348,14 @@ module _ (p : Program) (m : Machine) (s : State) (h : IsSound p m s) (t : Task) 
           omega arith
 
   claim-enough : used p m s' (node_of m w) ≤ node_size m (node_of m w)
-  claim-enough =
-      let n = node_of m w in
-      let need = to_come p s t w n in
-      let passes = shortest_suffix-passes (covers (tile_bytes p) (free p m s n) need) (filter (λ d. not (is_pinned m s n d) && not (has_cell (cells_of p t w) d)) (order s n)) claim.evicted claim.chosen in
-      let covered = leb-true need (free p m s n + sum_by (tile_bytes p) claim.evicted) passes in
-      let before = h.coherent.bytes.entries n in
-      let balance = order-balance in
-      let held = claim-scratch in
-      omega arith
+  claim-enough = search (arith, shortest_suffix-passes, leb-true, balance, order-balance, claim-scratch)
 
   -- what leaves the node, and its entries beside what comes, were its entries
   claim-leaving_within : (c : Cell) → share (tile_bytes p) (λ d. is_leaving_by w (replica s' d (AtNode (node_of m w)))) c + share (tile_bytes p) (λ d. not (is_coming_by w (replica s' d (AtNode (node_of m w)))) && has_cell (order s' (node_of m w)) d) c ≤ share (tile_bytes p) (has_cell (order s (node_of m w))) c
   claim-leaving_within c = by_tests (tile_bytes p c) (is_leaving_by w (replica s' c (AtNode (node_of m w)))) (not (is_coming_by w (replica s' c (AtNode (node_of m w)))) && has_cell (order s' (node_of m w)) c) (has_cell (order s (node_of m w)) c) leaves stays apart
     where
       by_tests : (f : ℕ) (a b o : Bool) → (a ≡ true → o ≡ true) → (b ≡ true → o ≡ true) → (a ≡ true → b ≡ false) → cond a f 0 + cond b f 0 ≤ cond o f 0
-      by_tests f true true o l e n = absurd (false≢true (sym (n refl)))
-      by_tests f true false true l e n = omega arith
-      by_tests f true false false l e n = absurd (false≢true (l refl))
-      by_tests f false true true l e n = omega arith
-      by_tests f false true false l e n = absurd (false≢true (e refl))
-      by_tests f false false true l e n = omega arith
-      by_tests f false false false l e n = omega arith
+      by_tests f a b o l e n = search (arith, false≢true)
 
       leaves : is_leaving_by w (replica s' c (AtNode (node_of m w))) ≡ true → has_cell (order s (node_of m w)) c ≡ true
       leaves l = elim (claim-leaving p m s h t w s' claim w c (AtNode (node_of m w)) l) [ inl (at, own, evicted) ↦ (evicted-free p m s t w s' claim c evicted).2 | inr (away, was) ↦ absurd (away refl) ]
@@ -416,11 +368,7 @@ module _ (p : Program) (m : Machine) (s : State) (h : IsSound p m s) (t : Task) 
       comes has absent = (claim-own_cells p m s h t w s' claim c has).1 absent
 
       was_there : (a e o k : Bool) → (a ≡ true → o ≡ false → k ≡ true) → not k ≡ true → (a || (not e && o)) ≡ true → o ≡ true
-      was_there a e true k f n g = refl
-      was_there true e false true f n g = absurd (false≢true n)
-      was_there true e false false f n g = absurd (false≢true (f refl refl))
-      was_there false true false k f n g = g
-      was_there false false false k f n g = g
+      was_there a e o k f n g = search (arith, false≢true)
 
       stays : (not (is_coming_by w (replica s' c (AtNode (node_of m w)))) && has_cell (order s' (node_of m w)) c) ≡ true → has_cell (order s (node_of m w)) c ≡ true
       stays both =
@@ -429,17 +377,13 @@ module _ (p : Program) (m : Machine) (s : State) (h : IsSound p m s) (t : Task) 
 
   claim-bytes : NodesSuffice p m s'
   claim-bytes = record {
-    entries = λ k. elim (same_node k (node_of m w)) [
-      | inl e ↦ subst (λ (j : Node). used p m s' j ≤ node_size m j) (sym e) claim-enough
-      | inr d ↦ (let fewer = fewer-entries p m s s' h.coherent.state claim-state k (same_entries k d) (same_scratch k d) in let enough = h.coherent.bytes.entries k in omega arith)
-    ];
+    entries = λ k. (search (arith, same_node, claim-enough, fewer-entries, claim-state, same_entries, same_scratch));
     leaving = λ k v c leaving. elim (claim-leaving p m s h t w s' claim v c (AtNode k) leaving) [
       | inl (at, own, evicted) ↦ subst (λ (j : Node). used_while_leaving p m s' v j ≤ node_size m j) (let e : node_of m w ≡ k = cc in e) (subst (λ (x : Worker). used_while_leaving p m s' x (node_of m w) ≤ node_size m (node_of m w)) (sym own) here)
       | inr (away, was) ↦
           let d : k ≢ node_of m w = λ e. away (ap (λ (j : Node). AtNode j) e) in
-          let fewer = fewer-leaving p m s s' h.coherent.state claim-state k (same_entries k d) (same_scratch k d) v (λ x by. sym (ap (is_leaving_by v) (elsewhere x k d)) ∙ by) (λ x by. ap (is_coming_by v) (elsewhere x k d) ∙ by) in
-          let enough = h.coherent.bytes.leaving k v c was in
-          omega arith
+          let all = fewer-leaving p m s s' h.coherent.state claim-state k (same_entries k d) (same_scratch k d) v (λ x by. sym (ap (is_leaving_by v) (elsewhere x k d)) ∙ by) (λ x by. ap (is_coming_by v) (elsewhere x k d) ∙ by) in
+          omega (arith, h.coherent.bytes.leaving k v c was)
     ];
   }
     where
@@ -453,14 +397,12 @@ module _ (p : Program) (m : Machine) (s : State) (h : IsSound p m s) (t : Task) 
       here =
           let f = tile_bytes p in
           let n = node_of m w in
-          let within = sum-within (share f (λ d. is_leaving_by w (replica s' d (AtNode n)))) (share f (λ d. not (is_coming_by w (replica s' d (AtNode n))) && has_cell (order s' n) d)) (share f (has_cell (order s n))) claim-leaving_within (cells_of_program p) in
-          let a = leaving-bytes p m s' claim-state n w in
-          let b = beside-bytes p m s' claim-state n w in
-          let c = order-bytes p m s h.coherent.state n in
-          let others = others-le m n w (scratch s') (scratch s) (λ v here d. (let same = claim-scratch_others v d in omega arith)) in
-          let some = filter-sum-le (scratch s) (λ v. not (nat_eq v.0 w.0)) (workers_at m n) in
-          let before = h.coherent.bytes.entries n in
-          omega arith
+          let all = sum-within (share f (λ d. is_leaving_by w (replica s' d (AtNode n)))) (share f (λ d. not (is_coming_by w (replica s' d (AtNode n))) && has_cell (order s' n) d)) (share f (has_cell (order s n))) claim-leaving_within (cells_of_program p) in
+          let more = others-le m n w (scratch s') (scratch s) (λ v here d. (let same = claim-scratch_others v d in omega arith)) in
+          let one = filter-sum-le (scratch s) (λ v. not (nat_eq v.0 w.0)) (workers_at m n) in
+          let both = leaving-bytes p m s' claim-state n w in
+          let rest = order-bytes p m s h.coherent.state n in
+          omega (arith, beside-bytes p m s' claim-state n w, h.coherent.bytes.entries n)
 
   pub Claims-coherent : Coherent p m s'
   Claims-coherent = record { state = claim-state; writers = claim-writers; copies = claim-copies; cells = claim-cells; pins = claim-pins; transfers = claim-transfers; bytes = claim-bytes; workers = claim-workers; order = claim-order; counts = claim-counts }

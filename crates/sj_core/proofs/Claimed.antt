@@ -1,34 +1,26 @@
 -- A claimed task of a coherent state: its worker, and what it finds in the cells whose old values it reads.
-use Rattle.std.proofs.Common.{Bool, ap, arith, false, get_or, length, sym, true, ℕ, ◌<◌, ◌∙◌, ◌≡◌}
-use Rattle.std.proofs.lemmas.List.Folds.{list_any_at}
-use Rattle.std.proofs.lemmas.List.FromFn.{get_or-map-range_with_len, length-map-range_with_len}
+use Rattle.std.proofs.Common.{Bool, ap, arith, false, length, sym, true, ◌<◌, ◌∙◌, ◌≡◌}
 use Rattle.std.specs.List.{list_any}
-use Rattle.sj_core.proofs.Words.{Cell, Claimed, Machine, Program, Running, State, Task, Waiting, Worker, cells_of, fresh_cells, has_cell, progress, tasks_of, writes}
+use Rattle.sj_core.proofs.Words.{Cell, Claimed, Machine, Program, Running, State, Task, Worker, cells_of, fresh_cells, has_cell, progress, tasks_of, writes}
 use Rattle.sj_core.specs.Coherent.{is_begun, is_being_written}
 use Rattle.sj_core.specs.Laws.{IsSound}
 use Rattle.sj_core.proofs.Advancing.{claimed-task_of}
 use Rattle.sj_core.proofs.Dependencies.{Proper-dependencies}
 use Rattle.sj_core.proofs.Finding.{not_being_written}
-use Rattle.sj_core.proofs.Reading.{progress-inside}
+use Rattle.sj_core.proofs.Reading.{progress-inside, list_any-numbered}
 use Rattle.sj_core.proofs.Separation.{worker-inside}
 use Rattle.sj_core.proofs.Values.{old_value-written}
 
 -- some task of the program passes a test that this one passes
 pub list_any-task : (p : Program) (test : Task → Bool) (t : Task) → t.0 < length p.tasks → test t ≡ true → list_any test (tasks_of p) ≡ true
-list_any-task p test t inside passes =
-    let number : ℕ → Task = λ n. record { 0 = n } in
-    let at_t : get_or (tasks_of p) t.0 t ≡ t = get_or-map-range_with_len number 0 (length p.tasks) t.0 t.0 t inside (omega arith) in
-    list_any_at test (tasks_of p) t.0 t (omega (arith, inside, length-map-range_with_len number 0 (length p.tasks))) (ap test at_t ∙ passes)
+list_any-task p test t inside passes = list_any-numbered (λ n. record { 0 = n }) test t.0 (length p.tasks) inside passes
 
 module _ (p : Program) (m : Machine) (s : State) (h : IsSound p m s) (t : Task) (w : Worker) (claimed : progress s t ≡ Claimed w) where
   pub claimed-staffed : w.0 < p.workers
   claimed-staffed = worker-inside p m h.proper.cells (Proper-dependencies p h.proper) s h.coherent.state h.coherent.workers h.coherent.order t w (claimed-task_of s t w claimed)
 
   pub claimed-inside : t.0 < length p.tasks
-  claimed-inside = omega (arith, progress-inside s t (λ e. claimed_isn't_waiting (sym claimed ∙ e)), h.coherent.state.rows.tasks)
-    where
-      claimed_isn't_waiting : Claimed w ≡ Waiting → ⊥
-      claimed_isn't_waiting e = cc
+  claimed-inside = search (arith, progress-inside)
 
   -- no running task writes a cell of the claimed one
   pub claimed-not_written : (c : Cell) → has_cell (cells_of p t w) c ≡ true → is_being_written p s c ≡ false

@@ -1,16 +1,13 @@
 -- What a claim changes: a victim leaves, a missing cell comes, and the rest stays as it is.
-use Rattle.std.proofs.Common.{Bool, List, None, Option, Some, [], arith, cond, false, inl, length, not, refl, subst, sym, true, ◌&&◌, ◌+◌, ◌<◌, ◌||◌, ◌∙◌, ◌∷◌, ◌≡◌, ◌≢◌, ◌⊎◌, ap, inr}
+use Rattle.std.proofs.Common.{Bool, List, [], arith, cond, false, inl, length, not, refl, sym, true, ◌&&◌, ◌<◌, ◌||◌, ◌∙◌, ◌∷◌, ◌≡◌, ◌≢◌, ◌⊎◌, ap, inr, filter, nat_eq}
 use Rattle.std.proofs.lemmas.Bool.{and_from, and_parts, cases_lt, false_from_ne_true, false≢true, not-true}
 use Rattle.std.proofs.lemmas.Bool.Decides.{Decides-eqb}
 use Rattle.std.proofs.lemmas.List.{get_or_past}
 use Rattle.std.proofs.lemmas.List.Elements.{All-contains}
-use Rattle.std.specs.List.{filter, list_any}
-use Rattle.std.specs.Prelude.{if◌then◌else◌, is_some, nat_eq}
-use Rattle.sj_core.proofs.Words.{Array, AtNode, Cell, CellState, Claimed, Coming, DiskNo, Invalid, Leaving, Machine, Node, OnDisk, Place, Program, Replica, State, Task, Valid, Waiting, Worker, WorkerState, array_of, cell_info, cell_state, cells_of, copy_of, distinct, has_cell, is_coming_by, is_entry, is_leaving_by, is_pinned, is_task_of, no_task, node_of, order, pins, progress, replica, replica_in, scratch_bytes, task_of, tile_bytes, transfer, with_replica_in, worked_on, worker_state, workers_of, writes, free}
-use Rattle.sj_base.specs.declared.mode.Access.{Access}
+use Rattle.std.specs.List.{list_any}
+use Rattle.sj_core.proofs.Words.{Array, AtNode, Cell, CellState, Claimed, Coming, DiskNo, Invalid, Leaving, Machine, Node, OnDisk, Place, Program, Replica, State, Task, Valid, Waiting, Worker, WorkerState, array_of, cell_state, cells_of, free, has_cell, is_coming_by, is_entry, is_leaving_by, is_pinned, is_task_of, node_of, order, pins, progress, replica, replica_in, scratch_bytes, task_of, tile_bytes, transfer, with_replica_in, worker_state, workers_of, writes}
 use Rattle.sj_core.specs.Coherent.{HasRows}
 use Rattle.sj_core.specs.Laws.{IsSound}
-use Rattle.sj_base.specs.Mode.{is_redux, is_scratch}
 use Rattle.sj_core.specs.Proper.{IsMachineFor}
 use Rattle.sj_core.specs.Step.{Claims, claimed_replica, leave, missing, to_come}
 use Rattle.sj_core.specs.Victims.{covers}
@@ -39,32 +36,20 @@ module _ (p : Program) (m : Machine) (s : State) (t : Task) (w : Worker) (s' : S
 
   -- what the claim brings is a cell of the task without an entry on the node
   pub missing-absent : (c : Cell) → has_cell (missing p s t w (node_of m w)) c ≡ true → (has_cell (order s (node_of m w)) c ≡ false) × (has_cell (cells_of p t w) c ≡ true)
-  missing-absent c h =
-      let n = node_of m w in
-      let both = has_cell-filter (λ d. not (has_cell (order s n) d)) (distinct (cells_of p t w)) c h in
-      (not-true (has_cell (order s n) c) both.0, sym (has_cell-distinct (cells_of p t w) c) ∙ both.1)
+  missing-absent c h = search (arith, has_cell-filter, not-true, has_cell-distinct)
 
   pub absent-missing : (c : Cell) → has_cell (order s (node_of m w)) c ≡ false → has_cell (cells_of p t w) c ≡ true → has_cell (missing p s t w (node_of m w)) c ≡ true
-  absent-missing c absent has =
-      filter-has_cell (λ d. not (has_cell (order s (node_of m w)) d)) (distinct (cells_of p t w)) c (ap not absent) (has_cell-distinct (cells_of p t w) c ∙ has)
+  absent-missing c absent has = search (arith, filter-has_cell, has_cell-distinct)
 
   abbrev new_replica : Cell → Replica
   new_replica c = claimed_replica w claim.evicted (missing p s t w (node_of m w)) c (replica s c (AtNode (node_of m w)))
 
   claim-row : (c : Cell) → (cell_state s' c ≡ with_replica_in (cell_state s c) (AtNode (node_of m w)) (new_replica c)) ⊎ ((cell_state s c ≡ no_row) × (cell_state s' c ≡ no_row))
-  claim-row c =
-      let left = ap (λ (z : State). cell_state z c) claim.leaves in
-      elim (cells-renewed_or s (λ d row. with_replica_in row (AtNode (node_of m w)) (claimed_replica w claim.evicted (missing p s t w (node_of m w)) d (replica_in row (AtNode (node_of m w))))) c) [ inl row ↦ inl (left ∙ row) | inr none ↦ inr (none.0, left ∙ none.1) ]
+  claim-row c = search (arith, cells-renewed_or)
 
   claim-at : (c : Cell) (q : Place) → (replica s' c q ≡ replica s c q) ⊎ ((q ≡ AtNode (node_of m w)) × (replica s' c q ≡ new_replica c))
   claim-at c q =
-      elim (claim-row c) [
-        | inr none ↦ inl (ap (λ (row : CellState). replica_in row q) (none.1 ∙ sym none.0))
-        | inl row ↦ elim (replica_in-cases (cell_state s c) (AtNode (node_of m w)) q (new_replica c)) [
-          | inl same ↦ inl (ap (λ (x : CellState). replica_in x q) row ∙ same)
-          | inr (at, is) ↦ inr (at, ap (λ (x : CellState). replica_in x q) row ∙ is)
-        ]
-      ]
+      grind (arith, claim-row c, replica_in-cases (cell_state s c) (AtNode (node_of m w)) q (new_replica c), replica_in-cases)
 
   pub claim-writes : (c : Cell) → writes s' c ≡ writes s c
   claim-writes c = elim (claim-row c) [ inl row ↦ ap (λ (r : CellState). r.writes) row | inr none ↦ ap (λ (r : CellState). r.writes) (none.1 ∙ sym none.0) ]
@@ -87,24 +72,16 @@ module _ (p : Program) (m : Machine) (s : State) (t : Task) (w : Worker) (s' : S
 
 pub Claims-worker : (p : Program) (m : Machine) (s : State) (t : Task) (w : Worker) (s' : State) → HasRows p m s → IsMachineFor p m → (claim : Claims p m s t w s') →
     worker_state s' w ≡ record { pins = cells_of p t w; scratch = scratch_bytes p (task_of p t); victims = claim.evicted; transfer = transfer s w }
-Claims-worker p m s t w s' rows fit claim =
-    let row : WorkerState = record { pins = cells_of p t w; scratch = scratch_bytes p (task_of p t); victims = claim.evicted; transfer = transfer s w } in
-    ap (λ (z : State). worker_state z w) claim.leaves ∙ worker-same s w row (omega (arith, claim.worker, rows.workers, fit.workers))
+Claims-worker p m s t w s' rows fit claim = search (arith, worker-same)
 
 pub Claims-other_worker : (p : Program) (m : Machine) (s : State) (t : Task) (w v : Worker) (s' : State) → Claims p m s t w s' → v ≢ w → worker_state s' v ≡ worker_state s v
-Claims-other_worker p m s t w v s' claim d =
-    let row : WorkerState = record { pins = cells_of p t w; scratch = scratch_bytes p (task_of p t); victims = claim.evicted; transfer = transfer s w } in
-    ap (λ (z : State). worker_state z v) claim.leaves ∙ worker-other s w v row d
+Claims-other_worker p m s t w v s' claim d = search (arith, worker-other)
 
 -- ---- pins on a node
 
 -- a worker with a pin is one of the table
 pub pins-inside : (s : State) (v : Worker) (c : Cell) → has_cell (pins s v) c ≡ true → v.0 < length s.workers
-pins-inside s v c h =
-    elim (cases_lt v.0 (length s.workers)) [
-      | inl inside ↦ inside
-      | inr past ↦ absurd (false≢true (sym (ap (λ (row : WorkerState). has_cell row.pins c) (get_or_past s.workers v.0 idle_row past)) ∙ h))
-    ]
+pins-inside s v c h = search (arith, cases_lt, false≢true, get_or_past, idle_row)
 
 -- what a worker of the node pins is pinned there
 pub pinned-at : (m : Machine) (s : State) (v : Worker) (n : Node) (c : Cell) → v.0 < m.workers → node_of m v ≡ n → has_cell (pins s v) c ≡ true → is_pinned m s n c ≡ true
@@ -152,16 +129,7 @@ module _ (p : Program) (m : Machine) (s : State) (h : IsSound p m s) (t : Task) 
 
   -- the cells of the task are cells of the table
   pub task-cell : (c : Cell) → has_cell (cells_of p t w) c ≡ true → c.0 < length s.cells
-  task-cell c has =
-      let a = operand_for (worked_on p w) (λ b. not (is_scratch b.mode)) (task_of p t).accesses c has in
-      let here : a.0.cell.0 < length p.cells = All-contains (λ (b : Access). b.cell.0 < length p.cells) (task_of p t).accesses a.0 (h.proper.cells.named t.0 no_task claim.ready.task) a.1 in
-      let program : c.0 < length p.cells = subst (λ (d : Cell). d.0 < length p.cells) a.3 (by_redux a.0 (is_redux a.0.mode) here (cell_info p a.0.cell).partials refl) in
-      omega (arith, program, h.coherent.state.rows.cells)
-    where
-      by_redux : (a : Access) (b : Bool) → a.cell.0 < length p.cells → (o : Option Cell) → (cell_info p a.cell).partials ≡ o → (if b then copy_of p a.cell w else a.cell).0 < length p.cells
-      by_redux a false here o f = here
-      by_redux a true here None f = subst (λ (o : Option Cell). (elim o as (λ _. Cell) [ None ↦ a.cell | Some first ↦ record { 0 = first.0 + w.0 } ]).0 < length p.cells) (sym f) here
-      by_redux a true here (Some first) f = (h.proper.cells.copies (copy_of p a.cell w) a.cell w (record { has_copies = ap is_some f; of_worker = claim.worker; is = refl })).0
+  task-cell c has = search (arith, operand_for, All-contains)
 
   pub node-inside : (c : Cell) → c.0 < length s.cells → (node_of m w).0 < length (cell_state s c).nodes
   node-inside c inside = let row = h.coherent.state.rows.nodes c.0 no_row inside in let some = h.machine.some_node in omega arith
@@ -208,55 +176,33 @@ module _ (p : Program) (m : Machine) (s : State) (h : IsSound p m s) (t : Task) 
 
   -- a claim changes no array
   pub claim-array : (c : Cell) (q : Place) → array_of (replica s' c q) ≡ array_of (replica s c q)
-  claim-array c q = by_case (claim-cases c q)
-    where
-      by_case : ClaimCase m s s' w claim.evicted (missing p s t w (node_of m w)) c q → array_of (replica s' c q) ≡ array_of (replica s c q)
-      by_case (Stays same) = ap array_of same
-      by_case (Leaves at evicted a was is) = ap array_of is ∙ sym (ap array_of was)
-      by_case (Comes at lacks was is) = ap array_of is ∙ sym (ap array_of was)
+  claim-array c q = search (arith, claim-cases)
+
+  same_node_of : (k : Node) → AtNode k ≡ AtNode (node_of m w) → k ≡ node_of m w
+  same_node_of k e = cc
 
   -- an entry that isn't evicted stays
   pub entry-stays : (c : Cell) (k : Node) → is_entry (replica s c (AtNode k)) ≡ true → (k ≡ node_of m w → has_cell claim.evicted c ≡ false) → replica s' c (AtNode k) ≡ replica s c (AtNode k)
   entry-stays c k entry spared = by_case (claim-cases c (AtNode k))
     where
-      same_node_of : AtNode k ≡ AtNode (node_of m w) → k ≡ node_of m w
-      same_node_of e = cc
-
       by_case : ClaimCase m s s' w claim.evicted (missing p s t w (node_of m w)) c (AtNode k) → replica s' c (AtNode k) ≡ replica s c (AtNode k)
-      by_case (Stays same) = same
-      by_case (Leaves at evicted a was is) = absurd (false≢true (sym (spared (same_node_of at)) ∙ evicted))
-      by_case (Comes at lacks was is) = absurd (false≢true (sym (ap is_entry was) ∙ entry))
+      by_case x = search (arith, false≢true, same_node_of)
 
   -- what leaves after a claim is a victim of it, or left before; what leaves still leaves
   pub claim-leaving : (v : Worker) (c : Cell) (q : Place) → is_leaving_by v (replica s' c q) ≡ true → ((q ≡ AtNode (node_of m w)) × (v ≡ w) × (has_cell claim.evicted c ≡ true)) ⊎ ((q ≢ AtNode (node_of m w)) × (is_leaving_by v (replica s c q) ≡ true))
-  claim-leaving v c q leaving = by_case (claim-cases c q)
-    where
-      by_case : ClaimCase m s s' w claim.evicted (missing p s t w (node_of m w)) c q → ((q ≡ AtNode (node_of m w)) × (v ≡ w) × (has_cell claim.evicted c ≡ true)) ⊎ ((q ≢ AtNode (node_of m w)) × (is_leaving_by v (replica s c q) ≡ true))
-      by_case (Stays same) =
-          let before : is_leaving_by v (replica s c q) ≡ true = sym (ap (is_leaving_by v) same) ∙ leaving in
-          inr (λ at. false≢true (sym (settled-at s (node_of m w) c claim.settled) ∙ leaving_by-leaves v (replica s c (AtNode (node_of m w))) (ap (λ (k : Place). is_leaving_by v (replica s c k)) (sym at) ∙ before)), before)
-      by_case (Leaves at evicted a was is) = inl (at, sym (same_worker-is w v (sym (ap (is_leaving_by v) is) ∙ leaving)), evicted)
-      by_case (Comes at lacks was is) = absurd (false≢true (sym (ap (is_leaving_by v) is) ∙ leaving))
+  claim-leaving v c q leaving = search (arith, claim-cases, false≢true, settled-at, leaving_by-leaves, same_worker-is)
 
   pub claim-still_leaves : (v : Worker) (c : Cell) (q : Place) → is_leaving_by v (replica s c q) ≡ true → is_leaving_by v (replica s' c q) ≡ true
-  claim-still_leaves v c q leaving = by_case (claim-cases c q)
-    where
-      by_case : ClaimCase m s s' w claim.evicted (missing p s t w (node_of m w)) c q → is_leaving_by v (replica s' c q) ≡ true
-      by_case (Stays same) = ap (is_leaving_by v) same ∙ leaving
-      by_case (Leaves at evicted a was is) = absurd (false≢true (sym (ap (is_leaving_by v) was) ∙ leaving))
-      by_case (Comes at lacks was is) = absurd (false≢true (sym (ap (is_leaving_by v) was) ∙ leaving))
+  claim-still_leaves v c q leaving = search (arith, claim-cases, false≢true)
 
   -- what comes after a claim is what it brings, or came before
   pub claim-coming : (v : Worker) (c : Cell) (k : Node) → is_coming_by v (replica s' c (AtNode k)) ≡ true → ((k ≡ node_of m w) × (v ≡ w) × (has_cell (cells_of p t w) c ≡ true)) ⊎ (is_coming_by v (replica s c (AtNode k)) ≡ true)
   claim-coming v c k coming = by_case (claim-cases c (AtNode k))
     where
-      same_node_of : AtNode k ≡ AtNode (node_of m w) → k ≡ node_of m w
-      same_node_of e = cc
-
       by_case : ClaimCase m s s' w claim.evicted (missing p s t w (node_of m w)) c (AtNode k) → ((k ≡ node_of m w) × (v ≡ w) × (has_cell (cells_of p t w) c ≡ true)) ⊎ (is_coming_by v (replica s c (AtNode k)) ≡ true)
       by_case (Stays same) = inr (sym (ap (is_coming_by v) same) ∙ coming)
       by_case (Leaves at evicted a was is) = absurd (false≢true (sym (ap (is_coming_by v) is) ∙ coming))
-      by_case (Comes at lacks was is) = inl (same_node_of at, sym (same_worker-is w v (sym (ap (is_coming_by v) is) ∙ coming)), (missing-absent p m s t w s' claim c lacks).1)
+      by_case (Comes at lacks was is) = inl (same_node_of k at, sym (same_worker-is w v (sym (ap (is_coming_by v) is) ∙ coming)), (missing-absent p m s t w s' claim c lacks).1)
 
   -- the task's own cells are entries after the claim: those that were, and those that come
   pub claim-own_cells : (c : Cell) → has_cell (cells_of p t w) c ≡ true → (is_entry (replica s' c (AtNode (node_of m w))) ≡ true) × (has_cell (order s (node_of m w)) c ≡ false → is_coming_by w (replica s' c (AtNode (node_of m w))) ≡ true)

@@ -1,10 +1,8 @@
 -- A claim, a run and an end leave a coherent state.
 use Rattle.sj_core.specs.Coherent.{Coherent}
 use Rattle.sj_core.specs.Laws.{IsKeptByClaims, IsKeptByLawfulEnds, IsKeptByRuns}
-use Rattle.sj_core.specs.Step.{Ends}
 use Rattle.sj_core.proofs.ClaimKeeps.{Claims-coherent}
-use Rattle.sj_core.proofs.Contents.{lawful-puts_last}
-use Rattle.sj_core.proofs.Ending.{Ends-coherent}
+use Rattle.sj_core.proofs.Ending.{lawful-puts_last, Ends-coherent}
 use Rattle.sj_core.proofs.Running.{Runs-coherent}
 
 pub Claims-keeps_coherence : IsKeptByClaims Coherent

@@ -1,26 +1,19 @@
 -- Contributions by codelets of one reduction may be exchanged: each combines an array that doesn't depend on the old one.
-use Rattle.std.proofs.Common.{Bool, List, [], ap, arith, cond, false, length, not, refl, sym, true, ℕ, ℤ, ◌++◌, ◌&&◌, ◌∙◌, ◌∷◌, ◌≡◌}
-use Rattle.std.specs.Prelude.{All, FitsSigned, nat_eq}
+use Rattle.std.proofs.Common.{Bool, List, [], ap, arith, cond, false, length, not, refl, sym, true, ℕ, ℤ, ◌++◌, ◌&&◌, ◌∙◌, ◌∷◌, ◌≡◌, All, FitsSigned, nat_eq}
 use Rattle.std.specs.Int.{w64}
 use Rattle.std.specs.List.{list_all}
 use Rattle.std.proofs.lemmas.Bool.{and_parts, not-true}
 use Rattle.std.proofs.lemmas.Bool.Decides.{nat_tests}
 use Rattle.std.proofs.lemmas.List.{length-append, length-map, map-append}
 use Rattle.std.proofs.lemmas.List.Elements.{All-append, All-cons, All-head, All-nil, All-tail}
-use Rattle.sj_base.specs.Array.{Array, zeros}
-use Rattle.sj_base.specs.declared.mode.Reduction.{Reduction}
-use Rattle.sj_base.specs.declared.mode.Reduction.TheVariants.{Least, Plus}
-use Rattle.sj_base.specs.declared.tile.Dims.{Dims}
+use Rattle.sj_core.proofs.Words.{Array, Dims, Formal, Kernel, Least, Plus, Reduction, UpdateFormal, zeros}
 use Rattle.sj_codelet.proofs.Table.{each_dims, new_arrays-dims}
 use Rattle.sj_codelet.specs.Equations.{all_inf}
 use Rattle.sj_codelet.specs.Formal.{is_output, outputs_among}
 use Rattle.sj_codelet.specs.Kernel.{arguments_fit, commutes_of, contributes_of, dims_fit, fits, formals_of, new_arrays, operand}
 use Rattle.sj_codelet.specs.Laws.{DoesContribute, IsCall, IsReduction, IsTile, combined, result_of, unit_of}
-use Rattle.sj_codelet.specs.declared.formal.Formal.{Formal}
-use Rattle.sj_codelet.specs.declared.formal.Formal.TheVariants.{RW as UpdateFormal}
-use Rattle.sj_codelet.specs.declared.kernel.Kernel.{Kernel}
 use Rattle.sj_core.proofs.Swapping.{Exchange}
-use Rattle.sj_core.proofs.Tiles.{inf-long, new_arrays-tiles, operand-tile, tile, zeros-tile}
+use Rattle.sj_core.proofs.Sized.{inf-long, new_arrays-tiles, operand-tile, tile, zeros-tile}
 use Rattle.sj_core.proofs.Updating.{contributing-commutes, updates-last}
 
 -- ---- what a commuting codelet makes
@@ -95,10 +88,7 @@ contribution by k args before v = result_of k args before (unit_of by v)
 module _ (by : Reduction) (law : IsReduction by) where
   -- two arrays may be combined in either order
   pub combined-swap : (x y v : Array) → IsTile x → IsTile y → IsTile v → x.dims ≡ v.dims → y.dims ≡ v.dims → combined by y (combined by x v) ≡ combined by x (combined by y v)
-  combined-swap x y v tx ty tv dx dy =
-      sym (law.associative y x v ty tx tv (dy ∙ sym dx) dx)
-      ∙ ap (λ (u : Array). combined by u v) (law.commutative y x ty tx (dy ∙ sym dx))
-      ∙ law.associative x y v tx ty tv (dx ∙ sym dy) dy
+  combined-swap x y v tx ty tv dx dy = search arith
 
   module _ (k : Kernel) (contributes : contributes_of k by ≡ true) (through : DoesContribute k by) where
     pub contribution-fills : (args : List ℤ) (before : List Array) (v : Array) → All (FitsSigned w64) args → IsCall k args (before ++ v ∷ []) → IsTile (contribution by k args before v) × ((contribution by k args before v).dims ≡ v.dims)

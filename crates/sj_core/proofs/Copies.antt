@@ -1,31 +1,21 @@
 -- The partial copies of a cell under reduction: which tasks work on them while a phase is open, and what these leave there.
-use Rattle.std.proofs.Common.{List, None, Option, Some, [], ap, arith, cond, false, get_or, inl, inr, not, refl, subst, suc, sym, true, zero, ℕ, ◌+◌, ◌<◌, ◌∙◌, ◌∷◌, ◌≡◌, ◌≢◌, ◌≤◌, ◌⊎◌}
-use Rattle.std.specs.Prelude.{All, IsTrue, is_some}
-use Rattle.std.specs.List.{Contains}
+use Rattle.std.proofs.Common.{List, None, Option, Some, [], ap, arith, cond, false, get_or, inl, inr, not, refl, subst, suc, sym, true, zero, ℕ, ◌+◌, ◌<◌, ◌∙◌, ◌∷◌, ◌≡◌, ◌≢◌, ◌≤◌, ◌⊎◌, IsTrue, is_some, Contains}
 use Rattle.std.proofs.lemmas.Bool.{cases_lt, false≢true, true≢false}
 use Rattle.std.proofs.lemmas.Bool.Decides.{Decides-eqb}
 use Rattle.std.proofs.lemmas.List.{get_or_default}
 use Rattle.std.proofs.lemmas.List.Elements.{All-contains, Contains-get_or}
 use Rattle.sj_base.specs.Mode.{is_redux, is_scratch, starts_as_zeros}
-use Rattle.sj_base.specs.declared.mode.Access.{Access}
-use Rattle.sj_base.specs.declared.mode.Mode.{Mode}
-use Rattle.sj_base.specs.declared.mode.Mode.TheVariants.{Commute as CommuteMode, R, RW, Redux, Scratch, W}
-use Rattle.sj_core.proofs.Words.{Cell, Program, Worker, cell_info, copy_of, data_operands, no_task, same_cell, worked_on}
+use Rattle.sj_core.proofs.Words.{Access, Cell, Mode, Program, R, RW, Redux, W, Worker, cell_info, copy_of, data_operands, no_task, same_cell, worked_on}
 use Rattle.sj_core.specs.Proper.{IsCombine, IsContribution, IsCopyOf, IsFirstUnit, IsInit, IsMember, IsOpenAt, IsPhase, Phase, Proper, Touches, access, task_number}
 use Rattle.sj_core.proofs.Dependencies.{not_both, one_is, own-of_phase}
 use Rattle.sj_core.proofs.Folding.{number}
 use Rattle.sj_core.proofs.Phases.{combine-after, combine-among, combine-reads, combine_at, contributes, copy-of, init-among, init-before, init_at}
-use Rattle.sj_core.proofs.OperandCells.{operand-inside}
+use Rattle.sj_core.proofs.TaskCells.{operand-inside}
 use Rattle.sj_core.proofs.Readiness.{AllPairs-two, Contains-filter}
 
 -- a mode is REDUX or not
 pub redux_or : (x : Mode) → (x ≡ Redux) ⊎ (is_redux x ≡ false)
-redux_or R = inr refl
-redux_or W = inr refl
-redux_or RW = inr refl
-redux_or Scratch = inr refl
-redux_or Redux = inl refl
-redux_or CommuteMode = inr refl
+redux_or x = search arith
 
 -- an operand that is no contribution works on its own cell
 pub direct-cell : (p : Program) (w : Worker) (a : Access) → is_redux a.mode ≡ false → worked_on p w a ≡ a.cell
@@ -40,11 +30,7 @@ module _ (p : Program) (proper : Proper p) where
 
     -- each worker has a copy of its own
     pub copy-own : (x y : Worker) → copy_of p c x ≡ copy_of p c y → x ≡ y
-    copy-own x y same = by_first (cell_info p c).partials has_copies (ap (λ (q : Cell). q.0) same)
-      where
-        by_first : (o : Option Cell) → is_some o ≡ true → (elim o as (λ _. Cell) [ None ↦ c | Some f ↦ record { 0 = f.0 + x.0 } ]).0 ≡ (elim o as (λ _. Cell) [ None ↦ c | Some f ↦ record { 0 = f.0 + y.0 } ]).0 → x ≡ y
-        by_first None h e = absurd (false≢true h)
-        by_first (Some f) h e = let n : x.0 ≡ y.0 = omega arith in ap (λ (i : ℕ). let v : Worker = record { 0 = i } in v) n
+    copy-own x y same = search (arith, is_some, false≢true, cell_info)
 
     -- no copy is the cell, or a cell with copies
     pub copy-bare : (x : Worker) → x.0 < p.workers → (d : Cell) → is_some (cell_info p d).partials ≡ true → copy_of p c x ≢ d
@@ -71,9 +57,7 @@ module _ (p : Program) (proper : Proper p) where
         by_place y y_in at_k (subst (λ (xs : List Access). Contains xs (access R (copy_of p f.cell x))) combine.operands reads)
       where
         by_place : (y : Worker) → y.0 < p.workers → get_or f.combines y.0 0 ≡ n → Contains (access R (copy_of p f.cell y) ∷ access RW f.cell ∷ []) (access R (copy_of p f.cell x)) → n ≡ combine_at p proper f phase x staffed
-        by_place y y_in at_y (zero, l, e) = sym at_y ∙ ap (λ (v : Worker). get_or f.combines v.0 0) (copy-own f.cell has_copies y x (ap (λ (b : Access). b.cell) e))
-        by_place y y_in at_y (suc zero, l, e) = absurd (let g : RW ≡ R = ap (λ (b : Access). b.mode) e in cc)
-        by_place y y_in at_y (suc (suc k), l, e) = absurd (omega arith)
+        by_place y y_in at_y x = search (arith, get_or, copy-own)
 
     -- how an operand of one of the phase's tasks works on the cell or a copy of it, once contributions have begun
     pub data AtWork (n : ℕ) (v : Worker) (a : Access) : Type 0 where
@@ -99,9 +83,7 @@ module _ (p : Program) (proper : Proper p) where
         member there = by_kind (phase.alone n a is_open in_data there)
           where
             by_kind : IsMember f n ⊎ IsFirstUnit p f n → Contains f.contributions n ⊎ Contains f.combines n
-            by_kind (inl (inl init)) = absurd (let l : n < m = All-contains (λ i. n < i) f.contributions m (All-contains (λ i. All (λ j. i < j) f.contributions) f.inits n phase.inits_first init) contribution in omega arith)
-            by_kind (inl (inr own)) = own
-            by_kind (inr first) = absurd (let l : n < m = All-contains (λ i. n < i) f.contributions m first.before contribution in omega arith)
+            by_kind x = search (arith, All-contains)
 
         -- an operand of a combine
         of_combine : is_redux a.mode ≡ false → Contains f.combines n → AtWork n v a
@@ -156,9 +138,7 @@ module _ (p : Program) (proper : Proper p) where
                 other = (Decides-eqb f.cell.0 a.cell.0).1 (ap (λ (q : Cell). q.0) (sym same))
 
                 by_places : ((a ≡ access Redux f.cell) ⊎ ((IsTrue (same_cell a.cell f.cell) → (a.mode ≡ R) × (Redux ≡ R)) ⊎ (IsTrue (same_cell f.cell a.cell) → (Redux ≡ R) × (a.mode ≡ R)))) → ⊥
-                by_places (inl e) = true≢false (sym (ap (λ (x : Access). is_redux x.mode) e) ∙ direct)
-                by_places (inr (inl pair)) = redux_isn't_read (pair one).1
-                by_places (inr (inr pair)) = redux_isn't_read (pair other).0
+                by_places x = search (arith, true≢false, redux_isn't_read, one, other)
 
     -- ---- after a copy has been combined
 
@@ -248,6 +228,4 @@ module _ (p : Program) (proper : Proper p) where
             ]
           where
             read_copy : (g : Phase) → g.cell ≡ f.cell → a.cell ≡ copy_of p f.cell x → (y : Worker) → Contains (access R (copy_of p g.cell y) ∷ access RW g.cell ∷ []) a → Contains (task_number p n).accesses (access R (copy_of p g.cell x))
-            read_copy g same cell y (zero, l, e) = subst (λ (b : Access). Contains (task_number p n).accesses b) (sym e ∙ ap (λ (d : Cell). access R d) (ap (λ (b : Access). b.cell) e ∙ cell ∙ ap (λ (c : Cell). copy_of p c x) (sym same))) h
-            read_copy g same cell y (suc zero, l, e) = absurd (copy-bare f.cell has_copies x x_in f.cell has_copies (sym cell ∙ sym (ap (λ (b : Access). b.cell) e) ∙ same))
-            read_copy g same cell y (suc (suc i), l, e) = absurd (omega arith)
+            read_copy g same cell y x = search (arith, copy-bare)

@@ -1,25 +1,15 @@
 -- The dependencies of a proper program can be counted: each access names a cell, and a task accesses a cell in one manner.
-use Rattle.std.proofs.Common.{List, None, Option, Some, [], ap, arith, false, get_or, inl, inr, length, map, not, refl, subst, suc, sym, true, zero, ℕ, ◌+◌, ◌<◌, ◌∙◌, ◌∷◌, ◌≡◌, ◌⊎◌}
+use Rattle.std.proofs.Common.{List, None, Option, Some, [], ap, arith, false, get_or, inl, inr, length, map, not, refl, subst, suc, sym, true, zero, ℕ, ◌+◌, ◌<◌, ◌∙◌, ◌∷◌, ◌≡◌, ◌⊎◌, Contains, flat_map, AllPairs, IsTrue, is_some, option_and_then, slice_get}
 use Rattle.std.proofs.lemmas.Bool.{cases_lt}
 use Rattle.std.proofs.lemmas.Bool.Decides.{Decides-eqb}
 use Rattle.std.proofs.lemmas.List.{get_or_default}
 use Rattle.std.proofs.lemmas.List.Elements.{All-contains, Contains-append_cases}
 use Rattle.std.proofs.lemmas.List.FromFn.{get_or-range_with_len, length-range_with_len}
 use Rattle.std.proofs.lemmas.Option.{slice_get-get_or, slice_get_past}
-use Rattle.std.specs.List.{Contains, flat_map, range_with_len}
-use Rattle.std.specs.Prelude.{AllPairs, IsTrue, is_some, option_and_then, slice_get}
+use Rattle.std.specs.List.{range_with_len}
 use Rattle.sj_base.specs.Mode.{is_redux, is_scratch}
-use Rattle.sj_core.proofs.Words.{Cell, Program, Worker, cell_info, copy_of, data_operands, no_cell, no_task, same_cell}
-use Rattle.sj_base.specs.declared.mode.Access.{Access}
-use Rattle.sj_base.specs.declared.mode.Mode.{Mode}
-use Rattle.sj_base.specs.declared.mode.Mode.TheVariants.{Commute as CommuteMode, R, RW, Redux, Scratch, W}
-use Rattle.sj_base.specs.declared.program.CellInfo.{CellInfo}
-use Rattle.sj_base.specs.declared.program.Codelet.{Codelet}
-use Rattle.sj_base.specs.declared.program.Lowered.{Lowered}
+use Rattle.sj_core.proofs.Words.{Access, Cell, CellInfo, Codelet, Commute, CommuteMode, Contribute, Lowered, Manner, Mode, Program, R, RW, Read, Redux, Scratch, Usage, W, Worker, Write, cell_info, copy_of, data_operands, no_cell, no_task, same_cell}
 use Rattle.sj_deps.specs.Conflict.{HasDependencies, Uses, copies_of, usage, usages_of}
-use Rattle.sj_deps.specs.declared.manner.Manner.{Manner}
-use Rattle.sj_deps.specs.declared.manner.Manner.TheVariants.{Commute, Contribute, Read, Write}
-use Rattle.sj_deps.specs.declared.manner.Usage.{Usage}
 use Rattle.sj_core.specs.Proper.{IsCombine, IsCopyOf, IsInit, IsPhase, Phase, Proper, access, task_number}
 use Rattle.sj_core.proofs.Readiness.{AllPairs-two, Contains-filter}
 use Rattle.sj_core.proofs.Sharing.{manner_of}
@@ -78,14 +68,13 @@ copies-are p c q inside h =
 
 behind : (p : Program) (k : Codelet) (mode : Mode) (d c : Cell) (m : Manner) → d.0 < length p.cells → Contains (usages_of p k (access mode d)) (usage m c.0) → Behind p k (access mode d) c m
 behind p k R d c m inside h = let e = one_is (usage Read d.0) (usage m c.0) h in Direct refl refl (usage-cell Read m d c e) (usage-manner Read m d.0 c.0 e)
-behind p k W d c m inside h = let e = one_is (usage Write d.0) (usage m c.0) h in Direct refl refl (usage-cell Write m d c e) (usage-manner Write m d.0 c.0 e)
-behind p k RW d c m inside h = let e = one_is (usage Write d.0) (usage m c.0) h in Direct refl refl (usage-cell Write m d c e) (usage-manner Write m d.0 c.0 e)
 behind p k Scratch d c m inside h = absurd (none_is (usage m c.0) h)
 behind p k CommuteMode d c m inside h = let e = one_is (usage (Commute k) d.0) (usage m c.0) h in Direct refl refl (usage-cell (Commute k) m d c e) (usage-manner (Commute k) m d.0 c.0 e)
 behind p k Redux d c m inside h =
     let (n, has, e) = map-from (usage Contribute) (copies_of p d.0) (usage m c.0) h in
     let copy = copies-are p d c inside (subst (Contains (copies_of p d.0)) (ap (λ (u : Usage). u.cell) e) has) in
     AsCopy refl copy.0 copy.1 (usage-manner Contribute m n c.0 e)
+behind p k mode d c m inside h = let e = one_is (usage Write d.0) (usage m c.0) h in Direct refl refl (usage-cell Write m d c e) (usage-manner Write m d.0 c.0 e)
 
 -- ---- the laws
 
@@ -114,11 +103,7 @@ module _ (p : Program) (proper : Proper p) where
       ]
 
   cell-named : (t : ℕ) (c : Cell) (m : Manner) → Operand t c m → c.0 < length p.cells
-  cell-named t c m o = by_kind o.by
-    where
-      by_kind : Behind p (task_number p t).codelet o.operand c m → c.0 < length p.cells
-      by_kind (Direct accessed plain is manner) = subst (λ (d : Cell). d.0 < length p.cells) is (All-contains (λ (b : Access). b.cell.0 < length p.cells) (task_number p t).accesses o.operand (proper.cells.named t no_task o.inside) o.among)
-      by_kind (AsCopy redux w copy manner) = (proper.cells.copies c o.operand.cell w copy).0
+  cell-named t c m o = search (arith, All-contains)
 
   -- the inits and combines of a phase contribute to nothing
   pub own-of_phase : (f : Phase) → IsPhase p f → (t : ℕ) → Contains f.inits t ⊎ Contains f.combines t → (a : Access) → Contains (task_number p t).accesses a → a.mode ≡ Redux → ⊥
@@ -134,9 +119,7 @@ module _ (p : Program) (proper : Proper p) where
       by_place (subst (λ (xs : List Access). Contains xs a) combine.operands has)
     where
       by_place : Contains (access R (copy_of p f.cell (record { 0 = k })) ∷ access RW f.cell ∷ []) a → ⊥
-      by_place (zero, m, is) = let same : R ≡ Redux = ap (λ (b : Access). b.mode) is ∙ redux in cc
-      by_place (suc zero, m, is) = let same : RW ≡ Redux = ap (λ (b : Access). b.mode) is ∙ redux in cc
-      by_place (suc (suc j), m, is) = omega arith
+      by_place x = search arith
 
   -- a task doesn't access a partial copy and contribute to its cell
   pub not_both : (t : ℕ) (c d : Cell) (w : Worker) → IsCopyOf p c d w → (a b : Access) → Contains (task_number p t).accesses a → a.cell ≡ c → Contains (task_number p t).accesses b → b.mode ≡ Redux → ⊥
@@ -149,9 +132,7 @@ module _ (p : Program) (proper : Proper p) where
   one-manner t c m n x y = by_kinds x.by y.by
     where
       aliased : (x.operand ≡ y.operand) ⊎ ((IsTrue (same_cell x.operand.cell y.operand.cell) → (x.operand.mode ≡ R) × (y.operand.mode ≡ R)) ⊎ (IsTrue (same_cell y.operand.cell x.operand.cell) → (y.operand.mode ≡ R) × (x.operand.mode ≡ R))) → x.operand.cell ≡ c → y.operand.cell ≡ c → x.operand.mode ≡ y.operand.mode
-      aliased (inl e) cx cy = ap (λ (a : Access). a.mode) e
-      aliased (inr (inl reads)) cx cy = let both = reads ((Decides-eqb x.operand.cell.0 y.operand.cell.0).1 (ap (λ (k : Cell). k.0) (cx ∙ sym cy))) in both.0 ∙ sym both.1
-      aliased (inr (inr reads)) cx cy = let both = reads ((Decides-eqb y.operand.cell.0 x.operand.cell.0).1 (ap (λ (k : Cell). k.0) (cy ∙ sym cx))) in both.1 ∙ sym both.0
+      aliased x cx cy = search (arith, Decides-eqb)
 
       by_kinds : Behind p (task_number p t).codelet x.operand c m → Behind p (task_number p t).codelet y.operand c n → m ≡ n
       by_kinds (AsCopy redux w copy manner) (AsCopy redux' w' copy' manner') = sym manner ∙ manner'

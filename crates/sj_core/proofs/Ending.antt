@@ -1,26 +1,147 @@
 -- The end of a kernel's run leaves a coherent state.
-use Rattle.std.proofs.Common.{Bool, List, None, Option, Some, [], ap, arith, false, inl, inr, length, not, refl, set, subst, sym, true, ℕ, ◌+◌, ◌<◌, ◌∙◌, ◌≡◌, ◌≢◌, ◌≤◌, ◌⊎◌}
-use Rattle.std.proofs.lemmas.Bool.{cases_Bool, cases_lt, false_from_ne_true, false≢true, cond_both}
+use Rattle.std.proofs.Common.{Bool, List, ap, arith, false, inl, inr, length, refl, subst, sym, true, ◌<◌, ◌∙◌, ◌≡◌, ◌&&◌, ◌+◌, ◌≢◌, None, Option, Some, [], not, ℕ, ◌≤◌, ◌⊎◌, zip, count_by, nat_eq, nat_le, nat_lt, All, if◌then◌else◌}
+use Rattle.std.proofs.lemmas.Bool.{false≢true, eq-eqb, ne_eqb, and_from, le-leb, lt-ltb, cases_Bool, cases_lt, false_from_ne_true, cond_both}
 use Rattle.std.proofs.lemmas.List.{get_or-set_same, get_or_past, length-set}
 use Rattle.std.proofs.lemmas.Option.{MatchOption-from_none}
-use Rattle.std.specs.Prelude.{All, IfSome, if◌then◌else◌}
-use Rattle.sj_core.proofs.Words.{Array, AtNode, Cell, CellState, Claimed, Done, Invalid, Machine, Node, OnDisk, Place, Program, Progress, Replica, Running, State, Task, Transfer, Valid, Worker, WorkerState, array_of, cell_state, cells_of, has_cell, is_coming_by, is_entry, is_leaving_by, is_task_of, is_valid, moves, node_of, order, pins, progress, replica, replica_in, same_cell, scratch, transfer, victims_of, worker_of, worker_state, writes, written_cells}
-use Rattle.sj_core.specs.Coherent.{Coherent, CopiesAgree, HasRows, IsOwnedBy, IsStateOf, WritersOwn, content, is_begun, is_being_written, written_content}
-use Rattle.sj_core.specs.Laws.{IsSound}
-use Rattle.sj_core.specs.Step.{Ends, result_at, rewritten_at, same_place}
-use Rattle.sj_core.proofs.Advancing.{Advances, Ends-advances, Ends-keeps_order}
+use Rattle.sj_deps.specs.Conflict.{Conflict}
+use Rattle.sj_core.specs.Coherent.{Coherent, HasWorkers, OrderIsKept, content, is_begun, IsStateOf, TasksHaveCells, WritesAreCounted, has_written, CopiesAgree, HasRows, IsOwnedBy, WritersOwn, is_being_written, written_content}
+use Rattle.sj_core.specs.Fold.{after_chosen, after_task, held_in}
+use Rattle.sj_core.specs.Laws.{IsLawful, IsSound}
+use Rattle.sj_core.specs.Proper.{Proper}
+use Rattle.sj_core.specs.Step.{Ends, array_at, result_at, after, rewritten_at, same_place}
+use Rattle.sj_core.proofs.Words.{Array, AtNode, Cell, CellState, Claimed, Done, Kernel, Machine, Program, Progress, Running, State, Task, Worker, dims_of, done_by, done_in, has_cell, is_done, is_task_of, no_task, node_of, progress, results, tasks_of, worked_on, worker_of, writes, written_cells, zeros, Invalid, Node, OnDisk, Place, Replica, Transfer, Valid, WorkerState, array_of, cell_state, cells_of, is_coming_by, is_entry, is_leaving_by, is_valid, moves, order, pins, replica, replica_in, same_cell, scratch, transfer, victims_of, worker_state}
+use Rattle.sj_core.proofs.Advancing.{Advances, Ends-advances, done-begun, same_task, Ends-keeps_order}
+use Rattle.sj_core.proofs.Values.{results-complete}
+use Rattle.sj_core.proofs.Updating.{may-swap}
+use Rattle.sj_core.proofs.Folding.{AddsTask, after_chosen-same, after_task-other, held-append, held_over, held_over-own, read-among_cells, results-same}
+use Rattle.sj_core.proofs.Found.{found-content}
+use Rattle.sj_core.proofs.Phases.{contributions-exchange}
+use Rattle.sj_core.proofs.Reading.{cells-touched, cells-untouched, cells-renewed_or, entry-inside, idle_row, moves-it, worker-other, worker-same, workers_differ}
+use Rattle.sj_core.proofs.Replicas.{same_worker-refl}
+use Rattle.sj_core.proofs.Swapping.{put-last}
+use Rattle.sj_core.proofs.Placing.{valid-row, replica_in-cases, same_place-is, same_place-refl}
+use Rattle.sj_core.proofs.TaskCells.{written-among_cells}
+use Rattle.sj_core.proofs.Sums.{tally, sum-agree, sum-plus, count-numbered}
 use Rattle.sj_core.proofs.CellLists.{times}
 use Rattle.sj_core.proofs.Changing.{Changes, Changes-coherent, Changes-writers, TransfersAreSound-spared, HasBlocks-kept, All-renewed, HasWorkers-kept}
-use Rattle.sj_core.proofs.Contents.{PutsLast, end-content-other, end-content-own}
-use Rattle.sj_core.proofs.Counting.{Ends-keeps_counts}
 use Rattle.sj_core.proofs.Dependencies.{Proper-dependencies}
-use Rattle.sj_core.proofs.Placing.{replica_in-cases, same_place-is, same_place-refl}
-use Rattle.sj_core.proofs.Reading.{cells-renewed_or, cells-touched, cells-untouched, entry-inside, idle_row, moves-it, worker-other, worker-same, workers_differ}
-use Rattle.sj_core.proofs.Replicas.{same_worker-refl}
-use Rattle.sj_core.proofs.Finding.{not_written-before, agrees-kept}
+use Rattle.sj_core.proofs.Finding.{not_written-before, agrees-kept, running-inside}
 use Rattle.sj_core.proofs.Separation.{separated}
 use Rattle.sj_core.proofs.Tables.{length-renewed}
-use Rattle.sj_core.proofs.TaskCells.{written-among_cells}
+
+-- ---- what cells ought to hold after a step: their contents before, and the results of the task that ends
+
+-- ---- what cells ought to hold after a step: their contents before, and the results of the task that ends
+
+-- ---- where no task more is done
+
+pub content-kept : (p : Program) (s s' : State) (t : Task) (old new : Progress) → Advances s s' t old new → is_done old ≡ false → is_done new ≡ false → (c : Cell) → content p s' c ≡ content p s c
+content-kept p s s' t old new a was is c = search (arith, after_chosen-same, same_task, false≢true)
+
+-- ---- an end
+
+-- no task that is done and later conflicts with one that isn't done
+pub later-free : (p : Program) (s : State) (t : Task) → OrderIsKept p s → done_in s t ≡ false → (u : Task) → t.0 < u.0 → done_in s u ≡ true → ¬ Conflict p t.0 u.0
+later-free p s t kept undone u later done conflict = false≢true (sym undone ∙ kept.earlier u (done-begun (progress s u) done) t later conflict)
+
+-- in the fold of a program a task with which no later chosen one conflicts may be put last
+abbrev pub PutsLast : Program → Type 0
+PutsLast p = (chosen chosen' : Task → Bool) (by by' : Task → Worker) (t : Task) (w : Worker) → t.0 < length p.tasks → w.0 < p.workers → ((u : Task) → (by u).0 < p.workers) → AddsTask chosen chosen' by by' t w → ((u : Task) → t.0 < u.0 → chosen u ≡ true → ¬ Conflict p t.0 u.0) →
+    (c : Cell) → held_in p (after_chosen p chosen' by' (length p.tasks)) c ≡ held_in p (after_task p w t (after_chosen p chosen by (length p.tasks))) c
+
+-- it is so from the laws of a set
+pub lawful-puts_last : (has : Kernel → Bool) (p : Program) → Proper p → IsLawful has p → PutsLast p
+lawful-puts_last has p proper lawful chosen chosen' by by' t w inside w_in staffed adds free =
+    put-last p proper lawful.arguments chosen chosen' by by' t w staffed w_in adds (length p.tasks) inside (omega arith) (λ u later within done.
+    may-swap has p proper lawful t u inside within w (by u) w_in (staffed u) (free u later done) (contributions-exchange p proper has lawful t u inside within w (by u) w_in (staffed u) (free u later done) later))
+
+-- the workers by which tasks are done are the program's; where a task isn't begun the word gives the first one
+pub all-staffed : (p : Program) (s : State) → 0 < p.workers → HasWorkers p s → (u : Task) → (done_by s u).0 < p.workers
+all-staffed p s some staff u = search arith
+
+module _ (p : Program) (m : Machine) (proper : Proper p) (puts_last : PutsLast p) (s : State) (sound : Coherent p m s) (t : Task) (w : Worker) (s' : State) (ended : Ends p m s t w s') where
+  pub end-inside : t.0 < length p.tasks
+  end-inside = running-inside p m s t w sound.state.rows ended.running
+
+  staffed : w.0 < p.workers
+  staffed = subst (λ (x : Progress). (worker_of x).0 < p.workers) ended.running (sound.state.staff.staffed t (ap is_begun ended.running))
+
+  -- the ended task's results come over the contents before, as if no done task came after it
+  end-content : (c : Cell) → content p s' c ≡ held_in p (after_task p w t (after_chosen p (done_in s) (done_by s) (length p.tasks))) c
+  end-content c =
+      let a = Ends-advances p m s t w s' ended in
+      let adds : AddsTask (done_in s) (done_in s') (done_by s) (done_by s') t w = record { absent = ap is_done a.was; present = ap is_done a.is; worker = ap worker_of a.is; others = λ u d. ap is_done (a.others u d); workers = λ u d. ap worker_of (a.others u d) } in
+      puts_last (done_in s) (done_in s') (done_by s) (done_by s') t w end-inside staffed (all-staffed p s (omega (arith, staffed)) sound.state.staff) adds (later-free p s t sound.order (ap is_done a.was)) c
+
+  -- what the task doesn't write keeps its content
+  pub end-content-other : (c : Cell) → has_cell (written_cells p t w) c ≡ false → content p s' c ≡ content p s c
+  end-content-other c spared = end-content c ∙ after_task-other p w t (after_chosen p (done_in s) (done_by s) (length p.tasks)) c spared
+
+  -- the task works on the arrays of its worker's node as on the contents of its cells
+  end-results : results p t w (content p s) ≡ results p t w (array_at p s (AtNode (node_of m w)))
+  end-results = results-same p t w w (content p s) (array_at p s (AtNode (node_of m w))) (λ a h reads.
+      (let mine : is_task_of w (progress s t) ≡ true = ap (is_task_of w) ended.running ∙ same_worker-refl w in
+      let there = sound.cells.running t w (worked_on p w a) ended.running (read-among_cells p t w a h reads) in
+      sym (found-content p proper m s sound t w mine a h reads there)))
+
+  -- what it writes has its result as content
+  pub end-content-own : (c : Cell) → has_cell (written_cells p t w) c ≡ true → content p s' c ≡ result_at p s t w (node_of m w) c
+  end-content-own c writes =
+      let cs = written_cells p t w in
+      let arrays = results p t w (array_at p s (AtNode (node_of m w))) in
+      let complete = results-complete p t w (array_at p s (AtNode (node_of m w))) (proper.codelets t.0 no_task end-inside) in
+      end-content c
+      ∙ held-append p (zip cs (results p t w (content p s))) (after_chosen p (done_in s) (done_by s) (length p.tasks)) c
+      ∙ ap (λ (xs : List Array). held_over (zip cs xs) c (content p s c)) end-results
+      ∙ held_over-own cs arrays c (content p s c) (zeros (dims_of p c)) writes (omega (arith, complete))
+
+-- ---- a claim, a run and an end keep that a cell's write count is the number of done tasks that wrote it
+
+-- ---- which tasks have written a cell
+
+written-other : (p : Program) (s s' : State) (c : Cell) (t u : Task) (old new : Progress) → Advances s s' t old new → u ≢ t → has_written p s' c u ≡ has_written p s c u
+written-other p s s' c t u old new a d = ap (λ (x : Progress). is_done x && has_cell (written_cells p u (worker_of x)) c) (a.others u d)
+
+pub written-undone : (p : Program) (s s' : State) (c : Cell) (t u : Task) (old new : Progress) → Advances s s' t old new → is_done old ≡ false → is_done new ≡ false → has_written p s' c u ≡ has_written p s c u
+written-undone p s s' c t u old new a before after = search (arith, same_task, written-other)
+
+pub counted-same : (p : Program) (s s' : State) (c : Cell) → ((u : Task) → has_written p s' c u ≡ has_written p s c u) → count_by (has_written p s' c) (tasks_of p) ≡ count_by (has_written p s c) (tasks_of p)
+counted-same p s s' c same = sum-agree (λ u. tally (has_written p s' c u)) (λ u. tally (has_written p s c u)) (λ u. ap tally (same u)) (tasks_of p)
+
+-- ---- the laws
+
+pub Ends-keeps_counts : (p : Program) (m : Machine) (s : State) (t : Task) (w : Worker) (s' : State) → IsStateOf p m s → TasksHaveCells p m s → Ends p m s t w s' → WritesAreCounted p s → WritesAreCounted p s'
+Ends-keeps_counts p m s t w s' state cells ended counts = record { counted = λ c. by_cases c (has_cell (written_cells p t w) c) refl }
+  where
+    inside : t.0 < length p.tasks
+    inside = running-inside p m s t w state.rows ended.running
+
+    undone : (c : Cell) → has_written p s c t ≡ false
+    undone c = ap (λ (x : Progress). is_done x && has_cell (written_cells p t (worker_of x)) c) ended.running
+
+    now : (c : Cell) → has_written p s' c t ≡ has_cell (written_cells p t w) c
+    now c = ap (λ (x : Progress). is_done x && has_cell (written_cells p t (worker_of x)) c) (Ends-advances p m s t w s' ended).is
+
+    by_cases : (c : Cell) (b : Bool) → has_cell (written_cells p t w) c ≡ b → writes s' c ≡ count_by (has_written p s' c) (tasks_of p)
+    by_cases c false e =
+        let same : writes s' c ≡ writes s c = ap (λ (z : State). writes z c) ended.leaves ∙ ap (λ (r : CellState). r.writes) (cells-untouched s (has_cell (written_cells p t w)) (λ d row. rewritten_at (node_of m w) (result_at p s t w (node_of m w) d) row) c e) in
+        same ∙ counts.counted c ∙ sym (counted-same p s s' c (λ u. elim (same_task u t) [
+          | inl f ↦ subst (λ (k : Task). has_written p s' c k ≡ has_written p s c k) (sym f) (now c ∙ e ∙ sym (undone c))
+          | inr d ↦ written-other p s s' c t u (Running w) (Done w) (Ends-advances p m s t w s' ended) d
+        ]))
+    by_cases c true e =
+        let there = cells.running t w c ended.running (written-among_cells p t w c e) in
+        let more : writes s' c ≡ writes s c + 1 = ap (λ (z : State). writes z c) ended.leaves ∙ ap (λ (r : CellState). r.writes) (cells-touched s (has_cell (written_cells p t w)) (λ d row. rewritten_at (node_of m w) (result_at p s t w (node_of m w) d) row) c (valid-row s c (AtNode (node_of m w)) there) e) in
+        let is_t : Task → Bool = λ u. nat_eq u.0 t.0 in
+        let each : (u : Task) → tally (has_written p s' c u) ≡ tally (has_written p s c u) + tally (is_t u) = λ u. elim (same_task u t) [
+          | inl f ↦ ap (λ (k : Task). tally (has_written p s' c k)) f ∙ ap tally (now c ∙ e) ∙ sym (ap (λ b. tally b + 1) (undone c)) ∙ ap (λ (k : Task). tally (has_written p s c k) + 1) (sym f) ∙ ap (λ b. tally (has_written p s c u) + tally b) (sym (eq-eqb u.0 t.0 (ap (λ (k : Task). k.0) f)))
+          | inr d ↦ ap tally (written-other p s s' c t u (Running w) (Done w) (Ends-advances p m s t w s' ended) d) ∙ (let none : tally (is_t u) ≡ 0 = ap tally (ne_eqb u.0 t.0 (λ g. d (ap (λ n. let k : Task = record { 0 = n } in k) g))) in omega arith)
+        ] in
+        let all = count-numbered (λ n. record { 0 = n }) is_t t.0 (λ n. refl) 0 (length p.tasks) ∙ ap tally (and_from (nat_le 0 t.0) (nat_lt t.0 (0 + length p.tasks)) (le-leb 0 t.0 (omega arith)) (lt-ltb t.0 (0 + length p.tasks) (omega (arith, inside)))) in
+        let one = sum-plus (λ u. tally (has_written p s' c u)) (λ u. tally (has_written p s c u)) (λ u. tally (is_t u)) each (tasks_of p) in
+        omega (arith, counts.counted c)
+
+-- ---- the end of a kernel's run leaves a coherent state
 
 module _ (p : Program) (m : Machine) (s : State) (t : Task) (w : Worker) (s' : State) (ended : Ends p m s t w s') where
   abbrev renews : Cell → CellState → CellState
@@ -76,18 +197,10 @@ module _ (p : Program) (m : Machine) (s : State) (t : Task) (w : Worker) (s' : S
 
   -- the worker keeps its victims as chosen and its transfer, and pins and holds nothing
   pub end-own_worker : (worker_state s' w ≡ end-row) ⊎ ((worker_state s w ≡ idle_row) × (worker_state s' w ≡ idle_row))
-  end-own_worker =
-      elim (cases_lt w.0 (length s.workers)) [
-        | inl inside ↦ inl (ap (λ (z : State). worker_state z w) ended.leaves ∙ worker-same s w end-row inside)
-        | inr past ↦ inr (get_or_past s.workers w.0 idle_row past, ap (λ (z : State). worker_state z w) ended.leaves ∙ get_or_past (set s.workers w.0 end-row) w.0 idle_row (omega (arith, length-set s.workers w.0 end-row)))
-      ]
+  end-own_worker = search (arith, cases_lt, worker-same, end-row, get_or_past, idle_row, length-set)
 
   end-kept : {X : Type 0} (f : WorkerState → X) → f end-row ≡ f (worker_state s w) → (v : Worker) → f (worker_state s' v) ≡ f (worker_state s v)
-  end-kept f same v =
-      elim (workers_differ v w) [
-        | inr d ↦ ap f (end-other_worker v d)
-        | inl e ↦ ap (λ (x : Worker). f (worker_state s' x)) e ∙ elim end-own_worker [ inl own ↦ ap f own ∙ same | inr none ↦ ap f (none.1 ∙ sym none.0) ] ∙ sym (ap (λ (x : Worker). f (worker_state s x)) e)
-      ]
+  end-kept f same v = search (arith, workers_differ, end-other_worker, end-own_worker)
 
   pub end-transfer : (v : Worker) → transfer s' v ≡ transfer s v
   end-transfer = end-kept (λ row. row.transfer) refl
@@ -120,10 +233,7 @@ module _ (p : Program) (m : Machine) (s : State) (h : IsSound p m s) (t : Task) 
 
   -- a test that tells no array from another is passed as before
   end-same : {X : Type 0} (test : Replica → X) → ((a b : Array) → test (Valid a) ≡ test (Valid b)) → (c : Cell) (q : Place) → test (replica s' c q) ≡ test (replica s c q)
-  end-same test alike c q = elim (end-cases p m s t w s' ended c q) [
-    | inl same ↦ ap test same
-    | inr (written, at, is) ↦ ap test is ∙ alike (result_at p s t w (node_of m w) c) (written_content p s t w c) ∙ sym (ap test (ap (replica s c) at ∙ (owned c written).valid))
-  ]
+  end-same test alike c q = grind (arith, end-cases p m s t w s' ended c q, owned)
 
   end-entry : (c : Cell) (k : Node) → is_entry (replica s' c (AtNode k)) ≡ is_entry (replica s c (AtNode k))
   end-entry c k = end-same is_entry (λ a b. refl) c (AtNode k)
@@ -226,10 +336,7 @@ module _ (p : Program) (m : Machine) (s : State) (h : IsSound p m s) (t : Task) 
             (q.0, ap (λ (r : CellState). is_valid (replica_in r q.0)) row ∙ q.1)
       ];
       alike = λ c q some resting. elim (cases_Bool (has_cell (written_cells p t w) c)) [
-        | inl written ↦ elim (end-alone c q written) [
-          | inl valid ↦ subst (λ (o : Option Array). IfSome o (λ a. a ≡ content p s' c)) (sym (ap array_of valid)) refl
-          | inr none ↦ MatchOption-from_none (array_of (replica s' c q)) (λ a. a ≡ content p s' c) (ap array_of none)
-        ]
+        | inl written ↦ (search (arith, end-alone, MatchOption-from_none))
         | inr spared ↦
             let row = end-spared_row p m s t w s' ended c spared in
             agrees-kept (array_of (replica s c q)) (array_of (replica s' c q)) (content p s c) (content p s' c) (ap (λ (r : CellState). array_of (replica_in r q)) row) (spared-content c spared) (h.coherent.copies.alike c q (omega (arith, ap (λ (r : CellState). r.writes) row, some)) (end-rested c spared resting))

@@ -1,44 +1,32 @@
 -- What a claimed or running task finds in the cells whose old value it reads; and which cells no running task writes, before and after a step.
-use Rattle.std.proofs.Common.{Bool, None, Option, Some, ap, arith, cond, false, get_or, inl, inr, length, not, refl, sym, true, ℕ, ◌&&◌, ◌<◌, ◌∙◌, ◌≡◌, subst}
+use Rattle.std.proofs.Common.{Bool, None, Option, Some, ap, arith, cond, false, get_or, inl, inr, length, not, sym, true, ℕ, ◌&&◌, ◌<◌, ◌∙◌, ◌≡◌, subst, Contains, IfSome, count_by, is_some}
 use Rattle.std.proofs.lemmas.Bool.{and_parts, false_from_ne_true, false≢true, not-true}
 use Rattle.std.proofs.lemmas.List.Folds.{Any-from_list_any, list_any_at}
 use Rattle.std.proofs.lemmas.List.FromFn.{get_or-map-range_with_len, length-map-range_with_len}
-use Rattle.std.proofs.lemmas.List.Sums.{get_or-le-sum_by}
-use Rattle.std.specs.List.{Contains}
-use Rattle.std.specs.Prelude.{IfSome, count_by, is_some, unwrap_or}
-use Rattle.sj_core.proofs.Words.{Array, Cell, Machine, Program, Progress, Running, State, Task, Worker, cells_of, copy_of, done_by, has_cell, is_running_on, is_task_of, progress, same_cell, task_of, tasks_of, worked_on, worker_of, writes, written_cells, Waiting}
+use Rattle.std.specs.Prelude.{unwrap_or}
+use Rattle.sj_core.proofs.Words.{Access, Array, Cell, Machine, Program, Progress, Running, State, Task, Worker, cells_of, copy_of, done_by, has_cell, is_running_on, is_task_of, progress, same_cell, task_of, tasks_of, worked_on, worker_of, writes, written_cells}
 use Rattle.sj_base.specs.Mode.{is_redux, is_written}
-use Rattle.sj_base.specs.declared.mode.Access.{Access}
-use Rattle.sj_base.specs.declared.mode.Mode.TheVariants.{R}
 use Rattle.sj_deps.specs.Conflict.{HasDependencies}
 use Rattle.sj_core.specs.Coherent.{Coherent, is_being_written, HasRows}
 use Rattle.sj_core.specs.Proper.{Proper, gives_value}
 use Rattle.sj_core.proofs.Advancing.{running_on-is, same_task, task_of-worker, Advances}
 use Rattle.sj_core.proofs.Replicas.{same_worker-refl}
 use Rattle.sj_core.proofs.Separation.{separated}
-use Rattle.sj_core.proofs.Sharing.{one, operand-has_cell}
-use Rattle.sj_core.proofs.Reading.{progress-inside}
+use Rattle.sj_core.proofs.Sharing.{operand-has_cell}
+use Rattle.sj_core.proofs.Reading.{progress-inside, list_any-numbered}
+use Rattle.sj_core.proofs.Sums.{counted-has}
 
 -- ---- lists
 
 -- a task of the program that passes is counted
 pub task-counted : (p : Program) (test : Task → Bool) (u : Task) → u.0 < length p.tasks → test u ≡ true → 0 < count_by test (tasks_of p)
-task-counted p test u inside passes =
-    let number : ℕ → Task = λ n. record { 0 = n } in
-    let at_u : get_or (tasks_of p) u.0 u ≡ u = get_or-map-range_with_len number 0 (length p.tasks) u.0 u.0 u inside (omega arith) in
-    let part = get_or-le-sum_by (λ (k : Task). cond {A = ℕ} (test k) 1 0) (tasks_of p) u.0 u (omega (arith, length-map-range_with_len number 0 (length p.tasks))) in
-    let counts : cond {A = ℕ} (test (get_or (tasks_of p) u.0 u)) 1 0 ≡ 1 = ap (λ b. cond {A = ℕ} b 1 0) (ap test at_u ∙ passes) in
-    omega arith
+task-counted p test u inside passes = counted-has test (tasks_of p) (list_any-numbered (λ n. record { 0 = n }) test u.0 (length p.tasks) inside passes)
 
 -- ---- running tasks
 
 -- a cell that is being written has a running task that writes it
 pub being_written-by : (p : Program) (s : State) (c : Cell) → is_being_written p s c ≡ true → (u : Task) × (progress s u ≡ Running (done_by s u)) × (has_cell (written_cells p u (done_by s u)) c ≡ true)
-being_written-by p s c h =
-    let found = Any-from_list_any (λ t. is_running_on (worker_of (progress s t)) (progress s t) && has_cell (written_cells p t (worker_of (progress s t))) c) (tasks_of p) h in
-    let u = found.1 in
-    let tests = and_parts (is_running_on (done_by s u) (progress s u)) (has_cell (written_cells p u (done_by s u)) c) found.4 in
-    (u, running_on-is (done_by s u) (progress s u) tests.0, tests.1)
+being_written-by p s c h = search (arith, Any-from_list_any, and_parts, running_on-is)
 
 pub being_written-here : (p : Program) (s : State) (c : Cell) (u : Task) (v : Worker) → u.0 < length p.tasks → progress s u ≡ Running v → has_cell (written_cells p u v) c ≡ true → is_being_written p s c ≡ true
 being_written-here p s c u v inside running writes =
@@ -81,29 +69,17 @@ gives-writes p u v c h =
     operand-has_cell (worked_on p v) (λ a. is_written a.mode) (task_of p u).accesses b c among tests.0 (ap (λ (q : Cell). same_cell q c) direct ∙ tests.2)
   where
     three : (x y z : Bool) → (x && y && z) ≡ true → (x ≡ true) × (y ≡ true) × (z ≡ true)
-    three true true true h = (refl, refl, refl)
-    three true true false h = absurd (false≢true h)
-    three true false z h = absurd (false≢true h)
-    three false y z h = absurd (false≢true h)
+    three x y z h = search (arith, false≢true)
 
 -- ---- cells at rest
 
 pub running-inside : (p : Program) (m : Machine) (s : State) (u : Task) (v : Worker) → HasRows p m s → progress s u ≡ Running v → u.0 < length p.tasks
-running-inside p m s u v rows running = omega (arith, progress-inside s u (λ h. not_waiting (sym running ∙ h)), rows.tasks)
-  where
-    not_waiting : Running v ≡ Waiting → ⊥
-    not_waiting e = cc
+running-inside p m s u v rows running = search (arith, progress-inside)
 
 -- a cell that isn't being written after a step wasn't before, unless the task of the step wrote it
 pub not_written-before : (p : Program) (m : Machine) (s s' : State) (t : Task) (old new : Progress) (c : Cell) → HasRows p m s → Advances s s' t old new → is_being_written p s' c ≡ false → ((v : Worker) → old ≡ Running v → has_cell (written_cells p t v) c ≡ false) → is_being_written p s c ≡ false
-not_written-before p m s s' t old new c rows a resting spared = false_from_ne_true (is_being_written p s c) (λ h. (let by = being_written-by p s c h in by_task by.0 (done_by s by.0) by.1 by.2))
-  where
-    by_task : (u : Task) (v : Worker) → progress s u ≡ Running v → has_cell (written_cells p u v) c ≡ true → ⊥
-    by_task u v running writes =
-        elim (same_task u t) [
-          | inl e ↦ false≢true (sym (spared v (sym a.was ∙ ap (λ (k : Task). progress s k) (sym e) ∙ running)) ∙ ap (λ (k : Task). has_cell (written_cells p k v) c) (sym e) ∙ writes)
-          | inr d ↦ false≢true (sym resting ∙ being_written-here p s' c u v (running-inside p m s u v rows running) (a.others u d ∙ running) writes)
-        ]
+not_written-before p m s s' t old new c rows a resting spared =
+    search (arith, false_from_ne_true, being_written-by, same_task, false≢true, being_written-here, running-inside)
 
 -- and the other way round: one that isn't being written isn't after a step whose task doesn't begin to write it
 pub not_written-after : (p : Program) (m : Machine) (s s' : State) (t : Task) (old new : Progress) (c : Cell) → HasRows p m s' → Advances s s' t old new → is_being_written p s c ≡ false → ((v : Worker) → new ≡ Running v → has_cell (written_cells p t v) c ≡ false) → is_being_written p s' c ≡ false

@@ -1,20 +1,14 @@
 -- What cells hold after tasks in submission order: on which tasks it depends, and that a task may come last.
-use Rattle.std.proofs.Common.{Bool, List, None, Option, Some, [], ap, arith, cond, false, inl, inr, length, map, not, refl, suc, sym, true, zero, ℕ, ◌++◌, ◌<◌, ◌||◌, ◌∙◌, ◌∷◌, ◌≡◌, ◌≢◌, ◌≤◌}
+use Rattle.std.proofs.Common.{Bool, List, None, Some, [], ap, arith, cond, false, inl, inr, length, map, not, refl, suc, sym, true, zero, ℕ, ◌++◌, ◌<◌, ◌||◌, ◌∙◌, ◌∷◌, ◌≡◌, ◌≢◌, ◌≤◌, Contains, find, zip}
 use Rattle.std.proofs.lemmas.Bool.{cases_lt, false_from_ne_true, false≢true, true≢false}
 use Rattle.std.proofs.lemmas.Bool.Decides.{Decides-eqb}
 use Rattle.std.proofs.lemmas.List.Folds.{find-append}
-use Rattle.std.specs.List.{Contains, filter, find, zip}
-use Rattle.std.specs.Option.{option_or}
-use Rattle.sj_core.proofs.Words.{Array, Cell, Program, Task, Worker, cells_of, dims_of, has_cell, results, same_cell, task_of, worked_on, writes, written_cells, zeros, found}
-use Rattle.sj_base.specs.Mode.{is_scratch, is_written, starts_as_zeros}
-use Rattle.sj_base.specs.declared.mode.Access.{Access}
-use Rattle.sj_codelet.specs.Kernel.{out}
+use Rattle.sj_core.proofs.Words.{Access, Array, Cell, Program, Task, Worker, cells_of, has_cell, results, same_cell, task_of, worked_on, written_cells}
+use Rattle.sj_base.specs.Mode.{is_scratch, starts_as_zeros}
 use Rattle.sj_core.specs.Fold.{Contents, after_chosen, after_task, held_in}
-use Rattle.sj_core.proofs.Advancing.{same_task}
 use Rattle.sj_core.proofs.Modes.{reads_isn't_scratch}
 use Rattle.sj_core.proofs.Readiness.{Contains-from_filter}
 use Rattle.sj_core.proofs.Sharing.{operand-has_cell}
-use Rattle.sj_core.proofs.TaskCells.{written-among_cells}
 
 abbrev pub number : ℕ → Task
 number n = record { 0 = n }
@@ -32,11 +26,7 @@ abbrev pub held_over : Contents → Cell → Array → Array
 held_over entries c below = elim (find (λ (entry : Cell × Array). same_cell entry.0 c) entries) as (λ _. Array) [ None ↦ below | Some entry ↦ entry.1 ]
 
 pub held-append : (p : Program) (xs ys : Contents) (c : Cell) → held_in p (xs ++ ys) c ≡ held_over xs c (held_in p ys c)
-held-append p xs ys c = ap (λ (o : Option (Cell × Array)). elim o as (λ _. Array) [ None ↦ zeros (dims_of p c) | Some entry ↦ entry.1 ]) (find-append (λ (entry : Cell × Array). same_cell entry.0 c) xs ys) ∙ by_first (find (λ (entry : Cell × Array). same_cell entry.0 c) xs)
-  where
-    by_first : (o : Option (Cell × Array)) → elim (option_or o (find (λ (entry : Cell × Array). same_cell entry.0 c) ys)) as (λ _. Array) [ None ↦ zeros (dims_of p c) | Some entry ↦ entry.1 ] ≡ elim o as (λ _. Array) [ None ↦ held_in p ys c | Some entry ↦ entry.1 ]
-    by_first None = refl
-    by_first (Some entry) = refl
+held-append p xs ys c = search (arith, find-append)
 
 -- arrays of other cells leave what the cell holds
 pub held_over-other : (cs : List Cell) (arrays : List Array) (c : Cell) (below : Array) → has_cell cs c ≡ false → held_over (zip cs arrays) c below ≡ below
@@ -62,17 +52,11 @@ held_over-own (d ∷ cs) (a ∷ arrays) c x y h l = by_first (same_cell d c) h (
 
 -- a task leaves what a cell holds that it doesn't write
 pub after_task-other : (p : Program) (w : Worker) (t : Task) (before : Contents) (c : Cell) → has_cell (written_cells p t w) c ≡ false → held_in p (after_task p w t before) c ≡ held_in p before c
-after_task-other p w t before c h =
-    let arrays = results p t w (held_in p before) in
-    held-append p (zip (written_cells p t w) arrays) before c ∙ held_over-other (written_cells p t w) arrays c (held_in p before c) h
+after_task-other p w t before c h = search (arith, held-append, held_over-other)
 
 -- a task's results depend on what it finds in the cells whose old value it reads
 pub results-same : (p : Program) (t : Task) (v w : Worker) (held held' : Cell → Array) → ((a : Access) → Contains (task_of p t).accesses a → starts_as_zeros a.mode ≡ false → held (worked_on p v a) ≡ held' (worked_on p w a)) → results p t v held ≡ results p t w held'
-results-same p t v w held held' same = ap (out (task_of p t).codelet (task_of p t).args) (map-same (found p v held) (found p w held') (task_of p t).accesses (λ a h. by_start a (starts_as_zeros a.mode) (same a h)))
-  where
-    by_start : (a : Access) (b : Bool) → (b ≡ false → held (worked_on p v a) ≡ held' (worked_on p w a)) → cond b (zeros (dims_of p a.cell)) (held (worked_on p v a)) ≡ cond b (zeros (dims_of p a.cell)) (held' (worked_on p w a))
-    by_start a true e = refl
-    by_start a false e = e refl
+results-same p t v w held held' same = search (arith, map-same)
 
 -- a cell whose old value a task reads is one of its cells
 pub read-among_cells : (p : Program) (t : Task) (w : Worker) (a : Access) → Contains (task_of p t).accesses a → starts_as_zeros a.mode ≡ false → has_cell (cells_of p t w) (worked_on p w a) ≡ true
@@ -84,9 +68,7 @@ abbrev pub WorksAlike : Program → Task → Worker → Worker → Type 0
 WorksAlike p t v w = (a : Access) → Contains (task_of p t).accesses a → worked_on p v a ≡ worked_on p w a
 
 pub written_cells-alike : (p : Program) (t : Task) (v w : Worker) → WorksAlike p t v w → written_cells p t v ≡ written_cells p t w
-written_cells-alike p t v w alike =
-    let writes : Access → Bool = λ a. is_written a.mode in
-    map-same (worked_on p v) (worked_on p w) (filter writes (task_of p t).accesses) (λ a h. alike a (Contains-from_filter writes (task_of p t).accesses a h))
+written_cells-alike p t v w alike = search (arith, map-same, Contains-from_filter)
 
 -- after a task a cell holds alike what it and the task's cells held alike
 pub after_task-same : (p : Program) (t : Task) (v w : Worker) (before before' : Contents) (c : Cell) → WorksAlike p t v w → ((d : Cell) → has_cell (cells_of p t v) d ≡ true → held_in p before d ≡ held_in p before' d) → held_in p before c ≡ held_in p before' c →
@@ -109,13 +91,7 @@ after_task-same p t v w before before' c alike same here =
 pub after_chosen-same : (p : Program) (chosen chosen' : Task → Bool) (by by' : Task → Worker) (n : ℕ) → ((u : Task) → u.0 < n → chosen u ≡ chosen' u) → ((u : Task) → u.0 < n → chosen u ≡ true → by u ≡ by' u) → after_chosen p chosen by n ≡ after_chosen p chosen' by' n
 after_chosen-same p chosen chosen' by by' zero same workers = refl
 after_chosen-same p chosen chosen' by by' (suc n) same workers =
-    by_choice (chosen (number n)) refl (after_chosen-same p chosen chosen' by by' n (λ u h. same u (omega arith)) (λ u h. workers u (omega arith)))
-    ∙ ap (λ b. cond b (after_task p (by' (number n)) (number n) (after_chosen p chosen' by' n)) (after_chosen p chosen' by' n)) (same (number n) (omega arith))
-  where
-    by_choice : (b : Bool) → chosen (number n) ≡ b → after_chosen p chosen by n ≡ after_chosen p chosen' by' n →
-        cond b (after_task p (by (number n)) (number n) (after_chosen p chosen by n)) (after_chosen p chosen by n) ≡ cond b (after_task p (by' (number n)) (number n) (after_chosen p chosen' by' n)) (after_chosen p chosen' by' n)
-    by_choice true e rest = ap (λ (w : Worker). after_task p w (number n) (after_chosen p chosen by n)) (workers (number n) (omega arith) e) ∙ ap (after_task p (by' (number n)) (number n)) rest
-    by_choice false e rest = rest
+    search (arith, number, after_chosen-same p chosen chosen' by by' n (λ u h. same u (omega arith)) (λ u h. workers u (omega arith)))
 
 -- where no chosen task from a on writes a cell, it holds what it held after the tasks below a
 pub held-until : (p : Program) (chosen : Task → Bool) (by : Task → Worker) (c : Cell) (a n : ℕ) → a ≤ n → ((u : Task) → a ≤ u.0 → u.0 < n → chosen u ≡ true → has_cell (written_cells p u (by u)) c ≡ false) →
@@ -177,71 +153,3 @@ pub record AddsTask (chosen chosen' : Task → Bool) (by by' : Task → Worker) 
   pub worker : by' t ≡ w
   pub others : (u : Task) → u ≢ t → chosen' u ≡ chosen u
   pub workers : (u : Task) → u ≢ t → by' u ≡ by u
-
--- no chosen task after t works on what t writes, or writes what t works on
-pub record MayComeLast (p : Program) (chosen : Task → Bool) (by : Task → Worker) (t : Task) (w : Worker) : Type 0 where
-  pub unread : (u : Task) (d : Cell) → t.0 < u.0 → chosen u ≡ true → has_cell (written_cells p t w) d ≡ true → has_cell (cells_of p u (by u)) d ≡ true → ⊥
-  pub unwritten : (u : Task) (d : Cell) → t.0 < u.0 → chosen u ≡ true → has_cell (written_cells p u (by u)) d ≡ true → has_cell (cells_of p t w) d ≡ true → ⊥
-
-module _ (p : Program) (chosen chosen' : Task → Bool) (by by' : Task → Worker) (t : Task) (w : Worker) (n : ℕ) (inside : t.0 < n) (adds : AddsTask chosen chosen' by by' t w) (last : MayComeLast p chosen by t w) where
-  chosen-before : (u : Task) → t.0 ≢ u.0 → chosen' u ≡ true → (chosen u ≡ true) × (by' u ≡ by u)
-  chosen-before u d h =
-      let other : u ≢ t = λ e. d (sym (ap (λ (k : Task). k.0) e)) in
-      (sym (adds.others u other) ∙ h, adds.workers u other)
-
-  -- t's cells hold after all chosen tasks what they held after those before t
-  inputs-hold : (d : Cell) → has_cell (cells_of p t w) d ≡ true → held_in p (after_chosen p chosen by n) d ≡ held_in p (after_chosen p chosen by t.0) d
-  inputs-hold d has = held-until p chosen by d t.0 n (omega arith) (λ u h k e. false_from_ne_true (has_cell (written_cells p u (by u)) d) (λ writes.
-      (let differ : t.0 ≢ u.0 = λ same. false≢true (sym adds.absent ∙ ap chosen (ap number same) ∙ e) in
-      last.unwritten u d (omega (arith, differ)) e writes has)))
-
-  written-last : (c : Cell) → has_cell (written_cells p t w) c ≡ true → held_in p (after_chosen p chosen' by' n) c ≡ held_in p (after_task p w t (after_chosen p chosen by n)) c
-  written-last c writes =
-      let has = written-among_cells p t w c writes in
-      let old = after_chosen p chosen by t.0 in
-      let later = held-until p chosen' by' c (suc t.0) n inside (λ u h k e. false_from_ne_true (has_cell (written_cells p u (by' u)) c) (λ over.
-      (let was = chosen-before u (omega arith) e in
-      last.unwritten u c (omega arith) was.0 (sym (ap (λ (v : Worker). has_cell (written_cells p u v) c) was.1) ∙ over) has))) in
-      let same : after_chosen p chosen' by' t.0 ≡ old = after_chosen-same p chosen' chosen by' by t.0 (λ u h. adds.others u (λ e. less_isn't_same u h (ap (λ (k : Task). k.0) e))) (λ u h e. adds.workers u (λ f. less_isn't_same u h (ap (λ (k : Task). k.0) f))) in
-      later
-      ∙ ap (λ b. held_in p (cond b (after_task p (by' t) t (after_chosen p chosen' by' t.0)) (after_chosen p chosen' by' t.0)) c) adds.present
-      ∙ ap (λ (v : Worker). held_in p (after_task p v t (after_chosen p chosen' by' t.0)) c) adds.worker
-      ∙ ap (λ (k : Contents). held_in p (after_task p w t k) c) same
-      ∙ sym (after_task-same p t w w (after_chosen p chosen by n) old c (λ a h. refl) inputs-hold (inputs-hold c has))
-    where
-      less_isn't_same : (u : Task) → u.0 < t.0 → u.0 ≡ t.0 → ⊥
-      less_isn't_same u h e = omega arith
-
-  other-last : (c : Cell) → has_cell (written_cells p t w) c ≡ false → held_in p (after_chosen p chosen' by' n) c ≡ held_in p (after_task p w t (after_chosen p chosen by n)) c
-  other-last c spared = sym (cone-holds p chosen chosen' by by' n cone c writers) ∙ sym (after_task-other p w t (after_chosen p chosen by n) c spared)
-    where
-      kept : (u : Task) → chosen u ≡ true → u ≢ t
-      kept u h e = false≢true (sym adds.absent ∙ ap chosen (sym e) ∙ h)
-
-      alike : (u : Task) → u.0 < n → chosen u ≡ true → WorksAlike p u (by u) (by' u)
-      alike u h e a among = ap (λ (v : Worker). worked_on p v a) (sym (adds.workers u (kept u e)))
-
-      closed : (u v : Task) (d : Cell) → u.0 < v.0 → v.0 < n → chosen v ≡ true → chosen' u ≡ true → has_cell (written_cells p u (by' u)) d ≡ true → has_cell (cells_of p v (by v)) d ≡ true → chosen u ≡ true
-      closed u v d before h e f writes has =
-          elim (same_task u t) [
-            | inl same ↦ absurd (last.unread v d (omega (arith, ap (λ (k : Task). k.0) same)) e (sym (ap (λ (k : Worker). has_cell (written_cells p t k) d) adds.worker) ∙ ap (λ (k : Task). has_cell (written_cells p k (by' k)) d) (sym same) ∙ writes) has)
-            | inr d ↦ sym (adds.others u d) ∙ f
-          ]
-
-      cone : IsCone p chosen chosen' by by' n
-      cone = record { within = λ u h e. adds.others u (kept u e) ∙ e; alike = alike; closed = closed }
-
-      writers : HasWriters p chosen chosen' by' n c
-      writers u h e writes =
-          elim (same_task u t) [
-            | inl same ↦ absurd (true≢false (sym writes ∙ ap (λ (k : Task). has_cell (written_cells p k (by' k)) c) same ∙ ap (λ (k : Worker). has_cell (written_cells p t k) c) adds.worker ∙ spared))
-            | inr d ↦ sym (adds.others u d) ∙ e
-          ]
-
-  -- a task that may come last may be put last
-  pub insertion : (c : Cell) → held_in p (after_chosen p chosen' by' n) c ≡ held_in p (after_task p w t (after_chosen p chosen by n)) c
-  insertion c = by_cases (has_cell (written_cells p t w) c) refl
-    where
-      by_cases : (b : Bool) → has_cell (written_cells p t w) c ≡ b → held_in p (after_chosen p chosen' by' n) c ≡ held_in p (after_task p w t (after_chosen p chosen by n)) c
-      by_cases true e = written-last c e
-      by_cases false e = other-last c e

@@ -1,17 +1,10 @@
 -- What a claimed or running task finds where it works, whatever the modes: the content of each cell whose old value it reads.
-use Rattle.std.proofs.Common.{Bool, ap, cond, false, inl, inr, not, refl, subst, sym, true, ◌<◌, ◌∙◌, ◌≡◌, ◌⊎◌}
-use Rattle.std.specs.List.{Contains}
-use Rattle.std.specs.Prelude.{IsTrue, unwrap_or}
+use Rattle.std.proofs.Common.{arith, Bool, ap, cond, false, not, refl, subst, sym, true, ◌<◌, ◌∙◌, ◌≡◌, ◌⊎◌, Contains, IsTrue}
 use Rattle.std.proofs.lemmas.Bool.{false_from_ne_true, false≢true}
 use Rattle.std.proofs.lemmas.Bool.Decides.{Decides-eqb}
 use Rattle.sj_base.specs.Mode.{is_redux, is_scratch, starts_as_zeros}
-use Rattle.sj_base.specs.declared.mode.Access.{Access}
-use Rattle.sj_base.specs.declared.mode.Mode.{Mode}
-use Rattle.sj_base.specs.declared.mode.Mode.TheVariants.{Commute as CommuteMode, R, RW, Redux, Scratch, W}
-use Rattle.sj_base.specs.declared.program.Codelet.{Codelet}
 use Rattle.sj_deps.specs.Conflict.{Uses}
-use Rattle.sj_deps.specs.declared.manner.Manner.TheVariants.{Write}
-use Rattle.sj_core.proofs.Words.{AtNode, Cell, Machine, Program, Replica, Running, State, Task, Worker, array_of, cells_of, copy_of, data_operands, dims_of, fresh_cells, has_cell, is_running_on, is_task_of, is_valid, no_task, node_of, progress, replica, same_cell, task_of, worked_on, written_cells, zeros}
+use Rattle.sj_core.proofs.Words.{Access, AtNode, Cell, Codelet, Machine, Mode, Program, R, Running, State, Task, W, Worker, Write, array_of, cells_of, copy_of, data_operands, dims_of, fresh_cells, has_cell, is_running_on, is_task_of, is_valid, no_task, node_of, progress, replica, same_cell, task_of, worked_on, written_cells, zeros}
 use Rattle.sj_core.specs.Coherent.{Coherent, content}
 use Rattle.sj_core.specs.Proper.{Proper}
 use Rattle.sj_core.specs.Step.{array_at}
@@ -20,7 +13,7 @@ use Rattle.sj_core.proofs.Dependencies.{Proper-dependencies}
 use Rattle.sj_core.proofs.Finding.{array-told, not_being_written}
 use Rattle.sj_core.proofs.Folding.{read-among_cells}
 use Rattle.sj_core.proofs.Modes.{reads_isn't_scratch}
-use Rattle.sj_core.proofs.OperandCells.{operand-inside}
+use Rattle.sj_core.proofs.TaskCells.{operand-inside}
 use Rattle.sj_core.proofs.Readiness.{AllPairs-two, Contains-filter, Contains-from_filter, filter-Contains}
 use Rattle.sj_core.proofs.Replicas.{same_worker-refl}
 use Rattle.sj_core.proofs.Separation.{worker-inside}
@@ -51,20 +44,10 @@ module _ (p : Program) (proper : Proper p) where
       direct x e = ap (λ b. cond b (copy_of p x.cell w) x.cell) e
 
       fresh-write : (k : Codelet) (x : Mode) → not (is_scratch x) ≡ true → starts_as_zeros x ≡ true → (x ≡ W) × (manner_of k x ≡ Write)
-      fresh-write k R e f = absurd (false≢true f)
-      fresh-write k W e f = (refl, refl)
-      fresh-write k RW e f = absurd (false≢true f)
-      fresh-write k Scratch e f = absurd (false≢true e)
-      fresh-write k Redux e f = absurd (false≢true f)
-      fresh-write k CommuteMode e f = absurd (false≢true f)
+      fresh-write k x e f = search (arith, false≢true)
 
       reads-update : (k : Codelet) (x : Mode) → starts_as_zeros x ≡ false → manner_of k x ≡ Write → is_redux x ≡ false
-      reads-update k R e f = refl
-      reads-update k W e f = refl
-      reads-update k RW e f = refl
-      reads-update k Scratch e f = refl
-      reads-update k Redux e f = absurd (cc)
-      reads-update k CommuteMode e f = refl
+      reads-update k x e f = search arith
 
       same : (x y : Cell) → x ≡ y → same_cell x y ≡ true
       same x y e = (Decides-eqb x.0 y.0).1 (ap (λ (q : Cell). q.0) e)
@@ -73,9 +56,7 @@ module _ (p : Program) (proper : Proper p) where
       read_isn't_fresh x e f = false≢true (sym (ap starts_as_zeros f) ∙ e)
 
       by_places : (a b : Access) → starts_as_zeros a.mode ≡ false → starts_as_zeros b.mode ≡ true → a.cell ≡ b.cell → ((a ≡ b) ⊎ ((IsTrue (same_cell a.cell b.cell) → (a.mode ≡ R) × (b.mode ≡ R)) ⊎ (IsTrue (same_cell b.cell a.cell) → (b.mode ≡ R) × (a.mode ≡ R)))) → ⊥
-      by_places a b reads fresh e (inl one) = false≢true (sym reads ∙ ap (λ (x : Access). starts_as_zeros x.mode) one ∙ fresh)
-      by_places a b reads fresh e (inr (inl pair)) = read_isn't_fresh b.mode fresh (pair (same a.cell b.cell e)).1
-      by_places a b reads fresh e (inr (inr pair)) = read_isn't_fresh b.mode fresh (pair (same b.cell a.cell (sym e))).0
+      by_places a b reads fresh e x = search (arith, false≢true, read_isn't_fresh, same)
 
   module _ (m : Machine) (s : State) (sound : Coherent p m s) (t : Task) (w : Worker) (mine : is_task_of w (progress s t) ≡ true) where
     task-staffed : w.0 < p.workers
@@ -103,9 +84,4 @@ module _ (p : Program) (proper : Proper p) where
             array-told (array_of (replica s c (AtNode (node_of m w)))) (content p s c) (zeros (dims_of p c)) valid (sound.copies.alike c (AtNode (node_of m w)) some resting)
 
         by_kind : (x : Bool) → is_running_on w (progress s t) ≡ x → (y : Bool) → has_cell (written_cells p t w) c ≡ y → array_at p s (AtNode (node_of m w)) c ≡ content p s c
-        by_kind true e true f =
-            let owned = sound.writers.owned t w c (running_on-is w (progress s t) e) f in
-            ap (λ (r : Replica). unwrap_or (array_of r) (zeros (dims_of p c))) owned.valid
-            ∙ ap (λ b. cond b (zeros (dims_of p c)) (content p s c)) not_fresh
-        by_kind true e false f = shared (λ k. f)
-        by_kind false e y f = shared (λ k. absurd (false≢true (sym e ∙ ap (is_running_on w) k ∙ same_worker-refl w)))
+        by_kind x e y f = search (arith, c, running_on-is, not_fresh, shared, false≢true, same_worker-refl)

@@ -1,18 +1,13 @@
 -- What a task finds where it works: the contents of its cells; and in a settled cell of an access in order what all tasks before it leave, in
 -- submission order. Where all tasks are done, cells hold what all tasks leave.
-use Rattle.std.proofs.Common.{Bool, List, [], ap, arith, false, get_or, inl, inr, length, map, not, refl, subst, sym, true, ℕ, ◌<◌, ◌||◌, ◌∙◌, ◌∷◌, ◌≡◌, ◌≢◌, ◌&&◌, ◌⊎◌}
+use Rattle.std.proofs.Common.{Bool, List, [], ap, arith, false, get_or, inl, inr, length, map, not, refl, subst, sym, true, ℕ, ◌<◌, ◌||◌, ◌∙◌, ◌∷◌, ◌≡◌, ◌≢◌, ◌&&◌, ◌⊎◌, Contains, filter, slice_index_or, IfSome, IsTrue, is_some}
 use Rattle.std.proofs.lemmas.Bool.{false_from_ne_true, false≢true}
 use Rattle.std.proofs.lemmas.List.Elements.{All-contains, Contains-get_or}
 use Rattle.std.proofs.lemmas.List.Folds.{Any-from_list_any}
 use Rattle.std.proofs.lemmas.List.Sums.{AllPass-from_list_all}
-use Rattle.std.specs.List.{Contains, filter, slice_index_or}
-use Rattle.std.specs.Prelude.{IfSome, IsTrue, is_some}
 use Rattle.sj_base.specs.Mode.{is_in_order, is_redux, is_scratch, is_written, reads_value}
-use Rattle.sj_base.specs.declared.mode.Access.{Access}
-use Rattle.sj_base.specs.declared.mode.Mode.TheVariants.{R, RW, Redux, W}
-use Rattle.sj_codelet.specs.declared.kernel.Kernel.{Kernel}
 use Rattle.sj_deps.specs.Conflict.{Conflict}
-use Rattle.sj_core.proofs.Words.{Array, AtNode, Cell, Machine, Program, Progress, Running, State, Task, Waiting, Worker, array_of, cell_info, cells_of, copy_of, done_by, done_in, has_cell, is_done, is_task_of, node_of, progress, replica, same_cell, task_of, worked_on, worker_of, writes, written_cells}
+use Rattle.sj_core.proofs.Words.{Access, Array, AtNode, Cell, Kernel, Machine, Program, Progress, R, RW, Redux, Running, State, Task, W, Waiting, Worker, array_of, cell_info, cells_of, copy_of, done_by, done_in, has_cell, is_done, is_task_of, node_of, progress, replica, same_cell, task_of, worked_on, worker_of, writes, written_cells}
 use Rattle.sj_core.specs.Coherent.{content, has_written, is_begun, is_being_written}
 use Rattle.sj_core.specs.Fold.{given, held_before, held_in}
 use Rattle.sj_core.specs.Laws.{Brought, HasAtHand, HoldsFinal, IsLawful, IsSettled, IsSound, Works, final}
@@ -20,20 +15,18 @@ use Rattle.sj_core.specs.Legal.{IsComplete}
 use Rattle.sj_core.specs.Proper.{IsContribution, IsFirstUnit, IsMember, IsOpenAt, IsPhase, IsPlain, Phase, Proper, access, gives_value, task_number}
 use Rattle.sj_core.specs.Step.{EarlierAreDone, array_at}
 use Rattle.sj_core.proofs.Advancing.{done-begun}
-use Rattle.sj_core.proofs.Contents.{all-staffed, later-free}
+use Rattle.sj_core.proofs.Ending.{all-staffed, later-free}
 use Rattle.sj_core.proofs.Copies.{combine-of, direct-cell, init-of}
-use Rattle.sj_core.proofs.Depending.{cone-shared, in_order-conflicts}
+use Rattle.sj_core.proofs.Workers.{cone-shared, in_order-conflicts, workers-alike}
 use Rattle.sj_core.proofs.Dependencies.{one_is}
-use Rattle.sj_core.proofs.Finding.{being_written-by, gives-writes, task-counted}
+use Rattle.sj_core.proofs.Finding.{being_written-by, gives-writes, task-counted, running-inside}
 use Rattle.sj_core.proofs.Folding.{after_chosen-same, held-until, read-among_cells}
 use Rattle.sj_core.proofs.Found.{found-content}
 use Rattle.sj_core.proofs.Modes.{plain_isn't_redux, reads_isn't_scratch}
-use Rattle.sj_core.proofs.OperandCells.{operand-inside}
+use Rattle.sj_core.proofs.TaskCells.{operand-inside}
 use Rattle.sj_core.proofs.Readiness.{Contains-filter}
-use Rattle.sj_core.proofs.Reading.{progress-inside}
 use Rattle.sj_core.proofs.Replicas.{same_worker-refl}
 use Rattle.sj_core.proofs.Sharing.{Conflict-sym, one, redux-has_copies}
-use Rattle.sj_core.proofs.Workers.{workers-alike}
 
 -- ---- phases
 
@@ -77,14 +70,7 @@ module _ (p : Program) (proper : Proper p) where
           cc
 
       by_kind : (f : Phase) → IsPhase p f → IsMember f t.0 ⊎ IsFirstUnit p f t.0 → ⊥
-      by_kind f phase (inl (inl init)) = of_phase f phase (inl init)
-      by_kind f phase (inl (inr (inr combine))) = of_phase f phase (inr combine)
-      by_kind f phase (inl (inr (inl own))) =
-          let named = (All-contains (λ i. IsContribution f.by f.cell (task_number p i)) f.contributions t.0 phase.contributions own).operand in
-          let e = one_is (access R c) (access Redux f.cell) (subst (λ (xs : List Access). Contains xs (access Redux f.cell)) alone named) in
-          let g : R ≡ Redux = ap (λ (b : Access). b.mode) e in
-          cc
-      by_kind f phase (inr first) = fills_not f.cell first.init.operands
+      by_kind f phase x = search (arith, of_phase, All-contains, one_is, fills_not)
 
 -- ---- what a task finds
 
@@ -151,15 +137,8 @@ module _ (p : Program) (m : Machine) (s : State) (h : IsSound p m s) where
     all-done u inside = AllPass-from_list_all is_done s.tasks complete u.0 Waiting (omega (arith, inside, h.coherent.state.rows.tasks))
 
     none-written : (c : Cell) → is_being_written p s c ≡ false
-    none-written c = false_from_ne_true (is_being_written p s c) (λ writing. (let by = being_written-by p s c writing in by_task by.0 by.1))
-      where
-        not_waiting : (v : Worker) → Running v ≡ Waiting → ⊥
-        not_waiting v e = cc
-
-        by_task : (u : Task) → progress s u ≡ Running (done_by s u) → ⊥
-        by_task u running =
-            let inside : u.0 < length p.tasks = omega (arith, progress-inside s u (λ e. not_waiting (done_by s u) (sym running ∙ e)), h.coherent.state.rows.tasks) in
-            false≢true (sym (ap is_done running) ∙ all-done u inside)
+    none-written c =
+        search (arith, false_from_ne_true, being_written-by, running-inside, false≢true, all-done, h.coherent.state.rows)
 
     -- a cell to which a task gives a value has been written
     all-written : (t : Task) (c : Cell) → gives_value (task_of p t) c ≡ true → 0 < writes s c

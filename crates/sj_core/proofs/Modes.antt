@@ -1,23 +1,18 @@
 -- What a mode says of its operand, by a look at each mode.
-use Rattle.std.proofs.Common.{Bool, [], false, lit<, not, refl, true, ◌||◌, ◌∷◌, ◌≡◌, List}
+use Rattle.std.proofs.Common.{arith, Bool, [], false, not, refl, true, ◌||◌, ◌∷◌, ◌≡◌, List}
 use Rattle.std.proofs.lemmas.Bool.{and_parts, false≢true, not-true, not-false}
 use Rattle.std.proofs.lemmas.List.Sums.{AllPass-from_list_all}
 use Rattle.std.specs.List.{list_all}
+use Rattle.sj_core.proofs.Words.{Mode, R, RW, Redux, Scratch, W}
 use Rattle.sj_base.specs.Mode.{is_in_order, starts_as_zeros, is_written, is_scratch, is_commute, is_redux, reads_value}
-use Rattle.sj_base.specs.declared.mode.Mode.{Mode}
-use Rattle.sj_base.specs.declared.mode.Mode.TheVariants.{Commute, R, RW, Redux, Scratch, W}
+use Rattle.sj_base.specs.declared.mode.Mode.TheVariants.{Commute}
 
 abbrev modes : List Mode
 modes = R ∷ W ∷ RW ∷ Scratch ∷ Redux ∷ Commute ∷ []
 
 -- a test that each mode passes
 pub every_mode : (test : Mode → Bool) → list_all test modes ≡ true → (x : Mode) → test x ≡ true
-every_mode test all R = AllPass-from_list_all test modes all 0 R (lit< tt)
-every_mode test all W = AllPass-from_list_all test modes all 1 R (lit< tt)
-every_mode test all RW = AllPass-from_list_all test modes all 2 R (lit< tt)
-every_mode test all Scratch = AllPass-from_list_all test modes all 3 R (lit< tt)
-every_mode test all Redux = AllPass-from_list_all test modes all 4 R (lit< tt)
-every_mode test all Commute = AllPass-from_list_all test modes all 5 R (lit< tt)
+every_mode test all x = search (arith, AllPass-from_list_all, modes)
 
 -- where a test or another is passed, and the first isn't, the other is
 pub then : (a b : Bool) → (not a || b) ≡ true → a ≡ true → b ≡ true
@@ -41,6 +36,3 @@ commute_isn't_redux x h = not-true (is_redux x) (then (is_commute x) (not (is_re
 
 pub plain_isn't_redux : (x : Mode) → is_in_order x ≡ true → is_redux x ≡ false
 plain_isn't_redux x h = not-true (is_redux x) (and_parts (not (is_redux x)) (not (is_commute x)) h).0
-
-pub plain_isn't_commute : (x : Mode) → is_in_order x ≡ true → is_commute x ≡ false
-plain_isn't_commute x h = not-true (is_commute x) (and_parts (not (is_redux x)) (not (is_commute x)) h).1

@@ -1,23 +1,19 @@
 -- The opening state is coherent.
-use Rattle.std.proofs.Common.{Option, None, Some, List, [], ap, arith, cond, get_or, inl, inr, length, refl, replicate, suc, sym, true, zero, ℕ, ◌&&◌, ◌+◌, ◌<◌, ◌∙◌, ◌∷◌, ◌≡◌, ◌⊎◌}
+use Rattle.std.proofs.Common.{Option, None, Some, List, [], ap, arith, cond, get_or, inl, inr, length, refl, replicate, suc, sym, true, zero, ℕ, ◌&&◌, ◌<◌, ◌∙◌, ◌≡◌, ◌⊎◌, count_by}
 use Rattle.std.proofs.lemmas.Bool.{cases_lt, false≢true}
 use Rattle.std.proofs.lemmas.List.{get_or-replicate, get_or_past, length-replicate}
 use Rattle.std.proofs.lemmas.List.Elements.{All-replicate}
-use Rattle.std.specs.Prelude.{count_by, fold, sum_by}
-use Rattle.sj_core.proofs.Words.{AtNode, Cell, CellState, Coming, Invalid, Leaving, Machine, Node, OnDisk, Place, Program, Task, Transfer, Waiting, Worker, WorkerState, cell_state, done_by, has_cell, is_coming_by, is_done, is_entry, is_leaving_by, is_task_of, is_valid, no_replica, opening, order, pins, progress, replica, replica_in, same_cell, scratch, tasks_of, tile_bytes, transfer, worker_state, workers_at, writes, written_cells, used}
+use Rattle.sj_core.proofs.Words.{AtNode, Cell, CellState, Coming, Invalid, Leaving, Machine, Node, OnDisk, Place, Program, Task, Transfer, Waiting, Worker, WorkerState, cell_state, done_by, has_cell, is_coming_by, is_done, is_entry, is_leaving_by, is_task_of, is_valid, no_replica, opening, order, pins, progress, replica, same_cell, scratch, tasks_of, transfer, worker_state, writes, written_cells, used}
 use Rattle.sj_core.specs.Coherent.{Coherent, has_written, is_active, is_begun}
 use Rattle.sj_core.proofs.Reading.{idle_row, no_row, replica_in-no_row}
 use Rattle.sj_core.proofs.Advancing.{claimed-is_mine}
 use Rattle.sj_core.proofs.Replicas.{same_worker-refl}
+use Rattle.sj_core.proofs.Sums.{sum-nothing}
 
 all_same : {X : Type 0} (n i : ℕ) (a : X) → get_or (replicate n a) i a ≡ a
 all_same zero i a = refl
 all_same (suc n) zero a = refl
 all_same (suc n) (suc i) a = all_same n i a
-
-sum-zero : {X : Type 0} (f : X → ℕ) → ((x : X) → f x ≡ 0) → (a : ℕ) (xs : List X) → fold (λ b x. b + f x) a xs ≡ a
-sum-zero f none a [] = refl
-sum-zero f none a (x ∷ xs) = ap (λ b. fold (λ c y. c + f y) b xs) (let e = none x in omega arith) ∙ sum-zero f none a xs
 
 module _ (p : Program) (m : Machine) where
   waits : (t : Task) → progress (opening p m) t ≡ Waiting
@@ -30,22 +26,10 @@ module _ (p : Program) (m : Machine) where
   empty n = all_same (length m.nodes) n.0 []
 
   a_row : (c : Cell) → (cell_state (opening p m) c ≡ no_replica m) ⊎ (cell_state (opening p m) c ≡ no_row)
-  a_row c =
-      elim (cases_lt c.0 (length p.cells)) [
-        | inl inside ↦ inl (get_or-replicate (length p.cells) c.0 (no_replica m) no_row inside)
-        | inr past ↦ inr (get_or_past (replicate (length p.cells) (no_replica m)) c.0 no_row (let e = length-replicate (length p.cells) (no_replica m) in omega arith))
-      ]
+  a_row c = search (arith, cases_lt, get_or-replicate, no_row, get_or_past, length-replicate)
 
   nowhere : (c : Cell) (q : Place) → replica (opening p m) c q ≡ Invalid
-  nowhere c q =
-      elim (a_row c) [
-        | inl row ↦ ap (λ (r : CellState). replica_in r q) row ∙ none q
-        | inr row ↦ ap (λ (r : CellState). replica_in r q) row ∙ replica_in-no_row q
-      ]
-    where
-      none : (q : Place) → replica_in (no_replica m) q ≡ Invalid
-      none (AtNode n) = all_same (length m.nodes) n.0 Invalid
-      none (OnDisk d) = all_same (length m.disks) d.0 Invalid
+  nowhere c q = search (arith, a_row, replica_in-no_row, all_same)
 
   unwritten : (c : Cell) → writes (opening p m) c ≡ 0
   unwritten c = elim (a_row c) [ inl row ↦ ap (λ (r : CellState). r.writes) row | inr row ↦ ap (λ (r : CellState). r.writes) row ]
@@ -75,13 +59,10 @@ module _ (p : Program) (m : Machine) where
   no_scratch w = ap (λ (row : WorkerState). row.scratch) (idle w)
 
   nothing_used : (n : Node) → used p m (opening p m) n ≡ 0
-  nothing_used n =
-      let entries = ap (λ (cs : List Cell). sum_by (tile_bytes p) cs) (empty n) in
-      let held = sum-zero (scratch (opening p m)) no_scratch 0 (workers_at m n) in
-      omega arith
+  nothing_used n = search (arith, empty, sum-nothing, no_scratch)
 
   none_written : (c : Cell) → count_by (has_written p (opening p m) c) (tasks_of p) ≡ 0
-  none_written c = sum-zero (λ t. cond (has_written p (opening p m) c t) 1 0) (λ t. ap (λ x. cond (is_done x && has_cell (written_cells p t (done_by (opening p m) t)) c) 1 0) (waits t)) 0 (tasks_of p)
+  none_written c = sum-nothing (λ t. cond (has_written p (opening p m) c t) 1 0) (λ t. ap (λ x. cond (is_done x && has_cell (written_cells p t (done_by (opening p m) t)) c) 1 0) (waits t)) (tasks_of p)
 
   not_positive : (c : Cell) → 0 < writes (opening p m) c → ⊥
   not_positive c h = let e = unwritten c in omega arith

@@ -1,28 +1,20 @@
 -- The phases of a program: which tasks contribute to a cell, and what stands between them.
-use Rattle.std.proofs.Common.{Bool, List, None, Option, Some, ap, arith, cond, get_or, inl, inr, length, not, refl, subst, sym, true, ℕ, ◌<◌, ◌&&◌, ◌∙◌, ◌≡◌, ◌≢◌, ◌≤◌, ◌⊎◌}
-use Rattle.std.specs.Prelude.{All, IsTrue, is_some}
-use Rattle.std.specs.List.{Contains}
+use Rattle.std.proofs.Common.{Bool, List, None, Option, Some, ap, arith, get_or, inl, inr, length, not, refl, subst, sym, true, ℕ, ◌<◌, ◌&&◌, ◌∙◌, ◌≡◌, ◌≢◌, ◌≤◌, ◌⊎◌, All, IsTrue, Contains}
 use Rattle.std.proofs.lemmas.Bool.{and_from, cases_lt}
 use Rattle.std.proofs.lemmas.List.Elements.{All-contains, All-get_or, Contains-get_or}
-use Rattle.sj_base.specs.Mode.{is_redux, is_scratch}
-use Rattle.sj_base.specs.declared.mode.Access.{Access}
-use Rattle.sj_base.specs.declared.mode.Mode.{Mode}
-use Rattle.sj_base.specs.declared.mode.Mode.TheVariants.{R, Redux, W}
+use Rattle.sj_base.specs.Mode.{is_scratch}
 use Rattle.sj_codelet.specs.Kernel.{combine_of, contributes_of, has_reduction, init_of, kernel_of}
 use Rattle.sj_codelet.specs.Laws.{DoesContribute, IsReduction}
-use Rattle.sj_codelet.specs.declared.kernel.Kernel.{Kernel}
 use Rattle.sj_deps.specs.Conflict.{Conflict, Uses}
-use Rattle.sj_deps.specs.declared.manner.Manner.TheVariants.{Contribute, Read}
-use Rattle.sj_core.proofs.Words.{Cell, Program, Task, Worker, copy_of, no_task, task_of, worked_on}
+use Rattle.sj_core.proofs.Words.{Access, Cell, Contribute, Kernel, Mode, Program, R, Read, Redux, Task, W, Worker, copy_of, no_task, task_of, worked_on}
 use Rattle.sj_core.specs.Laws.{IsLawful, is_known}
 use Rattle.sj_core.specs.Proper.{IsContribution, IsCopyOf, IsFirstUnit, IsMember, IsOpenAt, IsPhase, Phase, Proper, access, task_number}
 use Rattle.sj_core.proofs.Combining.{contributing-exchange}
 use Rattle.sj_core.proofs.Dependencies.{Proper-dependencies, own-of_phase}
-use Rattle.sj_core.proofs.Exchanging.{ContributionsExchange}
-use Rattle.sj_core.proofs.OperandCells.{operand-inside}
+use Rattle.sj_core.proofs.Updating.{ContributionsExchange, operand-used}
+use Rattle.sj_core.proofs.TaskCells.{operand-inside}
 use Rattle.sj_core.proofs.Readiness.{Contains-filter}
-use Rattle.sj_core.proofs.Sharing.{manner_of, redux-has_copies}
-use Rattle.sj_core.proofs.Updating.{operand-used}
+use Rattle.sj_core.proofs.Sharing.{manner_of, redux-has_copies, contribute_isn't_read}
 
 abbrev pub numbered : ℕ → Task
 numbered n = record { 0 = n }
@@ -49,9 +41,7 @@ module _ (p : Program) (proper : Proper p) where
 
   -- the copy that is worked on is one of the operand's cell
   pub copy-of : (t : Task) → t.0 < length p.tasks → (w : Worker) → w.0 < p.workers → (a : Access) → Contains (task_of p t).accesses a → a.mode ≡ Redux → IsCopyOf p (worked_on p w a) a.cell w
-  copy-of t inside w staffed a h redux =
-      let copies = redux-has_copies p proper.cells t inside a.mode a.cell h (ap is_redux redux) in
-      record { has_copies = ap is_some copies.1.1; of_worker = staffed; is = ap (λ b. cond b (copy_of p a.cell w) a.cell) (ap is_redux redux) }
+  copy-of t inside w staffed a h redux = search (arith, redux-has_copies)
 
   module _ (f : Phase) (phase : IsPhase p f) (w : Worker) (staffed : w.0 < p.workers) where
     -- the task that fills the worker's copy, and the one that combines it
@@ -149,6 +139,3 @@ module _ (p : Program) (proper : Proper p) where
               written = λ both. (let e = both.0 in contribute_isn't_read e);
               apart = λ m g. contribute_isn't_read (deps.manners t.0 q.0 Contribute m first g.first ∙ sym (g.alike k Read (inl (combine-after f phase w w_in t.0 among, omega (arith, past, differ))) combines));
             }
-          where
-            contribute_isn't_read : Contribute ≡ Read → ⊥
-            contribute_isn't_read e = cc

@@ -1,54 +1,37 @@
 -- The tasks that are done in a state, as a list and as a test; when a waiting task is ready.
-use Rattle.std.proofs.Common.{◌||◌, Bool, List, [], ap, arith, cond, false, get_or, inl, inr, length, refl, subst, suc, sym, true, zero, ℕ, ◌<◌, ◌∙◌, ◌∷◌, ◌≡◌, ◌⊎◌, map}
-use Rattle.std.proofs.lemmas.Bool.{cases_eq, cases_lt}
-use Rattle.std.proofs.lemmas.List.{get_or_default, get_or_past}
+use Rattle.std.proofs.Common.{◌||◌, Bool, List, [], ap, arith, false, get_or, inl, inr, length, refl, subst, sym, true, ℕ, ◌<◌, ◌∙◌, ◌∷◌, ◌≡◌, ◌⊎◌, map, ◌++◌, not, Contains, filter, AllPairs}
+use Rattle.std.proofs.lemmas.List.Sorted.{Contains-permutation, IsPermutation-filter_both}
+use Rattle.std.proofs.lemmas.List.Elements.{All-contains, All-contains_itself, All-filter, Contains-append_cases, filter_passes}
+use Rattle.std.proofs.lemmas.Bool.{cases_eq, cases_lt, false≢true}
+use Rattle.std.proofs.lemmas.List.{get_or_default, get_or_past, get_or-map, length-map}
 use Rattle.std.proofs.lemmas.List.Folds.{Any-from_list_any}
 use Rattle.std.proofs.lemmas.List.FromFn.{get_or-range_with_len, length-range_with_len}
 use Rattle.std.proofs.lemmas.List.Sums.{AllPass-from_list_all}
-use Rattle.std.specs.List.{Contains, filter, list_all, list_any, range_with_len}
-use Rattle.std.specs.Prelude.{AllPairs}
+use Rattle.std.specs.List.{list_all, list_any, range_with_len}
 use Rattle.sj_core.proofs.Words.{Program, State, Task, Waiting, done_in, is_done, progress}
 use Rattle.sj_deps.specs.Conflict.{Ready}
 use Rattle.sj_core.specs.Step.{EarlierAreDone, after, done_tasks}
 
-Contains-cons : {X : Type 0} (y : X) (xs : List X) (x : X) → Contains xs x → Contains (y ∷ xs) x
-Contains-cons y xs x (k, l, e) = (suc k, omega arith, e)
+-- what a filter keeps passes the test
+pub filter-Contains : {X : Type 0} (f : X → Bool) (xs : List X) (x : X) → Contains (filter f xs) x → f x ≡ true
+filter-Contains f xs x h = All-contains (λ y. f y ≡ true) (filter f xs) x (filter_passes f xs) h
 
-Contains-head : {X : Type 0} (x : X) (xs : List X) → Contains (x ∷ xs) x
-Contains-head x xs = (0, omega arith, refl)
+-- and is in the list
+pub Contains-from_filter : {X : Type 0} (f : X → Bool) (xs : List X) (x : X) → Contains (filter f xs) x → Contains xs x
+Contains-from_filter f xs x h = All-contains (Contains xs) (filter f xs) x (All-filter f (Contains xs) xs (All-contains_itself xs)) h
 
 -- what passes the test is kept by a filter
 pub Contains-filter : {X : Type 0} (f : X → Bool) (xs : List X) (x : X) → f x ≡ true → Contains xs x → Contains (filter f xs) x
-Contains-filter f [] x h (k, l, e) = absurd (omega arith)
-Contains-filter f (y ∷ xs) x h (zero, l, e) =
-    let test : f y ≡ true = ap f e ∙ h in
-    rw test (subst (λ z. Contains (y ∷ filter f xs) z) e (Contains-head y (filter f xs)))
-Contains-filter f (y ∷ xs) x h (suc k, l, e) =
-    let rest = Contains-filter f xs x h (k, omega arith, e) in
-    elim (f y) as (λ b. Contains (cond b (y ∷ filter f xs) (filter f xs)) x) [ true ↦ Contains-cons y (filter f xs) x rest | false ↦ rest ]
+Contains-filter {X} f xs x passes h =
+    let fails : X → Bool = λ y. not (f y) in
+    let both = Contains-permutation xs (filter f xs ++ filter fails xs) x (IsPermutation-filter_both f fails (λ y. refl) xs) h in
+    elim (Contains-append_cases (filter f xs) (filter fails xs) x both) [
+      | inl kept ↦ kept
+      | inr other ↦ absurd (false≢true (sym (ap not passes) ∙ filter-Contains fails xs x other))
+    ]
 
--- what a filter keeps passes the test
-pub filter-Contains : {X : Type 0} (f : X → Bool) (xs : List X) (x : X) → Contains (filter f xs) x → f x ≡ true
-filter-Contains f [] x (k, l, e) = absurd (omega arith)
-filter-Contains {X} f (y ∷ xs) x c = kept (f y) refl (filter-Contains f xs x) c
-  where
-    kept : (b : Bool) → f y ≡ b → (Contains (filter f xs) x → f x ≡ true) → Contains (cond b (y ∷ filter f xs) (filter f xs)) x → f x ≡ true
-    kept true e rest (zero, l, same) = ap f (sym same) ∙ e
-    kept true e rest (suc k, l, same) = rest (k, omega arith, same)
-    kept false e rest c = rest c
-
--- what a filter keeps is in the list
-pub Contains-from_filter : {X : Type 0} (f : X → Bool) (xs : List X) (x : X) → Contains (filter f xs) x → Contains xs x
-Contains-from_filter f [] x h = h
-Contains-from_filter {X} f (y ∷ xs) x h = by_first (f y) (Contains-from_filter f xs x) h
-  where
-    later : Contains xs x → Contains (y ∷ xs) x
-    later k = (suc k.0, omega (arith, k.1), k.2)
-
-    by_first : (b : Bool) → (Contains (filter f xs) x → Contains xs x) → Contains (cond b (y ∷ filter f xs) (filter f xs)) x → Contains (y ∷ xs) x
-    by_first true rest (zero, l, e) = (0, omega arith, e)
-    by_first true rest (suc k, l, e) = later (rest (k, omega arith, e))
-    by_first false rest k = later (rest k)
+pub Contains-map : {X Y : Type 0} (f : X → Y) (xs : List X) (x : X) → Contains xs x → Contains (map f xs) (f x)
+Contains-map f xs x (k, l, e) = (k, omega (arith, length-map xs f), get_or-map f xs k x (f x) l ∙ ap f e)
 
 -- a test of what a map gives
 pub list_any-map : {X Y : Type 0} (test : Y → Bool) (f : X → Y) (xs : List X) → list_any test (map f xs) ≡ list_any (λ x. test (f x)) xs
@@ -64,10 +47,7 @@ pub AllPairs-two : {X : Type 0} (P : X → X → Type 0) (xs : List X) (x y : X)
 AllPairs-two {X} P xs x y pairs (i, l, e) (j, k, f) =
     elim (cases_lt i j) [
       | inl before ↦ inr (inl (ordered i j x y before k e f))
-      | inr after ↦ elim (cases_eq i j) [
-        | inl same ↦ inl (sym e ∙ get_or_default xs i x y l ∙ ap (λ n. get_or xs n y) same ∙ f)
-        | inr differ ↦ inr (inr (ordered j i y x (omega (arith, differ)) l f e))
-      ]
+      | inr after ↦ (search (arith, cases_eq, get_or_default, get_or, ordered))
     ]
   where
     ordered : (a b : ℕ) (u v : X) → a < b → b < length xs → get_or xs a u ≡ u → get_or xs b v ≡ v → P u v

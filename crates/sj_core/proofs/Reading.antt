@@ -1,17 +1,15 @@
 -- What the accessors of a state give after a claim, a run and an end.
-use Rattle.std.proofs.Common.{Bool, List, None, Option, Some, [], ap, arith, false, get_or, inl, inr, length, map, not, refl, suc, sym, true, zero, ℕ, ◌&&◌, ◌<◌, ◌||◌, ◌∙◌, ◌∷◌, ◌≡◌, ◌≢◌, ◌⊎◌}
+use Rattle.std.proofs.Common.{Bool, List, None, Option, Some, [], ap, arith, false, get_or, length, map, refl, suc, true, zero, ℕ, ◌&&◌, ◌<◌, ◌||◌, ◌∙◌, ◌∷◌, ◌≡◌, ◌≢◌, ◌⊎◌, if◌then◌else◌}
 use Rattle.std.proofs.lemmas.Bool.{cases_eq, cases_lt, false_from_ne_true, false≢true, not-true}
 use Rattle.std.proofs.lemmas.Bool.Decides.{Decides-eqb}
 use Rattle.std.proofs.lemmas.List.{get_or-set_other, get_or-set_same, get_or_past}
 use Rattle.std.proofs.lemmas.List.Folds.{list_any_at}
 use Rattle.std.proofs.lemmas.List.FromFn.{get_or-map-range_with_len, length-map-range_with_len}
 use Rattle.std.proofs.lemmas.List.Sums.{AllPass-from_list_all}
-use Rattle.std.specs.List.{list_all, list_any}
-use Rattle.std.specs.Prelude.{if◌then◌else◌}
+use Rattle.std.specs.List.{list_all, list_any, range_with_len}
 use Rattle.sj_core.proofs.Words.{AtNode, Cell, CellState, Invalid, Machine, Node, OnDisk, Place, Progress, Replica, State, Task, Transfer, Waiting, Worker, WorkerState, cell_state, has_cell, is_entry, is_leaving, moves, progress, replica, replica_in, same_cell, transfer, with_cells, with_progress, with_replica_in, with_worker, worker_state, workers_of}
 use Rattle.sj_core.specs.Step.{none_leaving}
-use Rattle.sj_core.specs.Table.{renewed}
-use Rattle.sj_core.proofs.Tables.{length-renewed, renewed-at, renewed-at_or}
+use Rattle.sj_core.proofs.Tables.{length-renewed, renewed-at}
 
 -- ---- tasks
 
@@ -23,8 +21,7 @@ progress-other s t u x h = get_or-set_other s.tasks t.0 u.0 x Waiting (λ e. h (
 
 -- a task that isn't waiting is one of the table
 pub progress-inside : (s : State) (t : Task) → progress s t ≢ Waiting → t.0 < length s.tasks
-progress-inside s t h =
-    elim (cases_lt t.0 (length s.tasks)) [ inl inside ↦ inside | inr past ↦ absurd (h (get_or_past s.tasks t.0 Waiting past)) ]
+progress-inside s t h = search (arith, cases_lt, get_or_past)
 
 -- ---- workers
 
@@ -42,16 +39,9 @@ worker-other s w v row h = get_or-set_other s.workers w.0 v.0 row idle_row (λ e
 abbrev pub no_row : CellState
 no_row = record { nodes = []; disks = []; writes = 0 }
 
--- every cell's row, where f keeps the row of a cell that isn't there
-pub cells-renewed : (s : State) (f : Cell → CellState → CellState) (c : Cell) → f c no_row ≡ no_row → cell_state (with_cells s f) c ≡ f c (cell_state s c)
-cells-renewed s f c h = renewed-at_or (λ k row. f (record { 0 = k }) row) s.cells c.0 no_row h
-
 -- a replica that was written where the cell has the place
 pub replica_in-same : (row : CellState) (n : Node) (r : Replica) → n.0 < length row.nodes → replica_in (with_replica_in row (AtNode n) r) (AtNode n) ≡ r
 replica_in-same row n r h = get_or-set_same row.nodes n.0 r Invalid h
-
-pub replica_in-other_node : (row : CellState) (n k : Node) (r : Replica) → k ≢ n → replica_in (with_replica_in row (AtNode n) r) (AtNode k) ≡ replica_in row (AtNode k)
-replica_in-other_node row n k r h = get_or-set_other row.nodes n.0 k.0 r Invalid (λ e. h (ap (λ (i : ℕ). let j : Node = record { 0 = i } in j) e))
 
 pub replica_in-no_row : (q : Place) → replica_in no_row q ≡ Invalid
 replica_in-no_row (AtNode n) = refl
@@ -59,26 +49,13 @@ replica_in-no_row (OnDisk d) = refl
 
 -- every cell's row; past the table there is no row before or after
 pub cells-renewed_or : (s : State) (f : Cell → CellState → CellState) (c : Cell) → (cell_state (with_cells s f) c ≡ f c (cell_state s c)) ⊎ ((cell_state s c ≡ no_row) × (cell_state (with_cells s f) c ≡ no_row))
-cells-renewed_or s f c =
-    let g : ℕ → CellState → CellState = λ k row. f (record { 0 = k }) row in
-    elim (cases_lt c.0 (length s.cells)) [
-      | inl inside ↦ inl (renewed-at g s.cells c.0 no_row inside)
-      | inr past ↦ inr (get_or_past s.cells c.0 no_row past, get_or_past (renewed g s.cells) c.0 no_row (omega (arith, length-renewed g s.cells)))
-    ]
+cells-renewed_or s f c = search (arith, cases_lt, renewed-at, no_row, get_or_past, length-renewed)
 
 pub same_node : (n k : Node) → (n ≡ k) ⊎ (n ≢ k)
-same_node n k =
-    elim (cases_eq n.0 k.0) [
-      | inl e ↦ inl (ap (λ (i : ℕ). let j : Node = record { 0 = i } in j) e)
-      | inr d ↦ inr (λ e. d (ap (λ (j : Node). j.0) e))
-    ]
+same_node n k = search (arith, cases_eq)
 
 pub workers_differ : (v w : Worker) → (v ≡ w) ⊎ (v ≢ w)
-workers_differ v w =
-    elim (cases_eq v.0 w.0) [
-      | inl e ↦ inl (ap (λ (i : ℕ). let j : Worker = record { 0 = i } in j) e)
-      | inr d ↦ inr (λ e. d (ap (λ (j : Worker). j.0) e))
-    ]
+workers_differ v w = search (arith, cases_eq)
 
 pub all_invalid : (rs : List Replica) (k : ℕ) → get_or (map (λ r. Invalid) rs) k Invalid ≡ Invalid
 all_invalid [] k = refl
@@ -87,39 +64,23 @@ all_invalid (r ∷ rs) (suc k) = all_invalid rs k
 
 -- the cells whose rows a test leaves alone
 pub cells-untouched : (s : State) (test : Cell → Bool) (g : Cell → CellState → CellState) (c : Cell) → test c ≡ false → cell_state (with_cells s (λ d row. if test d then g d row else row)) c ≡ cell_state s c
-cells-untouched s test g c h =
-    elim (cells-renewed_or s (λ d row. if test d then g d row else row) c) [
-      | inl row ↦ row ∙ ap (λ b. if b then g c (cell_state s c) else cell_state s c) h
-      | inr none ↦ none.1 ∙ sym none.0
-    ]
+cells-untouched s test g c h = search (arith, cells-renewed_or)
 
 -- and those that it picks
 pub cells-touched : (s : State) (test : Cell → Bool) (g : Cell → CellState → CellState) (c : Cell) → c.0 < length s.cells → test c ≡ true → cell_state (with_cells s (λ d row. if test d then g d row else row)) c ≡ g c (cell_state s c)
-cells-touched s test g c inside h =
-    renewed-at (λ k row. let d : Cell = record { 0 = k } in if test d then g d row else row) s.cells c.0 no_row inside ∙ ap (λ b. if b then g c (cell_state s c) else cell_state s c) h
+cells-touched s test g c inside h = search (arith, renewed-at, no_row)
 
 -- an entry is a cell of the table, at a node of its row
 pub entry-inside : (s : State) (c : Cell) (n : Node) → is_entry (replica s c (AtNode n)) ≡ true → (c.0 < length s.cells) × (n.0 < length (cell_state s c).nodes)
-entry-inside s c n h = (
-  elim (cases_lt c.0 (length s.cells)) [ inl inside ↦ inside | inr past ↦ absurd (false≢true (sym (ap (λ (row : CellState). is_entry (replica_in row (AtNode n))) (get_or_past s.cells c.0 no_row past)) ∙ h)) ],
-  elim (cases_lt n.0 (length (cell_state s c).nodes)) [ inl inside ↦ inside | inr past ↦ absurd (false≢true (sym (ap is_entry (get_or_past (cell_state s c).nodes n.0 Invalid past)) ∙ h)) ],
-)
+entry-inside s c n h = search (arith, cases_lt, false≢true, get_or_past, no_row)
 
 -- no replica leaves on a node that is settled
 pub settled-at : (s : State) (n : Node) (c : Cell) → none_leaving s n ≡ true → is_leaving (replica s c (AtNode n)) ≡ false
-settled-at s n c h =
-    elim (cases_lt c.0 (length s.cells)) [
-      | inl inside ↦ not-true (is_leaving (replica s c (AtNode n))) (AllPass-from_list_all (λ (row : CellState). not (is_leaving (replica_in row (AtNode n)))) s.cells h c.0 no_row inside)
-      | inr past ↦ ap (λ (row : CellState). is_leaving (replica_in row (AtNode n))) (get_or_past s.cells c.0 no_row past)
-    ]
+settled-at s n c h = search (arith, cases_lt, not-true, AllPass-from_list_all, no_row, get_or_past)
 
 -- a worker with a transfer is one of the table, and its transfer is one of its cell
 pub transfer-inside : (s : State) (w : Worker) (x : Transfer) → transfer s w ≡ Some x → w.0 < length s.workers
-transfer-inside s w x h =
-    elim (cases_lt w.0 (length s.workers)) [
-      | inl inside ↦ inside
-      | inr past ↦ absurd (let none : transfer s w ≡ None = ap (λ (row : WorkerState). row.transfer) (get_or_past s.workers w.0 idle_row past) in let e : ◌≡◌ {A = Option Transfer} None (Some x) = sym none ∙ h in cc)
-    ]
+transfer-inside s w x h = search (arith, cases_lt, get_or_past, idle_row)
 
 pub moves-it : (s : State) (w : Worker) (x : Transfer) → transfer s w ≡ Some x → moves s w x.cell ≡ true
 moves-it s w x h = ap (λ (o : Option Transfer). elim o as (λ _. Bool) [ None ↦ false | Some y ↦ same_cell y.cell x.cell ]) h ∙ (Decides-eqb x.cell.0 x.cell.0).1 refl
@@ -129,11 +90,7 @@ same_cell-is c d h = ap (λ (i : ℕ). let j : Cell = record { 0 = i } in j) ((D
 
 -- where no transfer is one of the cell, none moves it
 pub unmoved-from : (s : State) (v : Worker) (c : Cell) → ((x : Transfer) → transfer s v ≡ Some x → x.cell ≡ c → ⊥) → moves s v c ≡ false
-unmoved-from s v c none = by_transfer (transfer s v) refl
-  where
-    by_transfer : (o : Option Transfer) → transfer s v ≡ o → (elim o as (λ _. Bool) [ None ↦ false | Some x ↦ same_cell x.cell c ]) ≡ false
-    by_transfer None e = refl
-    by_transfer (Some x) e = false_from_ne_true (same_cell x.cell c) (λ same. none x e (same_cell-is x.cell c same))
+unmoved-from s v c none = search (arith, false_from_ne_true, same_cell-is)
 
 -- ---- lists of cells and of workers
 
@@ -143,13 +100,14 @@ list_all-has test [] c all h = absurd (false≢true h)
 list_all-has test (d ∷ cs) c all h = by_cases (test d) (same_cell d c) refl refl all h (list_all-has test cs c)
   where
     by_cases : (a b : Bool) → test d ≡ a → same_cell d c ≡ b → (a && list_all test cs) ≡ true → (b || has_cell cs c) ≡ true → (list_all test cs ≡ true → has_cell cs c ≡ true → test c ≡ true) → test c ≡ true
-    by_cases false b passes same all h rest = absurd (false≢true all)
-    by_cases true true passes same all h rest = ap test (sym (same_cell-is d c same)) ∙ passes
-    by_cases true false passes same all h rest = rest all h
+    by_cases a b passes same all h rest = search (arith, false≢true, same_cell-is)
+
+-- a test that one of numbered elements passes is passed by some
+pub list_any-numbered : {X : Type 0} (f : ℕ → X) (test : X → Bool) (k n : ℕ) → k < n → test (f k) ≡ true → list_any test (map f (range_with_len 0 n)) ≡ true
+list_any-numbered f test k n inside passes =
+    let at_k = get_or-map-range_with_len f 0 n k k (f k) inside (omega arith) in
+    list_any_at test (map f (range_with_len 0 n)) k (f k) (omega (arith, inside, length-map-range_with_len f 0 n)) (ap test at_k ∙ passes)
 
 -- some worker of the machine passes a test that this one passes
 pub list_any-worker : (test : Worker → Bool) (m : Machine) (w : Worker) → w.0 < m.workers → test w ≡ true → list_any test (workers_of m) ≡ true
-list_any-worker test m w h passes =
-    let number : ℕ → Worker = λ n. record { 0 = n } in
-    let at_w : get_or (workers_of m) w.0 w ≡ w = get_or-map-range_with_len number 0 m.workers w.0 w.0 w h (omega arith) in
-    list_any_at test (workers_of m) w.0 w (omega (arith, length-map-range_with_len number 0 m.workers)) (ap test at_w ∙ passes)
+list_any-worker test m w h passes = list_any-numbered (λ n. record { 0 = n }) test w.0 m.workers h passes

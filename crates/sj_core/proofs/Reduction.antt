@@ -1,6 +1,6 @@
 -- A job with a reduction on two workers: a sum to a scalar of which each has a partial copy. While the phase is open, another
 -- task has the scalar as a scratch buffer, which is no access. The program is proper.
-use Rattle.std.proofs.Common.{Bool, List, None, Option, Some, [], ap, arith, false, get_or, inl, inr, length, lit<, lit≤, map, not, refl, subst, suc, sym, true, zero, ℕ, ◌&&◌, ◌+◌, ◌<◌, ◌||◌, ◌∙◌, ◌∷◌, ◌≡◌, ◌≤◌, ◌⊎◌}
+use Rattle.std.proofs.Common.{Bool, List, None, Option, Some, [], ap, arith, false, get_or, inl, inr, lit<, lit≤, map, not, refl, subst, suc, sym, true, zero, ℕ, ◌&&◌, ◌+◌, ◌<◌, ◌||◌, ◌∷◌, ◌≡◌, ◌≤◌, ◌⊎◌, All, AllPairs, Contains, IsTrue, is_some, nat_eq, nat_le, nat_lt, pos, ◌^◌}
 use Rattle.std.proofs.lemmas.Bool.{and_from, and_parts, cases_lt, eqb-true, false≢true, le-leb, ltb-true}
 use Rattle.std.proofs.lemmas.List.{get_or_past}
 use Rattle.std.proofs.lemmas.List.Elements.{All-contains, All-from_get_or, All-from_recursion, All-nil, Contains-append_cases, Contains-get_or}
@@ -8,19 +8,12 @@ use Rattle.std.proofs.lemmas.List.FromFn.{get_or-range_with_len, length-range_wi
 use Rattle.std.proofs.lemmas.List.Kept.{AllPairs-cons}
 use Rattle.std.proofs.lemmas.List.Sums.{AllPass-from_list_all}
 use Rattle.std.specs.List.{list_all, list_any, range_with_len}
-use Rattle.std.specs.Prelude.{All, AllPairs, Contains, IsTrue, count_by, is_some, nat_eq, nat_le, nat_lt, pos, ◌^◌}
-use Rattle.sj_core.proofs.Words.{Cell, Program, Task, Worker, area, cell_info, copy_of, data_operands, dims_of, no_task, same_cell, task_of}
+use Rattle.sj_core.proofs.Words.{Access, Cell, Kernel, Lowered, Mode, Plus, Program, R, RW, Redux, Scratch, Task, W, Worker, area, cell_info, copy_of, data_operands, dims_of, no_task, same_cell, task_of}
 use Rattle.sj_base.specs.Mode.{is_redux, reads_value}
-use Rattle.sj_base.specs.declared.mode.Access.{Access}
-use Rattle.sj_base.specs.declared.mode.Mode.{Mode}
-use Rattle.sj_base.specs.declared.mode.Mode.TheVariants.{Commute, R, RW, Redux, Scratch, W}
-use Rattle.sj_base.specs.declared.mode.Reduction.TheVariants.{Plus}
-use Rattle.sj_base.specs.declared.program.Lowered.{Lowered}
 use Rattle.sj_codelet.specs.Kernel.{fits, kernel_of}
-use Rattle.sj_codelet.specs.declared.kernel.Kernel.{Kernel}
 use Rattle.sj_codelet.specs.declared.kernel.Kernel.TheVariants.{Add, Deliver, GemmThree, InitPlus, Load, Sum}
 use Rattle.sj_core.specs.Proper.{Contributing, Fits, HasDeliveries, HasPhases, HasValueBefore, IsCombine, IsContribution, IsCopyOf, IsInit, IsMember, IsPhase, IsUnaliased, IsWithinLimits, NamesCells, Own, Phase, Proper, ReadsValues, Touches, gives_value, own_modes, task_number}
-use Rattle.sj_core.proofs.Jobs.{a_task, access, cell, columns, worker}
+use Rattle.sj_core.proofs.Worked.{a_task, access, cell, columns, worker}
 use Rattle.sj_core.proofs.Modes.{then}
 use Rattle.sj_core.proofs.Readiness.{list_any-some}
 
@@ -52,18 +45,12 @@ phase = record { cell = cell 2; by = Plus; inits = 3 ∷ 4 ∷ []; contributions
 -- a test that each task's number passes
 numbers-pass : (test : ℕ → Bool) → list_all test (range_with_len 0 10) ≡ true → (n : ℕ) → n < 10 → test n ≡ true
 numbers-pass test all n inside =
-    let at_n : get_or (range_with_len 0 10) n 0 ≡ n = get_or-range_with_len 0 10 n 0 inside ∙ omega arith in
-    ap test (sym at_n) ∙ AllPass-from_list_all test (range_with_len 0 10) all n 0 (omega (arith, inside, length-range_with_len 0 10))
+    search (arith, get_or, get_or-range_with_len, AllPass-from_list_all, length-range_with_len)
 
 -- a test that each operand passes, by the number of its task
 operands-pass : (of : Lowered → List Access) (none : of no_task ≡ []) (test : ℕ → Access → Bool) → list_all (λ n. list_all (test n) (of (task_number job n))) (range_with_len 0 10) ≡ true → (n : ℕ) (a : Access) → Contains (of (task_number job n)) a → test n a ≡ true
 operands-pass of none test all n a (k, within, is) =
-    elim (cases_lt n 10) [
-      | inr past ↦ absurd (let e : length (of (task_number job n)) ≡ 0 = ap (λ (l : Lowered). length (of l)) (get_or_past job.tasks n no_task past) ∙ ap length none in omega arith)
-      | inl inside ↦
-          let here = numbers-pass (λ i. list_all (test i) (of (task_number job i))) all n inside in
-          ap (test n) (sym is) ∙ AllPass-from_list_all (test n) (of (task_number job n)) here k a within
-    ]
+    search (arith, cases_lt, job, get_or_past, numbers-pass, AllPass-from_list_all)
 
 abbrev accesses : Lowered → List Access
 accesses l = l.accesses
@@ -84,36 +71,18 @@ among xs n h = let found = list_any-some (λ k. nat_eq k n) xs h in subst (Conta
 -- ---- cells and copies
 
 is_s : (n : ℕ) → is_some (cell_info job (cell n)).partials ≡ true → n ≡ 2
-is_s zero h = absurd (false≢true h)
-is_s (suc zero) h = absurd (false≢true h)
-is_s (suc (suc zero)) h = refl
-is_s (suc (suc (suc zero))) h = absurd (false≢true h)
-is_s (suc (suc (suc (suc zero)))) h = absurd (false≢true h)
-is_s (suc (suc (suc (suc (suc n))))) h = absurd (false≢true h)
+is_s n h = search (arith, false≢true)
 
 copy_in : (n : ℕ) → n < 2 → (cell (3 + n) ≡ cell 3) ⊎ (cell (3 + n) ≡ cell 4)
-copy_in zero h = inl refl
-copy_in (suc zero) h = inr refl
-copy_in (suc (suc n)) h = absurd (omega arith)
+copy_in n h = search arith
 
 -- a partial copy is one of the two of s
 copies_are : (q c : Cell) (w : Worker) → IsCopyOf job q c w → (c ≡ cell 2) × ((q ≡ cell 3) ⊎ (q ≡ cell 4))
-copies_are q c w copy =
-    let s : c ≡ cell 2 = ap cell (is_s c.0 copy.has_copies) in
-    let is : q ≡ cell (3 + w.0) = copy.is ∙ ap (λ (k : Cell). copy_of job k w) s in
-    (s, elim (copy_in w.0 copy.of_worker) [ inl e ↦ inl (is ∙ e) | inr e ↦ inr (is ∙ e) ])
+copies_are q c w copy = search (arith, cell, is_s, job, copy_in)
 
 names_cells : NamesCells job
-names_cells = record {
-  named = All-from_get_or (λ l. All (λ a. a.cell.0 < 5) l.accesses) job.tasks no_task (λ n inside k d within. ltb-true (get_or (task_number job n).accesses k d).cell.0 5 (pass (λ n a. nat_lt a.cell.0 5) refl n (get_or (task_number job n).accesses k d) (Contains-get_or (task_number job n).accesses k d within)));
-  copies = λ q c w copy. (let are = copies_are q c w copy in subst (λ (k : Cell). (q.0 < 5) × (dims_of job q ≡ dims_of job k)) (sym are.0) (elim are.1 [
-    | inl e ↦ subst (λ (k : Cell). (k.0 < 5) × (dims_of job k ≡ dims_of job (cell 2))) (sym e) (lit< tt, refl)
-    | inr e ↦ subst (λ (k : Cell). (k.0 < 5) × (dims_of job k ≡ dims_of job (cell 2))) (sym e) (lit< tt, refl)
-  ]));
-  apart = λ q c d v w copy other. (copies_are q c v copy).0 ∙ sym (copies_are q d w other).0;
-  plain = λ q c w copy. elim (copies_are q c w copy).1 [ inl e ↦ ap (λ (k : Cell). (cell_info job k).partials) e | inr e ↦ ap (λ (k : Cell). (cell_info job k).partials) e ];
-  reduced = All-from_get_or (λ l. All (λ a. IsTrue (is_redux a.mode) → IsTrue (is_some (cell_info job a.cell).partials)) l.accesses) job.tasks no_task (λ n inside k d within. then _ _ (pass (λ n a. not (is_redux a.mode) || is_some (cell_info job a.cell).partials) refl n (get_or (task_number job n).accesses k d) (Contains-get_or (task_number job n).accesses k d within)));
-}
+names_cells =
+    search (arith, All-from_get_or, cell, accesses, job, ltb-true, get_or, pass, Contains-get_or, copies_are, then)
 
 -- ---- codelets, aliases, values
 
@@ -146,12 +115,7 @@ is_read R = true
 is_read _ = false
 
 read-is : (x : Mode) → is_read x ≡ true → x ≡ R
-read-is R h = refl
-read-is W h = absurd (false≢true h)
-read-is RW h = absurd (false≢true h)
-read-is Scratch h = absurd (false≢true h)
-read-is Redux h = absurd (false≢true h)
-read-is Commute h = absurd (false≢true h)
+read-is x h = search (arith, false≢true)
 
 abbrev apart : List Access → Bool
 apart [] = true
@@ -213,14 +177,10 @@ is_phase = record {
 }
   where
     init : (w : ℕ) → w < 2 → IsInit Plus (copy_of job (cell 2) (worker w)) (task_number job (get_or phase.inits w 0))
-    init zero h = record { codelet = refl; operands = refl }
-    init (suc zero) h = record { codelet = refl; operands = refl }
-    init (suc (suc w)) h = absurd (omega arith)
+    init w h = search arith
 
     combine : (w : ℕ) → w < 2 → IsCombine Plus (copy_of job (cell 2) (worker w)) (cell 2) (task_number job (get_or phase.combines w 0))
-    combine zero h = record { codelet = refl; operands = refl }
-    combine (suc zero) h = record { codelet = refl; operands = refl }
-    combine (suc (suc w)) h = absurd (omega arith)
+    combine w h = search arith
 
     touched : (a : Access) → Touches job (cell 2) a → touches_s a.cell.0 ≡ true
     touched a (inl e) = ap (λ (c : Cell). touches_s c.0) e
@@ -252,12 +212,8 @@ is_deliver (Some Deliver) = true
 is_deliver _ = false
 
 has_deliveries : HasDeliveries job
-has_deliveries = record {
-  once = λ t deliver inside. eqb-true (count_by (λ d. nat_eq d.task.0 t.0) job.deliveries) 1 (then _ _ (numbers-pass (λ n. not (is_deliver (kernel_of (task_number job n).codelet)) || nat_eq (count_by (λ d. nat_eq d.task.0 n) job.deliveries) 1) refl t.0 inside) (ap is_deliver deliver));
-  plain = λ t deliver k d within c w copy.
-      (let tested = then _ _ (pass (λ n a. not (is_deliver (kernel_of (task_number job n).codelet)) || not (nat_le 3 a.cell.0)) refl t.0 (get_or (task_of job t).accesses k d) (Contains-get_or (task_of job t).accesses k d within)) (ap is_deliver deliver) in
-      elim (copies_are _ c w copy).1 [ inl e ↦ false≢true (sym (ap (λ (q : Cell). not (nat_le 3 q.0)) e) ∙ tested) | inr e ↦ false≢true (sym (ap (λ (q : Cell). not (nat_le 3 q.0)) e) ∙ tested) ]);
-}
+has_deliveries =
+    search (arith, eqb-true, job, then, numbers-pass, is_deliver, pass, cell, get_or, accesses, Contains-get_or, copies_are, false≢true)
 
 is_limited : IsWithinLimits job
 is_limited = record { tasks = lit≤ tt; cells = lit≤ tt; elements = All-from_recursion (λ c. area c.dims ≤ 2 ^ 24) job.cells (lit≤ tt, (lit≤ tt, (lit≤ tt, (lit≤ tt, (lit≤ tt, tt))))) }

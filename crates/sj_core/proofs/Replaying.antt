@@ -1,18 +1,12 @@
 -- Each step keeps coherence whole, and so does each legal trace; a complete one leaves what all tasks leave in submission order.
 use Rattle.std.proofs.Common.{Bool, List, [], ◌∷◌, subst}
-use Rattle.sj_core.proofs.Words.{AtNode, Machine, OnDisk, Program, State, opening}
-use Rattle.sj_base.specs.declared.trace.Event.{Event}
-use Rattle.sj_base.specs.declared.trace.Event.TheVariants.{Claim, Move, Moved, Drop, Run, End}
-use Rattle.sj_codelet.specs.declared.kernel.Kernel.{Kernel}
+use Rattle.sj_core.proofs.Words.{AtNode, Claim, Drop, End, Event, Kernel, Machine, Move, Moved, OnDisk, Program, Run, State, opening}
 use Rattle.sj_core.specs.Step.{Step, mover_of}
 use Rattle.sj_core.specs.Legal.{Leads, Replays, IsComplete}
 use Rattle.sj_core.specs.Proper.{Proper, IsMachineFor}
 use Rattle.sj_core.specs.Coherent.{Coherent}
 use Rattle.sj_core.specs.Laws.{IsLawful, IsSound, HoldsFinal}
-use Rattle.sj_core.proofs.Dropping.{Drops-keeps_coherence}
-use Rattle.sj_core.proofs.MovingIn.{Moves_in-keep_coherence}
-use Rattle.sj_core.proofs.MovingOut.{Moves_out-keep_coherence}
-use Rattle.sj_core.proofs.Arriving.{Ended_moves-keep_coherence}
+use Rattle.sj_core.proofs.Moving.{Drops-keeps_coherence, Moves_in-keep_coherence, Moves_out-keep_coherence, Ended_moves-keep_coherence}
 use Rattle.sj_core.proofs.Coherence.{Claims-keeps_coherence, Runs-keeps_coherence, Lawful_ends-keep_coherence}
 use Rattle.sj_core.proofs.Given.{complete-final}
 use Rattle.sj_core.proofs.Opening.{opening-coherent}

@@ -1,5 +1,5 @@
 -- What a test of one replica says of it.
-use Rattle.std.proofs.Common.{ap, false, inl, inr, refl, sym, true, ◌∙◌, ◌≡◌, ◌⊎◌}
+use Rattle.std.proofs.Common.{arith, ap, false, refl, sym, true, ◌∙◌, ◌≡◌, ◌⊎◌}
 use Rattle.std.proofs.lemmas.Bool.{false≢true}
 use Rattle.std.proofs.lemmas.Bool.Decides.{Decides-eqb}
 use Rattle.sj_core.proofs.Words.{Array, Coming, Invalid, Leaving, Replica, Valid, Worker, is_coming_by, is_entry, is_leaving, is_leaving_by, is_valid, same_worker}
@@ -12,36 +12,23 @@ pub same_worker-refl : (w : Worker) → same_worker w w ≡ true
 same_worker-refl w = (Decides-eqb w.0 w.0).1 refl
 
 pub coming_by-is : (w : Worker) (r : Replica) → is_coming_by w r ≡ true → r ≡ Coming w
-coming_by-is w Invalid h = absurd (false≢true h)
-coming_by-is w (Coming v) h = ap Coming (same_worker-is v w h)
-coming_by-is w (Valid a) h = absurd (false≢true h)
-coming_by-is w (Leaving v a) h = absurd (false≢true h)
+coming_by-is w r h = search (arith, false≢true, same_worker-is)
 
 pub leaving_by-is : (w : Worker) (r : Replica) → is_leaving_by w r ≡ true → (a : Array) × (r ≡ Leaving w a)
-leaving_by-is w Invalid h = absurd (false≢true h)
-leaving_by-is w (Coming v) h = absurd (false≢true h)
-leaving_by-is w (Valid a) h = absurd (false≢true h)
 leaving_by-is w (Leaving v a) h = (a, ap (λ (u : Worker). Leaving u a) (same_worker-is v w h))
+leaving_by-is w r h = absurd (false≢true h)
 
 pub leaving-by_some : (r : Replica) → is_leaving r ≡ true → (w : Worker) × (is_leaving_by w r ≡ true)
-leaving-by_some Invalid h = absurd (false≢true h)
-leaving-by_some (Coming v) h = absurd (false≢true h)
-leaving-by_some (Valid a) h = absurd (false≢true h)
 leaving-by_some (Leaving v a) h = (v, same_worker-refl v)
+leaving-by_some r h = absurd (false≢true h)
 
 -- an entry comes or is valid, and doesn't leave
 pub entry-cases : (r : Replica) → is_entry r ≡ true → ((w : Worker) × (r ≡ Coming w)) ⊎ ((a : Array) × (r ≡ Valid a))
-entry-cases Invalid h = absurd (false≢true h)
-entry-cases (Coming w) h = inl (w, refl)
-entry-cases (Valid a) h = inr (a, refl)
-entry-cases (Leaving w a) h = absurd (false≢true h)
+entry-cases r h = search (arith, false≢true)
 
 -- a replica that doesn't leave and is no entry is invalid
 pub invalid-is : (r : Replica) → is_entry r ≡ false → is_leaving r ≡ false → r ≡ Invalid
-invalid-is Invalid h k = refl
-invalid-is (Coming w) h k = absurd (false≢true (sym h))
-invalid-is (Valid a) h k = absurd (false≢true (sym h))
-invalid-is (Leaving w a) h k = absurd (false≢true (sym k))
+invalid-is r h k = search (arith, false≢true)
 
 pub leaving_by-leaves : (w : Worker) (r : Replica) → is_leaving_by w r ≡ true → is_leaving r ≡ true
 leaving_by-leaves w r h = ap is_leaving (leaving_by-is w r h).1

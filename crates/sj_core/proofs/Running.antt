@@ -1,19 +1,17 @@
 -- The beginning of a kernel's run leaves a coherent state.
-use Rattle.std.proofs.Common.{Bool, List, None, Option, Some, [], arith, false, inl, inr, length, map, not, refl, sym, true, ℕ, ◌&&◌, ◌<◌, ◌||◌, ◌∙◌, ◌≡◌, ◌≢◌, ◌≤◌, ◌⊎◌, ap, subst}
+use Rattle.std.proofs.Common.{Bool, List, None, Option, Some, arith, false, inl, inr, length, map, not, refl, sym, true, ℕ, ◌&&◌, ◌<◌, ◌||◌, ◌∙◌, ◌≡◌, ◌≢◌, ◌≤◌, ◌⊎◌, ap, subst, All, if◌then◌else◌, nat_eq}
 use Rattle.std.proofs.lemmas.Bool.{cases_Bool, false_from_ne_true, false≢true, true_from_ne_false, cond_both}
 use Rattle.std.proofs.lemmas.Bool.Decides.{Decides-eqb}
 use Rattle.std.proofs.lemmas.List.{get_or-set_same, length-map, length-set}
-use Rattle.std.specs.Prelude.{All, if◌then◌else◌, nat_eq}
 use Rattle.sj_core.proofs.Words.{Array, AtNode, Cell, CellState, Claimed, Invalid, Machine, Node, OnDisk, Place, Program, Progress, Replica, Running, State, Task, Transfer, Valid, Worker, WorkerState, array_of, cell_state, cells_of, dims_of, fresh_cells, has_cell, is_coming_by, is_entry, is_leaving_by, is_task_of, is_valid, moves, node_of, order, progress, replica, replica_in, same_cell, transfer, worker_of, worker_state, writes, written_cells, zeros}
-use Rattle.sj_core.specs.Coherent.{Coherent, CopiesAgree, HasEntries, HasRows, IsStateOf, IsTransferTo, WritersOwn, content, is_begun, is_being_written}
+use Rattle.sj_core.specs.Coherent.{Coherent, CopiesAgree, HasEntries, HasRows, IsStateOf, WritersOwn, content, is_begun, is_being_written}
 use Rattle.sj_core.specs.Laws.{IsSound}
 use Rattle.sj_core.specs.Step.{Runs, array_at, initial, is_moving, owned_at, same_place, without}
 use Rattle.sj_core.proofs.Advancing.{Advances, Runs-advances, Runs-keeps_order, claimed-is_mine, claimed-task_of}
 use Rattle.sj_core.proofs.CellLists.{has_cell-without, times, times-filter}
 use Rattle.sj_core.proofs.Changing.{Changes, Changes-coherent, Changes-writers, TransfersAreSound-spared, HasBlocks-kept, place_differs, All-renewed, HasWorkers-kept}
 use Rattle.sj_core.proofs.Claimed.{claimed-not_written, claimed-old_value}
-use Rattle.sj_core.proofs.Contents.{content-kept}
-use Rattle.sj_core.proofs.Counting.{counted-same, written-undone}
+use Rattle.sj_core.proofs.Ending.{content-kept, counted-same, written-undone}
 use Rattle.sj_core.proofs.Dependencies.{Proper-dependencies}
 use Rattle.sj_core.proofs.Finding.{array-told, being_written-here, not_written-after, not_written-before, running-inside, agrees-kept}
 use Rattle.sj_core.proofs.Placing.{replica_in-cases, room-leaves_none, same_place-refl}
@@ -67,11 +65,7 @@ module _ (p : Program) (m : Machine) (s : State) (t : Task) (w : Worker) (s' : S
 
   -- a test that an invalid and a valid replica fail is passed by none that didn't before, and by none of a written cell
   run-fewer : (test : Replica → Bool) → test Invalid ≡ false → ((a : Array) → test (Valid a) ≡ false) → (c : Cell) (q : Place) → test (replica s' c q) ≡ true → (has_cell (written_cells p t w) c ≡ false) × (test (replica s c q) ≡ true)
-  run-fewer test none valid c q passes = by_test (has_cell (written_cells p t w) c) refl
-    where
-      by_test : (b : Bool) → has_cell (written_cells p t w) c ≡ b → (has_cell (written_cells p t w) c ≡ false) × (test (replica s c q) ≡ true)
-      by_test false spared = (spared, sym (ap test (run-other c q spared)) ∙ passes)
-      by_test true written = absurd (elim (run-written c q written) [ inl is ↦ false≢true (sym (ap test is ∙ none) ∙ passes) | inr (at, is) ↦ false≢true (sym (ap test is ∙ valid (initial p s t w (node_of m w) c)) ∙ passes) ])
+  run-fewer test none valid c q passes = search (arith, run-other, run-written, false≢true)
 
   pub run-leaving : (v : Worker) (c : Cell) (q : Place) → is_leaving_by v (replica s' c q) ≡ true → is_leaving_by v (replica s c q) ≡ true
   run-leaving v c q leaving = (run-fewer (is_leaving_by v) refl (λ a. refl) c q leaving).1
@@ -88,11 +82,7 @@ module _ (p : Program) (m : Machine) (s : State) (t : Task) (w : Worker) (s' : S
   -- ---- orders
 
   order-after : (k : Node) → order s' k ≡ (if nat_eq k.0 (node_of m w).0 then order s k else without (written_cells p t w) (order s k))
-  order-after k = ap (λ (z : State). order z k) run.leaves ∙ renewed-at_or (λ i cs. if nat_eq i (node_of m w).0 then cs else without (written_cells p t w) cs) s.orders k.0 [] (either (nat_eq k.0 (node_of m w).0))
-    where
-      either : (b : Bool) → (if b then [] else without (written_cells p t w) []) ≡ []
-      either true = refl
-      either false = refl
+  order-after k = search (arith, renewed-at_or)
 
   pub run-order_here : order s' (node_of m w) ≡ order s (node_of m w)
   run-order_here = order-after (node_of m w) ∙ ap (λ b. if b then order s (node_of m w) else without (written_cells p t w) (order s (node_of m w))) ((Decides-eqb (node_of m w).0 (node_of m w).0).1 refl)
@@ -147,11 +137,7 @@ module _ (p : Program) (m : Machine) (s : State) (h : IsSound p m s) (t : Task) 
       false≢true (sym (ap not (list_any-worker (λ k. moves s k x.cell) m v inside (moves-it s v x under_way))) ∙ still)))
 
   moves_none : (x : Transfer) → transfer s w ≡ Some x → ⊥
-  moves_none x under_way = by_target x.to (h.coherent.transfers.target w x under_way)
-    where
-      by_target : (to : Place) → IsTransferTo m s w x.cell x.from to → ⊥
-      by_target (AtNode k) target = false≢true (sym (run-unmoved w x under_way) ∙ coming-is_fresh x.cell k target.1)
-      by_target (OnDisk d) target = false≢true (sym (none_leaves x.cell x.from) ∙ target.0)
+  moves_none x under_way = search (arith, false≢true, run-unmoved, coming-is_fresh, none_leaves)
 
   -- ---- the state's own form
 
@@ -246,10 +232,7 @@ module _ (p : Program) (m : Machine) (s : State) (h : IsSound p m s) (t : Task) 
   }
     where
       run-writes : (c : Cell) → writes s' c ≡ writes s c
-      run-writes c = ap (λ (z : State). writes z c) run.leaves ∙ elim (cells-renewed_or s (λ d row. if has_cell (written_cells p t w) d then owned_at (node_of m w) (initial p s t w (node_of m w) d) row else row) c) [
-        | inl row ↦ ap (λ (r : CellState). r.writes) row ∙ cond_both (has_cell (written_cells p t w) c) (owned_at (node_of m w) (initial p s t w (node_of m w) c) (cell_state s c)) (cell_state s c) (λ (r : CellState). r.writes ≡ writes s c) (λ b. refl) (λ b. refl)
-        | inr none ↦ ap (λ (r : CellState). r.writes) (none.1 ∙ sym none.0)
-      ]
+      run-writes c = (search (arith, cells-renewed_or, cond_both))
 
   -- ---- contents
 
@@ -290,15 +273,7 @@ module _ (p : Program) (m : Machine) (s : State) (h : IsSound p m s) (t : Task) 
   run-rests c spared resting = not_written-after p m s s' t (Claimed w) (Running w) c run-rows advance resting (λ v e. (let is : w ≡ v = cc in ap (λ (x : Worker). has_cell (written_cells p t x) c) (sym is) ∙ spared))
 
   run-copies : CopiesAgree p s'
-  run-copies = record {
-    valid_somewhere = λ c some resting.
-        (let row = run-row p m s t w s' run c (run-spared c resting) in
-        let q = h.coherent.copies.valid_somewhere c (omega (arith, ap (λ (r : CellState). r.writes) row, some)) (run-rested c resting) in
-        (q.0, ap (λ (r : CellState). is_valid (replica_in r q.0)) row ∙ q.1));
-    alike = λ c q some resting.
-        (let row = run-row p m s t w s' run c (run-spared c resting) in
-        agrees-kept (array_of (replica s c q)) (array_of (replica s' c q)) (content p s c) (content p s' c) (ap (λ (r : CellState). array_of (replica_in r q)) row) (run-content c) (h.coherent.copies.alike c q (omega (arith, ap (λ (r : CellState). r.writes) row, some)) (run-rested c resting)));
-  }
+  run-copies = search (arith, run-row, run-spared, run-rested, agrees-kept, run-content)
 
   pub Runs-coherent : Coherent p m s'
   Runs-coherent = Changes-coherent p m s h s' t (Claimed w) (Running w) w run-change run-writers run-copies

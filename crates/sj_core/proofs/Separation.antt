@@ -1,10 +1,9 @@
 -- Claimed and running tasks keep apart: none writes a cell on which another works. And a claim keeps the order of tasks.
-use Rattle.std.proofs.Common.{Bool, ap, arith, get_or, inl, inr, length, not, subst, sym, true, ℕ, ◌&&◌, ◌<◌, ◌∙◌, ◌≡◌, ◌≢◌}
+use Rattle.std.proofs.Common.{Bool, ap, arith, get_or, inl, inr, length, not, subst, sym, true, ℕ, ◌&&◌, ◌<◌, ◌∙◌, ◌≡◌, ◌≢◌, IsTrue, if◌then◌else◌}
 use Rattle.std.proofs.lemmas.Bool.{cases_eq, cases_lt, false≢true, true≢false}
 use Rattle.std.proofs.lemmas.Bool.Decides.{Decides-eqb}
 use Rattle.std.proofs.lemmas.List.Folds.{list_any_at}
 use Rattle.std.proofs.lemmas.List.FromFn.{get_or-map-range_with_len, length-map-range_with_len}
-use Rattle.std.specs.Prelude.{IsTrue, if◌then◌else◌}
 use Rattle.sj_base.specs.Mode.{is_commute, is_written}
 use Rattle.sj_core.proofs.Words.{Cell, Claimed, Machine, Program, Progress, State, Task, Waiting, Worker, cells_of, commuting_cells, copy_of, has_cell, is_done, is_task_of, progress, task_of, tasks_of, worked_on, worker_of, written_cells}
 use Rattle.sj_deps.specs.Conflict.{HasDependencies}

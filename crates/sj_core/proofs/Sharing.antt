@@ -1,29 +1,18 @@
 -- Two tasks that work on one cell, of which one writes it: they conflict, or commute, or contribute by one worker.
-use Rattle.std.proofs.Common.{Bool, List, None, Option, Some, [], ap, arith, inl, inr, length, map, not, refl, subst, suc, sym, true, zero, ℕ, ◌+◌, ◌<◌, ◌∙◌, ◌∷◌, ◌≡◌, ◌≢◌, ◌⊎◌}
+use Rattle.std.proofs.Common.{Bool, List, None, Option, Some, [], ap, arith, inl, inr, length, map, not, refl, subst, suc, sym, true, zero, ℕ, ◌+◌, ◌<◌, ◌∙◌, ◌∷◌, ◌≡◌, ◌≢◌, ◌⊎◌, Contains, filter, flat_map, IsTrue, is_some, option_and_then, slice_get}
 use Rattle.std.proofs.lemmas.Bool.{false≢true}
 use Rattle.std.proofs.lemmas.Bool.Decides.{Decides-eqb}
-use Rattle.std.proofs.lemmas.List.{get_or-map, length-map}
 use Rattle.std.proofs.lemmas.List.Elements.{Contains-append_left, Contains-append_right}
 use Rattle.std.proofs.lemmas.List.Folds.{list_any_at}
 use Rattle.std.proofs.lemmas.List.FromFn.{get_or-range_with_len, length-range_with_len}
 use Rattle.std.proofs.lemmas.Option.{slice_get-get_or}
-use Rattle.std.specs.List.{Contains, filter, flat_map, range_with_len}
-use Rattle.std.specs.Prelude.{IsTrue, is_some, option_and_then, slice_get}
+use Rattle.std.specs.List.{range_with_len}
 use Rattle.sj_base.specs.Mode.{is_commute, is_redux, is_scratch, is_written}
-use Rattle.sj_core.proofs.Words.{Cell, Program, Task, Worker, cell_info, cells_of, commuting_cells, copy_of, has_cell, no_cell, no_task, same_cell, task_of, worked_on, writes, written_cells}
-use Rattle.sj_base.specs.declared.mode.Access.{Access}
-use Rattle.sj_base.specs.declared.mode.Mode.{Mode}
-use Rattle.sj_base.specs.declared.mode.Mode.TheVariants.{Commute as CommuteMode, R, RW, Redux, Scratch, W}
-use Rattle.sj_base.specs.declared.program.CellInfo.{CellInfo}
-use Rattle.sj_base.specs.declared.program.Codelet.{Codelet}
-use Rattle.sj_base.specs.declared.program.Lowered.{Lowered}
+use Rattle.sj_core.proofs.Words.{Access, Cell, CellInfo, Codelet, Commute, CommuteMode, Contribute, Lowered, Manner, Mode, Program, R, RW, Read, Redux, Scratch, Task, Usage, W, Worker, Write, cell_info, cells_of, commuting_cells, copy_of, has_cell, no_cell, no_task, same_cell, task_of, worked_on, writes, written_cells}
 use Rattle.sj_deps.specs.Conflict.{Conflict, HasDependencies, IsShared, SameGroup, Uses, copies_of, usage, usages, usages_of}
-use Rattle.sj_deps.specs.declared.manner.Manner.{Manner}
-use Rattle.sj_deps.specs.declared.manner.Manner.TheVariants.{Commute, Contribute, Read, Write}
-use Rattle.sj_deps.specs.declared.manner.Usage.{Usage}
 use Rattle.sj_core.specs.Proper.{NamesCells, access}
 use Rattle.sj_core.proofs.Modes.{written_isn't_scratch}
-use Rattle.sj_core.proofs.Readiness.{Contains-filter, Contains-from_filter, filter-Contains, list_any-some, list_any-map}
+use Rattle.sj_core.proofs.Readiness.{Contains-filter, Contains-from_filter, filter-Contains, list_any-some, list_any-map, Contains-map}
 use Rattle.sj_core.proofs.Reading.{same_cell-is}
 
 -- ---- an operand behind a cell
@@ -85,9 +74,6 @@ operand-uses p t v CommuteMode d inside h accessed copies = used_by_operand p t 
 operand-uses p t v Redux d inside h accessed copies =
     let c = copies refl in
     used_by_operand p t (access Redux d) (usage Contribute (copy_of p d v).0) inside h (Contains-map (usage Contribute) (copies_of p d.0) (copy_of p d v).0 (copy-among p d c.2.0 v c.1 c.2.1 c.0))
-  where
-    Contains-map : {X Y : Type 0} (f : X → Y) (xs : List X) (x : X) → Contains xs x → Contains (map f xs) (f x)
-    Contains-map f xs x (k, l, e) = (k, omega (arith, length-map xs f), get_or-map f xs k x (f x) l ∙ ap f e)
 
 -- ---- two tasks and one cell
 
@@ -114,7 +100,7 @@ write_isn't_read e = cc
 commute_isn't_read : (k : Codelet) → Commute k ≡ Read → ⊥
 commute_isn't_read k e = cc
 
-contribute_isn't_read : Contribute ≡ Read → ⊥
+pub contribute_isn't_read : Contribute ≡ Read → ⊥
 contribute_isn't_read e = cc
 
 commute_isn't_contribute : (k : Codelet) → Commute k ≡ Contribute → ⊥
@@ -179,10 +165,7 @@ module _ (p : Program) (names : NamesCells p) (deps : HasDependencies p) (u t : 
   by_modes RW Redux d e hx hy sx wy cx cy um tn = conflicting Write Contribute um tn contribute_isn't_read (inr (inl (λ h. h)))
   by_modes Scratch Redux d e hx hy sx wy cx cy um tn = absurd (false≢true sx)
   by_modes CommuteMode Redux d e hx hy sx wy cx cy um tn = conflicting (Commute (task_of p u).codelet) Contribute um tn contribute_isn't_read (inr (inr (commute_isn't_contribute (task_of p u).codelet)))
-  by_modes Redux Redux d e hx hy sx wy cx cy um tn =
-      let du = redux-has_copies p names u u_in Redux d hx refl in
-      let dt = redux-has_copies p names t t_in Redux e hy refl in
-      Contributing (one_copy d e (ap is_some du.1.1) (ap is_some dt.1.1) cx cy)
+  by_modes Redux Redux d e hx hy sx wy cx cy um tn = search (arith, redux-has_copies, one_copy)
 
   -- two tasks that share a cell that t writes conflict, or both commute there, or contribute by one worker
   pub sharing : has_cell (cells_of p u v) c ≡ true → has_cell (written_cells p t w) c ≡ true → Sharing p u t v w c

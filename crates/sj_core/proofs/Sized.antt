@@ -1,29 +1,127 @@
 -- After any tasks of a proper program each cell holds a tile of its own dimensions.
-use Rattle.std.proofs.Common.{Bool, List, None, Option, Some, [], ap, arith, cond, false, length, map, refl, subst, suc, sym, true, zero, ℕ, get_or, ◌+◌, ◌≤◌, ◌<◌, ◌∙◌, ◌∷◌, ◌≡◌, ◌&&◌}
-use Rattle.std.specs.Prelude.{All, FitsSigned, IsTrue, is_some, nat_eq, if◌then◌else◌}
-use Rattle.std.specs.Int.{w64}
-use Rattle.std.specs.List.{filter, find, zip}
-use Rattle.std.proofs.lemmas.Bool.{false≢true}
+use Rattle.std.proofs.Common.{Bool, List, [], ap, arith, length, lit<, map, refl, subst, suc, sym, true, zero, ℕ, false, ℤ, pos, negsuc, get_or, ◌+◌, ◌/◌, ◌*◌, ◌%◌, ◌∙◌, ◌∷◌, ◌≡◌, ◌&&◌, ◌≤ℤ◌, None, Option, Some, cond, ◌≤◌, ◌<◌, All, FitsSigned, IsTrue, nat_eq, if◌then◌else◌, filter, find, zip}
+use Rattle.std.specs.Int.{int_min, w64}
+use Rattle.std.specs.List.{range_with_len}
+use Rattle.std.proofs.lemmas.Bool.{cases_lt, false≢true}
 use Rattle.std.proofs.lemmas.Bool.Decides.{nat_tests}
-use Rattle.std.proofs.lemmas.List.{length-map}
-use Rattle.std.proofs.lemmas.List.Elements.{All-get_or, All-head, All-map, All-tail}
-use Rattle.sj_base.specs.Mode.{is_redux, is_written, starts_as_zeros}
-use Rattle.sj_base.specs.declared.mode.Access.{Access}
-use Rattle.sj_base.specs.declared.mode.Mode.{Mode}
-use Rattle.sj_base.specs.declared.mode.Mode.TheVariants.{Commute, Redux, W}
+use Rattle.std.proofs.lemmas.Int.{SFits-int_wrap, clamps, ints}
+use Rattle.std.proofs.lemmas.List.{get_or-map, get_or_past, length-map, length-replicate}
+use Rattle.std.proofs.lemmas.List.Elements.{All-cons, All-get_or, All-map, All-nil, All-replicate, All-head, All-tail}
+use Rattle.std.proofs.lemmas.List.FromFn.{length-map-range_with_len}
+use Rattle.sj_base.specs.Array.{array, at, each, element, grid}
+use Rattle.sj_codelet.specs.declared.kernel.Kernel.TheVariants.{Copy, Add, Axpy, Butterfly, Gemm, GemmThree, Transpose, Dot, Sum, Lowest, MinGemm, FwDiag, FwRow, FwCol, Load, Paste, Deliver, InitPlus, InitLeast}
+use Rattle.sj_codelet.specs.Equations.{after_turns}
+use Rattle.sj_codelet.specs.Kernel.{fits, new_arrays, operand, arguments_fit, dims_fit, formals_of}
+use Rattle.sj_codelet.specs.Laws.{IsTile}
+use Rattle.sj_codelet.specs.MinPlus.{inf, least, least_below, plus}
+use Rattle.sj_codelet.specs.Ring.{wrap}
+use Rattle.sj_base.specs.Mode.{is_written}
 use Rattle.sj_codelet.proofs.Table.{each_dims, new_arrays-dims}
 use Rattle.sj_codelet.specs.Formal.{is_output, outputs_among}
-use Rattle.sj_codelet.specs.Kernel.{arguments_fit, dims_fit, fits, formals_of, new_arrays}
-use Rattle.sj_codelet.specs.Laws.{IsTile}
-use Rattle.sj_codelet.specs.declared.formal.Formal.{Formal}
-use Rattle.sj_codelet.specs.declared.formal.Formal.TheVariants.{R as ReadFormal, W as WriteFormal, RW as UpdateFormal, Scratch as ScratchFormal}
-use Rattle.sj_codelet.specs.declared.kernel.Kernel.{Kernel}
-use Rattle.sj_core.proofs.Words.{Array, Cell, Program, Task, Worker, cell_info, copy_of, dims_of, found, no_task, results, same_cell, task_of, worked_on, written_cells, zeros}
 use Rattle.sj_core.specs.Fold.{Contents, after_chosen, after_task, held_in}
-use Rattle.sj_core.specs.Proper.{Commuting, Contributing, FirstPaste, Fits, MayHaveModes, Own, Proper, mode_of, modes_writing_by, own_modes}
+use Rattle.sj_core.specs.Proper.{Fits, MayHaveModes, Proper, mode_of, modes_writing_by}
+use Rattle.sj_core.proofs.Words.{Array, Dims, Kernel, area, zeros, Access, Cell, Formal, Mode, Program, ReadFormal, ScratchFormal, Task, UpdateFormal, Worker, WriteFormal, dims_of, found, no_task, results, same_cell, task_of, worked_on, written_cells}
 use Rattle.sj_core.proofs.Folding.{held-append, held_over, map-same}
 use Rattle.sj_core.proofs.Reading.{same_cell-is}
-use Rattle.sj_core.proofs.Tiles.{new_arrays-tiles, zeros-tile}
+
+-- ---- what a codelet makes of tiles is tiles: each of its new arrays has its elements, and each element is an i64
+
+abbrev pub IsLong : ℤ → Type 0
+IsLong z = FitsSigned w64 z
+
+-- ---- numbers
+
+zero-long : IsLong (pos 0)
+zero-long = record { sfits = lit< tt }
+
+pub inf-long : IsLong inf
+inf-long = record { sfits = lit< tt }
+
+wrap-long : (z : ℤ) → IsLong (wrap z)
+wrap-long z = SFits-int_wrap w64 z
+
+min-long : (x y : ℤ) → IsLong x → IsLong y → IsLong (int_min x y)
+min-long x y hx hy = search (arith, IsLong, ints, clamps)
+
+long-between : (z : ℤ) → least ≤ℤ z → z ≤ℤ inf → IsLong z
+long-between (pos n) low high = record { sfits = omega (arith, ints) }
+long-between (negsuc n) low high = record { sfits = omega (arith, ints) }
+
+-- the sum of min-plus is kept between the least i64 and the greatest below `inf`, or is `inf`
+plus-long : (x y : ℤ) → IsLong (plus x y)
+plus-long x y = search (arith, IsLong, inf-long, long-between, ints, clamps)
+
+least_below-long : (n : ℕ) (z : ℤ) (f : ℕ → ℤ) → IsLong z → ((k : ℕ) → IsLong (f k)) → IsLong (least_below n z f)
+least_below-long zero z f hz hf = hz
+least_below-long (suc n) z f hz hf = min-long (least_below n z f) (f n) (least_below-long n z f hz hf) (hf n)
+
+-- ---- arrays
+
+-- an array of this many elements, each of them an i64
+pub tile : (d : Dims) (f : ℕ → ℤ) → ((p : ℕ) → IsLong (f p)) → IsTile (each d f)
+tile d f h = record { whole = length-map-range_with_len f 0 (area d); in_range = All-map IsLong f (range_with_len 0 (area d)) (λ i e l. h (get_or (range_with_len 0 (area d)) i e)) }
+
+abbrev none : Array
+none = array (record { rows = 0; cols = 0 }) []
+
+pub zeros-tile : (d : Dims) → IsTile (zeros d)
+zeros-tile d = record { whole = length-replicate (area d) (pos 0); in_range = All-replicate IsLong (area d) (pos 0) zero-long }
+
+-- an element of a tile, and what stands for one beyond its end
+at-long : (a : Array) → IsTile a → (p : ℕ) → IsLong (at a.elements p)
+at-long a h p = search (arith, cases_lt, All-get_or, IsLong, get_or_past, zero-long)
+
+-- an operand, and what stands for one that isn't there
+pub operand-tile : (ins : List Array) → All IsTile ins → (n : ℕ) → IsTile (operand ins n)
+operand-tile ins h n = search (arith, cases_lt, All-get_or, none, get_or_past, All-nil, IsLong)
+
+element-long : (a : Array) → IsTile a → (i j : ℕ) → IsLong (element a i j)
+element-long a h i j = at-long a h (i * a.dims.cols + j)
+
+turns-tile : (n : ℕ) (turn : ℕ → Array → Array) (a : Array) → IsTile a → ((k : ℕ) (m : Array) → IsTile m → IsTile (turn k m)) → IsTile (after_turns n turn a)
+turns-tile zero turn a h step = h
+turns-tile (suc n) turn a h step = step n (after_turns n turn a) (turns-tile n turn a h step)
+
+one : (a : Array) → IsTile a → All IsTile (a ∷ [])
+one a h = All-cons IsTile a [] h (All-nil IsTile)
+
+-- the lesser of a tile's elements and of others
+lesser-tile : (m : Array) → IsTile m → (g : ℕ → ℕ → ℤ) → ((i j : ℕ) → IsLong (g i j)) → IsTile (grid m.dims (λ i j. int_min (element m i j) (g i j)))
+lesser-tile m h g hg = tile m.dims (λ p. int_min (element m (p / m.dims.cols) (p % m.dims.cols)) (g (p / m.dims.cols) (p % m.dims.cols))) (λ p. min-long _ _ (element-long m h (p / m.dims.cols) (p % m.dims.cols)) (hg (p / m.dims.cols) (p % m.dims.cols)))
+
+-- as many elements as `load` has arguments
+loaded : (args : List ℤ) (ins : List Array) → All IsLong args → IsTrue (fits Load args (map (λ a. a.dims) ins)) → IsTile (array (operand ins 0).dims args)
+loaded args ins h k = search (arith, get_or-map, none, length-map, nat_tests)
+
+-- the new arrays of a codelet are tiles where its operands are
+pub new_arrays-tiles : (k : Kernel) (args : List ℤ) (ins : List Array) → All IsLong args → IsTrue (fits k args (map (λ a. a.dims) ins)) → All IsTile ins → All IsTile (new_arrays k args ins)
+new_arrays-tiles Copy args ins ha f h = one _ (operand-tile ins h 0)
+new_arrays-tiles Add args ins ha f h = one _ (tile (operand ins 1).dims _ (λ p. wrap-long _))
+new_arrays-tiles Axpy args ins ha f h = one _ (tile (operand ins 1).dims _ (λ p. wrap-long _))
+new_arrays-tiles Butterfly args ins ha f h = search (arith, All-cons, tile, wrap-long, one)
+new_arrays-tiles Gemm args ins ha f h = one _ (tile (operand ins 2).dims _ (λ p. wrap-long _))
+new_arrays-tiles GemmThree args ins ha f h = one _ (tile (operand ins 4).dims _ (λ p. wrap-long _))
+new_arrays-tiles Transpose args ins ha f h = one _ (tile (operand ins 1).dims _ (λ p. element-long (operand ins 0) (operand-tile ins h 0) _ _))
+new_arrays-tiles Dot args ins ha f h = one _ (tile (operand ins 2).dims _ (λ p. wrap-long _))
+new_arrays-tiles Sum args ins ha f h = one _ (tile (operand ins 1).dims _ (λ p. wrap-long _))
+new_arrays-tiles Lowest args ins ha f h = one _ (tile (operand ins 1).dims _ (λ p. min-long _ _ (at-long (operand ins 1) (operand-tile ins h 1) p) (at-long (operand ins 0) (operand-tile ins h 0) p)))
+new_arrays-tiles MinGemm args ins ha f h =
+    search (arith, one, tile, least_below-long, element-long, operand-tile, plus-long)
+new_arrays-tiles FwDiag args ins ha f h = one _ (turns-tile (operand ins 0).dims.rows _ (operand ins 0) (operand-tile ins h 0) (λ k m hm. lesser-tile m hm (λ i j. plus (element m i k) (element m k j)) (λ i j. plus-long (element m i k) (element m k j))))
+new_arrays-tiles FwRow args ins ha f h = one _ (turns-tile (operand ins 0).dims.rows _ (operand ins 1) (operand-tile ins h 1) (λ k m hm. lesser-tile m hm (λ i j. plus (element (operand ins 0) i k) (element m k j)) (λ i j. plus-long (element (operand ins 0) i k) (element m k j))))
+new_arrays-tiles FwCol args ins ha f h = one _ (turns-tile (operand ins 0).dims.rows _ (operand ins 1) (operand-tile ins h 1) (λ k m hm. lesser-tile m hm (λ i j. plus (element m i k) (element (operand ins 0) k j)) (λ i j. plus-long (element m i k) (element (operand ins 0) k j))))
+new_arrays-tiles Load args ins ha f h = one _ (loaded args ins ha f)
+new_arrays-tiles Paste args ins ha f h = one _ (tile (operand ins 1).dims _ (λ p. by_place _ _ _ (element-long (operand ins 0) (operand-tile ins h 0) _ _) (at-long (operand ins 1) (operand-tile ins h 1) _)))
+  where
+    by_place : (b : Bool) (x y : ℤ) → IsLong x → IsLong y → IsLong (if b then x else y)
+    by_place true x y hx hy = hx
+    by_place false x y hx hy = hy
+new_arrays-tiles Deliver args ins ha f h = All-nil IsTile
+new_arrays-tiles InitPlus args ins ha f h = one _ (zeros-tile (operand ins 0).dims)
+new_arrays-tiles InitLeast args ins ha f h = one _ (tile (operand ins 0).dims _ (λ p. inf-long))
+new_arrays-tiles k args ins ha f h = one _ (tile (operand ins 0).dims _ (λ p. wrap-long _))
+
+-- ---- after any tasks of a proper program each cell holds a tile of its own dimensions
 
 -- ---- which operands get new arrays
 
@@ -42,17 +140,10 @@ own-flags (UpdateFormal ∷ fs) = ap (λ bs. true ∷ bs) (own-flags fs)
 own-flags (ScratchFormal ∷ fs) = ap (λ bs. false ∷ bs) (own-flags fs)
 
 writing-flags : (x : Mode) → is_written x ≡ true → (k : Kernel) → map is_written (modes_writing_by x k) ≡ map is_output (formals_of k)
-writing-flags x written k = map-map is_written (λ mode. if is_written mode then x else mode) (own_modes k) ∙ map-same (λ mode. is_written (if is_written mode then x else mode)) is_written (own_modes k) (λ mode h. by_mode mode (is_written mode) refl) ∙ own-flags (formals_of k)
-  where
-    by_mode : (mode : Mode) (b : Bool) → is_written mode ≡ b → is_written (if b then x else mode) ≡ is_written mode
-    by_mode mode true e = written ∙ sym e
-    by_mode mode false e = refl
+writing-flags x written k = search (arith, map-map, map-same, own-flags)
 
 written-flags : (k : Kernel) (modes : List Mode) → MayHaveModes k modes → map is_written modes ≡ map is_output (formals_of k)
-written-flags k modes (Own e) = ap (map is_written) e ∙ own-flags (formals_of k)
-written-flags k modes (FirstPaste is e) = ap (map is_written) e ∙ writing-flags W refl k
-written-flags k modes (Commuting may one e) = ap (map is_written) e ∙ writing-flags Commute refl k
-written-flags k modes (Contributing by may one e) = ap (map is_written) e ∙ writing-flags Redux refl k
+written-flags k modes x = search (arith, own-flags, writing-flags)
 
 -- the outputs of a codelet stand where a task's operands are written
 outputs-written : {X : Type 0} (g : Access → X) (fs : List Formal) (list : List Access) → map (λ a. is_written a.mode) list ≡ map is_output fs → outputs_among fs (map g list) ≡ map g (filter (λ a. is_written a.mode) list)
@@ -64,10 +155,7 @@ outputs-written {X} g (f ∷ fs) (a ∷ list) e =
     by_flag (is_written a.mode) (is_output f) both.0 (outputs-written g fs list both.1)
   where
     by_flag : (b c : Bool) → b ≡ c → outputs_among fs (map g list) ≡ map g (filter (λ x. is_written x.mode) list) → (if c then g a ∷ outputs_among fs (map g list) else outputs_among fs (map g list)) ≡ map g (cond b (a ∷ filter (λ x. is_written x.mode) list) (filter (λ x. is_written x.mode) list))
-    by_flag true true e rest = ap (λ ys. g a ∷ ys) rest
-    by_flag false false e rest = rest
-    by_flag true false e rest = absurd (false≢true (sym e))
-    by_flag false true e rest = absurd (false≢true e)
+    by_flag b c e rest = search (arith, false≢true)
 
 -- ---- sizes
 
@@ -98,22 +186,10 @@ held_over-sized p (d ∷ cs) (a ∷ arrays) c below tiles dims h =
 module _ (p : Program) (proper : Proper p) (arguments : All (λ l. All (FitsSigned w64) l.args) p.tasks) where
   -- the cell that is worked on is as large as the operand's
   pub worked_on-dims : (w : Worker) → w.0 < p.workers → (a : Access) → dims_of p (worked_on p w a) ≡ dims_of p a.cell
-  worked_on-dims w staffed a = by_mode (is_redux a.mode)
-    where
-      copy : (o : Option Cell) → (cell_info p a.cell).partials ≡ o → dims_of p (copy_of p a.cell w) ≡ dims_of p a.cell
-      copy None e = ap (λ (o : Option Cell). dims_of p (elim o as (λ _. Cell) [ None ↦ a.cell | Some f ↦ record { 0 = f.0 + w.0 } ])) e
-      copy (Some f) e = (proper.cells.copies (copy_of p a.cell w) a.cell w (record { has_copies = ap is_some e; of_worker = staffed; is = refl })).1
-
-      by_mode : (b : Bool) → dims_of p (if b then copy_of p a.cell w else a.cell) ≡ dims_of p a.cell
-      by_mode true = copy (cell_info p a.cell).partials refl
-      by_mode false = refl
+  worked_on-dims w staffed a = search arith
 
   pub found-fills : (w : Worker) → w.0 < p.workers → (held : Cell → Array) → ((c : Cell) → Fills p c (held c)) → (a : Access) → Fills p a.cell (found p w held a)
-  found-fills w staffed held sized a = by_start (starts_as_zeros a.mode)
-    where
-      by_start : (b : Bool) → Fills p a.cell (if b then zeros (dims_of p a.cell) else held (worked_on p w a))
-      by_start true = zeros-fill p a.cell
-      by_start false = record { tile = (sized (worked_on p w a)).tile; dims = (sized (worked_on p w a)).dims ∙ worked_on-dims w staffed a }
+  found-fills w staffed held sized a = search (arith, zeros-fill, worked_on-dims)
 
   module _ (t : Task) (inside : t.0 < length p.tasks) (w : Worker) (staffed : w.0 < p.workers) (held : Cell → Array) (sized : (c : Cell) → Fills p c (held c)) where
     pub fit : Fits p (task_of p t)

@@ -1,8 +1,8 @@
 -- Sums over lists whose terms balance, or bound one another, element by element.
-use Rattle.std.proofs.Common.{◌≡◌, ℕ, ◌+◌, ◌≤◌, Bool, true, false, not, cond, List, [], ◌∷◌, refl, sym, ap, ◌∙◌, arith, map, inl, inr, ◌&&◌, ◌<◌, zero, suc, ◌*◌}
-use Rattle.std.specs.Prelude.{sum_by, count_by, nat_le, nat_lt, nat_eq}
-use Rattle.std.specs.List.{filter, range_with_len}
-use Rattle.std.proofs.lemmas.List.Sums.{sum_by-cons, sum_by-le-sum_by}
+use Rattle.std.proofs.Common.{◌≡◌, ℕ, ◌+◌, ◌≤◌, Bool, true, false, not, cond, List, [], ◌∷◌, refl, sym, ap, ◌∙◌, arith, map, inl, inr, ◌&&◌, ◌<◌, zero, suc, ◌*◌, ◌||◌, sum_by, count_by, nat_le, nat_lt, nat_eq, filter}
+use Rattle.std.proofs.lemmas.List.Folds.{Any-from_list_any}
+use Rattle.std.specs.List.{range_with_len, list_any}
+use Rattle.std.proofs.lemmas.List.Sums.{sum_by-cons, sum_by-le-sum_by, get_or-le-sum_by}
 use Rattle.std.proofs.lemmas.List.Filters.{sum_by-filter_both}
 use Rattle.std.proofs.lemmas.Bool.{false_from_ne_true, and_parts, and_from, and_left, leb-true, ltb-true, le-leb, lt-leb, lt-ltb, eq-eqb, ne_eqb, cases_eq}
 
@@ -12,32 +12,19 @@ tally b = cond b 1 0
 
 -- two tests that imply each other are one
 pub same_test : (a b : Bool) → (a ≡ true → b ≡ true) → (b ≡ true → a ≡ true) → a ≡ b
-same_test true b f g = sym (f refl)
-same_test false true f g = g refl
-same_test false false f g = refl
+same_test a b f g = search arith
 
 -- two sums that balance two others
 pub sum-balanced : {X : Type 0} (f g h k : X → ℕ) → ((x : X) → f x + g x ≡ h x + k x) → (xs : List X) → sum_by f xs + sum_by g xs ≡ sum_by h xs + sum_by k xs
 sum-balanced f g h k same [] = refl
 sum-balanced f g h k same (x ∷ xs) =
-    let rest = sum-balanced f g h k same xs in
-    let here = same x in
-    let a = sum_by-cons f x xs in
-    let b = sum_by-cons g x xs in
-    let c = sum_by-cons h x xs in
-    let d = sum_by-cons k x xs in
-    omega arith
+    omega (arith, sum-balanced f g h k same xs, same x, sum_by-cons f x xs, sum_by-cons g x xs, sum_by-cons h x xs, sum_by-cons k x xs)
 
 -- two sums within a third
 pub sum-within : {X : Type 0} (f g h : X → ℕ) → ((x : X) → f x + g x ≤ h x) → (xs : List X) → sum_by f xs + sum_by g xs ≤ sum_by h xs
 sum-within f g h within [] = omega arith
 sum-within f g h within (x ∷ xs) =
-    let rest = sum-within f g h within xs in
-    let here = within x in
-    let a = sum_by-cons f x xs in
-    let b = sum_by-cons g x xs in
-    let c = sum_by-cons h x xs in
-    omega arith
+    omega (arith, sum-within f g h within xs, within x, sum_by-cons f x xs, sum_by-cons g x xs, sum_by-cons h x xs)
 
 pub sum-agree : {X : Type 0} (f g : X → ℕ) → ((x : X) → f x ≡ g x) → (xs : List X) → sum_by f xs ≡ sum_by g xs
 sum-agree f g same [] = refl
@@ -58,56 +45,59 @@ sum-filter f test (x ∷ xs) = by_cases (test x) refl (sum-filter f test xs)
 -- where the terms that a filter keeps are no larger, its sum isn't
 pub sum-filter-le : {X : Type 0} (f g : X → ℕ) (test : X → Bool) → ((x : X) → test x ≡ true → f x ≤ g x) → (xs : List X) → sum_by f (filter test xs) ≤ sum_by g (filter test xs)
 sum-filter-le f g test le [] = omega arith
-sum-filter-le f g test le (x ∷ xs) = by_cases (test x) refl (sum-filter-le f g test le xs)
-  where
-    by_cases : (b : Bool) → test x ≡ b → sum_by f (filter test xs) ≤ sum_by g (filter test xs) → sum_by f (cond b (x ∷ filter test xs) (filter test xs)) ≤ sum_by g (cond b (x ∷ filter test xs) (filter test xs))
-    by_cases true e rest = let here = le x e in let a = sum_by-cons f x (filter test xs) in let b = sum_by-cons g x (filter test xs) in omega arith
-    by_cases false e rest = rest
+sum-filter-le f g test le (x ∷ xs) = search (arith, sum_by-cons, sum-filter-le f g test le xs)
 
 pub filter-sum-le : {X : Type 0} (f : X → ℕ) (test : X → Bool) (xs : List X) → sum_by f (filter test xs) ≤ sum_by f xs
 filter-sum-le f test xs = let both = sum_by-filter_both test (λ x. not (test x)) (λ x. refl) f xs in omega arith
 
+-- a sum of nothing
+pub sum-nothing : {X : Type 0} (f : X → ℕ) → ((x : X) → f x ≡ 0) → (xs : List X) → sum_by f xs ≡ 0
+sum-nothing f none [] = refl
+sum-nothing f none (x ∷ xs) = omega (arith, sum_by-cons f x xs, none x, sum-nothing f none xs)
+
+-- a sum over what a function gives
+pub sum_by-map : {X Y : Type 0} (f : Y → ℕ) (g : X → Y) (xs : List X) → sum_by f (map g xs) ≡ sum_by (λ x. f (g x)) xs
+sum_by-map f g [] = refl
+sum_by-map f g (x ∷ xs) = let first = sum_by-cons f (g x) (map g xs) in let later = sum_by-cons (λ y. f (g y)) x xs in let rest = sum_by-map f g xs in omega arith
+
+-- what passes a test and is counted is there
+pub counted-some : {X : Type 0} (test : X → Bool) (xs : List X) → 0 < count_by test xs → list_any test xs ≡ true
+counted-some test [] some = absurd (omega (arith, some))
+counted-some test (x ∷ xs) some = search (arith, sum_by-cons, counted-some test xs)
+
+-- and what is there is counted
+pub counted-has : {X : Type 0} (test : X → Bool) (xs : List X) → list_any test xs ≡ true → 0 < count_by test xs
+counted-has test xs h =
+    let found = Any-from_list_any test xs h in
+    let counts = get_or-le-sum_by (λ y. tally (test y)) xs found.0 found.1 found.2 in
+    omega (arith, ap (λ y. tally (test y)) found.3 ∙ ap tally found.4)
+
 -- a sum of two terms each
 pub sum-plus : {X : Type 0} (h f g : X → ℕ) → ((x : X) → h x ≡ f x + g x) → (xs : List X) → sum_by h xs ≡ sum_by f xs + sum_by g xs
-sum-plus h f g same xs = let all = sum-balanced h (λ x. 0) f g (λ x. (let here = same x in omega arith)) xs in let none = nothing xs in omega arith
-  where
-    nothing : {X : Type 0} (ys : List X) → sum_by (λ x. 0) ys ≡ 0
-    nothing [] = refl
-    nothing (y ∷ ys) = let a = sum_by-cons (λ x. 0) y ys in let rest = nothing ys in omega arith
+sum-plus h f g same xs =
+    let all = sum-balanced h (λ x. 0) f g (λ x. (let here = same x in omega arith)) xs in
+    omega (arith, sum-nothing (λ x. 0) (λ x. refl) xs)
 
 -- so much for each element that passes
-sum-each : {X : Type 0} (test : X → Bool) (more : ℕ) (xs : List X) → sum_by (λ x. cond (test x) more 0) xs ≡ more * count_by test xs
+pub sum-each : {X : Type 0} (test : X → Bool) (more : ℕ) (xs : List X) → sum_by (λ x. cond (test x) more 0) xs ≡ more * count_by test xs
 sum-each test more [] = omega arith
-sum-each test more (x ∷ xs) = by_test (test x) refl (sum-each test more xs)
+sum-each test more (x ∷ xs) =
+    sum_by-cons (λ y. cond (test y) more 0) x xs ∙ ap (λ n. cond (test x) more 0 + n) (sum-each test more xs)
+    ∙ first (test x) (count_by test xs) ∙ ap (λ n. more * n) (sym (sum_by-cons (λ y. tally (test y)) x xs))
   where
-    by_test : (b : Bool) → test x ≡ b → sum_by (λ y. cond (test y) more 0) xs ≡ more * count_by test xs → sum_by (λ y. cond (test y) more 0) (x ∷ xs) ≡ more * count_by test (x ∷ xs)
-    by_test true e rest =
-        let a = sum_by-cons (λ y. cond (test y) more 0) x xs in
-        let c = sum_by-cons (λ y. tally (test y)) x xs in
-        let here : cond (test x) more 0 ≡ more = ap (λ b. cond b more 0) e in
-        let one : tally (test x) ≡ 1 = ap tally e in
-        let count : count_by test (x ∷ xs) ≡ 1 + count_by test xs = omega arith in
-        a ∙ ap (λ n. n + sum_by (λ y. cond (test y) more 0) xs) here ∙ ap (λ n. more + n) rest ∙ (omega arith) ∙ ap (λ n. more * n) (sym count)
-    by_test false e rest =
-        let a = sum_by-cons (λ y. cond (test y) more 0) x xs in
-        let c = sum_by-cons (λ y. tally (test y)) x xs in
-        let here : cond (test x) more 0 ≡ 0 = ap (λ b. cond b more 0) e in
-        let none : tally (test x) ≡ 0 = ap tally e in
-        let count : count_by test (x ∷ xs) ≡ count_by test xs = omega arith in
-        a ∙ ap (λ n. n + sum_by (λ y. cond (test y) more 0) xs) here ∙ (omega arith) ∙ ap (λ n. more * n) (sym count)
+    first : (b : Bool) (n : ℕ) → cond b more 0 + more * n ≡ more * (tally b + n)
+    first true n = omega arith
+    first false n = omega arith
 
 -- where at most one element passes the test, whose term grows by so much, and no other's does
 pub sum-one_more : {X : Type 0} (f g : X → ℕ) (test : X → Bool) (more : ℕ) → ((x : X) → f x ≤ g x + cond (test x) more 0) → (xs : List X) → count_by test xs ≤ 1 → sum_by f xs ≤ sum_by g xs + more
 sum-one_more f g test more le xs once =
-    let all = sum_by-le-sum_by f (λ x. g x + cond (test x) more 0) xs le in
-    let both = sum-plus (λ x. g x + cond (test x) more 0) g (λ x. cond (test x) more 0) (λ x. refl) xs in
-    let most = at_most (count_by test xs) once (sum-each test more xs) in
-    omega arith
+    let all = sum-plus (λ x. g x + cond (test x) more 0) g (λ x. cond (test x) more 0) (λ x. refl) xs in
+    let both = sum_by-le-sum_by f (λ x. g x + cond (test x) more 0) xs le in
+    omega (arith, at_most (count_by test xs) once (sum-each test more xs))
   where
     at_most : (n : ℕ) → n ≤ 1 → sum_by (λ x. cond (test x) more 0) xs ≡ more * n → sum_by (λ x. cond (test x) more 0) xs ≤ more
-    at_most zero h e = omega arith
-    at_most (suc zero) h e = omega arith
-    at_most (suc (suc n)) h e = absurd (omega arith)
+    at_most n h e = search arith
 
 -- of numbered elements the test passes that of one number
 pub count-numbered : {X : Type 0} (number : ℕ → X) (test : X → Bool) (k : ℕ) → ((i : ℕ) → test (number i) ≡ nat_eq i k) → (a n : ℕ) → count_by test (map number (range_with_len a n)) ≡ tally (nat_le a k && nat_lt k (a + n))
@@ -117,10 +107,7 @@ count-numbered number test k is a (suc n) =
     let later = count-numbered number test k is (a + 1) n in
     elim (cases_eq a k) [
       | inl e ↦
-          let here : tally (test (number a)) ≡ 1 = ap tally (is a ∙ eq-eqb a k e) in
-          let beyond : tally (nat_le (a + 1) k && nat_lt k (a + 1 + n)) ≡ 0 = ap tally (and_left (nat_le (a + 1) k) (nat_lt k (a + 1 + n)) (lt-leb (a + 1) k (omega arith))) in
-          let now : tally (nat_le a k && nat_lt k (a + suc n)) ≡ 1 = ap tally (and_from (nat_le a k) (nat_lt k (a + suc n)) (le-leb a k (omega arith)) (lt-ltb k (a + suc n) (omega arith))) in
-          omega arith
+          (search (arith, eq-eqb, and_left, lt-leb, and_from, le-leb, lt-ltb))
       | inr d ↦
           let other : tally (test (number a)) ≡ 0 = ap tally (is a ∙ ne_eqb a k d) in
           let same : tally (nat_le (a + 1) k && nat_lt k (a + 1 + n)) ≡ tally (nat_le a k && nat_lt k (a + suc n)) = ap tally (same_test (nat_le (a + 1) k && nat_lt k (a + 1 + n)) (nat_le a k && nat_lt k (a + suc n)) (further (a + 1) (a + 1 + n) a (a + suc n) (λ l h. (omega arith)) (λ l h. (omega arith))) (further a (a + suc n) (a + 1) (a + 1 + n) (λ l h. (omega arith)) (λ l h. (omega arith)))) in

@@ -1,23 +1,19 @@
 -- Tasks that may change places: they work on different cells, or each updates one and the same cell by codelets that may be exchanged.
 -- One that may change places with all later chosen tasks may be put last.
-use Rattle.std.proofs.Common.{Bool, List, None, Option, Some, [], ap, arith, cond, false, inl, inr, length, map, refl, subst, suc, sym, true, zero, ℕ, ℤ, ◌++◌, ◌<◌, ◌≤◌, ◌||◌, ◌∙◌, ◌∷◌, ◌≡◌, ◌≢◌}
-use Rattle.std.specs.Prelude.{All, FitsSigned, IsTrue, if◌then◌else◌}
+use Rattle.std.proofs.Common.{Bool, List, None, Option, Some, [], ap, arith, cond, false, inl, inr, length, map, refl, subst, suc, sym, true, zero, ℕ, ℤ, ◌++◌, ◌<◌, ◌≤◌, ◌||◌, ◌∙◌, ◌∷◌, ◌≡◌, ◌≢◌, All, FitsSigned, IsTrue, if◌then◌else◌, Contains, find, zip}
 use Rattle.std.specs.Int.{w64}
-use Rattle.std.specs.List.{Contains, find, zip}
 use Rattle.std.proofs.lemmas.Bool.{cases_Bool, cases_lt, false_from_ne_true}
 use Rattle.std.proofs.lemmas.List.{map-append}
 use Rattle.std.proofs.lemmas.List.Elements.{All-get_or}
 use Rattle.sj_base.specs.Mode.{is_redux, starts_as_zeros}
-use Rattle.sj_base.specs.declared.mode.Access.{Access}
 use Rattle.sj_codelet.proofs.Table.{each_dims}
 use Rattle.sj_codelet.specs.Kernel.{fits, kernel_of, new_arrays, operand}
 use Rattle.sj_codelet.specs.Laws.{DoCommute, IsCall, IsTile, result_of}
-use Rattle.sj_codelet.specs.declared.kernel.Kernel.{Kernel}
-use Rattle.sj_core.proofs.Words.{Array, Cell, Program, Task, Worker, cells_of, dims_of, found, has_cell, no_task, results, same_cell, task_of, worked_on, written_cells, zeros}
+use Rattle.sj_core.proofs.Words.{Access, Array, Cell, Kernel, Program, Task, Worker, cells_of, dims_of, found, has_cell, no_task, results, same_cell, task_of, worked_on, written_cells, zeros}
 use Rattle.sj_core.specs.Fold.{Contents, after_chosen, after_task, held_in}
 use Rattle.sj_core.specs.Proper.{Fits, Proper}
 use Rattle.sj_core.proofs.CellLists.{same_cell-refl}
-use Rattle.sj_core.proofs.Completeness.{results-complete}
+use Rattle.sj_core.proofs.Values.{results-complete}
 use Rattle.sj_core.proofs.Folding.{AddsTask, after_chosen-same, after_task-other, after_task-same, held-append, held_over, map-same}
 use Rattle.sj_core.proofs.Reading.{same_cell-is}
 use Rattle.sj_core.proofs.Sized.{AreSized, after_chosen-sized, fit, ins-fit, ins-tiles}
@@ -133,13 +129,8 @@ module _ (p : Program) (proper : Proper p) (arguments : All (λ l. All (FitsSign
 
     -- tasks that may change places leave the same in either order
     pub swapped : AreSized p before → MaySwap t u w v → (c : Cell) → held_in p (after_task p v u (after_task p w t before)) c ≡ held_in p (after_task p w t (after_task p v u before)) c
-    swapped sized (Apart free free') c = elim (cases_Bool (has_cell (written_cells p t w) c)) [
-      | inl e ↦ apart-half t u w v free free' c e
-      | inr e ↦ elim (cases_Bool (has_cell (written_cells p u v) c)) [
-        | inl f ↦ sym (apart-half u t v w free' free c f)
-        | inr f ↦ apart-neither c e f
-      ]
-    ]
+    swapped sized (Apart free free') c =
+        grind (arith, cases_Bool (has_cell (written_cells p t w) c), cases_Bool (has_cell (written_cells p u v) c), apart-half, apart-neither)
     swapped sized (Together d x y exchange) c = elim (cases_Bool (same_cell d c)) [
       | inl e ↦ subst (λ (k : Cell). held_in p (after_task p v u (after_task p w t before)) k ≡ held_in p (after_task p w t (after_task p v u before)) k) (same_cell-is d c e) (together sized d x y exchange)
       | inr e ↦ apart-neither c (ap (λ (cs : List Cell). has_cell cs c) x.written ∙ ap (λ b. b || false) e) (ap (λ (cs : List Cell). has_cell cs c) y.written ∙ ap (λ b. b || false) e)
@@ -164,13 +155,7 @@ module _ (p : Program) (proper : Proper p) (arguments : All (λ l. All (FitsSign
 
         own : n ≡ t.0 → held_in p (after_chosen p chosen' by' (suc n)) c ≡ held_in p (after_task p w t (after_chosen p chosen by (suc n))) c
         own e =
-            let is : number n ≡ t = ap number e in
-            let same : after_chosen p chosen' by' n ≡ after_chosen p chosen by n = after_chosen-same p chosen' chosen by' by n (λ u h. adds.others u (differ u (λ f. (omega (arith, f, e))))) (λ u h k. adds.workers u (differ u (λ f. (omega (arith, f, e))))) in
-            ap (λ b. held_in p (cond b (after_task p (by' (number n)) (number n) (after_chosen p chosen' by' n)) (after_chosen p chosen' by' n)) c) (ap chosen' is ∙ adds.present)
-            ∙ ap (λ (k : Task). held_in p (after_task p (by' k) k (after_chosen p chosen' by' n)) c) is
-            ∙ ap (λ (x : Worker). held_in p (after_task p x t (after_chosen p chosen' by' n)) c) adds.worker
-            ∙ ap (λ (x : Contents). held_in p (after_task p w t x) c) same
-            ∙ ap (λ b. held_in p (after_task p w t (cond b (after_task p (by (number n)) (number n) (after_chosen p chosen by n)) (after_chosen p chosen by n))) c) (sym (ap chosen is ∙ adds.absent))
+            (search (arith, number, after_chosen-same, differ))
 
         later : t.0 < n → ((d : Cell) → held_in p (after_chosen p chosen' by' n) d ≡ held_in p (after_task p w t (after_chosen p chosen by n)) d) → held_in p (after_chosen p chosen' by' (suc n)) c ≡ held_in p (after_task p w t (after_chosen p chosen by (suc n))) c
         later before rest =

@@ -1,5 +1,5 @@
 -- Reading a table after rows of it were written.
-use Rattle.std.proofs.Common.{◌≡◌, ℕ, ◌<◌, List, length, get_or, sym, ap, ◌∙◌, inl, inr, arith}
+use Rattle.std.proofs.Common.{◌≡◌, ℕ, ◌<◌, List, length, get_or, ap, ◌∙◌, arith}
 use Rattle.std.proofs.lemmas.List.{length-map, get_or-map, get_or_past}
 use Rattle.std.proofs.lemmas.List.FromFn.{length-enumerate_from, get_or-enumerate_from}
 use Rattle.std.proofs.lemmas.Bool.{cases_lt}
@@ -20,8 +20,4 @@ renewed-at {X} f xs i d h =
 
 -- past the end too, where f keeps the default
 pub renewed-at_or : {X : Type 0} (f : ℕ → X → X) (xs : List X) (i : ℕ) (d : X) → f i d ≡ d → get_or (renewed f xs) i d ≡ f i (get_or xs i d)
-renewed-at_or f xs i d k =
-    elim (cases_lt i (length xs)) [
-      | inl h ↦ renewed-at f xs i d h
-      | inr h ↦ get_or_past (renewed f xs) i d (omega (arith, length-renewed f xs)) ∙ sym k ∙ ap (f i) (sym (get_or_past xs i d h))
-    ]
+renewed-at_or f xs i d k = search (arith, cases_lt, renewed-at, get_or_past, length-renewed)

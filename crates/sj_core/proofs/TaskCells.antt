@@ -1,22 +1,26 @@
 -- Which cells a task works on: those it writes, those it finds as zeros, those to which it contributes in any order.
-use Rattle.std.proofs.Common.{Bool, List, [], ap, cond, false, not, refl, true, ◌&&◌, ◌∷◌, ◌≡◌}
-use Rattle.std.specs.List.{filter}
+use Rattle.std.proofs.Common.{arith, length, ◌<◌, Bool, List, [], ap, cond, false, not, refl, true, ◌&&◌, ◌∷◌, ◌≡◌, Contains, filter}
+use Rattle.std.proofs.lemmas.Bool.{cases_lt}
+use Rattle.std.proofs.lemmas.List.{get_or_past}
 use Rattle.sj_base.specs.Mode.{is_scratch, is_written, starts_as_zeros}
-use Rattle.sj_core.proofs.Words.{Cell, Program, Task, Worker, cells_of, fresh_cells, has_cell, task_of, worked_on, written_cells}
-use Rattle.sj_base.specs.declared.mode.Access.{Access}
+use Rattle.sj_core.proofs.Words.{Access, Cell, Program, Task, Worker, cells_of, fresh_cells, has_cell, task_of, worked_on, written_cells}
 use Rattle.sj_core.proofs.CellLists.{same_cell-from}
 use Rattle.sj_core.proofs.Modes.{fresh_is_written, written_isn't_scratch}
 use Rattle.sj_core.proofs.Readiness.{Contains-from_filter, filter-Contains}
 use Rattle.sj_core.proofs.Sharing.{operand-has_cell, operand_for}
 
+-- ---- each operand of a task names a cell of its program
+
+-- a task with an operand is one of the program
+pub operand-inside : (p : Program) (t : Task) (a : Access) → Contains (task_of p t).accesses a → t.0 < length p.tasks
+operand-inside p t a h = search (arith, cases_lt, get_or_past)
+
+-- ---- which cells a task works on: those it writes, those it finds as zeros, those to which it contributes in any order
+
 -- two filters one after another
 pub filter-filter : {X : Type 0} (f g : X → Bool) (xs : List X) → filter f (filter g xs) ≡ filter (λ x. g x && f x) xs
 filter-filter f g [] = refl
-filter-filter f g (x ∷ xs) = by_cases (g x) (f x) refl refl (filter-filter f g xs)
-  where
-    by_cases : (a b : Bool) → g x ≡ a → f x ≡ b → filter f (filter g xs) ≡ filter (λ y. g y && f y) xs → filter f (cond a (x ∷ filter g xs) (filter g xs)) ≡ cond (a && f x) (x ∷ filter (λ y. g y && f y) xs) (filter (λ y. g y && f y) xs)
-    by_cases true b p q rest = ap (λ ys. cond (f x) (x ∷ ys) ys) rest
-    by_cases false b p q rest = rest
+filter-filter f g (x ∷ xs) = search (arith, filter-filter f g xs)
 
 -- what a task writes it works on
 pub written-among_cells : (p : Program) (t : Task) (w : Worker) (c : Cell) → has_cell (written_cells p t w) c ≡ true → has_cell (cells_of p t w) c ≡ true

@@ -1,16 +1,14 @@
 -- A computed test of legal traces, for worked runs: in it a task begins only once all earlier tasks are done.
-use Rattle.std.proofs.Common.{Bool, List, None, Option, Some, [], ap, false, length, not, refl, true, ◌&&◌, ◌∙◌, ◌∷◌, ◌≡◌}
+use Rattle.std.proofs.Common.{arith, Bool, List, None, Option, Some, [], ap, false, length, not, refl, true, ◌&&◌, ◌∷◌, ◌≡◌, fold, is_none, is_some, nat_eq, nat_le, nat_lt}
 use Rattle.std.proofs.lemmas.Bool.{and_parts, eqb-true, false≢true, leb-true, ltb-true}
 use Rattle.std.specs.List.{list_all, range_with_len}
-use Rattle.std.specs.Prelude.{fold, is_none, is_some, nat_eq, nat_le, nat_lt, unwrap_or}
-use Rattle.sj_core.proofs.Words.{AtNode, Cell, Claimed, DiskNo, Done, Machine, Node, OnDisk, Place, Program, Progress, Running, State, Task, Transfer, Waiting, commuting_cells, done_in, footprint, has_room, is_claimed_by, is_coming_by, is_idle, is_leaving, is_leaving_by, is_running_on, is_waiting, node_of, node_size, opening, progress, replica, same_cell, transfer, written_cells}
-use Rattle.sj_base.specs.declared.trace.Event.{Event}
-use Rattle.sj_base.specs.declared.trace.Event.TheVariants.{Claim, Drop, End, Move, Moved, Run}
+use Rattle.std.specs.Prelude.{unwrap_or}
+use Rattle.sj_core.proofs.Words.{AtNode, Cell, Claim, DiskNo, Drop, End, Event, Machine, Move, Moved, OnDisk, Place, Program, Progress, Run, State, Task, Transfer, Waiting, commuting_cells, done_in, footprint, has_room, is_claimed_by, is_coming_by, is_idle, is_leaving, is_leaving_by, is_running_on, is_waiting, node_of, node_size, opening, progress, replica, same_cell, transfer, written_cells}
 use Rattle.sj_codelet.specs.Kernel.{fits}
 use Rattle.sj_core.specs.Legal.{Leads, Legal}
 use Rattle.sj_core.specs.Step.{Step, a_transfer, after, disk_of, is_fresh, is_in_use, is_moving, is_present, is_read, is_valid_elsewhere, mover_of, none_leaving, same_place, source_of, victims_for}
 use Rattle.sj_core.proofs.Advancing.{claimed_by-is, running_on-is}
-use Rattle.sj_core.proofs.Jobs.{worker}
+use Rattle.sj_core.proofs.Worked.{worker}
 use Rattle.sj_core.proofs.Placing.{same_place-is}
 use Rattle.sj_core.proofs.Readiness.{EarlierAreDone-all, Ready-from}
 use Rattle.sj_core.proofs.Reading.{same_cell-is}
@@ -49,10 +47,7 @@ is_step p m s (End t w) = is_running_on w (progress s t)
 -- ---- the test is right
 
 waiting-is : (x : Progress) → is_waiting x ≡ true → x ≡ Waiting
-waiting-is Waiting h = refl
-waiting-is (Claimed v) h = absurd (false≢true h)
-waiting-is (Running v) h = absurd (false≢true h)
-waiting-is (Done v) h = absurd (false≢true h)
+waiting-is x h = search (arith, false≢true)
 
 none-is : {X : Type 0} (o : Option X) → is_none o ≡ true → o ≡ None
 none-is None h = refl
@@ -72,10 +67,7 @@ on-is (Some k) d h = ap (λ i. Some (record { 0 = i })) (eqb-true k.0 d.0 h)
 
 transfer-is : (c : Cell) (from to : Place) (o : Option Transfer) → is_transfer c from to o ≡ true → o ≡ Some (a_transfer c from to)
 transfer-is c from to None h = absurd (false≢true h)
-transfer-is c from to (Some x) h =
-    let both = and_parts _ _ h in
-    let parts = and_parts _ _ both.0 in
-    ap (λ (d : Cell). Some (a_transfer d x.from x.to)) (same_cell-is x.cell c parts.0) ∙ ap (λ (q : Place). Some (a_transfer c q x.to)) (same_place-is x.from from parts.1) ∙ ap (λ (q : Place). Some (a_transfer c from q)) (same_place-is x.to to both.1)
+transfer-is c from to (Some x) h = search (arith, and_parts, same_cell-is, same_place-is)
 
 module _ (p : Program) (m : Machine) where
   step-from : (s : State) (e : Event) → is_step p m s e ≡ true → Step p m s e (after p m s e)
@@ -90,24 +82,10 @@ module _ (p : Program) (m : Machine) where
       let (alone, room) = and_parts _ _ h7 in
       let waiting = waiting-is (progress s t) waits in
       record { worker = ltb-true w.0 p.workers worker; waiting = waiting; ready = Ready-from p s t (ltb-true t.0 (length p.tasks) inside) waiting (EarlierAreDone-all p s t earlier); idle = idle; fits = leb-true (footprint p t) (node_size m (node_of m w)) fits; settled = settled; alone = alone; evicted = unwrap_or (victims_for p m s t w) []; chosen = some-is (victims_for p m s t w) [] room; leaves = refl }
-  step-from s (Move c from (AtNode n)) h =
-      let w = mover_of s c from (AtNode n) in
-      let (own_node, h1) = and_parts _ _ h in
-      let (free, h2) = and_parts _ _ h1 in
-      let (coming, h3) = and_parts _ _ h2 in
-      let (needed, h4) = and_parts _ _ h3 in
-      let (room, source) = and_parts _ _ h4 in
-      record { own_node = ap (λ i. let k : Node = record { 0 = i } in k) (eqb-true n.0 (node_of m w).0 own_node); free = none-is (transfer s w) free; coming = coming; old_value_needed = needed; room = room; source = here-is (source_of p m s c) from source; leaves = refl }
-  step-from s (Move c from (OnDisk d)) h =
-      let (free, h1) = and_parts _ _ h in
-      let (leaving, h2) = and_parts _ _ h1 in
-      let (only, target) = and_parts _ _ h2 in
-      record { free = none-is (transfer s (mover_of s c from (OnDisk d))) free; leaving = leaving; only = only; target = on-is (disk_of p m c) d target; leaves = refl }
+  step-from s (Move c from (AtNode n)) h = search (arith, and_parts, eqb-true, none-is, here-is)
+  step-from s (Move c from (OnDisk d)) h = search (arith, and_parts, none-is, on-is)
   step-from s (Moved c from to) h = record { under_way = transfer-is c from to (transfer s (mover_of s c from to)) h; leaves = refl }
-  step-from s (Drop c n) h =
-      let (leaving, h1) = and_parts _ _ h in
-      let (unread, shared) = and_parts _ _ h1 in
-      record { leaving = leaving; unread = unread; shared = shared; leaves = refl }
+  step-from s (Drop c n) h = search (arith, and_parts)
   step-from s (Run t w) h =
       let (claimed, h1) = and_parts _ _ h in
       let (earlier, h2) = and_parts _ _ h1 in

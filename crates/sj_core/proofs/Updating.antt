@@ -1,32 +1,29 @@
 -- A task with a COMMUTE or a REDUX operand updates one cell alone, by its last operand.
-use Rattle.std.proofs.Common.{Bool, List, [], ap, arith, cond, false, inl, inr, length, map, not, refl, subst, suc, sym, true, ◌++◌, ◌<◌, ◌||◌, ◌∙◌, ◌∷◌, ◌≡◌, ◌≢◌, ◌⊎◌}
-use Rattle.std.specs.List.{Contains, filter, list_all}
-use Rattle.std.proofs.lemmas.Bool.{false≢true, true≢false, not-true}
-use Rattle.std.proofs.lemmas.List.{get_or-map, length-map, map-append}
+use Rattle.std.proofs.Common.{Bool, List, [], ap, arith, cond, false, inl, inr, length, map, not, refl, subst, suc, sym, true, ◌++◌, ◌<◌, ◌||◌, ◌∙◌, ◌∷◌, ◌≡◌, ◌≢◌, ◌⊎◌, None, Option, Some, ℕ, Contains, filter, IsTrue}
+use Rattle.std.specs.List.{list_all, list_any}
+use Rattle.std.proofs.lemmas.Bool.{false≢true, true≢false, not-true, and_from, cases_eq}
+use Rattle.std.proofs.lemmas.List.{map-append}
 use Rattle.std.proofs.lemmas.List.Elements.{All-get_or, Contains-append_cases, Contains-append_left}
 use Rattle.std.proofs.lemmas.List.Sums.{AllPass-from_list_all}
+use Rattle.std.proofs.lemmas.List.Folds.{list_any_at}
 use Rattle.sj_base.specs.Mode.{is_in_order, is_redux, is_scratch, is_written, starts_as_zeros}
-use Rattle.sj_base.specs.declared.mode.Access.{Access}
-use Rattle.sj_base.specs.declared.mode.Mode.{Mode}
-use Rattle.sj_base.specs.declared.mode.Mode.TheVariants.{Commute as CommuteMode, R, RW, Redux, Scratch, W}
-use Rattle.sj_base.specs.declared.mode.Reduction.{Reduction}
-use Rattle.sj_base.specs.declared.mode.Reduction.TheVariants.{Plus, Least}
-use Rattle.sj_base.specs.declared.program.Codelet.{Codelet}
 use Rattle.sj_codelet.proofs.Table.{by_table}
 use Rattle.sj_codelet.specs.Formal.{is_output}
-use Rattle.sj_codelet.specs.Kernel.{commutes_of, contributes_of, formals_of}
-use Rattle.sj_codelet.specs.declared.formal.Formal.{Formal}
-use Rattle.sj_codelet.specs.declared.formal.Formal.TheVariants.{R as ReadFormal, W as WriteFormal, RW as UpdateFormal, Scratch as ScratchFormal}
-use Rattle.sj_codelet.specs.declared.kernel.Kernel.{Kernel}
+use Rattle.sj_codelet.specs.Kernel.{commutes_of, contributes_of, formals_of, kernel_of}
 use Rattle.sj_codelet.specs.declared.kernel.Kernel.TheVariants.{Add, Axpy, Dot, Gemm, GemmThree, Lowest, MinGemm, Scale, Sum}
-use Rattle.sj_deps.specs.Conflict.{Uses}
-use Rattle.sj_deps.specs.declared.manner.Manner.TheVariants.{Read}
-use Rattle.sj_core.proofs.Words.{Cell, Program, Task, Worker, no_task, task_of, worked_on, written_cells}
-use Rattle.sj_core.specs.Proper.{Commuting, Contributing, FirstPaste, Fits, MayHaveModes, Own, Proper, mode_of, modes_writing_by, own_modes}
+use Rattle.sj_deps.specs.Conflict.{Uses, Conflict, IsShared as IsSharedManner}
+use Rattle.sj_core.specs.Proper.{Fits, MayHaveModes, Proper, mode_of, modes_writing_by, own_modes}
+use Rattle.sj_core.specs.Laws.{IsLawful, is_known}
+use Rattle.sj_core.proofs.Words.{Access, Cell, Codelet, CommuteMode, Formal, Kernel, Least, Mode, Plus, Program, R, RW, Read, ReadFormal, Reduction, Redux, Scratch, ScratchFormal, Task, UpdateFormal, W, Worker, no_task, task_of, worked_on, written_cells, Commute, Contribute, Manner, Write, cells_of, has_cell, same_cell}
 use Rattle.sj_core.proofs.Dependencies.{Proper-dependencies, map-from, one_is}
 use Rattle.sj_core.proofs.Modes.{then, written_isn't_scratch}
-use Rattle.sj_core.proofs.Sharing.{manner_of, operand-uses, redux-has_copies}
-use Rattle.sj_core.proofs.Swapping.{Updates}
+use Rattle.sj_core.proofs.Sharing.{manner_of, operand-uses, redux-has_copies, Conflict-sym, conflict-by, operand_for}
+use Rattle.sj_core.proofs.Swapping.{Updates, Apart, Exchange, MaySwap, Together, commuting-exchange}
+use Rattle.sj_core.proofs.CellLists.{same_cell-refl}
+use Rattle.sj_core.proofs.Readiness.{list_any-some, Contains-map}
+use Rattle.sj_core.proofs.Reading.{same_cell-is}
+
+-- ---- a task with a COMMUTE or a REDUX operand updates one cell alone, by its last operand
 
 -- ---- codelets
 
@@ -55,18 +52,12 @@ contributing-commutes k Least h = then (contributes_of k Least) (commutes_of k) 
 
 -- a codelet contributes to one reduction alone
 pub one_reduction : (k : Kernel) (by by' : Reduction) → contributes_of k by ≡ true → contributes_of k by' ≡ true → by ≡ by'
-one_reduction k Plus Plus h h' = refl
-one_reduction k Least Least h h' = refl
-one_reduction k Plus Least h h' = absurd (true≢false (sym h' ∙ not-true (contributes_of k Least) (then (contributes_of k Plus) (not (contributes_of k Least)) (by_table (λ j. not (contributes_of j Plus) || not (contributes_of j Least)) refl k) h)))
-one_reduction k Least Plus h h' = absurd (true≢false (sym h ∙ not-true (contributes_of k Least) (then (contributes_of k Plus) (not (contributes_of k Least)) (by_table (λ j. not (contributes_of j Plus) || not (contributes_of j Least)) refl k) h')))
+one_reduction k by by' h h' = search (arith, true≢false, not-true, by_table)
 
 -- ---- modes
 
 own-in_order : (f : Formal) → is_in_order (mode_of f) ≡ true
-own-in_order ReadFormal = refl
-own-in_order WriteFormal = refl
-own-in_order UpdateFormal = refl
-own-in_order ScratchFormal = refl
+own-in_order f = search arith
 
 -- a mode in place of the codelet's own is the given one, or stands in order
 writing-is : (x y : Mode) (k : Kernel) → Contains (modes_writing_by x k) y → (y ≡ x) ⊎ (is_in_order y ≡ true)
@@ -86,21 +77,9 @@ pub record IsShared (k : Kernel) (ms : List Mode) (x : Mode) : Type 0 where
   pub contributes : x ≡ Redux → (by : Reduction) × (contributes_of k by ≡ true)
 
 shared-modes : (k : Kernel) (modes : List Mode) (x : Mode) → MayHaveModes k modes → is_in_order x ≡ false → Contains modes x → IsShared k modes x
-shared-modes k modes x (Own e) out h = let formal = map-from mode_of (formals_of k) x (subst (λ (ms : List Mode). Contains ms x) e h) in absurd (false≢true (sym out ∙ ap is_in_order (sym formal.2) ∙ own-in_order formal.0))
-shared-modes k modes x (FirstPaste is e) out h = elim (writing-is W x k (subst (λ (ms : List Mode). Contains ms x) e h)) [ inl f ↦ absurd (false≢true (sym out ∙ ap is_in_order f)) | inr f ↦ absurd (false≢true (sym out ∙ f)) ]
-shared-modes k modes x (Commuting may one e) out h = elim (writing-is CommuteMode x k (subst (λ (ms : List Mode). Contains ms x) e h)) [
-  | inl f ↦ record { commutes = may; modes = subst (λ (y : Mode). modes ≡ modes_writing_by y k) (sym f) e; contributes = λ g. absurd (let is : CommuteMode ≡ Redux = sym f ∙ g in cc) }
-  | inr f ↦ absurd (false≢true (sym out ∙ f))
-]
-shared-modes k modes x (Contributing by may one e) out h = elim (writing-is Redux x k (subst (λ (ms : List Mode). Contains ms x) e h)) [
-  | inl f ↦ record { commutes = contributing-commutes k by may; modes = subst (λ (y : Mode). modes ≡ modes_writing_by y k) (sym f) e; contributes = λ g. (by, may) }
-  | inr f ↦ absurd (false≢true (sym out ∙ f))
-]
+shared-modes k modes x y out h = search (arith, map-from, false≢true, own-in_order, writing-is, contributing-commutes)
 
 -- ---- lists
-
-pub Contains-map : {X Y : Type 0} (f : X → Y) (xs : List X) (x : X) → Contains xs x → Contains (map f xs) (f x)
-Contains-map f xs x (k, l, e) = (k, omega (arith, length-map xs f), get_or-map f xs k x (f x) l ∙ ap f e)
 
 -- where a map ends, its list does
 pub record EndsBy {X Y : Type 0} (g : X → Y) (xs : List X) (ys : List Y) (y : Y) : Type 0 where
@@ -129,28 +108,13 @@ filter-last f (y ∷ xs) x none passes = ap (λ b. cond b (y ∷ filter f (xs ++
 -- ---- tasks
 
 out-is_written : (x : Mode) → is_in_order x ≡ false → is_written x ≡ true
-out-is_written R h = absurd (true≢false h)
-out-is_written W h = absurd (true≢false h)
-out-is_written RW h = absurd (true≢false h)
-out-is_written Scratch h = absurd (true≢false h)
-out-is_written Redux h = refl
-out-is_written CommuteMode h = refl
+out-is_written x h = search (arith, true≢false)
 
 pub out-reads : (x : Mode) → is_in_order x ≡ false → starts_as_zeros x ≡ false
-out-reads R h = absurd (true≢false h)
-out-reads W h = absurd (true≢false h)
-out-reads RW h = absurd (true≢false h)
-out-reads Scratch h = absurd (true≢false h)
-out-reads Redux h = refl
-out-reads CommuteMode h = refl
+out-reads x h = search (arith, true≢false)
 
 out-isn't_read : (k : Codelet) (x : Mode) → is_in_order x ≡ false → Read ≢ manner_of k x
-out-isn't_read k R h e = true≢false h
-out-isn't_read k W h e = true≢false h
-out-isn't_read k RW h e = true≢false h
-out-isn't_read k Scratch h e = true≢false h
-out-isn't_read k Redux h e = cc
-out-isn't_read k CommuteMode h e = cc
+out-isn't_read k x h e = search (arith, true≢false)
 
 module _ (p : Program) (proper : Proper p) (t : Task) (inside : t.0 < length p.tasks) where
   -- a data operand of a task uses the cell that is worked on
@@ -188,10 +152,7 @@ module _ (p : Program) (proper : Proper p) (t : Task) (inside : t.0 < length p.t
         passes f (k, l, e) = ap (λ (g : Formal). not (is_output g)) (sym e) ∙ AllPass-from_list_all (λ g. not (is_output g)) last_row.first last_row.read_only k f l
 
         by_formal : (f : Formal) → not (is_output f) ≡ true → in_place (mode_of f) ≡ b.mode → (b.mode ≡ R) ⊎ (b.mode ≡ Scratch)
-        by_formal ReadFormal read e = inl (sym e)
-        by_formal ScratchFormal read e = inr (sym e)
-        by_formal WriteFormal read e = absurd (false≢true read)
-        by_formal UpdateFormal read e = absurd (false≢true read)
+        by_formal f read e = search (arith, false≢true)
 
     pub last-is : ends.last ≡ a
     last-is = elim (Contains-append_cases ends.first (ends.last ∷ []) a (subst (λ (xs : List Access). Contains xs a) ends.is among)) [
@@ -232,3 +193,110 @@ module _ (p : Program) (proper : Proper p) (t : Task) (inside : t.0 < length p.t
       direct = λ b h. elim (first-is b h) [ inl e ↦ ap is_redux e | inr e ↦ ap is_redux e ];
       others = unaliased w staffed;
     }
+
+-- ---- two tasks that don't conflict may change places
+
+-- one of the list has the cell
+has-contained : (cs : List Cell) (d : Cell) → Contains cs d → has_cell cs d ≡ true
+has-contained cs d (k, l, e) = list_any_at (λ c. same_cell c d) cs k d l (ap (λ (c : Cell). same_cell c d) e ∙ same_cell-refl d)
+
+any-has : (test : Cell → Bool) (cs : List Cell) (d : Cell) → has_cell cs d ≡ true → test d ≡ true → list_any test cs ≡ true
+any-has test cs d h passes = search (arith, list_any-some, list_any_at, same_cell-is)
+
+-- how two tasks may share a cell that one of them writes without a conflict
+data Alike (x y : Mode) (k k' : Codelet) : Type 0 where
+  BothCommute : x ≡ CommuteMode → y ≡ CommuteMode → k ≡ k' → Alike x y k k'
+  BothContribute : x ≡ Redux → y ≡ Redux → Alike x y k k'
+
+flipped : {x y : Mode} {k k' : Codelet} → Alike x y k k' → Alike y x k' k
+flipped (BothCommute e f g) = BothCommute f e (sym g)
+flipped (BothContribute e f) = BothContribute f e
+
+module _ (has : Kernel → Bool) (p : Program) (proper : Proper p) (lawful : IsLawful has p) where
+  -- where both contribute to a cell by one worker's copy, their codelets may be exchanged
+  abbrev pub ContributionsExchange : Task → Task → Worker → Worker → Type 0
+  ContributionsExchange t u w v = (a b : Access) → Contains (task_of p t).accesses a → Contains (task_of p u).accesses b → a.mode ≡ Redux → b.mode ≡ Redux → worked_on p w a ≡ worked_on p v b → (j k : Kernel) → kernel_of (task_of p t).codelet ≡ Some j → kernel_of (task_of p u).codelet ≡ Some k → Exchange j k
+
+  module _ (t u : Task) (free : ¬ Conflict p t.0 u.0) where
+    share-alike : (x y : Mode) (c : Cell) → not (is_scratch x) ≡ true → is_written y ≡ true → Uses p t.0 c.0 (manner_of (task_of p t).codelet x) → Uses p u.0 c.0 (manner_of (task_of p u).codelet y) → Alike x y (task_of p t).codelet (task_of p u).codelet
+    share-alike x y c accessed written tm un = by_modes x y accessed written tm un
+      where
+        conflict : (m n : Manner) → Uses p t.0 c.0 m → Uses p u.0 c.0 n → (n ≡ Read → ⊥) → ((IsSharedManner n → ⊥) ⊎ ((IsSharedManner m → ⊥) ⊎ (m ≢ n))) → ⊥
+        conflict m n tm un writes apart = free (conflict-by p (Proper-dependencies p proper) t.0 u.0 c.0 m n tm un (λ both. writes both.1) apart)
+
+        same_codelet : (k k' : Codelet) → Uses p t.0 c.0 (Commute k) → Uses p u.0 c.0 (Commute k') → k ≡ k'
+        same_codelet k k' tm un = elim (cases_eq k.0 k'.0) [
+          | inl e ↦ ap (λ (n : ℕ). let id : Codelet = record { 0 = n } in id) e
+          | inr d ↦ absurd (conflict (Commute k) (Commute k') tm un (λ e. cc) (inr (inr (λ e. d (let f : k ≡ k' = cc in ap (λ (id : Codelet). id.0) f)))))
+        ]
+
+        by_modes : (x y : Mode) → not (is_scratch x) ≡ true → is_written y ≡ true → Uses p t.0 c.0 (manner_of (task_of p t).codelet x) → Uses p u.0 c.0 (manner_of (task_of p u).codelet y) → Alike x y (task_of p t).codelet (task_of p u).codelet
+        by_modes x W accessed written tm un = absurd (conflict (manner_of (task_of p t).codelet x) Write tm un (λ e. cc) (inl (λ h. h)))
+        by_modes x RW accessed written tm un = absurd (conflict (manner_of (task_of p t).codelet x) Write tm un (λ e. cc) (inl (λ h. h)))
+        by_modes R CommuteMode accessed written tm un = absurd (conflict Read (Commute (task_of p u).codelet) tm un (λ e. cc) (inr (inl (λ h. h))))
+        by_modes W CommuteMode accessed written tm un = absurd (conflict Write (Commute (task_of p u).codelet) tm un (λ e. cc) (inr (inl (λ h. h))))
+        by_modes RW CommuteMode accessed written tm un = absurd (conflict Write (Commute (task_of p u).codelet) tm un (λ e. cc) (inr (inl (λ h. h))))
+        by_modes Scratch CommuteMode accessed written tm un = absurd (false≢true accessed)
+        by_modes Redux CommuteMode accessed written tm un = absurd (conflict Contribute (Commute (task_of p u).codelet) tm un (λ e. cc) (inr (inr (λ e. cc))))
+        by_modes CommuteMode CommuteMode accessed written tm un = BothCommute refl refl (same_codelet (task_of p t).codelet (task_of p u).codelet tm un)
+        by_modes R Redux accessed written tm un = absurd (conflict Read Contribute tm un (λ e. cc) (inr (inl (λ h. h))))
+        by_modes W Redux accessed written tm un = absurd (conflict Write Contribute tm un (λ e. cc) (inr (inl (λ h. h))))
+        by_modes RW Redux accessed written tm un = absurd (conflict Write Contribute tm un (λ e. cc) (inr (inl (λ h. h))))
+        by_modes Scratch Redux accessed written tm un = absurd (false≢true accessed)
+        by_modes CommuteMode Redux accessed written tm un = absurd (conflict (Commute (task_of p t).codelet) Contribute tm un (λ e. cc) (inr (inr (λ e. cc))))
+        by_modes Redux Redux accessed written tm un = BothContribute refl refl
+        by_modes x y accessed written tm un = absurd (false≢true written)
+
+  module _ (t u : Task) (t_in : t.0 < length p.tasks) (u_in : u.0 < length p.tasks) (w v : Worker) (w_in : w.0 < p.workers) (v_in : v.0 < p.workers) (free : ¬ Conflict p t.0 u.0) (contributions : ContributionsExchange t u w v) where
+    -- operands that share a cell without a conflict update it by codelets that may be exchanged
+    together : (d : Cell) (a b : Access) → Contains (task_of p t).accesses a → Contains (task_of p u).accesses b → worked_on p w a ≡ d → worked_on p v b ≡ d → Alike a.mode b.mode (task_of p t).codelet (task_of p u).codelet → MaySwap p proper lawful.arguments t u w v
+    together d a b ta ub ea eb alike = by_kind alike
+      where
+        both : (oa : is_in_order a.mode ≡ false) (ob : is_in_order b.mode ≡ false) → ((j k : Kernel) → kernel_of (task_of p t).codelet ≡ Some j → kernel_of (task_of p u).codelet ≡ Some k → Exchange j k) → MaySwap p proper lawful.arguments t u w v
+        both oa ob exchange =
+            let x : Updates p t w d = subst (Updates p t w) ea (updates p proper t t_in a ta oa w w_in) in
+            let y : Updates p u v d = subst (Updates p u v) eb (updates p proper u u_in b ub ob v v_in) in
+            Together d x y (exchange x.kernel y.kernel x.codelet y.codelet)
+
+        commuting : a.mode ≡ CommuteMode → (task_of p t).codelet ≡ (task_of p u).codelet → (j k : Kernel) → kernel_of (task_of p t).codelet ≡ Some j → kernel_of (task_of p u).codelet ≡ Some k → Exchange j k
+        commuting mode same j k ej ek =
+            let f : Some j ≡ Some k = sym ej ∙ ap kernel_of same ∙ ek in
+            let one : j ≡ k = cc in
+            let g : Some (own-fit p proper t t_in).kernel ≡ Some j = sym (own-fit p proper t t_in).codelet ∙ ej in
+            let own : (own-fit p proper t t_in).kernel ≡ j = cc in
+            let known : has j ≡ true = sym (ap (λ (o : Option Kernel). elim o as (λ _. Bool) [ None ↦ false | Some kernel ↦ has kernel ]) ej) ∙ All-get_or (λ l. IsTrue (is_known has l.codelet)) p.tasks t.0 no_task t_in lawful.known in
+            let commutes : commutes_of j ≡ true = ap commutes_of (sym own) ∙ (shared-codelet p proper t t_in a ta (ap is_in_order mode)).commutes in
+            subst (Exchange j) one (commuting-exchange j (lawful.commuting j (and_from (has j) (commutes_of j) known commutes)))
+
+        by_kind : Alike a.mode b.mode (task_of p t).codelet (task_of p u).codelet → MaySwap p proper lawful.arguments t u w v
+        by_kind (BothCommute ma mb same) = both (ap is_in_order ma) (ap is_in_order mb) (commuting ma same)
+        by_kind (BothContribute ma mb) = both (ap is_in_order ma) (ap is_in_order mb) (contributions a b ta ub ma mb (ea ∙ sym eb))
+
+    -- tasks that don't conflict may change places
+    pub may-swap : MaySwap p proper lawful.arguments t u w v
+    may-swap = by_tests (list_any (λ d. has_cell (cells_of p t w) d) (written_cells p u v)) (list_any (λ d. has_cell (cells_of p u v) d) (written_cells p t w)) refl refl
+      where
+        data_of : (k : Task) (x : Worker) (d : Cell) → has_cell (cells_of p k x) d ≡ true → (a : Access) × Contains (task_of p k).accesses a × (not (is_scratch a.mode) ≡ true) × (worked_on p x a ≡ d)
+        data_of k x d h = operand_for (worked_on p x) (λ a. not (is_scratch a.mode)) (task_of p k).accesses d h
+
+        written_of : (k : Task) (x : Worker) (d : Cell) → has_cell (written_cells p k x) d ≡ true → (a : Access) × Contains (task_of p k).accesses a × (is_written a.mode ≡ true) × (worked_on p x a ≡ d)
+        written_of k x d h = operand_for (worked_on p x) (λ a. is_written a.mode) (task_of p k).accesses d h
+
+        used : (k : Task) (k_in : k.0 < length p.tasks) (x : Worker) → x.0 < p.workers → (d : Cell) (a : Access) → Contains (task_of p k).accesses a → not (is_scratch a.mode) ≡ true → worked_on p x a ≡ d → Uses p k.0 d.0 (manner_of (task_of p k).codelet a.mode)
+        used k k_in x x_in d a h accessed e = subst (λ (q : Cell). Uses p k.0 q.0 (manner_of (task_of p k).codelet a.mode)) e (operand-used p proper k k_in x x_in a h accessed)
+
+        by_tests : (x y : Bool) → list_any (λ d. has_cell (cells_of p t w) d) (written_cells p u v) ≡ x → list_any (λ d. has_cell (cells_of p u v) d) (written_cells p t w) ≡ y → MaySwap p proper lawful.arguments t u w v
+        by_tests true y e f =
+            let found = list_any-some (λ d. has_cell (cells_of p t w) d) (written_cells p u v) e in
+            let d = found.0 in
+            let a = data_of t w d found.2 in
+            let b = written_of u v d (has-contained (written_cells p u v) d found.1) in
+            together d a.0 b.0 a.1 b.1 a.3 b.3 (share-alike t u free a.0.mode b.0.mode d a.2 b.2 (used t t_in w w_in d a.0 a.1 a.2 a.3) (used u u_in v v_in d b.0 b.1 (written_isn't_scratch b.0.mode b.2) b.3))
+        by_tests false true e f =
+            let found = list_any-some (λ d. has_cell (cells_of p u v) d) (written_cells p t w) f in
+            let d = found.0 in
+            let b = data_of u v d found.2 in
+            let a = written_of t w d (has-contained (written_cells p t w) d found.1) in
+            together d a.0 b.0 a.1 b.1 a.3 b.3 (flipped (share-alike u t (λ h. free (Conflict-sym p u.0 t.0 h)) b.0.mode a.0.mode d b.2 a.2 (used u u_in v v_in d b.0 b.1 b.2 b.3) (used t t_in w w_in d a.0 a.1 (written_isn't_scratch a.0.mode a.2) a.3)))
+        by_tests false false e f =
+            (search (arith, Apart, false≢true, any-has))

@@ -1,27 +1,57 @@
 -- A cell whose old value a task reads has been written by the time that the task may run.
-use Rattle.std.proofs.Common.{ap, arith, cond, false, get_or, inl, inr, length, not, refl, subst, suc, sym, true, zero, ℕ, ◌&&◌, ◌<◌, ◌∙◌, ◌≡◌, ◌⊎◌}
+use Rattle.std.proofs.Common.{arith, ◌≡◌, Bool, true, false, cond, List, [], map, length, refl, sym, ap, ◌∙◌, None, Some, Option, get_or, inl, inr, not, subst, suc, zero, ℕ, ◌&&◌, ◌<◌, ◌⊎◌, ℤ, count_by, IsTrue, filter, Contains}
+use Rattle.std.proofs.lemmas.List.{length-map}
+use Rattle.std.proofs.lemmas.List.Sums.{length-filter, get_or-le-sum_by}
 use Rattle.std.proofs.lemmas.Bool.{false≢true}
 use Rattle.std.proofs.lemmas.Bool.Decides.{Decides-eqb}
 use Rattle.std.proofs.lemmas.List.Elements.{All-contains}
 use Rattle.std.proofs.lemmas.List.FromFn.{get_or-map-range_with_len, length-map-range_with_len}
-use Rattle.std.proofs.lemmas.List.Sums.{get_or-le-sum_by}
-use Rattle.std.specs.List.{Contains}
-use Rattle.std.specs.Prelude.{IsTrue}
-use Rattle.sj_base.specs.Mode.{is_redux, is_scratch, is_written, reads_value, starts_as_zeros}
-use Rattle.sj_core.proofs.Words.{Cell, Program, State, Task, Worker, cells_of, copy_of, data_operands, done_by, fresh_cells, has_cell, same_cell, task_of, tasks_of, worked_on, writes, written_cells}
-use Rattle.sj_base.specs.declared.mode.Access.{Access}
-use Rattle.sj_base.specs.declared.mode.Mode.{Mode}
-use Rattle.sj_base.specs.declared.mode.Mode.TheVariants.{Commute as CommuteMode, R, RW, Redux, Scratch, W}
+use Rattle.sj_codelet.proofs.Table.{new_arrays-count}
+use Rattle.sj_codelet.specs.Kernel.{new_arrays}
+use Rattle.sj_base.specs.Mode.{is_written, is_redux, is_scratch, reads_value, starts_as_zeros}
+use Rattle.sj_core.specs.Proper.{Fits, MayHaveModes, own_modes, modes_writing_by, HasValueBefore, Proper, access, gives_value}
 use Rattle.sj_deps.specs.Conflict.{Conflict, IsShared, Uses}
-use Rattle.sj_deps.specs.declared.manner.Manner.{Manner}
-use Rattle.sj_deps.specs.declared.manner.Manner.TheVariants.{Write}
 use Rattle.sj_core.specs.Coherent.{WritesAreCounted, has_written}
-use Rattle.sj_core.specs.Proper.{HasValueBefore, Proper, access, gives_value}
 use Rattle.sj_core.specs.Step.{EarlierAreDone}
+use Rattle.sj_core.proofs.Words.{Access, Array, Cell, CommuteMode, Kernel, Manner, Mode, Program, R, RW, Redux, Scratch, State, Task, W, Worker, Write, cells_of, copy_of, data_operands, done_by, found, fresh_cells, has_cell, results, same_cell, task_of, tasks_of, worked_on, writes, written_cells}
 use Rattle.sj_core.proofs.Dependencies.{Proper-dependencies}
 use Rattle.sj_core.proofs.Readiness.{Contains-filter, list_any-some}
 use Rattle.sj_core.proofs.Reading.{same_cell-is}
 use Rattle.sj_core.proofs.Sharing.{manner_of, operand-has_cell, operand-uses, operand_for, redux-has_copies, write_isn't_read}
+use Rattle.sj_core.proofs.Sums.{sum_by-map, sum-agree}
+
+-- ---- a task's codelet has a new array for each operand that the task writes
+
+-- a test counts as many after a map under which it answers the same
+count_by-map : {X Y : Type 0} (f : X → Y) (test : Y → Bool) (test' : X → Bool) (xs : List X) → ((x : X) → test (f x) ≡ test' x) → count_by test (map f xs) ≡ count_by test' xs
+count_by-map f test test' xs same =
+    sum_by-map (λ y. cond (test y) 1 0) f xs ∙ sum-agree (λ x. cond (test (f x)) 1 0) (λ x. cond (test' x) 1 0) (λ x. ap (λ b. cond b 1 0) (same x)) xs
+
+-- a kernel has a new array for each of its own operands that is written
+own-count : (k : Kernel) (args : List ℤ) (ins : List Array) → length (new_arrays k args ins) ≡ count_by is_written (own_modes k)
+own-count k args ins = search (arith, new_arrays-count, length-filter, count_by-map)
+
+-- another mode for what is written is as many written operands
+writing_by-count : (x : Mode) → is_written x ≡ true → (k : Kernel) → count_by is_written (modes_writing_by x k) ≡ count_by is_written (own_modes k)
+writing_by-count x written k = search (arith, count_by-map)
+
+modes-count : (k : Kernel) (modes : List Mode) → MayHaveModes k modes → count_by is_written modes ≡ count_by is_written (own_modes k)
+modes-count k modes x = search (arith, writing_by-count)
+
+-- a task that fits its codelet has as many results as written cells
+pub results-complete : (p : Program) (t : Task) (w : Worker) (held : Cell → Array) → Fits p (task_of p t) → length (results p t w held) ≡ length (written_cells p t w)
+results-complete p t w held fit =
+    let l = task_of p t in
+    let ins : List Array = map (found p w held) l.accesses in
+    let writes : Access → Bool = λ a. is_written a.mode in
+    ap (λ (o : Option Kernel). length (elim o as (λ _. List Array) [ None ↦ [] | Some k ↦ new_arrays k l.args ins ])) fit.codelet
+    ∙ own-count fit.kernel l.args ins
+    ∙ sym (modes-count fit.kernel (map (λ (a : Access). a.mode) l.accesses) fit.modes)
+    ∙ count_by-map (λ (a : Access). a.mode) is_written writes l.accesses (λ a. refl)
+    ∙ sym (length-filter writes l.accesses)
+    ∙ sym (length-map (filter writes l.accesses) (worked_on p w))
+
+-- ---- a cell whose old value a task reads has been written by the time that the task may run
 
 module _ (p : Program) (proper : Proper p) (s : State) (t : Task) (w : Worker) (inside : t.0 < length p.tasks) (staffed : w.0 < p.workers) (earlier : EarlierAreDone p s t) (c : Cell) where
   -- a task conflicts with each later one that uses what it writes by itself
@@ -39,9 +69,6 @@ module _ (p : Program) (proper : Proper p) (s : State) (t : Task) (w : Worker) (
   -- a task that gives the cell a value commutes there, or writes it by itself, whatever its worker
   giver : (u : Task) → u.0 < length p.tasks → (x : Mode) (d : Cell) → Contains (task_of p u).accesses (access x d) → (is_written x && not (is_redux x) && same_cell d c) ≡ true →
       ((x ≡ CommuteMode) × (d ≡ c)) ⊎ (Uses p u.0 c.0 Write × ((v : Worker) → has_cell (written_cells p u v) c ≡ true))
-  giver u u_in R d has passes = absurd (false≢true passes)
-  giver u u_in Scratch d has passes = absurd (false≢true passes)
-  giver u u_in Redux d has passes = absurd (false≢true passes)
   giver u u_in CommuteMode d has passes = inl (refl, same_cell-is d c passes)
   giver u u_in W d has passes =
       let same = same_cell-is d c passes in
@@ -55,6 +82,7 @@ module _ (p : Program) (proper : Proper p) (s : State) (t : Task) (w : Worker) (
         subst (λ (q : Cell). Uses p u.0 q.0 Write) same (operand-uses p u w RW d u_in has refl (λ e. absurd (false≢true e))),
         λ v. operand-has_cell (worked_on p v) (λ a. is_written a.mode) (task_of p u).accesses (access RW d) c has refl passes,
       )
+  giver u u_in d' d has passes = absurd (false≢true passes)
 
   -- some done task wrote a cell that had a value before a task that uses it
   wrote : (n : Manner) → Uses p t.0 c.0 n → (bound : ℕ) (u : Task) → u.0 < bound → u.0 < t.0 → gives_value (task_of p u) c ≡ true → (v : Task) × (v.0 < t.0) × (has_written p s c v ≡ true)
@@ -69,9 +97,7 @@ module _ (p : Program) (proper : Proper p) (s : State) (t : Task) (w : Worker) (
           let done = earlier u before (conflicts u n by_itself uses) in
           (u, before, ap (λ b. b && has_cell (written_cells p u (done_by s u)) c) done ∙ written (done_by s u))
       by_giver a has (inl (commutes, same)) later =
-          let reads : reads_value a.mode ≡ true = ap reads_value commutes in
-          let value = All-contains (λ (b : Access). IsTrue (reads_value b.mode) → HasValueBefore p u b.cell) (task_of p u).accesses a (proper.values.cells u) has reads in
-          later value.0 (omega (arith, value.1, below)) (omega (arith, value.1, before)) (subst (λ (q : Cell). gives_value (task_of p value.0) q ≡ true) same value.2)
+          (search (arith, All-contains))
 
   -- a cell of the task that it doesn't find as zeros had a value before it, and is used by it
   old_value : has_cell (cells_of p t w) c ≡ true → has_cell (fresh_cells p t w) c ≡ false → HasValueBefore p t c × ((n : Manner) × Uses p t.0 c.0 n)
@@ -102,7 +128,6 @@ module _ (p : Program) (proper : Proper p) (s : State) (t : Task) (w : Worker) (
       let number : ℕ → Task = λ n. record { 0 = n } in
       let one : Task → ℕ = λ u. cond (has_written p s c u) 1 0 in
       let at_found : get_or (tasks_of p) found.0.0 found.0 ≡ found.0 = get_or-map-range_with_len number 0 (length p.tasks) found.0.0 found.0.0 found.0 (omega (arith, found.1, inside)) (omega arith) in
-      let among = get_or-le-sum_by one (tasks_of p) found.0.0 found.0 (omega (arith, found.1, inside, length-map-range_with_len number 0 (length p.tasks))) in
       let is_one : one (get_or (tasks_of p) found.0.0 found.0) ≡ 1 = ap one at_found ∙ ap (λ b. cond b 1 0) found.2 in
-      let counted = counts.counted c in
-      omega arith
+      let all = get_or-le-sum_by one (tasks_of p) found.0.0 found.0 (omega (arith, found.1, inside, length-map-range_with_len number 0 (length p.tasks))) in
+      omega (arith, counts.counted c)

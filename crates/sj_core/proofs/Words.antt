@@ -9,6 +9,23 @@ pub use Rattle.sj_base.specs.declared.ids.Place.TheVariants.{Disk as OnDisk, Nod
 pub use Rattle.sj_base.specs.declared.program.Program.{Program}
 pub use Rattle.sj_base.specs.declared.program.Machine.{Machine}
 pub use Rattle.sj_base.specs.Array.{Array, area, zeros}
+pub use Rattle.sj_base.specs.declared.mode.Access.{Access}
+pub use Rattle.sj_base.specs.declared.mode.Mode.{Mode}
+pub use Rattle.sj_base.specs.declared.mode.Mode.TheVariants.{Commute as CommuteMode, R, RW, Redux, Scratch, W}
+pub use Rattle.sj_base.specs.declared.mode.Reduction.{Reduction}
+pub use Rattle.sj_base.specs.declared.mode.Reduction.TheVariants.{Least, Plus}
+pub use Rattle.sj_base.specs.declared.tile.Dims.{Dims}
+pub use Rattle.sj_base.specs.declared.program.Lowered.{Lowered}
+pub use Rattle.sj_base.specs.declared.program.Codelet.{Codelet}
+pub use Rattle.sj_base.specs.declared.program.CellInfo.{CellInfo}
+pub use Rattle.sj_base.specs.declared.trace.Event.{Event}
+pub use Rattle.sj_base.specs.declared.trace.Event.TheVariants.{Claim, Drop, End, Move, Moved, Run}
+pub use Rattle.sj_codelet.specs.declared.kernel.Kernel.{Kernel}
+pub use Rattle.sj_codelet.specs.declared.formal.Formal.{Formal}
+pub use Rattle.sj_codelet.specs.declared.formal.Formal.TheVariants.{R as ReadFormal, RW as UpdateFormal, Scratch as ScratchFormal, W as WriteFormal}
+pub use Rattle.sj_deps.specs.declared.manner.Manner.{Manner}
+pub use Rattle.sj_deps.specs.declared.manner.Manner.TheVariants.{Commute, Contribute, Read, Write}
+pub use Rattle.sj_deps.specs.declared.manner.Usage.{Usage}
 pub use Rattle.sj_core.specs.declared.progress.Progress.{Progress}
 pub use Rattle.sj_core.specs.declared.progress.Progress.TheVariants.{Claimed, Done, Running, Waiting}
 pub use Rattle.sj_core.specs.declared.progress.Transfer.{Transfer}

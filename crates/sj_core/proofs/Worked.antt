@@ -1,11 +1,46 @@
 -- Needs, first fit and victims on small programs, with the numbers worked out by hand.
-use Rattle.std.proofs.Common.{◌≡◌, ℕ, not, List, [], ◌∷◌, map, refl, Option, Some, None}
-use Rattle.std.specs.Prelude.{option_map, nat_eq}
-use Rattle.sj_base.specs.declared.mode.Mode.TheVariants.{R, Scratch, Redux}
-use Rattle.sj_core.proofs.Words.{Block, Program, footprint, swap_need, place, room}
+use Rattle.std.proofs.Common.{ℕ, Option, List, ◌∷◌, ◌≡◌, not, [], map, refl, Some, None, ℤ, pos, option_map, nat_eq}
+use Rattle.sj_base.specs.declared.mode.Policy.TheVariants.{Eager}
+use Rattle.sj_codelet.specs.Kernel.{codelet_of}
 use Rattle.sj_core.specs.Victims.{victims}
 use Rattle.sj_codelet.specs.declared.kernel.Kernel.TheVariants.{Sum, GemmThree}
-use Rattle.sj_core.proofs.Jobs.{a_machine, a_task, access, columns}
+use Rattle.sj_core.proofs.Words.{Access, AtNode, Cell, CellInfo, Claim, End, Event, Kernel, Lowered, Machine, Mode, OnDisk, Place, Run, Task, Worker, Block, Program, R, Redux, Scratch, footprint, place, room, swap_need}
+
+-- ---- words in which worked jobs and their events are told
+
+abbrev pub cell : ℕ → Cell
+cell n = record { 0 = n }
+
+abbrev pub task : ℕ → Task
+task n = record { 0 = n }
+
+abbrev pub worker : ℕ → Worker
+worker n = record { 0 = n }
+
+-- the first node and the first disk
+abbrev pub node : Place
+node = AtNode (record { 0 = 0 })
+
+abbrev pub disk : Place
+disk = OnDisk (record { 0 = 0 })
+
+abbrev pub access : Mode → ℕ → Access
+access mode n = record { mode = mode; cell = cell n }
+
+abbrev pub columns : ℕ → Option Cell → CellInfo
+columns n partials = record { root = record { 0 = 0 }; dims = record { rows = 1; cols = n }; partials = partials }
+
+abbrev pub a_task : Kernel → List ℤ → List Access → Lowered
+a_task k args accesses = record { codelet = codelet_of k; args = args; accesses = accesses; line = record { 0 = 2 }; priority = pos 0 }
+
+abbrev pub a_machine : ℕ → List ℕ → List ℕ → Machine
+a_machine workers nodes disks = record { workers = workers; nodes = nodes; disks = disks; policy = Eager }
+
+-- the events of a task that needs no move
+abbrev pub turn : ℕ → ℕ → List Event → List Event
+turn n w rest = Claim (task n) (worker w) ∷ Run (task n) (worker w) ∷ End (task n) (worker w) ∷ rest
+
+-- ---- needs, first fit and victims on small programs, with the numbers worked out by hand
 
 -- a vector of four, a scalar under reduction, and its copies for two workers
 abbrev reduction : Program

@@ -1,26 +1,20 @@
 -- Worked jobs whose runs are legal and complete: a sum, vectors that don't fit their node together, a reduction.
-use Rattle.std.proofs.Common.{◌≡◌, ℕ, zero, suc, List, [], ◌∷◌, refl, ap, None, arith, lit<, lit≤}
-use Rattle.std.specs.Prelude.{pos}
+use Rattle.std.proofs.Common.{◌≡◌, ℕ, List, [], ◌∷◌, refl, None, arith, lit<, lit≤, pos}
 use Rattle.std.specs.Int.{int_wrap}
 use Rattle.std.proofs.lemmas.Bool.{false≢true}
-use Rattle.sj_base.specs.declared.mode.Mode.TheVariants.{R, W, RW}
-use Rattle.sj_core.proofs.Words.{Machine, Program, State, Valid, order, replica, victims_of, writes}
-use Rattle.sj_base.specs.declared.trace.Event.{Event}
-use Rattle.sj_base.specs.declared.trace.Event.TheVariants.{Claim, Move, Moved, Drop, Run, End}
+use Rattle.sj_core.proofs.Words.{Claim, Drop, End, Event, Machine, Manner, Move, Moved, Program, R, RW, Run, State, Valid, W, Write, order, replica, victims_of, writes}
 use Rattle.sj_codelet.specs.declared.kernel.Kernel.TheVariants.{Load, Add, Deliver}
 use Rattle.sj_codelet.specs.Equations.{vector}
-use Rattle.sj_deps.specs.declared.manner.Manner.{Manner}
-use Rattle.sj_deps.specs.declared.manner.Manner.TheVariants.{Read, Write, Commute, Contribute}
-use Rattle.sj_deps.specs.declared.manner.Usage.{Usage}
 use Rattle.sj_deps.specs.Conflict.{Conflict, Uses, IsShared}
 use Rattle.sj_core.specs.Fold.{given}
 use Rattle.sj_core.specs.Legal.{Legal, IsComplete, state_of}
 use Rattle.sj_core.specs.Proper.{IsMachineFor, HasSwapFor}
 use Rattle.sj_core.specs.Step.{Claims, Runs, disk_of}
-use Rattle.sj_core.proofs.Jobs.{a_machine, a_task, access, cell, columns, disk, node, task, turn, worker}
+use Rattle.sj_core.proofs.Worked.{a_machine, a_task, access, cell, columns, disk, node, task, turn, worker}
 use Rattle.sj_core.proofs.Readiness.{Ready-earlier}
 use Rattle.sj_core.proofs.Reduction
 use Rattle.sj_core.proofs.Testing.{legal-from}
+use Rattle.sj_core.proofs.Sharing.{write_isn't_read}
 
 -- ---- a sum
 
@@ -59,16 +53,8 @@ sum-leaves = (refl, refl)
 load_conflicts : Conflict sum 1 2
 load_conflicts = record { cell = 1; manner_of_t = Write; manner_of_u = Write; first = (0, lit< tt, refl); second = (1, lit< tt, refl); written = λ both. (let e = both.0 in write_isn't_read e); apart = λ m g. unshared m g.shared g.first }
   where
-    write_isn't_read : Write ≡ Read → ⊥
-    write_isn't_read e = cc
-
     unshared : (m : Manner) → IsShared m → Uses sum 1 1 m → ⊥
-    unshared Read h u = h
-    unshared Write h u = h
-    unshared (Commute k) h (zero, l, e) = let f : Write ≡ Commute k = ap (λ (u : Usage). u.manner) e in cc
-    unshared (Commute k) h (suc n, l, e) = absurd (omega arith)
-    unshared Contribute h (zero, l, e) = let f : Write ≡ Contribute = ap (λ (u : Usage). u.manner) e in cc
-    unshared Contribute h (suc n, l, e) = absurd (omega arith)
+    unshared m h u = search arith
 
 -- the sum may not be claimed while the second load isn't done: no state follows
 pub sum-waits : (s' : State) → ¬ Claims sum machine (state_of sum machine (turn 0 0 [])) (task 2) (worker 0) s'

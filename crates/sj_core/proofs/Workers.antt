@@ -1,23 +1,569 @@
 -- What cells hold after all tasks up to one doesn't depend on the workers of the contributions, but in partial copies and under open phases.
-use Rattle.std.proofs.Common.{Bool, ap, arith, cond, false, inl, inr, length, refl, subst, suc, sym, true, zero, ℕ, ◌<◌, ◌≤◌, ◌∙◌, ◌≡◌, ◌≢◌}
-use Rattle.std.specs.Prelude.{nat_lt}
-use Rattle.std.specs.List.{Contains, list_any}
-use Rattle.std.proofs.lemmas.Bool.{cases_Bool, cases_eq, cases_lt, false_from_ne_true, true≢false}
+use Rattle.std.proofs.Common.{Bool, List, ap, arith, cond, false, inl, inr, length, not, refl, subst, suc, sym, true, zero, ℕ, ◌<◌, ◌≤◌, ◌∙◌, ◌≡◌, ◌≢◌, [], get_or, ◌||◌, ◌∷◌, ◌⊎◌, Contains, zip, is_some, nat_lt}
+use Rattle.std.specs.List.{list_any}
+use Rattle.std.proofs.lemmas.Bool.{cases_Bool, false_from_ne_true, false≢true, cases_lt, true≢false, cases_eq}
+use Rattle.std.proofs.lemmas.List.Elements.{All-get_or, Contains-append_left}
 use Rattle.std.proofs.lemmas.Bool.Decides.{nat_tests}
 use Rattle.std.proofs.lemmas.List.Folds.{list_any_at}
-use Rattle.sj_base.specs.Mode.{is_redux}
-use Rattle.sj_base.specs.declared.mode.Access.{Access}
-use Rattle.sj_base.specs.declared.mode.Mode.TheVariants.{Redux}
-use Rattle.sj_codelet.specs.declared.kernel.Kernel.{Kernel}
-use Rattle.sj_core.proofs.Words.{Cell, Program, Task, Worker, task_of, worked_on}
-use Rattle.sj_core.specs.Fold.{after_chosen, held_in}
+use Rattle.sj_base.specs.Mode.{is_in_order, is_scratch, is_written, starts_as_zeros, is_redux}
+use Rattle.sj_deps.specs.Conflict.{Conflict, IsShared, Uses}
+use Rattle.sj_core.specs.Fold.{Contents, after_chosen, after_task, held_in}
 use Rattle.sj_core.specs.Laws.{IsLawful}
-use Rattle.sj_core.specs.Proper.{IsOpenAt, IsPhase, IsPlain, Phase, Proper}
+use Rattle.sj_core.specs.Proper.{Fits, Proper, IsCombine, IsOpenAt, IsPhase, IsPlain, Phase, access, task_number}
+use Rattle.sj_codelet.specs.Laws.{IsReduction, IsTile, combined}
+use Rattle.sj_core.proofs.Words.{Access, Array, Cell, Codelet, Kernel, Mode, Program, R, Read, Redux, Task, W, Worker, cells_of, has_cell, no_task, results, task_of, worked_on, written_cells, cell_info, copy_of, dims_of, same_cell}
+use Rattle.sj_core.proofs.Values.{results-complete}
+use Rattle.sj_core.proofs.Dependencies.{Proper-dependencies}
+use Rattle.sj_core.proofs.Updating.{may-swap, operand-used}
+use Rattle.sj_core.proofs.Folding.{after_task-other, held-append, held_over, held_over-own, number, read-among_cells, results-same, after_chosen-same, WorksAlike, cone-holds}
+use Rattle.sj_core.proofs.Modes.{written_isn't_scratch, reads_isn't_scratch}
+use Rattle.sj_core.proofs.Phases.{contributions-exchange, Contributes, combine-after, combine-among, combine-reads, combine_at, contributes, copy-of, init-among, init-before, init_at, reduces}
+use Rattle.sj_core.proofs.Sharing.{conflict-by, manner_of, operand_for}
+use Rattle.sj_core.proofs.Swapping.{Apart, MaySwap, Together, update-spares}
+use Rattle.sj_core.proofs.Adding.{adds, merge, merges, part, part-fills, part-same, update}
+use Rattle.sj_core.proofs.CellLists.{same_cell-refl}
+use Rattle.sj_core.proofs.Combining.{combined-swap}
+use Rattle.sj_core.proofs.Copies.{AtWork, Contribution, IsRefilled, OfCell, OfCopy, at-work, copy-bare, copy-own, direct-cell, refilled, redux_or}
+use Rattle.sj_core.proofs.TaskCells.{operand-inside, written-among_cells}
+use Rattle.sj_core.proofs.Reading.{same_cell-is}
+use Rattle.sj_core.proofs.Sized.{AreSized, after_chosen-sized}
 use Rattle.sj_core.proofs.Advancing.{same_task}
-use Rattle.sj_core.proofs.Copies.{direct-cell, redux_or}
-use Rattle.sj_core.proofs.Folding.{WorksAlike, after_chosen-same, cone-holds, number}
 use Rattle.sj_core.proofs.Readiness.{list_any-some}
-use Rattle.sj_core.proofs.Rerouting.{every, rerouted}
+
+-- ---- on which tasks a cell depends, whatever the modes: those with which its writers conflict, and no member of their groups beside those that write it
+
+-- ---- one task
+
+-- a task whose operands' cells hold the same leaves the same in a cell that it writes, and what was the same in another one
+pub step-same : (p : Program) → Proper p → (t : Task) → t.0 < length p.tasks → (w : Worker) (before before' : Contents) (c : Cell) →
+    (has_cell (written_cells p t w) c ≡ true → (a : Access) → Contains (task_of p t).accesses a → starts_as_zeros a.mode ≡ false → held_in p before (worked_on p w a) ≡ held_in p before' (worked_on p w a)) →
+    (has_cell (written_cells p t w) c ≡ false → held_in p before c ≡ held_in p before' c) →
+    held_in p (after_task p w t before) c ≡ held_in p (after_task p w t before') c
+step-same p proper t inside w before before' c reads other = elim (cases_Bool (has_cell (written_cells p t w) c)) [
+  | inr spared ↦ after_task-other p w t before c spared ∙ other spared ∙ sym (after_task-other p w t before' c spared)
+  | inl writes ↦
+      let cs = written_cells p t w in
+      let arrays = results p t w (held_in p before) in
+      let arrays' = results p t w (held_in p before') in
+      let finds : arrays ≡ arrays' = results-same p t w w (held_in p before) (held_in p before') (reads writes) in
+      let complete = results-complete p t w (held_in p before') (All-get_or (Fits p) p.tasks t.0 no_task inside proper.codelets) in
+      held-append p (zip cs arrays) before c
+      ∙ ap (λ (xs : List Array). held_over (zip cs xs) c (held_in p before c)) finds
+      ∙ held_over-own cs arrays' c (held_in p before c) (held_in p before' c) writes (omega (arith, complete))
+      ∙ sym (held-append p (zip cs arrays') before' c)
+]
+
+-- ---- conflicts
+
+written-isn't_read : (k : Codelet) (x : Mode) → is_written x ≡ true → Read ≢ manner_of k x
+written-isn't_read k x h e = search (arith, false≢true)
+
+in_order-unshared : (k : Codelet) (x : Mode) → is_in_order x ≡ true → IsShared (manner_of k x) → ⊥
+in_order-unshared k x h s = search (arith, false≢true)
+
+module _ (p : Program) (proper : Proper p) where
+  -- a task with an access in order conflicts with each that writes its cell
+  pub in_order-conflicts : (u t : Task) → u.0 < length p.tasks → t.0 < length p.tasks → (v w : Worker) → v.0 < p.workers → w.0 < p.workers → (a : Access) → Contains (task_of p t).accesses a → not (is_scratch a.mode) ≡ true → is_in_order a.mode ≡ true → has_cell (written_cells p u v) (worked_on p w a) ≡ true → Conflict p u.0 t.0
+  in_order-conflicts u t u_in t_in v w v_in w_in a h accessed in_order writes =
+      let c = worked_on p w a in
+      let b = operand_for (worked_on p v) (λ x. is_written x.mode) (task_of p u).accesses c writes in
+      let first : Uses p u.0 c.0 (manner_of (task_of p u).codelet b.0.mode) = subst (λ (q : Cell). Uses p u.0 q.0 (manner_of (task_of p u).codelet b.0.mode)) b.3 (operand-used p proper u u_in v v_in b.0 b.1 (written_isn't_scratch b.0.mode b.2)) in
+      conflict-by p (Proper-dependencies p proper) u.0 t.0 c.0 (manner_of (task_of p u).codelet b.0.mode) (manner_of (task_of p t).codelet a.mode) first (operand-used p proper t t_in w w_in a h accessed)
+      (λ both. written-isn't_read (task_of p u).codelet b.0.mode b.2 (sym both.0)) (inl (in_order-unshared (task_of p t).codelet a.mode in_order))
+
+-- ---- the cone of a cell
+
+module _ (has : Kernel → Bool) (p : Program) (proper : Proper p) (lawful : IsLawful has p) (by : Task → Worker) (staffed : (u : Task) → (by u).0 < p.workers) where
+  -- of two tasks that don't conflict, where the first writes what the second reads, it writes all that the second writes
+  pub shares-all : (u t : Task) → u.0 < length p.tasks → t.0 < length p.tasks → u.0 < t.0 → ¬ Conflict p u.0 t.0 → (d c : Cell) → has_cell (written_cells p u (by u)) d ≡ true → has_cell (cells_of p t (by t)) d ≡ true → has_cell (written_cells p t (by t)) c ≡ true → has_cell (written_cells p u (by u)) c ≡ true
+  shares-all u t u_in t_in before free d c writes works over = by_kind (may-swap has p proper lawful u t u_in t_in (by u) (by t) (staffed u) (staffed t) free (contributions-exchange p proper has lawful u t u_in t_in (by u) (by t) (staffed u) (staffed t) free before))
+    where
+      by_kind : MaySwap p proper lawful.arguments u t (by u) (by t) → has_cell (written_cells p u (by u)) c ≡ true
+      by_kind (Apart half half') = absurd (half d writes works)
+      by_kind (Together e x y exchange) = ap (λ (cs : List Cell). has_cell cs c) (x.written ∙ sym y.written) ∙ over
+
+  -- where the chosen tasks have the earlier ones that conflict with them, a cell all of whose writers are chosen holds the same after them alone
+  pub cone-shared : (chosen : Task → Bool) (n : ℕ) → n ≤ length p.tasks → ((u t : Task) → u.0 < t.0 → t.0 < n → chosen t ≡ true → Conflict p u.0 t.0 → chosen u ≡ true) →
+      (c : Cell) → ((u : Task) → u.0 < n → has_cell (written_cells p u (by u)) c ≡ true → chosen u ≡ true) → held_in p (after_chosen p chosen by n) c ≡ held_in p (after_chosen p (λ u. true) by n) c
+  cone-shared chosen zero l closed c writers = refl
+  cone-shared chosen (suc n) l closed c writers = by_choice (chosen (number n)) refl (cone-shared chosen n (omega arith) (λ u t before within. closed u t before (omega arith)))
+    where
+      Rest : Type 0
+      Rest = (d : Cell) → ((u : Task) → u.0 < n → has_cell (written_cells p u (by u)) d ≡ true → chosen u ≡ true) → held_in p (after_chosen p chosen by n) d ≡ held_in p (after_chosen p (λ u. true) by n) d
+
+      by_choice : (b : Bool) → chosen (number n) ≡ b → ((d : Cell) → ((u : Task) → u.0 < n → has_cell (written_cells p u (by u)) d ≡ true → chosen u ≡ true) → held_in p (after_chosen p chosen by n) d ≡ held_in p (after_chosen p (λ u. true) by n) d) →
+          held_in p (cond b (after_task p (by (number n)) (number n) (after_chosen p chosen by n)) (after_chosen p chosen by n)) c ≡ held_in p (after_task p (by (number n)) (number n) (after_chosen p (λ u. true) by n)) c
+      by_choice false e rest =
+          rest c (λ u h. writers u (omega arith))
+          ∙ sym (after_task-other p (by (number n)) (number n) (after_chosen p (λ u. true) by n) c (false_from_ne_true (has_cell (written_cells p (number n) (by (number n))) c) (λ over. false≢true (sym e ∙ writers (number n) (omega arith) over))))
+      by_choice true e rest = step-same p proper (number n) (omega arith) (by (number n)) (after_chosen p chosen by n) (after_chosen p (λ u. true) by n) c
+          (λ over a h reads. rest (worked_on p (by (number n)) a) (λ u before writes. elim (cases_Bool (chosen u)) [
+            | inl among ↦ among
+            | inr left ↦
+                let free : ¬ Conflict p u.0 n = λ conflict. false≢true (sym left ∙ closed u (number n) before (omega arith) e conflict) in
+                writers u (omega arith) (shares-all u (number n) (omega arith) (omega arith) before free (worked_on p (by (number n)) a) c writes (read-among_cells p (number n) (by (number n)) a h reads) over)
+          ]))
+          (λ spared. rest c (λ u h. writers u (omega arith)))
+
+-- ---- what cells hold after all tasks up to one doesn't depend on the workers of the contributions, but in partial copies and under open phases
+
+-- ---- one contribution by another worker: until both workers' copies are combined they differ by what it adds, and then nothing does but the
+-- copies, until they are filled anew.
+
+abbrev pub every : Task → Bool
+every u = true
+
+module _ (has : Kernel → Bool) (p : Program) (proper : Proper p) (lawful : IsLawful has p) (by by' : Task → Worker) (staffed : (u : Task) → (by u).0 < p.workers) (staffed' : (u : Task) → (by' u).0 < p.workers)
+    (t : Task) (t_in : t.0 < length p.tasks) (a : Access) (among : Contains (task_of p t).accesses a) (redux : a.mode ≡ Redux) (others : (u : Task) → u ≢ t → by' u ≡ by u) (lower : (by t).0 < (by' t).0) where
+  -- ---- the phase and its two copies
+
+  abbrev of_t : Contributes p proper t a
+  of_t = contributes p proper t a among redux
+
+  abbrev f : Phase
+  f = of_t.phase
+
+  abbrev phase : IsPhase p f
+  phase = of_t.is_phase
+
+  abbrev pub c : Cell
+  c = (contributes p proper t a among redux).phase.cell
+
+  has_copies : is_some (cell_info p c).partials ≡ true
+  has_copies = ap (λ (d : Cell). is_some (cell_info p d).partials) of_t.cell ∙ (copy-of p proper t t_in (by t) (staffed t) a among redux).has_copies
+
+  abbrev q : Cell
+  q = copy_of p c (by t)
+
+  abbrev q' : Cell
+  q' = copy_of p c (by' t)
+
+  -- when they are combined
+  abbrev k : ℕ
+  k = combine_at p proper f phase (by t) (staffed t)
+
+  abbrev k' : ℕ
+  k' = combine_at p proper f phase (by' t) (staffed' t)
+
+  k-before : k < k'
+  k-before = phase.in_worker_order (by t).0 (by' t).0 0 lower (omega (arith, staffed' t, phase.combines_by_worker))
+
+  law : IsReduction f.by
+  law = reduces p proper has lawful f phase (by t) (staffed t)
+
+  cell-is : a.cell ≡ f.cell
+  cell-is = sym of_t.cell
+
+  -- what a contribution works on
+  works-on : (u : Task) → u.0 < length p.tasks → (v : Worker) → v.0 < p.workers → (b : Access) → Contains (task_of p u).accesses b → b.mode ≡ Redux → b.cell ≡ c → worked_on p v b ≡ copy_of p c v
+  works-on u u_in v v_in b h redux same = (copy-of p proper u u_in v v_in b h redux).is ∙ ap (λ (d : Cell). copy_of p d v) same
+
+  copy-dims : (y : Worker) → y.0 < p.workers → dims_of p (copy_of p c y) ≡ dims_of p c
+  copy-dims y y_in = (proper.cells.copies (copy_of p c y) c y (record { has_copies = has_copies; of_worker = y_in; is = refl })).1
+
+  apart : q ≢ q'
+  apart e = let same = copy-own p proper c has_copies (by t) (by' t) e in omega (arith, lower, ap (λ (v : Worker). v.0) same)
+
+  -- ---- who works on a copy until both are combined
+
+  data OnCopy (n : ℕ) (v y : Worker) : Type 0 where
+    Adds : (b : Access) → Contains (task_of p (number n)).accesses b → b.mode ≡ Redux → b.cell ≡ c → v ≡ y → Contains f.contributions n → OnCopy n v y
+    Merges : n ≡ get_or f.combines y.0 0 → OnCopy n v y
+
+  module _ (n : ℕ) (later : t.0 < n) (before : n ≤ k') (v : Worker) (v_in : v.0 < p.workers) where
+    operand-at : (b : Access) → Contains (task_of p (number n)).accesses b → not (is_scratch b.mode) ≡ true → (worked_on p v b ≡ c) ⊎ ((y : Worker) × (y.0 < p.workers) × (worked_on p v b ≡ copy_of p c y)) → AtWork p proper f phase has_copies n v b
+    operand-at b h accessed there = at-work p proper f phase has_copies t.0 n v v_in b of_t.among later k' (combine-among p proper f phase (by' t) (staffed' t)) before h accessed there
+
+    on-copy : (y : Worker) → y.0 < p.workers → has_cell (cells_of p (number n) v) (copy_of p c y) ≡ true → OnCopy n v y
+    on-copy y y_in works =
+        let b = operand_for (worked_on p v) (λ b. not (is_scratch b.mode)) (task_of p (number n)).accesses (copy_of p c y) works in
+        by_kind b.0 b.1 b.3 (operand-at b.0 b.1 b.2 (inr (y, y_in, b.3)))
+      where
+        by_kind : (b : Access) → Contains (task_of p (number n)).accesses b → worked_on p v b ≡ copy_of p c y → AtWork p proper f phase has_copies n v b → OnCopy n v y
+        by_kind b h is (Contribution own redux same) = Adds b h redux same (copy-own p proper c has_copies v y (sym (works-on (number n) (operand-inside p (number n) b h) v v_in b h redux same) ∙ is)) own
+        by_kind b h is (OfCopy x x_in at e) = Merges (at ∙ ap (λ (u : Worker). get_or f.combines u.0 0) (copy-own p proper c has_copies x y (sym (ap (worked_on p v) e) ∙ is)))
+        by_kind b h is (OfCell x x_in at e) = absurd (copy-bare p proper c has_copies y y_in c has_copies (sym is ∙ ap (worked_on p v) e))
+
+    -- on the cell itself the combines alone
+    on-cell : has_cell (cells_of p (number n) v) c ≡ true → (x : Worker) × (x.0 < p.workers) × (n ≡ get_or f.combines x.0 0)
+    on-cell works =
+        let b = operand_for (worked_on p v) (λ b. not (is_scratch b.mode)) (task_of p (number n)).accesses c works in
+        by_kind b.0 b.1 b.3 (operand-at b.0 b.1 b.2 (inl b.3))
+      where
+        by_kind : (b : Access) → Contains (task_of p (number n)).accesses b → worked_on p v b ≡ c → AtWork p proper f phase has_copies n v b → (x : Worker) × (x.0 < p.workers) × (n ≡ get_or f.combines x.0 0)
+        by_kind b h is x = search (arith, copy-bare, c, has_copies, works-on, number, operand-inside)
+
+    -- a contribution reads no copy by another operand
+    reads-none : Contains f.contributions n → (b : Access) → Contains (task_of p (number n)).accesses b → starts_as_zeros b.mode ≡ false → is_redux b.mode ≡ false → (y : Worker) → y.0 < p.workers → b.cell ≢ copy_of p c y
+    reads-none own b h reads direct y y_in e = by_kind (operand-at b h (reads_isn't_scratch b.mode reads) (inr (y, y_in, direct-cell p v b direct ∙ e)))
+      where
+        by_kind : AtWork p proper f phase has_copies n v b → ⊥
+        by_kind x = search (arith, true≢false, combine-after, contributes, phase)
+
+    -- what a contribution writes is its copy alone
+    writes-only : (b : Access) (h : Contains (task_of p (number n)).accesses b) (redux' : b.mode ≡ Redux) (same : b.cell ≡ c) (own : Contains f.contributions n) (d : Cell) → has_cell (written_cells p (number n) v) d ≡ true → copy_of p c v ≡ d
+    writes-only b h redux' same own d writes =
+        let n_in = operand-inside p (number n) b h in
+        let one = (update has p proper lawful f phase (number n) n_in b h redux' same own v v_in).written in
+        sym (works-on (number n) n_in v v_in b h redux' same) ∙ same_cell-is (worked_on p v b) d (unor (same_cell (worked_on p v b) d) (sym (ap (λ (cs : List Cell). has_cell cs d) one) ∙ writes))
+      where
+        unor : (x : Bool) → (x || false) ≡ true → x ≡ true
+        unor true e = refl
+        unor false e = e
+
+    -- a task that writes another cell reads no copy but one that it combines
+    reads-elsewhere : (y : Worker) → y.0 < p.workers → n ≢ get_or f.combines y.0 0 → (d : Cell) → has_cell (written_cells p (number n) v) d ≡ true → d ≢ copy_of p c y → (b : Access) → Contains (task_of p (number n)).accesses b → starts_as_zeros b.mode ≡ false → worked_on p v b ≢ copy_of p c y
+    reads-elsewhere y y_in no_combine d writes differ b h reads e = by_kind (on-copy y y_in (sym (ap (has_cell (cells_of p (number n) v)) e) ∙ read-among_cells p (number n) v b h reads))
+      where
+        by_kind : OnCopy n v y → ⊥
+        by_kind (Merges at) = no_combine at
+        by_kind (Adds z hz redux' cell own_worker own) = differ (sym (writes-only z hz redux' cell own d writes) ∙ ap (copy_of p c) own_worker)
+
+    -- a copy that holds more by z in the one than in the other still does after each task but its combine
+    carried : (one other : Contents) → AreSized p one → AreSized p other → (y : Worker) → y.0 < p.workers → n ≢ get_or f.combines y.0 0 → (z : Array) → IsTile z → z.dims ≡ dims_of p c →
+        (Contains f.contributions n → (b : Access) → Contains (task_of p (number n)).accesses b → starts_as_zeros b.mode ≡ false → is_redux b.mode ≡ false → held_in p one b.cell ≡ held_in p other b.cell) →
+        held_in p one (copy_of p c y) ≡ combined f.by z (held_in p other (copy_of p c y)) →
+        held_in p (after_task p v (number n) one) (copy_of p c y) ≡ combined f.by z (held_in p (after_task p v (number n) other) (copy_of p c y))
+    carried one other sized sized' y y_in no_combine z tz dz same more = elim (cases_Bool (has_cell (written_cells p (number n) v) (copy_of p c y))) [
+      | inr spared ↦ after_task-other p v (number n) one (copy_of p c y) spared ∙ more ∙ ap (combined f.by z) (sym (after_task-other p v (number n) other (copy_of p c y) spared))
+      | inl writes ↦ by_kind (on-copy y y_in (written-among_cells p (number n) v (copy_of p c y) writes))
+    ]
+      where
+        by_kind : OnCopy n v y → held_in p (after_task p v (number n) one) (copy_of p c y) ≡ combined f.by z (held_in p (after_task p v (number n) other) (copy_of p c y))
+        by_kind (Merges at) = absurd (no_combine at)
+        by_kind (Adds b h redux' cell own_worker own) =
+            let n_in = operand-inside p (number n) b h in
+            let at : worked_on p v b ≡ copy_of p c y = works-on (number n) n_in v v_in b h redux' cell ∙ ap (copy_of p c) own_worker in
+            let u = update has p proper lawful f phase (number n) n_in b h redux' cell own v v_in in
+            let more_by : Contents → Array = part has p proper lawful f phase (number n) n_in b h redux' cell own v v_in in
+            let fills = part-fills has p proper lawful f phase (number n) n_in b h redux' cell own v v_in other sized' in
+            let of_other = sized' (copy_of p c y) in
+            let as_large : dims_of p c ≡ (held_in p other (copy_of p c y)).dims = sym (of_other.dims ∙ copy-dims y y_in) in
+            let parts : more_by one ≡ more_by other = part-same has p proper lawful f phase (number n) n_in b h redux' cell own v v v_in v_in one other (λ e first reads. same own e (subst (λ (es : List Access). Contains es e) (sym u.accesses) (Contains-append_left u.before (u.last ∷ []) e first)) reads (u.direct e first)) in
+            ap (held_in p (after_task p v (number n) one)) (sym at) ∙ adds has p proper lawful f phase (number n) n_in b h redux' cell own v v_in one sized
+            ∙ ap (λ (d : Cell). combined f.by (more_by one) (held_in p one d)) at
+            ∙ ap (λ (m : Array). combined f.by m (held_in p one (copy_of p c y))) parts
+            ∙ ap (combined f.by (more_by other)) more
+            ∙ combined-swap f.by law z (more_by other) (held_in p other (copy_of p c y)) tz fills.0 of_other.tile (dz ∙ as_large) (fills.1 ∙ as_large)
+            ∙ ap (λ (d : Cell). combined f.by z (combined f.by (more_by other) (held_in p other d))) (sym at)
+            ∙ ap (combined f.by z) (sym (adds has p proper lawful f phase (number n) n_in b h redux' cell own v v_in other sized') ∙ ap (held_in p (after_task p v (number n) other)) at)
+
+  -- ---- the two folds
+
+  abbrev one : ℕ → Contents
+  one n = after_chosen p every by n
+
+  abbrev other : ℕ → Contents
+  other n = after_chosen p every by' n
+
+  one-sized : (n : ℕ) → n ≤ length p.tasks → AreSized p (one n)
+  one-sized n l = after_chosen-sized p proper lawful.arguments every by staffed n l
+
+  other-sized : (n : ℕ) → n ≤ length p.tasks → AreSized p (other n)
+  other-sized n l = after_chosen-sized p proper lawful.arguments every by' staffed' n l
+
+  -- each other task runs on the same worker in both
+  other-next : (n : ℕ) → n ≢ t.0 → other (suc n) ≡ after_task p (by (number n)) (number n) (other n)
+  other-next n d = ap (λ (v : Worker). after_task p v (number n) (other n)) (others (number n) (λ e. d (ap (λ (u : Task). u.0) e)))
+
+  -- what the contribution adds
+  abbrev x : Array
+  x = part has p proper lawful f phase t t_in a among redux cell-is of_t.among (by t) (staffed t) (one t.0)
+
+  x-fills : IsTile x × (x.dims ≡ dims_of p c)
+  x-fills = part-fills has p proper lawful f phase t t_in a among redux cell-is of_t.among (by t) (staffed t) (one t.0) (one-sized t.0 (omega (arith, t_in)))
+
+  abbrev Same : ℕ → Cell → Type 0
+  Same n d = held_in p (one n) d ≡ held_in p (other n) d
+
+  abbrev More : ℕ → Cell → Type 0
+  More n d = held_in p (one n) d ≡ combined f.by x (held_in p (other n) d)
+
+  abbrev Less : ℕ → Cell → Type 0
+  Less n d = held_in p (other n) d ≡ combined f.by x (held_in p (one n) d)
+
+  -- until the first of the two copies is combined
+  record Begun (n : ℕ) : Type 0 where
+    alike : (d : Cell) → d ≢ q → d ≢ q' → Same n d
+    more : More n q
+    less : Less n q'
+
+  -- until the second is
+  record Halfway (n : ℕ) : Type 0 where
+    alike : (d : Cell) → d ≢ q → d ≢ q' → d ≢ c → Same n d
+    more : More n c
+    less : Less n q'
+
+  -- and then
+  record Over (n : ℕ) : Type 0 where
+    alike : (d : Cell) → (d ≡ q → IsRefilled p proper f phase has_copies (by t) k n) → (d ≡ q' → IsRefilled p proper f phase has_copies (by' t) k' n) → Same n d
+
+  data Differ (n : ℕ) : Type 0 where
+    Before : n ≤ t.0 → one n ≡ other n → Differ n
+    First : t.0 < n → n ≤ k → Begun n → Differ n
+    Second : k < n → n ≤ k' → Halfway n → Differ n
+    Last : k' < n → Over n → Differ n
+
+  -- the copies are no other cells
+  begin-same : (n : ℕ) → n ≤ t.0 → one n ≡ other n
+  begin-same n l = after_chosen-same p every every by by' n (λ u h. refl) (λ u h e. sym (others u (λ f. (let g : u.0 ≡ t.0 = ap (λ (k : Task). k.0) f in omega (arith, l, h, g)))))
+
+  -- ---- the contribution itself
+
+  entered : Begun (suc t.0)
+  entered = record {
+    alike = λ d dq dq'. spared (by t) (staffed t) (one t.0) d (λ e. dq (e ∙ at (by t) (staffed t))) ∙ ap (λ (z : Contents). held_in p z d) (begin-same t.0 (omega arith)) ∙ sym (spared (by' t) (staffed' t) (other t.0) d (λ e. dq' (e ∙ at (by' t) (staffed' t))));
+    more = ap (held_in p (one (suc t.0))) (sym (at (by t) (staffed t)))
+        ∙ adds has p proper lawful f phase t t_in a among redux cell-is of_t.among (by t) (staffed t) (one t.0) (one-sized t.0 (omega (arith, t_in)))
+        ∙ ap (λ (d : Cell). combined f.by x (held_in p (one t.0) d)) (at (by t) (staffed t))
+        ∙ ap (combined f.by x) (ap (λ (z : Contents). held_in p z q) (begin-same t.0 (omega arith)) ∙ sym (spared (by' t) (staffed' t) (other t.0) q (λ e. apart (e ∙ at (by' t) (staffed' t)))));
+    less = ap (held_in p (other (suc t.0))) (sym (at (by' t) (staffed' t)))
+        ∙ adds has p proper lawful f phase t t_in a among redux cell-is of_t.among (by' t) (staffed' t) (other t.0) (other-sized t.0 (omega (arith, t_in)))
+        ∙ ap (λ (m : Array). combined f.by m (held_in p (other t.0) (worked_on p (by' t) a))) (part-same has p proper lawful f phase t t_in a among redux cell-is of_t.among (by' t) (by t) (staffed' t) (staffed t) (other t.0) (one t.0) (λ b h reads. ap (λ (z : Contents). held_in p z b.cell) (sym (begin-same t.0 (omega arith)))))
+        ∙ ap (λ (d : Cell). combined f.by x (held_in p (other t.0) d)) (at (by' t) (staffed' t))
+        ∙ ap (combined f.by x) (ap (λ (z : Contents). held_in p z q') (sym (begin-same t.0 (omega arith))) ∙ sym (spared (by t) (staffed t) (one t.0) q' (λ e. apart (sym (e ∙ at (by t) (staffed t))))));
+  }
+    where
+      at : (v : Worker) → v.0 < p.workers → worked_on p v a ≡ copy_of p c v
+      at v v_in = works-on t t_in v v_in a among redux cell-is
+
+      spared : (v : Worker) (v_in : v.0 < p.workers) (before : Contents) (d : Cell) → d ≢ worked_on p v a → held_in p (after_task p v t before) d ≡ held_in p before d
+      spared v v_in before d differ = update-spares p proper lawful.arguments t t_in v v_in (worked_on p v a) (update has p proper lawful f phase t t_in a among redux cell-is of_t.among v v_in) before d differ
+
+  -- ---- until the first copy is combined
+
+  continues : (n : ℕ) → t.0 < n → n < k → n < length p.tasks → Begun n → Begun (suc n)
+  continues n later before inside h =
+      let v = by (number n) in
+      let v_in = staffed (number n) in
+      let differs : n ≢ t.0 = λ e. omega (arith, later, e) in
+      let within : n ≤ k' = omega (arith, before, k-before) in
+      let first : n ≢ k = λ e. omega (arith, before, e) in
+      let second : n ≢ k' = λ e. omega (arith, before, k-before, e) in
+      let moved = other-next n differs in
+      let sized = one-sized n (omega (arith, inside)) in
+      let sized' = other-sized n (omega (arith, inside)) in
+      record {
+        alike = λ d dq dq'.
+            step-same p proper (number n) inside v (one n) (other n) d
+            (λ writes b has_b reads. h.alike (worked_on p v b) (reads-elsewhere n later within v v_in (by t) (staffed t) first d writes dq b has_b reads) (reads-elsewhere n later within v v_in (by' t) (staffed' t) second d writes dq' b has_b reads))
+            (λ spared. h.alike d dq dq')
+            ∙ ap (λ (z : Contents). held_in p z d) (sym moved);
+        more = carried n later within v v_in (one n) (other n) sized sized' (by t) (staffed t) first x x-fills.0 x-fills.1
+            (λ own b has_b reads direct. h.alike b.cell (reads-none n later within v v_in own b has_b reads direct (by t) (staffed t)) (reads-none n later within v v_in own b has_b reads direct (by' t) (staffed' t)))
+            h.more
+            ∙ ap (λ (z : Contents). combined f.by x (held_in p z q)) (sym moved);
+        less = ap (λ (z : Contents). held_in p z q') moved
+            ∙ carried n later within v v_in (other n) (one n) sized' sized (by' t) (staffed' t) second x x-fills.0 x-fills.1
+            (λ own b has_b reads direct. sym (h.alike b.cell (reads-none n later within v v_in own b has_b reads direct (by t) (staffed t)) (reads-none n later within v v_in own b has_b reads direct (by' t) (staffed' t))))
+            h.less;
+      }
+
+  -- ---- a copy is combined
+
+  combine-inside : (y : Worker) (y_in : y.0 < p.workers) → get_or f.combines y.0 0 < length p.tasks
+  combine-inside y y_in = operand-inside p (number (get_or f.combines y.0 0)) (access R (copy_of p c y)) (combine-reads p proper f phase y y_in)
+
+  module _ (y : Worker) (y_in : y.0 < p.workers) (n : ℕ) (at : n ≡ get_or f.combines y.0 0) (v : Worker) (v_in : v.0 < p.workers) where
+    is-combine : IsCombine f.by (copy_of p c y) c (task_number p n)
+    is-combine = subst (λ i. IsCombine f.by (copy_of p c y) c (task_number p i)) (sym at) (phase.combines y y_in)
+
+    n-inside : n < length p.tasks
+    n-inside = omega (arith, at, combine-inside y y_in)
+
+    merged : (before : Contents) → held_in p (after_task p v (number n) before) c ≡ combined f.by (held_in p before (copy_of p c y)) (held_in p before c)
+    merged before = merges has p proper lawful f phase has_copies y y_in (number n) n-inside is-combine v v_in before
+
+    merge-spares : (before : Contents) (d : Cell) → d ≢ c → held_in p (after_task p v (number n) before) d ≡ held_in p before d
+    merge-spares before d differ = update-spares p proper lawful.arguments (number n) n-inside v v_in c (merge has p proper lawful f phase has_copies y y_in (number n) n-inside is-combine v v_in) before d differ
+
+    merge-writes : (d : Cell) → has_cell (written_cells p (number n) v) d ≡ true → d ≡ c
+    merge-writes d writes =
+        grind (arith, cases_Bool (same_cell c d), same_cell-is, false≢true, merge, has_copies, number, n-inside, is-combine)
+
+  copy-not_cell : (y : Worker) → y.0 < p.workers → copy_of p c y ≢ c
+  copy-not_cell y y_in = copy-bare p proper c has_copies y y_in c has_copies
+
+  one-fills : (n : ℕ) → n ≤ length p.tasks → (y : Worker) → y.0 < p.workers → IsTile (held_in p (one n) (copy_of p c y)) × ((held_in p (one n) (copy_of p c y)).dims ≡ dims_of p c)
+  one-fills n l y y_in = let fills = one-sized n l (copy_of p c y) in (fills.tile, fills.dims ∙ copy-dims y y_in)
+
+  other-fills : (n : ℕ) → n ≤ length p.tasks → (y : Worker) → y.0 < p.workers → IsTile (held_in p (other n) (copy_of p c y)) × ((held_in p (other n) (copy_of p c y)).dims ≡ dims_of p c)
+  other-fills n l y y_in = let fills = other-sized n l (copy_of p c y) in (fills.tile, fills.dims ∙ copy-dims y y_in)
+
+  t-first : t.0 < k
+  t-first = combine-after p proper f phase (by t) (staffed t) t.0 of_t.among
+
+  halves : k < length p.tasks → Begun k → Halfway (suc k)
+  halves inside h =
+      let v = by (number k) in
+      let v_in = staffed (number k) in
+      let l : k ≤ length p.tasks = omega (arith, inside) in
+      let moved = other-next k (λ e. omega (arith, t-first, e)) in
+      let of_copy = other-fills k l (by t) (staffed t) in
+      let of_cell = other-sized k l c in
+      record {
+        alike = λ d dq dq' dc. merge-spares (by t) (staffed t) k refl v v_in (one k) d dc ∙ h.alike d dq dq' ∙ sym (merge-spares (by t) (staffed t) k refl v v_in (other k) d dc) ∙ ap (λ (z : Contents). held_in p z d) (sym moved);
+        more = merged (by t) (staffed t) k refl v v_in (one k)
+            ∙ ap (λ (m : Array). combined f.by m (held_in p (one k) c)) h.more
+            ∙ ap (combined f.by (combined f.by x (held_in p (other k) q))) (h.alike c (λ e. copy-not_cell (by t) (staffed t) (sym e)) (λ e. copy-not_cell (by' t) (staffed' t) (sym e)))
+            ∙ law.associative x (held_in p (other k) q) (held_in p (other k) c) x-fills.0 of_copy.0 of_cell.tile (x-fills.1 ∙ sym of_copy.1) (of_copy.1 ∙ sym of_cell.dims)
+            ∙ ap (combined f.by x) (sym (merged (by t) (staffed t) k refl v v_in (other k)) ∙ ap (λ (z : Contents). held_in p z c) (sym moved));
+        less = ap (λ (z : Contents). held_in p z q') moved ∙ merge-spares (by t) (staffed t) k refl v v_in (other k) q' (copy-not_cell (by' t) (staffed' t)) ∙ h.less ∙ ap (combined f.by x) (sym (merge-spares (by t) (staffed t) k refl v v_in (one k) q' (copy-not_cell (by' t) (staffed' t))));
+      }
+
+  -- ---- until the second copy is combined
+
+  -- no contribution comes after a combine
+  none-left : (n : ℕ) → k < n → Contains f.contributions n → ⊥
+  none-left n later own = omega (arith, later, combine-after p proper (contributes p proper t a among redux).phase phase (by t) (staffed t) n own)
+
+  unused : (n : ℕ) → k < n → n ≤ k' → (v : Worker) → v.0 < p.workers → (y : Worker) → y.0 < p.workers → n ≢ get_or f.combines y.0 0 → has_cell (cells_of p (number n) v) (copy_of p c y) ≡ true → ⊥
+  unused n later before v v_in y y_in no_combine works = by_kind (on-copy n (omega (arith, later, t-first)) before v v_in y y_in works)
+    where
+      by_kind : OnCopy n v y → ⊥
+      by_kind (Merges at) = no_combine at
+      by_kind (Adds b h redux' cell own_worker own) = none-left n later own
+
+  goes_on : (n : ℕ) → k < n → n < k' → n < length p.tasks → Halfway n → Halfway (suc n)
+  goes_on n later before inside h =
+      let v = by (number n) in
+      let v_in = staffed (number n) in
+      let after_t : t.0 < n = omega (arith, later, t-first) in
+      let within : n ≤ k' = omega (arith, before) in
+      let first : n ≢ k = λ e. omega (arith, later, e) in
+      let second : n ≢ k' = λ e. omega (arith, before, e) in
+      let moved = other-next n (λ e. omega (arith, after_t, e)) in
+      record {
+        alike = λ d dq dq' dc.
+            step-same p proper (number n) inside v (one n) (other n) d
+            (λ writes b has_b reads. h.alike (worked_on p v b)
+            (λ e. unused n later within v v_in (by t) (staffed t) first (sym (ap (has_cell (cells_of p (number n) v)) e) ∙ read-among_cells p (number n) v b has_b reads))
+            (λ e. unused n later within v v_in (by' t) (staffed' t) second (sym (ap (has_cell (cells_of p (number n) v)) e) ∙ read-among_cells p (number n) v b has_b reads))
+            (λ e. (let by_combine = on-cell n after_t within v v_in (sym (ap (has_cell (cells_of p (number n) v)) e) ∙ read-among_cells p (number n) v b has_b reads) in dc (merge-writes by_combine.0 by_combine.1 n by_combine.2 v v_in d writes))))
+            (λ spared. h.alike d dq dq' dc)
+            ∙ ap (λ (z : Contents). held_in p z d) (sym moved);
+        more = elim (cases_Bool (has_cell (written_cells p (number n) v) c)) [
+          | inr spared ↦ after_task-other p v (number n) (one n) c spared ∙ h.more ∙ ap (combined f.by x) (sym (after_task-other p v (number n) (other n) c spared))
+          | inl writes ↦ (let by_combine = on-cell n after_t within v v_in (written-among_cells p (number n) v c writes) in merged-more n later before inside h by_combine.0 by_combine.1 by_combine.2 v v_in)
+        ]
+            ∙ ap (λ (z : Contents). combined f.by x (held_in p z c)) (sym moved);
+        less = (search (arith, after_task-other, number, resting));
+      }
+    where
+      resting : (n : ℕ) → k < n → n ≤ k' → (v : Worker) → v.0 < p.workers → n ≢ k' → has_cell (written_cells p (number n) v) q' ≡ false
+      resting n later within v v_in second = false_from_ne_true (has_cell (written_cells p (number n) v) q') (λ writes. unused n later within v v_in (by' t) (staffed' t) second (written-among_cells p (number n) v q' writes))
+
+      -- another copy is combined
+      merged-more : (n : ℕ) → k < n → n < k' → n < length p.tasks → Halfway n → (y : Worker) (y_in : y.0 < p.workers) → n ≡ get_or f.combines y.0 0 → (v : Worker) → v.0 < p.workers → held_in p (after_task p v (number n) (one n)) c ≡ combined f.by x (held_in p (after_task p v (number n) (other n)) c)
+      merged-more n later before inside h y y_in at v v_in =
+          let l : n ≤ length p.tasks = omega (arith, inside) in
+          let of_copy = other-fills n l y y_in in
+          let of_cell = other-sized n l c in
+          let not_first : copy_of p c y ≢ q = λ e. (let same = ap (λ (u : Worker). get_or f.combines u.0 0) (copy-own p proper c has_copies y (by t) e) in omega (arith, later, at, same)) in
+          let not_second : copy_of p c y ≢ q' = λ e. (let same = ap (λ (u : Worker). get_or f.combines u.0 0) (copy-own p proper c has_copies y (by' t) e) in omega (arith, before, at, same)) in
+          merged y y_in n at v v_in (one n)
+          ∙ ap (λ (m : Array). combined f.by m (held_in p (one n) c)) (h.alike (copy_of p c y) not_first not_second (copy-not_cell y y_in))
+          ∙ ap (combined f.by (held_in p (other n) (copy_of p c y))) h.more
+          ∙ combined-swap f.by law x (held_in p (other n) (copy_of p c y)) (held_in p (other n) c) x-fills.0 of_copy.0 of_cell.tile (x-fills.1 ∙ sym of_cell.dims) (of_copy.1 ∙ sym of_cell.dims)
+          ∙ ap (combined f.by x) (sym (merged y y_in n at v v_in (other n)))
+
+  -- ---- both are combined
+
+  -- while the phase is open no copy is filled anew
+  no-refill : (i : ℕ) → t.0 < i → i ≤ k' → (y : Worker) → y.0 < p.workers → (task_number p i).accesses ≡ access W (copy_of p c y) ∷ [] → ⊥
+  no-refill i later before y y_in fills = by_kind (operand-at i later before y y_in (access W (copy_of p c y)) (subst (λ (xs : List Access). Contains xs (access W (copy_of p c y))) (sym fills) (0, omega arith, refl)) refl (inr (y, y_in, refl)))
+    where
+      by_kind : AtWork p proper f phase has_copies i y (access W (copy_of p c y)) → ⊥
+      by_kind x = search arith
+
+  ends : k' < length p.tasks → Halfway k' → Over (suc k')
+  ends inside h = record {
+    alike = λ d fresh fresh'.
+        (search (arith, no-refill, t-first, by_cell, cases_Bool, moved));
+  }
+    where
+      v : Worker
+      v = by (number k')
+
+      v_in : (by (number k')).0 < p.workers
+      v_in = staffed (number k')
+
+      moved : other (suc k') ≡ after_task p (by (number k')) (number k') (other k')
+      moved = other-next k' (λ e. omega (arith, t-first, k-before, e))
+
+      cell : held_in p (after_task p (by (number k')) (number k') (one k')) c ≡ held_in p (after_task p (by (number k')) (number k') (other k')) c
+      cell =
+          let l : k' ≤ length p.tasks = omega (arith, inside) in
+          let of_copy = one-fills k' l (by' t) (staffed' t) in
+          let of_cell = other-sized k' l c in
+          merged (by' t) (staffed' t) k' refl (by (number k')) v_in (one k')
+          ∙ ap (combined f.by (held_in p (one k') q')) h.more
+          ∙ combined-swap f.by law x (held_in p (one k') q') (held_in p (other k') c) x-fills.0 of_copy.0 of_cell.tile (x-fills.1 ∙ sym of_cell.dims) (of_copy.1 ∙ sym of_cell.dims)
+          ∙ sym (law.associative x (held_in p (one k') q') (held_in p (other k') c) x-fills.0 of_copy.0 of_cell.tile (x-fills.1 ∙ sym of_copy.1) (of_copy.1 ∙ sym of_cell.dims))
+          ∙ ap (λ (m : Array). combined f.by m (held_in p (other k') c)) (sym h.less)
+          ∙ sym (merged (by' t) (staffed' t) k' refl (by (number k')) v_in (other k'))
+
+      by_cell : (d : Cell) → d ≢ q → d ≢ q' → (same_cell d c ≡ true) ⊎ (same_cell d c ≡ false) → held_in p (after_task p (by (number k')) (number k') (one k')) d ≡ held_in p (after_task p (by (number k')) (number k') (other k')) d
+      by_cell d dq dq' (inl e) = subst (λ (z : Cell). held_in p (after_task p (by (number k')) (number k') (one k')) z ≡ held_in p (after_task p (by (number k')) (number k') (other k')) z) (sym (same_cell-is d c e)) cell
+      by_cell d dq dq' (inr e) =
+          let dc : d ≢ c = λ f. true≢false (sym (same_cell-refl d ∙ refl) ∙ ap (same_cell d) f ∙ e) in
+          merge-spares (by' t) (staffed' t) k' refl (by (number k')) v_in (one k') d dc ∙ h.alike d dq dq' dc ∙ sym (merge-spares (by' t) (staffed' t) k' refl (by (number k')) v_in (other k') d dc)
+
+  -- ---- after the phase
+
+  rests : (n : ℕ) → k' < n → n < length p.tasks → Over n → Over (suc n)
+  rests n later inside h =
+      let v = by (number n) in
+      let v_in = staffed (number n) in
+      record {
+        alike = λ d fresh fresh'.
+            step-same p proper (number n) inside v (one n) (other n) d
+            (λ writes b has_b reads. h.alike (worked_on p v b)
+            (λ e. refilled p proper f phase has_copies (by t) (staffed t) n (omega (arith, later, k-before)) v v_in b has_b reads e)
+            (λ e. refilled p proper f phase has_copies (by' t) (staffed' t) n later v v_in b has_b reads e))
+            (λ spared. h.alike d (λ e. earlier (by t) k d e spared (fresh e)) (λ e. earlier (by' t) k' d e spared (fresh' e)))
+            ∙ ap (λ (z : Contents). held_in p z d) (sym (other-next n (λ e. omega (arith, later, t-first, k-before, e))));
+      }
+    where
+      -- what the task doesn't write was filled before it
+      earlier : (y : Worker) (m : ℕ) (d : Cell) → d ≡ copy_of p c y → has_cell (written_cells p (number n) (by (number n))) d ≡ false → IsRefilled p proper f phase has_copies y m (suc n) → IsRefilled p proper f phase has_copies y m n
+      earlier y m d is spared r = (search (arith, cases_lt, number, false≢true, same_cell-refl))
+
+  -- ---- all along
+
+  differ : (n : ℕ) → n ≤ length p.tasks → Differ n
+  differ zero l = Before (omega arith) refl
+  differ (suc n) l = by_stage (differ n (omega (arith, l)))
+    where
+      by_stage : Differ n → Differ (suc n)
+      by_stage (Before before same) = elim (cases_lt n t.0) [
+        | inl less ↦ Before (omega (arith, less)) (begin-same (suc n) (omega (arith, less)))
+        | inr here ↦ (let e : t.0 ≡ n = omega (arith, before, here) in subst (λ i. Differ (suc i)) e (First (omega arith) (omega (arith, t-first)) entered))
+      ]
+      by_stage (First later before h) = (search (arith, cases_lt, continues, k-before, halves))
+      by_stage (Second later before h) = elim (cases_lt n k') [
+        | inl less ↦ Second (omega (arith, later)) (omega (arith, less)) (goes_on n later less (omega (arith, l)) h)
+        | inr here ↦ (let e : k' ≡ n = omega (arith, before, here) in subst (λ i. Differ (suc i)) e (Last (omega arith) (ends (omega (arith, l, e)) (subst Halfway (sym e) h))))
+      ]
+      by_stage (Last later h) = Last (omega (arith, later)) (rests n later (omega (arith, l)) h)
+
+  -- a cell that is no partial copy, and under no open phase, holds the same
+  pub rerouted : (n : ℕ) → n ≤ length p.tasks → (d : Cell) → IsPlain p d → ((g : Phase) → IsPhase p g → g.cell ≡ d → ¬ IsOpenAt g n) → held_in p (after_chosen p every by n) d ≡ held_in p (after_chosen p every by' n) d
+  rerouted n l d plain closed = by_stage (differ n l)
+    where
+      not_copy : (y : Worker) → y.0 < p.workers → d ≢ copy_of p c y
+      not_copy y y_in e = plain c y (record { has_copies = has_copies; of_worker = y_in; is = e })
+
+      by_stage : Differ n → held_in p (after_chosen p every by n) d ≡ held_in p (after_chosen p every by' n) d
+      by_stage (Before before same) = ap (λ (z : Contents). held_in p z d) same
+      by_stage (First later before h) = h.alike d (not_copy (by t) (staffed t)) (not_copy (by' t) (staffed' t))
+      by_stage (Second later before h) = h.alike d (not_copy (by t) (staffed t)) (not_copy (by' t) (staffed' t)) (λ e. closed (contributes p proper t a among redux).phase phase (sym e) (record {
+        begun = (init_at p proper f phase (by t) (staffed t), init-among p proper f phase (by t) (staffed t), omega (arith, init-before p proper f phase (by t) (staffed t) t.0 of_t.among, later, t-first));
+        unfinished = (k', combine-among p proper f phase (by' t) (staffed' t), before);
+      }))
+      by_stage (Last later h) = h.alike d (λ e. absurd (not_copy (by t) (staffed t) e)) (λ e. absurd (not_copy (by' t) (staffed' t) e))
+
+-- ---- what cells hold after all tasks up to one doesn't depend on the workers of the contributions, but in partial copies and under open phases
 
 module _ (has : Kernel → Bool) (p : Program) (proper : Proper p) (lawful : IsLawful has p) (n : ℕ) (within : n ≤ length p.tasks) (d : Cell) (plain : IsPlain p d) (closed : (g : Phase) → IsPhase p g → g.cell ≡ d → ¬ IsOpenAt g n) where
   -- one task by another worker
@@ -40,13 +586,7 @@ module _ (has : Kernel → Bool) (p : Program) (proper : Proper p) (lawful : IsL
       same_worker u e = elim (same_task u t) [ inl is ↦ ap by is ∙ e ∙ sym (ap by' is) | inr other ↦ sym (others u other) ]
 
       works_alike : (u : Task) → list_any (λ (a : Access). is_redux a.mode) (task_of p t).accesses ≡ false → WorksAlike p u (by u) (by' u)
-      works_alike u none a h = elim (same_task u t) [
-        | inr other ↦ ap (λ (v : Worker). worked_on p v a) (sym (others u other))
-        | inl is ↦
-            let among : Contains (task_of p t).accesses a = subst (λ (k : Task). Contains (task_of p k).accesses a) is h in
-            let direct : is_redux a.mode ≡ false = false_from_ne_true (is_redux a.mode) (λ e. true≢false (sym (list_any_at (λ (b : Access). is_redux b.mode) (task_of p t).accesses among.0 a among.1 (ap (λ (b : Access). is_redux b.mode) among.2 ∙ e)) ∙ none)) in
-            direct-cell p (by u) a direct ∙ sym (direct-cell p (by' u) a direct)
-      ]
+      works_alike u none a h = (search (arith, same_task, false_from_ne_true, true≢false, list_any_at, direct-cell))
 
   module _ (by by' : Task → Worker) (staffed : (u : Task) → (by u).0 < p.workers) (staffed' : (u : Task) → (by' u).0 < p.workers) where
     -- the tasks below m by the second workers, the others by the first

@@ -1,4 +1,4 @@
-use Rattle.sj_core.proofs.Dropping.{Drops-keeps_coherence}
+use Rattle.sj_core.proofs.Moving.{Drops-keeps_coherence}
 use Rattle.sj_core.proofs.laws.drops.Goals as goal
 
 pub returns : goal.returns

@@ -1,4 +1,4 @@
-use Rattle.sj_core.proofs.Arriving.{Ended_moves-keep_coherence}
+use Rattle.sj_core.proofs.Moving.{Ended_moves-keep_coherence}
 use Rattle.sj_core.proofs.laws.ended_moves.Goals as goal
 
 pub returns : goal.returns

@@ -1,7 +1,7 @@
+use Rattle.sj_core.proofs.Words.{Done, Running}
 use Rattle.sj_core.proofs.Changing.{Changes-bytes, Changes-cells, Changes-pins, Changes-workers}
 use Rattle.sj_core.proofs.Coherence.{Lawful_ends-keep_coherence}
 use Rattle.sj_core.proofs.Ending.{end-change}
-use Rattle.sj_core.specs.declared.progress.Progress.TheVariants.{Done, Running}
 use Rattle.sj_core.proofs.laws.ends.Goals as goal
 
 pub returns : goal.returns

@@ -1,4 +1,4 @@
-use Rattle.sj_core.proofs.Once.{finished-once}
+use Rattle.sj_core.proofs.States.{finished-once}
 use Rattle.sj_core.proofs.laws.finishes.Goals as goal
 
 pub returns : goal.returns

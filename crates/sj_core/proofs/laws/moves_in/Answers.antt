@@ -1,4 +1,4 @@
-use Rattle.sj_core.proofs.MovingIn.{Moves_in-keep_coherence}
+use Rattle.sj_core.proofs.Moving.{Moves_in-keep_coherence}
 use Rattle.sj_core.proofs.laws.moves_in.Goals as goal
 
 pub returns : goal.returns

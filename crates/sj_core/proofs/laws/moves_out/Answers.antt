@@ -1,4 +1,4 @@
-use Rattle.sj_core.proofs.MovingOut.{Moves_out-keep_coherence}
+use Rattle.sj_core.proofs.Moving.{Moves_out-keep_coherence}
 use Rattle.sj_core.proofs.laws.moves_out.Goals as goal
 
 pub returns : goal.returns

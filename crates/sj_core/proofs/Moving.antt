@@ -1,0 +1,462 @@
+-- A move that begins, one that ends, and a drop leave a coherent state.
+use Rattle.std.proofs.Common.{arith, List, Some, false, inl, inr, refl, sym, true, ◌∙◌, ◌≡◌, ap, subst, None, Option, not, ◌&&◌, ◌⊎◌, Bool, [], ◌<◌, ◌≢◌, IsTrue, IfSome}
+use Rattle.std.proofs.lemmas.List.{length-set}
+use Rattle.std.proofs.lemmas.Bool.{true≢false, and_from, false_from_ne_true, false≢true, and_parts}
+use Rattle.std.proofs.lemmas.List.Quantifiers.{position-Some}
+use Rattle.sj_core.specs.Coherent.{Coherent, CopiesAgree, HasBlocks, HasRows, IsOwnedBy, IsTransferTo, TransfersAreSound, IsClaimed, NoneLeavesBy, content}
+use Rattle.sj_core.specs.Laws.{IsSound}
+use Rattle.sj_core.specs.Step.{disk_of, BeginsMoveIn, a_transfer, is_fresh, BeginsMoveOut, same_place, EndsMove, array_at, Drops, is_read, reads}
+use Rattle.sj_core.proofs.Words.{Array, AtNode, Cell, CellState, Claimed, Machine, Node, Place, Program, Running, State, Task, Transfer, Worker, WorkerState, has_cell, is_claimed_by, is_coming_by, is_entry, is_leaving_by, is_valid, moves, node_of, pins, progress, replica, scratch, transfer, victims_of, writes, DiskNo, OnDisk, with_transfer, Invalid, fresh_cells, Coming, Leaving, Replica, Valid, array_of, dims_of, same_cell, with_replica, zeros, is_leaving}
+use Rattle.sj_core.proofs.Advancing.{claimed-is_mine, task_of-worker, claimed_by-is}
+use Rattle.sj_core.proofs.Changing.{Changes, Changes-coherent, Changes-writers, HasBlocks-kept}
+use Rattle.sj_core.proofs.Placing.{transfer-is, pins-same, scratch-same, victims-same, owned-fails, position-none, room-leaves_none, valid-within, stays-on_disk, list_any-place, same_place-is, disks-kept, nodes-kept, replica-cases, transfer-cases, transfer-own, writes-same, same_place-refl}
+use Rattle.sj_core.proofs.Reading.{unmoved-from, moves-it, transfer-inside, list_any-worker}
+use Rattle.sj_core.proofs.Replicas.{same_worker-refl, leaving_by-one, leaving_by-valid, coming_by-is, coming_by-one, leaving-by_some, leaving-is_none}
+use Rattle.sj_core.proofs.Claimed.{claimed-inside, claimed-not_written, claimed-old_value, list_any-task}
+use Rattle.sj_core.proofs.CellLists.{same_cell-refl, same_cell-from}
+use Rattle.sj_core.proofs.Finding.{array-told}
+use Rattle.sj_core.proofs.Readiness.{list_any-some}
+
+-- ---- a step that changes replicas and transfers alone, and what it owes so as to leave a coherent state
+
+-- the state with other cells and workers
+abbrev pub shifted : State → List CellState → List WorkerState → State
+shifted s cells workers = record { tasks = s.tasks; cells = cells; orders = s.orders; workers = workers }
+
+-- what such a step owes: pins, scratch and victims stay, nothing leaves or comes that didn't, what is pinned stays valid,
+-- what a writer owns is left alone, and transfers, blocks and copies are as they ought to be
+pub record Shifts (p : Program) (m : Machine) (s : State) (cells : List CellState) (workers : List WorkerState) : Type 0 where
+  pub rows : HasRows p m (shifted s cells workers)
+  pub blocks : HasBlocks p m (shifted s cells workers)
+  pub same_pins : (v : Worker) → pins (shifted s cells workers) v ≡ pins s v
+  pub same_scratch : (v : Worker) → scratch (shifted s cells workers) v ≡ scratch s v
+  pub same_victims : (v : Worker) → victims_of (shifted s cells workers) v ≡ victims_of s v
+  pub same_writes : (c : Cell) → writes (shifted s cells workers) c ≡ writes s c
+  pub same_entries : (c : Cell) (k : Node) → is_entry (replica (shifted s cells workers) c (AtNode k)) ≡ is_entry (replica s c (AtNode k))
+  pub leaves : (v : Worker) (c : Cell) (q : Place) → is_leaving_by v (replica (shifted s cells workers) c q) ≡ true → is_leaving_by v (replica s c q) ≡ true
+  pub comes : (v : Worker) (c : Cell) (k : Node) → is_coming_by v (replica (shifted s cells workers) c (AtNode k)) ≡ true → is_coming_by v (replica s c (AtNode k)) ≡ true
+  pub still_comes : (v : Worker) (c d : Cell) (k : Node) → is_leaving_by v (replica (shifted s cells workers) d (AtNode k)) ≡ true → is_coming_by v (replica s c (AtNode k)) ≡ true → is_coming_by v (replica (shifted s cells workers) c (AtNode k)) ≡ true
+  pub pinned : (v : Worker) (c : Cell) → has_cell (pins s v) c ≡ true → is_valid (replica s c (AtNode (node_of m v))) ≡ true → is_valid (replica (shifted s cells workers) c (AtNode (node_of m v))) ≡ true
+  pub owned : (c : Cell) (v : Worker) (a : Array) → IsOwnedBy m s c v a → (q : Place) → replica (shifted s cells workers) c q ≡ replica s c q
+  pub unmoved : (c : Cell) (v : Worker) (a : Array) → IsOwnedBy m s c v a → (x : Worker) → moves (shifted s cells workers) x c ≡ false
+  pub movers : (v : Worker) (x : Transfer) → transfer (shifted s cells workers) v ≡ Some x → (t : Task) × (is_claimed_by v (progress s t) ≡ true)
+  pub moving : TransfersAreSound m (shifted s cells workers)
+  pub copies : CopiesAgree p (shifted s cells workers)
+
+module _ (p : Program) (m : Machine) (s : State) (h : IsSound p m s) (t : Task) (w : Worker) (claimed : progress s t ≡ Claimed w) (cells : List CellState) (workers : List WorkerState) (shift : Shifts p m s cells workers) where
+  abbrev after : State
+  after = shifted s cells workers
+
+  change : Changes p m s after t (Claimed w) (Claimed w) w
+  change = record {
+    advance = record { was = claimed; is = claimed; others = λ u d. refl };
+    mine = claimed-is_mine w;
+    still_mine = λ v has. sym (task_of-worker v (Claimed w) has);
+    state = (search arith);
+    rows = λ v. inl (shift.same_pins v, shift.same_scratch v, λ e. claimed-is_mine w);
+    victims = shift.same_victims;
+    entries = λ c k now. sym (shift.same_entries c k) ∙ now;
+    leaves = shift.leaves;
+    comes = shift.comes;
+    still_comes = shift.still_comes;
+    moves_on = shift.movers;
+    claims_on = λ e. inr refl;
+    stays = λ u v c d has cell. (λ was. shift.same_entries c (node_of m v) ∙ was, λ was. shift.pinned v c (h.coherent.cells.pinned u v c has cell) was);
+    claimed = λ c e has. shift.same_entries c (node_of m w) ∙ h.coherent.cells.claimed t w c claimed has;
+    running = λ c e has. absurd (let f : Claimed w ≡ Running w = e in cc);
+    transfers = shift.moving;
+    order = (let before = h.coherent.order in record { earlier = before.earlier; apart = before.apart; commuting = λ t u at au d shares. before.commuting t u at au d (record { cell = shares.cell; commuting = shares.commuting; shared = shares.shared }) });
+    counts = record { counted = λ c. shift.same_writes c ∙ h.coherent.counts.counted c };
+  }
+
+  -- it leaves a coherent state
+  pub Shifts-coherent : Coherent p m after
+  Shifts-coherent = Changes-coherent p m s h after t (Claimed w) (Claimed w) w change
+      (Changes-writers p m s h after t (Claimed w) (Claimed w) w change
+      (λ u v c d runs written. (let old = h.coherent.writers.owned u v c runs written in (shift.owned c v _ old, shift.unmoved c v _ old, refl)))
+      (λ c e. absurd (let f : Claimed w ≡ Running w = e in cc)))
+      shift.copies
+
+-- a move that begins, of a cell that no running task owns: the blocks where it goes, the cell is valid where it begins and awaited where it
+-- goes, no other worker moves it to a disk, and the worker has a claimed task
+module _ (p : Program) (m : Machine) (s : State) (h : IsSound p m s) (w : Worker) (begun : Transfer) (aimed : (d : DiskNo) → begun.to ≡ OnDisk d → disk_of p m begun.cell ≡ Some d)
+    (source : is_valid (replica s begun.cell begun.from) ≡ true) (target : IsTransferTo m s w begun.cell begun.from begun.to)
+    (alone : (v : Worker) (x : Transfer) (d e : DiskNo) → transfer s v ≡ Some x → x.to ≡ OnDisk d → begun.to ≡ OnDisk e → x.cell ≡ begun.cell → v ≡ w)
+    (free : (v : Worker) (a : Array) → IsOwnedBy m s begun.cell v a → ⊥) (t : Task) (claimed : progress s t ≡ Claimed w) where
+  abbrev now : State
+  now = with_transfer s w (Some begun)
+
+  moving : TransfersAreSound m now
+  moving =
+      let before = h.coherent.transfers in
+      record {
+        source = λ v x under_way. elim (transfer-is s w begun v x under_way) [
+          | inl same ↦ before.source v x same
+          | inr (e, is) ↦ subst (λ (y : Transfer). is_valid (replica s y.cell y.from) ≡ true) is source
+        ];
+        target = λ v x under_way. to_place v x.cell x.from x.to (elim (transfer-is s w begun v x under_way) [
+          | inl same ↦ before.target v x same
+          | inr (e, is) ↦ subst (λ (y : Transfer). IsTransferTo m s v y.cell y.from y.to) is (subst (λ (u : Worker). IsTransferTo m s u begun.cell begun.from begun.to) (sym e) target)
+        ]);
+        apart = λ u v x y d e hu hv to_d to_e cell. elim (transfer-is s w begun u x hu) [
+          | inr (eu, is_u) ↦ elim (transfer-is s w begun v y hv) [
+            | inr (ev, is_v) ↦ eu ∙ sym ev
+            | inl same ↦ eu ∙ sym (alone v y e d same to_e (ap (λ (z : Transfer). z.to) is_u ∙ to_d) (sym cell ∙ ap (λ (z : Transfer). z.cell) (sym is_u)))
+          ]
+          | inl same_u ↦ elim (transfer-is s w begun v y hv) [
+            | inr (ev, is_v) ↦ alone u x d e same_u to_d (ap (λ (z : Transfer). z.to) is_v ∙ to_e) (cell ∙ ap (λ (z : Transfer). z.cell) (sym is_v)) ∙ sym ev
+            | inl same_v ↦ before.apart u v x y d e same_u same_v to_d to_e cell
+          ]
+        ];
+      }
+    where
+      to_place : (v : Worker) (d : Cell) (from to : Place) → IsTransferTo m s v d from to → IsTransferTo m now v d from to
+      to_place v d from (AtNode k) target = target
+      to_place v d from (OnDisk k) target = target
+
+  begins : Shifts p m s now.cells now.workers
+  begins = record {
+    rows = (let rows = h.coherent.state.rows in record { tasks = rows.tasks; cells = rows.cells; orders = rows.orders; workers = length-set s.workers w.0 _ ∙ rows.workers; nodes = rows.nodes; disks = rows.disks });
+    blocks = (let blocks = h.coherent.state.blocks in record {
+      resting = blocks.resting;
+      home = blocks.home;
+      aimed = λ v x d under_way to. elim (transfer-is s w begun v x under_way) [ inl same ↦ blocks.aimed v x d same to | inr (e, is) ↦ subst (λ (y : Transfer). disk_of p m y.cell ≡ Some d) is (aimed d (ap (λ (y : Transfer). y.to) is ∙ to)) ];
+    });
+    same_pins = pins-same s w (Some begun);
+    same_scratch = scratch-same s w (Some begun);
+    same_victims = victims-same s w (Some begun);
+    same_writes = λ d. refl;
+    same_entries = λ d k. refl;
+    leaves = λ v d q leaving. leaving;
+    comes = λ v d k coming. coming;
+    still_comes = λ v x d k leaving coming. coming;
+    pinned = λ v d pin valid. valid;
+    owned = λ d v a own q. refl;
+    unmoved = λ d v a own x. unmoved-from now x d (λ y under_way e. elim (transfer-is s w begun x y under_way) [
+      | inl same ↦ true≢false (sym (moves-it s x y same) ∙ ap (moves s x) e ∙ own.unmoved x)
+      | inr (f, is) ↦ free v a (subst (λ (k : Cell). IsOwnedBy m s k v a) (sym e ∙ sym (ap (λ (z : Transfer). z.cell) is)) own)
+    ]);
+    movers = λ v x under_way. elim (transfer-is s w begun v x under_way) [
+      | inl same ↦ h.coherent.workers.moves_for_claim v x same
+      | inr (e, is) ↦ (t, ap (λ (y : Worker). is_claimed_by y (progress s t)) e ∙ ap (is_claimed_by w) claimed ∙ same_worker-refl w)
+    ];
+    moving = moving;
+    copies = record { valid_somewhere = h.coherent.copies.valid_somewhere; alike = h.coherent.copies.alike };
+  }
+
+  -- it leaves a coherent state
+  pub Begun-coherent : Coherent p m now
+  Begun-coherent = Shifts-coherent p m s h t w claimed now.cells now.workers begins
+
+-- ---- a move that begins leaves a coherent state
+
+-- ---- a move into a node that begins leaves a coherent state
+
+module _ (p : Program) (m : Machine) (s : State) (h : IsSound p m s) (c : Cell) (from : Place) (n : Node) (w : Worker) (s' : State) (move : BeginsMoveIn p m s c from n w s') where
+  claimed : IsClaimed p s w c
+  claimed = h.coherent.pins.coming_claimed w c n move.coming
+
+  -- the claimed task reads the cell's old value
+  not_fresh : has_cell (fresh_cells p claimed.task w) c ≡ false
+  not_fresh = false_from_ne_true (has_cell (fresh_cells p claimed.task w) c) (λ fresh.
+      (let ours : is_claimed_by w (progress s claimed.task) ≡ true = ap (is_claimed_by w) claimed.claimed ∙ same_worker-refl w in
+      let both = and_from (is_claimed_by w (progress s claimed.task)) (has_cell (fresh_cells p claimed.task w) c) ours fresh in
+      let some : is_fresh p s w c ≡ true = list_any-task p (λ t. is_claimed_by w (progress s t) && has_cell (fresh_cells p t w) c) claimed.task (claimed-inside p m s h claimed.task w claimed.claimed) both in
+      false≢true (sym (ap not some) ∙ move.old_value_needed)))
+
+  -- so it is valid somewhere, and there the move begins
+  somewhere : (q : Place) × IsTrue (is_valid (replica s c q))
+  somewhere = h.coherent.copies.valid_somewhere c (claimed-old_value p m s h claimed.task w claimed.claimed c claimed.cell not_fresh) (claimed-not_written p m s h claimed.task w claimed.claimed c claimed.cell)
+
+  source_valid : is_valid (replica s c from) ≡ true
+  source_valid = search (arith, somewhere, position-Some, false≢true, position-none, valid-within)
+
+  -- nothing leaves by the claim any more
+  none_leaves : NoneLeavesBy s w
+  none_leaves = room-leaves_none p m s h w move.room
+
+  pub Moves_in-keep_coherence : Coherent p m s'
+  Moves_in-keep_coherence = subst (λ (z : State). Coherent p m z) (sym move.leaves) (Begun-coherent p m s h w (a_transfer c from (AtNode n))
+      (λ d to. absurd (let e : AtNode n ≡ OnDisk d = to in cc)) source_valid (move.own_node, move.coming, none_leaves)
+      (λ v x d e under_way to aims cell. absurd (let f : AtNode n ≡ OnDisk e = aims in cc))
+      (λ v a own. false≢true (sym (owned-fails m s c v a own (is_coming_by w) refl refl (AtNode n)) ∙ move.coming)) claimed.task claimed.claimed)
+
+-- ---- a move out to a disk that begins leaves a coherent state
+
+module _ (p : Program) (m : Machine) (s : State) (h : IsSound p m s) (c : Cell) (from : Place) (d : DiskNo) (w : Worker) (s' : State) (move : BeginsMoveOut p m s c from d w s') where
+  -- a valid replica of the cell is the one that leaves
+  only_one : (q : Place) → is_valid (replica s c q) ≡ true → q ≡ from
+  only_one q valid = search (arith, same_place-is, and_from, list_any-place, false≢true)
+
+  -- so its block isn't valid
+  target_invalid : replica s c (OnDisk d) ≡ Invalid
+  target_invalid = by_replica (replica s c (OnDisk d)) refl
+    where
+      by_replica : (r : Replica) → replica s c (OnDisk d) ≡ r → r ≡ Invalid
+      by_replica Invalid e = refl
+      by_replica (Coming v) e = absurd ((h.coherent.state.blocks.resting c d v no_array).0 e)
+        where
+          no_array : Array
+          no_array = record { dims = record { rows = 0; cols = 0 }; elements = [] }
+      by_replica (Leaving v a) e = absurd ((h.coherent.state.blocks.resting c d v a).1 e)
+      by_replica (Valid a) e = absurd (stays-on_disk p m s h w c d (ap (λ (q : Place). is_leaving_by w (replica s c q)) (only_one (OnDisk d) (ap is_valid e)) ∙ move.leaving))
+
+  -- another worker's transfer of the cell to a disk would read the same replica
+  reads_the_same : (v : Worker) (x : Transfer) (k : DiskNo) → transfer s v ≡ Some x → x.to ≡ OnDisk k → x.cell ≡ c → v ≡ w
+  reads_the_same v x k under_way to cell = by_target x.to to (h.coherent.transfers.target v x under_way)
+    where
+      by_target : (q : Place) → q ≡ OnDisk k → IsTransferTo m s v x.cell x.from q → v ≡ w
+      by_target (AtNode n) e target = absurd (let f : AtNode n ≡ OnDisk k = e in cc)
+      by_target (OnDisk j) e target =
+          let leaving : is_leaving_by v (replica s c x.from) ≡ true = ap (λ (y : Cell). is_leaving_by v (replica s y x.from)) (sym cell) ∙ target.0 in
+          let here : is_leaving_by v (replica s c from) ≡ true = ap (λ (q : Place). is_leaving_by v (replica s c q)) (sym (only_one x.from (leaving_by-valid v (replica s c x.from) leaving))) ∙ leaving in
+          leaving_by-one v w (replica s c from) here move.leaving
+
+  -- the worker has a claimed task, since its victim is leaving
+  claims : (t : Task) × (is_claimed_by w (progress s t) ≡ true)
+  claims = search (arith, stays-on_disk p m s h)
+
+  pub Moves_out-keep_coherence : Coherent p m s'
+  Moves_out-keep_coherence = subst (λ (z : State). Coherent p m z) (sym move.leaves) (Begun-coherent p m s h w (a_transfer c from (OnDisk d))
+      (λ k to. move.target ∙ (let e : OnDisk d ≡ OnDisk k = to in cc)) (leaving_by-valid w (replica s c from) move.leaving) (move.leaving, target_invalid)
+      (λ v x k j under_way to aims cell. reads_the_same v x k under_way to cell)
+      (λ v a own. false≢true (sym (owned-fails m s c v a own (is_leaving_by w) refl refl from) ∙ move.leaving)) claims.0 (claimed_by-is w (progress s claims.0) claims.1))
+
+-- ---- a move that ends leaves a coherent state
+
+module _ (p : Program) (m : Machine) (s : State) (h : IsSound p m s) (c : Cell) (from to : Place) (w : Worker) (s' : State) (moved : EndsMove p s c from to w s') where
+  abbrev ending : Transfer
+  ending = a_transfer c from to
+
+  abbrev brought : Array
+  brought = array_at p s from c
+
+  abbrev placed : State
+  placed = with_replica s c to (Valid brought)
+
+  abbrev arrived : State
+  arrived = with_transfer placed w None
+
+  target : IsTransferTo m s w c from to
+  target = h.coherent.transfers.target w ending moved.under_way
+
+  -- at a node the replica was coming by the worker's claim
+  came : (k : Node) → AtNode k ≡ to → is_coming_by w (replica s c (AtNode k)) ≡ true
+  came k e = (subst (λ (q : Place). IsTransferTo m s w c from q) (sym e) target).1
+
+  -- and nothing leaves by its claim
+  arrived-none_leaves : (k : Node) → AtNode k ≡ to → (x : Cell) (q : Place) → is_leaving_by w (replica s x q) ≡ false
+  arrived-none_leaves k e = (subst (λ (q : Place). IsTransferTo m s w c from q) (sym e) target).2
+
+  -- on a disk it was invalid
+  was_invalid : (d : DiskNo) → OnDisk d ≡ to → replica s c (OnDisk d) ≡ Invalid
+  was_invalid d e = (subst (λ (q : Place). IsTransferTo m s w c from q) (sym e) target).1
+
+  -- each replica is as before, or is the one that was brought
+  arrived-cases : (x : Cell) (q : Place) → (replica arrived x q ≡ replica s x q) ⊎ ((x ≡ c) × (q ≡ to) × (replica arrived x q ≡ Valid brought))
+  arrived-cases x q = replica-cases s c to (Valid brought) x q
+
+  arrived-entries : (x : Cell) (k : Node) → is_entry (replica arrived x (AtNode k)) ≡ is_entry (replica s x (AtNode k))
+  arrived-entries x k = grind (arith, arrived-cases x (AtNode k), coming_by-is, came)
+
+  arrived-leaves : (v : Worker) (x : Cell) (q : Place) → is_leaving_by v (replica arrived x q) ≡ true → is_leaving_by v (replica s x q) ≡ true
+  arrived-leaves v x q leaving = elim (arrived-cases x q) [ inl same ↦ sym (ap (is_leaving_by v) same) ∙ leaving | inr (e, at, is) ↦ absurd (false≢true (sym (ap (is_leaving_by v) is) ∙ leaving)) ]
+
+  arrived-comes : (v : Worker) (x : Cell) (k : Node) → is_coming_by v (replica arrived x (AtNode k)) ≡ true → is_coming_by v (replica s x (AtNode k)) ≡ true
+  arrived-comes v x k coming = elim (arrived-cases x (AtNode k)) [ inl same ↦ sym (ap (is_coming_by v) same) ∙ coming | inr (e, at, is) ↦ absurd (false≢true (sym (ap (is_coming_by v) is) ∙ coming)) ]
+
+  -- what comes by another worker's claim still comes
+  others_come : (v : Worker) (x : Cell) (k : Node) → v ≢ w → is_coming_by v (replica s x (AtNode k)) ≡ true → is_coming_by v (replica arrived x (AtNode k)) ≡ true
+  others_come v x k other coming = grind (arith, arrived-cases x (AtNode k), coming_by-one, came)
+
+  arrived-still_comes : (v : Worker) (x y : Cell) (k : Node) → is_leaving_by v (replica arrived y (AtNode k)) ≡ true → is_coming_by v (replica s x (AtNode k)) ≡ true → is_coming_by v (replica arrived x (AtNode k)) ≡ true
+  arrived-still_comes v x y k leaving coming = elim (arrived-cases x (AtNode k)) [
+    | inl same ↦ ap (is_coming_by v) same ∙ coming
+    | inr (e, at, is) ↦
+        let own : v ≡ w = coming_by-one v w (replica s c (AtNode k)) (ap (λ (z : Cell). is_coming_by v (replica s z (AtNode k))) (sym e) ∙ coming) (came k at) in
+        absurd (false≢true (sym (arrived-none_leaves k at y (AtNode k)) ∙ ap (λ (u : Worker). is_leaving_by u (replica s y (AtNode k))) (sym own) ∙ arrived-leaves v y (AtNode k) leaving))
+  ]
+
+  valid_stays : (x : Cell) (q : Place) → is_valid (replica s x q) ≡ true → is_valid (replica arrived x q) ≡ true
+  valid_stays x q valid = elim (arrived-cases x q) [ inl same ↦ ap is_valid same ∙ valid | inr (e, at, is) ↦ ap is_valid is ]
+
+  -- a transfer that is still under way is another worker's
+  others : (v : Worker) (x : Transfer) → transfer arrived v ≡ Some x → (v ≢ w) × (transfer s v ≡ Some x)
+  others v x under_way = search (arith, arrived, transfer-own, placed, transfer-inside, ending, transfer-cases)
+
+  arrived-moving : TransfersAreSound m arrived
+  arrived-moving =
+      let before = h.coherent.transfers in
+      record {
+        source = λ v x under_way. valid_stays x.cell x.from (before.source v x (others v x under_way).1);
+        target = λ v x under_way. (let old = others v x under_way in to_place v x.cell x.from x.to old.0 (λ d to_d cell at. old.0 (before.apart v w x ending d d old.1 moved.under_way to_d (sym at) cell)) (before.target v x old.1));
+        apart = λ u v x y d e hu hv. before.apart u v x y d e (others u x hu).1 (others v y hv).1;
+      }
+    where
+      -- what leaves at a place isn't brought there
+      hollow : (v : Worker) (x : Cell) (q : Place) → x ≡ c → q ≡ to → is_leaving_by v (replica s x q) ≡ true → ⊥
+      hollow v x (AtNode k) e at leaving = false≢true (sym (ap (is_leaving_by v) (coming_by-is w (replica s c (AtNode k)) (came k at))) ∙ ap (λ (y : Cell). is_leaving_by v (replica s y (AtNode k))) (sym e) ∙ leaving)
+      hollow v x (OnDisk d) e at leaving = false≢true (sym (ap (is_leaving_by v) (was_invalid d at)) ∙ ap (λ (y : Cell). is_leaving_by v (replica s y (OnDisk d))) (sym e) ∙ leaving)
+
+      still_leaves : (v : Worker) (x : Cell) (q : Place) → is_leaving_by v (replica s x q) ≡ true → is_leaving_by v (replica arrived x q) ≡ true
+      still_leaves v x q leaving = elim (arrived-cases x q) [ inl same ↦ ap (is_leaving_by v) same ∙ leaving | inr (e, at, is) ↦ absurd (hollow v x q e at leaving) ]
+
+      to_place : (v : Worker) (x : Cell) (from' to' : Place) → v ≢ w → ((d : DiskNo) → to' ≡ OnDisk d → x ≡ c → OnDisk d ≡ to → ⊥) → IsTransferTo m s v x from' to' → IsTransferTo m arrived v x from' to'
+      to_place v x from' (AtNode k) other alone target = (target.0, others_come v x k other target.1, λ y q. false_from_ne_true (is_leaving_by v (replica arrived y q)) (λ leaving. false≢true (sym (target.2 y q) ∙ arrived-leaves v y q leaving)))
+      to_place v x from' (OnDisk d) other alone target = (still_leaves v x from' target.0, elim (arrived-cases x (OnDisk d)) [ inl stays ↦ stays ∙ target.1 | inr (e, at, is) ↦ absurd (alone d refl e at) ])
+
+  blocks : HasBlocks p m arrived
+  blocks =
+      let before = h.coherent.state.blocks in
+      record {
+        resting = λ x d v a. elim (arrived-cases x (OnDisk d)) [
+          | inl same ↦ (λ e. (before.resting x d v a).0 (sym same ∙ e), λ e. (before.resting x d v a).1 (sym same ∙ e))
+          | inr (e, at, is) ↦ (λ f. (let k : Valid brought ≡ Coming v = sym is ∙ f in cc), λ f. (let k : Valid brought ≡ Leaving v a = sym is ∙ f in cc))
+        ];
+        home = λ x d valid. elim (arrived-cases x (OnDisk d)) [
+          | inl same ↦ before.home x d (sym (ap is_valid same) ∙ valid)
+          | inr (e, at, is) ↦ ap (disk_of p m) e ∙ before.aimed w ending d moved.under_way (sym at)
+        ];
+        aimed = λ v x d under_way. before.aimed v x d (others v x under_way).1;
+      }
+
+  arrived-copies : CopiesAgree p arrived
+  arrived-copies =
+      let before = h.coherent.copies in
+      let positive : (x : Cell) → 0 < writes arrived x → 0 < writes s x = λ x some. (let same = writes-same s c to (Valid brought) x in omega arith) in
+      record {
+        valid_somewhere = λ x some unwritten. (let old = before.valid_somewhere x (positive x some) unwritten in (old.0, valid_stays x old.0 old.1));
+        alike = λ x q some unwritten. elim (arrived-cases x q) [
+          | inl same ↦ subst (λ (r : Replica). IfSome (array_of r) (λ a. a ≡ content p s x)) (sym same) (before.alike x q (positive x some) unwritten)
+          | inr (e, at, is) ↦
+              let here = before.alike x from (positive x some) unwritten in
+              let holds : brought ≡ content p s x = array-told (array_of (replica s c from)) (content p s x) (zeros (dims_of p c)) (h.coherent.transfers.source w ending moved.under_way) (subst (λ (y : Cell). IfSome (array_of (replica s y from)) (λ a. a ≡ content p s x)) e here) in
+              subst (λ (r : Replica). IfSome (array_of r) (λ a. a ≡ content p s x)) (sym is) holds
+        ];
+      }
+
+  -- a cell that a worker owns isn't the one that moved
+  owned_apart : (x : Cell) (v : Worker) (a : Array) → IsOwnedBy m s x v a → x ≡ c → ⊥
+  owned_apart x v a own e = search (arith, same_cell-refl, true≢false)
+
+  arrived-shift : Shifts p m s arrived.cells arrived.workers
+  arrived-shift = record {
+    rows = (search (arith, length-set, nodes-kept, disks-kept));
+    blocks = blocks;
+    same_pins = pins-same placed w None;
+    same_scratch = scratch-same placed w None;
+    same_victims = victims-same placed w None;
+    same_writes = writes-same s c to (Valid brought);
+    same_entries = arrived-entries;
+    leaves = arrived-leaves;
+    comes = arrived-comes;
+    still_comes = arrived-still_comes;
+    pinned = λ v x pin valid. valid_stays x (AtNode (node_of m v)) valid;
+    owned = λ x v a own q. elim (arrived-cases x q) [ inl same ↦ same | inr (e, at, is) ↦ absurd (owned_apart x v a own e) ];
+    unmoved = λ x v a own u. (search (arith, transfer-cases));
+    movers = λ v x under_way. h.coherent.workers.moves_for_claim v x (others v x under_way).1;
+    moving = arrived-moving;
+    copies = arrived-copies;
+  }
+
+  arrived-claims : (t : Task) × (is_claimed_by w (progress s t) ≡ true)
+  arrived-claims = h.coherent.workers.moves_for_claim w ending moved.under_way
+
+  pub Ended_moves-keep_coherence : Coherent p m s'
+  Ended_moves-keep_coherence = subst (λ (z : State). Coherent p m z) (sym moved.leaves) (Shifts-coherent p m s h arrived-claims.0 w (claimed_by-is w (progress s arrived-claims.0) arrived-claims.1) arrived.cells arrived.workers arrived-shift)
+
+-- ---- a drop leaves a coherent state
+
+module _ (p : Program) (m : Machine) (s : State) (h : IsSound p m s) (c : Cell) (n : Node) (s' : State) (drop : Drops m s c n s') where
+  abbrev dropped : State
+  dropped = with_replica s c (AtNode n) Invalid
+
+  -- each replica is as before, or it was leaving and is invalid
+  dropped-cases : (d : Cell) (q : Place) → (replica dropped d q ≡ replica s d q) ⊎ ((d ≡ c) × (q ≡ AtNode n) × (replica dropped d q ≡ Invalid) × (is_leaving (replica s d q) ≡ true))
+  dropped-cases d q = grind (arith, replica-cases s c (AtNode n) Invalid d q)
+
+  dropped-entries : (d : Cell) (k : Node) → is_entry (replica dropped d (AtNode k)) ≡ is_entry (replica s d (AtNode k))
+  dropped-entries d k = elim (dropped-cases d (AtNode k)) [ inl same ↦ ap is_entry same | inr (e, at, is, left) ↦ ap is_entry is ∙ sym (leaving-is_none (replica s d (AtNode k)) left) ]
+
+  dropped-leaves : (v : Worker) (d : Cell) (q : Place) → is_leaving_by v (replica dropped d q) ≡ true → is_leaving_by v (replica s d q) ≡ true
+  dropped-leaves v d q leaving = elim (dropped-cases d q) [ inl same ↦ sym (ap (is_leaving_by v) same) ∙ leaving | inr (e, at, is, left) ↦ absurd (false≢true (sym (ap (is_leaving_by v) is) ∙ leaving)) ]
+
+  dropped-comes : (v : Worker) (d : Cell) (k : Node) → is_coming_by v (replica dropped d (AtNode k)) ≡ true → is_coming_by v (replica s d (AtNode k)) ≡ true
+  dropped-comes v d k coming = elim (dropped-cases d (AtNode k)) [ inl same ↦ sym (ap (is_coming_by v) same) ∙ coming | inr (e, at, is, left) ↦ absurd (false≢true (sym (ap (is_coming_by v) is) ∙ coming)) ]
+
+  dropped-still_comes : (v : Worker) (d : Cell) (k : Node) → is_coming_by v (replica s d (AtNode k)) ≡ true → is_coming_by v (replica dropped d (AtNode k)) ≡ true
+  dropped-still_comes v d k coming = elim (dropped-cases d (AtNode k)) [ inl same ↦ ap (is_coming_by v) same ∙ coming | inr (e, at, is, left) ↦ absurd (false≢true (sym (ap is_leaving (coming_by-is v (replica s d (AtNode k)) coming)) ∙ left)) ]
+
+  -- no transfer reads the dropped replica
+  unread_by : (v : Worker) (x : Transfer) → transfer s v ≡ Some x → x.cell ≡ c → x.from ≡ AtNode n → ⊥
+  unread_by v x under_way cell from =
+      let both : (same_cell x.cell c && same_place x.from (AtNode n)) ≡ true = and_from (same_cell x.cell c) (same_place x.from (AtNode n)) (same_cell-from x.cell c cell) (ap (λ (q : Place). same_place q (AtNode n)) from ∙ same_place-refl (AtNode n)) in
+      let this : reads s v c (AtNode n) ≡ true = ap (λ (o : Option Transfer). elim o as (λ _. Bool) [ None ↦ false | Some y ↦ same_cell y.cell c && same_place y.from (AtNode n) ]) under_way ∙ both in
+      let inside : v.0 < m.workers = omega (arith, transfer-inside s v x under_way, h.coherent.state.rows.workers) in
+      let read : is_read m s c (AtNode n) ≡ true = list_any-worker (λ w. reads s w c (AtNode n)) m v inside this in
+      false≢true (sym (ap not read) ∙ drop.unread)
+
+  source_stays : (v : Worker) (x : Transfer) → transfer s v ≡ Some x → replica dropped x.cell x.from ≡ replica s x.cell x.from
+  source_stays v x under_way = elim (dropped-cases x.cell x.from) [ inl same ↦ same | inr (e, at, is, left) ↦ absurd (unread_by v x under_way e at) ]
+
+  dropped-moving : TransfersAreSound m dropped
+  dropped-moving =
+      let before = h.coherent.transfers in
+      record {
+        source = λ v x under_way. ap is_valid (source_stays v x under_way) ∙ before.source v x under_way;
+        target = λ v x under_way. to_place v x.cell x.from x.to (source_stays v x under_way) (before.target v x under_way);
+        apart = before.apart;
+      }
+    where
+      to_place : (v : Worker) (d : Cell) (from to : Place) → replica dropped d from ≡ replica s d from → IsTransferTo m s v d from to → IsTransferTo m dropped v d from to
+      to_place v d from (AtNode k) same target = (target.0, dropped-still_comes v d k target.1, λ x q. false_from_ne_true (is_leaving_by v (replica dropped x q)) (λ leaving. false≢true (sym (target.2 x q) ∙ dropped-leaves v x q leaving)))
+      to_place v d from (OnDisk k) same target = (ap (is_leaving_by v) same ∙ target.0, elim (dropped-cases d (OnDisk k)) [ inl same ↦ same ∙ target.1 | inr (e, at, is, left) ↦ is ])
+
+  -- another replica of the dropped cell is valid
+  elsewhere : (q : Place) × (is_valid (replica dropped c q) ≡ true)
+  elsewhere = search (arith, list_any-some, and_parts, dropped-cases, false≢true, same_place-refl)
+
+  dropped-copies : CopiesAgree p dropped
+  dropped-copies =
+      let before = h.coherent.copies in
+      let positive : (d : Cell) → 0 < writes dropped d → 0 < writes s d = λ d some. (let same = writes-same s c (AtNode n) Invalid d in omega arith) in
+      record {
+        valid_somewhere = λ d some unwritten. (let old = before.valid_somewhere d (positive d some) unwritten in elim (dropped-cases d old.0) [
+          | inl same ↦ (old.0, ap is_valid same ∙ old.1)
+          | inr (e, at, is, left) ↦ (elsewhere.0, ap (λ (x : Cell). is_valid (replica dropped x elsewhere.0)) e ∙ elsewhere.1)
+        ]);
+        alike = λ d q some unwritten. (search (arith, dropped-cases));
+      }
+
+  dropped-shift : Shifts p m s dropped.cells dropped.workers
+  dropped-shift = record {
+    rows = (search (arith, length-set, nodes-kept, disks-kept));
+    blocks = HasBlocks-kept p m s dropped (λ d k. elim (dropped-cases d (OnDisk k)) [ inl same ↦ inr same | inr (e, at, is, left) ↦ inl is ]) (λ v. refl) h.coherent.state.blocks;
+    same_pins = λ v. refl;
+    same_scratch = λ v. refl;
+    same_victims = λ v. refl;
+    same_writes = writes-same s c (AtNode n) Invalid;
+    same_entries = dropped-entries;
+    leaves = dropped-leaves;
+    comes = dropped-comes;
+    still_comes = λ v x d k leaving coming. dropped-still_comes v x k coming;
+    pinned = λ v d pin valid. elim (dropped-cases d (AtNode (node_of m v))) [
+      | inl same ↦ ap is_valid same ∙ valid
+      | inr (e, at, is, left) ↦ absurd (false≢true (sym (h.coherent.pins.stays v d pin) ∙ left))
+    ];
+    owned = λ d v a own q. (search (arith, dropped-cases, false≢true, owned-fails));
+    unmoved = λ d v a own x. own.unmoved x;
+    movers = h.coherent.workers.moves_for_claim;
+    moving = dropped-moving;
+    copies = dropped-copies;
+  }
+
+  -- the replica leaves by the claim of a worker
+  by : (w : Worker) × (is_leaving_by w (replica s c (AtNode n)) ≡ true)
+  by = leaving-by_some (replica s c (AtNode n)) drop.leaving
+
+  dropped-claims : (t : Task) × (is_claimed_by by.0 (progress s t) ≡ true)
+  dropped-claims = (h.coherent.workers.evicted by.0 c n by.1).claims
+
+  pub Drops-keeps_coherence : Coherent p m s'
+  Drops-keeps_coherence = subst (λ (z : State). Coherent p m z) (sym drop.leaves) (Shifts-coherent p m s h dropped-claims.0 by.0 (claimed_by-is by.0 (progress s dropped-claims.0) dropped-claims.1) dropped.cells dropped.workers dropped-shift)
