@@ -1,6 +1,6 @@
 //! The end of a worker's task.
 
-ghost use Rattle.std.specs.Prelude.{◌≡◌, None, false};
+ghost use Rattle.std.specs.Prelude.{◌≡◌, IsTrue, None, false, is_some};
 ghost use Rattle.sj_machine.specs.BoardRow.{key_of};
 ghost use Rattle.sj_engine.specs.Stage.{AreDone, IsFreeRow, RunsRow, row_in};
 ghost use Rattle.sj_engine.specs.Turn.{IsTurnOf, IsWorkerOf};
@@ -31,6 +31,7 @@ impl<D: Disk> SharedBoard<D> {
         requires none_given { (row_in self.old w).hand.given ≡ None }
         ensures turn { IsTurnOf D.faults D.mismatches w self.old self.new }
         ensures row { IsFreeRow (row_in self.new w) }
+        ensures fault { IsTrue (is_some self.new.fault) }
     {
         self.board.is_sound();
         self.board.fail(w, RunFault::OutOfMemory);

@@ -1,6 +1,6 @@
 //! How a worker gets its next task.
 
-ghost use Rattle.std.specs.Prelude.{◌≡◌, IfNone, IfSome, None};
+ghost use Rattle.std.specs.Prelude.{◌≡◌, IfNone, IfSome, IsTrue, None, is_some};
 ghost use Rattle.sj_machine.specs.Board.{IsOver};
 ghost use Rattle.sj_engine.specs.Picking.{AfterClaim, AfterPick};
 ghost use Rattle.sj_engine.specs.Stage.{IsFreeRow, IsStoppedRow, given_hand, row_in};
@@ -38,6 +38,7 @@ impl<D: Disk> SharedBoard<D> {
         ensures turn { IsTurnOf D.faults D.mismatches w self.old self.new }
         ensures row { AfterClaim w (row_in self.new w) result }
         ensures no_fault { result ≡ Picked.Nothing → self.new.fault ≡ None }
+        ensures failed { result ≡ Picked.Failed → IsTrue (is_some self.new.fault) }
     {
         self.board.is_sound();
         match self.board.claim(alloc, t, w) {
@@ -87,6 +88,7 @@ impl<D: Disk> SharedBoard<D> {
         ensures turn { IsTurnOf D.faults D.mismatches w self.old self.new }
         ensures row { AfterClaim w (row_in self.new w) result }
         ensures no_fault { result ≡ Picked.Nothing → self.new.fault ≡ None }
+        ensures failed { result ≡ Picked.Failed → IsTrue (is_some self.new.fault) }
     {
         let Some(t) = self.give_next(w) else {
             return Picked::Nothing;
@@ -101,6 +103,7 @@ impl<D: Disk> SharedBoard<D> {
         requires no_fault { self.old.fault ≡ None }
         ensures turn { IsTurnOf D.faults D.mismatches w self.old self.new }
         ensures row { AfterClaim w (row_in self.new w) result }
+        ensures failed { result ≡ Picked.Failed → IsTrue (is_some self.new.fault) }
     {
         for _ in 0..TRIES {
             match self.claim_next(alloc, w) {
@@ -132,6 +135,7 @@ impl<D: Disk> SharedBoard<D> {
         requires free { IsFreeRow (row_in self.old w) }
         ensures turn { IsTurnOf D.faults D.mismatches w self.old self.new }
         ensures row { AfterPick w (row_in self.new w) result }
+        ensures failed { result ≡ Picked.Failed → IsTrue (is_some self.new.fault) }
     {
         if self.board.failed() || self.board.all_done() {
             return self.stop(w);

@@ -9,6 +9,7 @@ pub returns-in_default : goal.returns-in_default
 returns-in_default g c = record {
   turn = turn-then g.D.Disk.faults g.D.Disk.mismatches c.args.w c.args.self.now c.loop.self c.claim_next.new.self c.loop.invariant.turn c.claim_next.ensures.turn;
   row = c.claim_next.ensures.row;
+  failed = c.claim_next.ensures.failed;
 }
 
 pub loop-preserved : goal.loop-preserved
