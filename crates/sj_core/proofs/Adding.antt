@@ -1,22 +1,20 @@
 -- What the tasks of a phase leave: a contribution adds to its worker's copy, and a combine adds the copy to the cell.
-use Rattle.std.proofs.Common.{Bool, List, [], ap, false, length, map, refl, sym, true, ◌++◌, ◌<◌, ◌∙◌, ◌∷◌, ◌≡◌, ℤ, All, FitsSigned, is_some, if◌then◌else◌, Contains, filter}
+use Rattle.std.proofs.Common.{Bool, List, [], ap, false, length, map, refl, sym, true, ◌++◌, ◌<◌, ◌∙◌, ◌∷◌, ◌≡◌, ℤ, All}
+use Rattle.std.proofs.Common.{FitsSigned, is_some, if◌then◌else◌, Contains, filter}
+use Rattle.sj_core.proofs.Words.{Access, Array, Kernel, Least, Plus, Program, R, RW, Reduction, Redux, Task, Worker}
+use Rattle.sj_core.proofs.Words.{cell_info, copy_of, dims_of, found, no_task, task_of, worked_on, zeros}
 use Rattle.std.specs.Int.{w64}
 use Rattle.std.proofs.lemmas.List.Elements.{All-contains, All-get_or}
 use Rattle.sj_base.specs.Mode.{is_in_order, is_redux, is_written, starts_as_zeros}
 use Rattle.sj_codelet.specs.Kernel.{combine_of, contributes_of}
 use Rattle.sj_codelet.specs.Laws.{DoesContribute, IsCall, IsTile, combined, result_of}
-use Rattle.sj_core.proofs.Words.{Access, Array, Kernel, Least, Plus, Program, R, RW, Reduction, Redux, Task, Worker, cell_info, copy_of, dims_of, found, no_task, task_of, worked_on, zeros}
-use Rattle.sj_core.specs.Fold.{Contents, after_task, held_in}
-use Rattle.sj_core.specs.Laws.{IsLawful}
 use Rattle.sj_core.specs.Proper.{IsCombine, IsContribution, IsPhase, Phase, Proper, access, task_number}
+use Rattle.sj_core.specs.{Fold.Contents, Fold.after_task, Fold.held_in, Laws.IsLawful}
 use Rattle.sj_core.proofs.Combining.{call-with, combines, contribution, contribution-fills}
-use Rattle.sj_core.proofs.Copies.{copy-bare, direct-cell}
-use Rattle.sj_core.proofs.Dependencies.{one_is}
-use Rattle.sj_core.proofs.Folding.{map-same}
-use Rattle.sj_core.proofs.Phases.{does_contribute, kernel-contributes, reduces}
-use Rattle.sj_core.proofs.Sized.{AreSized, worked_on-dims, zeros-tile}
 use Rattle.sj_core.proofs.Swapping.{Updates, first_ins, update-call, updated}
-use Rattle.sj_core.proofs.Updating.{updates}
+use Rattle.sj_core.proofs.{Copies.copy-bare, Copies.direct-cell, Dependencies.one_is, Folding.map-same}
+use Rattle.sj_core.proofs.{Phases.does_contribute, Phases.kernel-contributes, Phases.reduces, Sized.AreSized}
+use Rattle.sj_core.proofs.{Sized.worked_on-dims, Sized.zeros-tile, Updating.updates}
 
 module _ (has : Kernel → Bool) (p : Program) (proper : Proper p) (lawful : IsLawful has p) (f : Phase) (phase : IsPhase p f) where
   -- ---- contributions

@@ -3,7 +3,7 @@ use Rattle.std.proofs.Common.{ap, arith, false, inl, inr, length, refl, subst, s
 use Rattle.std.proofs.lemmas.Bool.{cases_eq, cases_lt, false≢true, true≢false, or_cases, not-true}
 use Rattle.std.proofs.lemmas.List.{get_or_past}
 use Rattle.std.proofs.lemmas.List.Sums.{AllPass-from_list_all}
-use Rattle.sj_core.proofs.Words.{Claimed, Done, Machine, Program, Progress, Running, State, Task, Waiting, Worker, cells_of, done_in, has_cell, is_claimed_by, is_done, is_idle, is_running_on, is_task_of, progress, worker_of}
+use Rattle.sj_core.proofs.Words.{Claimed, Done, Machine, Program, Progress, Running, State, Task, Waiting, Worker, cells_of, done_in, has_cell, is_claimed_by, is_done, is_idle, is_running_on, is_task_of, is_waiting, progress, worker_of}
 use Rattle.sj_deps.specs.Conflict.{Conflict}
 use Rattle.sj_core.specs.Coherent.{HasRows, OrderIsKept, SharesCommuting, is_active, is_begun}
 use Rattle.sj_core.specs.Step.{Claims, EarlierAreDone, Ends, Runs}
@@ -42,10 +42,7 @@ pub active-begun : (x : Progress) → is_active x ≡ true → is_begun x ≡ tr
 active-begun x h = search arith
 
 pub done-begun : (x : Progress) → is_done x ≡ true → is_begun x ≡ true
-done-begun Waiting h = h
-done-begun (Claimed w) h = refl
-done-begun (Running w) h = refl
-done-begun (Done w) h = refl
+done-begun x h = search arith
 
 -- a worker without a task has none of the table
 pub idle-has_none : (s : State) (w : Worker) (t : Task) → is_idle s w ≡ true → is_task_of w (progress s t) ≡ false
@@ -59,11 +56,8 @@ pub record Advances (s s' : State) (t : Task) (old new : Progress) : Type 0 wher
   pub is : progress s' t ≡ new
   pub others : (u : Task) → u ≢ t → progress s' u ≡ progress s u
 
-not_waiting : (x : Progress) (w : Worker) → x ≡ Claimed w → x ≢ Waiting
-not_waiting x w e f = let g : Claimed w ≡ Waiting = sym e ∙ f in cc
-
-not_waiting_running : (x : Progress) (w : Worker) → x ≡ Running w → x ≢ Waiting
-not_waiting_running x w e f = let g : Running w ≡ Waiting = sym e ∙ f in cc
+not_waiting : (x y : Progress) → x ≡ y → is_waiting y ≡ false → x ≢ Waiting
+not_waiting x y e f g = false≢true (sym f ∙ ap is_waiting (sym e ∙ g))
 
 -- a row for each task suffices
 pub Claims-advances_task : (p : Program) (m : Machine) (s : State) (t : Task) (w : Worker) (s' : State) → length s.tasks ≡ length p.tasks → Claims p m s t w s' → Advances s s' t Waiting (Claimed w)
@@ -76,7 +70,7 @@ pub Runs-advances : (p : Program) (m : Machine) (s : State) (t : Task) (w : Work
 Runs-advances p m s t w s' r = search (arith, progress-same, progress-inside, not_waiting, progress-other)
 
 pub Ends-advances : (p : Program) (m : Machine) (s : State) (t : Task) (w : Worker) (s' : State) → Ends p m s t w s' → Advances s s' t (Running w) (Done w)
-Ends-advances p m s t w s' e = search (arith, progress-same, progress-inside, not_waiting_running, progress-other)
+Ends-advances p m s t w s' e = search (arith, progress-same, progress-inside, not_waiting, progress-other)
 
 -- what is done stays done
 pub done-kept : (s s' : State) (t u : Task) (old new : Progress) → Advances s s' t old new → is_done old ≡ false → done_in s u ≡ true → done_in s' u ≡ true
@@ -109,25 +103,16 @@ commuting-kept p s s' t old new a active same before u v au av d h =
     before u v (was_active u au) (was_active v av) d (record { cell = h.cell; commuting = h.commuting; shared = subst (λ (k : Worker). IsTrue (has_cell (cells_of p v k) h.cell)) (same_worker v) h.shared })
   where
     was_active : (k : Task) → is_active (progress s' k) ≡ true → is_active (progress s k) ≡ true
-    was_active k h =
-        (search (arith, same_task))
+    was_active k h = search (arith, same_task)
 
     same_worker : (k : Task) → worker_of (progress s' k) ≡ worker_of (progress s k)
-    same_worker k =
-        (search (arith, same_task))
+    same_worker k = search (arith, same_task)
 
--- a run keeps the order of conflicting tasks
-pub Runs-keeps_order : (p : Program) (m : Machine) (s : State) (t : Task) (w : Worker) (s' : State) → Runs p m s t w s' → OrderIsKept p s → OrderIsKept p s'
-Runs-keeps_order p m s t w s' r o =
-    search (arith, Runs-advances, earlier-kept, apart-from_earlier, commuting-kept, claimed-is_mine)
-
--- an end keeps the order of conflicting tasks
-pub Ends-keeps_order : (p : Program) (m : Machine) (s : State) (t : Task) (w : Worker) (s' : State) → Ends p m s t w s' → OrderIsKept p s → OrderIsKept p s'
-Ends-keeps_order p m s t w s' e o =
-    let a = Ends-advances p m s t w s' e in
-    let begun : is_begun (progress s t) ≡ true = ap is_begun e.running in
-    let earlier = earlier-kept p s s' t (Running w) (Done w) a refl (o.earlier t begun) o.earlier in
-    record { earlier = earlier; apart = apart-from_earlier p s' earlier; commuting = commuting-kept p s s' t (Running w) (Done w) a (same_worker-refl w) refl o.commuting }
+-- a task that goes on at its worker keeps the order of conflicting tasks
+pub OrderIsKept-advances : (p : Program) (s s' : State) (t : Task) (old new : Progress) → Advances s s' t old new → is_done old ≡ false → is_begun old ≡ true → is_active old ≡ true → worker_of new ≡ worker_of old → OrderIsKept p s → OrderIsKept p s'
+OrderIsKept-advances p s s' t old new a undone begun active same o =
+    let earlier = earlier-kept p s s' t old new a undone (o.earlier t (ap is_begun a.was ∙ begun)) o.earlier in
+    record { earlier = earlier; apart = apart-from_earlier p s' earlier; commuting = commuting-kept p s s' t old new a active same o.commuting }
 
 -- a claim keeps that the earlier conflicting tasks of each begun task are done
 pub Claims-keeps_earlier : (p : Program) (m : Machine) (s : State) (t : Task) (w : Worker) (s' : State) → HasRows p m s → Claims p m s t w s' → OrderIsKept p s → (u : Task) → IsTrue (is_begun (progress s' u)) → EarlierAreDone p s' u

@@ -1,13 +1,12 @@
 -- Where blocks lie: each cell's on one of the machine's disks, if all fit there.
-use Rattle.std.proofs.Common.{◌≡◌, ℕ, ◌+◌, ◌<◌, true, Option, None, Some, List, [], ◌∷◌, length, set, refl, ap, subst, arith, All, is_some, option_and_then, option_map, slice_get, slice_index_or, zip}
-use Rattle.std.proofs.lemmas.Bool.{false≢true}
+use Rattle.std.proofs.Common.{◌≡◌, ℕ, ◌+◌, ◌<◌, true, Option, None, Some, List, [], ◌∷◌, length, set, refl, ap, subst}
+use Rattle.std.proofs.Common.{arith, All, is_some, option_and_then, option_map, slice_get, slice_index_or, zip}
+use Rattle.sj_core.proofs.Words.{Block, Cell, CellInfo, DiskNo, Machine, Program, block_bytes, first_fit, place}
+use Rattle.sj_core.proofs.Words.{place_after}
 use Rattle.std.proofs.lemmas.List.Elements.{All-nil, All-cons}
-use Rattle.std.proofs.lemmas.List.Quantifiers.{position-Some}
 use Rattle.std.proofs.lemmas.Option.{slice_get-get_or, slice_get_within, get_or_from_slice_get}
-use Rattle.std.proofs.lemmas.Slice.Zip.{length-zip}
-use Rattle.sj_core.proofs.Words.{Block, Cell, CellInfo, DiskNo, Machine, Program, block_bytes, first_fit, place, place_after}
-use Rattle.sj_core.specs.Proper.{HasSwapFor}
-use Rattle.sj_core.specs.Step.{disk_of}
+use Rattle.std.proofs.lemmas.{Bool.false≢true, List.Quantifiers.position-Some, Slice.Zip.length-zip}
+use Rattle.sj_core.specs.{Proper.HasSwapFor, Step.disk_of}
 
 -- as many blocks as cells, each on a disk that there is
 abbrev ArePlaced : List ℕ → List CellInfo → List Block → Type 0

@@ -1,36 +1,36 @@
 -- A legal trace has at most three events for each task of its program and five for each operand.
-use Rattle.std.proofs.Common.{Bool, List, [], ap, arith, cond, false, get_or, length, map, refl, subst, suc, sym, true, zero, ℕ, ◌*◌, ◌+◌, ◌<◌, ◌||◌, ◌∙◌, ◌∷◌, ◌≡◌, ◌≤◌, None, Option, Some, set, ◌++◌, slice_set, count_by, nat_eq, nat_le, nat_lt, replicate, sum_by, ◌&&◌, if◌then◌else◌, is_some}
+use Rattle.std.proofs.Common.{Bool, List, [], ap, arith, cond, false, get_or, length, map, refl, subst, suc, sym, true}
+use Rattle.std.proofs.Common.{zero, ℕ, ◌*◌, ◌+◌, ◌<◌, ◌||◌, ◌∙◌, ◌∷◌, ◌≡◌, ◌≤◌, None, Option, Some, set, ◌++◌}
+use Rattle.std.proofs.Common.{slice_set, count_by, nat_eq, nat_le, nat_lt, sum_by, ◌&&◌, if◌then◌else◌, is_some}
+use Rattle.sj_core.proofs.Words.{Array, AtNode, Cell, CellState, Claimed, Coming, DiskNo, Done, Event, Invalid, Kernel}
+use Rattle.sj_core.proofs.Words.{Leaving, Lowered, Machine, Node, OnDisk, Place, Program, Progress, Replica, Running}
+use Rattle.sj_core.proofs.Words.{State, Task, Transfer, Valid, Waiting, Worker, WorkerState, cell_state, cells_of}
+use Rattle.sj_core.proofs.Words.{data_operands, has_cell, is_entry, is_leaving, is_leaving_by, is_valid, no_task}
+use Rattle.sj_core.proofs.Words.{node_of, opening, progress, replica, replica_in, same_cell, scratch_bytes, task_of}
+use Rattle.sj_core.proofs.Words.{tasks_of, transfer, victims_of, with_replica, with_replica_in, with_transfer}
+use Rattle.sj_core.proofs.Words.{worked_on, worker_of, written_cells}
 use Rattle.std.specs.List.{enumerate_from, list_any, range_with_len}
 use Rattle.std.proofs.lemmas.List.{map-id, get_or-set_same, length-map, length-set, get_or_default}
 use Rattle.std.proofs.lemmas.List.FromFn.{fill_by_all, get_or-map-range_with_len, length-map-range_with_len}
-use Rattle.std.proofs.lemmas.List.Sums.{get_or-le-sum_by, sum_by-cons, sum_by-set, count_by-le-length, length-filter, sum_by-le-sum_by}
+use Rattle.std.proofs.lemmas.List.Sums.{get_or-le-sum_by, sum_by-cons, sum_by-set, count_by-le-length, length-filter}
+use Rattle.std.proofs.lemmas.List.Sums.{sum_by-le-sum_by}
 use Rattle.std.proofs.lemmas.Bool.{false≢true, eq-eqb, false_from_ne_true, ne_eqb}
 use Rattle.std.proofs.lemmas.List.Folds.{list_any_at, Any-from_list_any, sum_by-replicate}
-use Rattle.std.proofs.Math.Logic.{∥∥₁_elim}
-use Rattle.std.proofs.Props.{props}
-use Rattle.sj_core.specs.Table.{renewed}
-use Rattle.sj_core.specs.Step.{claimed_replica, leave, owned_at, rewritten_at, BeginsMoveIn, BeginsMoveOut, Claims, Drops, Ends, EndsMove, Runs, Step, a_transfer, array_at, initial, missing, result_at}
-use Rattle.sj_core.specs.Coherent.{IsTransferTo, is_begun, Coherent}
-use Rattle.sj_core.specs.Laws.{IsSound, IsLawful}
-use Rattle.sj_base.specs.Mode.{is_data}
-use Rattle.sj_core.specs.Legal.{IsLegal, Leads, Replays}
-use Rattle.sj_core.specs.Proper.{IsMachineFor, Proper}
-use Rattle.sj_core.specs.Bound.{HasAtMostThreePerTaskAndFivePerOperand, operands}
-use Rattle.sj_core.proofs.Words.{Access, Array, AtNode, Cell, CellState, Claimed, Coming, DiskNo, Done, Event, Invalid, Kernel, Leaving, Lowered, Machine, Node, OnDisk, Place, Program, Progress, Replica, Running, State, Task, Transfer, Valid, Waiting, Worker, WorkerState, cell_state, cells_of, data_operands, has_cell, is_entry, is_leaving, is_leaving_by, is_valid, no_replica, no_task, node_of, opening, progress, replica, replica_in, same_cell, scratch_bytes, task_of, tasks_of, transfer, victims_of, with_replica, with_replica_in, with_transfer, worked_on, worker_of, worker_state, written_cells}
-use Rattle.sj_core.proofs.CellLists.{same_cell-sym}
+use Rattle.std.proofs.{Math.Logic.∥∥₁_elim, Props.props}
+use Rattle.sj_core.specs.Step.{claimed_replica, leave, owned_at, rewritten_at, BeginsMoveIn, BeginsMoveOut, Claims}
+use Rattle.sj_core.specs.Step.{Drops, Ends, EndsMove, Runs, Step, a_transfer, array_at, initial, missing, result_at}
+use Rattle.sj_core.specs.{Table.renewed, Coherent.IsTransferTo, Coherent.is_begun, Coherent.Coherent, Laws.IsSound}
+use Rattle.sj_core.specs.{Laws.IsLawful, Legal.IsLegal, Legal.Leads, Legal.Replays, Proper.IsMachineFor, Proper.Proper}
+use Rattle.sj_core.specs.{Bound.HasAtMostThreePerTaskAndFivePerOperand, Bound.operands}
 use Rattle.sj_core.proofs.Sums.{count-numbered, sum-one_more, sum-within, tally, sum-nothing, sum_by-map, counted-some}
+use Rattle.sj_core.proofs.Sums.{tally_le}
 use Rattle.sj_core.proofs.Advancing.{Advances, Ends-advances, Runs-advances, claimed_by-is, same_task}
-use Rattle.sj_core.proofs.Blocks.{disk-within}
-use Rattle.sj_core.proofs.Claiming.{claim-advance, missing-absent, node-inside}
-use Rattle.sj_core.proofs.Placing.{stays-on_disk, valid-row, valid-within}
 use Rattle.sj_core.proofs.Reading.{entry-inside, idle_row, no_row, transfer-inside}
 use Rattle.sj_core.proofs.Replicas.{coming_by-is, leaving-by_some, leaving_by-leaves, leaving_by-valid}
-use Rattle.sj_core.proofs.TaskCells.{written-among_cells}
-use Rattle.sj_core.proofs.Moving.{Ended_moves-keep_coherence}
-use Rattle.sj_core.proofs.Replaying.{Replays-coherent}
-use Rattle.sj_core.proofs.States.{Replays-more}
-use Rattle.sj_core.proofs.Claimed.{claimed-inside}
-use Rattle.sj_core.proofs.Finding.{running-inside}
+use Rattle.sj_core.proofs.{CellLists.same_cell-sym, Blocks.disk-within, Claiming.claim-advance, Claiming.missing-absent}
+use Rattle.sj_core.proofs.{Claiming.node-inside, Placing.stays-on_disk, Placing.valid-row, Placing.valid-within}
+use Rattle.sj_core.proofs.{TaskCells.written-among_cells, Moving.Ended_moves-keep_coherence, Replaying.Replays-coherent}
+use Rattle.sj_core.proofs.{States.Replays-more, Claimed.claimed-inside, Finding.running-inside}
 
 -- ---- sums that rise at one element, sums over a table whose rows were renewed, and sums over numbered elements
 
@@ -77,18 +77,13 @@ rows-within n (c ∷ cs) =
     omega (arith, rows-within n cs)
   where
     by_first : (d : Cell) (b : Bool) → same_cell c d ≡ b → cond (b || has_cell cs d) 5 0 ≤ cond (has_cell cs d) 5 0 + cond (same_cell d c) 5 0
-    by_first d true e = let here : cond {A = ℕ} (same_cell d c) 5 0 ≡ 5 = ap (λ b. cond {A = ℕ} b 5 0) (same_cell-sym d c ∙ e) in omega arith
-    by_first d false e = omega arith
-
-    at_most_one : (b : Bool) → tally b ≤ 1
-    at_most_one true = omega arith
-    at_most_one false = omega arith
+    by_first d b e = search (arith, same_cell-sym)
 
     once : count_by (λ k. nat_eq k c.0) (range_with_len 0 n) ≤ 1
     once =
         let all = count-numbered (λ k. k) (λ k. nat_eq k c.0) c.0 (λ i. refl) 0 n in
         let more = ap (count_by (λ k. nat_eq k c.0)) (map-id (range_with_len 0 n)) in
-        omega (arith, at_most_one (nat_le 0 c.0 && nat_lt c.0 (0 + n)))
+        omega (arith, tally_le (nat_le 0 c.0 && nat_lt c.0 (0 + n)))
 
 -- ---- what the replicas of a cell on nodes may still cost: the events that bring one and take it away again
 
@@ -172,12 +167,7 @@ written-costs row d a n within none inside leaving =
 -- ---- the opening state
 
 pub opening-costs : (p : Program) (m : Machine) → cost (opening p m) ≡ 0
-opening-costs p m =
-    let one : cost_of (no_replica m) ≡ 0 = sum-nothing-of (weight (is_on_disk (no_replica m))) (length m.nodes) Invalid refl in
-    sum-nothing-of cost_of (length p.cells) (no_replica m) one
-  where
-    sum-nothing-of : {X : Type 0} (f : X → ℕ) (n : ℕ) (x : X) → f x ≡ 0 → sum_by f (replicate n x) ≡ 0
-    sum-nothing-of f n x none = sum_by-replicate f n x ∙ ap (λ k. n * k) none ∙ (omega arith)
+opening-costs p m = search (arith, sum_by-replicate)
 
 -- ---- each legal step is one event, and is paid for: a task pays one for each of its own events, and with its claim five for each operand,
 -- which is what a replica that the claim brings may cost. A replica that comes, is valid or leaves still costs as much as it weighs; a move
@@ -231,8 +221,7 @@ module _ (p : Program) (m : Machine) (s : State) (h : IsSound p m s) where
 
   -- and so is the worker by whose claim a replica leaves, on a node
   leaving-inside : (w : Worker) (c : Cell) (from : Place) → is_leaving_by w (replica s c from) ≡ true → w.0 < length s.workers
-  leaving-inside w c (AtNode n) leaving = search (arith, worker-inside, claimed_by-is)
-  leaving-inside w c (OnDisk d) leaving = absurd (stays-on_disk p m s h w c d leaving)
+  leaving-inside w c b leaving = search (arith, worker-inside, claimed_by-is, stays-on_disk)
 
   -- ---- claims, runs and ends
 
@@ -368,10 +357,7 @@ module _ (p : Program) (m : Machine) (s : State) (h : IsSound p m s) where
 
     -- and one transfer less is under way
     pub moved-transfers : under_way s ≡ 1 + under_way s'
-    moved-transfers =
-        let one : tally (is_some (transfer s w)) ≡ 1 = ap (λ (o : Option Transfer). tally (is_some o)) moved.under_way in
-        let all = row-counts s w (record (worker_state s w) { transfer = None }) (transfer-inside s w (a_transfer c from to) moved.under_way) in
-        omega (arith, ap under_way moved.leaves)
+    moved-transfers = search (arith, tally, row-counts, transfer-inside)
 
     Ended_moves-pay : Pays p s s'
     Ended_moves-pay = omega (arith, moved-cost, moved-transfers, ap (paid p) moved.leaves)
@@ -381,8 +367,6 @@ module _ (p : Program) (m : Machine) (s : State) (h : IsSound p m s) where
   pub Step-pays : (e : Event) (s' : State) → Step p m s e s' → Pays p s s'
   Step-pays e s' step =
       search (arith, Claims-pays, Moves_in-pay, Moves_out-pay, Ended_moves-pay, Drops-pays, Runs-pays, Ends-pays)
-
--- ---- a legal trace has at most three events for each task of its program and five for each operand
 
 -- ---- what all tasks pay
 
@@ -416,8 +400,7 @@ some-transfer s some =
     (w, x.0, x.1)
   where
     by_option : (o : Option Transfer) → is_some o ≡ true → (x : Transfer) × (o ≡ Some x)
-    by_option None h = absurd (false≢true h)
-    by_option (Some x) h = (x, refl)
+    by_option b h = search (arith, false≢true)
 
 module _ (p : Program) (m : Machine) (proper : Proper p) (machine : IsMachineFor p m) where
   sound : (s : State) → Coherent p m s → IsSound p m s

@@ -1,14 +1,15 @@
 -- The bytes on a node: sums over its entries, its leaving replicas and its workers; a step that brings nothing keeps that they suffice.
-use Rattle.std.proofs.Common.{Bool, List, ap, arith, cond, false, length, not, refl, sym, true, ℕ, ◌&&◌, ◌+◌, ◌<◌, ◌∙◌, ◌≡◌, ◌≢◌, ◌≤◌, filter, count_by, nat_eq, nat_le, nat_lt, sum_by}
+use Rattle.std.proofs.Common.{Bool, List, ap, arith, cond, length, not, refl, sym, true, ℕ, ◌&&◌, ◌+◌, ◌<◌, ◌∙◌, ◌≡◌}
+use Rattle.std.proofs.Common.{◌≢◌, ◌≤◌, filter, count_by, nat_eq, nat_le, nat_lt, sum_by}
+use Rattle.sj_core.proofs.Words.{AtNode, Cell, Machine, Node, Program, State, Worker, cells_of_program, has_cell}
+use Rattle.sj_core.proofs.Words.{is_coming_by, is_leaving_by, node_of, order, replica, same_worker, scratch, tile_bytes}
+use Rattle.sj_core.proofs.Words.{workers_at, workers_of, used}
 use Rattle.std.proofs.lemmas.Bool.{and_from, and_parts, false≢true}
-use Rattle.std.proofs.lemmas.Bool.Decides.{Decides-eqb}
-use Rattle.std.proofs.lemmas.List.Sums.{sum_by-le-sum_by}
-use Rattle.sj_core.proofs.Words.{AtNode, Cell, Machine, Node, Program, State, Worker, cells_of_program, has_cell, is_coming_by, is_leaving_by, node_of, order, replica, same_worker, scratch, tile_bytes, workers_at, workers_of, used}
+use Rattle.std.proofs.lemmas.{Bool.Decides.Decides-eqb, List.Sums.sum_by-le-sum_by}
 use Rattle.sj_core.specs.Coherent.{IsStateOf, entries_beside, leaving_by, others_at, used_while_leaving}
 use Rattle.sj_core.proofs.CellLists.{has_cell-filter_is, share, sum-once, times, times-filter, times-program}
-use Rattle.sj_core.proofs.Reading.{entry-inside}
-use Rattle.sj_core.proofs.Sums.{count-numbered, filter-sum-le, sum-agree, sum-filter, sum-filter-le, tally}
-use Rattle.sj_core.proofs.TaskCells.{filter-filter}
+use Rattle.sj_core.proofs.Sums.{count-numbered, filter-sum-le, sum-agree, sum-filter, sum-filter-le, tally, tally_le}
+use Rattle.sj_core.proofs.{Reading.entry-inside, TaskCells.filter-filter}
 
 -- ---- the bytes of the cells that pass a test
 
@@ -48,10 +49,6 @@ worker-once_at m n w =
     let all = filter-sum-le (λ (v : Worker). tally (same_worker v w)) (λ v. nat_eq (node_of m v).0 n.0) (workers_of m) in
     let more = count-numbered (λ i. record { 0 = i }) (λ v. same_worker v w) w.0 (λ i. refl) 0 m.workers in
     omega (arith, tally_le (nat_le 0 w.0 && nat_lt w.0 (0 + m.workers)))
-  where
-    tally_le : (b : Bool) → tally b ≤ 1
-    tally_le true = omega arith
-    tally_le false = omega arith
 
 -- a worker of a list of a node's workers is bound there
 pub others-le : (m : Machine) (n : Node) (w : Worker) (f g : Worker → ℕ) → ((v : Worker) → node_of m v ≡ n → v ≢ w → f v ≤ g v) → sum_by f (others_at m n w) ≤ sum_by g (others_at m n w)
@@ -82,10 +79,7 @@ module _ (p : Program) (m : Machine) (s s' : State) (before : IsStateOf p m s) (
       omega (arith, leaving-bytes p m s before k v, beside-bytes p m s' after k v, beside-bytes p m s before k v)
     where
       not_coming : (x y : Bool) → (x ≡ true → y ≡ true) → not y ≡ true → not x ≡ true
-      not_coming true y f g = sym (ap not (f refl)) ∙ g
-      not_coming false y f g = refl
+      not_coming b y f g = search arith
 
       still : (c : Cell) → (not (is_coming_by v (replica s' c (AtNode k))) && has_cell (order s' k) c) ≡ true → (not (is_coming_by v (replica s c (AtNode k))) && has_cell (order s k) c) ≡ true
-      still c both =
-          let parts = and_parts (not (is_coming_by v (replica s' c (AtNode k)))) (has_cell (order s' k) c) both in
-          and_from (not (is_coming_by v (replica s c (AtNode k)))) (has_cell (order s k) c) (not_coming (is_coming_by v (replica s c (AtNode k))) (is_coming_by v (replica s' c (AtNode k))) (comes c) parts.0) (entries c parts.1)
+      still c both = search (arith, and_parts, and_from, not_coming)

@@ -1,17 +1,16 @@
 -- Lists of cells: which cells an edited list has, how often, and the sum over a list that has each at most once.
-use Rattle.std.proofs.Common.{Bool, List, [], ap, arith, cond, false, get_or, length, not, refl, set, sym, true, ℕ, ◌&&◌, ◌*◌, ◌++◌, ◌+◌, ◌<◌, ◌||◌, ◌∙◌, ◌∷◌, ◌≡◌, ◌≤◌, inl, inr, filter, count_by, fold, if◌then◌else◌, sum_by, nat_le, nat_lt}
-use Rattle.std.proofs.lemmas.Bool.{and_from, and_parts, false_from_ne_true, false≢true, or_right, le-leb, lt-ltb, cases_lt}
-use Rattle.std.proofs.lemmas.Bool.Decides.{Decides-eqb}
-use Rattle.std.proofs.lemmas.List.{ext_get_or, get_or-set_other, get_or-set_same, length-set}
-use Rattle.std.proofs.lemmas.List.Sums.{sum_by-append, sum_by-cons}
+use Rattle.std.proofs.Common.{Bool, List, [], ap, arith, cond, false, get_or, length, not, refl, set, sym, true, ℕ}
+use Rattle.std.proofs.Common.{◌&&◌, ◌*◌, ◌++◌, ◌+◌, ◌<◌, ◌||◌, ◌∙◌, ◌∷◌, ◌≡◌, ◌≤◌, inl, inr, filter, count_by, fold}
+use Rattle.std.proofs.Common.{if◌then◌else◌, sum_by, nat_le, nat_lt}
 use Rattle.sj_core.proofs.Words.{Cell, Program, cells_of_program, distinct, has_cell, same_cell}
-use Rattle.sj_core.specs.Step.{to_front, without}
-use Rattle.sj_core.specs.Table.{renewed}
-use Rattle.sj_core.proofs.Reading.{same_cell-is}
-use Rattle.sj_core.proofs.Sums.{tally, filter-sum-le, sum-agree, sum-each, count-numbered, sum-plus, same_test, sum-nothing, counted-some, counted-has}
-use Rattle.sj_core.proofs.Tables.{length-renewed, renewed-at}
-use Rattle.std.proofs.lemmas.Map.Views.{any-filter_same}
-use Rattle.std.proofs.lemmas.List.Folds.{list_any-append}
+use Rattle.std.proofs.lemmas.{Bool.and_from, Bool.and_parts, Bool.false_from_ne_true, Bool.false≢true, Bool.or_right}
+use Rattle.std.proofs.lemmas.{Bool.le-leb, Bool.lt-ltb, Bool.cases_lt, Bool.Decides.Decides-eqb, List.ext_get_or}
+use Rattle.std.proofs.lemmas.{List.get_or-set_other, List.get_or-set_same, List.length-set, List.Sums.sum_by-append}
+use Rattle.std.proofs.lemmas.{List.Sums.sum_by-cons, Map.Views.any-filter_same, List.Folds.list_any-append}
+use Rattle.sj_core.specs.{Step.to_front, Step.without, Table.renewed}
+use Rattle.sj_core.proofs.Sums.{tally, filter-sum-le, sum-agree, sum-each, count-numbered, sum-plus, same_test}
+use Rattle.sj_core.proofs.Sums.{sum-nothing, counted-some, counted-has}
+use Rattle.sj_core.proofs.{Reading.same_cell-is, Tables.length-renewed, Tables.renewed-at}
 
 -- ---- tests
 
@@ -50,10 +49,7 @@ has_cell-to_front xs d c = search (arith, has_cell-filter_is, same_cell-sym)
 -- the cells of a list, brought to the front one after another
 pub has_cell-fronted : (cs xs : List Cell) (c : Cell) → has_cell (fold to_front xs cs) c ≡ (has_cell cs c || has_cell xs c)
 has_cell-fronted [] xs c = refl
-has_cell-fronted (d ∷ cs) xs c = has_cell-fronted cs (to_front xs d) c ∙ ap (λ b. has_cell cs c || b) (has_cell-to_front xs d c) ∙ or_swap (has_cell cs c) (same_cell d c) (has_cell xs c)
-  where
-    or_swap : (x y z : Bool) → (x || (y || z)) ≡ ((y || x) || z)
-    or_swap x y z = search arith
+has_cell-fronted (d ∷ cs) xs c = search (arith, has_cell-to_front, (has_cell-fronted cs (to_front xs d) c))
 
 pub has_cell-without : (gone xs : List Cell) (c : Cell) → has_cell (without gone xs) c ≡ (not (has_cell gone c) && has_cell xs c)
 has_cell-without gone xs c = has_cell-filter_is (λ d. not (has_cell gone d)) xs c
@@ -77,6 +73,11 @@ times-none xs c h = elim (cases_lt 0 (times xs c)) [ inl some ↦ absurd (false�
 
 pub times-has : (xs : List Cell) (c : Cell) → has_cell xs c ≡ true → 1 ≤ times xs c
 times-has xs c h = counted-has (λ d. same_cell d c) xs h
+
+-- where a list has its first cell once, the rest hasn't it
+once-new : (c : Cell) (cs : List Cell) → times (c ∷ cs) c ≤ 1 → has_cell cs c ≡ false
+once-new c cs once = false_from_ne_true (has_cell cs c) (λ h.
+    (let one : tally (same_cell c c) ≡ 1 = ap tally (same_cell-refl c) in omega (arith, times-cons c cs c, times-has cs c h)))
 
 pub times-to_front : (xs : List Cell) (d c : Cell) → times xs c ≤ 1 → times (to_front xs d) c ≤ 1
 times-to_front xs d c once = by_cases (same_cell d c) refl
@@ -105,13 +106,10 @@ times-distinct (x ∷ xs) c = by_cases (has_cell xs x) refl (times-distinct xs c
         let one : tally (same_cell x c) ≡ 1 = ap tally e in
         let all = times-none (distinct xs) c (has_cell-distinct xs c ∙ ap (has_cell xs) (sym (same_cell-is x c e)) ∙ new) in
         omega (arith, times-cons x (distinct xs) c)
-    first false e new rest =
-        let zero_here : tally (same_cell x c) ≡ 0 = ap tally e in
-        omega (arith, times-cons x (distinct xs) c)
+    first false e new rest = search (arith, tally, times-cons)
 
     by_cases : (b : Bool) → has_cell xs x ≡ b → times (distinct xs) c ≤ 1 → times (if b then distinct xs else x ∷ distinct xs) c ≤ 1
-    by_cases true again rest = rest
-    by_cases false new rest = first (same_cell x c) refl new rest
+    by_cases b again rest = search (arith, first)
 
 -- ---- rows written one after another
 
@@ -134,7 +132,7 @@ cells-written {X} f d (c ∷ cs) rows once =
     renewed-at later now i d within ∙ at_row i (same_cell c (record { 0 = i })) refl before ∙ sym (renewed-at all rows i d before)))
   where
     new : has_cell cs c ≡ false
-    new = false_from_ne_true (has_cell cs c) (λ h. (let o = once c in let t = times-cons c cs c in let one : tally (same_cell c c) ≡ 1 = ap tally (same_cell-refl c) in let more = times-has cs c h in omega arith))
+    new = once-new c cs (once c)
 
     at_row : (i : ℕ) (b : Bool) → same_cell c (record { 0 = i }) ≡ b → i < length rows →
         (let e : Cell = record { 0 = i } in written_if f (has_cell cs e) e (get_or (set rows c.0 (f c (get_or rows c.0 d))) i d)) ≡ (let e : Cell = record { 0 = i } in written_if f (same_cell c e || has_cell cs e) e (get_or rows i d))
@@ -157,11 +155,7 @@ share-of_one f all x h =
     omega (arith, agree, sum-each (λ y. same_cell y x) (f x) all, ap (λ n. f x * n) h)
   where
     same : (y : Cell) → share f (same_cell x) y ≡ cond (same_cell y x) (f x) 0
-    same y = ap (λ b. cond b (f y) 0) (same_cell-sym x y) ∙ by_cases (same_cell y x) refl
-      where
-        by_cases : (b : Bool) → same_cell y x ≡ b → cond b (f y) 0 ≡ cond b (f x) 0
-        by_cases true e = ap f (same_cell-is y x e)
-        by_cases false e = refl
+    same y = search (arith, same_cell-sym, same_cell-is)
 
 -- the sum over a list that has each cell at most once, as a sum over a list that has each of its cells exactly once
 pub sum-once : (f : Cell → ℕ) (all xs : List Cell) → ((c : Cell) → has_cell xs c ≡ true → times all c ≡ 1) → ((c : Cell) → times xs c ≤ 1) → sum_by f xs ≡ sum_by (share f (has_cell xs)) all
@@ -173,11 +167,7 @@ sum-once f all (x ∷ xs) inside once =
     omega (arith, sum_by-cons f x xs)
   where
     new : has_cell xs x ≡ false
-    new = false_from_ne_true (has_cell xs x) (λ h. (let o = once x in let t = times-cons x xs x in let one : tally (same_cell x x) ≡ 1 = ap tally (same_cell-refl x) in let more = times-has xs x h in omega arith))
+    new = once-new x xs (once x)
 
     apart : (c : Cell) → share f (has_cell (x ∷ xs)) c ≡ share f (same_cell x) c + share f (has_cell xs) c
-    apart c = by_cases (same_cell x c) refl
-      where
-        by_cases : (b : Bool) → same_cell x c ≡ b → cond (b || has_cell xs c) (f c) 0 ≡ cond b (f c) 0 + share f (has_cell xs) c
-        by_cases true e = let none : share f (has_cell xs) c ≡ 0 = ap (λ b. cond b (f c) 0) (ap (has_cell xs) (sym (same_cell-is x c e)) ∙ new) in omega arith
-        by_cases false e = omega arith
+    apart c = search (arith, same_cell-is, new)

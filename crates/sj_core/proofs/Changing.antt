@@ -1,9 +1,9 @@
 -- A step in which a claimed or running task goes on, or a replica moves: nothing more leaves or comes. What it owes, and that it
 -- keeps what tasks, pins, bytes and workers ask of a coherent state.
-use Rattle.std.proofs.Common.{Bool, List, Some, [], arith, false, inl, inr, sym, true, ◌∙◌, ◌≡◌, ◌≢◌, ◌≤◌, ◌⊎◌, ap, subst, get_or, not, ℕ, ◌<◌, if◌then◌else◌, All, nat_eq}
+use Rattle.std.proofs.Common.{Bool, List, None, Option, Some, length, [], arith, false, inl, inr, refl, sym, true, ◌∙◌, ◌≡◌, ◌≢◌, ◌≤◌, ◌⊎◌, ap, subst, get_or, not, ℕ, ◌<◌, if◌then◌else◌, All, nat_eq}
 use Rattle.std.proofs.lemmas.Bool.{false_from_ne_true, false≢true}
-use Rattle.sj_core.proofs.Words.{Array, AtNode, Cell, Claimed, Machine, Node, OnDisk, Place, Program, Progress, Running, State, Task, Transfer, Valid, Worker, cells_of, dims_of, fresh_cells, has_cell, is_claimed_by, is_coming_by, is_entry, is_leaving, is_leaving_by, is_task_of, is_valid, moves, node_of, order, pins, progress, replica, scratch, transfer, victims_of, written_cells, zeros, Coming, DiskNo, Invalid, Leaving, worker_of}
-use Rattle.sj_core.specs.Coherent.{Coherent, CopiesAgree, IsOwnedBy, IsStateOf, IsTransferTo, NodesSuffice, OrderIsKept, PinsHold, TasksHaveCells, TransfersAreSound, WorkersAreSound, WritersOwn, WritesAreCounted, content, written_content, HasBlocks, HasWorkers}
+use Rattle.sj_core.proofs.Words.{Array, AtNode, Cell, CellState, Claimed, same_cell, Machine, Node, OnDisk, Place, Program, Progress, Running, State, Task, Transfer, Valid, Worker, cells_of, dims_of, fresh_cells, has_cell, is_claimed_by, is_coming_by, is_entry, is_leaving, is_leaving_by, is_task_of, is_valid, moves, node_of, order, pins, progress, replica, scratch, transfer, victims_of, written_cells, zeros, DiskNo, Invalid, worker_of}
+use Rattle.sj_core.specs.Coherent.{Coherent, CopiesAgree, HasRows, IsOwnedBy, IsStateOf, IsTransferTo, NodesSuffice, OrderIsKept, PinsHold, TasksHaveCells, TransfersAreSound, WorkersAreSound, WritersOwn, WritesAreCounted, content, written_content, HasBlocks, HasWorkers}
 use Rattle.sj_core.specs.Laws.{IsSound}
 use Rattle.sj_core.specs.Step.{leave, same_place}
 use Rattle.sj_core.proofs.Advancing.{Advances, claimed_by-is, claimed_by-task_of, same_task, task_of-worker}
@@ -26,13 +26,26 @@ HasWorkers-kept p s s' t old new a staffed before = search (arith, same_task)
 -- where each replica on a disk is as it was or invalid, and transfers are as they were, blocks are where they ought to be
 pub HasBlocks-kept : (p : Program) (m : Machine) (s s' : State) → ((c : Cell) (d : DiskNo) → (replica s' c (OnDisk d) ≡ Invalid) ⊎ (replica s' c (OnDisk d) ≡ replica s c (OnDisk d))) → ((v : Worker) → transfer s' v ≡ transfer s v) → HasBlocks p m s → HasBlocks p m s'
 HasBlocks-kept p m s s' disks moves before = record {
-  resting = λ c d v a. elim (disks c d) [
-    | inl none ↦ (λ e. (let f : Invalid ≡ Coming v = sym none ∙ e in cc), λ e. (let f : Invalid ≡ Leaving v a = sym none ∙ e in cc))
-    | inr same ↦ (λ e. (before.resting c d v a).0 (sym same ∙ e), λ e. (before.resting c d v a).1 (sym same ∙ e))
-  ];
+  resting = λ c d v a. (λ e. (grind (arith, disks c d, (before.resting c d v a).0)), λ e. (grind (arith, disks c d, (before.resting c d v a).1)));
   home = λ c d valid. (search (arith, false≢true));
   aimed = λ v x d under_way e. before.aimed v x d (sym (moves v) ∙ under_way) e;
 }
+
+-- where each row of the cells was renewed so as to keep its places, and the other tables are as long as before, the tables fit
+pub HasRows-kept : (p : Program) (m : Machine) (s s' : State) (f : ℕ → CellState → CellState) → s'.cells ≡ renewed f s.cells → ((i : ℕ) (row : CellState) → (length (f i row).nodes ≡ length row.nodes) × (length (f i row).disks ≡ length row.disks)) →
+    length s'.tasks ≡ length s.tasks → length s'.orders ≡ length s.orders → length s'.workers ≡ length s.workers → HasRows p m s → HasRows p m s'
+HasRows-kept p m s s' f cells rows tasks orders workers before = record {
+  tasks = tasks ∙ before.tasks;
+  cells = ap length cells ∙ length-renewed f s.cells ∙ before.cells;
+  orders = orders ∙ before.orders;
+  workers = workers ∙ before.workers;
+  nodes = subst (All (λ row. length row.nodes ≡ length m.nodes)) (sym cells) (All-renewed (λ row. length row.nodes ≡ length m.nodes) f s.cells (λ i row e. (rows i row).0 ∙ e) before.nodes);
+  disks = subst (All (λ row. length row.disks ≡ length m.disks)) (sym cells) (All-renewed (λ row. length row.disks ≡ length m.disks) f s.cells (λ i row e. (rows i row).1 ∙ e) before.disks);
+}
+
+-- a worker with the same transfer moves the same cell
+pub moves-kept : (s s' : State) (v : Worker) (c : Cell) → transfer s' v ≡ transfer s v → moves s' v c ≡ moves s v c
+moves-kept s s' v c same = ap (λ (o : Option Transfer). elim o as (λ _. Bool) [ None ↦ false | Some x ↦ same_cell x.cell c ]) same
 
 pub place_differs : (k n : Node) → k ≢ n → not (same_place (AtNode k) (AtNode n)) ≡ true
 place_differs k n d = ap not (false_from_ne_true (nat_eq k.0 n.0) (λ e. d (ap (λ (i : ℕ). let j : Node = record { 0 = i } in j) ((Decides-eqb k.0 n.0).0 e))))
@@ -74,9 +87,6 @@ module _ (p : Program) (m : Machine) (s : State) (h : IsSound p m s) (s' : State
   others-task : (u : Task) (v : Worker) → u ≢ t → is_task_of v (progress s u) ≡ true → v ≢ w
   others-task u v d has e = d (h.coherent.workers.one_task u t w (ap (λ (x : Worker). is_task_of x (progress s u)) (sym e) ∙ has) (ap (is_task_of w) change.advance.was ∙ change.mine))
 
-  pub Changes-pins_other : (v : Worker) → v ≢ w → pins s' v ≡ pins s v
-  Changes-pins_other v d = elim (change.rows v) [ inl (same, scratch, has) ↦ same | inr (e, none, scratch, has) ↦ absurd (d e) ]
-
   -- pins are where they were
   was_pinned : (v : Worker) (c : Cell) → has_cell (pins s' v) c ≡ true → has_cell (pins s v) c ≡ true
   was_pinned v c pin = search (arith, false≢true)
@@ -109,15 +119,7 @@ module _ (p : Program) (m : Machine) (s : State) (h : IsSound p m s) (s' : State
         own = λ v c pin. (let held = before.own v c (was_pinned v c pin) in record {
           task = held.task;
           cell = held.cell;
-          has = elim (same_task held.task t) [
-            | inr d ↦ ap (is_task_of v) (change.advance.others held.task d) ∙ held.has
-            | inl e ↦ elim (change.rows v) [
-              | inr (is, none, scratch, idle) ↦ absurd (false≢true (ap (λ (cs : List Cell). has_cell cs c) (sym none) ∙ pin))
-              | inl (same, scratch, has) ↦
-                  let is : v ≡ w = its_worker v (ap (λ (k : Task). is_task_of v (progress s k)) (sym e) ∙ held.has) in
-                  ap (λ (k : Task). is_task_of v (progress s' k)) e ∙ ap (is_task_of v) change.advance.is ∙ ap (λ (x : Worker). is_task_of x new) is ∙ has is
-            ]
-          ];
+          has = grind (arith, same_task held.task t, change.advance, change.rows v, its_worker v, held.has);
         });
         coming_here = λ v c k coming. before.coming_here v c k (change.comes v c k coming);
         coming_claimed = λ v c k coming.
@@ -155,12 +157,7 @@ module _ (p : Program) (m : Machine) (s : State) (h : IsSound p m s) (s' : State
           ];
           none = λ idle. elim (change.rows v) [
             | inr (e, pins, none, k) ↦ none
-            | inl (pins, same, has) ↦ same ∙ (before.scratch v).none (λ u. false_from_ne_true (is_task_of v (progress s u)) (λ mine. elim (same_task u t) [
-              | inr d ↦ false≢true (sym (idle u) ∙ ap (is_task_of v) (change.advance.others u d) ∙ mine)
-              | inl f ↦
-                  let is : v ≡ w = its_worker v (ap (λ (k : Task). is_task_of v (progress s k)) (sym f) ∙ mine) in
-                  false≢true (sym (idle t) ∙ ap (is_task_of v) change.advance.is ∙ ap (λ (x : Worker). is_task_of x new) is ∙ has is)
-            ]))
+            | inl (pins, same, has) ↦ same ∙ (before.scratch v).none (λ u. false_from_ne_true (is_task_of v (progress s u)) (λ mine. (grind (arith, same_task u t, change.advance, its_worker v, has, idle u, idle t))))
           ];
         };
       }
@@ -183,7 +180,7 @@ module _ (p : Program) (m : Machine) (s : State) (h : IsSound p m s) (s' : State
           record {
             valid = left.0 (AtNode (node_of m v)) ∙ before.valid ∙ ap (λ (a : Array). Valid (if has_cell (fresh_cells p u v) c then zeros (dims_of p c) else a)) (sym left.2);
             only = λ q elsewhere. left.0 q ∙ before.only q elsewhere;
-            pinned = ap (λ (cs : List Cell). has_cell cs c) (Changes-pins_other v (others-task u v d (ap (is_task_of v) was ∙ same_worker-refl v))) ∙ before.pinned;
+            pinned = grind (arith, change.rows v, others-task u v d (ap (is_task_of v) was ∙ same_worker-refl v), before.pinned);
             unmoved = left.1;
           }
     ];
@@ -192,15 +189,32 @@ module _ (p : Program) (m : Machine) (s : State) (h : IsSound p m s) (s' : State
   pub Changes-coherent : WritersOwn p m s' → CopiesAgree p s' → Coherent p m s'
   Changes-coherent writers copies = search (arith, Changes-cells, Changes-pins, Changes-bytes, Changes-workers)
 
--- a step that leaves alone the cells that move, and the transfers, keeps transfers sound
-pub TransfersAreSound-spared : (p : Program) (m : Machine) (s s' : State) (touched : Cell → Bool) → ((c : Cell) (q : Place) → touched c ≡ false → replica s' c q ≡ replica s c q) → ((v : Worker) (c : Cell) (q : Place) → is_leaving_by v (replica s' c q) ≡ true → is_leaving_by v (replica s c q) ≡ true) →
-    ((v : Worker) → transfer s' v ≡ transfer s v) → ((v : Worker) (x : Transfer) → transfer s v ≡ Some x → touched x.cell ≡ false) → TransfersAreSound m s → TransfersAreSound m s'
-TransfersAreSound-spared p m s s' touched stays leaves same spared before = record {
-  source = λ v x now. (let was = sym (same v) ∙ now in ap is_valid (stays x.cell x.from (spared v x was)) ∙ before.source v x was);
-  target = λ v x now. (let was = sym (same v) ∙ now in to_place v x.cell x.from x.to (spared v x was) (before.target v x was));
-  apart = λ u v x y d e hu hv. before.apart u v x y d e (sym (same u) ∙ hu) (sym (same v) ∙ hv);
+-- a step that begins no transfer keeps them sound, where what moves stays valid where it is read, awaited or evicted, and no mover's victims are more
+pub TransfersAreSound-kept : (m : Machine) (s s' : State) → ((v : Worker) (x : Transfer) → transfer s' v ≡ Some x → transfer s v ≡ Some x) →
+    ((v : Worker) (x : Transfer) → transfer s' v ≡ Some x → is_valid (replica s x.cell x.from) ≡ true → is_valid (replica s' x.cell x.from) ≡ true) →
+    ((v : Worker) (x : Transfer) (k : Node) → transfer s' v ≡ Some x → k ≡ node_of m v → is_coming_by v (replica s x.cell (AtNode k)) ≡ true → is_coming_by v (replica s' x.cell (AtNode k)) ≡ true) →
+    ((v : Worker) (x : Transfer) → transfer s' v ≡ Some x → is_leaving_by v (replica s x.cell x.from) ≡ true → is_leaving_by v (replica s' x.cell x.from) ≡ true) →
+    ((v : Worker) (x : Transfer) (d : DiskNo) → transfer s' v ≡ Some x → x.to ≡ OnDisk d → (replica s' x.cell (OnDisk d) ≡ Invalid) ⊎ (replica s' x.cell (OnDisk d) ≡ replica s x.cell (OnDisk d))) →
+    ((v : Worker) (x : Transfer) (c : Cell) (q : Place) → transfer s' v ≡ Some x → is_leaving_by v (replica s' c q) ≡ true → is_leaving_by v (replica s c q) ≡ true) → TransfersAreSound m s → TransfersAreSound m s'
+TransfersAreSound-kept m s s' was read awaited evicted on_disk leaves before = record {
+  source = λ v x now. read v x now (before.source v x (was v x now));
+  target = λ v x now. to_place v x now x.to refl (before.target v x (was v x now));
+  apart = λ u v x y d e hu hv. before.apart u v x y d e (was u x hu) (was v y hv);
 }
   where
-    to_place : (v : Worker) (c : Cell) (from to : Place) → touched c ≡ false → IsTransferTo m s v c from to → IsTransferTo m s' v c from to
-    to_place v c from (AtNode k) e target = (target.0, ap (is_coming_by v) (stays c (AtNode k) e) ∙ target.1, λ d q. false_from_ne_true (is_leaving_by v (replica s' d q)) (λ leaving. false≢true (sym (target.2 d q) ∙ leaves v d q leaving)))
-    to_place v c from (OnDisk d) e target = (ap (is_leaving_by v) (stays c from e) ∙ target.0, stays c (OnDisk d) e ∙ target.1)
+    to_place : (v : Worker) (x : Transfer) → transfer s' v ≡ Some x → (to : Place) → x.to ≡ to → IsTransferTo m s v x.cell x.from to → IsTransferTo m s' v x.cell x.from to
+    to_place v x now (AtNode k) e target = (target.0, awaited v x k now target.0 target.1, λ d q. false_from_ne_true (is_leaving_by v (replica s' d q)) (λ leaving. false≢true (sym (target.2 d q) ∙ leaves v x d q now leaving)))
+    to_place v x now (OnDisk d) e target = (evicted v x now target.0, elim (on_disk v x d now e) [ inl none ↦ none | inr stays ↦ stays ∙ target.1 ])
+
+-- so does one that leaves alone the cells that move
+pub TransfersAreSound-spared : (m : Machine) (s s' : State) (touched : Cell → Bool) → ((c : Cell) (q : Place) → touched c ≡ false → replica s' c q ≡ replica s c q) → ((v : Worker) (c : Cell) (q : Place) → is_leaving_by v (replica s' c q) ≡ true → is_leaving_by v (replica s c q) ≡ true) →
+    ((v : Worker) → transfer s' v ≡ transfer s v) → ((v : Worker) (x : Transfer) → transfer s v ≡ Some x → touched x.cell ≡ false) → TransfersAreSound m s → TransfersAreSound m s'
+TransfersAreSound-spared m s s' touched stays leaves same spared = TransfersAreSound-kept m s s' was (λ v x now valid. ap is_valid (stays x.cell x.from (unmoved v x now)) ∙ valid)
+    (λ v x k now here coming. ap (is_coming_by v) (stays x.cell (AtNode k) (unmoved v x now)) ∙ coming) (λ v x now leaving. ap (is_leaving_by v) (stays x.cell x.from (unmoved v x now)) ∙ leaving)
+    (λ v x d now e. inr (stays x.cell (OnDisk d) (unmoved v x now))) (λ v x c q now. leaves v c q)
+  where
+    was : (v : Worker) (x : Transfer) → transfer s' v ≡ Some x → transfer s v ≡ Some x
+    was v x now = sym (same v) ∙ now
+
+    unmoved : (v : Worker) (x : Transfer) → transfer s' v ≡ Some x → touched x.cell ≡ false
+    unmoved v x now = spared v x (was v x now)

@@ -1,24 +1,31 @@
--- What a claim changes: a victim leaves, a missing cell comes, and the rest stays as it is.
-use Rattle.std.proofs.Common.{Bool, List, [], arith, cond, false, inl, length, not, refl, sym, true, ◌&&◌, ◌<◌, ◌||◌, ◌∙◌, ◌∷◌, ◌≡◌, ◌≢◌, ◌⊎◌, ap, inr, filter, nat_eq}
-use Rattle.std.proofs.lemmas.Bool.{and_from, and_parts, cases_lt, false_from_ne_true, false≢true, not-true}
+-- What a claim changes, and that it leaves a coherent state: a victim leaves, a missing cell comes, and the rest stays as it is.
+use Rattle.std.proofs.Common.{Bool, List, Some, [], ap, arith, cond, false, filter, fold, if◌then◌else◌, inl, inr, is_some, length, nat_eq, not, refl, subst, sum_by, sym, true, ℕ, ◌&&◌, ◌++◌, ◌+◌, ◌<◌, ◌||◌, ◌∙◌, ◌∷◌, ◌≡◌, ◌≢◌, ◌≤◌, ◌⊎◌}
+use Rattle.std.proofs.lemmas.Bool.{and_from, and_parts, cases_Bool, cases_lt, false_from_ne_true, false≢true, leb-true, not-true}
 use Rattle.std.proofs.lemmas.Bool.Decides.{Decides-eqb}
-use Rattle.std.proofs.lemmas.List.{get_or_past}
+use Rattle.std.proofs.lemmas.List.{get_or-set_other, get_or-set_same, get_or_past, length-set}
 use Rattle.std.proofs.lemmas.List.Elements.{All-contains}
 use Rattle.std.specs.List.{list_any}
-use Rattle.sj_core.proofs.Words.{Array, AtNode, Cell, CellState, Claimed, Coming, DiskNo, Invalid, Leaving, Machine, Node, OnDisk, Place, Program, Replica, State, Task, Valid, Waiting, Worker, WorkerState, array_of, cell_state, cells_of, free, has_cell, is_coming_by, is_entry, is_leaving_by, is_pinned, is_task_of, node_of, order, pins, progress, replica, replica_in, scratch_bytes, task_of, tile_bytes, transfer, with_replica_in, worker_state, workers_of, writes}
-use Rattle.sj_core.specs.Coherent.{HasRows}
+use Rattle.sj_core.proofs.Words.{Array, AtNode, Cell, CellState, Claimed, Coming, DiskNo, Invalid, Leaving, Machine, Node, OnDisk, Place, Program, Replica, Running, State, Task, Transfer, Valid, Waiting, Worker, WorkerState, array_of, cell_state, cells_of, cells_of_program, dims_of, distinct, free, fresh_cells, has_cell, is_claimed_by, is_coming_by, is_entry, is_leaving, is_leaving_by, is_pinned, is_task_of, is_valid, node_of, node_size, order, pins, progress, replica, replica_in, same_worker, scratch, scratch_bytes, task_of, tile_bytes, transfer, used, with_replica_in, worker_state, workers_at, workers_of, writes, written_cells, zeros}
+use Rattle.sj_core.specs.Coherent.{Coherent, CopiesAgree, HasEntries, HasRows, IsOwnedBy, IsStateOf, NodesSuffice, OrderIsKept, PinsHold, TasksHaveCells, TransfersAreSound, WorkersAreSound, WritersOwn, WritesAreCounted, content, is_being_written, used_while_leaving, written_content}
 use Rattle.sj_core.specs.Laws.{IsSound}
 use Rattle.sj_core.specs.Proper.{IsMachineFor}
-use Rattle.sj_core.specs.Step.{Claims, claimed_replica, leave, missing, to_come}
+use Rattle.sj_core.specs.Step.{Claims, claimed_replica, leave, missing, to_come, to_front, without}
 use Rattle.sj_core.specs.Victims.{covers}
-use Rattle.sj_core.proofs.Advancing.{Advances, Claims-advances, idle-has_none}
-use Rattle.sj_core.proofs.CellLists.{filter-has_cell, has_cell-append, has_cell-distinct, has_cell-filter}
-use Rattle.sj_core.proofs.Eviction.{shortest_suffix-suffix}
+use Rattle.sj_core.proofs.Advancing.{Advances, Claims-advances, claimed-is_mine, claimed-task_of, claimed_by-task_of, idle-has_none, same_task, task_of-worker}
+use Rattle.sj_core.proofs.CellLists.{filter-has_cell, has_cell-append, has_cell-distinct, has_cell-filter, has_cell-fronted, has_cell-without, share, times, times-append, times-distinct, times-filter, times-fronted}
+use Rattle.sj_core.proofs.Eviction.{shortest_suffix-passes, shortest_suffix-suffix}
 use Rattle.sj_core.proofs.Placing.{replica_in-cases}
-use Rattle.sj_core.proofs.Reading.{cells-renewed_or, idle_row, list_any-worker, no_row, replica_in-same, settled-at, worker-other, worker-same, workers_differ}
-use Rattle.sj_core.proofs.Replicas.{entry-cases, invalid-is, leaving_by-leaves, same_worker-is, same_worker-refl}
+use Rattle.sj_core.proofs.Reading.{cells-renewed_or, entry-inside, idle_row, list_any-worker, no_row, replica_in-same, same_node, settled-at, worker-other, worker-same, workers_differ}
+use Rattle.sj_core.proofs.Replicas.{coming_by-is, entry-cases, invalid-is, leaving-by_some, leaving_by-leaves, leaving_by-no_entry, same_worker-is, same_worker-refl}
 use Rattle.sj_core.proofs.Sharing.{operand_for}
 use Rattle.sj_core.proofs.Tables.{renewed-at}
+use Rattle.sj_core.proofs.Bytes.{beside-bytes, bytes_where, entry-cell, fewer-entries, fewer-leaving, leaving-bytes, once-bytes, order-bytes, others-le, worker-once_at}
+use Rattle.sj_core.proofs.Ending.{content-kept, counted-same, written-undone}
+use Rattle.sj_core.proofs.Dependencies.{Proper-dependencies}
+use Rattle.sj_core.proofs.Changing.{HasBlocks-kept, HasRows-kept, HasWorkers-kept, TransfersAreSound-kept, moves-kept}
+use Rattle.sj_core.proofs.Finding.{agrees-kept, not_written-after, not_written-before}
+use Rattle.sj_core.proofs.Separation.{Claims-keeps_order, separated}
+use Rattle.sj_core.proofs.Sums.{filter-sum-le, sum-balanced, sum-one_more, sum-within}
 
 -- ---- what a claim evicts and brings
 
@@ -31,8 +38,7 @@ module _ (p : Program) (m : Machine) (s : State) (t : Task) (w : Worker) (s' : S
       let end = shortest_suffix-suffix (covers (tile_bytes p) (free p m s n) (to_come p s t w n)) (filter test (order s n)) claim.evicted claim.chosen in
       let all : has_cell (filter test (order s n)) c ≡ true = ap (λ (xs : List Cell). has_cell xs c) (sym end.1) ∙ has_cell-append end.0 claim.evicted c h in
       let both = has_cell-filter test (order s n) c all in
-      let passes = and_parts (not (is_pinned m s n c)) (not (has_cell (cells_of p t w) c)) both.0 in
-      (not-true (is_pinned m s n c) passes.0, not-true (has_cell (cells_of p t w) c) passes.1, both.1)
+      search (arith, both, and_parts, not-true)
 
   -- what the claim brings is a cell of the task without an entry on the node
   pub missing-absent : (c : Cell) → has_cell (missing p s t w (node_of m w)) c ≡ true → (has_cell (order s (node_of m w)) c ≡ false) × (has_cell (cells_of p t w) c ≡ true)
@@ -92,11 +98,7 @@ pinned-at m s v n c inside here h =
   where
     list_any-filter : {X : Type 0} (f g : X → Bool) (xs : List X) → list_any f (filter g xs) ≡ list_any (λ x. g x && f x) xs
     list_any-filter f g [] = refl
-    list_any-filter f g (x ∷ xs) = by_test (g x) (list_any-filter f g xs)
-      where
-        by_test : (b : Bool) → list_any f (filter g xs) ≡ list_any (λ y. g y && f y) xs → list_any f (cond b (x ∷ filter g xs) (filter g xs)) ≡ ((b && f x) || list_any (λ y. g y && f y) xs)
-        by_test true rest = ap (λ b. f x || b) rest
-        by_test false rest = rest
+    list_any-filter f g (x ∷ xs) = grind (arith, cases_Bool (g x), list_any-filter f g xs)
 
 -- ---- what a replica becomes
 
@@ -114,18 +116,20 @@ module _ (p : Program) (m : Machine) (s : State) (h : IsSound p m s) (t : Task) 
   pub claimer-other : (v : Worker) (u : Task) → is_task_of v (progress s u) ≡ true → v ≢ w
   claimer-other v u has e = false≢true (sym (idle-has_none s w u claim.idle) ∙ ap (λ (x : Worker). is_task_of x (progress s u)) (sym e) ∙ has)
 
+  own_row : worker_state s' w ≡ record { pins = cells_of p t w; scratch = scratch_bytes p (task_of p t); victims = claim.evicted; transfer = transfer s w }
+  own_row = Claims-worker p m s t w s' h.coherent.state.rows h.machine claim
+
+  other_row : (v : Worker) → v ≢ w → worker_state s' v ≡ worker_state s v
+  other_row v d = Claims-other_worker p m s t w v s' claim d
+
   pub claim-transfer : (v : Worker) → transfer s' v ≡ transfer s v
-  claim-transfer v =
-      elim (workers_differ v w) [
-        | inl e ↦ ap (transfer s') e ∙ ap (λ (row : WorkerState). row.transfer) (Claims-worker p m s t w s' h.coherent.state.rows h.machine claim) ∙ sym (ap (transfer s) e)
-        | inr d ↦ ap (λ (row : WorkerState). row.transfer) (Claims-other_worker p m s t w v s' claim d)
-      ]
+  claim-transfer v = grind (arith, workers_differ v w, own_row, other_row v)
 
   pub claim-own_pins : (c : Cell) → has_cell (pins s' w) c ≡ has_cell (cells_of p t w) c
-  claim-own_pins c = ap (λ (row : WorkerState). has_cell row.pins c) (Claims-worker p m s t w s' h.coherent.state.rows h.machine claim)
+  claim-own_pins c = ap (λ (row : WorkerState). has_cell row.pins c) (own_row)
 
   pub claim-other_pins : (v : Worker) (c : Cell) → v ≢ w → has_cell (pins s' v) c ≡ has_cell (pins s v) c
-  claim-other_pins v c d = ap (λ (row : WorkerState). has_cell row.pins c) (Claims-other_worker p m s t w v s' claim d)
+  claim-other_pins v c d = ap (λ (row : WorkerState). has_cell row.pins c) (other_row v d)
 
   -- the cells of the task are cells of the table
   pub task-cell : (c : Cell) → has_cell (cells_of p t w) c ≡ true → c.0 < length s.cells
@@ -158,21 +162,16 @@ module _ (p : Program) (m : Machine) (s : State) (h : IsSound p m s) (t : Task) 
   missing-invalid c lacks = invalid-is (replica s c (AtNode (node_of m w))) (sym (h.coherent.state.entries.entries (node_of m w) c) ∙ (missing-absent p m s t w s' claim c lacks).0) (settled-at s (node_of m w) c claim.settled)
 
   pub claim-cases : (c : Cell) (q : Place) → ClaimCase m s s' w claim.evicted (missing p s t w (node_of m w)) c q
-  claim-cases c q =
-      elim (claim-at p m s t w s' claim c q) [
-        | inl same ↦ Stays same
-        | inr (at, is) ↦ by_tests (has_cell claim.evicted c) (has_cell (missing p s t w (node_of m w)) c) refl refl at is
+  claim-cases c q = elim (claim-at p m s t w s' claim c q) [
+    | inl same ↦ Stays same
+    | inr (at, is) ↦ elim (cases_Bool (has_cell claim.evicted c)) [
+      | inl e ↦ let valid = victim-valid c e in Leaves at e valid.0 (grind (arith, at, valid.1)) (grind (arith, is, e, valid.1))
+      | inr e ↦ elim (cases_Bool (has_cell (missing p s t w (node_of m w)) c)) [
+        | inl f ↦ Comes at f (ap (replica s c) at ∙ missing-invalid c f) (grind (arith, is, e, f))
+        | inr f ↦ Stays (grind (arith, at, is, e, f))
       ]
-    where
-      old : q ≡ AtNode (node_of m w) → replica s c q ≡ replica s c (AtNode (node_of m w))
-      old at = ap (replica s c) at
-
-      by_tests : (a b : Bool) → has_cell claim.evicted c ≡ a → has_cell (missing p s t w (node_of m w)) c ≡ b → q ≡ AtNode (node_of m w) → replica s' c q ≡ claimed_replica w claim.evicted (missing p s t w (node_of m w)) c (replica s c (AtNode (node_of m w))) → ClaimCase m s s' w claim.evicted (missing p s t w (node_of m w)) c q
-      by_tests true b e f at is =
-          let valid = victim-valid c e in
-          Leaves at e valid.0 (old at ∙ valid.1) (is ∙ ap (λ x. cond x (leave w (replica s c (AtNode (node_of m w)))) (cond (has_cell (missing p s t w (node_of m w)) c) (Coming w) (replica s c (AtNode (node_of m w))))) e ∙ ap (leave w) valid.1)
-      by_tests false true e f at is = Comes at f (old at ∙ missing-invalid c f) (is ∙ ap (λ x. cond x (leave w (replica s c (AtNode (node_of m w)))) (cond (has_cell (missing p s t w (node_of m w)) c) (Coming w) (replica s c (AtNode (node_of m w))))) e ∙ ap (λ x. cond x (Coming w) (replica s c (AtNode (node_of m w)))) f)
-      by_tests false false e f at is = Stays (is ∙ ap (λ x. cond x (leave w (replica s c (AtNode (node_of m w)))) (cond (has_cell (missing p s t w (node_of m w)) c) (Coming w) (replica s c (AtNode (node_of m w))))) e ∙ ap (λ x. cond x (Coming w) (replica s c (AtNode (node_of m w)))) f ∙ sym (old at))
+    ]
+  ]
 
   -- a claim changes no array
   pub claim-array : (c : Cell) (q : Place) → array_of (replica s' c q) ≡ array_of (replica s c q)
@@ -183,10 +182,7 @@ module _ (p : Program) (m : Machine) (s : State) (h : IsSound p m s) (t : Task) 
 
   -- an entry that isn't evicted stays
   pub entry-stays : (c : Cell) (k : Node) → is_entry (replica s c (AtNode k)) ≡ true → (k ≡ node_of m w → has_cell claim.evicted c ≡ false) → replica s' c (AtNode k) ≡ replica s c (AtNode k)
-  entry-stays c k entry spared = by_case (claim-cases c (AtNode k))
-    where
-      by_case : ClaimCase m s s' w claim.evicted (missing p s t w (node_of m w)) c (AtNode k) → replica s' c (AtNode k) ≡ replica s c (AtNode k)
-      by_case x = search (arith, false≢true, same_node_of)
+  entry-stays c k entry spared = search (arith, claim-cases c (AtNode k), false≢true, same_node_of)
 
   -- what leaves after a claim is a victim of it, or left before; what leaves still leaves
   pub claim-leaving : (v : Worker) (c : Cell) (q : Place) → is_leaving_by v (replica s' c q) ≡ true → ((q ≡ AtNode (node_of m w)) × (v ≡ w) × (has_cell claim.evicted c ≡ true)) ⊎ ((q ≢ AtNode (node_of m w)) × (is_leaving_by v (replica s c q) ≡ true))
@@ -197,26 +193,281 @@ module _ (p : Program) (m : Machine) (s : State) (h : IsSound p m s) (t : Task) 
 
   -- what comes after a claim is what it brings, or came before
   pub claim-coming : (v : Worker) (c : Cell) (k : Node) → is_coming_by v (replica s' c (AtNode k)) ≡ true → ((k ≡ node_of m w) × (v ≡ w) × (has_cell (cells_of p t w) c ≡ true)) ⊎ (is_coming_by v (replica s c (AtNode k)) ≡ true)
-  claim-coming v c k coming = by_case (claim-cases c (AtNode k))
-    where
-      by_case : ClaimCase m s s' w claim.evicted (missing p s t w (node_of m w)) c (AtNode k) → ((k ≡ node_of m w) × (v ≡ w) × (has_cell (cells_of p t w) c ≡ true)) ⊎ (is_coming_by v (replica s c (AtNode k)) ≡ true)
-      by_case (Stays same) = inr (sym (ap (is_coming_by v) same) ∙ coming)
-      by_case (Leaves at evicted a was is) = absurd (false≢true (sym (ap (is_coming_by v) is) ∙ coming))
-      by_case (Comes at lacks was is) = inl (same_node_of k at, sym (same_worker-is w v (sym (ap (is_coming_by v) is) ∙ coming)), (missing-absent p m s t w s' claim c lacks).1)
+  claim-coming v c k coming = grind (arith, claim-cases c (AtNode k), same_node_of, same_worker-is w v, missing-absent p m s t w s' claim c)
 
   -- the task's own cells are entries after the claim: those that were, and those that come
   pub claim-own_cells : (c : Cell) → has_cell (cells_of p t w) c ≡ true → (is_entry (replica s' c (AtNode (node_of m w))) ≡ true) × (has_cell (order s (node_of m w)) c ≡ false → is_coming_by w (replica s' c (AtNode (node_of m w))) ≡ true)
-  claim-own_cells c has = by_order (has_cell (order s (node_of m w)) c) refl
+  claim-own_cells c has =
+      let inside = task-cell c has in
+      let now = claim-here p m s t w s' claim c inside (node-inside c inside) in
+      let entry = h.coherent.state.entries.entries (node_of m w) c in
+      (grind (arith, now, own-spared c has, entry, absent-missing p m s t w s' claim c), λ absent. (grind (arith, now, own-spared c has, absent-missing p m s t w s' claim c, same_worker-refl w)))
+
+  -- ---- the state's own form
+
+  abbrev claim_order : List Cell
+  claim_order = fold to_front (without claim.evicted (order s (node_of m w))) (cells_of p t w)
+
+  claim-rows : HasRows p m s'
+  claim-rows = HasRows-kept p m s s' _ (ap (λ (z : State). z.cells) claim.leaves) (λ i row. (length-set row.nodes (node_of m w).0 _, refl))
+      (ap (λ (z : State). length z.tasks) claim.leaves ∙ length-set s.tasks t.0 (Claimed w)) (ap (λ (z : State). length z.orders) claim.leaves ∙ length-set s.orders (node_of m w).0 claim_order)
+      (ap (λ (z : State). length z.workers) claim.leaves ∙ length-set s.workers w.0 _) h.coherent.state.rows
+
+  pub claim-order_here : order s' (node_of m w) ≡ claim_order
+  claim-order_here = search (arith, get_or-set_same, claim_order)
+
+  pub claim-order_elsewhere : (k : Node) → k ≢ node_of m w → order s' k ≡ order s k
+  claim-order_elsewhere k d = ap (λ (z : State). order z k) claim.leaves ∙ get_or-set_other s.orders (node_of m w).0 k.0 claim_order [] (λ e. d (ap (λ (i : ℕ). let j : Node = record { 0 = i } in j) e))
+
+  -- the node's order has what it had, but the victims, and the task's cells
+  pub order-now : (c : Cell) → has_cell (order s' (node_of m w)) c ≡ (has_cell (cells_of p t w) c || (not (has_cell claim.evicted c) && has_cell (order s (node_of m w)) c))
+  order-now c = ap (λ (cs : List Cell). has_cell cs c) claim-order_here ∙ has_cell-fronted (cells_of p t w) (without claim.evicted (order s (node_of m w))) c ∙ ap (λ b. has_cell (cells_of p t w) c || b) (has_cell-without claim.evicted (order s (node_of m w)) c)
+
+  elsewhere : (c : Cell) (k : Node) → k ≢ node_of m w → replica s' c (AtNode k) ≡ replica s c (AtNode k)
+  elsewhere c k d = claim-elsewhere p m s t w s' claim c (AtNode k) (λ e. d (cc))
+
+  -- a victim leaves
+  evicted-leaves : (c : Cell) → has_cell claim.evicted c ≡ true → (a : Array) × (replica s' c (AtNode (node_of m w)) ≡ Leaving w a)
+  evicted-leaves c evicted =
+      let valid = victim-valid c evicted in
+      let inside = entry-inside s c (node_of m w) (ap is_entry valid.1) in
+      (valid.0, claim-here p m s t w s' claim c inside.0 inside.1 ∙ ap (λ x. cond x (leave w (replica s c (AtNode (node_of m w)))) (cond (has_cell (missing p s t w (node_of m w)) c) (Coming w) (replica s c (AtNode (node_of m w))))) evicted ∙ ap (leave w) valid.1)
+
+  entries-here : (c : Cell) → has_cell (order s' (node_of m w)) c ≡ is_entry (replica s' c (AtNode (node_of m w)))
+  entries-here c = grind (arith, order-now c, claim-cases c (AtNode (node_of m w)), claim-own_cells c, evicted-leaves c, missing-absent p m s t w s' claim c, h.coherent.state.entries.entries (node_of m w) c)
+
+  claim-entries : HasEntries s'
+  claim-entries = record {
+    entries = λ k c. (search (arith, same_node, entries-here, claim-order_elsewhere, elsewhere));
+    once = λ k c. elim (same_node k (node_of m w)) [
+      | inl e ↦
+          let fewer = times-filter (λ d. not (has_cell claim.evicted d)) (order s (node_of m w)) c in
+          grind (arith, e, claim-order_here, fewer, times-fronted (cells_of p t w) (without claim.evicted (order s (node_of m w))) c, h.coherent.state.entries.once (node_of m w) c)
+      | inr d ↦ subst (λ (cs : List Cell). times cs c ≤ 1) (sym (claim-order_elsewhere k d)) (h.coherent.state.entries.once k c)
+    ];
+  }
+
+  claim-state : IsStateOf p m s'
+  claim-state = record {
+    rows = claim-rows;
+    entries = claim-entries;
+    blocks = HasBlocks-kept p m s s' (λ c d. inr (claim-on_disk p m s t w s' claim c d)) (claim-transfer) h.coherent.state.blocks;
+    staff = HasWorkers-kept p s s' t Waiting (Claimed w) (claim-advance) claim.worker h.coherent.state.staff;
+  }
+
+  -- ---- what each worker has in hand
+
+  other_than : (u : Task) (v : Worker) → is_task_of v (progress s u) ≡ true → u ≢ t
+  other_than u v has e = false≢true (sym (ap (λ (k : Task). is_task_of v (progress s k)) e ∙ ap (is_task_of v) claim.waiting) ∙ has)
+
+  -- the tasks of a worker after a claim: the claimed one, or its own from before
+  now_task : (u : Task) (v : Worker) → is_task_of v (progress s' u) ≡ true → ((u ≡ t) × (v ≡ w)) ⊎ ((v ≢ w) × (is_task_of v (progress s u) ≡ true))
+  now_task u v has = elim (same_task u t) [
+    | inl e ↦ inl (e, sym (task_of-worker v (Claimed w) (sym (ap (λ (k : Task). is_task_of v (progress s' k)) e ∙ ap (is_task_of v) claim-advance.is) ∙ has)))
+    | inr d ↦ let before = sym (ap (is_task_of v) (claim-advance.others u d)) ∙ has in inr (claimer-other v u before, before)
+  ]
+
+  still_task : (u : Task) (v : Worker) → is_task_of v (progress s u) ≡ true → progress s' u ≡ progress s u
+  still_task u v has = claim-advance.others u (other_than u v has)
+
+  still_claims : (u : Task) (v : Worker) → is_claimed_by v (progress s u) ≡ true → is_claimed_by v (progress s' u) ≡ true
+  still_claims u v claims = ap (is_claimed_by v) (still_task u v (claimed_by-task_of v (progress s u) claims)) ∙ claims
+
+  now_claims : (u : Task) (v : Worker) → progress s' u ≡ Claimed v → ((u ≡ t) × (v ≡ w)) ⊎ (progress s u ≡ Claimed v)
+  now_claims u v claims = grind (arith, same_task u t, claim-advance)
+
+  runs_before : (u : Task) (v : Worker) → progress s' u ≡ Running v → progress s u ≡ Running v
+  runs_before u v runs = grind (arith, same_task u t, claim-advance)
+
+  other_scratch : (v : Worker) → v ≢ w → scratch s' v ≡ scratch s v
+  other_scratch v d = ap (λ (row : WorkerState). row.scratch) (other_row v d)
+
+  claim-workers : WorkersAreSound p m s'
+  claim-workers =
+      let before = h.coherent.workers in
+      record {
+        evicted = λ v c k leaving. elim (claim-leaving v c (AtNode k) leaving) [
+          | inl (at, own, victim) ↦ record { here = grind (arith, at, own); claims = (t, grind (arith, claim-advance, own, same_worker-refl w)); victim = grind (arith, own, own_row, victim) }
+          | inr (away, was) ↦
+              let old = before.evicted v c k was in
+              let d = claimer-other v old.claims.0 (claimed_by-task_of v (progress s old.claims.0) old.claims.1) in
+              record { here = old.here; claims = (old.claims.0, still_claims old.claims.0 v old.claims.1); victim = ap (λ (r : WorkerState). has_cell r.victims c) (other_row v d) ∙ old.victim }
+        ];
+        one_evicts = λ u v c d k hu hv. (grind (arith, claim-leaving u c (AtNode k) hu, claim-leaving v d (AtNode k) hv, before.one_evicts u v c d k));
+        one_task = λ u v x hu hv. (grind (arith, now_task u x hu, now_task v x hv, before.one_task u v x));
+        moves_for_claim = λ v x under_way. (let old = before.moves_for_claim v x (sym (claim-transfer v) ∙ under_way) in (old.0, still_claims old.0 v old.1));
+        scratch = λ v. record {
+          own = λ u has. (grind (arith, now_task u v has, own_row, other_scratch v, (before.scratch v).own u));
+          none = λ idle.
+              (let other : v ≢ w = λ e. (search (arith, claimed-is_mine, false≢true, idle t, claim-advance)) in
+              other_scratch v other ∙ (before.scratch v).none (λ u. false_from_ne_true (is_task_of v (progress s u)) (λ has. false≢true (sym (idle u) ∙ ap (is_task_of v) (still_task u v has) ∙ has))));
+        };
+      }
+
+  -- ---- cells, pins and transfers
+
+  claim-valid : (c : Cell) (q : Place) → is_valid (replica s' c q) ≡ is_valid (replica s c q)
+  claim-valid c q = ap is_some (claim-array c q)
+
+  still_pinned : (v : Worker) (u : Task) (c : Cell) → is_task_of v (progress s u) ≡ true → has_cell (pins s' v) c ≡ has_cell (pins s v) c
+  still_pinned v u c has = claim-other_pins v c (claimer-other v u has)
+
+  -- a pinned entry stays
+  pinned-entry : (v : Worker) (c : Cell) → has_cell (pins s v) c ≡ true → is_entry (replica s c (AtNode (node_of m v))) ≡ true → replica s' c (AtNode (node_of m v)) ≡ replica s c (AtNode (node_of m v))
+  pinned-entry v c pin entry = entry-stays c (node_of m v) entry (pin-spared v c pin)
+
+  claim-cells : TasksHaveCells p m s'
+  claim-cells =
+      let before = h.coherent.cells in
+      record {
+        running = λ u v c runs has. claim-valid c (AtNode (node_of m v)) ∙ before.running u v c (runs_before u v runs) has;
+        claimed = λ u v c claims has. elim (now_claims u v claims) [
+          | inl (e, own) ↦ let mine : has_cell (cells_of p t w) c ≡ true = cc in let entry = (claim-own_cells c mine).0 in cc
+          | inr was ↦ let entry = before.claimed u v c was has in ap is_entry (pinned-entry v c (before.pinned u v c (claimed-task_of s u v was) has) entry) ∙ entry
+        ];
+        pinned = λ u v c has cell. (grind (arith, now_task u v has, claim-own_pins c, still_pinned v u c, before.pinned u v c));
+      }
+
+  claim-pins : PinsHold p m s'
+  claim-pins =
+      let before = h.coherent.pins in
+      record {
+        stays = λ v c pin. false_from_ne_true (is_leaving (replica s' c (AtNode (node_of m v)))) (λ leaves.
+            (let by = leaving-by_some (replica s' c (AtNode (node_of m v))) leaves in
+            grind (arith, workers_differ v w, claim-leaving by.0 c (AtNode (node_of m v)) by.1, own-spared c, pin-spared v c, claim-own_pins c, claim-other_pins v c, leaving_by-leaves by.0, before.stays v c)));
+        own = λ v c pin. elim (workers_differ v w) [
+          | inl e ↦ record { task = t; has = grind (arith, claim-advance, e, claimed-is_mine w); cell = grind (arith, e, claim-own_pins c) }
+          | inr d ↦ let old = before.own v c (sym (claim-other_pins v c d) ∙ pin) in record { task = old.task; has = ap (is_task_of v) (still_task old.task v old.has) ∙ old.has; cell = old.cell }
+        ];
+        coming_here = λ v c k coming. (grind (arith, claim-coming v c k coming, before.coming_here v c k));
+        coming_claimed = λ v c k coming. (search (arith, claim-coming v c k coming, still_task, claimed-task_of, claim-advance));
+        coming_pinned = λ v c k coming. elim (claim-coming v c k coming) [
+          | inl (here, own, has) ↦ grind (arith, own, claim-own_pins c, has)
+          | inr was ↦ let old = before.coming_claimed v c k was in still_pinned v old.task c (claimed-task_of s old.task v old.claimed) ∙ before.coming_pinned v c k was
+        ];
+      }
+
+  claim-transfers : TransfersAreSound m s'
+  claim-transfers = TransfersAreSound-kept m s s' was (λ v x now valid. claim-valid x.cell x.from ∙ valid)
+      (λ v x k now here coming. ap (is_coming_by v) (entry-stays x.cell k (ap is_entry (coming_by-is v (replica s x.cell (AtNode k)) coming))
+      (λ e. pin-spared v x.cell (h.coherent.pins.coming_pinned v x.cell k coming) (sym here ∙ e))) ∙ coming)
+      (λ v x now. claim-still_leaves v x.cell x.from) (λ v x d now e. inr (claim-on_disk p m s t w s' claim x.cell d))
+      (λ v x c q now leaving. elim (claim-leaving v c q leaving) [ inl (at, own, evicted) ↦ absurd (mover_other v x now own) | inr (away, left) ↦ left ]) h.coherent.transfers
     where
-      by_order : (b : Bool) → has_cell (order s (node_of m w)) c ≡ b → (is_entry (replica s' c (AtNode (node_of m w))) ≡ true) × (has_cell (order s (node_of m w)) c ≡ false → is_coming_by w (replica s' c (AtNode (node_of m w))) ≡ true)
-      by_order true there =
-          let entry = sym (h.coherent.state.entries.entries (node_of m w) c) ∙ there in
-          (ap is_entry (entry-stays c (node_of m w) entry (λ _. own-spared c has)) ∙ entry, λ absent. absurd (false≢true (sym absent ∙ there)))
-      by_order false absent =
+      was : (v : Worker) (x : Transfer) → transfer s' v ≡ Some x → transfer s v ≡ Some x
+      was v x now = sym (claim-transfer v) ∙ now
+
+      -- a worker with a transfer isn't the one that claims
+      mover_other : (v : Worker) (x : Transfer) → transfer s' v ≡ Some x → v ≢ w
+      mover_other v x now = let old = h.coherent.workers.moves_for_claim v x (was v x now) in claimer-other v old.0 (claimed_by-task_of v (progress s old.0) old.1)
+
+  claim-order : OrderIsKept p s'
+  claim-order = Claims-keeps_order p m h.proper.cells (Proper-dependencies p h.proper) s h.coherent.state h.coherent.workers h.coherent.order t w s' claim.worker claim
+
+  -- ---- contents
+
+  claim-content : (c : Cell) → content p s' c ≡ content p s c
+  claim-content = content-kept p s s' t Waiting (Claimed w) claim-advance refl refl
+
+  claim-writers : WritersOwn p m s'
+  claim-writers = record { owned = λ u v c runs written. owned u v c (runs_before u v runs) written }
+    where
+      -- a running task's written cell is no cell of the claimed one
+      not_ours : (u : Task) (v : Worker) (c : Cell) → is_task_of v (progress s u) ≡ true → has_cell (written_cells p u v) c ≡ true → has_cell (missing p s t w (node_of m w)) c ≡ true → ⊥
+      not_ours u v c runs written lacks = separated p m h.proper.cells (Proper-dependencies p h.proper) s' claim-state claim-workers claim-order t u w v c (λ e. other_than u v runs (sym e)) (ap (is_task_of w) claim-advance.is ∙ claimed-is_mine w) (ap (is_task_of v) (still_task u v runs) ∙ runs) (missing-absent p m s t w s' claim c lacks).1 written
+
+      owned : (u : Task) (v : Worker) (c : Cell) → progress s u ≡ Running v → has_cell (written_cells p u v) c ≡ true → IsOwnedBy m s' c v (written_content p s' u v c)
+      owned u v c runs written =
+          let old = h.coherent.writers.owned u v c runs written in
+          let has : is_task_of v (progress s u) ≡ true = ap (is_task_of v) runs ∙ same_worker-refl v in
+          record {
+            valid = pinned-entry v c old.pinned (ap is_entry old.valid) ∙ old.valid ∙ ap (λ (a : Array). Valid (if has_cell (fresh_cells p u v) c then zeros (dims_of p c) else a)) (sym (claim-content c));
+            only = λ q away. (let invalid = old.only q away in search (arith, claim-cases c q, not_ours));
+            pinned = still_pinned v u c has ∙ old.pinned;
+            unmoved = λ x. moves-kept s s' x c (claim-transfer x) ∙ old.unmoved x;
+          }
+
+  pub claim-rested : (c : Cell) → is_being_written p s' c ≡ false → is_being_written p s c ≡ false
+  claim-rested c resting = not_written-before p m s s' t Waiting (Claimed w) c h.coherent.state.rows claim-advance resting (λ v e. absurd (let f : Waiting ≡ Running v = e in cc))
+
+  pub claim-rests : (c : Cell) → is_being_written p s c ≡ false → is_being_written p s' c ≡ false
+  claim-rests c resting = not_written-after p m s s' t Waiting (Claimed w) c claim-rows claim-advance resting (λ v e. absurd (let f : Claimed w ≡ Running v = e in cc))
+
+  claim-copies : CopiesAgree p s'
+  claim-copies = record {
+    valid_somewhere = λ c some resting. (let q = h.coherent.copies.valid_somewhere c (omega (arith, claim-writes p m s t w s' claim c, some)) (claim-rested c resting) in (q.0, claim-valid c q.0 ∙ q.1));
+    alike = λ c q some resting. agrees-kept (array_of (replica s c q)) (array_of (replica s' c q)) (content p s c) (content p s' c) (claim-array c q) (claim-content c) (h.coherent.copies.alike c q (omega (arith, claim-writes p m s t w s' claim c, some)) (claim-rested c resting));
+  }
+
+  claim-counts : WritesAreCounted p s'
+  claim-counts = record { counted = λ c. claim-writes p m s t w s' claim c ∙ h.coherent.counts.counted c ∙ sym (counted-same p s s' c (λ u. written-undone p s s' c t u Waiting (Claimed w) claim-advance refl refl)) }
+
+  -- ---- bytes
+
+  evicted-bytes : sum_by (tile_bytes p) claim.evicted ≡ bytes_where p (has_cell claim.evicted)
+  evicted-bytes =
+      let unpinned : Cell → Bool = λ d. not (is_pinned m s (node_of m w) d) && not (has_cell (cells_of p t w) d) in
+      let suffix = shortest_suffix-suffix (covers (tile_bytes p) (free p m s (node_of m w)) (to_come p s t w (node_of m w))) (filter unpinned (order s (node_of m w))) claim.evicted claim.chosen in
+      once-bytes p claim.evicted (λ c has. entry-cell p m s h.coherent.state (node_of m w) c (evicted-free p m s t w s' claim c has).2) (λ c.
+      (let same : times (suffix.0 ++ claim.evicted) c ≡ times (filter unpinned (order s (node_of m w))) c = ap (λ (cs : List Cell). times cs c) suffix.1 in
+      let all = times-filter unpinned (order s (node_of m w)) c in
+      omega (arith, times-append suffix.0 claim.evicted c, h.coherent.state.entries.once (node_of m w) c)))
+
+  missing-bytes : sum_by (tile_bytes p) (missing p s t w (node_of m w)) ≡ bytes_where p (has_cell (missing p s t w (node_of m w)))
+  missing-bytes =
+      once-bytes p (missing p s t w (node_of m w))
+      (λ c has. omega (arith, task-cell c (missing-absent p m s t w s' claim c has).1, h.coherent.state.rows.cells))
+      (λ c. (let fewer = times-filter (λ d. not (has_cell (order s (node_of m w)) d)) (distinct (cells_of p t w)) c in let once = times-distinct (cells_of p t w) c in omega arith))
+
+  balance : (c : Cell) → share (tile_bytes p) (has_cell (order s' (node_of m w))) c + share (tile_bytes p) (has_cell claim.evicted) c ≡ share (tile_bytes p) (has_cell (order s (node_of m w))) c + share (tile_bytes p) (has_cell (missing p s t w (node_of m w))) c
+  balance c = grind (arith, order-now c, evicted-free p m s t w s' claim c, missing-absent p m s t w s' claim c, absent-missing p m s t w s' claim c)
+
+  order-balance : sum_by (tile_bytes p) (order s' (node_of m w)) + sum_by (tile_bytes p) claim.evicted ≡ sum_by (tile_bytes p) (order s (node_of m w)) + sum_by (tile_bytes p) (missing p s t w (node_of m w))
+  order-balance =
+      let f = tile_bytes p in
+      let n = node_of m w in
+      let all = sum-balanced (share f (has_cell (order s' n))) (share f (has_cell claim.evicted)) (share f (has_cell (order s n))) (share f (has_cell (missing p s t w n))) balance (cells_of_program p) in
+      let more = order-bytes p m s h.coherent.state n in
+      omega (arith, order-bytes p m s' claim-state n, evicted-bytes, missing-bytes)
+
+  claim-scratch : sum_by (scratch s') (workers_at m (node_of m w)) ≤ sum_by (scratch s) (workers_at m (node_of m w)) + scratch_bytes p (task_of p t)
+  claim-scratch = sum-one_more (scratch s') (scratch s) (λ v. same_worker v w) (scratch_bytes p (task_of p t)) (λ v. (grind (arith, cases_Bool (same_worker v w), other_scratch v, own_row, same_worker-is v w, same_worker-refl w))) (workers_at m (node_of m w)) (worker-once_at m (node_of m w) w)
+
+  claim-enough : used p m s' (node_of m w) ≤ node_size m (node_of m w)
+  claim-enough = search (arith, shortest_suffix-passes, leb-true, balance, order-balance, claim-scratch)
+
+  -- what leaves the node, and its entries beside what comes, were its entries
+  claim-leaving_within : (c : Cell) → share (tile_bytes p) (λ d. is_leaving_by w (replica s' d (AtNode (node_of m w)))) c + share (tile_bytes p) (λ d. not (is_coming_by w (replica s' d (AtNode (node_of m w)))) && has_cell (order s' (node_of m w)) d) c ≤ share (tile_bytes p) (has_cell (order s (node_of m w))) c
+  claim-leaving_within c = grind (arith, claim-leaving w c (AtNode (node_of m w)), evicted-free p m s t w s' claim c, order-now c, claim-own_cells c, leaving_by-no_entry w (replica s' c (AtNode (node_of m w))), claim-state.entries.entries (node_of m w) c)
+
+  claim-bytes : NodesSuffice p m s'
+  claim-bytes = record {
+    entries = λ k. (search (arith, same_node, claim-enough, fewer-entries, claim-state, same_entries, same_scratch));
+    leaving = λ k v c leaving. elim (claim-leaving v c (AtNode k) leaving) [
+      | inl (at, own, evicted) ↦ subst (λ (j : Node). used_while_leaving p m s' v j ≤ node_size m j) (let e : node_of m w ≡ k = cc in e) (subst (λ (x : Worker). used_while_leaving p m s' x (node_of m w) ≤ node_size m (node_of m w)) (sym own) here)
+      | inr (away, was) ↦
+          let d : k ≢ node_of m w = λ e. away (ap (λ (j : Node). AtNode j) e) in
+          let all = fewer-leaving p m s s' h.coherent.state claim-state k (same_entries k d) (same_scratch k d) v (λ x by. sym (ap (is_leaving_by v) (elsewhere x k d)) ∙ by) (λ x by. ap (is_coming_by v) (elsewhere x k d) ∙ by) in
+          omega (arith, h.coherent.bytes.leaving k v c was)
+    ];
+  }
+    where
+      same_entries : (k : Node) → k ≢ node_of m w → (x : Cell) → has_cell (order s' k) x ≡ true → has_cell (order s k) x ≡ true
+      same_entries k d x has = ap (λ (cs : List Cell). has_cell cs x) (sym (claim-order_elsewhere k d)) ∙ has
+
+      same_scratch : (k : Node) → k ≢ node_of m w → (v : Worker) → node_of m v ≡ k → scratch s' v ≤ scratch s v
+      same_scratch k d v here = let e = other_scratch v (λ own. d (sym here ∙ ap (node_of m) own)) in omega arith
+
+      here : used_while_leaving p m s' w (node_of m w) ≤ node_size m (node_of m w)
+      here =
+          let f = tile_bytes p in
           let n = node_of m w in
-          let inside = task-cell c has in
-          let r = replica s c (AtNode n) in
-          let is : replica s' c (AtNode n) ≡ Coming w = claim-here p m s t w s' claim c inside (node-inside c inside)
-          ∙ ap (λ x. cond x (leave w r) (cond (has_cell (missing p s t w n) c) (Coming w) r)) (own-spared c has)
-          ∙ ap (λ x. cond x (Coming w) r) (absent-missing p m s t w s' claim c absent has) in
-          (ap is_entry is, λ _. ap (is_coming_by w) is ∙ same_worker-refl w)
+          let all = sum-within (share f (λ d. is_leaving_by w (replica s' d (AtNode n)))) (share f (λ d. not (is_coming_by w (replica s' d (AtNode n))) && has_cell (order s' n) d)) (share f (has_cell (order s n))) claim-leaving_within (cells_of_program p) in
+          let more = others-le m n w (scratch s') (scratch s) (λ v here d. (let same = other_scratch v d in omega arith)) in
+          let one = filter-sum-le (scratch s) (λ v. not (nat_eq v.0 w.0)) (workers_at m n) in
+          let both = leaving-bytes p m s' claim-state n w in
+          let rest = order-bytes p m s h.coherent.state n in
+          omega (arith, beside-bytes p m s' claim-state n w, h.coherent.bytes.entries n)
+
+  pub Claims-coherent : Coherent p m s'
+  Claims-coherent = record { state = claim-state; writers = claim-writers; copies = claim-copies; cells = claim-cells; pins = claim-pins; transfers = claim-transfers; bytes = claim-bytes; workers = claim-workers; order = claim-order; counts = claim-counts }

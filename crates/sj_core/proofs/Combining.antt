@@ -1,20 +1,17 @@
 -- Contributions by codelets of one reduction may be exchanged: each combines an array that doesn't depend on the old one.
-use Rattle.std.proofs.Common.{Bool, List, [], ap, arith, cond, false, length, not, refl, sym, true, ℕ, ℤ, ◌++◌, ◌&&◌, ◌∙◌, ◌∷◌, ◌≡◌, All, FitsSigned, nat_eq}
-use Rattle.std.specs.Int.{w64}
-use Rattle.std.specs.List.{list_all}
-use Rattle.std.proofs.lemmas.Bool.{and_parts, not-true}
-use Rattle.std.proofs.lemmas.Bool.Decides.{nat_tests}
-use Rattle.std.proofs.lemmas.List.{length-append, length-map, map-append}
+use Rattle.std.proofs.Common.{List, [], ap, arith, cond, length, not, refl, sym, true, ℤ, ◌++◌, ◌∙◌, ◌∷◌, ◌≡◌, All}
+use Rattle.std.proofs.Common.{FitsSigned}
+use Rattle.sj_core.proofs.Words.{Array, Dims, Formal, Kernel, Reduction, UpdateFormal}
+use Rattle.std.specs.{Int.w64, List.list_all}
 use Rattle.std.proofs.lemmas.List.Elements.{All-append, All-cons, All-head, All-nil, All-tail}
-use Rattle.sj_core.proofs.Words.{Array, Dims, Formal, Kernel, Least, Plus, Reduction, UpdateFormal, zeros}
+use Rattle.std.proofs.lemmas.{List.length-append, List.length-map, List.map-append, Bool.and_parts, Bool.not-true}
 use Rattle.sj_codelet.proofs.Table.{each_dims, new_arrays-dims}
-use Rattle.sj_codelet.specs.Equations.{all_inf}
-use Rattle.sj_codelet.specs.Formal.{is_output, outputs_among}
-use Rattle.sj_codelet.specs.Kernel.{arguments_fit, commutes_of, contributes_of, dims_fit, fits, formals_of, new_arrays, operand}
+use Rattle.sj_codelet.specs.Kernel.{arguments_fit, commutes_of, contributes_of, dims_fit, fits, formals_of, new_arrays}
+use Rattle.sj_codelet.specs.Kernel.{operand}
 use Rattle.sj_codelet.specs.Laws.{DoesContribute, IsCall, IsReduction, IsTile, combined, result_of, unit_of}
-use Rattle.sj_core.proofs.Swapping.{Exchange}
-use Rattle.sj_core.proofs.Sized.{inf-long, new_arrays-tiles, operand-tile, tile, zeros-tile}
-use Rattle.sj_core.proofs.Updating.{contributing-commutes, updates-last}
+use Rattle.sj_codelet.specs.Formal.{is_output, outputs_among}
+use Rattle.sj_core.proofs.Sized.{fits-parts, inf-long, new_arrays-tiles, operand-tile, tile, zeros-tile}
+use Rattle.sj_core.proofs.{Swapping.Exchange, Updating.contributing-commutes, Updating.updates-last}
 
 -- ---- what a commuting codelet makes
 
@@ -50,7 +47,7 @@ pub result-fills : (k : Kernel) → commutes_of k ≡ true → (args : List ℤ)
 result-fills k commutes args before v long call =
     let ins : List Array = before ++ v ∷ [] in
     let last = updates-last k commutes in
-    let parts = three (length (each_dims ins)) (length (formals_of k)) (arguments_fit k args (each_dims ins)) (dims_fit k args (each_dims ins)) call.fits in
+    let parts = fits-parts (length (each_dims ins)) (length (formals_of k)) (arguments_fit k args (each_dims ins)) (dims_fit k args (each_dims ins)) call.fits in
     let many : length ins ≡ length (formals_of k) = sym (length-map ins (λ (x : Array). x.dims)) ∙ parts.0 in
     let counts : length before ≡ length last.first = omega (arith, many, ap length last.formals, length-append before (v ∷ []), length-append last.first (UpdateFormal ∷ [])) in
     let made : each_dims (new_arrays k args ins) ≡ v.dims ∷ [] =
@@ -58,10 +55,6 @@ result-fills k commutes args before v long call =
     ∙ outputs-last last.first (each_dims before) v.dims last.read_only (length-map before (λ (x : Array). x.dims) ∙ counts) in
     record { tile = operand-tile (new_arrays k args ins) (new_arrays-tiles k args ins long call.fits call.tiles) 0; dims = first (new_arrays k args ins) made }
   where
-    three : (n m : ℕ) (b c : Bool) → (nat_eq n m && b && c) ≡ true → (n ≡ m) × (c ≡ true)
-    three n m true c h = (grind (arith, nat_tests), grind (arith, nat_tests))
-    three n m false c h = absurd (grind (arith, nat_tests))
-
     first : (xs : List Array) → each_dims xs ≡ v.dims ∷ [] → (operand xs 0).dims ≡ v.dims
     first [] e = absurd (let n : 0 ≡ 1 = ap length e in omega arith)
     first (x ∷ xs) e = let f : x.dims ∷ each_dims xs ≡ v.dims ∷ [] = e in cc
@@ -69,17 +62,14 @@ result-fills k commutes args before v long call =
 -- ---- reductions
 
 pub unit-tile : (by : Reduction) (v : Array) → IsTile (unit_of by v)
-unit-tile Plus v = zeros-tile v.dims
-unit-tile Least v = tile v.dims _ (λ p. inf-long)
+unit-tile b v = search (arith, zeros-tile, tile, inf-long)
 
 pub unit-dims : (by : Reduction) (v : Array) → (unit_of by v).dims ≡ v.dims
-unit-dims Plus v = refl
-unit-dims Least v = refl
+unit-dims b v = search arith
 
 -- the unit of arrays of the same dimensions is one
 pub unit-same : (by : Reduction) (v v' : Array) → v.dims ≡ v'.dims → unit_of by v ≡ unit_of by v'
-unit-same Plus v v' e = ap (λ (d : Dims). zeros d) e
-unit-same Least v v' e = ap (λ (d : Dims). all_inf d) e
+unit-same b v v' e = search arith
 
 -- what a codelet contributes: its result on the unit
 abbrev pub contribution : Reduction → Kernel → List ℤ → List Array → Array → Array

@@ -1,17 +1,17 @@
 -- The partial copies of a cell under reduction: which tasks work on them while a phase is open, and what these leave there.
-use Rattle.std.proofs.Common.{List, None, Option, Some, [], ap, arith, cond, false, get_or, inl, inr, not, refl, subst, suc, sym, true, zero, ℕ, ◌+◌, ◌<◌, ◌∙◌, ◌∷◌, ◌≡◌, ◌≢◌, ◌≤◌, ◌⊎◌, IsTrue, is_some, Contains}
-use Rattle.std.proofs.lemmas.Bool.{cases_lt, false≢true, true≢false}
-use Rattle.std.proofs.lemmas.Bool.Decides.{Decides-eqb}
-use Rattle.std.proofs.lemmas.List.{get_or_default}
-use Rattle.std.proofs.lemmas.List.Elements.{All-contains, Contains-get_or}
+use Rattle.std.proofs.Common.{List, [], ap, arith, cond, false, get_or, inl, inr, not, refl, subst, suc, sym, true}
+use Rattle.std.proofs.Common.{zero, ℕ, ◌<◌, ◌∙◌, ◌∷◌, ◌≡◌, ◌≢◌, ◌≤◌, ◌⊎◌, IsTrue, is_some, Contains}
+use Rattle.sj_core.proofs.Words.{Access, Cell, Mode, Program, R, RW, Redux, W, Worker, cell_info, copy_of}
+use Rattle.sj_core.proofs.Words.{data_operands, no_task, same_cell, worked_on}
+use Rattle.std.proofs.lemmas.{Bool.cases_lt, Bool.false≢true, Bool.true≢false, Bool.Decides.Decides-eqb}
+use Rattle.std.proofs.lemmas.{List.get_or_default, List.Elements.All-contains, List.Elements.Contains-get_or}
 use Rattle.sj_base.specs.Mode.{is_redux, is_scratch, starts_as_zeros}
-use Rattle.sj_core.proofs.Words.{Access, Cell, Mode, Program, R, RW, Redux, W, Worker, cell_info, copy_of, data_operands, no_task, same_cell, worked_on}
-use Rattle.sj_core.specs.Proper.{IsCombine, IsContribution, IsCopyOf, IsFirstUnit, IsInit, IsMember, IsOpenAt, IsPhase, Phase, Proper, Touches, access, task_number}
+use Rattle.sj_core.specs.Proper.{IsCombine, IsContribution, IsCopyOf, IsFirstUnit, IsInit, IsMember, IsOpenAt, IsPhase}
+use Rattle.sj_core.specs.Proper.{Phase, Proper, Touches, access, task_number}
+use Rattle.sj_core.proofs.Phases.{combine-after, combine-among, combine-reads, combine_at, contributes, copy-of}
+use Rattle.sj_core.proofs.Phases.{init-among, init-before, init_at}
 use Rattle.sj_core.proofs.Dependencies.{not_both, one_is, own-of_phase}
-use Rattle.sj_core.proofs.Folding.{number}
-use Rattle.sj_core.proofs.Phases.{combine-after, combine-among, combine-reads, combine_at, contributes, copy-of, init-among, init-before, init_at}
-use Rattle.sj_core.proofs.TaskCells.{operand-inside}
-use Rattle.sj_core.proofs.Readiness.{AllPairs-two, Contains-filter}
+use Rattle.sj_core.proofs.{Folding.number, TaskCells.operand-inside, Readiness.AllPairs-two, Readiness.Contains-filter}
 
 -- a mode is REDUX or not
 pub redux_or : (x : Mode) → (x ≡ Redux) ⊎ (is_redux x ≡ false)
@@ -70,9 +70,6 @@ module _ (p : Program) (proper : Proper p) where
         (worked_on p v a ≡ f.cell) ⊎ ((x : Worker) × (x.0 < p.workers) × (worked_on p v a ≡ copy_of p f.cell x)) → AtWork n v a
     at-work m n v v_in a contribution later k last before h accessed touches = by_mode (redux_or a.mode)
       where
-        v_staffed : p.workers ≢ 0
-        v_staffed e = omega (arith, v_in, e)
-
         is_open : IsOpenAt f n
         is_open = record { begun = (init_at p proper f phase v v_in, init-among p proper f phase v v_in, omega (arith, init-before p proper f phase v v_in m contribution, later)); unfinished = (k, last, before) }
 
@@ -164,12 +161,7 @@ module _ (p : Program) (proper : Proper p) where
   module _ (f : Phase) (phase : IsPhase p f) (has_copies : is_some (cell_info p f.cell).partials ≡ true) (x : Worker) (x_in : x.0 < p.workers) (n : ℕ) (past : combine_at p proper f phase x x_in < n) where
     -- a later phase of the cell fills the copy after it has been combined
     filled-later : (g : Phase) (later : IsPhase p g) → g.cell ≡ f.cell → init_at p proper g later x x_in < n → n ≤ combine_at p proper g later x x_in → IsRefilled f phase has_copies x (combine_at p proper f phase x x_in) n
-    filled-later g later cell begun unfinished = record {
-      at = init_at p proper g later x x_in;
-      after = elim (cases_lt (combine_at p proper f phase x x_in) (init_at p proper g later x x_in)) [ inl l ↦ l | inr before ↦ absurd (overlaps before) ];
-      before = begun;
-      fills = (later.inits x x_in).operands ∙ ap (λ (c : Cell). access W (copy_of p c x) ∷ []) cell;
-    }
+    filled-later g later cell begun unfinished = search (arith, init_at, cases_lt, combine_at, overlaps)
       where
         k : ℕ
         k = combine_at p proper f phase x x_in

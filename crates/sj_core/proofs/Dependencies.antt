@@ -1,24 +1,23 @@
 -- The dependencies of a proper program can be counted: each access names a cell, and a task accesses a cell in one manner.
-use Rattle.std.proofs.Common.{List, None, Option, Some, [], ap, arith, false, get_or, inl, inr, length, map, not, refl, subst, suc, sym, true, zero, ℕ, ◌+◌, ◌<◌, ◌∙◌, ◌∷◌, ◌≡◌, ◌⊎◌, Contains, flat_map, AllPairs, IsTrue, is_some, option_and_then, slice_get}
-use Rattle.std.proofs.lemmas.Bool.{cases_lt}
-use Rattle.std.proofs.lemmas.Bool.Decides.{Decides-eqb}
-use Rattle.std.proofs.lemmas.List.{get_or_default}
-use Rattle.std.proofs.lemmas.List.Elements.{All-contains, Contains-append_cases}
-use Rattle.std.proofs.lemmas.List.FromFn.{get_or-range_with_len, length-range_with_len}
-use Rattle.std.proofs.lemmas.Option.{slice_get-get_or, slice_get_past}
+use Rattle.std.proofs.Common.{List, None, Option, Some, [], ap, arith, false, get_or, inl, inr, length, map, not, refl}
+use Rattle.std.proofs.Common.{subst, suc, sym, true, zero, ℕ, ◌+◌, ◌<◌, ◌∙◌, ◌∷◌, ◌≡◌, ◌⊎◌, Contains, flat_map}
+use Rattle.std.proofs.Common.{AllPairs, IsTrue, is_some, option_and_then, slice_get}
+use Rattle.sj_core.proofs.Words.{Access, Cell, CellInfo, Codelet, Commute, CommuteMode, Contribute, Lowered, Manner}
+use Rattle.sj_core.proofs.Words.{Mode, Program, R, RW, Read, Redux, Scratch, Usage, W, Worker, Write, cell_info}
+use Rattle.sj_core.proofs.Words.{copy_of, data_operands, no_cell, no_task, same_cell}
+use Rattle.std.proofs.lemmas.{Bool.cases_lt, Bool.Decides.Decides-eqb, List.get_or_default, List.Elements.All-contains}
+use Rattle.std.proofs.lemmas.{List.Elements.Contains-append_cases, List.FromFn.get_or-range_with_len}
+use Rattle.std.proofs.lemmas.{List.FromFn.length-range_with_len, Option.slice_get-get_or, Option.slice_get_past}
 use Rattle.std.specs.List.{range_with_len}
 use Rattle.sj_base.specs.Mode.{is_redux, is_scratch}
-use Rattle.sj_core.proofs.Words.{Access, Cell, CellInfo, Codelet, Commute, CommuteMode, Contribute, Lowered, Manner, Mode, Program, R, RW, Read, Redux, Scratch, Usage, W, Worker, Write, cell_info, copy_of, data_operands, no_cell, no_task, same_cell}
 use Rattle.sj_deps.specs.Conflict.{HasDependencies, Uses, copies_of, usage, usages_of}
-use Rattle.sj_core.specs.Proper.{IsCombine, IsCopyOf, IsInit, IsPhase, Phase, Proper, access, task_number}
-use Rattle.sj_core.proofs.Readiness.{AllPairs-two, Contains-filter}
-use Rattle.sj_core.proofs.Sharing.{manner_of}
+use Rattle.sj_core.specs.Proper.{IsCopyOf, IsInit, IsPhase, Phase, Proper, access, task_number}
+use Rattle.sj_core.proofs.{Readiness.AllPairs-two, Readiness.Contains-filter, Sharing.manner_of}
 
 -- ---- what lists contain
 
 pub one_is : {X : Type 0} (x y : X) → Contains (x ∷ []) y → x ≡ y
-one_is x y (zero, l, e) = e
-one_is x y (suc k, l, e) = absurd (omega arith)
+one_is x y b = search arith
 
 pub none_is : {X : Type 0} (y : X) → Contains [] y → ⊥
 none_is y (k, l, e) = omega arith
@@ -113,10 +112,7 @@ module _ (p : Program) (proper : Proper p) where
       let is = one_is (access W (copy_of p f.cell (record { 0 = k }))) a (subst (λ (xs : List Access). Contains xs a) init.operands has) in
       let same : W ≡ Redux = ap (λ (b : Access). b.mode) is ∙ redux in
       cc
-  own-of_phase f phase t (inr (k, l, e)) a has redux =
-      let at_k : get_or f.combines k 0 ≡ t = get_or_default f.combines k 0 t l ∙ e in
-      let combine : IsCombine f.by (copy_of p f.cell (record { 0 = k })) f.cell (task_number p t) = subst (λ n. IsCombine f.by (copy_of p f.cell (record { 0 = k })) f.cell (task_number p n)) at_k (phase.combines (record { 0 = k }) (omega (arith, l, phase.combines_by_worker))) in
-      by_place (subst (λ (xs : List Access). Contains xs a) combine.operands has)
+  own-of_phase f phase t (inr (k, l, e)) a has redux = search (arith, get_or_default, by_place)
     where
       by_place : Contains (access R (copy_of p f.cell (record { 0 = k })) ∷ access RW f.cell ∷ []) a → ⊥
       by_place x = search arith

@@ -1,5 +1,5 @@
 -- The end of a kernel's run leaves a coherent state.
-use Rattle.std.proofs.Common.{Bool, List, ap, arith, false, inl, inr, length, refl, subst, sym, true, ◌<◌, ◌∙◌, ◌≡◌, ◌&&◌, ◌+◌, ◌≢◌, None, Option, Some, [], not, ℕ, ◌≤◌, ◌⊎◌, zip, count_by, nat_eq, nat_le, nat_lt, All, if◌then◌else◌}
+use Rattle.std.proofs.Common.{Bool, List, ap, arith, false, inl, inr, length, refl, subst, sym, true, ◌<◌, ◌∙◌, ◌≡◌, ◌&&◌, ◌+◌, ◌≢◌, Some, [], not, ◌≤◌, ◌⊎◌, zip, count_by, nat_eq, nat_le, nat_lt, if◌then◌else◌}
 use Rattle.std.proofs.lemmas.Bool.{false≢true, eq-eqb, ne_eqb, and_from, le-leb, lt-ltb, cases_Bool, cases_lt, false_from_ne_true, cond_both}
 use Rattle.std.proofs.lemmas.List.{get_or-set_same, get_or_past, length-set}
 use Rattle.std.proofs.lemmas.Option.{MatchOption-from_none}
@@ -9,8 +9,8 @@ use Rattle.sj_core.specs.Fold.{after_chosen, after_task, held_in}
 use Rattle.sj_core.specs.Laws.{IsLawful, IsSound}
 use Rattle.sj_core.specs.Proper.{Proper}
 use Rattle.sj_core.specs.Step.{Ends, array_at, result_at, after, rewritten_at, same_place}
-use Rattle.sj_core.proofs.Words.{Array, AtNode, Cell, CellState, Claimed, Done, Kernel, Machine, Program, Progress, Running, State, Task, Worker, dims_of, done_by, done_in, has_cell, is_done, is_task_of, no_task, node_of, progress, results, tasks_of, worked_on, worker_of, writes, written_cells, zeros, Invalid, Node, OnDisk, Place, Replica, Transfer, Valid, WorkerState, array_of, cell_state, cells_of, is_coming_by, is_entry, is_leaving_by, is_valid, moves, order, pins, replica, replica_in, same_cell, scratch, transfer, victims_of, worker_state}
-use Rattle.sj_core.proofs.Advancing.{Advances, Ends-advances, done-begun, same_task, Ends-keeps_order}
+use Rattle.sj_core.proofs.Words.{Array, AtNode, Cell, CellState, Claimed, Done, Kernel, Machine, Program, Progress, Running, State, Task, Worker, dims_of, done_by, done_in, has_cell, is_done, is_task_of, no_task, node_of, progress, results, tasks_of, worked_on, worker_of, writes, written_cells, zeros, Invalid, OnDisk, Place, Replica, Transfer, Valid, WorkerState, cell_state, cells_of, is_coming_by, is_entry, is_leaving_by, is_valid, order, replica, replica_in, transfer, victims_of, worker_state}
+use Rattle.sj_core.proofs.Advancing.{Advances, Ends-advances, done-begun, same_task, OrderIsKept-advances}
 use Rattle.sj_core.proofs.Values.{results-complete}
 use Rattle.sj_core.proofs.Updating.{may-swap}
 use Rattle.sj_core.proofs.Folding.{AddsTask, after_chosen-same, after_task-other, held-append, held_over, held_over-own, read-among_cells, results-same}
@@ -23,15 +23,10 @@ use Rattle.sj_core.proofs.Placing.{valid-row, replica_in-cases, same_place-is, s
 use Rattle.sj_core.proofs.TaskCells.{written-among_cells}
 use Rattle.sj_core.proofs.Sums.{tally, sum-agree, sum-plus, count-numbered}
 use Rattle.sj_core.proofs.CellLists.{times}
-use Rattle.sj_core.proofs.Changing.{Changes, Changes-coherent, Changes-writers, TransfersAreSound-spared, HasBlocks-kept, All-renewed, HasWorkers-kept}
+use Rattle.sj_core.proofs.Changing.{Changes, Changes-coherent, Changes-writers, TransfersAreSound-spared, HasBlocks-kept, HasRows-kept, moves-kept, HasWorkers-kept}
 use Rattle.sj_core.proofs.Dependencies.{Proper-dependencies}
 use Rattle.sj_core.proofs.Finding.{not_written-before, agrees-kept, running-inside}
 use Rattle.sj_core.proofs.Separation.{separated}
-use Rattle.sj_core.proofs.Tables.{length-renewed}
-
--- ---- what cells ought to hold after a step: their contents before, and the results of the task that ends
-
--- ---- what cells ought to hold after a step: their contents before, and the results of the task that ends
 
 -- ---- where no task more is done
 
@@ -95,8 +90,6 @@ module _ (p : Program) (m : Machine) (proper : Proper p) (puts_last : PutsLast p
       ∙ ap (λ (xs : List Array). held_over (zip cs xs) c (content p s c)) end-results
       ∙ held_over-own cs arrays c (content p s c) (zeros (dims_of p c)) writes (omega (arith, complete))
 
--- ---- a claim, a run and an end keep that a cell's write count is the number of done tasks that wrote it
-
 -- ---- which tasks have written a cell
 
 written-other : (p : Program) (s s' : State) (c : Cell) (t u : Task) (old new : Progress) → Advances s s' t old new → u ≢ t → has_written p s' c u ≡ has_written p s c u
@@ -108,14 +101,10 @@ written-undone p s s' c t u old new a before after = search (arith, same_task, w
 pub counted-same : (p : Program) (s s' : State) (c : Cell) → ((u : Task) → has_written p s' c u ≡ has_written p s c u) → count_by (has_written p s' c) (tasks_of p) ≡ count_by (has_written p s c) (tasks_of p)
 counted-same p s s' c same = sum-agree (λ u. tally (has_written p s' c u)) (λ u. tally (has_written p s c u)) (λ u. ap tally (same u)) (tasks_of p)
 
--- ---- the laws
-
+-- an end keeps that a cell's write count is the number of done tasks that wrote it
 pub Ends-keeps_counts : (p : Program) (m : Machine) (s : State) (t : Task) (w : Worker) (s' : State) → IsStateOf p m s → TasksHaveCells p m s → Ends p m s t w s' → WritesAreCounted p s → WritesAreCounted p s'
 Ends-keeps_counts p m s t w s' state cells ended counts = record { counted = λ c. by_cases c (has_cell (written_cells p t w) c) refl }
   where
-    inside : t.0 < length p.tasks
-    inside = running-inside p m s t w state.rows ended.running
-
     undone : (c : Cell) → has_written p s c t ≡ false
     undone c = ap (λ (x : Progress). is_done x && has_cell (written_cells p t (worker_of x)) c) ended.running
 
@@ -125,19 +114,16 @@ Ends-keeps_counts p m s t w s' state cells ended counts = record { counted = λ 
     by_cases : (c : Cell) (b : Bool) → has_cell (written_cells p t w) c ≡ b → writes s' c ≡ count_by (has_written p s' c) (tasks_of p)
     by_cases c false e =
         let same : writes s' c ≡ writes s c = ap (λ (z : State). writes z c) ended.leaves ∙ ap (λ (r : CellState). r.writes) (cells-untouched s (has_cell (written_cells p t w)) (λ d row. rewritten_at (node_of m w) (result_at p s t w (node_of m w) d) row) c e) in
-        same ∙ counts.counted c ∙ sym (counted-same p s s' c (λ u. elim (same_task u t) [
-          | inl f ↦ subst (λ (k : Task). has_written p s' c k ≡ has_written p s c k) (sym f) (now c ∙ e ∙ sym (undone c))
-          | inr d ↦ written-other p s s' c t u (Running w) (Done w) (Ends-advances p m s t w s' ended) d
-        ]))
+        same ∙ counts.counted c ∙ sym (counted-same p s s' c (λ u. (grind (arith, same_task u t, now c, e, undone c, written-other p s s' c t u (Running w) (Done w) (Ends-advances p m s t w s' ended)))))
     by_cases c true e =
         let there = cells.running t w c ended.running (written-among_cells p t w c e) in
         let more : writes s' c ≡ writes s c + 1 = ap (λ (z : State). writes z c) ended.leaves ∙ ap (λ (r : CellState). r.writes) (cells-touched s (has_cell (written_cells p t w)) (λ d row. rewritten_at (node_of m w) (result_at p s t w (node_of m w) d) row) c (valid-row s c (AtNode (node_of m w)) there) e) in
         let is_t : Task → Bool = λ u. nat_eq u.0 t.0 in
         let each : (u : Task) → tally (has_written p s' c u) ≡ tally (has_written p s c u) + tally (is_t u) = λ u. elim (same_task u t) [
-          | inl f ↦ ap (λ (k : Task). tally (has_written p s' c k)) f ∙ ap tally (now c ∙ e) ∙ sym (ap (λ b. tally b + 1) (undone c)) ∙ ap (λ (k : Task). tally (has_written p s c k) + 1) (sym f) ∙ ap (λ b. tally (has_written p s c u) + tally b) (sym (eq-eqb u.0 t.0 (ap (λ (k : Task). k.0) f)))
-          | inr d ↦ ap tally (written-other p s s' c t u (Running w) (Done w) (Ends-advances p m s t w s' ended) d) ∙ (let none : tally (is_t u) ≡ 0 = ap tally (ne_eqb u.0 t.0 (λ g. d (ap (λ n. let k : Task = record { 0 = n } in k) g))) in omega arith)
+          | inl f ↦ grind (arith, f, now c, e, undone c, eq-eqb u.0 t.0)
+          | inr d ↦ grind (arith, written-other p s s' c t u (Running w) (Done w) (Ends-advances p m s t w s' ended) d, ne_eqb u.0 t.0 (λ g. d (ap (λ n. let k : Task = record { 0 = n } in k) g)))
         ] in
-        let all = count-numbered (λ n. record { 0 = n }) is_t t.0 (λ n. refl) 0 (length p.tasks) ∙ ap tally (and_from (nat_le 0 t.0) (nat_lt t.0 (0 + length p.tasks)) (le-leb 0 t.0 (omega arith)) (lt-ltb t.0 (0 + length p.tasks) (omega (arith, inside)))) in
+        let all = count-numbered (λ n. record { 0 = n }) is_t t.0 (λ n. refl) 0 (length p.tasks) ∙ ap tally (and_from (nat_le 0 t.0) (nat_lt t.0 (0 + length p.tasks)) (le-leb 0 t.0 (omega arith)) (lt-ltb t.0 (0 + length p.tasks) (omega (arith, running-inside p m s t w state.rows ended.running)))) in
         let one = sum-plus (λ u. tally (has_written p s' c u)) (λ u. tally (has_written p s c u)) (λ u. tally (is_t u)) each (tasks_of p) in
         omega (arith, counts.counted c)
 
@@ -156,21 +142,15 @@ module _ (p : Program) (m : Machine) (s : State) (t : Task) (w : Worker) (s' : S
 
   -- each replica is as before, or that of a written cell on the worker's node, which is valid
   end-cases : (c : Cell) (q : Place) → (replica s' c q ≡ replica s c q) ⊎ ((has_cell (written_cells p t w) c ≡ true) × (q ≡ AtNode (node_of m w)) × (replica s' c q ≡ Valid (result_at p s t w (node_of m w) c)))
-  end-cases c q = elim (cases_Bool (has_cell (written_cells p t w) c)) [
-    | inr spared ↦ inl (end-other c q spared)
-    | inl written ↦
-        let left = ap (λ (z : State). replica z c q) ended.leaves in
-        elim (cells-renewed_or s (λ d row. if has_cell (written_cells p t w) d then renews d row else row) c) [
-          | inr none ↦ inl (left ∙ ap (λ (r : CellState). replica_in r q) (none.1 ∙ sym none.0))
-          | inl row ↦
-              let is : replica s' c q ≡ replica_in (renews c (cell_state s c)) q = left ∙ ap (λ (r : CellState). replica_in r q) row ∙ ap (λ b. replica_in (if b then renews c (cell_state s c) else cell_state s c) q) written in
-              let more : CellState = record { nodes = (cell_state s c).nodes; disks = (cell_state s c).disks; writes = writes s c + 1 } in
-              elim (replica_in-cases more (AtNode (node_of m w)) q (Valid (result_at p s t w (node_of m w) c))) [
-                | inl same ↦ inl (is ∙ same ∙ as_before q)
-                | inr (at, valid) ↦ inr (written, at, is ∙ valid)
-              ]
+  end-cases c q =
+      let more : CellState = record { nodes = (cell_state s c).nodes; disks = (cell_state s c).disks; writes = writes s c + 1 } in
+      elim (cases_Bool (has_cell (written_cells p t w) c)) [
+        | inr spared ↦ inl (end-other c q spared)
+        | inl written ↦ elim (cells-renewed_or s (λ d row. if has_cell (written_cells p t w) d then renews d row else row) c) [
+          | inr none ↦ inl (grind (arith, ended.leaves, none.0, none.1))
+          | inl row ↦ grind (arith, ended.leaves, row, written, replica_in-cases more (AtNode (node_of m w)) q (Valid (result_at p s t w (node_of m w) c)), as_before q)
         ]
-  ]
+      ]
     where
       as_before : (q : Place) → replica_in (record { nodes = (cell_state s c).nodes; disks = (cell_state s c).disks; writes = writes s c + 1 }) q ≡ replica_in (cell_state s c) q
       as_before (AtNode k) = refl
@@ -226,42 +206,31 @@ module _ (p : Program) (m : Machine) (s : State) (h : IsSound p m s) (t : Task) 
   -- what the task wrote is valid there, as it was
   pub end-written : (c : Cell) → has_cell (written_cells p t w) c ≡ true → (replica s' c (AtNode (node_of m w)) ≡ Valid (result_at p s t w (node_of m w) c)) × (a : Array) × (replica s c (AtNode (node_of m w)) ≡ Valid a)
   end-written c written =
-      let n = node_of m w in
       let own = owned c written in
-      let inside = entry-inside s c n (ap is_entry own.valid) in
-      (ap (λ (z : State). replica z c (AtNode n)) ended.leaves ∙ ap (λ (row : CellState). replica_in row (AtNode n)) (cells-touched s (has_cell (written_cells p t w)) (λ d row. rewritten_at n (result_at p s t w n d) row) c inside.0 written) ∙ get_or-set_same (cell_state s c).nodes n.0 (Valid (result_at p s t w n c)) Invalid inside.1, _, own.valid)
+      let inside = entry-inside s c (node_of m w) (ap is_entry own.valid) in
+      (grind (arith, ended.leaves, cells-touched s (has_cell (written_cells p t w)) (renews p m s t w s' ended) c inside.0 written, get_or-set_same (cell_state s c).nodes (node_of m w).0 (Valid (result_at p s t w (node_of m w) c)) Invalid, inside.1), _, own.valid)
 
   -- a test that tells no array from another is passed as before
   end-same : {X : Type 0} (test : Replica → X) → ((a b : Array) → test (Valid a) ≡ test (Valid b)) → (c : Cell) (q : Place) → test (replica s' c q) ≡ test (replica s c q)
   end-same test alike c q = grind (arith, end-cases p m s t w s' ended c q, owned)
 
-  end-entry : (c : Cell) (k : Node) → is_entry (replica s' c (AtNode k)) ≡ is_entry (replica s c (AtNode k))
-  end-entry c k = end-same is_entry (λ a b. refl) c (AtNode k)
-
   -- ---- the state's own form
 
   end-rows : HasRows p m s'
-  end-rows =
-      let rows = h.coherent.state.rows in
-      let f : ℕ → CellState → CellState = λ k row. let c : Cell = record { 0 = k } in if has_cell (written_cells p t w) c then rewritten_at (node_of m w) (result_at p s t w (node_of m w) c) row else row in
-      record {
-        tasks = ap (λ (z : State). length z.tasks) ended.leaves ∙ length-set s.tasks t.0 (Done w) ∙ rows.tasks;
-        cells = ap (λ (z : State). length z.cells) ended.leaves ∙ length-renewed f s.cells ∙ rows.cells;
-        orders = ap (λ (z : State). length z.orders) ended.leaves ∙ rows.orders;
-        workers = ap (λ (z : State). length z.workers) ended.leaves ∙ length-set s.workers w.0 _ ∙ rows.workers;
-        nodes = subst (λ (z : State). All (λ row. length row.nodes ≡ length m.nodes) z.cells) (sym ended.leaves) (All-renewed (λ row. length row.nodes ≡ length m.nodes) f s.cells (λ i row e. cond_both (has_cell (written_cells p t w) (record { 0 = i })) _ row (λ (r : CellState). length r.nodes ≡ length m.nodes) (λ b. length-set row.nodes (node_of m w).0 _ ∙ e) (λ b. e)) rows.nodes);
-        disks = subst (λ (z : State). All (λ row. length row.disks ≡ length m.disks) z.cells) (sym ended.leaves) (All-renewed (λ row. length row.disks ≡ length m.disks) f s.cells (λ i row e. cond_both (has_cell (written_cells p t w) (record { 0 = i })) _ row (λ (r : CellState). length r.disks ≡ length m.disks) (λ b. e) (λ b. e)) rows.disks);
-      }
-
-  end-order : (k : Node) → order s' k ≡ order s k
-  end-order k = ap (λ (z : State). order z k) ended.leaves
+  end-rows = HasRows-kept p m s s' _ (ap (λ (z : State). z.cells) ended.leaves)
+      (λ i row. (
+        cond_both (has_cell (written_cells p t w) (record { 0 = i })) _ row (λ (r : CellState). length r.nodes ≡ length row.nodes) (λ b. length-set row.nodes (node_of m w).0 _) (λ b. refl),
+        cond_both (has_cell (written_cells p t w) (record { 0 = i })) _ row (λ (r : CellState). length r.disks ≡ length row.disks) (λ b. refl) (λ b. refl),
+      ))
+      (ap (λ (z : State). length z.tasks) ended.leaves ∙ length-set s.tasks t.0 (Done w)) (ap (λ (z : State). length z.orders) ended.leaves)
+      (ap (λ (z : State). length z.workers) ended.leaves ∙ length-set s.workers w.0 _) h.coherent.state.rows
 
   end-state : IsStateOf p m s'
   end-state = record {
     rows = end-rows;
     entries = record {
-      entries = λ k c. ap (λ (cs : List Cell). has_cell cs c) (end-order k) ∙ h.coherent.state.entries.entries k c ∙ sym (end-entry c k);
-      once = λ k c. subst (λ (cs : List Cell). times cs c ≤ 1) (sym (end-order k)) (h.coherent.state.entries.once k c);
+      entries = λ k c. ap (λ (z : State). has_cell (order z k) c) ended.leaves ∙ h.coherent.state.entries.entries k c ∙ sym (end-same is_entry (λ a b. refl) c (AtNode k));
+      once = λ k c. subst (λ (z : State). times (order z k) c ≤ 1) (sym ended.leaves) (h.coherent.state.entries.once k c);
     };
     blocks = HasBlocks-kept p m s s' (λ c d. inr (end-elsewhere p m s t w s' ended c (OnDisk d) refl)) (end-transfer p m s t w s' ended) h.coherent.state.blocks;
     staff = HasWorkers-kept p s s' t (Running w) (Done w) advance (subst (λ (x : Progress). (worker_of x).0 < p.workers) ended.running (h.coherent.state.staff.staffed t (ap is_begun ended.running))) h.coherent.state.staff;
@@ -277,10 +246,10 @@ module _ (p : Program) (m : Machine) (s : State) (h : IsSound p m s) (t : Task) 
     state = end-state;
     rows = λ v. elim (workers_differ v w) [
       | inr d ↦ (let same = end-other_worker p m s t w s' ended v d in inl (ap (λ (row : WorkerState). row.pins) same, ap (λ (row : WorkerState). row.scratch) same, λ e. absurd (d e)))
-      | inl e ↦ inr (e, ap (pins s') e ∙ released (λ row. row.pins) refl refl, ap (scratch s') e ∙ released (λ row. row.scratch) refl refl, refl)
+      | inl e ↦ inr (e, grind (arith, e, end-own_worker p m s t w s' ended), grind (arith, e, end-own_worker p m s t w s' ended), refl)
     ];
     victims = end-kept p m s t w s' ended (λ row. row.victims) refl;
-    entries = λ c k now. sym (end-entry c k) ∙ now;
+    entries = λ c k now. sym (end-same is_entry (λ a b. refl) c (AtNode k)) ∙ now;
     leaves = end-leaving p m s t w s' ended;
     comes = λ v c k coming. end-fewer p m s t w s' ended (is_coming_by v) (λ a. refl) c (AtNode k) coming;
     still_comes = λ v c d k leaving coming. end-same (is_coming_by v) (λ a b. refl) c (AtNode k) ∙ coming;
@@ -289,20 +258,14 @@ module _ (p : Program) (m : Machine) (s : State) (h : IsSound p m s) (t : Task) 
     stays = λ u v c d has cell. (let same = end-other p m s t w s' ended c (AtNode (node_of m v)) (end-spares u v c d has cell) in (λ was. ap is_entry same ∙ was, λ was. ap is_valid same ∙ was));
     claimed = λ c e has. absurd (let f : Done w ≡ Claimed w = e in cc);
     running = λ c e has. absurd (let f : Done w ≡ Running w = e in cc);
-    transfers = TransfersAreSound-spared p m s s' (has_cell (written_cells p t w)) (end-other p m s t w s' ended) (end-leaving p m s t w s' ended) (end-transfer p m s t w s' ended) unmoved h.coherent.transfers;
-    order = Ends-keeps_order p m s t w s' ended h.coherent.order;
+    transfers = TransfersAreSound-spared m s s' (has_cell (written_cells p t w)) (end-other p m s t w s' ended) (end-leaving p m s t w s' ended) (end-transfer p m s t w s' ended) unmoved h.coherent.transfers;
+    order = OrderIsKept-advances p s s' t (Running w) (Done w) advance refl refl (same_worker-refl w) refl h.coherent.order;
     counts = Ends-keeps_counts p m s t w s' h.coherent.state h.coherent.cells ended h.coherent.counts;
   }
-    where
-      released : {X : Type 0} (f : WorkerState → X) → {x : X} → f (record { pins = []; scratch = 0; victims = victims_of s w; transfer = transfer s w }) ≡ x → f idle_row ≡ x → f (worker_state s' w) ≡ x
-      released f own none = elim (end-own_worker p m s t w s' ended) [ inl is ↦ ap f is ∙ own | inr is ↦ ap f is.1 ∙ none ]
 
   -- ---- contents, where a task with which no later one conflicts may be put last
 
   module _ (puts_last : PutsLast p) where
-    end-moves : (v : Worker) (c : Cell) → moves s' v c ≡ moves s v c
-    end-moves v c = ap (λ (o : Option Transfer). elim o as (λ _. Bool) [ None ↦ false | Some y ↦ same_cell y.cell c ]) (end-transfer p m s t w s' ended v)
-
     spared-content : (c : Cell) → has_cell (written_cells p t w) c ≡ false → content p s' c ≡ content p s c
     spared-content c spared = end-content-other p m h.proper puts_last s h.coherent t w s' ended c spared
 
@@ -310,7 +273,7 @@ module _ (p : Program) (m : Machine) (s : State) (h : IsSound p m s) (t : Task) 
     end-writers = Changes-writers p m s h s' t (Running w) (Done w) w end-change
         (λ u v c d runs written.
         (let spared = end-spares u v c d (ap (is_task_of v) runs ∙ same_worker-refl v) (written-among_cells p u v c written) in
-        (λ q. end-other p m s t w s' ended c q spared, λ x. end-moves x c ∙ (h.coherent.writers.owned u v c runs written).unmoved x, spared-content c spared)))
+        (λ q. end-other p m s t w s' ended c q spared, λ x. moves-kept s s' x c (end-transfer p m s t w s' ended x) ∙ (h.coherent.writers.owned u v c runs written).unmoved x, spared-content c spared)))
         (λ c e. absurd (let f : Done w ≡ Running w = e in cc))
 
     end-rested : (c : Cell) → has_cell (written_cells p t w) c ≡ false → is_being_written p s' c ≡ false → is_being_written p s c ≡ false
@@ -321,10 +284,7 @@ module _ (p : Program) (m : Machine) (s : State) (h : IsSound p m s) (t : Task) 
     end-own c written = (end-written c written).0 ∙ ap Valid (sym (end-content-own p m h.proper puts_last s h.coherent t w s' ended c written))
 
     end-alone : (c : Cell) (q : Place) → has_cell (written_cells p t w) c ≡ true → (replica s' c q ≡ Valid (content p s' c)) ⊎ (replica s' c q ≡ Invalid)
-    end-alone c q written = elim (cases_Bool (same_place q (AtNode (node_of m w)))) [
-      | inl here ↦ inl (ap (replica s' c) (same_place-is q (AtNode (node_of m w)) here) ∙ end-own c written)
-      | inr away ↦ inr (end-elsewhere p m s t w s' ended c q (ap not away) ∙ (owned c written).only q (ap not away))
-    ]
+    end-alone c q written = grind (arith, cases_Bool (same_place q (AtNode (node_of m w))), same_place-is q (AtNode (node_of m w)), end-own c written, end-elsewhere p m s t w s' ended c q, (owned c written).only q)
 
     end-copies : CopiesAgree p s'
     end-copies = record {
@@ -337,9 +297,7 @@ module _ (p : Program) (m : Machine) (s : State) (h : IsSound p m s) (t : Task) 
       ];
       alike = λ c q some resting. elim (cases_Bool (has_cell (written_cells p t w) c)) [
         | inl written ↦ (search (arith, end-alone, MatchOption-from_none))
-        | inr spared ↦
-            let row = end-spared_row p m s t w s' ended c spared in
-            agrees-kept (array_of (replica s c q)) (array_of (replica s' c q)) (content p s c) (content p s' c) (ap (λ (r : CellState). array_of (replica_in r q)) row) (spared-content c spared) (h.coherent.copies.alike c q (omega (arith, ap (λ (r : CellState). r.writes) row, some)) (end-rested c spared resting))
+        | inr spared ↦ (search (arith, end-spared_row p m s t w s' ended c spared, spared-content, agrees-kept, end-rested))
       ];
     }
 

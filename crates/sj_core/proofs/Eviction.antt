@@ -1,7 +1,7 @@
 -- The victims of a need are the shortest end of the unpinned entries that covers it.
-use Rattle.std.proofs.Common.{◌≡◌, ℕ, Bool, true, false, List, [], ◌∷◌, ◌++◌, drop, refl, sym, ap, ◌∙◌, Option, Some, None, arith}
-use Rattle.std.specs.Bool.{then_some}
-use Rattle.std.specs.Option.{option_or}
+use Rattle.std.proofs.Common.{◌≡◌, ℕ, Bool, true, false, List, [], ◌∷◌, ◌++◌, drop, refl, sym, ap, ◌∙◌, Option, Some}
+use Rattle.std.proofs.Common.{None, arith}
+use Rattle.std.specs.{Bool.then_some, Option.option_or}
 use Rattle.sj_core.specs.Victims.{shortest_suffix}
 
 module _ {X : Type 0} (test : List X → Bool) where
@@ -22,10 +22,7 @@ module _ {X : Type 0} (test : List X → Bool) where
   -- they pass the test
   pub shortest_suffix-passes : (xs vs : List X) → shortest_suffix test xs ≡ Some vs → test vs ≡ true
   shortest_suffix-passes [] vs h = search (arith, some_is)
-  shortest_suffix-passes (x ∷ xs) vs h = by_cases (shortest_suffix test xs) refl (test (x ∷ xs)) refl h (shortest_suffix-passes xs vs)
-    where
-      by_cases : (o : Option (List X)) → shortest_suffix test xs ≡ o → (b : Bool) → test (x ∷ xs) ≡ b → option_or o (then_some b (x ∷ xs)) ≡ Some vs → (shortest_suffix test xs ≡ Some vs → test vs ≡ true) → test vs ≡ true
-      by_cases o e b f h rest = search (arith, some_is)
+  shortest_suffix-passes (x ∷ xs) vs h = search (arith, some_is, (shortest_suffix-passes xs vs))
 
   -- where there are none, no end passes
   pub shortest_suffix-none : (xs : List X) → shortest_suffix test xs ≡ None → (k : ℕ) → test (drop k xs) ≡ false

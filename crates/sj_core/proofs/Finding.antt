@@ -1,20 +1,19 @@
 -- What a claimed or running task finds in the cells whose old value it reads; and which cells no running task writes, before and after a step.
-use Rattle.std.proofs.Common.{Bool, None, Option, Some, ap, arith, cond, false, get_or, inl, inr, length, not, sym, true, ℕ, ◌&&◌, ◌<◌, ◌∙◌, ◌≡◌, subst, Contains, IfSome, count_by, is_some}
+use Rattle.std.proofs.Common.{Bool, Option, ap, arith, cond, false, inl, inr, length, not, sym, true, ◌&&◌, ◌<◌, ◌∙◌}
+use Rattle.std.proofs.Common.{◌≡◌, subst, Contains, IfSome, count_by, is_some}
+use Rattle.sj_core.proofs.Words.{Access, Array, Cell, Machine, Program, Progress, Running, State, Task, Worker}
+use Rattle.sj_core.proofs.Words.{cells_of, copy_of, done_by, has_cell, is_running_on, is_task_of, progress, same_cell}
+use Rattle.sj_core.proofs.Words.{task_of, tasks_of, worked_on, worker_of, writes, written_cells}
 use Rattle.std.proofs.lemmas.Bool.{and_parts, false_from_ne_true, false≢true, not-true}
-use Rattle.std.proofs.lemmas.List.Folds.{Any-from_list_any, list_any_at}
-use Rattle.std.proofs.lemmas.List.FromFn.{get_or-map-range_with_len, length-map-range_with_len}
+use Rattle.std.proofs.lemmas.List.Folds.{Any-from_list_any}
 use Rattle.std.specs.Prelude.{unwrap_or}
-use Rattle.sj_core.proofs.Words.{Access, Array, Cell, Machine, Program, Progress, Running, State, Task, Worker, cells_of, copy_of, done_by, has_cell, is_running_on, is_task_of, progress, same_cell, task_of, tasks_of, worked_on, worker_of, writes, written_cells}
 use Rattle.sj_base.specs.Mode.{is_redux, is_written}
 use Rattle.sj_deps.specs.Conflict.{HasDependencies}
 use Rattle.sj_core.specs.Coherent.{Coherent, is_being_written, HasRows}
 use Rattle.sj_core.specs.Proper.{Proper, gives_value}
 use Rattle.sj_core.proofs.Advancing.{running_on-is, same_task, task_of-worker, Advances}
-use Rattle.sj_core.proofs.Replicas.{same_worker-refl}
-use Rattle.sj_core.proofs.Separation.{separated}
-use Rattle.sj_core.proofs.Sharing.{operand-has_cell}
 use Rattle.sj_core.proofs.Reading.{progress-inside, list_any-numbered}
-use Rattle.sj_core.proofs.Sums.{counted-has}
+use Rattle.sj_core.proofs.{Replicas.same_worker-refl, Separation.separated, Sharing.operand-has_cell, Sums.counted-has}
 
 -- ---- lists
 
@@ -30,18 +29,15 @@ being_written-by p s c h = search (arith, Any-from_list_any, and_parts, running_
 
 pub being_written-here : (p : Program) (s : State) (c : Cell) (u : Task) (v : Worker) → u.0 < length p.tasks → progress s u ≡ Running v → has_cell (written_cells p u v) c ≡ true → is_being_written p s c ≡ true
 being_written-here p s c u v inside running writes =
-    let number : ℕ → Task = λ n. record { 0 = n } in
     let test : Progress → Task → Bool = λ x t. is_running_on (worker_of x) x && has_cell (written_cells p t (worker_of x)) c in
-    let at_u : get_or (tasks_of p) u.0 u ≡ u = get_or-map-range_with_len number 0 (length p.tasks) u.0 u.0 u inside (omega arith) in
-    let passes : test (progress s u) u ≡ true = ap (λ (x : Progress). test x u) running ∙ ap (λ b. b && has_cell (written_cells p u v) c) (same_worker-refl v) ∙ writes in
-    list_any_at (λ t. test (progress s t) t) (tasks_of p) u.0 u (omega (arith, length-map-range_with_len number 0 (length p.tasks))) (ap (λ (t : Task). test (progress s t) t) at_u ∙ passes)
+    list_any-numbered (λ n. record { 0 = n }) (λ t. test (progress s t) t) u.0 (length p.tasks) inside
+    (ap (λ x. test x u) running ∙ ap (λ b. b && has_cell (written_cells p u v) c) (same_worker-refl v) ∙ writes)
 
 -- ---- arrays
 
 -- the array of a valid replica, where one is told of it
 pub array-told : (o : Option Array) (a b : Array) → is_some o ≡ true → IfSome o (λ x. x ≡ a) → unwrap_or o b ≡ a
-array-told None a b h k = absurd (false≢true h)
-array-told (Some x) a b h k = k
+array-told x a b h k = search (arith, false≢true)
 
 -- a cell of a task is written by no running task but this
 pub not_being_written : (p : Program) (m : Machine) → Proper p → HasDependencies p → (s : State) → Coherent p m s → (t : Task) (w : Worker) (c : Cell) → is_task_of w (progress s t) ≡ true → has_cell (cells_of p t w) c ≡ true → (progress s t ≡ Running w → has_cell (written_cells p t w) c ≡ false) → is_being_written p s c ≡ false
@@ -50,10 +46,7 @@ not_being_written p m proper deps s sound t w c mine has spared = false_from_ne_
     by_task : (u : Task) → progress s u ≡ Running (done_by s u) → has_cell (written_cells p u (done_by s u)) c ≡ true → ⊥
     by_task u running writes =
         elim (same_task u t) [
-          | inl e ↦
-              let worker : done_by s u ≡ w = ap (λ (k : Task). worker_of (progress s k)) e ∙ task_of-worker w (progress s t) mine in
-              let here : progress s t ≡ Running w = ap (λ (k : Task). progress s k) (sym e) ∙ running ∙ ap Running worker in
-              false≢true (sym (spared here) ∙ ap (λ (k : Task). has_cell (written_cells p k w) c) (sym e) ∙ ap (λ (k : Worker). has_cell (written_cells p u k) c) (sym worker) ∙ writes)
+          | inl e ↦ (search (arith, task_of-worker, false≢true))
           | inr d ↦ separated p m proper.cells deps s sound.state sound.workers sound.order t u w (done_by s u) c (λ e. d (sym e)) mine (ap (is_task_of (done_by s u)) running ∙ same_worker-refl (done_by s u)) has writes
         ]
 

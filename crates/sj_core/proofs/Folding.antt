@@ -1,14 +1,13 @@
 -- What cells hold after tasks in submission order: on which tasks it depends, and that a task may come last.
-use Rattle.std.proofs.Common.{Bool, List, None, Some, [], ap, arith, cond, false, inl, inr, length, map, not, refl, suc, sym, true, zero, ℕ, ◌++◌, ◌<◌, ◌||◌, ◌∙◌, ◌∷◌, ◌≡◌, ◌≢◌, ◌≤◌, Contains, find, zip}
+use Rattle.std.proofs.Common.{Bool, List, None, Some, [], ap, arith, cond, false, inl, inr, length, map, not, refl, suc}
+use Rattle.std.proofs.Common.{sym, true, zero, ℕ, ◌++◌, ◌<◌, ◌||◌, ◌∙◌, ◌∷◌, ◌≡◌, ◌≢◌, ◌≤◌, Contains, find, zip}
+use Rattle.sj_core.proofs.Words.{Access, Array, Cell, Program, Task, Worker, cells_of, has_cell, results, same_cell}
+use Rattle.sj_core.proofs.Words.{task_of, worked_on, written_cells}
 use Rattle.std.proofs.lemmas.Bool.{cases_lt, false_from_ne_true, false≢true, true≢false}
-use Rattle.std.proofs.lemmas.Bool.Decides.{Decides-eqb}
-use Rattle.std.proofs.lemmas.List.Folds.{find-append}
-use Rattle.sj_core.proofs.Words.{Access, Array, Cell, Program, Task, Worker, cells_of, has_cell, results, same_cell, task_of, worked_on, written_cells}
+use Rattle.std.proofs.lemmas.{Bool.Decides.Decides-eqb, List.Folds.find-append}
 use Rattle.sj_base.specs.Mode.{is_scratch, starts_as_zeros}
 use Rattle.sj_core.specs.Fold.{Contents, after_chosen, after_task, held_in}
-use Rattle.sj_core.proofs.Modes.{reads_isn't_scratch}
-use Rattle.sj_core.proofs.Readiness.{Contains-from_filter}
-use Rattle.sj_core.proofs.Sharing.{operand-has_cell}
+use Rattle.sj_core.proofs.{Modes.reads_isn't_scratch, Readiness.Contains-from_filter, Sharing.operand-has_cell}
 
 abbrev pub number : ℕ → Task
 number n = record { 0 = n }
@@ -32,11 +31,7 @@ held-append p xs ys c = search (arith, find-append)
 pub held_over-other : (cs : List Cell) (arrays : List Array) (c : Cell) (below : Array) → has_cell cs c ≡ false → held_over (zip cs arrays) c below ≡ below
 held_over-other [] arrays c below h = refl
 held_over-other (d ∷ cs) [] c below h = refl
-held_over-other (d ∷ cs) (a ∷ arrays) c below h = by_first (same_cell d c) h (held_over-other cs arrays c below)
-  where
-    by_first : (b : Bool) → (b || has_cell cs c) ≡ false → (has_cell cs c ≡ false → held_over (zip cs arrays) c below ≡ below) → elim (cond b (Some (d, a)) (find (λ (entry : Cell × Array). same_cell entry.0 c) (zip cs arrays))) as (λ _. Array) [ None ↦ below | Some entry ↦ entry.1 ] ≡ below
-    by_first true h rest = absurd (true≢false h)
-    by_first false h rest = rest h
+held_over-other (d ∷ cs) (a ∷ arrays) c below h = search (arith, true≢false, (held_over-other cs arrays c below))
 
 -- where each of the cells has an array, what they held doesn't matter
 pub held_over-own : (cs : List Cell) (arrays : List Array) (c : Cell) (x y : Array) → has_cell cs c ≡ true → length cs ≤ length arrays → held_over (zip cs arrays) c x ≡ held_over (zip cs arrays) c y
@@ -45,8 +40,7 @@ held_over-own (d ∷ cs) [] c x y h l = absurd (omega arith)
 held_over-own (d ∷ cs) (a ∷ arrays) c x y h l = by_first (same_cell d c) h (λ k. held_over-own cs arrays c x y k (omega arith))
   where
     by_first : (b : Bool) → (b || has_cell cs c) ≡ true → (has_cell cs c ≡ true → held_over (zip cs arrays) c x ≡ held_over (zip cs arrays) c y) → elim (cond b (Some (d, a)) (find (λ (entry : Cell × Array). same_cell entry.0 c) (zip cs arrays))) as (λ _. Array) [ None ↦ x | Some entry ↦ entry.1 ] ≡ elim (cond b (Some (d, a)) (find (λ (entry : Cell × Array). same_cell entry.0 c) (zip cs arrays))) as (λ _. Array) [ None ↦ y | Some entry ↦ entry.1 ]
-    by_first true h rest = refl
-    by_first false h rest = rest h
+    by_first b h rest = search arith
 
 -- ---- one task
 

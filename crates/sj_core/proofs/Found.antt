@@ -1,25 +1,20 @@
 -- What a claimed or running task finds where it works, whatever the modes: the content of each cell whose old value it reads.
-use Rattle.std.proofs.Common.{arith, Bool, ap, cond, false, not, refl, subst, sym, true, ◌<◌, ◌∙◌, ◌≡◌, ◌⊎◌, Contains, IsTrue}
+use Rattle.std.proofs.Common.{arith, Bool, ap, false, not, refl, subst, sym, true, ◌<◌, ◌∙◌, ◌≡◌, ◌⊎◌, Contains, IsTrue}
+use Rattle.sj_core.proofs.Words.{Access, AtNode, Cell, Codelet, Machine, Mode, Program, R, Running, State, Task, W}
+use Rattle.sj_core.proofs.Words.{Worker, Write, array_of, cells_of, data_operands, dims_of, fresh_cells, has_cell}
+use Rattle.sj_core.proofs.Words.{is_running_on, is_task_of, is_valid, no_task, node_of, progress, replica, same_cell}
+use Rattle.sj_core.proofs.Words.{task_of, worked_on, written_cells, zeros}
 use Rattle.std.proofs.lemmas.Bool.{false_from_ne_true, false≢true}
-use Rattle.std.proofs.lemmas.Bool.Decides.{Decides-eqb}
 use Rattle.sj_base.specs.Mode.{is_redux, is_scratch, starts_as_zeros}
 use Rattle.sj_deps.specs.Conflict.{Uses}
-use Rattle.sj_core.proofs.Words.{Access, AtNode, Cell, Codelet, Machine, Mode, Program, R, Running, State, Task, W, Worker, Write, array_of, cells_of, copy_of, data_operands, dims_of, fresh_cells, has_cell, is_running_on, is_task_of, is_valid, no_task, node_of, progress, replica, same_cell, task_of, worked_on, written_cells, zeros}
-use Rattle.sj_core.specs.Coherent.{Coherent, content}
-use Rattle.sj_core.specs.Proper.{Proper}
-use Rattle.sj_core.specs.Step.{array_at}
+use Rattle.sj_core.specs.{Coherent.Coherent, Coherent.content, Proper.Proper, Step.array_at}
 use Rattle.sj_core.proofs.Advancing.{active-begun, running_on-is, task_of-active}
-use Rattle.sj_core.proofs.Dependencies.{Proper-dependencies}
-use Rattle.sj_core.proofs.Finding.{array-told, not_being_written}
-use Rattle.sj_core.proofs.Folding.{read-among_cells}
-use Rattle.sj_core.proofs.Modes.{reads_isn't_scratch}
-use Rattle.sj_core.proofs.TaskCells.{operand-inside}
 use Rattle.sj_core.proofs.Readiness.{AllPairs-two, Contains-filter, Contains-from_filter, filter-Contains}
-use Rattle.sj_core.proofs.Replicas.{same_worker-refl}
-use Rattle.sj_core.proofs.Separation.{worker-inside}
-use Rattle.sj_core.proofs.Sharing.{manner_of, operand_for}
-use Rattle.sj_core.proofs.Updating.{operand-used}
-use Rattle.sj_core.proofs.Values.{old_value-written}
+use Rattle.sj_core.proofs.{Dependencies.Proper-dependencies, Finding.array-told, Finding.not_being_written}
+use Rattle.sj_core.proofs.{Folding.read-among_cells, Modes.reads_isn't_scratch, TaskCells.operand-inside}
+use Rattle.sj_core.proofs.{Replicas.same_worker-refl, Separation.worker-inside, Sharing.manner_of, Sharing.operand_for}
+use Rattle.sj_core.proofs.{Updating.operand-used, Values.old_value-written, Copies.direct-cell}
+use Rattle.sj_core.proofs.{CellLists.same_cell-from}
 
 module _ (p : Program) (proper : Proper p) where
   -- a cell whose old value one operand reads is none that another one finds as zeros
@@ -37,26 +32,20 @@ module _ (p : Program) (proper : Proper p) where
       let manners : manner_of l.codelet a.mode ≡ manner_of l.codelet b.0.mode = (Proper-dependencies p proper).manners t.0 (worked_on p w a).0 (manner_of l.codelet a.mode) (manner_of l.codelet b.0.mode) first second in
       let write = fresh-write l.codelet b.0.mode b_data b.2 in
       let update = reads-update l.codelet a.mode reads (manners ∙ write.1) in
-      let cells : a.cell ≡ b.0.cell = sym (direct a update) ∙ sym b.3 ∙ direct b.0 (ap is_redux write.0) in
+      let cells : a.cell ≡ b.0.cell = sym (direct-cell p w a update) ∙ sym b.3 ∙ direct-cell p w b.0 (ap is_redux write.0) in
       by_places a b.0 reads b.2 cells (AllPairs-two (λ x y. IsTrue (same_cell x.cell y.cell) → (x.mode ≡ R) × (y.mode ≡ R)) (data_operands l) a b.0 (proper.unaliased t.0 no_task inside) a_in b.1)))
     where
-      direct : (x : Access) → is_redux x.mode ≡ false → worked_on p w x ≡ x.cell
-      direct x e = ap (λ b. cond b (copy_of p x.cell w) x.cell) e
-
       fresh-write : (k : Codelet) (x : Mode) → not (is_scratch x) ≡ true → starts_as_zeros x ≡ true → (x ≡ W) × (manner_of k x ≡ Write)
       fresh-write k x e f = search (arith, false≢true)
 
       reads-update : (k : Codelet) (x : Mode) → starts_as_zeros x ≡ false → manner_of k x ≡ Write → is_redux x ≡ false
       reads-update k x e f = search arith
 
-      same : (x y : Cell) → x ≡ y → same_cell x y ≡ true
-      same x y e = (Decides-eqb x.0 y.0).1 (ap (λ (q : Cell). q.0) e)
-
       read_isn't_fresh : (x : Mode) → starts_as_zeros x ≡ true → x ≡ R → ⊥
       read_isn't_fresh x e f = false≢true (sym (ap starts_as_zeros f) ∙ e)
 
       by_places : (a b : Access) → starts_as_zeros a.mode ≡ false → starts_as_zeros b.mode ≡ true → a.cell ≡ b.cell → ((a ≡ b) ⊎ ((IsTrue (same_cell a.cell b.cell) → (a.mode ≡ R) × (b.mode ≡ R)) ⊎ (IsTrue (same_cell b.cell a.cell) → (b.mode ≡ R) × (a.mode ≡ R)))) → ⊥
-      by_places a b reads fresh e x = search (arith, false≢true, read_isn't_fresh, same)
+      by_places a b reads fresh e x = search (arith, false≢true, read_isn't_fresh, same_cell-from)
 
   module _ (m : Machine) (s : State) (sound : Coherent p m s) (t : Task) (w : Worker) (mine : is_task_of w (progress s t) ≡ true) where
     task-staffed : w.0 < p.workers

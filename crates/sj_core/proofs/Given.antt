@@ -1,32 +1,30 @@
 -- What a task finds where it works: the contents of its cells; and in a settled cell of an access in order what all tasks before it leave, in
 -- submission order. Where all tasks are done, cells hold what all tasks leave.
-use Rattle.std.proofs.Common.{Bool, List, [], ap, arith, false, get_or, inl, inr, length, map, not, refl, subst, sym, true, ℕ, ◌<◌, ◌||◌, ◌∙◌, ◌∷◌, ◌≡◌, ◌≢◌, ◌&&◌, ◌⊎◌, Contains, filter, slice_index_or, IfSome, IsTrue, is_some}
+use Rattle.std.proofs.Common.{Bool, List, [], ap, arith, false, get_or, inl, inr, length, map, not, refl, subst, sym}
+use Rattle.std.proofs.Common.{true, ℕ, ◌<◌, ◌||◌, ◌∙◌, ◌∷◌, ◌≡◌, ◌≢◌, ◌&&◌, ◌⊎◌, Contains, filter, slice_index_or}
+use Rattle.std.proofs.Common.{IfSome, IsTrue, is_some}
+use Rattle.sj_core.proofs.Words.{Claimed, Access, Array, AtNode, Cell, Kernel, Machine, Program, Progress, R, RW, Redux}
+use Rattle.sj_core.proofs.Words.{Running, State, Task, W, Waiting, Worker, array_of, cell_info, cells_of, copy_of}
+use Rattle.sj_core.proofs.Words.{done_by, done_in, has_cell, is_done, is_task_of, node_of, progress, replica, same_cell}
+use Rattle.sj_core.proofs.Words.{task_of, worked_on, worker_of, writes, written_cells}
 use Rattle.std.proofs.lemmas.Bool.{false_from_ne_true, false≢true}
 use Rattle.std.proofs.lemmas.List.Elements.{All-contains, Contains-get_or}
-use Rattle.std.proofs.lemmas.List.Folds.{Any-from_list_any}
-use Rattle.std.proofs.lemmas.List.Sums.{AllPass-from_list_all}
+use Rattle.std.proofs.lemmas.{List.Folds.Any-from_list_any, List.Sums.AllPass-from_list_all}
 use Rattle.sj_base.specs.Mode.{is_in_order, is_redux, is_scratch, is_written, reads_value}
 use Rattle.sj_deps.specs.Conflict.{Conflict}
-use Rattle.sj_core.proofs.Words.{Access, Array, AtNode, Cell, Kernel, Machine, Program, Progress, R, RW, Redux, Running, State, Task, W, Waiting, Worker, array_of, cell_info, cells_of, copy_of, done_by, done_in, has_cell, is_done, is_task_of, node_of, progress, replica, same_cell, task_of, worked_on, worker_of, writes, written_cells}
+use Rattle.sj_core.specs.Laws.{Brought, HasAtHand, HoldsFinal, IsLawful, IsSettled, IsSound, Works, final}
+use Rattle.sj_core.specs.Proper.{IsContribution, IsFirstUnit, IsMember, IsOpenAt, IsPhase, IsPlain, Phase, Proper}
+use Rattle.sj_core.specs.Proper.{access, gives_value, task_number}
 use Rattle.sj_core.specs.Coherent.{content, has_written, is_begun, is_being_written}
 use Rattle.sj_core.specs.Fold.{given, held_before, held_in}
-use Rattle.sj_core.specs.Laws.{Brought, HasAtHand, HoldsFinal, IsLawful, IsSettled, IsSound, Works, final}
-use Rattle.sj_core.specs.Legal.{IsComplete}
-use Rattle.sj_core.specs.Proper.{IsContribution, IsFirstUnit, IsMember, IsOpenAt, IsPhase, IsPlain, Phase, Proper, access, gives_value, task_number}
-use Rattle.sj_core.specs.Step.{EarlierAreDone, array_at}
-use Rattle.sj_core.proofs.Advancing.{done-begun}
-use Rattle.sj_core.proofs.Ending.{all-staffed, later-free}
-use Rattle.sj_core.proofs.Copies.{combine-of, direct-cell, init-of}
-use Rattle.sj_core.proofs.Workers.{cone-shared, in_order-conflicts, workers-alike}
-use Rattle.sj_core.proofs.Dependencies.{one_is}
+use Rattle.sj_core.specs.{Legal.IsComplete, Step.EarlierAreDone, Step.array_at}
 use Rattle.sj_core.proofs.Finding.{being_written-by, gives-writes, task-counted, running-inside}
-use Rattle.sj_core.proofs.Folding.{after_chosen-same, held-until, read-among_cells}
-use Rattle.sj_core.proofs.Found.{found-content}
-use Rattle.sj_core.proofs.Modes.{plain_isn't_redux, reads_isn't_scratch}
-use Rattle.sj_core.proofs.TaskCells.{operand-inside}
-use Rattle.sj_core.proofs.Readiness.{Contains-filter}
-use Rattle.sj_core.proofs.Replicas.{same_worker-refl}
-use Rattle.sj_core.proofs.Sharing.{Conflict-sym, one, redux-has_copies}
+use Rattle.sj_core.proofs.{Advancing.done-begun, Ending.all-staffed, Ending.later-free, Copies.combine-of}
+use Rattle.sj_core.proofs.{Copies.direct-cell, Copies.init-of, Workers.cone-shared, Workers.in_order-conflicts}
+use Rattle.sj_core.proofs.{Workers.workers-alike, Dependencies.one_is, Folding.after_chosen-same, Folding.held-until}
+use Rattle.sj_core.proofs.{Folding.read-among_cells, Found.found-content, Modes.plain_isn't_redux}
+use Rattle.sj_core.proofs.{Modes.reads_isn't_scratch, TaskCells.operand-inside, Readiness.Contains-filter}
+use Rattle.sj_core.proofs.{Replicas.same_worker-refl, Sharing.Conflict-sym, Sharing.one, Sharing.redux-has_copies}
 
 -- ---- phases
 
@@ -111,15 +109,15 @@ module _ (p : Program) (m : Machine) (s : State) (h : IsSound p m s) where
         ∙ ap (content p s) same
         ∙ by_hand at_hand
       where
+        by_progress : (x : Progress) → progress s t ≡ x → is_begun x ≡ true → is_done x ≡ false → worker_of x ≡ w → content p s a.cell ≡ held_before p t.0 a.cell
+        by_progress x e begins undone own =
+            let begun = ap is_begun e ∙ begins in
+            let w_in = subst (λ (v : Worker). v.0 < p.workers) (ap worker_of e ∙ own) (h.coherent.state.staff.staffed t begun) in
+            content-settled t w w_in a among (reads_isn't_scratch a.mode (ap not reads)) in_order (ap is_done e ∙ undone) (h.coherent.order.earlier t begun) settled
+
         by_hand : HasAtHand m s t w a.cell → content p s a.cell ≡ held_before p t.0 a.cell
-        by_hand (Works running) =
-            let begun = ap is_begun running in
-            let w_in = subst (λ (x : Progress). (worker_of x).0 < p.workers) running (h.coherent.state.staff.staffed t begun) in
-            content-settled t w w_in a among (reads_isn't_scratch a.mode (ap not reads)) in_order (ap is_done running) (h.coherent.order.earlier t begun) settled
-        by_hand (Brought claimed valid) =
-            let begun = ap is_begun claimed in
-            let w_in = subst (λ (x : Progress). (worker_of x).0 < p.workers) claimed (h.coherent.state.staff.staffed t begun) in
-            content-settled t w w_in a among (reads_isn't_scratch a.mode (ap not reads)) in_order (ap is_done claimed) (h.coherent.order.earlier t begun) settled
+        by_hand (Works running) = by_progress (Running w) running refl refl refl
+        by_hand (Brought claimed valid) = by_progress (Claimed w) claimed refl refl refl
 
     -- a task with one R operand hands over what it is given
     pub delivers-given : (t : Task) (w : Worker) (c : Cell) → (task_of p t).accesses ≡ access R c ∷ [] → HasAtHand m s t w c → array_at p s (AtNode (node_of m w)) c ≡ given p t

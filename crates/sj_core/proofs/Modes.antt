@@ -1,9 +1,9 @@
 -- What a mode says of its operand, by a look at each mode.
 use Rattle.std.proofs.Common.{arith, Bool, [], false, not, refl, true, ◌||◌, ◌∷◌, ◌≡◌, List}
+use Rattle.sj_core.proofs.Words.{Mode, R, RW, Redux, Scratch, W}
 use Rattle.std.proofs.lemmas.Bool.{and_parts, false≢true, not-true, not-false}
 use Rattle.std.proofs.lemmas.List.Sums.{AllPass-from_list_all}
 use Rattle.std.specs.List.{list_all}
-use Rattle.sj_core.proofs.Words.{Mode, R, RW, Redux, Scratch, W}
 use Rattle.sj_base.specs.Mode.{is_in_order, starts_as_zeros, is_written, is_scratch, is_commute, is_redux, reads_value}
 use Rattle.sj_base.specs.declared.mode.Mode.TheVariants.{Commute}
 
@@ -16,8 +16,7 @@ every_mode test all x = search (arith, AllPass-from_list_all, modes)
 
 -- where a test or another is passed, and the first isn't, the other is
 pub then : (a b : Bool) → (not a || b) ≡ true → a ≡ true → b ≡ true
-then true b h e = h
-then false b h e = absurd (false≢true e)
+then x b h e = search (arith, false≢true)
 
 pub reads_isn't_scratch : (x : Mode) → starts_as_zeros x ≡ false → not (is_scratch x) ≡ true
 reads_isn't_scratch x h = then (reads_value x) (not (is_scratch x)) (every_mode (λ x. not (reads_value x) || not (is_scratch x)) refl x) (not-false (reads_value x) h)

@@ -1,14 +1,14 @@
 -- A move that begins, one that ends, and a drop leave a coherent state.
-use Rattle.std.proofs.Common.{arith, List, Some, false, inl, inr, refl, sym, true, ◌∙◌, ◌≡◌, ap, subst, None, Option, not, ◌&&◌, ◌⊎◌, Bool, [], ◌<◌, ◌≢◌, IsTrue, IfSome}
+use Rattle.std.proofs.Common.{arith, List, Some, false, inl, inr, refl, sym, true, ◌∙◌, ◌≡◌, ap, subst, None, Option, not, ◌&&◌, ◌⊎◌, Bool, ◌<◌, ◌≢◌, IsTrue, IfSome}
 use Rattle.std.proofs.lemmas.List.{length-set}
 use Rattle.std.proofs.lemmas.Bool.{true≢false, and_from, false_from_ne_true, false≢true, and_parts}
 use Rattle.std.proofs.lemmas.List.Quantifiers.{position-Some}
-use Rattle.sj_core.specs.Coherent.{Coherent, CopiesAgree, HasBlocks, HasRows, IsOwnedBy, IsTransferTo, TransfersAreSound, IsClaimed, NoneLeavesBy, content}
+use Rattle.sj_core.specs.Coherent.{Coherent, CopiesAgree, HasBlocks, HasRows, IsOwnedBy, IsTransferTo, TransfersAreSound, IsClaimed, content}
 use Rattle.sj_core.specs.Laws.{IsSound}
 use Rattle.sj_core.specs.Step.{disk_of, BeginsMoveIn, a_transfer, is_fresh, BeginsMoveOut, same_place, EndsMove, array_at, Drops, is_read, reads}
 use Rattle.sj_core.proofs.Words.{Array, AtNode, Cell, CellState, Claimed, Machine, Node, Place, Program, Running, State, Task, Transfer, Worker, WorkerState, has_cell, is_claimed_by, is_coming_by, is_entry, is_leaving_by, is_valid, moves, node_of, pins, progress, replica, scratch, transfer, victims_of, writes, DiskNo, OnDisk, with_transfer, Invalid, fresh_cells, Coming, Leaving, Replica, Valid, array_of, dims_of, same_cell, with_replica, zeros, is_leaving}
 use Rattle.sj_core.proofs.Advancing.{claimed-is_mine, task_of-worker, claimed_by-is}
-use Rattle.sj_core.proofs.Changing.{Changes, Changes-coherent, Changes-writers, HasBlocks-kept}
+use Rattle.sj_core.proofs.Changing.{Changes, Changes-coherent, Changes-writers, HasBlocks-kept, TransfersAreSound-kept}
 use Rattle.sj_core.proofs.Placing.{transfer-is, pins-same, scratch-same, victims-same, owned-fails, position-none, room-leaves_none, valid-within, stays-on_disk, list_any-place, same_place-is, disks-kept, nodes-kept, replica-cases, transfer-cases, transfer-own, writes-same, same_place-refl}
 use Rattle.sj_core.proofs.Reading.{unmoved-from, moves-it, transfer-inside, list_any-worker}
 use Rattle.sj_core.proofs.Replicas.{same_worker-refl, leaving_by-one, leaving_by-valid, coming_by-is, coming_by-one, leaving-by_some, leaving-is_none}
@@ -28,9 +28,7 @@ shifted s cells workers = record { tasks = s.tasks; cells = cells; orders = s.or
 pub record Shifts (p : Program) (m : Machine) (s : State) (cells : List CellState) (workers : List WorkerState) : Type 0 where
   pub rows : HasRows p m (shifted s cells workers)
   pub blocks : HasBlocks p m (shifted s cells workers)
-  pub same_pins : (v : Worker) → pins (shifted s cells workers) v ≡ pins s v
-  pub same_scratch : (v : Worker) → scratch (shifted s cells workers) v ≡ scratch s v
-  pub same_victims : (v : Worker) → victims_of (shifted s cells workers) v ≡ victims_of s v
+  pub hands : (v : Worker) → (pins (shifted s cells workers) v ≡ pins s v) × (scratch (shifted s cells workers) v ≡ scratch s v) × (victims_of (shifted s cells workers) v ≡ victims_of s v)
   pub same_writes : (c : Cell) → writes (shifted s cells workers) c ≡ writes s c
   pub same_entries : (c : Cell) (k : Node) → is_entry (replica (shifted s cells workers) c (AtNode k)) ≡ is_entry (replica s c (AtNode k))
   pub leaves : (v : Worker) (c : Cell) (q : Place) → is_leaving_by v (replica (shifted s cells workers) c q) ≡ true → is_leaving_by v (replica s c q) ≡ true
@@ -53,8 +51,8 @@ module _ (p : Program) (m : Machine) (s : State) (h : IsSound p m s) (t : Task) 
     mine = claimed-is_mine w;
     still_mine = λ v has. sym (task_of-worker v (Claimed w) has);
     state = (search arith);
-    rows = λ v. inl (shift.same_pins v, shift.same_scratch v, λ e. claimed-is_mine w);
-    victims = shift.same_victims;
+    rows = λ v. inl ((shift.hands v).0, (shift.hands v).1, λ e. claimed-is_mine w);
+    victims = λ v. (shift.hands v).2;
     entries = λ c k now. sym (shift.same_entries c k) ∙ now;
     leaves = shift.leaves;
     comes = shift.comes;
@@ -90,24 +88,12 @@ module _ (p : Program) (m : Machine) (s : State) (h : IsSound p m s) (w : Worker
   moving =
       let before = h.coherent.transfers in
       record {
-        source = λ v x under_way. elim (transfer-is s w begun v x under_way) [
-          | inl same ↦ before.source v x same
-          | inr (e, is) ↦ subst (λ (y : Transfer). is_valid (replica s y.cell y.from) ≡ true) is source
-        ];
+        source = λ v x under_way. (grind (arith, transfer-is s w begun v x under_way, before.source v x, source));
         target = λ v x under_way. to_place v x.cell x.from x.to (elim (transfer-is s w begun v x under_way) [
           | inl same ↦ before.target v x same
           | inr (e, is) ↦ subst (λ (y : Transfer). IsTransferTo m s v y.cell y.from y.to) is (subst (λ (u : Worker). IsTransferTo m s u begun.cell begun.from begun.to) (sym e) target)
         ]);
-        apart = λ u v x y d e hu hv to_d to_e cell. elim (transfer-is s w begun u x hu) [
-          | inr (eu, is_u) ↦ elim (transfer-is s w begun v y hv) [
-            | inr (ev, is_v) ↦ eu ∙ sym ev
-            | inl same ↦ eu ∙ sym (alone v y e d same to_e (ap (λ (z : Transfer). z.to) is_u ∙ to_d) (sym cell ∙ ap (λ (z : Transfer). z.cell) (sym is_u)))
-          ]
-          | inl same_u ↦ elim (transfer-is s w begun v y hv) [
-            | inr (ev, is_v) ↦ alone u x d e same_u to_d (ap (λ (z : Transfer). z.to) is_v ∙ to_e) (cell ∙ ap (λ (z : Transfer). z.cell) (sym is_v)) ∙ sym ev
-            | inl same_v ↦ before.apart u v x y d e same_u same_v to_d to_e cell
-          ]
-        ];
+        apart = λ u v x y d e hu hv to_d to_e cell. (grind (arith, transfer-is s w begun u x hu, transfer-is s w begun v y hv, alone v y e d, alone u x d e, before.apart u v x y d e));
       }
     where
       to_place : (v : Worker) (d : Cell) (from to : Place) → IsTransferTo m s v d from to → IsTransferTo m now v d from to
@@ -122,9 +108,7 @@ module _ (p : Program) (m : Machine) (s : State) (h : IsSound p m s) (w : Worker
       home = blocks.home;
       aimed = λ v x d under_way to. elim (transfer-is s w begun v x under_way) [ inl same ↦ blocks.aimed v x d same to | inr (e, is) ↦ subst (λ (y : Transfer). disk_of p m y.cell ≡ Some d) is (aimed d (ap (λ (y : Transfer). y.to) is ∙ to)) ];
     });
-    same_pins = pins-same s w (Some begun);
-    same_scratch = scratch-same s w (Some begun);
-    same_victims = victims-same s w (Some begun);
+    hands = λ v. (pins-same s w (Some begun) v, scratch-same s w (Some begun) v, victims-same s w (Some begun) v);
     same_writes = λ d. refl;
     same_entries = λ d k. refl;
     leaves = λ v d q leaving. leaving;
@@ -132,14 +116,8 @@ module _ (p : Program) (m : Machine) (s : State) (h : IsSound p m s) (w : Worker
     still_comes = λ v x d k leaving coming. coming;
     pinned = λ v d pin valid. valid;
     owned = λ d v a own q. refl;
-    unmoved = λ d v a own x. unmoved-from now x d (λ y under_way e. elim (transfer-is s w begun x y under_way) [
-      | inl same ↦ true≢false (sym (moves-it s x y same) ∙ ap (moves s x) e ∙ own.unmoved x)
-      | inr (f, is) ↦ free v a (subst (λ (k : Cell). IsOwnedBy m s k v a) (sym e ∙ sym (ap (λ (z : Transfer). z.cell) is)) own)
-    ]);
-    movers = λ v x under_way. elim (transfer-is s w begun v x under_way) [
-      | inl same ↦ h.coherent.workers.moves_for_claim v x same
-      | inr (e, is) ↦ (t, ap (λ (y : Worker). is_claimed_by y (progress s t)) e ∙ ap (is_claimed_by w) claimed ∙ same_worker-refl w)
-    ];
+    unmoved = λ d v a own x. unmoved-from now x d (λ y under_way e. (grind (arith, transfer-is s w begun x y under_way, moves-it s x y, own.unmoved x, free v a)));
+    movers = λ v x under_way. elim (transfer-is s w begun v x under_way) [ inl same ↦ h.coherent.workers.moves_for_claim v x same | inr (e, is) ↦ (t, grind (arith, e, claimed, same_worker-refl w)) ];
     moving = moving;
     copies = record { valid_somewhere = h.coherent.copies.valid_somewhere; alike = h.coherent.copies.alike };
   }
@@ -147,8 +125,6 @@ module _ (p : Program) (m : Machine) (s : State) (h : IsSound p m s) (w : Worker
   -- it leaves a coherent state
   pub Begun-coherent : Coherent p m now
   Begun-coherent = Shifts-coherent p m s h t w claimed now.cells now.workers begins
-
--- ---- a move that begins leaves a coherent state
 
 -- ---- a move into a node that begins leaves a coherent state
 
@@ -171,13 +147,9 @@ module _ (p : Program) (m : Machine) (s : State) (h : IsSound p m s) (c : Cell) 
   source_valid : is_valid (replica s c from) ≡ true
   source_valid = search (arith, somewhere, position-Some, false≢true, position-none, valid-within)
 
-  -- nothing leaves by the claim any more
-  none_leaves : NoneLeavesBy s w
-  none_leaves = room-leaves_none p m s h w move.room
-
   pub Moves_in-keep_coherence : Coherent p m s'
   Moves_in-keep_coherence = subst (λ (z : State). Coherent p m z) (sym move.leaves) (Begun-coherent p m s h w (a_transfer c from (AtNode n))
-      (λ d to. absurd (let e : AtNode n ≡ OnDisk d = to in cc)) source_valid (move.own_node, move.coming, none_leaves)
+      (λ d to. absurd (let e : AtNode n ≡ OnDisk d = to in cc)) source_valid (move.own_node, move.coming, room-leaves_none p m s h w move.room)
       (λ v x d e under_way to aims cell. absurd (let f : AtNode n ≡ OnDisk e = aims in cc))
       (λ v a own. false≢true (sym (owned-fails m s c v a own (is_coming_by w) refl refl (AtNode n)) ∙ move.coming)) claimed.task claimed.claimed)
 
@@ -194,23 +166,16 @@ module _ (p : Program) (m : Machine) (s : State) (h : IsSound p m s) (c : Cell) 
     where
       by_replica : (r : Replica) → replica s c (OnDisk d) ≡ r → r ≡ Invalid
       by_replica Invalid e = refl
-      by_replica (Coming v) e = absurd ((h.coherent.state.blocks.resting c d v no_array).0 e)
-        where
-          no_array : Array
-          no_array = record { dims = record { rows = 0; cols = 0 }; elements = [] }
+      by_replica (Coming v) e = absurd ((h.coherent.state.blocks.resting c d v (zeros (dims_of p c))).0 e)
       by_replica (Leaving v a) e = absurd ((h.coherent.state.blocks.resting c d v a).1 e)
       by_replica (Valid a) e = absurd (stays-on_disk p m s h w c d (ap (λ (q : Place). is_leaving_by w (replica s c q)) (only_one (OnDisk d) (ap is_valid e)) ∙ move.leaving))
 
   -- another worker's transfer of the cell to a disk would read the same replica
   reads_the_same : (v : Worker) (x : Transfer) (k : DiskNo) → transfer s v ≡ Some x → x.to ≡ OnDisk k → x.cell ≡ c → v ≡ w
-  reads_the_same v x k under_way to cell = by_target x.to to (h.coherent.transfers.target v x under_way)
-    where
-      by_target : (q : Place) → q ≡ OnDisk k → IsTransferTo m s v x.cell x.from q → v ≡ w
-      by_target (AtNode n) e target = absurd (let f : AtNode n ≡ OnDisk k = e in cc)
-      by_target (OnDisk j) e target =
-          let leaving : is_leaving_by v (replica s c x.from) ≡ true = ap (λ (y : Cell). is_leaving_by v (replica s y x.from)) (sym cell) ∙ target.0 in
-          let here : is_leaving_by v (replica s c from) ≡ true = ap (λ (q : Place). is_leaving_by v (replica s c q)) (sym (only_one x.from (leaving_by-valid v (replica s c x.from) leaving))) ∙ leaving in
-          leaving_by-one v w (replica s c from) here move.leaving
+  reads_the_same v x k under_way to cell =
+      let target : IsTransferTo m s v x.cell x.from (OnDisk k) = subst (λ (q : Place). IsTransferTo m s v x.cell x.from q) to (h.coherent.transfers.target v x under_way) in
+      let leaving : is_leaving_by v (replica s c x.from) ≡ true = ap (λ (y : Cell). is_leaving_by v (replica s y x.from)) (sym cell) ∙ target.0 in
+      leaving_by-one v w (replica s c from) (grind (arith, leaving, only_one x.from (leaving_by-valid v (replica s c x.from) leaving))) move.leaving
 
   -- the worker has a claimed task, since its victim is leaving
   claims : (t : Task) × (is_claimed_by w (progress s t) ≡ true)
@@ -221,6 +186,10 @@ module _ (p : Program) (m : Machine) (s : State) (h : IsSound p m s) (c : Cell) 
       (λ k to. move.target ∙ (let e : OnDisk d ≡ OnDisk k = to in cc)) (leaving_by-valid w (replica s c from) move.leaving) (move.leaving, target_invalid)
       (λ v x k j under_way to aims cell. reads_the_same v x k under_way to cell)
       (λ v a own. false≢true (sym (owned-fails m s c v a own (is_leaving_by w) refl refl from) ∙ move.leaving)) claims.0 (claimed_by-is w (progress s claims.0) claims.1))
+
+-- where a replica is replaced by one that fails a test, none passes it that didn't before
+replaced-fewer : (s : State) (c : Cell) (to : Place) (r : Replica) (test : Replica → Bool) → test r ≡ false → (x : Cell) (q : Place) → test (replica (with_replica s c to r) x q) ≡ true → test (replica s x q) ≡ true
+replaced-fewer s c to r test fails x q passes = grind (arith, replica-cases s c to r x q)
 
 -- ---- a move that ends leaves a coherent state
 
@@ -260,10 +229,7 @@ module _ (p : Program) (m : Machine) (s : State) (h : IsSound p m s) (c : Cell) 
   arrived-entries x k = grind (arith, arrived-cases x (AtNode k), coming_by-is, came)
 
   arrived-leaves : (v : Worker) (x : Cell) (q : Place) → is_leaving_by v (replica arrived x q) ≡ true → is_leaving_by v (replica s x q) ≡ true
-  arrived-leaves v x q leaving = elim (arrived-cases x q) [ inl same ↦ sym (ap (is_leaving_by v) same) ∙ leaving | inr (e, at, is) ↦ absurd (false≢true (sym (ap (is_leaving_by v) is) ∙ leaving)) ]
-
-  arrived-comes : (v : Worker) (x : Cell) (k : Node) → is_coming_by v (replica arrived x (AtNode k)) ≡ true → is_coming_by v (replica s x (AtNode k)) ≡ true
-  arrived-comes v x k coming = elim (arrived-cases x (AtNode k)) [ inl same ↦ sym (ap (is_coming_by v) same) ∙ coming | inr (e, at, is) ↦ absurd (false≢true (sym (ap (is_coming_by v) is) ∙ coming)) ]
+  arrived-leaves v x q = replaced-fewer s c to (Valid brought) (is_leaving_by v) refl x q
 
   -- what comes by another worker's claim still comes
   others_come : (v : Worker) (x : Cell) (k : Node) → v ≢ w → is_coming_by v (replica s x (AtNode k)) ≡ true → is_coming_by v (replica arrived x (AtNode k)) ≡ true
@@ -272,9 +238,7 @@ module _ (p : Program) (m : Machine) (s : State) (h : IsSound p m s) (c : Cell) 
   arrived-still_comes : (v : Worker) (x y : Cell) (k : Node) → is_leaving_by v (replica arrived y (AtNode k)) ≡ true → is_coming_by v (replica s x (AtNode k)) ≡ true → is_coming_by v (replica arrived x (AtNode k)) ≡ true
   arrived-still_comes v x y k leaving coming = elim (arrived-cases x (AtNode k)) [
     | inl same ↦ ap (is_coming_by v) same ∙ coming
-    | inr (e, at, is) ↦
-        let own : v ≡ w = coming_by-one v w (replica s c (AtNode k)) (ap (λ (z : Cell). is_coming_by v (replica s z (AtNode k))) (sym e) ∙ coming) (came k at) in
-        absurd (false≢true (sym (arrived-none_leaves k at y (AtNode k)) ∙ ap (λ (u : Worker). is_leaving_by u (replica s y (AtNode k))) (sym own) ∙ arrived-leaves v y (AtNode k) leaving))
+    | inr (e, at, is) ↦ absurd (grind (arith, e, arrived-leaves v y (AtNode k) leaving, coming_by-one v w (replica s c (AtNode k)), came k at, arrived-none_leaves k at y (AtNode k)))
   ]
 
   valid_stays : (x : Cell) (q : Place) → is_valid (replica s x q) ≡ true → is_valid (replica arrived x q) ≡ true
@@ -284,39 +248,25 @@ module _ (p : Program) (m : Machine) (s : State) (h : IsSound p m s) (c : Cell) 
   others : (v : Worker) (x : Transfer) → transfer arrived v ≡ Some x → (v ≢ w) × (transfer s v ≡ Some x)
   others v x under_way = search (arith, arrived, transfer-own, placed, transfer-inside, ending, transfer-cases)
 
-  arrived-moving : TransfersAreSound m arrived
-  arrived-moving =
-      let before = h.coherent.transfers in
-      record {
-        source = λ v x under_way. valid_stays x.cell x.from (before.source v x (others v x under_way).1);
-        target = λ v x under_way. (let old = others v x under_way in to_place v x.cell x.from x.to old.0 (λ d to_d cell at. old.0 (before.apart v w x ending d d old.1 moved.under_way to_d (sym at) cell)) (before.target v x old.1));
-        apart = λ u v x y d e hu hv. before.apart u v x y d e (others u x hu).1 (others v y hv).1;
-      }
+  -- what leaves at a place isn't brought there
+  still_leaves : (v : Worker) (x : Cell) (q : Place) → is_leaving_by v (replica s x q) ≡ true → is_leaving_by v (replica arrived x q) ≡ true
+  still_leaves v x q leaving = elim (arrived-cases x q) [ inl same ↦ ap (is_leaving_by v) same ∙ leaving | inr (e, at, is) ↦ absurd (hollow q at leaving e) ]
     where
-      -- what leaves at a place isn't brought there
-      hollow : (v : Worker) (x : Cell) (q : Place) → x ≡ c → q ≡ to → is_leaving_by v (replica s x q) ≡ true → ⊥
-      hollow v x (AtNode k) e at leaving = false≢true (sym (ap (is_leaving_by v) (coming_by-is w (replica s c (AtNode k)) (came k at))) ∙ ap (λ (y : Cell). is_leaving_by v (replica s y (AtNode k))) (sym e) ∙ leaving)
-      hollow v x (OnDisk d) e at leaving = false≢true (sym (ap (is_leaving_by v) (was_invalid d at)) ∙ ap (λ (y : Cell). is_leaving_by v (replica s y (OnDisk d))) (sym e) ∙ leaving)
+      hollow : (q : Place) → q ≡ to → is_leaving_by v (replica s x q) ≡ true → x ≡ c → ⊥
+      hollow (AtNode k) at leaving e = grind (arith, coming_by-is w (replica s c (AtNode k)), came k at)
+      hollow (OnDisk d) at leaving e = grind (arith, was_invalid d at)
 
-      still_leaves : (v : Worker) (x : Cell) (q : Place) → is_leaving_by v (replica s x q) ≡ true → is_leaving_by v (replica arrived x q) ≡ true
-      still_leaves v x q leaving = elim (arrived-cases x q) [ inl same ↦ ap (is_leaving_by v) same ∙ leaving | inr (e, at, is) ↦ absurd (hollow v x q e at leaving) ]
-
-      to_place : (v : Worker) (x : Cell) (from' to' : Place) → v ≢ w → ((d : DiskNo) → to' ≡ OnDisk d → x ≡ c → OnDisk d ≡ to → ⊥) → IsTransferTo m s v x from' to' → IsTransferTo m arrived v x from' to'
-      to_place v x from' (AtNode k) other alone target = (target.0, others_come v x k other target.1, λ y q. false_from_ne_true (is_leaving_by v (replica arrived y q)) (λ leaving. false≢true (sym (target.2 y q) ∙ arrived-leaves v y q leaving)))
-      to_place v x from' (OnDisk d) other alone target = (still_leaves v x from' target.0, elim (arrived-cases x (OnDisk d)) [ inl stays ↦ stays ∙ target.1 | inr (e, at, is) ↦ absurd (alone d refl e at) ])
+  arrived-moving : TransfersAreSound m arrived
+  arrived-moving = TransfersAreSound-kept m s arrived (λ v x now. (others v x now).1) (λ v x now. valid_stays x.cell x.from) (λ v x k now here. others_come v x.cell k (others v x now).0) (λ v x now. still_leaves v x.cell x.from)
+      (λ v x d now aims. elim (arrived-cases x.cell (OnDisk d)) [ inl same ↦ inr same | inr (e, at, is) ↦ absurd (let old = others v x now in old.0 (h.coherent.transfers.apart v w x ending d d old.1 moved.under_way aims (sym at) e)) ])
+      (λ v x y q now. arrived-leaves v y q) h.coherent.transfers
 
   blocks : HasBlocks p m arrived
   blocks =
       let before = h.coherent.state.blocks in
       record {
-        resting = λ x d v a. elim (arrived-cases x (OnDisk d)) [
-          | inl same ↦ (λ e. (before.resting x d v a).0 (sym same ∙ e), λ e. (before.resting x d v a).1 (sym same ∙ e))
-          | inr (e, at, is) ↦ (λ f. (let k : Valid brought ≡ Coming v = sym is ∙ f in cc), λ f. (let k : Valid brought ≡ Leaving v a = sym is ∙ f in cc))
-        ];
-        home = λ x d valid. elim (arrived-cases x (OnDisk d)) [
-          | inl same ↦ before.home x d (sym (ap is_valid same) ∙ valid)
-          | inr (e, at, is) ↦ ap (disk_of p m) e ∙ before.aimed w ending d moved.under_way (sym at)
-        ];
+        resting = λ x d v a. (λ e. (grind (arith, arrived-cases x (OnDisk d), (before.resting x d v a).0)), λ e. (grind (arith, arrived-cases x (OnDisk d), (before.resting x d v a).1)));
+        home = λ x d valid. (grind (arith, arrived-cases x (OnDisk d), before.home x d, before.aimed w ending d moved.under_way));
         aimed = λ v x d under_way. before.aimed v x d (others v x under_way).1;
       }
 
@@ -343,13 +293,11 @@ module _ (p : Program) (m : Machine) (s : State) (h : IsSound p m s) (c : Cell) 
   arrived-shift = record {
     rows = (search (arith, length-set, nodes-kept, disks-kept));
     blocks = blocks;
-    same_pins = pins-same placed w None;
-    same_scratch = scratch-same placed w None;
-    same_victims = victims-same placed w None;
+    hands = λ v. (pins-same placed w None v, scratch-same placed w None v, victims-same placed w None v);
     same_writes = writes-same s c to (Valid brought);
     same_entries = arrived-entries;
     leaves = arrived-leaves;
-    comes = arrived-comes;
+    comes = λ v x k. replaced-fewer s c to (Valid brought) (is_coming_by v) refl x (AtNode k);
     still_comes = arrived-still_comes;
     pinned = λ v x pin valid. valid_stays x (AtNode (node_of m v)) valid;
     owned = λ x v a own q. elim (arrived-cases x q) [ inl same ↦ same | inr (e, at, is) ↦ absurd (owned_apart x v a own e) ];
@@ -359,11 +307,10 @@ module _ (p : Program) (m : Machine) (s : State) (h : IsSound p m s) (c : Cell) 
     copies = arrived-copies;
   }
 
-  arrived-claims : (t : Task) × (is_claimed_by w (progress s t) ≡ true)
-  arrived-claims = h.coherent.workers.moves_for_claim w ending moved.under_way
-
   pub Ended_moves-keep_coherence : Coherent p m s'
-  Ended_moves-keep_coherence = subst (λ (z : State). Coherent p m z) (sym moved.leaves) (Shifts-coherent p m s h arrived-claims.0 w (claimed_by-is w (progress s arrived-claims.0) arrived-claims.1) arrived.cells arrived.workers arrived-shift)
+  Ended_moves-keep_coherence =
+      let claims = h.coherent.workers.moves_for_claim w ending moved.under_way in
+      subst (λ (z : State). Coherent p m z) (sym moved.leaves) (Shifts-coherent p m s h claims.0 w (claimed_by-is w (progress s claims.0) claims.1) arrived.cells arrived.workers arrived-shift)
 
 -- ---- a drop leaves a coherent state
 
@@ -379,10 +326,7 @@ module _ (p : Program) (m : Machine) (s : State) (h : IsSound p m s) (c : Cell) 
   dropped-entries d k = elim (dropped-cases d (AtNode k)) [ inl same ↦ ap is_entry same | inr (e, at, is, left) ↦ ap is_entry is ∙ sym (leaving-is_none (replica s d (AtNode k)) left) ]
 
   dropped-leaves : (v : Worker) (d : Cell) (q : Place) → is_leaving_by v (replica dropped d q) ≡ true → is_leaving_by v (replica s d q) ≡ true
-  dropped-leaves v d q leaving = elim (dropped-cases d q) [ inl same ↦ sym (ap (is_leaving_by v) same) ∙ leaving | inr (e, at, is, left) ↦ absurd (false≢true (sym (ap (is_leaving_by v) is) ∙ leaving)) ]
-
-  dropped-comes : (v : Worker) (d : Cell) (k : Node) → is_coming_by v (replica dropped d (AtNode k)) ≡ true → is_coming_by v (replica s d (AtNode k)) ≡ true
-  dropped-comes v d k coming = elim (dropped-cases d (AtNode k)) [ inl same ↦ sym (ap (is_coming_by v) same) ∙ coming | inr (e, at, is, left) ↦ absurd (false≢true (sym (ap (is_coming_by v) is) ∙ coming)) ]
+  dropped-leaves v d q = replaced-fewer s c (AtNode n) Invalid (is_leaving_by v) refl d q
 
   dropped-still_comes : (v : Worker) (d : Cell) (k : Node) → is_coming_by v (replica s d (AtNode k)) ≡ true → is_coming_by v (replica dropped d (AtNode k)) ≡ true
   dropped-still_comes v d k coming = elim (dropped-cases d (AtNode k)) [ inl same ↦ ap (is_coming_by v) same ∙ coming | inr (e, at, is, left) ↦ absurd (false≢true (sym (ap is_leaving (coming_by-is v (replica s d (AtNode k)) coming)) ∙ left)) ]
@@ -400,17 +344,10 @@ module _ (p : Program) (m : Machine) (s : State) (h : IsSound p m s) (c : Cell) 
   source_stays v x under_way = elim (dropped-cases x.cell x.from) [ inl same ↦ same | inr (e, at, is, left) ↦ absurd (unread_by v x under_way e at) ]
 
   dropped-moving : TransfersAreSound m dropped
-  dropped-moving =
-      let before = h.coherent.transfers in
-      record {
-        source = λ v x under_way. ap is_valid (source_stays v x under_way) ∙ before.source v x under_way;
-        target = λ v x under_way. to_place v x.cell x.from x.to (source_stays v x under_way) (before.target v x under_way);
-        apart = before.apart;
-      }
-    where
-      to_place : (v : Worker) (d : Cell) (from to : Place) → replica dropped d from ≡ replica s d from → IsTransferTo m s v d from to → IsTransferTo m dropped v d from to
-      to_place v d from (AtNode k) same target = (target.0, dropped-still_comes v d k target.1, λ x q. false_from_ne_true (is_leaving_by v (replica dropped x q)) (λ leaving. false≢true (sym (target.2 x q) ∙ dropped-leaves v x q leaving)))
-      to_place v d from (OnDisk k) same target = (ap (is_leaving_by v) same ∙ target.0, elim (dropped-cases d (OnDisk k)) [ inl same ↦ same ∙ target.1 | inr (e, at, is, left) ↦ is ])
+  dropped-moving = TransfersAreSound-kept m s dropped (λ v x now. now) (λ v x now valid. ap is_valid (source_stays v x now) ∙ valid)
+      (λ v x k now here. dropped-still_comes v x.cell k)
+      (λ v x under_way leaving. ap (is_leaving_by v) (source_stays v x under_way) ∙ leaving) (λ v x d now e. elim (dropped-cases x.cell (OnDisk d)) [ inl same ↦ inr same | inr (e, at, is, left) ↦ inl is ])
+      (λ v x d q under_way. dropped-leaves v d q) h.coherent.transfers
 
   -- another replica of the dropped cell is valid
   elsewhere : (q : Place) × (is_valid (replica dropped c q) ≡ true)
@@ -432,18 +369,13 @@ module _ (p : Program) (m : Machine) (s : State) (h : IsSound p m s) (c : Cell) 
   dropped-shift = record {
     rows = (search (arith, length-set, nodes-kept, disks-kept));
     blocks = HasBlocks-kept p m s dropped (λ d k. elim (dropped-cases d (OnDisk k)) [ inl same ↦ inr same | inr (e, at, is, left) ↦ inl is ]) (λ v. refl) h.coherent.state.blocks;
-    same_pins = λ v. refl;
-    same_scratch = λ v. refl;
-    same_victims = λ v. refl;
+    hands = λ v. (refl, refl, refl);
     same_writes = writes-same s c (AtNode n) Invalid;
     same_entries = dropped-entries;
     leaves = dropped-leaves;
-    comes = dropped-comes;
+    comes = λ v d k. replaced-fewer s c (AtNode n) Invalid (is_coming_by v) refl d (AtNode k);
     still_comes = λ v x d k leaving coming. dropped-still_comes v x k coming;
-    pinned = λ v d pin valid. elim (dropped-cases d (AtNode (node_of m v))) [
-      | inl same ↦ ap is_valid same ∙ valid
-      | inr (e, at, is, left) ↦ absurd (false≢true (sym (h.coherent.pins.stays v d pin) ∙ left))
-    ];
+    pinned = λ v d pin valid. (grind (arith, dropped-cases d (AtNode (node_of m v)), h.coherent.pins.stays v d pin));
     owned = λ d v a own q. (search (arith, dropped-cases, false≢true, owned-fails));
     unmoved = λ d v a own x. own.unmoved x;
     movers = h.coherent.workers.moves_for_claim;
@@ -451,12 +383,8 @@ module _ (p : Program) (m : Machine) (s : State) (h : IsSound p m s) (c : Cell) 
     copies = dropped-copies;
   }
 
-  -- the replica leaves by the claim of a worker
-  by : (w : Worker) × (is_leaving_by w (replica s c (AtNode n)) ≡ true)
-  by = leaving-by_some (replica s c (AtNode n)) drop.leaving
-
-  dropped-claims : (t : Task) × (is_claimed_by by.0 (progress s t) ≡ true)
-  dropped-claims = (h.coherent.workers.evicted by.0 c n by.1).claims
-
   pub Drops-keeps_coherence : Coherent p m s'
-  Drops-keeps_coherence = subst (λ (z : State). Coherent p m z) (sym drop.leaves) (Shifts-coherent p m s h dropped-claims.0 by.0 (claimed_by-is by.0 (progress s dropped-claims.0) dropped-claims.1) dropped.cells dropped.workers dropped-shift)
+  Drops-keeps_coherence =
+      let by = leaving-by_some (replica s c (AtNode n)) drop.leaving in
+      let claims = (h.coherent.workers.evicted by.0 c n by.1).claims in
+      subst (λ (z : State). Coherent p m z) (sym drop.leaves) (Shifts-coherent p m s h claims.0 by.0 (claimed_by-is by.0 (progress s claims.0) claims.1) dropped.cells dropped.workers dropped-shift)

@@ -1,14 +1,16 @@
 -- The opening state is coherent.
-use Rattle.std.proofs.Common.{Option, None, Some, List, [], ap, arith, cond, get_or, inl, inr, length, refl, replicate, suc, sym, true, zero, ℕ, ◌&&◌, ◌<◌, ◌∙◌, ◌≡◌, ◌⊎◌, count_by}
-use Rattle.std.proofs.lemmas.Bool.{cases_lt, false≢true}
+use Rattle.std.proofs.Common.{Option, None, Some, List, [], ap, arith, cond, get_or, inl, inr, length, refl, replicate}
+use Rattle.std.proofs.Common.{suc, sym, true, zero, ℕ, ◌&&◌, ◌<◌, ◌∙◌, ◌≡◌, ◌⊎◌, count_by}
+use Rattle.sj_core.proofs.Words.{AtNode, Cell, CellState, Coming, Invalid, Leaving, Machine, Node, OnDisk, Place}
+use Rattle.sj_core.proofs.Words.{Program, Task, Transfer, Waiting, Worker, WorkerState, cell_state, done_by, has_cell}
+use Rattle.sj_core.proofs.Words.{is_coming_by, is_done, is_entry, is_leaving_by, is_task_of, is_valid, no_replica}
+use Rattle.sj_core.proofs.Words.{opening, order, pins, progress, replica, same_cell, scratch, tasks_of, transfer}
+use Rattle.sj_core.proofs.Words.{worker_state, writes, written_cells, used}
 use Rattle.std.proofs.lemmas.List.{get_or-replicate, get_or_past, length-replicate}
-use Rattle.std.proofs.lemmas.List.Elements.{All-replicate}
-use Rattle.sj_core.proofs.Words.{AtNode, Cell, CellState, Coming, Invalid, Leaving, Machine, Node, OnDisk, Place, Program, Task, Transfer, Waiting, Worker, WorkerState, cell_state, done_by, has_cell, is_coming_by, is_done, is_entry, is_leaving_by, is_task_of, is_valid, no_replica, opening, order, pins, progress, replica, same_cell, scratch, tasks_of, transfer, worker_state, writes, written_cells, used}
+use Rattle.std.proofs.lemmas.{Bool.cases_lt, Bool.false≢true, List.Elements.All-replicate}
 use Rattle.sj_core.specs.Coherent.{Coherent, has_written, is_active, is_begun}
 use Rattle.sj_core.proofs.Reading.{idle_row, no_row, replica_in-no_row}
-use Rattle.sj_core.proofs.Advancing.{claimed-is_mine}
-use Rattle.sj_core.proofs.Replicas.{same_worker-refl}
-use Rattle.sj_core.proofs.Sums.{sum-nothing}
+use Rattle.sj_core.proofs.{Advancing.claimed-is_mine, Replicas.same_worker-refl, Sums.sum-nothing}
 
 all_same : {X : Type 0} (n i : ℕ) (a : X) → get_or (replicate n a) i a ≡ a
 all_same zero i a = refl

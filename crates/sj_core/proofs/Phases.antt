@@ -1,20 +1,21 @@
 -- The phases of a program: which tasks contribute to a cell, and what stands between them.
-use Rattle.std.proofs.Common.{Bool, List, None, Option, Some, ap, arith, get_or, inl, inr, length, not, refl, subst, sym, true, ℕ, ◌<◌, ◌&&◌, ◌∙◌, ◌≡◌, ◌≢◌, ◌≤◌, ◌⊎◌, All, IsTrue, Contains}
+use Rattle.std.proofs.Common.{Bool, List, None, Option, Some, ap, arith, get_or, inl, inr, length, not, refl, subst}
+use Rattle.std.proofs.Common.{sym, true, ℕ, ◌<◌, ◌&&◌, ◌∙◌, ◌≡◌, ◌≢◌, ◌≤◌, ◌⊎◌, All, IsTrue, Contains}
+use Rattle.sj_core.proofs.Words.{Access, Cell, Contribute, Kernel, Mode, Program, R, Read, Redux, Task, W, Worker}
+use Rattle.sj_core.proofs.Words.{copy_of, no_task, task_of, worked_on}
 use Rattle.std.proofs.lemmas.Bool.{and_from, cases_lt}
 use Rattle.std.proofs.lemmas.List.Elements.{All-contains, All-get_or, Contains-get_or}
 use Rattle.sj_base.specs.Mode.{is_scratch}
 use Rattle.sj_codelet.specs.Kernel.{combine_of, contributes_of, has_reduction, init_of, kernel_of}
 use Rattle.sj_codelet.specs.Laws.{DoesContribute, IsReduction}
 use Rattle.sj_deps.specs.Conflict.{Conflict, Uses}
-use Rattle.sj_core.proofs.Words.{Access, Cell, Contribute, Kernel, Mode, Program, R, Read, Redux, Task, W, Worker, copy_of, no_task, task_of, worked_on}
 use Rattle.sj_core.specs.Laws.{IsLawful, is_known}
-use Rattle.sj_core.specs.Proper.{IsContribution, IsCopyOf, IsFirstUnit, IsMember, IsOpenAt, IsPhase, Phase, Proper, access, task_number}
-use Rattle.sj_core.proofs.Combining.{contributing-exchange}
+use Rattle.sj_core.specs.Proper.{IsContribution, IsCopyOf, IsFirstUnit, IsMember, IsOpenAt, IsPhase, Phase, Proper}
+use Rattle.sj_core.specs.Proper.{access, task_number}
 use Rattle.sj_core.proofs.Dependencies.{Proper-dependencies, own-of_phase}
 use Rattle.sj_core.proofs.Updating.{ContributionsExchange, operand-used}
-use Rattle.sj_core.proofs.TaskCells.{operand-inside}
-use Rattle.sj_core.proofs.Readiness.{Contains-filter}
 use Rattle.sj_core.proofs.Sharing.{manner_of, redux-has_copies, contribute_isn't_read}
+use Rattle.sj_core.proofs.{Combining.contributing-exchange, TaskCells.operand-inside, Readiness.Contains-filter}
 
 abbrev pub numbered : ℕ → Task
 numbered n = record { 0 = n }

@@ -1,18 +1,18 @@
 -- What the accessors of a state give after one replica, or one worker's transfer, was written.
-use Rattle.std.proofs.Common.{Bool, List, None, Option, Some, ap, arith, false, get_or, inl, inr, length, map, refl, subst, sym, true, ℕ, ◌<◌, ◌||◌, ◌∙◌, ◌≡◌, ◌≢◌, ◌⊎◌, All, position}
+use Rattle.std.proofs.Common.{Bool, List, None, Option, Some, ap, arith, false, get_or, inl, inr, length, map, subst}
+use Rattle.std.proofs.Common.{sym, true, ℕ, ◌<◌, ◌||◌, ◌∙◌, ◌≡◌, ◌≢◌, ◌⊎◌, All, position}
+use Rattle.sj_core.proofs.Words.{Array, AtNode, Cell, CellState, DiskNo, Invalid, Machine, Node, OnDisk, Place, Program}
+use Rattle.sj_core.proofs.Words.{Replica, State, Transfer, Valid, Worker, WorkerState, cell_state, has_room}
+use Rattle.sj_core.proofs.Words.{is_leaving_by, is_valid, pins, replica, replica_in, scratch, transfer, victims_of}
+use Rattle.sj_core.proofs.Words.{with_replica, with_replica_in, with_transfer, worker_state, writes}
 use Rattle.std.proofs.lemmas.Bool.{cases_eq, cases_lt, false_from_ne_true, false≢true, ltb-false, not-true, or_right}
-use Rattle.std.proofs.lemmas.Bool.Decides.{Decides-eqb}
 use Rattle.std.proofs.lemmas.List.{get_or-set_other, get_or-set_same, get_or_past, length-set}
-use Rattle.std.proofs.lemmas.List.Elements.{All-set}
-use Rattle.std.proofs.lemmas.List.Folds.{list_any-append}
-use Rattle.std.proofs.lemmas.List.Sums.{fails_before_first}
+use Rattle.std.proofs.lemmas.{Bool.Decides.Decides-eqb, List.Elements.All-set, List.Folds.list_any-append}
+use Rattle.std.proofs.lemmas.{List.Sums.fails_before_first}
 use Rattle.std.specs.List.{list_any, range_with_len}
-use Rattle.sj_core.proofs.Words.{Array, AtNode, Cell, CellState, DiskNo, Invalid, Machine, Node, OnDisk, Place, Program, Replica, State, Transfer, Valid, Worker, WorkerState, cell_state, has_room, is_leaving_by, is_valid, pins, replica, replica_in, scratch, transfer, victims_of, with_replica, with_replica_in, with_transfer, worker_state, writes}
-use Rattle.sj_core.specs.Coherent.{HasRows, IsOwnedBy}
-use Rattle.sj_core.specs.Laws.{IsSound}
-use Rattle.sj_core.specs.Step.{places_of, same_place}
-use Rattle.sj_core.proofs.Reading.{idle_row, list_all-has, no_row, replica_in-no_row, same_node, workers_differ, list_any-numbered}
-use Rattle.sj_core.proofs.Replicas.{leaving_by-is}
+use Rattle.sj_core.specs.{Coherent.HasRows, Coherent.IsOwnedBy, Laws.IsSound, Step.places_of, Step.same_place}
+use Rattle.sj_core.proofs.{Reading.idle_row, Reading.list_all-has, Reading.no_row, Reading.replica_in-no_row}
+use Rattle.sj_core.proofs.{Reading.same_node, Reading.workers_differ, Reading.list_any-numbered, Replicas.leaving_by-is}
 
 pub cells_differ : (c d : Cell) → (c ≡ d) ⊎ (c ≢ d)
 cells_differ c d = search (arith, cases_eq)
@@ -59,15 +59,13 @@ module _ (s : State) (c : Cell) (q : Place) (r : Replica) where
   nodes-kept = kept (λ row. length row.nodes) (same q)
     where
       same : (k : Place) (row : CellState) → length (with_replica_in row k r).nodes ≡ length row.nodes
-      same (AtNode n) row = length-set row.nodes n.0 r
-      same (OnDisk d) row = refl
+      same b row = search (arith, length-set)
 
   pub disks-kept : (n : ℕ) → All (λ (row : CellState). length row.disks ≡ n) s.cells → All (λ (row : CellState). length row.disks ≡ n) (with_replica s c q r).cells
   disks-kept = kept (λ row. length row.disks) (same q)
     where
       same : (k : Place) (row : CellState) → length (with_replica_in row k r).disks ≡ length row.disks
-      same (AtNode n) row = refl
-      same (OnDisk d) row = length-set row.disks d.0 r
+      same b row = search (arith, length-set)
 
 -- ---- one transfer
 
@@ -106,8 +104,7 @@ pub same_place-is : (q k : Place) → same_place q k ≡ true → q ≡ k
 same_place-is q k h = search (arith, Decides-eqb, false≢true)
 
 pub same_place-refl : (q : Place) → same_place q q ≡ true
-same_place-refl (AtNode a) = (Decides-eqb a.0 a.0).1 refl
-same_place-refl (OnDisk a) = (Decides-eqb a.0 a.0).1 refl
+same_place-refl b = search (arith, Decides-eqb)
 
 -- each replica of a cell that a worker owns is the valid one, or invalid
 pub owned-cases : (m : Machine) (s : State) (c : Cell) (v : Worker) (a : Array) → IsOwnedBy m s c v a → (q : Place) → (replica s c q ≡ Valid a) ⊎ (replica s c q ≡ Invalid)

@@ -1,16 +1,16 @@
 -- The tasks that are done in a state, as a list and as a test; when a waiting task is ready.
-use Rattle.std.proofs.Common.{◌||◌, Bool, List, [], ap, arith, false, get_or, inl, inr, length, refl, subst, sym, true, ℕ, ◌<◌, ◌∙◌, ◌∷◌, ◌≡◌, ◌⊎◌, map, ◌++◌, not, Contains, filter, AllPairs}
-use Rattle.std.proofs.lemmas.List.Sorted.{Contains-permutation, IsPermutation-filter_both}
-use Rattle.std.proofs.lemmas.List.Elements.{All-contains, All-contains_itself, All-filter, Contains-append_cases, filter_passes}
-use Rattle.std.proofs.lemmas.Bool.{cases_eq, cases_lt, false≢true}
-use Rattle.std.proofs.lemmas.List.{get_or_default, get_or_past, get_or-map, length-map}
-use Rattle.std.proofs.lemmas.List.Folds.{Any-from_list_any}
-use Rattle.std.proofs.lemmas.List.FromFn.{get_or-range_with_len, length-range_with_len}
-use Rattle.std.proofs.lemmas.List.Sums.{AllPass-from_list_all}
-use Rattle.std.specs.List.{list_all, list_any, range_with_len}
+use Rattle.std.proofs.Common.{◌||◌, Bool, List, [], ap, arith, false, get_or, inl, inr, length, refl, subst, sym, true}
+use Rattle.std.proofs.Common.{ℕ, ◌<◌, ◌∙◌, ◌∷◌, ◌≡◌, ◌⊎◌, map, ◌++◌, not, Contains, filter, AllPairs}
 use Rattle.sj_core.proofs.Words.{Program, State, Task, Waiting, done_in, is_done, progress}
+use Rattle.std.proofs.lemmas.List.Elements.{All-contains, All-contains_itself, All-filter, Contains-append_cases}
+use Rattle.std.proofs.lemmas.List.Elements.{filter_passes}
+use Rattle.std.proofs.lemmas.{List.Sorted.Contains-permutation, List.Sorted.IsPermutation-filter_both, Bool.cases_eq}
+use Rattle.std.proofs.lemmas.{Bool.cases_lt, Bool.false≢true, List.get_or_default, List.get_or_past, List.get_or-map}
+use Rattle.std.proofs.lemmas.{List.length-map, List.Folds.Any-from_list_any, List.FromFn.get_or-range_with_len}
+use Rattle.std.proofs.lemmas.{List.FromFn.length-range_with_len, List.Sums.AllPass-from_list_all}
+use Rattle.std.specs.List.{list_all, list_any, range_with_len}
 use Rattle.sj_deps.specs.Conflict.{Ready}
-use Rattle.sj_core.specs.Step.{EarlierAreDone, after, done_tasks}
+use Rattle.sj_core.specs.Step.{EarlierAreDone, done_tasks}
 
 -- what a filter keeps passes the test
 pub filter-Contains : {X : Type 0} (f : X → Bool) (xs : List X) (x : X) → Contains (filter f xs) x → f x ≡ true
@@ -44,11 +44,7 @@ list_any-some test xs h = let found = Any-from_list_any test xs h in (found.1, (
 
 -- of two elements of a list one stands before the other, unless they are one
 pub AllPairs-two : {X : Type 0} (P : X → X → Type 0) (xs : List X) (x y : X) → AllPairs P xs → Contains xs x → Contains xs y → (x ≡ y) ⊎ (P x y ⊎ P y x)
-AllPairs-two {X} P xs x y pairs (i, l, e) (j, k, f) =
-    elim (cases_lt i j) [
-      | inl before ↦ inr (inl (ordered i j x y before k e f))
-      | inr after ↦ (search (arith, cases_eq, get_or_default, get_or, ordered))
-    ]
+AllPairs-two {X} P xs x y pairs (i, l, e) (j, k, f) = search (arith, cases_lt, ordered, cases_eq, get_or_default)
   where
     ordered : (a b : ℕ) (u v : X) → a < b → b < length xs → get_or xs a u ≡ u → get_or xs b v ≡ v → P u v
     ordered a b u v before inside eu ev = subst (λ z. P z v) eu (subst (λ z. P (get_or xs a u) z) (get_or_default xs b u v inside ∙ ev) (pairs a b u before inside))

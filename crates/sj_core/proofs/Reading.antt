@@ -1,13 +1,15 @@
 -- What the accessors of a state give after a claim, a run and an end.
-use Rattle.std.proofs.Common.{Bool, List, None, Option, Some, [], ap, arith, false, get_or, length, map, refl, suc, true, zero, ℕ, ◌&&◌, ◌<◌, ◌||◌, ◌∙◌, ◌∷◌, ◌≡◌, ◌≢◌, ◌⊎◌, if◌then◌else◌}
+use Rattle.std.proofs.Common.{Bool, List, None, Option, Some, [], ap, arith, false, get_or, length, map, refl, suc}
+use Rattle.std.proofs.Common.{true, zero, ℕ, ◌<◌, ◌∙◌, ◌∷◌, ◌≡◌, ◌≢◌, ◌⊎◌, if◌then◌else◌}
+use Rattle.sj_core.proofs.Words.{AtNode, Cell, CellState, Invalid, Machine, Node, Place, Progress, Replica, State, Task}
+use Rattle.sj_core.proofs.Words.{Transfer, Waiting, Worker, WorkerState, cell_state, has_cell, is_entry, is_leaving}
+use Rattle.sj_core.proofs.Words.{moves, progress, replica, replica_in, same_cell, transfer, with_cells, with_progress}
+use Rattle.sj_core.proofs.Words.{with_replica_in, with_worker, worker_state, workers_of}
 use Rattle.std.proofs.lemmas.Bool.{cases_eq, cases_lt, false_from_ne_true, false≢true, not-true}
-use Rattle.std.proofs.lemmas.Bool.Decides.{Decides-eqb}
 use Rattle.std.proofs.lemmas.List.{get_or-set_other, get_or-set_same, get_or_past}
-use Rattle.std.proofs.lemmas.List.Folds.{list_any_at}
 use Rattle.std.proofs.lemmas.List.FromFn.{get_or-map-range_with_len, length-map-range_with_len}
-use Rattle.std.proofs.lemmas.List.Sums.{AllPass-from_list_all}
+use Rattle.std.proofs.lemmas.{Bool.Decides.Decides-eqb, List.Folds.list_any_at, List.Sums.AllPass-from_list_all}
 use Rattle.std.specs.List.{list_all, list_any, range_with_len}
-use Rattle.sj_core.proofs.Words.{AtNode, Cell, CellState, Invalid, Machine, Node, OnDisk, Place, Progress, Replica, State, Task, Transfer, Waiting, Worker, WorkerState, cell_state, has_cell, is_entry, is_leaving, moves, progress, replica, replica_in, same_cell, transfer, with_cells, with_progress, with_replica_in, with_worker, worker_state, workers_of}
 use Rattle.sj_core.specs.Step.{none_leaving}
 use Rattle.sj_core.proofs.Tables.{length-renewed, renewed-at}
 
@@ -44,8 +46,7 @@ pub replica_in-same : (row : CellState) (n : Node) (r : Replica) → n.0 < lengt
 replica_in-same row n r h = get_or-set_same row.nodes n.0 r Invalid h
 
 pub replica_in-no_row : (q : Place) → replica_in no_row q ≡ Invalid
-replica_in-no_row (AtNode n) = refl
-replica_in-no_row (OnDisk d) = refl
+replica_in-no_row b = search arith
 
 -- every cell's row; past the table there is no row before or after
 pub cells-renewed_or : (s : State) (f : Cell → CellState → CellState) (c : Cell) → (cell_state (with_cells s f) c ≡ f c (cell_state s c)) ⊎ ((cell_state s c ≡ no_row) × (cell_state (with_cells s f) c ≡ no_row))
@@ -97,10 +98,7 @@ unmoved-from s v c none = search (arith, false_from_ne_true, same_cell-is)
 -- a test that each cell of a list passes is passed by a cell that the list has
 pub list_all-has : (test : Cell → Bool) (cs : List Cell) (c : Cell) → list_all test cs ≡ true → has_cell cs c ≡ true → test c ≡ true
 list_all-has test [] c all h = absurd (false≢true h)
-list_all-has test (d ∷ cs) c all h = by_cases (test d) (same_cell d c) refl refl all h (list_all-has test cs c)
-  where
-    by_cases : (a b : Bool) → test d ≡ a → same_cell d c ≡ b → (a && list_all test cs) ≡ true → (b || has_cell cs c) ≡ true → (list_all test cs ≡ true → has_cell cs c ≡ true → test c ≡ true) → test c ≡ true
-    by_cases a b passes same all h rest = search (arith, false≢true, same_cell-is)
+list_all-has test (d ∷ cs) c all h = search (arith, false≢true, same_cell-is, (list_all-has test cs c))
 
 -- a test that one of numbered elements passes is passed by some
 pub list_any-numbered : {X : Type 0} (f : ℕ → X) (test : X → Bool) (k n : ℕ) → k < n → test (f k) ≡ true → list_any test (map f (range_with_len 0 n)) ≡ true

@@ -1,21 +1,25 @@
 -- A job with a reduction on two workers: a sum to a scalar of which each has a partial copy. While the phase is open, another
 -- task has the scalar as a scratch buffer, which is no access. The program is proper.
-use Rattle.std.proofs.Common.{Bool, List, None, Option, Some, [], ap, arith, false, get_or, inl, inr, lit<, lit≤, map, not, refl, subst, suc, sym, true, zero, ℕ, ◌&&◌, ◌+◌, ◌<◌, ◌||◌, ◌∷◌, ◌≡◌, ◌≤◌, ◌⊎◌, All, AllPairs, Contains, IsTrue, is_some, nat_eq, nat_le, nat_lt, pos, ◌^◌}
+use Rattle.std.proofs.Common.{Bool, List, None, Option, Some, [], ap, arith, false, get_or, inl, inr, lit<, lit≤, map}
+use Rattle.std.proofs.Common.{not, refl, subst, suc, sym, true, zero, ℕ, ◌&&◌, ◌+◌, ◌<◌, ◌||◌, ◌∷◌, ◌≡◌, ◌≤◌, ◌⊎◌, All}
+use Rattle.std.proofs.Common.{AllPairs, Contains, IsTrue, is_some, nat_eq, nat_le, nat_lt, pos, ◌^◌}
+use Rattle.sj_core.proofs.Words.{Access, Cell, Kernel, Lowered, Mode, Plus, Program, R, RW, Redux, Scratch, Task, W}
+use Rattle.sj_core.proofs.Words.{Worker, area, cell_info, copy_of, data_operands, dims_of, no_task, same_cell, task_of}
 use Rattle.std.proofs.lemmas.Bool.{and_from, and_parts, cases_lt, eqb-true, false≢true, le-leb, ltb-true}
-use Rattle.std.proofs.lemmas.List.{get_or_past}
-use Rattle.std.proofs.lemmas.List.Elements.{All-contains, All-from_get_or, All-from_recursion, All-nil, Contains-append_cases, Contains-get_or}
+use Rattle.std.proofs.lemmas.List.Elements.{All-contains, All-from_get_or, All-from_recursion, All-nil}
+use Rattle.std.proofs.lemmas.List.Elements.{Contains-append_cases, Contains-get_or}
 use Rattle.std.proofs.lemmas.List.FromFn.{get_or-range_with_len, length-range_with_len}
-use Rattle.std.proofs.lemmas.List.Kept.{AllPairs-cons}
-use Rattle.std.proofs.lemmas.List.Sums.{AllPass-from_list_all}
+use Rattle.std.proofs.lemmas.{List.get_or_past, List.Kept.AllPairs-cons, List.Sums.AllPass-from_list_all}
 use Rattle.std.specs.List.{list_all, list_any, range_with_len}
-use Rattle.sj_core.proofs.Words.{Access, Cell, Kernel, Lowered, Mode, Plus, Program, R, RW, Redux, Scratch, Task, W, Worker, area, cell_info, copy_of, data_operands, dims_of, no_task, same_cell, task_of}
 use Rattle.sj_base.specs.Mode.{is_redux, reads_value}
 use Rattle.sj_codelet.specs.Kernel.{fits, kernel_of}
 use Rattle.sj_codelet.specs.declared.kernel.Kernel.TheVariants.{Add, Deliver, GemmThree, InitPlus, Load, Sum}
-use Rattle.sj_core.specs.Proper.{Contributing, Fits, HasDeliveries, HasPhases, HasValueBefore, IsCombine, IsContribution, IsCopyOf, IsInit, IsMember, IsPhase, IsUnaliased, IsWithinLimits, NamesCells, Own, Phase, Proper, ReadsValues, Touches, gives_value, own_modes, task_number}
+use Rattle.sj_core.specs.Proper.{Contributing, Fits, HasDeliveries, HasPhases, HasValueBefore, IsCombine}
+use Rattle.sj_core.specs.Proper.{IsContribution, IsCopyOf, IsInit, IsMember, IsPhase, IsUnaliased, IsWithinLimits}
+use Rattle.sj_core.specs.Proper.{NamesCells, Own, Phase, Proper, ReadsValues, Touches, gives_value, own_modes}
+use Rattle.sj_core.specs.Proper.{task_number}
 use Rattle.sj_core.proofs.Worked.{a_task, access, cell, columns, worker}
-use Rattle.sj_core.proofs.Modes.{then}
-use Rattle.sj_core.proofs.Readiness.{list_any-some}
+use Rattle.sj_core.proofs.{Modes.then, Readiness.list_any-some}
 
 -- x, d and s are loaded; the copies of s are filled, x is added to s by a contribution, and the copies are combined;
 -- d gets x times x times x in between, with s as scratch; s is printed
@@ -89,26 +93,16 @@ names_cells =
 own : (k : Kernel) (l : Lowered) → kernel_of l.codelet ≡ Some k → fits k l.args (map (λ a. dims_of job a.cell) l.accesses) ≡ true → map (λ a. a.mode) l.accesses ≡ own_modes k → Fits job l
 own k l codelet operands modes = record { kernel = k; codelet = codelet; operands = operands; modes = Own modes }
 
+also : {A B : Type 0} → A → B → A × B
+also a b = (a, b)
+
 codelets_fit : All (Fits job) job.tasks
-codelets_fit = All-from_recursion (Fits job) job.tasks (
-  own Load _ refl refl refl,
-  (
-    own Load _ refl refl refl,
-    (
-      own Load _ refl refl refl,
-      (
-        own InitPlus _ refl refl refl,
-        (
-          own InitPlus _ refl refl refl,
-          (
-            record { kernel = Sum; codelet = refl; operands = refl; modes = Contributing Plus refl refl refl },
-            (own GemmThree _ refl refl refl, (own Add _ refl refl refl, (own Add _ refl refl refl, (own Deliver _ refl refl refl, tt)))),
-          ),
-        ),
-      ),
-    ),
-  ),
-)
+codelets_fit = All-from_recursion (Fits job) job.tasks
+    (also (own Load _ refl refl refl) (also (own Load _ refl refl refl) (also (own Load _ refl refl refl)
+    (also (own InitPlus _ refl refl refl) (also (own InitPlus _ refl refl refl)
+    (also (record { kernel = Sum; codelet = refl; operands = refl; modes = Contributing Plus refl refl refl })
+    (also (own GemmThree _ refl refl refl) (also (own Add _ refl refl refl) (also (own Add _ refl refl refl)
+    (also (own Deliver _ refl refl refl) tt))))))))))
 
 abbrev is_read : Mode → Bool
 is_read R = true
@@ -183,8 +177,7 @@ is_phase = record {
     combine w h = search arith
 
     touched : (a : Access) → Touches job (cell 2) a → touches_s a.cell.0 ≡ true
-    touched a (inl e) = ap (λ (c : Cell). touches_s c.0) e
-    touched a (inr (w, copy)) = elim (copies_are a.cell (cell 2) w copy).1 [ inl e ↦ ap (λ (c : Cell). touches_s c.0) e | inr e ↦ ap (λ (c : Cell). touches_s c.0) e ]
+    touched a b = search (arith, copies_are, cell)
 
     member : (n : ℕ) → has (3 ∷ 4 ∷ 5 ∷ 7 ∷ 8 ∷ []) n ≡ true → IsMember phase n
     member n h = elim (Contains-append_cases phase.inits (5 ∷ 7 ∷ 8 ∷ []) n (among (3 ∷ 4 ∷ 5 ∷ 7 ∷ 8 ∷ []) n h)) [

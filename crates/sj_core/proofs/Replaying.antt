@@ -1,15 +1,13 @@
 -- Each step keeps coherence whole, and so does each legal trace; a complete one leaves what all tasks leave in submission order.
 use Rattle.std.proofs.Common.{Bool, List, [], ◌∷◌, subst}
-use Rattle.sj_core.proofs.Words.{AtNode, Claim, Drop, End, Event, Kernel, Machine, Move, Moved, OnDisk, Program, Run, State, opening}
-use Rattle.sj_core.specs.Step.{Step, mover_of}
-use Rattle.sj_core.specs.Legal.{Leads, Replays, IsComplete}
-use Rattle.sj_core.specs.Proper.{Proper, IsMachineFor}
-use Rattle.sj_core.specs.Coherent.{Coherent}
-use Rattle.sj_core.specs.Laws.{IsLawful, IsSound, HoldsFinal}
-use Rattle.sj_core.proofs.Moving.{Drops-keeps_coherence, Moves_in-keep_coherence, Moves_out-keep_coherence, Ended_moves-keep_coherence}
+use Rattle.sj_core.proofs.Words.{AtNode, Claim, Drop, End, Event, Kernel, Machine, Move, Moved, OnDisk, Program, Run}
+use Rattle.sj_core.proofs.Words.{State, opening}
+use Rattle.sj_core.specs.{Step.Step, Step.mover_of, Legal.Leads, Legal.Replays, Legal.IsComplete, Proper.Proper}
+use Rattle.sj_core.specs.{Proper.IsMachineFor, Coherent.Coherent, Laws.IsLawful, Laws.IsSound, Laws.HoldsFinal}
+use Rattle.sj_core.proofs.Moving.{Drops-keeps_coherence, Moves_in-keep_coherence, Moves_out-keep_coherence}
+use Rattle.sj_core.proofs.Moving.{Ended_moves-keep_coherence}
 use Rattle.sj_core.proofs.Coherence.{Claims-keeps_coherence, Runs-keeps_coherence, Lawful_ends-keep_coherence}
-use Rattle.sj_core.proofs.Given.{complete-final}
-use Rattle.sj_core.proofs.Opening.{opening-coherent}
+use Rattle.sj_core.proofs.{Given.complete-final, Opening.opening-coherent}
 
 module _ (p : Program) (m : Machine) (proper : Proper p) (machine : IsMachineFor p m) (has : Kernel → Bool) (lawful : IsLawful has p) where
   sound : (s : State) → Coherent p m s → IsSound p m s

@@ -1,8 +1,8 @@
 -- What a test of one replica says of it.
 use Rattle.std.proofs.Common.{arith, ap, false, refl, sym, true, ◌∙◌, ◌≡◌, ◌⊎◌}
-use Rattle.std.proofs.lemmas.Bool.{false≢true}
-use Rattle.std.proofs.lemmas.Bool.Decides.{Decides-eqb}
-use Rattle.sj_core.proofs.Words.{Array, Coming, Invalid, Leaving, Replica, Valid, Worker, is_coming_by, is_entry, is_leaving, is_leaving_by, is_valid, same_worker}
+use Rattle.sj_core.proofs.Words.{Array, Coming, Invalid, Leaving, Replica, Valid, Worker, is_coming_by, is_entry}
+use Rattle.sj_core.proofs.Words.{is_leaving, is_leaving_by, is_valid, same_worker}
+use Rattle.std.proofs.lemmas.{Bool.false≢true, Bool.Decides.Decides-eqb}
 use Rattle.sj_core.specs.Step.{claimant_of}
 
 pub same_worker-is : (v w : Worker) → same_worker v w ≡ true → v ≡ w

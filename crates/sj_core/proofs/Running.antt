@@ -1,15 +1,15 @@
 -- The beginning of a kernel's run leaves a coherent state.
-use Rattle.std.proofs.Common.{Bool, List, None, Option, Some, arith, false, inl, inr, length, map, not, refl, sym, true, ℕ, ◌&&◌, ◌<◌, ◌||◌, ◌∙◌, ◌≡◌, ◌≢◌, ◌≤◌, ◌⊎◌, ap, subst, All, if◌then◌else◌, nat_eq}
+use Rattle.std.proofs.Common.{Bool, List, Some, arith, false, inl, inr, length, map, not, refl, sym, true, ℕ, ◌<◌, ◌||◌, ◌∙◌, ◌≡◌, ◌≢◌, ◌≤◌, ◌⊎◌, ap, subst, if◌then◌else◌, nat_eq}
 use Rattle.std.proofs.lemmas.Bool.{cases_Bool, false_from_ne_true, false≢true, true_from_ne_false, cond_both}
 use Rattle.std.proofs.lemmas.Bool.Decides.{Decides-eqb}
 use Rattle.std.proofs.lemmas.List.{get_or-set_same, length-map, length-set}
-use Rattle.sj_core.proofs.Words.{Array, AtNode, Cell, CellState, Claimed, Invalid, Machine, Node, OnDisk, Place, Program, Progress, Replica, Running, State, Task, Transfer, Valid, Worker, WorkerState, array_of, cell_state, cells_of, dims_of, fresh_cells, has_cell, is_coming_by, is_entry, is_leaving_by, is_task_of, is_valid, moves, node_of, order, progress, replica, replica_in, same_cell, transfer, worker_of, worker_state, writes, written_cells, zeros}
+use Rattle.sj_core.proofs.Words.{Array, AtNode, Cell, CellState, Claimed, Invalid, Machine, Node, OnDisk, Place, Program, Progress, Replica, Running, State, Task, Transfer, Valid, Worker, WorkerState, array_of, cell_state, cells_of, dims_of, fresh_cells, has_cell, is_coming_by, is_entry, is_leaving_by, is_task_of, is_valid, moves, node_of, order, progress, replica, replica_in, transfer, worker_of, worker_state, writes, written_cells, zeros}
 use Rattle.sj_core.specs.Coherent.{Coherent, CopiesAgree, HasEntries, HasRows, IsStateOf, WritersOwn, content, is_begun, is_being_written}
 use Rattle.sj_core.specs.Laws.{IsSound}
 use Rattle.sj_core.specs.Step.{Runs, array_at, initial, is_moving, owned_at, same_place, without}
-use Rattle.sj_core.proofs.Advancing.{Advances, Runs-advances, Runs-keeps_order, claimed-is_mine, claimed-task_of}
+use Rattle.sj_core.proofs.Advancing.{Advances, Runs-advances, OrderIsKept-advances, claimed-is_mine, claimed-task_of}
 use Rattle.sj_core.proofs.CellLists.{has_cell-without, times, times-filter}
-use Rattle.sj_core.proofs.Changing.{Changes, Changes-coherent, Changes-writers, TransfersAreSound-spared, HasBlocks-kept, place_differs, All-renewed, HasWorkers-kept}
+use Rattle.sj_core.proofs.Changing.{Changes, Changes-coherent, Changes-writers, TransfersAreSound-spared, HasBlocks-kept, HasRows-kept, moves-kept, place_differs, HasWorkers-kept}
 use Rattle.sj_core.proofs.Claimed.{claimed-not_written, claimed-old_value}
 use Rattle.sj_core.proofs.Ending.{content-kept, counted-same, written-undone}
 use Rattle.sj_core.proofs.Dependencies.{Proper-dependencies}
@@ -35,25 +35,16 @@ module _ (p : Program) (m : Machine) (s : State) (t : Task) (w : Worker) (s' : S
   -- what it writes is valid on its worker's node
   pub run-own : (c : Cell) → has_cell (written_cells p t w) c ≡ true → c.0 < length s.cells → (node_of m w).0 < length (cell_state s c).nodes → replica s' c (AtNode (node_of m w)) ≡ Valid (initial p s t w (node_of m w) c)
   run-own c written inside within =
-      let n = node_of m w in
-      let a = initial p s t w n c in
-      ap (λ (z : State). replica z c (AtNode n)) run.leaves
-      ∙ ap (λ (row : CellState). replica_in row (AtNode n)) (cells-touched s (has_cell (written_cells p t w)) owns c inside written)
-      ∙ get_or-set_same (map (λ r. Invalid) (cell_state s c).nodes) n.0 (Valid a) Invalid (omega (arith, length-map (cell_state s c).nodes (λ (r : Replica). Invalid), within))
+      let nowhere : List Replica = map (λ r. Invalid) (cell_state s c).nodes in
+      grind (arith, run.leaves, cells-touched s (has_cell (written_cells p t w)) owns c inside written, get_or-set_same nowhere (node_of m w).0 (Valid (initial p s t w (node_of m w) c)) Invalid, length-map (cell_state s c).nodes (λ (r : Replica). Invalid), within)
 
   -- and nowhere else
   run-written : (c : Cell) (q : Place) → has_cell (written_cells p t w) c ≡ true → (replica s' c q ≡ Invalid) ⊎ ((q ≡ AtNode (node_of m w)) × (replica s' c q ≡ Valid (initial p s t w (node_of m w) c)))
   run-written c q written =
-      let left = ap (λ (z : State). replica z c q) run.leaves in
+      let bare : CellState = record { nodes = map (λ r. Invalid) (cell_state s c).nodes; disks = map (λ r. Invalid) (cell_state s c).disks; writes = writes s c } in
       elim (cells-renewed_or s (λ d row. if has_cell (written_cells p t w) d then owns d row else row) c) [
-        | inr none ↦ inl (left ∙ ap (λ (r : CellState). replica_in r q) none.1 ∙ replica_in-no_row q)
-        | inl row ↦
-            let bare : CellState = record { nodes = map (λ r. Invalid) (cell_state s c).nodes; disks = map (λ r. Invalid) (cell_state s c).disks; writes = writes s c } in
-            let is : replica s' c q ≡ replica_in (owns c (cell_state s c)) q = left ∙ ap (λ (r : CellState). replica_in r q) row ∙ ap (λ b. replica_in (if b then owns c (cell_state s c) else cell_state s c) q) written in
-            elim (replica_in-cases bare (AtNode (node_of m w)) q (Valid (initial p s t w (node_of m w) c))) [
-              | inl same ↦ inl (is ∙ same ∙ nowhere q)
-              | inr (at, valid) ↦ inr (at, is ∙ valid)
-            ]
+        | inr none ↦ inl (grind (arith, run.leaves, none.1, replica_in-no_row q))
+        | inl row ↦ grind (arith, run.leaves, row, written, replica_in-cases bare (AtNode (node_of m w)) q (Valid (initial p s t w (node_of m w) c)), nowhere q)
       ]
     where
       nowhere : (q : Place) → replica_in (record { nodes = map (λ r. Invalid) (cell_state s c).nodes; disks = map (λ r. Invalid) (cell_state s c).disks; writes = writes s c }) q ≡ Invalid
@@ -69,9 +60,6 @@ module _ (p : Program) (m : Machine) (s : State) (t : Task) (w : Worker) (s' : S
 
   pub run-leaving : (v : Worker) (c : Cell) (q : Place) → is_leaving_by v (replica s' c q) ≡ true → is_leaving_by v (replica s c q) ≡ true
   run-leaving v c q leaving = (run-fewer (is_leaving_by v) refl (λ a. refl) c q leaving).1
-
-  pub run-coming : (v : Worker) (c : Cell) (q : Place) → is_coming_by v (replica s' c q) ≡ true → (has_cell (written_cells p t w) c ≡ false) × (is_coming_by v (replica s c q) ≡ true)
-  run-coming v c q coming = run-fewer (is_coming_by v) refl (λ a. refl) c q coming
 
   pub run-worker : (v : Worker) → worker_state s' v ≡ worker_state s v
   run-worker v = ap (λ (z : State). worker_state z v) run.leaves
@@ -122,12 +110,8 @@ module _ (p : Program) (m : Machine) (s : State) (h : IsSound p m s) (t : Task) 
   coming-is_fresh : (c : Cell) (k : Node) → is_coming_by w (replica s c (AtNode k)) ≡ true → has_cell (written_cells p t w) c ≡ true
   coming-is_fresh c k coming =
       let own = h.coherent.pins.coming_claimed w c k coming in
-      let here = h.coherent.pins.coming_here w c k coming in
       let one = h.coherent.workers.one_task own.task t w (claimed-task_of s own.task w own.claimed) mine in
-      let has : has_cell (cells_of p t w) c ≡ true = sym (ap (λ (u : Task). has_cell (cells_of p u w) c) one) ∙ own.cell in
-      true_from_ne_false (has_cell (written_cells p t w) c) (λ spared.
-      (let valid = ap (λ (j : Node). is_valid (replica s c (AtNode j))) here ∙ spared-present c has spared in
-      false≢true (sym (ap is_valid (coming_by-is w (replica s c (AtNode k)) coming)) ∙ valid)))
+      true_from_ne_false (has_cell (written_cells p t w) c) (λ spared. (grind (arith, own.cell, one, h.coherent.pins.coming_here w c k coming, spared-present c, spared, coming_by-is w (replica s c (AtNode k)) coming)))
 
   -- a cell that moves isn't written, and so the worker itself moves none
   pub run-unmoved : (v : Worker) (x : Transfer) → transfer s v ≡ Some x → has_cell (written_cells p t w) x.cell ≡ false
@@ -142,67 +126,46 @@ module _ (p : Program) (m : Machine) (s : State) (h : IsSound p m s) (t : Task) 
   -- ---- the state's own form
 
   run-rows : HasRows p m s'
-  run-rows =
-      let rows = h.coherent.state.rows in
-      let f : ℕ → CellState → CellState = λ k row. let c : Cell = record { 0 = k } in if has_cell (written_cells p t w) c then owned_at (node_of m w) (initial p s t w (node_of m w) c) row else row in
-      record {
-        tasks = ap (λ (z : State). length z.tasks) run.leaves ∙ length-set s.tasks t.0 (Running w) ∙ rows.tasks;
-        cells = ap (λ (z : State). length z.cells) run.leaves ∙ length-renewed f s.cells ∙ rows.cells;
-        orders = ap (λ (z : State). length z.orders) run.leaves ∙ length-renewed (λ i cs. if nat_eq i (node_of m w).0 then cs else without (written_cells p t w) cs) s.orders ∙ rows.orders;
-        workers = ap (λ (z : State). length z.workers) run.leaves ∙ rows.workers;
-        nodes = subst (λ (z : State). All (λ row. length row.nodes ≡ length m.nodes) z.cells) (sym run.leaves) (All-renewed (λ row. length row.nodes ≡ length m.nodes) f s.cells (λ i row e. cond_both (has_cell (written_cells p t w) (record { 0 = i })) _ row (λ (r : CellState). length r.nodes ≡ length m.nodes) (λ b. length-set (map (λ r. Invalid) row.nodes) (node_of m w).0 _ ∙ length-map row.nodes (λ (r : Replica). Invalid) ∙ e) (λ b. e)) rows.nodes);
-        disks = subst (λ (z : State). All (λ row. length row.disks ≡ length m.disks) z.cells) (sym run.leaves) (All-renewed (λ row. length row.disks ≡ length m.disks) f s.cells (λ i row e. cond_both (has_cell (written_cells p t w) (record { 0 = i })) _ row (λ (r : CellState). length r.disks ≡ length m.disks) (λ b. length-map row.disks (λ (r : Replica). Invalid) ∙ e) (λ b. e)) rows.disks);
-      }
-
-  entries-here : (c : Cell) (b : Bool) → has_cell (written_cells p t w) c ≡ b → has_cell (order s (node_of m w)) c ≡ is_entry (replica s' c (AtNode (node_of m w)))
-  entries-here c true written = h.coherent.state.entries.entries (node_of m w) c ∙ entry c written ∙ sym (ap is_entry (own c written))
-  entries-here c false spared = h.coherent.state.entries.entries (node_of m w) c ∙ sym (ap is_entry (run-other p m s t w s' run c (AtNode (node_of m w)) spared))
-
-  entries-elsewhere : (k : Node) (c : Cell) → k ≢ node_of m w → (b : Bool) → has_cell (written_cells p t w) c ≡ b → (not b && has_cell (order s k) c) ≡ is_entry (replica s' c (AtNode k))
-  entries-elsewhere k c d true written = sym (ap is_entry (run-only p m s t w s' run c (AtNode k) written (place_differs k (node_of m w) d)))
-  entries-elsewhere k c d false spared = h.coherent.state.entries.entries k c ∙ sym (ap is_entry (run-other p m s t w s' run c (AtNode k) spared))
+  run-rows = HasRows-kept p m s s' _ (ap (λ (z : State). z.cells) run.leaves)
+      (λ i row. (
+        cond_both (has_cell (written_cells p t w) (record { 0 = i })) _ row (λ (r : CellState). length r.nodes ≡ length row.nodes) (λ b. length-set (map (λ r. Invalid) row.nodes) (node_of m w).0 _ ∙ length-map row.nodes (λ (r : Replica). Invalid)) (λ b. refl),
+        cond_both (has_cell (written_cells p t w) (record { 0 = i })) _ row (λ (r : CellState). length r.disks ≡ length row.disks) (λ b. length-map row.disks (λ (r : Replica). Invalid)) (λ b. refl),
+      ))
+      (ap (λ (z : State). length z.tasks) run.leaves ∙ length-set s.tasks t.0 (Running w))
+      (ap (λ (z : State). length z.orders) run.leaves ∙ length-renewed (λ i cs. if nat_eq i (node_of m w).0 then cs else without (written_cells p t w) cs) s.orders) (ap (λ (z : State). length z.workers) run.leaves) h.coherent.state.rows
 
   run-entries : HasEntries s'
   run-entries = record {
     entries = λ k c. elim (same_node k (node_of m w)) [
-      | inl e ↦ subst (λ (j : Node). has_cell (order s' j) c ≡ is_entry (replica s' c (AtNode j))) (sym e) (ap (λ (cs : List Cell). has_cell cs c) (run-order_here p m s t w s' run) ∙ entries-here c (has_cell (written_cells p t w) c) refl)
-      | inr d ↦ ap (λ (cs : List Cell). has_cell cs c) (run-order_elsewhere p m s t w s' run k d) ∙ has_cell-without (written_cells p t w) (order s k) c ∙ entries-elsewhere k c d (has_cell (written_cells p t w) c) refl
+      | inl e ↦ grind (arith, e, run-order_here p m s t w s' run, cases_Bool (has_cell (written_cells p t w) c), run-other p m s t w s' run c (AtNode k), own c, entry c, h.coherent.state.entries.entries k c)
+      | inr d ↦ grind (arith, run-order_elsewhere p m s t w s' run k d, has_cell-without (written_cells p t w) (order s k) c, run-other p m s t w s' run c (AtNode k), run-only p m s t w s' run c (AtNode k), place_differs k (node_of m w) d, h.coherent.state.entries.entries k c)
     ];
     once = λ k c. elim (same_node k (node_of m w)) [
       | inl e ↦ subst (λ (j : Node). times (order s' j) c ≤ 1) (sym e) (subst (λ (cs : List Cell). times cs c ≤ 1) (sym (run-order_here p m s t w s' run)) (h.coherent.state.entries.once (node_of m w) c))
       | inr d ↦
-          let fewer : times (without (written_cells p t w) (order s k)) c ≤ times (order s k) c = times-filter (λ x. not (has_cell (written_cells p t w) x)) (order s k) c in
-          let before : times (order s k) c ≤ 1 = h.coherent.state.entries.once k c in
-          subst (λ (cs : List Cell). times cs c ≤ 1) (sym (run-order_elsewhere p m s t w s' run k d)) (omega arith)
+          let fewer = times-filter (λ x. not (has_cell (written_cells p t w) x)) (order s k) c in
+          grind (arith, run-order_elsewhere p m s t w s' run k d, fewer, h.coherent.state.entries.once k c)
     ];
   }
-
-  -- a replica elsewhere is gone, or as it was
-  either : (c : Cell) (q : Place) → not (same_place q (AtNode (node_of m w))) ≡ true → (replica s' c q ≡ Invalid) ⊎ (replica s' c q ≡ replica s c q)
-  either c q away = elim (cases_Bool (has_cell (written_cells p t w) c)) [ inl written ↦ inl (run-only p m s t w s' run c q written away) | inr spared ↦ inr (run-other p m s t w s' run c q spared) ]
 
   run-state : IsStateOf p m s'
   run-state = record {
     rows = run-rows;
     entries = run-entries;
-    blocks = HasBlocks-kept p m s s' (λ c d. either c (OnDisk d) refl) (run-transfer p m s t w s' run) h.coherent.state.blocks;
+    blocks = HasBlocks-kept p m s s' (λ c d. elim (cases_Bool (has_cell (written_cells p t w) c)) [ inl written ↦ inl (run-only p m s t w s' run c (OnDisk d) written refl) | inr spared ↦ inr (run-other p m s t w s' run c (OnDisk d) spared) ]) (run-transfer p m s t w s' run) h.coherent.state.blocks;
     staff = HasWorkers-kept p s s' t (Claimed w) (Running w) advance (subst (λ (x : Progress). (worker_of x).0 < p.workers) run.claimed (h.coherent.state.staff.staffed t (ap is_begun run.claimed))) h.coherent.state.staff;
   }
 
   -- ---- the change
 
   fewer_entries : (c : Cell) (k : Node) → is_entry (replica s' c (AtNode k)) ≡ true → is_entry (replica s c (AtNode k)) ≡ true
-  fewer_entries c k now = elim (cases_Bool (has_cell (written_cells p t w) c)) [
-    | inr spared ↦ sym (ap is_entry (run-other p m s t w s' run c (AtNode k) spared)) ∙ now
-    | inl written ↦ elim (run-written p m s t w s' run c (AtNode k) written) [ inl none ↦ absurd (false≢true (sym (ap is_entry none) ∙ now)) | inr (at, is) ↦ ap (λ (q : Place). is_entry (replica s c q)) at ∙ entry c written ]
-  ]
+  fewer_entries c k now = grind (arith, cases_Bool (has_cell (written_cells p t w) c), run-other p m s t w s' run c (AtNode k), run-written p m s t w s' run c (AtNode k), entry c)
 
   -- what comes by the claim of a worker whose victims leave still comes
   still_comes : (v : Worker) (c d : Cell) (k : Node) → is_leaving_by v (replica s' d (AtNode k)) ≡ true → is_coming_by v (replica s c (AtNode k)) ≡ true → is_coming_by v (replica s' c (AtNode k)) ≡ true
   still_comes v c d k leaving coming =
-      let before = run-leaving p m s t w s' run v d (AtNode k) leaving in
       let claimed = h.coherent.pins.coming_claimed v c k coming in
-      let other : claimed.task ≢ t = λ e. (let same : Claimed v ≡ Claimed w = sym claimed.claimed ∙ ap (λ (u : Task). progress s u) e ∙ run.claimed in let is : v ≡ w = cc in false≢true (sym (none_leaves d (AtNode k)) ∙ ap (λ (x : Worker). is_leaving_by x (replica s d (AtNode k))) (sym is) ∙ before)) in
+      let other : claimed.task ≢ t = λ e. (let same : Claimed v ≡ Claimed w = sym claimed.claimed ∙ ap (λ (u : Task). progress s u) e ∙ run.claimed in let is : v ≡ w = cc in grind (arith, is, none_leaves d (AtNode k), run-leaving p m s t w s' run v d (AtNode k) leaving)) in
       ap (is_coming_by v) (run-other p m s t w s' run c (AtNode k) (run-spares claimed.task v c other (claimed-task_of s claimed.task v claimed.claimed) claimed.cell)) ∙ coming
 
   pub run-change : Changes p m s s' t (Claimed w) (Running w) w
@@ -215,19 +178,19 @@ module _ (p : Program) (m : Machine) (s : State) (h : IsSound p m s) (t : Task) 
     victims = λ v. ap (λ (row : WorkerState). row.victims) (run-worker p m s t w s' run v);
     entries = fewer_entries;
     leaves = run-leaving p m s t w s' run;
-    comes = λ v c k coming. (run-coming p m s t w s' run v c (AtNode k) coming).1;
+    comes = λ v c k coming. (run-fewer p m s t w s' run (is_coming_by v) refl (λ a. refl) c (AtNode k) coming).1;
     still_comes = still_comes;
     moves_on = λ v x under_way. h.coherent.workers.moves_for_claim v x (sym (run-transfer p m s t w s' run v) ∙ under_way);
     claims_on = λ claimed. inl (
       λ c k. false_from_ne_true (is_leaving_by w (replica s' c (AtNode k))) (λ leaving. false≢true (sym (none_leaves c (AtNode k)) ∙ run-leaving p m s t w s' run w c (AtNode k) leaving)),
-      λ c k. false_from_ne_true (is_coming_by w (replica s' c (AtNode k))) (λ coming. (let was = run-coming p m s t w s' run w c (AtNode k) coming in false≢true (sym was.0 ∙ coming-is_fresh c k was.1))),
+      λ c k. false_from_ne_true (is_coming_by w (replica s' c (AtNode k))) (λ coming. (let was = run-fewer p m s t w s' run (is_coming_by w) refl (λ a. refl) c (AtNode k) coming in false≢true (sym was.0 ∙ coming-is_fresh c k was.1))),
       λ x under_way. moves_none x (sym (run-transfer p m s t w s' run w) ∙ under_way),
     );
     stays = λ u v c d has cell. (let same = run-other p m s t w s' run c (AtNode (node_of m v)) (run-spares u v c d has cell) in (λ was. ap is_entry same ∙ was, λ was. ap is_valid same ∙ was));
     claimed = λ c e has. absurd (let f : Running w ≡ Claimed w = e in cc);
     running = λ c e has. elim (cases_Bool (has_cell (written_cells p t w) c)) [ inl written ↦ ap is_valid (own c written) | inr spared ↦ ap is_valid (run-other p m s t w s' run c (AtNode (node_of m w)) spared) ∙ spared-present c has spared ];
-    transfers = TransfersAreSound-spared p m s s' (has_cell (written_cells p t w)) (run-other p m s t w s' run) (run-leaving p m s t w s' run) (run-transfer p m s t w s' run) run-unmoved h.coherent.transfers;
-    order = Runs-keeps_order p m s t w s' run h.coherent.order;
+    transfers = TransfersAreSound-spared m s s' (has_cell (written_cells p t w)) (run-other p m s t w s' run) (run-leaving p m s t w s' run) (run-transfer p m s t w s' run) run-unmoved h.coherent.transfers;
+    order = OrderIsKept-advances p s s' t (Claimed w) (Running w) advance refl refl (claimed-is_mine w) refl h.coherent.order;
     counts = record { counted = λ c. run-writes c ∙ h.coherent.counts.counted c ∙ sym (counted-same p s s' c (λ u. written-undone p s s' c t u (Claimed w) (Running w) advance refl refl)) };
   }
     where
@@ -247,19 +210,16 @@ module _ (p : Program) (m : Machine) (s : State) (h : IsSound p m s) (t : Task) 
       let some = claimed-old_value p m s h t w run.claimed c has not_fresh in
       array-told (array_of (replica s c (AtNode (node_of m w)))) (content p s c) (zeros (dims_of p c)) (present c has not_fresh) (h.coherent.copies.alike c (AtNode (node_of m w)) some (claimed-not_written p m s h t w run.claimed c has)) ∙ sym (run-content c)
 
-  run-moves : (v : Worker) (c : Cell) → moves s' v c ≡ moves s v c
-  run-moves v c = ap (λ (o : Option Transfer). elim o as (λ _. Bool) [ None ↦ false | Some x ↦ same_cell x.cell c ]) (run-transfer p m s t w s' run v)
-
   run-writers : WritersOwn p m s'
   run-writers = Changes-writers p m s h s' t (Claimed w) (Running w) w run-change
       (λ u v c d runs written.
       (let spared = run-spares u v c d (ap (is_task_of v) runs ∙ same_worker-refl v) (written-among_cells p u v c written) in
-      (λ q. run-other p m s t w s' run c q spared, λ x. run-moves x c ∙ (h.coherent.writers.owned u v c runs written).unmoved x, run-content c)))
+      (λ q. run-other p m s t w s' run c q spared, λ x. moves-kept s s' x c (run-transfer p m s t w s' run x) ∙ (h.coherent.writers.owned u v c runs written).unmoved x, run-content c)))
       (λ c e written. record {
         valid = own c written ∙ ap (λ (x : Array). Valid x) (run-initial c written (has_cell (fresh_cells p t w) c) refl);
         only = λ q away. run-only p m s t w s' run c q written away;
         pinned = ap (λ (row : WorkerState). has_cell row.pins c) (run-worker p m s t w s' run w) ∙ h.coherent.cells.pinned t w c mine (written-among_cells p t w c written);
-        unmoved = λ v. run-moves v c ∙ unmoved-from s v c (λ x under_way e. false≢true (sym (run-unmoved v x under_way) ∙ ap (has_cell (written_cells p t w)) e ∙ written));
+        unmoved = λ v. moves-kept s s' v c (run-transfer p m s t w s' run v) ∙ unmoved-from s v c (λ x under_way e. false≢true (sym (run-unmoved v x under_way) ∙ ap (has_cell (written_cells p t w)) e ∙ written));
       })
 
   pub run-rested : (c : Cell) → is_being_written p s' c ≡ false → is_being_written p s c ≡ false

@@ -1,21 +1,20 @@
 -- Claimed and running tasks keep apart: none writes a cell on which another works. And a claim keeps the order of tasks.
-use Rattle.std.proofs.Common.{Bool, ap, arith, get_or, inl, inr, length, not, subst, sym, true, ℕ, ◌&&◌, ◌<◌, ◌∙◌, ◌≡◌, ◌≢◌, IsTrue, if◌then◌else◌}
-use Rattle.std.proofs.lemmas.Bool.{cases_eq, cases_lt, false≢true, true≢false}
-use Rattle.std.proofs.lemmas.Bool.Decides.{Decides-eqb}
-use Rattle.std.proofs.lemmas.List.Folds.{list_any_at}
-use Rattle.std.proofs.lemmas.List.FromFn.{get_or-map-range_with_len, length-map-range_with_len}
+use Rattle.std.proofs.Common.{Bool, ap, arith, inl, inr, length, not, subst, sym, true, ℕ, ◌&&◌, ◌<◌, ◌∙◌, ◌≡◌, ◌≢◌}
+use Rattle.std.proofs.Common.{IsTrue, if◌then◌else◌}
+use Rattle.sj_core.proofs.Words.{Cell, Claimed, Machine, Program, Progress, State, Task, Waiting, Worker, cells_of}
+use Rattle.sj_core.proofs.Words.{commuting_cells, copy_of, has_cell, is_done, is_task_of, progress, task_of, worked_on}
+use Rattle.sj_core.proofs.Words.{worker_of, written_cells}
+use Rattle.std.proofs.lemmas.{Bool.cases_lt, Bool.false≢true, Bool.true≢false, Bool.Decides.Decides-eqb}
 use Rattle.sj_base.specs.Mode.{is_commute, is_written}
-use Rattle.sj_core.proofs.Words.{Cell, Claimed, Machine, Program, Progress, State, Task, Waiting, Worker, cells_of, commuting_cells, copy_of, has_cell, is_done, is_task_of, progress, task_of, tasks_of, worked_on, worker_of, written_cells}
 use Rattle.sj_deps.specs.Conflict.{HasDependencies}
 use Rattle.sj_core.specs.Coherent.{IsStateOf, OrderIsKept, SharesCommuting, WorkersAreSound, is_active}
-use Rattle.sj_core.specs.Proper.{NamesCells}
-use Rattle.sj_core.specs.Step.{Claims, after, is_in_use}
-use Rattle.sj_core.proofs.Advancing.{Advances, Claims-advances, Claims-keeps_earlier, active-begun, active_isn't_done, apart-from_earlier, idle-has_none, same_task, task_of-active, task_of-worker}
-use Rattle.sj_core.proofs.Modes.{commute_isn't_redux, commutes_is_written}
-use Rattle.sj_core.proofs.Readiness.{Ready-earlier}
-use Rattle.sj_core.proofs.Reading.{list_all-has, progress-inside}
-use Rattle.sj_core.proofs.Sharing.{Commuting, Conflicting, Contributing, Sharing, operand-has_cell, operand_for, sharing}
-use Rattle.sj_core.proofs.TaskCells.{written-among_cells}
+use Rattle.sj_core.specs.{Proper.NamesCells, Step.Claims, Step.after, Step.is_in_use}
+use Rattle.sj_core.proofs.Advancing.{Advances, Claims-advances, Claims-keeps_earlier, active-begun, active_isn't_done}
+use Rattle.sj_core.proofs.Advancing.{apart-from_earlier, idle-has_none, same_task, task_of-active, task_of-worker}
+use Rattle.sj_core.proofs.{Modes.commute_isn't_redux, Modes.commutes_is_written, Readiness.Ready-earlier}
+use Rattle.sj_core.proofs.{Reading.list_all-has, Reading.list_any-numbered, Reading.progress-inside, Sharing.Commuting}
+use Rattle.sj_core.proofs.{Sharing.Conflicting, Sharing.Contributing, Sharing.Sharing, Sharing.operand-has_cell}
+use Rattle.sj_core.proofs.{Sharing.operand_for, Sharing.sharing, TaskCells.written-among_cells}
 
 active-isn't_waiting : (x : Progress) → is_active x ≡ true → x ≢ Waiting
 active-isn't_waiting x h e = false≢true (sym (ap is_active e) ∙ h)
@@ -33,10 +32,8 @@ commuting-among_written p t w c h =
 -- a claimed or running task's cells are in use
 pub in_use : (p : Program) (s : State) (u : Task) (c : Cell) → u.0 < length p.tasks → is_active (progress s u) ≡ true → has_cell (cells_of p u (worker_of (progress s u))) c ≡ true → is_in_use p s c ≡ true
 in_use p s u c inside active has =
-    let number : ℕ → Task = λ n. record { 0 = n } in
     let test : Task → Bool = λ t. is_task_of (worker_of (progress s t)) (progress s t) && has_cell (cells_of p t (worker_of (progress s t))) c in
-    let at_u : get_or (tasks_of p) u.0 u ≡ u = get_or-map-range_with_len number 0 (length p.tasks) u.0 u.0 u inside (omega arith) in
-    list_any_at test (tasks_of p) u.0 u (omega (arith, length-map-range_with_len number 0 (length p.tasks))) (ap test at_u ∙ ap (λ b. b && has_cell (cells_of p u (worker_of (progress s u))) c) active ∙ has)
+    list_any-numbered (λ n. record { 0 = n }) test u.0 (length p.tasks) inside (ap (λ b. b && has_cell (cells_of p u (worker_of (progress s u))) c) active ∙ has)
 
 module _ (p : Program) (m : Machine) (names : NamesCells p) (deps : HasDependencies p) (s : State) (state : IsStateOf p m s) (sound : WorkersAreSound p m s) (kept : OrderIsKept p s) where
   task-inside : (t : Task) → is_active (progress s t) ≡ true → t.0 < length p.tasks
@@ -47,18 +44,14 @@ module _ (p : Program) (m : Machine) (names : NamesCells p) (deps : HasDependenc
 
   -- no claimed or running task works on a cell that another one writes
   pub separated : (u t : Task) (v w : Worker) (c : Cell) → u ≢ t → is_task_of v (progress s u) ≡ true → is_task_of w (progress s t) ≡ true → has_cell (cells_of p u v) c ≡ true → has_cell (written_cells p t w) c ≡ true → ⊥
-  separated u t v w c d hu ht cu ct =
-      let au = task_of-active v (progress s u) hu in
-      let at = task_of-active w (progress s t) ht in
-      by_sharing (sharing p names deps u t v w c (task-inside u au) (task-inside t at) (worker-inside u v hu) (worker-inside t w ht) cu ct) au at
+  separated u t v w c d hu ht cu ct = search (arith, task_of-active, by_sharing, sharing, task-inside, worker-inside)
     where
       by_sharing : Sharing p u t v w c → is_active (progress s u) ≡ true → is_active (progress s t) ≡ true → ⊥
       by_sharing (Conflicting forward backward) au at = elim (cases_lt u.0 t.0) [
         | inl before ↦ kept.apart t u at au before forward
-        | inr after ↦ elim (cases_eq u.0 t.0) [
-          | inl e ↦ d (ap (λ (i : ℕ). let j : Task = record { 0 = i } in j) e)
-          | inr differ ↦ kept.apart u t au at (omega (arith, differ)) backward
-        ]
+        | inr after ↦
+            let differ : u.0 ≢ t.0 = λ e. d (ap (λ (i : ℕ). let j : Task = record { 0 = i } in j) e) in
+            kept.apart u t au at (omega (arith, after, differ)) backward
       ]
       by_sharing (Commuting hu' ht') au at = kept.commuting t u at au (λ e. d (sym e)) (record { cell = c; commuting = ht'; shared = subst (λ (x : Worker). IsTrue (has_cell (cells_of p u x) c)) (sym (task_of-worker v (progress s u) hu)) cu })
       by_sharing (Contributing e) au at = d (sound.one_task u t w (subst (λ (x : Worker). IsTrue (is_task_of x (progress s u))) e hu) ht)
@@ -80,17 +73,14 @@ module _ (p : Program) (m : Machine) (names : NamesCells p) (deps : HasDependenc
     -- nor has the claimed task a commuting cell of another active one
     claim-apart : (u : Task) (c : Cell) → is_active (progress s u) ≡ true → has_cell (commuting_cells p u) c ≡ true → has_cell (cells_of p t w) c ≡ true → ⊥
     claim-apart u c active commutes has =
-        let v = worker_of (progress s u) in
-        let written = commuting-among_written p u v c commutes in
-        by_sharing (sharing p names deps t u w v c claim.ready.task (task-inside u active) staffed (worker-inside u v active) has written) written
+        search (arith, commuting-among_written, by_sharing, sharing, task-inside, worker-inside)
       where
         by_sharing : Sharing p t u w (worker_of (progress s u)) c → has_cell (written_cells p u (worker_of (progress s u))) c ≡ true → ⊥
         by_sharing (Conflicting forward backward) written = elim (cases_lt u.0 t.0) [
           | inl before ↦ true≢false (sym (Ready-earlier p s t claim.ready u before backward) ∙ active_isn't_done (progress s u) active)
-          | inr after ↦ elim (cases_eq u.0 t.0) [
-            | inl e ↦ active-isn't_waiting (progress s u) active (ap (λ (i : ℕ). let j : Task = record { 0 = i } in progress s j) e ∙ claim.waiting)
-            | inr differ ↦ true≢false (sym (kept.earlier u (active-begun (progress s u) active) t (omega (arith, differ)) forward) ∙ ap is_done claim.waiting)
-          ]
+          | inr after ↦
+              let differ : u.0 ≢ t.0 = λ e. active-isn't_waiting (progress s u) active (ap (λ (i : ℕ). let j : Task = record { 0 = i } in progress s j) e ∙ claim.waiting) in
+              true≢false (sym (kept.earlier u (active-begun (progress s u) active) t (omega (arith, after, differ)) forward) ∙ ap is_done claim.waiting)
         ]
         by_sharing (Commuting ht hu) written = claim-alone u c active ht (written-among_cells p u (worker_of (progress s u)) c written)
         by_sharing (Contributing e) written = false≢true (sym (idle-has_none s w u claim.idle) ∙ ap (λ (x : Worker). is_task_of x (progress s u)) e ∙ active)
@@ -111,6 +101,4 @@ module _ (p : Program) (m : Machine) (names : NamesCells p) (deps : HasDependenc
 
     -- a claim keeps the order of conflicting tasks
     pub Claims-keeps_order : OrderIsKept p s'
-    Claims-keeps_order =
-        let earlier = Claims-keeps_earlier p m s t w s' state.rows claim kept in
-        record { earlier = earlier; apart = apart-from_earlier p s' earlier; commuting = claim-commuting }
+    Claims-keeps_order = search (arith, Claims-keeps_earlier, apart-from_earlier, claim-commuting)

@@ -1,6 +1,6 @@
 -- Two tasks that work on one cell, of which one writes it: they conflict, or commute, or contribute by one worker.
 use Rattle.std.proofs.Common.{Bool, List, None, Option, Some, [], ap, arith, inl, inr, length, map, not, refl, subst, suc, sym, true, zero, ℕ, ◌+◌, ◌<◌, ◌∙◌, ◌∷◌, ◌≡◌, ◌≢◌, ◌⊎◌, Contains, filter, flat_map, IsTrue, is_some, option_and_then, slice_get}
-use Rattle.std.proofs.lemmas.Bool.{false≢true}
+use Rattle.std.proofs.lemmas.Bool.{cases_eq, false≢true}
 use Rattle.std.proofs.lemmas.Bool.Decides.{Decides-eqb}
 use Rattle.std.proofs.lemmas.List.Elements.{Contains-append_left, Contains-append_right}
 use Rattle.std.proofs.lemmas.List.Folds.{list_any_at}
@@ -8,7 +8,7 @@ use Rattle.std.proofs.lemmas.List.FromFn.{get_or-range_with_len, length-range_wi
 use Rattle.std.proofs.lemmas.Option.{slice_get-get_or}
 use Rattle.std.specs.List.{range_with_len}
 use Rattle.sj_base.specs.Mode.{is_commute, is_redux, is_scratch, is_written}
-use Rattle.sj_core.proofs.Words.{Access, Cell, CellInfo, Codelet, Commute, CommuteMode, Contribute, Lowered, Manner, Mode, Program, R, RW, Read, Redux, Scratch, Task, Usage, W, Worker, Write, cell_info, cells_of, commuting_cells, copy_of, has_cell, no_cell, no_task, same_cell, task_of, worked_on, writes, written_cells}
+use Rattle.sj_core.proofs.Words.{Access, Cell, CellInfo, Codelet, Commute, CommuteMode, Contribute, Lowered, Manner, Mode, Program, R, RW, Read, Redux, Scratch, Task, Usage, W, Worker, Write, cell_info, cells_of, commuting_cells, copy_of, has_cell, no_cell, no_task, same_cell, task_of, worked_on, written_cells}
 use Rattle.sj_deps.specs.Conflict.{Conflict, HasDependencies, IsShared, SameGroup, Uses, copies_of, usage, usages, usages_of}
 use Rattle.sj_core.specs.Proper.{NamesCells, access}
 use Rattle.sj_core.proofs.Modes.{written_isn't_scratch}
@@ -66,14 +66,10 @@ copy-among p d first v inside has h =
     subst P (sym got) (subst Q (sym has) (v.0, omega (arith, length-range_with_len first.0 p.workers), get_or-range_with_len first.0 p.workers v.0 (first.0 + v.0) h))
 
 pub operand-uses : (p : Program) (t : Task) (v : Worker) (x : Mode) (d : Cell) → t.0 < length p.tasks → Contains (task_of p t).accesses (access x d) → not (is_scratch x) ≡ true → (is_redux x ≡ true → (v.0 < p.workers) × (d.0 < length p.cells) × ((first : Cell) × ((cell_info p d).partials ≡ Some first))) → Uses p t.0 (worked_on p v (access x d)).0 (manner_of (task_of p t).codelet x)
-operand-uses p t v R d inside h accessed copies = used_by_operand p t (access R d) (usage Read d.0) inside h (one (usage Read d.0))
-operand-uses p t v W d inside h accessed copies = used_by_operand p t (access W d) (usage Write d.0) inside h (one (usage Write d.0))
-operand-uses p t v RW d inside h accessed copies = used_by_operand p t (access RW d) (usage Write d.0) inside h (one (usage Write d.0))
-operand-uses p t v Scratch d inside h accessed copies = absurd (false≢true accessed)
-operand-uses p t v CommuteMode d inside h accessed copies = used_by_operand p t (access CommuteMode d) (usage (Commute (task_of p t).codelet) d.0) inside h (one (usage (Commute (task_of p t).codelet) d.0))
 operand-uses p t v Redux d inside h accessed copies =
     let c = copies refl in
     used_by_operand p t (access Redux d) (usage Contribute (copy_of p d v).0) inside h (Contains-map (usage Contribute) (copies_of p d.0) (copy_of p d v).0 (copy-among p d c.2.0 v c.1 c.2.1 c.0))
+operand-uses p t v x d inside h accessed copies = search (arith, used_by_operand, one, false≢true)
 
 -- ---- two tasks and one cell
 
@@ -83,28 +79,51 @@ pub data Sharing (p : Program) (u t : Task) (v w : Worker) (c : Cell) : Type 0 w
   Commuting : IsTrue (has_cell (commuting_cells p u) c) → IsTrue (has_cell (commuting_cells p t) c) → Sharing p u t v w c
   Contributing : v ≡ w → Sharing p u t v w c
 
+has-some : (o : Option Cell) → is_some o ≡ true → (first : Cell) × (o ≡ Some first)
+has-some o h = search (arith, false≢true)
+
 -- the operands of a REDUX access are cells of the program that have partial copies
 pub redux-has_copies : (p : Program) → NamesCells p → (t : Task) → t.0 < length p.tasks → (x : Mode) (d : Cell) → Contains (task_of p t).accesses (access x d) → is_redux x ≡ true → (d.0 < length p.cells) × ((first : Cell) × ((cell_info p d).partials ≡ Some first))
 redux-has_copies p names t inside x d (k, l, e) redux =
     let here = names.named t.0 no_task inside k (access x d) l in
     let copies = names.reduced t.0 no_task inside k (access x d) l (ap (λ (a : Access). is_redux a.mode) e ∙ redux) in
-    (subst (λ (a : Access). a.cell.0 < length p.cells) e here, some (cell_info p d).partials (sym (ap (λ (a : Access). is_some (cell_info p a.cell).partials) e) ∙ copies))
-  where
-    some : (o : Option Cell) → is_some o ≡ true → (first : Cell) × (o ≡ Some first)
-    some None h = absurd (false≢true h)
-    some (Some first) h = (first, refl)
+    (subst (λ (a : Access). a.cell.0 < length p.cells) e here, has-some (cell_info p d).partials (sym (ap (λ (a : Access). is_some (cell_info p a.cell).partials) e) ∙ copies))
 
 pub write_isn't_read : Write ≡ Read → ⊥
 write_isn't_read e = cc
 
-commute_isn't_read : (k : Codelet) → Commute k ≡ Read → ⊥
-commute_isn't_read k e = cc
-
 pub contribute_isn't_read : Contribute ≡ Read → ⊥
 contribute_isn't_read e = cc
 
-commute_isn't_contribute : (k : Codelet) → Commute k ≡ Contribute → ⊥
-commute_isn't_contribute k e = cc
+-- a written operand isn't only read
+pub written-isn't_read : (k : Codelet) (x : Mode) → is_written x ≡ true → manner_of k x ≢ Read
+written-isn't_read k x h e = search (arith, false≢true)
+
+-- two manners are one that tasks share, or not
+pub data Meets (m n : Manner) : Type 0 where
+  BothCommute : (k : Codelet) → m ≡ Commute k → n ≡ Commute k → Meets m n
+  BothContribute : m ≡ Contribute → n ≡ Contribute → Meets m n
+  Differ : ((IsShared n → ⊥) ⊎ ((IsShared m → ⊥) ⊎ (m ≢ n))) → Meets m n
+
+pub meeting : (m n : Manner) → Meets m n
+meeting m Read = Differ (inl (λ h. h))
+meeting m Write = Differ (inl (λ h. h))
+meeting Read n = Differ (inr (inl (λ h. h)))
+meeting Write n = Differ (inr (inl (λ h. h)))
+meeting Contribute Contribute = BothContribute refl refl
+meeting Contribute (Commute k) = Differ (inr (inr (λ e. cc)))
+meeting (Commute k) Contribute = Differ (inr (inr (λ e. cc)))
+meeting (Commute j) (Commute k) = elim (cases_eq j.0 k.0) [
+  | inl e ↦ BothCommute k (ap (λ (i : ℕ). Commute (record { 0 = i })) e) refl
+  | inr d ↦ Differ (inr (inr (λ e. d (let f : j ≡ k = cc in ap (λ (c : Codelet). c.0) f))))
+]
+
+-- the operands that commute, or contribute, by their manners
+pub commuting-is : (k j : Codelet) (x : Mode) → manner_of k x ≡ Commute j → (x ≡ CommuteMode) × (k ≡ j)
+commuting-is k j x e = search arith
+
+pub contributing-is : (k : Codelet) (x : Mode) → manner_of k x ≡ Contribute → x ≡ Redux
+contributing-is k x e = search arith
 
 -- two tasks use a cell that not both only read, by no one shared manner
 pub conflict-by : (p : Program) → HasDependencies p → (u t c : ℕ) (m n : Manner) → Uses p u c m → Uses p t c n → ¬ ((m ≡ Read) × (n ≡ Read)) → ((IsShared n → ⊥) ⊎ ((IsShared m → ⊥) ⊎ (m ≢ n))) → Conflict p u t
@@ -128,44 +147,13 @@ Conflict-sym p u t h = record {
 }
 
 module _ (p : Program) (names : NamesCells p) (deps : HasDependencies p) (u t : Task) (v w : Worker) (c : Cell) (u_in : u.0 < length p.tasks) (t_in : t.0 < length p.tasks) (v_in : v.0 < p.workers) (w_in : w.0 < p.workers) where
-  -- where t's manner is no shared one, or u's, or they differ, the tasks conflict
-  conflicting : (m n : Manner) → Uses p u.0 c.0 m → Uses p t.0 c.0 n → (n ≡ Read → ⊥) → ((IsShared n → ⊥) ⊎ ((IsShared m → ⊥) ⊎ (m ≢ n))) → Sharing p u t v w c
-  conflicting m n um tn writes apart = let forward = conflict-by p deps u.0 t.0 c.0 m n um tn (λ both. writes both.1) apart in Conflicting forward (Conflict-sym p u.0 t.0 forward)
-
   -- the copies of two REDUX operands are one only where the worker is
   one_copy : (d e : Cell) → is_some (cell_info p d).partials ≡ true → is_some (cell_info p e).partials ≡ true → copy_of p d v ≡ c → copy_of p e w ≡ c → v ≡ w
   one_copy d e hd he cd ce =
       let same = names.apart c d e v w (record { has_copies = hd; of_worker = v_in; is = sym cd }) (record { has_copies = he; of_worker = w_in; is = sym ce }) in
-      by_first (cell_info p d).partials hd ((ap (λ (q : Cell). q.0) cd) ∙ sym (ap (λ (q : Cell). q.0) (ap (λ (q : Cell). copy_of p q w) same ∙ ce)))
-    where
-      by_first : (o : Option Cell) → is_some o ≡ true → (elim o as (λ _. Cell) [ None ↦ d | Some f ↦ record { 0 = f.0 + v.0 } ]).0 ≡ (elim o as (λ _. Cell) [ None ↦ d | Some f ↦ record { 0 = f.0 + w.0 } ]).0 → v ≡ w
-      by_first None h e = absurd (false≢true h)
-      by_first (Some f) h e = let n : v.0 ≡ w.0 = omega arith in ap (λ (i : ℕ). let j : Worker = record { 0 = i } in j) n
-
-  by_modes : (x y : Mode) (d e : Cell) → Contains (task_of p u).accesses (access x d) → Contains (task_of p t).accesses (access y e) → not (is_scratch x) ≡ true → is_written y ≡ true → worked_on p v (access x d) ≡ c → worked_on p w (access y e) ≡ c →
-      Uses p u.0 c.0 (manner_of (task_of p u).codelet x) → Uses p t.0 c.0 (manner_of (task_of p t).codelet y) → Sharing p u t v w c
-  by_modes x R d e hx hy sx wy cx cy um tn = absurd (false≢true wy)
-  by_modes x Scratch d e hx hy sx wy cx cy um tn = absurd (false≢true wy)
-  by_modes x W d e hx hy sx wy cx cy um tn = conflicting (manner_of (task_of p u).codelet x) Write um tn write_isn't_read (inl (λ h. h))
-  by_modes x RW d e hx hy sx wy cx cy um tn = conflicting (manner_of (task_of p u).codelet x) Write um tn write_isn't_read (inl (λ h. h))
-  by_modes R CommuteMode d e hx hy sx wy cx cy um tn = conflicting Read (Commute (task_of p t).codelet) um tn (commute_isn't_read (task_of p t).codelet) (inr (inl (λ h. h)))
-  by_modes W CommuteMode d e hx hy sx wy cx cy um tn = conflicting Write (Commute (task_of p t).codelet) um tn (commute_isn't_read (task_of p t).codelet) (inr (inl (λ h. h)))
-  by_modes RW CommuteMode d e hx hy sx wy cx cy um tn = conflicting Write (Commute (task_of p t).codelet) um tn (commute_isn't_read (task_of p t).codelet) (inr (inl (λ h. h)))
-  by_modes Scratch CommuteMode d e hx hy sx wy cx cy um tn = absurd (false≢true sx)
-  by_modes Redux CommuteMode d e hx hy sx wy cx cy um tn = conflicting Contribute (Commute (task_of p t).codelet) um tn (commute_isn't_read (task_of p t).codelet) (inr (inr (λ h. commute_isn't_contribute (task_of p t).codelet (sym h))))
-  by_modes CommuteMode CommuteMode d e hx hy sx wy cx cy um tn =
-      Commuting
-      (operand-has_cell (λ a. a.cell) (λ a. is_commute a.mode) (task_of p u).accesses (access CommuteMode d) c hx refl (same d cx))
-      (operand-has_cell (λ a. a.cell) (λ a. is_commute a.mode) (task_of p t).accesses (access CommuteMode e) c hy refl (same e cy))
-    where
-      same : (q : Cell) → q ≡ c → same_cell q c ≡ true
-      same q h = (Decides-eqb q.0 c.0).1 (ap (λ (k : Cell). k.0) h)
-  by_modes R Redux d e hx hy sx wy cx cy um tn = conflicting Read Contribute um tn contribute_isn't_read (inr (inl (λ h. h)))
-  by_modes W Redux d e hx hy sx wy cx cy um tn = conflicting Write Contribute um tn contribute_isn't_read (inr (inl (λ h. h)))
-  by_modes RW Redux d e hx hy sx wy cx cy um tn = conflicting Write Contribute um tn contribute_isn't_read (inr (inl (λ h. h)))
-  by_modes Scratch Redux d e hx hy sx wy cx cy um tn = absurd (false≢true sx)
-  by_modes CommuteMode Redux d e hx hy sx wy cx cy um tn = conflicting (Commute (task_of p u).codelet) Contribute um tn contribute_isn't_read (inr (inr (commute_isn't_contribute (task_of p u).codelet)))
-  by_modes Redux Redux d e hx hy sx wy cx cy um tn = search (arith, redux-has_copies, one_copy)
+      let first = has-some (cell_info p d).partials hd in
+      let n : v.0 ≡ w.0 = grind (arith, same, cd, ce, first.1) in
+      ap (λ (i : ℕ). let j : Worker = record { 0 = i } in j) n
 
   -- two tasks that share a cell that t writes conflict, or both commute there, or contribute by one worker
   pub sharing : has_cell (cells_of p u v) c ≡ true → has_cell (written_cells p t w) c ≡ true → Sharing p u t v w c
@@ -174,6 +162,18 @@ module _ (p : Program) (names : NamesCells p) (deps : HasDependencies p) (u t : 
       let b = operand_for (worked_on p w) (λ a. is_written a.mode) (task_of p t).accesses c ht in
       let ua = operand-uses p u v a.0.mode a.0.cell u_in a.1 a.2 (λ redux. (let c = redux-has_copies p names u u_in a.0.mode a.0.cell a.1 redux in (v_in, c.0, c.1))) in
       let tb = operand-uses p t w b.0.mode b.0.cell t_in b.1 (written_isn't_scratch b.0.mode b.2) (λ redux. (let c = redux-has_copies p names t t_in b.0.mode b.0.cell b.1 redux in (w_in, c.0, c.1))) in
-      by_modes a.0.mode b.0.mode a.0.cell b.0.cell a.1 b.1 a.2 b.2 a.3 b.3
-      (subst (λ (q : Cell). Uses p u.0 q.0 (manner_of (task_of p u).codelet a.0.mode)) a.3 ua)
-      (subst (λ (q : Cell). Uses p t.0 q.0 (manner_of (task_of p t).codelet b.0.mode)) b.3 tb)
+      let un = subst (λ (q : Cell). Uses p u.0 q.0 (manner_of (task_of p u).codelet a.0.mode)) a.3 ua in
+      let tn = subst (λ (q : Cell). Uses p t.0 q.0 (manner_of (task_of p t).codelet b.0.mode)) b.3 tb in
+      elim (meeting (manner_of (task_of p u).codelet a.0.mode) (manner_of (task_of p t).codelet b.0.mode)) [
+        | BothCommute k eu et ↦ Commuting (commutes u v k a.0 a.1 eu a.3) (commutes t w k b.0 b.1 et b.3)
+        | BothContribute eu et ↦ search (arith, contributing-is, redux-has_copies, one_copy)
+        | Differ apart ↦
+            let forward = conflict-by p deps u.0 t.0 c.0 _ _ un tn (λ both. written-isn't_read (task_of p t).codelet b.0.mode b.2 both.1) apart in
+            Conflicting forward (Conflict-sym p u.0 t.0 forward)
+      ]
+    where
+      commutes : (x : Task) (y : Worker) (k : Codelet) (a : Access) → Contains (task_of p x).accesses a → manner_of (task_of p x).codelet a.mode ≡ Commute k → worked_on p y a ≡ c → has_cell (commuting_cells p x) c ≡ true
+      commutes x y k a among e is =
+          let mode = (commuting-is (task_of p x).codelet k a.mode e).0 in
+          operand-has_cell (λ a. a.cell) (λ a. is_commute a.mode) (task_of p x).accesses a c among (ap is_commute mode)
+          ((Decides-eqb a.cell.0 c.0).1 (ap (λ (q : Cell). q.0) (subst (λ (m : Mode). worked_on p y (access m a.cell) ≡ c → a.cell ≡ c) (sym mode) (λ e. e) is)))

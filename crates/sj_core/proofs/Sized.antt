@@ -1,28 +1,27 @@
 -- After any tasks of a proper program each cell holds a tile of its own dimensions.
-use Rattle.std.proofs.Common.{Bool, List, [], ap, arith, length, lit<, map, refl, subst, suc, sym, true, zero, ℕ, false, ℤ, pos, negsuc, get_or, ◌+◌, ◌/◌, ◌*◌, ◌%◌, ◌∙◌, ◌∷◌, ◌≡◌, ◌&&◌, ◌≤ℤ◌, None, Option, Some, cond, ◌≤◌, ◌<◌, All, FitsSigned, IsTrue, nat_eq, if◌then◌else◌, filter, find, zip}
-use Rattle.std.specs.Int.{int_min, w64}
-use Rattle.std.specs.List.{range_with_len}
-use Rattle.std.proofs.lemmas.Bool.{cases_lt, false≢true}
-use Rattle.std.proofs.lemmas.Bool.Decides.{nat_tests}
-use Rattle.std.proofs.lemmas.Int.{SFits-int_wrap, clamps, ints}
+use mathlib.Core.List.{map-map}
+use Rattle.std.proofs.Common.{Bool, List, [], ap, arith, length, lit<, map, refl, subst, suc, sym, true, zero, ℕ, false}
+use Rattle.std.proofs.Common.{ℤ, pos, get_or, ◌+◌, ◌/◌, ◌*◌, ◌%◌, ◌∙◌, ◌∷◌, ◌≡◌, ◌&&◌, ◌≤ℤ◌, None, Option, Some, cond}
+use Rattle.std.proofs.Common.{◌≤◌, ◌<◌, All, FitsSigned, IsTrue, nat_eq, if◌then◌else◌, filter, find, zip}
+use Rattle.sj_core.proofs.Words.{Array, Dims, Kernel, area, zeros, Access, Cell, Formal, Mode, Program, ReadFormal}
+use Rattle.sj_core.proofs.Words.{ScratchFormal, Task, UpdateFormal, Worker, WriteFormal, dims_of, found, no_task}
+use Rattle.sj_core.proofs.Words.{results, same_cell, task_of, worked_on, written_cells}
+use Rattle.std.specs.{Int.int_min, Int.w64, List.range_with_len}
 use Rattle.std.proofs.lemmas.List.{get_or-map, get_or_past, length-map, length-replicate}
 use Rattle.std.proofs.lemmas.List.Elements.{All-cons, All-get_or, All-map, All-nil, All-replicate, All-head, All-tail}
-use Rattle.std.proofs.lemmas.List.FromFn.{length-map-range_with_len}
-use Rattle.sj_base.specs.Array.{array, at, each, element, grid}
-use Rattle.sj_codelet.specs.declared.kernel.Kernel.TheVariants.{Copy, Add, Axpy, Butterfly, Gemm, GemmThree, Transpose, Dot, Sum, Lowest, MinGemm, FwDiag, FwRow, FwCol, Load, Paste, Deliver, InitPlus, InitLeast}
-use Rattle.sj_codelet.specs.Equations.{after_turns}
+use Rattle.std.proofs.lemmas.{Bool.cases_lt, Bool.false≢true, Bool.Decides.nat_tests, Int.SFits-int_wrap, Int.clamps}
+use Rattle.std.proofs.lemmas.{Int.ints, List.FromFn.length-map-range_with_len}
+use Rattle.sj_base.specs.{Array.array, Array.at, Array.each, Array.element, Array.grid, Mode.is_written}
+use Rattle.sj_codelet.specs.declared.kernel.Kernel.TheVariants.{Copy, Add, Axpy, Butterfly, Gemm, GemmThree, Transpose}
+use Rattle.sj_codelet.specs.declared.kernel.Kernel.TheVariants.{Dot, Sum, Lowest, MinGemm, FwDiag, FwRow, FwCol, Load}
+use Rattle.sj_codelet.specs.declared.kernel.Kernel.TheVariants.{Paste, Deliver, InitPlus, InitLeast}
 use Rattle.sj_codelet.specs.Kernel.{fits, new_arrays, operand, arguments_fit, dims_fit, formals_of}
-use Rattle.sj_codelet.specs.Laws.{IsTile}
 use Rattle.sj_codelet.specs.MinPlus.{inf, least, least_below, plus}
-use Rattle.sj_codelet.specs.Ring.{wrap}
-use Rattle.sj_base.specs.Mode.{is_written}
+use Rattle.sj_codelet.specs.{Equations.after_turns, Laws.IsTile, Ring.wrap, Formal.is_output, Formal.outputs_among}
 use Rattle.sj_codelet.proofs.Table.{each_dims, new_arrays-dims}
-use Rattle.sj_codelet.specs.Formal.{is_output, outputs_among}
 use Rattle.sj_core.specs.Fold.{Contents, after_chosen, after_task, held_in}
 use Rattle.sj_core.specs.Proper.{Fits, MayHaveModes, Proper, mode_of, modes_writing_by}
-use Rattle.sj_core.proofs.Words.{Array, Dims, Kernel, area, zeros, Access, Cell, Formal, Mode, Program, ReadFormal, ScratchFormal, Task, UpdateFormal, Worker, WriteFormal, dims_of, found, no_task, results, same_cell, task_of, worked_on, written_cells}
-use Rattle.sj_core.proofs.Folding.{held-append, held_over, map-same}
-use Rattle.sj_core.proofs.Reading.{same_cell-is}
+use Rattle.sj_core.proofs.{Folding.held-append, Folding.held_over, Folding.map-same, Reading.same_cell-is}
 
 -- ---- what a codelet makes of tiles is tiles: each of its new arrays has its elements, and each element is an i64
 
@@ -44,8 +43,7 @@ min-long : (x y : ℤ) → IsLong x → IsLong y → IsLong (int_min x y)
 min-long x y hx hy = search (arith, IsLong, ints, clamps)
 
 long-between : (z : ℤ) → least ≤ℤ z → z ≤ℤ inf → IsLong z
-long-between (pos n) low high = record { sfits = omega (arith, ints) }
-long-between (negsuc n) low high = record { sfits = omega (arith, ints) }
+long-between b low high = search (arith, ints)
 
 -- the sum of min-plus is kept between the least i64 and the greatest below `inf`, or is `inf`
 plus-long : (x y : ℤ) → IsLong (plus x y)
@@ -89,6 +87,10 @@ one a h = All-cons IsTile a [] h (All-nil IsTile)
 lesser-tile : (m : Array) → IsTile m → (g : ℕ → ℕ → ℤ) → ((i j : ℕ) → IsLong (g i j)) → IsTile (grid m.dims (λ i j. int_min (element m i j) (g i j)))
 lesser-tile m h g hg = tile m.dims (λ p. int_min (element m (p / m.dims.cols) (p % m.dims.cols)) (g (p / m.dims.cols) (p % m.dims.cols))) (λ p. min-long _ _ (element-long m h (p / m.dims.cols) (p % m.dims.cols)) (hg (p / m.dims.cols) (p % m.dims.cols)))
 
+-- what fits has as many arguments as formals, and its dimensions fit
+pub fits-parts : (n m : ℕ) (b c : Bool) → (nat_eq n m && b && c) ≡ true → (n ≡ m) × (c ≡ true)
+fits-parts n m b c h = search (arith, nat_tests)
+
 -- as many elements as `load` has arguments
 loaded : (args : List ℤ) (ins : List Array) → All IsLong args → IsTrue (fits Load args (map (λ a. a.dims) ins)) → IsTile (array (operand ins 0).dims args)
 loaded args ins h k = search (arith, get_or-map, none, length-map, nat_tests)
@@ -114,23 +116,16 @@ new_arrays-tiles Load args ins ha f h = one _ (loaded args ins ha f)
 new_arrays-tiles Paste args ins ha f h = one _ (tile (operand ins 1).dims _ (λ p. by_place _ _ _ (element-long (operand ins 0) (operand-tile ins h 0) _ _) (at-long (operand ins 1) (operand-tile ins h 1) _)))
   where
     by_place : (b : Bool) (x y : ℤ) → IsLong x → IsLong y → IsLong (if b then x else y)
-    by_place true x y hx hy = hx
-    by_place false x y hx hy = hy
+    by_place b x y hx hy = search arith
 new_arrays-tiles Deliver args ins ha f h = All-nil IsTile
 new_arrays-tiles InitPlus args ins ha f h = one _ (zeros-tile (operand ins 0).dims)
 new_arrays-tiles InitLeast args ins ha f h = one _ (tile (operand ins 0).dims _ (λ p. inf-long))
 new_arrays-tiles k args ins ha f h = one _ (tile (operand ins 0).dims _ (λ p. wrap-long _))
 
--- ---- after any tasks of a proper program each cell holds a tile of its own dimensions
-
 -- ---- which operands get new arrays
 
 same_items : {X : Type 0} (x y : X) (xs ys : List X) → x ∷ xs ≡ y ∷ ys → (x ≡ y) × (xs ≡ ys)
 same_items x y xs ys e = (cc, cc)
-
-map-map : {X Y Z : Type 0} (f : Y → Z) (g : X → Y) (xs : List X) → map f (map g xs) ≡ map (λ x. f (g x)) xs
-map-map f g [] = refl
-map-map f g (x ∷ xs) = ap (λ ys. f (g x) ∷ ys) (map-map f g xs)
 
 own-flags : (fs : List Formal) → map is_written (map mode_of fs) ≡ map is_output fs
 own-flags [] = refl
@@ -180,8 +175,7 @@ held_over-sized p (d ∷ cs) (a ∷ arrays) c below tiles dims h =
     by_first (same_cell d c) refl (All-head IsTile a arrays tiles) both.0 (held_over-sized p cs arrays c below (All-tail IsTile a arrays tiles) both.1 h)
   where
     by_first : (b : Bool) → same_cell d c ≡ b → IsTile a → a.dims ≡ dims_of p d → Fills p c (held_over (zip cs arrays) c below) → Fills p c (elim (cond b (Some (d, a)) (find (λ (entry : Cell × Array). same_cell entry.0 c) (zip cs arrays))) as (λ _. Array) [ None ↦ below | Some entry ↦ entry.1 ])
-    by_first true e tile dims rest = record { tile = tile; dims = dims ∙ ap (dims_of p) (same_cell-is d c e) }
-    by_first false e tile dims rest = rest
+    by_first b e tile dims rest = search (arith, tile, same_cell-is)
 
 module _ (p : Program) (proper : Proper p) (arguments : All (λ l. All (FitsSigned w64) l.args) p.tasks) where
   -- the cell that is worked on is as large as the operand's
@@ -218,17 +212,13 @@ module _ (p : Program) (proper : Proper p) (arguments : All (λ l. All (FitsSign
     results-dims : each_dims (results p t w held) ≡ map (dims_of p) (written_cells p t w)
     results-dims =
         let l = task_of p t in
-        let parts = three (length (each_dims ins)) (length (formals_of fit.kernel)) (arguments_fit fit.kernel l.args (each_dims ins)) (dims_fit fit.kernel l.args (each_dims ins)) ins-fit in
+        let parts = fits-parts (length (each_dims ins)) (length (formals_of fit.kernel)) (arguments_fit fit.kernel l.args (each_dims ins)) (dims_fit fit.kernel l.args (each_dims ins)) ins-fit in
         ap each_dims made
         ∙ new_arrays-dims fit.kernel l.args ins (sym (length-map ins (λ (x : Array). x.dims)) ∙ parts.0) parts.1
         ∙ ap (outputs_among (formals_of fit.kernel)) ins-dims
         ∙ outputs-written (λ a. dims_of p a.cell) (formals_of fit.kernel) l.accesses (sym (map-map is_written (λ (a : Access). a.mode) l.accesses) ∙ written-flags fit.kernel (map (λ (a : Access). a.mode) l.accesses) fit.modes)
         ∙ map-same (λ a. dims_of p a.cell) (λ a. dims_of p (worked_on p w a)) (filter (λ a. is_written a.mode) l.accesses) (λ a h. sym (worked_on-dims w staffed a))
         ∙ sym (map-map (dims_of p) (worked_on p w) (filter (λ a. is_written a.mode) l.accesses))
-      where
-        three : (n m : ℕ) (b c : Bool) → (nat_eq n m && b && c) ≡ true → (n ≡ m) × (c ≡ true)
-        three n m true c h = (grind (arith, nat_tests), grind (arith, nat_tests))
-        three n m false c h = absurd (grind (arith, nat_tests))
 
   -- a task leaves cells sized
   pub after_task-sized : (t : Task) → t.0 < length p.tasks → (w : Worker) → w.0 < p.workers → (before : Contents) → AreSized p before → AreSized p (after_task p w t before)

@@ -1,18 +1,17 @@
 -- The state that a step leaves, and that a legal trace leaves, is a function of its events.
-use Rattle.std.proofs.Common.{◌≡◌, ℕ, ◌+◌, Bool, true, false, cond, List, [], ◌∷◌, length, refl, sym, ap, ◌∙◌, arith, Option, Some, ◌++◌, count_by, nat_eq, fold}
-use Rattle.std.proofs.Math.Logic.{∥∥₁_elim}
-use Rattle.std.proofs.Math.Nat.{ℕ_set}
+use Rattle.std.proofs.Common.{◌≡◌, ℕ, ◌+◌, Bool, true, false, cond, List, [], ◌∷◌, length, refl, sym, ap, ◌∙◌, arith}
+use Rattle.std.proofs.Common.{Option, Some, ◌++◌, count_by, nat_eq, fold}
+use Rattle.sj_core.proofs.Words.{AtNode, Claim, Claimed, Done, End, Event, Machine, Move, OnDisk, Program, Progress}
+use Rattle.sj_core.proofs.Words.{Run, Running, State, Task, Waiting, is_done, opening, progress, Cell, Place, Worker}
+use Rattle.sj_core.proofs.Words.{transfer}
+use Rattle.std.proofs.{Math.Logic.∥∥₁_elim, Math.Nat.ℕ_set}
 use Rattle.std.specs.Prelude.{unwrap_or}
-use Rattle.std.proofs.lemmas.Bool.{false≢true}
-use Rattle.std.proofs.lemmas.Bool.Decides.{Decides-eqb}
 use Rattle.std.proofs.lemmas.List.{length-set, length-replicate, get_or-replicate}
 use Rattle.std.proofs.lemmas.List.Sums.{AllPass-from_list_all, sum_by-cons, fold-append}
-use Rattle.std.proofs.lemmas.Fn.{FoldsTo-push}
-use Rattle.sj_core.specs.Step.{Step, a_transfer, after, after_claim, mover_of}
-use Rattle.sj_core.specs.Coherent.{is_begun, Coherent}
-use Rattle.sj_core.specs.Legal.{Leads, Finishes, IsFinished, Replays, state_of}
-use Rattle.sj_core.specs.Once.{EachRanOnce, is_claim_of, is_run_of, is_end_of}
-use Rattle.sj_core.proofs.Words.{AtNode, Claim, Claimed, Done, End, Event, Machine, Move, OnDisk, Program, Progress, Run, Running, State, Task, Waiting, is_done, opening, progress, Cell, Place, Worker, transfer}
+use Rattle.std.proofs.lemmas.{Bool.false≢true, Bool.Decides.Decides-eqb, Fn.FoldsTo-push}
+use Rattle.sj_core.specs.{Step.Step, Step.a_transfer, Step.after, Step.after_claim, Step.mover_of, Coherent.is_begun}
+use Rattle.sj_core.specs.{Coherent.Coherent, Legal.Leads, Legal.Finishes, Legal.IsFinished, Legal.Replays}
+use Rattle.sj_core.specs.{Legal.state_of, Once.EachRanOnce, Once.is_claim_of, Once.is_run_of, Once.is_end_of}
 use Rattle.sj_core.proofs.Advancing.{Advances, Claims-advances_task, Runs-advances, Ends-advances}
 use Rattle.sj_core.proofs.Replicas.{coming_by-is, leaving_by-is}
 
@@ -80,10 +79,7 @@ trace-takes p m s s' (e ∷ trace) u rows (between, step, rest) =
     record { begun = omega (arith, first.begun, later.begun, claims); started = omega (arith, first.started, later.started, runs); done = omega (arith, first.done, later.done, ends) }
 
 done-begun : (x : Progress) → is_done x ≡ true → is_begun x ≡ true
-done-begun Waiting h = h
-done-begun (Claimed w) h = refl
-done-begun (Running w) h = refl
-done-begun (Done w) h = refl
+done-begun b h = search arith
 
 done-started : (x : Progress) → is_done x ≡ true → is_started x ≡ true
 done-started x h = search arith
@@ -108,8 +104,6 @@ finished-once p m trace finished t inside = record {
 }
 
 -- ---- the state that a step leaves, and that a legal trace leaves, is a function of its events
-
--- ---- a step
 
 -- the state that a step leaves is the event's own
 pub Step-after : (p : Program) (m : Machine) (s s' : State) (e : Event) → Step p m s e s' → s' ≡ after p m s e

@@ -1,14 +1,19 @@
 -- Sums over lists whose terms balance, or bound one another, element by element.
-use Rattle.std.proofs.Common.{◌≡◌, ℕ, ◌+◌, ◌≤◌, Bool, true, false, not, cond, List, [], ◌∷◌, refl, sym, ap, ◌∙◌, arith, map, inl, inr, ◌&&◌, ◌<◌, zero, suc, ◌*◌, ◌||◌, sum_by, count_by, nat_le, nat_lt, nat_eq, filter}
-use Rattle.std.proofs.lemmas.List.Folds.{Any-from_list_any}
-use Rattle.std.specs.List.{range_with_len, list_any}
+use Rattle.std.proofs.Common.{◌≡◌, ℕ, ◌+◌, ◌≤◌, Bool, true, false, not, cond, List, [], ◌∷◌, refl, sym, ap, ◌∙◌, arith}
+use Rattle.std.proofs.Common.{map, inl, inr, ◌&&◌, ◌<◌, zero, suc, ◌*◌, sum_by, count_by, nat_le, nat_lt, nat_eq}
+use Rattle.std.proofs.Common.{filter}
 use Rattle.std.proofs.lemmas.List.Sums.{sum_by-cons, sum_by-le-sum_by, get_or-le-sum_by}
-use Rattle.std.proofs.lemmas.List.Filters.{sum_by-filter_both}
-use Rattle.std.proofs.lemmas.Bool.{false_from_ne_true, and_parts, and_from, and_left, leb-true, ltb-true, le-leb, lt-leb, lt-ltb, eq-eqb, ne_eqb, cases_eq}
+use Rattle.std.proofs.lemmas.Bool.{false_from_ne_true, and_parts, and_from, and_left, leb-true, ltb-true, le-leb}
+use Rattle.std.proofs.lemmas.Bool.{lt-leb, lt-ltb, eq-eqb, ne_eqb, cases_eq}
+use Rattle.std.proofs.lemmas.{List.Folds.Any-from_list_any, List.Filters.sum_by-filter_both}
+use Rattle.std.specs.List.{range_with_len, list_any}
 
 -- what an element counts by a test
 abbrev pub tally : Bool → ℕ
 tally b = cond b 1 0
+
+pub tally_le : (b : Bool) → tally b ≤ 1
+tally_le b = search arith
 
 -- two tests that imply each other are one
 pub same_test : (a b : Bool) → (a ≡ true → b ≡ true) → (b ≡ true → a ≡ true) → a ≡ b
@@ -37,10 +42,7 @@ sum-filter f test (x ∷ xs) = by_cases (test x) refl (sum-filter f test xs)
   where
     by_cases : (b : Bool) → test x ≡ b → sum_by f (filter test xs) ≡ sum_by (λ y. cond (test y) (f y) 0) xs → sum_by f (cond b (x ∷ filter test xs) (filter test xs)) ≡ sum_by (λ y. cond (test y) (f y) 0) (x ∷ xs)
     by_cases true e rest = sum_by-cons f x (filter test xs) ∙ ap (λ n. f x + n) rest ∙ ap (λ b. cond b (f x) 0 + sum_by (λ y. cond (test y) (f y) 0) xs) (sym e) ∙ sym (sum_by-cons (λ y. cond (test y) (f y) 0) x xs)
-    by_cases false e rest = rest ∙ zero_plus (sum_by (λ y. cond (test y) (f y) 0) xs) ∙ ap (λ b. cond b (f x) 0 + sum_by (λ y. cond (test y) (f y) 0) xs) (sym e) ∙ sym (sum_by-cons (λ y. cond (test y) (f y) 0) x xs)
-      where
-        zero_plus : (n : ℕ) → n ≡ 0 + n
-        zero_plus n = omega arith
+    by_cases false e rest = search (arith, sum_by-cons)
 
 -- where the terms that a filter keeps are no larger, its sum isn't
 pub sum-filter-le : {X : Type 0} (f g : X → ℕ) (test : X → Bool) → ((x : X) → test x ≡ true → f x ≤ g x) → (xs : List X) → sum_by f (filter test xs) ≤ sum_by g (filter test xs)
@@ -67,10 +69,7 @@ counted-some test (x ∷ xs) some = search (arith, sum_by-cons, counted-some tes
 
 -- and what is there is counted
 pub counted-has : {X : Type 0} (test : X → Bool) (xs : List X) → list_any test xs ≡ true → 0 < count_by test xs
-counted-has test xs h =
-    let found = Any-from_list_any test xs h in
-    let counts = get_or-le-sum_by (λ y. tally (test y)) xs found.0 found.1 found.2 in
-    omega (arith, ap (λ y. tally (test y)) found.3 ∙ ap tally found.4)
+counted-has test xs h = search (arith, Any-from_list_any, get_or-le-sum_by)
 
 -- a sum of two terms each
 pub sum-plus : {X : Type 0} (h f g : X → ℕ) → ((x : X) → h x ≡ f x + g x) → (xs : List X) → sum_by h xs ≡ sum_by f xs + sum_by g xs
@@ -86,8 +85,7 @@ sum-each test more (x ∷ xs) =
     ∙ first (test x) (count_by test xs) ∙ ap (λ n. more * n) (sym (sum_by-cons (λ y. tally (test y)) x xs))
   where
     first : (b : Bool) (n : ℕ) → cond b more 0 + more * n ≡ more * (tally b + n)
-    first true n = omega arith
-    first false n = omega arith
+    first b n = search arith
 
 -- where at most one element passes the test, whose term grows by so much, and no other's does
 pub sum-one_more : {X : Type 0} (f g : X → ℕ) (test : X → Bool) (more : ℕ) → ((x : X) → f x ≤ g x + cond (test x) more 0) → (xs : List X) → count_by test xs ≤ 1 → sum_by f xs ≤ sum_by g xs + more
@@ -106,13 +104,6 @@ count-numbered number test k is a (suc n) =
     let first = sum_by-cons (λ x. tally (test x)) (number a) (map number (range_with_len (a + 1) n)) in
     let later = count-numbered number test k is (a + 1) n in
     elim (cases_eq a k) [
-      | inl e ↦
-          (search (arith, eq-eqb, and_left, lt-leb, and_from, le-leb, lt-ltb))
-      | inr d ↦
-          let other : tally (test (number a)) ≡ 0 = ap tally (is a ∙ ne_eqb a k d) in
-          let same : tally (nat_le (a + 1) k && nat_lt k (a + 1 + n)) ≡ tally (nat_le a k && nat_lt k (a + suc n)) = ap tally (same_test (nat_le (a + 1) k && nat_lt k (a + 1 + n)) (nat_le a k && nat_lt k (a + suc n)) (further (a + 1) (a + 1 + n) a (a + suc n) (λ l h. (omega arith)) (λ l h. (omega arith))) (further a (a + suc n) (a + 1) (a + 1 + n) (λ l h. (omega arith)) (λ l h. (omega arith)))) in
-          omega arith
+      | inl e ↦ (search (arith, eq-eqb, and_left, lt-leb, and_from, le-leb, lt-ltb))
+      | inr d ↦ (search (arith, ne_eqb, same_test))
     ]
-  where
-    further : (a b c d : ℕ) → (a ≤ k → k < b → c ≤ k) → (a ≤ k → k < b → k < d) → (nat_le a k && nat_lt k b) ≡ true → (nat_le c k && nat_lt k d) ≡ true
-    further a b c d low high h = (let both = and_parts (nat_le a k) (nat_lt k b) h in and_from (nat_le c k) (nat_lt k d) (le-leb c k (low (leb-true a k both.0) (ltb-true k b both.1))) (lt-ltb k d (high (leb-true a k both.0) (ltb-true k b both.1))))

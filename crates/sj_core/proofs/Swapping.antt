@@ -108,11 +108,10 @@ module _ (p : Program) (proper : Proper p) (arguments : All (λ l. All (FitsSign
     -- the operands of an update that aren't its cell are found the same after another update of the cell
     ins-kept : (x y : Task) (x_in : x.0 < length p.tasks) (y_in : y.0 < length p.tasks) (a b : Worker) (a_in : a.0 < p.workers) (b_in : b.0 < p.workers) (d : Cell) (ux : Updates p x a d) (uy : Updates p y b d) →
         first_ins p x a d ux (held_in p (after_task p b y before)) ≡ first_ins p x a d ux (held_in p before)
-    ins-kept x y x_in y_in a b a_in b_in d ux uy = map-same (found p a (held_in p (after_task p b y before))) (found p a (held_in p before)) ux.before (λ z h. by_start z h (starts_as_zeros z.mode) refl)
-      where
-        by_start : (z : Access) → Contains ux.before z → (s : Bool) → starts_as_zeros z.mode ≡ s → (if s then zeros (dims_of p z.cell) else held_in p (after_task p b y before) (worked_on p a z)) ≡ (if s then zeros (dims_of p z.cell) else held_in p before (worked_on p a z))
-        by_start z h true e = refl
-        by_start z h false e = update-spares y y_in b b_in d uy before (worked_on p a z) (ux.others z h e)
+    ins-kept x y x_in y_in a b a_in b_in d ux uy = map-same (found p a (held_in p (after_task p b y before))) (found p a (held_in p before)) ux.before (λ z h. elim (cases_Bool (starts_as_zeros z.mode)) [
+      | inl zeros ↦ rw zeros
+      | inr e ↦ rw e (update-spares y y_in b b_in d uy before (worked_on p a z) (ux.others z h e))
+    ])
 
     together : AreSized p before → (d : Cell) (x : Updates p t w d) (y : Updates p u v d) → Exchange x.kernel y.kernel → held_in p (after_task p v u (after_task p w t before)) d ≡ held_in p (after_task p w t (after_task p v u before)) d
     together sized d x y exchange =
@@ -154,8 +153,7 @@ module _ (p : Program) (proper : Proper p) (arguments : All (λ l. All (FitsSign
         differ u d e = d (ap (λ (k : Task). k.0) e)
 
         own : n ≡ t.0 → held_in p (after_chosen p chosen' by' (suc n)) c ≡ held_in p (after_task p w t (after_chosen p chosen by (suc n))) c
-        own e =
-            (search (arith, number, after_chosen-same, differ))
+        own e = search (arith, number, after_chosen-same, differ)
 
         later : t.0 < n → ((d : Cell) → held_in p (after_chosen p chosen' by' n) d ≡ held_in p (after_task p w t (after_chosen p chosen by n)) d) → held_in p (after_chosen p chosen' by' (suc n)) c ≡ held_in p (after_task p w t (after_chosen p chosen by (suc n))) c
         later before rest =

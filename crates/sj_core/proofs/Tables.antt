@@ -1,8 +1,7 @@
 -- Reading a table after rows of it were written.
 use Rattle.std.proofs.Common.{◌≡◌, ℕ, ◌<◌, List, length, get_or, ap, ◌∙◌, arith}
 use Rattle.std.proofs.lemmas.List.{length-map, get_or-map, get_or_past}
-use Rattle.std.proofs.lemmas.List.FromFn.{length-enumerate_from, get_or-enumerate_from}
-use Rattle.std.proofs.lemmas.Bool.{cases_lt}
+use Rattle.std.proofs.lemmas.{List.FromFn.length-enumerate_from, List.FromFn.get_or-enumerate_from, Bool.cases_lt}
 use Rattle.std.specs.List.{enumerate_from}
 use Rattle.sj_core.specs.Table.{renewed}
 

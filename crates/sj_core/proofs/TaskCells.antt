@@ -1,13 +1,12 @@
 -- Which cells a task works on: those it writes, those it finds as zeros, those to which it contributes in any order.
-use Rattle.std.proofs.Common.{arith, length, ◌<◌, Bool, List, [], ap, cond, false, not, refl, true, ◌&&◌, ◌∷◌, ◌≡◌, Contains, filter}
-use Rattle.std.proofs.lemmas.Bool.{cases_lt}
-use Rattle.std.proofs.lemmas.List.{get_or_past}
+use Rattle.std.proofs.Common.{arith, length, ◌<◌, Bool, List, [], not, refl, true, ◌&&◌, ◌∷◌, ◌≡◌, Contains, filter}
+use Rattle.sj_core.proofs.Words.{Access, Cell, Program, Task, Worker, cells_of, fresh_cells, has_cell, task_of}
+use Rattle.sj_core.proofs.Words.{worked_on, written_cells}
+use Rattle.std.proofs.lemmas.{Bool.cases_lt, List.get_or_past}
 use Rattle.sj_base.specs.Mode.{is_scratch, is_written, starts_as_zeros}
-use Rattle.sj_core.proofs.Words.{Access, Cell, Program, Task, Worker, cells_of, fresh_cells, has_cell, task_of, worked_on, written_cells}
-use Rattle.sj_core.proofs.CellLists.{same_cell-from}
-use Rattle.sj_core.proofs.Modes.{fresh_is_written, written_isn't_scratch}
-use Rattle.sj_core.proofs.Readiness.{Contains-from_filter, filter-Contains}
-use Rattle.sj_core.proofs.Sharing.{operand-has_cell, operand_for}
+use Rattle.sj_core.proofs.{CellLists.same_cell-from, Modes.fresh_is_written, Modes.written_isn't_scratch}
+use Rattle.sj_core.proofs.{Readiness.Contains-from_filter, Readiness.filter-Contains, Sharing.operand-has_cell}
+use Rattle.sj_core.proofs.{Sharing.operand_for}
 
 -- ---- each operand of a task names a cell of its program
 

@@ -1,17 +1,19 @@
 -- A computed test of legal traces, for worked runs: in it a task begins only once all earlier tasks are done.
-use Rattle.std.proofs.Common.{arith, Bool, List, None, Option, Some, [], ap, false, length, not, refl, true, ◌&&◌, ◌∷◌, ◌≡◌, fold, is_none, is_some, nat_eq, nat_le, nat_lt}
+use Rattle.std.proofs.Common.{arith, Bool, List, None, Option, Some, [], false, length, not, refl, true, ◌&&◌, ◌∷◌, ◌≡◌}
+use Rattle.std.proofs.Common.{fold, is_none, is_some, nat_eq, nat_le, nat_lt}
+use Rattle.sj_core.proofs.Words.{AtNode, Cell, Claim, DiskNo, Drop, End, Event, Machine, Move, Moved, OnDisk, Place}
+use Rattle.sj_core.proofs.Words.{Program, Progress, Run, State, Task, Transfer, Waiting, commuting_cells, done_in}
+use Rattle.sj_core.proofs.Words.{footprint, has_room, is_claimed_by, is_coming_by, is_idle, is_leaving, is_leaving_by}
+use Rattle.sj_core.proofs.Words.{is_running_on, is_waiting, node_of, node_size, opening, progress, replica, same_cell}
+use Rattle.sj_core.proofs.Words.{transfer, written_cells}
 use Rattle.std.proofs.lemmas.Bool.{and_parts, eqb-true, false≢true, leb-true, ltb-true}
-use Rattle.std.specs.List.{list_all, range_with_len}
-use Rattle.std.specs.Prelude.{unwrap_or}
-use Rattle.sj_core.proofs.Words.{AtNode, Cell, Claim, DiskNo, Drop, End, Event, Machine, Move, Moved, OnDisk, Place, Program, Progress, Run, State, Task, Transfer, Waiting, commuting_cells, done_in, footprint, has_room, is_claimed_by, is_coming_by, is_idle, is_leaving, is_leaving_by, is_running_on, is_waiting, node_of, node_size, opening, progress, replica, same_cell, transfer, written_cells}
+use Rattle.std.specs.{List.list_all, List.range_with_len, Prelude.unwrap_or}
 use Rattle.sj_codelet.specs.Kernel.{fits}
 use Rattle.sj_core.specs.Legal.{Leads, Legal}
-use Rattle.sj_core.specs.Step.{Step, a_transfer, after, disk_of, is_fresh, is_in_use, is_moving, is_present, is_read, is_valid_elsewhere, mover_of, none_leaving, same_place, source_of, victims_for}
-use Rattle.sj_core.proofs.Advancing.{claimed_by-is, running_on-is}
-use Rattle.sj_core.proofs.Worked.{worker}
-use Rattle.sj_core.proofs.Placing.{same_place-is}
-use Rattle.sj_core.proofs.Readiness.{EarlierAreDone-all, Ready-from}
-use Rattle.sj_core.proofs.Reading.{same_cell-is}
+use Rattle.sj_core.specs.Step.{Step, a_transfer, after, disk_of, is_fresh, is_in_use, is_moving, is_present, is_read}
+use Rattle.sj_core.specs.Step.{is_valid_elsewhere, mover_of, none_leaving, same_place, source_of, victims_for}
+use Rattle.sj_core.proofs.{Advancing.claimed_by-is, Advancing.running_on-is, Worked.worker, Placing.same_place-is}
+use Rattle.sj_core.proofs.{Readiness.EarlierAreDone-all, Readiness.Ready-from, Reading.same_cell-is}
 
 abbrev all_earlier_done : State → Task → Bool
 all_earlier_done s t = list_all (λ n. done_in s (record { 0 = n })) (range_with_len 0 t.0)
@@ -50,24 +52,19 @@ waiting-is : (x : Progress) → is_waiting x ≡ true → x ≡ Waiting
 waiting-is x h = search (arith, false≢true)
 
 none-is : {X : Type 0} (o : Option X) → is_none o ≡ true → o ≡ None
-none-is None h = refl
-none-is (Some x) h = absurd (false≢true h)
+none-is b h = search (arith, false≢true)
 
 some-is : {X : Type 0} (o : Option X) (d : X) → is_some o ≡ true → o ≡ Some (unwrap_or o d)
-some-is None d h = absurd (false≢true h)
-some-is (Some x) d h = refl
+some-is b d h = search (arith, false≢true)
 
 here-is : (o : Option Place) (q : Place) → is_here o q ≡ true → o ≡ Some q
-here-is None q h = absurd (false≢true h)
-here-is (Some k) q h = ap Some (same_place-is k q h)
+here-is b q h = search (arith, false≢true, same_place-is)
 
 on-is : (o : Option DiskNo) (d : DiskNo) → is_on o d ≡ true → o ≡ Some d
-on-is None d h = absurd (false≢true h)
-on-is (Some k) d h = ap (λ i. Some (record { 0 = i })) (eqb-true k.0 d.0 h)
+on-is b d h = search (arith, false≢true, eqb-true)
 
 transfer-is : (c : Cell) (from to : Place) (o : Option Transfer) → is_transfer c from to o ≡ true → o ≡ Some (a_transfer c from to)
-transfer-is c from to None h = absurd (false≢true h)
-transfer-is c from to (Some x) h = search (arith, and_parts, same_cell-is, same_place-is)
+transfer-is c from to b h = search (arith, false≢true, and_parts, same_cell-is, same_place-is)
 
 module _ (p : Program) (m : Machine) where
   step-from : (s : State) (e : Event) → is_step p m s e ≡ true → Step p m s e (after p m s e)

@@ -1,7 +1,7 @@
 -- A task with a COMMUTE or a REDUX operand updates one cell alone, by its last operand.
-use Rattle.std.proofs.Common.{Bool, List, [], ap, arith, cond, false, inl, inr, length, map, not, refl, subst, suc, sym, true, ◌++◌, ◌<◌, ◌||◌, ◌∙◌, ◌∷◌, ◌≡◌, ◌≢◌, ◌⊎◌, None, Option, Some, ℕ, Contains, filter, IsTrue}
+use Rattle.std.proofs.Common.{Bool, List, [], ap, arith, cond, false, inl, inr, length, map, not, refl, subst, suc, sym, true, ◌++◌, ◌<◌, ◌||◌, ◌∙◌, ◌∷◌, ◌≡◌, ◌≢◌, ◌⊎◌, None, Option, Some, Contains, filter, IsTrue}
 use Rattle.std.specs.List.{list_all, list_any}
-use Rattle.std.proofs.lemmas.Bool.{false≢true, true≢false, not-true, and_from, cases_eq}
+use Rattle.std.proofs.lemmas.Bool.{cases_Bool, false≢true, true≢false, not-true, and_from}
 use Rattle.std.proofs.lemmas.List.{map-append}
 use Rattle.std.proofs.lemmas.List.Elements.{All-get_or, Contains-append_cases, Contains-append_left}
 use Rattle.std.proofs.lemmas.List.Sums.{AllPass-from_list_all}
@@ -14,10 +14,10 @@ use Rattle.sj_codelet.specs.declared.kernel.Kernel.TheVariants.{Add, Axpy, Dot, 
 use Rattle.sj_deps.specs.Conflict.{Uses, Conflict, IsShared as IsSharedManner}
 use Rattle.sj_core.specs.Proper.{Fits, MayHaveModes, Proper, mode_of, modes_writing_by, own_modes}
 use Rattle.sj_core.specs.Laws.{IsLawful, is_known}
-use Rattle.sj_core.proofs.Words.{Access, Cell, Codelet, CommuteMode, Formal, Kernel, Least, Mode, Plus, Program, R, RW, Read, ReadFormal, Reduction, Redux, Scratch, ScratchFormal, Task, UpdateFormal, W, Worker, no_task, task_of, worked_on, written_cells, Commute, Contribute, Manner, Write, cells_of, has_cell, same_cell}
+use Rattle.sj_core.proofs.Words.{Access, Cell, Codelet, CommuteMode, Formal, Kernel, Least, Mode, Plus, Program, R, RW, Read, ReadFormal, Reduction, Redux, Scratch, ScratchFormal, Task, UpdateFormal, Worker, no_task, task_of, worked_on, written_cells, Commute, Contribute, Manner, Write, cells_of, has_cell, same_cell}
 use Rattle.sj_core.proofs.Dependencies.{Proper-dependencies, map-from, one_is}
 use Rattle.sj_core.proofs.Modes.{then, written_isn't_scratch}
-use Rattle.sj_core.proofs.Sharing.{manner_of, operand-uses, redux-has_copies, Conflict-sym, conflict-by, operand_for}
+use Rattle.sj_core.proofs.Sharing.{manner_of, operand-uses, redux-has_copies, BothCommute, BothContribute, Conflict-sym, Differ, commuting-is, conflict-by, contributing-is, meeting, operand_for, written-isn't_read}
 use Rattle.sj_core.proofs.Swapping.{Updates, Apart, Exchange, MaySwap, Together, commuting-exchange}
 use Rattle.sj_core.proofs.CellLists.{same_cell-refl}
 use Rattle.sj_core.proofs.Readiness.{list_any-some, Contains-map}
@@ -64,11 +64,7 @@ writing-is : (x y : Mode) (k : Kernel) → Contains (modes_writing_by x k) y →
 writing-is x y k h =
     let own = map-from (λ mode. cond (is_written mode) x mode) (own_modes k) y h in
     let formal = map-from mode_of (formals_of k) own.0 own.1 in
-    by_mode own.0 (is_written own.0) own.2 (ap is_in_order (sym formal.2) ∙ own-in_order formal.0)
-  where
-    by_mode : (mode : Mode) (b : Bool) → cond b x mode ≡ y → is_in_order mode ≡ true → (y ≡ x) ⊎ (is_in_order y ≡ true)
-    by_mode mode true e f = inl (sym e)
-    by_mode mode false e f = inr (ap is_in_order (sym e) ∙ f)
+    grind (arith, cases_Bool (is_written own.0), own.2, formal.2, own-in_order formal.0)
 
 -- the modes of a codelet of which one stands out of order
 pub record IsShared (k : Kernel) (ms : List Mode) (x : Mode) : Type 0 where
@@ -129,17 +125,14 @@ module _ (p : Program) (proper : Proper p) (t : Task) (inside : t.0 < length p.t
   shared-codelet a among out = shared-modes own-fit.kernel (map (λ b. b.mode) (task_of p t).accesses) a.mode own-fit.modes out (Contains-map (λ (b : Access). b.mode) (task_of p t).accesses a among)
 
   module _ (a : Access) (among : Contains (task_of p t).accesses a) (out : is_in_order a.mode ≡ false) where
-    pub shared : IsShared own-fit.kernel (map (λ b. b.mode) (task_of p t).accesses) a.mode
-    shared = shared-codelet a among out
-
     abbrev pub in_place : Mode → Mode
     in_place mode = cond (is_written mode) a.mode mode
 
     pub last_row : UpdatesLast own-fit.kernel
-    last_row = updates-last own-fit.kernel shared.commutes
+    last_row = updates-last own-fit.kernel (shared-codelet a among out).commutes
 
     pub ends : EndsBy (λ (b : Access). b.mode) (task_of p t).accesses (map in_place (map mode_of last_row.first)) a.mode
-    ends = ends-by (λ (b : Access). b.mode) (task_of p t).accesses (map in_place (map mode_of last_row.first)) a.mode (shared.modes ∙ ap (λ (fs : List Formal). map in_place (map mode_of fs)) last_row.formals ∙ ap (map in_place) (map-append mode_of last_row.first (UpdateFormal ∷ [])) ∙ map-append in_place (map mode_of last_row.first) (RW ∷ []))
+    ends = ends-by (λ (b : Access). b.mode) (task_of p t).accesses (map in_place (map mode_of last_row.first)) a.mode ((shared-codelet a among out).modes ∙ ap (λ (fs : List Formal). map in_place (map mode_of fs)) last_row.formals ∙ ap (map in_place) (map-append mode_of last_row.first (UpdateFormal ∷ [])) ∙ map-append in_place (map mode_of last_row.first) (RW ∷ []))
 
     -- an operand before the last one is only read, or scratch
     pub first-is : (b : Access) → Contains ends.first b → (b.mode ≡ R) ⊎ (b.mode ≡ Scratch)
@@ -203,54 +196,24 @@ has-contained cs d (k, l, e) = list_any_at (λ c. same_cell c d) cs k d l (ap (�
 any-has : (test : Cell → Bool) (cs : List Cell) (d : Cell) → has_cell cs d ≡ true → test d ≡ true → list_any test cs ≡ true
 any-has test cs d h passes = search (arith, list_any-some, list_any_at, same_cell-is)
 
--- how two tasks may share a cell that one of them writes without a conflict
-data Alike (x y : Mode) (k k' : Codelet) : Type 0 where
-  BothCommute : x ≡ CommuteMode → y ≡ CommuteMode → k ≡ k' → Alike x y k k'
-  BothContribute : x ≡ Redux → y ≡ Redux → Alike x y k k'
-
-flipped : {x y : Mode} {k k' : Codelet} → Alike x y k k' → Alike y x k' k
-flipped (BothCommute e f g) = BothCommute f e (sym g)
-flipped (BothContribute e f) = BothContribute f e
-
 module _ (has : Kernel → Bool) (p : Program) (proper : Proper p) (lawful : IsLawful has p) where
   -- where both contribute to a cell by one worker's copy, their codelets may be exchanged
   abbrev pub ContributionsExchange : Task → Task → Worker → Worker → Type 0
   ContributionsExchange t u w v = (a b : Access) → Contains (task_of p t).accesses a → Contains (task_of p u).accesses b → a.mode ≡ Redux → b.mode ≡ Redux → worked_on p w a ≡ worked_on p v b → (j k : Kernel) → kernel_of (task_of p t).codelet ≡ Some j → kernel_of (task_of p u).codelet ≡ Some k → Exchange j k
 
   module _ (t u : Task) (free : ¬ Conflict p t.0 u.0) where
-    share-alike : (x y : Mode) (c : Cell) → not (is_scratch x) ≡ true → is_written y ≡ true → Uses p t.0 c.0 (manner_of (task_of p t).codelet x) → Uses p u.0 c.0 (manner_of (task_of p u).codelet y) → Alike x y (task_of p t).codelet (task_of p u).codelet
-    share-alike x y c accessed written tm un = by_modes x y accessed written tm un
-      where
-        conflict : (m n : Manner) → Uses p t.0 c.0 m → Uses p u.0 c.0 n → (n ≡ Read → ⊥) → ((IsSharedManner n → ⊥) ⊎ ((IsSharedManner m → ⊥) ⊎ (m ≢ n))) → ⊥
-        conflict m n tm un writes apart = free (conflict-by p (Proper-dependencies p proper) t.0 u.0 c.0 m n tm un (λ both. writes both.1) apart)
-
-        same_codelet : (k k' : Codelet) → Uses p t.0 c.0 (Commute k) → Uses p u.0 c.0 (Commute k') → k ≡ k'
-        same_codelet k k' tm un = elim (cases_eq k.0 k'.0) [
-          | inl e ↦ ap (λ (n : ℕ). let id : Codelet = record { 0 = n } in id) e
-          | inr d ↦ absurd (conflict (Commute k) (Commute k') tm un (λ e. cc) (inr (inr (λ e. d (let f : k ≡ k' = cc in ap (λ (id : Codelet). id.0) f)))))
-        ]
-
-        by_modes : (x y : Mode) → not (is_scratch x) ≡ true → is_written y ≡ true → Uses p t.0 c.0 (manner_of (task_of p t).codelet x) → Uses p u.0 c.0 (manner_of (task_of p u).codelet y) → Alike x y (task_of p t).codelet (task_of p u).codelet
-        by_modes x W accessed written tm un = absurd (conflict (manner_of (task_of p t).codelet x) Write tm un (λ e. cc) (inl (λ h. h)))
-        by_modes x RW accessed written tm un = absurd (conflict (manner_of (task_of p t).codelet x) Write tm un (λ e. cc) (inl (λ h. h)))
-        by_modes R CommuteMode accessed written tm un = absurd (conflict Read (Commute (task_of p u).codelet) tm un (λ e. cc) (inr (inl (λ h. h))))
-        by_modes W CommuteMode accessed written tm un = absurd (conflict Write (Commute (task_of p u).codelet) tm un (λ e. cc) (inr (inl (λ h. h))))
-        by_modes RW CommuteMode accessed written tm un = absurd (conflict Write (Commute (task_of p u).codelet) tm un (λ e. cc) (inr (inl (λ h. h))))
-        by_modes Scratch CommuteMode accessed written tm un = absurd (false≢true accessed)
-        by_modes Redux CommuteMode accessed written tm un = absurd (conflict Contribute (Commute (task_of p u).codelet) tm un (λ e. cc) (inr (inr (λ e. cc))))
-        by_modes CommuteMode CommuteMode accessed written tm un = BothCommute refl refl (same_codelet (task_of p t).codelet (task_of p u).codelet tm un)
-        by_modes R Redux accessed written tm un = absurd (conflict Read Contribute tm un (λ e. cc) (inr (inl (λ h. h))))
-        by_modes W Redux accessed written tm un = absurd (conflict Write Contribute tm un (λ e. cc) (inr (inl (λ h. h))))
-        by_modes RW Redux accessed written tm un = absurd (conflict Write Contribute tm un (λ e. cc) (inr (inl (λ h. h))))
-        by_modes Scratch Redux accessed written tm un = absurd (false≢true accessed)
-        by_modes CommuteMode Redux accessed written tm un = absurd (conflict (Commute (task_of p t).codelet) Contribute tm un (λ e. cc) (inr (inr (λ e. cc))))
-        by_modes Redux Redux accessed written tm un = BothContribute refl refl
-        by_modes x y accessed written tm un = absurd (false≢true written)
+    -- two that share a cell that one of them writes commute or contribute there
+    share-alike : (m n : Manner) (c : Cell) → n ≢ Read → Uses p t.0 c.0 m → Uses p u.0 c.0 n → (m ≡ n) × (IsSharedManner m)
+    share-alike m n c written tm un = elim (meeting m n) [
+      | BothCommute k em en ↦ (em ∙ sym en, subst IsSharedManner (sym em) tt)
+      | BothContribute em en ↦ (em ∙ sym en, subst IsSharedManner (sym em) tt)
+      | Differ apart ↦ absurd (free (conflict-by p (Proper-dependencies p proper) t.0 u.0 c.0 m n tm un (λ both. written both.1) apart))
+    ]
 
   module _ (t u : Task) (t_in : t.0 < length p.tasks) (u_in : u.0 < length p.tasks) (w v : Worker) (w_in : w.0 < p.workers) (v_in : v.0 < p.workers) (free : ¬ Conflict p t.0 u.0) (contributions : ContributionsExchange t u w v) where
     -- operands that share a cell without a conflict update it by codelets that may be exchanged
-    together : (d : Cell) (a b : Access) → Contains (task_of p t).accesses a → Contains (task_of p u).accesses b → worked_on p w a ≡ d → worked_on p v b ≡ d → Alike a.mode b.mode (task_of p t).codelet (task_of p u).codelet → MaySwap p proper lawful.arguments t u w v
-    together d a b ta ub ea eb alike = by_kind alike
+    together : (d : Cell) (a b : Access) → Contains (task_of p t).accesses a → Contains (task_of p u).accesses b → worked_on p w a ≡ d → worked_on p v b ≡ d → (manner_of (task_of p t).codelet a.mode ≡ manner_of (task_of p u).codelet b.mode) × IsSharedManner (manner_of (task_of p t).codelet a.mode) → MaySwap p proper lawful.arguments t u w v
+    together d a b ta ub ea eb alike = by_manner (manner_of (task_of p t).codelet a.mode) refl (sym alike.0) alike.1
       where
         both : (oa : is_in_order a.mode ≡ false) (ob : is_in_order b.mode ≡ false) → ((j k : Kernel) → kernel_of (task_of p t).codelet ≡ Some j → kernel_of (task_of p u).codelet ≡ Some k → Exchange j k) → MaySwap p proper lawful.arguments t u w v
         both oa ob exchange =
@@ -268,9 +231,17 @@ module _ (has : Kernel → Bool) (p : Program) (proper : Proper p) (lawful : IsL
             let commutes : commutes_of j ≡ true = ap commutes_of (sym own) ∙ (shared-codelet p proper t t_in a ta (ap is_in_order mode)).commutes in
             subst (Exchange j) one (commuting-exchange j (lawful.commuting j (and_from (has j) (commutes_of j) known commutes)))
 
-        by_kind : Alike a.mode b.mode (task_of p t).codelet (task_of p u).codelet → MaySwap p proper lawful.arguments t u w v
-        by_kind (BothCommute ma mb same) = both (ap is_in_order ma) (ap is_in_order mb) (commuting ma same)
-        by_kind (BothContribute ma mb) = both (ap is_in_order ma) (ap is_in_order mb) (contributions a b ta ub ma mb (ea ∙ sym eb))
+        by_manner : (m : Manner) → manner_of (task_of p t).codelet a.mode ≡ m → manner_of (task_of p u).codelet b.mode ≡ m → IsSharedManner m → MaySwap p proper lawful.arguments t u w v
+        by_manner Read et eu shared = absurd shared
+        by_manner Write et eu shared = absurd shared
+        by_manner (Commute k) et eu shared =
+            let x = commuting-is (task_of p t).codelet k a.mode et in
+            let y = commuting-is (task_of p u).codelet k b.mode eu in
+            both (ap is_in_order x.0) (ap is_in_order y.0) (commuting x.0 (x.1 ∙ sym y.1))
+        by_manner Contribute et eu shared =
+            let x = contributing-is (task_of p t).codelet a.mode et in
+            let y = contributing-is (task_of p u).codelet b.mode eu in
+            both (ap is_in_order x) (ap is_in_order y) (contributions a b ta ub x y (ea ∙ sym eb))
 
     -- tasks that don't conflict may change places
     pub may-swap : MaySwap p proper lawful.arguments t u w v
@@ -291,12 +262,12 @@ module _ (has : Kernel → Bool) (p : Program) (proper : Proper p) (lawful : IsL
             let d = found.0 in
             let a = data_of t w d found.2 in
             let b = written_of u v d (has-contained (written_cells p u v) d found.1) in
-            together d a.0 b.0 a.1 b.1 a.3 b.3 (share-alike t u free a.0.mode b.0.mode d a.2 b.2 (used t t_in w w_in d a.0 a.1 a.2 a.3) (used u u_in v v_in d b.0 b.1 (written_isn't_scratch b.0.mode b.2) b.3))
+            together d a.0 b.0 a.1 b.1 a.3 b.3 (share-alike t u free _ _ d (written-isn't_read (task_of p u).codelet b.0.mode b.2) (used t t_in w w_in d a.0 a.1 a.2 a.3) (used u u_in v v_in d b.0 b.1 (written_isn't_scratch b.0.mode b.2) b.3))
         by_tests false true e f =
             let found = list_any-some (λ d. has_cell (cells_of p u v) d) (written_cells p t w) f in
             let d = found.0 in
             let b = data_of u v d found.2 in
             let a = written_of t w d (has-contained (written_cells p t w) d found.1) in
-            together d a.0 b.0 a.1 b.1 a.3 b.3 (flipped (share-alike u t (λ h. free (Conflict-sym p u.0 t.0 h)) b.0.mode a.0.mode d b.2 a.2 (used u u_in v v_in d b.0 b.1 b.2 b.3) (used t t_in w w_in d a.0 a.1 (written_isn't_scratch a.0.mode a.2) a.3)))
-        by_tests false false e f =
-            (search (arith, Apart, false≢true, any-has))
+            let alike = share-alike u t (λ h. free (Conflict-sym p u.0 t.0 h)) _ _ d (written-isn't_read (task_of p t).codelet a.0.mode a.2) (used u u_in v v_in d b.0 b.1 b.2 b.3) (used t t_in w w_in d a.0 a.1 (written_isn't_scratch a.0.mode a.2) a.3) in
+            together d a.0 b.0 a.1 b.1 a.3 b.3 (sym alike.0, subst IsSharedManner alike.0 alike.1)
+        by_tests false false e f = search (arith, Apart, false≢true, any-has)

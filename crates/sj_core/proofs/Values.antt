@@ -1,24 +1,24 @@
 -- A cell whose old value a task reads has been written by the time that the task may run.
-use Rattle.std.proofs.Common.{arith, ◌≡◌, Bool, true, false, cond, List, [], map, length, refl, sym, ap, ◌∙◌, None, Some, Option, get_or, inl, inr, not, subst, suc, zero, ℕ, ◌&&◌, ◌<◌, ◌⊎◌, ℤ, count_by, IsTrue, filter, Contains}
-use Rattle.std.proofs.lemmas.List.{length-map}
-use Rattle.std.proofs.lemmas.List.Sums.{length-filter, get_or-le-sum_by}
-use Rattle.std.proofs.lemmas.Bool.{false≢true}
-use Rattle.std.proofs.lemmas.Bool.Decides.{Decides-eqb}
-use Rattle.std.proofs.lemmas.List.Elements.{All-contains}
-use Rattle.std.proofs.lemmas.List.FromFn.{get_or-map-range_with_len, length-map-range_with_len}
+use Rattle.std.proofs.Common.{arith, ◌≡◌, Bool, true, false, cond, List, [], map, length, refl, sym, ap, ◌∙◌, None}
+use Rattle.std.proofs.Common.{Some, Option, inl, inr, not, subst, suc, zero, ℕ, ◌&&◌, ◌<◌, ◌⊎◌, ℤ, count_by, IsTrue}
+use Rattle.std.proofs.Common.{filter, Contains}
+use Rattle.sj_core.proofs.Words.{Access, Array, Cell, CommuteMode, Kernel, Manner, Mode, Program, R, Redux, Scratch}
+use Rattle.sj_core.proofs.Words.{State, Task, W, Worker, Write, cells_of, copy_of, data_operands, done_by, found}
+use Rattle.sj_core.proofs.Words.{fresh_cells, has_cell, results, same_cell, task_of, tasks_of, worked_on, writes}
+use Rattle.sj_core.proofs.Words.{written_cells}
+use Rattle.std.proofs.lemmas.{List.Sums.length-filter, List.length-map, Bool.false≢true, Bool.Decides.Decides-eqb}
+use Rattle.std.proofs.lemmas.{List.Elements.All-contains}
 use Rattle.sj_codelet.proofs.Table.{new_arrays-count}
 use Rattle.sj_codelet.specs.Kernel.{new_arrays}
 use Rattle.sj_base.specs.Mode.{is_written, is_redux, is_scratch, reads_value, starts_as_zeros}
-use Rattle.sj_core.specs.Proper.{Fits, MayHaveModes, own_modes, modes_writing_by, HasValueBefore, Proper, access, gives_value}
+use Rattle.sj_core.specs.Proper.{Fits, MayHaveModes, own_modes, modes_writing_by, HasValueBefore, Proper, access}
+use Rattle.sj_core.specs.Proper.{gives_value}
+use Rattle.sj_core.specs.{Coherent.WritesAreCounted, Coherent.has_written, Step.EarlierAreDone}
 use Rattle.sj_deps.specs.Conflict.{Conflict, IsShared, Uses}
-use Rattle.sj_core.specs.Coherent.{WritesAreCounted, has_written}
-use Rattle.sj_core.specs.Step.{EarlierAreDone}
-use Rattle.sj_core.proofs.Words.{Access, Array, Cell, CommuteMode, Kernel, Manner, Mode, Program, R, RW, Redux, Scratch, State, Task, W, Worker, Write, cells_of, copy_of, data_operands, done_by, found, fresh_cells, has_cell, results, same_cell, task_of, tasks_of, worked_on, writes, written_cells}
-use Rattle.sj_core.proofs.Dependencies.{Proper-dependencies}
-use Rattle.sj_core.proofs.Readiness.{Contains-filter, list_any-some}
-use Rattle.sj_core.proofs.Reading.{same_cell-is}
-use Rattle.sj_core.proofs.Sharing.{manner_of, operand-has_cell, operand-uses, operand_for, redux-has_copies, write_isn't_read}
-use Rattle.sj_core.proofs.Sums.{sum_by-map, sum-agree}
+use Rattle.sj_core.proofs.{Dependencies.Proper-dependencies, Readiness.Contains-filter, Readiness.list_any-some}
+use Rattle.sj_core.proofs.{Reading.list_any-numbered, Reading.same_cell-is, Sharing.manner_of, Sharing.operand-has_cell}
+use Rattle.sj_core.proofs.{Sharing.operand-uses, Sharing.operand_for, Sharing.redux-has_copies}
+use Rattle.sj_core.proofs.{Sharing.write_isn't_read, Sums.counted-has, Sums.sum_by-map, Sums.sum-agree}
 
 -- ---- a task's codelet has a new array for each operand that the task writes
 
@@ -70,19 +70,14 @@ module _ (p : Program) (proper : Proper p) (s : State) (t : Task) (w : Worker) (
   giver : (u : Task) → u.0 < length p.tasks → (x : Mode) (d : Cell) → Contains (task_of p u).accesses (access x d) → (is_written x && not (is_redux x) && same_cell d c) ≡ true →
       ((x ≡ CommuteMode) × (d ≡ c)) ⊎ (Uses p u.0 c.0 Write × ((v : Worker) → has_cell (written_cells p u v) c ≡ true))
   giver u u_in CommuteMode d has passes = inl (refl, same_cell-is d c passes)
-  giver u u_in W d has passes =
-      let same = same_cell-is d c passes in
-      inr (
-        subst (λ (q : Cell). Uses p u.0 q.0 Write) same (operand-uses p u w W d u_in has refl (λ e. absurd (false≢true e))),
-        λ v. operand-has_cell (worked_on p v) (λ a. is_written a.mode) (task_of p u).accesses (access W d) c has refl passes,
-      )
-  giver u u_in RW d has passes =
-      let same = same_cell-is d c passes in
-      inr (
-        subst (λ (q : Cell). Uses p u.0 q.0 Write) same (operand-uses p u w RW d u_in has refl (λ e. absurd (false≢true e))),
-        λ v. operand-has_cell (worked_on p v) (λ a. is_written a.mode) (task_of p u).accesses (access RW d) c has refl passes,
-      )
-  giver u u_in d' d has passes = absurd (false≢true passes)
+  giver u u_in R d has passes = absurd (false≢true passes)
+  giver u u_in Redux d has passes = absurd (false≢true passes)
+  giver u u_in Scratch d has passes = absurd (false≢true passes)
+  giver u u_in x d has passes =
+      let uses = operand-uses p u w x d u_in has refl (λ e. absurd (false≢true e)) in
+      let writes : (v : Worker) → has_cell (written_cells p u v) c ≡ true =
+      λ v. operand-has_cell (worked_on p v) (λ a. is_written a.mode) (task_of p u).accesses (access x d) c has refl passes in
+      inr (subst (λ (q : Cell). Uses p u.0 q.0 Write) (same_cell-is d c passes) uses, writes)
 
   -- some done task wrote a cell that had a value before a task that uses it
   wrote : (n : Manner) → Uses p t.0 c.0 n → (bound : ℕ) (u : Task) → u.0 < bound → u.0 < t.0 → gives_value (task_of p u) c ≡ true → (v : Task) × (v.0 < t.0) × (has_written p s c v ≡ true)
@@ -96,8 +91,7 @@ module _ (p : Program) (proper : Proper p) (s : State) (t : Task) (w : Worker) (
       by_giver a has (inr (by_itself, written)) later =
           let done = earlier u before (conflicts u n by_itself uses) in
           (u, before, ap (λ b. b && has_cell (written_cells p u (done_by s u)) c) done ∙ written (done_by s u))
-      by_giver a has (inl (commutes, same)) later =
-          (search (arith, All-contains))
+      by_giver a has (inl (commutes, same)) later = search (arith, All-contains)
 
   -- a cell of the task that it doesn't find as zeros had a value before it, and is used by it
   old_value : has_cell (cells_of p t w) c ≡ true → has_cell (fresh_cells p t w) c ≡ false → HasValueBefore p t c × ((n : Manner) × Uses p t.0 c.0 n)
@@ -115,19 +109,13 @@ module _ (p : Program) (proper : Proper p) (s : State) (t : Task) (w : Worker) (
           let among : Contains (data_operands (task_of p t)) (access W d) = Contains-filter (λ (a : Access). not (is_scratch a.mode)) (task_of p t).accesses (access W d) refl has in
           let fresh = operand-has_cell (worked_on p w) (λ a. starts_as_zeros a.mode) (data_operands (task_of p t)) (access W d) c among refl ((Decides-eqb d.0 c.0).1 (ap (λ (q : Cell). q.0) is)) in
           absurd (false≢true (sym not_fresh ∙ fresh))
-      by_mode R d has accessed is = subst (HasValueBefore p t) is (value (access R d) has refl)
-      by_mode RW d has accessed is = subst (HasValueBefore p t) is (value (access RW d) has refl)
-      by_mode CommuteMode d has accessed is = subst (HasValueBefore p t) is (value (access CommuteMode d) has refl)
       by_mode Redux d has accessed is = subst (HasValueBefore p t) is (All-contains (λ (b : Access). IsTrue (is_redux b.mode) → (v : Worker) → v.0 < p.workers → HasValueBefore p t (copy_of p b.cell v)) (task_of p t).accesses (access Redux d) (proper.values.copies t) has refl w staffed)
+      by_mode x d has accessed is = subst (HasValueBefore p t) is (value (access x d) has refl)
 
   -- and so it has been written
   pub old_value-written : WritesAreCounted p s → has_cell (cells_of p t w) c ≡ true → has_cell (fresh_cells p t w) c ≡ false → 0 < writes s c
   old_value-written counts has not_fresh =
       let both = old_value has not_fresh in
       let found = wrote both.1.0 both.1.1 t.0 both.0.0 both.0.1 both.0.1 both.0.2 in
-      let number : ℕ → Task = λ n. record { 0 = n } in
-      let one : Task → ℕ = λ u. cond (has_written p s c u) 1 0 in
-      let at_found : get_or (tasks_of p) found.0.0 found.0 ≡ found.0 = get_or-map-range_with_len number 0 (length p.tasks) found.0.0 found.0.0 found.0 (omega (arith, found.1, inside)) (omega arith) in
-      let is_one : one (get_or (tasks_of p) found.0.0 found.0) ≡ 1 = ap one at_found ∙ ap (λ b. cond b 1 0) found.2 in
-      let all = get_or-le-sum_by one (tasks_of p) found.0.0 found.0 (omega (arith, found.1, inside, length-map-range_with_len number 0 (length p.tasks))) in
+      let all = counted-has (has_written p s c) (tasks_of p) (list_any-numbered (λ n. record { 0 = n }) (has_written p s c) found.0.0 (length p.tasks) (omega (arith, found.1, inside)) found.2) in
       omega (arith, counts.counted c)

@@ -1,10 +1,12 @@
 -- Needs, first fit and victims on small programs, with the numbers worked out by hand.
 use Rattle.std.proofs.Common.{ℕ, Option, List, ◌∷◌, ◌≡◌, not, [], map, refl, Some, None, ℤ, pos, option_map, nat_eq}
+use Rattle.sj_core.proofs.Words.{Access, AtNode, Cell, CellInfo, Claim, End, Event, Kernel, Lowered, Machine, Mode}
+use Rattle.sj_core.proofs.Words.{OnDisk, Place, Run, Task, Worker, Block, Program, R, Redux, Scratch, footprint, place}
+use Rattle.sj_core.proofs.Words.{room, swap_need}
 use Rattle.sj_base.specs.declared.mode.Policy.TheVariants.{Eager}
 use Rattle.sj_codelet.specs.Kernel.{codelet_of}
-use Rattle.sj_core.specs.Victims.{victims}
 use Rattle.sj_codelet.specs.declared.kernel.Kernel.TheVariants.{Sum, GemmThree}
-use Rattle.sj_core.proofs.Words.{Access, AtNode, Cell, CellInfo, Claim, End, Event, Kernel, Lowered, Machine, Mode, OnDisk, Place, Run, Task, Worker, Block, Program, R, Redux, Scratch, footprint, place, room, swap_need}
+use Rattle.sj_core.specs.Victims.{victims}
 
 -- ---- words in which worked jobs and their events are told
 
@@ -56,16 +58,11 @@ disk_and_position b = (b.disk.0, b.position)
 abbrev placed : List ℕ → Option (List (ℕ × ℕ))
 placed sizes = option_map (map disk_and_position) (place reduction sizes)
 
--- on one disk the blocks lie one behind another
-pub fits_one : placed (152 ∷ []) ≡ Some ((0, 0) ∷ (0, 56) ∷ (0, 88) ∷ (0, 120) ∷ [])
-fits_one = refl
-
-pub one_byte_short : placed (151 ∷ []) ≡ None
-one_byte_short = refl
-
--- each block takes the first disk with room, also one that an earlier block passed over
-pub fits_three : placed (40 ∷ 60 ∷ 64 ∷ []) ≡ Some ((1, 0) ∷ (0, 0) ∷ (2, 0) ∷ (2, 32) ∷ [])
-fits_three = refl
+-- on one disk the blocks lie one behind another, and one byte less is too few; of several, each block takes the first disk with
+-- room, also one that an earlier block passed over
+pub places_are : (placed (152 ∷ []) ≡ Some ((0, 0) ∷ (0, 56) ∷ (0, 88) ∷ (0, 120) ∷ [])) × (placed (151 ∷ []) ≡ None)
+    × (placed (40 ∷ 60 ∷ 64 ∷ []) ≡ Some ((1, 0) ∷ (0, 0) ∷ (2, 0) ∷ (2, 32) ∷ []))
+places_are = (refl, refl, refl)
 
 -- a REDUX operand counts as one cell; a cell that is named twice counts once, and scratch beside it
 pub footprints_are : (footprint reduction (record { 0 = 0 }) ≡ 40) × (footprint reduction (record { 0 = 1 }) ≡ 40)
@@ -75,21 +72,11 @@ footprints_are = (refl, refl)
 pub rooms_are : (room (a_machine 1 (48 ∷ 1000 ∷ []) []) ≡ 48) × (room (a_machine 2 (48 ∷ 1000 ∷ []) []) ≡ 1000)
 rooms_are = (refl, refl)
 
--- entries of 8, 16, 24 and 32 bytes, most recent first, the third pinned; 4 bytes are free
+-- entries of 8, 16, 24 and 32 bytes, most recent first, the third pinned; 4 bytes are free: no victim, the least recent, past the
+-- pinned one, all that aren't pinned, and too few
 abbrev evicted : ℕ → Option (List ℕ)
 evicted need = victims (λ bytes. bytes) (λ bytes. not (nat_eq bytes 24)) (8 ∷ 16 ∷ 24 ∷ 32 ∷ []) 4 need
 
-pub no_victim : evicted 4 ≡ Some []
-no_victim = refl
-
-pub least_recent : evicted 5 ≡ Some (32 ∷ [])
-least_recent = refl
-
-pub passes_over_pinned : evicted 37 ≡ Some (16 ∷ 32 ∷ [])
-passes_over_pinned = refl
-
-pub all_unpinned : evicted 60 ≡ Some (8 ∷ 16 ∷ 32 ∷ [])
-all_unpinned = refl
-
-pub not_enough : evicted 61 ≡ None
-not_enough = refl
+pub evictions_are : (evicted 4 ≡ Some []) × (evicted 5 ≡ Some (32 ∷ [])) × (evicted 37 ≡ Some (16 ∷ 32 ∷ []))
+    × (evicted 60 ≡ Some (8 ∷ 16 ∷ 32 ∷ [])) × (evicted 61 ≡ None)
+evictions_are = (refl, refl, refl, refl, refl)

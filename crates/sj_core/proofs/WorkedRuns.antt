@@ -1,20 +1,17 @@
 -- Worked jobs whose runs are legal and complete: a sum, vectors that don't fit their node together, a reduction.
 use Rattle.std.proofs.Common.{◌≡◌, ℕ, List, [], ◌∷◌, refl, None, arith, lit<, lit≤, pos}
+use Rattle.sj_core.proofs.Words.{Claim, Drop, End, Event, Machine, Manner, Move, Moved, Program, R, RW, Run, State}
+use Rattle.sj_core.proofs.Words.{Valid, W, Write, order, replica, victims_of, writes}
 use Rattle.std.specs.Int.{int_wrap}
 use Rattle.std.proofs.lemmas.Bool.{false≢true}
-use Rattle.sj_core.proofs.Words.{Claim, Drop, End, Event, Machine, Manner, Move, Moved, Program, R, RW, Run, State, Valid, W, Write, order, replica, victims_of, writes}
 use Rattle.sj_codelet.specs.declared.kernel.Kernel.TheVariants.{Load, Add, Deliver}
 use Rattle.sj_codelet.specs.Equations.{vector}
 use Rattle.sj_deps.specs.Conflict.{Conflict, Uses, IsShared}
-use Rattle.sj_core.specs.Fold.{given}
-use Rattle.sj_core.specs.Legal.{Legal, IsComplete, state_of}
-use Rattle.sj_core.specs.Proper.{IsMachineFor, HasSwapFor}
-use Rattle.sj_core.specs.Step.{Claims, Runs, disk_of}
+use Rattle.sj_core.specs.{Fold.given, Legal.Legal, Legal.IsComplete, Legal.state_of, Proper.IsMachineFor}
+use Rattle.sj_core.specs.{Proper.HasSwapFor, Step.Claims, Step.Runs, Step.disk_of}
 use Rattle.sj_core.proofs.Worked.{a_machine, a_task, access, cell, columns, disk, node, task, turn, worker}
-use Rattle.sj_core.proofs.Readiness.{Ready-earlier}
+use Rattle.sj_core.proofs.{Readiness.Ready-earlier, Testing.legal-from, Sharing.write_isn't_read}
 use Rattle.sj_core.proofs.Reduction
-use Rattle.sj_core.proofs.Testing.{legal-from}
-use Rattle.sj_core.proofs.Sharing.{write_isn't_read}
 
 -- ---- a sum
 
@@ -37,17 +34,12 @@ sum-trace = turn 0 0 (turn 1 0 (turn 2 0 (turn 3 0 [])))
 pub sum-legal : Legal sum machine sum-trace
 sum-legal = legal-from sum machine sum-trace refl
 
-pub sum-complete : IsComplete (state_of sum machine sum-trace)
-sum-complete = refl
-
--- what is printed is y + x
-pub sum-delivers : given sum (task 3) ≡ vector (pos 11 ∷ pos 22 ∷ pos 33 ∷ [])
+-- it is complete; what is printed is y + x; at the end the printed cell, which was written twice, holds that array on the node
+pub sum-delivers : IsComplete (state_of sum machine sum-trace) × (given sum (task 3) ≡ vector (pos 11 ∷ pos 22 ∷ pos 33 ∷ []))
+    × (replica (state_of sum machine sum-trace) (cell 1) node ≡ Valid (given sum (task 3)))
+    × (writes (state_of sum machine sum-trace) (cell 1) ≡ 2)
 unfolding int_wrap
-sum-delivers = refl
-
--- at the end the printed cell, which was written twice, holds that array on the node, and so that is its owner
-pub sum-leaves : (replica (state_of sum machine sum-trace) (cell 1) node ≡ Valid (given sum (task 3))) × (writes (state_of sum machine sum-trace) (cell 1) ≡ 2)
-sum-leaves = (refl, refl)
+sum-delivers = (refl, refl, refl, refl)
 
 -- the second load writes what the sum updates, and neither commutes
 load_conflicts : Conflict sum 1 2
@@ -75,11 +67,8 @@ pub is_its_machine : IsMachineFor three machine
 is_its_machine = record { workers = refl; some_worker = lit≤ tt; few_workers = lit≤ tt; some_node = lit≤ tt; few_nodes = lit≤ tt; few_disks = lit≤ tt }
 
 -- the disk takes all three; where there is none, no cell has a disk
-pub has_its_swap : HasSwapFor three machine
-has_its_swap = record { blocks_fit = refl }
-
-pub has_no_disk : disk_of three (a_machine 1 (64 ∷ []) []) (cell 0) ≡ None
-has_no_disk = refl
+pub disks_are : HasSwapFor three machine × (disk_of three (a_machine 1 (64 ∷ []) []) (cell 0) ≡ None)
+disks_are = (record { blocks_fit = refl }, refl)
 
 -- the cell's one replica is written to the disk and dropped from the node
 abbrev evict : ℕ → List Event → List Event
@@ -95,16 +84,13 @@ three-trace = loads (evict 1 (Move (cell 0) disk node ∷ Moved (cell 0) disk no
 pub three-legal : Legal three machine three-trace
 three-legal = legal-from three machine three-trace refl
 
-pub three-complete : IsComplete (state_of three machine three-trace)
-three-complete = refl
-
--- the delivery evicts the least recent vector, and its own comes first
-pub three-evicts : (victims_of (state_of three machine (loads [])) (worker 0) ≡ cell 1 ∷ []) × (order (state_of three machine (loads [])) (record { 0 = 0 }) ≡ cell 0 ∷ cell 2 ∷ [])
-three-evicts = (refl, refl)
-
--- the vector that comes back from the disk is the one that was loaded
-pub three-brings_back : replica (state_of three machine three-trace) (cell 0) node ≡ Valid (vector (pos 1 ∷ pos 2 ∷ pos 3 ∷ []))
-three-brings_back = refl
+-- it is complete; the delivery evicts the least recent vector, and its own comes first; the vector that comes back from the disk
+-- is the one that was loaded
+pub three-evicts : IsComplete (state_of three machine three-trace)
+    × (victims_of (state_of three machine (loads [])) (worker 0) ≡ cell 1 ∷ [])
+    × (order (state_of three machine (loads [])) (record { 0 = 0 }) ≡ cell 0 ∷ cell 2 ∷ [])
+    × (replica (state_of three machine three-trace) (cell 0) node ≡ Valid (vector (pos 1 ∷ pos 2 ∷ pos 3 ∷ [])))
+three-evicts = (refl, refl, refl, refl)
 
 -- the delivery may not run while its victim is leaving
 pub three-waits : (s' : State) → ¬ Runs three machine (state_of three machine (loads [])) (task 3) (worker 0) s'
@@ -122,10 +108,9 @@ reduction-trace = turn 0 0 (turn 1 1 (turn 2 0 (turn 3 0 (turn 4 1 (turn 5 1 (tu
 pub reduction-legal : Legal Reduction.job two_workers reduction-trace
 reduction-legal = legal-from Reduction.job two_workers reduction-trace refl
 
-pub reduction-complete : IsComplete (state_of Reduction.job two_workers reduction-trace)
-reduction-complete = refl
-
--- 5 + 2, also where a worker other than the first contributed
-pub reduction-delivers : (given Reduction.job (task 9) ≡ vector (pos 7 ∷ [])) × (replica (state_of Reduction.job two_workers reduction-trace) (cell 2) node ≡ Valid (vector (pos 7 ∷ [])))
+-- complete, and 5 + 2, also where a worker other than the first contributed
+pub reduction-delivers : IsComplete (state_of Reduction.job two_workers reduction-trace)
+    × (given Reduction.job (task 9) ≡ vector (pos 7 ∷ []))
+    × (replica (state_of Reduction.job two_workers reduction-trace) (cell 2) node ≡ Valid (vector (pos 7 ∷ [])))
 unfolding int_wrap
-reduction-delivers = (refl, refl)
+reduction-delivers = (refl, refl, refl)

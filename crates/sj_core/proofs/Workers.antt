@@ -1,38 +1,34 @@
 -- What cells hold after all tasks up to one doesn't depend on the workers of the contributions, but in partial copies and under open phases.
-use Rattle.std.proofs.Common.{Bool, List, ap, arith, cond, false, inl, inr, length, not, refl, subst, suc, sym, true, zero, ℕ, ◌<◌, ◌≤◌, ◌∙◌, ◌≡◌, ◌≢◌, [], get_or, ◌||◌, ◌∷◌, ◌⊎◌, Contains, zip, is_some, nat_lt}
+use Rattle.std.proofs.Common.{Bool, List, ap, arith, cond, false, inl, inr, length, not, refl, subst, suc, sym, true}
+use Rattle.std.proofs.Common.{zero, ℕ, ◌<◌, ◌≤◌, ◌∙◌, ◌≡◌, ◌≢◌, [], get_or, ◌||◌, ◌∷◌, ◌⊎◌, Contains, zip, is_some}
+use Rattle.std.proofs.Common.{nat_lt}
+use Rattle.sj_core.proofs.Words.{Access, Array, Cell, Codelet, Kernel, Mode, Program, R, Read, Redux, Task, W, Worker}
+use Rattle.sj_core.proofs.Words.{cells_of, has_cell, no_task, results, task_of, worked_on, written_cells, cell_info}
+use Rattle.sj_core.proofs.Words.{copy_of, dims_of, same_cell}
 use Rattle.std.specs.List.{list_any}
 use Rattle.std.proofs.lemmas.Bool.{cases_Bool, false_from_ne_true, false≢true, cases_lt, true≢false, cases_eq}
 use Rattle.std.proofs.lemmas.List.Elements.{All-get_or, Contains-append_left}
-use Rattle.std.proofs.lemmas.Bool.Decides.{nat_tests}
-use Rattle.std.proofs.lemmas.List.Folds.{list_any_at}
+use Rattle.std.proofs.lemmas.{Bool.Decides.nat_tests, List.Folds.list_any_at}
 use Rattle.sj_base.specs.Mode.{is_in_order, is_scratch, is_written, starts_as_zeros, is_redux}
 use Rattle.sj_deps.specs.Conflict.{Conflict, IsShared, Uses}
-use Rattle.sj_core.specs.Fold.{Contents, after_chosen, after_task, held_in}
-use Rattle.sj_core.specs.Laws.{IsLawful}
 use Rattle.sj_core.specs.Proper.{Fits, Proper, IsCombine, IsOpenAt, IsPhase, IsPlain, Phase, access, task_number}
+use Rattle.sj_core.specs.{Fold.Contents, Fold.after_chosen, Fold.after_task, Fold.held_in, Laws.IsLawful}
 use Rattle.sj_codelet.specs.Laws.{IsReduction, IsTile, combined}
-use Rattle.sj_core.proofs.Words.{Access, Array, Cell, Codelet, Kernel, Mode, Program, R, Read, Redux, Task, W, Worker, cells_of, has_cell, no_task, results, task_of, worked_on, written_cells, cell_info, copy_of, dims_of, same_cell}
-use Rattle.sj_core.proofs.Values.{results-complete}
-use Rattle.sj_core.proofs.Dependencies.{Proper-dependencies}
-use Rattle.sj_core.proofs.Updating.{may-swap, operand-used}
-use Rattle.sj_core.proofs.Folding.{after_task-other, held-append, held_over, held_over-own, number, read-among_cells, results-same, after_chosen-same, WorksAlike, cone-holds}
-use Rattle.sj_core.proofs.Modes.{written_isn't_scratch, reads_isn't_scratch}
-use Rattle.sj_core.proofs.Phases.{contributions-exchange, Contributes, combine-after, combine-among, combine-reads, combine_at, contributes, copy-of, init-among, init-before, init_at, reduces}
-use Rattle.sj_core.proofs.Sharing.{conflict-by, manner_of, operand_for}
-use Rattle.sj_core.proofs.Swapping.{Apart, MaySwap, Together, update-spares}
+use Rattle.sj_core.proofs.Folding.{after_task-other, held-append, held_over, held_over-own, number, read-among_cells}
+use Rattle.sj_core.proofs.Folding.{results-same, after_chosen-same, WorksAlike, cone-holds}
+use Rattle.sj_core.proofs.Phases.{contributions-exchange, Contributes, combine-after, combine-among, combine-reads}
+use Rattle.sj_core.proofs.Phases.{combine_at, contributes, copy-of, init-among, init-before, init_at, reduces}
 use Rattle.sj_core.proofs.Adding.{adds, merge, merges, part, part-fills, part-same, update}
-use Rattle.sj_core.proofs.CellLists.{same_cell-refl}
-use Rattle.sj_core.proofs.Combining.{combined-swap}
-use Rattle.sj_core.proofs.Copies.{AtWork, Contribution, IsRefilled, OfCell, OfCopy, at-work, copy-bare, copy-own, direct-cell, refilled, redux_or}
-use Rattle.sj_core.proofs.TaskCells.{operand-inside, written-among_cells}
-use Rattle.sj_core.proofs.Reading.{same_cell-is}
-use Rattle.sj_core.proofs.Sized.{AreSized, after_chosen-sized}
-use Rattle.sj_core.proofs.Advancing.{same_task}
-use Rattle.sj_core.proofs.Readiness.{list_any-some}
+use Rattle.sj_core.proofs.Copies.{AtWork, Contribution, IsRefilled, OfCell, OfCopy, at-work, copy-bare, copy-own}
+use Rattle.sj_core.proofs.Copies.{direct-cell, refilled, redux_or}
+use Rattle.sj_core.proofs.{Sharing.conflict-by, Sharing.manner_of, Sharing.operand_for, Swapping.MaySwap}
+use Rattle.sj_core.proofs.{Swapping.update-spares, Values.results-complete, Dependencies.Proper-dependencies}
+use Rattle.sj_core.proofs.{Updating.may-swap, Updating.operand-used, Modes.written_isn't_scratch}
+use Rattle.sj_core.proofs.{Modes.reads_isn't_scratch, CellLists.same_cell-refl, Combining.combined-swap}
+use Rattle.sj_core.proofs.{TaskCells.operand-inside, TaskCells.written-among_cells, Reading.same_cell-is}
+use Rattle.sj_core.proofs.{Sized.AreSized, Sized.after_chosen-sized, Advancing.same_task, Readiness.list_any-some}
 
 -- ---- on which tasks a cell depends, whatever the modes: those with which its writers conflict, and no member of their groups beside those that write it
-
--- ---- one task
 
 -- a task whose operands' cells hold the same leaves the same in a cell that it writes, and what was the same in another one
 pub step-same : (p : Program) → Proper p → (t : Task) → t.0 < length p.tasks → (w : Worker) (before before' : Contents) (c : Cell) →
@@ -79,8 +75,7 @@ module _ (has : Kernel → Bool) (p : Program) (proper : Proper p) (lawful : IsL
   shares-all u t u_in t_in before free d c writes works over = by_kind (may-swap has p proper lawful u t u_in t_in (by u) (by t) (staffed u) (staffed t) free (contributions-exchange p proper has lawful u t u_in t_in (by u) (by t) (staffed u) (staffed t) free before))
     where
       by_kind : MaySwap p proper lawful.arguments u t (by u) (by t) → has_cell (written_cells p u (by u)) c ≡ true
-      by_kind (Apart half half') = absurd (half d writes works)
-      by_kind (Together e x y exchange) = ap (λ (cs : List Cell). has_cell cs c) (x.written ∙ sym y.written) ∙ over
+      by_kind b = search arith
 
   -- where the chosen tasks have the earlier ones that conflict with them, a cell all of whose writers are chosen holds the same after them alone
   pub cone-shared : (chosen : Task → Bool) (n : ℕ) → n ≤ length p.tasks → ((u t : Task) → u.0 < t.0 → t.0 < n → chosen t ≡ true → Conflict p u.0 t.0 → chosen u ≡ true) →
@@ -88,9 +83,6 @@ module _ (has : Kernel → Bool) (p : Program) (proper : Proper p) (lawful : IsL
   cone-shared chosen zero l closed c writers = refl
   cone-shared chosen (suc n) l closed c writers = by_choice (chosen (number n)) refl (cone-shared chosen n (omega arith) (λ u t before within. closed u t before (omega arith)))
     where
-      Rest : Type 0
-      Rest = (d : Cell) → ((u : Task) → u.0 < n → has_cell (written_cells p u (by u)) d ≡ true → chosen u ≡ true) → held_in p (after_chosen p chosen by n) d ≡ held_in p (after_chosen p (λ u. true) by n) d
-
       by_choice : (b : Bool) → chosen (number n) ≡ b → ((d : Cell) → ((u : Task) → u.0 < n → has_cell (written_cells p u (by u)) d ≡ true → chosen u ≡ true) → held_in p (after_chosen p chosen by n) d ≡ held_in p (after_chosen p (λ u. true) by n) d) →
           held_in p (cond b (after_task p (by (number n)) (number n) (after_chosen p chosen by n)) (after_chosen p chosen by n)) c ≡ held_in p (after_task p (by (number n)) (number n) (after_chosen p (λ u. true) by n)) c
       by_choice false e rest =
@@ -104,8 +96,6 @@ module _ (has : Kernel → Bool) (p : Program) (proper : Proper p) (lawful : IsL
                 writers u (omega arith) (shares-all u (number n) (omega arith) (omega arith) before free (worked_on p (by (number n)) a) c writes (read-among_cells p (number n) (by (number n)) a h reads) over)
           ]))
           (λ spared. rest c (λ u h. writers u (omega arith)))
-
--- ---- what cells hold after all tasks up to one doesn't depend on the workers of the contributions, but in partial copies and under open phases
 
 -- ---- one contribution by another worker: until both workers' copies are combined they differ by what it adds, and then nothing does but the
 -- copies, until they are filled anew.
@@ -186,12 +176,7 @@ module _ (has : Kernel → Bool) (p : Program) (proper : Proper p) (lawful : IsL
 
     -- on the cell itself the combines alone
     on-cell : has_cell (cells_of p (number n) v) c ≡ true → (x : Worker) × (x.0 < p.workers) × (n ≡ get_or f.combines x.0 0)
-    on-cell works =
-        let b = operand_for (worked_on p v) (λ b. not (is_scratch b.mode)) (task_of p (number n)).accesses c works in
-        by_kind b.0 b.1 b.3 (operand-at b.0 b.1 b.2 (inl b.3))
-      where
-        by_kind : (b : Access) → Contains (task_of p (number n)).accesses b → worked_on p v b ≡ c → AtWork p proper f phase has_copies n v b → (x : Worker) × (x.0 < p.workers) × (n ≡ get_or f.combines x.0 0)
-        by_kind b h is x = search (arith, copy-bare, c, has_copies, works-on, number, operand-inside)
+    on-cell works = search (arith, operand_for, number, operand-at, has_copies, copy-bare, works-on, operand-inside)
 
     -- a contribution reads no copy by another operand
     reads-none : Contains f.contributions n → (b : Access) → Contains (task_of p (number n)).accesses b → starts_as_zeros b.mode ≡ false → is_redux b.mode ≡ false → (y : Worker) → y.0 < p.workers → b.cell ≢ copy_of p c y
@@ -208,8 +193,7 @@ module _ (has : Kernel → Bool) (p : Program) (proper : Proper p) (lawful : IsL
         sym (works-on (number n) n_in v v_in b h redux' same) ∙ same_cell-is (worked_on p v b) d (unor (same_cell (worked_on p v b) d) (sym (ap (λ (cs : List Cell). has_cell cs d) one) ∙ writes))
       where
         unor : (x : Bool) → (x || false) ≡ true → x ≡ true
-        unor true e = refl
-        unor false e = e
+        unor b e = search arith
 
     -- a task that writes another cell reads no copy but one that it combines
     reads-elsewhere : (y : Worker) → y.0 < p.workers → n ≢ get_or f.combines y.0 0 → (d : Cell) → has_cell (written_cells p (number n) v) d ≡ true → d ≢ copy_of p c y → (b : Access) → Contains (task_of p (number n)).accesses b → starts_as_zeros b.mode ≡ false → worked_on p v b ≢ copy_of p c y
@@ -384,11 +368,8 @@ module _ (has : Kernel → Bool) (p : Program) (proper : Proper p) (lawful : IsL
   copy-not_cell : (y : Worker) → y.0 < p.workers → copy_of p c y ≢ c
   copy-not_cell y y_in = copy-bare p proper c has_copies y y_in c has_copies
 
-  one-fills : (n : ℕ) → n ≤ length p.tasks → (y : Worker) → y.0 < p.workers → IsTile (held_in p (one n) (copy_of p c y)) × ((held_in p (one n) (copy_of p c y)).dims ≡ dims_of p c)
-  one-fills n l y y_in = let fills = one-sized n l (copy_of p c y) in (fills.tile, fills.dims ∙ copy-dims y y_in)
-
-  other-fills : (n : ℕ) → n ≤ length p.tasks → (y : Worker) → y.0 < p.workers → IsTile (held_in p (other n) (copy_of p c y)) × ((held_in p (other n) (copy_of p c y)).dims ≡ dims_of p c)
-  other-fills n l y y_in = let fills = other-sized n l (copy_of p c y) in (fills.tile, fills.dims ∙ copy-dims y y_in)
+  copy-fills : (before : Contents) → AreSized p before → (y : Worker) → y.0 < p.workers → IsTile (held_in p before (copy_of p c y)) × ((held_in p before (copy_of p c y)).dims ≡ dims_of p c)
+  copy-fills before sized y y_in = let fills = sized (copy_of p c y) in (fills.tile, fills.dims ∙ copy-dims y y_in)
 
   t-first : t.0 < k
   t-first = combine-after p proper f phase (by t) (staffed t) t.0 of_t.among
@@ -399,7 +380,7 @@ module _ (has : Kernel → Bool) (p : Program) (proper : Proper p) (lawful : IsL
       let v_in = staffed (number k) in
       let l : k ≤ length p.tasks = omega (arith, inside) in
       let moved = other-next k (λ e. omega (arith, t-first, e)) in
-      let of_copy = other-fills k l (by t) (staffed t) in
+      let of_copy = copy-fills (other k) (other-sized k l) (by t) (staffed t) in
       let of_cell = other-sized k l c in
       record {
         alike = λ d dq dq' dc. merge-spares (by t) (staffed t) k refl v v_in (one k) d dc ∙ h.alike d dq dq' ∙ sym (merge-spares (by t) (staffed t) k refl v v_in (other k) d dc) ∙ ap (λ (z : Contents). held_in p z d) (sym moved);
@@ -421,8 +402,7 @@ module _ (has : Kernel → Bool) (p : Program) (proper : Proper p) (lawful : IsL
   unused n later before v v_in y y_in no_combine works = by_kind (on-copy n (omega (arith, later, t-first)) before v v_in y y_in works)
     where
       by_kind : OnCopy n v y → ⊥
-      by_kind (Merges at) = no_combine at
-      by_kind (Adds b h redux' cell own_worker own) = none-left n later own
+      by_kind b = search (arith, none-left)
 
   goes_on : (n : ℕ) → k < n → n < k' → n < length p.tasks → Halfway n → Halfway (suc n)
   goes_on n later before inside h =
@@ -457,15 +437,15 @@ module _ (has : Kernel → Bool) (p : Program) (proper : Proper p) (lawful : IsL
       merged-more : (n : ℕ) → k < n → n < k' → n < length p.tasks → Halfway n → (y : Worker) (y_in : y.0 < p.workers) → n ≡ get_or f.combines y.0 0 → (v : Worker) → v.0 < p.workers → held_in p (after_task p v (number n) (one n)) c ≡ combined f.by x (held_in p (after_task p v (number n) (other n)) c)
       merged-more n later before inside h y y_in at v v_in =
           let l : n ≤ length p.tasks = omega (arith, inside) in
-          let of_copy = other-fills n l y y_in in
+          let of_copy = copy-fills (other n) (other-sized n l) y y_in in
           let of_cell = other-sized n l c in
           let not_first : copy_of p c y ≢ q = λ e. (let same = ap (λ (u : Worker). get_or f.combines u.0 0) (copy-own p proper c has_copies y (by t) e) in omega (arith, later, at, same)) in
           let not_second : copy_of p c y ≢ q' = λ e. (let same = ap (λ (u : Worker). get_or f.combines u.0 0) (copy-own p proper c has_copies y (by' t) e) in omega (arith, before, at, same)) in
-          merged y y_in n at v v_in (one n)
-          ∙ ap (λ (m : Array). combined f.by m (held_in p (one n) c)) (h.alike (copy_of p c y) not_first not_second (copy-not_cell y y_in))
-          ∙ ap (combined f.by (held_in p (other n) (copy_of p c y))) h.more
-          ∙ combined-swap f.by law x (held_in p (other n) (copy_of p c y)) (held_in p (other n) c) x-fills.0 of_copy.0 of_cell.tile (x-fills.1 ∙ sym of_cell.dims) (of_copy.1 ∙ sym of_cell.dims)
-          ∙ ap (combined f.by x) (sym (merged y y_in n at v v_in (other n)))
+          let first = merged y y_in n at v v_in (one n) in
+          let second = merged y y_in n at v v_in (other n) in
+          let same = h.alike (copy_of p c y) not_first not_second (copy-not_cell y y_in) in
+          let swapped = combined-swap f.by law x (held_in p (other n) (copy_of p c y)) (held_in p (other n) c) x-fills.0 of_copy.0 of_cell.tile (x-fills.1 ∙ sym of_cell.dims) (of_copy.1 ∙ sym of_cell.dims) in
+          cc
 
   -- ---- both are combined
 
@@ -477,10 +457,7 @@ module _ (has : Kernel → Bool) (p : Program) (proper : Proper p) (lawful : IsL
       by_kind x = search arith
 
   ends : k' < length p.tasks → Halfway k' → Over (suc k')
-  ends inside h = record {
-    alike = λ d fresh fresh'.
-        (search (arith, no-refill, t-first, by_cell, cases_Bool, moved));
-  }
+  ends inside h = search (arith, no-refill, t-first, by_cell, cases_Bool, moved)
     where
       v : Worker
       v = by (number k')
@@ -494,14 +471,13 @@ module _ (has : Kernel → Bool) (p : Program) (proper : Proper p) (lawful : IsL
       cell : held_in p (after_task p (by (number k')) (number k') (one k')) c ≡ held_in p (after_task p (by (number k')) (number k') (other k')) c
       cell =
           let l : k' ≤ length p.tasks = omega (arith, inside) in
-          let of_copy = one-fills k' l (by' t) (staffed' t) in
+          let of_copy = copy-fills (one k') (one-sized k' l) (by' t) (staffed' t) in
           let of_cell = other-sized k' l c in
-          merged (by' t) (staffed' t) k' refl (by (number k')) v_in (one k')
-          ∙ ap (combined f.by (held_in p (one k') q')) h.more
-          ∙ combined-swap f.by law x (held_in p (one k') q') (held_in p (other k') c) x-fills.0 of_copy.0 of_cell.tile (x-fills.1 ∙ sym of_cell.dims) (of_copy.1 ∙ sym of_cell.dims)
-          ∙ sym (law.associative x (held_in p (one k') q') (held_in p (other k') c) x-fills.0 of_copy.0 of_cell.tile (x-fills.1 ∙ sym of_copy.1) (of_copy.1 ∙ sym of_cell.dims))
-          ∙ ap (λ (m : Array). combined f.by m (held_in p (other k') c)) (sym h.less)
-          ∙ sym (merged (by' t) (staffed' t) k' refl (by (number k')) v_in (other k'))
+          let first = merged (by' t) (staffed' t) k' refl (by (number k')) v_in (one k') in
+          let second = merged (by' t) (staffed' t) k' refl (by (number k')) v_in (other k') in
+          let swapped = combined-swap f.by law x (held_in p (one k') q') (held_in p (other k') c) x-fills.0 of_copy.0 of_cell.tile (x-fills.1 ∙ sym of_cell.dims) (of_copy.1 ∙ sym of_cell.dims) in
+          let joined = law.associative x (held_in p (one k') q') (held_in p (other k') c) x-fills.0 of_copy.0 of_cell.tile (x-fills.1 ∙ sym of_copy.1) (of_copy.1 ∙ sym of_cell.dims) in
+          cc
 
       by_cell : (d : Cell) → d ≢ q → d ≢ q' → (same_cell d c ≡ true) ⊎ (same_cell d c ≡ false) → held_in p (after_task p (by (number k')) (number k') (one k')) d ≡ held_in p (after_task p (by (number k')) (number k') (other k')) d
       by_cell d dq dq' (inl e) = subst (λ (z : Cell). held_in p (after_task p (by (number k')) (number k') (one k')) z ≡ held_in p (after_task p (by (number k')) (number k') (other k')) z) (sym (same_cell-is d c e)) cell
@@ -603,19 +579,10 @@ module _ (has : Kernel → Bool) (p : Program) (proper : Proper p) (lawful : IsL
 
     mixed-staffed : (m : ℕ) (u : Task) → (mixed m u).0 < p.workers
     unfolding mixed
-    mixed-staffed m u = by_test (nat_lt u.0 m)
-      where
-        by_test : (b : Bool) → (cond b (by' u) (by u)).0 < p.workers
-        by_test true = staffed' u
-        by_test false = staffed u
+    mixed-staffed m u = search arith
 
     one_more : (m : ℕ) (u : Task) → u ≢ number m → mixed (suc m) u ≡ mixed m u
-    one_more m u other = elim (cases_lt u.0 m) [
-      | inl below ↦ mixed-below (suc m) u (omega (arith, below)) ∙ sym (mixed-below m u below)
-      | inr from ↦
-          let differ : u.0 ≢ m = λ e. other (ap number e) in
-          mixed-from (suc m) u (omega (arith, from, differ)) ∙ sym (mixed-from m u from)
-    ]
+    one_more m u other = search (arith, cases_lt, mixed-below, differ, number, mixed-from)
 
     chained : (m : ℕ) → m ≤ n → held_in p (after_chosen p every by n) d ≡ held_in p (after_chosen p every (mixed m) n) d
     chained zero l = ap (λ z. held_in p z d) (after_chosen-same p every every by (mixed 0) n (λ u h. refl) (λ u h e. sym (mixed-from 0 u (omega arith))))
