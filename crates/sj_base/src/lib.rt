@@ -2,6 +2,7 @@
 //! the events of a run, and small list types whose contracts see plain lists.
 #![tactic(auto)]
 
+pub mod few;
 pub mod ids;
 pub mod keyed;
 pub mod memory;

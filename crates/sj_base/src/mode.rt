@@ -45,3 +45,13 @@ pub struct Access {
     pub mode: Mode,
     pub cell: Cell,
 }
+
+impl Default for Access {
+    /// What fills the places of a short list that no access takes.
+    fn default() -> Access {
+        Access {
+            mode: Mode::R,
+            cell: Cell(0),
+        }
+    }
+}

@@ -1,5 +1,6 @@
 //! The lowered program: cells, tasks over cells, and deliveries; and the machine that runs it.
 
+use crate::few::Few;
 use crate::ids::{Cell, Line, Root, Task};
 use crate::mode::{Access, Policy};
 use crate::sequence::Sequence;
@@ -13,8 +14,8 @@ pub struct Codelet(pub u16);
 #[derive(Debug, Drop)]
 pub struct Lowered {
     pub codelet: Codelet,
-    pub args: Sequence<i64>,
-    pub accesses: Sequence<Access>,
+    pub args: Few<i64>,
+    pub accesses: Few<Access>,
     /// The line of the statement that it comes from.
     pub line: Line,
     /// Higher is more urgent.

@@ -3,8 +3,8 @@
 ghost use Rattle.std.specs.Prelude.{◌≡◌, ◌+◌, ◌<◌, ◌≤◌, ◌&&◌, ◌==◌, ℕ, All, IfOk, OnErr, length, vec_capacity, count_by, nat_lt, slice_set, ◌-◌, min};
 ghost use Rattle.sj_deps.specs.Chains.{joins, no_chain, joins_last, waits_of, is_party, left_from, Pushes, IsRun, Releases, Finishes};
 
-use crate::few::Few;
 use crate::manner::Manner;
+use sj_base::few::Few;
 use sj_base::memory::OutOfMemory;
 use std::alloc::Global;
 

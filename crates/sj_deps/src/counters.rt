@@ -10,8 +10,8 @@ ghost use Rattle.sj_deps.specs.Counts.{Frees, Mutual, blocked, is_task, owed, pa
 use crate::chain::Chain;
 use crate::crew::Crew;
 use crate::entry::{empty_lists, enter_tasks};
-use crate::few::Few;
 use crate::settle::leave_all;
+use sj_base::few::Few;
 use sj_base::ids::Task;
 use sj_base::memory::OutOfMemory;
 use sj_base::program::Program;

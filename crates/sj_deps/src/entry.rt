@@ -10,8 +10,8 @@ ghost use Rattle.sj_deps.specs.Counts.{Entering, Begun, Built, Holds, Adds, Appe
 
 use crate::chain::{Chain, Member};
 use crate::crew::Crew;
-use crate::few::Few;
 use crate::manner::Manner;
+use sj_base::few::Few;
 use sj_base::ids::{Cell, Task};
 use sj_base::memory::OutOfMemory;
 use sj_base::mode::{Access, Mode};

@@ -7,7 +7,6 @@ mod counters;
 mod crew;
 pub mod deps;
 mod entry;
-mod few;
 pub mod manner;
 mod settle;
 #[cfg(test)]

@@ -6,7 +6,7 @@ ghost use Rattle.sj_deps.specs.Chains.{is_party, left_of, waits_of};
 ghost use Rattle.sj_deps.specs.Counts.{CanSettle, Settles, SameMembers, Answers, Fits};
 
 use crate::chain::Chain;
-use crate::few::Few;
+use sj_base::few::Few;
 
 /// Counts a party as finished in the chains of its cells, and appends the parties that wait no more. Linear
 /// in the cells and in the accesses that are released.

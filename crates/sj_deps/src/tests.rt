@@ -7,6 +7,7 @@ ghost use Rattle.sj_deps.specs.Countable.{Agrees, IsCountable};
 use crate::deps::Deps;
 use crate::manner::Usage;
 use crate::usages::usages_of_task;
+use sj_base::few::Few;
 use sj_base::ids::{Cell, Line, Root, Task};
 use sj_base::memory::OutOfMemory;
 use sj_base::mode::{Access, Mode};
@@ -69,7 +70,7 @@ fn is_countable(alloc: Global, program: &Program) -> Result<bool, OutOfMemory>
 }
 
 fn lowered(alloc: Global, codelet: u16, accesses: &[(Mode, u32)]) -> Result<Lowered, OutOfMemory> {
-    let mut list = Vec::new(alloc);
+    let mut list = Few::empty(alloc);
     for (mode, cell) in accesses {
         list.push(Access {
             mode: *mode,
@@ -78,8 +79,8 @@ fn lowered(alloc: Global, codelet: u16, accesses: &[(Mode, u32)]) -> Result<Lowe
     }
     Ok(Lowered {
         codelet: Codelet(codelet),
-        args: Sequence::of(Vec::new(alloc)),
-        accesses: Sequence::of(list),
+        args: Few::empty(alloc),
+        accesses: list,
         line: Line(1),
         priority: 0,
     })

@@ -33,17 +33,6 @@ each_none f xs i x front lt at e =
     ap (λ l. option_map (λ ys. front ++ ys) (each_some f l)) (begins xs i x lt at)
     ∙ ap (λ o. option_map (λ ys. front ++ ys) o) (first_none f x (drop (i + 1) xs) e)
 
--- the same over what v reads of the elements
-pub each_more_of : {W A B : Type 0} (f : A → Option B) (v : W → A) (ws : List W) (i : ℕ) (d : W) (y : B) (front : List B) → i < length ws → f (v (get_or ws i d)) ≡ Some y → option_map (λ ys. front ++ ys) (each_some f (drop i (map v ws))) ≡ option_map (λ ys. (front ++ y ∷ []) ++ ys) (each_some f (drop (i + 1) (map v ws)))
-each_more_of f v ws i d y front lt e =
-    let lt' : i < length (map v ws) = rw (length-map ws v) lt in
-    each_more f (map v ws) i (v (get_or ws i d)) y front lt' (get_or-map v ws i d (v (get_or ws i d)) lt) e
-
-pub each_none_of : {W A B : Type 0} (f : A → Option B) (v : W → A) (ws : List W) (i : ℕ) (d : W) (front : List B) → i < length ws → f (v (get_or ws i d)) ≡ None → option_map (λ ys. front ++ ys) (each_some f (drop i (map v ws))) ≡ None
-each_none_of f v ws i d front lt e =
-    let lt' : i < length (map v ws) = rw (length-map ws v) lt in
-    each_none f (map v ws) i (v (get_or ws i d)) front lt' (get_or-map v ws i d (v (get_or ws i d)) lt) e
-
 -- the same of an element that was read
 pub each_more_at : {A B : Type 0} (f : A → Option B) (xs : List A) (i : ℕ) (d : A) (y : B) (front : List B) → i < length xs → f (get_or xs i d) ≡ Some y → option_map (λ ys. front ++ ys) (each_some f (drop i xs)) ≡ option_map (λ ys. (front ++ y ∷ []) ++ ys) (each_some f (drop (i + 1) xs))
 each_more_at f xs i d y front lt e = each_more f xs i (get_or xs i d) y front lt (get_or_default xs i (get_or xs i d) d lt) e

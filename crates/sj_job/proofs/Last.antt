@@ -1,8 +1,8 @@
 -- The last byte of a kind in a word, and the last word of a line.
-use Rattle.std.proofs.Common.{◌≡◌, ℕ, suc, ◌+◌, ◌<◌, ◌&&◌, not, Bool, true, false, List, [], ◌∷◌, ◌++◌, length, take, drop, get_or, map, refl, ap, ◌∙◌, sym, arith, Option, Some, None, unwrap_or, cond, nat_eq, Bor, length-drop}
+use Rattle.std.proofs.Common.{◌≡◌, ℕ, suc, ◌+◌, ◌<◌, ◌&&◌, not, Bool, true, false, List, [], ◌∷◌, ◌++◌, length, take, drop, get_or, refl, ap, ◌∙◌, sym, arith, Option, Some, None, unwrap_or, cond, nat_eq, length-drop}
 use Rattle.std.specs.List.{list_all}
 use Rattle.std.proofs.Math.Seq.{drop-cons}
-use Rattle.std.proofs.lemmas.List.{get_or-drop, take-append-drop, map-append}
+use Rattle.std.proofs.lemmas.List.{get_or-drop, take-append-drop}
 use Rattle.std.proofs.lemmas.Bool.Decides.{Decides-eqb}
 use Rattle.std.specs.Option.{MatchOption}
 use Rattle.memchr.specs.Find.{IsLastByte, Nowhere, Passes, is_byte}
@@ -92,20 +92,3 @@ pub priority-last : (ws : List (List ℕ)) (w p : List ℕ) → priority_of w �
 priority-last [] w p e = ap (ended_by w) e
 priority-last (v ∷ []) w p e = ap (λ (r : List (List ℕ) × Option (List ℕ)). (v ∷ r.0, r.1)) (ap (ended_by w) e)
 priority-last (v ∷ u ∷ ws) w p e = ap (λ (r : List (List ℕ) × Option (List ℕ)). (v ∷ r.0, r.1)) (priority-last (u ∷ ws) w p e)
-
-pub priority-none : (ws : List (List ℕ)) (w : List ℕ) → priority_of w ≡ None → with_priority (ws ++ w ∷ []) ≡ (ws ++ w ∷ [], None)
-priority-none [] w e = ap (ended_by w) e
-priority-none (v ∷ []) w e = ap (λ (r : List (List ℕ) × Option (List ℕ)). (v ∷ r.0, r.1)) (ap (ended_by w) e)
-priority-none (v ∷ u ∷ ws) w e = ap (λ (r : List (List ℕ) × Option (List ℕ)). (v ∷ r.0, r.1)) (priority-none (u ∷ ws) w e)
-
--- the same of the words behind references
-words-behind : (ws front : List (Bor (List ℕ))) (last : Bor (List ℕ)) → ws ≡ front ++ last ∷ [] → map (λ w. w.now) ws ≡ map (λ w. w.now) front ++ last.now ∷ []
-words-behind ws front last e = ap (map (λ (w : Bor (List ℕ)). w.now)) e ∙ map-append (λ (w : Bor (List ℕ)). w.now) front (last ∷ [])
-
-pub last-is : (ws front : List (Bor (List ℕ))) (last : Bor (List ℕ)) (p : List ℕ) → ws ≡ front ++ last ∷ [] → Some p ≡ priority_of last.now → with_priority (map (λ w. w.now) ws) ≡ (map (λ w. w.now) front, Some p)
-last-is ws front last p e h = ap with_priority (words-behind ws front last e) ∙ priority-last (map (λ (w : Bor (List ℕ)). w.now) front) last.now p (sym h)
-
-pub last-is-none : (ws front : List (Bor (List ℕ))) (last : Bor (List ℕ)) → ws ≡ front ++ last ∷ [] → None ≡ priority_of last.now → with_priority (map (λ w. w.now) ws) ≡ (map (λ w. w.now) ws, None)
-last-is-none ws front last e h =
-    ap with_priority (words-behind ws front last e) ∙ priority-none (map (λ (w : Bor (List ℕ)). w.now) front) last.now (sym h)
-    ∙ ap (λ (l : List (List ℕ)). (l, None)) (sym (words-behind ws front last e))

@@ -3,6 +3,7 @@ pub mod Dividing
 pub mod Digits
 pub mod Each
 pub mod Last
+pub mod Walking
 pub mod Children
 mod Marks
 pub mod Places

@@ -4,9 +4,9 @@ ghost use Rattle.std.specs.Prelude.{◌≡◌, ◌==◌, [], map, IfOk};
 ghost use Rattle.std.specs.List.{slice_split};
 
 use crate::line::Words;
+use sj_base::few::Few;
 use sj_base::memory::OutOfMemory;
 use sj_base::mode::{Mode, Policy, Reduction};
-use sj_base::sequence::Sequence;
 use std::alloc::{AllocError, Global};
 use std::marker::Model;
 
@@ -131,13 +131,24 @@ pub struct OperandForm<'a> {
     pub mode: Mode,
 }
 
+impl<'a> Default for OperandForm<'a> {
+    /// What fills the places of a short list that no operand takes.
+    fn default() -> OperandForm<'a> {
+        OperandForm {
+            name: Piece::of(&[]),
+            child: None,
+            mode: Mode::R,
+        }
+    }
+}
+
 /// `CODELET OPERANDS` or `CODELET(ARGUMENTS) OPERANDS`, with `prio=P` behind or without.
 #[derive(Debug, Drop)]
 pub struct TaskForm<'a> {
     pub codelet: Piece<'a>,
     /// None where the codelet's name stands alone.
     pub args: Pieces<'a>,
-    pub operands: Sequence<OperandForm<'a>>,
+    pub operands: Few<OperandForm<'a>>,
     pub priority: Option<Piece<'a>>,
 }
 

@@ -5,6 +5,7 @@ ghost use Rattle.sj_job.specs.Meaning.{is_written};
 
 use crate::roots::Roots;
 use crate::settings::Settings;
+use sj_base::few::Few;
 use sj_base::ids::{Line, Root};
 use sj_base::mode::{Mode, Reduction};
 use sj_base::sequence::Sequence;
@@ -48,6 +49,17 @@ pub struct Operand {
     pub mode: Mode,
 }
 
+impl Default for Operand {
+    /// What fills the places of a short list that no operand takes.
+    fn default() -> Operand {
+        Operand {
+            root: Root(0),
+            place: (0, 0),
+            mode: Mode::R,
+        }
+    }
+}
+
 impl Operand {
     /// Whether the task gives the operand new elements. Constant time.
     pub fn is_written(&self) -> bool
@@ -64,8 +76,8 @@ impl Operand {
 #[derive(Debug, Drop)]
 pub struct TaskLine {
     pub kernel: Kernel,
-    pub args: Sequence<i64>,
-    pub operands: Sequence<Operand>,
+    pub args: Few<i64>,
+    pub operands: Few<Operand>,
     /// Higher is more urgent; 0 where the line has no `prio=`.
     pub priority: i32,
 }

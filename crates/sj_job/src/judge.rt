@@ -24,11 +24,11 @@ use crate::names::{Names, Standing};
 use crate::number::index_of;
 use crate::reason::{LimitKind, Objection, Reason};
 use crate::track::Tracked;
+use sj_base::few::Few;
 use sj_base::ids::Root;
 use sj_base::memory::OutOfMemory;
 use sj_base::mode::{Mode, Reduction};
 use sj_base::program::Codelet;
-use sj_base::sequence::Sequence;
 use sj_base::tile::Dims;
 use sj_codelet::formal::Formal;
 use sj_codelet::kernel::Kernel;
@@ -237,6 +237,13 @@ pub struct Target {
     pub reduction: Option<Reduction>,
 }
 
+impl Default for Target {
+    /// What fills the places of a short list that no target takes.
+    fn default() -> Target {
+        no_child(Root(0), Mode::R, true)
+    }
+}
+
 /// The target of no child.
 fn no_child(root: Root, mode: Mode, over: bool) -> Target
     ensures { result ≡ no_child root mode over }
@@ -329,14 +336,14 @@ fn targets_of(
     alloc: Global,
     names: &Names,
     operands: &[OperandForm<'_>],
-) -> Result<Option<Vec<Target>>, OutOfMemory>
+) -> Result<Option<Few<Target>>, OutOfMemory>
     requires counted { IsCounted names.now }
     requires numbered { IsTrue (list_all (λ o. are_counts o.child) operands.now) }
     ensures { IfOk result (λ r. MatchOption r
         (each_some (target_in names.now) operands.now ≡ None)
-        (λ ts. each_some (target_in names.now) operands.now ≡ Some ts.items)) }
+        (λ ts. each_some (target_in names.now) operands.now ≡ Some ts)) }
 {
-    let mut targets = Vec::with_capacity(alloc, operands.len())?;
+    let mut targets = Few::empty(alloc);
     for operand in operands {
         match target_of(names, operand) {
             Some(target) => targets.push(target)?,
@@ -581,10 +588,15 @@ fn target_complaint<C: Codelets>(
     }
 }
 
-fn operands_of(alloc: Global, targets: &[Target]) -> Result<Vec<Operand>, AllocError>
-    ensures { IfOk result (λ os. os.items ≡ map operand_by targets.now) }
+/// Linear in the targets.
+fn operands_of(alloc: Global, targets: &[Target]) -> Result<Few<Operand>, OutOfMemory>
+    ensures { IfOk result (λ os. os ≡ map operand_by targets.now) }
 {
-    targets.iter().map(|t| operand_by(t)).collect(alloc)
+    let mut operands = Few::empty(alloc);
+    for target in targets {
+        operands.push(operand_by(target))?;
+    }
+    Ok(operands)
 }
 
 fn operand_by(target: &Target) -> Operand
@@ -616,7 +628,7 @@ pub fn judge_task<C: Codelets>(
     alloc: Global,
     names: &Names,
     form: &TaskForm<'_>,
-    args: Sequence<i64>,
+    args: Few<i64>,
     priority: i64,
     codelets: &C,
 ) -> Result<TaskLine, Objection>
@@ -637,23 +649,23 @@ pub fn judge_task<C: Codelets>(
     if !has_priority(priority) {
         return Err(Objection::Bad(Reason::Limit(LimitKind::Priority)));
     }
-    let Some(targets) = targets_of(alloc, names, form.operands.items())? else {
+    let Some(found) = targets_of(alloc, names, form.operands.items())? else {
         return Err(Objection::Bad(Reason::UnknownName));
     };
-    if any_over(&targets) {
+    let targets = found.items();
+    if any_over(targets) {
         return Err(Objection::Bad(Reason::EndedName));
     }
     let Some(kernel) = codelets.kernel_named(form.codelet.bytes()) else {
         return Err(Objection::Bad(Reason::UnknownCodelet));
     };
-    if let Some(why) = target_complaint(alloc, codelets, kernel, args.items(), &targets)? {
+    if let Some(why) = target_complaint(alloc, codelets, kernel, args.items(), targets)? {
         return Err(Objection::Bad(why));
     }
-    let operands = operands_of(alloc, &targets)?;
     Ok(TaskLine {
         kernel,
         args,
-        operands: Sequence::of(operands),
+        operands: operands_of(alloc, targets)?,
         priority: narrowed(priority),
     })
 }

@@ -1,12 +1,11 @@
 //! The lines of a text and the words of a line.
 
-ghost use Rattle.std.specs.Prelude.{◌≡◌, ◌==◌, ◌≤◌, ◌∷◌, ◌++◌, [], length, replicate, map, not, position, MatchOption, IfOk, IfSome};
+ghost use Rattle.std.specs.Prelude.{◌≡◌, ◌==◌, ◌≤◌, ◌∷◌, ◌++◌, [], length, replicate, not, position, MatchOption, IfSome};
 ghost use Rattle.sj_job.specs.Word.{lines, words, is_blank, is_allowed, is_empty, is_skipped, begins_with, CutsOff};
 ghost use Rattle.std.specs.List.{list_all, position_or_len};
 ghost use Rattle.sj_job.specs.Sentence.{is_header};
 
 use memchr::memchr;
-use std::alloc::{AllocError, Global};
 use std::marker::Model;
 
 /// The first line of a text and what follows it, or `None` where there is no line. Linear in the line.
@@ -81,11 +80,15 @@ fn without_eights(line: &[u8]) -> &[u8]
     rest
 }
 
-/// Whether every byte of a line is one that a line may have. Linear in it.
+/// Whether every byte of a line is one that a line may have. Linear in it: all are looked at, so that several are at once.
 pub fn are_allowed(line: &[u8]) -> bool
     ensures { result ≡ list_all is_allowed line.now }
 {
-    line.iter().all(|b| is_allowed(*b))
+    let mut allowed = true;
+    for byte in line {
+        allowed &= is_allowed(*byte);
+    }
+    allowed
 }
 
 /// A blank or a visible ASCII character; most are of the first test.
@@ -164,26 +167,6 @@ impl<'a> Words<'a> {
     pub fn room(&self) -> usize {
         self.line.len() / 2 + 1
     }
-
-    /// All of them as a list. Linear in them.
-    pub fn collect(&self, alloc: Global) -> Result<Vec<&'a [u8]>, AllocError>
-        ensures { IfOk result (λ ws. map (λ w. w.now) ws.items ≡ self.now) }
-    {
-        listed(alloc, self.line)
-    }
-}
-
-/// The words of a line. Linear in the line.
-fn listed(alloc: Global, line: &[u8]) -> Result<Vec<&[u8]>, AllocError>
-    ensures { IfOk result (λ ws. map (λ w. w.now) ws.items ≡ words line.now) }
-{
-    let mut words = Vec::new(alloc);
-    let mut rest = line;
-    while let Some((word, tail)) = next_word(rest) {
-        words.push(word)?;
-        rest = tail;
-    }
-    Ok(words)
 }
 
 /// Whether a line of these words says nothing: it has none, or it is a comment. Linear up to the end of the first.

@@ -10,6 +10,7 @@ use crate::form::{InitForm, Piece, Size};
 use crate::job::Init;
 use crate::line::Words;
 use crate::word::{count_of, integer_of};
+use sj_base::few::Few;
 use sj_base::memory::OutOfMemory;
 use sj_base::sequence::Sequence;
 use std::alloc::Global;
@@ -62,20 +63,20 @@ pub fn index_of(child: &Option<(Piece<'_>, Piece<'_>)>) -> Option<(u64, u64)>
 }
 
 /// The integers that words say, or `None` where one says none. Linear in the words.
-pub fn integers(alloc: Global, words: &[&[u8]]) -> Result<Option<Sequence<i64>>, OutOfMemory>
+pub fn integers(alloc: Global, words: &[&[u8]]) -> Result<Option<Few<i64>>, OutOfMemory>
     ensures { IfOk result (λ r. MatchOption r
         (list_all is_integer (map (λ w. w.now) words.now) ≡ false)
         (λ zs. (list_all is_integer (map (λ w. w.now) words.now) ≡ true)
         × (zs ≡ map integer (map (λ w. w.now) words.now)))) }
 {
-    let mut values = Vec::with_capacity(alloc, words.len())?;
+    let mut values = Few::empty(alloc);
     for word in words {
         match integer_of(word) {
             Some(value) => values.push(value)?,
             None => return Ok(None),
         }
     }
-    Ok(Some(Sequence::of(values)))
+    Ok(Some(values))
 }
 
 /// The integers that the words of a line say, or `None` where one says none; with room for so many from the start, unless the

@@ -1,6 +1,6 @@
 //! How the words of a line are spelled.
 
-ghost use Rattle.std.specs.Prelude.{◌≡◌, ◌==◌, ◌+◌, ◌<◌, not, map, drop, length, slice_index, true, IsTrue, IfOk, IfSome, MatchOption, option_map};
+ghost use Rattle.std.specs.Prelude.{◌≡◌, ◌==◌, ◌+◌, ◌<◌, ◌∷◌, [], not, map, drop, length, slice_index, true, IsTrue, IfOk, IfSome, MatchOption, option_map};
 ghost use Rattle.std.specs.List.{before_first, after_first, list_all};
 ghost use Rattle.sj_job.specs.Word.{is_name};
 ghost use Rattle.sj_job.specs.Form.{keyword_of, policy_of, reduction_of, mode_of, is_bracket, pieces_of, bracketed, around_last, child_of, operand_of, each_some, priority_of, with_priority, task_of, values_of, fill_of, nothing_of, init_of, with_parts, parted, layout_of, array_of, vector_of, matrix_of, alone, policy_in, name_in, plan_of, redux_of, form_behind, form_of};
@@ -12,9 +12,9 @@ use crate::form::{
 use crate::line::{Words, first_place};
 use crate::word::is_name;
 use memchr::memrchr;
+use sj_base::few::Few;
 use sj_base::memory::OutOfMemory;
 use sj_base::mode::{Mode, Policy, Reduction};
-use sj_base::sequence::Sequence;
 use std::alloc::Global;
 
 /// The parts of an array, where the line names them, and its values.
@@ -201,23 +201,6 @@ fn operand_of<'a>(alloc: Global, word: &'a [u8]) -> Result<Option<OperandForm<'a
     }
 }
 
-/// Linear in the words.
-fn operands_of<'a>(
-    alloc: Global,
-    words: &[&'a [u8]],
-) -> Result<Option<Sequence<OperandForm<'a>>>, OutOfMemory>
-    ensures { IfOk result (λ os. os ≡ each_some operand_of (map (λ w. w.now) words.now)) }
-{
-    let mut operands = Vec::with_capacity(alloc, words.len())?;
-    for word in words {
-        match operand_of(alloc, word)? {
-            Some(operand) => operands.push(operand)?,
-            None => return Ok(None),
-        }
-    }
-    Ok(Some(Sequence::of(operands)))
-}
-
 /// What follows `prio=`. Constant time.
 fn priority_of(word: &[u8]) -> Option<&[u8]>
     ensures { option_map (λ p. p.now) result ≡ priority_of word.now }
@@ -225,69 +208,40 @@ fn priority_of(word: &[u8]) -> Option<&[u8]>
     word.strip_prefix(b"prio=".as_slice())
 }
 
-/// The operands' words and the priority behind them. Constant time.
-fn with_priority<'a, 'b>(words: &'b [&'a [u8]]) -> (&'b [&'a [u8]], Option<Piece<'a>>)
-    ensures operands { map (λ w. w.now) result.0.now
-        ≡ (with_priority (map (λ w. w.now) words.now)).0 }
-    ensures priority { result.1 ≡ (with_priority (map (λ w. w.now) words.now)).1 }
+/// What follows `prio=` in a word that is the last of a line. Linear in what is passed behind it.
+fn last_priority<'a>(word: &'a [u8], rest: &Words<'a>) -> Option<Piece<'a>>
+    ensures { MatchOption result
+        (with_priority (word.now ∷ rest.now) ≡ (word.now ∷ (with_priority rest.now).0, (with_priority rest.now).1))
+        (λ p. with_priority (word.now ∷ rest.now) ≡ ([], Some p)) }
 {
-    let Some((last, front)) = words.split_last() else {
-        return (words, None);
-    };
-    match priority_of(last) {
-        Some(priority) => (front, Some(Piece::of(priority))),
-        None => (words, None),
+    let priority = priority_of(word)?;
+    match rest.split_first() {
+        Some(_) => None,
+        None => Some(Piece::of(priority)),
     }
 }
 
-/// A codelet, its arguments, and the words behind them. Linear in these words.
-fn task_with<'a>(
+/// The operands that words spell, and the priority behind them. Linear in the words.
+fn operands_of<'a>(
     alloc: Global,
-    codelet: Piece<'a>,
-    args: Pieces<'a>,
-    words: &[&'a [u8]],
-) -> Result<Option<TaskForm<'a>>, OutOfMemory>
-    ensures { IfOk result (λ task. task ≡ option_map
-        (λ os. record { codelet = codelet.entry; args = args.entry; operands = os; priority = (with_priority (map (λ w. w.now) words.now)).1 })
-        (each_some operand_of (with_priority (map (λ w. w.now) words.now)).0)) }
-{
-    let (words, priority) = with_priority(words);
-    match operands_of(alloc, words)? {
-        Some(operands) => Ok(Some(TaskForm {
-            codelet,
-            args,
-            operands,
-            priority,
-        })),
-        None => Ok(None),
-    }
-}
-
-/// The same. No list of up to three words.
-fn task_behind<'a>(
-    alloc: Global,
-    codelet: Piece<'a>,
-    args: Pieces<'a>,
     words: &Words<'a>,
-) -> Result<Option<TaskForm<'a>>, OutOfMemory>
-    ensures { IfOk result (λ task. task ≡ option_map
-        (λ os. record { codelet = codelet.entry; args = args.entry; operands = os; priority = (with_priority words.now).1 })
-        (each_some operand_of (with_priority words.now).0)) }
+) -> Result<Option<(Few<OperandForm<'a>>, Option<Piece<'a>>)>, OutOfMemory>
+    ensures { IfOk result (λ said. said ≡ option_map
+        (λ os. (os, (with_priority words.now).1)) (each_some operand_of (with_priority words.now).0)) }
 {
-    let Some((a, rest)) = words.split_first() else {
-        return task_with(alloc, codelet, args, &[]);
-    };
-    let Some((b, rest)) = rest.split_first() else {
-        return task_with(alloc, codelet, args, &[a]);
-    };
-    let Some((c, rest)) = rest.split_first() else {
-        return task_with(alloc, codelet, args, &[a, b]);
-    };
-    let Some(_) = rest.split_first() else {
-        return task_with(alloc, codelet, args, &[a, b, c]);
-    };
-    let words = words.collect(alloc)?;
-    task_with(alloc, codelet, args, &words)
+    let mut operands = Few::empty(alloc);
+    let mut rest = words.again();
+    while let Some((word, behind)) = rest.split_first() {
+        if let Some(priority) = last_priority(word, &behind) {
+            return Ok(Some((operands, Some(priority))));
+        }
+        match operand_of(alloc, word)? {
+            Some(operand) => operands.push(operand)?,
+            None => return Ok(None),
+        }
+        rest = behind;
+    }
+    Ok(Some((operands, None)))
 }
 
 /// `CODELET OPERANDS`. Linear in the words.
@@ -297,8 +251,16 @@ fn task_of<'a>(alloc: Global, words: &Words<'a>) -> Result<Option<TaskForm<'a>>,
     let Some((first, rest)) = words.split_first() else {
         return Ok(None);
     };
-    match bracketed(alloc, first, b'(', b')')? {
-        Some((codelet, args)) => task_behind(alloc, codelet, args, &rest),
+    let Some((codelet, args)) = bracketed(alloc, first, b'(', b')')? else {
+        return Ok(None);
+    };
+    match operands_of(alloc, &rest)? {
+        Some((operands, priority)) => Ok(Some(TaskForm {
+            codelet,
+            args,
+            operands,
+            priority,
+        })),
         None => Ok(None),
     }
 }

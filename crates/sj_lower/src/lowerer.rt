@@ -20,11 +20,11 @@ ghost use Rattle.sj_lower.specs.Seen.{Follows, HasNext, IsNext, HasPass, Passes,
 use crate::phase::OpenPhase;
 use crate::rows::{Placed, push_deliveries, push_delivers, push_fills, push_loads, push_pastes};
 use indexmap::IndexMap;
+use sj_base::few::Few;
 use sj_base::ids::{Line, Root};
 use sj_base::memory::OutOfMemory;
 use sj_base::mode::{Access, Reduction};
 use sj_base::program::{Delivery, Lowered};
-use sj_base::sequence::Sequence;
 use sj_base::tile::Dims;
 use sj_job::job::{Act, Init, Operand, RootInfo, TaskLine};
 use sj_job::roots::Roots;
@@ -126,11 +126,11 @@ fn accesses(
     alloc: Global,
     actives: &[Active],
     operands: &[Operand],
-) -> Result<Vec<Access>, OutOfMemory>
+) -> Result<Few<Access>, OutOfMemory>
     requires { All (AreIn actives.now) operands.now }
-    ensures { IfOk result (λ v. v.items ≡ map (access_by actives.now) operands.now) }
+    ensures { IfOk result (λ as'. as' ≡ map (access_by actives.now) operands.now) }
 {
-    let mut accesses = Vec::with_capacity(alloc, operands.len())?;
+    let mut accesses = Few::empty(alloc);
     for operand in operands {
         let placed = actives[operand.root.0 as usize].placed();
         accesses.push(Access {
@@ -281,7 +281,7 @@ impl Lowerer {
         self.tasks.push(Lowered {
             codelet: task.kernel.id(),
             args: task.args,
-            accesses: Sequence::of(accesses),
+            accesses,
             line,
             priority: task.priority,
         })?;

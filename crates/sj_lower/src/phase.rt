@@ -6,6 +6,7 @@ ghost use Rattle.sj_lower.specs.Lowering.{begin_rows};
 ghost use Rattle.sj_lower.specs.Rows.{init_row, init_rows, combine_row, combine_rows};
 
 use crate::rows::own_task;
+use sj_base::few::Few;
 use sj_base::ids::{Cell, Line};
 use sj_base::memory::OutOfMemory;
 use sj_base::mode::{Access, Mode, Reduction};
@@ -48,12 +49,13 @@ fn combine_codelet(by: Reduction) -> Codelet
 fn init_row(alloc: Global, by: Reduction, line: Line, cell: Cell) -> Result<Lowered, OutOfMemory>
     ensures { IfOk result (λ l. l ≡ init_row by line cell) }
 {
-    let accesses = vec![in alloc;
-        Access {
+    let accesses = Few::of(
+        alloc,
+        [Access {
             mode: Mode::W,
-            cell
-        },
-    ]?;
+            cell,
+        }],
+    )?;
     Ok(own_task(init_codelet(by), Vec::new(alloc), accesses, line))
 }
 
@@ -115,7 +117,7 @@ fn combine_row(
         mode: Mode::RW,
         cell,
     };
-    let accesses = Vec::from_array(alloc, [from, to])?;
+    let accesses = Few::of(alloc, [from, to])?;
     Ok(own_task(combine_codelet(by), Vec::new(alloc), accesses, line))
 }
 

@@ -13,6 +13,7 @@ ghost use Rattle.sj_lower.specs.Cells.{cells_from};
 ghost use Rattle.sj_lower.specs.Rows.{task_by, load_row, fill_arguments, fill_row, paste_row, deliver_row, paste_arguments, paste_mode};
 ghost use Rattle.sj_lower.specs.Lowering.{load_rows, a_delivery};
 
+use sj_base::few::Few;
 use sj_base::ids::{Cell, Line, Root, Task};
 use sj_base::memory::OutOfMemory;
 use sj_base::mode::{Access, Mode};
@@ -46,13 +47,13 @@ impl Placed {
 }
 
 /// A task of the runtime's own codelets.
-pub fn own_task(codelet: Codelet, args: Vec<i64>, accesses: Vec<Access>, line: Line) -> Lowered
-    ensures { result ≡ task_by codelet args.items accesses.items line }
+pub fn own_task(codelet: Codelet, args: Vec<i64>, accesses: Few<Access>, line: Line) -> Lowered
+    ensures { result ≡ task_by codelet args.items accesses line }
 {
     Lowered {
         codelet,
-        args: Sequence::of(args),
-        accesses: Sequence::of(accesses),
+        args: Few::listed(args),
+        accesses,
         line,
         priority: 0,
     }
@@ -79,12 +80,13 @@ fn load_row(
     ensures { IfOk result (λ l. l ≡ load_row whole.now.elements whole.now.dims rect cell line) }
 {
     let args = load_arguments(alloc, whole, rect)?;
-    let accesses = vec![in alloc;
-        Access {
+    let accesses = Few::of(
+        alloc,
+        [Access {
             mode: Mode::W,
-            cell
-        },
-    ]?;
+            cell,
+        }],
+    )?;
     Ok(own_task(LOAD, args, accesses, line))
 }
 
@@ -108,7 +110,7 @@ pub fn push_loads(
         cell: Cell(placed.first),
     };
     if placed.parts.r * placed.parts.c == 1 {
-        let accesses = vec![in alloc; write]?;
+        let accesses = Few::of(alloc, [write])?;
         tasks.push(own_task(LOAD, values.into_items(), accesses, line))?;
         return Ok(());
     }
@@ -170,12 +172,13 @@ fn fill_row(
     ensures { IfOk result (λ l. l ≡ fill_row fill.0 fill.1 dims rect cell line) }
 {
     let args = fill_arguments(alloc, fill, dims.cols, rect)?;
-    let accesses = vec![in alloc;
-        Access {
+    let accesses = Few::of(
+        alloc,
+        [Access {
             mode: Mode::W,
-            cell
-        },
-    ]?;
+            cell,
+        }],
+    )?;
     Ok(own_task(LOADFILL, args, accesses, line))
 }
 
@@ -249,7 +252,7 @@ fn paste_row(
         mode: paste_mode(paste),
         cell: new.cell(paste.to),
     };
-    let accesses = Vec::from_array(alloc, [from, to])?;
+    let accesses = Few::of(alloc, [from, to])?;
     Ok(own_task(PASTE, args, accesses, line))
 }
 
@@ -281,12 +284,13 @@ pub fn push_pastes(
 fn deliver_row(alloc: Global, cell: Cell, line: Line) -> Result<Lowered, OutOfMemory>
     ensures { IfOk result (λ l. l ≡ deliver_row cell line) }
 {
-    let accesses = vec![in alloc;
-        Access {
+    let accesses = Few::of(
+        alloc,
+        [Access {
             mode: Mode::R,
-            cell
-        },
-    ]?;
+            cell,
+        }],
+    )?;
     Ok(own_task(DELIVER, Vec::new(alloc), accesses, line))
 }
 

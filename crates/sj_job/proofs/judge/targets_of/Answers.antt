@@ -14,10 +14,10 @@ target_of-requires-clause-numbered c =
 pub returns-in-None : goal.returns-in-None
 returns-in-None c =
     sym c.loop-operand.invariant
-    ∙ each_none_at (target_in c.args.names.now) c.args.operands.now c.loop-operand.operand-index c.operand-item.result c.loop-operand.targets.items c.loop-operand-test.true (ap (target_in c.args.names.now) (sym c.operand-item.is) ∙ sym c.target_of.ensures ∙ c.in-None.is)
+    ∙ each_none_at (target_in c.args.names.now) c.args.operands.now c.loop-operand.operand-index c.operand-item.result c.loop-operand.targets c.loop-operand-test.true (ap (target_in c.args.names.now) (sym c.operand-item.is) ∙ sym c.target_of.ensures ∙ c.in-None.is)
 
 pub loop-operand-preserved : goal.loop-operand-preserved
 loop-operand-preserved c =
-    ap (λ vs. option_map (λ rest. vs ++ rest) (each_some (target_in c.args.names.now) (drop (c.loop-operand.operand-index + 1) c.args.operands.now))) c.in_ok-push-in-Some.ensures.items
-    ∙ sym (each_more_at (target_in c.args.names.now) c.args.operands.now c.loop-operand.operand-index c.operand-item.result c.in-Some.target c.loop-operand.targets.items c.loop-operand-test.true (ap (target_in c.args.names.now) (sym c.operand-item.is) ∙ sym c.target_of.ensures ∙ c.in-Some.is))
+    ap (λ vs. option_map (λ rest. vs ++ rest) (each_some (target_in c.args.names.now) (drop (c.loop-operand.operand-index + 1) c.args.operands.now))) c.in_ok-push-in-Some.ensures.ok
+    ∙ sym (each_more_at (target_in c.args.names.now) c.args.operands.now c.loop-operand.operand-index c.operand-item.result c.in-Some.target c.loop-operand.targets c.loop-operand-test.true (ap (target_in c.args.names.now) (sym c.operand-item.is) ∙ sym c.target_of.ensures ∙ c.in-Some.is))
     ∙ c.loop-operand.invariant

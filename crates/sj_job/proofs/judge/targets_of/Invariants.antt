@@ -6,4 +6,4 @@ use Rattle.sj_job.proofs.judge.targets_of.Given as goal
 -- what is found so far goes before what the rest gives
 abbrev pub invariant-loop-operand : goal.invariant-loop-operand
 invariant-loop-operand l =
-    option_map (λ rest. l.targets.items ++ rest) (each_some (target_in l.names) (drop l.operand-index l.operands)) ≡ each_some (target_in l.names) l.operands
+    option_map (λ rest. l.targets ++ rest) (each_some (target_in l.names) (drop l.operand-index l.operands)) ≡ each_some (target_in l.names) l.operands

@@ -16,8 +16,8 @@ loop-word-preserved c =
     let fits : FitsSigned w64 c.in-Some.value = search rules in
     record {
       said = all_more_of is_integer v ws i _ c.loop-word-test.true c.loop-word.invariant.said (ap is_some (sym c.in-Some.ensures));
-      values = c.in_ok-push-in-Some.ensures.items
-          ∙ ap (λ (z : ℤ). c.loop-word.values.items ++ z ∷ []) (to_z-of_z w64 c.in-Some.value fits)
+      values = c.in_ok-push-in-Some.ensures.ok
+          ∙ ap (λ (z : ℤ). c.loop-word.values ++ z ∷ []) (to_z-of_z w64 c.in-Some.value fits)
           ∙ (λ k. c.loop-word.invariant.values k ++ ap (λ o. unwrap_or o (pos 0)) c.in-Some.ensures k ∷ [])
           ∙ sym (map_more_of integer v ws i _ c.loop-word-test.true);
     }

@@ -7,5 +7,5 @@ use Rattle.sj_job.proofs.number.integers.Given as goal
 abbrev pub invariant-loop-word : goal.invariant-loop-word
 invariant-loop-word l = record {
   said : list_all is_integer (map (λ w. w.now) (take l.word-index l.words)) ≡ true;
-  values : l.values.items ≡ map integer (map (λ w. w.now) (take l.word-index l.words));
+  values : l.values ≡ map integer (map (λ w. w.now) (take l.word-index l.words));
 }

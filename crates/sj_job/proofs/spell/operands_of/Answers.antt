@@ -1,16 +1,12 @@
-use Rattle.std.proofs.Common.{◌∙◌, sym, ap, List, ℕ, Bor, option_map, ◌++◌, ◌+◌, drop, map}
-use Rattle.sj_job.specs.Form.{each_some}
-use Rattle.sj_job.specs.Form.{operand_of}
-use Rattle.sj_job.proofs.Each.{each_more_of, each_none_of}
+use Rattle.std.proofs.Common.{◌∙◌, sym, ap}
+use Rattle.sj_job.specs.Form.{with_priority}
+use Rattle.sj_job.proofs.Walking.{said_after, walk-more}
 use Rattle.sj_job.proofs.spell.operands_of.Goals as goal
-
-pub returns-in-None : goal.returns-in-None
-returns-in-None c =
-    sym (each_none_of operand_of (λ (w : Bor (List ℕ)). w.now) c.args.words.now c.loop-word.word-index _ c.loop-word.operands.items c.loop-word-test.true (sym c.in_ok-operand.ensures ∙ c.in-None.is))
-    ∙ c.loop-word.invariant
 
 pub loop-word-preserved : goal.loop-word-preserved
 loop-word-preserved c =
-    ap (λ vs. option_map (λ rest. vs ++ rest) (each_some operand_of (drop (c.loop-word.word-index + 1) (map (λ (w : Bor (List ℕ)). w.now) c.args.words.now)))) c.in_ok-push-in-Some.ensures.items
-    ∙ sym (each_more_of operand_of (λ (w : Bor (List ℕ)). w.now) c.args.words.now c.loop-word.word-index _ c.in-Some.operand c.loop-word.operands.items c.loop-word-test.true (sym c.in_ok-operand.ensures ∙ c.in-Some.is))
+    let rest = with_priority c.in-Some.behind in
+    ap (λ os. said_after os rest) c.in_ok-push-in-Some-2.ensures.ok
+    ∙ sym (walk-more c.loop-word.operands c.in-Some.word.now rest.0 rest.1 c.in-Some-2.operand (sym c.in_ok-operand.ensures ∙ c.in-Some-2.is))
+    ∙ sym (ap (said_after c.loop-word.operands) (ap with_priority c.in-Some.ensures ∙ c.in_default-last_priority.ensures))
     ∙ c.loop-word.invariant

@@ -10,5 +10,5 @@ pub returns-then-placed-eq1 : goal.returns-then-placed-eq1
 returns-then-placed-eq1 c =
     let values : c.into_items.result.items ≡ c.args.values = search rules in
     c.in_ok-push.ensures.items
-    ∙ ap (λ (t : Lowered). c.args.tasks.now.items ++ t ∷ []) (c.own_task.ensures ∙ (λ i. task_by (codelet_of Load) (values i) (c.in_ok-accesses.ensures.items i) c.args.line))
+    ∙ ap (λ (t : Lowered). c.args.tasks.now.items ++ t ∷ []) (c.own_task.ensures ∙ (λ i. task_by (codelet_of Load) (values i) (c.in_ok-accesses.ensures i) c.args.line))
     ∙ ap (λ ts. c.args.tasks.now.items ++ ts) (sym (one-load c.args.values c.args.dims c.args.placed.parts c.args.placed.first c.args.line c.requires.plan c.if-placed-eq1.true c.requires.values))

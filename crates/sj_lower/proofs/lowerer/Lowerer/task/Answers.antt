@@ -29,7 +29,7 @@ returns-clause-does c =
     let T = c.args.roots.now in
     let old = c.args.self.now in
     let task = c.args.task in
-    let accesses = c.of.ensures ∙ c.in_ok-accesses.ensures ∙ (λ i. map (access_by (c.deref.ensures.value i)) (c.items-operands.ensures i)) in
+    let accesses = c.in_ok-accesses.ensures ∙ (λ i. map (access_by (c.deref.ensures.value i)) (c.items-operands.ensures i)) in
     let fits : FitsSigned w32 task.priority = search rules in
     let mk : Codelet → List Access → ℤ → Lowered = λ id as' p. record { codelet = id; args = task.args; accesses = as'; line = c.args.line; priority = p } in
     does-task T old _ task c.args.line
