@@ -241,7 +241,7 @@ impl<D: Disk> Board<D> {
         task
     }
 
-    /// Puts the task that a worker was given back into the pool. Logarithmic in the tasks; no memory.
+    /// Puts the task that a worker was given back into the pool. Logarithmic in the tasks; linear where memory is refused.
     pub fn give_back(&mut self, t: Task, w: Worker)
         requires given { WasGiven self.old w t }
         ensures { self.new ≡ given_back self.old t w }

@@ -9,7 +9,7 @@ use sj_base::ids::{Task, Worker};
 use sj_base::program::Program;
 use sj_pool::pool::Pool;
 
-/// Puts a task into the pool. Logarithmic in the tasks; no memory.
+/// Puts a task into the pool. Logarithmic in the tasks; linear where memory is refused.
 pub fn put_ready(pool: &mut Pool, program: &Program, footprints: &[u64], t: Task, by: Worker)
     requires task { t.0 < length program.now.tasks }
     requires bytes { AreFootprints program.now footprints.now }
@@ -35,7 +35,7 @@ fn putter(program: &Program, by: Option<Worker>, t: Task) -> Worker
     }
 }
 
-/// Puts tasks into the pool one after another. For each, logarithmic in the tasks; no memory.
+/// Puts tasks into the pool one after another. For each, logarithmic in the tasks; linear where memory is refused.
 pub fn put_each(
     pool: &mut Pool,
     program: &Program,

@@ -7,7 +7,8 @@ use Rattle.std.specs.List.{range_with_len}
 use Rattle.std.specs.Option.{option_or}
 use Rattle.sj_pool.specs.declared.entry.Entry.{Entry}
 use Rattle.sj_pool.specs.Queue.{has_fitting, first_fitting}
-use Rattle.sj_pool.specs.Pool.{queue, serving, turns}
+use Rattle.sj_pool.specs.Pool.{queue, first_task, serving, turns}
+use Rattle.sj_pool.proofs.Lists.{length-lists}
 
 pub serving-step : (qs : List (List Entry)) (room i to : ℕ) → i < to → serving qs room (range_with_len i (to - i)) ≡ (if has_fitting room (queue qs i) then Some i else serving qs room (range_with_len (i + 1) (to - (i + 1))))
 serving-step qs room i to h =
@@ -34,17 +35,22 @@ pub none-fits : (qs : List (List Entry)) (room a n i : ℕ) → serving qs room 
 none-fits qs room a zero i h l m = grind arith
 none-fits qs room a (suc n) i h l m = grind (arith, none-fits qs room (a + 1) n i)
 
+pub ruleset between = (serving-step, serving-end)
+
+pub ruleset two_parts = (find-append, length-lists)
+
 -- an entry that fits is there
-pub first-there : (room : ℕ) (es : List Entry) → has_fitting room es ≡ true → is_some (first_fitting room es) ≡ true
+first-there : (room : ℕ) (es : List Entry) → has_fitting room es ≡ true → is_some (first_fitting room es) ≡ true
 first-there room [] h = grind arith
 first-there room (e ∷ es) h = grind (arith, first-there room es)
 
-pub ruleset between = (serving-step, serving-end)
-
-pub ruleset two_parts = (find-append)
-
 pub never-none : (room : ℕ) (es : List Entry) → has_fitting room es ≡ true → None ≡ first_fitting room es → ⊥
 never-none room es h n = let t = first-there room es h in grind (arith, n)
+
+-- a task is taken where an entry fits
+pub task-there : (room : ℕ) (es : List Entry) → has_fitting room es ≡ true → is_some (first_task room es) ≡ true
+task-there room [] h = grind arith
+task-there room (e ∷ es) h = grind (arith, task-there room es)
 
 or-none : (a b : Option ℕ) → option_or a b ≡ None → (a ≡ None) × (b ≡ None)
 or-none None b h = (refl, h)

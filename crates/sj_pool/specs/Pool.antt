@@ -1,13 +1,13 @@
 -- A pool as contracts see it: its policy, for how many workers and tasks it was made, and its queues.
-use Rattle.std.specs.Prelude.{◌≡◌, ◌≢◌, ℕ, ◌-◌, ◌<◌, Bool, true, false, nat_eq, is_some, List, [], ◌∷◌, ◌++◌, length, slice_set, slice_index_or, replicate, Option, None, option_map, All, IsTrue}
-use Rattle.std.specs.List.{list_any, find, range_with_len}
+use Rattle.std.specs.Prelude.{◌≡◌, ℕ, zero, suc, ◌+◌, ◌-◌, ◌<◌, ◌≤◌, Bool, false, nat_eq, List, [], ◌∷◌, ◌++◌, length, map, slice_set, slice_index_or, replicate, Option, option_map, All, IsTrue, if◌then◌else◌}
+use Rattle.std.specs.List.{list_any, find, range_with_len, sum_by}
 use Rattle.std.specs.Option.{option_and_then, option_map_or}
 use Rattle.sj_base.specs.declared.ids.Task.{Task}
 use Rattle.sj_base.specs.declared.mode.Policy.{Policy}
 use Rattle.sj_base.specs.declared.mode.Policy.TheVariants.{Prio, Ws}
 use Rattle.sj_pool.specs.declared.entry.Entry.{Entry}
 use Rattle.sj_pool.specs.Entry.{fits, precedes}
-use Rattle.sj_pool.specs.Queue.{has_fitting, first_fitting, without_first_fitting, put_by_urgency, is_by_urgency}
+use Rattle.sj_pool.specs.Queue.{Queued, queued, has_fitting, first_fitting, without_first_fitting, put_by_urgency, is_by_urgency}
 
 pub record Pooled : Type 0 where
   pub policy : Policy
@@ -99,20 +99,30 @@ IsMostUrgent e room qs = All (All (λ x. IsTrue (fits room x) → precedes x e �
 
 -- ---- what a pool keeps
 
-abbrev pub has_spare : {X : Type 0} → List (Option X) → ℕ → Bool
-has_spare xs t = is_some (slice_index_or xs t None)
+-- the entries of the queues
+abbrev pub lists : List Queued → List (List Entry)
+lists qs = map (λ q. q.entries) qs
 
--- no box is taken or given back but that of a task
-pub record KeepsOthers {X : Type 0} (old new : List (Option X)) (t : ℕ) : Type 0 where
-  pub room : length new ≡ length old
-  pub others : (u : ℕ) → u ≢ t → has_spare new u ≡ has_spare old u
+abbrev pub queue_at : List Queued → ℕ → Queued
+queue_at qs i = slice_index_or qs i (queued [] 0)
 
--- a box is there for each task that isn't in a queue
-abbrev pub HasSpares : {X : Type 0} → List (Option X) → List (List Entry) → Type 0
-HasSpares xs qs = (t : ℕ) → t < length xs → contains qs t ≡ false → has_spare xs t ≡ true
+-- the queues where one has other entries
+abbrev pub with_entries_at : List Queued → ℕ → List Entry → List Queued
+with_entries_at qs i es = slice_set qs i (record (queue_at qs i) { entries = es })
 
-pub record IsPool {X : Type 0} (policy : Policy) (workers : ℕ) (qs : List (List Entry)) (spare : List (Option X)) : Type 0 where
+-- how many entries there are
+abbrev pub count_entries : List (List Entry) → ℕ
+count_entries qs = sum_by length qs
+
+-- how many numbers below a limit fail a test
+abbrev pub count_failing : (ℕ → Bool) → ℕ → ℕ
+count_failing f zero = 0
+count_failing f (suc n) = if f n then count_failing f n else count_failing f n + 1
+
+-- the entries and the absent tasks together are no more than the tasks, and each queue can have as many entries
+pub record IsPool (policy : Policy) (workers limit : ℕ) (qs : List Queued) : Type 0 where
   pub some_worker : 0 < workers
   pub count : length qs ≡ queue_count policy workers
-  pub spares : HasSpares spare qs
-  pub by_urgency : policy ≡ Prio → All (λ q. IsTrue (is_by_urgency q)) qs
+  pub few : count_entries (lists qs) + count_failing (contains (lists qs)) limit ≤ limit
+  pub room : All (λ q. limit ≤ q.limit) qs
+  pub by_urgency : policy ≡ Prio → All (λ q. IsTrue (is_by_urgency q)) (lists qs)

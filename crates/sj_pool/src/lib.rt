@@ -4,6 +4,7 @@
 
 pub mod entry;
 pub mod pool;
+mod queue;
 #[cfg(test)]
 mod tests;
 mod tree;

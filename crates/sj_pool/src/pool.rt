@@ -1,65 +1,62 @@
 //! The pool of ready tasks of a scheduling policy.
 
-ghost use Rattle.std.specs.Prelude.{◌≡◌, ◌↔◌, ◌<◌, ◌≤◌, ◌-◌, [], All, IsTrue, IsNone, IfOk, IfSome, is_some, false, true, replicate, length};
+ghost use Rattle.std.specs.Prelude.{◌≡◌, ◌↔◌, ◌<◌, ◌≤◌, ◌-◌, [], All, IsTrue, IsNone, IfOk, IfSome, false, replicate, length};
 ghost use Rattle.std.specs.List.{list_any, range_with_len};
 ghost use Rattle.sj_base.specs.declared.mode.Policy.TheVariants.{Prio};
 ghost use Rattle.sj_pool.specs.Entry.{entry};
-ghost use Rattle.sj_pool.specs.Queue.{has_fitting, first_fitting, is_by_urgency};
-ghost use Rattle.sj_pool.specs.Pool.{empty, home, queue, contains, put_into, with_entry, with_entry_at, turns, serving, first_task, without_first_at, entry_for, task_for, without_entry_for, IsMostUrgent, has_spare, KeepsOthers};
+ghost use Rattle.sj_pool.specs.Queue.{queued, has_fitting, first_fitting, without_first_fitting, is_by_urgency};
+ghost use Rattle.sj_pool.specs.Pool.{empty, queue_count, home, queue, contains, put_into, with_entry, turns, serving, first_task, without_first_at, entry_for, task_for, without_entry_for, IsMostUrgent, lists, queue_at, with_entries_at};
 
 use crate::entry::Entry;
-use crate::tree::{Fork, Tree};
+use crate::queue::Queue;
 use sj_base::ids::{Task, Worker};
 use sj_base::memory::OutOfMemory;
 use sj_base::mode::Policy;
 use std::alloc::Global;
 use std::marker::Model;
-use std::mem;
 
 /// Ready tasks, each with a priority and the bytes of its footprint. Under `eager` and `prio` they
 /// are in one queue, under `ws` in one for each worker; a queue has its entries in the order in
-/// which they are taken.
+/// which they are taken. Each queue's list for when memory is refused is reserved in advance, so
+/// that putting never fails.
 #[derive(Drop)]
 pub struct Pool {
+    alloc: Global,
     policy: Policy,
     workers: u8,
-    queues: Vec<Tree>,
-    /// For each task that isn't in a queue, the box in which it will be.
-    spare: Vec<Option<Box<Fork>>>,
+    tasks: u32,
+    queues: Vec<Queue>,
 }
 
 impl Model for Pool {
-    ghost use Rattle.std.specs.Prelude.{length};
-    ghost use Rattle.sj_pool.specs.Pool.{Pooled, pooled, IsPool};
+    ghost use Rattle.sj_pool.specs.Pool.{Pooled, pooled, lists, IsPool};
 
     ghost Value = { Pooled };
 
-    ghost view = { λ p. pooled p.policy p.workers (length p.spare.items) p.queues.items };
+    ghost view = { λ p. pooled p.policy p.workers p.tasks (lists p.queues.items) };
 
-    ghost invariant = { λ p. IsPool p.policy p.workers p.queues.items p.spare.items };
+    ghost invariant = { λ p. IsPool p.policy p.workers p.tasks p.queues.items };
 }
 
-/// So many empty queues.
-fn empty_queues(alloc: Global, count: u8) -> Result<Vec<Tree>, OutOfMemory>
-    ensures { IfOk result (λ v. v.items ≡ replicate count []) }
+/// How many queues there are.
+fn queue_count(policy: Policy, workers: u8) -> u8
+    ensures { result ≡ queue_count policy workers }
 {
-    let mut queues = Vec::new(alloc);
+    match policy {
+        Policy::Ws => workers,
+        Policy::Eager | Policy::Prio => 1,
+    }
+}
+
+/// So many empty queues, each for so many tasks.
+fn empty_queues(alloc: Global, count: u8, tasks: u32) -> Result<Vec<Queue>, OutOfMemory>
+    ensures { IfOk result (λ v. v.items ≡ replicate count (queued [] tasks)) }
+{
+    let mut queues = Vec::with_capacity(alloc, count as usize)?;
     for _i in 0..count {
-        queues.push(Tree::empty())?;
+        queues.push(Queue::empty(alloc, tasks)?)?;
     }
     Ok(queues)
-}
-
-/// So many boxes.
-fn boxes(alloc: Global, count: u32) -> Result<Vec<Option<Box<Fork>>>, OutOfMemory>
-    ensures length { IfOk result (λ v. length v.items ≡ count) }
-    ensures there { IfOk result (λ v. All (λ b. is_some b ≡ true) v.items) }
-{
-    let mut boxes = Vec::new(alloc);
-    for _i in 0..count {
-        boxes.push(Some(Box::new(alloc, Fork::unused())?))?;
-    }
-    Ok(boxes)
 }
 
 /// The number of a worker's queue.
@@ -72,26 +69,31 @@ fn home(policy: Policy, w: Worker) -> usize
     }
 }
 
-/// Puts an entry into a queue.
-fn put_into(queue: Tree, policy: Policy, entry: Entry, spare: Box<Fork>) -> Tree
-    requires { policy ≡ Prio → IsTrue (is_by_urgency queue) }
-    ensures { result ≡ put_into policy entry queue }
+/// Whether an entry fits in one of some queues.
+#[tactic(auto, using(crate::proofs::Lists::of_lists))]
+fn fits_at(queues: &[Queue], i: usize, room: u64) -> bool
+    requires { i < length queues.now }
+    ensures { result ≡ has_fitting room (queue (lists queues.now) i) }
 {
-    match policy {
-        Policy::Prio => queue.put_by_urgency(entry, spare),
-        Policy::Eager | Policy::Ws => queue.put_last(entry, spare),
-    }
+    queues[i].fits(room)
+}
+
+/// Whether an entry fits in any of some queues.
+fn fits_in_any(queues: &[Queue], room: u64) -> bool
+    ensures { result ≡ list_any (λ q. has_fitting room q.entries) queues.now }
+{
+    queues.iter().any(|queue| queue.fits(room))
 }
 
 /// The first of some queues where an entry fits.
 #[tactic(auto, using(crate::proofs::Serving::between))]
-fn serving_between(queues: &[Tree], from: usize, to: usize, room: u64) -> Option<usize>
+fn serving_between(queues: &[Queue], from: usize, to: usize, room: u64) -> Option<usize>
     requires { to ≤ length queues.now }
-    ensures first { result ≡ serving queues.now room (range_with_len from (to - from)) }
+    ensures first { result ≡ serving (lists queues.now) room (range_with_len from (to - from)) }
     ensures within { IfSome result (λ i. i < length queues.now) }
 {
     for i in from..to {
-        if queues[i].fits(room) {
+        if fits_at(queues, i, room) {
             return Some(i);
         }
     }
@@ -100,9 +102,9 @@ fn serving_between(queues: &[Tree], from: usize, to: usize, room: u64) -> Option
 
 /// The queue that serves a worker whose own is the first: linear in the number of queues.
 #[tactic(auto, using(crate::proofs::Serving::two_parts))]
-fn serving(queues: &[Tree], first: usize, room: u64) -> Option<usize>
+fn serving(queues: &[Queue], first: usize, room: u64) -> Option<usize>
     requires { first < length queues.now }
-    ensures first { result ≡ serving queues.now room (turns (length queues.now) first) }
+    ensures first { result ≡ serving (lists queues.now) room (turns (length (lists queues.now)) first) }
     ensures within { IfSome result (λ i. i < length queues.now) }
 {
     match serving_between(queues, first, queues.len(), room) {
@@ -112,76 +114,46 @@ fn serving(queues: &[Tree], first: usize, room: u64) -> Option<usize>
 }
 
 /// Puts an entry into one of some queues.
-fn put_at(queues: &mut Vec<Tree>, i: usize, policy: Policy, entry: Entry, spare: Box<Fork>)
+fn put_at(queues: &mut Vec<Queue>, i: usize, alloc: Global, policy: Policy, entry: Entry)
     requires within { i < length queues.old.items }
-    requires in_order { policy ≡ Prio → All (λ q. IsTrue (is_by_urgency q)) queues.old.items }
-    ensures { queues.new.items ≡ with_entry_at policy queues.old.items i entry }
+    requires room { length (queue_at queues.old.items i).entries < (queue_at queues.old.items i).limit }
+    requires in_order { policy ≡ Prio → IsTrue (is_by_urgency (queue_at queues.old.items i).entries) }
+    ensures { queues.new.items ≡ with_entries_at queues.old.items i (put_into policy entry (queue_at queues.old.items i).entries) }
 {
-    let old = mem::replace(&mut queues[i], Tree::empty());
-    queues[i] = put_into(old, policy, entry, spare);
+    queues[i].put(alloc, policy, entry);
 }
 
 /// Takes the first entry that fits out of one of some queues.
-fn take_first(queues: &mut Vec<Tree>, i: usize, room: u64) -> Box<Fork>
-    requires within { i < length queues.old.items }
-    requires fitting { has_fitting room (queue queues.old.items i) ≡ true }
-    ensures first { first_fitting room (queue queues.old.items i) ≡ Some result.value.entry }
-    ensures rest { queues.new.items ≡ without_first_at queues.old.items i room }
+fn take_first(queues: &mut Vec<Queue>, i: usize, room: u64) -> Option<Entry>
+    requires { i < length queues.old.items }
+    ensures first { result ≡ first_fitting room (queue_at queues.old.items i).entries }
+    ensures rest { queues.new.items ≡ with_entries_at queues.old.items i (without_first_fitting room (queue_at queues.old.items i).entries) }
 {
-    let old = mem::replace(&mut queues[i], Tree::empty());
-    let (taken, rest) = old.take(room);
-    queues[i] = rest;
-    let Some(fork) = taken else { unreachable!() };
-    fork
-}
-
-/// Takes the box of a task out.
-fn take_box(spare: &mut Vec<Option<Box<Fork>>>, t: Task) -> Box<Fork>
-    requires there { has_spare spare.old.items t.0 ≡ true }
-    ensures others { KeepsOthers spare.old.items spare.new.items t.0 }
-{
-    let Some(fork) = mem::replace(&mut spare[t.0 as usize], None) else {
-        unreachable!()
-    };
-    fork
-}
-
-/// Gives the box of an entry back, where it has a place.
-fn give_box(spare: &mut Vec<Option<Box<Fork>>>, fork: Box<Fork>) -> Task
-    ensures task { result ≡ fork.value.entry.task }
-    ensures there { result.0 < length spare.old.items → has_spare spare.new.items result.0 ≡ true }
-    ensures others { KeepsOthers spare.old.items spare.new.items result.0 }
-{
-    let task = fork.entry.task;
-    let place = task.0 as usize;
-    if place < spare.len() {
-        spare[place] = Some(fork);
-    }
-    task
+    queues[i].take(room)
 }
 
 impl Pool {
-    /// No task, and room for so many. Linear in the workers and tasks.
+    /// No task, and room for so many. Linear in the workers: the memory for tasks that it reserves
+    /// isn't written.
+    #[tactic(auto, using(crate::proofs::Lists::of_lists))]
     pub fn make(alloc: Global, policy: Policy, workers: u8, tasks: u32) -> Result<Pool, OutOfMemory>
         requires { 0 < workers }
         ensures { IfOk result (λ p. p ≡ empty policy workers tasks) }
     {
-        let count = match policy {
-            Policy::Ws => workers,
-            Policy::Eager | Policy::Prio => 1,
-        };
-        let queues = empty_queues(alloc, count)?;
-        let spare = boxes(alloc, tasks)?;
+        let queues = empty_queues(alloc, queue_count(policy, workers), tasks)?;
         Ok(Pool {
+            alloc,
             policy,
             workers,
+            tasks,
             queues,
-            spare,
         })
     }
 
     /// Puts a task into the queue of the worker that puts it: behind all others, or under `prio`
-    /// behind those that are more urgent. Logarithmic in the tasks; no memory.
+    /// behind those that are more urgent. Logarithmic in the tasks; where memory for one more is
+    /// refused, linear until the queue is empty again.
+    #[tactic(auto, using(crate::proofs::Lists::of_lists))]
     pub fn put(&mut self, t: Task, priority: i32, bytes: u64, by: Worker)
         requires absent { contains self.old.queues t.0 ≡ false }
         requires known_task { t.0 < self.old.limit }
@@ -189,29 +161,27 @@ impl Pool {
         ensures { self.new ≡ with_entry self.old (entry t priority bytes) by.0 }
     {
         let i = home(self.policy, by);
-        let spare = take_box(&mut self.spare, t);
         let entry = Entry {
             task: t,
             priority,
             bytes,
         };
-        put_at(&mut self.queues, i, self.policy, entry, spare);
+        put_at(&mut self.queues, i, self.alloc, self.policy, entry);
     }
 
     /// Takes the first entry that fits out of a queue.
-    fn take_at(&mut self, i: usize, room: u64) -> Task
-        requires within { i < length self.old.queues }
-        requires fitting { has_fitting room (queue self.old.queues i) ≡ true }
-        ensures task { first_task room (queue self.old.queues i) ≡ Some result }
+    #[tactic(auto, using(crate::proofs::Lists::of_lists))]
+    fn take_at(&mut self, i: usize, room: u64) -> Option<Task>
+        requires { i < length self.old.queues }
+        ensures task { result ≡ first_task room (queue self.old.queues i) }
         ensures rest { self.new ≡ record self.old { queues = without_first_at self.old.queues i room } }
     {
-        let fork = take_first(&mut self.queues, i, room);
-        give_box(&mut self.spare, fork)
+        take_first(&mut self.queues, i, room).map(|entry| entry.task)
     }
 
     /// Takes a task for a worker, by the policy among those of at most so many bytes; `None` exactly
-    /// where there is none. Logarithmic in the tasks, and under `ws` linear in the workers; no
-    /// memory.
+    /// where there is none. Logarithmic in the tasks, and under `ws` linear in the workers; where
+    /// memory was refused, linear in the tasks. No memory.
     pub fn take(&mut self, w: Worker, room: u64) -> Option<Task>
         requires { w.0 < self.old.workers }
         ensures task { result ≡ task_for self.old w.0 room }
@@ -220,16 +190,17 @@ impl Pool {
     {
         match serving(&self.queues, home(self.policy, w), room) {
             None => None,
-            Some(i) => Some(self.take_at(i, room)),
+            Some(i) => self.take_at(i, room),
         }
     }
 
     /// Whether there is a task of at most so many bytes. Constant time, and under `ws` linear in the
-    /// workers.
+    /// workers; where memory was refused, linear in the tasks.
+    #[tactic(auto, using(crate::proofs::Lists::of_lists))]
     pub fn has_fitting(&self, room: u64) -> bool
         ensures { result ≡ list_any (has_fitting room) self.now.queues }
     {
-        self.queues.iter().any(|queue| queue.fits(room))
+        fits_in_any(&self.queues, room)
     }
 
     /// Under `prio`, what a worker takes is the most urgent of all that fit. No code: its contract is

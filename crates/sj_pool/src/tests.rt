@@ -52,3 +52,28 @@ fn under_ws_a_worker_takes_its_own_and_then_the_next_ones(
     assert!(rt; pool.take(Worker(0), 90) == Some(Task(2)));
     Ok(())
 }
+
+#[test]
+fn order_is_kept_over_many_puts_and_takes(rt: HostRuntime) -> Result<(), OutOfMemory> {
+    let mut pool = Pool::make(rt.alloc(), Policy::Prio, 1, 10)?;
+    pool.put(Task(0), 1, 10, Worker(0));
+    pool.put(Task(1), 2, 10, Worker(0));
+    pool.put(Task(2), 3, 10, Worker(0));
+    pool.put(Task(3), 4, 10, Worker(0));
+    pool.put(Task(4), 5, 90, Worker(0));
+    pool.put(Task(5), 6, 10, Worker(0));
+    pool.put(Task(6), 6, 10, Worker(0));
+    pool.put(Task(7), 0, 10, Worker(0));
+    assert!(rt; pool.take(Worker(0), 50) == Some(Task(5)));
+    assert!(rt; pool.take(Worker(0), 50) == Some(Task(6)));
+    assert!(rt; pool.take(Worker(0), 50) == Some(Task(3)));
+    pool.put(Task(3), 2, 10, Worker(0));
+    assert!(rt; pool.take(Worker(0), 50) == Some(Task(2)));
+    assert!(rt; pool.take(Worker(0), 50) == Some(Task(1)));
+    assert!(rt; pool.take(Worker(0), 90) == Some(Task(4)));
+    assert!(rt; pool.take(Worker(0), 90) == Some(Task(3)));
+    assert!(rt; pool.take(Worker(0), 90) == Some(Task(0)));
+    assert!(rt; pool.take(Worker(0), 90) == Some(Task(7)));
+    assert!(rt; pool.take(Worker(0), 90) == None);
+    Ok(())
+}

@@ -1,7 +1,8 @@
 //! A queue as a balanced search tree (an AVL tree), whose forks keep the least bytes below them, so
 //! that the first entry that fits is found on one path from the root.
 
-ghost use Rattle.std.specs.Prelude.{◌≡◌, ◌↔◌, [], ◌∷◌, ◌++◌, IsTrue, IsNone, IfSome, option_map};
+ghost use Rattle.std.specs.Prelude.{◌≡◌, ◌≤◌, ◌+◌, ◌↔◌, [], ◌∷◌, ◌++◌, IsTrue, IsNone, IfSome, length, option_map};
+ghost use Rattle.std.specs.Vec.{vec_capacity};
 ghost use Rattle.sj_pool.specs.Queue.{has_fitting, first_fitting, without_first_fitting, put_by_urgency, is_by_urgency};
 ghost use Rattle.sj_pool.specs.Root.{IsLeast};
 
@@ -195,6 +196,20 @@ impl Tree {
                 Tree::balance(fork)
             }
         }
+    }
+
+    /// Moves all entries behind those of a list that has room for them. Linear time.
+    pub fn move_to(self, list: &mut Vec<Entry>)
+        requires { length list.old.items + length self ≤ vec_capacity list.old }
+        ensures items { list.new.items ≡ list.old.items ++ self }
+        ensures capacity { vec_capacity list.old ≤ vec_capacity list.new }
+    {
+        let Some(mut fork) = self.open() else {
+            return;
+        };
+        mem::replace(&mut fork.left, Tree::empty()).move_to(list);
+        let _ = list.push(fork.entry);
+        mem::replace(&mut fork.right, Tree::empty()).move_to(list);
     }
 
     /// Takes the first entry that fits out, in its fork's box. Logarithmic time.
