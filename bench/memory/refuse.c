@@ -1,7 +1,10 @@
-/* Preloaded before a program: refuses the allocation whose number, from 1, stands in REFUSE. */
+/* Preloaded before a program: refuses the allocation whose number, from 1, stands in REFUSE, and writes how many were asked for
+   into the file that COUNT names. */
 #include <errno.h>
+#include <fcntl.h>
 #include <stddef.h>
 #include <stdlib.h>
+#include <unistd.h>
 
 extern void *__libc_malloc(size_t);
 extern void *__libc_realloc(void *, size_t);
@@ -9,13 +12,18 @@ extern void *__libc_calloc(size_t, size_t);
 extern void *__libc_memalign(size_t, size_t);
 
 static long refused = -1, calls;
+static int told = -1;
 
 static int is_refused(void) {
     if (refused < 0) {
-        const char *number = getenv("REFUSE");
+        const char *number = getenv("REFUSE"), *path = getenv("COUNT");
         refused = number ? atol(number) : 0;
+        told = path ? open(path, O_WRONLY | O_CREAT | O_TRUNC, 0600) : -1;
     }
-    if (++calls != refused) return 0;
+    ++calls;
+    /* at each call, since the program ends without what a destructor would wait for */
+    if (told >= 0 && pwrite(told, &calls, sizeof calls, 0) < 0) abort();
+    if (calls != refused) return 0;
     errno = ENOMEM;
     return 1;
 }

@@ -11,8 +11,8 @@ top = os.path.dirname(os.path.dirname(here))
 starjob = os.path.join(top, "crates", "starjob", "out", "starjob")
 
 
-def run(shim, job, number):
-    environment = {**os.environ, "LD_PRELOAD": shim, "REFUSE": str(number)}
+def run(shim, job, number, **more):
+    environment = {**os.environ, "LD_PRELOAD": shim, "REFUSE": str(number), **more}
     return subprocess.run([starjob], input=job, capture_output=True, env=environment)
 
 
@@ -23,20 +23,20 @@ def main():
         subprocess.run(["gcc", "-O1", "-shared", "-fPIC", "-o", shim, os.path.join(here, "refuse.c")], check=True)
         for path in sorted(glob.glob(os.path.join(top, "examples", "*.job"))):
             job = open(path, "rb").read()
-            wanted = run(shim, job, 0)
-            refused, whole, number = 0, 0, 0
-            # behind the last allocation nothing is refused, and the run is whole each time
-            while whole < 20:
-                number += 1
+            told = os.path.join(folder, "count")
+            wanted = run(shim, job, 0, COUNT=told)
+            count = int.from_bytes(open(told, "rb").read(), sys.byteorder)
+            refused, whole = 0, 0
+            for number in range(1, count + 1):
                 got = run(shim, job, number)
                 if got.returncode == 10 and got.stdout == b"" and got.stderr in (b"", b"starjob: out of memory\n"):
-                    refused, whole = refused + 1, 0
+                    refused += 1
                 elif (got.returncode, got.stdout, got.stderr) == (0, wanted.stdout, b""):
                     whole += 1
                 else:
                     print(f"FAILED {os.path.basename(path)}: allocation {number}: {got}")
-                    failed, whole = failed + 1, 0
-            print(f"{os.path.basename(path)}: {refused} allocations refused")
+                    failed += 1
+            print(f"{os.path.basename(path)}: {count} allocations, {refused} refused runs, {whole} whole")
     print(f"{failed} failed")
     sys.exit(failed != 0)
 

@@ -6,7 +6,7 @@ Makes three texts of 64 MiB, one of vectors with 16 million values, one of a mat
 prints the ratio of the best times, of processor times too, and starjob's peak memory as a multiple of the text. Run it
 by hand, on a machine that does nothing else.
 """
-import os, subprocess, sys, tempfile, time, resource
+import filecmp, os, subprocess, sys, tempfile, time
 
 here = os.path.dirname(os.path.abspath(__file__))
 top = os.path.dirname(os.path.dirname(here))
@@ -56,18 +56,25 @@ def best(command, path, out):
     return min(times), min(busy), peak
 
 
+TEXTS = {"values": values, "matrix": matrix, "lines": lines}
+
+
 def main():
+    if len(sys.argv) == 3:
+        TEXTS[sys.argv[1]](sys.argv[2])
+        return
     with tempfile.TemporaryDirectory() as folder:
         plain = os.path.join(folder, "plain")
         subprocess.run(["gcc", "-O3", "-o", plain, os.path.join(here, "plain.c")], check=True)
         print(f"cores: {os.cpu_count()}, load: {os.getloadavg()[0]:.1f}")
-        for name, make in (("values", values), ("matrix", matrix), ("lines", lines)):
+        for name in TEXTS:
             path = os.path.join(folder, name)
-            make(path)
+            # by a process of its own: the peak of a child counts what its parent has held when it began
+            subprocess.run([sys.executable, __file__, name, path], check=True)
             ours, theirs = os.path.join(folder, "ours"), os.path.join(folder, "theirs")
             time_ours, busy_ours, peak = best([starjob, *SWAP], path, ours)
             time_theirs, busy_theirs, _ = best([plain], path, theirs)
-            same = open(ours).read() == open(theirs).read()
+            same = filecmp.cmp(ours, theirs, shallow=False)
             size = os.path.getsize(path)
             print(
                 f"{name}: text {size} bytes, starjob {time_ours:.3f} s, C {time_theirs:.3f} s, "
