@@ -8,5 +8,3 @@ pub mod reduction;
 pub mod ring;
 mod runs;
 mod scalar;
-#[cfg(test)]
-mod tests;

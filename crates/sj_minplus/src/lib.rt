@@ -9,6 +9,4 @@ mod row;
 mod runs;
 mod short;
 pub mod sum;
-#[cfg(test)]
-mod tests;
 pub mod ways;

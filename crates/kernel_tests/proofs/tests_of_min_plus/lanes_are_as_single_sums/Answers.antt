@@ -1,5 +1,5 @@
 use Rattle.sj_minplus.proofs.Vectors.{lanes_passed}
-use Rattle.sj_minplus.proofs.tests.lanes_are_as_single_sums.Goals as goal
+use Rattle.kernel_tests.proofs.tests_of_min_plus.lanes_are_as_single_sums.Goals as goal
 
 pub plus8-requires : goal.plus8-requires
 plus8-requires g c = record {
