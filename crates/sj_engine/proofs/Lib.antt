@@ -9,7 +9,6 @@ mod OperandLists
 mod OtherRows
 mod OwnRows
 mod ResultLists
-mod SeatSteps
 mod StepFacts
 mod StepTurns
 mod Turning

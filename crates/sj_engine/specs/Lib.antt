@@ -6,3 +6,4 @@ pub mod Stage
 pub mod Stepping
 pub mod Turn
 pub mod Working
+pub mod Workplace

@@ -15,3 +15,4 @@ mod stepping;
 mod threads;
 pub mod turns;
 pub mod work;
+pub mod workplace;

@@ -8,12 +8,10 @@ ghost use Rattle.sj_engine.specs.Stage.{IsAt, IsFreeRow, IsStoppedRow};
 ghost use Rattle.sj_engine.specs.Turn.{IsSharedSound};
 ghost use Rattle.sj_machine.specs.BoardRow.{key_of};
 
-use crate::shared_board::SharedBoard;
-use crate::work::work;
+use crate::workplace::{BoardDesk, BoardSeat, Workplace};
 use sj_base::ids::Worker;
 use sj_base::program::Program;
 use sj_codelet::set::Codelets;
-use sj_desk::{Desk, DeskSeat};
 use sj_edge::disk::Disk;
 use sj_edge::gate::Gate;
 use sj_machine::board::Board;
@@ -29,14 +27,21 @@ fn work_at<C: Codelets, G: Gate, D: Disk, R: Wait>(
     program: &Program,
     codelets: &C,
     gate: &G,
-    desk: &Desk<SharedBoard<D>>,
-    seat: &mut DeskSeat<SharedBoard<D>>,
+    desk: &BoardDesk<D>,
+    seat: &mut BoardSeat<D>,
 )
     requires { MayWork C.has program.now desk.now seat.old }
     ensures stopped { IsAt desk.now (worker_at seat.old.number) IsStoppedRow seat.new }
 {
-    let w = Worker(seat.number());
-    work(rt, alloc, desk, seat, program, codelets, gate, w);
+    let worker = Worker(seat.number());
+    let workplace = Workplace {
+        rt,
+        alloc,
+        desk,
+        program,
+        worker,
+    };
+    workplace.work(seat, codelets, gate);
 }
 
 /// All workers at once, each in a thread of its own as far as threads can be started. Each has stopped when it returns.
@@ -46,8 +51,8 @@ fn work_all<C: Codelets, G: Gate, D: Disk + Send, R: Threads + Wait + Sync>(
     program: &Program,
     codelets: &C,
     gate: &G,
-    desk: &Desk<SharedBoard<D>>,
-    seats: &mut [DeskSeat<SharedBoard<D>>],
+    desk: &BoardDesk<D>,
+    seats: &mut [BoardSeat<D>],
 )
     requires program { desk.now.opening.run.program ≡ program.now }
     requires workers { desk.now.seats ≡ program.now.workers }
@@ -61,7 +66,7 @@ fn work_all<C: Codelets, G: Gate, D: Disk + Send, R: Threads + Wait + Sync>(
         rt,
         seats,
         threads,
-        &|_, seat: &mut DeskSeat<SharedBoard<D>>|
+        &|_, seat: &mut BoardSeat<D>|
             requires { MayWork C.has program.now desk.now seat.old }
         { work_at(rt, alloc, program, codelets, gate, desk, seat) },
     );
@@ -74,8 +79,8 @@ pub(crate) fn worked<C: Codelets, G: Gate, D: Disk + Send, R: Threads + Wait + S
     program: &Program,
     codelets: &C,
     gate: &G,
-    desk: Desk<SharedBoard<D>>,
-    mut seats: Vec<DeskSeat<SharedBoard<D>>>,
+    desk: BoardDesk<D>,
+    mut seats: Vec<BoardSeat<D>>,
 ) -> Board<D>
     requires program { desk.opening.run.program ≡ program.now }
     requires workers { desk.seats ≡ program.now.workers }

@@ -1,0 +1,12 @@
+use Rattle.sj_engine.specs.Stage.{GoesOn, IsFreeRow}
+use Rattle.sj_engine.specs.Workplace.{IsSeated}
+use Rattle.sj_engine.proofs.workplace.Workplace.work.Given as goal
+
+-- the worker has nothing in hand
+abbrev pub invariant-loop : goal.invariant-loop
+invariant-loop g l = record {
+  can : (goal.iterator-loop g).can_next l.iterator';
+  ends : (goal.iterator-loop g).is_finite l.iterator';
+  row : IsSeated l.self IsFreeRow l.seat;
+  events : GoesOn l.self.worker l.fn.seat l.seat;
+}
