@@ -15,9 +15,13 @@ use std::test::Fail;
 
 /// The job of a line, behind a statement or alone.
 fn job_of(alloc: Global, line: &str, begun: bool) -> Result<Job, ReadRefusal> {
-    let before = if begun { "vector begun 1 none\n" } else { "" };
-    let text = format!(in alloc; "starjob 1\n{before}{line}\n")?;
-    read(alloc, text.as_bytes(), &Ring)
+    let mut text = Vec::from_slice(alloc, b"starjob 1\n")?;
+    if begun {
+        text.extend_from_slice(b"vector begun 1 none\n")?;
+    }
+    text.extend_from_slice(line.as_bytes())?;
+    text.push(b'\n')?;
+    read(alloc, &text, &Ring)
 }
 
 /// Why a line says no form that is read, or `None` where it says one.
@@ -34,14 +38,15 @@ fn reason_of(alloc: Global, line: &str, begun: bool) -> Result<Option<Reason>, O
     }
 }
 
-/// Each of these lines is refused for this reason, or for none, where no statement stands before it.
+/// Each of these lines is refused for this reason, or for none, behind a statement or alone.
 fn all_are<R: AllocGlobal + Abort>(
     rt: &R,
     lines: &[&str],
+    begun: bool,
     wanted: Option<Reason>,
 ) -> Result<(), Fail> {
     for line in lines {
-        assert_eq!(rt; reason_of(rt.alloc(), line, false)?, wanted, "{line}");
+        assert_eq!(rt; reason_of(rt.alloc(), line, begun)?, wanted, "{line}");
     }
     Ok(())
 }
@@ -77,11 +82,8 @@ fn lines_without_fault_say_sentences(rt: HostRuntime) -> Result<(), Fail> {
         "invalidate x",
         "unregister unregister",
     ];
-    all_are(&rt, &lines, None)?;
-    for line in lines {
-        assert_eq!(rt; reason_of(rt.alloc(), line, true)?, None, "{line}");
-    }
-    Ok(())
+    all_are(&rt, &lines, false, None)?;
+    all_are(&rt, &lines, true, None)
 }
 
 #[test]
@@ -119,7 +121,7 @@ fn lines_of_no_form_are_words(rt: HostRuntime) -> Result<(), Fail> {
         "invalidate x y",
         "unregister",
     ];
-    all_are(&rt, &lines, Some(Reason::Word))
+    all_are(&rt, &lines, false, Some(Reason::Word))
 }
 
 #[test]
@@ -151,7 +153,7 @@ fn operands_and_codelets_are_spelled(rt: HostRuntime) -> Result<(), Fail> {
         "task scale(b) x",
         "task scale(2) x:RW prio=b x:R",
     ];
-    all_are(&rt, &words, Some(Reason::Word))?;
+    all_are(&rt, &words, false, Some(Reason::Word))?;
     let numbers = [
         "task scale() x:RW",
         "task fill(1,) x:W",
@@ -168,7 +170,7 @@ fn operands_and_codelets_are_spelled(rt: HostRuntime) -> Result<(), Fail> {
         "task scale(2) x:RW prio=1.5",
         "task scale(2) x:RW prio=x:R",
     ];
-    all_are(&rt, &numbers, Some(Reason::Number))
+    all_are(&rt, &numbers, false, Some(Reason::Number))
 }
 
 #[test]
@@ -190,16 +192,13 @@ fn places_of_numbers_hold_numbers(rt: HostRuntime) -> Result<(), Fail> {
         "workers inf",
         "node -7",
     ];
-    all_are(&rt, &lines, Some(Reason::Number))
+    all_are(&rt, &lines, false, Some(Reason::Number))
 }
 
 #[test]
 fn settings_behind_a_statement_are_words(rt: HostRuntime) -> Result<(), Fail> {
-    for line in ["workers 2", "workers two", "node 8", "node -8", "policy ws"] {
-        let reason = reason_of(rt.alloc(), line, true)?;
-        assert_eq!(rt; reason, Some(Reason::Word), "{line}");
-    }
-    Ok(())
+    let lines = ["workers 2", "workers two", "node 8", "node -8", "policy ws"];
+    all_are(&rt, &lines, true, Some(Reason::Word))
 }
 
 /// What is fixed of a root, where there is one of this number.
@@ -216,12 +215,9 @@ fn a_registration_has_its_name_dimensions_and_values(rt: HostRuntime) -> Result<
     let Some(root) = job.roots.find(b"x_1") else {
         return Err(Fail::from("a root"));
     };
-    assert_eq!(rt; (root, job.roots.len()), (Root(0), 1));
+    assert!(rt; root == Root(0) && job.roots.len() == 1);
     let info = info_of(&job.roots, root).ok_or("its dimensions")?;
-    assert_eq!(rt;
-        (info.kind, info.dims.rows, info.dims.cols),
-        (Kind::Matrix, 1, 2)
-    );
+    assert!(rt; info.kind == Kind::Matrix && info.dims.rows == 1 && info.dims.cols == 2);
     let Some(statement) = job.statements.items().first() else {
         return Err(Fail::from("a statement"));
     };
@@ -242,12 +238,12 @@ fn a_task_has_its_codelet_arguments_operands_and_priority(rt: HostRuntime) -> Re
     let Act::Task(task) = &statement.act else {
         return Err(Fail::from("a task"));
     };
-    assert_eq!(rt; (task.kernel, task.priority), (Kernel::Axpy, -7));
-    assert_eq!(rt; task.args.items(), [-3i64].as_slice());
+    assert!(rt; task.kernel == Kernel::Axpy && task.priority == -7);
+    assert!(rt; task.args.items() == [-3i64].as_slice());
     let [x, y] = task.operands.items() else {
         return Err(Fail::from("two operands"));
     };
-    assert_eq!(rt; (x.root, x.mode), (Root(0), Mode::R));
-    assert_eq!(rt; (y.root, y.mode), (Root(1), Mode::RW));
+    assert!(rt; x.root == Root(0) && x.mode == Mode::R);
+    assert!(rt; y.root == Root(1) && y.mode == Mode::RW);
     Ok(())
 }

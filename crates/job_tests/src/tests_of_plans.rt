@@ -245,10 +245,10 @@ fn plans_and_children_are_kept(rt: HostRuntime) -> Result<(), Fail> {
     let [operand] = task.operands.items() else {
         return Err(Fail::from("an operand"));
     };
-    assert_eq!(rt; (operand.root, operand.place), (Root(1), (2, 1)));
+    assert!(rt; operand.root == Root(1) && operand.place.0 == 2 && operand.place.1 == 1);
     let Act::Plan(root, parts) = &plan.act else {
         return Err(Fail::from("a plan"));
     };
-    assert_eq!(rt; (*root, parts.r, parts.c), (Root(1), 1, 4));
+    assert!(rt; *root == Root(1) && parts.r == 1 && parts.c == 4);
     Ok(())
 }

@@ -162,13 +162,13 @@ fn a_reduction_and_a_contribution_are_kept_with_their_roots(rt: HostRuntime) -> 
     let Act::Redux(root, by) = &redux.act else {
         return Err(Fail::from("a reduction"));
     };
-    assert_eq!(rt; (*root, *by), (Root(1), Reduction::Plus));
+    assert!(rt; *root == Root(1) && *by == Reduction::Plus);
     let Act::Task(task) = &task.act else {
         return Err(Fail::from("a task"));
     };
     let [x, s] = task.operands.items() else {
         return Err(Fail::from("two operands"));
     };
-    assert_eq!(rt; (x.mode, s.mode, s.root), (Mode::R, Mode::Redux, Root(1)));
+    assert!(rt; x.mode == Mode::R && s.mode == Mode::Redux && s.root == Root(1));
     Ok(())
 }

@@ -126,7 +126,7 @@ fn sixteen_nodes_are_read_and_no_more(rt: HostRuntime) -> Result<(), Fail> {
         ) else {
             return Err(Fail::from("a refusal"));
         };
-        assert_eq!(rt; (line.0, why), (18, reason), "{last}");
+        assert!(rt; line.0 == 18 && why == reason, "{last}");
     }
     Ok(())
 }
