@@ -1,16 +1,19 @@
 #!/usr/bin/env bash
 # Runs the built programs as processes, and compares their exit codes and both their streams with what docs/JOBS.md promises: what
-# main and the standard streams do with a status stands in no clause. Others are given as examples/program.sh STARJOB TRACE_CHECK.
-crates=$(dirname "$0")/../crates
-starjob=$(realpath "${1:-$crates/starjob/out/starjob}")
-trace_check=$(realpath "${2:-$crates/trace_check/out/trace_check}")
+# main and the standard streams do with a status stands in no clause. Others are given as examples/program.sh STARJOB TRACE_CHECK,
+# or by variables of these names.
+top=$(dirname "$0")/..
+# built NAME: where ./run has put a program, or else rt run
+built() { if [ -x "$top/bin/$1" ]; then echo "$top/bin/$1"; else echo "$top/crates/$1/out/$1"; fi; }
+starjob=$(realpath "${1:-${STARJOB:-$(built starjob)}}")
+trace_check=$(realpath "${2:-${TRACE_CHECK:-$(built trace_check)}}")
 program=$starjob
 if [ ! -x "$starjob" ]; then
   echo "examples/program.sh: build starjob first, by ./run examples/first.job" >&2
   exit 1
 fi
 if [ ! -x "$trace_check" ]; then
-  echo "examples/program.sh: build trace_check first, by rt run in crates/trace_check" >&2
+  echo "examples/program.sh: build trace_check first, by ./run --build" >&2
   exit 1
 fi
 pictures=$(realpath "$(dirname "$0")/../docs/pictures")

@@ -10,7 +10,7 @@ import os, subprocess, sys, tempfile
 
 here = os.path.dirname(os.path.abspath(__file__))
 top = os.path.dirname(os.path.dirname(here))
-starjob = os.path.join(top, "crates", "starjob", "out", "starjob")
+starjob = os.path.join(top, "bin", "starjob")
 RUNS = int(sys.argv[1]) if len(sys.argv) > 1 else 5
 MIB = 1024 * 1024
 MACHINE = ["--workers", "1", "--node", str(256 * MIB), "--swap-size", str(64 * MIB)]

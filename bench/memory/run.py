@@ -8,7 +8,7 @@ import glob, os, subprocess, sys, tempfile
 
 here = os.path.dirname(os.path.abspath(__file__))
 top = os.path.dirname(os.path.dirname(here))
-starjob = os.path.join(top, "crates", "starjob", "out", "starjob")
+starjob = os.path.join(top, "bin", "starjob")
 
 
 def run(shim, job, number, **more):

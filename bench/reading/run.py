@@ -10,7 +10,7 @@ import filecmp, os, subprocess, sys, tempfile, time
 
 here = os.path.dirname(os.path.abspath(__file__))
 top = os.path.dirname(os.path.dirname(here))
-starjob = os.path.join(top, "crates", "starjob", "out", "starjob")
+starjob = os.path.join(top, "bin", "starjob")
 LIMIT = 67_108_864
 # the values take 128 MiB as cells, more than the swap disk has without words
 SWAP = ["--swap-size", str(160 * 1024 * 1024)]

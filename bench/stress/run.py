@@ -14,7 +14,7 @@ import argparse, os, random, subprocess, sys, tempfile, time
 
 here = os.path.dirname(os.path.abspath(__file__))
 top = os.path.dirname(os.path.dirname(here))
-starjob = os.path.join(top, "crates", "starjob", "out", "starjob")
+starjob = os.path.join(top, "bin", "starjob")
 DISK_FAULT, DAMAGED = 6, 7
 
 

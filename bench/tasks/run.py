@@ -11,7 +11,7 @@ import os, subprocess, sys, tempfile
 
 here = os.path.dirname(os.path.abspath(__file__))
 top = os.path.dirname(os.path.dirname(here))
-starjob = os.path.join(top, "crates", "starjob", "out", "starjob")
+starjob = os.path.join(top, "bin", "starjob")
 SIZES = (10_000, 100_000)
 
 

@@ -1,7 +1,7 @@
 #!/usr/bin/env python3
 """Times traces: their text, reading it, and checking them.
 
-Build `starjob` first by ./run examples/first.job, and `trace_check` by `rt run` in its folder (any answer will do). The job has
+Build both programs first, by ./run --build. The job has
 100,000 tasks each of which evicts one cell of 8 bytes. Its trace is written and read by a C program, too (`plain.c`), which checks
 nothing. Reading is what `trace_check` takes longer where the last line is no event than where the first isn't; writing is what
 `starjob` takes longer with `--trace`. Least processor time of seven runs each. Run it by hand, on a machine that does nothing else.
@@ -10,8 +10,8 @@ import os, subprocess, sys, tempfile
 
 here = os.path.dirname(os.path.abspath(__file__))
 top = os.path.dirname(os.path.dirname(here))
-starjob = os.environ.get("STARJOB") or os.path.join(top, "crates", "starjob", "out", "starjob")
-checker = os.environ.get("TRACE_CHECK") or os.path.join(top, "crates", "trace_check", "out", "trace_check")
+starjob = os.environ.get("STARJOB") or os.path.join(top, "bin", "starjob")
+checker = os.environ.get("TRACE_CHECK") or os.path.join(top, "bin", "trace_check")
 EVENTS = ("claim ", "run ", "end ", "move ", "moved ", "drop ")
 
 
