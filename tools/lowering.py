@@ -1,9 +1,8 @@
-"""A job text as tasks over cells, as docs/JOBS.md and docs/ARCHITECTURE.md have them, for the pictures of this folder.
+"""A job text as tasks over cells, as docs/JOBS.md and docs/ARCHITECTURE.md have them, for the pictures and summaries of this folder.
 
 It takes texts that begin with `starjob 1` and that the language allows, with partition plans, reductions and commuting
 tasks, and looks at no elements.
 """
-import re
 import sys
 from collections import namedtuple
 
@@ -52,12 +51,12 @@ def rectangles(root, plan):
 class Job:
     """The cells and tasks of a job text, and its settings; words may give other ones."""
 
-    def __init__(self, text, most_tasks, workers=None, node=None, nodes=None):
+    def __init__(self, text, workers=None, node=None, nodes=None):
         self.workers, self.nodes = 1, []
         self.cells, self.tasks, self.roots = [], [], {}
         # the cells with values, and the line of the last contribution to each cell whose phase is open
         self.valued, self.phases, self.copies, self.root_of = set(), {}, {}, {}
-        self.most_tasks, self.given_workers = most_tasks, workers
+        self.given_workers = workers
         lines = [(n, line.split()) for n, line in enumerate(text.split("\n"), 1)]
         lines = [(n, words) for n, words in lines if words and not words[0].startswith("#")]
         if not lines or lines[0][1] != ["starjob", "1"]:
@@ -100,6 +99,10 @@ class Job:
         elif what != "policy":
             raise ValueError(what)
 
+    def array_of(self, cell):
+        """The name of the array that a cell is a child of, or a copy of a child of."""
+        return self.cells[cell].label.split(" ")[0].split("[")[0].split("(")[0]
+
     def leaves(self, root):
         return root.plans[root.active]
 
@@ -108,8 +111,6 @@ class Job:
         return len(self.cells) - 1
 
     def add(self, codelet, accesses, line):
-        if len(self.tasks) >= self.most_tasks:
-            raise Unreadable(f"the job is too large to draw: it has more than {self.most_tasks} tasks")
         accesses = [Access(mode, cell, self.copies.get(cell, []) if mode == "REDUX" else []) for mode, cell in accesses]
         self.tasks.append(Task(len(self.tasks), codelet, accesses, line))
         self.valued |= {it.cell for it in accesses if it.mode not in ("R", "SCRATCH")}
@@ -193,24 +194,39 @@ def colour(codelet):
     return PALETTE[COLOURS.index(codelet) % len(PALETTE)] if codelet in COLOURS else "#eeeeee"
 
 
-def options(words, most):
-    """The files that the words name, and the settings --workers, --node and --nodes among them."""
-    found = {}
-    while len(words) > most and re.fullmatch(r"--(workers|node|nodes)", words[-2]) and words[-1].isdigit():
-        found[words[-2][2:]] = int(words[-1])
-        words = words[:-2]
-    return (words, found) if len(words) == most else (None, None)
+# The words of a run that make the cells, tasks and nodes of a job; the others may stand with them.
+SETTINGS = {"workers": int, "node": int, "nodes": int}
+PASSED_OVER = {"sched": str, "swap": str, "swap-size": str, "trace": None}
 
 
-def run(main, usage, most):
+def options(words, known):
+    """The files that the words name, and the values of the options, each in the next word or behind the first =."""
+    known, files, found, left = {**PASSED_OVER, **SETTINGS, **known}, [], {}, list(words)
+    while left:
+        word = left.pop(0)
+        name, behind, value = word.removeprefix("--").partition("=")
+        if not word.startswith("--"):
+            files.append(word)
+        elif name not in known or known[name] is None and behind:
+            raise Unreadable(f"{word} is no word of it")
+        elif known[name] is None:
+            found[name] = True
+        else:
+            try:
+                found[name] = known[name](value if behind else left.pop(0))
+            except (ValueError, IndexError):
+                raise Unreadable(f"--{name} wants a {'number' if known[name] is int else 'word'}") from None
+    return files, {name: value for name, value in found.items() if name not in PASSED_OVER}
+
+
+def run(main, usage, most, **known):
     """Calls main with the files' texts and the settings, and says on standard error why there is no picture."""
-    files, settings = options(sys.argv[1:], most)
-    if files is None:
-        sys.exit(f"usage: {usage}")
     name = sys.argv[0].rpartition("/")[2]
     try:
-        texts = [text_of(file) for file in files]
-        print(main(*texts, **settings))
+        files, settings = options(sys.argv[1:], known)
+        if len(files) != most:
+            sys.exit(f"usage: {usage}")
+        print(main(*map(text_of, files), **settings))
     except BrokenPipeError:
         sys.exit(1)
     except OSError as error:
