@@ -1,4 +1,5 @@
 """The parts of a picture in which a step has several events: which share of a step's events something goes on in."""
+from traces import size
 
 STEPS = 300
 
@@ -75,5 +76,5 @@ def draw_ways(picture, y, lane, replay, node, kinds):
         foot = y + (k + 1) * lane - 3
         columns = [(step, foot, n / most * (lane - 3)) for step, n in sorted(sums[k].items())]
         path(picture, steps, columns, fill, name)
-        picture.text(12, foot, f"{name} {sum(sums[k].values())} bytes", 9, fill="#666")
+        picture.text(12, foot, f"{name} {size(sum(sums[k].values()))}", 9, fill="#666")
     return y + len(kinds) * lane

@@ -127,3 +127,7 @@ class Replay:
 
 def counted(n, what):
     return f"{n} {what}{'' if n == 1 else 's'}"
+
+
+def size(n):
+    return f"{n / 2**20:.1f} MiB" if n >= 2**20 else f"{n / 2**10:.1f} KiB" if n >= 2**10 else f"{n} B"
