@@ -280,12 +280,8 @@ class Terms:
         if "↦" not in items:
             return self.type_of(items, bound)
         at, bound = items.index("↦"), dict(bound)
-        self.bind(list(self.variables(items[:at])), bound)
+        self.bind(list(pattern_names(items[:at])), bound)
         return f"{self.plain(items[:at], bound)} ↦ {self.type_of(items[at + 1 :], bound)}"
-
-    def variables(self, items):
-        """A pattern's names that aren't constructors, as a name of a definition in scope may be a variable there."""
-        return pattern_names(items)
 
     def name(self, word, bound):
         if word in bound:
