@@ -141,8 +141,10 @@ for _ in 1 2 3; do
     crates/desk_speed/out/desk_speed >> rattle.txt
 done
 echo "cores: $(nproc), load: $(cut -d ' ' -f 1 /proc/loadavg)"
-python3 - rattle.txt c.txt <<'PY'
+python3 - rattle.txt c.txt "$here/.." <<'PY'
 import sys
+sys.path.insert(0, sys.argv[3])
+import figures
 def times(path):
     each = {}
     for line in open(path):
@@ -150,11 +152,17 @@ def times(path):
         each.setdefault(threads, []).append(taken / (max(threads, 1) * rounds))
     return {threads: sorted(all_) for threads, all_ in each.items()}
 desk, mutex = times(sys.argv[1]), times(sys.argv[2])
+rows = []
 def say(name, ours, c):
+    key = name.split(",")[0].replace(" ", "_") + ("_without_threads" if "," in name else "")
     for which, at in (("best", 0), ("median", len(ours) // 2)):
+        if "," not in name:
+            rows.append((f"{key}.{which}.ns", ours[at], "<=150" if name == "alone" else "<", figures.TIME))
+        rows.append((f"{key}.{which}.ratio", ours[at] / c[at], "<=2"))
         print(f"{name}, {which} of {len(ours)}: desk {ours[at]:.1f} ns a round, mutex {c[at]:.1f} ns, ratio {ours[at] / c[at]:.2f}")
 say("alone", desk[1], mutex[1])
 say("alone, the mutex in a process without threads", desk[1], mutex[0])
 for threads in (2, 4):
     say(f"{threads} threads", desk[threads], mutex[threads])
+figures.write("desk", rows)
 PY

@@ -4,15 +4,20 @@
 The product of two matrices of 1024 rows in tiles of 256, 128 and 64, and the shortest ways between 480 places in tiles of
 60 and 20. The tiles are matrices of their own. Of `starjob` (built by ./run examples/first.job) the processor time of the
 job counts, less that of the job without its kernels' tasks; of C that of the calls. The two take turns, and the best of
-some runs counts, five unless a number is given. Prints C's time as a multiple of ours, so that more is faster.
+some runs counts, five unless a number is given. Prints C's time as a multiple of ours, so that more is faster, and writes it
+into bench/figures.txt.
 """
 import os, subprocess, sys, tempfile
 
 here = os.path.dirname(os.path.abspath(__file__))
 top = os.path.dirname(os.path.dirname(here))
+sys.path.insert(0, os.path.dirname(here))
+import figures
+
 starjob = os.path.join(top, "bin", "starjob")
 RUNS = int(sys.argv[1]) if len(sys.argv) > 1 else 5
 MIB = 1024 * 1024
+GOALS = {("product", 256): 1.5, ("product", 128): 1.5, ("product", 64): 1.5, ("ways", 60): 1.3, ("ways", 20): 0.6}
 MACHINE = ["--workers", "1", "--node", str(256 * MIB), "--swap-size", str(64 * MIB)]
 
 
@@ -71,6 +76,7 @@ def in_c(folder, job, tile):
 def main():
     print(f"cores: {os.cpu_count()}, load: {os.getloadavg()[0]:.1f}")
     print("| Job | Tile | starjob | C | Speed |\n|---|---|---|---|---|")
+    rows = []
     with tempfile.TemporaryDirectory() as folder:
         subprocess.check_call(["gcc", "-O3", "-o", os.path.join(folder, "order"), os.path.join(here, "order.c")])
         for job, name, tile in [(product, "product", 256), (product, "product", 128), (product, "product", 64)] + [
@@ -89,6 +95,8 @@ def main():
                     sys.exit(f"{name} {tile}: another result, {printed[:20]} and {total}")
             mine = min(ours) - min(empty)
             print(f"| {name} | {tile} | {mine:.3f} s | {min(c):.3f} s | {min(c) / mine:.2f} |", flush=True)
+            rows.append((f"{name}.{tile}.speed", min(c) / mine, f">={GOALS[name, tile]}"))
+    figures.write("jobs", rows)
 
 
 main()

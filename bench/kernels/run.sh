@@ -362,8 +362,10 @@ for turn in $turns; do
     taskset -c $core crates/kernel_speed/out/kernel_speed "$@" >> rattle.txt
 done
 echo "cores: $(nproc), of which one is used, load: $(cut -d ' ' -f 1 /proc/loadavg)"
-python3 - rattle.txt c.txt c_v2.txt $program <<'PY'
+python3 - rattle.txt c.txt c_v2.txt $program "$here/.." <<'PY'
 import sys
+sys.path.insert(0, sys.argv[5])
+import figures
 def read(path):
     least, sums = {}, {}
     for line in open(path):
@@ -409,7 +411,14 @@ def misses(name, form, second):
         for which, speed in zip((c.get((form, (m, n))), v2.get((second, (m, n)))), wanted):
             if round(which / ours[name, (m, n)], 2) < speed:
                 yield f"{name} at {n}: {which / ours[name, (m, n)]:.2f} of {speed}"
-missed = []
+# (the same loop runs at 0.6 to 1.6 times its speed, by where a build puts it)
+def rows(name, form, second):
+    for m, n in every:
+        wanted = next((speeds for first, last, *speeds in goal(form)[1] if first <= n <= last), (None, None))
+        for what, theirs, speed in zip(("plain", "v2"), (c.get((form, (m, n))), v2.get((second, (m, n)))), wanted):
+            if theirs and (name, (m, n)) in ours:
+                yield f"{form}.{n}.{what}", theirs / ours[name, (m, n)], f">={speed:g}" if speed else ">", 40
+missed, told = [], []
 for name in dict.fromkeys(name for name, _ in ours):
     for form in [name] + [form for form in (name + "_by_b",) if any(key[0] == form for key in c)]:
         second = name + "_chosen" if any(key[0] == name + "_chosen" for key in v2) else form
@@ -417,7 +426,9 @@ for name in dict.fromkeys(name for name, _ in ours):
         if not large:
             what += f" ({goal(form)[0]})"
             missed += misses(name, form, second)
+            told += rows(name, form, second)
         print(f"| {what} | " + " | ".join(cell(name, form, second, sides) for sides in every) + " |")
 if not large:
     print("Missed: " + ("; ".join(missed) or "none"))
+    figures.write("kernels", told)
 PY

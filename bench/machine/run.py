@@ -4,13 +4,17 @@
 Build `starjob` first, by ./run examples/first.job. Three jobs at one worker, each on an ample node and on a small one: the product
 of two matrices of 2048 rows in tiles of 128, the shortest ways between 2048 places in tiles of 128, and 100,000 tasks
 (and 10,000) each of which evicts one cell of 8 bytes. Wall time of whole runs, best of five unless a number is given; peak
-memory is the process's own. Where the machine is small, its disk is memory too, so the peak holds what was moved out.
+memory is the process's own. Where the machine is small, its disk is memory too, so the peak holds what was moved out. Writes the
+figures into bench/figures.txt.
 """
 import os, re, subprocess, sys, tempfile, time
 from collections import OrderedDict
 
 here = os.path.dirname(os.path.abspath(__file__))
 top = os.path.dirname(os.path.dirname(here))
+sys.path.insert(0, os.path.dirname(here))
+import figures
+
 starjob = os.path.join(top, "bin", "starjob")
 RUNS = int(sys.argv[1]) if len(sys.argv) > 1 else 5
 MIB = 1024 * 1024
@@ -106,21 +110,28 @@ def tiled(folder, name, lines, node, goal, by_recency=None):
         print(f"    by strict recency: {wanted[0]:.1f} MiB out, {wanted[1]:.1f} MiB in; {'the same' if wanted == (out, back) else 'NOT the same'}")
     print(f"{name}: {taken:.3f} s, on an ample node {ample:.3f} s, {taken / ample:.2f} times (goal: at most {goal}); "
           f"{out:.1f} MiB out, {back:.1f} MiB in; peak {peak:.0f} MiB", flush=True)
+    key, wanted = name.split()[0].replace("shortest", "ways"), tuple(f"<={tiles / 8:g}" for tiles in by_recency or ())
+    yield f"{key}.ratio", taken / ample, f"<={goal}"
+    for which, value, most in zip(("out", "in"), (out, back), wanted or ("<", "<")):
+        yield f"{key}.{which}_mib", value, most, 0
+    yield f"{key}.peak_mib", peak, "<"
 
 
 def main():
     print(f"cores: {os.cpu_count()}, load: {os.getloadavg()[0]:.1f}")
     with tempfile.TemporaryDirectory() as folder:
-        tiled(folder, "product n 2048 tile 128 at 1/8", product(2048, 128), 12 * MIB, 1.1, product_by_recency(16, 96))
-        tiled(folder, "shortest ways n 2048 tile 128 at 1/8", ways(2048, 128), 4 * MIB, 1.5)
+        rows = [*tiled(folder, "product n 2048 tile 128 at 1/8", product(2048, 128), 12 * MIB, 1.1, product_by_recency(16, 96))]
+        rows += tiled(folder, "shortest ways n 2048 tile 128 at 1/8", ways(2048, 128), 4 * MIB, 1.5)
         each = []
         for n in (10_000, 100_000):
             without, _ = run(folder, evicting(0), ["--node", "16"])
             small, peak = run(folder, evicting(n), ["--node", "16"])
             ample, _ = run(folder, evicting(n), AMPLE)
             each.append((small - without) / n * 1e6)
+            rows += [(f"evictions.{n}.us", each[-1], "<", figures.TIME), (f"evictions.{n}.ratio", (small - without) / (ample - without), "<=4")]
             print(f"{n} tasks that evict: {each[-1]:.2f} us a task, {(small - without) / (ample - without):.2f} times the ample node's (goal: at most 4), peak {peak:.0f} MiB")
         print(f"ratio of a task's time at 100,000 to 10,000: {each[1] / each[0]:.2f}")
+    figures.write("machine", rows)
 
 
 main()

@@ -8,6 +8,9 @@ import glob, os, subprocess, sys, tempfile
 
 here = os.path.dirname(os.path.abspath(__file__))
 top = os.path.dirname(os.path.dirname(here))
+sys.path.insert(0, os.path.dirname(here))
+import figures
+
 starjob = os.path.join(top, "bin", "starjob")
 
 
@@ -38,6 +41,7 @@ def main():
                     failed += 1
             print(f"{os.path.basename(path)}: {count} allocations, {refused} refused runs, {whole} whole")
     print(f"{failed} failed")
+    figures.write("memory", [("failed", failed, "<=0", 0)])
     sys.exit(failed != 0)
 
 

@@ -59,11 +59,15 @@ RT
 built plan_speed "$work/rattle.txt"
 cc -O2 -o rows "$here/rows.c"
 ./rows > c.txt
-python3 - "$work/rattle.txt" "$work/c.txt" <<'PY'
+python3 - "$work/rattle.txt" "$work/c.txt" "$here/.." <<'PY'
 import sys
+sys.path.insert(0, sys.argv[3])
+import figures
 rattle = sorted(float(x) / 1000 for x in open(sys.argv[1]) if x.strip().isdigit())
 c = sorted(float(x) for x in open(sys.argv[2]))
 print(f"rattle: least {rattle[0]:.2f} ms, median {rattle[len(rattle)//2]:.2f} ms of {len(rattle)}")
 print(f"c:      least {c[0]:.2f} ms, median {c[len(c)//2]:.2f} ms of {len(c)}")
-print(f"speed as a part of c's: least {c[0]/rattle[0]:.2f}, median {c[len(c)//2]/rattle[len(rattle)//2]:.2f}")
+best, median = c[0] / rattle[0], c[len(c) // 2] / rattle[len(rattle) // 2]
+print(f"speed as a part of c's: least {best:.2f}, median {median:.2f}")
+figures.write("plan", [("speed.median", median, ">"), ("speed.best", best, ">")])
 PY

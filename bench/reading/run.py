@@ -4,12 +4,15 @@
 Makes three texts of 64 MiB, one of vectors with 16 million values, one of a matrix with as many in one line, and one of
 262,144 statement lines, runs `starjob` (built by `rt run` in crates/starjob) and the C program on each, five times, and
 prints the ratio of the best times, of processor times too, and starjob's peak memory as a multiple of the text. Run it
-by hand, on a machine that does nothing else.
+by hand, on a machine that does nothing else. Writes the figures into bench/figures.txt.
 """
 import filecmp, os, subprocess, sys, tempfile, time
 
 here = os.path.dirname(os.path.abspath(__file__))
 top = os.path.dirname(os.path.dirname(here))
+sys.path.insert(0, os.path.dirname(here))
+import figures
+
 starjob = os.path.join(top, "bin", "starjob")
 LIMIT = 67_108_864
 # the values take 128 MiB as cells, more than the swap disk has without words
@@ -57,6 +60,7 @@ def best(command, path, out):
 
 
 TEXTS = {"values": values, "matrix": matrix, "lines": lines}
+GOALS = {"values": "<=1", "matrix": "<=1", "lines": "<=2.5"}
 
 
 def main():
@@ -67,6 +71,7 @@ def main():
         plain = os.path.join(folder, "plain")
         subprocess.run(["gcc", "-O3", "-o", plain, os.path.join(here, "plain.c")], check=True)
         print(f"cores: {os.cpu_count()}, load: {os.getloadavg()[0]:.1f}")
+        rows = []
         for name in TEXTS:
             path = os.path.join(folder, name)
             # by a process of its own: the peak of a child counts what its parent has held when it began
@@ -81,6 +86,8 @@ def main():
                 f"ratio {time_ours / time_theirs:.2f}, of processor time {busy_ours / busy_theirs:.2f}, "
                 f"peak {peak / size:.1f} times the text, same output: {same}"
             )
+            rows += [(f"{name}.ratio", time_ours / time_theirs, GOALS[name]), (f"{name}.peak", peak / size, "<=5")]
+    figures.write("reading", rows)
 
 
 main()

@@ -5,12 +5,15 @@ Makes four job texts of each size: a chain of tasks on one vector of one element
 statements) and then one writer; tasks over 100 vectors in turn; tasks that add one of 4,096 vectors to another. Runs
 `starjob` (built by ./run examples/first.job) on each fifteen times, takes the least processor time less that of the job
 without its tasks, and prints microseconds a task and the ratio of the two sizes' times. Run it by hand, on a machine that
-does nothing else.
+does nothing else. Writes the figures into bench/figures.txt.
 """
 import os, subprocess, sys, tempfile
 
 here = os.path.dirname(os.path.abspath(__file__))
 top = os.path.dirname(os.path.dirname(here))
+sys.path.insert(0, os.path.dirname(here))
+import figures
+
 starjob = os.path.join(top, "bin", "starjob")
 SIZES = (10_000, 100_000)
 
@@ -52,6 +55,7 @@ def best(text):
 
 def main():
     print(f"cores: {os.cpu_count()}, load: {os.getloadavg()[0]:.1f}")
+    rows = []
     for make in (chain, readers, spread, names):
         empty = best(make(0))
         few, many = (best(make(n)) - empty for n in SIZES)
@@ -59,6 +63,10 @@ def main():
             f"{make.__name__}: {few / SIZES[0] * 1e6:.2f} us a task of {SIZES[0]}, "
             f"{many / SIZES[1] * 1e6:.2f} us of {SIZES[1]}, ratio of times {many / few:.1f}"
         )
+        for size, taken, goal in zip(SIZES, (few, many), ("<", "<=1.3")):
+            rows.append((f"{make.__name__}.{size}.us", taken / size * 1e6, goal, figures.TIME))
+        rows.append((f"{make.__name__}.growth", many / few, "<=11"))
+    figures.write("tasks", rows)
 
 
 main()

@@ -5,11 +5,15 @@ Build both programs first, by ./run --build. The job has
 100,000 tasks each of which evicts one cell of 8 bytes. Its trace is written and read by a C program, too (`plain.c`), which checks
 nothing. Reading is what `trace_check` takes longer where the last line is no event than where the first isn't; writing is what
 `starjob` takes longer with `--trace`. Least processor time of seven runs each. Run it by hand, on a machine that does nothing else.
+Writes the figures into bench/figures.txt.
 """
 import os, subprocess, sys, tempfile
 
 here = os.path.dirname(os.path.abspath(__file__))
 top = os.path.dirname(os.path.dirname(here))
+sys.path.insert(0, os.path.dirname(here))
+import figures
+
 starjob = os.environ.get("STARJOB") or os.path.join(top, "bin", "starjob")
 checker = os.environ.get("TRACE_CHECK") or os.path.join(top, "bin", "trace_check")
 EVENTS = ("claim ", "run ", "end ", "move ", "moved ", "drop ")
@@ -66,6 +70,9 @@ def main():
         job = write("long", ["starjob 1", *long_tasks(300)])
         without, trace = least([starjob], job), least([starjob, "--trace"], job)
         print(f"--trace on 300 tasks of {without / 300:.2f} ms: {trace / without:.3f} times (goal: at most 1.1)")
+    # (reading is the difference of two whole runs, so that it has their noise)
+    rows = [("text.ratio", (traced - plain) / c_write, "<=2"), ("read.ratio", read / c_read, "<=2", 140)]
+    figures.write("traces", [*rows, ("check.ratio", checked / plain, "<=2"), ("flag.ratio", trace / without, "<=1.1")])
 
 
 main()

@@ -5,12 +5,15 @@ Build `starjob` first, by ./run examples/first.job, on a machine of four process
 runs, best of five unless a number is given, less that of the job without its tasks where these are small. How long these take to
 read is known from the same text with a last line that is refused. The runs of small tasks, and StarPU's, take turns, since a
 machine that others share goes at different speeds from one minute to the next. C's plain loops for the shortest ways are those of
-bench/jobs (order.c).
+bench/jobs (order.c). Writes the figures into bench/figures.txt.
 """
 import os, subprocess, sys, tempfile, time
 
 here = os.path.dirname(os.path.abspath(__file__))
 top = os.path.dirname(os.path.dirname(here))
+sys.path.insert(0, os.path.dirname(here))
+import figures
+
 starjob = os.path.join(top, "bin", "starjob")
 RUNS = int(sys.argv[1]) if len(sys.argv) > 1 else 5
 
@@ -111,7 +114,7 @@ def main():
     print(f"cores: {os.cpu_count()}, load: {os.getloadavg()[0]:.1f}")
     with tempfile.TemporaryDirectory() as folder:
         program = starpu(folder)
-        first = None
+        first, rows = None, []
         for workers, taken, read, theirs in small_tasks(folder, program):
             first = first or taken
             other = f"; StarPU: {theirs:.2f}, a third: {theirs / 3:.2f}" if theirs else ""
@@ -120,19 +123,29 @@ def main():
                 f"{taken - read:.2f} without reading{other}",
                 flush=True,
             )
+            rows += [(f"small.{workers}.us", taken, "<", figures.TIME), (f"unread.{workers}.us", taken - read, "<", figures.TIME)]
+            if workers == 4:
+                rows.append(("small.4.growth", taken / first, "<=1.5"))
+            if theirs:
+                rows.append((f"unread.{workers}.of_starpu", (taken - read) / theirs, "<=0.333"))
         for tile, goal in ((256, 0.93), (128, 0.90)):
             one, _ = run(folder, product(2048, tile), 1, 2**27)
             four, _ = run(folder, product(2048, tile), 4, 2**27)
             print(f"product n 2048 tile {tile}: {one:.3f} s by 1, {four:.3f} s by 4, {one / four / 4:.2f} of 4 (goal: at least {goal})", flush=True)
+            rows.append((f"product.{tile}.of_4", one / four / 4, f">={goal}"))
         for workers in (1, 4):
             taken, _ = run(folder, ways(480, 20), workers, 2**22)
             print(f"shortest ways n 480 tile 20 by {workers}: {taken:.3f} s", flush=True)
+            rows.append((f"ways.{workers}.s", taken, "<", figures.TIME))
         _, one = run(folder, chain(10_000), 1)
         _, four = run(folder, chain(10_000), 4)
         print(f"chain of 10,000: {one:.3f} s of processors by 1, {four:.3f} s by 4, {four / one:.2f} times (goal: at most 1.3)", flush=True)
+        rows.append(("chain.ratio", four / one, "<=1.3"))
         wall, one = run(folder, long_chain(8), 1, 2**24)
         _, four = run(folder, long_chain(8), 4, 2**24)
         print(f"a chain of {wall:.1f} s: 3 idle workers take {(four - one) / wall:.3f} s of processors a second (goal: at most 0.05)")
+        rows.append(("idle.of_a_processor", (four - one) / wall, "<=0.05", 400))
+    figures.write("workers", rows)
 
 
 main()

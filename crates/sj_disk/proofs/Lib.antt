@@ -1,5 +1,9 @@
 pub mod Bytes
+pub mod Lent
 pub mod Pieces
+pub mod Racking
 pub mod Reserving
+pub mod Returning
 pub mod Sounding
 pub mod Transferring
+pub mod Uniting

@@ -39,19 +39,19 @@ found [] i lt = absurd (omega arith)
 found (x ∷ xs) zero lt = (x, refl)
 found (x ∷ xs) (suc i) lt = found xs i (omega arith)
 
-get-set : {D : Type 0} (xs : List D) (i : ℕ) (y : D) → i < length xs → slice_get (slice_set xs i y) i ≡ Some y
+pub get-set : {D : Type 0} (xs : List D) (i : ℕ) (y : D) → i < length xs → slice_get (slice_set xs i y) i ≡ Some y
 get-set [] i y lt = absurd (omega arith)
 get-set (x ∷ xs) zero y lt = refl
 get-set (x ∷ xs) (suc i) y lt = get-set xs i y (omega arith)
 
-get-set_other : {D : Type 0} (xs : List D) (i k : ℕ) (y : D) → k ≢ i → slice_get (slice_set xs i y) k ≡ slice_get xs k
+pub get-set_other : {D : Type 0} (xs : List D) (i k : ℕ) (y : D) → k ≢ i → slice_get (slice_set xs i y) k ≡ slice_get xs k
 get-set_other [] i k y ne = refl
 get-set_other (x ∷ xs) zero zero y ne = absurd (ne refl)
 get-set_other (x ∷ xs) zero (suc k) y ne = refl
 get-set_other (x ∷ xs) (suc i) zero y ne = refl
 get-set_other (x ∷ xs) (suc i) (suc k) y ne = get-set_other xs i k y (λ e. ne (ap suc e))
 
-same-map : {D : Type 0} (f : D → ℕ) (xs ys : List D) → length ys ≡ length xs → ((k : ℕ) (x y : D) → slice_get xs k ≡ Some x → slice_get ys k ≡ Some y → f y ≡ f x) → map f ys ≡ map f xs
+pub same-map : {D : Type 0} (f : D → ℕ) (xs ys : List D) → length ys ≡ length xs → ((k : ℕ) (x y : D) → slice_get xs k ≡ Some x → slice_get ys k ≡ Some y → f y ≡ f x) → map f ys ≡ map f xs
 same-map f [] [] n h = refl
 same-map f [] (y ∷ ys) n h = absurd (omega arith)
 same-map f (x ∷ xs) [] n h = absurd (omega arith)
@@ -91,7 +91,7 @@ changes-set P xs d x y e p = record {
 }
 
 -- what holds of each disk and its successor
-each : {D : Type 0} (P Q : D → D → Type 0) (d : ℕ) (old new : List D) → ChangesAt d P old new → ((x : D) → Q x x) → ((x y : D) → slice_get old d ≡ Some x → P x y → Q x y) → (k : ℕ) (x y : D) → slice_get old k ≡ Some x → slice_get new k ≡ Some y → Q x y
+pub each : {D : Type 0} (P Q : D → D → Type 0) (d : ℕ) (old new : List D) → ChangesAt d P old new → ((x : D) → Q x x) → ((x y : D) → slice_get old d ≡ Some x → P x y → Q x y) → (k : ℕ) (x y : D) → slice_get old k ≡ Some x → slice_get new k ≡ Some y → Q x y
 each P Q d old new ch same changed k x y ex ey = elim (cases_eq k d) [
   | inl e ↦
       let ex' : slice_get old d ≡ Some x = subst (λ i. slice_get old i ≡ Some x) e ex in
@@ -101,20 +101,20 @@ each P Q d old new ch same changed k x y ex ey = elim (cases_eq k d) [
       subst (λ z. Q x z) so (same x)
 ]
 
-zips : {D : Type 0} (Q : D → D → Type 0) (old new : List D) → length new ≡ length old → ((k : ℕ) (x y : D) → slice_get old k ≡ Some x → slice_get new k ≡ Some y → Q x y) → AllZip Q old new
+pub zips : {D : Type 0} (Q : D → D → Type 0) (old new : List D) → length new ≡ length old → ((k : ℕ) (x y : D) → slice_get old k ≡ Some x → slice_get new k ≡ Some y → Q x y) → AllZip Q old new
 zips Q [] [] n h = tt
 zips Q [] (y ∷ new) n h = absurd (omega arith)
 zips Q (x ∷ old) [] n h = absurd (omega arith)
 zips Q (x ∷ old) (y ∷ new) n h = (h 0 x y refl refl, zips Q old new (omega arith) (λ k. h (suc k)))
 
 -- each disk had a predecessor
-before : {D : Type 0} (P : D → D → Type 0) (d : ℕ) (old new : List D) → ChangesAt d P old new → (k : ℕ) (y : D) → slice_get new k ≡ Some y → (x : D) × (slice_get old k ≡ Some x)
+pub before : {D : Type 0} (P : D → D → Type 0) (d : ℕ) (old new : List D) → ChangesAt d P old new → (k : ℕ) (y : D) → slice_get new k ≡ Some y → (x : D) × (slice_get old k ≡ Some x)
 before P d old new ch k y e = found old k (omega (arith, ch.as_many, slice_get_within new k y e))
 
 -- ---- ranges of one disk
 
 -- bytes beside the range that was written are as they were
-keeps-range : (a b : Option (List ℕ)) (at n i size : ℕ) (bytes : List ℕ) → Fills a size → at + n ≤ size → HoldsAnyIn at n a b → ((at + n ≤ i) ⊎ (i + length bytes ≤ at)) → GivesHeld a i bytes → GivesHeld b i bytes
+pub keeps-range : (a b : Option (List ℕ)) (at n i size : ℕ) (bytes : List ℕ) → Fills a size → at + n ≤ size → HoldsAnyIn at n a b → ((at + n ≤ i) ⊎ (i + length bytes ≤ at)) → GivesHeld a i bytes → GivesHeld b i bytes
 keeps-range None b at n i size bytes filled within any beside held = subst (λ h. GivesHeld h i bytes) (sym any.2) tt
 keeps-range (Some xs) b at n i size bytes filled within any beside held =
     let zs : List ℕ = any.0 in
@@ -127,7 +127,7 @@ keeps-range (Some xs) b at n i size bytes filled within any beside held =
     subst (λ h. GivesHeld h i bytes) (sym any.2) (held ∙ sym stays)
 
 -- the bytes that were written stand there
-gives-written : (a b : Option (List ℕ)) (at size : ℕ) (bytes : List ℕ) → Fills a size → at + length bytes ≤ size → b ≡ option_map (written at bytes) a → GivesHeld b at bytes
+pub gives-written : (a b : Option (List ℕ)) (at size : ℕ) (bytes : List ℕ) → Fills a size → at + length bytes ≤ size → b ≡ option_map (written at bytes) a → GivesHeld b at bytes
 gives-written None b at size bytes filled within e = subst (λ h. GivesHeld h at bytes) (sym e) tt
 gives-written (Some xs) b at size bytes filled within e =
     subst (λ h. GivesHeld h at bytes) (sym e) (sym (slice_range-written xs bytes at (omega (arith, the (length xs ≡ size) filled))))
@@ -144,7 +144,7 @@ gives-front (Some xs) at bs cs h =
     sym (take-append_seam bs cs) ∙ ap (take n) (h ∙ ap (λ k. take k (drop at xs)) f) ∙ take-take n m (drop at xs) le ∙ ap (λ k. take k (drop at xs)) (sym e)
 
 -- blocks that stand in one place, with as many elements, have the same elements
-gives-same : (a : Option (List ℕ)) (at c writes : ℕ) (xs ys : List ℤ) → length xs ≡ length ys → All (FitsSigned w64) xs → All (FitsSigned w64) ys → IsSome a → GivesHeld a at (block c writes xs) → GivesHeld a at (block c writes ys) → xs ≡ ys
+pub gives-same : (a : Option (List ℕ)) (at c writes : ℕ) (xs ys : List ℤ) → length xs ≡ length ys → All (FitsSigned w64) xs → All (FitsSigned w64) ys → IsSome a → GivesHeld a at (block c writes xs) → GivesHeld a at (block c writes ys) → xs ≡ ys
 gives-same None at c writes xs ys n fx fy told hx hy = absurd (the ⊥ (cc))
 gives-same (Some zs) at c writes xs ys n fx fy told hx hy =
     let many : length (block c writes xs) ≡ length (block c writes ys) = omega (arith, length-append (header_bytes (header c writes (length xs))) (element_bytes xs), length-append (header_bytes (header c writes (length ys))) (element_bytes ys), length-header_bytes (header c writes (length xs)), length-header_bytes (header c writes (length ys)), length-element_bytes xs, length-element_bytes ys) in
@@ -153,11 +153,11 @@ gives-same (Some zs) at c writes xs ys n fx fy told hx hy =
     element_bytes-same xs ys fx fy (append_cancel_left (header_bytes (header c writes (length ys))) (element_bytes xs) (element_bytes ys) (sym front ∙ same))
 
 module _ {D : Type 0} (size faults mismatches : D → ℕ) (held : D → Option (List ℕ)) where
-  tells-still : (a b : Option (List ℕ)) (at n : ℕ) → HoldsAnyIn at n a b → is_some b ≡ is_some a
+  pub tells-still : (a b : Option (List ℕ)) (at n : ℕ) → HoldsAnyIn at n a b → is_some b ≡ is_some a
   tells-still None b at n any = ap is_some any.2
   tells-still (Some xs) b at n any = ap is_some any.2
 
-  back-same : (x : D) → IsGivenBack size faults mismatches held x x
+  pub back-same : (x : D) → IsGivenBack size faults mismatches held x x
   back-same x = record { size_stays = refl; tells_as_before = refl; faults_never_fall = omega arith; mismatches_never_fall = omega arith }
 
   -- ---- a look changes nothing that is held

@@ -2,6 +2,9 @@ pub mod Block
 pub mod Calls
 pub mod Directory
 pub mod Holding
+pub mod Lending
+pub mod Rack
 pub mod Refusals
 pub mod Sound
 pub mod Transfers
+pub mod Units

@@ -7,7 +7,7 @@ ghost use Rattle.sj_disk.specs.Calls.{Fetches, Reserves, Stores};
 ghost use Rattle.sj_disk.specs.Directory.{disk_state, extent_of, first_fit, last_store, IsLaidOut};
 ghost use Rattle.sj_disk.specs.Holding.{ChangesAt, Holds, IsInside, Tells};
 ghost use Rattle.sj_disk.specs.Refusals.{is_damage, is_fault, RefusesFor};
-ghost use Rattle.sj_disk.specs.Sound.{AreFilled};
+ghost use Rattle.sj_disk.specs.Sound.{AreFilled, IsSound};
 ghost use Rattle.sj_disk.specs.Transfers.{Looks, Writes};
 
 use crate::directory::{Extent, LastStore, add_extent, extent_of, first_fit, known_extent};
@@ -46,6 +46,15 @@ impl<D: Disk> Model for DiskSet<D> {
 
     ghost invariant = { λ s. IsSound D.size D.held s.disks.items s.sizes.items s.taken.items
         s.directory.items };
+}
+
+/// What a set of disks consists of.
+#[derive(Drop)]
+pub(crate) struct SetParts<D: Disk> {
+    pub disks: Vec<D>,
+    pub sizes: Vec<u64>,
+    pub taken: Vec<u64>,
+    pub directory: Vec<Option<Extent>>,
 }
 
 /// The sizes of disks. Linear in them.
@@ -228,6 +237,48 @@ impl<D: Disk> DiskSet<D> {
             length: extent.length,
         };
         fetch_on(&mut self.disks, &extent, want, tile.elements_mut())
+    }
+
+    /// What the set consists of. Constant time.
+    pub(crate) fn into_parts(self) -> SetParts<D>
+        ensures parts { disk_state result.disks.items result.taken.items result.directory.items
+            ≡ self }
+        ensures sound { IsSound D.size D.held result.disks.items result.sizes.items
+            result.taken.items result.directory.items }
+    {
+        let DiskSet {
+            disks,
+            sizes,
+            taken,
+            directory,
+        } = self;
+        SetParts {
+            disks,
+            sizes,
+            taken,
+            directory,
+        }
+    }
+
+    /// A set of these parts. Constant time.
+    pub(crate) fn of_parts(parts: SetParts<D>) -> DiskSet<D>
+        requires { IsSound D.size D.held parts.disks.items parts.sizes.items parts.taken.items
+            parts.directory.items }
+        ensures { result ≡ disk_state parts.disks.items parts.taken.items
+            parts.directory.items }
+    {
+        let SetParts {
+            disks,
+            sizes,
+            taken,
+            directory,
+        } = parts;
+        DiskSet {
+            disks,
+            sizes,
+            taken,
+            directory,
+        }
     }
 
     /// The disks in their order. Constant time; takes no memory.

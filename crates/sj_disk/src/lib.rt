@@ -5,7 +5,10 @@ pub mod directory;
 pub mod disk_set;
 mod elements;
 pub mod header;
+pub mod lending_set;
+mod rack;
 pub mod refusal;
 #[cfg(test)]
 mod tests;
 mod transfer;
+pub mod unit;

@@ -5,6 +5,7 @@ ghost use Rattle.std.specs.Prelude.{None};
 use crate::directory::LastStore;
 use crate::disk_set::DiskSet;
 use crate::header::Header;
+use crate::lending_set::LendingSet;
 use crate::refusal::{DiskRefusal, ReserveRefusal};
 use sj_base::ids::{Cell, DiskNo};
 use sj_base::memory::OutOfMemory;
@@ -220,5 +221,130 @@ fn a_lost_write_is_damage_with_both_headers(rt: HostRuntime) -> Result<(), OutOf
     };
     same(&rt, fetch(&rt, &mut set, 4, 2, &mut tile), Err(damaged));
     same(&rt, close_one(&rt, set).inner.mismatches(), 1);
+    Ok(())
+}
+
+/// A set that lends these disks.
+fn lending<D: Disk>(rt: &impl Abort, alloc: Global, set: DiskSet<D>) -> LendingSet<D> {
+    match LendingSet::make(alloc, set) {
+        Ok(set) => set,
+        Err(_) => panic!(rt; "out of memory"),
+    }
+}
+
+/// Stores through a unit.
+fn store_out<D: Disk>(
+    rt: &impl Abort,
+    set: &mut LendingSet<D>,
+    cell: u32,
+    writes: u64,
+    tile: &Tile,
+) -> Result<(), DiskRefusal> {
+    let many = tile.elements().len() as u64;
+    match set.extent(Cell(cell)) {
+        Some(extent) if extent.length == many => {
+            assert!(rt; !set.is_out_for(Cell(cell)));
+            set.store(Cell(cell), writes, tile)
+        }
+        _ => panic!(rt; "cell {cell} has no such block"),
+    }
+}
+
+/// Fetches through a unit.
+fn fetch_out<D: Disk>(
+    rt: &impl Abort,
+    set: &mut LendingSet<D>,
+    cell: u32,
+    writes: u64,
+    tile: &mut Tile,
+) -> Result<(), DiskRefusal> {
+    let many = tile.elements().len() as u64;
+    let Some(extent) = set.extent(Cell(cell)) else {
+        panic!(rt; "cell {cell} has no block");
+    };
+    let Some(last) = extent.last_store else {
+        panic!(rt; "cell {cell} was not stored");
+    };
+    assert!(rt; extent.length == many);
+    assert!(rt; last.writes == writes);
+    assert!(rt; last.ended_ok);
+    assert!(rt; !set.is_out_for(Cell(cell)));
+    set.fetch(Cell(cell), writes, tile)
+}
+
+/// Whether the disk of a cell is out, where that of another cell was taken out, and after that came back.
+fn while_out<D: Disk>(
+    rt: &impl Abort,
+    set: &mut LendingSet<D>,
+    other: u32,
+    cell: u32,
+) -> (bool, bool) {
+    let (Some(_), Some(_)) = (set.extent(Cell(other)), set.extent(Cell(cell))) else {
+        panic!(rt; "no block");
+    };
+    let Some(unit) = set.take_out(Cell(other)) else {
+        panic!(rt; "the disk is out");
+    };
+    assert!(rt; set.any_is_out());
+    let out = set.is_out_for(Cell(cell));
+    if out {
+        assert!(rt; set.take_out(Cell(cell)).is_none());
+    }
+    unit.is_as_it_was();
+    set.put_back(unit);
+    (out, set.any_is_out())
+}
+
+#[test]
+fn a_unit_writes_the_block_of_its_cell(rt: HostRuntime) -> Result<(), OutOfMemory> {
+    let small = SureDisk::new(rt.alloc(), 40)?;
+    let large = SureDisk::new(rt.alloc(), 96)?;
+    let mut set = set_of(
+        &rt,
+        rt.alloc(),
+        Vec::from_array(rt.alloc(), [small, large])?,
+    );
+    same(&rt, reserve(&rt, &mut set, 0, 1), Ok(DiskNo(0)));
+    same(&rt, reserve(&rt, &mut set, 1, 2), Ok(DiskNo(1)));
+    same(&rt, reserve(&rt, &mut set, 2, 1), Ok(DiskNo(1)));
+    let mut set = lending(&rt, rt.alloc(), set);
+    same(&rt, while_out(&rt, &mut set, 1, 2), (true, false));
+    same(&rt, while_out(&rt, &mut set, 1, 0), (false, false));
+    let first = row(&rt, rt.alloc(), &[7])?;
+    let second = row(&rt, rt.alloc(), &[8, 9])?;
+    same(&rt, store_out(&rt, &mut set, 0, 1, &first), Ok(()));
+    same(&rt, store_out(&rt, &mut set, 2, 4, &first), Ok(()));
+    same(&rt, store_out(&rt, &mut set, 1, 3, &second), Ok(()));
+    let last = set.extent(Cell(1)).and_then(|e| e.last_store);
+    let ended = LastStore {
+        writes: 3,
+        ended_ok: true,
+    };
+    same(&rt, last, Some(ended));
+    let mut fetched = row(&rt, rt.alloc(), &[0, 0])?;
+    same(&rt, fetch_out(&rt, &mut set, 1, 3, &mut fetched), Ok(()));
+    same(&rt, fetched.elements(), [8i64, 9].as_slice());
+    let mut fetched = row(&rt, rt.alloc(), &[0])?;
+    same(&rt, fetch_out(&rt, &mut set, 2, 4, &mut fetched), Ok(()));
+    same(&rt, fetched.elements(), [7i64].as_slice());
+    Ok(())
+}
+
+#[test]
+fn a_disk_that_fails_in_a_unit_is_named(rt: HostRuntime) -> Result<(), OutOfMemory> {
+    let fail = Vec::from_array(rt.alloc(), [2])?;
+    let disk = MemDisk::new(rt.alloc(), 64, fail)?;
+    let mut set = set_of(&rt, rt.alloc(), Vec::from_array(rt.alloc(), [disk])?);
+    same(&rt, reserve(&rt, &mut set, 0, 2), Ok(DiskNo(0)));
+    let mut set = lending(&rt, rt.alloc(), set);
+    let tile = row(&rt, rt.alloc(), &[3, 4])?;
+    let fault = Err(DiskRefusal::DiskFault { disk: DiskNo(0) });
+    same(&rt, store_out(&rt, &mut set, 0, 5, &tile), fault);
+    let failed = LastStore {
+        writes: 5,
+        ended_ok: false,
+    };
+    let last = set.extent(Cell(0)).and_then(|e| e.last_store);
+    same(&rt, last, Some(failed));
     Ok(())
 }
