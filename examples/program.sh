@@ -2,7 +2,8 @@
 # Runs the built programs as processes, and compares their exit codes and both their streams with what docs/JOBS.md promises: what
 # main and the standard streams do with a status stands in no clause. Others are given as examples/program.sh STARJOB TRACE_CHECK,
 # or by variables of these names.
-top=$(dirname "$0")/..
+here=$(realpath "$(dirname "$0")")
+top=$here/..
 # built NAME: where ./run has put a program, or else rt run
 built() { if [ -x "$top/bin/$1" ]; then echo "$top/bin/$1"; else echo "$top/crates/$1/out/$1"; fi; }
 starjob=$(realpath "${1:-${STARJOB:-$(built starjob)}}")
@@ -16,7 +17,7 @@ if [ ! -x "$trace_check" ]; then
   echo "examples/program.sh: build trace_check first, by ./run --build" >&2
   exit 1
 fi
-pictures=$(realpath "$(dirname "$0")/../docs/pictures")
+pictures=$(realpath "$here/../docs/pictures")
 scratch=$(mktemp -d)
 trap 'rm -rf "$scratch"' EXIT
 cd "$scratch" || exit 2
@@ -33,11 +34,29 @@ expect() {
   fi
 }
 
+# expect_true WHAT STATUS: of a test just made
+expect_true() {
+  if [ "$2" = 0 ]; then
+    echo "ok: $1"
+  else
+    echo "FAILED: $1"
+    failed=1
+  fi
+}
+
 # run INPUT WORDS..: runs the program on a text
 run() {
   local input=$1
   shift
   printf %s "$input" | "$program" "$@" > out 2> err
+  code=${PIPESTATUS[1]}
+}
+
+# run_limited BLOCKS INPUT WORDS..: the same, where no file may have more than so many blocks of 1024 bytes
+run_limited() {
+  local blocks=$1 input=$2
+  shift 2
+  printf %s "$input" | (ulimit -f "$blocks" && exec "$program" "$@") > out 2> err
   code=${PIPESTATUS[1]}
 }
 
@@ -68,6 +87,10 @@ run "$good" --nodes 2
 expect 'a number of nodes without their size' 2 '' "$usage"
 run "$good" --trace=1
 expect 'a flag with a value' 2 '' "$usage"
+run "$good" --swap swap --no
+expect 'a swap beside a word that is not known' 2 '' "$usage"
+[ ! -e swap ]
+expect_true 'unaccepted words make no swap file' $?
 
 run "$evicts" --workers 2 --node 64
 expect 'two workers on a small node' 0 $'a: 1 2 3\n' ''
@@ -83,18 +106,11 @@ run "$good" --node 8
 expect 'a task that fits no node' 4 '' $'starjob: line 2: task needs 16 bytes on one node\n'
 run "$good" --swap-size 0
 expect 'a swap without room' 5 '' $'starjob: swap needs 40 bytes, has 0\n'
+run "$good" --swap-size 1099511627776
+expect 'a swap of more memory than there is' 10 '' $'starjob: out of memory\n'
 run "$good" --swap-size 40
 expect 'a swap with just enough room' 0 $'x: 1 2\n' ''
-run "$evicts" --swap swap --swap-size 144
-expect 'a swap file' 0 $'a: 1 2 3\n' ''
-run "$evicts" --swap /dev/full
-expect 'a swap that takes nothing' 6 '' $'starjob: disk 0 failed\n'
-run "$evicts" --swap /dev/zero
-expect 'a swap that forgets' 7 '' $'starjob: disk 0 damaged: wanted cell 0 writes 1 length 3, found cell 0 writes 0 length 0\n'
-run "$evicts" --swap missing/swap
-expect "a swap that can't be made" 6 '' $'starjob: disk 0 failed\n'
-run "$good" --swap missing/swap
-expect "a swap that isn't needed" 0 $'x: 1 2\n' ''
+source "$here/program_swap.sh"
 
 run ''
 expect 'an empty input' 3 '' $'starjob: line 1: header\n'

@@ -59,6 +59,21 @@ impl FileDisk {
         }
     }
 
+    /// A disk of so many bytes over a file that is open already, for reading and writing. What the file holds from its end
+    /// on isn't there: a read of it is a fault.
+    pub fn over(file: File, size: u64) -> FileDisk
+        ensures size { file_size result ≡ size }
+        ensures faults { file_faults result ≡ 0 }
+        ensures mismatches { file_mismatches result ≡ 0 }
+    {
+        FileDisk {
+            file: Some(file),
+            size,
+            faults: 0,
+            mismatches: 0,
+        }
+    }
+
     /// How many faults there were. Constant time.
     pub fn faults(&self) -> u64
         ensures { result ≡ file_faults self.now }

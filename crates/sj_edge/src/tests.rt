@@ -258,7 +258,15 @@ fn a_file_disk_keeps_bytes_in_its_file(rt: HostRuntime) -> Result<(), Fail> {
     same(&rt, again.read(29, &mut buf), Err(Failed));
     same(&rt, again.check(8, &[7; 24]), Err(CheckFault::Failed));
     same(&rt, (again.faults(), again.mismatches()), (2, 0));
+
+    let file = fs::OpenOptions::new().read(true).write(true).open(&rt, path)?;
     fs::remove_file(&rt, path)?;
+    let mut over = FileDisk::over(file, 32);
+    same(&rt, over.check(7, &want), Ok(()));
+    same(&rt, over.write(31, &[1]), Ok(()));
+    same(&rt, over.read(29, &mut buf), Ok(()));
+    same(&rt, buf, [7, 7, 1]);
+    same(&rt, (over.faults(), over.mismatches()), (0, 0));
     Ok(())
 }
 

@@ -3,12 +3,15 @@
 
 mod gathering;
 mod output;
+mod remark;
 mod report;
 mod running;
 mod sink_text;
 mod source_text;
 mod status;
 mod stop;
+mod streams;
+mod swap;
 #[cfg(test)]
 mod test_calls;
 #[cfg(test)]
@@ -28,6 +31,9 @@ mod top;
 ghost use Rattle.std.specs.Prelude.{◌≤◌, ◌^◌, length};
 ghost use Rattle.sj_edge.specs.Sizes.{AreWithin};
 
+use remark::{no_swap, write_remark};
+use report::report;
+use sj_base::ids::DiskNo;
 use sj_edge::disk::{Disk, add_disk};
 use sj_edge::file_disk::FileDisk;
 use sj_edge::gate::OpenGate;
@@ -36,16 +42,16 @@ use sj_edge::sink::Sink;
 use sj_edge::source::Source;
 use sj_edge::standard::{StdSink, StdSource};
 use sj_words::{SwapWish, swap_wish};
+use status::Status;
 use std::alloc::Global;
 use std::env;
-use std::io::ErrorKind;
+use std::io::{Error, ErrorKind};
 use std::process::ExitCode;
 use std::sync::Wait;
 use std::thread::Threads;
+use streams::occupy_streams;
+use swap::open_swap;
 use top::{AnyDisk, starjob};
-
-/// The exit code where memory runs out before the job is begun.
-const OUT_OF_MEMORY: u8 = 10;
 
 /// The words after the program's name, or `None` where memory runs out. An argument that isn't text stands for a word that
 /// isn't accepted, as none is.
@@ -80,37 +86,61 @@ fn run_on<R: Threads + Wait + Sync, S: Source, O: Sink, E: Sink>(
     ExitCode::from(outcome.status.code())
 }
 
+/// Ends before the job is begun, with the status's line.
+fn end_with<E: Sink>(status: Status, err: &mut E) -> ExitCode {
+    report(status, err);
+    ExitCode::from(status.code())
+}
+
+/// Ends where memory runs out before the job is begun.
+fn end_without_memory<E: Sink>(err: &mut E) -> ExitCode {
+    end_with(Status::OutOfMemory, err)
+}
+
+/// Ends where there is no swap disk at a path, and says why.
+fn end_without_swap<E: Sink>(alloc: Global, path: &str, error: &Error, err: &mut E) -> ExitCode {
+    if error.kind() == ErrorKind::OutOfMemory {
+        return end_without_memory(err);
+    }
+    write_remark(err, no_swap(alloc, path, error));
+    end_with(Status::DiskFault { disk: DiskNo(0) }, err)
+}
+
 fn main(rt: HostRuntime) -> ExitCode {
     let alloc = rt.alloc();
-    let Some(words) = words(&rt) else {
-        return ExitCode::from(OUT_OF_MEMORY);
-    };
-    let Ok(wish) = swap_wish(alloc, &words) else {
-        return ExitCode::from(OUT_OF_MEMORY);
-    };
-    let SwapWish { path, size } = wish;
+    occupy_streams(&rt);
     let mut source = StdSource::over(rt.stdin());
     let mut out = StdSink::over(rt.stdout());
     let mut err = StdSink::over(rt.stderr());
+    let Some(words) = words(&rt) else {
+        return end_without_memory(&mut err);
+    };
+    let Ok(wish) = swap_wish(alloc, &words) else {
+        return end_without_memory(&mut err);
+    };
+    let SwapWish { path, size } = wish;
     let mut disks = Vec::new(alloc);
     if let Some(path) = path {
-        let disk = FileDisk::at(&rt, path.as_str(), size);
-        let Ok(disk) = Box::new(alloc, disk) else {
-            return ExitCode::from(OUT_OF_MEMORY);
+        let file = match open_swap(&rt, path.as_str(), size) {
+            Ok(file) => file,
+            Err(e) => return end_without_swap(alloc, path.as_str(), &e, &mut err),
+        };
+        let Ok(disk) = Box::new(alloc, FileDisk::over(file, size)) else {
+            return end_without_memory(&mut err);
         };
         if add_disk(&mut disks, disk).is_err() {
-            return ExitCode::from(OUT_OF_MEMORY);
+            return end_without_memory(&mut err);
         }
         return run_on(&rt, alloc, &words, &mut source, &mut out, &mut err, disks);
     }
     let Ok(disk) = MemDisk::new(alloc, size, Vec::new(alloc)) else {
-        return ExitCode::from(OUT_OF_MEMORY);
+        return end_without_memory(&mut err);
     };
     let Ok(disk) = Box::new(alloc, disk) else {
-        return ExitCode::from(OUT_OF_MEMORY);
+        return end_without_memory(&mut err);
     };
     if add_disk(&mut disks, disk).is_err() {
-        return ExitCode::from(OUT_OF_MEMORY);
+        return end_without_memory(&mut err);
     }
     run_on(&rt, alloc, &words, &mut source, &mut out, &mut err, disks)
 }
