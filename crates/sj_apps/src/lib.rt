@@ -1,0 +1,2 @@
+//! Applications: jobs that are generated, what their answers mean, and the summary of an array.
+#![tactic(auto)]
