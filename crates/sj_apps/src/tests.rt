@@ -89,7 +89,7 @@ fn the_lengths_of_a_ring_are_summed(rt: HostRuntime) -> Result<(), Fail> {
     let mut elements = Vec::new(alloc);
     for i in 0..96i64 {
         for j in 0..96i64 {
-            let m = (j - i).rem_euclid(96);
+            let m = j.wrapping_sub(i).rem_euclid(96);
             elements.push(m + 2 * (m % 7))?;
         }
     }
