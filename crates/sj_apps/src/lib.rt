@@ -1,0 +1,6 @@
+//! Applications: jobs that are generated, what their answers mean, and the summary of an array.
+#![tactic(auto)]
+
+pub mod summary;
+#[cfg(test)]
+mod tests;
