@@ -1,0 +1,4 @@
+pub mod Generated
+pub mod Product
+pub mod Walks
+pub mod Draft

@@ -1,0 +1,12 @@
+use Rattle.std.proofs.Common.{◌+◌, ◌≤◌, length, arith, List, refl}
+use Rattle.sj_apps.specs.Generated.{gemm, gemms_at, gemms_in_row, diagonal, beside, below, apart, aparts_in_row, walk_step}
+use Rattle.sj_apps.specs.Draft.{product_names, paths_names, Tells}
+use Rattle.sj_apps.proofs.Telling.{tells-none, tells-more, tells-mapped, tells-flat, tells-others, tells-each, tells-same, tells-other, task-told}
+use Rattle.sj_base.specs.declared.mode.Mode.TheVariants.{R, RW, Commute}
+use Rattle.sj_apps.proofs.draft.Draft.gemms_at.Goals as goal
+
+pub loop-k-preserved : goal.loop-k-preserved
+loop-k-preserved c =
+    let h = c.in_ok-gemm.ensures.tells in
+    let long = h.long in
+    (tells-mapped _ _ _ (gemm c.args.i c.args.j) c.loop-k.k c.loop-k.invariant.0 h, omega arith)
