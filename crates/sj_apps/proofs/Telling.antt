@@ -1,5 +1,5 @@
 -- What a draft says, one act after another.
-use Rattle.std.proofs.Common.{◌≡◌, ℕ, zero, suc, ◌+◌, ◌<◌, List, [], ◌∷◌, ◌++◌, length, map, refl, ap, sym, ◌∙◌, subst, arith, cond, Bool, true, false, not, eqb, append_assoc, append-nil, length-append}
+use Rattle.std.proofs.Common.{◌≡◌, ℕ, ◌+◌, ◌<◌, List, [], ◌∷◌, ◌++◌, length, map, refl, ap, sym, ◌∙◌, subst, arith, cond, Bool, true, false, not, eqb, append_assoc, append-nil, length-append}
 use Rattle.std.specs.List.{range_with_len, flat_map, filter, All, AllByRecursion}
 use Rattle.std.proofs.lemmas.List.Elements.{filter-append, All-from_recursion}
 use Rattle.std.proofs.lemmas.List.Concat.{flat_map_single}
@@ -7,7 +7,7 @@ use Rattle.std.proofs.lemmas.List.FromFn.{map-range_with_len_more}
 use Rattle.std.proofs.lemmas.Grind.{flat_map-append}
 use Rattle.sj_plan.proofs.Lists.{range_more}
 use Rattle.sj_base.specs.declared.ids.Root.{Root}
-use Rattle.sj_job.specs.Act.{Act, Statement, Task, Print}
+use Rattle.sj_job.specs.Act.{Act, Task, Print}
 use Rattle.sj_job.specs.Table.{Table, table, name_of}
 use Rattle.sj_job.specs.declared.job.TaskLine.{TaskLine as KeptTask}
 use Rattle.sj_job.specs.declared.job.Act.TheVariants.{Task as TaskOf, Print as PrintOf}
@@ -16,7 +16,7 @@ use Rattle.sj_job.specs.declared.job.Statement.{Statement as Kept}
 use Rattle.sj_job.specs.View.{act_seen, task_seen, statement_seen, seen_from, count_after, count_from, IsPlaced, ArePlaced}
 use Rattle.sj_apps.specs.declared.draft.Draft.{Draft}
 use Rattle.sj_apps.specs.Generated.{numbered, first_line, others}
-use Rattle.sj_apps.specs.Draft.{IsNumberedSoFar, Tells, unless_same}
+use Rattle.sj_apps.specs.Draft.{Tells, unless_same}
 
 seen_from-append : (T : Table) (k : ℕ) (xs ys : List Kept) → seen_from T k (xs ++ ys) ≡ seen_from T k xs ++ seen_from T (count_from k xs) ys
 seen_from-append T k [] ys = refl

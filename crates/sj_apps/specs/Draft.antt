@@ -1,5 +1,5 @@
 -- A job in the making: what it says so far.
-use Rattle.std.specs.Prelude.{◌≡◌, ℕ, ◌+◌, nat_eq, if◌then◌else◌, List, [], ◌∷◌, ◌++◌, length, codes}
+use Rattle.std.specs.Prelude.{◌≡◌, ℕ, ◌+◌, nat_eq, if◌then◌else◌, List, [], ◌∷◌, ◌++◌, length}
 use Rattle.sj_job.specs.Act.{Act}
 use Rattle.sj_job.specs.View.{seen_from, ArePlaced, count_from}
 use Rattle.sj_apps.specs.declared.draft.Draft.{Draft}

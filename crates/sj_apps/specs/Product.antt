@@ -1,6 +1,6 @@
 -- The product of two matrices of i64.
 use Rattle.std.specs.Prelude.{ℕ, ◌*◌, ◌+◌, ℤ, pos, negsuc, ◌+ℤ◌, ◌*ℤ◌, ◌%◌}
-use Rattle.sj_base.specs.Array.{Array, array, element, grid}
+use Rattle.sj_base.specs.Array.{Array, element, grid}
 use Rattle.sj_codelet.specs.Ring.{wrap, sum_below}
 use Rattle.sj_apps.specs.Generated.{square}
 

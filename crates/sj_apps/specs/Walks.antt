@@ -1,5 +1,5 @@
 -- Walks in a graph whose steps have weights, and the length of a shortest one.
-use Rattle.std.specs.Prelude.{◌≡◌, ℕ, ◌<◌, Bool, true, false, ℤ, pos, ◌+ℤ◌, ◌<ℤ◌, ◌≤ℤ◌, List, [], ◌∷◌}
+use Rattle.std.specs.Prelude.{◌≡◌, ℕ, ◌<◌, ℤ, pos, ◌+ℤ◌, ◌<ℤ◌, ◌≤ℤ◌, List, [], ◌∷◌}
 use Rattle.sj_codelet.specs.MinPlus.{inf}
 
 -- the vertices are the numbers below n; there is a step from i to j where its weight is below `inf`

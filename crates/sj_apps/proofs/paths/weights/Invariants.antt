@@ -1,4 +1,4 @@
-use Rattle.std.proofs.Common.{◌≡◌, ℕ}
+use Rattle.std.proofs.Common.{◌≡◌}
 use Rattle.std.specs.List.{range_with_len, flat_map}
 use Rattle.sj_plan.proofs.Windows.{table_row}
 use Rattle.sj_apps.specs.Generated.{weight}

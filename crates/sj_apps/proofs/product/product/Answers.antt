@@ -1,10 +1,9 @@
-use Rattle.std.proofs.Common.{◌≡◌, [], ◌∷◌, ◌++◌, ℕ, ap, sym, ◌∙◌, arith, List, subst}
-use Rattle.sj_job.specs.Act.{Act, Print}
-use Rattle.sj_job.specs.declared.job.Init.TheVariants.{Values}
+use Rattle.std.proofs.Common.{[], ◌∷◌, ap, sym, ◌∙◌, arith, subst}
+use Rattle.sj_job.specs.Act.{Print}
 use Rattle.sj_job.specs.View.{statements_of, IsNumbered}
 use Rattle.sj_job.specs.declared.job.Job.{Job}
-use Rattle.sj_apps.specs.Draft.{product_names, paths_names, Tells}
-use Rattle.sj_apps.specs.Generated.{factors, gemms, walk_steps, matrix, weights, name_C, name_D, numbered, first_line, product_acts}
+use Rattle.sj_apps.specs.Draft.{product_names, Tells}
+use Rattle.sj_apps.specs.Generated.{factors, gemms, name_C, numbered, first_line, product_acts}
 use Rattle.sj_apps.proofs.Telling.{print-told, whole-told}
 use Rattle.sj_apps.proofs.product.product.Goals as goal
 use Rattle.sj_apps.proofs.product.product.Goals.{In_ok-say}

@@ -1,8 +1,6 @@
-use Rattle.std.proofs.Common.{◌+◌, ◌≤◌, length, arith, List, refl}
-use Rattle.sj_apps.specs.Generated.{gemm, gemms_at, gemms_in_row, diagonal, beside, below, apart, aparts_in_row, walk_step}
-use Rattle.sj_apps.specs.Draft.{product_names, paths_names, Tells}
-use Rattle.sj_apps.proofs.Telling.{tells-none, tells-more, tells-mapped, tells-flat, tells-others, tells-each, tells-same, tells-other, task-told}
-use Rattle.sj_base.specs.declared.mode.Mode.TheVariants.{R, RW, Commute}
+use Rattle.std.proofs.Common.{arith}
+use Rattle.sj_apps.specs.Generated.{beside}
+use Rattle.sj_apps.proofs.Telling.{tells-each}
 use Rattle.sj_apps.proofs.draft.Draft.besides.Goals as goal
 
 pub loop-j-preserved : goal.loop-j-preserved

@@ -1,6 +1,5 @@
-use Rattle.std.proofs.Common.{◌+◌, ◌*◌, ◌≤◌, length, map}
-use Rattle.std.specs.List.{range_with_len, flat_map}
-use Rattle.sj_apps.specs.Generated.{gemm, gemms_at, gemms_in_row, beside, below, apart, aparts_in_row, walk_step, others}
+use Rattle.std.proofs.Common.{◌+◌, ◌≤◌, length, map}
+use Rattle.sj_apps.specs.Generated.{beside, others}
 use Rattle.sj_apps.specs.Draft.{Tells}
 use Rattle.sj_apps.proofs.draft.Draft.besides.Given as goal
 

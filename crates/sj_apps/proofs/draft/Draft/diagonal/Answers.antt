@@ -1,6 +1,6 @@
-use Rattle.std.proofs.Common.{arith, ne_eqb}
+use Rattle.std.proofs.Common.{arith}
 use Rattle.sj_apps.specs.Draft.{paths_names}
-use Rattle.sj_apps.proofs.Telling.{tells-other, task-told}
+use Rattle.sj_apps.proofs.Telling.{task-told}
 use Rattle.sj_apps.proofs.draft.Draft.diagonal.Goals as goal
 
 pub returns : goal.returns

@@ -1,4 +1,4 @@
-use Rattle.std.proofs.Common.{◌∷◌, [], ◌++◌, map, arith}
+use Rattle.std.proofs.Common.{◌∷◌, [], ◌++◌, map}
 use Rattle.std.specs.List.{flat_map}
 use Rattle.sj_apps.specs.Generated.{diagonal, beside, below, aparts_in_row, others}
 use Rattle.sj_apps.proofs.Telling.{tells-more}
