@@ -1,1 +1,5 @@
 pub mod Summary
+pub mod Generated
+pub mod Product
+pub mod Walks
+pub mod Draft

@@ -1,0 +1,8 @@
+use Rattle.std.proofs.Common.{arith, ne_eqb}
+use Rattle.sj_apps.specs.Draft.{paths_names}
+use Rattle.sj_apps.proofs.Telling.{tells-other, task-told}
+use Rattle.sj_apps.proofs.draft.Draft.below.Goals as goal
+
+pub returns-clause-tells : goal.returns-clause-tells
+returns-clause-tells c =
+    tells-other c.args.self.now c.say.new.self c.args.i c.args.k _ (ne_eqb _ _ c.if-i-k.false) (task-told c.args.self.now c.say.new.self paths_names _ c.in_ok-task.field-0 c.requires.roots c.in_ok-say.ensures.roots c.in_ok-task.ensures (omega arith, (omega arith, tt)) c.in_ok-say.ensures.said)

@@ -1,0 +1,9 @@
+use Rattle.std.proofs.Common.{◌+◌, ◌≤◌, length, map}
+use Rattle.sj_apps.specs.Generated.{beside, others}
+use Rattle.sj_apps.specs.Draft.{Tells}
+use Rattle.sj_apps.proofs.draft.Draft.besides.Given as goal
+
+-- what the draft says so far
+abbrev pub invariant-loop-j : goal.invariant-loop-j
+invariant-loop-j l =
+    Tells l.initial.self l.self (map (beside l.k) (others l.j l.k)) × (length l.self.statements ≤ length l.initial.self.statements + l.j)

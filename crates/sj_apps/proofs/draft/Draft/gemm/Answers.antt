@@ -1,0 +1,8 @@
+use Rattle.std.proofs.Common.{arith}
+use Rattle.sj_apps.specs.Draft.{product_names}
+use Rattle.sj_apps.proofs.Telling.{task-told}
+use Rattle.sj_apps.proofs.draft.Draft.gemm.Goals as goal
+
+pub returns : goal.returns
+returns c =
+    record { tells = task-told c.args.self.now c.say.new.self product_names _ c.in_ok-task.field-0 c.requires.roots c.in_ok-say.ensures.roots c.in_ok-task.ensures (omega arith, (omega arith, (omega arith, tt))) c.in_ok-say.ensures.said }
