@@ -35,7 +35,7 @@ pub mod Marking
 pub mod NextBoards
 pub mod NextRows
 pub mod NextSteps
-pub mod OneWorker
+pub mod Refusing
 pub mod Opening
 pub mod Shares
 pub mod PoolFilling

@@ -7,7 +7,7 @@ use Rattle.sj_base.specs.declared.ids.Worker.{Worker}
 use Rattle.sj_base.specs.declared.ids.Place.TheVariants.{Node as AtNode}
 use Rattle.sj_base.specs.declared.program.Program.{Program}
 use Rattle.sj_base.specs.declared.program.Machine.{Machine}
-use Rattle.sj_core.specs.Machine.{State, is_idle, is_leaving, pins, progress, replica}
+use Rattle.sj_core.specs.Machine.{State, is_idle, is_leaving, is_task_of, pins, progress, replica}
 use Rattle.sj_core.specs.Needs.{footprint, node_of, node_size, scratch_bytes, tile_bytes}
 use Rattle.sj_core.specs.Operands.{cells_of, commuting_cells, worked_on}
 use Rattle.sj_core.specs.Program.{distinct, has_cell, task_of}
@@ -90,6 +90,18 @@ IsWhy p m s t w NoRoom = CommutersAreFree p s t × IsTrue (none_leaving s (node_
 abbrev pub IsRefusal : Program → Machine → State → Task → Worker → ClaimRefusal → Type 0
 IsRefusal p m s t w (NotNow why) = IsWhy p m s t w why
 IsRefusal p m s t w OutOfMemory = Unit {0}
+
+-- another worker than this one has a claimed or running task
+pub record AnotherHasTask (s : State) (w : Worker) : Type 0 where
+  pub worker : Worker
+  pub other : worker ≢ w
+  pub task : Task
+  pub has : IsTrue (is_task_of worker (progress s task))
+
+-- a claim can't be made now only while another worker has a task
+abbrev pub WaitsForAnother : State → Worker → ClaimRefusal → Type 0
+WaitsForAnother s w (NotNow why) = AnotherHasTask s w
+WaitsForAnother s w OutOfMemory = Unit {0}
 
 -- no other worker holds a commuting cell of the task
 abbrev pub HoldsCommutersAlone : Program → State → Task → Worker → Type 0

@@ -13,7 +13,7 @@ ghost use Rattle.sj_machine.specs.BoardSound.{IsSoundBoard};
 ghost use Rattle.sj_core.specs.Legal.{IsComplete};
 ghost use Rattle.sj_machine.specs.Delivered.{DeliversEach, gift_in, handed};
 ghost use Rattle.sj_machine.specs.Operands.{read_among};
-ghost use Rattle.sj_machine.specs.Planning.{HoldsCommutersAlone, IsRefusal};
+ghost use Rattle.sj_machine.specs.Planning.{HoldsCommutersAlone, IsRefusal, WaitsForAnother};
 ghost use Rattle.sj_machine.specs.Releasing.{EndsTask};
 ghost use Rattle.sj_machine.specs.Running.{AreResultsFor, AreSharesFor};
 ghost use Rattle.sj_machine.specs.Sound.{CanStart, FetchesMoved, IsWrittenOut, StoresMoved};
@@ -251,7 +251,7 @@ impl<D: Disk> Board<D> {
     }
 
     /// A worker claims the task that it was given, where no fault is kept. After an `Err` the board is as before, so that the
-    /// task is still in the worker's hand. Linear in the operands, the victims and the pinned entries that are passed, and in
+    /// task is still in the worker's hand; `NotNow` comes only while another worker has a claimed or running task. Linear in the operands, the victims and the pinned entries that are passed, and in
     /// the workers for each commuting operand, but for moving the trace as it grows.
     pub fn claim(&mut self, alloc: Global, t: Task, w: Worker) -> Result<(), ClaimRefusal>
         requires given { WasGiven self.old w t }
@@ -263,6 +263,7 @@ impl<D: Disk> Board<D> {
         ensures one_worker { OnOk result (HoldsCommutersAlone self.old.run.program (state self.new.run) t w) }
         ensures err { OnErr result (self.new ≡ self.old) }
         ensures why { IfErr result (IsRefusal self.old.run.program self.old.run.machine (state self.old.run) t w) }
+        ensures another { IfErr result (WaitsForAnother (state self.old.run) w) }
         ensures lone { self.old.run.program.workers ≡ 1 → IfErr result (λ r. r ≡ ClaimRefusal.OutOfMemory) }
     {
         self.run.is_sound();

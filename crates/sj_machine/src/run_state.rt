@@ -17,7 +17,7 @@ ghost use Rattle.sj_machine.specs.Operands.{read_among};
 ghost use Rattle.sj_machine.specs.Releasing.{IsGift};
 ghost use Rattle.sj_machine.specs.Running.{AreResultsFor, AreSharesFor};
 ghost use Rattle.sj_machine.specs.Sound.{CanStart, FetchesMoved, IsSoundRun, IsWrittenOut, OnlyDisksChange, StoresMoved};
-ghost use Rattle.sj_machine.specs.Planning.{IsWhy, MayClaim};
+ghost use Rattle.sj_machine.specs.Planning.{AnotherHasTask, IsWhy, MayClaim};
 ghost use Rattle.sj_machine.specs.Sparing.{EventsSpareUsed};
 ghost use Rattle.sj_machine.specs.Standing.{CanHappen, HasDimsMoved, HasMoved, IsFetching, IsMovingIn, IsMovingOut, IsShareOf, IsTileMoved, is_node, starting, state, with_event};
 ghost use Rattle.sj_machine.specs.Tiles.{array_in};
@@ -279,7 +279,8 @@ impl<D: Disk> RunState<D> {
         })
     }
 
-    /// The plan of a claim of a ready task by an idle worker, or why the claim can't be made now. Linear in the operands,
+    /// The plan of a claim of a ready task by an idle worker, or why the claim can't be made now: only while another worker has
+    /// a claimed or running task. Linear in the operands,
     /// the victims, the entries that are passed and the victims of each worker's last claim, and in the workers for each
     /// commuting operand.
     pub fn claim_plan(
@@ -292,6 +293,7 @@ impl<D: Disk> RunState<D> {
         ensures can { IfOk result (λ found. OnOk found (CanHappen self.now (Event.Claim t w))) }
         ensures plan { IfOk result (λ found. IfOk found (IsPlan self.now.program self.now.machine (state self.now) t w)) }
         ensures why { IfOk result (λ found. IfErr found (IsWhy self.now.program self.now.machine (state self.now) t w)) }
+        ensures another { IfOk result (λ found. OnErr found (AnotherHasTask (state self.now) w)) }
     {
         let accesses = task_at(&self.program, t).accesses.items();
         if let Some(cell) = commuter_held(&self.workers, accesses) {

@@ -1,13 +1,13 @@
 use Rattle.std.proofs.Common.{◌≡◌, ◌∙◌, None, ap, subst, sym}
-use Rattle.std.specs.Prelude.{IfErr, OnOk, Result}
+use Rattle.std.specs.Prelude.{IfErr, OnErr, OnOk, Result}
 use Rattle.sj_base.specs.declared.trace.Event.TheVariants.{Claim}
 use Rattle.sj_machine.specs.Board.{BoardState, IsIdle, WasGiven}
 use Rattle.sj_machine.specs.Plan.{ClaimPlan}
-use Rattle.sj_machine.specs.Planning.{IsWhy}
+use Rattle.sj_machine.specs.Planning.{AnotherHasTask, IsWhy}
 use Rattle.sj_machine.specs.Standing.{CanHappen, Standing, state}
 use Rattle.sj_machine.specs.declared.plan.Why.{Why}
 use Rattle.sj_machine.proofs.BoardEnds.{claims-alone, stays-claimed}
-use Rattle.sj_machine.proofs.OneWorker.{lone-refusal}
+use Rattle.sj_machine.proofs.Refusing.{lone-refusal}
 use Rattle.sj_machine.proofs.Taking.{keeps-claimed_left, may-claim}
 use Rattle.sj_machine.proofs.SparingBoards.{told-spares}
 use Rattle.sj_machine.proofs.GoneVictims.{knows-claimed}
@@ -59,4 +59,9 @@ returns-in-Err-clause-lone g c =
     let none = subst (λ (b : BoardState _). b.fault ≡ None) (sym c.self.view_is) c.requires.no_fault in
     let may = may-claim _ _ _ _ _ _ _ c.self.invariant.board c.is_sound.ensures c.args.w given.works c.args.t given.given idle.no_task none in
     let why = subst (λ (found : Result ClaimPlan Why). IfErr found (IsWhy c.self.inside.run.program c.self.inside.run.machine (state c.self.inside.run) c.args.t c.args.w)) c.in-Err.is c.in-Ok.ensures.why in
-    λ one. lone-refusal _ _ _ _ c.self.inside.run c.is_sound.ensures (ap (λ (b : BoardState _). b.run.program.workers) c.self.view_is ∙ one) c.args.t c.args.w may c.in-Err.why why
+    λ one. lone-refusal _ _ _ _ c.self.inside.run c.is_sound.ensures c.args.t c.args.w may (ap (λ (b : BoardState _). b.run.program.workers) c.self.view_is ∙ one) c.in-Err.why why
+
+pub returns-in-Err-clause-another : goal.returns-in-Err-clause-another
+returns-in-Err-clause-another g c =
+    let waits = subst (λ (found : Result ClaimPlan Why). OnErr found (AnotherHasTask (state c.self.inside.run) c.args.w)) c.in-Err.is c.in-Ok.ensures.another in
+    subst (λ (b : BoardState _). AnotherHasTask (state b.run) c.args.w) c.self.view_is waits

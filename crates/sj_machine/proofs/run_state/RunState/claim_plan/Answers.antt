@@ -7,6 +7,9 @@ use Rattle.sj_machine.specs.Copies.{Copies}
 use Rattle.sj_machine.specs.Planning.{HasSmallWork, IsWhy, MayClaim, NoneLeaves, chosen_on, is_leaving_at, planned}
 use Rattle.sj_machine.specs.Standing.{Standing, state}
 use Rattle.sj_machine.specs.declared.plan.Why.TheVariants.{Commute, Leaving}
+use Rattle.sj_machine.proofs.Refusing.{found-waits}
+use Rattle.sj_machine.specs.Sound.{IsSoundRun}
+use Rattle.std.specs.Prelude.{Err}
 use Rattle.sj_machine.proofs.ClaimChoice.{answer-told, choice-commuter, choice-found, choice-free, choice-leaving, choice-small}
 use Rattle.sj_machine.proofs.run_state.RunState.claim_plan.Goals as goal
 
@@ -81,3 +84,18 @@ returns-clause-why g c =
     let found : c.in_ok-found.found ≡ option_map (planned i.program.value c.index.result.now a.t a.w) (chosen_on i.program.value c.index.result.now a.t a.w) = c.in_ok-found.ensures ∙ ap (λ (p : Program). option_map (planned p c.index.result.now a.t a.w) (chosen_on p c.index.result.now a.t a.w)) c.deref-5.ensures in
     let answer = choice-found _ _ _ _ _ _ _ _ c.self.invariant a.t a.w may n c.node_of-n.ensures free none c.index.result.now _ c.index.ensures c.in_ok-found.found found in
     (answer-told _ _ a.t a.w _ _ c.self.view_is c.ok_or.ensures.value answer).why
+
+pub returns-in-Some-clause-another : goal.returns-in-Some-clause-another
+returns-in-Some-clause-another g c =
+    let sound = subst (λ (b : Standing _). IsSoundRun g.D.Disk.size g.D.Disk.faults g.D.Disk.mismatches g.D.Disk.held b) c.self.view_is c.self.invariant.sound in
+    found-waits _ _ _ _ c.args.self.now sound c.args.t c.args.w c.requires (Err (Commute c.in-Some.cell)) (returns-in-Some-clause-why g c)
+
+pub returns-in-Some-leaving_at-clause-another : goal.returns-in-Some-leaving_at-clause-another
+returns-in-Some-leaving_at-clause-another g c =
+    let sound = subst (λ (b : Standing _). IsSoundRun g.D.Disk.size g.D.Disk.faults g.D.Disk.mismatches g.D.Disk.held b) c.self.view_is c.self.invariant.sound in
+    found-waits _ _ _ _ c.args.self.now sound c.args.t c.args.w c.requires (Err (Leaving c.in-Some-leaving_at.cell)) (returns-in-Some-leaving_at-clause-why g c)
+
+pub returns-clause-another : goal.returns-clause-another
+returns-clause-another g c =
+    let sound = subst (λ (b : Standing _). IsSoundRun g.D.Disk.size g.D.Disk.faults g.D.Disk.mismatches g.D.Disk.held b) c.self.view_is c.self.invariant.sound in
+    found-waits _ _ _ _ c.args.self.now sound c.args.t c.args.w c.requires c.ok_or.result (returns-clause-why g c)

@@ -1,20 +1,22 @@
--- With one worker no claim is refused: nothing is in use, nothing leaves, and the node has room.
-use Rattle.std.proofs.Common.{◌≡◌, ◌∙◌, ◌∷◌, ◌<◌, ◌≤◌, ◌+◌, ◌*◌, ◌&&◌, ℕ, suc, [], List, Option, None, Some, Bool, true, false, not, IsTrue, ap, arith, cond, filter, find, get_or, map, refl, sum_by, sym}
-use Rattle.std.specs.Prelude.{AllPairs, Contains, if◌then◌else◌}
-use Rattle.std.proofs.lemmas.Bool.{and_parts, false_from_ne_true, false≢true, le-leb}
+-- A claim is refused only while another worker has a task: where none has one, nothing is in use, nothing leaves, and the node
+-- has room.
+use Rattle.std.proofs.Common.{◌≡◌, ◌∙◌, ◌∷◌, ◌<◌, ◌≤◌, ◌+◌, ◌*◌, ◌&&◌, ℕ, suc, [], List, Option, None, Some, Bool, true, false, not, IsTrue, ap, arith, cond, filter, find, get_or, inl, inr, length, map, refl, sum_by, sym}
+use Rattle.std.specs.Prelude.{AllPairs, Contains, Err, IfErr, Ok, OnErr, Result, if◌then◌else◌}
+use Rattle.std.proofs.lemmas.Bool.{and_parts, cases_Bool, false_from_ne_true, false≢true, le-leb}
 use Rattle.std.proofs.lemmas.List.Elements.{filter_agree}
 use Rattle.std.proofs.lemmas.List.Folds.{list_any_at}
 use Rattle.std.proofs.lemmas.List.Sums.{sum_by-cons}
+use Rattle.std.specs.List.{list_any}
 use Rattle.sj_base.specs.declared.mode.Access.{Access}
 use Rattle.sj_base.specs.declared.mode.Mode.TheVariants.{R}
 use Rattle.sj_base.specs.Mode.{is_redux}
-use Rattle.sj_core.proofs.Advancing.{claimed_by-task_of, idle-has_none}
+use Rattle.sj_core.proofs.Advancing.{claimed_by-task_of, idle-has_none, task_of-worker}
 use Rattle.sj_core.proofs.Bytes.{bytes_where, entry-cell, once-bytes}
 use Rattle.sj_core.proofs.CellLists.{has_cell-distinct, has_cell-filter_is, same_cell-from, times-distinct, times-filter}
 use Rattle.sj_core.proofs.Copies.{direct-cell}
 use Rattle.sj_core.proofs.Dependencies.{Proper-dependencies}
 use Rattle.sj_core.proofs.Eviction.{shortest_suffix-none}
-use Rattle.sj_core.proofs.Reading.{same_cell-is}
+use Rattle.sj_core.proofs.Reading.{list_any-numbered, progress-inside, same_cell-is}
 use Rattle.sj_core.proofs.Readiness.{list_any-map, list_any-some}
 use Rattle.sj_core.proofs.Replicas.{leaving-by_some}
 use Rattle.sj_core.proofs.Separation.{worker-inside}
@@ -27,7 +29,8 @@ use Rattle.sj_core.specs.Victims.{covers}
 use Rattle.sj_codelet.specs.declared.kernel.Kernel.{Kernel}
 use Rattle.sj_base.specs.Array.{area}
 use Rattle.sj_machine.proofs.Owning.{get-any}
-use Rattle.sj_machine.specs.Planning.{IsWhy, MayClaim, commuter_in_use}
+use Rattle.sj_machine.specs.Plan.{ClaimPlan}
+use Rattle.sj_machine.specs.Planning.{AnotherHasTask, IsWhy, MayClaim, commuter_in_use}
 use Rattle.sj_machine.specs.Sound.{IsSoundRun}
 use Rattle.sj_machine.specs.Standing.{Standing, state}
 use Rattle.sj_machine.specs.declared.plan.Why.{Why}
@@ -104,20 +107,12 @@ module _ (p : Program) (w : Worker) (sized : (a : Access) → dims_of p (worked_
       by_case false ea true eb rest = absurd (false≢true (sym ea ∙ again eb))
       by_case false ea false eb rest = omega (arith, head (worked_on p w) false ea, head (λ (y : Access). y.cell) false eb, rest, same-bytes x)
 
--- ---- one worker
+-- ---- where no worker has a task
 
-module _ (p : Program) (m : Machine) (s : State) (h : IsSound p m s) (has : Kernel → Bool) (lawful : IsLawful has p) (one : p.workers ≡ 1) (t : Task) (w : Worker) (may : MayClaim p m s t w) where
+module _ (p : Program) (m : Machine) (s : State) (h : IsSound p m s) (has : Kernel → Bool) (lawful : IsLawful has p) (t : Task) (w : Worker) (may : MayClaim p m s t w)
+    (nobody : (v : Worker) (u : Task) → is_task_of v (progress s u) ≡ true → ⊥) where
   abbrev n : Node
   n = node_of m w
-
-  only : (v : Worker) → v.0 < p.workers → v ≡ w
-  only v staffed = (let e : v.0 ≡ w.0 = omega (arith, staffed, may.worker, one) in ap (λ (i : ℕ). let x : Worker = record { 0 = i } in x) e)
-
-  -- no worker has a task
-  nobody : (v : Worker) (u : Task) → is_task_of v (progress s u) ≡ true → ⊥
-  nobody v u mine =
-      let staffed = worker-inside p m h.proper.cells (Proper-dependencies p h.proper) s h.coherent.state h.coherent.workers h.coherent.order u v mine in
-      false≢true (sym (idle-has_none s w u may.idle) ∙ ap (λ (x : Worker). is_task_of x (progress s u)) (sym (only v staffed)) ∙ mine)
 
   no-commuter : (c : Cell) → commuter_in_use p s t ≡ Some c → ⊥
   no-commuter c found =
@@ -176,7 +171,47 @@ module _ (p : Program) (m : Machine) (s : State) (h : IsSound p m s) (has : Kern
   never (Leaving c) is = no-leaving c is.1
   never NoRoom is = no-want is.2
 
--- so what a claim on a board is refused for is want of memory
-pub lone-refusal : {D : Type 0} (size faults mismatches : D → ℕ) (held : D → Option (List ℕ)) (run : Standing D) → IsSoundRun size faults mismatches held run → run.program.workers ≡ 1 → (t : Task) (w : Worker) → MayClaim run.program run.machine (state run) t w → (why : Why) → IsWhy run.program run.machine (state run) t w why → NotNow why ≡ OutOfMemory
-lone-refusal size faults mismatches held run sound one t w may why is =
-    absurd (never run.program run.machine (state run) (record { proper = sound.run.proper; machine = sound.run.machine; coherent = sound.coherent }) sound.run.has sound.run.lawful one t w may why is)
+-- ---- so where a claim is refused some worker has one, and it is another
+
+module _ (p : Program) (m : Machine) (s : State) (h : IsSound p m s) (has : Kernel → Bool) (lawful : IsLawful has p) (t : Task) (w : Worker) (may : MayClaim p m s t w) where
+  -- the task is claimed or runs
+  abbrev is_held : Task → Bool
+  is_held u = is_task_of (worker_of (progress s u)) (progress s u)
+
+  -- a worker's task is among those of the program
+  held : (v : Worker) (u : Task) → is_task_of v (progress s u) ≡ true → list_any is_held (tasks_of p) ≡ true
+  held v u mine =
+      let known = progress-inside s u (λ e. false≢true (sym (ap (is_task_of v) e) ∙ mine)) in
+      let inside : u.0 < length p.tasks = omega (arith, known, h.coherent.state.rows.tasks) in
+      list_any-numbered (λ i. let k : Task = record { 0 = i } in k) is_held u.0 (length p.tasks) inside (ap (λ (x : Worker). is_task_of x (progress s u)) (task_of-worker v (progress s u) mine) ∙ mine)
+
+  waits-for : (why : Why) → IsWhy p m s t w why → AnotherHasTask s w
+  waits-for why is = elim (cases_Bool (list_any is_held (tasks_of p))) [
+    | inl some ↦ (
+        let found = list_any-some is_held (tasks_of p) some in
+        record {
+          worker = worker_of (progress s found.0);
+          other = λ same. false≢true (sym (idle-has_none s w found.0 may.idle) ∙ ap (λ (x : Worker). is_task_of x (progress s found.0)) (sym same) ∙ found.2);
+          task = found.0;
+          has = found.2;
+        }
+        )
+    | inr none ↦ absurd (never p m s h has lawful t w may (λ v u mine. false≢true (sym none ∙ held v u mine)) why is)
+  ]
+
+-- as a run and a board tell it
+module _ {D : Type 0} (size faults mismatches : D → ℕ) (held : D → Option (List ℕ)) (run : Standing D) (sound : IsSoundRun size faults mismatches held run) (t : Task) (w : Worker) (may : MayClaim run.program run.machine (state run) t w) where
+  pub refusal-waits : (why : Why) → IsWhy run.program run.machine (state run) t w why → AnotherHasTask (state run) w
+  refusal-waits = waits-for run.program run.machine (state run) (record { proper = sound.run.proper; machine = sound.run.machine; coherent = sound.coherent }) sound.run.has sound.run.lawful t w may
+
+  pub found-waits : (found : Result ClaimPlan Why) → IfErr found (IsWhy run.program run.machine (state run) t w) → OnErr found (AnotherHasTask (state run) w)
+  found-waits (Ok plan) is = tt
+  found-waits (Err why) is = refusal-waits why is
+
+  -- with one worker there is no other
+  pub lone-refusal : run.program.workers ≡ 1 → (why : Why) → IsWhy run.program run.machine (state run) t w why → NotNow why ≡ OutOfMemory
+  lone-refusal one why is =
+      let another = refusal-waits why is in
+      let staffed = worker-inside run.program run.machine sound.run.proper.cells (Proper-dependencies run.program sound.run.proper) (state run) sound.coherent.state sound.coherent.workers sound.coherent.order another.task another.worker another.has in
+      let same : another.worker.0 ≡ w.0 = omega (arith, staffed, may.worker, one) in
+      absurd (another.other (ap (λ (i : ℕ). let x : Worker = record { 0 = i } in x) same))
