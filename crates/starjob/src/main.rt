@@ -2,6 +2,7 @@
 #![tactic(auto)]
 
 mod gathering;
+mod numbers;
 mod output;
 mod remark;
 mod report;
@@ -10,7 +11,6 @@ mod sink_text;
 mod source_text;
 mod status;
 mod stop;
-mod streams;
 mod swap;
 #[cfg(test)]
 mod test_calls;
@@ -31,6 +31,7 @@ mod top;
 ghost use Rattle.std.specs.Prelude.{◌≤◌, ◌^◌, length};
 ghost use Rattle.sj_edge.specs.Sizes.{AreWithin};
 
+use numbers::occupy_streams;
 use remark::{no_swap, write_remark};
 use report::report;
 use sj_base::ids::DiskNo;
@@ -49,7 +50,6 @@ use std::io::{Error, ErrorKind};
 use std::process::ExitCode;
 use std::sync::Wait;
 use std::thread::Threads;
-use streams::occupy_streams;
 use swap::open_swap;
 use top::{AnyDisk, starjob};
 

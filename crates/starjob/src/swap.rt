@@ -1,11 +1,10 @@
 //! The file that a run swaps to.
 
-use std::fs;
 use std::fs::{File, OpenOptions};
-use std::io;
 use std::io::{Error, ErrorKind};
 use std::os::unix::fs::OpenOptionsExt;
 use std::rt::{Clock, Files};
+use std::{fs, io};
 
 /// How many names of a file in a folder are tried.
 const NAMES_TRIED: u32 = 100;
