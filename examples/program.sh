@@ -68,7 +68,11 @@ run_into_full() {
 }
 
 good=$'starjob 1\nvector x 2 values 1 2\nprint x\n'
-usage=$'starjob: usage: starjob *\n'
+# unaccepted WHY WORDS..: the usage line, behind the one that says why
+unaccepted() {
+  run "$good" "${@:2}"
+  expect "unaccepted: ${*:2}" 2 '' $'starjob: '"$1"$'\nstarjob: usage: starjob *\n'
+}
 # three vectors on a node that holds two
 evicts=$'starjob 1\nnode 64\nvector a 3 values 1 2 3\nvector b 3 values 4 5 6\nvector c 3 values 7 8 9\nprint a\n'
 evicted=$(cat "$pictures/evictions.trace")
@@ -77,18 +81,22 @@ run "$good"
 expect 'a good job is done' 0 $'x: 1 2\n' ''
 run $'starjob 1\nprint x\n'
 expect 'a bad job is refused' 3 '' $'starjob: line 2: unknown name\n'
-run "$good" --unknown
-expect "a word that isn't known" 2 '' "$usage"
-run "$good" $'\xff'
-expect "a word that isn't UTF-8" 2 '' "$usage"
-run "$good" ''
-expect 'an empty word' 2 '' "$usage"
-run "$good" --nodes 2
-expect 'a number of nodes without their size' 2 '' "$usage"
-run "$good" --trace=1
-expect 'a flag with a value' 2 '' "$usage"
-run "$good" --swap swap --no
-expect 'a swap beside a word that is not known' 2 '' "$usage"
+unaccepted 'word 1, --unknown, is no option' --unknown
+unaccepted 'word 3, x, is no option' --workers 4 x
+unaccepted 'word 2, --trace, stands twice' --trace --trace
+unaccepted 'word 3, --workers=3, stands twice' --workers 2 --workers=3
+unaccepted 'word 1, --trace=1, takes no value' --trace=1
+unaccepted 'word 2, --workers, wants a value behind it' --trace --workers
+unaccepted 'word 2, 0, is no number from 1 to 64' --workers 0
+unaccepted 'word 1, --workers=-1, is no number from 1 to 64' --workers=-1
+unaccepted 'word 2, 7, is no number from 8 to 1099511627776' --node 7
+unaccepted 'word 2, 99999999999999999999, is no number from 0 to 1099511627776' --swap-size 99999999999999999999
+unaccepted 'word 2, fifo, is none of eager, prio and ws' --sched fifo
+unaccepted 'word 2, --trace, is no path: it is empty or begins with -' --swap --trace
+unaccepted 'word 3, --nodes, stands only with --node' --workers 2 --nodes 2
+unaccepted "a word is empty, or isn't UTF-8" ''
+unaccepted "a word is empty, or isn't UTF-8" --trace $'\xff'
+unaccepted 'word 3, --no, is no option' --swap swap --no
 [ ! -e swap ]
 expect_true 'unaccepted words make no swap file' $?
 
@@ -105,7 +113,7 @@ expect 'the words win over the job, whose vectors then fit one by one' 0 $'a: 1 
 run "$good" --node 8
 expect 'a task that fits no node' 4 '' $'starjob: line 2: task needs 16 bytes on one node\n'
 run "$good" --swap-size 0
-expect 'a swap without room' 5 '' $'starjob: swap needs 40 bytes, has 0\n'
+expect 'a swap without room' 5 '' $'starjob: --swap-size 40 would do\nstarjob: swap needs 40 bytes, has 0\n'
 run "$good" --swap-size 1099511627776
 expect 'a swap of more memory than there is' 10 '' $'starjob: out of memory\n'
 run "$good" --swap-size 40
@@ -121,6 +129,19 @@ expect 'an output that takes nothing, with nothing to write' 0 '' ''
 "$program" < / > out 2> err
 code=$?
 expect "an input that can't be read" 8 '' $'starjob: reading failed\n'
+# 3,000 bytes of output
+run_limited 1 $'starjob 1\nvector x 300 fill 100000000 1\nprint x\n'
+[ "$(stat -c %s out)" = 1024 ] || code=torn
+: > out
+expect 'an output beyond the limit of file sizes' 9 '' $'starjob: writing failed\n'
+# a run that waits for the end of its input for longer than a second
+if command -v script > /dev/null; then
+  printf 'starjob 1\nvector x 2 values 1 2\n' > slow
+  script -qec "(cat slow; sleep 1.2; echo print x) | $program > out" shown > /dev/null
+  code=$(grep -q 'tasks done, .* in hand' shown && echo shown)
+  : > err
+  expect 'a long run is shown on a terminal' shown $'x: 1 2\n' ''
+fi
 
 # check TRACE WORDS..: runs trace_check on a trace of the job that evicts, in a file
 program=$trace_check

@@ -41,7 +41,7 @@ expect 'a swap that takes nothing' 6 '' "$failed_disk"
 run "$evicts" --swap /dev/zero
 expect 'a swap that forgets' 7 '' $'starjob: disk 0 damaged: wanted cell 0 writes 1 length 3, found cell 0 writes 0 length 0\n'
 run "$good" --swap swap --swap-size 0
-expect 'a swap file without room' 5 '' $'starjob: swap needs 40 bytes, has 0\n'
+expect 'a swap file without room' 5 '' $'starjob: --swap-size 40 would do\nstarjob: swap needs 40 bytes, has 0\n'
 run $'starjob 1\nprint x\n' --swap swap
 expect 'a bad job with a swap file' 3 '' $'starjob: line 2: unknown name\n'
 left 'jobs that are refused'

@@ -6,12 +6,14 @@ mod numbers;
 mod output;
 mod remark;
 mod report;
+mod room;
 mod running;
 mod sink_text;
 mod source_text;
 mod status;
 mod stop;
 mod swap;
+mod tally;
 #[cfg(test)]
 mod test_calls;
 #[cfg(test)]
@@ -27,31 +29,41 @@ mod tests_of_threads;
 #[cfg(test)]
 mod tests_of_trouble;
 mod top;
+mod watch;
+mod word_at_fault;
 
 ghost use Rattle.std.specs.Prelude.{◌≤◌, ◌^◌, length};
 ghost use Rattle.sj_edge.specs.Sizes.{AreWithin};
 
-use numbers::occupy_streams;
-use remark::{no_swap, write_remark};
+use numbers::{STDERR, STDOUT, occupy_streams};
+use remark::{no_swap, remark, write_remark};
 use report::report;
+use room::{BoundedSink, room_of};
+use sink_text::write_text;
 use sj_base::ids::DiskNo;
 use sj_edge::disk::{Disk, add_disk};
 use sj_edge::file_disk::FileDisk;
-use sj_edge::gate::OpenGate;
 use sj_edge::memory_disk::MemDisk;
+use sj_edge::memory_sink::MemSink;
 use sj_edge::sink::Sink;
 use sj_edge::source::Source;
 use sj_edge::standard::{StdSink, StdSource};
 use sj_words::{SwapWish, swap_wish};
 use status::Status;
 use std::alloc::Global;
-use std::env;
-use std::io::{Error, ErrorKind};
+use std::io::{Error, ErrorKind, IsTerminal};
 use std::process::ExitCode;
-use std::sync::Wait;
-use std::thread::Threads;
+use std::rt::Clock;
+use std::sync::{Arc, Wait};
+use std::thread::{JoinHandle, Threads};
+use std::{env, thread};
 use swap::open_swap;
+use tally::{Tally, TallyDisk, TallyGate};
 use top::{AnyDisk, starjob};
+use watch::{ErasingSink, Watch};
+
+/// More bytes than any status's line has.
+const LINE_ROOM: u64 = 1024;
 
 /// The words after the program's name, or `None` where memory runs out. An argument that isn't text stands for a word that
 /// isn't accepted, as none is.
@@ -67,23 +79,6 @@ fn words(rt: &HostRuntime) -> Option<Vec<String>> {
         Err(_) => words.push(String::new(rt.alloc())).ok()?,
     }
     Some(words)
-}
-
-/// Runs the job of a source with these disks.
-fn run_on<R: Threads + Wait + Sync, S: Source, O: Sink, E: Sink>(
-    rt: &R,
-    alloc: Global,
-    words: &[String],
-    source: &mut S,
-    out: &mut O,
-    err: &mut E,
-    disks: Vec<AnyDisk>,
-) -> ExitCode
-    requires few_disks { length disks.items ≤ 16 }
-    requires small_disks { AreWithin ⟦<AnyDisk as Disk>⟧.size (2 ^ 40) disks.items }
-{
-    let outcome = starjob(rt, alloc, words, source, out, err, disks, &OpenGate);
-    ExitCode::from(outcome.status.code())
 }
 
 /// Ends before the job is begun, with the status's line.
@@ -106,12 +101,109 @@ fn end_without_swap<E: Sink>(alloc: Global, path: &str, error: &Error, err: &mut
     end_with(Status::DiskFault { disk: DiskNo(0) }, err)
 }
 
+/// Starts the thread that shows the line of a run. Without it the run isn't watched.
+fn start_to_show<R>(rt: &R, alloc: Global, watch: &Arc<Watch, Global>) -> Option<JoinHandle<()>>
+where
+    R: Threads + Wait + Clock + Eprint + Copy + Send + 'static,
+{
+    let handle = *rt;
+    let watch = Arc::try_clone(watch).ok()?;
+    thread::spawn(rt, move || watch.show(&handle, alloc)).ok()
+}
+
+/// Runs the job of a source with these disks, under a gate. The line of the status is kept until the line of the run is off
+/// the terminal, and the further line that a person needs goes before it.
+fn run_on<R, S, O, E>(
+    rt: &R,
+    alloc: Global,
+    words: &[String],
+    source: &mut S,
+    out: &mut O,
+    err: &mut E,
+    disks: Vec<AnyDisk>,
+    gate: &TallyGate<'_>,
+    watch: &Watch,
+) -> ExitCode
+where
+    R: Threads + Wait + Sync + Eprint,
+    S: Source,
+    O: Sink,
+    E: Sink,
+    requires few_disks { length disks.items ≤ 16 }
+    requires small_disks { AreWithin ⟦<AnyDisk as Disk>⟧.size (2 ^ 40) disks.items }
+{
+    let Ok(mut line) = MemSink::new(alloc, LINE_ROOM, Vec::new(alloc)) else {
+        return end_without_memory(err);
+    };
+    let outcome = starjob(rt, alloc, words, source, out, &mut line, disks, gate);
+    watch.end(rt);
+    write_remark(err, remark(alloc, words, outcome.status));
+    let _ = write_text(err, line.taken());
+    ExitCode::from(outcome.status.code())
+}
+
+/// Runs the job of a source with this swap disk, and shows how far it is where there is a terminal for that.
+fn run_with<R, S, O, E>(
+    rt: &R,
+    alloc: Global,
+    words: &[String],
+    source: &mut S,
+    out: O,
+    err: &mut E,
+    disk: AnyDisk,
+    tally: Arc<Tally, Global>,
+    has_terminal: bool,
+) -> ExitCode
+where
+    R: Threads + Wait + Sync + Clock + Eprint + Copy + Send + 'static,
+    S: Source,
+    O: Sink + Drop,
+    E: Sink,
+    requires small_disk { ⟦<AnyDisk as Disk>⟧.size disk ≤ 2 ^ 40 }
+{
+    let mut disks = Vec::new(alloc);
+    if add_disk(&mut disks, disk).is_err() {
+        return end_without_memory(err);
+    }
+    let Some(watch) = new_watch(alloc, &tally) else {
+        return end_without_memory(err);
+    };
+    let shower = if has_terminal {
+        start_to_show(rt, alloc, &watch)
+    } else {
+        None
+    };
+    let gate = TallyGate::over(shower.is_some().then_some(&*tally));
+    let mut out = ErasingSink::over(rt, &*watch, out);
+    let code = run_on(
+        rt, alloc, words, source, &mut out, err, disks, &gate, &watch,
+    );
+    if let Some(shower) = shower {
+        shower.join(rt);
+    }
+    code
+}
+
+/// The line of a run that is counted here.
+fn new_watch(alloc: Global, tally: &Arc<Tally, Global>) -> Option<Arc<Watch, Global>> {
+    let tally = Arc::try_clone(tally).ok()?;
+    Arc::new(alloc, Watch::over(tally)).ok()
+}
+
+/// The counts of a run, for its disk and for its gate.
+fn new_tally(alloc: Global) -> Option<(Arc<Tally, Global>, Arc<Tally, Global>)> {
+    let tally = Arc::new(alloc, Tally::new()).ok()?;
+    let other = Arc::try_clone(&tally).ok()?;
+    Some((tally, other))
+}
+
 fn main(rt: HostRuntime) -> ExitCode {
     let alloc = rt.alloc();
     occupy_streams(&rt);
+    let has_terminal = rt.stderr().is_terminal();
     let mut source = StdSource::over(rt.stdin());
-    let mut out = StdSink::over(rt.stdout());
-    let mut err = StdSink::over(rt.stderr());
+    let out = BoundedSink::over(StdSink::over(rt.stdout()), room_of(&rt, STDOUT));
+    let mut err = BoundedSink::over(StdSink::over(rt.stderr()), room_of(&rt, STDERR));
     let Some(words) = words(&rt) else {
         return end_without_memory(&mut err);
     };
@@ -119,28 +211,44 @@ fn main(rt: HostRuntime) -> ExitCode {
         return end_without_memory(&mut err);
     };
     let SwapWish { path, size } = wish;
-    let mut disks = Vec::new(alloc);
-    if let Some(path) = path {
-        let file = match open_swap(&rt, path.as_str(), size) {
-            Ok(file) => file,
-            Err(e) => return end_without_swap(alloc, path.as_str(), &e, &mut err),
-        };
-        let Ok(disk) = Box::new(alloc, FileDisk::over(file, size)) else {
-            return end_without_memory(&mut err);
-        };
-        if add_disk(&mut disks, disk).is_err() {
-            return end_without_memory(&mut err);
-        }
-        return run_on(&rt, alloc, &words, &mut source, &mut out, &mut err, disks);
-    }
-    let Ok(disk) = MemDisk::new(alloc, size, Vec::new(alloc)) else {
+    let Some((tally, counts)) = new_tally(alloc) else {
         return end_without_memory(&mut err);
     };
-    let Ok(disk) = Box::new(alloc, disk) else {
+    let Some(path) = path else {
+        let Ok(disk) = MemDisk::new(alloc, size, Vec::new(alloc)) else {
+            return end_without_memory(&mut err);
+        };
+        let Ok(disk) = Box::new(alloc, TallyDisk::over(disk, counts)) else {
+            return end_without_memory(&mut err);
+        };
+        return run_with(
+            &rt,
+            alloc,
+            &words,
+            &mut source,
+            out,
+            &mut err,
+            disk,
+            tally,
+            has_terminal,
+        );
+    };
+    let file = match open_swap(&rt, path.as_str(), size) {
+        Ok(file) => file,
+        Err(e) => return end_without_swap(alloc, path.as_str(), &e, &mut err),
+    };
+    let Ok(disk) = Box::new(alloc, TallyDisk::over(FileDisk::over(file, size), counts)) else {
         return end_without_memory(&mut err);
     };
-    if add_disk(&mut disks, disk).is_err() {
-        return end_without_memory(&mut err);
-    }
-    run_on(&rt, alloc, &words, &mut source, &mut out, &mut err, disks)
+    run_with(
+        &rt,
+        alloc,
+        &words,
+        &mut source,
+        out,
+        &mut err,
+        disk,
+        tally,
+        has_terminal,
+    )
 }

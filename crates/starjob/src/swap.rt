@@ -1,5 +1,6 @@
 //! The file that a run swaps to.
 
+use crate::room::file_size_limit;
 use std::fs::{File, OpenOptions};
 use std::io::{Error, ErrorKind};
 use std::os::unix::fs::OpenOptionsExt;
@@ -93,17 +94,4 @@ where
         }
     }
     Err(Error::from_raw_os_error(FILE_EXISTS))
-}
-
-/// The most bytes that a file of this process may have, where the system sets a limit. A write beyond it would end the
-/// process by a signal.
-fn file_size_limit<R: Files + Alloc>(rt: &R) -> Option<u64> {
-    let limits = fs::read_to_string(rt, "/proc/self/limits").ok()?;
-    limits.lines().find_map(limit_of_line)
-}
-
-/// The limit that a line of the system's table says, where it is that of file sizes and says one.
-fn limit_of_line(line: &str) -> Option<u64> {
-    let limits = line.strip_prefix("Max file size")?;
-    limits.split_whitespace().next()?.parse::<u64>().ok()
 }

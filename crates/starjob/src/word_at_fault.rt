@@ -1,0 +1,157 @@
+//! The first word of the command line that isn't accepted, and why: for a person to read, beside the usage line.
+
+/// What the word behind an option's name has to be.
+#[derive(Clone, Copy, Debug, PartialEq, Eq)]
+pub enum Value {
+    Number { least: u64, greatest: u64 },
+    Policy,
+    Application,
+    Path,
+}
+
+/// What a name asks for.
+#[derive(Clone, Copy, Debug, PartialEq, Eq)]
+enum Asked {
+    Nothing,
+    Value(Value),
+}
+
+/// Why a word isn't accepted.
+#[derive(Clone, Copy, Debug, PartialEq, Eq)]
+pub enum Fault {
+    /// It is no name of an option.
+    NoOption,
+    /// Its name stands before it already.
+    Twice,
+    /// Its flag has no value.
+    TakesNoValue,
+    /// Nothing follows, where a value has to.
+    NoValue,
+    /// It stands in the place of such a value, and is none.
+    NotThis(Value),
+    /// It stands only with `--node`.
+    WithoutNode,
+}
+
+/// A word by its number, from 1, and what is wrong with it.
+#[derive(Clone, Copy, Debug, PartialEq, Eq)]
+pub struct FaultyWord {
+    pub number: usize,
+    pub fault: Fault,
+}
+
+fn number(least: u64, greatest: u64) -> Option<Asked> {
+    Some(Asked::Value(Value::Number { least, greatest }))
+}
+
+/// What a name asks for, where it is one that the usage line has.
+fn asked_by(name: &str) -> Option<Asked> {
+    match name {
+        "trace" | "summary" => Some(Asked::Nothing),
+        "workers" => number(1, 64),
+        "node" => number(8, 1 << 40),
+        "nodes" => number(1, 16),
+        "swap-size" => number(0, 1 << 40),
+        "sched" => Some(Asked::Value(Value::Policy)),
+        "swap" => Some(Asked::Value(Value::Path)),
+        "app" => Some(Asked::Value(Value::Application)),
+        "n" | "tile" => number(1, 2048),
+        "seed" => number(0, 999_999_999),
+        _ => None,
+    }
+}
+
+/// The name that a word says, and the value behind its first `=`.
+fn named(word: &str) -> Option<(&str, Option<&str>)> {
+    let said = word.strip_prefix("--")?;
+    match said.split_once('=') {
+        Some((name, value)) => Some((name, Some(value))),
+        None => Some((said, None)),
+    }
+}
+
+/// Whether a word says this name.
+fn says(word: &str, name: &str) -> bool {
+    named(word).is_some_and(|(said, _)| said == name)
+}
+
+fn is_number(text: &str, least: u64, greatest: u64) -> bool {
+    let is_spelled = text.len() <= 19 && text.bytes().all(|b| b.is_ascii_digit());
+    is_spelled
+        && text
+            .parse::<u64>()
+            .is_ok_and(|n| least <= n && n <= greatest)
+}
+
+/// Whether a word is such a value.
+fn is_value(text: &str, value: Value) -> bool {
+    match value {
+        Value::Number { least, greatest } => is_number(text, least, greatest),
+        Value::Policy => text == "eager" || text == "prio" || text == "ws",
+        Value::Application => text == "product" || text == "paths",
+        Value::Path => !text.is_empty() && !text.starts_with('-'),
+    }
+}
+
+/// What the word behind this one has to be, where this is the name of an option or of the flag.
+fn judge_name(before: &[String], word: &str) -> Result<Option<Value>, Fault> {
+    let (name, value) = named(word).ok_or(Fault::NoOption)?;
+    let asked = asked_by(name).ok_or(Fault::NoOption)?;
+    if before.iter().any(|earlier| says(earlier.as_str(), name)) {
+        return Err(Fault::Twice);
+    }
+    match (asked, value) {
+        (Asked::Nothing, None) => Ok(None),
+        (Asked::Nothing, Some(_)) => Err(Fault::TakesNoValue),
+        (Asked::Value(wanted), None) => Ok(Some(wanted)),
+        (Asked::Value(wanted), Some(value)) => judge_value(value, wanted),
+    }
+}
+
+/// The same where this has to be such a value: behind it stands a name.
+fn judge_value(word: &str, wanted: Value) -> Result<Option<Value>, Fault> {
+    if is_value(word, wanted) {
+        Ok(None)
+    } else {
+        Err(Fault::NotThis(wanted))
+    }
+}
+
+/// The word `--nodes`, where no word says `--node`.
+fn nodes_without_node(words: &[String]) -> Option<FaultyWord> {
+    if words.iter().any(|word| says(word.as_str(), "node")) {
+        return None;
+    }
+    let place = words.iter().position(|word| says(word.as_str(), "nodes"))?;
+    Some(FaultyWord {
+        number: place.saturating_add(1),
+        fault: Fault::WithoutNode,
+    })
+}
+
+/// The first word that isn't accepted, where one is at fault by itself or stands beside the wrong ones. Linear in the words' text for each of them.
+pub fn word_at_fault(words: &[String]) -> Option<FaultyWord> {
+    let mut awaited = None;
+    for (place, word) in words.iter().enumerate() {
+        let judged = match awaited {
+            Some(value) => judge_value(word.as_str(), value),
+            None => judge_name(&words[..place], word.as_str()),
+        };
+        match judged {
+            Ok(next) => awaited = next,
+            Err(fault) => {
+                return Some(FaultyWord {
+                    number: place.saturating_add(1),
+                    fault,
+                });
+            }
+        }
+    }
+    if awaited.is_some() {
+        return Some(FaultyWord {
+            number: words.len(),
+            fault: Fault::NoValue,
+        });
+    }
+    nodes_without_node(words)
+}
