@@ -7,9 +7,16 @@ use Rattle.std.proofs.lemmas.Option.{same_Some}
 use Rattle.sj_base.specs.declared.ids.Line.{Line}
 use Rattle.sj_base.specs.declared.program.Machine.{Machine}
 use Rattle.sj_base.specs.declared.program.Program.{Program}
-use Rattle.sj_core.specs.Needs.{footprint, room}
+use Rattle.sj_core.specs.Needs.{footprint, place, room}
 use Rattle.sj_core.specs.Program.{tasks_of}
-use Rattle.sj_needs.specs.Shortage.{FitRoom, IsTooLarge, is_too_large}
+use Rattle.sj_needs.specs.Shortage.{FitRoom, IsShortage, IsTooLarge, is_too_large}
+use Rattle.sj_needs.specs.declared.shortage.Shortage.{Shortage}
+use Rattle.sj_needs.specs.declared.shortage.Shortage.TheVariants.{TooLarge, SwapTooSmall, OutOfMemory}
+use Rattle.sj_codelet.specs.declared.kernel.Kernel.{Kernel}
+use Rattle.sj_core.specs.Proper.{HasSwapFor}
+use Rattle.sj_ready.specs.Ready.{IsReady}
+use Rattle.sj_ready.specs.Work.{HasRoom, Work, WorkOrRefusal, program_of}
+use Rattle.sj_ready.specs.declared.ready.Ready.{Ready}
 
 the : (X : Type 0) → X → X
 the X x = x
@@ -35,3 +42,17 @@ too-large-fits p m line bytes fits large =
 pub none-some-placed : {X : Type 0} (o : Option X) → o ≡ None → IsTrue (is_some o) → ⊥
 none-some-placed None e h = cc
 none-some-placed (Some x) e h = cc
+
+-- the machine that is ready has room for the work that is asked for
+pub ready-room : (has : Kernel → Bool) (asked : WorkOrRefusal) (r : Ready) (ready : IsReady has asked r) → HasRoom ready.work
+ready-room has asked r ready = record { tasks_fit = of_work FitRoom ready.tasks_fit; blocks_have_places = of_work HasSwapFor ready.blocks_have_places }
+  where
+    of_work : (P : Program → Machine → Type 0) → P r.program.value r.machine → P (program_of ready.work) ready.work.machine
+    of_work P h = subst (λ (m : Machine). P (program_of ready.work) m) ready.machine_is (subst (λ (p : Program). P p r.machine) ready.program_is h)
+
+-- what has room lacks nothing
+pub room-no-shortage : (w : Work) (what : Shortage) → HasRoom w → IsShortage (program_of w) w.machine what → what ≡ OutOfMemory
+room-no-shortage w (TooLarge line bytes) room h = absurd (too-large-fits (program_of w) w.machine line bytes room.tasks_fit h)
+room-no-shortage w (SwapTooSmall needed have) room h =
+    absurd (none-some-placed (place (program_of w) w.machine.disks) h.has_no_places room.blocks_have_places.blocks_fit)
+room-no-shortage w OutOfMemory room h = refl

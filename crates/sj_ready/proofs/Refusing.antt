@@ -12,12 +12,12 @@ use Rattle.sj_lower.specs.Limits.{late_limit}
 use Rattle.sj_lower.specs.Progress.{IsLate}
 use Rattle.sj_lower.specs.declared.lower.LowerRefusal.{LowerRefusal}
 use Rattle.sj_lower.specs.declared.lower.LowerRefusal.TheVariants as lowering
-use Rattle.sj_needs.specs.Shortage.{IsShortage, IsSwapTooSmall, IsTooLarge}
+use Rattle.sj_needs.specs.Shortage.{IsShortage}
 use Rattle.sj_needs.specs.declared.shortage.Shortage.{Shortage}
-use Rattle.sj_needs.specs.declared.shortage.Shortage.TheVariants as fitting
 use Rattle.sj_words.specs.declared.options.Options.{Options}
 use Rattle.sj_ready.specs.Ready.{IsUnready}
-use Rattle.sj_ready.specs.Unready.{after_fitting, after_lowering, after_reading}
+use Rattle.sj_ready.specs.Unready.{after_lowering, after_reading}
+use Rattle.sj_ready.specs.declared.unready.Unready.TheVariants.{Short}
 use Rattle.sj_ready.specs.Work.{Work, WorkOrRefusal, asked_by, machine_for, program_of, within_limits, work_of}
 
 -- what is true of the reason that `?` hands over
@@ -41,14 +41,10 @@ pub unready-reading : (o : Options) (disks : List ℕ) (job : Result Job Refusal
 unready-reading o disks job (reading.Refused line reason) h = ap (asked_by o disks) h
 unready-reading o disks job reading.OutOfMemory h = tt
 
-pub unready-fitting : (asked : WorkOrRefusal) (w : Work) (p : Program) (m : Machine) (e : Shortage) → asked ≡ Ok w → p ≡ program_of w → m ≡ w.machine → IsShortage p m e → IsUnready asked (after_fitting e)
-unready-fitting asked w p m (fitting.TooLarge line bytes) is same on h =
-    subst (λ (a : WorkOrRefusal). IsOkAnd a (λ v. IsTooLarge (program_of v) v.machine line bytes)) (sym is)
-    (subst (λ (q : Program). IsTooLarge q w.machine line bytes) same (subst (λ (n : Machine). IsTooLarge p n line bytes) on h))
-unready-fitting asked w p m (fitting.SwapTooSmall needed have) is same on h =
-    subst (λ (a : WorkOrRefusal). IsOkAnd a (λ v. IsSwapTooSmall (program_of v) v.machine needed have)) (sym is)
-    (subst (λ (q : Program). IsSwapTooSmall q w.machine needed have) same (subst (λ (n : Machine). IsSwapTooSmall p n needed have) on h))
-unready-fitting asked w p m fitting.OutOfMemory is same on h = tt
+pub unready-fitting : (asked : WorkOrRefusal) (w : Work) (p : Program) (m : Machine) (e : Shortage) → asked ≡ Ok w → p ≡ program_of w → m ≡ w.machine → IsShortage p m e → IsUnready asked (Short e)
+unready-fitting asked w p m e is same on h =
+    subst (λ (a : WorkOrRefusal). IsOkAnd a (λ v. IsShortage (program_of v) v.machine e)) (sym is)
+    (subst (λ (q : Program). IsShortage q w.machine e) same (subst (λ (n : Machine). IsShortage p n e) on h))
 
 -- the work of a job that was read, on the machine that is made for it, is what was asked for
 pub asked-is : (has : Kernel → Bool) (o : Options) (disks text : List ℕ) (job : Job) (m : Machine) → job_of has text ≡ Ok job → m ≡ machine_for o disks job.settings → within_limits (record { statements = job.statements; machine = m; shows_trace = o.trace }) ≡ work_of has o disks text

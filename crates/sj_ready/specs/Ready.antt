@@ -3,12 +3,12 @@ use Rattle.std.specs.Prelude.{◌≡◌, ℕ, Bool, IsTrue, Ok, Err, IsOkAnd}
 use Rattle.sj_codelet.specs.declared.kernel.Kernel.{Kernel}
 use Rattle.sj_codelet.specs.declared.kernel.Kernel.TheVariants.{Load, LoadFill, Paste, Deliver}
 use Rattle.sj_core.specs.Laws.{IsLawful}
-use Rattle.sj_core.specs.Proper.{IsMachineFor, Proper}
+use Rattle.sj_core.specs.Proper.{HasSwapFor, IsMachineFor, Proper}
 use Rattle.sj_lower.specs.Delivering.{DeliversPrinted, NamesDeliverTasks}
-use Rattle.sj_needs.specs.Shortage.{IsSwapTooSmall, IsTooLarge}
+use Rattle.sj_needs.specs.Shortage.{FitRoom, IsShortage}
 use Rattle.sj_ready.specs.declared.ready.Ready.{Ready}
 use Rattle.sj_ready.specs.declared.unready.Unready.{Unready}
-use Rattle.sj_ready.specs.declared.unready.Unready.TheVariants.{Refused, TooLarge, SwapTooSmall, OutOfMemory}
+use Rattle.sj_ready.specs.declared.unready.Unready.TheVariants.{Refused, Short, OutOfMemory}
 use Rattle.sj_ready.specs.Work.{Work, WorkOrRefusal, program_of}
 
 -- the set has the codelets to which registrations, plan lines and print statements are lowered
@@ -28,12 +28,13 @@ pub record IsReady (has : Kernel → Bool) (asked : WorkOrRefusal) (r : Ready) :
   pub proper : Proper r.program.value
   pub lawful : IsLawful has r.program.value
   pub machine_for : IsMachineFor r.program.value r.machine
+  pub tasks_fit : FitRoom r.program.value r.machine
+  pub blocks_have_places : HasSwapFor r.program.value r.machine
   pub prints : DeliversPrinted r.roots r.program.value work.statements
   pub named : NamesDeliverTasks r.program.value
 
 -- the reason is that of the work that is asked for, or want of memory
 abbrev pub IsUnready : WorkOrRefusal → Unready → Type 0
 IsUnready asked (Refused line reason) = asked ≡ Err (record { line = line; reason = reason })
-IsUnready asked (TooLarge line bytes) = IsOkAnd asked (λ w. IsTooLarge (program_of w) w.machine line bytes)
-IsUnready asked (SwapTooSmall needed have) = IsOkAnd asked (λ w. IsSwapTooSmall (program_of w) w.machine needed have)
+IsUnready asked (Short what) = IsOkAnd asked (λ w. IsShortage (program_of w) w.machine what)
 IsUnready asked OutOfMemory = Unit {0}

@@ -5,10 +5,8 @@ use Rattle.sj_job.specs.declared.reason.ReadRefusal.TheVariants as reading
 use Rattle.sj_job.specs.declared.reason.Reason.TheVariants.{Limit}
 use Rattle.sj_lower.specs.declared.lower.LowerRefusal.{LowerRefusal}
 use Rattle.sj_lower.specs.declared.lower.LowerRefusal.TheVariants as lowering
-use Rattle.sj_needs.specs.declared.shortage.Shortage.{Shortage}
-use Rattle.sj_needs.specs.declared.shortage.Shortage.TheVariants as fitting
 use Rattle.sj_ready.specs.declared.unready.Unready.{Unready}
-use Rattle.sj_ready.specs.declared.unready.Unready.TheVariants.{Refused, TooLarge, SwapTooSmall, OutOfMemory}
+use Rattle.sj_ready.specs.declared.unready.Unready.TheVariants.{Refused, OutOfMemory}
 
 abbrev pub after_reading : ReadRefusal → Unready
 after_reading (reading.Refused line reason) = Refused line reason
@@ -19,8 +17,3 @@ abbrev pub after_lowering : LowerRefusal → Unready
 after_lowering (lowering.TooManyCells line) = Refused line (Limit Cells)
 after_lowering (lowering.TooManyTasks line) = Refused line (Limit Tasks)
 after_lowering lowering.OutOfMemory = OutOfMemory
-
-abbrev pub after_fitting : Shortage → Unready
-after_fitting (fitting.TooLarge line bytes) = TooLarge line bytes
-after_fitting (fitting.SwapTooSmall needed have) = SwapTooSmall needed have
-after_fitting fitting.OutOfMemory = OutOfMemory

@@ -3,6 +3,7 @@ use Rattle.std.specs.Prelude.{ℕ, Bool, Some, None, Result, Ok, Err, List}
 use Rattle.sj_base.specs.declared.program.Machine.{Machine}
 use Rattle.sj_base.specs.declared.program.Program.{Program}
 use Rattle.sj_codelet.specs.declared.kernel.Kernel.{Kernel}
+use Rattle.sj_core.specs.Proper.{HasSwapFor}
 use Rattle.sj_job.specs.Act.{Statement}
 use Rattle.sj_job.specs.Job.{Job}
 use Rattle.sj_job.specs.Reading.{Refusal, job_of}
@@ -10,6 +11,7 @@ use Rattle.sj_job.specs.Settings.{nodes_of, policy_set, workers_of}
 use Rattle.sj_job.specs.declared.settings.Settings.{Settings}
 use Rattle.sj_lower.specs.Limits.{late_limit}
 use Rattle.sj_lower.specs.Lowering.{lowered}
+use Rattle.sj_needs.specs.Shortage.{FitRoom}
 use Rattle.sj_words.specs.Machine.{machine_by}
 use Rattle.sj_words.specs.declared.options.Options.{Options}
 
@@ -39,11 +41,28 @@ within_limits w = elim (late_limit w.machine.workers w.statements) [ None ↦ Ok
 abbrev pub work_with : Options → List ℕ → Job → Work
 work_with o disks job = record { statements = job.statements; machine = machine_for o disks job.settings; shows_trace = o.trace }
 
--- a bad line stands before any limit of lowering
+-- what a job says, before it is looked at how it is lowered
+abbrev pub said_by : Options → List ℕ → Result Job Refusal → WorkOrRefusal
+said_by o disks (Ok job) = Ok (work_with o disks job)
+said_by o disks (Err e) = Err e
+
+-- the same within the limits of lowering, before which a bad line stands
+abbrev pub lowerable : WorkOrRefusal → WorkOrRefusal
+lowerable (Ok w) = within_limits w
+lowerable (Err e) = Err e
+
 abbrev pub asked_by : Options → List ℕ → Result Job Refusal → WorkOrRefusal
-asked_by o disks (Ok job) = within_limits (work_with o disks job)
-asked_by o disks (Err e) = Err e
+asked_by o disks job = lowerable (said_by o disks job)
+
+-- what a job text says
+abbrev pub work_said : (Kernel → Bool) → Options → List ℕ → List ℕ → WorkOrRefusal
+work_said has o disks text = said_by o disks (job_of has text)
 
 -- what a job text asks for
 abbrev pub work_of : (Kernel → Bool) → Options → List ℕ → List ℕ → WorkOrRefusal
 work_of has o disks text = asked_by o disks (job_of has text)
+
+-- the machine has room for the work: each task fits a node that has a worker, and the blocks have their places on the disks
+pub record HasRoom (w : Work) : Type 0 where
+  pub tasks_fit : FitRoom (program_of w) w.machine
+  pub blocks_have_places : HasSwapFor (program_of w) w.machine

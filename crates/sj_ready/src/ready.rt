@@ -5,7 +5,7 @@ ghost use Rattle.std.specs.Int.{w64};
 ghost use Rattle.sj_codelet.specs.Laws.{CommutingCommute, ContributingContribute, ReductionsReduce};
 ghost use Rattle.sj_codelet.specs.declared.kernel.Kernel.{Kernel};
 ghost use Rattle.sj_core.specs.Laws.{IsLawful, is_known};
-ghost use Rattle.sj_core.specs.Proper.{HasSwapFor, Proper};
+ghost use Rattle.sj_core.specs.Proper.{Proper};
 ghost use Rattle.sj_job.specs.Reading.{job_of, IsRefusal};
 ghost use Rattle.sj_job.specs.State.{start};
 ghost use Rattle.sj_job.specs.View.{statements_of, job_seen, IsNumbered};
@@ -15,7 +15,6 @@ ghost use Rattle.sj_lower.specs.Job.{IsJob, IsJobIn};
 ghost use Rattle.sj_lower.specs.Limits.{late_limit};
 ghost use Rattle.sj_lower.specs.Lowering.{lowered};
 ghost use Rattle.sj_job.specs.Settings.{IsWithinLimits};
-ghost use Rattle.sj_needs.specs.Shortage.{FitRoom};
 ghost use Rattle.sj_words.specs.Machine.{HasNodes, HasWorkers};
 ghost use Rattle.sj_words.specs.Options.{IsWithinLimits as AreLimited};
 ghost use Rattle.sj_ready.specs.Ready.{HasOwnCodelets, IsReady, IsUnready};
@@ -168,8 +167,6 @@ pub fn prepare<C: Codelets>(
     requires small { All (λ n. n ≤ 2 ^ 40) disks.items }
     ensures ready { IfOk result (IsReady C.has
         (work_of C.has options.now disks.items text.items)) }
-    ensures room { IfOk result (λ r. FitRoom r.program.value r.machine) }
-    ensures swap { IfOk result (λ r. HasSwapFor r.program.value r.machine) }
     ensures disks { IfOk result (λ r. r.machine.disks ≡ disks.items) }
     ensures unready { IfErr result (IsUnready
         (work_of C.has options.now disks.items text.items)) }

@@ -11,10 +11,8 @@ use sj_needs::shortage::Shortage;
 pub enum Unready {
     /// The job text is refused at this line for this reason.
     Refused { line: Line, reason: Reason },
-    /// A task of this line needs so many bytes on one node, and no node that has a worker has as many.
-    TooLarge { line: Line, bytes: u64 },
-    /// The blocks of all cells, of so many bytes, have no places on the disks, which together have so many.
-    SwapTooSmall { needed: u64, have: u64 },
+    /// The machine lacks what the job's program needs.
+    Short(Shortage),
     /// An allocation was refused.
     OutOfMemory,
 }
@@ -67,15 +65,11 @@ impl From<LowerRefusal> for Unready {
 
 impl From<Shortage> for Unready {
     ghost use Rattle.std.specs.Prelude.{◌≡◌};
-    ghost use Rattle.sj_ready.specs.Unready.{after_fitting};
+    ghost use Rattle.sj_ready.specs.declared.unready.Unready.TheVariants.{Short};
 
-    ghost from_gives = { λ shortage unready. unready ≡ after_fitting shortage };
+    ghost from_gives = { λ shortage unready. unready ≡ Short shortage };
 
     fn from(shortage: Shortage) -> Self {
-        match shortage {
-            Shortage::TooLarge { line, bytes } => Unready::TooLarge { line, bytes },
-            Shortage::SwapTooSmall { needed, have } => Unready::SwapTooSmall { needed, have },
-            Shortage::OutOfMemory => Unready::OutOfMemory,
-        }
+        Unready::Short(shortage)
     }
 }

@@ -12,25 +12,18 @@ use Rattle.sj_core.specs.Once.{EachRanOnce}
 use Rattle.sj_job.specs.Meaning.{printed}
 use Rattle.sj_lower.specs.Delivering.{deliveries_for}
 use Rattle.sj_machine.specs.Delivered.{DeliversEach}
-use Rattle.sj_machine.specs.declared.fault.RunFault.{RunFault}
-use Rattle.sj_machine.specs.declared.fault.RunFault.TheVariants as running
 use Rattle.sj_trace.specs.Text.{text_of as text_of_trace}
 use Rattle.sj_ready.specs.declared.ready.Ready.{Ready}
-use Rattle.starjob.specs.declared.stop.Stop.{Stop}
-use Rattle.starjob.specs.declared.stop.Stop.TheVariants.{Refused, TooLarge, SwapTooSmall, DiskFault, Damaged, OutOfMemory}
-use Rattle.sj_ready.specs.Ready.{IsReady, IsUnready}
-use Rattle.sj_ready.specs.declared.unready.Unready.{Unready}
-use Rattle.sj_ready.specs.declared.unready.Unready.TheVariants as preparing
-use Rattle.starjob.specs.Answers.{IsStopped, IsTextOf, StopsWith}
+use Rattle.sj_ready.proofs.Fitting.{ready-room}
+use Rattle.sj_ready.specs.Ready.{IsReady}
+use Rattle.starjob.specs.Answers.{BrokeOff, IsTextOf}
 use Rattle.starjob.specs.Gathering.{ShowsRun, prints_of, shown}
 use Rattle.starjob.specs.Output.{output}
-use Rattle.starjob.specs.Stops.{after_preparing, after_running}
 use Rattle.starjob.specs.Top.{PrintsNothing, text_of}
 use Rattle.starjob.specs.Traces.{Began, BeganWork, RanWhole}
 use Rattle.sj_ready.specs.Work.{Work, WorkOrRefusal, program_of}
 use Rattle.starjob.proofs.Handing.{same-shown}
 use Rattle.starjob.proofs.Showing.{all-shown, count-prints}
-use Rattle.starjob.proofs.Tracing.{began_empty}
 
 -- what comes behind the arrays
 abbrev pub behind : Bool → List Event → List ℕ
@@ -43,10 +36,11 @@ module _ (has : Kernel → Bool) (asked : WorkOrRefusal) (r : Ready) (ready : Is
   abbrev w : Work
   w = ready.work
 
-  pub legal-work : (trace : List Event) → IsLegal p r.machine trace → IsOkAnd asked (BeganWork trace)
-  legal-work trace h =
-      subst (λ (a : WorkOrRefusal). IsOkAnd a (BeganWork trace)) (sym ready.asked_for)
-      (subst (λ (m : Machine). IsLegal (program_of w) m trace) ready.machine_is (subst (λ (q : Program). IsLegal q r.machine trace) ready.program_is h))
+  pub broken-work : (trace : List Event) → IsLegal p r.machine trace → IsOkAnd asked (BrokeOff trace)
+  broken-work trace h =
+      let began : BeganWork trace w = subst (λ (m : Machine). IsLegal (program_of w) m trace) ready.machine_is (subst (λ (q : Program). IsLegal q r.machine trace) ready.program_is h) in
+      let broke : BrokeOff trace w = record { had_room = ready-room has asked r ready; began = began } in
+      subst (λ (a : WorkOrRefusal). IsOkAnd a (BrokeOff trace)) (sym ready.asked_for) broke
 
   ran-work : (trace : List Event) → IsFinished p r.machine trace → EachRanOnce p trace → RanWhole trace w
   ran-work trace finished once = record {
@@ -69,32 +63,9 @@ module _ (has : Kernel → Bool) (asked : WorkOrRefusal) (r : Ready) (ready : Is
 
     pub shows-work : IsFinished p r.machine trace → EachRanOnce p trace → IsOkAnd asked (IsTextOf Tells trace text)
     shows-work finished once =
-        subst (λ (a : WorkOrRefusal). IsOkAnd a (IsTextOf Tells trace text)) (sym ready.asked_for) (record { told = told; ran = ran-work trace finished once; silent = silent })
+        subst (λ (a : WorkOrRefusal). IsOkAnd a (IsTextOf Tells trace text)) (sym ready.asked_for) (record { told = told; had_room = ready-room has asked r ready; ran = ran-work trace finished once; silent = silent })
 
--- a run that broke off
-pub stops-broken : (asked : WorkOrRefusal) (fault : RunFault) (trace : List Event) → IsOkAnd asked (BeganWork trace) → StopsWith asked (after_running fault) trace
-stops-broken asked (running.DiskFault disk) trace h = h
-stops-broken asked (running.Damaged disk want found) trace h = h
-stops-broken (Ok w) running.OutOfMemory trace h = h
-stops-broken (Err e) running.OutOfMemory trace h = absurd h
-
--- memory ran out behind the run
-pub stops-untold : (asked : WorkOrRefusal) (trace : List Event) → IsOkAnd asked (BeganWork trace) → Began trace asked
-stops-untold (Ok w) trace h = h
-stops-untold (Err e) trace h = absurd h
-
--- nothing was run
-pub stops-unrun : (asked : WorkOrRefusal) (stop : Stop) (trace : List Event) → IsStopped asked stop → trace ≡ [] → StopsWith asked stop trace
-stops-unrun asked (Refused line reason) trace h e = (h, e)
-stops-unrun asked (TooLarge line bytes) trace h e = (h, e)
-stops-unrun asked (SwapTooSmall needed have) trace h e = (h, e)
-stops-unrun asked (DiskFault disk) trace h e = absurd h
-stops-unrun asked (Damaged disk want found) trace h e = absurd h
-stops-unrun asked OutOfMemory trace h e = began_empty asked trace e
-
--- nothing was made ready
-pub stops-unready : (asked : WorkOrRefusal) (unready : Unready) → IsUnready asked unready → IsStopped asked (after_preparing unready)
-stops-unready asked (preparing.Refused line reason) h = h
-stops-unready asked (preparing.TooLarge line bytes) h = h
-stops-unready asked (preparing.SwapTooSmall needed have) h = h
-stops-unready asked preparing.OutOfMemory h = h
+-- a run of which memory ran out, or that broke off, had begun
+pub broke-began : (asked : WorkOrRefusal) (trace : List Event) → IsOkAnd asked (BrokeOff trace) → Began trace asked
+broke-began (Ok w) trace h = h.began
+broke-began (Err e) trace h = absurd h

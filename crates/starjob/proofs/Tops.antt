@@ -1,44 +1,46 @@
 -- From the text that was read and what was written to what the call promises.
-use Rattle.std.proofs.Common.{◌≡◌, ◌≢◌, ◌<◌, ◌≤◌, Bool, true, false, cond, ℕ, suc, List, [], ◌∷◌, length, arith, refl, ap, sym, subst, Option, Some, None, Result, Ok, Err, IfSome, IsOk, IsOkAnd}
-use Rattle.std.specs.Prelude.{Contains, IsTrue, find, is_some, map, option_map}
-use Rattle.std.proofs.lemmas.Bool.Decides.{nat_tests}
-use Rattle.std.proofs.lemmas.List.Elements.{All-contains}
-use Rattle.std.proofs.lemmas.Option.{same_Some}
-use Rattle.sj_base.specs.declared.ids.DiskNo.{DiskNo}
-use Rattle.sj_base.specs.declared.ids.Line.{Line}
-use Rattle.sj_disk.specs.declared.header.Header.{Header}
-use Rattle.sj_base.specs.declared.program.Machine.{Machine}
-use Rattle.sj_base.specs.declared.program.Program.{Program}
-use Rattle.sj_core.specs.Needs.{footprint, place, room}
-use Rattle.sj_core.specs.Program.{tasks_of}
+use Rattle.std.proofs.Common.{◌≡◌, ◌≤◌, Bool, ℕ, List, [], length, map, refl, ap, sym, subst, Option, Some, None, Result, Ok, Err, IfSome, IsOk, IsOkAnd}
+use Rattle.std.specs.Prelude.{option_map}
 use Rattle.std.specs.Io.KnownBytes.{Appends, IsAtEnd}
 use Rattle.sj_base.specs.declared.trace.Event.{Event}
 use Rattle.sj_codelet.specs.declared.kernel.Kernel.{Kernel}
-use Rattle.sj_edge.specs.Faults.{Rose}
+use Rattle.sj_disk.specs.Holding.{CountsStay}
+use Rattle.sj_edge.specs.declared.disk.Disk.{Ghosts as DiskOf}
+use Rattle.sj_engine.specs.Outcome.{AllTell, HoldBlocks}
 use Rattle.sj_job.specs.Job.{Job}
 use Rattle.sj_job.specs.Reading.{Refusal, job_of, text_limit}
-use Rattle.sj_needs.specs.Shortage.{FitRoom, IsSwapTooSmall, IsTooLarge, is_too_large}
+use Rattle.sj_lower.specs.Limits.{late_limit}
+use Rattle.sj_machine.specs.declared.fault.RunFault.TheVariants as running
+use Rattle.sj_needs.specs.Shortage.{IsShortage, IsSwapTooSmall, IsTooLarge}
+use Rattle.sj_needs.specs.declared.shortage.Shortage.{Shortage}
+use Rattle.sj_needs.specs.declared.shortage.Shortage.TheVariants as fitting
+use Rattle.sj_ready.proofs.Fitting.{room-no-shortage}
+use Rattle.sj_ready.specs.Work.{HasRoom, Work, WorkOrRefusal, asked_by, lowerable, program_of, said_by, work_of, work_said}
+use Rattle.sj_ready.specs.declared.unready.Unready.TheVariants as preparing
 use Rattle.sj_words.specs.declared.options.Options.{Options}
 use Rattle.starjob.specs.declared.status.Status.{Status}
 use Rattle.starjob.specs.declared.status.Status.TheVariants.{Done, Usage, Refused, TooLarge, SwapTooSmall, DiskFault, Damaged, SourceFault, SinkFault, OutOfMemory}
-use Rattle.starjob.specs.Answers.{Answered, AnsweredText, IsTextOf, LeavesDisks, StopsWith, WritesText, status_of_stop}
 use Rattle.starjob.specs.declared.stop.Stop.{Stop}
 use Rattle.starjob.specs.declared.stop.Stop.TheVariants as stops
-use Rattle.starjob.specs.Device.{Device}
-use Rattle.starjob.specs.Disks.{NoneRose}
+use Rattle.starjob.specs.Answers.{AnsweredText, BrokeOff, IsTextOf, IsWritten, LeavesDisks, StopsWith, WritesText, status_of_stop}
+use Rattle.starjob.specs.Device.{Device, Devices}
 use Rattle.starjob.specs.Streams.{IsRead, TakesPrefix}
-use Rattle.starjob.specs.Top.{CanBeRun, IsDoneOrOutOfMemory, MemoryRanOut, PrintsNothing, RunBrokeOff, text_of}
-use Rattle.starjob.specs.Traces.{Began, BeganWork, RanWhole}
-use Rattle.sj_ready.proofs.Fitting.{none-some-placed, too-large-fits}
-use Rattle.sj_ready.specs.Work.{Work, WorkOrRefusal, asked_by, program_of, work_of}
-use Rattle.starjob.specs.Work.{OfWork, TellsWork, work_told}
+use Rattle.starjob.specs.Top.{CanBeRun, HasCause, IsDoneOrOutOfMemory, IsSilent, MemoryRanOut, NothingFailed, PrintsNothing, RunBrokeOff, RunIsWhole, TakesText, text_of}
+use Rattle.starjob.specs.Traces.{Began, BeganAsked, BeganWork, RanWhole}
+use Rattle.starjob.specs.Work.{Asked, Unaccepted, Untold, Told, IfAsked, IfTold, IsToldAnd, told}
 use Rattle.starjob.proofs.ReadingWhole.{short}
+use Rattle.starjob.proofs.Shown.{broke-began}
 use Rattle.starjob.proofs.Tracing.{began_empty}
 
 the : (X : Type 0) → X → X
 the X x = x
 
 -- ---- what was asked for
+
+-- what follows for the work of what is asked for
+of-work : (P Q : Work → Type 0) → ((w : Work) → P w → Q w) → (asked : WorkOrRefusal) → IsOkAnd asked P → IsOkAnd asked Q
+of-work P Q to (Ok w) h = to w h
+of-work P Q to (Err e) h = absurd h
 
 ok-of : (P : Work → Type 0) (asked : WorkOrRefusal) → IsOkAnd asked P → IsOk asked
 ok-of P (Ok w) h = refl
@@ -49,92 +51,141 @@ job-ok : (o : Options) (disks : List ℕ) (job : Result Job Refusal) → IsOk (a
 job-ok o disks (Ok j) h = refl
 job-ok o disks (Err e) h = h
 
-first-of : (P Q : Work → Type 0) (asked : WorkOrRefusal) → IsOkAnd asked (λ w. P w × Q w) → IsOkAnd asked P
-first-of P Q (Ok w) h = h.0
-first-of P Q (Err e) h = absurd h
+abbrev limited : Work → Option Refusal → WorkOrRefusal
+limited w late = elim late [ None ↦ Ok w | Some e ↦ Err e ]
 
-second-of : (P Q : Work → Type 0) (asked : WorkOrRefusal) → IsOkAnd asked (λ w. P w × Q w) → IsOkAnd asked Q
-second-of P Q (Ok w) h = h.1
-second-of P Q (Err e) h = absurd h
+unlimited : (P : Work → Type 0) (w : Work) (late : Option Refusal) → IsOkAnd (limited w late) P → P w
+unlimited P w None h = h
+unlimited P w (Some e) h = absurd h
 
--- what holds where the disks tell
-where-told : (Tells : Type 0) (P : Work → Type 0) (asked : WorkOrRefusal) → IsOkAnd asked (λ w. Tells → P w) → Tells → IsOkAnd asked P
-where-told Tells P (Ok w) h tells = h tells
-where-told Tells P (Err e) h tells = absurd h
+-- what is asked for is what is said, where it isn't refused
+said-of : (P : Work → Type 0) (said : WorkOrRefusal) → IsOkAnd (lowerable said) P → IsOkAnd said P
+said-of P (Ok w) h = unlimited P w (late_limit w.machine.workers w.statements) h
+said-of P (Err e) h = absurd h
 
-module _ (has : Kernel → Bool) (o : Options) (disks : List ℕ) where
-  -- what is true of the work of the text that was read is true of that which the source tells
-  pub told-of : (bytes : Option (List ℕ)) (text : List ℕ) → IfSome bytes (λ whole. job_of has whole ≡ job_of has text) → (P : WorkOrRefusal → Type 0) → P (work_of has o disks text) → IfSome (option_map (work_of has o disks) bytes) P
-  told-of None text same P h = tt
-  told-of (Some whole) text same P h = subst P (sym (ap (asked_by o disks) same)) h
+module _ (has : Kernel → Bool) (o : Options) (sizes : List ℕ) (bytes : Option (List ℕ)) (text : List ℕ) (same : IfSome bytes (λ whole. job_of has whole ≡ job_of has text)) where
+  -- what is true of what the text that was read asks for is true of what the source tells
+  told-of : (P : WorkOrRefusal → Type 0) → P (work_of has o sizes text) → IfAsked (told (option_map (work_of has o sizes) bytes)) P
+  told-of P h = by_bytes bytes same
+    where
+      by_bytes : (b : Option (List ℕ)) → IfSome b (λ whole. job_of has whole ≡ job_of has text) → IfAsked (told (option_map (work_of has o sizes) b)) P
+      by_bytes None s = tt
+      by_bytes (Some whole) s = subst P (sym (ap (asked_by o sizes) s)) h
 
-  module _ (Tells : Type 0) (source source' out out' : Device) (text : List ℕ) (trace : List Event)
-      (same : IfSome source.bytes (λ whole. job_of has whole ≡ job_of has text)) (read : IsRead source source') (end : length text ≤ text_limit → IsAtEnd source'.bytes) where
-    abbrev asked : WorkOrRefusal
-    asked = work_of has o disks text
+  -- the same of what it says
+  said-told : (P : Work → Type 0) → IsOkAnd (work_of has o sizes text) P → IfTold (told (option_map (work_said has o sizes) bytes)) P
+  said-told P h = by_bytes bytes same
+    where
+      by_bytes : (b : Option (List ℕ)) → IfSome b (λ whole. job_of has whole ≡ job_of has text) → IfTold (told (option_map (work_said has o sizes) b)) P
+      by_bytes None s = tt
+      by_bytes (Some whole) s = subst (λ (w : WorkOrRefusal). IsOkAnd w P) (sym (ap (said_by o sizes) s)) (said-of P (said_by o sizes (job_of has text)) h)
 
-    holds : (P : WorkOrRefusal → Type 0) → P asked → IfSome (option_map (work_of has o disks) source.bytes) P
-    holds P h = told-of source.bytes text same P h
+  -- what the source tells prints nothing where what was read of it does
+  nothing-by : IsToldAnd (told (option_map (work_of has o sizes) bytes)) PrintsNothing → IsOkAnd (work_of has o sizes text) PrintsNothing
+  nothing-by h = by_bytes bytes same h
+    where
+      by_bytes : (b : Option (List ℕ)) → IfSome b (λ whole. job_of has whole ≡ job_of has text) → IsToldAnd (told (option_map (work_of has o sizes) b)) PrintsNothing → IsOkAnd (work_of has o sizes text) PrintsNothing
+      by_bytes None s n = absurd n
+      by_bytes (Some whole) s n = subst (λ (w : WorkOrRefusal). IsOkAnd w PrintsNothing) (ap (asked_by o sizes) s) n
 
-    pub answered-by : (status : Status) → AnsweredText asked Tells status out out' trace → Answered (option_map (work_of has o disks) source.bytes) Tells status source source' out out' trace
-    answered-by Done a =
-        let P : Work → Type 0 = λ w. Tells → Appends out.bytes out'.bytes (text_of trace w) in
-        let printed = first-of P (RanWhole trace) asked a.0 in
+  pub silent-by : (status : Status) → IsSilent (told (option_map (work_of has o sizes) bytes)) status → IsSilent (Told (work_of has o sizes text)) status
+  silent-by Done h = nothing-by h
+  silent-by SinkFault h = nothing-by h
+  silent-by Usage h = tt
+  silent-by (Refused line reason) h = tt
+  silent-by (TooLarge line bytes) h = tt
+  silent-by (SwapTooSmall needed have) h = tt
+  silent-by (DiskFault number) h = tt
+  silent-by (Damaged number want found) h = tt
+  silent-by SourceFault h = tt
+  silent-by OutOfMemory h = tt
+
+  -- ---- what was printed
+
+  pub printed-by : (Tells : Type 0) (status : Status) (out out' : Device) (trace : List Event) → AnsweredText (work_of has o sizes text) Tells status out out' trace → Tells → TakesText (told (option_map (work_said has o sizes) bytes)) status out out' trace
+  printed-by Tells Done out out' trace a tells =
+      said-told (λ w. Appends out.bytes out'.bytes (text_of trace w)) (of-work (IsWritten Tells (Appends out.bytes out'.bytes) trace) (λ w. Appends out.bytes out'.bytes (text_of trace w)) (λ w h. h.told tells) (work_of has o sizes text) a.0)
+  printed-by Tells SinkFault out out' trace a tells =
+      said-told (λ w. TakesPrefix out.bytes out'.bytes (text_of trace w)) (of-work (IsWritten Tells (TakesPrefix out.bytes out'.bytes) trace) (λ w. TakesPrefix out.bytes out'.bytes (text_of trace w)) (λ w h. h.told tells) (work_of has o sizes text) a.0)
+  printed-by Tells Usage out out' trace a tells = tt
+  printed-by Tells (Refused line reason) out out' trace a tells = tt
+  printed-by Tells (TooLarge line bytes) out out' trace a tells = tt
+  printed-by Tells (SwapTooSmall needed have) out out' trace a tells = tt
+  printed-by Tells (DiskFault number) out out' trace a tells = tt
+  printed-by Tells (Damaged number want found) out out' trace a tells = tt
+  printed-by Tells SourceFault out out' trace a tells = tt
+  printed-by Tells OutOfMemory out out' trace a tells = tt
+
+  -- ---- what a status means
+
+  abbrev work : WorkOrRefusal
+  work = work_of has o sizes text
+
+  module _ {D : Type 0} (disk : DiskOf D) (before after : Devices disk) (trace : List Event)
+      (read : IsRead before.source after.source) (end : length text ≤ text_limit → IsAtEnd after.source.bytes) where
+    abbrev asked : Asked
+    asked = told (option_map (work_of has o sizes) bytes)
+
+    holds : (P : Work → Type 0) → IsOkAnd work P → IfTold asked P
+    holds P h = told-of (λ w. IsOkAnd w P) h
+
+    whole : (Takes : List ℕ → Type 0) → IsOkAnd work (IsWritten (AllTell disk.held before.disks) Takes trace) → CountsStay disk.faults disk.mismatches before.disks after.disks → (AllTell disk.held before.disks → IsOkAnd work (λ w. HoldBlocks disk.held (program_of w) w.machine trace after.disks)) → RunIsWhole asked before after trace
+    whole Takes h stay blocks =
+        let W = IsWritten (AllTell disk.held before.disks) Takes trace in
         record {
-          printed = λ tells. holds (λ w. IsOkAnd w (λ v. Appends out.bytes out'.bytes (text_of trace v))) (where-told Tells (λ v. Appends out.bytes out'.bytes (text_of trace v)) asked printed tells);
-          each_task_ran_once = holds (λ w. IsOkAnd w (RanWhole trace)) (second-of P (RanWhole trace) asked a.0);
-          read = read;
-          read_to_the_end = end (short has text (job-ok o disks (job_of has text) (ok-of P asked printed)));
-          out_never_failed = a.1;
-        }
-    answered-by Usage a = a
-    answered-by (Refused line reason) a = record { cause = holds (λ w. w ≡ Err (record { line = line; reason = reason })) a.0; read = read; nothing_ran = a.1 }
-    answered-by (TooLarge line bytes) a = record { cause = holds (λ w. IsOkAnd w (λ v. IsTooLarge (program_of v) v.machine line bytes)) a.0; read = read; nothing_ran = a.1 }
-    answered-by (SwapTooSmall needed have) a = record { cause = holds (λ w. IsOkAnd w (λ v. IsSwapTooSmall (program_of v) v.machine needed have)) a.0; read = read; nothing_ran = a.1 }
-    answered-by (DiskFault disk) a = record { ran = holds (λ w. IsOkAnd w (BeganWork trace)) a; read = read }
-    answered-by (Damaged disk want found) a = record { ran = holds (λ w. IsOkAnd w (BeganWork trace)) a; read = read }
-    answered-by SourceFault a = absurd a
-    answered-by SinkFault a =
-        let P : Work → Type 0 = λ w. Tells → TakesPrefix out.bytes out'.bytes (text_of trace w) in
-        record {
-          cause = a.1;
-          front = λ tells. holds (λ w. IsOkAnd w (λ v. TakesPrefix out.bytes out'.bytes (text_of trace v))) (where-told Tells (λ v. TakesPrefix out.bytes out'.bytes (text_of trace v)) asked (first-of P (RanWhole trace) asked a.0) tells);
-          each_task_ran_once = holds (λ w. IsOkAnd w (RanWhole trace)) (second-of P (RanWhole trace) asked a.0);
+          had_room = holds HasRoom (of-work W HasRoom (λ w is. is.had_room) work h);
+          each_task_ran_once = holds (RanWhole trace) (of-work W (RanWhole trace) (λ w is. is.ran) work h);
+          no_disk_failed = stay;
+          blocks = λ tells. holds (λ w. HoldBlocks disk.held (program_of w) w.machine trace after.disks) (blocks tells);
           read = read;
         }
-    answered-by OutOfMemory a = record { ran = holds (Began trace) a; source_never_failed = read.never_failed }
 
-  -- what the source tells is silent where what was read of it is
-  pub silent-by : (bytes : Option (List ℕ)) (text : List ℕ) → IfSome bytes (λ whole. job_of has whole ≡ job_of has text) → TellsWork (option_map (work_of has o disks) bytes) PrintsNothing → IsOkAnd (work_of has o disks text) PrintsNothing
-  silent-by None text same h = absurd h
-  silent-by (Some whole) text same h = subst (λ (w : WorkOrRefusal). IsOkAnd w PrintsNothing) (ap (asked_by o disks) same) h
+    broken : IsOkAnd work (BrokeOff trace) → RunBrokeOff asked before after trace
+    broken h = record {
+      had_room = holds HasRoom (of-work (BrokeOff trace) HasRoom (λ w is. is.had_room) work h);
+      began = holds (BeganWork trace) (of-work (BrokeOff trace) (BeganWork trace) (λ w is. is.began) work h);
+      read = read;
+    }
+
+    began-asked : Began trace work → BeganAsked trace asked
+    began-asked h = by_bytes bytes same
+      where
+        by_bytes : (b : Option (List ℕ)) → IfSome b (λ text'. job_of has text' ≡ job_of has text) → BeganAsked trace (told (option_map (work_of has o sizes) b))
+        by_bytes None s = tt
+        by_bytes (Some text') s = subst (Began trace) (sym (ap (asked_by o sizes) s)) h
+
+    pub caused-by : (status : Status) → AnsweredText work (AllTell disk.held before.disks) status before.out after.out trace → LeavesDisks disk work status trace before.disks after.disks → HasCause asked before after trace status
+    caused-by Done a d = record {
+      run = whole (Appends before.out.bytes after.out.bytes) a.0 (d.counts_stay tt) (d.blocks tt);
+      read_to_the_end = end (short has text (job-ok o sizes (job_of has text) (ok-of (IsWritten (AllTell disk.held before.disks) (Appends before.out.bytes after.out.bytes) trace) work a.0)));
+      out_never_failed = a.1;
+    }
+    caused-by Usage a d = absurd a
+    caused-by (Refused line reason) a d = record { cause = told-of (λ w. w ≡ Err (record { line = line; reason = reason })) a.0; nothing_ran = record { no_event = a.1; read = read } }
+    caused-by (TooLarge line bytes) a d = record { cause = holds (λ w. IsTooLarge (program_of w) w.machine line bytes) a.0; nothing_ran = record { no_event = a.1; read = read } }
+    caused-by (SwapTooSmall needed have) a d = record { cause = holds (λ w. IsSwapTooSmall (program_of w) w.machine needed have) a.0; nothing_ran = record { no_event = a.1; read = read } }
+    caused-by (DiskFault number) a d = record { cause = d.fault number refl; run = broken a }
+    caused-by (Damaged number want found) a d =
+        let damage = d.damage number want found refl in
+        record { cause = damage.count_rose; other_header = damage.other_header; untold = damage.untold; run = broken a }
+    caused-by SourceFault a d = absurd a
+    caused-by SinkFault a d = record { cause = a.1; run = whole (TakesPrefix before.out.bytes after.out.bytes) a.0 (d.counts_stay tt) (d.blocks tt) }
+    caused-by OutOfMemory a d = record { began = began-asked a; source_never_failed = read.never_failed }
 
 -- memory ran out before anything was read, or in reading
-pub unread-memory : (asked : Option WorkOrRefusal) (source source' : Device) (trace : List Event) → trace ≡ [] → source'.faults ≡ source.faults → MemoryRanOut asked source source' trace
-unread-memory asked source source' trace e same = record { ran = by_asked asked; source_never_failed = same }
+pub unread-memory : {D : Type 0} {disk : DiskOf D} (asked : Asked) (before after : Devices disk) (trace : List Event) → trace ≡ [] → after.source.faults ≡ before.source.faults → MemoryRanOut asked before after trace
+unread-memory asked before after trace e same = record { began = by_asked asked; source_never_failed = same }
   where
-    by_asked : (a : Option WorkOrRefusal) → IfSome a (Began trace)
-    by_asked None = tt
-    by_asked (Some w) = began_empty w trace e
-
--- ---- which statuses come
-
--- of work that is told, what is true of any
-meets : (P Q : Work → Type 0) (asked : Option WorkOrRefusal) → TellsWork asked P → OfWork asked Q → ((w : Work) → P w → Q w → ⊥) → ⊥
-meets P Q None p q never = p
-meets P Q (Some (Ok w)) p q never = never w p q
-meets P Q (Some (Err e)) p q never = p
-
-refused-told : (P : Work → Type 0) (asked : Option WorkOrRefusal) (e : Refusal) → TellsWork asked P → IfSome asked (λ w. w ≡ Err e) → ⊥
-refused-told P None e p h = p
-refused-told P (Some (Ok w)) e p h = cc
-refused-told P (Some (Err f)) e p h = p
+    by_asked : (a : Asked) → BeganAsked trace a
+    by_asked Unaccepted = e
+    by_asked Untold = tt
+    by_asked (Told w) = began_empty w trace e
 
 -- ---- what was written
 
 pub text-answered : (asked : WorkOrRefusal) (Tells : Type 0) (text : List ℕ) (trace : List Event) (status : Status) (out out' : Device) → IsOkAnd asked (IsTextOf Tells trace text) → WritesText text status out out' → AnsweredText asked Tells status out out' trace
-text-answered (Ok w) Tells text trace Done out out' is written = ((λ tells. subst (Appends out.bytes out'.bytes) (is.told tells) written.0, is.ran), written.1)
-text-answered (Ok w) Tells text trace SinkFault out out' is written = ((λ tells. subst (TakesPrefix out.bytes out'.bytes) (is.told tells) written.0, is.ran), written.1)
+text-answered (Ok w) Tells text trace Done out out' is written = (record { told = λ tells. subst (Appends out.bytes out'.bytes) (is.told tells) written.0; had_room = is.had_room; ran = is.ran }, written.1)
+text-answered (Ok w) Tells text trace SinkFault out out' is written = (record { told = λ tells. subst (TakesPrefix out.bytes out'.bytes) (is.told tells) written.0; had_room = is.had_room; ran = is.ran }, written.1)
 text-answered (Err e) Tells text trace status out out' is written = absurd is
 text-answered (Ok w) Tells text trace Usage out out' is written = absurd written
 text-answered (Ok w) Tells text trace (Refused line reason) out out' is written = absurd written
@@ -146,45 +197,70 @@ text-answered (Ok w) Tells text trace SourceFault out out' is written = absurd w
 text-answered (Ok w) Tells text trace OutOfMemory out out' is written = absurd written
 
 pub stop-answered : (asked : WorkOrRefusal) (Tells : Type 0) (stop : Stop) (trace : List Event) (out : Device) → StopsWith asked stop trace → AnsweredText asked Tells (status_of_stop stop) out out trace
-stop-answered asked Tells (stops.Refused line reason) trace out h = h
-stop-answered asked Tells (stops.TooLarge line bytes) trace out h = h
-stop-answered asked Tells (stops.SwapTooSmall needed have) trace out h = h
-stop-answered asked Tells (stops.DiskFault disk) trace out h = h
-stop-answered asked Tells (stops.Damaged disk want found) trace out h = h
+stop-answered asked Tells (stops.Unready (preparing.Refused line reason)) trace out h = h
+stop-answered asked Tells (stops.Unready (preparing.Short (fitting.TooLarge line bytes))) trace out h = h
+stop-answered asked Tells (stops.Unready (preparing.Short (fitting.SwapTooSmall needed have))) trace out h = h
+stop-answered asked Tells (stops.Unready (preparing.Short fitting.OutOfMemory)) trace out h = began_empty asked trace h.1
+stop-answered asked Tells (stops.Unready preparing.OutOfMemory) trace out h = began_empty asked trace h.1
+stop-answered asked Tells (stops.Broken (running.DiskFault disk)) trace out h = h
+stop-answered asked Tells (stops.Broken (running.Damaged disk want found)) trace out h = h
+stop-answered asked Tells (stops.Broken running.OutOfMemory) trace out h = broke-began asked trace h
 stop-answered asked Tells stops.OutOfMemory trace out h = h
 
--- a text that isn't there isn't written
-pub silent-text : (asked : WorkOrRefusal) (Tells : Type 0) (trace : List Event) (text : List ℕ) → IsOkAnd asked (IsTextOf Tells trace text) → IsOkAnd asked PrintsNothing → text ≡ []
-silent-text (Ok w) Tells trace text is nothing = is.silent nothing
-silent-text (Err e) Tells trace text is nothing = absurd is
+-- where nothing is printed there is no text
+pub silent-text : (asked : WorkOrRefusal) (Tells : Type 0) (trace : List Event) (text : List ℕ) (status : Status) (out out' : Device) → IsOkAnd asked (IsTextOf Tells trace text) → WritesText text status out out' → IsSilent (Told asked) status → text ≡ []
+silent-text (Ok w) Tells trace text Done out out' is written nothing = is.silent nothing
+silent-text (Ok w) Tells trace text SinkFault out out' is written nothing = is.silent nothing
+silent-text (Err e) Tells trace text status out out' is written nothing = absurd is
+silent-text (Ok w) Tells trace text Usage out out' is written nothing = absurd written
+silent-text (Ok w) Tells trace text (Refused line reason) out out' is written nothing = absurd written
+silent-text (Ok w) Tells trace text (TooLarge line bytes) out out' is written nothing = absurd written
+silent-text (Ok w) Tells trace text (SwapTooSmall needed have) out out' is written nothing = absurd written
+silent-text (Ok w) Tells trace text (DiskFault disk) out out' is written nothing = absurd written
+silent-text (Ok w) Tells trace text (Damaged disk want found) out out' is written nothing = absurd written
+silent-text (Ok w) Tells trace text SourceFault out out' is written nothing = absurd written
+silent-text (Ok w) Tells trace text OutOfMemory out out' is written nothing = absurd written
 
 -- ---- completeness
 
+-- what has room lacks nothing
+lacks-nothing : (what : Shortage) → (what ≡ fitting.OutOfMemory → ⊥) → (asked : Asked) → CanBeRun asked → IfTold asked (λ w. IsShortage (program_of w) w.machine what) → ⊥
+lacks-nothing what other (Told (Ok w)) room h = other (room-no-shortage w what room h)
+lacks-nothing what other (Told (Err e)) room h = absurd room
+lacks-nothing what other Untold room h = absurd room
+lacks-nothing what other Unaccepted room h = absurd room
+
+not-refused : (asked : Asked) (e : Refusal) → CanBeRun asked → IfAsked asked (λ w. w ≡ Err e) → ⊥
+not-refused (Told (Ok w)) e room h = cc
+not-refused (Told (Err f)) e room h = room
+not-refused Untold e room h = room
+not-refused Unaccepted e room h = room
+
+not-unaccepted : (asked : Asked) → CanBeRun asked → asked ≡ Unaccepted → ⊥
+not-unaccepted asked room e = subst CanBeRun e room
+
 -- a job that can be run, on devices that don't fail, is done, unless memory runs out
-pub complete-by : {D : Type 0} (size faults mismatches : D → ℕ) (held : D → Option (List ℕ)) (asked : Option WorkOrRefusal) (Tells : Type 0) (status : Status) (source source' out out' : Device) (trace : List Event) (old new : List D) → Answered asked Tells status source source' out out' trace → LeavesDisks size faults mismatches held asked status trace old new → CanBeRun asked → (Rose source.faults source'.faults → ⊥) → (Rose out.faults out'.faults → ⊥) → NoneRose (map faults old) (map faults new) → NoneRose (map mismatches old) (map mismatches new) → IsDoneOrOutOfMemory status
-complete-by size faults mismatches held asked Tells Done source source' out out' trace old new a d can s k f m = tt
-complete-by size faults mismatches held asked Tells Usage source source' out out' trace old new a d can s k f m = absurd a
-complete-by size faults mismatches held asked Tells (Refused line reason) source source' out out' trace old new a d can s k f m = absurd (refused-told _ asked _ can a.cause)
-complete-by size faults mismatches held asked Tells (TooLarge line bytes) source source' out out' trace old new a d can s k f m = absurd (meets _ _ asked can a.cause (λ w fits large. too-large-fits (program_of w) w.machine line bytes fits.0 large))
-complete-by size faults mismatches held asked Tells (SwapTooSmall needed have) source source' out out' trace old new a d can s k f m = absurd (meets _ _ asked can a.cause (λ w fits small. none-some-placed (place (program_of w) w.machine.disks) small.has_no_places fits.1.blocks_fit))
-complete-by size faults mismatches held asked Tells (DiskFault disk) source source' out out' trace old new a d can s k f m = absurd (f disk.0 (d.fault disk refl))
-complete-by size faults mismatches held asked Tells (Damaged disk want found) source source' out out' trace old new a d can s k f m = absurd (m disk.0 (d.damage disk want found refl).count_rose)
-complete-by size faults mismatches held asked Tells SourceFault source source' out out' trace old new a d can s k f m = absurd (s a.cause.count_rose)
-complete-by size faults mismatches held asked Tells SinkFault source source' out out' trace old new a d can s k f m = absurd (k a.cause.count_rose)
-complete-by size faults mismatches held asked Tells OutOfMemory source source' out out' trace old new a d can s k f m = tt
+pub done-by : {D : Type 0} {disk : DiskOf D} (asked : Asked) (before after : Devices disk) (trace : List Event) (status : Status) → HasCause asked before after trace status → CanBeRun asked → NothingFailed before after → IsDoneOrOutOfMemory status
+done-by asked before after trace Done a room well = tt
+done-by asked before after trace Usage a room well = absurd (not-unaccepted asked room a.cause)
+done-by asked before after trace (Refused line reason) a room well = absurd (not-refused asked _ room a.cause)
+done-by asked before after trace (TooLarge line bytes) a room well = absurd (lacks-nothing (fitting.TooLarge line bytes) (λ e. the ⊥ cc) asked room a.cause)
+done-by asked before after trace (SwapTooSmall needed have) a room well = absurd (lacks-nothing (fitting.SwapTooSmall needed have) (λ e. the ⊥ cc) asked room a.cause)
+done-by asked before after trace (DiskFault number) a room well = absurd (well.faults number.0 a.cause)
+done-by asked before after trace (Damaged number want found) a room well = absurd (well.mismatches number.0 a.cause)
+done-by asked before after trace SourceFault a room well = absurd (well.source a.cause.count_rose)
+done-by asked before after trace SinkFault a room well = absurd (well.out a.cause.count_rose)
+done-by asked before after trace OutOfMemory a room well = tt
 
--- ---- from the answer to the words, to the clauses of the call
+-- ---- from the answer to a text, to the words
 
-pub not-usage : (asked : Option WorkOrRefusal) (Tells : Type 0) (status : Status) (source source' out out' : Device) (trace : List Event) → Answered asked Tells status source source' out out' trace → status ≡ Usage → ⊥
-not-usage asked Tells status source source' out out' trace a e = subst (λ (s : Status). Answered asked Tells s source source' out out' trace) e a
-
-pub broken-by : (asked : Option WorkOrRefusal) (Tells : Type 0) (status : Status) (source source' out out' : Device) (trace : List Event) (disk : DiskNo) → (status ≢ Usage → Answered asked Tells status source source' out out' trace) → status ≡ DiskFault disk → RunBrokeOff asked source source' trace
-broken-by asked Tells status source source' out out' trace disk a e = subst (λ (s : Status). Answered asked Tells s source source' out out' trace) e (a (λ u. the ⊥ cc))
-
-pub damaged-by : (asked : Option WorkOrRefusal) (Tells : Type 0) (status : Status) (source source' out out' : Device) (trace : List Event) (disk : DiskNo) (want found : Header) → (status ≢ Usage → Answered asked Tells status source source' out out' trace) → status ≡ Damaged disk want found → RunBrokeOff asked source source' trace
-damaged-by asked Tells status source source' out out' trace disk want found a e = subst (λ (s : Status). Answered asked Tells s source source' out out' trace) e (a (λ u. the ⊥ cc))
-
--- where work can be run the words are accepted
-pub accepted : (has : Kernel → Bool) (o : Option Options) (sizes : List ℕ) (bytes : Option (List ℕ)) → CanBeRun (work_told has o sizes bytes) → o ≡ None → ⊥
-accepted has None sizes bytes can e = can
-accepted has (Some options) sizes bytes can e = cc
+-- where the words are accepted it isn't Usage
+pub not-usage : {D : Type 0} {disk : DiskOf D} (asked : Option WorkOrRefusal) (before after : Devices disk) (trace : List Event) (status : Status) → HasCause (told asked) before after trace status → status ≡ Usage → ⊥
+not-usage None before after trace status a e = by_cause (subst (HasCause Untold before after trace) e a).cause
+  where
+    by_cause : Untold ≡ Unaccepted → ⊥
+    by_cause c = cc
+not-usage (Some w) before after trace status a e = by_cause (subst (HasCause (Told w) before after trace) e a).cause
+  where
+    by_cause : Told w ≡ Unaccepted → ⊥
+    by_cause c = cc

@@ -5,7 +5,6 @@ pub mod Gathering
 pub mod Output
 pub mod Report
 pub mod Status
-pub mod Stops
 pub mod Streams
 pub mod Top
 pub mod Traces

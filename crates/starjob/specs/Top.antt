@@ -1,117 +1,143 @@
--- What the program's call promises, by how it ended. What was asked for is work or a refusal, where words and source tell it.
-use Rattle.std.specs.Prelude.{◌≡◌, ◌≢◌, ℕ, false, Option, IfSome, Err, List, [], ◌++◌, if◌then◌else◌}
+-- What the program's call promises: what it prints, what each status means, and which statuses come.
+use Rattle.std.specs.Prelude.{◌≡◌, ◌≢◌, ℕ, false, Err, List, [], ◌++◌, if◌then◌else◌, map}
 use Rattle.std.specs.Io.KnownBytes.{Appends, IsAtEnd}
 use Rattle.sj_base.specs.declared.ids.DiskNo.{DiskNo}
 use Rattle.sj_base.specs.declared.ids.Line.{Line}
 use Rattle.sj_base.specs.declared.trace.Event.{Event}
-use Rattle.sj_core.specs.Proper.{HasSwapFor}
 use Rattle.sj_disk.specs.declared.header.Header.{Header}
+use Rattle.sj_disk.specs.Holding.{CountsStay}
+use Rattle.sj_edge.specs.declared.disk.Disk.{Ghosts as DiskOf}
+use Rattle.sj_edge.specs.Faults.{Rose}
+use Rattle.sj_edge.specs.GivenBack.{AreGivenBack, AreUntouched}
+use Rattle.sj_engine.specs.Outcome.{AllTell, HoldBlocks}
 use Rattle.sj_job.specs.declared.reason.Reason.{Reason}
 use Rattle.sj_job.specs.Meaning.{printed}
-use Rattle.sj_needs.specs.Shortage.{FitRoom, IsSwapTooSmall, IsTooLarge}
+use Rattle.sj_needs.specs.Shortage.{IsSwapTooSmall, IsTooLarge}
+use Rattle.sj_ready.specs.Work.{HasRoom, Work, program_of}
 use Rattle.sj_trace.specs.Text.{text_of as text_of_trace}
+use Rattle.sj_words.specs.Spelling.{Text}
 use Rattle.starjob.specs.declared.status.Status.{Status}
-use Rattle.starjob.specs.declared.status.Status.TheVariants.{Done, Usage, Refused, TooLarge, SwapTooSmall, SourceFault, SinkFault, OutOfMemory}
-use Rattle.starjob.specs.Device.{Device, HasFailed}
-use Rattle.starjob.specs.Disks.{RoseAt}
+use Rattle.starjob.specs.declared.status.Status.TheVariants.{Done, Usage, Refused, TooLarge, SwapTooSmall, DiskFault, Damaged, SourceFault, SinkFault, OutOfMemory}
+use Rattle.starjob.specs.Device.{Device, Devices, HasFailed}
+use Rattle.starjob.specs.Disks.{NoneRose, RoseAt}
 use Rattle.starjob.specs.Output.{output}
 use Rattle.starjob.specs.Streams.{IsRead, TakesPrefix}
-use Rattle.starjob.specs.Traces.{Began, BeganWork, RanWhole}
-use Rattle.sj_ready.specs.Work.{Work, WorkOrRefusal, program_of}
-use Rattle.starjob.specs.Work.{OfWork, TellsWork}
+use Rattle.starjob.specs.Traces.{BeganAsked, BeganWork, RanWhole}
+use Rattle.starjob.specs.Work.{Asked, Unaccepted, IfAsked, IfTold, IsToldAnd, asked_of, said_of}
+
+-- ---- what is printed
 
 -- the text of what the statements print when they are run one after another on plain arrays, and that of the trace where it is
 -- asked for
 abbrev pub text_of : List Event → Work → List ℕ
 text_of trace w = output (printed w.statements) ++ (if w.shows_trace then text_of_trace trace else [])
 
--- ---- a status and what it says
+-- the sink took this text: the whole of it where the job is done, and a front of it where a call of the sink failed
+abbrev pub TakesText : Asked → Status → Device → Device → List Event → Type 0
+TakesText said Done out out' trace = IfTold said (λ w. Appends out.bytes out'.bytes (text_of trace w))
+TakesText said SinkFault out out' trace = IfTold said (λ w. TakesPrefix out.bytes out'.bytes (text_of trace w))
+TakesText said _ out out' trace = Unit {0}
 
--- the text was written, each task ran once, and neither source nor sink failed
-pub record JobIsDone (asked : Option WorkOrRefusal) (Tells : Type 0) (source source' out out' : Device) (trace : List Event) : Type 0 where
-  pub printed : Tells → OfWork asked (λ w. Appends out.bytes out'.bytes (text_of trace w))
-  pub each_task_ran_once : OfWork asked (RanWhole trace)
-  pub read : IsRead source source'
-  pub read_to_the_end : IsAtEnd source'.bytes
-  pub out_never_failed : out'.faults ≡ out.faults
+-- ---- what a status means
 
--- this is the job's first bad line and the first reason against it, or the limit that it exceeds and the line that first does
-pub record JobIsRefused (asked : Option WorkOrRefusal) (line : Line) (reason : Reason) (source source' : Device) (trace : List Event) : Type 0 where
-  pub cause : IfSome asked (λ w. w ≡ Err (record { line = line; reason = reason }))
-  pub read : IsRead source source'
-  pub nothing_ran : trace ≡ []
+module _ {D : Type 0} {disk : DiskOf D} (asked : Asked) (before after : Devices disk) (trace : List Event) where
+  -- the run came to its end: there was room, each task ran once, no disk failed, and the blocks are on the disks
+  pub record RunIsWhole : Type 0 where
+    pub had_room : IfTold asked HasRoom
+    pub each_task_ran_once : IfTold asked (RanWhole trace)
+    pub no_disk_failed : CountsStay disk.faults disk.mismatches before.disks after.disks
+    pub blocks : AllTell disk.held before.disks → IfTold asked (λ w. HoldBlocks disk.held (program_of w) w.machine trace after.disks)
+    pub read : IsRead before.source after.source
 
--- this is the line and the need of the first task that fits no node with a worker
-pub record JobIsTooLarge (asked : Option WorkOrRefusal) (line : Line) (bytes : ℕ) (source source' : Device) (trace : List Event) : Type 0 where
-  pub cause : OfWork asked (λ w. IsTooLarge (program_of w) w.machine line bytes)
-  pub read : IsRead source source'
-  pub nothing_ran : trace ≡ []
+  -- the run broke off: there was room, and its events begin a legal run
+  pub record RunBrokeOff : Type 0 where
+    pub had_room : IfTold asked HasRoom
+    pub began : IfTold asked (BeganWork trace)
+    pub read : IsRead before.source after.source
 
--- the blocks have no places on the disks: this is what they need, and what the disks have
-pub record SwapIsTooSmall (asked : Option WorkOrRefusal) (needed have : ℕ) (source source' : Device) (trace : List Event) : Type 0 where
-  pub cause : OfWork asked (λ w. IsSwapTooSmall (program_of w) w.machine needed have)
-  pub read : IsRead source source'
-  pub nothing_ran : trace ≡ []
+  -- nothing ran, though the source was read
+  pub record NothingRan : Type 0 where
+    pub no_event : trace ≡ []
+    pub read : IsRead before.source after.source
 
--- the run broke off: its events begin a legal run
-pub record RunBrokeOff (asked : Option WorkOrRefusal) (source source' : Device) (trace : List Event) : Type 0 where
-  pub ran : OfWork asked (BeganWork trace)
-  pub read : IsRead source source'
+  -- the source was read to its end, each task ran once, and neither source, sink nor disk failed
+  pub record JobIsDone : Type 0 where
+    pub run : RunIsWhole
+    pub read_to_the_end : IsAtEnd after.source.bytes
+    pub out_never_failed : after.out.faults ≡ before.out.faults
 
--- the disk's count of faults rose
-pub record DiskHasFailed (asked : Option WorkOrRefusal) (disk : DiskNo) (faults faults' : List ℕ) (source source' : Device) (trace : List Event) : Type 0 where
-  pub cause : RoseAt disk.0 faults faults'
-  pub run : RunBrokeOff asked source source' trace
+  -- the words aren't accepted, and nothing ran
+  pub record WordsAreUnaccepted : Type 0 where
+    pub cause : asked ≡ Unaccepted
+    pub nothing_ran : trace ≡ []
 
--- the disk's count of mismatches rose, where another header was found than the one wanted; never where all disks tell
-pub record DiskIsDamaged (asked : Option WorkOrRefusal) (disk : DiskNo) (want found : Header) (Tells : Type 0) (mismatches mismatches' : List ℕ) (source source' : Device) (trace : List Event) : Type 0 where
-  pub cause : RoseAt disk.0 mismatches mismatches'
-  pub other_header : want ≢ found
-  pub untold : ¬ Tells
-  pub run : RunBrokeOff asked source source' trace
+  -- this is the job's first bad line and the first reason against it, or the limit that it exceeds and the line that first does
+  pub record JobIsRefused (line : Line) (reason : Reason) : Type 0 where
+    pub cause : IfAsked asked (λ w. w ≡ Err (record { line = line; reason = reason }))
+    pub nothing_ran : NothingRan
 
--- a call of the source failed, and no other was made behind it
-pub record SourceHasFailed (source source' : Device) (trace : List Event) : Type 0 where
-  pub cause : HasFailed source source'
-  pub nothing_ran : trace ≡ []
+  -- this is the line and the need of the first task that fits no node with a worker
+  pub record JobIsTooLarge (line : Line) (bytes : ℕ) : Type 0 where
+    pub cause : IfTold asked (λ w. IsTooLarge (program_of w) w.machine line bytes)
+    pub nothing_ran : NothingRan
 
--- a call of the sink failed, which took a front of the text; each task had run once
-pub record SinkHasFailed (asked : Option WorkOrRefusal) (Tells : Type 0) (source source' out out' : Device) (trace : List Event) : Type 0 where
-  pub cause : HasFailed out out'
-  pub front : Tells → OfWork asked (λ w. TakesPrefix out.bytes out'.bytes (text_of trace w))
-  pub each_task_ran_once : OfWork asked (RanWhole trace)
-  pub read : IsRead source source'
+  -- the blocks have no places on the disks: this is what they need, and what the disks have
+  pub record SwapIsTooSmall (needed have : ℕ) : Type 0 where
+    pub cause : IfTold asked (λ w. IsSwapTooSmall (program_of w) w.machine needed have)
+    pub nothing_ran : NothingRan
 
--- an allocation was refused, with the trace of a run as far as it came
-pub record MemoryRanOut (asked : Option WorkOrRefusal) (source source' : Device) (trace : List Event) : Type 0 where
-  pub ran : IfSome asked (Began trace)
-  pub source_never_failed : source'.faults ≡ source.faults
+  -- the disk's count of faults rose
+  pub record DiskHasFailed (number : DiskNo) : Type 0 where
+    pub cause : RoseAt number.0 (map disk.faults before.disks) (map disk.faults after.disks)
+    pub run : RunBrokeOff
+
+  -- the disk's count of mismatches rose, where another header was found than the one wanted; never where all disks tell
+  pub record DiskIsDamaged (number : DiskNo) (want found : Header) : Type 0 where
+    pub cause : RoseAt number.0 (map disk.mismatches before.disks) (map disk.mismatches after.disks)
+    pub other_header : want ≢ found
+    pub untold : ¬ AllTell disk.held before.disks
+    pub run : RunBrokeOff
+
+  -- a call of the source failed, and no other was made behind it
+  pub record SourceHasFailed : Type 0 where
+    pub cause : HasFailed before.source after.source
+    pub nothing_ran : trace ≡ []
+
+  -- a call of the sink failed, when each task had run once
+  pub record SinkHasFailed : Type 0 where
+    pub cause : HasFailed before.out after.out
+    pub run : RunIsWhole
+
+  -- an allocation was refused, with the trace of a run as far as it came
+  pub record MemoryRanOut : Type 0 where
+    pub began : BeganAsked trace asked
+    pub source_never_failed : after.source.faults ≡ before.source.faults
+
+  -- a call that ended so had this cause
+  abbrev pub HasCause : Status → Type 0
+  HasCause Done = JobIsDone
+  HasCause Usage = WordsAreUnaccepted
+  HasCause (Refused line reason) = JobIsRefused line reason
+  HasCause (TooLarge line bytes) = JobIsTooLarge line bytes
+  HasCause (SwapTooSmall needed have) = SwapIsTooSmall needed have
+  HasCause (DiskFault number) = DiskHasFailed number
+  HasCause (Damaged number want found) = DiskIsDamaged number want found
+  HasCause SourceFault = SourceHasFailed
+  HasCause SinkFault = SinkHasFailed
+  HasCause OutOfMemory = MemoryRanOut
 
 -- ---- which statuses come
 
--- the work isn't refused, each task fits a node with a worker, and the blocks have their places on the disks
-abbrev pub CanBeRun : Option WorkOrRefusal → Type 0
-CanBeRun asked = TellsWork asked (λ w. FitRoom (program_of w) w.machine × HasSwapFor (program_of w) w.machine)
+-- no count of a device rose
+pub record NothingFailed {D : Type 0} {disk : DiskOf D} (before after : Devices disk) : Type 0 where
+  pub source : ¬ Rose before.source.faults after.source.faults
+  pub out : ¬ Rose before.out.faults after.out.faults
+  pub faults : NoneRose (map disk.faults before.disks) (map disk.faults after.disks)
+  pub mismatches : NoneRose (map disk.mismatches before.disks) (map disk.mismatches after.disks)
 
--- the statements print nothing, and the trace isn't asked for
-pub record PrintsNothing (w : Work) : Type 0 where
-  pub no_array : printed w.statements ≡ []
-  pub no_trace : w.shows_trace ≡ false
-
--- nothing was written yet, nor the sink called
-abbrev pub IsBeforeWriting : Status → Type 0
-IsBeforeWriting Done = ⊥
-IsBeforeWriting SinkFault = ⊥
-IsBeforeWriting _ = Unit {0}
-
--- the run hadn't begun, nor any call of a disk but that of its size
-abbrev pub IsBeforeTheRun : Status → Type 0
-IsBeforeTheRun Usage = Unit {0}
-IsBeforeTheRun (Refused line reason) = Unit {0}
-IsBeforeTheRun (TooLarge line bytes) = Unit {0}
-IsBeforeTheRun (SwapTooSmall needed have) = Unit {0}
-IsBeforeTheRun SourceFault = Unit {0}
-IsBeforeTheRun _ = ⊥
+-- the work is told, isn't refused, and the machine has room for it
+abbrev pub CanBeRun : Asked → Type 0
+CanBeRun asked = IsToldAnd asked HasRoom
 
 abbrev pub IsDoneOrOutOfMemory : Status → Type 0
 IsDoneOrOutOfMemory Done = Unit {0}
@@ -122,3 +148,49 @@ abbrev pub IsUsageOrOutOfMemory : Status → Type 0
 IsUsageOrOutOfMemory Usage = Unit {0}
 IsUsageOrOutOfMemory OutOfMemory = Unit {0}
 IsUsageOrOutOfMemory _ = ⊥
+
+-- ---- what stays
+
+-- the statements print nothing, and the trace isn't asked for
+pub record PrintsNothing (w : Work) : Type 0 where
+  pub no_array : printed w.statements ≡ []
+  pub no_trace : w.shows_trace ≡ false
+
+-- there was nothing to write: the status comes before writing, or the work prints nothing
+abbrev pub IsSilent : Asked → Status → Type 0
+IsSilent asked Done = IsToldAnd asked PrintsNothing
+IsSilent asked SinkFault = IsToldAnd asked PrintsNothing
+IsSilent asked _ = Unit {0}
+
+-- the run hadn't begun, nor any call of a disk but that of its size
+abbrev pub IsBeforeTheRun : Status → Type 0
+IsBeforeTheRun Usage = Unit {0}
+IsBeforeTheRun (Refused line reason) = Unit {0}
+IsBeforeTheRun (TooLarge line bytes) = Unit {0}
+IsBeforeTheRun (SwapTooSmall needed have) = Unit {0}
+IsBeforeTheRun SourceFault = Unit {0}
+IsBeforeTheRun _ = ⊥
+
+-- the disks come back in their order, each with its size and no count lower; before the run no call of them is made
+pub record ComeBack {D : Type 0} (disk : DiskOf D) (old new : List D) (status : Status) : Type 0 where
+  pub given_back : AreGivenBack disk.size disk.faults disk.mismatches disk.held old new
+  pub untouched : IsBeforeTheRun status → AreUntouched disk.size disk.faults disk.mismatches disk.held old new
+
+-- ---- the same by the words of a command line
+
+module _ {D : Type 0} {disk : DiskOf D} (words : List Text) (before : Devices disk) where
+  -- where all disks tell, the sink took the text of what the job says
+  abbrev pub Prints : Devices disk → Status → List Event → Type 0
+  Prints after status trace = AllTell disk.held before.disks → TakesText (said_of words before) status before.out after.out trace
+
+  -- the status has its cause, in what is asked for or in a device
+  abbrev pub Answers : Devices disk → Status → List Event → Type 0
+  Answers after status trace = HasCause (asked_of words before) before after trace status
+
+  -- what is asked for can be run, and nothing failed
+  abbrev pub CanBeDone : Devices disk → Type 0
+  CanBeDone after = CanBeRun (asked_of words before) × NothingFailed before after
+
+  -- there is nothing to write
+  abbrev pub WritesNothing : Status → Type 0
+  WritesNothing status = IsSilent (asked_of words before) status

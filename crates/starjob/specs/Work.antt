@@ -1,24 +1,51 @@
 -- What the call is asked to do, by the words of its command line, a job text and the sizes of its disks.
-use Rattle.std.specs.Prelude.{ℕ, Bool, Option, IfSome, IsSomeAnd, IsOkAnd, List, option_and_then, option_map}
-use Rattle.sj_codelet.specs.declared.kernel.Kernel.{Kernel}
+use Rattle.std.specs.Prelude.{ℕ, Option, Some, None, IsOkAnd, List, map, option_map}
 use Rattle.sj_minplus.specs.Has.{library_has}
-use Rattle.sj_ready.specs.Work.{Work, WorkOrRefusal, work_of}
+use Rattle.sj_ready.specs.Work.{Work, WorkOrRefusal, work_of, work_said}
 use Rattle.sj_words.specs.Options.{options}
 use Rattle.sj_words.specs.Spelling.{Text}
 use Rattle.sj_words.specs.declared.options.Options.{Options}
+use Rattle.starjob.specs.Device.{Devices, sizes}
+use Rattle.sj_edge.specs.declared.disk.Disk.{Ghosts as DiskOf}
 
--- what is asked for, where the words are accepted and the source tells its bytes
-abbrev pub work_told : (Kernel → Bool) → Option Options → List ℕ → Option (List ℕ) → Option WorkOrRefusal
-work_told has o disks source = option_and_then (λ said. option_map (work_of has said disks) source) o
+-- what is asked for: nothing, by words that aren't accepted; where the source doesn't tell its bytes, it isn't told; and else it
+-- is work, or the refusal of the job text
+pub data Asked : Type 0 where
+  Unaccepted : Asked
+  Untold : Asked
+  Told : WorkOrRefusal → Asked
 
--- what is asked for by the words of a command line and a job text, of the codelets of the program and disks with these sizes
-abbrev pub asked_of : List Text → List ℕ → Option (List ℕ) → Option WorkOrRefusal
-asked_of words sizes source = work_told library_has (options words) sizes source
+-- of a source that may not tell
+abbrev pub told : Option WorkOrRefusal → Asked
+told None = Untold
+told (Some w) = Told w
 
--- of the work that is asked for, where that is told and isn't refused, this is true
-abbrev pub OfWork : Option WorkOrRefusal → (Work → Type 0) → Type 0
-OfWork asked P = IfSome asked (λ w. IsOkAnd w P)
+-- what is asked for through options and a text, of which the first function says what they come to
+abbrev pub asked_through : (Options → List ℕ → WorkOrRefusal) → Option Options → Option (List ℕ) → Asked
+asked_through reading None source = Unaccepted
+asked_through reading (Some o) source = told (option_map (reading o) source)
 
--- work is told, isn't refused, and this is true of it
-abbrev pub TellsWork : Option WorkOrRefusal → (Work → Type 0) → Type 0
-TellsWork asked P = IsSomeAnd asked (λ w. IsOkAnd w P)
+module _ {D : Type 0} {disk : DiskOf D} (words : List Text) (before : Devices disk) where
+  -- what the words and the job text say, by themselves
+  abbrev pub said_of : Asked
+  said_of = asked_through (λ o. work_said library_has o (sizes before)) (options words) before.source.bytes
+
+  -- what they ask for: what they say, within the limits of lowering
+  abbrev pub asked_of : Asked
+  asked_of = asked_through (λ o. work_of library_has o (sizes before)) (options words) before.source.bytes
+
+-- if it is told, then this is true of it; and words that aren't accepted are excluded
+abbrev pub IfAsked : Asked → (WorkOrRefusal → Type 0) → Type 0
+IfAsked Unaccepted P = ⊥
+IfAsked Untold P = Unit {0}
+IfAsked (Told w) P = P w
+
+-- if it is told, then it is work, and this is true of it
+abbrev pub IfTold : Asked → (Work → Type 0) → Type 0
+IfTold asked P = IfAsked asked (λ w. IsOkAnd w P)
+
+-- it is told, and it is work, and this is true of it
+abbrev pub IsToldAnd : Asked → (Work → Type 0) → Type 0
+IsToldAnd Unaccepted P = ⊥
+IsToldAnd Untold P = ⊥
+IsToldAnd (Told w) P = IsOkAnd w P

@@ -1,7 +1,6 @@
 //! The run of a job, and the text that it gives.
 
-ghost use Rattle.std.specs.Prelude.{◌≡◌, ◌≤◌, ◌^◌, ◌++◌, [], Err, IfOk, Some, length, map, if◌then◌else◌};
-ghost use Rattle.sj_core.specs.Proper.{HasSwapFor};
+ghost use Rattle.std.specs.Prelude.{◌≡◌, ◌≤◌, ◌^◌, ◌++◌, [], Err, IfOk, length, map, if◌then◌else◌};
 ghost use Rattle.sj_edge.specs.Sizes.{AreWithin};
 ghost use Rattle.sj_trace.specs.Text.{text_of as text_of_trace};
 ghost use Rattle.sj_words.specs.Options.{IsWithinLimits as AreLimited};
@@ -101,12 +100,11 @@ fn run_ready<C: Codelets, G: Gate, D: Disk + Send, R: Threads + Wait + Sync>(
     gate: &G,
 ) -> Run<D>
     requires ready { (asked : WorkOrRefusal) × IsReady C.has asked ready }
-    requires swap { HasSwapFor ready.program.value ready.machine }
     requires disks { ready.machine.disks ≡ map D.size disks.items }
     ensures runs { (asked : WorkOrRefusal) → IsReady C.has asked ready →
         RunsWork asked (AllTell D.held disks.items) result.text result.trace.events }
     ensures disks { (asked : WorkOrRefusal) → IsReady C.has asked ready →
-        LeavesDisks D.size D.faults D.mismatches D.held (Some asked) (status_of result.text)
+        LeavesDisks D.Disk asked (status_of result.text)
         result.trace.events disks.items result.disks.items }
 {
     finishes();
@@ -127,7 +125,7 @@ fn run_ready<C: Codelets, G: Gate, D: Disk + Send, R: Threads + Wait + Sync>(
     } = run(rt, alloc, shared, machine, disks, codelets, gate);
     if let Err(fault) = result {
         return Run {
-            text: Err(Stop::from(fault)),
+            text: Err(Stop::Broken(fault)),
             trace,
             disks,
         };
@@ -163,8 +161,8 @@ pub fn run_text<C: Codelets, G: Gate, D: Disk + Send, R: Threads + Wait + Sync>(
     requires small { AreWithin D.size (2 ^ 40) disks.items }
     ensures runs { RunsWork (work_of C.has options.now (map D.size disks.items) text.items)
         (AllTell D.held disks.items) result.text result.trace.events }
-    ensures disks { LeavesDisks D.size D.faults D.mismatches D.held
-        (Some (work_of C.has options.now (map D.size disks.items) text.items))
+    ensures disks { LeavesDisks D.Disk
+        (work_of C.has options.now (map D.size disks.items) text.items)
         (status_of result.text) result.trace.events disks.items result.disks.items }
 {
     let Ok(sizes) = sizes_of(alloc, &disks) else {
@@ -172,6 +170,6 @@ pub fn run_text<C: Codelets, G: Gate, D: Disk + Send, R: Threads + Wait + Sync>(
     };
     match prepare(alloc, text, options, sizes, codelets) {
         Ok(ready) => run_ready(rt, alloc, ready, disks, codelets, gate),
-        Err(unready) => nothing_run(alloc, Stop::from(unready), disks),
+        Err(unready) => nothing_run(alloc, Stop::Unready(unready), disks),
     }
 }

@@ -33,7 +33,7 @@ const ROOM: u64 = 1 << 19;
 /// How a call ended, and what was written.
 #[derive(Drop)]
 pub struct Answer {
-    pub outcome: Outcome,
+    pub outcome: Outcome<AnyDisk>,
     pub out: MemSink,
     pub err: MemSink,
 }
@@ -104,7 +104,7 @@ pub fn call<R: Threads + Wait + Sync, S: Source, O: Sink, E: Sink>(
     source: &mut S,
     out: &mut O,
     err: &mut E,
-) -> Result<Outcome, Fail> {
+) -> Result<Outcome<AnyDisk>, Fail> {
     let disks = whole(alloc, DISK)?;
     Ok(starjob(rt, alloc, &[], source, out, err, disks, &OpenGate))
 }

@@ -11,17 +11,16 @@ use Rattle.sj_check.specs.declared.check.CheckRefusal.{CheckRefusal}
 use Rattle.sj_check.specs.declared.check.CheckRefusal.TheVariants as checking
 use Rattle.sj_core.specs.Legal.{IsFinished, IsLegal}
 use Rattle.sj_core.specs.Machine.{opening}
-use Rattle.sj_core.specs.Needs.{place}
 use Rattle.sj_core.specs.Step.{Step}
-use Rattle.sj_needs.specs.Shortage.{IsSwapTooSmall, IsTooLarge}
-use Rattle.sj_ready.proofs.Fitting.{none-some-placed, too-large-fits}
+use Rattle.sj_needs.specs.Shortage.{IsShortage}
+use Rattle.sj_needs.specs.declared.shortage.Shortage.{Shortage}
+use Rattle.sj_ready.proofs.Fitting.{room-no-shortage}
 use Rattle.sj_ready.specs.Ready.{IsUnready}
 use Rattle.sj_ready.specs.Work.{Work, WorkOrRefusal, program_of}
 use Rattle.sj_ready.specs.declared.unready.Unready.{Unready}
 use Rattle.sj_ready.specs.declared.unready.Unready.TheVariants as preparing
-use Rattle.trace_check.specs.Judged.{TraceIsWhole}
-use Rattle.trace_check.specs.Refusal.{after_checking, after_preparing}
-use Rattle.trace_check.specs.declared.refusal.JudgeRefusal.TheVariants.{OutOfMemory}
+use Rattle.trace_check.specs.Judged.{IsWantOfMemory, TraceIsWhole}
+use Rattle.trace_check.specs.declared.refusal.JudgeRefusal.TheVariants as refusal
 
 -- a front of steps is made of steps
 front-leads : {S E : Type 0} (R : S → E → S → Type 0) (n : ℕ) (xs : List E) (s s' : S) → FoldsTo R s xs s' → (z : S) × FoldsTo R s (take n xs) z
@@ -33,10 +32,10 @@ front-legal : (p : Program) (m : Machine) (n : ℕ) (trace : List Event) → IsF
 front-legal p m n trace finished =
     ∥∥₁_elim finished (hlevel props) (λ f. let front = front-leads (Step p m) n trace (opening p m) f.left f.replays in ∣ record { left = front.0; replays = front.1 } ∣₁)
 
-pub checked-whole : (p : Program) (m : Machine) (events : List Event) (refusal : CheckRefusal) → IsFinished p m events → IsRefusal p m events refusal → after_checking refusal ≡ OutOfMemory
+pub checked-whole : (p : Program) (m : Machine) (events : List Event) (wrong : CheckRefusal) → IsFinished p m events → IsRefusal p m events wrong → IsWantOfMemory (refusal.Wrong wrong)
 checked-whole p m events (checking.BadEvent index) finished h = absurd (h.bad (front-legal p m (index + 1) events finished))
 checked-whole p m events checking.Unfinished finished h = absurd (h.undone finished)
-checked-whole p m events checking.OutOfMemory finished h = refl
+checked-whole p m events checking.OutOfMemory finished h = tt
 
 work-same : (asked : WorkOrRefusal) (w v : Work) → asked ≡ Ok w → asked ≡ Ok v → w ≡ v
 work-same asked w v is other = cc
@@ -54,11 +53,9 @@ module _ (asked : WorkOrRefusal) (text : List ℕ) (whole : TraceIsWhole asked t
       subst (λ (u : Work). IsFinished (program_of u) u.machine events) (work-same asked w v whole.read.can_be_run.asked_for is)
       (subst (λ (es : List Event). IsFinished (program_of w) w.machine es) (sym same) whole.finished)
 
-  pub prepared-whole : (unready : Unready) → IsUnready asked unready → after_preparing unready ≡ OutOfMemory
+  pub prepared-whole : (unready : Unready) → IsUnready asked unready → IsWantOfMemory (refusal.Unready unready)
   prepared-whole (preparing.Refused line reason) h = let is = whole.read.can_be_run.asked_for in absurd (let no : ⊥ = cc in no)
-  prepared-whole (preparing.TooLarge line bytes) h =
-      absurd (too-large-fits (program_of w) w.machine line bytes whole.read.can_be_run.tasks_fit (of-asked (λ v. IsTooLarge (program_of v) v.machine line bytes) h))
-  prepared-whole (preparing.SwapTooSmall needed have) h =
-      let small = of-asked (λ v. IsSwapTooSmall (program_of v) v.machine needed have) h in
-      absurd (none-some-placed (place (program_of w) w.machine.disks) small.has_no_places whole.read.can_be_run.blocks_have_places.blocks_fit)
-  prepared-whole preparing.OutOfMemory h = refl
+  prepared-whole (preparing.Short what) h =
+      let none = room-no-shortage w what whole.read.can_be_run.has_room (of-asked (λ v. IsShortage (program_of v) v.machine what) h) in
+      subst (λ (x : Shortage). IsWantOfMemory (refusal.Unready (preparing.Short x))) (sym none) tt
+  prepared-whole preparing.OutOfMemory h = tt

@@ -1,45 +1,31 @@
 -- What the check of a trace's text promises: what is said of its events, and each reason with its cause.
-use Rattle.std.specs.Prelude.{◌≡◌, ℕ, ◌<◌, ◌≤◌, ◌^◌, Result, Ok, Err, IsOkAnd, List, [], ◌∷◌, length}
+use Rattle.std.specs.Prelude.{◌≡◌, ℕ, ◌<◌, ◌≤◌, ◌^◌, Result, Ok, List, [], ◌∷◌, length}
 use Rattle.sj_base.specs.declared.ids.Line.{Line}
 use Rattle.sj_base.specs.declared.trace.Event.{Event}
 use Rattle.sj_check.specs.Refusal.{IsFirstBad, IsUnfinished}
+use Rattle.sj_check.specs.declared.check.CheckRefusal.TheVariants as checking
 use Rattle.sj_core.specs.Legal.{IsFinished}
-use Rattle.sj_core.specs.Proper.{HasSwapFor}
-use Rattle.sj_job.specs.declared.reason.Reason.{Reason}
 use Rattle.sj_minplus.specs.Has.{library_has}
-use Rattle.sj_needs.specs.Shortage.{FitRoom, IsSwapTooSmall, IsTooLarge}
-use Rattle.sj_ready.specs.Work.{Work, WorkOrRefusal, program_of, work_of}
+use Rattle.sj_needs.specs.declared.shortage.Shortage.TheVariants as fitting
+use Rattle.sj_ready.specs.Ready.{IsUnready}
+use Rattle.sj_ready.specs.Work.{HasRoom, Work, WorkOrRefusal, program_of, work_of}
+use Rattle.sj_ready.specs.declared.unready.Unready.TheVariants as preparing
 use Rattle.sj_trace.specs.Reading.{IsFirstBadLine, IsTextOf}
+use Rattle.sj_trace.specs.declared.read.TraceRefusal.TheVariants as reading
 use Rattle.sj_words.specs.declared.options.Options.{Options}
 use Rattle.trace_check.specs.declared.refusal.JudgeRefusal.{JudgeRefusal}
-use Rattle.trace_check.specs.declared.refusal.JudgeRefusal.TheVariants.{Refused, TooLarge, SwapTooSmall, TooLong, BadLine, BadEvent, Unfinished, OutOfMemory}
+use Rattle.trace_check.specs.declared.refusal.JudgeRefusal.TheVariants as refusal
 
 -- what options and a job text ask for, of the codelets of the program and one disk of this size
 abbrev pub asked_of : Options → ℕ → List ℕ → WorkOrRefusal
 asked_of o swap job = work_of library_has o (swap ∷ []) job
 
--- ---- why the job can't be run
-
--- the job text is refused: its first bad line and the first reason against it, or the limit that it exceeds and the line that
--- first does
-abbrev pub JobIsRefused : WorkOrRefusal → Line → Reason → Type 0
-JobIsRefused asked line reason = asked ≡ Err (record { line = line; reason = reason })
-
--- the line and the need of the first task that fits no node with a worker
-abbrev pub TaskIsTooLarge : WorkOrRefusal → Line → ℕ → Type 0
-TaskIsTooLarge asked line bytes = IsOkAnd asked (λ w. IsTooLarge (program_of w) w.machine line bytes)
-
--- the blocks have no places on the disk: what they need, and what it has
-abbrev pub DiskIsTooSmall : WorkOrRefusal → ℕ → ℕ → Type 0
-DiskIsTooSmall asked needed have = IsOkAnd asked (λ w. IsSwapTooSmall (program_of w) w.machine needed have)
-
 -- ---- why the trace isn't read
 
--- this work is asked for, each of its tasks fits a node with a worker, and the blocks have their places on the disk
+-- this work is asked for, and the machine has room for it
 pub record CanBeRun (asked : WorkOrRefusal) (w : Work) : Type 0 where
   pub asked_for : asked ≡ Ok w
-  pub tasks_fit : FitRoom (program_of w) w.machine
-  pub blocks_have_places : HasSwapFor (program_of w) w.machine
+  pub has_room : HasRoom w
 
 -- the job can be run, and the trace's text is too long
 pub record TextIsTooLong (asked : WorkOrRefusal) (text : List ℕ) : Type 0 where
@@ -85,13 +71,22 @@ pub record TraceIsCutShort (asked : WorkOrRefusal) (text : List ℕ) : Type 0 wh
 
 -- ---- the same by the answer
 
--- the reason has its cause; want of memory needs none
+-- the reason has its cause: in the job, and else in the trace's text or its events; want of memory needs none
 abbrev pub HasCause : WorkOrRefusal → List ℕ → JudgeRefusal → Type 0
-HasCause asked text (Refused line reason) = JobIsRefused asked line reason
-HasCause asked text (TooLarge line bytes) = TaskIsTooLarge asked line bytes
-HasCause asked text (SwapTooSmall needed have) = DiskIsTooSmall asked needed have
-HasCause asked text TooLong = TextIsTooLong asked text
-HasCause asked text (BadLine line) = LineIsNoEvent asked text line
-HasCause asked text (BadEvent index) = EventIsBad asked text index
-HasCause asked text Unfinished = TraceIsCutShort asked text
-HasCause asked text OutOfMemory = Unit {0}
+HasCause asked text (refusal.Unready why) = IsUnready asked why
+HasCause asked text refusal.TooLong = TextIsTooLong asked text
+HasCause asked text (refusal.Unread (reading.BadLine line)) = LineIsNoEvent asked text line
+HasCause asked text (refusal.Wrong (checking.BadEvent index)) = EventIsBad asked text index
+HasCause asked text (refusal.Wrong checking.Unfinished) = TraceIsCutShort asked text
+HasCause asked text (refusal.Unread reading.OutOfMemory) = Unit {0}
+HasCause asked text (refusal.Wrong checking.OutOfMemory) = Unit {0}
+HasCause asked text refusal.OutOfMemory = Unit {0}
+
+-- an allocation was refused, wherever
+abbrev pub IsWantOfMemory : JudgeRefusal → Type 0
+IsWantOfMemory (refusal.Unready preparing.OutOfMemory) = Unit {0}
+IsWantOfMemory (refusal.Unready (preparing.Short fitting.OutOfMemory)) = Unit {0}
+IsWantOfMemory (refusal.Unread reading.OutOfMemory) = Unit {0}
+IsWantOfMemory (refusal.Wrong checking.OutOfMemory) = Unit {0}
+IsWantOfMemory refusal.OutOfMemory = Unit {0}
+IsWantOfMemory _ = ⊥

@@ -1,14 +1,12 @@
 //! Whether a text is the trace of a run that another text asks for.
 
-ghost use Rattle.std.specs.Prelude.{◌≡◌, ◌<◌, ◌≤◌, ◌^◌, ◌∷◌, ℕ, [], All, Err, IfErr, IfOk, IsOk, IsOkUnless, List, length};
-ghost use Rattle.sj_base.specs.declared.ids.Line.{Line};
+ghost use Rattle.std.specs.Prelude.{◌≡◌, ◌<◌, ◌≤◌, ◌^◌, ◌∷◌, ℕ, [], All, IfErr, IfOk, IsOk, List, length};
 ghost use Rattle.sj_base.specs.declared.trace.Event.{Event};
-ghost use Rattle.sj_job.specs.declared.reason.Reason.{Reason};
 ghost use Rattle.sj_minplus.specs.Has.{library_has};
 ghost use Rattle.sj_ready.specs.Work.{Work, WorkOrRefusal, work_of};
 ghost use Rattle.sj_trace.specs.Reading.{IsTextOf};
 ghost use Rattle.sj_words.specs.Options.{IsWithinLimits};
-ghost use Rattle.trace_check.specs.Judged.{CanBeRun, DiskIsTooSmall, EventIsBad, HasCause, JobIsRefused, LineIsNoEvent, TaskIsTooLarge, TextIsTooLong, TraceIsCutShort, TraceIsWhole, asked_of};
+ghost use Rattle.trace_check.specs.Judged.{CanBeRun, HasCause, IsWantOfMemory, TraceIsWhole, asked_of};
 
 use crate::refusal::JudgeRefusal;
 use sj_base::memory::OutOfMemory;
@@ -36,7 +34,7 @@ fn events_of(alloc: Global, text: &[u8]) -> Result<Trace, JudgeRefusal>
     ensures reads_back { (events : List Event) → IsTextOf text.now events →
         IfOk result (λ trace. trace.events ≡ events) }
     ensures refuses_no_trace { (events : List Event) → IsTextOf text.now events →
-        length text.now < 2 ^ 32 → IsOkUnless result JudgeRefusal.OutOfMemory }
+        length text.now < 2 ^ 32 → IfErr result IsWantOfMemory }
 {
     if text.len() > u32::MAX as usize {
         return Err(JudgeRefusal::TooLong);
@@ -62,7 +60,7 @@ fn judged_on(
         (HasCause (work_of library_has options.now disks.items job.items) trace.now) }
     ensures complete { TraceIsWhole
         (work_of library_has options.now disks.items job.items) trace.now →
-        IsOkUnless result JudgeRefusal.OutOfMemory }
+        IfErr result IsWantOfMemory }
 {
     let ready = prepare(alloc, job, options, disks, &Library)?;
     let events = events_of(alloc, trace)?;
@@ -91,27 +89,11 @@ pub fn judged(
         TraceIsWhole (asked_of options.now swap job.items) trace.now }
 
     // Each other answer has its cause, but want of memory.
-    ensures refused { (line : Line) → (reason : Reason) →
-        result ≡ Err (JudgeRefusal.Refused line reason) →
-        JobIsRefused (asked_of options.now swap job.items) line reason }
-    ensures too_large { (line : Line) → (bytes : ℕ) →
-        result ≡ Err (JudgeRefusal.TooLarge line bytes) →
-        TaskIsTooLarge (asked_of options.now swap job.items) line bytes }
-    ensures swap_too_small { (needed : ℕ) → (have : ℕ) →
-        result ≡ Err (JudgeRefusal.SwapTooSmall needed have) →
-        DiskIsTooSmall (asked_of options.now swap job.items) needed have }
-    ensures too_long { result ≡ Err JudgeRefusal.TooLong →
-        TextIsTooLong (asked_of options.now swap job.items) trace.now }
-    ensures bad_line { (line : Line) → result ≡ Err (JudgeRefusal.BadLine line) →
-        LineIsNoEvent (asked_of options.now swap job.items) trace.now line }
-    ensures bad_event { (index : ℕ) → result ≡ Err (JudgeRefusal.BadEvent index) →
-        EventIsBad (asked_of options.now swap job.items) trace.now index }
-    ensures unfinished { result ≡ Err JudgeRefusal.Unfinished →
-        TraceIsCutShort (asked_of options.now swap job.items) trace.now }
+    ensures cause { IfErr result (HasCause (asked_of options.now swap job.items) trace.now) }
 
     // A trace that is whole is found to be so, unless memory runs out.
     ensures complete { TraceIsWhole (asked_of options.now swap job.items) trace.now →
-        IsOkUnless result JudgeRefusal.OutOfMemory }
+        IfErr result IsWantOfMemory }
 {
     let disks = one_disk(alloc, swap)?;
     judged_on(alloc, options, disks, job, trace)

@@ -11,6 +11,10 @@ mod tests;
 
 use judging::judged;
 use refusal::JudgeRefusal;
+use sj_check::check::CheckRefusal;
+use sj_needs::shortage::Shortage;
+use sj_ready::unready::Unready;
+use sj_trace::read::TraceRefusal;
 use sj_words::{WordsRefusal, read_words, swap_wish};
 use std::alloc::AllocError;
 use std::io::{self, ErrorKind, Read};
@@ -62,6 +66,37 @@ fn line(text: &[u8], number: u64) -> &[u8] {
     lines.nth(number as usize).unwrap_or(b"")
 }
 
+/// Says why the job of a trace can't be run.
+fn unready(rt: &HostRuntime, why: Unready) -> u8 {
+    let _ = match why {
+        Unready::Refused { line, .. } => eprintln!(rt; "line {} of the job is refused", line.0),
+        Unready::Short(Shortage::TooLarge { line, .. }) => {
+            eprintln!(rt; "a task of line {} of the job fits no node", line.0)
+        }
+        Unready::Short(Shortage::SwapTooSmall { .. }) => {
+            eprintln!(rt; "the swap disk is too small for the job")
+        }
+        Unready::Short(Shortage::OutOfMemory) | Unready::OutOfMemory => return OUT_OF_MEMORY,
+    };
+    REFUSED
+}
+
+/// Says what is wrong with the events of a trace that has this text.
+fn wrong(rt: &HostRuntime, text: &[u8], why: CheckRefusal) -> u8 {
+    let _ = match why {
+        CheckRefusal::BadEvent { index } => {
+            let event = std::str::from_utf8(line(text, index)).unwrap_or("");
+            println!(rt;
+                "line {}: {event}: this is no legal step after the events before it",
+                index.saturating_add(1)
+            )
+        }
+        CheckRefusal::Unfinished => println!(rt; "legal, but not all tasks are done"),
+        CheckRefusal::OutOfMemory => return OUT_OF_MEMORY,
+    };
+    BAD
+}
+
 /// Says what the check of a trace with this text came to.
 fn told(rt: &HostRuntime, text: &[u8], outcome: Result<(), JudgeRefusal>) -> u8 {
     match outcome {
@@ -69,22 +104,15 @@ fn told(rt: &HostRuntime, text: &[u8], outcome: Result<(), JudgeRefusal>) -> u8 
             let _ = println!(rt; "legal and complete");
             0
         }
-        Err(JudgeRefusal::BadEvent { index }) => {
-            let event = std::str::from_utf8(line(text, index)).unwrap_or("");
-            let _ = println!(rt;
-                "line {}: {event}: this is no legal step after the events before it",
-                index.saturating_add(1)
-            );
-            BAD
-        }
-        Err(JudgeRefusal::Unfinished) => {
-            let _ = println!(rt; "legal, but not all tasks are done");
-            BAD
-        }
-        Err(JudgeRefusal::OutOfMemory) => OUT_OF_MEMORY,
-        Err(why) => {
-            let _ = eprintln!(rt; "{why}");
+        Err(JudgeRefusal::Unready(why)) => unready(rt, why),
+        Err(JudgeRefusal::TooLong) => refused(rt, "the trace is too long"),
+        Err(JudgeRefusal::Unread(TraceRefusal::BadLine { line })) => {
+            let _ = eprintln!(rt; "line {} of the trace is no event", line.0);
             REFUSED
+        }
+        Err(JudgeRefusal::Wrong(why)) => wrong(rt, text, why),
+        Err(JudgeRefusal::Unread(TraceRefusal::OutOfMemory) | JudgeRefusal::OutOfMemory) => {
+            OUT_OF_MEMORY
         }
     }
 }

@@ -5,7 +5,11 @@ use crate::line;
 use crate::refusal::JudgeRefusal;
 use sj_base::ids::Line;
 use sj_base::memory::OutOfMemory;
+use sj_check::check::CheckRefusal;
 use sj_job::reason::Reason;
+use sj_needs::shortage::Shortage;
+use sj_ready::unready::Unready;
+use sj_trace::read::TraceRefusal;
 use sj_words::read_words;
 use std::alloc::Global;
 
@@ -74,7 +78,7 @@ fn a_whole_run_is_legal_and_complete(rt: HostRuntime) {
 #[test]
 fn a_front_of_it_is_not_complete(rt: HostRuntime) -> Result<(), OutOfMemory> {
     let front = with_line(rt.alloc(), 19, 0)?;
-    assert!(rt; said_of(rt.alloc(), JOB, &front) == Some(Err(JudgeRefusal::Unfinished)));
+    assert!(rt; said_of(rt.alloc(), JOB, &front) == Some(Err(JudgeRefusal::Wrong(CheckRefusal::Unfinished))));
     Ok(())
 }
 
@@ -84,11 +88,11 @@ fn the_first_event_that_is_not_legal_is_named(rt: HostRuntime) -> Result<(), Out
     for i in 0..19u64 {
         let without = with_line(alloc, i as usize, 0)?;
         assert!(rt;
-            said_of(alloc, JOB, &without) == Some(Err(JudgeRefusal::BadEvent { index: i }))
+            said_of(alloc, JOB, &without) == Some(Err(JudgeRefusal::Wrong(CheckRefusal::BadEvent { index: i })))
         );
         let doubled = with_line(alloc, i as usize, 2)?;
         assert!(rt;
-            said_of(alloc, JOB, &doubled) == Some(Err(JudgeRefusal::BadEvent { index: i + 1 }))
+            said_of(alloc, JOB, &doubled) == Some(Err(JudgeRefusal::Wrong(CheckRefusal::BadEvent { index: i + 1 })))
         );
     }
     Ok(())
@@ -97,7 +101,7 @@ fn the_first_event_that_is_not_legal_is_named(rt: HostRuntime) -> Result<(), Out
 #[test]
 fn a_line_that_is_no_event_is_not_read(rt: HostRuntime) {
     let said = said_of(rt.alloc(), JOB, b"claim t0 w0\nclaim t0\n");
-    assert!(rt; said == Some(Err(JudgeRefusal::BadLine { line: Line(2) })));
+    assert!(rt; said == Some(Err(JudgeRefusal::Unread(TraceRefusal::BadLine { line: Line(2) }))));
 }
 
 #[test]
@@ -106,24 +110,28 @@ fn a_job_that_can_not_be_run_is_named(rt: HostRuntime) {
     let refused = said_of(alloc, b"starjob 2\n", TRACE);
     assert!(rt;
         refused
-            == Some(Err(JudgeRefusal::Refused {
+            == Some(Err(JudgeRefusal::Unready(Unready::Refused {
                 line: Line(1),
                 reason: Reason::Header
-            }))
+            })))
     );
     let large = said_of(alloc, b"starjob 1\nnode 16\nvector a 3 fill 7 0\n", TRACE);
     assert!(rt;
         large
-            == Some(Err(JudgeRefusal::TooLarge {
-                line: Line(3),
-                bytes: 24
-            }))
+            == Some(Err(JudgeRefusal::Unready(Unready::Short(
+                Shortage::TooLarge {
+                    line: Line(3),
+                    bytes: 24
+                }
+            ))))
     );
     let swapped = said_of(alloc, b"starjob 1\nvector a 200 fill 7 0\n", TRACE);
     assert!(rt;
         matches!(
             swapped,
-            Some(Err(JudgeRefusal::SwapTooSmall { have: 1_000, .. }))
+            Some(Err(JudgeRefusal::Unready(Unready::Short(
+                Shortage::SwapTooSmall { have: 1_000, .. }
+            ))))
         )
     );
 }
@@ -135,7 +143,7 @@ fn of_two_neighbours_exchanged_the_first_is_named(rt: HostRuntime) -> Result<(),
         let later_twice = replaced(alloc, TRACE, i, line(TRACE, i + 1))?;
         let exchanged = replaced(alloc, &later_twice, i + 1, line(TRACE, i))?;
         let said = said_of(alloc, JOB, &exchanged);
-        assert!(rt; said == Some(Err(JudgeRefusal::BadEvent { index: i })));
+        assert!(rt; said == Some(Err(JudgeRefusal::Wrong(CheckRefusal::BadEvent { index: i }))));
     }
     Ok(())
 }
@@ -164,7 +172,7 @@ fn an_event_with_a_number_of_nothing_is_named(rt: HostRuntime) -> Result<(), Out
         let text = replaced(alloc, TRACE, index, other.as_bytes())?;
         let said = said_of(alloc, JOB, &text);
         assert!(rt;
-            said == Some(Err(JudgeRefusal::BadEvent { index })),
+            said == Some(Err(JudgeRefusal::Wrong(CheckRefusal::BadEvent { index }))),
             "{other}"
         );
     }
@@ -175,11 +183,11 @@ fn an_event_with_a_number_of_nothing_is_named(rt: HostRuntime) -> Result<(), Out
 fn a_claim_without_room_is_named(rt: HostRuntime) {
     let alloc = rt.alloc();
     let two = said_of(alloc, JOB_OF_THREE, b"claim t0 w0\nclaim t1 w1\n");
-    assert!(rt; two == Some(Err(JudgeRefusal::Unfinished)));
+    assert!(rt; two == Some(Err(JudgeRefusal::Wrong(CheckRefusal::Unfinished))));
     let three = said_of(
         alloc,
         JOB_OF_THREE,
         b"claim t0 w0\nclaim t1 w1\nclaim t2 w2\n",
     );
-    assert!(rt; three == Some(Err(JudgeRefusal::BadEvent { index: 2 })));
+    assert!(rt; three == Some(Err(JudgeRefusal::Wrong(CheckRefusal::BadEvent { index: 2 }))));
 }

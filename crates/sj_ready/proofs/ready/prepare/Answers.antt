@@ -5,11 +5,12 @@ use Rattle.sj_base.specs.declared.program.Lowered.{Lowered}
 use Rattle.sj_base.specs.declared.program.Machine.{Machine}
 use Rattle.sj_base.specs.declared.program.Program.{Program}
 use Rattle.sj_core.specs.Laws.{IsLawful}
-use Rattle.sj_core.specs.Proper.{IsMachineFor}
+use Rattle.sj_core.specs.Proper.{HasSwapFor, IsMachineFor}
+use Rattle.sj_needs.specs.Shortage.{FitRoom}
 use Rattle.sj_job.specs.View.{job_seen}
 use Rattle.sj_ready.specs.Ready.{IsUnready}
 use Rattle.sj_ready.specs.Work.{Work, WorkOrRefusal, work_of}
-use Rattle.sj_ready.specs.Unready.{after_fitting}
+use Rattle.sj_ready.specs.declared.unready.Unready.TheVariants.{Short}
 use Rattle.sj_ready.proofs.Known.{job-in}
 use Rattle.sj_ready.proofs.Refusing.{asked-is, handed, unready-fitting, within}
 use Rattle.sj_ready.proofs.ready.prepare.Goals as goal
@@ -39,7 +40,7 @@ returns-in_err-fits-clause-unready g c =
     let r = c.in_ok-ready.ensures in
     let asked : work_of has o disks text ≡ Ok w = sym (asked-is has o disks text job m c.in_ok-job.ensures.ok c.in_ok-machine.ensures.machine) ∙ within w r.within in
     let e = c.in_err-fits.field-0.0 in
-    handed c.from_residual-in_err-fits.result (after_fitting e) (IsUnready (work_of has o disks text)) c.from_residual-in_err-fits.ensures.1
+    handed c.from_residual-in_err-fits.result (Short e) (IsUnready (work_of has o disks text)) c.from_residual-in_err-fits.ensures.1
     (unready-fitting (work_of has o disks text) w c.deref-2.result.now c.in_ok-ready.ready.machine e asked (c.deref-2.ensures ∙ r.program) r.machine c.in_err-fits.ensures.shortage)
 
 pub returns-clause-ready : goal.returns-clause-ready
@@ -79,6 +80,8 @@ returns-clause-ready g c =
         few_nodes = limits.nodes.few;
         few_disks = few;
       });
+      tasks_fit = subst (λ (q : Program). FitRoom q c.in_ok-ready.ready.machine) c.deref-2.ensures (c.in_ok-fits.ensures.room refl);
+      blocks_have_places = subst (λ (q : Program). HasSwapFor q c.in_ok-ready.ready.machine) c.deref-2.ensures (c.in_ok-fits.ensures.swap refl);
       prints = r.prints has lawful limits.workers.0;
       named = r.handed_over;
     }

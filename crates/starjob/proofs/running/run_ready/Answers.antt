@@ -1,15 +1,14 @@
-use Rattle.std.proofs.Common.{ℕ, ap, refl, subst, sym, arith, Some, Result, IfErr, IsOk, Vec, Global}
+use Rattle.std.proofs.Common.{ℕ, ap, refl, subst, sym, arith, Result, IfErr, IsOk, Vec, Global}
 use Rattle.sj_base.specs.declared.program.Program.{Program}
 use Rattle.sj_core.specs.Legal.{IsFinished}
 use Rattle.sj_engine.specs.Outcome.{AllTell, IsCausedBy}
 use Rattle.sj_machine.specs.Delivered.{DeliversEach}
 use Rattle.sj_machine.specs.declared.fault.RunFault.{RunFault}
 use Rattle.starjob.specs.declared.stop.Stop.{Stop}
-use Rattle.starjob.specs.declared.stop.Stop.TheVariants.{OutOfMemory}
-use Rattle.starjob.specs.Answers.{LeavesDisks, RunsWork, status_of_stop}
+use Rattle.starjob.specs.Answers.{RunsWork}
 use Rattle.starjob.specs.Gathering.{AreGrouped, HandedOver, ShowsRun}
 use Rattle.starjob.proofs.Handing.{handed-over}
-use Rattle.starjob.proofs.Leaving.{leaves-broken, leaves-nothing}
+use Rattle.starjob.proofs.Leaving.{leaves-broken, leaves-no-memory}
 use Rattle.starjob.proofs.Showing.{grouped}
 use Rattle.starjob.proofs.Shown.{behind, shows-work}
 use Rattle.starjob.proofs.Tracing.{began_empty}
@@ -24,12 +23,11 @@ returns-in_default-clause-runs g c asked ready =
 pub returns-in_default-clause-disks : goal.returns-in_default-clause-disks
 returns-in_default-clause-disks g c asked ready =
     let none = c.nothing_run in
-    leaves-nothing g.D.Disk.size g.D.Disk.faults g.D.Disk.mismatches g.D.Disk.held asked (Some asked) OutOfMemory none.result.text none.result.trace.events c.args.disks.items none.result.disks.items
-    none.ensures.text (ap (λ (v : Vec g.row.D.Denot Global). v.items) none.ensures.disks) tt
+    leaves-no-memory g.D.Disk asked none.result.text none.result.trace.events c.args.disks.items none.result.disks.items
+    none.ensures.text (ap (λ (v : Vec g.row.D.Denot Global). v.items) none.ensures.disks)
 
 pub returns-in-Err-clause-disks : goal.returns-in-Err-clause-disks
 returns-in-Err-clause-disks g c asked ready =
-    let size = g.D.Disk.size in
     let faults = g.D.Disk.faults in
     let mismatches = g.D.Disk.mismatches in
     let held = g.D.Disk.held in
@@ -38,8 +36,7 @@ returns-in-Err-clause-disks g c asked ready =
     let new = run.result.disks.items in
     let cause : IsCausedBy faults mismatches held old new c.in-Err.fault =
     subst (λ (r : Result (Unit {0}) RunFault). IfErr r (IsCausedBy faults mismatches held old new)) c.in-Err.is run.ensures.cause in
-    subst (λ (stop : Stop). LeavesDisks size faults mismatches held (Some asked) (status_of_stop stop) run.result.trace.events old new) (sym c.from.ensures)
-    (leaves-broken size faults mismatches held (Some asked) c.in-Err.fault run.result.trace.events old new run.ensures.given_back cause)
+    leaves-broken g.D.Disk asked c.in-Err.fault run.result.trace.events old new run.ensures.given_back cause
 
 pub shown-requires-clause-handed : goal.shown-requires-clause-handed
 shown-requires-clause-handed g c =

@@ -1,14 +1,12 @@
-use Rattle.std.proofs.Common.{ℕ, ◌≤◌, ◌^◌, List, map, ap, ◌∙◌, subst, sym, Some, Result, Vec, Global}
+use Rattle.std.proofs.Common.{ℕ, ◌≤◌, ◌^◌, List, map, ap, ◌∙◌, subst, sym, Result, Vec, Global}
 use Rattle.std.specs.Prelude.{All}
 use Rattle.std.proofs.lemmas.List.Elements.{All-map}
 use Rattle.sj_engine.specs.Outcome.{AllTell}
 use Rattle.starjob.specs.declared.stop.Stop.{Stop}
-use Rattle.starjob.specs.declared.stop.Stop.TheVariants.{OutOfMemory}
-use Rattle.starjob.specs.Answers.{IsStopped, LeavesDisks, RunsWork, status_of}
+use Rattle.starjob.specs.Answers.{LeavesDisks, RunsWork, status_of}
 use Rattle.sj_ready.specs.Ready.{IsUnready}
 use Rattle.sj_ready.specs.Work.{work_of}
-use Rattle.starjob.proofs.Leaving.{leaves-nothing}
-use Rattle.starjob.proofs.Shown.{stops-unready, stops-unrun}
+use Rattle.starjob.proofs.Leaving.{leaves-no-memory, leaves-unready}
 use Rattle.starjob.proofs.Tracing.{began_empty}
 use Rattle.starjob.proofs.running.run_text.Goals as goal
 
@@ -23,8 +21,8 @@ pub returns-in_default-clause-disks : goal.returns-in_default-clause-disks
 returns-in_default-clause-disks g c =
     let none = c.nothing_run in
     let asked = work_of g.C.Codelets.has c.args.options.now (map g.D.Disk.size c.args.disks.items) c.args.text.items in
-    leaves-nothing g.D.Disk.size g.D.Disk.faults g.D.Disk.mismatches g.D.Disk.held asked (Some asked) OutOfMemory none.result.text none.result.trace.events c.args.disks.items none.result.disks.items
-    none.ensures.text (ap (λ (v : Vec g.row.D.Denot Global). v.items) none.ensures.disks) tt
+    leaves-no-memory g.D.Disk asked none.result.text none.result.trace.events c.args.disks.items none.result.disks.items
+    none.ensures.text (ap (λ (v : Vec g.row.D.Denot Global). v.items) none.ensures.disks)
 
 pub prepare-requires-clause-small : goal.prepare-requires-clause-small
 prepare-requires-clause-small g c κs within =
@@ -34,7 +32,7 @@ prepare-requires-clause-small g c κs within =
 pub returns-in-Ok-prepare-clause-disks : goal.returns-in-Ok-prepare-clause-disks
 returns-in-Ok-prepare-clause-disks g c =
     let sizes = c.in-Ok.ensures ∙ ap (map g.D.Disk.size) c.deref.ensures.value in
-    let P : List ℕ → Type 0 = λ ns. LeavesDisks g.D.Disk.size g.D.Disk.faults g.D.Disk.mismatches g.D.Disk.held (Some (work_of g.C.Codelets.has c.args.options.now ns c.args.text.items)) (status_of c.run_ready.result.text) c.run_ready.result.trace.events c.args.disks.items c.run_ready.result.disks.items in
+    let P : List ℕ → Type 0 = λ ns. LeavesDisks g.D.Disk (work_of g.C.Codelets.has c.args.options.now ns c.args.text.items) (status_of c.run_ready.result.text) c.run_ready.result.trace.events c.args.disks.items c.run_ready.result.disks.items in
     subst P sizes (c.run_ready.ensures.disks (work_of g.C.Codelets.has c.args.options.now c.in-Ok.sizes.items c.args.text.items) c.in-Ok-prepare.ensures.ready)
 
 pub returns-in-Err-clause-runs : goal.returns-in-Err-clause-runs
@@ -43,16 +41,12 @@ returns-in-Err-clause-runs g c =
     let sizes = c.in-Ok.ensures ∙ ap (map g.D.Disk.size) c.deref.ensures.value in
     let asked = work_of g.C.Codelets.has c.args.options.now (map g.D.Disk.size c.args.disks.items) c.args.text.items in
     let unready : IsUnready asked c.in-Err.unready = subst (λ (ns : List ℕ). IsUnready (work_of g.C.Codelets.has c.args.options.now ns c.args.text.items) c.in-Err.unready) sizes c.in-Err.ensures.unready in
-    let stopped : IsStopped asked c.from.result = subst (IsStopped asked) (sym c.from.ensures) (stops-unready asked c.in-Err.unready unready) in
     subst (λ (r : Result (Vec ℕ Global) Stop). RunsWork asked (AllTell g.D.Disk.held c.args.disks.items) r none.result.trace.events) (sym none.ensures.text)
-    (stops-unrun asked c.from.result none.result.trace.events stopped none.ensures.trace)
+    (unready, none.ensures.trace)
 
 pub returns-in-Err-clause-disks : goal.returns-in-Err-clause-disks
 returns-in-Err-clause-disks g c =
     let none = c.nothing_run-in-Err in
-    let sizes = c.in-Ok.ensures ∙ ap (map g.D.Disk.size) c.deref.ensures.value in
     let asked = work_of g.C.Codelets.has c.args.options.now (map g.D.Disk.size c.args.disks.items) c.args.text.items in
-    let unready : IsUnready asked c.in-Err.unready = subst (λ (ns : List ℕ). IsUnready (work_of g.C.Codelets.has c.args.options.now ns c.args.text.items) c.in-Err.unready) sizes c.in-Err.ensures.unready in
-    let stopped : IsStopped asked c.from.result = subst (IsStopped asked) (sym c.from.ensures) (stops-unready asked c.in-Err.unready unready) in
-    leaves-nothing g.D.Disk.size g.D.Disk.faults g.D.Disk.mismatches g.D.Disk.held asked (Some asked) c.from.result none.result.text none.result.trace.events c.args.disks.items none.result.disks.items
-    none.ensures.text (ap (λ (v : Vec g.row.D.Denot Global). v.items) none.ensures.disks) stopped
+    leaves-unready g.D.Disk asked c.in-Err.unready none.result.text none.result.trace.events c.args.disks.items none.result.disks.items
+    none.ensures.text (ap (λ (v : Vec g.row.D.Denot Global). v.items) none.ensures.disks)

@@ -1,4 +1,4 @@
-use Rattle.std.proofs.Common.{ℕ, List, map, ◌∙◌, subst, sym, Some, Result, IsOkAnd, Vec, Global}
+use Rattle.std.proofs.Common.{ℕ, List, map, ◌∙◌, subst, sym, Result, IsOkAnd, Vec, Global}
 use Rattle.sj_engine.specs.Outcome.{AllTell}
 use Rattle.starjob.specs.declared.status.Status.{Status}
 use Rattle.starjob.specs.declared.stop.Stop.{Stop}
@@ -29,16 +29,20 @@ returns-in-Ok-clause-disks g c =
     let new = c.run_text-text.result.disks.items in
     let out = seen g.O.Sink.taken g.O.Sink.faults c.args.out.now in
     let out' = seen g.O.Sink.taken g.O.Sink.faults c.write_printed.new.out in
-    let done = subst (λ (r : Result (Vec ℕ Global) Stop). LeavesDisks g.D.Disk.size g.D.Disk.faults g.D.Disk.mismatches g.D.Disk.held (Some asked) (status_of r) trace old new) c.in-Ok.is c.run_text-text.ensures.disks in
-    leaves-written g.D.Disk.size g.D.Disk.faults g.D.Disk.mismatches g.D.Disk.held (Some asked) c.deref.result.now c.write_printed.result out out' trace old new c.write_printed.ensures.written done
+    let done = subst (λ (r : Result (Vec ℕ Global) Stop). LeavesDisks g.D.Disk asked (status_of r) trace old new) c.in-Ok.is c.run_text-text.ensures.disks in
+    leaves-written g.D.Disk asked c.deref.result.now c.write_printed.result out out' trace old new c.write_printed.ensures.written done
 
-pub returns-in-Ok-clause-out_stays_in_silence : goal.returns-in-Ok-clause-out_stays_in_silence
-returns-in-Ok-clause-out_stays_in_silence g c = λ nothing.
+pub returns-in-Ok-clause-out_stays : goal.returns-in-Ok-clause-out_stays
+returns-in-Ok-clause-out_stays g c = λ nothing.
     let asked : WorkOrRefusal = work_of g.C.Codelets.has c.args.options.now (map g.D.Disk.size c.args.disks.items) c.args.text.items in
     let Tells = AllTell g.D.Disk.held c.args.disks.items in
     let trace = c.run_text-text.result.trace.events in
-    let is : IsOkAnd asked (IsTextOf Tells trace c.in-Ok.printed.items) = subst (λ (r : Result (Vec ℕ Global) Stop). RunsWork asked Tells r trace) c.in-Ok.is c.run_text-text.ensures.runs in
-    c.write_printed.ensures.not_called_for_nothing (c.deref.ensures.value ∙ silent-text asked Tells trace c.in-Ok.printed.items is nothing)
+    let text = c.in-Ok.printed.items in
+    let is : IsOkAnd asked (IsTextOf Tells trace text) = subst (λ (r : Result (Vec ℕ Global) Stop). RunsWork asked Tells r trace) c.in-Ok.is c.run_text-text.ensures.runs in
+    let out = seen g.O.Sink.taken g.O.Sink.faults c.args.out.now in
+    let out' = seen g.O.Sink.taken g.O.Sink.faults c.write_printed.new.out in
+    let written = subst (λ (xs : List ℕ). WritesText xs c.write_printed.result out out') c.deref.ensures.value c.write_printed.ensures.written in
+    c.write_printed.ensures.not_called_for_nothing (c.deref.ensures.value ∙ silent-text asked Tells trace text c.write_printed.result out out' is written nothing)
 
 pub returns-in-Err-clause-answered : goal.returns-in-Err-clause-answered
 returns-in-Err-clause-answered g c =
@@ -55,5 +59,5 @@ returns-in-Err-clause-disks g c =
     let trace = c.run_text-text.result.trace.events in
     let old = c.args.disks.items in
     let new = c.run_text-text.result.disks.items in
-    let leaves = subst (λ (r : Result (Vec ℕ Global) Stop). LeavesDisks g.D.Disk.size g.D.Disk.faults g.D.Disk.mismatches g.D.Disk.held (Some asked) (status_of r) trace old new) c.in-Err.is c.run_text-text.ensures.disks in
-    subst (λ (s : Status). LeavesDisks g.D.Disk.size g.D.Disk.faults g.D.Disk.mismatches g.D.Disk.held (Some asked) s trace old new) (sym c.status.ensures) leaves
+    let leaves = subst (λ (r : Result (Vec ℕ Global) Stop). LeavesDisks g.D.Disk asked (status_of r) trace old new) c.in-Err.is c.run_text-text.ensures.disks in
+    subst (λ (s : Status). LeavesDisks g.D.Disk asked s trace old new) (sym c.status.ensures) leaves

@@ -1,9 +1,9 @@
-use Rattle.std.proofs.Common.{◌≡◌, ◌<◌, ◌∙◌, ◌^◌, ap, arith, length}
+use Rattle.std.proofs.Common.{◌<◌, ◌^◌, arith, length, subst, sym}
 use Rattle.sj_ready.proofs.Refusing.{handed}
 use Rattle.sj_ready.specs.Work.{Work, WorkOrRefusal}
-use Rattle.trace_check.specs.Judged.{CanBeRun, HasCause}
-use Rattle.trace_check.specs.Refusal.{after_reading}
-use Rattle.trace_check.specs.declared.refusal.JudgeRefusal.TheVariants.{OutOfMemory}
+use Rattle.sj_trace.specs.declared.read.TraceRefusal.{TraceRefusal}
+use Rattle.trace_check.specs.Judged.{CanBeRun, HasCause, IsWantOfMemory}
+use Rattle.trace_check.specs.declared.refusal.JudgeRefusal.TheVariants.{Unread}
 use Rattle.trace_check.proofs.Causes.{reading-cause}
 use Rattle.trace_check.proofs.Lines.{few-lines}
 use Rattle.trace_check.proofs.judging.events_of.Goals as goal
@@ -19,11 +19,11 @@ returns-in_err-trace-clause-cause c =
     let text = c.args.text.now in
     let why = c.in_err-trace.field-0.0 in
     let short : length text < 2 ^ 32 = omega (arith, c.if-text.false) in
-    handed c.from_residual.result (after_reading why) (λ x. (asked : WorkOrRefusal) → (w : Work) → CanBeRun asked w → HasCause asked text x) c.from_residual.ensures.1
+    handed c.from_residual.result (Unread why) (λ x. (asked : WorkOrRefusal) → (w : Work) → CanBeRun asked w → HasCause asked text x) c.from_residual.ensures.1
     (λ asked w can. reading-cause asked text w why can short c.in_err-trace.ensures.bad_line)
 
 pub returns-in_err-trace-clause-refuses_no_trace : goal.returns-in_err-trace-clause-refuses_no_trace
 returns-in_err-trace-clause-refuses_no_trace c = λ events written short.
     let why = c.in_err-trace.field-0.0 in
-    handed c.from_residual.result (after_reading why) (λ x. x ≡ OutOfMemory) c.from_residual.ensures.1
-    (ap after_reading (c.in_err-trace.ensures.refuses_no_trace events written))
+    handed c.from_residual.result (Unread why) IsWantOfMemory c.from_residual.ensures.1
+    (subst (λ (x : TraceRefusal). IsWantOfMemory (Unread x)) (sym (c.in_err-trace.ensures.refuses_no_trace events written)) tt)
