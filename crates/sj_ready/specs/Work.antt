@@ -13,10 +13,12 @@ use Rattle.sj_lower.specs.Lowering.{lowered}
 use Rattle.sj_words.specs.Machine.{machine_by}
 use Rattle.sj_words.specs.declared.options.Options.{Options}
 
--- statements, the machine that is to run them, and whether the trace's text is to follow what they print
+-- statements, the machine that is to run them, whether a line is printed of each array in place of its elements, and whether the
+-- trace's text is to follow
 pub record Work : Type 0 where
   pub statements : List Statement
   pub machine : Machine
+  pub shows_summary : Bool
   pub shows_trace : Bool
 
 -- the program that is to be run: that of the statements, for as many workers as the machine has
@@ -37,7 +39,12 @@ within_limits w = elim (late_limit w.machine.workers w.statements) [ None ↦ Ok
 
 -- the work that options make of a job, with disks of these sizes
 abbrev pub work_with : Options → List ℕ → Job → Work
-work_with o disks job = record { statements = job.statements; machine = machine_for o disks job.settings; shows_trace = o.trace }
+work_with o disks job = record {
+  statements = job.statements;
+  machine = machine_for o disks job.settings;
+  shows_summary = o.summary;
+  shows_trace = o.trace;
+}
 
 -- a bad line stands before any limit of lowering
 abbrev pub asked_by : Options → List ℕ → Result Job Refusal → WorkOrRefusal

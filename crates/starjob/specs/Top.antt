@@ -20,10 +20,10 @@ use Rattle.starjob.specs.Traces.{Began, BeganWork, RanWhole}
 use Rattle.sj_ready.specs.Work.{Work, WorkOrRefusal, program_of}
 use Rattle.starjob.specs.Work.{OfWork, TellsWork}
 
--- the text of what the statements print when they are run one after another on plain arrays, and that of the trace where it is
--- asked for
+-- the text of what the statements print when they are run one after another on plain arrays, or its summary, and the text of the
+-- trace, each where it is asked for
 abbrev pub text_of : List Event → Work → List ℕ
-text_of trace w = output (printed w.statements) ++ (if w.shows_trace then text_of_trace trace else [])
+text_of trace w = output w.shows_summary (printed w.statements) ++ (if w.shows_trace then text_of_trace trace else [])
 
 -- ---- a status and what it says
 
