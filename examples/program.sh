@@ -100,12 +100,21 @@ unaccepted 'word 3, --no, is no option' --swap swap --no
 [ ! -e swap ]
 expect_true 'unaccepted words make no swap file' $?
 
+run "$good" --n 4
+expect 'a size without an application' 2 '' "$usage"
+
 run "$evicts" --workers 2 --node 64
 expect 'two workers on a small node' 0 $'a: 1 2 3\n' ''
 run "$evicts" --workers=4 --sched ws --node=64 --nodes 2
 expect 'four workers on two small nodes' 0 $'a: 1 2 3\n' ''
 run "$good" --trace
 expect 'the trace behind the output' 0 $'x: 1 2\nclaim t0 w0\nrun t0 w0\nend t0 w0\nclaim t1 w0\nrun t1 w0\nend t1 w0\n' ''
+run "$good" --summary
+expect 'a summary in place of the elements' 0 $'x 1 2: sum 3 min 1 max 2 inf 0\n' ''
+run $'starjob 1\nmatrix x 2 2 by 2 1 values inf -5 3 inf\nprint x\nvector y 2 fill inf 0\nprint y\n' --summary
+expect 'elements that are inf, in a summary' 0 $'x 2 2: sum -2 min -5 max 3 inf 2\ny 1 2: sum 0 min - max - inf 2\n' ''
+run "$good" --trace --summary
+expect 'the trace behind a summary' 0 $'x 1 2: sum 3 min 1 max 2 inf 0\nclaim t0 w0\nrun t0 w0\nend t0 w0\nclaim t1 w0\nrun t1 w0\nend t1 w0\n' ''
 run "$evicts" --trace
 expect 'the trace of a run that evicts' 0 $'a: 1 2 3\n'"$evicted"$'\n' ''
 run "$evicts" --node 24

@@ -24,6 +24,7 @@ pub record IsReady (has : Kernel → Bool) (asked : WorkOrRefusal) (r : Ready) :
   pub asked_for : asked ≡ Ok work
   pub program_is : r.program.value ≡ program_of work
   pub machine_is : r.machine ≡ work.machine
+  pub summary_is : r.shows_summary ≡ work.shows_summary
   pub trace_is : r.shows_trace ≡ work.shows_trace
   pub proper : Proper r.program.value
   pub lawful : IsLawful has r.program.value

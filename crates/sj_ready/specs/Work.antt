@@ -15,10 +15,12 @@ use Rattle.sj_needs.specs.Shortage.{FitRoom}
 use Rattle.sj_words.specs.Machine.{machine_by}
 use Rattle.sj_words.specs.declared.options.Options.{Options}
 
--- statements, the machine that is to run them, and whether the trace's text is to follow what they print
+-- statements, the machine that is to run them, whether a line is printed of each array in place of its elements, and whether the
+-- trace's text is to follow
 pub record Work : Type 0 where
   pub statements : List Statement
   pub machine : Machine
+  pub shows_summary : Bool
   pub shows_trace : Bool
 
 -- the program that is to be run: that of the statements, for as many workers as the machine has
@@ -39,7 +41,12 @@ within_limits w = elim (late_limit w.machine.workers w.statements) [ None ↦ Ok
 
 -- the work that options make of a job, with disks of these sizes
 abbrev pub work_with : Options → List ℕ → Job → Work
-work_with o disks job = record { statements = job.statements; machine = machine_for o disks job.settings; shows_trace = o.trace }
+work_with o disks job = record {
+  statements = job.statements;
+  machine = machine_for o disks job.settings;
+  shows_summary = o.summary;
+  shows_trace = o.trace;
+}
 
 -- what a job says, before it is looked at how it is lowered
 abbrev pub said_by : Options → List ℕ → Result Job Refusal → WorkOrRefusal

@@ -42,6 +42,8 @@ pub struct Ready {
     pub program: Arc<Program>,
     pub roots: Roots,
     pub machine: Machine,
+    /// A line is to be printed of each array, in place of its elements.
+    pub shows_summary: bool,
     /// The trace's text is to follow what the job prints.
     pub shows_trace: bool,
 }
@@ -107,6 +109,7 @@ fn lowered_for(
     alloc: Global,
     job: Job,
     machine: Machine,
+    shows_summary: bool,
     shows_trace: bool,
 ) -> Result<Ready, Unready>
     requires job { IsJob (statements_of job) }
@@ -115,6 +118,7 @@ fn lowered_for(
     ensures program { IfOk result (λ r.
         r.program.value ≡ lowered (statements_of job) machine.workers) }
     ensures machine { IfOk result (λ r. r.machine ≡ machine) }
+    ensures summary { IfOk result (λ r. r.shows_summary ≡ shows_summary) }
     ensures trace { IfOk result (λ r. r.shows_trace ≡ shows_trace) }
     ensures proper { IfOk result (λ r. Proper r.program.value) }
     ensures known { IfOk result (λ r. (has : Kernel → Bool) → IsJobIn has (statements_of job)
@@ -131,6 +135,7 @@ fn lowered_for(
         program,
         roots,
         machine,
+        shows_summary,
         shows_trace,
     })
 }
@@ -173,7 +178,7 @@ pub fn prepare<C: Codelets>(
 {
     let job = read_whole(alloc, text, codelets)?;
     let machine = machine_for(alloc, options, &job.settings, disks)?;
-    let ready = lowered_for(alloc, job, machine, options.trace)?;
+    let ready = lowered_for(alloc, job, machine, options.summary, options.trace)?;
     arguments_fit(&ready.program);
     laws_of(codelets);
     fits(alloc, &ready.program, &ready.machine)?;

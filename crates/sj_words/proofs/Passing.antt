@@ -13,7 +13,7 @@ use Rattle.clap.specs.Simple.{entered}
 use Rattle.clap.proofs.OnLiterals.{clap_on_literals}
 use Rattle.sj_words.specs.Spelling.{Text, is_flag, is_option, is_value, named, alone, with_next, first_then, or_else, said, stands_once}
 use Rattle.sj_words.specs.Command.{the_app}
-use Rattle.sj_words.proofs.Walking.{reads_option, rules, at, waits, met, use_pair, next_step, alone_step, named_whole, mapped, picks, and_both, or_cases, not_true, is_no_dashes, is_no_long, is_no_short, are_new, put_new, new_more, all_new}
+use Rattle.sj_words.proofs.Walking.{reads_option, rules, at, waits, met, use_pair, next_step, alone_step, named_whole, of_flag, mapped, picks, and_both, or_cases, not_true, is_no_dashes, is_no_long, is_no_short, are_new, put_new, new_more, all_new}
 
 abbrev top : Shape
 top = (built the_app).top
@@ -84,10 +84,18 @@ passes_option name e =
     (or_cases _ _ e))
     (or_cases _ _ e)
 
-flag_passes : (rows : List Row) (pending : Option (Text × List Text)) (skip p : ℕ)
-    → turn_passes top [] (at rows pending skip p) (codes "--trace") ≡ use_passed (settles rows pending skip) (has_row (codes "trace") (settled_rows rules pending rows))
+-- what `clap` asks of a flag of ours
+abbrev PassesFlag : Text → Type 0
+PassesFlag name = (rows : List Row) (pending : Option (Text × List Text)) (skip p : ℕ)
+    → turn_passes top [] (at rows pending skip p) (45 ∷ 45 ∷ name) ≡ use_passed (settles rows pending skip) (has_row name (settled_rows rules pending rows))
+
+passes_trace : PassesFlag (codes "trace")
 unfolding clap_on_literals
-flag_passes rows pending skip p = refl
+passes_trace rows pending skip p = refl
+
+passes_summary : PassesFlag (codes "summary")
+unfolding clap_on_literals
+passes_summary rows pending skip p = refl
 
 next_is : (name word : Text) (rows : List Row) (skip p : ℕ) → turn_passes top [] (waits name rows skip p) word ≡ next_passes name word rows skip p (bytes_eq word (45 ∷ 45 ∷ [])) (long_of word) (short_of word)
 unfolding clap_on_literals
@@ -111,9 +119,8 @@ alone_passes : (word : Text) (head : Option (Text × Option Text)) (q : Text × 
 alone_passes word None q rows pending skip p is e settled new = absurd (none-some q e)
 alone_passes word (Some (name, None)) q rows pending skip p is e settled new =
     let h = picks (is_flag name) (name, []) q e in
-    let flag : name ≡ codes "trace" = (bytes_eq-Decides name (codes "trace")).0 h.0 in
-    ap (turn_passes top [] (at rows pending skip p)) (named_whole word (name, None) is ∙ ap (λ n. 45 ∷ 45 ∷ n) flag) ∙ flag_passes rows pending skip p
-    ∙ (λ i. use_passed (settled i) (has_row (sym flag i) (settled_rows rules pending rows)))
+    ap (turn_passes top [] (at rows pending skip p)) (named_whole word (name, None) is) ∙ of_flag PassesFlag name passes_trace passes_summary h.0 rows pending skip p
+    ∙ ap (λ b. use_passed b (has_row name (settled_rows rules pending rows))) settled
     ∙ ap (use_passed true) (ap (λ (x : Text × Text). has_row x.0 (settled_rows rules pending rows)) h.1 ∙ new)
 alone_passes word (Some (name, Some value)) q rows pending skip p is e settled new =
     let h = picks (is_option name && is_value value) (name, value) q e in

@@ -139,31 +139,32 @@ pub record Reads (name : Text) : Type 0 where
   pub value : (word : Text) (rows : List Row) (skip p : ℕ) → next_walk name word rows skip p false None None ≡ at rows (Some (name, word ∷ [])) skip p
   pub settles : (value : Text) (rows : List Row) → settled_rows rules (Some (name, value ∷ [])) rows ≡ put name value rows
   pub no_flag : is_flag name ≡ false
-  pub flag_else : bytes_eq (codes "trace") name ≡ false
+  pub trace_else : bytes_eq (codes "trace") name ≡ false
+  pub summary_else : bytes_eq (codes "summary") name ≡ false
 
 reads_workers : Reads (codes "workers")
 unfolding clap_on_literals
-reads_workers = record { joined = λ v r q s p. refl; apart = λ r q s p. refl; value = λ w r s p. refl; settles = λ v r. refl; no_flag = refl; flag_else = refl }
+reads_workers = record { joined = λ v r q s p. refl; apart = λ r q s p. refl; value = λ w r s p. refl; settles = λ v r. refl; no_flag = refl; trace_else = refl; summary_else = refl }
 
 reads_sched : Reads (codes "sched")
 unfolding clap_on_literals
-reads_sched = record { joined = λ v r q s p. refl; apart = λ r q s p. refl; value = λ w r s p. refl; settles = λ v r. refl; no_flag = refl; flag_else = refl }
+reads_sched = record { joined = λ v r q s p. refl; apart = λ r q s p. refl; value = λ w r s p. refl; settles = λ v r. refl; no_flag = refl; trace_else = refl; summary_else = refl }
 
 reads_node : Reads (codes "node")
 unfolding clap_on_literals
-reads_node = record { joined = λ v r q s p. refl; apart = λ r q s p. refl; value = λ w r s p. refl; settles = λ v r. refl; no_flag = refl; flag_else = refl }
+reads_node = record { joined = λ v r q s p. refl; apart = λ r q s p. refl; value = λ w r s p. refl; settles = λ v r. refl; no_flag = refl; trace_else = refl; summary_else = refl }
 
 reads_nodes : Reads (codes "nodes")
 unfolding clap_on_literals
-reads_nodes = record { joined = λ v r q s p. refl; apart = λ r q s p. refl; value = λ w r s p. refl; settles = λ v r. refl; no_flag = refl; flag_else = refl }
+reads_nodes = record { joined = λ v r q s p. refl; apart = λ r q s p. refl; value = λ w r s p. refl; settles = λ v r. refl; no_flag = refl; trace_else = refl; summary_else = refl }
 
 reads_swap : Reads (codes "swap")
 unfolding clap_on_literals
-reads_swap = record { joined = λ v r q s p. refl; apart = λ r q s p. refl; value = λ w r s p. refl; settles = λ v r. refl; no_flag = refl; flag_else = refl }
+reads_swap = record { joined = λ v r q s p. refl; apart = λ r q s p. refl; value = λ w r s p. refl; settles = λ v r. refl; no_flag = refl; trace_else = refl; summary_else = refl }
 
 reads_swap_size : Reads (codes "swap-size")
 unfolding clap_on_literals
-reads_swap_size = record { joined = λ v r q s p. refl; apart = λ r q s p. refl; value = λ w r s p. refl; settles = λ v r. refl; no_flag = refl; flag_else = refl }
+reads_swap_size = record { joined = λ v r q s p. refl; apart = λ r q s p. refl; value = λ w r s p. refl; settles = λ v r. refl; no_flag = refl; trace_else = refl; summary_else = refl }
 
 reads_at : (name other : Text) → Reads other → bytes_eq name other ≡ true → Reads name
 reads_at name other r e = subst Reads (sym ((bytes_eq-Decides name other).0 e)) r
@@ -180,12 +181,26 @@ reads_option name e =
     (or_cases _ _ e))
     (or_cases _ _ e)
 
-walked_flag : (rows : List Row) (pending : Option (Text × List Text)) (skip p : ℕ)
-    → walked rules [] (at rows pending skip p) (codes "--trace") ≡ at (use_pair (settled_rows rules pending rows) (codes "trace", [])) None skip p
-unfolding clap_on_literals
-walked_flag rows pending skip p = refl
+-- what `clap` does with a flag of ours
+abbrev WalksFlag : Text → Type 0
+WalksFlag name = (rows : List Row) (pending : Option (Text × List Text)) (skip p : ℕ)
+    → walked rules [] (at rows pending skip p) (45 ∷ 45 ∷ name) ≡ at (use_pair (settled_rows rules pending rows) (name, [])) None skip p
 
--- an option isn't the flag, so its value is the one that is given
+walks_trace : WalksFlag (codes "trace")
+unfolding clap_on_literals
+walks_trace rows pending skip p = refl
+
+walks_summary : WalksFlag (codes "summary")
+unfolding clap_on_literals
+walks_summary rows pending skip p = refl
+
+-- what holds of both flags
+pub of_flag : (P : Text → Type 0) (name : Text) → P (codes "trace") → P (codes "summary") → is_flag name ≡ true → P name
+of_flag P name trace summary e =
+    ⊎_elim (λ e. subst P (sym ((bytes_eq-Decides name (codes "trace")).0 e)) trace) (λ e. subst P (sym ((bytes_eq-Decides name (codes "summary")).0 e)) summary)
+    (or_cases _ _ e)
+
+-- an option is no flag, so its value is the one that is given
 value_as_given : (name value : Text) (rows : List Row) → is_flag name ≡ false → put name value rows ≡ use_pair rows (name, value)
 value_as_given name value rows e = ap (λ b. put name (if b then codes "true" else value) rows) (sym e)
 
@@ -212,9 +227,8 @@ pub alone_step : (word : Text) (head : Option (Text × Option Text)) (q : Text �
 alone_step word None q rows pending skip p is e = absurd (none-some q e)
 alone_step word (Some (name, None)) q rows pending skip p is e =
     let h = picks (is_flag name) (name, []) q e in
-    let flag : name ≡ codes "trace" = (bytes_eq-Decides name (codes "trace")).0 h.0 in
-    ap (walked rules [] (at rows pending skip p)) (named_whole word (name, None) is ∙ ap (λ n. 45 ∷ 45 ∷ n) flag) ∙ walked_flag rows pending skip p
-    ∙ ap (λ x. at (use_pair (settled_rows rules pending rows) x) None skip p) (ap (λ n. (n, [])) (sym flag) ∙ h.1)
+    ap (walked rules [] (at rows pending skip p)) (named_whole word (name, None) is) ∙ of_flag WalksFlag name walks_trace walks_summary h.0 rows pending skip p
+    ∙ ap (λ x. at (use_pair (settled_rows rules pending rows) x) None skip p) h.1
 alone_step word (Some (name, Some value)) q rows pending skip p is e =
     let h = picks (is_option name && is_value value) (name, value) q e in
     let both = and_both (is_option name) (is_value value) h.0 in
@@ -329,15 +343,18 @@ pub all_new : (ps : List (Text × Text)) → are_new [] ps ≡ true
 all_new [] = refl
 all_new (p ∷ ps) = all_new ps
 
--- ---- the end of the walk: the flag has a default
+-- ---- the end of the walk: each flag has a default
 
-abbrev unset_row : Row
-unset_row = record { id = codes "trace"; values = codes "false" ∷ []; count = None; source = Some DefaultValue; reading = AsWritten }
+abbrev unset_row : Text → Row
+unset_row flag = record { id = flag; values = codes "false" ∷ []; count = None; source = Some DefaultValue; reading = AsWritten }
 
-abbrev with_unset : List Row → List Row
-with_unset rows = if has_row (codes "trace") rows then rows else at_row (codes "trace") (Rattle.clap.specs.Walk.more_values DefaultValue (codes "false" ∷ [])) (unset_row ∷ []) rows
+abbrev with_unset : Text → List Row → List Row
+with_unset flag rows = if has_row flag rows then rows else at_row flag (Rattle.clap.specs.Walk.more_values DefaultValue (codes "false" ∷ [])) (unset_row flag ∷ []) rows
 
-defaults : (rows : List Row) → fold with_default rows rules ≡ with_unset rows
+abbrev both_unset : List Row → List Row
+both_unset rows = with_unset (codes "summary") (with_unset (codes "trace") rows)
+
+defaults : (rows : List Row) → fold with_default rows rules ≡ both_unset rows
 unfolding clap_on_literals
 defaults rows =
     ap (λ r. fold with_default r (drop 1 rules)) (same_if (has_row (codes "workers") rows) rows) ∙ ap (λ r. fold with_default r (drop 2 rules)) (same_if (has_row (codes "sched") rows) rows)
@@ -348,7 +365,7 @@ matches_are : (words : List Text) → matches_of the_app words ≡ fold with_def
 unfolding clap_on_literals
 matches_are words = refl
 
-found_rows : (words : List Text) (ps : List (Text × Text)) → said words ≡ Some ps → stands_once ps ≡ true → matches_of the_app words ≡ with_unset (map pair_row ps)
+found_rows : (words : List Text) (ps : List (Text × Text)) → said words ≡ Some ps → stands_once ps ≡ true → matches_of the_app words ≡ both_unset (map pair_row ps)
 found_rows words ps so once =
     matches_are words ∙ ap (λ r. fold with_default r rules) (ends words ps so [] None 0 1 ∙ used_in_order ps [] once (all_new ps)) ∙ defaults (map pair_row ps)
 
@@ -367,12 +384,18 @@ no_row_found id (r ∷ rs) none =
     let both = or_none (bytes_eq r.id id) (has_row id rs) none in
     ap (λ b. cond b (Some r) (found_at id rs)) both.0 ∙ no_row_found id rs both.1
 
-unset_else : (id : Text) (rows : List Row) (b : Bool) → has_row (codes "trace") rows ≡ b → bytes_eq (codes "trace") id ≡ false → found_at id (with_unset rows) ≡ found_at id rows
-unset_else id rows true is ne = ap (λ b. found_at id (if b then rows else at_row (codes "trace") (Rattle.clap.specs.Walk.more_values DefaultValue (codes "false" ∷ [])) (unset_row ∷ []) rows)) is
-unset_else id rows false is ne =
-    ap (λ b. found_at id (if b then rows else at_row (codes "trace") (Rattle.clap.specs.Walk.more_values DefaultValue (codes "false" ∷ [])) (unset_row ∷ []) rows)) is
-    ∙ ap (found_at id) (at_missing (codes "trace") (Rattle.clap.specs.Walk.more_values DefaultValue (codes "false" ∷ [])) (unset_row ∷ []) rows is)
-    ∙ find-append (λ r. bytes_eq r.id id) rows (unset_row ∷ []) ∙ ap (λ b. option_or (found_at id rows) (cond b (Some unset_row) None)) ne ∙ or_none_is (found_at id rows)
+-- a flag's default changes nothing of other names
+unset_else : (flag id : Text) (rows : List Row) (b : Bool) → has_row flag rows ≡ b → bytes_eq flag id ≡ false → found_at id (with_unset flag rows) ≡ found_at id rows
+unset_else flag id rows true is ne = ap (λ b. found_at id (if b then rows else at_row flag (Rattle.clap.specs.Walk.more_values DefaultValue (codes "false" ∷ [])) (unset_row flag ∷ []) rows)) is
+unset_else flag id rows false is ne =
+    ap (λ b. found_at id (if b then rows else at_row flag (Rattle.clap.specs.Walk.more_values DefaultValue (codes "false" ∷ [])) (unset_row flag ∷ []) rows)) is
+    ∙ ap (found_at id) (at_missing flag (Rattle.clap.specs.Walk.more_values DefaultValue (codes "false" ∷ [])) (unset_row flag ∷ []) rows is)
+    ∙ find-append (λ r. bytes_eq r.id id) rows (unset_row flag ∷ []) ∙ ap (λ b. option_or (found_at id rows) (cond b (Some (unset_row flag)) None)) ne ∙ or_none_is (found_at id rows)
+
+both_else : (id : Text) (rows : List Row) → bytes_eq (codes "trace") id ≡ false → bytes_eq (codes "summary") id ≡ false → found_at id (both_unset rows) ≡ found_at id rows
+both_else id rows trace summary =
+    unset_else (codes "summary") id (with_unset (codes "trace") rows) (has_row (codes "summary") (with_unset (codes "trace") rows)) refl summary
+    ∙ unset_else (codes "trace") id rows (has_row (codes "trace") rows) refl trace
 
 abbrev first_value_of : Option Row → Option Text
 first_value_of = option_and_then (λ (r : Row). slice_get r.values 0)
@@ -392,36 +415,62 @@ value_is : (name : Text) (ps : List (Text × Text)) → is_flag name ≡ false �
 value_is name [] no_flag = refl
 value_is name (q ∷ ps) no_flag = value_step name q ps (bytes_eq q.0 name) refl no_flag (value_is name ps no_flag)
 
-has_given : (id : Text) (ps : List (Text × Text)) → has_row id (map pair_row ps) ≡ is_some (given id ps)
-has_given id [] = refl
-has_given id (q ∷ ps) = go (bytes_eq q.0 id) (has_given id ps)
-  where
-    go : (b : Bool) → has_row id (map pair_row ps) ≡ is_some (given id ps) → (b || has_row id (map pair_row ps)) ≡ is_some (option_map (λ (p : Text × Text). p.1) (cond b (Some q) (find (λ p. bytes_eq p.0 id) ps)))
-    go true e = refl
-    go false e = e
-
 abbrev text_of : Option Row → Option Text
 text_of = option_and_then Rattle.clap.specs.Walk.row_text
 
-flag_found : (ps : List (Text × Text)) → has_row (codes "trace") (map pair_row ps) ≡ true → text_of (found_at (codes "trace") (map pair_row ps)) ≡ Some (codes "true")
-flag_found [] e = absurd (true≢false (sym e))
-flag_found (q ∷ ps) e = go (is_flag q.0) refl (flag_found ps) e
-  where
-    go : (b : Bool) → is_flag q.0 ≡ b → (has_row (codes "trace") (map pair_row ps) ≡ true → text_of (found_at (codes "trace") (map pair_row ps)) ≡ Some (codes "true"))
-        → (is_flag q.0 || has_row (codes "trace") (map pair_row ps)) ≡ true → text_of (cond (is_flag q.0) (Some (pair_row q)) (found_at (codes "trace") (map pair_row ps))) ≡ Some (codes "true")
-    go true is ih e = ap (λ b. text_of (cond b (Some (record (pair_row q) { values = (if b then codes "true" else q.1) ∷ [] })) (found_at (codes "trace") (map pair_row ps)))) is
-    go false is ih e =
-        ap (λ b. text_of (cond b (Some (pair_row q)) (found_at (codes "trace") (map pair_row ps)))) is
-        ∙ ih (sym (ap (λ b. b || has_row (codes "trace") (map pair_row ps)) is) ∙ e)
+-- what a flag says, by its row
+abbrev flag_said : Option Row → Option Text
+flag_said None = Some (codes "false")
+flag_said (Some r) = Rattle.clap.specs.Walk.row_text r
 
-flag_is : (ps : List (Text × Text)) (b : Bool) → has_row (codes "trace") (map pair_row ps) ≡ b → text_of (found_at (codes "trace") (with_unset (map pair_row ps))) ≡ Some (if b then codes "true" else codes "false")
-flag_is ps true is =
-    ap (λ b. text_of (found_at (codes "trace") (if b then map pair_row ps else at_row (codes "trace") (Rattle.clap.specs.Walk.more_values DefaultValue (codes "false" ∷ [])) (unset_row ∷ []) (map pair_row ps)))) is ∙ flag_found ps is
-flag_is ps false is =
+has_found : (id : Text) (rows : List Row) → has_row id rows ≡ is_some (found_at id rows)
+has_found id [] = refl
+has_found id (r ∷ rs) = go (bytes_eq r.id id) (has_found id rs)
+  where
+    go : (b : Bool) → has_row id rs ≡ is_some (found_at id rs) → (b || has_row id rs) ≡ is_some (cond b (Some r) (found_at id rs))
+    go true e = refl
+    go false e = e
+
+row_said : (o : Option Row) → is_some o ≡ true → text_of o ≡ flag_said o
+row_said None e = absurd (true≢false (sym e))
+row_said (Some r) e = refl
+
+flag_text : (flag : Text) (rows : List Row) (b : Bool) → bytes_eq flag flag ≡ true → has_row flag rows ≡ b → text_of (found_at flag (with_unset flag rows)) ≡ flag_said (found_at flag rows)
+flag_text flag rows true same is =
+    ap (λ b. text_of (found_at flag (if b then rows else at_row flag (Rattle.clap.specs.Walk.more_values DefaultValue (codes "false" ∷ [])) (unset_row flag ∷ []) rows))) is
+    ∙ row_said (found_at flag rows) (sym (has_found flag rows) ∙ is)
+flag_text flag rows false same is =
+    let none = no_row_found flag rows is in
+    ap (λ b. text_of (found_at flag (if b then rows else at_row flag (Rattle.clap.specs.Walk.more_values DefaultValue (codes "false" ∷ [])) (unset_row flag ∷ []) rows))) is
+    ∙ ap (λ r. text_of (found_at flag r)) (at_missing flag (Rattle.clap.specs.Walk.more_values DefaultValue (codes "false" ∷ [])) (unset_row flag ∷ []) rows is)
+    ∙ ap text_of (find-append (λ r. bytes_eq r.id flag) rows (unset_row flag ∷ []) ∙ ap (λ o. option_or o (cond (bytes_eq flag flag) (Some (unset_row flag)) None)) none)
+    ∙ ap (λ b. text_of (cond b (Some (unset_row flag)) None)) same ∙ sym (ap flag_said none)
+
+-- a flag says whether it is given
+flag_given : (flag : Text) (ps : List (Text × Text)) → is_flag flag ≡ true → flag_said (found_at flag (map pair_row ps)) ≡ Some (if is_some (given flag ps) then codes "true" else codes "false")
+flag_given flag [] e = refl
+flag_given flag (q ∷ ps) e = go (bytes_eq q.0 flag) refl (flag_given flag ps e)
+  where
+    go : (b : Bool) → bytes_eq q.0 flag ≡ b → flag_said (found_at flag (map pair_row ps)) ≡ Some (if is_some (given flag ps) then codes "true" else codes "false")
+        → flag_said (cond b (Some (pair_row q)) (found_at flag (map pair_row ps))) ≡ Some (if is_some (option_map (λ (p : Text × Text). p.1) (cond b (Some q) (find (λ p. bytes_eq p.0 flag) ps))) then codes "true" else codes "false")
+    go true is ih = ap (λ b. Some (if b then codes "true" else q.1)) (ap is_flag ((bytes_eq-Decides q.0 flag).0 is) ∙ e)
+    go false is ih = ih
+
+-- what is found of a flag, where both have their defaults
+abbrev FlagFound : List (Text × Text) → Text → Type 0
+FlagFound ps flag = text_of (found_at flag (both_unset (map pair_row ps))) ≡ Some (if is_some (given flag ps) then codes "true" else codes "false")
+
+trace_found : (ps : List (Text × Text)) → FlagFound ps (codes "trace")
+trace_found ps =
     let rows = map pair_row ps in
-    ap (λ b. text_of (found_at (codes "trace") (if b then rows else at_row (codes "trace") (Rattle.clap.specs.Walk.more_values DefaultValue (codes "false" ∷ [])) (unset_row ∷ []) rows))) is
-    ∙ ap (λ r. text_of (found_at (codes "trace") r)) (at_missing (codes "trace") (Rattle.clap.specs.Walk.more_values DefaultValue (codes "false" ∷ [])) (unset_row ∷ []) rows is)
-    ∙ ap text_of (find-append (λ r. bytes_eq r.id (codes "trace")) rows (unset_row ∷ []) ∙ ap (λ o. option_or o (Some unset_row)) (no_row_found (codes "trace") rows is))
+    ap text_of (unset_else (codes "summary") (codes "trace") (with_unset (codes "trace") rows) (has_row (codes "summary") (with_unset (codes "trace") rows)) refl refl)
+    ∙ flag_text (codes "trace") rows (has_row (codes "trace") rows) refl refl ∙ flag_given (codes "trace") ps refl
+
+summary_found : (ps : List (Text × Text)) → FlagFound ps (codes "summary")
+summary_found ps =
+    let rows = map pair_row ps in
+    flag_text (codes "summary") (with_unset (codes "trace") rows) (has_row (codes "summary") (with_unset (codes "trace") rows)) refl refl
+    ∙ ap flag_said (unset_else (codes "trace") (codes "summary") rows (has_row (codes "trace") rows) refl refl) ∙ flag_given (codes "summary") ps refl
 
 pub holds_given : (found : Found) (words : List Text) (ps : List (Text × Text)) → rows_of found ≡ matches_of the_app words → said words ≡ Some ps → stands_once ps ≡ true → HoldsGiven found ps
 holds_given found words ps rows so once =
@@ -429,6 +478,6 @@ holds_given found words ps rows so once =
     record {
       values = λ name e.
           let r = reads_option name e in
-          first_value-rows found name ∙ ap (first_of name) all ∙ ap first_value_of (unset_else name (map pair_row ps) (has_row (codes "trace") (map pair_row ps)) refl r.flag_else) ∙ value_is name ps r.no_flag;
-      flag = one_text-rows found (codes "trace") ∙ ap (one_of (codes "trace")) all ∙ flag_is ps (is_some (given (codes "trace") ps)) (has_given (codes "trace") ps);
+          first_value-rows found name ∙ ap (first_of name) all ∙ ap first_value_of (both_else name (map pair_row ps) r.trace_else r.summary_else) ∙ value_is name ps r.no_flag;
+      flags = λ name e. one_text-rows found name ∙ ap (one_of name) all ∙ of_flag (FlagFound ps) name (trace_found ps) (summary_found ps) e;
     }

@@ -9,7 +9,7 @@ use Rattle.sj_words.specs.Spelling.{Text, alone, first_then, is_flag, is_option,
 use Rattle.sj_words.specs.Options.{asked_for, options}
 use Rattle.sj_words.specs.Written.{Item, flag, apart, joined, is_item, words_of, words_of_all, pair_of, AreWritten, AskFor}
 use Rattle.sj_words.specs.declared.options.Options.{Options}
-use Rattle.sj_words.proofs.Walking.{and_both, or_cases, picks, mapped, named_whole}
+use Rattle.sj_words.proofs.Walking.{and_both, or_cases, of_flag, picks, mapped, named_whole}
 
 -- ---- from what is said to what is written
 
@@ -94,8 +94,7 @@ said_next word next rest q none e = λ i. or_else (none i) (first_then (none i) 
 
 item_said : (item : Item) (rest : List Text) → is_item item ≡ true → said (words_of item ++ rest) ≡ option_map (λ xs. pair_of item ∷ xs) (said rest)
 item_said (flag name) rest good =
-    let same = (bytes_eq-Decides name (codes "trace")).0 good in
-    said_alone (45 ∷ 45 ∷ name) rest (name, []) (subst (λ n. alone (named (45 ∷ 45 ∷ n)) ≡ Some (n, [])) (sym same) refl)
+    said_alone (45 ∷ 45 ∷ name) rest (name, []) (of_flag (λ n. alone (named (45 ∷ 45 ∷ n)) ≡ Some (n, [])) name refl refl good)
 item_said (apart name value) rest good =
     let n = names_option name (and_both (is_option name) (is_value value) good).0 in
     said_next (45 ∷ 45 ∷ name) value rest (name, value)

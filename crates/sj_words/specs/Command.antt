@@ -5,24 +5,24 @@ use Rattle.clap.specs.Simple.{on_top}
 use Rattle.clap.specs.Matches.{one_text}
 use Rattle.clap.specs.declared.builder.action.ArgAction.TheVariants.{Set, SetTrue}
 use Rattle.clap.specs.declared.parser.matches.Found.{Found}
-use Rattle.sj_words.specs.Spelling.{Text, is_option, given}
+use Rattle.sj_words.specs.Spelling.{Text, is_flag, is_option, given}
 
 abbrev pub option_rule : Text → Rule
 option_rule name = record (new_rule name) { long = Some name; action = Some Set }
 
-abbrev pub trace_rule : Rule
-trace_rule = record (new_rule (codes "trace")) { long = Some (codes "trace"); action = Some SetTrue }
+abbrev pub flag_rule : Text → Rule
+flag_rule name = record (new_rule name) { long = Some name; action = Some SetTrue }
 
 -- without the program's name before the words, and without help and version
 abbrev pub bare_app : App
 bare_app = on_top (λ s. record s { no_binary_name = true; disable_help_flag = true; disable_version_flag = true }) (new_app (codes "starjob"))
 
 abbrev pub the_app : App
-the_app = with_rule (with_rule (with_rule (with_rule (with_rule (with_rule (with_rule bare_app (option_rule (codes "workers")))
+the_app = with_rule (with_rule (with_rule (with_rule (with_rule (with_rule (with_rule (with_rule bare_app (option_rule (codes "workers")))
     (option_rule (codes "sched"))) (option_rule (codes "node"))) (option_rule (codes "nodes"))) (option_rule (codes "swap")))
-    (option_rule (codes "swap-size"))) trace_rule
+    (option_rule (codes "swap-size"))) (flag_rule (codes "trace"))) (flag_rule (codes "summary"))
 
--- what was found holds the value of each option that is given, and whether the flag stands
+-- what was found holds the value of each option that is given, and whether each flag stands
 pub record HoldsGiven (found : Found) (ps : List (Text × Text)) : Type 0 where
   pub values : (name : Text) → is_option name ≡ true → first_value found name ≡ given name ps
-  pub flag : one_text found (codes "trace") ≡ Some (if is_some (given (codes "trace") ps) then codes "true" else codes "false")
+  pub flags : (name : Text) → is_flag name ≡ true → one_text found name ≡ Some (if is_some (given name ps) then codes "true" else codes "false")

@@ -41,6 +41,7 @@ asked_for ps =
       swap = given (codes "swap") ps;
       swap_size = swap_size;
       trace = is_some (given (codes "trace") ps);
+      summary = is_some (given (codes "summary") ps);
     }))
     (reads (number_in 0 (2 ^ 40)) (given (codes "swap-size") ps)))
     (reads (number_in 1 16) (given (codes "nodes") ps)))

@@ -14,7 +14,7 @@ texts = map string_bytes
 
 -- the words that say something alone, and those that say it with a value
 abbrev pub is_flag : Text → Bool
-is_flag name = bytes_eq name (codes "trace")
+is_flag name = bytes_eq name (codes "trace") || bytes_eq name (codes "summary")
 
 abbrev pub is_option : Text → Bool
 is_option name = bytes_eq name (codes "workers") || (bytes_eq name (codes "sched") || (bytes_eq name (codes "node")

@@ -3,7 +3,7 @@
 ghost use Rattle.std.specs.Prelude.{◌≡◌, ℕ, List, IfOk, Some, true, false};
 ghost use Rattle.clap.specs.Words.{app_of, found_of, rule_of, with_rule};
 ghost use Rattle.sj_words.specs.Spelling.{AreSpelled, said, texts};
-ghost use Rattle.sj_words.specs.Command.{HoldsGiven, option_rule, trace_rule, bare_app, the_app};
+ghost use Rattle.sj_words.specs.Command.{HoldsGiven, flag_rule, option_rule, bare_app, the_app};
 
 use clap::error::ErrorKind;
 use clap::{Arg, ArgAction, ArgMatches, Command};
@@ -25,6 +25,8 @@ pub const SWAP_SIZE: &str = "swap-size";
 
 pub const TRACE: &str = "trace";
 
+pub const SUMMARY: &str = "summary";
+
 // An option whose value is read as text.
 fn option<'a>(alloc: Global, name: &'a str) -> Arg<'a>
     ensures rule { rule_of result ≡ option_rule name.now }
@@ -33,14 +35,12 @@ fn option<'a>(alloc: Global, name: &'a str) -> Arg<'a>
     Arg::new(alloc, name).long(name).action(ArgAction::Set)
 }
 
-// The flag.
-fn trace<'a>(alloc: Global) -> Arg<'a>
-    ensures rule { rule_of result ≡ trace_rule }
+// A flag.
+fn flag<'a>(alloc: Global, name: &'a str) -> Arg<'a>
+    ensures rule { rule_of result ≡ flag_rule name.now }
     ensures local { result.global ≡ false }
 {
-    Arg::new(alloc, TRACE)
-        .long(TRACE)
-        .action(ArgAction::SetTrue)
+    Arg::new(alloc, name).long(name).action(ArgAction::SetTrue)
 }
 
 // The command without arguments. The words don't begin with the program's name.
@@ -64,6 +64,17 @@ fn with_option<'a>(
     command.arg(option(alloc, name))
 }
 
+// One flag more.
+fn with_flag<'a>(
+    alloc: Global,
+    command: Command<'a>,
+    name: &'a str,
+) -> Result<Command<'a>, AllocError>
+    ensures { IfOk result (λ c. app_of c ≡ with_rule (app_of command.entry) (flag_rule name.now)) }
+{
+    command.arg(flag(alloc, name))
+}
+
 // The command.
 fn command<'a>(alloc: Global) -> Result<Command<'a>, AllocError>
     ensures { IfOk result (λ c. app_of c ≡ the_app) }
@@ -74,7 +85,7 @@ fn command<'a>(alloc: Global) -> Result<Command<'a>, AllocError>
     let command = with_option(alloc, command, NODES)?;
     let command = with_option(alloc, command, SWAP)?;
     let command = with_option(alloc, command, SWAP_SIZE)?;
-    command.arg(trace(alloc))
+    with_flag(alloc, with_flag(alloc, command, TRACE)?, SUMMARY)
 }
 
 /// What the words give, as `clap` matches it. It refuses no words that are spelled right, so the

@@ -1,8 +1,8 @@
 //! The words of the command line: which lists of words are accepted, what they ask for, and the
 //! machine that they and a job ask for together.
 //!
-//! Words are read from the left. Each is the flag `--trace`, or an option with its value in the next
-//! word or behind its first `=`:
+//! Words are read from the left. Each is one of the flags `--trace` and `--summary`, or an option with
+//! its value in the next word or behind its first `=`:
 //!
 //! | Option | Value | Asks for |
 //! |---|---|---|

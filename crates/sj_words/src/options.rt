@@ -10,7 +10,7 @@ ghost use Rattle.sj_words.specs.Command.{HoldsGiven};
 ghost use Rattle.sj_words.specs.Options.{IsWithinLimits, asked_for, is_number, number_in, options, policy_in, reads};
 ghost use Rattle.sj_words.specs.Spelling.{texts};
 
-use crate::command::{NODE, NODES, SCHED, SWAP, SWAP_SIZE, TRACE, WORKERS, matches_of};
+use crate::command::{NODE, NODES, SCHED, SUMMARY, SWAP, SWAP_SIZE, TRACE, WORKERS, matches_of};
 use crate::path::SwapPath;
 use crate::spelling::{are_distinct, said_names};
 use clap::ArgMatches;
@@ -36,6 +36,8 @@ pub struct Options {
     pub swap_size: Option<u64>,
     /// Whether the trace is printed.
     pub trace: bool,
+    /// Whether a line is printed of each array in place of its elements.
+    pub summary: bool,
 }
 
 /// Why words weren't read.
@@ -205,6 +207,7 @@ fn asked_for(alloc: Global, matches: &ArgMatches<'_>) -> Result<Options, WordsRe
         swap: owned(alloc, matches.get_str(SWAP))?,
         swap_size,
         trace: matches.get_flag(TRACE),
+        summary: matches.get_flag(SUMMARY),
     })
 }
 

@@ -12,7 +12,7 @@ use std::alloc::{AllocError, Global};
 fn is_flag(name: &[u8]) -> bool
     ensures { result ≡ is_flag name.now }
 {
-    name == b"trace".as_slice()
+    name == b"trace".as_slice() || name == b"summary".as_slice()
 }
 
 fn is_option(name: &[u8]) -> bool

@@ -17,6 +17,7 @@ enum Says {
     Swap(&'static str),
     SwapSize(u64),
     Trace,
+    Summary,
     // Nothing that is accepted, wherever it stands.
     Nothing,
 }
@@ -71,7 +72,8 @@ fn good(number: usize) -> Piece {
         9 => make_piece("--swap==x", "", Says::Swap("=x")),
         10 => make_piece("--swap-size", "1099511627776", Says::SwapSize(1 << 40)),
         11 => make_piece("--swap-size=0000000000000000000", "", Says::SwapSize(0)),
-        _ => make_piece("--trace", "", Says::Trace),
+        12 => make_piece("--trace", "", Says::Trace),
+        _ => make_piece("--summary", "", Says::Summary),
     }
 }
 
@@ -104,7 +106,7 @@ fn bad(number: usize) -> Piece {
         23 => ("trace", ""),
         24 => ("-trace", ""),
         25 => ("--tr", ""),
-        26 => ("--summary", ""),
+        26 => ("--summary=", ""),
         _ => ("--app", "product"),
     };
     make_piece(first, second, Says::Nothing)
@@ -120,6 +122,7 @@ struct Model {
     swap: Option<&'static str>,
     swap_size: Option<u64>,
     trace: bool,
+    summary: bool,
     is_refused: bool,
 }
 
@@ -133,6 +136,7 @@ impl Model {
             swap: None,
             swap_size: None,
             trace: false,
+            summary: false,
             is_refused: false,
         }
     }
@@ -149,6 +153,11 @@ impl Model {
             Says::Trace => {
                 let again = self.trace;
                 self.trace = true;
+                again
+            }
+            Says::Summary => {
+                let again = self.summary;
+                self.summary = true;
                 again
             }
             Says::Nothing => true,
@@ -176,6 +185,7 @@ impl Model {
             && options.nodes == self.nodes
             && options.swap_size == self.swap_size
             && options.trace == self.trace
+            && options.summary == self.summary
             && self.has_path(options)
     }
 
@@ -263,7 +273,7 @@ fn by_chance(alloc: Global, seed: u64) -> Result<Line, AllocError> {
         let chosen = match seed >> 33 & 15 {
             0 => bad(number % 28),
             1..=7 => setting(number % 7, number & 8 == 8),
-            _ => good(number % 13),
+            _ => good(number % 14),
         };
         line.add(alloc, chosen)?;
     }

@@ -48,17 +48,19 @@ module _ (has : Kernel → Bool) (asked : WorkOrRefusal) (r : Ready) (ready : Is
     each_once = subst (λ (q : Program). EachRanOnce q trace) ready.program_is once;
   }
 
-  module _ (Tells : Type 0) (pairs : List (Task × Array)) (trace : List Event) (text : List ℕ) (each : DeliversEach p Tells pairs) (shows : ShowsRun r.roots p pairs (behind r.shows_trace trace) text) where
+  module _ (Tells : Type 0) (pairs : List (Task × Array)) (trace : List Event) (text : List ℕ) (each : DeliversEach p Tells pairs) (shows : ShowsRun r.shows_summary r.roots p pairs (behind r.shows_trace trace) text) where
     told : Tells → text ≡ text_of trace w
     told tells =
         let same = same-shown r.roots p pairs shows.shows.arrays shows.shows.among (each.arrays tells) in
-        let arrays : shows.arrays_text ≡ output (printed w.statements) = shows.shows.text_is ∙ ap output (same ∙ all-shown r.roots p w.statements ready.prints) in
-        shows.behind ∙ ap (λ (xs : List ℕ). xs ++ behind r.shows_trace trace) arrays ∙ ap (λ (b : Bool). output (printed w.statements) ++ behind b trace) ready.trace_is
+        let arrays : shows.arrays_text ≡ output w.shows_summary (printed w.statements) =
+        shows.shows.text_is ∙ ap (output r.shows_summary) (same ∙ all-shown r.roots p w.statements ready.prints) ∙ ap (λ (b : Bool). output b (printed w.statements)) ready.summary_is in
+        shows.behind ∙ ap (λ (xs : List ℕ). xs ++ behind r.shows_trace trace) arrays
+        ∙ ap (λ (b : Bool). output w.shows_summary (printed w.statements) ++ behind b trace) ready.trace_is
 
     silent : PrintsNothing w → text ≡ []
     silent nothing =
         let none : prints_of p ≡ 0 = count-prints r.roots p w.statements ready.prints ∙ ap length nothing.no_array in
-        let arrays : shows.arrays_text ≡ [] = shows.shows.text_is ∙ ap (λ (n : ℕ). output (map (λ k. shown r.roots shows.shows.arrays (deliveries_for p k)) (range_with_len 0 n))) none in
+        let arrays : shows.arrays_text ≡ [] = shows.shows.text_is ∙ ap (λ (n : ℕ). output r.shows_summary (map (λ k. shown r.roots shows.shows.arrays (deliveries_for p k)) (range_with_len 0 n))) none in
         shows.behind ∙ ap (λ (xs : List ℕ). xs ++ behind r.shows_trace trace) arrays ∙ ap (λ (b : Bool). behind b trace) (ready.trace_is ∙ nothing.no_trace)
 
     pub shows-work : IsFinished p r.machine trace → EachRanOnce p trace → IsOkAnd asked (IsTextOf Tells trace text)

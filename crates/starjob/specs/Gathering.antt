@@ -1,5 +1,5 @@
 -- The arrays of the print statements, put together from what deliver tasks handed over in any order.
-use Rattle.std.specs.Prelude.{◌≡◌, ◌+◌, ◌-◌, ◌<◌, ◌≤◌, ℕ, Some, None, List, ◌++◌, map, length, slice_get, All, AllPairs, Contains}
+use Rattle.std.specs.Prelude.{Bool, ◌≡◌, ◌+◌, ◌-◌, ◌<◌, ◌≤◌, ℕ, Some, None, List, ◌++◌, map, length, slice_get, All, AllPairs, Contains}
 use Rattle.std.specs.List.{range_with_len, slice_index_or}
 use Rattle.sj_base.specs.declared.ids.Root.{Root}
 use Rattle.sj_base.specs.declared.ids.Task.{Task}
@@ -93,14 +93,14 @@ pub record AreGrouped (T : Table) (p : Program) : Type 0 where
 abbrev pub AreAmong : Program → List (Task × Array) → (Task → Array) → Type 0
 AreAmong p pairs arrays = All (λ d. Contains pairs (d.task, arrays d.task)) p.deliveries
 
--- the text shows what was handed over
-pub record ShowsHanded (T : Table) (p : Program) (pairs : List (Task × Array)) (text : List ℕ) : Type 0 where
+-- the text shows what was handed over, or its summary
+pub record ShowsHanded (summary : Bool) (T : Table) (p : Program) (pairs : List (Task × Array)) (text : List ℕ) : Type 0 where
   pub arrays : Task → Array
   pub among : AreAmong p pairs arrays
-  pub text_is : text ≡ output (all_shown T arrays p)
+  pub text_is : text ≡ output summary (all_shown T arrays p)
 
 -- the text shows what was handed over, and then comes this
-pub record ShowsRun (T : Table) (p : Program) (pairs : List (Task × Array)) (after text : List ℕ) : Type 0 where
+pub record ShowsRun (summary : Bool) (T : Table) (p : Program) (pairs : List (Task × Array)) (after text : List ℕ) : Type 0 where
   pub arrays_text : List ℕ
-  pub shows : ShowsHanded T p pairs arrays_text
+  pub shows : ShowsHanded summary T p pairs arrays_text
   pub behind : text ≡ arrays_text ++ after

@@ -1,7 +1,8 @@
--- The text of the printed arrays.
-use Rattle.std.specs.Prelude.{ℕ, ◌*◌, ℤ, List, ◌++◌, map, take, drop, codes, decimal, flat_map, if◌then◌else◌}
+-- The text of the printed arrays, or a line of each.
+use Rattle.std.specs.Prelude.{ℕ, Bool, ◌*◌, ℤ, List, ◌++◌, map, take, drop, codes, decimal, flat_map, if◌then◌else◌}
 use Rattle.std.specs.List.{join_with_byte, range_with_len}
 use Rattle.std.specs.Fmt.{signed_decimal}
+use Rattle.sj_apps.specs.Summary.{summary_line}
 use Rattle.sj_base.specs.Array.{Array}
 use Rattle.sj_codelet.specs.MinPlus.{is_inf}
 use Rattle.sj_job.specs.declared.job.Kind.{Kind}
@@ -27,10 +28,10 @@ block_of Matrix name a =
     name ++ codes " " ++ decimal a.dims.rows ++ codes " " ++ decimal a.dims.cols ++ codes ":\n"
     ++ flat_map row_text (rows_of a)
 
--- what is written for what a print statement finds
-abbrev pub printed_block : Printed → List ℕ
-printed_block p = block_of p.kind p.name p.array
+-- what is written for what a print statement finds: where a summary is asked for, one line of the array
+abbrev pub printed_block : Bool → Printed → List ℕ
+printed_block summary p = if summary then summary_line p.name p.array else block_of p.kind p.name p.array
 
 -- what is written for the arrays that a job prints, in order
-abbrev pub output : List Printed → List ℕ
-output ps = flat_map printed_block ps
+abbrev pub output : Bool → List Printed → List ℕ
+output summary ps = flat_map (printed_block summary) ps

@@ -27,10 +27,10 @@ use Rattle.starjob.specs.Work.{Asked, Unaccepted, IfAsked, IfTold, IsToldAnd, as
 
 -- ---- what is printed
 
--- the text of what the statements print when they are run one after another on plain arrays, and that of the trace where it is
--- asked for
+-- the text of what the statements print when they are run one after another on plain arrays, or its summary, and the text of the
+-- trace, each where it is asked for
 abbrev pub text_of : List Event → Work → List ℕ
-text_of trace w = output (printed w.statements) ++ (if w.shows_trace then text_of_trace trace else [])
+text_of trace w = output w.shows_summary (printed w.statements) ++ (if w.shows_trace then text_of_trace trace else [])
 
 -- the sink took this text: the whole of it where the job is done, and a front of it where a call of the sink failed
 abbrev pub TakesText : Asked → Status → Device → Device → List Event → Type 0

@@ -9,7 +9,7 @@ ghost use Rattle.sj_plan.specs.Window.{gathered};
 ghost use Rattle.starjob.specs.Gathering.{HandedOver, AreGrouped, IsIndex, IsShown, ShowsHanded, all_shown, array_found, assembled, part_by, prints_of, rect_at, shown};
 ghost use Rattle.starjob.specs.Output.{output, printed_block};
 
-use crate::output::write_array;
+use crate::output::write_printed;
 use sj_base::memory::OutOfMemory;
 use sj_base::program::{Delivery, Program};
 use sj_base::tile::{Dims, Tile};
@@ -138,28 +138,30 @@ fn whole<'a>(dims: Dims, deliveries: &[Delivery], handed: &'a ByTask) -> Option<
     }
 }
 
-/// Appends what is printed of the deliveries of a print statement. Linear in the elements and in the text.
+/// Appends what is printed of the deliveries of a print statement: the array, or its summary. Linear in the elements and in the
+/// text.
 fn write_print(
     alloc: Global,
     text: &mut Vec<u8>,
     roots: &Roots,
     deliveries: &[Delivery],
     handed: &ByTask,
+    summary: bool,
 ) -> Result<(), OutOfMemory>
     requires handed { All (Contains handed.now.program.deliveries) deliveries.now }
     requires shown { IsShown roots.now (array_found handed.now) deliveries.now }
     ensures { OnOk result (text.new.items ≡ text.old.items
-        ++ printed_block (shown roots.now (array_found handed.now) deliveries.now)) }
+        ++ printed_block summary (shown roots.now (array_found handed.now) deliveries.now)) }
 {
     let root = deliveries[0].root;
     let info = roots.info(root);
     let name = roots.name(root);
     if let Some(tile) = whole(info.dims, deliveries, handed) {
-        return write_array(text, name, info.kind, tile);
+        return write_printed(text, name, info.kind, tile, summary);
     }
     let mut tile = blank(alloc, info.dims)?;
     put_in_place(&mut tile, deliveries, handed);
-    write_array(text, name, info.kind, &tile)
+    write_printed(text, name, info.kind, &tile, summary)
 }
 
 /// How many deliveries from the first on are of a print statement. Linear in them.
@@ -185,37 +187,43 @@ fn prints_of(program: &Program) -> u64
 
 /// What is printed of all deliveries, one print statement after another. Linear in the elements and in the text; one array is made
 /// at a time.
-fn write_prints(alloc: Global, roots: &Roots, handed: &ByTask) -> Result<Vec<u8>, OutOfMemory>
+fn write_prints(
+    alloc: Global,
+    roots: &Roots,
+    handed: &ByTask,
+    summary: bool,
+) -> Result<Vec<u8>, OutOfMemory>
     requires shown { (k : ℕ) → k < prints_of handed.now.program →
         IsShown roots.now (array_found handed.now) (deliveries_for handed.now.program k) }
     requires ascending { AllPairs (λ d e. d.print ≤ e.print) handed.now.program.deliveries }
     ensures { IfOk result (λ text. text.items
-        ≡ output (all_shown roots.now (array_found handed.now) handed.now.program)) }
+        ≡ output summary (all_shown roots.now (array_found handed.now) handed.now.program)) }
 {
     let program = handed.program();
     let mut text = Vec::new(alloc);
     let mut rest = program.deliveries.items();
     for print in 0..prints_of(program) {
         let (these, later) = rest.split_at(count_of(rest, print));
-        write_print(alloc, &mut text, roots, these, handed)?;
+        write_print(alloc, &mut text, roots, these, handed, summary)?;
         rest = later;
     }
     Ok(text)
 }
 
 /// What a job prints, from what its deliver tasks handed over in whatever order: of each print statement the array that its
-/// deliveries make. Linear in the program's tasks, in the elements and in the text; one array is made at a time.
+/// deliveries make, or its summary. Linear in the program's tasks, in the elements and in the text; one array is made at a time.
 pub fn text_of(
     alloc: Global,
     roots: &Roots,
     program: &Program,
     delivered: &Delivered,
+    summary: bool,
 ) -> Result<Vec<u8>, OutOfMemory>
     requires handed { HandedOver program.now delivered.now.pairs }
     requires grouped { AreGrouped roots.now program.now }
     ensures { IfOk result (λ text.
-        ShowsHanded roots.now program.now delivered.now.pairs text.items) }
+        ShowsHanded summary roots.now program.now delivered.now.pairs text.items) }
 {
     let handed = ByTask::of(alloc, program, delivered)?;
-    write_prints(alloc, roots, &handed)
+    write_prints(alloc, roots, &handed, summary)
 }

@@ -25,6 +25,8 @@ mod tests_of_machines;
 #[cfg(test)]
 mod tests_of_plans;
 #[cfg(test)]
+mod tests_of_summaries;
+#[cfg(test)]
 mod tests_of_threads;
 #[cfg(test)]
 mod tests_of_trouble;

@@ -1,11 +1,13 @@
-//! The text of the printed arrays.
+//! The text of the printed arrays, or a line of each.
 
-ghost use Rattle.std.specs.Prelude.{◌≡◌, ◌++◌, ◌∷◌, ◌*◌, length, flat_map, map, codes, decimal, OnOk};
+ghost use Rattle.std.specs.Prelude.{◌≡◌, ◌++◌, ◌∷◌, ◌*◌, if◌then◌else◌, length, flat_map, map, codes, decimal, OnOk};
 ghost use Rattle.std.specs.List.{join_with_byte};
+ghost use Rattle.sj_apps.specs.Summary.{summary_line};
 ghost use Rattle.sj_base.specs.Array.{area, array};
 ghost use Rattle.starjob.specs.Output.{element_text, row_text, rows_of, block_of};
 
 use itoa::Buffer;
+use sj_apps::summary::write_summary;
 use sj_base::memory::OutOfMemory;
 use sj_base::tile::{Dims, Tile};
 use sj_job::job::Kind;
@@ -94,14 +96,8 @@ fn write_dims(text: &mut Vec<u8>, dims: Dims) -> Result<(), OutOfMemory>
     Ok(())
 }
 
-/// Appends what is printed of an array: `NAME: ` and the elements of a vector, `NAME R C:` and the rows of a matrix. Linear in the
-/// text.
-pub fn write_array(
-    text: &mut Vec<u8>,
-    name: &[u8],
-    kind: Kind,
-    tile: &Tile,
-) -> Result<(), OutOfMemory>
+/// Appends the elements of an array: `NAME: ` and those of a vector, `NAME R C:` and the rows of a matrix. Linear in the text.
+fn write_array(text: &mut Vec<u8>, name: &[u8], kind: Kind, tile: &Tile) -> Result<(), OutOfMemory>
     ensures { OnOk result (text.new.items ≡ text.old.items ++ block_of kind name.now tile.now) }
 {
     text.extend_from_slice(name)?;
@@ -114,5 +110,24 @@ pub fn write_array(
             write_dims(text, tile.dims())?;
             write_rows(text, tile.dims(), tile.elements())
         }
+    }
+}
+
+/// Appends what is printed of an array: its elements, or one line of them all where a summary is asked for. Linear in the elements
+/// and in the text.
+pub fn write_printed(
+    text: &mut Vec<u8>,
+    name: &[u8],
+    kind: Kind,
+    tile: &Tile,
+    summary: bool,
+) -> Result<(), OutOfMemory>
+    ensures { OnOk result (text.new.items ≡ text.old.items ++ (if summary
+        then summary_line name.now tile.now else block_of kind name.now tile.now)) }
+{
+    if summary {
+        write_summary(text, name, tile)
+    } else {
+        write_array(text, name, kind, tile)
     }
 }

@@ -68,21 +68,22 @@ fn shared(program: &Arc<Program>) -> Result<Arc<Program>, OutOfMemory>
     Ok(program.clone()?)
 }
 
-/// The text of what a run handed over, and that of its trace where it is to follow. Linear in both.
+/// The text of what a run handed over, or its summary, and the text of its trace, each where it is asked for. Linear in both.
 fn shown(
     alloc: Global,
     roots: &Roots,
     program: &Program,
     delivered: &Delivered,
     trace: &Trace,
+    shows_summary: bool,
     shows_trace: bool,
 ) -> Result<Vec<u8>, OutOfMemory>
     requires handed { HandedOver program.now delivered.now.pairs }
     requires grouped { AreGrouped roots.now program.now }
-    ensures { IfOk result (λ text. ShowsRun roots.now program.now delivered.now.pairs
+    ensures { IfOk result (λ text. ShowsRun shows_summary roots.now program.now delivered.now.pairs
         (if shows_trace then text_of_trace trace.now.events else []) text.items) }
 {
-    let mut text = text_of(alloc, roots, program, delivered)?;
+    let mut text = text_of(alloc, roots, program, delivered, shows_summary)?;
     if shows_trace {
         let events = text_of_trace(alloc, trace)?;
         text.extend_from_slice(&events)?;
@@ -112,6 +113,7 @@ fn run_ready<C: Codelets, G: Gate, D: Disk + Send, R: Threads + Wait + Sync>(
         program,
         roots,
         machine,
+        shows_summary,
         shows_trace,
     } = ready;
     let Ok(shared) = shared(&program) else {
@@ -130,7 +132,15 @@ fn run_ready<C: Codelets, G: Gate, D: Disk + Send, R: Threads + Wait + Sync>(
             disks,
         };
     }
-    match shown(alloc, &roots, &program, &delivered, &trace, shows_trace) {
+    match shown(
+        alloc,
+        &roots,
+        &program,
+        &delivered,
+        &trace,
+        shows_summary,
+        shows_trace,
+    ) {
         Ok(text) => Run {
             text: Ok(text),
             trace,

@@ -23,7 +23,7 @@ returns-in_err-ready-clause-unready g c =
     let text = c.args.text.items in
     let m = c.in_ok-machine.machine in
     let job = job_seen c.in_ok-job.job in
-    let w : Work = record { statements = job.statements; machine = m; shows_trace = o.trace } in
+    let w : Work = record { statements = job.statements; machine = m; shows_summary = o.summary; shows_trace = o.trace } in
     let same = asked-is has o disks text job m c.in_ok-job.ensures.ok c.in_ok-machine.ensures.machine in
     handed c.from_residual-in_err-ready.result c.in_err-ready.field-0.0 (IsUnready (work_of has o disks text)) c.from_residual-in_err-ready.ensures.1
     (subst (λ (a : WorkOrRefusal). IsUnready a c.in_err-ready.field-0.0) same (c.in_err-ready.ensures.unready w refl refl))
@@ -36,7 +36,7 @@ returns-in_err-fits-clause-unready g c =
     let text = c.args.text.items in
     let m = c.in_ok-machine.machine in
     let job = job_seen c.in_ok-job.job in
-    let w : Work = record { statements = job.statements; machine = m; shows_trace = o.trace } in
+    let w : Work = record { statements = job.statements; machine = m; shows_summary = o.summary; shows_trace = o.trace } in
     let r = c.in_ok-ready.ensures in
     let asked : work_of has o disks text ≡ Ok w = sym (asked-is has o disks text job m c.in_ok-job.ensures.ok c.in_ok-machine.ensures.machine) ∙ within w r.within in
     let e = c.in_err-fits.field-0.0 in
@@ -51,7 +51,7 @@ returns-clause-ready g c =
     let text = c.args.text.items in
     let m = c.in_ok-machine.machine in
     let job = job_seen c.in_ok-job.job in
-    let w : Work = record { statements = job.statements; machine = m; shows_trace = o.trace } in
+    let w : Work = record { statements = job.statements; machine = m; shows_summary = o.summary; shows_trace = o.trace } in
     let r = c.in_ok-ready.ensures in
     let p = c.in_ok-ready.ready.program.value in
     let limits = c.in_ok-machine.ensures in
@@ -69,6 +69,7 @@ returns-clause-ready g c =
       asked_for = sym (asked-is has o disks text job m c.in_ok-job.ensures.ok limits.machine) ∙ within w r.within;
       program_is = r.program;
       machine_is = r.machine;
+      summary_is = r.summary;
       trace_is = r.trace;
       proper = r.proper;
       lawful = lawful;

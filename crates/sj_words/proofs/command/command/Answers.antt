@@ -1,7 +1,7 @@
-use Rattle.std.proofs.Common.{◌∙◌, ap, ap₂, codes}
+use Rattle.std.proofs.Common.{◌∙◌, ap, codes}
 use Rattle.std.proofs.lemmas.Result.{IfOk-weaker}
 use Rattle.clap.specs.Words.{App, with_rule}
-use Rattle.sj_words.specs.Command.{option_rule}
+use Rattle.sj_words.specs.Command.{flag_rule, option_rule}
 use Rattle.sj_words.proofs.command.command.Goals as goal
 
 pub returns : goal.returns
@@ -12,4 +12,5 @@ returns c =
     let four = c.in_ok-command-4.ensures ∙ ap (λ (a : App). with_rule a (option_rule (codes "nodes"))) three in
     let five = c.in_ok-command-5.ensures ∙ ap (λ (a : App). with_rule a (option_rule (codes "swap"))) four in
     let six = c.in_ok-command-6.ensures ∙ ap (λ (a : App). with_rule a (option_rule (codes "swap-size"))) five in
-    IfOk-weaker c.arg.result _ _ (λ r h. h.shape c.trace.ensures.local ∙ ap₂ with_rule six c.trace.ensures.rule) c.arg.ensures
+    let seven = c.in_ok-with_flag.ensures ∙ ap (λ (a : App). with_rule a (flag_rule (codes "trace"))) six in
+    IfOk-weaker c.with_flag-2.result _ _ (λ r h. h ∙ ap (λ (a : App). with_rule a (flag_rule (codes "summary"))) seven) c.with_flag-2.ensures

@@ -35,5 +35,5 @@ returns c =
     where-ok c.write_prints.result c.write_prints.ensures (λ text is. record {
       arrays = array_found h;
       among = found-each p h pairs c.in_ok-handed.ensures.pairs c.in_ok-handed.ensures.index c.requires.handed;
-      text_is = is ∙ ap (λ (q : Program). output (all_shown T (array_found h) q)) c.in_ok-handed.ensures.program;
+      text_is = is ∙ ap (λ (q : Program). output c.args.summary (all_shown T (array_found h) q)) c.in_ok-handed.ensures.program;
     })

@@ -45,11 +45,11 @@ loop-print-preserved c =
     let both = cut print_number k c.count_of.result p.deliveries c.loop-print.rest.now c.split_at.result.0.now c.split_at.result.1.now c.requires.ascending c.loop-print.invariant.rest c.count_of.ensures.count c.split_at.ensures.front c.split_at.ensures.back in
     let arrays = array_found c.args.handed.now in
     let f : ℕ → Printed = λ n. shown T arrays (deliveries_for p n) in
-    let one : printed_block (shown T arrays c.split_at.result.0.now) ≡ printed_block (f k) = ap (λ (ds : List Delivery). printed_block (shown T arrays ds)) both.0 in
-    let more : output (map f (range_with_len 0 (k + 1))) ≡ output (map f (range_with_len 0 k)) ++ printed_block (f k) =
-    ap output (map-range_with_len_more f 0 k k (omega arith)) ∙ flat_map-append printed_block (map f (range_with_len 0 k)) (f k ∷ []) ∙ ap (λ (xs : List ℕ). output (map f (range_with_len 0 k)) ++ xs) (append-nil (printed_block (f k))) in
+    let one : printed_block c.args.summary (shown T arrays c.split_at.result.0.now) ≡ printed_block c.args.summary (f k) = ap (λ (ds : List Delivery). printed_block c.args.summary (shown T arrays ds)) both.0 in
+    let more : output c.args.summary (map f (range_with_len 0 (k + 1))) ≡ output c.args.summary (map f (range_with_len 0 k)) ++ printed_block c.args.summary (f k) =
+    ap (output c.args.summary) (map-range_with_len_more f 0 k k (omega arith)) ∙ flat_map-append (printed_block c.args.summary) (map f (range_with_len 0 k)) (f k ∷ []) ∙ ap (λ (xs : List ℕ). output c.args.summary (map f (range_with_len 0 k)) ++ xs) (append-nil (printed_block c.args.summary (f k))) in
     record {
-      text = c.in_ok-write_print.ensures ∙ ap (λ (xs : List ℕ). xs ++ printed_block (shown T arrays c.split_at.result.0.now)) c.loop-print.invariant.text ∙ ap (λ (xs : List ℕ). output (map f (range_with_len 0 k)) ++ xs) one ∙ sym more;
+      text = c.in_ok-write_print.ensures ∙ ap (λ (xs : List ℕ). xs ++ printed_block c.args.summary (shown T arrays c.split_at.result.0.now)) c.loop-print.invariant.text ∙ ap (λ (xs : List ℕ). output c.args.summary (map f (range_with_len 0 k)) ++ xs) one ∙ sym more;
       rest = both.1;
     }
 
@@ -58,4 +58,4 @@ returns c =
     let p = c.args.handed.now.program in
     let arrays = array_found c.args.handed.now in
     let end : c.loop-print.print ≡ prints_of p = omega (arith, c.loop-print-test.false, c.loop-print.auto.print-end, c.prints_of-print-end.ensures, ap prints_of c.program-program.ensures) in
-    c.loop-print.invariant.text ∙ ap (λ (n : ℕ). output (map (λ k. shown c.args.roots.now arrays (deliveries_for p k)) (range_with_len 0 n))) end
+    c.loop-print.invariant.text ∙ ap (λ (n : ℕ). output c.args.summary (map (λ k. shown c.args.roots.now arrays (deliveries_for p k)) (range_with_len 0 n))) end

@@ -9,6 +9,6 @@ use Rattle.starjob.proofs.gathering.write_prints.Given as goal
 -- the print statements so far are written, and the deliveries of the others are left
 abbrev pub invariant-loop-print : goal.invariant-loop-print
 invariant-loop-print l = record {
-  text : l.text.items ≡ output (map (λ k. shown l.roots (array_found l.handed) (deliveries_for l.handed.program k)) (range_with_len 0 l.print));
+  text : l.text.items ≡ output l.summary (map (λ k. shown l.roots (array_found l.handed) (deliveries_for l.handed.program k)) (range_with_len 0 l.print));
   rest : l.rest ≡ filter (λ d. nat_le l.print d.print) l.handed.program.deliveries;
 }

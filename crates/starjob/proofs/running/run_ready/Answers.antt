@@ -64,5 +64,5 @@ returns-in-Ok-shown-clause-runs g c asked ready =
     let ok : IsOk c.run-result.result.result = subst IsOk (sym c.in_default-result.is) refl in
     let each = subst (λ (q : Program). DeliversEach q Tells pairs) c.in-Ok.ensures (c.run-result.ensures.delivers ok) in
     let finished = subst (λ (q : Program). IsFinished q m trace) c.in-Ok.ensures (c.run-result.ensures.finished ok) in
-    let shows = subst (λ (q : Program). ShowsRun c.args.ready.roots q pairs (behind c.args.ready.shows_trace trace) c.in-Ok-shown.text.items) c.deref.ensures c.in-Ok-shown.ensures in
+    let shows = subst (λ (q : Program). ShowsRun c.args.ready.shows_summary c.args.ready.roots q pairs (behind c.args.ready.shows_trace trace) c.in-Ok-shown.text.items) c.deref.ensures c.in-Ok-shown.ensures in
     shows-work g.C.Codelets.has asked c.args.ready ready Tells pairs trace c.in-Ok-shown.text.items each shows finished (c.finishes.ensures p m trace finished)
