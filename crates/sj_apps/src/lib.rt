@@ -4,3 +4,5 @@
 pub mod draft;
 pub mod paths;
 pub mod product;
+#[cfg(test)]
+mod tests;
