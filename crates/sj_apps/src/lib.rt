@@ -7,3 +7,5 @@ pub mod product;
 pub mod summary;
 #[cfg(test)]
 mod tests;
+#[cfg(test)]
+mod tests_of_jobs;
