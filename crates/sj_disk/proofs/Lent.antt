@@ -1,5 +1,5 @@
 -- A unit that is taken out, used and put back at once.
-use Rattle.std.proofs.Common.{◌≡◌, ℕ, true, false, ℤ, List, refl, sym, ap, ◌∙◌, subst, Bool, Option, Some, None, Result}
+use Rattle.std.proofs.Common.{◌≡◌, ℕ, true, false, ℤ, List, refl, ap, ◌∙◌, subst, Bool, Option, Some, None, Result}
 use Rattle.std.specs.Prelude.{slice_set, IfNone, IfSome, IsSome, IsSomeAnd}
 use Rattle.sj_base.specs.declared.ids.Cell.{Cell}
 use Rattle.sj_base.specs.declared.ids.DiskNo.{DiskNo}

@@ -1,12 +1,9 @@
 -- What a store and a fetch leave of a unit.
-use Rattle.std.proofs.Common.{◌≡◌, ℕ, ◌+◌, ◌≤◌, Bool, true, false, ℤ, List, [], ◌∷◌, ◌++◌, length, take, drop, slice_range, w64, refl, sym, ap, ◌∙◌, subst, append_assoc, arith, Option, Some, None, Result, Ok, Err, length-append}
-use Rattle.std.specs.Prelude.{option_map, replicate, All, FitsSigned, IfErr, IsSome, IsTrue, is_ok, is_some, OnOk}
+use Rattle.std.proofs.Common.{◌≡◌, ℕ, ◌+◌, ◌≤◌, Bool, true, false, ℤ, List, ◌++◌, length, take, drop, slice_range, w64, refl, sym, ap, ◌∙◌, subst, append_assoc, arith, Option, Some, None, Result, Ok, Err, length-append}
+use Rattle.std.specs.Prelude.{replicate, All, FitsSigned, IfErr, IsSome, IsTrue, is_ok, is_some, OnOk}
 use Rattle.std.proofs.lemmas.List.{length-replicate, take-append-drop}
-use Rattle.sj_base.specs.declared.ids.Cell.{Cell}
-use Rattle.sj_edge.specs.GivenBack.{IsGivenBack}
 use Rattle.sj_edge.specs.Held.{Fills, GivesHeld, HoldsAnyIn, written}
 use Rattle.sj_edge.proofs.Ranges.{length-slice_range, range-rest}
-use Rattle.sj_disk.specs.declared.directory.Extent.{Extent}
 use Rattle.sj_disk.specs.declared.directory.LastStore.{LastStore}
 use Rattle.sj_disk.specs.declared.refusal.DiskRefusal.{DiskRefusal}
 use Rattle.sj_disk.specs.declared.refusal.DiskRefusal.TheVariants.{DiskFault}
@@ -113,14 +110,6 @@ module _ {D : Type 0} (size faults mismatches : D → ℕ) (held : D → Option 
   -- ---- a fetch
 
   module _ {A : Type 0} (u : UnitState D) (s : IsSoundUnit size held u) (writes : ℕ) (xs : List ℤ) (many : length xs ≡ u.extent.length) (last : u.extent.last_store ≡ Some (last_store writes true)) (r : Result A DiskRefusal) (y : D) (looks : Looks size faults mismatches held (is_fault r) (is_damage r) u.disk y) where
-    pub sound-fetched : IsSoundUnit size held (unit_state y u.cell u.extent)
-    sound-fetched = record {
-      inside = omega (arith, s.inside, looks.size_stays);
-      fits = s.fits;
-      filled = subst (λ n. Fills (held y) n) (sym looks.size_stays) (subst (λ h. Fills h (size u.disk)) (sym looks.told_bytes_stay) s.filled);
-      headed = λ l el well. subst (λ h. GivesHeld h u.extent.position (header_bytes (header u.cell.0 l.writes u.extent.length))) (sym looks.told_bytes_stay) (s.headed l el well);
-    }
-
     pub unit-fetches : OnOk r (GivesHeld (held u.disk) u.extent.position (header_bytes (header u.cell.0 writes u.extent.length) ++ element_bytes xs)) → OnOk r (All (FitsSigned w64) xs) → RefusesFor u.extent.disk (header u.cell.0 writes u.extent.length) r → (IsSome (held u.disk) → GivesHeld (held u.disk) u.extent.position (header_bytes (header u.cell.0 writes u.extent.length)) → is_damage r ≡ false) → UnitFetches size faults mismatches held writes xs r u (unit_state y u.cell u.extent)
     unit-fetches gives fits refuses undamaged = record {
       looks_at_its_disk = looks;

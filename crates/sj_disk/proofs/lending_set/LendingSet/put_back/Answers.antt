@@ -4,10 +4,9 @@ use Rattle.std.specs.Vec.{vec_len}
 use Rattle.std.proofs.lemmas.Option.{slice_get_within}
 use Rattle.sj_base.specs.declared.ids.Cell.{Cell}
 use Rattle.sj_base.specs.declared.ids.DiskNo.{DiskNo}
-use Rattle.sj_disk.specs.declared.directory.Extent.{Extent}
 use Rattle.sj_disk.specs.Calls.{Fetches, Stores}
 use Rattle.sj_disk.specs.Directory.{disk_state}
-use Rattle.sj_disk.specs.Lending.{ComesFrom, IsTaken, LendingState, has_back, lending}
+use Rattle.sj_disk.specs.Lending.{IsTaken, LendingState, has_back, lending}
 use Rattle.sj_disk.specs.Rack.{Racked}
 use Rattle.sj_disk.specs.Sound.{IsSound}
 use Rattle.sj_disk.specs.Units.{IsSoundUnit, IsWorkedOn, UnitFetches, UnitState, UnitStores, unit_state}

@@ -1,4 +1,4 @@
-use Rattle.std.proofs.Common.{◌≡◌, ◌∙◌, ℕ, Bool, List, ap, false, sym, subst}
+use Rattle.std.proofs.Common.{◌≡◌, ◌∙◌, ℕ, List, ap, false, sym, subst}
 use Rattle.std.specs.List.{list_any}
 use Rattle.sj_disk.specs.Rack.{Racked, Shelved, is_out}
 use Rattle.sj_disk.proofs.Racking.{none_any, none_out}

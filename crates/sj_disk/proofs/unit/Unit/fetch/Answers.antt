@@ -2,7 +2,7 @@ use Rattle.std.proofs.Common.{◌≡◌, ℤ, List, ◌++◌, Some, length, take
 use Rattle.std.proofs.Math.Seq.{take-append_seam}
 use Rattle.sj_disk.specs.Directory.{last_store}
 use Rattle.sj_disk.specs.Units.{UnitFetches, UnitState, unit_state}
-use Rattle.sj_disk.proofs.Uniting.{sound-fetched, unit-fetches}
+use Rattle.sj_disk.proofs.Uniting.{unit-fetches}
 use Rattle.sj_disk.proofs.unit.Unit.fetch.Goals as goal
 
 pub returns-clause-fetches : goal.returns-clause-fetches
