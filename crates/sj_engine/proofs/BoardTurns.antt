@@ -1,5 +1,5 @@
 -- The calls of the board as turns of a worker.
-use Rattle.std.proofs.Common.{◌≡◌, ◌≢◌, ℕ, ◌<◌, Bool, true, false, List, ◌++◌, length, refl, sym, ap, ◌∙◌, subst, Option, None, Some}
+use Rattle.std.proofs.Common.{◌≡◌, ◌≢◌, ℕ, ◌<◌, Bool, true, false, List, [], ◌∷◌, ◌++◌, length, refl, sym, ap, ◌∙◌, subst, Option, None, Some}
 use Rattle.std.specs.Prelude.{IfSome, IsSomeAnd, option_map, slice_index_or, slice_set}
 use Rattle.std.proofs.lemmas.List.{get_or-set_same}
 use Rattle.sj_base.specs.declared.ids.Cell.{Cell}
@@ -19,11 +19,11 @@ use Rattle.sj_machine.specs.Board.{BoardState, EndsMoveOf, OnlyDisksChangeOn, em
 use Rattle.sj_machine.specs.BoardRow.{key_of, row_of_number}
 use Rattle.sj_machine.specs.BoardSound.{IsSoundBoard}
 use Rattle.sj_machine.specs.Sparing.{Spares, SparesMoved}
-use Rattle.sj_machine.specs.Standing.{CanHappen, IsMovingIn, IsMovingOut, IsTileMoved, IsTileOf, is_node, state, with_event}
+use Rattle.sj_machine.specs.Standing.{CanHappen, IsMovingIn, IsMovingOut, IsTileMoved, IsTileOf, Standing, is_node, state, with_event}
 use Rattle.sj_machine.specs.declared.hand.Hand.{Hand}
 use Rattle.sj_machine.specs.declared.fault.RunFault.{RunFault}
 use Rattle.sj_engine.specs.Stage.{HasClaimedRow, IsCarried, IsFreeRow, IsStoppedRow, MovesRow, row_in}
-use Rattle.sj_engine.specs.Turn.{IsTurnOf}
+use Rattle.sj_engine.specs.Turn.{Happens, IsTurnOf, NothingHappens, OneHappensAtMost}
 use Rattle.sj_engine.proofs.OtherRows.{IsBy}
 use Rattle.sj_engine.proofs.OwnRows.{claimed-row, phase-of, row-transfer, some-same, transfer-of}
 use Rattle.sj_engine.proofs.Turning.{turn-event, turn-hand}
@@ -31,6 +31,14 @@ use Rattle.sj_engine.proofs.Turning.{turn-event, turn-hand}
 -- the state after one event more
 pub state-after : {D : Type 0} (b : BoardState D) (y : BoardState D) (e : Event) → y.run ≡ with_event b.run e → state y.run ≡ after b.run.program b.run.machine (state b.run) e
 state-after b y e run = ap state run ∙ state_of-more b.run.program b.run.machine b.run.trace e
+
+-- what has happened on a board that was found as another
+module _ {D : Type 0} (b x y : BoardState D) (ex : x ≡ b) where
+  pub happened : (e : BoardState D → Event) → y.run ≡ with_event x.run (e x) → Happens (e b) b y
+  happened e run = ap (λ (r : Standing D). r.trace) run ∙ ap (λ (k : BoardState D). k.run.trace ++ e k ∷ []) ex
+
+  pub nothing-happened : y.run ≡ x.run → NothingHappens b y
+  nothing-happened run = ap (λ (r : Standing D). r.trace) run ∙ ap (λ (k : BoardState D). k.run.trace) ex
 
 module _ {D : Type 0} (size faults mismatches : D → ℕ) (held : D → Option (List ℕ)) (w : Worker) where
   -- ---- calls that change the worker's hand alone
@@ -52,6 +60,7 @@ module _ {D : Type 0} (size faults mismatches : D → ℕ) (held : D → Option 
       record {
         key = t.key ∙ ap key_of only;
         others = λ n other. t.others n other ∙ ap (λ (k : BoardState D). row_of_number k n) only;
+        one_event = subst (λ (k : BoardState D). OneHappensAtMost k y) only t.one_event;
         events = (t.events.0, t.events.1 ∙ ap (λ (k : BoardState D). (row_in k w).events ++ t.events.0) only);
         no_fault = λ none. sym (ap (λ (k : BoardState D). k.fault) only) ∙ t.no_fault none;
         counts = λ none. absurd (never (ap (λ (k : BoardState D). k.fault) (q ∙ ap (λ (k : BoardState D). failed k w fault) ex)) none);
@@ -157,6 +166,9 @@ module _ {D : Type 0} (size faults mismatches : D → ℕ) (held : D → Option 
       spares-is =
           subst (λ (o : Option Transfer). IfSome o (λ k. Spares b.run (Moved k.cell k.from k.to) y.run)) under-way
           (subst (λ (k : BoardState D). SparesMoved w k.run y.run) ex spares)
+
+      pub moved-event : Happens (Moved tr.cell tr.from tr.to) b y
+      moved-event = ap (λ (k : BoardState D). k.run.trace) moved-is
 
       pub moved-turn : IsTurnOf faults mismatches w b y
       moved-turn = has_event-turn b b b y (λ k. Moved tr.cell tr.from tr.to) refl refl here mover-is can-end moved-is spares-is

@@ -12,6 +12,7 @@ use Rattle.sj_base.specs.declared.mode.Access.{Access}
 use Rattle.sj_base.specs.declared.mode.Mode.{Mode}
 use Rattle.sj_base.specs.declared.mode.Mode.TheVariants.{R, W, RW, Scratch, Redux, Commute}
 use Rattle.sj_base.specs.declared.program.Program.{Program}
+use Rattle.sj_base.specs.declared.trace.Event.{Event}
 use Rattle.sj_base.specs.declared.trace.Event.TheVariants.{Claim, End}
 use Rattle.sj_base.specs.Array.{Array, zeros}
 use Rattle.sj_base.specs.Mode.{is_data, reads_value, starts_as_zeros}
@@ -39,7 +40,10 @@ use Rattle.sj_machine.specs.Standing.{CanHappen, state}
 use Rattle.sj_machine.specs.declared.hand.Hand.{Hand}
 use Rattle.sj_engine.specs.Operands.{IsShare}
 use Rattle.sj_engine.specs.Stage.{AreDone, HasClaimedRow, HoldResults, IsFreeRow, RunsRow, given_hand, row_in}
-use Rattle.sj_engine.specs.Turn.{IsTurnOf}
+use Rattle.sj_engine.specs.Turn.{IsTurnOf, NothingHappens}
+use Rattle.sj_engine.specs.Picking.{PickMakes}
+use Rattle.sj_engine.specs.declared.picking.Picked.{Picked}
+use Rattle.sj_engine.specs.declared.picking.Picked.TheVariants.{Task as PickedTask, Nothing, Failed, Over}
 use Rattle.sj_engine.proofs.BoardTurns.{event-turn, hand-put, state-after}
 use Rattle.sj_engine.proofs.OwnRows.{claimed-row, has-task, phase-of, some-same}
 use Rattle.sj_engine.proofs.Turning.{turn-hand}
@@ -216,3 +220,10 @@ module _ {D : Type 0} (size faults mismatches : D → ℕ) (held : D → Option 
                 let has : is_task_of w (progress (state b.run) own.0) ≡ true = or-left (is_claimed_by w (progress (state b.run) own.0)) (is_running_on w (progress (state b.run) own.0)) own.1 in
                 let two = sym (ap (λ (h : Hand). h.task) given) ∙ claim-sound.inside.hands_agree.tells no_fault w own.0 has in
                 absurd (let k : ◌≡◌ {A = Option Task} None (Some own.0) = two in cc)
+
+-- what a look makes after it found nothing
+pub picks-then : {D : Type 0} (w : Worker) (a b c : BoardState D) (picked : Picked) → NothingHappens a b → PickMakes w b c picked → PickMakes w a c picked
+picks-then w a b c (PickedTask t) nothing made = made ∙ ap (λ (l : List Event). l ++ Claim t w ∷ []) nothing
+picks-then w a b c Nothing nothing made = made ∙ nothing
+picks-then w a b c Failed nothing made = made ∙ nothing
+picks-then w a b c Over nothing made = made ∙ nothing

@@ -1,5 +1,5 @@
 -- A worker's turn on the board leaves the rows of all others, in one step or in several.
-use Rattle.std.proofs.Common.{◌≡◌, ◌≢◌, ℕ, suc, Bool, true, false, cond, List, [], ◌∷◌, ◌++◌, map, refl, sym, ap, ◌∙◌, subst, Option, None, Some, arith}
+use Rattle.std.proofs.Common.{◌≡◌, ◌≢◌, ℕ, suc, Bool, true, false, cond, List, [], ◌∷◌, ◌++◌, map, refl, sym, ap, ◌∙◌, subst, Option, None, Some, arith, inl, inr, ◌⊎◌}
 use Rattle.std.specs.Prelude.{filter, is_some, nat_eq, option_map, slice_set, unwrap_or, if◌then◌else◌}
 use Rattle.std.specs.List.{Contains}
 use Rattle.std.proofs.lemmas.Bool.Decides.{Decides-eqb}
@@ -33,7 +33,7 @@ use Rattle.sj_machine.specs.Sparing.{SparesUsed, Spares}
 use Rattle.sj_machine.specs.Standing.{CanHappen, Standing, state, with_event}
 use Rattle.sj_machine.specs.declared.hand.Hand.{Hand}
 use Rattle.sj_engine.specs.Stage.{BeginsWith, row_in}
-use Rattle.sj_engine.specs.Turn.{IsSharedSound, IsTurnOf}
+use Rattle.sj_engine.specs.Turn.{IsSharedSound, IsTurnOf, NothingHappens}
 use Rattle.sj_engine.proofs.OtherRows.{IsBy, StaysFor, Step-stays}
 
 abbrev a_worker : ℕ → Worker
@@ -137,12 +137,14 @@ events-more n trace e = (filter (is_event_of n) (e ∷ []), filter-append (is_ev
 
 module _ {D : Type 0} (faults mismatches : D → ℕ) (w : Worker) where
   pub turn-same : (b : BoardState D) → IsTurnOf faults mismatches w b b
-  turn-same b = record { key = refl; others = λ n other. refl; events = ([], sym (append-nil (row_in b w).events)); no_fault = λ e. e; counts = λ e. (refl, refl) }
+  turn-same b = record { key = refl; others = λ n other. refl; one_event = inl refl; events = ([], sym (append-nil (row_in b w).events)); no_fault = λ e. e; counts = λ e. (refl, refl) }
 
-  pub turn-then : (a b c : BoardState D) → IsTurnOf faults mismatches w a b → IsTurnOf faults mismatches w b c → IsTurnOf faults mismatches w a c
-  turn-then a b c x y = record {
+  -- two turns of which the first makes no event
+  pub turn-then : (a b c : BoardState D) → NothingHappens a b → IsTurnOf faults mismatches w a b → IsTurnOf faults mismatches w b c → IsTurnOf faults mismatches w a c
+  turn-then a b c nothing x y = record {
     key = y.key ∙ x.key;
     others = λ n other. y.others n other ∙ x.others n other;
+    one_event = subst (λ (l : List Event). (c.run.trace ≡ l) ⊎ ((e : Event) × (c.run.trace ≡ l ++ e ∷ []))) nothing y.one_event;
     events = (x.events.0 ++ y.events.0, y.events.1 ∙ ap (λ (l : List Event). l ++ y.events.0) x.events.1 ∙ append_assoc (row_in a w).events x.events.0 y.events.0);
     no_fault = λ e. x.no_fault (y.no_fault e);
     counts = λ e. (let one = x.counts (y.no_fault e) in let two = y.counts e in (two.0 ∙ one.0, two.1 ∙ one.1));
@@ -153,6 +155,7 @@ module _ {D : Type 0} (faults mismatches : D → ℕ) (w : Worker) where
   turn-hand b hand b' run hands fault = record {
     key = ap (λ (r : Standing D). let k : BoardKey D = record { program = r.program; machine = r.machine; opened = r.opened } in k) run;
     others = λ n other. others n other;
+    one_event = inl (ap (λ (r : Standing D). r.trace) run);
     events = ([], ap (λ (r : Standing D). filter (is_event_of w.0) r.trace) run ∙ sym (append-nil (row_in b w).events));
     no_fault = fault;
     counts = λ e. (ap (λ (r : Standing D). map faults r.disks.disks) run, ap (λ (r : Standing D). map mismatches r.disks.disks) run);
@@ -168,6 +171,7 @@ module _ {D : Type 0} (faults mismatches : D → ℕ) (w : Worker) where
   turn-disks b b' same counts = record {
     key = ap key_of same;
     others = λ n other. ap (λ (x : BoardState D). row_of_number x n) same;
+    one_event = inl (ap (λ (x : BoardState D). x.run.trace) same);
     events = ([], ap (λ (x : BoardState D). (row_in x w).events) same ∙ sym (append-nil (row_in b w).events));
     no_fault = λ e. sym (ap (λ (x : BoardState D). x.fault) same) ∙ e;
     counts = λ e. counts;
@@ -182,6 +186,7 @@ module _ {D : Type 0} (faults mismatches : D → ℕ) (w : Worker) where
     turn-event e b' by can spares run hands fault = record {
       key = ap (λ (r : Standing D). let k : BoardKey D = record { program = r.program; machine = r.machine; opened = r.opened } in k) run;
       others = others;
+      one_event = inr (e, ap (λ (r : Standing D). r.trace) run);
       events = subst (λ (r : Standing D). BeginsWith (filter (is_event_of w.0) r.trace) (row_in b w).events) (sym run) (events-more w.0 b.run.trace e);
       no_fault = fault;
       counts = λ f. (ap (λ (r : Standing D). map faults r.disks.disks) run, ap (λ (r : Standing D). map mismatches r.disks.disks) run);

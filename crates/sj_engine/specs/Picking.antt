@@ -1,9 +1,12 @@
--- What a worker's row tells after it has looked for a task.
+-- What a worker's row tells after it has looked for a task, and what has happened.
 use Rattle.sj_base.specs.declared.ids.Worker.{Worker}
+use Rattle.sj_base.specs.declared.trace.Event.TheVariants.{Claim}
+use Rattle.sj_machine.specs.Board.{BoardState}
 use Rattle.sj_machine.specs.BoardRow.{BoardRow}
 use Rattle.sj_engine.specs.declared.picking.Picked.{Picked}
 use Rattle.sj_engine.specs.declared.picking.Picked.TheVariants.{Task, Nothing, Failed, Over}
 use Rattle.sj_engine.specs.Stage.{HasClaimedRow, IsFreeRow, IsStoppedRow}
+use Rattle.sj_engine.specs.Turn.{Happens, NothingHappens}
 
 -- it has claimed the task, or has nothing in hand, or has stopped
 abbrev pub AfterPick : Worker → BoardRow → Picked → Type 0
@@ -18,3 +21,10 @@ AfterClaim w r (Task t) = HasClaimedRow w t r
 AfterClaim w r Nothing = IsFreeRow r
 AfterClaim w r Failed = IsFreeRow r
 AfterClaim w r Over = ⊥
+
+-- where it has claimed a task, its claim has happened; else nothing
+abbrev pub PickMakes : {D : Type 0} → Worker → BoardState D → BoardState D → Picked → Type 0
+PickMakes w old new (Task t) = Happens (Claim t w) old new
+PickMakes w old new Nothing = NothingHappens old new
+PickMakes w old new Failed = NothingHappens old new
+PickMakes w old new Over = NothingHappens old new

@@ -1,4 +1,4 @@
--- What a worker's row tells after a step for the task that it has claimed.
+-- What a worker's row tells after a step for the task that it has claimed, and what has happened.
 use Rattle.std.specs.Prelude.{◌≡◌, ◌<◌, ℕ, true, Option, List, IsSomeAnd, length}
 use Rattle.sj_base.specs.declared.ids.Cell.{Cell}
 use Rattle.sj_base.specs.declared.ids.Place.{Place}
@@ -7,13 +7,17 @@ use Rattle.sj_base.specs.declared.ids.Task.{Task}
 use Rattle.sj_base.specs.declared.ids.Worker.{Worker}
 use Rattle.sj_base.specs.declared.program.Program.{Program}
 use Rattle.sj_base.specs.Array.{Array}
+use Rattle.sj_base.specs.declared.trace.Event.TheVariants.{Drop, Move, Run}
 use Rattle.sj_core.specs.declared.progress.Transfer.{Transfer}
+use Rattle.sj_core.specs.Needs.{node_of}
+use Rattle.sj_machine.specs.Board.{BoardState}
 use Rattle.sj_machine.specs.BoardRow.{BoardKey, BoardRow}
 use Rattle.sj_machine.specs.Standing.{is_node}
 use Rattle.sj_machine.specs.Tiles.{array_in}
 use Rattle.sj_engine.specs.declared.stepping.Step.{Step}
 use Rattle.sj_engine.specs.declared.stepping.Step.TheVariants.{Begun, Moves, Discarded, Waits, Stopped, Failed}
 use Rattle.sj_engine.specs.Stage.{HasClaimedRow, HasOperands, IsCarried, IsFreeRow, IsStoppedRow, MovesRow}
+use Rattle.sj_engine.specs.Turn.{Happens, NothingHappens}
 
 abbrev pub transfer_of : Cell → Place → Place → Transfer
 transfer_of cell from to = record { cell = cell; from = from; to = to }
@@ -36,3 +40,12 @@ AfterStep held k w t r Discarded = HasClaimedRow w t r
 AfterStep held k w t r Waits = HasClaimedRow w t r
 AfterStep held k w t r Stopped = IsStoppedRow r
 AfterStep held k w t r Failed = IsFreeRow r
+
+-- the event with which its kernel or a transfer has begun, or the drop of a copy from its node; else nothing
+abbrev pub StepMakes : {D : Type 0} → Worker → Task → BoardState D → BoardState D → Step → Type 0
+StepMakes w t old new (Begun frame) = Happens (Run t w) old new
+StepMakes w t old new (Moves cell from to share) = Happens (Move cell from to) old new
+StepMakes w t old new Discarded = (c : Cell) × Happens (Drop c (node_of old.run.machine w)) old new
+StepMakes w t old new Waits = NothingHappens old new
+StepMakes w t old new Stopped = NothingHappens old new
+StepMakes w t old new Failed = NothingHappens old new

@@ -1,6 +1,7 @@
 -- What a turn of a worker leaves on the board.
-use Rattle.std.specs.Prelude.{◌≡◌, ◌≢◌, ◌<◌, ℕ, Option, None, List}
+use Rattle.std.specs.Prelude.{◌≡◌, ◌≢◌, ◌<◌, ◌++◌, ◌∷◌, [], ◌⊎◌, ℕ, Option, None, List}
 use Rattle.sj_base.specs.declared.ids.Worker.{Worker}
+use Rattle.sj_base.specs.declared.trace.Event.{Event}
 use Rattle.sj_desk.specs.Seats.{DeskFacts}
 use Rattle.sj_disk.specs.Holding.{CountsStay}
 use Rattle.sj_machine.specs.Board.{BoardState}
@@ -13,11 +14,24 @@ pub record IsSharedSound {D : Type 0} (size faults mismatches : D → ℕ) (held
   pub board : IsSoundBoard size faults mismatches held b
   pub counts : b.fault ≡ None → CountsStay faults mismatches b.run.opened b.run.disks.disks
 
--- a turn of the worker: the key is as it was, and the rows of all others; the worker's own events go on; and where no fault is
--- kept after it, none was before, and no count of a disk has changed
+-- the event has happened, and no other
+abbrev pub Happens : {D : Type 0} → Event → BoardState D → BoardState D → Type 0
+Happens e old new = new.run.trace ≡ old.run.trace ++ e ∷ []
+
+-- no event has happened
+abbrev pub NothingHappens : {D : Type 0} → BoardState D → BoardState D → Type 0
+NothingHappens old new = new.run.trace ≡ old.run.trace
+
+-- the trace is as it was, or one event longer
+abbrev pub OneHappensAtMost : {D : Type 0} → BoardState D → BoardState D → Type 0
+OneHappensAtMost old new = NothingHappens old new ⊎ ((e : Event) × Happens e old new)
+
+-- a turn of the worker: the key is as it was, and the rows of all others; one event happens at most, and the worker's own events
+-- go on; and where no fault is kept after it, none was before, and no count of a disk has changed
 pub record IsTurnOf {D : Type 0} (faults mismatches : D → ℕ) (w : Worker) (old new : BoardState D) : Type 0 where
   pub key : key_of new ≡ key_of old
   pub others : (n : ℕ) → n ≢ w.0 → row_of_number new n ≡ row_of_number old n
+  pub one_event : OneHappensAtMost old new
   pub events : KeepsEvents w old new
   pub no_fault : new.fault ≡ None → old.fault ≡ None
   pub counts : new.fault ≡ None → CountsStay faults mismatches old.run.disks.disks new.run.disks.disks

@@ -1,9 +1,10 @@
 //! The end of a worker's task.
 
 ghost use Rattle.std.specs.Prelude.{◌≡◌, IsTrue, None, false, is_some};
+ghost use Rattle.sj_base.specs.declared.trace.Event.TheVariants.{End};
 ghost use Rattle.sj_machine.specs.BoardRow.{key_of};
 ghost use Rattle.sj_engine.specs.Stage.{AreDone, IsFreeRow, RunsRow, row_in};
-ghost use Rattle.sj_engine.specs.Turn.{IsTurnOf, IsWorkerOf};
+ghost use Rattle.sj_engine.specs.Turn.{Happens, IsTurnOf, IsWorkerOf, NothingHappens};
 
 use crate::shared_board::SharedBoard;
 use sj_base::ids::{Task, Worker};
@@ -19,6 +20,7 @@ impl<D: Disk> SharedBoard<D> {
         requires results { AreDone D.held (key_of self.old) w t (row_in self.old w) results.slots }
         ensures turn { IsTurnOf D.faults D.mismatches w self.old self.new }
         ensures row { IsFreeRow (row_in self.new w) }
+        ensures event { Happens (End t w) self.old self.new }
     {
         self.board.is_sound();
         self.board.end(t, w, results);
@@ -31,6 +33,7 @@ impl<D: Disk> SharedBoard<D> {
         requires none_given { (row_in self.old w).hand.given ≡ None }
         ensures turn { IsTurnOf D.faults D.mismatches w self.old self.new }
         ensures row { IsFreeRow (row_in self.new w) }
+        ensures no_event { NothingHappens self.old self.new }
         ensures fault { IsTrue (is_some self.new.fault) }
     {
         self.board.is_sound();

@@ -1,12 +1,13 @@
 //! The ends of a worker's transfers.
 
 ghost use Rattle.std.specs.Prelude.{◌≡◌, MatchBool, false, true};
+ghost use Rattle.sj_base.specs.declared.trace.Event.TheVariants.{Moved};
 ghost use Rattle.sj_core.specs.Program.{dims_of};
 ghost use Rattle.sj_machine.specs.Board.{BoardState, HasCause, OnlyDisksChangeOn};
 ghost use Rattle.sj_machine.specs.BoardRow.{key_of};
 ghost use Rattle.sj_machine.specs.Standing.{is_node};
 ghost use Rattle.sj_engine.specs.Stage.{HasClaimedRow, IsCarried, IsFreeRow, MovesRow, row_in};
-ghost use Rattle.sj_engine.specs.Turn.{IsTurnOf, IsWorkerOf};
+ghost use Rattle.sj_engine.specs.Turn.{Happens, IsTurnOf, IsWorkerOf, NothingHappens};
 
 use crate::shared_board::SharedBoard;
 use sj_base::ids::{Task, Worker};
@@ -25,6 +26,7 @@ impl<D: Disk> SharedBoard<D> {
         requires cause { HasCause D.faults D.mismatches D.held self.old.run fault }
         ensures turn { (b : BoardState D) → OnlyDisksChangeOn b self.old → IsTurnOf D.faults D.mismatches w b self.new }
         ensures row { IsFreeRow (row_in self.new w) }
+        ensures no_event { NothingHappens self.old self.new }
     {
         self.board.is_sound();
         self.board.fail(w, fault);
@@ -38,6 +40,7 @@ impl<D: Disk> SharedBoard<D> {
         requires tile { IsCarried D.held (key_of self.old) x (row_in self.old w) tile.value }
         ensures turn { IsTurnOf D.faults D.mismatches w self.old self.new }
         ensures row { HasClaimedRow w t (row_in self.new w) }
+        ensures event { Happens (Moved x.cell x.from x.to) self.old self.new }
     {
         self.board.is_sound();
         self.board.end_move_in(w, tile);
@@ -52,6 +55,7 @@ impl<D: Disk> SharedBoard<D> {
         requires tile { IsCarried D.held (key_of self.old) x (row_in self.old w) tile.now }
         ensures turn { IsTurnOf D.faults D.mismatches w self.old self.new }
         ensures row { MatchBool result (HasClaimedRow w t (row_in self.new w)) (IsFreeRow (row_in self.new w)) }
+        ensures event { MatchBool result (Happens (Moved x.cell x.from x.to) self.old self.new) (NothingHappens self.old self.new) }
     {
         self.board.is_sound();
         if let Err(refusal) = self.board.store(w, tile) {
@@ -80,6 +84,7 @@ impl<D: Disk> SharedBoard<D> {
         requires dims { tile.dims ≡ dims_of self.old.run.program x.cell }
         ensures turn { IsTurnOf D.faults D.mismatches w self.old self.new }
         ensures row { MatchBool result (HasClaimedRow w t (row_in self.new w)) (IsFreeRow (row_in self.new w)) }
+        ensures event { MatchBool result (Happens (Moved x.cell x.from x.to) self.old self.new) (NothingHappens self.old self.new) }
     {
         self.board.is_sound();
         if let Err(refusal) = self.board.fetch(w, &mut tile) {

@@ -2,9 +2,9 @@
 
 ghost use Rattle.std.specs.Prelude.{◌≡◌, IfNone, IfSome, IsTrue, None, is_some};
 ghost use Rattle.sj_machine.specs.Board.{IsOver};
-ghost use Rattle.sj_engine.specs.Picking.{AfterClaim, AfterPick};
+ghost use Rattle.sj_engine.specs.Picking.{AfterClaim, AfterPick, PickMakes};
 ghost use Rattle.sj_engine.specs.Stage.{IsFreeRow, IsStoppedRow, given_hand, row_in};
-ghost use Rattle.sj_engine.specs.Turn.{IsTurnOf, IsWorkerOf};
+ghost use Rattle.sj_engine.specs.Turn.{IsTurnOf, IsWorkerOf, NothingHappens};
 
 use crate::shared_board::SharedBoard;
 use sj_base::ids::{Task, Worker};
@@ -37,6 +37,7 @@ impl<D: Disk> SharedBoard<D> {
         requires no_fault { self.old.fault ≡ None }
         ensures turn { IsTurnOf D.faults D.mismatches w self.old self.new }
         ensures row { AfterClaim w (row_in self.new w) result }
+        ensures event { PickMakes w self.old self.new result }
         ensures no_fault { result ≡ Picked.Nothing → self.new.fault ≡ None }
         ensures failed { result ≡ Picked.Failed → IsTrue (is_some self.new.fault) }
     {
@@ -61,6 +62,7 @@ impl<D: Disk> SharedBoard<D> {
         requires given { (row_in self.old w).hand ≡ given_hand t }
         ensures turn { IsTurnOf D.faults D.mismatches w self.old self.new }
         ensures row { IsFreeRow (row_in self.new w) }
+        ensures no_event { NothingHappens self.old self.new }
         ensures fault { self.new.fault ≡ self.old.fault }
     {
         self.board.is_sound();
@@ -74,6 +76,7 @@ impl<D: Disk> SharedBoard<D> {
         ensures turn { IsTurnOf D.faults D.mismatches w self.old self.new }
         ensures some { IfSome result (λ t. (row_in self.new w).hand ≡ given_hand t) }
         ensures none { IfNone result (IsFreeRow (row_in self.new w)) }
+        ensures no_event { NothingHappens self.old self.new }
         ensures fault { self.new.fault ≡ self.old.fault }
     {
         self.board.is_sound();
@@ -87,6 +90,7 @@ impl<D: Disk> SharedBoard<D> {
         requires no_fault { self.old.fault ≡ None }
         ensures turn { IsTurnOf D.faults D.mismatches w self.old self.new }
         ensures row { AfterClaim w (row_in self.new w) result }
+        ensures event { PickMakes w self.old self.new result }
         ensures no_fault { result ≡ Picked.Nothing → self.new.fault ≡ None }
         ensures failed { result ≡ Picked.Failed → IsTrue (is_some self.new.fault) }
     {
@@ -103,6 +107,7 @@ impl<D: Disk> SharedBoard<D> {
         requires no_fault { self.old.fault ≡ None }
         ensures turn { IsTurnOf D.faults D.mismatches w self.old self.new }
         ensures row { AfterClaim w (row_in self.new w) result }
+        ensures event { PickMakes w self.old self.new result }
         ensures failed { result ≡ Picked.Failed → IsTrue (is_some self.new.fault) }
     {
         for _ in 0..TRIES {
@@ -122,6 +127,7 @@ impl<D: Disk> SharedBoard<D> {
         ensures turn { IsTurnOf D.faults D.mismatches w self.old self.new }
         ensures over { result ≡ Picked.Over }
         ensures row { IsStoppedRow (row_in self.new w) }
+        ensures no_event { NothingHappens self.old self.new }
     {
         self.board.is_sound();
         self.board.stop(w);
@@ -135,6 +141,7 @@ impl<D: Disk> SharedBoard<D> {
         requires free { IsFreeRow (row_in self.old w) }
         ensures turn { IsTurnOf D.faults D.mismatches w self.old self.new }
         ensures row { AfterPick w (row_in self.new w) result }
+        ensures event { PickMakes w self.old self.new result }
         ensures failed { result ≡ Picked.Failed → IsTrue (is_some self.new.fault) }
     {
         if self.board.failed() || self.board.all_done() {

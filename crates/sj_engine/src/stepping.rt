@@ -7,7 +7,7 @@ ghost use Rattle.sj_core.specs.Step.{mover_of};
 ghost use Rattle.sj_machine.specs.Standing.{CanHappen, state};
 ghost use Rattle.sj_machine.specs.BoardRow.{key_of};
 ghost use Rattle.sj_engine.specs.Stage.{HasClaimedRow, row_in};
-ghost use Rattle.sj_engine.specs.Stepping.{AfterStep};
+ghost use Rattle.sj_engine.specs.Stepping.{AfterStep, StepMakes};
 ghost use Rattle.sj_engine.specs.Turn.{IsTurnOf, IsWorkerOf};
 
 use crate::kernel::task_at;
@@ -51,6 +51,7 @@ impl<D: Disk> SharedBoard<D> {
         requires can { CanHappen self.old.run (Run t w) }
         ensures turn { IsTurnOf D.faults D.mismatches w self.old self.new }
         ensures row { AfterStep D.held (key_of self.new) w t (row_in self.new w) result }
+        ensures event { StepMakes w t self.old self.new result }
     {
         self.board.is_sound();
         let operands = task_at(self.board.program(), t).accesses.len();
@@ -75,6 +76,7 @@ impl<D: Disk> SharedBoard<D> {
         requires mover { mover_of (state self.old.run) cell from to ≡ w }
         ensures turn { IsTurnOf D.faults D.mismatches w self.old self.new }
         ensures row { AfterStep D.held (key_of self.new) w t (row_in self.new w) result }
+        ensures event { StepMakes w t self.old self.new result }
     {
         self.board.is_sound();
         match self.board.begin_move(w, cell, from, to) {
@@ -98,6 +100,7 @@ impl<D: Disk> SharedBoard<D> {
         requires can { CanHappen self.old.run (Drop cell (node_of self.old.run.machine w)) }
         ensures turn { IsTurnOf D.faults D.mismatches w self.old self.new }
         ensures row { AfterStep D.held (key_of self.new) w t (row_in self.new w) result }
+        ensures event { StepMakes w t self.old self.new result }
     {
         self.board.is_sound();
         self.board.drop_copy(w, cell);
@@ -111,6 +114,7 @@ impl<D: Disk> SharedBoard<D> {
         requires fault { IsTrue (is_some self.old.fault) }
         ensures turn { IsTurnOf D.faults D.mismatches w self.old self.new }
         ensures row { AfterStep D.held (key_of self.new) w t (row_in self.new w) result }
+        ensures event { StepMakes w t self.old self.new result }
     {
         self.board.is_sound();
         self.board.stop(w);
@@ -124,6 +128,7 @@ impl<D: Disk> SharedBoard<D> {
         requires claimed { HasClaimedRow w t (row_in self.old w) }
         ensures turn { IsTurnOf D.faults D.mismatches w self.old self.new }
         ensures row { AfterStep D.held (key_of self.new) w t (row_in self.new w) result }
+        ensures event { StepMakes w t self.old self.new result }
     {
         if self.board.failed() {
             return self.give_up(w, t);

@@ -4,6 +4,8 @@ use Rattle.sj_base.specs.declared.program.Program.{Program}
 use Rattle.sj_machine.specs.Board.{BoardState}
 use Rattle.sj_engine.proofs.StepFacts.{room-for, room-left}
 use Rattle.sj_engine.proofs.BeginTurns.{begun-lent, begun-row, begun-turn, run-can, run-task, task-there}
+use Rattle.sj_base.specs.declared.trace.Event.TheVariants.{Run}
+use Rattle.sj_engine.proofs.BoardTurns.{happened}
 use Rattle.sj_engine.proofs.shared_board.SharedBoard.begin.Goals as goal
 
 pub task_at-requires : goal.task_at-requires
@@ -25,3 +27,6 @@ pub returns-in-Ok-run-clause-row : goal.returns-in-Ok-run-clause-row
 returns-in-Ok-run-clause-row g c =
     let program : c.program.result.now ≡ c.run.new.self.run.program = c.program.ensures ∙ ap (λ (k : BoardState g.row.D.Denot). k.run.program) (c.deref-2.ensures ∙ sym c.deref_mut.ensures.value) ∙ sym (ap (λ (k : BoardState g.row.D.Denot). k.run.program) c.in-Ok-run.ensures.ok) in
     (begun-row g.D.Disk.size g.D.Disk.faults g.D.Disk.mismatches g.D.Disk.held c.args.w c.args.self.now c.deref.result.now c.deref_mut.result.now c.run.new.self c.args.t (c.deref.ensures ∙ c.self.view_is) (c.deref_mut.ensures.value ∙ c.self.view_is) c.is_sound.ensures c.requires.worker c.requires.claimed c.requires.can c.in-Ok-run.ensures.ok, begun-lent g.D.Disk.size g.D.Disk.faults g.D.Disk.mismatches g.D.Disk.held c.args.w c.args.self.now c.deref.result.now c.deref_mut.result.now c.run.new.self c.args.t (c.deref.ensures ∙ c.self.view_is) (c.deref_mut.ensures.value ∙ c.self.view_is) c.is_sound.ensures c.requires.worker c.requires.claimed c.requires.can c.in-Ok-run.ensures.ok c.in-Ok-run.frame.slots c.in-Ok-run.ensures.shares, room-left c.run.new.self.run.program c.program.result.now c.args.t c.task_at.result.now c.in-Ok.frame c.in-Ok-run.frame c.len-operands.result program c.task_at.ensures c.len-operands.ensures c.in-Ok.ensures c.in-Ok-run.ensures.room)
+
+pub returns-in-Ok-run-clause-event : goal.returns-in-Ok-run-clause-event
+returns-in-Ok-run-clause-event g c = happened c.args.self.now c.deref_mut.result.now c.run.new.self (c.deref_mut.ensures.value ∙ c.self.view_is) (λ k. Run c.args.t c.args.w) (ap (λ (k : BoardState g.row.D.Denot). k.run) c.in-Ok-run.ensures.ok)

@@ -1,6 +1,8 @@
-use Rattle.std.proofs.Common.{◌∙◌, subst}
+use Rattle.std.proofs.Common.{◌∙◌, ap, subst}
 use Rattle.sj_machine.specs.Board.{BoardState}
+use Rattle.sj_base.specs.declared.trace.Event.TheVariants.{Claim}
 use Rattle.sj_engine.specs.Turn.{IsTurnOf}
+use Rattle.sj_engine.proofs.BoardTurns.{happened}
 use Rattle.sj_engine.proofs.ClaimTurns.{claimed-now, claimed-turn, given-idle, was-given}
 use Rattle.sj_engine.proofs.Turning.{turn-then}
 use Rattle.sj_engine.proofs.shared_board.SharedBoard.claim_given.Goals as goal
@@ -19,5 +21,15 @@ returns-in-Ok-clause-row g c = claimed-now g.D.Disk.size g.D.Disk.faults g.D.Dis
 
 pub returns-in-Err-OutOfMemory-clause-turn : goal.returns-in-Err-OutOfMemory-clause-turn
 returns-in-Err-OutOfMemory-clause-turn g c = turn-then g.D.Disk.faults g.D.Disk.mismatches c.args.w c.args.self.now c.put_back-in-Err-OutOfMemory.new.self c.fail_without_memory.new.self
+    (c.put_back-in-Err-OutOfMemory.ensures.no_event ∙ ap (λ (k : BoardState g.row.D.Denot). k.run.trace) (c.in-Err-OutOfMemory.ensures.err ∙ c.deref_mut.ensures.value ∙ c.self.view_is))
     (subst (λ (k : BoardState g.row.D.Denot). IsTurnOf g.D.Disk.faults g.D.Disk.mismatches c.args.w k c.put_back-in-Err-OutOfMemory.new.self) (c.in-Err-OutOfMemory.ensures.err ∙ c.deref_mut.ensures.value ∙ c.self.view_is) c.put_back-in-Err-OutOfMemory.ensures.turn)
     c.fail_without_memory.ensures.turn
+
+pub returns-in-Ok-clause-event : goal.returns-in-Ok-clause-event
+returns-in-Ok-clause-event g c = happened c.args.self.now c.deref_mut.result.now c.claim.new.self (c.deref_mut.ensures.value ∙ c.self.view_is) (λ k. Claim c.args.t c.args.w) (ap (λ (k : BoardState g.row.D.Denot). k.run) c.in-Ok.ensures.ok)
+
+pub returns-in-Err-NotNow-clause-event : goal.returns-in-Err-NotNow-clause-event
+returns-in-Err-NotNow-clause-event g c = c.put_back.ensures.no_event ∙ ap (λ (k : BoardState g.row.D.Denot). k.run.trace) (c.in-Err-NotNow.ensures.err ∙ c.deref_mut.ensures.value ∙ c.self.view_is)
+
+pub returns-in-Err-OutOfMemory-clause-event : goal.returns-in-Err-OutOfMemory-clause-event
+returns-in-Err-OutOfMemory-clause-event g c = c.fail_without_memory.ensures.no_event ∙ c.put_back-in-Err-OutOfMemory.ensures.no_event ∙ ap (λ (k : BoardState g.row.D.Denot). k.run.trace) (c.in-Err-OutOfMemory.ensures.err ∙ c.deref_mut.ensures.value ∙ c.self.view_is)

@@ -1,6 +1,6 @@
 use Rattle.std.proofs.Common.{◌≡◌, None}
 use Rattle.sj_engine.specs.Stage.{IsFreeRow, row_in}
-use Rattle.sj_engine.specs.Turn.{IsTurnOf, IsWorkerOf}
+use Rattle.sj_engine.specs.Turn.{IsTurnOf, IsWorkerOf, NothingHappens}
 use Rattle.sj_engine.proofs.shared_board.SharedBoard.claim_some.Given as goal
 
 -- nothing was claimed yet, and the worker is free as before
@@ -10,4 +10,5 @@ invariant-loop g l = record {
   worker : IsWorkerOf l.self l.w;
   free : IsFreeRow (row_in l.self l.w);
   no_fault : l.self.fault ≡ None;
+  nothing : NothingHappens l.fn.self l.self;
 }

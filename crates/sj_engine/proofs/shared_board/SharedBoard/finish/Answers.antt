@@ -1,5 +1,9 @@
 use Rattle.std.proofs.Common.{◌∙◌}
 use Rattle.sj_engine.proofs.ClaimTurns.{end-can, end-task, end-written, ended-row, ended-turn}
+use Rattle.std.proofs.Common.{ap}
+use Rattle.sj_base.specs.declared.trace.Event.TheVariants.{End}
+use Rattle.sj_machine.specs.Board.{BoardState}
+use Rattle.sj_engine.proofs.BoardTurns.{happened}
 use Rattle.sj_engine.proofs.shared_board.SharedBoard.finish.Goals as goal
 
 pub end-requires-clause-task : goal.end-requires-clause-task
@@ -21,3 +25,6 @@ returns-clause-turn g c =
 pub returns-clause-row : goal.returns-clause-row
 returns-clause-row g c =
     ended-row g.D.Disk.size g.D.Disk.faults g.D.Disk.mismatches g.D.Disk.held c.args.w c.args.self.now c.deref.result.now c.deref_mut.result.now c.end.new.self c.args.t c.args.results.slots (c.deref.ensures ∙ c.self.view_is) (c.deref_mut.ensures.value ∙ c.self.view_is) c.is_sound.ensures c.requires.worker c.requires.runs c.requires.results c.end.ensures.ends c.end.ensures.spares
+
+pub returns-clause-event : goal.returns-clause-event
+returns-clause-event g c = happened c.args.self.now c.deref_mut.result.now c.end.new.self (c.deref_mut.ensures.value ∙ c.self.view_is) (λ k. End c.args.t c.args.w) (ap (λ (k : BoardState g.row.D.Denot). k.run) c.end.ensures.ends.leaves)

@@ -4,6 +4,9 @@ use Rattle.sj_machine.specs.Board.{IsFree}
 use Rattle.sj_engine.proofs.Answering.{if-none, if-some}
 use Rattle.sj_engine.proofs.ClaimTurns.{next-fault, next-hand, next-turn}
 use Rattle.sj_engine.proofs.OwnRows.{is-free}
+use Rattle.std.proofs.Common.{ap}
+use Rattle.sj_machine.specs.Board.{BoardState}
+use Rattle.sj_engine.proofs.BoardTurns.{nothing-happened}
 use Rattle.sj_engine.proofs.shared_board.SharedBoard.give_next.Goals as goal
 
 pub next-requires : goal.next-requires
@@ -20,3 +23,6 @@ returns-clause-none g c = if-none c.next.result _ (λ is. next-hand g.D.Disk.siz
 
 pub returns-clause-fault : goal.returns-clause-fault
 returns-clause-fault g c = next-fault g.D.Disk.size g.D.Disk.faults g.D.Disk.mismatches g.D.Disk.held c.args.w c.args.self.now c.deref.result.now c.deref_mut.result.now c.next.new.self (c.deref.ensures ∙ c.self.view_is) (c.deref_mut.ensures.value ∙ c.self.view_is) c.is_sound.ensures c.requires.worker c.next.ensures.rest
+
+pub returns-clause-no_event : goal.returns-clause-no_event
+returns-clause-no_event g c = nothing-happened c.args.self.now c.deref_mut.result.now c.next.new.self (c.deref_mut.ensures.value ∙ c.self.view_is) (ap (λ (k : BoardState g.row.D.Denot). k.run) c.next.ensures.rest)

@@ -1,5 +1,8 @@
 use Rattle.std.proofs.Common.{◌∙◌}
 use Rattle.sj_engine.proofs.ClaimTurns.{back-fault, back-row, back-turn, was-given}
+use Rattle.std.proofs.Common.{ap}
+use Rattle.sj_machine.specs.Board.{BoardState}
+use Rattle.sj_engine.proofs.BoardTurns.{nothing-happened}
 use Rattle.sj_engine.proofs.shared_board.SharedBoard.put_back.Goals as goal
 
 pub give_back-requires : goal.give_back-requires
@@ -13,3 +16,6 @@ returns-clause-row g c = back-row g.D.Disk.size g.D.Disk.faults g.D.Disk.mismatc
 
 pub returns-clause-fault : goal.returns-clause-fault
 returns-clause-fault g c = back-fault g.D.Disk.size g.D.Disk.faults g.D.Disk.mismatches g.D.Disk.held c.args.w c.args.self.now c.deref.result.now c.deref_mut.result.now c.give_back.new.self (c.deref.ensures ∙ c.self.view_is) (c.deref_mut.ensures.value ∙ c.self.view_is) c.is_sound.ensures c.requires.worker c.args.t c.requires.given c.give_back.ensures
+
+pub returns-clause-no_event : goal.returns-clause-no_event
+returns-clause-no_event g c = nothing-happened c.args.self.now c.deref_mut.result.now c.give_back.new.self (c.deref_mut.ensures.value ∙ c.self.view_is) (ap (λ (k : BoardState g.row.D.Denot). k.run) c.give_back.ensures)
