@@ -78,7 +78,9 @@ fn a_whole_run_is_legal_and_complete(rt: HostRuntime) {
 #[test]
 fn a_front_of_it_is_not_complete(rt: HostRuntime) -> Result<(), OutOfMemory> {
     let front = with_line(rt.alloc(), 19, 0)?;
-    assert!(rt; said_of(rt.alloc(), JOB, &front) == Some(Err(JudgeRefusal::Wrong(CheckRefusal::Unfinished))));
+    assert!(rt;
+        said_of(rt.alloc(), JOB, &front) == Some(Err(JudgeRefusal::Wrong(CheckRefusal::Unfinished)))
+    );
     Ok(())
 }
 
@@ -88,11 +90,13 @@ fn the_first_event_that_is_not_legal_is_named(rt: HostRuntime) -> Result<(), Out
     for i in 0..19u64 {
         let without = with_line(alloc, i as usize, 0)?;
         assert!(rt;
-            said_of(alloc, JOB, &without) == Some(Err(JudgeRefusal::Wrong(CheckRefusal::BadEvent { index: i })))
+            said_of(alloc, JOB, &without)
+                == Some(Err(JudgeRefusal::Wrong(CheckRefusal::BadEvent { index: i })))
         );
         let doubled = with_line(alloc, i as usize, 2)?;
         assert!(rt;
-            said_of(alloc, JOB, &doubled) == Some(Err(JudgeRefusal::Wrong(CheckRefusal::BadEvent { index: i + 1 })))
+            said_of(alloc, JOB, &doubled)
+                == Some(Err(JudgeRefusal::Wrong(CheckRefusal::BadEvent { index: i + 1 })))
         );
     }
     Ok(())
@@ -118,20 +122,19 @@ fn a_job_that_can_not_be_run_is_named(rt: HostRuntime) {
     let large = said_of(alloc, b"starjob 1\nnode 16\nvector a 3 fill 7 0\n", TRACE);
     assert!(rt;
         large
-            == Some(Err(JudgeRefusal::Unready(Unready::Short(
-                Shortage::TooLarge {
-                    line: Line(3),
-                    bytes: 24
-                }
-            ))))
+            == Some(Err(JudgeRefusal::Unready(Unready::Short(Shortage::TooLarge {
+                line: Line(3),
+                bytes: 24
+            }))))
     );
     let swapped = said_of(alloc, b"starjob 1\nvector a 200 fill 7 0\n", TRACE);
     assert!(rt;
         matches!(
             swapped,
-            Some(Err(JudgeRefusal::Unready(Unready::Short(
-                Shortage::SwapTooSmall { have: 1_000, .. }
-            ))))
+            Some(Err(JudgeRefusal::Unready(Unready::Short(Shortage::SwapTooSmall {
+                have: 1_000,
+                ..
+            }))))
         )
     );
 }

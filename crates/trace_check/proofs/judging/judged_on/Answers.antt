@@ -1,4 +1,4 @@
-use Rattle.std.proofs.Common.{refl}
+use Rattle.std.proofs.Common.{◌≡◌, refl}
 use Rattle.sj_check.specs.Refusal.{IsRefusal}
 use Rattle.sj_core.specs.Legal.{IsFinished}
 use Rattle.sj_minplus.specs.Has.{library_has}
