@@ -1,8 +1,7 @@
 -- One element more, and the bounds of what was gone through.
-use Rattle.std.proofs.Common.{◌≡◌, ◌≤ℤ◌, ℕ, ◌+◌, ◌≤◌, ℤ, pos, ◌+ℤ◌, Bool, true, false, true≢false, cond, not, List, [], ◌∷◌, ◌++◌, length, take, Option, Some, None, refl, sym, ap, ◌∙◌, arith, FitsSigned, w64}
-use Rattle.std.specs.Int.{int_max, int_min, int_wrap}
-use Rattle.std.specs.Int.RustNames.{int_le}
-use Rattle.std.specs.List.{filter, fold, reduce}
+use Rattle.std.proofs.Common.{◌≡◌, ◌≤ℤ◌, ℕ, ◌+◌, ◌≤◌, ℤ, pos, ◌+ℤ◌, Bool, true, false, true≢false, cond, not, List, [], ◌∷◌, ◌++◌, length, take, Some, refl, sym, ap, ◌∙◌, arith, FitsSigned, w64}
+use Rattle.std.specs.Int.{int_max, int_min}
+use Rattle.std.specs.List.{filter, fold}
 use Rattle.std.specs.Prelude.{All}
 use Rattle.std.proofs.lemmas.Int.{fold-int_min_bounds, ints, int_wrap-add_left}
 use Rattle.std.proofs.lemmas.List.{append-nil, length-append, length-take}
