@@ -64,6 +64,9 @@ use tally::{Tally, TallyDisk, TallyGate};
 use top::{AnyDisk, starjob};
 use watch::{ErasingSink, Watch};
 
+/// The most bytes that a disk may have.
+const LARGEST_DISK: u64 = 1_099_511_627_776;
+
 /// More bytes than any status's line has.
 const LINE_ROOM: u64 = 1024;
 
@@ -161,8 +164,11 @@ where
     S: Source,
     O: Sink + Drop,
     E: Sink,
-    requires small_disk { ⟦<AnyDisk as Disk>⟧.size disk ≤ 2 ^ 40 }
 {
+    // no words ask for a larger one
+    if disk.size() > LARGEST_DISK {
+        return end_without_memory(err);
+    }
     let mut disks = Vec::new(alloc);
     if add_disk(&mut disks, disk).is_err() {
         return end_without_memory(err);
