@@ -64,6 +64,7 @@ fn filled(program: &Program, t: Task) -> Option<Dims>
 /// hold, the board is promised no more than the dimensions.
 fn ended<D: Disk>(alloc: Global, board: &mut Board<D>, w: Worker, t: Task) -> Result<(), Fail>
     requires claimed { HasClaimed board.old w t }
+    requires no_fault { board.old.fault ≡ None }
     requires silent { ¬ AllTell D.held board.old.run }
     ensures alone { IsStepOf w board.old board.new }
     ensures free { OnOk result (IsFree board.new w) }

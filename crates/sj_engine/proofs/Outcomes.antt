@@ -32,7 +32,7 @@ use Rattle.sj_machine.specs.Standing.{AllTell as AllTellIn, state}
 use Rattle.sj_machine.specs.declared.fault.RunFault.{RunFault}
 use Rattle.sj_machine.specs.declared.fault.RunFault.TheVariants.{Damaged, DiskFault, OutOfMemory}
 use Rattle.sj_machine.specs.declared.hand.Hand.{Hand}
-use Rattle.sj_engine.specs.Outcome.{AllTell, HoldBlocks, HoldsBlockAt, IsCausedBy}
+use Rattle.sj_engine.specs.Outcome.{AllTell, HoldBlocks, HoldsBlockAt, IsCausedBy, WantsLastWritten}
 use Rattle.sj_engine.specs.Run.{AllStopped, IsOutcome, NoneHasTask}
 
 -- the result where memory is wanting
@@ -69,8 +69,13 @@ module _ {D : Type 0} (size faults mismatches : D → ℕ) (held : D → Option 
 
     caused : (f : RunFault) → HasCause faults mismatches held b.run f → IsCausedBy faults mismatches held b.run.opened b.run.disks.disks f
     caused (DiskFault d) has = has
-    caused (Damaged d want found) has = has
+    caused (Damaged d want found) has = (has.0, has.1, has.2)
     caused OutOfMemory has = tt
+
+    wants : (f : RunFault) → HasCause faults mismatches held b.run f → WantsLastWritten p m b.run.trace f
+    wants (DiskFault d) has = tt
+    wants (Damaged d want found) has = has.3
+    wants OutOfMemory has = tt
 
     -- ---- a board that no worker has come to
 
@@ -86,6 +91,7 @@ module _ {D : Type 0} (size faults mismatches : D → ℕ) (held : D → Option 
           no_fault_is_swallowed = λ ok. absurd (false≢true ok);
           blocks = blocks;
           cause = tt;
+          wanted = tt;
         })))
 
     -- ---- a board whose workers have stopped
@@ -117,6 +123,7 @@ module _ {D : Type 0} (size faults mismatches : D → ℕ) (held : D → Option 
           no_fault_is_swallowed = λ is. counts e;
           blocks = blocks;
           cause = tt;
+          wanted = tt;
         }
         by_fault (Some f) e result r = subst (λ (x : Result A RunFault). IsOutcome size faults mismatches held p m b.run.opened x pairs b.run.trace b.run.disks.disks) (sym r) (record {
           legal = legal;
@@ -126,6 +133,7 @@ module _ {D : Type 0} (size faults mismatches : D → ℕ) (held : D → Option 
           no_fault_is_swallowed = λ ok. absurd (false≢true ok);
           blocks = blocks;
           cause = caused f (subst (λ (o : Option RunFault). IfSome o (HasCause faults mismatches held b.run)) e sound.fault);
+          wanted = wants f (subst (λ (o : Option RunFault). IfSome o (HasCause faults mismatches held b.run)) e sound.fault);
         })
 
         pub ends : (fault : Option RunFault) → fault ≡ b.fault → (result : Result A RunFault) → MatchOption fault (IsOk result) (λ f. result ≡ Err f) → (events : List Event) → events ≡ b.run.trace → (back : List D) → back ≡ b.run.disks.disks → IsOutcome size faults mismatches held p m b.run.opened result pairs events back
@@ -163,4 +171,5 @@ module _ {D : Type 0} (size faults mismatches : D → ℕ) (held : D → Option 
           no_fault_is_swallowed = λ ok. absurd (false≢true ok);
           blocks = λ tells c n valid. absurd (nowhere c n valid);
           cause = tt;
+          wanted = tt;
         })))

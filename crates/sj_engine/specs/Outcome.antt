@@ -13,6 +13,7 @@ use Rattle.sj_core.specs.Step.{array_at}
 use Rattle.sj_disk.specs.Block.{block}
 use Rattle.sj_edge.specs.Held.{GivesHeld}
 use Rattle.sj_machine.specs.Board.{HasRisen}
+use Rattle.sj_machine.specs.Headers.{IsLastWritten}
 use Rattle.sj_machine.specs.Sound.{block_of}
 use Rattle.sj_machine.specs.declared.fault.RunFault.{RunFault}
 use Rattle.sj_machine.specs.declared.fault.RunFault.TheVariants.{Damaged, DiskFault, OutOfMemory}
@@ -27,6 +28,12 @@ abbrev pub IsCausedBy : {D : Type 0} → (D → ℕ) → (D → ℕ) → (D → 
 IsCausedBy faults mismatches held old new (DiskFault d) = HasRisen faults old new d.0
 IsCausedBy faults mismatches held old new (Damaged d want found) = HasRisen mismatches old new d.0 × (want ≢ found) × ¬ AllTell held old
 IsCausedBy faults mismatches held old new OutOfMemory = Unit {0}
+
+-- the header that was wanted of a disk is the one last written there of a cell with a copy on it, in the state that the events leave
+abbrev pub WantsLastWritten : Program → Machine → List Event → RunFault → Type 0
+WantsLastWritten p m trace (DiskFault d) = Unit {0}
+WantsLastWritten p m trace (Damaged d want found) = IsLastWritten p (state_of p m trace) d want
+WantsLastWritten p m trace OutOfMemory = Unit {0}
 
 -- the block has the cell's header and its elements, as the state has them on the disk, where that disk tells
 abbrev pub HoldsBlockAt : {D : Type 0} → (D → Option (List ℕ)) → List D → Program → State → Cell → DiskNo → Block → Type 0

@@ -19,7 +19,7 @@ use Rattle.sj_machine.specs.Delivered.{DeliversEach}
 use Rattle.sj_machine.specs.Preparing.{first_hands}
 use Rattle.sj_machine.specs.declared.fault.RunFault.{RunFault}
 use Rattle.sj_machine.specs.declared.hand.Hand.{Hand}
-use Rattle.sj_engine.specs.Outcome.{AllTell, HoldBlocks, IsCausedBy}
+use Rattle.sj_engine.specs.Outcome.{AllTell, HoldBlocks, IsCausedBy, WantsLastWritten}
 use Rattle.sj_engine.specs.Stage.{IsAt, IsDeskOf, IsFreeRow}
 
 -- ---- the board
@@ -70,3 +70,4 @@ pub record IsOutcome {D A : Type 0} (size faults mismatches : D → ℕ) (held :
   pub no_fault_is_swallowed : IsOk result → CountsStay faults mismatches disks back
   pub blocks : AllTell held disks → HoldBlocks held p m events back
   pub cause : IfErr result (IsCausedBy faults mismatches held disks back)
+  pub wanted : IfErr result (WantsLastWritten p m events)

@@ -7,7 +7,7 @@ ghost use Rattle.sj_core.specs.Legal.{IsFinished, IsLegal};
 ghost use Rattle.sj_core.specs.Proper.{HasSwapFor, IsMachineFor, Proper};
 ghost use Rattle.sj_disk.specs.Holding.{CountsStay};
 ghost use Rattle.sj_edge.specs.GivenBack.{AreGivenBack};
-ghost use Rattle.sj_engine.specs.Outcome.{AllTell, HoldBlocks, IsCausedBy};
+ghost use Rattle.sj_engine.specs.Outcome.{AllTell, HoldBlocks, IsCausedBy, WantsLastWritten};
 ghost use Rattle.sj_engine.specs.Run.{IsOpened, IsOutcome};
 ghost use Rattle.sj_machine.specs.Delivered.{DeliversEach};
 
@@ -95,6 +95,8 @@ pub fn run<C: Codelets, G: Gate, D: Disk + Send, R: Threads + Wait + Sync>(
     ensures blocks { AllTell D.held disks.items →
         HoldBlocks D.held program.value machine result.trace.events result.disks.items }
     ensures cause { IfErr result.result (IsCausedBy D.faults D.mismatches D.held disks.items result.disks.items) }
+    // Of a disk that held another header: the one that was wanted is the one last written there.
+    ensures wanted { IfErr result.result (WantsLastWritten program.value machine result.trace.events) }
 {
     let Ok(shared) = Arc::try_clone(&program) else {
         return unopened(alloc, disks);

@@ -1,6 +1,6 @@
 //! The steps of a worker between the claim of its task and the beginning of the kernel.
 
-ghost use Rattle.std.specs.Prelude.{◌≡◌, IsTrue, is_some};
+ghost use Rattle.std.specs.Prelude.{◌≡◌, IsTrue, None, is_some};
 ghost use Rattle.sj_base.specs.declared.trace.Event.TheVariants.{Drop, Move, Run};
 ghost use Rattle.sj_core.specs.Needs.{node_of};
 ghost use Rattle.sj_core.specs.Step.{mover_of};
@@ -44,10 +44,11 @@ pub enum Step {
 }
 
 impl<D: Disk> SharedBoard<D> {
-    /// The kernel of a worker's task begins. The cost of `run`.
+    /// The kernel of a worker's task begins, where no fault is kept. The cost of `run`.
     fn begin(&mut self, alloc: Global, t: Task, w: Worker) -> Step
         requires worker { IsWorkerOf self.old w }
         requires claimed { HasClaimedRow w t (row_in self.old w) }
+        requires no_fault { self.old.fault ≡ None }
         requires can { CanHappen self.old.run (Run t w) }
         ensures turn { IsTurnOf D.faults D.mismatches w self.old self.new }
         ensures row { AfterStep D.held (key_of self.new) w t (row_in self.new w) result }
@@ -68,10 +69,11 @@ impl<D: Disk> SharedBoard<D> {
         }
     }
 
-    /// A transfer of a worker begins. The cost of `begin_move`.
+    /// A transfer of a worker begins, where no fault is kept. The cost of `begin_move`.
     fn begin_move(&mut self, w: Worker, t: Task, cell: Cell, from: Place, to: Place) -> Step
         requires worker { IsWorkerOf self.old w }
         requires claimed { HasClaimedRow w t (row_in self.old w) }
+        requires no_fault { self.old.fault ≡ None }
         requires can { CanHappen self.old.run (Move cell from to) }
         requires mover { mover_of (state self.old.run) cell from to ≡ w }
         ensures turn { IsTurnOf D.faults D.mismatches w self.old self.new }

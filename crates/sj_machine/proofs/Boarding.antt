@@ -18,11 +18,12 @@ use Rattle.sj_core.specs.declared.progress.Transfer.{Transfer}
 use Rattle.sj_deps.specs.Conflict.{Ready}
 use Rattle.sj_deps.specs.Progress.{Progress as Dependencies}
 use Rattle.sj_pool.specs.Pool.{Pooled}
-use Rattle.sj_machine.specs.Board.{BoardState, has_event}
+use Rattle.sj_machine.specs.Board.{BoardState, HasCause, has_event}
 use Rattle.sj_machine.specs.BoardSound.{CountsDone, IsSoundIn, IsToBeTaken, KeepsBoard}
 use Rattle.sj_machine.specs.Standing.{HasMoved, Standing, state, with_event}
 use Rattle.sj_machine.specs.declared.fault.RunFault.{RunFault}
 use Rattle.sj_machine.specs.declared.hand.Hand.{Hand}
+use Rattle.sj_machine.proofs.LastHeaders.{moved-cause}
 
 -- ---- what is said of a board is said of the tasks in its state alone
 
@@ -75,24 +76,24 @@ module _ (p : Program) (m : Machine) (s s' : State) (same : s'.tasks ≡ s.tasks
 -- ---- an event that leaves all tasks as they are
 
 module _ {D : Type 0} (faults mismatches : D → ℕ) (held : D → Option (List ℕ)) (b : BoardState D) (deps : Dependencies) (footprints : List ℕ) where
-  pub keeps-event : (e : Event) → (after b.run.program b.run.machine (state b.run) e).tasks ≡ (state b.run).tasks → KeepsBoard faults mismatches held b deps footprints → KeepsBoard faults mismatches held (has_event b e) deps footprints
-  keeps-event e same keeps =
+  pub keeps-event : (e : Event) → IfSome b.fault (HasCause faults mismatches held (with_event b.run e)) → (after b.run.program b.run.machine (state b.run) e).tasks ≡ (state b.run).tasks → KeepsBoard faults mismatches held b deps footprints → KeepsBoard faults mismatches held (has_event b e) deps footprints
+  keeps-event e cause same keeps =
       let now : (state (with_event b.run e)).tasks ≡ (state b.run).tasks = ap (λ (s : State). s.tasks) (state_of-more b.run.program b.run.machine b.run.trace e) ∙ same in
       record {
-        fault = keeps.fault;
+        fault = cause;
         inside = sound_in-same b.run.program b.run.machine (state b.run) (state (with_event b.run e)) now b.hands b.pool b.fault keeps.inside;
         counts = counts-same b.run.program b.run.machine (state b.run) (state (with_event b.run e)) now deps keeps.counts;
         bytes = keeps.bytes;
       }
 
   -- as the code leaves it
-  pub keeps-run : (e : Event) (run' : Standing D) → run' ≡ with_event b.run e → (after b.run.program b.run.machine (state b.run) e).tasks ≡ (state b.run).tasks → KeepsBoard faults mismatches held b deps footprints → KeepsBoard faults mismatches held (record b { run = run' }) deps footprints
-  keeps-run e run' is same keeps = subst (λ (r : Standing D). KeepsBoard faults mismatches held (record b { run = r }) deps footprints) (sym is) (keeps-event e same keeps)
+  pub keeps-run : (e : Event) (run' : Standing D) → run' ≡ with_event b.run e → IfSome b.fault (HasCause faults mismatches held (with_event b.run e)) → (after b.run.program b.run.machine (state b.run) e).tasks ≡ (state b.run).tasks → KeepsBoard faults mismatches held b deps footprints → KeepsBoard faults mismatches held (record b { run = run' }) deps footprints
+  keeps-run e run' is cause same keeps = subst (λ (r : Standing D). KeepsBoard faults mismatches held (record b { run = r }) deps footprints) (sym is) (keeps-event e cause same keeps)
 
   -- where the event may fail to come, and then nothing has changed
-  pub keeps-tried : {A E : Type 0} (result : Result A E) (e : Event) (run' : Standing D) → OnOk result (run' ≡ with_event b.run e) → OnErr result (run' ≡ b.run) → (after b.run.program b.run.machine (state b.run) e).tasks ≡ (state b.run).tasks → KeepsBoard faults mismatches held b deps footprints → KeepsBoard faults mismatches held (record b { run = run' }) deps footprints
-  keeps-tried (Ok a) e run' ok err same keeps = keeps-run e run' ok same keeps
-  keeps-tried (Err x) e run' ok err same keeps = subst (λ (r : Standing D). KeepsBoard faults mismatches held (record b { run = r }) deps footprints) (sym err) keeps
+  pub keeps-tried : {A E : Type 0} (result : Result A E) (e : Event) (run' : Standing D) → OnOk result (run' ≡ with_event b.run e) → OnErr result (run' ≡ b.run) → IfSome b.fault (HasCause faults mismatches held (with_event b.run e)) → (after b.run.program b.run.machine (state b.run) e).tasks ≡ (state b.run).tasks → KeepsBoard faults mismatches held b deps footprints → KeepsBoard faults mismatches held (record b { run = run' }) deps footprints
+  keeps-tried (Ok a) e run' ok err cause same keeps = keeps-run e run' ok cause same keeps
+  keeps-tried (Err x) e run' ok err cause same keeps = subst (λ (r : Standing D). KeepsBoard faults mismatches held (record b { run = r }) deps footprints) (sym err) keeps
 
   -- the end of a worker's move
   pub keeps-moved : (w : Worker) (run' : Standing D) (Q : Transfer → Type 0) → IsSomeAnd (transfer (state b.run) w) Q → HasMoved w b.run run' → KeepsBoard faults mismatches held b deps footprints → KeepsBoard faults mismatches held (record b { run = run' }) deps footprints
@@ -100,4 +101,4 @@ module _ {D : Type 0} (faults mismatches : D → ℕ) (held : D → Option (List
     where
       by_move : (o : Option Transfer) → IsSomeAnd o Q → IfSome o (λ x. run' ≡ with_event b.run (Moved x.cell x.from x.to)) → KeepsBoard faults mismatches held (record b { run = run' }) deps footprints
       by_move None none is = absurd none
-      by_move (Some x) some is = keeps-run (Moved x.cell x.from x.to) run' is refl keeps
+      by_move (Some x) some is = keeps-run (Moved x.cell x.from x.to) run' is (moved-cause faults mismatches held b.run x.cell x.from x.to b.fault keeps.fault) refl keeps

@@ -23,8 +23,9 @@ use Rattle.sj_disk.specs.Transfers.{Looks, Writes}
 use Rattle.sj_machine.specs.Agrees.{Rows}
 use Rattle.sj_machine.specs.Board.{HasCause, HasRisen}
 use Rattle.sj_machine.specs.Counts.{AreCounted, IsCounted, differed_at, failed_at, fault_of}
+use Rattle.sj_machine.specs.Headers.{IsLastWritten}
 use Rattle.sj_machine.specs.Sound.{Keeps}
-use Rattle.sj_machine.specs.Standing.{AllTell, Standing}
+use Rattle.sj_machine.specs.Standing.{AllTell, Standing, state}
 use Rattle.sj_machine.specs.declared.fault.RunFault.{RunFault}
 use Rattle.sj_machine.proofs.Storing.{tell-still}
 
@@ -119,17 +120,18 @@ risen-at {D} count Q d P opened old new grew rises back inside changes = by_old 
     by_old (Some x) e h = by_opened x e (slice_get opened d) h
 
 -- a refusal is a fault that has its cause
-pub call-cause : {D A : Type 0} (size faults mismatches : D → ℕ) (held : D → Option (List ℕ)) (b : Standing D) (new : DiskState D) (number : DiskNo) (result : Result A DiskRefusal) → AreGivenBack size faults mismatches held b.opened b.disks.disks → number.0 < length b.disks.disks → NamesDisk number result → ChangesAt number.0 (IsCall faults mismatches number result) b.disks.disks new.disks → (is_damage result ≡ true → AllTell held b → ⊥) → IfErr result (λ r. HasCause faults mismatches held (record b { disks = new }) (fault_of r))
-call-cause size faults mismatches held b new number (Ok a) back inside names changes untold = tt
-call-cause {D} {A} size faults mismatches held b new number (Err (DiskFault d)) back inside names changes untold =
+pub call-cause : {D A : Type 0} (size faults mismatches : D → ℕ) (held : D → Option (List ℕ)) (b : Standing D) (new : DiskState D) (number : DiskNo) (result : Result A DiskRefusal) → AreGivenBack size faults mismatches held b.opened b.disks.disks → number.0 < length b.disks.disks → NamesDisk number result → ChangesAt number.0 (IsCall faults mismatches number result) b.disks.disks new.disks → (is_damage result ≡ true → AllTell held b → ⊥) → ((d : DiskNo) (want found : Header) → result ≡ Err (Damaged d want found) → IsLastWritten b.program (state b) d want) → IfErr result (λ r. HasCause faults mismatches held (record b { disks = new }) (fault_of r))
+call-cause size faults mismatches held b new number (Ok a) back inside names changes untold last = tt
+call-cause {D} {A} size faults mismatches held b new number (Err (DiskFault d)) back inside names changes untold last =
     subst (λ (k : DiskNo). HasRisen faults b.opened new.disks k.0) (sym (names.fault d refl))
     (risen-at faults (IsGivenBack size faults mismatches held) number.0 (IsCall faults mismatches number (Err (DiskFault d))) b.opened b.disks.disks new.disks (λ x y (is : IsGivenBack size faults mismatches held x y). is.faults_never_fall) (λ x y (is : IsCall {A = A} faults mismatches number (Err (DiskFault d)) x y). (is.faults_rose refl, is.faults_grow)) back inside changes)
-call-cause {D} {A} size faults mismatches held b new number (Err (Damaged d want found)) back inside names changes untold =
+call-cause {D} {A} size faults mismatches held b new number (Err (Damaged d want found)) back inside names changes untold last =
     let named = names.damage d want found refl in (
       subst (λ (k : DiskNo). HasRisen mismatches b.opened new.disks k.0) (sym named.0)
           (risen-at mismatches (IsGivenBack size faults mismatches held) number.0 (IsCall faults mismatches number (Err (Damaged d want found))) b.opened b.disks.disks new.disks (λ x y (is : IsGivenBack size faults mismatches held x y). is.mismatches_never_fall) (λ x y (is : IsCall {A = A} faults mismatches number (Err (Damaged d want found)) x y). (is.mismatches_rose refl, is.mismatches_grow)) back inside changes),
       (λ same. named.1 (sym same)),
       untold refl,
+      last d want found refl,
     )
 
 -- ---- a store
@@ -185,6 +187,13 @@ refuses-names {A} number want result is = record { fault = λ d e. at d (subst (
     differs : (d : DiskNo) (w found : Header) → RefusesFor {A = A} number want (Err (Damaged d w found)) → (d ≡ number) × (found ≢ w)
     differs d w found h = (h.0, λ same. h.2 (same ∙ h.1))
 
+-- what is so of the header that is wanted of a disk is so of the one that a refusal names
+wanted-last : {A : Type 0} (number : DiskNo) (want : Header) (result : Result A DiskRefusal) → RefusesFor number want result → (P : DiskNo → Header → Type 0) → P number want → (d : DiskNo) (w found : Header) → result ≡ Err (Damaged d w found) → P d w
+wanted-last {A} number want result is P so d w found e = named (subst (RefusesFor number want) e is)
+  where
+    named : RefusesFor {A = A} number want (Err (Damaged d w found)) → P d w
+    named h = subst (λ (k : DiskNo). P k w) (sym h.0) (subst (P number) (sym h.1) so)
+
 -- ---- as a run's store and fetch tell it
 
 module _ {D A : Type 0} (size faults mismatches : D → ℕ) (held : D → Option (List ℕ)) (b : Standing D) (rows : Rows) (owed spare : ℕ) (keeps : Keeps size faults mismatches held b rows owed spare) (new : DiskState D) (c n : ℕ) (xs : List ℤ) (result : Result A DiskRefusal) (laid : IsLaidOut (map size b.disks.disks) b.disks.taken b.disks.directory) (Q : Extent → Type 0) (some : IsSomeAnd (extent_of b.disks.directory c) Q) where
@@ -211,15 +220,16 @@ module _ {D A : Type 0} (size faults mismatches : D → ℕ) (held : D → Optio
   stores-cause told =
       let is = subst (λ (o : Option Extent). IfSome o (Stores size faults mismatches held c n xs result b.disks new)) found.1 told in
       let only = refused-fault found.0.disk result is.refused_by_its_disk in
-      call-cause size faults mismatches held b new found.0.disk result back (on_a_disk found.0 found.1) (refused-names found.0.disk result is.refused_by_its_disk) (store-call size faults mismatches held b new c n xs result found.0 is) (λ damaged tells. false≢true (sym only.1 ∙ damaged))
+      call-cause size faults mismatches held b new found.0.disk result back (on_a_disk found.0 found.1) (refused-names found.0.disk result is.refused_by_its_disk) (store-call size faults mismatches held b new c n xs result found.0 is) (λ damaged tells. false≢true (sym only.1 ∙ damaged)) (λ d want found e. absurd (false≢true (sym only.1 ∙ ap is_damage e)))
 
   pub fetches-counted : IfSome (extent_of b.disks.directory c) (Fetches size faults mismatches held c n xs result b.disks new) → AreCounted faults mismatches result b.disks.disks new.disks
   fetches-counted told =
       let is = subst (λ (o : Option Extent). IfSome o (Fetches size faults mismatches held c n xs result b.disks new)) found.1 told in
       call-counted faults mismatches found.0.disk result b.disks.disks new.disks (refuses-names found.0.disk (header c n found.0.length) result is.refused_by_its_disk) (fetch-call size faults mismatches held b new c n xs result found.0 is)
 
-  pub fetches-cause : IfSome (extent_of b.disks.directory c) (Fetches size faults mismatches held c n xs result b.disks new) → IfErr result (λ r. HasCause faults mismatches held (record b { disks = new }) (fault_of r))
-  fetches-cause told =
+  pub fetches-cause : ((e : Extent) → extent_of b.disks.directory c ≡ Some e → IsLastWritten b.program (state b) e.disk (header c n e.length)) → IfSome (extent_of b.disks.directory c) (Fetches size faults mismatches held c n xs result b.disks new) → IfErr result (λ r. HasCause faults mismatches held (record b { disks = new }) (fault_of r))
+  fetches-cause last told =
       let is = subst (λ (o : Option Extent). IfSome o (Fetches size faults mismatches held c n xs result b.disks new)) found.1 told in
       call-cause size faults mismatches held b new found.0.disk result back (on_a_disk found.0 found.1) (refuses-names found.0.disk (header c n found.0.length) result is.refused_by_its_disk) (fetch-call size faults mismatches held b new c n xs result found.0 is)
       (λ damaged tells. false≢true (sym (is.undamaged_where_it_tells (λ x there. tell-still size faults mismatches held b.opened b.disks.disks back tells found.0.disk.0 x there)) ∙ damaged))
+      (λ d want held_there e. wanted-last found.0.disk (header c n found.0.length) result is.refused_by_its_disk (IsLastWritten b.program (state b)) (last found.0 found.1) d want held_there e)

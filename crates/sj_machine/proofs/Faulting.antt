@@ -37,7 +37,7 @@ risen-kept count Q opened old new d grows back risen = by_opened (slice_get open
 module _ {D : Type 0} (size faults mismatches : D → ℕ) (held : D → Option (List ℕ)) (b : Standing D) (disks : DiskState D) (back : AreGivenBack size faults mismatches held b.disks.disks disks.disks) where
   pub cause-kept : (fault : RunFault) → HasCause faults mismatches held b fault → HasCause faults mismatches held (record b { disks = disks }) fault
   cause-kept (DiskFault d) risen = risen-kept faults (IsGivenBack size faults mismatches held) b.opened b.disks.disks disks.disks d.0 (λ y z given. given.faults_never_fall) back risen
-  cause-kept (Damaged d want found) (risen, differ, untold) = (risen-kept mismatches (IsGivenBack size faults mismatches held) b.opened b.disks.disks disks.disks d.0 (λ y z given. given.mismatches_never_fall) back risen, differ, untold)
+  cause-kept (Damaged d want found) (risen, differ, untold, last) = (risen-kept mismatches (IsGivenBack size faults mismatches held) b.opened b.disks.disks disks.disks d.0 (λ y z given. given.mismatches_never_fall) back risen, differ, untold, last)
   cause-kept OutOfMemory h = h
 
   pub kept-cause : (fault : Option RunFault) → IfSome fault (HasCause faults mismatches held b) → IfSome fault (HasCause faults mismatches held (record b { disks = disks }))

@@ -1,5 +1,5 @@
 -- A board stays sound where the kernel of a claimed task begins.
-use Rattle.std.proofs.Common.{◌≡◌, ℕ, ◌⊎◌, IsTrue, Option, List, inl, inr, refl, sym, subst, ap, ◌∙◌, arith, is_some}
+use Rattle.std.proofs.Common.{◌≡◌, ℕ, ◌⊎◌, IsTrue, None, Option, List, inl, inr, refl, sym, subst, ap, ◌∙◌, arith, is_some}
 use Rattle.std.specs.Prelude.{OnErr, OnOk, Ok, Err, Result}
 use Rattle.sj_base.specs.declared.trace.Event.TheVariants.{Run}
 use Rattle.sj_core.proofs.Advancing.{Advances, Runs-advances, same_task}
@@ -13,6 +13,7 @@ use Rattle.sj_deps.specs.Progress.{Progress as Dependencies}
 use Rattle.sj_machine.specs.Board.{BoardState, has_event}
 use Rattle.sj_machine.specs.BoardSound.{IsToBeTaken, KeepsBoard}
 use Rattle.sj_machine.specs.Standing.{CanHappen, Standing, state, with_event}
+use Rattle.sj_machine.proofs.LastHeaders.{none-caused}
 use Rattle.sj_machine.proofs.Stepping.{counts-still, not-complete, taken-before, taken-still}
 
 claimed-waits : (w : Worker) → Claimed w ≡ Waiting → ⊥
@@ -25,7 +26,7 @@ running-waits w e = absurd (cc)
 same-owner : (v w : Worker) → is_task_of v (Running w) ≡ is_task_of v (Claimed w)
 same-owner v w = grind arith
 
-module _ {D : Type 0} (faults mismatches : D → ℕ) (held : D → Option (List ℕ)) (b : BoardState D) (deps : Dependencies) (footprints : List ℕ) (keeps : KeepsBoard faults mismatches held b deps footprints) (t : Task) (w : Worker) (can : CanHappen b.run (Run t w)) where
+module _ {D : Type 0} (faults mismatches : D → ℕ) (held : D → Option (List ℕ)) (b : BoardState D) (deps : Dependencies) (footprints : List ℕ) (keeps : KeepsBoard faults mismatches held b deps footprints) (none : b.fault ≡ None) (t : Task) (w : Worker) (can : CanHappen b.run (Run t w)) where
   abbrev p : Program
   p = b.run.program
 
@@ -69,7 +70,7 @@ module _ {D : Type 0} (faults mismatches : D → ℕ) (held : D → Option (List
 
   pub keeps-begun : KeepsBoard faults mismatches held (has_event b (Run t w)) deps footprints
   keeps-begun = record {
-    fault = keeps.fault;
+    fault = none-caused faults mismatches held b.run (with_event b.run (Run t w)) b.fault none;
     inside = record {
       hands_agree = record {
         every_worker = keeps.inside.hands_agree.every_worker;

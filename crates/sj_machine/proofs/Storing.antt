@@ -23,6 +23,7 @@ use Rattle.sj_disk.specs.Holding.{Holds, Tells}
 use Rattle.sj_disk.proofs.Bytes.{length-element_bytes, length-header_bytes}
 use Rattle.std.proofs.lemmas.List.{length-append}
 use Rattle.sj_machine.specs.Agrees.{Rows, transfer_in}
+use Rattle.sj_machine.specs.Headers.{IsLastWritten}
 use Rattle.sj_machine.specs.Copies.{Copies, row_of}
 use Rattle.sj_machine.specs.Sound.{HoldsArray, HoldsBlocks, IsBlock, IsCopyOf, FetchesMoved, IsStored, IsWrittenOut, Keeps, StoresMoved, block_of}
 use Rattle.sj_machine.specs.Standing.{AllTell, HasDimsMoved, IsTileMoved, IsTileOf, Standing, state}
@@ -71,14 +72,16 @@ module _ {D : Type 0} (size faults mismatches : D → ℕ) (held : D → Option 
   s = state b
 
   -- the extent of a cell that has a disk
-  extent : (d : DiskNo) → disk_of p m c ≡ Some d → (e : Extent) × (extent_of b.disks.directory c.0 ≡ Some e) × (e.length ≡ area (dims_of p c))
+  extent : (d : DiskNo) → disk_of p m c ≡ Some d → (e : Extent) × (extent_of b.disks.directory c.0 ≡ Some e) × (e.length ≡ area (dims_of p c)) × (e.disk ≡ d)
   extent d home = by_block (block_of p m c) refl home
     where
-      by_block : (o : Option Block) → block_of p m c ≡ o → option_map (λ (k : Block). k.disk) o ≡ Some d → (e : Extent) × (extent_of b.disks.directory c.0 ≡ Some e) × (e.length ≡ area (dims_of p c))
+      by_block : (o : Option Block) → block_of p m c ≡ o → option_map (λ (k : Block). k.disk) o ≡ Some d → (e : Extent) × (extent_of b.disks.directory c.0 ≡ Some e) × (e.length ≡ area (dims_of p c)) × (e.disk ≡ d)
       by_block None e is = absurd (let f : ◌≡◌ {A = Option DiskNo} None (Some d) = is in cc)
       by_block (Some k) e is =
           let found = some-at (IsBlock p c k) (extent_of b.disks.directory c.0) (told-at (λ (k : Block). IsSomeAnd (extent_of b.disks.directory c.0) (IsBlock p c k)) (block_of p m c) k e (keeps.sound.blocks.placed c)) in
-          (found.0, found.1, found.2.whole)
+          let one : ◌≡◌ {A = Option DiskNo} (Some k.disk) (Some d) = is in
+          let same : k.disk ≡ d = cc in
+          (found.0, found.1, found.2.whole, found.2.disk ∙ same)
 
   -- the same state over other disks
   keeps-over : (new : DiskState D) → HoldsBlocks held p m s (AllTell held b) new → AreGivenBack size faults mismatches held b.disks.disks new.disks → Keeps size faults mismatches held (record b { disks = new }) rows owed spare
@@ -199,7 +202,7 @@ module _ {D : Type 0} (size faults mismatches : D → ℕ) (held : D → Option 
     valid : is_valid (replica s c (OnDisk d)) ≡ true
     valid = keeps.sound.coherent.transfers.source w (a_transfer c (OnDisk d) to) under_way
 
-    its_extent : (e : Extent) × (extent_of b.disks.directory c.0 ≡ Some e) × (e.length ≡ area (dims_of p c))
+    its_extent : (e : Extent) × (extent_of b.disks.directory c.0 ≡ Some e) × (e.length ≡ area (dims_of p c)) × (e.disk ≡ d)
     its_extent = extent d (keeps.sound.coherent.state.blocks.home c d valid)
 
     stored_at : (e : Extent) → extent_of b.disks.directory c.0 ≡ Some e → e.last_store ≡ Some (last_store (writes s c) true)
@@ -211,6 +214,16 @@ module _ {D : Type 0} (size faults mismatches : D → ℕ) (held : D → Option 
 
     pub fetch-stored : IsSomeAnd (extent_of b.disks.directory c.0) (λ e. (length tile.elements ≡ e.length) × (e.last_store ≡ Some (last_store (writes s c) true)))
     fetch-stored = let e = its_extent in some-and (λ e. (length tile.elements ≡ e.length) × (e.last_store ≡ Some (last_store (writes s c) true))) (extent_of b.disks.directory c.0) e.0 e.1 (whole ∙ ap area dims ∙ sym e.2, stored_at e.0 e.1)
+
+    pub fetch-last : (n : ℕ) → n ≡ writes s c → (e : Extent) → extent_of b.disks.directory c.0 ≡ Some e → IsLastWritten p s e.disk (header c.0 n e.length)
+    fetch-last n count e is =
+        let one : Some its_extent.0 ≡ Some e = sym its_extent.1 ∙ is in
+        let same : its_extent.0 ≡ e = cc in
+        subst (λ (x : Extent). IsLastWritten p s x.disk (header c.0 n x.length)) same (record {
+          cell = c;
+          copy = ap (λ (k : DiskNo). is_valid (replica s c (OnDisk k))) its_extent.3 ∙ valid;
+          header = ap (λ k. header c.0 k its_extent.0.length) count ∙ ap (header c.0 (writes s c)) its_extent.2;
+        })
 
     module _ {A : Type 0} (result : Result A DiskRefusal) (got : Array) (same_dims : got.dims ≡ tile.dims) (new : DiskState D) (fetches : IfSome (extent_of b.disks.directory c.0) (Fetches size faults mismatches held c.0 (writes s c) got.elements result b.disks new)) where
       fetched : Fetches size faults mismatches held c.0 (writes s c) got.elements result b.disks new its_extent.0
@@ -305,6 +318,10 @@ module _ {D : Type 0} (size faults mismatches : D → ℕ) (held : D → Option 
 
     pub found-to_fetch : (cells' : List Copies) (n : ℕ) → cells' ≡ rows.cells → n ≡ (row_of cells' x.cell).writes → IsSomeAnd (extent_of b.disks.directory x.cell.0) (λ e. (length tile.elements ≡ e.length) × (e.last_store ≡ Some (last_store n true)))
     found-to_fetch cells' n is count = subst (λ (k : ℕ). IsSomeAnd (extent_of b.disks.directory x.cell.0) (λ e. (length tile.elements ≡ e.length) × (e.last_store ≡ Some (last_store k true)))) (sym (counted cells' n is count)) (fetch-stored size faults mismatches held b rows owed spare keeps x.cell w d x.to (from-place (OnDisk d) at) tile dims-of whole)
+
+    -- the header that is wanted of it is the one last written
+    pub found-last : (cells' : List Copies) (n : ℕ) → cells' ≡ rows.cells → n ≡ (row_of cells' x.cell).writes → (e : Extent) → extent_of b.disks.directory x.cell.0 ≡ Some e → IsLastWritten b.program (state b) e.disk (header x.cell.0 n e.length)
+    found-last cells' n is count = fetch-last size faults mismatches held b rows owed spare keeps x.cell w d x.to (from-place (OnDisk d) at) tile dims-of whole n (counted cells' n is count)
 
     module _ {A : Type 0} (result : Result A DiskRefusal) (got : Array) (same_dims : got.dims ≡ tile.dims) (new : DiskState D) (cells' : List Copies) (n : ℕ) (is : cells' ≡ rows.cells) (count : n ≡ (row_of cells' x.cell).writes) (fetches : IfSome (extent_of b.disks.directory x.cell.0) (Fetches size faults mismatches held x.cell.0 n got.elements result b.disks new)) where
       its-fetches : IfSome (extent_of b.disks.directory x.cell.0) (Fetches size faults mismatches held x.cell.0 (writes (state b) x.cell) got.elements result b.disks new)

@@ -21,6 +21,7 @@ use Rattle.sj_machine.specs.declared.hand.Hand.{Hand}
 use Rattle.sj_machine.proofs.Giving.{back-taken, hand-inside, once-given}
 use Rattle.sj_machine.proofs.Hands.{given-set, hand-set, hand-set_apart}
 use Rattle.sj_machine.proofs.Pooling.{once}
+use Rattle.sj_machine.proofs.LastHeaders.{none-caused}
 use Rattle.sj_machine.proofs.Stepping.{counts-still, not-complete, taken-before, taken-still}
 
 -- a task is given once where the number is its own
@@ -128,7 +129,7 @@ module _ {D : Type 0} (size faults mismatches : D → ℕ) (held : D → Option 
 
     pub keeps-claimed : KeepsBoard faults mismatches held (has_claimed b t w) deps footprints
     keeps-claimed = record {
-      fault = keeps.fault;
+      fault = none-caused faults mismatches held b.run (with_event b.run (Claim t w)) b.fault none;
       inside = record {
         hands_agree = claimed-hands;
         stops = claimed-stops;

@@ -33,6 +33,7 @@ use Rattle.sj_machine.specs.Standing.{CanHappen, Standing, state, with_event}
 use Rattle.sj_machine.specs.declared.hand.Hand.{Hand}
 use Rattle.sj_machine.proofs.PoolFilling.{IsFilled, among-cons, fill, times_among}
 use Rattle.sj_machine.proofs.Hands.{given-same, hand-set, hand-set_apart, pool_for-same}
+use Rattle.sj_machine.proofs.LastHeaders.{ended-cause}
 use Rattle.sj_machine.proofs.Stepping.{not-complete, ready-same}
 
 -- ---- how often a task is in a list
@@ -307,7 +308,7 @@ module _ {D : Type 0} (size faults mismatches : D → ℕ) (held : D → Option 
 
     pub keeps-ended : KeepsBoard faults mismatches held (has_ended b t w ts gift) (after_done deps t.0) footprints
     keeps-ended = record {
-      fault = keeps.fault;
+      fault = ended-cause faults mismatches held b.run sound.coherent t w can b.fault keeps.fault;
       inside = record {
         hands_agree = ended-hands;
         stops = ended-stops;

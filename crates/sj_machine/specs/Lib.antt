@@ -8,6 +8,7 @@ pub mod Counts
 pub mod Delivered
 pub mod Filling
 pub mod Gone
+pub mod Headers
 pub mod Mark
 pub mod Operands
 pub mod Placing

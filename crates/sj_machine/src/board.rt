@@ -282,11 +282,12 @@ impl<D: Disk> Board<D> {
         Ok(())
     }
 
-    /// The kernel of the task begins that a worker has claimed. Appends to the frame shares of the operands whose old value
+    /// The kernel of the task begins that a worker has claimed, where no fault is kept. Appends to the frame shares of the operands whose old value
     /// is read, in order; of the cells that it writes, the board keeps no tile, and of what a deliver task hands over it keeps
     /// a further share. After an `Err` the board is as before. Linear in the operands, and in the nodes for each written one.
     pub fn run(&mut self, t: Task, w: Worker, frame: Frame) -> Result<Frame, OutOfMemory>
         requires task { HasTask self.old w t }
+        requires no_fault { self.old.fault ≡ None }
         requires can { CanHappen self.old.run (Run t w) }
         requires empty { frame.slots ≡ [] }
         requires room { length (read_among (task_of self.old.run.program t).accesses) ≤ frame.spare }
@@ -366,9 +367,9 @@ impl<D: Disk> Board<D> {
         note_gone(&mut self.gone, w, gone);
     }
 
-    /// A worker begins a move of a cell: one that its claim brings, or a victim of its claim. Hands out a share of the tile
-    /// at the source, where that is a node. After an `Err` the board is as before. Constant time, but for moving the trace
-    /// as it grows.
+    /// A worker begins a move of a cell, where no fault is kept: one that its claim brings, or a victim of its claim. Hands out a
+    /// share of the tile at the source, where that is a node. After an `Err` the board is as before. Constant time, but for moving
+    /// the trace as it grows.
     pub fn begin_move(
         &mut self,
         w: Worker,
@@ -377,6 +378,7 @@ impl<D: Disk> Board<D> {
         to: Place,
     ) -> Result<Option<Arc<Tile>>, OutOfMemory>
         requires busy { IsBusy self.old w }
+        requires no_fault { self.old.fault ≡ None }
         requires can { CanHappen self.old.run (Move cell from to) }
         requires mover { mover_of (state self.old.run) cell from to ≡ w }
         ensures ok { OnOk result (self.new ≡ has_event self.old (Move cell from to)) }

@@ -1,7 +1,8 @@
 use Rattle.std.proofs.Common.{rules, ◌≡◌, ◌∙◌, List, subst}
 use Rattle.sj_base.specs.declared.program.Program.{Program}
 use Rattle.sj_machine.specs.Delivered.{DeliversEach}
-use Rattle.sj_engine.specs.Outcome.{AllTell}
+use Rattle.std.specs.Prelude.{IfErr}
+use Rattle.sj_engine.specs.Outcome.{AllTell, WantsLastWritten}
 use Rattle.sj_core.proofs.Bound.{legal-within_bound}
 use Rattle.sj_core.specs.Legal.{IsLegal}
 use Rattle.sj_base.specs.declared.program.Machine.{Machine}
@@ -47,3 +48,11 @@ returns-in-Ok-opened-clause-bounded g c =
 
 pub returns-clause-bounded : goal.returns-clause-bounded
 returns-clause-bounded g c = legal-within_bound g.C.Codelets.has c.args.program.value c.args.machine c.unopened-in-Err.result.trace.events c.requires.proper c.requires.machine c.requires.lawful (unopened-is g.D.Disk.size g.D.Disk.faults g.D.Disk.mismatches g.D.Disk.held c.args.program.value c.args.machine c.args.disks.items c.unopened-in-Err.result.result c.unopened-in-Err.ensures.result c.unopened-in-Err.result.delivered.pairs c.unopened-in-Err.result.trace.events c.unopened-in-Err.ensures.trace c.unopened-in-Err.result.disks.items (c.unopened-in-Err.ensures.disks ∙ c.in-Err.ensures.err)).legal
+
+pub returns-in-Ok-opened-clause-wanted : goal.returns-in-Ok-opened-clause-wanted
+returns-in-Ok-opened-clause-wanted g c =
+    let program : c.deref.result.now ≡ c.args.program.value = search rules in
+    let machine : c.in-Ok-opened.board.run.machine ≡ c.args.machine = c.in-Ok-opened.ensures.ok.machine in
+    let events = c.run_over.result.trace.events in
+    subst (λ (m : Machine). IfErr c.run_over.result.result (WantsLastWritten c.args.program.value m events)) machine
+    (subst (λ (p : Program). IfErr c.run_over.result.result (WantsLastWritten p c.in-Ok-opened.board.run.machine events)) program c.run_over.ensures.wanted)

@@ -1,9 +1,10 @@
-use Rattle.std.proofs.Common.{refl, subst, sym}
+use Rattle.std.proofs.Common.{◌≡◌, None, refl, subst, sym}
 use Rattle.sj_base.specs.declared.trace.Event.TheVariants.{Move}
 use Rattle.sj_machine.proofs.BoardEnds.{stays-tried}
 use Rattle.sj_machine.proofs.Boarding.{keeps-tried}
+use Rattle.sj_machine.proofs.LastHeaders.{none-caused}
 use Rattle.sj_machine.specs.Board.{BoardState}
-use Rattle.sj_machine.specs.Standing.{CanHappen}
+use Rattle.sj_machine.specs.Standing.{CanHappen, with_event}
 use Rattle.std.specs.Prelude.{OnOk}
 use Rattle.sj_machine.specs.Sparing.{Spares}
 use Rattle.sj_machine.proofs.SparingBoards.{tried-spares}
@@ -13,8 +14,9 @@ use Rattle.sj_machine.proofs.board.Board.begin_move.Goals as goal
 pub invariant_of-self : goal.invariant_of-self
 invariant_of-self g c =
     let can = subst (λ (b : BoardState _). CanHappen b.run (Move c.args.cell c.args.from c.args.to)) (sym c.self.view_is) c.requires.can in
+    let none = subst (λ (b : BoardState _). b.fault ≡ None) (sym c.self.view_is) c.requires.no_fault in
     record {
-      board = keeps-tried _ _ _ _ _ _ c.begin_move.result (Move c.args.cell c.args.from c.args.to) _ c.begin_move.ensures.ok c.begin_move.ensures.err refl c.self.invariant.board;
+      board = keeps-tried _ _ _ _ _ _ c.begin_move.result (Move c.args.cell c.args.from c.args.to) _ c.begin_move.ensures.ok c.begin_move.ensures.err (none-caused g.D.Disk.faults g.D.Disk.mismatches g.D.Disk.held c.self.inside.run (with_event c.self.inside.run (Move c.args.cell c.args.from c.args.to)) c.self.inside.fault none) refl c.self.invariant.board;
       ends = stays-tried g.D.Disk.held c.self.inside.run _ _ _ _ c.self.invariant.ends c.begin_move.result (Move c.args.cell c.args.from c.args.to) _ c.begin_move.ensures.ok c.begin_move.ensures.err refl;
       victims = knows-tried _ _ _ _ c.self.inside.run c.is_sound.ensures _ c.self.invariant.victims c.begin_move.result (Move c.args.cell c.args.from c.args.to) can (λ v. tt) _ c.begin_move.ensures.ok c.begin_move.ensures.err;
     }

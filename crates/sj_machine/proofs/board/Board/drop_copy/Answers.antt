@@ -1,6 +1,7 @@
 use Rattle.std.proofs.Common.{ap, arith, length, refl, subst, sym, ◌<◌, ◌∙◌}
 use Rattle.sj_machine.proofs.BoardEnds.{stays}
 use Rattle.sj_machine.proofs.Boarding.{keeps-run}
+use Rattle.sj_machine.proofs.LastHeaders.{dropped-cause}
 use Rattle.sj_machine.specs.Board.{BoardState, IsBusy}
 use Rattle.sj_machine.specs.Standing.{CanHappen, with_event}
 use Rattle.sj_base.specs.declared.trace.Event.TheVariants.{Drop}
@@ -27,7 +28,7 @@ invariant_of-self g c =
     let can = subst (λ (b : BoardState _). CanHappen b.run (Drop c.args.cell (node_of b.run.machine c.args.w))) (sym c.self.view_is) c.requires.can in
     let known = knows-event _ _ _ _ c.self.inside.run c.is_sound.ensures _ c.self.invariant.victims (Drop c.args.cell (node_of c.self.inside.run.machine c.args.w)) can (λ v. tt) _ (c.drop_copy.ensures ∙ ap (λ (e : Event). with_event c.self.inside.run e) at) in
     record {
-      board = keeps-run _ _ _ _ _ _ _ _ c.drop_copy.ensures refl c.self.invariant.board;
+      board = keeps-run _ _ _ _ _ _ _ _ c.drop_copy.ensures (dropped-cause g.D.Disk.faults g.D.Disk.mismatches g.D.Disk.held c.self.inside.run c.args.cell c.node_of-n.result c.self.inside.fault c.self.invariant.board.fault) refl c.self.invariant.board;
       ends = stays g.D.Disk.held c.self.inside.run _ _ _ _ c.self.invariant.ends _ _ c.drop_copy.ensures refl;
       victims = knows-found c.drop_copy.new.self c.self.inside.gone.items known c.args.w c.gone-gone.result c.gone-gone.ensures _ c.note_gone.ensures;
     }

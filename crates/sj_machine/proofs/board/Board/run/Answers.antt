@@ -1,4 +1,4 @@
-use Rattle.std.proofs.Common.{ap, subst, sym}
+use Rattle.std.proofs.Common.{◌≡◌, None, ap, subst, sym}
 use Rattle.sj_base.specs.declared.trace.Event.TheVariants.{Run}
 use Rattle.sj_machine.specs.Board.{BoardState, board_state}
 use Rattle.sj_machine.specs.BoardSound.{IsKept}
@@ -18,8 +18,9 @@ invariant_of-self g c =
 pub invariant_of-self-2 : goal.invariant_of-self-2
 invariant_of-self-2 g c =
     let can = subst (λ (b : BoardState _). CanHappen b.run (Run c.args.t c.args.w)) (sym c.self.view_is) c.requires.can in
+    let none = subst (λ (b : BoardState _). b.fault ≡ None) (sym c.self.view_is) c.requires.no_fault in
     record {
-      board = keeps-begun_left _ _ _ _ _ _ c.self.invariant.board c.args.t c.args.w can c.run.result _ c.run.ensures.ok c.run.ensures.err;
+      board = keeps-begun_left _ _ _ _ _ _ c.self.invariant.board none c.args.t c.args.w can c.run.result _ c.run.ensures.ok c.run.ensures.err;
       ends = begins g.D.Disk.held c.self.inside.run _ _ _ _ c.self.invariant.ends _ _ _ c.is_sound.ensures c.args.t c.args.w can (array_in c.in_ok-gift.gift) c.in_ok-gift.ensures _ c.in_ok-frame.ensures.ok _ c.keep.ensures;
       victims = knows-tried _ _ _ _ c.self.inside.run c.is_sound.ensures _ c.self.invariant.victims c.run.result (Run c.args.t c.args.w) can (λ v. tt) _ c.run.ensures.ok c.run.ensures.err;
     }

@@ -4,7 +4,7 @@ use Rattle.sj_machine.specs.Counts.{AreCounted}
 use Rattle.sj_machine.specs.Standing.{Standing}
 use Rattle.sj_machine.proofs.DiskCounts.{fetches-cause, fetches-counted}
 use Rattle.sj_machine.proofs.Faulting.{fetches-back}
-use Rattle.sj_machine.proofs.Storing.{found-fetched, found-keeps_fetched, found-to_fetch, moved-cell}
+use Rattle.sj_machine.proofs.Storing.{found-fetched, found-keeps_fetched, found-last, found-to_fetch, moved-cell}
 use Rattle.sj_machine.proofs.run_state.RunState.fetch.Goals as goal
 
 pub writes_of-writes-requires : goal.writes_of-writes-requires
@@ -36,4 +36,5 @@ returns-clause-counts g c =
 pub returns-clause-cause : goal.returns-clause-cause
 returns-clause-cause g c =
     let stored = found-to_fetch _ _ _ _ _ _ _ _ c.self.invariant c.args.w _ c.self.view_is _ c.deref.ensures.value c.transfer_of-x.result c.transfer_of-x.ensures c.disk_at-d.result c.disk_at-d.ensures c.args.tile.now c.requires.dims c.dims-dims.ensures.whole _ c.writes_of-writes.result c.deref-2.ensures.value c.writes_of-writes.ensures in
-    fetches-cause g.D.Disk.size g.D.Disk.faults g.D.Disk.mismatches g.D.Disk.held _ _ _ _ c.self.invariant c.fetch.new.self _ _ _ c.fetch.result c.extent-extent.ensures.laid_out _ stored c.fetch.ensures.fetches
+    let last = found-last _ _ _ _ _ _ _ _ c.self.invariant c.args.w _ c.self.view_is _ c.deref.ensures.value c.transfer_of-x.result c.transfer_of-x.ensures c.disk_at-d.result c.disk_at-d.ensures c.args.tile.now c.requires.dims c.dims-dims.ensures.whole _ c.writes_of-writes.result c.deref-2.ensures.value c.writes_of-writes.ensures in
+    fetches-cause g.D.Disk.size g.D.Disk.faults g.D.Disk.mismatches g.D.Disk.held _ _ _ _ c.self.invariant c.fetch.new.self _ _ _ c.fetch.result c.extent-extent.ensures.laid_out _ stored last c.fetch.ensures.fetches
