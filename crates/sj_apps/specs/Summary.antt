@@ -38,7 +38,8 @@ line_of name dims sum lowest highest infs =
     name ++ codes " " ++ decimal dims.rows ++ codes " " ++ decimal dims.cols ++ codes ": sum " ++ signed_decimal sum
     ++ codes " min " ++ bound_text lowest ++ codes " max " ++ bound_text highest ++ codes " inf " ++ decimal infs ++ codes "\n"
 
--- the line of an array: the numbers among its elements are summed, with wrapping, and have a least and a greatest; the others count
+-- the line of an array: the numbers among its elements are summed, with wrapping, and have a least and a greatest; the others
+-- count
 abbrev pub summary_line : List ℕ → Array → List ℕ
 summary_line name a =
     line_of name a.dims (wrap (total (numbers a.elements))) (minimum (numbers a.elements)) (maximum (numbers a.elements))

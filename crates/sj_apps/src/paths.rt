@@ -272,8 +272,8 @@ fn ring(alloc: Global, n: u32, p: u32, seed: u64) -> Result<Draft, OutOfMemory>
     Ok(draft)
 }
 
-/// The job that computes the lengths of shortest walks on a ring of n vertices with chords, in tiles of at most `tile` by `tile`, and
-/// prints them. Linear in the weights and the tasks.
+/// The job that computes the lengths of shortest walks on a ring of n vertices with chords, in tiles of at most `tile` by `tile`,
+/// and prints them. Linear in the weights and the tasks.
 pub fn paths(alloc: Global, n: u32, tile: u32, seed: u64) -> Result<Job, OutOfMemory>
     requires { IsSize n tile seed }
     ensures unset { IfOk result (λ job. job.settings ≡ unset) }

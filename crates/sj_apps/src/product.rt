@@ -162,8 +162,8 @@ fn factors(alloc: Global, n: u32, p: u32, seed: u64) -> Result<Draft, OutOfMemor
     Ok(draft)
 }
 
-/// The job that computes the product of two matrices of n by n, in tiles of at most `tile` by `tile`, and prints it. Linear in the
-/// tasks.
+/// The job that computes the product of two matrices of n by n, in tiles of at most `tile` by `tile`, and prints it. Linear in
+/// the tasks.
 pub fn product(alloc: Global, n: u32, tile: u32, seed: u64) -> Result<Job, OutOfMemory>
     requires { IsSize n tile seed }
     ensures unset { IfOk result (λ job. job.settings ≡ unset) }

@@ -259,7 +259,10 @@ fn a_file_disk_keeps_bytes_in_its_file(rt: HostRuntime) -> Result<(), Fail> {
     same(&rt, again.check(8, &[7; 24]), Err(CheckFault::Failed));
     same(&rt, (again.faults(), again.mismatches()), (2, 0));
 
-    let file = fs::OpenOptions::new().read(true).write(true).open(&rt, path)?;
+    let file = fs::OpenOptions::new()
+        .read(true)
+        .write(true)
+        .open(&rt, path)?;
     fs::remove_file(&rt, path)?;
     let mut over = FileDisk::over(file, 32);
     same(&rt, over.check(7, &want), Ok(()));
