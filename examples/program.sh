@@ -101,7 +101,7 @@ unaccepted 'word 3, --no, is no option' --swap swap --no
 expect_true 'unaccepted words make no swap file' $?
 
 run "$good" --n 4
-expect 'a size without an application' 2 '' "$usage"
+expect 'a size without an application' 2 '' $'starjob: usage: starjob *\n'
 
 run "$evicts" --workers 2 --node 64
 expect 'two workers on a small node' 0 $'a: 1 2 3\n' ''
