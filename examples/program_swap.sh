@@ -35,7 +35,10 @@ expect 'a link to nothing' 6 '' $'starjob: swap link: File exists\n'"$failed_dis
 run "$evicts" --swap $'no\nwhere/\e[31m'
 expect 'a path with a line end in it' 6 '' $'starjob: swap no\\?where/\\?\\[31m: No such file or directory\n'"$failed_disk"
 run "$evicts" --swap pipe
-expect 'a pipe to swap to' 6 '' "$failed_disk"
+expect 'a pipe to swap to' 6 '' $'starjob: swap pipe: Illegal seek\n'"$failed_disk"
+printf %s "$good" | timeout 10 "$program" --swap /dev/stdin > out 2> err
+code=${PIPESTATUS[1]}
+expect 'the input as its own swap' 6 '' $'starjob: swap /dev/stdin: Illegal seek\n'"$failed_disk"
 run "$evicts" --swap /dev/full
 expect 'a swap that takes nothing' 6 '' "$failed_disk"
 run "$evicts" --swap /dev/zero

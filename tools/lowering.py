@@ -196,7 +196,7 @@ def colour(codelet):
 
 # The words of a run that make the cells, tasks and nodes of a job; the others may stand with them.
 SETTINGS = {"workers": int, "node": int, "nodes": int}
-PASSED_OVER = {"sched": str, "swap": str, "swap-size": str, "trace": None}
+PASSED_OVER = {"sched": str, "swap": str, "swap-size": str, "summary": None, "trace": None}
 
 
 def options(words, known):
@@ -223,6 +223,9 @@ def run(main, usage, most, **known):
     """Calls main with the files' texts and the settings, and says on standard error why there is no picture."""
     name = sys.argv[0].rpartition("/")[2]
     try:
+        if "--help" in sys.argv[1:]:
+            print(f"usage: {usage}")
+            return
         files, settings = options(sys.argv[1:], known)
         if len(files) != most:
             sys.exit(f"usage: {usage}")

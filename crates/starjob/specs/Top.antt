@@ -98,7 +98,7 @@ module _ {D : Type 0} {disk : DiskOf D} (asked : Asked) (before after : Devices 
     pub untold : ¬ AllTell disk.held before.disks
     pub run : RunBrokeOff
 
-  -- a call of the source failed, and no other was made behind it
+  -- just one call of the source failed
   pub record SourceHasFailed : Type 0 where
     pub cause : HasFailed before.source after.source
     pub nothing_ran : trace ≡ []
@@ -108,7 +108,7 @@ module _ {D : Type 0} {disk : DiskOf D} (asked : Asked) (before after : Devices 
     pub cause : HasFailed before.out after.out
     pub run : RunIsWhole
 
-  -- an allocation was refused, with the trace of a run as far as it came
+  -- the free answer, of which nothing says that an allocation was refused: the events begin a legal run, and the source didn't fail
   pub record MemoryRanOut : Type 0 where
     pub began : BeganAsked trace asked
     pub source_never_failed : after.source.faults ≡ before.source.faults

@@ -21,7 +21,6 @@ impl fmt::Display for Value {
                 write!(f, "is no number from {least} to {greatest}")
             }
             Value::Policy => f.write_str("is none of eager, prio and ws"),
-            Value::Application => f.write_str("is neither product nor paths"),
             Value::Path => f.write_str("is no path: it is empty or begins with -"),
         }
     }
@@ -36,6 +35,7 @@ impl fmt::Display for Fault {
             Fault::NoValue => f.write_str("wants a value behind it"),
             Fault::NotThis(value) => write!(f, "{value}"),
             Fault::WithoutNode => f.write_str("stands only with --node"),
+            Fault::NotYet => f.write_str("isn't accepted yet"),
         }
     }
 }

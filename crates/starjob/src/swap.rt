@@ -1,9 +1,9 @@
 //! The file that a run swaps to.
 
 use crate::room::file_size_limit;
-use std::fs::{File, OpenOptions};
+use std::fs::{File, FileType, OpenOptions};
 use std::io::{Error, ErrorKind};
-use std::os::unix::fs::OpenOptionsExt;
+use std::os::unix::fs::{FileTypeExt, OpenOptionsExt};
 use std::rt::{Clock, Files};
 use std::{fs, io};
 
@@ -13,6 +13,9 @@ const NAMES_TRIED: u32 = 100;
 /// The system's number of the cause that a file is there.
 const FILE_EXISTS: i32 = 17;
 
+/// The system's number of the cause that a file has no places to read from or write to.
+const ILLEGAL_SEEK: i32 = 29;
+
 /// The system's number of the cause that a file would be larger than it may be.
 const FILE_TOO_LARGE: i32 = 27;
 
@@ -21,7 +24,13 @@ enum Place {
     Nothing,
     Folder,
     Regular,
-    Other,
+    Stream,
+    Device,
+}
+
+/// Whether it is a pipe or a socket, which has no places.
+fn is_stream(kind: FileType) -> bool {
+    kind.is_fifo() || kind.is_socket()
 }
 
 /// What there is at a path.
@@ -29,7 +38,8 @@ fn place_at(files: &impl Files, path: &str) -> io::Result<Place> {
     match fs::metadata(files, path) {
         Ok(found) if found.is_dir() => Ok(Place::Folder),
         Ok(found) if found.is_file() => Ok(Place::Regular),
-        Ok(_) => Ok(Place::Other),
+        Ok(found) if is_stream(found.file_type()) => Ok(Place::Stream),
+        Ok(_) => Ok(Place::Device),
         Err(e) if e.kind() == ErrorKind::NotFound => Ok(Place::Nothing),
         Err(e) => Err(e),
     }
@@ -38,8 +48,8 @@ fn place_at(files: &impl Files, path: &str) -> io::Result<Place> {
 /// Opens the file that `--swap PATH` asks for, of so many bytes.
 ///
 /// Where nothing is at the path, the file is made new, and its name is removed at once: it is this run's alone, and goes with
-/// it, however it ends. A folder means such a file in it. A regular file that is there isn't taken, and another kind of file,
-/// such as a device, is used as it is. The error is the system's cause.
+/// it, however it ends. A folder means such a file in it. Neither a regular file that is there is taken, nor a pipe
+/// or a socket, which has no places; a device is used as it is. The error is the system's cause.
 pub fn open_swap<R>(rt: &R, path: &str, size: u64) -> io::Result<File>
 where
     R: Files<File = File> + Alloc + Clock,
@@ -48,7 +58,8 @@ where
         Place::Nothing => private_file(rt, path, size),
         Place::Folder => private_file_in(rt, path, size),
         Place::Regular => Err(Error::from_raw_os_error(FILE_EXISTS)),
-        Place::Other => open_as_it_is(rt, path),
+        Place::Stream => Err(Error::from_raw_os_error(ILLEGAL_SEEK)),
+        Place::Device => open_as_it_is(rt, path),
     }
 }
 

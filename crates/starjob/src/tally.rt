@@ -33,6 +33,11 @@ impl Tally {
             fetched: AtomicU64::new(0),
         }
     }
+
+    /// Whether a kernel has begun.
+    pub fn has_begun(&self) -> bool {
+        read(&self.begun) > 0
+    }
 }
 
 fn add(count: &AtomicU64, more: u64) {

@@ -47,7 +47,7 @@ impl Watch {
         }
     }
 
-    /// Waits so many milliseconds for the end, and then shows the line. Says whether the end has come.
+    /// Waits so many milliseconds for the end, and then shows the line, unless no kernel has begun. Says whether the end has come.
     fn waits_or_shows<R>(&self, rt: &R, alloc: Global, millis: u64) -> bool
     where
         R: Wait + Clock + Eprint,
@@ -59,6 +59,9 @@ impl Watch {
             .wait_timeout_while(rt, shown, time, |shown| !shown.is_over);
         if shown.is_over {
             return true;
+        }
+        if !self.tally.has_begun() {
+            return false;
         }
         if let Ok(line) = format!(in alloc; "{ERASED}{}", *self.tally) {
             shown.is_there = true;

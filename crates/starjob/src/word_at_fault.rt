@@ -5,7 +5,6 @@
 pub enum Value {
     Number { least: u64, greatest: u64 },
     Policy,
-    Application,
     Path,
 }
 
@@ -31,6 +30,8 @@ pub enum Fault {
     NotThis(Value),
     /// It stands only with `--node`.
     WithoutNode,
+    /// It asks for an application, which no job is made of yet.
+    NotYet,
 }
 
 /// A word by its number, from 1, and what is wrong with it.
@@ -54,11 +55,13 @@ fn asked_by(name: &str) -> Option<Asked> {
         "swap-size" => number(0, 1 << 40),
         "sched" => Some(Asked::Value(Value::Policy)),
         "swap" => Some(Asked::Value(Value::Path)),
-        "app" => Some(Asked::Value(Value::Application)),
-        "n" | "tile" => number(1, 2048),
-        "seed" => number(0, 999_999_999),
         _ => None,
     }
+}
+
+/// Whether a name asks for an application.
+fn is_of_application(name: &str) -> bool {
+    matches!(name, "app" | "n" | "tile" | "seed")
 }
 
 /// The name that a word says, and the value behind its first `=`.
@@ -88,7 +91,6 @@ fn is_value(text: &str, value: Value) -> bool {
     match value {
         Value::Number { least, greatest } => is_number(text, least, greatest),
         Value::Policy => text == "eager" || text == "prio" || text == "ws",
-        Value::Application => text == "product" || text == "paths",
         Value::Path => !text.is_empty() && !text.starts_with('-'),
     }
 }
@@ -96,6 +98,9 @@ fn is_value(text: &str, value: Value) -> bool {
 /// What the word behind this one has to be, where this is the name of an option or of the flag.
 fn judge_name(before: &[String], word: &str) -> Result<Option<Value>, Fault> {
     let (name, value) = named(word).ok_or(Fault::NoOption)?;
+    if is_of_application(name) {
+        return Err(Fault::NotYet);
+    }
     let asked = asked_by(name).ok_or(Fault::NoOption)?;
     if before.iter().any(|earlier| says(earlier.as_str(), name)) {
         return Err(Fault::Twice);
