@@ -101,7 +101,7 @@ unaccepted 'word 3, --no, is no option' --swap swap --no
 expect_true 'unaccepted words make no swap file' $?
 
 run "$good" --n 4
-expect 'a size without an application' 2 '' $'starjob: usage: starjob *\n'
+expect 'a size without an application' 2 '' $'starjob: word 1, --n, isn\'t accepted yet\nstarjob: usage: starjob *\n'
 
 run "$evicts" --workers 2 --node 64
 expect 'two workers on a small node' 0 $'a: 1 2 3\n' ''
@@ -143,13 +143,20 @@ run_limited 1 $'starjob 1\nvector x 300 fill 100000000 1\nprint x\n'
 [ "$(stat -c %s out)" = 1024 ] || code=torn
 : > out
 expect 'an output beyond the limit of file sizes' 9 '' $'starjob: writing failed\n'
-# a run that waits for the end of its input for longer than a second
+# a run of three seconds or so; and one that waits for its job for longer than a second
 if command -v script > /dev/null; then
-  printf 'starjob 1\nvector x 2 values 1 2\n' > slow
-  script -qec "(cat slow; sleep 1.2; echo print x) | $program > out" shown > /dev/null
+  {
+    printf 'starjob 1\nmatrix A 512 512 fill 1 1\nmatrix C 512 512 fill 0 0\n'
+    for _ in {1..60}; do echo 'task gemm A:R A:R C:RW'; done
+    printf 'vector x 2 values 1 2\nprint x\n'
+  } > slow
+  script -qec "$program < slow > out" shown > /dev/null
   code=$(grep -q 'tasks done, .* in hand' shown && echo shown)
   : > err
   expect 'a long run is shown on a terminal' shown $'x: 1 2\n' ''
+  script -qec "(echo 'starjob 1'; sleep 1.2) | $program > out" shown > /dev/null
+  code=$(grep -q 'tasks done' shown || echo silent)
+  expect 'nothing is shown before a job runs' silent '' ''
 fi
 
 # check TRACE WORDS..: runs trace_check on a trace of the job that evicts, in a file
