@@ -11,7 +11,9 @@ use Rattle.sj_core.specs.Legal.{IsFinished, IsLegal}
 use Rattle.sj_core.specs.Once.{EachRanOnce}
 use Rattle.sj_job.specs.Meaning.{printed}
 use Rattle.sj_lower.specs.Delivering.{deliveries_for}
+use Rattle.sj_engine.specs.Outcome.{WantsLastWritten}
 use Rattle.sj_machine.specs.Delivered.{DeliversEach}
+use Rattle.sj_machine.specs.declared.fault.RunFault.{RunFault}
 use Rattle.sj_trace.specs.Text.{text_of as text_of_trace}
 use Rattle.sj_ready.specs.declared.ready.Ready.{Ready}
 use Rattle.sj_ready.proofs.Fitting.{ready-room}
@@ -36,11 +38,13 @@ module _ (has : Kernel → Bool) (asked : WorkOrRefusal) (r : Ready) (ready : Is
   abbrev w : Work
   w = ready.work
 
-  pub broken-work : (trace : List Event) → IsLegal p r.machine trace → IsOkAnd asked (BrokeOff trace)
-  broken-work trace h =
+  pub broken-work : (fault : RunFault) (trace : List Event) → IsLegal p r.machine trace → WantsLastWritten p r.machine trace fault → IsOkAnd asked (BrokeOff fault trace)
+  broken-work fault trace h last =
       let began : BeganWork trace w = subst (λ (m : Machine). IsLegal (program_of w) m trace) ready.machine_is (subst (λ (q : Program). IsLegal q r.machine trace) ready.program_is h) in
-      let broke : BrokeOff trace w = record { had_room = ready-room has asked r ready; began = began } in
-      subst (λ (a : WorkOrRefusal). IsOkAnd a (BrokeOff trace)) (sym ready.asked_for) broke
+      let wanted : WantsLastWritten (program_of w) w.machine trace fault =
+      subst (λ (m : Machine). WantsLastWritten (program_of w) m trace fault) ready.machine_is (subst (λ (q : Program). WantsLastWritten q r.machine trace fault) ready.program_is last) in
+      let broke : BrokeOff fault trace w = record { had_room = ready-room has asked r ready; began = began; wanted = wanted } in
+      subst (λ (a : WorkOrRefusal). IsOkAnd a (BrokeOff fault trace)) (sym ready.asked_for) broke
 
   ran-work : (trace : List Event) → IsFinished p r.machine trace → EachRanOnce p trace → RanWhole trace w
   ran-work trace finished once = record {
@@ -68,6 +72,6 @@ module _ (has : Kernel → Bool) (asked : WorkOrRefusal) (r : Ready) (ready : Is
         subst (λ (a : WorkOrRefusal). IsOkAnd a (IsTextOf Tells trace text)) (sym ready.asked_for) (record { told = told; had_room = ready-room has asked r ready; ran = ran-work trace finished once; silent = silent })
 
 -- a run of which memory ran out, or that broke off, had begun
-pub broke-began : (asked : WorkOrRefusal) (trace : List Event) → IsOkAnd asked (BrokeOff trace) → Began trace asked
-broke-began (Ok w) trace h = h.began
-broke-began (Err e) trace h = absurd h
+pub broke-began : (asked : WorkOrRefusal) (fault : RunFault) (trace : List Event) → IsOkAnd asked (BrokeOff fault trace) → Began trace asked
+broke-began (Ok w) fault trace h = h.began
+broke-began (Err e) fault trace h = absurd h

@@ -10,6 +10,9 @@ use Rattle.sj_engine.specs.Outcome.{AllTell, HoldBlocks}
 use Rattle.sj_job.specs.Job.{Job}
 use Rattle.sj_job.specs.Reading.{Refusal, job_of, text_limit}
 use Rattle.sj_lower.specs.Limits.{late_limit}
+use Rattle.sj_core.specs.Legal.{state_of}
+use Rattle.sj_machine.specs.Headers.{IsLastWritten}
+use Rattle.sj_machine.specs.declared.fault.RunFault.{RunFault}
 use Rattle.sj_machine.specs.declared.fault.RunFault.TheVariants as running
 use Rattle.sj_needs.specs.Shortage.{IsShortage, IsSwapTooSmall, IsTooLarge}
 use Rattle.sj_needs.specs.declared.shortage.Shortage.{Shortage}
@@ -140,10 +143,10 @@ module _ (has : Kernel → Bool) (o : Options) (sizes : List ℕ) (bytes : Optio
           read = read;
         }
 
-    broken : IsOkAnd work (BrokeOff trace) → RunBrokeOff asked before after trace
-    broken h = record {
-      had_room = holds HasRoom (of-work (BrokeOff trace) HasRoom (λ w is. is.had_room) work h);
-      began = holds (BeganWork trace) (of-work (BrokeOff trace) (BeganWork trace) (λ w is. is.began) work h);
+    broken : (fault : RunFault) → IsOkAnd work (BrokeOff fault trace) → RunBrokeOff asked before after trace
+    broken fault h = record {
+      had_room = holds HasRoom (of-work (BrokeOff fault trace) HasRoom (λ w is. is.had_room) work h);
+      began = holds (BeganWork trace) (of-work (BrokeOff fault trace) (BeganWork trace) (λ w is. is.began) work h);
       read = read;
     }
 
@@ -164,10 +167,18 @@ module _ (has : Kernel → Bool) (o : Options) (sizes : List ℕ) (bytes : Optio
     caused-by (Refused line reason) a d = record { cause = told-of (λ w. w ≡ Err (record { line = line; reason = reason })) a.0; nothing_ran = record { no_event = a.1; read = read } }
     caused-by (TooLarge line bytes) a d = record { cause = holds (λ w. IsTooLarge (program_of w) w.machine line bytes) a.0; nothing_ran = record { no_event = a.1; read = read } }
     caused-by (SwapTooSmall needed have) a d = record { cause = holds (λ w. IsSwapTooSmall (program_of w) w.machine needed have) a.0; nothing_ran = record { no_event = a.1; read = read } }
-    caused-by (DiskFault number) a d = record { cause = d.fault number refl; run = broken a }
+    caused-by (DiskFault number) a d = record { cause = d.fault number refl; run = broken (running.DiskFault number) a }
     caused-by (Damaged number want found) a d =
         let damage = d.damage number want found refl in
-        record { cause = damage.count_rose; other_header = damage.other_header; untold = damage.untold; run = broken a }
+        let fault : RunFault = running.Damaged number want found in
+        let Last = λ (w : Work). IsLastWritten (program_of w) (state_of (program_of w) w.machine trace) number want in
+        record {
+          cause = damage.count_rose;
+          other_header = damage.other_header;
+          last_written = holds Last (of-work (BrokeOff fault trace) Last (λ w is. is.wanted) work a);
+          untold = damage.untold;
+          run = broken fault a;
+        }
     caused-by SourceFault a d = absurd a
     caused-by SinkFault a d = record { cause = a.1; run = whole (TakesPrefix before.out.bytes after.out.bytes) a.0 (d.counts_stay tt) (d.blocks tt) }
     caused-by OutOfMemory a d = record { began = began-asked a; source_never_failed = read.never_failed }
@@ -204,7 +215,7 @@ stop-answered asked Tells (stops.Unready (preparing.Short fitting.OutOfMemory)) 
 stop-answered asked Tells (stops.Unready preparing.OutOfMemory) trace out h = began_empty asked trace h.1
 stop-answered asked Tells (stops.Broken (running.DiskFault disk)) trace out h = h
 stop-answered asked Tells (stops.Broken (running.Damaged disk want found)) trace out h = h
-stop-answered asked Tells (stops.Broken running.OutOfMemory) trace out h = broke-began asked trace h
+stop-answered asked Tells (stops.Broken running.OutOfMemory) trace out h = broke-began asked running.OutOfMemory trace h
 stop-answered asked Tells stops.OutOfMemory trace out h = h
 
 -- where nothing is printed there is no text

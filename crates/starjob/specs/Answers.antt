@@ -7,7 +7,7 @@ use Rattle.sj_base.specs.declared.trace.Event.{Event}
 use Rattle.sj_disk.specs.declared.header.Header.{Header}
 use Rattle.sj_disk.specs.Holding.{CountsStay}
 use Rattle.sj_edge.specs.declared.disk.Disk.{Ghosts as DiskOf}
-use Rattle.sj_engine.specs.Outcome.{AllTell, HoldBlocks}
+use Rattle.sj_engine.specs.Outcome.{AllTell, HoldBlocks, WantsLastWritten}
 use Rattle.sj_machine.specs.declared.fault.RunFault.{RunFault}
 use Rattle.sj_machine.specs.declared.fault.RunFault.TheVariants as running
 use Rattle.sj_needs.specs.declared.shortage.Shortage.{Shortage}
@@ -54,15 +54,16 @@ status_of (Err why) = status_of_stop why
 
 -- ---- a run
 
--- there was room for the work, and its run began
-pub record BrokeOff (trace : List Event) (w : Work) : Type 0 where
+-- there was room for the work, and its run began; the header that a damaged block was to have is the one last written there
+pub record BrokeOff (fault : RunFault) (trace : List Event) (w : Work) : Type 0 where
   pub had_room : HasRoom w
   pub began : BeganWork trace w
+  pub wanted : WantsLastWritten (program_of w) w.machine trace fault
 
 -- why there is no text: the work wasn't made ready, and nothing ran; or its run broke off; or memory ran out beside it
 abbrev pub StopsWith : WorkOrRefusal → Stop → List Event → Type 0
 StopsWith asked (stop.Unready why) trace = IsUnready asked why × (trace ≡ [])
-StopsWith asked (stop.Broken fault) trace = IsOkAnd asked (BrokeOff trace)
+StopsWith asked (stop.Broken fault) trace = IsOkAnd asked (BrokeOff fault trace)
 StopsWith asked stop.OutOfMemory trace = Began trace asked
 
 -- the text is the work's, where all disks tell; whether they do or not there was room, the trace is whole, and where nothing is
@@ -115,8 +116,8 @@ AnsweredText asked Tells status.SinkFault out out' trace = IsOkAnd asked (IsWrit
 AnsweredText asked Tells (status.Refused line reason) out out' trace = StopsWith asked (stop.Unready (preparing.Refused line reason)) trace
 AnsweredText asked Tells (status.TooLarge line bytes) out out' trace = StopsWith asked (stop.Unready (preparing.Short (fitting.TooLarge line bytes))) trace
 AnsweredText asked Tells (status.SwapTooSmall needed have) out out' trace = StopsWith asked (stop.Unready (preparing.Short (fitting.SwapTooSmall needed have))) trace
-AnsweredText asked Tells (status.DiskFault disk) out out' trace = IsOkAnd asked (BrokeOff trace)
-AnsweredText asked Tells (status.Damaged disk want found) out out' trace = IsOkAnd asked (BrokeOff trace)
+AnsweredText asked Tells (status.DiskFault disk) out out' trace = IsOkAnd asked (BrokeOff (running.DiskFault disk) trace)
+AnsweredText asked Tells (status.Damaged disk want found) out out' trace = IsOkAnd asked (BrokeOff (running.Damaged disk want found) trace)
 AnsweredText asked Tells status.OutOfMemory out out' trace = Began trace asked
 AnsweredText asked Tells status.Usage out out' trace = ⊥
 AnsweredText asked Tells status.SourceFault out out' trace = ⊥

@@ -11,6 +11,8 @@ use Rattle.sj_edge.specs.Faults.{Rose}
 use Rattle.sj_edge.specs.GivenBack.{AreGivenBack, AreUntouched}
 use Rattle.sj_engine.specs.Outcome.{AllTell, HoldBlocks}
 use Rattle.sj_job.specs.declared.reason.Reason.{Reason}
+use Rattle.sj_machine.specs.Headers.{IsLastWritten}
+use Rattle.sj_core.specs.Legal.{state_of}
 use Rattle.sj_job.specs.Meaning.{printed}
 use Rattle.sj_needs.specs.Shortage.{IsSwapTooSmall, IsTooLarge}
 use Rattle.sj_ready.specs.Work.{HasRoom, Work, program_of}
@@ -91,10 +93,11 @@ module _ {D : Type 0} {disk : DiskOf D} (asked : Asked) (before after : Devices 
     pub cause : RoseAt number.0 (map disk.faults before.disks) (map disk.faults after.disks)
     pub run : RunBrokeOff
 
-  -- the disk's count of mismatches rose, where another header was found than the one wanted; never where all disks tell
+  -- the disk's count of mismatches rose, where another header was found than the one last written there; never where all disks tell
   pub record DiskIsDamaged (number : DiskNo) (want found : Header) : Type 0 where
     pub cause : RoseAt number.0 (map disk.mismatches before.disks) (map disk.mismatches after.disks)
     pub other_header : want ≢ found
+    pub last_written : IfTold asked (λ w. IsLastWritten (program_of w) (state_of (program_of w) w.machine trace) number want)
     pub untold : ¬ AllTell disk.held before.disks
     pub run : RunBrokeOff
 

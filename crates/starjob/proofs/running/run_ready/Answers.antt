@@ -1,7 +1,7 @@
 use Rattle.std.proofs.Common.{ℕ, ap, refl, subst, sym, arith, Result, IfErr, IsOk, Vec, Global}
 use Rattle.sj_base.specs.declared.program.Program.{Program}
-use Rattle.sj_core.specs.Legal.{IsFinished}
-use Rattle.sj_engine.specs.Outcome.{AllTell, IsCausedBy}
+use Rattle.sj_core.specs.Legal.{IsFinished, IsLegal}
+use Rattle.sj_engine.specs.Outcome.{AllTell, IsCausedBy, WantsLastWritten}
 use Rattle.sj_machine.specs.Delivered.{DeliversEach}
 use Rattle.sj_machine.specs.declared.fault.RunFault.{RunFault}
 use Rattle.starjob.specs.declared.stop.Stop.{Stop}
@@ -10,7 +10,7 @@ use Rattle.starjob.specs.Gathering.{AreGrouped, HandedOver, ShowsRun}
 use Rattle.starjob.proofs.Handing.{handed-over}
 use Rattle.starjob.proofs.Leaving.{leaves-broken, leaves-no-memory}
 use Rattle.starjob.proofs.Showing.{grouped}
-use Rattle.starjob.proofs.Shown.{behind, shows-work}
+use Rattle.starjob.proofs.Shown.{behind, broken-work, shows-work}
 use Rattle.starjob.proofs.Tracing.{began_empty}
 use Rattle.starjob.proofs.running.run_ready.Goals as goal
 
@@ -25,6 +25,16 @@ returns-in_default-clause-disks g c asked ready =
     let none = c.nothing_run in
     leaves-no-memory g.D.Disk asked none.result.text none.result.trace.events c.args.disks.items none.result.disks.items
     none.ensures.text (ap (λ (v : Vec g.row.D.Denot Global). v.items) none.ensures.disks)
+
+pub returns-in-Err-clause-runs : goal.returns-in-Err-clause-runs
+returns-in-Err-clause-runs g c asked ready =
+    let m = c.args.ready.machine in
+    let run = c.run-result in
+    let trace = run.result.trace.events in
+    let fault = c.in-Err.fault in
+    let legal = subst (λ (q : Program). IsLegal q m trace) c.in-Ok.ensures run.ensures.legal in
+    let wanted = subst (λ (r : Result (Unit {0}) RunFault). IfErr r (WantsLastWritten c.in-Ok.shared.value m trace)) c.in-Err.is run.ensures.wanted in
+    broken-work g.C.Codelets.has asked c.args.ready ready fault trace legal (subst (λ (q : Program). WantsLastWritten q m trace fault) c.in-Ok.ensures wanted)
 
 pub returns-in-Err-clause-disks : goal.returns-in-Err-clause-disks
 returns-in-Err-clause-disks g c asked ready =
