@@ -93,7 +93,7 @@ module _ {D : Type 0} {disk : DiskOf D} (asked : Asked) (before after : Devices 
     pub cause : RoseAt number.0 (map disk.faults before.disks) (map disk.faults after.disks)
     pub run : RunBrokeOff
 
-  -- the disk's count of mismatches rose, where another header was found than the one last written there; never where all disks tell
+  -- the disk's count of mismatches rose, where another header was found than the one last written; never where all disks tell
   pub record DiskIsDamaged (number : DiskNo) (want found : Header) : Type 0 where
     pub cause : RoseAt number.0 (map disk.mismatches before.disks) (map disk.mismatches after.disks)
     pub other_header : want ≢ found
@@ -111,7 +111,7 @@ module _ {D : Type 0} {disk : DiskOf D} (asked : Asked) (before after : Devices 
     pub cause : HasFailed before.out after.out
     pub run : RunIsWhole
 
-  -- the free answer, of which nothing says that an allocation was refused: the events begin a legal run, and the source didn't fail
+  -- the free answer, which nothing ties to a refused allocation: the events begin a legal run, and the source didn't fail
   pub record MemoryRanOut : Type 0 where
     pub began : BeganAsked trace asked
     pub source_never_failed : after.source.faults ≡ before.source.faults

@@ -47,7 +47,7 @@ impl Watch {
         }
     }
 
-    /// Waits so many milliseconds for the end, and then shows the line, unless no kernel has begun. Says whether the end has come.
+    /// Waits so many milliseconds for the end, and then shows the line, unless no kernel has begun. Says whether the end came.
     fn waits_or_shows<R>(&self, rt: &R, alloc: Global, millis: u64) -> bool
     where
         R: Wait + Clock + Eprint,

@@ -134,7 +134,8 @@ fn nodes_without_node(words: &[String]) -> Option<FaultyWord> {
     })
 }
 
-/// The first word that isn't accepted, where one is at fault by itself or stands beside the wrong ones. Linear in the words' text for each of them.
+/// The first word that isn't accepted, where one is at fault by itself or stands beside the wrong ones. Linear in the words' text
+/// for each of them.
 pub fn word_at_fault(words: &[String]) -> Option<FaultyWord> {
     let mut awaited = None;
     for (place, word) in words.iter().enumerate() {
