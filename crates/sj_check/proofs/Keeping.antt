@@ -2,6 +2,7 @@
 use Rattle.std.proofs.Common.{◌≡◌, ℕ, ◌<◌, ◌∙◌, List, None, Option, Some, ap, arith, length, refl, set, subst, sym}
 use Rattle.std.specs.Prelude.{All, IsSome}
 use Rattle.std.proofs.lemmas.Bool.{false≢true}
+use Rattle.sj_core.proofs.Eviction.{evicted-after}
 use Rattle.sj_base.specs.declared.trace.Event.{Event}
 use Rattle.sj_base.specs.declared.trace.Event.TheVariants.{Claim, End, Move, Moved, Run}
 use Rattle.sj_core.proofs.Advancing.{Claims-advances, Ends-advances, Runs-advances, idle-has_none}
@@ -9,7 +10,7 @@ use Rattle.sj_core.proofs.States.{state_of-more}
 use Rattle.sj_core.proofs.Words.{AtNode, Cell, Machine, OnDisk, Place, Program, State, Task, Worker, transfer}
 use Rattle.sj_core.specs.Coherent.{Coherent}
 use Rattle.sj_core.specs.Legal.{state_of}
-use Rattle.sj_core.specs.Step.{Claims, Ends, EndsMove, Runs, a_transfer, after, mover_of}
+use Rattle.sj_core.specs.Step.{May, a_transfer, after, mover_of}
 use Rattle.sj_deps.specs.Conflict.{Ready}
 use Rattle.sj_deps.specs.Progress.{Progress as Dependencies, after as after_done}
 use Rattle.sj_machine.specs.BoardSound.{CountsDone}
@@ -89,8 +90,7 @@ module _ {D : Type 0} (held : D → Option (List ℕ)) (b b' : Standing D) (task
 -- the transfer of the worker of a move that can end
 pub moved-under_way : {D : Type 0} (b : Standing D) (c : Cell) (from to : Place) → CanHappen b (Moved c from to) → (w : Worker) → w ≡ mover_of (state b) c from to → transfer (state b) w ≡ Some (a_transfer c from to)
 moved-under_way b c from to can w is =
-    let end : EndsMove b.program (state b) c from to (mover_of (state b) c from to) (after b.program b.machine (state b) (Moved c from to)) = can in
-    ap (transfer (state b)) is ∙ end.under_way
+    ap (transfer (state b)) is ∙ can
 
 module _ {D : Type 0} (held : D → Option (List ℕ)) (b b' : Standing D) (tasks : List (Option Task)) (deps : Dependencies) (watches : Watches held b tasks deps) (coherent : Coherent b.program b.machine (state b)) (t : Task) (w : Worker) where
   abbrev p : Program
@@ -105,30 +105,28 @@ module _ {D : Type 0} (held : D → Option (List ℕ)) (b b' : Standing D) (task
   -- a worker without a task claims one
   pub watches-claimed : CanHappen b (Claim t w) → HasEvent b (Claim t w) b' → Watches held b' (set tasks w.0 (Some t)) deps
   watches-claimed can has =
-      let claim : Claims p m s t w (after p m s (Claim t w)) = can in
-      let step = Claims-advances p m s t w (after p m s (Claim t w)) coherent.state.rows claim in
+      let step = Claims-advances p m s t w (after p m s (Claim t w)) coherent.state.rows can (evicted-after p m s t w) in
       watches-now b b' (Claim t w) has held (set tasks w.0 (Some t)) deps watches.silent
-      (tasks-claimed p s (after p m s (Claim t w)) t w tasks watches.tasks_agree step (omega (arith, claim.worker, watches.tasks_agree.every_worker)) (idle claim (task_in tasks w) refl))
+      (tasks-claimed p s (after p m s (Claim t w)) t w tasks watches.tasks_agree step (omega (arith, can.worker, watches.tasks_agree.every_worker)) (idle can (task_in tasks w) refl))
       (counts-still p s (after p m s (Claim t w)) t _ _ step refl refl deps watches.counts)
     where
-      idle : Claims p m s t w (after p m s (Claim t w)) → (o : Option Task) → task_in tasks w ≡ o → task_in tasks w ≡ None
+      idle : May p m s (Claim t w) → (o : Option Task) → task_in tasks w ≡ o → task_in tasks w ≡ None
       idle claim None e = e
       idle claim (Some u) e = absurd (false≢true (sym (idle-has_none s w u claim.idle) ∙ (watches.tasks_agree.each w u).0 e))
 
   pub claim-inside : CanHappen b (Claim t w) → w.0 < length tasks
-  claim-inside can = let claim : Claims p m s t w (after p m s (Claim t w)) = can in omega (arith, claim.worker, watches.tasks_agree.every_worker)
+  claim-inside can = omega (arith, can.worker, watches.tasks_agree.every_worker)
 
   pub end-inside : CanHappen b (End t w) → w.0 < length tasks
-  end-inside can = let end : Ends p m s t w (after p m s (End t w)) = can in omega (arith, running-staffed p m s coherent t w end.running, watches.tasks_agree.every_worker)
+  end-inside can = omega (arith, running-staffed p m s coherent t w can, watches.tasks_agree.every_worker)
 
   pub end-ready : CanHappen b (End t w) → Ready deps.program deps.done t.0
-  end-ready can = let end : Ends p m s t w (after p m s (End t w)) = can in running-ready p m s coherent deps watches.counts t w end.running
+  end-ready can = running-ready p m s coherent deps watches.counts t w can
 
   -- its kernel begins
   pub watches-begun : CanHappen b (Run t w) → HasEvent b (Run t w) b' → Watches held b' tasks deps
   watches-begun can has =
-      let run : Runs p m s t w (after p m s (Run t w)) = can in
-      let step = Runs-advances p m s t w (after p m s (Run t w)) run in
+      let step = Runs-advances p m s t w (after p m s (Run t w)) can refl in
       watches-now b b' (Run t w) has held tasks deps watches.silent
       (tasks-begun p s (after p m s (Run t w)) t w tasks watches.tasks_agree step)
       (counts-still p s (after p m s (Run t w)) t _ _ step refl refl deps watches.counts)
@@ -136,8 +134,7 @@ module _ {D : Type 0} (held : D → Option (List ℕ)) (b b' : Standing D) (task
   -- it ends
   pub watches-ended : CanHappen b (End t w) → HasEvent b (End t w) b' → w.0 < length tasks → Watches held b' (set tasks w.0 None) (after_done deps t.0)
   watches-ended can has inside =
-      let end : Ends p m s t w (after p m s (End t w)) = can in
-      let step = Ends-advances p m s t w (after p m s (End t w)) end in
+      let step = Ends-advances p m s t w (after p m s (End t w)) can refl in
       watches-now b b' (End t w) has held (set tasks w.0 None) (after_done deps t.0) watches.silent
       (tasks-ended p s (after p m s (End t w)) t w tasks watches.tasks_agree step inside)
       (counts-ended p s (after p m s (End t w)) t w tasks watches.tasks_agree deps step watches.counts)

@@ -8,7 +8,7 @@ use Rattle.std.proofs.lemmas.List.Elements.{All-from_get_or}
 use Rattle.std.proofs.lemmas.List.Folds.{list_all_at}
 use Rattle.std.proofs.lemmas.List.Sums.{list_all-from_AllPass}
 use Rattle.std.proofs.lemmas.Option.{none-some}
-use Rattle.sj_base.specs.declared.trace.Event.TheVariants.{Drop, Move, Run}
+use Rattle.sj_base.specs.declared.trace.Event.TheVariants.{Claim, Drop, Move, Run}
 use Rattle.sj_core.proofs.Advancing.{idle-has_none}
 use Rattle.sj_core.proofs.Placing.{valid-row}
 use Rattle.sj_core.proofs.Readiness.{done_tasks-done, done_tasks-has}
@@ -20,7 +20,7 @@ use Rattle.sj_core.specs.declared.progress.Progress.{Progress}
 use Rattle.sj_core.specs.declared.progress.Progress.TheVariants.{Claimed, Done, Running, Waiting}
 use Rattle.sj_core.specs.Machine.{is_waiting, replica_in, with_transfer}
 use Rattle.sj_core.specs.Operands.{commuting_cells, written_cells}
-use Rattle.sj_core.specs.Step.{BeginsMoveIn, BeginsMoveOut, Claims, Runs, Step, a_transfer, after, claimant_of, disk_of, done_tasks, is_fresh, is_in_use, is_moving, is_present, is_read, is_valid_elsewhere, mover_of, none_leaving, source_of}
+use Rattle.sj_core.specs.Step.{CanMoveIn, CanMoveOut, May, a_transfer, claimant_of, disk_of, done_tasks, is_fresh, is_in_use, is_moving, is_present, is_read, is_valid_elsewhere, mover_of, none_leaving, source_of}
 use Rattle.sj_deps.specs.Conflict.{Ready}
 use Rattle.sj_deps.specs.Progress.{Progress as Dependencies}
 use Rattle.sj_machine.specs.BoardSound.{CountsDone}
@@ -100,12 +100,12 @@ found-fails test (x ∷ xs) c e = by_test (test x) refl (found-fails test xs c)
 module _ (p : Program) (m : Machine) (s : State) (coherent : Coherent p m s) where
   -- ---- a drop
 
-  pub drop-can : (c : Cell) (n : Node) → is_leaving (replica s c (AtNode n)) ≡ true → is_read m s c (AtNode n) ≡ false → is_valid_elsewhere m s c (AtNode n) ≡ true → Step p m s (Drop c n) (after p m s (Drop c n))
-  drop-can c n leaving unread shared = record { leaving = leaving; unread = ap not unread; shared = shared; leaves = refl }
+  pub drop-can : (c : Cell) (n : Node) → is_leaving (replica s c (AtNode n)) ≡ true → is_read m s c (AtNode n) ≡ false → is_valid_elsewhere m s c (AtNode n) ≡ true → May p m s (Drop c n)
+  drop-can c n leaving unread shared = record { leaving = leaving; unread = ap not unread; shared = shared }
 
   -- ---- a run
 
-  pub run-can : (t : Task) (w : Worker) → progress s t ≡ Claimed w → has_room m s w ≡ true → may_run p m s t w ≡ true → Step p m s (Run t w) (after p m s (Run t w))
+  pub run-can : (t : Task) (w : Worker) → progress s t ≡ Claimed w → has_room m s w ≡ true → may_run p m s t w ≡ true → May p m s (Run t w)
   run-can t w claimed room may =
       let parts = and_parts (is_present p s t w (node_of m w)) (list_all (λ c. not (is_moving m s c)) (written_cells p t w)) may in
       record {
@@ -114,11 +114,10 @@ module _ (p : Program) (m : Machine) (s : State) (coherent : Coherent p m s) whe
         room = room;
         present = parts.0;
         unmoved = parts.1;
-        leaves = refl;
       }
 
-  pub run-may : (t : Task) (w : Worker) → Step p m s (Run t w) (after p m s (Run t w)) → may_run p m s t w ≡ true
-  run-may t w run = let r : Runs p m s t w (after p m s (Run t w)) = run in and_from (is_present p s t w (node_of m w)) (list_all (λ c. not (is_moving m s c)) (written_cells p t w)) r.present r.unmoved
+  pub run-may : (t : Task) (w : Worker) → May p m s (Run t w) → may_run p m s t w ≡ true
+  run-may t w run = and_from (is_present p s t w (node_of m w)) (list_all (λ c. not (is_moving m s c)) (written_cells p t w)) run.present run.unmoved
 
   -- ---- the beginning of a move into a node
 
@@ -129,19 +128,18 @@ module _ (p : Program) (m : Machine) (s : State) (coherent : Coherent p m s) whe
     comes : is_coming_by w (replica s c (AtNode n)) ≡ true
     comes = ap (is_coming_by w) coming ∙ same_worker-refl w
 
-    pub in-can : transfer s w ≡ None → is_fresh p s w c ≡ false → has_room m s w ≡ true → source_of p m s c ≡ Some from → Step p m s (Move c from (AtNode n)) (after p m s (Move c from (AtNode n)))
-    in-can free fresh room source = subst (λ (v : Worker). BeginsMoveIn p m s c from n v (with_transfer s v (Some (a_transfer c from (AtNode n))))) (sym in-mover) (record {
+    pub in-can : transfer s w ≡ None → is_fresh p s w c ≡ false → has_room m s w ≡ true → source_of p m s c ≡ Some from → May p m s (Move c from (AtNode n))
+    in-can free fresh room source = subst (λ (v : Worker). CanMoveIn p m s c from n v) (sym in-mover) (record {
       own_node = coherent.pins.coming_here w c n comes;
       free = free;
       coming = comes;
       old_value_needed = ap not fresh;
       room = room;
       source = source;
-      leaves = refl;
     })
 
-    pub in-begins : Step p m s (Move c from (AtNode n)) (after p m s (Move c from (AtNode n))) → BeginsMoveIn p m s c from n w (with_transfer s w (Some (a_transfer c from (AtNode n))))
-    in-begins step = subst (λ (v : Worker). BeginsMoveIn p m s c from n v (with_transfer s v (Some (a_transfer c from (AtNode n))))) in-mover step
+    pub in-begins : May p m s (Move c from (AtNode n)) → CanMoveIn p m s c from n w
+    in-begins step = subst (λ (v : Worker). CanMoveIn p m s c from n v) in-mover step
 
     -- its worker has claimed a task
     pub in-task : (tasks : List (Option Task)) → HasTasks p s tasks → (t : Task) × ((task_in tasks w ≡ Some t) × (progress s t ≡ Claimed w))
@@ -153,8 +151,8 @@ module _ (p : Program) (m : Machine) (s : State) (coherent : Coherent p m s) whe
         mine = grind arith
 
   -- where no copy comes there is none
-  pub in-none : (c : Cell) (from : Place) (n : Node) → Step p m s (Move c from (AtNode n)) (after p m s (Move c from (AtNode n))) → (w : Worker) × (replica s c (AtNode n) ≡ Coming w)
-  in-none c from n step = let begins : BeginsMoveIn p m s c from n (mover_of s c from (AtNode n)) (after p m s (Move c from (AtNode n))) = step in (mover_of s c from (AtNode n), coming_by-is (mover_of s c from (AtNode n)) (replica s c (AtNode n)) begins.coming)
+  pub in-none : (c : Cell) (from : Place) (n : Node) → May p m s (Move c from (AtNode n)) → (w : Worker) × (replica s c (AtNode n) ≡ Coming w)
+  in-none c from n step = (mover_of s c from (AtNode n), coming_by-is (mover_of s c from (AtNode n)) (replica s c (AtNode n)) step.coming)
 
   -- ---- the beginning of a move to a disk
 
@@ -162,23 +160,21 @@ module _ (p : Program) (m : Machine) (s : State) (coherent : Coherent p m s) whe
     out-mover : mover_of s c (AtNode n) (OnDisk d) ≡ w
     out-mover = claimant-leaving w (replica s c (AtNode n)) leaving
 
-    pub out-can : transfer s w ≡ None → is_valid_elsewhere m s c (AtNode n) ≡ false → disk_of p m c ≡ Some d → Step p m s (Move c (AtNode n) (OnDisk d)) (after p m s (Move c (AtNode n) (OnDisk d)))
-    out-can free only target = subst (λ (v : Worker). BeginsMoveOut p m s c (AtNode n) d v (with_transfer s v (Some (a_transfer c (AtNode n) (OnDisk d))))) (sym out-mover) (record {
+    pub out-can : transfer s w ≡ None → is_valid_elsewhere m s c (AtNode n) ≡ false → disk_of p m c ≡ Some d → May p m s (Move c (AtNode n) (OnDisk d))
+    out-can free only target = subst (λ (v : Worker). CanMoveOut p m s c (AtNode n) d v) (sym out-mover) (record {
       free = free;
       leaving = leaving;
       only = ap not only;
       target = target;
-      leaves = refl;
     })
 
-    pub out-begins : Step p m s (Move c (AtNode n) (OnDisk d)) (after p m s (Move c (AtNode n) (OnDisk d))) → BeginsMoveOut p m s c (AtNode n) d w (with_transfer s w (Some (a_transfer c (AtNode n) (OnDisk d))))
-    out-begins step = subst (λ (v : Worker). BeginsMoveOut p m s c (AtNode n) d v (with_transfer s v (Some (a_transfer c (AtNode n) (OnDisk d))))) out-mover step
+    pub out-begins : May p m s (Move c (AtNode n) (OnDisk d)) → CanMoveOut p m s c (AtNode n) d w
+    out-begins step = subst (λ (v : Worker). CanMoveOut p m s c (AtNode n) d v) out-mover step
 
   -- nothing leaves a disk
-  pub out-of_disk : (c : Cell) (k d : DiskNo) → ¬ Step p m s (Move c (OnDisk k) (OnDisk d)) (after p m s (Move c (OnDisk k) (OnDisk d)))
+  pub out-of_disk : (c : Cell) (k d : DiskNo) → ¬ May p m s (Move c (OnDisk k) (OnDisk d))
   out-of_disk c k d step =
-      let begins : BeginsMoveOut p m s c (OnDisk k) d (mover_of s c (OnDisk k) (OnDisk d)) (after p m s (Move c (OnDisk k) (OnDisk d))) = step in
-      let is = leaving_by-is (mover_of s c (OnDisk k) (OnDisk d)) (replica s c (OnDisk k)) begins.leaving in
+      let is = leaving_by-is (mover_of s c (OnDisk k) (OnDisk d)) (replica s c (OnDisk k)) step.leaving in
       (coherent.state.blocks.resting c k (mover_of s c (OnDisk k) (OnDisk d)) is.0).1 is.1
 
   -- and so a move from a disk to a disk has worker 0
@@ -215,20 +211,20 @@ module _ (p : Program) (m : Machine) (s : State) (coherent : Coherent p m s) whe
       by_task None e = refl
       by_task (Some u) e = absurd (false≢true (sym (idle-has_none s w u may.idle) ∙ (has.each w u).0 e))
 
-  pub claims-may : (t : Task) (w : Worker) (s' : State) → Claims p m s t w s' → MayClaim p m s t w
-  claims-may t w s' claim = record { worker = claim.worker; waiting = claim.waiting; ready = claim.ready; idle = claim.idle; fits = claim.fits }
+  pub claims-may : (t : Task) (w : Worker) → May p m s (Claim t w) → MayClaim p m s t w
+  claims-may t w claim = record { worker = claim.worker; waiting = claim.waiting; ready = claim.ready; idle = claim.idle; fits = claim.fits }
 
   -- where there is a reason why it can't be made, it isn't legal
-  pub why-not : (t : Task) (w : Worker) (s' : State) (why : Why) → IsWhy p m s t w why → ¬ Claims p m s t w s'
-  why-not t w s' (Commute c) is claim = false≢true (sym (found-fails (is_in_use p s) (commuting_cells p t) c is) ∙ claim.alone)
-  why-not t w s' (LeavingCopy c) is claim = false≢true (sym fails ∙ claim.settled)
+  pub why-not : (t : Task) (w : Worker) (why : Why) → IsWhy p m s t w why → ¬ May p m s (Claim t w)
+  why-not t w (Commute c) is claim = false≢true (sym (found-fails (is_in_use p s) (commuting_cells p t) c is) ∙ claim.alone)
+  why-not t w (LeavingCopy c) is claim = false≢true (sym fails ∙ claim.settled)
     where
       inside : c.0 < length s.cells
       inside = valid-row s c (AtNode (node_of m w)) (leaving-valid p m s coherent c (AtNode (node_of m w)) is.1)
 
       fails : none_leaving s (node_of m w) ≡ false
       fails = list_all_at (λ (row : CellState). not (is_leaving (replica_in row (AtNode (node_of m w))))) s.cells c.0 no_row inside (ap not is.1)
-  why-not t w s' NoRoom is claim = none-some claim.evicted (sym is.2 ∙ claim.chosen)
+  why-not t w NoRoom is claim = false≢true (sym (ap is_some is.2) ∙ claim.room)
 
   -- ---- an end
 

@@ -4,9 +4,9 @@ use Rattle.sj_base.specs.declared.program.Program.{Program}
 use Rattle.sj_base.specs.declared.program.Machine.{Machine}
 use Rattle.sj_base.specs.declared.trace.Event.{Event}
 use Rattle.sj_core.specs.Coherent.{Coherent}
-use Rattle.sj_core.specs.Legal.{Replays, state_of}
+use Rattle.sj_core.specs.Legal.{IsLegal, state_of}
 use Rattle.sj_core.specs.Machine.{State}
-use Rattle.sj_core.specs.Step.{Step, after}
+use Rattle.sj_core.specs.Step.{May}
 use Rattle.sj_machine.specs.Sound.{IsRunOf}
 
 pub record Replay : Type 0 where
@@ -21,9 +21,9 @@ replay p m events = record { program = p; machine = m; events = events }
 abbrev pub state : Replay → State
 state r = state_of r.program r.machine r.events
 
--- the event is a legal step now
+-- the event may happen now
 abbrev pub IsNext : Replay → Event → Type 0
-IsNext r e = Step r.program r.machine (state r) e (after r.program r.machine (state r) e)
+IsNext r e = May r.program r.machine (state r) e
 
 -- one event more
 abbrev pub with_event : Replay → Event → Replay
@@ -46,5 +46,5 @@ Judges old e legal new = MatchBool legal (Happens old e new) (IsRefused old e ne
 -- the events are legal, of a program that can be run on the machine, and leave a coherent state
 pub record IsSoundReplay (r : Replay) : Type 0 where
   pub run : IsRunOf r.program r.machine
-  pub legal : Replays r.program r.machine r.events (state r)
+  pub legal : IsLegal r.program r.machine r.events
   pub coherent : Coherent r.program r.machine (state r)

@@ -6,7 +6,8 @@ use Rattle.std.proofs.lemmas.List.Sums.{AllPass-from_list_all}
 use Rattle.sj_core.proofs.Words.{Claimed, Done, Machine, Program, Progress, Running, State, Task, Waiting, Worker, cells_of, done_in, has_cell, is_claimed_by, is_done, is_idle, is_running_on, is_task_of, is_waiting, progress, worker_of}
 use Rattle.sj_deps.specs.Conflict.{Conflict}
 use Rattle.sj_core.specs.Coherent.{HasRows, OrderIsKept, SharesCommuting, is_active, is_begun}
-use Rattle.sj_core.specs.Step.{Claims, EarlierAreDone, Ends, Runs}
+use Rattle.sj_core.specs.Step.{CanClaim, CanRun, EarlierAreDone, after_claim, after_end, after_run}
+use Rattle.sj_core.proofs.Eviction.{evicted_by}
 use Rattle.sj_core.proofs.Readiness.{Ready-earlier}
 use Rattle.sj_core.proofs.Reading.{progress-inside, progress-other, progress-same}
 use Rattle.sj_core.proofs.Replicas.{same_worker-is, same_worker-refl}
@@ -60,17 +61,17 @@ not_waiting : (x y : Progress) → x ≡ y → is_waiting y ≡ false → x ≢ 
 not_waiting x y e f g = false≢true (sym f ∙ ap is_waiting (sym e ∙ g))
 
 -- a row for each task suffices
-pub Claims-advances_task : (p : Program) (m : Machine) (s : State) (t : Task) (w : Worker) (s' : State) → length s.tasks ≡ length p.tasks → Claims p m s t w s' → Advances s s' t Waiting (Claimed w)
-Claims-advances_task p m s t w s' rows c = search (arith, progress-same, progress-other)
+pub Claims-advances_task : (p : Program) (m : Machine) (s : State) (t : Task) (w : Worker) (s' : State) → length s.tasks ≡ length p.tasks → CanClaim p m s t w → s' ≡ after_claim p m s t w (evicted_by p m s t w) → Advances s s' t Waiting (Claimed w)
+Claims-advances_task p m s t w s' rows c leaves = search (arith, progress-same, progress-other)
 
-pub Claims-advances : (p : Program) (m : Machine) (s : State) (t : Task) (w : Worker) (s' : State) → HasRows p m s → Claims p m s t w s' → Advances s s' t Waiting (Claimed w)
-Claims-advances p m s t w s' rows c = Claims-advances_task p m s t w s' rows.tasks c
+pub Claims-advances : (p : Program) (m : Machine) (s : State) (t : Task) (w : Worker) (s' : State) → HasRows p m s → CanClaim p m s t w → s' ≡ after_claim p m s t w (evicted_by p m s t w) → Advances s s' t Waiting (Claimed w)
+Claims-advances p m s t w s' rows c leaves = Claims-advances_task p m s t w s' rows.tasks c leaves
 
-pub Runs-advances : (p : Program) (m : Machine) (s : State) (t : Task) (w : Worker) (s' : State) → Runs p m s t w s' → Advances s s' t (Claimed w) (Running w)
-Runs-advances p m s t w s' r = search (arith, progress-same, progress-inside, not_waiting, progress-other)
+pub Runs-advances : (p : Program) (m : Machine) (s : State) (t : Task) (w : Worker) (s' : State) → CanRun p m s t w → s' ≡ after_run p m s t w → Advances s s' t (Claimed w) (Running w)
+Runs-advances p m s t w s' r leaves = search (arith, progress-same, progress-inside, not_waiting, progress-other)
 
-pub Ends-advances : (p : Program) (m : Machine) (s : State) (t : Task) (w : Worker) (s' : State) → Ends p m s t w s' → Advances s s' t (Running w) (Done w)
-Ends-advances p m s t w s' e = search (arith, progress-same, progress-inside, not_waiting, progress-other)
+pub Ends-advances : (p : Program) (m : Machine) (s : State) (t : Task) (w : Worker) (s' : State) → progress s t ≡ Running w → s' ≡ after_end p m s t w → Advances s s' t (Running w) (Done w)
+Ends-advances p m s t w s' e leaves = search (arith, progress-same, progress-inside, not_waiting, progress-other)
 
 -- what is done stays done
 pub done-kept : (s s' : State) (t u : Task) (old new : Progress) → Advances s s' t old new → is_done old ≡ false → done_in s u ≡ true → done_in s' u ≡ true
@@ -115,5 +116,5 @@ OrderIsKept-advances p s s' t old new a undone begun active same o =
     record { earlier = earlier; apart = apart-from_earlier p s' earlier; commuting = commuting-kept p s s' t old new a active same o.commuting }
 
 -- a claim keeps that the earlier conflicting tasks of each begun task are done
-pub Claims-keeps_earlier : (p : Program) (m : Machine) (s : State) (t : Task) (w : Worker) (s' : State) → HasRows p m s → Claims p m s t w s' → OrderIsKept p s → (u : Task) → IsTrue (is_begun (progress s' u)) → EarlierAreDone p s' u
-Claims-keeps_earlier p m s t w s' rows c o = earlier-kept p s s' t Waiting (Claimed w) (Claims-advances p m s t w s' rows c) refl (Ready-earlier p s t c.ready) o.earlier
+pub Claims-keeps_earlier : (p : Program) (m : Machine) (s : State) (t : Task) (w : Worker) (s' : State) → HasRows p m s → CanClaim p m s t w → s' ≡ after_claim p m s t w (evicted_by p m s t w) → OrderIsKept p s → (u : Task) → IsTrue (is_begun (progress s' u)) → EarlierAreDone p s' u
+Claims-keeps_earlier p m s t w s' rows c leaves o = earlier-kept p s s' t Waiting (Claimed w) (Claims-advances p m s t w s' rows c leaves) refl (Ready-earlier p s t c.ready) o.earlier

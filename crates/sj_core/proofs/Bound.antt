@@ -1,5 +1,5 @@
 -- A legal trace has at most three events for each task of its program and five for each operand.
-use Rattle.std.proofs.Common.{Bool, List, [], ap, arith, cond, false, get_or, length, map, refl, subst, suc, sym, true}
+use Rattle.std.proofs.Common.{Bool, List, [], ap, arith, cond, false, get_or, length, map, refl, subst, suc, sym, true, fold}
 use Rattle.std.proofs.Common.{zero, ℕ, ◌*◌, ◌+◌, ◌<◌, ◌||◌, ◌∙◌, ◌∷◌, ◌≡◌, ◌≤◌, None, Option, Some, set, ◌++◌}
 use Rattle.std.proofs.Common.{slice_set, count_by, nat_eq, nat_le, nat_lt, sum_by, ◌&&◌, if◌then◌else◌, is_some}
 use Rattle.sj_core.proofs.Words.{Array, AtNode, Cell, CellState, Claimed, Coming, DiskNo, Done, Event, Invalid, Kernel}
@@ -16,11 +16,10 @@ use Rattle.std.proofs.lemmas.List.Sums.{get_or-le-sum_by, sum_by-cons, sum_by-se
 use Rattle.std.proofs.lemmas.List.Sums.{sum_by-le-sum_by}
 use Rattle.std.proofs.lemmas.Bool.{false≢true, eq-eqb, false_from_ne_true, ne_eqb}
 use Rattle.std.proofs.lemmas.List.Folds.{list_any_at, Any-from_list_any, sum_by-replicate}
-use Rattle.std.proofs.{Math.Logic.∥∥₁_elim, Props.props}
-use Rattle.sj_core.specs.Step.{claimed_replica, leave, owned_at, rewritten_at, BeginsMoveIn, BeginsMoveOut, Claims}
-use Rattle.sj_core.specs.Step.{Drops, Ends, EndsMove, Runs, Step, a_transfer, array_at, initial, missing, result_at}
+use Rattle.sj_core.specs.Step.{claimed_replica, leave, owned_at, rewritten_at, CanClaim, CanDrop, CanMoveIn, CanMoveOut, CanRun}
+use Rattle.sj_core.specs.Step.{May, a_transfer, after, after_claim, after_end, after_run, array_at, initial, missing, result_at}
 use Rattle.sj_core.specs.{Table.renewed, Coherent.IsTransferTo, Coherent.is_begun, Coherent.Coherent, Laws.IsSound}
-use Rattle.sj_core.specs.{Laws.IsLawful, Legal.IsLegal, Legal.Leads, Legal.Replays, Proper.IsMachineFor, Proper.Proper}
+use Rattle.sj_core.specs.{Laws.IsLawful, Legal.CanFollow, Legal.IsLegal, Legal.state_of, Proper.IsMachineFor, Proper.Proper}
 use Rattle.sj_core.specs.{Bound.HasAtMostThreePerTaskAndFivePerOperand, Bound.operands}
 use Rattle.sj_core.proofs.Sums.{count-numbered, sum-one_more, sum-within, tally, sum-nothing, sum_by-map, counted-some}
 use Rattle.sj_core.proofs.Sums.{tally_le}
@@ -29,8 +28,9 @@ use Rattle.sj_core.proofs.Reading.{entry-inside, idle_row, no_row, transfer-insi
 use Rattle.sj_core.proofs.Replicas.{coming_by-is, leaving-by_some, leaving_by-leaves, leaving_by-valid}
 use Rattle.sj_core.proofs.{CellLists.same_cell-sym, Blocks.disk-within, Claiming.claim-advance, Claiming.missing-absent}
 use Rattle.sj_core.proofs.{Claiming.node-inside, Placing.stays-on_disk, Placing.valid-row, Placing.valid-within}
-use Rattle.sj_core.proofs.{TaskCells.written-among_cells, Moving.Ended_moves-keep_coherence, Replaying.Replays-coherent}
-use Rattle.sj_core.proofs.{States.Replays-more, Claimed.claimed-inside, Finding.running-inside}
+use Rattle.sj_core.proofs.{TaskCells.written-among_cells, Moving.Ended_moves-keep_coherence, Opening.opening-coherent}
+use Rattle.sj_core.proofs.Replaying.{Step-keeps_coherence, legal-coherent}
+use Rattle.sj_core.proofs.{Eviction.evicted-after, Eviction.evicted_by, Claimed.claimed-inside, Finding.running-inside}
 
 -- ---- sums that rise at one element, sums over a table whose rows were renewed, and sums over numbered elements
 
@@ -225,31 +225,31 @@ module _ (p : Program) (m : Machine) (s : State) (h : IsSound p m s) where
 
   -- ---- claims, runs and ends
 
-  module _ (t : Task) (w : Worker) (s' : State) (claim : Claims p m s t w s') where
+  module _ (t : Task) (w : Worker) (s' : State) (claim : CanClaim p m s t w) (leaves : s' ≡ after_claim p m s t w (evicted_by p m s t w)) where
     -- what comes by a claim costs five for each of its cells, and what is evicted costs no more than before
     claim-cost : cost s' ≤ cost s + 5 * length (cells_of p t w)
     claim-cost =
         let n = node_of m w in
         let brought : ℕ → Bool = λ k. has_cell (cells_of p t w) (cell_at k) in
-        let all = sum-renewed cost_of (λ k row. with_replica_in row (AtNode n) (claimed_replica w claim.evicted (missing p s t w n) (cell_at k) (replica_in row (AtNode n)))) (λ k. cond (brought k) 5 0) no_row s.cells
-        (λ k inside. claimed-costs (get_or s.cells k no_row) n w claim.evicted (missing p s t w n) (cell_at k) (brought k) (λ lacks. (missing-absent p m s t w s' claim (cell_at k) lacks).1) (node-inside p m s h t w s' claim (cell_at k) inside)) in
-        omega (arith, rows-within (length s.cells) (cells_of p t w), ap cost claim.leaves)
+        let all = sum-renewed cost_of (λ k row. with_replica_in row (AtNode n) (claimed_replica w (evicted_by p m s t w) (missing p s t w n) (cell_at k) (replica_in row (AtNode n)))) (λ k. cond (brought k) 5 0) no_row s.cells
+        (λ k inside. claimed-costs (get_or s.cells k no_row) n w (evicted_by p m s t w) (missing p s t w n) (cell_at k) (brought k) (λ lacks. (missing-absent p m s t w s' claim leaves (cell_at k) lacks).1) (node-inside p m s h t w s' claim leaves (cell_at k) inside)) in
+        omega (arith, rows-within (length s.cells) (cells_of p t w), ap cost leaves)
 
     Claims-pays : Pays p s s'
     Claims-pays =
         let named : length (cells_of p t w) ≡ operands_of p t = length-map (data_operands (task_of p t)) (worked_on p w) in
-        let all = row-counts s w (record { pins = cells_of p t w; scratch = scratch_bytes p (task_of p t); victims = claim.evicted; transfer = transfer s w }) (omega (arith, claim.worker, h.machine.workers, h.coherent.state.rows.workers)) in
-        let more = paid-advances p s s' t Waiting (Claimed w) (claim-advance p m s h t w s' claim) claim.ready.task (1 + 5 * operands_of p t) (omega arith) in
-        omega (arith, claim-cost, ap under_way claim.leaves)
+        let all = row-counts s w (record { pins = cells_of p t w; scratch = scratch_bytes p (task_of p t); victims = (evicted_by p m s t w); transfer = transfer s w }) (omega (arith, claim.worker, h.machine.workers, h.coherent.state.rows.workers)) in
+        let more = paid-advances p s s' t Waiting (Claimed w) (claim-advance p m s h t w s' claim leaves) claim.ready.task (1 + 5 * operands_of p t) (omega arith) in
+        omega (arith, claim-cost, ap under_way leaves)
 
-  module _ (t : Task) (w : Worker) (s' : State) (run : Runs p m s t w s') where
+  module _ (t : Task) (w : Worker) (s' : State) (run : CanRun p m s t w) (leaves : s' ≡ after_run p m s t w) where
     -- a written cell has one replica then, and had one on that node before
     run-cost : cost s' ≤ cost s
     run-cost =
         let n = node_of m w in
         let writes : Cell → Bool = has_cell (written_cells p t w) in
         let all = sum-renewed_within cost_of (λ k row. if writes (cell_at k) then owned_at n (initial p s t w n (cell_at k)) row else row) no_row s.cells (λ k inside. by_test (cell_at k) (writes (cell_at k)) refl) in
-        omega (arith, ap cost run.leaves)
+        omega (arith, ap cost leaves)
       where
         by_test : (c : Cell) (b : Bool) → has_cell (written_cells p t w) c ≡ b → cost_of (if b then owned_at (node_of m w) (initial p s t w (node_of m w) c) (cell_state s c) else cell_state s c) ≤ cost_of (cell_state s c)
         by_test c false e = omega arith
@@ -261,41 +261,41 @@ module _ (p : Program) (m : Machine) (s : State) (h : IsSound p m s) where
 
     Runs-pays : Pays p s s'
     Runs-pays =
-        let all = paid-advances p s s' t (Claimed w) (Running w) (Runs-advances p m s t w s' run) (claimed-inside p m s h t w run.claimed) 1 (omega arith) in
-        omega (arith, run-cost, ap under_way run.leaves)
+        let all = paid-advances p s s' t (Claimed w) (Running w) (Runs-advances p m s t w s' run leaves) (claimed-inside p m s h t w run.claimed) 1 (omega arith) in
+        omega (arith, run-cost, ap under_way leaves)
 
-  module _ (t : Task) (w : Worker) (s' : State) (ended : Ends p m s t w s') where
+  module _ (t : Task) (w : Worker) (s' : State) (ended : progress s t ≡ Running w) (leaves : s' ≡ after_end p m s t w) where
     -- a written cell has its new array in place of the old one
     end-cost : cost s' ≤ cost s
     end-cost =
         let n = node_of m w in
         let writes : Cell → Bool = has_cell (written_cells p t w) in
         let all = sum-renewed_within cost_of (λ k row. if writes (cell_at k) then rewritten_at n (result_at p s t w n (cell_at k)) row else row) no_row s.cells (λ k inside. by_test (cell_at k) (writes (cell_at k)) refl) in
-        omega (arith, ap cost ended.leaves)
+        omega (arith, ap cost leaves)
       where
         by_test : (c : Cell) (b : Bool) → has_cell (written_cells p t w) c ≡ b → cost_of (if b then rewritten_at (node_of m w) (result_at p s t w (node_of m w) c) (cell_state s c) else cell_state s c) ≤ cost_of (cell_state s c)
         by_test c false e = omega arith
         by_test c true e =
             let n = node_of m w in
-            let own = h.coherent.writers.owned t w c ended.running e in
+            let own = h.coherent.writers.owned t w c ended e in
             rewritten-costs (cell_state s c) n (result_at p s t w n c) _ (valid-within (cell_state s c).nodes n.0 (ap is_valid own.valid)) own.valid
 
     Ends-pays : Pays p s s'
     Ends-pays =
-        let all = row-counts s w (record { pins = []; scratch = 0; victims = victims_of s w; transfer = transfer s w }) (worker-inside t (Running w) ended.running refl) in
-        let more = paid-advances p s s' t (Running w) (Done w) (Ends-advances p m s t w s' ended) (running-inside p m s t w h.coherent.state.rows ended.running) 1 (omega arith) in
-        omega (arith, end-cost, ap under_way ended.leaves)
+        let all = row-counts s w (record { pins = []; scratch = 0; victims = victims_of s w; transfer = transfer s w }) (worker-inside t (Running w) ended refl) in
+        let more = paid-advances p s s' t (Running w) (Done w) (Ends-advances p m s t w s' ended leaves) (running-inside p m s t w h.coherent.state.rows ended) 1 (omega arith) in
+        omega (arith, end-cost, ap under_way leaves)
 
   -- ---- transfers that begin
 
   begins-pays : (w : Worker) (x : Transfer) (s' : State) → w.0 < length s.workers → transfer s w ≡ None → s' ≡ with_transfer s w (Some x) → Pays p s s'
   begins-pays w x s' inside free leaves = search (arith, row-counts, tally, under_way, cost, paid)
 
-  Moves_in-pay : (c : Cell) (from : Place) (n : Node) (w : Worker) (s' : State) → BeginsMoveIn p m s c from n w s' → Pays p s s'
-  Moves_in-pay c from n w s' move = search (arith, begins-pays, worker-inside)
+  Moves_in-pay : (c : Cell) (from : Place) (n : Node) (w : Worker) (s' : State) → CanMoveIn p m s c from n w → s' ≡ with_transfer s w (Some (a_transfer c from (AtNode n))) → Pays p s s'
+  Moves_in-pay c from n w s' move leaves = search (arith, begins-pays, worker-inside)
 
-  Moves_out-pay : (c : Cell) (from : Place) (d : DiskNo) (w : Worker) (s' : State) → BeginsMoveOut p m s c from d w s' → Pays p s s'
-  Moves_out-pay c from d w s' move = begins-pays w (a_transfer c from (OnDisk d)) s' (leaving-inside w c from move.leaving) move.free move.leaves
+  Moves_out-pay : (c : Cell) (from : Place) (d : DiskNo) (w : Worker) (s' : State) → CanMoveOut p m s c from d w → s' ≡ with_transfer s w (Some (a_transfer c from (OnDisk d))) → Pays p s s'
+  Moves_out-pay c from d w s' move leaves = begins-pays w (a_transfer c from (OnDisk d)) s' (leaving-inside w c from move.leaving) move.free leaves
 
   -- ---- replicas that come and go
 
@@ -303,16 +303,16 @@ module _ (p : Program) (m : Machine) (s : State) (h : IsSound p m s) where
   rewrites : (c : Cell) (row : CellState) → c.0 < length s.cells → (fewer : ℕ) → cost_of row + fewer ≤ cost_of (cell_state s c) → cost (record s { cells = set s.cells c.0 row }) + fewer ≤ cost s
   rewrites c row inside fewer falls = let all = sum_by-set cost_of s.cells c.0 row no_row inside in omega arith
 
-  Drops-pays : (c : Cell) (n : Node) (s' : State) → Drops m s c n s' → Pays p s s'
-  Drops-pays c n s' drop =
+  Drops-pays : (c : Cell) (n : Node) (s' : State) → CanDrop m s c n → s' ≡ with_replica s c (AtNode n) Invalid → Pays p s s'
+  Drops-pays c n s' drop leaves =
       let by = leaving-by_some (replica s c (AtNode n)) drop.leaving in
       let valid = leaving_by-valid by.0 (replica s c (AtNode n)) by.1 in
       let gone = replaced (cell_state s c) n Invalid (valid-within (cell_state s c).nodes n.0 valid) in
       let weighed = leaving-weighs (is_on_disk (cell_state s c)) (replica s c (AtNode n)) drop.leaving in
       let all = rewrites c (with_replica_in (cell_state s c) (AtNode n) Invalid) (valid-row s c (AtNode n) valid) 1 (omega (arith, gone, weighed)) in
-      omega (arith, ap cost drop.leaves, ap under_way drop.leaves, ap (paid p) drop.leaves)
+      omega (arith, ap cost leaves, ap under_way leaves, ap (paid p) leaves)
 
-  module _ (c : Cell) (from to : Place) (w : Worker) (s' : State) (moved : EndsMove p s c from to w s') where
+  module _ (c : Cell) (from to : Place) (w : Worker) (s' : State) (moved : transfer s w ≡ Some (a_transfer c from to)) (leaves : s' ≡ with_transfer (with_replica s c to (Valid (array_at p s from c))) w None) where
     abbrev brought : Array
     brought = array_at p s from c
 
@@ -320,7 +320,7 @@ module _ (p : Program) (m : Machine) (s : State) (h : IsSound p m s) where
     row = cell_state s c
 
     target : IsTransferTo m s w c from to
-    target = h.coherent.transfers.target w (a_transfer c from to) moved.under_way
+    target = h.coherent.transfers.target w (a_transfer c from to) moved
 
     -- before a disk gets the cell no disk has it
     not_on_disk : (d : DiskNo) → OnDisk d ≡ to → IsTransferTo m s w c from (OnDisk d) → is_on_disk row ≡ false
@@ -329,7 +329,7 @@ module _ (p : Program) (m : Machine) (s : State) (h : IsSound p m s) where
         let k : DiskNo = record { 0 = found.0 } in
         let valid : is_valid (replica s c (OnDisk k)) ≡ true = ap is_valid (get_or_default row.disks found.0 Invalid found.1 found.2 ∙ found.3) ∙ found.4 in
         let home = h.coherent.state.blocks.home c k valid in
-        let aimed = h.coherent.state.blocks.aimed w (a_transfer c from to) d moved.under_way (sym at) in
+        let aimed = h.coherent.state.blocks.aimed w (a_transfer c from to) d moved (sym at) in
         let both : Some k ≡ Some d = sym home ∙ aimed in
         let same : k ≡ d = cc in
         false≢true (sym (ap is_valid there.1) ∙ ap (λ (e : DiskNo). is_valid (replica s c (OnDisk e))) (sym same) ∙ valid)))
@@ -345,7 +345,7 @@ module _ (p : Program) (m : Machine) (s : State) (h : IsSound p m s) where
         by_source (AtNode n) e leaving =
             let valid = leaving_by-valid w (replica s c (AtNode n)) leaving in
             let inside = valid-row s c (AtNode n) valid in
-            let aimed = h.coherent.state.blocks.aimed w (a_transfer c from to) d moved.under_way (sym at) in
+            let aimed = h.coherent.state.blocks.aimed w (a_transfer c from to) d moved (sym at) in
             let within : d.0 < length row.disks = omega (arith, disk-within p m c d aimed, h.coherent.state.rows.disks c.0 no_row inside) in
             (inside, written-costs row d brought n within (not_on_disk d at there) (valid-within row.nodes n.0 valid) (leaving_by-leaves w (replica s c (AtNode n)) leaving))
 
@@ -353,20 +353,20 @@ module _ (p : Program) (m : Machine) (s : State) (h : IsSound p m s) where
     pub moved-cost : cost s' + 2 ≤ cost s
     moved-cost =
         let falls = row-falls to refl target in
-        omega (arith, rewrites c (with_replica_in row to (Valid brought)) falls.0 2 falls.1, ap cost moved.leaves)
+        omega (arith, rewrites c (with_replica_in row to (Valid brought)) falls.0 2 falls.1, ap cost leaves)
 
     -- and one transfer less is under way
     pub moved-transfers : under_way s ≡ 1 + under_way s'
     moved-transfers = search (arith, tally, row-counts, transfer-inside)
 
     Ended_moves-pay : Pays p s s'
-    Ended_moves-pay = omega (arith, moved-cost, moved-transfers, ap (paid p) moved.leaves)
+    Ended_moves-pay = omega (arith, moved-cost, moved-transfers, ap (paid p) leaves)
 
   -- ---- a step
 
-  pub Step-pays : (e : Event) (s' : State) → Step p m s e s' → Pays p s s'
-  Step-pays e s' step =
-      search (arith, Claims-pays, Moves_in-pay, Moves_out-pay, Ended_moves-pay, Drops-pays, Runs-pays, Ends-pays)
+  pub Step-pays : (e : Event) (s' : State) → May p m s e → s' ≡ after p m s e → Pays p s s'
+  Step-pays e s' may leaves =
+      search (arith, Claims-pays, Moves_in-pay, Moves_out-pay, Ended_moves-pay, Drops-pays, Runs-pays, Ends-pays, evicted-after)
 
 -- ---- what all tasks pay
 
@@ -413,30 +413,24 @@ module _ (p : Program) (m : Machine) (proper : Proper p) (machine : IsMachineFor
       let one = some-transfer s (omega (arith, e)) in
       let w = one.0 in
       let x = one.1 in
-      let after : State = with_transfer (with_replica s x.cell x.to (Valid (array_at p s x.from x.cell))) w None in
-      let moved : EndsMove p s x.cell x.from x.to w after = record { under_way = one.2; leaves = refl } in
-      let fewer = moved-transfers p m s (sound s c) x.cell x.from x.to w after moved in
-      let all = transfers-within k after (Ended_moves-keep_coherence p m s (sound s c) x.cell x.from x.to w after moved) (omega (arith, e, fewer)) in
-      omega (arith, moved-cost p m s (sound s c) x.cell x.from x.to w after moved)
+      let next : State = with_transfer (with_replica s x.cell x.to (Valid (array_at p s x.from x.cell))) w None in
+      let fewer = moved-transfers p m s (sound s c) x.cell x.from x.to w next one.2 refl in
+      let all = transfers-within k next (Ended_moves-keep_coherence p m s (sound s c) x.cell x.from x.to w one.2) (omega (arith, e, fewer)) in
+      omega (arith, moved-cost p m s (sound s c) x.cell x.from x.to w next one.2 refl)
 
   -- ---- whole traces
 
   module _ (has : Kernel → Bool) (lawful : IsLawful has p) where
-    coherent : (trace : List Event) (s : State) → Replays p m trace s → Coherent p m s
-    coherent = Replays-coherent p m proper machine has lawful
-
     -- each event of a legal trace is paid for
-    trace-pays : (before trace : List Event) (s s' : State) → Replays p m before s → Leads p m s trace s' → length trace + cost s' + under_way s + paid p s ≤ cost s + under_way s' + paid p s'
-    trace-pays before [] s s' replays e = omega (arith, ap cost e, ap under_way e, ap (paid p) e)
-    trace-pays before (e ∷ trace) s s' replays (next, step, rest) =
-        let all = trace-pays (before ++ e ∷ []) trace next s' (Replays-more p m before s next e replays step) rest in
-        omega (arith, Step-pays p m s (sound s (coherent before s replays)) e next step)
+    trace-pays : (trace : List Event) (s : State) → Coherent p m s → CanFollow p m s trace → length trace + cost (fold (after p m) s trace) + under_way s + paid p s ≤ cost s + under_way (fold (after p m) s trace) + paid p (fold (after p m) s trace)
+    trace-pays [] s coherent follows = omega arith
+    trace-pays (e ∷ trace) s coherent (may, rest) =
+        let all = trace-pays trace (after p m s e) (Step-keeps_coherence p m proper machine has lawful s e coherent may) rest in
+        omega (arith, Step-pays p m s (sound s coherent) e (after p m s e) may refl)
 
     -- what they may still cost at the end is no less than the transfers under way
-    pub replays-within_bound : (trace : List Event) (s : State) → Replays p m trace s → HasAtMostThreePerTaskAndFivePerOperand p trace
-    replays-within_bound trace s replays =
-        let all = transfers-within (under_way s) s (coherent trace s replays) refl in
-        omega (arith, trace-pays [] trace (opening p m) s refl replays, opening-costs p m, paid-at_most p s)
-
-pub legal-within_bound : (has : Kernel → Bool) (p : Program) (m : Machine) (trace : List Event) → Proper p → IsMachineFor p m → IsLawful has p → IsLegal p m trace → HasAtMostThreePerTaskAndFivePerOperand p trace
-legal-within_bound has p m trace proper machine lawful legal = ∥∥₁_elim legal (hlevel props) (λ l. replays-within_bound p m proper machine has lawful trace l.left l.replays)
+    pub legal-within_bound : (trace : List Event) → IsLegal p m trace → HasAtMostThreePerTaskAndFivePerOperand p trace
+    legal-within_bound trace legal =
+        let s = state_of p m trace in
+        let all = transfers-within (under_way s) s (legal-coherent p m proper machine has lawful trace legal) refl in
+        omega (arith, trace-pays trace (opening p m) (opening-coherent p m) legal, opening-costs p m, paid-at_most p s)

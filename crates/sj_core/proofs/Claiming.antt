@@ -9,11 +9,11 @@ use Rattle.sj_core.proofs.Words.{Array, AtNode, Cell, CellState, Claimed, Coming
 use Rattle.sj_core.specs.Coherent.{Coherent, CopiesAgree, HasEntries, HasRows, IsOwnedBy, IsStateOf, NodesSuffice, OrderIsKept, PinsHold, TasksHaveCells, TransfersAreSound, WorkersAreSound, WritersOwn, WritesAreCounted, content, is_being_written, used_while_leaving, written_content}
 use Rattle.sj_core.specs.Laws.{IsSound}
 use Rattle.sj_core.specs.Proper.{IsMachineFor}
-use Rattle.sj_core.specs.Step.{Claims, claimed_replica, leave, missing, to_come, to_front, without}
+use Rattle.sj_core.specs.Step.{CanClaim, after_claim, claimed_replica, leave, missing, to_come, to_front, without}
 use Rattle.sj_core.specs.Victims.{covers}
 use Rattle.sj_core.proofs.Advancing.{Advances, Claims-advances, claimed-is_mine, claimed-task_of, claimed_by-task_of, idle-has_none, same_task, task_of-worker}
 use Rattle.sj_core.proofs.CellLists.{filter-has_cell, has_cell-append, has_cell-distinct, has_cell-filter, has_cell-fronted, has_cell-without, share, times, times-append, times-distinct, times-filter, times-fronted}
-use Rattle.sj_core.proofs.Eviction.{shortest_suffix-passes, shortest_suffix-suffix}
+use Rattle.sj_core.proofs.Eviction.{evicted-chosen, evicted_by, shortest_suffix-passes, shortest_suffix-suffix}
 use Rattle.sj_core.proofs.Placing.{replica_in-cases}
 use Rattle.sj_core.proofs.Reading.{cells-renewed_or, entry-inside, idle_row, list_any-worker, no_row, replica_in-same, same_node, settled-at, worker-other, worker-same, workers_differ}
 use Rattle.sj_core.proofs.Replicas.{coming_by-is, entry-cases, invalid-is, leaving-by_some, leaving_by-leaves, leaving_by-no_entry, same_worker-is, same_worker-refl}
@@ -29,14 +29,14 @@ use Rattle.sj_core.proofs.Sums.{filter-sum-le, sum-balanced, sum-one_more, sum-w
 
 -- ---- what a claim evicts and brings
 
-module _ (p : Program) (m : Machine) (s : State) (t : Task) (w : Worker) (s' : State) (claim : Claims p m s t w s') where
+module _ (p : Program) (m : Machine) (s : State) (t : Task) (w : Worker) (s' : State) (claim : CanClaim p m s t w) (leaves : s' ≡ after_claim p m s t w (evicted_by p m s t w)) where
   -- a victim is an entry of the node, pinned by nobody, and no cell of the task
-  pub evicted-free : (c : Cell) → has_cell claim.evicted c ≡ true → (is_pinned m s (node_of m w) c ≡ false) × (has_cell (cells_of p t w) c ≡ false) × (has_cell (order s (node_of m w)) c ≡ true)
+  pub evicted-free : (c : Cell) → has_cell (evicted_by p m s t w) c ≡ true → (is_pinned m s (node_of m w) c ≡ false) × (has_cell (cells_of p t w) c ≡ false) × (has_cell (order s (node_of m w)) c ≡ true)
   evicted-free c h =
       let n = node_of m w in
       let test : Cell → Bool = λ d. not (is_pinned m s n d) && not (has_cell (cells_of p t w) d) in
-      let end = shortest_suffix-suffix (covers (tile_bytes p) (free p m s n) (to_come p s t w n)) (filter test (order s n)) claim.evicted claim.chosen in
-      let all : has_cell (filter test (order s n)) c ≡ true = ap (λ (xs : List Cell). has_cell xs c) (sym end.1) ∙ has_cell-append end.0 claim.evicted c h in
+      let end = shortest_suffix-suffix (covers (tile_bytes p) (free p m s n) (to_come p s t w n)) (filter test (order s n)) (evicted_by p m s t w) (evicted-chosen p m s t w claim) in
+      let all : has_cell (filter test (order s n)) c ≡ true = ap (λ (xs : List Cell). has_cell xs c) (sym end.1) ∙ has_cell-append end.0 (evicted_by p m s t w) c h in
       let both = has_cell-filter test (order s n) c all in
       search (arith, both, and_parts, not-true)
 
@@ -48,7 +48,7 @@ module _ (p : Program) (m : Machine) (s : State) (t : Task) (w : Worker) (s' : S
   absent-missing c absent has = search (arith, filter-has_cell, has_cell-distinct)
 
   abbrev new_replica : Cell → Replica
-  new_replica c = claimed_replica w claim.evicted (missing p s t w (node_of m w)) c (replica s c (AtNode (node_of m w)))
+  new_replica c = claimed_replica w (evicted_by p m s t w) (missing p s t w (node_of m w)) c (replica s c (AtNode (node_of m w)))
 
   claim-row : (c : Cell) → (cell_state s' c ≡ with_replica_in (cell_state s c) (AtNode (node_of m w)) (new_replica c)) ⊎ ((cell_state s c ≡ no_row) × (cell_state s' c ≡ no_row))
   claim-row c = search (arith, cells-renewed_or)
@@ -70,18 +70,18 @@ module _ (p : Program) (m : Machine) (s : State) (t : Task) (w : Worker) (s' : S
   -- on the node, victims leave and missing cells come
   pub claim-here : (c : Cell) → c.0 < length s.cells → (node_of m w).0 < length (cell_state s c).nodes → replica s' c (AtNode (node_of m w)) ≡ new_replica c
   claim-here c inside within =
-      ap (λ (z : State). replica z c (AtNode (node_of m w))) claim.leaves
-      ∙ ap (λ (row : CellState). replica_in row (AtNode (node_of m w))) (renewed-at (λ k row. with_replica_in row (AtNode (node_of m w)) (claimed_replica w claim.evicted (missing p s t w (node_of m w)) (record { 0 = k }) (replica_in row (AtNode (node_of m w))))) s.cells c.0 no_row inside)
+      ap (λ (z : State). replica z c (AtNode (node_of m w))) leaves
+      ∙ ap (λ (row : CellState). replica_in row (AtNode (node_of m w))) (renewed-at (λ k row. with_replica_in row (AtNode (node_of m w)) (claimed_replica w (evicted_by p m s t w) (missing p s t w (node_of m w)) (record { 0 = k }) (replica_in row (AtNode (node_of m w))))) s.cells c.0 no_row inside)
       ∙ replica_in-same (cell_state s c) (node_of m w) (new_replica c) within
 
 -- ---- the rows of the workers
 
-pub Claims-worker : (p : Program) (m : Machine) (s : State) (t : Task) (w : Worker) (s' : State) → HasRows p m s → IsMachineFor p m → (claim : Claims p m s t w s') →
-    worker_state s' w ≡ record { pins = cells_of p t w; scratch = scratch_bytes p (task_of p t); victims = claim.evicted; transfer = transfer s w }
-Claims-worker p m s t w s' rows fit claim = search (arith, worker-same)
+pub Claims-worker : (p : Program) (m : Machine) (s : State) (t : Task) (w : Worker) (s' : State) → HasRows p m s → IsMachineFor p m → (claim : CanClaim p m s t w) → s' ≡ after_claim p m s t w (evicted_by p m s t w) →
+    worker_state s' w ≡ record { pins = cells_of p t w; scratch = scratch_bytes p (task_of p t); victims = (evicted_by p m s t w); transfer = transfer s w }
+Claims-worker p m s t w s' rows fit claim leaves = search (arith, worker-same)
 
-pub Claims-other_worker : (p : Program) (m : Machine) (s : State) (t : Task) (w v : Worker) (s' : State) → Claims p m s t w s' → v ≢ w → worker_state s' v ≡ worker_state s v
-Claims-other_worker p m s t w v s' claim d = search (arith, worker-other)
+pub Claims-other_worker : (p : Program) (m : Machine) (s : State) (t : Task) (w v : Worker) (s' : State) → CanClaim p m s t w → s' ≡ after_claim p m s t w (evicted_by p m s t w) → v ≢ w → worker_state s' v ≡ worker_state s v
+Claims-other_worker p m s t w v s' claim leaves d = search (arith, worker-other)
 
 -- ---- pins on a node
 
@@ -108,19 +108,19 @@ pub data ClaimCase (m : Machine) (s s' : State) (w : Worker) (evicted brought : 
   Leaves : q ≡ AtNode (node_of m w) → has_cell evicted c ≡ true → (a : Array) → replica s c q ≡ Valid a → replica s' c q ≡ Leaving w a → ClaimCase m s s' w evicted brought c q
   Comes : q ≡ AtNode (node_of m w) → has_cell brought c ≡ true → replica s c q ≡ Invalid → replica s' c q ≡ Coming w → ClaimCase m s s' w evicted brought c q
 
-module _ (p : Program) (m : Machine) (s : State) (h : IsSound p m s) (t : Task) (w : Worker) (s' : State) (claim : Claims p m s t w s') where
+module _ (p : Program) (m : Machine) (s : State) (h : IsSound p m s) (t : Task) (w : Worker) (s' : State) (claim : CanClaim p m s t w) (leaves : s' ≡ after_claim p m s t w (evicted_by p m s t w)) where
   pub claim-advance : Advances s s' t Waiting (Claimed w)
-  claim-advance = Claims-advances p m s t w s' h.coherent.state.rows claim
+  claim-advance = Claims-advances p m s t w s' h.coherent.state.rows claim leaves
 
   -- a worker with a task isn't the one that claims
   pub claimer-other : (v : Worker) (u : Task) → is_task_of v (progress s u) ≡ true → v ≢ w
   claimer-other v u has e = false≢true (sym (idle-has_none s w u claim.idle) ∙ ap (λ (x : Worker). is_task_of x (progress s u)) (sym e) ∙ has)
 
-  own_row : worker_state s' w ≡ record { pins = cells_of p t w; scratch = scratch_bytes p (task_of p t); victims = claim.evicted; transfer = transfer s w }
-  own_row = Claims-worker p m s t w s' h.coherent.state.rows h.machine claim
+  own_row : worker_state s' w ≡ record { pins = cells_of p t w; scratch = scratch_bytes p (task_of p t); victims = (evicted_by p m s t w); transfer = transfer s w }
+  own_row = Claims-worker p m s t w s' h.coherent.state.rows h.machine claim leaves
 
   other_row : (v : Worker) → v ≢ w → worker_state s' v ≡ worker_state s v
-  other_row v d = Claims-other_worker p m s t w v s' claim d
+  other_row v d = Claims-other_worker p m s t w v s' claim leaves d
 
   pub claim-transfer : (v : Worker) → transfer s' v ≡ transfer s v
   claim-transfer v = grind (arith, workers_differ v w, own_row, other_row v)
@@ -139,18 +139,18 @@ module _ (p : Program) (m : Machine) (s : State) (h : IsSound p m s) (t : Task) 
   node-inside c inside = let row = h.coherent.state.rows.nodes c.0 no_row inside in let some = h.machine.some_node in omega arith
 
   -- what a worker pins isn't evicted, nor is a cell of the task
-  pub pin-spared : (v : Worker) (c : Cell) → has_cell (pins s v) c ≡ true → node_of m v ≡ node_of m w → has_cell claim.evicted c ≡ false
-  pin-spared v c pin here = false_from_ne_true (has_cell claim.evicted c) (λ evicted.
+  pub pin-spared : (v : Worker) (c : Cell) → has_cell (pins s v) c ≡ true → node_of m v ≡ node_of m w → has_cell (evicted_by p m s t w) c ≡ false
+  pin-spared v c pin here = false_from_ne_true (has_cell (evicted_by p m s t w) c) (λ evicted.
       (let inside : v.0 < m.workers = omega (arith, pins-inside s v c pin, h.coherent.state.rows.workers) in
-      false≢true (sym (evicted-free p m s t w s' claim c evicted).0 ∙ pinned-at m s v (node_of m w) c inside here pin)))
+      false≢true (sym (evicted-free p m s t w s' claim leaves c evicted).0 ∙ pinned-at m s v (node_of m w) c inside here pin)))
 
-  pub own-spared : (c : Cell) → has_cell (cells_of p t w) c ≡ true → has_cell claim.evicted c ≡ false
-  own-spared c has = false_from_ne_true (has_cell claim.evicted c) (λ evicted. false≢true (sym (evicted-free p m s t w s' claim c evicted).1 ∙ has))
+  pub own-spared : (c : Cell) → has_cell (cells_of p t w) c ≡ true → has_cell (evicted_by p m s t w) c ≡ false
+  own-spared c has = false_from_ne_true (has_cell (evicted_by p m s t w) c) (λ evicted. false≢true (sym (evicted-free p m s t w s' claim leaves c evicted).1 ∙ has))
 
   -- a victim is valid
-  pub victim-valid : (c : Cell) → has_cell claim.evicted c ≡ true → (a : Array) × (replica s c (AtNode (node_of m w)) ≡ Valid a)
+  pub victim-valid : (c : Cell) → has_cell (evicted_by p m s t w) c ≡ true → (a : Array) × (replica s c (AtNode (node_of m w)) ≡ Valid a)
   victim-valid c evicted =
-      elim (entry-cases (replica s c (AtNode (node_of m w))) (sym (h.coherent.state.entries.entries (node_of m w) c) ∙ (evicted-free p m s t w s' claim c evicted).2)) [
+      elim (entry-cases (replica s c (AtNode (node_of m w))) (sym (h.coherent.state.entries.entries (node_of m w) c) ∙ (evicted-free p m s t w s' claim leaves c evicted).2)) [
         | inr valid ↦ valid
         | inl (v, coming) ↦
             let by : is_coming_by v (replica s c (AtNode (node_of m w))) ≡ true = ap (is_coming_by v) coming ∙ same_worker-refl v in
@@ -159,12 +159,12 @@ module _ (p : Program) (m : Machine) (s : State) (h : IsSound p m s) (t : Task) 
 
   -- a missing cell has no replica on the node
   pub missing-invalid : (c : Cell) → has_cell (missing p s t w (node_of m w)) c ≡ true → replica s c (AtNode (node_of m w)) ≡ Invalid
-  missing-invalid c lacks = invalid-is (replica s c (AtNode (node_of m w))) (sym (h.coherent.state.entries.entries (node_of m w) c) ∙ (missing-absent p m s t w s' claim c lacks).0) (settled-at s (node_of m w) c claim.settled)
+  missing-invalid c lacks = invalid-is (replica s c (AtNode (node_of m w))) (sym (h.coherent.state.entries.entries (node_of m w) c) ∙ (missing-absent p m s t w s' claim leaves c lacks).0) (settled-at s (node_of m w) c claim.settled)
 
-  pub claim-cases : (c : Cell) (q : Place) → ClaimCase m s s' w claim.evicted (missing p s t w (node_of m w)) c q
-  claim-cases c q = elim (claim-at p m s t w s' claim c q) [
+  pub claim-cases : (c : Cell) (q : Place) → ClaimCase m s s' w (evicted_by p m s t w) (missing p s t w (node_of m w)) c q
+  claim-cases c q = elim (claim-at p m s t w s' claim leaves c q) [
     | inl same ↦ Stays same
-    | inr (at, is) ↦ elim (cases_Bool (has_cell claim.evicted c)) [
+    | inr (at, is) ↦ elim (cases_Bool (has_cell (evicted_by p m s t w) c)) [
       | inl e ↦ let valid = victim-valid c e in Leaves at e valid.0 (grind (arith, at, valid.1)) (grind (arith, is, e, valid.1))
       | inr e ↦ elim (cases_Bool (has_cell (missing p s t w (node_of m w)) c)) [
         | inl f ↦ Comes at f (ap (replica s c) at ∙ missing-invalid c f) (grind (arith, is, e, f))
@@ -181,11 +181,11 @@ module _ (p : Program) (m : Machine) (s : State) (h : IsSound p m s) (t : Task) 
   same_node_of k e = cc
 
   -- an entry that isn't evicted stays
-  pub entry-stays : (c : Cell) (k : Node) → is_entry (replica s c (AtNode k)) ≡ true → (k ≡ node_of m w → has_cell claim.evicted c ≡ false) → replica s' c (AtNode k) ≡ replica s c (AtNode k)
+  pub entry-stays : (c : Cell) (k : Node) → is_entry (replica s c (AtNode k)) ≡ true → (k ≡ node_of m w → has_cell (evicted_by p m s t w) c ≡ false) → replica s' c (AtNode k) ≡ replica s c (AtNode k)
   entry-stays c k entry spared = search (arith, claim-cases c (AtNode k), false≢true, same_node_of)
 
   -- what leaves after a claim is a victim of it, or left before; what leaves still leaves
-  pub claim-leaving : (v : Worker) (c : Cell) (q : Place) → is_leaving_by v (replica s' c q) ≡ true → ((q ≡ AtNode (node_of m w)) × (v ≡ w) × (has_cell claim.evicted c ≡ true)) ⊎ ((q ≢ AtNode (node_of m w)) × (is_leaving_by v (replica s c q) ≡ true))
+  pub claim-leaving : (v : Worker) (c : Cell) (q : Place) → is_leaving_by v (replica s' c q) ≡ true → ((q ≡ AtNode (node_of m w)) × (v ≡ w) × (has_cell (evicted_by p m s t w) c ≡ true)) ⊎ ((q ≢ AtNode (node_of m w)) × (is_leaving_by v (replica s c q) ≡ true))
   claim-leaving v c q leaving = search (arith, claim-cases, false≢true, settled-at, leaving_by-leaves, same_worker-is)
 
   pub claim-still_leaves : (v : Worker) (c : Cell) (q : Place) → is_leaving_by v (replica s c q) ≡ true → is_leaving_by v (replica s' c q) ≡ true
@@ -193,56 +193,56 @@ module _ (p : Program) (m : Machine) (s : State) (h : IsSound p m s) (t : Task) 
 
   -- what comes after a claim is what it brings, or came before
   pub claim-coming : (v : Worker) (c : Cell) (k : Node) → is_coming_by v (replica s' c (AtNode k)) ≡ true → ((k ≡ node_of m w) × (v ≡ w) × (has_cell (cells_of p t w) c ≡ true)) ⊎ (is_coming_by v (replica s c (AtNode k)) ≡ true)
-  claim-coming v c k coming = grind (arith, claim-cases c (AtNode k), same_node_of, same_worker-is w v, missing-absent p m s t w s' claim c)
+  claim-coming v c k coming = grind (arith, claim-cases c (AtNode k), same_node_of, same_worker-is w v, missing-absent p m s t w s' claim leaves c)
 
   -- the task's own cells are entries after the claim: those that were, and those that come
   pub claim-own_cells : (c : Cell) → has_cell (cells_of p t w) c ≡ true → (is_entry (replica s' c (AtNode (node_of m w))) ≡ true) × (has_cell (order s (node_of m w)) c ≡ false → is_coming_by w (replica s' c (AtNode (node_of m w))) ≡ true)
   claim-own_cells c has =
       let inside = task-cell c has in
-      let now = claim-here p m s t w s' claim c inside (node-inside c inside) in
+      let now = claim-here p m s t w s' claim leaves c inside (node-inside c inside) in
       let entry = h.coherent.state.entries.entries (node_of m w) c in
-      (grind (arith, now, own-spared c has, entry, absent-missing p m s t w s' claim c), λ absent. (grind (arith, now, own-spared c has, absent-missing p m s t w s' claim c, same_worker-refl w)))
+      (grind (arith, now, own-spared c has, entry, absent-missing p m s t w s' claim leaves c), λ absent. (grind (arith, now, own-spared c has, absent-missing p m s t w s' claim leaves c, same_worker-refl w)))
 
   -- ---- the state's own form
 
   abbrev claim_order : List Cell
-  claim_order = fold to_front (without claim.evicted (order s (node_of m w))) (cells_of p t w)
+  claim_order = fold to_front (without (evicted_by p m s t w) (order s (node_of m w))) (cells_of p t w)
 
   claim-rows : HasRows p m s'
-  claim-rows = HasRows-kept p m s s' _ (ap (λ (z : State). z.cells) claim.leaves) (λ i row. (length-set row.nodes (node_of m w).0 _, refl))
-      (ap (λ (z : State). length z.tasks) claim.leaves ∙ length-set s.tasks t.0 (Claimed w)) (ap (λ (z : State). length z.orders) claim.leaves ∙ length-set s.orders (node_of m w).0 claim_order)
-      (ap (λ (z : State). length z.workers) claim.leaves ∙ length-set s.workers w.0 _) h.coherent.state.rows
+  claim-rows = HasRows-kept p m s s' _ (ap (λ (z : State). z.cells) leaves) (λ i row. (length-set row.nodes (node_of m w).0 _, refl))
+      (ap (λ (z : State). length z.tasks) leaves ∙ length-set s.tasks t.0 (Claimed w)) (ap (λ (z : State). length z.orders) leaves ∙ length-set s.orders (node_of m w).0 claim_order)
+      (ap (λ (z : State). length z.workers) leaves ∙ length-set s.workers w.0 _) h.coherent.state.rows
 
   pub claim-order_here : order s' (node_of m w) ≡ claim_order
   claim-order_here = search (arith, get_or-set_same, claim_order)
 
   pub claim-order_elsewhere : (k : Node) → k ≢ node_of m w → order s' k ≡ order s k
-  claim-order_elsewhere k d = ap (λ (z : State). order z k) claim.leaves ∙ get_or-set_other s.orders (node_of m w).0 k.0 claim_order [] (λ e. d (ap (λ (i : ℕ). let j : Node = record { 0 = i } in j) e))
+  claim-order_elsewhere k d = ap (λ (z : State). order z k) leaves ∙ get_or-set_other s.orders (node_of m w).0 k.0 claim_order [] (λ e. d (ap (λ (i : ℕ). let j : Node = record { 0 = i } in j) e))
 
   -- the node's order has what it had, but the victims, and the task's cells
-  pub order-now : (c : Cell) → has_cell (order s' (node_of m w)) c ≡ (has_cell (cells_of p t w) c || (not (has_cell claim.evicted c) && has_cell (order s (node_of m w)) c))
-  order-now c = ap (λ (cs : List Cell). has_cell cs c) claim-order_here ∙ has_cell-fronted (cells_of p t w) (without claim.evicted (order s (node_of m w))) c ∙ ap (λ b. has_cell (cells_of p t w) c || b) (has_cell-without claim.evicted (order s (node_of m w)) c)
+  pub order-now : (c : Cell) → has_cell (order s' (node_of m w)) c ≡ (has_cell (cells_of p t w) c || (not (has_cell (evicted_by p m s t w) c) && has_cell (order s (node_of m w)) c))
+  order-now c = ap (λ (cs : List Cell). has_cell cs c) claim-order_here ∙ has_cell-fronted (cells_of p t w) (without (evicted_by p m s t w) (order s (node_of m w))) c ∙ ap (λ b. has_cell (cells_of p t w) c || b) (has_cell-without (evicted_by p m s t w) (order s (node_of m w)) c)
 
   elsewhere : (c : Cell) (k : Node) → k ≢ node_of m w → replica s' c (AtNode k) ≡ replica s c (AtNode k)
-  elsewhere c k d = claim-elsewhere p m s t w s' claim c (AtNode k) (λ e. d (cc))
+  elsewhere c k d = claim-elsewhere p m s t w s' claim leaves c (AtNode k) (λ e. d (cc))
 
   -- a victim leaves
-  evicted-leaves : (c : Cell) → has_cell claim.evicted c ≡ true → (a : Array) × (replica s' c (AtNode (node_of m w)) ≡ Leaving w a)
+  evicted-leaves : (c : Cell) → has_cell (evicted_by p m s t w) c ≡ true → (a : Array) × (replica s' c (AtNode (node_of m w)) ≡ Leaving w a)
   evicted-leaves c evicted =
       let valid = victim-valid c evicted in
       let inside = entry-inside s c (node_of m w) (ap is_entry valid.1) in
-      (valid.0, claim-here p m s t w s' claim c inside.0 inside.1 ∙ ap (λ x. cond x (leave w (replica s c (AtNode (node_of m w)))) (cond (has_cell (missing p s t w (node_of m w)) c) (Coming w) (replica s c (AtNode (node_of m w))))) evicted ∙ ap (leave w) valid.1)
+      (valid.0, claim-here p m s t w s' claim leaves c inside.0 inside.1 ∙ ap (λ x. cond x (leave w (replica s c (AtNode (node_of m w)))) (cond (has_cell (missing p s t w (node_of m w)) c) (Coming w) (replica s c (AtNode (node_of m w))))) evicted ∙ ap (leave w) valid.1)
 
   entries-here : (c : Cell) → has_cell (order s' (node_of m w)) c ≡ is_entry (replica s' c (AtNode (node_of m w)))
-  entries-here c = grind (arith, order-now c, claim-cases c (AtNode (node_of m w)), claim-own_cells c, evicted-leaves c, missing-absent p m s t w s' claim c, h.coherent.state.entries.entries (node_of m w) c)
+  entries-here c = grind (arith, order-now c, claim-cases c (AtNode (node_of m w)), claim-own_cells c, evicted-leaves c, missing-absent p m s t w s' claim leaves c, h.coherent.state.entries.entries (node_of m w) c)
 
   claim-entries : HasEntries s'
   claim-entries = record {
     entries = λ k c. (search (arith, same_node, entries-here, claim-order_elsewhere, elsewhere));
     once = λ k c. elim (same_node k (node_of m w)) [
       | inl e ↦
-          let fewer = times-filter (λ d. not (has_cell claim.evicted d)) (order s (node_of m w)) c in
-          grind (arith, e, claim-order_here, fewer, times-fronted (cells_of p t w) (without claim.evicted (order s (node_of m w))) c, h.coherent.state.entries.once (node_of m w) c)
+          let fewer = times-filter (λ d. not (has_cell (evicted_by p m s t w) d)) (order s (node_of m w)) c in
+          grind (arith, e, claim-order_here, fewer, times-fronted (cells_of p t w) (without (evicted_by p m s t w) (order s (node_of m w))) c, h.coherent.state.entries.once (node_of m w) c)
       | inr d ↦ subst (λ (cs : List Cell). times cs c ≤ 1) (sym (claim-order_elsewhere k d)) (h.coherent.state.entries.once k c)
     ];
   }
@@ -251,7 +251,7 @@ module _ (p : Program) (m : Machine) (s : State) (h : IsSound p m s) (t : Task) 
   claim-state = record {
     rows = claim-rows;
     entries = claim-entries;
-    blocks = HasBlocks-kept p m s s' (λ c d. inr (claim-on_disk p m s t w s' claim c d)) (claim-transfer) h.coherent.state.blocks;
+    blocks = HasBlocks-kept p m s s' (λ c d. inr (claim-on_disk p m s t w s' claim leaves c d)) (claim-transfer) h.coherent.state.blocks;
     staff = HasWorkers-kept p s s' t Waiting (Claimed w) (claim-advance) claim.worker h.coherent.state.staff;
   }
 
@@ -351,7 +351,7 @@ module _ (p : Program) (m : Machine) (s : State) (h : IsSound p m s) (t : Task) 
   claim-transfers = TransfersAreSound-kept m s s' was (λ v x now valid. claim-valid x.cell x.from ∙ valid)
       (λ v x k now here coming. ap (is_coming_by v) (entry-stays x.cell k (ap is_entry (coming_by-is v (replica s x.cell (AtNode k)) coming))
       (λ e. pin-spared v x.cell (h.coherent.pins.coming_pinned v x.cell k coming) (sym here ∙ e))) ∙ coming)
-      (λ v x now. claim-still_leaves v x.cell x.from) (λ v x d now e. inr (claim-on_disk p m s t w s' claim x.cell d))
+      (λ v x now. claim-still_leaves v x.cell x.from) (λ v x d now e. inr (claim-on_disk p m s t w s' claim leaves x.cell d))
       (λ v x c q now leaving. elim (claim-leaving v c q leaving) [ inl (at, own, evicted) ↦ absurd (mover_other v x now own) | inr (away, left) ↦ left ]) h.coherent.transfers
     where
       was : (v : Worker) (x : Transfer) → transfer s' v ≡ Some x → transfer s v ≡ Some x
@@ -362,7 +362,7 @@ module _ (p : Program) (m : Machine) (s : State) (h : IsSound p m s) (t : Task) 
       mover_other v x now = let old = h.coherent.workers.moves_for_claim v x (was v x now) in claimer-other v old.0 (claimed_by-task_of v (progress s old.0) old.1)
 
   claim-order : OrderIsKept p s'
-  claim-order = Claims-keeps_order p m h.proper.cells (Proper-dependencies p h.proper) s h.coherent.state h.coherent.workers h.coherent.order t w s' claim.worker claim
+  claim-order = Claims-keeps_order p m h.proper.cells (Proper-dependencies p h.proper) s h.coherent.state h.coherent.workers h.coherent.order t w s' claim.worker claim leaves
 
   -- ---- contents
 
@@ -374,7 +374,7 @@ module _ (p : Program) (m : Machine) (s : State) (h : IsSound p m s) (t : Task) 
     where
       -- a running task's written cell is no cell of the claimed one
       not_ours : (u : Task) (v : Worker) (c : Cell) → is_task_of v (progress s u) ≡ true → has_cell (written_cells p u v) c ≡ true → has_cell (missing p s t w (node_of m w)) c ≡ true → ⊥
-      not_ours u v c runs written lacks = separated p m h.proper.cells (Proper-dependencies p h.proper) s' claim-state claim-workers claim-order t u w v c (λ e. other_than u v runs (sym e)) (ap (is_task_of w) claim-advance.is ∙ claimed-is_mine w) (ap (is_task_of v) (still_task u v runs) ∙ runs) (missing-absent p m s t w s' claim c lacks).1 written
+      not_ours u v c runs written lacks = separated p m h.proper.cells (Proper-dependencies p h.proper) s' claim-state claim-workers claim-order t u w v c (λ e. other_than u v runs (sym e)) (ap (is_task_of w) claim-advance.is ∙ claimed-is_mine w) (ap (is_task_of v) (still_task u v runs) ∙ runs) (missing-absent p m s t w s' claim leaves c lacks).1 written
 
       owned : (u : Task) (v : Worker) (c : Cell) → progress s u ≡ Running v → has_cell (written_cells p u v) c ≡ true → IsOwnedBy m s' c v (written_content p s' u v c)
       owned u v c runs written =
@@ -395,38 +395,38 @@ module _ (p : Program) (m : Machine) (s : State) (h : IsSound p m s) (t : Task) 
 
   claim-copies : CopiesAgree p s'
   claim-copies = record {
-    valid_somewhere = λ c some resting. (let q = h.coherent.copies.valid_somewhere c (omega (arith, claim-writes p m s t w s' claim c, some)) (claim-rested c resting) in (q.0, claim-valid c q.0 ∙ q.1));
-    alike = λ c q some resting. agrees-kept (array_of (replica s c q)) (array_of (replica s' c q)) (content p s c) (content p s' c) (claim-array c q) (claim-content c) (h.coherent.copies.alike c q (omega (arith, claim-writes p m s t w s' claim c, some)) (claim-rested c resting));
+    valid_somewhere = λ c some resting. (let q = h.coherent.copies.valid_somewhere c (omega (arith, claim-writes p m s t w s' claim leaves c, some)) (claim-rested c resting) in (q.0, claim-valid c q.0 ∙ q.1));
+    alike = λ c q some resting. agrees-kept (array_of (replica s c q)) (array_of (replica s' c q)) (content p s c) (content p s' c) (claim-array c q) (claim-content c) (h.coherent.copies.alike c q (omega (arith, claim-writes p m s t w s' claim leaves c, some)) (claim-rested c resting));
   }
 
   claim-counts : WritesAreCounted p s'
-  claim-counts = record { counted = λ c. claim-writes p m s t w s' claim c ∙ h.coherent.counts.counted c ∙ sym (counted-same p s s' c (λ u. written-undone p s s' c t u Waiting (Claimed w) claim-advance refl refl)) }
+  claim-counts = record { counted = λ c. claim-writes p m s t w s' claim leaves c ∙ h.coherent.counts.counted c ∙ sym (counted-same p s s' c (λ u. written-undone p s s' c t u Waiting (Claimed w) claim-advance refl refl)) }
 
   -- ---- bytes
 
-  evicted-bytes : sum_by (tile_bytes p) claim.evicted ≡ bytes_where p (has_cell claim.evicted)
+  evicted-bytes : sum_by (tile_bytes p) (evicted_by p m s t w) ≡ bytes_where p (has_cell (evicted_by p m s t w))
   evicted-bytes =
       let unpinned : Cell → Bool = λ d. not (is_pinned m s (node_of m w) d) && not (has_cell (cells_of p t w) d) in
-      let suffix = shortest_suffix-suffix (covers (tile_bytes p) (free p m s (node_of m w)) (to_come p s t w (node_of m w))) (filter unpinned (order s (node_of m w))) claim.evicted claim.chosen in
-      once-bytes p claim.evicted (λ c has. entry-cell p m s h.coherent.state (node_of m w) c (evicted-free p m s t w s' claim c has).2) (λ c.
-      (let same : times (suffix.0 ++ claim.evicted) c ≡ times (filter unpinned (order s (node_of m w))) c = ap (λ (cs : List Cell). times cs c) suffix.1 in
+      let suffix = shortest_suffix-suffix (covers (tile_bytes p) (free p m s (node_of m w)) (to_come p s t w (node_of m w))) (filter unpinned (order s (node_of m w))) (evicted_by p m s t w) (evicted-chosen p m s t w claim) in
+      once-bytes p (evicted_by p m s t w) (λ c has. entry-cell p m s h.coherent.state (node_of m w) c (evicted-free p m s t w s' claim leaves c has).2) (λ c.
+      (let same : times (suffix.0 ++ (evicted_by p m s t w)) c ≡ times (filter unpinned (order s (node_of m w))) c = ap (λ (cs : List Cell). times cs c) suffix.1 in
       let all = times-filter unpinned (order s (node_of m w)) c in
-      omega (arith, times-append suffix.0 claim.evicted c, h.coherent.state.entries.once (node_of m w) c)))
+      omega (arith, times-append suffix.0 (evicted_by p m s t w) c, h.coherent.state.entries.once (node_of m w) c)))
 
   missing-bytes : sum_by (tile_bytes p) (missing p s t w (node_of m w)) ≡ bytes_where p (has_cell (missing p s t w (node_of m w)))
   missing-bytes =
       once-bytes p (missing p s t w (node_of m w))
-      (λ c has. omega (arith, task-cell c (missing-absent p m s t w s' claim c has).1, h.coherent.state.rows.cells))
+      (λ c has. omega (arith, task-cell c (missing-absent p m s t w s' claim leaves c has).1, h.coherent.state.rows.cells))
       (λ c. (let fewer = times-filter (λ d. not (has_cell (order s (node_of m w)) d)) (distinct (cells_of p t w)) c in let once = times-distinct (cells_of p t w) c in omega arith))
 
-  balance : (c : Cell) → share (tile_bytes p) (has_cell (order s' (node_of m w))) c + share (tile_bytes p) (has_cell claim.evicted) c ≡ share (tile_bytes p) (has_cell (order s (node_of m w))) c + share (tile_bytes p) (has_cell (missing p s t w (node_of m w))) c
-  balance c = grind (arith, order-now c, evicted-free p m s t w s' claim c, missing-absent p m s t w s' claim c, absent-missing p m s t w s' claim c)
+  balance : (c : Cell) → share (tile_bytes p) (has_cell (order s' (node_of m w))) c + share (tile_bytes p) (has_cell (evicted_by p m s t w)) c ≡ share (tile_bytes p) (has_cell (order s (node_of m w))) c + share (tile_bytes p) (has_cell (missing p s t w (node_of m w))) c
+  balance c = grind (arith, order-now c, evicted-free p m s t w s' claim leaves c, missing-absent p m s t w s' claim leaves c, absent-missing p m s t w s' claim leaves c)
 
-  order-balance : sum_by (tile_bytes p) (order s' (node_of m w)) + sum_by (tile_bytes p) claim.evicted ≡ sum_by (tile_bytes p) (order s (node_of m w)) + sum_by (tile_bytes p) (missing p s t w (node_of m w))
+  order-balance : sum_by (tile_bytes p) (order s' (node_of m w)) + sum_by (tile_bytes p) (evicted_by p m s t w) ≡ sum_by (tile_bytes p) (order s (node_of m w)) + sum_by (tile_bytes p) (missing p s t w (node_of m w))
   order-balance =
       let f = tile_bytes p in
       let n = node_of m w in
-      let all = sum-balanced (share f (has_cell (order s' n))) (share f (has_cell claim.evicted)) (share f (has_cell (order s n))) (share f (has_cell (missing p s t w n))) balance (cells_of_program p) in
+      let all = sum-balanced (share f (has_cell (order s' n))) (share f (has_cell (evicted_by p m s t w))) (share f (has_cell (order s n))) (share f (has_cell (missing p s t w n))) balance (cells_of_program p) in
       let more = order-bytes p m s h.coherent.state n in
       omega (arith, order-bytes p m s' claim-state n, evicted-bytes, missing-bytes)
 
@@ -434,11 +434,11 @@ module _ (p : Program) (m : Machine) (s : State) (h : IsSound p m s) (t : Task) 
   claim-scratch = sum-one_more (scratch s') (scratch s) (λ v. same_worker v w) (scratch_bytes p (task_of p t)) (λ v. (grind (arith, cases_Bool (same_worker v w), other_scratch v, own_row, same_worker-is v w, same_worker-refl w))) (workers_at m (node_of m w)) (worker-once_at m (node_of m w) w)
 
   claim-enough : used p m s' (node_of m w) ≤ node_size m (node_of m w)
-  claim-enough = search (arith, shortest_suffix-passes, leb-true, balance, order-balance, claim-scratch)
+  claim-enough = search (arith, evicted-chosen p m s t w claim, shortest_suffix-passes, leb-true, balance, order-balance, claim-scratch)
 
   -- what leaves the node, and its entries beside what comes, were its entries
   claim-leaving_within : (c : Cell) → share (tile_bytes p) (λ d. is_leaving_by w (replica s' d (AtNode (node_of m w)))) c + share (tile_bytes p) (λ d. not (is_coming_by w (replica s' d (AtNode (node_of m w)))) && has_cell (order s' (node_of m w)) d) c ≤ share (tile_bytes p) (has_cell (order s (node_of m w))) c
-  claim-leaving_within c = grind (arith, claim-leaving w c (AtNode (node_of m w)), evicted-free p m s t w s' claim c, order-now c, claim-own_cells c, leaving_by-no_entry w (replica s' c (AtNode (node_of m w))), claim-state.entries.entries (node_of m w) c)
+  claim-leaving_within c = grind (arith, claim-leaving w c (AtNode (node_of m w)), evicted-free p m s t w s' claim leaves c, order-now c, claim-own_cells c, leaving_by-no_entry w (replica s' c (AtNode (node_of m w))), claim-state.entries.entries (node_of m w) c)
 
   claim-bytes : NodesSuffice p m s'
   claim-bytes = record {

@@ -8,7 +8,7 @@ use Rattle.sj_core.specs.Coherent.{Coherent, HasWorkers, OrderIsKept, content, i
 use Rattle.sj_core.specs.Fold.{after_chosen, after_task, held_in}
 use Rattle.sj_core.specs.Laws.{IsLawful, IsSound}
 use Rattle.sj_core.specs.Proper.{Proper}
-use Rattle.sj_core.specs.Step.{Ends, array_at, result_at, after, rewritten_at, same_place}
+use Rattle.sj_core.specs.Step.{after_end, array_at, result_at, after, rewritten_at, same_place}
 use Rattle.sj_core.proofs.Words.{Array, AtNode, Cell, CellState, Claimed, Done, Kernel, Machine, Program, Progress, Running, State, Task, Worker, dims_of, done_by, done_in, has_cell, is_done, is_task_of, no_task, node_of, progress, results, tasks_of, worked_on, worker_of, writes, written_cells, zeros, Invalid, OnDisk, Place, Replica, Transfer, Valid, WorkerState, cell_state, cells_of, is_coming_by, is_entry, is_leaving_by, is_valid, order, replica, replica_in, transfer, victims_of, worker_state}
 use Rattle.sj_core.proofs.Advancing.{Advances, Ends-advances, done-begun, same_task, OrderIsKept-advances}
 use Rattle.sj_core.proofs.Values.{results-complete}
@@ -54,17 +54,17 @@ lawful-puts_last has p proper lawful chosen chosen' by by' t w inside w_in staff
 pub all-staffed : (p : Program) (s : State) → 0 < p.workers → HasWorkers p s → (u : Task) → (done_by s u).0 < p.workers
 all-staffed p s some staff u = search arith
 
-module _ (p : Program) (m : Machine) (proper : Proper p) (puts_last : PutsLast p) (s : State) (sound : Coherent p m s) (t : Task) (w : Worker) (s' : State) (ended : Ends p m s t w s') where
+module _ (p : Program) (m : Machine) (proper : Proper p) (puts_last : PutsLast p) (s : State) (sound : Coherent p m s) (t : Task) (w : Worker) (s' : State) (ended : progress s t ≡ Running w) (leaves : s' ≡ after_end p m s t w) where
   pub end-inside : t.0 < length p.tasks
-  end-inside = running-inside p m s t w sound.state.rows ended.running
+  end-inside = running-inside p m s t w sound.state.rows ended
 
   staffed : w.0 < p.workers
-  staffed = subst (λ (x : Progress). (worker_of x).0 < p.workers) ended.running (sound.state.staff.staffed t (ap is_begun ended.running))
+  staffed = subst (λ (x : Progress). (worker_of x).0 < p.workers) ended (sound.state.staff.staffed t (ap is_begun ended))
 
   -- the ended task's results come over the contents before, as if no done task came after it
   end-content : (c : Cell) → content p s' c ≡ held_in p (after_task p w t (after_chosen p (done_in s) (done_by s) (length p.tasks))) c
   end-content c =
-      let a = Ends-advances p m s t w s' ended in
+      let a = Ends-advances p m s t w s' ended leaves in
       let adds : AddsTask (done_in s) (done_in s') (done_by s) (done_by s') t w = record { absent = ap is_done a.was; present = ap is_done a.is; worker = ap worker_of a.is; others = λ u d. ap is_done (a.others u d); workers = λ u d. ap worker_of (a.others u d) } in
       puts_last (done_in s) (done_in s') (done_by s) (done_by s') t w end-inside staffed (all-staffed p s (omega (arith, staffed)) sound.state.staff) adds (later-free p s t sound.order (ap is_done a.was)) c
 
@@ -75,8 +75,8 @@ module _ (p : Program) (m : Machine) (proper : Proper p) (puts_last : PutsLast p
   -- the task works on the arrays of its worker's node as on the contents of its cells
   end-results : results p t w (content p s) ≡ results p t w (array_at p s (AtNode (node_of m w)))
   end-results = results-same p t w w (content p s) (array_at p s (AtNode (node_of m w))) (λ a h reads.
-      (let mine : is_task_of w (progress s t) ≡ true = ap (is_task_of w) ended.running ∙ same_worker-refl w in
-      let there = sound.cells.running t w (worked_on p w a) ended.running (read-among_cells p t w a h reads) in
+      (let mine : is_task_of w (progress s t) ≡ true = ap (is_task_of w) ended ∙ same_worker-refl w in
+      let there = sound.cells.running t w (worked_on p w a) ended (read-among_cells p t w a h reads) in
       sym (found-content p proper m s sound t w mine a h reads there)))
 
   -- what it writes has its result as content
@@ -102,39 +102,39 @@ pub counted-same : (p : Program) (s s' : State) (c : Cell) → ((u : Task) → h
 counted-same p s s' c same = sum-agree (λ u. tally (has_written p s' c u)) (λ u. tally (has_written p s c u)) (λ u. ap tally (same u)) (tasks_of p)
 
 -- an end keeps that a cell's write count is the number of done tasks that wrote it
-pub Ends-keeps_counts : (p : Program) (m : Machine) (s : State) (t : Task) (w : Worker) (s' : State) → IsStateOf p m s → TasksHaveCells p m s → Ends p m s t w s' → WritesAreCounted p s → WritesAreCounted p s'
-Ends-keeps_counts p m s t w s' state cells ended counts = record { counted = λ c. by_cases c (has_cell (written_cells p t w) c) refl }
+pub Ends-keeps_counts : (p : Program) (m : Machine) (s : State) (t : Task) (w : Worker) (s' : State) → IsStateOf p m s → TasksHaveCells p m s → progress s t ≡ Running w → s' ≡ after_end p m s t w → WritesAreCounted p s → WritesAreCounted p s'
+Ends-keeps_counts p m s t w s' state cells ended leaves counts = record { counted = λ c. by_cases c (has_cell (written_cells p t w) c) refl }
   where
     undone : (c : Cell) → has_written p s c t ≡ false
-    undone c = ap (λ (x : Progress). is_done x && has_cell (written_cells p t (worker_of x)) c) ended.running
+    undone c = ap (λ (x : Progress). is_done x && has_cell (written_cells p t (worker_of x)) c) ended
 
     now : (c : Cell) → has_written p s' c t ≡ has_cell (written_cells p t w) c
-    now c = ap (λ (x : Progress). is_done x && has_cell (written_cells p t (worker_of x)) c) (Ends-advances p m s t w s' ended).is
+    now c = ap (λ (x : Progress). is_done x && has_cell (written_cells p t (worker_of x)) c) (Ends-advances p m s t w s' ended leaves).is
 
     by_cases : (c : Cell) (b : Bool) → has_cell (written_cells p t w) c ≡ b → writes s' c ≡ count_by (has_written p s' c) (tasks_of p)
     by_cases c false e =
-        let same : writes s' c ≡ writes s c = ap (λ (z : State). writes z c) ended.leaves ∙ ap (λ (r : CellState). r.writes) (cells-untouched s (has_cell (written_cells p t w)) (λ d row. rewritten_at (node_of m w) (result_at p s t w (node_of m w) d) row) c e) in
-        same ∙ counts.counted c ∙ sym (counted-same p s s' c (λ u. (grind (arith, same_task u t, now c, e, undone c, written-other p s s' c t u (Running w) (Done w) (Ends-advances p m s t w s' ended)))))
+        let same : writes s' c ≡ writes s c = ap (λ (z : State). writes z c) leaves ∙ ap (λ (r : CellState). r.writes) (cells-untouched s (has_cell (written_cells p t w)) (λ d row. rewritten_at (node_of m w) (result_at p s t w (node_of m w) d) row) c e) in
+        same ∙ counts.counted c ∙ sym (counted-same p s s' c (λ u. (grind (arith, same_task u t, now c, e, undone c, written-other p s s' c t u (Running w) (Done w) (Ends-advances p m s t w s' ended leaves)))))
     by_cases c true e =
-        let there = cells.running t w c ended.running (written-among_cells p t w c e) in
-        let more : writes s' c ≡ writes s c + 1 = ap (λ (z : State). writes z c) ended.leaves ∙ ap (λ (r : CellState). r.writes) (cells-touched s (has_cell (written_cells p t w)) (λ d row. rewritten_at (node_of m w) (result_at p s t w (node_of m w) d) row) c (valid-row s c (AtNode (node_of m w)) there) e) in
+        let there = cells.running t w c ended (written-among_cells p t w c e) in
+        let more : writes s' c ≡ writes s c + 1 = ap (λ (z : State). writes z c) leaves ∙ ap (λ (r : CellState). r.writes) (cells-touched s (has_cell (written_cells p t w)) (λ d row. rewritten_at (node_of m w) (result_at p s t w (node_of m w) d) row) c (valid-row s c (AtNode (node_of m w)) there) e) in
         let is_t : Task → Bool = λ u. nat_eq u.0 t.0 in
         let each : (u : Task) → tally (has_written p s' c u) ≡ tally (has_written p s c u) + tally (is_t u) = λ u. elim (same_task u t) [
           | inl f ↦ grind (arith, f, now c, e, undone c, eq-eqb u.0 t.0)
-          | inr d ↦ grind (arith, written-other p s s' c t u (Running w) (Done w) (Ends-advances p m s t w s' ended) d, ne_eqb u.0 t.0 (λ g. d (ap (λ n. let k : Task = record { 0 = n } in k) g)))
+          | inr d ↦ grind (arith, written-other p s s' c t u (Running w) (Done w) (Ends-advances p m s t w s' ended leaves) d, ne_eqb u.0 t.0 (λ g. d (ap (λ n. let k : Task = record { 0 = n } in k) g)))
         ] in
-        let all = count-numbered (λ n. record { 0 = n }) is_t t.0 (λ n. refl) 0 (length p.tasks) ∙ ap tally (and_from (nat_le 0 t.0) (nat_lt t.0 (0 + length p.tasks)) (le-leb 0 t.0 (omega arith)) (lt-ltb t.0 (0 + length p.tasks) (omega (arith, running-inside p m s t w state.rows ended.running)))) in
+        let all = count-numbered (λ n. record { 0 = n }) is_t t.0 (λ n. refl) 0 (length p.tasks) ∙ ap tally (and_from (nat_le 0 t.0) (nat_lt t.0 (0 + length p.tasks)) (le-leb 0 t.0 (omega arith)) (lt-ltb t.0 (0 + length p.tasks) (omega (arith, running-inside p m s t w state.rows ended)))) in
         let one = sum-plus (λ u. tally (has_written p s' c u)) (λ u. tally (has_written p s c u)) (λ u. tally (is_t u)) each (tasks_of p) in
         omega (arith, counts.counted c)
 
 -- ---- the end of a kernel's run leaves a coherent state
 
-module _ (p : Program) (m : Machine) (s : State) (t : Task) (w : Worker) (s' : State) (ended : Ends p m s t w s') where
+module _ (p : Program) (m : Machine) (s : State) (t : Task) (w : Worker) (s' : State) (ended : progress s t ≡ Running w) (leaves : s' ≡ after_end p m s t w) where
   abbrev renews : Cell → CellState → CellState
   renews c row = rewritten_at (node_of m w) (result_at p s t w (node_of m w) c) row
 
   end-spared_row : (c : Cell) → has_cell (written_cells p t w) c ≡ false → cell_state s' c ≡ cell_state s c
-  end-spared_row c spared = ap (λ (z : State). cell_state z c) ended.leaves ∙ cells-untouched s (has_cell (written_cells p t w)) renews c spared
+  end-spared_row c spared = ap (λ (z : State). cell_state z c) leaves ∙ cells-untouched s (has_cell (written_cells p t w)) renews c spared
 
   -- what the task doesn't write stays as it is
   pub end-other : (c : Cell) (q : Place) → has_cell (written_cells p t w) c ≡ false → replica s' c q ≡ replica s c q
@@ -147,8 +147,8 @@ module _ (p : Program) (m : Machine) (s : State) (t : Task) (w : Worker) (s' : S
       elim (cases_Bool (has_cell (written_cells p t w) c)) [
         | inr spared ↦ inl (end-other c q spared)
         | inl written ↦ elim (cells-renewed_or s (λ d row. if has_cell (written_cells p t w) d then renews d row else row) c) [
-          | inr none ↦ inl (grind (arith, ended.leaves, none.0, none.1))
-          | inl row ↦ grind (arith, ended.leaves, row, written, replica_in-cases more (AtNode (node_of m w)) q (Valid (result_at p s t w (node_of m w) c)), as_before q)
+          | inr none ↦ inl (grind (arith, leaves, none.0, none.1))
+          | inl row ↦ grind (arith, leaves, row, written, replica_in-cases more (AtNode (node_of m w)) q (Valid (result_at p s t w (node_of m w) c)), as_before q)
         ]
       ]
     where
@@ -173,7 +173,7 @@ module _ (p : Program) (m : Machine) (s : State) (t : Task) (w : Worker) (s' : S
   end-row = record { pins = []; scratch = 0; victims = victims_of s w; transfer = transfer s w }
 
   pub end-other_worker : (v : Worker) → v ≢ w → worker_state s' v ≡ worker_state s v
-  end-other_worker v d = ap (λ (z : State). worker_state z v) ended.leaves ∙ worker-other s w v end-row d
+  end-other_worker v d = ap (λ (z : State). worker_state z v) leaves ∙ worker-other s w v end-row d
 
   -- the worker keeps its victims as chosen and its transfer, and pins and holds nothing
   pub end-own_worker : (worker_state s' w ≡ end-row) ⊎ ((worker_state s w ≡ idle_row) × (worker_state s' w ≡ idle_row))
@@ -185,15 +185,15 @@ module _ (p : Program) (m : Machine) (s : State) (t : Task) (w : Worker) (s' : S
   pub end-transfer : (v : Worker) → transfer s' v ≡ transfer s v
   end-transfer = end-kept (λ row. row.transfer) refl
 
-module _ (p : Program) (m : Machine) (s : State) (h : IsSound p m s) (t : Task) (w : Worker) (s' : State) (ended : Ends p m s t w s') where
+module _ (p : Program) (m : Machine) (s : State) (h : IsSound p m s) (t : Task) (w : Worker) (s' : State) (ended : progress s t ≡ Running w) (leaves : s' ≡ after_end p m s t w) where
   advance : Advances s s' t (Running w) (Done w)
-  advance = Ends-advances p m s t w s' ended
+  advance = Ends-advances p m s t w s' ended leaves
 
   mine : is_task_of w (progress s t) ≡ true
-  mine = ap (is_task_of w) ended.running ∙ same_worker-refl w
+  mine = ap (is_task_of w) ended ∙ same_worker-refl w
 
   owned : (c : Cell) → has_cell (written_cells p t w) c ≡ true → IsOwnedBy m s c w (written_content p s t w c)
-  owned c written = h.coherent.writers.owned t w c ended.running written
+  owned c written = h.coherent.writers.owned t w c ended written
 
   -- another task's cells aren't written
   pub end-spares : (u : Task) (v : Worker) (c : Cell) → u ≢ t → is_task_of v (progress s u) ≡ true → has_cell (cells_of p u v) c ≡ true → has_cell (written_cells p t w) c ≡ false
@@ -208,32 +208,32 @@ module _ (p : Program) (m : Machine) (s : State) (h : IsSound p m s) (t : Task) 
   end-written c written =
       let own = owned c written in
       let inside = entry-inside s c (node_of m w) (ap is_entry own.valid) in
-      (grind (arith, ended.leaves, cells-touched s (has_cell (written_cells p t w)) (renews p m s t w s' ended) c inside.0 written, get_or-set_same (cell_state s c).nodes (node_of m w).0 (Valid (result_at p s t w (node_of m w) c)) Invalid, inside.1), _, own.valid)
+      (grind (arith, leaves, cells-touched s (has_cell (written_cells p t w)) (renews p m s t w s' ended leaves) c inside.0 written, get_or-set_same (cell_state s c).nodes (node_of m w).0 (Valid (result_at p s t w (node_of m w) c)) Invalid, inside.1), _, own.valid)
 
   -- a test that tells no array from another is passed as before
   end-same : {X : Type 0} (test : Replica → X) → ((a b : Array) → test (Valid a) ≡ test (Valid b)) → (c : Cell) (q : Place) → test (replica s' c q) ≡ test (replica s c q)
-  end-same test alike c q = grind (arith, end-cases p m s t w s' ended c q, owned)
+  end-same test alike c q = grind (arith, end-cases p m s t w s' ended leaves c q, owned)
 
   -- ---- the state's own form
 
   end-rows : HasRows p m s'
-  end-rows = HasRows-kept p m s s' _ (ap (λ (z : State). z.cells) ended.leaves)
+  end-rows = HasRows-kept p m s s' _ (ap (λ (z : State). z.cells) leaves)
       (λ i row. (
         cond_both (has_cell (written_cells p t w) (record { 0 = i })) _ row (λ (r : CellState). length r.nodes ≡ length row.nodes) (λ b. length-set row.nodes (node_of m w).0 _) (λ b. refl),
         cond_both (has_cell (written_cells p t w) (record { 0 = i })) _ row (λ (r : CellState). length r.disks ≡ length row.disks) (λ b. refl) (λ b. refl),
       ))
-      (ap (λ (z : State). length z.tasks) ended.leaves ∙ length-set s.tasks t.0 (Done w)) (ap (λ (z : State). length z.orders) ended.leaves)
-      (ap (λ (z : State). length z.workers) ended.leaves ∙ length-set s.workers w.0 _) h.coherent.state.rows
+      (ap (λ (z : State). length z.tasks) leaves ∙ length-set s.tasks t.0 (Done w)) (ap (λ (z : State). length z.orders) leaves)
+      (ap (λ (z : State). length z.workers) leaves ∙ length-set s.workers w.0 _) h.coherent.state.rows
 
   end-state : IsStateOf p m s'
   end-state = record {
     rows = end-rows;
     entries = record {
-      entries = λ k c. ap (λ (z : State). has_cell (order z k) c) ended.leaves ∙ h.coherent.state.entries.entries k c ∙ sym (end-same is_entry (λ a b. refl) c (AtNode k));
-      once = λ k c. subst (λ (z : State). times (order z k) c ≤ 1) (sym ended.leaves) (h.coherent.state.entries.once k c);
+      entries = λ k c. ap (λ (z : State). has_cell (order z k) c) leaves ∙ h.coherent.state.entries.entries k c ∙ sym (end-same is_entry (λ a b. refl) c (AtNode k));
+      once = λ k c. subst (λ (z : State). times (order z k) c ≤ 1) (sym leaves) (h.coherent.state.entries.once k c);
     };
-    blocks = HasBlocks-kept p m s s' (λ c d. inr (end-elsewhere p m s t w s' ended c (OnDisk d) refl)) (end-transfer p m s t w s' ended) h.coherent.state.blocks;
-    staff = HasWorkers-kept p s s' t (Running w) (Done w) advance (subst (λ (x : Progress). (worker_of x).0 < p.workers) ended.running (h.coherent.state.staff.staffed t (ap is_begun ended.running))) h.coherent.state.staff;
+    blocks = HasBlocks-kept p m s s' (λ c d. inr (end-elsewhere p m s t w s' ended leaves c (OnDisk d) refl)) (end-transfer p m s t w s' ended leaves) h.coherent.state.blocks;
+    staff = HasWorkers-kept p s s' t (Running w) (Done w) advance (subst (λ (x : Progress). (worker_of x).0 < p.workers) ended (h.coherent.state.staff.staffed t (ap is_begun ended))) h.coherent.state.staff;
   }
 
   -- ---- the change
@@ -245,35 +245,35 @@ module _ (p : Program) (m : Machine) (s : State) (h : IsSound p m s) (t : Task) 
     still_mine = λ v has. absurd (false≢true has);
     state = end-state;
     rows = λ v. elim (workers_differ v w) [
-      | inr d ↦ (let same = end-other_worker p m s t w s' ended v d in inl (ap (λ (row : WorkerState). row.pins) same, ap (λ (row : WorkerState). row.scratch) same, λ e. absurd (d e)))
-      | inl e ↦ inr (e, grind (arith, e, end-own_worker p m s t w s' ended), grind (arith, e, end-own_worker p m s t w s' ended), refl)
+      | inr d ↦ (let same = end-other_worker p m s t w s' ended leaves v d in inl (ap (λ (row : WorkerState). row.pins) same, ap (λ (row : WorkerState). row.scratch) same, λ e. absurd (d e)))
+      | inl e ↦ inr (e, grind (arith, e, end-own_worker p m s t w s' ended leaves), grind (arith, e, end-own_worker p m s t w s' ended leaves), refl)
     ];
-    victims = end-kept p m s t w s' ended (λ row. row.victims) refl;
+    victims = end-kept p m s t w s' ended leaves (λ row. row.victims) refl;
     entries = λ c k now. sym (end-same is_entry (λ a b. refl) c (AtNode k)) ∙ now;
-    leaves = end-leaving p m s t w s' ended;
-    comes = λ v c k coming. end-fewer p m s t w s' ended (is_coming_by v) (λ a. refl) c (AtNode k) coming;
+    leaves = end-leaving p m s t w s' ended leaves;
+    comes = λ v c k coming. end-fewer p m s t w s' ended leaves (is_coming_by v) (λ a. refl) c (AtNode k) coming;
     still_comes = λ v c d k leaving coming. end-same (is_coming_by v) (λ a b. refl) c (AtNode k) ∙ coming;
-    moves_on = λ v x under_way. h.coherent.workers.moves_for_claim v x (sym (end-transfer p m s t w s' ended v) ∙ under_way);
+    moves_on = λ v x under_way. h.coherent.workers.moves_for_claim v x (sym (end-transfer p m s t w s' ended leaves v) ∙ under_way);
     claims_on = λ e. absurd (let f : Running w ≡ Claimed w = e in cc);
-    stays = λ u v c d has cell. (let same = end-other p m s t w s' ended c (AtNode (node_of m v)) (end-spares u v c d has cell) in (λ was. ap is_entry same ∙ was, λ was. ap is_valid same ∙ was));
+    stays = λ u v c d has cell. (let same = end-other p m s t w s' ended leaves c (AtNode (node_of m v)) (end-spares u v c d has cell) in (λ was. ap is_entry same ∙ was, λ was. ap is_valid same ∙ was));
     claimed = λ c e has. absurd (let f : Done w ≡ Claimed w = e in cc);
     running = λ c e has. absurd (let f : Done w ≡ Running w = e in cc);
-    transfers = TransfersAreSound-spared m s s' (has_cell (written_cells p t w)) (end-other p m s t w s' ended) (end-leaving p m s t w s' ended) (end-transfer p m s t w s' ended) unmoved h.coherent.transfers;
+    transfers = TransfersAreSound-spared m s s' (has_cell (written_cells p t w)) (end-other p m s t w s' ended leaves) (end-leaving p m s t w s' ended leaves) (end-transfer p m s t w s' ended leaves) unmoved h.coherent.transfers;
     order = OrderIsKept-advances p s s' t (Running w) (Done w) advance refl refl (same_worker-refl w) refl h.coherent.order;
-    counts = Ends-keeps_counts p m s t w s' h.coherent.state h.coherent.cells ended h.coherent.counts;
+    counts = Ends-keeps_counts p m s t w s' h.coherent.state h.coherent.cells ended leaves h.coherent.counts;
   }
 
   -- ---- contents, where a task with which no later one conflicts may be put last
 
   module _ (puts_last : PutsLast p) where
     spared-content : (c : Cell) → has_cell (written_cells p t w) c ≡ false → content p s' c ≡ content p s c
-    spared-content c spared = end-content-other p m h.proper puts_last s h.coherent t w s' ended c spared
+    spared-content c spared = end-content-other p m h.proper puts_last s h.coherent t w s' ended leaves c spared
 
     end-writers : WritersOwn p m s'
     end-writers = Changes-writers p m s h s' t (Running w) (Done w) w end-change
         (λ u v c d runs written.
         (let spared = end-spares u v c d (ap (is_task_of v) runs ∙ same_worker-refl v) (written-among_cells p u v c written) in
-        (λ q. end-other p m s t w s' ended c q spared, λ x. moves-kept s s' x c (end-transfer p m s t w s' ended x) ∙ (h.coherent.writers.owned u v c runs written).unmoved x, spared-content c spared)))
+        (λ q. end-other p m s t w s' ended leaves c q spared, λ x. moves-kept s s' x c (end-transfer p m s t w s' ended leaves x) ∙ (h.coherent.writers.owned u v c runs written).unmoved x, spared-content c spared)))
         (λ c e. absurd (let f : Done w ≡ Running w = e in cc))
 
     end-rested : (c : Cell) → has_cell (written_cells p t w) c ≡ false → is_being_written p s' c ≡ false → is_being_written p s c ≡ false
@@ -281,23 +281,23 @@ module _ (p : Program) (m : Machine) (s : State) (h : IsSound p m s) (t : Task) 
 
     -- what the task wrote is valid on its worker's node with the new content, and nowhere else
     end-own : (c : Cell) → has_cell (written_cells p t w) c ≡ true → replica s' c (AtNode (node_of m w)) ≡ Valid (content p s' c)
-    end-own c written = (end-written c written).0 ∙ ap Valid (sym (end-content-own p m h.proper puts_last s h.coherent t w s' ended c written))
+    end-own c written = (end-written c written).0 ∙ ap Valid (sym (end-content-own p m h.proper puts_last s h.coherent t w s' ended leaves c written))
 
     end-alone : (c : Cell) (q : Place) → has_cell (written_cells p t w) c ≡ true → (replica s' c q ≡ Valid (content p s' c)) ⊎ (replica s' c q ≡ Invalid)
-    end-alone c q written = grind (arith, cases_Bool (same_place q (AtNode (node_of m w))), same_place-is q (AtNode (node_of m w)), end-own c written, end-elsewhere p m s t w s' ended c q, (owned c written).only q)
+    end-alone c q written = grind (arith, cases_Bool (same_place q (AtNode (node_of m w))), same_place-is q (AtNode (node_of m w)), end-own c written, end-elsewhere p m s t w s' ended leaves c q, (owned c written).only q)
 
     end-copies : CopiesAgree p s'
     end-copies = record {
       valid_somewhere = λ c some resting. elim (cases_Bool (has_cell (written_cells p t w) c)) [
         | inl written ↦ (AtNode (node_of m w), ap is_valid (end-own c written))
         | inr spared ↦
-            let row = end-spared_row p m s t w s' ended c spared in
+            let row = end-spared_row p m s t w s' ended leaves c spared in
             let q = h.coherent.copies.valid_somewhere c (omega (arith, ap (λ (r : CellState). r.writes) row, some)) (end-rested c spared resting) in
             (q.0, ap (λ (r : CellState). is_valid (replica_in r q.0)) row ∙ q.1)
       ];
       alike = λ c q some resting. elim (cases_Bool (has_cell (written_cells p t w) c)) [
         | inl written ↦ (search (arith, end-alone, MatchOption-from_none))
-        | inr spared ↦ (search (arith, end-spared_row p m s t w s' ended c spared, spared-content, agrees-kept, end-rested))
+        | inr spared ↦ (search (arith, end-spared_row p m s t w s' ended leaves c spared, spared-content, agrees-kept, end-rested))
       ];
     }
 

@@ -1,8 +1,31 @@
--- The victims of a need are the shortest end of the unpinned entries that covers it.
+-- The victims of a need are the shortest end of the unpinned entries that covers it; and those of a claim, as one term.
 use Rattle.std.proofs.Common.{◌≡◌, ℕ, Bool, true, false, List, [], ◌∷◌, ◌++◌, drop, refl, sym, ap, ◌∙◌, Option, Some}
 use Rattle.std.proofs.Common.{None, arith}
 use Rattle.std.specs.{Bool.then_some, Option.option_or}
-use Rattle.sj_core.specs.Victims.{shortest_suffix}
+use Rattle.std.proofs.Common.{is_some}
+use Rattle.std.specs.Prelude.{unwrap_or}
+use Rattle.std.proofs.lemmas.Bool.{false≢true}
+use Rattle.sj_core.specs.{Step.CanClaim, Step.after, Step.after_claim, Step.victims_for, Victims.shortest_suffix}
+use Rattle.sj_core.proofs.Words.{Cell, Claim, Machine, Program, State, Task, Worker}
+
+-- ---- the victims of a claim
+
+-- the victims that a claim evicts, as a term that doesn't unfold
+pub evicted_by : Program → Machine → State → Task → Worker → List Cell
+evicted_by p m s t w = unwrap_or (victims_for p m s t w) []
+
+some-unwraps : {X : Type 0} (o : Option X) (d : X) → is_some o ≡ true → o ≡ Some (unwrap_or o d)
+some-unwraps o d h = search (arith, false≢true)
+
+pub evicted-chosen : (p : Program) (m : Machine) (s : State) (t : Task) (w : Worker) → CanClaim p m s t w → victims_for p m s t w ≡ Some (evicted_by p m s t w)
+unfolding evicted_by
+evicted-chosen p m s t w claim = some-unwraps (victims_for p m s t w) [] claim.room
+
+pub evicted-after : (p : Program) (m : Machine) (s : State) (t : Task) (w : Worker) → after p m s (Claim t w) ≡ after_claim p m s t w (evicted_by p m s t w)
+unfolding evicted_by
+evicted-after p m s t w = refl
+
+-- ---- the shortest end
 
 module _ {X : Type 0} (test : List X → Bool) where
   -- the first way to an answer for x ∷ xs that the tail's answer leaves open

@@ -5,7 +5,7 @@ use Rattle.std.proofs.lemmas.Bool.{true≢false, and_from, false_from_ne_true, f
 use Rattle.std.proofs.lemmas.List.Quantifiers.{position-Some}
 use Rattle.sj_core.specs.Coherent.{Coherent, CopiesAgree, HasBlocks, HasRows, IsOwnedBy, IsTransferTo, TransfersAreSound, IsClaimed, content}
 use Rattle.sj_core.specs.Laws.{IsSound}
-use Rattle.sj_core.specs.Step.{disk_of, BeginsMoveIn, a_transfer, is_fresh, BeginsMoveOut, same_place, EndsMove, array_at, Drops, is_read, reads}
+use Rattle.sj_core.specs.Step.{CanDrop, CanMoveIn, CanMoveOut, a_transfer, array_at, disk_of, is_fresh, is_read, reads, same_place}
 use Rattle.sj_core.proofs.Words.{Array, AtNode, Cell, CellState, Claimed, Machine, Node, Place, Program, Running, State, Task, Transfer, Worker, WorkerState, has_cell, is_claimed_by, is_coming_by, is_entry, is_leaving_by, is_valid, moves, node_of, pins, progress, replica, scratch, transfer, victims_of, writes, DiskNo, OnDisk, with_transfer, Invalid, fresh_cells, Coming, Leaving, Replica, Valid, array_of, dims_of, same_cell, with_replica, zeros, is_leaving}
 use Rattle.sj_core.proofs.Advancing.{claimed-is_mine, task_of-worker, claimed_by-is}
 use Rattle.sj_core.proofs.Changing.{Changes, Changes-coherent, Changes-writers, HasBlocks-kept, TransfersAreSound-kept}
@@ -128,7 +128,7 @@ module _ (p : Program) (m : Machine) (s : State) (h : IsSound p m s) (w : Worker
 
 -- ---- a move into a node that begins leaves a coherent state
 
-module _ (p : Program) (m : Machine) (s : State) (h : IsSound p m s) (c : Cell) (from : Place) (n : Node) (w : Worker) (s' : State) (move : BeginsMoveIn p m s c from n w s') where
+module _ (p : Program) (m : Machine) (s : State) (h : IsSound p m s) (c : Cell) (from : Place) (n : Node) (w : Worker) (move : CanMoveIn p m s c from n w) where
   claimed : IsClaimed p s w c
   claimed = h.coherent.pins.coming_claimed w c n move.coming
 
@@ -147,15 +147,15 @@ module _ (p : Program) (m : Machine) (s : State) (h : IsSound p m s) (c : Cell) 
   source_valid : is_valid (replica s c from) ≡ true
   source_valid = search (arith, somewhere, position-Some, false≢true, position-none, valid-within)
 
-  pub Moves_in-keep_coherence : Coherent p m s'
-  Moves_in-keep_coherence = subst (λ (z : State). Coherent p m z) (sym move.leaves) (Begun-coherent p m s h w (a_transfer c from (AtNode n))
+  pub Moves_in-keep_coherence : Coherent p m (with_transfer s w (Some (a_transfer c from (AtNode n))))
+  Moves_in-keep_coherence = Begun-coherent p m s h w (a_transfer c from (AtNode n))
       (λ d to. absurd (let e : AtNode n ≡ OnDisk d = to in cc)) source_valid (move.own_node, move.coming, room-leaves_none p m s h w move.room)
       (λ v x d e under_way to aims cell. absurd (let f : AtNode n ≡ OnDisk e = aims in cc))
-      (λ v a own. false≢true (sym (owned-fails m s c v a own (is_coming_by w) refl refl (AtNode n)) ∙ move.coming)) claimed.task claimed.claimed)
+      (λ v a own. false≢true (sym (owned-fails m s c v a own (is_coming_by w) refl refl (AtNode n)) ∙ move.coming)) claimed.task claimed.claimed
 
 -- ---- a move out to a disk that begins leaves a coherent state
 
-module _ (p : Program) (m : Machine) (s : State) (h : IsSound p m s) (c : Cell) (from : Place) (d : DiskNo) (w : Worker) (s' : State) (move : BeginsMoveOut p m s c from d w s') where
+module _ (p : Program) (m : Machine) (s : State) (h : IsSound p m s) (c : Cell) (from : Place) (d : DiskNo) (w : Worker) (move : CanMoveOut p m s c from d w) where
   -- a valid replica of the cell is the one that leaves
   only_one : (q : Place) → is_valid (replica s c q) ≡ true → q ≡ from
   only_one q valid = search (arith, same_place-is, and_from, list_any-place, false≢true)
@@ -181,11 +181,11 @@ module _ (p : Program) (m : Machine) (s : State) (h : IsSound p m s) (c : Cell) 
   claims : (t : Task) × (is_claimed_by w (progress s t) ≡ true)
   claims = search (arith, stays-on_disk p m s h)
 
-  pub Moves_out-keep_coherence : Coherent p m s'
-  Moves_out-keep_coherence = subst (λ (z : State). Coherent p m z) (sym move.leaves) (Begun-coherent p m s h w (a_transfer c from (OnDisk d))
+  pub Moves_out-keep_coherence : Coherent p m (with_transfer s w (Some (a_transfer c from (OnDisk d))))
+  Moves_out-keep_coherence = Begun-coherent p m s h w (a_transfer c from (OnDisk d))
       (λ k to. move.target ∙ (let e : OnDisk d ≡ OnDisk k = to in cc)) (leaving_by-valid w (replica s c from) move.leaving) (move.leaving, target_invalid)
       (λ v x k j under_way to aims cell. reads_the_same v x k under_way to cell)
-      (λ v a own. false≢true (sym (owned-fails m s c v a own (is_leaving_by w) refl refl from) ∙ move.leaving)) claims.0 (claimed_by-is w (progress s claims.0) claims.1))
+      (λ v a own. false≢true (sym (owned-fails m s c v a own (is_leaving_by w) refl refl from) ∙ move.leaving)) claims.0 (claimed_by-is w (progress s claims.0) claims.1)
 
 -- where a replica is replaced by one that fails a test, none passes it that didn't before
 replaced-fewer : (s : State) (c : Cell) (to : Place) (r : Replica) (test : Replica → Bool) → test r ≡ false → (x : Cell) (q : Place) → test (replica (with_replica s c to r) x q) ≡ true → test (replica s x q) ≡ true
@@ -193,7 +193,7 @@ replaced-fewer s c to r test fails x q passes = grind (arith, replica-cases s c 
 
 -- ---- a move that ends leaves a coherent state
 
-module _ (p : Program) (m : Machine) (s : State) (h : IsSound p m s) (c : Cell) (from to : Place) (w : Worker) (s' : State) (moved : EndsMove p s c from to w s') where
+module _ (p : Program) (m : Machine) (s : State) (h : IsSound p m s) (c : Cell) (from to : Place) (w : Worker) (moved : transfer s w ≡ Some (a_transfer c from to)) where
   abbrev ending : Transfer
   ending = a_transfer c from to
 
@@ -207,7 +207,7 @@ module _ (p : Program) (m : Machine) (s : State) (h : IsSound p m s) (c : Cell) 
   arrived = with_transfer placed w None
 
   target : IsTransferTo m s w c from to
-  target = h.coherent.transfers.target w ending moved.under_way
+  target = h.coherent.transfers.target w ending moved
 
   -- at a node the replica was coming by the worker's claim
   came : (k : Node) → AtNode k ≡ to → is_coming_by w (replica s c (AtNode k)) ≡ true
@@ -258,7 +258,7 @@ module _ (p : Program) (m : Machine) (s : State) (h : IsSound p m s) (c : Cell) 
 
   arrived-moving : TransfersAreSound m arrived
   arrived-moving = TransfersAreSound-kept m s arrived (λ v x now. (others v x now).1) (λ v x now. valid_stays x.cell x.from) (λ v x k now here. others_come v x.cell k (others v x now).0) (λ v x now. still_leaves v x.cell x.from)
-      (λ v x d now aims. elim (arrived-cases x.cell (OnDisk d)) [ inl same ↦ inr same | inr (e, at, is) ↦ absurd (let old = others v x now in old.0 (h.coherent.transfers.apart v w x ending d d old.1 moved.under_way aims (sym at) e)) ])
+      (λ v x d now aims. elim (arrived-cases x.cell (OnDisk d)) [ inl same ↦ inr same | inr (e, at, is) ↦ absurd (let old = others v x now in old.0 (h.coherent.transfers.apart v w x ending d d old.1 moved aims (sym at) e)) ])
       (λ v x y q now. arrived-leaves v y q) h.coherent.transfers
 
   blocks : HasBlocks p m arrived
@@ -266,7 +266,7 @@ module _ (p : Program) (m : Machine) (s : State) (h : IsSound p m s) (c : Cell) 
       let before = h.coherent.state.blocks in
       record {
         resting = λ x d v a. (λ e. (grind (arith, arrived-cases x (OnDisk d), (before.resting x d v a).0)), λ e. (grind (arith, arrived-cases x (OnDisk d), (before.resting x d v a).1)));
-        home = λ x d valid. (grind (arith, arrived-cases x (OnDisk d), before.home x d, before.aimed w ending d moved.under_way));
+        home = λ x d valid. (grind (arith, arrived-cases x (OnDisk d), before.home x d, before.aimed w ending d moved));
         aimed = λ v x d under_way. before.aimed v x d (others v x under_way).1;
       }
 
@@ -280,7 +280,7 @@ module _ (p : Program) (m : Machine) (s : State) (h : IsSound p m s) (c : Cell) 
           | inl same ↦ subst (λ (r : Replica). IfSome (array_of r) (λ a. a ≡ content p s x)) (sym same) (before.alike x q (positive x some) unwritten)
           | inr (e, at, is) ↦
               let here = before.alike x from (positive x some) unwritten in
-              let holds : brought ≡ content p s x = array-told (array_of (replica s c from)) (content p s x) (zeros (dims_of p c)) (h.coherent.transfers.source w ending moved.under_way) (subst (λ (y : Cell). IfSome (array_of (replica s y from)) (λ a. a ≡ content p s x)) e here) in
+              let holds : brought ≡ content p s x = array-told (array_of (replica s c from)) (content p s x) (zeros (dims_of p c)) (h.coherent.transfers.source w ending moved) (subst (λ (y : Cell). IfSome (array_of (replica s y from)) (λ a. a ≡ content p s x)) e here) in
               subst (λ (r : Replica). IfSome (array_of r) (λ a. a ≡ content p s x)) (sym is) holds
         ];
       }
@@ -307,14 +307,14 @@ module _ (p : Program) (m : Machine) (s : State) (h : IsSound p m s) (c : Cell) 
     copies = arrived-copies;
   }
 
-  pub Ended_moves-keep_coherence : Coherent p m s'
+  pub Ended_moves-keep_coherence : Coherent p m arrived
   Ended_moves-keep_coherence =
-      let claims = h.coherent.workers.moves_for_claim w ending moved.under_way in
-      subst (λ (z : State). Coherent p m z) (sym moved.leaves) (Shifts-coherent p m s h claims.0 w (claimed_by-is w (progress s claims.0) claims.1) arrived.cells arrived.workers arrived-shift)
+      let claims = h.coherent.workers.moves_for_claim w ending moved in
+      Shifts-coherent p m s h claims.0 w (claimed_by-is w (progress s claims.0) claims.1) arrived.cells arrived.workers arrived-shift
 
 -- ---- a drop leaves a coherent state
 
-module _ (p : Program) (m : Machine) (s : State) (h : IsSound p m s) (c : Cell) (n : Node) (s' : State) (drop : Drops m s c n s') where
+module _ (p : Program) (m : Machine) (s : State) (h : IsSound p m s) (c : Cell) (n : Node) (drop : CanDrop m s c n) where
   abbrev dropped : State
   dropped = with_replica s c (AtNode n) Invalid
 
@@ -383,8 +383,8 @@ module _ (p : Program) (m : Machine) (s : State) (h : IsSound p m s) (c : Cell) 
     copies = dropped-copies;
   }
 
-  pub Drops-keeps_coherence : Coherent p m s'
+  pub Drops-keeps_coherence : Coherent p m dropped
   Drops-keeps_coherence =
       let by = leaving-by_some (replica s c (AtNode n)) drop.leaving in
       let claims = (h.coherent.workers.evicted by.0 c n by.1).claims in
-      subst (λ (z : State). Coherent p m z) (sym drop.leaves) (Shifts-coherent p m s h claims.0 by.0 (claimed_by-is by.0 (progress s claims.0) claims.1) dropped.cells dropped.workers dropped-shift)
+      Shifts-coherent p m s h claims.0 by.0 (claimed_by-is by.0 (progress s claims.0) claims.1) dropped.cells dropped.workers dropped-shift

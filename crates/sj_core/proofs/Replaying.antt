@@ -1,8 +1,9 @@
 -- Each step keeps coherence whole, and so does each legal trace; a complete one leaves what all tasks leave in submission order.
-use Rattle.std.proofs.Common.{Bool, List, [], ◌∷◌, subst}
+use Rattle.std.proofs.Common.{Bool, List, [], ◌∷◌, fold}
 use Rattle.sj_core.proofs.Words.{AtNode, Claim, Drop, End, Event, Kernel, Machine, Move, Moved, OnDisk, Program, Run}
 use Rattle.sj_core.proofs.Words.{State, opening}
-use Rattle.sj_core.specs.{Step.Step, Step.mover_of, Legal.Leads, Legal.Replays, Legal.IsComplete, Proper.Proper}
+use Rattle.sj_core.specs.{Step.May, Step.after, Step.mover_of, Legal.CanFollow, Legal.IsFinished, Legal.IsLegal}
+use Rattle.sj_core.specs.{Legal.state_of, Proper.Proper}
 use Rattle.sj_core.specs.{Proper.IsMachineFor, Coherent.Coherent, Laws.IsLawful, Laws.IsSound, Laws.HoldsFinal}
 use Rattle.sj_core.proofs.Moving.{Drops-keeps_coherence, Moves_in-keep_coherence, Moves_out-keep_coherence}
 use Rattle.sj_core.proofs.Moving.{Ended_moves-keep_coherence}
@@ -14,23 +15,23 @@ module _ (p : Program) (m : Machine) (proper : Proper p) (machine : IsMachineFor
   sound s c = record { proper = proper; machine = machine; coherent = c }
 
   -- each legal step keeps coherence whole
-  Step-keeps_coherence : (s : State) (e : Event) (s' : State) → Coherent p m s → Step p m s e s' → Coherent p m s'
-  Step-keeps_coherence s (Claim t w) s' c step = Claims-keeps_coherence p m s s' t w (sound s c) step
-  Step-keeps_coherence s (Move x from (AtNode n)) s' c step = Moves_in-keep_coherence p m s (sound s c) x from n (mover_of s x from (AtNode n)) s' step
-  Step-keeps_coherence s (Move x from (OnDisk d)) s' c step = Moves_out-keep_coherence p m s (sound s c) x from d (mover_of s x from (OnDisk d)) s' step
-  Step-keeps_coherence s (Moved x from to) s' c step = Ended_moves-keep_coherence p m s (sound s c) x from to (mover_of s x from to) s' step
-  Step-keeps_coherence s (Drop x n) s' c step = Drops-keeps_coherence p m s (sound s c) x n s' step
-  Step-keeps_coherence s (Run t w) s' c step = Runs-keeps_coherence p m s s' t w (sound s c) step
-  Step-keeps_coherence s (End t w) s' c step = Lawful_ends-keep_coherence has p m s s' t w (sound s c) lawful step
+  pub Step-keeps_coherence : (s : State) (e : Event) → Coherent p m s → May p m s e → Coherent p m (after p m s e)
+  Step-keeps_coherence s (Claim t w) c may = Claims-keeps_coherence p m s t w (sound s c) may
+  Step-keeps_coherence s (Move x from (AtNode n)) c may = Moves_in-keep_coherence p m s (sound s c) x from n (mover_of s x from (AtNode n)) may
+  Step-keeps_coherence s (Move x from (OnDisk d)) c may = Moves_out-keep_coherence p m s (sound s c) x from d (mover_of s x from (OnDisk d)) may
+  Step-keeps_coherence s (Moved x from to) c may = Ended_moves-keep_coherence p m s (sound s c) x from to (mover_of s x from to) may
+  Step-keeps_coherence s (Drop x n) c may = Drops-keeps_coherence p m s (sound s c) x n may
+  Step-keeps_coherence s (Run t w) c may = Runs-keeps_coherence p m s t w (sound s c) may
+  Step-keeps_coherence s (End t w) c may = Lawful_ends-keep_coherence has p m s t w (sound s c) lawful may
 
-  Leads-keeps_coherence : (trace : List Event) (s s' : State) → Coherent p m s → Leads p m s trace s' → Coherent p m s'
-  Leads-keeps_coherence [] s s' c leads = subst (λ (z : State). Coherent p m z) leads c
-  Leads-keeps_coherence (e ∷ trace) s s' c (next, step, rest) = Leads-keeps_coherence trace next s' (Step-keeps_coherence s e next c step) rest
+  following-coherent : (trace : List Event) (s : State) → Coherent p m s → CanFollow p m s trace → Coherent p m (fold (after p m) s trace)
+  following-coherent [] s c follows = c
+  following-coherent (e ∷ trace) s c (may, rest) = following-coherent trace (after p m s e) (Step-keeps_coherence s e c may) rest
 
   -- and so does each legal trace
-  pub Replays-coherent : (trace : List Event) (s : State) → Replays p m trace s → Coherent p m s
-  Replays-coherent trace s replays = Leads-keeps_coherence trace (opening p m) s (opening-coherent p m) replays
+  pub legal-coherent : (trace : List Event) → IsLegal p m trace → Coherent p m (state_of p m trace)
+  legal-coherent trace legal = following-coherent trace (opening p m) (opening-coherent p m) legal
 
   -- where it is complete, the cells hold what all tasks leave in submission order
-  pub Replays-final : (trace : List Event) (s : State) → Replays p m trace s → IsComplete s → HoldsFinal p s
-  Replays-final trace s replays complete = complete-final p m s (sound s (Replays-coherent trace s replays)) complete has lawful
+  pub finished-final : (trace : List Event) → IsFinished p m trace → HoldsFinal p (state_of p m trace)
+  finished-final trace finished = complete-final p m (state_of p m trace) (sound (state_of p m trace) (legal-coherent trace finished.legal)) finished.complete has lawful

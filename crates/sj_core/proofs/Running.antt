@@ -6,7 +6,7 @@ use Rattle.std.proofs.lemmas.List.{get_or-set_same, length-map, length-set}
 use Rattle.sj_core.proofs.Words.{Array, AtNode, Cell, CellState, Claimed, Invalid, Machine, Node, OnDisk, Place, Program, Progress, Replica, Running, State, Task, Transfer, Valid, Worker, WorkerState, array_of, cell_state, cells_of, dims_of, fresh_cells, has_cell, is_coming_by, is_entry, is_leaving_by, is_task_of, is_valid, moves, node_of, order, progress, replica, replica_in, transfer, worker_of, worker_state, writes, written_cells, zeros}
 use Rattle.sj_core.specs.Coherent.{Coherent, CopiesAgree, HasEntries, HasRows, IsStateOf, WritersOwn, content, is_begun, is_being_written}
 use Rattle.sj_core.specs.Laws.{IsSound}
-use Rattle.sj_core.specs.Step.{Runs, array_at, initial, is_moving, owned_at, same_place, without}
+use Rattle.sj_core.specs.Step.{CanRun, after_run, array_at, initial, is_moving, owned_at, same_place, without}
 use Rattle.sj_core.proofs.Advancing.{Advances, Runs-advances, OrderIsKept-advances, claimed-is_mine, claimed-task_of}
 use Rattle.sj_core.proofs.CellLists.{has_cell-without, times, times-filter}
 use Rattle.sj_core.proofs.Changing.{Changes, Changes-coherent, Changes-writers, TransfersAreSound-spared, HasBlocks-kept, HasRows-kept, moves-kept, place_differs, HasWorkers-kept}
@@ -21,12 +21,12 @@ use Rattle.sj_core.proofs.Separation.{separated}
 use Rattle.sj_core.proofs.Tables.{length-renewed, renewed-at_or}
 use Rattle.sj_core.proofs.TaskCells.{fresh-among_written, written-among_cells}
 
-module _ (p : Program) (m : Machine) (s : State) (t : Task) (w : Worker) (s' : State) (run : Runs p m s t w s') where
+module _ (p : Program) (m : Machine) (s : State) (t : Task) (w : Worker) (s' : State) (run : CanRun p m s t w) (leaves : s' ≡ after_run p m s t w) where
   abbrev owns : Cell → CellState → CellState
   owns c row = owned_at (node_of m w) (initial p s t w (node_of m w) c) row
 
   run-row : (c : Cell) → has_cell (written_cells p t w) c ≡ false → cell_state s' c ≡ cell_state s c
-  run-row c spared = ap (λ (z : State). cell_state z c) run.leaves ∙ cells-untouched s (has_cell (written_cells p t w)) owns c spared
+  run-row c spared = ap (λ (z : State). cell_state z c) leaves ∙ cells-untouched s (has_cell (written_cells p t w)) owns c spared
 
   -- what the task doesn't write stays as it is
   pub run-other : (c : Cell) (q : Place) → has_cell (written_cells p t w) c ≡ false → replica s' c q ≡ replica s c q
@@ -36,15 +36,15 @@ module _ (p : Program) (m : Machine) (s : State) (t : Task) (w : Worker) (s' : S
   pub run-own : (c : Cell) → has_cell (written_cells p t w) c ≡ true → c.0 < length s.cells → (node_of m w).0 < length (cell_state s c).nodes → replica s' c (AtNode (node_of m w)) ≡ Valid (initial p s t w (node_of m w) c)
   run-own c written inside within =
       let nowhere : List Replica = map (λ r. Invalid) (cell_state s c).nodes in
-      grind (arith, run.leaves, cells-touched s (has_cell (written_cells p t w)) owns c inside written, get_or-set_same nowhere (node_of m w).0 (Valid (initial p s t w (node_of m w) c)) Invalid, length-map (cell_state s c).nodes (λ (r : Replica). Invalid), within)
+      grind (arith, leaves, cells-touched s (has_cell (written_cells p t w)) owns c inside written, get_or-set_same nowhere (node_of m w).0 (Valid (initial p s t w (node_of m w) c)) Invalid, length-map (cell_state s c).nodes (λ (r : Replica). Invalid), within)
 
   -- and nowhere else
   run-written : (c : Cell) (q : Place) → has_cell (written_cells p t w) c ≡ true → (replica s' c q ≡ Invalid) ⊎ ((q ≡ AtNode (node_of m w)) × (replica s' c q ≡ Valid (initial p s t w (node_of m w) c)))
   run-written c q written =
       let bare : CellState = record { nodes = map (λ r. Invalid) (cell_state s c).nodes; disks = map (λ r. Invalid) (cell_state s c).disks; writes = writes s c } in
       elim (cells-renewed_or s (λ d row. if has_cell (written_cells p t w) d then owns d row else row) c) [
-        | inr none ↦ inl (grind (arith, run.leaves, none.1, replica_in-no_row q))
-        | inl row ↦ grind (arith, run.leaves, row, written, replica_in-cases bare (AtNode (node_of m w)) q (Valid (initial p s t w (node_of m w) c)), nowhere q)
+        | inr none ↦ inl (grind (arith, leaves, none.1, replica_in-no_row q))
+        | inl row ↦ grind (arith, leaves, row, written, replica_in-cases bare (AtNode (node_of m w)) q (Valid (initial p s t w (node_of m w) c)), nowhere q)
       ]
     where
       nowhere : (q : Place) → replica_in (record { nodes = map (λ r. Invalid) (cell_state s c).nodes; disks = map (λ r. Invalid) (cell_state s c).disks; writes = writes s c }) q ≡ Invalid
@@ -62,7 +62,7 @@ module _ (p : Program) (m : Machine) (s : State) (t : Task) (w : Worker) (s' : S
   run-leaving v c q leaving = (run-fewer (is_leaving_by v) refl (λ a. refl) c q leaving).1
 
   pub run-worker : (v : Worker) → worker_state s' v ≡ worker_state s v
-  run-worker v = ap (λ (z : State). worker_state z v) run.leaves
+  run-worker v = ap (λ (z : State). worker_state z v) leaves
 
   run-transfer : (v : Worker) → transfer s' v ≡ transfer s v
   run-transfer v = ap (λ (row : WorkerState). row.transfer) (run-worker v)
@@ -78,9 +78,9 @@ module _ (p : Program) (m : Machine) (s : State) (t : Task) (w : Worker) (s' : S
   pub run-order_elsewhere : (k : Node) → k ≢ node_of m w → order s' k ≡ without (written_cells p t w) (order s k)
   run-order_elsewhere k d = order-after k ∙ ap (λ b. if b then order s k else without (written_cells p t w) (order s k)) (false_from_ne_true (nat_eq k.0 (node_of m w).0) (λ e. d (ap (λ (i : ℕ). let j : Node = record { 0 = i } in j) ((Decides-eqb k.0 (node_of m w).0).0 e))))
 
-module _ (p : Program) (m : Machine) (s : State) (h : IsSound p m s) (t : Task) (w : Worker) (s' : State) (run : Runs p m s t w s') where
+module _ (p : Program) (m : Machine) (s : State) (h : IsSound p m s) (t : Task) (w : Worker) (s' : State) (run : CanRun p m s t w) (leaves : s' ≡ after_run p m s t w) where
   advance : Advances s s' t (Claimed w) (Running w)
-  advance = Runs-advances p m s t w s' run
+  advance = Runs-advances p m s t w s' run leaves
 
   mine : is_task_of w (progress s t) ≡ true
   mine = claimed-task_of s t w run.claimed
@@ -90,7 +90,7 @@ module _ (p : Program) (m : Machine) (s : State) (h : IsSound p m s) (t : Task) 
   entry c written = h.coherent.cells.claimed t w c run.claimed (written-among_cells p t w c written)
 
   own : (c : Cell) → has_cell (written_cells p t w) c ≡ true → replica s' c (AtNode (node_of m w)) ≡ Valid (initial p s t w (node_of m w) c)
-  own c written = let inside = entry-inside s c (node_of m w) (entry c written) in run-own p m s t w s' run c written inside.0 inside.1
+  own c written = let inside = entry-inside s c (node_of m w) (entry c written) in run-own p m s t w s' run leaves c written inside.0 inside.1
 
   -- another task's cells aren't written
   pub run-spares : (u : Task) (v : Worker) (c : Cell) → u ≢ t → is_task_of v (progress s u) ≡ true → has_cell (cells_of p u v) c ≡ true → has_cell (written_cells p t w) c ≡ false
@@ -126,25 +126,25 @@ module _ (p : Program) (m : Machine) (s : State) (h : IsSound p m s) (t : Task) 
   -- ---- the state's own form
 
   run-rows : HasRows p m s'
-  run-rows = HasRows-kept p m s s' _ (ap (λ (z : State). z.cells) run.leaves)
+  run-rows = HasRows-kept p m s s' _ (ap (λ (z : State). z.cells) leaves)
       (λ i row. (
         cond_both (has_cell (written_cells p t w) (record { 0 = i })) _ row (λ (r : CellState). length r.nodes ≡ length row.nodes) (λ b. length-set (map (λ r. Invalid) row.nodes) (node_of m w).0 _ ∙ length-map row.nodes (λ (r : Replica). Invalid)) (λ b. refl),
         cond_both (has_cell (written_cells p t w) (record { 0 = i })) _ row (λ (r : CellState). length r.disks ≡ length row.disks) (λ b. length-map row.disks (λ (r : Replica). Invalid)) (λ b. refl),
       ))
-      (ap (λ (z : State). length z.tasks) run.leaves ∙ length-set s.tasks t.0 (Running w))
-      (ap (λ (z : State). length z.orders) run.leaves ∙ length-renewed (λ i cs. if nat_eq i (node_of m w).0 then cs else without (written_cells p t w) cs) s.orders) (ap (λ (z : State). length z.workers) run.leaves) h.coherent.state.rows
+      (ap (λ (z : State). length z.tasks) leaves ∙ length-set s.tasks t.0 (Running w))
+      (ap (λ (z : State). length z.orders) leaves ∙ length-renewed (λ i cs. if nat_eq i (node_of m w).0 then cs else without (written_cells p t w) cs) s.orders) (ap (λ (z : State). length z.workers) leaves) h.coherent.state.rows
 
   run-entries : HasEntries s'
   run-entries = record {
     entries = λ k c. elim (same_node k (node_of m w)) [
-      | inl e ↦ grind (arith, e, run-order_here p m s t w s' run, cases_Bool (has_cell (written_cells p t w) c), run-other p m s t w s' run c (AtNode k), own c, entry c, h.coherent.state.entries.entries k c)
-      | inr d ↦ grind (arith, run-order_elsewhere p m s t w s' run k d, has_cell-without (written_cells p t w) (order s k) c, run-other p m s t w s' run c (AtNode k), run-only p m s t w s' run c (AtNode k), place_differs k (node_of m w) d, h.coherent.state.entries.entries k c)
+      | inl e ↦ grind (arith, e, run-order_here p m s t w s' run leaves, cases_Bool (has_cell (written_cells p t w) c), run-other p m s t w s' run leaves c (AtNode k), own c, entry c, h.coherent.state.entries.entries k c)
+      | inr d ↦ grind (arith, run-order_elsewhere p m s t w s' run leaves k d, has_cell-without (written_cells p t w) (order s k) c, run-other p m s t w s' run leaves c (AtNode k), run-only p m s t w s' run leaves c (AtNode k), place_differs k (node_of m w) d, h.coherent.state.entries.entries k c)
     ];
     once = λ k c. elim (same_node k (node_of m w)) [
-      | inl e ↦ subst (λ (j : Node). times (order s' j) c ≤ 1) (sym e) (subst (λ (cs : List Cell). times cs c ≤ 1) (sym (run-order_here p m s t w s' run)) (h.coherent.state.entries.once (node_of m w) c))
+      | inl e ↦ subst (λ (j : Node). times (order s' j) c ≤ 1) (sym e) (subst (λ (cs : List Cell). times cs c ≤ 1) (sym (run-order_here p m s t w s' run leaves)) (h.coherent.state.entries.once (node_of m w) c))
       | inr d ↦
           let fewer = times-filter (λ x. not (has_cell (written_cells p t w) x)) (order s k) c in
-          grind (arith, run-order_elsewhere p m s t w s' run k d, fewer, h.coherent.state.entries.once k c)
+          grind (arith, run-order_elsewhere p m s t w s' run leaves k d, fewer, h.coherent.state.entries.once k c)
     ];
   }
 
@@ -152,21 +152,21 @@ module _ (p : Program) (m : Machine) (s : State) (h : IsSound p m s) (t : Task) 
   run-state = record {
     rows = run-rows;
     entries = run-entries;
-    blocks = HasBlocks-kept p m s s' (λ c d. elim (cases_Bool (has_cell (written_cells p t w) c)) [ inl written ↦ inl (run-only p m s t w s' run c (OnDisk d) written refl) | inr spared ↦ inr (run-other p m s t w s' run c (OnDisk d) spared) ]) (run-transfer p m s t w s' run) h.coherent.state.blocks;
+    blocks = HasBlocks-kept p m s s' (λ c d. elim (cases_Bool (has_cell (written_cells p t w) c)) [ inl written ↦ inl (run-only p m s t w s' run leaves c (OnDisk d) written refl) | inr spared ↦ inr (run-other p m s t w s' run leaves c (OnDisk d) spared) ]) (run-transfer p m s t w s' run leaves) h.coherent.state.blocks;
     staff = HasWorkers-kept p s s' t (Claimed w) (Running w) advance (subst (λ (x : Progress). (worker_of x).0 < p.workers) run.claimed (h.coherent.state.staff.staffed t (ap is_begun run.claimed))) h.coherent.state.staff;
   }
 
   -- ---- the change
 
   fewer_entries : (c : Cell) (k : Node) → is_entry (replica s' c (AtNode k)) ≡ true → is_entry (replica s c (AtNode k)) ≡ true
-  fewer_entries c k now = grind (arith, cases_Bool (has_cell (written_cells p t w) c), run-other p m s t w s' run c (AtNode k), run-written p m s t w s' run c (AtNode k), entry c)
+  fewer_entries c k now = grind (arith, cases_Bool (has_cell (written_cells p t w) c), run-other p m s t w s' run leaves c (AtNode k), run-written p m s t w s' run leaves c (AtNode k), entry c)
 
   -- what comes by the claim of a worker whose victims leave still comes
   still_comes : (v : Worker) (c d : Cell) (k : Node) → is_leaving_by v (replica s' d (AtNode k)) ≡ true → is_coming_by v (replica s c (AtNode k)) ≡ true → is_coming_by v (replica s' c (AtNode k)) ≡ true
   still_comes v c d k leaving coming =
       let claimed = h.coherent.pins.coming_claimed v c k coming in
-      let other : claimed.task ≢ t = λ e. (let same : Claimed v ≡ Claimed w = sym claimed.claimed ∙ ap (λ (u : Task). progress s u) e ∙ run.claimed in let is : v ≡ w = cc in grind (arith, is, none_leaves d (AtNode k), run-leaving p m s t w s' run v d (AtNode k) leaving)) in
-      ap (is_coming_by v) (run-other p m s t w s' run c (AtNode k) (run-spares claimed.task v c other (claimed-task_of s claimed.task v claimed.claimed) claimed.cell)) ∙ coming
+      let other : claimed.task ≢ t = λ e. (let same : Claimed v ≡ Claimed w = sym claimed.claimed ∙ ap (λ (u : Task). progress s u) e ∙ run.claimed in let is : v ≡ w = cc in grind (arith, is, none_leaves d (AtNode k), run-leaving p m s t w s' run leaves v d (AtNode k) leaving)) in
+      ap (is_coming_by v) (run-other p m s t w s' run leaves c (AtNode k) (run-spares claimed.task v c other (claimed-task_of s claimed.task v claimed.claimed) claimed.cell)) ∙ coming
 
   pub run-change : Changes p m s s' t (Claimed w) (Running w) w
   run-change = record {
@@ -174,22 +174,22 @@ module _ (p : Program) (m : Machine) (s : State) (h : IsSound p m s) (t : Task) 
     mine = claimed-is_mine w;
     still_mine = λ v has. sym (same_worker-is w v has);
     state = run-state;
-    rows = λ v. inl (ap (λ (row : WorkerState). row.pins) (run-worker p m s t w s' run v), ap (λ (row : WorkerState). row.scratch) (run-worker p m s t w s' run v), λ e. same_worker-refl w);
-    victims = λ v. ap (λ (row : WorkerState). row.victims) (run-worker p m s t w s' run v);
+    rows = λ v. inl (ap (λ (row : WorkerState). row.pins) (run-worker p m s t w s' run leaves v), ap (λ (row : WorkerState). row.scratch) (run-worker p m s t w s' run leaves v), λ e. same_worker-refl w);
+    victims = λ v. ap (λ (row : WorkerState). row.victims) (run-worker p m s t w s' run leaves v);
     entries = fewer_entries;
-    leaves = run-leaving p m s t w s' run;
-    comes = λ v c k coming. (run-fewer p m s t w s' run (is_coming_by v) refl (λ a. refl) c (AtNode k) coming).1;
+    leaves = run-leaving p m s t w s' run leaves;
+    comes = λ v c k coming. (run-fewer p m s t w s' run leaves (is_coming_by v) refl (λ a. refl) c (AtNode k) coming).1;
     still_comes = still_comes;
-    moves_on = λ v x under_way. h.coherent.workers.moves_for_claim v x (sym (run-transfer p m s t w s' run v) ∙ under_way);
+    moves_on = λ v x under_way. h.coherent.workers.moves_for_claim v x (sym (run-transfer p m s t w s' run leaves v) ∙ under_way);
     claims_on = λ claimed. inl (
-      λ c k. false_from_ne_true (is_leaving_by w (replica s' c (AtNode k))) (λ leaving. false≢true (sym (none_leaves c (AtNode k)) ∙ run-leaving p m s t w s' run w c (AtNode k) leaving)),
-      λ c k. false_from_ne_true (is_coming_by w (replica s' c (AtNode k))) (λ coming. (let was = run-fewer p m s t w s' run (is_coming_by w) refl (λ a. refl) c (AtNode k) coming in false≢true (sym was.0 ∙ coming-is_fresh c k was.1))),
-      λ x under_way. moves_none x (sym (run-transfer p m s t w s' run w) ∙ under_way),
+      λ c k. false_from_ne_true (is_leaving_by w (replica s' c (AtNode k))) (λ leaving. false≢true (sym (none_leaves c (AtNode k)) ∙ run-leaving p m s t w s' run leaves w c (AtNode k) leaving)),
+      λ c k. false_from_ne_true (is_coming_by w (replica s' c (AtNode k))) (λ coming. (let was = run-fewer p m s t w s' run leaves (is_coming_by w) refl (λ a. refl) c (AtNode k) coming in false≢true (sym was.0 ∙ coming-is_fresh c k was.1))),
+      λ x under_way. moves_none x (sym (run-transfer p m s t w s' run leaves w) ∙ under_way),
     );
-    stays = λ u v c d has cell. (let same = run-other p m s t w s' run c (AtNode (node_of m v)) (run-spares u v c d has cell) in (λ was. ap is_entry same ∙ was, λ was. ap is_valid same ∙ was));
+    stays = λ u v c d has cell. (let same = run-other p m s t w s' run leaves c (AtNode (node_of m v)) (run-spares u v c d has cell) in (λ was. ap is_entry same ∙ was, λ was. ap is_valid same ∙ was));
     claimed = λ c e has. absurd (let f : Running w ≡ Claimed w = e in cc);
-    running = λ c e has. elim (cases_Bool (has_cell (written_cells p t w) c)) [ inl written ↦ ap is_valid (own c written) | inr spared ↦ ap is_valid (run-other p m s t w s' run c (AtNode (node_of m w)) spared) ∙ spared-present c has spared ];
-    transfers = TransfersAreSound-spared m s s' (has_cell (written_cells p t w)) (run-other p m s t w s' run) (run-leaving p m s t w s' run) (run-transfer p m s t w s' run) run-unmoved h.coherent.transfers;
+    running = λ c e has. elim (cases_Bool (has_cell (written_cells p t w) c)) [ inl written ↦ ap is_valid (own c written) | inr spared ↦ ap is_valid (run-other p m s t w s' run leaves c (AtNode (node_of m w)) spared) ∙ spared-present c has spared ];
+    transfers = TransfersAreSound-spared m s s' (has_cell (written_cells p t w)) (run-other p m s t w s' run leaves) (run-leaving p m s t w s' run leaves) (run-transfer p m s t w s' run leaves) run-unmoved h.coherent.transfers;
     order = OrderIsKept-advances p s s' t (Claimed w) (Running w) advance refl refl (claimed-is_mine w) refl h.coherent.order;
     counts = record { counted = λ c. run-writes c ∙ h.coherent.counts.counted c ∙ sym (counted-same p s s' c (λ u. written-undone p s s' c t u (Claimed w) (Running w) advance refl refl)) };
   }
@@ -214,12 +214,12 @@ module _ (p : Program) (m : Machine) (s : State) (h : IsSound p m s) (t : Task) 
   run-writers = Changes-writers p m s h s' t (Claimed w) (Running w) w run-change
       (λ u v c d runs written.
       (let spared = run-spares u v c d (ap (is_task_of v) runs ∙ same_worker-refl v) (written-among_cells p u v c written) in
-      (λ q. run-other p m s t w s' run c q spared, λ x. moves-kept s s' x c (run-transfer p m s t w s' run x) ∙ (h.coherent.writers.owned u v c runs written).unmoved x, run-content c)))
+      (λ q. run-other p m s t w s' run leaves c q spared, λ x. moves-kept s s' x c (run-transfer p m s t w s' run leaves x) ∙ (h.coherent.writers.owned u v c runs written).unmoved x, run-content c)))
       (λ c e written. record {
         valid = own c written ∙ ap (λ (x : Array). Valid x) (run-initial c written (has_cell (fresh_cells p t w) c) refl);
-        only = λ q away. run-only p m s t w s' run c q written away;
-        pinned = ap (λ (row : WorkerState). has_cell row.pins c) (run-worker p m s t w s' run w) ∙ h.coherent.cells.pinned t w c mine (written-among_cells p t w c written);
-        unmoved = λ v. moves-kept s s' v c (run-transfer p m s t w s' run v) ∙ unmoved-from s v c (λ x under_way e. false≢true (sym (run-unmoved v x under_way) ∙ ap (has_cell (written_cells p t w)) e ∙ written));
+        only = λ q away. run-only p m s t w s' run leaves c q written away;
+        pinned = ap (λ (row : WorkerState). has_cell row.pins c) (run-worker p m s t w s' run leaves w) ∙ h.coherent.cells.pinned t w c mine (written-among_cells p t w c written);
+        unmoved = λ v. moves-kept s s' v c (run-transfer p m s t w s' run leaves v) ∙ unmoved-from s v c (λ x under_way e. false≢true (sym (run-unmoved v x under_way) ∙ ap (has_cell (written_cells p t w)) e ∙ written));
       })
 
   pub run-rested : (c : Cell) → is_being_written p s' c ≡ false → is_being_written p s c ≡ false

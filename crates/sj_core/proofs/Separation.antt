@@ -1,6 +1,7 @@
 -- Claimed and running tasks keep apart: none writes a cell on which another works. And a claim keeps the order of tasks.
 use Rattle.std.proofs.Common.{Bool, ap, arith, inl, inr, length, not, subst, sym, true, ℕ, ◌&&◌, ◌<◌, ◌∙◌, ◌≡◌, ◌≢◌}
 use Rattle.std.proofs.Common.{IsTrue, if◌then◌else◌}
+use Rattle.sj_core.proofs.Eviction.{evicted_by}
 use Rattle.sj_core.proofs.Words.{Cell, Claimed, Machine, Program, Progress, State, Task, Waiting, Worker, cells_of}
 use Rattle.sj_core.proofs.Words.{commuting_cells, copy_of, has_cell, is_done, is_task_of, progress, task_of, worked_on}
 use Rattle.sj_core.proofs.Words.{worker_of, written_cells}
@@ -8,7 +9,7 @@ use Rattle.std.proofs.lemmas.{Bool.cases_lt, Bool.false≢true, Bool.true≢fals
 use Rattle.sj_base.specs.Mode.{is_commute, is_written}
 use Rattle.sj_deps.specs.Conflict.{HasDependencies}
 use Rattle.sj_core.specs.Coherent.{IsStateOf, OrderIsKept, SharesCommuting, WorkersAreSound, is_active}
-use Rattle.sj_core.specs.{Proper.NamesCells, Step.Claims, Step.after, Step.is_in_use}
+use Rattle.sj_core.specs.{Proper.NamesCells, Step.CanClaim, Step.after_claim, Step.is_in_use}
 use Rattle.sj_core.proofs.Advancing.{Advances, Claims-advances, Claims-keeps_earlier, active-begun, active_isn't_done}
 use Rattle.sj_core.proofs.Advancing.{apart-from_earlier, idle-has_none, same_task, task_of-active, task_of-worker}
 use Rattle.sj_core.proofs.{Modes.commute_isn't_redux, Modes.commutes_is_written, Readiness.Ready-earlier}
@@ -58,9 +59,9 @@ module _ (p : Program) (m : Machine) (names : NamesCells p) (deps : HasDependenc
 
   -- ---- a claim keeps the order
 
-  module _ (t : Task) (w : Worker) (s' : State) (staffed : w.0 < p.workers) (claim : Claims p m s t w s') where
+  module _ (t : Task) (w : Worker) (s' : State) (staffed : w.0 < p.workers) (claim : CanClaim p m s t w) (leaves : s' ≡ after_claim p m s t w (evicted_by p m s t w)) where
     advance : Advances s s' t Waiting (Claimed w)
-    advance = Claims-advances p m s t w s' state.rows claim
+    advance = Claims-advances p m s t w s' state.rows claim leaves
 
     was_active : (u : Task) → u ≢ t → is_active (progress s' u) ≡ true → is_active (progress s u) ≡ true
     was_active u d h = sym (ap is_active (advance.others u d)) ∙ h

@@ -1,16 +1,16 @@
 -- A computed test of legal traces, for worked runs: in it a task begins only once all earlier tasks are done.
 use Rattle.std.proofs.Common.{arith, Bool, List, None, Option, Some, [], false, length, not, refl, true, ◌&&◌, ◌∷◌, ◌≡◌}
-use Rattle.std.proofs.Common.{fold, is_none, is_some, nat_eq, nat_le, nat_lt}
+use Rattle.std.proofs.Common.{is_none, is_some, nat_eq, nat_le, nat_lt}
 use Rattle.sj_core.proofs.Words.{AtNode, Cell, Claim, DiskNo, Drop, End, Event, Machine, Move, Moved, OnDisk, Place}
 use Rattle.sj_core.proofs.Words.{Program, Progress, Run, State, Task, Transfer, Waiting, commuting_cells, done_in}
 use Rattle.sj_core.proofs.Words.{footprint, has_room, is_claimed_by, is_coming_by, is_idle, is_leaving, is_leaving_by}
 use Rattle.sj_core.proofs.Words.{is_running_on, is_waiting, node_of, node_size, opening, progress, replica, same_cell}
 use Rattle.sj_core.proofs.Words.{transfer, written_cells}
 use Rattle.std.proofs.lemmas.Bool.{and_parts, eqb-true, false≢true, leb-true, ltb-true}
-use Rattle.std.specs.{List.list_all, List.range_with_len, Prelude.unwrap_or}
+use Rattle.std.specs.List.{list_all, range_with_len}
 use Rattle.sj_codelet.specs.Kernel.{fits}
-use Rattle.sj_core.specs.Legal.{Leads, Legal}
-use Rattle.sj_core.specs.Step.{Step, a_transfer, after, disk_of, is_fresh, is_in_use, is_moving, is_present, is_read}
+use Rattle.sj_core.specs.Legal.{CanFollow, IsLegal}
+use Rattle.sj_core.specs.Step.{May, a_transfer, after, disk_of, is_fresh, is_in_use, is_moving, is_present, is_read}
 use Rattle.sj_core.specs.Step.{is_valid_elsewhere, mover_of, none_leaving, same_place, source_of, victims_for}
 use Rattle.sj_core.proofs.{Advancing.claimed_by-is, Advancing.running_on-is, Worked.worker, Placing.same_place-is}
 use Rattle.sj_core.proofs.{Readiness.EarlierAreDone-all, Readiness.Ready-from, Reading.same_cell-is}
@@ -54,9 +54,6 @@ waiting-is x h = search (arith, false≢true)
 none-is : {X : Type 0} (o : Option X) → is_none o ≡ true → o ≡ None
 none-is b h = search (arith, false≢true)
 
-some-is : {X : Type 0} (o : Option X) (d : X) → is_some o ≡ true → o ≡ Some (unwrap_or o d)
-some-is b d h = search (arith, false≢true)
-
 here-is : (o : Option Place) (q : Place) → is_here o q ≡ true → o ≡ Some q
 here-is b q h = search (arith, false≢true, same_place-is)
 
@@ -67,7 +64,7 @@ transfer-is : (c : Cell) (from to : Place) (o : Option Transfer) → is_transfer
 transfer-is c from to b h = search (arith, false≢true, and_parts, same_cell-is, same_place-is)
 
 module _ (p : Program) (m : Machine) where
-  step-from : (s : State) (e : Event) → is_step p m s e ≡ true → Step p m s e (after p m s e)
+  step-from : (s : State) (e : Event) → is_step p m s e ≡ true → May p m s e
   step-from s (Claim t w) h =
       let (worker, h1) = and_parts _ _ h in
       let (waits, h2) = and_parts _ _ h1 in
@@ -78,28 +75,28 @@ module _ (p : Program) (m : Machine) where
       let (settled, h7) = and_parts _ _ h6 in
       let (alone, room) = and_parts _ _ h7 in
       let waiting = waiting-is (progress s t) waits in
-      record { worker = ltb-true w.0 p.workers worker; waiting = waiting; ready = Ready-from p s t (ltb-true t.0 (length p.tasks) inside) waiting (EarlierAreDone-all p s t earlier); idle = idle; fits = leb-true (footprint p t) (node_size m (node_of m w)) fits; settled = settled; alone = alone; evicted = unwrap_or (victims_for p m s t w) []; chosen = some-is (victims_for p m s t w) [] room; leaves = refl }
+      record { worker = ltb-true w.0 p.workers worker; waiting = waiting; ready = Ready-from p s t (ltb-true t.0 (length p.tasks) inside) waiting (EarlierAreDone-all p s t earlier); idle = idle; fits = leb-true (footprint p t) (node_size m (node_of m w)) fits; settled = settled; alone = alone; room = room }
   step-from s (Move c from (AtNode n)) h = search (arith, and_parts, eqb-true, none-is, here-is)
   step-from s (Move c from (OnDisk d)) h = search (arith, and_parts, none-is, on-is)
-  step-from s (Moved c from to) h = record { under_way = transfer-is c from to (transfer s (mover_of s c from to)) h; leaves = refl }
+  step-from s (Moved c from to) h = transfer-is c from to (transfer s (mover_of s c from to)) h
   step-from s (Drop c n) h = search (arith, and_parts)
   step-from s (Run t w) h =
       let (claimed, h1) = and_parts _ _ h in
       let (earlier, h2) = and_parts _ _ h1 in
       let (room, h3) = and_parts _ _ h2 in
       let (present, unmoved) = and_parts _ _ h3 in
-      record { claimed = claimed_by-is w (progress s t) claimed; earlier = EarlierAreDone-all p s t earlier; room = room; present = present; unmoved = unmoved; leaves = refl }
-  step-from s (End t w) h = record { running = running_on-is w (progress s t) h; leaves = refl }
+      record { claimed = claimed_by-is w (progress s t) claimed; earlier = EarlierAreDone-all p s t earlier; room = room; present = present; unmoved = unmoved }
+  step-from s (End t w) h = running_on-is w (progress s t) h
 
   -- each event of the trace passes in the state that the ones before it leave
   abbrev pub are_steps : State → List Event → Bool
   are_steps s [] = true
   are_steps s (e ∷ trace) = is_step p m s e && are_steps (after p m s e) trace
 
-  leads-from : (s : State) (trace : List Event) → are_steps s trace ≡ true → Leads p m s trace (fold (after p m) s trace)
-  leads-from s [] h = refl
-  leads-from s (e ∷ trace) h = let (first, later) = and_parts (is_step p m s e) (are_steps (after p m s e) trace) h in (after p m s e, step-from s e first, leads-from (after p m s e) trace later)
+  follow-from : (s : State) (trace : List Event) → are_steps s trace ≡ true → CanFollow p m s trace
+  follow-from s [] h = tt
+  follow-from s (e ∷ trace) h = let (first, later) = and_parts (is_step p m s e) (are_steps (after p m s e) trace) h in (step-from s e first, follow-from (after p m s e) trace later)
 
   -- such a trace is legal
-  pub legal-from : (trace : List Event) → are_steps (opening p m) trace ≡ true → Legal p m trace
-  legal-from trace h = record { left = fold (after p m) (opening p m) trace; replays = leads-from (opening p m) trace h }
+  pub legal-from : (trace : List Event) → are_steps (opening p m) trace ≡ true → IsLegal p m trace
+  legal-from trace h = follow-from (opening p m) trace h

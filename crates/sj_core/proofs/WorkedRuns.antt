@@ -7,8 +7,8 @@ use Rattle.std.proofs.lemmas.Bool.{false≢true}
 use Rattle.sj_codelet.specs.declared.kernel.Kernel.TheVariants.{Load, Add, Deliver}
 use Rattle.sj_codelet.specs.Equations.{vector}
 use Rattle.sj_deps.specs.Conflict.{Conflict, Uses, IsShared}
-use Rattle.sj_core.specs.{Fold.given, Legal.Legal, Legal.IsComplete, Legal.state_of, Proper.IsMachineFor}
-use Rattle.sj_core.specs.{Proper.HasSwapFor, Step.Claims, Step.Runs, Step.disk_of}
+use Rattle.sj_core.specs.{Fold.given, Legal.IsLegal, Legal.IsComplete, Legal.state_of, Proper.IsMachineFor}
+use Rattle.sj_core.specs.{Proper.HasSwapFor, Step.May, Step.disk_of}
 use Rattle.sj_core.proofs.Worked.{a_machine, a_task, access, cell, columns, disk, node, task, turn, worker}
 use Rattle.sj_core.proofs.{Readiness.Ready-earlier, Testing.legal-from, Sharing.write_isn't_read}
 use Rattle.sj_core.proofs.Reduction
@@ -31,7 +31,7 @@ machine = a_machine 1 (64 ∷ []) (4096 ∷ [])
 abbrev sum-trace : List Event
 sum-trace = turn 0 0 (turn 1 0 (turn 2 0 (turn 3 0 [])))
 
-pub sum-legal : Legal sum machine sum-trace
+pub sum-legal : IsLegal sum machine sum-trace
 sum-legal = legal-from sum machine sum-trace refl
 
 -- it is complete; what is printed is y + x; at the end the printed cell, which was written twice, holds that array on the node
@@ -48,9 +48,9 @@ load_conflicts = record { cell = 1; manner_of_t = Write; manner_of_u = Write; fi
     unshared : (m : Manner) → IsShared m → Uses sum 1 1 m → ⊥
     unshared m h u = search arith
 
--- the sum may not be claimed while the second load isn't done: no state follows
-pub sum-waits : (s' : State) → ¬ Claims sum machine (state_of sum machine (turn 0 0 [])) (task 2) (worker 0) s'
-sum-waits s' c = false≢true (Ready-earlier sum (state_of sum machine (turn 0 0 [])) (task 2) c.ready (task 1) (lit< tt) load_conflicts)
+-- the sum may not be claimed while the second load isn't done
+pub sum-waits : ¬ May sum machine (state_of sum machine (turn 0 0 [])) (Claim (task 2) (worker 0))
+sum-waits c = false≢true (Ready-earlier sum (state_of sum machine (turn 0 0 [])) (task 2) c.ready (task 1) (lit< tt) load_conflicts)
 
 -- ---- vectors of which two fit the node, and three don't
 
@@ -81,7 +81,7 @@ loads rest = turn 0 0 (turn 1 0 (Claim (task 2) (worker 0) ∷ evict 0 (Run (tas
 abbrev three-trace : List Event
 three-trace = loads (evict 1 (Move (cell 0) disk node ∷ Moved (cell 0) disk node ∷ Run (task 3) (worker 0) ∷ End (task 3) (worker 0) ∷ []))
 
-pub three-legal : Legal three machine three-trace
+pub three-legal : IsLegal three machine three-trace
 three-legal = legal-from three machine three-trace refl
 
 -- it is complete; the delivery evicts the least recent vector, and its own comes first; the vector that comes back from the disk
@@ -93,8 +93,8 @@ pub three-evicts : IsComplete (state_of three machine three-trace)
 three-evicts = (refl, refl, refl, refl)
 
 -- the delivery may not run while its victim is leaving
-pub three-waits : (s' : State) → ¬ Runs three machine (state_of three machine (loads [])) (task 3) (worker 0) s'
-three-waits s' r = false≢true r.room
+pub three-waits : ¬ May three machine (state_of three machine (loads [])) (Run (task 3) (worker 0))
+three-waits r = false≢true r.room
 
 -- ---- a reduction by two workers
 
@@ -105,7 +105,7 @@ two_workers = a_machine 2 (64 ∷ []) (4096 ∷ [])
 abbrev reduction-trace : List Event
 reduction-trace = turn 0 0 (turn 1 1 (turn 2 0 (turn 3 0 (turn 4 1 (turn 5 1 (turn 6 0 (turn 7 0 (turn 8 0 (turn 9 1 [])))))))))
 
-pub reduction-legal : Legal Reduction.job two_workers reduction-trace
+pub reduction-legal : IsLegal Reduction.job two_workers reduction-trace
 reduction-legal = legal-from Reduction.job two_workers reduction-trace refl
 
 -- complete, and 5 + 2, also where a worker other than the first contributed

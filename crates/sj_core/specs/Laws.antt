@@ -1,6 +1,6 @@
 -- What the steps of a task keep: laws of all proper programs, machines and coherent states.
 use Rattle.sj_base.specs.declared.ids.Cell.{Cell}
-use Rattle.std.specs.Prelude.{◌≡◌, ℕ, ◌<◌, ◌≤◌, Bool, false, true, FitsSigned, None, Some, IsTrue, List, [], ◌∷◌, length, All, Contains, IfSome}
+use Rattle.std.specs.Prelude.{◌≡◌, ℕ, ◌<◌, ◌≤◌, Bool, false, true, FitsSigned, None, Some, IsTrue, List, [], ◌∷◌, ◌++◌, length, All, Contains, IfSome}
 use Rattle.std.specs.Int.{w64}
 use Rattle.sj_base.specs.declared.program.Codelet.{Codelet}
 use Rattle.sj_codelet.specs.declared.kernel.Kernel.{Kernel}
@@ -17,11 +17,12 @@ use Rattle.sj_core.specs.Machine.{State, progress, replica, transfer, array_of, 
 use Rattle.sj_core.specs.Proper.{Proper, IsMachineFor, HasSwapFor, IsOpenAt, IsPhase, IsPlain, Phase, gives_value, access}
 use Rattle.sj_base.specs.Mode.{reads_value, is_in_order}
 use Rattle.sj_core.specs.Coherent.{Coherent, content}
-use Rattle.sj_core.specs.Step.{Claims, BeginsMoveIn, BeginsMoveOut, EndsMove, Drops, Runs, Ends, Step, a_transfer, after, array_at, disk_of, mover_of}
+use Rattle.sj_core.specs.Step.{May, a_transfer, after, array_at, disk_of, mover_of}
 use Rattle.sj_base.specs.declared.mode.Mode.TheVariants.{R}
 use Rattle.sj_base.specs.declared.mode.Access.{Access}
-use Rattle.sj_base.specs.declared.ids.Place.TheVariants.{Node as AtNode}
+use Rattle.sj_base.specs.declared.ids.Place.TheVariants.{Node as AtNode, Disk as OnDisk}
 use Rattle.sj_base.specs.declared.trace.Event.{Event}
+use Rattle.sj_base.specs.declared.trace.Event.TheVariants.{Claim, Drop, End, Move, Moved, Run}
 use Rattle.sj_base.specs.Array.{Array}
 use Rattle.sj_core.specs.declared.progress.Progress.TheVariants.{Claimed, Running}
 use Rattle.sj_core.specs.Program.{task_of}
@@ -29,7 +30,7 @@ use Rattle.sj_core.specs.Needs.{node_of}
 use Rattle.sj_core.specs.Operands.{worked_on}
 use Rattle.sj_core.specs.Fold.{after_chosen, held_in, held_before, given}
 use Rattle.sj_core.specs.Bound.{HasAtMostThreePerTaskAndFivePerOperand}
-use Rattle.sj_core.specs.Legal.{IsLegal, Replays, IsComplete, state_of}
+use Rattle.sj_core.specs.Legal.{IsComplete, IsFinished, IsLegal, state_of}
 
 -- a coherent state of a proper program on a machine for it
 pub record IsSound (p : Program) (m : Machine) (s : State) : Type 0 where
@@ -39,31 +40,31 @@ pub record IsSound (p : Program) (m : Machine) (s : State) : Type 0 where
 
 -- the fact holds after each claim from a coherent state
 abbrev pub IsKeptByClaims : (Program → Machine → State → Type 0) → Type 0
-IsKeptByClaims Fact = (p : Program) (m : Machine) (s s' : State) (t : Task) (w : Worker) → IsSound p m s → Claims p m s t w s' → Fact p m s'
+IsKeptByClaims Fact = (p : Program) (m : Machine) (s : State) (t : Task) (w : Worker) → IsSound p m s → May p m s (Claim t w) → Fact p m (after p m s (Claim t w))
 
 -- the fact holds after each run that begins in a coherent state
 abbrev pub IsKeptByRuns : (Program → Machine → State → Type 0) → Type 0
-IsKeptByRuns Fact = (p : Program) (m : Machine) (s s' : State) (t : Task) (w : Worker) → IsSound p m s → Runs p m s t w s' → Fact p m s'
+IsKeptByRuns Fact = (p : Program) (m : Machine) (s : State) (t : Task) (w : Worker) → IsSound p m s → May p m s (Run t w) → Fact p m (after p m s (Run t w))
 
 -- the fact holds after each end in a coherent state
 abbrev pub IsKeptByEnds : (Program → Machine → State → Type 0) → Type 0
-IsKeptByEnds Fact = (p : Program) (m : Machine) (s s' : State) (t : Task) (w : Worker) → IsSound p m s → Ends p m s t w s' → Fact p m s'
+IsKeptByEnds Fact = (p : Program) (m : Machine) (s : State) (t : Task) (w : Worker) → IsSound p m s → May p m s (End t w) → Fact p m (after p m s (End t w))
 
 -- the fact holds after each move into a node that begins in a coherent state
 abbrev pub IsKeptByMovesIn : (Program → Machine → State → Type 0) → Type 0
-IsKeptByMovesIn Fact = (p : Program) (m : Machine) (s s' : State) (c : Cell) (from : Place) (n : Node) (w : Worker) → IsSound p m s → BeginsMoveIn p m s c from n w s' → Fact p m s'
+IsKeptByMovesIn Fact = (p : Program) (m : Machine) (s : State) (c : Cell) (from : Place) (n : Node) → IsSound p m s → May p m s (Move c from (AtNode n)) → Fact p m (after p m s (Move c from (AtNode n)))
 
 -- the fact holds after each move out to a disk that begins in a coherent state
 abbrev pub IsKeptByMovesOut : (Program → Machine → State → Type 0) → Type 0
-IsKeptByMovesOut Fact = (p : Program) (m : Machine) (s s' : State) (c : Cell) (from : Place) (d : DiskNo) (w : Worker) → IsSound p m s → BeginsMoveOut p m s c from d w s' → Fact p m s'
+IsKeptByMovesOut Fact = (p : Program) (m : Machine) (s : State) (c : Cell) (from : Place) (d : DiskNo) → IsSound p m s → May p m s (Move c from (OnDisk d)) → Fact p m (after p m s (Move c from (OnDisk d)))
 
 -- the fact holds after each move that ends in a coherent state
 abbrev pub IsKeptByEndedMoves : (Program → Machine → State → Type 0) → Type 0
-IsKeptByEndedMoves Fact = (p : Program) (m : Machine) (s s' : State) (c : Cell) (from to : Place) (w : Worker) → IsSound p m s → EndsMove p s c from to w s' → Fact p m s'
+IsKeptByEndedMoves Fact = (p : Program) (m : Machine) (s : State) (c : Cell) (from to : Place) → IsSound p m s → May p m s (Moved c from to) → Fact p m (after p m s (Moved c from to))
 
 -- the fact holds after each drop in a coherent state
 abbrev pub IsKeptByDrops : (Program → Machine → State → Type 0) → Type 0
-IsKeptByDrops Fact = (p : Program) (m : Machine) (s s' : State) (c : Cell) (n : Node) → IsSound p m s → Drops m s c n s' → Fact p m s'
+IsKeptByDrops Fact = (p : Program) (m : Machine) (s : State) (c : Cell) (n : Node) → IsSound p m s → May p m s (Drop c n) → Fact p m (after p m s (Drop c n))
 
 -- ---- the set of a program's codelets
 
@@ -81,7 +82,7 @@ pub record IsLawful (has : Kernel → Bool) (p : Program) : Type 0 where
 
 -- the fact holds after each end in a coherent state, by the laws of the program's set
 abbrev pub IsKeptByLawfulEnds : (Program → Machine → State → Type 0) → Type 0
-IsKeptByLawfulEnds Fact = (has : Kernel → Bool) (p : Program) (m : Machine) (s s' : State) (t : Task) (w : Worker) → IsSound p m s → IsLawful has p → Ends p m s t w s' → Fact p m s'
+IsKeptByLawfulEnds Fact = (has : Kernel → Bool) (p : Program) (m : Machine) (s : State) (t : Task) (w : Worker) → IsSound p m s → IsLawful has p → May p m s (End t w) → Fact p m (after p m s (End t w))
 
 -- ---- what a task finds
 
@@ -113,13 +114,14 @@ TakesAnyWorker = (has : Kernel → Bool) (p : Program) (n : ℕ) (c : Cell) (by 
 
 -- ---- whole traces
 
--- a step leaves one state
-abbrev pub StepsLeaveOneState : Type 0
-StepsLeaveOneState = (p : Program) (m : Machine) (s s' : State) (e : Event) → Step p m s e s' → s' ≡ after p m s e
+-- a trace that is one event longer is legal exactly where the trace is, and the event may happen in the state that it leaves
+pub record LegalByOneMore (p : Program) (m : Machine) (trace : List Event) (e : Event) : Type 0 where
+  pub both_suffice : IsLegal p m trace → May p m (state_of p m trace) e → IsLegal p m (trace ++ e ∷ [])
+  pub trace_is_legal : IsLegal p m (trace ++ e ∷ []) → IsLegal p m trace
+  pub event_may_happen : IsLegal p m (trace ++ e ∷ []) → May p m (state_of p m trace) e
 
--- and so does a legal trace
-abbrev pub TracesLeaveOneState : Type 0
-TracesLeaveOneState = (p : Program) (m : Machine) (s : State) (trace : List Event) → Replays p m trace s → s ≡ state_of p m trace
+abbrev pub TracesGoOn : Type 0
+TracesGoOn = (p : Program) (m : Machine) (trace : List Event) (e : Event) → LegalByOneMore p m trace e
 
 -- in a coherent state a transfer that is under way is the one that its event speaks of
 abbrev pub MovesHaveOneWorker : Type 0
@@ -152,8 +154,8 @@ CompleteHoldsFinal = (has : Kernel → Bool) (p : Program) (m : Machine) (s : St
 
 -- each legal trace of a proper program leaves a coherent state, by the laws of its set
 abbrev pub TracesKeepCoherence : Type 0
-TracesKeepCoherence = (has : Kernel → Bool) (p : Program) (m : Machine) (s : State) (trace : List Event) → Proper p → IsMachineFor p m → IsLawful has p → Replays p m trace s → Coherent p m s
+TracesKeepCoherence = (has : Kernel → Bool) (p : Program) (m : Machine) (trace : List Event) → Proper p → IsMachineFor p m → IsLawful has p → IsLegal p m trace → Coherent p m (state_of p m trace)
 
 -- and where it is complete, that state holds what all tasks leave
 abbrev pub CompleteTracesHoldFinal : Type 0
-CompleteTracesHoldFinal = (has : Kernel → Bool) (p : Program) (m : Machine) (s : State) (trace : List Event) → Proper p → IsMachineFor p m → IsLawful has p → Replays p m trace s → IsComplete s → HoldsFinal p s
+CompleteTracesHoldFinal = (has : Kernel → Bool) (p : Program) (m : Machine) (trace : List Event) → Proper p → IsMachineFor p m → IsLawful has p → IsFinished p m trace → HoldsFinal p (state_of p m trace)

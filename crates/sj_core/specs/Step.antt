@@ -1,6 +1,6 @@
--- The legal steps of a run: for each kind of event what it needs, and the state that it leaves
+-- The legal steps of a run: for each kind of event what it needs (`May`), and the state that it leaves (`after`)
 -- (StarPU Handbook, "Data Management" and "Out Of Core"; CCPE 2011, "Data management").
-use Rattle.std.specs.Prelude.{◌≡◌, ℕ, ◌+◌, ◌<◌, ◌≤◌, Bool, false, not, ◌&&◌, ◌||◌, IsTrue, nat_eq, Option, Some, None, List, [], ◌∷◌, ◌++◌, map, filter, fold, length, sum_by, unwrap_or, slice_get, option_map, option_and_then, if◌then◌else◌}
+use Rattle.std.specs.Prelude.{◌≡◌, ℕ, ◌+◌, ◌<◌, ◌≤◌, Bool, false, not, ◌&&◌, ◌||◌, IsTrue, nat_eq, Option, Some, None, List, [], ◌∷◌, ◌++◌, map, filter, fold, length, sum_by, unwrap_or, is_some, slice_get, option_map, option_and_then, if◌then◌else◌}
 use Rattle.std.specs.List.{slice_set, list_any, list_all, range_with_len, zip, position}
 use Rattle.sj_base.specs.declared.ids.Cell.{Cell}
 use Rattle.sj_base.specs.declared.ids.Task.{Task}
@@ -133,7 +133,7 @@ after_claim p m s t w evicted =
     }
 
 -- `claim t w`: the worker takes a ready task, pins its cells, and makes room for what it brings
-pub record Claims (p : Program) (m : Machine) (s : State) (t : Task) (w : Worker) (s' : State) : Type 0 where
+pub record CanClaim (p : Program) (m : Machine) (s : State) (t : Task) (w : Worker) : Type 0 where
   pub worker : w.0 < p.workers
   pub waiting : progress s t ≡ Waiting
   pub ready : Ready p (done_tasks s) t.0
@@ -141,9 +141,7 @@ pub record Claims (p : Program) (m : Machine) (s : State) (t : Task) (w : Worker
   pub fits : footprint p t ≤ node_size m (node_of m w)
   pub settled : IsTrue (none_leaving s (node_of m w))
   pub alone : IsTrue (list_all (λ c. not (is_in_use p s c)) (commuting_cells p t))
-  pub evicted : List Cell
-  pub chosen : victims_for p m s t w ≡ Some evicted
-  pub leaves : s' ≡ after_claim p m s t w evicted
+  pub room : IsTrue (is_some (victims_for p m s t w))
 
 -- ---- moves and drops
 
@@ -151,34 +149,26 @@ abbrev pub a_transfer : Cell → Place → Place → Transfer
 a_transfer c from to = record { cell = c; from = from; to = to }
 
 -- `move c from to` into a node: its worker begins to bring a cell of its claim
-pub record BeginsMoveIn (p : Program) (m : Machine) (s : State) (c : Cell) (from : Place) (n : Node) (w : Worker) (s' : State) : Type 0 where
+pub record CanMoveIn (p : Program) (m : Machine) (s : State) (c : Cell) (from : Place) (n : Node) (w : Worker) : Type 0 where
   pub own_node : n ≡ node_of m w
   pub free : transfer s w ≡ None
   pub coming : IsTrue (is_coming_by w (replica s c (AtNode n)))
   pub old_value_needed : IsTrue (not (is_fresh p s w c))
   pub room : IsTrue (has_room m s w)
   pub source : source_of p m s c ≡ Some from
-  pub leaves : s' ≡ with_transfer s w (Some (a_transfer c from (AtNode n)))
 
 -- `move c from to` out to a disk: a worker begins to write a victim of its claim that has no other valid replica
-pub record BeginsMoveOut (p : Program) (m : Machine) (s : State) (c : Cell) (from : Place) (d : DiskNo) (w : Worker) (s' : State) : Type 0 where
+pub record CanMoveOut (p : Program) (m : Machine) (s : State) (c : Cell) (from : Place) (d : DiskNo) (w : Worker) : Type 0 where
   pub free : transfer s w ≡ None
   pub leaving : IsTrue (is_leaving_by w (replica s c from))
   pub only : IsTrue (not (is_valid_elsewhere m s c from))
   pub target : disk_of p m c ≡ Some d
-  pub leaves : s' ≡ with_transfer s w (Some (a_transfer c from (OnDisk d)))
-
--- `moved c from to`: the transfer is over, and the replica at its target is valid
-pub record EndsMove (p : Program) (s : State) (c : Cell) (from to : Place) (w : Worker) (s' : State) : Type 0 where
-  pub under_way : transfer s w ≡ Some (a_transfer c from to)
-  pub leaves : s' ≡ with_transfer (with_replica s c to (Valid (array_at p s from c))) w None
 
 -- `drop c n`: a leaving replica that no transfer reads goes, since another is valid
-pub record Drops (m : Machine) (s : State) (c : Cell) (n : Node) (s' : State) : Type 0 where
+pub record CanDrop (m : Machine) (s : State) (c : Cell) (n : Node) : Type 0 where
   pub leaving : IsTrue (is_leaving (replica s c (AtNode n)))
   pub unread : IsTrue (not (is_read m s c (AtNode n)))
   pub shared : IsTrue (is_valid_elsewhere m s c (AtNode n))
-  pub leaves : s' ≡ with_replica s c (AtNode n) Invalid
 
 -- ---- run and end
 
@@ -207,13 +197,12 @@ abbrev pub is_present : Program → State → Task → Worker → Node → Bool
 is_present p s t w n = list_all (λ c. has_cell (fresh_cells p t w) c || is_valid (replica s c (AtNode n))) (cells_of p t w)
 
 -- `run t w`: the kernel of a claimed task begins
-pub record Runs (p : Program) (m : Machine) (s : State) (t : Task) (w : Worker) (s' : State) : Type 0 where
+pub record CanRun (p : Program) (m : Machine) (s : State) (t : Task) (w : Worker) : Type 0 where
   pub claimed : progress s t ≡ Claimed w
   pub earlier : EarlierAreDone p s t
   pub room : IsTrue (has_room m s w)
   pub present : IsTrue (is_present p s t w (node_of m w))
   pub unmoved : IsTrue (list_all (λ c. not (is_moving m s c)) (written_cells p t w))
-  pub leaves : s' ≡ after_run p m s t w
 
 -- the new array of a written cell, from the arrays on the node
 abbrev pub result_at : Program → State → Task → Worker → Node → Cell → Array
@@ -234,12 +223,7 @@ after_end p m s t w =
       workers = slice_set s.workers w.0 (record { pins = []; scratch = 0; victims = victims_of s w; transfer = transfer s w });
     }
 
--- `end t w`: the kernel of a running task has ended
-pub record Ends (p : Program) (m : Machine) (s : State) (t : Task) (w : Worker) (s' : State) : Type 0 where
-  pub running : progress s t ≡ Running w
-  pub leaves : s' ≡ after_end p m s t w
-
--- ---- the step relation
+-- ---- what an event needs
 
 -- the worker by whose claim a replica is coming or leaving
 abbrev pub claimant_of : Replica → Worker
@@ -252,15 +236,15 @@ abbrev pub mover_of : State → Cell → Place → Place → Worker
 mover_of s c from (AtNode n) = claimant_of (replica s c (AtNode n))
 mover_of s c from (OnDisk d) = claimant_of (replica s c from)
 
--- the event is legal in s, and leaves s'
-abbrev pub Step : Program → Machine → State → Event → State → Type 0
-Step p m s (Claim t w) s' = Claims p m s t w s'
-Step p m s (Move c from (AtNode n)) s' = BeginsMoveIn p m s c from n (mover_of s c from (AtNode n)) s'
-Step p m s (Move c from (OnDisk d)) s' = BeginsMoveOut p m s c from d (mover_of s c from (OnDisk d)) s'
-Step p m s (Moved c from to) s' = EndsMove p s c from to (mover_of s c from to) s'
-Step p m s (Drop c n) s' = Drops m s c n s'
-Step p m s (Run t w) s' = Runs p m s t w s'
-Step p m s (End t w) s' = Ends p m s t w s'
+-- what the event needs of the state in which it is legal; a transfer that ends is the mover's, a task that ends runs on its worker
+abbrev pub May : Program → Machine → State → Event → Type 0
+May p m s (Claim t w) = CanClaim p m s t w
+May p m s (Move c from (AtNode n)) = CanMoveIn p m s c from n (mover_of s c from (AtNode n))
+May p m s (Move c from (OnDisk d)) = CanMoveOut p m s c from d (mover_of s c from (OnDisk d))
+May p m s (Moved c from to) = transfer s (mover_of s c from to) ≡ Some (a_transfer c from to)
+May p m s (Drop c n) = CanDrop m s c n
+May p m s (Run t w) = CanRun p m s t w
+May p m s (End t w) = progress s t ≡ Running w
 
 -- ---- the state that an event leaves
 

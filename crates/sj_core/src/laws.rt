@@ -6,7 +6,7 @@ ghost use Rattle.sj_base.specs.declared.trace.Event.{Event};
 ghost use Rattle.sj_base.specs.declared.program.Program.{Program};
 ghost use Rattle.sj_base.specs.declared.program.Machine.{Machine};
 ghost use Rattle.sj_core.specs.Coherent.{Coherent, IsStateOf, NodesSuffice, OrderIsKept, PinsHold, TasksHaveCells, TransfersAreSound, WorkersAreSound, WritesAreCounted};
-ghost use Rattle.sj_core.specs.Laws.{CompleteHoldsFinal, CompleteTracesHoldFinal, DeliversGiven, DisksAreOfMachine, EachCellHasDisk, FindsContent, FindsEarlierTasks, IsKeptByClaims, IsKeptByDrops, IsKeptByEndedMoves, IsKeptByEnds, IsKeptByLawfulEnds, IsKeptByMovesIn, IsKeptByMovesOut, IsKeptByRuns, LegalTracesAreBounded, MovesHaveOneWorker, StepsLeaveOneState, TakesAnyWorker, TracesKeepCoherence, TracesLeaveOneState};
+ghost use Rattle.sj_core.specs.Laws.{CompleteHoldsFinal, CompleteTracesHoldFinal, DeliversGiven, DisksAreOfMachine, EachCellHasDisk, FindsContent, FindsEarlierTasks, IsKeptByClaims, IsKeptByDrops, IsKeptByEndedMoves, IsKeptByEnds, IsKeptByLawfulEnds, IsKeptByMovesIn, IsKeptByMovesOut, IsKeptByRuns, LegalTracesAreBounded, MovesHaveOneWorker, TakesAnyWorker, TracesGoOn, TracesKeepCoherence};
 ghost use Rattle.sj_core.specs.Legal.{IsFinished};
 ghost use Rattle.sj_core.specs.Machine.{opening};
 ghost use Rattle.sj_core.specs.Once.{EachRanOnce};
@@ -86,10 +86,10 @@ pub fn traces()
     ensures hold_final { CompleteTracesHoldFinal }
 {}
 
-/// The state that a step leaves, and that a legal trace leaves, is a function of its events.
+/// A trace goes on by an event that may happen in the state that it leaves, and is legal then. Which worker moves a cell is a function
+/// of the state.
 pub fn states()
-    ensures steps { StepsLeaveOneState }
-    ensures traces { TracesLeaveOneState }
+    ensures go_on { TracesGoOn }
     ensures moves { MovesHaveOneWorker }
 {}
 

@@ -21,7 +21,7 @@ use Rattle.sj_core.specs.Machine.{Replica, State, array_of, is_running_on, progr
 use Rattle.sj_core.specs.Needs.{node_of}
 use Rattle.sj_core.specs.Operands.{cells_of, worked_on, written_cells}
 use Rattle.sj_core.specs.Program.{dims_of, has_cell, task_of}
-use Rattle.sj_core.specs.Step.{Runs, after, array_at}
+use Rattle.sj_core.specs.Step.{CanRun, after, after_run, array_at}
 use Rattle.sj_core.proofs.Found.{found-not_fresh}
 use Rattle.sj_core.proofs.Reading.{entry-inside, progress-inside, progress-same}
 use Rattle.sj_core.proofs.Readiness.{Contains-from_filter, filter-Contains}
@@ -41,16 +41,16 @@ use Rattle.sj_engine.specs.Turn.{IsTurnOf}
 use Rattle.sj_engine.proofs.BoardTurns.{has_event-turn, state-after}
 use Rattle.sj_engine.proofs.OwnRows.{has-task, runs-row}
 
-module _ (p : Program) (m : Machine) (s : State) (h : IsSound p m s) (t : Task) (w : Worker) (known : w.0 < p.workers) (s' : State) (run : Runs p m s t w s') where
+module _ (p : Program) (m : Machine) (s : State) (h : IsSound p m s) (t : Task) (w : Worker) (known : w.0 < p.workers) (s' : State) (run : CanRun p m s t w) (leaves : s' ≡ after_run p m s t w) where
   -- what the task reads is there as it was
   read-same : (a : Access) → Contains (task_of p t).accesses a → reads_value a.mode ≡ true → array_at p s' (AtNode (node_of m w)) (worked_on p w a) ≡ array_at p s (AtNode (node_of m w)) (worked_on p w a)
   read-same a among reads = elim (cases_Bool (has_cell (written_cells p t w) (worked_on p w a))) [
-    | inr spared ↦ ap (λ (r : Replica). unwrap_or (array_of r) (zeros (dims_of p (worked_on p w a)))) (run-other p m s t w s' run (worked_on p w a) (AtNode (node_of m w)) spared)
+    | inr spared ↦ ap (λ (r : Replica). unwrap_or (array_of r) (zeros (dims_of p (worked_on p w a)))) (run-other p m s t w s' run leaves (worked_on p w a) (AtNode (node_of m w)) spared)
     | inl written ↦ (
         let c = worked_on p w a in
         let inside = entry-inside s c (node_of m w) (h.coherent.cells.claimed t w c run.claimed (written-among_cells p t w c written)) in
         let fresh = found-not_fresh p h.proper t w known a among (ap not reads) in
-        ap (λ (r : Replica). unwrap_or (array_of r) (zeros (dims_of p c))) (run-own p m s t w s' run c written inside.0 inside.1)
+        ap (λ (r : Replica). unwrap_or (array_of r) (zeros (dims_of p c))) (run-own p m s t w s' run leaves c written inside.0 inside.1)
         ∙ ap (λ b. cond b (zeros (dims_of p c)) (array_at p s (AtNode (node_of m w)) c)) fresh
         )
   ]
@@ -129,7 +129,7 @@ module _ {D : Type 0} (size faults mismatches : D → ℕ) (held : D → Option 
             cells = cells-now;
             shares = zip-arrays held b w holds tell (read_operands b.run.program t) slots own (λ a among.
                 sym (ap (λ (k : State). array_at b.run.program k (AtNode (node_of b.run.machine w)) (worked_on b.run.program w a)) its-state
-                ∙ read-same b.run.program b.run.machine (state b.run) h t w known (after b.run.program b.run.machine (state b.run) (Run t w)) can a
+                ∙ read-same b.run.program b.run.machine (state b.run) h t w known (after b.run.program b.run.machine (state b.run) (Run t w)) can refl a
                 (Contains-from_filter (λ (k : Access). reads_value k.mode) (task_of b.run.program t).accesses a among) (filter-Contains (λ (k : Access). reads_value k.mode) (task_of b.run.program t).accesses a among)));
           };
         })

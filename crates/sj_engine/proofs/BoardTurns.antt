@@ -154,7 +154,7 @@ module _ {D : Type 0} (size faults mismatches : D → ℕ) (held : D → Option 
     mover-is = sym (one-mover b.run.program b.run.machine s tr.cell tr.from tr.to w here.run.coherent under-way)
 
     pub can-end : CanHappen b.run (Moved tr.cell tr.from tr.to)
-    can-end = record { under_way = ap (transfer s) mover-is ∙ under-way; leaves = refl }
+    can-end = ap (transfer s) mover-is ∙ under-way
 
     module _ (moved : EndsMoveOf w x y) (spares : SparesMoved w x.run y.run) where
       moved-is : y ≡ has_event b (Moved tr.cell tr.from tr.to)

@@ -111,7 +111,7 @@ module _ {D : Type 0} (size faults mismatches : D → ℕ) (held : D → Option 
     end-task = subst (λ (k : BoardState D). HasTask k w t) (sym ex) (has-task b w known t r.hand)
 
     can-end : CanHappen b.run (End t w)
-    can-end = record { running = runs; leaves = refl }
+    can-end = runs
 
     pub end-can : CanHappen x.run (End t w)
     end-can = subst (λ (k : BoardState D). CanHappen k.run (End t w)) (sym ex) can-end

@@ -4,6 +4,7 @@ use Rattle.std.specs.Prelude.{is_some}
 use Rattle.std.proofs.lemmas.Bool.{cases_lt, false≢true}
 use Rattle.std.proofs.lemmas.Bool.Decides.{Decides-eqb}
 use Rattle.std.proofs.lemmas.List.{get_or-set_other, get_or-set_same, get_or_past, length-set}
+use Rattle.sj_core.proofs.Eviction.{evicted-after}
 use Rattle.sj_base.specs.declared.ids.Cell.{Cell}
 use Rattle.sj_base.specs.declared.ids.Place.{Place}
 use Rattle.sj_base.specs.declared.ids.Place.TheVariants.{Node as AtNode, Disk as OnDisk}
@@ -22,7 +23,7 @@ use Rattle.sj_core.specs.Machine.{CellState, State, array_of, cell_state, is_run
 use Rattle.sj_core.specs.Needs.{node_of}
 use Rattle.sj_core.specs.Operands.{cells_of, written_cells}
 use Rattle.sj_core.specs.Program.{has_cell, same_cell}
-use Rattle.sj_core.specs.Step.{Step, array_at, initial, is_read, mover_of, owned_at, reads, result_at, rewritten_at, same_place}
+use Rattle.sj_core.specs.Step.{May, after, array_at, initial, is_read, mover_of, owned_at, reads, result_at, rewritten_at, same_place}
 use Rattle.sj_core.proofs.Claiming.{claim-writes, pinned-at}
 use Rattle.sj_core.proofs.Ending.{end-other_worker}
 use Rattle.sj_core.proofs.Placing.{cells_differ}
@@ -167,62 +168,62 @@ module _ (p : Program) (m : Machine) (s : State) (h : IsSound p m s) (v : Worker
     not-waiting : (t u : Task) → progress s t ≡ Waiting → is_task_of v (progress s u) ≡ true → u ≢ t
     not-waiting t u is has same = false≢true (sym (ap (is_task_of v) is) ∙ ap (λ (k : Task). is_task_of v (progress s k)) (sym same) ∙ has)
 
-    pub Step-stays : (e : Event) (s' : State) → IsBy m s w e → Step p m s e s' → SparesUsed p m s e s' → StaysFor p m s s' v
-    Step-stays (Claim t x) s' by step spares = record {
-      phase = λ u has. ap (λ (z : State). progress z u) step.leaves ∙ progress-other s t u (Claimed x) (not-waiting t u step.waiting has);
-      holds = ap (λ (z : State). worker_state z v) step.leaves ∙ worker-other s x v _ (subst (λ (k : Worker). v ≢ k) (sym by) other);
+    pub Step-stays : (e : Event) (s' : State) → IsBy m s w e → May p m s e → s' ≡ after p m s e → SparesUsed p m s e s' → StaysFor p m s s' v
+    Step-stays (Claim t x) s' by step leaves spares = record {
+      phase = λ u has. ap (λ (z : State). progress z u) leaves ∙ progress-other s t u (Claimed x) (not-waiting t u step.waiting has);
+      holds = ap (λ (z : State). worker_state z v) leaves ∙ worker-other s x v _ (subst (λ (k : Worker). v ≢ k) (sym by) other);
       cells = spared-cells s' (Claim t x) spares (λ u c runs cell. refl) (λ y under_way. refl);
       carried = spared-moved s' (Claim t x) spares (λ u c runs cell. refl) (λ y under_way. refl);
-      writes = λ y under_way. claim-writes p m s t x s' step y.cell;
+      writes = λ y under_way. claim-writes p m s t x s' step (leaves ∙ (evicted-after p m s t x)) y.cell;
     }
-    Step-stays (Move c from (AtNode n)) s' by step spares = record {
-      phase = λ u has. ap (λ (z : State). progress z u) step.leaves;
-      holds = ap (λ (z : State). worker_state z v) step.leaves ∙ worker-other s (mover_of s c from (AtNode n)) v _ (subst (λ (k : Worker). v ≢ k) (sym by) other);
+    Step-stays (Move c from (AtNode n)) s' by step leaves spares = record {
+      phase = λ u has. ap (λ (z : State). progress z u) leaves;
+      holds = ap (λ (z : State). worker_state z v) leaves ∙ worker-other s (mover_of s c from (AtNode n)) v _ (subst (λ (k : Worker). v ≢ k) (sym by) other);
       cells = spared-cells s' (Move c from (AtNode n)) spares (λ u d runs cell. refl) (λ y under_way. refl);
       carried = spared-moved s' (Move c from (AtNode n)) spares (λ u d runs cell. refl) (λ y under_way. refl);
-      writes = λ y under_way. ap (λ (z : State). writes z y.cell) step.leaves;
+      writes = λ y under_way. ap (λ (z : State). writes z y.cell) leaves;
     }
-    Step-stays (Move c from (OnDisk d)) s' by step spares = record {
-      phase = λ u has. ap (λ (z : State). progress z u) step.leaves;
-      holds = ap (λ (z : State). worker_state z v) step.leaves ∙ worker-other s (mover_of s c from (OnDisk d)) v _ (subst (λ (k : Worker). v ≢ k) (sym by) other);
+    Step-stays (Move c from (OnDisk d)) s' by step leaves spares = record {
+      phase = λ u has. ap (λ (z : State). progress z u) leaves;
+      holds = ap (λ (z : State). worker_state z v) leaves ∙ worker-other s (mover_of s c from (OnDisk d)) v _ (subst (λ (k : Worker). v ≢ k) (sym by) other);
       cells = spared-cells s' (Move c from (OnDisk d)) spares (λ u k runs cell. refl) (λ y under_way. refl);
       carried = spared-moved s' (Move c from (OnDisk d)) spares (λ u k runs cell. refl) (λ y under_way. refl);
-      writes = λ y under_way. ap (λ (z : State). writes z y.cell) step.leaves;
+      writes = λ y under_way. ap (λ (z : State). writes z y.cell) leaves;
     }
-    Step-stays (Moved c from to) s' by step spares = record {
-      phase = λ u has. ap (λ (z : State). progress z u) step.leaves;
-      holds = ap (λ (z : State). worker_state z v) step.leaves ∙ worker-other s (mover_of s c from to) v _ (subst (λ (k : Worker). v ≢ k) (sym by) other);
+    Step-stays (Moved c from to) s' by step leaves spares = record {
+      phase = λ u has. ap (λ (z : State). progress z u) leaves;
+      holds = ap (λ (z : State). worker_state z v) leaves ∙ worker-other s (mover_of s c from to) v _ (subst (λ (k : Worker). v ≢ k) (sym by) other);
       cells = spared-cells s' (Moved c from to) spares (λ u d runs cell. refl) (λ y under_way. refl);
       carried = spared-moved s' (Moved c from to) spares (λ u d runs cell. refl) (λ y under_way. refl);
-      writes = λ y under_way. ap (λ (z : State). writes z y.cell) step.leaves ∙ writes-put s c to (Valid (array_at p s from c)) y.cell;
+      writes = λ y under_way. ap (λ (z : State). writes z y.cell) leaves ∙ writes-put s c to (Valid (array_at p s from c)) y.cell;
     }
-    Step-stays (Drop c n) s' by step spares = record {
-      phase = λ u has. ap (λ (z : State). progress z u) step.leaves;
-      holds = ap (λ (z : State). worker_state z v) step.leaves;
+    Step-stays (Drop c n) s' by step leaves spares = record {
+      phase = λ u has. ap (λ (z : State). progress z u) leaves;
+      holds = ap (λ (z : State). worker_state z v) leaves;
       cells = spared-cells s' (Drop c n) spares (λ u d runs cell. refl) (λ y under_way. refl);
       carried = spared-moved s' (Drop c n) spares (λ u d runs cell. refl) (λ y under_way. refl);
-      writes = λ y under_way. ap (λ (z : State). writes z y.cell) step.leaves ∙ writes-put s c (AtNode n) Invalid y.cell;
+      writes = λ y under_way. ap (λ (z : State). writes z y.cell) leaves ∙ writes-put s c (AtNode n) Invalid y.cell;
     }
-    Step-stays (Run t x) s' by step spares =
+    Step-stays (Run t x) s' by step leaves spares =
         let apart : (u : Task) → is_task_of v (progress s u) ≡ true → u ≢ t = λ u has. not-mine t u (Claimed x) step.claimed (λ k. sym by ∙ claimed-is x v k) has in
         record {
-          phase = λ u has. ap (λ (z : State). progress z u) step.leaves ∙ progress-other s t u (Running x) (apart u has);
-          holds = run-worker p m s t x s' step v;
-          cells = spared-cells s' (Run t x) spares (λ u c runs cell. run-spares p m s h t x s' step u v c (apart u (running-task v (progress s u) runs)) (running-task v (progress s u) runs) cell) (run-unmoved p m s h t x s' step v);
-          carried = spared-moved s' (Run t x) spares (λ u c runs cell. run-spares p m s h t x s' step u v c (apart u (running-task v (progress s u) runs)) (running-task v (progress s u) runs) cell) (run-unmoved p m s h t x s' step v);
-          writes = λ y under_way. ap (λ (z : State). writes z y.cell) step.leaves ∙ ap (λ (row : CellState). row.writes) (cells-untouched s (has_cell (written_cells p t x)) (λ c row. owned_at (node_of m x) (initial p s t x (node_of m x) c) row) y.cell (run-unmoved p m s h t x s' step v y under_way));
+          phase = λ u has. ap (λ (z : State). progress z u) leaves ∙ progress-other s t u (Running x) (apart u has);
+          holds = run-worker p m s t x s' step leaves v;
+          cells = spared-cells s' (Run t x) spares (λ u c runs cell. run-spares p m s h t x s' step leaves u v c (apart u (running-task v (progress s u) runs)) (running-task v (progress s u) runs) cell) (run-unmoved p m s h t x s' step leaves v);
+          carried = spared-moved s' (Run t x) spares (λ u c runs cell. run-spares p m s h t x s' step leaves u v c (apart u (running-task v (progress s u) runs)) (running-task v (progress s u) runs) cell) (run-unmoved p m s h t x s' step leaves v);
+          writes = λ y under_way. ap (λ (z : State). writes z y.cell) leaves ∙ ap (λ (row : CellState). row.writes) (cells-untouched s (has_cell (written_cells p t x)) (λ c row. owned_at (node_of m x) (initial p s t x (node_of m x) c) row) y.cell (run-unmoved p m s h t x s' step leaves v y under_way));
         }
-    Step-stays (End t x) s' by step spares =
-        let apart : (u : Task) → is_task_of v (progress s u) ≡ true → u ≢ t = λ u has. not-mine t u (Running x) step.running (λ k. sym by ∙ running-is x v k) has in
-        let mine : is_task_of x (progress s t) ≡ true = ap (is_task_of x) step.running ∙ same_worker-refl x in
+    Step-stays (End t x) s' by step leaves spares =
+        let apart : (u : Task) → is_task_of v (progress s u) ≡ true → u ≢ t = λ u has. not-mine t u (Running x) step (λ k. sym by ∙ running-is x v k) has in
+        let mine : is_task_of x (progress s t) ≡ true = ap (is_task_of x) step ∙ same_worker-refl x in
         let unwritten : (u : Task) (c : Cell) → is_running_on v (progress s u) ≡ true → has_cell (cells_of p u v) c ≡ true → has_cell (written_cells p t x) c ≡ false = λ u c runs cell.
         not-so (has_cell (written_cells p t x) c) (separated p m h.proper.cells (Proper-dependencies p h.proper) s h.coherent.state h.coherent.workers h.coherent.order u t v x c (apart u (running-task v (progress s u) runs)) (running-task v (progress s u) runs) mine cell) in
         let unmoved : (y : Transfer) → transfer s v ≡ Some y → has_cell (written_cells p t x) y.cell ≡ false = λ y under_way.
-        not-so (has_cell (written_cells p t x) y.cell) (λ written. false≢true (sym ((h.coherent.writers.owned t x y.cell step.running written).unmoved v) ∙ moves-it s v y under_way)) in
+        not-so (has_cell (written_cells p t x) y.cell) (λ written. false≢true (sym ((h.coherent.writers.owned t x y.cell step written).unmoved v) ∙ moves-it s v y under_way)) in
         record {
-          phase = λ u has. ap (λ (z : State). progress z u) step.leaves ∙ progress-other s t u (Done x) (apart u has);
-          holds = end-other_worker p m s t x s' step v (subst (λ (k : Worker). v ≢ k) (sym by) other);
+          phase = λ u has. ap (λ (z : State). progress z u) leaves ∙ progress-other s t u (Done x) (apart u has);
+          holds = end-other_worker p m s t x s' step leaves v (subst (λ (k : Worker). v ≢ k) (sym by) other);
           cells = spared-cells s' (End t x) spares unwritten unmoved;
           carried = spared-moved s' (End t x) spares unwritten unmoved;
-          writes = λ y under_way. ap (λ (z : State). writes z y.cell) step.leaves ∙ ap (λ (row : CellState). row.writes) (cells-untouched s (has_cell (written_cells p t x)) (λ c row. rewritten_at (node_of m x) (result_at p s t x (node_of m x) c) row) y.cell (unmoved y under_way));
+          writes = λ y under_way. ap (λ (z : State). writes z y.cell) leaves ∙ ap (λ (row : CellState). row.writes) (cells-untouched s (has_cell (written_cells p t x)) (λ c row. rewritten_at (node_of m x) (result_at p s t x (node_of m x) c) row) y.cell (unmoved y under_way));
         }

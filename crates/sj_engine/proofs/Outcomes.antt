@@ -52,9 +52,6 @@ module _ {D : Type 0} (size faults mismatches : D → ℕ) (held : D → Option 
     abbrev pub s : State
     s = state b.run
 
-    legal : IsLegal p m b.run.trace
-    legal = ∣ record { left = s; replays = sound.run.legal } ∣₁
-
     -- what stands in the extent of a cell stands in its block
     in-block : (c : Cell) (d : DiskNo) (k : Block) (o : Option Extent) → IsSomeAnd o (IsBlock p c k) → IsSomeAnd o (HoldsArray held b.run.disks.disks p s c (OnDisk d)) → HoldsBlockAt held b.run.disks.disks p s c d k
     in-block c d k None is holds = absurd is
@@ -84,7 +81,7 @@ module _ {D : Type 0} (size faults mismatches : D → ℕ) (held : D → Option 
         subst (λ (x : Result A RunFault). IsOutcome size faults mismatches held p m b.run.opened x pairs events back) (sym r)
         (subst (λ (x : List Event). IsOutcome size faults mismatches held p m b.run.opened (wanting {A = A}) pairs x back) (sym e)
         (subst (λ (x : List D). IsOutcome size faults mismatches held p m b.run.opened (wanting {A = A}) pairs b.run.trace x) (sym d) (record {
-          legal = legal;
+          legal = sound.run.legal;
           given_back = sound.run.given_back;
           finished = λ ok. absurd (false≢true ok);
           delivers = λ ok. absurd (false≢true ok);
@@ -116,9 +113,9 @@ module _ {D : Type 0} (size faults mismatches : D → ℕ) (held : D → Option 
         by_fault : (fault : Option RunFault) → b.fault ≡ fault → (result : Result A RunFault) → MatchOption fault (IsOk result) (λ f. result ≡ Err f) → IsOutcome size faults mismatches held p m b.run.opened result pairs b.run.trace b.run.disks.disks
         by_fault None e (Err f) ok = absurd (false≢true ok)
         by_fault None e (Ok x) ok = record {
-          legal = legal;
+          legal = sound.run.legal;
           given_back = sound.run.given_back;
-          finished = λ is. ∣ record { left = s; replays = sound.run.legal; complete = complete e } ∣₁;
+          finished = λ is. record { legal = sound.run.legal; complete = complete e };
           delivers = λ is. each (complete e);
           no_fault_is_swallowed = λ is. counts e;
           blocks = blocks;
@@ -126,7 +123,7 @@ module _ {D : Type 0} (size faults mismatches : D → ℕ) (held : D → Option 
           wanted = tt;
         }
         by_fault (Some f) e result r = subst (λ (x : Result A RunFault). IsOutcome size faults mismatches held p m b.run.opened x pairs b.run.trace b.run.disks.disks) (sym r) (record {
-          legal = legal;
+          legal = sound.run.legal;
           given_back = sound.run.given_back;
           finished = λ ok. absurd (false≢true ok);
           delivers = λ ok. absurd (false≢true ok);
@@ -164,7 +161,7 @@ module _ {D : Type 0} (size faults mismatches : D → ℕ) (held : D → Option 
         subst (λ (x : Result A RunFault). IsOutcome size faults mismatches held p m disks x pairs events back) (sym r)
         (subst (λ (x : List Event). IsOutcome size faults mismatches held p m disks (wanting {A = A}) pairs x back) (sym e)
         (subst (λ (x : List D). IsOutcome size faults mismatches held p m disks (wanting {A = A}) pairs [] x) (sym d) (record {
-          legal = ∣ record { left = opening p m; replays = refl } ∣₁;
+          legal = tt;
           given_back = all_given_back-untouched size faults mismatches held disks disks (all_untouched-same size faults mismatches held disks);
           finished = λ ok. absurd (false≢true ok);
           delivers = λ ok. absurd (false≢true ok);

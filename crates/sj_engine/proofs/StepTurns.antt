@@ -13,7 +13,7 @@ use Rattle.sj_core.specs.declared.progress.Progress.TheVariants.{Claimed}
 use Rattle.sj_core.specs.declared.progress.Transfer.{Transfer}
 use Rattle.sj_core.specs.Machine.{State, WorkerState, is_entry, progress, replica, transfer, with_transfer}
 use Rattle.sj_core.specs.Program.{dims_of}
-use Rattle.sj_core.specs.Step.{Step, a_transfer, after, array_at, mover_of}
+use Rattle.sj_core.specs.Step.{May, a_transfer, after, array_at, mover_of}
 use Rattle.sj_core.proofs.Reading.{entry-inside, worker-same}
 use Rattle.sj_core.proofs.Replicas.{coming_by-is, leaving_by-is}
 use Rattle.sj_machine.specs.Board.{BoardState, hand_of, has_event, transfer_of}
@@ -77,7 +77,7 @@ module _ {D : Type 0} (size faults mismatches : D → ℕ) (held : D → Option 
         ∙ ap (λ (k : Array). Some k) (sym (tile.array (subst (λ (k : BoardState D). AllTell held k.run) its-event tell))));
   }
 
-  fetch-here : (f g : Place) → Step b.run.program b.run.machine (state b.run) (Move c f g) (after b.run.program b.run.machine (state b.run) (Move c f g)) → is_node f ≡ false → (c.0 < length b.run.program.cells) × (is_node g ≡ true)
+  fetch-here : (f g : Place) → May b.run.program b.run.machine (state b.run) (Move c f g) → is_node f ≡ false → (c.0 < length b.run.program.cells) × (is_node g ≡ true)
   fetch-here (AtNode n) g step e = absurd (false≢true (sym e))
   fetch-here (OnDisk d) (AtNode n) step e =
       (subst (λ k. c.0 < k) here.run.coherent.state.rows.cells (entry-inside (state b.run) c n (ap is_entry (coming_by-is _ (replica (state b.run) c (AtNode n)) step.coming))).0, refl)

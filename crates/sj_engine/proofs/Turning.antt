@@ -22,7 +22,7 @@ use Rattle.sj_core.specs.Machine.{State, WorkerState, is_running_on, is_task_of,
 use Rattle.sj_core.specs.Needs.{node_of}
 use Rattle.sj_core.specs.Operands.{cells_of}
 use Rattle.sj_core.specs.Program.{dims_of, has_cell, same_cell}
-use Rattle.sj_core.specs.Step.{Step, array_at}
+use Rattle.sj_core.specs.Step.{array_at}
 use Rattle.sj_core.proofs.States.{state_of-more}
 use Rattle.sj_disk.specs.Holding.{CountsStay}
 use Rattle.sj_machine.specs.Agrees.{idle}
@@ -201,9 +201,6 @@ module _ {D : Type 0} (faults mismatches : D → ℕ) (w : Worker) where
         s' : State
         s' = state (with_event b.run e)
 
-        step : Step p m (state b.run) e s'
-        step = subst (λ (z : State). Step p m (state b.run) e z) (sym (state_of-more p m b.run.trace e)) can
-
         spared : SparesUsed p m (state b.run) e s'
         spared = subst (λ (r : Standing D). SparesUsed p m (state b.run) e (state r)) run spares
 
@@ -213,7 +210,7 @@ module _ {D : Type 0} (faults mismatches : D → ℕ) (w : Worker) where
             let differs : v ≢ w = λ same. other (ap (λ (x : Worker). x.0) same) in
             ap (λ (r : Standing D). row_of_parts r.program r.machine (state r) v (hand_of b' v) r.trace) run
             ∙ ap (λ (h : Hand). row_of_parts p m s' v h (b.run.trace ++ e ∷ [])) (hands v differs)
-            ∙ row-kept p m (state b.run) s' v (hand_of b v) b.run.trace (b.run.trace ++ e ∷ []) (Step-stays p m (state b.run) the-state v w differs e s' by step spared)
+            ∙ row-kept p m (state b.run) s' v (hand_of b v) b.run.trace (b.run.trace ++ e ∷ []) (Step-stays p m (state b.run) the-state v w differs e s' by can (state_of-more p m b.run.trace e) spared)
             (λ u has. sound.inside.hands_agree.has v u has) (events-other n b.run.trace e (by-other m (state b.run) w v e differs by))
 
 -- the board is sound for the desk after a turn

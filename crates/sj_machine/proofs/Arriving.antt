@@ -14,7 +14,7 @@ use Rattle.sj_core.proofs.Reading.{idle_row, no_row, transfer-inside}
 use Rattle.sj_core.proofs.Replicas.{coming_by-is}
 use Rattle.sj_core.proofs.States.{one-mover}
 use Rattle.sj_core.specs.Coherent.{Coherent}
-use Rattle.sj_core.specs.Step.{EndsMove, a_transfer, after, array_at, disk_of, mover_of}
+use Rattle.sj_core.specs.Step.{a_transfer, after, array_at, disk_of, mover_of}
 use Rattle.sj_disk.specs.Directory.{extent_of}
 use Rattle.sj_machine.specs.Mark.{mark_of, owed_for}
 use Rattle.sj_machine.specs.declared.mark.Mark.TheVariants.{Valid as ValidMark}
@@ -56,7 +56,7 @@ module _ {D : Type 0} (size faults mismatches : D → ℕ) (held : D → Option 
     leaves = ap (λ (v : Worker). with_transfer placed v None) (sym mover)
 
     can : CanHappen b (Moved c from to)
-    can = subst (λ (v : Worker). EndsMove p s c from to v (with_transfer placed v None)) mover (record { under_way = under_way; leaves = refl })
+    can = subst (λ (v : Worker). transfer s v ≡ Some (a_transfer c from to)) mover under_way
 
     pub end-worker : w.0 < length rows.workers
     end-worker = omega (arith, transfer-inside s w (a_transfer c from to) under_way, ap length keeps.agrees.workers)

@@ -12,7 +12,7 @@ use Rattle.sj_core.proofs.Advancing.{claimed_by-is}
 use Rattle.sj_core.proofs.Replicas.{leaving_by-is, leaving_by-leaves}
 use Rattle.sj_core.proofs.Reading.{idle_row}
 use Rattle.sj_core.specs.Coherent.{Coherent, is_begun, is_being_written}
-use Rattle.sj_core.specs.Step.{BeginsMoveIn, BeginsMoveOut, a_transfer, after, disk_of, mover_of, source_of}
+use Rattle.sj_core.specs.Step.{CanMoveIn, CanMoveOut, a_transfer, after, disk_of, mover_of, source_of}
 use Rattle.sj_machine.specs.Agrees.{Agrees, Rows, owed_by_worker, owed_in, rows_of}
 use Rattle.sj_machine.specs.Copies.{CanShare, row_of, tile_at, tile_kept}
 use Rattle.sj_machine.specs.Sound.{HoldsBlocks, Keeps}
@@ -49,7 +49,7 @@ module _ {D : Type 0} (size faults mismatches : D → ℕ) (held : D → Option 
     where
       by_target : (q : Place) → CanHappen b (Move c from q) → mover_of s c from q ≡ w → Begins
       by_target (AtNode n) move by =
-          let step : BeginsMoveIn p m s c from n w (with_transfer s w (Some (a_transfer c from (AtNode n)))) = subst (λ (v : Worker). BeginsMoveIn p m s c from n v (with_transfer s v (Some (a_transfer c from (AtNode n))))) by move in
+          let step : CanMoveIn p m s c from n w = subst (λ (v : Worker). CanMoveIn p m s c from n v) by move in
           let claimed = coherent.pins.coming_claimed w c n step.coming in
           record {
             free = step.free;
@@ -71,7 +71,7 @@ module _ {D : Type 0} (size faults mismatches : D → ℕ) (held : D → Option 
                   let same : node ≡ k = (let at : Some (AtNode node) ≡ Some (AtNode k) = found in cc) in
                   ap (λ (x : Node). is_valid (replica s c (AtNode x))) (sym same) ∙ (position-Some is_valid (cell_state s c).nodes j Invalid e).1
       by_target (OnDisk d) move by =
-          let step : BeginsMoveOut p m s c from d w (with_transfer s w (Some (a_transfer c from (OnDisk d)))) = subst (λ (v : Worker). BeginsMoveOut p m s c from d v (with_transfer s v (Some (a_transfer c from (OnDisk d))))) by move in
+          let step : CanMoveOut p m s c from d w = subst (λ (v : Worker). CanMoveOut p m s c from d v) by move in
           let leaving : is_leaving (replica s c from) ≡ true = leaving_by-leaves w (replica s c from) step.leaving in
           record {
             free = step.free;

@@ -6,6 +6,7 @@ use Rattle.std.proofs.lemmas.List.{ext_get_or, get_or-replicate, get_or_past, ge
 use Rattle.std.proofs.lemmas.List.Folds.{sum_by-replicate}
 use Rattle.std.proofs.lemmas.List.FromFn.{get_or-map-range_with_len, length-map-range_with_len}
 use Rattle.std.proofs.lemmas.List.Sums.{AllPass-from_list_all, sum_by-cons}
+use Rattle.sj_core.proofs.Eviction.{evicted-after}
 use Rattle.sj_base.specs.declared.program.Lowered.{Lowered}
 use Rattle.sj_base.specs.declared.trace.Event.{Event}
 use Rattle.sj_base.specs.declared.trace.Event.TheVariants.{Claim, End, Moved, Run}
@@ -84,7 +85,7 @@ module _ {D : Type 0} (held : D → Option (List ℕ)) (run : Standing D) (pairs
     stays-claimed can run' is =
         subst (λ (r : Standing D). Keeps held r pairs gifts spare left) (sym is)
         (ends-claimed p s (state (with_event run (Claim t w))) (AllTell held run) pairs gifts spare left keeps t w (omega (arith, can.ready.task, sound.coherent.state.rows.tasks))
-        (subst (λ (z : State). Advances s z t Waiting (Claimed w)) (sym (now-is (Claim t w))) (Claims-advances p m s t w (after p m s (Claim t w)) sound.coherent.state.rows can))
+        (subst (λ (z : State). Advances s z t Waiting (Claimed w)) (sym (now-is (Claim t w))) (Claims-advances p m s t w (after p m s (Claim t w)) sound.coherent.state.rows can (evicted-after p m s t w)))
         (ap (λ (z : State). z.tasks) (now-is (Claim t w))))
 
     -- as a task begins to run, with what was taken for it to hand over
@@ -93,7 +94,7 @@ module _ {D : Type 0} (held : D → Option (List ℕ)) (run : Standing D) (pairs
         subst (λ (gs : List (Option Array)). Keeps held run' pairs gs spare left) (sym kept)
         (subst (λ (r : Standing D). Keeps held r pairs (set gifts w.0 gift) spare left) (sym is)
         (ends-begun p s (state (with_event run (Run t w))) (AllTell held run) pairs gifts spare left keeps t w (let i = claimed-inside p m s h t w can.claimed in omega (arith, i, sound.coherent.state.rows.tasks))
-        (subst (λ (z : State). Advances s z t (Claimed w) (Running w)) (sym (now-is (Run t w))) (Runs-advances p m s t w (after p m s (Run t w)) can))
+        (subst (λ (z : State). Advances s z t (Claimed w) (Running w)) (sym (now-is (Run t w))) (Runs-advances p m s t w (after p m s (Run t w)) can refl))
         (ap (λ (z : State). z.tasks) (now-is (Run t w)))
         (claimed-staffed p m s h t w can.claimed) (one (claimed-task_of s t w can.claimed)) gift
         (gift-kept size faults mismatches held run sound t w gift (run-has size faults mismatches held run sound t w can) is_gift)))
@@ -107,28 +108,28 @@ module _ {D : Type 0} (held : D → Option (List ℕ)) (run : Standing D) (pairs
       s' = state (with_event run (End t w))
 
       inside : t.0 < length p.tasks
-      inside = running-inside p m s t w sound.coherent.state.rows can.running
+      inside = running-inside p m s t w sound.coherent.state.rows can
 
       staffed : w.0 < p.workers
-      staffed = subst (λ (x : Progress). (worker_of x).0 < p.workers) can.running (sound.coherent.state.staff.staffed t (ap is_begun can.running))
+      staffed = subst (λ (x : Progress). (worker_of x).0 < p.workers) can (sound.coherent.state.staff.staffed t (ap is_begun can))
 
       row : t.0 < length s.tasks
       row = omega (arith, inside, sound.coherent.state.rows.tasks)
 
       step : Advances s s' t (Running w) (Done w)
-      step = subst (λ (z : State). Advances s z t (Running w) (Done w)) (sym (now-is (End t w))) (Ends-advances p m s t w (after p m s (End t w)) can)
+      step = subst (λ (z : State). Advances s z t (Running w) (Done w)) (sym (now-is (End t w))) (Ends-advances p m s t w (after p m s (End t w)) can refl)
 
       set-is : s'.tasks ≡ set s.tasks t.0 (Done w)
       set-is = ap (λ (z : State). z.tasks) (now-is (End t w))
 
       alone : (u : Task) → is_task_of w (progress s u) ≡ true → u ≡ t
-      alone = one (ap (is_task_of w) can.running ∙ same_worker-refl w)
+      alone = one (ap (is_task_of w) can ∙ same_worker-refl w)
 
       pub ends-staffed : w.0 < length gifts
       ends-staffed = omega (arith, staffed, keeps.gifts_kept.every_worker)
 
       pub ends-gift : IsGift held run t w (gift_in gifts w)
-      ends-gift = kept-gift size faults mismatches held run sound t w (gift_in gifts w) can.running (keeps.gifts_kept.kept w t can.running)
+      ends-gift = kept-gift size faults mismatches held run sound t w (gift_in gifts w) can (keeps.gifts_kept.kept w t can)
 
       pub ends-has_room : is_some (gift_in gifts w) ≡ true → 0 < spare
       ends-has_room = ends-spare p s s' (AllTell held run) pairs gifts spare left keeps t w row step set-is staffed inside alone
@@ -214,10 +215,10 @@ claims-alone {D} size faults mismatches held run sound t w can run' is q program
     subst (λ (x : Program). HoldsCommutersAlone x (state run') t w) program
     (subst (λ (r : Standing D). HoldsCommutersAlone run.program (state r) t w) (sym is)
     (subst (λ (z : State). HoldsCommutersAlone run.program z t w) (sym (state_of-more run.program run.machine run.trace (Claim t w)))
-    (holds-alone run.program run.machine s' coherent t w (ap (is_task_of w) (Claims-advances run.program run.machine (state run) t w s' sound.coherent.state.rows can).is ∙ claimed-is_mine w))))
+    (holds-alone run.program run.machine s' coherent t w (ap (is_task_of w) (Claims-advances run.program run.machine (state run) t w s' sound.coherent.state.rows can (evicted-after run.program run.machine (state run) t w)).is ∙ claimed-is_mine w))))
   where
     s' : State
     s' = after run.program run.machine (state run) (Claim t w)
 
     coherent : Coherent run.program run.machine s'
-    coherent = Claims-keeps_coherence run.program run.machine (state run) s' t w (record { proper = sound.run.proper; machine = sound.run.machine; coherent = sound.coherent }) can
+    coherent = Claims-keeps_coherence run.program run.machine (state run) t w (record { proper = sound.run.proper; machine = sound.run.machine; coherent = sound.coherent }) can

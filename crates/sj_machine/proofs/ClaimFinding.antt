@@ -1,5 +1,5 @@
 -- What a plan on a node says of the claim in the state: its cells, its victims, and why it can't be made.
-use Rattle.std.proofs.Common.{◌≡◌, ℕ, ◌+◌, ◌-◌, Bool, true, false, not, ◌&&◌, ◌||◌, List, [], ◌∷◌, ◌++◌, Option, Some, None, map, filter, length, reverse, option_map, refl, sym, ap, ◌∙◌, subst, arith, inl, inr, sum_by, nat_eq}
+use Rattle.std.proofs.Common.{◌≡◌, ℕ, ◌+◌, ◌-◌, Bool, true, false, not, ◌&&◌, ◌||◌, List, [], ◌∷◌, ◌++◌, Option, Some, None, map, filter, length, reverse, option_map, refl, sym, ap, ◌∙◌, subst, arith, inl, inr, sum_by, nat_eq, is_some}
 use Rattle.std.specs.List.{list_any}
 use Rattle.std.specs.Bool.{then_some}
 use Rattle.std.specs.Option.{option_or}
@@ -13,7 +13,7 @@ use Rattle.sj_core.proofs.Reading.{idle_row, no_row, same_cell-is}
 use Rattle.sj_core.proofs.Replicas.{leaving-by_some}
 use Rattle.sj_core.proofs.Words.{AtNode, Cell, CellState, Coming, Invalid, Leaving, Machine, Node, Program, Replica, State, Task, Valid, Worker, WorkerState, cells_of, distinct, free, has_cell, is_leaving, is_pinned, node_of, node_size, order, pins, replica, replica_in, same_cell, scratch, scratch_bytes, task_of, tile_bytes, victims_of, workers_at}
 use Rattle.sj_core.specs.Coherent.{Coherent}
-use Rattle.sj_core.specs.Step.{Claims, after, after_claim, missing, none_leaving, to_come, victims_for}
+use Rattle.sj_core.specs.Step.{May, missing, none_leaving, to_come, victims_for}
 use Rattle.sj_core.specs.Victims.{covers, shortest_suffix, victims}
 use Rattle.sj_base.specs.declared.trace.Event.TheVariants.{Claim}
 use Rattle.sj_node.proofs.CallerLemmas.{victims-map}
@@ -144,7 +144,7 @@ module _ (p : Program) (m : Machine) (s : State) (coherent : Coherent p m s) (ce
 -- ---- the claim
 
 module _ (p : Program) (m : Machine) (s : State) (t : Task) (w : Worker) (may : MayClaim p m s t w) (free : CommutersAreFree p s t) (settled : none_leaving s (node_of m w) ≡ true) where
-  pub can-claim : (evicted : List Cell) → victims_for p m s t w ≡ Some evicted → Claims p m s t w (after p m s (Claim t w))
+  pub can-claim : (evicted : List Cell) → victims_for p m s t w ≡ Some evicted → May p m s (Claim t w)
   can-claim evicted chosen = record {
     worker = may.worker;
     waiting = may.waiting;
@@ -153,20 +153,18 @@ module _ (p : Program) (m : Machine) (s : State) (t : Task) (w : Worker) (may : 
     fits = may.fits;
     settled = settled;
     alone = commuters-alone p s t free;
-    evicted = evicted;
-    chosen = chosen;
-    leaves = ap (λ (o : Option (List Cell)). after_claim p m s t w (unwrap_or o [])) chosen;
+    room = ap is_some chosen;
   }
 
   -- a plan on the node is the claim's
-  pub plan-right : (store : Store) (plan : ClaimPlan) → store ≡ store_of p m s (node_of m w) → Some plan ≡ option_map (planned p store t w) (chosen_on p store t w) → Claims p m s t w (after p m s (Claim t w)) × IsPlan p m s t w plan
+  pub plan-right : (store : Store) (plan : ClaimPlan) → store ≡ store_of p m s (node_of m w) → Some plan ≡ option_map (planned p store t w) (chosen_on p store t w) → May p m s (Claim t w) × IsPlan p m s t w plan
   plan-right store plan is found =
       by_chosen (victims_for p m s t w) refl (found ∙ ap (λ (x : Store). option_map (planned p x t w) (chosen_on p x t w)) is ∙ ap (option_map (planned p (store_of p m s (node_of m w)) t w)) (chosen-same p m s t w))
     where
       one : (x y : ClaimPlan) → Some x ≡ Some y → x ≡ y
       one x y e = cc
 
-      by_chosen : (o : Option (List Cell)) → victims_for p m s t w ≡ o → Some plan ≡ option_map (planned p (store_of p m s (node_of m w)) t w) o → Claims p m s t w (after p m s (Claim t w)) × IsPlan p m s t w plan
+      by_chosen : (o : Option (List Cell)) → victims_for p m s t w ≡ o → Some plan ≡ option_map (planned p (store_of p m s (node_of m w)) t w) o → May p m s (Claim t w) × IsPlan p m s t w plan
       by_chosen None chosen found = absurd (cc)
       by_chosen (Some evicted) chosen found =
           let same : plan ≡ plan_with p m s t w evicted = one plan (planned p (store_of p m s (node_of m w)) t w evicted) found ∙ planned-same p m s t w evicted in

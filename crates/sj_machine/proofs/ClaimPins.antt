@@ -1,5 +1,5 @@
 -- A worker pins at most as many cells as a codelet has operands, and so a node's entries have few pins.
-use Rattle.std.proofs.Common.{◌≡◌, ℕ, ◌≤◌, Bool, ◌&&◌, List, [], ◌∷◌, map, length, get_or, set, replicate, sym, ap, ◌∙◌, subst, arith, inl, inr}
+use Rattle.std.proofs.Common.{◌≡◌, ℕ, ◌≤◌, Bool, ◌&&◌, List, [], ◌∷◌, map, length, get_or, set, replicate, sym, ap, ◌∙◌, subst, arith, inl, inr, fold}
 use Rattle.std.specs.Prelude.{count_by, nat_eq}
 use Rattle.std.proofs.lemmas.Bool.{and_parts, cases_eq, cases_lt, eqb-true}
 use Rattle.std.proofs.lemmas.List.{get_or-replicate, get_or-set_other, get_or-set_same, get_or_past, length-map, length-replicate, length-set}
@@ -17,9 +17,9 @@ use Rattle.sj_codelet.specs.declared.kernel.Kernel.TheVariants.{Fill, Copy, Scal
 use Rattle.sj_core.proofs.Placing.{pins-same}
 use Rattle.sj_core.proofs.Reading.{idle_row}
 use Rattle.sj_core.proofs.Words.{AtNode, Cell, Machine, Node, OnDisk, Program, State, Task, Valid, Worker, WorkerState, cells_of, data_operands, dims_of, no_task, node_of, opening, pins, same_cell, task_of, with_replica, worked_on, workers_at, workers_of}
-use Rattle.sj_core.specs.Legal.{Leads, Replays}
+use Rattle.sj_core.specs.Legal.{state_of}
 use Rattle.sj_core.specs.Proper.{Fits, IsMachineFor, Proper}
-use Rattle.sj_core.specs.Step.{Step, array_at}
+use Rattle.sj_core.specs.Step.{after, array_at}
 use Rattle.sj_machine.specs.Agrees.{pins_on}
 
 -- ---- operands
@@ -95,18 +95,18 @@ module _ (p : Program) (m : Machine) (proper : Proper p) where
   same-few : (s s' : State) → ((v : Worker) → pins s' v ≡ pins s v) → HasFew s → HasFew s'
   same-few s s' same had v = subst (λ (cs : List Cell). length cs ≤ 5) (sym (same v)) (had v)
 
-  step-few : (s s' : State) (e : Event) → Step p m s e s' → HasFew s → HasFew s'
-  step-few s s' (Claim t w) step had v = subst (λ (z : State). length (pins z v) ≤ 5) (sym step.leaves) (set-few s.workers w v _ (few-cells p proper t w) (had v))
-  step-few s s' (Move c from (AtNode n)) step had v = subst (λ (z : State). length (pins z v) ≤ 5) (sym step.leaves) (subst (λ (cs : List Cell). length cs ≤ 5) (sym (pins-same s _ _ v)) (had v))
-  step-few s s' (Move c from (OnDisk d)) step had v = subst (λ (z : State). length (pins z v) ≤ 5) (sym step.leaves) (subst (λ (cs : List Cell). length cs ≤ 5) (sym (pins-same s _ _ v)) (had v))
-  step-few s s' (Moved c from to) step had v = subst (λ (z : State). length (pins z v) ≤ 5) (sym step.leaves) (subst (λ (cs : List Cell). length cs ≤ 5) (sym (pins-same (with_replica s c to (Valid (array_at p s from c))) _ _ v)) (had v))
-  step-few s s' (Drop c n) step had v = subst (λ (z : State). length (pins z v) ≤ 5) (sym step.leaves) (had v)
-  step-few s s' (Run t w) step had v = subst (λ (z : State). length (pins z v) ≤ 5) (sym step.leaves) (had v)
-  step-few s s' (End t w) step had v = subst (λ (z : State). length (pins z v) ≤ 5) (sym step.leaves) (set-few s.workers w v _ (omega arith) (had v))
+  step-few : (s : State) (e : Event) → HasFew s → HasFew (after p m s e)
+  step-few s (Claim t w) had v = set-few s.workers w v _ (few-cells p proper t w) (had v)
+  step-few s (Move c from (AtNode n)) had v = subst (λ (cs : List Cell). length cs ≤ 5) (sym (pins-same s _ _ v)) (had v)
+  step-few s (Move c from (OnDisk d)) had v = subst (λ (cs : List Cell). length cs ≤ 5) (sym (pins-same s _ _ v)) (had v)
+  step-few s (Moved c from to) had v = subst (λ (cs : List Cell). length cs ≤ 5) (sym (pins-same (with_replica s c to (Valid (array_at p s from c))) _ _ v)) (had v)
+  step-few s (Drop c n) had v = had v
+  step-few s (Run t w) had v = had v
+  step-few s (End t w) had v = set-few s.workers w v _ (omega arith) (had v)
 
-  leads-few : (trace : List Event) (s s' : State) → HasFew s → Leads p m s trace s' → HasFew s'
-  leads-few [] s s' had leads = subst HasFew leads had
-  leads-few (e ∷ trace) s s' had (next, step, rest) = leads-few trace next s' (step-few s next e step had) rest
+  following-few : (trace : List Event) (s : State) → HasFew s → HasFew (fold (after p m) s trace)
+  following-few [] s had = had
+  following-few (e ∷ trace) s had = following-few trace (after p m s e) (step-few s e had)
 
   opening-few : HasFew (opening p m)
   opening-few v =
@@ -115,8 +115,8 @@ module _ (p : Program) (m : Machine) (proper : Proper p) where
         | inr past ↦ subst (λ (x : WorkerState). length x.pins ≤ 5) (sym (get_or_past (replicate m.workers idle_row) v.0 idle_row (omega (arith, length-replicate m.workers idle_row)))) (omega arith)
       ]
 
-  pub pins-few : (trace : List Event) (s : State) → Replays p m trace s → (v : Worker) → length (pins s v) ≤ 5
-  pins-few trace s replays = leads-few trace (opening p m) s opening-few replays
+  pub pins-few : (trace : List Event) (v : Worker) → length (pins (state_of p m trace) v) ≤ 5
+  pins-few trace = following-few trace (opening p m) opening-few
 
   -- ---- pins of an entry
 

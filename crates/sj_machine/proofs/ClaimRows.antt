@@ -5,6 +5,7 @@ use Rattle.std.proofs.lemmas.Bool.{false≢true, true_from_ne_false}
 use Rattle.std.proofs.lemmas.List.{get_or-set_other, get_or-set_same, get_or_default, length-set}
 use Rattle.std.proofs.lemmas.List.Elements.{All-weaker}
 use Rattle.std.proofs.lemmas.List.Sums.{sum_by-cons, sum_by-set}
+use Rattle.sj_core.proofs.Eviction.{evicted-after, evicted-chosen, evicted_by}
 use Rattle.sj_base.specs.declared.trace.Event.TheVariants.{Claim}
 use Rattle.sj_core.proofs.Bytes.{entry-cell}
 use Rattle.sj_core.proofs.ClaimKeeps.{claim-rested, claim-rests}
@@ -16,7 +17,7 @@ use Rattle.sj_core.specs.declared.progress.Progress.{Progress}
 use Rattle.sj_core.specs.declared.progress.Progress.TheVariants.{Claimed, Waiting}
 use Rattle.sj_core.specs.Coherent.{is_being_written}
 use Rattle.sj_core.specs.Laws.{IsSound}
-use Rattle.sj_core.specs.Step.{Claims, after, leave, missing}
+use Rattle.sj_core.specs.Step.{CanClaim, after, leave, missing}
 use Rattle.sj_node.specs.Store.{Store, empty}
 use Rattle.sj_machine.specs.Agrees.{Agrees, HasMarks, HasStores, HasTiles, IsWide, Rows, owed_by_task, owed_by_worker, owed_in, pins_on, row_at, rows_of, store_of}
 use Rattle.sj_machine.specs.Copies.{Copies, mark_at, owed_in as owed_in_copies, row_of, tile_at}
@@ -35,8 +36,8 @@ use Rattle.sj_machine.proofs.Keeping.{HoldsBlocks-kept, keeps-event, sound_state
 some_is : (vs ws : List Cell) → Some vs ≡ Some ws → vs ≡ ws
 some_is vs ws e = cc
 
-pub plan-is : (p : Program) (m : Machine) (s : State) (t : Task) (w : Worker) (s' : State) (claim : Claims p m s t w s') (plan : ClaimPlan) → IsPlan p m s t w plan → plan ≡ plan_with p m s t w claim.evicted
-plan-is p m s t w s' claim plan is = is.rest ∙ ap (plan_with p m s t w) (some_is plan.victims claim.evicted (sym is.chosen ∙ claim.chosen))
+pub plan-is : (p : Program) (m : Machine) (s : State) (t : Task) (w : Worker) (claim : CanClaim p m s t w) (plan : ClaimPlan) → IsPlan p m s t w plan → plan ≡ plan_with p m s t w (evicted_by p m s t w)
+plan-is p m s t w claim plan is = is.rest ∙ ap (plan_with p m s t w) (some_is plan.victims (evicted_by p m s t w) (sym is.chosen ∙ evicted-chosen p m s t w claim))
 
 module _ {D : Type 0} (size faults mismatches : D → ℕ) (held : D → Option (List ℕ)) (b : Standing D) (rows : Rows) (owed spare : ℕ) (keeps : Keeps size faults mismatches held b rows owed spare) (t : Task) (w : Worker) (can : CanHappen b (Claim t w)) where
   abbrev p : Program
@@ -51,7 +52,7 @@ module _ {D : Type 0} (size faults mismatches : D → ℕ) (held : D → Option 
   abbrev s' : State
   s' = after p m s (Claim t w)
 
-  abbrev claim : Claims p m s t w s'
+  abbrev claim : CanClaim p m s t w
   claim = can
 
   abbrev n : Node
@@ -62,7 +63,7 @@ module _ {D : Type 0} (size faults mismatches : D → ℕ) (held : D → Option 
 
   -- the plan of this claim
   abbrev pub claim_plan : ClaimPlan
-  claim_plan = plan_with p m s t w claim.evicted
+  claim_plan = plan_with p m s t w (evicted_by p m s t w)
 
   -- ---- that the changes can be made
 
@@ -89,15 +90,15 @@ module _ {D : Type 0} (size faults mismatches : D → ℕ) (held : D → Option 
 
   few : (c : Cell) → pins_on m s n c + length (cells_of p t w) ≤ 1024
   few c =
-      let pinned = pins_on-few p m sound.proper sound.machine s (pins-few p m sound.proper b.trace s keeps.sound.legal) n c in
+      let pinned = pins_on-few p m sound.proper sound.machine s (pins-few p m sound.proper b.trace) n c in
       let named = few-cells p sound.proper t w in
       omega arith
 
   pub claim-can_hold : CanHold (store_at rows.nodes n) claim_plan
-  claim-can_hold = subst (λ (x : Store). CanHold x claim_plan) (sym store-is) (can-hold p m s sound t w s' claim few)
+  claim-can_hold = subst (λ (x : Store). CanHold x claim_plan) (sym store-is) (can-hold p m s sound t w s' claim (evicted-after p m s t w) few)
 
   evicted-inside : (c : Cell) → has_cell claim_plan.victims c ≡ true → c.0 < length rows.cells
-  evicted-inside c gone = omega (arith, entry-cell p m s sound.coherent.state n c (evicted-free p m s t w s' claim c gone).2, keeps.agrees.marks.every_cell)
+  evicted-inside c gone = omega (arith, entry-cell p m s sound.coherent.state n c (evicted-free p m s t w s' claim (evicted-after p m s t w) c gone).2, keeps.agrees.marks.every_cell)
 
   pub claim-victims : All (λ c. c.0 < length rows.cells) claim_plan.victims
   claim-victims = All-has (λ c. c.0 < length rows.cells) claim_plan.victims evicted-inside
@@ -112,7 +113,7 @@ module _ {D : Type 0} (size faults mismatches : D → ℕ) (held : D → Option 
   as-many = length-marked n (LeavingMark w) (length m.nodes) within rows.cells claim_plan.victims
 
   brought-inside : (c : Cell) → has_cell claim_plan.missing c ≡ true → c.0 < length left
-  brought-inside c lacks = omega (arith, task-cell p m s sound t w s' claim c (missing-absent p m s t w s' claim c lacks).1, sound.coherent.state.rows.cells, keeps.agrees.marks.every_cell, as-many)
+  brought-inside c lacks = omega (arith, task-cell p m s sound t w s' claim (evicted-after p m s t w) c (missing-absent p m s t w s' claim (evicted-after p m s t w) c lacks).1, sound.coherent.state.rows.cells, keeps.agrees.marks.every_cell, as-many)
 
   pub claim-missing : All (λ c. c.0 < length left) claim_plan.missing
   claim-missing = All-has (λ c. c.0 < length left) claim_plan.missing brought-inside
@@ -151,19 +152,19 @@ module _ {D : Type 0} (size faults mismatches : D → ℕ) (held : D → Option 
   mark-here : (d : Cell) → mark_at (row_of came d) n ≡ mark_of (replica s' d (AtNode n))
   mark-here d = by_tests (has_cell claim_plan.missing d) (has_cell claim_plan.victims d) refl refl
     where
-      by_case : has_cell claim_plan.missing d ≡ false → has_cell claim_plan.victims d ≡ false → ClaimCase m s s' w claim.evicted (missing p s t w n) d (AtNode n) → mark_of (replica s d (AtNode n)) ≡ mark_of (replica s' d (AtNode n))
+      by_case : has_cell claim_plan.missing d ≡ false → has_cell claim_plan.victims d ≡ false → ClaimCase m s s' w (evicted_by p m s t w) (missing p s t w n) d (AtNode n) → mark_of (replica s d (AtNode n)) ≡ mark_of (replica s' d (AtNode n))
       by_case f e (Stays same) = ap mark_of (sym same)
       by_case f e (Leaves at evicted a was is) = absurd (false≢true (sym e ∙ evicted))
       by_case f e (Comes at lacks was is) = absurd (false≢true (sym f ∙ lacks))
 
       comes : has_cell claim_plan.missing d ≡ true → replica s' d (AtNode n) ≡ Coming w
-      comes lacks = (let absent = missing-absent p m s t w s' claim d lacks in coming_by-is w (replica s' d (AtNode n)) ((claim-own_cells p m s sound t w s' claim d absent.1).1 absent.0))
+      comes lacks = (let absent = missing-absent p m s t w s' claim (evicted-after p m s t w) d lacks in coming_by-is w (replica s' d (AtNode n)) ((claim-own_cells p m s sound t w s' claim (evicted-after p m s t w) d absent.1).1 absent.0))
 
       leaves : has_cell claim_plan.victims d ≡ true → (a : Array) × (replica s' d (AtNode n) ≡ Leaving w a)
       leaves gone =
-          let valid = victim-valid p m s sound t w s' claim d gone in
+          let valid = victim-valid p m s sound t w s' claim (evicted-after p m s t w) d gone in
           let inside = entry-inside s d n (ap is_entry valid.1) in
-          (valid.0, claim-here p m s t w s' claim d inside.0 inside.1 ∙ ap (λ x. cond x (leave w (replica s d (AtNode n))) (cond (has_cell claim_plan.missing d) (Coming w) (replica s d (AtNode n)))) gone ∙ ap (leave w) valid.1)
+          (valid.0, claim-here p m s t w s' claim (evicted-after p m s t w) d inside.0 inside.1 ∙ ap (λ x. cond x (leave w (replica s d (AtNode n))) (cond (has_cell claim_plan.missing d) (Coming w) (replica s d (AtNode n)))) gone ∙ ap (leave w) valid.1)
 
       by_tests : (a b : Bool) → has_cell claim_plan.missing d ≡ a → has_cell claim_plan.victims d ≡ b → mark_at (row_of came d) n ≡ mark_of (replica s' d (AtNode n))
       by_tests true b f e = marked-here n (ComingMark w) (length m.nodes) within left claim_plan.missing d brought-inside wide-left f ∙ sym (ap mark_of (comes f))
@@ -174,7 +175,7 @@ module _ {D : Type 0} (size faults mismatches : D → ℕ) (held : D → Option 
       by_tests false false f e =
           ap (λ (row : Copies). mark_at row n) (marked-other n (ComingMark w) (length m.nodes) within left claim_plan.missing d f ∙ marked-other n (LeavingMark w) (length m.nodes) within rows.cells claim_plan.victims d e)
           ∙ keeps.agrees.marks.marks d n
-          ∙ by_case f e (claim-cases p m s sound t w s' claim d (AtNode n))
+          ∙ by_case f e (claim-cases p m s sound t w s' claim (evicted-after p m s t w) d (AtNode n))
 
   marks : HasMarks p m s' came
   marks = record {
@@ -182,19 +183,19 @@ module _ {D : Type 0} (size faults mismatches : D → ℕ) (held : D → Option 
     wide = wide-marked n (ComingMark w) (length m.nodes) within left claim_plan.missing brought-inside wide-left;
     marks = λ d k. elim (same_node k n) [
       | inl e ↦ ap (λ (j : Node). mark_at (row_of came d) j) e ∙ mark-here d ∙ ap (λ (j : Node). mark_of (replica s' d (AtNode j))) (sym e)
-      | inr other ↦ mark-elsewhere d k other ∙ keeps.agrees.marks.marks d k ∙ sym (ap mark_of (claim-elsewhere p m s t w s' claim d (AtNode k) (λ e. other (cc))))
+      | inr other ↦ mark-elsewhere d k other ∙ keeps.agrees.marks.marks d k ∙ sym (ap mark_of (claim-elsewhere p m s t w s' claim (evicted-after p m s t w) d (AtNode k) (λ e. other (cc))))
     ];
-    on_disk = λ d k home. kept-field (λ row. row.on_disk) (λ n x row. refl) d ∙ keeps.agrees.marks.on_disk d k home ∙ sym (ap is_valid (claim-on_disk p m s t w s' claim d k));
-    writes = λ d. kept-field (λ row. row.writes) (λ n x row. refl) d ∙ keeps.agrees.marks.writes d ∙ sym (claim-writes p m s t w s' claim d);
+    on_disk = λ d k home. kept-field (λ row. row.on_disk) (λ n x row. refl) d ∙ keeps.agrees.marks.on_disk d k home ∙ sym (ap is_valid (claim-on_disk p m s t w s' claim (evicted-after p m s t w) d k));
+    writes = λ d. kept-field (λ row. row.writes) (λ n x row. refl) d ∙ keeps.agrees.marks.writes d ∙ sym (claim-writes p m s t w s' claim (evicted-after p m s t w) d);
   }
 
   same-array : (d : Cell) (q : Place) → array_of (replica s' d q) ≡ array_of (replica s d q)
-  same-array = claim-array p m s sound t w s' claim
+  same-array = claim-array p m s sound t w s' claim (evicted-after p m s t w)
 
   tiles : HasTiles p s' (AllTell held b) came
   tiles = record {
-    there = λ d k resting. ap is_some (kept-tile d k) ∙ keeps.agrees.tiles.there d k (claim-rested p m s sound t w s' claim d resting) ∙ sym (ap is_some (same-array d (AtNode k)));
-    out = λ d k written. kept-tile d k ∙ keeps.agrees.tiles.out d k (true_from_ne_false (is_being_written p s d) (λ resting. false≢true (sym (claim-rests p m s sound t w s' claim d resting) ∙ written)));
+    there = λ d k resting. ap is_some (kept-tile d k) ∙ keeps.agrees.tiles.there d k (claim-rested p m s sound t w s' claim (evicted-after p m s t w) d resting) ∙ sym (ap is_some (same-array d (AtNode k)));
+    out = λ d k written. kept-tile d k ∙ keeps.agrees.tiles.out d k (true_from_ne_false (is_being_written p s d) (λ resting. false≢true (sym (claim-rests p m s sound t w s' claim (evicted-after p m s t w) d resting) ∙ written)));
     dims = λ d k. subst (λ (o : Option Array). IfSome o (λ a. a.dims ≡ dims_of p d)) (sym (kept-tile d k)) (keeps.agrees.tiles.dims d k);
     arrays = λ tells d k. subst (λ (o : Option Array). IfSome o (λ a. array_of (replica s' d (AtNode k)) ≡ Some a)) (sym (kept-tile d k)) (subst (λ (x : Option Array). IfSome (tile_at (row_of rows.cells d) k) (λ a. x ≡ Some a)) (sym (same-array d (AtNode k))) (keeps.agrees.tiles.arrays tells d k));
   }
@@ -204,9 +205,9 @@ module _ {D : Type 0} (size faults mismatches : D → ℕ) (held : D → Option 
     every_node = length-set rows.nodes n.0 _ ∙ keeps.agrees.stores.every_node;
     stores = λ k inside. elim (same_node k n) [
       | inl e ↦ subst (λ (j : Node). get_or (set rows.nodes n.0 (holding (store_at rows.nodes n) claim_plan)) j.0 (store_of p m s' j) ≡ store_of p m s' j) (sym e)
-          (get_or-set_same rows.nodes n.0 (holding (store_at rows.nodes n) claim_plan) (store_of p m s' n) claim-node ∙ ap (λ (x : Store). holding x claim_plan) store-is ∙ holding-is p m s sound t w s' claim)
+          (get_or-set_same rows.nodes n.0 (holding (store_at rows.nodes n) claim_plan) (store_of p m s' n) claim-node ∙ ap (λ (x : Store). holding x claim_plan) store-is ∙ holding-is p m s sound t w s' claim (evicted-after p m s t w))
       | inr other ↦
-          let same = store-elsewhere p m s sound t w s' claim k other in
+          let same = store-elsewhere p m s sound t w s' claim (evicted-after p m s t w) k other in
           get_or-set_other rows.nodes n.0 k.0 (holding (store_at rows.nodes n) claim_plan) (store_of p m s' k) (λ e. other (ap (λ (i : ℕ). let j : Node = record { 0 = i } in j) e))
           ∙ ap (λ (x : Store). get_or rows.nodes k.0 x) same ∙ keeps.agrees.stores.stores k inside ∙ sym same
     ];
@@ -214,8 +215,8 @@ module _ {D : Type 0} (size faults mismatches : D → ℕ) (held : D → Option 
 
   agrees : Agrees p m s' (AllTell held b) after_claims
   agrees = record {
-    tasks = ap (λ (ts : List Progress). set ts t.0 (Claimed w)) keeps.agrees.tasks ∙ sym (ap (λ (z : State). z.tasks) claim.leaves);
-    workers = ap (λ (ws : List WorkerState). set ws w.0 (row_with (row_at ws w) claim_plan)) keeps.agrees.workers ∙ sym (ap (λ (z : State). z.workers) claim.leaves);
+    tasks = ap (λ (ts : List Progress). set ts t.0 (Claimed w)) keeps.agrees.tasks ∙ sym (ap (λ (z : State). z.tasks) (evicted-after p m s t w));
+    workers = ap (λ (ws : List WorkerState). set ws w.0 (row_with (row_at ws w) claim_plan)) keeps.agrees.workers ∙ sym (ap (λ (z : State). z.workers) (evicted-after p m s t w));
     marks = marks;
     tiles = tiles;
     stores = stores;
@@ -252,7 +253,7 @@ module _ {D : Type 0} (size faults mismatches : D → ℕ) (held : D → Option 
   pub keeps-claim : (spare' : ℕ) → owed + (length claim_plan.victims + 1) ≤ spare' → Keeps size faults mismatches held (with_event b (Claim t w)) after_claims (owed + (length claim_plan.victims + 1)) spare'
   keeps-claim spare' fits =
       keeps-event size faults mismatches held b rows owed spare keeps (Claim t w) after_claims (owed + (length claim_plan.victims + 1)) spare' can
-      (HoldsBlocks-kept held p m s s' (AllTell held b) b.disks (λ c d v. (claim-on_disk p m s t w s' claim c d, claim-writes p m s t w s' claim c)) keeps.sound.blocks)
+      (HoldsBlocks-kept held p m s s' (AllTell held b) b.disks (λ c d v. (claim-on_disk p m s t w s' claim (evicted-after p m s t w) c d, claim-writes p m s t w s' claim (evicted-after p m s t w) c)) keeps.sound.blocks)
       agrees (omega (arith, owes, keeps.owes)) fits
 
 pub keeps-owed : {D : Type 0} (size faults mismatches : D → ℕ) (held : D → Option (List ℕ)) (b : Standing D) (rows : Rows) (spare owed owed' : ℕ) → owed ≡ owed' → Keeps size faults mismatches held b rows owed spare → Keeps size faults mismatches held b rows owed' spare
@@ -274,7 +275,7 @@ pub record CanChange (rows : Rows) (w : Worker) (k : Node) (plan : ClaimPlan) : 
 
 module _ {D : Type 0} (size faults mismatches : D → ℕ) (held : D → Option (List ℕ)) (b : Standing D) (rows : Rows) (owed spare : ℕ) (keeps : Keeps size faults mismatches held b rows owed spare) (t : Task) (w : Worker) (can : CanHappen b (Claim t w)) (plan : ClaimPlan) (is : IsPlan b.program b.machine (state b) t w plan) (k : Node) (at : k ≡ node_of b.machine w) where
   same_plan : plan ≡ claim_plan size faults mismatches held b rows owed spare keeps t w can
-  same_plan = plan-is b.program b.machine (state b) t w (after b.program b.machine (state b) (Claim t w)) can plan is
+  same_plan = plan-is b.program b.machine (state b) t w can plan is
 
   pub can-change : CanChange rows w k plan
   can-change =

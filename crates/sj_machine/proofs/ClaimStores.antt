@@ -8,6 +8,7 @@ use Rattle.std.proofs.lemmas.List.{length-map}
 use Rattle.std.proofs.lemmas.List.Folds.{list_any_at}
 use Rattle.std.proofs.lemmas.List.FromFn.{length-map-range_with_len}
 use Rattle.std.proofs.lemmas.List.Sums.{sum-map, sum_by-cons, sum_by-le-sum_by}
+use Rattle.sj_core.proofs.Eviction.{evicted_by}
 use Rattle.sj_core.proofs.Advancing.{claimed_by-is, idle-has_none, running_on-is}
 use Rattle.sj_core.proofs.Bytes.{entry-cell, once-bytes}
 use Rattle.sj_core.proofs.CellLists.{has_cell-fronted, has_cell-without, share, sum-once, times, times-cons, times-distinct, times-filter, times-has, times-none, times-program}
@@ -18,7 +19,7 @@ use Rattle.sj_core.proofs.Sums.{count-numbered, sum-agree, sum-filter, sum-filte
 use Rattle.sj_core.proofs.Words.{AtNode, Cell, Coming, Invalid, Leaving, Machine, Node, Replica, Valid, Program, State, Task, Worker, WorkerState, cells_of, cells_of_program, distinct, has_cell, is_claimed_by, is_entry, is_leaving, is_running_on, is_valid, node_of, node_size, order, pins, progress, replica, same_cell, same_worker, scratch, scratch_bytes, task_of, tile_bytes, worker_state, workers_at, workers_of}
 use Rattle.sj_core.specs.Coherent.{Coherent}
 use Rattle.sj_core.specs.Laws.{IsSound}
-use Rattle.sj_core.specs.Step.{Claims, missing, without}
+use Rattle.sj_core.specs.Step.{CanClaim, after_claim, missing, without}
 use Rattle.sj_node.specs.Entry.{AreDistinct, Entry, has_entry, pins_of, put_all, total, without_all}
 use Rattle.sj_node.specs.Store.{Store, free, store, with_entries}
 use Rattle.sj_machine.specs.Agrees.{entry_of, pins_on, store_of}
@@ -160,7 +161,7 @@ module _ (m : Machine) (n : Node) where
 
 -- ---- a claim
 
-module _ (p : Program) (m : Machine) (s : State) (h : IsSound p m s) (t : Task) (w : Worker) (s' : State) (claim : Claims p m s t w s') where
+module _ (p : Program) (m : Machine) (s : State) (h : IsSound p m s) (t : Task) (w : Worker) (s' : State) (claim : CanClaim p m s t w) (leaves : s' ≡ after_claim p m s t w (evicted_by p m s t w)) where
   abbrev n : Node
   n = node_of m w
 
@@ -168,7 +169,7 @@ module _ (p : Program) (m : Machine) (s : State) (h : IsSound p m s) (t : Task) 
   bytes = tile_bytes p
 
   abbrev evicted : List Cell
-  evicted = claim.evicted
+  evicted = evicted_by p m s t w
 
   abbrev brought : List Cell
   brought = missing p s t w n
@@ -187,14 +188,14 @@ module _ (p : Program) (m : Machine) (s : State) (h : IsSound p m s) (t : Task) 
 
   pub pins-after : (c : Cell) → pins_on m s' n c ≡ pins_on m s n c + times own c
   pins-after c = sum-grown m n w (times own c) (λ v. times (pins s' v) c) (λ v. times (pins s v) c)
-      (λ v other. ap (λ (row : WorkerState). times row.pins c) (Claims-other_worker p m s t w v s' claim other))
-      (let now : times (pins s' w) c ≡ times own c = ap (λ (row : WorkerState). times row.pins c) (Claims-worker p m s t w s' h.coherent.state.rows h.machine claim) in let none = times-none (pins s w) c (idle-pins c) in omega arith)
+      (λ v other. ap (λ (row : WorkerState). times row.pins c) (Claims-other_worker p m s t w v s' claim leaves other))
+      (let now : times (pins s' w) c ≡ times own c = ap (λ (row : WorkerState). times row.pins c) (Claims-worker p m s t w s' h.coherent.state.rows h.machine claim leaves) in let none = times-none (pins s w) c (idle-pins c) in omega arith)
       refl worker_inside
 
   pub scratch-after : sum_by (scratch s') (workers_at m n) ≡ sum_by (scratch s) (workers_at m n) + scratch_bytes p (task_of p t)
   scratch-after = sum-grown m n w (scratch_bytes p (task_of p t)) (scratch s') (scratch s)
-      (λ v other. ap (λ (row : WorkerState). row.scratch) (Claims-other_worker p m s t w v s' claim other))
-      (let now : scratch s' w ≡ scratch_bytes p (task_of p t) = ap (λ (row : WorkerState). row.scratch) (Claims-worker p m s t w s' h.coherent.state.rows h.machine claim) in let none = idle-scratch in omega arith)
+      (λ v other. ap (λ (row : WorkerState). row.scratch) (Claims-other_worker p m s t w v s' claim leaves other))
+      (let now : scratch s' w ≡ scratch_bytes p (task_of p t) = ap (λ (row : WorkerState). row.scratch) (Claims-worker p m s t w s' h.coherent.state.rows h.machine claim leaves) in let none = idle-scratch in omega arith)
       refl worker_inside
 
   -- a store by its scratch, its pins and its order
@@ -206,10 +207,10 @@ module _ (p : Program) (m : Machine) (s : State) (h : IsSound p m s) (t : Task) 
   store-elsewhere k other =
       ap (λ (held : ℕ). store_by k held (pins_on m s' k) (order s' k)) (sum-at m k (scratch s') (scratch s) (λ v at. ap (λ (row : WorkerState). row.scratch) (kept v at)))
       ∙ ap (λ (f : Cell → ℕ). store_by k (sum_by (scratch s) (workers_at m k)) f (order s' k)) (ext {f = pins_on m s' k} {g = pins_on m s k} (λ c. sum-at m k (λ v. times (pins s' v) c) (λ v. times (pins s v) c) (λ v at. ap (λ (row : WorkerState). times row.pins c) (kept v at))))
-      ∙ ap (store_by k (sum_by (scratch s) (workers_at m k)) (pins_on m s k)) (claim-order_elsewhere p m s h t w s' claim k other)
+      ∙ ap (store_by k (sum_by (scratch s) (workers_at m k)) (pins_on m s k)) (claim-order_elsewhere p m s h t w s' claim leaves k other)
     where
       kept : (v : Worker) → node_of m v ≡ k → worker_state s' v ≡ worker_state s v
-      kept v at = Claims-other_worker p m s t w v s' claim (λ e. other (sym at ∙ ap (node_of m) e))
+      kept v at = Claims-other_worker p m s t w v s' claim leaves (λ e. other (sym at ∙ ap (node_of m) e))
 
   -- ---- the node's own store
 
@@ -249,10 +250,10 @@ module _ (p : Program) (m : Machine) (s : State) (h : IsSound p m s) (t : Task) 
   absent-unpinned c absent = unpinned-none c (λ v at. false_from_ne_true (has_cell (pins s v) c) (λ pin. false≢true (sym absent ∙ pinned-there v c pin at)))
 
   brought-unpinned : (c : Cell) → has_cell brought c ≡ true → pins_on m s n c ≡ 0
-  brought-unpinned c lacks = absent-unpinned c (missing-absent p m s t w s' claim c lacks).0
+  brought-unpinned c lacks = absent-unpinned c (missing-absent p m s t w s' claim leaves c lacks).0
 
   evicted-unpinned : (c : Cell) → has_cell evicted c ≡ true → pins_on m s n c ≡ 0
-  evicted-unpinned c gone = unpinned-none c (λ v at. false_from_ne_true (has_cell (pins s v) c) (λ pin. false≢true (sym (evicted-free p m s t w s' claim c gone).0 ∙ pinned-at m s v n c (pin-inside v c pin) at pin)))
+  evicted-unpinned c gone = unpinned-none c (λ v at. false_from_ne_true (has_cell (pins s v) c) (λ pin. false≢true (sym (evicted-free p m s t w s' claim leaves c gone).0 ∙ pinned-at m s v n c (pin-inside v c pin) at pin)))
 
   abbrev rest : List Cell
   rest = without evicted (order s n)
@@ -264,8 +265,8 @@ module _ (p : Program) (m : Machine) (s : State) (h : IsSound p m s) (t : Task) 
   own-there c has = has_cell-put_first brought rest c ∙ by_cases (has_cell (order s n) c) refl
     where
       by_cases : (b : Bool) → has_cell (order s n) c ≡ b → (has_cell brought c || has_cell rest c) ≡ true
-      by_cases true there = or_right (has_cell brought c) (has_cell rest c) (has_cell-without evicted (order s n) c ∙ and_from (not (has_cell evicted c)) (has_cell (order s n) c) (ap not (own-spared p m s h t w s' claim c has)) there)
-      by_cases false absent = or_left (has_cell brought c) (has_cell rest c) (absent-missing p m s t w s' claim c absent has)
+      by_cases true there = or_right (has_cell brought c) (has_cell rest c) (has_cell-without evicted (order s n) c ∙ and_from (not (has_cell evicted c)) (has_cell (order s n) c) (ap not (own-spared p m s h t w s' claim leaves c has)) there)
+      by_cases false absent = or_left (has_cell brought c) (has_cell rest c) (absent-missing p m s t w s' claim leaves c absent has)
 
   brought-once : (c : Cell) → times brought c ≤ 1
   brought-once c = let fewer = times-filter (λ d. not (has_cell (order s n) d)) (distinct own) c in let once = times-distinct own c in omega arith
@@ -277,7 +278,7 @@ module _ (p : Program) (m : Machine) (s : State) (h : IsSound p m s) (t : Task) 
       by_cases : (b : Bool) → has_cell (order s n) c ≡ b → times (put_first brought kept) c ≤ 1
       by_cases true there =
           let all = times-put_first brought kept c in
-          let none = times-none brought c (false_from_ne_true (has_cell brought c) (λ lacks. false≢true (sym (missing-absent p m s t w s' claim c lacks).0 ∙ there))) in
+          let none = times-none brought c (false_from_ne_true (has_cell brought c) (λ lacks. false≢true (sym (missing-absent p m s t w s' claim leaves c lacks).0 ∙ there))) in
           let few = fewer c in
           let once = h.coherent.state.entries.once n c in
           omega arith
@@ -295,7 +296,7 @@ module _ (p : Program) (m : Machine) (s : State) (h : IsSound p m s) (t : Task) 
   first-once = put-once rest rest-fewer
 
   brought-own : (c : Cell) → has_cell brought c ≡ true → has_cell own c ≡ true
-  brought-own c lacks = (missing-absent p m s t w s' claim c lacks).1
+  brought-own c lacks = (missing-absent p m s t w s' claim leaves c lacks).1
 
   abbrev before : Store
   before = store_of p m s n
@@ -312,7 +313,7 @@ module _ (p : Program) (m : Machine) (s : State) (h : IsSound p m s) (t : Task) 
   taking-is =
       ap (λ (x : Store). fold taken x own) admitting-is
       ∙ taken-all bytes before (pins_on m s n) own first own-there first-once
-      ∙ ap (λ (cs : List Cell). with_entries before (entries bytes (more bytes (pins_on m s n) own) cs)) (fronted-put_first own brought rest brought-own ∙ sym (claim-order_here p m s h t w s' claim))
+      ∙ ap (λ (cs : List Cell). with_entries before (entries bytes (more bytes (pins_on m s n) own) cs)) (fronted-put_first own brought rest brought-own ∙ sym (claim-order_here p m s h t w s' claim leaves))
 
   -- the node's store after the claim
   pub holding-is : holding before plan ≡ store_of p m s' n
@@ -324,7 +325,7 @@ module _ (p : Program) (m : Machine) (s : State) (h : IsSound p m s) (t : Task) 
   -- ---- that it can
 
   abbrev after_state : Coherent p m s'
-  after_state = Claims-coherent p m s h t w s' claim
+  after_state = Claims-coherent p m s h t w s' claim leaves
 
   -- the bytes of the order after the claim
   first-bytes : sum_by bytes (order s' n) ≡ sum_by bytes brought + sum_by bytes rest
@@ -340,7 +341,7 @@ module _ (p : Program) (m : Machine) (s : State) (h : IsSound p m s) (t : Task) 
 
       same : (c : Cell) → has_cell (order s' n) c ≡ has_cell first c
       same c =
-          ap (λ (cs : List Cell). has_cell cs c) (claim-order_here p m s h t w s' claim ∙ sym (fronted-put_first own brought rest brought-own))
+          ap (λ (cs : List Cell). has_cell cs c) (claim-order_here p m s h t w s' claim leaves ∙ sym (fronted-put_first own brought rest brought-own))
           ∙ has_cell-fronted own first c ∙ either (has_cell own c) (has_cell first c) (own-there c)
 
   can-fit : sum (map bytes brought) ≤ free (with_entries before (without_all evicted before.entries))
@@ -363,7 +364,7 @@ module _ (p : Program) (m : Machine) (s : State) (h : IsSound p m s) (t : Task) 
       inside c has = by_cases (has_cell brought c) refl (sym (has_cell-put_first brought (order s n) c) ∙ has)
         where
           by_cases : (b : Bool) → has_cell brought c ≡ b → (b || has_cell (order s n) c) ≡ true → c.0 < length p.cells
-          by_cases true lacks all = omega (arith, task-cell p m s h t w s' claim c (brought-own c lacks), h.coherent.state.rows.cells)
+          by_cases true lacks all = omega (arith, task-cell p m s h t w s' claim leaves c (brought-own c lacks), h.coherent.state.rows.cells)
           by_cases false none all = entry-cell p m s h.coherent.state n c all
 
   can-hold_scratch : scratch_bytes p (task_of p t) ≤ free (taking before plan)
@@ -376,10 +377,10 @@ module _ (p : Program) (m : Machine) (s : State) (h : IsSound p m s) (t : Task) 
   -- where its entries have few pins
   pub can-hold : ((c : Cell) → pins_on m s n c + length own ≤ 1024) → CanHold before plan
   can-hold few = record {
-    victims_there = All-has (λ c. IsTrue (has_entry before.entries c)) evicted (λ c gone. entries-has bytes (pins_on m s n) (order s n) c ∙ (evicted-free p m s t w s' claim c gone).2);
+    victims_there = All-has (λ c. IsTrue (has_entry before.entries c)) evicted (λ c gone. entries-has bytes (pins_on m s n) (order s n) c ∙ (evicted-free p m s t w s' claim leaves c gone).2);
     victims_unpinned = All-has (λ c. pins_of before.entries c ≡ 0) evicted (λ c gone. (let none = evicted-unpinned c gone in let most = entries-pins bytes (pins_on m s n) (order s n) c in omega arith));
     cells_differ = distinct-from_times brought brought-once;
-    cells_absent = All-has (λ c. has_entry before.entries c ≡ false) brought (λ c lacks. entries-has bytes (pins_on m s n) (order s n) c ∙ (missing-absent p m s t w s' claim c lacks).0);
+    cells_absent = All-has (λ c. has_entry before.entries c ≡ false) brought (λ c lacks. entries-has bytes (pins_on m s n) (order s n) c ∙ (missing-absent p m s t w s' claim leaves c lacks).0);
     paired = sym (length-map brought bytes);
     fits = can-fit;
     few = can-be_few;

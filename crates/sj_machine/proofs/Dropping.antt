@@ -7,7 +7,7 @@ use Rattle.sj_base.specs.declared.trace.Event.{Event}
 use Rattle.sj_base.specs.declared.trace.Event.TheVariants.{Drop}
 use Rattle.sj_core.proofs.Words.{AtNode, Coming, DiskNo, Invalid, Leaving, Valid, Machine, OnDisk, Program, Replica, State, is_leaving, is_valid, replica, with_replica}
 use Rattle.sj_core.proofs.Placing.{replica-cases, writes-same}
-use Rattle.sj_core.specs.Step.{Drops, after}
+use Rattle.sj_core.specs.Step.{CanDrop, after}
 use Rattle.sj_core.specs.Coherent.{is_being_written}
 use Rattle.sj_machine.specs.Mark.{mark_of, owed_for}
 use Rattle.sj_machine.specs.declared.mark.Mark.TheVariants.{Invalid as NoMark}
@@ -30,7 +30,7 @@ module _ {D : Type 0} (size faults mismatches : D → ℕ) (held : D → Option 
   abbrev s : State
   s = state b
 
-  drop : Drops m s c n (with_replica s c (AtNode n) Invalid)
+  drop : CanDrop m s c n
   drop = can
 
   valid : is_valid (replica s c (AtNode n)) ≡ true

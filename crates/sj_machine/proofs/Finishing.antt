@@ -32,7 +32,7 @@ use Rattle.sj_core.specs.Coherent.{IsOwnedBy, has_written, is_begun, is_being_wr
 use Rattle.sj_core.specs.Fold.{held_in}
 use Rattle.sj_core.specs.Laws.{IsSound}
 use Rattle.sj_core.specs.Program.{written_operands}
-use Rattle.sj_core.specs.Step.{Ends, after_end, result_at, rewritten_at, same_place}
+use Rattle.sj_core.specs.Step.{after_end, result_at, rewritten_at, same_place}
 use Rattle.sj_node.specs.Store.{Store, store}
 use Rattle.sj_machine.specs.Mark.{mark_of}
 use Rattle.sj_machine.specs.declared.mark.Mark.TheVariants.{Invalid as NoMark, Valid as ValidMark}
@@ -95,14 +95,14 @@ module _ {D : Type 0} (size faults mismatches : D → ℕ) (held : D → Option 
   abbrev s' : State
   s' = after_end p m s t w
 
-  ended : Ends p m s t w s'
+  ended : progress s t ≡ Running w
   ended = can
 
   h : IsSound p m s
   h = sound_state size faults mismatches held b rows owed spare keeps
 
   inside_task : t.0 < length p.tasks
-  inside_task = running-inside p m s t w h.coherent.state.rows ended.running
+  inside_task = running-inside p m s t w h.coherent.state.rows ended
 
   pub end-program_task : t.0 < length p.tasks
   end-program_task = inside_task
@@ -111,7 +111,7 @@ module _ {D : Type 0} (size faults mismatches : D → ℕ) (held : D → Option 
   end-task = omega (arith, inside_task, h.coherent.state.rows.tasks, ap length keeps.agrees.tasks)
 
   staffed : w.0 < p.workers
-  staffed = subst (λ (x : Progress). (worker_of x).0 < p.workers) ended.running (h.coherent.state.staff.staffed t (ap is_begun ended.running))
+  staffed = subst (λ (x : Progress). (worker_of x).0 < p.workers) ended (h.coherent.state.staff.staffed t (ap is_begun ended))
 
   end-worker : w.0 < m.workers
   end-worker = omega (arith, staffed, keeps.sound.run.machine.workers)
@@ -131,10 +131,10 @@ module _ {D : Type 0} (size faults mismatches : D → ℕ) (held : D → Option 
   ws = written_cells p t w
 
   own : (c : Cell) → has_cell ws c ≡ true → IsOwnedBy m s c w (written_content p s t w c)
-  own c has = h.coherent.writers.owned t w c ended.running has
+  own c has = h.coherent.writers.owned t w c ended has
 
   being : (c : Cell) → has_cell ws c ≡ true → is_being_written p s c ≡ true
-  being c has = being_written-here p s c t w inside_task ended.running has
+  being c has = being_written-here p s c t w inside_task ended has
 
   row-inside : (c : Cell) → has_cell ws c ≡ true → c.0 < length rows.cells
   row-inside c has = (let in_program = entry-cell p m s h.coherent c n (ap is_entry (own c has).valid) in omega (arith, in_program, keeps.agrees.marks.every_cell))
@@ -179,23 +179,23 @@ module _ {D : Type 0} (size faults mismatches : D → ℕ) (held : D → Option 
   pinned-there : (c : Cell) → has_cell (pins s w) c ≡ true → has_cell (order s n) c ≡ true
   pinned-there c pin =
       let holds = h.coherent.pins.own w c pin in
-      let mine : is_task_of w (progress s t) ≡ true = ap (is_task_of w) ended.running ∙ same_worker-refl w in
+      let mine : is_task_of w (progress s t) ≡ true = ap (is_task_of w) ended ∙ same_worker-refl w in
       let same : holds.task ≡ t = h.coherent.workers.one_task holds.task t w holds.has mine in
       let cell : has_cell (cells_of p t w) c ≡ true = sym (ap (λ (u : Task). has_cell (cells_of p u w) c) same) ∙ holds.cell in
-      h.coherent.state.entries.entries n c ∙ valid-entry (replica s c (AtNode n)) (h.coherent.cells.running t w c ended.running cell) (h.coherent.pins.stays w c pin)
+      h.coherent.state.entries.entries n c ∙ valid-entry (replica s c (AtNode n)) (h.coherent.cells.running t w c ended cell) (h.coherent.pins.stays w c pin)
 
   own-row : worker_state s' w ≡ record (worker_state s w) { pins = []; scratch = 0 }
-  own-row = elim (end-own_worker p m s t w s' ended) [ inl row ↦ row | inr none ↦ none.1 ∙ ap (λ (r : WorkerState). (let x : WorkerState = record r { pins = []; scratch = 0 } in x)) (sym none.0) ]
+  own-row = elim (end-own_worker p m s t w s' ended refl) [ inl row ↦ row | inr none ↦ none.1 ∙ ap (λ (r : WorkerState). (let x : WorkerState = record r { pins = []; scratch = 0 } in x)) (sym none.0) ]
 
   pins-before : (c : Cell) → pins_on m s n c ≡ pins_on m s' n c + times (pins s w) c
   pins-before c = sum-grown m n w (times (pins s w) c) (λ v. times (pins s v) c) (λ v. times (pins s' v) c)
-      (λ v other. sym (ap (λ (row : WorkerState). times row.pins c) (end-other_worker p m s t w s' ended v other)))
+      (λ v other. sym (ap (λ (row : WorkerState). times row.pins c) (end-other_worker p m s t w s' ended refl v other)))
       (let none : times (pins s' w) c ≡ 0 = ap (λ (row : WorkerState). times row.pins c) own-row in omega arith)
       refl end-worker
 
   scratch-before : sum_by (scratch s) (workers_at m n) ≡ sum_by (scratch s') (workers_at m n) + scratch s w
   scratch-before = sum-grown m n w (scratch s w) (scratch s) (scratch s')
-      (λ v other. sym (ap (λ (row : WorkerState). row.scratch) (end-other_worker p m s t w s' ended v other)))
+      (λ v other. sym (ap (λ (row : WorkerState). row.scratch) (end-other_worker p m s t w s' ended refl v other)))
       (let none : scratch s' w ≡ 0 = ap (λ (row : WorkerState). row.scratch) own-row in omega arith)
       refl end-worker
 
@@ -225,7 +225,7 @@ module _ {D : Type 0} (size faults mismatches : D → ℕ) (held : D → Option 
       ∙ ap (λ (f : Cell → ℕ). store (node_size m k) (sum_by (scratch s) (workers_at m k)) (length p.cells) (entries (tile_bytes p) f (order s k))) (ext {f = pins_on m s' k} {g = pins_on m s k} (λ c. sum-at m k (λ v. times (pins s' v) c) (λ v. times (pins s v) c) (λ v at. ap (λ (row : WorkerState). times row.pins c) (same v at))))
     where
       same : (v : Worker) → node_of m v ≡ k → worker_state s' v ≡ worker_state s v
-      same v at = end-other_worker p m s t w s' ended v (λ e. far (sym at ∙ ap (node_of m) e))
+      same v at = end-other_worker p m s t w s' ended refl v (λ e. far (sym at ∙ ap (node_of m) e))
 
   abbrev new_nodes : List Store
   new_nodes = set rows.nodes n.0 (released (row_at rows.workers w).pins (row_at rows.workers w).scratch (store_at rows.nodes n))
@@ -251,13 +251,13 @@ module _ {D : Type 0} (size faults mismatches : D → ℕ) (held : D → Option 
   writes-same_at c left = ap (λ (row : CellState). row.writes) (cells-untouched s (has_cell (written_cells p t w)) (λ d row. rewritten_at n (result_at p s t w n d) row) c left)
 
   elsewhere : (c : Cell) (q : Place) → not (same_place q (AtNode n)) ≡ true → replica s' c q ≡ replica s c q
-  elsewhere c q away = end-elsewhere p m s t w s' ended c q away
+  elsewhere c q away = end-elsewhere p m s t w s' ended refl c q away
 
   other : (c : Cell) (q : Place) → has_cell ws c ≡ false → replica s' c q ≡ replica s c q
-  other c q left = end-other p m s t w s' ended c q left
+  other c q left = end-other p m s t w s' ended refl c q left
 
   here : (c : Cell) → has_cell ws c ≡ true → replica s' c (AtNode n) ≡ Valid (result_at p s t w n c)
-  here c has = (end-written p m s h t w s' ended c has).0
+  here c has = (end-written p m s h t w s' ended refl c has).0
 
   module _ (slots : List Slot) (results' : AreResultsFor held b t w slots) where
     abbrev xs : List Array
@@ -319,18 +319,18 @@ module _ {D : Type 0} (size faults mismatches : D → ℕ) (held : D → Option 
 
     -- a cell that rests afterwards and that the task didn't write rested before
     rested : (c : Cell) → has_cell ws c ≡ false → is_being_written p s' c ≡ false → is_being_written p s c ≡ false
-    rested c left rests = not_written-before p m s s' t (Running w) (Done w) c h.coherent.state.rows (Ends-advances p m s t w s' ended) rests (λ v e. (let is : w ≡ v = cc in sym (ap (λ (x : Worker). has_cell (written_cells p t x) c) is) ∙ left))
+    rested c left rests = not_written-before p m s s' t (Running w) (Done w) c h.coherent.state.rows (Ends-advances p m s t w s' ended refl) rests (λ v e. (let is : w ≡ v = cc in sym (ap (λ (x : Worker). has_cell (written_cells p t x) c) is) ∙ left))
 
     -- one that is being written afterwards is another task's, which wrote it before
     still-being : (c : Cell) → is_being_written p s' c ≡ true → (has_cell ws c ≡ false) × (is_being_written p s c ≡ true)
     still-being c now =
         let by = being_written-by p s' c now in
-        let a = Ends-advances p m s t w s' ended in
+        let a = Ends-advances p m s t w s' ended refl in
         let differs : by.0 ≢ t = λ e. (let f : Running (worker_of (progress s' by.0)) ≡ Done w = sym by.1 ∙ ap (progress s') e ∙ a.is in cc) in
         let before : progress s by.0 ≡ Running (worker_of (progress s' by.0)) = sym (a.others by.0 differs) ∙ by.1 in
         let cell : has_cell (cells_of p by.0 (worker_of (progress s' by.0))) c ≡ true = written-among_cells p by.0 (worker_of (progress s' by.0)) c by.2 in
         let mine : is_task_of (worker_of (progress s' by.0)) (progress s by.0) ≡ true = ap (is_task_of (worker_of (progress s' by.0))) before ∙ same_worker-refl (worker_of (progress s' by.0)) in (
-          end-spares p m s h t w s' ended by.0 (worker_of (progress s' by.0)) c differs mine cell,
+          end-spares p m s h t w s' ended refl by.0 (worker_of (progress s' by.0)) c differs mine cell,
           being_written-here p s c by.0 (worker_of (progress s' by.0)) (running-inside p m s by.0 (worker_of (progress s' by.0)) h.coherent.state.rows before) before by.2,
         )
 
@@ -367,7 +367,7 @@ module _ {D : Type 0} (size faults mismatches : D → ℕ) (held : D → Option 
 
     owes-tasks : sum_by owed_by_task (set rows.tasks t.0 (Done w)) + 1 ≡ sum_by owed_by_task rows.tasks
     owes-tasks =
-        let was : owed_by_task (get_or rows.tasks t.0 Waiting) ≡ 1 = ap (λ (ts : List Progress). owed_by_task (get_or ts t.0 Waiting)) keeps.agrees.tasks ∙ ap owed_by_task ended.running in
+        let was : owed_by_task (get_or rows.tasks t.0 Waiting) ≡ 1 = ap (λ (ts : List Progress). owed_by_task (get_or ts t.0 Waiting)) keeps.agrees.tasks ∙ ap owed_by_task ended in
         omega (arith, was, sum_by-set owed_by_task rows.tasks t.0 (Done w) Waiting end-task)
 
     owes-workers : sum_by owed_by_worker (let_go rows.workers w) ≡ sum_by owed_by_worker rows.workers

@@ -9,6 +9,7 @@ use Rattle.std.proofs.lemmas.List.{get_or_default, get_or-replicate, get_or-set_
 use Rattle.std.proofs.lemmas.List.Folds.{list_all-append}
 use Rattle.std.proofs.lemmas.List.Sums.{list_all-from_AllPass}
 use Rattle.std.proofs.lemmas.Option.{none-some}
+use Rattle.sj_core.proofs.Eviction.{evicted-after}
 use Rattle.sj_base.specs.declared.trace.Event.{Event}
 use Rattle.sj_base.specs.declared.trace.Event.TheVariants.{Claim, Drop, End, Move, Moved, Run}
 use Rattle.sj_core.proofs.Claiming.{Claims-other_worker, claim-leaving}
@@ -19,7 +20,7 @@ use Rattle.sj_core.proofs.Running.{run-leaving, run-worker}
 use Rattle.sj_core.proofs.States.{one-mover, state_of-more}
 use Rattle.sj_core.proofs.Words.{AtNode, Cell, Invalid, Machine, Node, OnDisk, Program, State, Task, Valid, Worker, WorkerState, is_gone, is_leaving_by, node_of, replica, transfer, victims_of, with_replica, with_transfer}
 use Rattle.sj_core.specs.Laws.{IsSound}
-use Rattle.sj_core.specs.Step.{EndsMove, Step, after, array_at, mover_of}
+use Rattle.sj_core.specs.Step.{May, a_transfer, after, array_at, mover_of}
 use Rattle.sj_core.specs.declared.progress.Transfer.{Transfer}
 use Rattle.sj_disk.specs.Directory.{DiskState}
 use Rattle.sj_machine.specs.Agrees.{Rows}
@@ -152,45 +153,45 @@ NotClaimedBy (Claim t w) v = v ≢ w
 NotClaimedBy _ v = Unit {0}
 
 module _ (p : Program) (m : Machine) (s : State) (h : IsSound p m s) (v : Worker) where
-  Step-stays : (e : Event) (s' : State) → Step p m s e s' → NotClaimedBy e v → Stays v s s'
-  Step-stays (Claim t w) s' step other = record {
-    victims = ap (λ (row : WorkerState). row.victims) (Claims-other_worker p m s t w v s' step other);
-    leaves = λ c n leaving. elim (claim-leaving p m s h t w s' step v c (AtNode n) leaving) [ inl (at, same, evicted) ↦ absurd (other same) | inr (away, was) ↦ was ];
+  Step-stays : (e : Event) (s' : State) → May p m s e → s' ≡ after p m s e → NotClaimedBy e v → Stays v s s'
+  Step-stays (Claim t w) s' step leaves other = record {
+    victims = ap (λ (row : WorkerState). row.victims) (Claims-other_worker p m s t w v s' step (leaves ∙ (evicted-after p m s t w)) other);
+    leaves = λ c n leaving. elim (claim-leaving p m s h t w s' step (leaves ∙ (evicted-after p m s t w)) v c (AtNode n) leaving) [ inl (at, same, evicted) ↦ absurd (other same) | inr (away, was) ↦ was ];
   }
-  Step-stays (Move x from (AtNode k)) s' step other = record {
-    victims = ap (λ (z : State). victims_of z v) step.leaves ∙ victims-same s _ _ v;
-    leaves = λ c n leaving. sym (ap (λ (z : State). is_leaving_by v (replica z c (AtNode n))) step.leaves) ∙ leaving;
+  Step-stays (Move x from (AtNode k)) s' step leaves other = record {
+    victims = ap (λ (z : State). victims_of z v) leaves ∙ victims-same s _ _ v;
+    leaves = λ c n leaving. sym (ap (λ (z : State). is_leaving_by v (replica z c (AtNode n))) leaves) ∙ leaving;
   }
-  Step-stays (Move x from (OnDisk d)) s' step other = record {
-    victims = ap (λ (z : State). victims_of z v) step.leaves ∙ victims-same s _ _ v;
-    leaves = λ c n leaving. sym (ap (λ (z : State). is_leaving_by v (replica z c (AtNode n))) step.leaves) ∙ leaving;
+  Step-stays (Move x from (OnDisk d)) s' step leaves other = record {
+    victims = ap (λ (z : State). victims_of z v) leaves ∙ victims-same s _ _ v;
+    leaves = λ c n leaving. sym (ap (λ (z : State). is_leaving_by v (replica z c (AtNode n))) leaves) ∙ leaving;
   }
-  Step-stays (Moved x from to) s' step other =
+  Step-stays (Moved x from to) s' step leaves other =
       let a = array_at p s from x in
       record {
-        victims = ap (λ (z : State). victims_of z v) step.leaves ∙ victims-same (with_replica s x to (Valid a)) _ _ v;
+        victims = ap (λ (z : State). victims_of z v) leaves ∙ victims-same (with_replica s x to (Valid a)) _ _ v;
         leaves = λ c n leaving.
-            let now : is_leaving_by v (replica (with_replica s x to (Valid a)) c (AtNode n)) ≡ true = sym (ap (λ (z : State). is_leaving_by v (replica z c (AtNode n))) step.leaves) ∙ leaving in
+            let now : is_leaving_by v (replica (with_replica s x to (Valid a)) c (AtNode n)) ≡ true = sym (ap (λ (z : State). is_leaving_by v (replica z c (AtNode n))) leaves) ∙ leaving in
             elim (replica-cases s x to (Valid a) c (AtNode n)) [
               | inl same ↦ sym (ap (is_leaving_by v) same) ∙ now
               | inr (e, at, is) ↦ absurd (false≢true (sym (ap (is_leaving_by v) is) ∙ now))
             ];
       }
-  Step-stays (Drop x k) s' step other = record {
-    victims = ap (λ (z : State). victims_of z v) step.leaves;
+  Step-stays (Drop x k) s' step leaves other = record {
+    victims = ap (λ (z : State). victims_of z v) leaves;
     leaves = λ c n leaving.
-        let now : is_leaving_by v (replica (with_replica s x (AtNode k) Invalid) c (AtNode n)) ≡ true = sym (ap (λ (z : State). is_leaving_by v (replica z c (AtNode n))) step.leaves) ∙ leaving in
+        let now : is_leaving_by v (replica (with_replica s x (AtNode k) Invalid) c (AtNode n)) ≡ true = sym (ap (λ (z : State). is_leaving_by v (replica z c (AtNode n))) leaves) ∙ leaving in
         elim (replica-cases s x (AtNode k) Invalid c (AtNode n)) [
           | inl same ↦ sym (ap (is_leaving_by v) same) ∙ now
           | inr (e, at, is) ↦ absurd (false≢true (sym (ap (is_leaving_by v) is) ∙ now))
         ];
   }
-  Step-stays (Run t w) s' step other = record {
-    victims = ap (λ (row : WorkerState). row.victims) (run-worker p m s t w s' step v);
-    leaves = λ c n leaving. run-leaving p m s t w s' step v c (AtNode n) leaving;
+  Step-stays (Run t w) s' step leaves other = record {
+    victims = ap (λ (row : WorkerState). row.victims) (run-worker p m s t w s' step leaves v);
+    leaves = λ c n leaving. run-leaving p m s t w s' step leaves v c (AtNode n) leaving;
   }
-  Step-stays (End t w) s' step other =
-      let change = end-change p m s h t w s' step in
+  Step-stays (End t w) s' step leaves other =
+      let change = end-change p m s h t w s' step leaves in
       record {
         victims = change.victims v;
         leaves = λ c n leaving. change.leaves v c (AtNode n) leaving;
@@ -236,7 +237,7 @@ module _ {D : Type 0} (size faults mismatches : D → ℕ) (held : D → Option 
   h = record { proper = sound.run.proper; machine = sound.run.machine; coherent = sound.coherent }
 
   event-stays : (e : Event) → CanHappen run e → (v : Worker) → NotClaimedBy e v → Stays v (state run) (state (with_event run e))
-  event-stays e can v other = subst (λ (z : State). Stays v (state run) z) (sym (state_of-more run.program run.machine run.trace e)) (Step-stays run.program run.machine (state run) h v e (after run.program run.machine (state run) e) can other)
+  event-stays e can v other = subst (λ (z : State). Stays v (state run) z) (sym (state_of-more run.program run.machine run.trace e)) (Step-stays run.program run.machine (state run) h v e (after run.program run.machine (state run) e) can refl other)
 
   module _ (gone : List ℕ) (knows : Knows run gone) where
     -- an event that is no claim
@@ -257,8 +258,7 @@ module _ {D : Type 0} (size faults mismatches : D → ℕ) (held : D → Option 
         can : (x : Transfer) → transfer (state run) w ≡ Some x → CanHappen run (Moved x.cell x.from x.to)
         can x under_way =
             let s = state run in
-            let placed : State = with_replica s x.cell x.to (Valid (array_at run.program s x.from x.cell)) in
-            subst (λ (v : Worker). EndsMove run.program s x.cell x.from x.to v (with_transfer placed v None)) (one-mover run.program run.machine s x.cell x.from x.to w sound.coherent under_way) (record { under_way = under_way; leaves = refl })
+            subst (λ (v : Worker). transfer s v ≡ Some (a_transfer x.cell x.from x.to)) (one-mover run.program run.machine s x.cell x.from x.to w sound.coherent under_way) under_way
 
         by_move : (o : Option Transfer) → transfer (state run) w ≡ o → IsSomeAnd o Q → IfSome o (λ x. run' ≡ with_event run (Moved x.cell x.from x.to)) → Knows run' gone
         by_move None e none is = absurd none

@@ -6,9 +6,9 @@ use Rattle.sj_base.specs.Recorded.{Recorded}
 use Rattle.sj_base.specs.declared.trace.Event.{Event}
 use Rattle.sj_core.proofs.Words.{Cell, DiskNo, Machine, OnDisk, Place, Program, Replica, State, array_of, dims_of, is_valid, replica, writes}
 use Rattle.sj_base.specs.Array.{Array, zeros}
-use Rattle.sj_core.proofs.Replaying.{Replays-coherent}
-use Rattle.sj_core.proofs.States.{Replays-more, state_of-more}
-use Rattle.sj_core.specs.Legal.{Replays}
+use Rattle.sj_core.proofs.Replaying.{legal-coherent}
+use Rattle.sj_core.proofs.States.{legal-more, state_of-more}
+use Rattle.sj_core.specs.Legal.{IsLegal}
 use Rattle.sj_core.specs.Laws.{IsSound}
 use Rattle.sj_core.specs.Step.{after, array_at}
 use Rattle.sj_disk.specs.declared.directory.Extent.{Extent}
@@ -60,12 +60,12 @@ module _ {D : Type 0} (size faults mismatches : D → ℕ) (held : D → Option 
   pub keeps-event : (e : Event) (rows' : Rows) (owed' spare' : ℕ) → CanHappen b e → HoldsBlocks held p m (after p m (state b) e) (AllTell held b) b.disks → Agrees p m (after p m (state b) e) (AllTell held b) rows' → owed_in rows' ≤ owed' → owed' ≤ spare' → Keeps size faults mismatches held (with_event b e) rows' owed' spare'
   keeps-event e rows' owed' spare' can blocks agrees owes fits =
       let now : state (with_event b e) ≡ after p m (state b) e = state_of-more p m b.trace e in
-      let legal : Replays p m (b.trace ++ e ∷ []) (state (with_event b e)) = subst (λ (z : State). Replays p m (b.trace ++ e ∷ []) z) (sym now) (Replays-more p m b.trace (state b) (after p m (state b) e) e keeps.sound.legal can) in
+      let legal : IsLegal p m (b.trace ++ e ∷ []) = legal-more p m b.trace e keeps.sound.legal can in
       record {
         sound = record {
           run = keeps.sound.run;
           legal = legal;
-          coherent = Replays-coherent p m keeps.sound.run.proper keeps.sound.run.machine keeps.sound.run.has keeps.sound.run.lawful (b.trace ++ e ∷ []) (state (with_event b e)) legal;
+          coherent = legal-coherent p m keeps.sound.run.proper keeps.sound.run.machine keeps.sound.run.has keeps.sound.run.lawful (b.trace ++ e ∷ []) legal;
           blocks = subst (λ (z : State). HoldsBlocks held p m z (AllTell held b) b.disks) (sym now) blocks;
           given_back = keeps.sound.given_back;
         };

@@ -4,6 +4,7 @@ use Rattle.std.proofs.Common.{◌≡◌, ◌≢◌, ℕ, Bool, true, false, not,
 use Rattle.std.specs.Prelude.{IfSome, slice_set}
 use Rattle.std.proofs.lemmas.Bool.{cases_eq, false_from_ne_true, false≢true}
 use Rattle.std.proofs.lemmas.List.{get_or-set_other, get_or-set_same}
+use Rattle.sj_core.specs.declared.progress.Progress.TheVariants.{Running}
 use Rattle.sj_base.specs.Array.{Array, area}
 use Rattle.sj_base.specs.declared.trace.Event.{Event}
 use Rattle.sj_base.specs.declared.trace.Event.TheVariants.{Drop, End, Moved}
@@ -13,7 +14,7 @@ use Rattle.sj_core.proofs.States.{state_of-more}
 use Rattle.sj_core.proofs.Words.{AtNode, Cell, CellState, DiskNo, Invalid, Machine, Node, OnDisk, Place, Program, Replica, State, Task, Valid, Worker, cell_state, dims_of, has_cell, is_valid, node_of, progress, replica, replica_in, with_replica, with_replica_in, writes}
 use Rattle.sj_core.specs.Coherent.{Coherent}
 use Rattle.sj_core.specs.Operands.{written_cells}
-use Rattle.sj_core.specs.Step.{Ends, after, after_end, result_at, rewritten_at}
+use Rattle.sj_core.specs.Step.{after, after_end, result_at, rewritten_at}
 use Rattle.sj_disk.specs.Block.{header}
 use Rattle.sj_disk.specs.declared.header.Header.{Header}
 use Rattle.sj_machine.specs.Board.{HasCause}
@@ -68,11 +69,11 @@ drop-kept s c n = kept-beside s c (AtNode n) Invalid (λ d valid. valid)
 
 -- ---- a task ends
 
-module _ (p : Program) (m : Machine) (s : State) (coherent : Coherent p m s) (t : Task) (w : Worker) (ends : Ends p m s t w (after_end p m s t w)) where
+module _ (p : Program) (m : Machine) (s : State) (coherent : Coherent p m s) (t : Task) (w : Worker) (ends : progress s t ≡ Running w) where
   end-kept : KeepsOnDisks s (after_end p m s t w)
   end-kept c d valid =
       let untouched : has_cell (written_cells p t w) c ≡ false = false_from_ne_true (has_cell (written_cells p t w) c) (λ written.
-      (let own = coherent.writers.owned t w c ends.running written in
+      (let own = coherent.writers.owned t w c ends written in
       false≢true (sym (ap is_valid (own.only (OnDisk d) refl)) ∙ valid))) in
       let same : cell_state (after_end p m s t w) c ≡ cell_state s c = cells-untouched s (has_cell (written_cells p t w)) (λ x row. rewritten_at (node_of m w) (result_at p s t w (node_of m w) x) row) c untouched in
       (ap (λ (row : CellState). is_valid (replica_in row (OnDisk d))) same ∙ valid, ap (λ (row : CellState). row.writes) same)

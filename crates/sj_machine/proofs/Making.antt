@@ -132,7 +132,7 @@ module _ {D : Type 0} (size faults mismatches : D → ℕ) (held : D → Option 
   keeps-first spare = record {
     sound = record {
       run = run;
-      legal = refl;
+      legal = tt;
       coherent = opening-coherent p m;
       blocks = record {
         placed = placed;

@@ -26,7 +26,7 @@ use Rattle.sj_core.proofs.TaskCells.{fresh-among_written}
 use Rattle.sj_core.specs.Coherent.{Coherent, IsClaimed, is_begun}
 use Rattle.sj_core.specs.Laws.{IsSound}
 use Rattle.sj_core.specs.Proper.{HasSwapFor}
-use Rattle.sj_core.specs.Step.{BeginsMoveIn, BeginsMoveOut, Step, a_transfer, after, claimant_of, disk_of, is_fresh, is_moving, is_present, is_read, is_valid_elsewhere, mover_of, reads, same_place, source_of}
+use Rattle.sj_core.specs.Step.{CanMoveIn, CanMoveOut, May, claimant_of, disk_of, is_fresh, is_moving, is_present, is_read, is_valid_elsewhere, mover_of, reads, same_place, source_of}
 use Rattle.sj_machine.specs.Todo.{AnotherGoesOn, Brings, Evicts, HasStep, IsNext, is_to_come, may_run, next_cell, next_victim}
 use Rattle.sj_machine.specs.declared.todo.Todo.{Todo}
 use Rattle.sj_machine.specs.declared.todo.Todo.TheVariants.{Discard, Nothing, Start, Transfer as TransferNext, Wait}
@@ -128,33 +128,33 @@ module _ (p : Program) (m : Machine) (s : State) (w : Worker) (free : transfer s
   pub mover-in : (c : Cell) (from : Place) → is_coming_by w (replica s c (AtNode here)) ≡ true → mover_of s c from (AtNode here) ≡ w
   mover-in c from coming = ap claimant_of (coming_by-is w (replica s c (AtNode here)) coming)
 
-  pub step-out : (c : Cell) (d : DiskNo) → is_leaving_by w (replica s c (AtNode here)) ≡ true → is_valid_elsewhere m s c (AtNode here) ≡ false → disk_of p m c ≡ Some d → Step p m s (Move c (AtNode here) (OnDisk d)) (after p m s (Move c (AtNode here) (OnDisk d)))
+  pub step-out : (c : Cell) (d : DiskNo) → is_leaving_by w (replica s c (AtNode here)) ≡ true → is_valid_elsewhere m s c (AtNode here) ≡ false → disk_of p m c ≡ Some d → May p m s (Move c (AtNode here) (OnDisk d))
   step-out c d leaving only target =
-      subst (λ (v : Worker). BeginsMoveOut p m s c (AtNode here) d v (with_transfer s v (Some (a_transfer c (AtNode here) (OnDisk d))))) (sym (mover-out c d leaving))
-      (record { free = free; leaving = leaving; only = ap not only; target = target; leaves = refl })
+      subst (λ (v : Worker). CanMoveOut p m s c (AtNode here) d v) (sym (mover-out c d leaving))
+      (record { free = free; leaving = leaving; only = ap not only; target = target })
 
-  pub step-in : (c : Cell) (from : Place) → is_coming_by w (replica s c (AtNode here)) ≡ true → not (is_fresh p s w c) ≡ true → has_room m s w ≡ true → source_of p m s c ≡ Some from → Step p m s (Move c from (AtNode here)) (after p m s (Move c from (AtNode here)))
+  pub step-in : (c : Cell) (from : Place) → is_coming_by w (replica s c (AtNode here)) ≡ true → not (is_fresh p s w c) ≡ true → has_room m s w ≡ true → source_of p m s c ≡ Some from → May p m s (Move c from (AtNode here))
   step-in c from coming needed room source =
-      subst (λ (v : Worker). BeginsMoveIn p m s c from here v (with_transfer s v (Some (a_transfer c from (AtNode here))))) (sym (mover-in c from coming))
-      (record { own_node = refl; free = free; coming = coming; old_value_needed = needed; room = room; source = source; leaves = refl })
+      subst (λ (v : Worker). CanMoveIn p m s c from here v) (sym (mover-in c from coming))
+      (record { own_node = refl; free = free; coming = coming; old_value_needed = needed; room = room; source = source })
 
-  pub step-drop : (c : Cell) → is_leaving_by w (replica s c (AtNode here)) ≡ true → is_valid_elsewhere m s c (AtNode here) ≡ true → is_read m s c (AtNode here) ≡ false → Step p m s (Drop c here) (after p m s (Drop c here))
-  step-drop c leaving shared unread = record { leaving = leaving_by-leaves w (replica s c (AtNode here)) leaving; unread = ap not unread; shared = shared; leaves = refl }
+  pub step-drop : (c : Cell) → is_leaving_by w (replica s c (AtNode here)) ≡ true → is_valid_elsewhere m s c (AtNode here) ≡ true → is_read m s c (AtNode here) ≡ false → May p m s (Drop c here)
+  step-drop c leaving shared unread = record { leaving = leaving_by-leaves w (replica s c (AtNode here)) leaving; unread = ap not unread; shared = shared }
 
-  pub step-run : Coherent p m s → (t : Task) → progress s t ≡ Claimed w → has_room m s w ≡ true → may_run p m s t w ≡ true → Step p m s (Run t w) (after p m s (Run t w))
+  pub step-run : Coherent p m s → (t : Task) → progress s t ≡ Claimed w → has_room m s w ≡ true → may_run p m s t w ≡ true → May p m s (Run t w)
   step-run coherent t claimed room may =
       let parts = and_parts (is_present p s t w here) (list_all (λ c. not (is_moving m s c)) (written_cells p t w)) may in
-      record { claimed = claimed; earlier = coherent.order.earlier t (ap is_begun claimed); room = room; present = parts.0; unmoved = parts.1; leaves = refl }
+      record { claimed = claimed; earlier = coherent.order.earlier t (ap is_begun claimed); room = room; present = parts.0; unmoved = parts.1 }
 
 -- ---- what of this is to say of a step
 
 -- the event that the step begins with can happen, and a move is the worker's
 abbrev pub IsPossible : Program → Machine → State → Task → Worker → Todo → Type 0
 IsPossible p m s t w Nothing = Unit {0}
-IsPossible p m s t w (TransferNext c from to n) = Step p m s (Move c from to) (after p m s (Move c from to)) × (mover_of s c from to ≡ w)
-IsPossible p m s t w (Discard c) = Step p m s (Drop c (node_of m w)) (after p m s (Drop c (node_of m w)))
+IsPossible p m s t w (TransferNext c from to n) = May p m s (Move c from to) × (mover_of s c from to ≡ w)
+IsPossible p m s t w (Discard c) = May p m s (Drop c (node_of m w))
 IsPossible p m s t w Wait = Unit {0}
-IsPossible p m s t w Start = Step p m s (Run t w) (after p m s (Run t w))
+IsPossible p m s t w Start = May p m s (Run t w)
 
 module _ (p : Program) (m : Machine) (s : State) (h : IsSound p m s) (t : Task) (w : Worker) (claimed : progress s t ≡ Claimed w) (free : transfer s w ≡ None) (todo : Todo) where
   abbrev Possible : Todo → Type 0

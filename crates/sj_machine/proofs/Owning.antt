@@ -31,7 +31,7 @@ use Rattle.sj_core.proofs.TaskCells.{written-among_cells}
 use Rattle.sj_core.specs.Coherent.{IsHeld, is_being_written}
 use Rattle.sj_core.specs.Laws.{IsSound}
 use Rattle.sj_core.specs.Needs.{workers_of}
-use Rattle.sj_core.specs.Step.{Runs, after_run, initial, owned_at, same_place}
+use Rattle.sj_core.specs.Step.{CanRun, after_run, initial, owned_at, same_place}
 use Rattle.sj_node.proofs.CallerLemmas.{filter-map}
 use Rattle.sj_node.specs.Entry.{Entry, is_among, without_all}
 use Rattle.sj_node.specs.Store.{Store, store, with_entries}
@@ -84,7 +84,7 @@ module _ {D : Type 0} (size faults mismatches : D → ℕ) (held : D → Option 
   abbrev s' : State
   s' = after_run p m s t w
 
-  run : Runs p m s t w s'
+  run : CanRun p m s t w
   run = can
 
   h : IsSound p m s
@@ -158,13 +158,13 @@ module _ {D : Type 0} (size faults mismatches : D → ℕ) (held : D → Option 
       either false = refl
 
   own : (c : Cell) → has_cell ws c ≡ true → replica s' c (AtNode n) ≡ Valid (initial p s t w n c)
-  own c has = (let inside = entry-inside s c n (entry c has) in run-own p m s t w s' run c has inside.0 inside.1)
+  own c has = (let inside = entry-inside s c n (entry c has) in run-own p m s t w s' run refl c has inside.0 inside.1)
 
   elsewhere : (c : Cell) (q : Place) → has_cell ws c ≡ true → not (same_place q (AtNode n)) ≡ true → replica s' c q ≡ Invalid
-  elsewhere c q has away = run-only p m s t w s' run c q has away
+  elsewhere c q has away = run-only p m s t w s' run refl c q has away
 
   other : (c : Cell) (q : Place) → has_cell ws c ≡ false → replica s' c q ≡ replica s c q
-  other c q spare = run-other p m s t w s' run c q spare
+  other c q spare = run-other p m s t w s' run refl c q spare
 
   -- ---- the rows of cells
 
@@ -192,8 +192,8 @@ module _ {D : Type 0} (size faults mismatches : D → ℕ) (held : D → Option 
   tiles-agree : HasTiles p s' (AllTell held b) new
   tiles-agree = record {
     there = λ c k rests. (
-        let spare : has_cell ws c ≡ false = run-spared p m s h t w s' run c rests in
-        ap (λ (r : Copies). is_some (tile_at r k)) (row-left c spare) ∙ keeps.agrees.tiles.there c k (run-rested p m s h t w s' run c rests) ∙ ap is_valid (sym (other c (AtNode k) spare))
+        let spare : has_cell ws c ≡ false = run-spared p m s h t w s' run refl c rests in
+        ap (λ (r : Copies). is_some (tile_at r k)) (row-left c spare) ∙ keeps.agrees.tiles.there c k (run-rested p m s h t w s' run refl c rests) ∙ ap is_valid (sym (other c (AtNode k) spare))
         );
     out = λ c k being. elim (cases_Bool (has_cell ws c)) [
       | inl has ↦ ap (λ (r : Copies). tile_at r k) (row-lent c has) ∙ lent-tile (row_of rows.cells c) n k
@@ -213,7 +213,7 @@ module _ {D : Type 0} (size faults mismatches : D → ℕ) (held : D → Option 
       was-being c spare being =
           elim (cases_Bool (is_being_written p s c)) [
             | inl had ↦ had
-            | inr rests ↦ absurd (false≢true (sym (run-rests p m s h t w s' run c spare rests) ∙ being))
+            | inr rests ↦ absurd (false≢true (sym (run-rests p m s h t w s' run refl c spare rests) ∙ being))
           ]
 
   -- ---- the nodes
@@ -227,7 +227,7 @@ module _ {D : Type 0} (size faults mismatches : D → ℕ) (held : D → Option 
       pinned-by : (v : Worker) → node_of m v ≡ k → IsHeld p s v c → ⊥
       pinned-by v at holds =
           elim (same_task holds.task t) [
-            | inr d ↦ false≢true (sym (run-spares p m s h t w s' run holds.task v c d holds.has holds.cell) ∙ has)
+            | inr d ↦ false≢true (sym (run-spares p m s h t w s' run refl holds.task v c d holds.has holds.cell) ∙ has)
             | inl e ↦ (
                 let mine : is_task_of v (progress s t) ≡ true = ap (λ (u : Task). is_task_of v (progress s u)) (sym e) ∙ holds.has in
                 let same : v ≡ w = sym (task_of-worker v (progress s t) mine) ∙ ap worker_of run.claimed in
@@ -250,11 +250,11 @@ module _ {D : Type 0} (size faults mismatches : D → ℕ) (held : D → Option 
       ap (λ (x : Entry). x.pins) is ∙ unpinned j (λ same. far (ap (λ (x : Node). x.0) same)) (get_or (order s j) i c0) (sym (ap (is_among ws) is) ∙ among)))
 
   store-here : store_of p m s' n ≡ store_of p m s n
-  store-here = ap (λ (cs : List Cell). store (node_size m n) (sum_by (scratch s) (workers_at m n)) (length p.cells) (map (entry_of p m s n) cs)) (run-order_here p m s t w s' run)
+  store-here = ap (λ (cs : List Cell). store (node_size m n) (sum_by (scratch s) (workers_at m n)) (length p.cells) (map (entry_of p m s n) cs)) (run-order_here p m s t w s' run refl)
 
   store-there : (k : Node) → k ≢ n → store_of p m s' k ≡ with_entries (store_of p m s k) (without_all ws (store_of p m s k).entries)
   store-there k far =
-      ap (λ (cs : List Cell). store (node_size m k) (sum_by (scratch s) (workers_at m k)) (length p.cells) (map (entry_of p m s k) cs)) (run-order_elsewhere p m s t w s' run k far)
+      ap (λ (cs : List Cell). store (node_size m k) (sum_by (scratch s) (workers_at m k)) (length p.cells) (map (entry_of p m s k) cs)) (run-order_elsewhere p m s t w s' run refl k far)
       ∙ ap (λ (es : List Entry). store (node_size m k) (sum_by (scratch s) (workers_at m k)) (length p.cells) es) (sym (filter-map (entry_of p m s k) (λ (e : Entry). not (is_among ws e)) (order s k)))
 
   stores-agree : (nodes' : List Store) → length nodes' ≡ length rows.nodes → ((k : ℕ) (d : Store) → k < length rows.nodes → get_or nodes' k d ≡ evicted_at n ws k (get_or rows.nodes k d)) → HasStores p m s' nodes'

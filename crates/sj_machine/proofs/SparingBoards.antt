@@ -6,7 +6,7 @@ use Rattle.sj_base.specs.declared.trace.Event.TheVariants.{Moved}
 use Rattle.sj_core.proofs.States.{one-mover, state_of-more}
 use Rattle.sj_core.proofs.Words.{State, Valid, Worker, transfer, with_replica, with_transfer}
 use Rattle.sj_core.specs.Laws.{IsSound}
-use Rattle.sj_core.specs.Step.{EndsMove, after, array_at}
+use Rattle.sj_core.specs.Step.{a_transfer, after}
 use Rattle.sj_core.specs.declared.progress.Transfer.{Transfer}
 use Rattle.sj_machine.specs.Sound.{IsSoundRun}
 use Rattle.sj_machine.specs.Sparing.{Spares, SparesMoved, SparesUsed}
@@ -20,7 +20,7 @@ module _ {D : Type 0} (size faults mismatches : D → ℕ) (held : D → Option 
   pub event-spares : (e : Event) → CanHappen b e → (b' : Standing D) → b' ≡ with_event b e → Spares b e b'
   event-spares e can b' is =
       subst (λ (x : Standing D). Spares b e x) (sym is)
-      (subst (λ (z : State). SparesUsed b.program b.machine (state b) e z) (sym (state_of-more b.program b.machine b.trace e)) (Step-spares b.program b.machine (state b) sound e (after b.program b.machine (state b) e) can))
+      (subst (λ (z : State). SparesUsed b.program b.machine (state b) e z) (sym (state_of-more b.program b.machine b.trace e)) (Step-spares b.program b.machine (state b) sound e (after b.program b.machine (state b) e) can refl))
 
   -- of the same run under another name
   pub told-spares : (e : Event) → CanHappen b e → (b' : Standing D) → b' ≡ with_event b e → (x : Standing D) → b ≡ x → Spares x e b'
@@ -38,8 +38,7 @@ module _ {D : Type 0} (size faults mismatches : D → ℕ) (held : D → Option 
       can : (x : Transfer) → transfer (state b) w ≡ Some x → CanHappen b (Moved x.cell x.from x.to)
       can x under_way =
           let s = state b in
-          let placed : State = with_replica s x.cell x.to (Valid (array_at b.program s x.from x.cell)) in
-          subst (λ (v : Worker). EndsMove b.program s x.cell x.from x.to v (with_transfer placed v None)) (one-mover b.program b.machine s x.cell x.from x.to w run.coherent under_way) (record { under_way = under_way; leaves = refl })
+          subst (λ (v : Worker). transfer s v ≡ Some (a_transfer x.cell x.from x.to)) (one-mover b.program b.machine s x.cell x.from x.to w run.coherent under_way) under_way
 
       by_transfer : (o : Option Transfer) → transfer (state b) w ≡ o → IfSome o (λ x. b' ≡ with_event b (Moved x.cell x.from x.to)) → IfSome o (λ x. Spares b (Moved x.cell x.from x.to) b')
       by_transfer None e is = tt

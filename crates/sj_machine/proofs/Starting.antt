@@ -40,7 +40,7 @@ module _ {D : Type 0} (faults mismatches : D → ℕ) (held : D → Option (List
   s' = state (with_event b.run (Run t w))
 
   step : Advances s s' t (Claimed w) (Running w)
-  step = subst (λ (z : State). Advances s z t (Claimed w) (Running w)) (sym (state_of-more p m b.run.trace (Run t w))) (Runs-advances p m s t w (after p m s (Run t w)) can)
+  step = subst (λ (z : State). Advances s z t (Claimed w) (Running w)) (sym (state_of-more p m b.run.trace (Run t w))) (Runs-advances p m s t w (after p m s (Run t w)) can refl)
 
   owners : (v : Worker) (u : Task) → is_task_of v (progress s' u) ≡ is_task_of v (progress s u)
   owners v u =

@@ -4,6 +4,7 @@ use Rattle.std.proofs.lemmas.Bool.{cases_eq, false≢true, false_from_ne_true}
 use Rattle.std.proofs.lemmas.List.Elements.{All-from_get_or}
 use Rattle.std.proofs.lemmas.List.Sums.{list_all-from_AllPass}
 use Rattle.std.proofs.lemmas.Option.{none-some}
+use Rattle.sj_core.proofs.Eviction.{evicted-after}
 use Rattle.sj_base.specs.declared.trace.Event.TheVariants.{Claim}
 use Rattle.sj_core.proofs.Advancing.{Advances, Claims-advances, claimed-is_mine, same_task, task_of-worker}
 use Rattle.sj_core.proofs.States.{state_of-more}
@@ -70,7 +71,7 @@ module _ {D : Type 0} (size faults mismatches : D → ℕ) (held : D → Option 
     s' = state (with_event b.run (Claim t w))
 
     step : Advances s s' t Waiting (Claimed w)
-    step = subst (λ (z : State). Advances s z t Waiting (Claimed w)) (sym (state_of-more p m b.run.trace (Claim t w))) (Claims-advances p m s t w (after p m s (Claim t w)) sound.coherent.state.rows can)
+    step = subst (λ (z : State). Advances s z t Waiting (Claimed w)) (sym (state_of-more p m b.run.trace (Claim t w))) (Claims-advances p m s t w (after p m s (Claim t w)) sound.coherent.state.rows can (evicted-after p m s t w))
 
     waited : (v : Worker) (u : Task) → is_task_of v (progress s u) ≡ true → u ≢ t
     waited v u has e = false≢true (sym (ap (is_task_of v) taken.waiting) ∙ ap (λ (k : Task). is_task_of v (progress s k)) (sym e) ∙ has)

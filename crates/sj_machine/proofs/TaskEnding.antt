@@ -82,7 +82,7 @@ module _ {D : Type 0} (size faults mismatches : D → ℕ) (held : D → Option 
   s' = state (with_event b.run (End t w))
 
   step : Advances s s' t (Running w) (Done w)
-  step = subst (λ (z : State). Advances s z t (Running w) (Done w)) (sym (state_of-more p m b.run.trace (End t w))) (Ends-advances p m s t w (after p m s (End t w)) can)
+  step = subst (λ (z : State). Advances s z t (Running w) (Done w)) (sym (state_of-more p m b.run.trace (End t w))) (Ends-advances p m s t w (after p m s (End t w)) can refl)
 
   running-waits : Running w ≡ Waiting → ⊥
   running-waits e = absurd (cc)

@@ -12,7 +12,7 @@ use Rattle.sj_base.specs.Array.{area}
 use Rattle.sj_codelet.specs.declared.kernel.Kernel.{Kernel}
 use Rattle.sj_core.specs.Coherent.{Coherent}
 use Rattle.sj_core.specs.Laws.{IsLawful}
-use Rattle.sj_core.specs.Legal.{Replays}
+use Rattle.sj_core.specs.Legal.{IsLegal}
 use Rattle.sj_core.specs.Machine.{State, is_valid, replica, transfer, writes}
 use Rattle.sj_core.specs.Needs.{Block, place}
 use Rattle.sj_core.specs.Program.{dims_of}
@@ -74,7 +74,7 @@ pub record IsRunOf (p : Program) (m : Machine) : Type 0 where
 -- the trace is legal and its state coherent, the disks hold their blocks, and came back from each call
 pub record IsSoundRun {D : Type 0} (size faults mismatches : D → ℕ) (held : D → Option (List ℕ)) (b : Standing D) : Type 0 where
   pub run : IsRunOf b.program b.machine
-  pub legal : Replays b.program b.machine b.trace (state b)
+  pub legal : IsLegal b.program b.machine b.trace
   pub coherent : Coherent b.program b.machine (state b)
   pub blocks : HoldsBlocks held b.program b.machine (state b) (AllTell held b) b.disks
   pub given_back : AreGivenBack size faults mismatches held b.opened b.disks.disks

@@ -14,7 +14,7 @@ use Rattle.sj_base.specs.Recorded.{Recorded}
 use Rattle.sj_core.specs.Legal.{state_of}
 use Rattle.sj_core.specs.Machine.{State, transfer}
 use Rattle.sj_core.specs.Program.{dims_of}
-use Rattle.sj_core.specs.Step.{Step, after, array_at}
+use Rattle.sj_core.specs.Step.{May, array_at}
 use Rattle.sj_disk.specs.Directory.{DiskState}
 
 -- a run: `opened` is the disks as they were when it was made
@@ -42,7 +42,7 @@ with_event b e = record b { trace = b.trace ++ e ∷ [] }
 
 -- the event is legal now
 abbrev pub CanHappen : {D : Type 0} → Standing D → Event → Type 0
-CanHappen b e = Step b.program b.machine (state b) e (after b.program b.machine (state b) e)
+CanHappen b e = May b.program b.machine (state b) e
 
 -- all disks told their bytes when the run was made; the function is the member `held` of their type
 abbrev pub AllTell : {D : Type 0} → (D → Option (List ℕ)) → Standing D → Type 0

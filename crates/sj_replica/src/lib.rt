@@ -2,6 +2,7 @@
 //! transfers, and its writer (CCPE 2011, "Data management").
 #![tactic(auto)]
 
+pub mod laws;
 pub mod replica;
 pub mod state;
 #[cfg(test)]

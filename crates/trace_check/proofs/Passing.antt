@@ -1,17 +1,13 @@
 -- Nothing but want of memory stands against a trace that is whole.
-use Rattle.std.proofs.Common.{◌≡◌, ◌∙◌, ℕ, zero, suc, ◌+◌, List, [], ◌∷◌, Ok, Err, IsOkAnd, refl, subst, sym, take}
-use Rattle.std.proofs.Math.Logic.{∥∥₁_elim}
-use Rattle.std.proofs.Props.{props}
-use Rattle.std.specs.List.{FoldsTo}
+use Rattle.std.proofs.Common.{◌≡◌, ◌∙◌, ℕ, ◌+◌, List, Ok, Err, IsOkAnd, refl, subst, sym}
 use Rattle.sj_base.specs.declared.program.Machine.{Machine}
 use Rattle.sj_base.specs.declared.program.Program.{Program}
 use Rattle.sj_base.specs.declared.trace.Event.{Event}
+use Rattle.sj_check.proofs.Traces.{fronts-legal}
 use Rattle.sj_check.specs.Refusal.{IsRefusal}
 use Rattle.sj_check.specs.declared.check.CheckRefusal.{CheckRefusal}
 use Rattle.sj_check.specs.declared.check.CheckRefusal.TheVariants as checking
-use Rattle.sj_core.specs.Legal.{IsFinished, IsLegal}
-use Rattle.sj_core.specs.Machine.{opening}
-use Rattle.sj_core.specs.Step.{Step}
+use Rattle.sj_core.specs.Legal.{IsFinished}
 use Rattle.sj_needs.specs.Shortage.{IsShortage}
 use Rattle.sj_needs.specs.declared.shortage.Shortage.{Shortage}
 use Rattle.sj_ready.proofs.Fitting.{room-no-shortage}
@@ -22,18 +18,8 @@ use Rattle.sj_ready.specs.declared.unready.Unready.TheVariants as preparing
 use Rattle.trace_check.specs.Judged.{IsWantOfMemory, TraceIsWhole}
 use Rattle.trace_check.specs.declared.refusal.JudgeRefusal.TheVariants as refusal
 
--- a front of steps is made of steps
-front-leads : {S E : Type 0} (R : S → E → S → Type 0) (n : ℕ) (xs : List E) (s s' : S) → FoldsTo R s xs s' → (z : S) × FoldsTo R s (take n xs) z
-front-leads R zero xs s s' leads = (s, refl)
-front-leads R (suc n) [] s s' leads = (s, refl)
-front-leads R (suc n) (x ∷ xs) s s' (next, step, rest) = let more = front-leads R n xs next s' rest in (more.0, (next, step, more.1))
-
-front-legal : (p : Program) (m : Machine) (n : ℕ) (trace : List Event) → IsFinished p m trace → IsLegal p m (take n trace)
-front-legal p m n trace finished =
-    ∥∥₁_elim finished (hlevel props) (λ f. let front = front-leads (Step p m) n trace (opening p m) f.left f.replays in ∣ record { left = front.0; replays = front.1 } ∣₁)
-
 pub checked-whole : (p : Program) (m : Machine) (events : List Event) (wrong : CheckRefusal) → IsFinished p m events → IsRefusal p m events wrong → IsWantOfMemory (refusal.Wrong wrong)
-checked-whole p m events (checking.BadEvent index) finished h = absurd (h.bad (front-legal p m (index + 1) events finished))
+checked-whole p m events (checking.BadEvent index) finished h = absurd (h.bad (fronts-legal p m events finished.legal (index + 1)))
 checked-whole p m events checking.Unfinished finished h = absurd (h.undone finished)
 checked-whole p m events checking.OutOfMemory finished h = tt
 

@@ -3,7 +3,7 @@ use Rattle.std.proofs.lemmas.Bool.{false≢true}
 use Rattle.sj_core.specs.Legal.{IsComplete}
 use Rattle.sj_check.specs.Replay.{IsSoundReplay, Replay, state}
 use Rattle.sj_check.proofs.Ending.{loop-bad, loop-ends, loop-good}
-use Rattle.sj_check.proofs.Traces.{finished-now, fronts-coherent, unfinished-now, whole-final, whole-within_bound}
+use Rattle.sj_check.proofs.Traces.{fronts-coherent, unfinished-now, whole-final, whole-within_bound}
 use Rattle.sj_check.proofs.check.check.Goals as goal
 
 pub loop-i-preserved : goal.loop-i-preserved
@@ -19,7 +19,7 @@ returns-then-is_complete-clause-finished c =
     let events = c.args.trace.now.events in
     let whole = loop-ends p m events c.loop-i.i c.loop-i.checker c.loop-i.invariant (omega (arith, c.loop-i-test.false, c.len-i-end.ensures)) in
     let sound = subst IsSoundReplay whole c.is_sound-2.ensures in
-    λ ok. finished-now p m events sound.legal (subst (λ (r : Replay). IsComplete (state r)) whole (c.is_complete.ensures.0 c.if-is_complete.true))
+    λ ok. record { legal = sound.legal; complete = subst (λ (r : Replay). IsComplete (state r)) whole (c.is_complete.ensures.0 c.if-is_complete.true) }
 
 pub returns-then-is_complete-clause-each_state_is_coherent : goal.returns-then-is_complete-clause-each_state_is_coherent
 returns-then-is_complete-clause-each_state_is_coherent c =

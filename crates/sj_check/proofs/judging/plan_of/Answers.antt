@@ -11,5 +11,5 @@ pub returns-in-Err : goal.returns-in-Err
 returns-in-Err g c =
     let a = c.args in
     let b = a.run.now in
-    why-not b.program b.machine (state b) c.is_sound.ensures.coherent a.t a.w _ c.in-Err.field-0
+    why-not b.program b.machine (state b) c.is_sound.ensures.coherent a.t a.w c.in-Err.field-0
     (subst (λ (r : Result ClaimPlan Why). IfErr r (IsWhy b.program b.machine (state b) a.t a.w)) c.in-Err.is c.in_ok-plan.ensures.why)

@@ -1,5 +1,7 @@
 use Rattle.sj_core.proofs.Moving.{Moves_in-keep_coherence}
+use Rattle.sj_core.specs.Step.{mover_of}
+use Rattle.sj_core.proofs.Words.{AtNode}
 use Rattle.sj_core.proofs.laws.moves_in.Goals as goal
 
 pub returns : goal.returns
-returns c = λ p m s s' c from n w h move. Moves_in-keep_coherence p m s h c from n w s' move
+returns c = λ p m s c from n h move. Moves_in-keep_coherence p m s h c from n (mover_of s c from (AtNode n)) move

@@ -1,9 +1,8 @@
-use Rattle.sj_core.proofs.States.{Step-after, Replays-state, one-mover}
+use Rattle.sj_core.proofs.States.{legal-more, legal-before, legal-last, one-mover}
 use Rattle.sj_core.proofs.laws.states.Goals as goal
 
 pub returns : goal.returns
 returns c = record {
-  steps = Step-after;
-  traces = λ p m s trace replays. Replays-state p m trace s replays;
+  go_on = λ p m trace e. record { both_suffice = legal-more p m trace e; trace_is_legal = legal-before p m trace e; event_may_happen = legal-last p m trace e };
   moves = one-mover;
 }

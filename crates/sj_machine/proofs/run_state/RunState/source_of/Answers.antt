@@ -1,6 +1,4 @@
-use Rattle.std.proofs.Common.{◌≡◌, ◌∙◌, ◌<◌, Some, length, subst, sym, ap, is_some}
-use Rattle.sj_base.specs.declared.ids.DiskNo.{DiskNo}
-use Rattle.std.specs.Prelude.{Option}
+use Rattle.std.proofs.Common.{◌∙◌, ◌<◌, length, subst, sym, ap, is_some}
 use Rattle.sj_machine.specs.Standing.{Standing}
 use Rattle.sj_machine.proofs.NextRows.{disk-some, source-disk, source-node}
 use Rattle.sj_machine.proofs.run_state.RunState.source_of.Goals as goal
