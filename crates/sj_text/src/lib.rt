@@ -1,0 +1,11 @@
+//! The canonical text of a job.
+#![tactic(auto)]
+
+mod act;
+mod array;
+mod plans;
+mod settings;
+mod task;
+#[cfg(test)]
+mod tests;
+pub mod text;
