@@ -31,14 +31,17 @@ fn write_size(text: &mut Vec<u8>, name: &[u8], kind: Kind, dims: Dims) -> Result
         Kind::Vector => {
             text.extend_from_slice(b"vector ")?;
             text.extend_from_slice(name)?;
+            write_numbered(text, b" ", dims.cols as u64)?;
+            Ok(())
         }
         Kind::Matrix => {
             text.extend_from_slice(b"matrix ")?;
             text.extend_from_slice(name)?;
             write_numbered(text, b" ", dims.rows as u64)?;
+            write_numbered(text, b" ", dims.cols as u64)?;
+            Ok(())
         }
     }
-    write_numbered(text, b" ", dims.cols as u64)
 }
 
 /// Appends ` by r c`, where the plan has more than one part.
@@ -61,7 +64,8 @@ fn write_init(text: &mut Vec<u8>, init: &Init) -> Result<(), OutOfMemory>
     match init {
         Init::Values(values) => {
             text.extend_from_slice(b" values")?;
-            write_integers(text, b' ', values.items())
+            write_integers(text, b' ', values.items())?;
+            Ok(())
         }
         Init::Fill(a, b) => {
             text.extend_from_slice(b" fill ")?;

@@ -1,6 +1,6 @@
 //! The line of a task.
 
-ghost use Rattle.std.specs.Prelude.{◌≡◌, ◌++◌, ◌<◌, ◌≤◌, ℕ, List, All, length, map, OnOk};
+ghost use Rattle.std.specs.Prelude.{◌≡◌, ◌++◌, ◌∷◌, ◌<◌, ◌≤◌, [], ℕ, List, All, length, map, OnOk};
 ghost use Rattle.sj_job.specs.Act.{Task};
 ghost use Rattle.sj_job.specs.Grammar.{bracketed_word, child_pieces, operand_word, priority_words};
 ghost use Rattle.sj_job.specs.View.{operand_seen, task_seen};
