@@ -1,5 +1,5 @@
--- The canonical form of each statement: how a job's text says it. Numbers stand without leading zeros, `by` and the index of a child
--- only where the plan has more than one part, and `prio=` only where the priority isn't 0.
+-- The canonical form of each statement: how a job's text says it. Numbers stand without leading zeros, `by` and the index of a
+-- child only where the plan has more than one part, and `prio=` only where the priority isn't 0.
 use Rattle.std.specs.Prelude.{ℕ, ℤ, pos, Bool, ◌&&◌, nat_eq, Option, Some, None, List, map, decimal, if◌then◌else◌}
 use Rattle.std.specs.Ordering.{int_eq}
 use Rattle.std.specs.Str.{bytes_eq}

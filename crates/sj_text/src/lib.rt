@@ -6,6 +6,4 @@ mod array;
 mod plans;
 mod settings;
 mod task;
-#[cfg(test)]
-mod tests;
 pub mod text;

@@ -15,9 +15,11 @@ use sj_plan::parts::Parts;
 pub fn activate(plans: &mut Vec<Parts>, roots: &Roots, act: &Act) -> Result<(), OutOfMemory>
     requires placed { IsPlaced (length plans.old.items) act.now }
     requires registered { count_after (length plans.old.items) act.now ≤ length roots.now.names }
-    ensures counted { OnOk result (length plans.new.items ≡ count_after (length plans.old.items) act.now) }
-    ensures active { OnOk result ((active : Plans) → AreActive roots.now plans.old.items active
-        → AreActive roots.now plans.new.items (plans_after (act_seen roots.now (length plans.old.items) act.now) active)) }
+    ensures counted { OnOk result (length plans.new.items
+        ≡ count_after (length plans.old.items) act.now) }
+    ensures active { OnOk result ((active : Plans) → AreActive roots.now plans.old.items active →
+        let seen = act_seen roots.now (length plans.old.items) act.now in
+        AreActive roots.now plans.new.items (plans_after seen active)) }
 {
     match act {
         Act::Register(_) => {

@@ -39,8 +39,9 @@ fn write_operand(
 ) -> Result<(), OutOfMemory>
     requires placed { operand.now.root.0 < length plans.now }
     requires registered { length plans.now ≤ length roots.now.names }
-    ensures { OnOk result ((active : Plans) → AreActive roots.now plans.now active → text.new.items
-        ≡ text.old.items ++ spaced (operand_word (operand_form active (operand_seen roots.now operand.now)) ∷ [])) }
+    ensures { OnOk result ((active : Plans) → AreActive roots.now plans.now active →
+        let form = operand_form active (operand_seen roots.now operand.now) in
+        text.new.items ≡ text.old.items ++ spaced (operand_word form ∷ [])) }
 {
     text.push(b' ')?;
     text.extend_from_slice(roots.name(operand.root))?;
@@ -59,8 +60,9 @@ fn write_operands(
 ) -> Result<(), OutOfMemory>
     requires placed { All (λ o. o.root.0 < length plans.now) operands.now }
     requires registered { length plans.now ≤ length roots.now.names }
-    ensures { OnOk result ((active : Plans) → AreActive roots.now plans.now active → text.new.items
-        ≡ text.old.items ++ spaced (map operand_word (map (operand_form active) (map (operand_seen roots.now) operands.now)))) }
+    ensures { OnOk result ((active : Plans) → AreActive roots.now plans.now active →
+        let forms = map (operand_form active) (map (operand_seen roots.now) operands.now) in
+        text.new.items ≡ text.old.items ++ spaced (map operand_word forms)) }
 {
     for operand in operands {
         write_operand(text, roots, plans, operand)?;

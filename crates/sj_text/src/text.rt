@@ -32,9 +32,9 @@ fn write_statements(
     Ok(())
 }
 
-/// The canonical text of a job: the header, the settings, also those that no line sets, and a line for each statement, with numbers
-/// without leading zeros, `inf` for the greatest i64, `by` and the index of an operand where the plan has more than one part and
-/// nowhere else, and `prio=` where the priority isn't 0. Linear in the job.
+/// The canonical text of a job: the header, the settings, also those that no line sets, and a line for each statement. Numbers
+/// stand without leading zeros, and `inf` for the greatest i64; `by` and the index of an operand where the plan has more than
+/// one part, and nowhere else; `prio=` where the priority isn't 0. Linear in the job.
 pub fn job_text(alloc: Global, job: &Job) -> Result<Vec<u8>, OutOfMemory>
     requires numbered { IsNumbered job.now.roots job.now.statements }
     ensures text { IfOk result (λ text. text.items ≡ text_of_job (job_seen job.now)) }

@@ -19,7 +19,7 @@ use sj_words::Options;
 use std::alloc::Global;
 
 /// The sizes of one disk alone.
-fn one_disk(alloc: Global, swap: u64) -> Result<Vec<u64>, OutOfMemory>
+pub fn one_disk(alloc: Global, swap: u64) -> Result<Vec<u64>, OutOfMemory>
     ensures { IfOk result (λ disks. disks.items ≡ swap ∷ []) }
 {
     Ok(vec![in alloc; swap]?)

@@ -1,14 +1,20 @@
 //! `trace_check`: reads a job from standard input and the trace of a run of it from a file, and says whether each event of
 //! the trace is legal and all tasks are done after the last.
 //!
-//! The words before the file's name are those of `starjob`, which ask for the machine of the run.
+//! The words before the file's name are those of `starjob`, which ask for the machine of the run. In place of the file's name
+//! `--program` has it print the program to which the job is lowered, and `--text` alone the canonical text of the job.
 #![tactic(auto)]
 
+mod answering;
 mod judging;
 mod refusal;
+mod showing;
 #[cfg(test)]
 mod tests;
+#[cfg(test)]
+mod tests_of_showing;
 
+use answering::{show_job, show_program};
 use judging::judged;
 use refusal::JudgeRefusal;
 use sj_check::check::CheckRefusal;
@@ -21,7 +27,13 @@ use std::io::{self, ErrorKind, Read};
 use std::process::ExitCode;
 use std::{env, fs};
 
-const USAGE: &str = "usage: trace_check [words of starjob] TRACE < JOB";
+const USAGE: &str =
+    "usage: trace_check [words of starjob] TRACE < JOB, or --program for TRACE, or --text alone";
+
+/// The words that stand in place of the trace's file.
+const PROGRAM: &str = "--program";
+
+const TEXT: &str = "--text";
 
 /// The exit codes: the trace isn't legal or not complete; words, job or trace aren't read; memory ran out.
 const BAD: u8 = 1;
@@ -121,7 +133,18 @@ fn main(rt: HostRuntime) -> ExitCode {
     ExitCode::from(answer(&rt))
 }
 
-/// Reads words, job and trace, and checks.
+/// Reads a job and shows its text, where no other word stands before.
+fn text_alone(rt: &HostRuntime, words: &[String]) -> u8 {
+    if !words.is_empty() {
+        return refused(rt, USAGE);
+    }
+    match input(rt) {
+        Ok(job) => show_job(rt, &job),
+        Err(error) => unread(rt, &error, "the job can't be read"),
+    }
+}
+
+/// Reads words, job and trace, and checks; or reads words and a job, and shows it.
 fn answer(rt: &HostRuntime) -> u8 {
     let alloc = rt.alloc();
     let mut words = match words(rt) {
@@ -131,6 +154,9 @@ fn answer(rt: &HostRuntime) -> u8 {
     let Some(path) = words.pop() else {
         return refused(rt, USAGE);
     };
+    if path.as_str() == TEXT {
+        return text_alone(rt, &words);
+    }
     let options = match read_words(alloc, &words) {
         Ok(options) => options,
         Err(WordsRefusal::Unaccepted) => return refused(rt, USAGE),
@@ -143,6 +169,9 @@ fn answer(rt: &HostRuntime) -> u8 {
         Ok(job) => job,
         Err(error) => return unread(rt, &error, "the job can't be read"),
     };
+    if path.as_str() == PROGRAM {
+        return show_program(rt, &options, wish.size, job);
+    }
     let text = match fs::read(rt, path.as_str()) {
         Ok(text) => text,
         Err(error) => return unread(rt, &error, "the trace can't be read"),
