@@ -165,7 +165,7 @@ check() {
   printf %s "$1" > trace
   run "$evicts" "${@:2}" trace
 }
-usage=$'usage: trace_check \\[words of starjob\\] TRACE < JOB\n'
+usage=$'usage: trace_check \\[words of starjob\\] TRACE < JOB, or --program for TRACE, or --text alone\n'
 early=${evicted/claim t2 w0/run t2 w0}
 no_event=${evicted/drop c0 n0/drop c00 n0}
 
@@ -201,4 +201,30 @@ check '' --unknown
 expect "a word of the run that isn't known" 2 '' "$usage"
 check '' --nodes 2
 expect 'a number of nodes for the run without their size' 2 '' "$usage"
+
+# what it shows of a job
+run $'starjob 1\nvector x 2 by 1 1 values 01 -2\nprint x\n' --text
+expect 'the text of a job' 0 $'starjob 1\nworkers 1\nnode 268435456\npolicy eager\nvector x 2 values 1 -2\nprint x\n' ''
+run $'starjob 1\nvector x 2 values 1 -2\nprint x\n' --workers 2 --program
+expect 'the program of a job' 0 $'workers 2\ncell c0 r0 1 2\ntask t0 line 2 prio 0 load(1,-2) c0:W
+task t1 line 3 prio 0 deliver c0:R\ndelivery t1 r0 0 0 print 0\n' ''
+run "$evicts" --workers 2 --text
+expect 'a further word before --text' 2 '' "$usage"
+run $'starjob 1\nprint x\n' --text
+expect 'the text of a bad job' 2 '' $'line 2 of the job is refused\n'
+run $'starjob 1\nprint x\n' --program
+expect 'the program of a bad job' 2 '' $'line 2 of the job is refused\n'
+"$program" --text < "$pictures/paths.job" > /dev/full 2> err
+code=$?
+: > out
+expect 'a text that no disk has room for' 2 '' $'standard output can\'t be written\n'
+
+# shape JOB: the program of a job, without the numbers of its lines
+shape() { "$program" --program < "$1" | sed 's/ line [0-9]*//'; }
+for job in "$here"/*.job "$pictures"/*.job; do
+  "$program" --text < "$job" > first && "$program" --text < first | cmp -s - first
+  expect_true "the text of the text of ${job##*/} is that text" $?
+  cmp -s <(shape "$job") <(shape first) && cmp -s <("$starjob" < "$job") <("$starjob" < first)
+  expect_true "the text of ${job##*/} says the same job" $?
+done
 exit $failed

@@ -2,7 +2,7 @@
 
 ghost use Rattle.std.specs.Prelude.{◌≡◌, ◌++◌, flat_map, map, IfOk, OnOk};
 ghost use Rattle.std.specs.List.{enumerate_from};
-ghost use Rattle.sj_show.specs.Program.{access_word, cell_line, copies_words, delivery_line, task_line, text_of_program, workers_line};
+ghost use Rattle.sj_show.specs.Program.{access_word, line_of_cell, copies_words, line_of_delivery, line_of_task, text_of_program, line_of_workers};
 ghost use Rattle.sj_show.specs.Words.{spaced};
 
 use crate::words::{mode_word, write_codelet, write_integer, write_numbered};
@@ -14,7 +14,7 @@ use std::alloc::Global;
 
 /// Appends the line of the number of workers.
 fn write_workers(text: &mut Vec<u8>, workers: u8) -> Result<(), OutOfMemory>
-    ensures { OnOk result (text.new.items ≡ text.old.items ++ workers_line workers) }
+    ensures { OnOk result (text.new.items ≡ text.old.items ++ line_of_workers workers) }
 {
     write_numbered(text, b"workers ", workers as u64)?;
     text.push(b'\n')?;
@@ -33,7 +33,7 @@ fn write_copies(text: &mut Vec<u8>, first: Option<Cell>) -> Result<(), OutOfMemo
 
 /// Appends the line of a cell.
 fn write_cell(text: &mut Vec<u8>, number: usize, cell: &CellInfo) -> Result<(), OutOfMemory>
-    ensures { OnOk result (text.new.items ≡ text.old.items ++ cell_line (number, cell.now)) }
+    ensures { OnOk result (text.new.items ≡ text.old.items ++ line_of_cell (number, cell.now)) }
 {
     write_numbered(text, b"cell c", number as u64)?;
     write_numbered(text, b" r", cell.root.0 as u64)?;
@@ -47,7 +47,7 @@ fn write_cell(text: &mut Vec<u8>, number: usize, cell: &CellInfo) -> Result<(), 
 /// Appends the lines of cells. Linear in them, amortised.
 fn write_cells(text: &mut Vec<u8>, cells: &[CellInfo]) -> Result<(), OutOfMemory>
     ensures { OnOk result (text.new.items
-        ≡ text.old.items ++ flat_map cell_line (enumerate_from 0 cells.now)) }
+        ≡ text.old.items ++ flat_map line_of_cell (enumerate_from 0 cells.now)) }
 {
     for (number, cell) in cells.iter().enumerate() {
         write_cell(text, number, cell)?;
@@ -70,7 +70,7 @@ fn write_accesses(text: &mut Vec<u8>, accesses: &[Access]) -> Result<(), OutOfMe
 
 /// Appends the line of a task. Linear in it, amortised.
 fn write_task(text: &mut Vec<u8>, number: usize, task: &Lowered) -> Result<(), OutOfMemory>
-    ensures { OnOk result (text.new.items ≡ text.old.items ++ task_line (number, task.now)) }
+    ensures { OnOk result (text.new.items ≡ text.old.items ++ line_of_task (number, task.now)) }
 {
     write_numbered(text, b"task t", number as u64)?;
     write_numbered(text, b" line ", task.line.0 as u64)?;
@@ -86,7 +86,7 @@ fn write_task(text: &mut Vec<u8>, number: usize, task: &Lowered) -> Result<(), O
 /// Appends the lines of tasks. Linear in them, amortised.
 fn write_tasks(text: &mut Vec<u8>, tasks: &[Lowered]) -> Result<(), OutOfMemory>
     ensures { OnOk result (text.new.items
-        ≡ text.old.items ++ flat_map task_line (enumerate_from 0 tasks.now)) }
+        ≡ text.old.items ++ flat_map line_of_task (enumerate_from 0 tasks.now)) }
 {
     for (number, task) in tasks.iter().enumerate() {
         write_task(text, number, task)?;
@@ -96,7 +96,7 @@ fn write_tasks(text: &mut Vec<u8>, tasks: &[Lowered]) -> Result<(), OutOfMemory>
 
 /// Appends the line of a delivery.
 fn write_delivery(text: &mut Vec<u8>, delivery: &Delivery) -> Result<(), OutOfMemory>
-    ensures { OnOk result (text.new.items ≡ text.old.items ++ delivery_line delivery.now) }
+    ensures { OnOk result (text.new.items ≡ text.old.items ++ line_of_delivery delivery.now) }
 {
     write_numbered(text, b"delivery t", delivery.task.0 as u64)?;
     write_numbered(text, b" r", delivery.root.0 as u64)?;
@@ -110,7 +110,7 @@ fn write_delivery(text: &mut Vec<u8>, delivery: &Delivery) -> Result<(), OutOfMe
 /// Appends the lines of deliveries. Linear in them, amortised.
 fn write_deliveries(text: &mut Vec<u8>, deliveries: &[Delivery]) -> Result<(), OutOfMemory>
     ensures { OnOk result (text.new.items
-        ≡ text.old.items ++ flat_map delivery_line deliveries.now) }
+        ≡ text.old.items ++ flat_map line_of_delivery deliveries.now) }
 {
     for delivery in deliveries {
         write_delivery(text, delivery)?;

@@ -8,10 +8,10 @@ use Rattle.sj_job.proofs.Places.{same-text, text-itself}
 use Rattle.sj_job.specs.Table.{AreDistinct, Table, a_root, info_of, name_of, undivided}
 use Rattle.sj_plan.specs.declared.parts.Parts.{Parts}
 use Rattle.sj_text.specs.Forms.{Plans, no_plans, with_plan}
-use Rattle.sj_text.specs.Text.{AreActive}
+use Rattle.sj_text.specs.Text.{AreCurrent}
 
 -- nothing is said of no plans
-pub none-active : (T : Table) → AreActive T [] no_plans
+pub none-active : (T : Table) → AreCurrent T [] no_plans
 none-active T = record { active = λ n h. absurd (omega (arith, h)) }
 
 plan-by : (name other : List ℕ) (p : Parts) (plans : Plans) (b : Bool) → bytes_eq other name ≡ b → with_plan name p plans other ≡ cond b p (plans other)
@@ -30,7 +30,7 @@ other-plan name other p plans e = by-test (bytes_eq other name) refl
     by-test false t = plan-by name other p plans false t
 
 -- a root more
-pub registered-active : (T : Table) (parts : List Parts) (plans : Plans) (p : Parts) → AreDistinct T.names → length parts + 1 ≤ length T.names → AreActive T parts plans → AreActive T (parts ++ p ∷ []) (with_plan (name_of T (a_root (length parts))) p plans)
+pub registered-active : (T : Table) (parts : List Parts) (plans : Plans) (p : Parts) → AreDistinct T.names → length parts + 1 ≤ length T.names → AreCurrent T parts plans → AreCurrent T (parts ++ p ∷ []) (with_plan (name_of T (a_root (length parts))) p plans)
 registered-active T parts plans p distinct few a = record { active = λ n h. by-place n h (cases_lt n (length parts)) }
   where
     by-place : (n : ℕ) → n < length (parts ++ p ∷ []) → (n < length parts) ⊎ (length parts ≤ n) → with_plan (name_of T (a_root (length parts))) p plans (name_of T (a_root n)) ≡ get_or (parts ++ p ∷ []) n undivided
@@ -44,7 +44,7 @@ registered-active T parts plans p distinct few a = record { active = λ n h. by-
         ∙ sym (get_or_at parts p [] undivided n (sym is))
 
 -- another plan
-pub planned-active : (T : Table) (parts : List Parts) (plans : Plans) (r : ℕ) (p : Parts) → AreDistinct T.names → length parts ≤ length T.names → r < length parts → AreActive T parts plans → AreActive T (set parts r p) (with_plan (name_of T (a_root r)) p plans)
+pub planned-active : (T : Table) (parts : List Parts) (plans : Plans) (r : ℕ) (p : Parts) → AreDistinct T.names → length parts ≤ length T.names → r < length parts → AreCurrent T parts plans → AreCurrent T (set parts r p) (with_plan (name_of T (a_root r)) p plans)
 planned-active T parts plans r p distinct few in' a = record { active = λ n h. by-place n (omega (arith, h, length-set parts r p)) (cases-same n) }
   where
     cases-same : (n : ℕ) → (n ≡ r) ⊎ (n ≢ r)

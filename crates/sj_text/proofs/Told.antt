@@ -7,13 +7,13 @@ use Rattle.sj_job.specs.View.{ArePlaced, IsNumbered, IsPlaced, act_seen, count_a
 use Rattle.sj_job.specs.declared.job.Statement.{Statement as Kept}
 use Rattle.sj_plan.specs.declared.parts.Parts.{Parts}
 use Rattle.sj_text.specs.Forms.{Plans, no_plans, plans_after}
-use Rattle.sj_text.specs.Text.{AreActive, act_line, statement_lines}
+use Rattle.sj_text.specs.Text.{AreCurrent, act_line, statement_lines}
 use Rattle.sj_text.proofs.Active.{none-active}
 
 -- so many roots are registered, and these statements are left: with their lines the text is whole
 pub record GoesOn (T : Table) (parts : List Parts) (rest : List Kept) (now whole : List ℕ) : Type 0 where
   pub plans : Plans
-  pub active : AreActive T parts plans
+  pub active : AreCurrent T parts plans
   pub placed : ArePlaced (length parts) rest
   pub counted : count_from (length parts) rest ≡ length T.names
   pub told : now ++ statement_lines plans (seen_from T (length parts) rest) ≡ whole
@@ -43,9 +43,9 @@ may-tell T parts s rest now whole g = (g.placed.0, omega (arith, counts-grow (co
 
 -- it is told
 pub goes-on : (T : Table) (parts new_parts : List Parts) (s : Kept) (rest : List Kept) (now new whole : List ℕ) → GoesOn T parts (s ∷ rest) now whole
-    → ((active : Plans) → AreActive T parts active → new ≡ now ++ act_line active (act_seen T (length parts) s.act))
+    → ((active : Plans) → AreCurrent T parts active → new ≡ now ++ act_line active (act_seen T (length parts) s.act))
     → length new_parts ≡ count_after (length parts) s.act
-    → ((active : Plans) → AreActive T parts active → AreActive T new_parts (plans_after (act_seen T (length parts) s.act) active))
+    → ((active : Plans) → AreCurrent T parts active → AreCurrent T new_parts (plans_after (act_seen T (length parts) s.act) active))
     → GoesOn T new_parts rest new whole
 goes-on T parts new_parts s rest now new whole g written count activated =
     let act = act_seen T (length parts) s.act in

@@ -43,5 +43,5 @@ text_of_job j = header_line ++ settings_lines j.settings ++ statement_lines no_p
 -- ---- while it is written
 
 -- the plans of the first roots, in the order of their numbers, are those that are active for their names
-pub record AreActive (T : Table) (parts : List Parts) (plans : Plans) : Type 0 where
+pub record AreCurrent (T : Table) (parts : List Parts) (plans : Plans) : Type 0 where
   pub active : (n : ℕ) → n < length parts → plans (name_of T (a_root n)) ≡ slice_index_or parts n undivided

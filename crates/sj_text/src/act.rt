@@ -6,7 +6,7 @@ ghost use Rattle.sj_job.specs.Act.{Plan, Redux};
 ghost use Rattle.sj_job.specs.View.{IsPlaced, act_seen, count_after};
 ghost use Rattle.sj_show.specs.Words.{line_of_words};
 ghost use Rattle.sj_text.specs.Forms.{Plans};
-ghost use Rattle.sj_text.specs.Text.{AreActive, act_line};
+ghost use Rattle.sj_text.specs.Text.{AreCurrent, act_line};
 
 use crate::array::write_array;
 use crate::task::write_task;
@@ -74,7 +74,7 @@ pub fn write_act(
 ) -> Result<(), OutOfMemory>
     requires placed { IsPlaced (length plans.now) act.now }
     requires registered { count_after (length plans.now) act.now ≤ length roots.now.names }
-    ensures { OnOk result ((active : Plans) → AreActive roots.now plans.now active → text.new.items
+    ensures { OnOk result ((active : Plans) → AreCurrent roots.now plans.now active → text.new.items
         ≡ text.old.items ++ act_line active (act_seen roots.now (length plans.now) act.now)) }
 {
     match act {

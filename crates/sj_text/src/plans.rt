@@ -3,7 +3,7 @@
 ghost use Rattle.std.specs.Prelude.{◌≡◌, ◌≤◌, length, OnOk};
 ghost use Rattle.sj_job.specs.View.{IsPlaced, act_seen, count_after};
 ghost use Rattle.sj_text.specs.Forms.{Plans, plans_after};
-ghost use Rattle.sj_text.specs.Text.{AreActive};
+ghost use Rattle.sj_text.specs.Text.{AreCurrent};
 
 use sj_base::ids::Root;
 use sj_base::memory::OutOfMemory;
@@ -17,9 +17,9 @@ pub fn activate(plans: &mut Vec<Parts>, roots: &Roots, act: &Act) -> Result<(), 
     requires registered { count_after (length plans.old.items) act.now ≤ length roots.now.names }
     ensures counted { OnOk result (length plans.new.items
         ≡ count_after (length plans.old.items) act.now) }
-    ensures active { OnOk result ((active : Plans) → AreActive roots.now plans.old.items active →
+    ensures active { OnOk result ((active : Plans) → AreCurrent roots.now plans.old.items active →
         let seen = act_seen roots.now (length plans.old.items) act.now in
-        AreActive roots.now plans.new.items (plans_after seen active)) }
+        AreCurrent roots.now plans.new.items (plans_after seen active)) }
 {
     match act {
         Act::Register(_) => {

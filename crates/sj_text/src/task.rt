@@ -6,7 +6,7 @@ ghost use Rattle.sj_job.specs.Grammar.{bracketed_word, child_pieces, operand_wor
 ghost use Rattle.sj_job.specs.View.{operand_seen, task_seen};
 ghost use Rattle.sj_show.specs.Words.{spaced};
 ghost use Rattle.sj_text.specs.Forms.{Plans, operand_form, pair_under, priority_form};
-ghost use Rattle.sj_text.specs.Text.{AreActive, act_line};
+ghost use Rattle.sj_text.specs.Text.{AreCurrent, act_line};
 
 use crate::array::is_whole;
 use sj_base::memory::OutOfMemory;
@@ -39,7 +39,7 @@ fn write_operand(
 ) -> Result<(), OutOfMemory>
     requires placed { operand.now.root.0 < length plans.now }
     requires registered { length plans.now ≤ length roots.now.names }
-    ensures { OnOk result ((active : Plans) → AreActive roots.now plans.now active →
+    ensures { OnOk result ((active : Plans) → AreCurrent roots.now plans.now active →
         let form = operand_form active (operand_seen roots.now operand.now) in
         text.new.items ≡ text.old.items ++ spaced (operand_word form ∷ [])) }
 {
@@ -60,7 +60,7 @@ fn write_operands(
 ) -> Result<(), OutOfMemory>
     requires placed { All (λ o. o.root.0 < length plans.now) operands.now }
     requires registered { length plans.now ≤ length roots.now.names }
-    ensures { OnOk result ((active : Plans) → AreActive roots.now plans.now active →
+    ensures { OnOk result ((active : Plans) → AreCurrent roots.now plans.now active →
         let forms = map (operand_form active) (map (operand_seen roots.now) operands.now) in
         text.new.items ≡ text.old.items ++ spaced (map operand_word forms)) }
 {
@@ -91,7 +91,7 @@ pub fn write_task(
 ) -> Result<(), OutOfMemory>
     requires placed { All (λ o. o.root.0 < length plans.now) task.now.operands }
     requires registered { length plans.now ≤ length roots.now.names }
-    ensures { OnOk result ((active : Plans) → AreActive roots.now plans.now active → text.new.items
+    ensures { OnOk result ((active : Plans) → AreCurrent roots.now plans.now active → text.new.items
         ≡ text.old.items ++ act_line active (Task (task_seen roots.now task.now))) }
 {
     text.extend_from_slice(b"task ")?;

@@ -31,9 +31,9 @@ const USAGE: &str =
     "usage: trace_check [words of starjob] TRACE < JOB, or --program for TRACE, or --text alone";
 
 /// The words that stand in place of the trace's file.
-const PROGRAM: &str = "--program";
+const PROGRAM_WORD: &str = "--program";
 
-const TEXT: &str = "--text";
+const TEXT_WORD: &str = "--text";
 
 /// The exit codes: the trace isn't legal or not complete; words, job or trace aren't read; memory ran out.
 const BAD: u8 = 1;
@@ -154,7 +154,7 @@ fn answer(rt: &HostRuntime) -> u8 {
     let Some(path) = words.pop() else {
         return refused(rt, USAGE);
     };
-    if path.as_str() == TEXT {
+    if path.as_str() == TEXT_WORD {
         return text_alone(rt, &words);
     }
     let options = match read_words(alloc, &words) {
@@ -169,7 +169,7 @@ fn answer(rt: &HostRuntime) -> u8 {
         Ok(job) => job,
         Err(error) => return unread(rt, &error, "the job can't be read"),
     };
-    if path.as_str() == PROGRAM {
+    if path.as_str() == PROGRAM_WORD {
         return show_program(rt, &options, wish.size, job);
     }
     let text = match fs::read(rt, path.as_str()) {

@@ -2,7 +2,7 @@ use Rattle.std.proofs.Common.{◌≡◌, ◌≤◌, ◌++◌, List, length, subs
 use Rattle.sj_job.specs.View.{IsPlaced, act_seen, count_after}
 use Rattle.sj_plan.specs.declared.parts.Parts.{Parts}
 use Rattle.sj_text.specs.Forms.{Plans}
-use Rattle.sj_text.specs.Text.{AreActive, act_line}
+use Rattle.sj_text.specs.Text.{AreCurrent, act_line}
 use Rattle.sj_text.proofs.Told.{GoesOn, begins, ends, goes-on, may-tell, next, whole_of}
 use Rattle.sj_text.proofs.text.write_statements.Goals as goal
 
@@ -41,7 +41,7 @@ loop-statement-preserved c =
     let s = c.statement-item.result in
     let parts = c.loop-statement.plans.items in
     let g = next c.args.roots.now parts c.args.statements.now c.loop-statement.statement-index s s _ _ c.loop-statement-test.true (sym c.statement-item.is) c.loop-statement.invariant in
-    let written = subst (λ (ps : List Parts). (active : Plans) → AreActive c.args.roots.now ps active → c.write_act.new.text.items ≡ c.loop-statement.text.items ++ act_line active (act_seen c.args.roots.now (length ps) s.act)) c.deref.ensures.value c.in_ok-write_act.ensures in
+    let written = subst (λ (ps : List Parts). (active : Plans) → AreCurrent c.args.roots.now ps active → c.write_act.new.text.items ≡ c.loop-statement.text.items ++ act_line active (act_seen c.args.roots.now (length ps) s.act)) c.deref.ensures.value c.in_ok-write_act.ensures in
     goes-on c.args.roots.now parts c.activate.new.plans.items s _ c.loop-statement.text.items c.write_act.new.text.items _ g written c.in_ok-activate.ensures.counted c.in_ok-activate.ensures.active
 
 pub returns : goal.returns
