@@ -76,10 +76,10 @@ fn a_program_is_that_of_the_job(rt: HostRuntime) -> Result<(), Unready> {
         redux s plus\n\
         task sum x[0,1]:R s:REDUX prio=5\n\
         print s\n";
-    let Ok(options) = read_words(alloc, &[]) else {
+    let (Ok(options), Ok(job)) = (read_words(alloc, &[]), job.to_vec(alloc)) else {
         return Err(Unready::OutOfMemory);
     };
-    let text = program_shown(alloc, &options, 1_000, job.as_slice().to_vec(alloc)?)?;
+    let text = program_shown(alloc, &options, 1_000, job)?;
     let lines = b"workers 2\n\
         cell c0 r0 1 2\n\
         cell c1 r0 1 2\n\
