@@ -1,4 +1,4 @@
-use Rattle.std.proofs.Common.{List, [], ◌∷◌, ◌++◌, ap, ◌∙◌, codes, decimal}
+use Rattle.std.proofs.Common.{[], ◌∷◌, ◌++◌, ap, ◌∙◌, codes, decimal}
 use Rattle.sj_trace.specs.Text.{word}
 use Rattle.sj_show.specs.Program.{copies_words}
 use Rattle.sj_show.proofs.Lines.{cell-written, line-written}

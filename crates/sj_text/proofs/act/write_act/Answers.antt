@@ -1,7 +1,7 @@
 use Rattle.std.proofs.Common.{◌++◌, ◌∙◌, ap, length, sym}
 use Rattle.std.proofs.lemmas.Result.{on_ok_weaker}
 use Rattle.sj_job.specs.Act.{Register, Plan, Redux, Invalidate}
-use Rattle.sj_job.specs.Table.{a_root, info_of, name_of}
+use Rattle.sj_job.specs.Table.{a_root, name_of}
 use Rattle.sj_job.specs.View.{act_seen, registration}
 use Rattle.sj_job.specs.declared.job.Act.{Act as KeptAct}
 use Rattle.sj_job.specs.declared.job.RootInfo.{RootInfo}

@@ -1,4 +1,3 @@
-use Rattle.std.proofs.Common.{decimal}
 use Rattle.sj_job.specs.Grammar.{init_words, parts_words, sized}
 use Rattle.sj_text.specs.Forms.{init_form, pair_under, size_form}
 use Rattle.sj_text.proofs.Words.{array-told}
