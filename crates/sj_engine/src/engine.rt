@@ -61,6 +61,7 @@ fn run_over<C: Codelets, G: Gate, D: Disk + Send, R: Threads + Wait + Sync>(
         Ok(made) => made,
         Err(board) => return abandoned(board.into_board()),
     };
+    gate.begins(program.tasks.len());
     ended(worked(rt, alloc, program, codelets, gate, desk, seats))
 }
 
