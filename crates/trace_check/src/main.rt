@@ -16,12 +16,21 @@ use sj_needs::shortage::Shortage;
 use sj_ready::unready::Unready;
 use sj_trace::read::TraceRefusal;
 use sj_words::{WordsRefusal, read_words, swap_wish};
-use std::alloc::AllocError;
+use std::alloc::{AllocError, Global};
 use std::io::{self, ErrorKind, Read};
 use std::process::ExitCode;
 use std::{env, fs};
 
 const USAGE: &str = "usage: trace_check [words of starjob] TRACE < JOB";
+
+const HELP: &str = "\
+Says whether the file TRACE, which has the lines of a trace alone, is a legal run, to its end, of the job on standard input,
+on the machine that the job and the words ask for.
+Exit codes: 0 legal and complete; 1 an event is illegal, or not all tasks are done; 2 words, job or trace can't be read;
+10 out of memory.";
+
+/// What stands behind the words of a cause that comes from the system.
+const BEFORE_THE_NUMBER: &str = " (os error";
 
 /// The exit codes: the trace isn't legal or not complete; words, job or trace aren't read; memory ran out.
 const BAD: u8 = 1;
@@ -36,12 +45,31 @@ fn refused(rt: &HostRuntime, why: &str) -> u8 {
     REFUSED
 }
 
-/// The same where something isn't read, unless memory ran out.
-fn unread(rt: &HostRuntime, error: &io::Error, why: &str) -> u8 {
-    if error.kind() == ErrorKind::OutOfMemory {
-        return OUT_OF_MEMORY;
+/// Says that memory ran out.
+fn out_of_memory(rt: &HostRuntime) -> u8 {
+    let _ = eprintln!(rt; "out of memory");
+    OUT_OF_MEMORY
+}
+
+/// The words of an error, without the system's number of it.
+fn cause(alloc: Global, error: &io::Error) -> Result<String, AllocError> {
+    let text = format!(in alloc; "{error}")?;
+    match text.split_once(BEFORE_THE_NUMBER) {
+        Some((cause, _)) => String::from_str(alloc, cause),
+        None => Ok(text),
     }
-    refused(rt, why)
+}
+
+/// Says what can't be read, and the system's cause, unless memory ran out.
+fn unread(rt: &HostRuntime, error: &io::Error, what: &str) -> u8 {
+    if error.kind() == ErrorKind::OutOfMemory {
+        return out_of_memory(rt);
+    }
+    let Ok(cause) = cause(rt.alloc(), error) else {
+        return out_of_memory(rt);
+    };
+    let _ = eprintln!(rt; "{what} can't be read: {cause}");
+    REFUSED
 }
 
 /// The words after the program's name, which are all text.
@@ -51,6 +79,11 @@ fn words(rt: &HostRuntime) -> io::Result<Vec<String>> {
         words.push(word).map_err(AllocError::from)?;
     }
     Ok(words)
+}
+
+/// Whether a word asks for what `HELP` says.
+fn is_call_for_help(word: &str) -> bool {
+    word == "--help" || word == "-h"
 }
 
 /// All of standard input.
@@ -76,7 +109,7 @@ fn unready(rt: &HostRuntime, why: Unready) -> u8 {
         Unready::Short(Shortage::SwapTooSmall { .. }) => {
             eprintln!(rt; "the swap disk is too small for the job")
         }
-        Unready::Short(Shortage::OutOfMemory) | Unready::OutOfMemory => return OUT_OF_MEMORY,
+        Unready::Short(Shortage::OutOfMemory) | Unready::OutOfMemory => return out_of_memory(rt),
     };
     REFUSED
 }
@@ -92,7 +125,7 @@ fn wrong(rt: &HostRuntime, text: &[u8], why: CheckRefusal) -> u8 {
             )
         }
         CheckRefusal::Unfinished => println!(rt; "legal, but not all tasks are done"),
-        CheckRefusal::OutOfMemory => return OUT_OF_MEMORY,
+        CheckRefusal::OutOfMemory => return out_of_memory(rt),
     };
     BAD
 }
@@ -112,7 +145,7 @@ fn told(rt: &HostRuntime, text: &[u8], outcome: Result<(), JudgeRefusal>) -> u8 
         }
         Err(JudgeRefusal::Wrong(why)) => wrong(rt, text, why),
         Err(JudgeRefusal::Unread(TraceRefusal::OutOfMemory) | JudgeRefusal::OutOfMemory) => {
-            OUT_OF_MEMORY
+            out_of_memory(rt)
         }
     }
 }
@@ -126,26 +159,31 @@ fn answer(rt: &HostRuntime) -> u8 {
     let alloc = rt.alloc();
     let mut words = match words(rt) {
         Ok(words) => words,
-        Err(error) => return unread(rt, &error, USAGE),
+        Err(error) if error.kind() == ErrorKind::OutOfMemory => return out_of_memory(rt),
+        Err(_) => return refused(rt, USAGE),
     };
+    if words.iter().any(|word| is_call_for_help(word.as_str())) {
+        let _ = println!(rt; "{USAGE}\n{HELP}");
+        return 0;
+    }
     let Some(path) = words.pop() else {
         return refused(rt, USAGE);
     };
     let options = match read_words(alloc, &words) {
         Ok(options) => options,
         Err(WordsRefusal::Unaccepted) => return refused(rt, USAGE),
-        Err(WordsRefusal::OutOfMemory) => return OUT_OF_MEMORY,
+        Err(WordsRefusal::OutOfMemory) => return out_of_memory(rt),
     };
     let Ok(wish) = swap_wish(alloc, &words) else {
-        return OUT_OF_MEMORY;
+        return out_of_memory(rt);
     };
     let job = match input(rt) {
         Ok(job) => job,
-        Err(error) => return unread(rt, &error, "the job can't be read"),
+        Err(error) => return unread(rt, &error, "the job"),
     };
     let text = match fs::read(rt, path.as_str()) {
         Ok(text) => text,
-        Err(error) => return unread(rt, &error, "the trace can't be read"),
+        Err(error) => return unread(rt, &error, "the trace"),
     };
     let outcome = judged(alloc, &options, wish.size, job, &text);
     told(rt, &text, outcome)
