@@ -128,6 +128,7 @@ expect 'a swap of more memory than there is' 10 '' $'starjob: out of memory\n'
 run "$good" --swap-size 40
 expect 'a swap with just enough room' 0 $'x: 1 2\n' ''
 source "$here/program_swap.sh"
+source "$here/program_streams.sh"
 
 run ''
 expect 'an empty input' 3 '' $'starjob: line 1: header\n'
@@ -183,7 +184,9 @@ expect 'a line that is no event' 2 '' $'line 10 of the trace is no event\n'
 check "$evicted"
 expect 'a last line with no LF' 2 '' $'line 20 of the trace is no event\n'
 run $'starjob 1\nprint x\n' trace.good
-expect 'a trace that is not there' 2 '' $'the trace can\'t be read\n'
+expect 'a trace that is not there' 2 '' $'the trace can\'t be read: No such file or directory\n'
+run $'starjob 1\nprint x\n' /
+expect 'a trace that is a folder' 2 '' $'the trace can\'t be read: Is a directory\n'
 check $'claim t0 w0\n' --node 8
 expect 'a job that fits no node' 2 '' $'a task of line 3 of the job fits no node\n'
 check $'claim t0 w0\n' --swap-size 0
@@ -192,7 +195,19 @@ run $'starjob 1\nprint x\n' trace
 expect 'a bad job' 2 '' $'line 2 of the job is refused\n'
 "$program" trace < / > out 2> err
 code=$?
-expect "a job that can't be read" 2 '' $'the job can\'t be read\n'
+expect "a job that can't be read" 2 '' $'the job can\'t be read: Is a directory\n'
+"$program" trace <&- > out 2> err
+code=$?
+expect 'no job' 2 '' $'the job can\'t be read: Bad file descriptor\n'
+printf '%s\n' "$evicted" > trace
+printf %s "$evicts" | "$program" trace >&- 2> err
+code=${PIPESTATUS[1]}
+: > out
+expect 'a verdict that nobody hears' 0 '' ''
+"$program" --help < /dev/null > out 2> err
+code=$(head -c 18 out)$?
+: > out
+expect 'a call for help' 'usage: trace_check0' '' ''
 run "$evicts"
 expect 'no word' 2 '' "$usage"
 check '' $'\xff'
