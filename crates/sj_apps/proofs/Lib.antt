@@ -1,3 +1,12 @@
 pub mod Tallying
 pub mod Telling
 pub mod Tiling
+pub mod Adding
+pub mod Closing
+pub mod Reaching
+pub mod Turning
+pub mod Blocking
+pub mod Stepping
+pub mod Passing
+pub mod Ringing
+pub mod Walking

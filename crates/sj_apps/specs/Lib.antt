@@ -2,4 +2,5 @@ pub mod Summary
 pub mod Generated
 pub mod Product
 pub mod Walks
+pub mod Shortest
 pub mod Draft

@@ -2,6 +2,7 @@
 #![tactic(auto)]
 
 pub mod draft;
+pub mod laws;
 pub mod paths;
 pub mod product;
 pub mod summary;
