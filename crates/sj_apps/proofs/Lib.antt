@@ -1,3 +1,7 @@
 pub mod Tallying
 pub mod Telling
 pub mod Tiling
+pub mod Wording
+pub mod WellFormed
+pub mod Starting
+pub mod Generating

@@ -3,3 +3,4 @@ pub mod Generated
 pub mod Product
 pub mod Walks
 pub mod Draft
+pub mod Application
