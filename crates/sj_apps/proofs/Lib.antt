@@ -10,3 +10,8 @@ pub mod Stepping
 pub mod Passing
 pub mod Ringing
 pub mod Walking
+pub mod Shortening
+pub mod Wording
+pub mod WellFormed
+pub mod Starting
+pub mod Generating

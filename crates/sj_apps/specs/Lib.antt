@@ -4,3 +4,4 @@ pub mod Product
 pub mod Walks
 pub mod Shortest
 pub mod Draft
+pub mod Application
