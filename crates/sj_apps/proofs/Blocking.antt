@@ -135,7 +135,7 @@ block-step n lo hi d0 d1 d2 d3 d4 fits lower within outside rows cols rest =
     λ a b i j. (let ha : a < n = omega (arith, i.1) in let hb : b < n = omega (arith, j.1) in
     rest.there a b ha hb (inr (inl i)) ∙ cols.there a b ha hb (inr (inl i)) ∙ rows.there a b ha hb (inr (inr j))) in
     record {
-      lower = λ i j fi ui fj uj. le-trans (d4 i j) (d1 i j) (d0 i j) (le-same (d4 i j) (d1 i j) (own i j (fi, ui) (fj, uj))) (lower i j (fi, ui) (fj, uj));
+      lower = λ i j fi ui fj uj. le-trans (le-same (own i j (fi, ui) (fj, uj))) (lower i j (fi, ui) (fj, uj));
       within = λ v i j fv uv fi ui fj uj. subst (λ z. z ≤ℤ plus (d4 i v) (d4 v j)) (sym (own i j (fi, ui) (fj, uj)))
           (subst (λ z. d1 i j ≤ℤ plus z (d4 v j)) (sym (own i v (fi, ui) (fv, uv))) (subst (λ z. d1 i j ≤ℤ plus (d1 i v) z) (sym (own v j (fv, uv) (fj, uj))) (within v i j (fv, uv) (fi, ui) (fj, uj))));
       rows = λ i j fi ui hj out. (let hi' : i < n = omega arith in

@@ -1,8 +1,9 @@
 -- Matrices that are closed through vertices: no way through one of these is shorter than the element.
 use Rattle.std.proofs.Common.{◌≡◌, ℕ, ◌<◌, ◌≤◌, ◌⊎◌, inl, inr, ⊎_elim, ℤ, pos, ◌≤ℤ◌, sym, arith}
+use Rattle.std.specs.Int.Signed.{≤ℤ_refl}
 use Rattle.std.proofs.lemmas.Bool.{cases_lt}
 use Rattle.sj_codelet.specs.MinPlus.{inf, plus}
-use Rattle.sj_apps.proofs.Adding.{le-trans, le-refl, le-same, plus-mono, short_left, short_right}
+use Rattle.sj_apps.proofs.Adding.{le-trans, le-same, plus-mono, short_left, short_right}
 
 -- no element is negative or above `inf`
 pub record AreLengths (n : ℕ) (D : ℕ → ℕ → ℤ) : Type 0 where
@@ -50,18 +51,18 @@ module _ (n lo hi : ℕ) (D E : ℕ → ℕ → ℤ) (fits : hi ≤ n) (ordered 
   rows_through v i j fv uv fi ui hj out =
       let best = step.rows i j fi ui hj out in
       ⊎_elim
-      (λ e. le-trans (E i j) (plus (E i v) (D v j)) (plus (E i v) (E v j)) (best.all v fv uv) (plus-mono (E i v) (E i v) (D v j) (E v j) (le-refl (E i v)) (le-same (D v j) (E v j) (sym e))))
+      (λ e. le-trans (best.all v fv uv) (plus-mono (≤ℤ_refl (E i v)) (le-same (sym e))))
       (λ (h : HasBelow lo hi (λ w. plus (E v w) (D w j)) (E v j)). let up = h.upto in
-      short_left (E i v) (E v h.v) (D h.v j) (E v j) (E i h.v) (E i j) (new.natural i v (omega arith) (omega arith)) (new.natural v h.v (omega arith) (omega arith)) (old.natural h.v j (omega arith) hj) h.le (step.within v i h.v fv uv fi ui h.from h.upto) (best.all h.v h.from h.upto))
+      short_left (new.natural i v (omega arith) (omega arith)) (new.natural v h.v (omega arith) (omega arith)) (old.natural h.v j (omega arith) hj) h.le (step.within v i h.v fv uv fi ui h.from h.upto) (best.all h.v h.from h.upto))
       (step.rows v j fv uv hj out).one
 
   cols_through : (v i j : ℕ) → lo ≤ v → v < hi → i < n → IsOut lo hi i → lo ≤ j → j < hi → E i j ≤ℤ plus (E i v) (E v j)
   cols_through v i j fv uv hi' out fj uj =
       let best = step.cols i j hi' out fj uj in
       ⊎_elim
-      (λ e. le-trans (E i j) (plus (D i v) (E v j)) (plus (E i v) (E v j)) (best.all v fv uv) (plus-mono (D i v) (E i v) (E v j) (E v j) (le-same (D i v) (E i v) (sym e)) (le-refl (E v j))))
+      (λ e. le-trans (best.all v fv uv) (plus-mono (le-same (sym e)) (≤ℤ_refl (E v j))))
       (λ (h : HasBelow lo hi (λ w. plus (D i w) (E w v)) (E i v)). let up = h.upto in
-      short_right (D i h.v) (E h.v v) (E v j) (E i v) (E h.v j) (E i j) (old.natural i h.v hi' (omega arith)) (new.natural h.v v (omega arith) (omega arith)) (new.natural v j (omega arith) (omega arith)) h.le (step.within v h.v j fv uv h.from h.upto fj uj) (best.all h.v h.from h.upto))
+      short_right (old.natural i h.v hi' (omega arith)) (new.natural h.v v (omega arith) (omega arith)) (new.natural v j (omega arith) (omega arith)) h.le (step.within v h.v j fv uv h.from h.upto fj uj) (best.all h.v h.from h.upto))
       (step.cols i v hi' out fv uv).one
 
   pub block_through : (v i j : ℕ) → lo ≤ v → v < hi → i < n → j < n → E i j ≤ℤ plus (E i v) (E v j)
@@ -72,14 +73,14 @@ module _ (n lo hi : ℕ) (D E : ℕ → ℕ → ℤ) (fits : hi ≤ n) (ordered 
   leaving i u hi' hu = ⊎_elim (λ a. (step.rows i u a.0 a.1 (omega arith) (inl hu)).one) (λ a. ⊎_elim inl
       (λ (h : HasBelow lo hi (λ v. plus (E i v) (E v u)) (E i u)). let up = h.upto in
       ⊎_elim
-      (λ e. inr (record { v = h.v; from = h.from; upto = h.upto; le = le-trans (plus (E i h.v) (D h.v u)) (plus (E i h.v) (E h.v u)) (E i u) (plus-mono (E i h.v) (E i h.v) (D h.v u) (E h.v u) (le-refl (E i h.v)) (le-same (D h.v u) (E h.v u) (sym e))) h.le }))
+      (λ e. inr (record { v = h.v; from = h.from; upto = h.upto; le = le-trans (plus-mono (≤ℤ_refl (E i h.v)) (le-same (sym e))) h.le }))
       (λ (k : HasBelow lo hi (λ w. plus (E h.v w) (D w u)) (E h.v u)). let up = k.upto in
       inr (record {
         v = k.v;
         from = k.from;
         upto = k.upto;
-        le = le-trans (plus (E i k.v) (D k.v u)) (plus (E i h.v) (E h.v u)) (E i u)
-            (short_left (E i h.v) (E h.v k.v) (D k.v u) (E h.v u) (E i k.v) (plus (E i k.v) (D k.v u)) (new.natural i h.v hi' (omega arith)) (new.natural h.v k.v (omega arith) (omega arith)) (old.natural k.v u (omega arith) (omega arith)) k.le (block_through h.v i k.v h.from h.upto hi' (omega arith)) (le-refl (plus (E i k.v) (D k.v u)))) h.le;
+        le = le-trans
+            (short_left (new.natural i h.v hi' (omega arith)) (new.natural h.v k.v (omega arith) (omega arith)) (old.natural k.v u (omega arith) (omega arith)) k.le (block_through h.v i k.v h.from h.upto hi' (omega arith)) (≤ℤ_refl (plus (E i k.v) (D k.v u)))) h.le;
       }))
       (step.rows h.v u h.from h.upto (omega arith) (inl hu)).one)
       (step.apart i u hi' (omega arith) a (inl hu)).one) (in_or_out lo hi i)
@@ -89,38 +90,38 @@ module _ (n lo hi : ℕ) (D E : ℕ → ℕ → ℤ) (fits : hi ≤ n) (ordered 
   entering u j hu hj = ⊎_elim (λ a. (step.cols u j (omega arith) (inl hu) a.0 a.1).one) (λ a. ⊎_elim inl
       (λ (h : HasBelow lo hi (λ v. plus (E u v) (E v j)) (E u j)). let up = h.upto in
       ⊎_elim
-      (λ e. inr (record { v = h.v; from = h.from; upto = h.upto; le = le-trans (plus (D u h.v) (E h.v j)) (plus (E u h.v) (E h.v j)) (E u j) (plus-mono (D u h.v) (E u h.v) (E h.v j) (E h.v j) (le-same (D u h.v) (E u h.v) (sym e)) (le-refl (E h.v j))) h.le }))
+      (λ e. inr (record { v = h.v; from = h.from; upto = h.upto; le = le-trans (plus-mono (le-same (sym e)) (≤ℤ_refl (E h.v j))) h.le }))
       (λ (k : HasBelow lo hi (λ w. plus (D u w) (E w h.v)) (E u h.v)). let up = k.upto in
       inr (record {
         v = k.v;
         from = k.from;
         upto = k.upto;
-        le = le-trans (plus (D u k.v) (E k.v j)) (plus (E u h.v) (E h.v j)) (E u j)
-            (short_right (D u k.v) (E k.v h.v) (E h.v j) (E u h.v) (E k.v j) (plus (D u k.v) (E k.v j)) (old.natural u k.v (omega arith) (omega arith)) (new.natural k.v h.v (omega arith) (omega arith)) (new.natural h.v j (omega arith) hj) k.le (block_through h.v k.v j h.from h.upto (omega arith) hj) (le-refl (plus (D u k.v) (E k.v j)))) h.le;
+        le = le-trans
+            (short_right (old.natural u k.v (omega arith) (omega arith)) (new.natural k.v h.v (omega arith) (omega arith)) (new.natural h.v j (omega arith) hj) k.le (block_through h.v k.v j h.from h.upto (omega arith) hj) (≤ℤ_refl (plus (D u k.v) (E k.v j)))) h.le;
       }))
       (step.cols u h.v (omega arith) (inl hu) h.from h.upto).one)
       (step.apart u j (omega arith) hj (inl hu) a).one) (in_or_out lo hi j)
 
   -- the old way by u, then the new element
   shorter : (u i j : ℕ) → u < lo → i < n → j < n → E i j ≤ℤ plus (D i u) (D u j)
-  shorter u i j hu hi' hj = le-trans (E i j) (D i j) (plus (D i u) (D u j)) (no_greater i j hi' hj) (closed.through u i j hu hi' hj)
+  shorter u i j hu hi' hj = le-trans (no_greater i j hi' hj) (closed.through u i j hu hi' hj)
 
   before_block : (u i j : ℕ) → u < lo → i < n → j < n → E i j ≤ℤ plus (E i u) (E u j)
   before_block u i j hu hi' hj = ⊎_elim
       (λ e. ⊎_elim
-      (λ f. le-trans (E i j) (plus (D i u) (D u j)) (plus (E i u) (E u j)) (shorter u i j hu hi' hj) (plus-mono (D i u) (E i u) (D u j) (E u j) (le-same (D i u) (E i u) (sym e)) (le-same (D u j) (E u j) (sym f))))
+      (λ f. le-trans (shorter u i j hu hi' hj) (plus-mono (le-same (sym e)) (le-same (sym f))))
       (λ (k : HasBelow lo hi (λ v. plus (D u v) (E v j)) (E u j)). let up = k.upto in
-      le-trans (E i j) (plus (D i u) (E u j)) (plus (E i u) (E u j))
-      (short_left (D i u) (D u k.v) (E k.v j) (E u j) (E i k.v) (E i j) (old.natural i u hi' (omega arith)) (old.natural u k.v (omega arith) (omega arith)) (new.natural k.v j (omega arith) hj) k.le (shorter u i k.v hu hi' (omega arith)) (block_through k.v i j k.from k.upto hi' hj))
-      (plus-mono (D i u) (E i u) (E u j) (E u j) (le-same (D i u) (E i u) (sym e)) (le-refl (E u j))))
+      le-trans
+      (short_left (old.natural i u hi' (omega arith)) (old.natural u k.v (omega arith) (omega arith)) (new.natural k.v j (omega arith) hj) k.le (shorter u i k.v hu hi' (omega arith)) (block_through k.v i j k.from k.upto hi' hj))
+      (plus-mono (le-same (sym e)) (≤ℤ_refl (E u j))))
       (entering u j hu hj))
       (λ (h : HasBelow lo hi (λ v. plus (E i v) (D v u)) (E i u)). let up = h.upto in
       let rest : E h.v j ≤ℤ plus (D h.v u) (E u j) = ⊎_elim
-      (λ f. le-trans (E h.v j) (plus (D h.v u) (D u j)) (plus (D h.v u) (E u j)) (shorter u h.v j hu (omega arith) hj) (plus-mono (D h.v u) (D h.v u) (D u j) (E u j) (le-refl (D h.v u)) (le-same (D u j) (E u j) (sym f))))
+      (λ f. le-trans (shorter u h.v j hu (omega arith) hj) (plus-mono (≤ℤ_refl (D h.v u)) (le-same (sym f))))
       (λ (k : HasBelow lo hi (λ v. plus (D u v) (E v j)) (E u j)). let up' = k.upto in
-      short_left (D h.v u) (D u k.v) (E k.v j) (E u j) (E h.v k.v) (E h.v j) (old.natural h.v u (omega arith) (omega arith)) (old.natural u k.v (omega arith) (omega arith)) (new.natural k.v j (omega arith) hj) k.le (shorter u h.v k.v hu (omega arith) (omega arith)) (block_through k.v h.v j k.from k.upto (omega arith) hj))
+      short_left (old.natural h.v u (omega arith) (omega arith)) (old.natural u k.v (omega arith) (omega arith)) (new.natural k.v j (omega arith) hj) k.le (shorter u h.v k.v hu (omega arith) (omega arith)) (block_through k.v h.v j k.from k.upto (omega arith) hj))
       (entering u j hu hj) in
-      short_right (E i h.v) (D h.v u) (E u j) (E i u) (E h.v j) (E i j) (new.natural i h.v hi' (omega arith)) (old.natural h.v u (omega arith) (omega arith)) (new.natural u j (omega arith) hj) h.le rest (block_through h.v i j h.from h.upto hi' hj))
+      short_right (new.natural i h.v hi' (omega arith)) (old.natural h.v u (omega arith) (omega arith)) (new.natural u j (omega arith) hj) h.le rest (block_through h.v i j h.from h.upto hi' hj))
       (leaving i u hi' hu)
 
   pub closed_more : IsClosed n hi E

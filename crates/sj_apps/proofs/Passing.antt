@@ -170,7 +170,7 @@ module _ (n p : ℕ) (P : ℕ → ℕ → ℤ → Type 0) (keeps : IsKept P n) (
         sound = λ i j hi hj. (let same = λ (o : OffTile lo (lo + s) lo (lo + s) i j). subst (P i j) (sym (with-outside n p k k d g i j o)) (sound i j hi hj) in
             ⊎_elim (λ x. ⊎_elim (λ y. subst (λ (z : ℤ). P i j z) (sym (here i j x y)) (subst (λ u. P u j (element d (i - lo) (j - lo))) (back i x.0) (subst (λ u. P (lo + (i - lo)) u (element d (i - lo) (j - lo))) (back j y.0) (turned.kept (i - lo) (j - lo) (omega (arith, x.0, x.1)) (omega (arith, y.0, y.1)))))) (λ o. same (inr o)) (in_or_out lo (lo + s) j)) (λ o. same (inl o)) (in_or_out lo (lo + s) i));
         so = record {
-          lower = λ a b ha hb. le-trans (f a b) (element t (a - lo) (b - lo)) (g a b) (subst (λ z. z ≤ℤ element t (a - lo) (b - lo)) (sym (here a b ha hb)) (turned.lower (a - lo) (b - lo) (omega (arith, ha.0, ha.1)) (omega (arith, hb.0, hb.1)))) (le-same (element t (a - lo) (b - lo)) (g a b) (tile-at n p g k k a b ha hb));
+          lower = λ a b ha hb. le-trans (subst (λ z. z ≤ℤ element t (a - lo) (b - lo)) (sym (here a b ha hb)) (turned.lower (a - lo) (b - lo) (omega (arith, ha.0, ha.1)) (omega (arith, hb.0, hb.1)))) (le-same (tile-at n p g k k a b ha hb));
           within = λ v a b hv ha hb. subst (λ z. z ≤ℤ plus (f a v) (f v b)) (sym (here a b ha hb)) (subst (λ z. element d (a - lo) (b - lo) ≤ℤ plus z (f v b)) (sym (here a v ha hv)) (subst (λ z. element d (a - lo) (b - lo) ≤ℤ plus (element d (a - lo) (v - lo)) z) (sym (here v b hv hb))
               (turned.closed.through (v - lo) (a - lo) (b - lo) (omega (arith, hv.0, hv.1)) (omega (arith, ha.0, ha.1)) (omega (arith, hb.0, hb.1)))));
           outside = λ a b ha hb o. with-outside n p k k d g a b o;
@@ -212,7 +212,7 @@ module _ (n p : ℕ) (P : ℕ → ℕ → ℤ → Type 0) (keeps : IsKept P n) (
       let so = λ (e : ℕ) (f : ℕ → ℕ → ℤ). IsClosed n e f × ((i j : ℕ) → i < n → j < n → f i j ≤ℤ g i j) in
       let Now = λ (m : ℕ) (S' : State). Stands n p P (so (part_first n p m)) S' in
       let all : Now p (run (walk_steps p) S) = run-range Now (walk_step p) p S
-      (record { f = g; is = is; sound = sound; so = (record { through = λ v i j hv hi hj. absurd (omega arith) }, λ i j hi hj. (let e : g i j ≡ g i j = refl in le-same (g i j) (g i j) e)) })
+      (record { f = g; is = is; sound = sound; so = (record { through = λ v i j hv hi hj. absurd (omega arith) }, λ i j hi hj. (let e : g i j ≡ g i j = refl in le-same e)) })
       (λ k S' hk now.
       (let made = step_run k now.f S' hk now.is now.sound in
       let lo = part_first n p k in
@@ -224,7 +224,7 @@ module _ (n p : ℕ) (P : ℕ → ℕ → ℤ → Type 0) (keeps : IsKept P n) (
         sound = made.sound;
         so = (
           subst (λ e. IsClosed n e made.f) (sym (part_next n p k)) (closed_more n lo hi now.f made.f fits (omega arith) (lengths_of now.f now.sound) (lengths_of made.f made.sound) now.so.0 made.so),
-          λ i j hi' hj. le-trans (made.f i j) (now.f i j) (g i j) (no_greater n lo hi now.f made.f fits (omega arith) (lengths_of now.f now.sound) (lengths_of made.f made.sound) now.so.0 made.so i j hi' hj) (now.so.1 i j hi' hj),
+          λ i j hi' hj. le-trans (no_greater n lo hi now.f made.f fits (omega arith) (lengths_of now.f now.sound) (lengths_of made.f made.sound) now.so.0 made.so i j hi' hj) (now.so.1 i j hi' hj),
         );
       })) in
       subst (λ e. Stands n p P (so e) (run (walk_steps p) S)) (part_first-all n p some) all

@@ -44,7 +44,7 @@ module _ (n : ℕ) (W : ℕ → ℕ → ℤ) (w : AreWeights n W) where
       (λ e. (let a : pos 0 ≤ℤ x = omega (arith, ints) in a, let a : x ≤ℤ inf = omega (arith, ints) in a))
       (λ (h : HasLength n W i j x). let c = cut_off-range (walk_length W i h.walk) (length_natural n W w i h.walk j hi h.leads) in
       let e = h.long in
-      (subst (λ z. pos 0 ≤ℤ z) (sym e) c.0, subst (λ z. z ≤ℤ inf) (sym e) (le-trans (cut_off (walk_length W i h.walk)) greatest inf c.1 (omega (arith, ints)))))
+      (subst (λ z. pos 0 ≤ℤ z) (sym e) c.0, subst (λ z. z ≤ℤ inf) (sym e) (le-trans c.1 (omega (arith, ints)))))
       r.either
 
   -- the sum of two such numbers is one
@@ -88,15 +88,15 @@ module _ (n : ℕ) (W : ℕ → ℕ → ℤ) (w : AreWeights n W) where
       let nat = length_natural n W w k ks j hk h.1 in
       let l = walk_length W k ks in
       let short : W i k <ℤ inf = h.0.1 in
-      le-trans (D i j) (plus (D i k) (D k j)) (cut_off (W i k +ℤ l)) (closed.through k i j hk hi hj)
+      le-trans (closed.through k i j hk hi hj)
       (subst (λ z. plus (D i k) (D k j) ≤ℤ z) (ap (λ z. plus z (cut_off l)) (sym (cut_off-same (W i k) (omega (arith, ints)))) ∙ plus-cut_off (W i k) l (w.none_negative i k hi hk) nat)
-      (plus-mono (D i k) (W i k) (D k j) (cut_off l) (below i k hi hk) rest))
+      (plus-mono (below i k hi hk) rest))
 
   -- so each element is the length of a shortest walk
   pub shortest : (D : ℕ → ℕ → ℤ) → StayBelowInf n W → IsClosed n n D → ((i j : ℕ) → i < n → j < n → D i j ≤ℤ W i j) → ((i j : ℕ) → i < n → j < n → IsReached n W i j (D i j)) → (i j : ℕ) → i < n → j < n → IsShortest n W i j (D i j)
   shortest D stay closed below reached i j hi hj =
       let bound = λ (walk : List ℕ) (h : IsWalk n W i walk j). closed_below D closed below i walk j hi hj h in
-      let no_less = λ (walk : List ℕ) (h : IsWalk n W i walk j). le-trans (D i j) (cut_off (walk_length W i walk)) (walk_length W i walk) (bound walk h) (cut_off-below (walk_length W i walk)) in
+      let no_less = λ (walk : List ℕ) (h : IsWalk n W i walk j). le-trans (bound walk h) (cut_off-below (walk_length W i walk)) in
       ⊎_elim
       (λ e. Unreached (record {
         none = λ walk h. (let s = stay i j walk hi h in

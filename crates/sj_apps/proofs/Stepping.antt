@@ -57,7 +57,7 @@ IsWithin lo hi f = (v a b : ℕ) → IsIn lo hi v → IsIn lo hi a → IsIn lo h
 
 pub within-same : (lo hi : ℕ) (g f : ℕ → ℕ → ℤ) → ((a b : ℕ) → IsIn lo hi a → IsIn lo hi b → f a b ≡ g a b) → IsWithin lo hi g → IsWithin lo hi f
 within-same lo hi g f same w v a b hv ha hb =
-    le-trans (f a b) (g a b) (plus (f a v) (f v b)) (le-same (f a b) (g a b) (same a b ha hb)) (le-trans (g a b) (plus (g a v) (g v b)) (plus (f a v) (f v b)) (w v a b hv ha hb) (plus-mono (g a v) (f a v) (g v b) (f v b) (le-same (g a v) (f a v) (sym (same a v ha hv))) (le-same (g v b) (f v b) (sym (same v b hv hb)))))
+    le-trans (le-same (same a b ha hb)) (le-trans (w v a b hv ha hb) (plus-mono (le-same (sym (same a v ha hv))) (le-same (sym (same v b hv hb)))))
 
 -- P is said of each element
 abbrev pub AllSo : (ℕ → ℕ → ℤ → Type 0) → ℕ → (ℕ → ℕ → ℤ) → Type 0
@@ -91,9 +91,9 @@ module _ (n p : ℕ) (P : ℕ → ℕ → ℤ → Type 0) (keeps : IsKept P n) w
         (let lo = part_first n p k in
         let t = tile n p f (k, k) in
         let w = within (lo + v) (lo + a) (lo + b) (omega arith, omega arith) (omega arith, omega arith) (omega arith, omega arith) in
-        le-trans (element t a b) (f (lo + a) (lo + b)) (plus (element t a v) (element t v b)) (le-same (element t a b) (f (lo + a) (lo + b)) (tile-local n p f k k a b ha hb))
-        (le-trans (f (lo + a) (lo + b)) (plus (f (lo + a) (lo + v)) (f (lo + v) (lo + b))) (plus (element t a v) (element t v b)) w
-        (plus-mono (f (lo + a) (lo + v)) (element t a v) (f (lo + v) (lo + b)) (element t v b) (le-same (f (lo + a) (lo + v)) (element t a v) (sym (tile-local n p f k k a v ha hv))) (le-same (f (lo + v) (lo + b)) (element t v b) (sym (tile-local n p f k k v b hv hb))))));
+        le-trans (le-same (tile-local n p f k k a b ha hb))
+        (le-trans w
+        (plus-mono (le-same (sym (tile-local n p f k k a v ha hv))) (le-same (sym (tile-local n p f k k v b hv hb))))));
   }
 
   pub beside_best : (k c : ℕ) (f : ℕ → ℕ → ℤ) → k < p → c < p → AllSo P n f → IsWithin (part_first n p k) (part_last n p k) f → (i j : ℕ) → IsIn (part_first n p k) (part_last n p k) i → IsIn (part_first n p c) (part_last n p c) j

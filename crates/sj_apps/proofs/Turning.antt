@@ -1,5 +1,6 @@
 -- What the codelets of walks make of tiles: elements that are the least of the old one and of the ways by a block's vertices.
 use Rattle.std.proofs.Common.{◌≡◌, ℕ, zero, suc, ◌<◌, ◌≤◌, ◌⊎◌, inl, inr, ⊎_elim, ℤ, pos, ◌≤ℤ◌, refl, sym, ap, ◌∙◌, subst, arith}
+use Rattle.std.specs.Int.Signed.{≤ℤ_refl}
 use Rattle.std.specs.Int.{int_min}
 use Rattle.std.proofs.lemmas.Int.{ints, clamps}
 use Rattle.std.proofs.lemmas.Bool.{cases_lt}
@@ -8,38 +9,38 @@ use Rattle.sj_base.specs.Array.{Array, element, grid}
 use Rattle.sj_codelet.specs.MinPlus.{inf, plus, least_below}
 use Rattle.sj_codelet.specs.Equations.{after_turns, fwdiag, fwrow, fwcol, mingemm}
 use Rattle.sj_codelet.proofs.Elements.{element-grid}
-use Rattle.sj_apps.proofs.Adding.{le-trans, le-refl, le-same, le-antisym, plus-mono, plus-above_left, plus-above_right, short_left, short_right, least_of_two, least-left, least-right}
+use Rattle.sj_apps.proofs.Adding.{le-trans, le-same, le-antisym, plus-mono, plus-above_left, plus-above_right, short_left, short_right, least_of_two, least-left, least-right}
 use Rattle.sj_apps.proofs.Closing.{AreLengths, IsClosed, HasBelow, IsBest, IsBlockStep, closed_more}
 
 -- one number more
 pub best_more : (k : ℕ) (a x z : ℤ) (f : ℕ → ℤ) → IsBest 0 k a f x → z ≤ℤ f k → ((f k ≤ℤ z) ⊎ HasBelow 0 k f z) → IsBest 0 (suc k) a f (int_min x z)
 best_more k a x z f b le one = record {
-  below = le-trans (int_min x z) x a (least-left x z) b.below;
-  all = λ v from upto. ⊎_elim (λ l. le-trans (int_min x z) x (f v) (least-left x z) (b.all v from l)) (λ g. subst (λ u. int_min x z ≤ℤ f u) (let e : k ≡ v = omega arith in e) (le-trans (int_min x z) z (f k) (least-right x z) le)) (cases_lt v k);
+  below = le-trans (least-left x z) b.below;
+  all = λ v from upto. ⊎_elim (λ l. le-trans (least-left x z) (b.all v from l)) (λ g. subst (λ u. int_min x z ≤ℤ f u) (let e : k ≡ v = omega arith in e) (le-trans (least-right x z) le)) (cases_lt v k);
   one = ⊎_elim
-      (λ e. ⊎_elim (λ f'. inl (e ∙ f')) (λ (h : HasBelow 0 k f x). let up = h.upto in inr (record { v = h.v; from = h.from; upto = omega arith; le = le-trans (f h.v) x (int_min x z) h.le (le-same x (int_min x z) (sym e)) })) b.one)
-      (λ e. inr (⊎_elim (λ l. record { v = k; from = omega arith; upto = omega arith; le = le-trans (f k) z (int_min x z) l (le-same z (int_min x z) (sym e)) }) (λ (h : HasBelow 0 k f z). let up = h.upto in record { v = h.v; from = h.from; upto = omega arith; le = le-trans (f h.v) z (int_min x z) h.le (le-same z (int_min x z) (sym e)) }) one))
+      (λ e. ⊎_elim (λ f'. inl (e ∙ f')) (λ (h : HasBelow 0 k f x). let up = h.upto in inr (record { v = h.v; from = h.from; upto = omega arith; le = le-trans h.le (le-same (sym e)) })) b.one)
+      (λ e. inr (⊎_elim (λ l. record { v = k; from = omega arith; upto = omega arith; le = le-trans l (le-same (sym e)) }) (λ (h : HasBelow 0 k f z). let up = h.upto in record { v = h.v; from = h.from; upto = omega arith; le = le-trans h.le (le-same (sym e)) }) one))
       (least_of_two x z);
 }
 
 pub best_none : (a : ℤ) (f : ℕ → ℤ) → IsBest 0 0 a f a
-best_none a f = record { below = le-refl a; all = λ v from upto. absurd (omega arith); one = inl refl }
+best_none a f = record { below = ≤ℤ_refl a; all = λ v from upto. absurd (omega arith); one = inl refl }
 
 -- of one number alone
 pub best_single : (k : ℕ) (x y : ℤ) (f : ℕ → ℤ) → y ≡ int_min x (f k) → IsBest k (suc k) x f y
 best_single k x y f e = record {
-  below = le-trans y (int_min x (f k)) x (le-same y (int_min x (f k)) e) (least-left x (f k));
-  all = λ v from upto. subst (λ u. y ≤ℤ f u) (let e : k ≡ v = omega arith in e) (le-trans y (int_min x (f k)) (f k) (le-same y (int_min x (f k)) e) (least-right x (f k)));
-  one = ⊎_elim (λ l. inl (e ∙ l)) (λ l. inr (record { v = k; from = omega arith; upto = omega arith; le = le-same (f k) y (sym (e ∙ l)) })) (least_of_two x (f k));
+  below = le-trans (le-same e) (least-left x (f k));
+  all = λ v from upto. subst (λ u. y ≤ℤ f u) (let e : k ≡ v = omega arith in e) (le-trans (le-same e) (least-right x (f k)));
+  one = ⊎_elim (λ l. inl (e ∙ l)) (λ l. inr (record { v = k; from = omega arith; upto = omega arith; le = le-same (sym (e ∙ l)) })) (least_of_two x (f k));
 }
 
 pub least-best : (n : ℕ) (z : ℤ) (f : ℕ → ℤ) → IsBest 0 n z f (least_below n z f)
 least-best zero z f = best_none z f
-least-best (suc n) z f = best_more n z (least_below n z f) (f n) f (least-best n z f) (le-refl (f n)) (inl (le-refl (f n)))
+least-best (suc n) z f = best_more n z (least_below n z f) (f n) f (least-best n z f) (≤ℤ_refl (f n)) (inl (≤ℤ_refl (f n)))
 
 -- what holds of the numbers holds of the best
 pub best-among : (lo hi : ℕ) (x : ℤ) (f : ℕ → ℤ) (y : ℤ) (P : ℤ → Type 0) → IsBest lo hi x f y → P x → ((v : ℕ) → lo ≤ v → v < hi → P (f v)) → P y
-best-among lo hi x f y P b px pf = ⊎_elim (λ e. subst P (sym e) px) (λ (h : HasBelow lo hi f y). subst P (le-antisym (f h.v) y h.le (b.all h.v h.from h.upto)) (pf h.v h.from h.upto)) b.one
+best-among lo hi x f y P b px pf = ⊎_elim (λ e. subst P (sym e) px) (λ (h : HasBelow lo hi f y). subst P (le-antisym h.le (b.all h.v h.from h.upto)) (pf h.v h.from h.upto)) b.one
 
 abbrev pub best_turn : (Array → ℕ → ℕ → ℕ → ℤ) → ℕ → Array → Array
 best_turn way k m = grid m.dims (λ i j. int_min (element m i j) (way m k i j))
@@ -75,11 +76,11 @@ module _ (d a : Array) (s : ℕ) (natural_d : (i j : ℕ) → i < s → j < s �
       let y = rows_so r natural k (omega arith) k j (omega arith) hj in
       subst (IsBest 0 (suc k) (element a i j) f) (sym (turn_more (row_way d) a k i j (omega arith) hj))
       (best_more k (element a i j) (element m i j) (plus (element d i k) (element m k j)) f (rows_so r natural k (omega arith) i j hi hj)
-      (plus-mono (element d i k) (element d i k) (element m k j) (element a k j) (le-refl (element d i k)) y.below)
+      (plus-mono (≤ℤ_refl (element d i k)) y.below)
       (⊎_elim
-      (λ e. inl (plus-mono (element d i k) (element d i k) (element a k j) (element m k j) (le-refl (element d i k)) (le-same (element a k j) (element m k j) (sym e))))
+      (λ e. inl (plus-mono (≤ℤ_refl (element d i k)) (le-same (sym e))))
       (λ (h : HasBelow 0 k (λ v. plus (element d k v) (element a v j)) (element m k j)). let up = h.upto in
-      inr (record { v = h.v; from = h.from; upto = h.upto; le = short_left (element d i k) (element d k h.v) (element a h.v j) (element m k j) (element d i h.v) (f h.v) (natural_d i k hi (omega arith)) (natural_d k h.v (omega arith) (omega arith)) (natural h.v j (omega arith) hj) h.le (closed.through k i h.v (omega arith) hi (omega arith)) (le-refl (f h.v)) }))
+      inr (record { v = h.v; from = h.from; upto = h.upto; le = short_left (natural_d i k hi (omega arith)) (natural_d k h.v (omega arith) (omega arith)) (natural h.v j (omega arith) hj) h.le (closed.through k i h.v (omega arith) hi (omega arith)) (≤ℤ_refl (f h.v)) }))
       y.one))
 
   pub row_best : d.dims.rows ≡ s → a.dims.rows ≡ s → ((i j : ℕ) → i < s → j < a.dims.cols → pos 0 ≤ℤ element a i j) → (i j : ℕ) → i < s → j < a.dims.cols → IsBest 0 s (element a i j) (λ v. plus (element d i v) (element a v j)) (element (fwrow d a) i j)
@@ -93,11 +94,11 @@ module _ (d a : Array) (s : ℕ) (natural_d : (i j : ℕ) → i < s → j < s �
       let y = cols_so r natural k (omega arith) i k hi (omega arith) in
       subst (IsBest 0 (suc k) (element a i j) f) (sym (turn_more (col_way d) a k i j hi (omega arith)))
       (best_more k (element a i j) (element m i j) (plus (element m i k) (element d k j)) f (cols_so r natural k (omega arith) i j hi hj)
-      (plus-mono (element m i k) (element a i k) (element d k j) (element d k j) y.below (le-refl (element d k j)))
+      (plus-mono y.below (≤ℤ_refl (element d k j)))
       (⊎_elim
-      (λ e. inl (plus-mono (element a i k) (element m i k) (element d k j) (element d k j) (le-same (element a i k) (element m i k) (sym e)) (le-refl (element d k j))))
+      (λ e. inl (plus-mono (le-same (sym e)) (≤ℤ_refl (element d k j))))
       (λ (h : HasBelow 0 k (λ v. plus (element a i v) (element d v k)) (element m i k)). let up = h.upto in
-      inr (record { v = h.v; from = h.from; upto = h.upto; le = short_right (element a i h.v) (element d h.v k) (element d k j) (element m i k) (element d h.v j) (f h.v) (natural i h.v hi (omega arith)) (natural_d h.v k (omega arith) (omega arith)) (natural_d k j (omega arith) hj) h.le (closed.through k h.v j (omega arith) (omega arith) hj) (le-refl (f h.v)) }))
+      inr (record { v = h.v; from = h.from; upto = h.upto; le = short_right (natural i h.v hi (omega arith)) (natural_d h.v k (omega arith) (omega arith)) (natural_d k j (omega arith) hj) h.le (closed.through k h.v j (omega arith) (omega arith) hj) (≤ℤ_refl (f h.v)) }))
       y.one))
 
   pub col_best : d.dims.rows ≡ s → a.dims.cols ≡ s → ((i j : ℕ) → i < a.dims.rows → j < s → pos 0 ≤ℤ element a i j) → (i j : ℕ) → i < a.dims.rows → j < s → IsBest 0 s (element a i j) (λ v. plus (element a i v) (element d v j)) (element (fwcol d a) i j)
@@ -128,15 +129,15 @@ module _ (s k : ℕ) (D E : ℕ → ℕ → ℤ) (inside : k < s) (old : AreLeng
   same_row j hj = turned k j inside hj ∙ stays_right (D k j) (D k k) (old.below k j inside hj) (old.natural k k inside inside)
 
   pub turned_lower : (i j : ℕ) → i < s → j < s → E i j ≤ℤ D i j
-  turned_lower i j hi hj = le-trans (E i j) (int_min (D i j) (plus (D i k) (D k j))) (D i j) (le-same (E i j) (int_min (D i j) (plus (D i k) (D k j))) (turned i j hi hj)) (least-left (D i j) (plus (D i k) (D k j)))
+  turned_lower i j hi hj = le-trans (le-same (turned i j hi hj)) (least-left (D i j) (plus (D i k) (D k j)))
 
   by_itself : (v i j : ℕ) → k ≤ v → v < suc k → i < s → j < s → E i j ≤ℤ plus (E i v) (E v j)
   by_itself v i j from upto hi hj =
       let e : k ≡ v = omega arith in
       subst (λ u. E i j ≤ℤ plus (E i u) (E u j)) e
-      (le-trans (E i j) (plus (D i k) (D k j)) (plus (E i k) (E k j))
-      (le-trans (E i j) (int_min (D i j) (plus (D i k) (D k j))) (plus (D i k) (D k j)) (le-same (E i j) (int_min (D i j) (plus (D i k) (D k j))) (turned i j hi hj)) (least-right (D i j) (plus (D i k) (D k j))))
-      (plus-mono (D i k) (E i k) (D k j) (E k j) (le-same (D i k) (E i k) (sym (same_col i hi))) (le-same (D k j) (E k j) (sym (same_row j hj)))))
+      (le-trans
+      (le-trans (le-same (turned i j hi hj)) (least-right (D i j) (plus (D i k) (D k j))))
+      (plus-mono (le-same (sym (same_col i hi))) (le-same (sym (same_row j hj)))))
 
   pub turn-step : IsBlockStep s k (suc k) D E
   turn-step = record {
@@ -169,12 +170,12 @@ turned_more P s k D E F keeps inside t e =
     let old = lengths-kept P s E keeps t.kept in
     record {
       closed = closed_more s k (suc k) E F (omega arith) (omega arith) old (lengths-kept P s F keeps kept) t.closed (turn-step s k E F inside old e);
-      lower = λ i j hi hj. le-trans (F i j) (E i j) (D i j) (turned_lower s k E F inside old e i j hi hj) (t.lower i j hi hj);
+      lower = λ i j hi hj. le-trans (turned_lower s k E F inside old e i j hi hj) (t.lower i j hi hj);
       kept = kept;
     }
 
 diag_so : (P : ℕ → ℕ → ℤ → Type 0) (a : Array) (s : ℕ) → IsKept P s → a.dims.rows ≡ s → a.dims.cols ≡ s → ((i j : ℕ) → i < s → j < s → P i j (element a i j)) → (k : ℕ) → k ≤ s → AreTurned P s k (λ i j. element a i j) (λ i j. element (after_turns k (best_turn diag_way) a) i j)
-diag_so P a s keeps r c kept zero le = record { closed = record { through = λ v i j hv hi hj. absurd (omega arith) }; lower = λ i j hi hj. le-refl (element a i j); kept = kept }
+diag_so P a s keeps r c kept zero le = record { closed = record { through = λ v i j hv hi hj. absurd (omega arith) }; lower = λ i j hi hj. ≤ℤ_refl (element a i j); kept = kept }
 diag_so P a s keeps r c kept (suc k) le =
     turned_more P s k (λ i j. element a i j) (λ i j. element (after_turns k (best_turn diag_way) a) i j) (λ i j. element (after_turns (suc k) (best_turn diag_way) a) i j) keeps (omega arith)
     (diag_so P a s keeps r c kept k (omega arith)) (λ i j hi hj. turn_more diag_way a k i j (omega arith) (omega arith))

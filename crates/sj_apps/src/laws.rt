@@ -11,7 +11,8 @@ ghost use Rattle.sj_apps.specs.Walks.{AreWeights, StayBelowInf};
 /// nothing, and where a walk leads one does that is shorter than `inf`. The statements may begin in any line.
 pub fn walks()
     ensures { (n p line : ℕ) (W : ℕ → ℕ → ℤ) (xs : List ℤ) → 0 < p → xs ≡ table (square n) W
-        → AreWeights n W → StayBelowInf n W → PrintsShortest n W (numbered line (walk_acts n p xs)) }
+        → AreWeights n W → StayBelowInf n W
+        → PrintsShortest n W (numbered line (walk_acts n p xs)) }
 {}
 
 /// Where n steps of the greatest weight are shorter than `inf`, a walk leads wherever one does that is shorter than `inf`.
