@@ -181,12 +181,12 @@ seen S o r e = ap (λ (x : Option Root). elim x as (λ _. Array) [ None ↦ arra
 abbrev pub IsMatrix : ℕ → ℕ → State → List ℕ → (ℕ → ℕ → ℤ) → Type 0
 IsMatrix n p S name f = root_of S name ≡ Some (root n p f)
 
-tile-of : (n p : ℕ) (S : State) (name : List ℕ) (f : ℕ → ℕ → ℤ) (place : ℕ × ℕ) → IsPlace (cut p) place → IsMatrix n p S name f → (o : Operand) → o.name ≡ name → o.place ≡ place → seen_by o.mode (root n p f) o.place ≡ child_array (root n p f) o.place → operand_array S o ≡ tile n p f place
+pub tile-of : (n p : ℕ) (S : State) (name : List ℕ) (f : ℕ → ℕ → ℤ) (place : ℕ × ℕ) → IsPlace (cut p) place → IsMatrix n p S name f → (o : Operand) → o.name ≡ name → o.place ≡ place → seen_by o.mode (root n p f) o.place ≡ child_array (root n p f) o.place → operand_array S o ≡ tile n p f place
 tile-of n p S name f place at is o named placed reads =
     seen S o (root n p f) (ap (root_of S) named ∙ is) ∙ reads ∙ ap (child_array (root n p f)) placed ∙ tile-seen n p f place at
 
 -- what a written tile does to its matrix, and to others
-written-here : (n p : ℕ) (S : State) (name : List ℕ) (f : ℕ → ℕ → ℤ) (place : ℕ × ℕ) (a : Array) → bytes_eq name name ≡ true → IsMatrix n p S name f → IsMatrix n p (change (with_child place a) name S) name (with_tile n p place a f)
+pub written-here : (n p : ℕ) (S : State) (name : List ℕ) (f : ℕ → ℕ → ℤ) (place : ℕ × ℕ) (a : Array) → bytes_eq name name ≡ true → IsMatrix n p S name f → IsMatrix n p (change (with_child place a) name S) name (with_tile n p place a f)
 written-here n p S name f place a same is =
     root-changed (with_child place a) name name S (root n p f) is
     ∙ ap (λ b. cond b (Some (with_child place a (root n p f))) (root_of S name)) same ∙ ap Some (tile-put n p f place a)

@@ -3,16 +3,18 @@
 ghost use Rattle.std.specs.Prelude.{◌≡◌, ◌<◌, ◌<ℤ◌, ◌≤ℤ◌, ◌*◌, ℕ, ℤ, List, pos};
 ghost use Rattle.sj_base.specs.Window.{table};
 ghost use Rattle.sj_codelet.specs.MinPlus.{inf};
-ghost use Rattle.sj_apps.specs.Generated.{IsSize, numbered, paths_statements, square, weight};
-ghost use Rattle.sj_apps.specs.Shortest.{walk_acts, PrintsShortest};
+ghost use Rattle.sj_job.specs.Act.{Statement};
+ghost use Rattle.sj_apps.specs.Generated.{IsSize, name_D, paths_statements, square, weight};
+ghost use Rattle.sj_apps.specs.Shortest.{acts_of, walk_acts, PrintsShortest};
 ghost use Rattle.sj_apps.specs.Walks.{AreWeights, StayBelowInf};
 
-/// The steps of all blocks make the lengths of shortest walks, under any plan: where no weight is negative, to stay costs
-/// nothing, and where a walk leads one does that is shorter than `inf`. The statements may begin in any line.
+/// A matrix of weights, the steps of all its blocks and a print statement print the lengths of shortest walks, whatever the
+/// name, the plan, the lines and the priorities: where no weight is negative, to stay costs nothing, and where a walk leads one
+/// does that is shorter than `inf`.
 pub fn walks()
-    ensures { (n p line : ℕ) (W : ℕ → ℕ → ℤ) (xs : List ℤ) → 0 < p → xs ≡ table (square n) W
-        → AreWeights n W → StayBelowInf n W
-        → PrintsShortest n W (numbered line (walk_acts n p xs)) }
+    ensures { (name : List ℕ) (n p : ℕ) (W : ℕ → ℕ → ℤ) (xs : List ℤ) (statements : List Statement)
+        → 0 < p → xs ≡ table (square n) W → AreWeights n W → StayBelowInf n W
+        → acts_of statements ≡ walk_acts name n p xs → PrintsShortest name n W statements }
 {}
 
 /// Where n steps of the greatest weight are shorter than `inf`, a walk leads wherever one does that is shorter than `inf`.
@@ -25,5 +27,5 @@ pub fn short_walks()
 /// The generated job prints the lengths of shortest walks on the ring with chords, for every size, tile and seed.
 pub fn ring_walks()
     ensures { (n tile seed : ℕ) → IsSize n tile seed
-        → PrintsShortest n (weight n seed) (paths_statements n tile seed) }
+        → PrintsShortest name_D n (weight n seed) (paths_statements n tile seed) }
 {}

@@ -27,4 +27,4 @@ returns-clause-numbered c =
 
 pub returns-clause-shortest : goal.returns-clause-shortest
 returns-clause-shortest c =
-    subst (λ (ss : List Statement). PrintsShortest c.args.n (weight c.args.n c.args.seed) ss) (sym (returns-clause-statements c)) (paths-print c.args.n c.args.tile c.args.seed c.requires)
+    subst (λ (ss : List Statement). PrintsShortest name_D c.args.n (weight c.args.n c.args.seed) ss) (sym (returns-clause-statements c)) (paths-print c.args.n c.args.tile c.args.seed c.requires)
