@@ -19,8 +19,8 @@ use Rattle.sj_apps.proofs.Tiling.{IsMatrix, tile, with_tile, run, run-append, ru
 use Rattle.sj_apps.proofs.Adding.{le-trans, le-same}
 use Rattle.sj_apps.proofs.Closing.{AreLengths, IsClosed, IsBlockStep, IsOut, in_or_out, closed_more, no_greater}
 use Rattle.sj_apps.proofs.Turning.{IsKept, diag_turned}
-use Rattle.sj_apps.proofs.Blocking.{InCols, InRest, InRows, InTile, IsChanged, IsIn, OffCols, OffRest, OffRows, OffTile, block-step, down_more, down_none, down_skip, rows_more, rows_none, rows_skip}
-use Rattle.sj_apps.proofs.Stepping.{AllSo, IsWithin, below_best, beside_best, part_last, part_next, parts_apart, rest_best, sound_after, tile-at, tile-local, tile_changed, with-inside, with-outside, within-same}
+use Rattle.sj_apps.proofs.Blocking.{InCols, InRows, IsChanged, IsIn, OffCols, OffRows, OffTile, block-step, down_more, down_none, down_skip, rows_more, rows_none, rows_skip}
+use Rattle.sj_apps.proofs.Stepping.{ChangesDown, ChangesRow, ChangesRows, ChangesTile, InPart, IsWithinPart, OffPart, AllSo, IsWithin, below_best, beside_best, part_last, part_next, parts_apart, rest_best, sound_after, tile-at, tile-local, tile_changed, with-inside, with-outside, within-same}
 
 -- the name has a matrix of which P is said at each element, and Q as a whole
 pub record Stands (name : List ℕ) (n p : ℕ) (P : ℕ → ℕ → ℤ → Type 0) (Q : (ℕ → ℕ → ℤ) → Type 0) (S : State) : Type 0 where
@@ -68,10 +68,10 @@ pub record IsDiagonal (n lo hi : ℕ) (d0 d1 : ℕ → ℕ → ℤ) : Type 0 whe
 module _ (name : List ℕ) (n p : ℕ) (P : ℕ → ℕ → ℤ → Type 0) (keeps : IsKept P n) (some : 0 < p) where
   -- the tiles of a row but the block's
   rows_run : (k r : ℕ) (act : ℕ → Act) (g : ℕ → ℕ → ℤ) (S : State) → k < p
-      → ((c : ℕ) (S' : State) (f : ℕ → ℕ → ℤ) → c < p → IsMatrix n p S' name f → AllSo P n f → IsWithin (part_first n p k) (part_last n p k) f
-      → Stands name n p P (IsChanged n (part_first n p k) (part_last n p k) (InTile (part_first n p r) (part_last n p r) (part_first n p c) (part_last n p c)) (OffTile (part_first n p r) (part_last n p r) (part_first n p c) (part_last n p c)) f) (apply (act c) S'))
-      → IsMatrix n p S name g → AllSo P n g → IsWithin (part_first n p k) (part_last n p k) g
-      → Stands name n p P (IsChanged n (part_first n p k) (part_last n p k) (InRows (part_first n p k) (part_last n p k) (part_first n p r) (part_last n p r) n) (OffRows (part_first n p k) (part_last n p k) (part_first n p r) (part_last n p r) n) g) (run (map act (others p k)) S)
+      → ((c : ℕ) (S' : State) (f : ℕ → ℕ → ℤ) → c < p → IsMatrix n p S' name f → AllSo P n f → IsWithinPart n p k f
+      → Stands name n p P (ChangesTile n p k r c f) (apply (act c) S'))
+      → IsMatrix n p S name g → AllSo P n g → IsWithinPart n p k g
+      → Stands name n p P (ChangesRows n p k r g) (run (map act (others p k)) S)
   rows_run k r act g S hk one is sound within =
       let lo = part_first n p k in
       let hi = part_last n p k in
@@ -101,10 +101,10 @@ module _ (name : List ℕ) (n p : ℕ) (P : ℕ → ℕ → ℤ → Type 0) (kee
 
   -- the rows but the block's
   down_run : (k : ℕ) (C N : ℕ → Type 0) (acts : ℕ → List Act) (g : ℕ → ℕ → ℤ) (S : State) → k < p
-      → ((r : ℕ) (S' : State) (f : ℕ → ℕ → ℤ) → r < p → IsMatrix n p S' name f → AllSo P n f → IsWithin (part_first n p k) (part_last n p k) f
-      → Stands name n p P (IsChanged n (part_first n p k) (part_last n p k) (λ a b. IsIn (part_first n p r) (part_last n p r) a × C b) (λ a b. IsOut (part_first n p r) (part_last n p r) a ⊎ N b) f) (run (acts r) S'))
-      → IsMatrix n p S name g → AllSo P n g → IsWithin (part_first n p k) (part_last n p k) g
-      → Stands name n p P (IsChanged n (part_first n p k) (part_last n p k) (λ a b. (a < n) × IsOut (part_first n p k) (part_last n p k) a × C b) (λ a b. (n ≤ a) ⊎ (IsIn (part_first n p k) (part_last n p k) a ⊎ N b)) g) (run (flat_map acts (others p k)) S)
+      → ((r : ℕ) (S' : State) (f : ℕ → ℕ → ℤ) → r < p → IsMatrix n p S' name f → AllSo P n f → IsWithinPart n p k f
+      → Stands name n p P (ChangesRow n p k r C N f) (run (acts r) S'))
+      → IsMatrix n p S name g → AllSo P n g → IsWithinPart n p k g
+      → Stands name n p P (ChangesDown n p k C N g) (run (flat_map acts (others p k)) S)
   down_run k C N acts g S hk one is sound within =
       let lo = part_first n p k in
       let hi = part_last n p k in
@@ -132,8 +132,8 @@ module _ (name : List ℕ) (n p : ℕ) (P : ℕ → ℕ → ℤ → Type 0) (kee
 
   -- one task
   a_tile : (k r c : ℕ) (a : Array) (S' : State) (f : ℕ → ℕ → ℤ) → k < p → IsMatrix n p S' name (with_tile n p (r, c) a f) → AllSo P n f
-      → IsChanged n (part_first n p k) (part_last n p k) (InTile (part_first n p r) (part_last n p r) (part_first n p c) (part_last n p c)) (OffTile (part_first n p r) (part_last n p r) (part_first n p c) (part_last n p c)) f (with_tile n p (r, c) a f)
-      → Stands name n p P (IsChanged n (part_first n p k) (part_last n p k) (InTile (part_first n p r) (part_last n p r) (part_first n p c) (part_last n p c)) (OffTile (part_first n p r) (part_last n p r) (part_first n p c) (part_last n p c)) f) S'
+      → ChangesTile n p k r c f (with_tile n p (r, c) a f)
+      → Stands name n p P (ChangesTile n p k r c f) S'
   a_tile k r c a S' f hk is sound changed = record {
     f = with_tile n p (r, c) a f;
     is = is;
@@ -141,14 +141,14 @@ module _ (name : List ℕ) (n p : ℕ) (P : ℕ → ℕ → ℤ → Type 0) (kee
     so = changed;
   }
 
-  besides_run : (k : ℕ) (g : ℕ → ℕ → ℤ) (S : State) → k < p → IsMatrix n p S name g → AllSo P n g → IsWithin (part_first n p k) (part_last n p k) g
-      → Stands name n p P (IsChanged n (part_first n p k) (part_last n p k) (InRows (part_first n p k) (part_last n p k) (part_first n p k) (part_last n p k) n) (OffRows (part_first n p k) (part_last n p k) (part_first n p k) (part_last n p k) n) g) (run (map (beside_of name k) (others p k)) S)
+  besides_run : (k : ℕ) (g : ℕ → ℕ → ℤ) (S : State) → k < p → IsMatrix n p S name g → AllSo P n g → IsWithinPart n p k g
+      → Stands name n p P (ChangesRows n p k k g) (run (map (beside_of name k) (others p k)) S)
   besides_run k g S hk = rows_run k k (beside_of name k) g S hk (λ c S' f hc is sound within.
       (let a = fwrow (tile n p f (k, k)) (tile n p f (k, c)) in
       a_tile k k c a (apply (beside_of name k c) S') f hk (beside-runs name n p k c S' f hk hc is) sound (tile_changed n p P keeps k k c a f (beside_best n p P keeps k c f hk hc sound within))))
 
-  belows_run : (k : ℕ) (g : ℕ → ℕ → ℤ) (S : State) → k < p → IsMatrix n p S name g → AllSo P n g → IsWithin (part_first n p k) (part_last n p k) g
-      → Stands name n p P (IsChanged n (part_first n p k) (part_last n p k) (InCols (part_first n p k) (part_last n p k) n) (OffCols (part_first n p k) (part_last n p k) n) g) (run (map (below_of name k) (others p k)) S)
+  belows_run : (k : ℕ) (g : ℕ → ℕ → ℤ) (S : State) → k < p → IsMatrix n p S name g → AllSo P n g → IsWithinPart n p k g
+      → Stands name n p P (ChangesDown n p k (InPart n p k) (OffPart n p k) g) (run (map (below_of name k) (others p k)) S)
   belows_run k g S hk is sound within =
       let lo = part_first n p k in
       let hi = part_last n p k in
@@ -158,8 +158,8 @@ module _ (name : List ℕ) (n p : ℕ) (P : ℕ → ℕ → ℤ → Type 0) (kee
       a_tile k r k a (apply (below_of name k r) S') f hk (below-runs name n p k r S' f hk hr is) sound (tile_changed n p P keeps k r k a f (below_best n p P keeps k r f hk hr sound within))))
       is sound within)
 
-  aparts_run : (k : ℕ) (g : ℕ → ℕ → ℤ) (S : State) → k < p → IsMatrix n p S name g → AllSo P n g → IsWithin (part_first n p k) (part_last n p k) g
-      → Stands name n p P (IsChanged n (part_first n p k) (part_last n p k) (InRest (part_first n p k) (part_last n p k) n) (OffRest (part_first n p k) (part_last n p k) n) g) (run (flat_map (aparts_of name p k) (others p k)) S)
+  aparts_run : (k : ℕ) (g : ℕ → ℕ → ℤ) (S : State) → k < p → IsMatrix n p S name g → AllSo P n g → IsWithinPart n p k g
+      → Stands name n p P (ChangesDown n p k (OffPart n p k) (InPart n p k) g) (run (flat_map (aparts_of name p k) (others p k)) S)
   aparts_run k g S hk =
       let lo = part_first n p k in
       let hi = part_last n p k in

@@ -13,7 +13,7 @@ use Rattle.sj_apps.proofs.Tiling.{tile, rect, with_tile}
 use Rattle.sj_apps.proofs.Adding.{le-trans, le-same, plus-mono}
 use Rattle.sj_apps.proofs.Closing.{IsClosed, IsBest, IsOut, in_or_out}
 use Rattle.sj_apps.proofs.Turning.{IsKept, best-among, row_best, col_best, apart_best}
-use Rattle.sj_apps.proofs.Blocking.{AreApart, InTile, IsChanged, IsIn, OffTile, best-shifted}
+use Rattle.sj_apps.proofs.Blocking.{InRows, OffRows, AreApart, InTile, IsChanged, IsIn, OffTile, best-shifted}
 
 -- a part's end
 abbrev pub part_last : ℕ → ℕ → ℕ → ℕ
@@ -25,24 +25,30 @@ part_next n p k = ap (part_first n p) (let e : k + 1 ≡ suc k = omega arith in 
 pub parts_apart : (n p k m : ℕ) → ¬ (m ≡ k) → AreApart (part_first n p k) (part_last n p k) (part_first n p m) (part_last n p m)
 parts_apart n p k m h = ⊎_elim (λ e. absurd (h e)) (λ o. ⊎_elim (λ l. inl (ends_before n p m k l)) (λ g. inr (ends_before n p k m g)) o) (cases_order m k)
 
+abbrev pub InPart : ℕ → ℕ → ℕ → ℕ → Type 0
+InPart n p k a = IsIn (part_first n p k) (part_last n p k) a
+
+abbrev pub OffPart : ℕ → ℕ → ℕ → ℕ → Type 0
+OffPart n p k a = IsOut (part_first n p k) (part_last n p k) a
+
 -- ---- the elements of tiles
 
 pub tile-local : (n p : ℕ) (f : ℕ → ℕ → ℤ) (r c a b : ℕ) → a < part_len n p r → b < part_len n p c → element (tile n p f (r, c)) a b ≡ f (part_first n p r + a) (part_first n p c + b)
 tile-local n p f r c a b ha hb = element-grid (dims_of (rect n p (r, c))) (λ i j. f (part_first n p r + i) (part_first n p c + j)) a b ha hb
 
-tile-row : (n p : ℕ) (f : ℕ → ℕ → ℤ) (r c i b : ℕ) → IsIn (part_first n p r) (part_last n p r) i → b < part_len n p c → element (tile n p f (r, c)) (i - part_first n p r) b ≡ f i (part_first n p c + b)
+tile-row : (n p : ℕ) (f : ℕ → ℕ → ℤ) (r c i b : ℕ) → InPart n p r i → b < part_len n p c → element (tile n p f (r, c)) (i - part_first n p r) b ≡ f i (part_first n p c + b)
 tile-row n p f r c i b hi hb =
     tile-local n p f r c (i - part_first n p r) b (omega (arith, hi.0, hi.1)) hb ∙ ap (λ u. f u (part_first n p c + b)) (omega (arith, hi.0))
 
-tile-col : (n p : ℕ) (f : ℕ → ℕ → ℤ) (r c a j : ℕ) → a < part_len n p r → IsIn (part_first n p c) (part_last n p c) j → element (tile n p f (r, c)) a (j - part_first n p c) ≡ f (part_first n p r + a) j
+tile-col : (n p : ℕ) (f : ℕ → ℕ → ℤ) (r c a j : ℕ) → a < part_len n p r → InPart n p c j → element (tile n p f (r, c)) a (j - part_first n p c) ≡ f (part_first n p r + a) j
 tile-col n p f r c a j ha hj =
     tile-local n p f r c a (j - part_first n p c) ha (omega (arith, hj.0, hj.1)) ∙ ap (λ u. f (part_first n p r + a) u) (omega (arith, hj.0))
 
-pub tile-at : (n p : ℕ) (f : ℕ → ℕ → ℤ) (r c i j : ℕ) → IsIn (part_first n p r) (part_last n p r) i → IsIn (part_first n p c) (part_last n p c) j → element (tile n p f (r, c)) (i - part_first n p r) (j - part_first n p c) ≡ f i j
+pub tile-at : (n p : ℕ) (f : ℕ → ℕ → ℤ) (r c i j : ℕ) → InPart n p r i → InPart n p c j → element (tile n p f (r, c)) (i - part_first n p r) (j - part_first n p c) ≡ f i j
 tile-at n p f r c i j hi hj =
     tile-row n p f r c i (j - part_first n p c) hi (omega (arith, hj.0, hj.1)) ∙ ap (λ u. f i u) (omega (arith, hj.0))
 
-pub with-inside : (n p r c : ℕ) (a : Array) (f : ℕ → ℕ → ℤ) (i j : ℕ) → IsIn (part_first n p r) (part_last n p r) i → IsIn (part_first n p c) (part_last n p c) j → with_tile n p (r, c) a f i j ≡ element a (i - part_first n p r) (j - part_first n p c)
+pub with-inside : (n p r c : ℕ) (a : Array) (f : ℕ → ℕ → ℤ) (i j : ℕ) → InPart n p r i → InPart n p c j → with_tile n p (r, c) a f i j ≡ element a (i - part_first n p r) (j - part_first n p c)
 with-inside n p r c a f i j hi hj = ap (λ b. cond b (element a (i - part_first n p r) (j - part_first n p c)) (f i j)) (holds-true (rect n p (r, c)) i j ((hi.0, hi.1), (hj.0, hj.1)))
 
 pub with-outside : (n p r c : ℕ) (a : Array) (f : ℕ → ℕ → ℤ) (i j : ℕ) → IsOut (part_first n p r) (part_last n p r) i ⊎ IsOut (part_first n p c) (part_last n p c) j → with_tile n p (r, c) a f i j ≡ f i j
@@ -59,15 +65,42 @@ pub within-same : (lo hi : ℕ) (g f : ℕ → ℕ → ℤ) → ((a b : ℕ) →
 within-same lo hi g f same w v a b hv ha hb =
     le-trans (le-same (same a b ha hb)) (le-trans (w v a b hv ha hb) (plus-mono (le-same (sym (same a v ha hv))) (le-same (sym (same v b hv hb)))))
 
+abbrev pub IsWithinPart : ℕ → ℕ → ℕ → (ℕ → ℕ → ℤ) → Type 0
+IsWithinPart n p k f = IsWithin (part_first n p k) (part_last n p k) f
+
+-- y is the least of the element and of the ways through block k
+abbrev pub IsLeastBy : ℕ → ℕ → ℕ → (ℕ → ℕ → ℤ) → ℕ → ℕ → ℤ → Type 0
+IsLeastBy n p k f i j y = IsBest (part_first n p k) (part_last n p k) (f i j) (λ v. plus (f i v) (f v j)) y
+
+-- through block k the tile [r, c] changes alone
+abbrev pub ChangesTile : ℕ → ℕ → ℕ → ℕ → ℕ → (ℕ → ℕ → ℤ) → (ℕ → ℕ → ℤ) → Type 0
+ChangesTile n p k r c g f =
+    IsChanged n (part_first n p k) (part_last n p k) (InTile (part_first n p r) (part_last n p r) (part_first n p c) (part_last n p c)) (OffTile (part_first n p r) (part_last n p r) (part_first n p c) (part_last n p c)) g f
+
+-- of row r all tiles, but for that of the block
+abbrev pub ChangesRows : ℕ → ℕ → ℕ → ℕ → (ℕ → ℕ → ℤ) → (ℕ → ℕ → ℤ) → Type 0
+ChangesRows n p k r g f =
+    IsChanged n (part_first n p k) (part_last n p k) (InRows (part_first n p k) (part_last n p k) (part_first n p r) (part_last n p r) n) (OffRows (part_first n p k) (part_last n p k) (part_first n p r) (part_last n p r) n) g f
+
+-- of row r the columns of C; the others are those of N
+abbrev pub ChangesRow : ℕ → ℕ → ℕ → ℕ → (ℕ → Type 0) → (ℕ → Type 0) → (ℕ → ℕ → ℤ) → (ℕ → ℕ → ℤ) → Type 0
+ChangesRow n p k r C N g f =
+    IsChanged n (part_first n p k) (part_last n p k) (λ a b. InPart n p r a × C b) (λ a b. OffPart n p r a ⊎ N b) g f
+
+-- of all rows but the block's
+abbrev pub ChangesDown : ℕ → ℕ → ℕ → (ℕ → Type 0) → (ℕ → Type 0) → (ℕ → ℕ → ℤ) → (ℕ → ℕ → ℤ) → Type 0
+ChangesDown n p k C N g f =
+    IsChanged n (part_first n p k) (part_last n p k) (λ a b. (a < n) × OffPart n p k a × C b) (λ a b. (n ≤ a) ⊎ (InPart n p k a ⊎ N b)) g f
+
 -- P is said of each element
 abbrev pub AllSo : (ℕ → ℕ → ℤ → Type 0) → ℕ → (ℕ → ℕ → ℤ) → Type 0
 AllSo P n f = (i j : ℕ) → i < n → j < n → P i j (f i j)
 
 module _ (n p : ℕ) (P : ℕ → ℕ → ℤ → Type 0) (keeps : IsKept P n) where
-  pub tile_changed : (k r c : ℕ) (a : Array) (f : ℕ → ℕ → ℤ) → ((i j : ℕ) → IsIn (part_first n p r) (part_last n p r) i → IsIn (part_first n p c) (part_last n p c) j → IsBest (part_first n p k) (part_last n p k) (f i j) (λ v. plus (f i v) (f v j)) (element a (i - part_first n p r) (j - part_first n p c)))
-      → IsChanged n (part_first n p k) (part_last n p k) (InTile (part_first n p r) (part_last n p r) (part_first n p c) (part_last n p c)) (OffTile (part_first n p r) (part_last n p r) (part_first n p c) (part_last n p c)) f (with_tile n p (r, c) a f)
+  pub tile_changed : (k r c : ℕ) (a : Array) (f : ℕ → ℕ → ℤ) → ((i j : ℕ) → InPart n p r i → InPart n p c j → IsLeastBy n p k f i j (element a (i - part_first n p r) (j - part_first n p c)))
+      → ChangesTile n p k r c f (with_tile n p (r, c) a f)
   tile_changed k r c a f best = record {
-    here = λ i j hi hj t. subst (IsBest (part_first n p k) (part_last n p k) (f i j) (λ v. plus (f i v) (f v j))) (sym (with-inside n p r c a f i j t.0 t.1)) (best i j t.0 t.1);
+    here = λ i j hi hj t. subst (IsLeastBy n p k f i j) (sym (with-inside n p r c a f i j t.0 t.1)) (best i j t.0 t.1);
     there = λ i j hi hj o. with-outside n p r c a f i j o;
   }
 
@@ -85,7 +118,7 @@ module _ (n p : ℕ) (P : ℕ → ℕ → ℤ → Type 0) (keeps : IsKept P n) w
       let ec = part_end n p c hc in
       subst (λ z. pos 0 ≤ℤ z) (sym (tile-local n p f r c a b ha hb)) (natural_of f sound (part_first n p r + a) (part_first n p c + b) (omega arith) (omega arith))
 
-  closed_tile : (f : ℕ → ℕ → ℤ) (k : ℕ) → IsWithin (part_first n p k) (part_last n p k) f → IsClosed (part_len n p k) (part_len n p k) (λ a b. element (tile n p f (k, k)) a b)
+  closed_tile : (f : ℕ → ℕ → ℤ) (k : ℕ) → IsWithinPart n p k f → IsClosed (part_len n p k) (part_len n p k) (λ a b. element (tile n p f (k, k)) a b)
   closed_tile f k within = record {
     through = λ v a b hv ha hb.
         (let lo = part_first n p k in
@@ -96,8 +129,8 @@ module _ (n p : ℕ) (P : ℕ → ℕ → ℤ → Type 0) (keeps : IsKept P n) w
         (plus-mono (le-same (sym (tile-local n p f k k a v ha hv))) (le-same (sym (tile-local n p f k k v b hv hb))))));
   }
 
-  pub beside_best : (k c : ℕ) (f : ℕ → ℕ → ℤ) → k < p → c < p → AllSo P n f → IsWithin (part_first n p k) (part_last n p k) f → (i j : ℕ) → IsIn (part_first n p k) (part_last n p k) i → IsIn (part_first n p c) (part_last n p c) j
-      → IsBest (part_first n p k) (part_last n p k) (f i j) (λ v. plus (f i v) (f v j)) (element (fwrow (tile n p f (k, k)) (tile n p f (k, c))) (i - part_first n p k) (j - part_first n p c))
+  pub beside_best : (k c : ℕ) (f : ℕ → ℕ → ℤ) → k < p → c < p → AllSo P n f → IsWithinPart n p k f → (i j : ℕ) → InPart n p k i → InPart n p c j
+      → IsLeastBy n p k f i j (element (fwrow (tile n p f (k, k)) (tile n p f (k, c))) (i - part_first n p k) (j - part_first n p c))
   beside_best k c f hk hc sound within i j hi hj =
       let lo = part_first n p k in
       let s = part_len n p k in
@@ -109,8 +142,8 @@ module _ (n p : ℕ) (P : ℕ → ℕ → ℤ → Type 0) (keeps : IsKept P n) w
       (λ v hv. ap (λ z. plus z (element t v y)) (tile-row n p f k k i v hi hv) ∙ ap (λ z. plus (f i (lo + v)) z) (tile-col n p f k c v j hv hj))
       (row_best d t s (natural_tile f k k hk hk sound) (closed_tile f k within) refl refl (natural_tile f k c hk hc sound) x y (omega (arith, hi.0, hi.1)) (omega (arith, hj.0, hj.1)))
 
-  pub below_best : (k r : ℕ) (f : ℕ → ℕ → ℤ) → k < p → r < p → AllSo P n f → IsWithin (part_first n p k) (part_last n p k) f → (i j : ℕ) → IsIn (part_first n p r) (part_last n p r) i → IsIn (part_first n p k) (part_last n p k) j
-      → IsBest (part_first n p k) (part_last n p k) (f i j) (λ v. plus (f i v) (f v j)) (element (fwcol (tile n p f (k, k)) (tile n p f (r, k))) (i - part_first n p r) (j - part_first n p k))
+  pub below_best : (k r : ℕ) (f : ℕ → ℕ → ℤ) → k < p → r < p → AllSo P n f → IsWithinPart n p k f → (i j : ℕ) → InPart n p r i → InPart n p k j
+      → IsLeastBy n p k f i j (element (fwcol (tile n p f (k, k)) (tile n p f (r, k))) (i - part_first n p r) (j - part_first n p k))
   below_best k r f hk hr sound within i j hi hj =
       let lo = part_first n p k in
       let s = part_len n p k in
@@ -122,8 +155,8 @@ module _ (n p : ℕ) (P : ℕ → ℕ → ℤ → Type 0) (keeps : IsKept P n) w
       (λ v hv. ap (λ z. plus z (element d v y)) (tile-row n p f r k i v hi hv) ∙ ap (λ z. plus (f i (lo + v)) z) (tile-col n p f k k v j hv hj))
       (col_best d t s (natural_tile f k k hk hk sound) (closed_tile f k within) refl refl (natural_tile f r k hr hk sound) x y (omega (arith, hi.0, hi.1)) (omega (arith, hj.0, hj.1)))
 
-  pub rest_best : (k r c : ℕ) (f : ℕ → ℕ → ℤ) → (i j : ℕ) → IsIn (part_first n p r) (part_last n p r) i → IsIn (part_first n p c) (part_last n p c) j
-      → IsBest (part_first n p k) (part_last n p k) (f i j) (λ v. plus (f i v) (f v j)) (element (mingemm (tile n p f (r, k)) (tile n p f (k, c)) (tile n p f (r, c))) (i - part_first n p r) (j - part_first n p c))
+  pub rest_best : (k r c : ℕ) (f : ℕ → ℕ → ℤ) → (i j : ℕ) → InPart n p r i → InPart n p c j
+      → IsLeastBy n p k f i j (element (mingemm (tile n p f (r, k)) (tile n p f (k, c)) (tile n p f (r, c))) (i - part_first n p r) (j - part_first n p c))
   rest_best k r c f i j hi hj =
       let lo = part_first n p k in
       let s = part_len n p k in

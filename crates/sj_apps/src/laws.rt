@@ -12,9 +12,9 @@ ghost use Rattle.sj_apps.specs.Walks.{AreWeights, StayBelowInf};
 /// name, the plan, the lines and the priorities: where no weight is negative, to stay costs nothing, and where a walk leads one
 /// does that is shorter than `inf`.
 pub fn walks()
-    ensures { (name : List ℕ) (n p : ℕ) (W : ℕ → ℕ → ℤ) (xs : List ℤ) (statements : List Statement)
+    ensures { (name : List ℕ) (n p : ℕ) (W : ℕ → ℕ → ℤ) (xs : List ℤ) (ss : List Statement)
         → 0 < p → xs ≡ table (square n) W → AreWeights n W → StayBelowInf n W
-        → acts_of statements ≡ walk_acts name n p xs → PrintsShortest name n W statements }
+        → acts_of ss ≡ walk_acts name n p xs → PrintsShortest name n W ss }
 {}
 
 /// Where n steps of the greatest weight are shorter than `inf`, a walk leads wherever one does that is shorter than `inf`.

@@ -282,7 +282,8 @@ pub fn paths(alloc: Global, n: u32, tile: u32, seed: u64) -> Result<Job, OutOfMe
     ensures numbered { IfOk result (λ job. IsNumbered job.roots job.statements) }
 
     // What it prints.
-    ensures shortest { IfOk result (λ job. PrintsShortest name_D n (weight n seed) (statements_of job)) }
+    ensures shortest { IfOk result (λ job.
+        PrintsShortest name_D n (weight n seed) (statements_of job)) }
 {
     let p = part_count(n, tile);
     let mut draft = ring(alloc, n, p, seed)?;
