@@ -15,3 +15,5 @@ pub mod Wording
 pub mod WellFormed
 pub mod Starting
 pub mod Generating
+pub mod Multiplying
+pub mod Solving

@@ -5,3 +5,4 @@ pub mod Walks
 pub mod Shortest
 pub mod Draft
 pub mod Application
+pub mod Solution
