@@ -100,8 +100,25 @@ unaccepted 'word 3, --no, is no option' --swap swap --no
 [ ! -e swap ]
 expect_true 'unaccepted words make no swap file' $?
 
-run "$good" --n 4
-expect 'a size without an application' 2 '' $'starjob: word 1, --n, isn\'t accepted yet\nstarjob: usage: starjob *\n'
+unaccepted 'word 1, --n, stands only with --app, --n, --tile and --seed' --n 4
+unaccepted 'word 1, --app, stands only with --app, --n, --tile and --seed' --app paths --n 4
+unaccepted 'word 2, sum, is none of product and paths' --app sum --n 4 --tile 2 --seed 1
+unaccepted 'word 4, 2049, is no number from 1 to 2048' --app product --n 2049 --tile 2 --seed 1
+unaccepted 'word 5, --tile, makes tiles larger than the matrix' --app product --n 4 --tile 5 --seed 1
+unaccepted 'word 4, --tile, makes more than 48 tiles in a column' --app product --n=49 --tile 1 --seed 1
+
+run 'no job' --app product --n 2 --tile 1 --seed 1
+expect 'a product of four elements' 0 $'C 2 2:\n7 1\n19 5\n' ''
+run 'no job' --app paths --n 1 --tile 1 --seed 7
+expect 'walks of one vertex' 0 $'D 1 1:\n0\n' ''
+for policy in eager prio ws; do
+  for workers in 1 4; do
+    run '' --app paths --n 96 --tile 20 --seed 7 --node 16384 --summary --sched $policy --workers $workers
+    expect "shortest walks, $policy, $workers workers" 0 $'D 96 96: sum 492096 min 0 max 103 inf 0\n' ''
+  done
+done
+run '' --app paths --n 480 --tile 20 --seed 7 --node 65536 --summary --workers 4
+expect 'shortest walks of 480 vertices' 0 $'D 480 480: sum 56557440 min 0 max 487 inf 0\n' ''
 
 run "$evicts" --workers 2 --node 64
 expect 'two workers on a small node' 0 $'a: 1 2 3\n' ''

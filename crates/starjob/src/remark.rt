@@ -22,6 +22,7 @@ impl fmt::Display for Value {
             }
             Value::Policy => f.write_str("is none of eager, prio and ws"),
             Value::Path => f.write_str("is no path: it is empty or begins with -"),
+            Value::Problem => f.write_str("is none of product and paths"),
         }
     }
 }
@@ -35,7 +36,9 @@ impl fmt::Display for Fault {
             Fault::NoValue => f.write_str("wants a value behind it"),
             Fault::NotThis(value) => write!(f, "{value}"),
             Fault::WithoutNode => f.write_str("stands only with --node"),
-            Fault::NotYet => f.write_str("isn't accepted yet"),
+            Fault::WithoutOthers => f.write_str("stands only with --app, --n, --tile and --seed"),
+            Fault::AboveN => f.write_str("makes tiles larger than the matrix"),
+            Fault::ManyTiles => f.write_str("makes more than 48 tiles in a column"),
         }
     }
 }

@@ -3,7 +3,7 @@
 ghost use Rattle.std.specs.Prelude.{◌≡◌, ◌≤◌, ◌^◌, Some, length};
 ghost use Rattle.sj_ready.specs.Ready.{HasOwnCodelets};
 
-use crate::running::{Run, run_text};
+use crate::running::{Run, run_input};
 use crate::status::Status;
 use crate::test_calls::{DISK, answer_on, is_answered, memory, only, same, whole};
 use crate::tests_of_machines::ROUND_SWAP;
@@ -16,6 +16,7 @@ use sj_edge::memory_disk::MemDisk;
 use sj_edge::source::Failed;
 use sj_kernels::ring::Ring;
 use sj_minplus::library::Library;
+use sj_ready::input::Input;
 use sj_words::read_words;
 use std::alloc::Global;
 use std::process::Abort;
@@ -127,8 +128,8 @@ fn run_on<C: Codelets, D: Disk + Send, R: Threads + Wait + Sync>(
 {
     let options = read_words(alloc, &[])?;
     let disks = only(alloc, disk)?;
-    let text = text.as_bytes().to_vec(alloc)?;
-    Ok(run_text(rt, alloc, text, &options, disks, codelets, &OpenGate))
+    let input = Input::Text(text.as_bytes().to_vec(alloc)?);
+    Ok(run_input(rt, alloc, input, &options, disks, codelets, &OpenGate))
 }
 
 /// Three vectors of 24 bytes on a node that holds two of them.

@@ -1,5 +1,5 @@
-//! `trace_check`: reads a job from standard input and the trace of a run of it from a file, and says whether each event of
-//! the trace is legal and all tasks are done after the last.
+//! `trace_check`: reads a job from standard input, where the words ask for no application, and the trace of a run of it from a
+//! file, and says whether each event of the trace is legal and all tasks are done after the last.
 //!
 //! The words before the file's name are those of `starjob`, which ask for the machine of the run.
 #![tactic(auto)]
@@ -9,13 +9,19 @@ mod refusal;
 #[cfg(test)]
 mod tests;
 
+ghost use Rattle.std.specs.Prelude.{IfOk};
+ghost use Rattle.sj_minplus.specs.Has.{library_has};
+ghost use Rattle.sj_ready.specs.Input.{HasJob};
+ghost use Rattle.sj_words.specs.Options.{IsWithinLimits};
+
 use judging::judged;
 use refusal::JudgeRefusal;
 use sj_check::check::CheckRefusal;
 use sj_needs::shortage::Shortage;
+use sj_ready::input::Input;
 use sj_ready::unready::Unready;
 use sj_trace::read::TraceRefusal;
-use sj_words::{WordsRefusal, read_words, swap_wish};
+use sj_words::{Options, WordsRefusal, read_words, swap_wish};
 use std::alloc::AllocError;
 use std::io::{self, ErrorKind, Read};
 use std::process::ExitCode;
@@ -58,6 +64,17 @@ fn input(rt: &HostRuntime) -> io::Result<Vec<u8>> {
     let mut text = Vec::new(rt.alloc());
     rt.stdin().read_to_end(&mut text)?;
     Ok(text)
+}
+
+/// The job that options ask for, which is read where they ask for no application.
+fn job_for(rt: &HostRuntime, options: &Options) -> io::Result<Input>
+    requires { IsWithinLimits options.now }
+    ensures { IfOk result (HasJob library_has) }
+{
+    match options.application {
+        Some(application) => Ok(Input::Generated(application)),
+        None => Ok(Input::Text(input(rt)?)),
+    }
 }
 
 /// The line of a text with a number, from 0; nothing where there are fewer.
@@ -139,7 +156,7 @@ fn answer(rt: &HostRuntime) -> u8 {
     let Ok(wish) = swap_wish(alloc, &words) else {
         return OUT_OF_MEMORY;
     };
-    let job = match input(rt) {
+    let job = match job_for(rt, &options) {
         Ok(job) => job,
         Err(error) => return unread(rt, &error, "the job can't be read"),
     };
