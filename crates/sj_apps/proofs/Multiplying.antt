@@ -85,8 +85,8 @@ module _ (n p : ℕ) (a b : ℕ → ℕ → ℤ) where
       let tc = tile n p c (i0, j0) in
       let own : element tc i' j' ≡ wrap (t i j) = element-grid (dims_of r) (λ i j. c (r.row + i) (r.col + j)) i' j' li lj ∙ (λ x. c (bi x) (bj x)) ∙ is i j hi hj in
       let sums : exact ta tb i' j' ≡ part_sum k i j = same_sum (part_len n p k) (λ l. element ta i' l *ℤ element tb l j') (λ l. terms a b i j (part_first n p k + l)) (λ l hl x.
-          (element-grid (dims_of (rect n p (i0, k))) (λ i j. a (r.row + i) (part_first n p k + j)) i' l li hl ∙ (λ y. a (bi y) (part_first n p k + l))) x
-          *ℤ (element-grid (dims_of (rect n p (k, j0))) (λ i j. b (part_first n p k + i) (r.col + j)) l j' hl lj ∙ (λ y. b (part_first n p k + l) (bj y))) x) in
+      (element-grid (dims_of (rect n p (i0, k))) (λ i j. a (r.row + i) (part_first n p k + j)) i' l li hl ∙ (λ y. a (bi y) (part_first n p k + l))) x
+      *ℤ (element-grid (dims_of (rect n p (k, j0))) (λ i j. b (part_first n p k + i) (r.col + j)) l j' hl lj ∙ (λ y. b (part_first n p k + l) (bj y))) x) in
       element-grid (dims_of r) (λ i j. wrap (element tc i j +ℤ exact ta tb i j)) i' j' li lj
       ∙ (λ x. wrap (own x +ℤ sums x)) ∙ int_wrap-add_left w64 (t i j) (part_sum k i j)
 
@@ -118,9 +118,9 @@ module _ (n p : ℕ) (a b : ℕ → ℕ → ℤ) where
       let P : ℕ → State → Type 0 = λ k T. Reached n p a b T (λ x y. t x y +ℤ in_tile n p (i, j) x y (first_sum (part_first n p k) x y)) in
       let before = reached-same n p a b T t (λ x y. t x y +ℤ in_tile n p (i, j) x y (first_sum 0 x y)) (λ x y hx hy. in_tile-none (holds (rect n p (i, j)) x y) (t x y)) r in
       let end = run-each P (gemm i j) p T before (λ k T hk now.
-          reached-same n p a b (apply (gemm i j k) T) (λ x y. (t x y +ℤ in_tile n p (i, j) x y (first_sum (part_first n p k) x y)) +ℤ in_tile n p (i, j) x y (part_sum k x y)) (λ x y. t x y +ℤ in_tile n p (i, j) x y (first_sum (part_first n p (k + 1)) x y))
-          (λ x y hx hy. in_tile-more (holds (rect n p (i, j)) x y) (t x y) (first_sum (part_first n p k) x y) (part_sum k x y) (first_sum (part_first n p (k + 1)) x y) (first-more k x y))
-          (gemm-reached i j k T (λ x y. t x y +ℤ in_tile n p (i, j) x y (first_sum (part_first n p k) x y)) hi hj hk now)) in
+      reached-same n p a b (apply (gemm i j k) T) (λ x y. (t x y +ℤ in_tile n p (i, j) x y (first_sum (part_first n p k) x y)) +ℤ in_tile n p (i, j) x y (part_sum k x y)) (λ x y. t x y +ℤ in_tile n p (i, j) x y (first_sum (part_first n p (k + 1)) x y))
+      (λ x y hx hy. in_tile-more (holds (rect n p (i, j)) x y) (t x y) (first_sum (part_first n p k) x y) (part_sum k x y) (first_sum (part_first n p (k + 1)) x y) (first-more k x y))
+      (gemm-reached i j k T (λ x y. t x y +ℤ in_tile n p (i, j) x y (first_sum (part_first n p k) x y)) hi hj hk now)) in
       subst (λ m. Reached n p a b (run (gemms_at p i j) T) (λ x y. t x y +ℤ in_tile n p (i, j) x y (first_sum m x y))) (part_first-all n p some) end
 
   -- what is added left of a column, in the rows of a part
@@ -130,8 +130,10 @@ module _ (n p : ℕ) (a b : ℕ → ℕ → ℤ) where
     where
       IsOne : Bool → Bool → Bool → Type 0
       IsOne u v w = cond u 1 0 + cond v 1 0 ≡ cond w 1 0
+
       one_part : (x first len : ℕ) → cond (nat_lt x first) 1 0 + cond (is_within x first len) 1 0 ≡ cond (nat_lt x (first + len)) 1 0
       one_part x first len = grind (arith, nat_tests)
+
       by_tests : (u v w : Bool) → cond u 1 0 + cond v 1 0 ≡ cond w 1 0 → (t +ℤ cond u s (pos 0)) +ℤ cond v s (pos 0) ≡ t +ℤ cond w s (pos 0)
       by_tests true true true e = absurd (omega arith)
       by_tests true true false e = absurd (omega arith)
@@ -151,9 +153,9 @@ module _ (n p : ℕ) (a b : ℕ → ℕ → ℤ) where
       let P : ℕ → State → Type 0 = λ j T. Reached n p a b T (λ x y. t x y +ℤ part j x y) in
       let before = reached-same n p a b T t (λ x y. t x y +ℤ part 0 x y) (λ x y hx hy. none_left (in_row i x) y (first_sum n x y) (t x y)) r in
       let end = run-range P (gemms_at p i) p T before (λ j T hj now.
-          reached-same n p a b (run (gemms_at p i j) T) (λ x y. (t x y +ℤ part j x y) +ℤ in_tile n p (i, j) x y (first_sum n x y)) (λ x y. t x y +ℤ part (j + 1) x y)
-          (λ x y hx hy. two_parts (in_row i x) y (part_first n p j) (part_len n p j) (t x y) (first_sum n x y) ∙ ap (λ m. t x y +ℤ part m x y) (sym (add-one j)))
-          (tile-reached some i j T (λ x y. t x y +ℤ part j x y) hi hj now)) in
+      reached-same n p a b (run (gemms_at p i j) T) (λ x y. (t x y +ℤ part j x y) +ℤ in_tile n p (i, j) x y (first_sum n x y)) (λ x y. t x y +ℤ part (j + 1) x y)
+      (λ x y hx hy. two_parts (in_row i x) y (part_first n p j) (part_len n p j) (t x y) (first_sum n x y) ∙ ap (λ m. t x y +ℤ part m x y) (sym (add-one j)))
+      (tile-reached some i j T (λ x y. t x y +ℤ part j x y) hi hj now)) in
       reached-same n p a b (run (gemms_in_row p i) T) (λ x y. t x y +ℤ part p x y) (λ x y. t x y +ℤ cond (in_row i x) (first_sum n x y) (pos 0)) (λ x y hx hy.
       ap (λ m. t x y +ℤ cond (in_row i x && nat_lt y m) (first_sum n x y) (pos 0)) (part_first-all n p some)
       ∙ ap (λ w. t x y +ℤ cond (in_row i x && w) (first_sum n x y) (pos 0)) (lt-ltb y n hy) ∙ and_true (in_row i x) (t x y) (first_sum n x y)) end
@@ -164,6 +166,7 @@ module _ (n p : ℕ) (a b : ℕ → ℕ → ℤ) where
         where
           no_less : (y : ℕ) → nat_lt y 0 ≡ false
           no_less y = grind (arith, nat_tests)
+
       and_true : (r : Bool) (t s : ℤ) → t +ℤ cond (r && true) s (pos 0) ≡ t +ℤ cond r s (pos 0)
       and_true true t s = refl
       and_true false t s = refl
@@ -174,9 +177,9 @@ module _ (n p : ℕ) (a b : ℕ → ℕ → ℤ) where
       let P : ℕ → State → Type 0 = λ i T. Reached n p a b T (λ x y. t x y +ℤ part i x y) in
       let before = reached-same n p a b T t (λ x y. t x y +ℤ part 0 x y) (λ x y hx hy. none_above x (first_sum n x y) (t x y)) r in
       let end = run-range P (gemms_in_row p) p T before (λ i T hi now.
-          reached-same n p a b (run (gemms_in_row p i) T) (λ x y. (t x y +ℤ part i x y) +ℤ cond (in_row i x) (first_sum n x y) (pos 0)) (λ x y. t x y +ℤ part (i + 1) x y)
-          (λ x y hx hy. two_parts true x (part_first n p i) (part_len n p i) (t x y) (first_sum n x y) ∙ ap (λ m. t x y +ℤ part m x y) (sym (add-one i)))
-          (row-reached some i T (λ x y. t x y +ℤ part i x y) hi now)) in
+      reached-same n p a b (run (gemms_in_row p i) T) (λ x y. (t x y +ℤ part i x y) +ℤ cond (in_row i x) (first_sum n x y) (pos 0)) (λ x y. t x y +ℤ part (i + 1) x y)
+      (λ x y hx hy. two_parts true x (part_first n p i) (part_len n p i) (t x y) (first_sum n x y) ∙ ap (λ m. t x y +ℤ part m x y) (sym (add-one i)))
+      (row-reached some i T (λ x y. t x y +ℤ part i x y) hi now)) in
       reached-same n p a b (run (gemms p) T) (λ x y. t x y +ℤ part p x y) (λ x y. t x y +ℤ first_sum n x y) (λ x y hx hy.
       ap (λ m. t x y +ℤ cond (true && nat_lt x m) (first_sum n x y) (pos 0)) (part_first-all n p some)
       ∙ ap (λ w. t x y +ℤ cond (true && w) (first_sum n x y) (pos 0)) (lt-ltb x n hx)) end
@@ -228,8 +231,8 @@ product-printed n tile seed size =
     let acts = factors n p seed ++ gemms p in
     let silent : AllByRecursion IsSilent acts = ((λ S. refl), ((λ S. refl), ((λ S. refl), gemms-silent p))) in
     let elements : grid (square n) end.c ≡ product n (factor_A n seed) (factor_B n) =
-        same_grid (square n) end.c (λ i j. wrap (sum_below n (λ k. element (factor_A n seed) i k *ℤ element (factor_B n) k j))) (λ i j hi hj.
-        end.is i j hi hj ∙ ap (λ (s : ℤ). wrap (s +ℤ sum_below n (terms a b i j))) (nothing (i * n + j)) ∙ ap wrap (zero_left (sum_below n (terms a b i j)))
-        ∙ ap wrap (same_sum n (terms a b i j) (λ k. element (factor_A n seed) i k *ℤ element (factor_B n) k j) (λ k hk x. sym (factor-element n (pos (seed % 100)) (pos 1) i k hi hk) x *ℤ sym (factor-element n (pos 5) (negsuc 1) k j hk hj) x))) in
+    same_grid (square n) end.c (λ i j. wrap (sum_below n (λ k. element (factor_A n seed) i k *ℤ element (factor_B n) k j))) (λ i j hi hj.
+    end.is i j hi hj ∙ ap (λ (s : ℤ). wrap (s +ℤ sum_below n (terms a b i j))) (nothing (i * n + j)) ∙ ap wrap (zero_left (sum_below n (terms a b i j)))
+    ∙ ap wrap (same_sum n (terms a b i j) (λ k. element (factor_A n seed) i k *ℤ element (factor_B n) k j) (λ k hk x. sym (factor-element n (pos (seed % 100)) (pos 1) i k hi hk) x *ℤ sym (factor-element n (pos 5) (negsuc 1) k j hk hj) x))) in
     printed-last acts name_C start first_line silent
     ∙ ap (λ (ps : List Printed). ps ++ []) (found-matrix n p (run (gemms p) S) name_C end.c end.are.third ∙ ap (λ (x : Array). record { name = name_C; kind = Matrix; array = x } ∷ []) elements)

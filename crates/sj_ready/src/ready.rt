@@ -186,9 +186,9 @@ fn job_of<C: Codelets>(alloc: Global, input: Input, codelets: &C) -> Result<Job,
     }
 }
 
-/// A job text, or the job of an application, made ready to be run on the machine that words ask for, else its settings, with disks
-/// of these sizes. The cost of reading, of lowering, and of what the program needs: linear in the text, the tasks, their accesses
-/// and the cells. The text is dropped as soon as it is read.
+/// A job text, or the job of an application, made ready to be run on the machine that words ask for, else its settings, with
+/// disks of these sizes. The cost of reading, of lowering, and of what the program needs: linear in the text, the tasks, their
+/// accesses and the cells. The text is dropped as soon as it is read.
 ///
 /// # Errors
 ///

@@ -17,8 +17,9 @@
 //! | `--tile` | 1 to n | the rows of its tiles, of which at most 48 make a column |
 //! | `--seed` | 0 to 999999999 | its numbers |
 //!
-//! The last four stand together or not at all. No name stands twice. No value is empty or begins with `-`. A number is 1 to 19 decimal digits.
-//! The spelling is checked first, and then `clap` reads the values.
+//! The last four stand together or not at all. No name stands twice. No value is empty or begins with
+//! `-`. A number is 1 to 19 decimal digits. The spelling is checked first, and then `clap` reads the
+//! values.
 #![tactic(auto)]
 
 mod command;

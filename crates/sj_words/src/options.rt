@@ -243,10 +243,10 @@ fn together(
 
 // The application that the values that were found ask for.
 fn application(matches: &ArgMatches<'_>) -> Result<Option<Application>, Unread>
-    ensures ok { IfOk result (λ a. (ps : List (List ℕ × List ℕ)) → HoldsGiven (found_of matches.now) ps
-        → application_asked ps ≡ Some a) }
-    ensures err { IfErr result (λ _. (ps : List (List ℕ × List ℕ)) → HoldsGiven (found_of matches.now) ps
-        → application_asked ps ≡ None) }
+    ensures ok { IfOk result (λ a. (ps : List (List ℕ × List ℕ)) →
+        HoldsGiven (found_of matches.now) ps → application_asked ps ≡ Some a) }
+    ensures err { IfErr result (λ _. (ps : List (List ℕ × List ℕ)) →
+        HoldsGiven (found_of matches.now) ps → application_asked ps ≡ None) }
     ensures sized { IfOk result (λ a. IfSome a IsSized) }
 {
     let problem = problem(matches.get_str(APP))?;

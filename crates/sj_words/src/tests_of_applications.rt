@@ -26,7 +26,13 @@ fn of_product(alloc: Global, n: &str, tile: &str, seed: &str) -> Result<bool, Al
 #[test]
 fn four_words_ask_for_an_application(rt: HostRuntime) -> Result<(), Fail> {
     let words = [
-        "--seed=7", "--n", "96", "--summary", "--app", "paths", "--tile=020",
+        "--seed=7",
+        "--n",
+        "96",
+        "--summary",
+        "--app",
+        "paths",
+        "--tile=020",
     ];
     let asked = asked_for(rt.alloc(), words.as_slice())?;
     let wanted = Application {

@@ -8,9 +8,9 @@ use sj_base::memory::OutOfMemory;
 use sj_check::check::CheckRefusal;
 use sj_job::reason::Reason;
 use sj_needs::shortage::Shortage;
+use sj_ready::input::Input;
 use sj_ready::unready::Unready;
 use sj_trace::read::TraceRefusal;
-use sj_ready::input::Input;
 use sj_words::read_words;
 use std::alloc::Global;
 
