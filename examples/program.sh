@@ -128,6 +128,7 @@ expect 'a swap of more memory than there is' 10 '' $'starjob: out of memory\n'
 run "$good" --swap-size 40
 expect 'a swap with just enough room' 0 $'x: 1 2\n' ''
 source "$here/program_swap.sh"
+source "$here/program_workers.sh"
 
 run ''
 expect 'an empty input' 3 '' $'starjob: line 1: header\n'

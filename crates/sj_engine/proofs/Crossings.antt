@@ -19,6 +19,7 @@ use Rattle.sj_machine.proofs.gifts.Gifts.TheSendSync as Gifts
 use Rattle.sj_machine.proofs.hold.Hold.TheSendSync as Hold
 use Rattle.sj_machine.specs.contracts.board.Board as Board
 use Rattle.sj_machine.specs.contracts.run_state.RunState as RunState
+use Rattle.sj_engine.specs.contracts.noted_board.NotedBoard as NotedBoard
 use Rattle.sj_engine.specs.contracts.shared_board.SharedBoard as SharedBoard
 
 deps-send : IsSend Deps.the_row
@@ -37,5 +38,8 @@ module _ (D : RattleType) (g : Ghosts D.Denot) (s : IsSend D) where
   board-send : IsSend (Board.the_row D g)
   board-send = search (sendable, crosses, run-send, deps-send, pool-send, Gifts.the_send, Delivered.the_send) depth 60
 
-  pub shared_send : IsSend (SharedBoard.the_row D g)
-  shared_send = search (sendable, crosses, board-send) depth 60
+  shared-send : IsSend (SharedBoard.the_row D g)
+  shared-send = search (sendable, crosses, board-send) depth 60
+
+  pub noted_send : IsSend (NotedBoard.the_row D g)
+  noted_send = search (sendable, crosses, shared-send) depth 60

@@ -12,6 +12,7 @@ mod ResultLists
 mod StepFacts
 mod StepTurns
 mod Turning
+pub mod Minding
 pub mod Outcomes
 pub mod Seating
 pub mod Crossings

@@ -1,6 +1,10 @@
+pub mod Bell
+pub mod Member
+pub mod Noted
 pub mod Operands
 pub mod Outcome
 pub mod Picking
+pub mod Resting
 pub mod Run
 pub mod Stage
 pub mod Stepping

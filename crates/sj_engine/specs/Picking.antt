@@ -1,4 +1,5 @@
 -- What a worker's row tells after it has looked for a task, and what has happened.
+use Rattle.std.specs.Prelude.{Bool, true, false}
 use Rattle.sj_base.specs.declared.ids.Worker.{Worker}
 use Rattle.sj_base.specs.declared.trace.Event.TheVariants.{Claim}
 use Rattle.sj_machine.specs.Board.{BoardState}
@@ -28,3 +29,8 @@ PickMakes w old new (Task t) = Happens (Claim t w) old new
 PickMakes w old new Nothing = NothingHappens old new
 PickMakes w old new Failed = NothingHappens old new
 PickMakes w old new Over = NothingHappens old new
+
+-- there was nothing that it may claim now
+abbrev pub finds_nothing : Picked → Bool
+finds_nothing Nothing = true
+finds_nothing _ = false

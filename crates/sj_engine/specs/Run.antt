@@ -21,6 +21,7 @@ use Rattle.sj_machine.specs.declared.fault.RunFault.{RunFault}
 use Rattle.sj_machine.specs.declared.hand.Hand.{Hand}
 use Rattle.sj_engine.specs.Outcome.{AllTell, HoldBlocks, IsCausedBy, WantsLastWritten}
 use Rattle.sj_engine.specs.Stage.{IsAt, IsDeskOf, IsFreeRow}
+use Rattle.sj_engine.specs.declared.noted_board.NotedBoard.{NotedBoard}
 
 -- ---- the board
 
@@ -47,12 +48,12 @@ abbrev pub worker_at : ℕ → Worker
 worker_at n = record { 0 = n }
 
 -- the seats are the desk's, each at the place of its number, and each left a row of which this is true
-pub record AreAt {D : Type 0} (desk : DeskFacts (BoardState D)) (P : BoardRow → Type 0) (seats : List (SeatFacts (BoardState D))) : Type 0 where
+pub record AreAt {D : Type 0} (desk : DeskFacts (NotedBoard D)) (P : BoardRow → Type 0) (seats : List (SeatFacts (NotedBoard D))) : Type 0 where
   pub count : length seats ≡ desk.seats
-  pub each : (k : ℕ) (d : SeatFacts (BoardState D)) → k < desk.seats → IsAt desk (worker_at k) P (slice_index_or seats k d)
+  pub each : (k : ℕ) (d : SeatFacts (NotedBoard D)) → k < desk.seats → IsAt desk (worker_at k) P (slice_index_or seats k d)
 
 -- the worker of the seat may begin to work on the program, with codelets of this set
-pub record MayWork {D : Type 0} (has : Kernel → Bool) (p : Program) (desk : DeskFacts (BoardState D)) (s : SeatFacts (BoardState D)) : Type 0 where
+pub record MayWork {D : Type 0} (has : Kernel → Bool) (p : Program) (desk : DeskFacts (NotedBoard D)) (s : SeatFacts (NotedBoard D)) : Type 0 where
   pub desk_of : IsDeskOf p (worker_at s.number) desk
   pub proper : Proper p
   pub lawful : IsLawful has p

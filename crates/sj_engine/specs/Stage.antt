@@ -18,6 +18,7 @@ use Rattle.sj_machine.specs.BoardRow.{BoardKey, BoardRow, row_of_number}
 use Rattle.sj_machine.specs.declared.hand.Hand.{Hand}
 use Rattle.sj_engine.specs.Operands.{AreSharesOf, HasRoomForOperands, IsShare, held_for, read_operands}
 use Rattle.sj_engine.specs.Outcome.{AllTell}
+use Rattle.sj_engine.specs.declared.noted_board.NotedBoard.{NotedBoard}
 
 -- ---- rows
 
@@ -107,26 +108,26 @@ KeepsEvents w old new = BeginsWith (row_in new w).events (row_in old w).events
 -- ---- seats, between turns
 
 -- the worker is one of the program of the desk's board
-pub record IsDeskOf {D : Type 0} (p : Program) (w : Worker) (desk : DeskFacts (BoardState D)) : Type 0 where
-  pub program : desk.opening.run.program ≡ p
+pub record IsDeskOf {D : Type 0} (p : Program) (w : Worker) (desk : DeskFacts (NotedBoard D)) : Type 0 where
+  pub program : desk.opening.board.run.program ≡ p
   pub known : w.0 < p.workers
 
 -- the seat is the worker's at this desk, isn't in its turn, and left a row of which this is true
-pub record IsAt {D : Type 0} (desk : DeskFacts (BoardState D)) (w : Worker) (P : BoardRow → Type 0) (s : SeatFacts (BoardState D)) : Type 0 where
+pub record IsAt {D : Type 0} (desk : DeskFacts (NotedBoard D)) (w : Worker) (P : BoardRow → Type 0) (s : SeatFacts (NotedBoard D)) : Type 0 where
   pub waiting : IsWaiting desk s
   pub number : s.number ≡ w.0
-  pub row : IsSomeAnd s.left (λ b. P (row_in b w))
+  pub row : IsSomeAnd s.left (λ b. P (row_in b.board w))
 
--- the worker's seat at this desk isn't in its turn, and left this board
-pub record HasLeft {D : Type 0} (desk : DeskFacts (BoardState D)) (w : Worker) (b : BoardState D) (s : SeatFacts (BoardState D)) : Type 0 where
+-- the worker's seat at this desk isn't in its turn, and left this board with these notes
+pub record HasLeft {D : Type 0} (desk : DeskFacts (NotedBoard D)) (w : Worker) (b : NotedBoard D) (s : SeatFacts (NotedBoard D)) : Type 0 where
   pub waiting : IsWaiting desk s
   pub number : s.number ≡ w.0
   pub left : s.left ≡ Some b
 
 -- the events in the row that the seat left begin with these
-abbrev pub HasBegun : {D : Type 0} → Worker → List Event → SeatFacts (BoardState D) → Type 0
-HasBegun w first s = IsSomeAnd s.left (λ b. BeginsWith (row_in b w).events first)
+abbrev pub HasBegun : {D : Type 0} → Worker → List Event → SeatFacts (NotedBoard D) → Type 0
+HasBegun w first s = IsSomeAnd s.left (λ b. BeginsWith (row_in b.board w).events first)
 
 -- whatever they began with, they still do
-abbrev pub GoesOn : {D : Type 0} → Worker → SeatFacts (BoardState D) → SeatFacts (BoardState D) → Type 0
+abbrev pub GoesOn : {D : Type 0} → Worker → SeatFacts (NotedBoard D) → SeatFacts (NotedBoard D) → Type 0
 GoesOn w old new = (first : List Event) → HasBegun w first old → HasBegun w first new

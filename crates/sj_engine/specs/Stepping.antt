@@ -1,5 +1,5 @@
 -- What a worker's row tells after a step for the task that it has claimed, and what has happened.
-use Rattle.std.specs.Prelude.{◌≡◌, ◌<◌, ℕ, true, Option, List, IsSomeAnd, length}
+use Rattle.std.specs.Prelude.{◌≡◌, ◌<◌, ℕ, Bool, true, false, Option, List, IsSomeAnd, length}
 use Rattle.sj_base.specs.declared.ids.Cell.{Cell}
 use Rattle.sj_base.specs.declared.ids.Place.{Place}
 use Rattle.sj_base.specs.declared.ids.Place.TheVariants.{Node as AtNode, Disk as OnDisk}
@@ -14,6 +14,8 @@ use Rattle.sj_machine.specs.Board.{BoardState}
 use Rattle.sj_machine.specs.BoardRow.{BoardKey, BoardRow}
 use Rattle.sj_machine.specs.Standing.{is_node}
 use Rattle.sj_machine.specs.Tiles.{array_in}
+use Rattle.sj_engine.specs.declared.sleepers.Change.{Change}
+use Rattle.sj_engine.specs.declared.sleepers.Change.TheVariants.{Begun as Begins, Freed}
 use Rattle.sj_engine.specs.declared.stepping.Step.{Step}
 use Rattle.sj_engine.specs.declared.stepping.Step.TheVariants.{Begun, Moves, Discarded, Waits, Stopped, Failed}
 use Rattle.sj_engine.specs.Stage.{HasClaimedRow, HasOperands, IsCarried, IsFreeRow, IsStoppedRow, MovesRow}
@@ -49,3 +51,21 @@ StepMakes w t old new Discarded = (c : Cell) × Happens (Drop c (node_of old.run
 StepMakes w t old new Waits = NothingHappens old new
 StepMakes w t old new Stopped = NothingHappens old new
 StepMakes w t old new Failed = NothingHappens old new
+
+-- the worker has stopped or failed
+abbrev pub EndsByFault : Step → Type 0
+EndsByFault Stopped = Unit {0}
+EndsByFault Failed = Unit {0}
+EndsByFault _ = ⊥
+
+-- nothing could be done before another worker goes on
+abbrev pub has_to_wait : Step → Bool
+has_to_wait Waits = true
+has_to_wait _ = false
+
+-- what a step that made an event did for those that rest
+abbrev pub HasDone : Step → Change → Type 0
+HasDone (Begun frame) change = change ≡ Freed
+HasDone (Moves cell from to share) change = change ≡ Begins
+HasDone Discarded change = change ≡ Freed
+HasDone _ change = Unit {0}

@@ -1,6 +1,6 @@
 //! The ends of a worker's transfers.
 
-ghost use Rattle.std.specs.Prelude.{◌≡◌, MatchBool, false, true};
+ghost use Rattle.std.specs.Prelude.{◌≡◌, IsTrue, MatchBool, false, is_some, true};
 ghost use Rattle.sj_base.specs.declared.trace.Event.TheVariants.{Moved};
 ghost use Rattle.sj_core.specs.Program.{dims_of};
 ghost use Rattle.sj_machine.specs.Board.{BoardState, HasCause, OnlyDisksChangeOn};
@@ -27,6 +27,7 @@ impl<D: Disk> SharedBoard<D> {
         ensures turn { (b : BoardState D) → OnlyDisksChangeOn b self.old → IsTurnOf D.faults D.mismatches w b self.new }
         ensures row { IsFreeRow (row_in self.new w) }
         ensures no_event { NothingHappens self.old self.new }
+        ensures fault { IsTrue (is_some self.new.fault) }
     {
         self.board.is_sound();
         self.board.fail(w, fault);
@@ -56,6 +57,7 @@ impl<D: Disk> SharedBoard<D> {
         ensures turn { IsTurnOf D.faults D.mismatches w self.old self.new }
         ensures row { MatchBool result (HasClaimedRow w t (row_in self.new w)) (IsFreeRow (row_in self.new w)) }
         ensures event { MatchBool result (Happens (Moved x.cell x.from x.to) self.old self.new) (NothingHappens self.old self.new) }
+        ensures failed { result ≡ false → IsTrue (is_some self.new.fault) }
     {
         self.board.is_sound();
         if let Err(refusal) = self.board.store(w, tile) {
@@ -85,6 +87,7 @@ impl<D: Disk> SharedBoard<D> {
         ensures turn { IsTurnOf D.faults D.mismatches w self.old self.new }
         ensures row { MatchBool result (HasClaimedRow w t (row_in self.new w)) (IsFreeRow (row_in self.new w)) }
         ensures event { MatchBool result (Happens (Moved x.cell x.from x.to) self.old self.new) (NothingHappens self.old self.new) }
+        ensures failed { result ≡ false → IsTrue (is_some self.new.fault) }
     {
         self.board.is_sound();
         if let Err(refusal) = self.board.fetch(w, &mut tile) {

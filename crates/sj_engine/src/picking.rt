@@ -128,6 +128,7 @@ impl<D: Disk> SharedBoard<D> {
         ensures over { result ≡ Picked.Over }
         ensures row { IsStoppedRow (row_in self.new w) }
         ensures no_event { NothingHappens self.old self.new }
+        ensures still_over { IsOver self.new }
     {
         self.board.is_sound();
         self.board.stop(w);
@@ -143,6 +144,7 @@ impl<D: Disk> SharedBoard<D> {
         ensures row { AfterPick w (row_in self.new w) result }
         ensures event { PickMakes w self.old self.new result }
         ensures failed { result ≡ Picked.Failed → IsTrue (is_some self.new.fault) }
+        ensures over { result ≡ Picked.Over → IsOver self.new }
     {
         if self.board.failed() || self.board.all_done() {
             return self.stop(w);

@@ -7,7 +7,7 @@ ghost use Rattle.sj_core.specs.Step.{mover_of};
 ghost use Rattle.sj_machine.specs.Standing.{CanHappen, state};
 ghost use Rattle.sj_machine.specs.BoardRow.{key_of};
 ghost use Rattle.sj_engine.specs.Stage.{HasClaimedRow, row_in};
-ghost use Rattle.sj_engine.specs.Stepping.{AfterStep, StepMakes};
+ghost use Rattle.sj_engine.specs.Stepping.{AfterStep, EndsByFault, StepMakes};
 ghost use Rattle.sj_engine.specs.Turn.{IsTurnOf, IsWorkerOf};
 
 use crate::kernel::task_at;
@@ -53,6 +53,7 @@ impl<D: Disk> SharedBoard<D> {
         ensures turn { IsTurnOf D.faults D.mismatches w self.old self.new }
         ensures row { AfterStep D.held (key_of self.new) w t (row_in self.new w) result }
         ensures event { StepMakes w t self.old self.new result }
+        ensures failed { EndsByFault result → IsTrue (is_some self.new.fault) }
     {
         self.board.is_sound();
         let operands = task_at(self.board.program(), t).accesses.len();
@@ -79,6 +80,7 @@ impl<D: Disk> SharedBoard<D> {
         ensures turn { IsTurnOf D.faults D.mismatches w self.old self.new }
         ensures row { AfterStep D.held (key_of self.new) w t (row_in self.new w) result }
         ensures event { StepMakes w t self.old self.new result }
+        ensures failed { EndsByFault result → IsTrue (is_some self.new.fault) }
     {
         self.board.is_sound();
         match self.board.begin_move(w, cell, from, to) {
@@ -103,6 +105,7 @@ impl<D: Disk> SharedBoard<D> {
         ensures turn { IsTurnOf D.faults D.mismatches w self.old self.new }
         ensures row { AfterStep D.held (key_of self.new) w t (row_in self.new w) result }
         ensures event { StepMakes w t self.old self.new result }
+        ensures discards { result ≡ Step.Discarded }
     {
         self.board.is_sound();
         self.board.drop_copy(w, cell);
@@ -117,6 +120,7 @@ impl<D: Disk> SharedBoard<D> {
         ensures turn { IsTurnOf D.faults D.mismatches w self.old self.new }
         ensures row { AfterStep D.held (key_of self.new) w t (row_in self.new w) result }
         ensures event { StepMakes w t self.old self.new result }
+        ensures fault { IsTrue (is_some self.new.fault) }
     {
         self.board.is_sound();
         self.board.stop(w);
@@ -131,6 +135,7 @@ impl<D: Disk> SharedBoard<D> {
         ensures turn { IsTurnOf D.faults D.mismatches w self.old self.new }
         ensures row { AfterStep D.held (key_of self.new) w t (row_in self.new w) result }
         ensures event { StepMakes w t self.old self.new result }
+        ensures failed { EndsByFault result → IsTrue (is_some self.new.fault) }
     {
         if self.board.failed() {
             return self.give_up(w, t);

@@ -54,7 +54,7 @@ fn work_all<C: Codelets, G: Gate, D: Disk + Send, R: Threads + Wait + Sync>(
     desk: &BoardDesk<D>,
     seats: &mut [BoardSeat<D>],
 )
-    requires program { desk.now.opening.run.program ≡ program.now }
+    requires program { desk.now.opening.board.run.program ≡ program.now }
     requires workers { desk.now.seats ≡ program.now.workers }
     requires proper { Proper program.now }
     requires lawful { IsLawful C.has program.now }
@@ -82,12 +82,12 @@ pub(crate) fn worked<C: Codelets, G: Gate, D: Disk + Send, R: Threads + Wait + S
     desk: BoardDesk<D>,
     mut seats: Vec<BoardSeat<D>>,
 ) -> Board<D>
-    requires program { desk.opening.run.program ≡ program.now }
+    requires program { desk.opening.board.run.program ≡ program.now }
     requires workers { desk.seats ≡ program.now.workers }
     requires proper { Proper program.now }
     requires lawful { IsLawful C.has program.now }
     requires free { AreAt desk IsFreeRow seats.items }
-    ensures key { key_of result ≡ key_of desk.opening }
+    ensures key { key_of result ≡ key_of desk.opening.board }
     ensures sound { IsSharedSound D.size D.faults D.mismatches D.held result }
     ensures stopped { AllStopped result.hands }
 {
@@ -100,5 +100,5 @@ pub(crate) fn worked<C: Codelets, G: Gate, D: Disk + Send, R: Threads + Wait + S
         &desk,
         seats.as_mut_slice(),
     );
-    desk.close(seats).into_board()
+    desk.close(seats).board.into_board()
 }

@@ -3,14 +3,17 @@
 ghost use Rattle.std.specs.Prelude.{◌≡◌, IsSomeAnd, MatchBool, None, Some, false, is_some, true};
 ghost use Rattle.sj_core.specs.Program.{dims_of};
 ghost use Rattle.sj_machine.specs.Standing.{is_node};
-ghost use Rattle.sj_engine.specs.Picking.{AfterPick};
+ghost use Rattle.sj_desk.specs.Seats.{rung};
+ghost use Rattle.sj_engine.specs.Bell.{HasRung, IsChange, MindsBell, is_claimed, noted_after, noted_for_rest, wakes_after, wakes_for_rest};
+ghost use Rattle.sj_engine.specs.Picking.{AfterPick, finds_nothing};
 ghost use Rattle.sj_engine.specs.Stage.{AreDone, GoesOn, HasClaimedRow, HasLeft, IsCarried, IsFreeRow, MovesRow, RunsRow};
-ghost use Rattle.sj_engine.specs.Stepping.{AfterStep};
+ghost use Rattle.sj_engine.specs.Stepping.{AfterStep, HasDone, has_to_wait};
 ghost use Rattle.sj_engine.specs.Turn.{MayLeave};
 ghost use Rattle.sj_engine.specs.Workplace.{IsSeated, IsWorkplace, board_key};
 
+use crate::noted_board::NotedBoard;
 use crate::picking::Picked;
-use crate::shared_board::{Change, SharedBoard};
+use crate::sleepers::Change;
 use crate::stepping::Step;
 use crate::workplace::{BoardSeat, Workplace};
 use sj_base::ids::Task;
@@ -21,7 +24,9 @@ use sj_edge::disk::Disk;
 use std::sync::{Arc, Wait};
 
 /// What a step did for those that rest.
-fn change_of(step: &Step) -> Change {
+fn change_of(step: &Step) -> Change
+    ensures { HasDone step.now result }
+{
     match step {
         Step::Moves { .. } => Change::Begun,
         _ => Change::Freed,
@@ -32,7 +37,7 @@ impl<R, D: Disk> Workplace<'_, R, D> {
     /// Rings the bell, or doesn't.
     fn ring_where(&self, seat: &mut BoardSeat<D>, rings: bool)
         requires of_this_desk { seat.old.desk ≡ Some self.now.desk.now }
-        ensures { seat.new ≡ seat.old }
+        ensures { MatchBool rings (seat.new ≡ rung seat.old) (seat.new ≡ seat.old) }
     {
         if rings {
             self.desk.ring(seat);
@@ -40,36 +45,35 @@ impl<R, D: Disk> Workplace<'_, R, D> {
     }
 
     /// Ends a turn that did this, and wakes those that rest where they may go on by it.
-    fn end_turn(&self, seat: &mut BoardSeat<D>, mut shared: SharedBoard<D>, change: Change)
+    fn end_turn(&self, seat: &mut BoardSeat<D>, mut noted: NotedBoard<D>, change: Change)
         requires desk { seat.old.desk ≡ Some self.now.desk.now }
         requires number { seat.old.number ≡ self.now.worker.0 }
         requires turn { IsSomeAnd seat.old.found
-            (MayLeave D.size D.faults D.mismatches D.held self.now.desk.now self.now.worker shared) }
-        ensures { HasLeft self.now.desk.now self.now.worker shared seat.new }
+            (MayLeave D.size D.faults D.mismatches D.held self.now.desk.now self.now.worker noted) }
+        requires did { IsSomeAnd seat.old.found (λ found. IsChange found.board noted.board change) }
+        ensures left { HasLeft self.now.desk.now self.now.worker (noted_after change noted) seat.new }
+        ensures rung { HasRung (wakes_after change noted) seat.old seat.new }
     {
-        let rings = shared.wakes(change);
-        self.desk.leave(seat, shared);
+        let rings = noted.wakes(change);
+        self.desk.leave(seat, noted);
         self.ring_where(seat, rings);
     }
 
     /// Ends a turn in which the worker found nothing to do, with a claimed task or without one. The seat has heard the bell.
     /// Where the bell is rung for others, the worker's own rest ends by that too, and it looks once more.
-    fn end_turn_to_rest(
-        &self,
-        seat: &mut BoardSeat<D>,
-        mut shared: SharedBoard<D>,
-        is_claimed: bool,
-    )
+    fn end_turn_to_rest(&self, seat: &mut BoardSeat<D>, mut noted: NotedBoard<D>, claimed: bool)
         requires desk { seat.old.desk ≡ Some self.now.desk.now }
         requires number { seat.old.number ≡ self.now.worker.0 }
         requires turn { IsSomeAnd seat.old.found
-            (MayLeave D.size D.faults D.mismatches D.held self.now.desk.now self.now.worker shared) }
-        ensures left { HasLeft self.now.desk.now self.now.worker shared seat.new }
+            (MayLeave D.size D.faults D.mismatches D.held self.now.desk.now self.now.worker noted) }
+        requires claimed { claimed ≡ is_claimed noted.board self.now.worker }
+        ensures left { HasLeft self.now.desk.now self.now.worker (noted_for_rest claimed noted) seat.new }
+        ensures rung { HasRung (wakes_for_rest claimed noted) seat.old seat.new }
         ensures heard { is_some seat.new.heard ≡ true }
     {
-        let rings = shared.rest(is_claimed);
+        let rings = noted.rest(claimed);
         self.desk.listen(seat);
-        self.desk.leave(seat, shared);
+        self.desk.leave(seat, noted);
         self.ring_where(seat, rings);
     }
 }
@@ -82,14 +86,15 @@ impl<R: Wait, D: Disk> Workplace<'_, R, D> {
         ensures row { IsSeated self.now (λ r. AfterPick self.now.worker r result) seat.new }
         ensures events { GoesOn self.now.worker seat.old seat.new }
         ensures heard { result ≡ Picked.Nothing → is_some seat.new.heard ≡ true }
+        ensures bell { MindsBell self.now.worker (finds_nothing result) seat.old seat.new }
     {
-        let mut shared = self.desk.enter(self.rt, seat);
-        let picked = shared.pick(self.alloc, self.worker);
+        let mut noted = self.desk.enter(self.rt, seat);
+        let picked = noted.board.pick(self.alloc, self.worker);
         if picked == Picked::Nothing {
-            self.end_turn_to_rest(seat, shared, false);
+            self.end_turn_to_rest(seat, noted, false);
             return Picked::Nothing;
         }
-        self.end_turn(seat, shared, Change::Claimed);
+        self.end_turn(seat, noted, Change::Claimed);
         picked
     }
 
@@ -101,15 +106,16 @@ impl<R: Wait, D: Disk> Workplace<'_, R, D> {
             (λ r. AfterStep D.held (board_key self.now) self.now.worker t r result) seat.new }
         ensures events { GoesOn self.now.worker seat.old seat.new }
         ensures heard { result ≡ Step.Waits → is_some seat.new.heard ≡ true }
+        ensures bell { MindsBell self.now.worker (has_to_wait result) seat.old seat.new }
     {
-        let mut shared = self.desk.enter(self.rt, seat);
-        let step = shared.step(self.alloc, self.worker, t);
+        let mut noted = self.desk.enter(self.rt, seat);
+        let step = noted.board.step(self.alloc, self.worker, t);
         if let Step::Waits = step {
-            self.end_turn_to_rest(seat, shared, true);
+            self.end_turn_to_rest(seat, noted, true);
             return Step::Waits;
         }
         let change = change_of(&step);
-        self.end_turn(seat, shared, change);
+        self.end_turn(seat, noted, change);
         step
     }
 
@@ -122,10 +128,11 @@ impl<R: Wait, D: Disk> Workplace<'_, R, D> {
             (λ r. IsCarried D.held (board_key self.now) x r tile.value) seat.old }
         ensures row { IsSeated self.now (HasClaimedRow self.now.worker t) seat.new }
         ensures events { GoesOn self.now.worker seat.old seat.new }
+        ensures bell { MindsBell self.now.worker false seat.old seat.new }
     {
-        let mut shared = self.desk.enter(self.rt, seat);
-        shared.arrive(self.worker, t, x, tile);
-        self.end_turn(seat, shared, Change::Freed);
+        let mut noted = self.desk.enter(self.rt, seat);
+        noted.board.arrive(self.worker, t, x, tile);
+        self.end_turn(seat, noted, Change::Freed);
     }
 
     /// Writes a tile to its disk and ends its transfer. Whether it did: else the worker has failed.
@@ -138,10 +145,11 @@ impl<R: Wait, D: Disk> Workplace<'_, R, D> {
         ensures row { IsSeated self.now
             (λ r. MatchBool result (HasClaimedRow self.now.worker t r) (IsFreeRow r)) seat.new }
         ensures events { GoesOn self.now.worker seat.old seat.new }
+        ensures bell { MindsBell self.now.worker false seat.old seat.new }
     {
-        let mut shared = self.desk.enter(self.rt, seat);
-        let written = shared.write_out(self.worker, t, x, tile);
-        self.end_turn(seat, shared, Change::Freed);
+        let mut noted = self.desk.enter(self.rt, seat);
+        let written = noted.board.write_out(self.worker, t, x, tile);
+        self.end_turn(seat, noted, Change::Freed);
         written
     }
 
@@ -155,10 +163,11 @@ impl<R: Wait, D: Disk> Workplace<'_, R, D> {
         ensures row { IsSeated self.now
             (λ r. MatchBool result (HasClaimedRow self.now.worker t r) (IsFreeRow r)) seat.new }
         ensures events { GoesOn self.now.worker seat.old seat.new }
+        ensures bell { MindsBell self.now.worker false seat.old seat.new }
     {
-        let mut shared = self.desk.enter(self.rt, seat);
-        let read = shared.read_in(self.alloc, self.worker, t, x, tile);
-        self.end_turn(seat, shared, Change::Freed);
+        let mut noted = self.desk.enter(self.rt, seat);
+        let read = noted.board.read_in(self.alloc, self.worker, t, x, tile);
+        self.end_turn(seat, noted, Change::Freed);
         read
     }
 
@@ -170,10 +179,11 @@ impl<R: Wait, D: Disk> Workplace<'_, R, D> {
             (λ r. AreDone D.held (board_key self.now) self.now.worker t r results.slots) seat.old }
         ensures row { IsSeated self.now IsFreeRow seat.new }
         ensures events { GoesOn self.now.worker seat.old seat.new }
+        ensures bell { MindsBell self.now.worker false seat.old seat.new }
     {
-        let mut shared = self.desk.enter(self.rt, seat);
-        shared.finish(self.worker, t, results);
-        self.end_turn(seat, shared, Change::Ended);
+        let mut noted = self.desk.enter(self.rt, seat);
+        noted.board.finish(self.worker, t, results);
+        self.end_turn(seat, noted, Change::Ended);
     }
 
     /// Fails for want of memory, and lets the task go.
@@ -183,9 +193,10 @@ impl<R: Wait, D: Disk> Workplace<'_, R, D> {
         requires none_given { IsSeated self.now (λ r. r.hand.given ≡ None) seat.old }
         ensures row { IsSeated self.now IsFreeRow seat.new }
         ensures events { GoesOn self.now.worker seat.old seat.new }
+        ensures bell { MindsBell self.now.worker false seat.old seat.new }
     {
-        let mut shared = self.desk.enter(self.rt, seat);
-        shared.fail_without_memory(self.worker);
-        self.end_turn(seat, shared, Change::Ended);
+        let mut noted = self.desk.enter(self.rt, seat);
+        noted.board.fail_without_memory(self.worker);
+        self.end_turn(seat, noted, Change::Ended);
     }
 }

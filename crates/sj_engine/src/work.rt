@@ -1,15 +1,17 @@
-//! A worker: it claims a task, makes what the plan says, runs its kernel and ends it, until all is done or a fault is kept.
+//! A worker: it claims a task, makes what the plan says, runs its kernel and ends it, until it can't go on or the run is over.
 
-ghost use Rattle.std.specs.Prelude.{◌≡◌, ◌≢◌, ◌<◌, MatchBool, false, length, true};
+ghost use Rattle.std.specs.Prelude.{◌≡◌, ◌≢◌, ◌<◌, MatchBool, false, is_some, length, true};
 ghost use Rattle.sj_core.specs.Laws.{IsLawful};
 ghost use Rattle.sj_machine.specs.Standing.{is_node};
 ghost use Rattle.sj_machine.specs.Tiles.{array_in};
+ghost use Rattle.sj_engine.specs.Member.{HasHeard, IsRowAt};
 ghost use Rattle.sj_engine.specs.Stage.{GoesOn, HasClaimedRow, HasOperands, IsFreeRow, IsStoppedRow, MovesRow};
 ghost use Rattle.sj_engine.specs.Stepping.{IsShareCarried};
 ghost use Rattle.sj_engine.specs.Working.{AfterPrepare};
 ghost use Rattle.sj_engine.specs.Workplace.{IsSeated, IsProperWorkplace, board_key};
 
 use crate::kernel::compute;
+use crate::member::Stage;
 use crate::picking::Picked;
 use crate::stepping::Step;
 use crate::workplace::{BoardSeat, Workplace};
@@ -29,6 +31,8 @@ pub enum Prepared {
     Begun(Frame),
     /// A step more is made.
     Further,
+    /// Nothing can be done before another worker goes on, and the seat has heard the bell.
+    Waits,
     /// It has failed, and let its task go.
     Failed,
     /// A fault is kept, and it has stopped.
@@ -89,6 +93,7 @@ impl<R: Wait, D: Disk> Workplace<'_, R, D> {
         requires claimed { IsSeated self.now (HasClaimedRow self.now.worker t) seat.old }
         ensures row { IsSeated self.now
             (λ r. AfterPrepare D.held (board_key self.now) self.now.worker t r result) seat.new }
+        ensures heard { result ≡ Prepared.Waits → is_some seat.new.heard ≡ true }
         ensures events { GoesOn self.now.worker seat.old seat.new }
     {
         match self.step(seat, t) {
@@ -106,22 +111,20 @@ impl<R: Wait, D: Disk> Workplace<'_, R, D> {
                 }
             }
             Step::Discarded => Prepared::Further,
-            Step::Waits => {
-                self.desk.rest(self.rt, seat);
-                Prepared::Further
-            }
+            Step::Waits => Prepared::Waits,
             Step::Stopped => Prepared::Stopped,
             Step::Failed => Prepared::Failed,
         }
     }
 
-    /// Makes the steps for the claimed task until its kernel begins.
+    /// Makes the steps for the claimed task until its kernel begins, or it must wait.
     fn prepare(&self, seat: &mut BoardSeat<D>, t: Task) -> Prepared
         requires workplace { IsProperWorkplace self.now }
         requires claimed { IsSeated self.now (HasClaimedRow self.now.worker t) seat.old }
         ensures row { IsSeated self.now
             (λ r. AfterPrepare D.held (board_key self.now) self.now.worker t r result) seat.new }
         ensures not_further { result ≢ Prepared.Further }
+        ensures heard { result ≡ Prepared.Waits → is_some seat.new.heard ≡ true }
         ensures events { GoesOn self.now.worker seat.old seat.new }
     {
         for _ in self.rt.forever() {
@@ -156,30 +159,103 @@ impl<R: Wait, D: Disk> Workplace<'_, R, D> {
         }
     }
 
-    /// The worker has claimed a task: brings it to its end, or lets it go where it fails. Whether the worker goes on: else it
-    /// has stopped.
+    /// The worker has claimed a task: brings it to its end, lets it go where it fails, or waits with it. The stage at which it is
+    /// then.
     fn carry_out<C: Codelets, G: Gate>(
         &self,
         seat: &mut BoardSeat<D>,
         codelets: &C,
         gate: &G,
         t: Task,
-    ) -> bool
+    ) -> Stage
         requires workplace { IsProperWorkplace self.now }
         requires lawful { IsLawful C.has self.now.program.now }
         requires claimed { IsSeated self.now (HasClaimedRow self.now.worker t) seat.old }
-        ensures row { IsSeated self.now (λ r. MatchBool result (IsFreeRow r) (IsStoppedRow r)) seat.new }
+        ensures row { IsSeated self.now (IsRowAt self.now.worker result) seat.new }
+        ensures heard { HasHeard result seat.new }
         ensures events { GoesOn self.now.worker seat.old seat.new }
     {
         match self.prepare(seat, t) {
             Prepared::Begun(taken) => {
                 self.run_kernel(seat, codelets, gate, t, taken);
-                true
+                Stage::Fresh
             }
-            Prepared::Failed => true,
-            Prepared::Stopped => false,
+            Prepared::Waits => Stage::Blocked(t),
+            Prepared::Failed => Stage::Fresh,
+            Prepared::Stopped => Stage::Stopped,
             Prepared::Further => unreachable!(),
         }
+    }
+
+    /// The worker looks for a task and carries it out, as far as it can. The stage at which it is then.
+    fn look<C: Codelets, G: Gate>(&self, seat: &mut BoardSeat<D>, codelets: &C, gate: &G) -> Stage
+        requires workplace { IsProperWorkplace self.now }
+        requires lawful { IsLawful C.has self.now.program.now }
+        requires free { IsSeated self.now IsFreeRow seat.old }
+        ensures row { IsSeated self.now (IsRowAt self.now.worker result) seat.new }
+        ensures heard { HasHeard result seat.new }
+        ensures events { GoesOn self.now.worker seat.old seat.new }
+    {
+        match self.pick(seat) {
+            Picked::Task(t) => self.carry_out(seat, codelets, gate, t),
+            Picked::Nothing => Stage::Idle,
+            Picked::Failed => {
+                self.desk.ring(seat);
+                Stage::Fresh
+            }
+            Picked::Over => Stage::Stopped,
+        }
+    }
+
+    /// The worker goes on from a stage: with the task that it has claimed, or to look for one.
+    fn resume<C: Codelets, G: Gate>(
+        &self,
+        seat: &mut BoardSeat<D>,
+        codelets: &C,
+        gate: &G,
+        stage: Stage,
+    ) -> Stage
+        requires workplace { IsProperWorkplace self.now }
+        requires lawful { IsLawful C.has self.now.program.now }
+        requires row { IsSeated self.now (IsRowAt self.now.worker stage) seat.old }
+        ensures row { IsSeated self.now (IsRowAt self.now.worker result) seat.new }
+        ensures heard { HasHeard result seat.new }
+        ensures events { GoesOn self.now.worker seat.old seat.new }
+    {
+        match stage {
+            Stage::Fresh | Stage::Idle => self.look(seat, codelets, gate),
+            Stage::Blocked(t) => self.carry_out(seat, codelets, gate, t),
+            Stage::Stopped => Stage::Stopped,
+        }
+    }
+
+    /// The worker's work from a stage on, until it can't go on, or all tasks are done or a fault is kept and it has stopped. The
+    /// stage at which it is then. It may wait for its turn, and doesn't rest.
+    pub fn go_on<C: Codelets, G: Gate>(
+        &self,
+        seat: &mut BoardSeat<D>,
+        codelets: &C,
+        gate: &G,
+        stage: Stage,
+    ) -> Stage
+        requires workplace { IsProperWorkplace self.now }
+        requires lawful { IsLawful C.has self.now.program.now }
+        requires row { IsSeated self.now (IsRowAt self.now.worker stage) seat.old }
+        ensures row { IsSeated self.now (IsRowAt self.now.worker result) seat.new }
+        ensures looked { result ≢ Stage.Fresh }
+        // Where it can't go on, its seat has heard the bell.
+        ensures heard { HasHeard result seat.new }
+        // Of its events none that it had is gone or has another place.
+        ensures events { GoesOn self.now.worker seat.old seat.new }
+    {
+        let mut stage = self.resume(seat, codelets, gate, stage);
+        for _ in self.rt.forever() {
+            if stage != Stage::Fresh {
+                return stage;
+            }
+            stage = self.look(seat, codelets, gate);
+        }
+        unreachable!()
     }
 
     /// The worker's work, until all tasks are done or a fault is kept. It may wait: for its turn, and for others to go on.
@@ -194,16 +270,13 @@ impl<R: Wait, D: Disk> Workplace<'_, R, D> {
         ensures stopped { IsSeated self.now IsStoppedRow seat.new }
         ensures events { GoesOn self.now.worker seat.old seat.new }
     {
+        let mut stage = Stage::Fresh;
         for _ in self.rt.forever() {
-            match self.pick(seat) {
-                Picked::Task(t) => {
-                    if !self.carry_out(seat, codelets, gate, t) {
-                        return;
-                    }
-                }
-                Picked::Nothing => self.desk.rest(self.rt, seat),
-                Picked::Failed => self.desk.ring(seat),
-                Picked::Over => return,
+            stage = self.go_on(seat, codelets, gate, stage);
+            match stage {
+                Stage::Idle | Stage::Blocked(_) => self.desk.rest(self.rt, seat),
+                Stage::Stopped => return,
+                Stage::Fresh => unreachable!(),
             }
         }
         unreachable!()
