@@ -18,6 +18,7 @@ use Rattle.sj_engine.specs.Resting.{change_of, has_ready, is_over, looks, wakes,
 use Rattle.sj_engine.specs.Stage.{HasLeft}
 use Rattle.sj_engine.specs.Stepping.{EndsByFault, HasDone, StepMakes, has_to_wait}
 use Rattle.sj_engine.specs.Turn.{Happens, NothingHappens}
+use Rattle.sj_engine.proofs.OtherRows.{or-left, or-right}
 use Rattle.sj_engine.specs.declared.noted_board.NotedBoard.{NotedBoard}
 use Rattle.sj_engine.specs.declared.picking.Picked.{Picked}
 use Rattle.sj_engine.specs.declared.picking.Picked.TheVariants.{Task as PickedTask, Nothing, Failed as PickFailed, Over}
@@ -33,14 +34,6 @@ looked Claimed over ready s = refl
 looked Begins over ready s = refl
 looked Freed over ready s = refl
 looked Ended over ready s = refl
-
-or-right : (a b : Bool) → b ≡ true → (a || b) ≡ true
-or-right true b e = refl
-or-right false b e = e
-
-or-left : (a b : Bool) → a ≡ true → (a || b) ≡ true
-or-left true b e = refl
-or-left false b e = absurd (cc)
 
 module _ {D : Type 0} where
   pub over-by_fault : (b : BoardState D) → IsTrue (is_some b.fault) → is_over b ≡ true

@@ -1,8 +1,9 @@
 -- For what workers rest, and after which change they are woken.
 --
--- A worker rests without a task, since it found none that it could claim, or with one that it has claimed, since another worker has to
--- go on first. Without one it waits for a task that becomes ready; where one was ready that it couldn't claim, it waits for another
--- worker too, as with a claimed one. It is noted whether such workers may rest; a bell that wakes all takes these notes away.
+-- A worker rests without a task, since it found none that it could claim, or with one that it has claimed, since another
+-- worker has to go on first. Without one it waits for a task that becomes ready; where one was ready that it couldn't claim, it
+-- waits for another worker too, as with a claimed one. It is noted whether such workers may rest; a bell that wakes all takes
+-- these notes away.
 use Rattle.std.specs.Prelude.{ℕ, Bool, true, false, not, ◌&&◌, ◌||◌, if◌then◌else◌, is_some}
 use Rattle.std.specs.List.{list_all, list_any}
 use Rattle.sj_base.specs.declared.trace.Event.{Event}
@@ -21,9 +22,9 @@ nobody = record { idle = false; blocked = false; ended = false }
 
 -- ---- changes
 
--- what an event is for those that rest. A claim takes room and marks copies, and the beginning of a transfer changes neither: no wait
--- ends by them. A transfer that ends, a copy that goes and a kernel that begins, which takes copies away from other nodes, end waits; so
--- does the end of a task, which unpins its cells and gives commuting ones back, and by which others become ready
+-- what an event is for those that rest. A claim takes room and marks copies, and the beginning of a transfer changes neither: no
+-- wait ends by them. A transfer that ends, a copy that goes and a kernel that begins, which takes copies away from other nodes,
+-- end waits; so does the end of a task, which unpins its cells and gives commuting ones back, and by which others become ready
 abbrev pub change_of : Event → Change
 change_of (Claim t w) = Claimed
 change_of (Move c from to) = Begun
@@ -63,9 +64,9 @@ has_ready b = list_any (has_fitting 18446744073709551615) b.pool.queues
 abbrev pub somebody : Sleepers → Bool
 somebody s = s.idle || s.blocked
 
--- All that rest are woken where the run is over; where one of them may wait for another worker, and this one gives way; and where one of
--- them may wait for a ready task, tasks have become ready, and the worker that has looked first since leaves one behind. The worker
--- whose task ended looks for one next: so an end wakes nobody for what it takes itself
+-- All that rest are woken where the run is over; where one of them may wait for another worker, and this one gives way; and where
+-- one of them may wait for a ready task, tasks have become ready, and the worker that has looked first since leaves one behind.
+-- The worker whose task ended looks for one next: so an end wakes nobody for what it takes itself
 abbrev pub wakes : Change → Bool → Bool → Sleepers → Bool
 wakes change over ready s = (looks change && ready && s.ended && s.idle || gives_way change && s.blocked) || over && somebody s
 

@@ -48,7 +48,8 @@ impl<D: Disk> NotedBoard<D> {
     pub fn rest(&mut self, is_claimed: bool) -> bool
         ensures board { self.new.board ≡ self.old.board }
         ensures woken { result ≡ wakes_at_rest is_claimed (has_ready self.old.board) self.old.sleepers }
-        ensures noted { self.new.sleepers ≡ noted_at_rest is_claimed (has_ready self.old.board) self.old.sleepers }
+        ensures noted { self.new.sleepers ≡
+            noted_at_rest is_claimed (has_ready self.old.board) self.old.sleepers }
         ensures sound { IsSoundBoard D.size D.faults D.mismatches D.held self.new.board }
     {
         self.board.is_sound();
