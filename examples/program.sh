@@ -100,8 +100,25 @@ unaccepted 'word 3, --no, is no option' --swap swap --no
 [ ! -e swap ]
 expect_true 'unaccepted words make no swap file' $?
 
-run "$good" --n 4
-expect 'a size without an application' 2 '' $'starjob: word 1, --n, isn\'t accepted yet\nstarjob: usage: starjob *\n'
+unaccepted 'word 1, --n, stands only with --app, --n, --tile and --seed' --n 4
+unaccepted 'word 1, --app, stands only with --app, --n, --tile and --seed' --app paths --n 4
+unaccepted 'word 2, sum, is none of product and paths' --app sum --n 4 --tile 2 --seed 1
+unaccepted 'word 4, 2049, is no number from 1 to 2048' --app product --n 2049 --tile 2 --seed 1
+unaccepted 'word 5, --tile, makes tiles larger than the matrix' --app product --n 4 --tile 5 --seed 1
+unaccepted 'word 4, --tile, makes more than 48 tiles in a column' --app product --n=49 --tile 1 --seed 1
+
+run 'no job' --app product --n 2 --tile 1 --seed 1
+expect 'a product of four elements' 0 $'C 2 2:\n7 1\n19 5\n' ''
+run 'no job' --app paths --n 1 --tile 1 --seed 7
+expect 'walks of one vertex' 0 $'D 1 1:\n0\n' ''
+for policy in eager prio ws; do
+  for workers in 1 4; do
+    run '' --app paths --n 96 --tile 20 --seed 7 --node 16384 --summary --sched $policy --workers $workers
+    expect "shortest walks, $policy, $workers workers" 0 $'D 96 96: sum 492096 min 0 max 103 inf 0\n' ''
+  done
+done
+run '' --app paths --n 480 --tile 20 --seed 7 --node 65536 --summary --workers 4
+expect 'shortest walks of 480 vertices' 0 $'D 480 480: sum 56557440 min 0 max 487 inf 0\n' ''
 
 run "$evicts" --workers 2 --node 64
 expect 'two workers on a small node' 0 $'a: 1 2 3\n' ''
@@ -128,6 +145,8 @@ expect 'a swap of more memory than there is' 10 '' $'starjob: out of memory\n'
 run "$good" --swap-size 40
 expect 'a swap with just enough room' 0 $'x: 1 2\n' ''
 source "$here/program_swap.sh"
+source "$here/program_streams.sh"
+source "$here/program_workers.sh"
 
 run ''
 expect 'an empty input' 3 '' $'starjob: line 1: header\n'
@@ -151,7 +170,7 @@ if command -v script > /dev/null; then
     printf 'vector x 2 values 1 2\nprint x\n'
   } > slow
   script -qec "$program < slow > out" shown > /dev/null
-  code=$(grep -q 'tasks done, .* in hand' shown && echo shown)
+  code=$(grep -q 'of 64 tasks done, .* in hand' shown && echo shown)
   : > err
   expect 'a long run is shown on a terminal' shown $'x: 1 2\n' ''
   script -qec "(echo 'starjob 1'; sleep 1.2) | $program > out" shown > /dev/null
@@ -165,7 +184,7 @@ check() {
   printf %s "$1" > trace
   run "$evicts" "${@:2}" trace
 }
-usage=$'usage: trace_check \\[words of starjob\\] TRACE < JOB\n'
+usage=$'usage: trace_check \\[words of starjob\\] TRACE < JOB, or --program for TRACE, or --text alone\n'
 early=${evicted/claim t2 w0/run t2 w0}
 no_event=${evicted/drop c0 n0/drop c00 n0}
 
@@ -183,7 +202,9 @@ expect 'a line that is no event' 2 '' $'line 10 of the trace is no event\n'
 check "$evicted"
 expect 'a last line with no LF' 2 '' $'line 20 of the trace is no event\n'
 run $'starjob 1\nprint x\n' trace.good
-expect 'a trace that is not there' 2 '' $'the trace can\'t be read\n'
+expect 'a trace that is not there' 2 '' $'the trace can\'t be read: No such file or directory\n'
+run $'starjob 1\nprint x\n' /
+expect 'a trace that is a folder' 2 '' $'the trace can\'t be read: Is a directory\n'
 check $'claim t0 w0\n' --node 8
 expect 'a job that fits no node' 2 '' $'a task of line 3 of the job fits no node\n'
 check $'claim t0 w0\n' --swap-size 0
@@ -192,7 +213,19 @@ run $'starjob 1\nprint x\n' trace
 expect 'a bad job' 2 '' $'line 2 of the job is refused\n'
 "$program" trace < / > out 2> err
 code=$?
-expect "a job that can't be read" 2 '' $'the job can\'t be read\n'
+expect "a job that can't be read" 2 '' $'the job can\'t be read: Is a directory\n'
+"$program" trace <&- > out 2> err
+code=$?
+expect 'no job' 2 '' $'the job can\'t be read: Bad file descriptor\n'
+printf '%s\n' "$evicted" > trace
+printf %s "$evicts" | "$program" trace >&- 2> err
+code=${PIPESTATUS[1]}
+: > out
+expect 'a verdict that nobody hears' 0 '' ''
+"$program" --help < /dev/null > out 2> err
+code=$(head -c 18 out)$?
+: > out
+expect 'a call for help' 'usage: trace_check0' '' ''
 run "$evicts"
 expect 'no word' 2 '' "$usage"
 check '' $'\xff'
@@ -201,4 +234,30 @@ check '' --unknown
 expect "a word of the run that isn't known" 2 '' "$usage"
 check '' --nodes 2
 expect 'a number of nodes for the run without their size' 2 '' "$usage"
+
+# what it shows of a job
+run $'starjob 1\nvector x 2 by 1 1 values 01 -2\nprint x\n' --text
+expect 'the text of a job' 0 $'starjob 1\nworkers 1\nnode 268435456\npolicy eager\nvector x 2 values 1 -2\nprint x\n' ''
+run $'starjob 1\nvector x 2 values 1 -2\nprint x\n' --workers 2 --program
+expect 'the program of a job' 0 $'workers 2\ncell c0 r0 1 2\ntask t0 line 2 prio 0 load(1,-2) c0:W
+task t1 line 3 prio 0 deliver c0:R\ndelivery t1 r0 0 0 print 0\n' ''
+run "$evicts" --workers 2 --text
+expect 'a further word before --text' 2 '' "$usage"
+run $'starjob 1\nprint x\n' --text
+expect 'the text of a bad job' 2 '' $'line 2 of the job is refused\n'
+run $'starjob 1\nprint x\n' --program
+expect 'the program of a bad job' 2 '' $'line 2 of the job is refused\n'
+"$program" --text < "$pictures/paths.job" > /dev/full 2> err
+code=$?
+: > out
+expect 'a text that no disk has room for' 2 '' $'standard output can\'t be written\n'
+
+# shape JOB: the program of a job, without the numbers of its lines
+shape() { "$program" --program < "$1" | sed 's/ line [0-9]*//'; }
+for job in "$here"/*.job "$pictures"/*.job; do
+  "$program" --text < "$job" > first && "$program" --text < first | cmp -s - first
+  expect_true "the text of the text of ${job##*/} is that text" $?
+  cmp -s <(shape "$job") <(shape first) && cmp -s <("$starjob" < "$job") <("$starjob" < first)
+  expect_true "the text of ${job##*/} says the same job" $?
+done
 exit $failed

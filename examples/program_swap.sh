@@ -40,7 +40,7 @@ printf %s "$good" | timeout 10 "$program" --swap /dev/stdin > out 2> err
 code=${PIPESTATUS[1]}
 expect 'the input as its own swap' 6 '' $'starjob: swap /dev/stdin: Illegal seek\n'"$failed_disk"
 run "$evicts" --swap /dev/full
-expect 'a swap that takes nothing' 6 '' "$failed_disk"
+expect 'a swap that takes nothing' 6 '' $'starjob: swap /dev/full: No space left on device\n'"$failed_disk"
 run "$evicts" --swap /dev/zero
 expect 'a swap that forgets' 7 '' $'starjob: disk 0 damaged: wanted cell 0 writes 1 length 3, found cell 0 writes 0 length 0\n'
 run "$good" --swap swap --swap-size 0

@@ -5,7 +5,7 @@ A trace may stand behind what a job prints: no printed line reads like an event.
 import re
 from collections import namedtuple
 
-from lowering import Unreadable
+from program import Unreadable
 
 EVENT = re.compile(r"(claim|run|end) t(\d+) w(\d+)|(move|moved) c(\d+) ([nd]\d+) ([nd]\d+)|(drop) c(\d+) n(\d+)")
 Event = namedtuple("Event", "line text words")

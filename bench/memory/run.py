@@ -1,47 +1,157 @@
 #!/usr/bin/env python3
-"""Runs each example with each of its allocations refused in turn, and looks at what comes of it.
+"""Runs jobs with allocations refused, and looks at what comes of it.
 
-With one allocation refused a run ends with 10 and writes nothing, or is as without: its output whole and status 0. Build
-the program first, by ./run examples/first.job.
+    bench/memory/run.py [--from | --chance RUNS | --limits]
+
+Without a word: each example with each of its allocations refused in turn. With --from each example with all refused from one on, at some
+fifty places. With --chance so many runs of the examples by four workers on two small nodes, where each allocation is refused with the
+probability 1/50. With --limits a large job by one and by four workers with 32 to 512 MiB of address space.
+
+A run that is refused memory ends with 10 and writes nothing, or is as without: its output whole and status 0. None takes longer than
+twenty seconds. Build the program first, by ./run examples/first.job; STARJOB may name another.
 """
-import glob, os, subprocess, sys, tempfile
+import argparse, collections, glob, os, random, resource, subprocess, sys, tempfile
 
 here = os.path.dirname(os.path.abspath(__file__))
 top = os.path.dirname(os.path.dirname(here))
 sys.path.insert(0, os.path.dirname(here))
 import figures
 
-starjob = os.path.join(top, "bin", "starjob")
+starjob = os.environ.get("STARJOB", os.path.join(top, "bin", "starjob"))
+LONGEST = 20
+MEBIBYTE = 1 << 20
 
 
-def run(shim, job, number, **more):
-    environment = {**os.environ, "LD_PRELOAD": shim, "REFUSE": str(number), **more}
-    return subprocess.run([starjob], input=job, capture_output=True, env=environment)
+def run(job, words=(), shim=None, limit=None, **more):
+    environment = {**os.environ, **{name: str(value) for name, value in more.items()}}
+    if shim:
+        environment["LD_PRELOAD"] = shim
+    bound = limit and (lambda: resource.setrlimit(resource.RLIMIT_AS, (limit, limit)))
+    try:
+        return subprocess.run([starjob, *words], input=job, capture_output=True, env=environment, timeout=LONGEST, preexec_fn=bound)
+    except subprocess.TimeoutExpired:
+        return None
+
+
+class Count:
+    """What came of the runs so far."""
+
+    def __init__(self):
+        self.refused, self.whole, self.failed = 0, 0, 0
+
+    def judge(self, what, got, wanted):
+        if got is None:
+            print(f"FAILED {what}: it hangs")
+            self.failed += 1
+        elif got.returncode == 10 and got.stdout == b"" and got.stderr in (b"", b"starjob: out of memory\n"):
+            self.refused += 1
+        elif (got.returncode, got.stdout, got.stderr) == (0, wanted, b""):
+            self.whole += 1
+        else:
+            print(f"FAILED {what}: {got}")
+            self.failed += 1
+
+    def told(self, what):
+        print(f"{what}: {self.refused} refused runs, {self.whole} whole, {self.failed} failed", flush=True)
+
+
+def examples():
+    for path in sorted(glob.glob(os.path.join(top, "examples", "*.job"))):
+        with open(path, "rb") as job:
+            yield os.path.basename(path), job.read()
+
+
+def counted(shim, folder, job):
+    """What a job prints, and how many allocations it asks for."""
+    told = os.path.join(folder, "count")
+    wanted = run(job, shim=shim, COUNT=told).stdout
+    with open(told, "rb") as count:
+        return wanted, int.from_bytes(count.read(), sys.byteorder)
+
+
+def each_in_turn(shim, folder):
+    failed = 0
+    for name, job in examples():
+        (wanted, total), count = counted(shim, folder, job), Count()
+        for number in range(1, total + 1):
+            count.judge(f"{name}: allocation {number}", run(job, shim=shim, REFUSE=number), wanted)
+        count.told(f"{name}, {total} allocations")
+        failed += count.failed
+    print(f"{failed} failed")
+    figures.write("memory", [("failed", failed, "<=0", 0)])
+    return failed
+
+
+def all_from_one_on(shim, folder):
+    failed = 0
+    for name, job in examples():
+        (wanted, total), count = counted(shim, folder, job), Count()
+        for number in range(1, total + 1, max(1, total // 50)):
+            count.judge(f"{name}: from {number} on", run(job, shim=shim, REFUSE_FROM=number), wanted)
+        count.told(f"{name}, {total} allocations")
+        failed += count.failed
+    return failed
+
+
+def words_for(job):
+    """Four workers on two nodes, as large as the job's greatest task: the refusal of a node that is too small says how large."""
+    said = run(job, ["--workers", "4", "--node", "8", "--nodes", "2"]).stderr.decode()
+    node = 8
+    while "needs" in said and "one node" in said:
+        node = int(said.split("needs ")[1].split()[0])
+        said = run(job, ["--workers", "4", "--node", str(node), "--nodes", "2"]).stderr.decode()
+    return ["--workers", "4", "--node", str(node), "--nodes", "2"]
+
+
+def by_chance(shim, runs):
+    jobs = [(name, job, words_for(job), run(job).stdout) for name, job in examples()]
+    count, rng = Count(), random.Random(1)
+    for seed in range(1, runs + 1):
+        name, job, words, wanted = rng.choice(jobs)
+        count.judge(f"{name}, seed {seed}", run(job, words, shim, REFUSE_ONE_IN=50, SEED=seed), wanted)
+    count.told(f"{runs} runs by chance")
+    return count.failed
+
+
+def large(side=1024, parts=4):
+    """A product of matrices of 8 MiB each, in 64 tasks."""
+    lines = ["starjob 1"] + [f"matrix {name} {side} {side} by {parts} {parts} fill {k} {k}" for k, name in enumerate("ABC")]
+    cells = range(parts)
+    lines += [f"task gemm A[{i},{k}]:R B[{k},{j}]:R C[{i},{j}]:RW" for i in cells for j in cells for k in cells]
+    lines += ["vector s 1 fill 0 0", "plan C 1 1", "task sum C:R s:RW", "print s"]
+    return ("\n".join(lines) + "\n").encode()
+
+
+def within_limits():
+    job, failed = large(), 0
+    wanted = run(job).stdout
+    for workers in (1, 4):
+        ends = []
+        for mebibytes in (32, 48, 64, 96, 128, 192, 256, 384, 512):
+            count = Count()
+            got = run(job, ["--workers", str(workers), "--swap-size", str(64 * MEBIBYTE)], limit=mebibytes * MEBIBYTE)
+            count.judge(f"{mebibytes} MiB, {workers} workers", got, wanted)
+            ends.append(f"{mebibytes} MiB {'done' if count.whole else 'status 10' if count.refused else 'FAILED'}")
+            failed += count.failed
+        print(f"{workers} workers: {', '.join(ends)}")
+    return failed
 
 
 def main():
-    failed = 0
+    words = argparse.ArgumentParser(description=__doc__, formatter_class=argparse.RawDescriptionHelpFormatter)
+    words.add_argument("--from", action="store_true", dest="from_one_on")
+    words.add_argument("--chance", type=int)
+    words.add_argument("--limits", action="store_true")
+    given = words.parse_args()
     with tempfile.TemporaryDirectory() as folder:
         shim = os.path.join(folder, "refuse.so")
         subprocess.run(["gcc", "-O1", "-shared", "-fPIC", "-o", shim, os.path.join(here, "refuse.c")], check=True)
-        for path in sorted(glob.glob(os.path.join(top, "examples", "*.job"))):
-            job = open(path, "rb").read()
-            told = os.path.join(folder, "count")
-            wanted = run(shim, job, 0, COUNT=told)
-            count = int.from_bytes(open(told, "rb").read(), sys.byteorder)
-            refused, whole = 0, 0
-            for number in range(1, count + 1):
-                got = run(shim, job, number)
-                if got.returncode == 10 and got.stdout == b"" and got.stderr in (b"", b"starjob: out of memory\n"):
-                    refused += 1
-                elif (got.returncode, got.stdout, got.stderr) == (0, wanted.stdout, b""):
-                    whole += 1
-                else:
-                    print(f"FAILED {os.path.basename(path)}: allocation {number}: {got}")
-                    failed += 1
-            print(f"{os.path.basename(path)}: {count} allocations, {refused} refused runs, {whole} whole")
-    print(f"{failed} failed")
-    figures.write("memory", [("failed", failed, "<=0", 0)])
+        if given.limits:
+            failed = within_limits()
+        elif given.chance:
+            failed = by_chance(shim, given.chance)
+        else:
+            failed = all_from_one_on(shim, folder) if given.from_one_on else each_in_turn(shim, folder)
     sys.exit(failed != 0)
 
 

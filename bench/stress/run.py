@@ -1,178 +1,213 @@
 #!/usr/bin/env python3
 """Random jobs at 2 to 64 workers with small nodes, each compared with what one worker prints on an ample node.
 
-    bench/stress/run.py [--jobs N] [--seed S] [--busy K] [--swap FOLDER] [--contributions]
+    bench/stress/run.py [--jobs N | --hours H] [--seed S] [--kinds K,K,..] [--busy K] [--swap FOLDER] [--keep FOLDER]
 
-Build `starjob` first, by ./run examples/first.job. Each job is run once by one worker; then by a random number of workers, under
-a random policy, with one to four nodes that hold between once and four times its greatest task. What is printed has to be
-the same. A run that takes a hundred times one worker's time, and ten seconds at least, counts as one that hangs. With --swap the
-replicas that leave go to a file in that folder; a folder on a small file system makes disks that fail, and then a run
-may end with a disk's fault and nothing on standard output. --busy keeps K processors taken by other work. With
---contributions the jobs have REDUX and COMMUTE operands too.
+Build both programs first, by ./run --build; STARJOB and TRACE_CHECK may name others. Each job is run once by one worker; then by a
+random number of workers, under a random policy, with one to four nodes that hold between once and four times its greatest task. What
+is printed has to be the same. Its seed makes a job and its words; by several workers threads decide the rest. The kinds, of which each
+job takes one:
+
+    plain          a swap of memory
+    contributions  the same, with REDUX and COMMUTE operands
+    file           a swap file in a folder of --swap, or of the system's temporary one
+    full           a swap that takes nothing: the job is done, or ends with a disk's fault and nothing printed
+    memory         little address space: the job is done, or ends for want of memory and nothing printed
+    trace          with the trace of the run, which trace_check has to find legal and complete
+
+--swap on a small file system makes disks that fail: then `file` may end with a disk's fault, too. A run that takes a hundred times one
+worker's time, and ten seconds at least, counts as one that hangs. --busy keeps K processors taken by other work. A job that fails is
+made small, by leaving out lines as long as it goes on failing, and kept in --keep with the command that runs it. The last line is a
+summary; the exit code is 1 where a job failed.
 """
-import argparse, os, random, subprocess, sys, tempfile, time
+import argparse, collections, os, random, re, resource, subprocess, sys, tempfile, time
 
-here = os.path.dirname(os.path.abspath(__file__))
-top = os.path.dirname(os.path.dirname(here))
-starjob = os.path.join(top, "bin", "starjob")
-DISK_FAULT, DAMAGED = 6, 7
+from jobs import Job
 
+HERE = os.path.dirname(os.path.abspath(__file__))
+TOP = os.path.dirname(os.path.dirname(HERE))
+STARJOB = os.environ.get("STARJOB", os.path.join(TOP, "bin", "starjob"))
+TRACE_CHECK = os.environ.get("TRACE_CHECK", os.path.join(TOP, "bin", "trace_check"))
+DONE, DISK_FAULT, DAMAGED, OUT_OF_MEMORY = 0, 6, 7, 10
+KINDS = ["plain", "contributions", "file", "full", "memory", "trace"]
+EVENT = re.compile(rb"^(claim|run|end) t\d+ w\d+$|^moved? c\d+ [nd]\d+ [nd]\d+$|^drop c\d+ n\d+$")
+# how often a job is run again that failed, before it counts as one that doesn't fail
+TRIES = 10
 
-def sizes(n, p):
-    return [n // p + (k < n % p) for k in range(p)]
-
-
-class Array:
-    """A root: its sides, its active plan, and which of its children have values."""
-
-    def __init__(self, rng, name, reduction):
-        self.name = name
-        self.rows, self.columns = rng.randint(1, 9), rng.randint(1, 9)
-        self.plan = (rng.randint(1, min(3, self.rows)), rng.randint(1, min(3, self.columns)))
-        self.reduction = reduction
-
-    def children(self):
-        for i, r in enumerate(sizes(self.rows, self.plan[0])):
-            for j, c in enumerate(sizes(self.columns, self.plan[1])):
-                yield (f"{self.name}[{i},{j}]", r, c, self)
+Case = collections.namedtuple("Case", "kind words limit may_end lines")
+Ended = collections.namedtuple("Ended", "status printed said seconds")
 
 
-class Job:
-    def __init__(self, rng, contributions):
-        self.rng, self.contributions = rng, contributions
-        self.lines, self.footprint = ["starjob 1"], 8
-        self.arrays = [Array(rng, f"a{k}", rng.choice(["plus", "least", None])) for k in range(rng.randint(2, 6))]
-        for a in self.arrays:
-            self.lines.append(
-                f"matrix {a.name} {a.rows} {a.columns} by {a.plan[0]} {a.plan[1]} fill {rng.randint(-9, 9)} {rng.randint(-9, 9)}"
-            )
-            if contributions and a.reduction:
-                self.lines.append(f"redux {a.name} {a.reduction}")
-        for _ in range(rng.randint(5, 80)):
-            rng.choice([self.task] * 12 + [self.change_plan, self.show])()
-        for a in self.arrays:
-            self.lines.append(f"print {a.name}")
-        for a in self.arrays:
-            self.takes([(a.rows * a.columns, 0), (a.rows * a.columns, 1)])
-
-    def takes(self, cells):
-        self.footprint = max(self.footprint, 8 * sum(size for size, _ in cells))
-
-    def show(self):
-        self.lines.append(f"print {self.rng.choice(self.arrays).name}")
-
-    def change_plan(self):
-        a = self.rng.choice(self.arrays)
-        a.plan = (self.rng.randint(1, min(3, a.rows)), self.rng.randint(1, min(3, a.columns)))
-        self.lines.append(f"plan {a.name} {a.plan[0]} {a.plan[1]}")
-
-    def pick(self, fits):
-        found = [c for a in self.arrays for c in a.children() if fits(c)]
-        return self.rng.choice(found) if found else None
-
-    def task(self):
-        rng = self.rng
-        target = self.pick(lambda c: True)
-        _, rows, columns, root = target
-        same = self.pick(lambda c: c[1:3] == (rows, columns) and c[0] != target[0])
-        turned = self.pick(lambda c: c[1:3] == (columns, rows) and c[0] != target[0])
-        forms = [("fill", [], f"({rng.randint(-9, 9)},{rng.randint(-9, 9)})", "W"), ("scale", [], f"({rng.randint(-3, 3)})", "RW")]
-        if same:
-            forms += [("copy", [same], "", "W"), ("add", [same], "", "RW"), ("axpy", [same], f"({rng.randint(-3, 3)})", "RW")] * 2
-            forms += [("lowest", [same], "", "RW")]
-        if turned:
-            forms += [("transpose", [turned], "", "W")]
-        left = self.pick(lambda c: c[1] == rows and c[0] != target[0])
-        if left:
-            right = self.pick(lambda c: c[1:3] == (left[2], columns) and c[0] != target[0])
-            if right:
-                forms += [(rng.choice(["gemm", "mingemm"]), [left, right], "", "RW")] * 3
-        codelet, read, arguments, mode = rng.choice(forms)
-        if self.contributions and mode == "RW":
-            mode = self.mode_of(codelet, root, mode)
-        operands = [f"{c[0]}:R" for c in read] + [f"{target[0]}:{mode}"]
-        urgent = f" prio={rng.randint(-3, 3)}" if rng.random() < 0.2 else ""
-        self.lines.append(f"task {codelet}{arguments} {' '.join(operands)}{urgent}")
-        self.takes([(c[1] * c[2], c[0]) for c in [target] + read])
-
-    def mode_of(self, codelet, root, mode):
-        modes = [mode]
-        if codelet in ("add", "axpy", "gemm"):
-            modes += ["COMMUTE"] + ["REDUX"] * (root.reduction == "plus")
-        if codelet in ("lowest", "mingemm"):
-            modes += ["COMMUTE"] + ["REDUX"] * (root.reduction == "least")
-        return self.rng.choice(modes)
-
-    def text(self):
-        return "\n".join(self.lines) + "\n"
+def run(words, lines, seconds, limit=None):
+    """How a run of these lines ends; no status where it hangs."""
+    bound = limit and (lambda: resource.setrlimit(resource.RLIMIT_AS, (limit, limit)))
+    started, text = time.monotonic(), ("\n".join(lines) + "\n").encode()
+    try:
+        ended = subprocess.run([STARJOB] + words, input=text, capture_output=True, timeout=seconds, preexec_fn=bound)
+    except subprocess.TimeoutExpired:
+        return Ended(None, b"", b"", seconds)
+    return Ended(ended.returncode, ended.stdout, ended.stderr, time.monotonic() - started)
 
 
-def run(words, path, limit):
-    """The status, what was printed, the line on standard error and the seconds; no status where it hangs."""
-    with open(path) as source:
-        started = time.monotonic()
-        try:
-            ended = subprocess.run([starjob] + words, stdin=source, capture_output=True, timeout=limit)
-        except subprocess.TimeoutExpired:
-            return None, b"", b"", limit
-        return ended.returncode, ended.stdout, ended.stderr, time.monotonic() - started
-
-
-def words_for(rng, job, swap):
+def case_of(rng, kind, folder):
+    """A job of this kind, and the words of its run."""
+    job = Job(rng, kind == "contributions" or (kind != "plain" and rng.random() < 0.5))
     node = max(8, int(job.footprint * rng.choice([1, 1, 1.5, 2, 4])))
-    nodes = rng.randint(1, 4)
     words = ["--workers", str(rng.choice([2, 3, 4, 8, 16, 64])), "--sched", rng.choice(["eager", "prio", "ws"])]
-    words += ["--node", str(node), "--nodes", str(nodes)]
-    return words + (["--swap", os.path.join(swap, f"swap{os.getpid()}"), "--swap-size", "1048576"] if swap else [])
+    words += ["--node", str(node), "--nodes", str(rng.randint(1, 4)), "--swap-size", "1048576"]
+    limit, may_end = None, [DONE]
+    if kind == "file":
+        words, may_end = words + ["--swap", folder], [DONE, DISK_FAULT, DAMAGED]
+    if kind == "full":
+        words, may_end = words + ["--swap", "/dev/full"], [DONE, DISK_FAULT]
+    if kind == "memory":
+        limit, may_end = rng.randint(2, 48) << 20, [DONE, OUT_OF_MEMORY]
+    if kind == "trace":
+        words += ["--trace"]
+    return Case(kind, words, limit, may_end, job.lines)
 
 
-def fault_of(status, printed, wanted, swap):
-    if status is None:
+def illegal(case, events):
+    """What trace_check says against the events of a run, or nothing."""
+    with tempfile.NamedTemporaryFile() as trace:
+        trace.write(b"".join(event + b"\n" for event in events))
+        trace.flush()
+        words = [word for word in case.words if word != "--trace"]
+        text = ("\n".join(case.lines) + "\n").encode()
+        said = subprocess.run([TRACE_CHECK, *words, trace.name], input=text, capture_output=True)
+        return None if said.returncode == 0 else "has an illegal trace: " + (said.stdout + said.stderr).decode().strip()
+
+
+def fault_of(case, ended, wanted):
+    """What is wrong with a run, or nothing."""
+    if ended.status is None:
         return "hangs"
-    if status == 0:
-        return None if printed == wanted else "prints something else"
-    if swap and status in (DISK_FAULT, DAMAGED) and printed == b"":
-        return None
-    return f"ends with {status}"
+    if ended.status not in case.may_end:
+        return f"ends with {ended.status}: {ended.said.decode(errors='replace').strip()}"
+    if ended.status != DONE:
+        return None if ended.printed == b"" else "prints something though it isn't done"
+    lines = ended.printed.split(b"\n")
+    printed = b"\n".join(line for line in lines if not EVENT.match(line))
+    if printed != wanted:
+        return "prints something else"
+    return illegal(case, [line for line in lines if EVENT.match(line)]) if case.kind == "trace" else None
+
+
+def tried(case):
+    """How a case ends by one worker and then as it asks, and what is wrong with that, or nothing."""
+    alone = run([], case.lines, 60)
+    if alone.status != DONE:
+        return alone, None, None
+    ended = run(case.words, case.lines, max(10, 100 * alone.seconds), case.limit)
+    return alone, ended, fault_of(case, ended, alone.printed)
+
+
+def fails(case, first_word):
+    """Whether the case fails in the same way, in some tries."""
+    for _ in range(TRIES):
+        fault = tried(case)[2]
+        if fault and fault.split()[0] == first_word:
+            return True
+    return False
+
+
+def made_small(case, fault):
+    """The case without the lines that it fails without: first by halves, then by ever less."""
+    first_word, lines, step = fault.split()[0], list(case.lines), len(case.lines) // 2
+    while step >= 1:
+        at = 1
+        while at < len(lines):
+            fewer = lines[:at] + lines[at + step:]
+            if fails(case._replace(lines=fewer), first_word):
+                lines = fewer
+            else:
+                at += step
+        step //= 2
+    return case._replace(lines=lines)
+
+
+def kept(case, name, folder):
+    """Where a case is kept, with the command that runs it."""
+    os.makedirs(folder, exist_ok=True)
+    path = os.path.join(folder, name + ".job")
+    with open(path, "w") as job:
+        job.write("\n".join(case.lines) + "\n")
+    bound = f"ulimit -v {case.limit >> 10}; " if case.limit else ""
+    return f"{bound}{STARJOB} {' '.join(case.words)} < {path}"
+
+
+class Tally:
+    """What came of the jobs so far."""
+
+    def __init__(self):
+        self.began, self.jobs, self.bad, self.slowest = time.monotonic(), collections.Counter(), 0, 0.0
+        self.ends = collections.Counter()
+
+    def hours(self):
+        return (time.monotonic() - self.began) / 3600
+
+    def count(self, case, alone, ended):
+        self.jobs[case.kind] += 1
+        self.ends[ended.status] += 1
+        self.slowest = max(self.slowest, ended.seconds / max(alone.seconds, 0.01))
+
+    def summary(self, seed):
+        kinds = ", ".join(f"{count} {kind}" for kind, count in self.jobs.items())
+        ends = f"{self.ends[DISK_FAULT] + self.ends[DAMAGED]} ended with a disk's fault, {self.ends[OUT_OF_MEMORY]} for want of memory"
+        return (f"{sum(self.jobs.values())} jobs ({kinds}) from seed {seed} on in {60 * self.hours():.0f} minutes: {self.bad} wrong; "
+                f"{ends}; the slowest took {self.slowest:.1f} times one worker's time")
+
+
+def told(given, case, number, fault):
+    """Says what failed, makes it small, and keeps it."""
+    name = f"stress-{given.seed}-{number}"
+    print(f"job {number}, {case.kind}, {fault}\n  {kept(case, name, given.keep)}", flush=True)
+    small = made_small(case, fault)
+    print(f"  made small, {len(small.lines)} of {len(case.lines)} lines: {kept(small, name + '-small', given.keep)}", flush=True)
+
+
+def goes_on(given, tally):
+    done = sum(tally.jobs.values())
+    return tally.hours() < given.hours if given.hours else done < given.jobs
+
+
+def try_all(given, folder):
+    tally, number = Tally(), 0
+    while goes_on(given, tally):
+        rng = random.Random(given.seed * 1_000_000 + number)
+        case = case_of(rng, rng.choice(given.kinds), folder)
+        alone, ended, fault = tried(case)
+        if ended is None:
+            sys.exit(f"job {number} ends with {alone.status} by one worker: {alone.said.decode()}: {kept(case, 'stress-alone', given.keep)}")
+        tally.count(case, alone, ended)
+        if fault:
+            tally.bad += 1
+            told(given, case, number, fault)
+        number += 1
+    print(tally.summary(given.seed))
+    return tally.bad
 
 
 def main():
-    words = argparse.ArgumentParser()
+    words = argparse.ArgumentParser(description=__doc__, formatter_class=argparse.RawDescriptionHelpFormatter)
     words.add_argument("--jobs", type=int, default=10_000)
+    words.add_argument("--hours", type=float)
     words.add_argument("--seed", type=int, default=1)
+    words.add_argument("--kinds", type=lambda text: text.split(","), default=KINDS)
     words.add_argument("--busy", type=int, default=0)
     words.add_argument("--swap")
-    words.add_argument("--contributions", action="store_true")
+    words.add_argument("--keep", default=os.path.join(tempfile.gettempdir(), "stress"))
     given = words.parse_args()
+    if unknown := [kind for kind in given.kinds if kind not in KINDS]:
+        sys.exit(f"unknown kind {unknown[0]}: there are {', '.join(KINDS)}")
     busy = [subprocess.Popen([sys.executable, "-c", "while True: pass"]) for _ in range(given.busy)]
-    bad, faults, slowest = 0, 0, 0.0
     try:
-        with tempfile.TemporaryDirectory() as folder:
-            path = os.path.join(folder, "job")
-            for k in range(given.jobs):
-                rng = random.Random(given.seed * 1_000_000 + k)
-                job = Job(rng, given.contributions)
-                with open(path, "w") as f:
-                    f.write(job.text())
-                status, wanted, said, alone = run([], path, 60)
-                if status != 0:
-                    sys.exit(f"job {k} ends with {status} at one worker: {said.decode()}\n{job.text()}")
-                chosen = words_for(rng, job, given.swap)
-                status, printed, said, taken = run(chosen, path, max(10, 100 * alone))
-                slowest = max(slowest, taken / max(alone, 0.01))
-                wrong = fault_of(status, printed, wanted, given.swap)
-                faults += status in (DISK_FAULT, DAMAGED)
-                if wrong:
-                    bad += 1
-                    kept = os.path.join(tempfile.gettempdir(), f"stress{given.seed}_{k}.job")
-                    with open(kept, "w") as f:
-                        f.write(job.text())
-                    print(f"job {k} {wrong} with {' '.join(chosen)}: {kept} {said.decode().strip()}", flush=True)
+        with tempfile.TemporaryDirectory(dir=given.swap) as folder:
+            sys.exit(try_all(given, folder) != 0)
     finally:
         for child in busy:
             child.kill()
-    print(f"{given.jobs} jobs, {bad} wrong, {faults} ended with a disk's fault, the slowest {slowest:.1f} times one worker's time")
-    sys.exit(bad != 0)
 
 
-main()
+if __name__ == "__main__":
+    main()

@@ -1,7 +1,7 @@
 -- A free worker that is given a task and claims it has claimed it.
-use Rattle.std.proofs.Common.{◌≡◌, ℕ, ◌<◌, ◌∙◌, ◌||◌, Bool, List, Option, None, Some, false, true, ap, length, refl, subst, sym}
+use Rattle.std.proofs.Common.{◌≡◌, ◌≢◌, ℕ, ◌<◌, ◌∙◌, ◌||◌, Bool, List, Option, None, Some, false, true, ap, length, refl, subst, sym}
 use Rattle.std.proofs.lemmas.Bool.{false≢true}
-use Rattle.std.proofs.lemmas.List.{get_or-set_same}
+use Rattle.std.proofs.lemmas.List.{get_or-set_other, get_or-set_same}
 use Rattle.sj_base.specs.declared.ids.Task.{Task}
 use Rattle.sj_base.specs.declared.ids.Worker.{Worker}
 use Rattle.sj_base.specs.declared.trace.Event.TheVariants.{Claim}
@@ -11,14 +11,14 @@ use Rattle.sj_core.specs.Machine.{State, WorkerState, is_claimed_by, is_running_
 use Rattle.sj_core.specs.Step.{after}
 use Rattle.sj_core.proofs.Reading.{progress-same, worker-same}
 use Rattle.sj_core.proofs.States.{state_of-more}
-use Rattle.sj_machine.specs.Board.{BoardState, IsFree, empty_hand, given_next, hand_of, has_claimed}
+use Rattle.sj_machine.specs.Board.{BoardState, IsFree, empty_hand, given_from, hand_of, has_claimed}
 use Rattle.sj_machine.specs.BoardSound.{IsSoundBoard}
 use Rattle.sj_machine.specs.Standing.{CanHappen, state}
 use Rattle.sj_machine.specs.declared.hand.Hand.{Hand}
-use Rattle.board_tests.specs.Steps.{HasClaimed}
+use Rattle.board_tests.specs.Steps.{HasClaimed, IsStepOf}
 
 -- where it was given the task on the second board, and the third is that of its claim
-module _ {D : Type 0} (size faults mismatches : D → ℕ) (held : D → Option (List ℕ)) (b y z : BoardState D) (w : Worker) (t : Task) (sound : IsSoundBoard size faults mismatches held y) (free : IsFree b w) (no_fault : b.fault ≡ None) (gives : y ≡ given_next b w) (can : CanHappen y.run (Claim t w)) (claims : z ≡ has_claimed y t w) where
+module _ {D : Type 0} (size faults mismatches : D → ℕ) (held : D → Option (List ℕ)) (b y z : BoardState D) (w : Worker) (t : Task) (sound : IsSoundBoard size faults mismatches held y) (free : IsFree b w) (no_fault : b.fault ≡ None) (o : Option Task) (gives : y ≡ given_from b w o y.pool) (can : CanHappen y.run (Claim t w)) (claims : z ≡ has_claimed y t w) where
   known : w.0 < y.run.program.workers
   known = subst (λ (k : BoardState D). w.0 < k.run.program.workers) (sym gives) free.idle.works.known
 
@@ -70,4 +70,27 @@ module _ {D : Type 0} (size faults mismatches : D → ℕ) (held : D → Option 
     none_given = ap (λ (h : Hand). h.given) hand;
     claimed = ap (λ (k : State). progress k t) now ∙ progress-same (state y.run) t (Claimed w) (subst (λ n. t.0 < n) (sym sound.run.coherent.state.rows.tasks) can.ready.task);
     rests = rests (no-task l);
+  }
+
+  other-hand : (v : Worker) → v ≢ w → hand_of z v ≡ hand_of b v
+  other-hand v d =
+      ap (λ (k : BoardState D). hand_of k v) claims
+      ∙ get_or-set_other y.hands w.0 v.0 (record (hand_of y w) { given = None; task = Some t }) empty_hand (λ e. d (ap (λ (n : ℕ). let u : Worker = record { 0 = n } in u) e))
+      ∙ ap (λ (k : BoardState D). hand_of k v) gives
+      ∙ get_or-set_other b.hands w.0 v.0 (record (hand_of b w) { given = o }) empty_hand (λ e. d (ap (λ (n : ℕ). let u : Worker = record { 0 = n } in u) e))
+
+  pub is-step : IsStepOf w b z
+  is-step = record {
+    others = λ v d f. record {
+      idle = record {
+        works = record {
+          known = subst (λ (k : BoardState D). v.0 < k.run.program.workers) (sym claims) (subst (λ (k : BoardState D). v.0 < k.run.program.workers) (sym gives) f.idle.works.known);
+          goes_on = ap (λ (h : Hand). h.has_stopped) (other-hand v d) ∙ f.idle.works.goes_on;
+        };
+        no_task = ap (λ (h : Hand). h.task) (other-hand v d) ∙ f.idle.no_task;
+      };
+      none_given = ap (λ (h : Hand). h.given) (other-hand v d) ∙ f.none_given;
+    };
+    fault = ap (λ (k : BoardState D). k.fault) claims ∙ ap (λ (k : BoardState D). k.fault) gives;
+    opened = ap (λ (k : BoardState D). k.run.opened) claims ∙ ap (λ (k : BoardState D). k.run.opened) gives;
   }

@@ -1,12 +1,12 @@
 //! Claims on whole boards, up to the one that is refused.
 
-ghost use Rattle.std.specs.Prelude.{◌≡◌, ◌<◌, ◌≤◌, ◌^◌, None};
+ghost use Rattle.std.specs.Prelude.{◌≡◌, ◌<◌, ◌≤◌, ◌^◌, None, OnOk};
 ghost use Rattle.sj_base.specs.declared.ids.Worker.{Worker};
 ghost use Rattle.sj_machine.specs.Board.{IsFree};
 ghost use Rattle.sj_machine.specs.Standing.{AllTell};
 
 use crate::opening::opened;
-use crate::steps::{Claim, carried_out, claimed};
+use crate::steps::{Claim, carried_out, claimed, tried};
 use sj_base::ids::{Task, Worker};
 use sj_edge::disk::Disk;
 use sj_machine::board::Board;
@@ -71,4 +71,62 @@ pub fn claims_after_two<D: Disk>(
         return Err(Fail::new("there are fewer workers"));
     }
     fourth_claim(alloc, &mut board)
+}
+
+/// A worker tries to claim a task that it hasn't passed, and is to be refused that.
+fn refused<D: Disk>(
+    alloc: Global,
+    board: &mut Board<D>,
+    w: Worker,
+    passed: &[Task],
+) -> Result<Task, Fail>
+    requires free { IsFree board.old w }
+    requires no_fault { board.old.fault ≡ None }
+    ensures no_fault { board.new.fault ≡ None }
+    ensures free { OnOk result (IsFree board.new w) }
+{
+    match tried(alloc, board, w, passed)? {
+        (t, Err(_)) => Ok(t),
+        (_, Ok(())) => Err(Fail::new("the claim isn't refused")),
+    }
+}
+
+/// A worker's look: three tries, each of them refused, and a fourth one.
+fn look<D: Disk>(alloc: Global, board: &mut Board<D>, w: Worker) -> Result<([Task; 3], Claim), Fail>
+    requires free { IsFree board.old w }
+    requires no_fault { board.old.fault ≡ None }
+{
+    let first = refused(alloc, board, w, &[])?;
+    let second = refused(alloc, board, w, &[first])?;
+    let third = refused(alloc, board, w, &[first, second])?;
+    let passed = [first, second, third];
+    let fourth = tried(alloc, board, w, &passed)?;
+    Ok((passed, fourth))
+}
+
+/// A worker carries out two tasks, which fill cells, and claims a third one; then another looks for one that it may claim.
+fn look_after_two<D: Disk>(alloc: Global, board: &mut Board<D>) -> Result<([Task; 3], Claim), Fail>
+    requires free { (w : Worker) → w.0 < 2 → IsFree board.old w }
+    requires no_fault { board.old.fault ≡ None }
+    requires silent { ¬ AllTell D.held board.old.run }
+{
+    carried_out(alloc, board, Worker(0))?;
+    carried_out(alloc, board, Worker(0))?;
+    let (_, Ok(())) = claimed(alloc, board, Worker(0))? else {
+        return Err(Fail::new("the claim is refused"));
+    };
+    look(alloc, board, Worker(1))
+}
+
+/// On the board of a job, a worker carries out two tasks, which fill cells, and claims a third one; then another looks for one
+/// that it may claim.
+pub fn looks_of_two<D: Disk>(alloc: Global, text: &str, disk: D) -> Result<([Task; 3], Claim), Fail>
+    requires small { D.size disk ≤ 2 ^ 40 }
+    requires silent { D.held disk ≡ None }
+{
+    let mut board = opened(alloc, text, disk)?;
+    if board.program().workers < 2 {
+        return Err(Fail::new("there are fewer workers"));
+    }
+    look_after_two(alloc, &mut board)
 }

@@ -1,6 +1,6 @@
 //! What a worker does on a board, step by step.
 
-ghost use Rattle.std.specs.Prelude.{◌≡◌, ◌≤◌, ◌^◌, ◌∷◌, [], IfOk, IfSome, None, OnOk, map};
+ghost use Rattle.std.specs.Prelude.{◌≡◌, ◌≤◌, ◌^◌, ◌∷◌, [], IfOk, IfSome, None, OnErr, OnOk, map};
 ghost use Rattle.sj_base.specs.Array.{area};
 ghost use Rattle.sj_core.specs.Program.{dims_of, task_of, written_operands};
 ghost use Rattle.sj_machine.specs.Board.{IsFree};
@@ -32,13 +32,39 @@ pub fn claimed<D: Disk>(alloc: Global, board: &mut Board<D>, w: Worker) -> Resul
     ensures claims { IfOk result (λ claim. OnOk claim.1 (HasClaimed board.new w claim.0)) }
 {
     board.is_sound();
-    let Some(t) = board.next(w) else {
+    let Some(t) = board.next(w, &[]) else {
         return Err(Fail::new("no task is ready"));
     };
     board.is_sound();
     match board.claim(alloc, t, w) {
         Ok(()) => Ok((t, Ok(()))),
         Err(refusal) => Ok((t, Err(refusal))),
+    }
+}
+
+/// A worker is given a task by the pool that it hasn't passed, and claims it; where that is refused, the task goes back.
+pub fn tried<D: Disk>(
+    alloc: Global,
+    board: &mut Board<D>,
+    w: Worker,
+    passed: &[Task],
+) -> Result<Claim, Fail>
+    requires free { IsFree board.old w }
+    requires no_fault { board.old.fault ≡ None }
+    ensures no_fault { board.new.fault ≡ None }
+    ensures free { IfOk result (λ claim. OnErr claim.1 (IsFree board.new w)) }
+{
+    board.is_sound();
+    let Some(t) = board.next(w, passed) else {
+        return Err(Fail::new("no task is left"));
+    };
+    board.is_sound();
+    match board.claim(alloc, t, w) {
+        Ok(()) => Ok((t, Ok(()))),
+        Err(refusal) => {
+            board.give_back(t, w);
+            Ok((t, Err(refusal)))
+        }
     }
 }
 

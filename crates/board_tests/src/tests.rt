@@ -1,6 +1,6 @@
 //! Refused claims, and why.
 
-use crate::scenes::{claims_after_two, claims_of_three};
+use crate::scenes::{claims_after_two, claims_of_three, looks_of_two};
 use sj_base::ids::{Cell, Task};
 use sj_edge::file_disk::FileDisk;
 use sj_machine::plan::Why;
@@ -60,5 +60,18 @@ fn a_claim_waits_while_another_task_holds_its_commuting_cell(rt: HostRuntime) ->
         fourth,
         (Task(3), Err(ClaimRefusal::NotNow(Why::Commute(Cell(1)))))
     );
+    Ok(())
+}
+
+/// Four tasks of high priority commute on a vector, and two vectors more are filled, without a priority.
+const URGENT: &str =
+    "starjob 1\nworkers 2\npolicy prio\nvector x 2 values 1 2\nvector y 2 fill 0 0\nvector a 2 values 3 4\nvector b 2 values 5 6\ntask axpy(1) x:R y:COMMUTE prio=9\ntask axpy(2) x:R y:COMMUTE prio=9\ntask axpy(3) x:R y:COMMUTE prio=9\ntask axpy(4) x:R y:COMMUTE prio=9\nprint y\n";
+
+#[test]
+fn a_look_passes_urgent_tasks_that_cannot_be_claimed(rt: HostRuntime) -> Result<(), Fail> {
+    let disk = FileDisk::at(&rt, NO_FILE, DISK);
+    let (passed, fourth) = looks_of_two(rt.alloc(), URGENT, disk)?;
+    assert_eq!(rt; passed, [Task(5), Task(6), Task(7)]);
+    assert_eq!(rt; fourth, (Task(2), Ok(())));
     Ok(())
 }

@@ -1,8 +1,9 @@
 -- One element more, and the bounds of what was gone through.
-use Rattle.std.proofs.Common.{◌≡◌, ◌≤ℤ◌, ℕ, ◌+◌, ◌≤◌, ℤ, pos, ◌+ℤ◌, Bool, true, false, true≢false, cond, not, List, [], ◌∷◌, ◌++◌, length, take, Some, refl, sym, ap, ◌∙◌, arith, FitsSigned, w64}
+use Rattle.std.proofs.Common.{◌≡◌, ◌≤ℤ◌, ℕ, ◌+◌, ◌≤◌, ℤ, pos, ◌+ℤ◌, true, false, cond, not, List, [], ◌∷◌, ◌++◌, length, take, Some, refl, sym, ap, ◌∙◌, arith, FitsSigned, w64}
 use Rattle.std.specs.Int.{int_max, int_min}
 use Rattle.std.specs.List.{filter, fold}
 use Rattle.std.specs.Prelude.{All}
+use Rattle.std.proofs.lemmas.Bool.{not-true}
 use Rattle.std.proofs.lemmas.Int.{fold-int_min_bounds, ints, int_wrap-add_left}
 use Rattle.std.proofs.lemmas.List.{append-nil, length-append, length-take}
 use Rattle.std.proofs.lemmas.List.Elements.{All-append, All-filter, All-cons, All-head, All-nil, filter-append, filter_passes}
@@ -71,11 +72,7 @@ number_below : (x : ℤ) → is_inf x ≡ false → int_min inf x ≡ x
 number_below x e = grind (arith, ints)
 
 first_is_number : (x : ℤ) (xs : List ℤ) → All (λ y. not (is_inf y) ≡ true) (x ∷ xs) → is_inf x ≡ false
-first_is_number x xs all = not_inf (is_inf x) (All-head (λ y. not (is_inf y) ≡ true) x xs all)
-  where
-    not_inf : (b : Bool) → not b ≡ true → b ≡ false
-    not_inf true e = absurd (true≢false (sym e))
-    not_inf false e = refl
+first_is_number x xs all = not-true (is_inf x) (All-head (λ y. not (is_inf y) ≡ true) x xs all)
 
 -- the fold stays at `inf` only where there is no number: no number is as great
 no_minimum : (ns : List ℤ) → All (λ x. not (is_inf x) ≡ true) ns → fold int_min inf ns ≡ inf → ns ≡ []

@@ -108,32 +108,54 @@ weight n seed i j =
 abbrev pub weights : ℕ → ℕ → List ℤ
 weights n seed = table (square n) (weight n seed)
 
--- ways through the diagonal tile of block k, within it
-abbrev pub diagonal : ℕ → Act
-diagonal k = task FwDiag (operand name_D k k RW ∷ [])
+-- ways through the diagonal tile of block k, within it, of the matrix of that name
+abbrev pub diagonal_of : List ℕ → ℕ → Act
+diagonal_of name k = task FwDiag (operand name k k RW ∷ [])
 
 -- the same in a tile of its row
-abbrev pub beside : ℕ → ℕ → Act
-beside k j = task FwRow (operand name_D k k R ∷ operand name_D k j RW ∷ [])
+abbrev pub beside_of : List ℕ → ℕ → ℕ → Act
+beside_of name k j = task FwRow (operand name k k R ∷ operand name k j RW ∷ [])
 
 -- in a tile of its column
-abbrev pub below : ℕ → ℕ → Act
-below k i = task FwCol (operand name_D k k R ∷ operand name_D i k RW ∷ [])
+abbrev pub below_of : List ℕ → ℕ → ℕ → Act
+below_of name k i = task FwCol (operand name k k R ∷ operand name i k RW ∷ [])
 
 -- and in another tile
-abbrev pub apart : ℕ → ℕ → ℕ → Act
-apart k i j = task MinGemm (operand name_D i k R ∷ operand name_D k j R ∷ operand name_D i j RW ∷ [])
+abbrev pub apart_of : List ℕ → ℕ → ℕ → ℕ → Act
+apart_of name k i j = task MinGemm (operand name i k R ∷ operand name k j R ∷ operand name i j RW ∷ [])
 
-abbrev pub aparts_in_row : ℕ → ℕ → ℕ → List Act
-aparts_in_row p k i = map (apart k i) (others p k)
+abbrev pub aparts_of : List ℕ → ℕ → ℕ → ℕ → List Act
+aparts_of name p k i = map (apart_of name k i) (others p k)
 
 -- the tasks of block k: afterwards walks may go through its vertices too
+abbrev pub walk_step_of : List ℕ → ℕ → ℕ → List Act
+walk_step_of name p k =
+    diagonal_of name k ∷ (map (beside_of name k) (others p k) ++ (map (below_of name k) (others p k) ++ flat_map (aparts_of name p k) (others p k)))
+
+abbrev pub walk_steps_of : List ℕ → ℕ → List Act
+walk_steps_of name p = flat_map (walk_step_of name p) (upto p)
+
+-- the same of D
+abbrev pub diagonal : ℕ → Act
+diagonal k = diagonal_of name_D k
+
+abbrev pub beside : ℕ → ℕ → Act
+beside k j = beside_of name_D k j
+
+abbrev pub below : ℕ → ℕ → Act
+below k i = below_of name_D k i
+
+abbrev pub apart : ℕ → ℕ → ℕ → Act
+apart k i j = apart_of name_D k i j
+
+abbrev pub aparts_in_row : ℕ → ℕ → ℕ → List Act
+aparts_in_row p k i = aparts_of name_D p k i
+
 abbrev pub walk_step : ℕ → ℕ → List Act
-walk_step p k =
-    diagonal k ∷ (map (beside k) (others p k) ++ (map (below k) (others p k) ++ flat_map (aparts_in_row p k) (others p k)))
+walk_step p k = walk_step_of name_D p k
 
 abbrev pub walk_steps : ℕ → List Act
-walk_steps p = flat_map (walk_step p) (upto p)
+walk_steps p = walk_steps_of name_D p
 
 abbrev pub paths_acts : ℕ → ℕ → ℕ → List Act
 paths_acts n p seed = matrix name_D n p (Values (weights n seed)) ∷ (walk_steps p ++ Print name_D ∷ [])

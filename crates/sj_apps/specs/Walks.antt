@@ -32,3 +32,19 @@ pub record IsNone (n : ℕ) (W : ℕ → ℕ → ℤ) (i j : ℕ) (least : ℤ) 
 pub data IsShortest (n : ℕ) (W : ℕ → ℕ → ℤ) (i j : ℕ) (least : ℤ) : Type 0 where
   Reached : IsLeast n W i j least → IsShortest n W i j least
   Unreached : IsNone n W i j least → IsShortest n W i j least
+
+-- weights of the steps between n vertices: none is negative or above `inf`, and to stay costs nothing
+pub record AreWeights (n : ℕ) (W : ℕ → ℕ → ℤ) : Type 0 where
+  pub none_negative : (i j : ℕ) → i < n → j < n → pos 0 ≤ℤ W i j
+  pub none_above : (i j : ℕ) → i < n → j < n → W i j ≤ℤ inf
+  pub staying : (i : ℕ) → i < n → W i i ≡ pos 0
+
+-- a walk from i to j that is shorter than `inf`
+pub record HasShort (n : ℕ) (W : ℕ → ℕ → ℤ) (i j : ℕ) : Type 0 where
+  pub walk : List ℕ
+  pub leads : IsWalk n W i walk j
+  pub short : walk_length W i walk <ℤ inf
+
+-- where a walk leads from i to j, one does that is shorter than `inf`
+abbrev pub StayBelowInf : ℕ → (ℕ → ℕ → ℤ) → Type 0
+StayBelowInf n W = (i j : ℕ) (walk : List ℕ) → i < n → IsWalk n W i walk j → HasShort n W i j

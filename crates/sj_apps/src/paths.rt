@@ -7,6 +7,7 @@ ghost use Rattle.sj_job.specs.Table.{table};
 ghost use Rattle.sj_job.specs.View.{statements_of, seen_from, IsNumbered};
 ghost use Rattle.sj_apps.specs.Draft.{paths_names, unless_same, IsNumberedSoFar, Tells};
 ghost use Rattle.sj_apps.specs.Generated.{IsSize, apart, aparts_in_row, below, beside, diagonal, first_line, matrix, name_D, numbered, others, part_count, paths_statements, walk_step, walk_steps, weight, weights};
+ghost use Rattle.sj_apps.specs.Shortest.{PrintsShortest};
 ghost use Rattle.sj_job.specs.declared.job.Init.TheVariants.{Values};
 
 use crate::draft::Draft;
@@ -279,6 +280,10 @@ pub fn paths(alloc: Global, n: u32, tile: u32, seed: u64) -> Result<Job, OutOfMe
     ensures unset { IfOk result (λ job. job.settings ≡ unset) }
     ensures statements { IfOk result (λ job. statements_of job ≡ paths_statements n tile seed) }
     ensures numbered { IfOk result (λ job. IsNumbered job.roots job.statements) }
+
+    // What it prints.
+    ensures shortest { IfOk result (λ job.
+        PrintsShortest name_D n (weight n seed) (statements_of job)) }
 {
     let p = part_count(n, tile);
     let mut draft = ring(alloc, n, p, seed)?;

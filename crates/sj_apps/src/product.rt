@@ -6,6 +6,7 @@ ghost use Rattle.sj_job.specs.Settings.{unset};
 ghost use Rattle.sj_job.specs.Table.{table};
 ghost use Rattle.sj_job.specs.declared.job.Act.TheVariants as kept;
 ghost use Rattle.sj_job.specs.View.{statements_of, seen_from, IsNumbered};
+ghost use Rattle.sj_apps.specs.Solution.{PrintsProduct};
 ghost use Rattle.sj_apps.specs.Draft.{product_names, IsNumberedSoFar, Tells};
 ghost use Rattle.sj_apps.specs.Generated.{IsSize, cut, first_line, factors, gemm, gemms, gemms_at, gemms_in_row, numbered, part_count, product_statements, square};
 ghost use Rattle.sj_job.specs.declared.job.Kind.TheVariants.{Matrix};
@@ -169,6 +170,9 @@ pub fn product(alloc: Global, n: u32, tile: u32, seed: u64) -> Result<Job, OutOf
     ensures unset { IfOk result (λ job. job.settings ≡ unset) }
     ensures statements { IfOk result (λ job. statements_of job ≡ product_statements n tile seed) }
     ensures numbered { IfOk result (λ job. IsNumbered job.roots job.statements) }
+
+    // What it prints.
+    ensures multiplies { IfOk result (λ job. PrintsProduct n seed (statements_of job)) }
 {
     let p = part_count(n, tile);
     let mut draft = factors(alloc, n, p, seed)?;

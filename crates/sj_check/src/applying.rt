@@ -47,7 +47,10 @@ pub fn end_move<D: Disk>(
     match to {
         Place::Node(_) => run.end_move_in(w, tile),
         Place::Disk(_) => {
-            // a hollow disk refuses no store
+            // no worker takes a disk out of this run, and a hollow disk refuses no store
+            if run.is_out(cell) {
+                return Err(OutOfMemory);
+            }
             let Ok(()) = run.store(w, &tile) else {
                 return Err(OutOfMemory);
             };

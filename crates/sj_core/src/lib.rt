@@ -1,4 +1,4 @@
-//! The machine that runs a program: its states, its events, the one relation of legal steps, and when a
+//! The machine that runs a program: its states, its events, what each event needs and leaves, and when a
 //! state is coherent (StarPU Handbook, data management: the states of replicas).
 #![tactic(auto)]
 

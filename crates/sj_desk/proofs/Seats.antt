@@ -11,7 +11,7 @@ use Rattle.sj_desk.specs.declared.view.View.{View}
 use Rattle.sj_desk.specs.declared.view.Opening.{Opening}
 use Rattle.sj_desk.specs.declared.view.Tally.{Tally}
 use Rattle.sj_desk.specs.Seats.{DeskFacts, SeatFacts, KeepsOtherRows}
-use Rattle.sj_desk.specs.Views.{view, tally, one_more, hearing_tally, seated, refused_view, hearing_view, found_view, left_by, IsSeated, desk_facts, desk_of, opening_of, seat_facts}
+use Rattle.sj_desk.specs.Views.{view, tally, one_more, hearing_tally, rung_tally, seated, refused_view, hearing_view, rung_view, found_view, left_by, IsSeated, desk_facts, desk_of, opening_of, seat_facts}
 use Rattle.sj_desk.specs.Turns.{IsRuled, Finds, Tries, Marks, Leaves, Hears, Rings, Rests}
 use Rattle.sj_desk.proofs.Steps.{tries, marks, leaves, hears, rings, rests}
 
@@ -97,6 +97,17 @@ module _ {T : Type 0} where
     me_is = heard.1 ∙ ap (λ (x : Me (Option T) (View T)). (hearing_view x.0 (Some r), x.1)) e;
   }
 
+  pub rung_seated : (number : ℕ) (heard : Option ℕ) (left : T) (found : Option T) (c : Tally) (k : Opening T) (m n : Me (Option T) (View T)) → c.heard ≡ heard → m ≡ seated k number left found c → Rings 1 m n
+      → IsSeated number heard n
+  rung_seated number heard left found c k m n hears e rang = record {
+    opening = k;
+    left = left;
+    found = found;
+    tally = rung_tally c;
+    hears = hears;
+    me_is = rang.1 ∙ ap (λ (x : Me (Option T) (View T)). (rung_view x.0, x.1)) e;
+  }
+
   pub rested_seated : (number : ℕ) (left : T) (c : Tally) (k : Opening T) (m n : Me (Option T) (View T)) → m ≡ seated k number left None c → n ≡ (hearing_view m.0 None, m.1) → IsSeated number None n
   rested_seated number left c k m n e rung = record {
     opening = k;
@@ -167,8 +178,8 @@ module _ {T R : Type 0} (row_of : T → ℕ → R) (fits : Opening T → T → T
   rests_at slots id number left c me one hears e =
       let h = some_of c.heard hears in
       subst (λ x. Allows (IsRuled row_of fits k) x id me 1 (λ n. n) (λ r n. Rests 1 me r n)) (sym one)
-      (subst (λ (y : Me (Option T) (View T)). Allows (IsRuled row_of fits k) 1 id y 1 (λ n. n) (λ r n. Rests 1 y r n)) (sym (e ∙ ap (λ o. seated k number left None (tally c.refusals o)) h.1))
-      (rests row_of fits k id number left c.refusals h.0))
+      (subst (λ (y : Me (Option T) (View T)). Allows (IsRuled row_of fits k) 1 id y 1 (λ n. n) (λ r n. Rests 1 y r n)) (sym (e ∙ ap (λ o. seated k number left None (tally c.refusals o c.rings)) h.1))
+      (rests row_of fits k id number left c.refusals h.0 c.rings))
 
   pub leaves_at : (slots id number : ℕ) (left found value : T) (c : Tally) (me : Me (Option T) (View T)) → slots ≡ 1 → fits k value
       → ((n : ℕ) → n < k.seats → n ≢ number → row_of value n ≡ row_of found n) → me ≡ (view (Some k) ((number, left) ∷ []) (Some found) c 2, (0, Some value) ∷ [])

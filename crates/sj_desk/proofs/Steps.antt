@@ -12,7 +12,7 @@ use Rattle.atomic_table.proofs.Lists.{set_here, set_else, at_longer, exchanged}
 use Rattle.sj_desk.specs.declared.view.View.{View}
 use Rattle.sj_desk.specs.declared.view.Opening.{Opening}
 use Rattle.sj_desk.specs.declared.view.Tally.{Tally}
-use Rattle.sj_desk.specs.Views.{view, tally, no_tally, one_more, hearing_tally, sitting, ended, opening_rows, first_view, at_stage, found_view, dealing, dealt, joined, seated}
+use Rattle.sj_desk.specs.Views.{view, tally, no_tally, one_more, hearing_tally, rung_tally, sitting, ended, opening_rows, first_view, at_stage, found_view, dealing, dealt, joined, seated}
 use Rattle.sj_desk.specs.Turns.{IsKeptRow, IsKeptView, IsHolder, IsOpen, made, filled, IsRuled, Tries, Marks, Leaves, Hears, Rings, Rests, Fills, Opens}
 use Rattle.sj_desk.proofs.Lists.{within, only, only_place, at_end, after_set, each_weaker, each_append, each_at, opening_each, opening_weaker}
 
@@ -195,12 +195,12 @@ module _ {T R : Type 0} (row_of : T → ℕ → R) (fits : Opening T → T → T
   pub rings : (id number : ℕ) (left : T) (found : Option T) (c : Tally) → Allows Ruled 1 id (seated k number left found c) 1 (λ n. (n + 1) % 2 ^ 64) (λ _ n. Rings 1 (seated k number left found c) n)
   rings id number left found c s ruled wide at _ =
       let o = open_now s id (view (Some k) ((number, left) ∷ []) found c 2) ruled at refl in
-      (view (Some k) ((number, left) ∷ []) found c 2, keeps, tt, inr (inr (at_bell s o id number left found c c ((slice_index s.words 1 + 1) % 2 ^ 64) at)), (refl, refl))
+      (view (Some k) ((number, left) ∷ []) found (rung_tally c) 2, keeps, tt, inr (inr (at_bell s o id number left found c (rung_tally c) ((slice_index s.words 1 + 1) % 2 ^ 64) at)), (refl, refl))
 
-  pub rests : (id number : ℕ) (left : T) (refusals heard : ℕ)
-      → let m = seated k number left None (tally refusals (Some heard)) in Allows Ruled 1 id m 1 (λ n. n) (λ r n. Rests 1 m r n)
-  rests id number left refusals heard s ruled wide at _ =
-      let c = tally refusals (Some heard) in
+  pub rests : (id number : ℕ) (left : T) (refusals heard rung : ℕ)
+      → let m = seated k number left None (tally refusals (Some heard) rung) in Allows Ruled 1 id m 1 (λ n. n) (λ r n. Rests 1 m r n)
+  rests id number left refusals heard rung s ruled wide at _ =
+      let c = tally refusals (Some heard) rung in
       let o = open_now s id (view (Some k) ((number, left) ∷ []) None c 2) ruled at refl in
       let n = slice_index s.words 1 in
       dite (ℕ_discrete heard n)

@@ -10,19 +10,20 @@ pub record DeskFacts (T : Type 0) : Type 0 where
   pub opening : T
   pub seats : ℕ
 
--- a seat: its desk, its number, how many of its tries found the turn taken, the count of the bell that it heard and hasn't rested on yet, the value that it left last, and in its turn the value that it found
+-- a seat: its desk, its number, how many of its tries found the turn taken, the count of the bell that it heard and hasn't rested on yet, how often it rang the bell, the value that it left last, and in its turn the value that it found
 pub record SeatFacts (T : Type 0) : Type 0 where
   pub desk : Option (DeskFacts T)
   pub number : ℕ
   pub refusals : ℕ
   pub heard : Option ℕ
+  pub rings : ℕ
   pub left : Option T
   pub found : Option T
 
 module _ {T : Type 0} where
   -- a seat of the desk that has had no turn yet: its row is that of the opening value
   abbrev pub new_seat : DeskFacts T → ℕ → SeatFacts T
-  new_seat desk number = record { desk = Some desk; number = number; refusals = 0; heard = None; left = Some desk.opening; found = None }
+  new_seat desk number = record { desk = Some desk; number = number; refusals = 0; heard = None; rings = 0; left = Some desk.opening; found = None }
 
   -- the seats of the desk, each with its place for its number
   abbrev pub new_seats : DeskFacts T → List (SeatFacts T)
@@ -30,22 +31,26 @@ module _ {T : Type 0} where
 
   -- the seat, after a try that found the turn taken
   abbrev pub refused : SeatFacts T → SeatFacts T
-  refused s = record { desk = s.desk; number = s.number; refusals = s.refusals + 1; heard = s.heard; left = s.left; found = s.found }
+  refused s = record { desk = s.desk; number = s.number; refusals = s.refusals + 1; heard = s.heard; rings = s.rings; left = s.left; found = s.found }
 
   -- the seat in its turn, in which it found the value, after so many tries that found the turn taken
   abbrev pub in_turn : SeatFacts T → T → ℕ → SeatFacts T
-  in_turn s value refusals = record { desk = s.desk; number = s.number; refusals = refusals; heard = s.heard; left = s.left; found = Some value }
+  in_turn s value refusals = record { desk = s.desk; number = s.number; refusals = refusals; heard = s.heard; rings = s.rings; left = s.left; found = Some value }
 
   -- the seat after its turn, in which it left the value
   abbrev pub after_turn : SeatFacts T → T → SeatFacts T
-  after_turn s value = record { desk = s.desk; number = s.number; refusals = s.refusals; heard = s.heard; left = Some value; found = None }
+  after_turn s value = record { desk = s.desk; number = s.number; refusals = s.refusals; heard = s.heard; rings = s.rings; left = Some value; found = None }
 
   -- the seat that has heard the bell at this count, and the seat that has rested since
   abbrev pub hearing : SeatFacts T → Option ℕ → SeatFacts T
-  hearing s heard = record { desk = s.desk; number = s.number; refusals = s.refusals; heard = heard; left = s.left; found = s.found }
+  hearing s heard = record { desk = s.desk; number = s.number; refusals = s.refusals; heard = heard; rings = s.rings; left = s.left; found = s.found }
 
   abbrev pub rested : SeatFacts T → SeatFacts T
   rested s = hearing s None
+
+  -- the seat after it rang the bell
+  abbrev pub rung : SeatFacts T → SeatFacts T
+  rung s = record { desk = s.desk; number = s.number; refusals = s.refusals; heard = s.heard; rings = s.rings + 1; left = s.left; found = s.found }
 
   -- the value has the seat's row as the seat left it
   abbrev pub HasRowLeft : {R : Type 0} → (T → ℕ → R) → T → SeatFacts T → Type 0
@@ -61,7 +66,7 @@ module _ {T : Type 0} where
 
   -- the seat after some tries: nothing but their number has changed
   abbrev pub retried : SeatFacts T → ℕ → SeatFacts T
-  retried s refusals = record { desk = s.desk; number = s.number; refusals = refusals; heard = s.heard; left = s.left; found = s.found }
+  retried s refusals = record { desk = s.desk; number = s.number; refusals = refusals; heard = s.heard; rings = s.rings; left = s.left; found = s.found }
 
   -- the seat is of the desk, and isn't in its turn
   abbrev pub IsWaiting : DeskFacts T → SeatFacts T → Type 0

@@ -6,7 +6,7 @@ use lib.ListN.{get_elem?}
 use Rattle.atomic_table.specs.Table.{State, Me, rest}
 use Rattle.sj_desk.specs.declared.view.View.{View}
 use Rattle.sj_desk.specs.declared.view.Opening.{Opening}
-use Rattle.sj_desk.specs.Views.{first_view, at_stage, refused_view, hearing_view, found_view, left_by}
+use Rattle.sj_desk.specs.Views.{first_view, at_stage, refused_view, hearing_view, rung_view, found_view, left_by}
 
 -- the value has the key of the opening value, and is sound
 abbrev pub Fits : {T K : Type 0} → (T → K) → (T → Type 0) → Opening T → T → Type 0
@@ -89,9 +89,9 @@ module _ {T : Type 0} where
   abbrev pub Hears : ℕ → Me (Option T) (View T) → ℕ → Me (Option T) (View T) → Type 0
   Hears word m count n = (word ≡ 1) × (n ≡ (hearing_view m.0 (Some count), m.1))
 
-  -- a ring of the bell, which changes no seat
+  -- a ring of the bell, which the seat counts
   abbrev pub Rings : ℕ → Me (Option T) (View T) → Me (Option T) (View T) → Type 0
-  Rings word m n = (word ≡ 1) × (n ≡ m)
+  Rings word m n = (word ≡ 1) × (n ≡ (rung_view m.0, m.1))
 
   -- a look at the bell by a seat that rests: it rests on while the count is the one that it heard
   pub record Rests (word : ℕ) (m : Me (Option T) (View T)) (count : ℕ) (n : Me (Option T) (View T)) : Type 0 where

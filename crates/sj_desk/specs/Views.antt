@@ -12,18 +12,21 @@ use Rattle.sj_desk.specs.Seats.{DeskFacts, SeatFacts}
 abbrev pub IsOneTurn : TableId → ℕ → Type 0
 IsOneTurn table seats = (table.words ≡ 2) × (table.slots ≡ 1) × (0 < seats)
 
--- so many tries found the turn taken, and the bell was heard at this count
-abbrev pub tally : ℕ → Option ℕ → Tally
-tally refusals heard = record { refusals = refusals; heard = heard }
+-- so many tries found the turn taken, the bell was heard at this count, and so often it was rung
+abbrev pub tally : ℕ → Option ℕ → ℕ → Tally
+tally refusals heard rings = record { refusals = refusals; heard = heard; rings = rings }
 
 abbrev pub no_tally : Tally
-no_tally = tally 0 None
+no_tally = tally 0 None 0
 
 abbrev pub one_more : Tally → Tally
-one_more c = tally (c.refusals + 1) c.heard
+one_more c = tally (c.refusals + 1) c.heard c.rings
 
 abbrev pub hearing_tally : Tally → Option ℕ → Tally
-hearing_tally c heard = tally c.refusals heard
+hearing_tally c heard = tally c.refusals heard c.rings
+
+abbrev pub rung_tally : Tally → Tally
+rung_tally c = tally c.refusals c.heard (c.rings + 1)
 
 module _ {T : Type 0} where
   abbrev pub view : Option (Opening T) → List (ℕ × T) → Option T → Tally → ℕ → View T
@@ -55,6 +58,10 @@ module _ {T : Type 0} where
   -- after it heard the bell, or after it rested
   abbrev pub hearing_view : View T → Option ℕ → View T
   hearing_view v heard = view v.opening v.rows v.found (hearing_tally v.tally heard) v.stage
+
+  -- after it rang the bell
+  abbrev pub rung_view : View T → View T
+  rung_view v = view v.opening v.rows v.found (rung_tally v.tally) v.stage
 
   -- in its turn
   abbrev pub found_view : View T → T → View T
@@ -126,7 +133,7 @@ module _ {T : Type 0} where
 
   -- a seat as contracts see it
   abbrev pub seat_facts : TableId → ℕ → View T → SeatFacts T
-  seat_facts table number v = record { desk = desk_of table v.opening; number = number; refusals = v.tally.refusals; heard = v.tally.heard; left = left_of v.rows; found = v.found }
+  seat_facts table number v = record { desk = desk_of table v.opening; number = number; refusals = v.tally.refusals; heard = v.tally.heard; rings = v.tally.rings; left = left_of v.rows; found = v.found }
 
   abbrev pub opening_of : DeskFacts T → Opening T
   opening_of desk = record { value = desk.opening; seats = desk.seats }

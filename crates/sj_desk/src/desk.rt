@@ -3,7 +3,7 @@
 ghost use Rattle.std.specs.Prelude.{◌≡◌, ◌<◌, ◌≤◌, [], Some, None, All, IfOk, IfErr, OnErr, IfSome, IfNone, OnSome, MatchBool, is_some, true, vec_capacity};
 ghost use Rattle.std.specs.Option.{IsSomeAnd};
 ghost use Rattle.std.specs.List.{AllZip};
-ghost use Rattle.sj_desk.specs.Seats.{new_seats, refused, in_turn, after_turn, retried, hearing, rested, HasRowLeft, KeepsOtherRows, HasEachNumber, IsWaiting, AreInPlace};
+ghost use Rattle.sj_desk.specs.Seats.{new_seats, refused, in_turn, after_turn, retried, hearing, rested, rung, HasRowLeft, KeepsOtherRows, HasEachNumber, IsWaiting, AreInPlace};
 ghost use Rattle.sj_desk.specs.Views.{IsRowOf, IsIdle, IsFirst, IsDealer, HasEachRow};
 
 use crate::rule::{
@@ -276,7 +276,7 @@ impl<T: Keyed> Desk<T> {
     /// One step and a wake of all that rest, and no memory: where no seat can be resting, leave it out.
     pub fn ring(&self, seat: &mut DeskSeat<T>)
         requires of_this_desk { seat.old.desk ≡ Some self.now }
-        ensures seat { seat.new ≡ seat.old }
+        ensures seat { seat.new ≡ rung seat.old }
     {
         let turn = &self.table.shared;
         turn.fetch_add::<Ring>(&mut seat.ticket, BELL, 1);

@@ -7,11 +7,12 @@ pub struct Opening<T> {
     pub seats: u8,
 }
 
-/// What one seat counts: how many of its tries found the turn taken, and the bell's count that it
-/// heard and hasn't rested on yet.
+/// What one seat counts: how many of its tries found the turn taken, the bell's count that it heard
+/// and hasn't rested on yet, and how often it rang the bell.
 pub struct Tally {
     pub refusals: u64,
     pub heard: Option<u64>,
+    pub rings: u64,
 }
 
 /// What one seat knows. No value of it is ever made.

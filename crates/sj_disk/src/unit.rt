@@ -81,6 +81,13 @@ impl<D: Disk> Unit<D> {
         UnitParts { disk, cell, extent }
     }
 
+    /// The cell whose block may be used. Constant time.
+    pub fn cell(&self) -> Cell
+        ensures { result ≡ self.now.cell }
+    {
+        self.cell
+    }
+
     /// The extent of the cell. Constant time.
     pub fn extent(&self) -> Extent
         ensures { result ≡ self.now.extent }

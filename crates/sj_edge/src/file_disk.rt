@@ -1,7 +1,6 @@
 //! A disk over one file.
 
 ghost use Rattle.std.specs.Prelude.{◌≡◌, None};
-ghost use Rattle.sj_edge.specs.Checks.{CarriesOther};
 
 use crate::disk::{CheckFault, Disk};
 use crate::source::Failed;
@@ -11,7 +10,7 @@ use std::io::ErrorKind;
 use std::os::unix::fs::FileExt;
 use std::rt::Files;
 
-/// Keeps bytes in a file, and counts the errors of its calls. Tells nothing.
+/// Keeps bytes in a file, counts the errors of its calls, and keeps the cause of the last one. Tells nothing.
 ///
 /// A read that meets the end of the file is a fault, and so is a write that doesn't fit a full
 /// device. Where the file can't be opened, each read, write and check is a fault.
@@ -21,6 +20,7 @@ pub struct FileDisk {
     size: u64,
     faults: u64,
     mismatches: u64,
+    cause: Option<i32>,
 }
 
 /// Opens the file, and makes it with this size where there is none.
@@ -56,6 +56,7 @@ impl FileDisk {
             size,
             faults: 0,
             mismatches: 0,
+            cause: None,
         }
     }
 
@@ -71,6 +72,7 @@ impl FileDisk {
             size,
             faults: 0,
             mismatches: 0,
+            cause: None,
         }
     }
 
@@ -87,36 +89,27 @@ impl FileDisk {
     {
         self.mismatches
     }
-}
 
-/// Reads all of `buf` from `at` on.
-fn read_all(file: &Option<File>, at: u64, buf: &mut [u8]) -> Result<(), Failed> {
-    let Some(file) = file else {
-        return Err(Failed);
-    };
-    file.read_exact_at(buf, at).map_err(|_| Failed)
-}
-
-/// Writes all of `bytes` from `at` on.
-fn write_all(file: &Option<File>, at: u64, bytes: &[u8]) -> Result<(), Failed> {
-    let Some(file) = file else {
-        return Err(Failed);
-    };
-    file.write_all_at(bytes, at).map_err(|_| Failed)
-}
-
-/// Compares 24 bytes with those from `at` on.
-fn check_all(file: &Option<File>, at: u64, want: &[u8; 24]) -> Result<(), CheckFault>
-    ensures { CarriesOther result want.now }
-{
-    let mut found = [0u8; 24];
-    if read_all(file, at, &mut found).is_err() {
-        return Err(CheckFault::Failed);
+    /// The system's number of the cause of its last fault, where it told one. Constant time.
+    pub fn cause(&self) -> Option<i32> {
+        self.cause
     }
-    if found == *want {
-        return Ok(());
-    }
-    Err(CheckFault::Differs(found))
+}
+
+/// Reads all of `buf` from `at` on. The error is the system's number of the cause, where it tells one.
+fn read_all(file: &Option<File>, at: u64, buf: &mut [u8]) -> Result<(), Option<i32>> {
+    let Some(file) = file else {
+        return Err(None);
+    };
+    file.read_exact_at(buf, at).map_err(|e| e.raw_os_error())
+}
+
+/// Writes all of `bytes` from `at` on. The error is the system's number of the cause, where it tells one.
+fn write_all(file: &Option<File>, at: u64, bytes: &[u8]) -> Result<(), Option<i32>> {
+    let Some(file) = file else {
+        return Err(None);
+    };
+    file.write_all_at(bytes, at).map_err(|e| e.raw_os_error())
 }
 
 impl Disk for FileDisk {
@@ -135,8 +128,9 @@ impl Disk for FileDisk {
     fn read(&mut self, at: u64, buf: &mut [u8]) -> Result<(), Failed> {
         match read_all(&self.file, at, buf) {
             Ok(()) => Ok(()),
-            Err(Failed) => {
+            Err(cause) => {
                 self.faults = self.faults.saturating_add(1);
+                self.cause = cause;
                 Err(Failed)
             }
         }
@@ -145,24 +139,23 @@ impl Disk for FileDisk {
     fn write(&mut self, at: u64, bytes: &[u8]) -> Result<(), Failed> {
         match write_all(&self.file, at, bytes) {
             Ok(()) => Ok(()),
-            Err(Failed) => {
+            Err(cause) => {
                 self.faults = self.faults.saturating_add(1);
+                self.cause = cause;
                 Err(Failed)
             }
         }
     }
 
     fn check(&mut self, at: u64, want: &[u8; 24]) -> Result<(), CheckFault> {
-        match check_all(&self.file, at, want) {
-            Ok(()) => Ok(()),
-            Err(CheckFault::Failed) => {
-                self.faults = self.faults.saturating_add(1);
-                Err(CheckFault::Failed)
-            }
-            Err(CheckFault::Differs(found)) => {
-                self.mismatches = self.mismatches.saturating_add(1);
-                Err(CheckFault::Differs(found))
-            }
+        let mut found = [0u8; 24];
+        if self.read(at, &mut found).is_err() {
+            return Err(CheckFault::Failed);
         }
+        if found == *want {
+            return Ok(());
+        }
+        self.mismatches = self.mismatches.saturating_add(1);
+        Err(CheckFault::Differs(found))
     }
 }

@@ -2,11 +2,14 @@
 
 use sj_base::ids::Task;
 
-/// What each worker calls before and after the kernel of each task that it runs, outside of any
+/// What a run calls before its first task, and each worker before and after the kernel of each task that it runs, outside of any
 /// lock, also where it is the only worker.
 ///
 /// It may wait, and it changes nothing that a contract sees.
 pub trait Gate: Sync {
+    /// The run begins, and has so many tasks in all.
+    fn begins(&self, _tasks: usize) {}
+
     fn entered(&self, task: Task);
 
     fn left(&self, task: Task);

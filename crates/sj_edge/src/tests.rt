@@ -111,6 +111,7 @@ fn sure_devices_do_what_they_are_asked(rt: HostRuntime) -> Result<(), Fail> {
     same(&rt, disk.bytes()[24], 1);
 
     let gate = OpenGate;
+    gate.begins(1);
     gate.entered(Task(0));
     gate.left(Task(0));
     Ok(())
@@ -276,8 +277,9 @@ fn a_file_disk_keeps_bytes_in_its_file(rt: HostRuntime) -> Result<(), Fail> {
 #[test]
 fn a_file_disk_fails_where_the_system_does(rt: HostRuntime) -> Result<(), Fail> {
     let mut full = FileDisk::at(&rt, "/dev/full", 32);
+    same(&rt, full.cause(), None);
     same(&rt, full.write(0, &[1]), Err(Failed));
-    same(&rt, full.faults(), 1);
+    same(&rt, (full.faults(), full.cause()), (1, Some(28)));
 
     let mut disks = Vec::new(rt.alloc());
     let closed = FileDisk::at(&rt, "no_such_folder/disk", 32);

@@ -1,7 +1,7 @@
 -- The calls of the board as turns of a worker.
-use Rattle.std.proofs.Common.{◌≡◌, ◌≢◌, ℕ, ◌<◌, Bool, true, false, List, [], ◌∷◌, ◌++◌, length, refl, sym, ap, ◌∙◌, subst, Option, None, Some}
+use Rattle.std.proofs.Common.{◌≡◌, ◌≢◌, ℕ, ◌<◌, Bool, true, false, List, [], ◌∷◌, ◌++◌, length, refl, sym, ap, ◌∙◌, ◌⊎◌, subst, Option, None, Some}
 use Rattle.std.specs.Prelude.{IfSome, IsSomeAnd, option_map, slice_index_or, slice_set}
-use Rattle.std.proofs.lemmas.List.{get_or-set_same}
+use Rattle.std.proofs.lemmas.List.{append_assoc, get_or-set_same}
 use Rattle.sj_base.specs.declared.ids.Cell.{Cell}
 use Rattle.sj_base.specs.declared.ids.Task.{Task}
 use Rattle.sj_base.specs.declared.ids.Worker.{Worker}
@@ -15,18 +15,18 @@ use Rattle.sj_core.specs.Needs.{node_of}
 use Rattle.sj_core.specs.Step.{after, array_at, mover_of}
 use Rattle.sj_core.proofs.Reading.{transfer-inside, worker-same}
 use Rattle.sj_core.proofs.States.{one-mover, state_of-more}
-use Rattle.sj_machine.specs.Board.{BoardState, EndsMoveOf, OnlyDisksChangeOn, empty_hand, failed, first_fault, hand_of, has_event, stopped, transfer_of}
-use Rattle.sj_machine.specs.BoardRow.{key_of, row_of_number}
+use Rattle.sj_machine.specs.Board.{BoardState, EndsMoveOf, empty_hand, failed, first_fault, hand_of, has_event, stopped, transfer_of}
+use Rattle.sj_machine.specs.BoardRow.{key_of}
 use Rattle.sj_machine.specs.BoardSound.{IsSoundBoard}
 use Rattle.sj_machine.specs.Sparing.{Spares, SparesMoved}
 use Rattle.sj_machine.specs.Standing.{CanHappen, IsMovingIn, IsMovingOut, IsTileMoved, IsTileOf, Standing, is_node, state, with_event}
 use Rattle.sj_machine.specs.declared.hand.Hand.{Hand}
 use Rattle.sj_machine.specs.declared.fault.RunFault.{RunFault}
 use Rattle.sj_engine.specs.Stage.{HasClaimedRow, IsCarried, IsFreeRow, IsStoppedRow, MovesRow, row_in}
-use Rattle.sj_engine.specs.Turn.{Happens, IsTurnOf, NothingHappens, OneHappensAtMost}
+use Rattle.sj_engine.specs.Turn.{Happens, IsTurnOf, NothingHappens, PutsUnitBack}
 use Rattle.sj_engine.proofs.OtherRows.{IsBy}
 use Rattle.sj_engine.proofs.OwnRows.{claimed-row, phase-of, row-transfer, some-same, transfer-of}
-use Rattle.sj_engine.proofs.Turning.{turn-event, turn-hand}
+use Rattle.sj_engine.proofs.Turning.{put-quiet, turn-event, turn-hand}
 
 -- the state after one event more
 pub state-after : {D : Type 0} (b : BoardState D) (y : BoardState D) (e : Event) → y.run ≡ with_event b.run e → state y.run ≡ after b.run.program b.run.machine (state b.run) e
@@ -53,16 +53,17 @@ module _ {D : Type 0} (size faults mismatches : D → ℕ) (held : D → Option 
       first-kept None f e = (let k : ◌≡◌ {A = Option RunFault} (Some f) None = e in cc)
       first-kept (Some g) f e = (let k : ◌≡◌ {A = Option RunFault} (Some g) None = e in cc)
 
-  -- what fails after the disks alone have changed
-  pub failed-after : (a b x y : BoardState D) (fault : RunFault) → x ≡ b → y ≡ failed x w fault → OnlyDisksChangeOn a b → IsTurnOf faults mismatches w a y
-  failed-after a b x y fault ex q only =
+  -- what fails after the worker's unit was put back
+  pub failed-after : (a b x y : BoardState D) (fault : RunFault) → x ≡ b → y ≡ failed x w fault → PutsUnitBack w a b → IsTurnOf faults mismatches w a y
+  failed-after a b x y fault ex q put =
       let t = failed-turn b x y fault ex q in
+      let quiet = put-quiet faults mismatches w a b put in
       record {
-        key = t.key ∙ ap key_of only;
-        others = λ n other. t.others n other ∙ ap (λ (k : BoardState D). row_of_number k n) only;
-        one_event = subst (λ (k : BoardState D). OneHappensAtMost k y) only t.one_event;
-        events = (t.events.0, t.events.1 ∙ ap (λ (k : BoardState D). (row_in k w).events ++ t.events.0) only);
-        no_fault = λ none. sym (ap (λ (k : BoardState D). k.fault) only) ∙ t.no_fault none;
+        key = t.key ∙ quiet.key;
+        others = λ n other. t.others n other ∙ quiet.others n other;
+        one_event = subst (λ (l : List Event). (y.run.trace ≡ l) ⊎ ((e : Event) × (y.run.trace ≡ l ++ e ∷ []))) quiet.no_event t.one_event;
+        events = (quiet.events.0 ++ t.events.0, t.events.1 ∙ ap (λ (l : List Event). l ++ t.events.0) quiet.events.1 ∙ append_assoc (row_in a w).events quiet.events.0 t.events.0);
+        no_fault = λ none. sym quiet.fault ∙ t.no_fault none;
         counts = λ none. absurd (never (ap (λ (k : BoardState D). k.fault) (q ∙ ap (λ (k : BoardState D). failed k w fault) ex)) none);
       }
     where
@@ -87,14 +88,18 @@ module _ {D : Type 0} (size faults mismatches : D → ℕ) (held : D → Option 
     inside-hands : w.0 < length b.hands
     inside-hands = subst (λ n. w.0 < n) (sym ((subst (λ (k : BoardState D). IsSoundBoard size faults mismatches held k) ez sound).inside.hands_agree.every_worker)) known
 
-    pub failed-row : (fault : RunFault) → y ≡ failed x w fault → (row_in b w).hand.has_stopped ≡ false → (row_in b w).hand.given ≡ None → IsFreeRow (row_in y w)
-    failed-row fault q goes none =
+    pub failed-row : (fault : RunFault) → y ≡ failed x w fault → (row_in b w).hand.has_stopped ≡ false → (row_in b w).hand.given ≡ None → (row_in b w).hand.unit ≡ None → IsFreeRow (row_in y w)
+    failed-row fault q goes none free =
         hand-put b y (record (hand_of b w) { task = None }) inside-hands (ap (λ (k : BoardState D). k.hands) (q ∙ ap (λ (k : BoardState D). failed k w fault) ex))
-        ∙ ap (λ (g : Option Task). let h : Hand = record { given = g; task = None; has_stopped = (hand_of b w).has_stopped } in h) none
-        ∙ ap (λ (g : Bool). let h : Hand = record { given = None; task = None; has_stopped = g } in h) goes
+        ∙ ap (λ (g : Option Task). let h : Hand = record { given = g; task = None; unit = (hand_of b w).unit; has_stopped = (hand_of b w).has_stopped } in h) none
+        ∙ ap (λ (g : Option Cell). let h : Hand = record { given = None; task = None; unit = g; has_stopped = (hand_of b w).has_stopped } in h) free
+        ∙ ap (λ (g : Bool). let h : Hand = record { given = None; task = None; unit = None; has_stopped = g } in h) goes
 
-    pub stopped-row : y ≡ stopped x w → IsStoppedRow (row_in y w)
-    stopped-row q = ap (λ (h : Hand). h.has_stopped) (hand-put b y (record (hand_of b w) { task = None; has_stopped = true }) inside-hands (ap (λ (k : BoardState D). k.hands) (q ∙ ap (λ (k : BoardState D). stopped k w) ex)))
+    pub stopped-row : y ≡ stopped x w → (row_in b w).hand.given ≡ None → (row_in b w).hand.unit ≡ None → IsStoppedRow (row_in y w)
+    stopped-row q none free =
+        hand-put b y (record (hand_of b w) { task = None; has_stopped = true }) inside-hands (ap (λ (k : BoardState D). k.hands) (q ∙ ap (λ (k : BoardState D). stopped k w) ex))
+        ∙ ap (λ (g : Option Task). let h : Hand = record { given = g; task = None; unit = (hand_of b w).unit; has_stopped = true } in h) none
+        ∙ ap (λ (g : Option Cell). let h : Hand = record { given = None; task = None; unit = g; has_stopped = true } in h) free
 
   -- ---- events
 

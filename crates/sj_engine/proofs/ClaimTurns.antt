@@ -29,10 +29,13 @@ use Rattle.sj_core.specs.Step.{array_at}
 use Rattle.sj_core.proofs.Reading.{progress-same, worker-same}
 use Rattle.sj_core.proofs.Readiness.{Contains-filter}
 use Rattle.sj_core.proofs.Replicas.{same_worker-refl}
-use Rattle.sj_machine.specs.Board.{BoardState, HasTask, IsIdle, WasGiven, empty_hand, given_back, given_next, hand_of, has_claimed, room_of}
+use Rattle.sj_machine.specs.Board.{BoardState, HasTask, IsIdle, WasGiven, empty_hand, given_back, given_from, hand_of, has_claimed}
 use Rattle.sj_machine.specs.BoardRow.{key_of}
-use Rattle.sj_machine.specs.BoardSound.{IsSoundBoard}
-use Rattle.sj_pool.specs.Pool.{task_for}
+use Rattle.sj_machine.specs.BoardSound.{IsSoundBoard, times_pooled}
+use Rattle.sj_pool.specs.Pool.{home}
+use Rattle.sj_machine.proofs.Pooling.{home-inside, times-put}
+use Rattle.sj_machine.specs.Filling.{entry_of}
+use Rattle.sj_machine.specs.Passing.{HasLost}
 use Rattle.sj_machine.specs.Releasing.{EndsTask}
 use Rattle.sj_machine.specs.Running.{AreResultsFor, IsResultIn}
 use Rattle.sj_machine.specs.Sparing.{Spares}
@@ -143,7 +146,7 @@ module _ {D : Type 0} (size faults mismatches : D → ℕ) (held : D → Option 
           let here : IsSoundBoard size faults mismatches held b = subst (λ (k : BoardState D). IsSoundBoard size faults mismatches held k) ez sound in
           let inside : w.0 < length x.hands = subst (λ n. w.0 < n) (sym (ap (λ (k : BoardState D). length k.hands) ex ∙ here.inside.hands_agree.every_worker)) known in
           hand-put size faults mismatches held w x y (record (hand_of x w) { task = None }) inside (ap (λ (k : BoardState D). k.hands) ends.leaves)
-          ∙ ap (λ (h : Hand). let g : Hand = record { given = h.given; task = None; has_stopped = h.has_stopped } in g) (ap (λ (k : BoardState D). hand_of k w) ex ∙ r.hand)
+          ∙ ap (λ (h : Hand). let g : Hand = record { given = h.given; task = None; unit = h.unit; has_stopped = h.has_stopped } in g) (ap (λ (k : BoardState D). hand_of k w) ex ∙ r.hand)
 
   -- ---- the task that a worker is given
 
@@ -154,20 +157,21 @@ module _ {D : Type 0} (size faults mismatches : D → ℕ) (held : D → Option 
     inside-hands : w.0 < length b.hands
     inside-hands = subst (λ n. w.0 < n) (sym claim-sound.inside.hands_agree.every_worker) known
 
-    pub next-turn : y ≡ given_next x w → IsTurnOf faults mismatches w b y
-    next-turn q =
-        let e : y ≡ given_next b w = q ∙ ap (λ (k : BoardState D). given_next k w) ex in
-        turn-hand faults mismatches w b (record (hand_of b w) { given = task_for b.pool w.0 (room_of b w) }) y (ap (λ (k : BoardState D). k.run) e) (ap (λ (k : BoardState D). k.hands) e) (λ none. sym (ap (λ (k : BoardState D). k.fault) e) ∙ none)
+    module _ (o : Option Task) (q : y ≡ given_from x w o y.pool) where
+      next-is : y ≡ given_from b w o y.pool
+      next-is = q ∙ ap (λ (k : BoardState D). given_from k w o y.pool) ex
 
-    pub next-fault : y ≡ given_next x w → y.fault ≡ b.fault
-    next-fault q = ap (λ (k : BoardState D). k.fault) q ∙ ap (λ (k : BoardState D). k.fault) ex
+      pub next-turn : IsTurnOf faults mismatches w b y
+      next-turn = turn-hand faults mismatches w b (record (hand_of b w) { given = o }) y (ap (λ (k : BoardState D). k.run) next-is) (ap (λ (k : BoardState D). k.hands) next-is) (λ none. sym (ap (λ (k : BoardState D). k.fault) next-is) ∙ none)
 
-    pub next-hand : y ≡ given_next x w → IsFreeRow (row_in b w) → (o : Option Task) → o ≡ task_for x.pool w.0 (room_of x w) → hand_of y w ≡ record { given = o; task = None; has_stopped = false }
-    next-hand q free o is =
-        let e : y ≡ given_next b w = q ∙ ap (λ (k : BoardState D). given_next k w) ex in
-        hand-put size faults mismatches held w b y (record (hand_of b w) { given = task_for b.pool w.0 (room_of b w) }) inside-hands (ap (λ (k : BoardState D). k.hands) e)
-        ∙ ap (λ (h : Hand). let g : Hand = record { given = task_for b.pool w.0 (room_of b w); task = h.task; has_stopped = h.has_stopped } in g) free
-        ∙ ap (λ (u : Option Task). let g : Hand = record { given = u; task = None; has_stopped = false } in g) (sym (is ∙ ap (λ (k : BoardState D). task_for k.pool w.0 (room_of k w)) ex))
+      pub next-fault : y.fault ≡ b.fault
+      next-fault = ap (λ (k : BoardState D). k.fault) next-is
+
+      pub next-hand : IsFreeRow (row_in b w) → (r : Option Task) → o ≡ r → hand_of y w ≡ record { given = r; task = None; unit = None; has_stopped = false }
+      next-hand free r is =
+          hand-put size faults mismatches held w b y (record (hand_of b w) { given = o }) inside-hands (ap (λ (k : BoardState D). k.hands) next-is)
+          ∙ ap (λ (h : Hand). let g : Hand = record { given = o; task = h.task; unit = h.unit; has_stopped = h.has_stopped } in g) free
+          ∙ ap (λ (u : Option Task). let g : Hand = record { given = u; task = None; unit = None; has_stopped = false } in g) is
 
     module _ (t : Task) (given : hand_of b w ≡ given_hand t) where
       pub was-given : WasGiven x w t
@@ -185,7 +189,16 @@ module _ {D : Type 0} (size faults mismatches : D → ℕ) (held : D → Option 
       back-row q =
           let e : y ≡ given_back b t w = q ∙ ap (λ (k : BoardState D). given_back k t w) ex in
           hand-put size faults mismatches held w b y (record (hand_of b w) { given = None }) inside-hands (ap (λ (k : BoardState D). k.hands) e)
-          ∙ ap (λ (h : Hand). let g : Hand = record { given = None; task = h.task; has_stopped = h.has_stopped } in g) given
+          ∙ ap (λ (h : Hand). let g : Hand = record { given = None; task = h.task; unit = h.unit; has_stopped = h.has_stopped } in g) given
+
+      -- the pool has the task again
+      pub back-pool : y ≡ given_back x t w → HasLost (Some t) y.pool b.pool
+      back-pool q u =
+          let e : y ≡ given_back b t w = q ∙ ap (λ (k : BoardState D). given_back k t w) ex in
+          let fits = claim-sound.inside.pool_fits in
+          let staffed : w.0 < b.pool.workers = subst (λ n. w.0 < n) (sym fits.workers) known in
+          let here : home b.pool.policy w.0 < length b.pool.queues = subst (λ n. home b.pool.policy w.0 < n) (sym fits.queues) (home-inside b.pool.policy b.pool.workers w.0 staffed) in
+          sym (ap (λ (k : BoardState D). times_pooled k.pool u) e ∙ times-put b.pool.policy b.pool.queues (home b.pool.policy w.0) (entry_of b.run.program t) u here)
 
       pub back-fault : y ≡ given_back x t w → y.fault ≡ b.fault
       back-fault q = ap (λ (k : BoardState D). k.fault) q ∙ ap (λ (k : BoardState D). k.fault) ex
@@ -209,7 +222,7 @@ module _ {D : Type 0} (size faults mismatches : D → ℕ) (held : D → Option 
             let staff : w.0 < length s.workers = subst (λ n. w.0 < n) (sym (claim-sound.run.coherent.state.rows.workers ∙ claim-sound.run.run.machine.workers)) known in
             claimed-row y w t
             (hand-put size faults mismatches held w b y (record (hand_of b w) { given = None; task = Some t }) inside-hands (ap (λ (k : BoardState D). k.hands) e)
-            ∙ ap (λ (h : Hand). let g : Hand = record { given = None; task = Some t; has_stopped = h.has_stopped } in g) given)
+            ∙ ap (λ (h : Hand). let g : Hand = record { given = None; task = Some t; unit = h.unit; has_stopped = h.has_stopped } in g) given)
             (ap (λ (k : State). progress k t) s' ∙ progress-same s t (Claimed w) inside)
             (ap (λ (k : State). transfer k w) s' ∙ ap (λ (k : WorkerState). k.transfer) (worker-same s w _ staff) ∙ none-moves (transfer s w) refl)
           where

@@ -1,7 +1,11 @@
 -- A board may cross threads, where its disks may.
 use denote.RattleType.{RattleType}
-use denote.Param.Send.{IsSend, sendable}
+use denote.Param.Send.{IsSend, IsSync, recorded_send, recorded_sync, sendable, shr_sync, struct_send, struct_sync}
+use denote.Ref.{NamedLft}
+use denote.Struct.Declared.{Declared, shape}
+use denote.Struct.Struct.{Struct}
 use Rattle.std.proofs.Crossing.{crosses}
+use Rattle.std.specs.contracts.alloc.Global as Global
 use Rattle.sj_base.proofs.program.Program.TheSendSync as Program
 use Rattle.sj_base.proofs.program.Machine.TheSendSync as Machine
 use Rattle.sj_base.proofs.trace.Trace.TheSendSync as Trace
@@ -11,15 +15,24 @@ use Rattle.sj_node.proofs.store.NodeStore.TheSendSync as NodeStore
 use Rattle.sj_pool.proofs.tree.Tree.TheLaws.TheKnot as Trees
 use Rattle.sj_pool.specs.contracts.pool.Pool as Pool
 use Rattle.sj_edge.specs.declared.disk.Disk.{Ghosts}
-use Rattle.sj_disk.proofs.disk_set.DiskSet.TheSendSync as Disks
-use Rattle.sj_disk.specs.contracts.disk_set.DiskSet as DiskSet
+use Rattle.sj_disk.proofs.rack.Slot.TheSendSync as Slot
+use Rattle.sj_disk.specs.contracts.rack.Slot as Slots
+use Rattle.sj_disk.specs.contracts.lending_set.LendingSet as LendingSet
 use Rattle.sj_machine.proofs.copies.Copies.TheSendSync as Copies
 use Rattle.sj_machine.proofs.delivered.Delivered.TheSendSync as Delivered
 use Rattle.sj_machine.proofs.gifts.Gifts.TheSendSync as Gifts
 use Rattle.sj_machine.proofs.hold.Hold.TheSendSync as Hold
 use Rattle.sj_machine.specs.contracts.board.Board as Board
 use Rattle.sj_machine.specs.contracts.run_state.RunState as RunState
+use Rattle.sj_desk.proofs.desk.Desk.TheSendSync as Desks
+use Rattle.sj_desk.proofs.seat.DeskSeat.TheSendSync as Seats
+use Rattle.sj_desk.specs.contracts.desk.Desk as Desk
+use Rattle.sj_engine.specs.contracts.member.Stage as Stage
+use Rattle.sj_engine.specs.contracts.member.Member as Member
+use Rattle.sj_engine.specs.contracts.noted_board.NotedBoard as NotedBoard
+use Rattle.sj_engine.specs.contracts.noted_board.NotedBoardKeyed.TheImpl as Keyed
 use Rattle.sj_engine.specs.contracts.shared_board.SharedBoard as SharedBoard
+use Rattle.sj_engine.specs.contracts.site.Site as Site
 
 deps-send : IsSend Deps.the_row
 deps-send = search (sendable, crosses) depth 60 fits 20000
@@ -28,8 +41,11 @@ pool-send : IsSend Pool.the_row
 pool-send = search (crosses, Trees.crosses, sendable) depth 60
 
 module _ (D : RattleType) (g : Ghosts D.Denot) (s : IsSend D) where
-  disks-send : IsSend (DiskSet.the_row D g)
-  disks-send = search (sendable, crosses, s, Disks.the_send) depth 60
+  slot-send : IsSend (Slots.the_row D)
+  slot-send = Slot.the_send D s
+
+  disks-send : IsSend (LendingSet.the_row D g)
+  disks-send = search (sendable, crosses, slot-send) depth 60
 
   run-send : IsSend (RunState.the_row D g)
   run-send = search (sendable, crosses, Program.the_send, Program.the_sync, Machine.the_send, Trace.the_send, Progress.the_send, NodeStore.the_send, Copies.the_send, Hold.the_send, disks-send) depth 60
@@ -37,5 +53,30 @@ module _ (D : RattleType) (g : Ghosts D.Denot) (s : IsSend D) where
   board-send : IsSend (Board.the_row D g)
   board-send = search (sendable, crosses, run-send, deps-send, pool-send, Gifts.the_send, Delivered.the_send) depth 60
 
-  pub shared_send : IsSend (SharedBoard.the_row D g)
-  shared_send = search (sendable, crosses, board-send) depth 60
+  shared-send : IsSend (SharedBoard.the_row D g)
+  shared-send = search (sendable, crosses, board-send) depth 60
+
+  pub noted_send : IsSend (NotedBoard.the_row D g)
+  noted_send = search (sendable, crosses, shared-send) depth 60
+
+  stage-send : IsSend (Stage.the_field).row
+  stage-send = search (sendable, crosses) depth 60
+
+  -- a worker with its seat
+  pub member_send : IsSend (Member.the_row D g)
+  member_send =
+      let T : Declared = Member.the_type D g in
+      recorded_send (Struct (shape T)) T.D T.to T.to_one (struct_send (shape T) (Seats.the_send _ noted_send, (stage-send, tt)))
+
+  desk-sync : IsSync (Desk.the_row (NotedBoard.the_row D g) (Keyed.ghosts D g Keyed.no_dict Keyed.no_dict))
+  desk-sync = Desks.the_sync _ _ noted_send
+
+  heap-sync : IsSync (Global.the_field).row
+  heap-sync = search sendable depth 60
+
+  -- what all workers have at hand
+  pub site_sync : (ℓ : NamedLft) (C G R : RattleType) → IsSync C → IsSync G → IsSync R → IsSync (Site.the_row ℓ C G R D g)
+  site_sync ℓ C G R codelets gate runtime =
+      let T : Declared = Site.the_type ℓ C G R D g in
+      recorded_sync (Struct (shape T)) T.D T.to T.to_one (struct_sync (shape T)
+      (shr_sync _ _ _ runtime, (heap-sync, (shr_sync _ _ _ desk-sync, (shr_sync _ _ _ Program.the_sync, (shr_sync _ _ _ codelets, (shr_sync _ _ _ gate, tt)))))))

@@ -4,6 +4,7 @@ mod BoardTurns
 mod ClaimTurns
 mod DeskTurns
 mod KernelFacts
+mod Looking
 mod MoveTurns
 mod OperandLists
 mod OtherRows
@@ -12,6 +13,9 @@ mod ResultLists
 mod StepFacts
 mod StepTurns
 mod Turning
+mod UnitTurns
+pub mod Minding
 pub mod Outcomes
+pub mod Posting
 pub mod Seating
 pub mod Crossings

@@ -86,10 +86,10 @@ valid-some : (o : Option Array) → is_some o ≡ true → (a : Array) × (o ≡
 valid-some None h = absurd (false≢true h)
 valid-some (Some a) h = (a, refl)
 
-or-left : (a b : Bool) → a ≡ true → (a || b) ≡ true
+pub or-left : (a b : Bool) → a ≡ true → (a || b) ≡ true
 or-left a b h = ap (λ x. x || b) h
 
-or-right : (a b : Bool) → b ≡ true → (a || b) ≡ true
+pub or-right : (a b : Bool) → b ≡ true → (a || b) ≡ true
 or-right true b h = refl
 or-right false b h = h
 

@@ -13,7 +13,7 @@ use Rattle.sj_base.specs.declared.program.Machine.{Machine}
 use Rattle.sj_base.specs.declared.program.Program.{Program}
 use Rattle.sj_base.specs.declared.trace.Event.{Event}
 use Rattle.sj_base.specs.Array.{Array}
-use Rattle.sj_core.specs.Legal.{IsComplete, IsLegal}
+use Rattle.sj_core.specs.Legal.{IsComplete}
 use Rattle.sj_core.specs.Machine.{CellState, Invalid, State, cell_state, is_valid, no_replica, opening, replica, replica_in, writes}
 use Rattle.sj_core.proofs.Reading.{no_row}
 use Rattle.sj_core.specs.Needs.{Block}
@@ -33,7 +33,8 @@ use Rattle.sj_machine.specs.declared.fault.RunFault.{RunFault}
 use Rattle.sj_machine.specs.declared.fault.RunFault.TheVariants.{Damaged, DiskFault, OutOfMemory}
 use Rattle.sj_machine.specs.declared.hand.Hand.{Hand}
 use Rattle.sj_engine.specs.Outcome.{AllTell, HoldBlocks, HoldsBlockAt, IsCausedBy, WantsLastWritten}
-use Rattle.sj_engine.specs.Run.{AllStopped, IsOutcome, NoneHasTask}
+use Rattle.sj_engine.specs.Run.{AllStopped, IsOutcome, NoneHasTask, NoneHasUnit}
+use Rattle.sj_engine.specs.Stage.{stopped_hand}
 
 -- the result where memory is wanting
 abbrev pub wanting : {A : Type 0} → Result A RunFault
@@ -94,14 +95,17 @@ module _ {D : Type 0} (size faults mismatches : D → ℕ) (held : D → Option 
     -- ---- a board whose workers have stopped
 
     module _ (counts : b.fault ≡ None → CountsStay faults mismatches b.run.opened b.run.disks.disks) (stopped : AllStopped b.hands) where
-      has-stopped : (i : ℕ) → i < length b.hands → (get_or b.hands i (record { given = None; task = None; has_stopped = false })).has_stopped ≡ true
-      has-stopped i inside = All-get_or (λ (h : Hand). h.has_stopped ≡ true) b.hands i (record { given = None; task = None; has_stopped = false }) inside stopped
+      has-stopped : (i : ℕ) → i < length b.hands → get_or b.hands i (record { given = None; task = None; unit = None; has_stopped = false }) ≡ stopped_hand
+      has-stopped i inside = All-get_or (λ (h : Hand). h ≡ stopped_hand) b.hands i (record { given = None; task = None; unit = None; has_stopped = false }) inside stopped
 
       pub none-has : NoneHasTask b.hands
-      none-has = All-from_get_or (λ (h : Hand). h.task ≡ None) b.hands (record { given = None; task = None; has_stopped = false }) (λ i inside. sound.inside.stops.no_task (record { 0 = i }) (has-stopped i inside))
+      none-has = All-from_get_or (λ (h : Hand). h.task ≡ None) b.hands (record { given = None; task = None; unit = None; has_stopped = false }) (λ i inside. ap (λ (h : Hand). h.task) (has-stopped i inside))
+
+      pub none-unit : NoneHasUnit b.hands
+      none-unit = All-from_get_or (λ (h : Hand). h.unit ≡ None) b.hands (record { given = None; task = None; unit = None; has_stopped = false }) (λ i inside. ap (λ (h : Hand). h.unit) (has-stopped i inside))
 
       is-over : IsComplete s ⊎ IsTrue (is_some b.fault)
-      is-over = sound.inside.stops.over (record { 0 = 0 }) (has-stopped 0 (omega (arith, sound.inside.hands_agree.every_worker, sound.run.run.machine.workers, sound.run.run.machine.some_worker)))
+      is-over = sound.inside.stops.over (record { 0 = 0 }) (ap (λ (h : Hand). h.has_stopped) (has-stopped 0 (omega (arith, sound.inside.hands_agree.every_worker, sound.run.run.machine.workers, sound.run.run.machine.some_worker))))
 
       complete : b.fault ≡ None → IsComplete s
       complete none = elim is-over [

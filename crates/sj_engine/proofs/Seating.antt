@@ -1,5 +1,5 @@
 -- The seats of a run: as they are dealt, and what a board tells when all of them have stopped.
-use Rattle.std.proofs.Common.{◌≡◌, ℕ, ◌+◌, ◌<◌, ◌∙◌, Option, Some, None, List, true, ap, arith, inl, inr, length, refl, subst, sym}
+use Rattle.std.proofs.Common.{◌≡◌, ℕ, ◌+◌, ◌<◌, ◌∙◌, Option, Some, None, List, ap, arith, inl, inr, refl, subst, sym}
 use Rattle.std.specs.Prelude.{All, IsSomeAnd}
 use Rattle.std.specs.List.{slice_index_or}
 use Rattle.std.proofs.lemmas.Bool.{cases_lt}
@@ -8,24 +8,26 @@ use Rattle.std.proofs.lemmas.List.Elements.{All-from_get_or, Contains-get_or}
 use Rattle.std.proofs.lemmas.List.FromFn.{get_or-map-range_with_len, length-map-range_with_len}
 use Rattle.sj_base.specs.declared.ids.Worker.{Worker}
 use Rattle.sj_base.specs.declared.program.Program.{Program}
-use Rattle.sj_desk.specs.Seats.{DeskFacts, HasEachNumber, HasRowLeft, IsWaiting, SeatFacts, new_seat, new_seats}
+use Rattle.sj_desk.specs.Seats.{DeskFacts, HasEachNumber, IsWaiting, SeatFacts, new_seat, new_seats}
 use Rattle.sj_machine.specs.Board.{BoardState, empty_hand, hand_in}
 use Rattle.sj_machine.specs.BoardRow.{BoardRow, row_of_number}
 use Rattle.sj_machine.specs.Preparing.{first_hands}
 use Rattle.sj_machine.specs.declared.hand.Hand.{Hand}
-use Rattle.sj_engine.specs.Run.{AllStopped, AreAt, worker_at}
-use Rattle.sj_engine.specs.Stage.{IsAt, IsFreeRow, IsStoppedRow, row_in}
+use Rattle.sj_engine.specs.Run.{AreAt, worker_at}
+use Rattle.sj_engine.specs.Stage.{IsAt, IsFreeRow, IsStoppedRow, row_in, stopped_hand}
+use Rattle.sj_engine.specs.Noted.{noted_row}
+use Rattle.sj_engine.specs.declared.noted_board.NotedBoard.{NotedBoard}
 
-module _ {D : Type 0} (desk : DeskFacts (BoardState D)) where
+module _ {D : Type 0} (desk : DeskFacts (NotedBoard D)) where
   -- ---- as they are dealt
 
-  free-hand : (p : Program) → desk.opening.hands ≡ first_hands p → (w : Worker) → hand_in desk.opening.hands w ≡ empty_hand
+  free-hand : (p : Program) → desk.opening.board.hands ≡ first_hands p → (w : Worker) → hand_in desk.opening.board.hands w ≡ empty_hand
   free-hand p e w = ap (λ (hands : List Hand). hand_in hands w) e ∙ elim (cases_lt w.0 p.workers) [
     | inl inside ↦ get_or-replicate p.workers w.0 empty_hand empty_hand inside
     | inr past ↦ get_or_past (first_hands p) w.0 empty_hand (let l = length-replicate p.workers empty_hand in omega (arith, l, past))
   ]
 
-  pub dealt-free : (p : Program) → desk.opening.hands ≡ first_hands p → (seats : List (SeatFacts (BoardState D))) → seats ≡ new_seats desk → AreAt desk IsFreeRow seats
+  pub dealt-free : (p : Program) → desk.opening.board.hands ≡ first_hands p → (seats : List (SeatFacts (NotedBoard D))) → seats ≡ new_seats desk → AreAt desk IsFreeRow seats
   dealt-free p e seats dealt = subst (AreAt desk IsFreeRow) (sym dealt) (record {
     count = length-map-range_with_len (new_seat desk) 0 desk.seats;
     each = λ k d inside. subst (IsAt desk (worker_at k) IsFreeRow) (sym (get_or-map-range_with_len (new_seat desk) 0 desk.seats k k d inside (let n : 0 + k ≡ k = omega arith in n))) (record {
@@ -37,7 +39,7 @@ module _ {D : Type 0} (desk : DeskFacts (BoardState D)) where
 
   -- ---- when each left such a row
 
-  module _ (P : BoardRow → Type 0) (seats : List (SeatFacts (BoardState D))) (at : AreAt desk P seats) where
+  module _ (P : BoardRow D → Type 0) (seats : List (SeatFacts (NotedBoard D))) (at : AreAt desk P seats) where
     pub all-waiting : All (IsWaiting desk) seats
     all-waiting = All-from_get_or (IsWaiting desk) seats (new_seat desk 0) (λ i inside. (at.each i (new_seat desk 0) (subst (λ (n : ℕ). i < n) at.count inside)).waiting)
 
@@ -46,14 +48,6 @@ module _ {D : Type 0} (desk : DeskFacts (BoardState D)) where
 
   -- ---- when all have stopped
 
-  row-stopped : (b : BoardState D) (k : ℕ) (o : Option (BoardState D)) → IsSomeAnd o (λ left. IsStoppedRow (row_in left (worker_at k))) → IsSomeAnd o (λ left. row_of_number b k ≡ row_of_number left k) → IsStoppedRow (row_of_number b k)
+  pub row-stopped : (b : BoardState D) (k : ℕ) (o : Option (NotedBoard D)) → IsSomeAnd o (λ left. IsStoppedRow (row_in left.board (worker_at k))) → IsSomeAnd o (λ left. row_of_number b k ≡ row_of_number left.board k) → IsStoppedRow (row_of_number b k)
   row-stopped b k None stopped same = absurd stopped
-  row-stopped b k (Some left) stopped same = ap (λ (r : BoardRow). r.hand.has_stopped) same ∙ stopped
-
-  pub all-stopped : (b : BoardState D) (seats : List (SeatFacts (BoardState D))) → AreAt desk IsStoppedRow seats → length b.hands ≡ desk.seats → All (HasRowLeft row_of_number b) seats → AllStopped b.hands
-  all-stopped b seats at staffed rows = All-from_get_or (λ (h : Hand). h.has_stopped ≡ true) b.hands empty_hand (λ i inside.
-      let below : i < desk.seats = subst (λ (n : ℕ). i < n) staffed inside in
-      let its = at.each i (new_seat desk 0) below in
-      let same : IsSomeAnd (slice_index_or seats i (new_seat desk 0)).left (λ left. row_of_number b i ≡ row_of_number left i) =
-      subst (λ (n : ℕ). IsSomeAnd (slice_index_or seats i (new_seat desk 0)).left (λ left. row_of_number b n ≡ row_of_number left n)) its.number (rows i (new_seat desk 0) (subst (λ (n : ℕ). i < n) (sym at.count) below)) in
-      row-stopped b i (slice_index_or seats i (new_seat desk 0)).left its.row same)
+  row-stopped b k (Some left) stopped same = ap (λ (r : BoardRow D). r.hand) same ∙ stopped

@@ -11,7 +11,7 @@ use Rattle.sj_base.specs.declared.trace.Event.TheVariants.{Move}
 use Rattle.sj_base.specs.Array.{Array}
 use Rattle.sj_core.specs.declared.progress.Progress.TheVariants.{Claimed}
 use Rattle.sj_core.specs.declared.progress.Transfer.{Transfer}
-use Rattle.sj_core.specs.Machine.{State, WorkerState, is_entry, progress, replica, transfer, with_transfer}
+use Rattle.sj_core.specs.Machine.{State, WorkerState, is_entry, progress, replica, transfer, with_transfer, writes}
 use Rattle.sj_core.specs.Program.{dims_of}
 use Rattle.sj_core.specs.Step.{May, a_transfer, after, array_at, mover_of}
 use Rattle.sj_core.proofs.Reading.{entry-inside, worker-same}
@@ -21,6 +21,7 @@ use Rattle.sj_machine.specs.BoardRow.{key_of}
 use Rattle.sj_machine.specs.BoardSound.{IsSoundBoard}
 use Rattle.sj_machine.specs.Sparing.{Spares}
 use Rattle.sj_machine.specs.Standing.{AllTell, CanHappen, IsShareOf, IsTileOf, is_node, state}
+use Rattle.sj_machine.specs.Units.{lent}
 use Rattle.sj_engine.specs.Stage.{HasClaimedRow, IsCarried, MovesRow, row_in}
 use Rattle.sj_engine.specs.Stepping.{IsShareCarried}
 use Rattle.sj_engine.specs.Turn.{IsTurnOf}
@@ -65,6 +66,15 @@ module _ {D : Type 0} (size faults mismatches : D → ℕ) (held : D → Option 
   move-row =
       moves-row y w t its (ap (λ (k : BoardState D). hand_of k w) its-event ∙ r.hand)
       (ap (λ (k : State). progress k t) its-state ∙ phase-of b w t (Claimed w) r.hand r.phase) its-transfer
+
+  -- it tells how many tasks have written the cell
+  pub move-counts : (row_in y w).writes ≡ Some (writes (state b.run) c)
+  move-counts =
+      ap (option_map (λ (k : Transfer). writes (state y.run) k.cell)) (sym (row-transfer y w) ∙ move-row.transfer)
+      ∙ ap (λ (k : State). Some (writes k c)) its-state
+
+  pub move-lent : lent y.run ≡ lent b.run
+  move-lent = ap (λ (k : BoardState D). lent k.run) its-event
 
   carried-now : (a : Array) → IsTileOf held b.run c from a → IsCarried held (key_of y) its (row_in y w) a
   carried-now a tile = record {

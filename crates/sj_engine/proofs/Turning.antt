@@ -1,6 +1,6 @@
 -- A worker's turn on the board leaves the rows of all others, in one step or in several.
 use Rattle.std.proofs.Common.{◌≡◌, ◌≢◌, ℕ, suc, Bool, true, false, cond, List, [], ◌∷◌, ◌++◌, map, refl, sym, ap, ◌∙◌, subst, Option, None, Some, arith, inl, inr, ◌⊎◌}
-use Rattle.std.specs.Prelude.{filter, is_some, nat_eq, option_map, slice_set, unwrap_or, if◌then◌else◌}
+use Rattle.std.specs.Prelude.{filter, is_some, nat_eq, option_and_then, option_map, slice_set, unwrap_or, if◌then◌else◌}
 use Rattle.std.specs.List.{Contains}
 use Rattle.std.proofs.lemmas.Bool.Decides.{Decides-eqb}
 use Rattle.std.proofs.lemmas.List.{append-nil, append_assoc, get_or-set_other}
@@ -24,16 +24,19 @@ use Rattle.sj_core.specs.Operands.{cells_of}
 use Rattle.sj_core.specs.Program.{dims_of, has_cell, same_cell}
 use Rattle.sj_core.specs.Step.{array_at}
 use Rattle.sj_core.proofs.States.{state_of-more}
+use Rattle.sj_disk.specs.Directory.{DiskState}
 use Rattle.sj_disk.specs.Holding.{CountsStay}
+use Rattle.sj_disk.specs.Units.{UnitState}
 use Rattle.sj_machine.specs.Agrees.{idle}
-use Rattle.sj_machine.specs.Board.{BoardState, empty_hand, hand_in, hand_of}
+use Rattle.sj_machine.specs.Board.{BoardState, empty_hand, hand_in, hand_of, has_taken}
+use Rattle.sj_machine.specs.Units.{unit_at, unit_of}
 use Rattle.sj_machine.specs.BoardRow.{BoardKey, BoardRow, is_event_of, key_of, row_of_number}
 use Rattle.sj_machine.specs.BoardSound.{IsSoundBoard}
 use Rattle.sj_machine.specs.Sparing.{SparesUsed, Spares}
 use Rattle.sj_machine.specs.Standing.{CanHappen, Standing, state, with_event}
 use Rattle.sj_machine.specs.declared.hand.Hand.{Hand}
 use Rattle.sj_engine.specs.Stage.{BeginsWith, row_in}
-use Rattle.sj_engine.specs.Turn.{IsSharedSound, IsTurnOf, NothingHappens}
+use Rattle.sj_engine.specs.Turn.{IsSharedSound, IsTurnOf, NothingHappens, PutsUnitBack}
 use Rattle.sj_engine.proofs.OtherRows.{IsBy, StaysFor, Step-stays}
 
 abbrev a_worker : ℕ → Worker
@@ -41,13 +44,13 @@ a_worker n = record { 0 = n }
 
 -- ---- rows
 
-abbrev row : Hand → Option Progress → Option (List Array) → WorkerState → Option Array → Option ℕ → List Event → BoardRow
-row hand phase operands holds carries writes events = record { hand = hand; phase = phase; operands = operands; holds = holds; carries = carries; writes = writes; events = events }
+abbrev row : {D : Type 0} → Hand → Option (UnitState D) → Option Progress → Option (List Array) → WorkerState → Option Array → Option ℕ → List Event → BoardRow D
+row hand unit phase operands holds carries writes events = record { hand = hand; unit = unit; phase = phase; operands = operands; holds = holds; carries = carries; writes = writes; events = events }
 
-row-same : (h h' : Hand) (p p' : Option Progress) (o o' : Option (List Array)) (l l' : WorkerState) (c c' : Option Array) (w w' : Option ℕ) (e e' : List Event) → h' ≡ h → p' ≡ p → o' ≡ o → l' ≡ l → c' ≡ c → w' ≡ w → e' ≡ e → row h' p' o' l' c' w' e' ≡ row h p o l c w e
-row-same h h' p p' o o' l l' c c' w w' e e' eh ep eo el ec ew ee =
-    ap (λ x. row x p' o' l' c' w' e') eh ∙ ap (λ x. row h x o' l' c' w' e') ep ∙ ap (λ x. row h p x l' c' w' e') eo ∙ ap (λ x. row h p o x c' w' e') el
-    ∙ ap (λ x. row h p o l x w' e') ec ∙ ap (λ x. row h p o l c x e') ew ∙ ap (λ x. row h p o l c w x) ee
+row-same : {D : Type 0} (h h' : Hand) (u u' : Option (UnitState D)) (p p' : Option Progress) (o o' : Option (List Array)) (l l' : WorkerState) (c c' : Option Array) (w w' : Option ℕ) (e e' : List Event) → h' ≡ h → u' ≡ u → p' ≡ p → o' ≡ o → l' ≡ l → c' ≡ c → w' ≡ w → e' ≡ e → row h' u' p' o' l' c' w' e' ≡ row h u p o l c w e
+row-same h h' u u' p p' o o' l l' c c' w w' e e' eh eu ep eo el ec ew ee =
+    ap (λ x. row x u' p' o' l' c' w' e') eh ∙ ap (λ x. row h x p' o' l' c' w' e') eu ∙ ap (λ x. row h u x o' l' c' w' e') ep ∙ ap (λ x. row h u p x l' c' w' e') eo ∙ ap (λ x. row h u p o x c' w' e') el
+    ∙ ap (λ x. row h u p o l x w' e') ec ∙ ap (λ x. row h u p o l c x e') ew ∙ ap (λ x. row h u p o l c w x) ee
 
 map-option : {X Y : Type 0} (f g : X → Y) (o : Option X) → ((x : X) → o ≡ Some x → f x ≡ g x) → option_map f o ≡ option_map g o
 map-option f g None h = refl
@@ -63,16 +66,16 @@ contains-has cs c h = list_any_at (λ d. same_cell d c) cs h.0 c h.1 (ap (λ (d 
 -- ---- another worker's row
 
 -- a worker's row of its parts
-abbrev row_of_parts : Program → Machine → State → Worker → Hand → List Event → BoardRow
-row_of_parts p m s v hand trace =
-    row hand (option_map (progress s) hand.task)
+abbrev row_of_parts : {D : Type 0} → DiskState D → Program → Machine → State → Worker → Hand → List Event → BoardRow D
+row_of_parts disks p m s v hand trace =
+    row hand (option_and_then (unit_at disks) hand.unit) (option_map (progress s) hand.task)
     (option_map (λ t. if is_running_on v (progress s t) then map (array_at p s (AtNode (node_of m v))) (cells_of p t v) else []) hand.task)
     (if is_some hand.task then worker_state s v else idle)
     (option_map (λ x. array_at p s x.from x.cell) (if is_some hand.task then transfer s v else None))
     (option_map (λ x. writes s x.cell) (if is_some hand.task then transfer s v else None))
     (filter (is_event_of v.0) trace)
 
-module _ (p : Program) (m : Machine) (s s' : State) (v : Worker) (hand : Hand) (trace trace' : List Event) (stays : StaysFor p m s s' v)
+module _ {D : Type 0} (disks : DiskState D) (p : Program) (m : Machine) (s s' : State) (v : Worker) (hand : Hand) (trace trace' : List Event) (stays : StaysFor p m s s' v)
     (mine : (u : Task) → hand.task ≡ Some u → is_task_of v (progress s u) ≡ true) (events : filter (is_event_of v.0) trace' ≡ filter (is_event_of v.0) trace) where
   same-transfer : transfer s' v ≡ transfer s v
   same-transfer = ap (λ (x : WorkerState). x.transfer) stays.holds
@@ -100,9 +103,9 @@ module _ (p : Program) (m : Machine) (s s' : State) (v : Worker) (hand : Hand) (
       ap (option_map (λ x. writes s' x.cell)) same-transfer ∙ map-option (λ (x : Transfer). writes s' x.cell) (λ (x : Transfer). writes s x.cell) (transfer s v) (λ x e. stays.writes x e)
   same-writes false = refl
 
-  pub row-kept : row_of_parts p m s' v hand trace' ≡ row_of_parts p m s v hand trace
+  pub row-kept : row_of_parts disks p m s' v hand trace' ≡ row_of_parts disks p m s v hand trace
   row-kept =
-      row-same hand hand (option_map (progress s) hand.task) (option_map (progress s') hand.task) _ _ _ _ _ _ _ _ (filter (is_event_of v.0) trace) (filter (is_event_of v.0) trace') refl
+      row-same hand hand (option_and_then (unit_at disks) hand.unit) (option_and_then (unit_at disks) hand.unit) (option_map (progress s) hand.task) (option_map (progress s') hand.task) _ _ _ _ _ _ _ _ (filter (is_event_of v.0) trace) (filter (is_event_of v.0) trace') refl refl
       (map-option (progress s') (progress s) hand.task (λ u e. stays.phase u (mine u e)))
       (map-option _ _ hand.task (λ u e. same-cells u (mine u e) (is_running_on v (progress s u)) refl))
       (ap (λ (x : WorkerState). if is_some hand.task then x else idle) stays.holds)
@@ -163,18 +166,64 @@ module _ {D : Type 0} (faults mismatches : D → ℕ) (w : Worker) where
     where
       others : (n : ℕ) → n ≢ w.0 → row_of_number b' n ≡ row_of_number b n
       others n other =
-          ap (λ (r : Standing D). row_of_parts r.program r.machine (state r) (a_worker n) (hand_in b'.hands (a_worker n)) r.trace) run
-          ∙ ap (λ (h : Hand). row_of_parts b.run.program b.run.machine (state b.run) (a_worker n) h b.run.trace) (ap (λ (hs : List Hand). hand_in hs (a_worker n)) hands ∙ get_or-set_other b.hands w.0 n hand empty_hand other)
+          ap (λ (r : Standing D). row_of_parts r.disks r.program r.machine (state r) (a_worker n) (hand_in b'.hands (a_worker n)) r.trace) run
+          ∙ ap (λ (h : Hand). row_of_parts b.run.disks b.run.program b.run.machine (state b.run) (a_worker n) h b.run.trace) (ap (λ (hs : List Hand). hand_in hs (a_worker n)) hands ∙ get_or-set_other b.hands w.0 n hand empty_hand other)
 
-  -- the disks alone have changed
-  pub turn-disks : (b b' : BoardState D) → b' ≡ record b { run = record b.run { disks = b'.run.disks } } → CountsStay faults mismatches b.run.disks.disks b'.run.disks.disks → IsTurnOf faults mismatches w b b'
-  turn-disks b b' same counts = record {
+  -- the worker's unit was put back: nothing but the disks and its hand has changed
+  pub record IsQuiet (a b : BoardState D) : Type 0 where
+    pub key : key_of b ≡ key_of a
+    pub others : (n : ℕ) → n ≢ w.0 → row_of_number b n ≡ row_of_number a n
+    pub no_event : NothingHappens a b
+    pub events : BeginsWith (row_in b w).events (row_in a w).events
+    pub fault : b.fault ≡ a.fault
+
+  pub put-quiet : (a b : BoardState D) → PutsUnitBack w a b → IsQuiet a b
+  put-quiet a b put = record {
+    key = ap key_of put.back;
+    others = others;
+    no_event = ap (λ (x : BoardState D). x.run.trace) put.back;
+    events = ([], ap (λ (x : BoardState D). (row_in x w).events) put.back ∙ sym (append-nil (row_in a w).events));
+    fault = ap (λ (x : BoardState D). x.fault) put.back;
+  }
+    where
+      others : (n : ℕ) → n ≢ w.0 → row_of_number b n ≡ row_of_number a n
+      others n other =
+          let v = a_worker n in
+          let p = a.run.program in
+          let m = a.run.machine in
+          let s = state a.run in
+          ap (λ (u : Option (UnitState D)). record (row_of_number b n) { unit = u }) (put.others v (λ same. other (ap (λ (x : Worker). x.0) same)))
+          ∙ ap (λ (x : BoardState D). record (row_of_number x n) { unit = unit_of a v }) put.back
+          ∙ ap (λ (h : Hand). record (row_of_parts a.run.disks p m s v h a.run.trace) { unit = unit_of a v }) (get_or-set_other a.hands w.0 n (record (hand_of a w) { unit = None }) empty_hand other)
+
+  pub put-turn : (a b : BoardState D) → PutsUnitBack w a b → CountsStay faults mismatches a.run.disks.disks b.run.disks.disks → IsTurnOf faults mismatches w a b
+  put-turn a b put counts =
+      let quiet = put-quiet a b put in
+      record { key = quiet.key; others = quiet.others; one_event = inl quiet.no_event; events = quiet.events; no_fault = λ e. sym quiet.fault ∙ e; counts = λ e. counts }
+
+  -- and a unit was taken
+  pub taken-turn : (b : BoardState D) (u : UnitState D) (b' : BoardState D) → b' ≡ has_taken b w u → IsTurnOf faults mismatches w b b'
+  taken-turn b u b' same = record {
     key = ap key_of same;
-    others = λ n other. ap (λ (x : BoardState D). row_of_number x n) same;
+    others = λ n other. (
+        ap (λ (x : BoardState D). row_of_number x n) same
+        ∙ ap (λ (h : Hand). row_of_parts b.run.disks b.run.program b.run.machine (state b.run) (a_worker n) h b.run.trace) (get_or-set_other b.hands w.0 n (record (hand_of b w) { unit = Some u.cell }) empty_hand other)
+        );
     one_event = inl (ap (λ (x : BoardState D). x.run.trace) same);
     events = ([], ap (λ (x : BoardState D). (row_in x w).events) same ∙ sym (append-nil (row_in b w).events));
     no_fault = λ e. sym (ap (λ (x : BoardState D). x.fault) same) ∙ e;
-    counts = λ e. counts;
+    counts = λ e. (ap (λ (x : BoardState D). map faults x.run.disks.disks) same, ap (λ (x : BoardState D). map mismatches x.run.disks.disks) same);
+  }
+
+  -- two turns of which the second makes no event
+  pub turn-before : (a b c : BoardState D) → NothingHappens b c → IsTurnOf faults mismatches w a b → IsTurnOf faults mismatches w b c → IsTurnOf faults mismatches w a c
+  turn-before a b c nothing x y = record {
+    key = y.key ∙ x.key;
+    others = λ n other. y.others n other ∙ x.others n other;
+    one_event = subst (λ (l : List Event). (l ≡ a.run.trace) ⊎ ((e : Event) × (l ≡ a.run.trace ++ e ∷ []))) (sym nothing) x.one_event;
+    events = (x.events.0 ++ y.events.0, y.events.1 ∙ ap (λ (l : List Event). l ++ y.events.0) x.events.1 ∙ append_assoc (row_in a w).events x.events.0 y.events.0);
+    no_fault = λ e. x.no_fault (y.no_fault e);
+    counts = λ e. (let one = x.counts (y.no_fault e) in let two = y.counts e in (two.0 ∙ one.0, two.1 ∙ one.1));
   }
 
   module _ (size : D → ℕ) (held : D → Option (List ℕ)) (b : BoardState D) (sound : IsSoundBoard size faults mismatches held b) where
@@ -208,9 +257,9 @@ module _ {D : Type 0} (faults mismatches : D → ℕ) (w : Worker) where
         others n other =
             let v = a_worker n in
             let differs : v ≢ w = λ same. other (ap (λ (x : Worker). x.0) same) in
-            ap (λ (r : Standing D). row_of_parts r.program r.machine (state r) v (hand_of b' v) r.trace) run
-            ∙ ap (λ (h : Hand). row_of_parts p m s' v h (b.run.trace ++ e ∷ [])) (hands v differs)
-            ∙ row-kept p m (state b.run) s' v (hand_of b v) b.run.trace (b.run.trace ++ e ∷ []) (Step-stays p m (state b.run) the-state v w differs e s' by can (state_of-more p m b.run.trace e) spared)
+            ap (λ (r : Standing D). row_of_parts r.disks r.program r.machine (state r) v (hand_of b' v) r.trace) run
+            ∙ ap (λ (h : Hand). row_of_parts b.run.disks p m s' v h (b.run.trace ++ e ∷ [])) (hands v differs)
+            ∙ row-kept b.run.disks p m (state b.run) s' v (hand_of b v) b.run.trace (b.run.trace ++ e ∷ []) (Step-stays p m (state b.run) the-state v w differs e s' by can (state_of-more p m b.run.trace e) spared)
             (λ u has. sound.inside.hands_agree.has v u has) (events-other n b.run.trace e (by-other m (state b.run) w v e differs by))
 
 -- the board is sound for the desk after a turn

@@ -1,6 +1,12 @@
+pub mod Bell
+pub mod Looking
+pub mod Member
+pub mod Noted
 pub mod Operands
 pub mod Outcome
 pub mod Picking
+pub mod Posts
+pub mod Resting
 pub mod Run
 pub mod Stage
 pub mod Stepping

@@ -1,4 +1,5 @@
 -- What a worker's row tells after it has looked for a task, and what has happened.
+use Rattle.std.specs.Prelude.{Bool, true, false}
 use Rattle.sj_base.specs.declared.ids.Worker.{Worker}
 use Rattle.sj_base.specs.declared.trace.Event.TheVariants.{Claim}
 use Rattle.sj_machine.specs.Board.{BoardState}
@@ -9,14 +10,14 @@ use Rattle.sj_engine.specs.Stage.{HasClaimedRow, IsFreeRow, IsStoppedRow}
 use Rattle.sj_engine.specs.Turn.{Happens, NothingHappens}
 
 -- it has claimed the task, or has nothing in hand, or has stopped
-abbrev pub AfterPick : Worker → BoardRow → Picked → Type 0
+abbrev pub AfterPick : {D : Type 0} → Worker → BoardRow D → Picked → Type 0
 AfterPick w r (Task t) = HasClaimedRow w t r
 AfterPick w r Nothing = IsFreeRow r
 AfterPick w r Failed = IsFreeRow r
 AfterPick w r Over = IsStoppedRow r
 
 -- the same where it hasn't stopped
-abbrev pub AfterClaim : Worker → BoardRow → Picked → Type 0
+abbrev pub AfterClaim : {D : Type 0} → Worker → BoardRow D → Picked → Type 0
 AfterClaim w r (Task t) = HasClaimedRow w t r
 AfterClaim w r Nothing = IsFreeRow r
 AfterClaim w r Failed = IsFreeRow r
@@ -28,3 +29,8 @@ PickMakes w old new (Task t) = Happens (Claim t w) old new
 PickMakes w old new Nothing = NothingHappens old new
 PickMakes w old new Failed = NothingHappens old new
 PickMakes w old new Over = NothingHappens old new
+
+-- there was nothing that it may claim now
+abbrev pub finds_nothing : Picked → Bool
+finds_nothing Nothing = true
+finds_nothing _ = false

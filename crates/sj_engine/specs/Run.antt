@@ -1,14 +1,11 @@
 -- How a run begins and what it leaves: the board as it opens, the seats of its workers, and the outcome.
-use Rattle.std.specs.Prelude.{◌≡◌, ◌<◌, ℕ, Bool, true, Option, None, List, Result, All, IfErr, IsOk, length, slice_index_or}
+use Rattle.std.specs.Prelude.{◌≡◌, ◌<◌, ℕ, true, Option, None, List, Result, All, IfErr, IsOk, length, slice_index_or}
 use Rattle.sj_base.specs.declared.ids.Task.{Task}
 use Rattle.sj_base.specs.declared.ids.Worker.{Worker}
 use Rattle.sj_base.specs.declared.program.Program.{Program}
 use Rattle.sj_base.specs.declared.program.Machine.{Machine}
 use Rattle.sj_base.specs.declared.trace.Event.{Event}
 use Rattle.sj_base.specs.Array.{Array}
-use Rattle.sj_codelet.specs.declared.kernel.Kernel.{Kernel}
-use Rattle.sj_core.specs.Laws.{IsLawful}
-use Rattle.sj_core.specs.Proper.{Proper}
 use Rattle.sj_core.specs.Legal.{IsFinished, IsLegal}
 use Rattle.sj_desk.specs.Seats.{DeskFacts, SeatFacts}
 use Rattle.sj_disk.specs.Holding.{CountsStay}
@@ -20,7 +17,8 @@ use Rattle.sj_machine.specs.Preparing.{first_hands}
 use Rattle.sj_machine.specs.declared.fault.RunFault.{RunFault}
 use Rattle.sj_machine.specs.declared.hand.Hand.{Hand}
 use Rattle.sj_engine.specs.Outcome.{AllTell, HoldBlocks, IsCausedBy, WantsLastWritten}
-use Rattle.sj_engine.specs.Stage.{IsAt, IsDeskOf, IsFreeRow}
+use Rattle.sj_engine.specs.Stage.{IsAt, stopped_hand}
+use Rattle.sj_engine.specs.declared.noted_board.NotedBoard.{NotedBoard}
 
 -- ---- the board
 
@@ -37,9 +35,13 @@ pub record IsOpened {D : Type 0} (p : Program) (m : Machine) (disks : List D) (b
 abbrev pub NoneHasTask : List Hand → Type 0
 NoneHasTask hands = All (λ hand. hand.task ≡ None) hands
 
--- all workers have stopped
+-- all workers have stopped, with nothing in hand
 abbrev pub AllStopped : List Hand → Type 0
-AllStopped hands = All (λ hand. hand.has_stopped ≡ true) hands
+AllStopped hands = All (λ hand. hand ≡ stopped_hand) hands
+
+-- no worker has a disk in hand
+abbrev pub NoneHasUnit : List Hand → Type 0
+NoneHasUnit hands = All (λ hand. hand.unit ≡ None) hands
 
 -- ---- seats
 
@@ -47,16 +49,9 @@ abbrev pub worker_at : ℕ → Worker
 worker_at n = record { 0 = n }
 
 -- the seats are the desk's, each at the place of its number, and each left a row of which this is true
-pub record AreAt {D : Type 0} (desk : DeskFacts (BoardState D)) (P : BoardRow → Type 0) (seats : List (SeatFacts (BoardState D))) : Type 0 where
+pub record AreAt {D : Type 0} (desk : DeskFacts (NotedBoard D)) (P : BoardRow D → Type 0) (seats : List (SeatFacts (NotedBoard D))) : Type 0 where
   pub count : length seats ≡ desk.seats
-  pub each : (k : ℕ) (d : SeatFacts (BoardState D)) → k < desk.seats → IsAt desk (worker_at k) P (slice_index_or seats k d)
-
--- the worker of the seat may begin to work on the program, with codelets of this set
-pub record MayWork {D : Type 0} (has : Kernel → Bool) (p : Program) (desk : DeskFacts (BoardState D)) (s : SeatFacts (BoardState D)) : Type 0 where
-  pub desk_of : IsDeskOf p (worker_at s.number) desk
-  pub proper : Proper p
-  pub lawful : IsLawful has p
-  pub free : IsAt desk (worker_at s.number) IsFreeRow s
+  pub each : (k : ℕ) (d : SeatFacts (NotedBoard D)) → k < desk.seats → IsAt desk (worker_at k) P (slice_index_or seats k d)
 
 -- ---- the outcome
 

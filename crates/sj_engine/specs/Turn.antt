@@ -4,10 +4,12 @@ use Rattle.sj_base.specs.declared.ids.Worker.{Worker}
 use Rattle.sj_base.specs.declared.trace.Event.{Event}
 use Rattle.sj_desk.specs.Seats.{DeskFacts}
 use Rattle.sj_disk.specs.Holding.{CountsStay}
-use Rattle.sj_machine.specs.Board.{BoardState}
+use Rattle.sj_machine.specs.Board.{BoardState, GivesUnitBack}
+use Rattle.sj_machine.specs.Units.{OthersKeepUnits}
 use Rattle.sj_machine.specs.BoardRow.{key_of, row_of_number}
 use Rattle.sj_machine.specs.BoardSound.{IsSoundBoard}
 use Rattle.sj_engine.specs.Stage.{KeepsEvents}
+use Rattle.sj_engine.specs.declared.noted_board.NotedBoard.{NotedBoard}
 
 -- between two turns: the board is sound, and no fault is swallowed: as long as none is kept, no count of a disk has changed
 pub record IsSharedSound {D : Type 0} (size faults mismatches : D → ℕ) (held : D → Option (List ℕ)) (b : BoardState D) : Type 0 where
@@ -40,8 +42,14 @@ pub record IsTurnOf {D : Type 0} (faults mismatches : D → ℕ) (w : Worker) (o
 abbrev pub IsWorkerOf : {D : Type 0} → BoardState D → Worker → Type 0
 IsWorkerOf b w = w.0 < b.run.program.workers
 
--- the worker's turn, in which it found this board, may end with that one
-pub record MayLeave {D : Type 0} (size faults mismatches : D → ℕ) (held : D → Option (List ℕ)) (desk : DeskFacts (BoardState D)) (w : Worker) (b found : BoardState D) : Type 0 where
-  pub turn : IsTurnOf faults mismatches w found b
-  pub sound : IsSharedSound size faults mismatches held found
-  pub key : key_of found ≡ key_of desk.opening
+-- the worker's turn, in which it found this board, may end with that one: what was noted of those that rest is as it was found
+pub record MayLeave {D : Type 0} (size faults mismatches : D → ℕ) (held : D → Option (List ℕ)) (desk : DeskFacts (NotedBoard D)) (w : Worker) (b found : NotedBoard D) : Type 0 where
+  pub turn : IsTurnOf faults mismatches w found.board b.board
+  pub sound : IsSharedSound size faults mismatches held found.board
+  pub key : key_of found.board ≡ key_of desk.opening.board
+  pub notes : b.sleepers ≡ found.sleepers
+
+-- the worker has put its unit back: the disks alone have changed, and the worker's hand
+pub record PutsUnitBack {D : Type 0} (w : Worker) (old new : BoardState D) : Type 0 where
+  pub back : GivesUnitBack w old new
+  pub others : OthersKeepUnits w old new

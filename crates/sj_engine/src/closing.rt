@@ -1,7 +1,7 @@
 //! What a run leaves.
 
 ghost use Rattle.std.specs.Prelude.{◌≡◌, [], Err, IsOk, MatchOption};
-ghost use Rattle.sj_engine.specs.Run.{AllStopped, IsOutcome, NoneHasTask};
+ghost use Rattle.sj_engine.specs.Run.{AllStopped, IsOutcome, NoneHasTask, NoneHasUnit};
 ghost use Rattle.sj_engine.specs.Turn.{IsSharedSound};
 
 use crate::engine::RunOutcome;
@@ -41,6 +41,7 @@ pub(crate) fn ended<D: Disk>(board: Board<D>) -> RunOutcome<D>
 /// What a board leaves that no worker has come to, since memory is wanting. Constant time, and no memory.
 pub(crate) fn abandoned<D: Disk>(board: Board<D>) -> RunOutcome<D>
     requires idle { NoneHasTask board.hands }
+    requires no_unit { NoneHasUnit board.hands }
     ensures { IsOutcome D.size D.faults D.mismatches D.held board.run.program board.run.machine
         board.run.opened result.result result.delivered.pairs result.trace.events result.disks.items }
 {

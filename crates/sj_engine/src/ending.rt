@@ -31,6 +31,7 @@ impl<D: Disk> SharedBoard<D> {
         requires worker { IsWorkerOf self.old w }
         requires works { (row_in self.old w).hand.has_stopped ≡ false }
         requires none_given { (row_in self.old w).hand.given ≡ None }
+        requires no_unit { (row_in self.old w).hand.unit ≡ None }
         ensures turn { IsTurnOf D.faults D.mismatches w self.old self.new }
         ensures row { IsFreeRow (row_in self.new w) }
         ensures no_event { NothingHappens self.old self.new }

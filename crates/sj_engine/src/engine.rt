@@ -12,6 +12,7 @@ ghost use Rattle.sj_engine.specs.Run.{IsOpened, IsOutcome};
 ghost use Rattle.sj_machine.specs.Delivered.{DeliversEach};
 
 use crate::closing::{abandoned, ended, unopened};
+use crate::noted_board::NotedBoard;
 use crate::opening::opened;
 use crate::shared_board::SharedBoard;
 use crate::threads::worked;
@@ -53,15 +54,19 @@ fn run_over<C: Codelets, G: Gate, D: Disk + Send, R: Threads + Wait + Sync>(
         result.result result.delivered.pairs result.trace.events result.disks.items }
 {
     board.is_sound();
+    let Ok(posts) = Vec::with_capacity(alloc, program.workers as usize) else {
+        return abandoned(board);
+    };
     let board = match SharedBoard::new(alloc, board) {
-        Ok(board) => board,
+        Ok(board) => NotedBoard::new(board),
         Err(board) => return abandoned(board),
     };
     let (desk, seats) = match Desk::make(alloc, board, program.workers) {
         Ok(made) => made,
-        Err(board) => return abandoned(board.into_board()),
+        Err(noted) => return abandoned(noted.board.into_board()),
     };
-    ended(worked(rt, alloc, program, codelets, gate, desk, seats))
+    gate.begins(program.tasks.len());
+    ended(worked(rt, alloc, program, codelets, gate, desk, seats, posts))
 }
 
 /// Runs a program on a machine: one thread for each worker, or fewer where one can't be started, all joined before it

@@ -1,21 +1,23 @@
 //! The ends of a worker's transfers.
 
-ghost use Rattle.std.specs.Prelude.{◌≡◌, MatchBool, false, true};
+ghost use Rattle.std.specs.Prelude.{◌≡◌, IfSome, IsTrue, MatchBool, false, is_some, true};
 ghost use Rattle.sj_base.specs.declared.trace.Event.TheVariants.{Moved};
-ghost use Rattle.sj_core.specs.Program.{dims_of};
-ghost use Rattle.sj_machine.specs.Board.{BoardState, HasCause, OnlyDisksChangeOn};
+ghost use Rattle.sj_base.specs.Array.{Array};
+ghost use Rattle.sj_machine.specs.Board.{BoardState, HasCause};
+ghost use Rattle.sj_machine.specs.Tiles.{array_in};
 ghost use Rattle.sj_machine.specs.BoardRow.{key_of};
 ghost use Rattle.sj_machine.specs.Standing.{is_node};
-ghost use Rattle.sj_engine.specs.Stage.{HasClaimedRow, IsCarried, IsFreeRow, MovesRow, row_in};
-ghost use Rattle.sj_engine.specs.Turn.{Happens, IsTurnOf, IsWorkerOf, NothingHappens};
+ghost use Rattle.sj_engine.specs.Stage.{HasClaimedRow, HoldsRow, IsCarried, IsFetchedThrough, IsFreeRow, IsStoredThrough, MovesRow, row_in};
+ghost use Rattle.sj_engine.specs.Turn.{Happens, IsTurnOf, IsWorkerOf, NothingHappens, PutsUnitBack};
 
 use crate::shared_board::SharedBoard;
 use sj_base::ids::{Task, Worker};
 use sj_base::tile::Tile;
 use sj_core::progress::Transfer;
+use sj_disk::refusal::DiskRefusal;
+use sj_disk::unit::Unit;
 use sj_edge::disk::Disk;
 use sj_machine::fault::RunFault;
-use std::alloc::Global;
 use std::sync::Arc;
 
 impl<D: Disk> SharedBoard<D> {
@@ -24,9 +26,10 @@ impl<D: Disk> SharedBoard<D> {
         requires worker { IsWorkerOf self.old w }
         requires moves { MovesRow w t x (row_in self.old w) }
         requires cause { HasCause D.faults D.mismatches D.held self.old.run fault }
-        ensures turn { (b : BoardState D) → OnlyDisksChangeOn b self.old → IsTurnOf D.faults D.mismatches w b self.new }
+        ensures turn { (b : BoardState D) → PutsUnitBack w b self.old → IsTurnOf D.faults D.mismatches w b self.new }
         ensures row { IsFreeRow (row_in self.new w) }
         ensures no_event { NothingHappens self.old self.new }
+        ensures fault { IsTrue (is_some self.new.fault) }
     {
         self.board.is_sound();
         self.board.fail(w, fault);
@@ -46,19 +49,27 @@ impl<D: Disk> SharedBoard<D> {
         self.board.end_move_in(w, tile);
     }
 
-    /// A worker's transfer to a disk: its tile is written there, and the transfer ends. Whether it did: else the worker has
-    /// failed. Linear in the tile.
-    pub fn write_out(&mut self, w: Worker, t: Task, x: Transfer, tile: &Tile) -> bool
+    /// A worker has stored the tile of its transfer on the disk, with this outcome: the disk goes back, and the transfer ends.
+    /// Whether it did: else the worker has failed. Constant time.
+    pub fn write_out(
+        &mut self,
+        w: Worker,
+        t: Task,
+        x: Transfer,
+        unit: Unit<D>,
+        outcome: Result<(), DiskRefusal>,
+    ) -> bool
         requires worker { IsWorkerOf self.old w }
-        requires moves { MovesRow w t x (row_in self.old w) }
         requires disk { is_node x.to ≡ false }
-        requires tile { IsCarried D.held (key_of self.old) x (row_in self.old w) tile.now }
+        requires stored { IsStoredThrough D.size D.faults D.mismatches D.held (key_of self.old) w t x
+            (row_in self.old w) unit outcome }
         ensures turn { IsTurnOf D.faults D.mismatches w self.old self.new }
         ensures row { MatchBool result (HasClaimedRow w t (row_in self.new w)) (IsFreeRow (row_in self.new w)) }
         ensures event { MatchBool result (Happens (Moved x.cell x.from x.to) self.old self.new) (NothingHappens self.old self.new) }
+        ensures failed { result ≡ false → IsTrue (is_some self.new.fault) }
     {
         self.board.is_sound();
-        if let Err(refusal) = self.board.store(w, tile) {
+        if let Err(refusal) = self.board.put_written(w, unit, outcome) {
             self.fail_moving(w, t, x, RunFault::from(refusal));
             return false;
         }
@@ -67,36 +78,54 @@ impl<D: Disk> SharedBoard<D> {
         true
     }
 
-    /// A worker's transfer from a disk to a node: its block is read into the tile, and the transfer ends. Whether it did: else
-    /// the worker has failed. Linear in the tile.
+    /// A worker has fetched the tile of its transfer from the disk, with this outcome: the disk goes back, and the transfer ends.
+    /// Whether it did: else the worker has failed, also for want of memory where there is no tile. Constant time.
     pub fn read_in(
         &mut self,
-        alloc: Global,
         w: Worker,
         t: Task,
         x: Transfer,
-        mut tile: Tile,
+        unit: Unit<D>,
+        outcome: Result<(), DiskRefusal>,
+        tile: Option<Arc<Tile>>,
     ) -> bool
         requires worker { IsWorkerOf self.old w }
-        requires moves { MovesRow w t x (row_in self.old w) }
         requires node { is_node x.to ≡ true }
         requires disk { is_node x.from ≡ false }
-        requires dims { tile.dims ≡ dims_of self.old.run.program x.cell }
+        requires fetched { (a : Array) × IsFetchedThrough D.size D.faults D.mismatches D.held (key_of self.old)
+            w t x (row_in self.old w) unit outcome a }
+        requires tile { IfSome (array_in tile) (IsFetchedThrough D.size D.faults D.mismatches D.held
+            (key_of self.old) w t x (row_in self.old w) unit outcome) }
         ensures turn { IsTurnOf D.faults D.mismatches w self.old self.new }
         ensures row { MatchBool result (HasClaimedRow w t (row_in self.new w)) (IsFreeRow (row_in self.new w)) }
         ensures event { MatchBool result (Happens (Moved x.cell x.from x.to) self.old self.new) (NothingHappens self.old self.new) }
+        ensures failed { result ≡ false → IsTrue (is_some self.new.fault) }
     {
         self.board.is_sound();
-        if let Err(refusal) = self.board.fetch(w, &mut tile) {
+        if let Err(refusal) = self.board.put_read(w, unit, outcome) {
             self.fail_moving(w, t, x, RunFault::from(refusal));
             return false;
         }
-        let Ok(tile) = Arc::new(alloc, tile) else {
+        let Some(tile) = tile else {
             self.fail_moving(w, t, x, RunFault::OutOfMemory);
             return false;
         };
         self.board.is_sound();
         self.board.end_move_in(w, tile);
         true
+    }
+
+    /// A worker has no memory for the tile of its transfer: the disk goes back as it was, and the worker has failed. Constant time.
+    pub fn give_unit_up(&mut self, w: Worker, t: Task, x: Transfer, unit: Unit<D>)
+        requires worker { IsWorkerOf self.old w }
+        requires holds { HoldsRow w t x unit (row_in self.old w) }
+        ensures turn { IsTurnOf D.faults D.mismatches w self.old self.new }
+        ensures row { IsFreeRow (row_in self.new w) }
+        ensures no_event { NothingHappens self.old self.new }
+        ensures fault { IsTrue (is_some self.new.fault) }
+    {
+        self.board.is_sound();
+        self.board.put_untouched(w, unit);
+        self.fail_moving(w, t, x, RunFault::OutOfMemory);
     }
 }

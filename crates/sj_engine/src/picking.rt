@@ -1,7 +1,9 @@
 //! How a worker gets its next task.
 
-ghost use Rattle.std.specs.Prelude.{◌≡◌, IfNone, IfSome, IsTrue, None, is_some};
+ghost use Rattle.std.specs.Prelude.{◌≡◌, IfNone, IfSome, IsTrue, None, Some, is_some};
 ghost use Rattle.sj_machine.specs.Board.{IsOver};
+ghost use Rattle.sj_machine.specs.Passing.{HasLost};
+ghost use Rattle.sj_engine.specs.Looking.{CannotClaim, HasLooked, IsLeftTo, NoneIsLeftTo};
 ghost use Rattle.sj_engine.specs.Picking.{AfterClaim, AfterPick, PickMakes};
 ghost use Rattle.sj_engine.specs.Stage.{IsFreeRow, IsStoppedRow, given_hand, row_in};
 ghost use Rattle.sj_engine.specs.Turn.{IsTurnOf, IsWorkerOf, NothingHappens};
@@ -27,7 +29,7 @@ pub enum Picked {
 
 /// How often a worker tries to claim before it rests: claims that can't be made now aren't to keep it from the others for long,
 /// nor it from trying those behind them.
-const TRIES: u32 = 4;
+const TRIES: usize = 4;
 
 impl<D: Disk> SharedBoard<D> {
     /// A worker claims the task that it was given; where the claim can't be made, the task goes back. The cost of `claim`.
@@ -40,6 +42,8 @@ impl<D: Disk> SharedBoard<D> {
         ensures event { PickMakes w self.old self.new result }
         ensures no_fault { result ≡ Picked.Nothing → self.new.fault ≡ None }
         ensures failed { result ≡ Picked.Failed → IsTrue (is_some self.new.fault) }
+        ensures cannot { result ≡ Picked.Nothing → CannotClaim self.old w t }
+        ensures back { result ≡ Picked.Nothing → HasLost (Some t) self.new.pool self.old.pool }
     {
         self.board.is_sound();
         match self.board.claim(alloc, t, w) {
@@ -64,13 +68,14 @@ impl<D: Disk> SharedBoard<D> {
         ensures row { IsFreeRow (row_in self.new w) }
         ensures no_event { NothingHappens self.old self.new }
         ensures fault { self.new.fault ≡ self.old.fault }
+        ensures back { HasLost (Some t) self.new.pool self.old.pool }
     {
         self.board.is_sound();
         self.board.give_back(t, w);
     }
 
-    /// A worker is given a task, where there is one. The cost of `next`.
-    fn give_next(&mut self, w: Worker) -> Option<Task>
+    /// A worker is given a task that it hasn't passed, where there is one. The cost of `next`.
+    fn give_next(&mut self, w: Worker, passed: &[Task]) -> Option<Task>
         requires worker { IsWorkerOf self.old w }
         requires free { IsFreeRow (row_in self.old w) }
         ensures turn { IsTurnOf D.faults D.mismatches w self.old self.new }
@@ -78,29 +83,15 @@ impl<D: Disk> SharedBoard<D> {
         ensures none { IfNone result (IsFreeRow (row_in self.new w)) }
         ensures no_event { NothingHappens self.old self.new }
         ensures fault { self.new.fault ≡ self.old.fault }
+        ensures left { IfSome result (IsLeftTo self.old w passed.now) }
+        ensures none_left { result ≡ None → NoneIsLeftTo self.old w passed.now }
+        ensures lost { HasLost result self.old.pool self.new.pool }
     {
         self.board.is_sound();
-        self.board.next(w)
+        self.board.next(w, passed)
     }
 
-    /// A worker is given a task and claims it; where the claim can't be made, the task goes back. The costs of `next` and `claim`.
-    fn claim_next(&mut self, alloc: Global, w: Worker) -> Picked
-        requires worker { IsWorkerOf self.old w }
-        requires free { IsFreeRow (row_in self.old w) }
-        requires no_fault { self.old.fault ≡ None }
-        ensures turn { IsTurnOf D.faults D.mismatches w self.old self.new }
-        ensures row { AfterClaim w (row_in self.new w) result }
-        ensures event { PickMakes w self.old self.new result }
-        ensures no_fault { result ≡ Picked.Nothing → self.new.fault ≡ None }
-        ensures failed { result ≡ Picked.Failed → IsTrue (is_some self.new.fault) }
-    {
-        let Some(t) = self.give_next(w) else {
-            return Picked::Nothing;
-        };
-        self.claim_given(alloc, w, t)
-    }
-
-    /// The tries of a worker to claim a task.
+    /// The tries of a worker to claim a task, each of another task: a task that can't be claimed goes back, and is passed.
     fn claim_some(&mut self, alloc: Global, w: Worker) -> Picked
         requires worker { IsWorkerOf self.old w }
         requires free { IsFreeRow (row_in self.old w) }
@@ -109,12 +100,18 @@ impl<D: Disk> SharedBoard<D> {
         ensures row { AfterClaim w (row_in self.new w) result }
         ensures event { PickMakes w self.old self.new result }
         ensures failed { result ≡ Picked.Failed → IsTrue (is_some self.new.fault) }
+        ensures looked { result ≡ Picked.Nothing → HasLooked self.old w }
     {
-        for _ in 0..TRIES {
-            match self.claim_next(alloc, w) {
+        let mut passed = [Task(0); TRIES];
+        for i in 0..TRIES {
+            let Some(t) = self.give_next(w, &passed[..i]) else {
+                return Picked::Nothing;
+            };
+            match self.claim_given(alloc, w, t) {
                 Picked::Nothing => {}
                 picked => return picked,
             }
+            passed[i] = t;
         }
         Picked::Nothing
     }
@@ -128,14 +125,16 @@ impl<D: Disk> SharedBoard<D> {
         ensures over { result ≡ Picked.Over }
         ensures row { IsStoppedRow (row_in self.new w) }
         ensures no_event { NothingHappens self.old self.new }
+        ensures still_over { IsOver self.new }
     {
         self.board.is_sound();
         self.board.stop(w);
         Picked::Over
     }
 
-    /// A worker without a task claims one of those that are ready, or stops where the run is over. A few times the costs of
-    /// `next` and `claim`.
+    /// A worker without a task claims one of those that are ready, or stops where the run is over. It finds nothing only where four
+    /// different tasks that are ready and fit its node, or all of them, can't be claimed now. A few times the costs of `next` and
+    /// `claim`.
     pub fn pick(&mut self, alloc: Global, w: Worker) -> Picked
         requires worker { IsWorkerOf self.old w }
         requires free { IsFreeRow (row_in self.old w) }
@@ -143,6 +142,8 @@ impl<D: Disk> SharedBoard<D> {
         ensures row { AfterPick w (row_in self.new w) result }
         ensures event { PickMakes w self.old self.new result }
         ensures failed { result ≡ Picked.Failed → IsTrue (is_some self.new.fault) }
+        ensures over { result ≡ Picked.Over → IsOver self.new }
+        ensures looked { result ≡ Picked.Nothing → HasLooked self.old w }
     {
         if self.board.failed() || self.board.all_done() {
             return self.stop(w);

@@ -1,29 +1,37 @@
 //! The turns of a worker at the desk: each is one look at the board, or one event on it.
 
-ghost use Rattle.std.specs.Prelude.{◌≡◌, IsSomeAnd, MatchBool, None, Some, false, is_some, true};
-ghost use Rattle.sj_core.specs.Program.{dims_of};
+ghost use Rattle.std.specs.Prelude.{◌≡◌, IfSome, IsSomeAnd, MatchBool, None, Some, false, is_some, true};
+ghost use Rattle.sj_base.specs.Array.{Array};
+ghost use Rattle.sj_machine.specs.Tiles.{array_in};
 ghost use Rattle.sj_machine.specs.Standing.{is_node};
-ghost use Rattle.sj_engine.specs.Picking.{AfterPick};
-ghost use Rattle.sj_engine.specs.Stage.{AreDone, GoesOn, HasClaimedRow, HasLeft, IsCarried, IsFreeRow, MovesRow, RunsRow};
-ghost use Rattle.sj_engine.specs.Stepping.{AfterStep};
+ghost use Rattle.sj_desk.specs.Seats.{rung};
+ghost use Rattle.sj_engine.specs.Bell.{HasRung, IsChange, MindsBell, is_claimed, noted_after, noted_for_rest, wakes_after, wakes_for_rest};
+ghost use Rattle.sj_engine.specs.Picking.{AfterPick, finds_nothing};
+ghost use Rattle.sj_engine.specs.Stage.{AreDone, GoesOn, HasClaimedRow, HasLeft, HoldsRow, IsCarried, IsFetchedThrough, IsFreeRow, IsStoredThrough, MovesRow, RunsRow};
+ghost use Rattle.sj_engine.specs.Stepping.{AfterStep, HasDone, has_to_wait};
 ghost use Rattle.sj_engine.specs.Turn.{MayLeave};
 ghost use Rattle.sj_engine.specs.Workplace.{IsSeated, IsWorkplace, board_key};
 
+use crate::noted_board::NotedBoard;
 use crate::picking::Picked;
-use crate::shared_board::{Change, SharedBoard};
+use crate::sleepers::Change;
 use crate::stepping::Step;
 use crate::workplace::{BoardSeat, Workplace};
 use sj_base::ids::Task;
 use sj_base::tile::Tile;
 use sj_codelet::frame::Frame;
 use sj_core::progress::Transfer;
+use sj_disk::refusal::DiskRefusal;
+use sj_disk::unit::Unit;
 use sj_edge::disk::Disk;
 use std::sync::{Arc, Wait};
 
 /// What a step did for those that rest.
-fn change_of(step: &Step) -> Change {
+fn change_of<D: Disk>(step: &Step<D>) -> Change
+    ensures { HasDone step.now result }
+{
     match step {
-        Step::Moves { .. } => Change::Begun,
+        Step::Moves { .. } | Step::Writes { .. } | Step::Reads { .. } => Change::Begun,
         _ => Change::Freed,
     }
 }
@@ -32,7 +40,7 @@ impl<R, D: Disk> Workplace<'_, R, D> {
     /// Rings the bell, or doesn't.
     fn ring_where(&self, seat: &mut BoardSeat<D>, rings: bool)
         requires of_this_desk { seat.old.desk ≡ Some self.now.desk.now }
-        ensures { seat.new ≡ seat.old }
+        ensures { MatchBool rings (seat.new ≡ rung seat.old) (seat.new ≡ seat.old) }
     {
         if rings {
             self.desk.ring(seat);
@@ -40,36 +48,35 @@ impl<R, D: Disk> Workplace<'_, R, D> {
     }
 
     /// Ends a turn that did this, and wakes those that rest where they may go on by it.
-    fn end_turn(&self, seat: &mut BoardSeat<D>, mut shared: SharedBoard<D>, change: Change)
+    fn end_turn(&self, seat: &mut BoardSeat<D>, mut noted: NotedBoard<D>, change: Change)
         requires desk { seat.old.desk ≡ Some self.now.desk.now }
         requires number { seat.old.number ≡ self.now.worker.0 }
         requires turn { IsSomeAnd seat.old.found
-            (MayLeave D.size D.faults D.mismatches D.held self.now.desk.now self.now.worker shared) }
-        ensures { HasLeft self.now.desk.now self.now.worker shared seat.new }
+            (MayLeave D.size D.faults D.mismatches D.held self.now.desk.now self.now.worker noted) }
+        requires did { IsSomeAnd seat.old.found (λ found. IsChange found.board noted.board change) }
+        ensures left { HasLeft self.now.desk.now self.now.worker (noted_after change noted) seat.new }
+        ensures rung { HasRung (wakes_after change noted) seat.old seat.new }
     {
-        let rings = shared.wakes(change);
-        self.desk.leave(seat, shared);
+        let rings = noted.wakes(change);
+        self.desk.leave(seat, noted);
         self.ring_where(seat, rings);
     }
 
     /// Ends a turn in which the worker found nothing to do, with a claimed task or without one. The seat has heard the bell.
     /// Where the bell is rung for others, the worker's own rest ends by that too, and it looks once more.
-    fn end_turn_to_rest(
-        &self,
-        seat: &mut BoardSeat<D>,
-        mut shared: SharedBoard<D>,
-        is_claimed: bool,
-    )
+    fn end_turn_to_rest(&self, seat: &mut BoardSeat<D>, mut noted: NotedBoard<D>, claimed: bool)
         requires desk { seat.old.desk ≡ Some self.now.desk.now }
         requires number { seat.old.number ≡ self.now.worker.0 }
         requires turn { IsSomeAnd seat.old.found
-            (MayLeave D.size D.faults D.mismatches D.held self.now.desk.now self.now.worker shared) }
-        ensures left { HasLeft self.now.desk.now self.now.worker shared seat.new }
+            (MayLeave D.size D.faults D.mismatches D.held self.now.desk.now self.now.worker noted) }
+        requires claimed { claimed ≡ is_claimed noted.board self.now.worker }
+        ensures left { HasLeft self.now.desk.now self.now.worker (noted_for_rest claimed noted) seat.new }
+        ensures rung { HasRung (wakes_for_rest claimed noted) seat.old seat.new }
         ensures heard { is_some seat.new.heard ≡ true }
     {
-        let rings = shared.rest(is_claimed);
+        let rings = noted.rest(claimed);
         self.desk.listen(seat);
-        self.desk.leave(seat, shared);
+        self.desk.leave(seat, noted);
         self.ring_where(seat, rings);
     }
 }
@@ -82,34 +89,36 @@ impl<R: Wait, D: Disk> Workplace<'_, R, D> {
         ensures row { IsSeated self.now (λ r. AfterPick self.now.worker r result) seat.new }
         ensures events { GoesOn self.now.worker seat.old seat.new }
         ensures heard { result ≡ Picked.Nothing → is_some seat.new.heard ≡ true }
+        ensures bell { MindsBell self.now.worker (finds_nothing result) seat.old seat.new }
     {
-        let mut shared = self.desk.enter(self.rt, seat);
-        let picked = shared.pick(self.alloc, self.worker);
+        let mut noted = self.desk.enter(self.rt, seat);
+        let picked = noted.board.pick(self.alloc, self.worker);
         if picked == Picked::Nothing {
-            self.end_turn_to_rest(seat, shared, false);
+            self.end_turn_to_rest(seat, noted, false);
             return Picked::Nothing;
         }
-        self.end_turn(seat, shared, Change::Claimed);
+        self.end_turn(seat, noted, Change::Claimed);
         picked
     }
 
     /// Makes the next step for the claimed task. Where the worker must wait, the seat has heard the bell.
-    pub fn step(&self, seat: &mut BoardSeat<D>, t: Task) -> Step
+    pub fn step(&self, seat: &mut BoardSeat<D>, t: Task) -> Step<D>
         requires workplace { IsWorkplace self.now }
         requires claimed { IsSeated self.now (HasClaimedRow self.now.worker t) seat.old }
         ensures row { IsSeated self.now
             (λ r. AfterStep D.held (board_key self.now) self.now.worker t r result) seat.new }
         ensures events { GoesOn self.now.worker seat.old seat.new }
         ensures heard { result ≡ Step.Waits → is_some seat.new.heard ≡ true }
+        ensures bell { MindsBell self.now.worker (has_to_wait result) seat.old seat.new }
     {
-        let mut shared = self.desk.enter(self.rt, seat);
-        let step = shared.step(self.alloc, self.worker, t);
+        let mut noted = self.desk.enter(self.rt, seat);
+        let step = noted.board.step(self.alloc, self.worker, t);
         if let Step::Waits = step {
-            self.end_turn_to_rest(seat, shared, true);
+            self.end_turn_to_rest(seat, noted, true);
             return Step::Waits;
         }
         let change = change_of(&step);
-        self.end_turn(seat, shared, change);
+        self.end_turn(seat, noted, change);
         step
     }
 
@@ -122,44 +131,77 @@ impl<R: Wait, D: Disk> Workplace<'_, R, D> {
             (λ r. IsCarried D.held (board_key self.now) x r tile.value) seat.old }
         ensures row { IsSeated self.now (HasClaimedRow self.now.worker t) seat.new }
         ensures events { GoesOn self.now.worker seat.old seat.new }
+        ensures bell { MindsBell self.now.worker false seat.old seat.new }
     {
-        let mut shared = self.desk.enter(self.rt, seat);
-        shared.arrive(self.worker, t, x, tile);
-        self.end_turn(seat, shared, Change::Freed);
+        let mut noted = self.desk.enter(self.rt, seat);
+        noted.board.arrive(self.worker, t, x, tile);
+        self.end_turn(seat, noted, Change::Freed);
     }
 
-    /// Writes a tile to its disk and ends its transfer. Whether it did: else the worker has failed.
-    pub fn write_out(&self, seat: &mut BoardSeat<D>, t: Task, x: Transfer, tile: &Tile) -> bool
+    /// Puts a disk back on which a tile was stored, and ends its transfer. Whether it did: else the worker has failed.
+    pub fn write_out(
+        &self,
+        seat: &mut BoardSeat<D>,
+        t: Task,
+        x: Transfer,
+        unit: Unit<D>,
+        outcome: Result<(), DiskRefusal>,
+    ) -> bool
         requires workplace { IsWorkplace self.now }
-        requires moves { IsSeated self.now (MovesRow self.now.worker t x) seat.old }
         requires disk { is_node x.to ≡ false }
-        requires tile { IsSeated self.now
-            (λ r. IsCarried D.held (board_key self.now) x r tile.now) seat.old }
+        requires stored { IsSeated self.now (λ r. IsStoredThrough D.size D.faults D.mismatches D.held
+            (board_key self.now) self.now.worker t x r unit outcome) seat.old }
         ensures row { IsSeated self.now
             (λ r. MatchBool result (HasClaimedRow self.now.worker t r) (IsFreeRow r)) seat.new }
         ensures events { GoesOn self.now.worker seat.old seat.new }
+        ensures bell { MindsBell self.now.worker false seat.old seat.new }
     {
-        let mut shared = self.desk.enter(self.rt, seat);
-        let written = shared.write_out(self.worker, t, x, tile);
-        self.end_turn(seat, shared, Change::Freed);
+        let mut noted = self.desk.enter(self.rt, seat);
+        let written = noted.board.write_out(self.worker, t, x, unit, outcome);
+        self.end_turn(seat, noted, Change::Freed);
         written
     }
 
-    /// Reads a block into a tile and ends its transfer. Whether it did: else the worker has failed.
-    pub fn read_in(&self, seat: &mut BoardSeat<D>, t: Task, x: Transfer, tile: Tile) -> bool
+    /// Puts a disk back from which a tile was fetched, and ends its transfer. Whether it did: else the worker has failed.
+    pub fn read_in(
+        &self,
+        seat: &mut BoardSeat<D>,
+        t: Task,
+        x: Transfer,
+        unit: Unit<D>,
+        outcome: Result<(), DiskRefusal>,
+        tile: Option<Arc<Tile>>,
+    ) -> bool
         requires workplace { IsWorkplace self.now }
-        requires moves { IsSeated self.now (MovesRow self.now.worker t x) seat.old }
         requires node { is_node x.to ≡ true }
         requires disk { is_node x.from ≡ false }
-        requires dims { tile.dims ≡ dims_of self.now.program.now x.cell }
+        requires fetched { (a : Array) × IsSeated self.now (λ r. IsFetchedThrough D.size D.faults D.mismatches
+            D.held (board_key self.now) self.now.worker t x r unit outcome a) seat.old }
+        requires tile { IfSome (array_in tile) (λ a. IsSeated self.now
+            (λ r. IsFetchedThrough D.size D.faults D.mismatches D.held (board_key self.now)
+            self.now.worker t x r unit outcome a) seat.old) }
         ensures row { IsSeated self.now
             (λ r. MatchBool result (HasClaimedRow self.now.worker t r) (IsFreeRow r)) seat.new }
         ensures events { GoesOn self.now.worker seat.old seat.new }
+        ensures bell { MindsBell self.now.worker false seat.old seat.new }
     {
-        let mut shared = self.desk.enter(self.rt, seat);
-        let read = shared.read_in(self.alloc, self.worker, t, x, tile);
-        self.end_turn(seat, shared, Change::Freed);
+        let mut noted = self.desk.enter(self.rt, seat);
+        let read = noted.board.read_in(self.worker, t, x, unit, outcome, tile);
+        self.end_turn(seat, noted, Change::Freed);
         read
+    }
+
+    /// Puts a disk back as it was, and fails for want of memory.
+    pub fn give_unit_up(&self, seat: &mut BoardSeat<D>, t: Task, x: Transfer, unit: Unit<D>)
+        requires workplace { IsWorkplace self.now }
+        requires holds { IsSeated self.now (HoldsRow self.now.worker t x unit) seat.old }
+        ensures row { IsSeated self.now IsFreeRow seat.new }
+        ensures events { GoesOn self.now.worker seat.old seat.new }
+        ensures bell { MindsBell self.now.worker false seat.old seat.new }
+    {
+        let mut noted = self.desk.enter(self.rt, seat);
+        noted.board.give_unit_up(self.worker, t, x, unit);
+        self.end_turn(seat, noted, Change::Freed);
     }
 
     /// Ends the task that runs, with its results.
@@ -170,10 +212,11 @@ impl<R: Wait, D: Disk> Workplace<'_, R, D> {
             (λ r. AreDone D.held (board_key self.now) self.now.worker t r results.slots) seat.old }
         ensures row { IsSeated self.now IsFreeRow seat.new }
         ensures events { GoesOn self.now.worker seat.old seat.new }
+        ensures bell { MindsBell self.now.worker false seat.old seat.new }
     {
-        let mut shared = self.desk.enter(self.rt, seat);
-        shared.finish(self.worker, t, results);
-        self.end_turn(seat, shared, Change::Ended);
+        let mut noted = self.desk.enter(self.rt, seat);
+        noted.board.finish(self.worker, t, results);
+        self.end_turn(seat, noted, Change::Ended);
     }
 
     /// Fails for want of memory, and lets the task go.
@@ -181,11 +224,13 @@ impl<R: Wait, D: Disk> Workplace<'_, R, D> {
         requires workplace { IsWorkplace self.now }
         requires works { IsSeated self.now (λ r. r.hand.has_stopped ≡ false) seat.old }
         requires none_given { IsSeated self.now (λ r. r.hand.given ≡ None) seat.old }
+        requires no_unit { IsSeated self.now (λ r. r.hand.unit ≡ None) seat.old }
         ensures row { IsSeated self.now IsFreeRow seat.new }
         ensures events { GoesOn self.now.worker seat.old seat.new }
+        ensures bell { MindsBell self.now.worker false seat.old seat.new }
     {
-        let mut shared = self.desk.enter(self.rt, seat);
-        shared.fail_without_memory(self.worker);
-        self.end_turn(seat, shared, Change::Ended);
+        let mut noted = self.desk.enter(self.rt, seat);
+        noted.board.fail_without_memory(self.worker);
+        self.end_turn(seat, noted, Change::Ended);
     }
 }

@@ -1,6 +1,6 @@
 //! What a worker has at hand for the whole run.
 
-use crate::shared_board::SharedBoard;
+use crate::noted_board::NotedBoard;
 use sj_base::ids::Worker;
 use sj_base::program::Program;
 use sj_desk::{Desk, DeskSeat};
@@ -8,9 +8,9 @@ use sj_edge::disk::Disk;
 use std::alloc::Global;
 
 /// The desk of a run, and a worker's seat at it.
-pub type BoardDesk<D> = Desk<SharedBoard<D>>;
+pub type BoardDesk<D> = Desk<NotedBoard<D>>;
 
-pub type BoardSeat<D> = DeskSeat<SharedBoard<D>>;
+pub type BoardSeat<D> = DeskSeat<NotedBoard<D>>;
 
 /// What a worker has at hand for the whole run, beside its seat. Nothing of it changes.
 #[derive(Drop)]

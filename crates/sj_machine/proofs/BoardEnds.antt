@@ -71,7 +71,7 @@ module _ {D : Type 0} (held : D → Option (List ℕ)) (run : Standing D) (pairs
       by_move (Some x) some is = stays (Moved x.cell x.from x.to) run' is refl
 
   -- where the disks alone change
-  pub stays-stored : (run' : Standing D) → run' ≡ record run { disks = run'.disks } → Keeps held run' pairs gifts spare left
+  pub stays-stored : (run' : Standing D) → run' ≡ record run { disks = run'.disks; out = run'.out } → Keeps held run' pairs gifts spare left
   stays-stored run' is = subst (λ (r : Standing D). Keeps held r pairs gifts spare left) (sym is) keeps
 
   module _ (size faults mismatches : D → ℕ) (sound : IsSoundRun size faults mismatches held run) (t : Task) (w : Worker) where

@@ -16,7 +16,8 @@ use Rattle.sj_disk.specs.declared.refusal.DiskRefusal.{DiskRefusal}
 use Rattle.sj_disk.specs.declared.refusal.DiskRefusal.TheVariants.{Damaged, DiskFault}
 use Rattle.sj_disk.specs.Block.{block, header}
 use Rattle.sj_disk.specs.Calls.{Fetches, Stores}
-use Rattle.sj_disk.specs.Directory.{DiskState, extent_of, IsLaidOut}
+use Rattle.sj_disk.specs.Lending.{LendingState}
+use Rattle.sj_disk.specs.Directory.{extent_of, IsLaidOut}
 use Rattle.sj_disk.specs.Holding.{ChangesAt, Tells}
 use Rattle.sj_disk.specs.Refusals.{RefusesFor, is_damage, is_fault}
 use Rattle.sj_disk.specs.Transfers.{Looks, Writes}
@@ -120,15 +121,15 @@ risen-at {D} count Q d P opened old new grew rises back inside changes = by_old 
     by_old (Some x) e h = by_opened x e (slice_get opened d) h
 
 -- a refusal is a fault that has its cause
-pub call-cause : {D A : Type 0} (size faults mismatches : D → ℕ) (held : D → Option (List ℕ)) (b : Standing D) (new : DiskState D) (number : DiskNo) (result : Result A DiskRefusal) → AreGivenBack size faults mismatches held b.opened b.disks.disks → number.0 < length b.disks.disks → NamesDisk number result → ChangesAt number.0 (IsCall faults mismatches number result) b.disks.disks new.disks → (is_damage result ≡ true → AllTell held b → ⊥) → ((d : DiskNo) (want found : Header) → result ≡ Err (Damaged d want found) → IsLastWritten b.program (state b) d want) → IfErr result (λ r. HasCause faults mismatches held (record b { disks = new }) (fault_of r))
+pub call-cause : {D A : Type 0} (size faults mismatches : D → ℕ) (held : D → Option (List ℕ)) (b : Standing D) (new : LendingState D) (number : DiskNo) (result : Result A DiskRefusal) → AreGivenBack size faults mismatches held b.opened b.disks.disks → number.0 < length b.disks.disks → NamesDisk number result → ChangesAt number.0 (IsCall faults mismatches number result) b.disks.disks new.set.disks → (is_damage result ≡ true → AllTell held b → ⊥) → ((d : DiskNo) (want found : Header) → result ≡ Err (Damaged d want found) → IsLastWritten b.program (state b) d want) → IfErr result (λ r. HasCause faults mismatches held (record b { disks = new.set; out = new.out }) (fault_of r))
 call-cause size faults mismatches held b new number (Ok a) back inside names changes untold last = tt
 call-cause {D} {A} size faults mismatches held b new number (Err (DiskFault d)) back inside names changes untold last =
-    subst (λ (k : DiskNo). HasRisen faults b.opened new.disks k.0) (sym (names.fault d refl))
-    (risen-at faults (IsGivenBack size faults mismatches held) number.0 (IsCall faults mismatches number (Err (DiskFault d))) b.opened b.disks.disks new.disks (λ x y (is : IsGivenBack size faults mismatches held x y). is.faults_never_fall) (λ x y (is : IsCall {A = A} faults mismatches number (Err (DiskFault d)) x y). (is.faults_rose refl, is.faults_grow)) back inside changes)
+    subst (λ (k : DiskNo). HasRisen faults b.opened new.set.disks k.0) (sym (names.fault d refl))
+    (risen-at faults (IsGivenBack size faults mismatches held) number.0 (IsCall faults mismatches number (Err (DiskFault d))) b.opened b.disks.disks new.set.disks (λ x y (is : IsGivenBack size faults mismatches held x y). is.faults_never_fall) (λ x y (is : IsCall {A = A} faults mismatches number (Err (DiskFault d)) x y). (is.faults_rose refl, is.faults_grow)) back inside changes)
 call-cause {D} {A} size faults mismatches held b new number (Err (Damaged d want found)) back inside names changes untold last =
     let named = names.damage d want found refl in (
-      subst (λ (k : DiskNo). HasRisen mismatches b.opened new.disks k.0) (sym named.0)
-          (risen-at mismatches (IsGivenBack size faults mismatches held) number.0 (IsCall faults mismatches number (Err (Damaged d want found))) b.opened b.disks.disks new.disks (λ x y (is : IsGivenBack size faults mismatches held x y). is.mismatches_never_fall) (λ x y (is : IsCall {A = A} faults mismatches number (Err (Damaged d want found)) x y). (is.mismatches_rose refl, is.mismatches_grow)) back inside changes),
+      subst (λ (k : DiskNo). HasRisen mismatches b.opened new.set.disks k.0) (sym named.0)
+          (risen-at mismatches (IsGivenBack size faults mismatches held) number.0 (IsCall faults mismatches number (Err (Damaged d want found))) b.opened b.disks.disks new.set.disks (λ x y (is : IsGivenBack size faults mismatches held x y). is.mismatches_never_fall) (λ x y (is : IsCall {A = A} faults mismatches number (Err (Damaged d want found)) x y). (is.mismatches_rose refl, is.mismatches_grow)) back inside changes),
       (λ same. named.1 (sym same)),
       untold refl,
       last d want found refl,
@@ -150,11 +151,11 @@ refused-names {A} number result only = record { fault = λ d e. at d (subst (λ 
     clash : (d : DiskNo) (want found : Header) → Damaged d want found ≡ DiskFault number → ⊥
     clash d want found e = cc
 
-module _ {D A : Type 0} (size faults mismatches : D → ℕ) (held : D → Option (List ℕ)) (b : Standing D) (new : DiskState D) (c n : ℕ) (xs : List ℤ) (result : Result A DiskRefusal) (e : Extent) where
-  store-call : Stores size faults mismatches held c n xs result b.disks new e → ChangesAt e.disk.0 (IsCall faults mismatches e.disk result) b.disks.disks new.disks
+module _ {D A : Type 0} (size faults mismatches : D → ℕ) (held : D → Option (List ℕ)) (b : Standing D) (new : LendingState D) (c n : ℕ) (xs : List ℤ) (result : Result A DiskRefusal) (e : Extent) where
+  store-call : Stores size faults mismatches held c n xs result b.disks new.set e → ChangesAt e.disk.0 (IsCall faults mismatches e.disk result) b.disks.disks new.set.disks
   store-call is =
       let only = refused-fault e.disk result is.refused_by_its_disk in
-      changes-map e.disk.0 (Writes size faults mismatches held e.position (block c n xs) result) (IsCall faults mismatches e.disk result) b.disks.disks new.disks
+      changes-map e.disk.0 (Writes size faults mismatches held e.position (block c n xs) result) (IsCall faults mismatches e.disk result) b.disks.disks new.set.disks
       (λ x y (w : Writes size faults mismatches held e.position (block c n xs) result x y). record {
         of_faults = w.a_fault_is_counted_once ∙ ap (counted (faults x)) only.0;
         of_mismatches = w.mismatches_stay ∙ ap (counted (mismatches x)) (sym only.1);
@@ -165,9 +166,9 @@ module _ {D A : Type 0} (size faults mismatches : D → ℕ) (held : D → Optio
       })
       is.writes_the_block
 
-  fetch-call : Fetches size faults mismatches held c n xs result b.disks new e → ChangesAt e.disk.0 (IsCall faults mismatches e.disk result) b.disks.disks new.disks
+  fetch-call : Fetches size faults mismatches held c n xs result b.disks new.set e → ChangesAt e.disk.0 (IsCall faults mismatches e.disk result) b.disks.disks new.set.disks
   fetch-call is =
-      changes-map e.disk.0 (Looks size faults mismatches held (is_fault result) (is_damage result)) (IsCall faults mismatches e.disk result) b.disks.disks new.disks
+      changes-map e.disk.0 (Looks size faults mismatches held (is_fault result) (is_damage result)) (IsCall faults mismatches e.disk result) b.disks.disks new.set.disks
       (λ x y (w : Looks size faults mismatches held (is_fault result) (is_damage result) x y). record {
         of_faults = w.a_fault_is_counted_once;
         of_mismatches = w.a_mismatch_is_counted_once;
@@ -196,7 +197,7 @@ wanted-last {A} number want result is P so d w found e = named (subst (RefusesFo
 
 -- ---- as a run's store and fetch tell it
 
-module _ {D A : Type 0} (size faults mismatches : D → ℕ) (held : D → Option (List ℕ)) (b : Standing D) (rows : Rows) (owed spare : ℕ) (keeps : Keeps size faults mismatches held b rows owed spare) (new : DiskState D) (c n : ℕ) (xs : List ℤ) (result : Result A DiskRefusal) (laid : IsLaidOut (map size b.disks.disks) b.disks.taken b.disks.directory) (Q : Extent → Type 0) (some : IsSomeAnd (extent_of b.disks.directory c) Q) where
+module _ {D A : Type 0} (size faults mismatches : D → ℕ) (held : D → Option (List ℕ)) (b : Standing D) (rows : Rows) (owed spare : ℕ) (keeps : Keeps size faults mismatches held b rows owed spare) (new : LendingState D) (c n : ℕ) (xs : List ℤ) (result : Result A DiskRefusal) (laid : IsLaidOut (map size b.disks.disks) b.disks.taken b.disks.directory) (Q : Extent → Type 0) (some : IsSomeAnd (extent_of b.disks.directory c) Q) where
   back : AreGivenBack size faults mismatches held b.opened b.disks.disks
   back = keeps.sound.given_back
 
@@ -211,25 +212,25 @@ module _ {D A : Type 0} (size faults mismatches : D → ℕ) (held : D → Optio
       by_extent None h = absurd h
       by_extent (Some e) h = (e, refl)
 
-  pub stores-counted : IfSome (extent_of b.disks.directory c) (Stores size faults mismatches held c n xs result b.disks new) → AreCounted faults mismatches result b.disks.disks new.disks
+  pub stores-counted : IfSome (extent_of b.disks.directory c) (Stores size faults mismatches held c n xs result b.disks new.set) → AreCounted faults mismatches result b.disks.disks new.set.disks
   stores-counted told =
-      let is = subst (λ (o : Option Extent). IfSome o (Stores size faults mismatches held c n xs result b.disks new)) found.1 told in
-      call-counted faults mismatches found.0.disk result b.disks.disks new.disks (refused-names found.0.disk result is.refused_by_its_disk) (store-call size faults mismatches held b new c n xs result found.0 is)
+      let is = subst (λ (o : Option Extent). IfSome o (Stores size faults mismatches held c n xs result b.disks new.set)) found.1 told in
+      call-counted faults mismatches found.0.disk result b.disks.disks new.set.disks (refused-names found.0.disk result is.refused_by_its_disk) (store-call size faults mismatches held b new c n xs result found.0 is)
 
-  pub stores-cause : IfSome (extent_of b.disks.directory c) (Stores size faults mismatches held c n xs result b.disks new) → IfErr result (λ r. HasCause faults mismatches held (record b { disks = new }) (fault_of r))
+  pub stores-cause : IfSome (extent_of b.disks.directory c) (Stores size faults mismatches held c n xs result b.disks new.set) → IfErr result (λ r. HasCause faults mismatches held (record b { disks = new.set; out = new.out }) (fault_of r))
   stores-cause told =
-      let is = subst (λ (o : Option Extent). IfSome o (Stores size faults mismatches held c n xs result b.disks new)) found.1 told in
+      let is = subst (λ (o : Option Extent). IfSome o (Stores size faults mismatches held c n xs result b.disks new.set)) found.1 told in
       let only = refused-fault found.0.disk result is.refused_by_its_disk in
       call-cause size faults mismatches held b new found.0.disk result back (on_a_disk found.0 found.1) (refused-names found.0.disk result is.refused_by_its_disk) (store-call size faults mismatches held b new c n xs result found.0 is) (λ damaged tells. false≢true (sym only.1 ∙ damaged)) (λ d want found e. absurd (false≢true (sym only.1 ∙ ap is_damage e)))
 
-  pub fetches-counted : IfSome (extent_of b.disks.directory c) (Fetches size faults mismatches held c n xs result b.disks new) → AreCounted faults mismatches result b.disks.disks new.disks
+  pub fetches-counted : IfSome (extent_of b.disks.directory c) (Fetches size faults mismatches held c n xs result b.disks new.set) → AreCounted faults mismatches result b.disks.disks new.set.disks
   fetches-counted told =
-      let is = subst (λ (o : Option Extent). IfSome o (Fetches size faults mismatches held c n xs result b.disks new)) found.1 told in
-      call-counted faults mismatches found.0.disk result b.disks.disks new.disks (refuses-names found.0.disk (header c n found.0.length) result is.refused_by_its_disk) (fetch-call size faults mismatches held b new c n xs result found.0 is)
+      let is = subst (λ (o : Option Extent). IfSome o (Fetches size faults mismatches held c n xs result b.disks new.set)) found.1 told in
+      call-counted faults mismatches found.0.disk result b.disks.disks new.set.disks (refuses-names found.0.disk (header c n found.0.length) result is.refused_by_its_disk) (fetch-call size faults mismatches held b new c n xs result found.0 is)
 
-  pub fetches-cause : ((e : Extent) → extent_of b.disks.directory c ≡ Some e → IsLastWritten b.program (state b) e.disk (header c n e.length)) → IfSome (extent_of b.disks.directory c) (Fetches size faults mismatches held c n xs result b.disks new) → IfErr result (λ r. HasCause faults mismatches held (record b { disks = new }) (fault_of r))
+  pub fetches-cause : ((e : Extent) → extent_of b.disks.directory c ≡ Some e → IsLastWritten b.program (state b) e.disk (header c n e.length)) → IfSome (extent_of b.disks.directory c) (Fetches size faults mismatches held c n xs result b.disks new.set) → IfErr result (λ r. HasCause faults mismatches held (record b { disks = new.set; out = new.out }) (fault_of r))
   fetches-cause last told =
-      let is = subst (λ (o : Option Extent). IfSome o (Fetches size faults mismatches held c n xs result b.disks new)) found.1 told in
+      let is = subst (λ (o : Option Extent). IfSome o (Fetches size faults mismatches held c n xs result b.disks new.set)) found.1 told in
       call-cause size faults mismatches held b new found.0.disk result back (on_a_disk found.0 found.1) (refuses-names found.0.disk (header c n found.0.length) result is.refused_by_its_disk) (fetch-call size faults mismatches held b new c n xs result found.0 is)
       (λ damaged tells. false≢true (sym (is.undamaged_where_it_tells (λ x there. tell-still size faults mismatches held b.opened b.disks.disks back tells found.0.disk.0 x there)) ∙ damaged))
       (λ d want held_there e. wanted-last found.0.disk (header c n found.0.length) result is.refused_by_its_disk (IsLastWritten b.program (state b)) (last found.0 found.1) d want held_there e)

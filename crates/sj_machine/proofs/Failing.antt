@@ -1,5 +1,5 @@
 -- A board stays sound where a worker fails, and where it stops.
-use Rattle.std.proofs.Common.{◌≡◌, ℕ, ◌+◌, ◌<◌, true, false, IsTrue, Option, Some, None, List, inl, inr, refl, sym, subst, ap, ◌∙◌, length, length-set, is_some}
+use Rattle.std.proofs.Common.{◌≡◌, ℕ, ◌+◌, ◌<◌, true, false, IsTrue, Option, Some, None, List, inl, inr, refl, sym, subst, ap, ◌∙◌, length, length-set, is_some, slice_set}
 use Rattle.std.specs.Prelude.{IfSome}
 use Rattle.std.proofs.lemmas.Bool.{cases_lt, false≢true}
 use Rattle.std.proofs.lemmas.List.{get_or_past}
@@ -9,10 +9,11 @@ use Rattle.sj_core.specs.declared.progress.Progress.TheVariants.{Claimed, Done, 
 use Rattle.sj_core.proofs.Words.{Machine, Program, State, Task, Worker, is_done, is_task_of, progress}
 use Rattle.sj_core.specs.Legal.{IsComplete}
 use Rattle.sj_deps.specs.Progress.{Progress as Dependencies}
-use Rattle.sj_machine.specs.Board.{BoardState, HasCause, IsOver, IsWorking, failed, first_fault, hand_of, stopped}
+use Rattle.sj_machine.specs.Board.{BoardState, HasCause, IsOver, IsWorking, failed, first_fault, hand_of, stopped, with_hand}
 use Rattle.sj_machine.specs.BoardSound.{HandsAgree, KeepsBoard, StopsAtTheEnd, times_pooled}
 use Rattle.sj_machine.specs.Standing.{state}
 use Rattle.sj_machine.specs.declared.fault.RunFault.{RunFault}
+use Rattle.sj_machine.specs.declared.hand.Hand.{Hand}
 use Rattle.sj_machine.proofs.Hands.{given-same, hand-set, pool_for-same, stands-same}
 
 -- there is a fault from then on, and it has its cause
@@ -107,3 +108,13 @@ module _ {D : Type 0} (faults mismatches : D → ℕ) (held : D → Option (List
       no-task : IsOver b → b.fault ≡ None → (t : Task) → IsTrue (is_task_of w (progress s t)) → ⊥
       no-task (inl complete) none t has = done-none complete w t has
       no-task (inr some) none t has = false≢true (ap is_some (sym none) ∙ some)
+
+-- as the code leaves it
+pub failed-left : {D : Type 0} (faults mismatches : D → ℕ) (held : D → Option (List ℕ)) (b : BoardState D) (deps : Dependencies) (footprints : List ℕ) → KeepsBoard faults mismatches held b deps footprints → (w : Worker) → IsWorking b w → (fault : RunFault) → HasCause faults mismatches held b.run fault → (hands' : List Hand) (fault' : Option RunFault) → hands' ≡ slice_set b.hands w.0 (record (hand_of b w) { task = None }) → fault' ≡ first_fault b.fault fault → KeepsBoard faults mismatches held (record b { hands = hands'; fault = fault' }) deps footprints
+failed-left faults mismatches held b deps footprints keeps w works fault cause hands' fault' hs f =
+    subst (λ (x : List Hand). KeepsBoard faults mismatches held (record b { hands = x; fault = fault' }) deps footprints) (sym hs)
+    (subst (λ (x : Option RunFault). KeepsBoard faults mismatches held (record (with_hand b w (record (hand_of b w) { task = None })) { fault = x }) deps footprints) (sym f) (keeps-failed faults mismatches held b deps footprints keeps w works fault cause))
+
+pub stopped-left : {D : Type 0} (faults mismatches : D → ℕ) (held : D → Option (List ℕ)) (b : BoardState D) (deps : Dependencies) (footprints : List ℕ) → KeepsBoard faults mismatches held b deps footprints → (w : Worker) → IsWorking b w → IsOver b → (hands' : List Hand) → hands' ≡ slice_set b.hands w.0 (record (hand_of b w) { task = None; has_stopped = true }) → KeepsBoard faults mismatches held (record b { hands = hands' }) deps footprints
+stopped-left faults mismatches held b deps footprints keeps w works over hands' hs =
+    subst (λ (x : List Hand). KeepsBoard faults mismatches held (record b { hands = x }) deps footprints) (sym hs) (keeps-stopped faults mismatches held b deps footprints keeps w works over)

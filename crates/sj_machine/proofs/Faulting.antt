@@ -1,5 +1,5 @@
 -- A fault that is kept has its cause still where disks were used: their counts never fall.
-use Rattle.std.proofs.Common.{ℕ, ◌<◌, ◌≤◌, Option, Some, None, List, sym, subst, arith}
+use Rattle.std.proofs.Common.{ℕ, ◌<◌, ◌≤◌, Bool, Option, Some, None, List, sym, subst, arith}
 use Rattle.std.specs.Prelude.{IfSome, IsSomeAnd, Result, ℤ, MatchOption, slice_get}
 use Rattle.std.specs.List.{AllZip}
 use Rattle.std.proofs.lemmas.Slice.Zip.{AllZip-left}
@@ -34,20 +34,20 @@ risen-kept count Q opened old new d grows back risen = by_opened (slice_get open
     by_opened None h = h
     by_opened (Some x) h = above count (count x) Q (slice_get old d) (slice_get new d) grows h (AllZip-left Q old new back d)
 
-module _ {D : Type 0} (size faults mismatches : D → ℕ) (held : D → Option (List ℕ)) (b : Standing D) (disks : DiskState D) (back : AreGivenBack size faults mismatches held b.disks.disks disks.disks) where
-  pub cause-kept : (fault : RunFault) → HasCause faults mismatches held b fault → HasCause faults mismatches held (record b { disks = disks }) fault
+module _ {D : Type 0} (size faults mismatches : D → ℕ) (held : D → Option (List ℕ)) (b : Standing D) (disks : DiskState D) (out : List Bool) (back : AreGivenBack size faults mismatches held b.disks.disks disks.disks) where
+  pub cause-kept : (fault : RunFault) → HasCause faults mismatches held b fault → HasCause faults mismatches held (record b { disks = disks; out = out }) fault
   cause-kept (DiskFault d) risen = risen-kept faults (IsGivenBack size faults mismatches held) b.opened b.disks.disks disks.disks d.0 (λ y z given. given.faults_never_fall) back risen
   cause-kept (Damaged d want found) (risen, differ, untold, last) = (risen-kept mismatches (IsGivenBack size faults mismatches held) b.opened b.disks.disks disks.disks d.0 (λ y z given. given.mismatches_never_fall) back risen, differ, untold, last)
   cause-kept OutOfMemory h = h
 
-  pub kept-cause : (fault : Option RunFault) → IfSome fault (HasCause faults mismatches held b) → IfSome fault (HasCause faults mismatches held (record b { disks = disks }))
+  pub kept-cause : (fault : Option RunFault) → IfSome fault (HasCause faults mismatches held b) → IfSome fault (HasCause faults mismatches held (record b { disks = disks; out = out }))
   kept-cause None h = h
   kept-cause (Some fault) h = cause-kept fault h
 
 -- where the disks alone change
 pub keeps-disks : {D : Type 0} (size faults mismatches : D → ℕ) (held : D → Option (List ℕ)) (b : BoardState D) (deps : Dependencies) (footprints : List ℕ) (run' : Standing D) → OnlyDisksChange b.run run' → AreGivenBack size faults mismatches held b.run.disks.disks run'.disks.disks → KeepsBoard faults mismatches held b deps footprints → KeepsBoard faults mismatches held (record b { run = run' }) deps footprints
 keeps-disks {D} size faults mismatches held b deps footprints run' only back keeps = subst (λ (r : Standing D). KeepsBoard faults mismatches held (record b { run = r }) deps footprints) (sym only) (record {
-  fault = kept-cause size faults mismatches held b.run run'.disks back b.fault keeps.fault;
+  fault = kept-cause size faults mismatches held b.run run'.disks run'.out back b.fault keeps.fault;
   inside = keeps.inside;
   counts = keeps.counts;
   bytes = keeps.bytes;

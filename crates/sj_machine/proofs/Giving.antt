@@ -1,27 +1,27 @@
 -- A board stays sound where a worker is given a task from the pool, and where it gives one back.
-use Rattle.std.proofs.Common.{◌≡◌, ℕ, ◌+◌, ◌<◌, ◌≤◌, true, false, IsTrue, nat_le, ◌⊎◌, Option, Some, None, List, cond, refl, sym, subst, ap, ◌∙◌, arith, length, length-set, slice_set, is_some}
+use Rattle.std.proofs.Common.{◌≡◌, ℕ, ◌+◌, ◌<◌, ◌≤◌, true, false, IsTrue, ◌⊎◌, Option, Some, None, IfSome, List, cond, inl, inr, refl, sym, subst, ap, ◌∙◌, arith, length, length-set, slice_set, is_some}
 use Rattle.std.proofs.lemmas.List.Sums.{get_or-le-sum_by}
 use Rattle.sj_core.proofs.Words.{Machine, Program, State, Task, Worker, footprint, is_task_of, node_of, node_size, progress}
 use Rattle.sj_core.specs.Legal.{IsComplete}
 use Rattle.sj_deps.specs.Progress.{Progress as Dependencies}
-use Rattle.sj_pool.proofs.Serving.{serving-fits}
-use Rattle.sj_pool.specs.Pool.{Pooled, contains, home, serves, task_for, turns, with_entry, without_entry_for}
-use Rattle.sj_pool.specs.declared.entry.Entry.{Entry}
+use Rattle.sj_pool.specs.Pool.{Pooled, contains, home, with_entry}
 use Rattle.sj_base.specs.Array.{Array}
-use Rattle.sj_machine.specs.Board.{BoardState, board_state, empty_hand, given_back, given_next, hand_of, room_of}
+use Rattle.sj_machine.specs.Board.{BoardState, board_state, empty_hand, given_back, given_from, hand_of, room_of}
 use Rattle.sj_machine.specs.Filling.{entry_of}
 use Rattle.sj_machine.specs.BoardSound.{IsEntry, IsPoolFor, IsToBeTaken, KeepsBoard, is_given, times_given, times_pooled}
+use Rattle.sj_machine.specs.Passing.{IsLeft, IsPoolOf, IsTakenBehind}
 use Rattle.sj_machine.specs.Standing.{Standing, state}
 use Rattle.sj_machine.specs.declared.fault.RunFault.{RunFault}
 use Rattle.sj_machine.specs.declared.hand.Hand.{Hand}
+use Rattle.std.proofs.lemmas.Bool.{cases_lt}
 use Rattle.std.proofs.lemmas.Option.{none-some}
 use Rattle.sj_machine.proofs.Hands.{given-set, hand-set, stands-same}
-use Rattle.sj_machine.proofs.Pooling.{IsTakenFrom, Serves, queues-length, all-pooled, all-taken, home-inside, none-contains, once, taken-entry, times-put, times-taken}
+use Rattle.sj_machine.proofs.Pooling.{all-pooled, home-inside, none-contains, once, times-put}
 
 pub once-given : (t : Task) (hand : Hand) → cond {A = ℕ} (is_given t hand) 1 0 ≡ once t hand.given
 once-given t hand = by_given hand.given
   where
-    by_given : (g : Option Task) → cond {A = ℕ} (is_given t (record { given = g; task = None; has_stopped = false })) 1 0 ≡ once t g
+    by_given : (g : Option Task) → cond {A = ℕ} (is_given t (record { given = g; task = None; unit = None; has_stopped = false })) 1 0 ≡ once t g
     by_given None = refl
     by_given (Some u) = refl
 
@@ -73,32 +73,47 @@ module _ {D : Type 0} (faults mismatches : D → ℕ) (held : D → Option (List
   abbrev room : ℕ
   room = room_of b w
 
-  serving : Serves b.pool.queues room (serves b.pool w.0 room)
-  serving i is = serving-fits b.pool.queues room (turns (length b.pool.queues) (home b.pool.policy w.0)) i is
-
-  fitting : (t : Task) → IsTakenFrom (IsEntry p) room t → footprint p t ≤ room
-  fitting t taken =
-      let bytes : taken.entry.bytes ≡ footprint p t = ap (λ (e : Entry). e.bytes) taken.has ∙ ap (footprint p) taken.task in
-      let fits : nat_le taken.entry.bytes room ≡ true = taken.fitting in
-      subst (λ (n : ℕ). n ≤ room) bytes (grind arith)
-
-  fits-next : IsPoolFor p m (slice_set b.hands w.0 (giving (task_for b.pool w.0 room))) (without_entry_for b.pool w.0 room)
-  fits-next = record {
-    policy = keeps.inside.pool_fits.policy;
+  -- the pool alone
+  pub pool-kept : IsPoolOf p b.pool
+  pool-kept = record {
     workers = keeps.inside.pool_fits.workers;
     tasks = keeps.inside.pool_fits.tasks;
-    queues = queues-length b.pool.queues room (serves b.pool w.0 room) ∙ keeps.inside.pool_fits.queues;
-    entries = all-taken (IsEntry p) b.pool.queues room (serves b.pool w.0 room) serving keeps.inside.pool_fits.entries;
-    fits = hand-set (λ v x. (t : Task) → x.given ≡ Some t → footprint p t ≤ node_size m (node_of m v)) b.hands w (giving (task_for b.pool w.0 room)) hand-inside (λ t g. fitting t (taken-entry (IsEntry p) b.pool.queues room (serves b.pool w.0 room) t serving keeps.inside.pool_fits.entries g)) keeps.inside.pool_fits.fits;
+    queues = keeps.inside.pool_fits.queues;
+    entries = keeps.inside.pool_fits.entries;
+    known = λ t h. (keeps.inside.stands_once.only t (omega (arith, h))).ready.task;
+    once = at-most-once;
   }
+    where
+      at-most-once : (t : Task) → times_pooled b.pool t ≤ 1
+      at-most-once t =
+          elim (cases_lt 0 (times_pooled b.pool t)) as (λ _. times_pooled b.pool t ≤ 1) [
+            | inl some ↦ omega (arith, keeps.inside.stands_once.once t (keeps.inside.stands_once.only t (omega (arith, some))))
+            | inr none ↦ omega (arith, none)
+          ]
 
-  pub keeps-next : (hand_of b w).given ≡ None → KeepsBoard faults mismatches held (given_next b w) deps footprints
-  keeps-next free = keeps-given (task_for b.pool w.0 room) (without_entry_for b.pool w.0 room) (λ t. omega (arith, times-taken b.pool.queues room (serves b.pool w.0 room) t serving, ap (once t) free)) fits-next
+  module _ (passed : List Task) (g : Option Task) (pool' : Pooled) (behind : IsTakenBehind p passed w.0 room b.pool pool' g) where
+    fits-next : IsPoolFor p m (slice_set b.hands w.0 (giving g)) pool'
+    fits-next = record {
+      policy = behind.policy ∙ keeps.inside.pool_fits.policy;
+      workers = behind.pool.workers;
+      tasks = behind.pool.tasks;
+      queues = behind.pool.queues;
+      entries = behind.pool.entries;
+      fits = hand-set (λ v x. (t : Task) → x.given ≡ Some t → footprint p t ≤ node_size m (node_of m v)) b.hands w (giving g) hand-inside (λ t e. given-fits g behind.left t e) keeps.inside.pool_fits.fits;
+    }
+      where
+        given-fits : (o : Option Task) → IfSome o (IsLeft p passed room b.pool) → (t : Task) → o ≡ Some t → footprint p t ≤ room
+        given-fits None left t e = absurd (none-some t e)
+        given-fits (Some u) left t e = let same : u ≡ t = cc in subst (λ (k : Task). footprint p k ≤ room) same left.fits
+
+    pub keeps-next : (hand_of b w).given ≡ None → KeepsBoard faults mismatches held (given_from b w g pool') deps footprints
+    keeps-next free = keeps-given g pool' (λ t. omega (arith, behind.lost t, ap (once t) free)) fits-next
 
   -- as the code leaves it
-  pub keeps-next_left : (n : ℕ) (g : Option Task) (hands' : List Hand) (pool' : Pooled) → n ≡ room → g ≡ task_for b.pool w.0 n → hands' ≡ slice_set b.hands w.0 (giving g) → pool' ≡ without_entry_for b.pool w.0 n → (hand_of b w).given ≡ None → KeepsBoard faults mismatches held (board_state b.run hands' pool' b.fault b.delivered) deps footprints
-  keeps-next_left n g hands' pool' size task hands pool free =
-      keeps-left faults mismatches held b.run _ hands' _ pool' b.fault b.delivered deps footprints (hands ∙ ap (λ (o : Option Task). slice_set b.hands w.0 (giving o)) (task ∙ ap (task_for b.pool w.0) size)) (pool ∙ ap (without_entry_for b.pool w.0) size) (keeps-next free)
+  pub keeps-next_left : (n : ℕ) (passed : List Task) (p' : Program) (g : Option Task) (hands' : List Hand) (pool' : Pooled) → n ≡ room → p' ≡ p → IsTakenBehind p' passed w.0 n b.pool pool' g → hands' ≡ slice_set b.hands w.0 (giving g) → (hand_of b w).given ≡ None → KeepsBoard faults mismatches held (board_state b.run hands' pool' b.fault b.delivered) deps footprints
+  keeps-next_left n passed p' g hands' pool' size same behind hands free =
+      let here : IsTakenBehind p passed w.0 room b.pool pool' g = subst (λ (k : ℕ). IsTakenBehind p passed w.0 k b.pool pool' g) size (subst (λ (q : Program). IsTakenBehind q passed w.0 n b.pool pool' g) same behind) in
+      keeps-left faults mismatches held b.run _ hands' _ pool' b.fault b.delivered deps footprints hands refl (keeps-next passed g pool' here free)
 
   -- ---- a task back to the pool
 

@@ -269,7 +269,7 @@ module _ {D : Type 0} (size faults mismatches : D → ℕ) (held : D → Option 
     knows-claimed t w can run' is gone' noted = subst (λ (r : Standing D). Knows r gone') (sym is) (knows-noted run (with_event run (Claim t w)) refl w (λ v other. event-stays (Claim t w) can v other) refl gone knows 0 refl gone' noted)
 
 -- where the disks alone change
-pub knows-stored : {D : Type 0} (run run' : Standing D) (gone : List ℕ) → Knows run gone → run' ≡ record run { disks = run'.disks } → Knows run' gone
+pub knows-stored : {D : Type 0} (run run' : Standing D) (gone : List ℕ) → Knows run gone → run' ≡ record run { disks = run'.disks; out = run'.out } → Knows run' gone
 knows-stored run run' gone knows is = subst (λ (r : Standing _). Knows r gone) (sym is) knows
 
 -- where it is found that more are gone

@@ -27,7 +27,7 @@ given-set hands w h t inside = sum_by-set (λ (x : Hand). cond {A = ℕ} (is_giv
 
 pub given-same : (hands : List Hand) (w : Worker) (h : Hand) (t : Task) → w.0 < length hands → h.given ≡ (hand_in hands w).given → times_given (slice_set hands w.0 h) t ≡ times_given hands t
 given-same hands w h t inside same =
-    let tests : is_given t h ≡ is_given t (hand_in hands w) = ap (λ (g : Option Task). is_given t (record { given = g; task = None; has_stopped = false })) same in
+    let tests : is_given t h ≡ is_given t (hand_in hands w) = ap (λ (g : Option Task). is_given t (record { given = g; task = None; unit = None; has_stopped = false })) same in
     let counts : cond {A = ℕ} (is_given t h) 1 0 ≡ cond {A = ℕ} (is_given t (hand_in hands w)) 1 0 = ap (λ (b : Bool). cond {A = ℕ} b 1 0) tests in
     omega (arith, given-set hands w h t inside, counts)
 

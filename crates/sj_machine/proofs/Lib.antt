@@ -41,6 +41,7 @@ pub mod Opening
 pub mod Shares
 pub mod PoolFilling
 pub mod Pooling
+pub mod PassedTasks
 pub mod Owning
 pub mod Prepared
 pub mod Putting
@@ -55,5 +56,9 @@ pub mod Taking
 pub mod TaskEnding
 pub mod Tiles
 pub mod Transferring
+pub mod UnitBoards
+pub mod UnitHands
+pub mod UnitPuts
 pub mod Unpinning
+pub mod WaitsOut
 pub mod Written

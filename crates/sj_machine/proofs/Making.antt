@@ -15,6 +15,7 @@ use Rattle.sj_core.proofs.Reading.{idle_row, no_row, replica_in-no_row}
 use Rattle.sj_core.proofs.Finding.{being_written-by}
 use Rattle.sj_core.specs.Coherent.{is_being_written}
 use Rattle.sj_edge.proofs.GivenBackLemmas.{all_given_back-untouched, all_untouched-same}
+use Rattle.sj_disk.specs.Lending.{LendingState, lending}
 use Rattle.sj_disk.specs.Directory.{DiskState, extent_of}
 use Rattle.sj_node.specs.Store.{Store, empty, store}
 use Rattle.sj_machine.specs.declared.mark.Mark.TheVariants.{Invalid as NoMark}
@@ -147,9 +148,10 @@ module _ {D : Type 0} (size faults mismatches : D → ℕ) (held : D → Option 
   }
 
   -- as the code makes it
-  pub keeps-made : (tasks : List Progress) (cells : List Copies) (nodes : List Store) (workers : List WorkerState) (trace : Recorded) (opened : DiskState D) → tasks ≡ (first_rows p m).tasks → cells ≡ (first_rows p m).cells → nodes ≡ (first_rows p m).nodes → workers ≡ (first_rows p m).workers → trace.events ≡ [] → opened ≡ disks → Keeps size faults mismatches held (standing p m trace disks opened) (rows_of tasks cells nodes workers) 0 trace.spare
-  keeps-made tasks cells nodes workers trace opened t c n w none as_opened =
+  pub keeps-made : (tasks : List Progress) (cells : List Copies) (nodes : List Store) (workers : List WorkerState) (trace : Recorded) (lends : LendingState D) (opened : DiskState D) → tasks ≡ (first_rows p m).tasks → cells ≡ (first_rows p m).cells → nodes ≡ (first_rows p m).nodes → workers ≡ (first_rows p m).workers → trace.events ≡ [] → lends ≡ lending disks (replicate (length disks.disks) false) → opened ≡ disks → Keeps size faults mismatches held (standing p m trace lends opened) (rows_of tasks cells nodes workers) 0 trace.spare
+  keeps-made tasks cells nodes workers trace lends opened t c n w none lent as_opened =
       let rows : rows_of tasks cells nodes workers ≡ first_rows p m = ap (λ (x : List Progress). rows_of x cells nodes workers) t ∙ ap (λ (x : List Copies). rows_of (first_rows p m).tasks x nodes workers) c ∙ ap (λ (x : List Store). rows_of (first_rows p m).tasks (first_rows p m).cells x workers) n ∙ ap (λ (x : List WorkerState). rows_of (first_rows p m).tasks (first_rows p m).cells (first_rows p m).nodes x) w in
-      subst (λ (o : DiskState D). Keeps size faults mismatches held (standing p m trace disks o) (rows_of tasks cells nodes workers) 0 trace.spare) (sym as_opened)
-      (subst (λ (r : Rows). Keeps size faults mismatches held (standing p m trace disks disks) r 0 trace.spare) (sym rows)
-      (subst (λ (es : List Event). Keeps size faults mismatches held (record { program = p; machine = m; trace = es; disks = disks; opened = disks.disks }) (first_rows p m) 0 trace.spare) (sym none) (keeps-first trace.spare)))
+      subst (λ (o : DiskState D). Keeps size faults mismatches held (standing p m trace lends o) (rows_of tasks cells nodes workers) 0 trace.spare) (sym as_opened)
+      (subst (λ (l : LendingState D). Keeps size faults mismatches held (standing p m trace l disks) (rows_of tasks cells nodes workers) 0 trace.spare) (sym lent)
+      (subst (λ (r : Rows). Keeps size faults mismatches held (standing p m trace (lending disks (replicate (length disks.disks) false)) disks) r 0 trace.spare) (sym rows)
+      (subst (λ (es : List Event). Keeps size faults mismatches held (record { program = p; machine = m; trace = es; disks = disks; out = replicate (length disks.disks) false; opened = disks.disks }) (first_rows p m) 0 trace.spare) (sym none) (keeps-first trace.spare))))

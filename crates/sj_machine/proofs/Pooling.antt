@@ -1,5 +1,5 @@
 -- How often a task stands in a pool, where an entry is put there or taken.
-use Rattle.std.proofs.Common.{◌≡◌, ℕ, ◌+◌, ◌<◌, Bool, true, false, nat_eq, Option, Some, None, List, [], ◌∷◌, ◌++◌, All, cond, inl, inr, refl, sym, subst, ap, ◌∙◌, arith, length, length-set}
+use Rattle.std.proofs.Common.{◌≡◌, ℕ, ◌+◌, ◌<◌, Bool, true, false, Option, Some, None, List, [], ◌∷◌, ◌++◌, All, cond, inl, inr, refl, sym, subst, ap, ◌∙◌, arith, length, length-set}
 use Rattle.std.specs.Prelude.{count_by, sum_by}
 use Rattle.std.specs.Option.{option_map, option_map_or, option_and_then}
 use Rattle.std.proofs.lemmas.Bool.{cases_lt, false≢true}
@@ -15,12 +15,13 @@ use Rattle.sj_pool.specs.Pool.{contains, has_task, home, put_into, queue, queue_
 use Rattle.sj_pool.specs.Queue.{first_fitting, has_fitting, put_by_urgency, without_first_fitting}
 use Rattle.sj_pool.specs.declared.entry.Entry.{Entry}
 use Rattle.sj_machine.specs.BoardSound.{is_entry_of}
+use Rattle.sj_machine.specs.Passing.{times_of}
 
 -- how often a task stands in these queues
 abbrev pub times_in : Task → List (List Entry) → ℕ
 times_in t qs = sum_by (λ q. count_by (is_entry_of t) q) qs
 
-count-cons : (t : Task) (x : Entry) (xs : List Entry) → count_by (is_entry_of t) (x ∷ xs) ≡ cond {A = ℕ} (is_entry_of t x) 1 0 + count_by (is_entry_of t) xs
+pub count-cons : (t : Task) (x : Entry) (xs : List Entry) → count_by (is_entry_of t) (x ∷ xs) ≡ cond {A = ℕ} (is_entry_of t x) 1 0 + count_by (is_entry_of t) xs
 count-cons t x xs = sum_by-cons (λ (e : Entry). cond {A = ℕ} (is_entry_of t e) 1 0) x xs
 
 -- ---- taking
@@ -54,8 +55,7 @@ abbrev pub Serves : List (List Entry) → ℕ → Option ℕ → Type 0
 Serves qs room o = (i : ℕ) → o ≡ Some i → has_fitting room (queue qs i) ≡ true
 
 abbrev pub once : Task → Option Task → ℕ
-once t None = 0
-once t (Some u) = cond {A = ℕ} (nat_eq u.0 t.0) 1 0
+once t o = times_of o t
 
 pub times-taken : (qs : List (List Entry)) (room : ℕ) (o : Option ℕ) (t : Task) → Serves qs room o → times_in t (queues_from qs room o) + once t (task_from qs room o) ≡ times_in t qs
 times-taken qs room None t serves = omega arith
@@ -89,26 +89,6 @@ all-left P room (x ∷ xs) all = by_fit (fits room x) (all-left P room xs (All-t
 pub all-taken : (P : Entry → Type 0) (qs : List (List Entry)) (room : ℕ) (o : Option ℕ) → Serves qs room o → All (All P) qs → All (All P) (queues_from qs room o)
 all-taken P qs room None serves all = all
 all-taken P qs room (Some i) serves all = All-set (All P) qs i (without_first_fitting room (queue qs i)) (all-left P room (queue qs i) (All-get_or (All P) qs i [] (queue-inside qs room i (serves i refl)) all)) all
-
--- the entry whose task is taken fits, and has what all entries have
-pub record IsTakenFrom (P : Entry → Type 0) (room : ℕ) (t : Task) : Type 0 where
-  pub entry : Entry
-  pub task : entry.task ≡ t
-  pub fitting : fits room entry ≡ true
-  pub has : P entry
-
-pub taken-entry : (P : Entry → Type 0) (qs : List (List Entry)) (room : ℕ) (o : Option ℕ) (t : Task) → Serves qs room o → All (All P) qs → task_from qs room o ≡ Some t → IsTakenFrom P room t
-taken-entry P qs room None t serves all is = absurd (cc)
-taken-entry P qs room (Some i) t serves all is = by_entry (first_fitting room (queue qs i)) refl is
-  where
-    by_entry : (f : Option Entry) → first_fitting room (queue qs i) ≡ f → option_map (λ e. e.task) f ≡ Some t → IsTakenFrom P room t
-    by_entry None e none = absurd (cc)
-    by_entry (Some x) e some = record {
-      entry = x;
-      task = cc;
-      fitting = first-fits room (queue qs i) x e;
-      has = first-all P room (queue qs i) x (All-get_or (All P) qs i [] (queue-inside qs room i (serves i refl)) all) e;
-    }
 
 -- ---- putting
 

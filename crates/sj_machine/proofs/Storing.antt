@@ -18,7 +18,8 @@ use Rattle.sj_disk.specs.declared.directory.Extent.{Extent}
 use Rattle.sj_disk.specs.declared.refusal.DiskRefusal.{DiskRefusal}
 use Rattle.sj_disk.specs.Block.{block, block_bytes, element_bytes, header, header_bytes}
 use Rattle.sj_disk.specs.Calls.{Fetches, Stores}
-use Rattle.sj_disk.specs.Directory.{DiskState, extent_of, last_store, with_store}
+use Rattle.sj_disk.specs.Lending.{IsInFor, LendingState}
+use Rattle.sj_disk.specs.Directory.{extent_of, last_store, with_store}
 use Rattle.sj_disk.specs.Holding.{Holds, Tells}
 use Rattle.sj_disk.proofs.Bytes.{length-element_bytes, length-header_bytes}
 use Rattle.std.proofs.lemmas.List.{length-append}
@@ -26,6 +27,7 @@ use Rattle.sj_machine.specs.Agrees.{Rows, transfer_in}
 use Rattle.sj_machine.specs.Headers.{IsLastWritten}
 use Rattle.sj_machine.specs.Copies.{Copies, row_of}
 use Rattle.sj_machine.specs.Sound.{HoldsArray, HoldsBlocks, IsBlock, IsCopyOf, FetchesMoved, IsStored, IsWrittenOut, Keeps, StoresMoved, block_of}
+use Rattle.sj_machine.specs.Units.{HasItsDiskIn, lent}
 use Rattle.sj_machine.specs.Standing.{AllTell, HasDimsMoved, IsTileMoved, IsTileOf, Standing, state}
 use Rattle.sj_machine.proofs.Resting.{valid-cell}
 
@@ -34,17 +36,17 @@ length-block : (c n : ℕ) (xs : List ℤ) → length (block c n xs) ≡ block_b
 length-block c n xs = omega (arith, length-append (header_bytes (header c n (length xs))) (element_bytes xs), length-header_bytes (header c n (length xs)), length-element_bytes xs)
 
 -- what is there, and what is known of it
-some-at : {X : Type 0} (P : X → Type 0) (o : Option X) → IsSomeAnd o P → (x : X) × (o ≡ Some x) × P x
+pub some-at : {X : Type 0} (P : X → Type 0) (o : Option X) → IsSomeAnd o P → (x : X) × (o ≡ Some x) × P x
 some-at P None h = absurd h
 some-at P (Some x) h = (x, refl, h)
 
 some-and : {X : Type 0} (P : X → Type 0) (o : Option X) (x : X) → o ≡ Some x → P x → IsSomeAnd o P
 some-and {X} P o x e h = subst (λ (k : Option X). IsSomeAnd k P) (sym e) h
 
-told-at : {X : Type 0} (P : X → Type 0) (o : Option X) (x : X) → o ≡ Some x → IfSome o P → P x
+pub told-at : {X : Type 0} (P : X → Type 0) (o : Option X) (x : X) → o ≡ Some x → IfSome o P → P x
 told-at {X} P o x e h = subst (λ (k : Option X). IfSome k P) e h
 
-told-from : {X : Type 0} (P : X → Type 0) (o : Option X) (x : X) → o ≡ Some x → P x → IfSome o P
+pub told-from : {X : Type 0} (P : X → Type 0) (o : Option X) (x : X) → o ≡ Some x → P x → IfSome o P
 told-from {X} P o x e h = subst (λ (k : Option X). IfSome k P) (sym e) h
 
 -- disks that all told still tell
@@ -72,7 +74,7 @@ module _ {D : Type 0} (size faults mismatches : D → ℕ) (held : D → Option 
   s = state b
 
   -- the extent of a cell that has a disk
-  extent : (d : DiskNo) → disk_of p m c ≡ Some d → (e : Extent) × (extent_of b.disks.directory c.0 ≡ Some e) × (e.length ≡ area (dims_of p c)) × (e.disk ≡ d)
+  pub extent : (d : DiskNo) → disk_of p m c ≡ Some d → (e : Extent) × (extent_of b.disks.directory c.0 ≡ Some e) × (e.length ≡ area (dims_of p c)) × (e.disk ≡ d)
   extent d home = by_block (block_of p m c) refl home
     where
       by_block : (o : Option Block) → block_of p m c ≡ o → option_map (λ (k : Block). k.disk) o ≡ Some d → (e : Extent) × (extent_of b.disks.directory c.0 ≡ Some e) × (e.length ≡ area (dims_of p c)) × (e.disk ≡ d)
@@ -84,14 +86,14 @@ module _ {D : Type 0} (size faults mismatches : D → ℕ) (held : D → Option 
           (found.0, found.1, found.2.whole, found.2.disk ∙ same)
 
   -- the same state over other disks
-  keeps-over : (new : DiskState D) → HoldsBlocks held p m s (AllTell held b) new → AreGivenBack size faults mismatches held b.disks.disks new.disks → Keeps size faults mismatches held (record b { disks = new }) rows owed spare
+  keeps-over : (new : LendingState D) → HoldsBlocks held p m s (AllTell held b) new.set → AreGivenBack size faults mismatches held b.disks.disks new.set.disks → Keeps size faults mismatches held (record b { disks = new.set; out = new.out }) rows owed spare
   keeps-over new blocks back = record {
     sound = record {
       run = keeps.sound.run;
       legal = keeps.sound.legal;
       coherent = keeps.sound.coherent;
       blocks = blocks;
-      given_back = all_given_back-then size faults mismatches held b.opened b.disks.disks new.disks keeps.sound.given_back back;
+      given_back = all_given_back-then size faults mismatches held b.opened b.disks.disks new.set.disks keeps.sound.given_back back;
     };
     agrees = keeps.agrees;
     owes = keeps.owes;
@@ -114,7 +116,7 @@ module _ {D : Type 0} (size faults mismatches : D → ℕ) (held : D → Option 
     pub store-reserved : IsSomeAnd (extent_of b.disks.directory c.0) (λ e. length tile.elements ≡ e.length)
     store-reserved = let e = extent d aimed in some-and (λ e. length tile.elements ≡ e.length) (extent_of b.disks.directory c.0) e.0 e.1 (whole ∙ ap area is.dims ∙ sym e.2)
 
-    module _ {A : Type 0} (result : Result A DiskRefusal) (new : DiskState D) (stores : IfSome (extent_of b.disks.directory c.0) (Stores size faults mismatches held c.0 (writes s c) tile.elements result b.disks new)) where
+    module _ {A : Type 0} (result : Result A DiskRefusal) (new : LendingState D) (stores : IfSome (extent_of b.disks.directory c.0) (Stores size faults mismatches held c.0 (writes s c) tile.elements result b.disks new.set)) where
       its : Extent
       its = (extent d aimed).0
 
@@ -126,8 +128,8 @@ module _ {D : Type 0} (size faults mismatches : D → ℕ) (held : D → Option 
       unfolding its
       its-whole = (extent d aimed).2
 
-      of_it : Stores size faults mismatches held c.0 (writes s c) tile.elements result b.disks new its
-      of_it = told-at (Stores size faults mismatches held c.0 (writes s c) tile.elements result b.disks new) (extent_of b.disks.directory c.0) its its-is stores
+      of_it : Stores size faults mismatches held c.0 (writes s c) tile.elements result b.disks new.set its
+      of_it = told-at (Stores size faults mismatches held c.0 (writes s c) tile.elements result b.disks new.set) (extent_of b.disks.directory c.0) its its-is stores
 
       within : c.0 < length b.disks.directory
       within = elim (cases_lt c.0 (length b.disks.directory)) [
@@ -135,23 +137,23 @@ module _ {D : Type 0} (size faults mismatches : D → ℕ) (held : D → Option 
         | inr past ↦ absurd (let none : ◌≡◌ {A = Option Extent} None (Some its) = sym (get_or_past b.disks.directory c.0 None past) ∙ its-is in cc)
       ]
 
-      now : extent_of new.directory c.0 ≡ Some (with_store its (writes s c) (is_ok result))
+      now : extent_of new.set.directory c.0 ≡ Some (with_store its (writes s c) (is_ok result))
       now = ap (λ (dir : List (Option Extent)). extent_of dir c.0) of_it.notes_how_it_ended ∙ get_or-set_same b.disks.directory c.0 (Some (with_store its (writes s c) (is_ok result))) None within
 
-      other : (x : Cell) → x ≢ c → extent_of new.directory x.0 ≡ extent_of b.disks.directory x.0
+      other : (x : Cell) → x ≢ c → extent_of new.set.directory x.0 ≡ extent_of b.disks.directory x.0
       other x far = ap (λ (dir : List (Option Extent)). extent_of dir x.0) of_it.notes_how_it_ended ∙ get_or-set_other b.disks.directory c.0 x.0 (Some (with_store its (writes s c) (is_ok result))) None (λ e. far (ap (λ (i : ℕ). let j : Cell = record { 0 = i } in j) e))
 
       apart : (x : Cell) (k : DiskNo) → is_valid (replica s x (OnDisk k)) ≡ true → x ≢ c
       apart x k valid e = not_valid k (ap (λ (y : Cell). is_valid (replica s y (OnDisk k))) (sym e) ∙ valid)
 
-      blocks' : HoldsBlocks held p m s (AllTell held b) new
+      blocks' : HoldsBlocks held p m s (AllTell held b) new.set
       blocks' = record {
         placed = λ x. placed_at x (cells_differ x c);
         stored = λ x k valid. subst (λ (o : Option Extent). IsSomeAnd o (IsStored s x)) (sym (other x (apart x k valid))) (keeps.sound.blocks.stored x k valid);
         blocks = λ tells x k valid. (
             let far = apart x k valid in
             let found = some-at (HoldsArray held b.disks.disks p s x (OnDisk k)) (extent_of b.disks.directory x.0) (keeps.sound.blocks.blocks tells x k valid) in
-            some-and (HoldsArray held new.disks p s x (OnDisk k)) (extent_of new.directory x.0) found.0 (other x far ∙ found.1) (record {
+            some-and (HoldsArray held new.set.disks p s x (OnDisk k)) (extent_of new.set.directory x.0) found.0 (other x far ∙ found.1) (record {
               dims = found.2.dims;
               whole = found.2.whole;
               fits = found.2.fits;
@@ -160,27 +162,27 @@ module _ {D : Type 0} (size faults mismatches : D → ℕ) (held : D → Option 
             );
       }
         where
-          placed_at : (x : Cell) → (x ≡ c) ⊎ (x ≢ c) → IfSome (block_of p m x) (λ k. IsSomeAnd (extent_of new.directory x.0) (IsBlock p x k))
+          placed_at : (x : Cell) → (x ≡ c) ⊎ (x ≢ c) → IfSome (block_of p m x) (λ k. IsSomeAnd (extent_of new.set.directory x.0) (IsBlock p x k))
           placed_at x (inr far) = subst (λ (o : Option Extent). IfSome (block_of p m x) (λ k. IsSomeAnd o (IsBlock p x k))) (sym (other x far)) (keeps.sound.blocks.placed x)
-          placed_at x (inl e) = subst (λ (y : Cell). IfSome (block_of p m y) (λ k. IsSomeAnd (extent_of new.directory y.0) (IsBlock p y k))) (sym e) (here (block_of p m c) (keeps.sound.blocks.placed c))
+          placed_at x (inl e) = subst (λ (y : Cell). IfSome (block_of p m y) (λ k. IsSomeAnd (extent_of new.set.directory y.0) (IsBlock p y k))) (sym e) (here (block_of p m c) (keeps.sound.blocks.placed c))
             where
-              here : (o : Option Block) → IfSome o (λ k. IsSomeAnd (extent_of b.disks.directory c.0) (IsBlock p c k)) → IfSome o (λ k. IsSomeAnd (extent_of new.directory c.0) (IsBlock p c k))
+              here : (o : Option Block) → IfSome o (λ k. IsSomeAnd (extent_of b.disks.directory c.0) (IsBlock p c k)) → IfSome o (λ k. IsSomeAnd (extent_of new.set.directory c.0) (IsBlock p c k))
               here None h = h
               here (Some k) h =
                   let had = told-at (IsBlock p c k) (extent_of b.disks.directory c.0) its its-is (some-if (extent_of b.disks.directory c.0) h) in
-                  some-and (IsBlock p c k) (extent_of new.directory c.0) (with_store its (writes s c) (is_ok result)) now (record { disk = had.disk; position = had.position; whole = had.whole })
+                  some-and (IsBlock p c k) (extent_of new.set.directory c.0) (with_store its (writes s c) (is_ok result)) now (record { disk = had.disk; position = had.position; whole = had.whole })
                 where
                   some-if : (o : Option Extent) → IsSomeAnd o (IsBlock p c k) → IfSome o (IsBlock p c k)
                   some-if None h = absurd h
                   some-if (Some e) h = h
 
-      pub keeps-stored : Keeps size faults mismatches held (record b { disks = new }) rows owed spare
+      pub keeps-stored : Keeps size faults mismatches held (record b { disks = new.set; out = new.out }) rows owed spare
       keeps-stored = keeps-over new blocks' of_it.disks_are_given_back
 
-      pub stored-well : is_ok result ≡ true → IsWrittenOut held (record b { disks = new }) w
+      pub stored-well : is_ok result ≡ true → IsWrittenOut held (record b { disks = new.set; out = new.out }) w
       stored-well ok =
-          told-from (λ (y : Transfer). IsSomeAnd (extent_of new.directory y.cell.0) (IsCopyOf held (record b { disks = new }) y.cell y.from)) (transfer s w) (a_transfer c from (OnDisk d)) under_way
-          (some-and (IsCopyOf held (record b { disks = new }) c from) (extent_of new.directory c.0) (with_store its (writes s c) (is_ok result)) now (record {
+          told-from (λ (y : Transfer). IsSomeAnd (extent_of new.set.directory y.cell.0) (IsCopyOf held (record b { disks = new.set; out = new.out }) y.cell y.from)) (transfer s w) (a_transfer c from (OnDisk d)) under_way
+          (some-and (IsCopyOf held (record b { disks = new.set; out = new.out }) c from) (extent_of new.set.directory c.0) (with_store its (writes s c) (is_ok result)) now (record {
             last = record { last = ap (λ (y : Bool). Some (last_store (writes s c) y)) ok };
             array = λ tells. (
                 let same : tile ≡ array_at p s from c = is.array tells in
@@ -188,12 +190,12 @@ module _ {D : Type 0} (size faults mismatches : D → ℕ) (held : D → Option 
                   dims = ap (λ (a : Array). a.dims) (sym same) ∙ is.dims;
                   whole = ap (λ (a : Array). length a.elements) (sym same) ∙ whole ∙ ap area is.dims ∙ sym its-whole;
                   fits = subst (λ (a : Array). All (FitsSigned w64) a.elements) same fits;
-                  told = subst (λ (a : Array). Holds held new.disks its (block c.0 (writes s c) a.elements)) same (on_ok result ok of_it.holds_the_block_where_it_ended_well);
+                  told = subst (λ (a : Array). Holds held new.set.disks its (block c.0 (writes s c) a.elements)) same (on_ok result ok of_it.holds_the_block_where_it_ended_well);
                 }
                 );
           }))
         where
-          on_ok : (r : Result A DiskRefusal) → is_ok r ≡ true → OnOk r (Holds held new.disks its (block c.0 (writes s c) tile.elements)) → Holds held new.disks its (block c.0 (writes s c) tile.elements)
+          on_ok : (r : Result A DiskRefusal) → is_ok r ≡ true → OnOk r (Holds held new.set.disks its (block c.0 (writes s c) tile.elements)) → Holds held new.set.disks its (block c.0 (writes s c) tile.elements)
           on_ok (Ok u) e h = h
           on_ok (Err x) e h = absurd (false≢true e)
 
@@ -225,20 +227,20 @@ module _ {D : Type 0} (size faults mismatches : D → ℕ) (held : D → Option 
           header = ap (λ k. header c.0 k its_extent.0.length) count ∙ ap (header c.0 (writes s c)) its_extent.2;
         })
 
-    module _ {A : Type 0} (result : Result A DiskRefusal) (got : Array) (same_dims : got.dims ≡ tile.dims) (new : DiskState D) (fetches : IfSome (extent_of b.disks.directory c.0) (Fetches size faults mismatches held c.0 (writes s c) got.elements result b.disks new)) where
-      fetched : Fetches size faults mismatches held c.0 (writes s c) got.elements result b.disks new its_extent.0
-      fetched = told-at (Fetches size faults mismatches held c.0 (writes s c) got.elements result b.disks new) (extent_of b.disks.directory c.0) its_extent.0 its_extent.1 fetches
+    module _ {A : Type 0} (result : Result A DiskRefusal) (got : Array) (same_dims : got.dims ≡ tile.dims) (new : LendingState D) (fetches : IfSome (extent_of b.disks.directory c.0) (Fetches size faults mismatches held c.0 (writes s c) got.elements result b.disks new.set)) where
+      fetched : Fetches size faults mismatches held c.0 (writes s c) got.elements result b.disks new.set its_extent.0
+      fetched = told-at (Fetches size faults mismatches held c.0 (writes s c) got.elements result b.disks new.set) (extent_of b.disks.directory c.0) its_extent.0 its_extent.1 fetches
 
-      same_extents : (x : Cell) → extent_of new.directory x.0 ≡ extent_of b.disks.directory x.0
+      same_extents : (x : Cell) → extent_of new.set.directory x.0 ≡ extent_of b.disks.directory x.0
       same_extents x = ap (λ (dir : List (Option Extent)). extent_of dir x.0) fetched.directory_stays
 
-      blocks_stay : HoldsBlocks held p m s (AllTell held b) new
+      blocks_stay : HoldsBlocks held p m s (AllTell held b) new.set
       blocks_stay = record {
         placed = λ x. subst (λ (o : Option Extent). IfSome (block_of p m x) (λ k. IsSomeAnd o (IsBlock p x k))) (sym (same_extents x)) (keeps.sound.blocks.placed x);
         stored = λ x k valid. subst (λ (o : Option Extent). IsSomeAnd o (IsStored s x)) (sym (same_extents x)) (keeps.sound.blocks.stored x k valid);
         blocks = λ tells x k valid. (
             let found = some-at (HoldsArray held b.disks.disks p s x (OnDisk k)) (extent_of b.disks.directory x.0) (keeps.sound.blocks.blocks tells x k valid) in
-            some-and (HoldsArray held new.disks p s x (OnDisk k)) (extent_of new.directory x.0) found.0 (same_extents x ∙ found.1) (record {
+            some-and (HoldsArray held new.set.disks p s x (OnDisk k)) (extent_of new.set.directory x.0) found.0 (same_extents x ∙ found.1) (record {
               dims = found.2.dims;
               whole = found.2.whole;
               fits = found.2.fits;
@@ -247,7 +249,7 @@ module _ {D : Type 0} (size faults mismatches : D → ℕ) (held : D → Option 
             );
       }
 
-      pub keeps-fetched : Keeps size faults mismatches held (record b { disks = new }) rows owed spare
+      pub keeps-fetched : Keeps size faults mismatches held (record b { disks = new.set; out = new.out }) rows owed spare
       keeps-fetched = keeps-over new blocks_stay fetched.disks_are_given_back
 
       pub fetched-well : (b' : Standing D) → b ≡ b' → is_ok result ≡ true → IsTileMoved held b' w got
@@ -277,7 +279,7 @@ OnOk-from (Ok u) P h = h refl
 OnOk-from (Err x) P h = tt
 
 module _ {D : Type 0} (size faults mismatches : D → ℕ) (held : D → Option (List ℕ)) (b : Standing D) (rows : Rows) (owed spare : ℕ) (keeps : Keeps size faults mismatches held b rows owed spare) (w : Worker) (b' : Standing D) (same : b ≡ b') (ws : List WorkerState) (read : ws ≡ rows.workers) (x : Transfer) (found : transfer_in ws w ≡ Some x) where
-  at-place : (q : Place) → x.to ≡ q → transfer (state b) w ≡ Some (a_transfer x.cell x.from q)
+  pub at-place : (q : Place) → x.to ≡ q → transfer (state b) w ≡ Some (a_transfer x.cell x.from q)
   at-place q at = ap (λ (rs : List WorkerState). transfer_in rs w) (sym (read ∙ keeps.agrees.workers)) ∙ found ∙ ap (λ (k : Place). Some (a_transfer x.cell x.from k)) at
 
   from-place : (q : Place) → x.from ≡ q → transfer (state b) w ≡ Some (a_transfer x.cell q x.to)
@@ -289,6 +291,10 @@ module _ {D : Type 0} (size faults mismatches : D → ℕ) (held : D → Option 
       let inside = valid-cell b.program b.machine (state b) keeps.sound.coherent x.cell x.from source in
       omega (arith, ap length is, inside, keeps.agrees.marks.every_cell)
 
+  -- the disk of its cell is in
+  pub found-in : HasItsDiskIn b' w → IsInFor (lent b) x.cell.0
+  found-in is_in = told-at (λ (y : Transfer). IsInFor (lent b) y.cell.0) (transfer (state b) w) (a_transfer x.cell x.from x.to) (at-place x.to refl) (subst (λ (z : Standing D). HasItsDiskIn z w) (sym same) is_in)
+
   counted : (cells' : List Copies) (n : ℕ) → cells' ≡ rows.cells → n ≡ (row_of cells' x.cell).writes → n ≡ writes (state b) x.cell
   counted cells' n is count = count ∙ ap (λ (cs : List Copies). (row_of cs x.cell).writes) is ∙ keeps.agrees.marks.writes x.cell
 
@@ -299,18 +305,18 @@ module _ {D : Type 0} (size faults mismatches : D → ℕ) (held : D → Option 
     pub found-reserved : IsSomeAnd (extent_of b.disks.directory x.cell.0) (λ e. length tile.elements ≡ e.length)
     found-reserved = store-reserved size faults mismatches held b rows owed spare keeps x.cell w x.from d (at-place (OnDisk d) at) tile tile-of whole fits
 
-    module _ {A : Type 0} (result : Result A DiskRefusal) (new : DiskState D) (cells' : List Copies) (n : ℕ) (is : cells' ≡ rows.cells) (count : n ≡ (row_of cells' x.cell).writes) (stores : IfSome (extent_of b.disks.directory x.cell.0) (Stores size faults mismatches held x.cell.0 n tile.elements result b.disks new)) where
-      its-stores : IfSome (extent_of b.disks.directory x.cell.0) (Stores size faults mismatches held x.cell.0 (writes (state b) x.cell) tile.elements result b.disks new)
-      its-stores = subst (λ (k : ℕ). IfSome (extent_of b.disks.directory x.cell.0) (Stores size faults mismatches held x.cell.0 k tile.elements result b.disks new)) (counted cells' n is count) stores
+    module _ {A : Type 0} (result : Result A DiskRefusal) (new : LendingState D) (cells' : List Copies) (n : ℕ) (is : cells' ≡ rows.cells) (count : n ≡ (row_of cells' x.cell).writes) (stores : IfSome (extent_of b.disks.directory x.cell.0) (Stores size faults mismatches held x.cell.0 n tile.elements result b.disks new.set)) where
+      its-stores : IfSome (extent_of b.disks.directory x.cell.0) (Stores size faults mismatches held x.cell.0 (writes (state b) x.cell) tile.elements result b.disks new.set)
+      its-stores = subst (λ (k : ℕ). IfSome (extent_of b.disks.directory x.cell.0) (Stores size faults mismatches held x.cell.0 k tile.elements result b.disks new.set)) (counted cells' n is count) stores
 
-      pub found-keeps_stored : Keeps size faults mismatches held (record b { disks = new }) rows owed spare
+      pub found-keeps_stored : Keeps size faults mismatches held (record b { disks = new.set; out = new.out }) rows owed spare
       found-keeps_stored = keeps-stored size faults mismatches held b rows owed spare keeps x.cell w x.from d (at-place (OnDisk d) at) tile tile-of whole fits result new its-stores
 
-      pub found-stored : OnOk result (IsWrittenOut held (record b { disks = new }) w)
-      found-stored = OnOk-from result (IsWrittenOut held (record b { disks = new }) w) (stored-well size faults mismatches held b rows owed spare keeps x.cell w x.from d (at-place (OnDisk d) at) tile tile-of whole fits result new its-stores)
+      pub found-stored : OnOk result (IsWrittenOut held (record b { disks = new.set; out = new.out }) w)
+      found-stored = OnOk-from result (IsWrittenOut held (record b { disks = new.set; out = new.out }) w) (stored-well size faults mismatches held b rows owed spare keeps x.cell w x.from d (at-place (OnDisk d) at) tile tile-of whole fits result new its-stores)
 
-      pub found-stores : StoresMoved size faults mismatches held w tile.elements result b' (record b' { disks = new })
-      found-stores = subst (λ (z : Standing D). StoresMoved size faults mismatches held w tile.elements result z (record z { disks = new })) same (told-from (λ (y : Transfer). IfSome (extent_of b.disks.directory y.cell.0) (Stores size faults mismatches held y.cell.0 (writes (state b) y.cell) tile.elements result b.disks new)) (transfer (state b) w) (a_transfer x.cell x.from x.to) (at-place x.to refl) its-stores)
+      pub found-stores : StoresMoved size faults mismatches held w tile.elements result b' (record b' { disks = new.set; out = new.out })
+      found-stores = subst (λ (z : Standing D). StoresMoved size faults mismatches held w tile.elements result z (record z { disks = new.set; out = new.out })) same (told-from (λ (y : Transfer). IfSome (extent_of b.disks.directory y.cell.0) (Stores size faults mismatches held y.cell.0 (writes (state b) y.cell) tile.elements result b.disks new.set)) (transfer (state b) w) (a_transfer x.cell x.from x.to) (at-place x.to refl) its-stores)
 
   module _ (d : DiskNo) (at : x.from ≡ OnDisk d) (tile : Array) (given : HasDimsMoved b' w tile.dims) (whole : length tile.elements ≡ area tile.dims) where
     dims-of : tile.dims ≡ dims_of b.program x.cell
@@ -323,15 +329,15 @@ module _ {D : Type 0} (size faults mismatches : D → ℕ) (held : D → Option 
     pub found-last : (cells' : List Copies) (n : ℕ) → cells' ≡ rows.cells → n ≡ (row_of cells' x.cell).writes → (e : Extent) → extent_of b.disks.directory x.cell.0 ≡ Some e → IsLastWritten b.program (state b) e.disk (header x.cell.0 n e.length)
     found-last cells' n is count = fetch-last size faults mismatches held b rows owed spare keeps x.cell w d x.to (from-place (OnDisk d) at) tile dims-of whole n (counted cells' n is count)
 
-    module _ {A : Type 0} (result : Result A DiskRefusal) (got : Array) (same_dims : got.dims ≡ tile.dims) (new : DiskState D) (cells' : List Copies) (n : ℕ) (is : cells' ≡ rows.cells) (count : n ≡ (row_of cells' x.cell).writes) (fetches : IfSome (extent_of b.disks.directory x.cell.0) (Fetches size faults mismatches held x.cell.0 n got.elements result b.disks new)) where
-      its-fetches : IfSome (extent_of b.disks.directory x.cell.0) (Fetches size faults mismatches held x.cell.0 (writes (state b) x.cell) got.elements result b.disks new)
-      its-fetches = subst (λ (k : ℕ). IfSome (extent_of b.disks.directory x.cell.0) (Fetches size faults mismatches held x.cell.0 k got.elements result b.disks new)) (counted cells' n is count) fetches
+    module _ {A : Type 0} (result : Result A DiskRefusal) (got : Array) (same_dims : got.dims ≡ tile.dims) (new : LendingState D) (cells' : List Copies) (n : ℕ) (is : cells' ≡ rows.cells) (count : n ≡ (row_of cells' x.cell).writes) (fetches : IfSome (extent_of b.disks.directory x.cell.0) (Fetches size faults mismatches held x.cell.0 n got.elements result b.disks new.set)) where
+      its-fetches : IfSome (extent_of b.disks.directory x.cell.0) (Fetches size faults mismatches held x.cell.0 (writes (state b) x.cell) got.elements result b.disks new.set)
+      its-fetches = subst (λ (k : ℕ). IfSome (extent_of b.disks.directory x.cell.0) (Fetches size faults mismatches held x.cell.0 k got.elements result b.disks new.set)) (counted cells' n is count) fetches
 
-      pub found-keeps_fetched : Keeps size faults mismatches held (record b { disks = new }) rows owed spare
+      pub found-keeps_fetched : Keeps size faults mismatches held (record b { disks = new.set; out = new.out }) rows owed spare
       found-keeps_fetched = keeps-fetched size faults mismatches held b rows owed spare keeps x.cell w d x.to (from-place (OnDisk d) at) tile dims-of whole result got same_dims new its-fetches
 
       pub found-fetched : OnOk result (IsTileMoved held b' w got)
       found-fetched = OnOk-from result (IsTileMoved held b' w got) (fetched-well size faults mismatches held b rows owed spare keeps x.cell w d x.to (from-place (OnDisk d) at) tile dims-of whole result got same_dims new its-fetches b' same)
 
-      pub found-fetches : FetchesMoved size faults mismatches held w got.elements result b' (record b' { disks = new })
-      found-fetches = subst (λ (z : Standing D). FetchesMoved size faults mismatches held w got.elements result z (record z { disks = new })) same (told-from (λ (y : Transfer). IfSome (extent_of b.disks.directory y.cell.0) (Fetches size faults mismatches held y.cell.0 (writes (state b) y.cell) got.elements result b.disks new)) (transfer (state b) w) (a_transfer x.cell x.from x.to) (at-place x.to refl) its-fetches)
+      pub found-fetches : FetchesMoved size faults mismatches held w got.elements result b' (record b' { disks = new.set; out = new.out })
+      found-fetches = subst (λ (z : Standing D). FetchesMoved size faults mismatches held w got.elements result z (record z { disks = new.set; out = new.out })) same (told-from (λ (y : Transfer). IfSome (extent_of b.disks.directory y.cell.0) (Fetches size faults mismatches held y.cell.0 (writes (state b) y.cell) got.elements result b.disks new.set)) (transfer (state b) w) (a_transfer x.cell x.from x.to) (at-place x.to refl) its-fetches)

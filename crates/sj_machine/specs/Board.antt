@@ -10,6 +10,7 @@ use Rattle.sj_core.specs.Legal.{IsComplete}
 use Rattle.sj_core.specs.Machine.{is_running_on, progress, transfer}
 use Rattle.sj_core.specs.Needs.{node_of, node_size}
 use Rattle.sj_core.specs.declared.progress.Transfer.{Transfer}
+use Rattle.sj_disk.specs.Units.{UnitState}
 use Rattle.sj_edge.specs.Faults.{Rose}
 use Rattle.sj_pool.specs.Pool.{Pooled, task_for, with_entry, without_entry_for}
 use Rattle.sj_machine.specs.Delivered.{handed}
@@ -35,7 +36,7 @@ board_state run hands pool fault delivered = record { run = run; hands = hands; 
 
 -- nothing in hand
 abbrev pub empty_hand : Hand
-empty_hand = record { given = None; task = None; has_stopped = false }
+empty_hand = record { given = None; task = None; unit = None; has_stopped = false }
 
 abbrev pub hand_in : List Hand → Worker → Hand
 hand_in hands w = slice_index_or hands w.0 empty_hand
@@ -94,17 +95,25 @@ has_event b e = record b { run = with_event b.run e }
 abbrev pub EndsMoveOf : {D : Type 0} → Worker → BoardState D → BoardState D → Type 0
 EndsMoveOf w old new = IfSome (transfer (state old.run) w) (λ x. new ≡ has_event old (Moved x.cell x.from x.to))
 
--- no event has happened: the disks alone may have changed
-abbrev pub OnlyDisksChangeOn : {D : Type 0} → BoardState D → BoardState D → Type 0
-OnlyDisksChangeOn old new = new ≡ record old { run = record old.run { disks = new.run.disks } }
+-- the worker has this unit in hand, and its disk is out
+abbrev pub has_taken : {D : Type 0} → BoardState D → Worker → UnitState D → BoardState D
+has_taken b w u = record (with_hand b w (record (hand_of b w) { unit = Some u.cell })) { run = record b.run { out = slice_set b.run.out u.extent.disk.0 true } }
+
+-- no event has happened: the worker has no unit in hand any more, and the disks alone may have changed
+abbrev pub GivesUnitBack : {D : Type 0} → Worker → BoardState D → BoardState D → Type 0
+GivesUnitBack w old new = new ≡ record (with_hand old w (record (hand_of old w) { unit = None })) { run = record old.run { disks = new.run.disks; out = new.run.out } }
 
 -- the bytes of a worker's node
 abbrev pub room_of : {D : Type 0} → BoardState D → Worker → ℕ
 room_of b w = node_size b.run.machine (node_of b.run.machine w)
 
+-- the worker was given this task or none, and this is the pool that is left
+abbrev pub given_from : {D : Type 0} → BoardState D → Worker → Option Task → Pooled → BoardState D
+given_from b w given pool = record (with_hand b w (record (hand_of b w) { given = given })) { pool = pool }
+
 -- the worker was given the task that the pool has for it
 abbrev pub given_next : {D : Type 0} → BoardState D → Worker → BoardState D
-given_next b w = record (with_hand b w (record (hand_of b w) { given = task_for b.pool w.0 (room_of b w) })) { pool = without_entry_for b.pool w.0 (room_of b w) }
+given_next b w = given_from b w (task_for b.pool w.0 (room_of b w)) (without_entry_for b.pool w.0 (room_of b w))
 
 -- the worker has put the task that it was given back into the pool
 abbrev pub given_back : {D : Type 0} → BoardState D → Task → Worker → BoardState D

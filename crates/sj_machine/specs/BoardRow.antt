@@ -16,6 +16,8 @@ use Rattle.sj_core.specs.declared.progress.Progress.{Progress}
 use Rattle.sj_machine.specs.Agrees.{idle}
 use Rattle.sj_machine.specs.Board.{BoardState, hand_of, transfer_of}
 use Rattle.sj_machine.specs.Standing.{state}
+use Rattle.sj_machine.specs.Units.{unit_of}
+use Rattle.sj_disk.specs.Units.{UnitState}
 use Rattle.sj_machine.specs.declared.hand.Hand.{Hand}
 
 -- the program, the machine, and the disks as they were when the run was made: their counts, and whether they tell
@@ -38,10 +40,12 @@ is_event_of n _ = false
 abbrev pub arrays_for : {D : Type 0} → BoardState D → Worker → Task → List Array
 arrays_for b w t = if is_running_on w (progress (state b.run) t) then map (array_at b.run.program (state b.run) (AtNode (node_of b.run.machine w))) (cells_of b.run.program t w) else []
 
--- what a worker has in hand and how far its task is, with the arrays of its operands while it runs; what it holds, its
--- transfer with the array that this carries and the write count of its cell, as long as it has a task; and its events
-pub record BoardRow : Type 0 where
+-- what a worker has in hand, a disk's unit as it was taken out, and how far its task is, with the arrays of its operands while it
+-- runs; what it holds, its transfer with the array that this carries and the write count of its cell, as long as it has a task;
+-- and its events
+pub record BoardRow (D : Type 0) : Type 0 where
   pub hand : Hand
+  pub unit : Option (UnitState D)
   pub phase : Option Progress
   pub operands : Option (List Array)
   pub holds : WorkerState
@@ -49,9 +53,10 @@ pub record BoardRow : Type 0 where
   pub writes : Option ℕ
   pub events : List Event
 
-abbrev pub row_for : {D : Type 0} → BoardState D → Worker → BoardRow
+abbrev pub row_for : {D : Type 0} → BoardState D → Worker → BoardRow D
 row_for b w = record {
   hand = hand_of b w;
+  unit = unit_of b w;
   phase = option_map (progress (state b.run)) (hand_of b w).task;
   operands = option_map (arrays_for b w) (hand_of b w).task;
   holds = if is_some (hand_of b w).task then worker_state (state b.run) w else idle;
@@ -61,5 +66,5 @@ row_for b w = record {
 }
 
 -- the row of the worker with this number
-abbrev pub row_of_number : {D : Type 0} → BoardState D → ℕ → BoardRow
+abbrev pub row_of_number : {D : Type 0} → BoardState D → ℕ → BoardRow D
 row_of_number b n = row_for b (record { 0 = n })

@@ -21,6 +21,7 @@ use Rattle.sj_machine.specs.Filling.{entry_of}
 use Rattle.sj_machine.specs.Gone.{KnowsGone}
 use Rattle.sj_machine.specs.Sound.{IsSoundRun}
 use Rattle.sj_machine.specs.Standing.{AllTell, state}
+use Rattle.sj_machine.specs.Units.{UnitsStand}
 use Rattle.sj_machine.specs.declared.fault.RunFault.{RunFault}
 use Rattle.sj_machine.specs.declared.hand.Hand.{Hand}
 
@@ -86,13 +87,14 @@ pub record IsSoundIn (p : Program) (m : Machine) (s : State) (hands : List Hand)
   pub stands_once : StandsOnce p s hands pool
   pub pool_fits : IsPoolFor p m hands pool
 
--- the run is sound, a fault that is kept has its cause, workers' hands and the pool fit the state, and each deliver task that
--- is done has handed over what it was given
+-- the run is sound, a fault that is kept has its cause, workers' hands and the pool fit the state, each deliver task that is done
+-- has handed over what it was given, and each disk that is out is in one worker's hand
 pub record IsSoundBoard {D : Type 0} (size faults mismatches : D → ℕ) (held : D → Option (List ℕ)) (b : BoardState D) : Type 0 where
   pub run : IsSoundRun size faults mismatches held b.run
   pub fault : IfSome b.fault (HasCause faults mismatches held b.run)
   pub inside : IsSoundIn b.run.program b.run.machine (state b.run) b.hands b.pool b.fault
   pub delivered : DeliversDone b.run.program (state b.run) (AllTell held b.run) b.delivered
+  pub units : UnitsStand b.run.disks b.run.out b.hands
 
 -- ---- what a board keeps beside
 
@@ -129,3 +131,4 @@ pub record IsKept {D : Type 0} (faults mismatches : D → ℕ) (held : D → Opt
   pub board : KeepsBoard faults mismatches held b deps footprints
   pub ends : KeepsEnds b.run.program (state b.run) (AllTell held b.run) b.delivered gifts spare left
   pub victims : KnowsGone b.run.program.workers b.run.machine (state b.run) gone
+  pub units : UnitsStand b.run.disks b.run.out b.hands

@@ -11,6 +11,7 @@ pub mod Gone
 pub mod Headers
 pub mod Mark
 pub mod Operands
+pub mod Passing
 pub mod Placing
 pub mod Plan
 pub mod Planning
@@ -22,3 +23,4 @@ pub mod Sparing
 pub mod Standing
 pub mod Tiles
 pub mod Todo
+pub mod Units

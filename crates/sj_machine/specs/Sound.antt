@@ -104,7 +104,7 @@ IsWrittenOut held b w = IfSome (transfer (state b) w) (λ x. IsSomeAnd (extent_o
 
 -- no event has happened: the disks alone may have changed
 abbrev pub OnlyDisksChange : {D : Type 0} → Standing D → Standing D → Type 0
-OnlyDisksChange old new = new ≡ record old { disks = new.disks }
+OnlyDisksChange old new = new ≡ record old { disks = new.disks; out = new.out }
 
 -- the disks changed by a store of these elements for the cell of the worker's transfer
 abbrev pub StoresMoved : {D A : Type 0} → (D → ℕ) → (D → ℕ) → (D → ℕ) → (D → Option (List ℕ)) → Worker → List ℤ → Result A DiskRefusal → Standing D → Standing D → Type 0

@@ -1,5 +1,5 @@
 -- A run as contracts see it: its program and its machine, the events so far, and the disks.
-use Rattle.std.specs.Prelude.{◌≡◌, ℕ, Bool, true, false, Option, None, IfSome, IsSome, IsSomeAnd, All, List, [], ◌∷◌, ◌++◌}
+use Rattle.std.specs.Prelude.{◌≡◌, ℕ, Bool, true, false, Option, None, IfSome, IsSome, IsSomeAnd, All, List, [], ◌∷◌, ◌++◌, length, replicate}
 use Rattle.sj_base.specs.declared.ids.Cell.{Cell}
 use Rattle.sj_base.specs.declared.ids.Place.{Place}
 use Rattle.sj_base.specs.declared.ids.Place.TheVariants.{Node as AtNode, Disk as OnDisk}
@@ -16,21 +16,24 @@ use Rattle.sj_core.specs.Machine.{State, transfer}
 use Rattle.sj_core.specs.Program.{dims_of}
 use Rattle.sj_core.specs.Step.{May, array_at}
 use Rattle.sj_disk.specs.Directory.{DiskState}
+use Rattle.sj_disk.specs.Lending.{LendingState}
 
--- a run: `opened` is the disks as they were when it was made
+-- a run: `out` says of each disk whether a worker has it in hand, and `disks` tells of such a one what it was when it was taken;
+-- `opened` is the disks as they were when the run was made
 pub record Standing (D : Type 0) : Type 0 where
   pub program : Program
   pub machine : Machine
   pub trace : List Event
   pub disks : DiskState D
+  pub out : List Bool
   pub opened : List D
 
-abbrev pub standing : {D : Type 0} → Program → Machine → Recorded → DiskState D → DiskState D → Standing D
-standing p m trace disks opened = record { program = p; machine = m; trace = trace.events; disks = disks; opened = opened.disks }
+abbrev pub standing : {D : Type 0} → Program → Machine → Recorded → LendingState D → DiskState D → Standing D
+standing p m trace lent opened = record { program = p; machine = m; trace = trace.events; disks = lent.set; out = lent.out; opened = opened.disks }
 
--- nothing has happened
+-- nothing has happened, and each disk is in
 abbrev pub starting : {D : Type 0} → Program → Machine → DiskState D → Standing D
-starting p m disks = record { program = p; machine = m; trace = []; disks = disks; opened = disks.disks }
+starting p m disks = record { program = p; machine = m; trace = []; disks = disks; out = replicate (length disks.disks) false; opened = disks.disks }
 
 -- the state that the events leave
 abbrev pub state : {D : Type 0} → Standing D → State

@@ -1,6 +1,6 @@
 -- What a worker does next for the task that it has claimed: its victims go, the least recently used first; then the cells
 -- come that its claim brings, in operand order; then its kernel begins.
-use Rattle.std.specs.Prelude.{◌≡◌, ◌≢◌, Bool, not, ◌&&◌, Option, ◌⊎◌, IsTrue, IsSomeAnd, IfSome, MatchBool, MatchOption, find, is_some, reverse, if◌then◌else◌}
+use Rattle.std.specs.Prelude.{◌≡◌, ◌≢◌, Bool, false, not, ◌&&◌, Option, Some, None, ◌⊎◌, IsTrue, IsSomeAnd, IfSome, MatchBool, MatchOption, find, is_some, reverse, if◌then◌else◌}
 use Rattle.std.specs.List.{list_all}
 use Rattle.sj_base.specs.declared.ids.Cell.{Cell}
 use Rattle.sj_base.specs.declared.ids.Node.{Node}
@@ -16,7 +16,11 @@ use Rattle.sj_core.specs.Operands.{cells_of, written_cells}
 use Rattle.sj_core.specs.Step.{disk_of, is_fresh, is_moving, is_present, is_read, is_valid_elsewhere, mover_of, source_of}
 use Rattle.sj_core.specs.declared.progress.Progress.TheVariants.{Claimed}
 use Rattle.sj_machine.specs.Board.{BoardState, hand_of}
-use Rattle.sj_machine.specs.Standing.{CanHappen, state}
+use Rattle.sj_disk.specs.Directory.{extent_of}
+use Rattle.sj_disk.specs.Lending.{IsInFor}
+use Rattle.sj_disk.specs.Rack.{is_out}
+use Rattle.sj_machine.specs.Standing.{CanHappen, Standing, is_node, state}
+use Rattle.sj_machine.specs.Units.{lent}
 use Rattle.sj_machine.specs.declared.todo.Todo.{Todo}
 use Rattle.sj_machine.specs.declared.todo.Todo.TheVariants.{Discard, Nothing, Start, Transfer, Wait}
 
@@ -64,9 +68,31 @@ IsNext p m s t w todo =
     (λ c. Brings p m s c (node_of m w) todo))
     (λ c. Evicts p m s c (node_of m w) todo)
 
+-- ---- disks that are out
+
+-- the disk on which the cell has its block is out
+abbrev pub is_out_for : {D : Type 0} → Standing D → Cell → Bool
+is_out_for b c = elim (extent_of b.disks.directory c.0) [ None ↦ false | Some e ↦ is_out b.out e.disk.0 ]
+
+-- the step is a transfer in which a disk takes part that is out
+abbrev pub needs_disk_out : {D : Type 0} → Standing D → Todo → Bool
+needs_disk_out b (Transfer c from to n) = not (is_node from && is_node to) && is_out_for b c
+needs_disk_out b _ = false
+
+-- the worker's next step for its task, for which it waits while another has the disk in hand
+pub record IsStepFor {D : Type 0} (b : Standing D) (t : Task) (w : Worker) (todo : Todo) : Type 0 where
+  pub first : Todo
+  pub next : IsNext b.program b.machine (state b) t w first
+  pub or_waits : todo ≡ (if needs_disk_out b first then Wait else first)
+
 -- the worker's next step: nothing where it has no task
 abbrev pub IsTodoOf : {D : Type 0} → BoardState D → Worker → Todo → Type 0
-IsTodoOf b w todo = MatchOption (hand_of b w).task (todo ≡ Nothing) (λ t. IsNext b.run.program b.run.machine (state b.run) t w todo)
+IsTodoOf b w todo = MatchOption (hand_of b w).task (todo ≡ Nothing) (λ t. IsStepFor b.run t w todo)
+
+-- where it is a transfer in which a disk takes part, that disk is in
+abbrev pub HasDiskIn : {D : Type 0} → BoardState D → Todo → Type 0
+HasDiskIn b (Transfer c from to n) = (is_node from && is_node to) ≡ false → IsInFor (lent b.run) c.0
+HasDiskIn b _ = Unit {0}
 
 -- ---- what follows of it
 
@@ -82,6 +108,11 @@ CanBegin b w Start = IfSome (hand_of b w).task (λ t. CanHappen b.run (Run t w))
 abbrev pub IsMoverOf : {D : Type 0} → BoardState D → Worker → Todo → Type 0
 IsMoverOf b w (Transfer c from to n) = mover_of (state b.run) c from to ≡ w
 IsMoverOf b w _ = Unit {0}
+
+-- where it is a transfer, so many tasks have written its cell
+abbrev pub IsCounted : {D : Type 0} → BoardState D → Todo → Type 0
+IsCounted b (Transfer c from to n) = n ≡ writes (state b.run) c
+IsCounted b _ = Unit {0}
 
 -- the worker has claimed a task, and doesn't wait
 pub record HasStep (p : Program) (m : Machine) (s : State) (w : Worker) : Type 0 where

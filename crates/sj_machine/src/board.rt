@@ -1,11 +1,12 @@
 //! The board: the state of a run, what each worker has in hand, the pool of ready tasks, and what was delivered.
 
-ghost use Rattle.std.specs.Prelude.{◌≡◌, ◌↔◌, ◌+◌, ◌<◌, ◌≤◌, ◌++◌, [], All, IfErr, IfOk, IsNone, IsTrue, None, Some, false, OnErr, OnOk, is_some, length, slice_set, true, ◌≢◌};
+ghost use Rattle.std.specs.Prelude.{◌≡◌, ◌↔◌, ◌+◌, ◌<◌, ◌≤◌, ◌++◌, [], All, IfErr, IfOk, IfSome, IsTrue, None, ◌⊎◌, Some, false, OnErr, OnOk, is_some, length, slice_set, true, ◌≢◌};
 ghost use Rattle.std.specs.List.{list_any};
+ghost use Rattle.sj_base.specs.declared.mode.Policy.TheVariants.{Prio};
 ghost use Rattle.sj_base.specs.declared.trace.Event.TheVariants.{Claim, Drop, End, Move, Run};
 ghost use Rattle.sj_core.specs.Needs.{node_of};
 ghost use Rattle.sj_core.specs.Step.{mover_of};
-ghost use Rattle.sj_machine.specs.Board.{EndsMoveOf, HasCause, HasTask, IsBusy, IsFree, IsIdle, IsOver, IsWorking, OnlyDisksChangeOn, RunsNone, WasGiven, failed, first_fault, given_back, given_next, hand_in, hand_of, has_claimed, has_event, room_of, stopped, transfer_of};
+ghost use Rattle.sj_machine.specs.Board.{EndsMoveOf, HasCause, HasTask, IsBusy, IsFree, IsIdle, IsOver, IsWorking, RunsNone, WasGiven, failed, first_fault, given_back, given_from, given_next, hand_in, hand_of, has_claimed, has_event, room_of, stopped, transfer_of};
 ghost use Rattle.sj_pool.specs.Pool.{task_for};
 ghost use Rattle.sj_pool.specs.Queue.{has_fitting};
 ghost use Rattle.sj_core.specs.Program.{task_of};
@@ -13,6 +14,7 @@ ghost use Rattle.sj_machine.specs.BoardSound.{IsSoundBoard};
 ghost use Rattle.sj_core.specs.Legal.{IsComplete};
 ghost use Rattle.sj_machine.specs.Delivered.{DeliversEach, gift_in, handed};
 ghost use Rattle.sj_machine.specs.Operands.{read_among};
+ghost use Rattle.sj_machine.specs.Passing.{HasLost, IsFirstLeft, IsLeft, NoneIsLeft, is_passed};
 ghost use Rattle.sj_machine.specs.Planning.{HoldsCommutersAlone, IsRefusal, WaitsForAnother};
 ghost use Rattle.sj_machine.specs.Releasing.{EndsTask};
 ghost use Rattle.sj_machine.specs.Running.{AreResultsFor, AreSharesFor};
@@ -21,8 +23,12 @@ ghost use Rattle.sj_machine.specs.Preparing.{IsOpening};
 ghost use Rattle.sj_machine.specs.Sparing.{EventsSpareUsed, Spares, SparesMoved};
 ghost use Rattle.sj_machine.specs.Standing.{AllTell, CanHappen, HasDimsMoved, IsFetching, IsMovingIn, IsMovingOut, IsShareOf, IsTileMoved, state};
 ghost use Rattle.sj_machine.specs.Counts.{AreCounted, fault_of};
-ghost use Rattle.sj_machine.specs.Todo.{AnotherGoesOn, CanBegin, IsMoverOf, IsTodoOf};
+ghost use Rattle.sj_machine.specs.Todo.{AnotherGoesOn, CanBegin, HasDiskIn, IsCounted, IsMoverOf, IsTodoOf};
+ghost use Rattle.sj_machine.specs.Units.{AnotherHasUnit, lent};
+ghost use Rattle.sj_disk.specs.Lending.{NoneIsOut};
 ghost use Rattle.sj_machine.specs.Tiles.{array_in};
+
+mod lending;
 
 use crate::delivered::Delivered;
 use crate::fault::RunFault;
@@ -30,6 +36,7 @@ use crate::filling::put_ready;
 use crate::gifts::Gifts;
 use crate::gone::{none_gone, note_gone};
 use crate::hand::Hand;
+use crate::passing::take_behind;
 use crate::preparing::prepare;
 use crate::refusal::ClaimRefusal;
 use crate::releasing::release;
@@ -44,7 +51,7 @@ use sj_base::trace::Trace;
 use sj_codelet::frame::Frame;
 use sj_deps::deps::Deps;
 use sj_disk::disk_set::DiskSet;
-use sj_disk::refusal::DiskRefusal;
+use sj_disk::lending_set::LendingSet;
 use sj_edge::disk::Disk;
 use sj_pool::pool::Pool;
 use std::alloc::Global;
@@ -90,7 +97,7 @@ impl<D: Disk> Keyed for Board<D> {
 
     ghost Key = { BoardKey D };
 
-    ghost Row = { BoardRow };
+    ghost Row = { BoardRow D };
 
     ghost key = { key_of };
 
@@ -227,16 +234,34 @@ impl<D: Disk> Board<D> {
         self.pool.has_fitting(room)
     }
 
-    /// Gives a worker a ready task from the pool, by the policy among those that fit its node; `None` exactly where there is
-    /// none. Logarithmic in the tasks, and under `ws` linear in the workers; no memory.
-    pub fn next(&mut self, w: Worker) -> Option<Task>
+    /// Gives a worker a ready task from the pool that it hasn't passed, by the policy among those that fit its node; `None` exactly
+    /// where there is none. Those that it comes across and has passed stay in the pool: in their places under `prio`, else behind
+    /// the worker's others. For each of these, and once more, linear in those that were passed, logarithmic in the tasks, and under
+    /// `ws` linear in the workers; no memory.
+    pub fn next(&mut self, w: Worker, passed: &[Task]) -> Option<Task>
         requires free { IsFree self.old w }
-        ensures task { result ≡ task_for self.old.pool w.0 (room_of self.old w) }
-        ensures rest { self.new ≡ given_next self.old w }
-        ensures none { IsNone result ↔ All (λ q. has_fitting (room_of self.old w) q ≡ false) self.old.pool.queues }
+        ensures given { self.new ≡ given_from self.old w result self.new.pool }
+        ensures others { HasLost result self.old.pool self.new.pool }
+        ensures left { IfSome result
+            (IsLeft self.old.run.program passed.now (room_of self.old w) self.old.pool) }
+        ensures none { result ≡ None →
+            NoneIsLeft self.old.run.program passed.now (room_of self.old w) self.old.pool }
+        ensures urgent { self.old.run.machine.policy ≡ Prio → IfSome result
+            (IsFirstLeft self.old.run.program passed.now (room_of self.old w) self.old.pool) }
+        ensures first { is_passed passed.now (task_for self.old.pool w.0 (room_of self.old w)) ≡ false →
+            self.new ≡ given_next self.old w }
     {
         let room = self.run.node_size(w);
-        let task = self.pool.take(w, room);
+        let policy = self.run.machine().policy;
+        let task = take_behind(
+            &mut self.pool,
+            self.run.program(),
+            &self.footprints,
+            policy,
+            w,
+            room,
+            passed,
+        );
         give(&mut self.hands, w, task);
         task
     }
@@ -331,7 +356,7 @@ impl<D: Disk> Board<D> {
 
     /// What a worker does next, by the state alone: of its victims that aren't gone the least recently used is written to its disk
     /// where it is the only valid copy, and else dropped; then the cells come that its claim brings, in operand order; then its
-    /// kernel begins. It waits only while another worker goes on. Linear in the victims that have gone since it last dropped one,
+    /// kernel begins. It waits only while another worker goes on, or has the disk in hand that it needs. Linear in the victims that have gone since it last dropped one,
     /// in the nodes and in the workers; quadratic in the operands, which are a task's few. No memory.
     pub fn plan_of(&self, w: Worker) -> Todo
         requires works { IsWorking self.now w }
@@ -342,12 +367,17 @@ impl<D: Disk> Board<D> {
         ensures busy { result ≢ Todo.Nothing → IsBusy self.now w }
         ensures can { CanBegin self.now w result }
         ensures mover { IsMoverOf self.now w result }
-        ensures ends { result ≡ Todo.Wait →
-            AnotherGoesOn self.now.run.program self.now.run.machine (state self.now.run) w }
+        ensures disk_in { HasDiskIn self.now result }
+        ensures counted { IsCounted self.now result }
+        ensures ends { result ≡ Todo.Wait → (hand_of self.now w).unit ≡ None → AnotherHasUnit self.now w
+            ⊎ AnotherGoesOn self.now.run.program self.now.run.machine (state self.now.run) w }
     {
         self.run.is_sound();
         match self.hands[w.0 as usize].task {
-            Some(t) => self.run.next_step(t, w, self.gone[w.0 as usize]),
+            Some(t) => {
+                let first = self.run.next_step(t, w, self.gone[w.0 as usize]);
+                self.run.unless_out(first)
+            }
             None => Todo::Nothing,
         }
     }
@@ -394,6 +424,7 @@ impl<D: Disk> Board<D> {
     /// The move of a worker into a node ends: the tile is there. Constant time, and no memory.
     pub fn end_move_in(&mut self, w: Worker, tile: Arc<Tile>)
         requires busy { IsBusy self.old w }
+        requires no_unit { (hand_of self.old w).unit ≡ None }
         requires under_way { IsMovingIn self.old.run w }
         requires tile { IsTileMoved D.held self.old.run w tile.value }
         ensures moved { EndsMoveOf w self.old self.new }
@@ -406,6 +437,7 @@ impl<D: Disk> Board<D> {
     /// The move of a worker out to a disk ends: the cell's block there is a copy. Constant time, and no memory.
     pub fn end_move_out(&mut self, w: Worker)
         requires busy { IsBusy self.old w }
+        requires no_unit { (hand_of self.old w).unit ≡ None }
         requires under_way { IsMovingOut self.old.run w }
         requires written { IsWrittenOut D.held self.old.run w }
         ensures moved { EndsMoveOf w self.old self.new }
@@ -415,49 +447,17 @@ impl<D: Disk> Board<D> {
         self.run.end_move_out(w);
     }
 
-    /// Writes the tile of a worker's move to the block of its cell. No event, and no memory. Linear in the tile.
-    ///
-    /// After an `Err` the block may hold any bytes, and the move is still under way.
-    pub fn store(&mut self, w: Worker, tile: &Tile) -> Result<(), DiskRefusal>
-        requires busy { IsBusy self.old w }
-        requires under_way { IsMovingOut self.old.run w }
-        requires tile { IsTileMoved D.held self.old.run w tile.now }
-        ensures no_event { OnlyDisksChangeOn self.old self.new }
-        ensures stores { StoresMoved D.size D.faults D.mismatches D.held w tile.now.elements result self.old.run self.new.run }
-        ensures counts { AreCounted D.faults D.mismatches result self.old.run.disks.disks
-            self.new.run.disks.disks }
-        ensures cause { IfErr result (λ r. HasCause D.faults D.mismatches D.held self.new.run (fault_of r)) }
-        ensures written { OnOk result (IsWrittenOut D.held self.new.run w) }
-    {
-        self.run.store(w, tile)
-    }
-
-    /// Reads the block of the cell of a worker's move into a tile. No event, and no memory. Linear in the tile.
-    ///
-    /// After an `Err` the tile holds any elements, and the move is still under way.
-    pub fn fetch(&mut self, w: Worker, tile: &mut Tile) -> Result<(), DiskRefusal>
-        requires busy { IsBusy self.old w }
-        requires under_way { IsFetching self.old.run w }
-        requires dims { HasDimsMoved self.old.run w tile.old.dims }
-        ensures no_event { OnlyDisksChangeOn self.old self.new }
-        ensures fetches { FetchesMoved D.size D.faults D.mismatches D.held w tile.new.elements result self.old.run self.new.run }
-        ensures counts { AreCounted D.faults D.mismatches result self.old.run.disks.disks
-            self.new.run.disks.disks }
-        ensures cause { IfErr result (λ r. HasCause D.faults D.mismatches D.held self.new.run (fault_of r)) }
-        ensures tile { OnOk result (IsTileMoved D.held self.old.run w tile.new) }
-    {
-        self.run.fetch(w, tile)
-    }
-
     /// A worker has failed: the board keeps the first fault, and the worker has no task any more. The task and the move that
     /// it had stay in the state for good. Constant time, and no memory.
     pub fn fail(&mut self, w: Worker, fault: RunFault)
         requires works { IsWorking self.old w }
+        requires no_unit { (hand_of self.old w).unit ≡ None }
         requires cause { HasCause D.faults D.mismatches D.held self.old.run fault }
         ensures { self.new ≡ failed self.old w fault }
     {
         let_go(&mut self.hands, w);
-        self.fault = first_of(self.fault, fault);
+        let kept = first_of(self.fault, fault);
+        self.fault = kept;
     }
 
     /// A worker stops, since all tasks are done or a fault is kept. A task that it had claimed stays so for good. Constant
@@ -466,6 +466,7 @@ impl<D: Disk> Board<D> {
         requires works { IsWorking self.old w }
         requires runs_none { RunsNone self.old w }
         requires moves_none { transfer_of self.old w ≡ None }
+        requires no_unit { (hand_of self.old w).unit ≡ None }
         requires over { IsOver self.old }
         ensures { self.new ≡ stopped self.old w }
     {
@@ -487,13 +488,15 @@ impl<D: Disk> Board<D> {
         self.run.events_spare_what_is_used();
     }
 
-    /// What was delivered, the events, the disks, and the first fault. Constant time, and no memory.
-    pub fn close(self) -> (Delivered, Trace, DiskSet<D>, Option<RunFault>)
+    /// What was delivered, the events, the disks, all of which are in, and the first fault. Constant time, and no memory.
+    pub fn close(self) -> (Delivered, Trace, LendingSet<D>, Option<RunFault>)
         requires idle { All (λ hand. hand.task ≡ None) self.hands }
+        requires no_unit { All (λ hand. hand.unit ≡ None) self.hands }
         ensures delivered { result.0.pairs ≡ self.delivered }
         ensures each { IsComplete (state self.run) → DeliversEach self.run.program (AllTell D.held self.run) result.0.pairs }
         ensures trace { result.1.events ≡ self.run.trace }
-        ensures disks { result.2 ≡ self.run.disks }
+        ensures disks { result.2 ≡ lent self.run }
+        ensures none_is_out { NoneIsOut result.2 }
         ensures fault { result.3 ≡ self.fault }
     {
         self.run.is_sound();

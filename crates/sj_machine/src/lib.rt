@@ -19,6 +19,7 @@ pub mod leaving;
 pub mod mark;
 pub mod needs;
 pub mod operands;
+mod passing;
 pub mod placing;
 pub mod plan;
 mod preparing;

@@ -21,8 +21,10 @@ ghost use Rattle.sj_machine.specs.Planning.{AnotherHasTask, IsWhy, MayClaim};
 ghost use Rattle.sj_machine.specs.Sparing.{EventsSpareUsed};
 ghost use Rattle.sj_machine.specs.Standing.{CanHappen, HasDimsMoved, HasMoved, IsFetching, IsMovingIn, IsMovingOut, IsShareOf, IsTileMoved, is_node, starting, state, with_event};
 ghost use Rattle.sj_machine.specs.Tiles.{array_in};
+ghost use Rattle.sj_machine.specs.Units.{HasItsDiskIn};
 
 mod asking;
+mod lending;
 mod looking;
 mod planning;
 
@@ -44,6 +46,7 @@ use sj_base::trace::{Event, Trace};
 use sj_codelet::frame::Frame;
 use sj_core::progress::{Progress, Transfer};
 use sj_disk::disk_set::DiskSet;
+use sj_disk::lending_set::LendingSet;
 use sj_disk::refusal::DiskRefusal;
 use sj_edge::disk::Disk;
 use sj_node::store::NodeStore;
@@ -61,7 +64,7 @@ pub struct RunState<D: Disk> {
     cells: Vec<Copies>,
     nodes: Vec<NodeStore>,
     workers: Vec<Hold>,
-    disks: DiskSet<D>,
+    disks: LendingSet<D>,
     /// The disks as they were when the run was made.
     opened: Snapshot<DiskSet<D>>,
     trace: Trace,
@@ -203,7 +206,7 @@ fn told(elements: &[i64])
 }
 
 /// No code: its contract is what a tile's type says of its elements.
-fn measured(tile: &Tile)
+pub fn measured(tile: &Tile)
     ensures whole { length tile.now.elements ≡ area tile.now.dims }
     ensures fits { All (FitsSigned w64) tile.now.elements }
 {
@@ -265,6 +268,10 @@ impl<D: Disk> RunState<D> {
             return Err(RunRefusal { program, disks });
         };
         let opened = Snapshot::of(&disks);
+        let disks = match LendingSet::make(alloc, disks) {
+            Ok(disks) => disks,
+            Err(disks) => return Err(RunRefusal { program, disks }),
+        };
         Ok(RunState {
             program,
             machine,
@@ -404,6 +411,7 @@ impl<D: Disk> RunState<D> {
     pub fn store(&mut self, w: Worker, tile: &Tile) -> Result<(), DiskRefusal>
         requires under_way { IsMovingOut self.old w }
         requires tile { IsTileMoved D.held self.old w tile.now }
+        requires disk_in { HasItsDiskIn self.old w }
         ensures no_event { OnlyDisksChange self.old self.new }
         ensures stores { StoresMoved D.size D.faults D.mismatches D.held w tile.now.elements result self.old self.new }
         ensures counts { AreCounted D.faults D.mismatches result self.old.disks.disks self.new.disks.disks }
@@ -425,6 +433,7 @@ impl<D: Disk> RunState<D> {
     pub fn fetch(&mut self, w: Worker, tile: &mut Tile) -> Result<(), DiskRefusal>
         requires under_way { IsFetching self.old w }
         requires dims { HasDimsMoved self.old w tile.old.dims }
+        requires disk_in { HasItsDiskIn self.old w }
         ensures no_event { OnlyDisksChange self.old self.new }
         ensures fetches { FetchesMoved D.size D.faults D.mismatches D.held w tile.new.elements result self.old self.new }
         ensures counts { AreCounted D.faults D.mismatches result self.old.disks.disks self.new.disks.disks }

@@ -18,7 +18,7 @@ use Rattle.sj_words.specs.declared.options.Options.{Options}
 use Rattle.sj_ready.specs.Ready.{IsUnready}
 use Rattle.sj_ready.specs.Unready.{after_lowering, after_reading}
 use Rattle.sj_ready.specs.declared.unready.Unready.TheVariants.{Short}
-use Rattle.sj_ready.specs.Work.{Work, WorkOrRefusal, asked_by, machine_for, program_of, within_limits, work_of}
+use Rattle.sj_ready.specs.Work.{Work, WorkOrRefusal, asked_by, machine_for, program_of, within_limits}
 
 -- what is true of the reason that `?` hands over
 pub handed : {A E : Type 0} (r : Result A E) (e : E) (P : E → Type 0) → IsErrAnd r (λ x. x ≡ e) → P e → IfErr r P
@@ -47,6 +47,6 @@ unready-fitting asked w p m e is same on h =
     (subst (λ (q : Program). IsShortage q w.machine e) same (subst (λ (n : Machine). IsShortage p n e) on h))
 
 -- the work of a job that was read, on the machine that is made for it, is what was asked for
-pub asked-is : (has : Kernel → Bool) (o : Options) (disks text : List ℕ) (job : Job) (m : Machine) → job_of has text ≡ Ok job → m ≡ machine_for o disks job.settings → within_limits (record { statements = job.statements; machine = m; shows_summary = o.summary; shows_trace = o.trace }) ≡ work_of has o disks text
-asked-is has o disks text job m read made =
-    ap (λ (n : Machine). within_limits (record { statements = job.statements; machine = n; shows_summary = o.summary; shows_trace = o.trace })) made ∙ sym (ap (asked_by o disks) read)
+pub asked-is : (o : Options) (disks : List ℕ) (read : Result Job Refusal) (job : Job) (m : Machine) → read ≡ Ok job → m ≡ machine_for o disks job.settings → within_limits (record { statements = job.statements; machine = m; shows_summary = o.summary; shows_trace = o.trace }) ≡ asked_by o disks read
+asked-is o disks read job m is made =
+    ap (λ (n : Machine). within_limits (record { statements = job.statements; machine = n; shows_summary = o.summary; shows_trace = o.trace })) made ∙ sym (ap (asked_by o disks) is)

@@ -1,3 +1,4 @@
 pub mod Ready
 pub mod Unready
 pub mod Work
+pub mod Input

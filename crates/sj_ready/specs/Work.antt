@@ -2,11 +2,10 @@
 use Rattle.std.specs.Prelude.{ℕ, Bool, Some, None, Result, Ok, Err, List}
 use Rattle.sj_base.specs.declared.program.Machine.{Machine}
 use Rattle.sj_base.specs.declared.program.Program.{Program}
-use Rattle.sj_codelet.specs.declared.kernel.Kernel.{Kernel}
 use Rattle.sj_core.specs.Proper.{HasSwapFor}
 use Rattle.sj_job.specs.Act.{Statement}
 use Rattle.sj_job.specs.Job.{Job}
-use Rattle.sj_job.specs.Reading.{Refusal, job_of}
+use Rattle.sj_job.specs.Reading.{Refusal}
 use Rattle.sj_job.specs.Settings.{nodes_of, policy_set, workers_of}
 use Rattle.sj_job.specs.declared.settings.Settings.{Settings}
 use Rattle.sj_lower.specs.Limits.{late_limit}
@@ -35,7 +34,7 @@ machine_for o disks g = machine_by o (workers_of g) (nodes_of g) (policy_set g) 
 abbrev pub WorkOrRefusal : Type 0
 WorkOrRefusal = Result Work Refusal
 
--- work whose statements exceed a limit of lowering, for as many workers as the machine has, is refused at the line that first does
+-- work that exceeds a limit of lowering, for as many workers as the machine has, is refused at the line that first does
 abbrev pub within_limits : Work → WorkOrRefusal
 within_limits w = elim (late_limit w.machine.workers w.statements) [ None ↦ Ok w | Some e ↦ Err e ]
 
@@ -60,14 +59,6 @@ lowerable (Err e) = Err e
 
 abbrev pub asked_by : Options → List ℕ → Result Job Refusal → WorkOrRefusal
 asked_by o disks job = lowerable (said_by o disks job)
-
--- what a job text says
-abbrev pub work_said : (Kernel → Bool) → Options → List ℕ → List ℕ → WorkOrRefusal
-work_said has o disks text = said_by o disks (job_of has text)
-
--- what a job text asks for
-abbrev pub work_of : (Kernel → Bool) → Options → List ℕ → List ℕ → WorkOrRefusal
-work_of has o disks text = asked_by o disks (job_of has text)
 
 -- the machine has room for the work: each task fits a node that has a worker, and the blocks have their places on the disks
 pub record HasRoom (w : Work) : Type 0 where

@@ -1,6 +1,7 @@
 //! A job made ready: its program, and the machine that is to run it.
 
-ghost use Rattle.std.specs.Prelude.{◌≡◌, ◌<◌, ◌≤◌, ◌^◌, Bool, IsTrue, All, FitsSigned, IfOk, IfErr, None, Ok, length};
+ghost use Rattle.std.specs.Prelude.{◌≡◌, ◌<◌, ◌≤◌, ◌^◌, Bool, true, IsTrue, All, FitsSigned, IfOk, IfErr, None, Ok, length};
+ghost use Rattle.sj_apps.specs.Application.{job_for, IsSized};
 ghost use Rattle.std.specs.Int.{w64};
 ghost use Rattle.sj_codelet.specs.Laws.{CommutingCommute, ContributingContribute, ReductionsReduce};
 ghost use Rattle.sj_codelet.specs.declared.kernel.Kernel.{Kernel};
@@ -17,10 +18,14 @@ ghost use Rattle.sj_lower.specs.Lowering.{lowered};
 ghost use Rattle.sj_job.specs.Settings.{IsWithinLimits};
 ghost use Rattle.sj_words.specs.Machine.{HasNodes, HasWorkers};
 ghost use Rattle.sj_words.specs.Options.{IsWithinLimits as AreLimited};
+ghost use Rattle.sj_job.specs.declared.reason.ReadRefusal.{ReadRefusal};
+ghost use Rattle.sj_ready.specs.Input.{job_in, work_in, HasJob};
 ghost use Rattle.sj_ready.specs.Ready.{HasOwnCodelets, IsReady, IsUnready};
-ghost use Rattle.sj_ready.specs.Work.{Work, machine_for, within_limits, work_of};
+ghost use Rattle.sj_ready.specs.Work.{Work, machine_for, within_limits};
 
+use crate::input::Input;
 use crate::unready::Unready;
+use sj_apps::application::Application;
 use sj_base::memory::OutOfMemory;
 use sj_base::program::{Machine, Program};
 use sj_base::sequence::Sequence;
@@ -151,9 +156,39 @@ fn read_whole<C: Codelets>(alloc: Global, text: Vec<u8>, codelets: &C) -> Result
     read(alloc, &text, codelets)
 }
 
-/// A job text made ready to be run on the machine that words ask for, else its settings, with disks of these sizes. The cost of
-/// reading, of lowering, and of what the program needs: linear in the text, the tasks, their accesses and the cells. The text is
-/// dropped as soon as it is read.
+/// The job of an application. Linear in its weights and tasks.
+fn generated(alloc: Global, application: Application) -> Result<Job, ReadRefusal>
+    requires size { IsSized application }
+    ensures seen { IfOk result (λ job. job_seen job ≡ job_for application) }
+    ensures err { IfErr result (λ e. e ≡ ReadRefusal.OutOfMemory) }
+    ensures within { IfOk result (λ job. IsWithinLimits job.settings) }
+    ensures well { IfOk result (λ job. IsWell (λ _. true) 0 start (statements_of job)) }
+    ensures numbered { IfOk result (λ job. IsNumbered job.roots job.statements) }
+{
+    match application.job(alloc) {
+        Ok(job) => Ok(job),
+        Err(_) => Err(ReadRefusal::OutOfMemory),
+    }
+}
+
+/// The job that is asked for. The cost of reading it, or of generating it.
+fn job_of<C: Codelets>(alloc: Global, input: Input, codelets: &C) -> Result<Job, ReadRefusal>
+    requires input { HasJob C.has input }
+    ensures ok { IfOk result (λ job. job_in C.has input ≡ Ok (job_seen job)) }
+    ensures err { IfErr result (λ e. IsRefusal e (job_in C.has input)) }
+    ensures within { IfOk result (λ job. IsWithinLimits job.settings) }
+    ensures well { IfOk result (λ job. IsWell C.has 0 start (statements_of job)) }
+    ensures numbered { IfOk result (λ job. IsNumbered job.roots job.statements) }
+{
+    match input {
+        Input::Text(text) => read_whole(alloc, text, codelets),
+        Input::Generated(application) => generated(alloc, application),
+    }
+}
+
+/// A job text, or the job of an application, made ready to be run on the machine that words ask for, else its settings, with
+/// disks of these sizes. The cost of reading, of lowering, and of what the program needs: linear in the text, the tasks, their
+/// accesses and the cells. The text is dropped as soon as it is read.
 ///
 /// # Errors
 ///
@@ -161,22 +196,23 @@ fn read_whole<C: Codelets>(alloc: Global, text: Vec<u8>, codelets: &C) -> Result
 /// blocks have no places on the disks; that an allocation was refused. In this order.
 pub fn prepare<C: Codelets>(
     alloc: Global,
-    text: Vec<u8>,
+    input: Input,
     options: &Options,
     disks: Vec<u64>,
     codelets: &C,
 ) -> Result<Ready, Unready>
     requires own { HasOwnCodelets C.has }
+    requires input { HasJob C.has input }
     requires options { AreLimited options.now }
     requires few { length disks.items ≤ 16 }
     requires small { All (λ n. n ≤ 2 ^ 40) disks.items }
     ensures ready { IfOk result (IsReady C.has
-        (work_of C.has options.now disks.items text.items)) }
+        (work_in C.has options.now disks.items input)) }
     ensures disks { IfOk result (λ r. r.machine.disks ≡ disks.items) }
     ensures unready { IfErr result (IsUnready
-        (work_of C.has options.now disks.items text.items)) }
+        (work_in C.has options.now disks.items input)) }
 {
-    let job = read_whole(alloc, text, codelets)?;
+    let job = job_of(alloc, input, codelets)?;
     let machine = machine_for(alloc, options, &job.settings, disks)?;
     let ready = lowered_for(alloc, job, machine, options.summary, options.trace)?;
     arguments_fit(&ready.program);

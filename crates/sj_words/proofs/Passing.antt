@@ -69,6 +69,22 @@ passes_swap_size : Passes (codes "swap-size")
 unfolding clap_on_literals
 passes_swap_size = record { joined = λ v r q s p. refl; apart = λ r q s p. refl; value = λ w r s p. refl; settled = λ v r s. refl }
 
+passes_app : Passes (codes "app")
+unfolding clap_on_literals
+passes_app = record { joined = λ v r q s p. refl; apart = λ r q s p. refl; value = λ w r s p. refl; settled = λ v r s. refl }
+
+passes_n : Passes (codes "n")
+unfolding clap_on_literals
+passes_n = record { joined = λ v r q s p. refl; apart = λ r q s p. refl; value = λ w r s p. refl; settled = λ v r s. refl }
+
+passes_tile : Passes (codes "tile")
+unfolding clap_on_literals
+passes_tile = record { joined = λ v r q s p. refl; apart = λ r q s p. refl; value = λ w r s p. refl; settled = λ v r s. refl }
+
+passes_seed : Passes (codes "seed")
+unfolding clap_on_literals
+passes_seed = record { joined = λ v r q s p. refl; apart = λ r q s p. refl; value = λ w r s p. refl; settled = λ v r s. refl }
+
 passes_at : (name other : Text) → Passes other → bytes_eq name other ≡ true → Passes name
 passes_at name other r e = subst Passes (sym ((bytes_eq-Decides name other).0 e)) r
 
@@ -78,7 +94,15 @@ passes_option name e =
     (λ e. ⊎_elim (passes_at name (codes "sched") passes_sched)
     (λ e. ⊎_elim (passes_at name (codes "node") passes_node)
     (λ e. ⊎_elim (passes_at name (codes "nodes") passes_nodes)
-    (λ e. ⊎_elim (passes_at name (codes "swap") passes_swap) (passes_at name (codes "swap-size") passes_swap_size) (or_cases _ _ e))
+    (λ e. ⊎_elim (passes_at name (codes "swap") passes_swap)
+    (λ e. ⊎_elim (passes_at name (codes "swap-size") passes_swap_size)
+    (λ e. ⊎_elim (passes_at name (codes "app") passes_app)
+    (λ e. ⊎_elim (passes_at name (codes "n") passes_n)
+    (λ e. ⊎_elim (passes_at name (codes "tile") passes_tile) (passes_at name (codes "seed") passes_seed) (or_cases _ _ e))
+    (or_cases _ _ e))
+    (or_cases _ _ e))
+    (or_cases _ _ e))
+    (or_cases _ _ e))
     (or_cases _ _ e))
     (or_cases _ _ e))
     (or_cases _ _ e))

@@ -166,6 +166,22 @@ reads_swap_size : Reads (codes "swap-size")
 unfolding clap_on_literals
 reads_swap_size = record { joined = λ v r q s p. refl; apart = λ r q s p. refl; value = λ w r s p. refl; settles = λ v r. refl; no_flag = refl; trace_else = refl; summary_else = refl }
 
+reads_app : Reads (codes "app")
+unfolding clap_on_literals
+reads_app = record { joined = λ v r q s p. refl; apart = λ r q s p. refl; value = λ w r s p. refl; settles = λ v r. refl; no_flag = refl; trace_else = refl; summary_else = refl }
+
+reads_n : Reads (codes "n")
+unfolding clap_on_literals
+reads_n = record { joined = λ v r q s p. refl; apart = λ r q s p. refl; value = λ w r s p. refl; settles = λ v r. refl; no_flag = refl; trace_else = refl; summary_else = refl }
+
+reads_tile : Reads (codes "tile")
+unfolding clap_on_literals
+reads_tile = record { joined = λ v r q s p. refl; apart = λ r q s p. refl; value = λ w r s p. refl; settles = λ v r. refl; no_flag = refl; trace_else = refl; summary_else = refl }
+
+reads_seed : Reads (codes "seed")
+unfolding clap_on_literals
+reads_seed = record { joined = λ v r q s p. refl; apart = λ r q s p. refl; value = λ w r s p. refl; settles = λ v r. refl; no_flag = refl; trace_else = refl; summary_else = refl }
+
 reads_at : (name other : Text) → Reads other → bytes_eq name other ≡ true → Reads name
 reads_at name other r e = subst Reads (sym ((bytes_eq-Decides name other).0 e)) r
 
@@ -175,7 +191,15 @@ reads_option name e =
     (λ e. ⊎_elim (reads_at name (codes "sched") reads_sched)
     (λ e. ⊎_elim (reads_at name (codes "node") reads_node)
     (λ e. ⊎_elim (reads_at name (codes "nodes") reads_nodes)
-    (λ e. ⊎_elim (reads_at name (codes "swap") reads_swap) (reads_at name (codes "swap-size") reads_swap_size) (or_cases _ _ e))
+    (λ e. ⊎_elim (reads_at name (codes "swap") reads_swap)
+    (λ e. ⊎_elim (reads_at name (codes "swap-size") reads_swap_size)
+    (λ e. ⊎_elim (reads_at name (codes "app") reads_app)
+    (λ e. ⊎_elim (reads_at name (codes "n") reads_n)
+    (λ e. ⊎_elim (reads_at name (codes "tile") reads_tile) (reads_at name (codes "seed") reads_seed) (or_cases _ _ e))
+    (or_cases _ _ e))
+    (or_cases _ _ e))
+    (or_cases _ _ e))
+    (or_cases _ _ e))
     (or_cases _ _ e))
     (or_cases _ _ e))
     (or_cases _ _ e))
@@ -360,6 +384,8 @@ defaults rows =
     ap (λ r. fold with_default r (drop 1 rules)) (same_if (has_row (codes "workers") rows) rows) ∙ ap (λ r. fold with_default r (drop 2 rules)) (same_if (has_row (codes "sched") rows) rows)
     ∙ ap (λ r. fold with_default r (drop 3 rules)) (same_if (has_row (codes "node") rows) rows) ∙ ap (λ r. fold with_default r (drop 4 rules)) (same_if (has_row (codes "nodes") rows) rows)
     ∙ ap (λ r. fold with_default r (drop 5 rules)) (same_if (has_row (codes "swap") rows) rows) ∙ ap (λ r. fold with_default r (drop 6 rules)) (same_if (has_row (codes "swap-size") rows) rows)
+    ∙ ap (λ r. fold with_default r (drop 7 rules)) (same_if (has_row (codes "app") rows) rows) ∙ ap (λ r. fold with_default r (drop 8 rules)) (same_if (has_row (codes "n") rows) rows)
+    ∙ ap (λ r. fold with_default r (drop 9 rules)) (same_if (has_row (codes "tile") rows) rows) ∙ ap (λ r. fold with_default r (drop 10 rules)) (same_if (has_row (codes "seed") rows) rows)
 
 matches_are : (words : List Text) → matches_of the_app words ≡ fold with_default (end_rows (fold (walked rules []) (at [] None 0 1) words)) rules
 unfolding clap_on_literals

@@ -18,9 +18,10 @@ abbrev pub bare_app : App
 bare_app = on_top (λ s. record s { no_binary_name = true; disable_help_flag = true; disable_version_flag = true }) (new_app (codes "starjob"))
 
 abbrev pub the_app : App
-the_app = with_rule (with_rule (with_rule (with_rule (with_rule (with_rule (with_rule (with_rule bare_app (option_rule (codes "workers")))
-    (option_rule (codes "sched"))) (option_rule (codes "node"))) (option_rule (codes "nodes"))) (option_rule (codes "swap")))
-    (option_rule (codes "swap-size"))) (flag_rule (codes "trace"))) (flag_rule (codes "summary"))
+the_app = with_rule (with_rule (with_rule (with_rule (with_rule (with_rule (with_rule (with_rule (with_rule (with_rule (with_rule (with_rule
+    bare_app (option_rule (codes "workers"))) (option_rule (codes "sched"))) (option_rule (codes "node"))) (option_rule (codes "nodes")))
+    (option_rule (codes "swap"))) (option_rule (codes "swap-size"))) (option_rule (codes "app"))) (option_rule (codes "n")))
+    (option_rule (codes "tile"))) (option_rule (codes "seed"))) (flag_rule (codes "trace"))) (flag_rule (codes "summary"))
 
 -- what was found holds the value of each option that is given, and whether each flag stands
 pub record HoldsGiven (found : Found) (ps : List (Text × Text)) : Type 0 where

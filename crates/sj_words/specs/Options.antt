@@ -6,6 +6,11 @@ use Rattle.std.specs.Str.{bytes_eq}
 use Rattle.std.specs.Str.Parse.{digits_value}
 use Rattle.sj_base.specs.declared.mode.Policy.{Policy}
 use Rattle.sj_base.specs.declared.mode.Policy.TheVariants.{Eager, Prio, Ws}
+use Rattle.sj_apps.specs.declared.application.Application.{Application}
+use Rattle.sj_apps.specs.declared.application.Problem.{Problem}
+use Rattle.sj_apps.specs.declared.application.Problem.TheVariants.{Product, Paths}
+use Rattle.sj_apps.specs.Application.{IsSized}
+use Rattle.sj_apps.specs.Generated.{part_count}
 use Rattle.sj_words.specs.Spelling.{Text, said, stands_once, given}
 use Rattle.sj_words.specs.declared.options.Options.{Options}
 
@@ -28,10 +33,36 @@ abbrev pub reads : {A : Type 0} → (Text → Option A) → Option Text → Opti
 reads read None = Some None
 reads read (Some text) = option_map Some (read text)
 
+abbrev pub problem_in : Text → Option Problem
+problem_in text = if bytes_eq text (codes "product") then Some Product
+    else (if bytes_eq text (codes "paths") then Some Paths else None)
+
+-- a problem of this size, where no tile is larger than the matrix, and few tiles make a column
+abbrev pub sized : Problem → ℕ → ℕ → ℕ → Option Application
+sized problem n tile seed =
+    if nat_le tile n && nat_le (part_count n tile) 48
+    then Some (record { problem = problem; n = n; tile = tile; seed = seed }) else None
+
+-- a problem and its numbers stand together, or none of them does
+abbrev pub together : Option Problem → Option ℕ → Option ℕ → Option ℕ → Option (Option Application)
+together None None None None = Some None
+together (Some problem) (Some n) (Some tile) (Some seed) = option_map Some (sized problem n tile seed)
+together _ _ _ _ = None
+
+-- the application that the settings ask for, or that they ask for none
+abbrev pub application_asked : List (Text × Text) → Option (Option Application)
+application_asked ps =
+    option_and_then (λ problem. option_and_then (λ n. option_and_then (λ tile. option_and_then (λ seed. together problem n tile seed)
+    (reads (number_in 0 999999999) (given (codes "seed") ps)))
+    (reads (number_in 1 2048) (given (codes "tile") ps)))
+    (reads (number_in 1 2048) (given (codes "n") ps)))
+    (reads problem_in (given (codes "app") ps))
+
 -- what the settings ask for, where each value is of its kind, and `--nodes` stands only with `--node`
 abbrev pub asked_for : List (Text × Text) → Option Options
 asked_for ps =
     option_and_then (λ workers. option_and_then (λ policy. option_and_then (λ node. option_and_then (λ nodes. option_and_then (λ swap_size.
+    option_and_then (λ application.
     if is_some nodes && not (is_some node) then None
     else Some (record {
       workers = workers;
@@ -42,7 +73,9 @@ asked_for ps =
       swap_size = swap_size;
       trace = is_some (given (codes "trace") ps);
       summary = is_some (given (codes "summary") ps);
+      application = application;
     }))
+    (application_asked ps))
     (reads (number_in 0 (2 ^ 40)) (given (codes "swap-size") ps)))
     (reads (number_in 1 16) (given (codes "nodes") ps)))
     (reads (number_in 8 (2 ^ 40)) (given (codes "node") ps)))
@@ -60,3 +93,4 @@ pub record IsWithinLimits (o : Options) : Type 0 where
   pub nodes : IfSome o.nodes (λ n. (1 ≤ n) × (n ≤ 16))
   pub with_node : is_some o.node ≡ true ⊎ (o.nodes ≡ None)
   pub swap_size : IfSome o.swap_size (λ n. n ≤ 2 ^ 40)
+  pub application : IfSome o.application IsSized

@@ -18,7 +18,8 @@ is_flag name = bytes_eq name (codes "trace") || bytes_eq name (codes "summary")
 
 abbrev pub is_option : Text → Bool
 is_option name = bytes_eq name (codes "workers") || (bytes_eq name (codes "sched") || (bytes_eq name (codes "node")
-    || (bytes_eq name (codes "nodes") || (bytes_eq name (codes "swap") || bytes_eq name (codes "swap-size")))))
+    || (bytes_eq name (codes "nodes") || (bytes_eq name (codes "swap") || (bytes_eq name (codes "swap-size")
+    || (bytes_eq name (codes "app") || (bytes_eq name (codes "n") || (bytes_eq name (codes "tile") || bytes_eq name (codes "seed")))))))))
 
 abbrev pub is_equals : ℕ → Bool
 is_equals b = b == 61

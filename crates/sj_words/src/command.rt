@@ -23,6 +23,14 @@ pub const SWAP: &str = "swap";
 
 pub const SWAP_SIZE: &str = "swap-size";
 
+pub const APP: &str = "app";
+
+pub const N: &str = "n";
+
+pub const TILE: &str = "tile";
+
+pub const SEED: &str = "seed";
+
 pub const TRACE: &str = "trace";
 
 pub const SUMMARY: &str = "summary";
@@ -85,6 +93,10 @@ fn command<'a>(alloc: Global) -> Result<Command<'a>, AllocError>
     let command = with_option(alloc, command, NODES)?;
     let command = with_option(alloc, command, SWAP)?;
     let command = with_option(alloc, command, SWAP_SIZE)?;
+    let command = with_option(alloc, command, APP)?;
+    let command = with_option(alloc, command, N)?;
+    let command = with_option(alloc, command, TILE)?;
+    let command = with_option(alloc, command, SEED)?;
     with_flag(alloc, with_flag(alloc, command, TRACE)?, SUMMARY)
 }
 

@@ -12,9 +12,14 @@
 //! | `--nodes` | 1 to 16 | how many such nodes, where it isn't 1; only with `--node` |
 //! | `--swap` | a path | a file as the swap disk |
 //! | `--swap-size` | 0 to 2^40 | the bytes of the swap disk, where they aren't 64 MiB |
+//! | `--app` | `product` or `paths` | the job that is generated, in place of one that is read |
+//! | `--n` | 1 to 2048 | the rows of its matrices |
+//! | `--tile` | 1 to n | the rows of its tiles, of which at most 48 make a column |
+//! | `--seed` | 0 to 999999999 | its numbers |
 //!
-//! No name stands twice. No value is empty or begins with `-`. A number is 1 to 19 decimal digits.
-//! The spelling is checked first, and then `clap` reads the values.
+//! The last four stand together or not at all. No name stands twice. No value is empty or begins with
+//! `-`. A number is 1 to 19 decimal digits. The spelling is checked first, and then `clap` reads the
+//! values.
 #![tactic(auto)]
 
 mod command;
@@ -26,6 +31,8 @@ mod spelling;
 mod swap;
 #[cfg(test)]
 mod tests;
+#[cfg(test)]
+mod tests_of_applications;
 
 pub use law::words_mean_what_is_written;
 pub use machine::machine_of;

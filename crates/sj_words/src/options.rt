@@ -7,13 +7,18 @@ ghost use Rattle.std.specs.Char.{is_ascii_digit};
 ghost use Rattle.std.specs.Str.Parse.{digits_value};
 ghost use Rattle.clap.specs.Words.{found_of};
 ghost use Rattle.sj_words.specs.Command.{HoldsGiven};
-ghost use Rattle.sj_words.specs.Options.{IsWithinLimits, asked_for, is_number, number_in, options, policy_in, reads};
+ghost use Rattle.sj_apps.specs.Application.{IsSized};
+ghost use Rattle.sj_words.specs.Options.{IsWithinLimits, application_asked, asked_for, is_number, number_in, options, policy_in, problem_in, reads, sized, together};
 ghost use Rattle.sj_words.specs.Spelling.{texts};
 
-use crate::command::{NODE, NODES, SCHED, SUMMARY, SWAP, SWAP_SIZE, TRACE, WORKERS, matches_of};
+use crate::command::{
+    APP, N, NODE, NODES, SCHED, SEED, SUMMARY, SWAP, SWAP_SIZE, TILE, TRACE, WORKERS, matches_of,
+};
 use crate::path::SwapPath;
 use crate::spelling::{are_distinct, said_names};
 use clap::ArgMatches;
+use sj_apps::application::{Application, MOST_PARTS, Problem};
+use sj_apps::product::part_count;
 use sj_base::memory::OutOfMemory;
 use sj_base::mode::Policy;
 use std::alloc::{AllocError, Global};
@@ -38,6 +43,8 @@ pub struct Options {
     pub trace: bool,
     /// Whether a line is printed of each array in place of its elements.
     pub summary: bool,
+    /// The job that is generated, in place of one that is read.
+    pub application: Option<Application>,
 }
 
 /// Why words weren't read.
@@ -162,6 +169,93 @@ fn policy(text: Option<&str>) -> Result<Option<Policy>, Unread>
     }
 }
 
+fn problem_in(text: &str) -> Option<Problem>
+    ensures { result ≡ problem_in text.now }
+{
+    match text {
+        "product" => Some(Problem::Product),
+        "paths" => Some(Problem::Paths),
+        _ => None,
+    }
+}
+
+// The problem, where it is given.
+fn problem(text: Option<&str>) -> Result<Option<Problem>, Unread>
+    ensures { MatchResult result
+        (λ p. reads problem_in (option_map (λ t. t.now) text.entry) ≡ Some p)
+        (λ _. reads problem_in (option_map (λ t. t.now) text.entry) ≡ None) }
+{
+    match text {
+        Some(text) => match problem_in(text) {
+            Some(problem) => Ok(Some(problem)),
+            None => Err(Unread),
+        },
+        None => Ok(None),
+    }
+}
+
+// A problem of this size, where no tile is larger than the matrix, and few tiles make a column.
+fn sized(problem: Problem, n: u64, tile: u64, seed: u64) -> Option<Application>
+    requires n { (1 ≤ n) × (n ≤ 2048) }
+    requires tile { (1 ≤ tile) × (tile ≤ 2048) }
+    requires seed { seed ≤ 999999999 }
+    ensures is { result ≡ sized problem n tile seed }
+    ensures sized { IfSome result IsSized }
+{
+    let n = n as u32;
+    let tile = tile as u32;
+    if tile <= n && part_count(n, tile) <= MOST_PARTS {
+        Some(Application {
+            problem,
+            n,
+            tile,
+            seed,
+        })
+    } else {
+        None
+    }
+}
+
+// The application, where a problem and its numbers stand together.
+fn together(
+    problem: Option<Problem>,
+    n: Option<u64>,
+    tile: Option<u64>,
+    seed: Option<u64>,
+) -> Result<Option<Application>, Unread>
+    requires n { IfSome n (λ n. (1 ≤ n) × (n ≤ 2048)) }
+    requires tile { IfSome tile (λ n. (1 ≤ n) × (n ≤ 2048)) }
+    requires seed { IfSome seed (λ n. (0 ≤ n) × (n ≤ 999999999)) }
+    ensures value { MatchResult result
+        (λ a. together problem n tile seed ≡ Some a)
+        (λ _. together problem n tile seed ≡ None) }
+    ensures sized { IfOk result (λ a. IfSome a IsSized) }
+{
+    match (problem, n, tile, seed) {
+        (None, None, None, None) => Ok(None),
+        (Some(problem), Some(n), Some(tile), Some(seed)) => match sized(problem, n, tile, seed) {
+            Some(application) => Ok(Some(application)),
+            None => Err(Unread),
+        },
+        _ => Err(Unread),
+    }
+}
+
+// The application that the values that were found ask for.
+fn application(matches: &ArgMatches<'_>) -> Result<Option<Application>, Unread>
+    ensures ok { IfOk result (λ a. (ps : List (List ℕ × List ℕ)) →
+        HoldsGiven (found_of matches.now) ps → application_asked ps ≡ Some a) }
+    ensures err { IfErr result (λ _. (ps : List (List ℕ × List ℕ)) →
+        HoldsGiven (found_of matches.now) ps → application_asked ps ≡ None) }
+    ensures sized { IfOk result (λ a. IfSome a IsSized) }
+{
+    let problem = problem(matches.get_str(APP))?;
+    let n = number(matches.get_str(N), 1, 2048)?;
+    let tile = number(matches.get_str(TILE), 1, 2048)?;
+    let seed = number(matches.get_str(SEED), 0, 999_999_999)?;
+    together(problem, n, tile, seed)
+}
+
 // A small number in a byte.
 fn small(number: Option<u64>) -> Option<u8>
     requires { IfSome number (λ n. n < 256) }
@@ -196,6 +290,7 @@ fn asked_for(alloc: Global, matches: &ArgMatches<'_>) -> Result<Options, WordsRe
     let node = number(matches.get_str(NODE), 8, 1 << 40)?;
     let nodes = number(matches.get_str(NODES), 1, 16)?;
     let swap_size = number(matches.get_str(SWAP_SIZE), 0, 1 << 40)?;
+    let application = application(matches)?;
     if nodes.is_some() && node.is_none() {
         return Err(WordsRefusal::Unaccepted);
     }
@@ -208,6 +303,7 @@ fn asked_for(alloc: Global, matches: &ArgMatches<'_>) -> Result<Options, WordsRe
         swap_size,
         trace: matches.get_flag(TRACE),
         summary: matches.get_flag(SUMMARY),
+        application,
     })
 }
 

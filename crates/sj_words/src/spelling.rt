@@ -24,6 +24,10 @@ fn is_option(name: &[u8]) -> bool
         || name == b"nodes".as_slice()
         || name == b"swap".as_slice()
         || name == b"swap-size".as_slice()
+        || name == b"app".as_slice()
+        || name == b"n".as_slice()
+        || name == b"tile".as_slice()
+        || name == b"seed".as_slice()
 }
 
 // The place of the first `=`, or the length where there is none.

@@ -1,14 +1,13 @@
 -- From the text that was read and what was written to what the call promises.
-use Rattle.std.proofs.Common.{◌≡◌, ◌≤◌, Bool, ℕ, List, [], length, map, refl, ap, sym, subst, Option, Some, None, Result, Ok, Err, IfSome, IsOk, IsOkAnd}
+use Rattle.std.proofs.Common.{◌≡◌, ℕ, List, [], map, refl, ap, sym, subst, Option, Some, None, Result, Ok, Err, IfSome, IsOk, IsOkAnd}
 use Rattle.std.specs.Prelude.{option_map}
 use Rattle.std.specs.Io.KnownBytes.{Appends, IsAtEnd}
 use Rattle.sj_base.specs.declared.trace.Event.{Event}
-use Rattle.sj_codelet.specs.declared.kernel.Kernel.{Kernel}
 use Rattle.sj_disk.specs.Holding.{CountsStay}
 use Rattle.sj_edge.specs.declared.disk.Disk.{Ghosts as DiskOf}
 use Rattle.sj_engine.specs.Outcome.{AllTell, HoldBlocks}
 use Rattle.sj_job.specs.Job.{Job}
-use Rattle.sj_job.specs.Reading.{Refusal, job_of, text_limit}
+use Rattle.sj_job.specs.Reading.{Refusal}
 use Rattle.sj_lower.specs.Limits.{late_limit}
 use Rattle.sj_core.specs.Legal.{state_of}
 use Rattle.sj_machine.specs.Headers.{IsLastWritten}
@@ -18,7 +17,7 @@ use Rattle.sj_needs.specs.Shortage.{IsShortage, IsSwapTooSmall, IsTooLarge}
 use Rattle.sj_needs.specs.declared.shortage.Shortage.{Shortage}
 use Rattle.sj_needs.specs.declared.shortage.Shortage.TheVariants as fitting
 use Rattle.sj_ready.proofs.Fitting.{room-no-shortage}
-use Rattle.sj_ready.specs.Work.{HasRoom, Work, WorkOrRefusal, asked_by, lowerable, program_of, said_by, work_of, work_said}
+use Rattle.sj_ready.specs.Work.{HasRoom, Work, WorkOrRefusal, asked_by, lowerable, program_of, said_by}
 use Rattle.sj_ready.specs.declared.unready.Unready.TheVariants as preparing
 use Rattle.sj_words.specs.declared.options.Options.{Options}
 use Rattle.starjob.specs.declared.status.Status.{Status}
@@ -31,7 +30,6 @@ use Rattle.starjob.specs.Streams.{IsRead, TakesPrefix}
 use Rattle.starjob.specs.Top.{CanBeRun, HasCause, IsDoneOrOutOfMemory, IsSilent, MemoryRanOut, NothingFailed, PrintsNothing, RunBrokeOff, RunIsWhole, TakesText, text_of}
 use Rattle.starjob.specs.Traces.{Began, BeganAsked, BeganWork, RanWhole}
 use Rattle.starjob.specs.Work.{Asked, Unaccepted, Untold, Told, IfAsked, IfTold, IsToldAnd, told}
-use Rattle.starjob.proofs.ReadingWhole.{short}
 use Rattle.starjob.proofs.Shown.{broke-began}
 use Rattle.starjob.proofs.Tracing.{began_empty}
 
@@ -66,32 +64,32 @@ said-of : (P : Work → Type 0) (said : WorkOrRefusal) → IsOkAnd (lowerable sa
 said-of P (Ok w) h = unlimited P w (late_limit w.machine.workers w.statements) h
 said-of P (Err e) h = absurd h
 
-module _ (has : Kernel → Bool) (o : Options) (sizes : List ℕ) (bytes : Option (List ℕ)) (text : List ℕ) (same : IfSome bytes (λ whole. job_of has whole ≡ job_of has text)) where
-  -- what is true of what the text that was read asks for is true of what the source tells
-  told-of : (P : WorkOrRefusal → Type 0) → P (work_of has o sizes text) → IfAsked (told (option_map (work_of has o sizes) bytes)) P
-  told-of P h = by_bytes bytes same
+module _ (o : Options) (sizes : List ℕ) (jobs : Option (Result Job Refusal)) (job : Result Job Refusal) (same : IfSome jobs (λ whole. whole ≡ job)) where
+  -- what is true of the job that was found asks for is true of what is told of it
+  told-of : (P : WorkOrRefusal → Type 0) → P (asked_by o sizes job) → IfAsked (told (option_map (asked_by o sizes) jobs)) P
+  told-of P h = by_jobs jobs same
     where
-      by_bytes : (b : Option (List ℕ)) → IfSome b (λ whole. job_of has whole ≡ job_of has text) → IfAsked (told (option_map (work_of has o sizes) b)) P
-      by_bytes None s = tt
-      by_bytes (Some whole) s = subst P (sym (ap (asked_by o sizes) s)) h
+      by_jobs : (b : Option (Result Job Refusal)) → IfSome b (λ whole. whole ≡ job) → IfAsked (told (option_map (asked_by o sizes) b)) P
+      by_jobs None s = tt
+      by_jobs (Some whole) s = subst P (sym (ap (asked_by o sizes) s)) h
 
   -- the same of what it says
-  said-told : (P : Work → Type 0) → IsOkAnd (work_of has o sizes text) P → IfTold (told (option_map (work_said has o sizes) bytes)) P
-  said-told P h = by_bytes bytes same
+  said-told : (P : Work → Type 0) → IsOkAnd (asked_by o sizes job) P → IfTold (told (option_map (said_by o sizes) jobs)) P
+  said-told P h = by_jobs jobs same
     where
-      by_bytes : (b : Option (List ℕ)) → IfSome b (λ whole. job_of has whole ≡ job_of has text) → IfTold (told (option_map (work_said has o sizes) b)) P
-      by_bytes None s = tt
-      by_bytes (Some whole) s = subst (λ (w : WorkOrRefusal). IsOkAnd w P) (sym (ap (said_by o sizes) s)) (said-of P (said_by o sizes (job_of has text)) h)
+      by_jobs : (b : Option (Result Job Refusal)) → IfSome b (λ whole. whole ≡ job) → IfTold (told (option_map (said_by o sizes) b)) P
+      by_jobs None s = tt
+      by_jobs (Some whole) s = subst (λ (w : WorkOrRefusal). IsOkAnd w P) (sym (ap (said_by o sizes) s)) (said-of P (said_by o sizes job) h)
 
-  -- what the source tells prints nothing where what was read of it does
-  nothing-by : IsToldAnd (told (option_map (work_of has o sizes) bytes)) PrintsNothing → IsOkAnd (work_of has o sizes text) PrintsNothing
-  nothing-by h = by_bytes bytes same h
+  -- what is told prints nothing where what was found of it does
+  nothing-by : IsToldAnd (told (option_map (asked_by o sizes) jobs)) PrintsNothing → IsOkAnd (asked_by o sizes job) PrintsNothing
+  nothing-by h = by_jobs jobs same h
     where
-      by_bytes : (b : Option (List ℕ)) → IfSome b (λ whole. job_of has whole ≡ job_of has text) → IsToldAnd (told (option_map (work_of has o sizes) b)) PrintsNothing → IsOkAnd (work_of has o sizes text) PrintsNothing
-      by_bytes None s n = absurd n
-      by_bytes (Some whole) s n = subst (λ (w : WorkOrRefusal). IsOkAnd w PrintsNothing) (ap (asked_by o sizes) s) n
+      by_jobs : (b : Option (Result Job Refusal)) → IfSome b (λ whole. whole ≡ job) → IsToldAnd (told (option_map (asked_by o sizes) b)) PrintsNothing → IsOkAnd (asked_by o sizes job) PrintsNothing
+      by_jobs None s n = absurd n
+      by_jobs (Some whole) s n = subst (λ (w : WorkOrRefusal). IsOkAnd w PrintsNothing) (ap (asked_by o sizes) s) n
 
-  pub silent-by : (status : Status) → IsSilent (told (option_map (work_of has o sizes) bytes)) status → IsSilent (Told (work_of has o sizes text)) status
+  pub silent-by : (status : Status) → IsSilent (told (option_map (asked_by o sizes) jobs)) status → IsSilent (Told (asked_by o sizes job)) status
   silent-by Done h = nothing-by h
   silent-by SinkFault h = nothing-by h
   silent-by Usage h = tt
@@ -105,11 +103,11 @@ module _ (has : Kernel → Bool) (o : Options) (sizes : List ℕ) (bytes : Optio
 
   -- ---- what was printed
 
-  pub printed-by : (Tells : Type 0) (status : Status) (out out' : Device) (trace : List Event) → AnsweredText (work_of has o sizes text) Tells status out out' trace → Tells → TakesText (told (option_map (work_said has o sizes) bytes)) status out out' trace
+  pub printed-by : (Tells : Type 0) (status : Status) (out out' : Device) (trace : List Event) → AnsweredText (asked_by o sizes job) Tells status out out' trace → Tells → TakesText (told (option_map (said_by o sizes) jobs)) status out out' trace
   printed-by Tells Done out out' trace a tells =
-      said-told (λ w. Appends out.bytes out'.bytes (text_of trace w)) (of-work (IsWritten Tells (Appends out.bytes out'.bytes) trace) (λ w. Appends out.bytes out'.bytes (text_of trace w)) (λ w h. h.told tells) (work_of has o sizes text) a.0)
+      said-told (λ w. Appends out.bytes out'.bytes (text_of trace w)) (of-work (IsWritten Tells (Appends out.bytes out'.bytes) trace) (λ w. Appends out.bytes out'.bytes (text_of trace w)) (λ w h. h.told tells) (asked_by o sizes job) a.0)
   printed-by Tells SinkFault out out' trace a tells =
-      said-told (λ w. TakesPrefix out.bytes out'.bytes (text_of trace w)) (of-work (IsWritten Tells (TakesPrefix out.bytes out'.bytes) trace) (λ w. TakesPrefix out.bytes out'.bytes (text_of trace w)) (λ w h. h.told tells) (work_of has o sizes text) a.0)
+      said-told (λ w. TakesPrefix out.bytes out'.bytes (text_of trace w)) (of-work (IsWritten Tells (TakesPrefix out.bytes out'.bytes) trace) (λ w. TakesPrefix out.bytes out'.bytes (text_of trace w)) (λ w h. h.told tells) (asked_by o sizes job) a.0)
   printed-by Tells Usage out out' trace a tells = tt
   printed-by Tells (Refused line reason) out out' trace a tells = tt
   printed-by Tells (TooLarge line bytes) out out' trace a tells = tt
@@ -122,12 +120,12 @@ module _ (has : Kernel → Bool) (o : Options) (sizes : List ℕ) (bytes : Optio
   -- ---- what a status means
 
   abbrev work : WorkOrRefusal
-  work = work_of has o sizes text
+  work = asked_by o sizes job
 
   module _ {D : Type 0} (disk : DiskOf D) (before after : Devices disk) (trace : List Event)
-      (read : IsRead before.source after.source) (end : length text ≤ text_limit → IsAtEnd after.source.bytes) where
+      (read : IsRead before.source after.source) (end : IsOk job → IsAtEnd after.source.bytes) where
     abbrev asked : Asked
-    asked = told (option_map (work_of has o sizes) bytes)
+    asked = told (option_map (asked_by o sizes) jobs)
 
     holds : (P : Work → Type 0) → IsOkAnd work P → IfTold asked P
     holds P h = told-of (λ w. IsOkAnd w P) h
@@ -151,16 +149,16 @@ module _ (has : Kernel → Bool) (o : Options) (sizes : List ℕ) (bytes : Optio
     }
 
     began-asked : Began trace work → BeganAsked trace asked
-    began-asked h = by_bytes bytes same
+    began-asked h = by_jobs jobs same
       where
-        by_bytes : (b : Option (List ℕ)) → IfSome b (λ text'. job_of has text' ≡ job_of has text) → BeganAsked trace (told (option_map (work_of has o sizes) b))
-        by_bytes None s = tt
-        by_bytes (Some text') s = subst (Began trace) (sym (ap (asked_by o sizes) s)) h
+        by_jobs : (b : Option (Result Job Refusal)) → IfSome b (λ whole. whole ≡ job) → BeganAsked trace (told (option_map (asked_by o sizes) b))
+        by_jobs None s = tt
+        by_jobs (Some whole) s = subst (Began trace) (sym (ap (asked_by o sizes) s)) h
 
     pub caused-by : (status : Status) → AnsweredText work (AllTell disk.held before.disks) status before.out after.out trace → LeavesDisks disk work status trace before.disks after.disks → HasCause asked before after trace status
     caused-by Done a d = record {
       run = whole (Appends before.out.bytes after.out.bytes) a.0 (d.counts_stay tt) (d.blocks tt);
-      read_to_the_end = end (short has text (job-ok o sizes (job_of has text) (ok-of (IsWritten (AllTell disk.held before.disks) (Appends before.out.bytes after.out.bytes) trace) work a.0)));
+      read_to_the_end = end (job-ok o sizes job (ok-of (IsWritten (AllTell disk.held before.disks) (Appends before.out.bytes after.out.bytes) trace) work a.0));
       out_never_failed = a.1;
     }
     caused-by Usage a d = absurd a
@@ -262,16 +260,3 @@ done-by asked before after trace (Damaged number want found) a room well = absur
 done-by asked before after trace SourceFault a room well = absurd (well.source a.cause.count_rose)
 done-by asked before after trace SinkFault a room well = absurd (well.out a.cause.count_rose)
 done-by asked before after trace OutOfMemory a room well = tt
-
--- ---- from the answer to a text, to the words
-
--- where the words are accepted it isn't Usage
-pub not-usage : {D : Type 0} {disk : DiskOf D} (asked : Option WorkOrRefusal) (before after : Devices disk) (trace : List Event) (status : Status) → HasCause (told asked) before after trace status → status ≡ Usage → ⊥
-not-usage None before after trace status a e = by_cause (subst (HasCause Untold before after trace) e a).cause
-  where
-    by_cause : Untold ≡ Unaccepted → ⊥
-    by_cause c = cc
-not-usage (Some w) before after trace status a e = by_cause (subst (HasCause (Told w) before after trace) e a).cause
-  where
-    by_cause : Told w ≡ Unaccepted → ⊥
-    by_cause c = cc

@@ -1,5 +1,5 @@
 -- The devices of a call, as it found them or left them.
-use Rattle.std.specs.Prelude.{◌≡◌, ℕ, List, Option, map}
+use Rattle.std.specs.Prelude.{◌≡◌, ℕ, Bool, List, [], Option, Some, map, if◌then◌else◌}
 use Rattle.sj_edge.specs.Faults.{Rose, one_more}
 use Rattle.sj_edge.specs.declared.disk.Disk.{Ghosts as DiskOf}
 use Rattle.sj_edge.specs.declared.sink.Sink.{Ghosts as SinkOf}
@@ -28,6 +28,10 @@ pub record Devices {D : Type 0} (disk : DiskOf D) : Type 0 where
 -- devices by the words of their traits
 abbrev pub devices : {S O D : Type 0} → SourceOf S → SinkOf O → (disk : DiskOf D) → S → O → List D → Devices disk
 devices a b disk source out disks = record { source = seen a.left a.faults source; out = seen b.taken b.faults out; disks = disks }
+
+-- the same, where the source is read; else it is as one that is at its end and doesn't fail
+abbrev pub in_use : {D : Type 0} → {disk : DiskOf D} → Bool → Devices disk → Devices disk
+in_use reads now = record { source = if reads then now.source else record { bytes = Some []; faults = 0 }; out = now.out; disks = now.disks }
 
 -- the disks' sizes
 abbrev pub sizes : {D : Type 0} → {disk : DiskOf D} → Devices disk → List ℕ

@@ -4,6 +4,7 @@ pub mod Disks
 pub mod Gathering
 pub mod Output
 pub mod Report
+pub mod Solving
 pub mod Status
 pub mod Streams
 pub mod Top

@@ -1,5 +1,5 @@
 -- What the program's call promises: what it prints, what each status means, and which statuses come.
-use Rattle.std.specs.Prelude.{◌≡◌, ◌≢◌, ℕ, false, Err, List, [], ◌++◌, if◌then◌else◌, map}
+use Rattle.std.specs.Prelude.{◌≡◌, ◌≢◌, ℕ, Bool, false, Err, List, [], ◌++◌, if◌then◌else◌, map}
 use Rattle.std.specs.Io.KnownBytes.{Appends, IsAtEnd}
 use Rattle.sj_base.specs.declared.ids.DiskNo.{DiskNo}
 use Rattle.sj_base.specs.declared.ids.Line.{Line}
@@ -17,15 +17,16 @@ use Rattle.sj_job.specs.Meaning.{printed}
 use Rattle.sj_needs.specs.Shortage.{IsSwapTooSmall, IsTooLarge}
 use Rattle.sj_ready.specs.Work.{HasRoom, Work, program_of}
 use Rattle.sj_trace.specs.Text.{text_of as text_of_trace}
+use Rattle.sj_words.specs.Options.{options}
 use Rattle.sj_words.specs.Spelling.{Text}
 use Rattle.starjob.specs.declared.status.Status.{Status}
 use Rattle.starjob.specs.declared.status.Status.TheVariants.{Done, Usage, Refused, TooLarge, SwapTooSmall, DiskFault, Damaged, SourceFault, SinkFault, OutOfMemory}
-use Rattle.starjob.specs.Device.{Device, Devices, HasFailed}
+use Rattle.starjob.specs.Device.{Device, Devices, HasFailed, in_use}
 use Rattle.starjob.specs.Disks.{NoneRose, RoseAt}
 use Rattle.starjob.specs.Output.{output}
 use Rattle.starjob.specs.Streams.{IsRead, TakesPrefix}
 use Rattle.starjob.specs.Traces.{BeganAsked, BeganWork, RanWhole}
-use Rattle.starjob.specs.Work.{Asked, Unaccepted, IfAsked, IfTold, IsToldAnd, asked_of, said_of}
+use Rattle.starjob.specs.Work.{Asked, Unaccepted, IfAsked, IfTold, IsToldAnd, asked_of, reads_source, said_of}
 
 -- ---- what is printed
 
@@ -182,17 +183,21 @@ pub record ComeBack {D : Type 0} (disk : DiskOf D) (old new : List D) (status : 
 -- ---- the same by the words of a command line
 
 module _ {D : Type 0} {disk : DiskOf D} (words : List Text) (before : Devices disk) where
+  -- they ask for a job that is read
+  abbrev reads : Bool
+  reads = reads_source (options words)
+
   -- where all disks tell, the sink took the text of what the job says
   abbrev pub Prints : Devices disk → Status → List Event → Type 0
   Prints after status trace = AllTell disk.held before.disks → TakesText (said_of words before) status before.out after.out trace
 
   -- the status has its cause, in what is asked for or in a device
   abbrev pub Answers : Devices disk → Status → List Event → Type 0
-  Answers after status trace = HasCause (asked_of words before) before after trace status
+  Answers after status trace = HasCause (asked_of words before) (in_use reads before) (in_use reads after) trace status
 
   -- what is asked for can be run, and nothing failed
   abbrev pub CanBeDone : Devices disk → Type 0
-  CanBeDone after = CanBeRun (asked_of words before) × NothingFailed before after
+  CanBeDone after = CanBeRun (asked_of words before) × NothingFailed (in_use reads before) (in_use reads after)
 
   -- there is nothing to write
   abbrev pub WritesNothing : Status → Type 0

@@ -185,8 +185,8 @@ fn prints_of(program: &Program) -> u64
     }
 }
 
-/// What is printed of all deliveries, one print statement after another. Linear in the elements and in the text; one array is made
-/// at a time.
+/// What is printed of all deliveries, one print statement after another. Linear in the elements and in the text; one array is
+/// made at a time.
 fn write_prints(
     alloc: Global,
     roots: &Roots,

@@ -4,6 +4,7 @@
 mod gathering;
 mod numbers;
 mod output;
+mod patient;
 mod remark;
 mod report;
 mod room;
@@ -38,6 +39,7 @@ ghost use Rattle.std.specs.Prelude.{◌≤◌, ◌^◌, length};
 ghost use Rattle.sj_edge.specs.Sizes.{AreWithin};
 
 use numbers::{STDERR, STDOUT, occupy_streams};
+use patient::Patient;
 use remark::{no_swap, remark, write_remark};
 use report::report;
 use room::{BoundedSink, room_of};
@@ -142,7 +144,9 @@ where
     };
     let outcome = starjob(rt, alloc, words, source, out, &mut line, disks, gate);
     watch.end(rt);
-    write_remark(err, remark(alloc, words, outcome.status));
+    let cause = watch.cause();
+    let further = remark(alloc, words, outcome.status, cause.as_ref());
+    write_remark(err, further);
     let _ = write_text(err, line.taken());
     ExitCode::from(outcome.status.code())
 }
@@ -209,9 +213,11 @@ fn main(rt: HostRuntime) -> ExitCode {
     let alloc = rt.alloc();
     occupy_streams(&rt);
     let has_terminal = rt.stderr().is_terminal();
-    let mut source = StdSource::over(rt.stdin());
-    let out = BoundedSink::over(StdSink::over(rt.stdout()), room_of(&rt, STDOUT));
-    let mut err = BoundedSink::over(StdSink::over(rt.stderr()), room_of(&rt, STDERR));
+    let mut source = StdSource::over(Patient::over(&rt, rt.stdin()));
+    let out = StdSink::over(Patient::over(&rt, rt.stdout()));
+    let out = BoundedSink::over(out, room_of(&rt, STDOUT));
+    let err = StdSink::over(Patient::over(&rt, rt.stderr()));
+    let mut err = BoundedSink::over(err, room_of(&rt, STDERR));
     let Some(words) = words(&rt) else {
         return end_without_memory(&mut err);
     };

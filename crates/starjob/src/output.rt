@@ -113,8 +113,8 @@ fn write_array(text: &mut Vec<u8>, name: &[u8], kind: Kind, tile: &Tile) -> Resu
     }
 }
 
-/// Appends what is printed of an array: its elements, or one line of them all where a summary is asked for. Linear in the elements
-/// and in the text.
+/// Appends what is printed of an array: its elements, or one line of them all where a summary is asked for. Linear in the
+/// elements and in the text.
 pub fn write_printed(
     text: &mut Vec<u8>,
     name: &[u8],

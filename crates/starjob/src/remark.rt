@@ -4,6 +4,7 @@ use crate::sink_text::write_text;
 use crate::status::Status;
 use crate::word_at_fault::{Fault, FaultyWord, Value, word_at_fault};
 use sj_edge::sink::Sink;
+use sj_words::{SwapWish, swap_wish};
 use std::alloc::{AllocError, Global};
 use std::fmt;
 use std::io::Error;
@@ -22,6 +23,7 @@ impl fmt::Display for Value {
             }
             Value::Policy => f.write_str("is none of eager, prio and ws"),
             Value::Path => f.write_str("is no path: it is empty or begins with -"),
+            Value::Problem => f.write_str("is none of product and paths"),
         }
     }
 }
@@ -35,7 +37,9 @@ impl fmt::Display for Fault {
             Fault::NoValue => f.write_str("wants a value behind it"),
             Fault::NotThis(value) => write!(f, "{value}"),
             Fault::WithoutNode => f.write_str("stands only with --node"),
-            Fault::NotYet => f.write_str("isn't accepted yet"),
+            Fault::WithoutOthers => f.write_str("stands only with --app, --n, --tile and --seed"),
+            Fault::AboveN => f.write_str("makes tiles larger than the matrix"),
+            Fault::ManyTiles => f.write_str("makes more than 48 tiles in a column"),
         }
     }
 }
@@ -88,15 +92,38 @@ fn of_words(alloc: Global, words: &[String]) -> Result<Option<String>, AllocErro
     Ok(Some(unaccepted(alloc, number, word, fault)?))
 }
 
-/// What a person needs beside the line of this status: which word isn't accepted and why, and the words that would do where
-/// the swap disk is too small. Of other statuses there is nothing to say.
+/// Why a call of the swap disk failed: the system's cause, where it told one of a file that the words ask for.
+fn of_disk(
+    alloc: Global,
+    words: &[String],
+    cause: Option<&Error>,
+) -> Result<Option<String>, AllocError> {
+    let Some(error) = cause else {
+        return Ok(None);
+    };
+    let Ok(
+        SwapWish {
+            path: Some(path),
+            ..
+        },
+    ) = swap_wish(alloc, words)
+    else {
+        return Ok(None);
+    };
+    no_swap(alloc, path.as_str(), error)
+}
+
+/// What a person needs beside the line of this status: which word isn't accepted and why, the words that would do where the
+/// swap disk is too small, and the system's cause where it failed. Of other statuses there is nothing to say.
 pub fn remark(
     alloc: Global,
     words: &[String],
     status: Status,
+    cause: Option<&Error>,
 ) -> Result<Option<String>, AllocError> {
     match status {
         Status::Usage => of_words(alloc, words),
+        Status::DiskFault { .. } => of_disk(alloc, words, cause),
         Status::SwapTooSmall { needed, .. } if needed <= GREATEST_SWAP => {
             let line = format!(in alloc; "starjob: --swap-size {needed} would do\n")?;
             Ok(Some(line))

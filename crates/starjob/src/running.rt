@@ -7,8 +7,9 @@ ghost use Rattle.sj_words.specs.Options.{IsWithinLimits as AreLimited};
 ghost use Rattle.starjob.specs.Answers.{LeavesDisks, RunsWork, status_of};
 ghost use Rattle.sj_engine.specs.Outcome.{AllTell};
 ghost use Rattle.starjob.specs.Gathering.{AreGrouped, HandedOver, ShowsRun};
+ghost use Rattle.sj_ready.specs.Input.{work_in, HasJob};
 ghost use Rattle.sj_ready.specs.Ready.{HasOwnCodelets, IsReady};
-ghost use Rattle.sj_ready.specs.Work.{WorkOrRefusal, work_of};
+ghost use Rattle.sj_ready.specs.Work.{WorkOrRefusal};
 
 use crate::gathering::text_of;
 use crate::stop::Stop;
@@ -22,6 +23,7 @@ use sj_edge::gate::Gate;
 use sj_engine::engine::{RunOutcome, run};
 use sj_job::roots::Roots;
 use sj_machine::delivered::Delivered;
+use sj_ready::input::Input;
 use sj_ready::ready::{Ready, prepare};
 use sj_trace::text::text as text_of_trace;
 use sj_words::Options;
@@ -154,31 +156,32 @@ fn run_ready<C: Codelets, G: Gate, D: Disk + Send, R: Threads + Wait + Sync>(
     }
 }
 
-/// Runs a job text on the machine that words ask for, else its settings, with these disks. The cost of reading, lowering and
-/// running it, and of the text; the workers go on side by side.
-pub fn run_text<C: Codelets, G: Gate, D: Disk + Send, R: Threads + Wait + Sync>(
+/// Runs a job text, or the job of an application, on the machine that words ask for, else its settings, with these disks. The
+/// cost of reading, lowering and running it, and of the text; the workers go on side by side.
+pub fn run_input<C: Codelets, G: Gate, D: Disk + Send, R: Threads + Wait + Sync>(
     rt: &R,
     alloc: Global,
-    text: Vec<u8>,
+    input: Input,
     options: &Options,
     disks: Vec<D>,
     codelets: &C,
     gate: &G,
 ) -> Run<D>
     requires own { HasOwnCodelets C.has }
+    requires input { HasJob C.has input }
     requires options { AreLimited options.now }
     requires few { length disks.items ≤ 16 }
     requires small { AreWithin D.size (2 ^ 40) disks.items }
-    ensures runs { RunsWork (work_of C.has options.now (map D.size disks.items) text.items)
+    ensures runs { RunsWork (work_in C.has options.now (map D.size disks.items) input)
         (AllTell D.held disks.items) result.text result.trace.events }
     ensures disks { LeavesDisks D.Disk
-        (work_of C.has options.now (map D.size disks.items) text.items)
+        (work_in C.has options.now (map D.size disks.items) input)
         (status_of result.text) result.trace.events disks.items result.disks.items }
 {
     let Ok(sizes) = sizes_of(alloc, &disks) else {
         return nothing_run(alloc, Stop::OutOfMemory, disks);
     };
-    match prepare(alloc, text, options, sizes, codelets) {
+    match prepare(alloc, input, options, sizes, codelets) {
         Ok(ready) => run_ready(rt, alloc, ready, disks, codelets, gate),
         Err(unready) => nothing_run(alloc, Stop::Unready(unready), disks),
     }

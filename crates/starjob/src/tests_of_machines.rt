@@ -186,8 +186,8 @@ const X: Cell = Cell(0);
 
 const Z: Cell = Cell(2);
 
-// x and y are loaded, which fills the node. z takes the place of x, the one used longest ago; then the first sum needs x again, and
-// z makes room, since y is the sum's own.
+// x and y are loaded, which fills the node. z takes the place of x, the one used longest ago; then the first sum needs x again,
+// and z makes room, since y is the sum's own.
 const EVENTS: [Event; 20] = [
     Event::Claim(Task(0), WORKER),
     Event::Run(Task(0), WORKER),

@@ -3,11 +3,11 @@
 ghost use Rattle.std.specs.Prelude.{◌≡◌, ◌≤◌, ◌^◌, Some, length};
 ghost use Rattle.sj_ready.specs.Ready.{HasOwnCodelets};
 
-use crate::running::{Run, run_text};
+use crate::running::{Run, run_input};
 use crate::status::Status;
 use crate::test_calls::{DISK, answer_on, is_answered, memory, only, same, whole};
 use crate::tests_of_machines::ROUND_SWAP;
-use sj_base::ids::{Place, Task};
+use sj_base::ids::{Cell, DiskNo, Node, Place, Task};
 use sj_base::trace::{Event, Trace};
 use sj_codelet::set::Codelets;
 use sj_edge::disk::{CheckFault, Disk};
@@ -16,13 +16,16 @@ use sj_edge::memory_disk::MemDisk;
 use sj_edge::source::Failed;
 use sj_kernels::ring::Ring;
 use sj_minplus::library::Library;
+use sj_ready::input::Input;
 use sj_words::read_words;
 use std::alloc::Global;
 use std::process::Abort;
 use std::sync::Wait;
 use std::sync::atomic::{AtomicU64, Ordering};
 use std::test::Fail;
+use std::thread;
 use std::thread::Threads;
+use std::time::{Clock, CpuClock, Duration};
 
 /// Seven inner products of two elements each, on top of a value, by five workers.
 const DOTS: &str =
@@ -115,20 +118,21 @@ fn what_a_gate_sees_agrees_with_the_trace(rt: HostRuntime) -> Result<(), Fail> {
 }
 
 /// The run of a job without words, on this disk. No clause: a test has the text at hand, and isn't to read it in its proof.
-fn run_on<C: Codelets, D: Disk + Send, R: Threads + Wait + Sync>(
+fn run_on<C: Codelets, G: Gate, D: Disk + Send, R: Threads + Wait + Sync>(
     rt: &R,
     alloc: Global,
     text: &str,
     disk: D,
     codelets: &C,
+    gate: &G,
 ) -> Result<Run<D>, Fail>
     requires own { HasOwnCodelets C.has }
     requires small { D.size disk ≤ 2 ^ 40 }
 {
     let options = read_words(alloc, &[])?;
     let disks = only(alloc, disk)?;
-    let text = text.as_bytes().to_vec(alloc)?;
-    Ok(run_text(rt, alloc, text, &options, disks, codelets, &OpenGate))
+    let input = Input::Text(text.as_bytes().to_vec(alloc)?);
+    Ok(run_input(rt, alloc, input, &options, disks, codelets, gate))
 }
 
 /// Three vectors of 24 bytes on a node that holds two of them.
@@ -138,37 +142,40 @@ const THREE: &str =
 /// The bytes of the block of each of them: a header of 24 and three elements of 8.
 const BLOCK: u64 = 48;
 
-/// What a disk is called for, and the cell in whose block that lies.
+/// A call of a disk: where its bytes begin, and how many they are.
 #[derive(Clone, Copy, Debug, PartialEq, Eq)]
-enum Touch {
-    Write(u64),
-    /// A read or a check.
-    Look(u64),
+enum Call {
+    Write(u64, u64),
+    Read(u64, u64),
+    /// Of a header.
+    Check(u64),
 }
 
-/// What a disk has to be called for by a transfer that begins.
-fn touch_of(event: Event) -> Option<Touch> {
-    match event {
-        Event::Move(cell, _, Place::Disk(_)) => Some(Touch::Write(cell.0 as u64)),
-        Event::Move(cell, Place::Disk(_), _) => Some(Touch::Look(cell.0 as u64)),
+/// The two calls that a transfer of one of these blocks makes: for its header and for its elements.
+fn calls_of(event: Event) -> Option<(Call, Call)> {
+    let Event::Move(Cell(cell), from, to) = event else {
+        return None;
+    };
+    let at = BLOCK * cell as u64;
+    match (from, to) {
+        (_, Place::Disk(_)) => Some((Call::Write(at, 24), Call::Write(at + 24, 24))),
+        (Place::Disk(_), _) => Some((Call::Check(at), Call::Read(at + 24, 24))),
         _ => None,
     }
 }
 
-/// A disk that notes what it is called for, equal neighbours as one.
+/// A disk that notes each of its calls.
 #[derive(Drop)]
 struct NotingDisk {
     disk: MemDisk,
-    touches: Vec<Touch>,
+    calls: Vec<Call>,
 }
 
 impl NotingDisk {
-    fn note(&mut self, touch: Touch)
+    fn note(&mut self, call: Call)
         ensures { self.new.disk ≡ self.old.disk }
     {
-        if self.touches.last().copied() != Some(touch) {
-            let _ = self.touches.push(touch);
-        }
+        let _ = self.calls.push(call);
     }
 }
 
@@ -186,41 +193,52 @@ impl Disk for NotingDisk {
     }
 
     fn read(&mut self, at: u64, buf: &mut [u8]) -> Result<(), Failed> {
-        self.note(Touch::Look(at / BLOCK));
+        self.note(Call::Read(at, buf.len() as u64));
         self.disk.read(at, buf)
     }
 
     fn write(&mut self, at: u64, bytes: &[u8]) -> Result<(), Failed> {
-        self.note(Touch::Write(at / BLOCK));
+        self.note(Call::Write(at, bytes.len() as u64));
         self.disk.write(at, bytes)
     }
 
     fn check(&mut self, at: u64, want: &[u8; 24]) -> Result<(), CheckFault> {
-        self.note(Touch::Look(at / BLOCK));
+        self.note(Call::Check(at));
         self.disk.check(at, want)
     }
 }
+
+/// What a disk is called for as `THREE` is run: a and b are stored, and a is fetched, each of them once.
+const CALLS: [Call; 6] = [
+    Call::Write(0, 24),
+    Call::Write(24, 24),
+    Call::Write(48, 24),
+    Call::Write(72, 24),
+    Call::Check(0),
+    Call::Read(24, 24),
+];
 
 #[test]
 fn what_a_disk_sees_agrees_with_the_trace(rt: HostRuntime) -> Result<(), Fail> {
     let alloc = rt.alloc();
     let disk = NotingDisk {
         disk: memory(alloc, ROUND_SWAP, &[])?,
-        touches: Vec::new(alloc),
+        calls: Vec::new(alloc),
     };
-    let Run { text, trace, disks } = run_on(&rt, alloc, THREE, disk, &Library)?;
+    let run = run_on(&rt, alloc, THREE, disk, &Library, &OpenGate)?;
+    let Run { text, trace, disks } = run;
     same(&rt, text?.as_slice(), b"a: 1 2 3\n".as_slice());
-    let mut moves = Vec::new(alloc);
+    let mut calls = Vec::new(alloc);
     for i in 0..trace.len() {
-        if let Some(touch) = touch_of(trace.get(i)) {
-            moves.push(touch)?;
+        if let Some((first, second)) = calls_of(trace.get(i)) {
+            calls.push(first)?;
+            calls.push(second)?;
         }
     }
-    let touches = [Touch::Write(0), Touch::Write(1), Touch::Look(0)];
-    same(&rt, moves.as_slice(), touches.as_slice());
+    same(&rt, calls.as_slice(), CALLS.as_slice());
     same(&rt, disks.len(), 1);
     for disk in disks.iter() {
-        same(&rt, disk.touches.as_slice(), touches.as_slice());
+        same(&rt, disk.calls.as_slice(), CALLS.as_slice());
     }
     Ok(())
 }
@@ -259,7 +277,259 @@ fn a_text_of_the_trace_of_three_arrays(rt: HostRuntime) -> Result<(), Fail> {
 #[test]
 fn a_set_of_ring_codelets_alone_runs_contributions(rt: HostRuntime) -> Result<(), Fail> {
     let alloc = rt.alloc();
-    let run = run_on(&rt, alloc, DOTS, memory(alloc, DISK, &[])?, &Ring)?;
+    let disk = memory(alloc, DISK, &[])?;
+    let run = run_on(&rt, alloc, DOTS, disk, &Ring, &OpenGate)?;
     same(&rt, run.text?.as_slice(), b"s: 205\n".as_slice());
+    Ok(())
+}
+
+/// Four vectors of 24 bytes on a node that holds three of them, for two workers.
+const FOUR: &str =
+    "starjob 1\nworkers 2\nnode 72\nvector a 3 values 1 2 3\nvector b 3 values 4 5 6\nvector c 3 values 7 8 9\nvector d 3 values 1 1 1\nprint a\nprint b\n";
+
+/// The bytes of their blocks.
+const FOUR_SWAP: u32 = 192;
+
+/// A disk that tells when it has refused a call.
+#[derive(Drop)]
+struct RefusingDisk<'a> {
+    disk: MemDisk,
+    refusals: &'a AtomicU64,
+}
+
+impl RefusingDisk<'_> {
+    fn note(&self, is_refused: bool) {
+        if is_refused {
+            self.refusals.fetch_add(1, Ordering::SeqCst);
+        }
+    }
+}
+
+impl Disk for RefusingDisk<'_> {
+    ghost size = { λ d. length d.disk.bytes };
+
+    ghost held = { λ d. Some d.disk.bytes };
+
+    ghost faults = { λ d. d.disk.called.faults };
+
+    ghost mismatches = { λ d. d.disk.mismatches };
+
+    fn size(&self) -> u64 {
+        self.disk.size()
+    }
+
+    fn read(&mut self, at: u64, buf: &mut [u8]) -> Result<(), Failed> {
+        let read = self.disk.read(at, buf);
+        self.note(read.is_err());
+        read
+    }
+
+    fn write(&mut self, at: u64, bytes: &[u8]) -> Result<(), Failed> {
+        let written = self.disk.write(at, bytes);
+        self.note(written.is_err());
+        written
+    }
+
+    fn check(&mut self, at: u64, want: &[u8; 24]) -> Result<(), CheckFault> {
+        self.disk.check(at, want)
+    }
+}
+
+/// Keeps the first task inside until a disk has refused a call, ten seconds at most.
+#[derive(Drop)]
+struct Keeping<'a, R> {
+    rt: &'a R,
+    refusals: &'a AtomicU64,
+}
+
+impl<R: Clock + Sync> Gate for Keeping<'_, R> {
+    fn entered(&self, task: Task) {
+        if task != Task(0) {
+            return;
+        }
+        for _ in 0..10_000 {
+            if self.refusals.load(Ordering::SeqCst) != 0 {
+                // the worker that met it keeps the fault in its next turn
+                thread::sleep(self.rt, Duration::from_millis(500));
+                return;
+            }
+            thread::sleep(self.rt, Duration::from_millis(1));
+        }
+    }
+
+    fn left(&self, _task: Task) {}
+}
+
+/// Whether something begins by the event: a claim, a transfer or a kernel.
+fn begins(event: Event) -> bool {
+    matches!(event, Event::Claim(..) | Event::Move(..) | Event::Run(..))
+}
+
+// One worker is inside of the first task while the other evicts b for d, which the disk refuses. So the fault is kept when the
+// first task ends: a and b could be handed over then, but nothing begins any more.
+#[test]
+fn nothing_begins_behind_a_fault(rt: HostRuntime) -> Result<(), Fail> {
+    let alloc = rt.alloc();
+    let refusals = AtomicU64::new(0);
+    let disk = RefusingDisk {
+        disk: memory(alloc, FOUR_SWAP, &[1])?,
+        refusals: &refusals,
+    };
+    let gate = Keeping {
+        rt: &rt,
+        refusals: &refusals,
+    };
+    let run = run_on(&rt, alloc, FOUR, disk, &Library, &gate)?;
+    assert!(rt; run.text.is_err());
+    same(&rt, refusals.load(Ordering::SeqCst), 1);
+    let trace = &run.trace;
+    let mut last = None;
+    for i in 0..trace.len() {
+        if begins(trace.get(i)) {
+            last = Some(trace.get(i));
+        }
+    }
+    let (node, swap) = (Place::Node(Node(0)), Place::Disk(DiskNo(0)));
+    same(&rt, last, Some(Event::Move(Cell(1), node, swap)));
+    assert!(rt; trace.len() > 0);
+    let ended = trace.get(trace.len().saturating_sub(1));
+    assert!(rt; matches!(ended, Event::End(Task(0), _)));
+    Ok(())
+}
+
+/// Keeps one task inside for a second.
+#[derive(Drop)]
+struct Slow<'a, R> {
+    rt: &'a R,
+    task: Task,
+}
+
+impl<R: Clock + Sync> Gate for Slow<'_, R> {
+    fn entered(&self, task: Task) {
+        if task == self.task {
+            thread::sleep(self.rt, Duration::from_secs(1));
+        }
+    }
+
+    fn left(&self, _task: Task) {}
+}
+
+/// Two workers, and one task at a time: x is filled, and then handed over.
+const CHAIN: &str = "starjob 1\nworkers 2\nvector x 1 values 7\nprint x\n";
+
+/// Two workers, and two tasks that commute on y, so that one of them can't be claimed while the other runs.
+const PAIR: &str =
+    "starjob 1\nworkers 2\nvector x 1 values 1\nvector y 1 values 5\ntask axpy(1) x:R y:COMMUTE\ntask axpy(10) x:R y:COMMUTE\nprint y\n";
+
+// One worker is inside for a second. The other has nothing to do, or nothing that it may claim: it rests.
+#[test]
+fn a_worker_that_can_do_nothing_takes_no_processor_time(rt: HostRuntime) -> Result<(), Fail> {
+    let alloc = rt.alloc();
+    for (text, task, out) in [(CHAIN, Task(0), "x: 7\n"), (PAIR, Task(2), "y: 16\n")] {
+        let before = rt.process_cpu_time()?;
+        let disks = whole(alloc, DISK)?;
+        let gate = Slow { rt: &rt, task };
+        let answer = answer_on(&rt, alloc, &[], text.as_bytes(), disks, &gate)?;
+        let spent = rt.process_cpu_time()?.saturating_sub(before);
+        is_answered(&rt, &answer, Status::Done, out, text);
+        assert!(rt; spent < Duration::from_millis(333), "{text}");
+    }
+    Ok(())
+}
+
+/// Two workers, of which the first has a node for two of these children, and the second one for all. Each child has a task.
+const APART: &str =
+    "starjob 1\nworkers 2\nnode 48\nnode 4096\nvector v 240 by 1 80 fill 1 1\nprint v\n";
+
+/// Counts the kernels that begin, each of which takes its time.
+#[derive(Drop)]
+struct Counting<'a, R> {
+    rt: &'a R,
+    begun: &'a AtomicU64,
+}
+
+impl<R: Clock + Sync> Gate for Counting<'_, R> {
+    fn entered(&self, _task: Task) {
+        self.begun.fetch_add(1, Ordering::SeqCst);
+        thread::sleep(self.rt, Duration::from_millis(5));
+    }
+
+    fn left(&self, _task: Task) {}
+}
+
+/// A disk whose first write takes until three kernels more have begun, or some seconds.
+#[derive(Drop)]
+struct HoldingDisk<'a, R> {
+    rt: &'a R,
+    begun: &'a AtomicU64,
+    disk: MemDisk,
+    has_held: bool,
+    others_went_on: bool,
+}
+
+impl<R: Clock + Sync> HoldingDisk<'_, R> {
+    /// Whether three kernels more begin within some seconds.
+    fn others_go_on(&self) -> bool {
+        let before = self.begun.load(Ordering::SeqCst);
+        for _ in 0..5_000 {
+            if self.begun.load(Ordering::SeqCst).saturating_sub(before) >= 3 {
+                return true;
+            }
+            thread::sleep(self.rt, Duration::from_millis(1));
+        }
+        false
+    }
+}
+
+impl<R: Clock + Sync> Disk for HoldingDisk<'_, R> {
+    ghost size = { λ d. length d.disk.bytes };
+
+    ghost held = { λ d. Some d.disk.bytes };
+
+    ghost faults = { λ d. d.disk.called.faults };
+
+    ghost mismatches = { λ d. d.disk.mismatches };
+
+    fn size(&self) -> u64 {
+        self.disk.size()
+    }
+
+    fn read(&mut self, at: u64, buf: &mut [u8]) -> Result<(), Failed> {
+        self.disk.read(at, buf)
+    }
+
+    fn write(&mut self, at: u64, bytes: &[u8]) -> Result<(), Failed> {
+        if !self.has_held {
+            self.has_held = true;
+            self.others_went_on = self.others_go_on();
+        }
+        self.disk.write(at, bytes)
+    }
+
+    fn check(&mut self, at: u64, want: &[u8; 24]) -> Result<(), CheckFault> {
+        self.disk.check(at, want)
+    }
+}
+
+#[test]
+fn kernels_begin_while_a_disk_is_written(rt: HostRuntime) -> Result<(), Fail> {
+    let alloc = rt.alloc();
+    let begun = AtomicU64::new(0);
+    let disk = HoldingDisk {
+        rt: &rt,
+        begun: &begun,
+        disk: memory(alloc, 1 << 13, &[])?,
+        has_held: false,
+        others_went_on: false,
+    };
+    let gate = Counting {
+        rt: &rt,
+        begun: &begun,
+    };
+    let run = run_on(&rt, alloc, APART, disk, &Library, &gate)?;
+    assert!(rt; run.text.is_ok());
+    for disk in run.disks.iter() {
+        same(&rt, (disk.has_held, disk.others_went_on), (true, true));
+    }
     Ok(())
 }

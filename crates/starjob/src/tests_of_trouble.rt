@@ -3,16 +3,21 @@
 ghost use Rattle.std.specs.Prelude.{◌+◌, ◌≤◌, ◌^◌, None, length};
 
 use crate::status::Status;
-use crate::test_calls::{Answer, answer_on, is_answered, memory, one, same};
+use crate::test_calls::{
+    Answer, SUM, answer_on, bytes, call, calls, is_answered, memory, one, same,
+};
 use crate::tests_of_machines::{ROUND, ROUND_OUT, ROUND_SWAP};
 use crate::top::AnyDisk;
 use sj_base::ids::{DiskNo, Task};
 use sj_disk::header::Header;
-use sj_edge::disk::{CheckFault, Disk};
+use sj_edge::disk::{CheckFault, Disk, add_disk};
 use sj_edge::file_disk::FileDisk;
 use sj_edge::gate::{Gate, OpenGate};
 use sj_edge::memory_disk::MemDisk;
-use sj_edge::source::Failed;
+use sj_edge::memory_sink::MemSink;
+use sj_edge::memory_source::MemSource;
+use sj_edge::sink::Sink;
+use sj_edge::source::{Failed, Source};
 use std::alloc::Global;
 use std::fs;
 use std::fs::File;
@@ -71,11 +76,38 @@ fn is_refused<R: Threads + Wait + Abort + Sync>(
     Ok(true)
 }
 
+/// The same on a disk that refuses each call from this one on.
+fn is_refused_from<R: Threads + Wait + Abort + Sync>(
+    rt: &R,
+    alloc: Global,
+    workers: &str,
+    call: u64,
+) -> Result<bool, Fail> {
+    let mut numbers = Vec::new(alloc);
+    for number in call..100 {
+        numbers.push(number)?;
+    }
+    let disk = Box::new(alloc, memory(alloc, ROUND_SWAP, &numbers)?)?;
+    let answer = answer_tight(rt, alloc, workers, disk, &OpenGate)?;
+    if answer.outcome.status == Status::Done {
+        is_answered(rt, &answer, Status::Done, ROUND_OUT, workers);
+        return Ok(false);
+    }
+    is_failed(rt, &answer);
+    Ok(true)
+}
+
 #[test]
 fn each_call_that_a_disk_refuses_one_worker_ends_the_run(rt: HostRuntime) -> Result<(), Fail> {
     let mut refused = 0;
     for before in 0..40 {
-        if is_refused(&rt, rt.alloc(), "1", before + 1)? {
+        let came = is_refused(&rt, rt.alloc(), "1", before + 1)?;
+        same(
+            &rt,
+            is_refused_from(&rt, rt.alloc(), "1", before + 1)?,
+            came,
+        );
+        if came {
             same(&rt, refused, before);
             refused = before + 1;
         }
@@ -90,21 +122,34 @@ fn a_call_that_a_disk_refuses_four_workers_ends_the_run_or_never_comes(
 ) -> Result<(), Fail> {
     for call in 1..=16 {
         let came = is_refused(&rt, rt.alloc(), "4", call)?;
-        assert!(rt; came || call > 1);
+        let came_from = is_refused_from(&rt, rt.alloc(), "4", call)?;
+        assert!(rt; came && came_from || call > 1);
     }
     Ok(())
 }
 
-/// A disk that answers with something else than what was written.
+/// What a disk does in place of keeping what is written and giving it back.
+#[derive(Clone, Copy, Debug, PartialEq, Eq)]
+enum Lie {
+    /// It keeps the first writes, so many, and loses those behind them.
+    Keeps(u64),
+    /// Of each write it keeps the first half.
+    Halves,
+    /// It writes the first of three blocks of 48 bytes in place of the last, and the other way round.
+    WritesElsewhere,
+    /// It reads them so.
+    ReadsElsewhere,
+}
+
+/// A disk that answers `Ok` all the same.
 #[derive(Drop)]
 struct FalseDisk {
     disk: MemDisk,
-    /// It keeps nothing; else it answers for the first of three blocks of 48 bytes with the last, and the other way round.
-    loses: bool,
+    lie: Lie,
 }
 
-/// The place that is read in place of another one, for so many bytes of a disk of this size.
-fn read_from(at: u64, count: u64, size: u64) -> u64
+/// The place that is taken in place of another one, for so many bytes of a disk of this size.
+fn elsewhere(at: u64, count: u64, size: u64) -> u64
     requires { at + count ≤ size }
     ensures { result + count ≤ size }
 {
@@ -122,10 +167,10 @@ impl FalseDisk {
         requires { at + count ≤ length self.now.disk.bytes }
         ensures { result + count ≤ length self.now.disk.bytes }
     {
-        if self.loses {
+        if self.lie != Lie::ReadsElsewhere {
             return at;
         }
-        read_from(at, count, self.disk.size())
+        elsewhere(at, count, self.disk.size())
     }
 }
 
@@ -148,10 +193,19 @@ impl Disk for FalseDisk {
     }
 
     fn write(&mut self, at: u64, bytes: &[u8]) -> Result<(), Failed> {
-        if self.loses {
-            return Ok(());
+        match self.lie {
+            Lie::Keeps(0) => Ok(()),
+            Lie::Keeps(left) => {
+                self.lie = Lie::Keeps(left - 1);
+                self.disk.write(at, bytes)
+            }
+            Lie::Halves => self.disk.write(at, &bytes[..bytes.len() / 2]),
+            Lie::WritesElsewhere => {
+                let place = elsewhere(at, bytes.len() as u64, self.disk.size());
+                self.disk.write(place, bytes)
+            }
+            Lie::ReadsElsewhere => self.disk.write(at, bytes),
         }
-        self.disk.write(at, bytes)
     }
 
     fn check(&mut self, at: u64, want: &[u8; 24]) -> Result<(), CheckFault> {
@@ -160,48 +214,271 @@ impl Disk for FalseDisk {
     }
 }
 
-/// The first vector is the first that is fetched again: the disk has answered with another header.
-fn is_damaged<R: Threads + Wait + Abort + Sync>(
-    rt: &R,
-    alloc: Global,
-    loses: bool,
-    found: Header,
-) -> Result<(), Fail> {
-    let disk = FalseDisk {
-        disk: memory(alloc, ROUND_SWAP, &[])?,
-        loses,
-    };
-    let answer = answer_tight(rt, alloc, "1", Box::new(alloc, disk)?, &OpenGate)?;
-    let want = Header {
-        cell: 0,
-        writes: 1,
-        length: 3,
-    };
-    let disk = DiskNo(0);
-    let damaged = Status::Damaged { disk, want, found };
-    is_answered(rt, &answer, damaged, "", "a block");
+/// A lie, and the first header that isn't the one wanted: its cell, its writes and its elements.
+struct Damage {
+    lie: Lie,
+    want: (u64, u64, u64),
+    found: (u64, u64, u64),
+}
+
+/// A `ROUND` that goes on for a second one.
+const TWO_ROUNDS: &str =
+    "starjob 1\nnode 48\nvector x 3 values 1 2 3\nvector y 3 values 10 20 30\nvector z 3 values 100 200 300\ntask add x:R y:RW\ntask add y:R z:RW\ntask add z:R x:RW\ntask add x:R y:RW\ntask add y:R z:RW\ntask add z:R x:RW\nprint x\n";
+
+// x is the first that is fetched again, and z is written before. Behind x, z and y the fourth that is written, by the seventh and
+// the eighth write, is z again.
+const DAMAGES: [Damage; 5] = [
+    Damage {
+        lie: Lie::Keeps(0),
+        want: (0, 1, 3),
+        found: (0, 0, 0),
+    },
+    Damage {
+        lie: Lie::Keeps(6),
+        want: (2, 2, 3),
+        found: (2, 1, 3),
+    },
+    Damage {
+        lie: Lie::Halves,
+        want: (0, 1, 3),
+        found: (0, 1, 0),
+    },
+    Damage {
+        lie: Lie::WritesElsewhere,
+        want: (0, 1, 3),
+        found: (2, 1, 3),
+    },
+    Damage {
+        lie: Lie::ReadsElsewhere,
+        want: (0, 1, 3),
+        found: (2, 1, 3),
+    },
+];
+
+/// The header with this cell, these writes and these elements.
+fn header((cell, writes, length): (u64, u64, u64)) -> Header {
+    Header {
+        cell,
+        writes,
+        length,
+    }
+}
+
+#[test]
+fn a_disk_that_lies_is_damaged(rt: HostRuntime) -> Result<(), Fail> {
+    for damage in &DAMAGES {
+        let disk = FalseDisk {
+            disk: memory(rt.alloc(), ROUND_SWAP, &[])?,
+            lie: damage.lie,
+        };
+        let disks = one(rt.alloc(), Box::new(rt.alloc(), disk)?)?;
+        let text = TWO_ROUNDS.as_bytes();
+        let answer = answer_on(&rt, rt.alloc(), &[], text, disks, &OpenGate)?;
+        let damaged = Status::Damaged {
+            disk: DiskNo(0),
+            want: header(damage.want),
+            found: header(damage.found),
+        };
+        is_answered(&rt, &answer, damaged, "", "a lie");
+    }
     Ok(())
 }
 
-#[test]
-fn a_disk_that_loses_what_was_written_is_damaged(rt: HostRuntime) -> Result<(), Fail> {
-    let found = Header {
-        cell: 0,
-        writes: 0,
-        length: 0,
-    };
-    is_damaged(&rt, rt.alloc(), true, found)
+/// A disk of one byte that answers each read with its name.
+#[derive(Drop)]
+struct NamedDisk {
+    name: u8,
 }
 
-// z is written before x is fetched again.
+impl Disk for NamedDisk {
+    ghost size = { λ _. 1 };
+
+    ghost held = { λ _. None };
+
+    ghost faults = { λ _. 0 };
+
+    ghost mismatches = { λ _. 0 };
+
+    fn size(&self) -> u64 {
+        1
+    }
+
+    fn read(&mut self, _at: u64, buf: &mut [u8]) -> Result<(), Failed> {
+        buf.fill(self.name);
+        Ok(())
+    }
+
+    fn write(&mut self, _at: u64, _bytes: &[u8]) -> Result<(), Failed> {
+        Ok(())
+    }
+
+    fn check(&mut self, _at: u64, _want: &[u8; 24]) -> Result<(), CheckFault> {
+        Ok(())
+    }
+}
+
+/// What a disk answers where its first byte is read.
+fn name_of<D: Disk>(disk: &mut D) -> u8 {
+    let mut name = [0];
+    if disk.size() > 0 {
+        let _ = disk.read(0, &mut name);
+    }
+    name[0]
+}
+
+// The first block lies on the second disk: its header begins with the number of x, which is 0.
 #[test]
-fn a_disk_that_answers_with_another_block_is_damaged(rt: HostRuntime) -> Result<(), Fail> {
-    let found = Header {
-        cell: 2,
-        writes: 1,
-        length: 3,
-    };
-    is_damaged(&rt, rt.alloc(), false, found)
+fn disks_of_several_kinds_come_back_in_their_order(rt: HostRuntime) -> Result<(), Fail> {
+    let alloc = rt.alloc();
+    for workers in ["1", "4"] {
+        let mut disks = one(alloc, Box::new(alloc, NamedDisk { name: 7 })?)?;
+        add_disk(
+            &mut disks,
+            Box::new(alloc, memory(alloc, ROUND_SWAP, &[])?)?,
+        )?;
+        add_disk(&mut disks, Box::new(alloc, NamedDisk { name: 9 })?)?;
+        let words = ["--workers", workers, "--node", "48"];
+        let text = ROUND.as_bytes();
+        let mut answer = answer_on(&rt, alloc, &words, text, disks, &OpenGate)?;
+        is_answered(&rt, &answer, Status::Done, ROUND_OUT, workers);
+        let mut names = Vec::new(alloc);
+        for disk in answer.outcome.disks.iter_mut() {
+            names.push(name_of(disk))?;
+        }
+        same(&rt, names.as_slice(), [7, 0, 9].as_slice());
+    }
+    Ok(())
+}
+
+/// Gives one byte a call.
+#[derive(Drop)]
+struct ByteSource {
+    inner: MemSource,
+}
+
+impl Source for ByteSource {
+    ghost left = { λ _. None };
+
+    ghost faults = { λ s. s.inner.called.faults };
+
+    fn read(&mut self, buf: &mut [u8]) -> Result<usize, Failed> {
+        let count = buf.len().min(1);
+        self.inner.read(&mut buf[..count])
+    }
+}
+
+/// Takes one byte a call.
+#[derive(Drop)]
+struct ByteSink {
+    inner: MemSink,
+}
+
+impl Sink for ByteSink {
+    ghost taken = { λ _. None };
+
+    ghost faults = { λ s. s.inner.called.faults };
+
+    fn write(&mut self, bytes: &[u8]) -> Result<usize, Failed> {
+        self.inner.write(&bytes[..bytes.len().min(1)])
+    }
+}
+
+/// What ended where a device of bytes refuses the call with this number, 0 for none.
+#[derive(Drop)]
+struct ByteCall {
+    status: Status,
+    out: MemSink,
+    err: MemSink,
+}
+
+/// The numbers of the calls that source, `out` and `err` refuse.
+#[derive(Clone, Copy, Debug, PartialEq, Eq)]
+struct Refused {
+    source: u64,
+    out: u64,
+    err: u64,
+}
+
+/// A sink that takes a byte a call, and refuses this one.
+fn byte_sink(alloc: Global, refused: u64) -> Result<ByteSink, Fail> {
+    let inner = MemSink::new(alloc, 1000, calls(alloc, &[refused])?)?;
+    Ok(ByteSink { inner })
+}
+
+/// Runs a `SUM` on such devices.
+fn call_by_bytes<R: Threads + Wait + Sync>(
+    rt: &R,
+    alloc: Global,
+    refused: Refused,
+) -> Result<ByteCall, Fail> {
+    let inner = MemSource::new(bytes(alloc, SUM)?, calls(alloc, &[refused.source])?);
+    let mut source = ByteSource { inner };
+    let mut out = byte_sink(alloc, refused.out)?;
+    let mut err = byte_sink(alloc, refused.err)?;
+    let outcome = call(rt, alloc, &mut source, &mut out, &mut err)?;
+    Ok(ByteCall {
+        status: outcome.status,
+        out: out.inner,
+        err: err.inner,
+    })
+}
+
+/// As many first bytes of a text as a sink takes that refuses the call with this number.
+fn front(text: &str, refused: u64) -> &[u8] {
+    let bytes = text.as_bytes();
+    let count = (refused as usize).saturating_sub(1).min(bytes.len());
+    &bytes[..if refused == 0 { bytes.len() } else { count }]
+}
+
+/// The status and both outputs of such a call.
+fn ends<R: Threads + Wait + Abort + Sync>(
+    rt: &R,
+    alloc: Global,
+    refused: Refused,
+    status: Status,
+    (out, err): (&str, &str),
+) -> Result<(), Fail> {
+    let ended = call_by_bytes(rt, alloc, refused)?;
+    assert_eq!(rt; ended.status, status, "{refused:?}");
+    assert_eq!(rt; ended.out.taken(), front(out, refused.out), "{refused:?}");
+    assert_eq!(rt; ended.err.taken(), front(err, refused.err), "{refused:?}");
+    Ok(())
+}
+
+// A source gives its bytes one a call, and is called once more for its end; `out` and `err` take one a call.
+#[test]
+fn each_call_that_a_device_refuses_is_its_fault(rt: HostRuntime) -> Result<(), Fail> {
+    let alloc = rt.alloc();
+    let printed = "y: 11 22 33\n";
+    let reads = SUM.len() as u64 + 1;
+    for source in 0..reads + 3 {
+        let refused = Refused {
+            source,
+            out: 0,
+            err: source % 30,
+        };
+        if (1..=reads).contains(&source) {
+            let said = ("", "starjob: reading failed\n");
+            ends(&rt, alloc, refused, Status::SourceFault, said)?;
+        } else {
+            ends(&rt, alloc, refused, Status::Done, (printed, ""))?;
+        }
+    }
+    let writes = printed.len() as u64;
+    for out in 1..writes + 3 {
+        let refused = Refused {
+            source: 0,
+            out,
+            err: out % 5,
+        };
+        if out <= writes {
+            let said = (printed, "starjob: writing failed\n");
+            ends(&rt, alloc, refused, Status::SinkFault, said)?;
+        } else {
+            ends(&rt, alloc, refused, Status::Done, (printed, ""))?;
+        }
+    }
+    Ok(())
 }
 
 #[test]

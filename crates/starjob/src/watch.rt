@@ -6,6 +6,7 @@ use crate::tally::Tally;
 use sj_edge::sink::Sink;
 use sj_edge::source::Failed;
 use std::alloc::Global;
+use std::io::Error;
 use std::rt::Clock;
 use std::sync::{Arc, Condvar, CondvarTimeouts, Mutex, Wait};
 use std::time::Duration;
@@ -79,6 +80,11 @@ impl Watch {
             }
             millis = BETWEEN;
         }
+    }
+
+    /// Why the system failed the disk last, where it told that.
+    pub fn cause(&self) -> Option<Error> {
+        self.tally.cause()
     }
 
     /// Takes the line off the terminal, for good.

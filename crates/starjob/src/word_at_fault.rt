@@ -6,6 +6,7 @@ pub enum Value {
     Number { least: u64, greatest: u64 },
     Policy,
     Path,
+    Problem,
 }
 
 /// What a name asks for.
@@ -30,8 +31,12 @@ pub enum Fault {
     NotThis(Value),
     /// It stands only with `--node`.
     WithoutNode,
-    /// It asks for an application, which no job is made of yet.
-    NotYet,
+    /// It asks for a part of an application.
+    WithoutOthers,
+    /// Its tiles are larger than the matrix.
+    AboveN,
+    /// Its tiles are more than 48 in a column.
+    ManyTiles,
 }
 
 /// A word by its number, from 1, and what is wrong with it.
@@ -55,6 +60,9 @@ fn asked_by(name: &str) -> Option<Asked> {
         "swap-size" => number(0, 1 << 40),
         "sched" => Some(Asked::Value(Value::Policy)),
         "swap" => Some(Asked::Value(Value::Path)),
+        "app" => Some(Asked::Value(Value::Problem)),
+        "n" | "tile" => number(1, 2048),
+        "seed" => number(0, 999_999_999),
         _ => None,
     }
 }
@@ -73,7 +81,7 @@ fn named(word: &str) -> Option<(&str, Option<&str>)> {
     }
 }
 
-/// Whether a word says this name.
+/// Whether this word says this name.
 fn says(word: &str, name: &str) -> bool {
     named(word).is_some_and(|(said, _)| said == name)
 }
@@ -92,15 +100,13 @@ fn is_value(text: &str, value: Value) -> bool {
         Value::Number { least, greatest } => is_number(text, least, greatest),
         Value::Policy => text == "eager" || text == "prio" || text == "ws",
         Value::Path => !text.is_empty() && !text.starts_with('-'),
+        Value::Problem => text == "product" || text == "paths",
     }
 }
 
 /// What the word behind this one has to be, where this is the name of an option or of the flag.
 fn judge_name(before: &[String], word: &str) -> Result<Option<Value>, Fault> {
     let (name, value) = named(word).ok_or(Fault::NoOption)?;
-    if is_of_application(name) {
-        return Err(Fault::NotYet);
-    }
     let asked = asked_by(name).ok_or(Fault::NoOption)?;
     if before.iter().any(|earlier| says(earlier.as_str(), name)) {
         return Err(Fault::Twice);
@@ -122,6 +128,11 @@ fn judge_value(word: &str, wanted: Value) -> Result<Option<Value>, Fault> {
     }
 }
 
+/// Whether a word says this name.
+fn is_said(words: &[String], name: &str) -> bool {
+    words.iter().any(|word| says(word.as_str(), name))
+}
+
 /// The word `--nodes`, where no word says `--node`.
 fn nodes_without_node(words: &[String]) -> Option<FaultyWord> {
     if words.iter().any(|word| says(word.as_str(), "node")) {
@@ -132,6 +143,62 @@ fn nodes_without_node(words: &[String]) -> Option<FaultyWord> {
         number: place.saturating_add(1),
         fault: Fault::WithoutNode,
     })
+}
+
+/// The first name of an application's words, where not all four are said.
+fn application_in_part(words: &[String]) -> Option<FaultyWord> {
+    let is_whole = is_said(words, "app")
+        && is_said(words, "n")
+        && is_said(words, "tile")
+        && is_said(words, "seed");
+    if is_whole {
+        return None;
+    }
+    let place = words.iter().position(|word| {
+        named(word.as_str()).is_some_and(|(name, _)| is_of_application(name))
+    })?;
+    Some(FaultyWord {
+        number: place.saturating_add(1),
+        fault: Fault::WithoutOthers,
+    })
+}
+
+/// The number that is said with a name.
+fn number_said(words: &[String], name: &str) -> Option<u64> {
+    let place = words.iter().position(|word| says(word.as_str(), name))?;
+    let next = words.get(place.saturating_add(1));
+    let next = next.map_or("", |word| word.as_str());
+    let (_, value) = named(words.get(place)?.as_str())?;
+    value.unwrap_or(next).parse::<u64>().ok()
+}
+
+/// The word `--tile`, where its tiles are too large or too many.
+fn tile_at_fault(words: &[String]) -> Option<FaultyWord> {
+    let n = number_said(words, "n")?;
+    let tile = number_said(words, "tile")?;
+    let place = words.iter().position(|word| says(word.as_str(), "tile"))?;
+    let fault = if tile > n {
+        Fault::AboveN
+    } else if n > tile.saturating_mul(48) {
+        Fault::ManyTiles
+    } else {
+        return None;
+    };
+    Some(FaultyWord {
+        number: place.saturating_add(1),
+        fault,
+    })
+}
+
+/// The first word that stands beside the wrong ones.
+fn ill_matched(words: &[String]) -> Option<FaultyWord> {
+    if let Some(faulty) = nodes_without_node(words) {
+        return Some(faulty);
+    }
+    if let Some(faulty) = application_in_part(words) {
+        return Some(faulty);
+    }
+    tile_at_fault(words)
 }
 
 /// The first word that isn't accepted, where one is at fault by itself or stands beside the wrong ones. Linear in the words' text
@@ -159,5 +226,5 @@ pub fn word_at_fault(words: &[String]) -> Option<FaultyWord> {
             fault: Fault::NoValue,
         });
     }
-    nodes_without_node(words)
+    ill_matched(words)
 }

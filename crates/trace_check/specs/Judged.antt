@@ -8,7 +8,9 @@ use Rattle.sj_core.specs.Legal.{IsFinished}
 use Rattle.sj_minplus.specs.Has.{library_has}
 use Rattle.sj_needs.specs.declared.shortage.Shortage.TheVariants as fitting
 use Rattle.sj_ready.specs.Ready.{IsUnready}
-use Rattle.sj_ready.specs.Work.{HasRoom, Work, WorkOrRefusal, program_of, work_of}
+use Rattle.sj_ready.specs.Input.{work_in}
+use Rattle.sj_ready.specs.Work.{HasRoom, Work, WorkOrRefusal, program_of}
+use Rattle.sj_ready.specs.declared.input.Input.{Input}
 use Rattle.sj_ready.specs.declared.unready.Unready.TheVariants as preparing
 use Rattle.sj_trace.specs.Reading.{IsFirstBadLine, IsTextOf}
 use Rattle.sj_trace.specs.declared.read.TraceRefusal.TheVariants as reading
@@ -16,9 +18,9 @@ use Rattle.sj_words.specs.declared.options.Options.{Options}
 use Rattle.trace_check.specs.declared.refusal.JudgeRefusal.{JudgeRefusal}
 use Rattle.trace_check.specs.declared.refusal.JudgeRefusal.TheVariants as refusal
 
--- what options and a job text ask for, of the codelets of the program and one disk of this size
-abbrev pub asked_of : Options → ℕ → List ℕ → WorkOrRefusal
-asked_of o swap job = work_of library_has o (swap ∷ []) job
+-- what options and a job text, or an application, ask for, of the codelets of the program and one disk of this size
+abbrev pub asked_of : Options → ℕ → Input → WorkOrRefusal
+asked_of o swap job = work_in library_has o (swap ∷ []) job
 
 -- ---- why the trace isn't read
 

@@ -3,7 +3,8 @@
 ghost use Rattle.std.specs.Prelude.{◌≡◌, ◌<◌, ◌≤◌, ◌^◌, ◌∷◌, ℕ, [], All, IfErr, IfOk, IsOk, List, length};
 ghost use Rattle.sj_base.specs.declared.trace.Event.{Event};
 ghost use Rattle.sj_minplus.specs.Has.{library_has};
-ghost use Rattle.sj_ready.specs.Work.{Work, WorkOrRefusal, work_of};
+ghost use Rattle.sj_ready.specs.Input.{work_in, HasJob};
+ghost use Rattle.sj_ready.specs.Work.{Work, WorkOrRefusal};
 ghost use Rattle.sj_trace.specs.Reading.{IsTextOf};
 ghost use Rattle.sj_words.specs.Options.{IsWithinLimits};
 ghost use Rattle.trace_check.specs.Judged.{CanBeRun, HasCause, IsWantOfMemory, TraceIsWhole, asked_of};
@@ -13,13 +14,14 @@ use sj_base::memory::OutOfMemory;
 use sj_base::trace::Trace;
 use sj_check::check::check;
 use sj_minplus::library::Library;
+use sj_ready::input::Input;
 use sj_ready::ready::prepare;
 use sj_trace::read::read_trace;
 use sj_words::Options;
 use std::alloc::Global;
 
 /// The sizes of one disk alone.
-fn one_disk(alloc: Global, swap: u64) -> Result<Vec<u64>, OutOfMemory>
+pub fn one_disk(alloc: Global, swap: u64) -> Result<Vec<u64>, OutOfMemory>
     ensures { IfOk result (λ disks. disks.items ≡ swap ∷ []) }
 {
     Ok(vec![in alloc; swap]?)
@@ -48,18 +50,19 @@ fn judged_on(
     alloc: Global,
     options: &Options,
     disks: Vec<u64>,
-    job: Vec<u8>,
+    job: Input,
     trace: &[u8],
 ) -> Result<(), JudgeRefusal>
     requires options { IsWithinLimits options.now }
     requires few { length disks.items ≤ 16 }
     requires small { All (λ n. n ≤ 2 ^ 40) disks.items }
+    requires job { HasJob library_has job }
     ensures whole { IsOk result →
-        TraceIsWhole (work_of library_has options.now disks.items job.items) trace.now }
+        TraceIsWhole (work_in library_has options.now disks.items job) trace.now }
     ensures cause { IfErr result
-        (HasCause (work_of library_has options.now disks.items job.items) trace.now) }
+        (HasCause (work_in library_has options.now disks.items job) trace.now) }
     ensures complete { TraceIsWhole
-        (work_of library_has options.now disks.items job.items) trace.now →
+        (work_in library_has options.now disks.items job) trace.now →
         IfErr result IsWantOfMemory }
 {
     let ready = prepare(alloc, job, options, disks, &Library)?;
@@ -78,21 +81,22 @@ pub fn judged(
     alloc: Global,
     options: &Options,
     swap: u64,
-    job: Vec<u8>,
+    job: Input,
     trace: &[u8],
 ) -> Result<(), JudgeRefusal>
     requires options { IsWithinLimits options.now }
     requires swap { swap ≤ 2 ^ 40 }
+    requires job { HasJob library_has job }
 
     // Ok means that the trace is one of the job, and that nothing is missing.
     ensures legal_and_complete { IsOk result →
-        TraceIsWhole (asked_of options.now swap job.items) trace.now }
+        TraceIsWhole (asked_of options.now swap job) trace.now }
 
     // Each other answer has its cause, but want of memory.
-    ensures cause { IfErr result (HasCause (asked_of options.now swap job.items) trace.now) }
+    ensures cause { IfErr result (HasCause (asked_of options.now swap job) trace.now) }
 
     // A trace that is whole is found to be so, unless memory runs out.
-    ensures complete { TraceIsWhole (asked_of options.now swap job.items) trace.now →
+    ensures complete { TraceIsWhole (asked_of options.now swap job) trace.now →
         IfErr result IsWantOfMemory }
 {
     let disks = one_disk(alloc, swap)?;

@@ -1,27 +1,55 @@
-//! `trace_check`: reads a job from standard input and the trace of a run of it from a file, and says whether each event of
-//! the trace is legal and all tasks are done after the last.
+//! `trace_check`: reads a job from standard input, where the words ask for no application, and the trace of a run of it from a
+//! file, and says whether each event of the trace is legal and all tasks are done after the last.
 //!
-//! The words before the file's name are those of `starjob`, which ask for the machine of the run.
+//! The words before the file's name are those of `starjob`, which ask for the machine of the run. In place of the file's name
+//! `--program` has it print the program to which the job is lowered, and `--text` alone the canonical text of the job.
 #![tactic(auto)]
 
+mod answering;
 mod judging;
 mod refusal;
+mod showing;
 #[cfg(test)]
 mod tests;
+#[cfg(test)]
+mod tests_of_showing;
 
+ghost use Rattle.std.specs.Prelude.{IfOk};
+ghost use Rattle.sj_minplus.specs.Has.{library_has};
+ghost use Rattle.sj_ready.specs.Input.{HasJob};
+ghost use Rattle.sj_words.specs.Options.{IsWithinLimits};
+
+use answering::{show_job, show_program};
 use judging::judged;
 use refusal::JudgeRefusal;
 use sj_check::check::CheckRefusal;
 use sj_needs::shortage::Shortage;
+use sj_ready::input::Input;
 use sj_ready::unready::Unready;
 use sj_trace::read::TraceRefusal;
-use sj_words::{WordsRefusal, read_words, swap_wish};
-use std::alloc::AllocError;
+use sj_words::{Options, WordsRefusal, read_words, swap_wish};
+use std::alloc::{AllocError, Global};
 use std::io::{self, ErrorKind, Read};
 use std::process::ExitCode;
 use std::{env, fs};
 
-const USAGE: &str = "usage: trace_check [words of starjob] TRACE < JOB";
+const USAGE: &str =
+    "usage: trace_check [words of starjob] TRACE < JOB, or --program for TRACE, or --text alone";
+
+/// The words that stand in place of the trace's file.
+const PROGRAM_WORD: &str = "--program";
+
+const TEXT_WORD: &str = "--text";
+
+const HELP: &str = "\
+Says whether the file TRACE, which has the lines of a trace alone, is a legal run, to its end, of the job on standard input,
+on the machine that the job and the words ask for. --program in place of TRACE prints the program to which the job is lowered,
+--text alone the job's canonical text. With --app nothing is read from standard input.
+Exit codes: 0 legal and complete; 1 an event is illegal, or not all tasks are done; 2 words, job or trace can't be read;
+10 out of memory.";
+
+/// What stands behind the words of a cause that comes from the system.
+const BEFORE_THE_NUMBER: &str = " (os error";
 
 /// The exit codes: the trace isn't legal or not complete; words, job or trace aren't read; memory ran out.
 const BAD: u8 = 1;
@@ -36,12 +64,31 @@ fn refused(rt: &HostRuntime, why: &str) -> u8 {
     REFUSED
 }
 
-/// The same where something isn't read, unless memory ran out.
-fn unread(rt: &HostRuntime, error: &io::Error, why: &str) -> u8 {
-    if error.kind() == ErrorKind::OutOfMemory {
-        return OUT_OF_MEMORY;
+/// Says that memory ran out.
+fn out_of_memory(rt: &HostRuntime) -> u8 {
+    let _ = eprintln!(rt; "out of memory");
+    OUT_OF_MEMORY
+}
+
+/// The words of an error, without the system's number of it.
+fn cause(alloc: Global, error: &io::Error) -> Result<String, AllocError> {
+    let text = format!(in alloc; "{error}")?;
+    match text.split_once(BEFORE_THE_NUMBER) {
+        Some((cause, _)) => String::from_str(alloc, cause),
+        None => Ok(text),
     }
-    refused(rt, why)
+}
+
+/// Says what can't be read, and the system's cause, unless memory ran out.
+fn unread(rt: &HostRuntime, error: &io::Error, what: &str) -> u8 {
+    if error.kind() == ErrorKind::OutOfMemory {
+        return out_of_memory(rt);
+    }
+    let Ok(cause) = cause(rt.alloc(), error) else {
+        return out_of_memory(rt);
+    };
+    let _ = eprintln!(rt; "{what} can't be read: {cause}");
+    REFUSED
 }
 
 /// The words after the program's name, which are all text.
@@ -53,11 +100,27 @@ fn words(rt: &HostRuntime) -> io::Result<Vec<String>> {
     Ok(words)
 }
 
+/// Whether a word asks for what `HELP` says.
+fn is_call_for_help(word: &str) -> bool {
+    word == "--help" || word == "-h"
+}
+
 /// All of standard input.
 fn input(rt: &HostRuntime) -> io::Result<Vec<u8>> {
     let mut text = Vec::new(rt.alloc());
     rt.stdin().read_to_end(&mut text)?;
     Ok(text)
+}
+
+/// The job that options ask for, which is read where they ask for no application.
+fn job_for(rt: &HostRuntime, options: &Options) -> io::Result<Input>
+    requires { IsWithinLimits options.now }
+    ensures { IfOk result (HasJob library_has) }
+{
+    match options.application {
+        Some(application) => Ok(Input::Generated(application)),
+        None => Ok(Input::Text(input(rt)?)),
+    }
 }
 
 /// The line of a text with a number, from 0; nothing where there are fewer.
@@ -76,7 +139,7 @@ fn unready(rt: &HostRuntime, why: Unready) -> u8 {
         Unready::Short(Shortage::SwapTooSmall { .. }) => {
             eprintln!(rt; "the swap disk is too small for the job")
         }
-        Unready::Short(Shortage::OutOfMemory) | Unready::OutOfMemory => return OUT_OF_MEMORY,
+        Unready::Short(Shortage::OutOfMemory) | Unready::OutOfMemory => return out_of_memory(rt),
     };
     REFUSED
 }
@@ -92,7 +155,7 @@ fn wrong(rt: &HostRuntime, text: &[u8], why: CheckRefusal) -> u8 {
             )
         }
         CheckRefusal::Unfinished => println!(rt; "legal, but not all tasks are done"),
-        CheckRefusal::OutOfMemory => return OUT_OF_MEMORY,
+        CheckRefusal::OutOfMemory => return out_of_memory(rt),
     };
     BAD
 }
@@ -112,7 +175,7 @@ fn told(rt: &HostRuntime, text: &[u8], outcome: Result<(), JudgeRefusal>) -> u8 
         }
         Err(JudgeRefusal::Wrong(why)) => wrong(rt, text, why),
         Err(JudgeRefusal::Unread(TraceRefusal::OutOfMemory) | JudgeRefusal::OutOfMemory) => {
-            OUT_OF_MEMORY
+            out_of_memory(rt)
         }
     }
 }
@@ -121,31 +184,53 @@ fn main(rt: HostRuntime) -> ExitCode {
     ExitCode::from(answer(&rt))
 }
 
-/// Reads words, job and trace, and checks.
+/// Reads a job and shows its text, where no other word stands before.
+fn text_alone(rt: &HostRuntime, words: &[String]) -> u8 {
+    if !words.is_empty() {
+        return refused(rt, USAGE);
+    }
+    match input(rt) {
+        Ok(job) => show_job(rt, &job),
+        Err(error) => unread(rt, &error, "the job"),
+    }
+}
+
+/// Reads words, job and trace, and checks; or reads words and a job, and shows it.
 fn answer(rt: &HostRuntime) -> u8 {
     let alloc = rt.alloc();
     let mut words = match words(rt) {
         Ok(words) => words,
-        Err(error) => return unread(rt, &error, USAGE),
+        Err(error) if error.kind() == ErrorKind::OutOfMemory => return out_of_memory(rt),
+        Err(_) => return refused(rt, USAGE),
     };
+    if words.iter().any(|word| is_call_for_help(word.as_str())) {
+        let _ = println!(rt; "{USAGE}\n{HELP}");
+        return 0;
+    }
     let Some(path) = words.pop() else {
         return refused(rt, USAGE);
     };
+    if path.as_str() == TEXT_WORD {
+        return text_alone(rt, &words);
+    }
     let options = match read_words(alloc, &words) {
         Ok(options) => options,
         Err(WordsRefusal::Unaccepted) => return refused(rt, USAGE),
-        Err(WordsRefusal::OutOfMemory) => return OUT_OF_MEMORY,
+        Err(WordsRefusal::OutOfMemory) => return out_of_memory(rt),
     };
     let Ok(wish) = swap_wish(alloc, &words) else {
-        return OUT_OF_MEMORY;
+        return out_of_memory(rt);
     };
-    let job = match input(rt) {
+    let job = match job_for(rt, &options) {
         Ok(job) => job,
-        Err(error) => return unread(rt, &error, "the job can't be read"),
+        Err(error) => return unread(rt, &error, "the job"),
     };
+    if path.as_str() == PROGRAM_WORD {
+        return show_program(rt, &options, wish.size, job);
+    }
     let text = match fs::read(rt, path.as_str()) {
         Ok(text) => text,
-        Err(error) => return unread(rt, &error, "the trace can't be read"),
+        Err(error) => return unread(rt, &error, "the trace"),
     };
     let outcome = judged(alloc, &options, wish.size, job, &text);
     told(rt, &text, outcome)

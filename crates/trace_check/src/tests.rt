@@ -8,6 +8,7 @@ use sj_base::memory::OutOfMemory;
 use sj_check::check::CheckRefusal;
 use sj_job::reason::Reason;
 use sj_needs::shortage::Shortage;
+use sj_ready::input::Input;
 use sj_ready::unready::Unready;
 use sj_trace::read::TraceRefusal;
 use sj_words::read_words;
@@ -67,7 +68,7 @@ fn replaced(alloc: Global, trace: &[u8], at: u64, other: &[u8]) -> Result<Vec<u8
 fn said_of(alloc: Global, job: &[u8], trace: &[u8]) -> Option<Result<(), JudgeRefusal>> {
     let options = read_words(alloc, &[]).ok()?;
     let text = job.to_vec(alloc).ok()?;
-    Some(judged(alloc, &options, 1_000, text, trace))
+    Some(judged(alloc, &options, 1_000, Input::Text(text), trace))
 }
 
 #[test]

@@ -6,7 +6,7 @@ use sj_base::ids::{Node, Task, Worker};
 use sj_base::program::{Machine, Program};
 use sj_base::trace::Trace;
 use sj_core::progress::{Progress, Transfer};
-use sj_disk::disk_set::DiskSet;
+use sj_disk::lending_set::LendingSet;
 use sj_edge::disk::Disk;
 
 impl<D: Disk> RunState<D> {
@@ -14,6 +14,7 @@ impl<D: Disk> RunState<D> {
     ghost use Rattle.sj_core.specs.Machine.{progress, transfer};
     ghost use Rattle.sj_core.specs.Needs.{node_of, node_size};
     ghost use Rattle.sj_machine.specs.Standing.{state};
+    ghost use Rattle.sj_machine.specs.Units.{lent};
 
     /// The program. Constant time.
     pub fn program(&self) -> &Program
@@ -61,9 +62,9 @@ impl<D: Disk> RunState<D> {
     }
 
     /// The events, and the disks. Constant time, and no memory.
-    pub fn close(self) -> (Trace, DiskSet<D>)
+    pub fn close(self) -> (Trace, LendingSet<D>)
         ensures trace { result.0.events ≡ self.trace }
-        ensures disks { result.1 ≡ self.disks }
+        ensures disks { result.1 ≡ lent self }
     {
         (self.trace, self.disks)
     }

@@ -1,9 +1,13 @@
 use Rattle.std.proofs.Common.{◌<◌, subst, sym}
-use Rattle.board_tests.proofs.Claiming.{claims-it}
+use Rattle.board_tests.proofs.Claiming.{claims-it, is-step}
 use Rattle.board_tests.proofs.steps.claimed.Goals as goal
 
 pub returns-in-Ok-clause-claims : goal.returns-in-Ok-clause-claims
 returns-in-Ok-clause-claims g c =
     let free = c.requires.free in
-    claims-it g.D.Disk.size g.D.Disk.faults g.D.Disk.mismatches g.D.Disk.held c.args.board.now c.next.new.self c.claim.new.self c.args.w c.in-Some.t c.is_sound-2.ensures free c.requires.no_fault c.next.ensures.rest c.in-Ok.ensures.can c.in-Ok.ensures.ok
+    claims-it g.D.Disk.size g.D.Disk.faults g.D.Disk.mismatches g.D.Disk.held c.args.board.now c.next.new.self c.claim.new.self c.args.w c.in-Some.t c.is_sound-2.ensures free c.requires.no_fault c.next.result c.next.ensures.given c.in-Ok.ensures.can c.in-Ok.ensures.ok
     (subst (λ n. c.args.w.0 < n) (sym c.is_sound.ensures.inside.hands_agree.every_worker) free.idle.works.known)
+
+pub returns-in-Ok-clause-alone : goal.returns-in-Ok-clause-alone
+returns-in-Ok-clause-alone g c =
+    is-step g.D.Disk.size g.D.Disk.faults g.D.Disk.mismatches g.D.Disk.held c.args.board.now c.next.new.self c.claim.new.self c.args.w c.in-Some.t c.is_sound-2.ensures c.requires.free c.requires.no_fault c.next.result c.next.ensures.given c.in-Ok.ensures.can c.in-Ok.ensures.ok

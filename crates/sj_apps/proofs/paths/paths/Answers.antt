@@ -1,11 +1,13 @@
-use Rattle.std.proofs.Common.{[], ◌∷◌, ap, sym, ◌∙◌, arith, subst}
-use Rattle.sj_job.specs.Act.{Print}
+use Rattle.std.proofs.Common.{List, [], ◌∷◌, ap, sym, ◌∙◌, arith, subst}
+use Rattle.sj_job.specs.Act.{Print, Statement}
 use Rattle.sj_job.specs.declared.job.Init.TheVariants.{Values}
 use Rattle.sj_job.specs.View.{statements_of, IsNumbered}
 use Rattle.sj_job.specs.declared.job.Job.{Job}
 use Rattle.sj_apps.specs.Draft.{paths_names, Tells}
-use Rattle.sj_apps.specs.Generated.{walk_steps, matrix, weights, name_D, numbered, first_line, paths_acts}
+use Rattle.sj_apps.specs.Generated.{walk_steps, matrix, weights, name_D, numbered, first_line, paths_acts, weight}
+use Rattle.sj_apps.specs.Shortest.{PrintsShortest}
 use Rattle.sj_apps.proofs.Telling.{print-told, whole-told}
+use Rattle.sj_apps.proofs.Walking.{paths-print}
 use Rattle.sj_apps.proofs.paths.paths.Goals as goal
 use Rattle.sj_apps.proofs.paths.paths.Goals.{In_ok-say}
 
@@ -22,3 +24,7 @@ pub returns-clause-numbered : goal.returns-clause-numbered
 returns-clause-numbered c =
     let n = (printed_last (goal.at.returns-clause-numbered c).In_ok-say).numbered (c.in_ok-walk_steps.ensures.tells.numbered c.in_ok-draft.ensures.numbered) in
     subst (λ (job : Job). IsNumbered job.roots job.statements) (sym c.into_job.ensures) (record { placed = n.placed; counted = n.counted })
+
+pub returns-clause-shortest : goal.returns-clause-shortest
+returns-clause-shortest c =
+    subst (λ (ss : List Statement). PrintsShortest name_D c.args.n (weight c.args.n c.args.seed) ss) (sym (returns-clause-statements c)) (paths-print c.args.n c.args.tile c.args.seed c.requires)

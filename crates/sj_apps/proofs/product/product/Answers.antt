@@ -1,9 +1,11 @@
-use Rattle.std.proofs.Common.{[], ◌∷◌, ap, sym, ◌∙◌, arith, subst}
-use Rattle.sj_job.specs.Act.{Print}
+use Rattle.std.proofs.Common.{List, [], ◌∷◌, ap, sym, ◌∙◌, arith, subst}
+use Rattle.sj_job.specs.Act.{Print, Statement}
 use Rattle.sj_job.specs.View.{statements_of, IsNumbered}
 use Rattle.sj_job.specs.declared.job.Job.{Job}
 use Rattle.sj_apps.specs.Draft.{product_names, Tells}
 use Rattle.sj_apps.specs.Generated.{factors, gemms, name_C, numbered, first_line, product_acts}
+use Rattle.sj_apps.specs.Solution.{PrintsProduct}
+use Rattle.sj_apps.proofs.Multiplying.{product-printed}
 use Rattle.sj_apps.proofs.Telling.{print-told, whole-told}
 use Rattle.sj_apps.proofs.product.product.Goals as goal
 use Rattle.sj_apps.proofs.product.product.Goals.{In_ok-say}
@@ -21,3 +23,8 @@ pub returns-clause-numbered : goal.returns-clause-numbered
 returns-clause-numbered c =
     let n = (printed_last (goal.at.returns-clause-numbered c).In_ok-say).numbered (c.in_ok-gemms.ensures.tells.numbered c.in_ok-draft.ensures.numbered) in
     subst (λ (job : Job). IsNumbered job.roots job.statements) (sym c.into_job.ensures) (record { placed = n.placed; counted = n.counted })
+
+pub returns-clause-multiplies : goal.returns-clause-multiplies
+returns-clause-multiplies c =
+    let same = returns-clause-statements c in
+    subst (λ (ss : List Statement). PrintsProduct c.args.n c.args.seed ss) (sym same) (product-printed c.args.n c.args.tile c.args.seed c.requires)

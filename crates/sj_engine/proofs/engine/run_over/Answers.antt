@@ -1,10 +1,10 @@
 use Rattle.std.proofs.Common.{rules, ◌≡◌, ◌∙◌, ap}
-use Rattle.sj_machine.specs.Board.{BoardState}
 use Rattle.sj_machine.specs.Preparing.{first_hands}
+use Rattle.sj_engine.specs.declared.noted_board.NotedBoard.{NotedBoard}
 use Rattle.sj_engine.proofs.Seating.{dealt-free}
 use Rattle.sj_engine.proofs.engine.run_over.Goals as goal
 
 pub worked-requires-clause-free : goal.worked-requires-clause-free
 worked-requires-clause-free g c κs within =
-    let hands : c.in-Ok-make.made.0.opening.hands ≡ first_hands c.args.program.now = ap (λ (b : BoardState _). b.hands) c.in-Ok-make.ensures.opening ∙ search rules in
+    let hands : c.in-Ok-make.made.0.opening.board.hands ≡ first_hands c.args.program.now = ap (λ (b : NotedBoard _). b.board.hands) c.in-Ok-make.ensures.opening ∙ search rules in
     dealt-free c.in-Ok-make.made.0 c.args.program.now hands c.in-Ok-make.made.1.items c.in-Ok-make.ensures.seats

@@ -9,7 +9,8 @@ use Rattle.sj_core.specs.Proper.{HasSwapFor, IsMachineFor}
 use Rattle.sj_needs.specs.Shortage.{FitRoom}
 use Rattle.sj_job.specs.View.{job_seen}
 use Rattle.sj_ready.specs.Ready.{IsUnready}
-use Rattle.sj_ready.specs.Work.{Work, WorkOrRefusal, work_of}
+use Rattle.sj_ready.specs.Input.{job_in, work_in}
+use Rattle.sj_ready.specs.Work.{Work, WorkOrRefusal}
 use Rattle.sj_ready.specs.declared.unready.Unready.TheVariants.{Short}
 use Rattle.sj_ready.proofs.Known.{job-in}
 use Rattle.sj_ready.proofs.Refusing.{asked-is, handed, unready-fitting, within}
@@ -20,12 +21,12 @@ returns-in_err-ready-clause-unready g c =
     let has = g.C.Codelets.has in
     let o = c.args.options.now in
     let disks = c.args.disks.items in
-    let text = c.args.text.items in
+    let input = c.args.input in
     let m = c.in_ok-machine.machine in
     let job = job_seen c.in_ok-job.job in
     let w : Work = record { statements = job.statements; machine = m; shows_summary = o.summary; shows_trace = o.trace } in
-    let same = asked-is has o disks text job m c.in_ok-job.ensures.ok c.in_ok-machine.ensures.machine in
-    handed c.from_residual-in_err-ready.result c.in_err-ready.field-0.0 (IsUnready (work_of has o disks text)) c.from_residual-in_err-ready.ensures.1
+    let same = asked-is o disks (job_in has input) job m c.in_ok-job.ensures.ok c.in_ok-machine.ensures.machine in
+    handed c.from_residual-in_err-ready.result c.in_err-ready.field-0.0 (IsUnready (work_in has o disks input)) c.from_residual-in_err-ready.ensures.1
     (subst (λ (a : WorkOrRefusal). IsUnready a c.in_err-ready.field-0.0) same (c.in_err-ready.ensures.unready w refl refl))
 
 pub returns-in_err-fits-clause-unready : goal.returns-in_err-fits-clause-unready
@@ -33,22 +34,22 @@ returns-in_err-fits-clause-unready g c =
     let has = g.C.Codelets.has in
     let o = c.args.options.now in
     let disks = c.args.disks.items in
-    let text = c.args.text.items in
+    let input = c.args.input in
     let m = c.in_ok-machine.machine in
     let job = job_seen c.in_ok-job.job in
     let w : Work = record { statements = job.statements; machine = m; shows_summary = o.summary; shows_trace = o.trace } in
     let r = c.in_ok-ready.ensures in
-    let asked : work_of has o disks text ≡ Ok w = sym (asked-is has o disks text job m c.in_ok-job.ensures.ok c.in_ok-machine.ensures.machine) ∙ within w r.within in
+    let asked : work_in has o disks input ≡ Ok w = sym (asked-is o disks (job_in has input) job m c.in_ok-job.ensures.ok c.in_ok-machine.ensures.machine) ∙ within w r.within in
     let e = c.in_err-fits.field-0.0 in
-    handed c.from_residual-in_err-fits.result (Short e) (IsUnready (work_of has o disks text)) c.from_residual-in_err-fits.ensures.1
-    (unready-fitting (work_of has o disks text) w c.deref-2.result.now c.in_ok-ready.ready.machine e asked (c.deref-2.ensures ∙ r.program) r.machine c.in_err-fits.ensures.shortage)
+    handed c.from_residual-in_err-fits.result (Short e) (IsUnready (work_in has o disks input)) c.from_residual-in_err-fits.ensures.1
+    (unready-fitting (work_in has o disks input) w c.deref-2.result.now c.in_ok-ready.ready.machine e asked (c.deref-2.ensures ∙ r.program) r.machine c.in_err-fits.ensures.shortage)
 
 pub returns-clause-ready : goal.returns-clause-ready
 returns-clause-ready g c =
     let has = g.C.Codelets.has in
     let o = c.args.options.now in
     let disks = c.args.disks.items in
-    let text = c.args.text.items in
+    let input = c.args.input in
     let m = c.in_ok-machine.machine in
     let job = job_seen c.in_ok-job.job in
     let w : Work = record { statements = job.statements; machine = m; shows_summary = o.summary; shows_trace = o.trace } in
@@ -66,7 +67,7 @@ returns-clause-ready g c =
     } in
     record {
       work = w;
-      asked_for = sym (asked-is has o disks text job m c.in_ok-job.ensures.ok limits.machine) ∙ within w r.within;
+      asked_for = sym (asked-is o disks (job_in has input) job m c.in_ok-job.ensures.ok limits.machine) ∙ within w r.within;
       program_is = r.program;
       machine_is = r.machine;
       summary_is = r.summary;

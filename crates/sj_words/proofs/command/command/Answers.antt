@@ -12,5 +12,9 @@ returns c =
     let four = c.in_ok-command-4.ensures ∙ ap (λ (a : App). with_rule a (option_rule (codes "nodes"))) three in
     let five = c.in_ok-command-5.ensures ∙ ap (λ (a : App). with_rule a (option_rule (codes "swap"))) four in
     let six = c.in_ok-command-6.ensures ∙ ap (λ (a : App). with_rule a (option_rule (codes "swap-size"))) five in
-    let seven = c.in_ok-with_flag.ensures ∙ ap (λ (a : App). with_rule a (flag_rule (codes "trace"))) six in
-    IfOk-weaker c.with_flag-2.result _ _ (λ r h. h ∙ ap (λ (a : App). with_rule a (flag_rule (codes "summary"))) seven) c.with_flag-2.ensures
+    let seven = c.in_ok-command-7.ensures ∙ ap (λ (a : App). with_rule a (option_rule (codes "app"))) six in
+    let eight = c.in_ok-command-8.ensures ∙ ap (λ (a : App). with_rule a (option_rule (codes "n"))) seven in
+    let nine = c.in_ok-command-9.ensures ∙ ap (λ (a : App). with_rule a (option_rule (codes "tile"))) eight in
+    let ten = c.in_ok-command-10.ensures ∙ ap (λ (a : App). with_rule a (option_rule (codes "seed"))) nine in
+    let eleven = c.in_ok-with_flag.ensures ∙ ap (λ (a : App). with_rule a (flag_rule (codes "trace"))) ten in
+    IfOk-weaker c.with_flag-2.result _ _ (λ r h. h ∙ ap (λ (a : App). with_rule a (flag_rule (codes "summary"))) eleven) c.with_flag-2.ensures

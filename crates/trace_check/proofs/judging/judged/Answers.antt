@@ -2,7 +2,7 @@ use Rattle.std.proofs.Common.{◌≤◌, ◌^◌, ℕ, List, [], Result, IfErr, 
 use Rattle.std.specs.Prelude.{All}
 use Rattle.std.proofs.lemmas.List.Elements.{All-cons, All-nil}
 use Rattle.sj_minplus.specs.Has.{library_has}
-use Rattle.sj_ready.specs.Work.{work_of}
+use Rattle.sj_ready.specs.Input.{work_in}
 use Rattle.trace_check.specs.Judged.{HasCause, TraceIsWhole}
 use Rattle.trace_check.proofs.judging.judged.Goals as goal
 
@@ -13,12 +13,12 @@ judged_on-requires-clause-small c =
 
 pub returns-clause-legal_and_complete : goal.returns-clause-legal_and_complete
 returns-clause-legal_and_complete c = λ ok.
-    subst (λ (ds : List ℕ). TraceIsWhole (work_of library_has c.args.options.now ds c.args.job.items) c.args.trace.now) c.in_ok-disks.ensures (c.judged_on.ensures.whole ok)
+    subst (λ (ds : List ℕ). TraceIsWhole (work_in library_has c.args.options.now ds c.args.job) c.args.trace.now) c.in_ok-disks.ensures (c.judged_on.ensures.whole ok)
 
 pub returns-clause-cause : goal.returns-clause-cause
 returns-clause-cause c =
-    subst (λ (ds : List ℕ). IfErr c.judged_on.result (HasCause (work_of library_has c.args.options.now ds c.args.job.items) c.args.trace.now)) c.in_ok-disks.ensures c.judged_on.ensures.cause
+    subst (λ (ds : List ℕ). IfErr c.judged_on.result (HasCause (work_in library_has c.args.options.now ds c.args.job) c.args.trace.now)) c.in_ok-disks.ensures c.judged_on.ensures.cause
 
 pub returns-clause-complete : goal.returns-clause-complete
 returns-clause-complete c = λ whole.
-    c.judged_on.ensures.complete (subst (λ (ds : List ℕ). TraceIsWhole (work_of library_has c.args.options.now ds c.args.job.items) c.args.trace.now) (sym c.in_ok-disks.ensures) whole)
+    c.judged_on.ensures.complete (subst (λ (ds : List ℕ). TraceIsWhole (work_in library_has c.args.options.now ds c.args.job) c.args.trace.now) (sym c.in_ok-disks.ensures) whole)

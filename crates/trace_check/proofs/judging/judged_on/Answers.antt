@@ -3,7 +3,8 @@ use Rattle.sj_check.specs.Refusal.{IsRefusal}
 use Rattle.sj_core.specs.Legal.{IsFinished}
 use Rattle.sj_minplus.specs.Has.{library_has}
 use Rattle.sj_ready.proofs.Refusing.{handed}
-use Rattle.sj_ready.specs.Work.{program_of, work_of}
+use Rattle.sj_ready.specs.Input.{work_in}
+use Rattle.sj_ready.specs.Work.{program_of}
 use Rattle.trace_check.specs.Judged.{AreEventsFor, HasCause, IsWantOfMemory}
 use Rattle.trace_check.specs.declared.refusal.JudgeRefusal.TheVariants as refusal
 use Rattle.trace_check.proofs.Causes.{can-be-run, checking-cause, is-run, of-work}
@@ -12,24 +13,24 @@ use Rattle.trace_check.proofs.judging.judged_on.Goals as goal
 
 pub check-requires : goal.check-requires
 check-requires c =
-    record { run = is-run library_has (work_of library_has c.args.options.now c.args.disks.items c.args.job.items) c.in_ok-ready.ready c.in_ok-ready.ensures.ready }
+    record { run = is-run library_has (work_in library_has c.args.options.now c.args.disks.items c.args.job) c.in_ok-ready.ready c.in_ok-ready.ensures.ready }
 
 pub returns-in_err-ready-clause-cause : goal.returns-in_err-ready-clause-cause
 returns-in_err-ready-clause-cause c =
-    let asked = work_of library_has c.args.options.now c.args.disks.items c.args.job.items in
+    let asked = work_in library_has c.args.options.now c.args.disks.items c.args.job in
     let why = c.in_err-ready.field-0.0 in
     handed c.from_residual.result (refusal.Unready why) (HasCause asked c.args.trace.now) c.from_residual.ensures.1 c.in_err-ready.ensures.unready
 
 pub returns-in_err-ready-clause-complete : goal.returns-in_err-ready-clause-complete
 returns-in_err-ready-clause-complete c = λ whole.
-    let asked = work_of library_has c.args.options.now c.args.disks.items c.args.job.items in
+    let asked = work_in library_has c.args.options.now c.args.disks.items c.args.job in
     let why = c.in_err-ready.field-0.0 in
     handed c.from_residual.result (refusal.Unready why) IsWantOfMemory c.from_residual.ensures.1
     (prepared-whole asked c.args.trace.now whole why c.in_err-ready.ensures.unready)
 
 pub returns-in_err-events-clause-cause : goal.returns-in_err-events-clause-cause
 returns-in_err-events-clause-cause c =
-    let asked = work_of library_has c.args.options.now c.args.disks.items c.args.job.items in
+    let asked = work_in library_has c.args.options.now c.args.disks.items c.args.job in
     let r = c.in_ok-ready.ensures in
     let can = can-be-run library_has asked c.in_ok-ready.ready r.ready in
     handed c.from_residual-in_err-events.result c.in_err-events.field-0.0 (HasCause asked c.args.trace.now) c.from_residual-in_err-events.ensures.1
@@ -42,7 +43,7 @@ returns-in_err-events-clause-complete c = λ whole.
 
 pub returns-in_err-check-clause-cause : goal.returns-in_err-check-clause-cause
 returns-in_err-check-clause-cause c =
-    let asked = work_of library_has c.args.options.now c.args.disks.items c.args.job.items in
+    let asked = work_in library_has c.args.options.now c.args.disks.items c.args.job in
     let text = c.args.trace.now in
     let r = c.in_ok-ready.ensures in
     let w = r.ready.work in
@@ -59,7 +60,7 @@ returns-in_err-check-clause-cause c =
 
 pub returns-in_err-check-clause-complete : goal.returns-in_err-check-clause-complete
 returns-in_err-check-clause-complete c = λ whole.
-    let asked = work_of library_has c.args.options.now c.args.disks.items c.args.job.items in
+    let asked = work_in library_has c.args.options.now c.args.disks.items c.args.job in
     let text = c.args.trace.now in
     let r = c.in_ok-ready.ensures in
     let w = r.ready.work in
@@ -72,7 +73,7 @@ returns-in_err-check-clause-complete c = λ whole.
 
 pub returns-clause-whole : goal.returns-clause-whole
 returns-clause-whole c = λ _.
-    let asked = work_of library_has c.args.options.now c.args.disks.items c.args.job.items in
+    let asked = work_in library_has c.args.options.now c.args.disks.items c.args.job in
     let text = c.args.trace.now in
     let r = c.in_ok-ready.ensures in
     let w = r.ready.work in

@@ -1,5 +1,7 @@
 use Rattle.std.proofs.Common.{◌∙◌, ap, subst}
 use Rattle.sj_machine.specs.Board.{BoardState}
+use Rattle.sj_machine.specs.Planning.{IsRefusal, IsWhy}
+use Rattle.sj_machine.specs.Standing.{state}
 use Rattle.sj_base.specs.declared.trace.Event.TheVariants.{Claim}
 use Rattle.sj_engine.specs.Turn.{IsTurnOf}
 use Rattle.sj_engine.proofs.BoardTurns.{happened}
@@ -33,3 +35,10 @@ returns-in-Err-NotNow-clause-event g c = c.put_back.ensures.no_event ∙ ap (λ 
 
 pub returns-in-Err-OutOfMemory-clause-event : goal.returns-in-Err-OutOfMemory-clause-event
 returns-in-Err-OutOfMemory-clause-event g c = c.fail_without_memory.ensures.no_event ∙ c.put_back-in-Err-OutOfMemory.ensures.no_event ∙ ap (λ (k : BoardState g.row.D.Denot). k.run.trace) (c.in-Err-OutOfMemory.ensures.err ∙ c.deref_mut.ensures.value ∙ c.self.view_is)
+
+pub returns-in-Err-NotNow-clause-cannot : goal.returns-in-Err-NotNow-clause-cannot
+returns-in-Err-NotNow-clause-cannot g c = λ nothing. record {
+  why = c.in-Err-NotNow.field-0-0;
+  holds = subst (λ (k : BoardState g.row.D.Denot). IsWhy k.run.program k.run.machine (state k.run) c.args.t c.args.w c.in-Err-NotNow.field-0-0) (c.deref_mut.ensures.value ∙ c.self.view_is)
+      (subst (IsRefusal c.deref_mut.result.now.run.program c.deref_mut.result.now.run.machine (state c.deref_mut.result.now.run) c.args.t c.args.w) c.in-Err-NotNow.field-0-is c.in-Err-NotNow.ensures.why);
+}

@@ -9,7 +9,7 @@ pub returns-clause-turn : goal.returns-clause-turn
 returns-clause-turn g c = λ a only. failed-after g.D.Disk.size g.D.Disk.faults g.D.Disk.mismatches g.D.Disk.held c.args.w a c.args.self.now c.deref_mut.result.now c.fail.new.self c.args.fault (c.deref_mut.ensures.value ∙ c.self.view_is) c.fail.ensures only
 
 pub returns-clause-row : goal.returns-clause-row
-returns-clause-row g c = failed-row g.D.Disk.size g.D.Disk.faults g.D.Disk.mismatches g.D.Disk.held c.args.w c.args.self.now c.deref.result.now c.deref_mut.result.now c.fail.new.self (c.deref.ensures ∙ c.self.view_is) (c.deref_mut.ensures.value ∙ c.self.view_is) c.is_sound.ensures c.requires.worker c.args.fault c.fail.ensures (ap (λ (h : Hand). h.has_stopped) c.requires.moves.hand) (ap (λ (h : Hand). h.given) c.requires.moves.hand)
+returns-clause-row g c = failed-row g.D.Disk.size g.D.Disk.faults g.D.Disk.mismatches g.D.Disk.held c.args.w c.args.self.now c.deref.result.now c.deref_mut.result.now c.fail.new.self (c.deref.ensures ∙ c.self.view_is) (c.deref_mut.ensures.value ∙ c.self.view_is) c.is_sound.ensures c.requires.worker c.args.fault c.fail.ensures (ap (λ (h : Hand). h.has_stopped) c.requires.moves.hand) (ap (λ (h : Hand). h.given) c.requires.moves.hand) (ap (λ (h : Hand). h.unit) c.requires.moves.hand)
 
 pub returns-clause-no_event : goal.returns-clause-no_event
 returns-clause-no_event g c = nothing-happened c.args.self.now c.deref_mut.result.now c.fail.new.self (c.deref_mut.ensures.value ∙ c.self.view_is) (ap (λ (k : BoardState g.row.D.Denot). k.run) c.fail.ensures)

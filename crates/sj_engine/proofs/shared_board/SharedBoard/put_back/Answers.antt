@@ -1,5 +1,5 @@
 use Rattle.std.proofs.Common.{◌∙◌}
-use Rattle.sj_engine.proofs.ClaimTurns.{back-fault, back-row, back-turn, was-given}
+use Rattle.sj_engine.proofs.ClaimTurns.{back-fault, back-pool, back-row, back-turn, was-given}
 use Rattle.std.proofs.Common.{ap}
 use Rattle.sj_machine.specs.Board.{BoardState}
 use Rattle.sj_engine.proofs.BoardTurns.{nothing-happened}
@@ -19,3 +19,6 @@ returns-clause-fault g c = back-fault g.D.Disk.size g.D.Disk.faults g.D.Disk.mis
 
 pub returns-clause-no_event : goal.returns-clause-no_event
 returns-clause-no_event g c = nothing-happened c.args.self.now c.deref_mut.result.now c.give_back.new.self (c.deref_mut.ensures.value ∙ c.self.view_is) (ap (λ (k : BoardState g.row.D.Denot). k.run) c.give_back.ensures)
+
+pub returns-clause-back : goal.returns-clause-back
+returns-clause-back g c = back-pool g.D.Disk.size g.D.Disk.faults g.D.Disk.mismatches g.D.Disk.held c.args.w c.args.self.now c.deref.result.now c.deref_mut.result.now c.give_back.new.self (c.deref.ensures ∙ c.self.view_is) (c.deref_mut.ensures.value ∙ c.self.view_is) c.is_sound.ensures c.requires.worker c.args.t c.requires.given c.give_back.ensures

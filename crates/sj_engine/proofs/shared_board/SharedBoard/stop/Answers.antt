@@ -3,13 +3,14 @@ use Rattle.sj_engine.proofs.BoardTurns.{stopped-row, stopped-turn}
 use Rattle.std.proofs.Common.{ap}
 use Rattle.sj_machine.specs.Board.{BoardState}
 use Rattle.sj_engine.proofs.BoardTurns.{nothing-happened}
+use Rattle.sj_machine.specs.declared.hand.Hand.{Hand}
 use Rattle.sj_engine.proofs.shared_board.SharedBoard.stop.Goals as goal
 
 pub returns-clause-turn : goal.returns-clause-turn
 returns-clause-turn g c = stopped-turn g.D.Disk.size g.D.Disk.faults g.D.Disk.mismatches g.D.Disk.held c.args.w c.args.self.now c.deref_mut.result.now c.stop.new.self (c.deref_mut.ensures.value ∙ c.self.view_is) c.stop.ensures
 
 pub returns-clause-row : goal.returns-clause-row
-returns-clause-row g c = stopped-row g.D.Disk.size g.D.Disk.faults g.D.Disk.mismatches g.D.Disk.held c.args.w c.args.self.now c.deref.result.now c.deref_mut.result.now c.stop.new.self (c.deref.ensures ∙ c.self.view_is) (c.deref_mut.ensures.value ∙ c.self.view_is) c.is_sound.ensures c.requires.worker c.stop.ensures
+returns-clause-row g c = stopped-row g.D.Disk.size g.D.Disk.faults g.D.Disk.mismatches g.D.Disk.held c.args.w c.args.self.now c.deref.result.now c.deref_mut.result.now c.stop.new.self (c.deref.ensures ∙ c.self.view_is) (c.deref_mut.ensures.value ∙ c.self.view_is) c.is_sound.ensures c.requires.worker c.stop.ensures (ap (λ (h : Hand). h.given) c.requires.free) (ap (λ (h : Hand). h.unit) c.requires.free)
 
 pub returns-clause-no_event : goal.returns-clause-no_event
 returns-clause-no_event g c = nothing-happened c.args.self.now c.deref_mut.result.now c.stop.new.self (c.deref_mut.ensures.value ∙ c.self.view_is) (ap (λ (k : BoardState g.row.D.Denot). k.run) c.stop.ensures)

@@ -1,8 +1,19 @@
+use Rattle.std.proofs.Common.{ap, inl, refl}
+use Rattle.sj_base.specs.declared.trace.Event.TheVariants.{Moved}
+use Rattle.sj_engine.specs.declared.noted_board.NotedBoard.{NotedBoard}
+use Rattle.sj_engine.specs.declared.sleepers.Change.TheVariants.{Freed}
+use Rattle.sj_engine.proofs.Minding.{minds-change}
 use Rattle.sj_engine.proofs.DeskTurns.{carried-found, goes-on}
 use Rattle.sj_engine.proofs.workplace.Workplace.arrive.Goals as goal
 
 pub arrive-requires-clause-tile : goal.arrive-requires-clause-tile
-arrive-requires-clause-tile g c = carried-found c.enter-shared.result c.requires.tile c.enter-shared.ensures.own_row c.enter-shared.ensures.key
+arrive-requires-clause-tile g c = carried-found c.enter-noted.result c.requires.tile c.enter-noted.ensures.own_row c.enter-noted.ensures.key
 
 pub returns-clause-events : goal.returns-clause-events
-returns-clause-events g c = goes-on c.requires.moves c.enter-shared.ensures.own_row c.arrive.ensures.turn c.end_turn.ensures
+returns-clause-events g c = goes-on c.enter-noted.result c.requires.moves c.enter-noted.ensures.own_row c.arrive.ensures.turn c.end_turn.ensures.left
+
+pub returns-clause-bell : goal.returns-clause-bell
+returns-clause-bell g c =
+    let left : NotedBoard _ = record { board = c.arrive.new.self; sleepers = c.enter-noted.result.sleepers } in
+    minds-change c.args.seat.now c.enter-noted.new.seat c.end_turn.new.seat c.enter-noted.result left Freed c.enter-noted.ensures.own_row (ap (λ s. s.rings) c.enter-noted.ensures.seat) refl
+    (inl (Moved c.args.x.cell c.args.x.from c.args.x.to, c.arrive.ensures.event, refl)) c.end_turn.ensures.left c.end_turn.ensures.rung

@@ -1,12 +1,14 @@
-use Rattle.sj_engine.specs.Stage.{GoesOn, IsFreeRow}
+use Rattle.sj_engine.specs.Member.{HasHeard, IsRowAt}
+use Rattle.sj_engine.specs.Stage.{GoesOn}
 use Rattle.sj_engine.specs.Workplace.{IsSeated}
 use Rattle.sj_engine.proofs.workplace.Workplace.work.Given as goal
 
--- the worker has nothing in hand
+-- the worker is at this stage
 abbrev pub invariant-loop : goal.invariant-loop
 invariant-loop g l = record {
   can : (goal.iterator-loop g).can_next l.iterator';
   ends : (goal.iterator-loop g).is_finite l.iterator';
-  row : IsSeated l.self IsFreeRow l.seat;
+  row : IsSeated l.self (IsRowAt l.self.worker l.stage) l.seat;
+  heard : HasHeard l.stage l.seat;
   events : GoesOn l.self.worker l.fn.seat l.seat;
 }

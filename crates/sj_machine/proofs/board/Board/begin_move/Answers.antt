@@ -9,6 +9,7 @@ use Rattle.std.specs.Prelude.{OnOk}
 use Rattle.sj_machine.specs.Sparing.{Spares}
 use Rattle.sj_machine.proofs.SparingBoards.{tried-spares}
 use Rattle.sj_machine.proofs.GoneVictims.{knows-tried}
+use Rattle.sj_machine.proofs.UnitHands.{units-tried}
 use Rattle.sj_machine.proofs.board.Board.begin_move.Goals as goal
 
 pub invariant_of-self : goal.invariant_of-self
@@ -19,6 +20,7 @@ invariant_of-self g c =
       board = keeps-tried _ _ _ _ _ _ c.begin_move.result (Move c.args.cell c.args.from c.args.to) _ c.begin_move.ensures.ok c.begin_move.ensures.err (none-caused g.D.Disk.faults g.D.Disk.mismatches g.D.Disk.held c.self.inside.run (with_event c.self.inside.run (Move c.args.cell c.args.from c.args.to)) c.self.inside.fault none) refl c.self.invariant.board;
       ends = stays-tried g.D.Disk.held c.self.inside.run _ _ _ _ c.self.invariant.ends c.begin_move.result (Move c.args.cell c.args.from c.args.to) _ c.begin_move.ensures.ok c.begin_move.ensures.err refl;
       victims = knows-tried _ _ _ _ c.self.inside.run c.is_sound.ensures _ c.self.invariant.victims c.begin_move.result (Move c.args.cell c.args.from c.args.to) can (λ v. tt) _ c.begin_move.ensures.ok c.begin_move.ensures.err;
+      units = units-tried _ _ _ c.begin_move.result (Move c.args.cell c.args.from c.args.to) c.begin_move.ensures.ok c.begin_move.ensures.err c.self.invariant.units;
     }
 
 pub returns-clause-spares : goal.returns-clause-spares

@@ -1,4 +1,4 @@
-use Rattle.std.proofs.Common.{◌≡◌, ◌∙◌, None, ap, subst, sym}
+use Rattle.std.proofs.Common.{refl, ◌≡◌, ◌∙◌, None, ap, subst, sym}
 use Rattle.std.specs.Prelude.{IfErr, OnErr, OnOk, Result}
 use Rattle.sj_base.specs.declared.trace.Event.TheVariants.{Claim}
 use Rattle.sj_machine.specs.Board.{BoardState, IsIdle, WasGiven}
@@ -11,6 +11,7 @@ use Rattle.sj_machine.proofs.Refusing.{lone-refusal}
 use Rattle.sj_machine.proofs.Taking.{keeps-claimed_left, may-claim}
 use Rattle.sj_machine.proofs.SparingBoards.{told-spares}
 use Rattle.sj_machine.proofs.GoneVictims.{knows-claimed}
+use Rattle.sj_machine.proofs.UnitHands.{units-event, units-set}
 use Rattle.sj_machine.proofs.board.Board.claim.Goals as goal
 
 pub claim_plan-requires : goal.claim_plan-requires
@@ -35,6 +36,7 @@ invariant_of-self-2 g c =
       board = keeps-claimed_left _ _ _ _ _ _ _ c.self.invariant.board c.is_sound.ensures c.args.w given.works c.args.t given.given idle.no_task none can _ _ c.in-Ok-claim.ensures.ok c.take.ensures;
       ends = stays-claimed g.D.Disk.held c.self.inside.run _ _ _ _ c.self.invariant.ends _ _ _ c.is_sound.ensures c.args.t c.args.w can _ c.in-Ok-claim.ensures.ok;
       victims = knows-claimed _ _ _ _ c.self.inside.run c.is_sound.ensures _ c.self.invariant.victims c.args.t c.args.w can _ c.in-Ok-claim.ensures.ok _ c.note_gone.ensures;
+      units = units-set _ _ _ _ c.args.w _ c.take.ensures refl (units-event _ _ _ _ c.in-Ok-claim.ensures.ok c.self.invariant.units);
     }
 
 pub returns-clause-can : goal.returns-clause-can

@@ -11,6 +11,7 @@ use Rattle.sj_machine.proofs.SparingBoards.{event-spares}
 use Rattle.sj_base.specs.declared.ids.Node.{Node}
 use Rattle.sj_base.specs.declared.trace.Event.{Event}
 use Rattle.sj_machine.proofs.GoneVictims.{knows-event, knows-found, knows-read}
+use Rattle.sj_machine.proofs.UnitHands.{units-event}
 use Rattle.sj_machine.proofs.board.Board.drop_copy.Goals as goal
 
 pub gone-gone-requires-clause-known : goal.gone-gone-requires-clause-known
@@ -31,6 +32,7 @@ invariant_of-self g c =
       board = keeps-run _ _ _ _ _ _ _ _ c.drop_copy.ensures (dropped-cause g.D.Disk.faults g.D.Disk.mismatches g.D.Disk.held c.self.inside.run c.args.cell c.node_of-n.result c.self.inside.fault c.self.invariant.board.fault) refl c.self.invariant.board;
       ends = stays g.D.Disk.held c.self.inside.run _ _ _ _ c.self.invariant.ends _ _ c.drop_copy.ensures refl;
       victims = knows-found c.drop_copy.new.self c.self.inside.gone.items known c.args.w c.gone-gone.result c.gone-gone.ensures _ c.note_gone.ensures;
+      units = units-event _ _ _ _ c.drop_copy.ensures c.self.invariant.units;
     }
 
 pub returns-clause-spares : goal.returns-clause-spares

@@ -1,4 +1,4 @@
-use Rattle.std.proofs.Common.{◌∙◌, ap, subst, sym}
+use Rattle.std.proofs.Common.{refl, ◌∙◌, ap, subst, sym}
 use Rattle.sj_base.specs.declared.trace.Event.TheVariants.{End}
 use Rattle.sj_machine.specs.Board.{BoardState, HasTask}
 use Rattle.sj_machine.specs.Delivered.{gift_in}
@@ -8,6 +8,7 @@ use Rattle.sj_machine.proofs.TaskEnding.{ends-can, ends-left, ends-ready, ends-t
 use Rattle.sj_machine.specs.Sparing.{Spares}
 use Rattle.sj_machine.proofs.SparingBoards.{event-spares}
 use Rattle.sj_machine.proofs.GoneVictims.{knows-event}
+use Rattle.sj_machine.proofs.UnitHands.{units-event, units-set}
 use Rattle.sj_machine.proofs.board.Board.end.Goals as goal
 
 pub release-requires-clause-ready : goal.release-requires-clause-ready
@@ -45,6 +46,7 @@ invariant_of-self g c =
       board = ends-left _ _ _ _ _ _ _ c.self.invariant.board c.is_sound.ensures c.args.w r.works c.args.t r.task can _ _ _ _ _ _ (gift_in c.self.inside.gifts c.args.w) (c.program.ensures ∙ ap (λ (x : Standing _). x.program) c.end.ensures) c.end.ensures c.let_go.ensures c.release.ensures.deps c.release.ensures.pool c.hand_over.ensures.pairs;
       ends = ends g.D.Disk.held c.self.inside.run _ _ _ _ c.self.invariant.ends _ _ _ c.is_sound.ensures c.args.t c.args.w can _ c.end.ensures _ c.hand_over.ensures.pairs _ c.hand_over.ensures.gifts _ c.hand_over.ensures.room;
       victims = knows-event _ _ _ _ c.self.inside.run c.is_sound.ensures _ c.self.invariant.victims (End c.args.t c.args.w) can (λ v. tt) _ c.end.ensures;
+      units = units-set _ _ _ _ c.args.w _ c.let_go.ensures refl (units-event _ _ _ _ c.end.ensures c.self.invariant.units);
     }
 
 pub returns-clause-ends : goal.returns-clause-ends

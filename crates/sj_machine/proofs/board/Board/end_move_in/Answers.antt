@@ -6,6 +6,7 @@ use Rattle.sj_machine.proofs.Boarding.{keeps-moved}
 use Rattle.sj_machine.specs.Sparing.{SparesMoved}
 use Rattle.sj_machine.proofs.SparingBoards.{moved-spares}
 use Rattle.sj_machine.proofs.GoneVictims.{knows-moved}
+use Rattle.sj_machine.proofs.UnitHands.{units-moved}
 use Rattle.sj_machine.proofs.board.Board.end_move_in.Goals as goal
 
 pub invariant_of-self : goal.invariant_of-self
@@ -15,6 +16,7 @@ invariant_of-self g c =
       board = keeps-moved _ _ _ _ _ _ c.args.w _ (λ x. is_node x.to ≡ true) under_way c.end_move_in.ensures c.self.invariant.board;
       ends = stays-moved g.D.Disk.held c.self.inside.run _ _ _ _ c.self.invariant.ends c.args.w _ (λ x. is_node x.to ≡ true) under_way c.end_move_in.ensures;
       victims = knows-moved _ _ _ _ c.self.inside.run c.is_sound.ensures _ c.self.invariant.victims c.args.w _ (λ x. is_node x.to ≡ true) under_way c.end_move_in.ensures;
+      units = units-moved c.self.inside.run c.end_move_in.new.self c.self.inside.hands.items c.args.w (λ x. is_node x.to ≡ true) under_way c.end_move_in.ensures c.self.invariant.units;
     }
 
 pub returns-clause-spares : goal.returns-clause-spares

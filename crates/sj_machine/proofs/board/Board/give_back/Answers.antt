@@ -1,7 +1,8 @@
-use Rattle.std.proofs.Common.{◌<◌, length, subst, sym}
+use Rattle.std.proofs.Common.{refl, ◌<◌, length, subst, sym}
 use Rattle.sj_base.specs.declared.program.Program.{Program}
 use Rattle.sj_machine.specs.Board.{BoardState, WasGiven}
 use Rattle.sj_machine.proofs.Giving.{back-absent, back-known, back-task, keeps-back_left}
+use Rattle.sj_machine.proofs.UnitHands.{units-set}
 use Rattle.sj_machine.proofs.board.Board.give_back.Goals as goal
 
 pub put_ready-requires-clause-task : goal.put_ready-requires-clause-task
@@ -22,4 +23,4 @@ put_ready-requires-clause-known_task g c =
 pub invariant_of-self : goal.invariant_of-self
 invariant_of-self g c =
     let r = subst (λ (b : BoardState _). WasGiven b c.args.w c.args.t) (sym c.self.view_is) c.requires.given in
-    record { board = keeps-back_left _ _ _ _ _ _ c.self.invariant.board c.args.w r.works.known c.args.t r.given _ _ _ c.program.ensures c.give.ensures c.put_ready.ensures; ends = c.self.invariant.ends; victims = c.self.invariant.victims }
+    record { board = keeps-back_left _ _ _ _ _ _ c.self.invariant.board c.args.w r.works.known c.args.t r.given _ _ _ c.program.ensures c.give.ensures c.put_ready.ensures; ends = c.self.invariant.ends; victims = c.self.invariant.victims; units = units-set _ _ _ _ c.args.w _ c.give.ensures refl c.self.invariant.units }

@@ -9,4 +9,5 @@ returns g c = subst (λ (b : BoardState _). IsSoundBoard g.D.Disk.size g.D.Disk.
   fault = c.self.invariant.board.fault;
   inside = c.self.invariant.board.inside;
   delivered = c.self.invariant.ends.delivered;
+  units = c.self.invariant.units;
 })

@@ -1,10 +1,13 @@
-use Rattle.std.proofs.Common.{◌<◌, ap, arith, rules, subst}
+use Rattle.std.proofs.Common.{◌<◌, ap, arith, length, rules, subst, sym}
 use Rattle.sj_base.specs.declared.program.Program.{Program}
 use Rattle.sj_machine.specs.Delivered.{Deliveries}
 use Rattle.sj_machine.specs.Preparing.{IsPrepared, IsReadyToDeliver}
 use Rattle.sj_machine.proofs.BoardEnds.{opens-run}
 use Rattle.sj_machine.proofs.Opening.{opens-with}
 use Rattle.sj_machine.proofs.GoneVictims.{knows-none}
+use Rattle.sj_machine.proofs.UnitHands.{units-first}
+use Rattle.sj_machine.specs.Standing.{Standing}
+use Rattle.sj_machine.specs.Units.{UnitsStand}
 use Rattle.sj_machine.proofs.board.Board.make.Goals as goal
 
 pub invariant_of-result : goal.invariant_of-result
@@ -16,4 +19,5 @@ invariant_of-result g c =
       board = opens-with _ _ _ c.args.program.value c.args.machine c.args.disks some _ _ _ _ _ c.in-Ok.parts.delivered.pairs (ap (λ (x : Deliveries). x.pairs) delivers.none) c.in-Ok-make.ensures.ok parts;
       ends = opens-run g.D.Disk.held c.args.program.value c.args.machine c.args.disks _ c.in-Ok-make.ensures.ok _ _ delivers _ (search rules);
       victims = knows-none c.args.program.value c.args.machine c.args.disks _ c.in-Ok-make.ensures.ok c.deref-2.result.now.workers (ap (λ (p : Program). p.workers) c.deref-2.ensures) c.in-Ok-none_gone.gone.items c.in-Ok-none_gone.ensures;
+      units = subst (λ (r : Standing _). UnitsStand r.disks r.out c.in-Ok.parts.hands.items) (sym c.in-Ok-make.ensures.ok) (units-first c.args.program.value c.args.disks (length c.args.disks.disks) c.in-Ok.parts.hands.items parts.hands_are);
     }

@@ -8,6 +8,7 @@ use Rattle.sj_machine.proofs.BoardEnds.{begins}
 use Rattle.sj_machine.proofs.SparingBoards.{told-spares}
 use Rattle.sj_machine.proofs.Starting.{keeps-begun_left}
 use Rattle.sj_machine.proofs.GoneVictims.{knows-tried}
+use Rattle.sj_machine.proofs.UnitHands.{units-tried}
 use Rattle.sj_machine.proofs.board.Board.run.Goals as goal
 
 pub invariant_of-self : goal.invariant_of-self
@@ -23,6 +24,7 @@ invariant_of-self-2 g c =
       board = keeps-begun_left _ _ _ _ _ _ c.self.invariant.board none c.args.t c.args.w can c.run.result _ c.run.ensures.ok c.run.ensures.err;
       ends = begins g.D.Disk.held c.self.inside.run _ _ _ _ c.self.invariant.ends _ _ _ c.is_sound.ensures c.args.t c.args.w can (array_in c.in_ok-gift.gift) c.in_ok-gift.ensures _ c.in_ok-frame.ensures.ok _ c.keep.ensures;
       victims = knows-tried _ _ _ _ c.self.inside.run c.is_sound.ensures _ c.self.invariant.victims c.run.result (Run c.args.t c.args.w) can (λ v. tt) _ c.run.ensures.ok c.run.ensures.err;
+      units = units-tried _ _ _ c.run.result (Run c.args.t c.args.w) c.run.ensures.ok c.run.ensures.err c.self.invariant.units;
     }
 
 pub returns-clause-spares : goal.returns-clause-spares

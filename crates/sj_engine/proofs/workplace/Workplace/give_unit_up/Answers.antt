@@ -1,0 +1,15 @@
+use Rattle.std.proofs.Common.{ap, inr, refl}
+use Rattle.sj_engine.specs.declared.noted_board.NotedBoard.{NotedBoard}
+use Rattle.sj_engine.specs.declared.sleepers.Change.TheVariants.{Freed}
+use Rattle.sj_engine.proofs.Minding.{minds-change, over-by_fault}
+use Rattle.sj_engine.proofs.DeskTurns.{goes-on}
+use Rattle.sj_engine.proofs.workplace.Workplace.give_unit_up.Goals as goal
+
+pub returns-clause-events : goal.returns-clause-events
+returns-clause-events g c = goes-on c.enter-noted.result c.requires.holds c.enter-noted.ensures.own_row c.give_unit_up.ensures.turn c.end_turn.ensures.left
+
+pub returns-clause-bell : goal.returns-clause-bell
+returns-clause-bell g c =
+    let left : NotedBoard _ = record { board = c.give_unit_up.new.self; sleepers = c.enter-noted.result.sleepers } in
+    minds-change c.args.seat.now c.enter-noted.new.seat c.end_turn.new.seat c.enter-noted.result left Freed c.enter-noted.ensures.own_row (ap (λ s. s.rings) c.enter-noted.ensures.seat) refl
+    (inr (over-by_fault c.give_unit_up.new.self c.give_unit_up.ensures.fault)) c.end_turn.ensures.left c.end_turn.ensures.rung

@@ -1,0 +1,51 @@
+-- Workers between two stretches of their work: how far each is, and where it works.
+use Rattle.std.specs.Prelude.{◌≡◌, ◌<◌, Bool, true, false, is_some}
+use Rattle.sj_base.specs.declared.program.Program.{Program}
+use Rattle.sj_base.specs.declared.ids.Worker.{Worker}
+use Rattle.sj_codelet.specs.declared.kernel.Kernel.{Kernel}
+use Rattle.sj_core.specs.Laws.{IsLawful}
+use Rattle.sj_core.specs.Proper.{Proper}
+use Rattle.sj_desk.specs.Seats.{DeskFacts, SeatFacts}
+use Rattle.sj_machine.specs.BoardRow.{BoardRow}
+use Rattle.sj_engine.specs.Run.{worker_at}
+use Rattle.sj_engine.specs.Stage.{HasClaimedRow, IsAt, IsFreeRow, IsStoppedRow}
+use Rattle.sj_engine.specs.declared.member.Member.{Member}
+use Rattle.sj_engine.specs.declared.member.Stage.{Stage}
+use Rattle.sj_engine.specs.declared.member.Stage.TheVariants.{Fresh, Idle, Blocked, Stopped}
+use Rattle.sj_engine.specs.declared.noted_board.NotedBoard.{NotedBoard}
+
+-- the row of a worker at this stage
+abbrev pub IsRowAt : {D : Type 0} → Worker → Stage → BoardRow D → Type 0
+IsRowAt w Fresh r = IsFreeRow r
+IsRowAt w Idle r = IsFreeRow r
+IsRowAt w (Blocked t) r = HasClaimedRow w t r
+IsRowAt w Stopped r = IsStoppedRow r
+
+-- the worker has looked and can't go on: it rests next
+abbrev pub may_rest : Stage → Bool
+may_rest Idle = true
+may_rest (Blocked t) = true
+may_rest _ = false
+
+module _ {D : Type 0} where
+  -- where the worker can't go on, its seat has heard the bell since
+  abbrev pub HasHeard : Stage → SeatFacts (NotedBoard D) → Type 0
+  HasHeard stage s = may_rest stage ≡ true → is_some s.heard ≡ true
+
+  -- a worker of the desk: its row is that of its stage, and where it can't go on it has heard the bell
+  pub record IsMember (desk : DeskFacts (NotedBoard D)) (m : Member D) : Type 0 where
+    pub known : m.seat.number < desk.seats
+    pub row : IsAt desk (worker_at m.seat.number) (IsRowAt (worker_at m.seat.number) m.stage) m.seat
+    pub heard : HasHeard m.stage m.seat
+
+  -- a seat of the desk whose worker left such a row
+  pub record IsSeatOf (desk : DeskFacts (NotedBoard D)) (P : BoardRow D → Type 0) (s : SeatFacts (NotedBoard D)) : Type 0 where
+    pub known : s.number < desk.seats
+    pub row : IsAt desk (worker_at s.number) P s
+
+  -- the program is that of the desk's board, with a seat for each of its workers
+  pub record MayWork (has : Kernel → Bool) (p : Program) (desk : DeskFacts (NotedBoard D)) : Type 0 where
+    pub program : desk.opening.board.run.program ≡ p
+    pub workers : desk.seats ≡ p.workers
+    pub proper : Proper p
+    pub lawful : IsLawful has p

@@ -1,0 +1,15 @@
+-- The board as it passes through the desk, as the desk sees it.
+use Rattle.std.specs.Prelude.{ℕ, Option, List}
+use Rattle.sj_machine.specs.BoardRow.{BoardKey, BoardRow, key_of, row_of_number}
+use Rattle.sj_engine.specs.Turn.{IsSharedSound}
+use Rattle.sj_engine.specs.declared.noted_board.NotedBoard.{NotedBoard}
+
+module _ {D : Type 0} where
+  abbrev pub noted_key : NotedBoard D → BoardKey D
+  noted_key v = key_of v.board
+
+  abbrev pub noted_row : NotedBoard D → ℕ → BoardRow D
+  noted_row v n = row_of_number v.board n
+
+  abbrev pub IsNotedSound : (D → ℕ) → (D → ℕ) → (D → ℕ) → (D → Option (List ℕ)) → NotedBoard D → Type 0
+  IsNotedSound size faults mismatches held v = IsSharedSound size faults mismatches held v.board

@@ -1,0 +1,40 @@
+//! A worker with its seat, and how far it is between two stretches of its work.
+
+ghost use Rattle.std.specs.Prelude.{◌≡◌};
+ghost use Rattle.sj_engine.specs.Member.{may_rest};
+
+use crate::workplace::BoardSeat;
+use sj_base::ids::Task;
+use sj_edge::disk::Disk;
+
+/// How far a worker is between two stretches of its work.
+#[derive(Clone, Copy, Debug, PartialEq, Eq)]
+pub enum Stage {
+    /// It has nothing in hand, and is to look for a task.
+    Fresh,
+    /// It has nothing in hand, found nothing that it could claim, and has heard the bell.
+    Idle,
+    /// It has claimed this task, waits for another worker, and has heard the bell.
+    Blocked(Task),
+    /// It has stopped.
+    Stopped,
+}
+
+impl Stage {
+    /// Whether the worker has looked and can't go on.
+    pub fn may_rest(&self) -> bool
+        ensures { result ≡ may_rest self.now }
+    {
+        match self {
+            Stage::Idle | Stage::Blocked(_) => true,
+            Stage::Fresh | Stage::Stopped => false,
+        }
+    }
+}
+
+/// A worker with its seat.
+#[derive(Drop)]
+pub struct Member<D: Disk> {
+    pub seat: BoardSeat<D>,
+    pub stage: Stage,
+}

@@ -1,0 +1,7 @@
+//! The text of a lowered program, and the words that it is made of.
+#![tactic(auto)]
+
+pub mod program;
+#[cfg(test)]
+mod tests;
+pub mod words;

@@ -1,0 +1,189 @@
+//! The one queue of the policy `eager`, under a rule that each step keeps, and one function for each kind of step.
+
+ghost use Rattle.std.specs.Prelude.{◌≡◌, ◌<◌, [], IfOk, IfSome, IfNone, OnOk, OnErr};
+ghost use Rattle.sj_steal.specs.Account.{account, after_put, after_take, after_deal, as_one, Balances, Knows};
+
+use crate::account::Account;
+use crossbeam_queue::protocol::{Join, Lesson, Outcome, Protocol, Split};
+use crossbeam_queue::{RuledSegQueue, SegPass};
+use sj_base::ids::Task;
+use sj_base::memory::OutOfMemory;
+use std::alloc::Global;
+use std::marker::Model;
+use std::sync::Wait;
+
+/// Each task comes out as often as it went in.
+pub struct Fair;
+
+impl Protocol<Task, Account> for Fair {
+    ghost use Rattle.std.specs.Prelude.{[]};
+    ghost use Rattle.sj_steal.specs.Account.{account, IsFair};
+
+    ghost holds = { IsFair };
+
+    ghost first = { account 256 [] [] };
+}
+
+struct Cut;
+
+impl Split<Account> for Cut {
+    ghost use Rattle.std.specs.Prelude.{[]};
+    ghost use Rattle.sj_steal.specs.Account.{account, after_deal};
+
+    ghost left = { after_deal };
+
+    ghost right = { λ v. account 1 [] [] };
+}
+
+struct Unite;
+
+impl Join<Account> for Unite {
+    ghost use Rattle.std.specs.Prelude.{[]};
+    ghost use Rattle.sj_steal.specs.Account.{account, as_one};
+
+    ghost both = { as_one };
+
+    ghost spent = { account 0 [] [] };
+}
+
+struct Puts;
+
+impl Outcome<Task, Account> for Puts {
+    ghost use Rattle.std.specs.Prelude.{◌≡◌};
+    ghost use Rattle.sj_steal.specs.Account.{after_put};
+
+    ghost then = { λ v t w. w ≡ after_put v t };
+}
+
+struct Takes;
+
+impl Outcome<Task, Account> for Takes {
+    ghost use Rattle.std.specs.Prelude.{◌≡◌};
+    ghost use Rattle.sj_steal.specs.Account.{after_take};
+
+    ghost then = { λ v t w. w ≡ after_take v t };
+}
+
+impl Lesson<Task, Account> for Takes {
+    ghost use Rattle.sj_steal.specs.Account.{Knows};
+
+    ghost fact = { Knows };
+}
+
+/// The queue.
+pub struct Lane {
+    queue: RuledSegQueue<Task, Account, Fair>,
+}
+
+impl Model for Lane {
+    ghost use Rattle.crossbeam_queue.specs.SegTies.{SegId};
+    ghost use Rattle.std.specs.declared.alloc.Global.{Global};
+
+    ghost Value = { SegId Global };
+
+    ghost view = { λ l. l.queue };
+}
+
+impl Drop for Lane {
+    fn drop(self) {
+        let Self { queue } = self;
+        queue.destroy();
+    }
+}
+
+/// What one worker has put into a queue and taken out of it. It has no bytes.
+#[derive(Drop)]
+pub struct Stake {
+    pass: SegPass<Task, Account>,
+}
+
+impl Model for Stake {
+    ghost use Rattle.std.specs.Prelude.{◌≡◌, None};
+    ghost use Rattle.sj_steal.specs.Facts.{StakeFacts};
+
+    ghost Value = { StakeFacts };
+
+    ghost view = { λ s. record { lane = record { web = s.pass.web; heap = s.pass.heap }; account = s.pass.me.view.client } };
+
+    ghost invariant = { λ s. (s.pass.me.hand ≡ None) × (s.pass.me.spare ≡ None) };
+}
+
+impl Lane {
+    /// An empty queue, and a pass with every part.
+    pub fn open(alloc: Global) -> Result<(Lane, Stake), OutOfMemory>
+        ensures of { IfOk result (λ r. r.1.lane ≡ r.0) }
+        ensures first { IfOk result (λ r. r.1.account ≡ account 256 [] []) }
+    {
+        let (queue, pass) = RuledSegQueue::with_rule(alloc)?;
+        Ok((Lane { queue }, Stake { pass }))
+    }
+
+    /// One more pass, with one part of another's.
+    pub fn deal(&self, stake: &mut Stake) -> Stake
+        requires of { stake.old.lane ≡ self.now }
+        requires parts { 1 < stake.old.account.parts }
+        ensures of { (stake.new.lane ≡ self.now) × (result.lane ≡ self.now) }
+        ensures left { stake.new.account ≡ after_deal stake.old.account }
+        ensures right { result.account ≡ account 1 [] [] }
+    {
+        let pass = self.queue.another::<Cut>(&mut stake.pass);
+        Stake { pass }
+    }
+
+    /// Puts a task at the back.
+    pub fn put<R: Wait>(&self, rt: &R, stake: &mut Stake, t: Task) -> Result<(), OutOfMemory>
+        requires of { stake.old.lane ≡ self.now }
+        requires parts { 0 < stake.old.account.parts }
+        ensures of { stake.new.lane ≡ self.now }
+        ensures ok { OnOk result (stake.new.account ≡ after_put stake.old.account t) }
+        ensures err { OnErr result (stake.new.account ≡ stake.old.account) }
+    {
+        match self.queue.push_as::<Puts, R>(rt, &mut stake.pass, t) {
+            Ok(()) => Ok(()),
+            Err(_) => Err(OutOfMemory),
+        }
+    }
+
+    /// Takes the task at the front.
+    pub fn take<R: Wait>(&self, rt: &R, stake: &mut Stake) -> Option<Task>
+        requires of { stake.old.lane ≡ self.now }
+        requires parts { 0 < stake.old.account.parts }
+        ensures of { stake.new.lane ≡ self.now }
+        ensures some { IfSome result (λ t. stake.new.account ≡ after_take stake.old.account t) }
+        ensures none { IfNone result (stake.new.account ≡ stake.old.account) }
+        ensures empty { IfNone result (Knows stake.old.account []) }
+    {
+        self.queue.pop_as::<Takes, R>(rt, &mut stake.pass)
+    }
+
+    /// Gives all that a pass has to another.
+    pub fn gather(&self, stake: &mut Stake, other: Stake)
+        requires of { (stake.old.lane ≡ self.now) × (other.lane ≡ self.now) }
+        requires parts { 0 < stake.old.account.parts }
+        ensures of { stake.new.lane ≡ self.now }
+        ensures both { stake.new.account ≡ as_one stake.old.account other.account }
+    {
+        self.queue.absorb::<Unite>(&mut stake.pass, other.pass);
+    }
+}
+
+/// Takes what is left in a queue, by a pass with every part.
+pub fn drain<R: Wait>(
+    rt: &R,
+    alloc: Global,
+    lane: Lane,
+    mut stake: Stake,
+) -> Result<Vec<Task>, OutOfMemory>
+    requires of { stake.lane ≡ lane }
+    requires parts { stake.account.parts ≡ 256 }
+    ensures { IfOk result (λ left. Balances stake.account left.items) }
+{
+    let mut left = Vec::new(alloc);
+    for _ in rt.forever() {
+        let Some(t) = lane.take(rt, &mut stake) else {
+            return Ok(left);
+        };
+        left.push(t)?;
+    }
+    unreachable!()
+}

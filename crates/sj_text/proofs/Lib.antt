@@ -1,0 +1,3 @@
+pub mod Active
+pub mod Told
+pub mod Words

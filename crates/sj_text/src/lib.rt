@@ -1,0 +1,9 @@
+//! The canonical text of a job.
+#![tactic(auto)]
+
+mod act;
+mod array;
+mod plans;
+mod settings;
+mod task;
+pub mod text;
