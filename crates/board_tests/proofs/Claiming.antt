@@ -94,3 +94,26 @@ module _ {D : Type 0} (size faults mismatches : D → ℕ) (held : D → Option 
     fault = ap (λ (k : BoardState D). k.fault) claims ∙ ap (λ (k : BoardState D). k.fault) gives;
     opened = ap (λ (k : BoardState D). k.run.opened) claims ∙ ap (λ (k : BoardState D). k.run.opened) gives;
   }
+
+-- a worker that was only given a task has done something alone
+module _ {D : Type 0} (b y : BoardState D) (w : Worker) (o : Option Task) (gives : y ≡ given_from b w o y.pool) where
+  hand-given : (v : Worker) → v ≢ w → hand_of y v ≡ hand_of b v
+  hand-given v d =
+      ap (λ (k : BoardState D). hand_of k v) gives
+      ∙ get_or-set_other b.hands w.0 v.0 (record (hand_of b w) { given = o }) empty_hand (λ e. d (ap (λ (n : ℕ). let u : Worker = record { 0 = n } in u) e))
+
+  pub is-given : IsStepOf w b y
+  is-given = record {
+    others = λ v d f. record {
+      idle = record {
+        works = record {
+          known = subst (λ (k : BoardState D). v.0 < k.run.program.workers) (sym gives) f.idle.works.known;
+          goes_on = ap (λ (h : Hand). h.has_stopped) (hand-given v d) ∙ f.idle.works.goes_on;
+        };
+        no_task = ap (λ (h : Hand). h.task) (hand-given v d) ∙ f.idle.no_task;
+      };
+      none_given = ap (λ (h : Hand). h.given) (hand-given v d) ∙ f.none_given;
+    };
+    fault = ap (λ (k : BoardState D). k.fault) gives;
+    opened = ap (λ (k : BoardState D). k.run.opened) gives;
+  }

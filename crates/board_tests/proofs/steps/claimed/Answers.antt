@@ -1,5 +1,7 @@
 use Rattle.std.proofs.Common.{◌<◌, subst, sym}
-use Rattle.board_tests.proofs.Claiming.{claims-it, is-step}
+use Rattle.sj_machine.specs.Board.{BoardState}
+use Rattle.board_tests.proofs.Claiming.{claims-it, is-given, is-step}
+use Rattle.board_tests.specs.Steps.{IsStepOf}
 use Rattle.board_tests.proofs.steps.claimed.Goals as goal
 
 pub returns-in-Ok-clause-claims : goal.returns-in-Ok-clause-claims
@@ -11,3 +13,7 @@ returns-in-Ok-clause-claims g c =
 pub returns-in-Ok-clause-alone : goal.returns-in-Ok-clause-alone
 returns-in-Ok-clause-alone g c =
     is-step g.D.Disk.size g.D.Disk.faults g.D.Disk.mismatches g.D.Disk.held c.args.board.now c.next.new.self c.claim.new.self c.args.w c.in-Some.t c.is_sound-2.ensures c.requires.free c.requires.no_fault c.next.result c.next.ensures.given c.in-Ok.ensures.can c.in-Ok.ensures.ok
+
+pub returns-in-Err-clause-alone : goal.returns-in-Err-clause-alone
+returns-in-Err-clause-alone g c =
+    subst (λ (k : BoardState _). IsStepOf c.args.w c.args.board.now k) (sym c.in-Err.ensures.err) (is-given c.args.board.now c.next.new.self c.args.w c.next.result c.next.ensures.given)
