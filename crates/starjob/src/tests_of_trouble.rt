@@ -10,7 +10,7 @@ use crate::tests_of_machines::{ROUND, ROUND_OUT, ROUND_SWAP};
 use crate::top::AnyDisk;
 use sj_base::ids::{DiskNo, Task};
 use sj_disk::header::Header;
-use sj_edge::disk::{CheckFault, Disk, add_disk};
+use sj_edge::disk::{CheckFault, Disk};
 use sj_edge::file_disk::FileDisk;
 use sj_edge::gate::{Gate, OpenGate};
 use sj_edge::memory_disk::MemDisk;
@@ -280,72 +280,6 @@ fn a_disk_that_lies_is_damaged(rt: HostRuntime) -> Result<(), Fail> {
             found: header(damage.found),
         };
         is_answered(&rt, &answer, damaged, "", "a lie");
-    }
-    Ok(())
-}
-
-/// A disk of one byte that answers each read with its name.
-#[derive(Drop)]
-struct NamedDisk {
-    name: u8,
-}
-
-impl Disk for NamedDisk {
-    ghost size = { λ _. 1 };
-
-    ghost held = { λ _. None };
-
-    ghost faults = { λ _. 0 };
-
-    ghost mismatches = { λ _. 0 };
-
-    fn size(&self) -> u64 {
-        1
-    }
-
-    fn read(&mut self, _at: u64, buf: &mut [u8]) -> Result<(), Failed> {
-        buf.fill(self.name);
-        Ok(())
-    }
-
-    fn write(&mut self, _at: u64, _bytes: &[u8]) -> Result<(), Failed> {
-        Ok(())
-    }
-
-    fn check(&mut self, _at: u64, _want: &[u8; 24]) -> Result<(), CheckFault> {
-        Ok(())
-    }
-}
-
-/// What a disk answers where its first byte is read.
-fn name_of<D: Disk>(disk: &mut D) -> u8 {
-    let mut name = [0];
-    if disk.size() > 0 {
-        let _ = disk.read(0, &mut name);
-    }
-    name[0]
-}
-
-// The first block lies on the second disk: its header begins with the number of x, which is 0.
-#[test]
-fn disks_of_several_kinds_come_back_in_their_order(rt: HostRuntime) -> Result<(), Fail> {
-    let alloc = rt.alloc();
-    for workers in ["1", "4"] {
-        let mut disks = one(alloc, Box::new(alloc, NamedDisk { name: 7 })?)?;
-        add_disk(
-            &mut disks,
-            Box::new(alloc, memory(alloc, ROUND_SWAP, &[])?)?,
-        )?;
-        add_disk(&mut disks, Box::new(alloc, NamedDisk { name: 9 })?)?;
-        let words = ["--workers", workers, "--node", "48"];
-        let text = ROUND.as_bytes();
-        let mut answer = answer_on(&rt, alloc, &words, text, disks, &OpenGate)?;
-        is_answered(&rt, &answer, Status::Done, ROUND_OUT, workers);
-        let mut names = Vec::new(alloc);
-        for disk in answer.outcome.disks.iter_mut() {
-            names.push(name_of(disk))?;
-        }
-        same(&rt, names.as_slice(), [7, 0, 9].as_slice());
     }
     Ok(())
 }
