@@ -1,6 +1,6 @@
 -- A free worker that is given a task and claims it has claimed it.
-use Rattle.std.proofs.Common.{◌≡◌, ◌≢◌, ℕ, ◌<◌, ◌∙◌, ◌||◌, Bool, List, Option, None, Some, false, true, ap, length, refl, subst, sym}
-use Rattle.std.proofs.lemmas.Bool.{false≢true}
+use Rattle.std.proofs.Common.{◌≡◌, ◌≢◌, ℕ, ◌<◌, ◌∙◌, List, Option, None, Some, false, true, ap, length, refl, subst, sym}
+use Rattle.std.proofs.lemmas.Bool.{or_left}
 use Rattle.std.proofs.lemmas.List.{get_or-set_other, get_or-set_same}
 use Rattle.sj_base.specs.declared.ids.Task.{Task}
 use Rattle.sj_base.specs.declared.ids.Worker.{Worker}
@@ -40,16 +40,12 @@ module _ {D : Type 0} (size faults mismatches : D → ℕ) (held : D → Option 
   now : state z.run ≡ after y.run.program y.run.machine (state y.run) (Claim t w)
   now = ap (λ (k : BoardState D). state k.run) claims ∙ state_of-more y.run.program y.run.machine y.run.trace (Claim t w)
 
-  or-left : (a c : Bool) → a ≡ true → (a || c) ≡ true
-  or-left true c h = refl
-  or-left false c h = absurd (false≢true h)
-
   -- a worker without a task has no transfer under way
   none-moves : (hand_of y w).task ≡ None → (o : Option Transfer) → transfer (state y.run) w ≡ o → transfer (state y.run) w ≡ None
   none-moves no_task None e = e
   none-moves no_task (Some x) e =
       let own = sound.run.coherent.workers.moves_for_claim w x e in
-      let has : is_task_of w (progress (state y.run) own.0) ≡ true = or-left (is_claimed_by w (progress (state y.run) own.0)) (is_running_on w (progress (state y.run) own.0)) own.1 in
+      let has : is_task_of w (progress (state y.run) own.0) ≡ true = or_left (is_claimed_by w (progress (state y.run) own.0)) (is_running_on w (progress (state y.run) own.0)) own.1 in
       let two = sym no_task ∙ sound.inside.hands_agree.tells kept w own.0 has in
       absurd (let k : ◌≡◌ {A = Option Task} None (Some own.0) = two in cc)
 

@@ -72,7 +72,8 @@ pub fn tried<D: Disk>(
 fn filled(program: &Program, t: Task) -> Option<Dims>
     ensures reads_none { IfSome result (λ _. read_among (task_of program.now t).accesses ≡ []) }
     ensures writes_one { IfSome result (λ dims.
-        map (λ a. dims_of program.now a.cell) (written_operands (task_of program.now t)) ≡ dims ∷ []) }
+        map (λ a. dims_of program.now a.cell) (written_operands (task_of program.now t))
+        ≡ dims ∷ []) }
     ensures small { IfSome result (λ dims. area dims ≤ 2 ^ 24) }
 {
     let accesses = program.tasks.items().get(t.0 as usize)?.accesses.items();
@@ -86,8 +87,8 @@ fn filled(program: &Program, t: Task) -> Option<Dims>
     Some(dims)
 }
 
-/// A worker runs the task that it has claimed, one that fills a cell, and ends it with zeros. Where the disks don't tell what they
-/// hold, the board is promised no more than the dimensions.
+/// A worker runs the task that it has claimed, one that fills a cell, and ends it with zeros. Where the disks don't tell what
+/// they hold, the board is promised no more than the dimensions.
 fn ended<D: Disk>(alloc: Global, board: &mut Board<D>, w: Worker, t: Task) -> Result<(), Fail>
     requires claimed { HasClaimed board.old w t }
     requires no_fault { board.old.fault ≡ None }

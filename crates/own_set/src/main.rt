@@ -1,5 +1,5 @@
-//! A program of one's own over the engine: its set of codelets, a program that lowering makes of a text, the run of it on a machine
-//! too small to hold all its matrices, and the arrays that the run hands over.
+//! A program of one's own over the engine: its set of codelets, a program that lowering makes of a text, the run of it on a
+//! machine too small to hold all its matrices, and the arrays that the run hands over.
 #![tactic(auto)]
 
 ghost use Rattle.std.specs.Prelude.{◌≡◌, ◌↔◌, ◌≤◌, ◌^◌, ℕ, All, FitsSigned, IsOkAnd, IsTrue, IfOk, IfErr, Result, length, map};
@@ -284,7 +284,8 @@ fn run_text<D: Disk + Send, R: Threads + Wait + Sync>(
     requires few { length disks.items ≤ 16 }
     requires small { AreWithin D.size (2 ^ 40) disks.items }
     ensures ok { IfOk result.handed (λ handed. IsOkAnd (job_of turns_has text.now)
-        (λ job. DeliversEach (program_of job.statements) (AllTell D.held disks.items) handed.pairs)) }
+        (λ job. DeliversEach (program_of job.statements)
+        (AllTell D.held disks.items) handed.pairs)) }
     ensures err { IfErr result.handed (λ e. IsNotRun D.faults D.mismatches D.held e
         (job_of turns_has text.now) (map D.size disks.items) disks.items result.disks.items) }
 {

@@ -7,7 +7,3 @@ pub mod laws;
 pub mod paths;
 pub mod product;
 pub mod summary;
-#[cfg(test)]
-mod tests;
-#[cfg(test)]
-mod tests_of_jobs;

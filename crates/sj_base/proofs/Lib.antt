@@ -1,2 +1,9 @@
+pub mod Bools
+pub mod FirstFit
+pub mod Lists
+pub mod Numbers
+pub mod Options
 pub mod Pasting
+pub mod SameIds
 pub mod Tables
+pub mod Texts

@@ -6,6 +6,7 @@ use Rattle.std.proofs.lemmas.Nat.{div_below, mod_below, div-add-mod', div-mul-ad
 use Rattle.sj_base.specs.declared.tile.Dims.{Dims}
 use Rattle.sj_base.specs.Array.{area}
 use Rattle.sj_base.specs.Window.{item, table}
+use Rattle.sj_base.proofs.Numbers.{some_factor}
 
 pub length-table : {X : Type 0} (d : Dims) (f : ℕ → ℕ → X) → length (table d f) ≡ area d
 length-table d f = length-map-range_with_len (λ p. f (p / d.cols) (p % d.cols)) 0 (area d)
@@ -16,15 +17,11 @@ item-table blank d f i j in_rows in_cols =
     get_or-map-range_with_len (λ p. f (p / d.cols) (p % d.cols)) 0 (area d) p p blank (omega (arith, mul-add-lt i d.cols j d.rows in_rows in_cols)) (omega arith)
     ∙ ap (λ k. f k (p % d.cols)) (div-mul-add i d.cols j in_cols) ∙ ap (λ k. f i k) (mod-mul-add i d.cols j in_cols)
 
-pos_factor : (r c k : ℕ) → k < r * c → 0 < c
-pos_factor r zero k h = absurd (omega arith)
-pos_factor r (suc c) k h = omega arith
-
 -- two lists of r rows and c columns are one if each place has one item
 pub same_tables : {X : Type 0} (blank : X) (xs ys : List X) (r c : ℕ) → length xs ≡ r * c → length ys ≡ r * c → ((i j : ℕ) → i < r → j < c → item blank c xs i j ≡ item blank c ys i j) → xs ≡ ys
 same_tables blank xs ys r c long_x long_y same = same_lists xs ys (long_x ∙ sym long_y) (λ k d here.
     let inside : k < r * c = omega arith in
-    let some = pos_factor r c k inside in
+    let some = some_factor r c k inside in
     let place : k / c * c + k % c ≡ k = div-add-mod' k c in
     let here_too : k < length ys = omega arith in
     get_or_default xs k d blank here ∙ (ap (λ n. get_or xs n blank) (sym place) ∙ same (k / c) (k % c) (div_below k c r some inside) (mod_below k c some) ∙ ap (λ n. get_or ys n blank) place) ∙ get_or_default ys k blank d here_too)
@@ -39,3 +36,13 @@ table_from_items blank d f xs long same =
     let inside : k < area d = omega arith in
     let there : k < length (table d f) = omega (arith, length-table d f) in
     get_or_default xs k e blank here ∙ same k inside ∙ sym (at-table blank d f k inside) ∙ get_or_default (table d f) k blank e there)
+
+-- tables of equal items are equal
+pub table-same : {X : Type 0} (blank : X) (d : Dims) (f g : ℕ → ℕ → X) → ((i j : ℕ) → i < d.rows → j < d.cols → f i j ≡ g i j) → table d f ≡ table d g
+table-same blank d f g h =
+    same_tables blank (table d f) (table d g) d.rows d.cols (length-table d f) (length-table d g)
+    (λ i j hi hj. item-table blank d f i j hi hj ∙ h i j hi hj ∙ sym (item-table blank d g i j hi hj))
+
+-- a place of the table is one of its items
+pub item_inside : (d : Dims) (row col : ℕ) → row < d.rows → col < d.cols → row * d.cols + col < area d
+item_inside d row col in_rows in_cols = let h = mul-add-lt row d.cols col d.rows in_rows in_cols in omega arith

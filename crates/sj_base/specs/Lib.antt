@@ -1,6 +1,9 @@
 pub mod Array
+pub mod FirstFit
+pub mod Ids
 pub mod Lending
 pub mod Mode
 pub mod Recorded
 pub mod Roomy
+pub mod Victims
 pub mod Window

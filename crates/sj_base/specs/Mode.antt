@@ -1,5 +1,7 @@
 -- What a mode says of its operand.
-use Rattle.std.specs.Prelude.{Bool, true, false, not, ◌&&◌}
+use Rattle.std.specs.Prelude.{Bool, true, false, not, ◌&&◌, List, filter}
+use Rattle.sj_base.specs.declared.ids.Cell.{Cell}
+use Rattle.sj_base.specs.declared.mode.Access.{Access}
 use Rattle.sj_base.specs.declared.mode.Mode.{Mode}
 use Rattle.sj_base.specs.declared.mode.Mode.TheVariants.{R, W, Scratch, Redux, Commute}
 
@@ -50,3 +52,16 @@ is_in_order m = not (is_redux m) && not (is_commute m)
 -- the cell itself must have a value: its old value is read, and not that of a partial copy
 abbrev pub needs_value : Mode → Bool
 needs_value m = reads_value m && not (is_redux m)
+
+-- ---- accesses
+
+abbrev pub access : Mode → Cell → Access
+access mode c = record { mode = mode; cell = c }
+
+-- the accesses that read an old value
+abbrev pub reads_of : List Access → List Access
+reads_of accesses = filter (λ a. reads_value a.mode) accesses
+
+-- the accesses that give a new value
+abbrev pub writes_of : List Access → List Access
+writes_of accesses = filter (λ a. is_written a.mode) accesses

@@ -10,7 +10,5 @@ pub mod mode;
 pub mod program;
 pub mod roomy;
 pub mod sequence;
-#[cfg(test)]
-mod tests;
 pub mod tile;
 pub mod trace;

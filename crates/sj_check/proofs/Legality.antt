@@ -1,7 +1,7 @@
 -- When each kind of event is legal in a coherent state, by what is asked of the state.
 use Rattle.std.proofs.Common.{◌≡◌, ℕ, ◌<◌, ◌≤◌, ◌&&◌, ◌∙◌, Bool, true, false, not, List, [], ◌∷◌, Option, None, Some, ap, arith, cond, inl, inr, is_some, length, refl, subst, sym}
 use Rattle.std.specs.List.{find, list_all}
-use Rattle.std.proofs.lemmas.Bool.{false_from_ne_true, false≢true}
+use Rattle.std.proofs.lemmas.Bool.{false_from_ne_true, false≢true, and_from, and_parts}
 use lib.Dec.{leb}
 use Rattle.std.proofs.lemmas.Bool.Decides.{leb_tells}
 use Rattle.std.proofs.lemmas.List.Elements.{All-from_get_or}
@@ -17,8 +17,8 @@ use Rattle.sj_core.proofs.Replicas.{coming_by-is, leaving_by-is, same_worker-ref
 use Rattle.sj_core.proofs.Words.{AtNode, Cell, CellState, Coming, DiskNo, Invalid, Leaving, Machine, Node, OnDisk, Place, Program, Replica, State, Task, Valid, Worker, dims_of, footprint, has_room, is_coming_by, is_done, is_leaving, is_leaving_by, is_task_of, node_of, node_size, progress, replica, transfer, worker_of, zeros}
 use Rattle.sj_core.specs.Coherent.{Coherent, is_begun}
 use Rattle.sj_core.specs.declared.progress.Progress.{Progress}
-use Rattle.sj_core.specs.declared.progress.Progress.TheVariants.{Claimed, Done, Running, Waiting}
-use Rattle.sj_core.specs.Machine.{is_waiting, replica_in, with_transfer}
+use Rattle.sj_core.specs.declared.progress.Progress.TheVariants.{Claimed, Running, Waiting}
+use Rattle.sj_core.specs.Machine.{replica_in, with_transfer}
 use Rattle.sj_core.specs.Operands.{commuting_cells, written_cells}
 use Rattle.sj_core.specs.Step.{CanMoveIn, CanMoveOut, May, a_transfer, claimant_of, disk_of, done_tasks, is_fresh, is_in_use, is_moving, is_present, is_read, is_valid_elsewhere, mover_of, none_leaving, source_of}
 use Rattle.sj_deps.specs.Conflict.{Ready}
@@ -68,26 +68,11 @@ pub none-is : (o : Option Task) → is_some o ≡ false → o ≡ None
 none-is None e = refl
 none-is (Some t) e = absurd (false≢true (sym e))
 
--- a task that waits
-pub waiting-is : (x : Progress) → is_waiting x ≡ true → x ≡ Waiting
-waiting-is Waiting e = refl
-waiting-is (Claimed w) e = absurd (false≢true e)
-waiting-is (Running w) e = absurd (false≢true e)
-waiting-is (Done w) e = absurd (false≢true e)
-
 -- the worker by whose claim a copy leaves
 claimant-leaving : (w : Worker) (r : Replica) → is_leaving_by w r ≡ true → claimant_of r ≡ w
 claimant-leaving w r leaving = ap claimant_of (leaving_by-is w r leaving).1
 
 -- ---- tests
-
-and_parts : (a b : Bool) → (a && b) ≡ true → (a ≡ true) × (b ≡ true)
-and_parts true b e = (refl, e)
-and_parts false b e = absurd (false≢true e)
-
-and_from : (a b : Bool) → a ≡ true → b ≡ true → (a && b) ≡ true
-and_from true b e f = f
-and_from false b e f = absurd (false≢true e)
 
 found-fails : (test : Cell → Bool) (xs : List Cell) (c : Cell) → find test xs ≡ Some c → list_all (λ d. not (test d)) xs ≡ false
 found-fails test [] c e = absurd (none-some c e)

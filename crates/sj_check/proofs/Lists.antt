@@ -5,7 +5,7 @@ use Rattle.std.specs.List.{AllZip}
 use Rattle.std.proofs.lemmas.List.{append-nil, take_all, take_more}
 use Rattle.std.proofs.lemmas.List.Elements.{All-get_or, filter-append}
 use Rattle.std.proofs.lemmas.List.Sums.{count_by-le-length, length-filter}
-use Rattle.sj_base.specs.Mode.{is_written, reads_value}
+use Rattle.sj_base.specs.Mode.{is_written, reads_value, writes_of}
 use Rattle.sj_base.specs.declared.mode.Access.{Access}
 use Rattle.sj_base.specs.declared.program.CellInfo.{CellInfo}
 use Rattle.sj_base.specs.declared.program.Lowered.{Lowered}
@@ -21,9 +21,6 @@ use Rattle.sj_machine.specs.Placing.{ArePlaced}
 use Rattle.sj_machine.specs.Running.{IsResultIn}
 use Rattle.sj_machine.specs.Sound.{IsBlock}
 use Rattle.sj_check.specs.Results.{AddsResult, AddsShare}
-
-abbrev written_of : List Access → List Access
-written_of accesses = filter (λ a. is_written a.mode) accesses
 
 -- there is a result for each written operand of the first i, and room for one of each that comes
 pub record IsFilling (p : Program) (accesses : List Access) (i : ℕ) (f : Frame) : Type 0 where
@@ -48,8 +45,8 @@ module _ (p : Program) (accesses : List Access) (i : ℕ) (f : Frame) (filling :
     filling-room = omega (arith, filling.room, inside)
 
     -- the written ones of one operand more
-    written-more : (x : Bool) → is_written a.mode ≡ x → written_of (take (i + 1) accesses) ≡ written_of (take i accesses) ++ cond x (a ∷ []) []
-    written-more x e = ap written_of (take_more accesses i first inside) ∙ filter-append (λ (b : Access). is_written b.mode) (take i accesses) (a ∷ []) ∙ ap (λ b. written_of (take i accesses) ++ cond b (a ∷ []) []) e
+    written-more : (x : Bool) → is_written a.mode ≡ x → writes_of (take (i + 1) accesses) ≡ writes_of (take i accesses) ++ cond x (a ∷ []) []
+    written-more x e = ap writes_of (take_more accesses i first inside) ∙ filter-append (λ (b : Access). is_written b.mode) (take i accesses) (a ∷ []) ∙ ap (λ b. writes_of (take i accesses) ++ cond b (a ∷ []) []) e
 
     pub filling-next : (g : Frame) → AddsResult p a f g → IsFilling p accesses (i + 1) g
     filling-next g adds = by_mode (is_written a.mode) refl adds
@@ -57,12 +54,12 @@ module _ (p : Program) (accesses : List Access) (i : ℕ) (f : Frame) (filling :
         by_mode : (x : Bool) → is_written a.mode ≡ x → MatchBool x (AddsShare p a f g) (g ≡ f) → IsFilling p accesses (i + 1) g
         by_mode true e one = record {
           each = subst (λ (xs : List Access). AllZip (IsResultIn p) xs g.slots) (sym (written-more true e))
-              (subst (λ (slots : List Slot). AllZip (IsResultIn p) (written_of (take i accesses) ++ a ∷ []) slots) (sym one.slots)
-              (AllZip-push (IsResultIn p) (written_of (take i accesses)) f.slots a (shared one.array) filling.each (record { shared = refl; dims = one.dims })));
+              (subst (λ (slots : List Slot). AllZip (IsResultIn p) (writes_of (take i accesses) ++ a ∷ []) slots) (sym one.slots)
+              (AllZip-push (IsResultIn p) (writes_of (take i accesses)) f.slots a (shared one.array) filling.each (record { shared = refl; dims = one.dims })));
           room = omega (arith, filling.room, one.room);
         }
         by_mode false e same = subst (λ (h : Frame). IsFilling p accesses (i + 1) h) (sym same) (record {
-          each = subst (λ (xs : List Access). AllZip (IsResultIn p) xs f.slots) (sym (written-more false e ∙ append-nil (written_of (take i accesses)))) filling.each;
+          each = subst (λ (xs : List Access). AllZip (IsResultIn p) xs f.slots) (sym (written-more false e ∙ append-nil (writes_of (take i accesses)))) filling.each;
           room = omega (arith, filling.room);
         })
 

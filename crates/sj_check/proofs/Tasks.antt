@@ -1,11 +1,12 @@
 -- What is kept of workers' tasks and of the tasks that are done, where one task goes on.
-use Rattle.std.proofs.Common.{◌≡◌, ◌≢◌, ℕ, ◌<◌, ◌↔◌, ◌⊎◌, ◌++◌, ◌∷◌, ◌∙◌, true, List, [], Option, None, Some, ap, arith, get_or, inl, inr, length, length-set, set, subst, sym}
+use Rattle.std.proofs.Common.{◌≡◌, ◌≢◌, ℕ, ◌<◌, ◌↔◌, ◌++◌, ◌∷◌, ◌∙◌, true, List, [], Option, None, Some, ap, arith, get_or, inl, inr, length, length-set, set, subst, sym}
 use Rattle.std.specs.Prelude.{IsTrue, filter}
 use Rattle.std.specs.List.{Contains, range_with_len, slice_index_or}
-use Rattle.std.proofs.lemmas.Bool.{cases_eq, false≢true}
+use Rattle.std.proofs.lemmas.Bool.{false≢true}
 use Rattle.std.proofs.lemmas.List.{get_or-set_other, get_or-set_same}
 use Rattle.std.proofs.lemmas.List.Elements.{Contains-append_cases, Contains-append_left, Contains-append_right}
 use Rattle.std.proofs.lemmas.Option.{none-some}
+use Rattle.sj_base.proofs.SameIds.{workers_differ}
 use Rattle.sj_core.proofs.Advancing.{Advances, claimed-is_mine, same_task, task_of-worker}
 use Rattle.sj_core.proofs.Readiness.{done_tasks-done, done_tasks-has}
 use Rattle.sj_core.proofs.Words.{Program, State, Task, Worker, done_in, is_done, is_task_of, progress}
@@ -15,12 +16,6 @@ use Rattle.sj_core.specs.Step.{done_tasks}
 use Rattle.sj_deps.specs.Progress.{Progress as Dependencies, after as after_done}
 use Rattle.sj_machine.specs.BoardSound.{CountsDone}
 use Rattle.sj_check.specs.Watching.{HasTasks, task_in}
-
-same_worker : (v w : Worker) → (v ≡ w) ⊎ (v ≢ w)
-same_worker v w = elim (cases_eq v.0 w.0) as (λ _. (v ≡ w) ⊎ (v ≢ w)) [
-  | inl e ↦ inl (ap (λ (n : ℕ). let k : Worker = record { 0 = n } in k) e)
-  | inr d ↦ inr (λ e. d (ap (λ (k : Worker). k.0) e))
-]
 
 -- ---- nothing happens to tasks
 
@@ -57,7 +52,7 @@ set-tasks : (p : Program) (s' : State) (tasks : List (Option Task)) (w : Worker)
     → HasTasks p s' (set tasks w.0 x)
 set-tasks p s' tasks w x inside every here there = record {
   every_worker = length-set tasks w.0 x ∙ every;
-  each = λ v u. elim (same_worker v w) as (λ _. (task_in (set tasks w.0 x) v ≡ Some u) ↔ IsTrue (is_task_of v (progress s' u))) [
+  each = λ v u. elim (workers_differ v w) as (λ _. (task_in (set tasks w.0 x) v ≡ Some u) ↔ IsTrue (is_task_of v (progress s' u))) [
     | inl e ↦
         let read : task_in (set tasks w.0 x) v ≡ x = ap (λ (k : Worker). get_or (set tasks w.0 x) k.0 None) e ∙ get_or-set_same tasks w.0 x None inside in (
           λ got. ap (λ (k : Worker). is_task_of k (progress s' u)) e ∙ (here u).0 (sym read ∙ got),

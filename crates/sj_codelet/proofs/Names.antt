@@ -1,10 +1,11 @@
 -- Ids, places and names of the table belong to one codelet each.
-use Rattle.std.proofs.Common.{◌≡◌, ℕ, zero, suc, ◌+◌, Bool, true, false, ◌&&◌, cond, Option, Some, None, List, [], ◌∷◌, refl, sym, ap, subst, ◌∙◌, arith}
+use Rattle.std.proofs.Common.{◌≡◌, ℕ, zero, suc, ◌+◌, Bool, true, ◌&&◌, cond, Option, Some, None, List, [], ◌∷◌, refl, sym, ap, subst, ◌∙◌, arith}
 use Rattle.std.specs.Prelude.{codes, find, slice_get, option_map, IfSome}
 use Rattle.sj_codelet.specs.declared.kernel.Kernel.{Kernel}
 use Rattle.sj_codelet.specs.declared.kernel.Kernel.TheVariants.{Fill, Copy, Scale, Add, Axpy, Butterfly, Gemm, GemmThree, Transpose, Dot, Sum, Lowest, MinGemm, FwDiag, FwRow, FwCol}
 use Rattle.sj_codelet.specs.Kernel.{kernels, id_of, name_of, has_name, kernel_of, codelet_of, named_in}
 use Rattle.sj_base.specs.declared.program.Codelet.{Codelet}
+use Rattle.sj_base.proofs.Bools.{and_swap}
 
 -- each codelet's id is its place, counted from here
 abbrev AreInPlace : List Kernel → ℕ → Type 0
@@ -28,12 +29,6 @@ find_same p q [] h = refl
 find_same p q (k ∷ ks) h =
     ap (λ (b : Bool). cond b (Some k) (find p ks)) (h k) ∙ ap (λ (r : Option Kernel). cond (q k) (Some k) r) (find_same p q ks h)
 
-and_turned : (a b : Bool) → (a && b) ≡ (b && a)
-and_turned true true = refl
-and_turned true false = refl
-and_turned false true = refl
-and_turned false false = refl
-
 by_own_name : (has : Kernel → Bool) (k : Kernel) (n : List ℕ) → has k ≡ true → name_of k ≡ Some n → find (λ j. has_name n j && has j) kernels ≡ Some k
 by_own_name has Fill n h e = let own : codes "fill" ≡ n = cc in subst (λ (m : List ℕ). find (λ j. has_name m j && has j) kernels ≡ Some Fill) own (rw h refl)
 by_own_name has Copy n h e = let own : codes "copy" ≡ n = cc in subst (λ (m : List ℕ). find (λ j. has_name m j && has j) kernels ≡ Some Copy) own (rw h refl)
@@ -56,7 +51,7 @@ by_own_name has k n h e = cc
 -- the codelet that is found by its own name
 pub found_by_name : (has : Kernel → Bool) (k : Kernel) (n : List ℕ) → has k ≡ true → name_of k ≡ Some n → find (λ j. has j && has_name n j) kernels ≡ Some k
 found_by_name has k n h e =
-    find_same (λ j. has j && has_name n j) (λ j. has_name n j && has j) kernels (λ j. and_turned (has j) (has_name n j)) ∙ by_own_name has k n h e
+    find_same (λ j. has j && has_name n j) (λ j. has_name n j && has j) kernels (λ j. and_swap (has j) (has_name n j)) ∙ by_own_name has k n h e
 
 -- an id of the table is its codelet's
 pub id_of_kernel : (id : Codelet) (k : Kernel) → kernel_of id ≡ Some k → codelet_of k ≡ id

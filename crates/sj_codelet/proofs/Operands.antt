@@ -14,6 +14,7 @@ use Rattle.sj_codelet.specs.Frame.{Slot, Frame, own, arrays, all_dims, IsReady, 
 use Rattle.sj_codelet.specs.Kernel.{formals_of, arguments_fit, dims_fit, dims_at, same, new_arrays, operand}
 use Rattle.sj_codelet.specs.Equations.{vector}
 use Rattle.sj_codelet.specs.Runs.{IsReadyOf, IsRunOf}
+use Rattle.sj_codelet.specs.Laws.{IsCall}
 
 pub ends_owned-push : (before : List Slot) (s : Slot) → ends_owned (before ++ s ∷ []) ≡ s.owned
 ends_owned-push [] s = refl
@@ -80,6 +81,14 @@ dims_go k args slots h = let f = h.fits in grind (arith, nat_tests)
 
 pub arguments_go : (k : Kernel) (args : List ℤ) (slots : List Slot) → IsReadyOf k args slots → arguments_fit k args (all_dims slots) ≡ true
 arguments_go k args slots h = let f = h.fits in grind (arith, nat_tests)
+
+-- how many operands stand before the last one of a call
+pub operands_before : (k : Kernel) (args : List ℤ) (before : List Array) (v : Array) → IsCall k args (before ++ v ∷ []) → length before + 1 ≡ length (formals_of k)
+operands_before k args before v call =
+    let f = call.fits in
+    let n = length-map (before ++ v ∷ []) (λ (a : Array). a.dims) in
+    let m = length-append before (v ∷ []) in
+    grind (arith, nat_tests)
 
 abbrev dims_of : ℕ → ℕ → Dims
 dims_of r c = record { rows = r; cols = c }

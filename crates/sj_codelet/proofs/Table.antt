@@ -1,15 +1,17 @@
 -- What holds of each codelet of the table, by a look at each row: no other file goes through the rows for it.
-use Rattle.std.proofs.Common.{◌≡◌, ℕ, zero, suc, Bool, true, false, Some, List, [], ◌∷◌, ℤ, length, map, refl, sym, ap, subst, ◌∙◌, arith, nat_eq}
+use Rattle.std.proofs.Common.{◌≡◌, ◌≤◌, ℕ, zero, suc, Bool, true, false, Some, List, [], ◌∷◌, ℤ, length, map, refl, sym, ap, subst, ◌∙◌, arith}
 use Rattle.std.specs.Prelude.{slice_get, nat_le, ◌&&◌}
 use Rattle.std.specs.List.{list_all, filter}
 use Rattle.sj_base.specs.declared.tile.Dims.{Dims}
 use Rattle.sj_base.specs.Array.{Array}
 use Rattle.sj_codelet.specs.declared.kernel.Kernel.{Kernel}
 use Rattle.sj_codelet.specs.declared.kernel.Kernel.TheVariants.{Fill, Copy, Scale, Add, Axpy, Butterfly, Gemm, GemmThree, Transpose, Dot, Sum, Lowest, MinGemm, FwDiag, FwRow, FwCol, Load, LoadFill, Paste, Deliver, InitPlus, InitLeast}
-use Rattle.std.proofs.lemmas.Bool.Decides.{Decides-eqb}
+use Rattle.std.proofs.lemmas.Bool.{leb-true}
+use Rattle.sj_base.proofs.Bools.{and_rest}
 use Rattle.sj_codelet.specs.Equations.{after_turns}
 use Rattle.sj_codelet.specs.Formal.{is_output, outputs_among}
 use Rattle.sj_codelet.specs.Kernel.{kernels, kernel_of, codelet_of, id_of, formals_of, dims_fit, same, new_arrays}
+use Rattle.sj_codelet.proofs.Operands.{same_dims}
 
 -- each codelet stands in the table at its id
 pub kernel_of-codelet_of : (k : Kernel) → kernel_of (codelet_of k) ≡ Some k
@@ -44,11 +46,7 @@ passes-at test (y ∷ xs) zero x all e = by_parts (test y) (list_all test xs) re
     by_parts : (a b : Bool) → test y ≡ a → (a && b) ≡ true → test x ≡ true
     by_parts true b h t = let is : y ≡ x = cc in ap test (sym is) ∙ h
     by_parts false b h t = absurd (cc)
-passes-at test (y ∷ xs) (suc n) x all e = passes-at test xs n x (rest (test y) (list_all test xs) all) e
-  where
-    rest : (a b : Bool) → (a && b) ≡ true → b ≡ true
-    rest true b t = t
-    rest false b t = absurd (cc)
+passes-at test (y ∷ xs) (suc n) x all e = passes-at test xs n x (and_rest (test y) (list_all test xs) all) e
 
 -- a test that each row passes: `by_table test refl k`
 pub by_table : (test : Kernel → Bool) → list_all test kernels ≡ true → (k : Kernel) → test k ≡ true
@@ -59,8 +57,8 @@ pub same_id : (j k : Kernel) → id_of j ≡ id_of k → j ≡ k
 same_id j k e = let at : Some j ≡ Some k = sym (kernel_of-codelet_of j) ∙ ap (λ (n : ℕ). slice_get kernels n) e ∙ kernel_of-codelet_of k in cc
 
 -- no codelet has more than five operands
-pub few_formals : (k : Kernel) → nat_le (length (formals_of k)) 5 ≡ true
-few_formals = by_table (λ k. nat_le (length (formals_of k)) 5) refl
+pub few-formals : (k : Kernel) → length (formals_of k) ≤ 5
+few-formals k = leb-true (length (formals_of k)) 5 (by_table (λ k. nat_le (length (formals_of k)) 5) refl k)
 
 -- ---- new arrays
 
@@ -111,17 +109,6 @@ turns-dims : (n : ℕ) (turn : ℕ → Array → Array) (a : Array) → ((k : �
 turns-dims zero turn a h = refl
 turns-dims (suc n) turn a h = h n (after_turns n turn a) ∙ turns-dims n turn a h
 
-pub same-dims : (d e : Dims) → same d e ≡ true → d ≡ e
-same-dims d e h =
-    let p = parts (nat_eq d.rows e.rows) (nat_eq d.cols e.cols) h in
-    let r = (Decides-eqb d.rows e.rows).0 p.0 in
-    let c = (Decides-eqb d.cols e.cols).0 p.1 in
-    λ i. record { rows = r i; cols = c i }
-  where
-    parts : (a b : Bool) → (a && b) ≡ true → (a ≡ true) × (b ≡ true)
-    parts true b h = (refl, h)
-    parts false b h = absurd (cc)
-
 abbrev pub each_dims : List Array → List Dims
 each_dims xs = map (λ (a : Array). a.dims) xs
 
@@ -134,14 +121,14 @@ new_arrays-dims Fill args ins l h = let p = one_of ins l in subst (GivesDims Fil
 new_arrays-dims Copy args ins l h =
     let p = two_of ins l in
     let e : same p.0.dims p.1.dims ≡ true = subst (λ (xs : List Array). dims_fit Copy args (each_dims xs) ≡ true) p.2 h in
-    subst (GivesDims Copy args) (sym p.2) (ap (λ (d : Dims). d ∷ []) (same-dims p.0.dims p.1.dims e))
+    subst (GivesDims Copy args) (sym p.2) (ap (λ (d : Dims). d ∷ []) (same_dims p.0.dims p.1.dims e))
 new_arrays-dims Scale args ins l h = let p = one_of ins l in subst (GivesDims Scale args) (sym p.1) refl
 new_arrays-dims Add args ins l h = let p = two_of ins l in subst (GivesDims Add args) (sym p.2) refl
 new_arrays-dims Axpy args ins l h = let p = two_of ins l in subst (GivesDims Axpy args) (sym p.2) refl
 new_arrays-dims Butterfly args ins l h =
     let p = two_of ins l in
     let e : same p.0.dims p.1.dims ≡ true = subst (λ (xs : List Array). dims_fit Butterfly args (each_dims xs) ≡ true) p.2 h in
-    subst (GivesDims Butterfly args) (sym p.2) (ap (λ (d : Dims). p.0.dims ∷ d ∷ []) (same-dims p.0.dims p.1.dims e))
+    subst (GivesDims Butterfly args) (sym p.2) (ap (λ (d : Dims). p.0.dims ∷ d ∷ []) (same_dims p.0.dims p.1.dims e))
 new_arrays-dims Gemm args ins l h = let p = three_of ins l in subst (GivesDims Gemm args) (sym p.3) refl
 new_arrays-dims GemmThree args ins l h = let p = five_of ins l in subst (GivesDims GemmThree args) (sym p.5) refl
 new_arrays-dims Transpose args ins l h = let p = two_of ins l in subst (GivesDims Transpose args) (sym p.2) refl

@@ -8,5 +8,4 @@ pub mod Runs
 pub mod Listing
 pub mod Window
 pub mod Laws
-pub mod InOrder
 pub mod Formal

@@ -7,6 +7,4 @@ pub mod frame;
 pub mod kernel;
 pub mod set;
 pub mod shape;
-#[cfg(test)]
-mod tests;
 pub mod window;

@@ -51,7 +51,8 @@ fn is_within(start: u64, len: u64, bound: u32) -> bool
 }
 
 fn lies_in(row: i64, col: i64, rows: i64, cols: i64, d: Dims) -> bool
-    ensures { result ≡ lies_in (unsigned_abs row) (unsigned_abs col) (unsigned_abs rows) (unsigned_abs cols) d }
+    ensures { result ≡ lies_in (unsigned_abs row) (unsigned_abs col) (unsigned_abs rows)
+        (unsigned_abs cols) d }
 {
     is_within(row.unsigned_abs(), rows.unsigned_abs(), d.rows)
         && is_within(col.unsigned_abs(), cols.unsigned_abs(), d.cols)

@@ -5,14 +5,15 @@ use Rattle.sj_core.proofs.Words.{Access, Array, Kernel, Least, Plus, Program, R,
 use Rattle.sj_core.proofs.Words.{cell_info, copy_of, dims_of, found, no_task, task_of, worked_on, zeros}
 use Rattle.std.specs.Int.{w64}
 use Rattle.std.proofs.lemmas.List.Elements.{All-contains, All-get_or}
-use Rattle.sj_base.specs.Mode.{is_in_order, is_redux, is_written, starts_as_zeros}
+use Rattle.sj_base.specs.Mode.{is_in_order, is_redux, is_written, starts_as_zeros, access}
+use Rattle.sj_base.proofs.Lists.{one_is, map-agree}
 use Rattle.sj_codelet.specs.Kernel.{combine_of, contributes_of}
 use Rattle.sj_codelet.specs.Laws.{DoesContribute, IsCall, IsTile, combined, result_of}
-use Rattle.sj_core.specs.Proper.{IsCombine, IsContribution, IsPhase, Phase, Proper, access, task_number}
+use Rattle.sj_core.specs.Proper.{IsCombine, IsContribution, IsPhase, Phase, Proper, task_number}
 use Rattle.sj_core.specs.{Fold.Contents, Fold.after_task, Fold.held_in, Laws.IsLawful}
 use Rattle.sj_core.proofs.Combining.{call-with, combines, contribution, contribution-fills}
 use Rattle.sj_core.proofs.Swapping.{Updates, first_ins, update-call, updated}
-use Rattle.sj_core.proofs.{Copies.copy-bare, Copies.direct-cell, Dependencies.one_is, Folding.map-same}
+use Rattle.sj_core.proofs.{Copies.copy-bare, Copies.direct-cell}
 use Rattle.sj_core.proofs.{Phases.does_contribute, Phases.kernel-contributes, Phases.reduces, Sized.AreSized}
 use Rattle.sj_core.proofs.{Sized.worked_on-dims, Sized.zeros-tile, Updating.updates}
 
@@ -29,7 +30,7 @@ module _ (has : Kernel → Bool) (p : Program) (proper : Proper p) (lawful : IsL
 
     -- it depends on the cells that are read alone, and on no worker
     pub part-same : (v w : Worker) (v_in : v.0 < p.workers) (w_in : w.0 < p.workers) (before before' : Contents) → ((b : Access) → Contains (update v v_in).before b → starts_as_zeros b.mode ≡ false → held_in p before b.cell ≡ held_in p before' b.cell) → part v v_in before ≡ part w w_in before'
-    part-same v w v_in w_in before before' same = ap (λ (ins : List Array). contribution f.by (update v v_in).kernel (task_of p t).args ins (zeros (dims_of p f.cell))) (map-same (found p v (held_in p before)) (found p w (held_in p before')) (update v v_in).before (λ b h. by_start b h (starts_as_zeros b.mode) refl))
+    part-same v w v_in w_in before before' same = ap (λ (ins : List Array). contribution f.by (update v v_in).kernel (task_of p t).args ins (zeros (dims_of p f.cell))) (map-agree (found p v (held_in p before)) (found p w (held_in p before')) (update v v_in).before (λ b h. by_start b h (starts_as_zeros b.mode) refl))
       where
         by_start : (b : Access) → Contains (update v v_in).before b → (s : Bool) → starts_as_zeros b.mode ≡ s → (if s then zeros (dims_of p b.cell) else held_in p before (worked_on p v b)) ≡ (if s then zeros (dims_of p b.cell) else held_in p before' (worked_on p w b))
         by_start b h true e = refl

@@ -16,13 +16,15 @@ use Rattle.std.proofs.lemmas.List.Sums.{get_or-le-sum_by, sum_by-cons, sum_by-se
 use Rattle.std.proofs.lemmas.List.Sums.{sum_by-le-sum_by}
 use Rattle.std.proofs.lemmas.Bool.{false≢true, eq-eqb, false_from_ne_true, ne_eqb}
 use Rattle.std.proofs.lemmas.List.Folds.{list_any_at, Any-from_list_any, sum_by-replicate}
+use Rattle.sj_base.specs.Ids.{cell}
+use Rattle.sj_base.proofs.Bools.{tally, tally-le}
+use Rattle.sj_base.proofs.Lists.{sum_by-map, counted_some}
 use Rattle.sj_core.specs.Step.{claimed_replica, leave, owned_at, rewritten_at, CanClaim, CanDrop, CanMoveIn, CanMoveOut, CanRun}
 use Rattle.sj_core.specs.Step.{May, a_transfer, after, after_claim, after_end, after_run, array_at, initial, missing, result_at}
 use Rattle.sj_core.specs.{Table.renewed, Coherent.IsTransferTo, Coherent.is_begun, Coherent.Coherent, Laws.IsSound}
 use Rattle.sj_core.specs.{Laws.IsLawful, Legal.CanFollow, Legal.IsLegal, Legal.state_of, Proper.IsMachineFor, Proper.Proper}
 use Rattle.sj_core.specs.{Bound.HasAtMostThreePerTaskAndFivePerOperand, Bound.operands}
-use Rattle.sj_core.proofs.Sums.{count-numbered, sum-one_more, sum-within, tally, sum-nothing, sum_by-map, counted-some}
-use Rattle.sj_core.proofs.Sums.{tally_le}
+use Rattle.sj_core.proofs.Sums.{count-numbered, sum-one_more, sum-within, sum-nothing}
 use Rattle.sj_core.proofs.Advancing.{Advances, Ends-advances, Runs-advances, claimed_by-is, same_task}
 use Rattle.sj_core.proofs.Reading.{entry-inside, idle_row, no_row, transfer-inside}
 use Rattle.sj_core.proofs.Replicas.{coming_by-is, leaving-by_some, leaving_by-leaves, leaving_by-valid}
@@ -66,14 +68,11 @@ sum-numbered f d xs = sym (ap (sum_by f) (fill_by_all (λ i. get_or xs i d) xs (
 
 -- ---- cells by number
 
-abbrev pub cell_at : ℕ → Cell
-cell_at k = record { 0 = k }
-
 -- a table has no more rows of cells that a list has than the list is long
-pub rows-within : (n : ℕ) (cs : List Cell) → sum_by (λ k. cond (has_cell cs (cell_at k)) 5 0) (range_with_len 0 n) ≤ 5 * length cs
+pub rows-within : (n : ℕ) (cs : List Cell) → sum_by (λ k. cond (has_cell cs (cell k)) 5 0) (range_with_len 0 n) ≤ 5 * length cs
 rows-within n [] = let none = sum-nothing (λ k. 0) (λ k. refl) (range_with_len 0 n) in omega arith
 rows-within n (c ∷ cs) =
-    let all = sum-one_more (λ k. cond (has_cell (c ∷ cs) (cell_at k)) 5 0) (λ k. cond (has_cell cs (cell_at k)) 5 0) (λ k. nat_eq k c.0) 5 (λ k. by_first (cell_at k) (same_cell c (cell_at k)) refl) (range_with_len 0 n) once in
+    let all = sum-one_more (λ k. cond (has_cell (c ∷ cs) (cell k)) 5 0) (λ k. cond (has_cell cs (cell k)) 5 0) (λ k. nat_eq k c.0) 5 (λ k. by_first (cell k) (same_cell c (cell k)) refl) (range_with_len 0 n) once in
     omega (arith, rows-within n cs)
   where
     by_first : (d : Cell) (b : Bool) → same_cell c d ≡ b → cond (b || has_cell cs d) 5 0 ≤ cond (has_cell cs d) 5 0 + cond (same_cell d c) 5 0
@@ -83,12 +82,12 @@ rows-within n (c ∷ cs) =
     once =
         let all = count-numbered (λ k. k) (λ k. nat_eq k c.0) c.0 (λ i. refl) 0 n in
         let more = ap (count_by (λ k. nat_eq k c.0)) (map-id (range_with_len 0 n)) in
-        omega (arith, tally_le (nat_le 0 c.0 && nat_lt c.0 (0 + n)))
+        omega (arith, tally-le (nat_le 0 c.0 && nat_lt c.0 (0 + n)))
 
 -- ---- what the replicas of a cell on nodes may still cost: the events that bring one and take it away again
 
--- one that comes is still moved in, which begins and ends, and is valid then; one that is valid is still moved out, which begins and
--- ends, and dropped; one that leaves is only dropped where a disk has the cell
+-- one that comes is still moved in, which begins and ends, and is valid then; one that is valid is still moved out, which
+-- begins and ends, and dropped; one that leaves is only dropped where a disk has the cell
 abbrev pub weight : Bool → Replica → ℕ
 weight on_disk Invalid = 0
 weight on_disk (Coming w) = 5
@@ -169,9 +168,9 @@ written-costs row d a n within none inside leaving =
 pub opening-costs : (p : Program) (m : Machine) → cost (opening p m) ≡ 0
 opening-costs p m = search (arith, sum_by-replicate)
 
--- ---- each legal step is one event, and is paid for: a task pays one for each of its own events, and with its claim five for each operand,
--- which is what a replica that the claim brings may cost. A replica that comes, is valid or leaves still costs as much as it weighs; a move
--- that begins is paid for by being under way, and as it ends its replica weighs two less.
+-- ---- each legal step is one event, and is paid for: a task pays one for each of its own events, and with its claim five for
+-- each operand, which is what a replica that the claim brings may cost. A replica that comes, is valid or leaves still costs
+-- as much as it weighs; a move that begins is paid for by being under way, and as it ends its replica weighs two less.
 
 -- ---- what pays
 
@@ -230,9 +229,9 @@ module _ (p : Program) (m : Machine) (s : State) (h : IsSound p m s) where
     claim-cost : cost s' ≤ cost s + 5 * length (cells_of p t w)
     claim-cost =
         let n = node_of m w in
-        let brought : ℕ → Bool = λ k. has_cell (cells_of p t w) (cell_at k) in
-        let all = sum-renewed cost_of (λ k row. with_replica_in row (AtNode n) (claimed_replica w (evicted_by p m s t w) (missing p s t w n) (cell_at k) (replica_in row (AtNode n)))) (λ k. cond (brought k) 5 0) no_row s.cells
-        (λ k inside. claimed-costs (get_or s.cells k no_row) n w (evicted_by p m s t w) (missing p s t w n) (cell_at k) (brought k) (λ lacks. (missing-absent p m s t w s' claim leaves (cell_at k) lacks).1) (node-inside p m s h t w s' claim leaves (cell_at k) inside)) in
+        let brought : ℕ → Bool = λ k. has_cell (cells_of p t w) (cell k) in
+        let all = sum-renewed cost_of (λ k row. with_replica_in row (AtNode n) (claimed_replica w (evicted_by p m s t w) (missing p s t w n) (cell k) (replica_in row (AtNode n)))) (λ k. cond (brought k) 5 0) no_row s.cells
+        (λ k inside. claimed-costs (get_or s.cells k no_row) n w (evicted_by p m s t w) (missing p s t w n) (cell k) (brought k) (λ lacks. (missing-absent p m s t w s' claim leaves (cell k) lacks).1) (node-inside p m s h t w s' claim leaves (cell k) inside)) in
         omega (arith, rows-within (length s.cells) (cells_of p t w), ap cost leaves)
 
     Claims-pays : Pays p s s'
@@ -248,7 +247,7 @@ module _ (p : Program) (m : Machine) (s : State) (h : IsSound p m s) where
     run-cost =
         let n = node_of m w in
         let writes : Cell → Bool = has_cell (written_cells p t w) in
-        let all = sum-renewed_within cost_of (λ k row. if writes (cell_at k) then owned_at n (initial p s t w n (cell_at k)) row else row) no_row s.cells (λ k inside. by_test (cell_at k) (writes (cell_at k)) refl) in
+        let all = sum-renewed_within cost_of (λ k row. if writes (cell k) then owned_at n (initial p s t w n (cell k)) row else row) no_row s.cells (λ k inside. by_test (cell k) (writes (cell k)) refl) in
         omega (arith, ap cost leaves)
       where
         by_test : (c : Cell) (b : Bool) → has_cell (written_cells p t w) c ≡ b → cost_of (if b then owned_at (node_of m w) (initial p s t w (node_of m w) c) (cell_state s c) else cell_state s c) ≤ cost_of (cell_state s c)
@@ -270,7 +269,7 @@ module _ (p : Program) (m : Machine) (s : State) (h : IsSound p m s) where
     end-cost =
         let n = node_of m w in
         let writes : Cell → Bool = has_cell (written_cells p t w) in
-        let all = sum-renewed_within cost_of (λ k row. if writes (cell_at k) then rewritten_at n (result_at p s t w n (cell_at k)) row else row) no_row s.cells (λ k inside. by_test (cell_at k) (writes (cell_at k)) refl) in
+        let all = sum-renewed_within cost_of (λ k row. if writes (cell k) then rewritten_at n (result_at p s t w n (cell k)) row else row) no_row s.cells (λ k inside. by_test (cell k) (writes (cell k)) refl) in
         omega (arith, ap cost leaves)
       where
         by_test : (c : Cell) (b : Bool) → has_cell (written_cells p t w) c ≡ b → cost_of (if b then rewritten_at (node_of m w) (result_at p s t w (node_of m w) c) (cell_state s c) else cell_state s c) ≤ cost_of (cell_state s c)
@@ -393,7 +392,7 @@ paid-at_most p s =
 -- the transfer of some worker, where one is under way
 some-transfer : (s : State) → 0 < under_way s → (w : Worker) × (x : Transfer) × (transfer s w ≡ Some x)
 some-transfer s some =
-    let found = Any-from_list_any (λ (row : WorkerState). is_some row.transfer) s.workers (counted-some (λ (row : WorkerState). is_some row.transfer) s.workers some) in
+    let found = Any-from_list_any (λ (row : WorkerState). is_some row.transfer) s.workers (counted_some (λ (row : WorkerState). is_some row.transfer) s.workers some) in
     let w : Worker = record { 0 = found.0 } in
     let own = get_or_default s.workers found.0 idle_row found.1 found.2 ∙ found.3 in
     let x = by_option (transfer s w) (ap (λ (row : WorkerState). is_some row.transfer) own ∙ found.4) in

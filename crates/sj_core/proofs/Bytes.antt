@@ -1,4 +1,5 @@
--- The bytes on a node: sums over its entries, its leaving replicas and its workers; a step that brings nothing keeps that they suffice.
+-- The bytes on a node: sums over its entries, its leaving replicas and its workers; a step that brings nothing keeps that
+-- they suffice.
 use Rattle.std.proofs.Common.{Bool, List, ap, arith, cond, length, not, refl, sym, true, ℕ, ◌&&◌, ◌+◌, ◌<◌, ◌∙◌, ◌≡◌}
 use Rattle.std.proofs.Common.{◌≢◌, ◌≤◌, filter, count_by, nat_eq, nat_le, nat_lt, sum_by}
 use Rattle.sj_core.proofs.Words.{AtNode, Cell, Machine, Node, Program, State, Worker, cells_of_program, has_cell}
@@ -6,9 +7,11 @@ use Rattle.sj_core.proofs.Words.{is_coming_by, is_leaving_by, node_of, order, re
 use Rattle.sj_core.proofs.Words.{workers_at, workers_of, used}
 use Rattle.std.proofs.lemmas.Bool.{and_from, and_parts, false≢true}
 use Rattle.std.proofs.lemmas.{Bool.Decides.Decides-eqb, List.Sums.sum_by-le-sum_by}
+use Rattle.sj_base.proofs.Bools.{tally, tally-le}
+use Rattle.sj_base.proofs.Lists.{sum_by-agree}
 use Rattle.sj_core.specs.Coherent.{IsStateOf, entries_beside, leaving_by, others_at, used_while_leaving}
 use Rattle.sj_core.proofs.CellLists.{has_cell-filter_is, share, sum-once, times, times-filter, times-program}
-use Rattle.sj_core.proofs.Sums.{count-numbered, filter-sum-le, sum-agree, sum-filter, sum-filter-le, tally, tally_le}
+use Rattle.sj_core.proofs.Sums.{count-numbered, filter-sum-le, sum-filter, sum-filter-le}
 use Rattle.sj_core.proofs.{Reading.entry-inside, TaskCells.filter-filter}
 
 -- ---- the bytes of the cells that pass a test
@@ -20,7 +23,7 @@ bytes_where-le : (p : Program) (f g : Cell → Bool) → ((c : Cell) → f c ≡
 bytes_where-le p f g wider = search (arith, sum_by-le-sum_by, share)
 
 bytes_where-same : (p : Program) (f g : Cell → Bool) → ((c : Cell) → f c ≡ g c) → bytes_where p f ≡ bytes_where p g
-bytes_where-same p f g same = sum-agree (share (tile_bytes p) f) (share (tile_bytes p) g) (λ c. ap (λ b. cond b (tile_bytes p c) 0) (same c)) (cells_of_program p)
+bytes_where-same p f g same = sum_by-agree (share (tile_bytes p) f) (share (tile_bytes p) g) (λ c. ap (λ b. cond b (tile_bytes p c) 0) (same c)) (cells_of_program p)
 
 -- the bytes of a list that has cells of the program, each at most once
 pub once-bytes : (p : Program) (xs : List Cell) → ((c : Cell) → has_cell xs c ≡ true → c.0 < length p.cells) → ((c : Cell) → times xs c ≤ 1) → sum_by (tile_bytes p) xs ≡ bytes_where p (has_cell xs)
@@ -48,7 +51,7 @@ pub worker-once_at : (m : Machine) (n : Node) (w : Worker) → count_by (λ v. s
 worker-once_at m n w =
     let all = filter-sum-le (λ (v : Worker). tally (same_worker v w)) (λ v. nat_eq (node_of m v).0 n.0) (workers_of m) in
     let more = count-numbered (λ i. record { 0 = i }) (λ v. same_worker v w) w.0 (λ i. refl) 0 m.workers in
-    omega (arith, tally_le (nat_le 0 w.0 && nat_lt w.0 (0 + m.workers)))
+    omega (arith, tally-le (nat_le 0 w.0 && nat_lt w.0 (0 + m.workers)))
 
 -- a worker of a list of a node's workers is bound there
 pub others-le : (m : Machine) (n : Node) (w : Worker) (f g : Worker → ℕ) → ((v : Worker) → node_of m v ≡ n → v ≢ w → f v ≤ g v) → sum_by f (others_at m n w) ≤ sum_by g (others_at m n w)

@@ -7,15 +7,16 @@ use Rattle.std.proofs.lemmas.{Bool.and_from, Bool.and_parts, Bool.false_from_ne_
 use Rattle.std.proofs.lemmas.{Bool.le-leb, Bool.lt-ltb, Bool.cases_lt, Bool.Decides.Decides-eqb, List.ext_get_or}
 use Rattle.std.proofs.lemmas.{List.get_or-set_other, List.get_or-set_same, List.length-set, List.Sums.sum_by-append}
 use Rattle.std.proofs.lemmas.{List.Sums.sum_by-cons, Map.Views.any-filter_same, List.Folds.list_any-append}
+use Rattle.sj_base.proofs.Bools.{same_test, tally}
+use Rattle.sj_base.proofs.Lists.{sum_by-agree, counted_some}
+use Rattle.sj_base.proofs.SameIds.{same_cell-is, same_cell-itself}
+pub use Rattle.sj_base.proofs.SameIds.{same_cell-itself as same_cell-refl}
 use Rattle.sj_core.specs.{Step.to_front, Step.without, Table.renewed}
-use Rattle.sj_core.proofs.Sums.{tally, filter-sum-le, sum-agree, sum-each, count-numbered, sum-plus, same_test}
-use Rattle.sj_core.proofs.Sums.{sum-nothing, counted-some, counted-has}
-use Rattle.sj_core.proofs.{Reading.same_cell-is, Tables.length-renewed, Tables.renewed-at}
+use Rattle.sj_core.proofs.Sums.{filter-sum-le, sum-each, count-numbered, sum-plus}
+use Rattle.sj_core.proofs.Sums.{sum-nothing, counted-has}
+use Rattle.sj_core.proofs.{Tables.length-renewed, Tables.renewed-at}
 
 -- ---- tests
-
-pub same_cell-refl : (c : Cell) → same_cell c c ≡ true
-same_cell-refl c = (Decides-eqb c.0 c.0).1 refl
 
 pub same_cell-from : (c d : Cell) → c ≡ d → same_cell c d ≡ true
 same_cell-from c d e = (Decides-eqb c.0 d.0).1 (ap (λ (k : Cell). k.0) e)
@@ -69,7 +70,7 @@ pub times-filter : (f : Cell → Bool) (xs : List Cell) (c : Cell) → times (fi
 times-filter f xs c = filter-sum-le (λ d. tally (same_cell d c)) f xs
 
 pub times-none : (xs : List Cell) (c : Cell) → has_cell xs c ≡ false → times xs c ≡ 0
-times-none xs c h = elim (cases_lt 0 (times xs c)) [ inl some ↦ absurd (false≢true (sym h ∙ counted-some (λ d. same_cell d c) xs some)) | inr none ↦ omega arith ]
+times-none xs c h = elim (cases_lt 0 (times xs c)) [ inl some ↦ absurd (false≢true (sym h ∙ counted_some (λ d. same_cell d c) xs some)) | inr none ↦ omega arith ]
 
 pub times-has : (xs : List Cell) (c : Cell) → has_cell xs c ≡ true → 1 ≤ times xs c
 times-has xs c h = counted-has (λ d. same_cell d c) xs h
@@ -77,7 +78,7 @@ times-has xs c h = counted-has (λ d. same_cell d c) xs h
 -- where a list has its first cell once, the rest hasn't it
 once-new : (c : Cell) (cs : List Cell) → times (c ∷ cs) c ≤ 1 → has_cell cs c ≡ false
 once-new c cs once = false_from_ne_true (has_cell cs c) (λ h.
-    (let one : tally (same_cell c c) ≡ 1 = ap tally (same_cell-refl c) in omega (arith, times-cons c cs c, times-has cs c h)))
+    (let one : tally (same_cell c c) ≡ 1 = ap tally (same_cell-itself c) in omega (arith, times-cons c cs c, times-has cs c h)))
 
 pub times-to_front : (xs : List Cell) (d c : Cell) → times xs c ≤ 1 → times (to_front xs d) c ≤ 1
 times-to_front xs d c once = by_cases (same_cell d c) refl
@@ -151,7 +152,7 @@ share f test c = cond (test c) (f c) 0
 
 share-of_one : (f : Cell → ℕ) (all : List Cell) (x : Cell) → times all x ≡ 1 → sum_by (share f (same_cell x)) all ≡ f x
 share-of_one f all x h =
-    let agree = sum-agree (share f (same_cell x)) (λ y. cond (same_cell y x) (f x) 0) same all in
+    let agree = sum_by-agree (share f (same_cell x)) (λ y. cond (same_cell y x) (f x) 0) same all in
     omega (arith, agree, sum-each (λ y. same_cell y x) (f x) all, ap (λ n. f x * n) h)
   where
     same : (y : Cell) → share f (same_cell x) y ≡ cond (same_cell y x) (f x) 0
@@ -163,7 +164,7 @@ sum-once f all [] inside once = sym (sum-nothing (share f (has_cell [])) (λ c. 
 sum-once f all (x ∷ xs) inside once =
     let both = sum-once f all xs (λ c h. inside c (or_right (same_cell x c) (has_cell xs c) h)) (λ c. (let o = once c in let t = times-cons x xs c in omega arith)) in
     let count = sum-plus (share f (has_cell (x ∷ xs))) (share f (same_cell x)) (share f (has_cell xs)) apart all in
-    let bound = share-of_one f all x (inside x (ap (λ b. b || has_cell xs x) (same_cell-refl x))) in
+    let bound = share-of_one f all x (inside x (ap (λ b. b || has_cell xs x) (same_cell-itself x))) in
     omega (arith, sum_by-cons f x xs)
   where
     new : has_cell xs x ≡ false

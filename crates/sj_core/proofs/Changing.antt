@@ -189,7 +189,8 @@ module _ (p : Program) (m : Machine) (s : State) (h : IsSound p m s) (s' : State
   pub Changes-coherent : WritersOwn p m s' → CopiesAgree p s' → Coherent p m s'
   Changes-coherent writers copies = search (arith, Changes-cells, Changes-pins, Changes-bytes, Changes-workers)
 
--- a step that begins no transfer keeps them sound, where what moves stays valid where it is read, awaited or evicted, and no mover's victims are more
+-- a step that begins no transfer keeps them sound, where what moves stays valid where it is read, awaited or evicted, and no
+-- mover's victims are more
 pub TransfersAreSound-kept : (m : Machine) (s s' : State) → ((v : Worker) (x : Transfer) → transfer s' v ≡ Some x → transfer s v ≡ Some x) →
     ((v : Worker) (x : Transfer) → transfer s' v ≡ Some x → is_valid (replica s x.cell x.from) ≡ true → is_valid (replica s' x.cell x.from) ≡ true) →
     ((v : Worker) (x : Transfer) (k : Node) → transfer s' v ≡ Some x → k ≡ node_of m v → is_coming_by v (replica s x.cell (AtNode k)) ≡ true → is_coming_by v (replica s' x.cell (AtNode k)) ≡ true) →

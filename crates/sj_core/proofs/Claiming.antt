@@ -1,10 +1,11 @@
 -- What a claim changes, and that it leaves a coherent state: a victim leaves, a missing cell comes, and the rest stays as it is.
-use Rattle.std.proofs.Common.{Bool, List, Some, [], ap, arith, cond, false, filter, fold, if◌then◌else◌, inl, inr, is_some, length, nat_eq, not, refl, subst, sum_by, sym, true, ℕ, ◌&&◌, ◌++◌, ◌+◌, ◌<◌, ◌||◌, ◌∙◌, ◌∷◌, ◌≡◌, ◌≢◌, ◌≤◌, ◌⊎◌}
+use Rattle.std.proofs.Common.{Bool, List, Some, [], ap, arith, cond, false, filter, fold, if◌then◌else◌, inl, inr, is_some, length, nat_eq, not, refl, subst, sum_by, sym, true, ℕ, ◌&&◌, ◌++◌, ◌+◌, ◌<◌, ◌||◌, ◌∙◌, ◌≡◌, ◌≢◌, ◌≤◌, ◌⊎◌}
 use Rattle.std.proofs.lemmas.Bool.{and_from, and_parts, cases_Bool, cases_lt, false_from_ne_true, false≢true, leb-true, not-true}
 use Rattle.std.proofs.lemmas.Bool.Decides.{Decides-eqb}
 use Rattle.std.proofs.lemmas.List.{get_or-set_other, get_or-set_same, get_or_past, length-set}
 use Rattle.std.proofs.lemmas.List.Elements.{All-contains}
-use Rattle.std.specs.List.{list_any}
+use Rattle.sj_base.proofs.Lists.{list_any-filter}
+use Rattle.sj_base.proofs.SameIds.{workers_differ}
 use Rattle.sj_core.proofs.Words.{Array, AtNode, Cell, CellState, Claimed, Coming, DiskNo, Invalid, Leaving, Machine, Node, OnDisk, Place, Program, Replica, Running, State, Task, Transfer, Valid, Waiting, Worker, WorkerState, array_of, cell_state, cells_of, cells_of_program, dims_of, distinct, free, fresh_cells, has_cell, is_claimed_by, is_coming_by, is_entry, is_leaving, is_leaving_by, is_pinned, is_task_of, is_valid, node_of, node_size, order, pins, progress, replica, replica_in, same_worker, scratch, scratch_bytes, task_of, tile_bytes, transfer, used, with_replica_in, worker_state, workers_at, workers_of, writes, written_cells, zeros}
 use Rattle.sj_core.specs.Coherent.{Coherent, CopiesAgree, HasEntries, HasRows, IsOwnedBy, IsStateOf, NodesSuffice, OrderIsKept, PinsHold, TasksHaveCells, TransfersAreSound, WorkersAreSound, WritersOwn, WritesAreCounted, content, is_being_written, used_while_leaving, written_content}
 use Rattle.sj_core.specs.Laws.{IsSound}
@@ -15,7 +16,7 @@ use Rattle.sj_core.proofs.Advancing.{Advances, Claims-advances, claimed-is_mine,
 use Rattle.sj_core.proofs.CellLists.{filter-has_cell, has_cell-append, has_cell-distinct, has_cell-filter, has_cell-fronted, has_cell-without, share, times, times-append, times-distinct, times-filter, times-fronted}
 use Rattle.sj_core.proofs.Eviction.{evicted-chosen, evicted_by, shortest_suffix-passes, shortest_suffix-suffix}
 use Rattle.sj_core.proofs.Placing.{replica_in-cases}
-use Rattle.sj_core.proofs.Reading.{cells-renewed_or, entry-inside, idle_row, list_any-worker, no_row, replica_in-same, same_node, settled-at, worker-other, worker-same, workers_differ}
+use Rattle.sj_core.proofs.Reading.{cells-renewed_or, entry-inside, idle_row, list_any-worker, no_row, replica_in-same, same_node, settled-at, worker-other, worker-same}
 use Rattle.sj_core.proofs.Replicas.{coming_by-is, entry-cases, invalid-is, leaving-by_some, leaving_by-leaves, leaving_by-no_entry, same_worker-is, same_worker-refl}
 use Rattle.sj_core.proofs.Sharing.{operand_for}
 use Rattle.sj_core.proofs.Tables.{renewed-at}
@@ -95,10 +96,6 @@ pinned-at m s v n c inside here h =
     let at_n : Worker → Bool = λ u. nat_eq (node_of m u).0 n.0 in
     let pins_it : Worker → Bool = λ u. has_cell (pins s u) c in
     list_any-filter pins_it at_n (workers_of m) ∙ list_any-worker (λ u. at_n u && pins_it u) m v inside (and_from (at_n v) (pins_it v) ((Decides-eqb (node_of m v).0 n.0).1 (ap (λ (k : Node). k.0) here)) h)
-  where
-    list_any-filter : {X : Type 0} (f g : X → Bool) (xs : List X) → list_any f (filter g xs) ≡ list_any (λ x. g x && f x) xs
-    list_any-filter f g [] = refl
-    list_any-filter f g (x ∷ xs) = grind (arith, cases_Bool (g x), list_any-filter f g xs)
 
 -- ---- what a replica becomes
 

@@ -5,13 +5,15 @@ use Rattle.sj_core.proofs.Words.{Access, Cell, Mode, Program, R, RW, Redux, W, W
 use Rattle.sj_core.proofs.Words.{data_operands, no_task, same_cell, worked_on}
 use Rattle.std.proofs.lemmas.{Bool.cases_lt, Bool.false≢true, Bool.true≢false, Bool.Decides.Decides-eqb}
 use Rattle.std.proofs.lemmas.{List.get_or_default, List.Elements.All-contains, List.Elements.Contains-get_or}
-use Rattle.sj_base.specs.Mode.{is_redux, is_scratch, starts_as_zeros}
+use Rattle.sj_base.specs.Mode.{is_redux, is_scratch, starts_as_zeros, access}
+use Rattle.sj_base.specs.Ids.{task}
+use Rattle.sj_base.proofs.Lists.{one_is}
 use Rattle.sj_core.specs.Proper.{IsCombine, IsContribution, IsCopyOf, IsFirstUnit, IsInit, IsMember, IsOpenAt, IsPhase}
-use Rattle.sj_core.specs.Proper.{Phase, Proper, Touches, access, task_number}
+use Rattle.sj_core.specs.Proper.{Phase, Proper, Touches, task_number}
 use Rattle.sj_core.proofs.Phases.{combine-after, combine-among, combine-reads, combine_at, contributes, copy-of}
 use Rattle.sj_core.proofs.Phases.{init-among, init-before, init_at}
-use Rattle.sj_core.proofs.Dependencies.{not_both, one_is, own-of_phase}
-use Rattle.sj_core.proofs.{Folding.number, TaskCells.operand-inside, Readiness.AllPairs-two, Readiness.Contains-filter}
+use Rattle.sj_core.proofs.Dependencies.{not_both, own-of_phase}
+use Rattle.sj_core.proofs.{TaskCells.operand-inside, Readiness.AllPairs-two, Readiness.Contains-filter}
 
 -- a mode is REDUX or not
 pub redux_or : (x : Mode) → (x ≡ Redux) ⊎ (is_redux x ≡ false)
@@ -100,7 +102,7 @@ module _ (p : Program) (proper : Proper p) where
 
         by_mode : (a.mode ≡ Redux) ⊎ (is_redux a.mode ≡ false) → AtWork n v a
         by_mode (inl redux) =
-            let copy = copy-of p proper (number n) (operand-inside p (number n) a h) v v_in a h redux in
+            let copy = copy-of p proper (task n) (operand-inside p (task n) a h) v v_in a h redux in
             elim touches [
               | inl cell ↦ absurd (copy-bare a.cell copy.has_copies v v_in f.cell has_copies (sym copy.is ∙ cell))
               | inr other ↦
@@ -123,7 +125,7 @@ module _ (p : Program) (proper : Proper p) where
             not_twice same own =
                 let b : Access = access Redux f.cell in
                 let b_in = Contains-filter (λ x. not (is_scratch x.mode)) (task_number p n).accesses b refl (named own) in
-                by_places (AllPairs-two (λ x y. IsTrue (same_cell x.cell y.cell) → (x.mode ≡ R) × (y.mode ≡ R)) (data_operands (task_number p n)) a b (proper.unaliased n no_task (operand-inside p (number n) a h)) in_data b_in)
+                by_places (AllPairs-two (λ x y. IsTrue (same_cell x.cell y.cell) → (x.mode ≡ R) × (y.mode ≡ R)) (data_operands (task_number p n)) a b (proper.unaliased n no_task (operand-inside p (task n) a h)) in_data b_in)
               where
                 redux_isn't_read : Redux ≡ R → ⊥
                 redux_isn't_read e = cc
@@ -195,9 +197,9 @@ module _ (p : Program) (proper : Proper p) where
       where
         by_mode : (a.mode ≡ Redux) ⊎ (is_redux a.mode ≡ false) → IsRefilled f phase has_copies x (combine_at p proper f phase x x_in) n
         by_mode (inl redux) =
-            let copy = copy-of p proper (number n) (operand-inside p (number n) a h) v v_in a h redux in
+            let copy = copy-of p proper (task n) (operand-inside p (task n) a h) v v_in a h redux in
             let same : a.cell ≡ f.cell = proper.cells.apart (worked_on p v a) a.cell f.cell v x copy (record { has_copies = has_copies; of_worker = x_in; is = is }) in
-            let of_n = contributes p proper (number n) a h redux in
+            let of_n = contributes p proper (task n) a h redux in
             filled-later of_n.phase of_n.is_phase (of_n.cell ∙ same) (init-before p proper of_n.phase of_n.is_phase x x_in n of_n.among) (let l = combine-after p proper of_n.phase of_n.is_phase x x_in n of_n.among in omega (arith, l))
         by_mode (inr direct) =
             let cell : a.cell ≡ copy_of p f.cell x = sym (direct-cell p v a direct) ∙ is in

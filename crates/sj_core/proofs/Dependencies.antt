@@ -9,15 +9,13 @@ use Rattle.std.proofs.lemmas.{Bool.cases_lt, Bool.Decides.Decides-eqb, List.get_
 use Rattle.std.proofs.lemmas.{List.Elements.Contains-append_cases, List.FromFn.get_or-range_with_len}
 use Rattle.std.proofs.lemmas.{List.FromFn.length-range_with_len, Option.slice_get-get_or, Option.slice_get_past}
 use Rattle.std.specs.List.{range_with_len}
-use Rattle.sj_base.specs.Mode.{is_redux, is_scratch}
+use Rattle.sj_base.specs.Mode.{is_redux, is_scratch, access}
+use Rattle.sj_base.proofs.Lists.{one_is}
 use Rattle.sj_deps.specs.Conflict.{HasDependencies, Uses, copies_of, usage, usages_of}
-use Rattle.sj_core.specs.Proper.{IsCopyOf, IsInit, IsPhase, Phase, Proper, access, task_number}
+use Rattle.sj_core.specs.Proper.{IsCopyOf, IsInit, IsPhase, Phase, Proper, task_number}
 use Rattle.sj_core.proofs.{Readiness.AllPairs-two, Readiness.Contains-filter, Sharing.manner_of}
 
 -- ---- what lists contain
-
-pub one_is : {X : Type 0} (x y : X) → Contains (x ∷ []) y → x ≡ y
-one_is x y b = search arith
 
 pub none_is : {X : Type 0} (y : X) → Contains [] y → ⊥
 none_is y (k, l, e) = omega arith

@@ -3,6 +3,9 @@ use Rattle.std.proofs.Common.{Bool, List, ap, arith, false, inl, inr, length, re
 use Rattle.std.proofs.lemmas.Bool.{false≢true, eq-eqb, ne_eqb, and_from, le-leb, lt-ltb, cases_Bool, cases_lt, false_from_ne_true, cond_both}
 use Rattle.std.proofs.lemmas.List.{get_or-set_same, get_or_past, length-set}
 use Rattle.std.proofs.lemmas.Option.{MatchOption-from_none}
+use Rattle.sj_base.proofs.Bools.{tally}
+use Rattle.sj_base.proofs.Lists.{sum_by-agree}
+use Rattle.sj_base.proofs.SameIds.{same_place-itself, workers_differ}
 use Rattle.sj_deps.specs.Conflict.{Conflict}
 use Rattle.sj_core.specs.Coherent.{Coherent, HasWorkers, OrderIsKept, content, is_begun, IsStateOf, TasksHaveCells, WritesAreCounted, has_written, CopiesAgree, HasRows, IsOwnedBy, WritersOwn, is_being_written, written_content}
 use Rattle.sj_core.specs.Fold.{after_chosen, after_task, held_in}
@@ -16,12 +19,12 @@ use Rattle.sj_core.proofs.Updating.{may-swap}
 use Rattle.sj_core.proofs.Folding.{AddsTask, after_chosen-same, after_task-other, held-append, held_over, held_over-own, read-among_cells, results-same}
 use Rattle.sj_core.proofs.Found.{found-content}
 use Rattle.sj_core.proofs.Phases.{contributions-exchange}
-use Rattle.sj_core.proofs.Reading.{cells-touched, cells-untouched, cells-renewed_or, entry-inside, idle_row, moves-it, worker-other, worker-same, workers_differ}
+use Rattle.sj_core.proofs.Reading.{cells-touched, cells-untouched, cells-renewed_or, entry-inside, idle_row, moves-it, worker-other, worker-same}
 use Rattle.sj_core.proofs.Replicas.{same_worker-refl}
 use Rattle.sj_core.proofs.Swapping.{put-last}
-use Rattle.sj_core.proofs.Placing.{valid-row, replica_in-cases, same_place-is, same_place-refl}
+use Rattle.sj_core.proofs.Placing.{valid-row, replica_in-cases, same_place-is}
 use Rattle.sj_core.proofs.TaskCells.{written-among_cells}
-use Rattle.sj_core.proofs.Sums.{tally, sum-agree, sum-plus, count-numbered}
+use Rattle.sj_core.proofs.Sums.{sum-plus, count-numbered}
 use Rattle.sj_core.proofs.CellLists.{times}
 use Rattle.sj_core.proofs.Changing.{Changes, Changes-coherent, Changes-writers, TransfersAreSound-spared, HasBlocks-kept, HasRows-kept, moves-kept, HasWorkers-kept}
 use Rattle.sj_core.proofs.Dependencies.{Proper-dependencies}
@@ -99,7 +102,7 @@ pub written-undone : (p : Program) (s s' : State) (c : Cell) (t u : Task) (old n
 written-undone p s s' c t u old new a before after = search (arith, same_task, written-other)
 
 pub counted-same : (p : Program) (s s' : State) (c : Cell) → ((u : Task) → has_written p s' c u ≡ has_written p s c u) → count_by (has_written p s' c) (tasks_of p) ≡ count_by (has_written p s c) (tasks_of p)
-counted-same p s s' c same = sum-agree (λ u. tally (has_written p s' c u)) (λ u. tally (has_written p s c u)) (λ u. ap tally (same u)) (tasks_of p)
+counted-same p s s' c same = sum_by-agree (λ u. tally (has_written p s' c u)) (λ u. tally (has_written p s c u)) (λ u. ap tally (same u)) (tasks_of p)
 
 -- an end keeps that a cell's write count is the number of done tasks that wrote it
 pub Ends-keeps_counts : (p : Program) (m : Machine) (s : State) (t : Task) (w : Worker) (s' : State) → IsStateOf p m s → TasksHaveCells p m s → progress s t ≡ Running w → s' ≡ after_end p m s t w → WritesAreCounted p s → WritesAreCounted p s'
@@ -158,7 +161,7 @@ module _ (p : Program) (m : Machine) (s : State) (t : Task) (w : Worker) (s' : S
 
   -- but on its worker's node nothing changes
   pub end-elsewhere : (c : Cell) (q : Place) → not (same_place q (AtNode (node_of m w))) ≡ true → replica s' c q ≡ replica s c q
-  end-elsewhere c q away = elim (end-cases c q) [ inl same ↦ same | inr (written, at, is) ↦ absurd (false≢true (sym (ap (λ (k : Place). not (same_place k (AtNode (node_of m w)))) at ∙ ap not (same_place-refl (AtNode (node_of m w)))) ∙ away)) ]
+  end-elsewhere c q away = elim (end-cases c q) [ inl same ↦ same | inr (written, at, is) ↦ absurd (false≢true (sym (ap (λ (k : Place). not (same_place k (AtNode (node_of m w)))) at ∙ ap not (same_place-itself (AtNode (node_of m w)))) ∙ away)) ]
 
   -- a test that a valid replica fails is passed by none that didn't before
   end-fewer : (test : Replica → Bool) → ((a : Array) → test (Valid a) ≡ false) → (c : Cell) (q : Place) → test (replica s' c q) ≡ true → test (replica s c q) ≡ true

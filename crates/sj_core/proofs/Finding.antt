@@ -1,4 +1,5 @@
--- What a claimed or running task finds in the cells whose old value it reads; and which cells no running task writes, before and after a step.
+-- What a claimed or running task finds in the cells whose old value it reads; and which cells no running task writes, before
+-- and after a step.
 use Rattle.std.proofs.Common.{Bool, Option, ap, arith, cond, false, inl, inr, length, not, sym, true, ◌&&◌, ◌<◌, ◌∙◌}
 use Rattle.std.proofs.Common.{◌≡◌, subst, Contains, IfSome, count_by, is_some}
 use Rattle.sj_core.proofs.Words.{Access, Array, Cell, Machine, Program, Progress, Running, State, Task, Worker}
@@ -8,11 +9,12 @@ use Rattle.std.proofs.lemmas.Bool.{and_parts, false_from_ne_true, false≢true, 
 use Rattle.std.proofs.lemmas.List.Folds.{Any-from_list_any}
 use Rattle.std.specs.Prelude.{unwrap_or}
 use Rattle.sj_base.specs.Mode.{is_redux, is_written}
+use Rattle.sj_base.proofs.Lists.{list_any-numbered}
 use Rattle.sj_deps.specs.Conflict.{HasDependencies}
 use Rattle.sj_core.specs.Coherent.{Coherent, is_being_written, HasRows}
 use Rattle.sj_core.specs.Proper.{Proper, gives_value}
 use Rattle.sj_core.proofs.Advancing.{running_on-is, same_task, task_of-worker, Advances}
-use Rattle.sj_core.proofs.Reading.{progress-inside, list_any-numbered}
+use Rattle.sj_core.proofs.Reading.{progress-inside}
 use Rattle.sj_core.proofs.{Replicas.same_worker-refl, Separation.separated, Sharing.operand-has_cell, Sums.counted-has}
 
 -- ---- lists

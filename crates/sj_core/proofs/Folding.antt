@@ -1,22 +1,18 @@
 -- What cells hold after tasks in submission order: on which tasks it depends, and that a task may come last.
-use Rattle.std.proofs.Common.{Bool, List, None, Some, [], ap, arith, cond, false, inl, inr, length, map, not, refl, suc}
+use Rattle.std.proofs.Common.{Bool, List, None, Some, [], ap, arith, cond, false, inl, inr, length, not, refl, suc}
 use Rattle.std.proofs.Common.{sym, true, zero, ℕ, ◌++◌, ◌<◌, ◌||◌, ◌∙◌, ◌∷◌, ◌≡◌, ◌≢◌, ◌≤◌, Contains, find, zip}
 use Rattle.sj_core.proofs.Words.{Access, Array, Cell, Program, Task, Worker, cells_of, has_cell, results, same_cell}
 use Rattle.sj_core.proofs.Words.{task_of, worked_on, written_cells}
 use Rattle.std.proofs.lemmas.Bool.{cases_lt, false_from_ne_true, false≢true, true≢false}
 use Rattle.std.proofs.lemmas.{Bool.Decides.Decides-eqb, List.Folds.find-append}
 use Rattle.sj_base.specs.Mode.{is_scratch, starts_as_zeros}
+use Rattle.sj_base.specs.Ids.{task}
+use Rattle.sj_base.proofs.Lists.{map-agree}
+pub use Rattle.sj_base.proofs.Lists.{map-agree as map-same}
 use Rattle.sj_core.specs.Fold.{Contents, after_chosen, after_task, held_in}
 use Rattle.sj_core.proofs.{Modes.reads_isn't_scratch, Readiness.Contains-from_filter, Sharing.operand-has_cell}
 
-abbrev pub number : ℕ → Task
-number n = record { 0 = n }
-
 -- ---- lists
-
-pub map-same : {X Y : Type 0} (f g : X → Y) (xs : List X) → ((x : X) → Contains xs x → f x ≡ g x) → map f xs ≡ map g xs
-map-same f g [] same = refl
-map-same f g (x ∷ xs) same = ap (λ y. y ∷ map f xs) (same x (0, omega arith, refl)) ∙ ap (λ ys. g x ∷ ys) (map-same f g xs (λ z h. same z (suc h.0, omega (arith, h.1), h.2)))
 
 -- ---- what was put into a cell last
 
@@ -50,7 +46,7 @@ after_task-other p w t before c h = search (arith, held-append, held_over-other)
 
 -- a task's results depend on what it finds in the cells whose old value it reads
 pub results-same : (p : Program) (t : Task) (v w : Worker) (held held' : Cell → Array) → ((a : Access) → Contains (task_of p t).accesses a → starts_as_zeros a.mode ≡ false → held (worked_on p v a) ≡ held' (worked_on p w a)) → results p t v held ≡ results p t w held'
-results-same p t v w held held' same = search (arith, map-same)
+results-same p t v w held held' same = search (arith, map-agree)
 
 -- a cell whose old value a task reads is one of its cells
 pub read-among_cells : (p : Program) (t : Task) (w : Worker) (a : Access) → Contains (task_of p t).accesses a → starts_as_zeros a.mode ≡ false → has_cell (cells_of p t w) (worked_on p w a) ≡ true
@@ -62,7 +58,7 @@ abbrev pub WorksAlike : Program → Task → Worker → Worker → Type 0
 WorksAlike p t v w = (a : Access) → Contains (task_of p t).accesses a → worked_on p v a ≡ worked_on p w a
 
 pub written_cells-alike : (p : Program) (t : Task) (v w : Worker) → WorksAlike p t v w → written_cells p t v ≡ written_cells p t w
-written_cells-alike p t v w alike = search (arith, map-same, Contains-from_filter)
+written_cells-alike p t v w alike = search (arith, map-agree, Contains-from_filter)
 
 -- after a task a cell holds alike what it and the task's cells held alike
 pub after_task-same : (p : Program) (t : Task) (v w : Worker) (before before' : Contents) (c : Cell) → WorksAlike p t v w → ((d : Cell) → has_cell (cells_of p t v) d ≡ true → held_in p before d ≡ held_in p before' d) → held_in p before c ≡ held_in p before' c →
@@ -85,7 +81,7 @@ after_task-same p t v w before before' c alike same here =
 pub after_chosen-same : (p : Program) (chosen chosen' : Task → Bool) (by by' : Task → Worker) (n : ℕ) → ((u : Task) → u.0 < n → chosen u ≡ chosen' u) → ((u : Task) → u.0 < n → chosen u ≡ true → by u ≡ by' u) → after_chosen p chosen by n ≡ after_chosen p chosen' by' n
 after_chosen-same p chosen chosen' by by' zero same workers = refl
 after_chosen-same p chosen chosen' by by' (suc n) same workers =
-    search (arith, number, after_chosen-same p chosen chosen' by by' n (λ u h. same u (omega arith)) (λ u h. workers u (omega arith)))
+    search (arith, task, after_chosen-same p chosen chosen' by by' n (λ u h. same u (omega arith)) (λ u h. workers u (omega arith)))
 
 -- where no chosen task from a on writes a cell, it holds what it held after the tasks below a
 pub held-until : (p : Program) (chosen : Task → Bool) (by : Task → Worker) (c : Cell) (a n : ℕ) → a ≤ n → ((u : Task) → a ≤ u.0 → u.0 < n → chosen u ≡ true → has_cell (written_cells p u (by u)) c ≡ false) →
@@ -94,12 +90,12 @@ held-until p chosen by c a zero l spared = ap (λ k. held_in p (after_chosen p c
 held-until p chosen by c a (suc n) l spared =
     elim (cases_lt n a) [
       | inl past ↦ ap (λ k. held_in p (after_chosen p chosen by k) c) (let e : suc n ≡ a = omega arith in e)
-      | inr before ↦ by_choice (chosen (number n)) refl (λ e. spared (number n) before (omega arith) e) ∙ held-until p chosen by c a n before (λ u h k. spared u h (omega arith))
+      | inr before ↦ by_choice (chosen (task n)) refl (λ e. spared (task n) before (omega arith) e) ∙ held-until p chosen by c a n before (λ u h k. spared u h (omega arith))
     ]
   where
-    by_choice : (b : Bool) → chosen (number n) ≡ b → (chosen (number n) ≡ true → has_cell (written_cells p (number n) (by (number n))) c ≡ false) →
-        held_in p (cond b (after_task p (by (number n)) (number n) (after_chosen p chosen by n)) (after_chosen p chosen by n)) c ≡ held_in p (after_chosen p chosen by n) c
-    by_choice true e other = after_task-other p (by (number n)) (number n) (after_chosen p chosen by n) c (other e)
+    by_choice : (b : Bool) → chosen (task n) ≡ b → (chosen (task n) ≡ true → has_cell (written_cells p (task n) (by (task n))) c ≡ false) →
+        held_in p (cond b (after_task p (by (task n)) (task n) (after_chosen p chosen by n)) (after_chosen p chosen by n)) c ≡ held_in p (after_chosen p chosen by n) c
+    by_choice true e other = after_task-other p (by (task n)) (task n) (after_chosen p chosen by n) c (other e)
     by_choice false e other = refl
 
 -- ---- the cone of a cell
@@ -120,22 +116,22 @@ cone-holds p chosen wider by by' zero k c writers = refl
 cone-holds p chosen wider by by' (suc n) k c writers = by_choice (chosen t) (wider t) refl refl (cone-holds p chosen wider by by' n below)
   where
     t : Task
-    t = number n
+    t = task n
 
     below : IsCone p chosen wider by by' n
     below = record { within = λ u h. k.within u (omega arith); alike = λ u h. k.alike u (omega arith); closed = λ u v d before h. k.closed u v d before (omega arith) }
 
-    by_choice : (a b : Bool) → chosen (number n) ≡ a → wider (number n) ≡ b → ((d : Cell) → HasWriters p chosen wider by' n d → held_in p (after_chosen p chosen by n) d ≡ held_in p (after_chosen p wider by' n) d) →
-        held_in p (cond a (after_task p (by (number n)) (number n) (after_chosen p chosen by n)) (after_chosen p chosen by n)) c ≡ held_in p (cond b (after_task p (by' (number n)) (number n) (after_chosen p wider by' n)) (after_chosen p wider by' n)) c
+    by_choice : (a b : Bool) → chosen (task n) ≡ a → wider (task n) ≡ b → ((d : Cell) → HasWriters p chosen wider by' n d → held_in p (after_chosen p chosen by n) d ≡ held_in p (after_chosen p wider by' n) d) →
+        held_in p (cond a (after_task p (by (task n)) (task n) (after_chosen p chosen by n)) (after_chosen p chosen by n)) c ≡ held_in p (cond b (after_task p (by' (task n)) (task n) (after_chosen p wider by' n)) (after_chosen p wider by' n)) c
     by_choice true true e f rest =
-        after_task-same p (number n) (by (number n)) (by' (number n)) (after_chosen p chosen by n) (after_chosen p wider by' n) c
-        (k.alike (number n) (omega arith) e)
-        (λ d has. rest d (λ u h among writes. k.closed u (number n) d h (omega arith) e among writes has))
+        after_task-same p (task n) (by (task n)) (by' (task n)) (after_chosen p chosen by n) (after_chosen p wider by' n) c
+        (k.alike (task n) (omega arith) e)
+        (λ d has. rest d (λ u h among writes. k.closed u (task n) d h (omega arith) e among writes has))
         (rest c (λ u h. writers u (omega arith)))
-    by_choice true false e f rest = absurd (false≢true (sym f ∙ k.within (number n) (omega arith) e))
+    by_choice true false e f rest = absurd (false≢true (sym f ∙ k.within (task n) (omega arith) e))
     by_choice false true e f rest =
-        let other = false_from_ne_true (has_cell (written_cells p (number n) (by' (number n))) c) (λ writes. false≢true (sym e ∙ writers (number n) (omega arith) f writes)) in
-        rest c (λ u h. writers u (omega arith)) ∙ sym (after_task-other p (by' (number n)) (number n) (after_chosen p wider by' n) c other)
+        let other = false_from_ne_true (has_cell (written_cells p (task n) (by' (task n))) c) (λ writes. false≢true (sym e ∙ writers (task n) (omega arith) f writes)) in
+        rest c (λ u h. writers u (omega arith)) ∙ sym (after_task-other p (by' (task n)) (task n) (after_chosen p wider by' n) c other)
     by_choice false false e f rest = rest c (λ u h. writers u (omega arith))
 
 -- ---- one task more

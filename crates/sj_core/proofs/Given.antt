@@ -1,5 +1,5 @@
--- What a task finds where it works: the contents of its cells; and in a settled cell of an access in order what all tasks before it leave, in
--- submission order. Where all tasks are done, cells hold what all tasks leave.
+-- What a task finds where it works: the contents of its cells; and in a settled cell of an access in order what all tasks
+-- before it leave, in submission order. Where all tasks are done, cells hold what all tasks leave.
 use Rattle.std.proofs.Common.{Bool, List, [], ap, arith, false, get_or, inl, inr, length, map, not, refl, subst, sym}
 use Rattle.std.proofs.Common.{true, ℕ, ◌<◌, ◌||◌, ◌∙◌, ◌∷◌, ◌≡◌, ◌≢◌, ◌&&◌, ◌⊎◌, Contains, filter, slice_index_or}
 use Rattle.std.proofs.Common.{IfSome, IsTrue, is_some}
@@ -10,18 +10,19 @@ use Rattle.sj_core.proofs.Words.{task_of, worked_on, worker_of, writes, written_
 use Rattle.std.proofs.lemmas.Bool.{false_from_ne_true, false≢true}
 use Rattle.std.proofs.lemmas.List.Elements.{All-contains, Contains-get_or}
 use Rattle.std.proofs.lemmas.{List.Folds.Any-from_list_any, List.Sums.AllPass-from_list_all}
-use Rattle.sj_base.specs.Mode.{is_in_order, is_redux, is_scratch, is_written, reads_value}
+use Rattle.sj_base.specs.Mode.{is_in_order, is_redux, is_scratch, is_written, reads_value, access}
+use Rattle.sj_base.proofs.Lists.{one_is}
 use Rattle.sj_deps.specs.Conflict.{Conflict}
 use Rattle.sj_core.specs.Laws.{Brought, HasAtHand, HoldsFinal, IsLawful, IsSettled, IsSound, Works, final}
 use Rattle.sj_core.specs.Proper.{IsContribution, IsFirstUnit, IsMember, IsOpenAt, IsPhase, IsPlain, Phase, Proper}
-use Rattle.sj_core.specs.Proper.{access, gives_value, task_number}
+use Rattle.sj_core.specs.Proper.{gives_value, task_number}
 use Rattle.sj_core.specs.Coherent.{content, has_written, is_begun, is_being_written}
 use Rattle.sj_core.specs.Fold.{given, held_before, held_in}
 use Rattle.sj_core.specs.{Legal.IsComplete, Step.EarlierAreDone, Step.array_at}
 use Rattle.sj_core.proofs.Finding.{being_written-by, gives-writes, task-counted, running-inside}
 use Rattle.sj_core.proofs.{Advancing.done-begun, Ending.all-staffed, Ending.later-free, Copies.combine-of}
 use Rattle.sj_core.proofs.{Copies.direct-cell, Copies.init-of, Workers.cone-shared, Workers.in_order-conflicts}
-use Rattle.sj_core.proofs.{Workers.workers-alike, Dependencies.one_is, Folding.after_chosen-same, Folding.held-until}
+use Rattle.sj_core.proofs.{Workers.workers-alike, Folding.after_chosen-same, Folding.held-until}
 use Rattle.sj_core.proofs.{Folding.read-among_cells, Found.found-content, Modes.plain_isn't_redux}
 use Rattle.sj_core.proofs.{Modes.reads_isn't_scratch, TaskCells.operand-inside, Readiness.Contains-filter}
 use Rattle.sj_core.proofs.{Replicas.same_worker-refl, Sharing.Conflict-sym, Sharing.one, Sharing.redux-has_copies}

@@ -1,11 +1,12 @@
 -- What a mode says of its operand, by a look at each mode.
 use Rattle.std.proofs.Common.{arith, Bool, [], false, not, refl, true, ◌||◌, ◌∷◌, ◌≡◌, List}
 use Rattle.sj_core.proofs.Words.{Mode, R, RW, Redux, Scratch, W}
-use Rattle.std.proofs.lemmas.Bool.{and_parts, false≢true, not-true, not-false}
+use Rattle.std.proofs.lemmas.Bool.{and_parts, not-true, not-false}
 use Rattle.std.proofs.lemmas.List.Sums.{AllPass-from_list_all}
 use Rattle.std.specs.List.{list_all}
 use Rattle.sj_base.specs.Mode.{is_in_order, starts_as_zeros, is_written, is_scratch, is_commute, is_redux, reads_value}
 use Rattle.sj_base.specs.declared.mode.Mode.TheVariants.{Commute}
+use Rattle.sj_base.proofs.Bools.{implied}
 
 abbrev modes : List Mode
 modes = R ∷ W ∷ RW ∷ Scratch ∷ Redux ∷ Commute ∷ []
@@ -14,24 +15,20 @@ modes = R ∷ W ∷ RW ∷ Scratch ∷ Redux ∷ Commute ∷ []
 pub every_mode : (test : Mode → Bool) → list_all test modes ≡ true → (x : Mode) → test x ≡ true
 every_mode test all x = search (arith, AllPass-from_list_all, modes)
 
--- where a test or another is passed, and the first isn't, the other is
-pub then : (a b : Bool) → (not a || b) ≡ true → a ≡ true → b ≡ true
-then x b h e = search (arith, false≢true)
-
 pub reads_isn't_scratch : (x : Mode) → starts_as_zeros x ≡ false → not (is_scratch x) ≡ true
-reads_isn't_scratch x h = then (reads_value x) (not (is_scratch x)) (every_mode (λ x. not (reads_value x) || not (is_scratch x)) refl x) (not-false (reads_value x) h)
+reads_isn't_scratch x h = implied (reads_value x) (not (is_scratch x)) (every_mode (λ x. not (reads_value x) || not (is_scratch x)) refl x) (not-false (reads_value x) h)
 
 pub written_isn't_scratch : (x : Mode) → is_written x ≡ true → not (is_scratch x) ≡ true
-written_isn't_scratch x = then (is_written x) (not (is_scratch x)) (every_mode (λ x. not (is_written x) || not (is_scratch x)) refl x)
+written_isn't_scratch x = implied (is_written x) (not (is_scratch x)) (every_mode (λ x. not (is_written x) || not (is_scratch x)) refl x)
 
 pub fresh_is_written : (x : Mode) → not (is_scratch x) ≡ true → starts_as_zeros x ≡ true → is_written x ≡ true
-fresh_is_written x h k = then (starts_as_zeros x) (is_written x) (then (not (is_scratch x)) (not (starts_as_zeros x) || is_written x) (every_mode (λ x. not (not (is_scratch x)) || (not (starts_as_zeros x) || is_written x)) refl x) h) k
+fresh_is_written x h k = implied (starts_as_zeros x) (is_written x) (implied (not (is_scratch x)) (not (starts_as_zeros x) || is_written x) (every_mode (λ x. not (not (is_scratch x)) || (not (starts_as_zeros x) || is_written x)) refl x) h) k
 
 pub commutes_is_written : (x : Mode) → is_commute x ≡ true → is_written x ≡ true
-commutes_is_written x = then (is_commute x) (is_written x) (every_mode (λ x. not (is_commute x) || is_written x) refl x)
+commutes_is_written x = implied (is_commute x) (is_written x) (every_mode (λ x. not (is_commute x) || is_written x) refl x)
 
 pub commute_isn't_redux : (x : Mode) → is_commute x ≡ true → is_redux x ≡ false
-commute_isn't_redux x h = not-true (is_redux x) (then (is_commute x) (not (is_redux x)) (every_mode (λ x. not (is_commute x) || not (is_redux x)) refl x) h)
+commute_isn't_redux x h = not-true (is_redux x) (implied (is_commute x) (not (is_redux x)) (every_mode (λ x. not (is_commute x) || not (is_redux x)) refl x) h)
 
 pub plain_isn't_redux : (x : Mode) → is_in_order x ≡ true → is_redux x ≡ false
 plain_isn't_redux x h = not-true (is_redux x) (and_parts (not (is_redux x)) (not (is_commute x)) h).0

@@ -3,17 +3,18 @@ use Rattle.std.proofs.Common.{arith, List, Some, false, inl, inr, refl, sym, tru
 use Rattle.std.proofs.lemmas.List.{length-set}
 use Rattle.std.proofs.lemmas.Bool.{true≢false, and_from, false_from_ne_true, false≢true, and_parts}
 use Rattle.std.proofs.lemmas.List.Quantifiers.{position-Some}
+use Rattle.sj_base.proofs.SameIds.{same_cell-itself, same_place-itself}
 use Rattle.sj_core.specs.Coherent.{Coherent, CopiesAgree, HasBlocks, HasRows, IsOwnedBy, IsTransferTo, TransfersAreSound, IsClaimed, content}
 use Rattle.sj_core.specs.Laws.{IsSound}
 use Rattle.sj_core.specs.Step.{CanDrop, CanMoveIn, CanMoveOut, a_transfer, array_at, disk_of, is_fresh, is_read, reads, same_place}
 use Rattle.sj_core.proofs.Words.{Array, AtNode, Cell, CellState, Claimed, Machine, Node, Place, Program, Running, State, Task, Transfer, Worker, WorkerState, has_cell, is_claimed_by, is_coming_by, is_entry, is_leaving_by, is_valid, moves, node_of, pins, progress, replica, scratch, transfer, victims_of, writes, DiskNo, OnDisk, with_transfer, Invalid, fresh_cells, Coming, Leaving, Replica, Valid, array_of, dims_of, same_cell, with_replica, zeros, is_leaving}
 use Rattle.sj_core.proofs.Advancing.{claimed-is_mine, task_of-worker, claimed_by-is}
 use Rattle.sj_core.proofs.Changing.{Changes, Changes-coherent, Changes-writers, HasBlocks-kept, TransfersAreSound-kept}
-use Rattle.sj_core.proofs.Placing.{transfer-is, pins-same, scratch-same, victims-same, owned-fails, position-none, room-leaves_none, valid-within, stays-on_disk, list_any-place, same_place-is, disks-kept, nodes-kept, replica-cases, transfer-cases, transfer-own, writes-same, same_place-refl}
+use Rattle.sj_core.proofs.Placing.{transfer-is, pins-same, scratch-same, victims-same, owned-fails, position-none, room-leaves_none, valid-within, stays-on_disk, list_any-place, same_place-is, disks-kept, nodes-kept, replica-cases, transfer-cases, transfer-own, writes-same}
 use Rattle.sj_core.proofs.Reading.{unmoved-from, moves-it, transfer-inside, list_any-worker}
 use Rattle.sj_core.proofs.Replicas.{same_worker-refl, leaving_by-one, leaving_by-valid, coming_by-is, coming_by-one, leaving-by_some, leaving-is_none}
 use Rattle.sj_core.proofs.Claimed.{claimed-inside, claimed-not_written, claimed-old_value, list_any-task}
-use Rattle.sj_core.proofs.CellLists.{same_cell-refl, same_cell-from}
+use Rattle.sj_core.proofs.CellLists.{same_cell-from}
 use Rattle.sj_core.proofs.Finding.{array-told}
 use Rattle.sj_core.proofs.Readiness.{list_any-some}
 
@@ -75,8 +76,8 @@ module _ (p : Program) (m : Machine) (s : State) (h : IsSound p m s) (t : Task) 
       (λ c e. absurd (let f : Claimed w ≡ Running w = e in cc)))
       shift.copies
 
--- a move that begins, of a cell that no running task owns: the blocks where it goes, the cell is valid where it begins and awaited where it
--- goes, no other worker moves it to a disk, and the worker has a claimed task
+-- a move that begins, of a cell that no running task owns: the blocks where it goes, the cell is valid where it begins and
+-- awaited where it goes, no other worker moves it to a disk, and the worker has a claimed task
 module _ (p : Program) (m : Machine) (s : State) (h : IsSound p m s) (w : Worker) (begun : Transfer) (aimed : (d : DiskNo) → begun.to ≡ OnDisk d → disk_of p m begun.cell ≡ Some d)
     (source : is_valid (replica s begun.cell begun.from) ≡ true) (target : IsTransferTo m s w begun.cell begun.from begun.to)
     (alone : (v : Worker) (x : Transfer) (d e : DiskNo) → transfer s v ≡ Some x → x.to ≡ OnDisk d → begun.to ≡ OnDisk e → x.cell ≡ begun.cell → v ≡ w)
@@ -287,7 +288,7 @@ module _ (p : Program) (m : Machine) (s : State) (h : IsSound p m s) (c : Cell) 
 
   -- a cell that a worker owns isn't the one that moved
   owned_apart : (x : Cell) (v : Worker) (a : Array) → IsOwnedBy m s x v a → x ≡ c → ⊥
-  owned_apart x v a own e = search (arith, same_cell-refl, true≢false)
+  owned_apart x v a own e = search (arith, same_cell-itself, true≢false)
 
   arrived-shift : Shifts p m s arrived.cells arrived.workers
   arrived-shift = record {
@@ -334,7 +335,7 @@ module _ (p : Program) (m : Machine) (s : State) (h : IsSound p m s) (c : Cell) 
   -- no transfer reads the dropped replica
   unread_by : (v : Worker) (x : Transfer) → transfer s v ≡ Some x → x.cell ≡ c → x.from ≡ AtNode n → ⊥
   unread_by v x under_way cell from =
-      let both : (same_cell x.cell c && same_place x.from (AtNode n)) ≡ true = and_from (same_cell x.cell c) (same_place x.from (AtNode n)) (same_cell-from x.cell c cell) (ap (λ (q : Place). same_place q (AtNode n)) from ∙ same_place-refl (AtNode n)) in
+      let both : (same_cell x.cell c && same_place x.from (AtNode n)) ≡ true = and_from (same_cell x.cell c) (same_place x.from (AtNode n)) (same_cell-from x.cell c cell) (ap (λ (q : Place). same_place q (AtNode n)) from ∙ same_place-itself (AtNode n)) in
       let this : reads s v c (AtNode n) ≡ true = ap (λ (o : Option Transfer). elim o as (λ _. Bool) [ None ↦ false | Some y ↦ same_cell y.cell c && same_place y.from (AtNode n) ]) under_way ∙ both in
       let inside : v.0 < m.workers = omega (arith, transfer-inside s v x under_way, h.coherent.state.rows.workers) in
       let read : is_read m s c (AtNode n) ≡ true = list_any-worker (λ w. reads s w c (AtNode n)) m v inside this in
@@ -351,7 +352,7 @@ module _ (p : Program) (m : Machine) (s : State) (h : IsSound p m s) (c : Cell) 
 
   -- another replica of the dropped cell is valid
   elsewhere : (q : Place) × (is_valid (replica dropped c q) ≡ true)
-  elsewhere = search (arith, list_any-some, and_parts, dropped-cases, false≢true, same_place-refl)
+  elsewhere = search (arith, list_any-some, and_parts, dropped-cases, false≢true, same_place-itself)
 
   dropped-copies : CopiesAgree p dropped
   dropped-copies =

@@ -1,6 +1,6 @@
 -- The opening state is coherent.
-use Rattle.std.proofs.Common.{Option, None, Some, List, [], ap, arith, cond, get_or, inl, inr, length, refl, replicate}
-use Rattle.std.proofs.Common.{suc, sym, true, zero, ℕ, ◌&&◌, ◌<◌, ◌∙◌, ◌≡◌, ◌⊎◌, count_by}
+use Rattle.std.proofs.Common.{Option, None, Some, List, [], ap, arith, cond, inl, inr, length}
+use Rattle.std.proofs.Common.{sym, true, ◌&&◌, ◌<◌, ◌∙◌, ◌≡◌, ◌⊎◌, count_by}
 use Rattle.sj_core.proofs.Words.{AtNode, Cell, CellState, Coming, Invalid, Leaving, Machine, Node, OnDisk, Place}
 use Rattle.sj_core.proofs.Words.{Program, Task, Transfer, Waiting, Worker, WorkerState, cell_state, done_by, has_cell}
 use Rattle.sj_core.proofs.Words.{is_coming_by, is_done, is_entry, is_leaving_by, is_task_of, is_valid, no_replica}
@@ -8,30 +8,26 @@ use Rattle.sj_core.proofs.Words.{opening, order, pins, progress, replica, same_c
 use Rattle.sj_core.proofs.Words.{worker_state, writes, written_cells, used}
 use Rattle.std.proofs.lemmas.List.{get_or-replicate, get_or_past, length-replicate}
 use Rattle.std.proofs.lemmas.{Bool.cases_lt, Bool.false≢true, List.Elements.All-replicate}
+use Rattle.sj_base.proofs.Lists.{get_or-replicate_same}
 use Rattle.sj_core.specs.Coherent.{Coherent, has_written, is_active, is_begun}
 use Rattle.sj_core.proofs.Reading.{idle_row, no_row, replica_in-no_row}
 use Rattle.sj_core.proofs.{Advancing.claimed-is_mine, Replicas.same_worker-refl, Sums.sum-nothing}
 
-all_same : {X : Type 0} (n i : ℕ) (a : X) → get_or (replicate n a) i a ≡ a
-all_same zero i a = refl
-all_same (suc n) zero a = refl
-all_same (suc n) (suc i) a = all_same n i a
-
 module _ (p : Program) (m : Machine) where
   waits : (t : Task) → progress (opening p m) t ≡ Waiting
-  waits t = all_same (length p.tasks) t.0 Waiting
+  waits t = get_or-replicate_same (length p.tasks) t.0 Waiting
 
   idle : (w : Worker) → worker_state (opening p m) w ≡ idle_row
-  idle w = all_same m.workers w.0 idle_row
+  idle w = get_or-replicate_same m.workers w.0 idle_row
 
   empty : (n : Node) → order (opening p m) n ≡ []
-  empty n = all_same (length m.nodes) n.0 []
+  empty n = get_or-replicate_same (length m.nodes) n.0 []
 
   a_row : (c : Cell) → (cell_state (opening p m) c ≡ no_replica m) ⊎ (cell_state (opening p m) c ≡ no_row)
   a_row c = search (arith, cases_lt, get_or-replicate, no_row, get_or_past, length-replicate)
 
   nowhere : (c : Cell) (q : Place) → replica (opening p m) c q ≡ Invalid
-  nowhere c q = search (arith, a_row, replica_in-no_row, all_same)
+  nowhere c q = search (arith, a_row, replica_in-no_row, get_or-replicate_same)
 
   unwritten : (c : Cell) → writes (opening p m) c ≡ 0
   unwritten c = elim (a_row c) [ inl row ↦ ap (λ (r : CellState). r.writes) row | inr row ↦ ap (λ (r : CellState). r.writes) row ]

@@ -5,20 +5,18 @@ use Rattle.sj_core.proofs.Words.{Access, Cell, Contribute, Kernel, Mode, Program
 use Rattle.sj_core.proofs.Words.{copy_of, no_task, task_of, worked_on}
 use Rattle.std.proofs.lemmas.Bool.{and_from, cases_lt}
 use Rattle.std.proofs.lemmas.List.Elements.{All-contains, All-get_or, Contains-get_or}
-use Rattle.sj_base.specs.Mode.{is_scratch}
+use Rattle.sj_base.specs.Mode.{is_scratch, access}
+use Rattle.sj_base.specs.Ids.{task}
 use Rattle.sj_codelet.specs.Kernel.{combine_of, contributes_of, has_reduction, init_of, kernel_of}
 use Rattle.sj_codelet.specs.Laws.{DoesContribute, IsReduction}
 use Rattle.sj_deps.specs.Conflict.{Conflict, Uses}
 use Rattle.sj_core.specs.Laws.{IsLawful, is_known}
 use Rattle.sj_core.specs.Proper.{IsContribution, IsCopyOf, IsFirstUnit, IsMember, IsOpenAt, IsPhase, Phase, Proper}
-use Rattle.sj_core.specs.Proper.{access, task_number}
+use Rattle.sj_core.specs.Proper.{task_number}
 use Rattle.sj_core.proofs.Dependencies.{Proper-dependencies, own-of_phase}
 use Rattle.sj_core.proofs.Updating.{ContributionsExchange, operand-used}
 use Rattle.sj_core.proofs.Sharing.{manner_of, redux-has_copies, contribute_isn't_read}
 use Rattle.sj_core.proofs.{Combining.contributing-exchange, TaskCells.operand-inside, Readiness.Contains-filter}
-
-abbrev pub numbered : ℕ → Task
-numbered n = record { 0 = n }
 
 module _ (p : Program) (proper : Proper p) where
   -- a task that contributes to a cell, with the phase to which it belongs
@@ -94,8 +92,8 @@ module _ (p : Program) (proper : Proper p) where
           let i = init_at f phase w staffed in
           let c = combine_at f phase w staffed in
           and_from (has (init_of f.by)) (has (combine_of f.by))
-          (knows (numbered i) (operand-inside p (numbered i) _ (init-reads f phase w staffed)) (init_of f.by) (phase.inits w staffed).codelet)
-          (knows (numbered c) (operand-inside p (numbered c) _ (combine-reads f phase w staffed)) (combine_of f.by) (phase.combines w staffed).codelet)
+          (knows (task i) (operand-inside p (task i) _ (init-reads f phase w staffed)) (init_of f.by) (phase.inits w staffed).codelet)
+          (knows (task c) (operand-inside p (task c) _ (combine-reads f phase w staffed)) (combine_of f.by) (phase.combines w staffed).codelet)
 
       pub reduces : IsReduction f.by
       reduces = lawful.reducing f.by knows-reduction
@@ -127,7 +125,7 @@ module _ (p : Program) (proper : Proper p) where
             let k = combine_at f phase w w_in in
             let q = worked_on p w a in
             let deps = Proper-dependencies p proper in
-            let combines : Uses p k q.0 Read = subst (λ (d : Cell). Uses p k d.0 Read) (ap (λ (d : Cell). copy_of p d w) cell ∙ sym is) (operand-used p proper (numbered k) (operand-inside p (numbered k) _ (combine-reads f phase w w_in)) w w_in (access R (copy_of p f.cell w)) (combine-reads f phase w w_in) refl) in
+            let combines : Uses p k q.0 Read = subst (λ (d : Cell). Uses p k d.0 Read) (ap (λ (d : Cell). copy_of p d w) cell ∙ sym is) (operand-used p proper (task k) (operand-inside p (task k) _ (combine-reads f phase w w_in)) w w_in (access R (copy_of p f.cell w)) (combine-reads f phase w w_in) refl) in
             let first : Uses p t.0 q.0 Contribute = subst (λ (m : Mode). Uses p t.0 q.0 (manner_of (task_of p t).codelet m)) ra (operand-used p proper t t_in w w_in a ta (ap (λ (m : Mode). not (is_scratch m)) ra)) in
             let second : Uses p u.0 q.0 Contribute = subst (λ (d : Cell). Uses p u.0 d.0 Contribute) (sym same) (subst (λ (m : Mode). Uses p u.0 (worked_on p v b).0 (manner_of (task_of p u).codelet m)) rb (operand-used p proper u u_in v v_in b ub (ap (λ (m : Mode). not (is_scratch m)) rb))) in
             let differ : k ≢ u.0 = λ e. own-of_phase p proper f phase u.0 (inr (subst (Contains f.combines) e (combine-among f phase w w_in))) b ub rb in

@@ -10,9 +10,11 @@ use Rattle.std.proofs.lemmas.List.{get_or-set_other, get_or-set_same, get_or_pas
 use Rattle.std.proofs.lemmas.{Bool.Decides.Decides-eqb, List.Elements.All-set, List.Folds.list_any-append}
 use Rattle.std.proofs.lemmas.{List.Sums.fails_before_first}
 use Rattle.std.specs.List.{list_any, range_with_len}
+use Rattle.sj_base.proofs.Lists.{list_any-numbered}
+use Rattle.sj_base.proofs.SameIds.{workers_differ}
 use Rattle.sj_core.specs.{Coherent.HasRows, Coherent.IsOwnedBy, Laws.IsSound, Step.places_of, Step.same_place}
 use Rattle.sj_core.proofs.{Reading.idle_row, Reading.list_all-has, Reading.no_row, Reading.replica_in-no_row}
-use Rattle.sj_core.proofs.{Reading.same_node, Reading.workers_differ, Reading.list_any-numbered, Replicas.leaving_by-is}
+use Rattle.sj_core.proofs.{Reading.same_node, Replicas.leaving_by-is}
 
 pub cells_differ : (c d : Cell) → (c ≡ d) ⊎ (c ≢ d)
 cells_differ c d = search (arith, cases_eq)
@@ -102,9 +104,6 @@ transfer-is s w begun v x now = search (arith, transfer-cases)
 
 pub same_place-is : (q k : Place) → same_place q k ≡ true → q ≡ k
 same_place-is q k h = search (arith, Decides-eqb, false≢true)
-
-pub same_place-refl : (q : Place) → same_place q q ≡ true
-same_place-refl b = search (arith, Decides-eqb)
 
 -- each replica of a cell that a worker owns is the valid one, or invalid
 pub owned-cases : (m : Machine) (s : State) (c : Cell) (v : Worker) (a : Array) → IsOwnedBy m s c v a → (q : Place) → (replica s c q ≡ Valid a) ⊎ (replica s c q ≡ Invalid)

@@ -1,6 +1,6 @@
 -- The tasks that are done in a state, as a list and as a test; when a waiting task is ready.
-use Rattle.std.proofs.Common.{◌||◌, Bool, List, [], ap, arith, false, get_or, inl, inr, length, refl, subst, sym, true}
-use Rattle.std.proofs.Common.{ℕ, ◌<◌, ◌∙◌, ◌∷◌, ◌≡◌, ◌⊎◌, map, ◌++◌, not, Contains, filter, AllPairs}
+use Rattle.std.proofs.Common.{Bool, List, ap, arith, false, get_or, inl, inr, length, refl, subst, sym, true}
+use Rattle.std.proofs.Common.{ℕ, ◌<◌, ◌∙◌, ◌≡◌, ◌⊎◌, map, ◌++◌, not, Contains, filter, AllPairs}
 use Rattle.sj_core.proofs.Words.{Program, State, Task, Waiting, done_in, is_done, progress}
 use Rattle.std.proofs.lemmas.List.Elements.{All-contains, All-contains_itself, All-filter, Contains-append_cases}
 use Rattle.std.proofs.lemmas.List.Elements.{filter_passes}
@@ -9,6 +9,7 @@ use Rattle.std.proofs.lemmas.{Bool.cases_lt, Bool.false≢true, List.get_or_defa
 use Rattle.std.proofs.lemmas.{List.length-map, List.Folds.Any-from_list_any, List.FromFn.get_or-range_with_len}
 use Rattle.std.proofs.lemmas.{List.FromFn.length-range_with_len, List.Sums.AllPass-from_list_all}
 use Rattle.std.specs.List.{list_all, list_any, range_with_len}
+pub use Rattle.sj_base.proofs.Lists.{list_any-map}
 use Rattle.sj_deps.specs.Conflict.{Ready}
 use Rattle.sj_core.specs.Step.{EarlierAreDone, done_tasks}
 
@@ -32,11 +33,6 @@ Contains-filter {X} f xs x passes h =
 
 pub Contains-map : {X Y : Type 0} (f : X → Y) (xs : List X) (x : X) → Contains xs x → Contains (map f xs) (f x)
 Contains-map f xs x (k, l, e) = (k, omega (arith, length-map xs f), get_or-map f xs k x (f x) l ∙ ap f e)
-
--- a test of what a map gives
-pub list_any-map : {X Y : Type 0} (test : Y → Bool) (f : X → Y) (xs : List X) → list_any test (map f xs) ≡ list_any (λ x. test (f x)) xs
-list_any-map test f [] = refl
-list_any-map test f (x ∷ xs) = ap (λ b. test (f x) || b) (list_any-map test f xs)
 
 -- an element that passes a test that some element passes
 pub list_any-some : {X : Type 0} (test : X → Bool) (xs : List X) → list_any test xs ≡ true → (x : X) × Contains xs x × (test x ≡ true)

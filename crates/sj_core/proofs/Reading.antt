@@ -7,9 +7,11 @@ use Rattle.sj_core.proofs.Words.{moves, progress, replica, replica_in, same_cell
 use Rattle.sj_core.proofs.Words.{with_replica_in, with_worker, worker_state, workers_of}
 use Rattle.std.proofs.lemmas.Bool.{cases_eq, cases_lt, false_from_ne_true, false≢true, not-true}
 use Rattle.std.proofs.lemmas.List.{get_or-set_other, get_or-set_same, get_or_past}
-use Rattle.std.proofs.lemmas.List.FromFn.{get_or-map-range_with_len, length-map-range_with_len}
 use Rattle.std.proofs.lemmas.{Bool.Decides.Decides-eqb, List.Folds.list_any_at, List.Sums.AllPass-from_list_all}
-use Rattle.std.specs.List.{list_all, list_any, range_with_len}
+use Rattle.std.specs.List.{list_all, list_any}
+pub use Rattle.sj_base.proofs.SameIds.{same_cell-is}
+pub use Rattle.sj_base.proofs.SameIds.{workers_differ}
+pub use Rattle.sj_base.proofs.Lists.{list_any-numbered}
 use Rattle.sj_core.specs.Step.{none_leaving}
 use Rattle.sj_core.proofs.Tables.{length-renewed, renewed-at}
 
@@ -55,9 +57,6 @@ cells-renewed_or s f c = search (arith, cases_lt, renewed-at, no_row, get_or_pas
 pub same_node : (n k : Node) → (n ≡ k) ⊎ (n ≢ k)
 same_node n k = search (arith, cases_eq)
 
-pub workers_differ : (v w : Worker) → (v ≡ w) ⊎ (v ≢ w)
-workers_differ v w = search (arith, cases_eq)
-
 pub all_invalid : (rs : List Replica) (k : ℕ) → get_or (map (λ r. Invalid) rs) k Invalid ≡ Invalid
 all_invalid [] k = refl
 all_invalid (r ∷ rs) zero = refl
@@ -86,9 +85,6 @@ transfer-inside s w x h = search (arith, cases_lt, get_or_past, idle_row)
 pub moves-it : (s : State) (w : Worker) (x : Transfer) → transfer s w ≡ Some x → moves s w x.cell ≡ true
 moves-it s w x h = ap (λ (o : Option Transfer). elim o as (λ _. Bool) [ None ↦ false | Some y ↦ same_cell y.cell x.cell ]) h ∙ (Decides-eqb x.cell.0 x.cell.0).1 refl
 
-pub same_cell-is : (c d : Cell) → same_cell c d ≡ true → c ≡ d
-same_cell-is c d h = ap (λ (i : ℕ). let j : Cell = record { 0 = i } in j) ((Decides-eqb c.0 d.0).0 h)
-
 -- where no transfer is one of the cell, none moves it
 pub unmoved-from : (s : State) (v : Worker) (c : Cell) → ((x : Transfer) → transfer s v ≡ Some x → x.cell ≡ c → ⊥) → moves s v c ≡ false
 unmoved-from s v c none = search (arith, false_from_ne_true, same_cell-is)
@@ -99,12 +95,6 @@ unmoved-from s v c none = search (arith, false_from_ne_true, same_cell-is)
 pub list_all-has : (test : Cell → Bool) (cs : List Cell) (c : Cell) → list_all test cs ≡ true → has_cell cs c ≡ true → test c ≡ true
 list_all-has test [] c all h = absurd (false≢true h)
 list_all-has test (d ∷ cs) c all h = search (arith, false≢true, same_cell-is, (list_all-has test cs c))
-
--- a test that one of numbered elements passes is passed by some
-pub list_any-numbered : {X : Type 0} (f : ℕ → X) (test : X → Bool) (k n : ℕ) → k < n → test (f k) ≡ true → list_any test (map f (range_with_len 0 n)) ≡ true
-list_any-numbered f test k n inside passes =
-    let at_k = get_or-map-range_with_len f 0 n k k (f k) inside (omega arith) in
-    list_any_at test (map f (range_with_len 0 n)) k (f k) (omega (arith, inside, length-map-range_with_len f 0 n)) (ap test at_k ∙ passes)
 
 -- some worker of the machine passes a test that this one passes
 pub list_any-worker : (test : Worker → Bool) (m : Machine) (w : Worker) → w.0 < m.workers → test w ≡ true → list_any test (workers_of m) ≡ true

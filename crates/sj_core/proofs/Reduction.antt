@@ -11,15 +11,17 @@ use Rattle.std.proofs.lemmas.List.Elements.{Contains-append_cases, Contains-get_
 use Rattle.std.proofs.lemmas.List.FromFn.{get_or-range_with_len, length-range_with_len}
 use Rattle.std.proofs.lemmas.{List.get_or_past, List.Kept.AllPairs-cons, List.Sums.AllPass-from_list_all}
 use Rattle.std.specs.List.{list_all, list_any, range_with_len}
-use Rattle.sj_base.specs.Mode.{is_redux, reads_value}
+use Rattle.sj_base.specs.Mode.{is_redux, reads_value, is_read_only}
+use Rattle.sj_base.specs.Ids.{cell, worker}
+use Rattle.sj_base.proofs.Bools.{implied}
 use Rattle.sj_codelet.specs.Kernel.{fits, kernel_of}
 use Rattle.sj_codelet.specs.declared.kernel.Kernel.TheVariants.{Add, Deliver, GemmThree, InitPlus, Load, Sum}
 use Rattle.sj_core.specs.Proper.{Contributing, Fits, HasDeliveries, HasPhases, HasValueBefore, IsCombine}
 use Rattle.sj_core.specs.Proper.{IsContribution, IsCopyOf, IsInit, IsMember, IsPhase, IsUnaliased, IsWithinLimits}
 use Rattle.sj_core.specs.Proper.{NamesCells, Own, Phase, Proper, ReadsValues, Touches, gives_value, own_modes}
 use Rattle.sj_core.specs.Proper.{task_number}
-use Rattle.sj_core.proofs.Worked.{a_task, access, cell, columns, worker}
-use Rattle.sj_core.proofs.{Modes.then, Readiness.list_any-some}
+use Rattle.sj_core.proofs.Worked.{a_task, access, columns}
+use Rattle.sj_core.proofs.{Readiness.list_any-some}
 
 -- x, d and s are loaded; the copies of s are filled, x is added to s by a contribution, and the copies are combined;
 -- d gets x times x times x in between, with s as scratch; s is printed
@@ -86,7 +88,7 @@ copies_are q c w copy = search (arith, cell, is_s, job, copy_in)
 
 names_cells : NamesCells job
 names_cells =
-    search (arith, All-from_get_or, cell, accesses, job, ltb-true, get_or, pass, Contains-get_or, copies_are, then)
+    search (arith, All-from_get_or, cell, accesses, job, ltb-true, get_or, pass, Contains-get_or, copies_are, implied)
 
 -- ---- codelets, aliases, values
 
@@ -104,23 +106,19 @@ codelets_fit = All-from_recursion (Fits job) job.tasks
     (also (own GemmThree _ refl refl refl) (also (own Add _ refl refl refl) (also (own Add _ refl refl refl)
     (also (own Deliver _ refl refl refl) tt))))))))))
 
-abbrev is_read : Mode → Bool
-is_read R = true
-is_read _ = false
-
-read-is : (x : Mode) → is_read x ≡ true → x ≡ R
+read-is : (x : Mode) → is_read_only x ≡ true → x ≡ R
 read-is x h = search (arith, false≢true)
 
 abbrev apart : List Access → Bool
 apart [] = true
-apart (a ∷ as') = list_all (λ b. not (nat_eq a.cell.0 b.cell.0) || (is_read a.mode && is_read b.mode)) as' && apart as'
+apart (a ∷ as') = list_all (λ b. not (nat_eq a.cell.0 b.cell.0) || (is_read_only a.mode && is_read_only b.mode)) as' && apart as'
 
 apart-pairs : (as' : List Access) → apart as' ≡ true → AllPairs (λ a b. IsTrue (same_cell a.cell b.cell) → (a.mode ≡ R) × (b.mode ≡ R)) as'
 apart-pairs [] h = λ i j d before within. absurd (omega arith)
 apart-pairs (a ∷ as') h =
-    let both = and_parts (list_all (λ b. not (nat_eq a.cell.0 b.cell.0) || (is_read a.mode && is_read b.mode)) as') (apart as') h in
+    let both = and_parts (list_all (λ b. not (nat_eq a.cell.0 b.cell.0) || (is_read_only a.mode && is_read_only b.mode)) as') (apart as') h in
     AllPairs-cons (λ a b. IsTrue (same_cell a.cell b.cell) → (a.mode ≡ R) × (b.mode ≡ R)) a as' (λ k d within same.
-    (let reads = and_parts _ _ (then _ _ (AllPass-from_list_all (λ b. not (nat_eq a.cell.0 b.cell.0) || (is_read a.mode && is_read b.mode)) as' both.0 k d within) same) in
+    (let reads = and_parts _ _ (implied _ _ (AllPass-from_list_all (λ b. not (nat_eq a.cell.0 b.cell.0) || (is_read_only a.mode && is_read_only b.mode)) as' both.0 k d within) same) in
     (read-is _ reads.0, read-is _ reads.1))) (apart-pairs as' both.1)
 
 unaliased : All IsUnaliased job.tasks
@@ -138,10 +136,10 @@ value_before t c h =
 
 reads_values : ReadsValues job
 reads_values = record {
-  cells = λ t k d within reads. value_before t _ (then _ _ (pass (λ n a. not (reads_value a.mode) || gives_before n a.cell) refl t.0 (get_or (task_of job t).accesses k d) (Contains-get_or (task_of job t).accesses k d within)) reads);
+  cells = λ t k d within reads. value_before t _ (implied _ _ (pass (λ n a. not (reads_value a.mode) || gives_before n a.cell) refl t.0 (get_or (task_of job t).accesses k d) (Contains-get_or (task_of job t).accesses k d within)) reads);
   copies = λ t k d within redux w staffed.
       (let a = get_or (task_of job t).accesses k d in
-      let both = and_parts _ _ (then _ _ (pass (λ n a. not (is_redux a.mode) || (gives_before n (copy_of job a.cell (worker 0)) && gives_before n (copy_of job a.cell (worker 1)))) refl t.0 a (Contains-get_or (task_of job t).accesses k d within)) redux) in
+      let both = and_parts _ _ (implied _ _ (pass (λ n a. not (is_redux a.mode) || (gives_before n (copy_of job a.cell (worker 0)) && gives_before n (copy_of job a.cell (worker 1)))) refl t.0 a (Contains-get_or (task_of job t).accesses k d within)) redux) in
       by_worker t a.cell both.0 both.1 w.0 staffed);
 }
   where
@@ -167,7 +165,7 @@ is_phase = record {
       (let first : 3 ≤ is_open.begun.0 = All-contains (λ k. 3 ≤ k) phase.inits is_open.begun.0 (All-from_recursion (λ k. 3 ≤ k) phase.inits (lit≤ tt, (lit≤ tt, tt))) is_open.begun.1 in
       let last : is_open.unfinished.0 ≤ 8 = All-contains (λ k. k ≤ 8) phase.combines is_open.unfinished.0 (All-from_recursion (λ k. k ≤ 8) phase.combines (lit≤ tt, (lit≤ tt, tt))) is_open.unfinished.1 in
       let tested = operands-pass data_operands refl (λ n a. not (touches_s a.cell.0) || (not (nat_le 3 n && nat_le n 8) || has (3 ∷ 4 ∷ 5 ∷ 7 ∷ 8 ∷ []) n)) refl n a h in
-      inl (member n (then _ _ (then _ _ tested (touched a touches)) (and_from _ _ (le-leb 3 n (omega (arith, first, is_open.begun.2))) (le-leb n 8 (omega (arith, last, is_open.unfinished.2)))))));
+      inl (member n (implied _ _ (implied _ _ tested (touched a touches)) (and_from _ _ (le-leb 3 n (omega (arith, first, is_open.begun.2))) (le-leb n 8 (omega (arith, last, is_open.unfinished.2)))))));
 }
   where
     init : (w : ℕ) → w < 2 → IsInit Plus (copy_of job (cell 2) (worker w)) (task_number job (get_or phase.inits w 0))
@@ -192,7 +190,7 @@ has_phases = record {
   copies = λ n a c w h copy.
       (let are = copies_are a.cell c w copy in
       let is : nat_le 3 a.cell.0 ≡ true = elim are.1 [ inl e ↦ ap (λ (k : Cell). nat_le 3 k.0) e | inr e ↦ ap (λ (k : Cell). nat_le 3 k.0) e ] in
-      (phase, (0, lit< tt, refl), sym are.0, Contains-append_cases phase.inits phase.combines n (among (3 ∷ 4 ∷ 7 ∷ 8 ∷ []) n (then _ _ (pass (λ n a. not (nat_le 3 a.cell.0) || has (3 ∷ 4 ∷ 7 ∷ 8 ∷ []) n) refl n a h) is))));
+      (phase, (0, lit< tt, refl), sym are.0, Contains-append_cases phase.inits phase.combines n (among (3 ∷ 4 ∷ 7 ∷ 8 ∷ []) n (implied _ _ (pass (λ n a. not (nat_le 3 a.cell.0) || has (3 ∷ 4 ∷ 7 ∷ 8 ∷ []) n) refl n a h) is))));
   contributions = λ n c h.
       (let tested = and_parts _ _ (pass (λ n a. not (is_redux a.mode) || (nat_eq a.cell.0 2 && nat_eq n 5)) refl n (record { mode = Redux; cell = c }) h) in
       (phase, (0, lit< tt, refl), ap cell (sym (eqb-true c.0 2 tested.0)), (0, lit< tt, sym (eqb-true n 5 tested.1))));
@@ -206,7 +204,7 @@ is_deliver _ = false
 
 has_deliveries : HasDeliveries job
 has_deliveries =
-    search (arith, eqb-true, job, then, numbers-pass, is_deliver, pass, cell, get_or, accesses, Contains-get_or, copies_are, false≢true)
+    search (arith, eqb-true, job, implied, numbers-pass, is_deliver, pass, cell, get_or, accesses, Contains-get_or, copies_are, false≢true)
 
 is_limited : IsWithinLimits job
 is_limited = record { tasks = lit≤ tt; cells = lit≤ tt; elements = All-from_recursion (λ c. area c.dims ≤ 2 ^ 24) job.cells (lit≤ tt, (lit≤ tt, (lit≤ tt, (lit≤ tt, (lit≤ tt, tt))))) }

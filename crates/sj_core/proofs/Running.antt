@@ -3,6 +3,7 @@ use Rattle.std.proofs.Common.{Bool, List, Some, arith, false, inl, inr, length, 
 use Rattle.std.proofs.lemmas.Bool.{cases_Bool, false_from_ne_true, false≢true, true_from_ne_false, cond_both}
 use Rattle.std.proofs.lemmas.Bool.Decides.{Decides-eqb}
 use Rattle.std.proofs.lemmas.List.{get_or-set_same, length-map, length-set}
+use Rattle.sj_base.proofs.SameIds.{same_place-itself}
 use Rattle.sj_core.proofs.Words.{Array, AtNode, Cell, CellState, Claimed, Invalid, Machine, Node, OnDisk, Place, Program, Progress, Replica, Running, State, Task, Transfer, Valid, Worker, WorkerState, array_of, cell_state, cells_of, dims_of, fresh_cells, has_cell, is_coming_by, is_entry, is_leaving_by, is_task_of, is_valid, moves, node_of, order, progress, replica, replica_in, transfer, worker_of, worker_state, writes, written_cells, zeros}
 use Rattle.sj_core.specs.Coherent.{Coherent, CopiesAgree, HasEntries, HasRows, IsStateOf, WritersOwn, content, is_begun, is_being_written}
 use Rattle.sj_core.specs.Laws.{IsSound}
@@ -14,7 +15,7 @@ use Rattle.sj_core.proofs.Claimed.{claimed-not_written, claimed-old_value}
 use Rattle.sj_core.proofs.Ending.{content-kept, counted-same, written-undone}
 use Rattle.sj_core.proofs.Dependencies.{Proper-dependencies}
 use Rattle.sj_core.proofs.Finding.{array-told, being_written-here, not_written-after, not_written-before, running-inside, agrees-kept}
-use Rattle.sj_core.proofs.Placing.{replica_in-cases, room-leaves_none, same_place-refl}
+use Rattle.sj_core.proofs.Placing.{replica_in-cases, room-leaves_none}
 use Rattle.sj_core.proofs.Reading.{all_invalid, cells-renewed_or, cells-touched, cells-untouched, entry-inside, list_all-has, list_any-worker, moves-it, replica_in-no_row, same_node, transfer-inside, unmoved-from}
 use Rattle.sj_core.proofs.Replicas.{coming_by-is, same_worker-is, same_worker-refl}
 use Rattle.sj_core.proofs.Separation.{separated}
@@ -52,7 +53,7 @@ module _ (p : Program) (m : Machine) (s : State) (t : Task) (w : Worker) (s' : S
       nowhere (OnDisk d) = all_invalid (cell_state s c).disks d.0
 
   pub run-only : (c : Cell) (q : Place) → has_cell (written_cells p t w) c ≡ true → not (same_place q (AtNode (node_of m w))) ≡ true → replica s' c q ≡ Invalid
-  run-only c q written elsewhere = elim (run-written c q written) [ inl none ↦ none | inr (at, is) ↦ absurd (false≢true (sym (ap (λ (k : Place). not (same_place k (AtNode (node_of m w)))) at ∙ ap not (same_place-refl (AtNode (node_of m w)))) ∙ elsewhere)) ]
+  run-only c q written elsewhere = elim (run-written c q written) [ inl none ↦ none | inr (at, is) ↦ absurd (false≢true (sym (ap (λ (k : Place). not (same_place k (AtNode (node_of m w)))) at ∙ ap not (same_place-itself (AtNode (node_of m w)))) ∙ elsewhere)) ]
 
   -- a test that an invalid and a valid replica fail is passed by none that didn't before, and by none of a written cell
   run-fewer : (test : Replica → Bool) → test Invalid ≡ false → ((a : Array) → test (Valid a) ≡ false) → (c : Cell) (q : Place) → test (replica s' c q) ≡ true → (has_cell (written_cells p t w) c ≡ false) × (test (replica s c q) ≡ true)

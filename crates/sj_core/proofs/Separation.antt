@@ -7,13 +7,14 @@ use Rattle.sj_core.proofs.Words.{commuting_cells, copy_of, has_cell, is_done, is
 use Rattle.sj_core.proofs.Words.{worker_of, written_cells}
 use Rattle.std.proofs.lemmas.{Bool.cases_lt, Bool.false≢true, Bool.true≢false, Bool.Decides.Decides-eqb}
 use Rattle.sj_base.specs.Mode.{is_commute, is_written}
+use Rattle.sj_base.proofs.Lists.{list_any-numbered}
 use Rattle.sj_deps.specs.Conflict.{HasDependencies}
 use Rattle.sj_core.specs.Coherent.{IsStateOf, OrderIsKept, SharesCommuting, WorkersAreSound, is_active}
 use Rattle.sj_core.specs.{Proper.NamesCells, Step.CanClaim, Step.after_claim, Step.is_in_use}
 use Rattle.sj_core.proofs.Advancing.{Advances, Claims-advances, Claims-keeps_earlier, active-begun, active_isn't_done}
 use Rattle.sj_core.proofs.Advancing.{apart-from_earlier, idle-has_none, same_task, task_of-active, task_of-worker}
 use Rattle.sj_core.proofs.{Modes.commute_isn't_redux, Modes.commutes_is_written, Readiness.Ready-earlier}
-use Rattle.sj_core.proofs.{Reading.list_all-has, Reading.list_any-numbered, Reading.progress-inside, Sharing.Commuting}
+use Rattle.sj_core.proofs.{Reading.list_all-has, Reading.progress-inside, Sharing.Commuting}
 use Rattle.sj_core.proofs.{Sharing.Conflicting, Sharing.Contributing, Sharing.Sharing, Sharing.operand-has_cell}
 use Rattle.sj_core.proofs.{Sharing.operand_for, Sharing.sharing, TaskCells.written-among_cells}
 

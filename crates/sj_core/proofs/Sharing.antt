@@ -7,13 +7,14 @@ use Rattle.std.proofs.lemmas.List.Folds.{list_any_at}
 use Rattle.std.proofs.lemmas.List.FromFn.{get_or-range_with_len, length-range_with_len}
 use Rattle.std.proofs.lemmas.Option.{slice_get-get_or}
 use Rattle.std.specs.List.{range_with_len}
-use Rattle.sj_base.specs.Mode.{is_commute, is_redux, is_scratch, is_written}
+use Rattle.sj_base.specs.Mode.{is_commute, is_redux, is_scratch, is_written, access}
+use Rattle.sj_base.proofs.Lists.{list_any-map}
+use Rattle.sj_base.proofs.SameIds.{same_cell-is}
 use Rattle.sj_core.proofs.Words.{Access, Cell, CellInfo, Codelet, Commute, CommuteMode, Contribute, Lowered, Manner, Mode, Program, R, RW, Read, Redux, Scratch, Task, Usage, W, Worker, Write, cell_info, cells_of, commuting_cells, copy_of, has_cell, no_cell, no_task, same_cell, task_of, worked_on, written_cells}
 use Rattle.sj_deps.specs.Conflict.{Conflict, HasDependencies, IsShared, SameGroup, Uses, copies_of, usage, usages, usages_of}
-use Rattle.sj_core.specs.Proper.{NamesCells, access}
+use Rattle.sj_core.specs.Proper.{NamesCells}
 use Rattle.sj_core.proofs.Modes.{written_isn't_scratch}
-use Rattle.sj_core.proofs.Readiness.{Contains-filter, Contains-from_filter, filter-Contains, list_any-some, list_any-map, Contains-map}
-use Rattle.sj_core.proofs.Reading.{same_cell-is}
+use Rattle.sj_core.proofs.Readiness.{Contains-filter, Contains-from_filter, filter-Contains, list_any-some, Contains-map}
 
 -- ---- an operand behind a cell
 

@@ -12,6 +12,8 @@ use Rattle.std.proofs.lemmas.List.Elements.{All-cons, All-get_or, All-map, All-n
 use Rattle.std.proofs.lemmas.{Bool.cases_lt, Bool.false≢true, Bool.Decides.nat_tests, Int.SFits-int_wrap, Int.clamps}
 use Rattle.std.proofs.lemmas.{Int.ints, List.FromFn.length-map-range_with_len}
 use Rattle.sj_base.specs.{Array.array, Array.at, Array.each, Array.element, Array.grid, Mode.is_written}
+use Rattle.sj_base.proofs.Lists.{cons_same, map-agree}
+use Rattle.sj_base.proofs.SameIds.{same_cell-is}
 use Rattle.sj_codelet.specs.declared.kernel.Kernel.TheVariants.{Copy, Add, Axpy, Butterfly, Gemm, GemmThree, Transpose}
 use Rattle.sj_codelet.specs.declared.kernel.Kernel.TheVariants.{Dot, Sum, Lowest, MinGemm, FwDiag, FwRow, FwCol, Load}
 use Rattle.sj_codelet.specs.declared.kernel.Kernel.TheVariants.{Paste, Deliver, InitPlus, InitLeast}
@@ -21,7 +23,7 @@ use Rattle.sj_codelet.specs.{Equations.after_turns, Laws.IsTile, Ring.wrap, Form
 use Rattle.sj_codelet.proofs.Table.{each_dims, new_arrays-dims}
 use Rattle.sj_core.specs.Fold.{Contents, after_chosen, after_task, held_in}
 use Rattle.sj_core.specs.Proper.{Fits, MayHaveModes, Proper, mode_of, modes_writing_by}
-use Rattle.sj_core.proofs.{Folding.held-append, Folding.held_over, Folding.map-same, Reading.same_cell-is}
+use Rattle.sj_core.proofs.{Folding.held-append, Folding.held_over}
 
 -- ---- what a codelet makes of tiles is tiles: each of its new arrays has its elements, and each element is an i64
 
@@ -124,9 +126,6 @@ new_arrays-tiles k args ins ha f h = one _ (tile (operand ins 0).dims _ (λ p. w
 
 -- ---- which operands get new arrays
 
-same_items : {X : Type 0} (x y : X) (xs ys : List X) → x ∷ xs ≡ y ∷ ys → (x ≡ y) × (xs ≡ ys)
-same_items x y xs ys e = (cc, cc)
-
 own-flags : (fs : List Formal) → map is_written (map mode_of fs) ≡ map is_output fs
 own-flags [] = refl
 own-flags (ReadFormal ∷ fs) = ap (λ bs. false ∷ bs) (own-flags fs)
@@ -135,7 +134,7 @@ own-flags (UpdateFormal ∷ fs) = ap (λ bs. true ∷ bs) (own-flags fs)
 own-flags (ScratchFormal ∷ fs) = ap (λ bs. false ∷ bs) (own-flags fs)
 
 writing-flags : (x : Mode) → is_written x ≡ true → (k : Kernel) → map is_written (modes_writing_by x k) ≡ map is_output (formals_of k)
-writing-flags x written k = search (arith, map-map, map-same, own-flags)
+writing-flags x written k = search (arith, map-map, map-agree, own-flags)
 
 written-flags : (k : Kernel) (modes : List Mode) → MayHaveModes k modes → map is_written modes ≡ map is_output (formals_of k)
 written-flags k modes x = search (arith, own-flags, writing-flags)
@@ -146,7 +145,7 @@ outputs-written g [] [] e = refl
 outputs-written g [] (a ∷ list) e = absurd (let n : suc (length list) ≡ 0 = sym (ap suc (length-map list (λ (b : Access). is_written b.mode))) ∙ ap length e in omega arith)
 outputs-written g (f ∷ fs) [] e = refl
 outputs-written {X} g (f ∷ fs) (a ∷ list) e =
-    let both = same_items (is_written a.mode) (is_output f) (map (λ (b : Access). is_written b.mode) list) (map is_output fs) e in
+    let both = cons_same (is_written a.mode) (is_output f) (map (λ (b : Access). is_written b.mode) list) (map is_output fs) e in
     by_flag (is_written a.mode) (is_output f) both.0 (outputs-written g fs list both.1)
   where
     by_flag : (b c : Bool) → b ≡ c → outputs_among fs (map g list) ≡ map g (filter (λ x. is_written x.mode) list) → (if c then g a ∷ outputs_among fs (map g list) else outputs_among fs (map g list)) ≡ map g (cond b (a ∷ filter (λ x. is_written x.mode) list) (filter (λ x. is_written x.mode) list))
@@ -171,7 +170,7 @@ held_over-sized : (p : Program) (cs : List Cell) (arrays : List Array) (c : Cell
 held_over-sized p [] arrays c below tiles dims h = h
 held_over-sized p (d ∷ cs) [] c below tiles dims h = h
 held_over-sized p (d ∷ cs) (a ∷ arrays) c below tiles dims h =
-    let both = same_items a.dims (dims_of p d) (each_dims arrays) (map (dims_of p) cs) dims in
+    let both = cons_same a.dims (dims_of p d) (each_dims arrays) (map (dims_of p) cs) dims in
     by_first (same_cell d c) refl (All-head IsTile a arrays tiles) both.0 (held_over-sized p cs arrays c below (All-tail IsTile a arrays tiles) both.1 h)
   where
     by_first : (b : Bool) → same_cell d c ≡ b → IsTile a → a.dims ≡ dims_of p d → Fills p c (held_over (zip cs arrays) c below) → Fills p c (elim (cond b (Some (d, a)) (find (λ (entry : Cell × Array). same_cell entry.0 c) (zip cs arrays))) as (λ _. Array) [ None ↦ below | Some entry ↦ entry.1 ])
@@ -193,7 +192,7 @@ module _ (p : Program) (proper : Proper p) (arguments : All (λ l. All (FitsSign
     ins = map (found p w held) (task_of p t).accesses
 
     ins-dims : each_dims ins ≡ map (λ a. dims_of p a.cell) (task_of p t).accesses
-    ins-dims = map-map (λ (x : Array). x.dims) (found p w held) (task_of p t).accesses ∙ map-same (λ a. (found p w held a).dims) (λ a. dims_of p a.cell) (task_of p t).accesses (λ a h. (found-fills w staffed held sized a).dims)
+    ins-dims = map-map (λ (x : Array). x.dims) (found p w held) (task_of p t).accesses ∙ map-agree (λ a. (found p w held a).dims) (λ a. dims_of p a.cell) (task_of p t).accesses (λ a h. (found-fills w staffed held sized a).dims)
 
     -- the operands that a task finds are such as its codelet takes
     pub ins-fit : IsTrue (fits fit.kernel (task_of p t).args (each_dims ins))
@@ -217,7 +216,7 @@ module _ (p : Program) (proper : Proper p) (arguments : All (λ l. All (FitsSign
         ∙ new_arrays-dims fit.kernel l.args ins (sym (length-map ins (λ (x : Array). x.dims)) ∙ parts.0) parts.1
         ∙ ap (outputs_among (formals_of fit.kernel)) ins-dims
         ∙ outputs-written (λ a. dims_of p a.cell) (formals_of fit.kernel) l.accesses (sym (map-map is_written (λ (a : Access). a.mode) l.accesses) ∙ written-flags fit.kernel (map (λ (a : Access). a.mode) l.accesses) fit.modes)
-        ∙ map-same (λ a. dims_of p a.cell) (λ a. dims_of p (worked_on p w a)) (filter (λ a. is_written a.mode) l.accesses) (λ a h. sym (worked_on-dims w staffed a))
+        ∙ map-agree (λ a. dims_of p a.cell) (λ a. dims_of p (worked_on p w a)) (filter (λ a. is_written a.mode) l.accesses) (λ a h. sym (worked_on-dims w staffed a))
         ∙ sym (map-map (dims_of p) (worked_on p w) (filter (λ a. is_written a.mode) l.accesses))
 
   -- a task leaves cells sized

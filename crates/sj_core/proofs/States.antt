@@ -1,5 +1,5 @@
 -- Legal traces: where all tasks are done each was claimed, ran and ended once; and what one event more needs and leaves.
-use Rattle.std.proofs.Common.{◌≡◌, ℕ, ◌+◌, Bool, true, false, cond, List, [], ◌∷◌, length, refl, sym, ap, ◌∙◌, arith}
+use Rattle.std.proofs.Common.{◌≡◌, ℕ, ◌+◌, Bool, true, false, List, [], ◌∷◌, length, refl, sym, ap, ◌∙◌, arith}
 use Rattle.std.proofs.Common.{Some, ◌++◌, count_by, nat_eq, fold}
 use Rattle.sj_core.proofs.Words.{AtNode, Claim, Claimed, Done, End, Event, Machine, Move, OnDisk, Program, Progress}
 use Rattle.sj_core.proofs.Words.{Run, Running, State, Task, Waiting, is_done, opening, progress, Cell, Place, Worker}
@@ -7,17 +7,15 @@ use Rattle.sj_core.proofs.Words.{transfer}
 use Rattle.std.proofs.lemmas.List.{length-set, length-replicate, get_or-replicate}
 use Rattle.std.proofs.lemmas.List.Sums.{AllPass-from_list_all, sum_by-cons, fold-append}
 use Rattle.std.proofs.lemmas.{Bool.false≢true, Bool.Decides.Decides-eqb}
+use Rattle.sj_base.proofs.Bools.{tally}
 use Rattle.sj_core.specs.{Step.May, Step.a_transfer, Step.after, Step.mover_of, Coherent.Coherent, Coherent.is_begun}
 use Rattle.sj_core.specs.{Legal.CanFollow, Legal.IsFinished, Legal.IsLegal, Legal.state_of}
 use Rattle.sj_core.specs.{Once.EachRanOnce, Once.is_claim_of, Once.is_run_of, Once.is_end_of}
-use Rattle.sj_core.proofs.Advancing.{Advances, Claims-advances_task, Runs-advances, Ends-advances}
+use Rattle.sj_core.proofs.Advancing.{Advances, Claims-advances_task, Runs-advances, Ends-advances, done-begun}
 use Rattle.sj_core.proofs.Eviction.{evicted-after}
 use Rattle.sj_core.proofs.Replicas.{coming_by-is, leaving_by-is}
 
 -- ---- legal traces: where all tasks are done each was claimed, ran and ended once
-
-abbrev one : Bool → ℕ
-one b = cond b 1 0
 
 -- the task runs or is done
 abbrev is_started : Progress → Bool
@@ -27,12 +25,12 @@ is_started _ = false
 
 -- so many claims, runs and ends of a task take it from x to y
 record Takes (x y : Progress) (claims runs ends : ℕ) : Type 0 where
-  pub begun : claims + one (is_begun x) ≡ one (is_begun y)
-  pub started : runs + one (is_started x) ≡ one (is_started y)
-  pub done : ends + one (is_done x) ≡ one (is_done y)
+  pub begun : claims + tally (is_begun x) ≡ tally (is_begun y)
+  pub started : runs + tally (is_started x) ≡ tally (is_started y)
+  pub done : ends + tally (is_done x) ≡ tally (is_done y)
 
 stays : (x y : Progress) → y ≡ x → Takes x y 0 0 0
-stays x y same = search (arith, one, is_started)
+stays x y same = search (arith, tally, is_started)
 
 -- ---- one step
 
@@ -45,13 +43,13 @@ abbrev none : Bool → ℕ
 none same = 0
 
 -- a step of the machine takes each task as far as its event says
-step-takes : (p : Program) (m : Machine) (s : State) (e : Event) (u : Task) → length s.tasks ≡ length p.tasks → May p m s e → Takes (progress s u) (progress (after p m s e) u) (one (is_claim_of u e)) (one (is_run_of u e)) (one (is_end_of u e))
+step-takes : (p : Program) (m : Machine) (s : State) (e : Event) (u : Task) → length s.tasks ≡ length p.tasks → May p m s e → Takes (progress s u) (progress (after p m s e) u) (tally (is_claim_of u e)) (tally (is_run_of u e)) (tally (is_end_of u e))
 step-takes p m s (Claim t w) u rows may =
-    takes-by s (after p m s (Claim t w)) t u Waiting (Claimed w) one none none (Claims-advances_task p m s t w (after p m s (Claim t w)) rows may (evicted-after p m s t w)) (record { begun = refl; started = refl; done = refl }) refl refl refl (nat_eq t.0 u.0) refl
+    takes-by s (after p m s (Claim t w)) t u Waiting (Claimed w) tally none none (Claims-advances_task p m s t w (after p m s (Claim t w)) rows may (evicted-after p m s t w)) (record { begun = refl; started = refl; done = refl }) refl refl refl (nat_eq t.0 u.0) refl
 step-takes p m s (Run t w) u rows may =
-    takes-by s (after p m s (Run t w)) t u (Claimed w) (Running w) none one none (Runs-advances p m s t w (after p m s (Run t w)) may refl) (record { begun = refl; started = refl; done = refl }) refl refl refl (nat_eq t.0 u.0) refl
+    takes-by s (after p m s (Run t w)) t u (Claimed w) (Running w) none tally none (Runs-advances p m s t w (after p m s (Run t w)) may refl) (record { begun = refl; started = refl; done = refl }) refl refl refl (nat_eq t.0 u.0) refl
 step-takes p m s (End t w) u rows may =
-    takes-by s (after p m s (End t w)) t u (Running w) (Done w) none none one (Ends-advances p m s t w (after p m s (End t w)) may refl) (record { begun = refl; started = refl; done = refl }) refl refl refl (nat_eq t.0 u.0) refl
+    takes-by s (after p m s (End t w)) t u (Running w) (Done w) none none tally (Ends-advances p m s t w (after p m s (End t w)) may refl) (record { begun = refl; started = refl; done = refl }) refl refl refl (nat_eq t.0 u.0) refl
 step-takes p m s (Move c from (AtNode n)) u rows may = stays (progress s u) (progress s u) refl
 step-takes p m s (Move c from (OnDisk d)) u rows may = stays (progress s u) (progress s u) refl
 step-takes p m s e u rows may = stays (progress s u) (progress s u) refl
@@ -72,20 +70,17 @@ trace-takes p m s [] u rows follows = stays (progress s u) (progress s u) refl
 trace-takes p m s (e ∷ trace) u rows (may, rest) =
     let first = step-takes p m s e u rows may in
     let later = trace-takes p m (after p m s e) trace u (step-rows p m s e ∙ rows) rest in
-    let claims = sum_by-cons (λ (d : Event). one (is_claim_of u d)) e trace in
-    let runs = sum_by-cons (λ (d : Event). one (is_run_of u d)) e trace in
-    let ends = sum_by-cons (λ (d : Event). one (is_end_of u d)) e trace in
+    let claims = sum_by-cons (λ (d : Event). tally (is_claim_of u d)) e trace in
+    let runs = sum_by-cons (λ (d : Event). tally (is_run_of u d)) e trace in
+    let ends = sum_by-cons (λ (d : Event). tally (is_end_of u d)) e trace in
     record { begun = omega (arith, first.begun, later.begun, claims); started = omega (arith, first.started, later.started, runs); done = omega (arith, first.done, later.done, ends) }
-
-done-begun : (x : Progress) → is_done x ≡ true → is_begun x ≡ true
-done-begun b h = search arith
 
 done-started : (x : Progress) → is_done x ≡ true → is_started x ≡ true
 done-started x h = search arith
 
 -- what takes a task from waiting to done is one claim, one run and one end
 takes-all : (x y : Progress) (claims runs ends : ℕ) → Takes x y claims runs ends → x ≡ Waiting → is_done y ≡ true → (claims ≡ 1) × (runs ≡ 1) × (ends ≡ 1)
-takes-all x y claims runs ends takes waits is_last = search (arith, one, done-begun, is_started, done-started)
+takes-all x y claims runs ends takes waits is_last = search (arith, tally, done-begun, is_started, done-started)
 
 -- in a finished trace each task was claimed, ran and ended once
 pub finished-once : (p : Program) (m : Machine) (trace : List Event) → IsFinished p m trace → EachRanOnce p trace

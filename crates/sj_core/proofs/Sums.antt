@@ -7,17 +7,9 @@ use Rattle.std.proofs.lemmas.Bool.{false_from_ne_true, and_parts, and_from, and_
 use Rattle.std.proofs.lemmas.Bool.{lt-leb, lt-ltb, eq-eqb, ne_eqb, cases_eq}
 use Rattle.std.proofs.lemmas.{List.Folds.Any-from_list_any, List.Filters.sum_by-filter_both}
 use Rattle.std.specs.List.{range_with_len, list_any}
-
--- what an element counts by a test
-abbrev pub tally : Bool → ℕ
-tally b = cond b 1 0
-
-pub tally_le : (b : Bool) → tally b ≤ 1
-tally_le b = search arith
-
--- two tests that imply each other are one
-pub same_test : (a b : Bool) → (a ≡ true → b ≡ true) → (b ≡ true → a ≡ true) → a ≡ b
-same_test a b f g = search arith
+pub use Rattle.sj_base.proofs.Lists.{sum_by-agree as sum-agree}
+pub use Rattle.sj_base.proofs.Bools.{tally}
+pub use Rattle.sj_base.proofs.Bools.{same_test}
 
 -- two sums that balance two others
 pub sum-balanced : {X : Type 0} (f g h k : X → ℕ) → ((x : X) → f x + g x ≡ h x + k x) → (xs : List X) → sum_by f xs + sum_by g xs ≡ sum_by h xs + sum_by k xs
@@ -30,10 +22,6 @@ pub sum-within : {X : Type 0} (f g h : X → ℕ) → ((x : X) → f x + g x ≤
 sum-within f g h within [] = omega arith
 sum-within f g h within (x ∷ xs) =
     omega (arith, sum-within f g h within xs, within x, sum_by-cons f x xs, sum_by-cons g x xs, sum_by-cons h x xs)
-
-pub sum-agree : {X : Type 0} (f g : X → ℕ) → ((x : X) → f x ≡ g x) → (xs : List X) → sum_by f xs ≡ sum_by g xs
-sum-agree f g same [] = refl
-sum-agree f g same (x ∷ xs) = sum_by-cons f x xs ∙ ap (λ n. n + sum_by f xs) (same x) ∙ ap (λ n. g x + n) (sum-agree f g same xs) ∙ sym (sum_by-cons g x xs)
 
 -- the sum over what a filter keeps, as a sum over all
 pub sum-filter : {X : Type 0} (f : X → ℕ) (test : X → Bool) (xs : List X) → sum_by f (filter test xs) ≡ sum_by (λ x. cond (test x) (f x) 0) xs
@@ -56,16 +44,6 @@ filter-sum-le f test xs = let both = sum_by-filter_both test (λ x. not (test x)
 pub sum-nothing : {X : Type 0} (f : X → ℕ) → ((x : X) → f x ≡ 0) → (xs : List X) → sum_by f xs ≡ 0
 sum-nothing f none [] = refl
 sum-nothing f none (x ∷ xs) = omega (arith, sum_by-cons f x xs, none x, sum-nothing f none xs)
-
--- a sum over what a function gives
-pub sum_by-map : {X Y : Type 0} (f : Y → ℕ) (g : X → Y) (xs : List X) → sum_by f (map g xs) ≡ sum_by (λ x. f (g x)) xs
-sum_by-map f g [] = refl
-sum_by-map f g (x ∷ xs) = let first = sum_by-cons f (g x) (map g xs) in let later = sum_by-cons (λ y. f (g y)) x xs in let rest = sum_by-map f g xs in omega arith
-
--- what passes a test and is counted is there
-pub counted-some : {X : Type 0} (test : X → Bool) (xs : List X) → 0 < count_by test xs → list_any test xs ≡ true
-counted-some test [] some = absurd (omega (arith, some))
-counted-some test (x ∷ xs) some = search (arith, sum_by-cons, counted-some test xs)
 
 -- and what is there is counted
 pub counted-has : {X : Type 0} (test : X → Bool) (xs : List X) → list_any test xs ≡ true → 0 < count_by test xs

@@ -1,27 +1,28 @@
--- Tasks that may change places: they work on different cells, or each updates one and the same cell by codelets that may be exchanged.
--- One that may change places with all later chosen tasks may be put last.
+-- Tasks that may change places: they work on different cells, or each updates one and the same cell by codelets that may be
+-- exchanged. One that may change places with all later chosen tasks may be put last.
 use Rattle.std.proofs.Common.{Bool, List, None, Option, Some, [], ap, arith, cond, false, inl, inr, length, map, refl, subst, suc, sym, true, zero, ℕ, ℤ, ◌++◌, ◌<◌, ◌≤◌, ◌||◌, ◌∙◌, ◌∷◌, ◌≡◌, ◌≢◌, All, FitsSigned, IsTrue, if◌then◌else◌, Contains, find, zip}
 use Rattle.std.specs.Int.{w64}
 use Rattle.std.proofs.lemmas.Bool.{cases_Bool, cases_lt, false_from_ne_true}
 use Rattle.std.proofs.lemmas.List.{map-append}
 use Rattle.std.proofs.lemmas.List.Elements.{All-get_or}
 use Rattle.sj_base.specs.Mode.{is_redux, starts_as_zeros}
+use Rattle.sj_base.proofs.Lists.{map-agree}
+use Rattle.sj_base.proofs.SameIds.{same_cell-is, same_cell-itself}
 use Rattle.sj_codelet.proofs.Table.{each_dims}
 use Rattle.sj_codelet.specs.Kernel.{fits, kernel_of, new_arrays, operand}
 use Rattle.sj_codelet.specs.Laws.{DoCommute, IsCall, IsTile, result_of}
 use Rattle.sj_core.proofs.Words.{Access, Array, Cell, Kernel, Program, Task, Worker, cells_of, dims_of, found, has_cell, no_task, results, same_cell, task_of, worked_on, written_cells, zeros}
 use Rattle.sj_core.specs.Fold.{Contents, after_chosen, after_task, held_in}
 use Rattle.sj_core.specs.Proper.{Fits, Proper}
-use Rattle.sj_core.proofs.CellLists.{same_cell-refl}
 use Rattle.sj_core.proofs.Values.{results-complete}
-use Rattle.sj_core.proofs.Folding.{AddsTask, after_chosen-same, after_task-other, after_task-same, held-append, held_over, map-same}
-use Rattle.sj_core.proofs.Reading.{same_cell-is}
+use Rattle.sj_core.proofs.Folding.{AddsTask, after_chosen-same, after_task-other, after_task-same, held-append, held_over}
 use Rattle.sj_core.proofs.Sized.{AreSized, after_chosen-sized, fit, ins-fit, ins-tiles}
 use Rattle.sj_core.proofs.TaskCells.{written-among_cells}
 
 -- ---- one cell that a task updates
 
--- the task writes this cell alone, by its last operand, whose old value it reads; those before it have no contribution, and don't read the cell
+-- the task writes this cell alone, by its last operand, whose old value it reads; those before it have no contribution, and
+-- don't read the cell
 pub record Updates (p : Program) (t : Task) (w : Worker) (d : Cell) : Type 0 where
   pub kernel : Kernel
   pub codelet : kernel_of (task_of p t).codelet ≡ Some kernel
@@ -68,7 +69,7 @@ module _ (p : Program) (proper : Proper p) (arguments : All (λ l. All (FitsSign
       where
         first : (xs : List Array) → length xs ≡ 1 → (below : Array) → held_over (zip (d ∷ []) xs) d below ≡ operand xs 0
         first [] e below = absurd (omega arith)
-        first (x ∷ xs) e below = ap (λ b. elim (cond b (Some (d, x)) (find (λ (entry : Cell × Array). same_cell entry.0 d) (zip [] xs))) as (λ _. Array) [ None ↦ below | Some entry ↦ entry.1 ]) (same_cell-refl d)
+        first (x ∷ xs) e below = ap (λ b. elim (cond b (Some (d, x)) (find (λ (entry : Cell × Array). same_cell entry.0 d) (zip [] xs))) as (λ _. Array) [ None ↦ below | Some entry ↦ entry.1 ]) (same_cell-itself d)
 
     -- it is one that the codelet takes
     pub update-call : (before : Contents) → AreSized p before → IsCall u.kernel (task_of p t).args (first_ins p t w d u (held_in p before) ++ held_in p before d ∷ [])
@@ -108,7 +109,7 @@ module _ (p : Program) (proper : Proper p) (arguments : All (λ l. All (FitsSign
     -- the operands of an update that aren't its cell are found the same after another update of the cell
     ins-kept : (x y : Task) (x_in : x.0 < length p.tasks) (y_in : y.0 < length p.tasks) (a b : Worker) (a_in : a.0 < p.workers) (b_in : b.0 < p.workers) (d : Cell) (ux : Updates p x a d) (uy : Updates p y b d) →
         first_ins p x a d ux (held_in p (after_task p b y before)) ≡ first_ins p x a d ux (held_in p before)
-    ins-kept x y x_in y_in a b a_in b_in d ux uy = map-same (found p a (held_in p (after_task p b y before))) (found p a (held_in p before)) ux.before (λ z h. elim (cases_Bool (starts_as_zeros z.mode)) [
+    ins-kept x y x_in y_in a b a_in b_in d ux uy = map-agree (found p a (held_in p (after_task p b y before))) (found p a (held_in p before)) ux.before (λ z h. elim (cases_Bool (starts_as_zeros z.mode)) [
       | inl zeros ↦ rw zeros
       | inr e ↦ rw e (update-spares y y_in b b_in d uy before (worked_on p a z) (ux.others z h e))
     ])

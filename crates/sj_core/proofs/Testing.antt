@@ -8,12 +8,14 @@ use Rattle.sj_core.proofs.Words.{is_running_on, is_waiting, node_of, node_size, 
 use Rattle.sj_core.proofs.Words.{transfer, written_cells}
 use Rattle.std.proofs.lemmas.Bool.{and_parts, eqb-true, false≢true, leb-true, ltb-true}
 use Rattle.std.specs.List.{list_all, range_with_len}
+use Rattle.sj_base.specs.Ids.{worker}
+use Rattle.sj_base.proofs.SameIds.{same_cell-is}
 use Rattle.sj_codelet.specs.Kernel.{fits}
 use Rattle.sj_core.specs.Legal.{CanFollow, IsLegal}
 use Rattle.sj_core.specs.Step.{May, a_transfer, after, disk_of, is_fresh, is_in_use, is_moving, is_present, is_read}
 use Rattle.sj_core.specs.Step.{is_valid_elsewhere, mover_of, none_leaving, same_place, source_of, victims_for}
-use Rattle.sj_core.proofs.{Advancing.claimed_by-is, Advancing.running_on-is, Worked.worker, Placing.same_place-is}
-use Rattle.sj_core.proofs.{Readiness.EarlierAreDone-all, Readiness.Ready-from, Reading.same_cell-is}
+use Rattle.sj_core.proofs.{Advancing.claimed_by-is, Advancing.running_on-is, Placing.same_place-is}
+use Rattle.sj_core.proofs.{Readiness.EarlierAreDone-all, Readiness.Ready-from}
 
 abbrev all_earlier_done : State → Task → Bool
 all_earlier_done s t = list_all (λ n. done_in s (record { 0 = n })) (range_with_len 0 t.0)
@@ -48,7 +50,7 @@ is_step p m s (End t w) = is_running_on w (progress s t)
 
 -- ---- the test is right
 
-waiting-is : (x : Progress) → is_waiting x ≡ true → x ≡ Waiting
+pub waiting-is : (x : Progress) → is_waiting x ≡ true → x ≡ Waiting
 waiting-is x h = search (arith, false≢true)
 
 none-is : {X : Type 0} (o : Option X) → is_none o ≡ true → o ≡ None

@@ -7,6 +7,9 @@ use Rattle.std.proofs.lemmas.List.Elements.{All-get_or, Contains-append_cases, C
 use Rattle.std.proofs.lemmas.List.Sums.{AllPass-from_list_all}
 use Rattle.std.proofs.lemmas.List.Folds.{list_any_at}
 use Rattle.sj_base.specs.Mode.{is_in_order, is_redux, is_scratch, is_written, starts_as_zeros}
+use Rattle.sj_base.proofs.Bools.{implied}
+use Rattle.sj_base.proofs.Lists.{one_is}
+use Rattle.sj_base.proofs.SameIds.{same_cell-is, same_cell-itself}
 use Rattle.sj_codelet.proofs.Table.{by_table}
 use Rattle.sj_codelet.specs.Formal.{is_output}
 use Rattle.sj_codelet.specs.Kernel.{commutes_of, contributes_of, formals_of, kernel_of}
@@ -15,13 +18,11 @@ use Rattle.sj_deps.specs.Conflict.{Uses, Conflict, IsShared as IsSharedManner}
 use Rattle.sj_core.specs.Proper.{Fits, MayHaveModes, Proper, mode_of, modes_writing_by, own_modes}
 use Rattle.sj_core.specs.Laws.{IsLawful, is_known}
 use Rattle.sj_core.proofs.Words.{Access, Cell, Codelet, CommuteMode, Formal, Kernel, Least, Mode, Plus, Program, R, RW, Read, ReadFormal, Reduction, Redux, Scratch, ScratchFormal, Task, UpdateFormal, Worker, no_task, task_of, worked_on, written_cells, Commute, Contribute, Manner, Write, cells_of, has_cell, same_cell}
-use Rattle.sj_core.proofs.Dependencies.{Proper-dependencies, map-from, one_is}
-use Rattle.sj_core.proofs.Modes.{then, written_isn't_scratch}
+use Rattle.sj_core.proofs.Dependencies.{Proper-dependencies, map-from}
+use Rattle.sj_core.proofs.Modes.{written_isn't_scratch}
 use Rattle.sj_core.proofs.Sharing.{manner_of, operand-uses, redux-has_copies, BothCommute, BothContribute, Conflict-sym, Differ, commuting-is, conflict-by, contributing-is, meeting, operand_for, written-isn't_read}
 use Rattle.sj_core.proofs.Swapping.{Updates, Apart, Exchange, MaySwap, Together, commuting-exchange}
-use Rattle.sj_core.proofs.CellLists.{same_cell-refl}
 use Rattle.sj_core.proofs.Readiness.{list_any-some, Contains-map}
-use Rattle.sj_core.proofs.Reading.{same_cell-is}
 
 -- ---- a task with a COMMUTE or a REDUX operand updates one cell alone, by its last operand
 
@@ -47,8 +48,8 @@ updates-last k h = absurd (false≢true h)
 
 -- a contributing codelet commutes
 pub contributing-commutes : (k : Kernel) (by : Reduction) → contributes_of k by ≡ true → commutes_of k ≡ true
-contributing-commutes k Plus h = then (contributes_of k Plus) (commutes_of k) (by_table (λ j. not (contributes_of j Plus) || commutes_of j) refl k) h
-contributing-commutes k Least h = then (contributes_of k Least) (commutes_of k) (by_table (λ j. not (contributes_of j Least) || commutes_of j) refl k) h
+contributing-commutes k Plus h = implied (contributes_of k Plus) (commutes_of k) (by_table (λ j. not (contributes_of j Plus) || commutes_of j) refl k) h
+contributing-commutes k Least h = implied (contributes_of k Least) (commutes_of k) (by_table (λ j. not (contributes_of j Least) || commutes_of j) refl k) h
 
 -- a codelet contributes to one reduction alone
 pub one_reduction : (k : Kernel) (by by' : Reduction) → contributes_of k by ≡ true → contributes_of k by' ≡ true → by ≡ by'
@@ -191,7 +192,7 @@ module _ (p : Program) (proper : Proper p) (t : Task) (inside : t.0 < length p.t
 
 -- one of the list has the cell
 has-contained : (cs : List Cell) (d : Cell) → Contains cs d → has_cell cs d ≡ true
-has-contained cs d (k, l, e) = list_any_at (λ c. same_cell c d) cs k d l (ap (λ (c : Cell). same_cell c d) e ∙ same_cell-refl d)
+has-contained cs d (k, l, e) = list_any_at (λ c. same_cell c d) cs k d l (ap (λ (c : Cell). same_cell c d) e ∙ same_cell-itself d)
 
 any-has : (test : Cell → Bool) (cs : List Cell) (d : Cell) → has_cell cs d ≡ true → test d ≡ true → list_any test cs ≡ true
 any-has test cs d h passes = search (arith, list_any-some, list_any_at, same_cell-is)

@@ -10,22 +10,24 @@ use Rattle.std.proofs.lemmas.{List.Sums.length-filter, List.length-map, Bool.fal
 use Rattle.std.proofs.lemmas.{List.Elements.All-contains}
 use Rattle.sj_codelet.proofs.Table.{new_arrays-count}
 use Rattle.sj_codelet.specs.Kernel.{new_arrays}
-use Rattle.sj_base.specs.Mode.{is_written, is_redux, is_scratch, reads_value, starts_as_zeros}
-use Rattle.sj_core.specs.Proper.{Fits, MayHaveModes, own_modes, modes_writing_by, HasValueBefore, Proper, access}
+use Rattle.sj_base.specs.Mode.{is_written, is_redux, is_scratch, reads_value, starts_as_zeros, access}
+use Rattle.sj_base.proofs.Lists.{list_any-numbered, sum_by-agree, sum_by-map}
+use Rattle.sj_base.proofs.SameIds.{same_cell-is}
+use Rattle.sj_core.specs.Proper.{Fits, MayHaveModes, own_modes, modes_writing_by, HasValueBefore, Proper}
 use Rattle.sj_core.specs.Proper.{gives_value}
 use Rattle.sj_core.specs.{Coherent.WritesAreCounted, Coherent.has_written, Step.EarlierAreDone}
 use Rattle.sj_deps.specs.Conflict.{Conflict, IsShared, Uses}
 use Rattle.sj_core.proofs.{Dependencies.Proper-dependencies, Readiness.Contains-filter, Readiness.list_any-some}
-use Rattle.sj_core.proofs.{Reading.list_any-numbered, Reading.same_cell-is, Sharing.manner_of, Sharing.operand-has_cell}
+use Rattle.sj_core.proofs.{Sharing.manner_of, Sharing.operand-has_cell}
 use Rattle.sj_core.proofs.{Sharing.operand-uses, Sharing.operand_for, Sharing.redux-has_copies}
-use Rattle.sj_core.proofs.{Sharing.write_isn't_read, Sums.counted-has, Sums.sum_by-map, Sums.sum-agree}
+use Rattle.sj_core.proofs.{Sharing.write_isn't_read, Sums.counted-has}
 
 -- ---- a task's codelet has a new array for each operand that the task writes
 
 -- a test counts as many after a map under which it answers the same
 count_by-map : {X Y : Type 0} (f : X → Y) (test : Y → Bool) (test' : X → Bool) (xs : List X) → ((x : X) → test (f x) ≡ test' x) → count_by test (map f xs) ≡ count_by test' xs
 count_by-map f test test' xs same =
-    sum_by-map (λ y. cond (test y) 1 0) f xs ∙ sum-agree (λ x. cond (test (f x)) 1 0) (λ x. cond (test' x) 1 0) (λ x. ap (λ b. cond b 1 0) (same x)) xs
+    sum_by-map (λ y. cond (test y) 1 0) f xs ∙ sum_by-agree (λ x. cond (test (f x)) 1 0) (λ x. cond (test' x) 1 0) (λ x. ap (λ b. cond b 1 0) (same x)) xs
 
 -- a kernel has a new array for each of its own operands that is written
 own-count : (k : Kernel) (args : List ℤ) (ins : List Array) → length (new_arrays k args ins) ≡ count_by is_written (own_modes k)

@@ -1,23 +1,15 @@
 -- Needs, first fit and victims on small programs, with the numbers worked out by hand.
 use Rattle.std.proofs.Common.{ℕ, Option, List, ◌∷◌, ◌≡◌, not, [], map, refl, Some, None, ℤ, pos, option_map, nat_eq}
 use Rattle.sj_core.proofs.Words.{Access, AtNode, Cell, CellInfo, Claim, End, Event, Kernel, Lowered, Machine, Mode}
-use Rattle.sj_core.proofs.Words.{OnDisk, Place, Run, Task, Worker, Block, Program, R, Redux, Scratch, footprint, place}
+use Rattle.sj_core.proofs.Words.{OnDisk, Place, Run, Block, Program, R, Redux, Scratch, footprint, place}
 use Rattle.sj_core.proofs.Words.{room, swap_need}
 use Rattle.sj_base.specs.declared.mode.Policy.TheVariants.{Eager}
+use Rattle.sj_base.specs.Ids.{task, cell, worker}
 use Rattle.sj_codelet.specs.Kernel.{codelet_of}
 use Rattle.sj_codelet.specs.declared.kernel.Kernel.TheVariants.{Sum, GemmThree}
 use Rattle.sj_core.specs.Victims.{victims}
 
 -- ---- words in which worked jobs and their events are told
-
-abbrev pub cell : ℕ → Cell
-cell n = record { 0 = n }
-
-abbrev pub task : ℕ → Task
-task n = record { 0 = n }
-
-abbrev pub worker : ℕ → Worker
-worker n = record { 0 = n }
 
 -- the first node and the first disk
 abbrev pub node : Place

@@ -4,12 +4,13 @@ use Rattle.sj_core.proofs.Words.{Claim, Drop, End, Event, Machine, Manner, Move,
 use Rattle.sj_core.proofs.Words.{Valid, W, Write, order, replica, victims_of, writes}
 use Rattle.std.specs.Int.{int_wrap}
 use Rattle.std.proofs.lemmas.Bool.{false≢true}
+use Rattle.sj_base.specs.Ids.{task, cell, worker}
 use Rattle.sj_codelet.specs.declared.kernel.Kernel.TheVariants.{Load, Add, Deliver}
 use Rattle.sj_codelet.specs.Equations.{vector}
 use Rattle.sj_deps.specs.Conflict.{Conflict, Uses, IsShared}
 use Rattle.sj_core.specs.{Fold.given, Legal.IsLegal, Legal.IsComplete, Legal.state_of, Proper.IsMachineFor}
 use Rattle.sj_core.specs.{Proper.HasSwapFor, Step.May, Step.disk_of}
-use Rattle.sj_core.proofs.Worked.{a_machine, a_task, access, cell, columns, disk, node, task, turn, worker}
+use Rattle.sj_core.proofs.Worked.{a_machine, a_task, access, columns, disk, node, turn}
 use Rattle.sj_core.proofs.{Readiness.Ready-earlier, Testing.legal-from, Sharing.write_isn't_read}
 use Rattle.sj_core.proofs.Reduction
 

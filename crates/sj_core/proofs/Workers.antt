@@ -1,6 +1,7 @@
--- What cells hold after all tasks up to one doesn't depend on the workers of the contributions, but in partial copies and under open phases.
+-- What cells hold after all tasks up to one doesn't depend on the workers of the contributions, but in partial copies and
+-- under open phases.
 use Rattle.std.proofs.Common.{Bool, List, ap, arith, cond, false, inl, inr, length, not, refl, subst, suc, sym, true}
-use Rattle.std.proofs.Common.{zero, ℕ, ◌<◌, ◌≤◌, ◌∙◌, ◌≡◌, ◌≢◌, [], get_or, ◌||◌, ◌∷◌, ◌⊎◌, Contains, zip, is_some}
+use Rattle.std.proofs.Common.{zero, ℕ, ◌<◌, ◌≤◌, ◌∙◌, ◌≡◌, ◌≢◌, [], get_or, ◌∷◌, ◌⊎◌, Contains, zip, is_some}
 use Rattle.std.proofs.Common.{nat_lt}
 use Rattle.sj_core.proofs.Words.{Access, Array, Cell, Codelet, Kernel, Mode, Program, R, Read, Redux, Task, W, Worker}
 use Rattle.sj_core.proofs.Words.{cells_of, has_cell, no_task, results, task_of, worked_on, written_cells, cell_info}
@@ -9,12 +10,15 @@ use Rattle.std.specs.List.{list_any}
 use Rattle.std.proofs.lemmas.Bool.{cases_Bool, false_from_ne_true, false≢true, cases_lt, true≢false, cases_eq}
 use Rattle.std.proofs.lemmas.List.Elements.{All-get_or, Contains-append_left}
 use Rattle.std.proofs.lemmas.{Bool.Decides.nat_tests, List.Folds.list_any_at}
-use Rattle.sj_base.specs.Mode.{is_in_order, is_scratch, is_written, starts_as_zeros, is_redux}
+use Rattle.sj_base.specs.Mode.{is_in_order, is_scratch, is_written, starts_as_zeros, is_redux, access}
+use Rattle.sj_base.specs.Ids.{task}
+use Rattle.sj_base.proofs.Bools.{or_false}
+use Rattle.sj_base.proofs.SameIds.{same_cell-is, same_cell-itself}
 use Rattle.sj_deps.specs.Conflict.{Conflict, IsShared, Uses}
-use Rattle.sj_core.specs.Proper.{Fits, Proper, IsCombine, IsOpenAt, IsPhase, IsPlain, Phase, access, task_number}
+use Rattle.sj_core.specs.Proper.{Fits, Proper, IsCombine, IsOpenAt, IsPhase, IsPlain, Phase, task_number}
 use Rattle.sj_core.specs.{Fold.Contents, Fold.after_chosen, Fold.after_task, Fold.held_in, Laws.IsLawful}
 use Rattle.sj_codelet.specs.Laws.{IsReduction, IsTile, combined}
-use Rattle.sj_core.proofs.Folding.{after_task-other, held-append, held_over, held_over-own, number, read-among_cells}
+use Rattle.sj_core.proofs.Folding.{after_task-other, held-append, held_over, held_over-own, read-among_cells}
 use Rattle.sj_core.proofs.Folding.{results-same, after_chosen-same, WorksAlike, cone-holds}
 use Rattle.sj_core.proofs.Phases.{contributions-exchange, Contributes, combine-after, combine-among, combine-reads}
 use Rattle.sj_core.proofs.Phases.{combine_at, contributes, copy-of, init-among, init-before, init_at, reduces}
@@ -24,11 +28,12 @@ use Rattle.sj_core.proofs.Copies.{direct-cell, refilled, redux_or}
 use Rattle.sj_core.proofs.{Sharing.conflict-by, Sharing.manner_of, Sharing.operand_for, Swapping.MaySwap}
 use Rattle.sj_core.proofs.{Swapping.update-spares, Values.results-complete, Dependencies.Proper-dependencies}
 use Rattle.sj_core.proofs.{Updating.may-swap, Updating.operand-used, Modes.written_isn't_scratch}
-use Rattle.sj_core.proofs.{Modes.reads_isn't_scratch, CellLists.same_cell-refl, Combining.combined-swap}
-use Rattle.sj_core.proofs.{TaskCells.operand-inside, TaskCells.written-among_cells, Reading.same_cell-is}
+use Rattle.sj_core.proofs.{Modes.reads_isn't_scratch, Combining.combined-swap}
+use Rattle.sj_core.proofs.{TaskCells.operand-inside, TaskCells.written-among_cells}
 use Rattle.sj_core.proofs.{Sized.AreSized, Sized.after_chosen-sized, Advancing.same_task, Readiness.list_any-some}
 
--- ---- on which tasks a cell depends, whatever the modes: those with which its writers conflict, and no member of their groups beside those that write it
+-- ---- on which tasks a cell depends, whatever the modes: those with which its writers conflict, and no member of their
+-- groups beside those that write it
 
 -- a task whose operands' cells hold the same leaves the same in a cell that it writes, and what was the same in another one
 pub step-same : (p : Program) → Proper p → (t : Task) → t.0 < length p.tasks → (w : Worker) (before before' : Contents) (c : Cell) →
@@ -77,28 +82,29 @@ module _ (has : Kernel → Bool) (p : Program) (proper : Proper p) (lawful : IsL
       by_kind : MaySwap p proper lawful.arguments u t (by u) (by t) → has_cell (written_cells p u (by u)) c ≡ true
       by_kind b = search arith
 
-  -- where the chosen tasks have the earlier ones that conflict with them, a cell all of whose writers are chosen holds the same after them alone
+  -- where the chosen tasks have the earlier ones that conflict with them, a cell all of whose writers are chosen holds the
+  -- same after them alone
   pub cone-shared : (chosen : Task → Bool) (n : ℕ) → n ≤ length p.tasks → ((u t : Task) → u.0 < t.0 → t.0 < n → chosen t ≡ true → Conflict p u.0 t.0 → chosen u ≡ true) →
       (c : Cell) → ((u : Task) → u.0 < n → has_cell (written_cells p u (by u)) c ≡ true → chosen u ≡ true) → held_in p (after_chosen p chosen by n) c ≡ held_in p (after_chosen p (λ u. true) by n) c
   cone-shared chosen zero l closed c writers = refl
-  cone-shared chosen (suc n) l closed c writers = by_choice (chosen (number n)) refl (cone-shared chosen n (omega arith) (λ u t before within. closed u t before (omega arith)))
+  cone-shared chosen (suc n) l closed c writers = by_choice (chosen (task n)) refl (cone-shared chosen n (omega arith) (λ u t before within. closed u t before (omega arith)))
     where
-      by_choice : (b : Bool) → chosen (number n) ≡ b → ((d : Cell) → ((u : Task) → u.0 < n → has_cell (written_cells p u (by u)) d ≡ true → chosen u ≡ true) → held_in p (after_chosen p chosen by n) d ≡ held_in p (after_chosen p (λ u. true) by n) d) →
-          held_in p (cond b (after_task p (by (number n)) (number n) (after_chosen p chosen by n)) (after_chosen p chosen by n)) c ≡ held_in p (after_task p (by (number n)) (number n) (after_chosen p (λ u. true) by n)) c
+      by_choice : (b : Bool) → chosen (task n) ≡ b → ((d : Cell) → ((u : Task) → u.0 < n → has_cell (written_cells p u (by u)) d ≡ true → chosen u ≡ true) → held_in p (after_chosen p chosen by n) d ≡ held_in p (after_chosen p (λ u. true) by n) d) →
+          held_in p (cond b (after_task p (by (task n)) (task n) (after_chosen p chosen by n)) (after_chosen p chosen by n)) c ≡ held_in p (after_task p (by (task n)) (task n) (after_chosen p (λ u. true) by n)) c
       by_choice false e rest =
           rest c (λ u h. writers u (omega arith))
-          ∙ sym (after_task-other p (by (number n)) (number n) (after_chosen p (λ u. true) by n) c (false_from_ne_true (has_cell (written_cells p (number n) (by (number n))) c) (λ over. false≢true (sym e ∙ writers (number n) (omega arith) over))))
-      by_choice true e rest = step-same p proper (number n) (omega arith) (by (number n)) (after_chosen p chosen by n) (after_chosen p (λ u. true) by n) c
-          (λ over a h reads. rest (worked_on p (by (number n)) a) (λ u before writes. elim (cases_Bool (chosen u)) [
+          ∙ sym (after_task-other p (by (task n)) (task n) (after_chosen p (λ u. true) by n) c (false_from_ne_true (has_cell (written_cells p (task n) (by (task n))) c) (λ over. false≢true (sym e ∙ writers (task n) (omega arith) over))))
+      by_choice true e rest = step-same p proper (task n) (omega arith) (by (task n)) (after_chosen p chosen by n) (after_chosen p (λ u. true) by n) c
+          (λ over a h reads. rest (worked_on p (by (task n)) a) (λ u before writes. elim (cases_Bool (chosen u)) [
             | inl among ↦ among
             | inr left ↦
-                let free : ¬ Conflict p u.0 n = λ conflict. false≢true (sym left ∙ closed u (number n) before (omega arith) e conflict) in
-                writers u (omega arith) (shares-all u (number n) (omega arith) (omega arith) before free (worked_on p (by (number n)) a) c writes (read-among_cells p (number n) (by (number n)) a h reads) over)
+                let free : ¬ Conflict p u.0 n = λ conflict. false≢true (sym left ∙ closed u (task n) before (omega arith) e conflict) in
+                writers u (omega arith) (shares-all u (task n) (omega arith) (omega arith) before free (worked_on p (by (task n)) a) c writes (read-among_cells p (task n) (by (task n)) a h reads) over)
           ]))
           (λ spared. rest c (λ u h. writers u (omega arith)))
 
--- ---- one contribution by another worker: until both workers' copies are combined they differ by what it adds, and then nothing does but the
--- copies, until they are filled anew.
+-- ---- one contribution by another worker: until both workers' copies are combined they differ by what it adds, and then
+-- nothing does but the copies, until they are filled anew.
 
 abbrev pub every : Task → Bool
 every u = true
@@ -157,47 +163,44 @@ module _ (has : Kernel → Bool) (p : Program) (proper : Proper p) (lawful : IsL
   -- ---- who works on a copy until both are combined
 
   data OnCopy (n : ℕ) (v y : Worker) : Type 0 where
-    Adds : (b : Access) → Contains (task_of p (number n)).accesses b → b.mode ≡ Redux → b.cell ≡ c → v ≡ y → Contains f.contributions n → OnCopy n v y
+    Adds : (b : Access) → Contains (task_of p (task n)).accesses b → b.mode ≡ Redux → b.cell ≡ c → v ≡ y → Contains f.contributions n → OnCopy n v y
     Merges : n ≡ get_or f.combines y.0 0 → OnCopy n v y
 
   module _ (n : ℕ) (later : t.0 < n) (before : n ≤ k') (v : Worker) (v_in : v.0 < p.workers) where
-    operand-at : (b : Access) → Contains (task_of p (number n)).accesses b → not (is_scratch b.mode) ≡ true → (worked_on p v b ≡ c) ⊎ ((y : Worker) × (y.0 < p.workers) × (worked_on p v b ≡ copy_of p c y)) → AtWork p proper f phase has_copies n v b
+    operand-at : (b : Access) → Contains (task_of p (task n)).accesses b → not (is_scratch b.mode) ≡ true → (worked_on p v b ≡ c) ⊎ ((y : Worker) × (y.0 < p.workers) × (worked_on p v b ≡ copy_of p c y)) → AtWork p proper f phase has_copies n v b
     operand-at b h accessed there = at-work p proper f phase has_copies t.0 n v v_in b of_t.among later k' (combine-among p proper f phase (by' t) (staffed' t)) before h accessed there
 
-    on-copy : (y : Worker) → y.0 < p.workers → has_cell (cells_of p (number n) v) (copy_of p c y) ≡ true → OnCopy n v y
+    on-copy : (y : Worker) → y.0 < p.workers → has_cell (cells_of p (task n) v) (copy_of p c y) ≡ true → OnCopy n v y
     on-copy y y_in works =
-        let b = operand_for (worked_on p v) (λ b. not (is_scratch b.mode)) (task_of p (number n)).accesses (copy_of p c y) works in
+        let b = operand_for (worked_on p v) (λ b. not (is_scratch b.mode)) (task_of p (task n)).accesses (copy_of p c y) works in
         by_kind b.0 b.1 b.3 (operand-at b.0 b.1 b.2 (inr (y, y_in, b.3)))
       where
-        by_kind : (b : Access) → Contains (task_of p (number n)).accesses b → worked_on p v b ≡ copy_of p c y → AtWork p proper f phase has_copies n v b → OnCopy n v y
-        by_kind b h is (Contribution own redux same) = Adds b h redux same (copy-own p proper c has_copies v y (sym (works-on (number n) (operand-inside p (number n) b h) v v_in b h redux same) ∙ is)) own
+        by_kind : (b : Access) → Contains (task_of p (task n)).accesses b → worked_on p v b ≡ copy_of p c y → AtWork p proper f phase has_copies n v b → OnCopy n v y
+        by_kind b h is (Contribution own redux same) = Adds b h redux same (copy-own p proper c has_copies v y (sym (works-on (task n) (operand-inside p (task n) b h) v v_in b h redux same) ∙ is)) own
         by_kind b h is (OfCopy x x_in at e) = Merges (at ∙ ap (λ (u : Worker). get_or f.combines u.0 0) (copy-own p proper c has_copies x y (sym (ap (worked_on p v) e) ∙ is)))
         by_kind b h is (OfCell x x_in at e) = absurd (copy-bare p proper c has_copies y y_in c has_copies (sym is ∙ ap (worked_on p v) e))
 
     -- on the cell itself the combines alone
-    on-cell : has_cell (cells_of p (number n) v) c ≡ true → (x : Worker) × (x.0 < p.workers) × (n ≡ get_or f.combines x.0 0)
-    on-cell works = search (arith, operand_for, number, operand-at, has_copies, copy-bare, works-on, operand-inside)
+    on-cell : has_cell (cells_of p (task n) v) c ≡ true → (x : Worker) × (x.0 < p.workers) × (n ≡ get_or f.combines x.0 0)
+    on-cell works = search (arith, operand_for, task, operand-at, has_copies, copy-bare, works-on, operand-inside)
 
     -- a contribution reads no copy by another operand
-    reads-none : Contains f.contributions n → (b : Access) → Contains (task_of p (number n)).accesses b → starts_as_zeros b.mode ≡ false → is_redux b.mode ≡ false → (y : Worker) → y.0 < p.workers → b.cell ≢ copy_of p c y
+    reads-none : Contains f.contributions n → (b : Access) → Contains (task_of p (task n)).accesses b → starts_as_zeros b.mode ≡ false → is_redux b.mode ≡ false → (y : Worker) → y.0 < p.workers → b.cell ≢ copy_of p c y
     reads-none own b h reads direct y y_in e = by_kind (operand-at b h (reads_isn't_scratch b.mode reads) (inr (y, y_in, direct-cell p v b direct ∙ e)))
       where
         by_kind : AtWork p proper f phase has_copies n v b → ⊥
         by_kind x = search (arith, true≢false, combine-after, contributes, phase)
 
     -- what a contribution writes is its copy alone
-    writes-only : (b : Access) (h : Contains (task_of p (number n)).accesses b) (redux' : b.mode ≡ Redux) (same : b.cell ≡ c) (own : Contains f.contributions n) (d : Cell) → has_cell (written_cells p (number n) v) d ≡ true → copy_of p c v ≡ d
+    writes-only : (b : Access) (h : Contains (task_of p (task n)).accesses b) (redux' : b.mode ≡ Redux) (same : b.cell ≡ c) (own : Contains f.contributions n) (d : Cell) → has_cell (written_cells p (task n) v) d ≡ true → copy_of p c v ≡ d
     writes-only b h redux' same own d writes =
-        let n_in = operand-inside p (number n) b h in
-        let one = (update has p proper lawful f phase (number n) n_in b h redux' same own v v_in).written in
-        sym (works-on (number n) n_in v v_in b h redux' same) ∙ same_cell-is (worked_on p v b) d (unor (same_cell (worked_on p v b) d) (sym (ap (λ (cs : List Cell). has_cell cs d) one) ∙ writes))
-      where
-        unor : (x : Bool) → (x || false) ≡ true → x ≡ true
-        unor b e = search arith
+        let n_in = operand-inside p (task n) b h in
+        let one = (update has p proper lawful f phase (task n) n_in b h redux' same own v v_in).written in
+        sym (works-on (task n) n_in v v_in b h redux' same) ∙ same_cell-is (worked_on p v b) d (or_false (same_cell (worked_on p v b) d) (sym (ap (λ (cs : List Cell). has_cell cs d) one) ∙ writes))
 
     -- a task that writes another cell reads no copy but one that it combines
-    reads-elsewhere : (y : Worker) → y.0 < p.workers → n ≢ get_or f.combines y.0 0 → (d : Cell) → has_cell (written_cells p (number n) v) d ≡ true → d ≢ copy_of p c y → (b : Access) → Contains (task_of p (number n)).accesses b → starts_as_zeros b.mode ≡ false → worked_on p v b ≢ copy_of p c y
-    reads-elsewhere y y_in no_combine d writes differ b h reads e = by_kind (on-copy y y_in (sym (ap (has_cell (cells_of p (number n) v)) e) ∙ read-among_cells p (number n) v b h reads))
+    reads-elsewhere : (y : Worker) → y.0 < p.workers → n ≢ get_or f.combines y.0 0 → (d : Cell) → has_cell (written_cells p (task n) v) d ≡ true → d ≢ copy_of p c y → (b : Access) → Contains (task_of p (task n)).accesses b → starts_as_zeros b.mode ≡ false → worked_on p v b ≢ copy_of p c y
+    reads-elsewhere y y_in no_combine d writes differ b h reads e = by_kind (on-copy y y_in (sym (ap (has_cell (cells_of p (task n) v)) e) ∙ read-among_cells p (task n) v b h reads))
       where
         by_kind : OnCopy n v y → ⊥
         by_kind (Merges at) = no_combine at
@@ -205,32 +208,32 @@ module _ (has : Kernel → Bool) (p : Program) (proper : Proper p) (lawful : IsL
 
     -- a copy that holds more by z in the one than in the other still does after each task but its combine
     carried : (one other : Contents) → AreSized p one → AreSized p other → (y : Worker) → y.0 < p.workers → n ≢ get_or f.combines y.0 0 → (z : Array) → IsTile z → z.dims ≡ dims_of p c →
-        (Contains f.contributions n → (b : Access) → Contains (task_of p (number n)).accesses b → starts_as_zeros b.mode ≡ false → is_redux b.mode ≡ false → held_in p one b.cell ≡ held_in p other b.cell) →
+        (Contains f.contributions n → (b : Access) → Contains (task_of p (task n)).accesses b → starts_as_zeros b.mode ≡ false → is_redux b.mode ≡ false → held_in p one b.cell ≡ held_in p other b.cell) →
         held_in p one (copy_of p c y) ≡ combined f.by z (held_in p other (copy_of p c y)) →
-        held_in p (after_task p v (number n) one) (copy_of p c y) ≡ combined f.by z (held_in p (after_task p v (number n) other) (copy_of p c y))
-    carried one other sized sized' y y_in no_combine z tz dz same more = elim (cases_Bool (has_cell (written_cells p (number n) v) (copy_of p c y))) [
-      | inr spared ↦ after_task-other p v (number n) one (copy_of p c y) spared ∙ more ∙ ap (combined f.by z) (sym (after_task-other p v (number n) other (copy_of p c y) spared))
-      | inl writes ↦ by_kind (on-copy y y_in (written-among_cells p (number n) v (copy_of p c y) writes))
+        held_in p (after_task p v (task n) one) (copy_of p c y) ≡ combined f.by z (held_in p (after_task p v (task n) other) (copy_of p c y))
+    carried one other sized sized' y y_in no_combine z tz dz same more = elim (cases_Bool (has_cell (written_cells p (task n) v) (copy_of p c y))) [
+      | inr spared ↦ after_task-other p v (task n) one (copy_of p c y) spared ∙ more ∙ ap (combined f.by z) (sym (after_task-other p v (task n) other (copy_of p c y) spared))
+      | inl writes ↦ by_kind (on-copy y y_in (written-among_cells p (task n) v (copy_of p c y) writes))
     ]
       where
-        by_kind : OnCopy n v y → held_in p (after_task p v (number n) one) (copy_of p c y) ≡ combined f.by z (held_in p (after_task p v (number n) other) (copy_of p c y))
+        by_kind : OnCopy n v y → held_in p (after_task p v (task n) one) (copy_of p c y) ≡ combined f.by z (held_in p (after_task p v (task n) other) (copy_of p c y))
         by_kind (Merges at) = absurd (no_combine at)
         by_kind (Adds b h redux' cell own_worker own) =
-            let n_in = operand-inside p (number n) b h in
-            let at : worked_on p v b ≡ copy_of p c y = works-on (number n) n_in v v_in b h redux' cell ∙ ap (copy_of p c) own_worker in
-            let u = update has p proper lawful f phase (number n) n_in b h redux' cell own v v_in in
-            let more_by : Contents → Array = part has p proper lawful f phase (number n) n_in b h redux' cell own v v_in in
-            let fills = part-fills has p proper lawful f phase (number n) n_in b h redux' cell own v v_in other sized' in
+            let n_in = operand-inside p (task n) b h in
+            let at : worked_on p v b ≡ copy_of p c y = works-on (task n) n_in v v_in b h redux' cell ∙ ap (copy_of p c) own_worker in
+            let u = update has p proper lawful f phase (task n) n_in b h redux' cell own v v_in in
+            let more_by : Contents → Array = part has p proper lawful f phase (task n) n_in b h redux' cell own v v_in in
+            let fills = part-fills has p proper lawful f phase (task n) n_in b h redux' cell own v v_in other sized' in
             let of_other = sized' (copy_of p c y) in
             let as_large : dims_of p c ≡ (held_in p other (copy_of p c y)).dims = sym (of_other.dims ∙ copy-dims y y_in) in
-            let parts : more_by one ≡ more_by other = part-same has p proper lawful f phase (number n) n_in b h redux' cell own v v v_in v_in one other (λ e first reads. same own e (subst (λ (es : List Access). Contains es e) (sym u.accesses) (Contains-append_left u.before (u.last ∷ []) e first)) reads (u.direct e first)) in
-            ap (held_in p (after_task p v (number n) one)) (sym at) ∙ adds has p proper lawful f phase (number n) n_in b h redux' cell own v v_in one sized
+            let parts : more_by one ≡ more_by other = part-same has p proper lawful f phase (task n) n_in b h redux' cell own v v v_in v_in one other (λ e first reads. same own e (subst (λ (es : List Access). Contains es e) (sym u.accesses) (Contains-append_left u.before (u.last ∷ []) e first)) reads (u.direct e first)) in
+            ap (held_in p (after_task p v (task n) one)) (sym at) ∙ adds has p proper lawful f phase (task n) n_in b h redux' cell own v v_in one sized
             ∙ ap (λ (d : Cell). combined f.by (more_by one) (held_in p one d)) at
             ∙ ap (λ (m : Array). combined f.by m (held_in p one (copy_of p c y))) parts
             ∙ ap (combined f.by (more_by other)) more
             ∙ combined-swap f.by law z (more_by other) (held_in p other (copy_of p c y)) tz fills.0 of_other.tile (dz ∙ as_large) (fills.1 ∙ as_large)
             ∙ ap (λ (d : Cell). combined f.by z (combined f.by (more_by other) (held_in p other d))) (sym at)
-            ∙ ap (combined f.by z) (sym (adds has p proper lawful f phase (number n) n_in b h redux' cell own v v_in other sized') ∙ ap (held_in p (after_task p v (number n) other)) at)
+            ∙ ap (combined f.by z) (sym (adds has p proper lawful f phase (task n) n_in b h redux' cell own v v_in other sized') ∙ ap (held_in p (after_task p v (task n) other)) at)
 
   -- ---- the two folds
 
@@ -247,8 +250,8 @@ module _ (has : Kernel → Bool) (p : Program) (proper : Proper p) (lawful : IsL
   other-sized n l = after_chosen-sized p proper lawful.arguments every by' staffed' n l
 
   -- each other task runs on the same worker in both
-  other-next : (n : ℕ) → n ≢ t.0 → other (suc n) ≡ after_task p (by (number n)) (number n) (other n)
-  other-next n d = ap (λ (v : Worker). after_task p v (number n) (other n)) (others (number n) (λ e. d (ap (λ (u : Task). u.0) e)))
+  other-next : (n : ℕ) → n ≢ t.0 → other (suc n) ≡ after_task p (by (task n)) (task n) (other n)
+  other-next n d = ap (λ (v : Worker). after_task p v (task n) (other n)) (others (task n) (λ e. d (ap (λ (u : Task). u.0) e)))
 
   -- what the contribution adds
   abbrev x : Array
@@ -318,8 +321,8 @@ module _ (has : Kernel → Bool) (p : Program) (proper : Proper p) (lawful : IsL
 
   continues : (n : ℕ) → t.0 < n → n < k → n < length p.tasks → Begun n → Begun (suc n)
   continues n later before inside h =
-      let v = by (number n) in
-      let v_in = staffed (number n) in
+      let v = by (task n) in
+      let v_in = staffed (task n) in
       let differs : n ≢ t.0 = λ e. omega (arith, later, e) in
       let within : n ≤ k' = omega (arith, before, k-before) in
       let first : n ≢ k = λ e. omega (arith, before, e) in
@@ -329,7 +332,7 @@ module _ (has : Kernel → Bool) (p : Program) (proper : Proper p) (lawful : IsL
       let sized' = other-sized n (omega (arith, inside)) in
       record {
         alike = λ d dq dq'.
-            step-same p proper (number n) inside v (one n) (other n) d
+            step-same p proper (task n) inside v (one n) (other n) d
             (λ writes b has_b reads. h.alike (worked_on p v b) (reads-elsewhere n later within v v_in (by t) (staffed t) first d writes dq b has_b reads) (reads-elsewhere n later within v v_in (by' t) (staffed' t) second d writes dq' b has_b reads))
             (λ spared. h.alike d dq dq')
             ∙ ap (λ (z : Contents). held_in p z d) (sym moved);
@@ -346,7 +349,7 @@ module _ (has : Kernel → Bool) (p : Program) (proper : Proper p) (lawful : IsL
   -- ---- a copy is combined
 
   combine-inside : (y : Worker) (y_in : y.0 < p.workers) → get_or f.combines y.0 0 < length p.tasks
-  combine-inside y y_in = operand-inside p (number (get_or f.combines y.0 0)) (access R (copy_of p c y)) (combine-reads p proper f phase y y_in)
+  combine-inside y y_in = operand-inside p (task (get_or f.combines y.0 0)) (access R (copy_of p c y)) (combine-reads p proper f phase y y_in)
 
   module _ (y : Worker) (y_in : y.0 < p.workers) (n : ℕ) (at : n ≡ get_or f.combines y.0 0) (v : Worker) (v_in : v.0 < p.workers) where
     is-combine : IsCombine f.by (copy_of p c y) c (task_number p n)
@@ -355,15 +358,15 @@ module _ (has : Kernel → Bool) (p : Program) (proper : Proper p) (lawful : IsL
     n-inside : n < length p.tasks
     n-inside = omega (arith, at, combine-inside y y_in)
 
-    merged : (before : Contents) → held_in p (after_task p v (number n) before) c ≡ combined f.by (held_in p before (copy_of p c y)) (held_in p before c)
-    merged before = merges has p proper lawful f phase has_copies y y_in (number n) n-inside is-combine v v_in before
+    merged : (before : Contents) → held_in p (after_task p v (task n) before) c ≡ combined f.by (held_in p before (copy_of p c y)) (held_in p before c)
+    merged before = merges has p proper lawful f phase has_copies y y_in (task n) n-inside is-combine v v_in before
 
-    merge-spares : (before : Contents) (d : Cell) → d ≢ c → held_in p (after_task p v (number n) before) d ≡ held_in p before d
-    merge-spares before d differ = update-spares p proper lawful.arguments (number n) n-inside v v_in c (merge has p proper lawful f phase has_copies y y_in (number n) n-inside is-combine v v_in) before d differ
+    merge-spares : (before : Contents) (d : Cell) → d ≢ c → held_in p (after_task p v (task n) before) d ≡ held_in p before d
+    merge-spares before d differ = update-spares p proper lawful.arguments (task n) n-inside v v_in c (merge has p proper lawful f phase has_copies y y_in (task n) n-inside is-combine v v_in) before d differ
 
-    merge-writes : (d : Cell) → has_cell (written_cells p (number n) v) d ≡ true → d ≡ c
+    merge-writes : (d : Cell) → has_cell (written_cells p (task n) v) d ≡ true → d ≡ c
     merge-writes d writes =
-        grind (arith, cases_Bool (same_cell c d), same_cell-is, false≢true, merge, has_copies, number, n-inside, is-combine)
+        grind (arith, cases_Bool (same_cell c d), same_cell-is, false≢true, merge, has_copies, task, n-inside, is-combine)
 
   copy-not_cell : (y : Worker) → y.0 < p.workers → copy_of p c y ≢ c
   copy-not_cell y y_in = copy-bare p proper c has_copies y y_in c has_copies
@@ -376,8 +379,8 @@ module _ (has : Kernel → Bool) (p : Program) (proper : Proper p) (lawful : IsL
 
   halves : k < length p.tasks → Begun k → Halfway (suc k)
   halves inside h =
-      let v = by (number k) in
-      let v_in = staffed (number k) in
+      let v = by (task k) in
+      let v_in = staffed (task k) in
       let l : k ≤ length p.tasks = omega (arith, inside) in
       let moved = other-next k (λ e. omega (arith, t-first, e)) in
       let of_copy = copy-fills (other k) (other-sized k l) (by t) (staffed t) in
@@ -398,7 +401,7 @@ module _ (has : Kernel → Bool) (p : Program) (proper : Proper p) (lawful : IsL
   none-left : (n : ℕ) → k < n → Contains f.contributions n → ⊥
   none-left n later own = omega (arith, later, combine-after p proper (contributes p proper t a among redux).phase phase (by t) (staffed t) n own)
 
-  unused : (n : ℕ) → k < n → n ≤ k' → (v : Worker) → v.0 < p.workers → (y : Worker) → y.0 < p.workers → n ≢ get_or f.combines y.0 0 → has_cell (cells_of p (number n) v) (copy_of p c y) ≡ true → ⊥
+  unused : (n : ℕ) → k < n → n ≤ k' → (v : Worker) → v.0 < p.workers → (y : Worker) → y.0 < p.workers → n ≢ get_or f.combines y.0 0 → has_cell (cells_of p (task n) v) (copy_of p c y) ≡ true → ⊥
   unused n later before v v_in y y_in no_combine works = by_kind (on-copy n (omega (arith, later, t-first)) before v v_in y y_in works)
     where
       by_kind : OnCopy n v y → ⊥
@@ -406,8 +409,8 @@ module _ (has : Kernel → Bool) (p : Program) (proper : Proper p) (lawful : IsL
 
   goes_on : (n : ℕ) → k < n → n < k' → n < length p.tasks → Halfway n → Halfway (suc n)
   goes_on n later before inside h =
-      let v = by (number n) in
-      let v_in = staffed (number n) in
+      let v = by (task n) in
+      let v_in = staffed (task n) in
       let after_t : t.0 < n = omega (arith, later, t-first) in
       let within : n ≤ k' = omega (arith, before) in
       let first : n ≢ k = λ e. omega (arith, later, e) in
@@ -415,26 +418,26 @@ module _ (has : Kernel → Bool) (p : Program) (proper : Proper p) (lawful : IsL
       let moved = other-next n (λ e. omega (arith, after_t, e)) in
       record {
         alike = λ d dq dq' dc.
-            step-same p proper (number n) inside v (one n) (other n) d
+            step-same p proper (task n) inside v (one n) (other n) d
             (λ writes b has_b reads. h.alike (worked_on p v b)
-            (λ e. unused n later within v v_in (by t) (staffed t) first (sym (ap (has_cell (cells_of p (number n) v)) e) ∙ read-among_cells p (number n) v b has_b reads))
-            (λ e. unused n later within v v_in (by' t) (staffed' t) second (sym (ap (has_cell (cells_of p (number n) v)) e) ∙ read-among_cells p (number n) v b has_b reads))
-            (λ e. (let by_combine = on-cell n after_t within v v_in (sym (ap (has_cell (cells_of p (number n) v)) e) ∙ read-among_cells p (number n) v b has_b reads) in dc (merge-writes by_combine.0 by_combine.1 n by_combine.2 v v_in d writes))))
+            (λ e. unused n later within v v_in (by t) (staffed t) first (sym (ap (has_cell (cells_of p (task n) v)) e) ∙ read-among_cells p (task n) v b has_b reads))
+            (λ e. unused n later within v v_in (by' t) (staffed' t) second (sym (ap (has_cell (cells_of p (task n) v)) e) ∙ read-among_cells p (task n) v b has_b reads))
+            (λ e. (let by_combine = on-cell n after_t within v v_in (sym (ap (has_cell (cells_of p (task n) v)) e) ∙ read-among_cells p (task n) v b has_b reads) in dc (merge-writes by_combine.0 by_combine.1 n by_combine.2 v v_in d writes))))
             (λ spared. h.alike d dq dq' dc)
             ∙ ap (λ (z : Contents). held_in p z d) (sym moved);
-        more = elim (cases_Bool (has_cell (written_cells p (number n) v) c)) [
-          | inr spared ↦ after_task-other p v (number n) (one n) c spared ∙ h.more ∙ ap (combined f.by x) (sym (after_task-other p v (number n) (other n) c spared))
-          | inl writes ↦ (let by_combine = on-cell n after_t within v v_in (written-among_cells p (number n) v c writes) in merged-more n later before inside h by_combine.0 by_combine.1 by_combine.2 v v_in)
+        more = elim (cases_Bool (has_cell (written_cells p (task n) v) c)) [
+          | inr spared ↦ after_task-other p v (task n) (one n) c spared ∙ h.more ∙ ap (combined f.by x) (sym (after_task-other p v (task n) (other n) c spared))
+          | inl writes ↦ (let by_combine = on-cell n after_t within v v_in (written-among_cells p (task n) v c writes) in merged-more n later before inside h by_combine.0 by_combine.1 by_combine.2 v v_in)
         ]
             ∙ ap (λ (z : Contents). combined f.by x (held_in p z c)) (sym moved);
-        less = (search (arith, after_task-other, number, resting));
+        less = (search (arith, after_task-other, task, resting));
       }
     where
-      resting : (n : ℕ) → k < n → n ≤ k' → (v : Worker) → v.0 < p.workers → n ≢ k' → has_cell (written_cells p (number n) v) q' ≡ false
-      resting n later within v v_in second = false_from_ne_true (has_cell (written_cells p (number n) v) q') (λ writes. unused n later within v v_in (by' t) (staffed' t) second (written-among_cells p (number n) v q' writes))
+      resting : (n : ℕ) → k < n → n ≤ k' → (v : Worker) → v.0 < p.workers → n ≢ k' → has_cell (written_cells p (task n) v) q' ≡ false
+      resting n later within v v_in second = false_from_ne_true (has_cell (written_cells p (task n) v) q') (λ writes. unused n later within v v_in (by' t) (staffed' t) second (written-among_cells p (task n) v q' writes))
 
       -- another copy is combined
-      merged-more : (n : ℕ) → k < n → n < k' → n < length p.tasks → Halfway n → (y : Worker) (y_in : y.0 < p.workers) → n ≡ get_or f.combines y.0 0 → (v : Worker) → v.0 < p.workers → held_in p (after_task p v (number n) (one n)) c ≡ combined f.by x (held_in p (after_task p v (number n) (other n)) c)
+      merged-more : (n : ℕ) → k < n → n < k' → n < length p.tasks → Halfway n → (y : Worker) (y_in : y.0 < p.workers) → n ≡ get_or f.combines y.0 0 → (v : Worker) → v.0 < p.workers → held_in p (after_task p v (task n) (one n)) c ≡ combined f.by x (held_in p (after_task p v (task n) (other n)) c)
       merged-more n later before inside h y y_in at v v_in =
           let l : n ≤ length p.tasks = omega (arith, inside) in
           let of_copy = copy-fills (other n) (other-sized n l) y y_in in
@@ -460,40 +463,40 @@ module _ (has : Kernel → Bool) (p : Program) (proper : Proper p) (lawful : IsL
   ends inside h = search (arith, no-refill, t-first, by_cell, cases_Bool, moved)
     where
       v : Worker
-      v = by (number k')
+      v = by (task k')
 
-      v_in : (by (number k')).0 < p.workers
-      v_in = staffed (number k')
+      v_in : (by (task k')).0 < p.workers
+      v_in = staffed (task k')
 
-      moved : other (suc k') ≡ after_task p (by (number k')) (number k') (other k')
+      moved : other (suc k') ≡ after_task p (by (task k')) (task k') (other k')
       moved = other-next k' (λ e. omega (arith, t-first, k-before, e))
 
-      cell : held_in p (after_task p (by (number k')) (number k') (one k')) c ≡ held_in p (after_task p (by (number k')) (number k') (other k')) c
+      cell : held_in p (after_task p (by (task k')) (task k') (one k')) c ≡ held_in p (after_task p (by (task k')) (task k') (other k')) c
       cell =
           let l : k' ≤ length p.tasks = omega (arith, inside) in
           let of_copy = copy-fills (one k') (one-sized k' l) (by' t) (staffed' t) in
           let of_cell = other-sized k' l c in
-          let first = merged (by' t) (staffed' t) k' refl (by (number k')) v_in (one k') in
-          let second = merged (by' t) (staffed' t) k' refl (by (number k')) v_in (other k') in
+          let first = merged (by' t) (staffed' t) k' refl (by (task k')) v_in (one k') in
+          let second = merged (by' t) (staffed' t) k' refl (by (task k')) v_in (other k') in
           let swapped = combined-swap f.by law x (held_in p (one k') q') (held_in p (other k') c) x-fills.0 of_copy.0 of_cell.tile (x-fills.1 ∙ sym of_cell.dims) (of_copy.1 ∙ sym of_cell.dims) in
           let joined = law.associative x (held_in p (one k') q') (held_in p (other k') c) x-fills.0 of_copy.0 of_cell.tile (x-fills.1 ∙ sym of_copy.1) (of_copy.1 ∙ sym of_cell.dims) in
           cc
 
-      by_cell : (d : Cell) → d ≢ q → d ≢ q' → (same_cell d c ≡ true) ⊎ (same_cell d c ≡ false) → held_in p (after_task p (by (number k')) (number k') (one k')) d ≡ held_in p (after_task p (by (number k')) (number k') (other k')) d
-      by_cell d dq dq' (inl e) = subst (λ (z : Cell). held_in p (after_task p (by (number k')) (number k') (one k')) z ≡ held_in p (after_task p (by (number k')) (number k') (other k')) z) (sym (same_cell-is d c e)) cell
+      by_cell : (d : Cell) → d ≢ q → d ≢ q' → (same_cell d c ≡ true) ⊎ (same_cell d c ≡ false) → held_in p (after_task p (by (task k')) (task k') (one k')) d ≡ held_in p (after_task p (by (task k')) (task k') (other k')) d
+      by_cell d dq dq' (inl e) = subst (λ (z : Cell). held_in p (after_task p (by (task k')) (task k') (one k')) z ≡ held_in p (after_task p (by (task k')) (task k') (other k')) z) (sym (same_cell-is d c e)) cell
       by_cell d dq dq' (inr e) =
-          let dc : d ≢ c = λ f. true≢false (sym (same_cell-refl d ∙ refl) ∙ ap (same_cell d) f ∙ e) in
-          merge-spares (by' t) (staffed' t) k' refl (by (number k')) v_in (one k') d dc ∙ h.alike d dq dq' dc ∙ sym (merge-spares (by' t) (staffed' t) k' refl (by (number k')) v_in (other k') d dc)
+          let dc : d ≢ c = λ f. true≢false (sym (same_cell-itself d ∙ refl) ∙ ap (same_cell d) f ∙ e) in
+          merge-spares (by' t) (staffed' t) k' refl (by (task k')) v_in (one k') d dc ∙ h.alike d dq dq' dc ∙ sym (merge-spares (by' t) (staffed' t) k' refl (by (task k')) v_in (other k') d dc)
 
   -- ---- after the phase
 
   rests : (n : ℕ) → k' < n → n < length p.tasks → Over n → Over (suc n)
   rests n later inside h =
-      let v = by (number n) in
-      let v_in = staffed (number n) in
+      let v = by (task n) in
+      let v_in = staffed (task n) in
       record {
         alike = λ d fresh fresh'.
-            step-same p proper (number n) inside v (one n) (other n) d
+            step-same p proper (task n) inside v (one n) (other n) d
             (λ writes b has_b reads. h.alike (worked_on p v b)
             (λ e. refilled p proper f phase has_copies (by t) (staffed t) n (omega (arith, later, k-before)) v v_in b has_b reads e)
             (λ e. refilled p proper f phase has_copies (by' t) (staffed' t) n later v v_in b has_b reads e))
@@ -502,8 +505,8 @@ module _ (has : Kernel → Bool) (p : Program) (proper : Proper p) (lawful : IsL
       }
     where
       -- what the task doesn't write was filled before it
-      earlier : (y : Worker) (m : ℕ) (d : Cell) → d ≡ copy_of p c y → has_cell (written_cells p (number n) (by (number n))) d ≡ false → IsRefilled p proper f phase has_copies y m (suc n) → IsRefilled p proper f phase has_copies y m n
-      earlier y m d is spared r = (search (arith, cases_lt, number, false≢true, same_cell-refl))
+      earlier : (y : Worker) (m : ℕ) (d : Cell) → d ≡ copy_of p c y → has_cell (written_cells p (task n) (by (task n))) d ≡ false → IsRefilled p proper f phase has_copies y m (suc n) → IsRefilled p proper f phase has_copies y m n
+      earlier y m d is spared r = (search (arith, cases_lt, task, false≢true, same_cell-itself))
 
   -- ---- all along
 
@@ -539,7 +542,8 @@ module _ (has : Kernel → Bool) (p : Program) (proper : Proper p) (lawful : IsL
       }))
       by_stage (Last later h) = h.alike d (λ e. absurd (not_copy (by t) (staffed t) e)) (λ e. absurd (not_copy (by' t) (staffed' t) e))
 
--- ---- what cells hold after all tasks up to one doesn't depend on the workers of the contributions, but in partial copies and under open phases
+-- ---- what cells hold after all tasks up to one doesn't depend on the workers of the contributions, but in partial copies
+-- and under open phases
 
 module _ (has : Kernel → Bool) (p : Program) (proper : Proper p) (lawful : IsLawful has p) (n : ℕ) (within : n ≤ length p.tasks) (d : Cell) (plain : IsPlain p d) (closed : (g : Phase) → IsPhase p g → g.cell ≡ d → ¬ IsOpenAt g n) where
   -- one task by another worker
@@ -581,12 +585,12 @@ module _ (has : Kernel → Bool) (p : Program) (proper : Proper p) (lawful : IsL
     unfolding mixed
     mixed-staffed m u = search arith
 
-    one_more : (m : ℕ) (u : Task) → u ≢ number m → mixed (suc m) u ≡ mixed m u
-    one_more m u other = search (arith, cases_lt, mixed-below, differ, number, mixed-from)
+    one_more : (m : ℕ) (u : Task) → u ≢ task m → mixed (suc m) u ≡ mixed m u
+    one_more m u other = search (arith, cases_lt, mixed-below, differ, task, mixed-from)
 
     chained : (m : ℕ) → m ≤ n → held_in p (after_chosen p every by n) d ≡ held_in p (after_chosen p every (mixed m) n) d
     chained zero l = ap (λ z. held_in p z d) (after_chosen-same p every every by (mixed 0) n (λ u h. refl) (λ u h e. sym (mixed-from 0 u (omega arith))))
-    chained (suc m) l = chained m (omega (arith, l)) ∙ reassigned (mixed m) (mixed (suc m)) (mixed-staffed m) (mixed-staffed (suc m)) (number m) (omega (arith, l, within)) (one_more m)
+    chained (suc m) l = chained m (omega (arith, l)) ∙ reassigned (mixed m) (mixed (suc m)) (mixed-staffed m) (mixed-staffed (suc m)) (task m) (omega (arith, l, within)) (one_more m)
 
     -- whichever workers ran the tasks
     pub workers-alike : held_in p (after_chosen p every by n) d ≡ held_in p (after_chosen p every by' n) d

@@ -7,6 +7,7 @@ use Rattle.sj_base.specs.declared.program.Program.{Program}
 abbrev pub operands : Program → ℕ
 operands p = sum_by (λ l. length l.accesses) p.tasks
 
--- a task is claimed, runs and ends; for an operand a copy comes by a move, which begins and ends, and later leaves by another and a drop
+-- a task is claimed, runs and ends; for an operand a copy comes by a move, which begins and ends, and later leaves by another
+-- and a drop
 abbrev pub HasAtMostThreePerTaskAndFivePerOperand : Program → List Event → Type 0
 HasAtMostThreePerTaskAndFivePerOperand p trace = length trace ≤ 3 * length p.tasks + 5 * operands p

@@ -14,8 +14,8 @@ use Rattle.sj_base.specs.declared.ids.Place.{Place}
 use Rattle.sj_base.specs.declared.program.Program.{Program}
 use Rattle.sj_base.specs.declared.program.Machine.{Machine}
 use Rattle.sj_core.specs.Machine.{State, progress, replica, transfer, array_of, is_valid}
-use Rattle.sj_core.specs.Proper.{Proper, IsMachineFor, HasSwapFor, IsOpenAt, IsPhase, IsPlain, Phase, gives_value, access}
-use Rattle.sj_base.specs.Mode.{reads_value, is_in_order}
+use Rattle.sj_core.specs.Proper.{Proper, IsMachineFor, HasSwapFor, IsOpenAt, IsPhase, IsPlain, Phase, gives_value}
+use Rattle.sj_base.specs.Mode.{reads_value, is_in_order, access}
 use Rattle.sj_core.specs.Coherent.{Coherent, content}
 use Rattle.sj_core.specs.Step.{May, a_transfer, after, array_at, disk_of, mover_of}
 use Rattle.sj_base.specs.declared.mode.Mode.TheVariants.{R}
@@ -91,7 +91,8 @@ pub data HasAtHand (m : Machine) (s : State) (t : Task) (w : Worker) (c : Cell) 
   Works : progress s t ≡ Running w → HasAtHand m s t w c
   Brought : progress s t ≡ Claimed w → IsTrue (is_valid (replica s c (AtNode (node_of m w)))) → HasAtHand m s t w c
 
--- each operand whose old value a task reads has on its worker's node what the tasks that are done leave in the cell that is worked on
+-- each operand whose old value a task reads has on its worker's node what the tasks that are done leave in the cell that is
+-- worked on
 abbrev pub FindsContent : Type 0
 FindsContent = (p : Program) (m : Machine) (s : State) (t : Task) (w : Worker) (a : Access) → IsSound p m s → Contains (task_of p t).accesses a → IsTrue (reads_value a.mode) → HasAtHand m s t w (worked_on p w a) → array_at p s (AtNode (node_of m w)) (worked_on p w a) ≡ content p s (worked_on p w a)
 
@@ -143,7 +144,8 @@ DisksAreOfMachine = (p : Program) (m : Machine) (c : Cell) (d : DiskNo) → disk
 abbrev pub final : Program → Cell → Array
 final p c = held_before p (length p.tasks) c
 
--- each cell to which a task gives a value has a valid replica, and each holds what all tasks leave, unless the cell is a partial copy
+-- each cell to which a task gives a value has a valid replica, and each holds what all tasks leave, unless the cell is a
+-- partial copy
 pub record HoldsFinal (p : Program) (s : State) : Type 0 where
   pub somewhere : (t : Task) (c : Cell) → IsTrue (gives_value (task_of p t) c) → (q : Place) × IsTrue (is_valid (replica s c q))
   pub alike : (t : Task) (c : Cell) (q : Place) → IsTrue (gives_value (task_of p t) c) → IsPlain p c → IfSome (array_of (replica s c q)) (λ a. a ≡ final p c)

@@ -1,6 +1,6 @@
 -- What a task and a program need of the machine, in bytes: tiles on a node, blocks on disks.
-use Rattle.std.specs.Prelude.{ℕ, ◌+◌, ◌*◌, ◌%◌, max, nat_le, Option, Some, None, List, [], ◌∷◌, map, filter, fold, sum_by, length, option_map}
-use Rattle.std.specs.List.{slice_index_or, slice_set, range_with_len, zip, position}
+use Rattle.std.specs.Prelude.{ℕ, ◌+◌, ◌*◌, ◌%◌, max, Option, Some, None, List, [], ◌∷◌, map, filter, fold, sum_by, length, option_map}
+use Rattle.std.specs.List.{slice_index_or, slice_set, range_with_len, position}
 use Rattle.sj_base.specs.declared.ids.Cell.{Cell}
 use Rattle.sj_base.specs.declared.ids.Task.{Task}
 use Rattle.sj_base.specs.declared.ids.Node.{Node}
@@ -13,6 +13,7 @@ use Rattle.sj_base.specs.declared.program.Machine.{Machine}
 use Rattle.sj_base.specs.Array.{area}
 use Rattle.sj_core.specs.Program.{distinct, dims_of, task_of, data_operands}
 use Rattle.sj_base.specs.Mode.{is_scratch}
+pub use Rattle.sj_base.specs.FirstFit.{first_fit}
 
 -- the bytes of a tile: eight for each element
 abbrev pub tile_bytes : Program → Cell → ℕ
@@ -40,10 +41,6 @@ swap_need p = sum_by block_bytes p.cells
 pub record Block : Type 0 where
   pub disk : DiskNo
   pub position : ℕ
-
--- the first disk that has so many bytes beside those already taken on it
-abbrev pub first_fit : List ℕ → List ℕ → ℕ → Option ℕ
-first_fit sizes taken need = position (λ d. nat_le (d.1 + need) d.0) (zip sizes taken)
 
 -- the blocks of these cells in order, each on the first disk that it fits, behind what is taken there
 abbrev pub place_after : List ℕ → List ℕ → List CellInfo → Option (List Block)

@@ -1,5 +1,5 @@
 -- Looking up the cells and the tasks of a lowered program, and what a mode does with its operand.
-use Rattle.std.specs.Prelude.{Bool, nat_eq, None, List, [], ◌∷◌, map, filter, length, pos, if◌then◌else◌}
+use Rattle.std.specs.Prelude.{Bool, None, List, [], ◌∷◌, map, filter, length, pos, if◌then◌else◌}
 use Rattle.std.specs.List.{slice_index_or, list_any, range_with_len}
 use Rattle.sj_base.specs.declared.ids.Cell.{Cell}
 use Rattle.sj_base.specs.declared.ids.Task.{Task}
@@ -9,9 +9,7 @@ use Rattle.sj_base.specs.declared.tile.Dims.{Dims}
 use Rattle.sj_base.specs.declared.program.CellInfo.{CellInfo}
 use Rattle.sj_base.specs.declared.program.Lowered.{Lowered}
 use Rattle.sj_base.specs.declared.program.Program.{Program}
-
-abbrev pub same_cell : Cell → Cell → Bool
-same_cell c d = nat_eq c.0 d.0
+pub use Rattle.sj_base.specs.Ids.{same_cell}
 
 -- the list names the cell
 abbrev pub has_cell : List Cell → Cell → Bool

@@ -15,6 +15,7 @@ use Rattle.sj_core.specs.Needs.{place}
 use Rattle.sj_base.specs.Array.{area}
 use Rattle.sj_core.specs.Program.{same_cell, cell_info, dims_of, task_of, data_operands}
 use Rattle.sj_base.specs.Mode.{is_written, is_redux, reads_value}
+pub use Rattle.sj_base.specs.Mode.{access}
 use Rattle.sj_codelet.specs.declared.kernel.Kernel.{Kernel}
 use Rattle.sj_codelet.specs.declared.kernel.Kernel.TheVariants.{Paste, Deliver}
 use Rattle.sj_codelet.specs.declared.formal.Formal.{Formal}
@@ -107,9 +108,6 @@ pub record Phase : Type 0 where
 
 abbrev pub task_number : Program → ℕ → Lowered
 task_number p n = task_of p (record { 0 = n })
-
-abbrev pub access : Mode → Cell → Access
-access mode c = record { mode = mode; cell = c }
 
 -- the task fills the cell with the reduction's unit
 pub record IsInit (by : Reduction) (c : Cell) (l : Lowered) : Type 0 where

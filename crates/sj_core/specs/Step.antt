@@ -14,6 +14,7 @@ use Rattle.sj_base.specs.declared.trace.Event.TheVariants.{Claim, Move, Moved, D
 use Rattle.sj_base.specs.declared.program.Program.{Program}
 use Rattle.sj_base.specs.declared.program.Machine.{Machine}
 use Rattle.sj_base.specs.Array.{Array, zeros}
+pub use Rattle.sj_base.specs.Ids.{same_place}
 use Rattle.sj_core.specs.Program.{same_cell, has_cell, distinct, dims_of, task_of, tasks_of}
 use Rattle.sj_core.specs.Needs.{node_of, node_size, tile_bytes, scratch_bytes, footprint, place, workers_of}
 use Rattle.sj_core.specs.Victims.{victims}
@@ -29,11 +30,6 @@ use Rattle.sj_core.specs.Machine.{State, CellState, Replica, Invalid, Coming, Va
 -- the disk on which the cell's block lies; none where the blocks don't fit the machine's disks
 abbrev pub disk_of : Program → Machine → Cell → Option DiskNo
 disk_of p m c = option_map (λ b. b.disk) (option_and_then (λ blocks. slice_get blocks c.0) (place p m.disks))
-
-abbrev pub same_place : Place → Place → Bool
-same_place (AtNode a) (AtNode b) = nat_eq a.0 b.0
-same_place (OnDisk a) (OnDisk b) = nat_eq a.0 b.0
-same_place _ _ = false
 
 -- the places of a machine: its nodes and its disks
 abbrev pub places_of : Machine → List Place
@@ -236,7 +232,8 @@ abbrev pub mover_of : State → Cell → Place → Place → Worker
 mover_of s c from (AtNode n) = claimant_of (replica s c (AtNode n))
 mover_of s c from (OnDisk d) = claimant_of (replica s c from)
 
--- what the event needs of the state in which it is legal; a transfer that ends is the mover's, a task that ends runs on its worker
+-- what the event needs of the state in which it is legal; a transfer that ends is the mover's, a task that ends runs on its
+-- worker
 abbrev pub May : Program → Machine → State → Event → Type 0
 May p m s (Claim t w) = CanClaim p m s t w
 May p m s (Move c from (AtNode n)) = CanMoveIn p m s c from n (mover_of s c from (AtNode n))

@@ -66,8 +66,9 @@ pub fn drops()
     ensures { IsKeptByDrops Coherent }
 {}
 
-/// What a task finds on its worker's node: what the tasks that are done leave in its cells; and in a cell that no phase holds open what all
-/// tasks before it leave, in submission order, whatever the workers of contributions and the order of commuting tasks.
+/// What a task finds on its worker's node: what the tasks that are done leave in its cells; and in a cell that no phase holds
+/// open what all tasks before it leave, in submission order, whatever the workers of contributions and the order of commuting
+/// tasks.
 pub fn deliveries()
     ensures finds_content { FindsContent }
     ensures finds_earlier_tasks { FindsEarlierTasks }
@@ -86,8 +87,8 @@ pub fn traces()
     ensures hold_final { CompleteTracesHoldFinal }
 {}
 
-/// A trace goes on by an event that may happen in the state that it leaves, and is legal then. Which worker moves a cell is a function
-/// of the state.
+/// A trace goes on by an event that may happen in the state that it leaves, and is legal then. Which worker moves a cell is a
+/// function of the state.
 pub fn states()
     ensures go_on { TracesGoOn }
     ensures moves { MovesHaveOneWorker }

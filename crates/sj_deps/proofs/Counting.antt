@@ -5,10 +5,7 @@ use Rattle.std.specs.List.{count_by}
 use Rattle.std.proofs.lemmas.List.{get_or-drop, get_or-take, get_or_default, length-drop, length-take-le}
 use Rattle.std.proofs.lemmas.List.Sums.{sum_by-cons, sum_by-le, sum_by-take-le, sum_by-take-drop, get_or-le-sum_by, count_by_more_yes, count_by_more_no}
 use Rattle.std.proofs.lemmas.Bool.{cases_Bool, cases_lt}
-
--- a step of a number that two spellings have
-pub suc-add : (k : ℕ) → suc k ≡ k + 1
-suc-add k = omega arith
+use Rattle.sj_base.proofs.Numbers.{suc-add}
 
 pub below_cases : (p k : ℕ) → p < suc k → (p < k) ⊎ (p ≡ k)
 below_cases p k h = ⊎_elim (λ lower. inl lower) (λ above. inr (omega arith)) (cases_lt p k)

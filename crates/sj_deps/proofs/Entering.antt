@@ -3,12 +3,13 @@ use Rattle.std.proofs.Common.{◌≡◌, ℕ, zero, suc, ◌+◌, ◌-◌, ◌<�
 use Rattle.std.specs.Prelude.{Contains, ◌⊎◌}
 use Rattle.std.specs.List.{count_by, range_with_len}
 use Rattle.std.proofs.lemmas.List.{get_or_past, get_or_push, get_or_append_left, get_or-set_same, get_or-set_other, length-set, length_push}
-use Rattle.std.proofs.lemmas.List.FromFn.{get_or-range_with_len, length-range_with_len, length-map-range_with_len, get_or-map-range_with_len}
+use Rattle.std.proofs.lemmas.List.FromFn.{get_or-range_with_len, length-map-range_with_len, get_or-map-range_with_len}
 use Rattle.std.proofs.lemmas.List.Sums.{sum_by_push, sum_by-append, sum_by-cons, get_or-le-sum_by}
 use Rattle.std.proofs.lemmas.List.Elements.{Contains-append_left, Contains-push, Contains-push_cases, Contains-append_cases}
 use Rattle.std.proofs.lemmas.Bool.{cases_lt, cases_eq, cases_Bool, both_ways, eq-eqb, eqb-true, ne_eqb, cond-true, cond-false}
 use Rattle.sj_base.specs.declared.ids.Task.{Task}
 use Rattle.sj_base.specs.declared.program.Program.{Program}
+use Rattle.sj_base.specs.Ids.{task}
 use Rattle.sj_deps.specs.declared.manner.Manner.{Manner}
 use Rattle.sj_deps.specs.declared.manner.Manner.TheVariants.{Contribute}
 use Rattle.sj_deps.specs.declared.manner.Usage.{Usage}
@@ -17,7 +18,7 @@ use Rattle.sj_deps.specs.declared.chain.Chain.{Chain}
 use Rattle.sj_deps.specs.declared.chain.Member.{Member}
 use Rattle.sj_deps.specs.declared.entry.Entered.{Entered}
 use Rattle.sj_deps.specs.Chains.{member, no_member, member_at, party_at, manner_at, members_at, is_of}
-use Rattle.sj_deps.specs.Counts.{Begun, Holds, Present, Entering, Appends, Opens, Joins, In, IsPhase, IsOpen, task, tasks_at, cells_at, ends_with}
+use Rattle.sj_deps.specs.Counts.{Begun, Holds, Present, Entering, Appends, Opens, Joins, In, IsPhase, IsOpen, tasks_at, cells_at, ends_with}
 use Rattle.sj_deps.proofs.Counting.{some_counted}
 use Rattle.sj_deps.proofs.Pushing.{each_pushed, at_old, at_new, closed_at}
 
@@ -28,15 +29,6 @@ single_is t u h =
     let z : h.0 ≡ 0 = omega arith in
     let same : task t ≡ task u = subst (λ i. slice_index_or (task t ∷ []) i (task u) ≡ task u) z h.2 in
     sym (ap (λ (x : Task). x.0) same)
-
--- where a cell is one of a range
-pub in_range : (a k c : ℕ) → Contains (range_with_len a k) c → (a ≤ c) × (c < a + k)
-in_range a k c h =
-    let long = length-range_with_len a k in
-    let within = h.1 in
-    let at_i = get_or-range_with_len a k h.0 c (omega arith) in
-    let same : slice_index_or (range_with_len a k) h.0 c ≡ c = h.2 in
-    (omega arith, omega arith)
 
 count_below : (a k c : ℕ) → c < a → count_by (λ d. nat_eq d c) (range_with_len a k) ≡ 0
 count_below a zero c h = refl

@@ -5,8 +5,10 @@ use Rattle.std.proofs.lemmas.List.{get_or-set_same, get_or-set_other, length-set
 use Rattle.std.proofs.lemmas.List.Sums.{sum_by-cons, sum_by_more, sum_by-take-le}
 use Rattle.std.proofs.lemmas.Bool.{cases_lt, cases_eq, eq-eqb, ne_eqb, cond-true, cond-false, lt-ltb, false_from_ne_true, ltb-true}
 use Rattle.sj_base.specs.declared.ids.Task.{Task}
+use Rattle.sj_base.specs.Ids.{task}
+use Rattle.sj_base.proofs.Lists.{sum_by-agree}
 use Rattle.sj_deps.specs.Chains.{is_party, waits_of}
-use Rattle.sj_deps.specs.Counts.{Frees, Mutual, blocked, is_task, owed, parties_at, task, tasks_at}
+use Rattle.sj_deps.specs.Counts.{Frees, Mutual, blocked, is_task, owed, parties_at, tasks_at}
 
 module _ (ts : List Task) (i : ℕ) (h : i < length ts) (h₀ w : List ℕ) (r₀ r : List Task) (so : Frees h₀ w r₀ r (λ t. count_by (is_task t) (take i ts))) where
   abbrev nth : ℕ
@@ -76,15 +78,6 @@ sum_plus f g (x ∷ xs) =
     let rest = sum_plus f g xs in
     omega arith
 
-sum_same : {X : Type 0} (f g : X → ℕ) → ((x : X) → f x ≡ g x) → (xs : List X) → sum_by f xs ≡ sum_by g xs
-sum_same f g same [] = refl
-sum_same f g same (x ∷ xs) =
-    let a = sum_by-cons f x xs in
-    let b = sum_by-cons g x xs in
-    let rest = sum_same f g same xs in
-    let one = same x in
-    omega arith
-
 sum_zero : {X : Type 0} (xs : List X) → sum_by (λ (x : X). 0) xs ≡ 0
 sum_zero [] = refl
 sum_zero (x ∷ xs) =
@@ -108,9 +101,9 @@ opened_of w w' opened law [] =
     let none : sum_by (λ m. count_by (is_party m) []) opened ≡ 0 = sum_zero opened in
     omega arith
 opened_of w w' opened law (y ∷ ys) =
-    let split : sum_by (λ m. count_by (is_party m) (y ∷ ys)) opened ≡ sum_by (λ m. cond {A = ℕ} (is_party m y) 1 0 + count_by (is_party m) ys) opened = sum_same (λ m. count_by (is_party m) (y ∷ ys)) (λ m. cond {A = ℕ} (is_party m y) 1 0 + count_by (is_party m) ys) (λ m. sum_by-cons (λ x. cond {A = ℕ} (is_party m x) 1 0) y ys) opened in
+    let split : sum_by (λ m. count_by (is_party m) (y ∷ ys)) opened ≡ sum_by (λ m. cond {A = ℕ} (is_party m y) 1 0 + count_by (is_party m) ys) opened = sum_by-agree (λ m. count_by (is_party m) (y ∷ ys)) (λ m. cond {A = ℕ} (is_party m y) 1 0 + count_by (is_party m) ys) (λ m. sum_by-cons (λ x. cond {A = ℕ} (is_party m x) 1 0) y ys) opened in
     let plus = sum_plus (λ m. cond {A = ℕ} (is_party m y) 1 0) (λ m. count_by (is_party m) ys) opened in
-    let turned : sum_by (λ m. cond {A = ℕ} (is_party m y) 1 0) opened ≡ count_by (is_party y) opened = sum_same (λ m. cond {A = ℕ} (nat_eq y m) 1 0) (λ m. cond {A = ℕ} (nat_eq m y) 1 0) (λ m. eq_turned y m) opened in
+    let turned : sum_by (λ m. cond {A = ℕ} (is_party m y) 1 0) opened ≡ count_by (is_party y) opened = sum_by-agree (λ m. cond {A = ℕ} (nat_eq y m) 1 0) (λ m. cond {A = ℕ} (nat_eq m y) 1 0) (λ m. eq_turned y m) opened in
     let a = sum_by-cons (λ n. cond {A = ℕ} (nat_lt 0 (waits_of w n)) 1 0) y ys in
     let b = sum_by-cons (λ n. cond {A = ℕ} (nat_lt 0 (waits_of w' n)) 1 0) y ys in
     let one = one_of (waits_of w y) in
@@ -122,6 +115,6 @@ opened_of w w' opened law (y ∷ ys) =
 -- what the parties that open owe to a task is what it waits for no more
 pub owed_law : (tasks : List (List Task)) (parties : List (List ℕ)) → Mutual parties tasks → (w w' opened : List ℕ) → ((n : ℕ) → count_by (is_party n) opened + min 1 (waits_of w' n) ≡ min 1 (waits_of w n)) → (t : ℕ) → owed tasks opened t + blocked w' (parties_at parties t) ≡ blocked w (parties_at parties t)
 owed_law tasks parties matching w w' opened law t =
-    let same : owed tasks opened t ≡ sum_by (λ m. count_by (is_party m) (parties_at parties t)) opened = sum_same (λ n. count_by (is_task t) (tasks_at tasks n)) (λ m. count_by (is_party m) (parties_at parties t)) (λ n. sym (matching t n)) opened in
+    let same : owed tasks opened t ≡ sum_by (λ m. count_by (is_party m) (parties_at parties t)) opened = sum_by-agree (λ n. count_by (is_task t) (tasks_at tasks n)) (λ m. count_by (is_party m) (parties_at parties t)) (λ n. sym (matching t n)) opened in
     let e = opened_of w w' opened law (parties_at parties t) in
     omega arith

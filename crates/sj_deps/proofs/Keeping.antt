@@ -9,6 +9,7 @@ use Rattle.std.proofs.lemmas.List.Elements.{Contains-append_left, Contains-push,
 use Rattle.std.proofs.lemmas.Bool.{cases_lt, cases_eq, eq-eqb, eqb-true, ne_eqb, cond-true, cond-false, false_from_ne_true, lt-ltb, ltb-true}
 use Rattle.sj_base.specs.declared.ids.Task.{Task}
 use Rattle.sj_base.specs.declared.program.Program.{Program}
+use Rattle.sj_base.specs.Ids.{task}
 use Rattle.sj_deps.specs.declared.manner.Manner.{Manner}
 use Rattle.sj_deps.specs.declared.manner.Manner.TheVariants.{Contribute}
 use Rattle.sj_deps.specs.Conflict.{Uses, Ready}
@@ -16,7 +17,7 @@ use Rattle.sj_deps.specs.declared.chain.Chain.{Chain}
 use Rattle.sj_deps.specs.declared.chain.Member.{Member}
 use Rattle.sj_deps.specs.declared.counters.Counters.{Counters}
 use Rattle.sj_deps.specs.Chains.{party_at, manner_at, is_of, is_party, left_of, waits_of}
-use Rattle.sj_deps.specs.Counts.{Holds, Present, Flags, In, IsPhase, SameMembers, task, is_task, tasks_at, parties_at, undone, blocked}
+use Rattle.sj_deps.specs.Counts.{Holds, Present, Flags, In, IsPhase, SameMembers, is_task, tasks_at, parties_at, undone, blocked}
 use Rattle.sj_deps.specs.Progress.{Keeps, Completes}
 use Rattle.sj_deps.proofs.Counting.{none_dropped, some_counted, two_counted}
 use Rattle.sj_deps.proofs.Readiness.{flag_at, ready-waits, waits-ready}

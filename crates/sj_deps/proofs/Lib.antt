@@ -1,7 +1,6 @@
 pub mod Accessing
 pub mod Appending
 pub mod Completing
-pub mod CountableLemmas
 pub mod Counting
 pub mod Entering
 pub mod Freeing

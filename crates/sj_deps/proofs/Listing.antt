@@ -5,8 +5,9 @@ use Rattle.std.proofs.lemmas.List.{get_or-set_same, get_or-set_other, get_or_pas
 use Rattle.std.proofs.lemmas.List.Sums.{sum_by_push, sum_by_more}
 use Rattle.std.proofs.lemmas.Bool.{cases_lt, cases_eq, cases_Bool, eq-eqb, ne_eqb, cond-true, cond-false, lt-ltb, false_from_ne_true, ltb-true}
 use Rattle.sj_base.specs.declared.ids.Task.{Task}
+use Rattle.sj_base.specs.Ids.{task}
 use Rattle.sj_deps.specs.Chains.{is_party}
-use Rattle.sj_deps.specs.Counts.{is_task, parties_at, task, tasks_at}
+use Rattle.sj_deps.specs.Counts.{is_task, parties_at, tasks_at}
 
 -- how often a list has a number after another is appended to one of the lists
 pub list_after : (rows : List (List ℕ)) (t c u d : ℕ) → t < length rows → count_by (is_party d) (parties_at (slice_set rows t (parties_at rows t ++ c ∷ [])) u) ≡ count_by (is_party d) (parties_at rows u) + cond (nat_eq t u) (cond {A = ℕ} (nat_eq c d) 1 0) 0

@@ -6,12 +6,13 @@ use Rattle.std.proofs.lemmas.List.Sums.{get_or-le-sum_by}
 use Rattle.std.proofs.lemmas.Bool.{cases_lt, cases_Bool, eq-eqb, eqb-true, both_ways, true_from_ne_false}
 use Rattle.sj_base.specs.declared.ids.Task.{Task}
 use Rattle.sj_base.specs.declared.program.Program.{Program}
+use Rattle.sj_base.specs.Ids.{task}
 use Rattle.sj_deps.specs.declared.manner.Manner.TheVariants.{Read, Contribute}
 use Rattle.sj_deps.specs.Conflict.{Uses, IsShared, Conflict, Ready, HasDependencies}
 use Rattle.sj_deps.specs.declared.chain.Chain.{Chain}
 use Rattle.sj_deps.specs.declared.chain.Member.{Member}
 use Rattle.sj_deps.specs.Chains.{joins, joined, no_member, member_at, party_at, manner_at, chain_at, members_at, is_done, left_of, waits_of, Tracks}
-use Rattle.sj_deps.specs.Counts.{Holds, HoldsAll, Flags, Fits, In, task, tasks_at, undone}
+use Rattle.sj_deps.specs.Counts.{Holds, HoldsAll, Flags, Fits, In, tasks_at, undone}
 use Rattle.sj_deps.proofs.Counting.{some_fails, some_counted}
 use Rattle.sj_deps.proofs.Places.{inside_of, wanted_some, wanted_none}
 use Rattle.sj_deps.proofs.Runs.{joins_cases, joins_shared, all_joined, same_manner, run_before}

@@ -10,6 +10,7 @@ use Rattle.std.proofs.lemmas.Option.{slice_get_past}
 use Rattle.std.proofs.lemmas.Bool.{cases_lt, both_ways, ne_eqb}
 use Rattle.sj_base.specs.declared.ids.Task.{Task}
 use Rattle.sj_base.specs.declared.program.Program.{Program}
+use Rattle.sj_base.specs.Ids.{task}
 use Rattle.sj_deps.specs.declared.manner.Manner.{Manner}
 use Rattle.sj_deps.specs.Conflict.{Uses, HasDependencies, usages}
 use Rattle.sj_deps.specs.declared.chain.Chain.{Chain}
@@ -17,7 +18,7 @@ use Rattle.sj_deps.specs.declared.chain.Member.{Member}
 use Rattle.sj_deps.specs.declared.counters.Counters.{Counters}
 use Rattle.sj_deps.specs.declared.entry.Entered.{Entered}
 use Rattle.sj_deps.specs.Chains.{no_chain, no_member, chain_at, members_at, is_of, left_of, waits_of, wanted, Tracks}
-use Rattle.sj_deps.specs.Counts.{Begun, Built, Entering, Holds, HoldsAll, In, Mutual, Present, blocked, cells_at, is_task, parties_at, task, tasks_at, undone}
+use Rattle.sj_deps.specs.Counts.{Begun, Built, Entering, Holds, HoldsAll, In, Mutual, Present, blocked, cells_at, is_task, parties_at, tasks_at, undone}
 use Rattle.sj_deps.specs.Progress.{Keeps}
 use Rattle.sj_deps.proofs.Counting.{below_cases}
 use Rattle.sj_deps.proofs.Entering.{single_is}

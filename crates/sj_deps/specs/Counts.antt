@@ -3,6 +3,7 @@ use Rattle.std.specs.Prelude.{◌≡◌, ◌⊎◌, ◌==◌, ◌++◌, ◌∷�
 use Rattle.std.specs.List.{slice_index_or, sum_by, range_with_len}
 use Rattle.sj_base.specs.declared.program.Program.{Program}
 use Rattle.sj_base.specs.declared.ids.Task.{Task}
+use Rattle.sj_base.specs.Ids.{task}
 use Rattle.sj_deps.specs.declared.manner.Manner.{Manner}
 use Rattle.sj_deps.specs.declared.manner.Manner.TheVariants.{Contribute}
 use Rattle.sj_deps.specs.declared.manner.Usage.{Usage}
@@ -11,9 +12,6 @@ use Rattle.sj_deps.specs.declared.entry.Entered.{Entered}
 use Rattle.sj_deps.specs.declared.chain.Member.{Member}
 use Rattle.sj_deps.specs.declared.chain.Chain.{Chain}
 use Rattle.sj_deps.specs.Chains.{member, member_at, party_at, manner_at, members_at, is_of, is_party, chain_at, waits_of, wanted, Tracks}
-
-abbrev pub task : ℕ → Task
-task t = record { 0 = t }
 
 abbrev pub is_task : ℕ → Task → Bool
 is_task t x = nat_eq x.0 t

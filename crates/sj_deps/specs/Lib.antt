@@ -4,4 +4,3 @@ pub mod Crews
 pub mod Counts
 pub mod Progress
 pub mod Lending
-pub mod Countable

@@ -3,10 +3,11 @@
 ghost use Rattle.std.specs.Prelude.{◌≡◌, ◌+◌, ◌<◌, ◌≤◌, ◌++◌, ◌∷◌, ℕ, [], List, All, Contains, true, IfOk, IfSome, IsTrue, OnOk, length, map, replicate};
 ghost use Rattle.std.specs.List.{range_with_len, slice_index_or};
 ghost use Rattle.sj_base.specs.declared.program.Program.{Program as Lowered};
+ghost use Rattle.sj_base.specs.Ids.{task};
 ghost use Rattle.sj_deps.specs.declared.manner.Usage.{Usage};
 ghost use Rattle.sj_deps.specs.Conflict.{HasDependencies, Uses, usages_of, usage, copies_of, first_copy};
 ghost use Rattle.sj_deps.specs.Chains.{no_chain, party_at};
-ghost use Rattle.sj_deps.specs.Counts.{Entering, Begun, Built, Holds, Adds, Appends, Joins, Opens, EndsInPhase, IsOpen, ends_with, task};
+ghost use Rattle.sj_deps.specs.Counts.{Entering, Begun, Built, Holds, Adds, Appends, Joins, Opens, EndsInPhase, IsOpen, ends_with};
 
 use crate::chain::{Chain, Member};
 use crate::crew::Crew;

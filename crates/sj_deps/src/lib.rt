@@ -9,7 +9,3 @@ pub mod deps;
 mod entry;
 pub mod manner;
 mod settle;
-#[cfg(test)]
-mod tests;
-#[cfg(test)]
-mod usages;

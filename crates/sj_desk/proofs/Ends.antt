@@ -13,7 +13,8 @@ use Rattle.sj_desk.specs.Views.{no_tally, IsSeated, seat_facts, left_of, sitting
 use Rattle.sj_desk.specs.Turns.{IsRuled, Fills, Opens}
 use Rattle.sj_desk.proofs.Lists.{opening_next}
 use Rattle.std.proofs.lemmas.List.FromFn.{map-range_with_len_more}
-use Rattle.sj_desk.proofs.Seats.{sits, some_and_at}
+use Rattle.sj_base.proofs.Options.{IsSomeAnd-from}
+use Rattle.sj_desk.proofs.Seats.{sits}
 use Rattle.sj_desk.proofs.Steps.{fills, opens, deals, gathers, Closes, closes}
 
 module _ {X Y : Type 0} (R : X → Y → Type 0) where
@@ -30,7 +31,7 @@ module _ {T : Type 0} where
   rows_left row_of value (s ∷ ss) [] zipped same = absurd zipped
   rows_left row_of value (s ∷ ss) (r ∷ rs) zipped same =
       let n = zipped.0.0 in
-      (some_and_at (λ left. row_of value s.number ≡ row_of left s.number) s.left r.1 zipped.0.1 (ap (row_of value) n ∙ same.0 ∙ ap (row_of r.1) (sym n)), rows_left row_of value ss rs zipped.1 same.1)
+      (IsSomeAnd-from (λ left. row_of value s.number ≡ row_of left s.number) s.left r.1 zipped.0.1 (ap (row_of value) n ∙ same.0 ∙ ap (row_of r.1) (sym n)), rows_left row_of value ss rs zipped.1 same.1)
 
   pub all_rows_left : {R : Type 0} (row_of : T → ℕ → R) (value : T) (seats : List (SeatFacts T)) (rows : List (ℕ × T)) → AllZip IsRowOf seats rows
       → All (λ r. row_of value r.0 ≡ row_of r.1 r.0) rows → All (HasRowLeft row_of value) seats

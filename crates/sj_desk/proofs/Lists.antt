@@ -35,14 +35,6 @@ module _ {A : Type 0} where
       (λ (x : (j ≢ i) × (get_elem? l j ≡ some u)). others j u x.0 x.1)
       (at_set l i j w u e)
 
-  pub each_weaker : (P Q : A → Type 0) → ((x : A) → P x → Q x) → (xs : List A) → AllByRecursion P xs → AllByRecursion Q xs
-  each_weaker P Q f [] h = tt
-  each_weaker P Q f (x ∷ xs) h = (f x h.0, each_weaker P Q f xs h.1)
-
-  pub each_append : (P : A → Type 0) (xs ys : List A) → AllByRecursion P xs → AllByRecursion P ys → AllByRecursion P (xs ++ ys)
-  each_append P [] ys h k = k
-  each_append P (x ∷ xs) ys h k = (h.0, each_append P xs ys h.1 k)
-
   pub each_at : (P : A → Type 0) (xs : List A) (x : A) → AllByRecursion P xs → Contains xs x → P x
   each_at P xs x h c = All-contains P xs x (All-from_recursion P xs h) c
 

@@ -1,10 +1,11 @@
 -- The seats of a desk, from what contracts see of them to what its table has, and the steps as the desk's calls ask for them.
 use Rattle.std.proofs.Common.{◌≡◌, ℕ, ◌+◌, ◌%◌, ◌^◌, ◌<◌, ◌≢◌, ◌==◌, List, [], ◌∷◌, sym, refl, ap, ◌∙◌, subst, Option, Some, None, is_some, true, false, true≢false, eqb, eq-eqb, IfSome}
-use Rattle.std.specs.Option.{IsSomeAnd, option_eq}
+use Rattle.std.specs.Option.{option_eq}
 use Rattle.std.proofs.lemmas.Option.{none-some, same_Some}
 use mathlib.Core.Logic.{dite}
 use native.Mathlib.Decide.{ℕ_discrete}
 use prog.Atomic.{either}
+use Rattle.sj_base.proofs.Options.{IsSomeAnd-at}
 use Rattle.atomic_table.specs.Seated.{TableId}
 use Rattle.atomic_table.specs.Table.{Me, Allows, rest}
 use Rattle.sj_desk.specs.declared.view.View.{View}
@@ -14,13 +15,6 @@ use Rattle.sj_desk.specs.Seats.{DeskFacts, SeatFacts, KeepsOtherRows}
 use Rattle.sj_desk.specs.Views.{view, tally, one_more, hearing_tally, rung_tally, seated, refused_view, hearing_view, rung_view, found_view, left_by, IsSeated, desk_facts, desk_of, opening_of, seat_facts}
 use Rattle.sj_desk.specs.Turns.{IsRuled, Finds, Tries, Marks, Leaves, Hears, Rings, Rests}
 use Rattle.sj_desk.proofs.Steps.{tries, marks, leaves, hears, rings, rests}
-
-pub some_and : {A : Type 0} (P : A → Type 0) (o : Option A) → IsSomeAnd o P → (x : A) × (o ≡ Some x) × P x
-some_and P None h = absurd h
-some_and P (Some x) h = (x, refl, h)
-
-pub some_and_at : {A : Type 0} (P : A → Type 0) (o : Option A) (x : A) → o ≡ Some x → P x → IsSomeAnd o P
-some_and_at P o x e h = subst (λ y. IsSomeAnd y P) (sym e) h
 
 some_of : (o : Option ℕ) → is_some o ≡ true → (n : ℕ) × (o ≡ Some n)
 some_of None e = absurd (true≢false (sym e))
@@ -137,7 +131,7 @@ module _ {T : Type 0} where
   pub others_kept : {R : Type 0} (row_of : T → ℕ → R) (ts td : TableId) (number : ℕ) (v : View T) (k : Opening T) (s : SeatFacts T) (d : DeskFacts T) (value : T)
       → seat_facts ts number v ≡ s → desk_facts td k ≡ d → KeepsOtherRows row_of d s value → Keeps row_of number k s value
   others_kept row_of ts td number v k s d value seen desk kept =
-      let x = some_and (λ found. (n : ℕ) → n < d.seats → n ≢ s.number → row_of value n ≡ row_of found n) s.found kept in
+      let x = IsSomeAnd-at (λ found. (n : ℕ) → n < d.seats → n ≢ s.number → row_of value n ≡ row_of found n) s.found kept in
       record {
         found = x.0;
         is = x.1;

@@ -7,6 +7,7 @@ use mathlib.Core.Option.{some, some-injective}
 use native.Mathlib.Decide.{ℕ_discrete}
 use prog.Atomic.{either}
 use lib.ListN.{get_elem?}
+use Rattle.sj_base.proofs.Lists.{each-weaker, each-append}
 use Rattle.atomic_table.specs.Table.{State, Me, Act, keeps, takes, gives, Valid, Allows, Splits, Joins, stepped, carried_after, Final, Seen}
 use Rattle.atomic_table.proofs.Lists.{set_here, set_else, at_longer, exchanged}
 use Rattle.sj_desk.specs.declared.view.View.{View}
@@ -14,7 +15,7 @@ use Rattle.sj_desk.specs.declared.view.Opening.{Opening}
 use Rattle.sj_desk.specs.declared.view.Tally.{Tally}
 use Rattle.sj_desk.specs.Views.{view, tally, no_tally, one_more, hearing_tally, rung_tally, sitting, ended, opening_rows, first_view, at_stage, found_view, dealing, dealt, joined, seated}
 use Rattle.sj_desk.specs.Turns.{IsKeptRow, IsKeptView, IsHolder, IsOpen, made, filled, IsRuled, Tries, Marks, Leaves, Hears, Rings, Rests, Fills, Opens}
-use Rattle.sj_desk.proofs.Lists.{within, only, only_place, at_end, after_set, each_weaker, each_append, each_at, opening_each, opening_weaker}
+use Rattle.sj_desk.proofs.Lists.{within, only, only_place, at_end, after_set, each_at, opening_each, opening_weaker}
 
 -- a seat that isn't in its turn is not the holder
 holder_else : {T : Type 0} (seats : ℕ) (owner : ℕ → ℕ) (current : T) (holder : ℕ) (views : List (View T)) → IsHolder seats owner current holder views
@@ -242,7 +243,7 @@ module _ {T R : Type 0} (row_of : T → ℕ → R) (fits : Opening T → T → T
             (λ j u other there. let old = o.views j u there in
             record {
               stage = old.stage;
-              rows = each_weaker (IsKeptRow row_of k.seats o.owner o.current j) (IsKeptRow row_of k.seats o.owner value j)
+              rows = each-weaker (IsKeptRow row_of k.seats o.owner o.current j) (IsKeptRow row_of k.seats o.owner value j)
                   (λ r kept. record {
                     number = kept.number;
                     owned = kept.owned;
@@ -317,7 +318,7 @@ module _ {T R : Type 0} (row_of : T → ℕ → R) (fits : Opening T → T → T
       let others : (j : ℕ) (u : View T) → get_elem? (set s.views id l) j ≡ some u → Kept j u = after_set Kept s.views id l
       (record { stage = refl; rows = opening_weaker k.value (Old id) (New id) n (a + 1) (λ i low h. keep id (i, k.value) (λ e. omega arith) h) mine.rows.1; turn = λ y e. absurd (none-some y e) })
       (λ j u other there. let old = o.views j u there in
-      record { stage = old.stage; rows = each_weaker (Old j) (New j) (λ x h. keep j x (λ e. other (sym h.owned ∙ ap o.owner e ∙ row.owned)) h) u.rows old.rows; turn = old.turn }) in
+      record { stage = old.stage; rows = each-weaker (Old j) (New j) (λ x h. keep j x (λ e. other (sym h.owned ∙ ap o.owner e ∙ row.owned)) h) u.rows old.rows; turn = old.turn }) in
       let last : (j : ℕ) (u : View T) → (j ≡ length (set s.views id l)) × (r ≡ u) → Kept j u = λ j u e.
       subst (λ (y : ℕ × View T). Kept y.0 y.1) (λ p. (sym (e.0 ∙ length-set s.views id l) p, e.1 p))
       (record { stage = refl; rows = (record { number = row.number; owned = either_here a a (length s.views) (o.owner a) refl; same = row.same }, tt); turn = λ y e. absurd (none-some y e) }) in
@@ -360,10 +361,10 @@ module _ {T R : Type 0} (row_of : T → ℕ → R) (fits : Opening T → T → T
       let inner : (j : ℕ) (u : View T) → get_elem? (set s.views id both) j ≡ some u → j ≢ other → Kept j u = after_set (λ j u. j ≢ other → Kept j u) s.views id both
       (λ _. record {
         stage = refl;
-        rows = each_append (New id) more rows (each_weaker (Old other) (New id) move more theirs.rows) (each_weaker (Old id) (New id) (λ x h. keep id x far h) rows mine.rows);
+        rows = each-append (New id) more rows (each-weaker (Old other) (New id) move more theirs.rows) (each-weaker (Old id) (New id) (λ x h. keep id x far h) rows mine.rows);
         turn = λ y e. absurd (none-some y e);
       })
-      (λ j u ne at_j else. let old = o.views j u at_j in record { stage = old.stage; rows = each_weaker (Old j) (New j) (λ x h. keep j x else h) u.rows old.rows; turn = old.turn }) in
+      (λ j u ne at_j else. let old = o.views j u at_j in record { stage = old.stage; rows = each-weaker (Old j) (New j) (λ x h. keep j x else h) u.rows old.rows; turn = old.turn }) in
       inr (inr (record {
         two_words = o.two_words;
         owner = owner;
@@ -404,7 +405,7 @@ module _ {T R : Type 0} (row_of : T → ℕ → R) (fits : Opening T → T → T
         value = o.current;
         there = f.4 0 (Some o.current) (o.free free).0;
         fitting = (o.free free).1;
-        same = each_weaker (IsKeptRow row_of k.seats o.owner o.current id) (λ r. row_of o.current r.0 ≡ row_of r.1 r.0) (λ r h. h.same) rows mine.rows;
+        same = each-weaker (IsKeptRow row_of k.seats o.owner o.current id) (λ r. row_of o.current r.0 ≡ row_of r.1 r.0) (λ r h. h.same) rows mine.rows;
       })
       (λ ne. let h = o.taken ne in
       let r = whole h.number h.below in

@@ -10,7 +10,8 @@ pub record DeskFacts (T : Type 0) : Type 0 where
   pub opening : T
   pub seats : ℕ
 
--- a seat: its desk, its number, how many of its tries found the turn taken, the count of the bell that it heard and hasn't rested on yet, how often it rang the bell, the value that it left last, and in its turn the value that it found
+-- a seat: its desk, its number, how many of its tries found the turn taken, the count of the bell that it heard and hasn't
+-- rested on yet, how often it rang the bell, the value that it left last, and in its turn the value that it found
 pub record SeatFacts (T : Type 0) : Type 0 where
   pub desk : Option (DeskFacts T)
   pub number : ℕ

@@ -33,9 +33,9 @@ const AWAITED: u64 = 2;
 // A sleep on a word compares its low 32 bits.
 const LOW: u64 = 1 << 32;
 
-// How often `enter` tries before it sleeps, and after each sleep. It pauses after each try, twice as long as after the one before:
-// while the turn goes from hand to hand it is worth some 300 µs to stay awake, and the one that has it goes on with what its caches
-// hold.
+// How often `enter` tries before it sleeps, and after each sleep. It pauses after each try, twice as long as after the one
+// before: while the turn goes from hand to hand it is worth some 300 µs to stay awake, and the one that has it goes on with
+// what its caches hold.
 const TRIES: u32 = 14;
 
 // For how many turns it pauses after the first try.
@@ -265,7 +265,8 @@ impl<T: Keyed> Desk<T> {
     pub fn listen(&self, seat: &mut DeskSeat<T>)
         requires of_this_desk { seat.old.desk ≡ Some self.now }
         requires in_its_turn { is_some seat.old.found ≡ true }
-        ensures seat { IsSomeAnd seat.new.heard (λ count. seat.new ≡ hearing seat.old (Some count)) }
+        ensures seat { IsSomeAnd seat.new.heard
+            (λ count. seat.new ≡ hearing seat.old (Some count)) }
     {
         let count = self.table.shared.load::<Hear>(&mut seat.ticket, BELL);
         seat.heard = Some(count);

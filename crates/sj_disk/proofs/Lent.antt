@@ -3,6 +3,8 @@ use Rattle.std.proofs.Common.{◌≡◌, ℕ, true, false, ℤ, List, refl, ap, 
 use Rattle.std.specs.Prelude.{slice_set, IfNone, IfSome, IsSome, IsSomeAnd}
 use Rattle.sj_base.specs.declared.ids.Cell.{Cell}
 use Rattle.sj_base.specs.declared.ids.DiskNo.{DiskNo}
+use Rattle.sj_base.proofs.Options.{IfSome-from}
+pub use Rattle.sj_base.proofs.Options.{IfSome-at as said-of}
 use Rattle.sj_disk.specs.declared.directory.Extent.{Extent}
 use Rattle.sj_disk.specs.declared.refusal.DiskRefusal.{DiskRefusal}
 use Rattle.sj_disk.specs.Calls.{Fetches, Stores}
@@ -11,15 +13,6 @@ use Rattle.sj_disk.specs.Lending.{ComesFrom, HasFetched, HasStored, IsInFor, IsO
 use Rattle.sj_disk.specs.Rack.{is_out}
 use Rattle.sj_disk.specs.Units.{IsWorkedOn, UnitFetches, UnitState, UnitStores}
 use Rattle.sj_disk.proofs.Racking.{out_and_in}
-use Rattle.sj_disk.proofs.Sounding.{if-some}
-
-the : (X : Type 0) → X → X
-the X x = x
-
--- what is said of a value where there is one, is so of this one
-pub said-of : {X : Type 0} (P : X → Type 0) (o : Option X) (x : X) → o ≡ Some x → IfSome o P → P x
-said-of P None x e h = absurd (the ⊥ (cc))
-said-of P (Some y) x e h = subst P (the (y ≡ x) (cc)) h
 
 clash : (o : Option Extent) (out : List Bool) → IfSome o (λ e. is_out out e.disk.0 ≡ false) → IsSomeAnd o (λ e. is_out out e.disk.0 ≡ true) → ⊥
 clash None out h k = k
@@ -45,14 +38,14 @@ module _ {D : Type 0} (size faults mismatches : D → ℕ) (held : D → Option 
       let there : Stores size faults mismatches held u.cell.0 writes xs r s'.set s''.set u.extent = has u writes xs r t.taken stores in
       let here : Stores size faults mismatches held c.0 writes xs r s.set s''.set u.extent =
       subst (λ (x : DiskState D). Stores size faults mismatches held c.0 writes xs r x s''.set u.extent) same-set (subst (λ (q : Cell). Stores size faults mismatches held q.0 writes xs r s'.set s''.set u.extent) t.of_the_cell there) in
-      if-some (Stores size faults mismatches held c.0 writes xs r s.set s''.set) (extent_of s.set.directory c.0) u.extent its-extent here
+      IfSome-from (Stores size faults mismatches held c.0 writes xs r s.set s''.set) (extent_of s.set.directory c.0) u.extent its-extent here
 
   pub back-fetched : (v : UnitState D) (s'' : LendingState D) (writes : ℕ) (xs : List ℤ) (r : Result (Unit {0}) DiskRefusal) → UnitFetches size faults mismatches held writes xs r u v → HasFetched size faults mismatches held v s' s'' → IfSome (extent_of s.set.directory c.0) (Fetches size faults mismatches held c.0 writes xs r s.set s''.set)
   back-fetched v s'' writes xs r fetches has =
       let there : Fetches size faults mismatches held u.cell.0 writes xs r s'.set s''.set u.extent = has u writes xs r t.taken fetches in
       let here : Fetches size faults mismatches held c.0 writes xs r s.set s''.set u.extent =
       subst (λ (x : DiskState D). Fetches size faults mismatches held c.0 writes xs r x s''.set u.extent) same-set (subst (λ (q : Cell). Fetches size faults mismatches held q.0 writes xs r s'.set s''.set u.extent) t.of_the_cell there) in
-      if-some (Fetches size faults mismatches held c.0 writes xs r s.set s''.set) (extent_of s.set.directory c.0) u.extent its-extent here
+      IfSome-from (Fetches size faults mismatches held c.0 writes xs r s.set s''.set) (extent_of s.set.directory c.0) u.extent its-extent here
 
   -- the disk is in again
   pub out-stays : (v : UnitState D) (s'' : LendingState D) → IsWorkedOn size faults mismatches held u v → s'' ≡ has_back s' v → s''.out ≡ s.out

@@ -1,32 +1,23 @@
 -- The places of disks: what is on each, and whether it is out.
 use Rattle.std.proofs.Common.{◌≡◌, ℕ, zero, suc, ◌<◌, Bool, true, false, List, [], ◌∷◌, length, get_or, map, refl, sym, ap, ◌∙◌, subst, arith, Option, Some, None, replicate}
-use Rattle.std.specs.Prelude.{◌||◌, slice_get, slice_set, All, IfSome}
+use Rattle.std.specs.Prelude.{slice_get, slice_set, All, IfSome}
 use Rattle.std.specs.List.{list_any}
 use Rattle.std.proofs.lemmas.List.{length-map}
+use Rattle.std.proofs.lemmas.Bool.{or_parts, or_from}
+use Rattle.sj_base.proofs.Lists.{set-slice_get}
 use Rattle.sj_disk.specs.Rack.{Racked, Shelved, is_out, racked, shelved}
 
-the : (X : Type 0) → X → X
-the X x = x
-
 -- ---- whether a disk is out
-
-either : (b : Bool) (x : Bool) → (b || x) ≡ false → (b ≡ false) × (x ≡ false)
-either true x h = absurd (the ⊥ (cc))
-either false x h = (refl, h)
 
 -- no place is out, where no shelf is
 pub none_out : {D : Type 0} (shelves : List (Shelved D)) → list_any (λ s. s.out) shelves ≡ false → (d : ℕ) → is_out (map (λ s. s.out) shelves) d ≡ false
 none_out [] none d = refl
-none_out (s ∷ shelves) none zero = (either s.out (list_any (λ s. s.out) shelves) none).0
-none_out (s ∷ shelves) none (suc d) = none_out shelves (either s.out (list_any (λ s. s.out) shelves) none).1 d
-
-neither : (b : Bool) (x : Bool) → b ≡ false → x ≡ false → (b || x) ≡ false
-neither true x h k = absurd (the ⊥ (cc))
-neither false x h k = k
+none_out (s ∷ shelves) none zero = (or_parts s.out (list_any (λ s. s.out) shelves) none).0
+none_out (s ∷ shelves) none (suc d) = none_out shelves (or_parts s.out (list_any (λ s. s.out) shelves) none).1 d
 
 pub none_any : {D : Type 0} (shelves : List (Shelved D)) → ((d : ℕ) → is_out (map (λ s. s.out) shelves) d ≡ false) → list_any (λ s. s.out) shelves ≡ false
 none_any [] none = refl
-none_any (s ∷ shelves) none = neither s.out (list_any (λ s. s.out) shelves) (none 0) (none_any shelves (λ d. none (suc d)))
+none_any (s ∷ shelves) none = or_from s.out (list_any (λ s. s.out) shelves) (none 0) (none_any shelves (λ d. none (suc d)))
 
 -- and each shelf has its disk
 pub none_all : {D : Type 0} (shelves : List (Shelved D)) → ((d : ℕ) → is_out (map (λ s. s.out) shelves) d ≡ false) → All (λ s. s.out ≡ false) shelves
@@ -72,12 +63,6 @@ outs_set [] i s = refl
 outs_set (x ∷ shelves) zero s = refl
 outs_set (x ∷ shelves) (suc i) s = ap (λ ys. x.out ∷ ys) (outs_set shelves i s)
 
--- the same disk in the place of itself
-disks_stay : {D : Type 0} (disks : List D) (i : ℕ) (x : D) → slice_get disks i ≡ Some x → slice_set disks i x ≡ disks
-disks_stay [] i x e = refl
-disks_stay (y ∷ disks) zero x e = ap (λ z. z ∷ disks) (the (x ≡ y) (cc))
-disks_stay (y ∷ disks) (suc i) x e = ap (λ ys. y ∷ ys) (disks_stay disks i x e)
-
 -- a disk that was in, out and in again
 pub out_and_in : (out : List Bool) (i : ℕ) → is_out out i ≡ false → slice_set (slice_set out i true) i false ≡ out
 out_and_in [] i e = refl
@@ -122,4 +107,4 @@ module _ {D : Type 0} (shelves : List (Shelved D)) (i : ℕ) (r : Racked D) (vie
 
     pub takes : (result : Option D) → IfSome result (λ _. racked (map (λ s. s.disk) (slice_set shelves i s')) (map (λ s. s.out) (slice_set shelves i s')) ≡ racked r.disks (slice_set r.out i true))
     takes None = tt
-    takes (Some x) = shelf_set s' s.disk true emptied ∙ ap (λ ds. racked ds (slice_set r.out i true)) (disks_stay r.disks i s.disk its-disk)
+    takes (Some x) = shelf_set s' s.disk true emptied ∙ ap (λ ds. racked ds (slice_set r.out i true)) (set-slice_get r.disks i s.disk its-disk)

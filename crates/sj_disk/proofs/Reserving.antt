@@ -1,45 +1,20 @@
 -- What making a set of disks and giving a cell its block leave.
-use Rattle.std.proofs.Common.{◌≡◌, ◌≢◌, ℕ, zero, suc, ◌+◌, ◌^◌, ◌<◌, ◌≤◌, ◌⊎◌, inl, inr, Bool, true, nat_le, List, [], ◌∷◌, ◌++◌, length, get_or, take, map, refl, sym, ap, ◌∙◌, subst, arith, Option, Some, None, replicate}
+use Rattle.std.proofs.Common.{◌≡◌, ◌≢◌, ℕ, zero, suc, ◌+◌, ◌^◌, ◌<◌, ◌≤◌, ◌⊎◌, inl, inr, List, [], ◌∷◌, ◌++◌, length, get_or, take, map, refl, sym, ap, ◌∙◌, subst, arith, Option, Some, None, replicate}
 use Rattle.std.specs.Prelude.{slice_get, slice_set}
 use Rattle.std.proofs.lemmas.Option.{slice_get_read}
 use Rattle.sj_edge.specs.Held.{Fills}
-use Rattle.std.specs.List.{zip}
 use Rattle.std.proofs.lemmas.Bool.{cases_eq, cases_lt}
-use Rattle.std.proofs.lemmas.Bool.Decides.{nat_tests}
 use Rattle.std.proofs.lemmas.List.{get_or-set_same, get_or-set_other, length-set, length-replicate, length-map, map-append, take_more}
-use Rattle.std.proofs.lemmas.List.Quantifiers.{position-Some}
 use Rattle.sj_base.specs.declared.ids.DiskNo.{DiskNo}
+use Rattle.sj_base.proofs.Options.{the}
+use Rattle.sj_base.proofs.FirstFit.{first_fit-room}
 use Rattle.sj_disk.specs.declared.directory.Extent.{Extent}
 use Rattle.sj_disk.specs.Block.{block_bytes}
 use Rattle.sj_disk.specs.Calls.{Reserves}
 use Rattle.sj_disk.specs.Directory.{IsLaidOut, disk_state, extent_at, extent_of, first_fit}
 use Rattle.sj_disk.specs.Sound.{AreFilled, IsSound}
 
-the : (X : Type 0) → X → X
-the X x = x
-
 -- ---- the first that fits
-
-get-zip : (xs ys : List ℕ) (i : ℕ) → length ys ≡ length xs → get_or (zip xs ys) i (0, 0) ≡ (get_or xs i 0, get_or ys i 0)
-get-zip [] [] i n = refl
-get-zip [] (y ∷ ys) i n = absurd (omega arith)
-get-zip (x ∷ xs) [] i n = absurd (omega arith)
-get-zip (x ∷ xs) (y ∷ ys) zero n = refl
-get-zip (x ∷ xs) (y ∷ ys) (suc i) n = get-zip xs ys i (omega arith)
-
-length-zip_same : (xs ys : List ℕ) → length ys ≡ length xs → length (zip xs ys) ≡ length xs
-length-zip_same [] [] n = refl
-length-zip_same [] (y ∷ ys) n = absurd (omega arith)
-length-zip_same (x ∷ xs) [] n = absurd (omega arith)
-length-zip_same (x ∷ xs) (y ∷ ys) n = omega (arith, length-zip_same xs ys (omega arith))
-
--- the first disk that fits is one, and has room
-pub fits-first : (sizes taken : List ℕ) (need d : ℕ) → length taken ≡ length sizes → first_fit sizes taken need ≡ Some d → (d < length sizes) × (get_or taken d 0 + need ≤ get_or sizes d 0)
-fits-first sizes taken need d n e =
-    let fits : ℕ × ℕ → Bool = λ x. nat_le (x.1 + need) x.0 in
-    let h = position-Some fits (zip sizes taken) d (0, 0) e in
-    let room : nat_le (get_or taken d 0 + need) (get_or sizes d 0) ≡ true = sym (ap fits (get-zip sizes taken d n)) ∙ h.1 in
-    (omega (arith, h.0, length-zip_same sizes taken n), grind (arith, nat_tests, room))
 
 abbrev pub disk-number : ℕ → DiskNo
 disk-number d = record { 0 = d }
@@ -109,7 +84,7 @@ module _ {D : Type 0} (size : D → ℕ) (held : D → Option (List ℕ)) where
     more = slice_set taken d (get_or taken d 0 + block_bytes n)
 
     room : (d < length sizes) × (get_or taken d 0 + block_bytes n ≤ get_or sizes d 0)
-    room = fits-first sizes taken (block_bytes n) d s.laid_out.as_many first
+    room = first_fit-room sizes taken (block_bytes n) d s.laid_out.as_many first
 
     here : get_or more d 0 ≡ get_or taken d 0 + block_bytes n
     unfolding more

@@ -4,8 +4,11 @@ use Rattle.std.specs.Prelude.{slice_get, slice_set, IsTrue, OnOk}
 use Rattle.std.proofs.lemmas.Bool.{cases_eq, cases_lt}
 use Rattle.std.proofs.lemmas.List.{get_or-set_same, get_or-set_other, get_or_past, set-get_or}
 use Rattle.std.proofs.lemmas.Option.{slice_get_within}
+use Rattle.std.proofs.lemmas.Result.{on_ok_weaker}
 use Rattle.sj_base.specs.declared.ids.Cell.{Cell}
 use Rattle.sj_base.specs.declared.ids.DiskNo.{DiskNo}
+use Rattle.sj_base.proofs.Options.{the}
+use Rattle.sj_base.proofs.Lists.{map-places}
 use Rattle.sj_edge.specs.Held.{Fills, GivesHeld, HoldsAnyIn}
 use Rattle.sj_disk.specs.declared.directory.Extent.{Extent}
 use Rattle.sj_disk.specs.declared.directory.LastStore.{LastStore}
@@ -20,10 +23,7 @@ use Rattle.sj_disk.specs.Transfers.{Looks, Writes}
 use Rattle.sj_disk.specs.Lending.{IsTaken, has_back, lending}
 use Rattle.sj_disk.specs.Units.{IsSoundUnit, IsWorkedOn, UnitFetches, UnitState, UnitStores, unit_state}
 use Rattle.sj_disk.proofs.Bytes.{length-header_bytes}
-use Rattle.sj_disk.proofs.Sounding.{back-look, back-write, before, changes-set, counts-look, counts-write, each, get-set, inside-disk, inside-fits, keeps-look, keeps-range, same-map}
-
-the : (X : Type 0) → X → X
-the X x = x
+use Rattle.sj_disk.proofs.Sounding.{back-look, back-write, before, changes-set, counts-look, counts-write, each, get-set, inside-disk, inside-fits, keeps-look, keeps-range}
 
 same_number : (d e : DiskNo) → d.0 ≡ e.0 → d ≡ e
 same_number d e h = ap (λ n. let x : DiskNo = record { 0 = n } in x) h
@@ -38,10 +38,6 @@ within-directory directory c e ee = elim (cases_lt c (length directory)) [
   | inl lt ↦ lt
   | inr ge ↦ let past : extent_of directory c ≡ None = get_or_past directory c None ge in absurd (the ⊥ (cc))
 ]
-
-on-ok : {A E : Type 0} (q : Result A E) {P Q : Type 0} → (P → Q) → OnOk q P → OnOk q Q
-on-ok (Ok x) f h = f h
-on-ok (Err x) f h = tt
 
 module _ {D : Type 0} (size faults mismatches : D → ℕ) (held : D → Option (List ℕ)) where
   -- what stands beside the block still stands
@@ -130,7 +126,7 @@ module _ {D : Type 0} (size faults mismatches : D → ℕ) (held : D → Option 
       unfolding after
       sound-back = record {
         few = omega (arith, s.few, ch.as_many);
-        sized = s.sized ∙ sym (same-map size old new ch.as_many same_size);
+        sized = s.sized ∙ sym (map-places size old new ch.as_many same_size);
         bounded = s.bounded;
         filled = λ k y ey.
             let x = before (IsReworked e) e.disk.0 old new ch k y ey in
@@ -195,7 +191,7 @@ module _ {D : Type 0} (size faults mismatches : D → ℕ) (held : D → Option 
           let there : Stores size faults mismatches held b.cell.0 writes xs r (disk_state disks taken directory) (disk_state (slice_set disks b.extent.disk.0 u.disk) taken (slice_set directory b.cell.0 (Some u.extent))) b.extent =
           record {
             writes_the_block = ch;
-            holds_the_block_where_it_ended_well = on-ok r (λ h y ey. subst (λ x. GivesHeld (held x) b.extent.position (block b.cell.0 writes xs)) (is-there y ey) h) stores.holds_the_block_where_it_ended_well;
+            holds_the_block_where_it_ended_well = on_ok_weaker r (λ h y ey. subst (λ x. GivesHeld (held x) b.extent.position (block b.cell.0 writes xs)) (is-there y ey) h) stores.holds_the_block_where_it_ended_well;
             no_count_rose_where_it_ended_well = counts-write size faults mismatches held b.extent.disk.0 b.extent.position (block b.cell.0 writes xs) r disks (slice_set disks b.extent.disk.0 u.disk) ch;
             disks_are_given_back = back-write size faults mismatches held b.extent.disk.0 b.extent.position (block b.cell.0 writes xs) r disks (slice_set disks b.extent.disk.0 u.disk) ch;
             notes_how_it_ended = ap (λ e. slice_set directory b.cell.0 (Some e)) stores.notes_how_it_ended;
@@ -218,8 +214,8 @@ module _ {D : Type 0} (size faults mismatches : D → ℕ) (held : D → Option 
             disks_are_given_back = back-look size faults mismatches held (is_fault r) (is_damage r) b.extent.disk.0 disks new ch;
             directory_stays = ap (λ e. slice_set directory b.cell.0 (Some e)) fetches.extent_stays ∙ extent-stays directory b.cell.0 b.extent is.its_extent;
             takes_no_more = refl;
-            gives_what_is_held = on-ok r (λ h x ex. subst (λ y. GivesHeld (held y) b.extent.position (block b.cell.0 writes xs)) (was-there x ex) h) fetches.gives_what_is_held;
-            gives_what_was_stored = on-ok r (λ h ys fits n tells hy. h ys fits n (tells b.disk is.its_disk) (hy b.disk is.its_disk)) fetches.gives_what_was_stored;
+            gives_what_is_held = on_ok_weaker r (λ h x ex. subst (λ y. GivesHeld (held y) b.extent.position (block b.cell.0 writes xs)) (was-there x ex) h) fetches.gives_what_is_held;
+            gives_what_was_stored = on_ok_weaker r (λ h ys fits n tells hy. h ys fits n (tells b.disk is.its_disk) (hy b.disk is.its_disk)) fetches.gives_what_was_stored;
             refused_by_its_disk = fetches.refused_by_its_disk;
             undamaged_where_it_tells = λ tells. fetches.undamaged_where_it_tells (tells b.disk is.its_disk);
           } in

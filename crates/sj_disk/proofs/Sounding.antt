@@ -1,12 +1,14 @@
 -- What a store and a fetch leave of a set of disks.
-use Rattle.std.proofs.Common.{◌≡◌, ◌≢◌, ℕ, zero, suc, ◌+◌, ◌-◌, ◌^◌, ◌<◌, ◌≤◌, ◌⊎◌, inl, inr, Bool, true, false, ℤ, List, [], ◌∷◌, ◌++◌, length, take, drop, get_or, slice_range, map, w64, refl, sym, ap, ◌∙◌, subst, arith, Option, Some, None, Result, Ok, Err, length-append}
-use Rattle.std.specs.Prelude.{slice_get, slice_set, option_map, is_some, All, FitsSigned, IfErr, IfSome, IsSome, IsSomeAnd, IsTrue, is_ok, OnOk}
+use Rattle.std.proofs.Common.{◌≡◌, ◌≢◌, ℕ, zero, suc, ◌+◌, ◌-◌, ◌^◌, ◌<◌, ◌≤◌, ◌⊎◌, inl, inr, Bool, true, false, ℤ, List, [], ◌∷◌, ◌++◌, length, take, drop, get_or, slice_range, w64, refl, sym, ap, ◌∙◌, subst, arith, Option, Some, None, Result, Ok, Err, length-append}
+use Rattle.std.specs.Prelude.{slice_get, slice_set, option_map, is_some, All, FitsSigned, IfErr, IsSome, IsSomeAnd, IsTrue, is_ok, OnOk}
 use Rattle.std.proofs.Math.Seq.{take-append_seam}
 use Rattle.std.proofs.lemmas.Bool.{cases_eq, cases_lt}
 use Rattle.std.proofs.lemmas.List.{get_or-set_same, get_or-set_other, append_cancel_left, get_or_past, length-map, length-set, take-take}
 use Rattle.std.proofs.lemmas.Option.{slice_get_within}
 use Rattle.sj_base.specs.declared.ids.DiskNo.{DiskNo}
 use Rattle.std.specs.List.{AllZip}
+use Rattle.sj_base.proofs.Options.{the}
+use Rattle.sj_base.proofs.Lists.{get_or-map_at, map-places}
 use Rattle.sj_edge.specs.GivenBack.{AreGivenBack, IsGivenBack}
 use Rattle.sj_edge.specs.Held.{Fills, GivesHeld, HoldsAnyIn, written}
 use Rattle.sj_edge.proofs.Ranges.{slice_range-written, slice_range-written-before, slice_range-written-after}
@@ -24,15 +26,7 @@ use Rattle.sj_disk.specs.Sound.{IsSound}
 use Rattle.sj_disk.specs.Transfers.{Looks, Writes}
 use Rattle.sj_disk.proofs.Bytes.{element_bytes-same, length-element_bytes, length-header_bytes}
 
-the : (X : Type 0) → X → X
-the X x = x
-
 -- ---- lists
-
-pub map-at : {D : Type 0} (f : D → ℕ) (xs : List D) (i : ℕ) (x : D) → slice_get xs i ≡ Some x → get_or (map f xs) i 0 ≡ f x
-map-at f [] i x e = absurd (the ⊥ (cc))
-map-at f (y ∷ ys) zero x e = cc
-map-at f (y ∷ ys) (suc i) x e = map-at f ys i x e
 
 pub found : {D : Type 0} (xs : List D) (i : ℕ) → i < length xs → (x : D) × (slice_get xs i ≡ Some x)
 found [] i lt = absurd (omega arith)
@@ -51,23 +45,10 @@ get-set_other (x ∷ xs) zero (suc k) y ne = refl
 get-set_other (x ∷ xs) (suc i) zero y ne = refl
 get-set_other (x ∷ xs) (suc i) (suc k) y ne = get-set_other xs i k y (λ e. ne (ap suc e))
 
-pub same-map : {D : Type 0} (f : D → ℕ) (xs ys : List D) → length ys ≡ length xs → ((k : ℕ) (x y : D) → slice_get xs k ≡ Some x → slice_get ys k ≡ Some y → f y ≡ f x) → map f ys ≡ map f xs
-same-map f [] [] n h = refl
-same-map f [] (y ∷ ys) n h = absurd (omega arith)
-same-map f (x ∷ xs) [] n h = absurd (omega arith)
-same-map f (x ∷ xs) (y ∷ ys) n h =
-    let first : f y ≡ f x = h 0 x y refl refl in
-    let rest : map f ys ≡ map f xs = same-map f xs ys (omega arith) (λ k. h (suc k)) in
-    cc
-
 -- what is there is what it was said to be
 pub some-and : {X : Type 0} (P : X → Type 0) (o : Option X) (x : X) → o ≡ Some x → IsSomeAnd o P → P x
 some-and P None x e h = absurd (the ⊥ (cc))
 some-and P (Some y) x e h = subst P (the (y ≡ x) (cc)) h
-
-pub if-some : {X : Type 0} (P : X → Type 0) (o : Option X) (x : X) → o ≡ Some x → P x → IfSome o P
-if-some P None x e h = tt
-if-some P (Some y) x e h = subst P (the (x ≡ y) (cc)) h
 
 -- what is known of a cell's extent in a set's state is so of the one that was looked up in its directory
 pub looked-up : {D : Type 0} (P : Extent → Type 0) (slice inner : List (Option Extent)) (c : ℕ) (e : Extent) (t : DiskState D) → slice ≡ inner → inner ≡ t.directory → extent_of slice c ≡ Some e → IsSomeAnd (extent_of t.directory c) P → (extent_of inner c ≡ Some e) × (extent_of t.directory c ≡ Some e) × P e
@@ -171,7 +152,7 @@ module _ {D : Type 0} (size faults mismatches : D → ℕ) (held : D → Option 
       each P (λ x y. held y ≡ held x) d old new ch (λ x. refl) (λ x y e p. p.told_bytes_stay) in
       record {
         few = omega (arith, s.few, ch.as_many);
-        sized = s.sized ∙ sym (same-map size old new ch.as_many same_size);
+        sized = s.sized ∙ sym (map-places size old new ch.as_many same_size);
         bounded = s.bounded;
         filled = λ k y e.
             let x = before P d old new ch k y e in
@@ -201,16 +182,16 @@ module _ {D : Type 0} (size faults mismatches : D → ℕ) (held : D → Option 
   pub counts-look : (d : ℕ) (old new : List D) → ChangesAt d (Looks size faults mismatches held false false) old new → CountsStay faults mismatches old new
   counts-look d old new ch =
       let P : D → D → Type 0 = Looks size faults mismatches held false false in (
-        same-map faults old new ch.as_many (each P (λ x y. faults y ≡ faults x) d old new ch (λ x. refl) (λ x y e p. p.a_fault_is_counted_once)),
-        same-map mismatches old new ch.as_many (each P (λ x y. mismatches y ≡ mismatches x) d old new ch (λ x. refl) (λ x y e p. p.a_mismatch_is_counted_once)),
+        map-places faults old new ch.as_many (each P (λ x y. faults y ≡ faults x) d old new ch (λ x. refl) (λ x y e p. p.a_fault_is_counted_once)),
+        map-places mismatches old new ch.as_many (each P (λ x y. mismatches y ≡ mismatches x) d old new ch (λ x. refl) (λ x y e p. p.a_mismatch_is_counted_once)),
       )
 
   pub counts-write : {A : Type 0} (d at : ℕ) (bytes : List ℕ) (r : Result A DiskRefusal) (old new : List D) → ChangesAt d (Writes size faults mismatches held at bytes r) old new → OnOk r (CountsStay faults mismatches old new)
   counts-write d at bytes (Err e) old new ch = tt
   counts-write {A = A} d at bytes (Ok x) old new ch =
       let P : D → D → Type 0 = Writes {A = A} {E = DiskRefusal} size faults mismatches held at bytes (Ok x) in (
-        same-map faults old new ch.as_many (each P (λ x y. faults y ≡ faults x) d old new ch (λ x. refl) (λ x y e p. p.a_fault_is_counted_once)),
-        same-map mismatches old new ch.as_many (each P (λ x y. mismatches y ≡ mismatches x) d old new ch (λ x. refl) (λ x y e p. p.mismatches_stay)),
+        map-places faults old new ch.as_many (each P (λ x y. faults y ≡ faults x) d old new ch (λ x. refl) (λ x y e p. p.a_fault_is_counted_once)),
+        map-places mismatches old new ch.as_many (each P (λ x y. mismatches y ≡ mismatches x) d old new ch (λ x. refl) (λ x y e p. p.mismatches_stay)),
       )
 
   pub back-write : {A : Type 0} (d at : ℕ) (bytes : List ℕ) (r : Result A DiskRefusal) (old new : List D) → ChangesAt d (Writes size faults mismatches held at bytes r) old new → AreGivenBack size faults mismatches held old new
@@ -226,7 +207,7 @@ module _ {D : Type 0} (size faults mismatches : D → ℕ) (held : D → Option 
   -- the extent of a cell lies on a disk and within it
   pub inside-disk : (disks : List D) (sizes taken : List ℕ) (directory : List (Option Extent)) (c : ℕ) (e : Extent) (x : D) → IsSound size held disks sizes taken directory → extent_of directory c ≡ Some e → slice_get disks e.disk.0 ≡ Some x → e.position + block_bytes e.length ≤ size x
   inside-disk disks sizes taken directory c e x s ee ex =
-      let most : get_or sizes e.disk.0 0 ≡ size x = ap (λ ns. get_or ns e.disk.0 0) s.sized ∙ map-at size disks e.disk.0 x ex in
+      let most : get_or sizes e.disk.0 0 ≡ size x = ap (λ ns. get_or ns e.disk.0 0) s.sized ∙ get_or-map_at size disks e.disk.0 x ex in
       omega (arith, s.laid_out.inside c e ee, s.laid_out.within e.disk.0, most)
 
   pub inside-fits : (disks : List D) (sizes taken : List ℕ) (directory : List (Option Extent)) (c : ℕ) (e : Extent) → IsSound size held disks sizes taken directory → extent_of directory c ≡ Some e → e.position + block_bytes e.length < 2 ^ 64
@@ -347,7 +328,7 @@ module _ {D : Type 0} (size faults mismatches : D → ℕ) (held : D → Option 
     unfolding W after
     sound-store = record {
       few = omega (arith, s.few, ch.as_many);
-      sized = s.sized ∙ sym (same-map size old new ch.as_many same_size);
+      sized = s.sized ∙ sym (map-places size old new ch.as_many same_size);
       bounded = s.bounded;
       filled = λ k y ey.
           let x = before W e.disk.0 old new ch k y ey in

@@ -1,16 +1,15 @@
 -- Writes and looks in several calls.
 use Rattle.std.proofs.Common.{◌≡◌, ℕ, ◌+◌, ◌-◌, ◌≤◌, Bool, false, List, [], ◌++◌, length, take, drop, slice_range, refl, sym, ap, ◌∙◌, subst, append_assoc, arith, Option, Some, None, Result, Ok, Err, length-append}
-use Rattle.std.specs.Prelude.{replicate, option_map, OnOk, IsErr, IsTrue, is_err}
+use Rattle.std.specs.Prelude.{replicate, option_map, IsErr, IsTrue, is_err}
 use Rattle.std.proofs.Math.Seq.{take-add, take-append_seam, drop-append-add}
 use Rattle.std.proofs.lemmas.List.{drop-drop, take-append-drop, length-take-le, length-replicate, append-nil}
+use Rattle.std.proofs.lemmas.Result.{on_ok_weaker}
+use Rattle.sj_base.proofs.Options.{the}
 use Rattle.sj_edge.specs.declared.source.Failed.{Failed}
 use Rattle.sj_edge.specs.Faults.{Counts, counted}
 use Rattle.sj_edge.specs.Held.{Fills, GivesHeld, HoldsAnyIn, written}
 use Rattle.sj_edge.proofs.Ranges.{length-slice_range, range-rest}
 use Rattle.sj_disk.specs.Transfers.{Looks, Writes}
-
-the : (X : Type 0) → X → X
-the X x = x
 
 -- ---- bytes put into a list
 
@@ -91,10 +90,6 @@ gives-then (Some xs) at bs cs first second =
     ∙ sym (take-add n m (drop at xs))
     ∙ ap (λ k. take k (drop at xs)) (the (n + m ≡ at + length (bs ++ cs) - at) (omega (arith, length-append bs cs)))
 
-on_ok-map : {A E : Type 0} (r : Result A E) {P Q : Type 0} → (P → Q) → OnOk r P → OnOk r Q
-on_ok-map (Ok x) f p = f p
-on_ok-map (Err e) f p = p
-
 counts-same : (a b : ℕ) → b ≡ a → Counts a b (IsTrue false)
 counts-same a b e = record { never_falls = omega arith; only_where_it_rose = λ p. absurd (the ⊥ (cc)) }
 
@@ -121,7 +116,7 @@ module _ {D : Type 0} (size faults mismatches : D → ℕ) (held : D → Option 
   writes-then at bs cs x r a b c filled within first second = record {
     size_stays = second.size_stays ∙ first.size_stays;
     told_bytes_fill_the_size = λ f. second.told_bytes_fill_the_size (first.told_bytes_fill_the_size f);
-    puts_the_bytes = on_ok-map r (λ put. put ∙ ap (option_map (written (at + length bs) cs)) first.puts_the_bytes ∙ held-then (held a) bs cs at (size a) filled within) second.puts_the_bytes;
+    puts_the_bytes = on_ok_weaker r (λ put. put ∙ ap (option_map (written (at + length bs) cs)) first.puts_the_bytes ∙ held-then (held a) bs cs at (size a) filled within) second.puts_the_bytes;
     changes_no_byte_outside = subst (λ n. HoldsAnyIn at n (held a) (held c)) (sym (length-append bs cs)) (any-then (held a) (held b) (held c) bs at (length cs) (size a) filled within first.puts_the_bytes second.changes_no_byte_outside);
     a_fault_is_counted_once = second.a_fault_is_counted_once ∙ ap (λ n. counted n (is_err r)) first.a_fault_is_counted_once;
     fails_only_where_faults_rose = subst (λ n. Counts n (faults c) (IsErr r)) first.a_fault_is_counted_once second.fails_only_where_faults_rose;

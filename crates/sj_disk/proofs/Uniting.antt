@@ -2,6 +2,7 @@
 use Rattle.std.proofs.Common.{◌≡◌, ℕ, ◌+◌, ◌≤◌, Bool, true, false, ℤ, List, ◌++◌, length, take, drop, slice_range, w64, refl, sym, ap, ◌∙◌, subst, append_assoc, arith, Option, Some, None, Result, Ok, Err, length-append}
 use Rattle.std.specs.Prelude.{replicate, All, FitsSigned, IfErr, IsSome, IsTrue, is_ok, is_some, OnOk}
 use Rattle.std.proofs.lemmas.List.{length-replicate, take-append-drop}
+use Rattle.sj_base.proofs.Options.{the}
 use Rattle.sj_edge.specs.Held.{Fills, GivesHeld, HoldsAnyIn, written}
 use Rattle.sj_edge.proofs.Ranges.{length-slice_range, range-rest}
 use Rattle.sj_disk.specs.declared.directory.LastStore.{LastStore}
@@ -14,9 +15,6 @@ use Rattle.sj_disk.specs.Transfers.{Looks, Writes}
 use Rattle.sj_disk.specs.Units.{IsSoundUnit, IsWorkedOn, UnitFetches, UnitState, UnitStores, unit_state}
 use Rattle.sj_disk.proofs.Bytes.{length-element_bytes, length-header_bytes}
 use Rattle.sj_disk.proofs.Sounding.{back-same, gives-front, gives-same, gives-written, tells-still}
-
-the : (X : Type 0) → X → X
-the X x = x
 
 -- bytes that are as they were are any bytes in a range
 any-same : (h : Option (List ℕ)) (at n size : ℕ) → Fills h size → at + n ≤ size → HoldsAnyIn at n h h

@@ -1,6 +1,7 @@
 -- Where each cell's block lies, and what was last stored there.
-use Rattle.std.specs.Prelude.{◌≡◌, ◌≢◌, ℕ, ◌+◌, ◌<◌, ◌≤◌, ◌⊎◌, Bool, nat_le, Option, Some, None, List, length}
-use Rattle.std.specs.List.{slice_index_or, zip, position}
+use Rattle.std.specs.Prelude.{◌≡◌, ◌≢◌, ℕ, ◌+◌, ◌<◌, ◌≤◌, ◌⊎◌, Bool, Option, Some, None, List, length}
+use Rattle.std.specs.List.{slice_index_or, position}
+pub use Rattle.sj_base.specs.FirstFit.{first_fit}
 use Rattle.sj_disk.specs.declared.directory.Extent.{Extent}
 use Rattle.sj_disk.specs.declared.directory.LastStore.{LastStore}
 use Rattle.sj_disk.specs.Block.{block_bytes}
@@ -18,10 +19,6 @@ disk_state disks taken directory = record { disks = disks; taken = taken; direct
 -- the extent of the cell with this number, where it has one
 abbrev pub extent_of : List (Option Extent) → ℕ → Option Extent
 extent_of directory c = slice_index_or directory c None
-
--- the first disk that has so many bytes beside those already taken on it
-abbrev pub first_fit : List ℕ → List ℕ → ℕ → Option ℕ
-first_fit sizes taken need = position (λ d. nat_le (d.1 + need) d.0) (zip sizes taken)
 
 -- the extent behind what is taken of a disk, with nothing stored there
 abbrev pub extent_at : ℕ → ℕ → ℕ → Extent

@@ -8,7 +8,5 @@ pub mod header;
 pub mod lending_set;
 mod rack;
 pub mod refusal;
-#[cfg(test)]
-mod tests;
 mod transfer;
 pub mod unit;

@@ -15,5 +15,3 @@ pub mod sink;
 pub mod source;
 pub mod standard;
 pub mod sure;
-#[cfg(test)]
-mod tests;

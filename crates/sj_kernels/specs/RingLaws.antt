@@ -3,11 +3,10 @@ use Rattle.std.specs.Prelude.{◌≡◌, ℕ, ◌+◌, ◌/◌, ◌%◌, ◌<◌
 use Rattle.std.specs.Int.{w64}
 use Rattle.std.proofs.Common.{sym, ap, ◌∙◌, arith}
 use Rattle.std.proofs.lemmas.Int.{ints, int_wrap_fits, int_wrap-add_left, int_wrap-add_right, int_wrap-mul_right}
-use Rattle.std.proofs.lemmas.List.{length-map, length-append, get_or_append_left, get_or_at}
+use Rattle.std.proofs.lemmas.List.{get_or_append_left, get_or_at}
 use Rattle.std.proofs.lemmas.List.Elements.{All-get_or}
 use Rattle.std.proofs.lemmas.Nat.{div-add-mod'}
 use Rattle.std.proofs.lemmas.Bool.{false≢true, and_parts}
-use Rattle.std.proofs.lemmas.Bool.Decides.{nat_tests}
 use Rattle.sj_base.specs.declared.tile.Dims.{Dims}
 use Rattle.sj_base.specs.declared.mode.Reduction.{Reduction}
 use Rattle.sj_base.specs.declared.mode.Reduction.TheVariants.{Plus, Least}
@@ -17,11 +16,12 @@ use Rattle.sj_codelet.specs.declared.kernel.Kernel.TheVariants.{Scale, Add, Axpy
 use Rattle.sj_codelet.specs.Ring.{wrap, sum_below}
 use Rattle.sj_codelet.specs.Equations.{scale, add, axpy, gemm, gemm3, product, dot, sum}
 use Rattle.sj_codelet.specs.Kernel.{formals_of, operand, commutes_of, contributes_of, has_reduction}
-use Rattle.sj_codelet.specs.Laws.{IsTile, IsCall, result_of, DoCommute, DoesContribute, IsReduction}
+use Rattle.sj_codelet.specs.Laws.{IsTile, result_of, DoCommute, DoesContribute, IsReduction}
 use Rattle.sj_codelet.proofs.Integers.{int_mul_comm, int_mul_assoc, int_add-zero, int_zero-add}
 use Rattle.sj_codelet.proofs.Elements.{at-each, same_each, element-zeros}
 use Rattle.sj_codelet.proofs.Filling.{listing_from_elements}
 use Rattle.sj_codelet.specs.Listing.{listing}
+use Rattle.sj_codelet.proofs.Operands.{operands_before}
 use Rattle.sj_kernels.specs.Has.{ring_has}
 
 -- v with f added to it, position by position
@@ -91,18 +91,11 @@ adds Sum args before v c l =
     ap (λ (a : Array). sum a (operand (before ++ v ∷ []) 1)) (front before v 0 (omega arith)) ∙ ap (λ (a : Array). sum (operand before 0) a) (back before v 1 (omega arith))
 adds k args before v c l = cc
 
-count : (k : Kernel) (args : List ℤ) (before : List Array) (v : Array) → IsCall k args (before ++ v ∷ []) → length before + 1 ≡ length (formals_of k)
-count k args before v call =
-    let f = call.fits in
-    let n = length-map (before ++ v ∷ []) (λ (a : Array). a.dims) in
-    let m = length-append before (v ∷ []) in
-    grind (arith, nat_tests)
-
 pub sums_commute : (k : Kernel) → contributes_of k Plus ≡ true → DoCommute k
 sums_commute k c = record {
   either_order = λ args args' before before' v call call'.
-      let n = count k args before v call in
-      let n' = count k args' before' v call' in
+      let n = operands_before k args before v call in
+      let n' = operands_before k args' before' v call' in
       let f = added k args before v.dims in
       let g = added k args' before' v.dims in
       ap (λ (a : Array). result_of k args' before' a) (adds k args before v c n)
@@ -115,7 +108,7 @@ sums_commute k c = record {
 pub sums_contribute : (k : Kernel) → contributes_of k Plus ≡ true → DoesContribute k Plus
 sums_contribute k c = record {
   through_unit = λ args before v call.
-      let n = count k args before v call in
+      let n = operands_before k args before v call in
       adds k args before v c n
       ∙ plus_through_unit v (added k args before v.dims)
       ∙ sym (ap (λ (u : Array). add u v) (adds k args before (zeros v.dims) c n));
@@ -134,8 +127,8 @@ scale_swap a b v =
 pub scales_commute : DoCommute Scale
 scales_commute = record {
   either_order = λ args args' before before' v call call'.
-      let n = count Scale args before v call in
-      let n' = count Scale args' before' v call' in
+      let n = operands_before Scale args before v call in
+      let n' = operands_before Scale args' before' v call' in
       let one : (w : Array) → result_of Scale args before w ≡ scale (at args 0) w = λ w. ap (λ (a : Array). scale (at args 0) a) (back before w 0 (omega arith)) in
       let two : (w : Array) → result_of Scale args' before' w ≡ scale (at args' 0) w = λ w. ap (λ (a : Array). scale (at args' 0) a) (back before' w 0 (omega arith)) in
       two (result_of Scale args before v) ∙ ap (λ (a : Array). scale (at args' 0) a) (one v)

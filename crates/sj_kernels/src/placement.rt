@@ -91,8 +91,10 @@ fn row_start(a: i64, b: i64, r0: i64, c0: i64, cols: i64, i: u32) -> i64
 pub fn paste(window: Window, old: &[i64], old_dims: Dims, new: &mut [i64], new_dims: Dims)
     requires old_whole { length old.now ≡ area old_dims }
     requires new_whole { length new.old ≡ area new_dims }
-    requires from { IsTrue (lies_in window.old_row window.old_col window.rows window.cols old_dims) }
-    requires target { IsTrue (lies_in window.new_row window.new_col window.rows window.cols new_dims) }
+    requires from { IsTrue
+        (lies_in window.old_row window.old_col window.rows window.cols old_dims) }
+    requires target { IsTrue
+        (lies_in window.new_row window.new_col window.rows window.cols new_dims) }
     ensures { new.new ≡ (paste window (array old_dims old.now) (array new_dims new.old)).elements }
 {
     let n = window.cols as usize;

@@ -141,7 +141,8 @@ fn add_tile(a: &[i64], tile: &[i64], c: &mut [i64], sides: Sides, rows: Span, co
     requires right { length tile.now ≡ rows.len * columns.len }
     requires columns_within { columns.first + columns.len ≤ sides.n }
     requires target { length c.old ≡ sides.m * sides.n }
-    ensures { c.new ≡ listing (length c.old) (with_terms_within columns sides rows a.now tile.now c.old) }
+    ensures { c.new ≡ listing (length c.old)
+        (with_terms_within columns sides rows a.now tile.now c.old) }
 {
     let n = sides.n;
     let from = columns.first;
@@ -174,7 +175,8 @@ fn add_to_rows(a: &[i64], e: &[i64], tile: &[i64], c: &mut [i64], n: usize, colu
     requires two { length c.old ≡ n + n }
     requires within { columns.first + columns.len ≤ n }
     requires right { length tile.now ≡ length a.now * columns.len }
-    ensures { c.new ≡ listing n (row_within columns a.now tile.now c.old) ++ listing n (row_within columns e.now tile.now (drop n c.old)) }
+    ensures { c.new ≡ listing n (row_within columns a.now tile.now c.old)
+        ++ listing n (row_within columns e.now tile.now (drop n c.old)) }
 {
     let from = columns.first;
     let to = from + columns.len;
@@ -208,8 +210,12 @@ fn last_columns(a: &[i64], e: &[i64], b: &[i64], n: usize, j: usize, c: &mut [i6
     requires few { length c.old < 3 }
     requires as_wide { length d.old ≡ length c.old }
     requires last { j + length c.old ≡ n }
-    ensures first { c.new ≡ listing (length c.old) (λ q. column_sum n a.now b.now (j + q) (length a.now) (at c.old q)) }
-    ensures second { d.new ≡ listing (length d.old) (λ q. column_sum n e.now b.now (j + q) (length e.now) (at d.old q)) }
+    ensures first { c.new
+        ≡ listing (length c.old)
+        (λ q. column_sum n a.now b.now (j + q) (length a.now) (at c.old q)) }
+    ensures second { d.new
+        ≡ listing (length d.old)
+        (λ q. column_sum n e.now b.now (j + q) (length e.now) (at d.old q)) }
 {
     if c.len() == 2 {
         two_columns(a, e, b, n, j, c, d);
@@ -226,8 +232,10 @@ fn two_columns(a: &[i64], e: &[i64], b: &[i64], n: usize, j: usize, c: &mut [i64
     requires within { j + 2 ≤ n }
     requires two { length c.old ≡ 2 }
     requires two_more { length d.old ≡ 2 }
-    ensures first { c.new ≡ listing 2 (λ q. column_sum n a.now b.now (j + q) (length a.now) (at c.old q)) }
-    ensures second { d.new ≡ listing 2 (λ q. column_sum n e.now b.now (j + q) (length e.now) (at d.old q)) }
+    ensures first { c.new
+        ≡ listing 2 (λ q. column_sum n a.now b.now (j + q) (length a.now) (at c.old q)) }
+    ensures second { d.new
+        ≡ listing 2 (λ q. column_sum n e.now b.now (j + q) (length e.now) (at d.old q)) }
 {
     let (mut c0, mut c1) = (c[0], c[1]);
     let (mut d0, mut d1) = (d[0], d[1]);
@@ -252,8 +260,10 @@ fn block(a: &[i64], e: &[i64], b: &[i64], n: usize, j: usize, c: &mut [i64], d: 
     requires within { j + 3 ≤ n }
     requires three { length c.old ≡ 3 }
     requires three_more { length d.old ≡ 3 }
-    ensures first { c.new ≡ listing 3 (λ q. column_sum n a.now b.now (j + q) (length a.now) (at c.old q)) }
-    ensures second { d.new ≡ listing 3 (λ q. column_sum n e.now b.now (j + q) (length e.now) (at d.old q)) }
+    ensures first { c.new
+        ≡ listing 3 (λ q. column_sum n a.now b.now (j + q) (length a.now) (at c.old q)) }
+    ensures second { d.new
+        ≡ listing 3 (λ q. column_sum n e.now b.now (j + q) (length e.now) (at d.old q)) }
 {
     let mut upper = Sums {
         left: c[0],

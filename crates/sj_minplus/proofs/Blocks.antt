@@ -9,10 +9,9 @@ use Rattle.sj_codelet.specs.declared.kernel.Kernel.{Kernel}
 use Rattle.sj_codelet.specs.declared.kernel.Kernel.TheVariants.{FwDiag, FwRow, FwCol}
 use Rattle.sj_codelet.specs.Frame.{Slot, Frame, own, arrays, all_dims}
 use Rattle.sj_codelet.specs.Kernel.{formals_of, dims_at, is_square, new_arrays, operand}
-use Rattle.sj_codelet.specs.Equations.{fwdiag, fwrow, fwcol}
+use Rattle.sj_codelet.specs.Equations.{fwdiag, fwrow, fwcol, matrix}
 use Rattle.sj_codelet.specs.Runs.{IsReadyOf, IsRunOf}
 use Rattle.sj_codelet.proofs.Operands.{writes_last, operands_are, dims_go, dims_at-all_dims, tile_is, last_is, with_all, ran}
-use Rattle.sj_minplus.specs.Matrix.{matrix}
 use Rattle.sj_minplus.specs.Turns.{diagonal_turn, row_turn, column_turn}
 use Rattle.sj_minplus.proofs.Turns.{dims-after_turns}
 

@@ -1,12 +1,13 @@
 -- Matrices that a loop rewrites one row after another.
-use Rattle.std.proofs.Common.{◌≡◌, ℕ, zero, suc, ◌+◌, ◌-◌, ◌*◌, ◌/◌, ◌%◌, ◌<◌, ◌≤◌, length, List, ◌++◌, take, drop, ℤ, pos, arith, ◌∙◌, sym, ap, refl, ⊎_elim}
+use Rattle.std.proofs.Common.{◌≡◌, ℕ, ◌+◌, ◌-◌, ◌*◌, ◌/◌, ◌%◌, ◌<◌, ◌≤◌, length, List, ◌++◌, take, drop, ℤ, pos, arith, ◌∙◌, sym, ap, refl, ⊎_elim}
 use Rattle.std.proofs.lemmas.List.{get_or_append_left, get_or-append_right, get_or-take, get_or-drop, length-take-le, length-take, length-drop}
 use Rattle.std.proofs.lemmas.List.FromFn.{fill_by_all}
 use Rattle.std.proofs.lemmas.Nat.{mul-add-lt, div-mul-add, mod-mul-add, div-add-mod', div_below, mod_below}
-use Rattle.std.proofs.Math.Nat.{mul_comm, mul-zero}
+use Rattle.std.proofs.Math.Nat.{mul_comm}
 use Rattle.std.proofs.lemmas.Bool.{cases_lt}
 use borrow.Rule.Slice.PartMut.{put_mid}
 use Rattle.sj_base.specs.Array.{at, grid}
+use Rattle.sj_base.proofs.Numbers.{some_factor}
 
 -- ---- a list whose part from a on, k long, was written anew
 
@@ -84,15 +85,11 @@ row_rest g n i old xs rows j = rows.rest (i * n + j) (omega arith)
 
 -- ---- a whole matrix
 
-some_column : (m n p : ℕ) → p < m * n → 0 < n
-some_column m zero p h = omega (arith, mul-zero m)
-some_column m (suc n) p h = omega arith
-
 -- a list of m rows of n elements, known by row and column
 pub grid_by_rows : (g : ℕ → ℕ → ℤ) (m n : ℕ) (xs : List ℤ) → length xs ≡ m * n → ((i j : ℕ) → i < m → j < n → at xs (i * n + j) ≡ g i j) → xs ≡ (grid (record { rows = m; cols = n }) g).elements
 grid_by_rows g m n xs long h =
     fill_by_all (λ p. g (p / n) (p % n)) xs (m * n) (pos 0) long (λ p below.
-    let wide : 0 < n = some_column m n p below in
+    let wide : 0 < n = some_factor m n p below in
     ap (at xs) (sym (div-add-mod' p n)) ∙ h (p / n) (p % n) (div_below p n m wide below) (mod_below p n wide))
 
 pub rows_all : (g : ℕ → ℕ → ℤ) (m n : ℕ) (old xs : List ℤ) → length xs ≡ m * n → HasRows g n old xs m → xs ≡ (grid (record { rows = m; cols = n }) g).elements

@@ -8,9 +8,8 @@ use Rattle.std.proofs.lemmas.Bool.{cases_lt}
 use Rattle.sj_base.specs.declared.tile.Dims.{Dims}
 use Rattle.sj_base.specs.Array.{Array, at, area, each, element}
 use Rattle.sj_codelet.specs.MinPlus.{plus}
-use Rattle.sj_codelet.specs.Equations.{after_turns}
+use Rattle.sj_codelet.specs.Equations.{after_turns, matrix}
 use Rattle.sj_codelet.proofs.Elements.{at-each, length-each}
-use Rattle.sj_minplus.specs.Matrix.{matrix}
 use Rattle.sj_minplus.specs.Short.{NotNegative}
 use Rattle.sj_minplus.specs.Turns.{diagonal_turn, row_turn, column_turn}
 use Rattle.sj_minplus.proofs.Rows.{all_from}

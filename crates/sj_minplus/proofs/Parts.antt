@@ -6,7 +6,7 @@ use Rattle.std.proofs.Math.Nat.{one-mul}
 use Rattle.std.proofs.lemmas.Bool.{cases_order}
 use Rattle.sj_base.specs.Array.{at, grid}
 use Rattle.sj_codelet.specs.MinPlus.{plus}
-use Rattle.sj_minplus.specs.Matrix.{matrix}
+use Rattle.sj_codelet.specs.Equations.{matrix}
 use Rattle.sj_minplus.specs.Turns.{diagonal_turn, column_turn}
 use Rattle.sj_minplus.proofs.Matrices.{place_below, grid_by_rows}
 

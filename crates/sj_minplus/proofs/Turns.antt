@@ -1,8 +1,7 @@
 -- Turns one after another over a list.
 use Rattle.std.proofs.Common.{◌≡◌, ℕ, zero, suc, ◌+◌, List, ℤ, ◌∙◌, sym, ap, refl, add-one}
 use Rattle.sj_base.specs.Array.{Array, array}
-use Rattle.sj_codelet.specs.Equations.{after_turns}
-use Rattle.sj_minplus.specs.Matrix.{matrix}
+use Rattle.sj_codelet.specs.Equations.{after_turns, matrix}
 
 -- a turn keeps the dimensions
 abbrev pub KeepsDims : (ℕ → Array → Array) → Type 0

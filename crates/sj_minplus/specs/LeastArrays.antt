@@ -1,14 +1,14 @@
 -- The laws of the codelets of `least`, on arrays.
-use Rattle.std.proofs.Common.{◌≡◌, ℕ, zero, suc, ◌/◌, ◌%◌, ◌<◌, ℤ, length, refl, sym, ap, ◌∙◌, arith, pos, map, ◌≤ℤ◌}
+use Rattle.std.proofs.Common.{◌≡◌, ℕ, zero, suc, ◌/◌, ◌%◌, ◌<◌, ℤ, length, refl, sym, ap, ◌∙◌, arith, pos, ◌≤ℤ◌}
 use Rattle.std.specs.Int.{int_min}
-use Rattle.std.specs.List.{range_with_len}
 use Rattle.std.proofs.lemmas.Int.{ints, clamps}
-use Rattle.std.proofs.lemmas.List.FromFn.{fill_by_all, length-map-range_with_len, get_or-map-range_with_len}
+use Rattle.std.proofs.lemmas.List.FromFn.{fill_by_all}
 use Rattle.std.proofs.lemmas.Nat.{div-add-mod'}
 use Rattle.sj_base.specs.declared.tile.Dims.{Dims}
 use Rattle.sj_base.specs.Array.{Array, array, area, at, element, each, grid}
 use Rattle.sj_codelet.specs.MinPlus.{inf, plus, least_below}
 use Rattle.sj_codelet.specs.Equations.{lowest, mingemm, all_inf}
+use Rattle.sj_codelet.proofs.Elements.{at-each, same_each}
 use Rattle.sj_minplus.specs.Matrix.{least_entry}
 
 -- ---- numbers
@@ -44,13 +44,6 @@ least_swap (suc n) m z f g =
     ap (λ x. int_min x (g n)) (least_swap n m z f g) ∙ sym (least_last m (least_below n z g) (g n) f)
 
 -- ---- arrays
-
-pub at-each : (d : Dims) (f : ℕ → ℤ) (p : ℕ) → p < area d → at (each d f).elements p ≡ f p
-at-each d f p h = get_or-map-range_with_len f 0 (area d) p p (pos 0) h (omega arith)
-
-pub same_each : (d : Dims) (f g : ℕ → ℤ) → ((p : ℕ) → p < area d → f p ≡ g p) → each d f ≡ each d g
-same_each d f g h =
-    ap (array d) (fill_by_all g (map f (range_with_len 0 (area d))) (area d) (pos 0) (length-map-range_with_len f 0 (area d)) (λ p l. at-each d f p l ∙ h p l))
 
 element-grid : (d : Dims) (g : ℕ → ℕ → ℤ) (p : ℕ) → p < area d → element (grid d g) (p / d.cols) (p % d.cols) ≡ g (p / d.cols) (p % d.cols)
 element-grid d g p h =

@@ -2,15 +2,12 @@
 use Rattle.std.proofs.Common.{◌≡◌, ◌+◌, ◌≤ℤ◌, List, [], ◌∷◌, ◌++◌, ℤ, pos, negsuc, length, sym, arith, FitsSigned}
 use Rattle.std.specs.Int.{w64}
 use Rattle.std.proofs.lemmas.Int.{ints}
-use Rattle.std.proofs.lemmas.List.{length-map, length-append}
-use Rattle.std.proofs.lemmas.Bool.Decides.{nat_tests}
 use Rattle.sj_base.specs.declared.mode.Reduction.TheVariants.{Least}
 use Rattle.sj_base.specs.Array.{Array, at}
-use Rattle.sj_codelet.specs.declared.kernel.Kernel.{Kernel}
 use Rattle.sj_codelet.specs.declared.kernel.Kernel.TheVariants.{Lowest, MinGemm}
 use Rattle.sj_codelet.specs.MinPlus.{inf}
-use Rattle.sj_codelet.specs.Kernel.{formals_of}
 use Rattle.sj_codelet.specs.Laws.{IsTile, IsCall, result_of, unit_of, combined, DoCommute, DoesContribute, IsReduction}
+use Rattle.sj_codelet.proofs.Operands.{operands_before}
 use Rattle.sj_minplus.specs.LeastArrays.{IsBelowInf, lowest_comm, lowest_assoc, lowest_unit, lowest_swap, lowest_contributes, mingemm_swap, mingemm_contributes}
 
 pub below_inf : (z : ℤ) → FitsSigned w64 z → z ≤ℤ inf
@@ -22,13 +19,6 @@ tile_below x t = record {
   below = λ p l. below_inf (at x.elements p) (t.in_range p (pos 0) (omega (arith, t.whole)));
   whole = t.whole;
 }
-
-operands_before : (k : Kernel) (args : List ℤ) (before : List Array) (v : Array) → IsCall k args (before ++ v ∷ []) → length before + 1 ≡ length (formals_of k)
-operands_before k args before v h =
-    let f = h.fits in
-    let m = length-map (before ++ v ∷ []) (λ (a : Array). a.dims) in
-    let n = length-append before (v ∷ []) in
-    grind (arith, nat_tests)
 
 -- ---- lowest
 

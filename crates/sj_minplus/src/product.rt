@@ -4,8 +4,7 @@ ghost use Rattle.std.specs.Prelude.{◌≡◌, ℕ, ◌+◌, ◌*◌, ◌<◌, l
 ghost use Rattle.std.specs.List.{All};
 ghost use Rattle.sj_base.specs.Array.{at};
 ghost use Rattle.sj_codelet.specs.MinPlus.{plus, least_below};
-ghost use Rattle.sj_codelet.specs.Equations.{mingemm};
-ghost use Rattle.sj_minplus.specs.Matrix.{matrix};
+ghost use Rattle.sj_codelet.specs.Equations.{matrix, mingemm};
 ghost use Rattle.sj_minplus.specs.Short.{IsShort, NotNegative, IsNegative, raised};
 
 use crate::row::relax;

@@ -7,8 +7,7 @@ ghost use Rattle.std.specs.Int.{int_min};
 ghost use Rattle.std.specs.List.{All};
 ghost use Rattle.sj_base.specs.Array.{at};
 ghost use Rattle.sj_codelet.specs.MinPlus.{plus};
-ghost use Rattle.sj_codelet.specs.Equations.{fwdiag, fwrow, fwcol};
-ghost use Rattle.sj_minplus.specs.Matrix.{matrix};
+ghost use Rattle.sj_codelet.specs.Equations.{matrix, fwdiag, fwrow, fwcol};
 ghost use Rattle.sj_minplus.specs.Short.{IsShort, NotNegative};
 ghost use Rattle.sj_minplus.specs.Turns.{diagonal_turn, row_turn, column_turn};
 

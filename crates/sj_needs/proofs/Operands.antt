@@ -9,34 +9,9 @@ use Rattle.sj_base.specs.declared.mode.Access.{Access}
 use Rattle.sj_base.specs.declared.program.Lowered.{Lowered}
 use Rattle.sj_base.specs.declared.program.Program.{Program}
 use Rattle.sj_codelet.specs.Kernel.{arguments_fit, dims_fit, formals_of}
-use Rattle.sj_codelet.specs.declared.kernel.Kernel.{Kernel}
-use Rattle.sj_codelet.specs.declared.kernel.Kernel.TheVariants.{Fill, Copy, Scale, Add, Axpy, Butterfly, Gemm, GemmThree, Transpose, Dot, Sum, Lowest, MinGemm, FwDiag, FwRow, FwCol, Load, LoadFill, Paste, Deliver, InitPlus, InitLeast}
+use Rattle.sj_codelet.proofs.Table.{few-formals}
 use Rattle.sj_core.specs.Program.{dims_of, no_task, task_of}
 use Rattle.sj_core.specs.Proper.{Fits, Proper}
-
-few-formals : (k : Kernel) → length (formals_of k) ≤ 5
-few-formals Fill = omega arith
-few-formals Copy = omega arith
-few-formals Scale = omega arith
-few-formals Add = omega arith
-few-formals Axpy = omega arith
-few-formals Butterfly = omega arith
-few-formals Gemm = omega arith
-few-formals GemmThree = omega arith
-few-formals Transpose = omega arith
-few-formals Dot = omega arith
-few-formals Sum = omega arith
-few-formals Lowest = omega arith
-few-formals MinGemm = omega arith
-few-formals FwDiag = omega arith
-few-formals FwRow = omega arith
-few-formals FwCol = omega arith
-few-formals Load = omega arith
-few-formals LoadFill = omega arith
-few-formals Paste = omega arith
-few-formals Deliver = omega arith
-few-formals InitPlus = omega arith
-few-formals InitLeast = omega arith
 
 fitting-few : (p : Program) (l : Lowered) → Fits p l → length l.accesses ≤ 5
 fitting-few p l fit =

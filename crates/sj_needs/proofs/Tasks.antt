@@ -5,10 +5,8 @@ use Rattle.std.proofs.Math.Seq.{drop-cons, drop-length}
 use Rattle.std.proofs.lemmas.List.FromFn.{get_or-map-range_with_len, length-map-range_with_len}
 use Rattle.sj_base.specs.declared.ids.Task.{Task}
 use Rattle.sj_base.specs.declared.program.Program.{Program}
+use Rattle.sj_base.proofs.Options.{the}
 use Rattle.sj_core.specs.Program.{tasks_of}
-
-the : (X : Type 0) → X → X
-the X x = x
 
 module _ (p : Program) (test : Task → Bool) where
   -- the tasks from one on begin with it

@@ -6,5 +6,3 @@ pub mod footprint;
 pub mod room;
 pub mod shortage;
 pub mod swap;
-#[cfg(test)]
-mod tests;

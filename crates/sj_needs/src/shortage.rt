@@ -39,7 +39,8 @@ impl From<OutOfMemory> for Shortage {
 /// The first task that needs more than so many bytes. Linear in the tasks before it; no memory.
 fn first_above(program: &Program, room: u64) -> Option<Task>
     requires { Proper program.now }
-    ensures first { result ≡ find (λ t. nat_lt room (footprint program.now t)) (tasks_of program.now) }
+    ensures first { result
+        ≡ find (λ t. nat_lt room (footprint program.now t)) (tasks_of program.now) }
     ensures task { IfSome result (λ t. t.0 < length program.now.tasks) }
 {
     for i in 0..program.tasks.len() {
@@ -81,8 +82,8 @@ fn swap_too_small(program: &Program, disks: &[u64]) -> Shortage
 ///
 /// # Errors
 ///
-/// The first task that fits no node with a worker, by its line and its bytes; else the bytes of all blocks and of all disks, where
-/// the blocks have no places; or that an allocation was refused.
+/// The first task that fits no node with a worker, by its line and its bytes; else the bytes of all blocks and of all disks,
+/// where the blocks have no places; or that an allocation was refused.
 pub fn fits(alloc: Global, program: &Program, machine: &Machine) -> Result<(), Shortage>
     requires program { Proper program.now }
     requires machine { IsMachineFor program.now machine.now }

@@ -7,7 +7,8 @@ use Rattle.std.proofs.lemmas.List.Elements.{All-head, All-tail, All-filter}
 use Rattle.std.proofs.lemmas.List.Folds.{fold-map}
 use Rattle.std.proofs.lemmas.List.Sums.{sum_by-cons}
 use Rattle.sj_base.specs.declared.ids.Cell.{Cell}
-use Rattle.sj_node.specs.Entry.{Entry, without_all, same_cell}
+use Rattle.sj_base.specs.Ids.{same_cell}
+use Rattle.sj_node.specs.Entry.{Entry, without_all}
 use Rattle.sj_node.specs.Victims.{covers, shortest_suffix, victims}
 
 abbrev pub cells_of : List Entry → List Cell

@@ -2,7 +2,7 @@
 use Rattle.std.proofs.Common.{◌≡◌, ℕ, zero, suc, ◌+◌, ◌<◌, ◌≤◌, Bool, true, false, not, ◌||◌, ◌&&◌, cond, List, [], ◌∷◌, ◌++◌, filter, fold, length, take, take_all, get_or, sum, refl, sym, ap, ◌∙◌, subst, append_assoc, arith}
 use Rattle.std.specs.List.{All, AllByRecursion, list_any, zip}
 use Rattle.std.specs.Map.{keys_of, values_of}
-use Rattle.std.proofs.lemmas.Bool.{eqb-true, eqb-false, ne_eqb, eq-eqb, or_parts, or_from, or_left, or_right, false_from_ne_true}
+use Rattle.std.proofs.lemmas.Bool.{eqb-true, eq-eqb, or_parts, or_from, or_left, or_right, false_from_ne_true}
 use Rattle.std.proofs.lemmas.List.{take-map, length-take-le}
 use Rattle.std.proofs.lemmas.Map.Entries.{length-keys_of}
 use Rattle.std.proofs.lemmas.Map.Keys.{IsDistinct-head, IsDistinct-tail}
@@ -12,7 +12,9 @@ use Rattle.std.proofs.lemmas.List.Filters.{sum_by-filter_both}
 use Rattle.std.proofs.lemmas.List.Folds.{list_any-append, list_any_more, list_any_none}
 use Rattle.std.proofs.lemmas.List.Sums.{sum_by-append, sum_by-cons, fold_more}
 use Rattle.sj_base.specs.declared.ids.Cell.{Cell}
-use Rattle.sj_node.specs.Entry.{Entry, unpinned, is_of, is_among, same_cell, AreDistinct, has_entry, total, to_front, repinned, without, without_all, put_all}
+use Rattle.sj_base.specs.Ids.{same_cell}
+use Rattle.sj_base.proofs.SameIds.{same_cell-turned}
+use Rattle.sj_node.specs.Entry.{Entry, unpinned, is_of, is_among, AreDistinct, has_entry, total, to_front, repinned, without, without_all, put_all}
 
 -- ---- one change keeps the bytes
 
@@ -112,15 +114,12 @@ put_news-undone cells bytes i es paired absent =
     let keys = keys_of-take_zip cells bytes i paired in
     subst (λ cs. without_all cs (put_news es (take i (zip cells bytes))) ≡ es) keys (undone (take i (zip cells bytes)) es (subst (All (λ c. has_entry es c ≡ false)) (sym keys) (All-take (λ c. has_entry es c ≡ false) i cells absent)))
 
-flipped : (a b : Cell) → same_cell a b ≡ false → same_cell b a ≡ false
-flipped a b h = ne_eqb b.0 a.0 (λ e. eqb-false a.0 b.0 h (sym e))
-
 apart_at : (cells : List Cell) (i : ℕ) (d : Cell) → AreDistinct cells → i < length cells → AllByRecursion (λ k. same_cell (get_or cells i d) k ≡ false) (take i cells)
 apart_at [] i d apart within = absurd (omega arith)
 apart_at (c ∷ cells) zero d apart within = tt
 apart_at (c ∷ cells) (suc i) d apart within =
     let inside : i < length cells = omega arith in (
-      flipped c (get_or cells i d) (All-get_or (λ k. same_cell c k ≡ false) cells i d inside (All-from_recursion (λ k. same_cell c k ≡ false) cells (IsDistinct-head same_cell c cells apart))),
+      same_cell-turned c (get_or cells i d) (All-get_or (λ k. same_cell c k ≡ false) cells i d inside (All-from_recursion (λ k. same_cell c k ≡ false) cells (IsDistinct-head same_cell c cells apart))),
       apart_at cells i d (IsDistinct-tail same_cell c cells apart) inside,
     )
 

@@ -3,7 +3,8 @@ use Rattle.std.specs.Prelude.{ℕ, Bool, not, ◌&&◌, nat_eq, Option, option_m
 use Rattle.std.specs.List.{IsDistinct, list_any, find, zip}
 use Rattle.std.specs.Option.{option_map_or}
 use Rattle.sj_base.specs.declared.ids.Cell.{Cell}
-use Rattle.sj_node.specs.Victims.{victims}
+use Rattle.sj_base.specs.Ids.{same_cell}
+use Rattle.sj_base.specs.Victims.{victims}
 
 pub record Entry : Type 0 where
   pub cell : Cell
@@ -23,9 +24,6 @@ abbrev pub is_unpinned : Entry → Bool
 is_unpinned e = nat_eq e.pins 0
 
 -- ---- lists of cells
-
-abbrev pub same_cell : Cell → Cell → Bool
-same_cell a b = nat_eq a.0 b.0
 
 -- no cell comes twice
 abbrev pub AreDistinct : List Cell → Type 0

@@ -57,7 +57,8 @@ impl Entries {
     pub fn put(&mut self, cell: Cell, bytes: u64) -> Result<(), OutOfMemory>
         requires absent { has_entry self.old.order cell ≡ false }
         requires few { length self.old.order < self.old.limit }
-        ensures ok { OnOk result (self.new ≡ listed (unpinned cell bytes ∷ self.old.order) self.old.limit) }
+        ensures ok { OnOk result
+            (self.new ≡ listed (unpinned cell bytes ∷ self.old.order) self.old.limit) }
         ensures err { OnErr result (self.new ≡ self.old) }
     {
         self.cache.put(cell.0, Room { bytes, pins: 0 })?;
@@ -90,7 +91,8 @@ impl Entries {
         requires absent { All (λ c. has_entry self.old.order c ≡ false) cells.now }
         requires paired { length cells.now ≡ length bytes.now }
         requires few { length self.old.order + length cells.now ≤ self.old.limit }
-        ensures ok { OnOk result (self.new ≡ listed (put_all cells.now bytes.now self.old.order) self.old.limit) }
+        ensures ok { OnOk result
+            (self.new ≡ listed (put_all cells.now bytes.now self.old.order) self.old.limit) }
         ensures err { OnErr result (self.new ≡ self.old) }
     {
         for i in 0..cells.len() {
@@ -118,7 +120,9 @@ impl Entries {
         free: u64,
         need: u64,
     ) -> Result<Option<Vec<Cell>>, OutOfMemory>
-        ensures { IfOk result (λ found. option_map (λ v. v.items) found ≡ victim_cells held.now self.now.order free need) }
+        ensures { IfOk result
+            (λ found. option_map (λ v. v.items) found
+            ≡ victim_cells held.now self.now.order free need) }
     {
         let mut found = Vec::new(alloc);
         let mut lacking = need.saturating_sub(free);

@@ -5,5 +5,3 @@
 
 mod entries;
 pub mod store;
-#[cfg(test)]
-mod tests;

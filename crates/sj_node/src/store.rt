@@ -65,7 +65,8 @@ impl NodeStore {
         requires absent { has_entry self.old.entries cell ≡ false }
         requires fits { bytes ≤ free self.old }
         requires few { length self.old.entries < self.old.limit }
-        ensures ok { OnOk result (self.new ≡ with_entries self.old (unpinned cell bytes ∷ self.old.entries)) }
+        ensures ok { OnOk result
+            (self.new ≡ with_entries self.old (unpinned cell bytes ∷ self.old.entries)) }
         ensures err { OnErr result (self.new ≡ self.old) }
     {
         self.entries.put(cell, bytes)?;
@@ -86,9 +87,12 @@ impl NodeStore {
         requires cells_differ { AreDistinct cells.now }
         requires cells_absent { All (λ c. has_entry self.old.entries c ≡ false) cells.now }
         requires paired { length cells.now ≡ length bytes.now }
-        requires fits { sum bytes.now ≤ free (with_entries self.old (without_all victims.now self.old.entries)) }
+        requires fits { sum bytes.now
+            ≤ free (with_entries self.old (without_all victims.now self.old.entries)) }
         requires few { length self.old.entries + length cells.now ≤ self.old.limit }
-        ensures ok { OnOk result (self.new ≡ with_entries self.old (admitted victims.now cells.now bytes.now self.old.entries)) }
+        ensures ok { OnOk result
+            (self.new ≡ with_entries self.old
+            (admitted victims.now cells.now bytes.now self.old.entries)) }
         ensures err { OnErr result (self.new ≡ self.old) }
     {
         self.entries.put_all(cells, bytes)?;
@@ -108,7 +112,8 @@ impl NodeStore {
         held: &[Cell],
         need: u64,
     ) -> Result<Option<Vec<Cell>>, OutOfMemory>
-        ensures { IfOk result (λ found. option_map (λ v. v.items) found ≡ victims_of held.now self.now need) }
+        ensures { IfOk result
+            (λ found. option_map (λ v. v.items) found ≡ victims_of held.now self.now need) }
     {
         self.entries.victims(alloc, held, self.free(), need)
     }

@@ -11,13 +11,14 @@ use Rattle.sj_base.specs.declared.tile.Dims.{Dims}
 use Rattle.sj_base.specs.Array.{Array, element, zeros}
 use Rattle.sj_base.specs.Window.{in_rect}
 use Rattle.sj_base.proofs.Tables.{item-table, length-table}
+use Rattle.sj_base.proofs.Lists.{each-weaker, list_any-map, list_any-filter, counted_some}
 use Rattle.sj_plan.specs.declared.interval.Interval.{Interval}
 use Rattle.sj_plan.specs.declared.rect.Rect.{Rect}
 use Rattle.sj_plan.specs.Interval.{Lies, shared}
 use Rattle.sj_plan.specs.Rect.{holds, rows_of, cols_of, dims_of, Within, Overlap}
 use Rattle.sj_plan.specs.Window.{window, IsWhole}
 use Rattle.sj_plan.specs.Pieces.{IsTiling, AreInOrder, Precedes, Pieces, rects_of, Copy, copy_between, has_elements, copies_to, copies, begins, copied, all_copied, BeginOnce, after_copy, after_copies}
-use Rattle.sj_plan.proofs.Lists.{any-map, any-filter, any-implied, any_counted, each-all, each-of, each-map, each-filter, filter_all, filter_gone, Ordered, ordered-from_map, ordered-from_pairs}
+use Rattle.sj_plan.proofs.Lists.{any-implied, each-of, each-map, each-filter, filter_all, filter_gone, Ordered, ordered-from_map, ordered-from_pairs}
 use Rattle.sj_plan.proofs.Windows.{cond_same, cond_twice, element-window, holds-true, Holds-from_true, IsWhole-tabulate, same_arrays}
 
 -- ---- one copy
@@ -168,8 +169,8 @@ copies_to-cover d olds news to i j tiling within in_rows in_cols =
     let make = copy_between olds news in
     let test = λ (r : Rect). holds r (n.row + i) (n.col + j) in
     let once = tiling.once (n.row + i) (n.col + j) (omega (arith, within.0)) (omega (arith, within.1)) in
-    let held = sym (any-map test olds.rect olds.names) ∙ any_counted test (rects_of olds) (omega arith) in
-    any-filter (covers i j) has_elements (map (λ from. make from to) olds.names) ∙ any-map (λ c. has_elements c && covers i j c) (λ from. make from to) olds.names
+    let held = sym (list_any-map test olds.rect olds.names) ∙ counted_some test (rects_of olds) (omega arith) in
+    list_any-filter (covers i j) has_elements (map (λ from. make from to) olds.names) ∙ list_any-map (λ c. has_elements c && covers i j c) (λ from. make from to) olds.names
     ∙ any-implied (λ from. test (olds.rect from)) (λ from. has_elements (make from to) && covers i j (make from to)) (λ from h. copy_between-covers olds news from to i j in_rows in_cols h) olds.names held
 
 -- ---- the first copy to a rectangle
@@ -230,7 +231,7 @@ module _ {C : Type 0} (olds news : Pieces C) (to : C) (some_rows : 0 < (news.rec
   begin_step from names before further true held some =
       let here = begins_here from held in
       let Later : Copy C → Type 0 = λ c. begins c ≡ false in
-      let later = each-filter Later has_elements (map made names) (each-map (λ c. has_elements c ≡ true → Later c) made names (each-all (Before from) (λ x. has_elements (made x) ≡ true → Later (made x)) (λ x b _. begins_later from x held b) names before)) in
+      let later = each-filter Later has_elements (map made names) (each-map (λ c. has_elements c ≡ true → Later c) made names (each-weaker (Before from) (λ x. has_elements (made x) ≡ true → Later (made x)) (λ x b _. begins_later from x held b) names before)) in
       subst BeginOnce (sym (cond-true (has_elements (made from)) (made from ∷ of_names names) (of_names names) here.0)) (here.1, All-from_recursion Later (of_names names) later)
   begin_step from names before further false held some =
       let found = Any-from_list_any holds_first names some in
@@ -247,7 +248,7 @@ module _ {C : Type 0} (olds news : Pieces C) (to : C) (some_rows : 0 < (news.rec
       let n = news.rect to in
       let test = λ (r : Rect). holds r n.row n.col in
       let once = tiling.once n.row n.col (omega (arith, within.0)) (omega (arith, within.1)) in
-      let held = sym (any-map test olds.rect olds.names) ∙ any_counted test (rects_of olds) (omega arith) in
+      let held = sym (list_any-map test olds.rect olds.names) ∙ counted_some test (rects_of olds) (omega arith) in
       begin olds.names (ordered-from_map Precedes olds.rect olds.names (ordered-from_pairs Precedes (rects_of olds) order)) held
 
 -- ---- what they make
@@ -267,7 +268,7 @@ copies_to-make {C} d olds news to a old new tiling order within some_rows some_c
     let target = element a (n.row + i) (n.col + j) in
     let Q : C → Type 0 = λ c. old c ≡ window a (olds.rect c) in
     let right : AllByRecursion (Right old target i j) cs = each-filter (Right old target i j) has_elements (map (λ from. copy_between olds news from to) olds.names)
-    (each-map (λ c. has_elements c ≡ true → Right old target i j c) (λ from. copy_between olds news from to) olds.names (each-all Q (λ from. has_elements (copy_between olds news from to) ≡ true → Right old target i j (copy_between olds news from to)) (λ from is _. copy_between-right olds news a old from to i j is) olds.names are)) in
+    (each-map (λ c. has_elements c ≡ true → Right old target i j c) (λ from. copy_between olds news from to) olds.names (each-weaker Q (λ from. has_elements (copy_between olds news from to) ≡ true → Right old target i j (copy_between olds news from to)) (λ from is _. copy_between-right olds news a old from to i j is) olds.names are)) in
     element-made old target i j cs right once new (omega (arith, ap (λ (e : Dims). e.rows) dims)) (omega (arith, ap (λ (e : Dims). e.cols) dims)) (copies_to-cover d olds news to i j tiling within in_new_rows in_new_cols)
     ∙ sym (element-window a n i j in_new_rows in_new_cols))
 

@@ -5,6 +5,8 @@ use Rattle.std.proofs.lemmas.Bool.{cases_lt, lt-ltb, le-ltb}
 use Rattle.std.proofs.lemmas.List.Concat.{length-flat_map}
 use Rattle.std.proofs.lemmas.List.Sums.{length-filter, sum_by-cons, sum_by-append, sum_by_push}
 use Rattle.sj_base.specs.declared.tile.Dims.{Dims}
+use Rattle.sj_base.proofs.Numbers.{suc-add}
+use Rattle.sj_base.proofs.Lists.{sum_by-agree}
 use Rattle.sj_plan.specs.declared.interval.Interval.{Interval}
 use Rattle.sj_plan.specs.declared.parts.Parts.{Parts}
 use Rattle.sj_plan.specs.Interval.{Lies, meeting, meetings, part, shared}
@@ -12,9 +14,6 @@ use Rattle.sj_plan.specs.Parts.{places}
 use Rattle.sj_plan.specs.Paste.{overlaps, paste_at, pastes_to, pastes_of}
 use Rattle.sj_plan.proofs.Lists.{count_by-map, count_grid, grid_row, range_more}
 use Rattle.sj_plan.proofs.Overlapping.{AreOverlapping, apart}
-
-suc-add : (k : ℕ) → suc k ≡ k + 1
-suc-add k = omega arith
 
 -- the numbers below m that lie in an interval, counted by a test that tells them
 count_upto : (a : ℕ → Bool) (v : Interval) (m : ℕ) → ((k : ℕ) → k < m → (Lies k v → a k ≡ true) × ((Lies k v → ⊥) → a k ≡ false)) → count_by a (range_with_len 0 m) ≡ min m (v.first + v.len) - min m v.first
@@ -40,10 +39,6 @@ pub one_part_more : (f : ℕ → ℕ) (total len k : ℕ) → total ≡ sum_by f
 one_part_more f total len k e h =
     let here = ap (sum_by f) (range_more k) ∙ sum_by_push f (range_with_len 0 k) k in
     omega (arith, here, e, h)
-
-sum_by-same : {X : Type 0} (f g : X → ℕ) → ((x : X) → f x ≡ g x) → (xs : List X) → sum_by f xs ≡ sum_by g xs
-sum_by-same f g h [] = omega arith
-sum_by-same f g h (x ∷ xs) = omega (arith, sum_by-cons f x xs, sum_by-cons g x xs, h x, sum_by-same f g h xs)
 
 spread : (r c s : ℕ) → r * c + r * s ≡ r * (c + s)
 spread r c s = omega arith
@@ -73,4 +68,4 @@ pub pastes_of-count : (d : Dims) (old new : Parts) → length (pastes_of d old n
 pastes_of-count d old new =
     let rows = λ (i : ℕ). meeting d.rows old.r (part d.rows new.r i) in
     let cols = λ (j : ℕ). meeting d.cols old.c (part d.cols new.c j) in
-    length-flat_map (pastes_to d old new) (places new) ∙ sum_by-same (λ to. length (pastes_to d old new to)) (λ (to : ℕ × ℕ). rows to.0 * cols to.1) (pastes_to-count d old new) (places new) ∙ sum_grid rows cols new.c (range_with_len 0 new.r)
+    length-flat_map (pastes_to d old new) (places new) ∙ sum_by-agree (λ to. length (pastes_to d old new to)) (λ (to : ℕ × ℕ). rows to.0 * cols to.1) (pastes_to-count d old new) (places new) ∙ sum_grid rows cols new.c (range_with_len 0 new.r)

@@ -6,11 +6,11 @@ use Rattle.std.proofs.lemmas.List.Elements.{recursion_from_All}
 use Rattle.std.proofs.lemmas.List.Sorted.{sum_by-IsPermutation}
 use Rattle.sj_base.specs.declared.tile.Dims.{Dims}
 use Rattle.sj_base.specs.Array.{Array, element}
+use Rattle.sj_base.proofs.Lists.{list_any-map, counted_some}
 use Rattle.sj_plan.specs.declared.rect.Rect.{Rect}
 use Rattle.sj_plan.specs.Pieces.{IsTiling}
 use Rattle.sj_plan.specs.Rect.{holds}
 use Rattle.sj_plan.specs.Window.{window, with_window, gathered, IsWhole, Reassemble}
-use Rattle.sj_plan.proofs.Lists.{any-map, any_counted}
 use Rattle.sj_plan.proofs.Windows.{cond_same, cond_twice, element-with_window, element-window, Holds-from_true, IsWhole-with_window, same_arrays}
 
 abbrev IsPart : Array → Rect × Array → Type 0
@@ -50,5 +50,5 @@ tiling-reassembles d rects tiling a blank parts dims_a whole_a dims_b whole_b or
     let places = map (λ (part : Rect × Array). part.0) parts in
     let once = tiling.once i j (omega (arith, ap (λ (e : Dims). e.rows) dims_b)) (omega (arith, ap (λ (e : Dims). e.cols) dims_b)) in
     let counted = sum_by-IsPermutation (λ r. cond (test r) 1 0) rects places order in
-    let held = sym (any-map test (λ (part : Rect × Array). part.0) parts) ∙ any_counted test places (omega arith) in
+    let held = sym (list_any-map test (λ (part : Rect × Array). part.0) parts) ∙ counted_some test places (omega arith) in
     element-gathered a i j parts each blank in_blank_rows in_blank_cols ∙ cond-true _ _ _ held)

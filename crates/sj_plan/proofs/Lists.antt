@@ -14,9 +14,12 @@ use Rattle.sj_plan.specs.Parts.{IsPlace, places}
 use Rattle.std.proofs.lemmas.Simd.{map-map}
 use Rattle.std.proofs.lemmas.Bool.{cond-true, cond-false, lt-ltb, le-ltb}
 use Rattle.std.proofs.lemmas.Bool.Decides.{nat_tests}
-
-suc-add : (k : ℕ) → suc k ≡ k + 1
-suc-add k = omega arith
+use Rattle.sj_base.proofs.Bools.{or_true}
+use Rattle.sj_base.proofs.Numbers.{suc-add, one_by_one}
+use Rattle.sj_base.proofs.Lists.{list_any-map}
+pub use Rattle.sj_base.proofs.Lists.{each-append}
+pub use Rattle.sj_base.proofs.Lists.{each-weaker as each-all}
+pub use Rattle.sj_base.proofs.Lists.{list_any-map as any-map}
 
 both_nil : {X : Type 0} {xs ys : List X} → xs ≡ [] → ys ≡ [] → xs ++ ys ≡ []
 both_nil {X} {xs} {ys} e f = rw (e, f) refl
@@ -94,11 +97,6 @@ pub filter_none : {X Y : Type 0} (p : Y → Bool) (f : X → Y) → ((x : X) →
 filter_none p f fails [] = refl
 filter_none p f fails (x ∷ xs) = cond-false (p (f x)) (f x ∷ filter p (map f xs)) (filter p (map f xs)) (fails x) ∙ filter_none p f fails xs
 
--- Q holds of each item, in lists that are made of others
-pub each-append : {X : Type 0} (Q : X → Type 0) (xs ys : List X) → AllByRecursion Q xs → AllByRecursion Q ys → AllByRecursion Q (xs ++ ys)
-each-append Q [] ys a b = b
-each-append Q (x ∷ xs) ys a b = (a.0, each-append Q xs ys a.1 b)
-
 pub each-map : {X Y : Type 0} (Q : Y → Type 0) (f : X → Y) (xs : List X) → AllByRecursion (λ x. Q (f x)) xs → AllByRecursion Q (map f xs)
 each-map Q f [] a = tt
 each-map Q f (x ∷ xs) a = (a.0, each-map Q f xs a.1)
@@ -127,11 +125,6 @@ pub each-places : (Q : ℕ × ℕ → Type 0) (p : Parts) → ((place : ℕ × �
 each-places Q p h =
     each-flat_map Q (grid_row p.c) (range_with_len 0 p.r) (each-range (λ i. AllByRecursion Q (grid_row p.c i)) 0 p.r (λ i in_rows. each-map Q (λ j. (i, j)) (range_with_len 0 p.c) (each-range (λ j. Q (i, j)) 0 p.c (λ j in_cols. h (i, j) (omega arith, omega arith)))))
 
--- whether some item passes a test, in lists that are made of others
-pub any-map : {X Y : Type 0} (t : Y → Bool) (f : X → Y) (xs : List X) → list_any t (map f xs) ≡ list_any (λ x. t (f x)) xs
-any-map t f [] = refl
-any-map t f (x ∷ xs) = ap (λ b. t (f x) || b) (any-map t f xs)
-
 pub any-flat_map : {X Y : Type 0} (t : Y → Bool) (f : X → List Y) (xs : List X) → list_any t (flat_map f xs) ≡ list_any (λ x. list_any t (f x)) xs
 any-flat_map t f [] = refl
 any-flat_map t f (x ∷ xs) = list_any-append t (f x) (flat_map f xs) ∙ ap (λ b. list_any t (f x) || b) (any-flat_map t f xs)
@@ -140,10 +133,6 @@ pub any-keep : {X : Type 0} (t : X → Bool) (b : Bool) (x : X) (xs : List X) �
 any-keep t true x xs = refl
 any-keep t false x xs = refl
 
-pub any-filter : {X : Type 0} (t p : X → Bool) (xs : List X) → list_any t (filter p xs) ≡ list_any (λ x. p x && t x) xs
-any-filter t p [] = refl
-any-filter t p (x ∷ xs) = any-keep t (p x) x (filter p xs) ∙ ap (λ b. (p x && t x) || b) (any-filter t p xs)
-
 pub any-range : (t : ℕ → Bool) (n k : ℕ) → k < n → t k ≡ true → list_any t (range_with_len 0 n) ≡ true
 any-range t n k below h =
     let long = length-range_with_len 0 n in
@@ -151,16 +140,12 @@ any-range t n k below h =
 
 pub any-places : (t : ℕ × ℕ → Bool) (p : Parts) (place : ℕ × ℕ) → IsPlace p place → t place ≡ true → list_any t (places p) ≡ true
 any-places t p place inside h =
-    any-flat_map t (grid_row p.c) (range_with_len 0 p.r) ∙ any-range (λ i. list_any t (grid_row p.c i)) p.r place.0 inside.0 (any-map t (λ j. (place.0, j)) (range_with_len 0 p.c) ∙ any-range (λ j. t (place.0, j)) p.c place.1 inside.1 h)
+    any-flat_map t (grid_row p.c) (range_with_len 0 p.r) ∙ any-range (λ i. list_any t (grid_row p.c i)) p.r place.0 inside.0 (list_any-map t (λ j. (place.0, j)) (range_with_len 0 p.c) ∙ any-range (λ j. t (place.0, j)) p.c place.1 inside.1 h)
 
 -- Q holds of each item of a list, from what holds of each item or of all
 pub each-of : {X : Type 0} (Q : X → Type 0) → ((x : X) → Q x) → (xs : List X) → AllByRecursion Q xs
 each-of Q h [] = tt
 each-of Q h (x ∷ xs) = (h x, each-of Q h xs)
-
-pub each-all : {X : Type 0} (P Q : X → Type 0) → ((x : X) → P x → Q x) → (xs : List X) → AllByRecursion P xs → AllByRecursion Q xs
-each-all P Q h [] a = tt
-each-all P Q h (x ∷ xs) a = (h x a.0, each-all P Q h xs a.1)
 
 pub each-range_from : (Q : ℕ → Type 0) (a n : ℕ) → ((k : ℕ) → a ≤ k → Q k) → AllByRecursion Q (range_with_len a n)
 each-range_from Q a zero h = tt
@@ -185,10 +170,6 @@ map-filter f p [] = refl
 map-filter f p (x ∷ xs) =
     map-keep f (p (f x)) x (filter (λ y. p (f y)) xs) ∙ ap (λ ys. cond (p (f x)) (f x ∷ ys) ys) (map-filter f p xs)
 
-or_true : (c : Bool) → (c || true) ≡ true
-or_true true = refl
-or_true false = refl
-
 either : (a b c d : Bool) → (a ≡ true → c ≡ true) → (b ≡ true → d ≡ true) → (a || b) ≡ true → (c || d) ≡ true
 either true b c d f g h = ap (λ x. x || d) (f refl)
 either false b c d f g h = ap (λ x. c || x) (g h) ∙ or_true c
@@ -200,12 +181,6 @@ any-implied s t h (x ∷ xs) some = either (s x) (list_any s xs) (t x) (list_any
 counted_more : (b : Bool) (n : ℕ) (r : Bool) → 0 < cond b 1 0 + n → (0 < n → r ≡ true) → (b || r) ≡ true
 counted_more true n r h f = refl
 counted_more false n r h f = f (omega arith)
-
--- a count that isn't 0 has found some item
-pub any_counted : {X : Type 0} (t : X → Bool) (xs : List X) → 0 < count_by t xs → list_any t xs ≡ true
-any_counted t [] h = absurd (omega arith)
-any_counted t (x ∷ xs) h =
-    counted_more (t x) (count_by t xs) (list_any t xs) (omega (arith, sum_by-cons (λ y. cond (t y) 1 0) x xs)) (any_counted t xs)
 
 -- R holds of each item and each later one
 abbrev pub Ordered : {X : Type 0} → (X → X → Type 0) → List X → Type 0
@@ -259,9 +234,6 @@ count_first k (suc m) =
 
 count_one : (k n : ℕ) → k < n → count_by (eqb k) (range_with_len 0 n) ≡ 1
 count_one k n h = count_first k n ∙ ap (λ t. cond t 1 0) (lt-ltb k n h)
-
-one_by_one : {a b : ℕ} → a ≡ 1 → b ≡ 1 → a * b ≡ 1
-one_by_one {a} {b} e f = rw (e, f) refl
 
 -- each place stands in the list of places once
 pub count_places : (p : Parts) (place : ℕ × ℕ) → IsPlace p place → count_by (λ (other : ℕ × ℕ). eqb place.0 other.0 && eqb place.1 other.1) (places p) ≡ 1

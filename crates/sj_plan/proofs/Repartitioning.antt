@@ -8,6 +8,8 @@ use Rattle.std.proofs.lemmas.List.Folds.{Any-from_list_any}
 use Rattle.std.proofs.lemmas.Simd.{map-map}
 use Rattle.sj_base.specs.declared.tile.Dims.{Dims}
 use Rattle.sj_base.specs.Array.{Array}
+use Rattle.sj_base.proofs.Lists.{list_any-map, list_any-filter}
+use Rattle.sj_base.proofs.Numbers.{same_pair}
 use Rattle.sj_plan.specs.declared.parts.Parts.{Parts}
 use Rattle.sj_plan.specs.declared.paste.Paste.{Paste}
 use Rattle.sj_plan.specs.Parts.{Fits, IsPlace, places}
@@ -16,21 +18,18 @@ use Rattle.sj_plan.specs.Rect.{child, Overlap, dims_of, Within}
 use Rattle.sj_plan.specs.Window.{window, IsWhole}
 use Rattle.sj_plan.specs.Paste.{pieces, copy_of, paste_at, overlaps, pastes_to, pastes_of, same_place, BeginEachOnce, Children, AreWindows, Repartition, IsBetween, Joins}
 use Rattle.sj_plan.proofs.Copying.{copies_to-begin, copies-repartition, copies_to-make, going-one, Overlap-from_test, has_elements-true, copy_between-within}
-use Rattle.sj_plan.proofs.Lists.{each-map, each-flat_map, each-filter, each-places, any-map, any-flat_map, any-filter, any-places, count_places, map-filter}
+use Rattle.sj_plan.proofs.Lists.{each-map, each-flat_map, each-filter, each-places, any-flat_map, any-places, count_places, map-filter}
 use Rattle.sj_plan.proofs.Splitting.{part_end, part_len-positive}
 use Rattle.sj_plan.proofs.Tiling.{children_of-tiling, children_of-order}
 
 -- ---- pastes as copies
 
-same_pair : {x y : ℕ × ℕ} → x.0 ≡ y.0 → x.1 ≡ y.1 → x ≡ y
-same_pair {x} {y} e f = rw (e, f) refl
-
-same_place-law : (x y : ℕ × ℕ) → same_place x y ≡ true → x ≡ y
+pub same_place-law : (x y : ℕ × ℕ) → same_place x y ≡ true → x ≡ y
 same_place-law x y h =
     let both = and_parts (eqb x.0 y.0) (eqb x.1 y.1) h in
-    same_pair (eqb-true x.0 y.0 both.0) (eqb-true x.1 y.1 both.1)
+    same_pair x y (eqb-true x.0 y.0 both.0) (eqb-true x.1 y.1 both.1)
 
-same_place-refl : (x : ℕ × ℕ) → same_place x x ≡ true
+pub same_place-refl : (x : ℕ × ℕ) → same_place x x ≡ true
 same_place-refl x = and_from _ _ (eq-eqb x.0 x.0 refl) (eq-eqb x.1 x.1 refl)
 
 pub pastes_to-copies : (d : Dims) (old new : Parts) (to : ℕ × ℕ) → map copy_of (pastes_to d old new to) ≡ copies_to (pieces d old) (pieces d new) to
@@ -46,7 +45,7 @@ pastes-copies d old new (to ∷ tos) =
 pub pastes_of-copies : (d : Dims) (old new : Parts) → map copy_of (pastes_of d old new) ≡ copies (pieces d old) (pieces d new)
 pastes_of-copies d old new = pastes-copies d old new (places new)
 
-child-within : (d : Dims) (p : Parts) (place : ℕ × ℕ) → IsPlace p place → Within (child d p place) d
+pub child-within : (d : Dims) (p : Parts) (place : ℕ × ℕ) → IsPlace p place → Within (child d p place) d
 child-within d p place inside = (part_end d.rows p.r place.0 inside.0, part_end d.cols p.c place.1 inside.1)
 
 pastes_to-begin : (d : Dims) (old new : Parts) (to : ℕ × ℕ) → Fits old d → Fits new d → IsPlace new to → BeginOnce (copies_to (pieces d old) (pieces d new) to)
@@ -104,7 +103,7 @@ any-joins d old new from to in_old in_new meets =
     let t = joins from to in
     let made = λ (to : ℕ × ℕ) (from : ℕ × ℕ). paste_at d old new from to in
     any-flat_map t (pastes_to d old new) (places new)
-    ∙ any-places (λ to. list_any t (pastes_to d old new to)) new to in_new (any-filter t overlaps (map (made to) (places old)) ∙ any-map (λ p. overlaps p && t p) (made to) (places old)
+    ∙ any-places (λ to. list_any t (pastes_to d old new to)) new to in_new (list_any-filter t overlaps (map (made to) (places old)) ∙ list_any-map (λ p. overlaps p && t p) (made to) (places old)
     ∙ any-places (λ from. overlaps (made to from) && t (made to from)) old from in_old (and_from _ _ meets (and_from _ _ (same_place-refl from) (same_place-refl to))))
 
 -- there is a paste for just the pairs that have an element in common

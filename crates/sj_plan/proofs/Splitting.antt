@@ -3,6 +3,7 @@ use Rattle.std.proofs.Common.{◌≡◌, ℕ, zero, suc, ◌+◌, ◌-◌, ◌*�
 use Rattle.std.proofs.lemmas.Bool.Decides.{nat_tests}
 use Rattle.std.proofs.lemmas.Bool.{cases_lt, cases_order, lt-ltb, le-ltb}
 use Rattle.std.proofs.lemmas.Nat.{div_below, le-div}
+use Rattle.sj_base.proofs.Numbers.{some_factor}
 use Rattle.sj_plan.specs.declared.interval.Interval.{Interval}
 use Rattle.sj_plan.specs.Interval.{Lies, part, part_first, part_len, shared}
 
@@ -38,10 +39,6 @@ lies_alone n p x j k a b = elim (cases_order j k) as (λ _. j ≡ k) [
   ]
 ]
 
-pos_factor : (d q y : ℕ) → y < d * q → 0 < q
-pos_factor d zero y h = absurd (omega arith)
-pos_factor d (suc q) y h = omega arith
-
 -- the part of an index among the longer parts, and among the shorter ones
 pub held_by_longer : (n p x : ℕ) → 0 < p → x < n % p * (n / p + 1) → (x / (n / p + 1) < p) × Lies x (part n p (x / (n / p + 1)))
 held_by_longer n p x some here =
@@ -61,7 +58,7 @@ held_by_shorter n p x some in_items here =
     let d = p - m in
     let whole : (m + d) * q ≡ p * q = ap (λ z. z * q) (omega arith) in
     let room : y < d * q = omega arith in
-    let some_q : 0 < q = pos_factor d q y room in
+    let some_q : 0 < q = some_factor d q y room in
     let below : y / q < d = div_below y q d some_q room in
     let first = part_first-closed n p (m + y / q) in
     let short = le-ltb (m + y / q) m (omega arith) in

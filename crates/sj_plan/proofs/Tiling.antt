@@ -1,11 +1,12 @@
 -- The parts tile the interval, so the children tile the array.
-use Rattle.std.proofs.Common.{◌≡◌, map, List, ℕ, zero, suc, ◌+◌, ◌*◌, ◌<◌, Bool, cond, ◌&&◌, ltb, leb, sym, ap, refl, ◌∙◌, arith, inl, inr}
+use Rattle.std.proofs.Common.{◌≡◌, map, List, ℕ, zero, suc, ◌+◌, ◌<◌, Bool, cond, ◌&&◌, ltb, leb, sym, ap, ◌∙◌, arith, inl, inr}
 use Rattle.std.specs.List.{range_with_len, count_by, flat_map}
 use Rattle.std.proofs.lemmas.Bool.{lt-ltb, le-ltb}
 use Rattle.std.proofs.lemmas.Bool.Decides.{nat_tests}
 use Rattle.std.proofs.lemmas.List.Elements.{All-from_recursion, All-map}
 use Rattle.std.proofs.lemmas.List.Sums.{sum_by_push}
 use Rattle.sj_base.specs.declared.tile.Dims.{Dims}
+use Rattle.sj_base.proofs.Numbers.{suc-add, one_by_one}
 use Rattle.sj_plan.specs.declared.parts.Parts.{Parts}
 use Rattle.sj_plan.specs.declared.rect.Rect.{Rect}
 use Rattle.sj_plan.specs.Interval.{part_first, part_len}
@@ -18,12 +19,6 @@ use Rattle.sj_plan.proofs.Splitting.{ends_before, part_end, part_first-closed}
 -- part k of n items in p parts holds x, as a test
 abbrev pub part_holds : ℕ → ℕ → ℕ → ℕ → Bool
 part_holds n p x k = leb (part_first n p k) x && ltb x (part_first n p k + part_len n p k)
-
-suc-add : (k : ℕ) → suc k ≡ k + 1
-suc-add k = omega arith
-
-product : {a b : ℕ} → a ≡ 1 → b ≡ 1 → a * b ≡ 1
-product {a} {b} e f = rw (e, f) refl
 
 one_part : (x first len : ℕ) → cond (ltb x first) 1 0 + cond (leb first x && ltb x (first + len)) 1 0 ≡ cond (ltb x (first + len)) 1 0
 one_part x first len = grind (arith, nat_tests)
@@ -44,7 +39,7 @@ part_holds-once n p x some here =
 
 pub children_of-tile : (d : Dims) (p : Parts) (row col : ℕ) → Fits p d → row < d.rows → col < d.cols → count_by (λ r. holds r row col) (children_of d p) ≡ 1
 children_of-tile d p row col fits in_rows in_cols =
-    count_by-map (λ r. holds r row col) (child d p) (places p) ∙ count_grid (part_holds d.rows p.r row) (part_holds d.cols p.c col) p.c (range_with_len 0 p.r) ∙ product (part_holds-once d.rows p.r row fits.some_rows in_rows) (part_holds-once d.cols p.c col fits.some_cols in_cols)
+    count_by-map (λ r. holds r row col) (child d p) (places p) ∙ count_grid (part_holds d.rows p.r row) (part_holds d.cols p.c col) p.c (range_with_len 0 p.r) ∙ one_by_one (part_holds-once d.rows p.r row fits.some_rows in_rows) (part_holds-once d.cols p.c col fits.some_cols in_cols)
 
 pub children_of-tiling : (d : Dims) (p : Parts) → Fits p d → IsTiling d (children_of d p)
 children_of-tiling d p fits = record {

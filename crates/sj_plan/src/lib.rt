@@ -9,6 +9,4 @@ pub mod interval;
 pub mod parts;
 pub mod paste;
 pub mod rect;
-#[cfg(test)]
-mod tests;
 pub mod tiles;

@@ -108,7 +108,7 @@ failing-le f (suc n) = grind (arith, failing-le f n)
 -- ---- the whole pool
 
 -- a worker's queue is one of them
-home-within : (p : Policy) (workers w : ℕ) → w < workers → home p w < queue_count p workers
+pub home-within : (p : Policy) (workers w : ℕ) → w < workers → home p w < queue_count p workers
 home-within Eager workers w h = omega arith
 home-within Prio workers w h = omega arith
 home-within Ws workers w h = h

@@ -5,6 +5,4 @@
 pub mod entry;
 pub mod pool;
 mod queue;
-#[cfg(test)]
-mod tests;
 mod tree;

@@ -104,7 +104,8 @@ fn serving_between(queues: &[Queue], from: usize, to: usize, room: u64) -> Optio
 #[tactic(auto, using(crate::proofs::Serving::two_parts))]
 fn serving(queues: &[Queue], first: usize, room: u64) -> Option<usize>
     requires { first < length queues.now }
-    ensures first { result ≡ serving (lists queues.now) room (turns (length (lists queues.now)) first) }
+    ensures first { result
+        ≡ serving (lists queues.now) room (turns (length (lists queues.now)) first) }
     ensures within { IfSome result (λ i. i < length queues.now) }
 {
     match serving_between(queues, first, queues.len(), room) {
@@ -116,9 +117,13 @@ fn serving(queues: &[Queue], first: usize, room: u64) -> Option<usize>
 /// Puts an entry into one of some queues.
 fn put_at(queues: &mut Vec<Queue>, i: usize, alloc: Global, policy: Policy, entry: Entry)
     requires within { i < length queues.old.items }
-    requires room { length (queue_at queues.old.items i).entries < (queue_at queues.old.items i).limit }
-    requires in_order { policy ≡ Prio → IsTrue (is_by_urgency (queue_at queues.old.items i).entries) }
-    ensures { queues.new.items ≡ with_entries_at queues.old.items i (put_into policy entry (queue_at queues.old.items i).entries) }
+    requires room { length (queue_at queues.old.items i).entries <
+        (queue_at queues.old.items i).limit }
+    requires in_order { policy ≡ Prio
+        → IsTrue (is_by_urgency (queue_at queues.old.items i).entries) }
+    ensures { queues.new.items
+        ≡ with_entries_at queues.old.items i
+        (put_into policy entry (queue_at queues.old.items i).entries) }
 {
     queues[i].put(alloc, policy, entry);
 }
@@ -127,7 +132,9 @@ fn put_at(queues: &mut Vec<Queue>, i: usize, alloc: Global, policy: Policy, entr
 fn take_first(queues: &mut Vec<Queue>, i: usize, room: u64) -> Option<Entry>
     requires { i < length queues.old.items }
     ensures first { result ≡ first_fitting room (queue_at queues.old.items i).entries }
-    ensures rest { queues.new.items ≡ with_entries_at queues.old.items i (without_first_fitting room (queue_at queues.old.items i).entries) }
+    ensures rest { queues.new.items
+        ≡ with_entries_at queues.old.items i
+        (without_first_fitting room (queue_at queues.old.items i).entries) }
 {
     queues[i].take(room)
 }
@@ -174,7 +181,8 @@ impl Pool {
     fn take_at(&mut self, i: usize, room: u64) -> Option<Task>
         requires { i < length self.old.queues }
         ensures task { result ≡ first_task room (queue self.old.queues i) }
-        ensures rest { self.new ≡ record self.old { queues = without_first_at self.old.queues i room } }
+        ensures rest { self.new
+            ≡ record self.old { queues = without_first_at self.old.queues i room } }
     {
         take_first(&mut self.queues, i, room).map(|entry| entry.task)
     }

@@ -147,7 +147,8 @@ impl Queue {
     /// Takes the first entry that fits out. Logarithmic time; linear where memory was refused.
     pub fn take(&mut self, room: u64) -> Option<Entry>
         ensures taken { result ≡ first_fitting room self.old.entries }
-        ensures rest { self.new ≡ record self.old { entries = without_first_fitting room self.old.entries } }
+        ensures rest { self.new
+            ≡ record self.old { entries = without_first_fitting room self.old.entries } }
     {
         if !self.list.is_empty() {
             return take_from_list(&mut self.list, room);

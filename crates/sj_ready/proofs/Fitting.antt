@@ -7,6 +7,7 @@ use Rattle.std.proofs.lemmas.Option.{same_Some}
 use Rattle.sj_base.specs.declared.ids.Line.{Line}
 use Rattle.sj_base.specs.declared.program.Machine.{Machine}
 use Rattle.sj_base.specs.declared.program.Program.{Program}
+use Rattle.sj_base.proofs.Options.{the}
 use Rattle.sj_core.specs.Needs.{footprint, place, room}
 use Rattle.sj_core.specs.Program.{tasks_of}
 use Rattle.sj_needs.specs.Shortage.{FitRoom, IsShortage, IsTooLarge, is_too_large}
@@ -17,9 +18,6 @@ use Rattle.sj_core.specs.Proper.{HasSwapFor}
 use Rattle.sj_ready.specs.Ready.{IsReady}
 use Rattle.sj_ready.specs.Work.{HasRoom, Work, WorkOrRefusal, program_of}
 use Rattle.sj_ready.specs.declared.ready.Ready.{Ready}
-
-the : (X : Type 0) → X → X
-the X x = x
 
 -- what is found passes
 found-passes : {X : Type 0} (test : X → Bool) (xs : List X) (x : X) → find test xs ≡ Some x → (test x ≡ true) × Contains xs x

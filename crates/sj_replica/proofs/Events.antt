@@ -4,6 +4,7 @@ use Rattle.std.specs.Prelude.{unwrap_or}
 use Rattle.std.proofs.lemmas.Bool.{cases_Bool, false≢true}
 use Rattle.std.proofs.lemmas.List.{get_or-replicate, get_or-set_other, get_or-set_same, length-replicate, length-set}
 use Rattle.std.proofs.lemmas.Nat.{mod_below}
+use Rattle.sj_base.proofs.SameIds.{same_cell-is}
 use Rattle.sj_core.specs.declared.progress.Progress.TheVariants.{Running}
 use Rattle.sj_core.proofs.Words.{Array, AtNode, Cell, CellState, Claim, DiskNo, Drop, End, Event, Machine, Move, Moved, Node, OnDisk, Place, Program, Replica, Run, State, Task, Worker, cell_state, has_cell, is_entry, is_valid, node_of, progress, replica, same_cell, transfer, with_replica, writes, written_cells}
 use Rattle.sj_core.proofs.Words.{Coming as ComingReplica, Invalid as NoReplica, Leaving as LeavingReplica, Valid as ValidReplica}
@@ -14,7 +15,7 @@ use Rattle.sj_core.proofs.Claiming.{ClaimCase, Comes, Leaves, Stays, claim-cases
 use Rattle.sj_core.proofs.Ending.{end-elsewhere, end-other, end-written}
 use Rattle.sj_core.proofs.Eviction.{evicted-after, evicted-chosen, evicted_by}
 use Rattle.sj_core.proofs.Placing.{replica-at_node, replica-cases, replica-on_disk, valid-row, valid-within, writes-same}
-use Rattle.sj_core.proofs.Reading.{cells-renewed_or, cells-touched, cells-untouched, entry-inside, no_row, same_cell-is, same_node}
+use Rattle.sj_core.proofs.Reading.{cells-renewed_or, cells-touched, cells-untouched, entry-inside, no_row, same_node}
 use Rattle.sj_core.proofs.Replicas.{coming_by-is, leaving-by_some, leaving_by-valid}
 use Rattle.sj_core.proofs.Running.{run-only, run-other, run-own}
 use Rattle.sj_core.proofs.TaskCells.{written-among_cells}

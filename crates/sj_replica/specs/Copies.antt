@@ -1,11 +1,11 @@
--- The copies of one cell: what it is at each place, its pins, its transfers and its writer
--- (CCPE 2011, "Data management": a replica is owner, shared or invalid).
-use Rattle.std.specs.Prelude.{◌≡◌, ℕ, ◌+◌, ◌<◌, Bool, true, false, not, ◌&&◌, ◌||◌, IsTrue, nat_eq, Option, Some, None, is_some, List, [], ◌∷◌, ◌++◌, map, replicate}
+-- The copies of one cell: what it is at each place, its pins, its transfers and its writer.
+use Rattle.std.specs.Prelude.{◌≡◌, ℕ, ◌+◌, ◌<◌, Bool, true, false, not, ◌&&◌, ◌||◌, IsTrue, Option, Some, None, is_some, List, [], ◌∷◌, ◌++◌, map, replicate}
 use Rattle.std.specs.List.{slice_index_or, slice_set, list_any, find, range_with_len}
 use Rattle.sj_base.specs.declared.ids.Node.{Node}
 use Rattle.sj_base.specs.declared.ids.DiskNo.{DiskNo}
 use Rattle.sj_base.specs.declared.ids.Place.{Place}
 use Rattle.sj_base.specs.declared.ids.Place.TheVariants.{Node as AtNode, Disk as OnDisk}
+use Rattle.sj_base.specs.Ids.{same_place}
 use Rattle.sj_replica.specs.declared.state.At.{At}
 use Rattle.sj_replica.specs.declared.state.At.TheVariants.{Invalid, Coming, Valid, Leaving}
 
@@ -31,11 +31,6 @@ none_at d = record { nodes = replicate 16 Invalid; disk = d; on_disk = Invalid; 
 abbrev pub IsPlace : Copies → Place → Type 0
 IsPlace s (AtNode n) = n.0 < 16
 IsPlace s (OnDisk d) = d ≡ s.disk
-
-abbrev pub same_place : Place → Place → Bool
-same_place (AtNode a) (AtNode b) = nat_eq a.0 b.0
-same_place (OnDisk a) (OnDisk b) = nat_eq a.0 b.0
-same_place _ _ = false
 
 -- the nodes by number, and then the disk
 abbrev pub places : Copies → List Place

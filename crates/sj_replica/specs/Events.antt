@@ -1,5 +1,5 @@
--- What each event of a run does to one cell, as the calls of a replica: what the cell is at each place, and how often it was written.
--- Pins and transfers aren't compared: a machine's state has them by worker, in the workers' rows.
+-- What each event of a run does to one cell, as the calls of a replica: what the cell is at each place, and how often it was
+-- written. Pins and transfers aren't compared: a machine's state has them by worker, in the workers' rows.
 use Rattle.std.specs.Prelude.{◌≡◌, ℕ, ◌<◌, None, Some, [], length, unwrap_or, if◌then◌else◌}
 use Rattle.sj_base.specs.declared.ids.Cell.{Cell}
 use Rattle.sj_base.specs.declared.ids.DiskNo.{DiskNo}

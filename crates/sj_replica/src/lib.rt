@@ -5,5 +5,3 @@
 pub mod laws;
 pub mod replica;
 pub mod state;
-#[cfg(test)]
-mod tests;

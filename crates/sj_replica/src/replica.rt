@@ -3,7 +3,8 @@
 ghost use Rattle.std.specs.Prelude.{◌≡◌, ◌+◌, ◌-◌, ◌<◌, ◌^◌, IsTrue, Some, None, is_some, true, false};
 ghost use Rattle.std.specs.List.{list_any};
 ghost use Rattle.sj_base.specs.declared.ids.Place.TheVariants.{Node as AtNode};
-ghost use Rattle.sj_replica.specs.Copies.{none_at, IsPlace, at, pins_at, source_of, is_only_at, move_into, has_move, is_read, MayMove, with_at, with_move, with_pins, owned_at, written, same_place, is_entry, is_other};
+ghost use Rattle.sj_base.specs.Ids.{same_place};
+ghost use Rattle.sj_replica.specs.Copies.{none_at, IsPlace, at, pins_at, source_of, is_only_at, move_into, has_move, is_read, MayMove, with_at, with_move, with_pins, owned_at, written, is_entry, is_other};
 
 use crate::state::At;
 use sj_base::ids::{DiskNo, Node, Place};

@@ -2,6 +2,4 @@
 #![tactic(auto)]
 
 pub mod program;
-#[cfg(test)]
-mod tests;
 pub mod words;

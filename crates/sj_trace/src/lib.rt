@@ -3,7 +3,5 @@
 
 mod line;
 pub mod read;
-#[cfg(test)]
-mod tests;
 pub mod text;
 mod word;

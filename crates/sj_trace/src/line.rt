@@ -44,7 +44,8 @@ fn cell_and_node(text: &[u8]) -> Option<((Cell, Node), &[u8])>
     Some(((cell, node), rest))
 }
 
-/// The event whose line a text begins with, and what stands behind that; `None` where it begins with no event's. Linear in the line.
+/// The event whose line a text begins with, and what stands behind that; `None` where it begins with no event's. Linear in
+/// the line.
 pub fn first_event(text: &[u8]) -> Option<(Event, &[u8])>
     ensures { IsTaken EventFits line_of text.now result }
 {

@@ -107,7 +107,8 @@ fn event_fits(event: Event)
 /// The text of a trace. Linear in it.
 pub fn text(alloc: Global, trace: &Trace) -> Result<Vec<u8>, OutOfMemory>
     ensures text { IfOk result (λ v. IsTextOf v.items trace.now.events) }
-    ensures a_line_each { IfOk result (λ v. length (whole_lines v.items) ≡ length trace.now.events) }
+    ensures a_line_each { IfOk result
+        (λ v. length (whole_lines v.items) ≡ length trace.now.events) }
 {
     let mut text = Vec::new(alloc);
     let mut line = [0; ROOM];

@@ -5,6 +5,7 @@ use Rattle.std.specs.Option.{option_map_or}
 use Rattle.std.specs.Str.{bytes_eq}
 use Rattle.std.proofs.lemmas.Slice.Eq.{bytes_eq-Decides}
 use Rattle.std.proofs.lemmas.Option.{none-some}
+use Rattle.std.proofs.lemmas.Bool.{and_parts, not-true}
 use Rattle.clap.specs.Lexer.{long_of, short_of}
 use Rattle.clap.specs.Words.{Row, Shape, built, takes}
 use Rattle.clap.specs.Walk.{Held, Walk, walked, settled_rows, has_row, finished}
@@ -13,7 +14,7 @@ use Rattle.clap.specs.Simple.{entered}
 use Rattle.clap.proofs.OnLiterals.{clap_on_literals}
 use Rattle.sj_words.specs.Spelling.{Text, is_flag, is_option, is_value, named, alone, with_next, first_then, or_else, said, stands_once}
 use Rattle.sj_words.specs.Command.{the_app}
-use Rattle.sj_words.proofs.Walking.{reads_option, rules, at, waits, met, use_pair, next_step, alone_step, named_whole, of_flag, mapped, picks, and_both, or_cases, not_true, is_no_dashes, is_no_long, is_no_short, are_new, put_new, new_more, all_new}
+use Rattle.sj_words.proofs.Walking.{reads_option, rules, at, waits, met, use_pair, next_step, alone_step, named_whole, of_flag, mapped, picks, or_cases, is_no_dashes, is_no_long, is_no_short, are_new, put_new, new_more, all_new}
 
 abbrev top : Shape
 top = (built the_app).top
@@ -148,7 +149,7 @@ alone_passes word (Some (name, None)) q rows pending skip p is e settled new =
     ∙ ap (use_passed true) (ap (λ (x : Text × Text). has_row x.0 (settled_rows rules pending rows)) h.1 ∙ new)
 alone_passes word (Some (name, Some value)) q rows pending skip p is e settled new =
     let h = picks (is_option name && is_value value) (name, value) q e in
-    let r = passes_option name (and_both (is_option name) (is_value value) h.0).0 in
+    let r = passes_option name (and_parts (is_option name) (is_value value) h.0).0 in
     ap (turn_passes top [] (at rows pending skip p)) (named_whole word (name, Some value) is) ∙ r.joined value rows pending skip p
     ∙ ap (λ b. use_passed b (has_row name (settled_rows rules pending rows))) settled
     ∙ ap (use_passed true) (ap (λ (x : Text × Text). has_row x.0 (settled_rows rules pending rows)) h.1 ∙ new)
@@ -164,7 +165,7 @@ next_passes_too word next None q is e = absurd (none-some q e)
 next_passes_too word next (Some (name, Some value)) q is e = absurd (none-some q e)
 next_passes_too word next (Some (name, None)) q is e =
     let h = picks (is_option name && is_value next) (name, next) q e in
-    let both = and_both (is_option name) (is_value next) h.0 in
+    let both = and_parts (is_option name) (is_value next) h.0 in
     let r = passes_option name both.0 in
     let w = reads_option name both.0 in
     subst (NextPasses word next) h.1 (record {
@@ -198,10 +199,10 @@ record Used (q : Text × Text) (ps : List (Text × Text)) (rows : List Row) : Ty
 
 used_first : (q : Text × Text) (ps : List (Text × Text)) (rows : List Row) → are_new rows (q ∷ ps) ≡ true → stands_once (q ∷ ps) ≡ true → Used q ps rows
 used_first q ps rows new once =
-    let both = and_both (not (has_row q.0 rows)) (are_new rows ps) new in
-    let apart = and_both (not (list_any (λ p. bytes_eq q.0 p.0) ps)) (stands_once ps) once in
-    let mine = not_true (has_row q.0 rows) both.0 in
-    record { new = mine; others = ap (λ r. are_new r ps) (put_new q rows mine) ∙ new_more q rows ps both.1 (not_true (list_any (λ p. bytes_eq q.0 p.0) ps) apart.0); once = apart.1 }
+    let both = and_parts (not (has_row q.0 rows)) (are_new rows ps) new in
+    let apart = and_parts (not (list_any (λ p. bytes_eq q.0 p.0) ps)) (stands_once ps) once in
+    let mine = not-true (has_row q.0 rows) both.0 in
+    record { new = mine; others = ap (λ r. are_new r ps) (put_new q rows mine) ∙ new_more q rows ps both.1 (not-true (list_any (λ p. bytes_eq q.0 p.0) ps) apart.0); once = apart.1 }
 
 well_alone : (word : Text) (words : List Text) (ps : List (Text × Text)) → ((rest : List (Text × Text)) → said words ≡ Some rest → Well words rest) → (q : Text × Text) → alone (named word) ≡ Some q
     → option_map (λ xs. q ∷ xs) (said words) ≡ Some ps → Well (word ∷ words) ps

@@ -8,6 +8,7 @@ use Rattle.std.proofs.lemmas.Slice.Eq.{bytes_eq-Decides}
 use Rattle.std.proofs.lemmas.Bool.Decides.{Decides-eqb}
 use Rattle.std.proofs.lemmas.Option.{none-some, same_Some}
 use Rattle.std.proofs.lemmas.List.Folds.{find-append}
+use Rattle.std.proofs.lemmas.Bool.{and_parts, not-true, or_parts}
 use Rattle.clap.specs.Lexer.{long_of, short_of}
 use Rattle.clap.specs.Words.{Row, Rule, built, is_simple, matches_of, rows_of, first_of, one_of}
 use Rattle.clap.specs.Walk.{Held, Walk, Waiting, Step, idle, option, trailing, walked, settled_rows, with_values, without, at_row, with_default, has_row, after_step, long_word, short_or_plain}
@@ -25,21 +26,9 @@ the_app_is_simple = refl
 
 -- ---- tests that hold
 
-pub and_both : (a b : Bool) → (a && b) ≡ true → (a ≡ true) × (b ≡ true)
-and_both true b e = (refl, e)
-and_both false b e = absurd (true≢false (sym e))
-
 pub or_cases : (a b : Bool) → (a || b) ≡ true → (a ≡ true) ⊎ (b ≡ true)
 or_cases true b e = inl refl
 or_cases false b e = inr e
-
-pub or_none : (a b : Bool) → (a || b) ≡ false → (a ≡ false) × (b ≡ false)
-or_none true b e = absurd (true≢false e)
-or_none false b e = (refl, e)
-
-pub not_true : (a : Bool) → not a ≡ true → a ≡ false
-not_true true e = absurd (true≢false (sym e))
-not_true false e = refl
 
 pub picks : {A : Type 0} (b : Bool) (x y : A) → (if b then Some x else None) ≡ Some y → (b ≡ true) × (x ≡ y)
 picks true x y e = (refl, same_Some x y e)
@@ -231,16 +220,16 @@ value_as_given name value rows e = ap (λ b. put name (if b then codes "true" el
 -- a value is no flag word
 pub is_no_dashes : (word : Text) → is_value word ≡ true → bytes_eq word (45 ∷ 45 ∷ []) ≡ false
 is_no_dashes [] e = absurd (true≢false (sym e))
-is_no_dashes (b ∷ bs) e = ap (λ t. t && bytes_eq bs (45 ∷ [])) (not_true (b == 45) e)
+is_no_dashes (b ∷ bs) e = ap (λ t. t && bytes_eq bs (45 ∷ [])) (not-true (b == 45) e)
 
 pub is_no_long : (word : Text) → is_value word ≡ true → long_of word ≡ None
 is_no_long [] e = absurd (true≢false (sym e))
 is_no_long (b ∷ bs) e =
-    ap (λ t. option_and_then Rattle.clap.specs.Lexer.long_of_rest (option_and_then (Rattle.clap.specs.Lexer.strip_byte 45) (if t then Some bs else None))) (not_true (b == 45) e)
+    ap (λ t. option_and_then Rattle.clap.specs.Lexer.long_of_rest (option_and_then (Rattle.clap.specs.Lexer.strip_byte 45) (if t then Some bs else None))) (not-true (b == 45) e)
 
 pub is_no_short : (word : Text) → is_value word ≡ true → short_of word ≡ None
 is_no_short [] e = absurd (true≢false (sym e))
-is_no_short (b ∷ bs) e = ap (λ t. option_and_then Rattle.clap.specs.Lexer.short_of_rest (if t then Some bs else None)) (not_true (b == 45) e)
+is_no_short (b ∷ bs) e = ap (λ t. option_and_then Rattle.clap.specs.Lexer.short_of_rest (if t then Some bs else None)) (not-true (b == 45) e)
 
 walked_value : (name word : Text) (rows : List Row) (skip p : ℕ) → Reads name → is_value word ≡ true → walked rules [] (waits name rows skip p) word ≡ at rows (Some (name, word ∷ [])) skip p
 walked_value name word rows skip p r e =
@@ -255,7 +244,7 @@ alone_step word (Some (name, None)) q rows pending skip p is e =
     ∙ ap (λ x. at (use_pair (settled_rows rules pending rows) x) None skip p) h.1
 alone_step word (Some (name, Some value)) q rows pending skip p is e =
     let h = picks (is_option name && is_value value) (name, value) q e in
-    let both = and_both (is_option name) (is_value value) h.0 in
+    let both = and_parts (is_option name) (is_value value) h.0 in
     let r = reads_option name both.0 in
     ap (walked rules [] (at rows pending skip p)) (named_whole word (name, Some value) is) ∙ r.joined value rows pending skip p
     ∙ ap (λ x. at x None skip p) (value_as_given name value (settled_rows rules pending rows) r.no_flag) ∙ ap (λ x. at (use_pair (settled_rows rules pending rows) x) None skip p) h.1
@@ -271,7 +260,7 @@ next_step word next None q is e = absurd (none-some q e)
 next_step word next (Some (name, Some value)) q is e = absurd (none-some q e)
 next_step word next (Some (name, None)) q is e =
     let h = picks (is_option name && is_value next) (name, next) q e in
-    let both = and_both (is_option name) (is_value next) h.0 in
+    let both = and_parts (is_option name) (is_value next) h.0 in
     let r = reads_option name both.0 in
     subst (ByNext word next) h.1 (record {
       walks = λ rows pending skip p.
@@ -329,7 +318,7 @@ ends (word ∷ (next ∷ words)) ps so = ends_two word next words (alone (named 
 at_missing : (id : Text) (change : Row → List Row) (missing : List Row) (rows : List Row) → has_row id rows ≡ false → at_row id change missing rows ≡ rows ++ missing
 at_missing id change missing [] none = refl
 at_missing id change missing (r ∷ rs) none =
-    let both = or_none (bytes_eq r.id id) (has_row id rs) none in
+    let both = or_parts (bytes_eq r.id id) (has_row id rs) none in
     ap (λ b. if b then change r ++ rs else r ∷ at_row id change missing rs) both.0 ∙ ap (λ xs. r ∷ xs) (at_missing id change missing rs both.1)
 
 pub put_new : (q : Text × Text) (rows : List Row) → has_row q.0 rows ≡ false → use_pair rows q ≡ rows ++ pair_row q ∷ []
@@ -340,7 +329,7 @@ put_new q rows none =
 has_row_append : (id : Text) (rows : List Row) (r : Row) → has_row id rows ≡ false → bytes_eq r.id id ≡ false → has_row id (rows ++ r ∷ []) ≡ false
 has_row_append id [] r none ne = ap (λ b. b || false) ne
 has_row_append id (x ∷ xs) r none ne =
-    let both = or_none (bytes_eq x.id id) (has_row id xs) none in
+    let both = or_parts (bytes_eq x.id id) (has_row id xs) none in
     ap (λ b. b || has_row id (xs ++ r ∷ [])) both.0 ∙ has_row_append id xs r both.1 ne
 
 -- no name of the pairs has a row
@@ -350,17 +339,17 @@ are_new rows = list_all (λ q. not (has_row q.0 rows))
 pub new_more : (q : Text × Text) (rows : List Row) (ps : List (Text × Text)) → are_new rows ps ≡ true → list_any (λ p. bytes_eq q.0 p.0) ps ≡ false → are_new (rows ++ pair_row q ∷ []) ps ≡ true
 new_more q rows [] new ne = refl
 new_more q rows (p ∷ ps) new ne =
-    let both = and_both (not (has_row p.0 rows)) (are_new rows ps) new in
-    let apart = or_none (bytes_eq q.0 p.0) (list_any (λ p. bytes_eq q.0 p.0) ps) ne in
-    ap (λ b. not b && are_new (rows ++ pair_row q ∷ []) ps) (has_row_append p.0 rows (pair_row q) (not_true (has_row p.0 rows) both.0) apart.0) ∙ new_more q rows ps both.1 apart.1
+    let both = and_parts (not (has_row p.0 rows)) (are_new rows ps) new in
+    let apart = or_parts (bytes_eq q.0 p.0) (list_any (λ p. bytes_eq q.0 p.0) ps) ne in
+    ap (λ b. not b && are_new (rows ++ pair_row q ∷ []) ps) (has_row_append p.0 rows (pair_row q) (not-true (has_row p.0 rows) both.0) apart.0) ∙ new_more q rows ps both.1 apart.1
 
 used_in_order : (ps : List (Text × Text)) (rows : List Row) → stands_once ps ≡ true → are_new rows ps ≡ true → fold use_pair rows ps ≡ rows ++ map pair_row ps
 used_in_order [] rows once new = sym (append-nil rows)
 used_in_order (q ∷ ps) rows once new =
-    let both = and_both (not (has_row q.0 rows)) (are_new rows ps) new in
-    let apart = and_both (not (list_any (λ p. bytes_eq q.0 p.0) ps)) (stands_once ps) once in
-    ap (λ r. fold use_pair r ps) (put_new q rows (not_true (has_row q.0 rows) both.0))
-    ∙ used_in_order ps (rows ++ pair_row q ∷ []) apart.1 (new_more q rows ps both.1 (not_true (list_any (λ p. bytes_eq q.0 p.0) ps) apart.0))
+    let both = and_parts (not (has_row q.0 rows)) (are_new rows ps) new in
+    let apart = and_parts (not (list_any (λ p. bytes_eq q.0 p.0) ps)) (stands_once ps) once in
+    ap (λ r. fold use_pair r ps) (put_new q rows (not-true (has_row q.0 rows) both.0))
+    ∙ used_in_order ps (rows ++ pair_row q ∷ []) apart.1 (new_more q rows ps both.1 (not-true (list_any (λ p. bytes_eq q.0 p.0) ps) apart.0))
     ∙ append_assoc rows (pair_row q ∷ []) (map pair_row ps)
 
 pub all_new : (ps : List (Text × Text)) → are_new [] ps ≡ true
@@ -407,7 +396,7 @@ or_none_is (Some x) = refl
 no_row_found : (id : Text) (rows : List Row) → has_row id rows ≡ false → found_at id rows ≡ None
 no_row_found id [] none = refl
 no_row_found id (r ∷ rs) none =
-    let both = or_none (bytes_eq r.id id) (has_row id rs) none in
+    let both = or_parts (bytes_eq r.id id) (has_row id rs) none in
     ap (λ b. cond b (Some r) (found_at id rs)) both.0 ∙ no_row_found id rs both.1
 
 -- a flag's default changes nothing of other names

@@ -5,11 +5,12 @@ use Rattle.std.specs.Option.{option_and_then}
 use Rattle.std.specs.Str.{bytes_eq}
 use Rattle.std.proofs.lemmas.Slice.Eq.{bytes_eq-Decides}
 use Rattle.std.proofs.lemmas.Option.{none-some, same_Some}
+use Rattle.std.proofs.lemmas.Bool.{and_parts}
 use Rattle.sj_words.specs.Spelling.{Text, alone, first_then, is_flag, is_option, is_value, named, or_else, said, stands_once, with_next}
 use Rattle.sj_words.specs.Options.{asked_for, options}
 use Rattle.sj_words.specs.Written.{Item, flag, apart, joined, is_item, words_of, words_of_all, pair_of, AreWritten, AskFor}
 use Rattle.sj_words.specs.declared.options.Options.{Options}
-use Rattle.sj_words.proofs.Walking.{and_both, or_cases, of_flag, picks, mapped, named_whole}
+use Rattle.sj_words.proofs.Walking.{or_cases, of_flag, picks, mapped, named_whole}
 
 -- ---- from what is said to what is written
 
@@ -104,18 +105,18 @@ item_said : (item : Item) (rest : List Text) → is_item item ≡ true → said 
 item_said (flag name) rest good =
     said_alone (45 ∷ 45 ∷ name) rest (name, []) (of_flag (λ n. alone (named (45 ∷ 45 ∷ n)) ≡ Some (n, [])) name refl refl good)
 item_said (apart name value) rest good =
-    let n = names_option name (and_both (is_option name) (is_value value) good).0 in
+    let n = names_option name (and_parts (is_option name) (is_value value) good).0 in
     said_next (45 ∷ 45 ∷ name) value rest (name, value)
     (ap alone n.stands ∙ ap (λ b. if b then Some (name, []) else None) n.no_flag)
     (ap (λ h. with_next h value) n.stands ∙ ap (λ b. if b then Some (name, value) else None) good)
 item_said (joined name value) rest good =
-    let n = names_option name (and_both (is_option name) (is_value value) good).0 in
+    let n = names_option name (and_parts (is_option name) (is_value value) good).0 in
     said_alone (45 ∷ 45 ∷ (name ++ 61 ∷ value)) rest (name, value) (ap alone (n.joins value) ∙ ap (λ b. if b then Some (name, value) else None) good)
 
 items_said : (items : List Item) → list_all is_item items ≡ true → said (words_of_all items) ≡ Some (map pair_of items)
 items_said [] good = refl
 items_said (item ∷ items) good =
-    let both = and_both (is_item item) (list_all is_item items) good in
+    let both = and_parts (is_item item) (list_all is_item items) good in
     item_said item (words_of_all items) both.0 ∙ ap (option_map (λ xs. pair_of item ∷ xs)) (items_said items both.1)
 
 -- ---- the law

@@ -29,10 +29,6 @@ mod options;
 mod path;
 mod spelling;
 mod swap;
-#[cfg(test)]
-mod tests;
-#[cfg(test)]
-mod tests_of_applications;
 
 pub use law::words_mean_what_is_written;
 pub use machine::machine_of;

@@ -279,10 +279,12 @@ fn owned(alloc: Global, text: Option<&str>) -> Result<Option<SwapPath>, AllocErr
 
 // What the values that were found ask for.
 fn asked_for(alloc: Global, matches: &ArgMatches<'_>) -> Result<Options, WordsRefusal>
-    ensures ok { IfOk result (λ o. (ps : List (List ℕ × List ℕ)) → HoldsGiven (found_of matches.now) ps
+    ensures ok { IfOk result
+        (λ o. (ps : List (List ℕ × List ℕ)) → HoldsGiven (found_of matches.now) ps
         → asked_for ps ≡ Some o) }
     ensures unaccepted { IfErr result (λ e. e ≡ WordsRefusal.Unaccepted
-        → (ps : List (List ℕ × List ℕ)) → HoldsGiven (found_of matches.now) ps → asked_for ps ≡ None) }
+        → (ps : List (List ℕ × List ℕ)) → HoldsGiven (found_of matches.now) ps
+        → asked_for ps ≡ None) }
     ensures limits { IfOk result IsWithinLimits }
 {
     let workers = number(matches.get_str(WORKERS), 1, 64)?;
@@ -311,7 +313,8 @@ fn asked_for(alloc: Global, matches: &ArgMatches<'_>) -> Result<Options, WordsRe
 /// of them. The errors are words that aren't accepted, and want of memory.
 pub fn read_words(alloc: Global, words: &[String]) -> Result<Options, WordsRefusal>
     ensures ok { IfOk result (λ o. options (texts words.now) ≡ Some o) }
-    ensures unaccepted { IfErr result (λ e. e ≡ WordsRefusal.Unaccepted → options (texts words.now) ≡ None) }
+    ensures unaccepted { IfErr result
+        (λ e. e ≡ WordsRefusal.Unaccepted → options (texts words.now) ≡ None) }
     ensures limits { IfOk result IsWithinLimits }
 {
     let Some(names) = said_names(alloc, words)? else {

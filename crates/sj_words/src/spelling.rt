@@ -94,7 +94,8 @@ fn said_with_next<'a>(name: &'a [u8], words: &'a [String]) -> Option<(&'a [u8], 
 // The name of what a word says, alone or with the next, and the words behind it.
 fn said_by<'a>(word: &'a [u8], rest: &'a [String]) -> Option<(&'a [u8], &'a [String])>
     ensures { option_map (λ p. (p.0.now, texts p.1.now)) result
-        ≡ said_alone_or (alone (named word.now)) (texts rest.now) (said_with_next (named word.now) (texts rest.now)) }
+        ≡ said_alone_or (alone (named word.now)) (texts rest.now)
+        (said_with_next (named word.now) (texts rest.now)) }
 {
     match named(word) {
         Some((name, Some(value))) => {
@@ -130,7 +131,8 @@ pub fn said_names<'a>(
     alloc: Global,
     words: &'a [String],
 ) -> Result<Option<Vec<&'a [u8]>>, AllocError>
-    ensures { IfOk result (λ r. option_map (λ names. map (λ n. n.now) names.items) r ≡ said_names (texts words.now)) }
+    ensures { IfOk result
+        (λ r. option_map (λ names. map (λ n. n.now) names.items) r ≡ said_names (texts words.now)) }
 {
     let mut names = Vec::new(alloc);
     let mut left = words;

@@ -3,7 +3,8 @@ use Rattle.std.proofs.lemmas.Bool.{false≢true}
 use Rattle.sj_base.specs.declared.program.Program.{Program}
 use Rattle.sj_core.specs.Machine.{is_waiting}
 use Rattle.sj_core.specs.Needs.{footprint}
-use Rattle.sj_check.proofs.Legality.{claim-may, fits-tells, may-idle, may-ready, none-is, waiting-is}
+use Rattle.sj_core.proofs.Testing.{waiting-is}
+use Rattle.sj_check.proofs.Legality.{claim-may, fits-tells, may-idle, may-ready, none-is}
 use Rattle.sj_check.proofs.judging.may_claim.Goals as goal
 
 pub returns-then-not-is_ready : goal.returns-then-not-is_ready

@@ -1,5 +1,5 @@
 use Rattle.std.proofs.Common.{◌≡◌, ◌<◌, length, arith}
-use Rattle.sj_deps.specs.Counts.{task}
+use Rattle.sj_base.specs.Ids.{task}
 use Rattle.sj_deps.proofs.Freeing.{free_waiting, Frees-more}
 use Rattle.sj_deps.proofs.counters.free_party.Goals as goal
 

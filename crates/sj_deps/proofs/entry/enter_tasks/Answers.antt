@@ -1,8 +1,9 @@
 use Rattle.std.proofs.Common.{◌≡◌, ℕ, [], ◌∷◌, subst, length, map, replicate, arith, rules}
 use Rattle.std.specs.List.{range_with_len}
 use Rattle.std.proofs.lemmas.Grind.{common_steps}
+use Rattle.sj_base.specs.Ids.{task}
 use Rattle.sj_deps.specs.Chains.{no_chain}
-use Rattle.sj_deps.specs.Counts.{Entering, task}
+use Rattle.sj_deps.specs.Counts.{Entering}
 use Rattle.sj_deps.proofs.Starting.{Begun-none, Entering-none, Built-all}
 use Rattle.sj_deps.proofs.entry.enter_tasks.Goals as goal
 

@@ -2,7 +2,7 @@ use Rattle.std.proofs.Common.{◌≡◌, ◌∷◌, ◌++◌, [], ap, sym, ◌�
 use Rattle.std.proofs.lemmas.Grind.{common_steps}
 use Rattle.std.proofs.lemmas.List.FromFn.{map-range_with_len_more}
 use Rattle.sj_base.specs.declared.ids.Task.{Task}
-use Rattle.sj_deps.specs.Counts.{task}
+use Rattle.sj_base.specs.Ids.{task}
 use Rattle.sj_deps.proofs.entry.single_tasks.Goals as goal
 
 pub loop-t-preserved : goal.loop-t-preserved

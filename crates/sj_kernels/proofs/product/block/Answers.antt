@@ -42,6 +42,40 @@ with_term-lower-requires-in-loop-h c =
     let a = c.args in
     record { within = omega (arith, mul-add-lt (c.loop-h.h * 2 + 1) a.n (a.j + 2) (length a.a.now) (omega arith) (omega arith)) }
 
+pub overflow_mul-place : goal.overflow_mul-place
+overflow_mul-place c = let a = c.args in omega (arith, mul-add-lt (c.loop-h.h * 2) a.n (a.j + 2) (length a.a.now) (omega arith) (omega arith))
+
+pub overflow_add-place : goal.overflow_add-place
+overflow_add-place c = let a = c.args in omega (arith, mul-add-lt (c.loop-h.h * 2) a.n (a.j + 2) (length a.a.now) (omega arith) (omega arith))
+
+pub overflow_add-place-in-loop-h : goal.overflow_add-place-in-loop-h
+overflow_add-place-in-loop-h c = let a = c.args in omega (arith, mul-add-lt (c.loop-h.h * 2 + 1) a.n (a.j + 2) (length a.a.now) (omega arith) (omega arith))
+
+pub overflow_add-place-in-loop-h-2 : goal.overflow_add-place-in-loop-h-2
+overflow_add-place-in-loop-h-2 c = let a = c.args in omega (arith, mul-add-lt (c.loop-h.h * 2 + 1) a.n (a.j + 2) (length a.a.now) (omega arith) (omega arith))
+
+pub overflow_mul-l-then-a-eq1 : goal.overflow_mul-l-then-a-eq1
+overflow_mul-l-then-a-eq1 c = let a = c.args in omega (arith, mul-add-lt (length a.a.now - 1) a.n (a.j + 2) (length a.a.now) (omega arith) (omega arith))
+
+pub overflow_add-l-then-a-eq1 : goal.overflow_add-l-then-a-eq1
+overflow_add-l-then-a-eq1 c = let a = c.args in omega (arith, mul-add-lt (length a.a.now - 1) a.n (a.j + 2) (length a.a.now) (omega arith) (omega arith))
+
+pub overflow_mul-l-then-a-eq1-2 : goal.overflow_mul-l-then-a-eq1-2
+overflow_mul-l-then-a-eq1-2 c = let a = c.args in omega (arith, mul-add-lt (length a.a.now - 1) a.n (a.j + 2) (length a.a.now) (omega arith) (omega arith))
+
+pub overflow_add-l-then-a-eq1-2 : goal.overflow_add-l-then-a-eq1-2
+overflow_add-l-then-a-eq1-2 c = let a = c.args in omega (arith, mul-add-lt (length a.a.now - 1) a.n (a.j + 2) (length a.a.now) (omega arith) (omega arith))
+
+pub with_term-upper-requires-then-a-eq1 : goal.with_term-upper-requires-then-a-eq1
+with_term-upper-requires-then-a-eq1 c =
+    let a = c.args in
+    record { within = omega (arith, mul-add-lt (length a.a.now - 1) a.n (a.j + 2) (length a.a.now) (omega arith) (omega arith)) }
+
+pub with_term-lower-requires-then-a-eq1 : goal.with_term-lower-requires-then-a-eq1
+with_term-lower-requires-then-a-eq1 c =
+    let a = c.args in
+    record { within = omega (arith, mul-add-lt (length a.a.now - 1) a.n (a.j + 2) (length a.a.now) (omega arith) (omega arith)) }
+
 pub loop-h-preserved : goal.loop-h-preserved
 loop-h-preserved c =
     let a = c.args in

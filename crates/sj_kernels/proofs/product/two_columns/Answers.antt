@@ -1,4 +1,5 @@
-use Rattle.std.proofs.Common.{◌+◌, ◌*◌, w64, to_z, rules, refl, ◌∙◌, arith}
+use Rattle.std.proofs.Common.{◌+◌, ◌*◌, length, w64, to_z, rules, refl, ◌∙◌, arith}
+use Rattle.std.proofs.lemmas.Nat.{mul-add-lt}
 use Rattle.sj_base.specs.Array.{at}
 use Rattle.sj_kernels.proofs.Panels.{column_none, column_more, pair_is}
 use Rattle.sj_kernels.proofs.product.two_columns.Goals as goal
@@ -12,6 +13,42 @@ loop-l-init c =
       d0 = column_none a.n a.j a.e.now a.b.now (at a.d.now 0) (search rules);
       d1 = column_none a.n (a.j + 1) a.e.now a.b.now (at a.d.now 1) (search rules);
     }
+
+pub overflow_mul-place : goal.overflow_mul-place
+overflow_mul-place c = let a = c.args in omega (arith, mul-add-lt c.loop-l.l a.n (a.j + 1) (length a.a.now) (omega arith) (omega arith))
+
+pub overflow_add-place : goal.overflow_add-place
+overflow_add-place c = let a = c.args in omega (arith, mul-add-lt c.loop-l.l a.n (a.j + 1) (length a.a.now) (omega arith) (omega arith))
+
+pub offset_bounds-b-place : goal.offset_bounds-b-place
+offset_bounds-b-place c = let a = c.args in omega (arith, mul-add-lt c.loop-l.l a.n (a.j + 1) (length a.a.now) (omega arith) (omega arith))
+
+pub bounds-b-place : goal.bounds-b-place
+bounds-b-place c = let a = c.args in omega (arith, mul-add-lt c.loop-l.l a.n (a.j + 1) (length a.a.now) (omega arith) (omega arith))
+
+pub overflow_add-place-in-loop-l : goal.overflow_add-place-in-loop-l
+overflow_add-place-in-loop-l c = let a = c.args in omega (arith, mul-add-lt c.loop-l.l a.n (a.j + 1) (length a.a.now) (omega arith) (omega arith))
+
+pub offset_bounds-b-place-in-loop-l : goal.offset_bounds-b-place-in-loop-l
+offset_bounds-b-place-in-loop-l c = let a = c.args in omega (arith, mul-add-lt c.loop-l.l a.n (a.j + 1) (length a.a.now) (omega arith) (omega arith))
+
+pub bounds-b-place-in-loop-l : goal.bounds-b-place-in-loop-l
+bounds-b-place-in-loop-l c = let a = c.args in omega (arith, mul-add-lt c.loop-l.l a.n (a.j + 1) (length a.a.now) (omega arith) (omega arith))
+
+pub offset_bounds-b-place-in-loop-l-2 : goal.offset_bounds-b-place-in-loop-l-2
+offset_bounds-b-place-in-loop-l-2 c = let a = c.args in omega (arith, mul-add-lt c.loop-l.l a.n (a.j + 1) (length a.a.now) (omega arith) (omega arith))
+
+pub bounds-b-place-in-loop-l-2 : goal.bounds-b-place-in-loop-l-2
+bounds-b-place-in-loop-l-2 c = let a = c.args in omega (arith, mul-add-lt c.loop-l.l a.n (a.j + 1) (length a.a.now) (omega arith) (omega arith))
+
+pub overflow_add-place-in-loop-l-2 : goal.overflow_add-place-in-loop-l-2
+overflow_add-place-in-loop-l-2 c = let a = c.args in omega (arith, mul-add-lt c.loop-l.l a.n (a.j + 1) (length a.a.now) (omega arith) (omega arith))
+
+pub offset_bounds-b-place-in-loop-l-3 : goal.offset_bounds-b-place-in-loop-l-3
+offset_bounds-b-place-in-loop-l-3 c = let a = c.args in omega (arith, mul-add-lt c.loop-l.l a.n (a.j + 1) (length a.a.now) (omega arith) (omega arith))
+
+pub bounds-b-place-in-loop-l-3 : goal.bounds-b-place-in-loop-l-3
+bounds-b-place-in-loop-l-3 c = let a = c.args in omega (arith, mul-add-lt c.loop-l.l a.n (a.j + 1) (length a.a.now) (omega arith) (omega arith))
 
 pub loop-l-preserved : goal.loop-l-preserved
 loop-l-preserved c =

@@ -1,6 +1,7 @@
 use Rattle.std.proofs.Common.{◌≡◌, ◌+◌, ◌-◌, ◌*◌, ◌≤◌, length, arith, refl, ◌∙◌, take, drop}
 use Rattle.std.proofs.lemmas.Grind.{rows}
-use Rattle.sj_minplus.specs.Matrix.{matrix, least_entry}
+use Rattle.sj_codelet.specs.Equations.{matrix}
+use Rattle.sj_minplus.specs.Matrix.{least_entry}
 use Rattle.sj_minplus.proofs.Products.{same_least}
 use Rattle.sj_minplus.proofs.Matrices.{rows_more, row_rest, rows_all, length_slice, at_slice}
 use Rattle.sj_minplus.proofs.product.mingemm.Goals as goal

@@ -1,4 +1,5 @@
-use Rattle.sj_minplus.specs.Matrix.{matrix, least_entry}
+use Rattle.sj_codelet.specs.Equations.{matrix}
+use Rattle.sj_minplus.specs.Matrix.{least_entry}
 use Rattle.sj_minplus.proofs.Matrices.{HasRows}
 use Rattle.sj_minplus.proofs.product.mingemm.Given as goal
 

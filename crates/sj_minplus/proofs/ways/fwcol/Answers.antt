@@ -1,6 +1,5 @@
 use Rattle.std.proofs.Common.{◌≡◌, refl, ap, ◌∙◌, arith}
-use Rattle.sj_codelet.specs.Equations.{after_turns}
-use Rattle.sj_minplus.specs.Matrix.{matrix}
+use Rattle.sj_codelet.specs.Equations.{after_turns, matrix}
 use Rattle.sj_minplus.specs.Turns.{column_turn}
 use Rattle.sj_minplus.proofs.Turns.{turn_more}
 use Rattle.sj_minplus.proofs.Naturals.{column_natural}

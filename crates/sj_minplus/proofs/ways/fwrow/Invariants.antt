@@ -1,6 +1,5 @@
 use Rattle.std.proofs.Common.{◌≡◌}
-use Rattle.sj_codelet.specs.Equations.{after_turns}
-use Rattle.sj_minplus.specs.Matrix.{matrix}
+use Rattle.sj_codelet.specs.Equations.{after_turns, matrix}
 use Rattle.sj_minplus.specs.Turns.{row_turn}
 use Rattle.sj_minplus.proofs.ways.fwrow.Given as goal
 

@@ -1,9 +1,10 @@
 use Rattle.std.proofs.Common.{◌≡◌, ℕ, ℤ, List, ◌++◌, Some, length, take, drop, sym, ap, ◌∙◌, subst, arith, true}
 use Rattle.std.proofs.Math.Seq.{take-append_seam}
+use Rattle.sj_base.proofs.Options.{IfSome-from}
 use Rattle.sj_disk.specs.Calls.{Fetches}
 use Rattle.sj_disk.specs.declared.directory.Extent.{Extent}
 use Rattle.sj_disk.specs.Directory.{DiskState, disk_state, last_store}
-use Rattle.sj_disk.proofs.Sounding.{fetched, if-some, inside-disk, inside-fits, looked-up, sound-look}
+use Rattle.sj_disk.proofs.Sounding.{fetched, inside-disk, inside-fits, looked-up, sound-look}
 use Rattle.sj_disk.proofs.disk_set.DiskSet.fetch.Goals as goal
 
 -- the extent has room for just these elements, and its last store ended well with this count
@@ -47,4 +48,4 @@ returns-clause-fetches g c =
     let whole : lent ≡ ys = ap (λ n. take n (ys ++ drop (length ys) xs)) (k.2.0 ∙ sym many) ∙ take-append_seam ys (drop (length ys) xs) in
     let before = disk_state c.self.inside.disks.items c.self.inside.taken.items c.self.inside.directory.items in
     let P = λ (zs : List ℤ) (s : DiskState g.row.D.Denot). Fetches g.D.Disk.size g.D.Disk.faults g.D.Disk.mismatches g.D.Disk.held cell c.args.writes zs c.fetch_on.result s after e in
-    if-some (Fetches g.D.Disk.size g.D.Disk.faults g.D.Disk.mismatches g.D.Disk.held cell c.args.writes lent c.fetch_on.result c.args.self.now after) _ e k.1 (subst (λ (s : DiskState g.row.D.Denot). P lent s) c.self.view_is (subst (λ (zs : List ℤ). P zs before) (sym whole) fetches))
+    IfSome-from (Fetches g.D.Disk.size g.D.Disk.faults g.D.Disk.mismatches g.D.Disk.held cell c.args.writes lent c.fetch_on.result c.args.self.now after) _ e k.1 (subst (λ (s : DiskState g.row.D.Denot). P lent s) c.self.view_is (subst (λ (zs : List ℤ). P zs before) (sym whole) fetches))

@@ -2,17 +2,16 @@ use Rattle.std.proofs.Common.{◌≡◌, ◌+◌, ◌<◌, ℕ, List, Some, Resu
 use Rattle.std.specs.Prelude.{IsErrAnd, slice_set}
 use Rattle.std.proofs.Math.Facts.{Fits-of_lt}
 use Rattle.std.proofs.lemmas.List.{get_or_default, length-map}
+use Rattle.sj_base.proofs.Options.{the}
+use Rattle.sj_base.proofs.FirstFit.{first_fit-room}
 use Rattle.sj_disk.specs.declared.refusal.ReserveRefusal.{ReserveRefusal}
 use Rattle.sj_disk.specs.declared.refusal.ReserveRefusal.TheVariants.{NoRoom, OutOfMemory}
 use Rattle.sj_disk.specs.Block.{block_bytes}
 use Rattle.sj_disk.specs.Calls.{Reserves}
 use Rattle.sj_disk.specs.Directory.{DiskState, disk_state, extent_at, extent_of, first_fit}
 use Rattle.sj_disk.specs.Sound.{IsSound}
-use Rattle.sj_disk.proofs.Reserving.{disk-number, fits-first, reserved, sound-reserve}
+use Rattle.sj_disk.proofs.Reserving.{disk-number, reserved, sound-reserve}
 use Rattle.sj_disk.proofs.disk_set.DiskSet.reserve.Goals as goal
-
-the : (X : Type 0) → X → X
-the X x = x
 
 first : (ss ts sizes taken : List ℕ) (need d : ℕ) → Some d ≡ first_fit ss ts need → ss ≡ sizes → ts ≡ taken → first_fit sizes taken need ≡ Some d
 first ss ts sizes taken need d e a b = sym (e ∙ ap (λ xs. first_fit xs ts need) a ∙ ap (λ xs. first_fit sizes xs need) b)
@@ -21,21 +20,21 @@ pub overflow_cast-disk : goal.overflow_cast-disk
 overflow_cast-disk g c =
     let s = c.self.invariant in
     let e = first _ _ c.self.inside.sizes.items c.self.inside.taken.items _ c.in-Some.d c.in-Some.ensures c.deref.ensures.value c.deref-2.ensures.value in
-    let room = fits-first c.self.inside.sizes.items c.self.inside.taken.items (block_bytes c.args.length) c.in-Some.d s.laid_out.as_many e in
+    let room = first_fit-room c.self.inside.sizes.items c.self.inside.taken.items (block_bytes c.args.length) c.in-Some.d s.laid_out.as_many e in
     Fits-of_lt {w = w8} (omega (arith, room.0, s.few, ap length s.sized, length-map c.self.inside.disks.items g.D.Disk.size))
 
 pub index-requires : goal.index-requires
 index-requires g c =
     let s = c.self.invariant in
     let e = first _ _ c.self.inside.sizes.items c.self.inside.taken.items _ c.in-Some.d c.in-Some.ensures c.deref.ensures.value c.deref-2.ensures.value in
-    let room = fits-first c.self.inside.sizes.items c.self.inside.taken.items (block_bytes c.args.length) c.in-Some.d s.laid_out.as_many e in
+    let room = first_fit-room c.self.inside.sizes.items c.self.inside.taken.items (block_bytes c.args.length) c.in-Some.d s.laid_out.as_many e in
     omega (arith, room.0, s.laid_out.as_many, c.deref-2.ensures.len, ap length c.deref-2.ensures.value)
 
 pub index_mut-requires : goal.index_mut-requires
 index_mut-requires g c =
     let s = c.self.invariant in
     let e = first _ _ c.self.inside.sizes.items c.self.inside.taken.items _ c.in-Some.d c.in-Some.ensures c.deref.ensures.value c.deref-2.ensures.value in
-    let room = fits-first c.self.inside.sizes.items c.self.inside.taken.items (block_bytes c.args.length) c.in-Some.d s.laid_out.as_many e in
+    let room = first_fit-room c.self.inside.sizes.items c.self.inside.taken.items (block_bytes c.args.length) c.in-Some.d s.laid_out.as_many e in
     omega (arith, room.0, s.laid_out.as_many, c.deref-2.ensures.len, ap length c.deref-2.ensures.value)
 
 -- the number that is there, whatever stands beyond
@@ -51,7 +50,7 @@ pub overflow_add-index_mut : goal.overflow_add-index_mut
 overflow_add-index_mut g c =
     let s = c.self.invariant in
     let e = first _ _ c.self.inside.sizes.items c.self.inside.taken.items _ c.in-Some.d c.in-Some.ensures c.deref.ensures.value c.deref-2.ensures.value in
-    let room = fits-first c.self.inside.sizes.items c.self.inside.taken.items (block_bytes c.args.length) c.in-Some.d s.laid_out.as_many e in
+    let room = first_fit-room c.self.inside.sizes.items c.self.inside.taken.items (block_bytes c.args.length) c.in-Some.d s.laid_out.as_many e in
     let at = there c.self.inside.taken.items c.in-Some.d c.index_mut.result.now (omega (arith, room.0, s.laid_out.as_many)) c.index_mut.ensures.value in
     Fits-of_lt {w = w64} (omega (arith, room.1, at, s.bounded c.in-Some.d))
 
@@ -70,7 +69,7 @@ invariant_of-self-2 g c =
     let d = c.in-Some.d in
     let n = c.args.length in
     let e = first _ _ c.self.inside.sizes.items taken _ d c.in-Some.ensures c.deref.ensures.value c.deref-2.ensures.value in
-    let room = fits-first c.self.inside.sizes.items taken (block_bytes n) d s.laid_out.as_many e in
+    let room = first_fit-room c.self.inside.sizes.items taken (block_bytes n) d s.laid_out.as_many e in
     let inside : d < length taken = omega (arith, room.0, s.laid_out.as_many) in
     let gives = subst (λ (p : ℕ). extent_of after c.args.cell.0 ≡ Some (extent_at d p n)) (there taken d c.index.result.now inside c.index.ensures) c.in_ok-add_extent.ensures.gives in
     let sound = sound-reserve g.D.Disk.size g.D.Disk.held c.self.inside.disks.items c.self.inside.sizes.items taken c.self.inside.directory.items after c.args.cell.0 n d s e gives c.add_extent.ensures.others_stay in
@@ -85,7 +84,7 @@ returns-clause-reserves g c =
     let d = c.in-Some.d in
     let n = c.args.length in
     let e = first _ _ c.self.inside.sizes.items taken _ d c.in-Some.ensures c.deref.ensures.value c.deref-2.ensures.value in
-    let room = fits-first c.self.inside.sizes.items taken (block_bytes n) d s.laid_out.as_many e in
+    let room = first_fit-room c.self.inside.sizes.items taken (block_bytes n) d s.laid_out.as_many e in
     let inside : d < length taken = omega (arith, room.0, s.laid_out.as_many) in
     let gives = subst (λ (p : ℕ). extent_of after c.args.cell.0 ≡ Some (extent_at d p n)) (there taken d c.index.result.now inside c.index.ensures) c.in_ok-add_extent.ensures.gives in
     let made = reserved g.D.Disk.size g.D.Disk.held disks c.self.inside.sizes.items taken c.self.inside.directory.items after c.args.cell.0 n d s e gives c.add_extent.ensures.others_stay in

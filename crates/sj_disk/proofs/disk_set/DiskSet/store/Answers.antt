@@ -4,7 +4,8 @@ use Rattle.sj_disk.specs.Directory.{DiskState, disk_state, with_store}
 use Rattle.sj_disk.specs.Calls.{Stores}
 use Rattle.sj_disk.specs.Sound.{IsSound}
 use Rattle.std.specs.Prelude.{slice_set}
-use Rattle.sj_disk.proofs.Sounding.{if-some, inside-disk, inside-fits, looked-up, sound-store, store-change, stored}
+use Rattle.sj_base.proofs.Options.{IfSome-from}
+use Rattle.sj_disk.proofs.Sounding.{inside-disk, inside-fits, looked-up, sound-store, store-change, stored}
 use Rattle.sj_disk.proofs.disk_set.DiskSet.store.Goals as goal
 
 -- the extent has room for just these elements
@@ -60,4 +61,4 @@ returns g c =
     let ch = store-change g.D.Disk.size g.D.Disk.faults g.D.Disk.mismatches g.D.Disk.held old new cell e c.args.writes _ xs r c.elements.ensures.elements k.2 c.store_on-result.ensures.writes in
     let after = disk_state new taken (slice_set directory cell (Some (with_store e c.args.writes c.is_ok.result))) in
     let stores = stored g.D.Disk.size g.D.Disk.faults g.D.Disk.mismatches g.D.Disk.held old new sizes taken directory cell e c.args.writes xs r k.0 k.2 c.self.invariant ch c.is_ok.result c.is_ok.ensures.value c.store_on-result.ensures.refused in
-    if-some (Stores g.D.Disk.size g.D.Disk.faults g.D.Disk.mismatches g.D.Disk.held cell c.args.writes xs r c.args.self.now after) _ e k.1 (subst (λ (s : DiskState g.row.D.Denot). Stores g.D.Disk.size g.D.Disk.faults g.D.Disk.mismatches g.D.Disk.held cell c.args.writes xs r s after e) c.self.view_is stores)
+    IfSome-from (Stores g.D.Disk.size g.D.Disk.faults g.D.Disk.mismatches g.D.Disk.held cell c.args.writes xs r c.args.self.now after) _ e k.1 (subst (λ (s : DiskState g.row.D.Denot). Stores g.D.Disk.size g.D.Disk.faults g.D.Disk.mismatches g.D.Disk.held cell c.args.writes xs r s after e) c.self.view_is stores)

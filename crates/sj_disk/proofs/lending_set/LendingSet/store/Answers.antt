@@ -1,8 +1,9 @@
 use Rattle.std.proofs.Common.{◌≡◌, length}
+use Rattle.sj_base.proofs.Options.{IfSome-at}
 use Rattle.sj_disk.specs.declared.directory.Extent.{Extent}
 use Rattle.sj_disk.specs.Directory.{extent_of}
 use Rattle.sj_disk.specs.Lending.{TakesOut}
-use Rattle.sj_disk.proofs.Lent.{back-stored, comes-from, is-given, its-extent, out-stays, said-of}
+use Rattle.sj_disk.proofs.Lent.{back-stored, comes-from, is-given, its-extent, out-stays}
 use Rattle.sj_disk.proofs.Sounding.{some-and}
 use Rattle.sj_disk.proofs.lending_set.LendingSet.store.Goals as goal
 
@@ -11,21 +12,21 @@ unwrap-unit-requires g c = is-given c.args.self.now c.take_out.new.self c.args.c
 
 pub store-result-requires : goal.store-result-requires
 store-result-requires g c =
-    let t = said-of (λ u. TakesOut c.args.cell u c.args.self.now c.take_out.new.self) c.take_out.result c.unwrap-unit.result c.unwrap-unit.ensures c.take_out.ensures.some in
+    let t = IfSome-at (λ u. TakesOut c.args.cell u c.args.self.now c.take_out.new.self) c.take_out.result c.unwrap-unit.result c.unwrap-unit.ensures c.take_out.ensures.some in
     let found = its-extent g.D.Disk.size g.D.Disk.faults g.D.Disk.mismatches g.D.Disk.held c.args.self.now c.take_out.new.self c.args.cell c.unwrap-unit.result t in
     record { whole = some-and (λ (e : Extent). length c.args.tile.now.elements ≡ e.length) (extent_of c.args.self.now.set.directory c.args.cell.0) c.unwrap-unit.result.extent found c.requires.reserved }
 
 pub put_back-requires : goal.put_back-requires
 put_back-requires g c =
-    let t = said-of (λ u. TakesOut c.args.cell u c.args.self.now c.take_out.new.self) c.take_out.result c.unwrap-unit.result c.unwrap-unit.ensures c.take_out.ensures.some in
+    let t = IfSome-at (λ u. TakesOut c.args.cell u c.args.self.now c.take_out.new.self) c.take_out.result c.unwrap-unit.result c.unwrap-unit.ensures c.take_out.ensures.some in
     comes-from g.D.Disk.size g.D.Disk.faults g.D.Disk.mismatches g.D.Disk.held c.args.self.now c.take_out.new.self c.args.cell c.unwrap-unit.result t c.store-result.new.self c.store-result.ensures.is_worked_on
 
 pub returns-clause-stores : goal.returns-clause-stores
 returns-clause-stores g c =
-    let t = said-of (λ u. TakesOut c.args.cell u c.args.self.now c.take_out.new.self) c.take_out.result c.unwrap-unit.result c.unwrap-unit.ensures c.take_out.ensures.some in
+    let t = IfSome-at (λ u. TakesOut c.args.cell u c.args.self.now c.take_out.new.self) c.take_out.result c.unwrap-unit.result c.unwrap-unit.ensures c.take_out.ensures.some in
     back-stored g.D.Disk.size g.D.Disk.faults g.D.Disk.mismatches g.D.Disk.held c.args.self.now c.take_out.new.self c.args.cell c.unwrap-unit.result t c.store-result.new.self c.put_back.new.self c.args.writes c.args.tile.now.elements c.store-result.result c.store-result.ensures c.put_back.ensures.stores
 
 pub returns-clause-out_stay : goal.returns-clause-out_stay
 returns-clause-out_stay g c =
-    let t = said-of (λ u. TakesOut c.args.cell u c.args.self.now c.take_out.new.self) c.take_out.result c.unwrap-unit.result c.unwrap-unit.ensures c.take_out.ensures.some in
+    let t = IfSome-at (λ u. TakesOut c.args.cell u c.args.self.now c.take_out.new.self) c.take_out.result c.unwrap-unit.result c.unwrap-unit.ensures c.take_out.ensures.some in
     out-stays g.D.Disk.size g.D.Disk.faults g.D.Disk.mismatches g.D.Disk.held c.args.self.now c.take_out.new.self c.args.cell c.unwrap-unit.result t c.store-result.new.self c.put_back.new.self c.store-result.ensures.is_worked_on c.put_back.ensures.back

@@ -1,5 +1,0 @@
-use Rattle.std.proofs.Common.{◌≤◌}
-use Rattle.sj_desk.proofs.tests.has_counted.Given as goal
-
-abbrev pub invariant-loop-by : goal.invariant-loop-by
-invariant-loop-by l = l.next ≤ l.count
