@@ -4,7 +4,7 @@ use crate::paths::paths;
 use crate::product::product;
 use sj_base::ids::Line;
 use sj_base::memory::OutOfMemory;
-use sj_job::job::{Act, Init};
+use sj_meaning::job::{Act, Init};
 
 #[test]
 fn the_product_of_two_by_two_takes_eight_tasks(rt: HostRuntime) -> Result<(), OutOfMemory> {
