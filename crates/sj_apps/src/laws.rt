@@ -12,8 +12,8 @@ ghost use Rattle.sj_apps.specs.Walks.{AreWeights, StayBelowInf};
 /// name, the plan, the lines and the priorities: where no weight is negative, to stay costs nothing, and where a walk leads one
 /// does that is shorter than `inf`.
 pub fn walks()
-    ensures { (name : List ℕ) (n p : ℕ) (W : ℕ → ℕ → ℤ) (xs : List ℤ) (ss : List (Statement (List ℕ)))
-        → 0 < p → xs ≡ table (square n) W → AreWeights n W → StayBelowInf n W
+    ensures { (name : List ℕ) (n p : ℕ) (W : ℕ → ℕ → ℤ) (xs : List ℤ)
+        (ss : List (Statement (List ℕ))) → 0 < p → xs ≡ table (square n) W → AreWeights n W → StayBelowInf n W
         → acts_of ss ≡ walk_acts name n p xs → PrintsShortest name n W ss }
 {}
 

@@ -28,7 +28,8 @@ pub fn set(settings: &mut Settings, form: &SettingForm<'_>) -> Result<(), Object
 /// `workers N`, once.
 fn set_workers(settings: &mut Settings, word: &Piece<'_>) -> Result<(), Objection>
     requires { IsWithinLimits settings.old }
-    ensures set { OnOk result (set_by settings.old (SettingForm.Workers word.now) ≡ Ok settings.new) }
+    ensures set { OnOk result
+        (set_by settings.old (SettingForm.Workers word.now) ≡ Ok settings.new) }
     ensures within { OnOk result (IsWithinLimits settings.new) }
     ensures why { IfErr result (λ e. Objects e (set_by settings.old (SettingForm.Workers word.now))) }
 {

@@ -44,7 +44,8 @@ use Rattle.sj_lower.proofs.Copies.{copies-none, copies-root, copies-take, take-m
 use Rattle.sj_lower.proofs.Elements.{child-within, child-window, valued-child, blank-child, no_values-blank, unwrapped, filled-window}
 use Rattle.sj_lower.proofs.Filling.{AreFilled, HaveOwn, rows-filled, rows-give, blocks-give, after_load, after_fill, after_delivers, gives_own}
 use Rattle.sj_lower.proofs.Folding.{Stand, after_rows, contents-rows, one_gives, given-rows}
-use Rattle.sj_lower.proofs.Holding.{IsHeld, HasRoot, HaveRoots, HaveTheirs, HasCells, differs, not_copy, root-kept, held-kept, cell-dims, get-put, get-gone, root-change}
+use Rattle.sj_meaning.proofs.Finding.{get-put, get-gone, root-change}
+use Rattle.sj_lower.proofs.Holding.{IsHeld, HasRoot, HaveRoots, HaveTheirs, HasCells, differs, not_copy, root-kept, held-kept, cell-dims}
 use Rattle.sj_lower.proofs.Laid.{same_name, bytes_eq-itself, some_is, none_isn't, IsTaken, AreLaid, cell-is, cells-apart, laid-none, laid-root, laid-take, root-keeps, root-there, take-keeps, take-takes}
 use Rattle.sj_lower.proofs.Pasting.{rows_to, rows-by_child, pastes-filled, pastes-give}
 use Rattle.sj_lower.proofs.Places.{parts-are, parts-itself}

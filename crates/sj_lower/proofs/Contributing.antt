@@ -45,7 +45,8 @@ use Rattle.sj_lower.proofs.Combined.{IsTrusted, with_all, all_workers, range-bel
 use Rattle.sj_lower.proofs.Contents.{first_worker, task_at, contents_before, contents-next, same_cell-itself}
 use Rattle.sj_lower.proofs.Elements.{written-whole, written-array, written-other, written-valued}
 use Rattle.sj_lower.proofs.Folding.{Stand, later}
-use Rattle.sj_lower.proofs.Holding.{IsHeld, HasRoot, HaveRoots, cell-dims, differs, not_copy, held-kept, root-change}
+use Rattle.sj_meaning.proofs.Finding.{root-change}
+use Rattle.sj_lower.proofs.Holding.{IsHeld, HasRoot, HaveRoots, cell-dims, differs, not_copy, held-kept}
 use Rattle.sj_lower.proofs.Laid.{IsTaken, some_is, same_name, bytes_eq-itself, cells-apart}
 use Rattle.sj_lower.proofs.Opening.{IsOpened, IsChildOf}
 use Rattle.sj_lower.proofs.Operands.{IsRead, Contributes, all-before, snoc-parts}

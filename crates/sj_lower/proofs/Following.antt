@@ -43,7 +43,7 @@ use Rattle.sj_lower.specs.Rows.{an_access, paste_row, deliver_row}
 use Rattle.sj_lower.specs.Lowering.{Lowering, cells_after, load_rows, access_of, plan_rows, deliver_rows, a_delivery, print_deliveries}
 use Rattle.sj_lower.specs.Seen.{no_active, active_at, pasted_by, IsActive, AreActive, IsNext, CanPass, Does, HasRoom, access_by, first_after, children_after}
 use Rattle.sj_lower.proofs.Agreeing.{plan_rows-are}
-use Rattle.sj_lower.proofs.Holding.{get-put, get-gone, root-change}
+use Rattle.sj_meaning.proofs.Finding.{get-put, get-gone, root-change}
 use Rattle.sj_lower.proofs.Laid.{same_name, bytes_eq-itself, some_is, none_isn't, IsTaken, take-keeps, take-takes, take-roots, root-keeps, root-there}
 use Rattle.sj_lower.proofs.Running.{child_there, root_there, valued_there, active_cell-is}
 use Rattle.sj_lower.proofs.Whole.{deliver_rows-are, print_deliveries-are}

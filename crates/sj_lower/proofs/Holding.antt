@@ -1,12 +1,8 @@
 -- A program's cells hold what the children of the job's roots hold.
-use Rattle.std.specs.FinMap as map
 use Rattle.std.proofs.Common.{◌≡◌, ℕ, ◌<◌, ◌≤◌, Bool, true, false, cond, ◌&&◌, Option, Some, None, List, [], ◌∷◌, ◌++◌, ℤ, length, map as each_of, refl, sym, ap, subst, ◌∙◌, arith}
 use Rattle.std.specs.List.{zip, list_all}
 use Rattle.std.specs.Option.{is_some}
 use Rattle.std.specs.Str.{bytes_eq}
-use Rattle.std.specs.Cmp.{eq_by_cmp_equiv}
-use Rattle.std.specs.Cmp.Lexicographic.{nat_list_cmp_total}
-use Rattle.std.proofs.lemmas.Map.Text.{is_eq-slice_cmp}
 use Rattle.std.proofs.lemmas.Bool.{false≢true}
 use Rattle.sj_base.specs.declared.ids.Cell.{Cell}
 use Rattle.sj_base.specs.declared.tile.Dims.{Dims}
@@ -22,8 +18,9 @@ use Rattle.sj_plan.specs.Paste.{same_place}
 use Rattle.sj_plan.specs.Rect.{child, dims_of as rect_dims}
 use Rattle.sj_plan.specs.Window.{IsWhole}
 use Rattle.sj_meaning.specs.Statement.{Operand}
-use Rattle.sj_meaning.specs.State.{Root, Roots, State, root_of, is_child, child_rect, is_valued_child}
+use Rattle.sj_meaning.specs.State.{Root, State, root_of, is_child, child_rect, is_valued_child}
 use Rattle.sj_meaning.specs.Meaning.{integers_of, child_array, change, with_child, put, put_all}
+use Rattle.sj_meaning.proofs.Finding.{root-change}
 use Rattle.sj_lower.specs.Cells.{Cells, cell_of, info_at, copy_at}
 use Rattle.sj_lower.proofs.Combined.{IsTrusted, Phases, denoted, denoted-closed, denoted-same, SameCopies}
 use Rattle.sj_lower.proofs.Copies.{HaveCopies}
@@ -33,30 +30,6 @@ use Rattle.sj_lower.proofs.Elements.{written-whole, written-other, written-array
 use Rattle.sj_lower.proofs.Folding.{later}
 use Rattle.sj_lower.proofs.Laid.{same_name, bytes_eq-itself, some_is, none_isn't, IsTaken, AreLaid, cell-inside, cell-is, cell-row, cells-apart}
 use Rattle.sj_lower.proofs.Places.{place-is, place-itself}
-
--- ---- names
-
-pub bytes_eq-sym : (a b : List ℕ) → bytes_eq a b ≡ bytes_eq b a
-bytes_eq-sym a b = sym (is_eq-slice_cmp a b) ∙ (eq_by_cmp_equiv nat_list_cmp_total).symm a b ∙ is_eq-slice_cmp b a
-
--- what a name's root is after another root was put
-pub get-put : (M : Roots) (name : List ℕ) (root : Root) (q : List ℕ) → map.get (map.insert M name root) q ≡ cond (bytes_eq name q) (Some root) (map.get M q)
-get-put M name root q =
-    map.get-insert nat_list_cmp_total M name root q ∙ ap (λ b. cond b (Some root) (map.get M q)) (is_eq-slice_cmp q name ∙ bytes_eq-sym q name)
-
-pub get-gone : (M : Roots) (name : List ℕ) (q : List ℕ) → map.get (map.remove M name) q ≡ cond (bytes_eq name q) None (map.get M q)
-get-gone M name q =
-    map.get-remove nat_list_cmp_total M name q ∙ ap (λ b. cond b None (map.get M q)) (is_eq-slice_cmp q name ∙ bytes_eq-sym q name)
-
-change-there : (f : Root → Root) (name : List ℕ) (S : State) (r : Root) → root_of S name ≡ Some r → change f name S ≡ record { registered = S.registered; ended = S.ended; roots = map.insert S.roots name (f r) }
-change-there f name S r e = ap (λ (o : Option Root). elim o as (λ _. State) [
-  | None ↦ S
-  | Some r ↦ record { registered = S.registered; ended = S.ended; roots = map.insert S.roots name (f r) }
-]) e
-
--- the roots after a change of one
-pub root-change : (f : Root → Root) (name : List ℕ) (S : State) (r : Root) (q : List ℕ) → root_of S name ≡ Some r → root_of (change f name S) q ≡ cond (bytes_eq name q) (Some (f r)) (root_of S q)
-root-change f name S r q e = ap (λ (T : State). root_of T q) (change-there f name S r e) ∙ get-put S.roots name (f r) q
 
 -- ---- what agrees
 

@@ -33,7 +33,7 @@ use Rattle.sj_meaning.specs.Sound.{IsSoundAct, has_child_values, reduction_of}
 use Rattle.sj_lower.specs.declared.phase.OpenPhase.{OpenPhase}
 use Rattle.sj_lower.proofs.Closing.{all_closed-cells}
 use Rattle.sj_lower.proofs.Copies.{by_copies}
-use Rattle.sj_lower.proofs.Holding.{get-put, get-gone, root-change}
+use Rattle.sj_meaning.proofs.Finding.{get-put, get-gone, root-change}
 use Rattle.sj_lower.proofs.Laid.{same_name, bytes_eq-itself, some_is, take-roots}
 use Rattle.sj_lower.proofs.Whole.{NamesAct, NamesAll}
 

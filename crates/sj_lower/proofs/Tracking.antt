@@ -30,7 +30,7 @@ use Rattle.sj_lower.specs.Limits.{most}
 use Rattle.sj_lower.specs.Lowering.{Lowering}
 use Rattle.sj_lower.specs.Seen.{no_active, active_at, AreActive, CanPass, Does, AreIn, access_by, after_write, after_writes}
 use Rattle.sj_lower.proofs.Following.{PassesTo, can-pass, changed-actives, accesses_same, lowered_task, same_phases, seen-children}
-use Rattle.sj_lower.proofs.Holding.{root-change}
+use Rattle.sj_meaning.proofs.Finding.{root-change}
 use Rattle.sj_lower.proofs.Laid.{same_name}
 use Rattle.sj_lower.proofs.Running.{child_there}
 

@@ -40,7 +40,8 @@ use Rattle.sj_lower.specs.Delivering.{printed_as}
 use Rattle.sj_lower.proofs.Contents.{contents_before}
 use Rattle.sj_lower.proofs.Elements.{valued-child}
 use Rattle.sj_lower.proofs.Folding.{Stand}
-use Rattle.sj_lower.proofs.Holding.{HasRoot, HasCells, differs, cell-dims, get-put, root-change}
+use Rattle.sj_meaning.proofs.Finding.{get-put, root-change}
+use Rattle.sj_lower.proofs.Holding.{HasRoot, HasCells, differs, cell-dims}
 use Rattle.sj_lower.proofs.Laid.{AreLaid, IsTaken, taken-once, take-keeps, bytes_eq-itself, cell-inside, cells-apart}
 use Rattle.sj_lower.proofs.Pasting.{rows_to, rows-by_child, pastes-between}
 use Rattle.sj_lower.proofs.Places.{parts-itself, length-places}

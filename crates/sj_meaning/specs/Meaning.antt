@@ -34,7 +34,7 @@ first_elements (Values xs) d = each_of Some xs
 first_elements (Fill a b) d = each_of (λ p. Some (wrap (a +ℤ (b *ℤ pos p)))) (range_with_len 0 (area d))
 first_elements Nothing d = no_values d
 
-abbrev pub registered_root : Register (List ℕ) → Root
+abbrev pub registered_root : {N : Type 0} → Register N → Root
 registered_root r = record { kind = r.kind; dims = r.dims; parts = r.parts; reduction = None; elements = first_elements r.init r.dims }
 
 abbrev pub register : Register (List ℕ) → State → State
@@ -110,7 +110,7 @@ is_written Redux = true
 is_written Commute = true
 
 -- the operands that a task writes, in order
-abbrev pub written_of : List (Operand (List ℕ)) → List (Operand (List ℕ))
+abbrev pub written_of : {N : Type 0} → List (Operand N) → List (Operand N)
 written_of os = filter (λ o. is_written o.mode) os
 
 -- a child's elements become those of an array; the others stay
